@@ -1,13 +1,10 @@
-// A library with one function.
+//! WTF-8 strings: text that holds any 16-bit units.
 #![tactic(auto)]
 
-ghost use Rattle.std.specs.Prelude.{◌≡◌};
-ghost use Rattle.wtf8.specs.Echo.{echo_of};
+mod buf;
+mod code_point;
+mod view;
 
-// The `ensures` clause is the contract: what `echo` returns is `echo_of` of its argument, a definition
-// in `specs/Echo.antt`, which a caller's clause can cite too.
-pub fn echo(x: usize) -> usize
-    ensures { result ≡ echo_of x }
-{
-    x
-}
+pub use buf::Wtf8Buf;
+pub use code_point::CodePoint;
+pub use view::Wtf8;

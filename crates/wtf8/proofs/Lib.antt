@@ -1,0 +1,3 @@
+pub mod EncodingLemmas
+pub mod Readings
+pub mod Joining
