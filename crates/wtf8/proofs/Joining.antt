@@ -1,12 +1,13 @@
 -- Lists of code points cut and joined: where bytes may be cut, and a lead and a trail that meet.
 use Rattle.std.proofs.Common.{◌≡◌, ℕ, zero, suc, ◌+◌, ◌-◌, ◌*◌, ◌/◌, ◌%◌, ◌<◌, ◌≤◌, ◌⊎◌, inl, inr, List, [], ◌∷◌, ◌++◌, length, get_or, take, drop, refl, sym, ap, ◌∙◌, arith, subst, append_assoc, length-append}
 use Rattle.std.proofs.lemmas.Bool.{lt-ltb, le-ltb, cases_lt}
-use Rattle.std.proofs.lemmas.List.{take_at, drop_at, append-nil, get_or-append_right}
+use Rattle.std.proofs.lemmas.List.{take_at, drop_at, append-nil, get_or-append_right, get_or-append-add}
 use Rattle.std.proofs.lemmas.List.Concat.{flat_map-append}
 use Rattle.wtf8.specs.Unicode.{IsCodePoint, IsLead, IsTrail, units_of, units, pair}
 use Rattle.wtf8.specs.Form.{encoding, bytes, IsClean, Reads, IsForm, IsWellFormed}
 use Rattle.wtf8.specs.OneForm.{bytes-injective}
-use Rattle.wtf8.proofs.EncodingLemmas.{Begins, first-encoding, inside-encoding, encoding-three, length-encoding_bounds}
+use Rattle.wtf8.proofs.EncodingLemmas.{Begins, first-encoding, inside-encoding, encoding_three, length-encoding_bounds, row_of, one, two, three, four}
+use Rattle.wtf8.proofs.UnitLemmas.{units-joined, units-pushed}
 
 -- equal lists with fronts of one length have equal fronts and equal rests
 pub same_parts : (a b x y : List ℕ) → length a ≡ length b → a ++ x ≡ b ++ y → (a ≡ b) × (x ≡ y)
@@ -38,9 +39,6 @@ split_at (p ∷ c) (suc k) h s =
 pub bytes-append : (c d : List ℕ) → bytes (c ++ d) ≡ bytes c ++ bytes d
 bytes-append c d = flat_map-append encoding c d
 
-pub units-append : (c d : List ℕ) → units (c ++ d) ≡ units c ++ units d
-units-append c d = flat_map-append units_of c d
-
 -- the byte behind a front is where a code point begins
 pub begins_behind : (f b : List ℕ) → length (bytes f) < length (bytes (f ++ b)) → Begins (get_or (bytes (f ++ b)) (length (bytes f)) 0)
 begins_behind f [] h = absurd (omega (arith, ap (λ c. length (bytes c)) (append-nil f)))
@@ -51,10 +49,10 @@ begins_behind f (p ∷ b) h =
 
 -- a lead's first byte is ED
 pub first-lead : (l : ℕ) (r : List ℕ) → IsLead l → get_or (encoding l ++ r) 0 0 ≡ 0xED
-first-lead l r lead = rw (encoding-three l (omega arith) (omega arith)) (omega arith)
+first-lead l r lead = rw (encoding_three l (omega arith) (omega arith)) (omega arith)
 
 pub length-lead : (l : ℕ) → IsLead l → length (encoding l) ≡ 3
-length-lead l lead = ap length (encoding-three l (omega arith) (omega arith))
+length-lead l lead = ap length (encoding_three l (omega arith) (omega arith))
 
 -- what ends with the encoding of a lead ends with that lead
 pub record EndsWithLead (c f : List ℕ) (l : ℕ) : Type 0 where
@@ -105,29 +103,91 @@ last_same f g l m e =
     let parts = same_parts f g (l ∷ []) (m ∷ []) (omega (arith, ap length e, length-append f (l ∷ []), length-append g (m ∷ []))) e in
     (parts.0, ap (λ w. get_or w 0 0) parts.1)
 
-pub units_of-lead : (l : ℕ) → IsLead l → units_of l ≡ l ∷ []
-unfolding units_of
-units_of-lead l h = rw (lt-ltb l 0x10000 (omega arith)) refl
-
-pub units_of-trail : (l : ℕ) → IsTrail l → units_of l ≡ l ∷ []
-unfolding units_of
-units_of-trail l h = rw (lt-ltb l 0x10000 (omega arith)) refl
-
-pub units_of-pair : (l t : ℕ) → IsLead l → IsTrail t → units_of (pair l t) ≡ l ∷ t ∷ []
-unfolding units_of
-units_of-pair l t h k = rw (le-ltb (pair l t) 0x10000 (omega arith)) (ap (λ a. a ∷ (0xDC00 + (pair l t - 0x10000) % 0x400) ∷ []) (omega arith) ∙ ap (λ b. l ∷ b ∷ []) (omega arith))
-
--- clean lists of code points and their units where a trail comes behind a lead, and where none does
+-- a clean list stays clean where a trail joins the lead at its end, and where a code point comes that makes no pair
 pub clean-joined : (f : List ℕ) (l t : ℕ) → IsClean (f ++ l ∷ []) → IsLead l → IsTrail t → IsClean (f ++ pair l t ∷ [])
 clean-joined f l t x h k =
     clean-append f (pair l t ∷ []) (clean-front f (l ∷ []) x) (omega arith) (record { apart = λ g r m u _ e p. let same : pair l t ≡ u = ap (λ w. get_or w 0 0) e in omega (arith, p.1) })
 
-pub units-joined : (f : List ℕ) (l t : ℕ) → IsLead l → IsTrail t → units (f ++ pair l t ∷ []) ≡ units (f ++ l ∷ []) ++ units_of t
-units-joined f l t h k =
-    units-append f (pair l t ∷ []) ∙ (ap (λ u. units f ++ (u ++ [])) (units_of-pair l t h k) ∙ (sym (append_assoc (units f) (l ∷ []) (t ∷ [])) ∙ ap (λ u. u ++ t ∷ []) (sym (units-append f (l ∷ []) ∙ ap (λ u. units f ++ (u ++ [])) (units_of-lead l h))) ∙ ap (λ u. units (f ++ l ∷ []) ++ u) (sym (units_of-trail t k))))
-
-pub units-pushed : (c : List ℕ) (p : ℕ) → units (c ++ p ∷ []) ≡ units c ++ units_of p
-units-pushed c p = units-append c (p ∷ []) ∙ ap (λ u. units c ++ u) (append-nil (units_of p))
-
 pub bytes-pushed : (c : List ℕ) (p : ℕ) → bytes (c ++ p ∷ []) ≡ bytes c ++ encoding p
 bytes-pushed c p = bytes-append c (p ∷ []) ∙ ap (λ w. bytes c ++ w) (append-nil (encoding p))
+
+pub clean-pushed : (c : List ℕ) (p : ℕ) → IsClean c → IsCodePoint p → ((f : List ℕ) (l : ℕ) → IsLead l → IsTrail p → c ≡ f ++ l ∷ [] → ⊥) → IsClean (c ++ p ∷ [])
+clean-pushed c p x r none =
+    clean-append c (p ∷ []) x r (record { apart = λ f s l t e d h. let same : p ≡ t = ap (λ w. get_or w 0 0) d in none f l h.0 (omega (arith, h.1)) e })
+
+-- the forms that a push leaves
+pub form-joined : (w u f : List ℕ) (l t : ℕ) (h : IsForm w u) → h.points ≡ f ++ l ∷ [] → IsLead l → IsTrail t → IsForm (bytes f ++ encoding (pair l t)) (u ++ units_of t)
+form-joined w u f l t h e lead trail = record {
+    points = f ++ pair l t ∷ [];
+    reads = record {
+      clean = clean-joined f l t (subst IsClean e h.reads.clean) lead trail;
+      same_units = units-joined f l t lead trail ∙ ap (λ v. v ++ units_of t) (ap units (sym e) ∙ h.reads.same_units);
+    };
+    encoded = bytes-pushed f (pair l t);
+  }
+
+pub form-pushed : (w u : List ℕ) (p : ℕ) (h : IsForm w u) → IsCodePoint p → ((f : List ℕ) (l : ℕ) → IsLead l → IsTrail p → h.points ≡ f ++ l ∷ [] → ⊥) → IsForm (w ++ encoding p) (u ++ units_of p)
+form-pushed w u p h r none = record {
+    points = h.points ++ p ∷ [];
+    reads = record {
+      clean = clean-pushed h.points p h.reads.clean r none;
+      same_units = units-pushed h.points p ∙ ap (λ v. v ++ units_of p) h.reads.same_units;
+    };
+    encoded = bytes-pushed h.points p ∙ ap (λ v. v ++ encoding p) h.encoded;
+  }
+
+-- the last code point where the third byte from the end is ED
+pub record LastPoint (c w : List ℕ) : Type 0 where
+  pub front : List ℕ
+  pub point : ℕ
+  pub joined : c ≡ front ++ point ∷ []
+  pub high : point / 4096 ≡ 13
+  pub second : get_or w (length w - 2) 0 ≡ 0x80 + point / 64 % 64
+  pub third : get_or w (length w - 1) 0 ≡ 0x80 + point % 64
+
+-- a list whose bytes are three with ED first is one code point
+pub record OnePoint (b : List ℕ) : Type 0 where
+  pub point : ℕ
+  pub only : b ≡ point ∷ []
+  pub high : point / 4096 ≡ 13
+  pub row : bytes b ≡ (0xE0 + point / 4096) ∷ (0x80 + point / 64 % 64) ∷ (0x80 + point % 64) ∷ []
+
+no_bytes : (c : List ℕ) → length (bytes c) ≡ 0 → c ≡ []
+no_bytes [] e = refl
+no_bytes (p ∷ c) e = absurd (omega (arith, length-encoding_bounds p, length-append (encoding p) (bytes c)))
+
+one_point : (b : List ℕ) → length (bytes b) ≡ 3 → get_or (bytes b) 0 0 ≡ 0xED → OnePoint b
+one_point [] n e = absurd (omega arith)
+one_point (p ∷ b) n e =
+    elim (row_of p) [
+      one h r ↦ absurd (omega (arith, rw r at e))
+    | two l h r ↦ absurd (omega (arith, rw r at e))
+    | three l h r ↦
+        let only : b ≡ [] = no_bytes b (omega (arith, n, length-append (encoding p) (bytes b), ap length r)) in
+        record { point = p; only = ap (λ c. p ∷ c) only; high = omega (arith, rw r at e); row = ap (λ c. encoding p ++ bytes c) only ∙ (append-nil (encoding p) ∙ r) }
+    | four l r ↦ absurd (omega (arith, rw r at e)) ]
+
+pub last_point : {w : List ℕ} (h : IsWellFormed w) → 3 ≤ length w → get_or w (length w - 3) 0 ≡ 0xED → LastPoint h.points w
+last_point {w} h len e =
+    let n = length w - 3 in
+    let cut = split_at h.points n (omega (arith, ap length h.encoded)) (λ _. record { start = inr (omega (arith, ap (λ v. get_or v n 0) h.encoded)) }) in
+    let whole : w ≡ bytes cut.front ++ bytes cut.back = sym h.encoded ∙ (ap bytes cut.joined ∙ bytes-append cut.front cut.back) in
+    let at : (k : ℕ) → get_or w (length (bytes cut.front) + k) 0 ≡ get_or (bytes cut.back) k 0 = λ k. ap (λ v. get_or v (length (bytes cut.front) + k) 0) whole ∙ get_or-append-add (bytes cut.front) (bytes cut.back) k 0 in
+    let place : (k m : ℕ) → n + k ≡ m → get_or w m 0 ≡ get_or (bytes cut.back) k 0 = λ k m q. ap (λ i. get_or w i 0) (omega (arith, cut.front_len)) ∙ at k in
+    let o = one_point cut.back (omega (arith, cut.front_len, ap length whole, length-append (bytes cut.front) (bytes cut.back))) (sym (place 0 n (omega arith)) ∙ e) in
+    record { front = cut.front; point = o.point; joined = cut.joined ∙ ap (λ b. cut.front ++ b) o.only; high = o.high; second = place 1 (length w - 2) (omega arith) ∙ ap (λ v. get_or v 1 0) o.row; third = place 2 (length w - 1) (omega arith) ∙ ap (λ v. get_or v 2 0) o.row }
+
+-- the last three bytes where the last code point is a lead
+pub record EndsInLead (w : List ℕ) : Type 0 where
+  pub enough : 3 ≤ length w
+  pub first : get_or w (length w - 3) 0 ≡ 0xED
+  pub low : 0xA0 ≤ get_or w (length w - 2) 0
+  pub high : get_or w (length w - 2) 0 ≤ 0xAF
+
+pub ends_in_lead : {w : List ℕ} (h : IsWellFormed w) (f : List ℕ) (l : ℕ) → IsLead l → h.points ≡ f ++ l ∷ [] → EndsInLead w
+ends_in_lead {w} h f l lead e =
+    let row = encoding_three l (omega arith) (omega arith) in
+    let whole : w ≡ bytes f ++ ((0xE0 + l / 4096) ∷ (0x80 + l / 64 % 64) ∷ (0x80 + l % 64) ∷ []) = sym h.encoded ∙ (ap bytes e ∙ (bytes-pushed f l ∙ ap (λ v. bytes f ++ v) row)) in
+    let len : length w ≡ length (bytes f) + 3 = ap length whole ∙ length-append (bytes f) ((0xE0 + l / 4096) ∷ (0x80 + l / 64 % 64) ∷ (0x80 + l % 64) ∷ []) in
+    let at : (k m : ℕ) → length (bytes f) + k ≡ m → get_or w m 0 ≡ get_or ((0xE0 + l / 4096) ∷ (0x80 + l / 64 % 64) ∷ (0x80 + l % 64) ∷ []) k 0 = λ k m q. ap (λ i. get_or w i 0) (sym q) ∙ (ap (λ v. get_or v (length (bytes f) + k) 0) whole ∙ get_or-append-add (bytes f) ((0xE0 + l / 4096) ∷ (0x80 + l / 64 % 64) ∷ (0x80 + l % 64) ∷ []) k 0) in
+    record { enough = omega arith; first = at 0 (length w - 3) (omega arith) ∙ omega arith; low = omega (arith, at 1 (length w - 2) (omega arith)); high = omega (arith, at 1 (length w - 2) (omega arith)) }

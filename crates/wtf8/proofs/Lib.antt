@@ -1,3 +1,6 @@
 pub mod EncodingLemmas
-pub mod Readings
+pub mod Gaining
 pub mod Joining
+pub mod OneReading
+pub mod Readings
+pub mod UnitLemmas

@@ -26,6 +26,14 @@ impl CodePoint {
         }
     }
 
+    /// The code point of this number, which the caller knows to be at most 0x10FFFF.
+    pub fn from_u32_unchecked(value: u32) -> CodePoint
+        requires { IsCodePoint value }
+        ensures { number result ≡ value }
+    {
+        CodePoint { value }
+    }
+
     /// The number of the code point, at most 0x10FFFF.
     pub fn to_u32(&self) -> u32
         ensures value { result ≡ number self.now }

@@ -3,8 +3,12 @@
 
 mod buf;
 mod code_point;
+mod digits;
+mod encoding;
+mod iters;
 mod view;
 
 pub use buf::Wtf8Buf;
 pub use code_point::CodePoint;
+pub use iters::{IllFormedUtf16CodeUnits, Wtf8CodePoints};
 pub use view::Wtf8;

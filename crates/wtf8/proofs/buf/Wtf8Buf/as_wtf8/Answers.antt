@@ -4,6 +4,9 @@ use Rattle.wtf8.specs.Text.{Text}
 use Rattle.wtf8.specs.Unicode.{units}
 use Rattle.wtf8.proofs.buf.Wtf8Buf.as_wtf8.Goals as goal
 
+pub from_well_formed-requires : goal.from_well_formed-requires
+from_well_formed-requires g c = rw c.as_slice.ensures.value c.self.inside.well_formed
+
 pub returns-clause-units : goal.returns-clause-units
 returns-clause-units g c =
-    ap units (same_points c.result-1.given.0 c.self.inside.well_formed c.as_slice.ensures.value) ∙ ap (λ (t : Text). t.units) c.self.view_is
+    ap units (same_points c.from_well_formed.result.well_formed c.self.inside.well_formed (c.from_well_formed.ensures.bytes ∙ c.as_slice.ensures.value)) ∙ ap (λ (t : Text). t.units) c.self.view_is

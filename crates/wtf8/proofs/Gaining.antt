@@ -1,0 +1,63 @@
+-- What a call that appends to bytes, or is refused, leaves of the string that holds them.
+use Rattle.std.proofs.Common.{◌≡◌, ◌+◌, ◌-◌, ◌≤◌, List, [], ◌∷◌, ℕ, ◌++◌, length, take, Result, Ok, Err, OnOk, OnErr, refl, ap, ◌∙◌, sym, subst, arith, length-append}
+use Rattle.std.proofs.lemmas.List.{take_at, length-take-le}
+use Rattle.wtf8.specs.Unicode.{units, units_of, pair, IsLead, IsTrail, IsCodePoint}
+use Rattle.wtf8.specs.Form.{bytes, encoding, IsWellFormed, IsForm, GainsUnits, FitsUnits}
+use Rattle.wtf8.proofs.EncodingLemmas.{encoding_four}
+use Rattle.wtf8.proofs.Joining.{bytes-pushed, length-lead, form-joined, form-pushed}
+use Rattle.wtf8.proofs.OneReading.{same_form}
+use Rattle.wtf8.specs.OneForm.{bytes-injective}
+use Rattle.wtf8.proofs.Readings.{same_points}
+
+-- well-formed bytes are the form of the units of their code points
+pub form_of : {w : List ℕ} (h : IsWellFormed w) → IsForm w (units h.points)
+form_of h = record { points = h.points; reads = record { clean = h.clean; same_units = refl }; encoded = h.encoded }
+
+pub well_formed_of : {w u : List ℕ} → IsForm w u → IsWellFormed w
+well_formed_of f = record { points = f.points; clean = f.reads.clean; encoded = f.encoded }
+
+module _ {T E : Type 0} where
+  pub gained_or_kept : (r : Result T E) (v : List ℕ) {old new : List ℕ} → IsWellFormed old → OnOk r (GainsUnits old new v) → OnErr r (new ≡ old) → IsWellFormed new
+  gained_or_kept (Ok _) v h ok err = well_formed_of (ok (units h.points) (form_of h))
+  gained_or_kept (Err _) v h ok err = subst IsWellFormed (sym err) h
+
+  pub gained_units : (r : Result T E) (v : List ℕ) {old new u : List ℕ} (h : IsWellFormed old) (k : IsWellFormed new) → units h.points ≡ u → OnOk r (GainsUnits old new v) → OnOk r (units k.points ≡ u ++ v)
+  gained_units (Ok _) v h k e ok =
+      let f = ok (units h.points) (form_of h) in
+      ap units (bytes-injective k.points f.points (k.encoded ∙ sym f.encoded)) ∙ (f.reads.same_units ∙ ap (λ x. x ++ v) e)
+  gained_units (Err _) v h k e ok = tt
+
+  pub kept_units : (r : Result T E) {old new u : List ℕ} (h : IsWellFormed old) (k : IsWellFormed new) → units h.points ≡ u → OnErr r (new ≡ old) → OnErr r (units k.points ≡ u)
+  kept_units (Ok _) h k e err = tt
+  kept_units (Err _) h k e err = ap units (same_points k h err) ∙ e
+
+-- where the units fit, the bytes that gained them are within the capacity
+pub fits_length : {old new v : List ℕ} {n : ℕ} → GainsUnits old new v → FitsUnits old v n → length new ≤ n
+fits_length {old} {new} {v} gains fit =
+    omega (arith, fit.within, ap length (same_form new fit.whole (fit.units ++ v) (gains fit.units fit.before) fit.after))
+
+-- the bytes where the last code point is a lead
+pub record LeadBytes (w f : List ℕ) (l : ℕ) : Type 0 where
+  pub enough : 3 ≤ length w
+  pub front : take (length w - 3) w ≡ bytes f
+
+pub lead_bytes : {w : List ℕ} (h : IsWellFormed w) (f : List ℕ) (l : ℕ) → IsLead l → h.points ≡ f ++ l ∷ [] → LeadBytes w f l
+lead_bytes {w} h f l lead e =
+    let whole : w ≡ bytes f ++ encoding l = sym h.encoded ∙ (ap bytes e ∙ bytes-pushed f l) in
+    let len : length w ≡ length (bytes f) + 3 = ap length whole ∙ (length-append (bytes f) (encoding l) ∙ ap (λ n. length (bytes f) + n) (length-lead l lead)) in
+    record { enough = omega arith; front = ap (take (length w - 3)) whole ∙ take_at (bytes f) (encoding l) (length w - 3) (omega arith) }
+
+-- a trail joined the lead at the end
+pub gains-joined : {w : List ℕ} (h : IsWellFormed w) (f : List ℕ) (l t : ℕ) → IsLead l → IsTrail t → h.points ≡ f ++ l ∷ [] → GainsUnits w (take (length w - 3) w ++ encoding (pair l t)) (units_of t)
+gains-joined {w} h f l t lead trail e u x =
+    let same : x.points ≡ f ++ l ∷ [] = bytes-injective x.points h.points (x.encoded ∙ sym h.encoded) ∙ e in
+    subst (λ v. IsForm (v ++ encoding (pair l t)) (u ++ units_of t)) (sym (lead_bytes h f l lead e).front) (form-joined w u f l t x same lead trail)
+
+pub length-joined : (w : List ℕ) (l t : ℕ) → IsLead l → IsTrail t → 3 ≤ length w → length (take (length w - 3) w ++ encoding (pair l t)) ≡ length w + 1
+length-joined w l t lead trail n =
+    length-append (take (length w - 3) w) (encoding (pair l t)) ∙ omega (arith, length-take-le (length w - 3) w (omega arith), ap length (encoding_four (pair l t) (omega arith)))
+
+-- a code point came that makes no pair
+pub gains-pushed : {w : List ℕ} (h : IsWellFormed w) (p : ℕ) → IsCodePoint p → ((f : List ℕ) (l : ℕ) → IsLead l → IsTrail p → h.points ≡ f ++ l ∷ [] → ⊥) → GainsUnits w (w ++ encoding p) (units_of p)
+gains-pushed {w} h p range none u x =
+    form-pushed w u p x range (λ f l lead trail e. none f l lead trail (bytes-injective h.points x.points (h.encoded ∙ sym x.encoded) ∙ e))

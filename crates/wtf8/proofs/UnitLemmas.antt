@@ -1,0 +1,51 @@
+-- The units of code points: one below 10000 and two from there on.
+use Rattle.std.proofs.Common.{◌≡◌, ℕ, ◌+◌, ◌-◌, ◌*◌, ◌/◌, ◌%◌, ◌<◌, ◌≤◌, ◌⊎◌, inl, inr, List, [], ◌∷◌, ◌++◌, length, refl, sym, ap, ◌∙◌, arith, append_assoc, length-append}
+use Rattle.std.proofs.lemmas.Bool.{lt-ltb, le-ltb, cases_lt}
+use Rattle.std.proofs.lemmas.List.{append-nil}
+use Rattle.std.proofs.lemmas.List.Concat.{flat_map-append}
+use Rattle.wtf8.specs.Unicode.{IsLead, IsTrail, units_of, units, pair}
+use Rattle.wtf8.specs.Form.{encoding, bytes}
+use Rattle.wtf8.proofs.EncodingLemmas.{row_of, one, two, three, four}
+
+pub units_one : (p : ℕ) → p < 0x10000 → units_of p ≡ p ∷ []
+unfolding units_of
+units_one p h = rw (lt-ltb p 0x10000 h) refl
+
+pub units_two : (p : ℕ) → 0x10000 ≤ p → units_of p ≡ (0xD800 + (p - 0x10000) / 0x400) ∷ (0xDC00 + (p - 0x10000) % 0x400) ∷ []
+unfolding units_of
+units_two p h = rw (le-ltb p 0x10000 h) refl
+
+pub units_pair : (l t : ℕ) → IsLead l → IsTrail t → units_of (pair l t) ≡ l ∷ t ∷ []
+units_pair l t h k =
+    units_two (pair l t) (omega arith) ∙ (ap (λ a. a ∷ (0xDC00 + (pair l t - 0x10000) % 0x400) ∷ []) (omega arith) ∙ ap (λ b. l ∷ b ∷ []) (omega arith))
+
+pub units-append : (c d : List ℕ) → units (c ++ d) ≡ units c ++ units d
+units-append c d = flat_map-append units_of c d
+
+pub units-pushed : (c : List ℕ) (p : ℕ) → units (c ++ p ∷ []) ≡ units c ++ units_of p
+units-pushed c p = units-append c (p ∷ []) ∙ ap (λ u. units c ++ u) (append-nil (units_of p))
+
+-- a trail behind a lead, joined to it, adds its one unit
+pub units-joined : (f : List ℕ) (l t : ℕ) → IsLead l → IsTrail t → units (f ++ pair l t ∷ []) ≡ units (f ++ l ∷ []) ++ units_of t
+units-joined f l t h k =
+    units-pushed f (pair l t) ∙ (ap (λ u. units f ++ u) (units_pair l t h k) ∙ (sym (append_assoc (units f) (l ∷ []) (t ∷ [])) ∙ (ap (λ u. (units f ++ u) ++ t ∷ []) (sym (units_one l (omega arith))) ∙ (ap (λ u. u ++ t ∷ []) (sym (units-pushed f l)) ∙ ap (λ u. units (f ++ l ∷ []) ++ u) (sym (units_one t (omega arith)))))))
+
+-- the number of units against the number of bytes
+pub record Bounds (u w : ℕ) : Type 0 where
+  pub at_least : u ≤ w
+  pub at_most : w ≤ 3 * u
+
+bounds_of : (p : ℕ) → Bounds (length (units_of p)) (length (encoding p))
+bounds_of p =
+    elim (row_of p) [
+      one h e ↦ rw (e, units_one p (omega arith)) (record { at_least = omega arith; at_most = omega arith })
+    | two _ h e ↦ rw (e, units_one p (omega arith)) (record { at_least = omega arith; at_most = omega arith })
+    | three _ h e ↦ rw (e, units_one p h) (record { at_least = omega arith; at_most = omega arith })
+    | four l e ↦ rw (e, units_two p l) (record { at_least = omega arith; at_most = omega arith }) ]
+
+pub units_bounds : (c : List ℕ) → Bounds (length (units c)) (length (bytes c))
+units_bounds [] = record { at_least = omega arith; at_most = omega arith }
+units_bounds (p ∷ c) =
+    let b = bounds_of p in
+    let r = units_bounds c in
+    rw (length-append (units_of p) (units c), length-append (encoding p) (bytes c)) (record { at_least = omega arith; at_most = omega arith })

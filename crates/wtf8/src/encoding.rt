@@ -1,0 +1,107 @@
+// The encoding of one code point: written at the end of bytes, and read from their front.
+ghost use Rattle.std.specs.Prelude.{◌≡◌, ℕ, List, ◌++◌, ◌+◌, ◌<◌, ◌≤◌, length, OnOk, OnErr, IsOk, vec_len, vec_capacity};
+ghost use Rattle.wtf8.specs.CodePoint.{number};
+ghost use Rattle.wtf8.specs.Form.{encoding, BeginsWithPoint};
+ghost use Rattle.wtf8.specs.Unicode.{IsCodePoint};
+
+use crate::code_point::CodePoint;
+use std::alloc::{AllocError, Allocator};
+
+/// The two bytes of a code point from 0x80 to 0x7FF.
+#[tactic(auto, using(crate::proofs::EncodingLemmas::encoding_two))]
+fn two_bytes(value: u32) -> [u8; 2]
+    requires low { 0x80 ≤ value }
+    requires high { value < 0x800 }
+    ensures { result ≡ encoding value }
+{
+    [(0xC0 + value / 64) as u8, (0x80 + value % 64) as u8]
+}
+
+/// The three bytes of a code point from 0x800 to 0xFFFF, a surrogate like any other.
+#[tactic(auto, using(crate::proofs::EncodingLemmas::encoding_three))]
+fn three_bytes(value: u32) -> [u8; 3]
+    requires low { 0x800 ≤ value }
+    requires high { value < 0x10000 }
+    ensures { result ≡ encoding value }
+{
+    [
+        (0xE0 + value / 4096) as u8,
+        (0x80 + value / 64 % 64) as u8,
+        (0x80 + value % 64) as u8,
+    ]
+}
+
+/// The four bytes of a supplementary code point.
+#[tactic(auto, using(crate::proofs::EncodingLemmas::encoding_four))]
+pub(crate) fn four_bytes(value: u32) -> [u8; 4]
+    requires low { 0x10000 ≤ value }
+    requires high { IsCodePoint value }
+    ensures { result ≡ encoding value }
+{
+    [
+        (0xF0 + value / 262144) as u8,
+        (0x80 + value / 4096 % 64) as u8,
+        (0x80 + value / 64 % 64) as u8,
+        (0x80 + value % 64) as u8,
+    ]
+}
+
+/// Appends the encoding of a code point, whatever stands before it. After a refusal the bytes are as before.
+#[tactic(auto, using(crate::proofs::EncodingLemmas::encoding_one))]
+pub(crate) fn append<A: Allocator>(
+    bytes: &mut Vec<u8, A>,
+    code_point: CodePoint,
+) -> Result<(), AllocError>
+    ensures ok { OnOk result (bytes.new.items ≡ bytes.old.items ++ encoding (number code_point)) }
+    ensures err { OnErr result (bytes.new.items ≡ bytes.old.items) }
+    ensures room { vec_len bytes.old + length (encoding (number code_point)) ≤ vec_capacity bytes.old → IsOk result }
+    ensures capacity { vec_capacity bytes.old ≤ vec_capacity bytes.new }
+{
+    let value = code_point.to_u32();
+    if value < 0x80 {
+        bytes.extend_from_slice(&[value as u8])
+    } else if value < 0x800 {
+        bytes.extend_from_slice(&two_bytes(value))
+    } else if value < 0x10000 {
+        bytes.extend_from_slice(&three_bytes(value))
+    } else {
+        bytes.extend_from_slice(&four_bytes(value))
+    }
+}
+
+/// The low six bits of a byte behind the first one.
+fn low_bits(byte: u8) -> u32
+    requires inside { 0x80 ≤ byte }
+    ensures { result + 0x80 ≡ byte }
+{
+    u32::from(byte - 0x80)
+}
+
+/// The number of the code point at the front of the bytes, and how many bytes it takes.
+fn read_number(bytes: &[u8]) -> (u32, usize)
+    requires { BeginsWithPoint bytes.now }
+    ensures { (p : ℕ) (rest : List ℕ) → IsCodePoint p → bytes.now ≡ encoding p ++ rest → (result.0 ≡ p) × (result.1 ≡ length (encoding p)) }
+{
+    let first = u32::from(bytes[0]);
+    if first < 0x80 {
+        (first, 1)
+    } else if first < 0xE0 {
+        ((first - 0xC0) * 64 + low_bits(bytes[1]), 2)
+    } else if first < 0xF0 {
+        let high = (first - 0xE0) * 64 + low_bits(bytes[1]);
+        (high * 64 + low_bits(bytes[2]), 3)
+    } else {
+        let high = (first - 0xF0) * 64 + low_bits(bytes[1]);
+        let middle = high * 64 + low_bits(bytes[2]);
+        (middle * 64 + low_bits(bytes[3]), 4)
+    }
+}
+
+/// The code point at the front of the bytes, and how many bytes it takes.
+pub(crate) fn read(bytes: &[u8]) -> (CodePoint, usize)
+    requires { BeginsWithPoint bytes.now }
+    ensures { (p : ℕ) (rest : List ℕ) → IsCodePoint p → bytes.now ≡ encoding p ++ rest → (number result.0 ≡ p) × (result.1 ≡ length (encoding p)) }
+{
+    let (value, width) = read_number(bytes);
+    (CodePoint::from_u32_unchecked(value), width)
+}
