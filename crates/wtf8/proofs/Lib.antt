@@ -3,4 +3,5 @@ pub mod Gaining
 pub mod Joining
 pub mod OneReading
 pub mod Readings
+pub mod Texts
 pub mod UnitLemmas

@@ -52,3 +52,10 @@ taken {w} h p n long read =
       rest = record { points = f.rest; clean = f.clean; encoded = f.encoded ∙ sym (ap (drop n) b.encoded ∙ drop_at (encoding b.point) b.rest n (sym was.1)) };
       joined = f.points ∙ ap (λ q. q ∷ f.rest) (sym was.0);
     }
+
+-- bytes that equal well-formed ones have their code points
+abbrev pub empty_at : {w : List ℕ} → w ≡ [] → IsWellFormed w
+empty_at e = record { points = []; clean = tt; encoded = sym e }
+
+abbrev pub moved : {v w : List ℕ} → IsWellFormed v → w ≡ v → IsWellFormed w
+moved h e = record { points = h.points; clean = h.clean; encoded = h.encoded ∙ sym e }

@@ -1,12 +1,14 @@
 // Owned strings.
-ghost use Rattle.std.specs.Prelude.{◌≡◌, ℕ, List, [], ◌∷◌, ◌++◌, ◌+◌, ◌-◌, ◌≤◌, length, take, OnOk, OnErr, IsOk, OnSome, IfSome, IfNone, vec_len, vec_capacity};
+ghost use Rattle.std.specs.Prelude.{◌≡◌, ℕ, List, [], ◌++◌, ◌+◌, ◌≤◌, length, OnOk, OnErr, IsOk, IfOk, vec_capacity};
+ghost use Rattle.std.specs.Str.{chars};
+ghost use Rattle.std.specs.String.{string_bytes};
 ghost use Rattle.wtf8.specs.CodePoint.{number};
-ghost use Rattle.wtf8.specs.Form.{IsWellFormed, IsForm, GainsUnits, FitsUnits, encoding};
+ghost use Rattle.wtf8.specs.Form.{IsWellFormed, IsForm};
 ghost use Rattle.wtf8.specs.OneForm.{IsWellFormed-prop};
-ghost use Rattle.wtf8.specs.Unicode.{units, units_of, pair, IsLead, IsTrail};
+ghost use Rattle.wtf8.specs.Unicode.{units, units_of};
 
 use crate::code_point::CodePoint;
-use crate::encoding;
+use crate::concat;
 use crate::view::Wtf8;
 use std::alloc::{AllocError, Allocator};
 use std::marker::Model;
@@ -43,54 +45,14 @@ impl<A: Allocator> Model for Wtf8Buf<A> {
     } };
 }
 
-/// Makes of the lead surrogate that ends the bytes and of a trail the code point that they stand for: its fourth byte
-/// is appended, then the lead's three bytes are overwritten. After a refusal the bytes are as before.
-fn join<A: Allocator>(bytes: &mut Vec<u8, A>, lead: u32, trail: u32) -> Result<(), AllocError>
-    requires lead { IsLead lead }
-    requires trail { IsTrail trail }
-    requires three { 3 ≤ length bytes.old.items }
-    ensures ok { OnOk result (bytes.new.items ≡ take (length bytes.old.items - 3) bytes.old.items ++ encoding (pair lead trail)) }
-    ensures err { OnErr result (bytes.new.items ≡ bytes.old.items) }
-    ensures room { vec_len bytes.old + 1 ≤ vec_capacity bytes.old → IsOk result }
-    ensures capacity { vec_capacity bytes.old ≤ vec_capacity bytes.new }
+/// A string of bytes that are known to be well-formed.
+fn from_well_formed<A: Allocator>(bytes: Vec<u8, A>) -> Wtf8Buf<A>
+    requires { IsWellFormed bytes.items }
+    ensures bytes { result.bytes ≡ bytes.items }
+    ensures units { (h : IsWellFormed bytes.items) → result.units ≡ units h.points }
+    ensures capacity { result.capacity ≡ vec_capacity bytes }
 {
-    let joined = encoding::four_bytes(0x10000 + (lead - 0xD800) * 0x400 + (trail - 0xDC00));
-    let start = bytes.len() - 3;
-    bytes.push(joined[3])?;
-    bytes[start..start + 3].copy_from_slice(&joined[..3]);
-    Ok(())
-}
-
-/// The lead surrogate that ends the text and that the code point would join: there is one only if the code point is a
-/// trail surrogate.
-fn joining_lead(text: Wtf8<'_>, code_point: CodePoint) -> Option<u32>
-    ensures trail { OnSome result (IsTrail (number code_point)) }
-    ensures lead { IfSome result (λ l. IsLead l) }
-    ensures last { IfSome result (λ l. (f : List ℕ) × (text.entry.well_formed.points ≡ f ++ l ∷ [])) }
-    ensures none { IfNone result ((f : List ℕ) (l : ℕ) → IsLead l → IsTrail (number code_point) → text.entry.well_formed.points ≡ f ++ l ∷ [] → ⊥) }
-{
-    match code_point.to_u32() {
-        0xDC00..=0xDFFF => text.final_lead_surrogate(),
-        _ => None,
-    }
-}
-
-/// Appends a code point to well-formed bytes, a trail surrogate behind a lead as the code point that the two stand for.
-fn push_joining<A: Allocator>(
-    bytes: &mut Vec<u8, A>,
-    code_point: CodePoint,
-) -> Result<(), AllocError>
-    requires { IsWellFormed bytes.old.items }
-    ensures ok { OnOk result (GainsUnits bytes.old.items bytes.new.items (units_of (number code_point))) }
-    ensures err { OnErr result (bytes.new.items ≡ bytes.old.items) }
-    ensures room { FitsUnits bytes.old.items (units_of (number code_point)) (vec_capacity bytes.old) → IsOk result }
-    ensures capacity { vec_capacity bytes.old ≤ vec_capacity bytes.new }
-{
-    let text = Wtf8::from_well_formed(bytes.as_slice());
-    match joining_lead(text, code_point) {
-        Some(lead) => join(bytes, lead, code_point.to_u32()),
-        None => encoding::append(bytes, code_point),
-    }
+    Wtf8Buf { bytes }
 }
 
 impl<A: Allocator> Wtf8Buf<A> {
@@ -99,9 +61,67 @@ impl<A: Allocator> Wtf8Buf<A> {
         ensures units { result.units ≡ [] }
         ensures bytes { result.bytes ≡ [] }
     {
-        Wtf8Buf {
-            bytes: Vec::new(alloc),
-        }
+        from_well_formed(Vec::new(alloc))
+    }
+
+    /// An empty string with room for at least `n` bytes. It asks for no memory where `n` is 0.
+    pub fn with_capacity(alloc: A, n: usize) -> Result<Wtf8Buf<A>, AllocError>
+        ensures units { IfOk result (λ b. b.units ≡ []) }
+        ensures bytes { IfOk result (λ b. b.bytes ≡ []) }
+        ensures capacity { IfOk result (λ b. n ≤ b.capacity) }
+        ensures zero { n ≡ 0 → IsOk result }
+    {
+        Ok(from_well_formed(Vec::with_capacity(alloc, n)?))
+    }
+
+    /// The string of a text's characters. It keeps the text's own bytes and asks for no memory.
+    pub fn from_string(string: String<A>) -> Wtf8Buf<A>
+        ensures units { result.units ≡ units (chars (string_bytes string)) }
+        ensures bytes { result.bytes ≡ string_bytes string }
+    {
+        from_well_formed(string.into_bytes())
+    }
+
+    /// The string of a text's characters: a copy of its bytes. The empty text asks for no memory.
+    pub fn from_str(alloc: A, value: &str) -> Result<Wtf8Buf<A>, AllocError>
+        ensures units { IfOk result (λ b. b.units ≡ units (chars value.now)) }
+        ensures bytes { IfOk result (λ b. b.bytes ≡ value.now) }
+        ensures empty { value.now ≡ [] → IsOk result }
+    {
+        let mut bytes = Vec::with_capacity(alloc, value.len())?;
+        bytes.extend_from_slice(value.as_bytes())?;
+        Ok(from_well_formed(bytes))
+    }
+
+    /// An equal string with an allocator of its own, cloned from this one's.
+    pub fn clone(&self) -> Result<Wtf8Buf<A>, AllocError>
+    where
+        A: Clone,
+        ensures units { IfOk result (λ b. b.units ≡ self.now.units) }
+        ensures bytes { IfOk result (λ b. b.bytes ≡ self.now.bytes) }
+    {
+        let alloc = self.bytes.allocator().clone()?;
+        Ok(from_well_formed(Vec::from_slice(alloc, self.bytes.as_slice())?))
+    }
+
+    /// Finds room for at least `additional` more bytes, and asks for none where that room is there. The string is as
+    /// before in either case.
+    pub fn reserve(&mut self, additional: usize) -> Result<(), AllocError>
+        ensures ok { OnOk result (length self.new.bytes + additional ≤ self.new.capacity) }
+        ensures units { self.new.units ≡ self.old.units }
+        ensures bytes { self.new.bytes ≡ self.old.bytes }
+        ensures room { length self.old.bytes + additional ≤ self.old.capacity → IsOk result }
+        ensures capacity { self.old.capacity ≤ self.new.capacity }
+    {
+        self.bytes.reserve(additional)
+    }
+
+    /// How many bytes fit without a growth: at least the length.
+    pub fn capacity(&self) -> usize
+        ensures value { result ≡ self.now.capacity }
+        ensures at_least_length { length self.now.bytes ≤ result }
+    {
+        self.bytes.capacity()
     }
 
     /// A view of the whole string.
@@ -124,6 +144,46 @@ impl<A: Allocator> Wtf8Buf<A> {
         ensures room { (w : List ℕ) → IsForm w (self.old.units ++ units_of (number code_point)) → length w ≤ self.old.capacity → IsOk result }
         ensures capacity { self.old.capacity ≤ self.new.capacity }
     {
-        push_joining(&mut self.bytes, code_point)
+        concat::push_point(&mut self.bytes, code_point)
+    }
+    /// Appends a character. After a refusal the string is as before.
+    #[inline(always)]
+    pub fn push_char(&mut self, c: char) -> Result<(), AllocError>
+        ensures ok { OnOk result (self.new.units ≡ self.old.units ++ units_of c) }
+        ensures units_kept { OnErr result (self.new.units ≡ self.old.units) }
+        ensures bytes_kept { OnErr result (self.new.bytes ≡ self.old.bytes) }
+
+        // A push whose bytes fit is never refused, and the capacity never shrinks.
+        ensures room { (w : List ℕ) → IsForm w (self.old.units ++ units_of c) → length w ≤ self.old.capacity → IsOk result }
+        ensures capacity { self.old.capacity ≤ self.new.capacity }
+    {
+        concat::push_scalar(&mut self.bytes, c)
+    }
+
+    /// Appends a text. After a refusal the string is as before.
+    pub fn push_str(&mut self, other: &str) -> Result<(), AllocError>
+        ensures ok { OnOk result (self.new.units ≡ self.old.units ++ units (chars other.now)) }
+        ensures units_kept { OnErr result (self.new.units ≡ self.old.units) }
+        ensures bytes_kept { OnErr result (self.new.bytes ≡ self.old.bytes) }
+
+        // A push whose bytes fit is never refused, and the capacity never shrinks.
+        ensures room { (w : List ℕ) → IsForm w (self.old.units ++ units (chars other.now)) → length w ≤ self.old.capacity → IsOk result }
+        ensures capacity { self.old.capacity ≤ self.new.capacity }
+    {
+        concat::push_text(&mut self.bytes, other)
+    }
+
+    /// Appends another string. A trail surrogate at its front joins a lead at the end: the two become the code point
+    /// that they stand for, and the length grows by the other's length less 2. After a refusal the string is as before.
+    pub fn push_wtf8(&mut self, other: Wtf8<'_>) -> Result<(), AllocError>
+        ensures ok { OnOk result (self.new.units ≡ self.old.units ++ units other.entry.well_formed.points) }
+        ensures units_kept { OnErr result (self.new.units ≡ self.old.units) }
+        ensures bytes_kept { OnErr result (self.new.bytes ≡ self.old.bytes) }
+
+        // A push whose bytes fit is never refused, and the capacity never shrinks.
+        ensures room { (w : List ℕ) → IsForm w (self.old.units ++ units other.entry.well_formed.points) → length w ≤ self.old.capacity → IsOk result }
+        ensures capacity { self.old.capacity ≤ self.new.capacity }
+    {
+        concat::push_view(&mut self.bytes, other)
     }
 }

@@ -3,6 +3,7 @@
 
 mod buf;
 mod code_point;
+mod concat;
 mod digits;
 mod encoding;
 mod iters;

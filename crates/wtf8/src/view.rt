@@ -1,5 +1,6 @@
 // Borrowed strings.
 ghost use Rattle.std.specs.Prelude.{◌≡◌, ℕ, List, [], ◌∷◌, ◌++◌, ◌*◌, ◌≤◌, length, IfSome, IfNone, IfOk, IsOk};
+ghost use Rattle.std.specs.Str.{chars};
 ghost use Rattle.std.specs.String.{string_bytes};
 ghost use Rattle.wtf8.specs.Form.{IsWellFormed};
 ghost use Rattle.wtf8.specs.Hex.{hex};
@@ -24,6 +25,14 @@ pub struct Wtf8<'a> {
 
 impl<'a> Wtf8<'a> {
     ghost use Rattle.wtf8.specs.CodePoint.{number};
+
+    /// A view of a text's bytes: the string of its characters.
+    pub fn from_str(value: &'a str) -> Wtf8<'a>
+        ensures bytes { result.bytes.now ≡ value.now }
+        ensures points { result.well_formed.points ≡ chars value.now }
+    {
+        Wtf8::from_well_formed(value.as_bytes())
+    }
 
     /// A view of bytes that are known to be well-formed.
     pub(crate) fn from_well_formed(bytes: &'a [u8]) -> Wtf8<'a>
@@ -89,6 +98,20 @@ impl<'a> Wtf8<'a> {
             Some(0xD000 + (second - 0x80) * 64 + (third - 0x80))
         } else {
             None
+        }
+    }
+    /// The number of the trail surrogate that begins the string, if one does.
+    pub(crate) fn initial_trail_surrogate(self) -> Option<u32>
+        ensures trail { IfSome result (λ t. IsTrail t) }
+        ensures first { IfSome result (λ t. (r : List ℕ) × (self.entry.well_formed.points ≡ t ∷ r)) }
+        ensures none { IfNone result ((t : ℕ) (r : List ℕ) → IsTrail t → self.entry.well_formed.points ≡ t ∷ r → ⊥) }
+    {
+        let Some((code_point, _)) = self.split_first() else {
+            return None;
+        };
+        match code_point.to_u32() {
+            0xDC00..=0xDFFF => Some(code_point.to_u32()),
+            _ => None,
         }
     }
 }

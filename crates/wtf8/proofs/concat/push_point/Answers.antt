@@ -5,7 +5,7 @@ use Rattle.wtf8.specs.Unicode.{pair, units_of, IsLead, IsTrail}
 use Rattle.wtf8.specs.Form.{encoding, IsForm, IsWellFormed, GainsUnits}
 use Rattle.wtf8.proofs.Readings.{same_points}
 use Rattle.wtf8.proofs.Gaining.{gains-joined, length-joined, gains-pushed, fits_length, lead_bytes}
-use Rattle.wtf8.proofs.buf.push_joining.Goals as goal
+use Rattle.wtf8.proofs.concat.push_point.Goals as goal
 
 -- the view of the bytes has the code points that were required of the bytes
 seen : {w v : List ℕ} (h : IsWellFormed w) (k : IsWellFormed v) → v ≡ w → h.points ≡ k.points

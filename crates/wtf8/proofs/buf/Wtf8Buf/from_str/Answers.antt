@@ -1,0 +1,11 @@
+use Rattle.std.proofs.Common.{ap, ◌∙◌, ◌++◌}
+use Rattle.wtf8.proofs.Texts.{text_at}
+use Rattle.wtf8.proofs.buf.Wtf8Buf.from_str.Goals as goal
+
+pub from_well_formed-requires : goal.from_well_formed-requires
+from_well_formed-requires g c =
+    text_at c.utf8.value (c.in_ok-extend_from_slice.ensures.items ∙ (ap (λ w. w ++ c.as_bytes.result.now) c.in_ok-bytes.ensures.items ∙ c.as_bytes.ensures.value))
+
+pub returns-clause-units : goal.returns-clause-units
+returns-clause-units g c =
+    c.from_well_formed.ensures.units (text_at c.utf8.value (c.in_ok-extend_from_slice.ensures.items ∙ (ap (λ w. w ++ c.as_bytes.result.now) c.in_ok-bytes.ensures.items ∙ c.as_bytes.ensures.value)))

@@ -1,0 +1,7 @@
+use Rattle.std.proofs.Common.{ap, refl}
+use Rattle.wtf8.proofs.Readings.{same_points}
+use Rattle.wtf8.specs.Unicode.{units}
+use Rattle.wtf8.proofs.buf.from_well_formed.Goals as goal
+
+pub returns-clause-units : goal.returns-clause-units
+returns-clause-units g c h = ap units (same_points c.result-1.given.0 h refl)

@@ -1,0 +1,146 @@
+// Concatenation of well-formed bytes: what is appended at their end, a lead and a trail that meet as one code point.
+ghost use Rattle.std.specs.Prelude.{◌≡◌, ℕ, List, [], ◌∷◌, ◌++◌, ◌+◌, ◌-◌, ◌≤◌, length, take, drop, OnOk, OnErr, IsOk, OnSome, IfSome, IfNone, vec_len, vec_capacity};
+ghost use Rattle.std.specs.Str.{chars};
+ghost use Rattle.wtf8.specs.CodePoint.{number};
+ghost use Rattle.wtf8.specs.Form.{IsWellFormed, GainsUnits, FitsUnits, encoding};
+ghost use Rattle.wtf8.specs.Unicode.{units, units_of, pair, IsLead, IsTrail};
+
+use crate::code_point::CodePoint;
+use crate::encoding;
+use crate::view::Wtf8;
+use std::alloc::{AllocError, Allocator};
+
+/// Makes of the lead surrogate that ends the bytes and of a trail the code point that they stand for: its fourth byte
+/// is appended, then the lead's three bytes are overwritten. After a refusal the bytes are as before.
+fn join<A: Allocator>(bytes: &mut Vec<u8, A>, lead: u32, trail: u32) -> Result<(), AllocError>
+    requires lead { IsLead lead }
+    requires trail { IsTrail trail }
+    requires three { 3 ≤ length bytes.old.items }
+    ensures ok { OnOk result (bytes.new.items ≡ take (length bytes.old.items - 3) bytes.old.items ++ encoding (pair lead trail)) }
+    ensures err { OnErr result (bytes.new.items ≡ bytes.old.items) }
+    ensures room { vec_len bytes.old + 1 ≤ vec_capacity bytes.old → IsOk result }
+    ensures capacity { vec_capacity bytes.old ≤ vec_capacity bytes.new }
+{
+    let joined = encoding::four_bytes(0x10000 + (lead - 0xD800) * 0x400 + (trail - 0xDC00));
+    let start = bytes.len() - 3;
+    bytes.push(joined[3])?;
+    bytes[start..start + 3].copy_from_slice(&joined[..3]);
+    Ok(())
+}
+
+/// The lead surrogate that ends the text and that the code point would join: there is one only if the code point is a
+/// trail surrogate.
+fn joining_lead(text: Wtf8<'_>, code_point: CodePoint) -> Option<u32>
+    ensures trail { OnSome result (IsTrail (number code_point)) }
+    ensures lead { IfSome result (λ l. IsLead l) }
+    ensures last { IfSome result (λ l. (f : List ℕ) × (text.entry.well_formed.points ≡ f ++ l ∷ [])) }
+    ensures none { IfNone result ((f : List ℕ) (l : ℕ) → IsLead l → IsTrail (number code_point) → text.entry.well_formed.points ≡ f ++ l ∷ [] → ⊥) }
+{
+    match code_point.to_u32() {
+        0xDC00..=0xDFFF => text.final_lead_surrogate(),
+        _ => None,
+    }
+}
+
+/// Appends a code point to well-formed bytes, a trail surrogate behind a lead as the code point that the two stand for.
+pub(crate) fn push_point<A: Allocator>(
+    bytes: &mut Vec<u8, A>,
+    code_point: CodePoint,
+) -> Result<(), AllocError>
+    requires { IsWellFormed bytes.old.items }
+    ensures ok { OnOk result (GainsUnits bytes.old.items bytes.new.items (units_of (number code_point))) }
+    ensures err { OnErr result (bytes.new.items ≡ bytes.old.items) }
+    ensures room { FitsUnits bytes.old.items (units_of (number code_point)) (vec_capacity bytes.old) → IsOk result }
+    ensures capacity { vec_capacity bytes.old ≤ vec_capacity bytes.new }
+{
+    let text = Wtf8::from_well_formed(bytes.as_slice());
+    match joining_lead(text, code_point) {
+        Some(lead) => join(bytes, lead, code_point.to_u32()),
+        None => encoding::append(bytes, code_point),
+    }
+}
+
+/// Appends bytes as they are. After a refusal the bytes are as before.
+fn append_bytes<A: Allocator>(bytes: &mut Vec<u8, A>, other: &[u8]) -> Result<(), AllocError>
+    ensures ok { OnOk result (bytes.new.items ≡ bytes.old.items ++ other.now) }
+    ensures err { OnErr result (bytes.new.items ≡ bytes.old.items) }
+    ensures room { length bytes.old.items + length other.now ≤ vec_capacity bytes.old → IsOk result }
+    ensures capacity { vec_capacity bytes.old ≤ vec_capacity bytes.new }
+{
+    bytes.extend_from_slice(other)
+}
+
+/// The lead surrogate that ends the first text and the trail surrogate that begins the second, where both are there.
+fn meeting_pair(front: Wtf8<'_>, back: Wtf8<'_>) -> Option<(u32, u32)>
+    ensures pair { IfSome result (λ p. IsLead p.0 × IsTrail p.1) }
+    ensures last { IfSome result (λ p. (f : List ℕ) × (front.entry.well_formed.points ≡ f ++ p.0 ∷ [])) }
+    ensures first { IfSome result (λ p. (r : List ℕ) × (back.entry.well_formed.points ≡ p.1 ∷ r)) }
+    ensures none { IfNone result ((f r : List ℕ) (l t : ℕ) → IsLead l → IsTrail t → front.entry.well_formed.points ≡ f ++ l ∷ [] → back.entry.well_formed.points ≡ t ∷ r → ⊥) }
+{
+    let trail = back.initial_trail_surrogate()?;
+    let lead = front.final_lead_surrogate()?;
+    Some((lead, trail))
+}
+
+/// Appends bytes whose first three are a trail surrogate, which the lead surrogate at the end joins. Room for all that
+/// is added is found first; after a refusal the bytes are as before.
+fn join_bytes<A: Allocator>(
+    bytes: &mut Vec<u8, A>,
+    lead: u32,
+    trail: u32,
+    other: &[u8],
+) -> Result<(), AllocError>
+    requires lead { IsLead lead }
+    requires trail { IsTrail trail }
+    requires three { 3 ≤ length bytes.old.items }
+    requires other_three { 3 ≤ length other.now }
+    ensures ok { OnOk result (bytes.new.items ≡ (take (length bytes.old.items - 3) bytes.old.items ++ encoding (pair lead trail)) ++ drop 3 other.now) }
+    ensures err { OnErr result (bytes.new.items ≡ bytes.old.items) }
+    ensures room { (length bytes.old.items + length other.now) - 2 ≤ vec_capacity bytes.old → IsOk result }
+    ensures capacity { vec_capacity bytes.old ≤ vec_capacity bytes.new }
+{
+    let (_, rest) = other.split_at(3);
+    bytes.reserve(rest.len() + 1)?;
+    join(bytes, lead, trail)?;
+    append_bytes(bytes, rest)
+}
+
+/// Appends a view, a trail surrogate at its front and a lead at the end as the code point that the two stand for.
+pub(crate) fn push_view<A: Allocator>(
+    bytes: &mut Vec<u8, A>,
+    other: Wtf8<'_>,
+) -> Result<(), AllocError>
+    requires { IsWellFormed bytes.old.items }
+    ensures ok { OnOk result (GainsUnits bytes.old.items bytes.new.items (units other.entry.well_formed.points)) }
+    ensures err { OnErr result (bytes.new.items ≡ bytes.old.items) }
+    ensures room { FitsUnits bytes.old.items (units other.entry.well_formed.points) (vec_capacity bytes.old) → IsOk result }
+    ensures capacity { vec_capacity bytes.old ≤ vec_capacity bytes.new }
+{
+    let text = Wtf8::from_well_formed(bytes.as_slice());
+    match meeting_pair(text, other) {
+        Some((lead, trail)) => join_bytes(bytes, lead, trail, other.bytes),
+        None => append_bytes(bytes, other.bytes),
+    }
+}
+
+/// Appends a character, which joins nothing.
+pub(crate) fn push_scalar<A: Allocator>(bytes: &mut Vec<u8, A>, c: char) -> Result<(), AllocError>
+    requires { IsWellFormed bytes.old.items }
+    ensures ok { OnOk result (GainsUnits bytes.old.items bytes.new.items (units_of c)) }
+    ensures err { OnErr result (bytes.new.items ≡ bytes.old.items) }
+    ensures room { FitsUnits bytes.old.items (units_of c) (vec_capacity bytes.old) → IsOk result }
+    ensures capacity { vec_capacity bytes.old ≤ vec_capacity bytes.new }
+{
+    encoding::append(bytes, CodePoint::from_u32_unchecked(u32::from(c)))
+}
+
+/// Appends a text, none of whose characters joins anything.
+pub(crate) fn push_text<A: Allocator>(bytes: &mut Vec<u8, A>, other: &str) -> Result<(), AllocError>
+    requires { IsWellFormed bytes.old.items }
+    ensures ok { OnOk result (GainsUnits bytes.old.items bytes.new.items (units (chars other.now))) }
+    ensures err { OnErr result (bytes.new.items ≡ bytes.old.items) }
+    ensures room { FitsUnits bytes.old.items (units (chars other.now)) (vec_capacity bytes.old) → IsOk result }
+    ensures capacity { vec_capacity bytes.old ≤ vec_capacity bytes.new }
+{
+    append_bytes(bytes, other.as_bytes())
+}
