@@ -5,7 +5,7 @@ use Rattle.std.proofs.lemmas.List.{append-nil}
 use Rattle.std.proofs.lemmas.List.Concat.{flat_map-append}
 use Rattle.wtf8.specs.Unicode.{IsLead, IsTrail, units_of, units, pair}
 use Rattle.wtf8.specs.Form.{encoding, bytes}
-use Rattle.wtf8.proofs.EncodingLemmas.{row_of, one, two, three, four}
+use Rattle.wtf8.proofs.EncodingLemmas.{row_of, one, two, three, four, length-encoding_bounds}
 
 pub units_one : (p : ℕ) → p < 0x10000 → units_of p ≡ p ∷ []
 unfolding units_of
@@ -49,3 +49,23 @@ units_bounds (p ∷ c) =
     let b = bounds_of p in
     let r = units_bounds c in
     rw (length-append (units_of p) (units c), length-append (encoding p) (bytes c)) (record { at_least = omega arith; at_most = omega arith })
+
+-- code points against bytes and units: one to four bytes each, and one or two units
+pub record PointBounds (n w u : ℕ) : Type 0 where
+  pub at_least : n ≤ w
+  pub at_most : w ≤ 4 * n
+  pub units_least : n ≤ u
+  pub units_most : u ≤ w
+
+one_or_two : (p : ℕ) → (1 ≤ length (units_of p)) × (length (units_of p) ≤ length (encoding p))
+one_or_two p = elim (cases_lt p 0x10000) [
+    inl h ↦ (omega (arith, ap length (units_one p h)), (bounds_of p).at_least)
+  | inr h ↦ (omega (arith, ap length (units_two p h)), (bounds_of p).at_least) ]
+
+pub points_bounds : (c : List ℕ) → PointBounds (length c) (length (bytes c)) (length (units c))
+points_bounds [] = record { at_least = omega arith; at_most = omega arith; units_least = omega arith; units_most = omega arith }
+points_bounds (p ∷ c) =
+    let r = points_bounds c in
+    let e = length-encoding_bounds p in
+    let u = one_or_two p in
+    rw (length-append (units_of p) (units c), length-append (encoding p) (bytes c)) (record { at_least = omega arith; at_most = omega arith; units_least = omega arith; units_most = omega arith })

@@ -1,11 +1,13 @@
 // Iterators over code points and over code units.
-ghost use Rattle.std.specs.Prelude.{◌≡◌};
-
 use crate::code_point::CodePoint;
 use crate::view::Wtf8;
+use std::alloc::AllocError;
 use std::marker::Model;
 
-/// The code points of a string, in order.
+/// The code points of a string, in order. It ends, and answers `None` again afterwards; a clone goes on with the same
+/// items and asks for no memory.
+///
+/// Contracts see it as the list of the code points that are left.
 #[derive(Drop)]
 pub struct Wtf8CodePoints<'a> {
     rest: Wtf8<'a>,
@@ -32,8 +34,11 @@ impl<'a> Wtf8CodePoints<'a> {
 impl<'a> Iterator for Wtf8CodePoints<'a> {
     type Item = CodePoint;
 
-    ghost use Rattle.std.specs.Iterator.{YieldsFirstBy, item_count};
+    ghost use Rattle.std.specs.Prelude.{◌≡◌, length, IfSome};
+    ghost use Rattle.std.specs.Iterator.{YieldsFirstBy, item_count, at_most, UpTo};
+    ghost use Rattle.std.specs.Iterator.SizeHint.{IsWithinCount};
     ghost use Rattle.wtf8.specs.CodePoint.{number};
+    ghost use Rattle.wtf8.specs.Hints.{points_hint, IsTrueHint};
 
     ghost next_gives = { YieldsFirstBy number (λ points. points) };
 
@@ -46,9 +51,35 @@ impl<'a> Iterator for Wtf8CodePoints<'a> {
         self.rest = rest;
         Some(code_point)
     }
+
+    /// A quarter of the bytes left, rounded up, and their number: a code point has one to four.
+    fn size_hint(&self) -> (usize, Option<usize>)
+        ensures lower { IsWithinCount result.0 (at_most (length self.now)) }
+        ensures upper { IfSome result.1 (UpTo (at_most (length self.now))) }
+        ensures value { result ≡ points_hint self.now }
+        ensures holds { IsTrueHint result (length self.now) }
+    {
+        let bytes = self.rest.len();
+        (bytes.div_ceil(4), Some(bytes))
+    }
 }
 
-/// The 16-bit code units of a string, in order: what it was made of, paired or not.
+impl<'a> Clone for Wtf8CodePoints<'a> {
+    ghost use Rattle.std.specs.Prelude.{◌≡◌, ⊤};
+
+    ghost is_clone = { λ s t. t ≡ s };
+
+    ghost is_infallible = { λ _. ⊤ };
+
+    fn clone(&self) -> Result<Wtf8CodePoints<'a>, AllocError> {
+        Ok(Wtf8CodePoints { rest: self.rest })
+    }
+}
+
+/// The 16-bit code units of a string, in order: what it was made of, whether they pair or not. It ends, and answers
+/// `None` again afterwards; a clone goes on with the same items and asks for no memory.
+///
+/// Contracts see it as the units that are held back, none or one trail surrogate, and the code points that are left.
 #[derive(Drop)]
 pub struct IllFormedUtf16CodeUnits<'a> {
     code_points: Wtf8CodePoints<'a>,
@@ -82,7 +113,10 @@ impl<'a> IllFormedUtf16CodeUnits<'a> {
 impl<'a> Iterator for IllFormedUtf16CodeUnits<'a> {
     type Item = u16;
 
-    ghost use Rattle.std.specs.Iterator.{YieldsFirst, item_count};
+    ghost use Rattle.std.specs.Prelude.{◌≡◌, length, IfSome};
+    ghost use Rattle.std.specs.Iterator.{YieldsFirst, item_count, at_most, UpTo};
+    ghost use Rattle.std.specs.Iterator.SizeHint.{IsWithinCount};
+    ghost use Rattle.wtf8.specs.Hints.{units_hint, IsTrueHint};
     ghost use Rattle.wtf8.specs.Units.{unread_units};
 
     ghost next_gives = { YieldsFirst unread_units };
@@ -102,5 +136,36 @@ impl<'a> Iterator for IllFormedUtf16CodeUnits<'a> {
                 Some((0xD800 + offset / 0x400) as u16)
             }
         }
+    }
+    /// A quarter of the bytes left, rounded up, and the held unit; and twice their number and the held unit, `None`
+    /// where that is above the greatest `usize`.
+    fn size_hint(&self) -> (usize, Option<usize>)
+        ensures lower { IsWithinCount result.0 (at_most (length (unread_units self.now))) }
+        ensures upper { IfSome result.1 (UpTo (at_most (length (unread_units self.now)))) }
+        ensures value { result ≡ units_hint self.now }
+        ensures holds { IsTrueHint result (length (unread_units self.now)) }
+    {
+        let bytes = self.code_points.rest.len();
+        let held = usize::from(self.trail.is_some());
+        let most = match bytes.checked_mul(2) {
+            Some(twice) => twice.checked_add(held),
+            None => None,
+        };
+        (bytes.div_ceil(4) + held, most)
+    }
+}
+
+impl<'a> Clone for IllFormedUtf16CodeUnits<'a> {
+    ghost use Rattle.std.specs.Prelude.{◌≡◌, ⊤};
+
+    ghost is_clone = { λ s t. t ≡ s };
+
+    ghost is_infallible = { λ _. ⊤ };
+
+    fn clone(&self) -> Result<IllFormedUtf16CodeUnits<'a>, AllocError> {
+        Ok(IllFormedUtf16CodeUnits {
+            code_points: self.code_points.clone()?,
+            trail: self.trail,
+        })
     }
 }

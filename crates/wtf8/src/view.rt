@@ -9,7 +9,7 @@ ghost use Rattle.wtf8.specs.Unicode.{units, IsLead, IsTrail};
 ghost use Rattle.wtf8.specs.Units.{unread_units};
 
 use crate::code_point::CodePoint;
-use crate::iters::IllFormedUtf16CodeUnits;
+use crate::iters::{IllFormedUtf16CodeUnits, Wtf8CodePoints};
 use crate::{digits, encoding};
 use std::alloc::{AllocError, Allocator};
 
@@ -50,6 +50,13 @@ impl<'a> Wtf8<'a> {
         ensures at_most_three_times { result ≤ 3 * length (units self.now.well_formed.points) }
     {
         self.bytes.len()
+    }
+
+    /// The code points of the string, in order.
+    pub fn code_points(&self) -> Wtf8CodePoints<'a>
+        ensures { result ≡ self.now.well_formed.points }
+    {
+        Wtf8CodePoints::new(*self)
     }
 
     /// The 16-bit units of the string, in order: those that it was made of, whether they pair or not.

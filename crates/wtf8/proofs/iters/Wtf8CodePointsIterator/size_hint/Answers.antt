@@ -1,0 +1,20 @@
+use Rattle.std.proofs.Common.{arith, ap, length, List, ℕ, ◌≤◌}
+use Rattle.wtf8.specs.Form.{bytes}
+use Rattle.wtf8.proofs.UnitLemmas.{points_bounds}
+use Rattle.wtf8.proofs.iters.Wtf8CodePointsIterator.size_hint.Goals as goal
+
+pub returns-clause-lower : goal.returns-clause-lower
+returns-clause-lower c _ =
+    let s = c.self.inside.rest.well_formed in
+    let b = points_bounds s.points in omega (arith, ap length s.encoded, ap length c.self.view_is, c.div_ceil.ensures, c.len-bytes.ensures.bytes)
+
+pub returns-clause-upper : goal.returns-clause-upper
+returns-clause-upper c =
+    let s = c.self.inside.rest.well_formed in
+    let b = points_bounds s.points in (tt, omega (arith, ap length s.encoded, ap length c.self.view_is, c.len-bytes.ensures.bytes))
+
+pub returns-clause-holds : goal.returns-clause-holds
+returns-clause-holds c =
+    let s = c.self.inside.rest.well_formed in
+    let b = points_bounds s.points in
+    record { lower = omega (arith, ap length s.encoded, ap length c.self.view_is, c.div_ceil.ensures, c.len-bytes.ensures.bytes); upper = omega (arith, ap length s.encoded, ap length c.self.view_is, c.len-bytes.ensures.bytes) }
