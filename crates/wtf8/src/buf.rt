@@ -1,10 +1,11 @@
 // Owned strings.
-ghost use Rattle.std.specs.Prelude.{◌≡◌, ℕ, List, [], ◌++◌, ◌+◌, ◌≤◌, length, OnOk, OnErr, IsOk, IfOk, vec_capacity};
+ghost use Rattle.std.specs.Prelude.{◌≡◌, ℕ, List, [], ◌++◌, ◌+◌, ◌≤◌, length, take, OnOk, OnErr, IsOk, IfOk, vec_capacity};
 ghost use Rattle.std.specs.Str.{chars};
 ghost use Rattle.std.specs.String.{string_bytes};
 ghost use Rattle.wtf8.specs.CodePoint.{number};
 ghost use Rattle.wtf8.specs.Form.{IsWellFormed, IsForm};
 ghost use Rattle.wtf8.specs.OneForm.{IsWellFormed-prop};
+ghost use Rattle.wtf8.specs.Position.{IsBoundary, IsFront};
 ghost use Rattle.wtf8.specs.Unicode.{units, units_of};
 
 use crate::code_point::CodePoint;
@@ -185,5 +186,13 @@ impl<A: Allocator> Wtf8Buf<A> {
         ensures capacity { self.old.capacity ≤ self.new.capacity }
     {
         concat::push_view(&mut self.bytes, other)
+    }
+    /// Keeps the code points before a position, which `is_code_point_boundary` of the view tests.
+    pub fn truncate(&mut self, new_len: usize)
+        requires { IsBoundary self.old.units new_len }
+        ensures units { IsFront self.old.units new_len self.new.units }
+        ensures bytes { self.new.bytes ≡ take new_len self.old.bytes }
+    {
+        self.bytes.truncate(new_len)
     }
 }

@@ -1,5 +1,5 @@
 // The encoding of one code point: written at the end of bytes, and read from their front.
-ghost use Rattle.std.specs.Prelude.{◌≡◌, ℕ, List, ◌++◌, ◌+◌, ◌<◌, ◌≤◌, length, OnOk, OnErr, IsOk, vec_len, vec_capacity};
+ghost use Rattle.std.specs.Prelude.{◌≡◌, ℕ, List, ◌++◌, ◌+◌, ◌<◌, ◌≤◌, ◌↔◌, ◌⊎◌, IsTrue, length, OnOk, OnErr, IsOk, vec_len, vec_capacity};
 ghost use Rattle.wtf8.specs.CodePoint.{number};
 ghost use Rattle.wtf8.specs.Form.{encoding, BeginsWithPoint};
 ghost use Rattle.wtf8.specs.Unicode.{IsCodePoint};
@@ -67,6 +67,13 @@ pub(crate) fn append<A: Allocator>(
     } else {
         bytes.extend_from_slice(&four_bytes(value))
     }
+}
+
+/// Whether a byte is the first one of a code point's encoding: the others are from 0x80 to 0xBF.
+pub(crate) fn begins_code_point(byte: u8) -> bool
+    ensures { IsTrue result ↔ ((byte < 0x80) ⊎ (0xC0 ≤ byte)) }
+{
+    byte < 0x80 || 0xC0 <= byte
 }
 
 /// The low six bits of a byte behind the first one.

@@ -1,10 +1,11 @@
 // Borrowed strings.
-ghost use Rattle.std.specs.Prelude.{◌≡◌, ℕ, List, [], ◌∷◌, ◌++◌, ◌*◌, ◌≤◌, length, IfSome, IfNone, IfOk, IsOk};
+ghost use Rattle.std.specs.Prelude.{◌≡◌, ℕ, List, [], ◌∷◌, ◌++◌, ◌*◌, ◌<◌, ◌≤◌, ◌↔◌, length, take, drop, slice_index, IsTrue, IfSome, IfNone, IfOk, IsOk};
 ghost use Rattle.std.specs.Str.{chars};
 ghost use Rattle.std.specs.String.{string_bytes};
 ghost use Rattle.wtf8.specs.Form.{IsWellFormed};
 ghost use Rattle.wtf8.specs.Hex.{hex};
 ghost use Rattle.wtf8.specs.OneForm.{IsWellFormed-prop};
+ghost use Rattle.wtf8.specs.Position.{IsBoundary, IsFront, IsBack, IsMiddle};
 ghost use Rattle.wtf8.specs.Unicode.{units, IsLead, IsTrail};
 ghost use Rattle.wtf8.specs.Units.{unread_units};
 
@@ -64,6 +65,65 @@ impl<'a> Wtf8<'a> {
         ensures { unread_units result ≡ units self.now.well_formed.points }
     {
         IllFormedUtf16CodeUnits::new(*self)
+    }
+
+    /// Whether a code point begins at the index, or the string ends there. It looks at one byte: an index beyond the
+    /// length is no boundary.
+    pub fn is_code_point_boundary(&self, index: usize) -> bool
+        ensures { IsTrue result ↔ IsBoundary (units self.now.well_formed.points) index }
+    {
+        if index < self.bytes.len() {
+            encoding::begins_code_point(self.bytes[index])
+        } else {
+            index == self.bytes.len()
+        }
+    }
+
+    /// The code points between two positions, which `is_code_point_boundary` tests. The result is a part of the same
+    /// bytes and may outlive this view.
+    pub fn slice(&self, begin: usize, end: usize) -> Wtf8<'a>
+        requires order { begin ≤ end }
+        requires begin_boundary { IsBoundary (units self.now.well_formed.points) begin }
+        requires end_boundary { IsBoundary (units self.now.well_formed.points) end }
+        ensures units { IsMiddle (units self.now.well_formed.points) begin end (units result.well_formed.points) }
+        ensures bytes { result.bytes.now ≡ drop begin (take end self.now.bytes.now) }
+    {
+        self.slice_to(end).slice_from(begin)
+    }
+
+    /// The code points from a position on, which `is_code_point_boundary` tests. The result is a part of the same bytes
+    /// and may outlive this view.
+    pub fn slice_from(&self, begin: usize) -> Wtf8<'a>
+        requires { IsBoundary (units self.now.well_formed.points) begin }
+        ensures units { IsBack (units self.now.well_formed.points) begin (units result.well_formed.points) }
+        ensures bytes { result.bytes.now ≡ drop begin self.now.bytes.now }
+    {
+        let (_, rest) = self.bytes.split_at(begin);
+        Wtf8::from_well_formed(rest)
+    }
+
+    /// The code points before a position, which `is_code_point_boundary` tests. The result is a part of the same bytes
+    /// and may outlive this view.
+    pub fn slice_to(&self, end: usize) -> Wtf8<'a>
+        requires { IsBoundary (units self.now.well_formed.points) end }
+        ensures units { IsFront (units self.now.well_formed.points) end (units result.well_formed.points) }
+        ensures bytes { result.bytes.now ≡ take end self.now.bytes.now }
+    {
+        let (front, _) = self.bytes.split_at(end);
+        Wtf8::from_well_formed(front)
+    }
+
+    /// The byte at a position below the length, if it is below 0x80, else 0xFF. The position may be inside a code
+    /// point.
+    pub fn ascii_byte_at(&self, position: usize) -> u8
+        requires { position < length self.now.bytes.now }
+        ensures ascii { slice_index self.now.bytes.now position < 0x80 → result ≡ slice_index self.now.bytes.now position }
+        ensures other { 0x80 ≤ slice_index self.now.bytes.now position → result ≡ 0xFF }
+    {
+        match self.bytes[position] {
+            byte @ 0x00..=0x7F => byte,
+            _ => 0xFF,
+        }
     }
 
     /// The bytes as two upper-case hexadecimal digits each, with one space between: a text for diagnosis. The empty

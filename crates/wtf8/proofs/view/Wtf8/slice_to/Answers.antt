@@ -1,0 +1,17 @@
+use Rattle.std.proofs.Common.{◌∙◌, ap, sym}
+use Rattle.wtf8.specs.Unicode.{units}
+use Rattle.wtf8.proofs.Readings.{moved}
+use Rattle.wtf8.proofs.Positions.{cut_at}
+use Rattle.wtf8.proofs.view.Wtf8.slice_to.Goals as goal
+
+pub split_at-requires : goal.split_at-requires
+split_at-requires c = (cut_at c.args.self.now.well_formed c.args.end c.requires).within
+
+pub from_well_formed-requires : goal.from_well_formed-requires
+from_well_formed-requires c = moved (cut_at c.args.self.now.well_formed c.args.end c.requires).before c.split_at.ensures.front
+
+pub returns-clause-units : goal.returns-clause-units
+returns-clause-units c =
+    let cut = cut_at c.args.self.now.well_formed c.args.end c.requires in
+    let points = c.from_well_formed.ensures.points (moved cut.before c.split_at.ensures.front) ∙ cut.before_points in
+    record { front = cut.front; back = cut.back; splits = cut.splits; same_units = ap units (sym points) }
