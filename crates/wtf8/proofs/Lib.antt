@@ -4,5 +4,6 @@ pub mod Joining
 pub mod OneReading
 pub mod Positions
 pub mod Readings
+pub mod SurrogateLemmas
 pub mod Texts
 pub mod UnitLemmas

@@ -7,9 +7,13 @@ abbrev pub AreScalar : List ℕ → Type 0
 AreScalar [] = ⊤
 AreScalar (p ∷ c) = ¬ (IsSurrogate p) × AreScalar c
 
--- The list with the replacement character FFFD in the place of each surrogate (WTF-8, "Converting WTF-8 to UTF-8", lossily).
+-- A code point, or the replacement character FFFD in a surrogate's place (Unicode 3.9, "U+FFFD Substitution").
+unfoldable pub replaced : ℕ → ℕ
+replaced p = if nat_le 0xD800 p && nat_le p 0xDFFF then 0xFFFD else p
+
+-- The list with the replacement character in the place of each surrogate (WTF-8, "Converting WTF-8 to UTF-8", lossily).
 abbrev pub lossy : List ℕ → List ℕ
-lossy c = map (λ p. if nat_le 0xD800 p && nat_le p 0xDFFF then 0xFFFD else p) c
+lossy c = map replaced c
 
 -- A surrogate's bytes begin at i: there is ED and behind it a byte of at least A0 (WTF-8, "Surrogate byte sequence").
 pub record SurrogateAt (w : List ℕ) (i : ℕ) : Type 0 where

@@ -1,15 +1,17 @@
 // Owned strings.
-ghost use Rattle.std.specs.Prelude.{◌≡◌, ℕ, List, [], ◌++◌, ◌+◌, ◌≤◌, length, take, OnOk, OnErr, IsOk, IfOk, vec_capacity};
+ghost use Rattle.std.specs.Prelude.{◌≡◌, ℕ, List, [], ◌++◌, ◌+◌, ◌≤◌, length, take, OnOk, OnErr, IsOk, IfOk, IfErr, ◌↔◌, vec_capacity};
 ghost use Rattle.std.specs.Str.{chars};
 ghost use Rattle.std.specs.String.{string_bytes};
 ghost use Rattle.wtf8.specs.CodePoint.{number};
-ghost use Rattle.wtf8.specs.Form.{IsWellFormed, IsForm};
+ghost use Rattle.wtf8.specs.Form.{IsWellFormed, IsForm, bytes};
 ghost use Rattle.wtf8.specs.OneForm.{IsWellFormed-prop};
 ghost use Rattle.wtf8.specs.Position.{IsBoundary, IsFront};
+ghost use Rattle.wtf8.specs.Surrogates.{AreScalar, lossy};
 ghost use Rattle.wtf8.specs.Unicode.{units, units_of};
 
 use crate::code_point::CodePoint;
 use crate::concat;
+use crate::search;
 use crate::view::Wtf8;
 use std::alloc::{AllocError, Allocator};
 use std::marker::Model;
@@ -194,5 +196,32 @@ impl<A: Allocator> Wtf8Buf<A> {
         ensures bytes { self.new.bytes ≡ take new_len self.old.bytes }
     {
         self.bytes.truncate(new_len)
+    }
+    /// The same bytes as a text, not copied, or the buffer as it was exactly where it holds a surrogate. It asks for no
+    /// memory.
+    pub fn into_string(self) -> Result<String<A>, Wtf8Buf<A>>
+        ensures ok { IsOk result ↔ AreScalar self.form.points }
+        ensures bytes { IfOk result (λ t. string_bytes t ≡ self.bytes) }
+        ensures units_back { IfErr result (λ b. b.units ≡ self.units) }
+        ensures bytes_back { IfErr result (λ b. b.bytes ≡ self.bytes) }
+    {
+        match search::first_surrogate(&self.bytes, 0) {
+            None => {
+                let Wtf8Buf { bytes } = self;
+                Ok(unsafe { String::from_utf8_unchecked(bytes) })
+            }
+            Some(_) => Err(self),
+        }
+    }
+
+    /// The string as a text of the same length, with U+FFFD written over each surrogate in place. It asks for no
+    /// memory.
+    pub fn into_string_lossy(self) -> String<A>
+        ensures text { string_bytes result ≡ bytes (lossy self.form.points) }
+        ensures len { length (string_bytes result) ≡ length self.bytes }
+    {
+        let Wtf8Buf { mut bytes } = self;
+        search::replace_surrogates(&mut bytes);
+        unsafe { String::from_utf8_unchecked(bytes) }
     }
 }

@@ -7,6 +7,7 @@ mod concat;
 mod digits;
 mod encoding;
 mod iters;
+mod search;
 mod view;
 
 pub use buf::Wtf8Buf;

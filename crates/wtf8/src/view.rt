@@ -1,18 +1,21 @@
 // Borrowed strings.
-ghost use Rattle.std.specs.Prelude.{◌≡◌, ℕ, List, [], ◌∷◌, ◌++◌, ◌*◌, ◌<◌, ◌≤◌, ◌↔◌, length, take, drop, slice_index, IsTrue, IfSome, IfNone, IfOk, IsOk};
+ghost use Rattle.std.specs.Prelude.{◌≡◌, ℕ, List, [], ◌∷◌, ◌++◌, ◌*◌, ◌<◌, ◌≤◌, ◌↔◌, length, take, drop, slice_index, IsTrue, IsSome, IfSome, IfNone, IfOk, IsOk};
+ghost use Rattle.std.specs.Cow.{cow_str_bytes, IsBorrowedStr};
 ghost use Rattle.std.specs.Str.{chars};
 ghost use Rattle.std.specs.String.{string_bytes};
-ghost use Rattle.wtf8.specs.Form.{IsWellFormed};
+ghost use Rattle.wtf8.specs.Form.{bytes, IsWellFormed};
 ghost use Rattle.wtf8.specs.Hex.{hex};
 ghost use Rattle.wtf8.specs.OneForm.{IsWellFormed-prop};
 ghost use Rattle.wtf8.specs.Position.{IsBoundary, IsFront, IsBack, IsMiddle};
+ghost use Rattle.wtf8.specs.Surrogates.{AreScalar, lossy};
 ghost use Rattle.wtf8.specs.Unicode.{units, IsLead, IsTrail};
 ghost use Rattle.wtf8.specs.Units.{unread_units};
 
 use crate::code_point::CodePoint;
 use crate::iters::{IllFormedUtf16CodeUnits, Wtf8CodePoints};
-use crate::{digits, encoding};
+use crate::{digits, encoding, search};
 use std::alloc::{AllocError, Allocator};
+use std::borrow::CowStr;
 
 /// A borrowed string: a view of well-formed WTF-8 bytes that live for `'a`.
 ///
@@ -124,6 +127,32 @@ impl<'a> Wtf8<'a> {
             byte @ 0x00..=0x7F => byte,
             _ => 0xFF,
         }
+    }
+
+    /// The same bytes as text, or `None` exactly where the string holds a surrogate. It asks for no memory.
+    pub fn as_str(&self) -> Option<&'a str>
+        ensures some { IsSome result ↔ AreScalar self.now.well_formed.points }
+        ensures bytes { IfSome result (λ t. t.now ≡ self.now.bytes.now) }
+    {
+        match search::first_surrogate(self.bytes, 0) {
+            None => Some(unsafe { str::from_utf8_unchecked(self.bytes) }),
+            Some(_) => None,
+        }
+    }
+
+    /// The string as text, with U+FFFD in the place of each surrogate. Where it holds none the text is borrowed, which
+    /// asks for no memory and is never refused; else it is a copy.
+    pub fn to_string_lossy<A: Allocator + Drop>(&self, alloc: A) -> Result<CowStr<'a, A>, AllocError>
+        ensures text { IfOk result (λ t. cow_str_bytes t ≡ bytes (lossy self.now.well_formed.points)) }
+        ensures borrowed { IfOk result (λ t. IsBorrowedStr t ↔ AreScalar self.now.well_formed.points) }
+        ensures granted { AreScalar self.now.well_formed.points → IsOk result }
+    {
+        if let Some(text) = self.as_str() {
+            return Ok(CowStr::Borrowed(text));
+        }
+        let mut bytes = Vec::from_slice(alloc, self.bytes)?;
+        search::replace_surrogates(&mut bytes);
+        Ok(CowStr::Owned(unsafe { String::from_utf8_unchecked(bytes) }))
     }
 
     /// The bytes as two upper-case hexadecimal digits each, with one space between: a text for diagnosis. The empty

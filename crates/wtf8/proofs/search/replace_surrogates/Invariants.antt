@@ -1,0 +1,11 @@
+use Rattle.std.proofs.Common.{◌-◌, ◌≤◌, length, List, ℕ}
+use Rattle.wtf8.specs.Form.{IsWellFormed}
+use Rattle.wtf8.proofs.SurrogateLemmas.{Replacing}
+use Rattle.wtf8.proofs.search.replace_surrogates.Given as goal
+
+-- for the reading of the bytes as they were: done up to `from`
+abbrev pub invariant-loop-found : goal.invariant-loop-found
+invariant-loop-found g l = (h : IsWellFormed l.fn.bytes.items) → Replacing h.points l.bytes.items l.from
+
+abbrev pub decreases-loop-found : goal.decreases-loop-found
+decreases-loop-found g l = length l.bytes.items - l.from

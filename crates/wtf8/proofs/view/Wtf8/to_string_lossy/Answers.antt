@@ -1,0 +1,22 @@
+use Rattle.std.proofs.Common.{ap, sym, ◌∙◌, subst, List, ℕ, refl}
+use Rattle.std.specs.Str.{IsUtf8}
+use Rattle.wtf8.specs.Form.{bytes}
+use Rattle.wtf8.specs.Surrogates.{lossy}
+use Rattle.wtf8.proofs.Readings.{moved}
+use Rattle.wtf8.proofs.SurrogateLemmas.{utf8_lossy_points, lossy-scalar}
+use Rattle.wtf8.proofs.view.Wtf8.to_string_lossy.Goals as goal
+
+pub returns-in-Some-clause-text : goal.returns-in-Some-clause-text
+returns-in-Some-clause-text g c =
+    let h = c.args.self.now.well_formed in
+    c.in-Some.ensures.bytes ∙ (sym h.encoded ∙ ap bytes (sym (lossy-scalar h.points (c.in-Some.ensures.some.0 refl))))
+
+pub from_utf8_unchecked-requires : goal.from_utf8_unchecked-requires
+from_utf8_unchecked-requires g c =
+    let h = c.args.self.now.well_formed in
+    subst IsUtf8 (sym (c.replace_surrogates.ensures (moved h c.in_ok-bytes.ensures.items))) (utf8_lossy_points h.points h.clean)
+
+pub returns-clause-text : goal.returns-clause-text
+returns-clause-text g c =
+    let h = c.args.self.now.well_formed in
+    ap (λ v. v.items) c.from_utf8_unchecked.ensures.value ∙ c.replace_surrogates.ensures (moved h c.in_ok-bytes.ensures.items)
