@@ -1,0 +1,6 @@
+// What tests of the other crates share: an allocator that refuses.
+#![tactic(auto)]
+
+pub mod refusing;
+
+pub use refusing::Refusing;
