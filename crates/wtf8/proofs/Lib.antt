@@ -1,5 +1,6 @@
 pub mod EncodingLemmas
 pub mod Gaining
+pub mod Growth
 pub mod Joining
 pub mod OneReading
 pub mod Positions

@@ -3,6 +3,7 @@
 
 mod buf;
 mod code_point;
+mod collect;
 mod concat;
 mod digits;
 mod encoding;

@@ -1,0 +1,62 @@
+// Code points collected into a string.
+ghost use Rattle.std.specs.Prelude.{◌≡◌, ℕ, List, [], ◌++◌, ◌≤◌, length, take, IfOk, OnOk, OnErr, IsOk};
+ghost use Rattle.std.specs.Iterator.{Drains, ExtendsWithItems, IsFinite};
+ghost use Rattle.wtf8.specs.CodePoint.{numbers};
+ghost use Rattle.wtf8.specs.Collecting.{AppendsPoints};
+ghost use Rattle.wtf8.specs.Form.{IsForm};
+ghost use Rattle.wtf8.specs.Unicode.{units};
+ghost use Rattle.wtf8.specs.declared.code_point.CodePoint.{CodePoint};
+
+use crate::buf::Wtf8Buf;
+use crate::code_point::CodePoint;
+use std::alloc::{AllocError, Allocator};
+
+impl<A: Allocator> Wtf8Buf<A> {
+    /// Appends code points in the order in which they come; a trail surrogate joins a lead before it. Room for as many
+    /// bytes as the iterator's lower hint is found first: where that is refused no item was taken. After another
+    /// refusal the string holds the old units and those of some beginning of the items.
+    pub fn extend<I: IntoIterator<Item = CodePoint>>(
+        &mut self,
+        iterable: I,
+    ) -> Result<(), AllocError>
+        requires { (it : I.IntoIter) → I.into_iter_gives iterable it → I.IntoIter.can_next it × IsFinite (I.IntoIter.remaining it) }
+        ensures items { ExtendsWithItems I.into_iter_gives I.IntoIter.next_gives AppendsPoints iterable self.old self.new result }
+        ensures capacity { self.old.capacity ≤ self.new.capacity }
+    {
+        let iterator = iterable.into_iter();
+        let (low, _) = iterator.size_hint();
+        self.reserve(low)?;
+        for code_point in iterator {
+            self.push(code_point)?;
+        }
+        Ok(())
+    }
+
+    /// The string of the code points in the order in which they come: `extend` on the empty string. After a refusal
+    /// there is no string.
+    pub fn from_iter<I: IntoIterator<Item = CodePoint>>(
+        alloc: A,
+        iterable: I,
+    ) -> Result<Wtf8Buf<A>, AllocError>
+        requires { (it : I.IntoIter) → I.into_iter_gives iterable it → I.IntoIter.can_next it × IsFinite (I.IntoIter.remaining it) }
+        ensures { IfOk result (λ b. (it : I.IntoIter) × (points : List CodePoint) × I.into_iter_gives iterable it × Drains I.IntoIter.next_gives it points × (b.units ≡ units (numbers points))) }
+    {
+        let mut string = Wtf8Buf::new(alloc);
+        string.extend(iterable)?;
+        Ok(string)
+    }
+
+    /// Appends the code points of a slice, as `extend` does. Where the bytes fit it is never refused.
+    pub(crate) fn extend_from_points(&mut self, points: &[CodePoint]) -> Result<(), AllocError>
+        ensures ok { OnOk result (self.new.units ≡ self.old.units ++ units (numbers points.now)) }
+        ensures err { OnErr result ((n : ℕ) × (self.new.units ≡ self.old.units ++ units (numbers (take n points.now)))) }
+        ensures room { (w : List ℕ) → IsForm w (self.old.units ++ units (numbers points.now)) → length w ≤ self.old.capacity → IsOk result }
+        ensures capacity { self.old.capacity ≤ self.new.capacity }
+    {
+        self.reserve(points.len())?;
+        for code_point in points {
+            self.push(*code_point)?;
+        }
+        Ok(())
+    }
+}
