@@ -2,6 +2,7 @@
 #![tactic(auto)]
 
 mod buf;
+mod build;
 mod code_point;
 mod collect;
 mod concat;
@@ -12,6 +13,7 @@ mod search;
 mod view;
 
 pub use buf::Wtf8Buf;
+pub use build::{Build, Stopped};
 pub use code_point::CodePoint;
 pub use iters::{IllFormedUtf16CodeUnits, Wtf8CodePoints};
 pub use view::Wtf8;

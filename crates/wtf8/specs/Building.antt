@@ -1,0 +1,71 @@
+-- Lists of building calls: what each call does to the units of a string, and what a list of them does.
+use Rattle.std.specs.Prelude.{◌≡◌, ◌≢◌, ℕ, zero, suc, ◌+◌, ◌⊎◌, List, [], ◌∷◌, ◌++◌, take, slice_get, Option, Some, None, ⊤}
+use Rattle.std.specs.Str.{chars}
+use Rattle.wtf8.specs.Unicode.{units_of, units}
+use Rattle.wtf8.specs.CodePoint.{number, numbers}
+use Rattle.wtf8.specs.Position.{IsBoundary, IsFront}
+use Rattle.wtf8.specs.declared.build.Build.{Build}
+use Rattle.wtf8.specs.declared.build.Build.TheVariants.{Push, PushChar, PushStr, PushWtf8, Extend, Reserve, Truncate}
+
+-- A truncation at a boundary keeps the units of the code points before it; any other is refused, which r counts as 1, and changes nothing.
+abbrev pub Truncates : List ℕ → ℕ → List ℕ → ℕ → Type 0
+Truncates u k v r = (IsFront u k v × (r ≡ 0)) ⊎ (¬ (IsBoundary u k) × (v ≡ u) × (r ≡ 1))
+
+-- One call leads from units u to units v, and r is 1 for a refused truncation, else 0.
+abbrev pub Step : List ℕ → Build → List ℕ → ℕ → Type 0
+Step u (Push p) v r = (v ≡ u ++ units_of (number p)) × (r ≡ 0)
+Step u (PushChar x) v r = (v ≡ u ++ units_of x) × (r ≡ 0)
+Step u (PushStr s) v r = (v ≡ u ++ units (chars s.now)) × (r ≡ 0)
+Step u (PushWtf8 s) v r = (v ≡ u ++ units s.well_formed.points) × (r ≡ 0)
+Step u (Extend d) v r = (v ≡ u ++ units (numbers d.now)) × (r ≡ 0)
+Step u (Reserve n) v r = (v ≡ u) × (r ≡ 0)
+Step u (Truncate k) v r = Truncates u k v r
+
+-- The calls in order lead from units u to units v, and n of their truncations are refused.
+abbrev pub Run : List ℕ → List Build → List ℕ → ℕ → Type 0
+Run u [] v n = (v ≡ u) × (n ≡ 0)
+Run u (call ∷ calls) v n = (mid : List ℕ) × (r : ℕ) × (m : ℕ) × Step u call mid r × Run mid calls v m × (n ≡ r + m)
+
+-- What a call that was refused for want of memory leaves of units u: the same, and behind them some beginning of an extension's points; no truncation is refused so.
+abbrev pub LeavesRefused : List ℕ → Build → List ℕ → Type 0
+LeavesRefused u (Push p) v = v ≡ u
+LeavesRefused u (PushChar x) v = v ≡ u
+LeavesRefused u (PushStr s) v = v ≡ u
+LeavesRefused u (PushWtf8 s) v = v ≡ u
+LeavesRefused u (Extend d) v = (n : ℕ) × (v ≡ u ++ units (numbers (take n d.now)))
+LeavesRefused u (Reserve n) v = v ≡ u
+LeavesRefused u (Truncate k) v = ⊥
+
+-- The calls before call number `done` ran, and that call was refused for want of memory.
+pub record StopsAt (u : List ℕ) (calls : List Build) (done : ℕ) (v : List ℕ) : Type 0 where
+  pub call : Build
+  pub here : slice_get calls done ≡ Some call
+  pub mid : List ℕ
+  pub refused : ℕ
+  pub before : Run u (take done calls) mid refused
+  pub leaves : LeavesRefused mid call v
+
+-- The units that a push or an extension appends.
+abbrev pub appended : Build → Option (List ℕ)
+appended (Push p) = Some (units_of (number p))
+appended (PushChar x) = Some (units_of x)
+appended (PushStr s) = Some (units (chars s.now))
+appended (PushWtf8 s) = Some (units s.well_formed.points)
+appended (Extend d) = Some (units (numbers d.now))
+appended (Reserve n) = None
+appended (Truncate k) = None
+
+-- Each call of the list is a push or an extension, and together they append these units.
+abbrev pub Append : List Build → List ℕ → Type 0
+Append [] v = v ≡ []
+Append (call ∷ calls) v = (a : List ℕ) × (b : List ℕ) × (appended call ≡ Some a) × Append calls b × (v ≡ a ++ b)
+
+-- The call is no truncation.
+abbrev pub IsNoTruncation : Build → Type 0
+IsNoTruncation (Truncate k) = ⊥
+IsNoTruncation (Push p) = ⊤
+IsNoTruncation (PushChar x) = ⊤
+IsNoTruncation (PushStr s) = ⊤
+IsNoTruncation (PushWtf8 s) = ⊤
+IsNoTruncation (Extend d) = ⊤
+IsNoTruncation (Reserve n) = ⊤

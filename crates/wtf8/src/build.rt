@@ -1,0 +1,74 @@
+// Lists of building calls, applied in order.
+ghost use Rattle.std.specs.Prelude.{◌≡◌, ℕ, List, ◌++◌, ◌+◌, ◌<◌, ◌≤◌, length, take, IfOk, OnOk, OnErr, IfErr, IsOk, IfSome, if◌then◌else◌};
+ghost use Rattle.wtf8.specs.Form.{IsForm};
+
+use crate::buf::Wtf8Buf;
+use crate::code_point::CodePoint;
+use crate::view::Wtf8;
+use std::alloc::{AllocError, Allocator};
+
+/// A building call on a string, for lists of them.
+#[derive(Clone, Copy)]
+pub enum Build<'b> {
+    /// `push` of a code point.
+    Push(CodePoint),
+    /// `push_char` of a character.
+    PushChar(char),
+    /// `push_str` of a text.
+    PushStr(&'b str),
+    /// `push_wtf8` of a string.
+    PushWtf8(Wtf8<'b>),
+    /// `extend` by the code points of a slice.
+    Extend(&'b [CodePoint]),
+    /// `reserve` of room for so many more bytes.
+    Reserve(usize),
+    /// `truncate` at a position in bytes, refused at no code point boundary.
+    Truncate(usize),
+}
+
+/// A list of calls was stopped: one of them was refused for want of memory.
+#[derive(Clone, Copy, PartialEq, Eq, Debug)]
+pub struct Stopped {
+    /// How many calls ran before the refused one, which is the number of that one counted from 0.
+    pub done: usize,
+}
+
+impl<A: Allocator> Wtf8Buf<A> {
+    ghost use Rattle.wtf8.specs.Building.{Step, Run, LeavesRefused, StopsAt, appended, Append, IsNoTruncation};
+    ghost use Rattle.wtf8.specs.declared.build.Build.TheVariants.{Reserve, Truncate};
+
+    /// Does the call of that name. It answers true, or false for a truncation at no boundary, which changes nothing.
+    /// After a refusal for want of memory the string is as that call leaves it: as before, or with some beginning of an
+    /// extension's points. A truncation is never refused so.
+    pub fn apply(&mut self, call: Build<'_>) -> Result<bool, AllocError>
+        ensures step { IfOk result (λ kept. Step self.old.units call.entry self.new.units (if kept then 0 else 1)) }
+        ensures refused { OnErr result (LeavesRefused self.old.units call.entry self.new.units) }
+
+        // A push or an extension whose bytes fit is never refused, nor is room that is there.
+        ensures room { IfSome (appended call.entry) (λ v. (w : List ℕ) → IsForm w (self.old.units ++ v) → length w ≤ self.old.capacity → IsOk result) }
+        ensures reserve_room { (n : ℕ) → call.entry ≡ Reserve n → length self.old.bytes + n ≤ self.old.capacity → IsOk result }
+        ensures capacity { IsNoTruncation call.entry → self.old.capacity ≤ self.new.capacity }
+    {
+        match call {
+            Build::Push(code_point) => self.push(code_point)?,
+            Build::PushChar(c) => self.push_char(c)?,
+            Build::PushStr(text) => self.push_str(text)?,
+            Build::PushWtf8(text) => self.push_wtf8(text)?,
+            Build::Extend(points) => self.extend_from_points(points)?,
+            Build::Reserve(additional) => self.reserve(additional)?,
+            Build::Truncate(position) => return Ok(self.try_truncate(position)),
+        }
+        Ok(true)
+    }
+
+    /// Truncates where the position is a code point boundary, and answers whether it is one.
+    fn try_truncate(&mut self, position: usize) -> bool
+        ensures { Step self.old.units (Truncate position) self.new.units (if result then 0 else 1) }
+    {
+        if !self.as_wtf8().is_code_point_boundary(position) {
+            return false;
+        }
+        self.truncate(position);
+        true
+    }
+}
