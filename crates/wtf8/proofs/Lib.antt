@@ -5,6 +5,7 @@ pub mod Joining
 pub mod OneReading
 pub mod Positions
 pub mod Readings
+pub mod Runs
 pub mod SurrogateLemmas
 pub mod Texts
 pub mod UnitLemmas

@@ -61,6 +61,34 @@ impl<A: Allocator> Wtf8Buf<A> {
         Ok(true)
     }
 
+    /// Applies the calls in order, and answers how many truncations were refused: each of those changes nothing, and the
+    /// calls behind it are applied all the same.
+    ///
+    /// Where a call is refused for want of memory, the calls before it were applied, it is no truncation, and the string
+    /// is what they leave, followed, where it is an extension, by some beginning of its points.
+    pub fn apply_all(&mut self, calls: &[Build<'_>]) -> Result<usize, Stopped>
+        // The whole list leads from the units before to the units after; the bytes are their one form, as always.
+        ensures run { IfOk result (λ n. Run self.old.units calls.now self.new.units n) }
+        ensures stopped { IfErr result (λ s. StopsAt self.old.units calls.now s.done self.new.units) }
+
+        // Pushes and extensions alone whose bytes fit altogether are never refused, and room that was too small for
+        // what is appended up to a refused call is why it was refused.
+        ensures room { (v w : List ℕ) → Append calls.now v → IsForm w (self.old.units ++ v) → length w ≤ self.old.capacity → IsOk result }
+        ensures outgrown { IfErr result (λ s. (v w : List ℕ) → Append (take (s.done + 1) calls.now) v → IsForm w (self.old.units ++ v) → self.old.capacity < length w) }
+        ensures capacity { (v : List ℕ) → Append calls.now v → self.old.capacity ≤ self.new.capacity }
+    {
+        let mut refused = 0;
+        for (done, call) in calls.iter().enumerate() {
+            let Ok(kept) = self.apply(*call) else {
+                return Err(Stopped { done });
+            };
+            if !kept {
+                refused += 1;
+            }
+        }
+        Ok(refused)
+    }
+
     /// Truncates where the position is a code point boundary, and answers whether it is one.
     fn try_truncate(&mut self, position: usize) -> bool
         ensures { Step self.old.units (Truncate position) self.new.units (if result then 0 else 1) }
