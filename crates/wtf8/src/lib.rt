@@ -5,6 +5,7 @@ mod buf;
 mod code_point;
 mod collect;
 mod concat;
+mod decode;
 mod digits;
 mod encoding;
 mod iters;
