@@ -1,3 +1,4 @@
+pub mod Decoded
 pub mod EncodingLemmas
 pub mod Gaining
 pub mod Growth

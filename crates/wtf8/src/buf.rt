@@ -10,9 +10,8 @@ ghost use Rattle.wtf8.specs.Surrogates.{AreScalar, lossy};
 ghost use Rattle.wtf8.specs.Unicode.{units, units_of};
 
 use crate::code_point::CodePoint;
-use crate::concat;
-use crate::search;
 use crate::view::Wtf8;
+use crate::{concat, decode, search};
 use std::alloc::{AllocError, Allocator};
 use std::marker::Model;
 
@@ -93,6 +92,18 @@ impl<A: Allocator> Wtf8Buf<A> {
     {
         let mut bytes = Vec::with_capacity(alloc, value.len())?;
         bytes.extend_from_slice(value.as_bytes())?;
+        Ok(from_well_formed(bytes))
+    }
+
+    /// The string whose units are `v`, whether they pair or not. It first asks for as many bytes as there are units, and
+    /// for none where `v` is empty.
+    pub fn from_ill_formed_utf16(alloc: A, v: &[u16]) -> Result<Wtf8Buf<A>, AllocError>
+        ensures units { IfOk result (λ b. b.units ≡ v.now) }
+        ensures form { IfOk result (λ b. (w : List ℕ) → IsForm w v.now → b.bytes ≡ w) }
+        ensures empty { v.now ≡ [] → IsOk result }
+    {
+        let mut bytes = Vec::with_capacity(alloc, v.len())?;
+        decode::append_units(&mut bytes, v)?;
         Ok(from_well_formed(bytes))
     }
 

@@ -6,6 +6,7 @@ mod build;
 mod code_point;
 mod collect;
 mod concat;
+mod decode;
 mod digits;
 mod encoding;
 mod iters;

@@ -1,0 +1,12 @@
+use Rattle.std.proofs.Common.{◌∙◌}
+use Rattle.wtf8.proofs.OneReading.{same_form}
+use Rattle.wtf8.proofs.buf.Wtf8Buf.from_ill_formed_utf16.Goals as goal
+
+pub returns-clause-units : goal.returns-clause-units
+returns-clause-units g c =
+    let form = c.in_ok-append_units.ensures.ok in
+    c.from_well_formed.ensures.units (record { points = form.points; clean = form.reads.clean; encoded = form.encoded }) ∙ form.reads.same_units
+
+pub returns-clause-form : goal.returns-clause-form
+returns-clause-form g c w form =
+    c.from_well_formed.ensures.bytes ∙ same_form c.append_units.new.bytes.items w c.args.v.now c.in_ok-append_units.ensures.ok form
