@@ -1,3 +1,4 @@
+pub mod DebugLemmas
 pub mod EncodingLemmas
 pub mod Gaining
 pub mod Growth

@@ -6,6 +6,7 @@ mod build;
 mod code_point;
 mod collect;
 mod concat;
+mod debug_text;
 mod digits;
 mod encoding;
 mod iters;
