@@ -1,3 +1,5 @@
+pub mod ByteOrder
+pub mod ComparingLemmas
 pub mod DebugLemmas
 pub mod EncodingLemmas
 pub mod Gaining

@@ -1,5 +1,7 @@
 -- The debug texts of code points and of strings.
-use Rattle.std.specs.Prelude.{ℕ, ◌/◌, ◌%◌, List, [], ◌∷◌, ◌++◌, nat_lt, if◌then◌else◌}
+use Rattle.std.specs.Prelude.{ℕ, ◌/◌, ◌%◌, List, [], ◌∷◌, ◌++◌, nat_lt, nat_le, ◌&&◌, if◌then◌else◌, codes}
+use Rattle.std.specs.List.{flat_map}
+use Rattle.wtf8.specs.Form.{encoding}
 use Rattle.wtf8.specs.Hex.{digit}
 
 -- The last four digits of a number in upper-case hexadecimal.
@@ -15,4 +17,12 @@ upper n =
 
 -- The debug text of a code point: `U+`, then its number.
 abbrev pub debug_point : ℕ → List ℕ
-debug_point p = 85 ∷ 43 ∷ upper p
+debug_point p = codes "U+" ++ upper p
+
+-- What stands for a code point in the debug text of a string: a surrogate's number between `\u{` and `}`, any other code point itself.
+unfoldable pub shown : ℕ → List ℕ
+shown p = if nat_le 0xD800 p && nat_le p 0xDFFF then codes "\\u{" ++ upper p ++ codes "}" else encoding p
+
+-- The debug text of a string: its code points between double quotes, with nothing else escaped.
+abbrev pub debug : List ℕ → List ℕ
+debug c = codes "\"" ++ flat_map shown c ++ codes "\""

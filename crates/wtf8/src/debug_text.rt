@@ -1,11 +1,15 @@
 // What debug texts are made of. Each function writes whatever width and flags its formatter has.
-ghost use Rattle.std.specs.Prelude.{◌≡◌, ◌<◌, [], ◌∷◌};
-ghost use Rattle.std.specs.Fmt.{WritesStyledOnOk};
-ghost use Rattle.wtf8.specs.Debug.{last_four, upper};
+ghost use Rattle.std.specs.Prelude.{◌≡◌, ◌<◌, Some, [], ◌∷◌};
+ghost use Rattle.std.specs.Fmt.{DisplaysOnOk, WritesStyledOnOk};
+ghost use Rattle.std.specs.List.{flat_map};
+ghost use Rattle.wtf8.specs.CodePoint.{number};
+ghost use Rattle.wtf8.specs.Debug.{last_four, upper, shown, debug};
 ghost use Rattle.wtf8.specs.Hex.{digit};
 ghost use Rattle.wtf8.specs.Unicode.{IsCodePoint};
 
+use crate::code_point::CodePoint;
 use crate::digits;
+use crate::view::Wtf8;
 use std::fmt;
 
 /// Writes one digit.
@@ -38,4 +42,49 @@ pub(crate) fn write_upper<W: fmt::Write>(value: u32, f: &mut fmt::Formatter<W>) 
         write_digit(value / 0x10000, f)?;
     }
     write_last_four(value, f)
+}
+
+/// Writes what stands for a code point in the debug text of a string.
+fn write_point<W: fmt::Write>(
+    code_point: CodePoint,
+    f: &mut fmt::Formatter<W>,
+) -> fmt::Result
+    ensures { WritesStyledOnOk W.write_str_gives f.old result (shown (number code_point)) f.new }
+{
+    match code_point.to_char() {
+        Some(scalar) => f.write_char(scalar),
+        None => {
+            f.write_str("\\u{")?;
+            write_upper(code_point.to_u32(), f)?;
+            f.write_char('}')
+        }
+    }
+}
+
+/// Writes what stands for each code point of a string.
+fn write_points<W: fmt::Write>(text: Wtf8<'_>, f: &mut fmt::Formatter<W>) -> fmt::Result
+    ensures { WritesStyledOnOk W.write_str_gives f.old result (flat_map shown text.entry.well_formed.points) f.new }
+{
+    let mut rest = text;
+    while let Some((code_point, behind)) = rest.split_first() {
+        write_point(code_point, f)?;
+        rest = behind;
+    }
+    Ok(())
+}
+
+/// A double quote, the code points and a double quote. A scalar value stands as itself; a surrogate stands as its four
+/// upper-case digits between `\u{` and `}`. Nothing else is escaped, and a width and flags that stand outside are
+/// ignored.
+impl<'a> fmt::Debug for Wtf8<'a> {
+    ghost debug_output = { λ text. Some (debug text.well_formed.points) };
+
+    fn fmt<W: fmt::Write>(&self, f: &mut fmt::Formatter<W>) -> fmt::Result
+        ensures writes { DisplaysOnOk W.write_str_gives f.old result (Some (debug self.now.well_formed.points)) f.new }
+        ensures styled { WritesStyledOnOk W.write_str_gives f.old result (debug self.now.well_formed.points) f.new }
+    {
+        f.write_char('"')?;
+        write_points(*self, f)?;
+        f.write_char('"')
+    }
 }

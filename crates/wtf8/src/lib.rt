@@ -5,6 +5,7 @@ mod buf;
 mod build;
 mod code_point;
 mod collect;
+mod comparisons;
 mod concat;
 mod debug_text;
 mod digits;
