@@ -9,7 +9,9 @@ ghost use Rattle.std.specs.Prelude.{◌≡◌, ◌↔◌, ◌∷◌, nat_eq, IsT
 ghost use Rattle.wtf8.specs.Order.{Before};
 ghost use Rattle.wtf8.specs.Unicode.{units};
 
+use crate::buf::Wtf8Buf;
 use crate::view::Wtf8;
+use std::alloc::Allocator;
 use std::cmp::Ordering;
 use std::hash::{Hash, Hasher};
 
@@ -70,6 +72,66 @@ impl<'a> Hash for Wtf8<'a> {
     fn hash<H: Hasher>(&self, state: &mut H) {
         state.write(self.bytes);
         state.write_u8(0xFE);
+    }
+
+    ghost respects_eq = { Prim.search (hashing, rules) };
+}
+
+/// A buffer is equal to another where their views are.
+impl<A: Allocator> PartialEq for Wtf8Buf<A> {
+    ghost eq = { on (λ text. text.bytes) (pointwise nat_eq) };
+
+    fn eq(&self, other: &Wtf8Buf<A>) -> bool
+        ensures bytes { result ≡ pointwise nat_eq self.now.bytes other.now.bytes }
+        ensures points { IsTrue result ↔ (self.now.form.points ≡ other.now.form.points) }
+        ensures units { IsTrue result ↔ (self.now.units ≡ other.now.units) }
+    {
+        self.as_wtf8() == other.as_wtf8()
+    }
+
+    ghost laws = { Prim.search (comparing, rules) };
+}
+
+impl<A: Allocator> Eq for Wtf8Buf<A> {
+    ghost laws = { Prim.search (comparing, rules) };
+}
+
+impl<A: Allocator> PartialOrd for Wtf8Buf<A> {
+    ghost partial_cmp = { as_partial_cmp (on (λ text. text.bytes) (slice_cmp nat_cmp)) };
+
+    fn partial_cmp(&self, other: &Wtf8Buf<A>) -> Option<Ordering> {
+        Some(self.cmp(other))
+    }
+
+    ghost laws = { partial_order_from_own_ties (Prim.search (comparing, rules)) (Prim.search (comparing, rules)) };
+}
+
+/// The order of the views.
+impl<A: Allocator> Ord for Wtf8Buf<A> {
+    ghost cmp = { on (λ text. text.bytes) (slice_cmp nat_cmp) };
+
+    fn cmp(&self, other: &Wtf8Buf<A>) -> Ordering
+        ensures bytes { result ≡ slice_cmp nat_cmp self.now.bytes other.now.bytes }
+        ensures points { result ≡ slice_cmp nat_cmp self.now.form.points other.now.form.points }
+        ensures order { let own = self.now.form.points in let others = other.now.form.points in
+            MatchOrdering result (Before own others) (own ≡ others) (Before others own) }
+    {
+        self.as_wtf8().cmp(&other.as_wtf8())
+    }
+
+    ghost total = { Prim.search (comparing, rules) };
+
+    ghost matches_partial_cmp = { Prim.search (comparing, rules) };
+
+    ghost matches_eq = { Prim.search (comparing, rules) };
+}
+
+/// A hasher is fed what the view feeds it.
+impl<A: Allocator> Hash for Wtf8Buf<A> {
+    ghost hash_input = { λ text. text.bytes ∷ fed.u8 254 };
+
+    fn hash<H: Hasher>(&self, state: &mut H) {
+        self.as_wtf8().hash(state);
     }
 
     ghost respects_eq = { Prim.search (hashing, rules) };

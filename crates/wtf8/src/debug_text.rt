@@ -7,9 +7,11 @@ ghost use Rattle.wtf8.specs.Debug.{last_four, upper, shown, debug};
 ghost use Rattle.wtf8.specs.Hex.{digit};
 ghost use Rattle.wtf8.specs.Unicode.{IsCodePoint};
 
+use crate::buf::Wtf8Buf;
 use crate::code_point::CodePoint;
 use crate::digits;
 use crate::view::Wtf8;
+use std::alloc::Allocator;
 use std::fmt;
 
 /// Writes one digit.
@@ -56,7 +58,7 @@ fn write_point<W: fmt::Write>(
         None => {
             f.write_str("\\u{")?;
             write_upper(code_point.to_u32(), f)?;
-            f.write_char('}')
+            f.write_str("}")
         }
     }
 }
@@ -83,8 +85,20 @@ impl<'a> fmt::Debug for Wtf8<'a> {
         ensures writes { DisplaysOnOk W.write_str_gives f.old result (Some (debug self.now.well_formed.points)) f.new }
         ensures styled { WritesStyledOnOk W.write_str_gives f.old result (debug self.now.well_formed.points) f.new }
     {
-        f.write_char('"')?;
+        f.write_str("\"")?;
         write_points(*self, f)?;
-        f.write_char('"')
+        f.write_str("\"")
+    }
+}
+
+/// The debug text of the view.
+impl<A: Allocator> fmt::Debug for Wtf8Buf<A> {
+    ghost debug_output = { λ text. Some (debug text.form.points) };
+
+    fn fmt<W: fmt::Write>(&self, f: &mut fmt::Formatter<W>) -> fmt::Result
+        ensures writes { DisplaysOnOk W.write_str_gives f.old result (Some (debug self.now.form.points)) f.new }
+        ensures styled { WritesStyledOnOk W.write_str_gives f.old result (debug self.now.form.points) f.new }
+    {
+        self.as_wtf8().fmt(f)
     }
 }
