@@ -47,10 +47,7 @@ pub(crate) fn write_upper<W: fmt::Write>(value: u32, f: &mut fmt::Formatter<W>) 
 }
 
 /// Writes what stands for a code point in the debug text of a string.
-fn write_point<W: fmt::Write>(
-    code_point: CodePoint,
-    f: &mut fmt::Formatter<W>,
-) -> fmt::Result
+fn write_point<W: fmt::Write>(code_point: CodePoint, f: &mut fmt::Formatter<W>) -> fmt::Result
     ensures { WritesStyledOnOk W.write_str_gives f.old result (shown (number code_point)) f.new }
 {
     match code_point.to_char() {
