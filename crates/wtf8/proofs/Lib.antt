@@ -1,3 +1,6 @@
+pub mod ByteOrder
+pub mod ComparingLemmas
+pub mod DebugLemmas
 pub mod Decoded
 pub mod EncodingLemmas
 pub mod Gaining

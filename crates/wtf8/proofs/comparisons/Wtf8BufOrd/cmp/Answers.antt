@@ -1,0 +1,18 @@
+use Rattle.std.proofs.Common.{◌∙◌, rules}
+use Rattle.wtf8.proofs.ComparingLemmas.{cmp_points, points_order}
+use Rattle.wtf8.proofs.comparisons.Wtf8BufOrd.cmp.Goals as goal
+
+pub returns-clause-bytes : goal.returns-clause-bytes
+returns-clause-bytes g c = search rules
+
+pub returns-clause-points : goal.returns-clause-points
+returns-clause-points g c =
+    let own = c.args.self.now.form in
+    let others = c.args.other.now.form in
+    returns-clause-bytes g c ∙ cmp_points own.points others.points own.encoded others.encoded
+
+pub returns-clause-order : goal.returns-clause-order
+returns-clause-order g c =
+    let own = c.args.self.now.form in
+    let others = c.args.other.now.form in
+    points_order _ own.points others.points own.encoded others.encoded (returns-clause-bytes g c)

@@ -1,0 +1,12 @@
+use Rattle.std.proofs.Common.{rules}
+use Rattle.wtf8.proofs.ComparingLemmas.{equal_points}
+use Rattle.wtf8.proofs.comparisons.Wtf8BufPartialEq.eq.Goals as goal
+
+pub returns-clause-bytes : goal.returns-clause-bytes
+returns-clause-bytes g c = search rules
+
+pub returns-clause-points : goal.returns-clause-points
+returns-clause-points g c =
+    let own = c.args.self.now.form in
+    let others = c.args.other.now.form in
+    equal_points _ own.points others.points own.encoded others.encoded (returns-clause-bytes g c)
