@@ -45,12 +45,15 @@ pub data Row (p : ℕ) : Type 0 where
 pub row_of : (p : ℕ) → Row p
 row_of p =
     elim (cases_lt p 0x80) [
-      inl h ↦ one h (encoding_one p h)
-    | inr l ↦ elim (cases_lt p 0x800) [
-        inl h ↦ two l h (encoding_two p l h)
-      | inr m ↦ elim (cases_lt p 0x10000) [
-          inl h ↦ three m h (encoding_three p m h)
-        | inr n ↦ four n (encoding_four p n) ] ] ]
+      | inl h ↦ one h (encoding_one p h)
+      | inr l ↦ elim (cases_lt p 0x800) [
+        | inl h ↦ two l h (encoding_two p l h)
+        | inr m ↦ elim (cases_lt p 0x10000) [
+          | inl h ↦ three m h (encoding_three p m h)
+          | inr n ↦ four n (encoding_four p n)
+        ]
+      ]
+    ]
 
 -- the first byte is below 80 or at least C0
 pub record Begins (b : ℕ) : Type 0 where
@@ -59,10 +62,11 @@ pub record Begins (b : ℕ) : Type 0 where
 pub first-encoding : (p : ℕ) (r : List ℕ) → Begins (get_or (encoding p ++ r) 0 0)
 first-encoding p r =
     elim (row_of p) [
-      one h e ↦ rw e (record { start = inl h })
-    | two l h e ↦ rw e (record { start = inr (omega arith) })
-    | three l h e ↦ rw e (record { start = inr (omega arith) })
-    | four l e ↦ rw e (record { start = inr (omega arith) }) ]
+      | one h e ↦ rw e (record { start = inl h })
+      | two l h e ↦ rw e (record { start = inr (omega arith) })
+      | three l h e ↦ rw e (record { start = inr (omega arith) })
+      | four l e ↦ rw e (record { start = inr (omega arith) })
+    ]
 
 -- each byte is from 80 to BF
 abbrev AreInside : List ℕ → Type 0
@@ -78,18 +82,20 @@ inside_at (x ∷ xs) r (suc k) t h = inside_at xs r k t.2 (omega arith)
 pub inside-encoding : (p k : ℕ) (r : List ℕ) → suc k < length (encoding p) → (0x80 ≤ get_or (encoding p ++ r) (suc k) 0) × (get_or (encoding p ++ r) (suc k) 0 < 0xC0)
 inside-encoding p k r l =
     elim (row_of p) [
-      one h e ↦ absurd (omega (arith, ap length e))
-    | two _ h e ↦ let m = rw e at l in rw e (inside_at ((0x80 + p % 64) ∷ []) r k (omega arith, omega arith, tt) (omega arith))
-    | three _ h e ↦ let m = rw e at l in rw e (inside_at ((0x80 + p / 64 % 64) ∷ (0x80 + p % 64) ∷ []) r k (omega arith, omega arith, (omega arith, omega arith, tt)) (omega arith))
-    | four _ e ↦ let m = rw e at l in rw e (inside_at ((0x80 + p / 4096 % 64) ∷ (0x80 + p / 64 % 64) ∷ (0x80 + p % 64) ∷ []) r k (omega arith, omega arith, (omega arith, omega arith, (omega arith, omega arith, tt))) (omega arith)) ]
+      | one h e ↦ absurd (omega (arith, ap length e))
+      | two _ h e ↦ let m = rw e at l in rw e (inside_at ((0x80 + p % 64) ∷ []) r k (omega arith, omega arith, tt) (omega arith))
+      | three _ h e ↦ let m = rw e at l in rw e (inside_at ((0x80 + p / 64 % 64) ∷ (0x80 + p % 64) ∷ []) r k (omega arith, omega arith, (omega arith, omega arith, tt)) (omega arith))
+      | four _ e ↦ let m = rw e at l in rw e (inside_at ((0x80 + p / 4096 % 64) ∷ (0x80 + p / 64 % 64) ∷ (0x80 + p % 64) ∷ []) r k (omega arith, omega arith, (omega arith, omega arith, (omega arith, omega arith, tt))) (omega arith))
+    ]
 
 pub length-encoding_bounds : (p : ℕ) → (1 ≤ length (encoding p)) × (length (encoding p) ≤ 4)
 length-encoding_bounds p =
     elim (row_of p) [
-      one h e ↦ rw e (omega arith, omega arith)
-    | two l h e ↦ rw e (omega arith, omega arith)
-    | three l h e ↦ rw e (omega arith, omega arith)
-    | four l e ↦ rw e (omega arith, omega arith) ]
+      | one h e ↦ rw e (omega arith, omega arith)
+      | two l h e ↦ rw e (omega arith, omega arith)
+      | three l h e ↦ rw e (omega arith, omega arith)
+      | four l e ↦ rw e (omega arith, omega arith)
+    ]
 
 -- no encoding begins another
 pub encoding_same : (p q : ℕ) (r s : List ℕ) → encoding p ++ r ≡ encoding q ++ s → (p ≡ q) × (r ≡ s)
@@ -110,10 +116,11 @@ pub front-encoding : (p : ℕ) (r : List ℕ) → IsCodePoint p → Front (encod
 front-encoding p r range =
     let d = sixty_fours p in
     elim (row_of p) [
-      one h e ↦ rw e (record { nonempty = omega arith; one = λ _. (refl, refl); two = λ a b. absurd (omega arith); three = λ a b. absurd (omega arith); four = λ a. absurd (omega arith) })
-    | two l h e ↦ rw e (record { nonempty = omega arith; one = λ a. absurd (omega arith); two = λ _ _. (omega arith, omega arith, omega arith, omega arith, refl); three = λ a b. absurd (omega arith); four = λ a. absurd (omega arith) })
-    | three l h e ↦ rw e (record { nonempty = omega arith; one = λ a. absurd (omega arith); two = λ a b. absurd (omega arith); three = λ _ _. (omega arith, omega arith, omega arith, omega arith, refl); four = λ a. absurd (omega arith) })
-    | four l e ↦ rw e (record { nonempty = omega arith; one = λ a. absurd (omega arith); two = λ a b. absurd (omega arith); three = λ a b. absurd (omega arith); four = λ _. (omega arith, omega arith, omega arith, omega arith, omega arith, refl) }) ]
+      | one h e ↦ rw e (record { nonempty = omega arith; one = λ _. (refl, refl); two = λ a b. absurd (omega arith); three = λ a b. absurd (omega arith); four = λ a. absurd (omega arith) })
+      | two l h e ↦ rw e (record { nonempty = omega arith; one = λ a. absurd (omega arith); two = λ _ _. (omega arith, omega arith, omega arith, omega arith, refl); three = λ a b. absurd (omega arith); four = λ a. absurd (omega arith) })
+      | three l h e ↦ rw e (record { nonempty = omega arith; one = λ a. absurd (omega arith); two = λ a b. absurd (omega arith); three = λ _ _. (omega arith, omega arith, omega arith, omega arith, refl); four = λ a. absurd (omega arith) })
+      | four l e ↦ rw e (record { nonempty = omega arith; one = λ a. absurd (omega arith); two = λ a b. absurd (omega arith); three = λ a b. absurd (omega arith); four = λ _. (omega arith, omega arith, omega arith, omega arith, omega arith, refl) })
+    ]
 
 pub front_of : {w : List ℕ} (b : BeginsWithPoint w) → Front w b.point (length (encoding b.point))
 front_of {w} b = subst (λ (v : List ℕ). Front v b.point (length (encoding b.point))) (sym b.encoded) (front-encoding b.point b.rest b.in_range)

@@ -23,24 +23,30 @@ data Last (c : List ℕ) : Type 0 where
 last_of : (c : List ℕ) → Last c
 last_of [] = empty refl
 last_of (p ∷ c) = elim (last_of c) [
-    empty e ↦ ends [] p (ap (λ d. p ∷ d) e)
-  | ends f l e ↦ ends (p ∷ f) l (ap (λ d. p ∷ d) e) ]
+  | empty e ↦ ends [] p (ap (λ d. p ∷ d) e)
+  | ends f l e ↦ ends (p ∷ f) l (ap (λ d. p ∷ d) e)
+]
 
 within : (lo hi n : ℕ) → ((lo ≤ n) × (n ≤ hi)) ⊎ ((lo ≤ n) × (n ≤ hi) → ⊥)
 within lo hi n = elim (cases_lt n lo) [
-    inl h ↦ inr (λ b. omega (arith, b.0))
+  | inl h ↦ inr (λ b. omega (arith, b.0))
   | inr h ↦ elim (cases_lt hi n) [
-      inl k ↦ inr (λ b. omega (arith, b.1))
-    | inr k ↦ inl (h, k) ] ]
+    | inl k ↦ inr (λ b. omega (arith, b.1))
+    | inr k ↦ inl (h, k)
+  ]
+]
 
 pub joining_of : (c : List ℕ) (p : ℕ) → Joining c p
 joining_of c p = elim (within 0xDC00 0xDFFF p) [
-    inr n ↦ apart (λ f l h t e. n t)
+  | inr n ↦ apart (λ f l h t e. n t)
   | inl t ↦ elim (last_of c) [
-      empty e ↦ apart (λ f l h k d. omega (arith, ap length (sym e ∙ d), length-append f (l ∷ [])))
+    | empty e ↦ apart (λ f l h k d. omega (arith, ap length (sym e ∙ d), length-append f (l ∷ [])))
     | ends f l e ↦ elim (within 0xD800 0xDBFF l) [
-        inl h ↦ joins f l h t e
-      | inr n ↦ apart (λ g m h k d. let same = (last_same f g l m (sym e ∙ d)).1 in n (omega (arith, h.0), omega (arith, h.1))) ] ] ]
+      | inl h ↦ joins f l h t e
+      | inr n ↦ apart (λ g m h k d. let same = (last_same f g l m (sym e ∙ d)).1 in n (omega (arith, h.0), omega (arith, h.1)))
+    ]
+  ]
+]
 
 -- the form with a code point more is longer
 pub record Pushed (w u v : List ℕ) (n : ℕ) : Type 0 where
@@ -50,10 +56,11 @@ pub record Pushed (w u v : List ℕ) (n : ℕ) : Type 0 where
 
 pub pushed : (w u : List ℕ) (p : ℕ) → IsForm w u → IsCodePoint p → Pushed w u (units_of p) 1
 pushed w u p h range = elim (joining_of h.points p) [
-    joins f l lead trail e ↦
+  | joins f l lead trail e ↦
       record { whole = bytes f ++ encoding (pair l p); form = form-joined w u f l p h e lead trail; longer = omega (arith, ap length (sym h.encoded ∙ (ap bytes e ∙ bytes-pushed f l)), length-append (bytes f) (encoding l), length-lead l lead, length-append (bytes f) (encoding (pair l p)), ap length (encoding_four (pair l p) (omega arith))) }
   | apart none ↦
-      record { whole = w ++ encoding p; form = form-pushed w u p h range none; longer = omega (arith, length-append w (encoding p), length-encoding_bounds p) } ]
+      record { whole = w ++ encoding p; form = form-pushed w u p h range none; longer = omega (arith, length-append w (encoding p), length-encoding_bounds p) }
+]
 
 pub extended : (ps : List CodePoint) (w u : List ℕ) → IsForm w u → Pushed w u (units (numbers ps)) (length ps)
 extended [] w u h = record { whole = w; form = subst (IsForm w) (sym (append-nil u)) h; longer = omega arith }

@@ -29,12 +29,13 @@ split_at (p ∷ c) (suc k) h s =
     let n = length-encoding_bounds p in
     let whole = length-append (encoding p) (bytes c) in
     elim (cases_lt (suc k) (length (encoding p))) [
-      inl l ↦ let inside = inside-encoding p k (bytes c) l in
-        absurd (elim ((s (omega arith)).start) [ inl b ↦ omega arith | inr b ↦ omega arith ])
-    | inr l ↦
-        let at : (suc k < length (encoding p ++ bytes c)) → get_or (encoding p ++ bytes c) (suc k) 0 ≡ get_or (bytes c) (suc k - length (encoding p)) 0 = λ _. get_or-append_right (encoding p) (bytes c) (length (encoding p)) (suc k) 0 refl l in
-        let rest = split_at c (suc k - length (encoding p)) (omega arith) (λ m. let q : suc k < length (encoding p ++ bytes c) = omega arith in subst Begins (at q) (s q)) in
-        record { front = p ∷ rest.front; back = rest.back; joined = ap (λ r. p ∷ r) rest.joined; front_len = length-append (encoding p) (bytes rest.front) ∙ (omega (arith, rest.front_len)) } ]
+      | inl l ↦ let inside = inside-encoding p k (bytes c) l in
+          absurd (elim ((s (omega arith)).start) [ inl b ↦ omega arith | inr b ↦ omega arith ])
+      | inr l ↦
+          let at : (suc k < length (encoding p ++ bytes c)) → get_or (encoding p ++ bytes c) (suc k) 0 ≡ get_or (bytes c) (suc k - length (encoding p)) 0 = λ _. get_or-append_right (encoding p) (bytes c) (length (encoding p)) (suc k) 0 refl l in
+          let rest = split_at c (suc k - length (encoding p)) (omega arith) (λ m. let q : suc k < length (encoding p ++ bytes c) = omega arith in subst Begins (at q) (s q)) in
+          record { front = p ∷ rest.front; back = rest.back; joined = ap (λ r. p ∷ r) rest.joined; front_len = length-append (encoding p) (bytes rest.front) ∙ (omega (arith, rest.front_len)) }
+    ]
 
 pub bytes-append : (c d : List ℕ) → bytes (c ++ d) ≡ bytes c ++ bytes d
 bytes-append c d = flat_map-append encoding c d
@@ -44,7 +45,7 @@ pub begins_behind : (f b : List ℕ) → length (bytes f) < length (bytes (f ++ 
 begins_behind f [] h = absurd (omega (arith, ap (λ c. length (bytes c)) (append-nil f)))
 begins_behind f (p ∷ b) h =
     let at : get_or (bytes (f ++ p ∷ b)) (length (bytes f)) 0 ≡ get_or (encoding p ++ bytes b) 0 0 =
-        ap (λ w. get_or w (length (bytes f)) 0) (bytes-append f (p ∷ b)) ∙ (get_or-append_right (bytes f) (encoding p ++ bytes b) (length (bytes f)) (length (bytes f)) 0 refl (omega arith) ∙ ap (λ k. get_or (encoding p ++ bytes b) k 0) (let zero_there : length (bytes f) - length (bytes f) ≡ 0 = omega arith in zero_there)) in
+    ap (λ w. get_or w (length (bytes f)) 0) (bytes-append f (p ∷ b)) ∙ (get_or-append_right (bytes f) (encoding p ++ bytes b) (length (bytes f)) (length (bytes f)) 0 refl (omega arith) ∙ ap (λ k. get_or (encoding p ++ bytes b) k 0) (let zero_there : length (bytes f) - length (bytes f) ≡ 0 = omega arith in zero_there)) in
     subst Begins (sym at) (first-encoding p (bytes b))
 
 -- a lead's first byte is ED
@@ -64,7 +65,7 @@ pub ends_with_lead : (c f : List ℕ) (l : ℕ) → IsLead l → bytes c ≡ f +
 ends_with_lead c f l lead e =
     let len : length (bytes c) ≡ length f + 3 = ap length e ∙ (length-append f (encoding l) ∙ ap (λ n. length f + n) (length-lead l lead)) in
     let at : get_or (bytes c) (length f) 0 ≡ get_or (encoding l ++ []) 0 0 =
-        ap (λ w. get_or w (length f) 0) e ∙ (get_or-append_right f (encoding l) (length f) (length f) 0 refl (omega arith) ∙ (ap (λ k. get_or (encoding l) k 0) (let zero_there : length f - length f ≡ 0 = omega arith in zero_there) ∙ ap (λ w. get_or w 0 0) (sym (append-nil (encoding l))))) in
+    ap (λ w. get_or w (length f) 0) e ∙ (get_or-append_right f (encoding l) (length f) (length f) 0 refl (omega arith) ∙ (ap (λ k. get_or (encoding l) k 0) (let zero_there : length f - length f ≡ 0 = omega arith in zero_there) ∙ ap (λ w. get_or w 0 0) (sym (append-nil (encoding l))))) in
     let cut = split_at c (length f) (omega arith) (λ _. record { start = inr (omega (arith, at, first-lead l [] lead)) }) in
     let parts = same_parts (bytes cut.front) f (bytes cut.back) (encoding l) cut.front_len (sym (bytes-append cut.front cut.back) ∙ (ap bytes (sym cut.joined) ∙ e)) in
     record { front = cut.front; joined = cut.joined ∙ ap (λ b. cut.front ++ b) (bytes-injective cut.back (l ∷ []) (parts.1 ∙ sym (append-nil (encoding l)))); encoded = parts.0 }
@@ -118,23 +119,23 @@ clean-pushed c p x r none =
 -- the forms that a push leaves
 pub form-joined : (w u f : List ℕ) (l t : ℕ) (h : IsForm w u) → h.points ≡ f ++ l ∷ [] → IsLead l → IsTrail t → IsForm (bytes f ++ encoding (pair l t)) (u ++ units_of t)
 form-joined w u f l t h e lead trail = record {
-    points = f ++ pair l t ∷ [];
-    reads = record {
-      clean = clean-joined f l t (subst IsClean e h.reads.clean) lead trail;
-      same_units = units-joined f l t lead trail ∙ ap (λ v. v ++ units_of t) (ap units (sym e) ∙ h.reads.same_units);
-    };
-    encoded = bytes-pushed f (pair l t);
-  }
+  points = f ++ pair l t ∷ [];
+  reads = record {
+    clean = clean-joined f l t (subst IsClean e h.reads.clean) lead trail;
+    same_units = units-joined f l t lead trail ∙ ap (λ v. v ++ units_of t) (ap units (sym e) ∙ h.reads.same_units);
+  };
+  encoded = bytes-pushed f (pair l t);
+}
 
 pub form-pushed : (w u : List ℕ) (p : ℕ) (h : IsForm w u) → IsCodePoint p → ((f : List ℕ) (l : ℕ) → IsLead l → IsTrail p → h.points ≡ f ++ l ∷ [] → ⊥) → IsForm (w ++ encoding p) (u ++ units_of p)
 form-pushed w u p h r none = record {
-    points = h.points ++ p ∷ [];
-    reads = record {
-      clean = clean-pushed h.points p h.reads.clean r none;
-      same_units = units-pushed h.points p ∙ ap (λ v. v ++ units_of p) h.reads.same_units;
-    };
-    encoded = bytes-pushed h.points p ∙ ap (λ v. v ++ encoding p) h.encoded;
-  }
+  points = h.points ++ p ∷ [];
+  reads = record {
+    clean = clean-pushed h.points p h.reads.clean r none;
+    same_units = units-pushed h.points p ∙ ap (λ v. v ++ units_of p) h.reads.same_units;
+  };
+  encoded = bytes-pushed h.points p ∙ ap (λ v. v ++ encoding p) h.encoded;
+}
 
 -- the last code point where the third byte from the end is ED
 pub record LastPoint (c w : List ℕ) : Type 0 where
@@ -160,12 +161,13 @@ one_point : (b : List ℕ) → length (bytes b) ≡ 3 → get_or (bytes b) 0 0 �
 one_point [] n e = absurd (omega arith)
 one_point (p ∷ b) n e =
     elim (row_of p) [
-      one h r ↦ absurd (omega (arith, rw r at e))
-    | two l h r ↦ absurd (omega (arith, rw r at e))
-    | three l h r ↦
-        let only : b ≡ [] = no_bytes b (omega (arith, n, length-append (encoding p) (bytes b), ap length r)) in
-        record { point = p; only = ap (λ c. p ∷ c) only; high = omega (arith, rw r at e); row = ap (λ c. encoding p ++ bytes c) only ∙ (append-nil (encoding p) ∙ r) }
-    | four l r ↦ absurd (omega (arith, rw r at e)) ]
+      | one h r ↦ absurd (omega (arith, rw r at e))
+      | two l h r ↦ absurd (omega (arith, rw r at e))
+      | three l h r ↦
+          let only : b ≡ [] = no_bytes b (omega (arith, n, length-append (encoding p) (bytes b), ap length r)) in
+          record { point = p; only = ap (λ c. p ∷ c) only; high = omega (arith, rw r at e); row = ap (λ c. encoding p ++ bytes c) only ∙ (append-nil (encoding p) ∙ r) }
+      | four l r ↦ absurd (omega (arith, rw r at e))
+    ]
 
 pub last_point : {w : List ℕ} (h : IsWellFormed w) → 3 ≤ length w → get_or w (length w - 3) 0 ≡ 0xED → LastPoint h.points w
 last_point {w} h len e =

@@ -78,8 +78,9 @@ small_units [] x = tt
 small_units (p ∷ c) x =
     let range = clean-first p c x in
     small-append (units_of p) (units c) (elim (cases_lt p 0x10000) [
-      inl h ↦ rw (units_one p h) (h, tt)
-    | inr h ↦ rw (units_two p h) (omega arith, (omega arith, tt)) ]) (small_units c (clean-rest p c x))
+      | inl h ↦ rw (units_one p h) (h, tt)
+      | inr h ↦ rw (units_two p h) (omega arith, (omega arith, tt))
+    ]) (small_units c (clean-rest p c x))
 
 -- units pushed one by one
 pushed_units : (v w u : List ℕ) → IsForm w u → AreSmall v → Pushed w u v (length v)

@@ -38,13 +38,14 @@ first_surrogate_in : (b : List ℕ) → 1 < length (bytes b) → get_or (bytes b
 first_surrogate_in [] n e s = absurd (omega arith)
 first_surrogate_in (p ∷ b) n e s =
     elim (row_of p) [
-      one h r ↦ absurd (omega (arith, rw r at e))
-    | two l h r ↦ absurd (omega (arith, rw r at e))
-    | three l h r ↦
-        let high = rw r at e in
-        let low = rw r at s in
-        record { front = []; point = p; back = b; joined = refl; front_len = refl; surrogate = (omega arith, omega arith) }
-    | four l r ↦ absurd (omega (arith, rw r at e)) ]
+      | one h r ↦ absurd (omega (arith, rw r at e))
+      | two l h r ↦ absurd (omega (arith, rw r at e))
+      | three l h r ↦
+          let high = rw r at e in
+          let low = rw r at s in
+          record { front = []; point = p; back = b; joined = refl; front_len = refl; surrogate = (omega arith, omega arith) }
+      | four l r ↦ absurd (omega (arith, rw r at e))
+    ]
 
 pub surrogate_in : (c : List ℕ) (i : ℕ) → SurrogateAt (bytes c) i → SurrogateIn c i
 surrogate_in c i s =
@@ -81,10 +82,12 @@ none_from_scalar c i s at =
 scalar_true : (p : ℕ) → IsCodePoint p → ¬ (IsSurrogate p) → scalar p ≡ true
 scalar_true p r n =
     elim (cases_lt p 0xD800) [
-      inl h ↦ low_scalar p h
-    | inr h ↦ elim (cases_lt p 0xE000) [
-        inl k ↦ absurd (n (h, omega arith))
-      | inr k ↦ rw (le-ltb p 0xD800 h, lt-ltb p 0x110000 (omega arith)) (grind (arith, nat_tests)) ] ]
+      | inl h ↦ low_scalar p h
+      | inr h ↦ elim (cases_lt p 0xE000) [
+        | inl k ↦ absurd (n (h, omega arith))
+        | inr k ↦ rw (le-ltb p 0xD800 h, lt-ltb p 0x110000 (omega arith)) (grind (arith, nat_tests))
+      ]
+    ]
 
 pub scalars_true : (c : List ℕ) → IsClean c → AreScalar c → scalars c ≡ true
 scalars_true [] x s = refl
@@ -105,10 +108,12 @@ pub kind_of : (p : ℕ) → Kind p
 unfolding replaced
 kind_of p =
     elim (cases_lt p 0xD800) [
-      inl h ↦ scalar_value (λ s. omega arith) (rw (lt-leb p 0xD800 h) refl)
-    | inr h ↦ elim (cases_lt p 0xE000) [
-        inl k ↦ surrogate (h, omega arith) (rw (le-leb 0xD800 p h, le-leb p 0xDFFF (omega arith)) refl)
-      | inr k ↦ scalar_value (λ s. omega arith) (rw (le-leb 0xD800 p h, lt-leb 0xDFFF p (omega arith)) refl) ] ]
+      | inl h ↦ scalar_value (λ s. omega arith) (rw (lt-leb p 0xD800 h) refl)
+      | inr h ↦ elim (cases_lt p 0xE000) [
+        | inl k ↦ surrogate (h, omega arith) (rw (le-leb 0xD800 p h, le-leb p 0xDFFF (omega arith)) refl)
+        | inr k ↦ scalar_value (λ s. omega arith) (rw (le-leb 0xD800 p h, lt-leb 0xDFFF p (omega arith)) refl)
+      ]
+    ]
 
 pub lossy-append : (c d : List ℕ) → lossy (c ++ d) ≡ lossy c ++ lossy d
 lossy-append c d = map-append replaced c d
@@ -116,8 +121,9 @@ lossy-append c d = map-append replaced c d
 pub lossy-scalar : (c : List ℕ) → AreScalar c → lossy c ≡ c
 lossy-scalar [] s = refl
 lossy-scalar (p ∷ c) s = elim (kind_of p) [
-    surrogate k e ↦ absurd (s.0 k)
-  | scalar_value n e ↦ rw (e, lossy-scalar c s.1) refl ]
+  | surrogate k e ↦ absurd (s.0 k)
+  | scalar_value n e ↦ rw (e, lossy-scalar c s.1) refl
+]
 
 -- it is as long: a surrogate has three bytes too
 pub length-lossy : (c : List ℕ) → length (bytes (lossy c)) ≡ length (bytes c)
@@ -127,14 +133,16 @@ length-lossy (p ∷ c) =
     let whole = length-append (encoding (replaced p)) (bytes (lossy c)) in
     let here = length-append (encoding p) (bytes c) in
     elim (kind_of p) [
-      surrogate k e ↦ omega (arith, ap (λ q. length (encoding q)) e, ap length (encoding_three 0xFFFD (lit≤ tt) (lit< tt)), ap length (encoding_three p (omega arith) (omega arith)))
-    | scalar_value n e ↦ omega (arith, ap (λ q. length (encoding q)) e) ]
+      | surrogate k e ↦ omega (arith, ap (λ q. length (encoding q)) e, ap length (encoding_three 0xFFFD (lit≤ tt) (lit< tt)), ap length (encoding_three p (omega arith) (omega arith)))
+      | scalar_value n e ↦ omega (arith, ap (λ q. length (encoding q)) e)
+    ]
 
 pub scalars-lossy : (c : List ℕ) → IsClean c → scalars (lossy c) ≡ true
 scalars-lossy [] x = refl
 scalars-lossy (p ∷ c) x = elim (kind_of p) [
-    surrogate k e ↦ rw e (scalars-lossy c (clean-rest p c x))
-  | scalar_value n e ↦ rw (e, scalar_true p (clean-first p c x) n) (scalars-lossy c (clean-rest p c x)) ]
+  | surrogate k e ↦ rw e (scalars-lossy c (clean-rest p c x))
+  | scalar_value n e ↦ rw (e, scalar_true p (clean-first p c x) n) (scalars-lossy c (clean-rest p c x))
+]
 
 -- the bytes of the list with surrogates replaced are text
 pub utf8_lossy_points : (c : List ℕ) → IsClean c → IsUtf8 (bytes (lossy c))

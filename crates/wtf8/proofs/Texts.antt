@@ -16,8 +16,9 @@ pub record ScalarFacts (c : ℕ) : Type 0 where
 
 pub scalar_facts : (c : ℕ) → scalar c ≡ true → ScalarFacts c
 scalar_facts c e = elim (scalar_cases c e) [
-    inl l ↦ record { range = omega arith; apart = λ s. omega arith }
-  | inr h ↦ record { range = omega arith; apart = λ s. omega arith } ]
+  | inl l ↦ record { range = omega arith; apart = λ s. omega arith }
+  | inr h ↦ record { range = omega arith; apart = λ s. omega arith }
+]
 
 and_parts : (a b : Bool) → (a && b) ≡ true → (a ≡ true) × (b ≡ true)
 and_parts true b e = (refl, e)

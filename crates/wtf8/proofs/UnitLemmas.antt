@@ -38,10 +38,11 @@ pub record Bounds (u w : ℕ) : Type 0 where
 bounds_of : (p : ℕ) → Bounds (length (units_of p)) (length (encoding p))
 bounds_of p =
     elim (row_of p) [
-      one h e ↦ rw (e, units_one p (omega arith)) (record { at_least = omega arith; at_most = omega arith })
-    | two _ h e ↦ rw (e, units_one p (omega arith)) (record { at_least = omega arith; at_most = omega arith })
-    | three _ h e ↦ rw (e, units_one p h) (record { at_least = omega arith; at_most = omega arith })
-    | four l e ↦ rw (e, units_two p l) (record { at_least = omega arith; at_most = omega arith }) ]
+      | one h e ↦ rw (e, units_one p (omega arith)) (record { at_least = omega arith; at_most = omega arith })
+      | two _ h e ↦ rw (e, units_one p (omega arith)) (record { at_least = omega arith; at_most = omega arith })
+      | three _ h e ↦ rw (e, units_one p h) (record { at_least = omega arith; at_most = omega arith })
+      | four l e ↦ rw (e, units_two p l) (record { at_least = omega arith; at_most = omega arith })
+    ]
 
 pub units_bounds : (c : List ℕ) → Bounds (length (units c)) (length (bytes c))
 units_bounds [] = record { at_least = omega arith; at_most = omega arith }
@@ -59,8 +60,9 @@ pub record PointBounds (n w u : ℕ) : Type 0 where
 
 one_or_two : (p : ℕ) → (1 ≤ length (units_of p)) × (length (units_of p) ≤ length (encoding p))
 one_or_two p = elim (cases_lt p 0x10000) [
-    inl h ↦ (omega (arith, ap length (units_one p h)), (bounds_of p).at_least)
-  | inr h ↦ (omega (arith, ap length (units_two p h)), (bounds_of p).at_least) ]
+  | inl h ↦ (omega (arith, ap length (units_one p h)), (bounds_of p).at_least)
+  | inr h ↦ (omega (arith, ap length (units_two p h)), (bounds_of p).at_least)
+]
 
 pub points_bounds : (c : List ℕ) → PointBounds (length c) (length (bytes c)) (length (units c))
 points_bounds [] = record { at_least = omega arith; at_most = omega arith; units_least = omega arith; units_most = omega arith }

@@ -36,14 +36,14 @@ impl<A: Allocator> Model for Wtf8Buf<A> {
     ghost coded = { text_code };
 
     ghost view = { λ b. record {
-        units = units b.well_formed.points;
-        bytes = b.bytes.items;
-        form = record {
-            points = b.well_formed.points;
-            reads = record { clean = b.well_formed.clean; same_units = refl };
-            encoded = b.well_formed.encoded;
-        };
-        capacity = vec_capacity b.bytes;
+      units = units b.well_formed.points;
+      bytes = b.bytes.items;
+      form = record {
+        points = b.well_formed.points;
+        reads = record { clean = b.well_formed.clean; same_units = refl };
+        encoded = b.well_formed.encoded;
+      };
+      capacity = vec_capacity b.bytes;
     } };
 }
 

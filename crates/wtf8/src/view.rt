@@ -75,10 +75,10 @@ impl<'a> Wtf8<'a> {
     pub fn is_code_point_boundary(&self, index: usize) -> bool
         ensures { IsTrue result ↔ IsBoundary (units self.now.well_formed.points) index }
     {
-        if index < self.bytes.len() {
+        if index < self.len() {
             encoding::begins_code_point(self.bytes[index])
         } else {
-            index == self.bytes.len()
+            index == self.len()
         }
     }
 
@@ -142,7 +142,10 @@ impl<'a> Wtf8<'a> {
 
     /// The string as text, with U+FFFD in the place of each surrogate. Where it holds none the text is borrowed, which
     /// asks for no memory and is never refused; else it is a copy.
-    pub fn to_string_lossy<A: Allocator + Drop>(&self, alloc: A) -> Result<CowStr<'a, A>, AllocError>
+    pub fn to_string_lossy<A: Allocator + Drop>(
+        &self,
+        alloc: A,
+    ) -> Result<CowStr<'a, A>, AllocError>
         ensures text { IfOk result (λ t. cow_str_bytes t ≡ bytes (lossy self.now.well_formed.points)) }
         ensures borrowed { IfOk result (λ t. IsBorrowedStr t ↔ AreScalar self.now.well_formed.points) }
         ensures granted { AreScalar self.now.well_formed.points → IsOk result }
@@ -183,7 +186,7 @@ impl<'a> Wtf8<'a> {
         ensures last { IfSome result (λ l. (f : List ℕ) × (self.now.well_formed.points ≡ f ++ l ∷ [])) }
         ensures none { IfNone result ((f : List ℕ) (l : ℕ) → IsLead l → self.now.well_formed.points ≡ f ++ l ∷ [] → ⊥) }
     {
-        let len = self.bytes.len();
+        let len = self.len();
         if len < 3 {
             return None;
         }

@@ -29,8 +29,9 @@ returns-in_default-clause-outgrown g c v w all form =
     let m = among c.args.self.now.units (take i calls) call [] v c.loop-done.self.units (λ a x. (inv a x).0) here in
     let b = beginning c.loop-done.self.units m.own m.rest w c.loop-done.self.bytes c.loop-done.self.form (subst (IsForm w) m.joined form) in
     elim (cases_lt c.args.self.now.capacity (length w)) [
-      inl h ↦ h
-    | inr h ↦ absurd (false≢true (at_some _ _ m.own m.appends c.in_default.ensures.room b.whole b.form (omega (arith, b.within, (inv m.front m.before).1)))) ]
+      | inl h ↦ h
+      | inr h ↦ absurd (false≢true (at_some _ _ m.own m.appends c.in_default.ensures.room b.whole b.form (omega (arith, b.within, (inv m.front m.before).1))))
+    ]
 
 pub returns-in_default-clause-capacity : goal.returns-in_default-clause-capacity
 returns-in_default-clause-capacity g c v all =
@@ -53,13 +54,18 @@ loop-done-preserved g c =
     let now = c.apply.new.self.units in
     let run = run_more u (take i calls) c.loop-done.self.units c.loop-done.refused call now (cond c.in-Ok.kept 0 1) c.loop-done.invariant.0 c.in-Ok.ensures.step in
     let count : c.if-not-kept.refused ≡ c.loop-done.refused + cond c.in-Ok.kept 0 1 = elim c.if-not-kept.branch [
-        then-not-kept w ↦ w.refused-is ∙ counted c.in-Ok.kept c.loop-done.refused w.if-not-kept.true
-      | else-not-kept w ↦ w.refused-is ∙ not_counted c.in-Ok.kept c.loop-done.refused w.if-not-kept.false ] in
+      | then-not-kept w ↦ w.refused-is ∙ counted c.in-Ok.kept c.loop-done.refused w.if-not-kept.true
+      | else-not-kept w ↦ w.refused-is ∙ not_counted c.in-Ok.kept c.loop-done.refused w.if-not-kept.false
+    ] in
     let bound : c.if-not-kept.refused ≤ i + 1 = elim c.if-not-kept.branch [
-        then-not-kept w ↦ omega (arith, w.refused-is, c.loop-done.invariant.1)
-      | else-not-kept w ↦ omega (arith, w.refused-is, c.loop-done.invariant.1) ] in
-    (subst (λ d. Run u d now c.if-not-kept.refused) (sym more) (subst (λ n. Run u (take i calls ++ call ∷ []) now n) (sym count) run), bound, λ v all.
-      let here = subst (λ d. Append d v) more all in
-      let m = among u (take i calls) call [] v c.loop-done.self.units (λ a x. (c.loop-done.invariant.2 a x).0) here in
-      let last : m.rest ≡ [] = m.behind in
-      (step_appends c.loop-done.self.units call now (cond c.in-Ok.kept 0 1) m.own c.in-Ok.ensures.step m.appends ∙ sym (m.joined ∙ ap (λ b. c.loop-done.self.units ++ b) (ap (λ b. m.own ++ b) last ∙ append-nil m.own)), omega (arith, (c.loop-done.invariant.2 m.front m.before).1, c.in-Ok.ensures.capacity (no_truncation call m.own m.appends))))
+      | then-not-kept w ↦ omega (arith, w.refused-is, c.loop-done.invariant.1)
+      | else-not-kept w ↦ omega (arith, w.refused-is, c.loop-done.invariant.1)
+    ] in (
+      subst (λ d. Run u d now c.if-not-kept.refused) (sym more) (subst (λ n. Run u (take i calls ++ call ∷ []) now n) (sym count) run),
+      bound,
+      λ v all.
+          let here = subst (λ d. Append d v) more all in
+          let m = among u (take i calls) call [] v c.loop-done.self.units (λ a x. (c.loop-done.invariant.2 a x).0) here in
+          let last : m.rest ≡ [] = m.behind in
+          (step_appends c.loop-done.self.units call now (cond c.in-Ok.kept 0 1) m.own c.in-Ok.ensures.step m.appends ∙ sym (m.joined ∙ ap (λ b. c.loop-done.self.units ++ b) (ap (λ b. m.own ++ b) last ∙ append-nil m.own)), omega (arith, (c.loop-done.invariant.2 m.front m.before).1, c.in-Ok.ensures.capacity (no_truncation call m.own m.appends))),
+    )

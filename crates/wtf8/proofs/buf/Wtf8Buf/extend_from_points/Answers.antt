@@ -19,7 +19,7 @@ returns-in_err-push-clause-room g c w form fits =
     let below : i < length ps = omega arith in
     let here = points_at ps i p below c.code_point-item.is in
     let whole : c.args.self.now.units ++ units (numbers ps) ≡ c.loop-code_point.self.units ++ units (numbers (p ∷ drop (i + 1) ps)) =
-        ap (λ v. c.args.self.now.units ++ v) (ap (λ d. units (numbers d)) (sym here) ∙ units-points (take i ps) (p ∷ drop (i + 1) ps))
-        ∙ (sym (append_assoc c.args.self.now.units (units (numbers (take i ps))) (units (numbers (p ∷ drop (i + 1) ps)))) ∙ ap (λ v. v ++ units (numbers (p ∷ drop (i + 1) ps))) (sym c.loop-code_point.invariant.0)) in
+    ap (λ v. c.args.self.now.units ++ v) (ap (λ d. units (numbers d)) (sym here) ∙ units-points (take i ps) (p ∷ drop (i + 1) ps))
+    ∙ (sym (append_assoc c.args.self.now.units (units (numbers (take i ps))) (units (numbers (p ∷ drop (i + 1) ps)))) ∙ ap (λ v. v ++ units (numbers (p ∷ drop (i + 1) ps))) (sym c.loop-code_point.invariant.0)) in
     let next = next_fits c.loop-code_point.self.units c.loop-code_point.self.bytes w p (drop (i + 1) ps) c.loop-code_point.self.form (subst (IsForm w) whole form) in
     absurd (false≢true (c.in_err-push.ensures.room next.whole next.form (omega (arith, next.within, c.loop-code_point.invariant.1))))

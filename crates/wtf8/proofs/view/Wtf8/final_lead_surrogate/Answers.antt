@@ -30,6 +30,7 @@ returns-else-first-clause-none c f l h e =
     let s = c.args.self.now.well_formed in
     let n = ends_in_lead s f l h e in
     elim c.else-first.branch [
-      else-first-via-then-first+then-second-ge160+else-second-le175 w ↦ omega arith
-    | else-first-via-then-first+else-second-ge160 w ↦ omega arith
-    | else-first-via-else-first w ↦ omega arith ]
+      | else-first-via-then-first+then-second-ge160+else-second-le175 w ↦ omega arith
+      | else-first-via-then-first+else-second-ge160 w ↦ omega arith
+      | else-first-via-else-first w ↦ omega arith
+    ]
