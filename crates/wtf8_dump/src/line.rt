@@ -9,9 +9,11 @@ use crate::word;
 use std::alloc::{AllocError, Global};
 use wtf8::{CodePoint, Wtf8Buf};
 
-/// The answer to a line, both without a newline: the bytes of the string of the line's code points in hexadecimal, or `?` where some word stands for no code point.
+/// The answer to a line, both without a newline: the bytes of the string of the line's code points in hexadecimal, or
+/// `?` where some word stands for no code point.
 ///
-/// A newline inside the line stands in no word. An `Err` comes only where a growth of memory was refused.
+/// A word is four hexadecimal digits of either case. A newline inside the line stands in no word, so it is answered `?`.
+/// An `Err` comes only where a growth of memory was refused.
 pub fn dump_line(alloc: Global, line: &[u8]) -> Result<Vec<u8>, AllocError>
     ensures answer { IfOk result (λ answer. IsAnswer line.now answer.items) }
 {

@@ -5,7 +5,8 @@ ghost use Rattle.std.specs.Option.{option_map_or};
 ghost use Rattle.std.specs.Iterator.{YieldsFirstRef, item_count};
 ghost use Rattle.wtf8_dump.specs.Lines.{lines, words};
 
-/// The lines of an input, in order, each without its newline. What follows the last newline is a line too if it is not empty.
+/// The lines of an input, in order, each without its newline. What follows the last newline is a line too if it is not
+/// empty.
 #[derive(Drop)]
 pub struct Lines<'a> {
     rest: &'a [u8],

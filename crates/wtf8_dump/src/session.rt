@@ -12,14 +12,17 @@ use std::io::{Read, Write};
 
 const PIECE: usize = 4096;
 
-/// Reads the reader to its end, computes the answer to each line, and then writes the answers, each with a newline after it, and flushes the writer.
+/// Reads the reader to its end, computes the answer to each line, and then writes the answers, each with a newline
+/// after it, and flushes the writer.
 ///
-/// Every error is final, `Interrupted` too. `Fault::Read` comes where a read answered an error and `Fault::Memory` where a growth of memory was refused; nothing was written then. `Fault::Write` comes where a write or the flush answered an error or a write took no byte; a beginning of the answers was written then.
+/// Every error is final, `Interrupted` too. `Fault::Read` comes where a read answered an error and `Fault::Memory`
+/// where a growth of memory was refused; nothing was written then. `Fault::Write` comes where a write or the flush
+/// answered an error or a write took no byte; a beginning of the answers was written then.
 pub fn run<R: Read, W: Write>(alloc: Global, reader: &mut R, writer: &mut W) -> Result<(), Fault>
     // Where all went well, all was read, and what was written is its dump and nothing else.
     ensures end { OnOk result (IsAtEnd (R.remaining reader.new)) }
-    ensures dump { OnOk result ((input : List ℕ) × (out : List ℕ) × IsInput (R.remaining reader.old) input × IsDump input out
-        × Appends (W.contents writer.old) (W.contents writer.new) out) }
+    ensures dump { OnOk result ((input : List ℕ) × (out : List ℕ) × IsInput (R.remaining reader.old) input
+        × IsDump input out × Appends (W.contents writer.old) (W.contents writer.new) out) }
 
     // A failed read and want of memory come before anything was written.
     ensures read { IsErrOf result Fault.Read → Keeps (W.contents writer.old) (W.contents writer.new) }
@@ -27,8 +30,9 @@ pub fn run<R: Read, W: Write>(alloc: Global, reader: &mut R, writer: &mut W) -> 
 
     // A failed write comes after all was read, and what was written is a beginning of the dump.
     ensures write_end { IsErrOf result Fault.Write → IsAtEnd (R.remaining reader.new) }
-    ensures write { IsErrOf result Fault.Write → (input : List ℕ) × (out : List ℕ) × (n : ℕ) × IsInput (R.remaining reader.old) input
-        × IsDump input out × Appends (W.contents writer.old) (W.contents writer.new) (take n out) }
+    ensures write { IsErrOf result Fault.Write → (input : List ℕ) × (out : List ℕ) × (n : ℕ)
+        × IsInput (R.remaining reader.old) input × IsDump input out
+        × Appends (W.contents writer.old) (W.contents writer.new) (take n out) }
 {
     let input = read_input(alloc, reader)?;
     let Ok(out) = dump(alloc, input.as_slice()) else {
@@ -74,7 +78,8 @@ fn dump(alloc: Global, input: &[u8]) -> Result<Vec<u8>, AllocError>
 // Writes some bytes and flushes the writer. After an error a beginning of the bytes was written.
 fn write_output<W: Write>(writer: &mut W, out: &[u8]) -> Result<(), Fault>
     ensures whole { OnOk result (Appends (W.contents writer.old) (W.contents writer.new) out.now) }
-    ensures beginning { OnErr result ((n : ℕ) × Appends (W.contents writer.old) (W.contents writer.new) (take n out.now)) }
+    ensures beginning { OnErr result ((n : ℕ)
+        × Appends (W.contents writer.old) (W.contents writer.new) (take n out.now)) }
     ensures fault { IfErr result (λ fault. fault ≡ Fault.Write) }
 {
     let mut written = 0;

@@ -176,7 +176,11 @@ fn a_failed_write_leaves_a_beginning(rt: HostRuntime) -> Result<(), Fail> {
             result,
             "with room for {room}"
         );
-        assert_eq!(rt; writer.taken.as_slice(), want.as_bytes(), "with room for {room}");
+        assert_eq!(rt;
+            writer.taken.as_slice(),
+            want.as_bytes(),
+            "with room for {room}"
+        );
     }
     Ok(())
 }
