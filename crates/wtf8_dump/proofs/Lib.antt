@@ -1,0 +1,3 @@
+mod Answering
+mod Digits
+mod Splitting

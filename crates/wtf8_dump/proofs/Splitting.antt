@@ -1,0 +1,46 @@
+-- Splitting at the first separator.
+use Rattle.std.proofs.Common.{◌≡◌, ◌≢◌, ℕ, ◌+◌, ◌<◌, ◌==◌, Bool, true, false, List, [], ◌∷◌, ◌++◌, length, get_or, take, drop, All, refl, sym, ap, ◌∙◌, inl, inr, take-append-drop, Option, Some, None, IfNone, unwrap_or}
+use Rattle.std.specs.Borrow.{Bor}
+use Rattle.std.specs.List.{slice_split, onto_first}
+use Rattle.std.specs.Option.{option_map_or}
+use Rattle.std.proofs.lemmas.Bool.{cases_Bool}
+use Rattle.std.proofs.lemmas.List.{drop_more}
+use Rattle.std.proofs.lemmas.List.Splits.{slice_split_at, slice_split-cons_yes, slice_split-cons_no}
+use Rattle.wtf8_dump.specs.Lines.{without_empty_end, lines}
+
+-- the first part ends at the first separator
+pub slice_split_read : (p : ℕ → Bool) (xs : List ℕ) (i : ℕ) → i < length xs → p (get_or xs i 0) ≡ true → All (λ x. p x ≡ false) (take i xs) → slice_split p xs ≡ take i xs ∷ slice_split p (drop (i + 1) xs)
+slice_split_read p xs i lt passes h =
+    let parts : xs ≡ take i xs ++ get_or xs i 0 ∷ drop (i + 1) xs = sym (take-append-drop i xs) ∙ ap (λ zs. take i xs ++ zs) (drop_more xs i 0 lt) in
+    ap (slice_split p) parts ∙ slice_split_at p (take i xs) (get_or xs i 0) (drop (i + 1) xs) h passes
+
+-- there is a first part
+some_part : (p : ℕ → Bool) (xs : List ℕ) → (first : List ℕ) × (rest : List (List ℕ)) × (slice_split p xs ≡ first ∷ rest)
+some_part p [] = ([], [], refl)
+some_part p (x ∷ xs) =
+    let more = some_part p xs in
+    elim (cases_Bool (p x)) [
+      | inl passes ↦ ([], slice_split p xs, slice_split-cons_yes p x xs passes)
+      | inr fails ↦ (x ∷ more.0, more.1, slice_split-cons_no p x xs fails ∙ ap (onto_first x) more.2)
+    ]
+
+-- a part before others stays
+kept_before : (part next : List ℕ) (parts : List (List ℕ)) → without_empty_end (part ∷ next ∷ parts) ≡ part ∷ without_empty_end (next ∷ parts)
+kept_before [] next parts = refl
+kept_before (b ∷ bs) next parts = refl
+
+-- what is not empty is one line where it has no newline
+one_line : (bytes : List ℕ) → bytes ≢ [] → without_empty_end (bytes ∷ []) ≡ bytes ∷ []
+one_line [] h = absurd (h refl)
+one_line (b ∷ bs) h = refl
+
+-- the first line and the lines after it
+pub lines_step : (bytes line : List ℕ) (after : Option (Bor (List ℕ))) (end rest : Bor (List ℕ)) → bytes ≢ []
+    → slice_split (λ b. b == 10) bytes ≡ line ∷ option_map_or (λ r. slice_split (λ b. b == 10) r.now) after []
+    → IfNone after (line ≡ bytes) → end.now ≡ [] → rest ≡ unwrap_or after end → lines bytes ≡ line ∷ lines rest.now
+lines_step bytes line None end rest h split whole empty is =
+    ap without_empty_end split ∙ one_line line (λ e. h (sym whole ∙ e)) ∙ ap (λ r. line ∷ lines r) (sym empty ∙ ap (λ r. r.now) (sym is))
+lines_step bytes line (Some r) end rest h split whole empty is =
+    let more = some_part (λ b. b == 10) r.now in
+    ap without_empty_end (split ∙ ap (λ parts. line ∷ parts) more.2) ∙ kept_before line more.0 more.1
+    ∙ ap (λ parts. line ∷ without_empty_end parts) (sym more.2) ∙ ap (λ b. line ∷ lines b.now) (sym is)

@@ -1,0 +1,6 @@
+use Rattle.std.proofs.Common.{◌≡◌, ◌==◌, false, take, All}
+use Rattle.wtf8_dump.proofs.parts.split_first_part.Given as goal
+
+-- no byte so far is a separator
+abbrev pub invariant-loop-at : goal.invariant-loop-at
+invariant-loop-at l = All (λ byte. (byte == l.separator) ≡ false) (take l.at l.bytes)
