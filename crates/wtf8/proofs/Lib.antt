@@ -9,6 +9,7 @@ pub mod Joining
 pub mod OneReading
 pub mod Positions
 pub mod Readings
+pub mod RunLaws
 pub mod Runs
 pub mod SurrogateLemmas
 pub mod Texts

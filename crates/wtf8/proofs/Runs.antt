@@ -57,7 +57,7 @@ append_parts (c ∷ calls) more v x =
     record { front = x.0 ++ p.front; back = p.back; first = (x.0, p.front, x.2, p.first, refl); second = p.second; joined = x.4 ∙ (ap (λ b. x.0 ++ b) p.joined ∙ sym (append_assoc x.0 p.front p.back)) }
 
 -- the units of a clean list are of 16 bits
-abbrev AreSmall : List ℕ → Type 0
+abbrev pub AreSmall : List ℕ → Type 0
 AreSmall [] = Unit {0}
 AreSmall (x ∷ u) = (x < 0x10000) × AreSmall u
 
@@ -73,7 +73,7 @@ small-front : (a b : List ℕ) → AreSmall (a ++ b) → AreSmall a
 small-front [] b x = tt
 small-front (n ∷ a) b x = (x.0, small-front a b x.1)
 
-small_units : (c : List ℕ) → IsClean c → AreSmall (units c)
+pub small_units : (c : List ℕ) → IsClean c → AreSmall (units c)
 small_units [] x = tt
 small_units (p ∷ c) x =
     let range = clean-first p c x in
@@ -83,7 +83,7 @@ small_units (p ∷ c) x =
     ]) (small_units c (clean-rest p c x))
 
 -- units pushed one by one
-pushed_units : (v w u : List ℕ) → IsForm w u → AreSmall v → Pushed w u v (length v)
+pub pushed_units : (v w u : List ℕ) → IsForm w u → AreSmall v → Pushed w u v (length v)
 pushed_units [] w u h s = record { whole = w; form = subst (IsForm w) (sym (append-nil u)) h; longer = omega arith }
 pushed_units (x ∷ v) w u h s =
     let first = pushed w u x h (omega (arith, s.0)) in

@@ -69,3 +69,10 @@ IsNoTruncation (PushStr s) = ⊤
 IsNoTruncation (PushWtf8 s) = ⊤
 IsNoTruncation (Extend d) = ⊤
 IsNoTruncation (Reserve n) = ⊤
+
+-- The calls lead from the units to exactly one list, with exactly one count of refused truncations.
+pub record RunsOnce (u : List ℕ) (calls : List Build) : Type 0 where
+  pub outcome : List ℕ
+  pub count : ℕ
+  pub goes : Run u calls outcome count
+  pub no_other : (v : List ℕ) (n : ℕ) → Run u calls v n → (v ≡ outcome) × (n ≡ count)

@@ -75,10 +75,10 @@ impl<'a> Wtf8<'a> {
     pub fn is_code_point_boundary(&self, index: usize) -> bool
         ensures { IsTrue result ↔ IsBoundary (units self.now.well_formed.points) index }
     {
-        if index < self.len() {
+        if index < self.bytes.len() {
             encoding::begins_code_point(self.bytes[index])
         } else {
-            index == self.len()
+            index == self.bytes.len()
         }
     }
 
@@ -186,7 +186,7 @@ impl<'a> Wtf8<'a> {
         ensures last { IfSome result (λ l. (f : List ℕ) × (self.now.well_formed.points ≡ f ++ l ∷ [])) }
         ensures none { IfNone result ((f : List ℕ) (l : ℕ) → IsLead l → self.now.well_formed.points ≡ f ++ l ∷ [] → ⊥) }
     {
-        let len = self.len();
+        let len = self.bytes.len();
         if len < 3 {
             return None;
         }
