@@ -1,14 +1,16 @@
 -- Two readings, or two forms, glued: they are of the units of both.
-use Rattle.std.proofs.Common.{◌≡◌, ℕ, ◌+◌, ◌-◌, ◌/◌, ◌%◌, ◌≤◌, ◌<◌, ◌⊎◌, inl, inr, List, [], ◌∷◌, ◌++◌, length, take, drop, Bool, true, false, ◌&&◌, cond, leb, refl, sym, ap, ◌∙◌, subst, arith, append_assoc, length-append}
+use Rattle.std.proofs.Common.{◌≡◌, ℕ, ◌+◌, ◌-◌, ◌/◌, ◌%◌, ◌≤◌, ◌<◌, ◌⊎◌, inl, inr, List, [], ◌∷◌, ◌++◌, length, take, drop, Bool, Result, Ok, Err, OnOk, true, false, ◌&&◌, cond, leb, refl, sym, ap, ◌∙◌, subst, arith, append_assoc, length-append}
 use Rattle.std.proofs.lemmas.Bool.{leb-true, le-leb, and_parts, and_from, cases_Bool, cases_lt, false≢true}
 use Rattle.std.proofs.lemmas.List.{append-nil}
 use Rattle.wtf8.specs.Unicode.{IsLead, IsTrail, IsCodePoint, units, units_of, pair}
-use Rattle.wtf8.specs.Form.{IsClean, Reads, bytes, encoding, IsForm, IsWellFormed}
+use Rattle.wtf8.specs.Form.{IsClean, Reads, bytes, encoding, IsForm, IsWellFormed, GainsUnits}
+use Rattle.wtf8.specs.Text.{Text}
 use Rattle.wtf8.specs.Concatenation.{MeetsAsPair, is_pair, glue}
 use Rattle.wtf8.proofs.UnitLemmas.{units_one, units_two, units_pair, units-append, units-pushed}
 use Rattle.wtf8.proofs.Joining.{NoPair, clean-append, clean-front, clean-rest, clean-first, clean-back, last_same, bytes-append, bytes-pushed}
 use Rattle.wtf8.proofs.OneReading.{same_reading, same_form, lead_of, trail_of, trail_first}
-use Rattle.wtf8.proofs.Gaining.{well_formed_of, lead_bytes, behind_trail, length-joined_bytes}
+use Rattle.wtf8.proofs.Growth.{last_of, empty, ends}
+use Rattle.wtf8.proofs.Gaining.{form_of, well_formed_of, lead_bytes, behind_trail, length-joined_bytes}
 
 pub pair_true : (l t : ℕ) → IsLead l → IsTrail t → is_pair l t ≡ true
 unfolding is_pair
@@ -111,25 +113,12 @@ glue_assoc c d e x y z =
     let right = reads-glue c (glue d e) (units c) (units d ++ units e) (reads c x) (reads-glue d e (units d) (units e) (reads d y) (reads e z)) in
     same_reading (glue (glue c d) e) (glue c (glue d e)) left.clean right.clean (left.same_units ∙ (append_assoc (units c) (units d) (units e) ∙ sym right.same_units))
 
--- a list is empty, or has a last number
-data Ending (c : List ℕ) : Type 0 where
-  nothing : c ≡ [] → Ending c
-  last : (f : List ℕ) (p : ℕ) → c ≡ f ++ p ∷ [] → Ending c
-
-ending : (c : List ℕ) → Ending c
-ending [] = nothing refl
-ending (p ∷ c) =
-    elim (ending c) [
-      | nothing e ↦ last [] p (ap (λ d. p ∷ d) e)
-      | last f q e ↦ last (p ∷ f) q (ap (λ d. p ∷ d) e)
-    ]
-
 -- where a lead is the last unit it is the last code point
 lead_last : (c g : List ℕ) (l : ℕ) → IsLead l → units c ≡ g ++ l ∷ [] → (f : List ℕ) × (c ≡ f ++ l ∷ [])
 lead_last c g l h e =
-    elim (ending c) [
-      | nothing z ↦ absurd (omega (arith, ap (λ d. length (units d)) z, ap length e, length-append g (l ∷ [])))
-      | last f p z ↦
+    elim (last_of c) [
+      | empty z ↦ absurd (omega (arith, ap (λ d. length (units d)) z, ap length e, length-append g (l ∷ [])))
+      | ends f p z ↦
           let whole : units f ++ units_of p ≡ g ++ l ∷ [] = sym (units-pushed f p) ∙ (ap units (sym z) ∙ e) in
           elim (cases_lt p 0x10000) [
             | inl s ↦
@@ -204,3 +193,15 @@ length_paired w v z a b x y f m =
 
 pub length_apart : (w v z a b : List ℕ) → IsForm w a → IsForm v b → IsForm z (a ++ b) → ¬ (MeetsAsPair a b) → length z ≡ length w + length v
 length_apart w v z a b x y f n = ap length (same_form z (w ++ v) (a ++ b) f (form_apart w v a b x y n)) ∙ length-append w v
+
+module _ {T E : Type 0} where
+  -- how long the string is that units were appended to
+  pub gained_paired : (r : Result T E) (old : Text) (w z : List ℕ) {v : List ℕ} (k : IsWellFormed v) → w ≡ old.bytes → OnOk r (GainsUnits w z (units k.points)) → OnOk r (MeetsAsPair old.units (units k.points) → length z + 2 ≡ length old.bytes + length v)
+  gained_paired (Ok _) old w z {v} k e gains =
+      length_paired old.bytes v z old.units (units k.points) old.form (form_of k) (gains old.units (subst (λ b. IsForm b old.units) (sym e) old.form))
+  gained_paired (Err _) old w z k e gains = tt
+
+  pub gained_apart : (r : Result T E) (old : Text) (w z : List ℕ) {v : List ℕ} (k : IsWellFormed v) → w ≡ old.bytes → OnOk r (GainsUnits w z (units k.points)) → OnOk r (¬ (MeetsAsPair old.units (units k.points)) → length z ≡ length old.bytes + length v)
+  gained_apart (Ok _) old w z {v} k e gains =
+      length_apart old.bytes v z old.units (units k.points) old.form (form_of k) (gains old.units (subst (λ b. IsForm b old.units) (sym e) old.form))
+  gained_apart (Err _) old w z k e gains = tt
