@@ -3,6 +3,7 @@ use Rattle.std.specs.Prelude.{◌≡◌, ℕ, ◌-◌, List, [], ◌∷◌, ◌+
 use Rattle.wtf8.specs.Unicode.{IsUnit, IsCodePoint, units, pair}
 use Rattle.wtf8.specs.Form.{IsClean, Reads, encoding, bytes, IsWellFormed, IsForm}
 use Rattle.wtf8.specs.Concatenation.{MeetsAsPair, glue}
+use Rattle.wtf8.specs.Order.{Before}
 use Rattle.wtf8.specs.Position.{IsFront, IsBack}
 
 -- Exactly one list has a fact.
@@ -38,6 +39,14 @@ NoEncodingBeginsAnother = (p q : ℕ) (r : List ℕ) → IsCodePoint p → IsCod
 -- Bytes begin with the encoding of one code point at most.
 abbrev pub BytesBeginWithOnePoint : Type 0
 BytesBeginWithOnePoint = (p q : ℕ) (r s : List ℕ) → IsCodePoint p → IsCodePoint q → encoding p ++ r ≡ encoding q ++ s → (p ≡ q) × (r ≡ s)
+
+-- Lists of code points, clean or not, have equal bytes exactly where they are equal.
+abbrev pub EqualBytesAreOfEqualPoints : Type 0
+EqualBytesAreOfEqualPoints = (c d : List ℕ) → (bytes c ≡ bytes d) ↔ (c ≡ d)
+
+-- Bytes stand before one another exactly as their code points do, in clean lists or not.
+abbrev pub ByteOrderIsPointOrder : Type 0
+ByteOrderIsPointOrder = (c d : List ℕ) → Before (bytes c) (bytes d) ↔ Before c d
 
 -- Lists that meet as a pair are glued as the first without its last number, the code point of the pair, and the second without its first.
 abbrev pub GlueMakesPair : Type 0

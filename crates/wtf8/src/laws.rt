@@ -7,6 +7,8 @@ ghost use Rattle.wtf8.specs.Laws.{
   EqualFormsHaveEqualUnits,
   NoEncodingBeginsAnother,
   BytesBeginWithOnePoint,
+  EqualBytesAreOfEqualPoints,
+  ByteOrderIsPointOrder,
   GlueMakesPair,
   GlueKeepsOthers,
   GlueReadsBoth,
@@ -39,6 +41,14 @@ pub fn law_prefix_free()
     ensures begins { NoEncodingBeginsAnother }
     ensures reads { BytesBeginWithOnePoint }
 {}
+
+/// The order of bytes is the order of code points: of any two lists of code points the bytes are equal exactly where the
+/// lists are, and one stands before the other exactly where its list does.
+pub fn law_byte_order()
+    ensures same { EqualBytesAreOfEqualPoints }
+    ensures before { ByteOrderIsPointOrder }
+{
+}
 
 /// The form of two lists of units, one behind the other, by the two forms: where a lead surrogate ends the first list
 /// and a trail surrogate begins the second, their six bytes become the four of the code point that they stand for;
