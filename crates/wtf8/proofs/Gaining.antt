@@ -15,7 +15,7 @@ use Rattle.wtf8.proofs.Readings.{same_points}
 pub form_of : {w : List ℕ} (h : IsWellFormed w) → IsForm w (units h.points)
 form_of h = record { points = h.points; reads = record { clean = h.clean; same_units = refl }; encoded = h.encoded }
 
-pub well_formed_of : {w u : List ℕ} → IsForm w u → IsWellFormed w
+abbrev pub well_formed_of : {w u : List ℕ} → IsForm w u → IsWellFormed w
 well_formed_of f = record { points = f.points; clean = f.reads.clean; encoded = f.encoded }
 
 module _ {T E : Type 0} where

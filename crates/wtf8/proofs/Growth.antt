@@ -16,11 +16,11 @@ pub data Joining (c : List ℕ) (p : ℕ) : Type 0 where
   apart : ((f : List ℕ) (l : ℕ) → IsLead l → IsTrail p → c ≡ f ++ l ∷ [] → ⊥) → Joining c p
 
 -- a list is empty or has a last
-data Last (c : List ℕ) : Type 0 where
+pub data Last (c : List ℕ) : Type 0 where
   empty : c ≡ [] → Last c
   ends : (f : List ℕ) (l : ℕ) → c ≡ f ++ l ∷ [] → Last c
 
-last_of : (c : List ℕ) → Last c
+pub last_of : (c : List ℕ) → Last c
 last_of [] = empty refl
 last_of (p ∷ c) = elim (last_of c) [
   | empty e ↦ ends [] p (ap (λ d. p ∷ d) e)

@@ -4,8 +4,10 @@ pub mod DebugLemmas
 pub mod Decoded
 pub mod EncodingLemmas
 pub mod Gaining
+pub mod Gluing
 pub mod Growth
 pub mod Joining
+pub mod LawLemmas
 pub mod OneReading
 pub mod Positions
 pub mod Readings

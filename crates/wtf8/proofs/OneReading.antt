@@ -9,10 +9,10 @@ use Rattle.wtf8.proofs.UnitLemmas.{units_one, units_two}
 same_heads : (p q : ℕ) (r s : List ℕ) → p ∷ r ≡ q ∷ s → (p ≡ q) × (r ≡ s)
 same_heads p q r s e = (ap (λ w. get_or w 0 0) e, ap (drop 1) e)
 
-abbrev lead_of : ℕ → ℕ
+abbrev pub lead_of : ℕ → ℕ
 lead_of p = 0xD800 + (p - 0x10000) / 0x400
 
-abbrev trail_of : ℕ → ℕ
+abbrev pub trail_of : ℕ → ℕ
 trail_of p = 0xDC00 + (p - 0x10000) % 0x400
 
 units-cons_one : (p : ℕ) (c : List ℕ) → p < 0x10000 → units (p ∷ c) ≡ p ∷ units c
@@ -29,7 +29,7 @@ units_nonempty p c =
     ]
 
 -- where a trail is the first unit it is the first code point
-trail_first : (p : ℕ) (c : List ℕ) (t : ℕ) (r : List ℕ) → IsClean (p ∷ c) → units (p ∷ c) ≡ t ∷ r → IsTrail t → p ≡ t
+pub trail_first : (p : ℕ) (c : List ℕ) (t : ℕ) (r : List ℕ) → IsClean (p ∷ c) → units (p ∷ c) ≡ t ∷ r → IsTrail t → p ≡ t
 trail_first p c t r x e h =
     elim (cases_lt p 0x10000) [
       | inl l ↦ (same_heads p t (units c) r (sym (units-cons_one p c l) ∙ e)).0

@@ -3,6 +3,7 @@ ghost use Rattle.std.specs.Prelude.{◌≡◌, ℕ, List, [], ◌++◌, ◌+◌,
 ghost use Rattle.std.specs.Str.{chars};
 ghost use Rattle.std.specs.String.{string_bytes};
 ghost use Rattle.wtf8.specs.CodePoint.{number};
+ghost use Rattle.wtf8.specs.Concatenation.{MeetsAsPair};
 ghost use Rattle.wtf8.specs.Form.{IsWellFormed, IsForm, bytes};
 ghost use Rattle.wtf8.specs.OneForm.{IsWellFormed-prop};
 ghost use Rattle.wtf8.specs.Position.{IsBoundary, IsFront};
@@ -193,6 +194,10 @@ impl<A: Allocator> Wtf8Buf<A> {
         ensures ok { OnOk result (self.new.units ≡ self.old.units ++ units other.entry.well_formed.points) }
         ensures units_kept { OnErr result (self.new.units ≡ self.old.units) }
         ensures bytes_kept { OnErr result (self.new.bytes ≡ self.old.bytes) }
+
+        // The length grows by the other's length, less 2 where a lead meets a trail.
+        ensures joined { OnOk result (MeetsAsPair self.old.units (units other.entry.well_formed.points) → length self.new.bytes + 2 ≡ length self.old.bytes + length other.entry.bytes.now) }
+        ensures plain { OnOk result (¬ (MeetsAsPair self.old.units (units other.entry.well_formed.points)) → length self.new.bytes ≡ length self.old.bytes + length other.entry.bytes.now) }
 
         // A push whose bytes fit is never refused, and the capacity never shrinks.
         ensures room { (w : List ℕ) → IsForm w (self.old.units ++ units other.entry.well_formed.points) → length w ≤ self.old.capacity → IsOk result }

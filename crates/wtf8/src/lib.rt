@@ -12,6 +12,7 @@ mod decode;
 mod digits;
 mod encoding;
 mod iters;
+pub mod laws;
 mod search;
 mod view;
 

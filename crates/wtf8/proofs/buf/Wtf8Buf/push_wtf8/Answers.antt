@@ -1,6 +1,7 @@
 use Rattle.wtf8.specs.Text.{Text}
 use Rattle.std.proofs.Common.{ap}
 use Rattle.wtf8.proofs.Gaining.{gained_or_kept, gained_units, kept_units}
+use Rattle.wtf8.proofs.Gluing.{gained_paired, gained_apart}
 use Rattle.wtf8.proofs.buf.Wtf8Buf.push_wtf8.Goals as goal
 
 pub invariant_of-self-inside : goal.invariant_of-self-inside
@@ -14,3 +15,11 @@ returns-clause-ok g c =
 pub returns-clause-units_kept : goal.returns-clause-units_kept
 returns-clause-units_kept g c =
     kept_units c.push_view.result c.self.inside.well_formed c.self-1.given.0 (ap (λ (t : Text). t.units) c.self.view_is) c.push_view.ensures.err
+
+pub returns-clause-joined : goal.returns-clause-joined
+returns-clause-joined g c =
+    gained_paired c.push_view.result c.args.self.now c.self.inside.bytes.items c.push_view.new.bytes.items c.args.other.well_formed (ap (λ (t : Text). t.bytes) c.self.view_is) c.push_view.ensures.ok
+
+pub returns-clause-plain : goal.returns-clause-plain
+returns-clause-plain g c =
+    gained_apart c.push_view.result c.args.self.now c.self.inside.bytes.items c.push_view.new.bytes.items c.args.other.well_formed (ap (λ (t : Text). t.bytes) c.self.view_is) c.push_view.ensures.ok

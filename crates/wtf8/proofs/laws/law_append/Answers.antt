@@ -1,0 +1,12 @@
+use Rattle.wtf8.proofs.Gluing.{glue_assoc, glue-nil}
+use Rattle.wtf8.proofs.LawLemmas.{front_and_back}
+use Rattle.wtf8.proofs.laws.law_append.Goals as goal
+
+pub returns-clause-associative : goal.returns-clause-associative
+returns-clause-associative c = glue_assoc
+
+pub returns-clause-empty_back : goal.returns-clause-empty_back
+returns-clause-empty_back c = glue-nil
+
+pub returns-clause-whole : goal.returns-clause-whole
+returns-clause-whole c = front_and_back

@@ -1,0 +1,11 @@
+use Rattle.std.proofs.Common.{ap}
+use Rattle.wtf8.specs.Form.{bytes}
+use Rattle.wtf8.specs.OneForm.{bytes-injective}
+use Rattle.wtf8.proofs.ByteOrder.{before_bytes}
+use Rattle.wtf8.proofs.laws.law_byte_order.Goals as goal
+
+pub returns-clause-same : goal.returns-clause-same
+returns-clause-same c = λ a b. (bytes-injective a b, ap bytes)
+
+pub returns-clause-before : goal.returns-clause-before
+returns-clause-before c = before_bytes

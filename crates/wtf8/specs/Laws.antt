@@ -1,0 +1,89 @@
+-- Laws of the encoding, over the definitions alone.
+use Rattle.std.specs.Prelude.{◌≡◌, ℕ, ◌-◌, List, [], ◌∷◌, ◌++◌, length, take, drop, All, ◌↔◌}
+use Rattle.wtf8.specs.Unicode.{IsUnit, IsCodePoint, units, pair}
+use Rattle.wtf8.specs.Form.{IsClean, Reads, encoding, bytes, IsWellFormed, IsForm}
+use Rattle.wtf8.specs.Concatenation.{MeetsAsPair, glue}
+use Rattle.wtf8.specs.Order.{Before}
+use Rattle.wtf8.specs.Position.{IsFront, IsBack}
+
+-- Exactly one list has a fact.
+pub record ExactlyOne (P : List ℕ → Type 0) : Type 0 where
+  pub one : List ℕ
+  pub has : P one
+  pub no_other : (x : List ℕ) → P x → x ≡ one
+
+-- Each list of units has exactly one reading.
+abbrev pub UnitsHaveOneReading : Type 0
+UnitsHaveOneReading = (u : List ℕ) → All IsUnit u → ExactlyOne (λ c. Reads c u)
+
+-- What has a reading is units.
+abbrev pub ReadingsAreOfUnits : Type 0
+ReadingsAreOfUnits = (c u : List ℕ) → Reads c u → All IsUnit u
+
+-- Each list of units has exactly one form.
+abbrev pub UnitsHaveOneForm : Type 0
+UnitsHaveOneForm = (u : List ℕ) → All IsUnit u → ExactlyOne (λ w. IsForm w u)
+
+-- Well-formed bytes are the form of exactly one list, one of units.
+abbrev pub FormsAreOfOneList : Type 0
+FormsAreOfOneList = (w : List ℕ) → IsWellFormed w → ExactlyOne (λ u. IsForm w u)
+
+-- Forms are equal exactly where their units are.
+abbrev pub EqualFormsHaveEqualUnits : Type 0
+EqualFormsHaveEqualUnits = (w v a b : List ℕ) → IsForm w a → IsForm v b → (w ≡ v) ↔ (a ≡ b)
+
+-- No encoding of a code point begins that of another.
+abbrev pub NoEncodingBeginsAnother : Type 0
+NoEncodingBeginsAnother = (p q : ℕ) (r : List ℕ) → IsCodePoint p → IsCodePoint q → encoding q ≡ encoding p ++ r → p ≡ q
+
+-- Bytes begin with the encoding of one code point at most.
+abbrev pub BytesBeginWithOnePoint : Type 0
+BytesBeginWithOnePoint = (p q : ℕ) (r s : List ℕ) → IsCodePoint p → IsCodePoint q → encoding p ++ r ≡ encoding q ++ s → (p ≡ q) × (r ≡ s)
+
+-- Lists of code points, clean or not, have equal bytes exactly where they are equal.
+abbrev pub EqualBytesAreOfEqualPoints : Type 0
+EqualBytesAreOfEqualPoints = (c d : List ℕ) → (bytes c ≡ bytes d) ↔ (c ≡ d)
+
+-- Bytes stand before one another exactly as their code points do, in clean lists or not.
+abbrev pub ByteOrderIsPointOrder : Type 0
+ByteOrderIsPointOrder = (c d : List ℕ) → Before (bytes c) (bytes d) ↔ Before c d
+
+-- Lists that meet as a pair are glued as the first without its last number, the code point of the pair, and the second without its first.
+abbrev pub GlueMakesPair : Type 0
+GlueMakesPair = (c d : List ℕ) (m : MeetsAsPair c d) → glue c d ≡ m.front ++ pair m.lead m.trail ∷ m.rest
+
+-- Other lists are glued as they are.
+abbrev pub GlueKeepsOthers : Type 0
+GlueKeepsOthers = (c d : List ℕ) → ¬ (MeetsAsPair c d) → glue c d ≡ c ++ d
+
+-- Two readings glued read the units of both.
+abbrev pub GlueReadsBoth : Type 0
+GlueReadsBoth = (c d a b : List ℕ) → Reads c a → Reads d b → Reads (glue c d) (a ++ b)
+
+-- The form of the units of both is the bytes of the two readings glued.
+abbrev pub GlueFormsBoth : Type 0
+GlueFormsBoth = (w v a b : List ℕ) (x : IsForm w a) (y : IsForm v b) → IsForm (bytes (glue x.points y.points)) (a ++ b)
+
+-- Where a lead meets a trail, the form of both is the first form without its last three bytes, the four bytes of the pair, and the second form without its first three.
+abbrev pub PairFormsBoth : Type 0
+PairFormsBoth = (w v a b : List ℕ) → IsForm w a → IsForm v b → (m : MeetsAsPair a b) → IsForm ((take (length w - 3) w ++ encoding (pair m.lead m.trail)) ++ drop 3 v) (a ++ b)
+
+-- Elsewhere the form of both is the one form behind the other.
+abbrev pub OthersFormBoth : Type 0
+OthersFormBoth = (w v a b : List ℕ) → IsForm w a → IsForm v b → ¬ (MeetsAsPair a b) → IsForm (w ++ v) (a ++ b)
+
+-- It doesn't matter which of three readings are glued first.
+abbrev pub GlueIsAssociative : Type 0
+GlueIsAssociative = (c d e : List ℕ) → IsClean c → IsClean d → IsClean e → glue (glue c d) e ≡ glue c (glue d e)
+
+-- The empty list glued in front changes nothing.
+abbrev pub EmptyFrontIsNeutral : Type 0
+EmptyFrontIsNeutral = (c : List ℕ) → glue [] c ≡ c
+
+-- The empty list glued behind changes nothing.
+abbrev pub EmptyBackIsNeutral : Type 0
+EmptyBackIsNeutral = (c : List ℕ) → glue c [] ≡ c
+
+-- The units before a code point boundary and those from it on are the whole.
+abbrev pub FrontAndBackAreWhole : Type 0
+FrontAndBackAreWhole = (u a b : List ℕ) (k : ℕ) → IsFront u k a → IsBack u k b → a ++ b ≡ u

@@ -1,0 +1,72 @@
+// Laws of the encoding: nothing runs here, the contracts are theorems about the definitions.
+ghost use Rattle.wtf8.specs.Laws.{
+  UnitsHaveOneReading,
+  ReadingsAreOfUnits,
+  UnitsHaveOneForm,
+  FormsAreOfOneList,
+  EqualFormsHaveEqualUnits,
+  NoEncodingBeginsAnother,
+  BytesBeginWithOnePoint,
+  EqualBytesAreOfEqualPoints,
+  ByteOrderIsPointOrder,
+  GlueMakesPair,
+  GlueKeepsOthers,
+  GlueReadsBoth,
+  GlueFormsBoth,
+  PairFormsBoth,
+  OthersFormBoth,
+  GlueIsAssociative,
+  EmptyFrontIsNeutral,
+  EmptyBackIsNeutral,
+  FrontAndBackAreWhole,
+};
+
+/// Each list of 16-bit units has exactly one reading as code points of which no two would join, and only such lists
+/// have one.
+pub fn law_one_reading()
+    ensures one { UnitsHaveOneReading }
+    ensures of_units { ReadingsAreOfUnits }
+{}
+
+/// Each list of 16-bit units has exactly one well-formed form in bytes, and well-formed bytes are the form of exactly
+/// one list. So two strings have equal bytes exactly where they have equal units.
+pub fn law_one_form()
+    ensures one { UnitsHaveOneForm }
+    ensures back { FormsAreOfOneList }
+    ensures equal { EqualFormsHaveEqualUnits }
+{}
+
+/// No encoding of a code point begins the encoding of another, so bytes can be read from the front in one way only.
+pub fn law_prefix_free()
+    ensures begins { NoEncodingBeginsAnother }
+    ensures reads { BytesBeginWithOnePoint }
+{}
+
+/// The order of bytes is the order of code points: of any two lists of code points the bytes are equal exactly where the
+/// lists are, and one stands before the other exactly where its list does.
+pub fn law_byte_order()
+    ensures same { EqualBytesAreOfEqualPoints }
+    ensures before { ByteOrderIsPointOrder }
+{
+}
+
+/// The form of two lists of units, one behind the other, by the two forms: where a lead surrogate ends the first list
+/// and a trail surrogate begins the second, their six bytes become the four of the code point that they stand for;
+/// else the one form stands behind the other. This holds wherever a list was cut in two, also inside a pair.
+pub fn law_concat()
+    ensures pair { GlueMakesPair }
+    ensures others { GlueKeepsOthers }
+    ensures reads { GlueReadsBoth }
+    ensures form { GlueFormsBoth }
+    ensures pair_bytes { PairFormsBoth }
+    ensures other_bytes { OthersFormBoth }
+{}
+
+/// Appending is associative, the empty string changes nothing at either end, and what is cut at a code point boundary
+/// and appended again is the whole.
+pub fn law_append()
+    ensures associative { GlueIsAssociative }
+    ensures empty_front { EmptyFrontIsNeutral }
+    ensures empty_back { EmptyBackIsNeutral }
+    ensures whole { FrontAndBackAreWhole }
+{}
