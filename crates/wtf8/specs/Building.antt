@@ -76,3 +76,7 @@ pub record RunsOnce (u : List ℕ) (calls : List Build) : Type 0 where
   pub count : ℕ
   pub goes : Run u calls outcome count
   pub no_other : (v : List ℕ) (n : ℕ) → Run u calls v n → (v ≡ outcome) × (n ≡ count)
+
+-- Each list of calls leads from each list of units to exactly one outcome.
+abbrev pub CallsRunOnce : Type 0
+CallsRunOnce = (u : List ℕ) (calls : List Build) → RunsOnce u calls

@@ -20,6 +20,7 @@ ghost use Rattle.wtf8.specs.Laws.{
   EmptyBackIsNeutral,
   FrontAndBackAreWhole,
 };
+ghost use Rattle.wtf8.specs.Building.{CallsRunOnce};
 
 /// Each list of 16-bit units has exactly one reading as code points of which no two would join, and only such lists
 /// have one.
@@ -70,3 +71,10 @@ pub fn law_append()
     ensures empty_back { EmptyBackIsNeutral }
     ensures whole { FrontAndBackAreWhole }
 {}
+
+/// For each list of units and each list of building calls there is exactly one outcome and exactly one count of refused
+/// truncations.
+pub fn law_one_run()
+    ensures { CallsRunOnce }
+{
+}

@@ -1,0 +1,5 @@
+use Rattle.wtf8.proofs.RunLaws.{run_once}
+use Rattle.wtf8.proofs.laws.law_one_run.Goals as goal
+
+pub returns : goal.returns
+returns c = run_once
