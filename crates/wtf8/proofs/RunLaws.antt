@@ -29,39 +29,48 @@ same_front u k v w x y =
 small_or_not : (u : List ℕ) → AreSmall u ⊎ (AreSmall u → ⊥)
 small_or_not [] = inl tt
 small_or_not (x ∷ u) = elim (cases_lt x 0x10000) [
-    inl h ↦ elim (small_or_not u) [
-      inl s ↦ inl (h, s)
-    | inr n ↦ inr (λ s. n s.1) ]
-  | inr h ↦ inr (λ s. omega (arith, s.0)) ]
+  | inl h ↦ elim (small_or_not u) [
+    | inl s ↦ inl (h, s)
+    | inr n ↦ inr (λ s. n s.1)
+  ]
+  | inr h ↦ inr (λ s. omega (arith, s.0))
+]
 
 begins_or_not : (b : ℕ) → Begins b ⊎ (Begins b → ⊥)
 begins_or_not b = elim (cases_lt b 0x80) [
-    inl h ↦ inl (record { start = inl h })
+  | inl h ↦ inl (record { start = inl h })
   | inr h ↦ elim (cases_lt b 0xC0) [
-      inl k ↦ inr (λ s. elim s.start [ inl x ↦ omega arith | inr x ↦ omega arith ])
-    | inr k ↦ inl (record { start = inr k }) ] ]
+    | inl k ↦ inr (λ s. elim s.start [ inl x ↦ omega arith | inr x ↦ omega arith ])
+    | inr k ↦ inl (record { start = inr k })
+  ]
+]
 
 -- a position is a boundary of the form or not
 cut_or_not : {w : List ℕ} (h : IsWellFormed w) (k : ℕ) → IsBoundary (units h.points) k ⊎ (IsBoundary (units h.points) k → ⊥)
 cut_or_not {w} h k = elim (cases_lt k (length w)) [
-    inl l ↦ elim (begins_or_not (get_or w k 0)) [
-      inl s ↦ inl (boundary_from_byte h k (omega arith) (λ _. s))
-    | inr n ↦ inr (λ b. n (byte_from_boundary h k b l)) ]
+  | inl l ↦ elim (begins_or_not (get_or w k 0)) [
+    | inl s ↦ inl (boundary_from_byte h k (omega arith) (λ _. s))
+    | inr n ↦ inr (λ b. n (byte_from_boundary h k b l))
+  ]
   | inr l ↦ elim (cases_lt (length w) k) [
-      inl m ↦ inr (λ b. omega (arith, (cut_at h k b).within))
-    | inr m ↦ inl (boundary_from_byte h k m (λ x. absurd (omega arith))) ] ]
+    | inl m ↦ inr (λ b. omega (arith, (cut_at h k b).within))
+    | inr m ↦ inl (boundary_from_byte h k m (λ x. absurd (omega arith)))
+  ]
+]
 
 boundary_of_form : {w u : List ℕ} (f : IsForm w u) (k : ℕ) → IsBoundary u k ⊎ (IsBoundary u k → ⊥)
 boundary_of_form f k =
     elim (cut_or_not (record { points = f.points; clean = f.reads.clean; encoded = f.encoded }) k) [
-      inl b ↦ inl (subst (λ v. IsBoundary v k) f.reads.same_units b)
-    | inr n ↦ inr (λ b. n (subst (λ v. IsBoundary v k) (sym f.reads.same_units) b)) ]
+      | inl b ↦ inl (subst (λ v. IsBoundary v k) f.reads.same_units b)
+      | inr n ↦ inr (λ b. n (subst (λ v. IsBoundary v k) (sym f.reads.same_units) b))
+    ]
 
 boundary_or_not : (u : List ℕ) (k : ℕ) → IsBoundary u k ⊎ (IsBoundary u k → ⊥)
 boundary_or_not u k = elim (small_or_not u) [
-    inl s ↦
+  | inl s ↦
       boundary_of_form (pushed_units u [] [] (record { points = []; reads = record { clean = tt; same_units = refl }; encoded = refl }) s).form k
-  | inr n ↦ inr (λ b. n (subst AreSmall b.splits.reads.same_units (small_units (b.front ++ b.back) b.splits.reads.clean))) ]
+  | inr n ↦ inr (λ b. n (subst AreSmall b.splits.reads.same_units (small_units (b.front ++ b.back) b.splits.reads.clean)))
+]
 
 -- one outcome of one call
 record StepsOnce (u : List ℕ) (call : Build) : Type 0 where
@@ -78,11 +87,12 @@ step_once u (PushWtf8 t) = record { outcome = u ++ units t.well_formed.points; c
 step_once u (Extend d) = record { outcome = u ++ units (numbers d.now); count = 0; goes = (refl, refl); no_other = λ v r s. s }
 step_once u (Reserve n) = record { outcome = u; count = 0; goes = (refl, refl); no_other = λ v r s. s }
 step_once u (Truncate k) = elim (boundary_or_not u k) [
-    inl b ↦
+  | inl b ↦
       let front : IsFront u k (units b.front) = record { front = b.front; back = b.back; splits = b.splits; same_units = refl } in
       record { outcome = units b.front; count = 0; goes = inl (front, refl); no_other = λ v r s. elim s [ inl x ↦ (same_front u k v (units b.front) x.0 front, x.1) | inr n ↦ absurd (n.0 b) ] }
   | inr n ↦
-      record { outcome = u; count = 1; goes = inr (n, refl, refl); no_other = λ v r s. elim s [ inl x ↦ absurd (n (record { front = x.0.front; back = x.0.back; splits = x.0.splits })) | inr m ↦ (m.1, m.2) ] } ]
+      record { outcome = u; count = 1; goes = inr (n, refl, refl); no_other = λ v r s. elim s [ inl x ↦ absurd (n (record { front = x.0.front; back = x.0.back; splits = x.0.splits })) | inr m ↦ (m.1, m.2) ] }
+]
 
 pub run_once : (u : List ℕ) (calls : List Build) → RunsOnce u calls
 run_once u [] = record { outcome = u; count = 0; goes = (refl, refl); no_other = λ v n r. r }
@@ -94,7 +104,7 @@ run_once u (call ∷ calls) =
       count = first.count + rest.count;
       goes = (first.outcome, first.count, rest.count, first.goes, rest.goes, refl);
       no_other = λ v n r.
-        let same = first.no_other r.0 r.1 r.3 in
-        let ends = rest.no_other v r.2 (subst (λ m. Run m calls v r.2) same.0 r.4) in
-        (ends.0, omega (arith, r.5, same.1, ends.1));
+          let same = first.no_other r.0 r.1 r.3 in
+          let ends = rest.no_other v r.2 (subst (λ m. Run m calls v r.2) same.0 r.4) in
+          (ends.0, omega (arith, r.5, same.1, ends.1));
     }

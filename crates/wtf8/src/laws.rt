@@ -48,8 +48,7 @@ pub fn law_prefix_free()
 pub fn law_byte_order()
     ensures same { EqualBytesAreOfEqualPoints }
     ensures before { ByteOrderIsPointOrder }
-{
-}
+{}
 
 /// The form of two lists of units, one behind the other, by the two forms: where a lead surrogate ends the first list
 /// and a trail surrogate begins the second, their six bytes become the four of the code point that they stand for;
@@ -76,5 +75,4 @@ pub fn law_append()
 /// truncations.
 pub fn law_one_run()
     ensures { CallsRunOnce }
-{
-}
+{}
