@@ -1,13 +1,13 @@
 -- Two readings, or two forms, glued: they are of the units of both.
-use Rattle.std.proofs.Common.{◌≡◌, ℕ, ◌+◌, ◌-◌, ◌/◌, ◌%◌, ◌≤◌, ◌<◌, ◌⊎◌, inl, inr, List, [], ◌∷◌, ◌++◌, length, take, drop, Bool, Result, Ok, Err, OnOk, true, false, ◌&&◌, cond, leb, refl, sym, ap, ◌∙◌, subst, arith, append_assoc, length-append}
+use Rattle.std.proofs.Common.{◌≡◌, ℕ, ◌+◌, ◌-◌, ◌⊎◌, inl, inr, List, [], ◌∷◌, ◌++◌, length, take, drop, Result, Ok, Err, OnOk, true, ◌&&◌, leb, refl, sym, ap, ◌∙◌, subst, arith, append_assoc, length-append}
 use Rattle.std.proofs.lemmas.Bool.{leb-true, le-leb, and_parts, and_from, cases_Bool, cases_lt, false≢true}
 use Rattle.std.proofs.lemmas.List.{append-nil}
-use Rattle.wtf8.specs.Unicode.{IsLead, IsTrail, IsCodePoint, units, units_of, pair}
+use Rattle.wtf8.specs.Unicode.{IsLead, IsTrail, units, units_of, pair}
 use Rattle.wtf8.specs.Form.{IsClean, Reads, bytes, encoding, IsForm, IsWellFormed, GainsUnits}
 use Rattle.wtf8.specs.Text.{Text}
 use Rattle.wtf8.specs.Concatenation.{MeetsAsPair, is_pair, glue}
 use Rattle.wtf8.proofs.UnitLemmas.{units_one, units_two, units_pair, units-append, units-pushed}
-use Rattle.wtf8.proofs.Joining.{NoPair, clean-append, clean-front, clean-rest, clean-first, clean-back, last_same, bytes-append, bytes-pushed}
+use Rattle.wtf8.proofs.Joining.{NoPair, clean-append, clean-front, clean-rest, last_same, bytes-append}
 use Rattle.wtf8.proofs.OneReading.{same_reading, same_form, lead_of, trail_of, trail_first}
 use Rattle.wtf8.proofs.Growth.{last_of, empty, ends}
 use Rattle.wtf8.proofs.Gaining.{form_of, well_formed_of, lead_bytes, behind_trail, length-joined_bytes}

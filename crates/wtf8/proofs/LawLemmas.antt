@@ -1,15 +1,14 @@
 -- Proofs of the laws.
-use Rattle.std.proofs.Common.{◌≡◌, ℕ, ◌≤◌, ◌⊎◌, inl, inr, List, [], ◌∷◌, ◌++◌, refl, sym, ap, ◌∙◌, arith, length, ◌↔◌, subst}
+use Rattle.std.proofs.Common.{◌≡◌, ℕ, inl, inr, List, [], ◌∷◌, ◌++◌, refl, sym, ap, ◌∙◌, arith, length, subst}
 use Rattle.std.specs.List.{All}
 use Rattle.std.proofs.lemmas.Bool.{cases_lt}
 use Rattle.std.proofs.lemmas.List.{append-nil}
 use Rattle.std.proofs.lemmas.List.Elements.{All-nil, All-cons, All-head, All-tail, All-append, All-same}
 use Rattle.wtf8.specs.Unicode.{IsUnit, IsCodePoint, units, units_of}
-use Rattle.wtf8.specs.Form.{IsClean, Reads, encoding, bytes, IsWellFormed, IsForm}
+use Rattle.wtf8.specs.Form.{IsClean, Reads, encoding, bytes, IsForm}
 use Rattle.wtf8.specs.Concatenation.{glue}
-use Rattle.wtf8.specs.Laws.{ExactlyOne, UnitsHaveOneReading, ReadingsAreOfUnits, UnitsHaveOneForm, FormsAreOfOneList, EqualFormsHaveEqualUnits, NoEncodingBeginsAnother, FrontAndBackAreWhole}
+use Rattle.wtf8.specs.Laws.{UnitsHaveOneReading, ReadingsAreOfUnits, UnitsHaveOneForm, FormsAreOfOneList, EqualFormsHaveEqualUnits, NoEncodingBeginsAnother, FrontAndBackAreWhole}
 use Rattle.wtf8.specs.OneForm.{bytes-injective}
-use Rattle.wtf8.specs.Position.{IsFront, IsBack}
 use Rattle.wtf8.proofs.EncodingLemmas.{encoding_same}
 use Rattle.wtf8.proofs.UnitLemmas.{units_one, units_two, units-append}
 use Rattle.wtf8.proofs.Joining.{clean-first, clean-rest, same_parts, bytes-append}

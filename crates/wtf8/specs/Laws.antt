@@ -1,6 +1,6 @@
 -- Laws of the encoding, over the definitions alone.
 use Rattle.std.specs.Prelude.{◌≡◌, ℕ, ◌-◌, List, [], ◌∷◌, ◌++◌, length, take, drop, All, ◌↔◌}
-use Rattle.wtf8.specs.Unicode.{IsUnit, IsCodePoint, units, pair}
+use Rattle.wtf8.specs.Unicode.{IsUnit, IsCodePoint, pair}
 use Rattle.wtf8.specs.Form.{IsClean, Reads, encoding, bytes, IsWellFormed, IsForm}
 use Rattle.wtf8.specs.Concatenation.{MeetsAsPair, glue}
 use Rattle.wtf8.specs.Order.{Before}
@@ -16,7 +16,7 @@ pub record ExactlyOne (P : List ℕ → Type 0) : Type 0 where
 abbrev pub UnitsHaveOneReading : Type 0
 UnitsHaveOneReading = (u : List ℕ) → All IsUnit u → ExactlyOne (λ c. Reads c u)
 
--- What has a reading is units.
+-- Whatever list has a reading, its numbers are units.
 abbrev pub ReadingsAreOfUnits : Type 0
 ReadingsAreOfUnits = (c u : List ℕ) → Reads c u → All IsUnit u
 
@@ -24,7 +24,7 @@ ReadingsAreOfUnits = (c u : List ℕ) → Reads c u → All IsUnit u
 abbrev pub UnitsHaveOneForm : Type 0
 UnitsHaveOneForm = (u : List ℕ) → All IsUnit u → ExactlyOne (λ w. IsForm w u)
 
--- Well-formed bytes are the form of exactly one list, one of units.
+-- Well-formed bytes are the form of exactly one list.
 abbrev pub FormsAreOfOneList : Type 0
 FormsAreOfOneList = (w : List ℕ) → IsWellFormed w → ExactlyOne (λ u. IsForm w u)
 
