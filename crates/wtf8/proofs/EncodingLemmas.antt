@@ -1,14 +1,11 @@
 -- The encoding of one code point: its bytes in each row of the table, its length, and which bytes begin one.
-use Rattle.std.proofs.Common.{◌≡◌, ℕ, zero, suc, ◌+◌, ◌-◌, ◌*◌, ◌/◌, ◌%◌, ◌<◌, ◌≤◌, ◌⊎◌, inl, inr, List, [], ◌∷◌, ◌++◌, length, get_or, cond, true, false, ltb, refl, sym, ap, ◌∙◌, arith, subst}
+use Rattle.std.proofs.Common.{◌≡◌, ℕ, zero, suc, ◌+◌, ◌-◌, ◌*◌, ◌/◌, ◌%◌, ◌<◌, ◌≤◌, ◌⊎◌, inl, inr, List, [], ◌∷◌, ◌++◌, length, get_or, refl, sym, ap, ◌∙◌, arith, subst}
 use Rattle.std.proofs.lemmas.Bool.{lt-ltb, le-ltb, cases_lt}
 use Rattle.std.proofs.lemmas.Str.{encode_same}
 use Rattle.std.proofs.Math.Nat.{div-div-eq-div-mul}
 use Rattle.wtf8.specs.Unicode.{IsCodePoint}
-use Rattle.wtf8.specs.Form.{encoding, bytes, BeginsWithPoint}
+use Rattle.wtf8.specs.Form.{encoding, BeginsWithPoint}
 use Rattle.wtf8.specs.OneForm.{encoding_is_encode}
-
-abbrev first_row : ℕ → List ℕ
-first_row p = p ∷ []
 
 abbrev second_row : ℕ → List ℕ
 second_row p = (0xC0 + p / 64) ∷ (0x80 + p % 64) ∷ []

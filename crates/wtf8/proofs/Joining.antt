@@ -1,11 +1,10 @@
 -- Lists of code points cut and joined: where bytes may be cut, and a lead and a trail that meet.
-use Rattle.std.proofs.Common.{◌≡◌, ℕ, zero, suc, ◌+◌, ◌-◌, ◌*◌, ◌/◌, ◌%◌, ◌<◌, ◌≤◌, ◌⊎◌, inl, inr, List, [], ◌∷◌, ◌++◌, length, get_or, take, drop, refl, sym, ap, ◌∙◌, arith, subst, append_assoc, length-append}
-use Rattle.std.proofs.lemmas.Bool.{lt-ltb, le-ltb, cases_lt}
+use Rattle.std.proofs.Common.{◌≡◌, ℕ, zero, suc, ◌+◌, ◌-◌, ◌/◌, ◌%◌, ◌<◌, ◌≤◌, inl, inr, List, [], ◌∷◌, ◌++◌, length, get_or, take, drop, refl, sym, ap, ◌∙◌, arith, subst, length-append}
+use Rattle.std.proofs.lemmas.Bool.{cases_lt}
 use Rattle.std.proofs.lemmas.List.{take_at, drop_at, append-nil, get_or-append_right, get_or-append-add}
 use Rattle.std.proofs.lemmas.List.Concat.{flat_map-append}
 use Rattle.wtf8.specs.Unicode.{IsCodePoint, IsLead, IsTrail, units_of, units, pair}
-use Rattle.wtf8.specs.Form.{encoding, bytes, IsClean, Reads, IsForm, IsWellFormed}
-use Rattle.wtf8.specs.OneForm.{bytes-injective}
+use Rattle.wtf8.specs.Form.{encoding, bytes, IsClean, IsForm, IsWellFormed}
 use Rattle.wtf8.proofs.EncodingLemmas.{Begins, first-encoding, inside-encoding, encoding_three, length-encoding_bounds, row_of, one, two, three, four}
 use Rattle.wtf8.proofs.UnitLemmas.{units-joined, units-pushed}
 
@@ -48,27 +47,8 @@ begins_behind f (p ∷ b) h =
     ap (λ w. get_or w (length (bytes f)) 0) (bytes-append f (p ∷ b)) ∙ (get_or-append_right (bytes f) (encoding p ++ bytes b) (length (bytes f)) (length (bytes f)) 0 refl (omega arith) ∙ ap (λ k. get_or (encoding p ++ bytes b) k 0) (let zero_there : length (bytes f) - length (bytes f) ≡ 0 = omega arith in zero_there)) in
     subst Begins (sym at) (first-encoding p (bytes b))
 
--- a lead's first byte is ED
-pub first-lead : (l : ℕ) (r : List ℕ) → IsLead l → get_or (encoding l ++ r) 0 0 ≡ 0xED
-first-lead l r lead = rw (encoding_three l (omega arith) (omega arith)) (omega arith)
-
 pub length-lead : (l : ℕ) → IsLead l → length (encoding l) ≡ 3
 length-lead l lead = ap length (encoding_three l (omega arith) (omega arith))
-
--- what ends with the encoding of a lead ends with that lead
-pub record EndsWithLead (c f : List ℕ) (l : ℕ) : Type 0 where
-  pub front : List ℕ
-  pub joined : c ≡ front ++ l ∷ []
-  pub encoded : bytes front ≡ f
-
-pub ends_with_lead : (c f : List ℕ) (l : ℕ) → IsLead l → bytes c ≡ f ++ encoding l → EndsWithLead c f l
-ends_with_lead c f l lead e =
-    let len : length (bytes c) ≡ length f + 3 = ap length e ∙ (length-append f (encoding l) ∙ ap (λ n. length f + n) (length-lead l lead)) in
-    let at : get_or (bytes c) (length f) 0 ≡ get_or (encoding l ++ []) 0 0 =
-    ap (λ w. get_or w (length f) 0) e ∙ (get_or-append_right f (encoding l) (length f) (length f) 0 refl (omega arith) ∙ (ap (λ k. get_or (encoding l) k 0) (let zero_there : length f - length f ≡ 0 = omega arith in zero_there) ∙ ap (λ w. get_or w 0 0) (sym (append-nil (encoding l))))) in
-    let cut = split_at c (length f) (omega arith) (λ _. record { start = inr (omega (arith, at, first-lead l [] lead)) }) in
-    let parts = same_parts (bytes cut.front) f (bytes cut.back) (encoding l) cut.front_len (sym (bytes-append cut.front cut.back) ∙ (ap bytes (sym cut.joined) ∙ e)) in
-    record { front = cut.front; joined = cut.joined ∙ ap (λ b. cut.front ++ b) (bytes-injective cut.back (l ∷ []) (parts.1 ∙ sym (append-nil (encoding l)))); encoded = parts.0 }
 
 -- in no cut of the two lists does a lead end the first and a trail begin the second
 pub record NoPair (c d : List ℕ) : Type 0 where

@@ -1,12 +1,12 @@
 -- Each list of units has one reading at most, and one form at most.
-use Rattle.std.proofs.Common.{◌≡◌, ℕ, ◌+◌, ◌-◌, ◌/◌, ◌%◌, ◌<◌, ◌≤◌, ◌⊎◌, inl, inr, List, [], ◌∷◌, ◌++◌, length, get_or, drop, refl, sym, ap, ◌∙◌, arith, subst, length-append}
+use Rattle.std.proofs.Common.{◌≡◌, ℕ, ◌+◌, ◌-◌, ◌/◌, ◌%◌, ◌<◌, ◌≤◌, inl, inr, List, [], ◌∷◌, ◌++◌, length, get_or, drop, refl, sym, ap, ◌∙◌, arith}
 use Rattle.std.proofs.lemmas.Bool.{cases_lt}
-use Rattle.wtf8.specs.Unicode.{IsTrail, units_of, units}
-use Rattle.wtf8.specs.Form.{IsClean, Reads, bytes, IsForm}
+use Rattle.wtf8.specs.Unicode.{IsTrail, units}
+use Rattle.wtf8.specs.Form.{IsClean, bytes, IsForm}
 use Rattle.wtf8.proofs.Joining.{clean-first, clean-rest}
 use Rattle.wtf8.proofs.UnitLemmas.{units_one, units_two}
 
-same_heads : (p q : ℕ) (r s : List ℕ) → p ∷ r ≡ q ∷ s → (p ≡ q) × (r ≡ s)
+pub same_heads : (p q : ℕ) (r s : List ℕ) → p ∷ r ≡ q ∷ s → (p ≡ q) × (r ≡ s)
 same_heads p q r s e = (ap (λ w. get_or w 0 0) e, ap (drop 1) e)
 
 abbrev pub lead_of : ℕ → ℕ

@@ -1,12 +1,12 @@
 -- Where a string may be cut, and what the parts are.
-use Rattle.std.proofs.Common.{◌≡◌, ◌≤◌, ◌<◌, ◌+◌, ℕ, List, [], ◌∷◌, ◌++◌, length, take, drop, get_or, refl, ap, ◌∙◌, sym, subst, arith, append_assoc, length-append}
+use Rattle.std.proofs.Common.{◌≡◌, ◌≤◌, ◌<◌, ℕ, List, [], ◌∷◌, ◌++◌, length, take, drop, get_or, refl, ap, ◌∙◌, sym, subst, arith, append_assoc, length-append}
 use Rattle.std.proofs.lemmas.List.{take_at, drop_at}
 use Rattle.wtf8.specs.Unicode.{units}
 use Rattle.wtf8.specs.Form.{encoding, bytes, IsClean, Reads, IsWellFormed}
 use Rattle.wtf8.specs.Position.{Splits, IsBoundary, IsFront, IsBack, IsMiddle}
 use Rattle.wtf8.proofs.EncodingLemmas.{Begins, length-encoding_bounds}
 use Rattle.wtf8.proofs.Joining.{split_at, begins_behind, bytes-append, clean-front, clean-back}
-use Rattle.wtf8.proofs.OneReading.{same_reading}
+use Rattle.wtf8.proofs.OneReading.{same_heads, same_reading}
 
 -- a boundary's front and back, as code points and as bytes
 pub record Cut (w : List ℕ) (h : IsWellFormed w) (k : ℕ) : Type 0 where
@@ -54,14 +54,11 @@ pub record Begun (f g : List ℕ) : Type 0 where
   pub more : List ℕ
   pub joined : g ≡ f ++ more
 
-cons_same : (p q : ℕ) (r s : List ℕ) → p ∷ r ≡ q ∷ s → (p ≡ q) × (r ≡ s)
-cons_same p q r s e = (ap (λ w. get_or w 0 0) e, ap (drop 1) e)
-
 pub begun : (f b g d : List ℕ) → f ++ b ≡ g ++ d → length (bytes f) ≤ length (bytes g) → Begun f g
 begun [] b g d e n = record { more = g; joined = refl }
 begun (p ∷ f) b [] d e n = absurd (omega (arith, length-encoding_bounds p, length-append (encoding p) (bytes f)))
 begun (p ∷ f) b (q ∷ g) d e n =
-    let h = cons_same p q (f ++ b) (g ++ d) e in
+    let h = same_heads p q (f ++ b) (g ++ d) e in
     let r = begun f b g d h.1 (omega (arith, length-append (encoding p) (bytes f), length-append (encoding q) (bytes g), ap (λ k. length (encoding k)) h.0)) in
     record { more = r.more; joined = ap (λ k. k ∷ g) (sym h.0) ∙ ap (λ v. p ∷ v) r.joined }
 

@@ -4,14 +4,11 @@ use Rattle.wtf8.specs.Form.{bytes, encoding, IsClean, IsWellFormed, BeginsWithPo
 use Rattle.wtf8.proofs.Joining.{clean-first, clean-rest}
 use Rattle.wtf8.specs.OneForm.{bytes-injective}
 use Rattle.std.proofs.lemmas.List.{drop_all, drop_at}
-use Rattle.wtf8.specs.Unicode.{units, IsCodePoint}
+use Rattle.wtf8.specs.Unicode.{IsCodePoint}
 
 -- what is well-formed has one reading
 pub same_points : {w v : List ℕ} (x : IsWellFormed w) (y : IsWellFormed v) → w ≡ v → x.points ≡ y.points
 same_points x y e = bytes-injective x.points y.points (x.encoded ∙ (e ∙ sym y.encoded))
-
-pub units_from_bytes : (c d : List ℕ) → bytes c ≡ bytes d → units c ≡ units d
-units_from_bytes c d e = ap units (bytes-injective c d e)
 
 -- no bytes are the form of no units
 abbrev pub empty_form : IsWellFormed []

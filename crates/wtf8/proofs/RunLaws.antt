@@ -1,5 +1,5 @@
 -- A list of building calls has exactly one outcome and one count of refused truncations.
-use Rattle.std.proofs.Common.{◌≡◌, ◌≤◌, ◌<◌, ◌+◌, ◌⊎◌, inl, inr, ℕ, zero, suc, List, [], ◌∷◌, ◌++◌, length, take, get_or, refl, ap, ◌∙◌, sym, subst, arith}
+use Rattle.std.proofs.Common.{◌≡◌, ◌+◌, ◌⊎◌, inl, inr, ℕ, List, [], ◌∷◌, ◌++◌, length, take, get_or, refl, ap, ◌∙◌, sym, subst, arith}
 use Rattle.std.proofs.lemmas.Bool.{cases_lt}
 use Rattle.std.proofs.lemmas.List.{take_at}
 use Rattle.std.specs.Str.{chars}
@@ -7,8 +7,8 @@ use Rattle.wtf8.specs.Unicode.{units_of, units}
 use Rattle.wtf8.specs.CodePoint.{number, numbers}
 use Rattle.wtf8.specs.Form.{bytes, IsForm, IsWellFormed}
 use Rattle.wtf8.specs.OneForm.{bytes-injective}
-use Rattle.wtf8.specs.Position.{Splits, IsBoundary, IsFront}
-use Rattle.wtf8.specs.Building.{Truncates, Step, Run, RunsOnce}
+use Rattle.wtf8.specs.Position.{IsBoundary, IsFront}
+use Rattle.wtf8.specs.Building.{Step, Run, RunsOnce}
 use Rattle.wtf8.specs.declared.build.Build.{Build}
 use Rattle.wtf8.specs.declared.build.Build.TheVariants.{Push, PushChar, PushStr, PushWtf8, Extend, Reserve, Truncate}
 use Rattle.wtf8.proofs.EncodingLemmas.{Begins}

@@ -1,9 +1,9 @@
 -- Runs of building calls, one call after another, and what pushes and extensions append.
-use Rattle.std.proofs.Common.{◌≡◌, ◌≤◌, ◌<◌, ◌+◌, ◌⊎◌, inl, inr, ℕ, zero, suc, List, [], ◌∷◌, ◌++◌, length, take, drop, get_or, Bool, true, false, cond, Option, Some, None, IfSome, refl, ap, ◌∙◌, sym, subst, arith, append_assoc}
+use Rattle.std.proofs.Common.{◌≡◌, ◌≤◌, ◌<◌, ◌+◌, inl, inr, ℕ, List, [], ◌∷◌, ◌++◌, length, take, drop, get_or, Bool, true, false, cond, Option, Some, IfSome, refl, ap, ◌∙◌, sym, subst, arith, append_assoc}
 use Rattle.std.proofs.lemmas.List.{append-nil, drop_more, take_more, take-append-drop}
 use Rattle.std.proofs.lemmas.Option.{none-some}
 use Rattle.std.proofs.lemmas.Bool.{cases_lt}
-use Rattle.wtf8.specs.Unicode.{IsCodePoint, units_of, units}
+use Rattle.wtf8.specs.Unicode.{units_of, units}
 use Rattle.wtf8.specs.Form.{IsClean, IsForm}
 use Rattle.wtf8.specs.Building.{Step, Run, appended, Append, IsNoTruncation}
 use Rattle.wtf8.specs.declared.build.Build.{Build}

@@ -1,17 +1,17 @@
 -- Surrogates in bytes against surrogates among code points.
-use Rattle.std.proofs.Common.{◌≡◌, ◌≤◌, ◌<◌, ◌+◌, ◌-◌, ◌/◌, ◌%◌, ℕ, List, [], ◌∷◌, ◌++◌, length, take, drop, get_or, map, refl, ap, ◌∙◌, sym, subst, arith, append_assoc, length-append, true, false, inl, inr, ◌&&◌, cond, ltb, leb, lit≤, lit<, Option, Some, None}
+use Rattle.std.proofs.Common.{◌≡◌, ◌≤◌, ◌<◌, ◌+◌, ℕ, List, [], ◌∷◌, ◌++◌, length, take, drop, get_or, refl, ap, ◌∙◌, sym, subst, arith, append_assoc, length-append, true, false, inl, inr, leb, lit≤, lit<, Option, Some, None}
 use Rattle.std.proofs.lemmas.Bool.Decides.{nat_tests}
 use Rattle.std.proofs.lemmas.Bool.{cases_lt, lt-ltb, le-ltb, le-leb}
-use Rattle.std.proofs.lemmas.List.{append-nil, append_cancel_left, map-append, take_at, drop_at, get_or-append_right, get_or-append-add, get_or_append_left}
+use Rattle.std.proofs.lemmas.List.{append-nil, append_cancel_left, map-append, take_at, drop_at, get_or-append-add}
 use Rattle.std.specs.Str.{IsUtf8}
 use lib.Utf8.{scalar, scalars, low_scalar}
 use Rattle.wtf8.specs.Unicode.{IsCodePoint, IsSurrogate}
 use Rattle.wtf8.specs.Form.{encoding, bytes, IsClean, IsWellFormed}
 use Rattle.wtf8.specs.OneForm.{bytes_are_encodes}
 use Rattle.wtf8.specs.Surrogates.{AreScalar, replaced, lossy, SurrogateAt, IsLeastSurrogate, IsFirstSurrogate}
-use Rattle.wtf8.proofs.EncodingLemmas.{Begins, encoding_three, length-encoding_bounds, row_of, one, two, three, four}
+use Rattle.wtf8.proofs.EncodingLemmas.{encoding_three, length-encoding_bounds, row_of, one, two, three, four}
 use Rattle.wtf8.proofs.Positions.{begun}
-use Rattle.wtf8.proofs.Joining.{Split, split_at, bytes-append, clean-first, clean-rest}
+use Rattle.wtf8.proofs.Joining.{split_at, bytes-append, clean-first, clean-rest}
 
 -- the bytes of a surrogate are ED and from A0 on
 pub surrogate_at : (f : List ℕ) (p : ℕ) (b : List ℕ) → IsSurrogate p → SurrogateAt (bytes (f ++ p ∷ b)) (length (bytes f))

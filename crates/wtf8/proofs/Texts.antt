@@ -1,11 +1,11 @@
 -- A text's bytes are well-formed, and its characters are their code points.
-use Rattle.std.proofs.Common.{◌≡◌, ◌<◌, ◌≤◌, ◌⊎◌, inl, inr, List, [], ◌∷◌, ◌++◌, ℕ, Bool, true, false, ◌&&◌, cond, refl, ap, ◌∙◌, sym, arith, subst}
+use Rattle.std.proofs.Common.{◌≡◌, inl, inr, List, [], ◌∷◌, ℕ, Bool, true, false, ◌&&◌, refl, ap, ◌∙◌, sym, arith}
 use Rattle.std.specs.Str.{chars, IsUtf8}
 use Rattle.std.proofs.lemmas.Str.{encodes-chars, scalars-chars}
 use Rattle.std.proofs.lemmas.Bool.{false≢true}
 use lib.Utf8.{scalar, scalars, scalar_cases}
-use Rattle.wtf8.specs.Unicode.{IsCodePoint, IsLead, IsTrail, IsSurrogate}
-use Rattle.wtf8.specs.Form.{IsClean, IsWellFormed, bytes}
+use Rattle.wtf8.specs.Unicode.{IsCodePoint, IsTrail, IsSurrogate}
+use Rattle.wtf8.specs.Form.{IsClean, IsWellFormed}
 use Rattle.wtf8.specs.OneForm.{bytes_are_encodes}
 use Rattle.wtf8.proofs.Readings.{moved}
 

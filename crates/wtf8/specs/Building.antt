@@ -1,5 +1,5 @@
 -- Lists of building calls: what each call does to the units of a string, and what a list of them does.
-use Rattle.std.specs.Prelude.{◌≡◌, ◌≢◌, ℕ, zero, suc, ◌+◌, ◌⊎◌, List, [], ◌∷◌, ◌++◌, take, slice_get, Option, Some, None, ⊤}
+use Rattle.std.specs.Prelude.{◌≡◌, ℕ, ◌+◌, ◌⊎◌, List, [], ◌∷◌, ◌++◌, take, slice_get, Option, Some, None, ⊤}
 use Rattle.std.specs.Str.{chars}
 use Rattle.wtf8.specs.Unicode.{units_of, units}
 use Rattle.wtf8.specs.CodePoint.{number, numbers}

@@ -1,5 +1,5 @@
 -- The bounds that the iterators state on the number of items left.
-use Rattle.std.specs.Prelude.{ℕ, ◌+◌, ◌*◌, ◌/◌, ◌<◌, ◌≤◌, ◌^◌, List, Option, Some, None, IfSome, length, nat_lt, if◌then◌else◌}
+use Rattle.std.specs.Prelude.{ℕ, ◌+◌, ◌*◌, ◌/◌, ◌≤◌, ◌^◌, List, Option, Some, None, IfSome, length, nat_lt, if◌then◌else◌}
 use Rattle.wtf8.specs.Form.{bytes}
 use Rattle.wtf8.specs.Units.{Unread}
 

@@ -1,12 +1,12 @@
 -- That bytes are well-formed, and that they are a form of units, has one proof at most: encodings determine their code points.
-use Rattle.std.specs.Prelude.{◌≡◌, ℕ, List, [], ◌∷◌, ◌++◌, ⊤, refl}
+use Rattle.std.specs.Prelude.{◌≡◌, ℕ, List, [], ◌∷◌, ◌++◌, refl}
 use Rattle.std.specs.Coded.{×_prop, →_prop, Unit-prop, le_prop, Coded-set, coded_list, coded_ℕ}
 use Rattle.std.proofs.Common.{ap, sym, ◌∙◌}
 use Rattle.std.proofs.lemmas.Str.{encodes_same}
 use mathlib.Core.HLevel.{Σ_prop_path, ⊥_prop, ×₃_prop}
 use lib.Utf8.{encode, encodes}
-use Rattle.wtf8.specs.Unicode.{IsCodePoint, IsLead, IsTrail, units}
-use Rattle.wtf8.specs.Form.{IsClean, Reads, encoding, bytes, IsWellFormed, IsForm}
+use Rattle.wtf8.specs.Unicode.{units}
+use Rattle.wtf8.specs.Form.{IsClean, encoding, bytes, IsWellFormed, IsForm}
 
 -- the library's table of UTF-8 is the same at every number
 pub encoding_is_encode : (p : ℕ) → encoding p ≡ encode p

@@ -1,5 +1,4 @@
-use Rattle.std.proofs.Common.{arith, ap, ◌∙◌, length, ◌≡◌, ◌+◌, ◌≤◌, List, ℕ}
-use Rattle.std.specs.Vec.{vec_capacity}
+use Rattle.std.proofs.Common.{arith, ap, ◌∙◌, length, ◌≡◌, ◌+◌}
 use Rattle.wtf8.proofs.Gaining.{no_err, length-joined}
 use Rattle.wtf8.proofs.concat.join_bytes.Goals as goal
 

@@ -1,8 +1,8 @@
-use Rattle.std.proofs.Common.{◌≡◌, ◌+◌, ◌-◌, ◌≤◌, take, length, ℕ, List, ◌++◌, ◌∷◌, [], arith, ap, ◌∙◌, sym, subst, length-append}
+use Rattle.std.proofs.Common.{◌≡◌, ◌-◌, take, length, ℕ, List, ◌++◌, arith, ap, ◌∙◌, sym, subst, length-append}
 use Rattle.std.proofs.lemmas.Result.{on_ok_weaker}
 use Rattle.wtf8.specs.CodePoint.{number}
-use Rattle.wtf8.specs.Unicode.{pair, units_of, IsLead, IsTrail}
-use Rattle.wtf8.specs.Form.{encoding, IsForm, IsWellFormed, GainsUnits}
+use Rattle.wtf8.specs.Unicode.{pair, units_of}
+use Rattle.wtf8.specs.Form.{encoding, IsWellFormed, GainsUnits}
 use Rattle.wtf8.proofs.Readings.{same_points}
 use Rattle.wtf8.proofs.Gaining.{gains-joined, length-joined, gains-pushed, fits_length, lead_bytes}
 use Rattle.wtf8.proofs.concat.push_point.Goals as goal

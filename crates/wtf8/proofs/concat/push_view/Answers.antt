@@ -1,6 +1,6 @@
-use Rattle.std.proofs.Common.{◌≡◌, ◌++◌, ◌∷◌, [], ◌∙◌, List, ℕ, ap, sym, subst, arith, length, length-append}
+use Rattle.std.proofs.Common.{◌∙◌, sym, subst, arith, length-append}
 use Rattle.std.proofs.lemmas.Result.{on_ok_weaker}
-use Rattle.wtf8.specs.Form.{GainsUnits, IsWellFormed}
+use Rattle.wtf8.specs.Form.{GainsUnits}
 use Rattle.wtf8.specs.Unicode.{units}
 use Rattle.wtf8.proofs.Readings.{same_points}
 use Rattle.wtf8.proofs.Gaining.{gains-appended, gains-joined_bytes, length-joined_bytes, fits_length, lead_bytes, behind_trail}

@@ -1,7 +1,6 @@
-use Rattle.std.proofs.Common.{◌≡◌, ◌+◌, ◌∙◌, sym, subst, ℕ, List, Option, Some, None, refl}
-use Rattle.wtf8.specs.Form.{IsWellFormed}
+use Rattle.std.proofs.Common.{◌+◌, sym, subst}
 use Rattle.wtf8.specs.Surrogates.{IsFirstSurrogate, IsLeastSurrogate}
-use Rattle.wtf8.proofs.SurrogateLemmas.{Replacing, replacing_start, replacing_step, replacing_end, none_found}
+use Rattle.wtf8.proofs.SurrogateLemmas.{Replacing, replacing_step, replacing_end, none_found}
 use Rattle.wtf8.proofs.search.replace_surrogates.Goals as goal
 
 pub write_replacement-requires : goal.write_replacement-requires

@@ -1,4 +1,4 @@
-use Rattle.std.proofs.Common.{◌-◌, ◌≤◌, length, List, ℕ}
+use Rattle.std.proofs.Common.{◌-◌, length}
 use Rattle.wtf8.specs.Form.{IsWellFormed}
 use Rattle.wtf8.proofs.SurrogateLemmas.{Replacing}
 use Rattle.wtf8.proofs.search.replace_surrogates.Given as goal

@@ -1,6 +1,6 @@
-use Rattle.std.proofs.Common.{◌≡◌, ◌+◌, ◌++◌, ◌∷◌, ◌≤◌, ◌<◌, ◌∙◌, List, ℕ, length, take, drop, arith, ap, sym, subst, append_assoc}
+use Rattle.std.proofs.Common.{◌≡◌, ◌+◌, ◌++◌, ◌∷◌, ◌<◌, ◌∙◌, length, take, drop, arith, ap, sym, subst, append_assoc}
 use Rattle.std.proofs.lemmas.Bool.{false≢true}
-use Rattle.wtf8.specs.CodePoint.{number, numbers}
+use Rattle.wtf8.specs.CodePoint.{numbers}
 use Rattle.wtf8.specs.Form.{IsForm}
 use Rattle.wtf8.specs.Unicode.{units}
 use Rattle.wtf8.proofs.Growth.{extended_length, next_fits, points_at, units-points}

@@ -1,4 +1,4 @@
-use Rattle.std.proofs.Common.{ap, refl, sym, subst, ℕ, ◌≤◌}
+use Rattle.std.proofs.Common.{ap, refl, sym, subst}
 use Rattle.std.proofs.lemmas.Bool.{false≢true}
 use Rattle.wtf8.specs.Surrogates.{AreScalar, SurrogateAt, IsLeastSurrogate}
 use Rattle.wtf8.specs.Text.{Text}

@@ -1,6 +1,5 @@
-use Rattle.std.proofs.Common.{ap, sym, ◌∙◌, subst, length, List, ℕ}
+use Rattle.std.proofs.Common.{ap, sym, ◌∙◌, subst, length}
 use Rattle.std.specs.Str.{IsUtf8}
-use Rattle.wtf8.specs.Form.{bytes}
 use Rattle.wtf8.proofs.SurrogateLemmas.{utf8_lossy_points, length-lossy}
 use Rattle.wtf8.specs.Text.{Text}
 use Rattle.wtf8.proofs.buf.Wtf8Buf.into_string_lossy.Goals as goal

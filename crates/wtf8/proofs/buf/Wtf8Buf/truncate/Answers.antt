@@ -1,4 +1,4 @@
-use Rattle.std.proofs.Common.{◌≡◌, ◌∙◌, ap, sym, subst}
+use Rattle.std.proofs.Common.{◌∙◌, ap, sym, subst}
 use Rattle.wtf8.specs.Text.{Text}
 use Rattle.wtf8.specs.Unicode.{units}
 use Rattle.wtf8.specs.Position.{IsBoundary, IsFront}

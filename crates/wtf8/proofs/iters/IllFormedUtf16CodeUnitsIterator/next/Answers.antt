@@ -1,8 +1,7 @@
-use Rattle.std.proofs.Common.{arith, ap, ◌∙◌, sym, ◌≡◌, ◌∷◌, [], ◌++◌, List, ℕ, Option, None, rules, refl}
+use Rattle.std.proofs.Common.{ap, ◌∙◌, sym, ◌≡◌, ◌∷◌, ◌++◌, None, rules, refl}
 use Rattle.std.specs.Option.{option_to_list}
-use Rattle.wtf8.specs.CodePoint.{number}
 use Rattle.wtf8.specs.Unicode.{units}
-use Rattle.wtf8.specs.Units.{Unread, unread_units}
+use Rattle.wtf8.specs.Units.{unread_units}
 use Rattle.wtf8.proofs.UnitLemmas.{units_one, units_two}
 use Rattle.wtf8.proofs.iters.IllFormedUtf16CodeUnitsIterator.next.Goals as goal
 

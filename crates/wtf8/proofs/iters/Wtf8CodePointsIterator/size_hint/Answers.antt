@@ -1,5 +1,4 @@
-use Rattle.std.proofs.Common.{arith, ap, length, List, ℕ, ◌≤◌}
-use Rattle.wtf8.specs.Form.{bytes}
+use Rattle.std.proofs.Common.{arith, ap, length}
 use Rattle.wtf8.proofs.UnitLemmas.{points_bounds}
 use Rattle.wtf8.proofs.iters.Wtf8CodePointsIterator.size_hint.Goals as goal
 

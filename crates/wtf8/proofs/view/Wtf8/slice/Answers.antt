@@ -1,5 +1,3 @@
-use Rattle.std.proofs.Common.{◌∙◌, ap, sym}
-use Rattle.wtf8.specs.Unicode.{units}
 use Rattle.wtf8.proofs.Positions.{boundary_within, middle_of}
 use Rattle.wtf8.proofs.view.Wtf8.slice.Goals as goal
 
