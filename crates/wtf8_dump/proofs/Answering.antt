@@ -5,7 +5,7 @@ use Rattle.std.specs.List.{AllZip}
 use Rattle.wtf8_dump.specs.Dump.{IsAnswer, HoldsAnswers}
 
 -- lists that agree place by place still do with one more element each
-AllZip-one_more : (R : List ℕ → List ℕ → Type 0) (xs ys : List (List ℕ)) (x y : List ℕ) → AllZip R xs ys → R x y → AllZip R (xs ++ x ∷ []) (ys ++ y ∷ [])
+pub AllZip-one_more : {A B : Type 0} (R : A → B → Type 0) (xs : List A) (ys : List B) (x : A) (y : B) → AllZip R xs ys → R x y → AllZip R (xs ++ x ∷ []) (ys ++ y ∷ [])
 AllZip-one_more R [] [] x y h here = (here, tt)
 AllZip-one_more R [] (b ∷ ys) x y h here = absurd h
 AllZip-one_more R (a ∷ xs) [] x y h here = absurd h

@@ -1,20 +1,24 @@
 -- The answer to a line and the dump of an input.
-use Rattle.std.specs.Prelude.{◌≡◌, ℕ, List, [], ◌∷◌, ◌++◌, Some, None, Option, map}
-use Rattle.std.specs.List.{Contains, AllZip, flat_map}
-use Rattle.wtf8.specs.Unicode.{units}
+use Rattle.std.specs.Prelude.{◌≡◌, ℕ, zero, suc, List, [], ◌∷◌, ◌++◌}
+use Rattle.std.specs.Fmt.{decimal}
+use Rattle.std.specs.List.{Any, AllZip, flat_map}
+use Rattle.wtf8.specs.Building.{Run}
 use Rattle.wtf8.specs.Form.{IsForm}
 use Rattle.wtf8.specs.Hex.{hex}
+use Rattle.wtf8.specs.declared.build.Build.{Build}
 use Rattle.wtf8_dump.specs.Lines.{lines, words}
-use Rattle.wtf8_dump.specs.Word.{point_of}
+use Rattle.wtf8_dump.specs.Word.{IsCall, IsNoCall}
 
--- What each word of a line stands for.
-abbrev pub readings : List ℕ → List (Option ℕ)
-readings line = map point_of (words line)
+-- What follows the bytes of a string: nothing where no truncation was refused, else an exclamation mark and how many were, behind a space where there are bytes.
+abbrev pub note : List ℕ → ℕ → List ℕ
+note w zero = []
+note [] (suc n) = 33 ∷ decimal (suc n)
+note (byte ∷ w) (suc n) = 32 ∷ 33 ∷ decimal (suc n)
 
--- A line with a word that stands for nothing is answered by a question mark, and any other line by the bytes, in hexadecimal, of the string whose units are those of its code points.
+-- A line with a word that stands for no call is answered by a question mark. Any other line is answered by the bytes, in hexadecimal, of the string that its calls build from the empty one, and by a note of the truncations that were refused.
 pub data IsAnswer (line answer : List ℕ) : Type 0 where
-  refused : Contains (readings line) None → answer ≡ 63 ∷ [] → IsAnswer line answer
-  dumped : (points w : List ℕ) → readings line ≡ map Some points → IsForm w (units points) → answer ≡ hex w → IsAnswer line answer
+  refused : Any IsNoCall (words line) → answer ≡ 63 ∷ [] → IsAnswer line answer
+  dumped : (calls : List Build) (v : List ℕ) (n : ℕ) (w : List ℕ) → AllZip IsCall (words line) calls → Run [] calls v n → IsForm w v → answer ≡ hex w ++ note w n → IsAnswer line answer
 
 -- An output holds answers to some lines where it is these answers in order, each followed by a newline.
 pub record HoldsAnswers (lines : List (List ℕ)) (out : List ℕ) : Type 0 where

@@ -1,53 +1,62 @@
 // The answer to one line.
-ghost use Rattle.std.specs.Prelude.{◌≡◌, IfOk, None, Some, map, MatchOption, Contains};
-ghost use Rattle.wtf8.specs.CodePoint.{numbers};
-ghost use Rattle.wtf8.specs.Unicode.{units};
-ghost use Rattle.wtf8_dump.specs.Dump.{IsAnswer, readings};
+ghost use Rattle.std.specs.Prelude.{◌≡◌, ◌++◌, IfOk, MatchOption};
+ghost use Rattle.std.specs.List.{Any, AllZip};
+ghost use Rattle.std.specs.String.{string_bytes};
+ghost use Rattle.wtf8.specs.Hex.{hex};
+ghost use Rattle.wtf8_dump.specs.Dump.{IsAnswer, note};
+ghost use Rattle.wtf8_dump.specs.Lines.{words};
+ghost use Rattle.wtf8_dump.specs.Word.{IsCall, IsNoCall};
 
 use crate::parts::Words;
 use crate::word;
 use std::alloc::{AllocError, Global};
-use wtf8::{CodePoint, Wtf8Buf};
+use wtf8::{Build, Wtf8, Wtf8Buf};
 
-/// The answer to a line, both without a newline: the bytes of the string of the line's code points in hexadecimal, or
-/// `?` where some word stands for no code point.
+/// The answer to a line, both without a newline: the bytes, in hexadecimal, of the string that the line's calls build
+/// from the empty one, or `?` where some word stands for no call. Where truncations were refused, `!` and how many
+/// follows, behind a space where there are bytes.
 ///
-/// A word is four hexadecimal digits of either case. A newline inside the line stands in no word, so it is answered `?`.
-/// An `Err` comes only where a growth of memory was refused.
+/// A word is 4 to 6 hexadecimal digits of either case, which push the code point of that number, at most 0x10FFFF, or
+/// `-` and 1 to 9 decimal digits, which truncate at that position in bytes. A newline inside the line stands in no
+/// word, so it is answered `?`. An `Err` comes only where a growth of memory was refused.
 pub fn dump_line(alloc: Global, line: &[u8]) -> Result<Vec<u8>, AllocError>
     ensures answer { IfOk result (λ answer. IsAnswer line.now answer.items) }
 {
-    let Some(points) = read_points(alloc, line)? else {
+    let Some(calls) = read_calls(alloc, line)? else {
         return Ok(vec![in alloc; b'?']?);
     };
-    let text = join_points(alloc, points.as_slice())?;
-    let dump = text.as_wtf8().hex_dump(alloc)?;
-    Ok(dump.into_bytes())
+    let mut text = Wtf8Buf::new(alloc);
+    let Ok(refused) = text.apply_all(calls.as_slice()) else {
+        return Err(AllocError);
+    };
+    let answer = dump_with_note(alloc, text.as_wtf8(), refused)?;
+    Ok(answer.into_bytes())
 }
 
-// The code points of a line, or `None` where some word stands for none.
-fn read_points(alloc: Global, line: &[u8]) -> Result<Option<Vec<CodePoint>>, AllocError>
+// The calls that the words of a line stand for, or `None` where some word stands for none.
+fn read_calls(alloc: Global, line: &[u8]) -> Result<Option<Vec<Build<'static>>>, AllocError>
     ensures { IfOk result (λ read. MatchOption read
-        (Contains (readings line.now) None)
-        (λ points. readings line.now ≡ map Some (numbers points.items))) }
+        (Any IsNoCall (words line.now))
+        (λ calls. AllZip IsCall (words line.now) calls.items)) }
 {
-    let mut points = Vec::new(alloc);
+    let mut calls = Vec::new(alloc);
     for word in Words::new(line) {
-        let Some(point) = word::read_point(word) else {
+        let Some(call) = word::read_call(word) else {
             return Ok(None);
         };
-        points.push(point)?;
+        calls.push(call)?;
     }
-    Ok(Some(points))
+    Ok(Some(calls))
 }
 
-// The string of some code points, each pushed after the one before.
-fn join_points(alloc: Global, points: &[CodePoint]) -> Result<Wtf8Buf<Global>, AllocError>
-    ensures { IfOk result (λ text. text.units ≡ units (numbers points.now)) }
+// The bytes of a string in hexadecimal, and behind them how many truncations were refused where some were.
+fn dump_with_note(alloc: Global, text: Wtf8<'_>, refused: usize) -> Result<String, AllocError>
+    ensures { IfOk result (λ answer. string_bytes answer ≡ hex text.entry.bytes.now ++ note text.entry.bytes.now refused) }
 {
-    let mut text = Wtf8Buf::new(alloc);
-    for point in points {
-        text.push(*point)?;
+    let dump = text.hex_dump(alloc)?;
+    if refused == 0 {
+        return Ok(dump);
     }
-    Ok(text)
+    let space = if text.len() == 0 { "" } else { " " };
+    format!(in alloc; "{dump}{space}!{refused}")
 }

@@ -79,13 +79,41 @@ fn lines_have_their_answers(rt: HostRuntime) -> Result<(), Fail> {
         ("d83d dca9", "F0 9F 92 A9"),
         ("0000", "00"),
         ("061", "?"),
-        ("00061", "?"),
+        ("00061", "61"),
+        ("000061", "61"),
+        ("0000061", "?"),
+        ("10FFFF", "F4 8F BF BF"),
+        ("110000", "?"),
+        ("D83D 1F4A9 DCA9", "ED A0 BD F0 9F 92 A9 ED B2 A9"),
         ("0061  0062", "?"),
         (" 0061", "?"),
         ("0061 ", "?"),
         ("0061\r", "?"),
         ("0061\n0062", "?"),
         ("0061 00g1", "?"),
+        ("0061 1F4A9 /2", "?"),
+    ] {
+        let answer = dump_line(rt.alloc(), line.as_bytes())?;
+        assert_eq!(rt; answer.as_slice(), want.as_bytes(), "at {line:?}");
+    }
+    Ok(())
+}
+
+#[test]
+fn truncations_are_kept_or_counted(rt: HostRuntime) -> Result<(), Fail> {
+    for (line, want) in [
+        ("D83D DCA9 -3", "F0 9F 92 A9 !1"),
+        ("D83D -3 DCA9", "F0 9F 92 A9"),
+        ("D83D -0 DCA9", "ED B2 A9"),
+        ("-1", "!1"),
+        ("-0", ""),
+        ("-000000000", ""),
+        ("-", "?"),
+        ("-1234567890", "?"),
+        ("-0A", "?"),
+        ("--1", "?"),
+        ("0061 00E9 -2 -9 -1", "61 !2"),
+        ("0061 -2 -2 -2 -2 -2 -2 -2 -2 -2 -2", "61 !10"),
     ] {
         let answer = dump_line(rt.alloc(), line.as_bytes())?;
         assert_eq!(rt; answer.as_slice(), want.as_bytes(), "at {line:?}");
@@ -101,6 +129,7 @@ fn inputs_have_their_dumps(rt: HostRuntime) -> Result<(), Fail> {
         ("0061\n", "61\n"),
         ("\n\n", "\n\n"),
         ("0061\r\n0062", "?\n62\n"),
+        ("-1\n0061 00E9 -2 -9 -1\n0061 /2", "!1\n61 !2\n?\n"),
         (
             "0061 00E9 0020 D83D D83D DCA9\n\nD83D DCA9\nD83D 0020 DCA9\n061\n",
             "61 C3 A9 20 ED A0 BD F0 9F 92 A9\n\nF0 9F 92 A9\nED A0 BD 20 ED B2 A9\n?\n",

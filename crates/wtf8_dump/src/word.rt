@@ -1,20 +1,57 @@
 // What a word stands for.
-ghost use Rattle.std.specs.Prelude.{◌≡◌, ◌≤◌, ◌<◌, ◌^◌, length, option_map, IfSome};
+ghost use Rattle.std.specs.Prelude.{◌≡◌, ◌≤◌, ◌<◌, ◌^◌, length, option_map, IfSome, IfNone};
 ghost use Rattle.wtf8.specs.CodePoint.{number};
-ghost use Rattle.wtf8_dump.specs.Word.{number_in, point_of};
+ghost use Rattle.wtf8_dump.specs.Word.{number_in, bounded_number, number_behind, point_of, IsCall, IsNoCall};
 
-use wtf8::CodePoint;
+use wtf8::{Build, CodePoint};
 
 const HEXADECIMAL: u32 = 16;
 
-/// The code point that a word stands for, or `None` where the word is not four hexadecimal digits.
-pub fn read_point(word: &[u8]) -> Option<CodePoint>
+const DECIMAL: u32 = 10;
+
+/// The call that a word stands for: the push of a code point for 4 to 6 hexadecimal digits of either case, of a value
+/// of at most 0x10FFFF, or the truncation at a position in bytes for `-` and 1 to 9 decimal digits. Any other word
+/// stands for none, and is answered `None`.
+pub fn read_call(word: &[u8]) -> Option<Build<'static>>
+    ensures some { IfSome result (λ call. IsCall word.now call) }
+    ensures none { IfNone result (IsNoCall word.now) }
+{
+    if let Some(position) = read_number_behind(word, b'-') {
+        return Some(Build::Truncate(position as usize));
+    }
+    let point = read_point(word)?;
+    Some(Build::Push(point))
+}
+
+// The code point that a word stands for, if it does.
+fn read_point(word: &[u8]) -> Option<CodePoint>
     ensures { option_map number result ≡ point_of word.now }
 {
-    if word.len() != 4 {
+    CodePoint::from_u32(read_bounded_number(word, HEXADECIMAL, 4, 6)?)
+}
+
+// The number that 1 to 9 decimal digits behind a mark spell, or `None` for any other word.
+fn read_number_behind(word: &[u8], mark: u8) -> Option<u32>
+    ensures { result ≡ number_behind mark word.now }
+{
+    let (first, digits) = word.split_first()?;
+    if *first != mark {
         return None;
     }
-    CodePoint::from_u32(read_number(word, HEXADECIMAL)?)
+    read_bounded_number(digits, DECIMAL, 1, 9)
+}
+
+// The number that a word of at least `least` and at most `most` digits spells in a base, or `None` for any other word.
+fn read_bounded_number(word: &[u8], base: u32, least: usize, most: usize) -> Option<u32>
+    requires least_base { 2 ≤ base }
+    requires greatest_base { base ≤ 36 }
+    requires fits { base ^ most < 2 ^ 32 }
+    ensures { result ≡ bounded_number base least most word.now }
+{
+    if word.len() < least || word.len() > most {
+        return None;
+    }
+    read_number(word, base)
 }
 
 // The number that a word spells in a base, or `None` where a byte is no digit of that base.
@@ -22,8 +59,7 @@ fn read_number(word: &[u8], base: u32) -> Option<u32>
     requires least { 2 ≤ base }
     requires greatest { base ≤ 36 }
     requires fits { base ^ length word.now < 2 ^ 32 }
-    ensures number { result ≡ number_in base word.now }
-    ensures below { IfSome result (λ n. n < base ^ length word.now) }
+    ensures { result ≡ number_in base word.now }
 {
     let mut number = 0;
     for byte in word {

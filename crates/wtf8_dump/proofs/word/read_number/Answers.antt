@@ -1,5 +1,5 @@
 use Rattle.std.proofs.Common.{◌∙◌, arith}
-use Rattle.wtf8_dump.proofs.Digits.{number_below, next_digits, next_number, next_below, next_rest}
+use Rattle.wtf8_dump.proofs.Digits.{next_digits, next_number, next_below, next_rest}
 use Rattle.wtf8_dump.proofs.word.read_number.Goals as goal
 
 pub overflow_mul-number : goal.overflow_mul-number
@@ -9,9 +9,6 @@ overflow_mul-number c =
 pub overflow_add-number : goal.overflow_add-number
 overflow_add-number c =
     omega (arith, next_below _ _ _ _ _ _ c.loop-byte-test.true c.from.ensures c.in_ok-digit.ensures.value c.requires.least c.loop-byte.invariant.spelled c.loop-byte.invariant.digits)
-
-pub returns-clause-below : goal.returns-clause-below
-returns-clause-below c = number_below _ _ _ _ c.requires.least c.loop-byte.invariant.spelled c.loop-byte.invariant.digits
 
 pub loop-byte-preserved : goal.loop-byte-preserved
 loop-byte-preserved c = record {
