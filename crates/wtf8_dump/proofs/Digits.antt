@@ -9,7 +9,7 @@ use Rattle.std.specs.Str.Parse.{digits_value, AllDigits}
 use Rattle.std.proofs.lemmas.Int.Digits.{digits_value-lt, digits_value_more, digits_more}
 
 -- the number so far is below the base to the length of the word
-pub number_below : (base : ℕ) (word : List ℕ) (i n : ℕ) → 2 ≤ base → n ≡ digits_value base (take i word) → AllDigits base (take i word) → n < base ^ length word
+number_below : (base : ℕ) (word : List ℕ) (i n : ℕ) → 2 ≤ base → n ≡ digits_value base (take i word) → AllDigits base (take i word) → n < base ^ length word
 number_below base word i n least spelled digits =
     let shorter : length (take i word) ≤ length word = simp length-take (omega arith) in
     let power : base ^ length (take i word) ≤ base ^ length word = pow-le-pow_right (omega arith) shorter in
