@@ -48,7 +48,8 @@ fn each_call_does_what_it_is_named_for(rt: HostRuntime) -> Result<(), Fail> {
         assert_eq!(rt; text.apply(call)?, done, "before {dump}");
         assert_dump(&rt, text.as_wtf8(), dump)?;
     }
-    assert!(rt; 50 <= text.capacity() - 5);
+    assert!(rt; text.apply(Build::Reserve(50))?);
+    assert!(rt; 50 <= text.capacity() - text.as_wtf8().len());
     Ok(())
 }
 

@@ -1,6 +1,6 @@
 // Strings that iterators of code points build.
 use crate::shared::{
-    JOINING, TEXT, TEXT_DUMP, assert_dump, assert_units, joined, point, points_of, pushed,
+    JOINING, TEXT, TEXT_DUMP, assert_dump, assert_units, joined, point, points_of, pushed, units_of,
 };
 use std::alloc::{AllocError, Global};
 use std::cell::Cell;
@@ -126,10 +126,8 @@ fn a_lower_hint_may_be_false(rt: HostRuntime) -> Result<(), Fail> {
             taken: &taken,
         })?;
         assert_eq!(rt; taken.get(), left);
-        assert_eq!(rt;
-            text.as_wtf8().to_ill_formed_utf16().count(),
-            left as usize + 1
-        );
+        let units = units_of(&rt, text.as_wtf8())?;
+        assert_eq!(rt; units.len(), left as usize + 1);
 
         let text = Wtf8Buf::from_iter(
             rt.alloc(),

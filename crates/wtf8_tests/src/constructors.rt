@@ -106,12 +106,12 @@ fn assert_kept<R: Abort + AllocGlobal>(rt: &R, units: &[u16]) -> Result<(), Allo
 
 #[test]
 fn all_short_lists_of_units_come_back(rt: HostRuntime) -> Result<(), Fail> {
-    let mut tried = 0;
+    let mut tried = 0u32;
     for (length, lists) in [(0, 1), (1, 4), (2, 16), (3, 64)] {
         for code in 0..lists {
             let units = list_of_kinds(rt.alloc(), length, code)?;
             assert_kept(&rt, units.as_slice())?;
-            tried += 1;
+            tried = tried.wrapping_add(1);
         }
     }
     assert_eq!(rt; tried, 85);

@@ -13,6 +13,8 @@ mod constructors;
 #[cfg(test)]
 mod iterators;
 #[cfg(test)]
+mod laws;
+#[cfg(test)]
 mod memory;
 #[cfg(test)]
 mod points;

@@ -76,8 +76,8 @@ fn code_points_begin_at_the_boundaries(rt: HostRuntime) -> Result<(), Fail> {
 #[test]
 fn slices_hold_what_stands_between(rt: HostRuntime) -> Result<(), Fail> {
     let text = Wtf8::from_str(TEXT);
-    assert_dump(&rt, text.slice(0, 0), "")?;
     for (begin, end, dump) in [
+        (0, 0, ""),
         (1, 4, "C3 A9 20"),
         (3, 3, ""),
         (0, 8, "61 C3 A9 20 F0 9F 92 A9"),
@@ -173,7 +173,8 @@ fn a_slice_outlives_its_view(rt: HostRuntime) -> Result<(), Fail> {
         let view = back;
         view.to_ill_formed_utf16()
     };
-    assert_eq!(rt; units.count(), 2);
+    let units: Vec<u16> = units.collect(rt.alloc())?;
+    assert_eq!(rt; units.as_slice(), [0xD83D, 0x62].as_slice());
     Ok(())
 }
 

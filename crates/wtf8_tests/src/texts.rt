@@ -87,11 +87,8 @@ fn texts_are_had_without_memory(rt: HostRuntime) -> Result<(), Fail> {
 
     heap.grant(0);
     assert_eq!(rt; text.as_wtf8().as_str(), Some(TEXT));
-    assert!(rt;
-        text.as_wtf8()
-            .to_string_lossy(&heap)
-            .is_ok_and(|t| t.as_str() == TEXT)
-    );
+    let lossy = text.as_wtf8().to_string_lossy(&heap)?;
+    assert_eq!(rt; lossy.as_str(), TEXT);
     assert!(rt; with_lead.as_wtf8().as_str().is_none());
     assert!(rt; with_lead.as_wtf8().to_string_lossy(&heap).is_err());
     let owned = text.into_string().ok().ok_or("a text")?;
