@@ -1,7 +1,9 @@
 // Lists of building calls.
 use crate::shared::{JOINING, assert_dump, assert_units, joined, point, points_of};
+use std::alloc::AllocError;
+use std::process::Abort;
 use std::test::Fail;
-use wtf8::{Build, CodePoint, Stopped, Wtf8, Wtf8Buf};
+use wtf8::{Build, Wtf8Buf};
 
 #[test]
 fn a_push_for_each_code_point_builds_the_string(rt: HostRuntime) -> Result<(), Fail> {
@@ -53,52 +55,45 @@ fn each_call_does_what_it_is_named_for(rt: HostRuntime) -> Result<(), Fail> {
     Ok(())
 }
 
+/// Ends the test unless a list of calls on an empty string leaves these bytes, and so many truncations are refused.
+fn assert_applied<R: Abort + AllocGlobal>(
+    rt: &R,
+    calls: &[Build<'_>],
+    refused: usize,
+    dump: &str,
+) -> Result<(), AllocError> {
+    let mut text = Wtf8Buf::new(rt.alloc());
+    assert_eq!(rt; text.apply_all(calls), Ok(refused), "before {dump}");
+    assert_dump(rt, text.as_wtf8(), dump)
+}
+
 #[test]
 fn a_list_counts_the_refused_truncations(rt: HostRuntime) -> Result<(), Fail> {
-    let lead = point(&rt, 0xD83D);
-    let trail = point(&rt, 0xDCA9);
-    let behind = [trail, point(&rt, 0x61)];
-    let front = [lead];
-    let cases: [(&[Build<'_>], usize, &str); 5] = [
-        (&[], 0, ""),
-        (
-            &[Build::Extend(&front), Build::Extend(&behind)],
-            0,
-            "F0 9F 92 A9 61",
-        ),
-        (
-            &[Build::Push(lead), Build::Truncate(3), Build::Push(trail)],
-            0,
-            "F0 9F 92 A9",
-        ),
-        (
-            &[
-                Build::Push(lead),
-                Build::Push(trail),
-                Build::Truncate(3),
-                Build::Truncate(0),
-                Build::Truncate(1),
-            ],
-            2,
-            "",
-        ),
-        (
-            &[
-                Build::PushStr("a"),
-                Build::Truncate(2),
-                Build::Push(lead),
-                Build::Push(trail),
-                Build::Truncate(4),
-                Build::Truncate(5),
-            ],
-            2,
-            "61 F0 9F 92 A9",
-        ),
+    let lead = Build::Push(point(&rt, 0xD83D));
+    let trail = Build::Push(point(&rt, 0xDCA9));
+    let front = [point(&rt, 0xD83D)];
+    let behind = [point(&rt, 0xDCA9), point(&rt, 0x61)];
+    assert_applied(&rt, &[], 0, "")?;
+    let extending = [Build::Extend(&front), Build::Extend(&behind)];
+    assert_applied(&rt, &extending, 0, "F0 9F 92 A9 61")?;
+    let joining = [lead, Build::Truncate(3), trail];
+    assert_applied(&rt, &joining, 0, "F0 9F 92 A9")?;
+    let cutting = [
+        lead,
+        trail,
+        Build::Truncate(3),
+        Build::Truncate(0),
+        Build::Truncate(1),
     ];
-    for (calls, refused, dump) in cases {
-        let mut text = Wtf8Buf::new(rt.alloc());
-        assert_eq!(rt; text.apply_all(calls), Ok(refused));
-        assert_dump(&rt, text.as_wtf8(), dump)?;
-    }
+    assert_applied(&rt, &cutting, 2, "")?;
+    let mixed = [
+        Build::PushStr("a"),
+        Build::Truncate(2),
+        lead,
+        trail,
+        Build::Truncate(4),
+        Build::Truncate(5),
+    ];
+    assert_applied(&rt, &mixed, 2, "61 F0 9F 92 A9")?;
     Ok(())
 }
