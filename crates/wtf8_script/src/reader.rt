@@ -1,0 +1,121 @@
+// What is left of a script, and its operands.
+ghost use Rattle.std.specs.Prelude.{◌<◌};
+ghost use Rattle.wtf8_script.specs.declared.reader.TheConstants.{STRINGS};
+
+use crate::call::Call;
+use crate::stop::Stop;
+use std::alloc::{AllocError, Global};
+use wtf8::CodePoint;
+
+/// How many strings a script works on.
+pub const STRINGS: usize = 4;
+
+/// The number of one of the strings.
+#[derive(Clone, Copy)]
+pub struct Register {
+    pub index: usize,
+    pub ghost below: { index < STRINGS },
+}
+
+/// What is left of a script. Numbers are read with the lowest byte first.
+#[derive(Drop)]
+pub struct Reader<'a> {
+    rest: &'a [u8],
+}
+
+impl<'a> Reader<'a> {
+    /// The whole script.
+    pub fn new(script: &'a [u8]) -> Reader<'a> {
+        Reader { rest: script }
+    }
+
+    /// The next call's opcode, or `None` at the end of the script.
+    pub fn call(&mut self) -> Result<Option<Call>, Stop> {
+        if self.rest.is_empty() {
+            return Ok(None);
+        }
+        match Call::from_byte(self.byte()?) {
+            Some(call) => Ok(Some(call)),
+            None => Err(Stop::Malformed),
+        }
+    }
+
+    /// A byte that names one of the strings.
+    pub fn register(&mut self) -> Result<Register, Stop> {
+        let index = usize::from(self.byte()?);
+        if index < STRINGS {
+            Ok(Register { index })
+        } else {
+            Err(Stop::Malformed)
+        }
+    }
+
+    /// A number of two bytes: a position, a capacity or a count.
+    pub fn number(&mut self) -> Result<usize, Stop> {
+        Ok(usize::from(self.unit()?))
+    }
+
+    /// A number of four bytes, which may be a code point's.
+    pub fn value(&mut self) -> Result<u32, Stop> {
+        let Some((front, rest)) = self.rest.split_first_chunk::<4>() else {
+            return Err(Stop::Malformed);
+        };
+        self.rest = rest;
+        Ok(u32::from_le_bytes(*front))
+    }
+
+    /// A byte with the number of bytes that follow, and those bytes.
+    pub fn bytes(&mut self) -> Result<&'a [u8], Stop> {
+        let count = usize::from(self.byte()?);
+        let Some((front, rest)) = self.rest.split_at_checked(count) else {
+            return Err(Stop::Malformed);
+        };
+        self.rest = rest;
+        Ok(front)
+    }
+
+    /// A byte with the length in bytes, and a text in UTF-8.
+    pub fn text(&mut self) -> Result<&'a str, Stop> {
+        match str::from_utf8(self.bytes()?) {
+            Ok(text) => Ok(text),
+            Err(_) => Err(Stop::Malformed),
+        }
+    }
+
+    /// A byte with their number, and units of two bytes.
+    pub fn units(&mut self, alloc: Global) -> Result<Vec<u16>, Stop> {
+        let mut units = Vec::new(alloc);
+        for _ in 0..self.byte()? {
+            let unit = self.unit()?;
+            units.push(unit).map_err(AllocError::from)?;
+        }
+        Ok(units)
+    }
+
+    /// A byte with their number, and code points of four bytes. A number that is no code point is left out.
+    pub fn points(&mut self, alloc: Global) -> Result<Vec<CodePoint>, Stop> {
+        let mut points = Vec::new(alloc);
+        for _ in 0..self.byte()? {
+            if let Some(point) = CodePoint::from_u32(self.value()?) {
+                points.push(point).map_err(AllocError::from)?;
+            }
+        }
+        Ok(points)
+    }
+
+    fn byte(&mut self) -> Result<u8, Stop> {
+        let Some((first, rest)) = self.rest.split_first() else {
+            return Err(Stop::Malformed);
+        };
+        self.rest = rest;
+        Ok(*first)
+    }
+
+    fn unit(&mut self) -> Result<u16, Stop> {
+        let Some((front, rest)) = self.rest.split_first_chunk::<2>() else {
+            return Err(Stop::Malformed);
+        };
+        self.rest = rest;
+        Ok(u16::from_le_bytes(*front))
+    }
+}
