@@ -43,6 +43,7 @@ fn joining_lead(text: Wtf8<'_>, code_point: CodePoint) -> Option<u32>
 }
 
 /// Appends a code point to well-formed bytes, a trail surrogate behind a lead as the code point that the two stand for.
+#[inline(always)]
 pub(crate) fn push_point<A: Allocator>(
     bytes: &mut Vec<u8, A>,
     code_point: CodePoint,

@@ -47,6 +47,7 @@ pub(crate) fn four_bytes(value: u32) -> [u8; 4]
 }
 
 /// Appends the encoding of a code point, whatever stands before it. After a refusal the bytes are as before.
+#[inline(always)]
 #[tactic(auto, using(crate::proofs::EncodingLemmas::encoding_one))]
 pub(crate) fn append<A: Allocator>(
     bytes: &mut Vec<u8, A>,
