@@ -20,6 +20,7 @@ pub(crate) fn upper_digit(value: u8) -> char
 }
 
 /// Appends a byte as two digits.
+#[inline(always)]
 fn push_byte<A: Allocator>(text: &mut String<A>, byte: u8) -> Result<(), AllocError>
     ensures { OnOk result (string_bytes text.new ≡ string_bytes text.old ++ hex_of byte) }
 {
@@ -28,12 +29,13 @@ fn push_byte<A: Allocator>(text: &mut String<A>, byte: u8) -> Result<(), AllocEr
     Ok(())
 }
 
-/// The bytes as two upper-case digits each, with one space between. It asks for no memory where there is no byte.
+/// The bytes as two upper-case digits each, with one space between. It finds room for all of them at first, and asks for
+/// no memory where there is no byte.
 pub(crate) fn hex_text<A: Allocator>(alloc: A, bytes: &[u8]) -> Result<String<A>, AllocError>
     ensures ok { IfOk result (λ t. string_bytes t ≡ hex bytes.now) }
     ensures empty { bytes.now ≡ [] → IsOk result }
 {
-    let mut text = String::new(alloc);
+    let mut text = String::with_capacity(alloc, bytes.len().saturating_mul(3))?;
     let Some((first, rest)) = bytes.split_first() else {
         return Ok(text);
     };
