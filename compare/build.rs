@@ -1,0 +1,37 @@
+//! Links the proved static library, and the toolchain's own small C library, which is found through `rt`.
+
+use std::env;
+use std::path::{Path, PathBuf};
+use std::process::Command;
+
+fn main() {
+    let here = PathBuf::from(env::var("CARGO_MANIFEST_DIR").expect("cargo names the folder"));
+    let library = here.join("../crates/wtf8_compare/out");
+    println!(
+        "cargo:rerun-if-changed={}",
+        library.join("libwtf8_compare.a").display()
+    );
+    println!("cargo:rustc-link-search=native={}", library.display());
+    println!(
+        "cargo:rustc-link-search=native={}",
+        toolchain().join("c").display()
+    );
+    println!("cargo:rustc-link-lib=static=wtf8_compare");
+    println!("cargo:rustc-link-lib=static=libc_c");
+    // The standard library's own WTF-8 is there for compilers that allow features.
+    println!("cargo:rustc-check-cfg=cfg(std_wtf8)");
+    println!("cargo:rerun-if-env-changed=RUSTC_BOOTSTRAP");
+    if env::var_os("RUSTC_BOOTSTRAP").is_some() {
+        println!("cargo:rustc-cfg=std_wtf8");
+    }
+}
+
+/// The folder of the page that `rt doc` names.
+fn toolchain() -> PathBuf {
+    let answer = Command::new("rt").arg("doc").output().expect("rt runs");
+    let page = String::from_utf8(answer.stdout).expect("rt doc prints a path");
+    let folder = Path::new(page.trim())
+        .parent()
+        .expect("the page lies in a folder");
+    folder.to_path_buf()
+}

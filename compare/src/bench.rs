@@ -1,0 +1,190 @@
+//! Timings: columns by turns in one process, the least of some rounds each.
+
+use std::fmt::Write;
+use std::fs;
+use std::path::Path;
+use std::time::Instant;
+
+use crate::column::original;
+#[cfg(std_wtf8)]
+use crate::column::standard;
+use crate::inputs::{self, Input};
+use crate::ours;
+
+/// The loops by number, as the proved library's exports know them.
+const LOOPS: [(u32, &str); 14] = [
+    (1, "from_ill_formed_utf16"),
+    (2, "to_ill_formed_utf16, collected"),
+    (3, "to_ill_formed_utf16, summed"),
+    (4, "code_points, summed"),
+    (5, "as_str"),
+    (6, "to_string_lossy"),
+    (7, "clone and into_string"),
+    (8, "push"),
+    (9, "extend"),
+    (10, "push_wtf8"),
+    (11, "eq"),
+    (12, "cmp"),
+    (13, "clone"),
+    (14, "hex_dump"),
+];
+
+/// How often a column is timed.
+const TURNS: usize = 15;
+
+/// How long one turn takes at least, in nanoseconds.
+const TURN: f64 = 4e6;
+
+/// The least time of each column for a row, in nanoseconds an item.
+struct Row {
+    name: String,
+    ours: f64,
+    original: f64,
+    standard: f64,
+}
+
+/// Times the rows whose name has the filter in it, prints them, and writes them to a file that `table` reads.
+pub fn run(filter: &str, file: &Path) -> bool {
+    let mut lines = String::new();
+    for input in inputs::all() {
+        for (number, call) in LOOPS {
+            let name = format!("{call}\t{}", input.name);
+            if !name.contains(filter) {
+                continue;
+            }
+            let Some(row) = time(number, name, &input) else {
+                return false;
+            };
+            let Row {
+                name,
+                ours,
+                original,
+                standard,
+            } = &row;
+            println!(
+                "{:60} {ours:8.3} {original:8.3} {standard:8.3}",
+                name.replace('\t', ", ")
+            );
+            writeln!(lines, "{name}\t{ours}\t{original}\t{standard}").unwrap();
+        }
+    }
+    fs::write(file, lines).is_ok()
+}
+
+/// Times a row, or answers `None` where the sides' answers differ.
+fn time(number: u32, name: String, input: &Input) -> Option<Row> {
+    let original = original::Bench::new(&input.units);
+    let rounds = rounds_of_a_turn(number, input, &original);
+    let items = f64::from(rounds) * input.units.len() as f64;
+    #[cfg(std_wtf8)]
+    let standard = standard::Bench::new(&input.units);
+    let mut least = [f64::INFINITY; 4];
+    for _ in 0..TURNS {
+        let (made, _) = timed(|| ours::time(0, &input.units, rounds));
+        let (with_making, answer) = timed(|| ours::time(number, &input.units, rounds));
+        let (crate_time, crate_answer) = timed(|| original.run(number, rounds));
+        if crate_answer.is_some_and(|crate_answer| crate_answer != answer) {
+            println!("DIFFERENT ANSWERS in {name}: {answer} and {crate_answer:?}");
+            return None;
+        }
+        least[0] = least[0].min(made);
+        least[1] = least[1].min(with_making);
+        if crate_answer.is_some() {
+            least[2] = least[2].min(crate_time);
+        }
+        #[cfg(std_wtf8)]
+        {
+            let (standard_time, standard_answer) = timed(|| standard.run(number, rounds));
+            if standard_answer.is_some_and(|standard_answer| standard_answer != answer) {
+                println!("DIFFERENT ANSWERS in {name}: {answer} and {standard_answer:?}");
+                return None;
+            }
+            if standard_answer.is_some() {
+                least[3] = least[3].min(standard_time);
+            }
+        }
+    }
+    Some(Row {
+        name,
+        ours: (least[1] - least[0]).max(0.0) / items,
+        original: least[2] / items,
+        standard: least[3] / items,
+    })
+}
+
+/// The number of rounds with which the crate, or where it lacks the call the proved library, takes long enough.
+fn rounds_of_a_turn(number: u32, input: &Input, original: &original::Bench<'_>) -> u32 {
+    let mut rounds = 16;
+    loop {
+        let (time, _) = timed(|| {
+            let answer = original.run(number, rounds);
+            answer.unwrap_or_else(|| ours::time(number, &input.units, rounds))
+        });
+        if time >= TURN || rounds >= 1 << 24 {
+            return rounds;
+        }
+        rounds *= 2;
+    }
+}
+
+fn timed<T>(run: impl FnOnce() -> T) -> (f64, T) {
+    let start = Instant::now();
+    let answer = run();
+    (start.elapsed().as_nanos() as f64, answer)
+}
+
+/// Prints the table of two files of rows, those of the two cargo profiles. A row's baseline is the smaller of the crate's
+/// two minima.
+pub fn table(files: &[&str]) -> bool {
+    let Ok(texts) = files
+        .iter()
+        .map(fs::read_to_string)
+        .collect::<Result<Vec<String>, _>>()
+    else {
+        return false;
+    };
+    println!("| Call | Input | proved, ns | crate, ns | ratio | standard library, ns |");
+    println!("|---|---|---|---|---|---|");
+    for line in texts[0].lines() {
+        let words: Vec<&str> = line.split('\t').collect();
+        let same = texts.iter().flat_map(|text| text.lines());
+        let rows: Vec<Vec<f64>> = same
+            .filter_map(|line| numbers_of(line, &words[..2]))
+            .collect();
+        let least = |column: usize| {
+            rows.iter()
+                .map(|row| row[column])
+                .fold(f64::INFINITY, f64::min)
+        };
+        let (ours, original, standard) = (least(0), least(1), least(2));
+        let ratio = match original.is_finite() {
+            true => format!("{:.2}", ours / original),
+            false => "-".to_owned(),
+        };
+        println!(
+            "| {} | {} | {} | {} | {ratio} | {} |",
+            words[0],
+            words[1],
+            shown(ours),
+            shown(original),
+            shown(standard)
+        );
+    }
+    true
+}
+
+fn numbers_of(line: &str, name: &[&str]) -> Option<Vec<f64>> {
+    let words: Vec<&str> = line.split('\t').collect();
+    let numbers = words[2..]
+        .iter()
+        .map(|word| word.parse().ok())
+        .collect::<Option<Vec<f64>>>();
+    numbers.filter(|_| words[..2] == *name)
+}
+
+fn shown(time: f64) -> String {
+    match time.is_finite() {
+        true => format!("{time:.3}"),
+        false => "-".to_owned(),
+    }
+}

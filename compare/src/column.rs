@@ -1,0 +1,129 @@
+//! The timed loops over the original crate, and over the standard library's own WTF-8 where the compiler gives it.
+
+use std::hint::black_box;
+
+/// How many equal strings a loop goes round.
+const STRINGS: usize = 4;
+
+/// Declares a module with the loops over one crate's strings. Its arguments are what the crates name differently.
+macro_rules! column {
+    ($module:ident, $path:path, $from_units:ident, $units:ident, $is_text:ident) => {
+        pub mod $module {
+            use super::{black_box, STRINGS};
+            use $path::{CodePoint, Wtf8Buf};
+
+            pub struct Bench<'a> {
+                units: &'a [u16],
+                strings: [Wtf8Buf; STRINGS],
+                points: Vec<CodePoint>,
+            }
+
+            impl<'a> Bench<'a> {
+                pub fn new(units: &'a [u16]) -> Bench<'a> {
+                    let string = Wtf8Buf::$from_units(units);
+                    let points = string.code_points().collect();
+                    let strings = std::array::from_fn(|_| string.clone());
+                    Bench {
+                        units,
+                        strings,
+                        points,
+                    }
+                }
+
+                fn string_at(&self, round: u32) -> &Wtf8Buf {
+                    black_box(&self.strings[round as usize % STRINGS])
+                }
+
+                /// Runs the loop of a number, and answers a sum over what its calls answered.
+                pub fn run(&self, number: u32, rounds: u32) -> Option<u64> {
+                    match number {
+                        1 => Some(sum(rounds, |_| {
+                            Wtf8Buf::$from_units(black_box(self.units)).len() as u64
+                        })),
+                        2 => Some(sum(rounds, |round| {
+                            let units: Vec<u16> = self.string_at(round).$units().collect();
+                            black_box(units).len() as u64
+                        })),
+                        3 => Some(sum(rounds, |round| {
+                            let mut total = 0u64;
+                            for unit in self.string_at(round).$units() {
+                                total = total.wrapping_add(u64::from(unit));
+                            }
+                            total
+                        })),
+                        4 => Some(sum(rounds, |round| {
+                            let mut total = 0u64;
+                            for point in self.string_at(round).code_points() {
+                                total = total.wrapping_add(u64::from(point.to_u32()));
+                            }
+                            total
+                        })),
+                        5 => Some(sum(rounds, |round| {
+                            u64::from(self.string_at(round).as_str().$is_text())
+                        })),
+                        6 => Some(sum(rounds, |round| {
+                            black_box(self.string_at(round).to_string_lossy()).len() as u64
+                        })),
+                        7 => Some(sum(rounds, |round| {
+                            let string = self.string_at(round).clone();
+                            u64::from(black_box(string.into_string()).is_ok())
+                        })),
+                        8 => Some(sum(rounds, |_| self.push())),
+                        9 => Some(sum(rounds, |round| {
+                            let mut string = Wtf8Buf::new();
+                            string.extend(self.string_at(round).code_points());
+                            black_box(string).len() as u64
+                        })),
+                        10 => Some(self.push_string(rounds)),
+                        11 => Some(sum(rounds, |round| {
+                            let other = round / STRINGS as u32 + 1;
+                            u64::from(self.string_at(round) == self.string_at(other))
+                        })),
+                        12 => Some(sum(rounds, |round| {
+                            let other = round / STRINGS as u32 + 1;
+                            u64::from(self.string_at(round).cmp(self.string_at(other)).is_eq())
+                        })),
+                        13 => Some(sum(rounds, |round| {
+                            black_box(self.string_at(round).clone()).len() as u64
+                        })),
+                        _ => None,
+                    }
+                }
+
+                fn push(&self) -> u64 {
+                    let mut string = Wtf8Buf::new();
+                    for point in black_box(&self.points) {
+                        string.push(*point);
+                    }
+                    black_box(string).len() as u64
+                }
+
+                fn push_string(&self, rounds: u32) -> u64 {
+                    let mut string = Wtf8Buf::new();
+                    for round in 0..rounds {
+                        if round % 64 == 0 {
+                            string = Wtf8Buf::new();
+                        }
+                        string.push_wtf8(self.string_at(round));
+                    }
+                    black_box(string).len() as u64
+                }
+            }
+
+            fn sum(rounds: u32, answer: impl Fn(u32) -> u64) -> u64 {
+                (0..rounds).fold(0, |sum, round| sum.wrapping_add(answer(round)))
+            }
+        }
+    };
+}
+
+column!(
+    original,
+    wtf8,
+    from_ill_formed_utf16,
+    to_ill_formed_utf16,
+    is_some
+);
+
+#[cfg(std_wtf8)]
+column!(standard, alloc::wtf8, from_wide, encode_wide, is_ok);

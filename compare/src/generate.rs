@@ -1,0 +1,276 @@
+//! Random scripts, and the lists of scripts that are gone through one by one.
+
+use crate::random::Random;
+use crate::script::{Call, Kind, Operand, CALLS};
+
+/// Code points at the edges of the encodings' classes, and two numbers that are none.
+pub const EDGES: [u32; 32] = [
+    0x0000,
+    0x0001,
+    0x0022,
+    0x0041,
+    0x005C,
+    0x007F,
+    0x0080,
+    0x00E9,
+    0x07FF,
+    0x0800,
+    0x0FFF,
+    0x1000,
+    0x20AC,
+    0xCFFF,
+    0xD000,
+    0xD7FF,
+    0xD800,
+    0xDBFF,
+    0xDC00,
+    0xDFFF,
+    0xE000,
+    0xFEFF,
+    0xFFFD,
+    0xFFFE,
+    0xFFFF,
+    0x10000,
+    0x103FF,
+    0x10400,
+    0x1F4A9,
+    0x10FFFF,
+    0x110000,
+    0xFFFF_FFFF,
+];
+
+/// The units of the exhaustive lists: each class, and the edges of the surrogates.
+const ALPHABET: [u16; 9] = [
+    0x41, 0xE9, 0x20AC, 0xD7FF, 0xD800, 0xDBFF, 0xDC00, 0xDFFF, 0xE000,
+];
+
+/// A script of up to twenty calls.
+pub fn script(random: &mut Random) -> Vec<Call> {
+    let count = random.between(1, 20);
+    (0..count).map(|_| call(random)).collect()
+}
+
+fn call(random: &mut Random) -> Call {
+    // Half of the calls make or change strings, so that the others have something to look at.
+    let opcode = match random.below(2) {
+        0 => random.below(CALLS.len() as u64) as u8,
+        _ => random.between(2, 18) as u8,
+    };
+    let kinds = CALLS[usize::from(opcode)].1;
+    let operands = kinds.iter().map(|kind| operand(random, *kind)).collect();
+    Call { opcode, operands }
+}
+
+fn operand(random: &mut Random, kind: Kind) -> Operand {
+    match kind {
+        Kind::Register => Operand::Register(random.below(4) as u8),
+        Kind::Number => Operand::Number(number(random)),
+        Kind::Value => Operand::Value(value(random)),
+        Kind::Text => {
+            let count = length(random, 60);
+            let chars = (0..count).filter_map(|_| char::from_u32(value(random)));
+            Operand::Text(chars.collect())
+        }
+        Kind::Units => {
+            let count = length(random, 255);
+            Operand::Units((0..count).map(|_| unit(random)).collect())
+        }
+        Kind::Points => {
+            let count = length(random, 255);
+            Operand::Points((0..count).map(|_| value(random)).collect())
+        }
+        Kind::Steps => {
+            let count = length(random, 12);
+            Operand::Steps(
+                (0..count)
+                    .map(|_| random.pick(&[0, 0, 0, 1, 2, 3]))
+                    .collect(),
+            )
+        }
+    }
+}
+
+/// Mostly short, now and then up to the most.
+fn length(random: &mut Random, most: u32) -> u32 {
+    match random.below(24) {
+        0 => random.between(0, most),
+        1..=4 => random.between(0, 12),
+        _ => random.between(0, 5),
+    }
+}
+
+/// A position, a capacity or a count: mostly inside a short string.
+fn number(random: &mut Random) -> u16 {
+    match random.below(12) {
+        0 => random.between(0, 600) as u16,
+        1..=3 => random.between(0, 40) as u16,
+        4..=6 => random.pick(&[0, 3, 4, 6, 7, 8, 9, 10, 12]),
+        _ => random.between(0, 14) as u16,
+    }
+}
+
+/// A number that is a code point but for a few, of every class of the encodings.
+fn value(random: &mut Random) -> u32 {
+    match random.below(16) {
+        0..=3 => random.pick(&EDGES),
+        4..=5 => random.between(0, 0x7F),
+        6 => random.between(0x80, 0x7FF),
+        7 => random.between(0x800, 0xFFFF),
+        8..=10 => random.between(0xD800, 0xDBFF),
+        11..=13 => random.between(0xDC00, 0xDFFF),
+        14 => random.between(0x10000, 0x10FFFF),
+        _ => random.between(0xD000, 0xDFFF),
+    }
+}
+
+fn unit(random: &mut Random) -> u16 {
+    match random.below(10) {
+        0..=1 => random.pick(&ALPHABET),
+        2..=4 => random.between(0xD800, 0xDBFF) as u16,
+        5..=7 => random.between(0xDC00, 0xDFFF) as u16,
+        _ => value(random) as u16,
+    }
+}
+
+/// All lists of up to `most` units of the alphabet.
+pub fn unit_lists(most: usize) -> Vec<Vec<u16>> {
+    let mut lists = vec![Vec::new()];
+    let mut last = lists.clone();
+    for _ in 0..most {
+        last = last.iter().flat_map(|list| longer_by_one(list)).collect();
+        lists.extend(last.iter().cloned());
+    }
+    lists
+}
+
+fn longer_by_one(list: &[u16]) -> Vec<Vec<u16>> {
+    let with = |unit: &u16| list.iter().copied().chain([*unit]).collect();
+    ALPHABET.iter().map(with).collect()
+}
+
+/// Every call on the string of a list of units, and the string made in every other way that there is, cut at every place.
+pub fn calls_on(units: &[u16]) -> Vec<Call> {
+    let mut calls = vec![from_units(0, units)];
+    let steps: Vec<u8> = (0..=units.len()).flat_map(|_| [1, 2, 0, 3]).collect();
+    for name in ["boundaries", "as_str", "to_string_lossy", "hash", "debug"] {
+        calls.push(Call::new(name, vec![Operand::Register(0)]));
+    }
+    for name in ["code_points", "to_ill_formed_utf16"] {
+        calls.push(Call::new(
+            name,
+            vec![Operand::Register(0), Operand::Steps(steps.clone())],
+        ));
+    }
+    for cut in 0..=units.len() {
+        calls.extend(cut_and_joined(units, cut));
+    }
+    // One beyond the longest string and one more, which the crate refuses as well.
+    for position in 0..=3 * units.len() as u16 + 2 {
+        calls.extend(cut_at(position));
+    }
+    for name in ["into_string", "into_string_lossy"] {
+        calls.push(registers("clone", 1, 0));
+        calls.push(Call::new(name, vec![Operand::Register(1)]));
+    }
+    calls
+}
+
+/// The units in two pieces, pushed, collected and extended, each compared with the whole in register 0.
+fn cut_and_joined(units: &[u16], cut: usize) -> Vec<Call> {
+    let (front, back) = units.split_at(cut);
+    let points = |units: &[u16]| Operand::Points(units.iter().copied().map(u32::from).collect());
+    let mut calls = vec![
+        from_units(1, front),
+        from_units(2, back),
+        registers("push_wtf8", 1, 2),
+        registers("comparisons", 1, 0),
+        registers("comparisons", 2, 0),
+        Call::new("from_iter", vec![Operand::Register(3), points(front)]),
+        Call::new("extend", vec![Operand::Register(3), points(back)]),
+        registers("comparisons", 0, 3),
+        from_units(1, front),
+        Call::new(
+            "extend code_points",
+            vec![
+                Operand::Register(1),
+                Operand::Register(2),
+                Operand::Number(0),
+            ],
+        ),
+        from_units(1, front),
+    ];
+    for unit in back {
+        let value = Operand::Value(u32::from(*unit));
+        calls.push(Call::new("push", vec![Operand::Register(1), value]));
+    }
+    calls.push(registers("comparisons", 1, 0));
+    calls
+}
+
+/// Each call that takes a position, at one.
+fn cut_at(position: u16) -> Vec<Call> {
+    let place = Operand::Number(position);
+    let mut calls = vec![
+        registers("clone", 1, 0),
+        Call::new("truncate", vec![Operand::Register(1), place.clone()]),
+        Call::new("ascii_byte_at", vec![Operand::Register(0), place.clone()]),
+    ];
+    for name in ["slice_from", "slice_to", "from_iter code_points"] {
+        let operands = vec![Operand::Register(1), Operand::Register(0), place.clone()];
+        calls.push(Call::new(name, operands));
+    }
+    for end in position.saturating_sub(2)..=position + 4 {
+        let (one, zero) = (Operand::Register(1), Operand::Register(0));
+        calls.push(Call::new(
+            "slice",
+            vec![one, zero, place.clone(), Operand::Number(end)],
+        ));
+    }
+    calls
+}
+
+fn from_units(register: u8, units: &[u16]) -> Call {
+    let operands = vec![Operand::Register(register), Operand::Units(units.to_vec())];
+    Call::new("from_ill_formed_utf16", operands)
+}
+
+fn registers(name: &str, first: u8, second: u8) -> Call {
+    Call::new(
+        name,
+        vec![Operand::Register(first), Operand::Register(second)],
+    )
+}
+
+/// The calls of code points at each edge, compared with each other edge.
+pub fn edge_calls() -> Vec<Vec<Call>> {
+    let on_edge = |point: &u32| {
+        let mut calls = point_calls(*point);
+        for other in EDGES {
+            let operands = vec![Operand::Value(*point), Operand::Value(other)];
+            calls.push(Call::new("CodePoint comparisons", operands));
+        }
+        calls
+    };
+    EDGES.iter().map(on_edge).collect()
+}
+
+/// The calls of one code point, and the string of it alone.
+pub fn point_calls(point: u32) -> Vec<Call> {
+    let value = || Operand::Value(point);
+    let register = || Operand::Register(0);
+    let mut calls = vec![
+        Call::new("CodePoint", vec![value()]),
+        Call::new("new", vec![register()]),
+        Call::new("push", vec![register(), value()]),
+        Call::new("push_char", vec![register(), value()]),
+        Call::new("code_points", vec![register(), Operand::Steps(vec![])]),
+        Call::new(
+            "to_ill_formed_utf16",
+            vec![register(), Operand::Steps(vec![])],
+        ),
+    ];
+    for name in ["boundaries", "to_string_lossy", "debug"] {
+        calls.push(Call::new(name, vec![register()]));
+    }
+    calls
+}

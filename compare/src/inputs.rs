@@ -1,0 +1,83 @@
+//! Inputs of the timings, by fixed seeds.
+
+use crate::random::Random;
+
+pub struct Input {
+    pub name: &'static str,
+    pub units: Vec<u16>,
+}
+
+/// How many units the long inputs have.
+const LONG: usize = 4096;
+
+/// All inputs, in the order of the table.
+pub fn all() -> Vec<Input> {
+    let mut inputs = vec![
+        long("ASCII", |random| random.between(0x20, 0x7E)),
+        long("Latin", |random| random.between(0xC0, 0x24F)),
+        long("CJK", |random| random.between(0x4E00, 0x9FFF)),
+        long("Hangul", |random| random.between(0xD000, 0xD7A3)),
+        long("mixed", mixed),
+        long("supplementary", |random| match random.below(10) {
+            0 => random.between(0x20, 0x7E),
+            _ => random.between(0x10000, 0x1FFFF),
+        }),
+        long("1% surrogates", |random| match random.below(100) {
+            0 => random.between(0xD800, 0xDFFF),
+            _ => random.between(0x20, 0x7E),
+        }),
+        long("0.1% surrogates", |random| match random.below(1000) {
+            0 => random.between(0xD800, 0xDFFF),
+            _ => random.between(0x20, 0x7E),
+        }),
+    ];
+    for (name, length) in [("5 units", 5), ("12 units", 12), ("40 units", 40)] {
+        inputs.push(Input {
+            name,
+            units: units(length, |random| random.between(0x20, 0x7E)),
+        });
+    }
+    inputs.push(joining());
+    inputs
+}
+
+fn mixed(random: &mut Random) -> u32 {
+    match random.below(4) {
+        0 => random.between(0x20, 0x7E),
+        1 => random.between(0x80, 0x7FF),
+        2 => random.between(0x800, 0xD7FF),
+        _ => random.between(0x10000, 0x10FFFF),
+    }
+}
+
+/// A string that begins with a trail and ends with a lead, so that each meets the one before.
+fn joining() -> Input {
+    let mut units = units(40, |random| random.between(0x20, 0x7E));
+    units[0] = 0xDC00;
+    units[39] = 0xD83D;
+    Input {
+        name: "40 units, ends that join",
+        units,
+    }
+}
+
+fn long(name: &'static str, point: impl Fn(&mut Random) -> u32) -> Input {
+    Input {
+        name,
+        units: units(LONG, point),
+    }
+}
+
+fn units(length: usize, point: impl Fn(&mut Random) -> u32) -> Vec<u16> {
+    let mut random = Random::new(length as u64);
+    let mut units = Vec::new();
+    while units.len() < length {
+        let point = point(&mut random);
+        match char::from_u32(point) {
+            Some(c) => units.extend_from_slice(c.encode_utf16(&mut [0; 2])),
+            None => units.push(point as u16),
+        }
+    }
+    units.truncate(length);
+    units
+}

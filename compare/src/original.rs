@@ -1,0 +1,583 @@
+//! The same interpreter of scripts over the original crate.
+
+use std::cell::Cell;
+use std::fmt::{Debug, Write};
+use std::hash::{Hash, Hasher};
+use std::panic::{catch_unwind, AssertUnwindSafe};
+
+use wtf8::{CodePoint, IllFormedUtf16CodeUnits, Wtf8, Wtf8Buf, Wtf8CodePoints};
+
+/// What the original crate answered to a script.
+pub struct Answers {
+    /// The transcript, with the known differences as the proved library has them.
+    pub transcript: String,
+    /// The transcript with the crate's own hints, where a trail surrogate is held.
+    pub own_hints: String,
+    /// The calls that panicked.
+    pub panicked: Vec<&'static str>,
+}
+
+thread_local! {
+    /// Whether a panic is an answer just now.
+    static IS_GUARDED: Cell<bool> = const { Cell::new(false) };
+}
+
+/// From now on nothing is printed of the crate's panics that are answers.
+pub fn silence_answers() {
+    let print = std::panic::take_hook();
+    std::panic::set_hook(Box::new(move |panic| {
+        if !IS_GUARDED.get() {
+            print(panic);
+        }
+    }));
+}
+
+/// What a call answers, or `None` where it panics.
+fn answer_of<T>(call: impl FnOnce() -> T) -> Option<T> {
+    IS_GUARDED.set(true);
+    let answer = catch_unwind(AssertUnwindSafe(call)).ok();
+    IS_GUARDED.set(false);
+    answer
+}
+
+/// Runs a script over the original crate.
+pub fn run(script: &[u8]) -> Answers {
+    let mut machine = Machine {
+        strings: std::array::from_fn(|_| Wtf8Buf::new()),
+        out: Out::default(),
+        panicked: Vec::new(),
+    };
+    let mut reader = Reader { rest: script };
+    while let Some((&opcode, rest)) = reader.rest.split_first() {
+        reader.rest = rest;
+        match opcode {
+            0..=8 => machine.make(opcode, &mut reader),
+            9..=15 => machine.change(opcode, &mut reader),
+            16..=20 => machine.cut_or_turn(opcode, &mut reader),
+            21..=24 => machine.look(opcode, &mut reader),
+            _ => machine.ask(opcode, &mut reader),
+        }
+    }
+    Answers {
+        transcript: machine.out.excused,
+        own_hints: machine.out.raw,
+        panicked: machine.panicked,
+    }
+}
+
+/// The operands of a script. The generator's scripts are never malformed, so a short read may panic.
+struct Reader<'a> {
+    rest: &'a [u8],
+}
+
+impl<'a> Reader<'a> {
+    fn take(&mut self, count: usize) -> &'a [u8] {
+        let (front, rest) = self.rest.split_at(count);
+        self.rest = rest;
+        front
+    }
+
+    fn count(&mut self) -> usize {
+        usize::from(self.take(1)[0])
+    }
+
+    fn register(&mut self) -> usize {
+        self.count()
+    }
+
+    fn unit(&mut self) -> u16 {
+        u16::from_le_bytes(self.take(2).try_into().unwrap())
+    }
+
+    fn number(&mut self) -> usize {
+        usize::from(self.unit())
+    }
+
+    fn value(&mut self) -> u32 {
+        u32::from_le_bytes(self.take(4).try_into().unwrap())
+    }
+
+    fn bytes(&mut self) -> &'a [u8] {
+        let count = self.count();
+        self.take(count)
+    }
+
+    fn text(&mut self) -> &'a str {
+        std::str::from_utf8(self.bytes()).unwrap()
+    }
+
+    fn units(&mut self) -> Vec<u16> {
+        (0..self.count()).map(|_| self.unit()).collect()
+    }
+
+    fn points(&mut self) -> Vec<CodePoint> {
+        (0..self.count())
+            .filter_map(|_| CodePoint::from_u32(self.value()))
+            .collect()
+    }
+}
+
+/// Two transcripts that are written side by side.
+#[derive(Default)]
+struct Out {
+    excused: String,
+    raw: String,
+}
+
+impl Write for Out {
+    fn write_str(&mut self, text: &str) -> std::fmt::Result {
+        self.excused.push_str(text);
+        self.raw.push_str(text);
+        Ok(())
+    }
+}
+
+/// Keeps all that it is fed.
+#[derive(Default)]
+struct Recorder {
+    bytes: Vec<u8>,
+}
+
+impl Hasher for Recorder {
+    fn write(&mut self, bytes: &[u8]) {
+        self.bytes.extend_from_slice(bytes);
+    }
+
+    fn finish(&self) -> u64 {
+        0
+    }
+}
+
+fn fed_by<T: Hash + ?Sized>(value: &T) -> Vec<u8> {
+    let mut recorder = Recorder::default();
+    value.hash(&mut recorder);
+    recorder.bytes
+}
+
+fn hex(bytes: &[u8]) -> String {
+    let words: Vec<String> = bytes.iter().map(|byte| format!("{byte:02X}")).collect();
+    words.join(" ")
+}
+
+/// The bytes of a string in hexadecimal. The crate shows them to a hasher alone, which gets FE behind them.
+fn dump(text: &Wtf8) -> String {
+    let fed = fed_by(text);
+    let (last, bytes) = fed.split_last().expect("a hasher is fed FE at least");
+    assert_eq!(*last, 0xFE);
+    assert_eq!(bytes.len(), text.len());
+    hex(bytes)
+}
+
+struct Machine {
+    strings: [Wtf8Buf; 4],
+    out: Out,
+    panicked: Vec<&'static str>,
+}
+
+impl Machine {
+    fn line(&mut self, line: &str) {
+        writeln!(self.out, "{line}").unwrap();
+    }
+
+    fn put(&mut self, register: usize, string: Wtf8Buf) {
+        self.strings[register] = string;
+        self.show(register);
+    }
+
+    fn show(&mut self, register: usize) {
+        let text = &self.strings[register];
+        let line = format!("s{register} {}: {}", text.len(), dump(text));
+        self.line(&line);
+    }
+
+    /// What a call answers; a panic is counted and written as a refusal.
+    fn guarded<T>(
+        &mut self,
+        name: &'static str,
+        call: impl FnOnce(&mut [Wtf8Buf; 4]) -> T,
+    ) -> Option<T> {
+        let strings = &mut self.strings;
+        let answer = answer_of(|| call(strings));
+        if answer.is_none() {
+            self.panicked.push(name);
+            self.line("refused");
+        }
+        answer
+    }
+
+    fn make(&mut self, opcode: u8, reader: &mut Reader<'_>) {
+        let register = reader.register();
+        let string = match opcode {
+            0 => Wtf8Buf::new(),
+            1 => {
+                let capacity = reader.number();
+                let string = Wtf8Buf::with_capacity(capacity);
+                let has_room = string.capacity() >= capacity;
+                self.line(&format!("room {has_room}"));
+                string
+            }
+            2 => Wtf8Buf::from_string(reader.text().to_owned()),
+            3 => Wtf8Buf::from_str(reader.text()),
+            4 => Wtf8Buf::from_ill_formed_utf16(&reader.units()),
+            5 => reader.points().into_iter().collect(),
+            6 => {
+                let other = self.strings[reader.register()].clone();
+                points_behind(&other, reader.number()).collect()
+            }
+            7 => self.strings[reader.register()].clone(),
+            _ => {
+                let additional = reader.number();
+                let string = &mut self.strings[register];
+                string.reserve(additional);
+                let has_room = string.capacity() - string.len() >= additional;
+                self.line(&format!("room {has_room}"));
+                return self.show(register);
+            }
+        };
+        self.put(register, string);
+    }
+
+    fn change(&mut self, opcode: u8, reader: &mut Reader<'_>) {
+        let register = reader.register();
+        match opcode {
+            9 => match CodePoint::from_u32(reader.value()) {
+                Some(point) => self.strings[register].push(point),
+                None => return self.line("no code point"),
+            },
+            10 => match char::from_u32(reader.value()) {
+                Some(c) => self.strings[register].push_char(c),
+                None => return self.line("no character"),
+            },
+            11 => self.strings[register].push_str(reader.text()),
+            12 => {
+                let piece = self.strings[reader.register()].clone();
+                self.strings[register].push_wtf8(&piece);
+            }
+            13 => self.strings[register].extend(reader.points()),
+            14 => {
+                let piece = self.strings[reader.register()].clone();
+                self.strings[register].extend(points_behind(&piece, reader.number()));
+            }
+            _ => {
+                let position = reader.number();
+                let cut = |strings: &mut [Wtf8Buf; 4]| strings[register].truncate(position);
+                if self.guarded("truncate", cut).is_none() {
+                    return;
+                }
+            }
+        }
+        self.show(register);
+    }
+
+    fn cut_or_turn(&mut self, opcode: u8, reader: &mut Reader<'_>) {
+        let register = reader.register();
+        if opcode >= 19 {
+            return self.turn(opcode, register);
+        }
+        let other = reader.register();
+        let first = reader.number();
+        let part = match opcode {
+            16 => {
+                let end = reader.number();
+                self.guarded("slice", |strings| owned(strings[other].slice(first, end)))
+            }
+            17 => self.guarded("slice_from", |strings| {
+                owned(strings[other].slice_from(first))
+            }),
+            _ => self.guarded("slice_to", |strings| owned(strings[other].slice_to(first))),
+        };
+        if let Some(part) = part {
+            self.put(register, part);
+        }
+    }
+
+    fn turn(&mut self, opcode: u8, register: usize) {
+        let string = std::mem::replace(&mut self.strings[register], Wtf8Buf::new());
+        let turned = match opcode {
+            19 => string.into_string(),
+            _ => Ok(string.into_string_lossy()),
+        };
+        let string = match turned {
+            Ok(text) => {
+                self.line(&format!("text: {}", hex(text.as_bytes())));
+                Wtf8Buf::from_string(text)
+            }
+            Err(string) => {
+                self.line("no text");
+                string
+            }
+        };
+        self.put(register, string);
+    }
+
+    fn look(&mut self, opcode: u8, reader: &mut Reader<'_>) {
+        let register = reader.register();
+        match opcode {
+            21 => {
+                let position = reader.number();
+                let look = |strings: &mut [Wtf8Buf; 4]| strings[register].ascii_byte_at(position);
+                if let Some(byte) = self.guarded("ascii_byte_at", look) {
+                    self.line(&format!("byte {byte:02X}"));
+                }
+            }
+            22 => self.boundaries(register),
+            23 => {
+                let string = self.strings[register].clone();
+                write!(self.out, "points").unwrap();
+                walk_points(&mut self.out, string.code_points(), reader.bytes());
+                self.line("");
+            }
+            _ => {
+                let string = self.strings[register].clone();
+                write!(self.out, "units").unwrap();
+                walk_units(&mut self.out, Units::of(&string), reader.bytes());
+                self.line("");
+            }
+        }
+    }
+
+    fn boundaries(&mut self, register: usize) {
+        let string = &self.strings[register];
+        let mut line = "boundaries".to_owned();
+        for index in 0..=string.len() {
+            if answer_of(|| string.slice_from(index).len()).is_some() {
+                write!(line, " {index}").unwrap();
+            }
+        }
+        self.line(&line);
+    }
+
+    fn ask(&mut self, opcode: u8, reader: &mut Reader<'_>) {
+        match opcode {
+            25 => {
+                let line = match self.strings[reader.register()].as_str() {
+                    Some(text) => format!("text: {}", hex(text.as_bytes())),
+                    None => "no text".to_owned(),
+                };
+                self.line(&line);
+            }
+            26 => {
+                let text = self.strings[reader.register()].to_string_lossy();
+                let word = match text {
+                    std::borrow::Cow::Borrowed(_) => "borrowed",
+                    std::borrow::Cow::Owned(_) => "owned",
+                };
+                let line = format!("{word}: {}", hex(text.as_bytes()));
+                self.line(&line);
+            }
+            27 => {
+                let own = reader.register();
+                let other = reader.register();
+                self.compare(own, other);
+            }
+            28 => {
+                let string = &self.strings[reader.register()];
+                let lines = [hex(&fed_by(string)), hex(&fed_by::<Wtf8>(string))];
+                lines
+                    .iter()
+                    .for_each(|fed| self.line(&format!("fed {fed}")));
+            }
+            29 => self.debug(reader.register()),
+            30 => {
+                let view = Wtf8::from_str(reader.text());
+                self.line(&format!("view {}: {}", view.len(), dump(view)));
+            }
+            31 => self.point(reader.value()),
+            32 => {
+                let own = CodePoint::from_u32(reader.value());
+                let other = CodePoint::from_u32(reader.value());
+                match (own, other) {
+                    (Some(own), Some(other)) => self.comparisons("points", &own, &other),
+                    _ => self.line("no code point"),
+                }
+            }
+            _ => unreachable!("the generator knows no opcode {opcode}"),
+        }
+    }
+
+    fn compare(&mut self, own: usize, other: usize) {
+        let own = self.strings[own].clone();
+        let other = self.strings[other].clone();
+        self.comparisons("buffers", &own, &other);
+        self.comparisons::<Wtf8>("views", &own, &other);
+        // The comparisons between a buffer and a view, which the proved library has no call for.
+        assert_eq!(own == &*other, own == other);
+        assert_eq!(&*own == other, own == other);
+    }
+
+    fn comparisons<T: Ord + ?Sized>(&mut self, word: &str, own: &T, other: &T) {
+        let order = name_of(Some(own.cmp(other)));
+        let partial = name_of(own.partial_cmp(other));
+        let (equal, different) = (own == other, own != other);
+        self.line(&format!(
+            "{word} eq {equal} ne {different} cmp {order} partial {partial}"
+        ));
+        let (below, at_most) = (own < other, own <= other);
+        let (above, at_least) = (own > other, own >= other);
+        self.line(&format!(
+            "{word} lt {below} le {at_most} gt {above} ge {at_least}"
+        ));
+    }
+
+    fn debug(&mut self, register: usize) {
+        let string = self.strings[register].clone();
+        let view: &Wtf8 = &string;
+        self.line(&format!("buffer: {}", hex(debug_text(&string).as_bytes())));
+        self.line(&format!("view: {}", hex(debug_text(view).as_bytes())));
+        self.line(&format!("wide: {}", hex(format!("{view:#12?}").as_bytes())));
+    }
+
+    fn point(&mut self, value: u32) {
+        let Some(point) = CodePoint::from_u32(value) else {
+            return self.line("no code point");
+        };
+        let number = point.to_u32();
+        let is_same = unsafe { CodePoint::from_u32_unchecked(value) } == point;
+        self.line(&format!(
+            "point {number:X} {point:?} {point:#12?} unchecked {is_same}"
+        ));
+        let lossy = u32::from(point.to_char_lossy());
+        match point.to_char() {
+            Some(c) => {
+                let scalar = u32::from(c);
+                let is_same = CodePoint::from_char(c) == point;
+                self.line(&format!("char {scalar:X} lossy {lossy:X} back {is_same}"));
+            }
+            None => self.line(&format!("no char lossy {lossy:X}")),
+        }
+        self.line(&format!("fed {}", hex(&fed_by(&point))));
+    }
+}
+
+fn debug_text<T: Debug + ?Sized>(value: &T) -> String {
+    format!("{value:?}")
+}
+
+fn name_of(order: Option<std::cmp::Ordering>) -> &'static str {
+    match order {
+        Some(std::cmp::Ordering::Less) => "less",
+        Some(std::cmp::Ordering::Equal) => "equal",
+        Some(std::cmp::Ordering::Greater) => "greater",
+        None => "none",
+    }
+}
+
+fn owned(view: &Wtf8) -> Wtf8Buf {
+    let mut string = Wtf8Buf::new();
+    string.push_wtf8(view);
+    string
+}
+
+fn points_behind(text: &Wtf8, count: usize) -> Wtf8CodePoints<'_> {
+    let mut points = text.code_points();
+    for _ in 0..count {
+        points.next();
+    }
+    points
+}
+
+fn hint_text((low, high): (usize, Option<usize>)) -> String {
+    match high {
+        Some(high) => format!(" {low}..{high}"),
+        None => format!(" {low}.."),
+    }
+}
+
+fn walk_points(out: &mut Out, mut points: Wtf8CodePoints<'_>, steps: &[u8]) {
+    for step in steps {
+        match step {
+            0 => write_point(out, points.next()),
+            1 => out.write_str(&hint_text(points.size_hint())).unwrap(),
+            2 => drain_points(out, points.clone()),
+            _ => points = points.clone(),
+        }
+    }
+    drain_points(out, points);
+}
+
+fn drain_points(out: &mut Out, mut points: Wtf8CodePoints<'_>) {
+    write!(out, " [{}", hint_text(points.size_hint())).unwrap();
+    while let Some(point) = points.next() {
+        write_point(out, Some(point));
+        out.write_str(&hint_text(points.size_hint())).unwrap();
+    }
+    write_point(out, points.next());
+    out.write_str(" ]").unwrap();
+}
+
+fn write_point(out: &mut Out, point: Option<CodePoint>) {
+    match point {
+        Some(point) => write!(out, " {point:?}").unwrap(),
+        None => out.write_str(" end").unwrap(),
+    }
+}
+
+/// The crate's iterator of units, and beside it whether it holds a trail: the crate does not say, so the code points
+/// are followed too.
+#[derive(Clone)]
+struct Units<'a> {
+    units: IllFormedUtf16CodeUnits<'a>,
+    points: Wtf8CodePoints<'a>,
+    is_trail_held: bool,
+}
+
+impl<'a> Units<'a> {
+    fn of(text: &'a Wtf8) -> Units<'a> {
+        Units {
+            units: text.to_ill_formed_utf16(),
+            points: text.code_points(),
+            is_trail_held: false,
+        }
+    }
+
+    fn next(&mut self) -> Option<u16> {
+        self.is_trail_held = match self.is_trail_held {
+            true => false,
+            false => self
+                .points
+                .next()
+                .is_some_and(|point| point.to_u32() > 0xFFFF),
+        };
+        self.units.next()
+    }
+
+    /// Writes the crate's hint as it is, and in the other transcript with a held trail counted, which is all that may
+    /// differ.
+    fn write_hint(&self, out: &mut Out) {
+        let (low, high) = self.units.size_hint();
+        let held = usize::from(self.is_trail_held);
+        let counted = (low + held, high.and_then(|high| high.checked_add(held)));
+        out.raw.push_str(&hint_text((low, high)));
+        out.excused.push_str(&hint_text(counted));
+    }
+}
+
+fn walk_units(out: &mut Out, mut units: Units<'_>, steps: &[u8]) {
+    for step in steps {
+        match step {
+            0 => write_unit(out, units.next()),
+            1 => units.write_hint(out),
+            2 => drain_units(out, units.clone()),
+            _ => units = units.clone(),
+        }
+    }
+    drain_units(out, units);
+}
+
+fn drain_units(out: &mut Out, mut units: Units<'_>) {
+    out.write_str(" [").unwrap();
+    units.write_hint(out);
+    while let Some(unit) = units.next() {
+        write_unit(out, Some(unit));
+        units.write_hint(out);
+    }
+    write_unit(out, units.next());
+    out.write_str(" ]").unwrap();
+}
+
+fn write_unit(out: &mut Out, unit: Option<u16>) {
+    match unit {
+        Some(unit) => write!(out, " {unit:04X}").unwrap(),
+        None => out.write_str(" end").unwrap(),
+    }
+}
