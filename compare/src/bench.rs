@@ -30,10 +30,10 @@ const LOOPS: [(u32, &str); 14] = [
 ];
 
 /// How often a column is timed.
-const TURNS: usize = 15;
+const TURNS: usize = 120;
 
 /// How long one turn takes at least, in nanoseconds.
-const TURN: f64 = 4e6;
+const TURN: f64 = 1e6;
 
 /// The least time of each column for a row, in nanoseconds an item.
 struct Row {
@@ -69,6 +69,40 @@ pub fn run(filter: &str, file: &Path) -> bool {
         }
     }
     fs::write(file, lines).is_ok()
+}
+
+/// Prints the names of the rows with the filter in them, each with the number of units that its input has.
+pub fn rows(filter: &str) -> bool {
+    for input in inputs::all() {
+        for (_, call) in LOOPS {
+            let name = format!("{call}\t{}", input.name);
+            if name.contains(filter) {
+                println!("{name}\t{}", input.units.len());
+            }
+        }
+    }
+    true
+}
+
+/// Runs one column's loop of a row and nothing else, for a tool that counts its instructions.
+pub fn run_loop(column: &str, row: &str, rounds: &str) -> bool {
+    let Ok(rounds) = rounds.parse() else {
+        return false;
+    };
+    for input in inputs::all() {
+        for (number, call) in LOOPS {
+            if row != format!("{call}\t{}", input.name) {
+                continue;
+            }
+            let sum = match column {
+                "proved" => Some(ours::time(number, &input.units, rounds)),
+                _ => original::Bench::new(&input.units).run(number, rounds),
+            };
+            println!("{}", sum.unwrap_or_default());
+            return true;
+        }
+    }
+    false
 }
 
 /// Times a row, or answers `None` where the sides' answers differ.

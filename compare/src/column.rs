@@ -1,5 +1,6 @@
 //! The timed loops over the original crate, and over the standard library's own WTF-8 where the compiler gives it.
 
+use std::hash::{Hash, Hasher};
 use std::hint::black_box;
 
 /// How many equal strings a loop goes round.
@@ -9,7 +10,7 @@ const STRINGS: usize = 4;
 macro_rules! column {
     ($module:ident, $path:path, $from_units:ident, $units:ident, $is_text:ident) => {
         pub mod $module {
-            use super::{black_box, STRINGS};
+            use super::{black_box, hex_dump, STRINGS};
             use $path::{CodePoint, Wtf8Buf};
 
             pub struct Bench<'a> {
@@ -86,6 +87,9 @@ macro_rules! column {
                         13 => Some(sum(rounds, |round| {
                             black_box(self.string_at(round).clone()).len() as u64
                         })),
+                        14 => Some(sum(rounds, |round| {
+                            black_box(hex_dump(self.string_at(round))).len() as u64
+                        })),
                         _ => None,
                     }
                 }
@@ -115,6 +119,40 @@ macro_rules! column {
             }
         }
     };
+}
+
+/// Keeps all that it is fed.
+#[derive(Default)]
+struct Fed {
+    bytes: Vec<u8>,
+}
+
+impl Hasher for Fed {
+    fn write(&mut self, bytes: &[u8]) {
+        self.bytes.extend_from_slice(bytes);
+    }
+
+    fn finish(&self) -> u64 {
+        0
+    }
+}
+
+/// The bytes of a string in hexadecimal. Neither crate has such a call: this is what their users can write, by the bytes
+/// that a hasher is fed, with FE behind them.
+fn hex_dump(text: &impl Hash) -> String {
+    const DIGITS: &[u8; 16] = b"0123456789ABCDEF";
+    let mut fed = Fed::default();
+    text.hash(&mut fed);
+    fed.bytes.pop();
+    let mut dump = String::with_capacity(3 * fed.bytes.len());
+    for (at, byte) in fed.bytes.iter().enumerate() {
+        if at > 0 {
+            dump.push(' ');
+        }
+        dump.push(char::from(DIGITS[usize::from(byte >> 4)]));
+        dump.push(char::from(DIGITS[usize::from(byte & 15)]));
+    }
+    dump
 }
 
 column!(

@@ -74,10 +74,11 @@ fn units(length: usize, point: impl Fn(&mut Random) -> u32) -> Vec<u16> {
     while units.len() < length {
         let point = point(&mut random);
         match char::from_u32(point) {
+            // No pair is cut at the end.
+            Some(c) if units.len() + c.len_utf16() > length => units.push(0x20),
             Some(c) => units.extend_from_slice(c.encode_utf16(&mut [0; 2])),
             None => units.push(point as u16),
         }
     }
-    units.truncate(length);
     units
 }

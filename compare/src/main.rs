@@ -23,7 +23,9 @@ use std::process::ExitCode;
 const USAGE: &str = "usage: compare differ [--seed S] [--cases N] [--every-point]
        compare record FOLDER [--seed S] [--cases N]
        compare bench FILE [FILTER]
-       compare table FILE..";
+       compare table FILE..
+       compare rows [FILTER]
+       compare loop proved|crate ROW ROUNDS";
 
 fn main() -> ExitCode {
     original::silence_answers();
@@ -44,6 +46,8 @@ fn main() -> ExitCode {
             bench::run(words.get(2).unwrap_or(&""), Path::new(words[1]))
         }
         Some(&"table") if words.len() > 1 => bench::table(&words[1..]),
+        Some(&"rows") => bench::rows(words.get(1).unwrap_or(&"")),
+        Some(&"loop") if words.len() == 4 => bench::run_loop(words[1], words[2], words[3]),
         _ => {
             eprintln!("{USAGE}");
             return ExitCode::from(2);
