@@ -1,7 +1,8 @@
 //! Reads scripts, one a line in hexadecimal, and prints their transcripts with an empty line behind each.
 #![tactic(auto)]
 
-ghost use Rattle.std.specs.Prelude.{◌≢◌, IfErr};
+ghost use Rattle.std.specs.Prelude.{◌≢◌, ℕ, List, OnOk, IfErr, IsErrOf};
+ghost use Rattle.wtf8_replay.specs.Hex.{IsHex, Spells};
 
 mod fault;
 mod hex;
@@ -41,7 +42,9 @@ fn replay(rt: &(impl Input + Print), alloc: Global) -> Result<(), Fault> {
 
 // The transcript of the script that a line spells.
 fn run_line(alloc: Global, line: &str) -> Result<String, Fault>
-    ensures { IfErr result (λ fault. (fault ≢ Fault.Read) × (fault ≢ Fault.Write)) }
+    ensures ok { OnOk result ((script : List ℕ) × Spells line.now script) }
+    ensures not_hexadecimal { IsErrOf result Fault.NotHexadecimal → ¬ IsHex line.now }
+    ensures fault { IfErr result (λ fault. (fault ≢ Fault.Read) × (fault ≢ Fault.Write)) }
 {
     let script = match read_hex(alloc, line) {
         Ok(Some(script)) => script,
