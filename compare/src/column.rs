@@ -1,7 +1,9 @@
 //! The timed loops over the original crate, and over the standard library's own WTF-8 where the compiler gives it.
 
-use std::hash::{Hash, Hasher};
+use std::hash::Hash;
 use std::hint::black_box;
+
+use crate::fed::fed_by;
 
 /// How many equal strings a loop goes round.
 const STRINGS: usize = 4;
@@ -121,31 +123,14 @@ macro_rules! column {
     };
 }
 
-/// Keeps all that it is fed.
-#[derive(Default)]
-struct Fed {
-    bytes: Vec<u8>,
-}
-
-impl Hasher for Fed {
-    fn write(&mut self, bytes: &[u8]) {
-        self.bytes.extend_from_slice(bytes);
-    }
-
-    fn finish(&self) -> u64 {
-        0
-    }
-}
-
 /// The bytes of a string in hexadecimal. Neither crate has such a call: this is what their users can write, by the bytes
 /// that a hasher is fed, with FE behind them.
 fn hex_dump(text: &impl Hash) -> String {
     const DIGITS: &[u8; 16] = b"0123456789ABCDEF";
-    let mut fed = Fed::default();
-    text.hash(&mut fed);
-    fed.bytes.pop();
-    let mut dump = String::with_capacity(3 * fed.bytes.len());
-    for (at, byte) in fed.bytes.iter().enumerate() {
+    let mut bytes = fed_by(text);
+    bytes.pop();
+    let mut dump = String::with_capacity(3 * bytes.len());
+    for (at, byte) in bytes.iter().enumerate() {
         if at > 0 {
             dump.push(' ');
         }

@@ -8,6 +8,7 @@ extern crate alloc;
 mod bench;
 mod column;
 mod differ;
+mod fed;
 mod generate;
 mod inputs;
 mod original;

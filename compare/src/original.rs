@@ -2,10 +2,11 @@
 
 use std::cell::Cell;
 use std::fmt::{Debug, Write};
-use std::hash::{Hash, Hasher};
 use std::panic::{catch_unwind, AssertUnwindSafe};
 
 use wtf8::{CodePoint, IllFormedUtf16CodeUnits, Wtf8, Wtf8Buf, Wtf8CodePoints};
+
+use crate::fed::fed_by;
 
 /// What the original crate answered to a script.
 pub struct Answers {
@@ -130,28 +131,6 @@ impl Write for Out {
         self.raw.push_str(text);
         Ok(())
     }
-}
-
-/// Keeps all that it is fed.
-#[derive(Default)]
-struct Recorder {
-    bytes: Vec<u8>,
-}
-
-impl Hasher for Recorder {
-    fn write(&mut self, bytes: &[u8]) {
-        self.bytes.extend_from_slice(bytes);
-    }
-
-    fn finish(&self) -> u64 {
-        0
-    }
-}
-
-fn fed_by<T: Hash + ?Sized>(value: &T) -> Vec<u8> {
-    let mut recorder = Recorder::default();
-    value.hash(&mut recorder);
-    recorder.bytes
 }
 
 fn hex(bytes: &[u8]) -> String {
