@@ -24,7 +24,7 @@ pub(crate) fn first_surrogate(bytes: &[u8], from: usize) -> Option<usize>
     while LANES < bytes.len().saturating_sub(at) {
         let firsts = u8x32::from_slice(&bytes[at..]);
         let seconds = u8x32::from_slice(&bytes[at + 1..]);
-        if let Some(lane) = first_lane(firsts, seconds) {
+        if let Some(lane) = block(firsts, seconds) {
             return Some(at + lane);
         }
         at += LANES;
@@ -32,9 +32,9 @@ pub(crate) fn first_surrogate(bytes: &[u8], from: usize) -> Option<usize>
     first_surrogate_in_rest(bytes, at)
 }
 
-/// The first lane in which the two vectors hold the first and the second byte of a surrogate.
+/// The first lane of a block in which the two vectors hold the first and the second byte of a surrogate.
 #[inline(always)]
-fn first_lane(firsts: u8x32, seconds: u8x32) -> Option<usize>
+fn block(firsts: u8x32, seconds: u8x32) -> Option<usize>
     ensures { IsFirstLane firsts seconds result }
 {
     let leads = firsts.simd_eq(u8x32::splat(0xED));
