@@ -7,6 +7,7 @@ pub mod Gaining
 pub mod Gluing
 pub mod Growth
 pub mod Joining
+pub mod LaneLemmas
 pub mod LawLemmas
 pub mod OneReading
 pub mod Positions

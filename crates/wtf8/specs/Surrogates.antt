@@ -30,3 +30,17 @@ pub record IsLeastSurrogate (w : List ℕ) (from i : ℕ) : Type 0 where
 -- An answer is the least place of a surrogate from a start on, or that there is none.
 abbrev pub IsFirstSurrogate : List ℕ → ℕ → Option ℕ → Type 0
 IsFirstSurrogate w from r = MatchOption r ((j : ℕ) → from ≤ j → ¬ (SurrogateAt w j)) (IsLeastSurrogate w from)
+
+-- A lane in which one vector holds ED and another a byte of at least A0, as a surrogate's first two bytes are.
+abbrev pub IsSurrogateLane : List ℕ → List ℕ → ℕ → Type 0
+IsSurrogateLane firsts seconds k = (slice_index firsts k ≡ 0xED) × (0xA0 ≤ slice_index seconds k)
+
+-- The least such lane of 32.
+pub record IsLeastLane (firsts seconds : List ℕ) (k : ℕ) : Type 0 where
+  pub within : k < 32
+  pub here : IsSurrogateLane firsts seconds k
+  pub none_before : (j : ℕ) → j < k → ¬ (IsSurrogateLane firsts seconds j)
+
+-- An answer is the least such lane of 32, or that there is none.
+abbrev pub IsFirstLane : List ℕ → List ℕ → Option ℕ → Type 0
+IsFirstLane firsts seconds r = MatchOption r ((j : ℕ) → j < 32 → ¬ (IsSurrogateLane firsts seconds j)) (IsLeastLane firsts seconds)

@@ -1,0 +1,8 @@
+use Rattle.wtf8.proofs.LaneLemmas.{no_lane, least_lane}
+use Rattle.wtf8.proofs.search.first_lane.Goals as goal
+
+pub returns-then-mask-eq0 : goal.returns-then-mask-eq0
+returns-then-mask-eq0 c = no_lane c.args.firsts c.args.seconds c.fits-firsts.0 c.fits-seconds.0 c.if-mask-eq0.true
+
+pub returns : goal.returns
+returns c = least_lane c.args.firsts c.args.seconds c.fits-firsts.0 c.fits-seconds.0 c.if-mask-eq0.false

@@ -1,0 +1,7 @@
+use Rattle.std.proofs.Common.{ℕ, ◌≤◌, ◌<◌}
+use Rattle.wtf8.specs.Surrogates.{SurrogateAt}
+use Rattle.wtf8.proofs.search.first_surrogate_in_rest.Given as goal
+
+-- none so far
+abbrev pub invariant-loop-index : goal.invariant-loop-index
+invariant-loop-index l = (j : ℕ) → l.from ≤ j → j < l.index → ¬ (SurrogateAt l.bytes j)
