@@ -14,6 +14,7 @@ pub mod Positions
 pub mod Readings
 pub mod RunLaws
 pub mod Runs
+pub mod Scalars
 pub mod SurrogateLemmas
 pub mod Texts
 pub mod UnitLemmas

@@ -1,5 +1,5 @@
 -- That bytes are well-formed, and that they are a form of units, has one proof at most: encodings determine their code points.
-use Rattle.std.specs.Prelude.{◌≡◌, ℕ, List, [], ◌∷◌, ◌++◌, refl}
+use Rattle.std.specs.Prelude.{◌≡◌, ℕ, Bool, IsTrue, List, [], ◌∷◌, ◌++◌, refl}
 use Rattle.std.specs.Coded.{×_prop, →_prop, Unit-prop, le_prop, Coded-set, coded_list, coded_ℕ}
 use Rattle.std.proofs.Common.{ap, sym, ◌∙◌}
 use Rattle.std.proofs.lemmas.Str.{encodes_same}
@@ -7,6 +7,7 @@ use mathlib.Core.HLevel.{Σ_prop_path, ⊥_prop, ×₃_prop}
 use lib.Utf8.{encode, encodes}
 use Rattle.wtf8.specs.Unicode.{units}
 use Rattle.wtf8.specs.Form.{IsClean, encoding, bytes, IsWellFormed, IsForm}
+use Rattle.wtf8.specs.Surrogates.{AreScalar}
 
 -- the library's table of UTF-8 is the same at every number
 pub encoding_is_encode : (p : ℕ) → encoding p ≡ encode p
@@ -52,3 +53,11 @@ pub IsForm-prop : (w u : List ℕ) → IsProp (IsForm w u)
 IsForm-prop w u x y =
     let same : (c : List ℕ) → IsProp ((IsClean c × (units c ≡ u)) × (bytes c ≡ w)) = λ c. ×_prop (×_prop (IsClean-prop c) (list_set (units c) u)) (list_set (bytes c) w) in
     ap form (Σ_prop_path same {u = (x.points, ((x.reads.clean, x.reads.same_units), x.encoded))} {v = (y.points, ((y.reads.clean, y.reads.same_units), y.encoded))} (bytes-injective x.points y.points (x.encoded ∙ sym y.encoded)))
+
+AreScalar-prop : (c : List ℕ) → IsProp (AreScalar c)
+AreScalar-prop [] = Unit-prop
+AreScalar-prop (p ∷ c) = ×_prop (→_prop ⊥_prop) (AreScalar-prop c)
+
+-- that no surrogate is held where a flag says so has one proof at most
+pub KnownScalar-prop : (known : Bool) (c : List ℕ) → IsProp (IsTrue known → AreScalar c)
+KnownScalar-prop known c = →_prop (AreScalar-prop c)

@@ -1,13 +1,13 @@
 // Owned strings.
-ghost use Rattle.std.specs.Prelude.{◌≡◌, ℕ, List, [], ◌++◌, ◌+◌, ◌≤◌, length, take, OnOk, OnErr, IsOk, IfOk, IfErr, ◌↔◌, vec_capacity};
+ghost use Rattle.std.specs.Prelude.{◌≡◌, ℕ, List, [], ◌++◌, ◌+◌, ◌≤◌, length, take, IsTrue, OnOk, OnErr, IsOk, IfOk, IfErr, ◌↔◌, vec_capacity};
 ghost use Rattle.std.specs.Str.{chars};
 ghost use Rattle.std.specs.String.{string_bytes};
 ghost use Rattle.wtf8.specs.CodePoint.{number};
 ghost use Rattle.wtf8.specs.Concatenation.{MeetsAsPair};
 ghost use Rattle.wtf8.specs.Form.{IsWellFormed, IsForm, bytes};
-ghost use Rattle.wtf8.specs.OneForm.{IsWellFormed-prop};
+ghost use Rattle.wtf8.specs.OneForm.{IsWellFormed-prop, KnownScalar-prop};
 ghost use Rattle.wtf8.specs.Position.{IsBoundary, IsFront};
-ghost use Rattle.wtf8.specs.Surrogates.{AreScalar, lossy};
+ghost use Rattle.wtf8.specs.Surrogates.{AreScalar, IsFirstSurrogate, lossy};
 ghost use Rattle.wtf8.specs.Unicode.{units, units_of};
 
 use crate::code_point::CodePoint;
@@ -19,11 +19,16 @@ use std::marker::Model;
 /// An owned string of well-formed WTF-8 that can grow.
 ///
 /// Contracts see it as its units, its bytes, the fact that the bytes are the well-formed form of these units, and its
-/// capacity.
+/// capacity. They do not see a flag that saves `into_string` and `into_string_lossy` their search, and equality, order,
+/// hash and debug text do not look at it.
 #[derive(Drop)]
 pub struct Wtf8Buf<A: Allocator> {
     bytes: Vec<u8, A>,
+
+    /// Whether it is known that no surrogate is held. Where it is not, there may be one or none.
+    is_known_utf8: bool,
     ghost well_formed: { IsWellFormed bytes.items } by { IsWellFormed-prop bytes.items },
+    ghost known_scalar: { IsTrue is_known_utf8 → AreScalar well_formed.points } by { KnownScalar-prop is_known_utf8 well_formed.points },
 }
 
 impl<A: Allocator> Model for Wtf8Buf<A> {
@@ -48,14 +53,18 @@ impl<A: Allocator> Model for Wtf8Buf<A> {
     } };
 }
 
-/// A string of bytes that are known to be well-formed.
-fn from_well_formed<A: Allocator>(bytes: Vec<u8, A>) -> Wtf8Buf<A>
-    requires { IsWellFormed bytes.items }
+/// A string of bytes that are known to be well-formed, and that are known to hold no surrogate where the flag says so.
+fn from_well_formed<A: Allocator>(bytes: Vec<u8, A>, is_known_utf8: bool) -> Wtf8Buf<A>
+    requires well_formed { IsWellFormed bytes.items }
+    requires scalar { IsTrue is_known_utf8 → (h : IsWellFormed bytes.items) → AreScalar h.points }
     ensures bytes { result.bytes ≡ bytes.items }
     ensures units { (h : IsWellFormed bytes.items) → result.units ≡ units h.points }
     ensures capacity { result.capacity ≡ vec_capacity bytes }
 {
-    Wtf8Buf { bytes }
+    Wtf8Buf {
+        bytes,
+        is_known_utf8,
+    }
 }
 
 impl<A: Allocator> Wtf8Buf<A> {
@@ -64,7 +73,7 @@ impl<A: Allocator> Wtf8Buf<A> {
         ensures units { result.units ≡ [] }
         ensures bytes { result.bytes ≡ [] }
     {
-        from_well_formed(Vec::new(alloc))
+        from_well_formed(Vec::new(alloc), true)
     }
 
     /// An empty string with room for at least `n` bytes. It asks for no memory where `n` is 0.
@@ -74,7 +83,7 @@ impl<A: Allocator> Wtf8Buf<A> {
         ensures capacity { IfOk result (λ b. n ≤ b.capacity) }
         ensures zero { n ≡ 0 → IsOk result }
     {
-        Ok(from_well_formed(Vec::with_capacity(alloc, n)?))
+        Ok(from_well_formed(Vec::with_capacity(alloc, n)?, true))
     }
 
     /// The string of a text's characters. It keeps the text's own bytes and asks for no memory.
@@ -82,7 +91,7 @@ impl<A: Allocator> Wtf8Buf<A> {
         ensures units { result.units ≡ units (chars (string_bytes string)) }
         ensures bytes { result.bytes ≡ string_bytes string }
     {
-        from_well_formed(string.into_bytes())
+        from_well_formed(string.into_bytes(), true)
     }
 
     /// The string of a text's characters: a copy of its bytes. The empty text asks for no memory.
@@ -93,7 +102,7 @@ impl<A: Allocator> Wtf8Buf<A> {
     {
         let mut bytes = Vec::with_capacity(alloc, value.len())?;
         bytes.extend_from_slice(value.as_bytes())?;
-        Ok(from_well_formed(bytes))
+        Ok(from_well_formed(bytes, true))
     }
 
     /// The string whose units are `v`, whether they pair or not. It first asks for as many bytes as there are units, and
@@ -105,7 +114,8 @@ impl<A: Allocator> Wtf8Buf<A> {
     {
         let mut bytes = Vec::with_capacity(alloc, v.len())?;
         decode::append_units(&mut bytes, v)?;
-        Ok(from_well_formed(bytes))
+        let is_known_utf8 = search::first_surrogate(&bytes, 0).is_none();
+        Ok(from_well_formed(bytes, is_known_utf8))
     }
 
     /// An equal string with an allocator of its own, cloned from this one's.
@@ -116,7 +126,8 @@ impl<A: Allocator> Wtf8Buf<A> {
         ensures bytes { IfOk result (λ b. b.bytes ≡ self.now.bytes) }
     {
         let alloc = self.bytes.allocator().clone()?;
-        Ok(from_well_formed(Vec::from_slice(alloc, self.bytes.as_slice())?))
+        let bytes = Vec::from_slice(alloc, self.bytes.as_slice())?;
+        Ok(from_well_formed(bytes, self.is_known_utf8))
     }
 
     /// Finds room for at least `additional` more bytes, and asks for none where that room is there. The string is as
@@ -159,8 +170,15 @@ impl<A: Allocator> Wtf8Buf<A> {
         ensures room { (w : List ℕ) → IsForm w (self.old.units ++ units_of (number code_point)) → length w ≤ self.old.capacity → IsOk result }
         ensures capacity { self.old.capacity ≤ self.new.capacity }
     {
-        concat::push_point(&mut self.bytes, code_point)
+        match code_point.to_char() {
+            Some(c) => concat::push_scalar(&mut self.bytes, c),
+            None => {
+                self.is_known_utf8 = false;
+                concat::push_point(&mut self.bytes, code_point)
+            }
+        }
     }
+
     /// Appends a character. After a refusal the string is as before.
     #[inline(always)]
     pub fn push_char(&mut self, c: char) -> Result<(), AllocError>
@@ -203,16 +221,24 @@ impl<A: Allocator> Wtf8Buf<A> {
         ensures room { (w : List ℕ) → IsForm w (self.old.units ++ units other.entry.well_formed.points) → length w ≤ self.old.capacity → IsOk result }
         ensures capacity { self.old.capacity ≤ self.new.capacity }
     {
+        if self.is_known_utf8 {
+            self.is_known_utf8 = search::first_surrogate(other.bytes, 0).is_none();
+        }
         concat::push_view(&mut self.bytes, other)
     }
+
     /// Keeps the code points before a position, which `is_code_point_boundary` of the view tests.
     pub fn truncate(&mut self, new_len: usize)
         requires { IsBoundary self.old.units new_len }
         ensures units { IsFront self.old.units new_len self.new.units }
         ensures bytes { self.new.bytes ≡ take new_len self.old.bytes }
     {
+        if new_len == 0 {
+            self.is_known_utf8 = true;
+        }
         self.bytes.truncate(new_len)
     }
+
     /// The same bytes as a text, not copied, or the buffer as it was exactly where it holds a surrogate. It asks for no
     /// memory.
     pub fn into_string(self) -> Result<String<A>, Wtf8Buf<A>>
@@ -221,9 +247,9 @@ impl<A: Allocator> Wtf8Buf<A> {
         ensures units_back { IfErr result (λ b. b.units ≡ self.units) }
         ensures bytes_back { IfErr result (λ b. b.bytes ≡ self.bytes) }
     {
-        match search::first_surrogate(&self.bytes, 0) {
+        match self.first_surrogate() {
             None => {
-                let Wtf8Buf { bytes } = self;
+                let Wtf8Buf { bytes, .. } = self;
                 Ok(unsafe { String::from_utf8_unchecked(bytes) })
             }
             Some(_) => Err(self),
@@ -236,8 +262,126 @@ impl<A: Allocator> Wtf8Buf<A> {
         ensures text { string_bytes result ≡ bytes (lossy self.form.points) }
         ensures len { length (string_bytes result) ≡ length self.bytes }
     {
-        let Wtf8Buf { mut bytes } = self;
-        search::replace_surrogates(&mut bytes);
-        unsafe { String::from_utf8_unchecked(bytes) }
+        unsafe { String::from_utf8_unchecked(self.into_lossy_bytes()) }
+    }
+
+    /// The bytes with those of U+FFFD in the place of each surrogate's. It makes no search where it is known that there
+    /// is none.
+    fn into_lossy_bytes(self) -> Vec<u8, A>
+        ensures { result.items ≡ bytes (lossy self.form.points) }
+    {
+        let Wtf8Buf {
+            mut bytes,
+            is_known_utf8,
+        } = self;
+        if !is_known_utf8 {
+            search::replace_surrogates(&mut bytes);
+        }
+        bytes
+    }
+
+    /// The place of the first surrogate. It makes no search where it is known that there is none.
+    fn first_surrogate(&self) -> Option<usize>
+        ensures { IsFirstSurrogate self.now.bytes 0 result }
+    {
+        if self.is_known_utf8 {
+            return None;
+        }
+        search::first_surrogate(&self.bytes, 0)
+    }
+}
+
+#[cfg(test)]
+mod tests {
+    use super::*;
+    use crate::build::Build;
+    use std::alloc::Global;
+    use std::hash::{DefaultHasher, Hash, Hasher};
+    use std::process::Abort;
+
+    /// Numbers of code points that are pushed on "a", whether the string is then known to hold no surrogate, whether it
+    /// is text, and its bytes.
+    struct Row {
+        numbers: &'static [u32],
+        is_known_utf8: bool,
+        is_text: bool,
+        dump: &'static str,
+    }
+
+    const ROWS: [Row; 3] = [
+        Row {
+            numbers: &[],
+            is_known_utf8: true,
+            is_text: true,
+            dump: "61",
+        },
+        Row {
+            numbers: &[0xD800],
+            is_known_utf8: false,
+            is_text: false,
+            dump: "61 ED A0 80",
+        },
+        Row {
+            numbers: &[0xD83D, 0xDCA9],
+            is_known_utf8: false,
+            is_text: true,
+            dump: "61 F0 9F 92 A9",
+        },
+    ];
+
+    /// The string that pushes of these numbers' code points on "a" give.
+    fn pushed<R: Abort + AllocGlobal>(
+        rt: &R,
+        numbers: &[u32],
+    ) -> Result<Wtf8Buf<Global>, AllocError> {
+        let mut string = Wtf8Buf::from_str(rt.alloc(), "a")?;
+        for number in numbers {
+            string.push(CodePoint::from_u32(*number).expect(rt, "a code point"))?;
+        }
+        Ok(string)
+    }
+
+    fn hash_of<T: Hash>(value: &T) -> u64 {
+        let mut hasher = DefaultHasher::new();
+        value.hash(&mut hasher);
+        hasher.finish()
+    }
+
+    #[test]
+    fn a_surrogate_clears_the_flag(rt: HostRuntime) -> Result<(), AllocError> {
+        for row in &ROWS {
+            let string = pushed(&rt, row.numbers)?;
+            assert_eq!(rt; string.is_known_utf8, row.is_known_utf8, "{}", row.dump);
+            match string.into_string() {
+                Ok(text) => {
+                    assert!(rt; row.is_text, "{}", row.dump);
+                    let dump = Wtf8::from_str(&text).hex_dump(rt.alloc())?;
+                    assert_eq!(rt; dump.as_str(), row.dump);
+                }
+                Err(string) => {
+                    assert!(rt; !row.is_text, "{}", row.dump);
+                    let dump = string.as_wtf8().hex_dump(rt.alloc())?;
+                    assert_eq!(rt; dump.as_str(), row.dump);
+                }
+            }
+        }
+        Ok(())
+    }
+
+    #[test]
+    fn equal_strings_may_differ_in_the_flag(rt: HostRuntime) -> Result<(), AllocError> {
+        let plain = pushed(&rt, &[])?;
+        let mut emptied = pushed(&rt, &[0xD800])?;
+        assert!(rt; emptied.apply(Build::Truncate(0))?);
+        assert!(rt; emptied.is_known_utf8);
+        emptied.push(CodePoint::from_char('a'))?;
+        let mut cut = pushed(&rt, &[0xD800])?;
+        assert!(rt; cut.apply(Build::Truncate(1))?);
+        assert!(rt; !cut.is_known_utf8);
+        for other in [emptied, cut] {
+            assert_eq!(rt; other, plain);
+            assert_eq!(rt; hash_of(&other), hash_of(&plain));
+        }
+        Ok(())
     }
 }

@@ -125,6 +125,7 @@ pub(crate) fn push_view<A: Allocator>(
 }
 
 /// Appends a character, which joins nothing.
+#[inline(always)]
 pub(crate) fn push_scalar<A: Allocator>(bytes: &mut Vec<u8, A>, c: char) -> Result<(), AllocError>
     requires { IsWellFormed bytes.old.items }
     ensures ok { OnOk result (GainsUnits bytes.old.items bytes.new.items (units_of c)) }

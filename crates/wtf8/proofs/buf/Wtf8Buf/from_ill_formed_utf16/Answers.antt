@@ -1,6 +1,12 @@
-use Rattle.std.proofs.Common.{◌∙◌}
+use Rattle.std.proofs.Common.{◌∙◌, subst}
+use Rattle.wtf8.specs.Surrogates.{IsFirstSurrogate}
+use Rattle.wtf8.proofs.Scalars.{scalar_unless_found}
 use Rattle.wtf8.proofs.OneReading.{same_form}
 use Rattle.wtf8.proofs.buf.Wtf8Buf.from_ill_formed_utf16.Goals as goal
+
+pub from_well_formed-requires-clause-scalar : goal.from_well_formed-requires-clause-scalar
+from_well_formed-requires-clause-scalar g c known h =
+    scalar_unless_found c.first_surrogate.result c.is_none-is_known_utf8.result h (subst (λ w. IsFirstSurrogate w 0 c.first_surrogate.result) c.deref.ensures.value c.first_surrogate.ensures) c.is_none-is_known_utf8.ensures known
 
 pub returns-clause-units : goal.returns-clause-units
 returns-clause-units g c =

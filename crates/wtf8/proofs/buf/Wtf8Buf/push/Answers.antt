@@ -1,16 +1,38 @@
+use Rattle.std.proofs.Common.{ap, sym, subst, [], ◌∷◌, OnOk}
+use Rattle.std.proofs.lemmas.Bool.{false≢true}
+use Rattle.std.proofs.lemmas.List.{append-nil}
+use Rattle.wtf8.specs.Form.{GainsUnits}
 use Rattle.wtf8.specs.Text.{Text}
-use Rattle.std.proofs.Common.{ap}
+use Rattle.wtf8.specs.Unicode.{IsCodePoint, IsSurrogate, units_of}
 use Rattle.wtf8.proofs.Gaining.{gained_or_kept, gained_units, kept_units}
+use Rattle.wtf8.proofs.Scalars.{scalar_gained}
 use Rattle.wtf8.proofs.buf.Wtf8Buf.push.Goals as goal
 
 pub invariant_of-self-inside : goal.invariant_of-self-inside
 invariant_of-self-inside g c =
-    (gained_or_kept c.push_point.result _ c.self.inside.well_formed c.push_point.ensures.ok c.push_point.ensures.err, tt)
+    let p = c.in-Some.c in
+    let now = gained_or_kept c.push_scalar.result _ c.self.inside.well_formed c.push_scalar.ensures.ok c.push_scalar.ensures.err in
+    let range : IsCodePoint p = subst IsCodePoint (sym c.in-Some.ensures.some) c.args.code_point.in_range in
+    let apart : ¬ (IsSurrogate p) = λ s. false≢true (sym (c.in-Some.ensures.none.1 (subst IsSurrogate c.in-Some.ensures.some s))) in
+    (now, (λ known. scalar_gained c.push_scalar.result (p ∷ []) (units_of p) c.self.inside.well_formed now (sym (append-nil (units_of p))) range (apart, tt) (c.self.inside.known_scalar known) c.push_scalar.ensures.ok c.push_scalar.ensures.err, tt))
 
-pub returns-clause-ok : goal.returns-clause-ok
-returns-clause-ok g c =
-    gained_units c.push_point.result _ c.self.inside.well_formed c.self-1.given.0 (ap (λ (t : Text). t.units) c.self.view_is) c.push_point.ensures.ok
+pub invariant_of-self-inside-in-None : goal.invariant_of-self-inside-in-None
+invariant_of-self-inside-in-None g c =
+    (gained_or_kept c.push_point.result _ c.self.inside.well_formed c.push_point.ensures.ok c.push_point.ensures.err, (λ known. absurd (false≢true known), tt))
 
-pub returns-clause-units_kept : goal.returns-clause-units_kept
-returns-clause-units_kept g c =
-    kept_units c.push_point.result c.self.inside.well_formed c.self-1.given.0 (ap (λ (t : Text). t.units) c.self.view_is) c.push_point.ensures.err
+pub returns-in-Some-clause-ok : goal.returns-in-Some-clause-ok
+returns-in-Some-clause-ok g c =
+    let gains = subst (λ n. OnOk c.push_scalar.result (GainsUnits c.self.inside.bytes.items c.push_scalar.new.bytes.items (units_of n))) c.in-Some.ensures.some c.push_scalar.ensures.ok in
+    gained_units c.push_scalar.result _ c.self.inside.well_formed c.self-1.given.0 (ap (λ (t : Text). t.units) c.self.view_is) gains
+
+pub returns-in-Some-clause-units_kept : goal.returns-in-Some-clause-units_kept
+returns-in-Some-clause-units_kept g c =
+    kept_units c.push_scalar.result c.self.inside.well_formed c.self-1.given.0 (ap (λ (t : Text). t.units) c.self.view_is) c.push_scalar.ensures.err
+
+pub returns-in-None-clause-ok : goal.returns-in-None-clause-ok
+returns-in-None-clause-ok g c =
+    gained_units c.push_point.result _ c.self.inside.well_formed c.self-in-None-1.given.0 (ap (λ (t : Text). t.units) c.self.view_is) c.push_point.ensures.ok
+
+pub returns-in-None-clause-units_kept : goal.returns-in-None-clause-units_kept
+returns-in-None-clause-units_kept g c =
+    kept_units c.push_point.result c.self.inside.well_formed c.self-in-None-1.given.0 (ap (λ (t : Text). t.units) c.self.view_is) c.push_point.ensures.err

@@ -1,16 +1,31 @@
-use Rattle.std.proofs.Common.{◌∙◌, ap, sym, subst}
+use Rattle.std.proofs.Common.{◌∙◌, ap, sym, subst, arith, length, length-take, IsTrue}
 use Rattle.wtf8.specs.Text.{Text}
 use Rattle.wtf8.specs.Unicode.{units}
 use Rattle.wtf8.specs.Position.{IsBoundary, IsFront}
-use Rattle.wtf8.proofs.Readings.{moved, same_points}
+use Rattle.wtf8.proofs.Readings.{moved, same_points, no_points}
+use Rattle.wtf8.proofs.Scalars.{scalar-front}
+use Rattle.wtf8.specs.Form.{IsWellFormed}
+use Rattle.wtf8.specs.Surrogates.{AreScalar}
 use Rattle.wtf8.proofs.Positions.{cut_at}
 use Rattle.wtf8.proofs.buf.Wtf8Buf.truncate.Goals as goal
+use Rattle.wtf8.proofs.buf.Wtf8Buf.truncate.Goals.{then-new_len-eq0, else-new_len-eq0}
 
 pub invariant_of-self-inside : goal.invariant_of-self-inside
 invariant_of-self-inside g c =
     let same = ap (λ (t : Text). t.units) c.self.view_is in
     let cut = cut_at c.self.inside.well_formed c.args.new_len (subst (λ u. IsBoundary u c.args.new_len) (sym same) c.requires) in
-    (moved cut.before c.truncate.ensures.items, tt)
+    let now : IsWellFormed c.truncate.new.self.items = moved cut.before c.truncate.ensures.items in (
+      now,
+      (
+        λ known. elim c.if-new_len-eq0.branch [
+          | then-new_len-eq0 w ↦ subst AreScalar (sym (no_points now (omega (arith, w.if-new_len-eq0.true, ap length c.truncate.ensures.items, length-take c.args.new_len c.self.inside.bytes.items)))) tt
+          | else-new_len-eq0 w ↦
+              let scalar = c.self.inside.known_scalar (subst (λ s. IsTrue s.1.1.0) w.self-inside-is known) in
+              subst AreScalar (sym cut.before_points) (scalar-front cut.front cut.back (subst AreScalar cut.points scalar))
+        ],
+        tt,
+      ),
+    )
 
 pub returns-clause-units : goal.returns-clause-units
 returns-clause-units g c =

@@ -1,0 +1,59 @@
+-- Code points that are scalar values, parts of them, and scalar values behind them.
+use Rattle.std.proofs.Common.{◌≡◌, ℕ, List, [], ◌∷◌, ◌++◌, Bool, true, not, IsTrue, Option, Some, None, is_some, Result, Ok, Err, OnOk, OnErr, ap, ◌∙◌, sym, subst, arith}
+use Rattle.std.proofs.lemmas.Bool.{false≢true}
+use Rattle.std.specs.Str.{chars, IsUtf8}
+use Rattle.std.proofs.lemmas.Str.{scalars-chars}
+use lib.Utf8.{scalars}
+use Rattle.wtf8.specs.Unicode.{units}
+use Rattle.wtf8.specs.Form.{IsClean, IsWellFormed, GainsUnits}
+use Rattle.wtf8.specs.OneForm.{bytes-injective}
+use Rattle.wtf8.specs.Surrogates.{AreScalar, IsFirstSurrogate}
+use Rattle.wtf8.proofs.Gaining.{form_of}
+use Rattle.wtf8.proofs.Joining.{NoPair, clean-append}
+use Rattle.wtf8.proofs.OneReading.{same_reading}
+use Rattle.wtf8.proofs.Readings.{same_points}
+use Rattle.wtf8.proofs.SurrogateLemmas.{scalar-middle, scalar_if_none}
+use Rattle.wtf8.proofs.Texts.{scalar_facts, scalars-parts}
+use Rattle.wtf8.proofs.UnitLemmas.{units-append}
+
+pub scalar-front : (c d : List ℕ) → AreScalar (c ++ d) → AreScalar c
+scalar-front [] d s = tt
+scalar-front (p ∷ c) d s = (s.0, scalar-front c d s.1)
+
+pub scalar-append : (c d : List ℕ) → AreScalar c → AreScalar d → AreScalar (c ++ d)
+scalar-append [] d s t = t
+scalar-append (p ∷ c) d s t = (s.0, scalar-append c d s.1 t)
+
+-- the characters of a text are scalar values
+scalar-characters : (c : List ℕ) → scalars c ≡ true → AreScalar c
+scalar-characters [] e = tt
+scalar-characters (p ∷ c) e =
+    let parts = scalars-parts p c e in
+    ((scalar_facts p parts.0).apart, scalar-characters c parts.1)
+
+pub scalar_text : {w : List ℕ} → IsUtf8 w → AreScalar (chars w)
+scalar_text {w} u = scalar-characters (chars w) (scalars-chars w u)
+
+-- scalar values end in no lead
+pub scalar_apart : (c d : List ℕ) → AreScalar c → NoPair c d
+scalar_apart c d s =
+    record { apart = λ f r l t e _ p. scalar-middle f l [] (subst AreScalar e s) (omega (arith, p.0), omega (arith, p.0)) }
+
+-- what the search says that found none
+pub scalar_unless_found : (r : Option ℕ) (none : Bool) {w : List ℕ} (h : IsWellFormed w) → IsFirstSurrogate w 0 r → is_some r ≡ not none → IsTrue none → AreScalar h.points
+scalar_unless_found None none h f e k = scalar_if_none h f
+scalar_unless_found (Some i) none h f e k = absurd (false≢true (sym (e ∙ ap not k)))
+
+-- equal bytes have equal code points
+pub scalar_moved : {v w : List ℕ} (h : IsWellFormed v) (k : IsWellFormed w) → w ≡ v → AreScalar h.points → AreScalar k.points
+scalar_moved h k e s = subst AreScalar (sym (same_points k h e)) s
+
+module _ {T E : Type 0} where
+  -- scalar values behind scalar values are appended as they are, or the string is as before
+  pub scalar_gained : (r : Result T E) (c v : List ℕ) {old new : List ℕ} (h : IsWellFormed old) (k : IsWellFormed new) → v ≡ units c → IsClean c → AreScalar c → AreScalar h.points → OnOk r (GainsUnits old new v) → OnErr r (new ≡ old) → AreScalar k.points
+  scalar_gained (Ok _) c v h k e x s t ok err =
+      let f = ok (units h.points) (form_of h) in
+      let whole : units k.points ≡ units (h.points ++ c) = ap units (bytes-injective k.points f.points (k.encoded ∙ sym f.encoded)) ∙ (f.reads.same_units ∙ (ap (λ u. units h.points ++ u) e ∙ sym (units-append h.points c))) in
+      let same : k.points ≡ h.points ++ c = same_reading k.points (h.points ++ c) k.clean (clean-append h.points c h.clean x (scalar_apart h.points c t)) whole in
+      subst AreScalar (sym same) (scalar-append h.points c t s)
+  scalar_gained (Err _) c v h k e x s t ok err = scalar_moved h k err t
