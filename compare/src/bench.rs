@@ -43,42 +43,44 @@ struct Row {
     standard: f64,
 }
 
+/// The rows of the table: each with the number of its loop, its name, and its input.
+fn all_rows() -> Vec<(u32, String, Input)> {
+    let of_input = |input: Input| {
+        LOOPS.map(|(number, call)| (number, format!("{call}\t{}", input.name), input.clone()))
+    };
+    inputs::all().into_iter().flat_map(of_input).collect()
+}
+
 /// Times the rows whose name has the filter in it, prints them, and writes them to a file that `table` reads.
 pub fn run(filter: &str, file: &Path) -> bool {
     let mut lines = String::new();
-    for input in inputs::all() {
-        for (number, call) in LOOPS {
-            let name = format!("{call}\t{}", input.name);
-            if !name.contains(filter) {
-                continue;
-            }
-            let Some(row) = time(number, name, &input) else {
-                return false;
-            };
-            let Row {
-                name,
-                ours,
-                original,
-                standard,
-            } = &row;
-            println!(
-                "{:60} {ours:8.3} {original:8.3} {standard:8.3}",
-                name.replace('\t', ", ")
-            );
-            writeln!(lines, "{name}\t{ours}\t{original}\t{standard}").unwrap();
+    for (number, name, input) in all_rows() {
+        if !name.contains(filter) {
+            continue;
         }
+        let Some(row) = time(number, name, &input) else {
+            return false;
+        };
+        let Row {
+            name,
+            ours,
+            original,
+            standard,
+        } = &row;
+        println!(
+            "{:60} {ours:8.3} {original:8.3} {standard:8.3}",
+            name.replace('\t', ", ")
+        );
+        writeln!(lines, "{name}\t{ours}\t{original}\t{standard}").unwrap();
     }
     fs::write(file, lines).is_ok()
 }
 
 /// Prints the names of the rows with the filter in them, each with the number of units that its input has.
 pub fn rows(filter: &str) -> bool {
-    for input in inputs::all() {
-        for (_, call) in LOOPS {
-            let name = format!("{call}\t{}", input.name);
-            if name.contains(filter) {
-                println!("{name}\t{}", input.units.len());
-            }
+    for (_, name, input) in all_rows() {
+        if name.contains(filter) {
+            println!("{name}\t{}", input.units.len());
         }
     }
     true
@@ -86,23 +88,16 @@ pub fn rows(filter: &str) -> bool {
 
 /// Runs one column's loop of a row and nothing else, for a tool that counts its instructions.
 pub fn run_loop(column: &str, row: &str, rounds: &str) -> bool {
-    let Ok(rounds) = rounds.parse() else {
+    let found = all_rows().into_iter().find(|(_, name, _)| name == row);
+    let (Some((number, _, input)), Ok(rounds)) = (found, rounds.parse()) else {
         return false;
     };
-    for input in inputs::all() {
-        for (number, call) in LOOPS {
-            if row != format!("{call}\t{}", input.name) {
-                continue;
-            }
-            let sum = match column {
-                "proved" => Some(ours::time(number, &input.units, rounds)),
-                _ => original::Bench::new(&input.units).run(number, rounds),
-            };
-            println!("{}", sum.unwrap_or_default());
-            return true;
-        }
-    }
-    false
+    let sum = match column {
+        "proved" => Some(ours::time(number, &input.units, rounds)),
+        _ => original::Bench::new(&input.units).run(number, rounds),
+    };
+    println!("{}", sum.unwrap_or_default());
+    true
 }
 
 /// Times a row, or answers `None` where the sides' answers differ.

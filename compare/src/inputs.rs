@@ -2,6 +2,7 @@
 
 use crate::random::Random;
 
+#[derive(Clone)]
 pub struct Input {
     pub name: &'static str,
     pub units: Vec<u16>,

@@ -303,13 +303,13 @@ impl Machine {
             23 => {
                 let string = self.strings[register].clone();
                 write!(self.out, "points").unwrap();
-                walk_points(&mut self.out, string.code_points(), reader.bytes());
+                walk(&mut self.out, string.code_points(), reader.bytes());
                 self.line("");
             }
             _ => {
                 let string = self.strings[register].clone();
                 write!(self.out, "units").unwrap();
-                walk_units(&mut self.out, Units::of(&string), reader.bytes());
+                walk(&mut self.out, Units::of(&string), reader.bytes());
                 self.line("");
             }
         }
@@ -462,32 +462,50 @@ fn hint_text((low, high): (usize, Option<usize>)) -> String {
     }
 }
 
-fn walk_points(out: &mut Out, mut points: Wtf8CodePoints<'_>, steps: &[u8]) {
-    for step in steps {
-        match step {
-            0 => write_point(out, points.next()),
-            1 => out.write_str(&hint_text(points.size_hint())).unwrap(),
-            2 => drain_points(out, points.clone()),
-            _ => points = points.clone(),
-        }
-    }
-    drain_points(out, points);
+/// An iterator whose items and hints are written.
+trait Walked: Clone {
+    /// The next item as it is written.
+    fn next_text(&mut self) -> Option<String>;
+
+    fn write_hint(&self, out: &mut Out);
 }
 
-fn drain_points(out: &mut Out, mut points: Wtf8CodePoints<'_>) {
-    write!(out, " [{}", hint_text(points.size_hint())).unwrap();
-    while let Some(point) = points.next() {
-        write_point(out, Some(point));
-        out.write_str(&hint_text(points.size_hint())).unwrap();
+fn walk(out: &mut Out, mut walked: impl Walked, steps: &[u8]) {
+    for step in steps {
+        match step {
+            0 => write_item(out, walked.next_text()),
+            1 => walked.write_hint(out),
+            2 => drain(out, walked.clone()),
+            _ => walked = walked.clone(),
+        }
     }
-    write_point(out, points.next());
+    drain(out, walked);
+}
+
+/// Writes what is left, each item behind the hint before it, and asks once more at the end.
+fn drain(out: &mut Out, mut walked: impl Walked) {
+    out.write_str(" [").unwrap();
+    walked.write_hint(out);
+    while let Some(text) = walked.next_text() {
+        write_item(out, Some(text));
+        walked.write_hint(out);
+    }
+    write_item(out, walked.next_text());
     out.write_str(" ]").unwrap();
 }
 
-fn write_point(out: &mut Out, point: Option<CodePoint>) {
-    match point {
-        Some(point) => write!(out, " {point:?}").unwrap(),
-        None => out.write_str(" end").unwrap(),
+fn write_item(out: &mut Out, text: Option<String>) {
+    let text = text.unwrap_or_else(|| "end".to_owned());
+    write!(out, " {text}").unwrap();
+}
+
+impl Walked for Wtf8CodePoints<'_> {
+    fn next_text(&mut self) -> Option<String> {
+        self.next().map(|point| format!("{point:?}"))
+    }
+
+    fn write_hint(&self, out: &mut Out) {
+        out.write_str(&hint_text(self.size_hint())).unwrap();
     }
 }
 
@@ -508,8 +526,10 @@ impl<'a> Units<'a> {
             is_trail_held: false,
         }
     }
+}
 
-    fn next(&mut self) -> Option<u16> {
+impl Walked for Units<'_> {
+    fn next_text(&mut self) -> Option<String> {
         self.is_trail_held = match self.is_trail_held {
             true => false,
             false => self
@@ -517,7 +537,7 @@ impl<'a> Units<'a> {
                 .next()
                 .is_some_and(|point| point.to_u32() > 0xFFFF),
         };
-        self.units.next()
+        self.units.next().map(|unit| format!("{unit:04X}"))
     }
 
     /// Writes the crate's hint as it is, and in the other transcript with a held trail counted, which is all that may
@@ -528,35 +548,5 @@ impl<'a> Units<'a> {
         let counted = (low + held, high.and_then(|high| high.checked_add(held)));
         out.raw.push_str(&hint_text((low, high)));
         out.excused.push_str(&hint_text(counted));
-    }
-}
-
-fn walk_units(out: &mut Out, mut units: Units<'_>, steps: &[u8]) {
-    for step in steps {
-        match step {
-            0 => write_unit(out, units.next()),
-            1 => units.write_hint(out),
-            2 => drain_units(out, units.clone()),
-            _ => units = units.clone(),
-        }
-    }
-    drain_units(out, units);
-}
-
-fn drain_units(out: &mut Out, mut units: Units<'_>) {
-    out.write_str(" [").unwrap();
-    units.write_hint(out);
-    while let Some(unit) = units.next() {
-        write_unit(out, Some(unit));
-        units.write_hint(out);
-    }
-    write_unit(out, units.next());
-    out.write_str(" ]").unwrap();
-}
-
-fn write_unit(out: &mut Out, unit: Option<u16>) {
-    match unit {
-        Some(unit) => write!(out, " {unit:04X}").unwrap(),
-        None => out.write_str(" end").unwrap(),
     }
 }
