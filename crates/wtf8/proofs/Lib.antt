@@ -12,6 +12,7 @@ pub mod LawLemmas
 pub mod OneReading
 pub mod Positions
 pub mod Readings
+pub mod Rooms
 pub mod RunLaws
 pub mod Runs
 pub mod Scalars

@@ -1,6 +1,8 @@
 -- Runs of building calls, one call after another, and what pushes and extensions append.
 use Rattle.std.proofs.Common.{◌≡◌, ◌≤◌, ◌<◌, ◌+◌, inl, inr, ℕ, List, [], ◌∷◌, ◌++◌, length, take, drop, get_or, Bool, true, false, cond, Option, Some, IfSome, refl, ap, ◌∙◌, sym, subst, arith, append_assoc}
 use Rattle.std.proofs.lemmas.List.{append-nil, drop_more, take_more, take-append-drop}
+use Rattle.std.specs.List.{All}
+use Rattle.std.proofs.lemmas.List.Elements.{All-get_or}
 use Rattle.std.proofs.lemmas.Option.{none-some}
 use Rattle.std.proofs.lemmas.Bool.{cases_lt}
 use Rattle.wtf8.specs.Unicode.{units_of, units}
@@ -110,6 +112,9 @@ calls_at calls i call h e = ap (λ q. take i calls ++ q ∷ drop (i + 1) calls) 
 
 pub calls_more : (calls : List Build) (i : ℕ) (call : Build) → i < length calls → call ≡ get_or calls i call → take (i + 1) calls ≡ take i calls ++ call ∷ []
 calls_more calls i call h e = take_more calls i call h ∙ ap (λ q. take i calls ++ q ∷ []) (sym e)
+
+pub call_among : (calls : List Build) (i : ℕ) (call : Build) → i < length calls → call ≡ get_or calls i call → All IsNoTruncation calls → IsNoTruncation call
+call_among calls i call h e all = subst IsNoTruncation (sym e) (All-get_or IsNoTruncation calls i call h all)
 
 -- what a fact of an option says at its value
 pub at_some : (P : List ℕ → Type 0) (o : Option (List ℕ)) (a : List ℕ) → o ≡ Some a → IfSome o P → P a
