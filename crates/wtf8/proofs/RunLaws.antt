@@ -8,7 +8,7 @@ use Rattle.wtf8.specs.CodePoint.{number, numbers}
 use Rattle.wtf8.specs.Form.{bytes, IsForm, IsWellFormed}
 use Rattle.wtf8.specs.OneForm.{bytes-injective}
 use Rattle.wtf8.specs.Position.{IsBoundary, IsFront}
-use Rattle.wtf8.specs.Building.{Step, Run, RunsOnce}
+use Rattle.wtf8.specs.Building.{Step, Run, RunsOnce, RunsAddUp}
 use Rattle.wtf8.specs.declared.build.Build.{Build}
 use Rattle.wtf8.specs.declared.build.Build.TheVariants.{Push, PushChar, PushStr, PushWtf8, Extend, Reserve, Truncate}
 use Rattle.wtf8.proofs.EncodingLemmas.{Begins}
@@ -93,6 +93,12 @@ step_once u (Truncate k) = elim (boundary_or_not u k) [
   | inr n ↦
       record { outcome = u; count = 1; goes = inr (n, refl, refl); no_other = λ v r s. elim s [ inl x ↦ absurd (n (record { front = x.0.front; back = x.0.back; splits = x.0.splits })) | inr m ↦ (m.1, m.2) ] }
 ]
+
+-- one run behind another
+pub runs_add : RunsAddUp
+runs_add u mid v [] back m n x y =
+    subst (λ k. Run u back v k) (let same : n ≡ m + n = omega (arith, x.1) in same) (subst (λ w. Run w back v n) x.0 y)
+runs_add u mid v (call ∷ front) back m n x y = (x.0, x.1, x.2 + n, x.3, runs_add x.0 mid v front back x.2 n x.4 y, omega (arith, x.5))
 
 pub run_once : (u : List ℕ) (calls : List Build) → RunsOnce u calls
 run_once u [] = record { outcome = u; count = 0; goes = (refl, refl); no_other = λ v n r. r }

@@ -61,3 +61,26 @@ impl<A: Allocator> Wtf8Buf<A> {
         Ok(())
     }
 }
+
+/// `from_iter`, so that `collect` of an iterator makes a string.
+impl<A: Allocator> FromIterator<CodePoint> for Wtf8Buf<A> {
+    type Alloc = A;
+
+    ghost from_iter_gives = { λ points string. string.units ≡ units (numbers points) };
+
+    fn from_iter<I: IntoIterator<Item = CodePoint>>(
+        alloc: A,
+        iterable: I,
+    ) -> Result<Wtf8Buf<A>, AllocError> {
+        Wtf8Buf::from_iter(alloc, iterable)
+    }
+}
+
+/// `extend`, so that code over any collection takes a string.
+impl<A: Allocator> Extend<CodePoint> for Wtf8Buf<A> {
+    ghost extend_gives = { AppendsPoints };
+
+    fn extend<I: IntoIterator<Item = CodePoint>>(&mut self, iterable: I) -> Result<(), AllocError> {
+        self.extend(iterable)
+    }
+}
