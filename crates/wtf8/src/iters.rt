@@ -127,9 +127,8 @@ impl<'a> Iterator for IllFormedUtf16CodeUnits<'a> {
     /// The unit that is held back, where there is one, else the first unit of the next code point, whose second one is
     /// then held back.
     fn next(&mut self) -> Option<u16>
-        ensures steps { YieldsFirst unread_units self.old result self.new }
+        ensures steps { YieldsFirst unread_units self.old result self.new × (self.new ≡ unread_after self.old) }
         ensures goes { MakesProgress (λ _. ⊤) (item_count unread_units) self.old result self.new }
-        ensures moves { self.new ≡ unread_after self.old }
     {
         match self.trail.take() {
             Some(trail) => Some(trail),
