@@ -18,4 +18,7 @@ pub mod Runs
 pub mod Scalars
 pub mod SurrogateLemmas
 pub mod Texts
+pub mod UnitCuts
+pub mod UnitLanes
 pub mod UnitLemmas
+pub mod UnitPositions
