@@ -20,4 +20,7 @@ pub mod Scalars
 pub mod StringLaws
 pub mod SurrogateLemmas
 pub mod Texts
+pub mod UnitCuts
+pub mod UnitLanes
 pub mod UnitLemmas
+pub mod UnitPositions

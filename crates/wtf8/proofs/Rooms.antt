@@ -2,7 +2,7 @@
 use Rattle.std.proofs.Common.{◌≡◌, ◌≤◌, ℕ, List, [], ◌∷◌, ◌++◌, ◌∙◌, sym, subst, arith, append_assoc}
 use Rattle.wtf8.specs.Building.{Step, FindsRoom, FindRoom}
 use Rattle.wtf8.specs.declared.build.Build.{Build}
-use Rattle.wtf8.specs.declared.build.Build.TheVariants.{Push, PushChar, PushStr, PushWtf8, Extend, Reserve, Truncate}
+use Rattle.wtf8.specs.declared.build.Build.TheVariants.{Push, PushChar, PushStr, PushWtf8, Extend, Reserve, Truncate, TruncateUnits}
 
 -- a call that finds room leads where it is said to
 pub found_step : (u : List ℕ) (call : Build) (v w : List ℕ) (n r : ℕ) → FindsRoom u call v n → Step u call w r → w ≡ v
@@ -13,6 +13,7 @@ found_step u (PushWtf8 t) v w n r f s = s.0 ∙ sym f.step.0
 found_step u (Extend d) v w n r f s = s.0 ∙ sym f.step.0
 found_step u (Reserve k) v w n r f s = s.0 ∙ sym f.step.0
 found_step u (Truncate k) v w n r f s = absurd f.no_truncation
+found_step u (TruncateUnits k) v w n r f s = absurd f.no_truncation
 
 -- what finds room in a capacity finds it in a greater one
 pub wider : {u v : List ℕ} {call : Build} {m n : ℕ} → FindsRoom u call v m → m ≤ n → FindsRoom u call v n

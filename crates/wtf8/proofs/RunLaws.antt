@@ -10,7 +10,7 @@ use Rattle.wtf8.specs.OneForm.{bytes-injective}
 use Rattle.wtf8.specs.Position.{IsBoundary, IsFront}
 use Rattle.wtf8.specs.Building.{Step, Run, RunsOnce, RunsAddUp}
 use Rattle.wtf8.specs.declared.build.Build.{Build}
-use Rattle.wtf8.specs.declared.build.Build.TheVariants.{Push, PushChar, PushStr, PushWtf8, Extend, Reserve, Truncate}
+use Rattle.wtf8.specs.declared.build.Build.TheVariants.{Push, PushChar, PushStr, PushWtf8, Extend, Reserve, Truncate, TruncateUnits}
 use Rattle.wtf8.proofs.EncodingLemmas.{Begins}
 use Rattle.wtf8.proofs.Joining.{bytes-append}
 use Rattle.wtf8.proofs.OneReading.{same_reading}
@@ -18,7 +18,7 @@ use Rattle.wtf8.proofs.Positions.{cut_at, boundary_from_byte, byte_from_boundary
 use Rattle.wtf8.proofs.Runs.{AreSmall, small_units, pushed_units}
 
 -- the units before a position are the same in each splitting
-same_front : (u : List ℕ) (k : ℕ) (v w : List ℕ) → IsFront u k v → IsFront u k w → v ≡ w
+pub same_front : (u : List ℕ) (k : ℕ) (v w : List ℕ) → IsFront u k v → IsFront u k w → v ≡ w
 same_front u k v w x y =
     let whole : x.front ++ x.back ≡ y.front ++ y.back = same_reading (x.front ++ x.back) (y.front ++ y.back) x.splits.reads.clean y.splits.reads.clean (x.splits.reads.same_units ∙ sym y.splits.reads.same_units) in
     let first : take k (bytes (x.front ++ x.back)) ≡ bytes x.front = ap (take k) (bytes-append x.front x.back) ∙ take_at (bytes x.front) (bytes x.back) k x.splits.front_len in
@@ -92,6 +92,10 @@ step_once u (Truncate k) = elim (boundary_or_not u k) [
       record { outcome = units b.front; count = 0; goes = inl (front, refl); no_other = λ v r s. elim s [ inl x ↦ (same_front u k v (units b.front) x.0 front, x.1) | inr n ↦ absurd (n.0 b) ] }
   | inr n ↦
       record { outcome = u; count = 1; goes = inr (n, refl, refl); no_other = λ v r s. elim s [ inl x ↦ absurd (n (record { front = x.0.front; back = x.0.back; splits = x.0.splits })) | inr m ↦ (m.1, m.2) ] }
+]
+step_once u (TruncateUnits n) = elim (cases_lt (length u) n) [
+  | inl h ↦ record { outcome = u; count = 1; goes = inr (h, refl, refl); no_other = λ v r s. elim s [ inl x ↦ absurd (omega (arith, x.0, h)) | inr x ↦ (x.1, x.2) ] }
+  | inr h ↦ record { outcome = take n u; count = 0; goes = inl (h, refl, refl); no_other = λ v r s. elim s [ inl x ↦ (x.1, x.2) | inr x ↦ absurd (omega (arith, x.0, h)) ] }
 ]
 
 -- one run behind another

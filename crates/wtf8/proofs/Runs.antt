@@ -9,7 +9,7 @@ use Rattle.wtf8.specs.Unicode.{units_of, units}
 use Rattle.wtf8.specs.Form.{IsClean, IsForm}
 use Rattle.wtf8.specs.Building.{Step, Run, appended, Append, IsNoTruncation}
 use Rattle.wtf8.specs.declared.build.Build.{Build}
-use Rattle.wtf8.specs.declared.build.Build.TheVariants.{Push, PushChar, PushStr, PushWtf8, Extend, Reserve, Truncate}
+use Rattle.wtf8.specs.declared.build.Build.TheVariants.{Push, PushChar, PushStr, PushWtf8, Extend, Reserve, Truncate, TruncateUnits}
 use Rattle.wtf8.proofs.Joining.{clean-first, clean-rest}
 use Rattle.wtf8.proofs.UnitLemmas.{units_one, units_two}
 use Rattle.wtf8.proofs.OneReading.{same_form}
@@ -34,6 +34,7 @@ step_appends u (PushWtf8 t) v r a s e = s.0 ∙ ap (λ b. u ++ b) (some_same _ a
 step_appends u (Extend d) v r a s e = s.0 ∙ ap (λ b. u ++ b) (some_same _ a e)
 step_appends u (Reserve n) v r a s e = absurd (none-some a e)
 step_appends u (Truncate k) v r a s e = absurd (none-some a e)
+step_appends u (TruncateUnits n) v r a s e = absurd (none-some a e)
 
 pub no_truncation : (call : Build) (a : List ℕ) → appended call ≡ Some a → IsNoTruncation call
 no_truncation (Push p) a e = tt
@@ -43,6 +44,7 @@ no_truncation (PushWtf8 t) a e = tt
 no_truncation (Extend d) a e = tt
 no_truncation (Reserve n) a e = tt
 no_truncation (Truncate k) a e = absurd (none-some a e)
+no_truncation (TruncateUnits n) a e = absurd (none-some a e)
 
 -- what a list appends, in two parts
 pub record Parts (calls more : List Build) (v : List ℕ) : Type 0 where

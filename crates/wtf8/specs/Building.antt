@@ -6,8 +6,9 @@ use Rattle.wtf8.specs.CodePoint.{number, numbers}
 use Rattle.wtf8.specs.View.{view_units}
 use Rattle.wtf8.specs.Appending.{FitWithin}
 use Rattle.wtf8.specs.Position.{IsBoundary, IsFront}
+use Rattle.wtf8.specs.UnitPosition.{TruncatesUnits}
 use Rattle.wtf8.specs.declared.build.Build.{Build}
-use Rattle.wtf8.specs.declared.build.Build.TheVariants.{Push, PushChar, PushStr, PushWtf8, Extend, Reserve, Truncate}
+use Rattle.wtf8.specs.declared.build.Build.TheVariants.{Push, PushChar, PushStr, PushWtf8, Extend, Reserve, Truncate, TruncateUnits}
 
 -- A truncation at a boundary keeps the units of the code points before it; any other is refused, which r counts as 1, and changes nothing.
 abbrev pub Truncates : List ℕ → ℕ → List ℕ → ℕ → Type 0
@@ -22,6 +23,7 @@ Step u (PushWtf8 s) v r = (v ≡ u ++ view_units s) × (r ≡ 0)
 Step u (Extend d) v r = (v ≡ u ++ units (numbers d.now)) × (r ≡ 0)
 Step u (Reserve n) v r = (v ≡ u) × (r ≡ 0)
 Step u (Truncate k) v r = Truncates u k v r
+Step u (TruncateUnits n) v r = TruncatesUnits u n v r
 
 -- The calls in order lead from units u to units v, and n of their truncations are refused.
 abbrev pub Run : List ℕ → List Build → List ℕ → ℕ → Type 0
@@ -32,6 +34,7 @@ Run u (call ∷ calls) v n = (mid : List ℕ) × (r : ℕ) × (m : ℕ) × Step 
 abbrev pub LeavesRefused : List ℕ → Build → List ℕ → Type 0
 LeavesRefused u (Extend d) v = (n : ℕ) × (v ≡ u ++ units (numbers (take n d.now)))
 LeavesRefused u (Truncate k) v = ⊥
+LeavesRefused u (TruncateUnits n) v = ⊥
 LeavesRefused u call v = v ≡ u
 
 -- The call is no extension.
@@ -39,9 +42,10 @@ abbrev pub IsNoExtension : Build → Type 0
 IsNoExtension (Extend d) = ⊥
 IsNoExtension call = ⊤
 
--- The call is no truncation.
+-- The call is no truncation, neither at a position nor at a number of units.
 abbrev pub IsNoTruncation : Build → Type 0
 IsNoTruncation (Truncate k) = ⊥
+IsNoTruncation (TruncateUnits n) = ⊥
 IsNoTruncation call = ⊤
 
 -- The calls before call number `done` ran, and that call was refused for want of memory.

@@ -1,5 +1,5 @@
 // Owned strings.
-ghost use Rattle.std.specs.Prelude.{◌≡◌, ℕ, List, [], ◌+◌, ◌≤◌, length, take, IsTrue, OnOk, OnErr, IsOk, IfOk, IfErr, ◌↔◌, vec_capacity};
+ghost use Rattle.std.specs.Prelude.{◌≡◌, ℕ, List, [], ◌+◌, ◌≤◌, length, take, IsTrue, OnOk, OnErr, IsOk, IfOk, IfErr, ◌↔◌, vec_capacity, if◌then◌else◌};
 ghost use Rattle.std.specs.Str.{chars};
 ghost use Rattle.std.specs.String.{string_bytes};
 ghost use Rattle.wtf8.specs.Appending.{AppendsUnits, KeepsContents, HasRoomFor, AddsLength};
@@ -9,11 +9,12 @@ ghost use Rattle.wtf8.specs.OneForm.{IsWellFormed-prop, KnownScalar-prop};
 ghost use Rattle.wtf8.specs.Position.{IsBoundary, IsFront};
 ghost use Rattle.wtf8.specs.Surrogates.{AreScalar, IsFirstSurrogate, lossy};
 ghost use Rattle.wtf8.specs.Unicode.{units, units_of};
+ghost use Rattle.wtf8.specs.UnitPosition.{TruncatesUnits};
 ghost use Rattle.wtf8.specs.View.{view_points, view_units};
 
 use crate::code_point::CodePoint;
 use crate::view::Wtf8;
-use crate::{concat, decode, search};
+use crate::{concat, decode, search, unit_positions};
 use std::alloc::{AllocError, Allocator};
 use std::marker::Model;
 
@@ -239,6 +240,37 @@ impl<A: Allocator> Wtf8Buf<A> {
             self.is_known_utf8 = true;
         }
         self.bytes.truncate(new_len)
+    }
+
+    /// Keeps the first `n` units. Where `n` divides a pair its lead stays alone: three bytes in the place of four. It
+    /// asks for no memory.
+    pub fn truncate_units(&mut self, n: usize)
+        requires { n ≤ length self.old.units }
+        ensures units { self.new.units ≡ take n self.old.units }
+
+        // Where these are the units of the code points before a position, the bytes are those before it.
+        ensures bytes { (k : ℕ) → IsFront self.old.units k (take n self.old.units) → self.new.bytes ≡ take k self.old.bytes }
+    {
+        self.try_truncate_units(n);
+    }
+
+    /// Keeps the first `n` units, and answers true, where there are so many. Where there are fewer it changes nothing
+    /// and answers false.
+    pub(crate) fn try_truncate_units(&mut self, n: usize) -> bool
+        ensures { TruncatesUnits self.old.units n self.new.units (if result then 0 else 1) }
+    {
+        let Some(cut) = unit_positions::cut(self.as_wtf8(), n) else {
+            return false;
+        };
+        match cut.divided {
+            None => self.truncate(cut.position),
+            Some(value) => {
+                self.is_known_utf8 = false;
+                let lead = unit_positions::lead_of(value);
+                unit_positions::keep_lead(&mut self.bytes, cut.position, lead);
+            }
+        }
+        true
     }
 
     /// The same bytes as a text, not copied, or the buffer as it was exactly where it holds a surrogate. It asks for no

@@ -25,6 +25,8 @@ pub enum Build<'b> {
     Reserve(usize),
     /// `truncate` at a position in bytes, refused at no code point boundary.
     Truncate(usize),
+    /// `truncate_units` at a number of units, refused where there are fewer.
+    TruncateUnits(usize),
 }
 
 /// A list of calls was stopped: one of them was refused for want of memory.
@@ -38,8 +40,8 @@ impl<A: Allocator> Wtf8Buf<A> {
     ghost use Rattle.wtf8.specs.Building.{Step, Run, LeavesRefused, StopsAt, appended, Append, IsNoExtension, IsNoTruncation, FindsRoom, FindRoom};
     ghost use Rattle.wtf8.specs.declared.build.Build.TheVariants.{Reserve, Truncate};
 
-    /// Does the call of that name. It answers true, or false for a truncation at no boundary, which changes nothing.
-    /// After a refusal for want of memory the string is as that call leaves it: as before, or with some beginning of an
+    /// Does the call of that name. It answers true, or false for a truncation at no boundary or at more units than there
+    /// are, which changes nothing. After a refusal for want of memory the string is as that call leaves it: as before, or with some beginning of an
     /// extension's points. A truncation is never refused so.
     pub fn apply(&mut self, call: Build<'_>) -> Result<bool, AllocError>
         ensures step { IfOk result (λ kept. Step self.old.units call.entry self.new.units (if kept then 0 else 1)) }
@@ -62,6 +64,7 @@ impl<A: Allocator> Wtf8Buf<A> {
             Build::Extend(points) => self.extend_from_points(points)?,
             Build::Reserve(additional) => self.reserve(additional)?,
             Build::Truncate(position) => return Ok(self.try_truncate(position)),
+            Build::TruncateUnits(n) => return Ok(self.try_truncate_units(n)),
         }
         Ok(true)
     }
