@@ -219,6 +219,7 @@ impl<A: Allocator> Wtf8Buf<A> {
 
         // A push whose bytes fit is never refused, and the capacity never shrinks.
         ensures room { (w : List ℕ) → IsForm w (self.old.units ++ units other.entry.well_formed.points) → length w ≤ self.old.capacity → IsOk result }
+        ensures empty { units other.entry.well_formed.points ≡ [] → IsOk result }
         ensures capacity { self.old.capacity ≤ self.new.capacity }
     {
         if self.is_known_utf8 {

@@ -1,5 +1,5 @@
 // Borrowed strings.
-ghost use Rattle.std.specs.Prelude.{◌≡◌, ℕ, List, [], ◌∷◌, ◌++◌, ◌*◌, ◌<◌, ◌≤◌, ◌↔◌, length, take, drop, slice_index, IsTrue, IsSome, IfSome, IfNone, IfOk, IsOk};
+ghost use Rattle.std.specs.Prelude.{◌≡◌, ℕ, List, [], ◌∷◌, ◌++◌, ◌*◌, ◌^◌, ◌<◌, ◌≤◌, ◌↔◌, length, take, drop, slice_index, IsTrue, IsSome, IfSome, IfNone, IfOk, IsOk};
 ghost use Rattle.std.specs.Cow.{cow_str_bytes, IsBorrowedStr};
 ghost use Rattle.std.specs.Str.{chars};
 ghost use Rattle.std.specs.String.{string_bytes};
@@ -65,7 +65,8 @@ impl<'a> Wtf8<'a> {
 
     /// The 16-bit units of the string, in order: those that it was made of, whether they pair or not.
     pub fn to_ill_formed_utf16(&self) -> IllFormedUtf16CodeUnits<'a>
-        ensures { unread_units result ≡ units self.now.well_formed.points }
+        ensures units { unread_units result ≡ units self.now.well_formed.points }
+        ensures fits { length (unread_units result) < 2 ^ 64 }
     {
         IllFormedUtf16CodeUnits::new(*self)
     }

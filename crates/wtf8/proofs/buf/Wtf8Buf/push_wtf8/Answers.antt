@@ -1,9 +1,11 @@
 use Rattle.wtf8.specs.Text.{Text}
-use Rattle.std.proofs.Common.{ap, refl, sym, subst, ◌∙◌, IsTrue}
+use Rattle.std.proofs.Common.{◌++◌, ap, refl, sym, subst, ◌∙◌, arith, IsTrue}
 use Rattle.std.proofs.lemmas.Bool.{false≢true}
+use Rattle.std.proofs.lemmas.List.{append-nil}
 use Rattle.wtf8.proofs.Scalars.{scalar_gained, scalar_unless_found}
+use Rattle.wtf8.specs.Form.{IsForm}
 use Rattle.wtf8.specs.Unicode.{units}
-use Rattle.wtf8.proofs.Gaining.{gained_or_kept, gained_units, kept_units}
+use Rattle.wtf8.proofs.Gaining.{form_of, gained_or_kept, gained_units, kept_units}
 use Rattle.wtf8.proofs.Gluing.{gained_paired, gained_apart}
 use Rattle.wtf8.proofs.buf.Wtf8Buf.push_wtf8.Goals as goal
 use Rattle.wtf8.proofs.buf.Wtf8Buf.push_wtf8.Goals.{then-self, else-self}
@@ -39,3 +41,9 @@ returns-clause-joined g c =
 pub returns-clause-plain : goal.returns-clause-plain
 returns-clause-plain g c =
     gained_apart c.push_view.result c.args.self.now c.self.inside.bytes.items c.push_view.new.bytes.items c.args.other.well_formed (ap (λ (t : Text). t.bytes) c.self.view_is) c.push_view.ensures.ok
+
+pub returns-clause-empty : goal.returns-clause-empty
+returns-clause-empty g c none =
+    let h = c.self.inside.well_formed in
+    let same = sym (append-nil (units h.points)) ∙ ap (λ u. units h.points ++ u) (sym none) in
+    c.push_view.ensures.room (record { units = units h.points; whole = c.self.inside.bytes.items; before = form_of h; after = subst (IsForm c.self.inside.bytes.items) same (form_of h); within = omega arith })
