@@ -55,12 +55,7 @@ impl<A: Allocator> UnitText<A> {
 
     /// The units from a position to before another, as a text with the allocator that is given. Where a pair is cut its
     /// half stays by itself. It asks for no memory where there are none.
-    pub fn slice_units(
-        &self,
-        alloc: A,
-        begin: usize,
-        end: usize,
-    ) -> Result<UnitText<A>, AllocError>
+    pub fn slice_units(&self, alloc: A, begin: usize, end: usize) -> Result<UnitText<A>, AllocError>
         requires order { begin ≤ end }
         requires within { end ≤ length self.now }
         ensures ok { IfOk result (λ t. t ≡ drop begin (take end self.now)) }
