@@ -1,8 +1,6 @@
-use Rattle.std.proofs.Common.{arith, ap, length}
-use Rattle.wtf8.proofs.UnitLemmas.{units_bounds}
+use Rattle.std.proofs.Common.{◌++◌, length, ap, arith}
+use Rattle.wtf8.specs.Unicode.{units}
 use Rattle.wtf8.proofs.view.Wtf8.to_ill_formed_utf16.Goals as goal
 
 pub returns-clause-fits : goal.returns-clause-fits
-returns-clause-fits c =
-    let h = c.args.self.now.well_formed in
-    let b = units_bounds h.points in omega (arith, ap length h.encoded, ap length c.new.ensures)
+returns-clause-fits c = omega (arith, c.len.ensures.at_least_units, ap (λ h. length (h ++ units c.new.result.points)) c.new.ensures.held, ap (λ p. length (units p)) c.new.ensures.points)
