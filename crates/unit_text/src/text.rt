@@ -1,10 +1,11 @@
 // Texts that are counted in units.
-ghost use Rattle.std.specs.Prelude.{◌≡◌, ◌↔◌, ◌^◌, ◌<◌, ◌≤◌, [], ◌++◌, length, take, drop, slice_get, IsNone, IfOk, IsOk, OnOk, OnErr};
+ghost use Rattle.std.specs.Prelude.{◌≡◌, ◌↔◌, ◌≤◌, [], ◌++◌, length, take, drop, slice_get, None, IsNone, IfOk, IsOk, OnOk, OnErr};
 ghost use Rattle.std.specs.Cmp.Lexicographic.{slice_cmp};
+ghost use Rattle.std.specs.Option.{option_to_list};
 ghost use Rattle.std.specs.Ordering.{MatchOrdering, nat_cmp};
 ghost use Rattle.wtf8.specs.Order.{Before};
-ghost use Rattle.wtf8.specs.Unicode.{units};
 ghost use Rattle.wtf8.specs.Units.{unread_units};
+ghost use Rattle.wtf8.specs.View.{view_units};
 
 use std::alloc::{AllocError, Allocator};
 use std::cmp::Ordering;
@@ -42,7 +43,7 @@ impl<A: Allocator> UnitText<A> {
     pub fn unit_len(&self) -> usize
         ensures { result ≡ length self.now }
     {
-        self.units().count()
+        self.text.as_wtf8().unit_len()
     }
 
     /// The unit at a position, or `None` exactly where the position is at or past the number of units.
@@ -50,7 +51,7 @@ impl<A: Allocator> UnitText<A> {
         ensures unit { result ≡ slice_get self.now i }
         ensures none { IsNone result ↔ (length self.now ≤ i) }
     {
-        self.units().nth(i)
+        self.text.as_wtf8().unit_at(i)
     }
 
     /// The units from a position to before another, as a text with the allocator that is given. Where a pair is cut its
@@ -61,10 +62,11 @@ impl<A: Allocator> UnitText<A> {
         ensures ok { IfOk result (λ t. t ≡ drop begin (take end self.now)) }
         ensures empty { begin ≡ end → IsOk result }
     {
+        let slice = self.text.as_wtf8().slice_units(begin, end);
         let mut text = Wtf8Buf::new(alloc);
-        for unit in self.units().take(end).skip(begin) {
-            text.push(CodePoint::from_u32_unchecked(u32::from(unit)))?;
-        }
+        push_unit(&mut text, slice.trail)?;
+        text.push_wtf8(slice.whole)?;
+        push_unit(&mut text, slice.lead)?;
         Ok(UnitText { text })
     }
 
@@ -88,16 +90,26 @@ impl<A: Allocator> UnitText<A> {
 
     /// A view of the whole text.
     pub fn as_wtf8(&self) -> Wtf8<'_>
-        ensures { units result.well_formed.points ≡ self.now }
+        ensures { view_units result ≡ self.now }
     {
         self.text.as_wtf8()
     }
 
     /// The units in order.
     fn units(&self) -> IllFormedUtf16CodeUnits<'_>
-        ensures units { unread_units result ≡ self.now }
-        ensures fits { length self.now < 2 ^ 64 }
+        ensures { unread_units result ≡ self.now }
     {
         self.text.as_wtf8().to_ill_formed_utf16()
+    }
+}
+
+/// Appends a unit, if there is one.
+fn push_unit<A: Allocator>(text: &mut Wtf8Buf<A>, unit: Option<u16>) -> Result<(), AllocError>
+    ensures ok { OnOk result (text.new.units ≡ text.old.units ++ option_to_list unit) }
+    ensures none { unit ≡ None → IsOk result }
+{
+    match unit {
+        Some(unit) => text.push(CodePoint::from_u32_unchecked(u32::from(unit))),
+        None => Ok(()),
     }
 }

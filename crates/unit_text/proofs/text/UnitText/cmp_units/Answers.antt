@@ -10,7 +10,7 @@ use Rattle.unit_text.proofs.text.UnitText.cmp_units.Goals as goal
 
 pub returns-clause-value : goal.returns-clause-value
 returns-clause-value g c =
-    cmp_from_yields_List (λ x y. y ≡ x) _ nat_cmp _ c.cmp.ensures.ran (YieldsList-from_first (λ x. x) unread_units c.args.self.now c.units.ensures.units) (λ it e. YieldsList-from_first (λ x. x) unread_units c.args.other.now (ap unread_units e ∙ c.units-2.ensures.units)) (λ x y. refl)
+    cmp_from_yields_List (λ x y. y ≡ x) _ nat_cmp _ c.cmp.ensures.ran (YieldsList-from_first (λ x. x) unread_units c.args.self.now c.units.ensures) (λ it e. YieldsList-from_first (λ x. x) unread_units c.args.other.now (ap unread_units e ∙ c.units-2.ensures)) (λ x y. refl)
 
 pub returns-clause-order : goal.returns-clause-order
 returns-clause-order g c =

@@ -1,0 +1,15 @@
+// Tests of the public calls of `unit_text` and of its uses.
+#![tactic(auto)]
+
+#[cfg(test)]
+mod comparing;
+#[cfg(test)]
+mod cutting;
+#[cfg(test)]
+mod memory;
+#[cfg(test)]
+mod shared;
+#[cfg(test)]
+mod strings;
+#[cfg(test)]
+mod texts;

@@ -1,0 +1,94 @@
+// Calls of ECMAScript's strings. The expected answers are those of an engine.
+use std::alloc::{AllocError, Global};
+use std::test::Fail;
+use unit_text::UnitText;
+use unit_text_uses::strings::{char_at, char_code_at, is_less, starts_with, substring};
+
+/// "a💩b", with a lead behind it.
+const UNITS: [u16; 5] = [0x0061, 0xD83D, 0xDCA9, 0x0062, 0xD83D];
+
+fn text_of(alloc: Global, units: &[u16]) -> Result<UnitText<Global>, AllocError> {
+    UnitText::from_units(alloc, units)
+}
+
+#[test]
+fn units_at_a_position(rt: HostRuntime) -> Result<(), Fail> {
+    let text = text_of(rt.alloc(), &UNITS)?;
+    for (position, unit) in UNITS.iter().enumerate() {
+        let found = char_at(rt.alloc(), &text, position)?;
+        assert_eq!(rt; found, text_of(rt.alloc(), &[*unit])?, "at {position}");
+        assert_eq!(rt; char_code_at(&text, position), Some(*unit), "at {position}");
+    }
+    for position in [5, 6, usize::MAX] {
+        assert_eq!(rt;
+            char_at(rt.alloc(), &text, position)?,
+            text_of(rt.alloc(), &[])?
+        );
+        assert_eq!(rt; char_code_at(&text, position), None);
+    }
+    Ok(())
+}
+
+/// Two positions, and the units between them.
+const BETWEEN: [(usize, usize, &[u16]); 8] = [
+    (0, 5, &[0x0061, 0xD83D, 0xDCA9, 0x0062, 0xD83D]),
+    (0, 2, &[0x0061, 0xD83D]),
+    (2, 0, &[0x0061, 0xD83D]),
+    (2, 4, &[0xDCA9, 0x0062]),
+    (9, 3, &[0x0062, 0xD83D]),
+    (3, usize::MAX, &[0x0062, 0xD83D]),
+    (3, 3, &[]),
+    (7, 6, &[]),
+];
+
+#[test]
+fn units_between_two_positions(rt: HostRuntime) -> Result<(), Fail> {
+    let text = text_of(rt.alloc(), &UNITS)?;
+    for (first, second, units) in BETWEEN {
+        let found = substring(rt.alloc(), &text, first, second)?;
+        assert_eq!(rt;
+            found,
+            text_of(rt.alloc(), units)?,
+            "from {first} to {second}"
+        );
+    }
+    Ok(())
+}
+
+/// Units, a position, and whether the text has these units there.
+const AT: [(&[u16], usize, bool); 10] = [
+    (&[], 0, true),
+    (&[], 5, true),
+    (&[], 6, true),
+    (&[0x0061, 0xD83D], 0, true),
+    (&[0x0061, 0xD83D], 1, false),
+    (&[0xDCA9, 0x0062], 2, true),
+    (&[0xDCA9, 0x0063], 2, false),
+    (&[0x0062, 0xD83D], 3, true),
+    (&[0x0062, 0xD83D, 0xDCA9], 3, false),
+    (&[0x0062], usize::MAX, false),
+];
+
+#[test]
+fn units_that_stand_at_a_position(rt: HostRuntime) -> Result<(), Fail> {
+    let text = text_of(rt.alloc(), &UNITS)?;
+    for (units, position, stands) in AT {
+        let search = text_of(rt.alloc(), units)?;
+        assert_eq!(rt;
+            starts_with(&text, &search, position),
+            stands,
+            "{search:?} at {position}"
+        );
+    }
+    Ok(())
+}
+
+#[test]
+fn less_is_by_units(rt: HostRuntime) -> Result<(), Fail> {
+    let last = text_of(rt.alloc(), &[0xE000])?;
+    let pair = text_of(rt.alloc(), &[0xD800, 0xDC00])?;
+    assert!(rt; is_less(&pair, &last));
+    assert!(rt; !is_less(&last, &pair));
+    assert!(rt; !is_less(&pair, &pair));
+    Ok(())
+}
