@@ -9,7 +9,7 @@ ghost use Rattle.wtf8_dump.specs.Word.{IsCall, IsNoCall};
 
 use crate::parts::Words;
 use crate::word;
-use std::alloc::{AllocError, Global};
+use std::alloc::{AllocError, Allocator};
 use wtf8::{Build, Wtf8, Wtf8Buf};
 
 /// The answer to a line, both without a newline: the bytes, in hexadecimal, of the string that the line's calls build
@@ -19,7 +19,7 @@ use wtf8::{Build, Wtf8, Wtf8Buf};
 /// A word is 4 to 6 hexadecimal digits of either case, which push the code point of that number, at most 0x10FFFF, or
 /// `-` and 1 to 9 decimal digits, which truncate at that position in bytes. A newline inside the line stands in no
 /// word, so it is answered `?`. An `Err` comes only where a growth of memory was refused.
-pub fn dump_line(alloc: Global, line: &[u8]) -> Result<Vec<u8>, AllocError>
+pub fn dump_line<A: Allocator + Copy>(alloc: A, line: &[u8]) -> Result<Vec<u8, A>, AllocError>
     ensures answer { IfOk result (λ answer. IsAnswer line.now answer.items) }
 {
     let Some(calls) = read_calls(alloc, line)? else {
@@ -34,7 +34,10 @@ pub fn dump_line(alloc: Global, line: &[u8]) -> Result<Vec<u8>, AllocError>
 }
 
 // The calls that the words of a line stand for, or `None` where some word stands for none.
-fn read_calls(alloc: Global, line: &[u8]) -> Result<Option<Vec<Build<'static>>>, AllocError>
+fn read_calls<A: Allocator + Copy>(
+    alloc: A,
+    line: &[u8],
+) -> Result<Option<Vec<Build<'static>, A>>, AllocError>
     ensures { IfOk result (λ read. MatchOption read
         (Any IsNoCall (words line.now))
         (λ calls. AllZip IsCall (words line.now) calls.items)) }
@@ -50,7 +53,11 @@ fn read_calls(alloc: Global, line: &[u8]) -> Result<Option<Vec<Build<'static>>>,
 }
 
 // The bytes of a string in hexadecimal, and behind them how many truncations were refused where some were.
-fn dump_with_note(alloc: Global, text: Wtf8<'_>, refused: usize) -> Result<String, AllocError>
+fn dump_with_note<A: Allocator + Copy>(
+    alloc: A,
+    text: Wtf8<'_>,
+    refused: usize,
+) -> Result<String<A>, AllocError>
     ensures { IfOk result (λ answer. string_bytes answer ≡ hex text.entry.bytes.now ++ note text.entry.bytes.now refused) }
 {
     let dump = text.hex_dump(alloc)?;

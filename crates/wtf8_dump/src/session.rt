@@ -7,7 +7,7 @@ ghost use Rattle.wtf8_dump.specs.Known.{IsInput};
 use crate::fault::Fault;
 use crate::line::dump_line;
 use crate::parts::Lines;
-use std::alloc::{AllocError, Global};
+use std::alloc::{AllocError, Allocator};
 use std::io::{Read, Write};
 
 const PIECE: usize = 4096;
@@ -18,7 +18,11 @@ const PIECE: usize = 4096;
 /// Every error is final, `Interrupted` too. `Fault::Read` comes where a read answered an error and `Fault::Memory`
 /// where a growth of memory was refused; nothing was written then. `Fault::Write` comes where a write or the flush
 /// answered an error or a write took no byte; a beginning of the answers was written then.
-pub fn run<R: Read, W: Write>(alloc: Global, reader: &mut R, writer: &mut W) -> Result<(), Fault>
+pub fn run<A: Allocator + Copy, R: Read, W: Write>(
+    alloc: A,
+    reader: &mut R,
+    writer: &mut W,
+) -> Result<(), Fault>
     // Where all went well, all was read, and what was written is its dump and nothing else.
     ensures end { OnOk result (IsAtEnd (R.remaining reader.new)) }
     ensures dump { OnOk result ((input : List ℕ) × (out : List ℕ) × IsInput (R.remaining reader.old) input
@@ -42,7 +46,7 @@ pub fn run<R: Read, W: Write>(alloc: Global, reader: &mut R, writer: &mut W) -> 
 }
 
 // All that a reader has left.
-fn read_input<R: Read>(alloc: Global, reader: &mut R) -> Result<Vec<u8>, Fault>
+fn read_input<A: Allocator + Copy, R: Read>(alloc: A, reader: &mut R) -> Result<Vec<u8, A>, Fault>
     ensures input { IfOk result (λ input. IsInput (R.remaining reader.old) input.items) }
     ensures end { OnOk result (IsAtEnd (R.remaining reader.new)) }
     ensures fault { IfErr result (λ fault. fault ≢ Fault.Write) }
@@ -63,7 +67,7 @@ fn read_input<R: Read>(alloc: Global, reader: &mut R) -> Result<Vec<u8>, Fault>
 }
 
 // The answers to the lines of an input, each with a newline after it.
-fn dump(alloc: Global, input: &[u8]) -> Result<Vec<u8>, AllocError>
+fn dump<A: Allocator + Copy>(alloc: A, input: &[u8]) -> Result<Vec<u8, A>, AllocError>
     ensures { IfOk result (λ out. IsDump input.now out.items) }
 {
     let mut out = Vec::new(alloc);

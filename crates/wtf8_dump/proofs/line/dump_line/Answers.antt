@@ -6,7 +6,7 @@ use Rattle.wtf8_dump.specs.Dump.{dumped}
 use Rattle.wtf8_dump.proofs.line.dump_line.Goals as goal
 
 pub returns : goal.returns
-returns c =
+returns g c =
     let view = c.as_wtf8.result in
     let calls = c.in-Some.calls.items in
     let v = c.apply_all.new.self.units in

@@ -19,7 +19,7 @@ spaced_note [] (suc n) some refused = absurd (some refl)
 spaced_note (byte ∷ w) (suc n) some refused = refl
 
 pub returns : goal.returns
-returns c =
+returns g c =
     let w = c.args.text.bytes.now in
     let n = c.args.refused in
     let h : IfOk c.format.result (λ s. string_bytes s ≡ string_bytes c.in_ok-dump.dump ++ (c.if-len-eq0.space.now ++ 33 ∷ decimal n)) = c.format.ensures.ok in

@@ -7,4 +7,4 @@ use Rattle.wtf8_dump.proofs.line.read_calls.Given as goal
 
 -- the words so far stand for the calls so far
 abbrev pub invariant-loop-word : goal.invariant-loop-word
-invariant-loop-word l = (front : List (List ℕ)) × (words l.line ≡ front ++ words_left l.word-iterator) × AllZip IsCall front l.calls.items
+invariant-loop-word g l = (front : List (List ℕ)) × (words l.line ≡ front ++ words_left l.word-iterator) × AllZip IsCall front l.calls.items

@@ -3,7 +3,7 @@ use Rattle.wtf8_dump.proofs.Answering.{HoldsAnswers-push}
 use Rattle.wtf8_dump.proofs.session.dump.Goals as goal
 
 pub loop-line-preserved : goal.loop-line-preserved
-loop-line-preserved c =
+loop-line-preserved g c =
     let front = c.loop-line.invariant.0 in
     let line = c.in-Some.line.now in
     let written = c.in_ok-push.ensures.items ∙ ap (λ bytes. bytes ++ 10 ∷ []) (c.in_ok-extend_from_slice.ensures.items ∙ ap (λ bytes. c.loop-line.out.items ++ bytes) c.as_slice.ensures.value) in (
