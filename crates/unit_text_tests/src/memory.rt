@@ -4,7 +4,7 @@ use std::alloc::{AllocError, Global};
 use std::process::Abort;
 use std::test::Fail;
 use unit_text::UnitText;
-use wtf8_tests::Refusing;
+use refusing::Refusing;
 
 type Lent<'a> = &'a Refusing<Global>;
 

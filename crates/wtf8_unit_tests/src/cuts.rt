@@ -4,7 +4,7 @@ use crate::strings::{JOINING, LISTS, assert_units, long_list};
 use std::process::Abort;
 use std::test::Fail;
 use wtf8::{Build, Wtf8Buf};
-use wtf8_tests::Refusing;
+use refusing::Refusing;
 
 /// Cuts the string of some units at each number of them and at two more, with every request for memory refused, and
 /// puts it together again.
