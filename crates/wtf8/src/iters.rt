@@ -98,6 +98,8 @@ impl<'a> Model for IllFormedUtf16CodeUnits<'a> {
 
 impl<'a> IllFormedUtf16CodeUnits<'a> {
     ghost use Rattle.std.specs.Prelude.{◌≡◌, []};
+    ghost use Rattle.std.specs.Iterator.{YieldsFirst};
+    ghost use Rattle.wtf8.specs.Units.{unread_units, unread_after};
     ghost use Rattle.wtf8.specs.View.{view_points};
 
     pub(crate) fn new(text: Wtf8<'a>) -> IllFormedUtf16CodeUnits<'a>
@@ -109,26 +111,13 @@ impl<'a> IllFormedUtf16CodeUnits<'a> {
             trail: None,
         }
     }
-}
-
-impl<'a> Iterator for IllFormedUtf16CodeUnits<'a> {
-    type Item = u16;
-
-    ghost use Rattle.std.specs.Prelude.{◌≡◌, length, IfSome, ⊤};
-    ghost use Rattle.std.specs.Iterator.{YieldsFirst, MakesProgress, item_count, at_most, UpTo};
-    ghost use Rattle.std.specs.Iterator.SizeHint.{IsWithinCount};
-    ghost use Rattle.wtf8.specs.Hints.{units_hint, IsTrueHint};
-    ghost use Rattle.wtf8.specs.Units.{unread_units, unread_after};
-
-    ghost next_gives = { YieldsFirst unread_units };
-
-    ghost remaining = { item_count unread_units };
 
     /// The unit that is held back, where there is one, else the first unit of the next code point, whose second one is
     /// then held back.
-    fn next(&mut self) -> Option<u16>
-        ensures steps { YieldsFirst unread_units self.old result self.new × (self.new ≡ unread_after self.old) }
-        ensures goes { MakesProgress (λ _. ⊤) (item_count unread_units) self.old result self.new }
+    #[inline(always)]
+    fn give_next(&mut self) -> Option<u16>
+        ensures first { YieldsFirst unread_units self.old result self.new }
+        ensures left { self.new ≡ unread_after self.old }
     {
         match self.trail.take() {
             Some(trail) => Some(trail),
@@ -142,6 +131,24 @@ impl<'a> Iterator for IllFormedUtf16CodeUnits<'a> {
                 Some((0xD800 + offset / 0x400) as u16)
             }
         }
+    }
+}
+
+impl<'a> Iterator for IllFormedUtf16CodeUnits<'a> {
+    type Item = u16;
+
+    ghost use Rattle.std.specs.Prelude.{◌≡◌, length, IfSome};
+    ghost use Rattle.std.specs.Iterator.{YieldsFirst, item_count, at_most, UpTo};
+    ghost use Rattle.std.specs.Iterator.SizeHint.{IsWithinCount};
+    ghost use Rattle.wtf8.specs.Hints.{units_hint, IsTrueHint};
+    ghost use Rattle.wtf8.specs.Units.{unread_units};
+
+    ghost next_gives = { YieldsFirst unread_units };
+
+    ghost remaining = { item_count unread_units };
+
+    fn next(&mut self) -> Option<u16> {
+        self.give_next()
     }
 
     /// A quarter of the bytes left, rounded up, and the held unit; and twice their number and the held unit, `None`
