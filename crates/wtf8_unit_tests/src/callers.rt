@@ -1,5 +1,6 @@
 //! A string that is cut at a number of units, and put together again.
 ghost use Rattle.std.specs.Prelude.{◌≡◌, [], ◌∷◌, ◌≤◌, length, IfOk, OnOk};
+ghost use Rattle.std.specs.Option.{option_to_list};
 ghost use Rattle.wtf8.specs.Appending.{AppendsUnits};
 ghost use Rattle.wtf8.specs.UnitPosition.{units_of_slice};
 ghost use Rattle.wtf8.specs.View.{view_units};
@@ -14,6 +15,16 @@ pub fn push_unit<A: Allocator>(text: &mut Wtf8Buf<A>, unit: u16) -> Result<(), A
     text.push(CodePoint::from_u32_unchecked(u32::from(unit)))
 }
 
+/// Appends the half of a pair, if there is one.
+fn push_half<A: Allocator>(text: &mut Wtf8Buf<A>, half: Option<u16>) -> Result<(), AllocError>
+    ensures { OnOk result (AppendsUnits text.old (option_to_list half) text.new) }
+{
+    match half {
+        None => Ok(()),
+        Some(unit) => push_unit(text, unit),
+    }
+}
+
 /// Appends what was cut out of a string by units.
 pub fn push_slice<A: Allocator>(
     text: &mut Wtf8Buf<A>,
@@ -21,14 +32,9 @@ pub fn push_slice<A: Allocator>(
 ) -> Result<(), AllocError>
     ensures { OnOk result (AppendsUnits text.old (units_of_slice slice.entry) text.new) }
 {
-    if let Some(trail) = slice.trail {
-        push_unit(text, trail)?;
-    }
+    push_half(text, slice.trail)?;
     text.push_wtf8(slice.whole)?;
-    match slice.lead {
-        None => Ok(()),
-        Some(lead) => push_unit(text, lead),
-    }
+    push_half(text, slice.lead)
 }
 
 /// A copy of a string that is cut at a number of units, also inside a pair, and to which the units from there on are
