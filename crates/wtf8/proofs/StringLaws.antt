@@ -1,12 +1,15 @@
 -- Proofs of the laws of strings as contracts see them.
-use Rattle.std.proofs.Common.{◌≡◌, ◌∙◌, ◌++◌, sym, subst}
-use Rattle.wtf8.specs.Form.{IsForm}
-use Rattle.wtf8.specs.StringLaws.{EqualBuffersHaveEqualUnits, EqualBufferAndViewHaveEqualUnits, EqualViewsHaveEqualUnits, StringsAreJoined, StringsArePaired, TextsAreScalar}
+use Rattle.std.proofs.Common.{◌≡◌, ◌∙◌, ◌++◌, sym, subst, arith}
+use Rattle.wtf8.specs.Form.{bytes, IsForm}
+use Rattle.wtf8.specs.Concatenation.{glue}
+use Rattle.wtf8.specs.StringLaws.{EqualBuffersHaveEqualUnits, EqualBufferAndViewHaveEqualUnits, EqualViewsHaveEqualUnits, StringsAreJoined, StringsArePaired, TextsAreScalar, RoomLeftIsFound, ScalarsStay}
 use Rattle.wtf8.specs.View.{view_units, view_form}
-use Rattle.wtf8.proofs.Gluing.{form_paired, form_apart}
+use Rattle.wtf8.proofs.Gluing.{form-glue, form_paired, form_apart}
 use Rattle.wtf8.proofs.LawLemmas.{equal_forms}
 use Rattle.wtf8.proofs.OneReading.{same_form}
+use Rattle.wtf8.proofs.PositionLaws.{both_no_longer}
 use Rattle.wtf8.proofs.Scalars.{scalar_text}
+use Rattle.wtf8.proofs.SurrogateLemmas.{lossy-scalar}
 
 pub equal_buffers : EqualBuffersHaveEqualUnits
 equal_buffers s t = equal_forms s.bytes t.bytes s.units t.units s.form t.form
@@ -27,3 +30,12 @@ strings_paired s t both e m =
 
 pub texts_scalar : TextsAreScalar
 texts_scalar w u = scalar_text u
+
+pub room_left : RoomLeftIsFound
+room_left s w v f h =
+    let whole = bytes (glue s.form.points f.points) in
+    let form : IsForm whole (s.units ++ v) = form-glue s.bytes w s.units v s.form f in
+    record { whole = whole; form = form; within = omega (arith, both_no_longer s.bytes w whole s.units v s.form f form) }
+
+pub scalars_stay : ScalarsStay
+scalars_stay = lossy-scalar

@@ -1,5 +1,6 @@
 -- Laws of positions and lengths, over the definitions alone.
-use Rattle.std.specs.Prelude.{◌≡◌, ℕ, ◌+◌, ◌*◌, ◌<◌, ◌≤◌, List, ◌++◌, length, slice_index}
+use Rattle.std.specs.Prelude.{◌≡◌, ℕ, ◌+◌, ◌*◌, ◌<◌, ◌≤◌, List, ◌∷◌, ◌++◌, ◌≢◌, length, slice_index}
+use Rattle.std.specs.List.{All}
 use Rattle.wtf8.specs.Unicode.{units}
 use Rattle.wtf8.specs.Form.{encoding, bytes, IsForm}
 use Rattle.wtf8.specs.Position.{IsBoundary, IsFront, IsBack}
@@ -19,6 +20,14 @@ NoneIsBeyondEnd = (w u : List ℕ) (k : ℕ) → IsForm w u → IsBoundary u k �
 -- Both sides of a byte below 80 are boundaries.
 abbrev pub AsciiStandsAlone : Type 0
 AsciiStandsAlone = (w u : List ℕ) (k : ℕ) → IsForm w u → k < length w → slice_index w k < 0x80 → IsBoundary u k × IsBoundary u (k + 1)
+
+-- Such a byte is a unit by itself, between the units before it and those behind it.
+abbrev pub AsciiIsOneUnit : Type 0
+AsciiIsOneUnit = (w u f g : List ℕ) (k : ℕ) → IsForm w u → k < length w → slice_index w k < 0x80 → IsFront u k f → IsBack u (k + 1) g → u ≡ f ++ slice_index w k ∷ g
+
+-- A number below 80 that is none of the bytes is none of the units.
+abbrev pub AsciiIsNoOtherUnit : Type 0
+AsciiIsNoOtherUnit = (w u : List ℕ) (b : ℕ) → IsForm w u → b < 0x80 → All (λ x. x ≢ b) w → All (λ x. x ≢ b) u
 
 -- A boundary of a front is one of the whole.
 abbrev pub FrontBoundariesAreOfWhole : Type 0

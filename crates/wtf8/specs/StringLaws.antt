@@ -1,13 +1,14 @@
 -- Laws of strings as contracts see them: of buffers, views and texts.
-use Rattle.std.specs.Prelude.{◌≡◌, ℕ, ◌-◌, List, ◌++◌, length, take, drop, ◌↔◌}
+use Rattle.std.specs.Prelude.{◌≡◌, ℕ, ◌+◌, ◌-◌, ◌≤◌, List, ◌++◌, length, take, drop, ◌↔◌}
 use Rattle.std.specs.Cmp.Lexicographic.{slice_cmp}
 use Rattle.std.specs.Ordering.{nat_cmp, MatchOrdering}
 use Rattle.std.specs.Str.{chars, IsUtf8}
 use Rattle.wtf8.specs.Unicode.{pair}
-use Rattle.wtf8.specs.Form.{encoding, bytes}
+use Rattle.wtf8.specs.Appending.{HasRoomFor}
+use Rattle.wtf8.specs.Form.{encoding, bytes, IsForm}
 use Rattle.wtf8.specs.Concatenation.{MeetsAsPair}
 use Rattle.wtf8.specs.Order.{Before}
-use Rattle.wtf8.specs.Surrogates.{AreScalar}
+use Rattle.wtf8.specs.Surrogates.{AreScalar, lossy}
 use Rattle.wtf8.specs.UnitString.{UnitString}
 use Rattle.wtf8.specs.View.{view_units}
 use Rattle.wtf8.specs.declared.view.Wtf8.{Wtf8}
@@ -43,3 +44,11 @@ ComparisonIsOrder = (c d : List ℕ) → MatchOrdering (slice_cmp nat_cmp c d) (
 -- The characters of a text are scalar values.
 abbrev pub TextsAreScalar : Type 0
 TextsAreScalar = (w : List ℕ) → IsUtf8 w → AreScalar (chars w)
+
+-- A string has room for units whose form is no longer than the room that is left.
+abbrev pub RoomLeftIsFound : Type 0
+RoomLeftIsFound = (s : UnitString) (w v : List ℕ) → IsForm w v → length s.bytes + length w ≤ s.capacity → HasRoomFor s v
+
+-- Scalar values stay as they are where a list is made lossy.
+abbrev pub ScalarsStay : Type 0
+ScalarsStay = (c : List ℕ) → AreScalar c → lossy c ≡ c

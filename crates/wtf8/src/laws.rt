@@ -26,6 +26,8 @@ ghost use Rattle.wtf8.specs.PositionLaws.{
   EndIsBoundary,
   NoneIsBeyondEnd,
   AsciiStandsAlone,
+  AsciiIsOneUnit,
+  AsciiIsNoOtherUnit,
   FrontBoundariesAreOfWhole,
   WholeBoundariesAreOfFront,
   WholeBoundariesAreOfBack,
@@ -44,6 +46,8 @@ ghost use Rattle.wtf8.specs.StringLaws.{
   BytesCompareAsPoints,
   ComparisonIsOrder,
   TextsAreScalar,
+  RoomLeftIsFound,
+  ScalarsStay,
 };
 ghost use Rattle.wtf8.specs.Building.{CallsRunOnce, RunsAddUp};
 
@@ -112,12 +116,15 @@ pub fn law_runs_add_up()
 {}
 
 /// Code point boundaries: the start, the end and both sides of a byte below 0x80 are boundaries, none is beyond the end,
-/// and those of a front or a back are those of the whole, counted from the start or from the cut.
+/// and those of a front or a back are those of the whole, counted from the start or from the cut. Such a byte is a unit
+/// by itself, and such a number that is none of the bytes is none of the units.
 pub fn law_positions()
     ensures start { StartIsBoundary }
     ensures end { EndIsBoundary }
     ensures beyond { NoneIsBeyondEnd }
     ensures ascii { AsciiStandsAlone }
+    ensures unit { AsciiIsOneUnit }
+    ensures none { AsciiIsNoOtherUnit }
     ensures front_in_whole { FrontBoundariesAreOfWhole }
     ensures whole_in_front { WholeBoundariesAreOfFront }
     ensures whole_in_back { WholeBoundariesAreOfBack }
@@ -125,9 +132,11 @@ pub fn law_positions()
 {}
 
 /// How long forms are: a beginning is no longer than the whole, and two lists together are no longer than both of them.
+/// So a string has room for units whose form is no longer than the room that is left.
 pub fn law_room()
     ensures beginning { BeginningsAreNoLonger }
     ensures both { BothAreNoLonger }
+    ensures found { RoomLeftIsFound }
 {}
 
 /// How many code points, units and bytes there are: a code point has one to four bytes, and code points are at most as
@@ -153,4 +162,9 @@ pub fn law_joined_strings()
 /// The characters of a text are scalar values.
 pub fn law_texts()
     ensures { TextsAreScalar }
+{}
+
+/// Scalar values stay as they are where a list is made lossy, so that a text made lossy is the same text.
+pub fn law_lossy()
+    ensures { ScalarsStay }
 {}

@@ -1,4 +1,4 @@
-use Rattle.wtf8.proofs.PositionLaws.{start_is_boundary, end_is_boundary, none_is_beyond, ascii_alone, front_in_whole, whole_in_front, whole_in_back, back_in_whole}
+use Rattle.wtf8.proofs.PositionLaws.{start_is_boundary, end_is_boundary, none_is_beyond, ascii_alone, ascii_one_unit, ascii_no_other_unit, front_in_whole, whole_in_front, whole_in_back, back_in_whole}
 use Rattle.wtf8.proofs.laws.law_positions.Goals as goal
 
 pub returns-clause-start : goal.returns-clause-start
@@ -24,3 +24,9 @@ returns-clause-whole_in_back c = whole_in_back
 
 pub returns-clause-back_in_whole : goal.returns-clause-back_in_whole
 returns-clause-back_in_whole c = back_in_whole
+
+pub returns-clause-unit : goal.returns-clause-unit
+returns-clause-unit c = ascii_one_unit
+
+pub returns-clause-none : goal.returns-clause-none
+returns-clause-none c = ascii_no_other_unit

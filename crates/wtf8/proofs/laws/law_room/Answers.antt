@@ -1,4 +1,5 @@
 use Rattle.wtf8.proofs.PositionLaws.{beginnings, both_no_longer}
+use Rattle.wtf8.proofs.StringLaws.{room_left}
 use Rattle.wtf8.proofs.laws.law_room.Goals as goal
 
 pub returns-clause-beginning : goal.returns-clause-beginning
@@ -6,3 +7,6 @@ returns-clause-beginning c = beginnings
 
 pub returns-clause-both : goal.returns-clause-both
 returns-clause-both c = both_no_longer
+
+pub returns-clause-found : goal.returns-clause-found
+returns-clause-found c = room_left

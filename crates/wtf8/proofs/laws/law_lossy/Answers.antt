@@ -1,0 +1,5 @@
+use Rattle.wtf8.proofs.StringLaws.{scalars_stay}
+use Rattle.wtf8.proofs.laws.law_lossy.Goals as goal
+
+pub returns : goal.returns
+returns c = scalars_stay

@@ -1,0 +1,16 @@
+-- Lists of strings in the order of their code points.
+use Rattle.std.specs.Prelude.{List}
+use Rattle.std.specs.List.Sorted.{IsSorted}
+use Rattle.std.specs.Cmp.Lexicographic.{slice_cmp}
+use Rattle.std.specs.Ordering.{nat_cmp}
+use Rattle.wtf8.specs.UnitString.{UnitString}
+use Rattle.wtf8.specs.View.{view_points}
+use Rattle.wtf8.specs.declared.view.Wtf8.{Wtf8}
+
+-- No string of the list stands before the one in front of it, by their code points (Unicode 5.17, "Binary Order").
+abbrev pub AreInPointOrder : List UnitString → Type 0
+AreInPointOrder strings = IsSorted (λ s t. slice_cmp nat_cmp s.form.points t.form.points) strings
+
+-- The same of views.
+abbrev pub AreViewsInPointOrder : List Wtf8 → Type 0
+AreViewsInPointOrder views = IsSorted (λ s t. slice_cmp nat_cmp (view_points s) (view_points t)) views

@@ -1,0 +1,65 @@
+//! Strings that are put together and cut.
+ghost use Rattle.std.specs.Prelude.{◌≡◌, ℕ, List, ◌++◌, ◌<◌, length, slice_index, IfOk, IsTrue};
+ghost use Rattle.wtf8.specs.Building.{Append};
+ghost use Rattle.wtf8.specs.Form.{IsForm};
+ghost use Rattle.wtf8.specs.Position.{IsBoundary};
+ghost use Rattle.wtf8.specs.View.{view_units};
+
+use std::alloc::{AllocError, Global};
+use wtf8::{Build, Stopped, Wtf8, Wtf8Buf, laws};
+
+/// The string of two lists of units, one behind the other. It is the string of the joined list, in its bytes too: a pair
+/// that was cut in two between the lists is whole again.
+pub fn joined(alloc: Global, front: &[u16], back: &[u16]) -> Result<Wtf8Buf<Global>, AllocError>
+    ensures units { IfOk result (λ s. s.units ≡ front.now ++ back.now) }
+    ensures bytes { IfOk result (λ s. (w : List ℕ) → IsForm w (front.now ++ back.now) → s.bytes ≡ w) }
+{
+    laws::law_one_form();
+    let mut whole = Wtf8Buf::from_ill_formed_utf16(alloc, front)?;
+    let rest = Wtf8Buf::from_ill_formed_utf16(alloc, back)?;
+    whole.push_wtf8(rest.as_wtf8())?;
+    Ok(whole)
+}
+
+/// Whether two lists of pushes and extensions build equal strings: they do where they append the same units, however
+/// these were cut into calls.
+pub fn build_alike(
+    alloc: Global,
+    calls: &[Build<'_>],
+    others: &[Build<'_>],
+) -> Result<bool, Stopped>
+    requires { (v : List ℕ) × Append calls.now v × Append others.now v }
+    ensures { IfOk result (λ same. IsTrue same) }
+{
+    let mut string = Wtf8Buf::new(alloc);
+    let mut other = Wtf8Buf::new(alloc);
+    string.apply_all(calls)?;
+    other.apply_all(others)?;
+    Ok(string == other)
+}
+
+/// The place of the first `/` in bytes, which is a code point boundary, or the length where there is none.
+fn first_slash(text: Wtf8<'_>) -> usize
+    ensures boundary { IsBoundary (view_units text.entry) result }
+    ensures slash { result < length text.entry.bytes.now → slice_index text.entry.bytes.now result ≡ 0x2F }
+{
+    laws::law_positions();
+    for place in 0..text.len() {
+        if text.ascii_byte_at(place) == b'/' {
+            return place;
+        }
+    }
+    text.len()
+}
+
+/// A copy of a path that is cut before its first `/` and joined again: it is the whole.
+pub fn cut_at_slash_and_joined(alloc: Global, path: Wtf8<'_>) -> Result<Wtf8Buf<Global>, AllocError>
+    ensures { IfOk result (λ whole. whole.units ≡ view_units path.entry) }
+{
+    laws::law_append();
+    let place = first_slash(path);
+    let mut whole = Wtf8Buf::new(alloc);
+    whole.push_wtf8(path.slice_to(place))?;
+    whole.push_wtf8(path.slice_from(place))?;
+    Ok(whole)
+}

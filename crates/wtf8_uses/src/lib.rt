@@ -1,0 +1,11 @@
+//! Uses of strings that hold any 16-bit units, each proved from what the library promises.
+#![tactic(auto)]
+
+pub mod joining;
+pub mod maps;
+pub mod refusals;
+pub mod round_trips;
+pub mod sorting;
+#[cfg(test)]
+mod tests;
+pub mod units;

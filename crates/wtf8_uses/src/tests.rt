@@ -1,0 +1,117 @@
+// Each public function on its happy path. Expected values are worked by hand from the encoding's tables.
+use crate::{joining, maps, refusals, round_trips, sorting, units};
+use std::alloc::AllocError;
+use std::collections::HashMap;
+use std::hash::{BuildHasherDefault, FoldHasher};
+use std::process::Abort;
+use wtf8::{Build, CodePoint, Stopped, Wtf8, Wtf8Buf};
+
+/// U+1F4A9 as two units, and its bytes.
+const LEAD: u16 = 0xD83D;
+
+const TRAIL: u16 = 0xDCA9;
+
+const PAIR_DUMP: &str = "F0 9F 92 A9";
+
+/// Ends the test unless the string's bytes are those of the dump.
+fn assert_dump<R: Abort + AllocGlobal>(
+    rt: &R,
+    text: Wtf8<'_>,
+    dump: &str,
+) -> Result<(), AllocError> {
+    let found = text.hex_dump(rt.alloc())?;
+    assert_eq!(rt; found.as_str(), dump);
+    Ok(())
+}
+
+#[test]
+fn lists_are_joined(rt: HostRuntime) -> Result<(), AllocError> {
+    let whole = joining::joined(rt.alloc(), &[LEAD], &[TRAIL])?;
+    assert_dump(&rt, whole.as_wtf8(), PAIR_DUMP)?;
+    let apart = joining::joined(rt.alloc(), &[TRAIL], &[LEAD])?;
+    assert_dump(&rt, apart.as_wtf8(), "ED B2 A9 ED A0 BD")
+}
+
+#[test]
+fn a_path_is_cut_and_joined(rt: HostRuntime) -> Result<(), AllocError> {
+    for path in ["a/b/c", "/", "", "no slash", "é/💩"] {
+        let whole = joining::cut_at_slash_and_joined(rt.alloc(), Wtf8::from_str(path))?;
+        assert_eq!(rt; whole.as_wtf8().as_str(), Some(path));
+    }
+    Ok(())
+}
+
+#[test]
+fn units_and_texts_come_back(rt: HostRuntime) -> Result<(), AllocError> {
+    let list = [TRAIL, LEAD, TRAIL, 0x0041, LEAD];
+    let again = round_trips::units_again(rt.alloc(), &list)?;
+    assert_eq!(rt; again.as_slice(), list.as_slice());
+    assert_eq!(rt; round_trips::text_again("aé 💩"), Some("aé 💩"));
+    let text = String::from_str(rt.alloc(), "aé 💩")?;
+    match round_trips::owned_text_again(text) {
+        Ok(text) => assert_eq!(rt; text.as_str(), "aé 💩"),
+        Err(_) => assert!(rt; false, "a text is text"),
+    }
+    let broken = Wtf8Buf::from_ill_formed_utf16(rt.alloc(), &[0x0041, LEAD])?;
+    assert_eq!(rt; round_trips::lossy_twice(broken).as_str(), "A\u{FFFD}");
+    Ok(())
+}
+
+#[test]
+fn strings_and_views_are_sorted(rt: HostRuntime) -> Result<(), AllocError> {
+    // U+E000 stands before U+10000 by code points, and behind it by units.
+    let first = Wtf8Buf::from_ill_formed_utf16(rt.alloc(), &[0xE000])?;
+    let second = Wtf8Buf::from_ill_formed_utf16(rt.alloc(), &[0xD800, 0xDC00])?;
+    let mut views = Vec::new(rt.alloc());
+    views.push(second.as_wtf8())?;
+    views.push(first.as_wtf8())?;
+    sorting::sort_views(&mut views)?;
+    assert_dump(&rt, views[0], "EE 80 80")?;
+    assert_dump(&rt, views[1], "F0 90 80 80")?;
+    let mut strings = Vec::new(rt.alloc());
+    strings.push(second.clone()?)?;
+    strings.push(first.clone()?)?;
+    sorting::sort_strings(&mut strings)?;
+    assert_dump(&rt, strings[0].as_wtf8(), "EE 80 80")?;
+    assert_dump(&rt, strings[1].as_wtf8(), "F0 90 80 80")
+}
+
+#[test]
+fn a_map_finds_equal_strings(rt: HostRuntime) -> Result<(), AllocError> {
+    let mut map = HashMap::new(rt.alloc());
+    let key = joining::joined(rt.alloc(), &[LEAD], &[TRAIL])?;
+    let same = Wtf8Buf::from_str(rt.alloc(), "💩")?;
+    let hashers: BuildHasherDefault<FoldHasher> = BuildHasherDefault::new();
+    assert!(rt; maps::hash_alike(&hashers, &same, Wtf8::from_str("💩")));
+    assert_eq!(rt; maps::put_and_found(&mut map, key, &same, 7)?, Some(7));
+    Ok(())
+}
+
+#[test]
+fn room_is_found_once(rt: HostRuntime) -> Result<(), AllocError> {
+    let mut string = Wtf8Buf::from_ill_formed_utf16(rt.alloc(), &[LEAD])?;
+    let trail = Wtf8Buf::from_ill_formed_utf16(rt.alloc(), &[TRAIL])?;
+    refusals::push_both(&mut string, trail.as_wtf8(), Wtf8::from_str("é"))?;
+    assert_dump(&rt, string.as_wtf8(), "F0 9F 92 A9 C3 A9")?;
+    refusals::push_list(&mut string, &[Build::PushChar('a'), Build::PushStr("b")], 2)?;
+    assert_dump(&rt, string.as_wtf8(), "F0 9F 92 A9 C3 A9 61 62")?;
+    assert!(rt; refusals::is_kept_by_a_refusal(&mut string, CodePoint::from_char('c'))?);
+    Ok(())
+}
+
+#[test]
+fn equal_units_build_equal_strings(rt: HostRuntime) -> Result<(), Stopped> {
+    let calls = [Build::PushStr("ab"), Build::PushChar('c')];
+    let others = [Build::PushChar('a'), Build::PushStr("bc")];
+    assert!(rt; joining::build_alike(rt.alloc(), &calls, &others)?);
+    Ok(())
+}
+
+#[test]
+fn units_are_counted(rt: HostRuntime) {
+    let text = Wtf8::from_str("a💩");
+    assert_eq!(rt; units::unit_count(text), 3);
+    assert_eq!(rt; units::nth_unit(text, 1), Some(LEAD));
+    assert_eq!(rt; units::nth_unit(text, 2), Some(TRAIL));
+    assert_eq!(rt; units::nth_unit(text, 3), None);
+}

@@ -1,0 +1,20 @@
+//! A string as a list of units.
+ghost use Rattle.std.specs.Prelude.{◌≡◌, length, slice_get};
+ghost use Rattle.wtf8.specs.View.{view_units};
+
+use wtf8::Wtf8;
+
+/// The unit at a place, counted from 0, by the iterator; `None` where there are no more than so many. `Wtf8::unit_at`
+/// answers the same and skips whole blocks of bytes.
+pub fn nth_unit(text: Wtf8<'_>, place: usize) -> Option<u16>
+    ensures { result ≡ slice_get (view_units text.entry) place }
+{
+    text.to_ill_formed_utf16().nth(place)
+}
+
+/// The number of units, by the iterator. `Wtf8::unit_len` answers the same and skips whole blocks of bytes.
+pub fn unit_count(text: Wtf8<'_>) -> usize
+    ensures { result ≡ length (view_units text.entry) }
+{
+    text.to_ill_formed_utf16().count()
+}
