@@ -10,6 +10,7 @@ use crate::column::original;
 use crate::column::standard;
 use crate::inputs::{self, Input};
 use crate::ours;
+use crate::say;
 
 /// The loops by number, as the proved library's exports know them.
 const LOOPS: [(u32, &str); 14] = [
@@ -67,7 +68,7 @@ pub fn run(filter: &str, file: &Path) -> bool {
             original,
             standard,
         } = &row;
-        println!(
+        say!(
             "{:60} {ours:8.3} {original:8.3} {standard:8.3}",
             name.replace('\t', ", ")
         );
@@ -80,7 +81,7 @@ pub fn run(filter: &str, file: &Path) -> bool {
 pub fn rows(filter: &str) -> bool {
     for (_, name, input) in all_rows() {
         if name.contains(filter) {
-            println!("{name}\t{}", input.units.len());
+            say!("{name}\t{}", input.units.len());
         }
     }
     true
@@ -96,7 +97,7 @@ pub fn run_loop(column: &str, row: &str, rounds: &str) -> bool {
         "proved" => Some(ours::time(number, &input.units, rounds)),
         _ => original::Bench::new(&input.units).run(number, rounds),
     };
-    println!("{}", sum.unwrap_or_default());
+    say!("{}", sum.unwrap_or_default());
     true
 }
 
@@ -113,7 +114,7 @@ fn time(number: u32, name: String, input: &Input) -> Option<Row> {
         let (with_making, answer) = timed(|| ours::time(number, &input.units, rounds));
         let (crate_time, crate_answer) = timed(|| original.run(number, rounds));
         if crate_answer.is_some_and(|crate_answer| crate_answer != answer) {
-            println!("DIFFERENT ANSWERS in {name}: {answer} and {crate_answer:?}");
+            say!("DIFFERENT ANSWERS in {name}: {answer} and {crate_answer:?}");
             return None;
         }
         least[0] = least[0].min(made);
@@ -125,7 +126,7 @@ fn time(number: u32, name: String, input: &Input) -> Option<Row> {
         {
             let (standard_time, standard_answer) = timed(|| standard.run(number, rounds));
             if standard_answer.is_some_and(|standard_answer| standard_answer != answer) {
-                println!("DIFFERENT ANSWERS in {name}: {answer} and {standard_answer:?}");
+                say!("DIFFERENT ANSWERS in {name}: {answer} and {standard_answer:?}");
                 return None;
             }
             if standard_answer.is_some() {
@@ -172,8 +173,8 @@ pub fn table(files: &[&str]) -> bool {
     else {
         return false;
     };
-    println!("| Call | Input | proved, ns | crate, ns | ratio | standard library, ns |");
-    println!("|---|---|---|---|---|---|");
+    say!("| Call | Input | proved, ns | crate, ns | ratio | standard library, ns |");
+    say!("|---|---|---|---|---|---|");
     for line in texts[0].lines() {
         let words: Vec<&str> = line.split('\t').collect();
         let same = texts.iter().flat_map(|text| text.lines());
@@ -190,7 +191,7 @@ pub fn table(files: &[&str]) -> bool {
             true => format!("{:.2}", ours / original),
             false => "-".to_owned(),
         };
-        println!(
+        say!(
             "| {} | {} | {} | {} | {ratio} | {} |",
             words[0],
             words[1],

@@ -6,6 +6,7 @@ use std::path::Path;
 use crate::generate;
 use crate::original;
 use crate::random::Random;
+use crate::say;
 use crate::script::{encode, Call};
 
 /// Writes scripts in hexadecimal, one a line, to `stdin` in a folder, and the original crate's transcripts, with an
@@ -28,7 +29,7 @@ pub fn run(folder: &Path, seed: u64, cases: u64) -> std::io::Result<()> {
     }
     fs::write(folder.join("stdin"), &lines)?;
     fs::write(folder.join("stdout"), &transcripts)?;
-    println!(
+    say!(
         "{} scripts, {} bytes; transcripts, {} bytes",
         scripts.len(),
         lines.len(),
