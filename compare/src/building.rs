@@ -42,6 +42,13 @@ pub fn lists_of_calls() -> Vec<Vec<Call>> {
     lists.iter().map(|list| calls_of(list)).collect()
 }
 
+/// A few of these, for a list that is short.
+pub fn chosen() -> Vec<Vec<Call>> {
+    let mut scripts: Vec<Vec<Call>> = lists_of_calls().into_iter().step_by(61).collect();
+    scripts.extend(false_hints().into_iter().skip(3).step_by(8));
+    scripts
+}
+
 fn calls_of(list: &[Build]) -> Vec<Call> {
     let mut calls = vec![
         from_units(1, &[0xDCA9, 0x61]),

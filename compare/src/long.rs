@@ -55,19 +55,22 @@ pub fn changed_at_each_place() -> Vec<Vec<Call>> {
     let mut scripts = Vec::new();
     for base in BASES {
         for len in 0..=130 {
-            let units = string_of(base, len);
-            let mut calls = string_in(0, &units);
-            for place in 0..len {
-                for other in [0x62, 0xDFFF] {
-                    calls.extend(string_in(1, &changed(&units, &[(place, other)])));
-                    calls.push(registers("comparisons", 0, 1));
-                    calls.push(registers("comparisons", 1, 0));
-                }
-            }
-            scripts.push(calls);
+            scripts.push(changed_at(&string_of(base, len), 0..len));
         }
     }
     scripts
+}
+
+fn changed_at(units: &[u16], places: impl IntoIterator<Item = usize>) -> Vec<Call> {
+    let mut calls = string_in(0, units);
+    for place in places {
+        for other in [0x62, 0xDFFF] {
+            calls.extend(string_in(1, &changed(units, &[(place, other)])));
+            calls.push(registers("comparisons", 0, 1));
+            calls.push(registers("comparisons", 1, 0));
+        }
+    }
+    calls
 }
 
 /// A string of every length, and one that goes on behind it.
@@ -95,17 +98,20 @@ pub fn one_surrogate() -> Vec<Vec<Call>> {
     let mut scripts = Vec::new();
     for base in BASES {
         for len in 0..=130 {
-            let units = string_of(base, len);
-            let mut calls = texts_of(&units);
-            for place in 0..len {
-                for surrogate in [0xD800, 0xDFFF] {
-                    calls.extend(texts_of(&changed(&units, &[(place, surrogate)])));
-                }
-            }
-            scripts.push(calls);
+            scripts.push(with_surrogate_at(&string_of(base, len), 0..len));
         }
     }
     scripts
+}
+
+fn with_surrogate_at(units: &[u16], places: impl IntoIterator<Item = usize>) -> Vec<Call> {
+    let mut calls = texts_of(units);
+    for place in places {
+        for surrogate in [0xD800, 0xDFFF] {
+            calls.extend(texts_of(&changed(units, &[(place, surrogate)])));
+        }
+    }
+    calls
 }
 
 /// Two lone surrogates at each two places, of some lengths.
@@ -164,19 +170,23 @@ pub fn joins() -> Vec<Vec<Call>> {
     let mut scripts = Vec::new();
     for base in BASES {
         for len in (0..=70).chain(126..=130) {
-            let half = len / 2;
-            let units = string_of(base, len);
-            let mut calls = cut_and_joined(&units, half);
-            for (lead, trail) in [(0xD83D, 0xDCA9), (0xDBFF, 0x61), (0xE000, 0xDC00)] {
-                let (front, back) = units.split_at(half);
-                let whole = [front, &[lead, trail], back].concat();
-                calls.extend(string_in(0, &whole));
-                calls.extend(cut_and_joined(&whole, half + 1));
-            }
-            scripts.push(calls);
+            scripts.push(joined_in_the_middle(&string_of(base, len)));
         }
     }
     scripts
+}
+
+fn joined_in_the_middle(units: &[u16]) -> Vec<Call> {
+    let half = units.len() / 2;
+    let mut calls = string_in(0, units);
+    calls.extend(cut_and_joined(units, half));
+    for (lead, trail) in [(0xD83D, 0xDCA9), (0xDBFF, 0x61), (0xE000, 0xDC00)] {
+        let (front, back) = units.split_at(half);
+        let whole = [front, &[lead, trail], back].concat();
+        calls.extend(string_in(0, &whole));
+        calls.extend(cut_and_joined(&whole, half + 1));
+    }
+    calls
 }
 
 /// Slices in the middle of a string: their front at each place up to 40, with surrogates inside them, outside them, and at
@@ -235,6 +245,26 @@ fn calls_inside(filling: u16, front: usize, body: &[u16]) -> Vec<Call> {
         calls.extend(on(2, &["as_str", "to_string_lossy"]));
     }
     calls
+}
+
+/// A few of all of these, for a list that is short.
+pub fn chosen() -> Vec<Vec<Call>> {
+    let mut scripts: Vec<Vec<Call>> = inside().into_iter().step_by(19).collect();
+    for base in [BASES[0], BASES[3], BASES[6]] {
+        let units = string_of(base, 100);
+        scripts.push(changed_at(&units, [7, 16, 40, 99]));
+        scripts.push(with_surrogate_at(&units, [9, 30, 31, 99]));
+    }
+    for len in [33, 126] {
+        scripts.push(joined_in_the_middle(&string_of(BASES[0], len)));
+    }
+    let units = string_of(BASES[0], 1200);
+    let mut calls = string_in(0, &units);
+    calls.extend(string_in(1, &changed(&units, &[(1199, 0xDC00)])));
+    calls.push(registers("comparisons", 0, 1));
+    calls.extend(on(1, &["as_str", "to_string_lossy"]));
+    scripts.push(calls);
+    scripts
 }
 
 /// How many bytes the string of some units has.

@@ -2,6 +2,8 @@
 
 use std::cell::RefCell;
 
+use crate::console::fail;
+
 extern "C" {
     fn wtf8_compare_run(script: *const u8, script_len: usize, out: *mut u8, out_len: usize) -> i64;
     fn wtf8_compare_time(
@@ -38,6 +40,8 @@ pub fn time(number: u32, units: &[u16], rounds: u32) -> u64 {
     let mut sum = 0;
     let status =
         unsafe { wtf8_compare_time(number, units.as_ptr(), units.len(), rounds, &mut sum) };
-    assert_eq!(status, 0, "the proved library's loop {number}");
-    sum
+    match status {
+        0 => sum,
+        _ => fail(&format!("the proved library's loop {number} gave {status}")),
+    }
 }
