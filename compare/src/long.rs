@@ -253,7 +253,7 @@ pub fn chosen() -> Vec<Vec<Call>> {
     for base in [BASES[0], BASES[3], BASES[6]] {
         let units = string_of(base, 100);
         scripts.push(changed_at(&units, [7, 16, 40, 99]));
-        scripts.push(with_surrogate_at(&units, [9, 30, 31, 99]));
+        scripts.push(with_surrogate_at(&units, [9, 30, 31, 96, 99]));
     }
     for len in [33, 126] {
         scripts.push(joined_in_the_middle(&string_of(BASES[0], len)));

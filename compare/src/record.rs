@@ -38,7 +38,11 @@ pub fn run(folder: &Path, seed: u64, cases: u64) -> std::io::Result<()> {
 fn chosen() -> Vec<Vec<Call>> {
     let mut scripts = generate::edge_calls();
     let mut lists = generate::unit_lists(1);
-    lists.extend([vec![0xD83D, 0xDCA9], vec![0xDCA9, 0xD83D]]);
+    lists.extend([
+        vec![0xD83D, 0xDCA9],
+        vec![0xDCA9, 0xD83D],
+        vec![0xDBFF, 0xDFFF],
+    ]);
     scripts.extend(lists.iter().map(|units| generate::calls_on(units)));
     scripts.extend(building::chosen());
     scripts.extend(long::chosen());
