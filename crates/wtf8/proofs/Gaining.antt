@@ -3,6 +3,8 @@ use Rattle.std.proofs.Common.{◌≡◌, ◌+◌, ◌-◌, ◌≤◌, List, [], 
 use Rattle.std.proofs.lemmas.List.{take_at, drop_at, length-take-le}
 use Rattle.std.proofs.lemmas.Bool.{false≢true}
 use Rattle.wtf8.specs.Unicode.{units, units_of, pair, IsLead, IsTrail, IsCodePoint}
+use Rattle.wtf8.specs.UnitString.{UnitString}
+use Rattle.wtf8.specs.Appending.{KeepsContents}
 use Rattle.wtf8.specs.Form.{bytes, encoding, IsClean, IsWellFormed, IsForm, GainsUnits, FitsUnits}
 use Rattle.wtf8.proofs.EncodingLemmas.{encoding_three, encoding_four}
 use Rattle.wtf8.proofs.Joining.{bytes-append, bytes-pushed, length-lead, last_same, clean-append, clean-rest, NoPair, form-joined, form-pushed}
@@ -17,6 +19,13 @@ form_of h = record { points = h.points; reads = record { clean = h.clean; same_u
 
 abbrev pub well_formed_of : {w u : List ℕ} → IsForm w u → IsWellFormed w
 well_formed_of f = record { points = f.points; clean = f.reads.clean; encoded = f.encoded }
+
+-- strings of equal bytes have equal contents
+pub contents_of : (new old : UnitString) → new.bytes ≡ old.bytes → KeepsContents old new
+contents_of new old e = record {
+  units = sym new.form.reads.same_units ∙ (ap units (bytes-injective new.form.points old.form.points (new.form.encoded ∙ (e ∙ sym old.form.encoded))) ∙ old.form.reads.same_units);
+  bytes = e;
+}
 
 module _ {T E : Type 0} where
   -- what succeeded left nothing to say of a refusal
@@ -37,6 +46,11 @@ module _ {T E : Type 0} where
   pub kept_units : (r : Result T E) {old new u : List ℕ} (h : IsWellFormed old) (k : IsWellFormed new) → units h.points ≡ u → OnErr r (new ≡ old) → OnErr r (units k.points ≡ u)
   kept_units (Ok _) h k e err = tt
   kept_units (Err _) h k e err = ap units (same_points k h err) ∙ e
+
+  -- a refusal that left the bytes left the string
+  pub kept_contents : (r : Result T E) (was old new : UnitString) → was ≡ old → OnErr r (new.bytes ≡ was.bytes) → OnErr r (KeepsContents old new)
+  kept_contents (Ok _) was old new e err = tt
+  kept_contents (Err _) was old new e err = contents_of new old (err ∙ ap (λ (s : UnitString). s.bytes) e)
 
 -- where the units fit, the bytes that gained them are within the capacity
 pub fits_length : {old new v : List ℕ} {n : ℕ} → GainsUnits old new v → FitsUnits old v n → length new ≤ n

@@ -3,8 +3,11 @@ use Rattle.std.proofs.Common.{◌≡◌, ℕ, ◌+◌, ◌-◌, ◌⊎◌, inl, 
 use Rattle.std.proofs.lemmas.Bool.{leb-true, le-leb, and_parts, and_from, cases_Bool, cases_lt, false≢true}
 use Rattle.std.proofs.lemmas.List.{append-nil}
 use Rattle.wtf8.specs.Unicode.{IsLead, IsTrail, units, units_of, pair}
-use Rattle.wtf8.specs.Form.{IsClean, Reads, bytes, encoding, IsForm, IsWellFormed, GainsUnits}
-use Rattle.wtf8.specs.Text.{Text}
+use Rattle.wtf8.specs.Form.{IsClean, Reads, bytes, encoding, IsForm, GainsUnits}
+use Rattle.wtf8.specs.UnitString.{UnitString}
+use Rattle.wtf8.specs.Appending.{AddsLength}
+use Rattle.wtf8.specs.View.{view_units}
+use Rattle.wtf8.specs.declared.view.Wtf8.{Wtf8}
 use Rattle.wtf8.specs.Concatenation.{MeetsAsPair, is_pair, glue}
 use Rattle.wtf8.proofs.UnitLemmas.{units_one, units_two, units_pair, units-append, units-pushed}
 use Rattle.wtf8.proofs.Joining.{NoPair, clean-append, clean-front, clean-rest, last_same, bytes-append}
@@ -194,14 +197,13 @@ length_paired w v z a b x y f m =
 pub length_apart : (w v z a b : List ℕ) → IsForm w a → IsForm v b → IsForm z (a ++ b) → ¬ (MeetsAsPair a b) → length z ≡ length w + length v
 length_apart w v z a b x y f n = ap length (same_form z (w ++ v) (a ++ b) f (form_apart w v a b x y n)) ∙ length-append w v
 
-module _ {T E : Type 0} where
-  -- how long the string is that units were appended to
-  pub gained_paired : (r : Result T E) (old : Text) (w z : List ℕ) {v : List ℕ} (k : IsWellFormed v) → w ≡ old.bytes → OnOk r (GainsUnits w z (units k.points)) → OnOk r (MeetsAsPair old.units (units k.points) → length z + 2 ≡ length old.bytes + length v)
-  gained_paired (Ok _) old w z {v} k e gains =
-      length_paired old.bytes v z old.units (units k.points) old.form (form_of k) (gains old.units (subst (λ b. IsForm b old.units) (sym e) old.form))
-  gained_paired (Err _) old w z k e gains = tt
-
-  pub gained_apart : (r : Result T E) (old : Text) (w z : List ℕ) {v : List ℕ} (k : IsWellFormed v) → w ≡ old.bytes → OnOk r (GainsUnits w z (units k.points)) → OnOk r (¬ (MeetsAsPair old.units (units k.points)) → length z ≡ length old.bytes + length v)
-  gained_apart (Ok _) old w z {v} k e gains =
-      length_apart old.bytes v z old.units (units k.points) old.form (form_of k) (gains old.units (subst (λ b. IsForm b old.units) (sym e) old.form))
-  gained_apart (Err _) old w z k e gains = tt
+-- how long the string is that units were appended to
+pub added_length : {T E : Type 0} (r : Result T E) (was old new : UnitString) (other : Wtf8) → was ≡ old → OnOk r (GainsUnits was.bytes new.bytes (view_units other)) → OnOk r (AddsLength old other new)
+added_length (Ok _) was old new other e gains =
+    let k = other.well_formed in
+    let gained = gains old.units (subst (λ b. IsForm b old.units) (sym (ap (λ (s : UnitString). s.bytes) e)) old.form) in
+    record {
+      pair = length_paired old.bytes other.bytes.now new.bytes old.units (units k.points) old.form (form_of k) gained;
+      apart = length_apart old.bytes other.bytes.now new.bytes old.units (units k.points) old.form (form_of k) gained;
+    }
+added_length (Err _) was old new other e gains = tt

@@ -10,11 +10,17 @@ pub mod Joining
 pub mod LaneLemmas
 pub mod LawLemmas
 pub mod OneReading
+pub mod PositionLaws
 pub mod Positions
 pub mod Readings
+pub mod Rooms
 pub mod RunLaws
 pub mod Runs
 pub mod Scalars
+pub mod StringLaws
 pub mod SurrogateLemmas
 pub mod Texts
+pub mod UnitCuts
+pub mod UnitLanes
 pub mod UnitLemmas
+pub mod UnitPositions

@@ -15,10 +15,10 @@ lead_of p = 0xD800 + (p - 0x10000) / 0x400
 abbrev pub trail_of : ℕ → ℕ
 trail_of p = 0xDC00 + (p - 0x10000) % 0x400
 
-units-cons_one : (p : ℕ) (c : List ℕ) → p < 0x10000 → units (p ∷ c) ≡ p ∷ units c
+pub units-cons_one : (p : ℕ) (c : List ℕ) → p < 0x10000 → units (p ∷ c) ≡ p ∷ units c
 units-cons_one p c h = ap (λ u. u ++ units c) (units_one p h)
 
-units-cons_two : (p : ℕ) (c : List ℕ) → 0x10000 ≤ p → units (p ∷ c) ≡ lead_of p ∷ trail_of p ∷ units c
+pub units-cons_two : (p : ℕ) (c : List ℕ) → 0x10000 ≤ p → units (p ∷ c) ≡ lead_of p ∷ trail_of p ∷ units c
 units-cons_two p c h = ap (λ u. u ++ units c) (units_two p h)
 
 units_nonempty : (p : ℕ) (c : List ℕ) → 0 < length (units (p ∷ c))

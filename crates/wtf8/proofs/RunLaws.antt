@@ -8,9 +8,9 @@ use Rattle.wtf8.specs.CodePoint.{number, numbers}
 use Rattle.wtf8.specs.Form.{bytes, IsForm, IsWellFormed}
 use Rattle.wtf8.specs.OneForm.{bytes-injective}
 use Rattle.wtf8.specs.Position.{IsBoundary, IsFront}
-use Rattle.wtf8.specs.Building.{Step, Run, RunsOnce}
+use Rattle.wtf8.specs.Building.{Step, Run, RunsOnce, RunsAddUp}
 use Rattle.wtf8.specs.declared.build.Build.{Build}
-use Rattle.wtf8.specs.declared.build.Build.TheVariants.{Push, PushChar, PushStr, PushWtf8, Extend, Reserve, Truncate}
+use Rattle.wtf8.specs.declared.build.Build.TheVariants.{Push, PushChar, PushStr, PushWtf8, Extend, Reserve, Truncate, TruncateUnits}
 use Rattle.wtf8.proofs.EncodingLemmas.{Begins}
 use Rattle.wtf8.proofs.Joining.{bytes-append}
 use Rattle.wtf8.proofs.OneReading.{same_reading}
@@ -18,7 +18,7 @@ use Rattle.wtf8.proofs.Positions.{cut_at, boundary_from_byte, byte_from_boundary
 use Rattle.wtf8.proofs.Runs.{AreSmall, small_units, pushed_units}
 
 -- the units before a position are the same in each splitting
-same_front : (u : List ℕ) (k : ℕ) (v w : List ℕ) → IsFront u k v → IsFront u k w → v ≡ w
+pub same_front : (u : List ℕ) (k : ℕ) (v w : List ℕ) → IsFront u k v → IsFront u k w → v ≡ w
 same_front u k v w x y =
     let whole : x.front ++ x.back ≡ y.front ++ y.back = same_reading (x.front ++ x.back) (y.front ++ y.back) x.splits.reads.clean y.splits.reads.clean (x.splits.reads.same_units ∙ sym y.splits.reads.same_units) in
     let first : take k (bytes (x.front ++ x.back)) ≡ bytes x.front = ap (take k) (bytes-append x.front x.back) ∙ take_at (bytes x.front) (bytes x.back) k x.splits.front_len in
@@ -93,6 +93,16 @@ step_once u (Truncate k) = elim (boundary_or_not u k) [
   | inr n ↦
       record { outcome = u; count = 1; goes = inr (n, refl, refl); no_other = λ v r s. elim s [ inl x ↦ absurd (n (record { front = x.0.front; back = x.0.back; splits = x.0.splits })) | inr m ↦ (m.1, m.2) ] }
 ]
+step_once u (TruncateUnits n) = elim (cases_lt (length u) n) [
+  | inl h ↦ record { outcome = u; count = 1; goes = inr (h, refl, refl); no_other = λ v r s. elim s [ inl x ↦ absurd (omega (arith, x.0, h)) | inr x ↦ (x.1, x.2) ] }
+  | inr h ↦ record { outcome = take n u; count = 0; goes = inl (h, refl, refl); no_other = λ v r s. elim s [ inl x ↦ (x.1, x.2) | inr x ↦ absurd (omega (arith, x.0, h)) ] }
+]
+
+-- one run behind another
+pub runs_add : RunsAddUp
+runs_add u mid v [] back m n x y =
+    subst (λ k. Run u back v k) (let same : n ≡ m + n = omega (arith, x.1) in same) (subst (λ w. Run w back v n) x.0 y)
+runs_add u mid v (call ∷ front) back m n x y = (x.0, x.1, x.2 + n, x.3, runs_add x.0 mid v front back x.2 n x.4 y, omega (arith, x.5))
 
 pub run_once : (u : List ℕ) (calls : List Build) → RunsOnce u calls
 run_once u [] = record { outcome = u; count = 0; goes = (refl, refl); no_other = λ v n r. r }

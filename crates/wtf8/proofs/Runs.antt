@@ -1,13 +1,15 @@
 -- Runs of building calls, one call after another, and what pushes and extensions append.
 use Rattle.std.proofs.Common.{◌≡◌, ◌≤◌, ◌<◌, ◌+◌, inl, inr, ℕ, List, [], ◌∷◌, ◌++◌, length, take, drop, get_or, Bool, true, false, cond, Option, Some, IfSome, refl, ap, ◌∙◌, sym, subst, arith, append_assoc}
 use Rattle.std.proofs.lemmas.List.{append-nil, drop_more, take_more, take-append-drop}
+use Rattle.std.specs.List.{All}
+use Rattle.std.proofs.lemmas.List.Elements.{All-get_or}
 use Rattle.std.proofs.lemmas.Option.{none-some}
 use Rattle.std.proofs.lemmas.Bool.{cases_lt}
 use Rattle.wtf8.specs.Unicode.{units_of, units}
 use Rattle.wtf8.specs.Form.{IsClean, IsForm}
 use Rattle.wtf8.specs.Building.{Step, Run, appended, Append, IsNoTruncation}
 use Rattle.wtf8.specs.declared.build.Build.{Build}
-use Rattle.wtf8.specs.declared.build.Build.TheVariants.{Push, PushChar, PushStr, PushWtf8, Extend, Reserve, Truncate}
+use Rattle.wtf8.specs.declared.build.Build.TheVariants.{Push, PushChar, PushStr, PushWtf8, Extend, Reserve, Truncate, TruncateUnits}
 use Rattle.wtf8.proofs.Joining.{clean-first, clean-rest}
 use Rattle.wtf8.proofs.UnitLemmas.{units_one, units_two}
 use Rattle.wtf8.proofs.OneReading.{same_form}
@@ -32,6 +34,7 @@ step_appends u (PushWtf8 t) v r a s e = s.0 ∙ ap (λ b. u ++ b) (some_same _ a
 step_appends u (Extend d) v r a s e = s.0 ∙ ap (λ b. u ++ b) (some_same _ a e)
 step_appends u (Reserve n) v r a s e = absurd (none-some a e)
 step_appends u (Truncate k) v r a s e = absurd (none-some a e)
+step_appends u (TruncateUnits n) v r a s e = absurd (none-some a e)
 
 pub no_truncation : (call : Build) (a : List ℕ) → appended call ≡ Some a → IsNoTruncation call
 no_truncation (Push p) a e = tt
@@ -41,6 +44,7 @@ no_truncation (PushWtf8 t) a e = tt
 no_truncation (Extend d) a e = tt
 no_truncation (Reserve n) a e = tt
 no_truncation (Truncate k) a e = absurd (none-some a e)
+no_truncation (TruncateUnits n) a e = absurd (none-some a e)
 
 -- what a list appends, in two parts
 pub record Parts (calls more : List Build) (v : List ℕ) : Type 0 where
@@ -110,6 +114,9 @@ calls_at calls i call h e = ap (λ q. take i calls ++ q ∷ drop (i + 1) calls) 
 
 pub calls_more : (calls : List Build) (i : ℕ) (call : Build) → i < length calls → call ≡ get_or calls i call → take (i + 1) calls ≡ take i calls ++ call ∷ []
 calls_more calls i call h e = take_more calls i call h ∙ ap (λ q. take i calls ++ q ∷ []) (sym e)
+
+pub call_among : (calls : List Build) (i : ℕ) (call : Build) → i < length calls → call ≡ get_or calls i call → All IsNoTruncation calls → IsNoTruncation call
+call_among calls i call h e all = subst IsNoTruncation (sym e) (All-get_or IsNoTruncation calls i call h all)
 
 -- what a fact of an option says at its value
 pub at_some : (P : List ℕ → Type 0) (o : Option (List ℕ)) (a : List ℕ) → o ≡ Some a → IfSome o P → P a

@@ -164,8 +164,11 @@ replacing_end c w from r none =
     let plain = scalar_from_none (lossy r.done) r.rest (λ j l. subst (λ v. ¬ (SurrogateAt v j)) r.so_far (none j (omega (arith, l, r.place)))) in
     r.so_far ∙ (ap (λ d. bytes (lossy r.done ++ d)) (sym (lossy-scalar r.rest plain)) ∙ ap bytes (sym (lossy-append r.done r.rest) ∙ ap lossy (sym r.joined)))
 
-replaced_surrogate : (p : ℕ) → IsSurrogate p → replaced p ≡ 0xFFFD
+pub replaced_surrogate : (p : ℕ) → IsSurrogate p → replaced p ≡ 0xFFFD
 replaced_surrogate p s = elim (kind_of p) [ surrogate k e ↦ e | scalar_value n e ↦ absurd (n s) ]
+
+pub replaced_scalar : (p : ℕ) → ¬ (IsSurrogate p) → replaced p ≡ p
+replaced_scalar p n = elim (kind_of p) [ surrogate k e ↦ absurd (n k) | scalar_value m e ↦ e ]
 
 -- where no surrogate begins among the bytes of c, it is scalar values
 scalar_between : (f c b : List ℕ) → ((j : ℕ) → length (bytes f) ≤ j → j < length (bytes (f ++ c)) → ¬ (SurrogateAt (bytes ((f ++ c) ++ b)) j)) → AreScalar c

@@ -1,18 +1,20 @@
 // Owned strings.
-ghost use Rattle.std.specs.Prelude.{◌≡◌, ℕ, List, [], ◌++◌, ◌+◌, ◌≤◌, length, take, IsTrue, OnOk, OnErr, IsOk, IfOk, IfErr, ◌↔◌, vec_capacity};
+ghost use Rattle.std.specs.Prelude.{◌≡◌, ℕ, List, [], ◌+◌, ◌≤◌, length, take, IsTrue, OnOk, OnErr, IsOk, IfOk, IfErr, ◌↔◌, vec_capacity, if◌then◌else◌};
 ghost use Rattle.std.specs.Str.{chars};
 ghost use Rattle.std.specs.String.{string_bytes};
+ghost use Rattle.wtf8.specs.Appending.{AppendsUnits, KeepsContents, HasRoomFor, AddsLength};
 ghost use Rattle.wtf8.specs.CodePoint.{number};
-ghost use Rattle.wtf8.specs.Concatenation.{MeetsAsPair};
 ghost use Rattle.wtf8.specs.Form.{IsWellFormed, IsForm, bytes};
 ghost use Rattle.wtf8.specs.OneForm.{IsWellFormed-prop, KnownScalar-prop};
 ghost use Rattle.wtf8.specs.Position.{IsBoundary, IsFront};
 ghost use Rattle.wtf8.specs.Surrogates.{AreScalar, IsFirstSurrogate, lossy};
 ghost use Rattle.wtf8.specs.Unicode.{units, units_of};
+ghost use Rattle.wtf8.specs.UnitPosition.{TruncatesUnits};
+ghost use Rattle.wtf8.specs.View.{view_points, view_units};
 
 use crate::code_point::CodePoint;
 use crate::view::Wtf8;
-use crate::{concat, decode, search};
+use crate::{concat, decode, search, unit_positions};
 use std::alloc::{AllocError, Allocator};
 use std::marker::Model;
 
@@ -34,12 +36,12 @@ pub struct Wtf8Buf<A: Allocator> {
 impl<A: Allocator> Model for Wtf8Buf<A> {
     ghost use Rattle.std.specs.Prelude.{refl};
     ghost use Rattle.std.specs.Vec.{vec_capacity};
-    ghost use Rattle.wtf8.specs.Text.{Text, text_code};
+    ghost use Rattle.wtf8.specs.UnitString.{UnitString, unit_string_code, fits_as_items};
     ghost use Rattle.wtf8.specs.Unicode.{units};
 
-    ghost Value = { Text };
+    ghost Value = { UnitString };
 
-    ghost coded = { text_code };
+    ghost coded = { unit_string_code };
 
     ghost view = { λ b. record {
       units = units b.well_formed.points;
@@ -50,6 +52,7 @@ impl<A: Allocator> Model for Wtf8Buf<A> {
         encoded = b.well_formed.encoded;
       };
       capacity = vec_capacity b.bytes;
+      fits = fits_as_items b.bytes.ok.0 b.bytes.ok.1;
     } };
 }
 
@@ -90,6 +93,7 @@ impl<A: Allocator> Wtf8Buf<A> {
     pub fn from_string(string: String<A>) -> Wtf8Buf<A>
         ensures units { result.units ≡ units (chars (string_bytes string)) }
         ensures bytes { result.bytes ≡ string_bytes string }
+        ensures scalar { AreScalar result.form.points }
     {
         from_well_formed(string.into_bytes(), true)
     }
@@ -98,6 +102,7 @@ impl<A: Allocator> Wtf8Buf<A> {
     pub fn from_str(alloc: A, value: &str) -> Result<Wtf8Buf<A>, AllocError>
         ensures units { IfOk result (λ b. b.units ≡ units (chars value.now)) }
         ensures bytes { IfOk result (λ b. b.bytes ≡ value.now) }
+        ensures scalar { IfOk result (λ b. AreScalar b.form.points) }
         ensures empty { value.now ≡ [] → IsOk result }
     {
         let mut bytes = Vec::with_capacity(alloc, value.len())?;
@@ -153,7 +158,8 @@ impl<A: Allocator> Wtf8Buf<A> {
     /// A view of the whole string.
     pub fn as_wtf8(&self) -> Wtf8<'_>
         ensures bytes { result.bytes.now ≡ self.now.bytes }
-        ensures units { units result.well_formed.points ≡ self.now.units }
+        ensures points { view_points result ≡ self.now.form.points }
+        ensures units { view_units result ≡ self.now.units }
     {
         Wtf8::from_well_formed(self.bytes.as_slice())
     }
@@ -162,12 +168,11 @@ impl<A: Allocator> Wtf8Buf<A> {
     /// for, which adds one byte. After a refusal the string is as before.
     #[inline(always)]
     pub fn push(&mut self, code_point: CodePoint) -> Result<(), AllocError>
-        ensures ok { OnOk result (self.new.units ≡ self.old.units ++ units_of (number code_point)) }
-        ensures units_kept { OnErr result (self.new.units ≡ self.old.units) }
-        ensures bytes_kept { OnErr result (self.new.bytes ≡ self.old.bytes) }
+        ensures ok { OnOk result (AppendsUnits self.old (units_of (number code_point)) self.new) }
+        ensures kept { OnErr result (KeepsContents self.old self.new) }
 
         // A push whose bytes fit is never refused, and the capacity never shrinks.
-        ensures room { (w : List ℕ) → IsForm w (self.old.units ++ units_of (number code_point)) → length w ≤ self.old.capacity → IsOk result }
+        ensures room { HasRoomFor self.old (units_of (number code_point)) → IsOk result }
         ensures capacity { self.old.capacity ≤ self.new.capacity }
     {
         match code_point.to_char() {
@@ -182,12 +187,11 @@ impl<A: Allocator> Wtf8Buf<A> {
     /// Appends a character. After a refusal the string is as before.
     #[inline(always)]
     pub fn push_char(&mut self, c: char) -> Result<(), AllocError>
-        ensures ok { OnOk result (self.new.units ≡ self.old.units ++ units_of c) }
-        ensures units_kept { OnErr result (self.new.units ≡ self.old.units) }
-        ensures bytes_kept { OnErr result (self.new.bytes ≡ self.old.bytes) }
+        ensures ok { OnOk result (AppendsUnits self.old (units_of c) self.new) }
+        ensures kept { OnErr result (KeepsContents self.old self.new) }
 
         // A push whose bytes fit is never refused, and the capacity never shrinks.
-        ensures room { (w : List ℕ) → IsForm w (self.old.units ++ units_of c) → length w ≤ self.old.capacity → IsOk result }
+        ensures room { HasRoomFor self.old (units_of c) → IsOk result }
         ensures capacity { self.old.capacity ≤ self.new.capacity }
     {
         concat::push_scalar(&mut self.bytes, c)
@@ -195,12 +199,12 @@ impl<A: Allocator> Wtf8Buf<A> {
 
     /// Appends a text. After a refusal the string is as before.
     pub fn push_str(&mut self, other: &str) -> Result<(), AllocError>
-        ensures ok { OnOk result (self.new.units ≡ self.old.units ++ units (chars other.now)) }
-        ensures units_kept { OnErr result (self.new.units ≡ self.old.units) }
-        ensures bytes_kept { OnErr result (self.new.bytes ≡ self.old.bytes) }
+        ensures ok { OnOk result (AppendsUnits self.old (units (chars other.now)) self.new) }
+        ensures kept { OnErr result (KeepsContents self.old self.new) }
 
-        // A push whose bytes fit is never refused, and the capacity never shrinks.
-        ensures room { (w : List ℕ) → IsForm w (self.old.units ++ units (chars other.now)) → length w ≤ self.old.capacity → IsOk result }
+        // A push whose bytes fit is never refused, nor is the empty text, and the capacity never shrinks.
+        ensures room { HasRoomFor self.old (units (chars other.now)) → IsOk result }
+        ensures empty { other.now ≡ [] → IsOk result }
         ensures capacity { self.old.capacity ≤ self.new.capacity }
     {
         concat::push_text(&mut self.bytes, other)
@@ -209,16 +213,15 @@ impl<A: Allocator> Wtf8Buf<A> {
     /// Appends another string. A trail surrogate at its front joins a lead at the end: the two become the code point
     /// that they stand for, and the length grows by the other's length less 2. After a refusal the string is as before.
     pub fn push_wtf8(&mut self, other: Wtf8<'_>) -> Result<(), AllocError>
-        ensures ok { OnOk result (self.new.units ≡ self.old.units ++ units other.entry.well_formed.points) }
-        ensures units_kept { OnErr result (self.new.units ≡ self.old.units) }
-        ensures bytes_kept { OnErr result (self.new.bytes ≡ self.old.bytes) }
+        ensures ok { OnOk result (AppendsUnits self.old (view_units other.entry) self.new) }
+        ensures kept { OnErr result (KeepsContents self.old self.new) }
 
         // The length grows by the other's length, less 2 where a lead meets a trail.
-        ensures joined { OnOk result (MeetsAsPair self.old.units (units other.entry.well_formed.points) → length self.new.bytes + 2 ≡ length self.old.bytes + length other.entry.bytes.now) }
-        ensures plain { OnOk result (¬ (MeetsAsPair self.old.units (units other.entry.well_formed.points)) → length self.new.bytes ≡ length self.old.bytes + length other.entry.bytes.now) }
+        ensures length { OnOk result (AddsLength self.old other.entry self.new) }
 
-        // A push whose bytes fit is never refused, and the capacity never shrinks.
-        ensures room { (w : List ℕ) → IsForm w (self.old.units ++ units other.entry.well_formed.points) → length w ≤ self.old.capacity → IsOk result }
+        // A push whose bytes fit is never refused, nor is the empty string, and the capacity never shrinks.
+        ensures room { HasRoomFor self.old (view_units other.entry) → IsOk result }
+        ensures empty { view_units other.entry ≡ [] → IsOk result }
         ensures capacity { self.old.capacity ≤ self.new.capacity }
     {
         if self.is_known_utf8 {
@@ -239,13 +242,43 @@ impl<A: Allocator> Wtf8Buf<A> {
         self.bytes.truncate(new_len)
     }
 
+    /// Keeps the first `n` units. Where `n` divides a pair its lead stays alone: three bytes in the place of four. It
+    /// asks for no memory.
+    pub fn truncate_units(&mut self, n: usize)
+        requires { n ≤ length self.old.units }
+        ensures units { self.new.units ≡ take n self.old.units }
+
+        // Where these are the units of the code points before a position, the bytes are those before it.
+        ensures bytes { (k : ℕ) → IsFront self.old.units k (take n self.old.units) → self.new.bytes ≡ take k self.old.bytes }
+    {
+        self.try_truncate_units(n);
+    }
+
+    /// Keeps the first `n` units, and answers true, where there are so many. Where there are fewer it changes nothing
+    /// and answers false.
+    pub(crate) fn try_truncate_units(&mut self, n: usize) -> bool
+        ensures { TruncatesUnits self.old.units n self.new.units (if result then 0 else 1) }
+    {
+        let Some(cut) = unit_positions::cut(self.as_wtf8(), n) else {
+            return false;
+        };
+        match cut.divided {
+            None => self.truncate(cut.position),
+            Some(value) => {
+                self.is_known_utf8 = false;
+                let lead = unit_positions::lead_of(value);
+                unit_positions::keep_lead(&mut self.bytes, cut.position, lead);
+            }
+        }
+        true
+    }
+
     /// The same bytes as a text, not copied, or the buffer as it was exactly where it holds a surrogate. It asks for no
     /// memory.
     pub fn into_string(self) -> Result<String<A>, Wtf8Buf<A>>
         ensures ok { IsOk result ↔ AreScalar self.form.points }
         ensures bytes { IfOk result (λ t. string_bytes t ≡ self.bytes) }
-        ensures units_back { IfErr result (λ b. b.units ≡ self.units) }
-        ensures bytes_back { IfErr result (λ b. b.bytes ≡ self.bytes) }
+        ensures same_back { IfErr result (λ b. b ≡ self) }
     {
         match self.first_surrogate() {
             None => {

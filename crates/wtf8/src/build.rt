@@ -1,6 +1,7 @@
 // Lists of building calls, applied in order.
-ghost use Rattle.std.specs.Prelude.{◌≡◌, ℕ, List, ◌++◌, ◌+◌, ◌<◌, ◌≤◌, length, take, IfOk, OnOk, OnErr, IfErr, IsOk, IfSome, if◌then◌else◌};
-ghost use Rattle.wtf8.specs.Form.{IsForm};
+ghost use Rattle.std.specs.List.{All};
+ghost use Rattle.std.specs.Prelude.{◌≡◌, ℕ, List, [], Some, ◌+◌, ◌≤◌, length, take, IfOk, OnOk, OnErr, IfErr, IsOk, IfSome, if◌then◌else◌};
+ghost use Rattle.wtf8.specs.Appending.{AppendsUnits, HasRoomFor, Outgrows};
 
 use crate::buf::Wtf8Buf;
 use crate::code_point::CodePoint;
@@ -24,6 +25,8 @@ pub enum Build<'b> {
     Reserve(usize),
     /// `truncate` at a position in bytes, refused at no code point boundary.
     Truncate(usize),
+    /// `truncate_units` at a number of units, refused where there are fewer.
+    TruncateUnits(usize),
 }
 
 /// A list of calls was stopped: one of them was refused for want of memory.
@@ -34,19 +37,23 @@ pub struct Stopped {
 }
 
 impl<A: Allocator> Wtf8Buf<A> {
-    ghost use Rattle.wtf8.specs.Building.{Step, Run, LeavesRefused, StopsAt, appended, Append, IsNoTruncation};
+    ghost use Rattle.wtf8.specs.Building.{Step, Run, LeavesRefused, StopsAt, appended, Append, IsNoExtension, IsNoTruncation, FindsRoom, FindRoom};
     ghost use Rattle.wtf8.specs.declared.build.Build.TheVariants.{Reserve, Truncate};
 
-    /// Does the call of that name. It answers true, or false for a truncation at no boundary, which changes nothing.
-    /// After a refusal for want of memory the string is as that call leaves it: as before, or with some beginning of an
+    /// Does the call of that name. It answers true, or false for a truncation at no boundary or at more units than there
+    /// are, which changes nothing. After a refusal for want of memory the string is as that call leaves it: as before, or with some beginning of an
     /// extension's points. A truncation is never refused so.
     pub fn apply(&mut self, call: Build<'_>) -> Result<bool, AllocError>
         ensures step { IfOk result (λ kept. Step self.old.units call.entry self.new.units (if kept then 0 else 1)) }
         ensures refused { OnErr result (LeavesRefused self.old.units call.entry self.new.units) }
+        ensures bytes_kept { OnErr result (IsNoExtension call.entry → self.new.bytes ≡ self.old.bytes) }
+        ensures reserved { (n : ℕ) → call.entry ≡ Reserve n → OnOk result (length self.new.bytes + n ≤ self.new.capacity) }
 
-        // A push or an extension whose bytes fit is never refused, nor is room that is there.
-        ensures room { IfSome (appended call.entry) (λ v. (w : List ℕ) → IsForm w (self.old.units ++ v) → length w ≤ self.old.capacity → IsOk result) }
+        // A push or an extension whose bytes fit is never refused, nor is an empty one, nor is room that is there.
+        ensures room { IfSome (appended call.entry) (λ v. HasRoomFor self.old v → IsOk result) }
+        ensures empty { appended call.entry ≡ Some [] → IsOk result }
         ensures reserve_room { (n : ℕ) → call.entry ≡ Reserve n → length self.old.bytes + n ≤ self.old.capacity → IsOk result }
+        ensures found { (v : List ℕ) → FindsRoom self.old.units call.entry v self.old.capacity → IsOk result }
         ensures capacity { IsNoTruncation call.entry → self.old.capacity ≤ self.new.capacity }
     {
         match call {
@@ -57,6 +64,7 @@ impl<A: Allocator> Wtf8Buf<A> {
             Build::Extend(points) => self.extend_from_points(points)?,
             Build::Reserve(additional) => self.reserve(additional)?,
             Build::Truncate(position) => return Ok(self.try_truncate(position)),
+            Build::TruncateUnits(n) => return Ok(self.try_truncate_units(n)),
         }
         Ok(true)
     }
@@ -71,11 +79,18 @@ impl<A: Allocator> Wtf8Buf<A> {
         ensures run { IfOk result (λ n. Run self.old.units calls.now self.new.units n) }
         ensures stopped { IfErr result (λ s. StopsAt self.old.units calls.now s.done self.new.units) }
 
-        // Pushes and extensions alone whose bytes fit altogether are never refused, and room that was too small for
-        // what is appended up to a refused call is why it was refused.
-        ensures room { (v w : List ℕ) → Append calls.now v → IsForm w (self.old.units ++ v) → length w ≤ self.old.capacity → IsOk result }
-        ensures outgrown { IfErr result (λ s. (v w : List ℕ) → Append (take (s.done + 1) calls.now) v → IsForm w (self.old.units ++ v) → self.old.capacity < length w) }
+        // Pushes and extensions alone append their pieces' units. They are never refused where these fit altogether, and
+        // room that was too small for what is appended up to a refused call is why it was refused.
+        ensures appends { IfOk result (λ _. (v : List ℕ) → Append calls.now v → AppendsUnits self.old v self.new) }
+        ensures room { (v : List ℕ) → Append calls.now v → HasRoomFor self.old v → IsOk result }
+        ensures outgrown { IfErr result (λ s. (v : List ℕ) → Append (take (s.done + 1) calls.now) v → Outgrows self.old v) }
         ensures capacity { (v : List ℕ) → Append calls.now v → self.old.capacity ≤ self.new.capacity }
+
+        // With calls of `reserve` among them: never refused where each finds room at its place, and where the list was
+        // stopped, one of the calls up to the refused one does not find it.
+        ensures found { (v : List ℕ) → FindRoom self.old.units calls.now v self.old.capacity → IsOk result }
+        ensures missed { IfErr result (λ s. (v : List ℕ) → ¬ (FindRoom self.old.units (take (s.done + 1) calls.now) v self.old.capacity)) }
+        ensures no_smaller { All IsNoTruncation calls.now → self.old.capacity ≤ self.new.capacity }
     {
         let mut refused = 0;
         for (done, call) in calls.iter().enumerate() {

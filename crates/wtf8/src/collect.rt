@@ -2,7 +2,7 @@
 ghost use Rattle.std.specs.Prelude.{◌≡◌, ℕ, List, [], ◌++◌, ◌≤◌, length, take, IfOk, OnOk, OnErr, IsOk};
 ghost use Rattle.std.specs.Iterator.{Drains, ExtendsWithItems, IsFinite};
 ghost use Rattle.wtf8.specs.CodePoint.{numbers};
-ghost use Rattle.wtf8.specs.Collecting.{AppendsPoints};
+ghost use Rattle.wtf8.specs.Appending.{AppendsPoints, HasRoomFor};
 ghost use Rattle.wtf8.specs.Form.{IsForm};
 ghost use Rattle.wtf8.specs.Unicode.{units};
 ghost use Rattle.wtf8.specs.declared.code_point.CodePoint.{CodePoint};
@@ -48,9 +48,10 @@ impl<A: Allocator> Wtf8Buf<A> {
 
     /// Appends the code points of a slice, as `extend` does. Where the bytes fit it is never refused.
     pub(crate) fn extend_from_points(&mut self, points: &[CodePoint]) -> Result<(), AllocError>
-        ensures ok { OnOk result (self.new.units ≡ self.old.units ++ units (numbers points.now)) }
-        ensures err { OnErr result ((n : ℕ) × (self.new.units ≡ self.old.units ++ units (numbers (take n points.now)))) }
-        ensures room { (w : List ℕ) → IsForm w (self.old.units ++ units (numbers points.now)) → length w ≤ self.old.capacity → IsOk result }
+        ensures ok { OnOk result (AppendsPoints self.old points.now self.new) }
+        ensures err { OnErr result ((n : ℕ) × AppendsPoints self.old (take n points.now) self.new) }
+        ensures room { HasRoomFor self.old (units (numbers points.now)) → IsOk result }
+        ensures empty { points.now ≡ [] → IsOk result }
         ensures capacity { self.old.capacity ≤ self.new.capacity }
     {
         self.reserve(points.len())?;
@@ -58,5 +59,28 @@ impl<A: Allocator> Wtf8Buf<A> {
             self.push(*code_point)?;
         }
         Ok(())
+    }
+}
+
+/// `from_iter`, so that `collect` of an iterator makes a string.
+impl<A: Allocator> FromIterator<CodePoint> for Wtf8Buf<A> {
+    type Alloc = A;
+
+    ghost from_iter_gives = { λ points string. string.units ≡ units (numbers points) };
+
+    fn from_iter<I: IntoIterator<Item = CodePoint>>(
+        alloc: A,
+        iterable: I,
+    ) -> Result<Wtf8Buf<A>, AllocError> {
+        Wtf8Buf::from_iter(alloc, iterable)
+    }
+}
+
+/// `extend`, so that code over any collection takes a string.
+impl<A: Allocator> Extend<CodePoint> for Wtf8Buf<A> {
+    ghost extend_gives = { AppendsPoints };
+
+    fn extend<I: IntoIterator<Item = CodePoint>>(&mut self, iterable: I) -> Result<(), AllocError> {
+        self.extend(iterable)
     }
 }

@@ -7,7 +7,7 @@ ghost use Rattle.std.specs.Hash as fed;
 ghost use Rattle.std.specs.Ordering.{MatchOrdering, as_partial_cmp, nat_cmp, on};
 ghost use Rattle.std.specs.Prelude.{◌≡◌, ◌↔◌, ◌∷◌, nat_eq, IsTrue};
 ghost use Rattle.wtf8.specs.Order.{Before};
-ghost use Rattle.wtf8.specs.Unicode.{units};
+ghost use Rattle.wtf8.specs.View.{view_points, view_units};
 
 use crate::buf::Wtf8Buf;
 use crate::view::Wtf8;
@@ -21,8 +21,8 @@ impl<'a> PartialEq for Wtf8<'a> {
 
     fn eq(&self, other: &Wtf8<'a>) -> bool
         ensures bytes { result ≡ pointwise nat_eq self.now.bytes.now other.now.bytes.now }
-        ensures points { IsTrue result ↔ (self.now.well_formed.points ≡ other.now.well_formed.points) }
-        ensures units { IsTrue result ↔ (units self.now.well_formed.points ≡ units other.now.well_formed.points) }
+        ensures points { IsTrue result ↔ (view_points self.now ≡ view_points other.now) }
+        ensures units { IsTrue result ↔ (view_units self.now ≡ view_units other.now) }
     {
         self.bytes == other.bytes
     }
@@ -51,8 +51,8 @@ impl<'a> Ord for Wtf8<'a> {
 
     fn cmp(&self, other: &Wtf8<'a>) -> Ordering
         ensures bytes { result ≡ slice_cmp nat_cmp self.now.bytes.now other.now.bytes.now }
-        ensures points { result ≡ slice_cmp nat_cmp self.now.well_formed.points other.now.well_formed.points }
-        ensures order { let own = self.now.well_formed.points in let others = other.now.well_formed.points in
+        ensures points { result ≡ slice_cmp nat_cmp (view_points self.now) (view_points other.now) }
+        ensures order { let own = view_points self.now in let others = view_points other.now in
             MatchOrdering result (Before own others) (own ≡ others) (Before others own) }
     {
         self.bytes.cmp(&other.bytes)

@@ -4,6 +4,7 @@ ghost use Rattle.std.specs.Str.{chars};
 ghost use Rattle.wtf8.specs.CodePoint.{number};
 ghost use Rattle.wtf8.specs.Form.{IsWellFormed, GainsUnits, FitsUnits, encoding};
 ghost use Rattle.wtf8.specs.Unicode.{units, units_of, pair, IsLead, IsTrail};
+ghost use Rattle.wtf8.specs.View.{view_points, view_units};
 
 use crate::code_point::CodePoint;
 use crate::encoding;
@@ -33,8 +34,8 @@ fn join<A: Allocator>(bytes: &mut Vec<u8, A>, lead: u32, trail: u32) -> Result<(
 fn joining_lead(text: Wtf8<'_>, code_point: CodePoint) -> Option<u32>
     ensures trail { OnSome result (IsTrail (number code_point)) }
     ensures lead { IfSome result (λ l. IsLead l) }
-    ensures last { IfSome result (λ l. (f : List ℕ) × (text.entry.well_formed.points ≡ f ++ l ∷ [])) }
-    ensures none { IfNone result ((f : List ℕ) (l : ℕ) → IsLead l → IsTrail (number code_point) → text.entry.well_formed.points ≡ f ++ l ∷ [] → ⊥) }
+    ensures last { IfSome result (λ l. (f : List ℕ) × (view_points text.entry ≡ f ++ l ∷ [])) }
+    ensures none { IfNone result ((f : List ℕ) (l : ℕ) → IsLead l → IsTrail (number code_point) → view_points text.entry ≡ f ++ l ∷ [] → ⊥) }
 {
     match code_point.to_u32() {
         0xDC00..=0xDFFF => text.final_lead_surrogate(),
@@ -74,9 +75,9 @@ fn append_bytes<A: Allocator>(bytes: &mut Vec<u8, A>, other: &[u8]) -> Result<()
 /// The lead surrogate that ends the first text and the trail surrogate that begins the second, where both are there.
 fn meeting_pair(front: Wtf8<'_>, back: Wtf8<'_>) -> Option<(u32, u32)>
     ensures pair { IfSome result (λ p. IsLead p.0 × IsTrail p.1) }
-    ensures last { IfSome result (λ p. (f : List ℕ) × (front.entry.well_formed.points ≡ f ++ p.0 ∷ [])) }
-    ensures first { IfSome result (λ p. (r : List ℕ) × (back.entry.well_formed.points ≡ p.1 ∷ r)) }
-    ensures none { IfNone result ((f r : List ℕ) (l t : ℕ) → IsLead l → IsTrail t → front.entry.well_formed.points ≡ f ++ l ∷ [] → back.entry.well_formed.points ≡ t ∷ r → ⊥) }
+    ensures last { IfSome result (λ p. (f : List ℕ) × (view_points front.entry ≡ f ++ p.0 ∷ [])) }
+    ensures first { IfSome result (λ p. (r : List ℕ) × (view_points back.entry ≡ p.1 ∷ r)) }
+    ensures none { IfNone result ((f r : List ℕ) (l t : ℕ) → IsLead l → IsTrail t → view_points front.entry ≡ f ++ l ∷ [] → view_points back.entry ≡ t ∷ r → ⊥) }
 {
     let trail = back.initial_trail_surrogate()?;
     let lead = front.final_lead_surrogate()?;
@@ -112,9 +113,9 @@ pub(crate) fn push_view<A: Allocator>(
     other: Wtf8<'_>,
 ) -> Result<(), AllocError>
     requires { IsWellFormed bytes.old.items }
-    ensures ok { OnOk result (GainsUnits bytes.old.items bytes.new.items (units other.entry.well_formed.points)) }
+    ensures ok { OnOk result (GainsUnits bytes.old.items bytes.new.items (view_units other.entry)) }
     ensures err { OnErr result (bytes.new.items ≡ bytes.old.items) }
-    ensures room { FitsUnits bytes.old.items (units other.entry.well_formed.points) (vec_capacity bytes.old) → IsOk result }
+    ensures room { FitsUnits bytes.old.items (view_units other.entry) (vec_capacity bytes.old) → IsOk result }
     ensures capacity { vec_capacity bytes.old ≤ vec_capacity bytes.new }
 {
     let text = Wtf8::from_well_formed(bytes.as_slice());
@@ -142,6 +143,7 @@ pub(crate) fn push_text<A: Allocator>(bytes: &mut Vec<u8, A>, other: &str) -> Re
     ensures ok { OnOk result (GainsUnits bytes.old.items bytes.new.items (units (chars other.now))) }
     ensures err { OnErr result (bytes.new.items ≡ bytes.old.items) }
     ensures room { FitsUnits bytes.old.items (units (chars other.now)) (vec_capacity bytes.old) → IsOk result }
+    ensures empty { other.now ≡ [] → IsOk result }
     ensures capacity { vec_capacity bytes.old ≤ vec_capacity bytes.new }
 {
     append_bytes(bytes, other.as_bytes())

@@ -4,6 +4,7 @@ ghost use Rattle.std.specs.Fmt.{DisplaysOnOk, WritesStyledOnOk};
 ghost use Rattle.std.specs.List.{flat_map};
 ghost use Rattle.wtf8.specs.CodePoint.{number};
 ghost use Rattle.wtf8.specs.Debug.{last_four, upper, shown, debug};
+ghost use Rattle.wtf8.specs.View.{view_points};
 ghost use Rattle.wtf8.specs.Hex.{digit};
 ghost use Rattle.wtf8.specs.Unicode.{IsCodePoint};
 
@@ -62,7 +63,7 @@ fn write_point<W: fmt::Write>(code_point: CodePoint, f: &mut fmt::Formatter<W>) 
 
 /// Writes what stands for each code point of a string.
 fn write_points<W: fmt::Write>(text: Wtf8<'_>, f: &mut fmt::Formatter<W>) -> fmt::Result
-    ensures { WritesStyledOnOk W.write_str_gives f.old result (flat_map shown text.entry.well_formed.points) f.new }
+    ensures { WritesStyledOnOk W.write_str_gives f.old result (flat_map shown (view_points text.entry)) f.new }
 {
     let mut rest = text;
     while let Some((code_point, behind)) = rest.split_first() {
@@ -76,11 +77,11 @@ fn write_points<W: fmt::Write>(text: Wtf8<'_>, f: &mut fmt::Formatter<W>) -> fmt
 /// upper-case digits between `\u{` and `}`. Nothing else is escaped, and a width and flags that stand outside are
 /// ignored.
 impl<'a> fmt::Debug for Wtf8<'a> {
-    ghost debug_output = { λ text. Some (debug text.well_formed.points) };
+    ghost debug_output = { λ text. Some (debug (view_points text)) };
 
     fn fmt<W: fmt::Write>(&self, f: &mut fmt::Formatter<W>) -> fmt::Result
-        ensures writes { DisplaysOnOk W.write_str_gives f.old result (Some (debug self.now.well_formed.points)) f.new }
-        ensures styled { WritesStyledOnOk W.write_str_gives f.old result (debug self.now.well_formed.points) f.new }
+        ensures writes { DisplaysOnOk W.write_str_gives f.old result (Some (debug (view_points self.now))) f.new }
+        ensures styled { WritesStyledOnOk W.write_str_gives f.old result (debug (view_points self.now)) f.new }
     {
         f.write_str("\"")?;
         write_points(*self, f)?;

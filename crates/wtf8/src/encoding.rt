@@ -19,7 +19,7 @@ fn two_bytes(value: u32) -> [u8; 2]
 
 /// The three bytes of a code point from 0x800 to 0xFFFF, a surrogate like any other.
 #[tactic(auto, using(crate::proofs::EncodingLemmas::encoding_three))]
-fn three_bytes(value: u32) -> [u8; 3]
+pub(crate) fn three_bytes(value: u32) -> [u8; 3]
     requires low { 0x800 ≤ value }
     requires high { value < 0x10000 }
     ensures { result ≡ encoding value }

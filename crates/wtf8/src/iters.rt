@@ -23,9 +23,10 @@ impl<'a> Model for Wtf8CodePoints<'a> {
 
 impl<'a> Wtf8CodePoints<'a> {
     ghost use Rattle.std.specs.Prelude.{◌≡◌};
+    ghost use Rattle.wtf8.specs.View.{view_points};
 
     pub(crate) fn new(text: Wtf8<'a>) -> Wtf8CodePoints<'a>
-        ensures { result ≡ text.entry.well_formed.points }
+        ensures { result ≡ view_points text.entry }
     {
         Wtf8CodePoints { rest: text }
     }
@@ -96,12 +97,12 @@ impl<'a> Model for IllFormedUtf16CodeUnits<'a> {
 }
 
 impl<'a> IllFormedUtf16CodeUnits<'a> {
-    ghost use Rattle.std.specs.Prelude.{◌≡◌};
-    ghost use Rattle.wtf8.specs.Units.{unread_units};
-    ghost use Rattle.wtf8.specs.Unicode.{units};
+    ghost use Rattle.std.specs.Prelude.{◌≡◌, []};
+    ghost use Rattle.wtf8.specs.View.{view_points};
 
     pub(crate) fn new(text: Wtf8<'a>) -> IllFormedUtf16CodeUnits<'a>
-        ensures { unread_units result ≡ units text.entry.well_formed.points }
+        ensures held { result.held ≡ [] }
+        ensures points { result.points ≡ view_points text.entry }
     {
         IllFormedUtf16CodeUnits {
             code_points: Wtf8CodePoints::new(text),
@@ -113,17 +114,22 @@ impl<'a> IllFormedUtf16CodeUnits<'a> {
 impl<'a> Iterator for IllFormedUtf16CodeUnits<'a> {
     type Item = u16;
 
-    ghost use Rattle.std.specs.Prelude.{◌≡◌, length, IfSome};
-    ghost use Rattle.std.specs.Iterator.{YieldsFirst, item_count, at_most, UpTo};
+    ghost use Rattle.std.specs.Prelude.{◌≡◌, length, IfSome, ⊤};
+    ghost use Rattle.std.specs.Iterator.{YieldsFirst, MakesProgress, item_count, at_most, UpTo};
     ghost use Rattle.std.specs.Iterator.SizeHint.{IsWithinCount};
     ghost use Rattle.wtf8.specs.Hints.{units_hint, IsTrueHint};
-    ghost use Rattle.wtf8.specs.Units.{unread_units};
+    ghost use Rattle.wtf8.specs.Units.{unread_units, unread_after};
 
     ghost next_gives = { YieldsFirst unread_units };
 
     ghost remaining = { item_count unread_units };
 
-    fn next(&mut self) -> Option<u16> {
+    /// The unit that is held back, where there is one, else the first unit of the next code point, whose second one is
+    /// then held back.
+    fn next(&mut self) -> Option<u16>
+        ensures steps { YieldsFirst unread_units self.old result self.new × (self.new ≡ unread_after self.old) }
+        ensures goes { MakesProgress (λ _. ⊤) (item_count unread_units) self.old result self.new }
+    {
         match self.trail.take() {
             Some(trail) => Some(trail),
             None => {
@@ -137,6 +143,7 @@ impl<'a> Iterator for IllFormedUtf16CodeUnits<'a> {
             }
         }
     }
+
     /// A quarter of the bytes left, rounded up, and the held unit; and twice their number and the held unit, `None`
     /// where that is above the greatest `usize`.
     fn size_hint(&self) -> (usize, Option<usize>)

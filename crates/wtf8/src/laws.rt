@@ -20,7 +20,31 @@ ghost use Rattle.wtf8.specs.Laws.{
   EmptyBackIsNeutral,
   FrontAndBackAreWhole,
 };
-ghost use Rattle.wtf8.specs.Building.{CallsRunOnce};
+ghost use Rattle.wtf8.specs.PositionLaws.{
+  StartIsBoundary,
+  EndIsBoundary,
+  NoneIsBeyondEnd,
+  AsciiStandsAlone,
+  FrontBoundariesAreOfWhole,
+  WholeBoundariesAreOfFront,
+  WholeBoundariesAreOfBack,
+  BackBoundariesAreOfWhole,
+  BeginningsAreNoLonger,
+  BothAreNoLonger,
+  PointsHaveOneToFourBytes,
+  ListsHaveLengths,
+};
+ghost use Rattle.wtf8.specs.StringLaws.{
+  EqualBuffersHaveEqualUnits,
+  EqualBufferAndViewHaveEqualUnits,
+  EqualViewsHaveEqualUnits,
+  StringsAreJoined,
+  StringsArePaired,
+  BytesCompareAsPoints,
+  ComparisonIsOrder,
+  TextsAreScalar,
+};
+ghost use Rattle.wtf8.specs.Building.{CallsRunOnce, RunsAddUp};
 
 /// Each list of 16-bit units has exactly one reading as code points of which no two would join, and only such lists
 /// have one.
@@ -44,10 +68,13 @@ pub fn law_prefix_free()
 {}
 
 /// The order of bytes is the order of code points: of any two lists of code points the bytes are equal exactly where the
-/// lists are, and one stands before the other exactly where its list does.
+/// lists are, and one stands before the other exactly where its list does. The comparison that sorts and searches of
+/// the standard library speak of is that of the code points too, and says which list stands before the other.
 pub fn law_byte_order()
     ensures same { EqualBytesAreOfEqualPoints }
     ensures before { ByteOrderIsPointOrder }
+    ensures compares { BytesCompareAsPoints }
+    ensures order { ComparisonIsOrder }
 {}
 
 /// The form of two lists of units, one behind the other, by the two forms: where a lead surrogate ends the first list
@@ -75,4 +102,53 @@ pub fn law_append()
 /// truncations.
 pub fn law_one_run()
     ensures { CallsRunOnce }
+{}
+
+/// Runs one after the other are the run of both lists of calls, with their counts of refused truncations added.
+pub fn law_runs_add_up()
+    ensures { RunsAddUp }
+{}
+
+/// Code point boundaries: the start, the end and both sides of a byte below 0x80 are boundaries, none is beyond the end,
+/// and those of a front or a back are those of the whole, counted from the start or from the cut.
+pub fn law_positions()
+    ensures start { StartIsBoundary }
+    ensures end { EndIsBoundary }
+    ensures beyond { NoneIsBeyondEnd }
+    ensures ascii { AsciiStandsAlone }
+    ensures front_in_whole { FrontBoundariesAreOfWhole }
+    ensures whole_in_front { WholeBoundariesAreOfFront }
+    ensures whole_in_back { WholeBoundariesAreOfBack }
+    ensures back_in_whole { BackBoundariesAreOfWhole }
+{}
+
+/// How long forms are: a beginning is no longer than the whole, and two lists together are no longer than both of them.
+pub fn law_room()
+    ensures beginning { BeginningsAreNoLonger }
+    ensures both { BothAreNoLonger }
+{}
+
+/// How many code points, units and bytes there are: a code point has one to four bytes, and code points are at most as
+/// many as units, these at most as many as bytes.
+pub fn law_lengths()
+    ensures encoding { PointsHaveOneToFourBytes }
+    ensures lists { ListsHaveLengths }
+{}
+
+/// Strings have equal bytes exactly where they have equal units, two buffers, a buffer and a view, or two views.
+pub fn law_equal_strings()
+    ensures buffers { EqualBuffersHaveEqualUnits }
+    ensures buffer_and_view { EqualBufferAndViewHaveEqualUnits }
+    ensures views { EqualViewsHaveEqualUnits }
+{}
+
+/// The bytes of a string that has the units of two others, one behind the other, by the bytes of these.
+pub fn law_joined_strings()
+    ensures joined { StringsAreJoined }
+    ensures paired { StringsArePaired }
+{}
+
+/// The characters of a text are scalar values.
+pub fn law_texts()
+    ensures { TextsAreScalar }
 {}

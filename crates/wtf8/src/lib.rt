@@ -14,10 +14,12 @@ mod encoding;
 mod iters;
 pub mod laws;
 mod search;
+mod unit_positions;
 mod view;
 
 pub use buf::Wtf8Buf;
 pub use build::{Build, Stopped};
 pub use code_point::CodePoint;
 pub use iters::{IllFormedUtf16CodeUnits, Wtf8CodePoints};
+pub use unit_positions::UnitSlice;
 pub use view::Wtf8;

@@ -1,5 +1,5 @@
 // Borrowed strings.
-ghost use Rattle.std.specs.Prelude.{◌≡◌, ℕ, List, [], ◌∷◌, ◌++◌, ◌*◌, ◌<◌, ◌≤◌, ◌↔◌, length, take, drop, slice_index, IsTrue, IsSome, IfSome, IfNone, IfOk, IsOk};
+ghost use Rattle.std.specs.Prelude.{◌≡◌, ℕ, List, [], ◌∷◌, ◌++◌, ◌*◌, ◌^◌, ◌<◌, ◌≤◌, ◌↔◌, length, take, drop, slice_index, IsTrue, IsSome, IfSome, IfNone, IfOk, IsOk};
 ghost use Rattle.std.specs.Cow.{cow_str_bytes, IsBorrowedStr};
 ghost use Rattle.std.specs.Str.{chars};
 ghost use Rattle.std.specs.String.{string_bytes};
@@ -8,7 +8,7 @@ ghost use Rattle.wtf8.specs.Hex.{hex};
 ghost use Rattle.wtf8.specs.OneForm.{IsWellFormed-prop};
 ghost use Rattle.wtf8.specs.Position.{IsBoundary, IsFront, IsBack, IsMiddle};
 ghost use Rattle.wtf8.specs.Surrogates.{AreScalar, lossy};
-ghost use Rattle.wtf8.specs.Unicode.{units, IsLead, IsTrail};
+ghost use Rattle.wtf8.specs.Unicode.{IsLead, IsTrail};
 ghost use Rattle.wtf8.specs.Units.{unread_units};
 
 use crate::code_point::CodePoint;
@@ -29,11 +29,13 @@ pub struct Wtf8<'a> {
 
 impl<'a> Wtf8<'a> {
     ghost use Rattle.wtf8.specs.CodePoint.{number};
+    ghost use Rattle.wtf8.specs.View.{view_points, view_units};
 
     /// A view of a text's bytes: the string of its characters.
     pub fn from_str(value: &'a str) -> Wtf8<'a>
         ensures bytes { result.bytes.now ≡ value.now }
-        ensures points { result.well_formed.points ≡ chars value.now }
+        ensures points { view_points result ≡ chars value.now }
+        ensures scalar { AreScalar (view_points result) }
     {
         Wtf8::from_well_formed(value.as_bytes())
     }
@@ -42,7 +44,7 @@ impl<'a> Wtf8<'a> {
     pub(crate) fn from_well_formed(bytes: &'a [u8]) -> Wtf8<'a>
         requires { IsWellFormed bytes.now }
         ensures bytes { result.bytes.now ≡ bytes.now }
-        ensures points { (h : IsWellFormed bytes.now) → result.well_formed.points ≡ h.points }
+        ensures points { (h : IsWellFormed bytes.now) → view_points result ≡ h.points }
     {
         Wtf8 { bytes }
     }
@@ -50,30 +52,36 @@ impl<'a> Wtf8<'a> {
     /// The number of bytes: at least the number of units, and at most three times that.
     pub fn len(&self) -> usize
         ensures bytes { result ≡ length self.now.bytes.now }
-        ensures at_least_units { length (units self.now.well_formed.points) ≤ result }
-        ensures at_most_three_times { result ≤ 3 * length (units self.now.well_formed.points) }
+        ensures at_least_units { length (view_units self.now) ≤ result }
+        ensures at_most_three_times { result ≤ 3 * length (view_units self.now) }
     {
         self.bytes.len()
     }
 
     /// The code points of the string, in order.
     pub fn code_points(&self) -> Wtf8CodePoints<'a>
-        ensures { result ≡ self.now.well_formed.points }
+        ensures points { result ≡ view_points self.now }
+        ensures fits { length result < 2 ^ 64 }
     {
+        prove!(self.len() <= usize::MAX);
         Wtf8CodePoints::new(*self)
     }
 
     /// The 16-bit units of the string, in order: those that it was made of, whether they pair or not.
     pub fn to_ill_formed_utf16(&self) -> IllFormedUtf16CodeUnits<'a>
-        ensures { unread_units result ≡ units self.now.well_formed.points }
+        ensures units { unread_units result ≡ view_units self.now }
+        ensures held { result.held ≡ [] }
+        ensures points { result.points ≡ view_points self.now }
+        ensures fits { length (unread_units result) < 2 ^ 64 }
     {
+        prove!(self.len() <= usize::MAX);
         IllFormedUtf16CodeUnits::new(*self)
     }
 
     /// Whether a code point begins at the index, or the string ends there. It looks at one byte: an index beyond the
     /// length is no boundary.
     pub fn is_code_point_boundary(&self, index: usize) -> bool
-        ensures { IsTrue result ↔ IsBoundary (units self.now.well_formed.points) index }
+        ensures { IsTrue result ↔ IsBoundary (view_units self.now) index }
     {
         if index < self.bytes.len() {
             encoding::begins_code_point(self.bytes[index])
@@ -86,9 +94,9 @@ impl<'a> Wtf8<'a> {
     /// bytes and may outlive this view.
     pub fn slice(&self, begin: usize, end: usize) -> Wtf8<'a>
         requires order { begin ≤ end }
-        requires begin_boundary { IsBoundary (units self.now.well_formed.points) begin }
-        requires end_boundary { IsBoundary (units self.now.well_formed.points) end }
-        ensures units { IsMiddle (units self.now.well_formed.points) begin end (units result.well_formed.points) }
+        requires begin_boundary { IsBoundary (view_units self.now) begin }
+        requires end_boundary { IsBoundary (view_units self.now) end }
+        ensures units { IsMiddle (view_units self.now) begin end (view_units result) }
         ensures bytes { result.bytes.now ≡ drop begin (take end self.now.bytes.now) }
     {
         self.slice_to(end).slice_from(begin)
@@ -97,8 +105,8 @@ impl<'a> Wtf8<'a> {
     /// The code points from a position on, which `is_code_point_boundary` tests. The result is a part of the same bytes
     /// and may outlive this view.
     pub fn slice_from(&self, begin: usize) -> Wtf8<'a>
-        requires { IsBoundary (units self.now.well_formed.points) begin }
-        ensures units { IsBack (units self.now.well_formed.points) begin (units result.well_formed.points) }
+        requires { IsBoundary (view_units self.now) begin }
+        ensures units { IsBack (view_units self.now) begin (view_units result) }
         ensures bytes { result.bytes.now ≡ drop begin self.now.bytes.now }
     {
         let (_, rest) = self.bytes.split_at(begin);
@@ -108,8 +116,8 @@ impl<'a> Wtf8<'a> {
     /// The code points before a position, which `is_code_point_boundary` tests. The result is a part of the same bytes
     /// and may outlive this view.
     pub fn slice_to(&self, end: usize) -> Wtf8<'a>
-        requires { IsBoundary (units self.now.well_formed.points) end }
-        ensures units { IsFront (units self.now.well_formed.points) end (units result.well_formed.points) }
+        requires { IsBoundary (view_units self.now) end }
+        ensures units { IsFront (view_units self.now) end (view_units result) }
         ensures bytes { result.bytes.now ≡ take end self.now.bytes.now }
     {
         let (front, _) = self.bytes.split_at(end);
@@ -131,7 +139,7 @@ impl<'a> Wtf8<'a> {
 
     /// The same bytes as text, or `None` exactly where the string holds a surrogate. It asks for no memory.
     pub fn as_str(&self) -> Option<&'a str>
-        ensures some { IsSome result ↔ AreScalar self.now.well_formed.points }
+        ensures some { IsSome result ↔ AreScalar (view_points self.now) }
         ensures bytes { IfSome result (λ t. t.now ≡ self.now.bytes.now) }
     {
         match search::first_surrogate(self.bytes, 0) {
@@ -146,9 +154,9 @@ impl<'a> Wtf8<'a> {
         &self,
         alloc: A,
     ) -> Result<CowStr<'a, A>, AllocError>
-        ensures text { IfOk result (λ t. cow_str_bytes t ≡ bytes (lossy self.now.well_formed.points)) }
-        ensures borrowed { IfOk result (λ t. IsBorrowedStr t ↔ AreScalar self.now.well_formed.points) }
-        ensures granted { AreScalar self.now.well_formed.points → IsOk result }
+        ensures text { IfOk result (λ t. cow_str_bytes t ≡ bytes (lossy (view_points self.now))) }
+        ensures borrowed { IfOk result (λ t. IsBorrowedStr t ↔ AreScalar (view_points self.now)) }
+        ensures granted { AreScalar (view_points self.now) → IsOk result }
     {
         if let Some(text) = self.as_str() {
             return Ok(CowStr::Borrowed(text));
@@ -169,8 +177,8 @@ impl<'a> Wtf8<'a> {
 
     /// The first code point and the view behind it, or `None` where the string is empty.
     pub(crate) fn split_first(self) -> Option<(CodePoint, Wtf8<'a>)>
-        ensures none { IfNone result (self.entry.well_formed.points ≡ []) }
-        ensures some { IfSome result (λ x. self.entry.well_formed.points ≡ number x.0 ∷ x.1.well_formed.points) }
+        ensures none { IfNone result (view_points self.entry ≡ []) }
+        ensures some { IfSome result (λ x. view_points self.entry ≡ number x.0 ∷ view_points x.1) }
     {
         if self.bytes.is_empty() {
             return None;
@@ -183,8 +191,8 @@ impl<'a> Wtf8<'a> {
     /// The number of the lead surrogate that ends the string, if one does.
     pub(crate) fn final_lead_surrogate(&self) -> Option<u32>
         ensures lead { IfSome result (λ l. IsLead l) }
-        ensures last { IfSome result (λ l. (f : List ℕ) × (self.now.well_formed.points ≡ f ++ l ∷ [])) }
-        ensures none { IfNone result ((f : List ℕ) (l : ℕ) → IsLead l → self.now.well_formed.points ≡ f ++ l ∷ [] → ⊥) }
+        ensures last { IfSome result (λ l. (f : List ℕ) × (view_points self.now ≡ f ++ l ∷ [])) }
+        ensures none { IfNone result ((f : List ℕ) (l : ℕ) → IsLead l → view_points self.now ≡ f ++ l ∷ [] → ⊥) }
     {
         let len = self.bytes.len();
         if len < 3 {
@@ -202,8 +210,8 @@ impl<'a> Wtf8<'a> {
     /// The number of the trail surrogate that begins the string, if one does.
     pub(crate) fn initial_trail_surrogate(self) -> Option<u32>
         ensures trail { IfSome result (λ t. IsTrail t) }
-        ensures first { IfSome result (λ t. (r : List ℕ) × (self.entry.well_formed.points ≡ t ∷ r)) }
-        ensures none { IfNone result ((t : ℕ) (r : List ℕ) → IsTrail t → self.entry.well_formed.points ≡ t ∷ r → ⊥) }
+        ensures first { IfSome result (λ t. (r : List ℕ) × (view_points self.entry ≡ t ∷ r)) }
+        ensures none { IfNone result ((t : ℕ) (r : List ℕ) → IsTrail t → view_points self.entry ≡ t ∷ r → ⊥) }
     {
         let Some((code_point, _)) = self.split_first() else {
             return None;

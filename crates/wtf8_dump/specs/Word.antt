@@ -5,7 +5,7 @@ use Rattle.std.specs.Char.{is_digit}
 use Rattle.std.specs.Str.Parse.{digits_value}
 use Rattle.wtf8.specs.CodePoint.{number}
 use Rattle.wtf8.specs.declared.build.Build.{Build}
-use Rattle.wtf8.specs.declared.build.Build.TheVariants.{Push, PushChar, PushStr, PushWtf8, Extend, Reserve, Truncate}
+use Rattle.wtf8.specs.declared.build.Build.TheVariants.{Push, Truncate, TruncateUnits}
 
 -- The number that a word spells in a base, where each of its bytes is a digit of that base, of either case.
 abbrev pub number_in : ℕ → List ℕ → Option ℕ
@@ -28,15 +28,16 @@ point_of word = option_and_then (λ n. if nat_le n 0x10FFFF then Some n else Non
 abbrev pub position_of : List ℕ → Option ℕ
 position_of word = number_behind 45 word
 
--- The call that a word stands for: the push of its code point or the truncation at its position.
+-- The number of units that a word stands for: a slash and one to nine decimal digits stand for the number that the digits spell, and any other word stands for none.
+abbrev pub unit_count_of : List ℕ → Option ℕ
+unit_count_of word = number_behind 47 word
+
+-- The call that a word stands for: the push of its code point, or the truncation at its position or at its number of units.
 abbrev pub IsCall : List ℕ → Build → Type 0
 IsCall word (Push p) = point_of word ≡ Some (number p)
 IsCall word (Truncate k) = position_of word ≡ Some k
-IsCall word (PushChar x) = ⊥
-IsCall word (PushStr s) = ⊥
-IsCall word (PushWtf8 s) = ⊥
-IsCall word (Extend d) = ⊥
-IsCall word (Reserve n) = ⊥
+IsCall word (TruncateUnits n) = unit_count_of word ≡ Some n
+IsCall word call = ⊥
 
 -- The word stands for no call.
 abbrev pub IsNoCall : List ℕ → Type 0

@@ -91,7 +91,7 @@ fn lines_have_their_answers(rt: HostRuntime) -> Result<(), Fail> {
         ("0061\r", "?"),
         ("0061\n0062", "?"),
         ("0061 00g1", "?"),
-        ("0061 1F4A9 /2", "?"),
+        ("0061 1F4A9 +2", "?"),
     ] {
         let answer = dump_line(rt.alloc(), line.as_bytes())?;
         assert_eq!(rt; answer.as_slice(), want.as_bytes(), "at {line:?}");
@@ -122,6 +122,29 @@ fn truncations_are_kept_or_counted(rt: HostRuntime) -> Result<(), Fail> {
 }
 
 #[test]
+fn cuts_at_units_are_kept_or_counted(rt: HostRuntime) -> Result<(), Fail> {
+    for (line, want) in [
+        ("0061 1F4A9 /2", "61 ED A0 BD"),
+        ("0061 1F4A9 /2 DCA9", "61 F0 9F 92 A9"),
+        ("0061 /2", "61 !1"),
+        ("0061 1F4A9 /3", "61 F0 9F 92 A9"),
+        ("0061 1F4A9 /0", ""),
+        ("1F4A9 /1 -3", "ED A0 BD"),
+        ("1F4A9 /1 -4", "ED A0 BD !1"),
+        ("D83D /2 -4", "ED A0 BD !2"),
+        ("/", "?"),
+        ("/1234567890", "?"),
+        ("/000000000", ""),
+        ("/0A", "?"),
+        ("//1", "?"),
+    ] {
+        let answer = dump_line(rt.alloc(), line.as_bytes())?;
+        assert_eq!(rt; answer.as_slice(), want.as_bytes(), "at {line:?}");
+    }
+    Ok(())
+}
+
+#[test]
 fn inputs_have_their_dumps(rt: HostRuntime) -> Result<(), Fail> {
     for (input, want) in [
         ("", ""),
@@ -129,7 +152,7 @@ fn inputs_have_their_dumps(rt: HostRuntime) -> Result<(), Fail> {
         ("0061\n", "61\n"),
         ("\n\n", "\n\n"),
         ("0061\r\n0062", "?\n62\n"),
-        ("-1\n0061 00E9 -2 -9 -1\n0061 /2", "!1\n61 !2\n?\n"),
+        ("-1\n0061 00E9 -2 -9 -1\n0061 /2", "!1\n61 !2\n61 !1\n"),
         (
             "0061 00E9 0020 D83D D83D DCA9\n\nD83D DCA9\nD83D 0020 DCA9\n061\n",
             "61 C3 A9 20 ED A0 BD F0 9F 92 A9\n\nF0 9F 92 A9\nED A0 BD 20 ED B2 A9\n?\n",

@@ -10,14 +10,17 @@ const HEXADECIMAL: u32 = 16;
 const DECIMAL: u32 = 10;
 
 /// The call that a word stands for: the push of a code point for 4 to 6 hexadecimal digits of either case, of a value
-/// of at most 0x10FFFF, or the truncation at a position in bytes for `-` and 1 to 9 decimal digits. Any other word
-/// stands for none, and is answered `None`.
+/// of at most 0x10FFFF; the truncation at a position in bytes for `-` and 1 to 9 decimal digits, or at a number of units
+/// for `/` and as many. Any other word stands for none, and is answered `None`.
 pub fn read_call(word: &[u8]) -> Option<Build<'static>>
     ensures some { IfSome result (λ call. IsCall word.now call) }
     ensures none { IfNone result (IsNoCall word.now) }
 {
     if let Some(position) = read_number_behind(word, b'-') {
         return Some(Build::Truncate(position as usize));
+    }
+    if let Some(units) = read_number_behind(word, b'/') {
+        return Some(Build::TruncateUnits(units as usize));
     }
     let point = read_point(word)?;
     Some(Build::Push(point))

@@ -1,10 +1,16 @@
-use Rattle.std.proofs.Common.{◌≡◌, ◌++◌, ◌≤◌, List, ℕ, take}
-use Rattle.wtf8.specs.Building.{Run, Append}
+use Rattle.std.proofs.Common.{◌≤◌, List, ℕ, take}
+use Rattle.std.specs.List.{All}
+use Rattle.wtf8.specs.Appending.{AppendsUnits}
+use Rattle.wtf8.specs.Building.{Run, Append, IsNoTruncation}
+use Rattle.wtf8.proofs.Rooms.{Found}
 use Rattle.wtf8.proofs.buf.Wtf8Buf.apply_all.Given as goal
 
--- the calls so far ran; where they are pushes and extensions, their units are appended and the capacity is no smaller
+-- the calls so far ran; where they are pushes and extensions, their units are appended; and the capacity is no smaller where no call truncates
 abbrev pub invariant-loop-done : goal.invariant-loop-done
-invariant-loop-done g l =
-    Run l.fn.self.units (take l.done l.calls) l.self.units l.refused
-    × (l.refused ≤ l.done)
-    × ((v : List ℕ) → Append (take l.done l.calls) v → (l.self.units ≡ l.fn.self.units ++ v) × (l.fn.self.capacity ≤ l.self.capacity))
+invariant-loop-done g l = record {
+  ran : Run l.fn.self.units (take l.done l.calls) l.self.units l.refused;
+  counted : l.refused ≤ l.done;
+  appended : (v : List ℕ) → Append (take l.done l.calls) v → AppendsUnits l.fn.self v l.self × (l.fn.self.capacity ≤ l.self.capacity);
+  found : Found l.fn.self.units (take l.done l.calls) l.self.units l.fn.self.capacity l.self.capacity;
+  no_smaller : All IsNoTruncation l.calls → l.fn.self.capacity ≤ l.self.capacity;
+}

@@ -1,6 +1,6 @@
 use Rattle.std.proofs.Common.{ap, ◌∙◌}
 use Rattle.wtf8.proofs.Readings.{same_points}
-use Rattle.wtf8.specs.Text.{Text}
+use Rattle.wtf8.specs.UnitString.{UnitString}
 use Rattle.wtf8.specs.Unicode.{units}
 use Rattle.wtf8.proofs.buf.Wtf8Buf.as_wtf8.Goals as goal
 
@@ -9,4 +9,8 @@ from_well_formed-requires g c = rw c.as_slice.ensures.value c.self.inside.well_f
 
 pub returns-clause-units : goal.returns-clause-units
 returns-clause-units g c =
-    ap units (same_points c.from_well_formed.result.well_formed c.self.inside.well_formed (c.from_well_formed.ensures.bytes ∙ c.as_slice.ensures.value)) ∙ ap (λ (t : Text). t.units) c.self.view_is
+    ap units (same_points c.from_well_formed.result.well_formed c.self.inside.well_formed (c.from_well_formed.ensures.bytes ∙ c.as_slice.ensures.value)) ∙ ap (λ (t : UnitString). t.units) c.self.view_is
+
+pub returns-clause-points : goal.returns-clause-points
+returns-clause-points g c =
+    same_points c.from_well_formed.result.well_formed c.self.inside.well_formed (c.from_well_formed.ensures.bytes ∙ c.as_slice.ensures.value) ∙ ap (λ (t : UnitString). t.form.points) c.self.view_is

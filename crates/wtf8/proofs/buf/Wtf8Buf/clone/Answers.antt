@@ -1,7 +1,7 @@
 use Rattle.std.proofs.Common.{ap, ◌∙◌}
 use Rattle.wtf8.proofs.Readings.{moved}
 use Rattle.wtf8.proofs.Scalars.{scalar_moved}
-use Rattle.wtf8.specs.Text.{Text}
+use Rattle.wtf8.specs.UnitString.{UnitString}
 use Rattle.wtf8.proofs.buf.Wtf8Buf.clone.Goals as goal
 
 pub from_well_formed-requires-clause-scalar : goal.from_well_formed-requires-clause-scalar
@@ -10,4 +10,4 @@ from_well_formed-requires-clause-scalar g c known h =
 
 pub returns-clause-units : goal.returns-clause-units
 returns-clause-units g c =
-    c.from_well_formed.ensures.units (moved c.self.inside.well_formed (c.in_ok-bytes.ensures.items ∙ c.as_slice.ensures.value)) ∙ ap (λ (t : Text). t.units) c.self.view_is
+    c.from_well_formed.ensures.units (moved c.self.inside.well_formed (c.in_ok-bytes.ensures.items ∙ c.as_slice.ensures.value)) ∙ ap (λ (t : UnitString). t.units) c.self.view_is

@@ -1,5 +1,5 @@
 use Rattle.std.proofs.Common.{◌≤◌}
-use Rattle.wtf8.specs.Collecting.{AppendsPoints}
+use Rattle.wtf8.specs.Appending.{AppendsPoints}
 use Rattle.wtf8.proofs.buf.Wtf8Buf.extend.Given as goal
 
 -- the items so far are appended, and the capacity is no smaller

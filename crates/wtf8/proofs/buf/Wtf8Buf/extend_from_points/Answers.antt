@@ -7,12 +7,12 @@ use Rattle.wtf8.proofs.Growth.{extended_length, next_fits, points_at, units-poin
 use Rattle.wtf8.proofs.buf.Wtf8Buf.extend_from_points.Goals as goal
 
 pub returns-in_err-reserve-clause-room : goal.returns-in_err-reserve-clause-room
-returns-in_err-reserve-clause-room g c w form fits =
-    let long = extended_length c.args.points.now c.args.self.now.bytes c.args.self.now.units w c.args.self.now.form form in
-    absurd (false≢true (c.in_err-reserve.ensures.room (omega arith)))
+returns-in_err-reserve-clause-room g c fit =
+    let long = extended_length c.args.points.now c.args.self.now.bytes c.args.self.now.units fit.whole c.args.self.now.form fit.form in
+    absurd (false≢true (c.in_err-reserve.ensures.room (omega (arith, fit.within))))
 
 pub returns-in_err-push-clause-room : goal.returns-in_err-push-clause-room
-returns-in_err-push-clause-room g c w form fits =
+returns-in_err-push-clause-room g c fit =
     let i = c.loop-code_point.code_point-index in
     let ps = c.args.points.now in
     let p = c.code_point-item.result in
@@ -21,5 +21,5 @@ returns-in_err-push-clause-room g c w form fits =
     let whole : c.args.self.now.units ++ units (numbers ps) ≡ c.loop-code_point.self.units ++ units (numbers (p ∷ drop (i + 1) ps)) =
     ap (λ v. c.args.self.now.units ++ v) (ap (λ d. units (numbers d)) (sym here) ∙ units-points (take i ps) (p ∷ drop (i + 1) ps))
     ∙ (sym (append_assoc c.args.self.now.units (units (numbers (take i ps))) (units (numbers (p ∷ drop (i + 1) ps)))) ∙ ap (λ v. v ++ units (numbers (p ∷ drop (i + 1) ps))) (sym c.loop-code_point.invariant.0)) in
-    let next = next_fits c.loop-code_point.self.units c.loop-code_point.self.bytes w p (drop (i + 1) ps) c.loop-code_point.self.form (subst (IsForm w) whole form) in
-    absurd (false≢true (c.in_err-push.ensures.room next.whole next.form (omega (arith, next.within, c.loop-code_point.invariant.1))))
+    let next = next_fits c.loop-code_point.self.units c.loop-code_point.self.bytes fit.whole p (drop (i + 1) ps) c.loop-code_point.self.form (subst (IsForm fit.whole) whole fit.form) in
+    absurd (false≢true (c.in_err-push.ensures.room (record { whole = next.whole; form = next.form; within = omega (arith, next.within, fit.within, c.loop-code_point.invariant.1) })))

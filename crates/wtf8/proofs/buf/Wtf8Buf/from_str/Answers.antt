@@ -1,4 +1,5 @@
 use Rattle.std.proofs.Common.{refl, ap, ◌∙◌, ◌++◌}
+use Rattle.wtf8.proofs.Gaining.{well_formed_of}
 use Rattle.wtf8.proofs.Scalars.{scalar_moved, scalar_text}
 use Rattle.wtf8.proofs.Texts.{text_at}
 use Rattle.wtf8.proofs.buf.Wtf8Buf.from_str.Goals as goal
@@ -14,3 +15,7 @@ from_well_formed-requires-clause-scalar g c _ h =
 pub returns-clause-units : goal.returns-clause-units
 returns-clause-units g c =
     c.from_well_formed.ensures.units (text_at c.utf8.value (c.in_ok-extend_from_slice.ensures.items ∙ (ap (λ w. w ++ c.as_bytes.result.now) c.in_ok-bytes.ensures.items ∙ c.as_bytes.ensures.value)))
+
+pub returns-clause-scalar : goal.returns-clause-scalar
+returns-clause-scalar g c =
+    scalar_moved (text_at c.utf8.value (c.in_ok-extend_from_slice.ensures.items ∙ (ap (λ w. w ++ c.as_bytes.result.now) c.in_ok-bytes.ensures.items ∙ c.as_bytes.ensures.value))) (well_formed_of c.from_well_formed.result.form) c.from_well_formed.ensures.bytes (scalar_text c.utf8.value)

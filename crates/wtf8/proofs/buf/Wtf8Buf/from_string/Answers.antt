@@ -1,5 +1,6 @@
 use Rattle.std.proofs.Common.{refl, ap}
 use Rattle.std.proofs.lemmas.Str.{IsUtf8-string_bytes}
+use Rattle.wtf8.proofs.Gaining.{well_formed_of}
 use Rattle.wtf8.proofs.Scalars.{scalar_moved, scalar_text}
 use Rattle.wtf8.proofs.Texts.{text_at}
 use Rattle.wtf8.proofs.buf.Wtf8Buf.from_string.Goals as goal
@@ -14,3 +15,7 @@ from_well_formed-requires-clause-scalar g c _ h =
 pub returns-clause-units : goal.returns-clause-units
 returns-clause-units g c =
     c.from_well_formed.ensures.units (text_at (IsUtf8-string_bytes c.args.string) (ap (λ v. v.items) c.into_bytes.ensures.value))
+
+pub returns-clause-scalar : goal.returns-clause-scalar
+returns-clause-scalar g c =
+    scalar_moved (text_at (IsUtf8-string_bytes c.args.string) (ap (λ v. v.items) c.into_bytes.ensures.value)) (well_formed_of c.from_well_formed.result.form) c.from_well_formed.ensures.bytes (scalar_text (IsUtf8-string_bytes c.args.string))

@@ -1,14 +1,14 @@
 use Rattle.std.proofs.Common.{ap, refl, sym, subst}
 use Rattle.std.proofs.lemmas.Bool.{false≢true}
 use Rattle.std.specs.Str.{IsUtf8}
-use Rattle.wtf8.specs.Text.{Text}
+use Rattle.wtf8.specs.UnitString.{UnitString}
 use Rattle.wtf8.proofs.Gaining.{well_formed_of}
 use Rattle.wtf8.proofs.SurrogateLemmas.{scalar_if_none, not_scalar_if_some, utf8_if_none}
 use Rattle.wtf8.proofs.buf.Wtf8Buf.into_string.Goals as goal
 
 pub from_utf8_unchecked-requires : goal.from_utf8_unchecked-requires
 from_utf8_unchecked-requires g c =
-    subst IsUtf8 (sym (ap (λ (t : Text). t.bytes) c.self.view_is)) (utf8_if_none (well_formed_of c.args.self.form) c.in-None.ensures)
+    subst IsUtf8 (sym (ap (λ (t : UnitString). t.bytes) c.self.view_is)) (utf8_if_none (well_formed_of c.args.self.form) c.in-None.ensures)
 
 pub returns-in-None-clause-ok : goal.returns-in-None-clause-ok
 returns-in-None-clause-ok g c =

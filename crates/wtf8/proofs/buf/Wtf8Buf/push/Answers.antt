@@ -2,9 +2,9 @@ use Rattle.std.proofs.Common.{ap, sym, subst, [], ◌∷◌, OnOk}
 use Rattle.std.proofs.lemmas.Bool.{false≢true}
 use Rattle.std.proofs.lemmas.List.{append-nil}
 use Rattle.wtf8.specs.Form.{GainsUnits}
-use Rattle.wtf8.specs.Text.{Text}
+use Rattle.wtf8.specs.UnitString.{UnitString}
 use Rattle.wtf8.specs.Unicode.{IsCodePoint, IsSurrogate, units_of}
-use Rattle.wtf8.proofs.Gaining.{gained_or_kept, gained_units, kept_units}
+use Rattle.wtf8.proofs.Gaining.{gained_or_kept, gained_units, kept_contents}
 use Rattle.wtf8.proofs.Scalars.{scalar_gained}
 use Rattle.wtf8.proofs.buf.Wtf8Buf.push.Goals as goal
 
@@ -23,16 +23,14 @@ invariant_of-self-inside-in-None g c =
 pub returns-in-Some-clause-ok : goal.returns-in-Some-clause-ok
 returns-in-Some-clause-ok g c =
     let gains = subst (λ n. OnOk c.push_scalar.result (GainsUnits c.self.inside.bytes.items c.push_scalar.new.bytes.items (units_of n))) c.in-Some.ensures.some c.push_scalar.ensures.ok in
-    gained_units c.push_scalar.result _ c.self.inside.well_formed c.self-1.given.0 (ap (λ (t : Text). t.units) c.self.view_is) gains
+    gained_units c.push_scalar.result _ c.self.inside.well_formed c.self-1.given.0 (ap (λ (t : UnitString). t.units) c.self.view_is) gains
 
-pub returns-in-Some-clause-units_kept : goal.returns-in-Some-clause-units_kept
-returns-in-Some-clause-units_kept g c =
-    kept_units c.push_scalar.result c.self.inside.well_formed c.self-1.given.0 (ap (λ (t : Text). t.units) c.self.view_is) c.push_scalar.ensures.err
+pub returns-in-Some-clause-kept : goal.returns-in-Some-clause-kept
+returns-in-Some-clause-kept g c = kept_contents c.push_scalar.result _ _ _ c.self.view_is c.push_scalar.ensures.err
 
 pub returns-in-None-clause-ok : goal.returns-in-None-clause-ok
 returns-in-None-clause-ok g c =
-    gained_units c.push_point.result _ c.self.inside.well_formed c.self-in-None-1.given.0 (ap (λ (t : Text). t.units) c.self.view_is) c.push_point.ensures.ok
+    gained_units c.push_point.result _ c.self.inside.well_formed c.self-in-None-1.given.0 (ap (λ (t : UnitString). t.units) c.self.view_is) c.push_point.ensures.ok
 
-pub returns-in-None-clause-units_kept : goal.returns-in-None-clause-units_kept
-returns-in-None-clause-units_kept g c =
-    kept_units c.push_point.result c.self.inside.well_formed c.self-in-None-1.given.0 (ap (λ (t : Text). t.units) c.self.view_is) c.push_point.ensures.err
+pub returns-in-None-clause-kept : goal.returns-in-None-clause-kept
+returns-in-None-clause-kept g c = kept_contents c.push_point.result _ _ _ c.self.view_is c.push_point.ensures.err

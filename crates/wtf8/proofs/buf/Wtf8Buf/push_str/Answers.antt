@@ -1,9 +1,9 @@
-use Rattle.wtf8.specs.Text.{Text}
+use Rattle.wtf8.specs.UnitString.{UnitString}
 use Rattle.std.proofs.Common.{ap, refl}
 use Rattle.wtf8.specs.Unicode.{units}
 use Rattle.wtf8.proofs.Scalars.{scalar_gained, scalar_text}
 use Rattle.wtf8.proofs.Texts.{well_formed_text}
-use Rattle.wtf8.proofs.Gaining.{gained_or_kept, gained_units, kept_units}
+use Rattle.wtf8.proofs.Gaining.{gained_or_kept, gained_units, kept_contents}
 use Rattle.wtf8.proofs.buf.Wtf8Buf.push_str.Goals as goal
 
 pub invariant_of-self-inside : goal.invariant_of-self-inside
@@ -14,8 +14,7 @@ invariant_of-self-inside g c =
 
 pub returns-clause-ok : goal.returns-clause-ok
 returns-clause-ok g c =
-    gained_units c.push_text.result _ c.self.inside.well_formed c.self-1.given.0 (ap (λ (t : Text). t.units) c.self.view_is) c.push_text.ensures.ok
+    gained_units c.push_text.result _ c.self.inside.well_formed c.self-1.given.0 (ap (λ (t : UnitString). t.units) c.self.view_is) c.push_text.ensures.ok
 
-pub returns-clause-units_kept : goal.returns-clause-units_kept
-returns-clause-units_kept g c =
-    kept_units c.push_text.result c.self.inside.well_formed c.self-1.given.0 (ap (λ (t : Text). t.units) c.self.view_is) c.push_text.ensures.err
+pub returns-clause-kept : goal.returns-clause-kept
+returns-clause-kept g c = kept_contents c.push_text.result _ _ _ c.self.view_is c.push_text.ensures.err

@@ -1,10 +1,10 @@
-use Rattle.wtf8.specs.Text.{Text}
+use Rattle.wtf8.specs.UnitString.{UnitString}
 use Rattle.std.proofs.Common.{ap, refl, sym, subst, ◌∙◌, IsTrue}
 use Rattle.std.proofs.lemmas.Bool.{false≢true}
 use Rattle.wtf8.proofs.Scalars.{scalar_gained, scalar_unless_found}
 use Rattle.wtf8.specs.Unicode.{units}
-use Rattle.wtf8.proofs.Gaining.{gained_or_kept, gained_units, kept_units}
-use Rattle.wtf8.proofs.Gluing.{gained_paired, gained_apart}
+use Rattle.wtf8.proofs.Gaining.{gained_or_kept, gained_units, kept_contents}
+use Rattle.wtf8.proofs.Gluing.{added_length}
 use Rattle.wtf8.proofs.buf.Wtf8Buf.push_wtf8.Goals as goal
 use Rattle.wtf8.proofs.buf.Wtf8Buf.push_wtf8.Goals.{then-self, else-self}
 
@@ -26,16 +26,10 @@ invariant_of-self-inside g c =
 
 pub returns-clause-ok : goal.returns-clause-ok
 returns-clause-ok g c =
-    gained_units c.push_view.result _ c.self.inside.well_formed c.self-1.given.0 (ap (λ (t : Text). t.units) c.self.view_is) c.push_view.ensures.ok
+    gained_units c.push_view.result _ c.self.inside.well_formed c.self-1.given.0 (ap (λ (t : UnitString). t.units) c.self.view_is) c.push_view.ensures.ok
 
-pub returns-clause-units_kept : goal.returns-clause-units_kept
-returns-clause-units_kept g c =
-    kept_units c.push_view.result c.self.inside.well_formed c.self-1.given.0 (ap (λ (t : Text). t.units) c.self.view_is) c.push_view.ensures.err
+pub returns-clause-kept : goal.returns-clause-kept
+returns-clause-kept g c = kept_contents c.push_view.result _ _ _ c.self.view_is c.push_view.ensures.err
 
-pub returns-clause-joined : goal.returns-clause-joined
-returns-clause-joined g c =
-    gained_paired c.push_view.result c.args.self.now c.self.inside.bytes.items c.push_view.new.bytes.items c.args.other.well_formed (ap (λ (t : Text). t.bytes) c.self.view_is) c.push_view.ensures.ok
-
-pub returns-clause-plain : goal.returns-clause-plain
-returns-clause-plain g c =
-    gained_apart c.push_view.result c.args.self.now c.self.inside.bytes.items c.push_view.new.bytes.items c.args.other.well_formed (ap (λ (t : Text). t.bytes) c.self.view_is) c.push_view.ensures.ok
+pub returns-clause-length : goal.returns-clause-length
+returns-clause-length g c = added_length c.push_view.result _ _ _ c.args.other c.self.view_is c.push_view.ensures.ok

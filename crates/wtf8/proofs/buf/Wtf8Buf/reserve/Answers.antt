@@ -1,6 +1,6 @@
 use Rattle.std.proofs.Common.{ap, ◌∙◌}
 use Rattle.wtf8.proofs.Readings.{moved, same_points}
-use Rattle.wtf8.specs.Text.{Text}
+use Rattle.wtf8.specs.UnitString.{UnitString}
 use Rattle.wtf8.specs.Unicode.{units}
 use Rattle.wtf8.proofs.buf.Wtf8Buf.reserve.Goals as goal
 
@@ -10,4 +10,4 @@ invariant_of-self-inside g c =
 
 pub returns-clause-units : goal.returns-clause-units
 returns-clause-units g c =
-    ap units (same_points c.self-1.given.0 c.self.inside.well_formed c.reserve.ensures.items) ∙ ap (λ (t : Text). t.units) c.self.view_is
+    ap units (same_points c.self-1.given.0 c.self.inside.well_formed c.reserve.ensures.items) ∙ ap (λ (t : UnitString). t.units) c.self.view_is

@@ -1,5 +1,5 @@
 use Rattle.std.proofs.Common.{◌∙◌, ap, sym, subst, arith, length, length-take, IsTrue}
-use Rattle.wtf8.specs.Text.{Text}
+use Rattle.wtf8.specs.UnitString.{UnitString}
 use Rattle.wtf8.specs.Unicode.{units}
 use Rattle.wtf8.specs.Position.{IsBoundary, IsFront}
 use Rattle.wtf8.proofs.Readings.{moved, same_points, no_points}
@@ -12,7 +12,7 @@ use Rattle.wtf8.proofs.buf.Wtf8Buf.truncate.Goals.{then-new_len-eq0, else-new_le
 
 pub invariant_of-self-inside : goal.invariant_of-self-inside
 invariant_of-self-inside g c =
-    let same = ap (λ (t : Text). t.units) c.self.view_is in
+    let same = ap (λ (t : UnitString). t.units) c.self.view_is in
     let cut = cut_at c.self.inside.well_formed c.args.new_len (subst (λ u. IsBoundary u c.args.new_len) (sym same) c.requires) in
     let now : IsWellFormed c.truncate.new.self.items = moved cut.before c.truncate.ensures.items in (
       now,
@@ -29,6 +29,6 @@ invariant_of-self-inside g c =
 
 pub returns-clause-units : goal.returns-clause-units
 returns-clause-units g c =
-    let same = ap (λ (t : Text). t.units) c.self.view_is in
+    let same = ap (λ (t : UnitString). t.units) c.self.view_is in
     let cut = cut_at c.self.inside.well_formed c.args.new_len (subst (λ u. IsBoundary u c.args.new_len) (sym same) c.requires) in
     subst (λ u. IsFront u c.args.new_len (units c.self-1.given.0.points)) same (record { front = cut.front; back = cut.back; splits = cut.splits; same_units = ap units (sym (same_points c.self-1.given.0 cut.before c.truncate.ensures.items ∙ cut.before_points)) })

@@ -1,3 +1,6 @@
+use Rattle.std.proofs.Common.{sym, subst}
+use Rattle.wtf8.specs.Surrogates.{AreScalar}
+use Rattle.wtf8.proofs.Scalars.{scalar_text}
 use Rattle.wtf8.proofs.Texts.{text_at}
 use Rattle.wtf8.proofs.view.Wtf8.from_str.Goals as goal
 
@@ -6,3 +9,6 @@ from_well_formed-requires c = text_at c.utf8.value c.as_bytes.ensures.value
 
 pub returns-clause-points : goal.returns-clause-points
 returns-clause-points c = c.from_well_formed.ensures.points (text_at c.utf8.value c.as_bytes.ensures.value)
+
+pub returns-clause-scalar : goal.returns-clause-scalar
+returns-clause-scalar c = subst AreScalar (sym (returns-clause-points c)) (scalar_text c.utf8.value)

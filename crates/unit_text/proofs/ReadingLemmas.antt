@@ -1,0 +1,26 @@
+-- The one reading of a list of units.
+use Rattle.std.proofs.Common.{◌≡◌, ℕ, suc, ◌<◌, All, List, [], ◌∷◌, refl, sym, ap, ◌∙◌, arith}
+use Rattle.std.proofs.lemmas.Bool.{lt-ltb}
+use Rattle.std.proofs.lemmas.List.{append-nil}
+use Rattle.wtf8.specs.Form.{Reads}
+use Rattle.wtf8.specs.Laws.{UnitsHaveOneReading, ReadingsAreOfUnits, GlueReadsBoth}
+use Rattle.wtf8.specs.Unicode.{IsUnit, units_of}
+use Rattle.unit_text.specs.Reading.{reading}
+
+-- a unit is the one unit of its own code point
+pub units_one : (n : ℕ) → n < 0x10000 → units_of n ≡ n ∷ []
+unfolding units_of
+units_one n h = rw (lt-ltb n 0x10000 h) refl
+
+unit_reads : (n : ℕ) → IsUnit n → Reads (n ∷ []) (n ∷ [])
+unit_reads n h = record { clean = omega arith; same_units = append-nil (units_of n) ∙ units_one n (omega arith) }
+
+reading_reads : GlueReadsBoth → (u : List ℕ) → All IsUnit u → Reads (reading u) u
+reading_reads both [] h = record { clean = tt; same_units = refl }
+reading_reads both (n ∷ u) h = both (n ∷ []) (reading u) (n ∷ []) u (unit_reads n (h 0 n (omega arith))) (reading_reads both u (λ k d l. h (suc k) d (omega arith)))
+
+-- whatever reads the units is their reading
+pub same_as_reading : UnitsHaveOneReading → ReadingsAreOfUnits → GlueReadsBoth → (c u : List ℕ) → Reads c u → c ≡ reading u
+same_as_reading one of_units both c u h =
+    let all = of_units c u h in
+    let only = one u all in only.no_other c h ∙ sym (only.no_other (reading u) (reading_reads both u all))

@@ -1,0 +1,45 @@
+// Equality and hash of texts, which are those of their units.
+ghost use Rattle.std.proofs.Common.{rules};
+ghost use Rattle.std.specs.Cmp.Lexicographic.{pointwise};
+ghost use Rattle.std.specs.Cmp.Rules.{comparing, hashing};
+ghost use Rattle.std.specs.Hash as fed;
+ghost use Rattle.std.specs.Prelude.{◌≡◌, ◌↔◌, ◌∷◌, nat_eq, IsTrue};
+ghost use Rattle.wtf8.specs.Form.{bytes};
+
+use crate::text::UnitText;
+use std::alloc::Allocator;
+use std::hash::{Hash, Hasher};
+use wtf8::laws;
+
+/// Texts are equal where their units are.
+impl<A: Allocator> PartialEq for UnitText<A> {
+    ghost eq = { pointwise nat_eq };
+
+    fn eq(&self, other: &UnitText<A>) -> bool
+        ensures units { IsTrue result ↔ (self.now ≡ other.now) }
+        ensures value { result ≡ pointwise nat_eq self.now other.now }
+    {
+        self.text == other.text
+    }
+
+    ghost laws = { Prim.search (comparing, rules) };
+}
+
+impl<A: Allocator> Eq for UnitText<A> {
+    ghost laws = { Prim.search (comparing, rules) };
+}
+
+/// A hasher is fed what the view feeds it: the same for texts of the same units.
+impl<A: Allocator> Hash for UnitText<A> {
+    ghost use Rattle.unit_text.specs.Reading.{reading};
+
+    ghost hash_input = { λ units. bytes (reading units) ∷ fed.u8 254 };
+
+    fn hash<H: Hasher>(&self, state: &mut H) {
+        laws::law_one_reading();
+        laws::law_concat();
+        self.text.hash(state);
+    }
+
+    ghost respects_eq = { Prim.search (hashing, rules) };
+}

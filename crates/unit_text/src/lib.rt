@@ -1,0 +1,8 @@
+//! Text that is counted in 16-bit units, as a JavaScript runtime counts its strings.
+#![tactic(auto)]
+
+mod comparisons;
+mod debug_text;
+mod text;
+
+pub use text::UnitText;

@@ -1,0 +1,24 @@
+-- Of two lists of numbers at most one stands before the other, and only where they differ.
+use Rattle.std.proofs.Common.{◌≡◌, ◌↔◌, ℕ, ◌<◌, inl, inr, List, [], ◌∷◌, IsTrue, refl, subst, arith}
+use Rattle.std.proofs.lemmas.Bool.{false≢true}
+use Rattle.std.specs.Ordering.{MatchOrdering, is_lt}
+use Rattle.std.specs.declared.cmp.Ordering.{Ordering}
+use Rattle.std.specs.declared.cmp.Ordering.TheVariants.{Less, Equal, Greater}
+use Rattle.wtf8.specs.Order.{Before}
+
+before_one : (c d : List ℕ) → Before c d → Before d c → ⊥
+before_one [] [] h k = h
+before_one [] (y ∷ ys) h k = k
+before_one (x ∷ xs) [] h k = h
+before_one (x ∷ xs) (y ∷ ys) h k =
+    elim h [
+      | inl l ↦ elim k [ inl m ↦ omega arith | inr m ↦ omega (arith, m.0) ]
+      | inr l ↦ elim k [ inl m ↦ omega (arith, l.0) | inr m ↦ before_one xs ys l.1 m.1 ]
+    ]
+
+-- a comparison answers `Less` exactly where the first stands before the second
+pub less_exactly : (r : Ordering) (c d : List ℕ) → MatchOrdering r (Before c d) (c ≡ d) (Before d c) → IsTrue (is_lt r) ↔ Before c d
+less_exactly Less c d h = (λ _. h, λ _. refl)
+less_exactly Equal c d h =
+    (λ e. absurd (false≢true e), λ k. absurd (before_one d d (subst (λ z. Before z d) h k) (subst (λ z. Before z d) h k)))
+less_exactly Greater c d h = (λ e. absurd (false≢true e), λ k. absurd (before_one c d k h))

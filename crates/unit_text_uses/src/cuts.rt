@@ -1,0 +1,36 @@
+//! A text that is cut and joined again: it is the whole, wherever it was cut, also inside a pair.
+ghost use Rattle.std.specs.Prelude.{◌≡◌, ◌≤◌, length, IfOk, IsTrue};
+
+use std::alloc::{AllocError, Allocator};
+use unit_text::UnitText;
+
+/// The units before a position, and those from it on appended to them: the whole text. Each part has an allocator of its
+/// own.
+pub fn cut_and_joined<A: Allocator>(
+    front_alloc: A,
+    back_alloc: A,
+    text: &UnitText<A>,
+    position: usize,
+) -> Result<UnitText<A>, AllocError>
+    requires { position ≤ length text.now }
+    ensures { IfOk result (λ whole. whole ≡ text.now) }
+{
+    let mut whole = text.slice_units(front_alloc, 0, position)?;
+    let back = text.slice_units(back_alloc, position, text.unit_len())?;
+    whole.concat(&back)?;
+    Ok(whole)
+}
+
+/// Whether a text that was cut and joined again is equal to the whole: it always is.
+pub fn is_whole_again<A: Allocator>(
+    front_alloc: A,
+    back_alloc: A,
+    text: &UnitText<A>,
+    position: usize,
+) -> Result<bool, AllocError>
+    requires { position ≤ length text.now }
+    ensures { IfOk result (λ same. IsTrue same) }
+{
+    let whole = cut_and_joined(front_alloc, back_alloc, text, position)?;
+    Ok(whole == *text)
+}

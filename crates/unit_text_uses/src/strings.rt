@@ -1,0 +1,67 @@
+//! Calls of ECMAScript's strings, whose positions count units (ECMAScript, "String.prototype").
+ghost use Rattle.std.specs.Prelude.{◌≡◌, ◌↔◌, ◌≤◌, length, take, drop, slice_get, min, max, IfOk, IsOk, IsTrue};
+ghost use Rattle.wtf8.specs.Order.{Before};
+
+use std::alloc::{AllocError, Allocator};
+use std::cmp::Ordering;
+use unit_text::UnitText;
+
+/// `charAt`: the text of the one unit at a position. It is empty where there is none, which asks for no memory.
+pub fn char_at<A: Allocator>(
+    alloc: A,
+    text: &UnitText<A>,
+    position: usize,
+) -> Result<UnitText<A>, AllocError>
+    ensures ok { IfOk result (λ t. t ≡ take 1 (drop position text.now)) }
+    ensures none { length text.now ≤ position → IsOk result }
+{
+    if position < text.unit_len() {
+        text.slice_units(alloc, position, position + 1)
+    } else {
+        UnitText::from_units(alloc, &[])
+    }
+}
+
+/// `charCodeAt`: the unit at a position, or `None`, for the `NaN` of the language, where there is none.
+pub fn char_code_at<A: Allocator>(text: &UnitText<A>, position: usize) -> Option<u16>
+    ensures { result ≡ slice_get text.now position }
+{
+    text.unit_at(position)
+}
+
+/// `substring`: the units from the lesser of two positions to before the greater one, in either order. A position beyond
+/// the end is the end.
+pub fn substring<A: Allocator>(
+    alloc: A,
+    text: &UnitText<A>,
+    first: usize,
+    second: usize,
+) -> Result<UnitText<A>, AllocError>
+    ensures { IfOk result (λ t. t ≡ drop (min first second) (take (max first second) text.now)) }
+{
+    let len = text.unit_len();
+    let begin = first.min(second).min(len);
+    let end = first.max(second).min(len);
+    text.slice_units(alloc, begin, end)
+}
+
+/// `startsWith`: whether another text's units stand at a position. The empty text stands everywhere, beyond the end too.
+pub fn starts_with<A: Allocator, B: Allocator>(
+    text: &UnitText<A>,
+    search: &UnitText<B>,
+    position: usize,
+) -> bool
+    ensures { IsTrue result ↔ (take (length search.now) (drop position text.now) ≡ search.now) }
+{
+    let units = text.as_wtf8().to_ill_formed_utf16();
+    let searched = search.as_wtf8().to_ill_formed_utf16();
+    let found = units.skip(position).take(search.unit_len());
+    found.cmp(searched).is_eq()
+}
+
+/// `<`: whether a text stands before another in the order of the units.
+pub fn is_less<A: Allocator>(text: &UnitText<A>, other: &UnitText<A>) -> bool
+    ensures { IsTrue result ↔ Before text.now other.now }
+{
+    text.cmp_units(other).is_lt()
+}

@@ -1,0 +1,8 @@
+use Rattle.wtf8.proofs.PositionLaws.{beginnings, both_no_longer}
+use Rattle.wtf8.proofs.laws.law_room.Goals as goal
+
+pub returns-clause-beginning : goal.returns-clause-beginning
+returns-clause-beginning c = beginnings
+
+pub returns-clause-both : goal.returns-clause-both
+returns-clause-both c = both_no_longer

@@ -1,0 +1,5 @@
+use Rattle.wtf8.proofs.StringLaws.{texts_scalar}
+use Rattle.wtf8.proofs.laws.law_texts.Goals as goal
+
+pub returns : goal.returns
+returns c = texts_scalar

@@ -1,0 +1,19 @@
+use Rattle.std.proofs.Common.{◌∙◌, Some, ap, sym, subst}
+use Rattle.std.specs.List.{slice_get}
+use Rattle.wtf8.specs.Unicode.{units}
+use Rattle.wtf8.specs.UnitPosition.{CutsUnits}
+use Rattle.wtf8.proofs.UnitCuts.{undivided, divided, points_behind}
+use Rattle.wtf8.proofs.view.Wtf8.unit_at.Goals as goal
+
+pub returns-in-None : goal.returns-in-None
+returns-in-None c =
+    let h = c.args.self.now.well_formed in
+    let k = c.in_ok-cut.cut.position in
+    let x = subst (CutsUnits h.points c.args.index k) c.in-None.is c.in_ok-cut.ensures.some in
+    let back = points_behind h c.slice_from.result.well_formed x.front x.back k x.joined x.front_len c.slice_from.ensures.bytes in
+    c.first_unit.ensures ∙ (ap (λ d. slice_get (units d) 0) back ∙ sym (undivided x).here)
+
+pub returns-in-Some : goal.returns-in-Some
+returns-in-Some c =
+    let x = subst (CutsUnits c.args.self.now.well_formed.points c.args.index c.in_ok-cut.cut.position) c.in-Some.is c.in_ok-cut.ensures.some in
+    ap Some c.trail_of.ensures ∙ sym (divided x).here

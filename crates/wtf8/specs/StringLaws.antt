@@ -1,0 +1,45 @@
+-- Laws of strings as contracts see them: of buffers, views and texts.
+use Rattle.std.specs.Prelude.{◌≡◌, ℕ, ◌-◌, List, ◌++◌, length, take, drop, ◌↔◌}
+use Rattle.std.specs.Cmp.Lexicographic.{slice_cmp}
+use Rattle.std.specs.Ordering.{nat_cmp, MatchOrdering}
+use Rattle.std.specs.Str.{chars, IsUtf8}
+use Rattle.wtf8.specs.Unicode.{pair}
+use Rattle.wtf8.specs.Form.{encoding, bytes}
+use Rattle.wtf8.specs.Concatenation.{MeetsAsPair}
+use Rattle.wtf8.specs.Order.{Before}
+use Rattle.wtf8.specs.Surrogates.{AreScalar}
+use Rattle.wtf8.specs.UnitString.{UnitString}
+use Rattle.wtf8.specs.View.{view_units}
+use Rattle.wtf8.specs.declared.view.Wtf8.{Wtf8}
+
+-- Two buffers have equal bytes exactly where they have equal units.
+abbrev pub EqualBuffersHaveEqualUnits : Type 0
+EqualBuffersHaveEqualUnits = (s t : UnitString) → (s.bytes ≡ t.bytes) ↔ (s.units ≡ t.units)
+
+-- So have a buffer and a view.
+abbrev pub EqualBufferAndViewHaveEqualUnits : Type 0
+EqualBufferAndViewHaveEqualUnits = (s : UnitString) (t : Wtf8) → (s.bytes ≡ t.bytes.now) ↔ (s.units ≡ view_units t)
+
+-- So have two views.
+abbrev pub EqualViewsHaveEqualUnits : Type 0
+EqualViewsHaveEqualUnits = (s t : Wtf8) → (s.bytes.now ≡ t.bytes.now) ↔ (view_units s ≡ view_units t)
+
+-- A string of the units of two others has the bytes of the one behind those of the other, where no lead meets a trail.
+abbrev pub StringsAreJoined : Type 0
+StringsAreJoined = (s t both : UnitString) → both.units ≡ s.units ++ t.units → ¬ (MeetsAsPair s.units t.units) → both.bytes ≡ s.bytes ++ t.bytes
+
+-- Where a lead meets a trail it has the first string's bytes without the last three, those of the pair, and the second's without the first three.
+abbrev pub StringsArePaired : Type 0
+StringsArePaired = (s t both : UnitString) → both.units ≡ s.units ++ t.units → (m : MeetsAsPair s.units t.units) → both.bytes ≡ (take (length s.bytes - 3) s.bytes ++ encoding (pair m.lead m.trail)) ++ drop 3 t.bytes
+
+-- Comparing bytes one by one is comparing code points one by one.
+abbrev pub BytesCompareAsPoints : Type 0
+BytesCompareAsPoints = (c d : List ℕ) → slice_cmp nat_cmp (bytes c) (bytes d) ≡ slice_cmp nat_cmp c d
+
+-- Comparing lists one by one says which stands before the other.
+abbrev pub ComparisonIsOrder : Type 0
+ComparisonIsOrder = (c d : List ℕ) → MatchOrdering (slice_cmp nat_cmp c d) (Before c d) (c ≡ d) (Before d c)
+
+-- The characters of a text are scalar values.
+abbrev pub TextsAreScalar : Type 0
+TextsAreScalar = (w : List ℕ) → IsUtf8 w → AreScalar (chars w)

@@ -1,0 +1,238 @@
+// Positions counted in 16-bit units.
+ghost use Rattle.std.specs.Prelude.{◌≡◌, ◌++◌, ◌+◌, ◌-◌, ◌/◌, ◌%◌, ◌<◌, ◌≤◌, length, take, drop, slice_get, IfSome, IfNone};
+ghost use Rattle.std.specs.Option.{option_to_list};
+ghost use Rattle.wtf8.specs.Form.{encoding};
+ghost use Rattle.wtf8.specs.Unicode.{IsLead};
+ghost use Rattle.wtf8.specs.UnitPosition.{units_begun, all_units_begun, IsPlaceOfUnit, CutsUnits, units_of_slice};
+ghost use Rattle.wtf8.specs.View.{view_points, view_units};
+
+use crate::encoding;
+use crate::view::Wtf8;
+use std::alloc::Allocator;
+use std::simd::prelude::*;
+
+/// How many bytes are counted together.
+const LANES: usize = 32;
+
+/// A place among bytes, and how many units begin before it.
+#[derive(Clone, Copy)]
+struct Place {
+    at: usize,
+    units_before: usize,
+}
+
+/// How many units the code point has whose bytes begin with this one; 0 where none begins with it.
+fn units_begun_by(byte: u8) -> usize
+    ensures { result ≡ units_begun byte }
+{
+    match byte {
+        0x00..=0x7F => 1,
+        0x80..=0xBF => 0,
+        0xC0..=0xEF => 1,
+        0xF0..=0xFF => 2,
+    }
+}
+
+/// The same for a block of bytes together.
+#[inline(always)]
+fn units_begun_in_block(bytes: u8x32) -> usize
+    ensures { result ≡ all_units_begun bytes }
+{
+    let zero = u8x32::splat(0);
+    let one = u8x32::splat(1);
+    let begins = bytes.simd_lt(u8x32::splat(0x80)) | bytes.simd_ge(u8x32::splat(0xC0));
+    let pairs = bytes.simd_ge(u8x32::splat(0xF0));
+    let counts = begins.select(one, zero).strict_add(pairs.select(one, zero));
+    usize::from(counts.strict_reduce_sum())
+}
+
+/// The place of the code point that holds a unit, in the bytes from a place on that has no more units before it; or the
+/// end, where the bytes have no such unit.
+fn find_unit_from(bytes: &[u8], unit: usize, from: Place) -> Place
+    requires within { from.at ≤ length bytes.now }
+    requires counted { from.units_before ≡ all_units_begun (take from.at bytes.now) }
+    requires not_beyond { from.units_before ≤ unit }
+    ensures { IsPlaceOfUnit bytes.now unit result.at result.units_before }
+{
+    let mut units_before = from.units_before;
+    for at in from.at..bytes.len() {
+        let more = units_begun_by(bytes[at]);
+        if unit - units_before < more {
+            return Place { at, units_before };
+        }
+        units_before += more;
+    }
+    Place {
+        at: bytes.len(),
+        units_before,
+    }
+}
+
+/// The place of the code point that holds a unit, or the end, where the bytes have no such unit.
+fn find_unit(bytes: &[u8], unit: usize) -> Place
+    ensures { IsPlaceOfUnit bytes.now unit result.at result.units_before }
+{
+    let mut at = 0;
+    let mut units_before = 0;
+    while LANES <= bytes.len() - at {
+        let more = units_begun_in_block(u8x32::from_slice(&bytes[at..]));
+        if unit - units_before < more {
+            break;
+        }
+        units_before += more;
+        at += LANES;
+    }
+    find_unit_from(bytes, unit, Place { at, units_before })
+}
+
+/// Where a number of units ends in a string: a position in bytes, and the supplementary code point that begins there
+/// where the last of the units is its lead.
+#[derive(Clone, Copy)]
+pub(crate) struct UnitCut {
+    pub(crate) position: usize,
+    pub(crate) divided: Option<u32>,
+}
+
+/// Where the first `n` units of a string end, or `None` where it has fewer.
+pub(crate) fn cut(text: Wtf8<'_>, n: usize) -> Option<UnitCut>
+    ensures some { IfSome result (λ cut. CutsUnits (view_points text.entry) n cut.position cut.divided) }
+    ensures none { IfNone result (length (view_units text.entry) < n) }
+{
+    let place = find_unit(text.bytes, n);
+    if place.units_before == n {
+        return Some(UnitCut {
+            position: place.at,
+            divided: None,
+        });
+    }
+    let Some((code_point, _)) = text.slice_from(place.at).split_first() else {
+        return None;
+    };
+    Some(UnitCut {
+        position: place.at,
+        divided: Some(code_point.to_u32()),
+    })
+}
+
+/// The lead of the pair that a supplementary code point is.
+pub(crate) fn lead_of(value: u32) -> u32
+    requires supplementary { 0x10000 ≤ value }
+    ensures { result ≡ 0xD800 + (value - 0x10000) / 0x400 }
+{
+    0xD800 + (value - 0x10000) / 0x400
+}
+
+/// The trail of the pair that a supplementary code point is.
+fn trail_of(value: u32) -> u32
+    requires supplementary { 0x10000 ≤ value }
+    ensures { result ≡ 0xDC00 + (value - 0x10000) % 0x400 }
+{
+    0xDC00 + (value - 0x10000) % 0x400
+}
+
+/// Keeps the bytes before a place, and writes the bytes of a lead surrogate over the three behind it.
+pub(crate) fn keep_lead<A: Allocator>(bytes: &mut Vec<u8, A>, at: usize, lead: u32)
+    requires lead { IsLead lead }
+    requires within { at + 3 ≤ length bytes.old.items }
+    ensures { bytes.new.items ≡ take at bytes.old.items ++ encoding lead }
+{
+    bytes.truncate(at + 3);
+    bytes[at..at + 3].copy_from_slice(&encoding::three_bytes(lead));
+}
+
+/// The first unit of a string, or `None` where it is empty.
+fn first_unit(text: Wtf8<'_>) -> Option<u16>
+    ensures { result ≡ slice_get (view_units text.entry) 0 }
+{
+    let Some((code_point, _)) = text.split_first() else {
+        return None;
+    };
+    let value = code_point.to_u32();
+    if value < 0x10000 {
+        return Some(value as u16);
+    }
+    Some(lead_of(value) as u16)
+}
+
+/// What lies between two numbers of units: code points, and at either end the half of a pair that is divided there.
+#[derive(Clone, Copy)]
+pub struct UnitSlice<'a> {
+    /// The trail surrogate of a pair that the begin divides.
+    pub trail: Option<u16>,
+    /// The code points that lie between them as a whole.
+    pub whole: Wtf8<'a>,
+    /// The lead surrogate of a pair that the end divides.
+    pub lead: Option<u16>,
+}
+
+impl<'a> Wtf8<'a> {
+    /// The number of 16-bit units.
+    pub fn unit_len(&self) -> usize
+        ensures { result ≡ length (view_units self.now) }
+    {
+        // There are no more units than bytes.
+        find_unit(self.bytes, self.bytes.len()).units_before
+    }
+
+    /// The 16-bit unit of a number, counted from 0, or `None` where there are no more than so many.
+    pub fn unit_at(&self, index: usize) -> Option<u16>
+        ensures { result ≡ slice_get (view_units self.now) index }
+    {
+        let cut = cut(*self, index)?;
+        match cut.divided {
+            None => first_unit(self.slice_from(cut.position)),
+            Some(value) => Some(trail_of(value) as u16),
+        }
+    }
+
+    /// The units from one number to before another. Where either divides a pair, the pair's half stands beside the
+    /// code points. All of it is a part of the same string and may outlive this view.
+    pub fn slice_units(&self, begin: usize, end: usize) -> UnitSlice<'a>
+        requires order { begin ≤ end }
+        requires within { end ≤ length (view_units self.now) }
+        ensures { units_of_slice result ≡ drop begin (take end (view_units self.now)) }
+    {
+        if begin == end {
+            return UnitSlice {
+                trail: None,
+                whole: Wtf8::from_str(""),
+                lead: None,
+            };
+        }
+        let (front, lead) = self.first_units(end);
+        let (trail, whole) = front.units_behind(begin);
+        UnitSlice { trail, whole, lead }
+    }
+
+    /// The code points of the first `n` units, and the lead of a pair that `n` divides.
+    fn first_units(self, n: usize) -> (Wtf8<'a>, Option<u16>)
+        requires { n ≤ length (view_units self) }
+        ensures { view_units result.0 ++ option_to_list result.1 ≡ take n (view_units self.entry) }
+    {
+        let Some(cut) = cut(self, n) else {
+            return (self, None);
+        };
+        let front = self.slice_to(cut.position);
+        match cut.divided {
+            None => (front, None),
+            Some(value) => (front, Some(lead_of(value) as u16)),
+        }
+    }
+
+    /// The trail of a pair that `n` divides, and the code points of the units behind the first `n`.
+    fn units_behind(self, n: usize) -> (Option<u16>, Wtf8<'a>)
+        requires { n ≤ length (view_units self) }
+        ensures { option_to_list result.0 ++ view_units result.1 ≡ drop n (view_units self.entry) }
+    {
+        let Some(cut) = cut(self, n) else {
+            return (None, self);
+        };
+        match cut.divided {
+            None => (None, self.slice_from(cut.position)),
+            Some(value) => (
+                Some(trail_of(value) as u16),
+                self.slice_from(cut.position + 4),
+            ),
+        }
+    }
+}

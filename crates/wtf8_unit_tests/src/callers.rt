@@ -1,0 +1,49 @@
+//! A string that is cut at a number of units, and put together again.
+ghost use Rattle.std.specs.Prelude.{◌≡◌, [], ◌∷◌, ◌≤◌, length, IfOk, OnOk};
+ghost use Rattle.wtf8.specs.Appending.{AppendsUnits};
+ghost use Rattle.wtf8.specs.UnitPosition.{units_of_slice};
+ghost use Rattle.wtf8.specs.View.{view_units};
+
+use std::alloc::{AllocError, Allocator};
+use wtf8::{CodePoint, UnitSlice, Wtf8, Wtf8Buf, laws};
+
+/// Appends one unit.
+pub fn push_unit<A: Allocator>(text: &mut Wtf8Buf<A>, unit: u16) -> Result<(), AllocError>
+    ensures { OnOk result (AppendsUnits text.old (unit ∷ []) text.new) }
+{
+    text.push(CodePoint::from_u32_unchecked(u32::from(unit)))
+}
+
+/// Appends what was cut out of a string by units.
+pub fn push_slice<A: Allocator>(
+    text: &mut Wtf8Buf<A>,
+    slice: UnitSlice<'_>,
+) -> Result<(), AllocError>
+    ensures { OnOk result (AppendsUnits text.old (units_of_slice slice.entry) text.new) }
+{
+    if let Some(trail) = slice.trail {
+        push_unit(text, trail)?;
+    }
+    text.push_wtf8(slice.whole)?;
+    match slice.lead {
+        None => Ok(()),
+        Some(lead) => push_unit(text, lead),
+    }
+}
+
+/// A copy of a string that is cut at a number of units, also inside a pair, and to which the units from there on are
+/// appended again: it has the same units.
+pub fn cut_at_units_and_joined<A: Allocator>(
+    alloc: A,
+    text: Wtf8<'_>,
+    n: usize,
+) -> Result<Wtf8Buf<A>, AllocError>
+    requires { n ≤ length (view_units text) }
+    ensures { IfOk result (λ whole. whole.units ≡ view_units text.entry) }
+{
+    let mut whole = Wtf8Buf::new(alloc);
+    whole.push_wtf8(text)?;
+    whole.truncate_units(n);
+    push_slice(&mut whole, text.slice_units(n, text.unit_len()))?;
+    Ok(whole)
+}
