@@ -21,6 +21,8 @@ fn alphabet() -> Vec<Build> {
         Build::Truncate(1),
         Build::Truncate(3),
         Build::Truncate(4),
+        Build::TruncateUnits(1),
+        Build::TruncateUnits(3),
     ]
 }
 

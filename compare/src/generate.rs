@@ -1,7 +1,7 @@
 //! Random scripts, and the lists of scripts that are gone through one by one.
 
 use crate::random::Random;
-use crate::script::{opcode, Build, Call, Kind, Operand, CALLS, UNBOUNDED};
+use crate::script::{Build, Call, Kind, Operand, CALLS, UNBOUNDED};
 
 /// Code points at the edges of the encodings' classes, and two numbers that are none.
 pub const EDGES: [u32; 32] = [
@@ -53,7 +53,7 @@ pub fn script(random: &mut Random) -> Vec<Call> {
 fn call(random: &mut Random) -> Call {
     // Half of the calls make or change strings, so that the others have something to look at.
     let opcode = match random.below(2) {
-        0 => known_opcode(random),
+        0 => random.below(CALLS.len() as u64) as u8,
         _ => random.between(2, 18) as u8,
     };
     let kinds = CALLS[usize::from(opcode)].1;
@@ -62,16 +62,6 @@ fn call(random: &mut Random) -> Call {
         operands[2] = Operand::Number(random.pick(&[0, UNBOUNDED]));
     }
     Call { opcode, operands }
-}
-
-/// One of the opcodes that both sides know.
-fn known_opcode(random: &mut Random) -> u8 {
-    loop {
-        let found = random.below(CALLS.len() as u64) as u8;
-        if found != opcode("truncate_units") {
-            return found;
-        }
-    }
 }
 
 /// A building call of a list, with points of every class.
@@ -83,6 +73,7 @@ pub fn build(random: &mut Random) -> Build {
         6..=8 => Build::PushWtf8(random.below(4) as u8),
         9..=10 => Build::Extend(random.between(0, 8) as u16),
         11 => Build::Reserve(number(random)),
+        12..=13 => Build::TruncateUnits(number(random)),
         _ => Build::Truncate(number(random)),
     }
 }
@@ -196,8 +187,10 @@ pub fn calls_on(units: &[u16]) -> Vec<Call> {
             calls.push(Call::new(name, operands));
         }
     }
+    calls.push(Call::new("units by number", vec![Operand::Register(0)]));
     for cut in 0..=units.len() {
         calls.extend(cut_and_joined(units, cut));
+        calls.extend(cut_by_units(units.len(), cut));
     }
     // One beyond the longest string and one more, which the crate refuses as well.
     for position in 0..=3 * units.len() as u16 + 2 {
@@ -242,12 +235,30 @@ pub fn cut_and_joined(units: &[u16], cut: usize) -> Vec<Call> {
     calls
 }
 
+/// A copy of the string in register 0 cut at a number of units, and the slices that begin there, up to one that is too long.
+pub fn cut_by_units(len: usize, cut: usize) -> Vec<Call> {
+    let count = Operand::Number(cut as u16);
+    let mut calls = vec![
+        registers("clone", 1, 0),
+        Call::new("truncate_units", vec![Operand::Register(1), count.clone()]),
+        registers("push_wtf8", 1, 0),
+        Call::new("as_str", vec![Operand::Register(1)]),
+    ];
+    for end in [cut, cut + 1, cut + 2, len, len + 1] {
+        let end = Operand::Number(end as u16);
+        let operands = vec![Operand::Register(0), count.clone(), end];
+        calls.push(Call::new("slice_units", operands));
+    }
+    calls
+}
+
 /// Each call that takes a position, at one.
 fn cut_at(position: u16) -> Vec<Call> {
     let place = Operand::Number(position);
     let mut calls = vec![
         registers("clone", 1, 0),
         Call::new("truncate", vec![Operand::Register(1), place.clone()]),
+        Call::new("into_string", vec![Operand::Register(1)]),
         Call::new("ascii_byte_at", vec![Operand::Register(0), place.clone()]),
     ];
     for name in ["slice_from", "slice_to", "from_iter code_points"] {
@@ -297,6 +308,7 @@ pub fn point_calls(point: u32) -> Vec<Call> {
         Call::new("CodePoint", vec![value()]),
         Call::new("new", vec![register()]),
         Call::new("push", vec![register(), value()]),
+        Call::new("ascii_byte_at", vec![register(), Operand::Number(0)]),
         Call::new("push_char", vec![register(), value()]),
         Call::new("code_points", vec![register(), Operand::Steps(vec![])]),
         Call::new(

@@ -6,12 +6,13 @@ use crate::{building, generate, long};
 /// A name, and what makes the scripts of that list.
 pub type List = (&'static str, fn() -> Vec<Vec<Call>>);
 
-pub const LISTS: [List; 11] = [
+pub const LISTS: [List; 12] = [
     ("code points at edges", generate::edge_calls),
     ("up to four units", up_to_four_units),
     ("lists of building calls", building::lists_of_calls),
     ("false hints", building::false_hints),
     ("slices inside strings", long::inside),
+    ("cuts by units", long::cuts_by_units),
     ("fronts", long::fronts),
     ("joins", long::joins),
     ("one surrogate", long::one_surrogate),

@@ -1,6 +1,6 @@
 //! Lists of scripts on long strings, on strings that share a front, and on slices inside a string.
 
-use crate::generate::{cut_and_joined, from_units, registers};
+use crate::generate::{cut_and_joined, cut_by_units, from_units, registers};
 use crate::script::{Call, Operand};
 
 /// The units that long strings are made of, over and over: a string of each class, one whose bytes begin as a surrogate's
@@ -189,6 +189,33 @@ fn joined_in_the_middle(units: &[u16]) -> Vec<Call> {
     calls
 }
 
+/// Strings cut at each number of units, with whole pairs and lone surrogates at both ends.
+pub fn cuts_by_units() -> Vec<Vec<Call>> {
+    let mut scripts = Vec::new();
+    for base in BASES {
+        for len in (0..=40).chain([63, 66, 97, 130]) {
+            let units = string_of(base, len);
+            for ends in [[0x61, 0x61], [0xDC00, 0xD800]] {
+                let units = [&ends[..1], &units, &ends[1..]].concat();
+                scripts.push(cut_by_units_at(&units, 0..=units.len() + 1));
+            }
+        }
+        let len = 2000;
+        let places = [0, 31, 255, 1000, len - 1, len, len + 1];
+        scripts.push(cut_by_units_at(&string_of(base, len), places));
+    }
+    scripts
+}
+
+fn cut_by_units_at(units: &[u16], places: impl IntoIterator<Item = usize>) -> Vec<Call> {
+    let mut calls = string_in(0, units);
+    calls.extend(on(0, &["units by number"]));
+    for cut in places {
+        calls.extend(cut_by_units(units.len(), cut));
+    }
+    calls
+}
+
 /// Slices in the middle of a string: their front at each place up to 40, with surrogates inside them, outside them, and at
 /// their ends.
 pub fn inside() -> Vec<Vec<Call>> {
@@ -255,6 +282,8 @@ pub fn chosen() -> Vec<Vec<Call>> {
         scripts.push(changed_at(&units, [7, 16, 40, 99]));
         scripts.push(with_surrogate_at(&units, [9, 30, 31, 96, 99]));
     }
+    let units = [string_of(BASES[6], 64), vec![0xD800]].concat();
+    scripts.push(cut_by_units_at(&units, [0, 3, 4, 32, 33, 63, 64, 65]));
     for len in [33, 126] {
         scripts.push(joined_in_the_middle(&string_of(BASES[0], len)));
     }
@@ -262,7 +291,7 @@ pub fn chosen() -> Vec<Vec<Call>> {
     let mut calls = string_in(0, &units);
     calls.extend(string_in(1, &changed(&units, &[(1199, 0xDC00)])));
     calls.push(registers("comparisons", 0, 1));
-    calls.extend(on(1, &["as_str", "to_string_lossy"]));
+    calls.extend(on(1, &["as_str", "to_string_lossy", "hash"]));
     scripts.push(calls);
     scripts
 }

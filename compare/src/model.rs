@@ -146,7 +146,9 @@ impl Case {
         }
         let most = match self.builds.get(done) {
             None => return Err("no call is there".to_owned()),
-            Some(Build::Truncate(_)) => return Err("a truncation wants no memory".to_owned()),
+            Some(Build::Truncate(_) | Build::TruncateUnits(_)) => {
+                return Err("a truncation wants no memory".to_owned())
+            }
             Some(Build::Extend(count)) => usize::from(*count).min(self.points.len()),
             Some(_) => 0,
         };
@@ -170,6 +172,11 @@ impl Case {
             }
             Build::Reserve(_) => {}
             Build::Truncate(position) => return truncate(units, *position),
+            Build::TruncateUnits(count) => {
+                let is_there = usize::from(*count) <= units.len();
+                units.truncate(usize::from(*count));
+                return is_there;
+            }
         }
         true
     }

@@ -23,30 +23,28 @@ pub struct Answers {
 }
 
 thread_local! {
-    /// Whether a panic is an answer just now.
-    static IS_GUARDED: Cell<bool> = const { Cell::new(false) };
+    /// How many calls that may panic are under way, one inside the other: a panic is an answer then.
+    static GUARDS: Cell<u32> = const { Cell::new(0) };
 
-    /// What the last of those panics said.
+    /// What a panic said that was no call's refusal.
     static LAST_PANIC: RefCell<String> = const { RefCell::new(String::new()) };
 }
 
 /// From now on nothing is printed of the crate's panics that are answers.
 pub fn silence_answers() {
     let print = std::panic::take_hook();
-    std::panic::set_hook(Box::new(move |panic| {
-        if IS_GUARDED.get() {
-            LAST_PANIC.with_borrow_mut(|last| *last = panic.to_string());
-        } else {
-            print(panic);
-        }
+    std::panic::set_hook(Box::new(move |panic| match GUARDS.get() {
+        0 => print(panic),
+        1 => LAST_PANIC.set(panic.to_string()),
+        _ => {}
     }));
 }
 
 /// What a call answers, or `None` where it panics.
 fn answer_of<T>(call: impl FnOnce() -> T) -> Option<T> {
-    let was_guarded = IS_GUARDED.replace(true);
+    GUARDS.set(GUARDS.get() + 1);
     let answer = catch_unwind(AssertUnwindSafe(call)).ok();
-    IS_GUARDED.set(was_guarded);
+    GUARDS.set(GUARDS.get() - 1);
     answer
 }
 
@@ -127,6 +125,7 @@ impl<'a> Reader<'a> {
             4 => Build::Extend(self.unit()),
             5 => Build::Reserve(self.unit()),
             6 => Build::Truncate(self.unit()),
+            7 => Build::TruncateUnits(self.unit()),
             kind => unreachable!("the generator knows no building call {kind}"),
         }
     }

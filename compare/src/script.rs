@@ -18,7 +18,7 @@ pub enum Kind {
 use Kind::{Builds, Number, Points, Register, Steps, Text, Units, Value};
 
 /// The calls by opcode, with the kinds of their operands.
-pub const CALLS: [(&str, &[Kind]); 41] = [
+pub const CALLS: [(&str, &[Kind]); 43] = [
     ("new", &[Register]),
     ("with_capacity", &[Register, Number]),
     ("from_string", &[Register, Text]),
@@ -63,6 +63,8 @@ pub const CALLS: [(&str, &[Kind]); 41] = [
     ("from_iter hinted", &[Register, Number, Points]),
     ("apply", &[Register, Points, Builds]),
     ("apply_all", &[Register, Number, Number, Points, Builds]),
+    ("units by number", &[Register]),
+    ("slice_units", &[Register, Number, Number]),
 ];
 
 /// The number of grants that stands for as many as are asked for.
@@ -98,6 +100,7 @@ pub enum Build {
     Extend(u16),
     Reserve(u16),
     Truncate(u16),
+    TruncateUnits(u16),
 }
 
 impl Build {
@@ -113,6 +116,7 @@ impl Build {
             Build::Extend(count) => put(out, 4, &count.to_le_bytes()),
             Build::Reserve(additional) => put(out, 5, &additional.to_le_bytes()),
             Build::Truncate(position) => put(out, 6, &position.to_le_bytes()),
+            Build::TruncateUnits(count) => put(out, 7, &count.to_le_bytes()),
         }
     }
 }

@@ -5,14 +5,65 @@ use super::*;
 impl Machine {
     pub fn run_together(&mut self, opcode: u8, reader: &mut Reader<'_>) {
         match opcode {
+            33 => self.truncate_units(reader),
             34 => self.look_at_slice(reader),
             35 => self.compare_slices(reader),
             36 => self.push_slice(reader),
             37 | 38 => self.take_hinted(opcode, reader),
             39 => self.apply_each(reader),
             40 => self.apply_all(reader),
+            41 => self.units_by_number(reader),
+            42 => self.slice_units(reader),
             _ => unreachable!("the generator knows no opcode {opcode}"),
         }
+    }
+
+    /// The crate cannot cut by units: its own units are cut, and make a string again.
+    fn truncate_units(&mut self, reader: &mut Reader<'_>) {
+        let register = reader.register();
+        let count = reader.number();
+        match first_units(&self.strings[register], count) {
+            Some(string) => {
+                self.line("room kept true");
+                self.put(register, string);
+            }
+            None => self.line("refused"),
+        }
+    }
+
+    fn units_by_number(&mut self, reader: &mut Reader<'_>) {
+        let units: Vec<String> = self.strings[reader.register()]
+            .to_ill_formed_utf16()
+            .map(unit_text)
+            .collect();
+        let line = [&[format!("{} units", units.len())], &units[..]].concat();
+        self.line(&format!("{} -", line.join(" ")));
+    }
+
+    /// The units between two numbers, a pair's half at either end by itself: the code points that are whole lie between
+    /// them.
+    fn slice_units(&mut self, reader: &mut Reader<'_>) {
+        let units: Vec<u16> = self.strings[reader.register()]
+            .to_ill_formed_utf16()
+            .collect();
+        let (begin, end) = (reader.number(), reader.number());
+        if begin > end || end > units.len() {
+            return self.line("refused");
+        }
+        let is_divided =
+            |at: usize| at > 0 && matches!(units[at - 1..], [0xD800..=0xDBFF, 0xDC00..=0xDFFF, ..]);
+        let mut part = &units[begin..end];
+        let (mut trail, mut lead) = ("-".to_owned(), "-".to_owned());
+        if let ([first, rest @ ..], true) = (part, is_divided(begin)) {
+            trail = unit_text(*first);
+            part = rest;
+        }
+        if let ([rest @ .., last], true) = (part, is_divided(end)) {
+            lead = unit_text(*last);
+            part = rest;
+        }
+        let whole = dump(&Wtf8Buf::from_ill_formed_utf16(part));
+        self.line(&format!("slice {trail} ({whole}) {lead}"));
     }
 
     fn look_at_slice(&mut self, reader: &mut Reader<'_>) {
@@ -131,6 +182,12 @@ impl Machine {
     }
 }
 
+/// The string of the first so many units, where there are so many.
+fn first_units(text: &Wtf8, count: usize) -> Option<Wtf8Buf> {
+    let units: Vec<u16> = text.to_ill_formed_utf16().collect();
+    units.get(..count).map(Wtf8Buf::from_ill_formed_utf16)
+}
+
 /// Code points under a lower hint that may be false.
 struct Hinted {
     points: std::vec::IntoIter<CodePoint>,
@@ -184,6 +241,14 @@ impl Pieces {
                     string.truncate(position);
                 }
                 return Some(is_boundary);
+            }
+            Build::TruncateUnits(count) => {
+                let cut = first_units(string, usize::from(*count));
+                let is_there = cut.is_some();
+                if let Some(cut) = cut {
+                    *string = cut;
+                }
+                return Some(is_there);
             }
         }
         Some(true)

@@ -107,6 +107,7 @@ fn read_call<'s: 'c, 'c>(
         4 => Build::Extend(&points[..reader.number()?.min(points.len())]),
         5 => Build::Reserve(reader.number()?),
         6 => Build::Truncate(reader.number()?),
+        7 => Build::TruncateUnits(reader.number()?),
         _ => return Err(Stop::Malformed),
     };
     Ok(Some(call))

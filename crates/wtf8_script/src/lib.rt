@@ -15,6 +15,7 @@ mod recorder;
 mod slicing;
 mod stop;
 mod turning;
+mod unit_positions;
 mod walking;
 
 pub use machine::run_script;

@@ -62,7 +62,7 @@ impl Machine {
         }
     }
 
-    /// The calls on slices inside a string, and those of several building calls in one.
+    /// The calls on slices inside a string, lists of building calls, and positions in units.
     fn run_together(
         &mut self,
         opcode: u8,
@@ -70,6 +70,7 @@ impl Machine {
         transcript: &mut String,
     ) -> Result<(), Stop> {
         match opcode {
+            33 => self.truncate_units(reader, transcript),
             34 => self.look_at_slice(reader, transcript),
             35 => self.compare_slices(reader, transcript),
             36 => self.push_slice(reader, transcript),
@@ -77,6 +78,8 @@ impl Machine {
             38 => self.collect_hinted(reader, transcript),
             39 => self.apply_each(reader, transcript),
             40 => self.apply_all(reader, transcript),
+            41 => self.units_by_number(reader, transcript),
+            42 => self.slice_units(reader, transcript),
             _ => Err(Stop::Malformed),
         }
     }
