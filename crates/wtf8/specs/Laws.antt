@@ -4,6 +4,7 @@ use Rattle.wtf8.specs.Unicode.{IsUnit, IsCodePoint, pair}
 use Rattle.wtf8.specs.Form.{IsClean, Reads, encoding, bytes, IsWellFormed, IsForm}
 use Rattle.wtf8.specs.Concatenation.{MeetsAsPair, glue}
 use Rattle.wtf8.specs.Order.{Before}
+use Rattle.wtf8.specs.UnitPosition.{TruncatesUnits}
 use Rattle.wtf8.specs.Position.{IsFront, IsBack}
 
 -- Exactly one list has a fact.
@@ -87,3 +88,7 @@ EmptyBackIsNeutral = (c : List ℕ) → glue c [] ≡ c
 -- The units before a code point boundary and those from it on are the whole.
 abbrev pub FrontAndBackAreWhole : Type 0
 FrontAndBackAreWhole = (u a b : List ℕ) (k : ℕ) → IsFront u k a → IsBack u k b → a ++ b ≡ u
+
+-- The first units that a truncation keeps and the rest are the whole, also where a pair is divided.
+abbrev pub FirstUnitsAndRestAreWhole : Type 0
+FirstUnitsAndRestAreWhole = (u v : List ℕ) (n : ℕ) → TruncatesUnits u n v 0 → v ++ drop n u ≡ u

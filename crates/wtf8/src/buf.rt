@@ -417,4 +417,31 @@ mod tests {
         }
         Ok(())
     }
+
+    /// How many units of "a💩" are kept, whether the string is then known to hold no surrogate, and its bytes.
+    const CUTS: [(usize, bool, &str); 4] = [
+        (0, true, ""),
+        (1, true, "61"),
+        (2, false, "61 ED A0 BD"),
+        (3, true, "61 F0 9F 92 A9"),
+    ];
+
+    #[test]
+    fn a_divided_pair_clears_the_flag(rt: HostRuntime) -> Result<(), AllocError> {
+        for (n, is_known_utf8, dump) in CUTS {
+            let mut string = Wtf8Buf::from_str(rt.alloc(), "a💩")?;
+            assert!(rt; string.apply(Build::TruncateUnits(n))?, "at {n}");
+            assert_eq!(rt; string.is_known_utf8, is_known_utf8, "at {n}");
+            let found = string.as_wtf8().hex_dump(rt.alloc())?;
+            assert_eq!(rt; found.as_str(), dump, "at {n}");
+            let Err(mut string) = string.into_string() else {
+                assert!(rt; is_known_utf8, "at {n}");
+                continue;
+            };
+            assert!(rt; !is_known_utf8, "at {n}");
+            string.truncate_units(0);
+            assert!(rt; string.is_known_utf8, "at {n}");
+        }
+        Ok(())
+    }
 }

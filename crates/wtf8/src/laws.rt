@@ -19,6 +19,7 @@ ghost use Rattle.wtf8.specs.Laws.{
   EmptyFrontIsNeutral,
   EmptyBackIsNeutral,
   FrontAndBackAreWhole,
+  FirstUnitsAndRestAreWhole,
 };
 ghost use Rattle.wtf8.specs.PositionLaws.{
   StartIsBoundary,
@@ -89,13 +90,14 @@ pub fn law_concat()
     ensures other_bytes { OthersFormBoth }
 {}
 
-/// Appending is associative, the empty string changes nothing at either end, and what is cut at a code point boundary
-/// and appended again is the whole.
+/// Appending is associative, the empty string changes nothing at either end, and what is cut at a code point boundary,
+/// or at a number of units, and appended again is the whole.
 pub fn law_append()
     ensures associative { GlueIsAssociative }
     ensures empty_front { EmptyFrontIsNeutral }
     ensures empty_back { EmptyBackIsNeutral }
     ensures whole { FrontAndBackAreWhole }
+    ensures cut { FirstUnitsAndRestAreWhole }
 {}
 
 /// For each list of units and each list of building calls there is exactly one outcome and exactly one count of refused

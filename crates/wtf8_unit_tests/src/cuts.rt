@@ -21,7 +21,11 @@ fn cut_everywhere<R: Abort + AllocGlobal>(rt: &R, units: &[u16]) -> Result<(), F
         heap.grant(1_000);
         let mut text = Wtf8Buf::from_ill_formed_utf16(&heap, units)?;
         heap.grant(0);
-        assert_eq!(rt; text.apply(Build::TruncateUnits(n))?, n <= units.len(), "at {n}");
+        assert_eq!(rt;
+            text.apply(Build::TruncateUnits(n))?,
+            n <= units.len(),
+            "at {n}"
+        );
         assert_units(rt, text.as_wtf8(), units.get(..n).unwrap_or(units))?;
     }
     let whole = Wtf8Buf::from_ill_formed_utf16(rt.alloc(), units)?;

@@ -51,9 +51,14 @@ fn halves_of_divided_pairs_stand_beside_the_rest(rt: HostRuntime) -> Result<(), 
         (1, 1, None, "", None),
         (4, 5, Some(0xDCA9), "", None),
     ] {
+        assert!(rt; begin <= end && end <= text.unit_len());
         let slice = text.slice_units(begin, end);
         assert_eq!(rt; slice.trail, trail, "{begin} to {end}");
-        assert_eq!(rt; slice.whole.hex_dump(rt.alloc())?.as_str(), dump, "{begin} to {end}");
+        assert_eq!(rt;
+            slice.whole.hex_dump(rt.alloc())?.as_str(),
+            dump,
+            "{begin} to {end}"
+        );
         assert_eq!(rt; slice.lead, lead, "{begin} to {end}");
     }
     Ok(())

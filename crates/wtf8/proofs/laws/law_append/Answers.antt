@@ -1,3 +1,4 @@
+use Rattle.std.proofs.Common.{◌++◌, ◌∙◌, ap, arith, drop, inl, inr, take-append-drop}
 use Rattle.wtf8.proofs.Gluing.{glue_assoc, glue-nil}
 use Rattle.wtf8.proofs.LawLemmas.{front_and_back}
 use Rattle.wtf8.proofs.laws.law_append.Goals as goal
@@ -10,3 +11,9 @@ returns-clause-empty_back c = glue-nil
 
 pub returns-clause-whole : goal.returns-clause-whole
 returns-clause-whole c = front_and_back
+
+pub returns-clause-cut : goal.returns-clause-cut
+returns-clause-cut c u v n t = elim t [
+  | inl x ↦ ap (λ w. w ++ drop n u) x.1 ∙ take-append-drop n u
+  | inr x ↦ absurd (let one = x.2 in omega arith)
+]
