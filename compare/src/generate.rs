@@ -241,6 +241,7 @@ pub fn cut_by_units(len: usize, cut: usize) -> Vec<Call> {
     let mut calls = vec![
         registers("clone", 1, 0),
         Call::new("truncate_units", vec![Operand::Register(1), count.clone()]),
+        Call::new("into_string", vec![Operand::Register(1)]),
         registers("push_wtf8", 1, 0),
         Call::new("as_str", vec![Operand::Register(1)]),
     ];

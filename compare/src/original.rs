@@ -352,13 +352,15 @@ impl Machine {
             }
             23 => {
                 let string = self.strings[register].clone();
-                write!(self.out, "points").unwrap();
+                let count = string.code_points().count();
+                write!(self.out, "points, {count}:").unwrap();
                 walk(&mut self.out, string.code_points(), reader.bytes());
                 self.line("");
             }
             _ => {
                 let string = self.strings[register].clone();
-                write!(self.out, "units").unwrap();
+                let count = string.to_ill_formed_utf16().count();
+                write!(self.out, "units, {count}:").unwrap();
                 walk(&mut self.out, Units::of(&string), reader.bytes());
                 self.line("");
             }

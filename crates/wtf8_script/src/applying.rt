@@ -54,7 +54,7 @@ impl Machine {
             Ok(refused) => writeln!(transcript, "all, {refused} refused")?,
             Err(Stopped { done }) => writeln!(transcript, "stopped at {done}")?,
         }
-        write_units(transcript, string.as_wtf8())?;
+        write_units(self.alloc, transcript, string.as_wtf8())?;
         let mut copy = Wtf8Buf::new(self.alloc);
         copy.push_wtf8(string.as_wtf8())?;
         self.put(register, transcript, copy)
@@ -114,9 +114,10 @@ fn read_call<'s: 'c, 'c>(
 }
 
 // Writes the units of a view.
-fn write_units(transcript: &mut String, view: Wtf8<'_>) -> Result<(), Stop> {
+fn write_units(alloc: Global, transcript: &mut String, view: Wtf8<'_>) -> Result<(), Stop> {
+    let units: Vec<u16> = view.to_ill_formed_utf16().collect(alloc)?;
     write!(transcript, "units")?;
-    for unit in view.to_ill_formed_utf16() {
+    for unit in units.as_slice() {
         write!(transcript, " {unit:04X}")?;
     }
     machine::write_line(transcript, "")

@@ -43,7 +43,7 @@ impl Step {
 }
 
 impl Machine {
-    /// `code_points`: writes what each step answers, and then all that is left.
+    /// `code_points`: writes how many there are, what each step answers, and then all that is left.
     pub fn code_points(
         &self,
         reader: &mut Reader<'_>,
@@ -51,7 +51,8 @@ impl Machine {
     ) -> Result<(), Stop> {
         let register = reader.register()?;
         let mut points = self.view(register).code_points();
-        write!(transcript, "points")?;
+        let count = self.view(register).code_points().count();
+        write!(transcript, "points, {count}:")?;
         for step in reader.bytes()? {
             match Step::from_byte(*step)? {
                 Step::Next => write_point(transcript, points.next())?,
@@ -68,11 +69,12 @@ impl Machine {
         machine::write_line(transcript, "")
     }
 
-    /// `to_ill_formed_utf16`: writes what each step answers, and then all that is left.
+    /// `to_ill_formed_utf16`: writes how many there are, what each step answers, and then all that is left.
     pub fn units(&self, reader: &mut Reader<'_>, transcript: &mut String) -> Result<(), Stop> {
         let register = reader.register()?;
         let mut units = self.view(register).to_ill_formed_utf16();
-        write!(transcript, "units")?;
+        let count = self.view(register).to_ill_formed_utf16().count();
+        write!(transcript, "units, {count}:")?;
         for step in reader.bytes()? {
             match Step::from_byte(*step)? {
                 Step::Next => write_unit(transcript, units.next())?,
