@@ -8,8 +8,10 @@ use std::time::Instant;
 use crate::column::original;
 #[cfg(std_wtf8)]
 use crate::column::standard;
+use crate::console::fail;
 use crate::inputs::{self, Input};
 use crate::ours;
+use crate::say;
 
 /// The loops by number, as the proved library's exports know them.
 const LOOPS: [(u32, &str); 14] = [
@@ -54,6 +56,8 @@ fn all_rows() -> Vec<(u32, String, Input)> {
 /// Times the rows whose name has the filter in it, prints them, and writes them to a file that `table` reads.
 pub fn run(filter: &str, file: &Path) -> bool {
     let mut lines = String::new();
+    // A file that cannot be written is better known before the time is spent.
+    write_file(file, &lines);
     for (number, name, input) in all_rows() {
         if !name.contains(filter) {
             continue;
@@ -67,20 +71,27 @@ pub fn run(filter: &str, file: &Path) -> bool {
             original,
             standard,
         } = &row;
-        println!(
+        say!(
             "{:60} {ours:8.3} {original:8.3} {standard:8.3}",
             name.replace('\t', ", ")
         );
         writeln!(lines, "{name}\t{ours}\t{original}\t{standard}").unwrap();
     }
-    fs::write(file, lines).is_ok()
+    write_file(file, &lines);
+    true
+}
+
+fn write_file(file: &Path, text: &str) {
+    if let Err(error) = fs::write(file, text) {
+        fail(&format!("{}: {error}", file.display()));
+    }
 }
 
 /// Prints the names of the rows with the filter in them, each with the number of units that its input has.
 pub fn rows(filter: &str) -> bool {
     for (_, name, input) in all_rows() {
         if name.contains(filter) {
-            println!("{name}\t{}", input.units.len());
+            say!("{name}\t{}", input.units.len());
         }
     }
     true
@@ -89,14 +100,18 @@ pub fn rows(filter: &str) -> bool {
 /// Runs one column's loop of a row and nothing else, for a tool that counts its instructions.
 pub fn run_loop(column: &str, row: &str, rounds: &str) -> bool {
     let found = all_rows().into_iter().find(|(_, name, _)| name == row);
-    let (Some((number, _, input)), Ok(rounds)) = (found, rounds.parse()) else {
-        return false;
+    let Some((number, _, input)) = found else {
+        fail(&format!("no row {row} (compare rows lists them)"));
+    };
+    let Ok(rounds) = rounds.parse() else {
+        fail(&format!("{rounds} is no number of rounds"));
     };
     let sum = match column {
         "proved" => Some(ours::time(number, &input.units, rounds)),
-        _ => original::Bench::new(&input.units).run(number, rounds),
+        "crate" => original::Bench::new(&input.units).run(number, rounds),
+        _ => fail(&format!("no column {column}: proved or crate")),
     };
-    println!("{}", sum.unwrap_or_default());
+    say!("{}", sum.unwrap_or_default());
     true
 }
 
@@ -113,7 +128,7 @@ fn time(number: u32, name: String, input: &Input) -> Option<Row> {
         let (with_making, answer) = timed(|| ours::time(number, &input.units, rounds));
         let (crate_time, crate_answer) = timed(|| original.run(number, rounds));
         if crate_answer.is_some_and(|crate_answer| crate_answer != answer) {
-            println!("DIFFERENT ANSWERS in {name}: {answer} and {crate_answer:?}");
+            say!("DIFFERENT ANSWERS in {name}: {answer} and {crate_answer:?}");
             return None;
         }
         least[0] = least[0].min(made);
@@ -125,7 +140,7 @@ fn time(number: u32, name: String, input: &Input) -> Option<Row> {
         {
             let (standard_time, standard_answer) = timed(|| standard.run(number, rounds));
             if standard_answer.is_some_and(|standard_answer| standard_answer != answer) {
-                println!("DIFFERENT ANSWERS in {name}: {answer} and {standard_answer:?}");
+                say!("DIFFERENT ANSWERS in {name}: {answer} and {standard_answer:?}");
                 return None;
             }
             if standard_answer.is_some() {
@@ -165,15 +180,9 @@ fn timed<T>(run: impl FnOnce() -> T) -> (f64, T) {
 /// Prints the table of two files of rows, those of the two cargo profiles. A row's baseline is the smaller of the crate's
 /// two minima.
 pub fn table(files: &[&str]) -> bool {
-    let Ok(texts) = files
-        .iter()
-        .map(fs::read_to_string)
-        .collect::<Result<Vec<String>, _>>()
-    else {
-        return false;
-    };
-    println!("| Call | Input | proved, ns | crate, ns | ratio | standard library, ns |");
-    println!("|---|---|---|---|---|---|");
+    let texts: Vec<String> = files.iter().map(|file| rows_of_file(file)).collect();
+    say!("| Call | Input | proved, ns | crate, ns | ratio | standard library, ns |");
+    say!("|---|---|---|---|---|---|");
     for line in texts[0].lines() {
         let words: Vec<&str> = line.split('\t').collect();
         let same = texts.iter().flat_map(|text| text.lines());
@@ -190,7 +199,7 @@ pub fn table(files: &[&str]) -> bool {
             true => format!("{:.2}", ours / original),
             false => "-".to_owned(),
         };
-        println!(
+        say!(
             "| {} | {} | {} | {} | {ratio} | {} |",
             words[0],
             words[1],
@@ -200,6 +209,22 @@ pub fn table(files: &[&str]) -> bool {
         );
     }
     true
+}
+
+/// The text of a file of rows, or the end of the program with one line that says what is wrong with it.
+fn rows_of_file(file: &str) -> String {
+    let text = match fs::read_to_string(file) {
+        Ok(text) => text,
+        Err(error) => fail(&format!("{file}: {error}")),
+    };
+    for line in text.lines() {
+        let words: Vec<&str> = line.split('\t').collect();
+        let is_row = words.len() == 5 && words[2..].iter().all(|word| word.parse::<f64>().is_ok());
+        if !is_row {
+            fail(&format!("{file}: no row of timings: {line}"));
+        }
+    }
+    text
 }
 
 fn numbers_of(line: &str, name: &[&str]) -> Option<Vec<f64>> {

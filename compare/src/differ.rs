@@ -1,11 +1,11 @@
 //! The two sides' answers to the same scripts.
 
-use std::io::{stderr, IsTerminal};
-
+use crate::console::progress;
 use crate::generate;
+use crate::lists::LISTS;
 use crate::random::Random;
 use crate::script::{encode, Call};
-use crate::{original, ours, shrink};
+use crate::{model, original, ours, say, shrink};
 
 const REFUSALS: [&str; 5] = [
     "truncate",
@@ -26,42 +26,36 @@ struct Tally {
     refusal_examples: Vec<(&'static str, Vec<Call>)>,
 }
 
-/// Runs `cases` random scripts, and before them the lists that are gone through one by one. The answer is whether the two
-/// sides agree, but for the known differences.
+/// Runs the lists that are gone through one by one, `cases` random scripts, and as many lists of building calls against the
+/// model. The answer is whether the sides agree, but for the known differences.
 pub fn run(seed: u64, cases: u64, every_point: bool) -> bool {
     let mut tally = Tally::default();
-    let listed = listed_scripts();
-    let listed_count = listed.len();
-    if !listed.into_iter().all(|script| tally.agrees(script)) {
-        return false;
-    }
-    println!("{listed_count} listed scripts: the answers are the same");
-    if every_point {
-        if !(0..=0x11_0000).all(|point| tally.agrees(generate::point_calls(point))) {
+    for (name, list) in LISTS {
+        let scripts = list();
+        let count = scripts.len();
+        if !tally.agrees_on(name, scripts.into_iter()) {
             return false;
         }
-        println!("every code point and the number behind the last: the answers are the same");
+        say!("{name}: {count} scripts, the answers are the same");
+    }
+    if every_point {
+        let scripts = (0..=0x11_0000).map(generate::point_calls);
+        if !tally.agrees_on("every code point", scripts) {
+            return false;
+        }
+        say!("every code point and the number behind the last: the answers are the same");
     }
     let mut random = Random::new(seed);
-    for done in 0..cases {
-        if done % 10_000 == 0 && stderr().is_terminal() {
-            eprint!("\r{done} of {cases} random scripts");
-        }
-        if !tally.agrees(generate::script(&mut random)) {
-            return false;
-        }
+    let scripts = (0..cases).map(|_| generate::script(&mut random));
+    if !tally.agrees_on("random scripts", scripts) {
+        return false;
     }
-    println!("{cases} random scripts of seed {seed}: the answers are the same");
+    say!("{cases} random scripts of seed {seed}: the answers are the same");
+    if !model::run(seed, cases) {
+        return false;
+    }
     tally.report();
     true
-}
-
-/// The strings of all lists of up to four units, and the code points at the edges.
-fn listed_scripts() -> Vec<Vec<Call>> {
-    let mut scripts = generate::edge_calls();
-    let lists = generate::unit_lists(4);
-    scripts.extend(lists.iter().map(|units| generate::calls_on(units)));
-    scripts
 }
 
 fn differs(script: &[Call]) -> bool {
@@ -70,12 +64,26 @@ fn differs(script: &[Call]) -> bool {
 }
 
 impl Tally {
-    /// Whether the two sides agree on a script. Where they do not, the smallest script is printed.
-    fn agrees(&mut self, script: Vec<Call>) -> bool {
-        let bytes = encode(&script);
+    /// Whether the two sides agree on a list of scripts.
+    fn agrees_on(&mut self, name: &str, scripts: impl Iterator<Item = Vec<Call>>) -> bool {
+        for (done, script) in scripts.enumerate() {
+            if done % 10_000 == 0 {
+                progress(&format!("{name}: {done} scripts "));
+            }
+            if !self.agrees(&script) {
+                say!("\nDIFFERENT ANSWERS at script {} of: {name}", done + 1);
+                say!("(script {} of all)", self.scripts + 1);
+                show_difference(&script);
+                return false;
+            }
+        }
+        true
+    }
+
+    fn agrees(&mut self, script: &[Call]) -> bool {
+        let bytes = encode(script);
         let answers = original::run(&bytes);
         if ours::run(&bytes) != answers.transcript {
-            show_difference(&shrink::smallest(&script, &differs));
             return false;
         }
         self.scripts += 1;
@@ -83,7 +91,7 @@ impl Tally {
         self.refusals += answers.panicked.len() as u64;
         if answers.own_hints != answers.transcript {
             self.held_hints += 1;
-            self.hint_example.get_or_insert_with(|| script.clone());
+            self.hint_example.get_or_insert_with(|| script.to_vec());
         }
         for name in answers.panicked {
             if self
@@ -91,15 +99,15 @@ impl Tally {
                 .iter()
                 .all(|(known, _)| *known != name)
             {
-                self.refusal_examples.push((name, script.clone()));
+                self.refusal_examples.push((name, script.to_vec()));
             }
         }
         true
     }
 
     fn report(&self) {
-        println!("{} scripts with {} calls in all", self.scripts, self.calls);
-        println!(
+        say!("{} scripts with {} calls in all", self.scripts, self.calls);
+        say!(
             "\nknown difference: the hint of the units while a trail is held, in {} scripts",
             self.held_hints
         );
@@ -111,13 +119,14 @@ impl Tally {
             let script = shrink::smallest(script, &shows);
             show_script(&script);
             let answers = original::run(&encode(&script));
-            print!(
+            say!(
                 "the crate:\n{}the proved library:\n{}",
-                answers.own_hints, answers.transcript
+                answers.own_hints,
+                answers.transcript
             );
         }
-        println!(
-            "\nknown difference: a refusal where the crate panics, {} times",
+        say!(
+            "known difference: a refusal where the crate panics, {} times",
             self.refusals
         );
         for name in REFUSALS {
@@ -136,15 +145,16 @@ impl Tally {
 
 fn show_script(script: &[Call]) {
     let calls: Vec<String> = script.iter().map(ToString::to_string).collect();
-    println!("    {}", calls.join("; "));
+    say!("    {}", calls.join("; "));
 }
 
 fn show_difference(script: &[Call]) {
-    let bytes = encode(script);
-    println!("\nDIFFERENT ANSWERS. The smallest script that shows it:");
-    show_script(script);
+    let script = shrink::smallest(script, &differs);
+    let bytes = encode(&script);
+    say!("The smallest script that shows it:");
+    show_script(&script);
     let crate_answers = original::run(&bytes).transcript;
-    println!(
+    say!(
         "the crate:\n{crate_answers}the proved library:\n{}",
         ours::run(&bytes)
     );

@@ -1,7 +1,7 @@
 //! Random scripts, and the lists of scripts that are gone through one by one.
 
 use crate::random::Random;
-use crate::script::{Call, Kind, Operand, CALLS};
+use crate::script::{Build, Call, Kind, Operand, CALLS, UNBOUNDED};
 
 /// Code points at the edges of the encodings' classes, and two numbers that are none.
 pub const EDGES: [u32; 32] = [
@@ -40,7 +40,7 @@ pub const EDGES: [u32; 32] = [
 ];
 
 /// The units of the exhaustive lists: each class, and the edges of the surrogates.
-const ALPHABET: [u16; 9] = [
+pub const ALPHABET: [u16; 9] = [
     0x41, 0xE9, 0x20AC, 0xD7FF, 0xD800, 0xDBFF, 0xDC00, 0xDFFF, 0xE000,
 ];
 
@@ -57,19 +57,43 @@ fn call(random: &mut Random) -> Call {
         _ => random.between(2, 18) as u8,
     };
     let kinds = CALLS[usize::from(opcode)].1;
-    let operands = kinds.iter().map(|kind| operand(random, *kind)).collect();
+    let mut operands: Vec<Operand> = kinds.iter().map(|kind| operand(random, *kind)).collect();
+    if CALLS[usize::from(opcode)].0 == "apply_all" {
+        operands[2] = Operand::Number(random.pick(&[0, UNBOUNDED]));
+    }
     Call { opcode, operands }
 }
 
-fn operand(random: &mut Random, kind: Kind) -> Operand {
+/// A building call of a list, with points of every class.
+pub fn build(random: &mut Random) -> Build {
+    match random.below(16) {
+        0..=3 => Build::Push(value(random)),
+        4 => Build::PushChar(value(random)),
+        5 => Build::PushStr(text(random, 20)),
+        6..=8 => Build::PushWtf8(random.below(4) as u8),
+        9..=10 => Build::Extend(random.between(0, 8) as u16),
+        11 => Build::Reserve(number(random)),
+        12..=13 => Build::TruncateUnits(number(random)),
+        _ => Build::Truncate(number(random)),
+    }
+}
+
+fn text(random: &mut Random, most: u32) -> String {
+    let count = length(random, most);
+    (0..count)
+        .filter_map(|_| char::from_u32(value(random)))
+        .collect()
+}
+
+pub fn operand(random: &mut Random, kind: Kind) -> Operand {
     match kind {
         Kind::Register => Operand::Register(random.below(4) as u8),
         Kind::Number => Operand::Number(number(random)),
         Kind::Value => Operand::Value(value(random)),
-        Kind::Text => {
-            let count = length(random, 60);
-            let chars = (0..count).filter_map(|_| char::from_u32(value(random)));
-            Operand::Text(chars.collect())
+        Kind::Text => Operand::Text(text(random, 60)),
+        Kind::Builds => {
+            let count = length(random, 12);
+            Operand::Builds((0..count).map(|_| build(random)).collect())
         }
         Kind::Units => {
             let count = length(random, 255);
@@ -83,7 +107,7 @@ fn operand(random: &mut Random, kind: Kind) -> Operand {
             let count = length(random, 12);
             Operand::Steps(
                 (0..count)
-                    .map(|_| random.pick(&[0, 0, 0, 1, 2, 3]))
+                    .map(|_| random.pick(&[0, 0, 0, 1, 2, 3, 4, 5, 6, 7]))
                     .collect(),
             )
         }
@@ -151,18 +175,22 @@ fn longer_by_one(list: &[u16]) -> Vec<Vec<u16>> {
 /// Every call on the string of a list of units, and the string made in every other way that there is, cut at every place.
 pub fn calls_on(units: &[u16]) -> Vec<Call> {
     let mut calls = vec![from_units(0, units)];
-    let steps: Vec<u8> = (0..=units.len()).flat_map(|_| [1, 2, 0, 3]).collect();
+    let steps: Vec<u8> = (0..=units.len())
+        .flat_map(|_| [1, 2, 5, 6, 7, 0, 3])
+        .collect();
     for name in ["boundaries", "as_str", "to_string_lossy", "hash", "debug"] {
         calls.push(Call::new(name, vec![Operand::Register(0)]));
     }
     for name in ["code_points", "to_ill_formed_utf16"] {
-        calls.push(Call::new(
-            name,
-            vec![Operand::Register(0), Operand::Steps(steps.clone())],
-        ));
+        for steps in [steps.clone(), vec![4, 1, 4, 1, 4], vec![0, 4, 1, 4, 4]] {
+            let operands = vec![Operand::Register(0), Operand::Steps(steps)];
+            calls.push(Call::new(name, operands));
+        }
     }
+    calls.push(Call::new("units by number", vec![Operand::Register(0)]));
     for cut in 0..=units.len() {
         calls.extend(cut_and_joined(units, cut));
+        calls.extend(cut_by_units(units.len(), cut));
     }
     // One beyond the longest string and one more, which the crate refuses as well.
     for position in 0..=3 * units.len() as u16 + 2 {
@@ -176,7 +204,7 @@ pub fn calls_on(units: &[u16]) -> Vec<Call> {
 }
 
 /// The units in two pieces, pushed, collected and extended, each compared with the whole in register 0.
-fn cut_and_joined(units: &[u16], cut: usize) -> Vec<Call> {
+pub fn cut_and_joined(units: &[u16], cut: usize) -> Vec<Call> {
     let (front, back) = units.split_at(cut);
     let points = |units: &[u16]| Operand::Points(units.iter().copied().map(u32::from).collect());
     let mut calls = vec![
@@ -207,12 +235,31 @@ fn cut_and_joined(units: &[u16], cut: usize) -> Vec<Call> {
     calls
 }
 
+/// A copy of the string in register 0 cut at a number of units, and the slices that begin there, up to one that is too long.
+pub fn cut_by_units(len: usize, cut: usize) -> Vec<Call> {
+    let count = Operand::Number(cut as u16);
+    let mut calls = vec![
+        registers("clone", 1, 0),
+        Call::new("truncate_units", vec![Operand::Register(1), count.clone()]),
+        Call::new("into_string", vec![Operand::Register(1)]),
+        registers("push_wtf8", 1, 0),
+        Call::new("as_str", vec![Operand::Register(1)]),
+    ];
+    for end in [cut, cut + 1, cut + 2, len, len + 1] {
+        let end = Operand::Number(end as u16);
+        let operands = vec![Operand::Register(0), count.clone(), end];
+        calls.push(Call::new("slice_units", operands));
+    }
+    calls
+}
+
 /// Each call that takes a position, at one.
 fn cut_at(position: u16) -> Vec<Call> {
     let place = Operand::Number(position);
     let mut calls = vec![
         registers("clone", 1, 0),
         Call::new("truncate", vec![Operand::Register(1), place.clone()]),
+        Call::new("into_string", vec![Operand::Register(1)]),
         Call::new("ascii_byte_at", vec![Operand::Register(0), place.clone()]),
     ];
     for name in ["slice_from", "slice_to", "from_iter code_points"] {
@@ -229,12 +276,12 @@ fn cut_at(position: u16) -> Vec<Call> {
     calls
 }
 
-fn from_units(register: u8, units: &[u16]) -> Call {
+pub fn from_units(register: u8, units: &[u16]) -> Call {
     let operands = vec![Operand::Register(register), Operand::Units(units.to_vec())];
     Call::new("from_ill_formed_utf16", operands)
 }
 
-fn registers(name: &str, first: u8, second: u8) -> Call {
+pub fn registers(name: &str, first: u8, second: u8) -> Call {
     Call::new(
         name,
         vec![Operand::Register(first), Operand::Register(second)],
@@ -262,6 +309,7 @@ pub fn point_calls(point: u32) -> Vec<Call> {
         Call::new("CodePoint", vec![value()]),
         Call::new("new", vec![register()]),
         Call::new("push", vec![register(), value()]),
+        Call::new("ascii_byte_at", vec![register(), Operand::Number(0)]),
         Call::new("push_char", vec![register(), value()]),
         Call::new("code_points", vec![register(), Operand::Steps(vec![])]),
         Call::new(

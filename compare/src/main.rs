@@ -6,11 +6,16 @@
 extern crate alloc;
 
 mod bench;
+mod building;
 mod column;
+mod console;
 mod differ;
 mod fed;
 mod generate;
 mod inputs;
+mod lists;
+mod long;
+mod model;
 mod original;
 mod ours;
 mod random;
@@ -20,6 +25,8 @@ mod shrink;
 
 use std::path::Path;
 use std::process::ExitCode;
+
+use console::fail;
 
 const USAGE: &str = "usage: compare differ [--seed S] [--cases N] [--every-point]
        compare record FOLDER [--seed S] [--cases N]
@@ -32,27 +39,36 @@ fn main() -> ExitCode {
     original::silence_answers();
     let words: Vec<String> = std::env::args().skip(1).collect();
     let words: Vec<&str> = words.iter().map(String::as_str).collect();
-    let seed = number_behind(&words, "--seed").unwrap_or(1);
-    let cases = number_behind(&words, "--cases");
-    let passed = match words.first() {
-        Some(&"differ") => differ::run(
-            seed,
-            cases.unwrap_or(100_000),
-            words.contains(&"--every-point"),
-        ),
-        Some(&"record") if words.len() > 1 => {
-            record::run(Path::new(words[1]), seed, cases.unwrap_or(300)).is_ok()
+    let passed = match words[..] {
+        ["differ", ref flags @ ..] => {
+            let flags = Flags::read(flags, true);
+            differ::run(
+                flags.seed,
+                flags.cases.unwrap_or(100_000),
+                flags.every_point,
+            )
         }
-        Some(&"bench") if words.len() > 1 => {
-            bench::run(words.get(2).unwrap_or(&""), Path::new(words[1]))
+        ["record", folder, ref flags @ ..] => {
+            let flags = Flags::read(flags, false);
+            match record::run(Path::new(folder), flags.seed, flags.cases.unwrap_or(300)) {
+                Ok(()) => true,
+                Err(error) => fail(&format!("{folder}: {error}")),
+            }
         }
-        Some(&"table") if words.len() > 1 => bench::table(&words[1..]),
-        Some(&"rows") => bench::rows(words.get(1).unwrap_or(&"")),
-        Some(&"loop") if words.len() == 4 => bench::run_loop(words[1], words[2], words[3]),
-        _ => {
-            eprintln!("{USAGE}");
+        ["bench", file] => bench::run("", Path::new(file)),
+        ["bench", file, filter] => bench::run(filter, Path::new(file)),
+        ["table", ref files @ ..] if !files.is_empty() => bench::table(files),
+        ["rows"] => bench::rows(""),
+        ["rows", filter] => bench::rows(filter),
+        ["loop", side, row, rounds] => bench::run_loop(side, row, rounds),
+        [] | ["help" | "--help" | "-h"] => {
+            say!("{USAGE}");
             return ExitCode::from(2);
         }
+        _ => fail(&format!(
+            "no such call: {} (compare help lists the calls)",
+            words.join(" ")
+        )),
     };
     match passed {
         true => ExitCode::SUCCESS,
@@ -60,8 +76,48 @@ fn main() -> ExitCode {
     }
 }
 
-/// The number that stands behind a word.
-fn number_behind(words: &[&str], word: &str) -> Option<u64> {
-    let at = words.iter().position(|known| *known == word)?;
-    words.get(at + 1)?.parse().ok()
+/// The words behind a call's own.
+struct Flags {
+    seed: u64,
+    cases: Option<u64>,
+    every_point: bool,
+}
+
+impl Flags {
+    /// Ends the program with one line at a word that it does not know, and at a number that is none.
+    fn read(mut words: &[&str], may_have_every_point: bool) -> Flags {
+        let mut flags = Flags {
+            seed: 1,
+            cases: None,
+            every_point: false,
+        };
+        while let [word, rest @ ..] = words {
+            words = match (*word, rest) {
+                ("--seed", [number, rest @ ..]) => {
+                    flags.seed = number_of(number);
+                    rest
+                }
+                ("--cases", [number, rest @ ..]) => {
+                    flags.cases = Some(number_of(number));
+                    rest
+                }
+                ("--every-point", rest) if may_have_every_point => {
+                    flags.every_point = true;
+                    rest
+                }
+                ("--seed" | "--cases", []) => fail(&format!("no number behind {word}")),
+                _ => fail(&format!(
+                    "unknown word {word} (compare help lists the calls)"
+                )),
+            };
+        }
+        flags
+    }
+}
+
+fn number_of(word: &str) -> u64 {
+    match word.parse() {
+        Ok(number) => number,
+        Err(error) => fail(&format!("{word} is no number: {error}")),
+    }
 }

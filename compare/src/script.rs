@@ -12,12 +12,13 @@ pub enum Kind {
     Units,
     Points,
     Steps,
+    Builds,
 }
 
-use Kind::{Number, Points, Register, Steps, Text, Units, Value};
+use Kind::{Builds, Number, Points, Register, Steps, Text, Units, Value};
 
 /// The calls by opcode, with the kinds of their operands.
-pub const CALLS: [(&str, &[Kind]); 33] = [
+pub const CALLS: [(&str, &[Kind]); 43] = [
     ("new", &[Register]),
     ("with_capacity", &[Register, Number]),
     ("from_string", &[Register, Text]),
@@ -51,7 +52,23 @@ pub const CALLS: [(&str, &[Kind]); 33] = [
     ("Wtf8::from_str", &[Text]),
     ("CodePoint", &[Value]),
     ("CodePoint comparisons", &[Value, Value]),
+    ("truncate_units", &[Register, Number]),
+    ("look at slice", &[Register, Number, Number]),
+    (
+        "compare slices",
+        &[Register, Number, Number, Register, Number, Number],
+    ),
+    ("push_wtf8 slice", &[Register, Register, Number, Number]),
+    ("extend hinted", &[Register, Number, Points]),
+    ("from_iter hinted", &[Register, Number, Points]),
+    ("apply", &[Register, Points, Builds]),
+    ("apply_all", &[Register, Number, Number, Points, Builds]),
+    ("units by number", &[Register]),
+    ("slice_units", &[Register, Number, Number]),
 ];
+
+/// The number of grants that stands for as many as are asked for.
+pub const UNBOUNDED: u16 = 0xFFFF;
 
 /// The opcode of a name in `CALLS`.
 pub fn opcode(name: &str) -> u8 {
@@ -68,6 +85,45 @@ pub enum Operand {
     Units(Vec<u16>),
     Points(Vec<u32>),
     Steps(Vec<u8>),
+    Builds(Vec<Build>),
+}
+
+/// A building call in a list.
+#[derive(Clone, Debug, PartialEq)]
+pub enum Build {
+    Push(u32),
+    PushChar(u32),
+    PushStr(String),
+    /// By the string of a register, as it was before the list.
+    PushWtf8(u8),
+    /// By so many of the points that the list comes with.
+    Extend(u16),
+    Reserve(u16),
+    Truncate(u16),
+    TruncateUnits(u16),
+}
+
+impl Build {
+    fn encode(&self, out: &mut Vec<u8>) {
+        match self {
+            Build::Push(value) => put(out, 0, &value.to_le_bytes()),
+            Build::PushChar(value) => put(out, 1, &value.to_le_bytes()),
+            Build::PushStr(text) => {
+                put(out, 2, &[text.len() as u8]);
+                out.extend(text.as_bytes());
+            }
+            Build::PushWtf8(register) => put(out, 3, &[*register]),
+            Build::Extend(count) => put(out, 4, &count.to_le_bytes()),
+            Build::Reserve(additional) => put(out, 5, &additional.to_le_bytes()),
+            Build::Truncate(position) => put(out, 6, &position.to_le_bytes()),
+            Build::TruncateUnits(count) => put(out, 7, &count.to_le_bytes()),
+        }
+    }
+}
+
+fn put(out: &mut Vec<u8>, kind: u8, operand: &[u8]) {
+    out.push(kind);
+    out.extend(operand);
 }
 
 #[derive(Clone, PartialEq)]
@@ -107,6 +163,10 @@ impl Call {
                     out.push(steps.len() as u8);
                     out.extend(steps);
                 }
+                Operand::Builds(builds) => {
+                    out.push(builds.len() as u8);
+                    builds.iter().for_each(|build| build.encode(out));
+                }
             }
         }
     }
@@ -132,11 +192,14 @@ impl fmt::Display for Call {
                 Operand::Units(units) => write!(f, " {units:04X?}")?,
                 Operand::Points(points) => write!(f, " {points:04X?}")?,
                 Operand::Steps(steps) => {
-                    let names = ["next", "hint", "fork", "swap"];
+                    let names = [
+                        "next", "hint", "fork", "swap", "nth", "last", "skip", "collect",
+                    ];
                     let words: Vec<&str> =
                         steps.iter().map(|step| names[usize::from(*step)]).collect();
                     write!(f, " [{}]", words.join(" "))?;
                 }
+                Operand::Builds(builds) => write!(f, " {builds:02X?}")?,
             }
         }
         Ok(())

@@ -1,15 +1,63 @@
 //! The smallest script that still shows something.
 
-use crate::script::{Call, Operand};
+use std::time::{Duration, Instant};
+
+use crate::script::{Build, Call, Operand};
+
+/// How long a smaller script is looked for.
+const PATIENCE: Duration = Duration::from_secs(7);
 
 /// A script that shows what `shows` tests for, from which nothing can be left out and in which no number can be made
-/// simpler.
+/// simpler, or the smallest that was found in a few seconds.
 pub fn smallest(script: &[Call], shows: &dyn Fn(&[Call]) -> bool) -> Vec<Call> {
-    let mut best = script.to_vec();
-    while let Some(smaller) = candidates(&best).into_iter().find(|script| shows(script)) {
-        best = smaller;
+    let end = Instant::now() + PATIENCE;
+    let mut best = without_blocks(without_end(script, shows), shows, end);
+    while Instant::now() < end {
+        let found = candidates(&best)
+            .into_iter()
+            .take_while(|_| Instant::now() < end)
+            .find(|script| shows(script));
+        match found {
+            Some(smaller) => best = without_blocks(smaller, shows, end),
+            None => break,
+        }
     }
     best
+}
+
+/// The script up to the call that shows it: longer ones do too.
+fn without_end(script: &[Call], shows: &dyn Fn(&[Call]) -> bool) -> Vec<Call> {
+    let (mut too_short, mut long_enough) = (0, script.len());
+    while too_short + 1 < long_enough {
+        let middle = (too_short + long_enough) / 2;
+        match shows(&script[..middle]) {
+            true => long_enough = middle,
+            false => too_short = middle,
+        }
+    }
+    script[..long_enough].to_vec()
+}
+
+/// The script without each block of calls that it does not need, blocks of half of it first and then ever shorter ones.
+fn without_blocks(
+    mut script: Vec<Call>,
+    shows: &dyn Fn(&[Call]) -> bool,
+    end: Instant,
+) -> Vec<Call> {
+    let mut block = script.len() / 2;
+    while block > 0 {
+        let mut from = 0;
+        while from < script.len() && Instant::now() < end {
+            let behind = script.len().min(from + block);
+            let fewer = [&script[..from], &script[behind..]].concat();
+            match shows(&fewer) {
+                true => script = fewer,
+                false => from = behind,
+            }
+        }
+        block /= 2;
+    }
+    script
 }
 
 /// The scripts that are one step smaller: first those with a call less.
@@ -72,10 +120,21 @@ fn simpler_operands(operand: &Operand) -> Vec<Operand> {
             .into_iter()
             .map(Operand::Steps)
             .collect(),
+        Operand::Builds(builds) => simpler_lists(builds, simpler_builds)
+            .into_iter()
+            .map(Operand::Builds)
+            .collect(),
     }
 }
 
-fn simpler_lists<T: Copy>(list: &[T], simpler_items: impl Fn(T) -> Vec<T>) -> Vec<Vec<T>> {
+fn simpler_builds(build: Build) -> Vec<Build> {
+    match build {
+        Build::Push(value) => simpler_values(value).into_iter().map(Build::Push).collect(),
+        _ => Vec::new(),
+    }
+}
+
+fn simpler_lists<T: Clone>(list: &[T], simpler_items: impl Fn(T) -> Vec<T>) -> Vec<Vec<T>> {
     let mut found = Vec::new();
     if list.len() > 3 {
         found.push(list[..list.len() / 2].to_vec());
@@ -87,7 +146,7 @@ fn simpler_lists<T: Copy>(list: &[T], simpler_items: impl Fn(T) -> Vec<T>) -> Ve
         found.push(fewer);
     }
     for at in 0..list.len() {
-        for simpler in simpler_items(list[at]) {
+        for simpler in simpler_items(list[at].clone()) {
             let mut changed = list.to_vec();
             changed[at] = simpler;
             found.push(changed);

@@ -6,18 +6,53 @@ use std::fmt::Write;
 use wtf8::{CodePoint, Wtf8Buf};
 
 impl Machine {
-    /// `new`: writes the new empty string.
-    pub fn make_new(
+    /// The calls that make strings.
+    pub fn make(
         &mut self,
+        opcode: u8,
         reader: &mut Reader<'_>,
         transcript: &mut String,
     ) -> Result<(), Stop> {
+        match opcode {
+            0 => self.make_new(reader, transcript),
+            1 => self.make_with_capacity(reader, transcript),
+            2 => self.make_from_string(reader, transcript),
+            3 => self.make_from_text(reader, transcript),
+            4 => self.make_from_units(reader, transcript),
+            5 => self.collect(reader, transcript),
+            6 => self.collect_from(reader, transcript),
+            7 => self.clone_from(reader, transcript),
+            8 => self.reserve(reader, transcript),
+            _ => Err(Stop::Malformed),
+        }
+    }
+
+    /// The calls that append to strings.
+    pub fn append(
+        &mut self,
+        opcode: u8,
+        reader: &mut Reader<'_>,
+        transcript: &mut String,
+    ) -> Result<(), Stop> {
+        match opcode {
+            9 => self.push(reader, transcript),
+            10 => self.push_char(reader, transcript),
+            11 => self.push_text(reader, transcript),
+            12 => self.push_string(reader, transcript),
+            13 => self.extend(reader, transcript),
+            14 => self.extend_from(reader, transcript),
+            _ => Err(Stop::Malformed),
+        }
+    }
+
+    /// `new`: writes the new empty string.
+    fn make_new(&mut self, reader: &mut Reader<'_>, transcript: &mut String) -> Result<(), Stop> {
         let register = reader.register()?;
         self.put(register, transcript, Wtf8Buf::new(self.alloc))
     }
 
     /// `with_capacity`: writes whether the capacity is at least what was asked, and the new string.
-    pub fn make_with_capacity(
+    fn make_with_capacity(
         &mut self,
         reader: &mut Reader<'_>,
         transcript: &mut String,
@@ -31,7 +66,7 @@ impl Machine {
     }
 
     /// `from_string`: writes the string of the text.
-    pub fn make_from_string(
+    fn make_from_string(
         &mut self,
         reader: &mut Reader<'_>,
         transcript: &mut String,
@@ -42,7 +77,7 @@ impl Machine {
     }
 
     /// `from_str`: writes the string of the text.
-    pub fn make_from_text(
+    fn make_from_text(
         &mut self,
         reader: &mut Reader<'_>,
         transcript: &mut String,
@@ -53,7 +88,7 @@ impl Machine {
     }
 
     /// `from_ill_formed_utf16`: writes the string of the units.
-    pub fn make_from_units(
+    fn make_from_units(
         &mut self,
         reader: &mut Reader<'_>,
         transcript: &mut String,
@@ -65,11 +100,7 @@ impl Machine {
     }
 
     /// `from_iter` of the points: writes their string.
-    pub fn collect(
-        &mut self,
-        reader: &mut Reader<'_>,
-        transcript: &mut String,
-    ) -> Result<(), Stop> {
+    fn collect(&mut self, reader: &mut Reader<'_>, transcript: &mut String) -> Result<(), Stop> {
         let register = reader.register()?;
         let points = reader.points(self.alloc)?;
         self.put(
@@ -80,7 +111,7 @@ impl Machine {
     }
 
     /// `from_iter` of the code points of another string behind so many: writes their string.
-    pub fn collect_from(
+    fn collect_from(
         &mut self,
         reader: &mut Reader<'_>,
         transcript: &mut String,
@@ -96,11 +127,7 @@ impl Machine {
     }
 
     /// `clone` of another string: writes the copy.
-    pub fn clone_from(
-        &mut self,
-        reader: &mut Reader<'_>,
-        transcript: &mut String,
-    ) -> Result<(), Stop> {
+    fn clone_from(&mut self, reader: &mut Reader<'_>, transcript: &mut String) -> Result<(), Stop> {
         let register = reader.register()?;
         let other = reader.register()?;
         let string = self.strings[other.index].clone()?;
@@ -108,11 +135,7 @@ impl Machine {
     }
 
     /// `reserve`: writes whether the spare room is at least what was asked, and the string.
-    pub fn reserve(
-        &mut self,
-        reader: &mut Reader<'_>,
-        transcript: &mut String,
-    ) -> Result<(), Stop> {
+    fn reserve(&mut self, reader: &mut Reader<'_>, transcript: &mut String) -> Result<(), Stop> {
         let register = reader.register()?;
         let additional = reader.number()?;
         let string = &mut self.strings[register.index];
@@ -123,7 +146,7 @@ impl Machine {
     }
 
     /// `push`: writes the string afterwards, or that the value is no code point.
-    pub fn push(&mut self, reader: &mut Reader<'_>, transcript: &mut String) -> Result<(), Stop> {
+    fn push(&mut self, reader: &mut Reader<'_>, transcript: &mut String) -> Result<(), Stop> {
         let register = reader.register()?;
         let Some(point) = CodePoint::from_u32(reader.value()?) else {
             return machine::write_line(transcript, "no code point");
@@ -133,11 +156,7 @@ impl Machine {
     }
 
     /// `push_char`: writes the string afterwards, or that the value is no character.
-    pub fn push_char(
-        &mut self,
-        reader: &mut Reader<'_>,
-        transcript: &mut String,
-    ) -> Result<(), Stop> {
+    fn push_char(&mut self, reader: &mut Reader<'_>, transcript: &mut String) -> Result<(), Stop> {
         let register = reader.register()?;
         let Some(c) = char::from_u32(reader.value()?) else {
             return machine::write_line(transcript, "no character");
@@ -147,18 +166,14 @@ impl Machine {
     }
 
     /// `push_str`: writes the string afterwards.
-    pub fn push_text(
-        &mut self,
-        reader: &mut Reader<'_>,
-        transcript: &mut String,
-    ) -> Result<(), Stop> {
+    fn push_text(&mut self, reader: &mut Reader<'_>, transcript: &mut String) -> Result<(), Stop> {
         let register = reader.register()?;
         self.strings[register.index].push_str(reader.text()?)?;
         self.show(register, transcript)
     }
 
     /// `push_wtf8` of another string: writes the string afterwards.
-    pub fn push_string(
+    fn push_string(
         &mut self,
         reader: &mut Reader<'_>,
         transcript: &mut String,
@@ -171,7 +186,7 @@ impl Machine {
     }
 
     /// `extend` by the points: writes the string afterwards.
-    pub fn extend(&mut self, reader: &mut Reader<'_>, transcript: &mut String) -> Result<(), Stop> {
+    fn extend(&mut self, reader: &mut Reader<'_>, transcript: &mut String) -> Result<(), Stop> {
         let register = reader.register()?;
         let points = reader.points(self.alloc)?;
         self.strings[register.index].extend(points)?;
@@ -179,7 +194,7 @@ impl Machine {
     }
 
     /// `extend` by the code points of another string behind so many: writes the string afterwards.
-    pub fn extend_from(
+    fn extend_from(
         &mut self,
         reader: &mut Reader<'_>,
         transcript: &mut String,

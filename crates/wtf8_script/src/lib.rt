@@ -4,15 +4,18 @@
 //! start. `compare/README.md` has the table. A transcript has lines of text, at least one for each call.
 #![tactic(auto)]
 
+mod applying;
 mod building;
-mod call;
+mod hinted;
 mod looking;
 mod machine;
 mod points;
 mod reader;
 mod recorder;
+mod slicing;
 mod stop;
 mod turning;
+mod unit_positions;
 mod walking;
 
 pub use machine::run_script;

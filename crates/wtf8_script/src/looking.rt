@@ -3,19 +3,39 @@ use crate::machine::{self, Machine};
 use crate::reader::Reader;
 use crate::recorder;
 use crate::stop::Stop;
-use std::alloc::AllocError;
+use std::alloc::{AllocError, Global};
 use std::borrow::CowStr;
 use std::cmp::Ordering;
 use std::fmt::Write;
 use wtf8::Wtf8;
 
 impl Machine {
-    /// `ascii_byte_at`: writes the byte, or that the position is refused.
-    pub fn ascii_byte_at(
+    /// The calls that look at strings and at code points.
+    pub fn look(
         &self,
+        opcode: u8,
         reader: &mut Reader<'_>,
         transcript: &mut String,
     ) -> Result<(), Stop> {
+        match opcode {
+            21 => self.ascii_byte_at(reader, transcript),
+            22 => self.boundaries(reader, transcript),
+            23 => self.code_points(reader, transcript),
+            24 => self.units(reader, transcript),
+            25 => self.as_text(reader, transcript),
+            26 => self.lossy_text(reader, transcript),
+            27 => self.compare(reader, transcript),
+            28 => self.hash(reader, transcript),
+            29 => self.debug(reader, transcript),
+            30 => self.view_of_text(reader, transcript),
+            31 => self.point(reader, transcript),
+            32 => self.compare_points(reader, transcript),
+            _ => Err(Stop::Malformed),
+        }
+    }
+
+    /// `ascii_byte_at`: writes the byte, or that the position is refused.
+    fn ascii_byte_at(&self, reader: &mut Reader<'_>, transcript: &mut String) -> Result<(), Stop> {
         let register = reader.register()?;
         let position = reader.number()?;
         let view = self.view(register);
@@ -28,42 +48,25 @@ impl Machine {
     }
 
     /// `is_code_point_boundary` of each index up to the length: writes those that are boundaries.
-    pub fn boundaries(&self, reader: &mut Reader<'_>, transcript: &mut String) -> Result<(), Stop> {
+    fn boundaries(&self, reader: &mut Reader<'_>, transcript: &mut String) -> Result<(), Stop> {
         let register = reader.register()?;
-        let view = self.view(register);
-        write!(transcript, "boundaries")?;
-        for index in 0..=view.len() {
-            if view.is_code_point_boundary(index) {
-                write!(transcript, " {index}")?;
-            }
-        }
-        machine::write_line(transcript, "")
+        write_boundaries(transcript, self.view(register))
     }
 
     /// `as_str`: writes the bytes of the text, or that there is none.
-    pub fn as_text(&self, reader: &mut Reader<'_>, transcript: &mut String) -> Result<(), Stop> {
+    fn as_text(&self, reader: &mut Reader<'_>, transcript: &mut String) -> Result<(), Stop> {
         let register = reader.register()?;
-        match self.view(register).as_str() {
-            Some(text) => { machine::write_text(self.alloc, transcript, "text", text) }
-            None => machine::write_line(transcript, "no text"),
-        }
+        write_as_text(self.alloc, transcript, self.view(register))
     }
 
     /// `to_string_lossy`: writes whether the text is borrowed or owned, and its bytes.
-    pub fn lossy_text(&self, reader: &mut Reader<'_>, transcript: &mut String) -> Result<(), Stop> {
+    fn lossy_text(&self, reader: &mut Reader<'_>, transcript: &mut String) -> Result<(), Stop> {
         let register = reader.register()?;
-        let text = self.strings[register.index]
-            .as_wtf8()
-            .to_string_lossy(self.alloc)?;
-        let word = match &text {
-            CowStr::Borrowed(_) => "borrowed",
-            CowStr::Owned(_) => "owned",
-        };
-        machine::write_text(self.alloc, transcript, word, text.as_str())
+        write_lossy_text(self.alloc, transcript, self.view(register))
     }
 
     /// The comparisons with another string: writes what each answers, of the buffers and of their views.
-    pub fn compare(&self, reader: &mut Reader<'_>, transcript: &mut String) -> Result<(), Stop> {
+    fn compare(&self, reader: &mut Reader<'_>, transcript: &mut String) -> Result<(), Stop> {
         let register = reader.register()?;
         let other = reader.register()?;
         let own = self.string(register);
@@ -74,7 +77,7 @@ impl Machine {
     }
 
     /// The hash: writes the bytes that the buffer and its view feed a hasher.
-    pub fn hash(&self, reader: &mut Reader<'_>, transcript: &mut String) -> Result<(), Stop> {
+    fn hash(&self, reader: &mut Reader<'_>, transcript: &mut String) -> Result<(), Stop> {
         let register = reader.register()?;
         let string = self.string(register);
         recorder::write_hash_input(transcript, string)?;
@@ -83,30 +86,67 @@ impl Machine {
     }
 
     /// The debug texts: writes the bytes of those of the buffer, of its view, and of the view under a width and flags.
-    pub fn debug(&self, reader: &mut Reader<'_>, transcript: &mut String) -> Result<(), Stop> {
+    fn debug(&self, reader: &mut Reader<'_>, transcript: &mut String) -> Result<(), Stop> {
         let register = reader.register()?;
         let string = self.string(register);
-        let view = string.as_wtf8();
-        let buffer_text = format!(in self.alloc; "{string:?}")?;
-        let view_text = format!(in self.alloc; "{view:?}")?;
-        let wide_text = format!(in self.alloc; "{view:#12?}")?;
-        machine::write_text(self.alloc, transcript, "buffer", buffer_text.as_str())?;
-        machine::write_text(self.alloc, transcript, "view", view_text.as_str())?;
-        machine::write_text(self.alloc, transcript, "wide", wide_text.as_str())
+        let text = format!(in self.alloc; "{string:?}")?;
+        machine::write_text(self.alloc, transcript, "buffer", text.as_str())?;
+        write_debug_texts(self.alloc, transcript, string.as_wtf8())
     }
 
     /// `Wtf8::from_str`: writes the length and the bytes of the view.
-    pub fn view_of_text(
-        &self,
-        reader: &mut Reader<'_>,
-        transcript: &mut String,
-    ) -> Result<(), Stop> {
+    fn view_of_text(&self, reader: &mut Reader<'_>, transcript: &mut String) -> Result<(), Stop> {
         let view = Wtf8::from_str(reader.text()?);
         let len = view.len();
         let dump = view.hex_dump(self.alloc)?;
         writeln!(transcript, "view {len}: {dump}")?;
         Ok(())
     }
+}
+
+/// Writes at which indexes of a view, up to its length, a slice may begin.
+pub fn write_boundaries(transcript: &mut String, view: Wtf8<'_>) -> Result<(), Stop> {
+    write!(transcript, "boundaries")?;
+    for index in 0..=view.len() {
+        if view.is_code_point_boundary(index) {
+            write!(transcript, " {index}")?;
+        }
+    }
+    machine::write_line(transcript, "")
+}
+
+/// Writes the bytes of a view's text, or that there is none.
+pub fn write_as_text(alloc: Global, transcript: &mut String, view: Wtf8<'_>) -> Result<(), Stop> {
+    match view.as_str() {
+        Some(text) => machine::write_text(alloc, transcript, "text", text),
+        None => machine::write_line(transcript, "no text"),
+    }
+}
+
+/// Writes whether a view's text with its surrogates replaced is borrowed or owned, and its bytes.
+pub fn write_lossy_text(
+    alloc: Global,
+    transcript: &mut String,
+    view: Wtf8<'_>,
+) -> Result<(), Stop> {
+    let text = view.to_string_lossy(alloc)?;
+    let word = match &text {
+        CowStr::Borrowed(_) => "borrowed",
+        CowStr::Owned(_) => "owned",
+    };
+    machine::write_text(alloc, transcript, word, text.as_str())
+}
+
+/// Writes the bytes of a view's debug text, as it is and under a width and flags.
+pub fn write_debug_texts(
+    alloc: Global,
+    transcript: &mut String,
+    view: Wtf8<'_>,
+) -> Result<(), Stop> {
+    let text = format!(in alloc; "{view:?}")?;
+    let wide_text = format!(in alloc; "{view:#12?}")?;
+    machine::write_text(alloc, transcript, "view", text.as_str())?;
+    machine::write_text(alloc, transcript, "wide", wide_text.as_str())
 }
 
 /// Writes what each comparison of two values answers.

@@ -3,7 +3,6 @@ ghost use Rattle.std.specs.Prelude.{◌≡◌, [], ◌∷◌, ◌++◌, OnOk};
 ghost use Rattle.std.specs.String.{string_bytes};
 ghost use Rattle.wtf8.specs.Hex.{hex};
 
-use crate::call::Call;
 use crate::reader::{Reader, Register, STRINGS};
 use crate::stop::Stop;
 use std::alloc::Global;
@@ -17,10 +16,10 @@ pub fn run_script(alloc: Global, script: &[u8]) -> Result<String, Stop> {
     let mut reader = Reader::new(script);
     let mut transcript = String::new(alloc);
     for _ in 0..script.len() {
-        let Some(call) = reader.call()? else {
+        let Some(opcode) = reader.opcode() else {
             break;
         };
-        machine.run(call, &mut reader, &mut transcript)?;
+        machine.run(opcode, &mut reader, &mut transcript)?;
     }
     Ok(transcript)
 }
@@ -47,47 +46,41 @@ impl Machine {
         }
     }
 
-    /// Does a call, whose operands come next in the script, and writes what it answers.
+    /// Does the call of an opcode, whose operands come next in the script, and writes what it answers.
     fn run(
         &mut self,
-        call: Call,
+        opcode: u8,
         reader: &mut Reader<'_>,
         transcript: &mut String,
     ) -> Result<(), Stop> {
-        match call {
-            Call::New => self.make_new(reader, transcript),
-            Call::WithCapacity => self.make_with_capacity(reader, transcript),
-            Call::FromString => self.make_from_string(reader, transcript),
-            Call::FromText => self.make_from_text(reader, transcript),
-            Call::FromUnits => self.make_from_units(reader, transcript),
-            Call::Collect => self.collect(reader, transcript),
-            Call::CollectFrom => self.collect_from(reader, transcript),
-            Call::CloneFrom => self.clone_from(reader, transcript),
-            Call::Reserve => self.reserve(reader, transcript),
-            Call::Push => self.push(reader, transcript),
-            Call::PushChar => self.push_char(reader, transcript),
-            Call::PushText => self.push_text(reader, transcript),
-            Call::PushString => self.push_string(reader, transcript),
-            Call::Extend => self.extend(reader, transcript),
-            Call::ExtendFrom => self.extend_from(reader, transcript),
-            Call::Truncate => self.truncate(reader, transcript),
-            Call::Slice => self.slice(reader, transcript),
-            Call::SliceFrom => self.slice_from(reader, transcript),
-            Call::SliceTo => self.slice_to(reader, transcript),
-            Call::IntoString => self.turn_into_string(reader, transcript),
-            Call::IntoStringLossy => self.turn_into_string_lossy(reader, transcript),
-            Call::AsciiByteAt => self.ascii_byte_at(reader, transcript),
-            Call::Boundaries => self.boundaries(reader, transcript),
-            Call::CodePoints => self.code_points(reader, transcript),
-            Call::Units => self.units(reader, transcript),
-            Call::AsText => self.as_text(reader, transcript),
-            Call::ToStringLossy => self.lossy_text(reader, transcript),
-            Call::Compare => self.compare(reader, transcript),
-            Call::Hash => self.hash(reader, transcript),
-            Call::Debug => self.debug(reader, transcript),
-            Call::ViewOfText => self.view_of_text(reader, transcript),
-            Call::Point => self.point(reader, transcript),
-            Call::ComparePoints => self.compare_points(reader, transcript),
+        match opcode {
+            0..=8 => self.make(opcode, reader, transcript),
+            9..=14 => self.append(opcode, reader, transcript),
+            15..=20 => self.cut_or_turn(opcode, reader, transcript),
+            21..=32 => self.look(opcode, reader, transcript),
+            _ => self.run_together(opcode, reader, transcript),
+        }
+    }
+
+    /// The calls on slices inside a string, lists of building calls, and positions in units.
+    fn run_together(
+        &mut self,
+        opcode: u8,
+        reader: &mut Reader<'_>,
+        transcript: &mut String,
+    ) -> Result<(), Stop> {
+        match opcode {
+            33 => self.truncate_units(reader, transcript),
+            34 => self.look_at_slice(reader, transcript),
+            35 => self.compare_slices(reader, transcript),
+            36 => self.push_slice(reader, transcript),
+            37 => self.extend_hinted(reader, transcript),
+            38 => self.collect_hinted(reader, transcript),
+            39 => self.apply_each(reader, transcript),
+            40 => self.apply_all(reader, transcript),
+            41 => self.units_by_number(reader, transcript),
+            42 => self.slice_units(reader, transcript),
+            _ => Err(Stop::Malformed),
         }
     }
 

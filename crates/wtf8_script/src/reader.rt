@@ -2,7 +2,6 @@
 ghost use Rattle.std.specs.Prelude.{◌<◌};
 ghost use Rattle.wtf8_script.specs.declared.reader.TheConstants.{STRINGS};
 
-use crate::call::Call;
 use crate::stop::Stop;
 use std::alloc::{AllocError, Global};
 use std::marker::Model;
@@ -39,7 +38,6 @@ impl<'a> Reader<'a> {
     ghost use Rattle.std.specs.Prelude.{◌≡◌, ◌≤◌, ◌<◌, ◌⊎◌, List, ℕ, [], ◌∷◌, ◌++◌, length, map, slice_index, IfSome, IfNone, IfOk, IfErr};
     ghost use Rattle.std.specs.Int.{w16, w32, to_le_bytes};
     ghost use Rattle.wtf8.specs.CodePoint.{number as number_of};
-    ghost use Rattle.wtf8_script.specs.Opcode.{opcode};
     ghost use Rattle.wtf8_script.specs.Operand.{units_bytes, values_bytes, code_points};
 
     /// The whole script.
@@ -50,18 +48,11 @@ impl<'a> Reader<'a> {
     }
 
     /// The next call's opcode, or `None` at the end of the script.
-    pub fn call(&mut self) -> Result<Option<Call>, Stop>
-        ensures some { IfOk result (λ next. IfSome next (λ call. self.old ≡ opcode call ∷ self.new)) }
-        ensures none { IfOk result (λ next. IfNone next (self.old ≡ [])) }
-        ensures err { IfErr result (λ stop. (stop ≡ Stop.Malformed) × (33 ≤ slice_index self.old 0)) }
+    pub fn opcode(&mut self) -> Option<u8>
+        ensures some { IfSome result (λ opcode. self.old ≡ opcode ∷ self.new) }
+        ensures none { IfNone result (self.old ≡ []) }
     {
-        if self.rest.is_empty() {
-            return Ok(None);
-        }
-        match Call::from_byte(self.byte()?) {
-            Some(call) => Ok(Some(call)),
-            None => Err(Stop::Malformed),
-        }
+        self.byte().ok()
     }
 
     /// A byte that names one of the strings.
@@ -146,7 +137,8 @@ impl<'a> Reader<'a> {
         Ok(points)
     }
 
-    fn byte(&mut self) -> Result<u8, Stop>
+    /// A byte: a kind or how many follow.
+    pub fn byte(&mut self) -> Result<u8, Stop>
         ensures ok { IfOk result (λ byte. self.old ≡ byte ∷ self.new) }
         ensures err { IfErr result (λ stop. (stop ≡ Stop.Malformed) × (self.old ≡ [])) }
     {

@@ -3,51 +3,59 @@ use crate::machine::{self, Machine};
 use crate::reader::{Reader, Register};
 use crate::stop::Stop;
 use std::alloc::{AllocError, Global};
+use std::fmt::Write;
 use std::mem;
 use wtf8::{Wtf8, Wtf8Buf};
 
-const REFUSED: &str = "refused";
+/// The line of a position that is refused.
+pub const REFUSED: &str = "refused";
 
 impl Machine {
-    /// `truncate`: writes the string afterwards, or that the position is refused.
-    pub fn truncate(
+    /// The calls that cut strings, and those that turn them into texts.
+    pub fn cut_or_turn(
         &mut self,
+        opcode: u8,
         reader: &mut Reader<'_>,
         transcript: &mut String,
     ) -> Result<(), Stop> {
+        match opcode {
+            15 => self.truncate(reader, transcript),
+            16 => self.slice(reader, transcript),
+            17 => self.slice_from(reader, transcript),
+            18 => self.slice_to(reader, transcript),
+            19 => self.turn_into_string(reader, transcript),
+            20 => self.turn_into_string_lossy(reader, transcript),
+            _ => Err(Stop::Malformed),
+        }
+    }
+
+    /// `truncate`: writes whether the capacity is as before and the string afterwards, or that the position is refused.
+    fn truncate(&mut self, reader: &mut Reader<'_>, transcript: &mut String) -> Result<(), Stop> {
         let register = reader.register()?;
         let position = reader.number()?;
         let string = &mut self.strings[register.index];
         if !string.as_wtf8().is_code_point_boundary(position) {
             return machine::write_line(transcript, REFUSED);
         }
+        let capacity = string.capacity();
         string.truncate(position);
+        let is_kept = string.capacity() == capacity;
+        writeln!(transcript, "room kept {is_kept}")?;
         self.show(register, transcript)
     }
 
     /// `slice` of another string: writes a copy of the slice, or that the range is refused.
-    pub fn slice(&mut self, reader: &mut Reader<'_>, transcript: &mut String) -> Result<(), Stop> {
+    fn slice(&mut self, reader: &mut Reader<'_>, transcript: &mut String) -> Result<(), Stop> {
         let register = reader.register()?;
-        let other = reader.register()?;
-        let begin = reader.number()?;
-        let end = reader.number()?;
-        let whole = self.view(other);
-        let is_slice = begin <= end
-            && whole.is_code_point_boundary(begin)
-            && whole.is_code_point_boundary(end);
-        if !is_slice {
+        let Some(part) = self.read_slice(reader)? else {
             return machine::write_line(transcript, REFUSED);
-        }
-        let part = copy_of(self.alloc, whole.slice(begin, end))?;
-        self.put(register, transcript, part)
+        };
+        let string = copy_of(self.alloc, part)?;
+        self.put(register, transcript, string)
     }
 
     /// `slice_from` of another string: writes a copy of the slice, or that the position is refused.
-    pub fn slice_from(
-        &mut self,
-        reader: &mut Reader<'_>,
-        transcript: &mut String,
-    ) -> Result<(), Stop> {
+    fn slice_from(&mut self, reader: &mut Reader<'_>, transcript: &mut String) -> Result<(), Stop> {
         let register = reader.register()?;
         let other = reader.register()?;
         let begin = reader.number()?;
@@ -60,11 +68,7 @@ impl Machine {
     }
 
     /// `slice_to` of another string: writes a copy of the slice, or that the position is refused.
-    pub fn slice_to(
-        &mut self,
-        reader: &mut Reader<'_>,
-        transcript: &mut String,
-    ) -> Result<(), Stop> {
+    fn slice_to(&mut self, reader: &mut Reader<'_>, transcript: &mut String) -> Result<(), Stop> {
         let register = reader.register()?;
         let other = reader.register()?;
         let end = reader.number()?;
@@ -76,17 +80,21 @@ impl Machine {
         self.put(register, transcript, part)
     }
 
-    /// `into_string`: writes the bytes of the text, or that there is none, and the string made of what came back.
-    pub fn turn_into_string(
+    /// `into_string`: writes the bytes of the text and whether the capacity is as before, or that there is no text, and the
+    /// string made of what came back.
+    fn turn_into_string(
         &mut self,
         reader: &mut Reader<'_>,
         transcript: &mut String,
     ) -> Result<(), Stop> {
         let register = reader.register()?;
         let string = self.take(register);
+        let capacity = string.capacity();
         match string.into_string() {
             Ok(text) => {
                 machine::write_text(self.alloc, transcript, "text", text.as_str())?;
+                let is_kept = text.capacity() == capacity;
+                writeln!(transcript, "room kept {is_kept}")?;
                 self.put(register, transcript, Wtf8Buf::from_string(text))
             }
             Err(string) => {
@@ -96,15 +104,19 @@ impl Machine {
         }
     }
 
-    /// `into_string_lossy`: writes the bytes of the text, and the string made of it.
-    pub fn turn_into_string_lossy(
+    /// `into_string_lossy`: writes the bytes of the text and whether the capacity is as before, and the string made of it.
+    fn turn_into_string_lossy(
         &mut self,
         reader: &mut Reader<'_>,
         transcript: &mut String,
     ) -> Result<(), Stop> {
         let register = reader.register()?;
-        let text = self.take(register).into_string_lossy();
+        let string = self.take(register);
+        let capacity = string.capacity();
+        let text = string.into_string_lossy();
         machine::write_text(self.alloc, transcript, "text", text.as_str())?;
+        let is_kept = text.capacity() == capacity;
+        writeln!(transcript, "room kept {is_kept}")?;
         self.put(register, transcript, Wtf8Buf::from_string(text))
     }
 

@@ -1,0 +1,105 @@
+//! Lists of building calls, and of false hints.
+
+use crate::generate::from_units;
+use crate::script::{Build, Call, Operand, UNBOUNDED};
+
+/// Lower hints, false and true.
+const HINTS: [u16; 6] = [0, 1, 2, 5, 7, 1000];
+
+fn alphabet() -> Vec<Build> {
+    vec![
+        Build::Push(0x61),
+        Build::Push(0xDCA9),
+        Build::Push(0xD83D),
+        Build::PushChar(0xE9),
+        Build::PushStr("a\u{1F4A9}".to_owned()),
+        Build::PushWtf8(1),
+        Build::PushWtf8(2),
+        Build::Extend(2),
+        Build::Reserve(5),
+        Build::Truncate(0),
+        Build::Truncate(1),
+        Build::Truncate(3),
+        Build::Truncate(4),
+        Build::TruncateUnits(1),
+        Build::TruncateUnits(3),
+    ]
+}
+
+/// All lists of up to three calls, one by one, as a list, and as one without memory but the spare room.
+pub fn lists_of_calls() -> Vec<Vec<Call>> {
+    let alphabet = alphabet();
+    let mut lists: Vec<Vec<Build>> = vec![Vec::new()];
+    let mut last = lists.clone();
+    for _ in 0..3 {
+        last = last
+            .iter()
+            .flat_map(|list| {
+                let longer = |build: &Build| [&list[..], &[build.clone()]].concat();
+                alphabet.iter().map(longer).collect::<Vec<_>>()
+            })
+            .collect();
+        lists.extend(last.iter().cloned());
+    }
+    lists.iter().map(|list| calls_of(list)).collect()
+}
+
+/// A few of these, for a list that is short.
+pub fn chosen() -> Vec<Vec<Call>> {
+    let mut scripts: Vec<Vec<Call>> = lists_of_calls().into_iter().step_by(61).collect();
+    scripts.extend(false_hints().into_iter().skip(3).step_by(8));
+    scripts
+}
+
+fn calls_of(list: &[Build]) -> Vec<Call> {
+    let mut calls = vec![
+        from_units(1, &[0xDCA9, 0x61]),
+        from_units(2, &[0x20AC, 0xD83D]),
+    ];
+    let points = Operand::Points(vec![0xDC00, 0xD800]);
+    let builds = Operand::Builds(list.to_vec());
+    for start in [&[0xD83D][..], &[0x61, 0xE9]] {
+        calls.push(from_units(0, start));
+        let operands = vec![Operand::Register(0), points.clone(), builds.clone()];
+        calls.push(Call::new("apply", operands));
+        for (spare, grants) in [(0, UNBOUNDED), (0, 0), (1, 0), (2, 0), (3, 0), (6, 0)] {
+            calls.push(from_units(0, start));
+            calls.push(Call::new(
+                "apply_all",
+                vec![
+                    Operand::Register(0),
+                    Operand::Number(spare),
+                    Operand::Number(grants),
+                    points.clone(),
+                    builds.clone(),
+                ],
+            ));
+        }
+    }
+    calls
+}
+
+/// Points under lower hints that are false, on strings that end with a lead and that do not.
+pub fn false_hints() -> Vec<Vec<Call>> {
+    let all = [0x61, 0xD83D, 0xDCA9, 0xDC00, 0x10000, 0xE9, 0x20AC, 0xD800];
+    let mut scripts = Vec::new();
+    for low in HINTS {
+        for count in [0, 1, 2, 3, 5, 8, 50, 250] {
+            let points: Vec<u32> = all.iter().copied().cycle().take(count).collect();
+            let hinted = |name| {
+                let points = Operand::Points(points.clone());
+                Call::new(
+                    name,
+                    vec![Operand::Register(0), Operand::Number(low), points],
+                )
+            };
+            let mut calls = vec![hinted("from_iter hinted")];
+            for start in [&[][..], &[0x61], &[0xD83D]] {
+                calls.push(from_units(0, start));
+                calls.push(hinted("extend hinted"));
+            }
+            scripts.push(calls);
+        }
+    }
+    scripts
+}

@@ -1,0 +1,30 @@
+//! The lists of scripts that are gone through one by one, by their names.
+
+use crate::script::Call;
+use crate::{building, generate, long};
+
+/// A name, and what makes the scripts of that list.
+pub type List = (&'static str, fn() -> Vec<Vec<Call>>);
+
+pub const LISTS: [List; 12] = [
+    ("code points at edges", generate::edge_calls),
+    ("up to four units", up_to_four_units),
+    ("lists of building calls", building::lists_of_calls),
+    ("false hints", building::false_hints),
+    ("slices inside strings", long::inside),
+    ("cuts by units", long::cuts_by_units),
+    ("fronts", long::fronts),
+    ("joins", long::joins),
+    ("one surrogate", long::one_surrogate),
+    ("two surrogates", long::two_surrogates),
+    ("one unit changed", long::changed_at_each_place),
+    ("longest strings", long::longest),
+];
+
+fn up_to_four_units() -> Vec<Vec<Call>> {
+    let lists = generate::unit_lists(4);
+    lists
+        .iter()
+        .map(|units| generate::calls_on(units))
+        .collect()
+}

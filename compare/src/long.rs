@@ -1,0 +1,304 @@
+//! Lists of scripts on long strings, on strings that share a front, and on slices inside a string.
+
+use crate::generate::{cut_and_joined, cut_by_units, from_units, registers};
+use crate::script::{Call, Operand};
+
+/// The units that long strings are made of, over and over: a string of each class, one whose bytes begin as a surrogate's
+/// do, one of pairs, and one of all classes.
+const BASES: [&[u16]; 7] = [
+    &[0x61],
+    &[0xE9],
+    &[0x20AC],
+    &[0xD55C],
+    &[0xE000],
+    &[0xD83D, 0xDCA9],
+    &[0x61, 0xE9, 0xD55C, 0xD83D, 0xDCA9, 0x20AC, 0x7A],
+];
+
+/// Lengths beyond the blocks of any search.
+const LENGTHS: [usize; 7] = [255, 256, 257, 511, 600, 1023, 2000];
+
+/// The most units that one call takes.
+const MOST_UNITS: usize = 255;
+
+fn string_of(base: &[u16], len: usize) -> Vec<u16> {
+    base.iter().copied().cycle().take(len).collect()
+}
+
+/// The string of some units in a register, by pieces where they are too many for one call. The string in register 3 is
+/// lost.
+fn string_in(register: u8, units: &[u16]) -> Vec<Call> {
+    let mut pieces = units.chunks(MOST_UNITS);
+    let mut calls = vec![from_units(register, pieces.next().unwrap_or_default())];
+    for piece in pieces {
+        calls.push(from_units(3, piece));
+        calls.push(registers("push_wtf8", register, 3));
+    }
+    calls
+}
+
+fn on(register: u8, names: &[&str]) -> Vec<Call> {
+    let call = |name: &&str| Call::new(name, vec![Operand::Register(register)]);
+    names.iter().map(call).collect()
+}
+
+fn changed(units: &[u16], changes: &[(usize, u16)]) -> Vec<u16> {
+    let mut units = units.to_vec();
+    for (place, unit) in changes {
+        units[*place] = *unit;
+    }
+    units
+}
+
+/// Strings of every length up to 130, with one unit changed at each place, compared both ways.
+pub fn changed_at_each_place() -> Vec<Vec<Call>> {
+    let mut scripts = Vec::new();
+    for base in BASES {
+        for len in 0..=130 {
+            scripts.push(changed_at(&string_of(base, len), 0..len));
+        }
+    }
+    scripts
+}
+
+fn changed_at(units: &[u16], places: impl IntoIterator<Item = usize>) -> Vec<Call> {
+    let mut calls = string_in(0, units);
+    for place in places {
+        for other in [0x62, 0xDFFF] {
+            calls.extend(string_in(1, &changed(units, &[(place, other)])));
+            calls.push(registers("comparisons", 0, 1));
+            calls.push(registers("comparisons", 1, 0));
+        }
+    }
+    calls
+}
+
+/// A string of every length, and one that goes on behind it.
+pub fn fronts() -> Vec<Vec<Call>> {
+    let mut scripts = Vec::new();
+    for base in BASES {
+        let mut calls = Vec::new();
+        for len in 0..=130 {
+            let units = string_of(base, len + 2);
+            calls.extend(string_in(0, &units[..len]));
+            for more in 1..=2 {
+                calls.extend(string_in(1, &units[..len + more]));
+                calls.push(registers("comparisons", 0, 1));
+                calls.push(registers("comparisons", 1, 0));
+            }
+            calls.extend(on(1, &["hash", "debug"]));
+        }
+        scripts.push(calls);
+    }
+    scripts
+}
+
+/// One lone surrogate at each place of strings of every length up to 130, and none: texts, hash and lossy texts.
+pub fn one_surrogate() -> Vec<Vec<Call>> {
+    let mut scripts = Vec::new();
+    for base in BASES {
+        for len in 0..=130 {
+            scripts.push(with_surrogate_at(&string_of(base, len), 0..len));
+        }
+    }
+    scripts
+}
+
+fn with_surrogate_at(units: &[u16], places: impl IntoIterator<Item = usize>) -> Vec<Call> {
+    let mut calls = texts_of(units);
+    for place in places {
+        for surrogate in [0xD800, 0xDFFF] {
+            calls.extend(texts_of(&changed(units, &[(place, surrogate)])));
+        }
+    }
+    calls
+}
+
+/// Two lone surrogates at each two places, of some lengths.
+pub fn two_surrogates() -> Vec<Vec<Call>> {
+    let mut scripts = Vec::new();
+    for base in BASES {
+        for len in [7, 20, 45, 70] {
+            let units = string_of(base, len);
+            for place in 0..len {
+                let behind = place + 1..len;
+                let both = |other| changed(&units, &[(place, 0xDBFF), (other, 0xDC00)]);
+                scripts.push(behind.flat_map(|other| texts_of(&both(other))).collect());
+            }
+        }
+    }
+    scripts
+}
+
+/// The texts of a string, twice made: by units, whose search may be known, and by pushes of its two halves.
+fn texts_of(units: &[u16]) -> Vec<Call> {
+    let (front, back) = units.split_at(units.len() / 2);
+    let mut calls = string_in(0, units);
+    calls.extend(on(0, &["as_str", "to_string_lossy", "into_string"]));
+    calls.extend(string_in(1, front));
+    calls.extend(string_in(2, back));
+    calls.push(registers("push_wtf8", 1, 2));
+    calls.extend(on(1, &["to_string_lossy", "into_string_lossy"]));
+    calls
+}
+
+/// Strings of up to 2,000 units: all calls, with changes and surrogates at some places.
+pub fn longest() -> Vec<Vec<Call>> {
+    let mut scripts = Vec::new();
+    for base in BASES {
+        for len in LENGTHS {
+            let units = string_of(base, len);
+            for place in [0, 1, 15, 31, 63, len / 2, len - 33, len - 2, len - 1] {
+                let mut calls = string_in(0, &units);
+                for other in [0x62, 0xD800, 0xDC00] {
+                    let units = changed(&units, &[(place, other)]);
+                    calls.extend(string_in(1, &units));
+                    calls.push(registers("comparisons", 0, 1));
+                    calls.push(registers("comparisons", 1, 0));
+                    calls.extend(on(1, &["hash", "as_str", "to_string_lossy", "debug"]));
+                    calls.extend(on(1, &["into_string_lossy"]));
+                }
+                scripts.push(calls);
+            }
+        }
+    }
+    scripts
+}
+
+/// Strings put together at each cut, with a pair, a lead or a trail there.
+pub fn joins() -> Vec<Vec<Call>> {
+    let mut scripts = Vec::new();
+    for base in BASES {
+        for len in (0..=70).chain(126..=130) {
+            scripts.push(joined_in_the_middle(&string_of(base, len)));
+        }
+    }
+    scripts
+}
+
+fn joined_in_the_middle(units: &[u16]) -> Vec<Call> {
+    let half = units.len() / 2;
+    let mut calls = string_in(0, units);
+    calls.extend(cut_and_joined(units, half));
+    for (lead, trail) in [(0xD83D, 0xDCA9), (0xDBFF, 0x61), (0xE000, 0xDC00)] {
+        let (front, back) = units.split_at(half);
+        let whole = [front, &[lead, trail], back].concat();
+        calls.extend(string_in(0, &whole));
+        calls.extend(cut_and_joined(&whole, half + 1));
+    }
+    calls
+}
+
+/// Strings cut at each number of units, with whole pairs and lone surrogates at both ends.
+pub fn cuts_by_units() -> Vec<Vec<Call>> {
+    let mut scripts = Vec::new();
+    for base in BASES {
+        for len in (0..=40).chain([63, 66, 97, 130]) {
+            let units = string_of(base, len);
+            for ends in [[0x61, 0x61], [0xDC00, 0xD800]] {
+                let units = [&ends[..1], &units, &ends[1..]].concat();
+                scripts.push(cut_by_units_at(&units, 0..=units.len() + 1));
+            }
+        }
+        let len = 2000;
+        let places = [0, 31, 255, 1000, len - 1, len, len + 1];
+        scripts.push(cut_by_units_at(&string_of(base, len), places));
+    }
+    scripts
+}
+
+fn cut_by_units_at(units: &[u16], places: impl IntoIterator<Item = usize>) -> Vec<Call> {
+    let mut calls = string_in(0, units);
+    calls.extend(on(0, &["units by number"]));
+    for cut in places {
+        calls.extend(cut_by_units(units.len(), cut));
+    }
+    calls
+}
+
+/// Slices in the middle of a string: their front at each place up to 40, with surrogates inside them, outside them, and at
+/// their ends.
+pub fn inside() -> Vec<Vec<Call>> {
+    let bodies: [&[u16]; 10] = [
+        &[],
+        &[0x61],
+        &[0xE9, 0xD800],
+        &[0xDC00, 0x61],
+        &[0xD83D, 0xDCA9],
+        &[0xDCA9, 0xD83D],
+        &[0xD55C; 12],
+        &[0x61; 45],
+        &[0xD83D, 0xDCA9, 0xD83D, 0xDCA9, 0x61, 0xD83D],
+        &[0x20AC, 0xDFFF, 0xE9, 0x61, 0x61, 0x61, 0x61, 0xD800, 0x7A],
+    ];
+    let mut scripts = Vec::new();
+    for filling in [0x61, 0xDC00] {
+        for body in bodies {
+            for front in 0..=40 {
+                scripts.push(calls_inside(filling, front, body));
+            }
+        }
+    }
+    scripts
+}
+
+fn calls_inside(filling: u16, front: usize, body: &[u16]) -> Vec<Call> {
+    let filler = |count| vec![filling; count];
+    let begin = byte_len(&filler(front));
+    let end = begin + byte_len(body);
+    let whole = [filler(front), body.to_vec(), filler(40 - front)].concat();
+    let other = [filler(3), body.to_vec(), vec![0x61]].concat();
+    let other_begin = byte_len(&filler(3));
+    let place = |register, begin, end| {
+        [
+            Operand::Register(register),
+            Operand::Number(begin),
+            Operand::Number(end),
+        ]
+    };
+    let own_slice = place(0, begin, end);
+    let other_end = other_begin + byte_len(body);
+    let mut calls = string_in(0, &whole);
+    calls.extend(string_in(1, &other));
+    calls.push(Call::new("look at slice", own_slice.to_vec()));
+    for end in [other_end, other_end + 1, byte_len(&other)] {
+        let slices = [own_slice.clone(), place(1, other_begin, end)].concat();
+        calls.push(Call::new("compare slices", slices));
+    }
+    for string in [&[0x61][..], &[0xD83D], &[]] {
+        calls.push(from_units(2, string));
+        let operands = [&[Operand::Register(2)][..], &own_slice].concat();
+        calls.push(Call::new("push_wtf8 slice", operands));
+        calls.extend(on(2, &["as_str", "to_string_lossy"]));
+    }
+    calls
+}
+
+/// A few of all of these, for a list that is short.
+pub fn chosen() -> Vec<Vec<Call>> {
+    let mut scripts: Vec<Vec<Call>> = inside().into_iter().step_by(19).collect();
+    for base in [BASES[0], BASES[3], BASES[6]] {
+        let units = string_of(base, 100);
+        scripts.push(changed_at(&units, [7, 16, 40, 99]));
+        scripts.push(with_surrogate_at(&units, [9, 30, 31, 96, 99]));
+    }
+    let units = [string_of(BASES[6], 64), vec![0xD800]].concat();
+    scripts.push(cut_by_units_at(&units, [0, 3, 4, 32, 33, 63, 64, 65]));
+    for len in [33, 126] {
+        scripts.push(joined_in_the_middle(&string_of(BASES[0], len)));
+    }
+    let units = string_of(BASES[0], 1200);
+    let mut calls = string_in(0, &units);
+    calls.extend(string_in(1, &changed(&units, &[(1199, 0xDC00)])));
+    calls.push(registers("comparisons", 0, 1));
+    calls.extend(on(1, &["as_str", "to_string_lossy", "hash"]));
+    scripts.push(calls);
+    scripts
+}
+
+/// How many bytes the string of some units has.
+pub fn byte_len(units: &[u16]) -> u16 {
+    let points = char::decode_utf16(units.iter().copied());
+    let lens = points.map(|point| point.map_or(3, char::len_utf8));
+    lens.sum::<usize>() as u16
+}

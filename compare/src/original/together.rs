@@ -1,0 +1,295 @@
+//! Slices inside a string, false hints, and lists of building calls.
+
+use super::*;
+
+impl Machine {
+    pub fn run_together(&mut self, opcode: u8, reader: &mut Reader<'_>) {
+        match opcode {
+            33 => self.truncate_units(reader),
+            34 => self.look_at_slice(reader),
+            35 => self.compare_slices(reader),
+            36 => self.push_slice(reader),
+            37 | 38 => self.take_hinted(opcode, reader),
+            39 => self.apply_each(reader),
+            40 => self.apply_all(reader),
+            41 => self.units_by_number(reader),
+            42 => self.slice_units(reader),
+            _ => unreachable!("the generator knows no opcode {opcode}"),
+        }
+    }
+
+    /// The crate cannot cut by units: its own units are cut, and make a string again.
+    fn truncate_units(&mut self, reader: &mut Reader<'_>) {
+        let register = reader.register();
+        let count = reader.number();
+        match first_units(&self.strings[register], count) {
+            Some(string) => {
+                self.line("room kept true");
+                self.put(register, string);
+            }
+            None => self.line("refused"),
+        }
+    }
+
+    fn units_by_number(&mut self, reader: &mut Reader<'_>) {
+        let units: Vec<String> = self.strings[reader.register()]
+            .to_ill_formed_utf16()
+            .map(unit_text)
+            .collect();
+        let line = [&[format!("{} units", units.len())], &units[..]].concat();
+        self.line(&format!("{} -", line.join(" ")));
+    }
+
+    /// The units between two numbers, a pair's half at either end by itself: the code points that are whole lie between
+    /// them.
+    fn slice_units(&mut self, reader: &mut Reader<'_>) {
+        let units: Vec<u16> = self.strings[reader.register()]
+            .to_ill_formed_utf16()
+            .collect();
+        let (begin, end) = (reader.number(), reader.number());
+        if begin > end || end > units.len() {
+            return self.line("refused");
+        }
+        let is_divided =
+            |at: usize| at > 0 && matches!(units[at - 1..], [0xD800..=0xDBFF, 0xDC00..=0xDFFF, ..]);
+        let mut part = &units[begin..end];
+        let (mut trail, mut lead) = ("-".to_owned(), "-".to_owned());
+        if let ([first, rest @ ..], true) = (part, is_divided(begin)) {
+            trail = unit_text(*first);
+            part = rest;
+        }
+        if let ([rest @ .., last], true) = (part, is_divided(end)) {
+            lead = unit_text(*last);
+            part = rest;
+        }
+        let whole = dump(&Wtf8Buf::from_ill_formed_utf16(part));
+        self.line(&format!("slice {trail} ({whole}) {lead}"));
+    }
+
+    fn look_at_slice(&mut self, reader: &mut Reader<'_>) {
+        let whole = self.strings[reader.register()].clone();
+        let (begin, end) = (reader.number(), reader.number());
+        let Some(part) = self.slice_of(&whole, begin, end) else {
+            return self.line("refused");
+        };
+        self.line(&format!("view {}: {}", part.len(), dump(part)));
+        self.boundaries(part);
+        self.as_text(part);
+        self.lossy_text(part);
+        self.line(&format!("fed {}", hex(&fed_by(part))));
+        self.debug_texts(part);
+        write!(self.out, "points").unwrap();
+        walk(&mut self.out, part.code_points(), &[]);
+        self.line("");
+        write!(self.out, "units").unwrap();
+        walk(&mut self.out, Units::of(part), &[]);
+        self.line("");
+    }
+
+    fn slice_of<'w>(&mut self, whole: &'w Wtf8, begin: usize, end: usize) -> Option<&'w Wtf8> {
+        let part = answer_of(|| whole.slice(begin, end));
+        if part.is_none() {
+            self.panicked.push("slice");
+        }
+        part
+    }
+
+    fn compare_slices(&mut self, reader: &mut Reader<'_>) {
+        let own = self.strings[reader.register()].clone();
+        let own = self.slice_of(&own, reader.number(), reader.number());
+        let other = self.strings[reader.register()].clone();
+        let other = self.slice_of(&other, reader.number(), reader.number());
+        match (own, other) {
+            (Some(own), Some(other)) => self.comparisons("views", own, other),
+            _ => self.line("refused"),
+        }
+    }
+
+    fn push_slice(&mut self, reader: &mut Reader<'_>) {
+        let register = reader.register();
+        let whole = self.strings[reader.register()].clone();
+        let Some(part) = self.slice_of(&whole, reader.number(), reader.number()) else {
+            return self.line("refused");
+        };
+        self.strings[register].push_wtf8(part);
+        self.show(register);
+    }
+
+    fn take_hinted(&mut self, opcode: u8, reader: &mut Reader<'_>) {
+        let register = reader.register();
+        let low = reader.number();
+        let points = reader.points().into_iter();
+        let hinted = Hinted { points, low };
+        match opcode {
+            37 => self.strings[register].extend(hinted),
+            _ => self.strings[register] = hinted.collect(),
+        }
+        self.show(register);
+    }
+
+    fn apply_each(&mut self, reader: &mut Reader<'_>) {
+        let register = reader.register();
+        let pieces = Pieces {
+            points: reader.points(),
+            strings: self.strings.clone(),
+        };
+        for build in reader.builds() {
+            let string = &mut self.strings[register];
+            let Some(is_done) = pieces.apply(&build, string) else {
+                continue;
+            };
+            self.line(&format!("applied {is_done}"));
+            self.show(register);
+        }
+    }
+
+    /// The calls one after the other, truncations tested first. Where no request for memory is granted the list is
+    /// stopped at the first call whose bytes do not fit.
+    fn apply_all(&mut self, reader: &mut Reader<'_>) {
+        let register = reader.register();
+        let mut string = self.strings[register].clone();
+        let room = match (reader.number(), reader.unit()) {
+            (_, UNBOUNDED) => usize::MAX,
+            (spare, _) => string.len() + spare,
+        };
+        let pieces = Pieces {
+            points: reader.points(),
+            strings: self.strings.clone(),
+        };
+        let (mut done, mut refused) = (0, 0);
+        let mut is_stopped = false;
+        for build in reader.builds() {
+            if is_stopped {
+                continue;
+            }
+            match pieces.apply_within(&build, &mut string, room) {
+                Some(Applied::Done(is_done)) => {
+                    done += 1;
+                    refused += usize::from(!is_done);
+                }
+                Some(Applied::Stopped) => is_stopped = true,
+                None => {}
+            }
+        }
+        match is_stopped {
+            true => self.line(&format!("stopped at {done}")),
+            false => self.line(&format!("all, {refused} refused")),
+        }
+        let units: Vec<String> = string.to_ill_formed_utf16().map(unit_text).collect();
+        let units = units.iter().map(|unit| format!(" {unit}"));
+        self.line(&format!("units{}", units.collect::<String>()));
+        self.put(register, string);
+    }
+}
+
+/// The string of the first so many units, where there are so many.
+fn first_units(text: &Wtf8, count: usize) -> Option<Wtf8Buf> {
+    let units: Vec<u16> = text.to_ill_formed_utf16().collect();
+    units.get(..count).map(Wtf8Buf::from_ill_formed_utf16)
+}
+
+/// Code points under a lower hint that may be false.
+struct Hinted {
+    points: std::vec::IntoIter<CodePoint>,
+    low: usize,
+}
+
+impl Iterator for Hinted {
+    type Item = CodePoint;
+
+    fn next(&mut self) -> Option<CodePoint> {
+        self.points.next()
+    }
+
+    fn size_hint(&self) -> (usize, Option<usize>) {
+        (self.low, None)
+    }
+}
+
+/// What became of a call in a list.
+enum Applied {
+    /// It was done, or was a truncation at no boundary.
+    Done(bool),
+    /// Its bytes do not fit.
+    Stopped,
+}
+
+/// What the calls of a list refer to.
+struct Pieces {
+    points: Vec<CodePoint>,
+    strings: [Wtf8Buf; 4],
+}
+
+impl Pieces {
+    fn points_up_to(&self, count: u16) -> &[CodePoint] {
+        &self.points[..usize::from(count).min(self.points.len())]
+    }
+
+    /// Whether a call was done, or `None` where its number is no code point and so there is no call.
+    fn apply(&self, build: &Build, string: &mut Wtf8Buf) -> Option<bool> {
+        match build {
+            Build::Push(value) => string.push(CodePoint::from_u32(*value)?),
+            Build::PushChar(value) => string.push_char(char::from_u32(*value)?),
+            Build::PushStr(text) => string.push_str(text),
+            Build::PushWtf8(register) => string.push_wtf8(&self.strings[usize::from(*register)]),
+            Build::Extend(count) => string.extend(self.points_up_to(*count).iter().copied()),
+            Build::Reserve(additional) => string.reserve(usize::from(*additional)),
+            Build::Truncate(position) => {
+                let position = usize::from(*position);
+                let is_boundary = answer_of(|| string.slice_to(position).len()).is_some();
+                if is_boundary {
+                    string.truncate(position);
+                }
+                return Some(is_boundary);
+            }
+            Build::TruncateUnits(count) => {
+                let cut = first_units(string, usize::from(*count));
+                let is_there = cut.is_some();
+                if let Some(cut) = cut {
+                    *string = cut;
+                }
+                return Some(is_there);
+            }
+        }
+        Some(true)
+    }
+
+    /// The call in a room that cannot grow.
+    fn apply_within(&self, build: &Build, string: &mut Wtf8Buf, room: usize) -> Option<Applied> {
+        if room == usize::MAX {
+            return self.apply(build, string).map(Applied::Done);
+        }
+        match build {
+            Build::Reserve(additional) if string.len() + usize::from(*additional) > room => {
+                return Some(Applied::Stopped)
+            }
+            Build::Extend(count) => {
+                return Some(extend_within(self.points_up_to(*count), string, room))
+            }
+            _ => {}
+        }
+        let mut after = string.clone();
+        let is_done = self.apply(build, &mut after)?;
+        if after.len() > room {
+            return Some(Applied::Stopped);
+        }
+        *string = after;
+        Some(Applied::Done(is_done))
+    }
+}
+
+/// Room for a byte for each point is found first, and then the points are pushed up to the one that does not fit.
+fn extend_within(points: &[CodePoint], string: &mut Wtf8Buf, room: usize) -> Applied {
+    if string.len() + points.len() > room {
+        return Applied::Stopped;
+    }
+    for point in points {
+        let mut after = string.clone();
+        after.push(*point);
+        if after.len() > room {
+            return Applied::Stopped;
+        }
+        *string = after;
+    }
+    Applied::Done(true)
+}
