@@ -16,9 +16,10 @@ use wtf8::{Build, Wtf8, Wtf8Buf};
 /// from the empty one, or `?` where some word stands for no call. Where truncations were refused, `!` and how many
 /// follows, behind a space where there are bytes.
 ///
-/// A word is 4 to 6 hexadecimal digits of either case, which push the code point of that number, at most 0x10FFFF, or
-/// `-` and 1 to 9 decimal digits, which truncate at that position in bytes. A newline inside the line stands in no
-/// word, so it is answered `?`. An `Err` comes only where a growth of memory was refused.
+/// A word is 4 to 6 hexadecimal digits of either case, which push the code point of that number, at most 0x10FFFF; `-`
+/// and 1 to 9 decimal digits, which truncate at that position in bytes; or `/` and 1 to 9 decimal digits, which truncate
+/// at that number of 16-bit units. A newline inside the line stands in no word, so it is answered `?`. An `Err` comes
+/// only where a growth of memory was refused.
 pub fn dump_line<A: Allocator + Copy>(alloc: A, line: &[u8]) -> Result<Vec<u8, A>, AllocError>
     ensures answer { IfOk result (λ answer. IsAnswer line.now answer.items) }
 {

@@ -1,4 +1,4 @@
-use Rattle.std.proofs.Common.{◌≡◌, ◌∷◌, Some, ap, sym, ◌∙◌}
+use Rattle.std.proofs.Common.{◌∷◌, Some, ap, sym, ◌∙◌}
 use Rattle.std.specs.List.{slice_get}
 use Rattle.wtf8.specs.Unicode.{units}
 use Rattle.wtf8.proofs.OneReading.{units-cons_one, units-cons_two}

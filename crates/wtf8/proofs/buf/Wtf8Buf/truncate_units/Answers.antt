@@ -1,4 +1,4 @@
-use Rattle.std.proofs.Common.{◌≡◌, subst, inl, inr, take, arith}
+use Rattle.std.proofs.Common.{subst, inl, inr, take, arith}
 use Rattle.wtf8.specs.Form.{IsForm}
 use Rattle.wtf8.proofs.OneReading.{same_form}
 use Rattle.wtf8.proofs.UnitCuts.{front_form}

@@ -1,6 +1,6 @@
-use Rattle.std.proofs.Common.{◌≡◌, ◌∙◌, ◌++◌, ap, sym, subst, arith, inl, refl, length, take}
+use Rattle.std.proofs.Common.{◌∙◌, ◌++◌, ap, sym, subst, arith, inl, refl, length, take}
 use Rattle.std.proofs.lemmas.Bool.{false≢true}
-use Rattle.wtf8.specs.Form.{encoding, IsWellFormed}
+use Rattle.wtf8.specs.Form.{encoding}
 use Rattle.wtf8.specs.Position.{IsFront}
 use Rattle.wtf8.specs.UnitString.{UnitString}
 use Rattle.wtf8.specs.Unicode.{units}
