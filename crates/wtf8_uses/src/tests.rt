@@ -1,4 +1,5 @@
 // Each public function on its happy path. Expected values are worked by hand from the encoding's tables.
+use crate::interner::Interner;
 use crate::{joining, maps, refusals, round_trips, sorting, units};
 use std::alloc::AllocError;
 use std::collections::HashMap;
@@ -84,6 +85,22 @@ fn a_map_finds_equal_strings(rt: HostRuntime) -> Result<(), AllocError> {
     let hashers: BuildHasherDefault<FoldHasher> = BuildHasherDefault::new();
     assert!(rt; maps::hash_alike(&hashers, &same, Wtf8::from_str("💩")));
     assert_eq!(rt; maps::put_and_found(&mut map, key, &same, 7)?, Some(7));
+    Ok(())
+}
+
+#[test]
+fn a_number_stays(rt: HostRuntime) -> Result<(), AllocError> {
+    let mut interner = Interner::new(rt.alloc());
+    let first = Wtf8Buf::from_ill_formed_utf16(rt.alloc(), &[LEAD])?;
+    assert_eq!(rt; interner.number(first.clone()?)?, 0);
+    assert_eq!(rt; interner.number(Wtf8Buf::new(rt.alloc()))?, 1);
+    assert_eq!(rt; interner.number(first)?, 0);
+    for (number, dump) in [(0, Some("ED A0 BD")), (1, Some("")), (2, None)] {
+        match (interner.string(number), dump) {
+            (Some(string), Some(dump)) => assert_dump(&rt, string, dump)?,
+            (found, dump) => assert_eq!(rt; found.is_some(), dump.is_some()),
+        }
+    }
     Ok(())
 }
 
