@@ -1,40 +1,52 @@
 // Lists of building calls.
-use crate::shared::{JOINING, assert_dump, assert_units, joined, point, points_of};
-use std::alloc::AllocError;
-use std::process::Abort;
+use std::alloc::Global;
 use std::test::Fail;
 use wtf8::{Build, Wtf8Buf};
+use wtf8_examples::{JOINING, expect_dump, expect_units, joined, point_of_unit, points_of_units};
+
+/// Fails unless a list of calls, none of them refused, builds a string of these bytes.
+fn expect_list(alloc: Global, calls: &[Build<'_>], dump: &str) -> Result<(), Fail> {
+    let mut text = Wtf8Buf::new(alloc);
+    if text.apply_all(calls) != Ok(0) {
+        return Err(Fail::new("a list is refused"));
+    }
+    expect_dump(alloc, text.as_wtf8(), dump)
+}
+
+/// Fails unless a push for each of these units, by one call at a time and by one list, and an extension by all of them
+/// build a string of these bytes.
+fn expect_built(alloc: Global, units: &[u16], dump: &str) -> Result<(), Fail> {
+    let mut text = Wtf8Buf::new(alloc);
+    let mut calls = Vec::new(alloc);
+    for unit in units {
+        let call = Build::Push(point_of_unit(*unit));
+        if text.apply(call) != Ok(true) {
+            return Err(Fail::new("a push is refused"));
+        }
+        calls.push(call)?;
+    }
+    expect_dump(alloc, text.as_wtf8(), dump)?;
+    expect_units(alloc, text.as_wtf8(), units)?;
+    expect_list(alloc, &calls, dump)?;
+    let points = points_of_units(alloc, units)?;
+    expect_list(alloc, &[Build::Extend(&points)], dump)
+}
 
 #[test]
 fn a_push_for_each_code_point_builds_the_string(rt: HostRuntime) -> Result<(), Fail> {
-    for (units, dump) in JOINING {
-        let points = points_of(&rt, units)?;
-        let mut text = Wtf8Buf::new(rt.alloc());
-        let mut calls = Vec::new(rt.alloc());
-        for point in points.iter() {
-            assert!(rt; text.apply(Build::Push(*point))?);
-            calls.push(Build::Push(*point))?;
-        }
-        assert_dump(&rt, text.as_wtf8(), dump)?;
-        assert_units(&rt, text.as_wtf8(), units)?;
-
-        let mut text = Wtf8Buf::new(rt.alloc());
-        assert_eq!(rt; text.apply_all(calls.as_slice()), Ok(0));
-        assert_dump(&rt, text.as_wtf8(), dump)?;
-        assert!(rt; text.apply(Build::Truncate(0))?);
-        assert!(rt; text.apply(Build::Extend(points.as_slice()))?);
-        assert_dump(&rt, text.as_wtf8(), dump)?;
+    for (units, _, dump) in JOINING {
+        expect_built(rt.alloc(), units, dump)?;
     }
     Ok(())
 }
 
 #[test]
 fn each_call_does_what_it_is_named_for(rt: HostRuntime) -> Result<(), Fail> {
-    let pair = [point(&rt, 0xD83D), point(&rt, 0xDCA9)];
-    let trail = joined(&rt, rt.alloc(), &[0xDCA9, 0x62])?;
+    let pair = [point_of_unit(0xD83D), point_of_unit(0xDCA9)];
+    let trail = joined(rt.alloc(), &[0xDCA9, 0x62])?;
     let mut text = Wtf8Buf::new(rt.alloc());
     for (call, done, dump) in [
-        (Build::Push(point(&rt, 0xE9)), true, "C3 A9"),
+        (Build::Push(point_of_unit(0xE9)), true, "C3 A9"),
         (Build::Truncate(1), false, "C3 A9"),
         (Build::Truncate(0), true, ""),
         (Build::PushChar('a'), true, "61"),
@@ -44,40 +56,29 @@ fn each_call_does_what_it_is_named_for(rt: HostRuntime) -> Result<(), Fail> {
         (Build::Extend(&pair), true, "61 F0 9F 92 A9"),
         (Build::Reserve(50), true, "61 F0 9F 92 A9"),
         (Build::Truncate(1), true, "61"),
-        (Build::Push(point(&rt, 0xD83D)), true, "61 ED A0 BD"),
+        (Build::Push(pair[0]), true, "61 ED A0 BD"),
         (Build::PushWtf8(trail.as_wtf8()), true, "61 F0 9F 92 A9 62"),
     ] {
         assert_eq!(rt; text.apply(call)?, done, "before {dump}");
-        assert_dump(&rt, text.as_wtf8(), dump)?;
+        expect_dump(rt.alloc(), text.as_wtf8(), dump)?;
     }
     assert!(rt; text.apply(Build::Reserve(50))?);
     assert!(rt; 50 <= text.capacity() - text.as_wtf8().len());
     Ok(())
 }
 
-/// Ends the test unless a list of calls on an empty string leaves these bytes, and so many truncations are refused.
-fn assert_applied<R: Abort + AllocGlobal>(
-    rt: &R,
-    calls: &[Build<'_>],
-    refused: usize,
-    dump: &str,
-) -> Result<(), AllocError> {
-    let mut text = Wtf8Buf::new(rt.alloc());
-    assert_eq!(rt; text.apply_all(calls), Ok(refused), "before {dump}");
-    assert_dump(rt, text.as_wtf8(), dump)
-}
-
 #[test]
 fn a_list_counts_the_refused_truncations(rt: HostRuntime) -> Result<(), Fail> {
-    let lead = Build::Push(point(&rt, 0xD83D));
-    let trail = Build::Push(point(&rt, 0xDCA9));
-    let front = [point(&rt, 0xD83D)];
-    let behind = [point(&rt, 0xDCA9), point(&rt, 0x61)];
-    assert_applied(&rt, &[], 0, "")?;
+    let lead = Build::Push(point_of_unit(0xD83D));
+    let trail = Build::Push(point_of_unit(0xDCA9));
+    let front = [point_of_unit(0xD83D)];
+    let behind = [point_of_unit(0xDCA9), point_of_unit(0x61)];
+    expect_list(rt.alloc(), &[], "")?;
     let extending = [Build::Extend(&front), Build::Extend(&behind)];
-    assert_applied(&rt, &extending, 0, "F0 9F 92 A9 61")?;
+    expect_list(rt.alloc(), &extending, "F0 9F 92 A9 61")?;
     let joining = [lead, Build::Truncate(3), trail];
-    assert_applied(&rt, &joining, 0, "F0 9F 92 A9")?;
+    expect_list(rt.alloc(), &joining, "F0 9F 92 A9")?;
+
     let cutting = [
         lead,
         trail,
@@ -85,7 +86,9 @@ fn a_list_counts_the_refused_truncations(rt: HostRuntime) -> Result<(), Fail> {
         Build::Truncate(0),
         Build::Truncate(1),
     ];
-    assert_applied(&rt, &cutting, 2, "")?;
+    let mut text = Wtf8Buf::new(rt.alloc());
+    assert_eq!(rt; text.apply_all(&cutting), Ok(2));
+    expect_dump(rt.alloc(), text.as_wtf8(), "")?;
     let mixed = [
         Build::PushStr("a"),
         Build::Truncate(2),
@@ -94,6 +97,6 @@ fn a_list_counts_the_refused_truncations(rt: HostRuntime) -> Result<(), Fail> {
         Build::Truncate(4),
         Build::Truncate(5),
     ];
-    assert_applied(&rt, &mixed, 2, "61 F0 9F 92 A9")?;
-    Ok(())
+    assert_eq!(rt; text.apply_all(&mixed), Ok(2));
+    expect_dump(rt.alloc(), text.as_wtf8(), "61 F0 9F 92 A9")
 }

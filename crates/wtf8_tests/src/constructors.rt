@@ -1,76 +1,78 @@
 // Strings that are made of texts and of units.
-use crate::shared::{
-    JOINING, TEXT, TEXT_DUMP, assert_dump, assert_units, numbers_of, text_with_lead,
-};
 use std::alloc::{AllocError, Global};
-use std::process::Abort;
 use std::test::Fail;
 use wtf8::{Wtf8, Wtf8Buf};
+use wtf8_examples::{JOINING, TEXT, TEXT_DUMP, expect_dump, expect_units, pushed};
 
 #[test]
 fn texts_keep_their_bytes(rt: HostRuntime) -> Result<(), Fail> {
-    assert_dump(&rt, Wtf8Buf::new(rt.alloc()).as_wtf8(), "")?;
+    expect_dump(rt.alloc(), Wtf8Buf::new(rt.alloc()).as_wtf8(), "")?;
     for (text, dump) in [("", ""), (TEXT, TEXT_DUMP)] {
-        assert_dump(&rt, Wtf8::from_str(text), dump)?;
+        expect_dump(rt.alloc(), Wtf8::from_str(text), dump)?;
         let copied = Wtf8Buf::from_str(rt.alloc(), text)?;
-        assert_dump(&rt, copied.as_wtf8(), dump)?;
+        expect_dump(rt.alloc(), copied.as_wtf8(), dump)?;
         let kept = Wtf8Buf::from_string(String::from_str(rt.alloc(), text)?);
-        assert_dump(&rt, kept.as_wtf8(), dump)?;
+        expect_dump(rt.alloc(), kept.as_wtf8(), dump)?;
     }
     Ok(())
 }
 
+/// The code points of the text with a lead surrogate behind them, and their bytes.
+const WITH_LEAD: [u32; 5] = [0x61, 0xE9, 0x20, 0x1F4A9, 0xD800];
+
+const WITH_LEAD_DUMP: &str = "61 C3 A9 20 F0 9F 92 A9 ED A0 80";
+
 #[test]
 fn room_is_at_least_what_was_asked_for(rt: HostRuntime) -> Result<(), Fail> {
     for n in [0, 1, 4, 100] {
-        let text = Wtf8Buf::with_capacity(rt.alloc(), n)?;
+        let mut text = Wtf8Buf::with_capacity(rt.alloc(), n)?;
         assert!(rt; n <= text.capacity(), "{n}");
-        assert_dump(&rt, text.as_wtf8(), "")?;
-    }
-    let mut text = text_with_lead(&rt, rt.alloc())?;
-    for additional in [0, 1, 100] {
-        text.reserve(additional)?;
-        assert!(rt;
-            additional <= text.capacity() - text.as_wtf8().len(),
-            "{additional}"
-        );
-        assert_dump(&rt, text.as_wtf8(), "61 C3 A9 20 F0 9F 92 A9 ED A0 80")?;
+        expect_dump(rt.alloc(), text.as_wtf8(), "")?;
+        text.push_str(TEXT)?;
+        text.reserve(n)?;
+        assert!(rt; n <= text.capacity() - text.as_wtf8().len(), "{n}");
+        expect_dump(rt.alloc(), text.as_wtf8(), TEXT_DUMP)?;
     }
     Ok(())
 }
 
 #[test]
 fn a_clone_is_equal_and_stands_alone(rt: HostRuntime) -> Result<(), Fail> {
-    let text = text_with_lead(&rt, rt.alloc())?;
+    let text = pushed(rt.alloc(), &WITH_LEAD)?;
     let mut copy = text.clone()?;
-    assert_dump(&rt, copy.as_wtf8(), "61 C3 A9 20 F0 9F 92 A9 ED A0 80")?;
+    assert!(rt; copy == text);
     copy.push_char('b')?;
-    assert_dump(&rt, copy.as_wtf8(), "61 C3 A9 20 F0 9F 92 A9 ED A0 80 62")?;
-    assert_dump(&rt, text.as_wtf8(), "61 C3 A9 20 F0 9F 92 A9 ED A0 80")?;
-    Ok(())
+    expect_dump(
+        rt.alloc(),
+        copy.as_wtf8(),
+        "61 C3 A9 20 F0 9F 92 A9 ED A0 80 62",
+    )?;
+    expect_dump(rt.alloc(), text.as_wtf8(), WITH_LEAD_DUMP)
 }
 
 #[test]
 fn units_come_back_from_a_string_of_them(rt: HostRuntime) -> Result<(), Fail> {
-    let cases: [(&[u16], &str); 3] = [
+    let cases: [(&[u16], &str); 2] = [
         (&[], ""),
         (
             &[0x61, 0xE9, 0x20, 0xD83D, 0xD83D, 0xDCA9],
             "61 C3 A9 20 ED A0 BD F0 9F 92 A9",
         ),
-        (&[0xD83D, 0xD83D, 0xDCA9], "ED A0 BD F0 9F 92 A9"),
     ];
     for (units, dump) in cases {
-        let text = Wtf8Buf::from_ill_formed_utf16(rt.alloc(), units)?;
-        assert_dump(&rt, text.as_wtf8(), dump)?;
-        assert_units(&rt, text.as_wtf8(), units)?;
+        expect_made(rt.alloc(), units, dump)?;
     }
-    for (units, dump) in JOINING {
-        let text = Wtf8Buf::from_ill_formed_utf16(rt.alloc(), units)?;
-        assert_dump(&rt, text.as_wtf8(), dump)?;
-        assert_units(&rt, text.as_wtf8(), units)?;
+    for (units, _, dump) in JOINING {
+        expect_made(rt.alloc(), units, dump)?;
     }
     Ok(())
+}
+
+/// Fails unless the string of these units has these bytes, and the units again.
+fn expect_made(alloc: Global, units: &[u16], dump: &str) -> Result<(), Fail> {
+    let text = Wtf8Buf::from_ill_formed_utf16(alloc, units)?;
+    expect_dump(alloc, text.as_wtf8(), dump)?;
+    expect_units(alloc, text.as_wtf8(), units)
 }
 
 /// An ASCII character, a lead surrogate, a trail surrogate, and the first unit behind the surrogates.
@@ -87,21 +89,14 @@ fn list_of_kinds(alloc: Global, length: u32, code: usize) -> Result<Vec<u16>, Al
     Ok(units)
 }
 
-/// Makes a string of the units, clones it and reserves room in it.
-fn assert_kept<R: Abort + AllocGlobal>(rt: &R, units: &[u16]) -> Result<(), AllocError> {
-    let text = Wtf8Buf::from_ill_formed_utf16(rt.alloc(), units)?;
-    assert_units(rt, text.as_wtf8(), units)?;
-    let dump = text.as_wtf8().hex_dump(rt.alloc())?;
+/// Makes a string of the units, clones it and reserves room in it: whether the room is there.
+fn is_kept(alloc: Global, units: &[u16]) -> Result<bool, Fail> {
+    let text = Wtf8Buf::from_ill_formed_utf16(alloc, units)?;
+    expect_units(alloc, text.as_wtf8(), units)?;
     let mut copy = text.clone()?;
-    assert_dump(rt, copy.as_wtf8(), dump.as_str())?;
     copy.reserve(100)?;
-    assert!(rt;
-        100 <= copy.capacity() - copy.as_wtf8().len(),
-        "room behind {dump}"
-    );
-    assert_dump(rt, copy.as_wtf8(), dump.as_str())?;
-    assert_dump(rt, text.as_wtf8(), dump.as_str())?;
-    Ok(())
+    expect_units(alloc, copy.as_wtf8(), units)?;
+    Ok(copy == text && 100 <= copy.capacity() - copy.as_wtf8().len())
 }
 
 #[test]
@@ -110,7 +105,7 @@ fn all_short_lists_of_units_come_back(rt: HostRuntime) -> Result<(), Fail> {
     for (length, lists) in [(0, 1), (1, 4), (2, 16), (3, 64)] {
         for code in 0..lists {
             let units = list_of_kinds(rt.alloc(), length, code)?;
-            assert_kept(&rt, units.as_slice())?;
+            assert!(rt; is_kept(rt.alloc(), &units)?, "{units:?}");
             tried = tried.wrapping_add(1);
         }
     }

@@ -1,13 +1,14 @@
 // Code points.
-use crate::shared::{EDGES, point};
 use std::test::Fail;
 use wtf8::CodePoint;
 
 #[test]
 fn a_code_point_is_a_number_up_to_10ffff(rt: HostRuntime) {
     for number in [0, 0x61, 0xD800, 0xDFFF, 0xFFFF, 0x10000, 0x10FFFF] {
-        let found = CodePoint::from_u32(number).map(|p| p.to_u32());
-        assert_eq!(rt; found, Some(number), "from_u32");
+        let Some(point) = CodePoint::from_u32(number) else {
+            panic!(rt; "{number} is refused");
+        };
+        assert_eq!(rt; point.to_u32(), number);
     }
     for number in [0x110000, 0x7FFFFFFF, 0xFFFFFFFF] {
         assert!(rt; CodePoint::from_u32(number).is_none(), "{number}");
@@ -17,7 +18,7 @@ fn a_code_point_is_a_number_up_to_10ffff(rt: HostRuntime) {
 }
 
 #[test]
-fn a_surrogate_has_no_character(rt: HostRuntime) {
+fn a_surrogate_has_no_character(rt: HostRuntime) -> Result<(), Fail> {
     for (number, character) in [
         (0x61, Some('a')),
         (0x1F4A9, Some('💩')),
@@ -29,14 +30,12 @@ fn a_surrogate_has_no_character(rt: HostRuntime) {
         (0xE000, Some('\u{E000}')),
         (0x10FFFF, Some('\u{10FFFF}')),
     ] {
-        let point = point(&rt, number);
+        let point = CodePoint::from_u32(number).ok_or("a code point")?;
+        let lossy = character.unwrap_or('\u{FFFD}');
         assert_eq!(rt; point.to_char(), character, "{number}");
-        assert_eq!(rt;
-            point.to_char_lossy(),
-            character.unwrap_or('\u{FFFD}'),
-            "{number}"
-        );
+        assert_eq!(rt; point.to_char_lossy(), lossy, "{number}");
     }
+    Ok(())
 }
 
 #[test]
@@ -52,42 +51,4 @@ fn a_character_is_the_code_point_of_its_number(rt: HostRuntime) {
         assert_eq!(rt; point.to_u32(), number);
         assert_eq!(rt; point.to_char(), Some(character));
     }
-}
-
-#[test]
-fn code_points_compare_as_their_numbers(rt: HostRuntime) {
-    for (left, _, _) in EDGES {
-        for (right, _, _) in EDGES {
-            let first = point(&rt, left);
-            let second = point(&rt, right);
-            assert_eq!(rt; first.cmp(&second), left.cmp(&right), "{left} and {right}");
-            assert_eq!(rt; first == second, left == right, "{left} and {right}");
-            assert_eq!(rt; first < second, left < right, "{left} and {right}");
-        }
-    }
-}
-
-#[test]
-fn a_debug_text_has_the_number_in_hexadecimal(rt: HostRuntime) -> Result<(), Fail> {
-    for (number, expected) in [
-        (0, "U+0000"),
-        (0x61, "U+0061"),
-        (0xFFF, "U+0FFF"),
-        (0x1000, "U+1000"),
-        (0xABCD, "U+ABCD"),
-        (0xD800, "U+D800"),
-        (0xFFFF, "U+FFFF"),
-        (0x10000, "U+10000"),
-        (0x1F4A9, "U+1F4A9"),
-        (0x10FFFF, "U+10FFFF"),
-    ] {
-        let point = point(&rt, number);
-        assert_eq!(rt; format!(in rt.alloc(); "{point:?}")?.as_str(), expected);
-        assert_eq!(rt; format!(in rt.alloc(); "{point:10?}")?.as_str(), expected);
-        assert_eq!(rt;
-            format!(in rt.alloc(); "{point:<#010?}")?.as_str(),
-            expected
-        );
-    }
-    Ok(())
 }

@@ -1,9 +1,8 @@
 // Positions in a string, and what is cut at them.
-use crate::shared::{JOINING, TEXT, assert_dump, joined, point, pushed};
-use std::alloc::Allocator;
-use std::process::Abort;
+use std::alloc::{AllocError, Allocator, Global};
 use std::test::Fail;
-use wtf8::{Wtf8, Wtf8Buf};
+use wtf8::{CodePoint, Wtf8, Wtf8Buf};
+use wtf8_examples::{JOINING, TEXT, TEXT_ROW, expect_dump, joined, pushed};
 
 /// What stands before a position, if it is a boundary.
 fn cut_to(text: Wtf8<'_>, end: usize) -> Option<Wtf8<'_>> {
@@ -50,26 +49,84 @@ fn ascii_at(text: Wtf8<'_>, position: usize) -> Option<u8> {
     }
 }
 
-/// Ends the test unless these are the boundaries up to ten, and no great number is one.
-fn assert_boundaries<R: Abort>(rt: &R, text: Wtf8<'_>, boundaries: &[usize]) {
-    for index in 0..10 {
-        let expected = boundaries.contains(&index);
-        assert_eq!(rt; text.is_code_point_boundary(index), expected, "at {index}");
+/// The running sums of the lengths of these code points' encodings, from the front, 0 among them.
+fn sums_of(alloc: Global, numbers: &[u32]) -> Result<Vec<usize>, AllocError> {
+    let mut sum = 0usize;
+    let mut sums = vec![in alloc; sum]?;
+    for number in numbers {
+        let width = match number {
+            0..=0x7F => 1,
+            0x80..=0x7FF => 2,
+            0x800..=0xFFFF => 3,
+            _ => 4,
+        };
+        sum = sum.wrapping_add(width);
+        sums.push(sum)?;
     }
-    assert!(rt; !text.is_code_point_boundary(usize::MAX), "the greatest");
+    Ok(sums)
+}
+
+/// Whether the boundaries of a string are these sums, and no other number up to three behind the length nor the greatest.
+fn has_boundaries(text: Wtf8<'_>, sums: &[usize]) -> bool {
+    for index in 0..text.len().saturating_add(4) {
+        if text.is_code_point_boundary(index) != sums.contains(&index) {
+            return false;
+        }
+    }
+    !text.is_code_point_boundary(usize::MAX)
 }
 
 #[test]
 fn code_points_begin_at_the_boundaries(rt: HostRuntime) -> Result<(), Fail> {
-    assert_boundaries(&rt, Wtf8::from_str(TEXT), &[0, 1, 3, 4, 8]);
-    assert_boundaries(&rt, Wtf8::from_str("aé"), &[0, 1, 3]);
-    assert_boundaries(&rt, Wtf8::from_str(""), &[0]);
-    let alone = pushed(&rt, rt.alloc(), &[0xD83D, 0x20, 0xDCA9])?;
-    assert_boundaries(&rt, alone.as_wtf8(), &[0, 3, 4, 7]);
-    let mut pair = pushed(&rt, rt.alloc(), &[0xD83D])?;
-    assert_boundaries(&rt, pair.as_wtf8(), &[0, 3]);
-    pair.push(point(&rt, 0xDCA9))?;
-    assert_boundaries(&rt, pair.as_wtf8(), &[0, 4]);
+    for (units, numbers, dump) in JOINING {
+        let text = joined(rt.alloc(), units)?;
+        let sums = sums_of(rt.alloc(), numbers)?;
+        assert!(rt; has_boundaries(text.as_wtf8(), &sums), "{dump}");
+    }
+    let (_, numbers, _) = TEXT_ROW;
+    let sums = sums_of(rt.alloc(), numbers)?;
+    assert_eq!(rt; sums.as_slice(), [0, 1, 3, 4, 8].as_slice());
+    assert!(rt; has_boundaries(Wtf8::from_str(TEXT), &sums));
+    assert!(rt; has_boundaries(Wtf8::from_str("aé"), &[0, 1, 3]));
+    assert!(rt; has_boundaries(Wtf8::from_str(""), &[0]));
+    let alone = pushed(rt.alloc(), &[0xD83D, 0x20, 0xDCA9])?;
+    assert!(rt; has_boundaries(alone.as_wtf8(), &[0, 3, 4, 7]));
+    let mut pair = pushed(rt.alloc(), &[0xD83D])?;
+    assert!(rt; has_boundaries(pair.as_wtf8(), &[0, 3]));
+    pair.push(CodePoint::from_u32_unchecked(0xDCA9))?;
+    assert!(rt; has_boundaries(pair.as_wtf8(), &[0, 4]));
+    Ok(())
+}
+
+/// Whether the parts of a string at each of its boundaries make an equal string, and how many boundaries there are.
+fn parts_make(alloc: Global, text: Wtf8<'_>) -> Result<(bool, usize), AllocError> {
+    let mut boundaries = 0usize;
+    for at in 0..text.len().saturating_add(1) {
+        let Some(front) = cut_to(text, at) else {
+            continue;
+        };
+        let Some(back) = cut_from(text, at) else {
+            return Ok((false, boundaries));
+        };
+        let mut whole = Wtf8Buf::new(alloc);
+        whole.push_wtf8(front)?;
+        whole.push_wtf8(back)?;
+        if whole.as_wtf8() != text {
+            return Ok((false, boundaries));
+        }
+        boundaries = boundaries.wrapping_add(1);
+    }
+    Ok((true, boundaries))
+}
+
+#[test]
+fn the_parts_at_each_boundary_make_the_whole(rt: HostRuntime) -> Result<(), Fail> {
+    for (units, numbers, dump) in JOINING {
+        let text = joined(rt.alloc(), units)?;
+        let made = parts_make(rt.alloc(), text.as_wtf8())?;
+        assert_eq!(rt; made, (true, numbers.len() + 1), "{dump}");
+    }
+    assert_eq!(rt; parts_make(rt.alloc(), Wtf8::from_str(TEXT))?, (true, 5));
     Ok(())
 }
 
@@ -84,29 +141,25 @@ fn slices_hold_what_stands_between(rt: HostRuntime) -> Result<(), Fail> {
         (8, 8, ""),
     ] {
         let found = cut_out(text, begin, end).ok_or("boundaries")?;
-        assert_dump(&rt, found, dump)?;
+        expect_dump(rt.alloc(), found, dump)?;
     }
     for (begin, dump) in [
         (0, "61 C3 A9 20 F0 9F 92 A9"),
         (1, "C3 A9 20 F0 9F 92 A9"),
         (8, ""),
     ] {
-        assert_dump(&rt, cut_from(text, begin).ok_or("a boundary")?, dump)?;
+        expect_dump(rt.alloc(), cut_from(text, begin).ok_or("a boundary")?, dump)?;
     }
     for (end, dump) in [(0, ""), (4, "61 C3 A9 20"), (8, "61 C3 A9 20 F0 9F 92 A9")] {
-        assert_dump(&rt, cut_to(text, end).ok_or("a boundary")?, dump)?;
+        expect_dump(rt.alloc(), cut_to(text, end).ok_or("a boundary")?, dump)?;
     }
-    let alone = pushed(&rt, rt.alloc(), &[0xD83D, 0x20, 0xDCA9])?;
-    assert_dump(
-        &rt,
-        cut_out(alone.as_wtf8(), 3, 4).ok_or("boundaries")?,
-        "20",
-    )?;
-    Ok(())
+    let alone = pushed(rt.alloc(), &[0xD83D, 0x20, 0xDCA9])?;
+    let middle = cut_out(alone.as_wtf8(), 3, 4).ok_or("boundaries")?;
+    expect_dump(rt.alloc(), middle, "20")
 }
 
 #[test]
-fn nothing_is_cut_inside_a_code_point(rt: HostRuntime) -> Result<(), Fail> {
+fn nothing_is_cut_inside_a_code_point(rt: HostRuntime) {
     let text = Wtf8::from_str(TEXT);
     for at in [2, 5, 6, 7, 9, usize::MAX] {
         assert!(rt; cut_to(text, at).is_none(), "to {at}");
@@ -115,82 +168,67 @@ fn nothing_is_cut_inside_a_code_point(rt: HostRuntime) -> Result<(), Fail> {
         assert!(rt; cut_out(text, at, 8).is_none(), "{at} to 8");
     }
     assert!(rt; cut_out(text, 4, 1).is_none(), "out of order");
-    Ok(())
 }
 
 #[test]
 fn a_truncated_string_keeps_what_stands_before(rt: HostRuntime) -> Result<(), Fail> {
     let mut text = Wtf8Buf::from_str(rt.alloc(), "aé")?;
-    for at in [2, 4, usize::MAX] {
-        assert!(rt; !cut_off(&mut text, at), "at {at}");
-        assert_dump(&rt, text.as_wtf8(), "61 C3 A9")?;
+    for (at, is_cut, dump) in [
+        (2, false, "61 C3 A9"),
+        (4, false, "61 C3 A9"),
+        (usize::MAX, false, "61 C3 A9"),
+        (3, true, "61 C3 A9"),
+        (1, true, "61"),
+        (0, true, ""),
+    ] {
+        assert_eq!(rt; cut_off(&mut text, at), is_cut, "at {at}");
+        expect_dump(rt.alloc(), text.as_wtf8(), dump)?;
     }
-    for (at, dump) in [(3, "61 C3 A9"), (1, "61"), (0, "")] {
-        assert!(rt; cut_off(&mut text, at), "at {at}");
-        assert_dump(&rt, text.as_wtf8(), dump)?;
-    }
-    let mut pair = pushed(&rt, rt.alloc(), &[0xD83D, 0x61])?;
+    let mut pair = pushed(rt.alloc(), &[0xD83D, 0x61])?;
     assert!(rt; cut_off(&mut pair, 3));
-    pair.push(point(&rt, 0xDCA9))?;
-    assert_dump(&rt, pair.as_wtf8(), "F0 9F 92 A9")?;
+    pair.push(CodePoint::from_u32_unchecked(0xDCA9))?;
     assert!(rt; !cut_off(&mut pair, 3));
-    assert_dump(&rt, pair.as_wtf8(), "F0 9F 92 A9")?;
-    Ok(())
+    expect_dump(rt.alloc(), pair.as_wtf8(), "F0 9F 92 A9")
+}
+
+/// Whether a string shows these bytes, one at each position below its length.
+fn shows(text: Wtf8<'_>, shown: &[u8]) -> bool {
+    for (position, byte) in shown.iter().enumerate() {
+        if ascii_at(text, position) != Some(*byte) {
+            return false;
+        }
+    }
+    ascii_at(text, shown.len()) == None
 }
 
 #[test]
 fn bytes_of_ascii_are_shown(rt: HostRuntime) -> Result<(), Fail> {
     let text = Wtf8::from_str(TEXT);
+    assert!(rt; shows(text, &[0x61, 0xFF, 0xFF, 0x20, 0xFF, 0xFF, 0xFF, 0xFF]));
     assert_eq!(rt; text.len(), 8);
     assert_eq!(rt; Wtf8::from_str("").len(), 0);
-    let shown = [0x61, 0xFF, 0xFF, 0x20, 0xFF, 0xFF, 0xFF, 0xFF];
-    for (position, byte) in shown.iter().enumerate() {
-        assert_eq!(rt; ascii_at(text, position), Some(*byte), "at {position}");
-    }
-    assert_eq!(rt; ascii_at(text, 8), None);
-    let edges = pushed(&rt, rt.alloc(), &[0, 0x7F, 0x80, 0xD800])?;
-    for (position, byte) in [0, 0x7F, 0xFF, 0xFF, 0xFF, 0xFF, 0xFF].iter().enumerate() {
-        assert_eq!(rt;
-            ascii_at(edges.as_wtf8(), position),
-            Some(*byte),
-            "at {position}"
-        );
-    }
+    let edges = pushed(rt.alloc(), &[0, 0x7F, 0x80, 0xD800])?;
+    let shown = [0, 0x7F, 0xFF, 0xFF, 0xFF, 0xFF, 0xFF];
+    assert!(rt; shows(edges.as_wtf8(), &shown));
     Ok(())
 }
 
 #[test]
 fn a_slice_outlives_its_view(rt: HostRuntime) -> Result<(), Fail> {
-    let text = pushed(&rt, rt.alloc(), &[0x61, 0xD83D, 0x62])?;
+    let text = pushed(rt.alloc(), &[0x61, 0xD83D, 0x62])?;
     let (middle, back) = {
         let view = text.as_wtf8();
         let back = cut_from(view, 1).ok_or("a boundary")?;
         (cut_to(back, 3).ok_or("a boundary")?, back)
     };
-    assert_dump(&rt, middle, "ED A0 BD")?;
-    assert_dump(&rt, back, "ED A0 BD 62")?;
-    let units = {
+    expect_dump(rt.alloc(), middle, "ED A0 BD")?;
+    expect_dump(rt.alloc(), back, "ED A0 BD 62")?;
+    let mut units = {
         let view = back;
         view.to_ill_formed_utf16()
     };
-    let units: Vec<u16> = units.collect(rt.alloc())?;
-    assert_eq!(rt; units.as_slice(), [0xD83D, 0x62].as_slice());
-    Ok(())
-}
-
-/// The parts at a boundary of the string, put together again.
-#[test]
-fn the_parts_at_each_boundary_make_the_whole(rt: HostRuntime) -> Result<(), Fail> {
-    for (units, dump) in JOINING {
-        let text = joined(&rt, rt.alloc(), units)?;
-        for at in 0..text.as_wtf8().len() + 1 {
-            if let Some(front) = cut_to(text.as_wtf8(), at) {
-                let mut whole = Wtf8Buf::new(rt.alloc());
-                whole.push_wtf8(front)?;
-                whole.push_wtf8(cut_from(text.as_wtf8(), at).ok_or("a boundary")?)?;
-                assert_dump(&rt, whole.as_wtf8(), dump)?;
-            }
-        }
+    for unit in [Some(0xD83D), Some(0x62), None] {
+        assert_eq!(rt; units.next(), unit);
     }
     Ok(())
 }

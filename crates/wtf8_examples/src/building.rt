@@ -1,0 +1,52 @@
+// Strings that are built by one push after the other.
+ghost use Rattle.std.specs.Prelude.{◌≡◌, [], ◌∷◌, IfOk};
+ghost use Rattle.wtf8.specs.CodePoint.{number, numbers};
+ghost use Rattle.wtf8.specs.Unicode.{units, units_of};
+
+use std::alloc::{AllocError, Allocator, Global};
+use std::test::Fail;
+use wtf8::{CodePoint, Wtf8Buf};
+
+/// The code point of a unit's number.
+pub fn point_of_unit(unit: u16) -> CodePoint
+    ensures value { number result ≡ unit }
+    ensures units { units_of (number result) ≡ unit ∷ [] }
+{
+    CodePoint::from_u32_unchecked(u32::from(unit))
+}
+
+/// The code points of some units, each by itself.
+pub fn points_of_units(alloc: Global, units: &[u16]) -> Result<Vec<CodePoint>, AllocError>
+    ensures { IfOk result (λ points. numbers points.items ≡ units.now) }
+{
+    let mut points = Vec::new(alloc);
+    for unit in units {
+        points.push(point_of_unit(*unit))?;
+    }
+    Ok(points)
+}
+
+/// The string that pushes of these units give, one after the other.
+pub fn joined<A: Allocator>(alloc: A, units: &[u16]) -> Result<Wtf8Buf<A>, AllocError>
+    ensures { IfOk result (λ text. text.units ≡ units.now) }
+{
+    let mut text = Wtf8Buf::new(alloc);
+    for unit in units {
+        text.push(point_of_unit(*unit))?;
+    }
+    Ok(text)
+}
+
+/// The string that pushes of these numbers' code points give, one after the other.
+pub fn pushed<A: Allocator>(alloc: A, numbers: &[u32]) -> Result<Wtf8Buf<A>, Fail>
+    ensures { IfOk result (λ text. text.units ≡ units numbers.now) }
+{
+    let mut text = Wtf8Buf::new(alloc);
+    for number in numbers {
+        let Some(point) = CodePoint::from_u32(*number) else {
+            return Err(Fail::new("a number of no code point"));
+        };
+        text.push(point)?;
+    }
+    Ok(text)
+}

@@ -1,0 +1,132 @@
+// Debug texts: of strings and code points, whatever width and flags stand outside, and through a sink that refuses a write.
+use std::alloc::Global;
+use std::fmt;
+use std::fmt::{Debug, Write};
+use std::test::Fail;
+use wtf8::{CodePoint, Wtf8};
+use wtf8_examples::pushed;
+
+/// Whether the debug text is this one, with each width and flag outside.
+fn shows<T: Debug>(alloc: Global, value: &T, expected: &str) -> Result<bool, Fail> {
+    Ok(
+        format!(in alloc; "{value:?}")?.as_str() == expected
+            && format!(in alloc; "{value:30?}")?.as_str() == expected
+            && format!(in alloc; "{value:+?}")?.as_str() == expected
+            && format!(in alloc; "{value:.3?}")?.as_str() == expected
+            && format!(in alloc; "{value:#?}")?.as_str() == expected
+            && format!(in alloc; "{value:<#010?}")?.as_str() == expected,
+    )
+}
+
+/// Code points of strings, and the strings' debug texts.
+const STRINGS: [(&[u32], &str); 7] = [
+    (&[], "\"\""),
+    (&[0x61, 0x22, 0x62], "\"a\"b\""),
+    (&[0x61, 0xE9, 0x20, 0x1F4A9, 0xD800], "\"aé 💩\\u{D800}\""),
+    (&[0xD800], "\"\\u{D800}\""),
+    (&[0xABCD, 0xDABC], "\"\u{ABCD}\\u{DABC}\""),
+    (&[0x0A, 0x5C, 0x27, 0x00], "\"\n\\'\0\""),
+    (
+        &[0x5C, 0x75, 0x7B, 0x44, 0x38, 0x30, 0x30, 0x7D],
+        "\"\\u{D800}\"",
+    ),
+];
+
+#[test]
+fn debug_texts_show_surrogates_by_number(rt: HostRuntime) -> Result<(), Fail> {
+    for (numbers, expected) in STRINGS {
+        let text = pushed(rt.alloc(), numbers)?;
+        assert!(rt; shows(rt.alloc(), &text, expected)?, "{expected}");
+        assert!(rt; shows(rt.alloc(), &text.as_wtf8(), expected)?, "{expected}");
+    }
+    assert!(rt; shows(rt.alloc(), &Wtf8::from_str("\\u{D800}"), "\"\\u{D800}\"")?);
+    Ok(())
+}
+
+const POINTS: [(u32, &str); 10] = [
+    (0, "U+0000"),
+    (0x61, "U+0061"),
+    (0xFFF, "U+0FFF"),
+    (0x1000, "U+1000"),
+    (0xABCD, "U+ABCD"),
+    (0xD800, "U+D800"),
+    (0xFFFF, "U+FFFF"),
+    (0x10000, "U+10000"),
+    (0x1F4A9, "U+1F4A9"),
+    (0x10FFFF, "U+10FFFF"),
+];
+
+#[test]
+fn a_debug_text_has_the_number_in_hexadecimal(rt: HostRuntime) -> Result<(), Fail> {
+    for (number, expected) in POINTS {
+        let point = CodePoint::from_u32(number).ok_or("a code point")?;
+        assert!(rt; shows(rt.alloc(), &point, expected)?, "{expected}");
+    }
+    Ok(())
+}
+
+/// Takes what is written, but for one write, which it refuses.
+#[derive(Drop)]
+struct Sink {
+    taken: String,
+    writes: u32,
+    refused: u32,
+}
+
+impl Write for Sink {
+    fn write_str(&mut self, s: &str) -> fmt::Result {
+        self.writes = self.writes.wrapping_add(1);
+        if self.writes == self.refused {
+            return Err(fmt::Error);
+        }
+        self.taken.write_str(s)
+    }
+}
+
+/// Whether a debug text that is written to a sink ends at the refused write, where one is refused, and is whole where none
+/// is. It answers how many writes the sink saw.
+fn writes_of<T: Debug>(
+    alloc: Global,
+    value: &T,
+    refused: u32,
+    expected: &str,
+) -> Result<u32, Fail> {
+    let taken = String::new(alloc);
+    let mut sink = Sink {
+        taken,
+        writes: 0,
+        refused,
+    };
+    let is_ok = write!(sink, "{value:?}").is_ok();
+    if is_ok != (sink.writes < refused) || is_ok != (sink.taken.as_str() == expected) {
+        return Err(Fail::new("the answer is not the sink's"));
+    }
+    if !expected.starts_with(sink.taken.as_str()) || (!is_ok && sink.writes != refused) {
+        return Err(Fail::new("it went on after the refused write"));
+    }
+    Ok(sink.writes)
+}
+
+/// Fails unless each write of a debug text, refused in turn, ends it.
+fn expect_ends<T: Debug>(alloc: Global, value: &T, expected: &str) -> Result<(), Fail> {
+    let writes = writes_of(alloc, value, u32::MAX, expected)?;
+    for refused in 1..writes {
+        writes_of(alloc, value, refused, expected)?;
+    }
+    writes_of(alloc, value, writes, expected)?;
+    Ok(())
+}
+
+#[test]
+fn a_debug_text_ends_at_a_refused_write(rt: HostRuntime) -> Result<(), Fail> {
+    for (numbers, expected) in STRINGS {
+        let text = pushed(rt.alloc(), numbers)?;
+        expect_ends(rt.alloc(), &text, expected)?;
+        expect_ends(rt.alloc(), &text.as_wtf8(), expected)?;
+    }
+    for (number, expected) in POINTS {
+        let point = CodePoint::from_u32(number).ok_or("a code point")?;
+        expect_ends(rt.alloc(), &point, expected)?;
+    }
+    Ok(())
+}
