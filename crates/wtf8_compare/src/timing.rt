@@ -2,7 +2,7 @@
 //!
 //! Each round takes another one of some equal strings, so that a compiler cannot answer one round by the round before.
 use std::alloc::{AllocError, Global};
-use wtf8::{CodePoint, IllFormedUtf16CodeUnits, Wtf8Buf};
+use wtf8::{CodePoint, Wtf8Buf};
 
 /// How many equal strings a loop goes round.
 pub const STRINGS: usize = 4;
@@ -142,7 +142,9 @@ impl Bench {
     fn sum_units(&self) -> u64 {
         let mut sum = 0u64;
         for round in 0..self.rounds {
-            sum = sum.wrapping_add(sum_of(self.string_at(round).as_wtf8().to_ill_formed_utf16()));
+            for unit in self.string_at(round).as_wtf8().to_ill_formed_utf16() {
+                sum = sum.wrapping_add(u64::from(unit));
+            }
         }
         sum
     }
@@ -255,13 +257,4 @@ impl Bench {
         }
         Ok(sum)
     }
-}
-
-// The sum of the units that an iterator has left.
-fn sum_of(mut units: IllFormedUtf16CodeUnits<'_>) -> u64 {
-    let mut sum = 0u64;
-    while let Some(unit) = units.next() {
-        sum = sum.wrapping_add(u64::from(unit));
-    }
-    sum
 }
