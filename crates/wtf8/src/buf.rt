@@ -374,6 +374,143 @@ mod tests {
         Ok(string)
     }
 
+    /// How a string is made.
+    #[derive(Clone, Copy, Debug)]
+    enum Start {
+        New,
+        WithCapacity,
+        FromString,
+        FromStr,
+        FromUnits(&'static [u16]),
+    }
+
+    /// The string of that making, of "a" where it is made of a text.
+    fn started(alloc: Global, start: Start) -> Result<Wtf8Buf<Global>, AllocError> {
+        match start {
+            Start::New => Ok(Wtf8Buf::new(alloc)),
+            Start::WithCapacity => Wtf8Buf::with_capacity(alloc, 4),
+            Start::FromString => Ok(Wtf8Buf::from_string(String::from_str(alloc, "a")?)),
+            Start::FromStr => Wtf8Buf::from_str(alloc, "a"),
+            Start::FromUnits(units) => Wtf8Buf::from_ill_formed_utf16(alloc, units),
+        }
+    }
+
+    /// A building call on it.
+    #[derive(Clone, Copy, Debug)]
+    enum Call {
+        Push(u16),
+        PushChar(char),
+        PushStr(&'static str),
+        PushWtf8(&'static [u16]),
+        Reserve(usize),
+        Truncate(usize),
+    }
+
+    /// Makes the call.
+    fn call_on(
+        alloc: Global,
+        string: &mut Wtf8Buf<Global>,
+        call: Call,
+    ) -> Result<bool, AllocError> {
+        match call {
+            Call::Push(unit) => {
+                let point = CodePoint::from_u32_unchecked(u32::from(unit));
+                string.apply(Build::Push(point))
+            }
+            Call::PushChar(c) => string.apply(Build::PushChar(c)),
+            Call::PushStr(text) => string.apply(Build::PushStr(text)),
+            Call::PushWtf8(units) => {
+                let other = Wtf8Buf::from_ill_formed_utf16(alloc, units)?;
+                string.apply(Build::PushWtf8(other.as_wtf8()))
+            }
+            Call::Reserve(additional) => string.apply(Build::Reserve(additional)),
+            Call::Truncate(position) => string.apply(Build::Truncate(position)),
+        }
+    }
+
+    /// A making, the calls after it, and whether the string is then known to hold no surrogate.
+    const FLAGS: [(Start, &[Call], bool); 26] = [
+        (Start::New, &[], true),
+        (Start::WithCapacity, &[], true),
+        (Start::FromString, &[], true),
+        (Start::FromStr, &[], true),
+        (Start::FromUnits(&[]), &[], true),
+        (Start::FromUnits(&[0x61, 0xD83D, 0xDCA9]), &[], true),
+        (Start::FromUnits(&[0x61, 0xD83D]), &[], false),
+        (Start::FromUnits(&[0xDCA9, 0x61]), &[], false),
+        (Start::FromStr, &[Call::Push(0x61)], true),
+        (Start::FromStr, &[Call::Push(0xE000)], true),
+        (Start::FromStr, &[Call::Push(0xD83D)], false),
+        (Start::FromStr, &[Call::Push(0xDCA9)], false),
+        (
+            Start::FromStr,
+            &[Call::Push(0xD83D), Call::Push(0xDCA9)],
+            false,
+        ),
+        (
+            Start::FromStr,
+            &[Call::Push(0xD83D), Call::Push(0x61)],
+            false,
+        ),
+        (Start::FromStr, &[Call::PushChar('\u{1F4A9}')], true),
+        (
+            Start::FromStr,
+            &[Call::Push(0xD83D), Call::PushChar('a')],
+            false,
+        ),
+        (Start::FromStr, &[Call::PushStr("a")], true),
+        (
+            Start::FromStr,
+            &[Call::Push(0xD83D), Call::PushStr("a")],
+            false,
+        ),
+        (Start::FromStr, &[Call::Reserve(100)], true),
+        (
+            Start::FromStr,
+            &[Call::Push(0xD83D), Call::Reserve(100)],
+            false,
+        ),
+        (Start::FromStr, &[Call::PushWtf8(&[0xD83D, 0xDCA9])], true),
+        (Start::FromStr, &[Call::PushWtf8(&[0xD83D])], false),
+        (
+            Start::FromStr,
+            &[Call::Push(0xD83D), Call::PushWtf8(&[0x61])],
+            false,
+        ),
+        (Start::FromStr, &[Call::Truncate(1)], true),
+        (
+            Start::FromStr,
+            &[Call::Push(0xD83D), Call::Truncate(1)],
+            false,
+        ),
+        (
+            Start::FromStr,
+            &[Call::Push(0xD83D), Call::Truncate(0)],
+            true,
+        ),
+    ];
+
+    #[test]
+    fn the_flag_follows_the_calls(rt: HostRuntime) -> Result<(), AllocError> {
+        for (start, calls, is_known_utf8) in FLAGS {
+            let mut string = started(rt.alloc(), start)?;
+            for call in calls {
+                assert!(rt;
+                    call_on(rt.alloc(), &mut string, *call)?,
+                    "{start:?} {calls:?}"
+                );
+            }
+            assert_eq!(rt; string.is_known_utf8, is_known_utf8, "{start:?} {calls:?}");
+            let copy = string.clone()?;
+            assert_eq!(rt;
+                copy.is_known_utf8,
+                is_known_utf8,
+                "a clone: {start:?} {calls:?}"
+            );
+        }
+        Ok(())
+    }
+
     fn hash_of<T: Hash>(value: &T) -> u64 {
         let mut hasher = DefaultHasher::new();
         value.hash(&mut hasher);

@@ -5,7 +5,7 @@ use std::test::Fail;
 use wtf8::{Build, CodePoint, Stopped, Wtf8Buf};
 use wtf8_examples::{expect_dump, point_of_unit, pushed};
 
-/// Does a call by its name, a truncation where the position is a boundary.
+/// Does a call by its name, a truncation where the position is a boundary or where there are so many units.
 fn call_named(text: &mut Wtf8Buf<Global>, call: Build<'_>) -> Result<(), AllocError> {
     match call {
         Build::Push(code_point) => text.push(code_point),
@@ -17,6 +17,12 @@ fn call_named(text: &mut Wtf8Buf<Global>, call: Build<'_>) -> Result<(), AllocEr
         Build::Truncate(position) => {
             if text.as_wtf8().is_code_point_boundary(position) {
                 text.truncate(position);
+            }
+            Ok(())
+        }
+        Build::TruncateUnits(n) => {
+            if n <= text.as_wtf8().unit_len() {
+                text.truncate_units(n);
             }
             Ok(())
         }
@@ -98,6 +104,9 @@ fn a_list_of_every_call_stops_at_each_request(rt: HostRuntime) -> Result<(), Fai
         Build::Reserve(30),
         Build::Truncate(4),
         Build::Truncate(5),
+        Build::TruncateUnits(3),
+        Build::TruncateUnits(1),
+        Build::Push(point_of_unit(0xDCA9)),
         Build::Push(point_of_unit(0x61)),
     ];
     for stop in &STOPS {
@@ -109,7 +118,7 @@ fn a_list_of_every_call_stops_at_each_request(rt: HostRuntime) -> Result<(), Fai
     }
     let heap = Refusing::new(rt.alloc(), 9);
     let mut text = Wtf8Buf::new(&heap);
-    assert_eq!(rt; text.apply_all(&calls), Ok(2));
+    assert_eq!(rt; text.apply_all(&calls), Ok(3));
     assert_eq!(rt; heap.grants_left(), 5);
     let ample = folded(rt.alloc(), &calls)?;
     expect_dump(rt.alloc(), ample.as_wtf8(), "F0 9F 92 A9 61")?;
