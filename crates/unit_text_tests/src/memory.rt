@@ -1,10 +1,10 @@
 // Refused memory.
 use crate::shared::assert_dump;
+use refusing::Refusing;
 use std::alloc::{AllocError, Global};
 use std::process::Abort;
 use std::test::Fail;
 use unit_text::UnitText;
-use refusing::Refusing;
 
 type Lent<'a> = &'a Refusing<Global>;
 

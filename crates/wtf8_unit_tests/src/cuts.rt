@@ -1,10 +1,10 @@
 // Cuts at every number of units.
 use crate::callers::cut_at_units_and_joined;
 use crate::strings::{JOINING, LISTS, assert_units, long_list};
+use refusing::Refusing;
 use std::process::Abort;
 use std::test::Fail;
 use wtf8::{Build, Wtf8Buf};
-use refusing::Refusing;
 
 /// Cuts the string of some units at each number of them and at two more, with every request for memory refused, and
 /// puts it together again.
