@@ -1,2 +1,3 @@
 pub mod Granted
+pub mod Marks
 pub mod Numbering

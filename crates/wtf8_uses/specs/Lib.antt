@@ -1,2 +1,3 @@
+pub mod FileName
 pub mod Numbered
 pub mod Sorted

@@ -1,6 +1,7 @@
 //! Uses of strings that hold any 16-bit units, each proved from what the library promises.
 #![tactic(auto)]
 
+pub mod file_names;
 pub mod interner;
 pub mod joining;
 pub mod maps;

@@ -1,6 +1,6 @@
 // Each public function on its happy path. Expected values are worked by hand from the encoding's tables.
 use crate::interner::Interner;
-use crate::{joining, maps, refusals, round_trips, sorting, units};
+use crate::{file_names, joining, maps, refusals, round_trips, sorting, units};
 use std::alloc::AllocError;
 use std::collections::HashMap;
 use std::hash::{BuildHasherDefault, FoldHasher};
@@ -85,6 +85,38 @@ fn a_map_finds_equal_strings(rt: HostRuntime) -> Result<(), AllocError> {
     let hashers: BuildHasherDefault<FoldHasher> = BuildHasherDefault::new();
     assert!(rt; maps::hash_alike(&hashers, &same, Wtf8::from_str("💩")));
     assert_eq!(rt; maps::put_and_found(&mut map, key, &same, 7)?, Some(7));
+    Ok(())
+}
+
+#[test]
+fn a_path_has_a_folder_a_name_and_an_extension(rt: HostRuntime) -> Result<(), AllocError> {
+    // C:\a/b<lone trail>.tar.gz
+    let path = Wtf8Buf::from_ill_formed_utf16(
+        rt.alloc(),
+        &[
+            0x43, 0x3A, 0x5C, 0x61, 0x2F, 0x62, TRAIL, 0x2E, 0x74, 0x61, 0x72, 0x2E, 0x67, 0x7A,
+        ],
+    )?;
+    let Some((folder, name)) = file_names::folder_and_name(path.as_wtf8()) else {
+        assert!(rt; false, "a folder");
+        return Ok(());
+    };
+    assert_dump(&rt, folder, "43 3A 5C 61")?;
+    assert_dump(&rt, name, "62 ED B2 A9 2E 74 61 72 2E 67 7A")?;
+    assert!(rt; file_names::folder_and_name(name).is_none());
+    let Some((stem, extension)) = file_names::stem_and_extension(name) else {
+        assert!(rt; false, "an extension");
+        return Ok(());
+    };
+    assert_dump(&rt, stem, "62 ED B2 A9 2E 74 61 72")?;
+    assert_dump(&rt, extension, "67 7A")?;
+    assert!(rt; file_names::stem_and_extension(extension).is_none());
+    let again = file_names::with_extension(rt.alloc(), stem, extension)?;
+    assert!(rt; again.as_wtf8() == name);
+    let joined = file_names::join(rt.alloc(), folder, name)?;
+    assert_dump(&rt, joined.as_wtf8(), "43 3A 5C 61 5C 62 ED B2 A9 2E 74 61 72 2E 67 7A")?;
+    let shown = file_names::shown(rt.alloc(), name)?;
+    assert_eq!(rt; shown.as_str(), "b\u{FFFD}.tar.gz");
     Ok(())
 }
 

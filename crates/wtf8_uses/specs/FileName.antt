@@ -1,0 +1,23 @@
+-- Names in paths: what a cut at the last of two marks says.
+use Rattle.std.specs.Prelude.{◌≡◌, ◌≢◌, ℕ, ◌<◌, ◌⊎◌, List, ◌∷◌, ◌++◌, length, slice_index, Option, MatchOption}
+use Rattle.std.specs.List.{All}
+
+-- A number is one of two marks.
+abbrev pub IsMark : ℕ → ℕ → ℕ → Type 0
+IsMark a b x = (x ≡ a) ⊎ (x ≡ b)
+
+-- None of the numbers is one of two marks.
+pub record HasNoMark (a b : ℕ) (u : List ℕ) : Type 0 where
+  pub first : All (λ x. x ≢ a) u
+  pub second : All (λ x. x ≢ b) u
+
+-- Units are cut at the last of two marks: the units before it, the mark, and the units behind it, which hold none.
+pub record IsCutAtLast (a b : ℕ) (u front back : List ℕ) : Type 0 where
+  pub mark : ℕ
+  pub is_mark : IsMark a b mark
+  pub joined : u ≡ front ++ mark ∷ back
+  pub none : HasNoMark a b back
+
+-- The last place below n of one of two marks, or that there is none.
+abbrev pub IsLastBelow : List ℕ → ℕ → ℕ → ℕ → Option ℕ → Type 0
+IsLastBelow w a b n last = MatchOption last ((j : ℕ) → j < n → (slice_index w j ≢ a) × (slice_index w j ≢ b)) (λ k. (k < n) × IsMark a b (slice_index w k) × ((j : ℕ) → k < j → j < n → (slice_index w j ≢ a) × (slice_index w j ≢ b)))

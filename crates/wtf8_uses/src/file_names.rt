@@ -1,0 +1,99 @@
+//! File names of Windows: 16-bit units that nobody checked.
+ghost use Rattle.std.specs.Prelude.{◌≡◌, ◌<◌, ◌∷◌, ◌++◌, length, IfOk, IfSome, IfNone};
+ghost use Rattle.std.specs.Cow.{cow_str_bytes};
+ghost use Rattle.wtf8.specs.Form.{bytes};
+ghost use Rattle.wtf8.specs.Surrogates.{lossy};
+ghost use Rattle.wtf8.specs.View.{view_points, view_units};
+ghost use Rattle.wtf8_uses.specs.FileName.{IsCutAtLast, HasNoMark, IsLastBelow};
+
+use std::alloc::{AllocError, Global};
+use std::borrow::CowStr;
+use wtf8::{Wtf8, Wtf8Buf, laws};
+
+/// The folder and the name of a path, cut at its last `/` or `\`; `None` where it has neither. No unit is copied.
+pub fn folder_and_name<'a>(path: Wtf8<'a>) -> Option<(Wtf8<'a>, Wtf8<'a>)>
+    ensures some { IfSome result (λ x. IsCutAtLast 0x2F 0x5C (view_units path.entry) (view_units x.0) (view_units x.1)) }
+    ensures none { IfNone result (HasNoMark 0x2F 0x5C (view_units path.entry)) }
+{
+    cut_at_last(path, b'/', b'\\')
+}
+
+/// The stem and the extension of a name, cut at its last `.`; `None` where it has none.
+pub fn stem_and_extension<'a>(name: Wtf8<'a>) -> Option<(Wtf8<'a>, Wtf8<'a>)>
+    ensures some { IfSome result (λ x. IsCutAtLast 0x2E 0x2E (view_units name.entry) (view_units x.0) (view_units x.1)) }
+    ensures none { IfNone result (HasNoMark 0x2E 0x2E (view_units name.entry)) }
+{
+    cut_at_last(name, b'.', b'.')
+}
+
+/// A folder and a name with `\` between them.
+pub fn join(alloc: Global, folder: Wtf8<'_>, name: Wtf8<'_>) -> Result<Wtf8Buf<Global>, AllocError>
+    ensures { IfOk result (λ path. path.units ≡ view_units folder.entry ++ 0x5C ∷ view_units name.entry) }
+{
+    with_mark(alloc, folder, '\\', name)
+}
+
+/// A stem and an extension with `.` between them.
+pub fn with_extension(
+    alloc: Global,
+    stem: Wtf8<'_>,
+    extension: Wtf8<'_>,
+) -> Result<Wtf8Buf<Global>, AllocError>
+    ensures { IfOk result (λ name. name.units ≡ view_units stem.entry ++ 0x2E ∷ view_units extension.entry) }
+{
+    with_mark(alloc, stem, '.', extension)
+}
+
+/// A name as it is shown: U+FFFD stands for each surrogate that is in no pair.
+pub fn shown<'a>(alloc: Global, name: Wtf8<'a>) -> Result<CowStr<'a, Global>, AllocError>
+    ensures { IfOk result (λ text. cow_str_bytes text ≡ bytes (lossy (view_points name.entry))) }
+{
+    name.to_string_lossy(alloc)
+}
+
+/// Two strings and a character between them.
+fn with_mark(
+    alloc: Global,
+    front: Wtf8<'_>,
+    mark: char,
+    back: Wtf8<'_>,
+) -> Result<Wtf8Buf<Global>, AllocError>
+    requires { mark < 0x80 }
+    ensures { IfOk result (λ whole. whole.units ≡ view_units front.entry ++ mark ∷ view_units back.entry) }
+{
+    let mut whole = Wtf8Buf::new(alloc);
+    whole.push_wtf8(front)?;
+    whole.push_char(mark)?;
+    whole.push_wtf8(back)?;
+    Ok(whole)
+}
+
+/// What is before the last of two ASCII marks, and what is behind it; `None` where neither is there.
+fn cut_at_last<'a>(text: Wtf8<'a>, mark: u8, other: u8) -> Option<(Wtf8<'a>, Wtf8<'a>)>
+    requires mark { mark < 0x80 }
+    requires other { other < 0x80 }
+    ensures some { IfSome result (λ x. IsCutAtLast mark other (view_units text.entry) (view_units x.0) (view_units x.1)) }
+    ensures none { IfNone result (HasNoMark mark other (view_units text.entry)) }
+{
+    laws::law_positions();
+    match last_mark(text, mark, other) {
+        Some(place) => Some((text.slice_to(place), text.slice_from(place + 1))),
+        None => None,
+    }
+}
+
+/// The place of the last of two ASCII marks, in bytes.
+fn last_mark(text: Wtf8<'_>, mark: u8, other: u8) -> Option<usize>
+    requires mark { mark < 0x80 }
+    requires other { other < 0x80 }
+    ensures { IsLastBelow text.entry.bytes.now mark other (length text.entry.bytes.now) result }
+{
+    let mut last = None;
+    for place in 0..text.len() {
+        let byte = text.ascii_byte_at(place);
+        if byte == mark || byte == other {
+            last = Some(place);
+        }
+    }
+    last
+}
