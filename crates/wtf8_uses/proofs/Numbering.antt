@@ -26,8 +26,8 @@ module _ {X : Type 0} where
       elim (cases_lt k (length xs)) [
         | inl l ↦ inl (slice_get_read xs (length xs) k y refl l (sym (sym (get_or_append_left xs (x ∷ []) y k l) ∙ here)))
         | inr l ↦
-          let place : k ≡ length xs = omega (arith, within, length-append xs (x ∷ [])) in
-          inr (place, cc (subst (λ n. slice_get (xs ++ x ∷ []) n ≡ Some y) place e, last xs x))
+            let place : k ≡ length xs = omega (arith, within, length-append xs (x ∷ [])) in
+            inr (place, cc (subst (λ n. slice_get (xs ++ x ∷ []) n ≡ Some y) place e, last xs x))
       ]
 
 module _ {S : Type 0} (m n : HashMap UnitString ℕ S) (strings : List UnitString) (key copy : UnitString) (equal : EqualBuffersHaveEqualUnits) (old : AreNumbered m strings) (none : (k : ℕ) → slice_get (units_of_strings strings) k ≡ Some key.units → ⊥) (same : copy.units ≡ key.units) (put : (s : UnitString) → get same_bytes n s ≡ cond (same_bytes key s) (Some (length strings)) (get same_bytes m s)) where
@@ -36,21 +36,19 @@ module _ {S : Type 0} (m n : HashMap UnitString ℕ S) (strings : List UnitStrin
       let us = units_of_strings strings in
       let len : length us ≡ length strings = length-map strings (λ x. x.units) in
       let units : key.units ≡ s.units = (equal key s).0 ((bytes_eq-Decides key.bytes s.bytes).0 t) in
-      let got : get same_bytes n s ≡ Some (length strings) = put s ∙ ap (λ b. cond b (Some (length strings)) (get same_bytes m s)) t in
-      (
+      let got : get same_bytes n s ≡ Some (length strings) = put s ∙ ap (λ b. cond b (Some (length strings)) (get same_bytes m s)) t in (
         λ h. let place : length us ≡ k = cc (len, got, h) in subst (λ j. slice_get (us ++ copy.units ∷ []) j ≡ Some s.units) place (last us copy.units ∙ ap Some (same ∙ units)),
         λ h. elim (old_or_last us copy.units k s.units h) [
           | inl e ↦ absurd (none k (e ∙ ap Some (sym units)))
           | inr e ↦ got ∙ ap Some (sym (e.0 ∙ len))
-        ]
+        ],
       )
   numbered_at s k false t =
       let us = units_of_strings strings in
       let apart : s.units ≡ copy.units → ⊥ = λ e. false≢true (sym t ∙ (bytes_eq-Decides key.bytes s.bytes).1 ((equal key s).1 (sym (e ∙ same)))) in
-      let got : get same_bytes n s ≡ get same_bytes m s = put s ∙ ap (λ b. cond b (Some (length strings)) (get same_bytes m s)) t in
-      (
+      let got : get same_bytes n s ≡ get same_bytes m s = put s ∙ ap (λ b. cond b (Some (length strings)) (get same_bytes m s)) t in (
         λ h. stays us copy.units k s.units ((old s k).0 (sym got ∙ h)),
-        λ h. elim (old_or_last us copy.units k s.units h) [ inl e ↦ got ∙ (old s k).1 e | inr e ↦ absurd (apart e.1) ]
+        λ h. elim (old_or_last us copy.units k s.units h) [ inl e ↦ got ∙ (old s k).1 e | inr e ↦ absurd (apart e.1) ],
       )
 
   pub added : AreNumbered n (strings ++ copy ∷ [])
