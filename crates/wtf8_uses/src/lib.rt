@@ -12,3 +12,4 @@ pub mod table;
 #[cfg(test)]
 mod tests;
 pub mod units;
+pub mod well_formed;

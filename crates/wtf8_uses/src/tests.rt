@@ -1,10 +1,11 @@
 // Each public function on its happy path. Expected values are worked by hand from the encoding's tables.
 use crate::interner::Interner;
-use crate::{file_names, joining, maps, refusals, round_trips, sorting, table, units};
+use crate::{file_names, joining, maps, refusals, round_trips, sorting, table, units, well_formed};
 use std::alloc::AllocError;
 use std::collections::HashMap;
 use std::hash::{BuildHasherDefault, FoldHasher};
 use std::process::Abort;
+use unit_text::UnitText;
 use wtf8::{Build, CodePoint, Stopped, Wtf8, Wtf8Buf};
 
 /// U+1F4A9 as two units, and its bytes.
@@ -175,4 +176,20 @@ fn units_are_counted(rt: HostRuntime) {
     assert_eq!(rt; units::nth_unit(text, 1), Some(LEAD));
     assert_eq!(rt; units::nth_unit(text, 2), Some(TRAIL));
     assert_eq!(rt; units::nth_unit(text, 3), None);
+}
+
+#[test]
+fn lone_surrogates_are_not_well_formed(rt: HostRuntime) -> Result<(), AllocError> {
+    let rows: [(&[u16], bool); 5] = [
+        (&[], true),
+        (&[0x0061, LEAD, TRAIL], true),
+        (&[LEAD], false),
+        (&[TRAIL, LEAD], false),
+        (&[0xFFFD, 0xE000], true),
+    ];
+    for (list, expected) in rows {
+        let text = UnitText::from_units(rt.alloc(), list)?;
+        assert_eq!(rt; well_formed::is_well_formed(&text), expected, "{list:?}");
+    }
+    Ok(())
 }
