@@ -1,5 +1,5 @@
 -- Names in paths: what a cut at the last of two marks says.
-use Rattle.std.specs.Prelude.{◌≡◌, ◌≢◌, ℕ, ◌<◌, ◌⊎◌, List, ◌∷◌, ◌++◌, length, slice_index, Option, MatchOption}
+use Rattle.std.specs.Prelude.{◌≡◌, ◌≢◌, ℕ, ◌<◌, ◌⊎◌, List, ◌∷◌, ◌++◌, slice_index, Option, MatchOption}
 use Rattle.std.specs.List.{All}
 
 -- A number is one of two marks.

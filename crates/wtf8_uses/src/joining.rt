@@ -28,8 +28,7 @@ pub fn build_alike(
     calls: &[Build<'_>],
     others: &[Build<'_>],
 ) -> Result<bool, Stopped>
-    requires { (v : List ℕ) × Append calls.now v × Append others.now v }
-    ensures { IfOk result (λ same. IsTrue same) }
+    ensures { IfOk result (λ same. (v : List ℕ) → Append calls.now v → Append others.now v → IsTrue same) }
 {
     let mut string = Wtf8Buf::new(alloc);
     let mut other = Wtf8Buf::new(alloc);

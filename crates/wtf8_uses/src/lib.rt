@@ -8,6 +8,8 @@ pub mod maps;
 pub mod refusals;
 pub mod round_trips;
 pub mod sorting;
+pub mod table;
 #[cfg(test)]
 mod tests;
 pub mod units;
+pub mod well_formed;

@@ -7,25 +7,23 @@ use std::collections::HashMap;
 use std::hash::{BuildHasher, Hash, Hasher};
 use wtf8::{Wtf8, Wtf8Buf, laws};
 
-/// Puts a value under a key, and looks up a key of the same units: it finds the value.
+/// Puts a value under a key, and looks another key up: where that has the same units, it finds the value.
 pub fn put_and_found(
     map: &mut HashMap<Wtf8Buf<Global>, u32>,
     key: Wtf8Buf<Global>,
     same_key: &Wtf8Buf<Global>,
     value: u32,
 ) -> Result<Option<u32>, AllocError>
-    requires { key.units ≡ same_key.now.units }
-    ensures { IfOk result (λ found. found ≡ Some value) }
+    ensures { IfOk result (λ found. key.units ≡ same_key.now.units → found ≡ Some value) }
 {
     laws::law_equal_strings();
     map.insert(key, value)?;
     Ok(map.get(same_key).copied())
 }
 
-/// Whether hashers of one kind answer alike of a buffer and of a view with the same units: it always does.
+/// Whether hashers of one kind answer alike of a buffer and of a view: they do where these have the same units.
 pub fn hash_alike<H: BuildHasher>(build: &H, buffer: &Wtf8Buf<Global>, view: Wtf8<'_>) -> bool
-    requires { buffer.now.units ≡ view_units view }
-    ensures { IsTrue result }
+    ensures { buffer.now.units ≡ view_units view.entry → IsTrue result }
 {
     laws::law_equal_strings();
     let mut first = build.build_hasher();

@@ -40,16 +40,15 @@ pub fn push_both<A: Allocator>(
     string.push_wtf8(back)
 }
 
-/// Appends what a list of pushes and extensions appends, or nothing of it: room for at most so many bytes is found
-/// first, and then no call is refused.
+/// Appends what a list of pushes and extensions appends, or nothing of it, where that is at most so many bytes: room for
+/// these is found first, and then no call is refused.
 pub fn push_list<A: Allocator>(
     string: &mut Wtf8Buf<A>,
     calls: &[Build<'_>],
     most: usize,
 ) -> Result<(), AllocError>
-    requires { (v : List ℕ) × Append calls.now v × FitWithin v 0 most }
     ensures ok { OnOk result ((v : List ℕ) → Append calls.now v → AppendsUnits string.old v string.new) }
-    ensures kept { OnErr result (KeepsContents string.old string.new) }
+    ensures kept { OnErr result ((v : List ℕ) → Append calls.now v → FitWithin v 0 most → KeepsContents string.old string.new) }
 {
     laws::law_room();
     string.reserve(most)?;

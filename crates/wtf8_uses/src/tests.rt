@@ -1,10 +1,11 @@
 // Each public function on its happy path. Expected values are worked by hand from the encoding's tables.
 use crate::interner::Interner;
-use crate::{file_names, joining, maps, refusals, round_trips, sorting, units};
+use crate::{file_names, joining, maps, refusals, round_trips, sorting, table, units, well_formed};
 use std::alloc::AllocError;
 use std::collections::HashMap;
 use std::hash::{BuildHasherDefault, FoldHasher};
 use std::process::Abort;
+use unit_text::UnitText;
 use wtf8::{Build, CodePoint, Stopped, Wtf8, Wtf8Buf};
 
 /// U+1F4A9 as two units, and its bytes.
@@ -58,23 +59,31 @@ fn units_and_texts_come_back(rt: HostRuntime) -> Result<(), AllocError> {
     Ok(())
 }
 
+/// U+E000 and U+10000, which stand the other way round by their units.
+const IN_ORDER: [&str; 2] = ["EE 80 80", "F0 90 80 80"];
+
 #[test]
 fn strings_and_views_are_sorted(rt: HostRuntime) -> Result<(), AllocError> {
-    // U+E000 stands before U+10000 by code points, and behind it by units.
     let first = Wtf8Buf::from_ill_formed_utf16(rt.alloc(), &[0xE000])?;
     let second = Wtf8Buf::from_ill_formed_utf16(rt.alloc(), &[0xD800, 0xDC00])?;
     let mut views = Vec::new(rt.alloc());
     views.push(second.as_wtf8())?;
     views.push(first.as_wtf8())?;
     sorting::sort_views(&mut views)?;
-    assert_dump(&rt, views[0], "EE 80 80")?;
-    assert_dump(&rt, views[1], "F0 90 80 80")?;
+    for (view, dump) in views.iter().zip(IN_ORDER) {
+        assert_dump(&rt, *view, dump)?;
+    }
     let mut strings = Vec::new(rt.alloc());
     strings.push(second.clone()?)?;
     strings.push(first.clone()?)?;
     sorting::sort_strings(&mut strings)?;
-    assert_dump(&rt, strings[0].as_wtf8(), "EE 80 80")?;
-    assert_dump(&rt, strings[1].as_wtf8(), "F0 90 80 80")
+    for (string, dump) in strings.iter().zip(IN_ORDER) {
+        assert_dump(&rt, string.as_wtf8(), dump)?;
+    }
+    assert_eq!(rt; table::place_of(strings.as_slice(), &second), Ok(1));
+    let behind = Wtf8Buf::from_ill_formed_utf16(rt.alloc(), &[0xF000])?;
+    assert_eq!(rt; table::place_of(strings.as_slice(), &behind), Err(1));
+    Ok(())
 }
 
 #[test]
@@ -114,7 +123,11 @@ fn a_path_has_a_folder_a_name_and_an_extension(rt: HostRuntime) -> Result<(), Al
     let again = file_names::with_extension(rt.alloc(), stem, extension)?;
     assert!(rt; again.as_wtf8() == name);
     let joined = file_names::join(rt.alloc(), folder, name)?;
-    assert_dump(&rt, joined.as_wtf8(), "43 3A 5C 61 5C 62 ED B2 A9 2E 74 61 72 2E 67 7A")?;
+    assert_dump(
+        &rt,
+        joined.as_wtf8(),
+        "43 3A 5C 61 5C 62 ED B2 A9 2E 74 61 72 2E 67 7A",
+    )?;
     let shown = file_names::shown(rt.alloc(), name)?;
     assert_eq!(rt; shown.as_str(), "b\u{FFFD}.tar.gz");
     Ok(())
@@ -163,4 +176,20 @@ fn units_are_counted(rt: HostRuntime) {
     assert_eq!(rt; units::nth_unit(text, 1), Some(LEAD));
     assert_eq!(rt; units::nth_unit(text, 2), Some(TRAIL));
     assert_eq!(rt; units::nth_unit(text, 3), None);
+}
+
+#[test]
+fn lone_surrogates_are_not_well_formed(rt: HostRuntime) -> Result<(), AllocError> {
+    let rows: [(&[u16], bool); 5] = [
+        (&[], true),
+        (&[0x0061, LEAD, TRAIL], true),
+        (&[LEAD], false),
+        (&[TRAIL, LEAD], false),
+        (&[0xFFFD, 0xE000], true),
+    ];
+    for (list, expected) in rows {
+        let text = UnitText::from_units(rt.alloc(), list)?;
+        assert_eq!(rt; well_formed::is_well_formed(&text), expected, "{list:?}");
+    }
+    Ok(())
 }

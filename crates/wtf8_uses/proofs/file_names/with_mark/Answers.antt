@@ -1,4 +1,4 @@
-use Rattle.std.proofs.Common.{◌≡◌, [], ◌∷◌, ◌++◌, ap, ◌∙◌, append_assoc, arith}
+use Rattle.std.proofs.Common.{◌≡◌, [], ◌∷◌, ◌++◌, ap, ◌∙◌, append_assoc}
 use Rattle.wtf8.specs.View.{view_units}
 use Rattle.wtf8_uses.proofs.Marks.{ascii_unit}
 use Rattle.wtf8_uses.proofs.file_names.with_mark.Goals as goal
