@@ -102,11 +102,12 @@ impl Bench {
     pub fn new(alloc: Global, units: &[u16], rounds: u32) -> Result<Bench, AllocError> {
         let string = Wtf8Buf::from_ill_formed_utf16(alloc, units)?;
         let points = string.as_wtf8().code_points().collect(alloc)?;
+        let first = Counted::new(alloc, string, units)?;
         let strings = [
-            Counted::new(alloc, string.clone()?, units)?,
-            Counted::new(alloc, string.clone()?, units)?,
-            Counted::new(alloc, string.clone()?, units)?,
-            Counted::new(alloc, string, units)?,
+            first.copy(alloc)?,
+            first.copy(alloc)?,
+            first.copy(alloc)?,
+            first,
         ];
         Ok(Bench {
             alloc,
