@@ -14,7 +14,7 @@ use crate::ours;
 use crate::say;
 
 /// The loops by number, as the proved library's exports know them.
-const LOOPS: [(u32, &str); 14] = [
+const LOOPS: [(u32, &str); 19] = [
     (1, "from_ill_formed_utf16"),
     (2, "to_ill_formed_utf16, collected"),
     (3, "to_ill_formed_utf16, summed"),
@@ -29,6 +29,11 @@ const LOOPS: [(u32, &str); 14] = [
     (12, "cmp"),
     (13, "clone"),
     (14, "hex_dump"),
+    (15, "unit_len"),
+    (16, "unit_at, middle"),
+    (17, "slice_units, middle half"),
+    (18, "cmp_units"),
+    (19, "clone and truncate_units"),
 ];
 
 /// How often a column is timed.

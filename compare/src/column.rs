@@ -92,8 +92,34 @@ macro_rules! column {
                         14 => Some(sum(rounds, |round| {
                             black_box(hex_dump(self.string_at(round))).len() as u64
                         })),
+                        15 => Some(sum(rounds, |round| {
+                            self.string_at(round).$units().count() as u64
+                        })),
+                        16 => Some(sum(rounds, |round| {
+                            let unit = self.string_at(round).$units().nth(self.units.len() / 2);
+                            unit.map_or(0, u64::from)
+                        })),
+                        17 => Some(sum(rounds, |round| {
+                            let begin = self.units.len() / 4;
+                            self.part(round, begin, self.units.len() - 2 * begin)
+                        })),
+                        18 => Some(sum(rounds, |round| {
+                            let other = self.string_at(round / STRINGS as u32 + 1);
+                            let order = self.string_at(round).$units().cmp(other.$units());
+                            u64::from(order.is_eq())
+                        })),
+                        19 => Some(sum(rounds, |round| {
+                            self.part(round, 0, self.units.len() / 2)
+                        })),
                         _ => None,
                     }
+                }
+
+                /// Makes a string of so many units behind the first ones, and answers its length.
+                fn part(&self, round: u32, begin: usize, count: usize) -> u64 {
+                    let units = self.string_at(round).$units();
+                    let units: Vec<u16> = units.skip(begin).take(count).collect();
+                    black_box(Wtf8Buf::$from_units(&units)).len() as u64
                 }
 
                 fn push(&self) -> u64 {

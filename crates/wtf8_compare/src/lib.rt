@@ -4,6 +4,7 @@
 ghost use Rattle.std.specs.Prelude.{◌≡◌, ◌<◌, ◌<ℤ◌, ◌↔◌, ◌⊎◌, ℕ, pos, length, drop};
 ghost use Rattle.wtf8_compare.specs.Front.{with_front};
 
+mod counted;
 mod timing;
 
 use std::alloc::{AllocError, Global};
@@ -42,7 +43,7 @@ pub extern "C" fn wtf8_compare_run(alloc: Global, script: &[u8], out: &mut [u8])
     }
 }
 
-/// Makes equal strings of some units, runs the loop of a number, 0 to 14, over them for so many rounds, and writes to
+/// Makes equal strings of some units, runs the loop of a number, 0 to 19, over them for so many rounds, and writes to
 /// `sum` a sum over what its calls answered, which wraps round at 2^64.
 ///
 /// It answers 0, or a number below 0 where `sum` is left as it was: -1 where the number has no loop, -2 for want of
@@ -57,7 +58,7 @@ pub extern "C" fn wtf8_compare_time(
 ) -> i64
     ensures code { (result ≡ pos 0) ⊎ ((result ≡ NO_LOOP) ⊎ (result ≡ MEMORY)) }
     ensures kept { result <ℤ pos 0 → sum.new ≡ sum.old }
-    ensures no_loop { (result ≡ NO_LOOP) ↔ 14 < number }
+    ensures no_loop { (result ≡ NO_LOOP) ↔ 19 < number }
 {
     let Some(timed) = Timed::from_number(number) else {
         return NO_LOOP;

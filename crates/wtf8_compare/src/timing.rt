@@ -1,7 +1,9 @@
 //! Calls in loops, for timings.
 //!
 //! Each round takes another one of some equal strings, so that a compiler cannot answer one round by the round before.
+use crate::counted::Counted;
 use std::alloc::{AllocError, Global};
+use unit_text::UnitText;
 use wtf8::{CodePoint, Wtf8Buf};
 
 /// How many equal strings a loop goes round.
@@ -40,6 +42,16 @@ pub enum Timed {
     Clone,
     /// `hex_dump`.
     HexDump,
+    /// `unit_len`.
+    UnitLen,
+    /// `unit_at` in the middle.
+    UnitAt,
+    /// `slice_units` of the middle half.
+    SliceUnits,
+    /// `cmp_units` of two equal texts.
+    OrderUnits,
+    /// `clone`, and `truncate_units` in the middle.
+    TruncateUnits,
 }
 
 impl Timed {
@@ -47,7 +59,7 @@ impl Timed {
 
     /// The loop of a number, or `None` where the number has none.
     pub fn from_number(number: u32) -> Option<Timed>
-        ensures { IsNone result ↔ 14 < number }
+        ensures { IsNone result ↔ 19 < number }
     {
         match number {
             0 => Some(Timed::Nothing),
@@ -65,6 +77,11 @@ impl Timed {
             12 => Some(Timed::Order),
             13 => Some(Timed::Clone),
             14 => Some(Timed::HexDump),
+            15 => Some(Timed::UnitLen),
+            16 => Some(Timed::UnitAt),
+            17 => Some(Timed::SliceUnits),
+            18 => Some(Timed::OrderUnits),
+            19 => Some(Timed::TruncateUnits),
             _ => None,
         }
     }
@@ -75,7 +92,7 @@ impl Timed {
 pub struct Bench {
     alloc: Global,
     units: Vec<u16>,
-    strings: [Wtf8Buf<Global>; STRINGS],
+    strings: [Counted; STRINGS],
     points: Vec<CodePoint>,
     rounds: u32,
 }
@@ -85,7 +102,13 @@ impl Bench {
     pub fn new(alloc: Global, units: &[u16], rounds: u32) -> Result<Bench, AllocError> {
         let string = Wtf8Buf::from_ill_formed_utf16(alloc, units)?;
         let points = string.as_wtf8().code_points().collect(alloc)?;
-        let strings = [string.clone()?, string.clone()?, string.clone()?, string];
+        let first = Counted::new(alloc, string, units)?;
+        let strings = [
+            first.copy(alloc)?,
+            first.copy(alloc)?,
+            first.copy(alloc)?,
+            first,
+        ];
         Ok(Bench {
             alloc,
             units: Vec::from_slice(alloc, units)?,
@@ -113,11 +136,24 @@ impl Bench {
             Timed::Order => Ok(self.order()),
             Timed::Clone => self.clone_strings(),
             Timed::HexDump => self.hex_dump(),
+            Timed::UnitLen => Ok(self.unit_len()),
+            Timed::UnitAt => Ok(self.unit_at()),
+            Timed::SliceUnits => self.slice_units(),
+            Timed::OrderUnits => Ok(self.order_units()),
+            Timed::TruncateUnits => self.truncate_units(),
         }
     }
 
-    fn string_at(&self, round: u32) -> &Wtf8Buf<Global> {
+    fn counted_at(&self, round: u32) -> &Counted {
         &self.strings[round as usize % STRINGS]
+    }
+
+    fn string_at(&self, round: u32) -> &Wtf8Buf<Global> {
+        self.counted_at(round).string()
+    }
+
+    fn text_at(&self, round: u32) -> &UnitText<Global> {
+        self.counted_at(round).text()
     }
 
     fn from_units(&self) -> Result<u64, AllocError> {
@@ -254,6 +290,52 @@ impl Bench {
         for round in 0..self.rounds {
             let dump = self.string_at(round).as_wtf8().hex_dump(self.alloc)?;
             sum = sum.wrapping_add(dump.len() as u64);
+        }
+        Ok(sum)
+    }
+
+    fn unit_len(&self) -> u64 {
+        let mut sum = 0u64;
+        for round in 0..self.rounds {
+            sum = sum.wrapping_add(self.text_at(round).unit_len() as u64);
+        }
+        sum
+    }
+
+    fn unit_at(&self) -> u64 {
+        let mut sum = 0u64;
+        for round in 0..self.rounds {
+            let unit = self.counted_at(round).middle_unit().unwrap_or(0);
+            sum = sum.wrapping_add(u64::from(unit));
+        }
+        sum
+    }
+
+    fn slice_units(&self) -> Result<u64, AllocError> {
+        let mut sum = 0u64;
+        for round in 0..self.rounds {
+            let half = self.counted_at(round).middle_half(self.alloc)?;
+            sum = sum.wrapping_add(half.as_wtf8().len() as u64);
+        }
+        Ok(sum)
+    }
+
+    fn order_units(&self) -> u64 {
+        let mut sum = 0u64;
+        for round in 0..self.rounds {
+            let order = self
+                .text_at(round)
+                .cmp_units(self.text_at(round / STRINGS as u32 + 1));
+            sum = sum.wrapping_add(u64::from(order.is_eq()));
+        }
+        sum
+    }
+
+    fn truncate_units(&self) -> Result<u64, AllocError> {
+        let mut sum = 0u64;
+        for round in 0..self.rounds {
+            let half = self.counted_at(round).first_half()?;
+            sum = sum.wrapping_add(half.as_wtf8().len() as u64);
         }
         Ok(sum)
     }
