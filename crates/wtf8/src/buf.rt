@@ -428,6 +428,19 @@ mod tests {
         }
     }
 
+    /// The string of that making after the calls, of which none is refused.
+    fn built<R: Abort + AllocGlobal>(
+        rt: &R,
+        start: Start,
+        calls: &[Call],
+    ) -> Result<Wtf8Buf<Global>, AllocError> {
+        let mut string = started(rt.alloc(), start)?;
+        for call in calls {
+            assert!(rt; call_on(rt.alloc(), &mut string, *call)?, "{call:?}");
+        }
+        Ok(string)
+    }
+
     /// A making, the calls after it, and whether the string is then known to hold no surrogate.
     const FLAGS: [(Start, &[Call], bool); 26] = [
         (Start::New, &[], true),
@@ -493,13 +506,7 @@ mod tests {
     #[test]
     fn the_flag_follows_the_calls(rt: HostRuntime) -> Result<(), AllocError> {
         for (start, calls, is_known_utf8) in FLAGS {
-            let mut string = started(rt.alloc(), start)?;
-            for call in calls {
-                assert!(rt;
-                    call_on(rt.alloc(), &mut string, *call)?,
-                    "{start:?} {calls:?}"
-                );
-            }
+            let string = built(&rt, start, calls)?;
             assert_eq!(rt; string.is_known_utf8, is_known_utf8, "{start:?} {calls:?}");
             let copy = string.clone()?;
             assert_eq!(rt;
