@@ -1,10 +1,27 @@
-//! Links the proved static library, and the toolchain's own small C library, which is found through `rt`.
+//! Links the proved static library, and the toolchain's own small C library, which is found through `rt`; or neither, where
+//! `COMPARE_PROGRAM` names a program that runs the scripts.
 
 use std::env;
 use std::path::{Path, PathBuf};
 use std::process::Command;
 
 fn main() {
+    println!("cargo:rustc-check-cfg=cfg(by_program)");
+    println!("cargo:rerun-if-env-changed=COMPARE_PROGRAM");
+    if env::var_os("COMPARE_PROGRAM").is_some() {
+        println!("cargo:rustc-cfg=by_program");
+    } else {
+        link_library();
+    }
+    // The standard library's own WTF-8 is there for compilers that allow features.
+    println!("cargo:rustc-check-cfg=cfg(std_wtf8)");
+    println!("cargo:rerun-if-env-changed=RUSTC_BOOTSTRAP");
+    if env::var_os("RUSTC_BOOTSTRAP").is_some() {
+        println!("cargo:rustc-cfg=std_wtf8");
+    }
+}
+
+fn link_library() {
     let here = PathBuf::from(env::var("CARGO_MANIFEST_DIR").expect("cargo names the folder"));
     let library = here.join("../crates/wtf8_compare/out");
     println!(
@@ -18,12 +35,6 @@ fn main() {
     );
     println!("cargo:rustc-link-lib=static=wtf8_compare");
     println!("cargo:rustc-link-lib=static=libc_c");
-    // The standard library's own WTF-8 is there for compilers that allow features.
-    println!("cargo:rustc-check-cfg=cfg(std_wtf8)");
-    println!("cargo:rerun-if-env-changed=RUSTC_BOOTSTRAP");
-    if env::var_os("RUSTC_BOOTSTRAP").is_some() {
-        println!("cargo:rustc-cfg=std_wtf8");
-    }
 }
 
 /// The folder of the page that `rt doc` names.

@@ -1,47 +1,11 @@
-//! The proved library, through its exports.
+//! The proved side: the library through its exports, or, where the build was told of one, a program over it.
 
-use std::cell::RefCell;
+#[cfg(not(by_program))]
+mod library;
+#[cfg(by_program)]
+mod program;
 
-use crate::console::fail;
-
-extern "C" {
-    fn wtf8_compare_run(script: *const u8, script_len: usize, out: *mut u8, out_len: usize) -> i64;
-    fn wtf8_compare_time(
-        number: u32,
-        units: *const u16,
-        units_len: usize,
-        rounds: u32,
-        sum: *mut u64,
-    ) -> i64;
-}
-
-thread_local! {
-    /// Where transcripts are written, kept from one script to the next.
-    static TRANSCRIPT: RefCell<Vec<u8>> = RefCell::new(vec![0; 1 << 16]);
-}
-
-/// The proved library's transcript of a script, or what it gave in the place of one.
-pub fn run(script: &[u8]) -> String {
-    TRANSCRIPT.with_borrow_mut(|out| loop {
-        let len =
-            unsafe { wtf8_compare_run(script.as_ptr(), script.len(), out.as_mut_ptr(), out.len()) };
-        let Ok(len) = usize::try_from(len) else {
-            return format!("NO TRANSCRIPT, {len}\n");
-        };
-        match out.get(..len) {
-            Some(transcript) => return String::from_utf8_lossy(transcript).into_owned(),
-            None => out.resize(2 * len, 0),
-        }
-    })
-}
-
-/// Runs a timed loop of the proved library, and answers its sum.
-pub fn time(number: u32, units: &[u16], rounds: u32) -> u64 {
-    let mut sum = 0;
-    let status =
-        unsafe { wtf8_compare_time(number, units.as_ptr(), units.len(), rounds, &mut sum) };
-    match status {
-        0 => sum,
-        _ => fail(&format!("the proved library's loop {number} gave {status}")),
-    }
-}
+#[cfg(not(by_program))]
+pub use library::{run, time};
+#[cfg(by_program)]
+pub use program::{run, time};
