@@ -1,13 +1,14 @@
 //! The lists of scripts that are gone through one by one, by their names.
 
 use crate::script::Call;
-use crate::{building, generate, long};
+use crate::{building, generate, long, pairs};
 
 /// A name, and what makes the scripts of that list.
 pub type List = (&'static str, fn() -> Vec<Vec<Call>>);
 
-pub const LISTS: [List; 12] = [
+pub const LISTS: [List; 13] = [
     ("code points at edges", generate::edge_calls),
+    ("pairs", pairs::pairs),
     ("up to four units", up_to_four_units),
     ("lists of building calls", building::lists_of_calls),
     ("false hints", building::false_hints),

@@ -18,6 +18,7 @@ mod long;
 mod model;
 mod original;
 mod ours;
+mod pairs;
 mod random;
 mod record;
 mod script;

@@ -6,7 +6,7 @@ use std::path::Path;
 use crate::original;
 use crate::random::Random;
 use crate::script::{encode, Call};
-use crate::{building, generate, long, say};
+use crate::{building, generate, long, pairs, say};
 
 /// Writes scripts in hexadecimal, one a line, to `stdin` in a folder, and the original crate's transcripts, with an
 /// empty line behind each, to `stdout` there.
@@ -46,5 +46,6 @@ fn chosen() -> Vec<Vec<Call>> {
     scripts.extend(lists.iter().map(|units| generate::calls_on(units)));
     scripts.extend(building::chosen());
     scripts.extend(long::chosen());
+    scripts.extend(pairs::chosen());
     scripts
 }

@@ -1,0 +1,76 @@
+//! The list of pairs: leads and trails with every bit of their ten, put together by each call that joins, and taken apart.
+
+use crate::generate::{from_units, registers};
+use crate::script::{Call, Operand};
+
+/// Ten bits: none, all, each one alone, and all but each one.
+fn ten_bits() -> Vec<u16> {
+    let alone = (0..10).map(|bit| 1 << bit);
+    let mut bits = vec![0, 0x3FF];
+    bits.extend(alone.clone());
+    bits.extend(alone.map(|bit| 0x3FF - bit));
+    bits
+}
+
+/// Each lead of these with each trail, and each alone behind a letter.
+pub fn pairs() -> Vec<Vec<Call>> {
+    let bits = ten_bits();
+    let mut scripts = Vec::new();
+    for lead in bits.iter().map(|bits| 0xD800 + bits) {
+        scripts.extend(bits.iter().map(|bits| joined(lead, 0xDC00 + bits)));
+    }
+    scripts.extend(bits.iter().map(|bits| alone(0xD800 + bits)));
+    scripts.extend(bits.iter().map(|bits| alone(0xDC00 + bits)));
+    scripts
+}
+
+/// A few of these, for a list that is short.
+pub fn chosen() -> Vec<Vec<Call>> {
+    vec![
+        joined(0xDBC0, 0xDC00),
+        joined(0xD83F, 0xDFC0),
+        joined(0xDBFF, 0xDFFF),
+        alone(0xDBC0),
+        alone(0xDFC0),
+    ]
+}
+
+/// A pair put together by `push`, by `push_wtf8` and from its units.
+fn joined(lead: u16, trail: u16) -> Vec<Call> {
+    let mut calls = vec![
+        from_units(0, &[]),
+        push(0, lead),
+        from_units(1, &[lead]),
+        from_units(2, &[trail]),
+        registers("push_wtf8", 1, 2),
+        from_units(2, &[lead, trail]),
+        push(0, trail),
+        registers("comparisons", 0, 1),
+        registers("comparisons", 0, 2),
+    ];
+    for name in ["hash", "as_str", "units by number", "into_string"] {
+        calls.push(on(0, name));
+    }
+    calls
+}
+
+/// A lone surrogate behind a letter and before one: no such string is text.
+fn alone(surrogate: u16) -> Vec<Call> {
+    let mut calls = vec![from_units(0, &[0x61]), push(0, surrogate)];
+    let looks = ["as_str", "to_string_lossy", "hash", "into_string"];
+    calls.extend(looks.map(|name| on(0, name)));
+    calls.push(from_units(0, &[0x61]));
+    calls.push(push(0, surrogate));
+    calls.push(push(0, 0x61));
+    calls.extend(looks.map(|name| on(0, name)));
+    calls
+}
+
+fn push(register: u8, unit: u16) -> Call {
+    let operands = vec![Operand::Register(register), Operand::Value(unit.into())];
+    Call::new("push", operands)
+}
+
+fn on(register: u8, name: &str) -> Call {
+    Call::new(name, vec![Operand::Register(register)])
+}
