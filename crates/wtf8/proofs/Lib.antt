@@ -2,6 +2,7 @@ pub mod ByteOrder
 pub mod ComparingLemmas
 pub mod DebugLemmas
 pub mod Decoded
+pub mod DisplayLemmas
 pub mod EncodingLemmas
 pub mod Gaining
 pub mod Gluing

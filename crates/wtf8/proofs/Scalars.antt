@@ -25,7 +25,7 @@ scalar-append [] d s t = t
 scalar-append (p ∷ c) d s t = (s.0, scalar-append c d s.1 t)
 
 -- the characters of a text are scalar values
-scalar-characters : (c : List ℕ) → scalars c ≡ true → AreScalar c
+pub scalar-characters : (c : List ℕ) → scalars c ≡ true → AreScalar c
 scalar-characters [] e = tt
 scalar-characters (p ∷ c) e =
     let parts = scalars-parts p c e in

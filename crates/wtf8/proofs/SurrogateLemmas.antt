@@ -11,7 +11,7 @@ use Rattle.wtf8.specs.OneForm.{bytes_are_encodes}
 use Rattle.wtf8.specs.Surrogates.{AreScalar, replaced, lossy, SurrogateAt, IsLeastSurrogate, IsFirstSurrogate}
 use Rattle.wtf8.proofs.EncodingLemmas.{encoding_three, length-encoding_bounds, row_of, one, two, three, four}
 use Rattle.wtf8.proofs.Positions.{begun}
-use Rattle.wtf8.proofs.Joining.{split_at, bytes-append, clean-first, clean-rest}
+use Rattle.wtf8.proofs.Joining.{split_at, bytes-append, clean-first, clean-front, clean-rest, clean-back}
 
 -- the bytes of a surrogate are ED and from A0 on
 pub surrogate_at : (f : List ℕ) (p : ℕ) (b : List ℕ) → IsSurrogate p → SurrogateAt (bytes (f ++ p ∷ b)) (length (bytes f))
@@ -234,3 +234,24 @@ not_scalar_if_some h i least s = none_from_scalar h.points i s (subst (λ v. Sur
 
 pub utf8_if_none : {w : List ℕ} (h : IsWellFormed w) → ((j : ℕ) → 0 ≤ j → ¬ (SurrogateAt w j)) → IsUtf8 w
 utf8_if_none h none = subst IsUtf8 h.encoded (utf8_of h.points h.clean (scalar_if_none h none))
+
+-- a string about its first surrogate: a text, the surrogate and what is behind it
+pub record Parted (w : List ℕ) (h : IsWellFormed w) (found : ℕ) : Type 0 where
+  pub within : found + 3 ≤ length w
+  pub text : IsUtf8 (take found w)
+  pub rest : IsWellFormed (drop (found + 3) w)
+  pub lossy_parts : bytes (lossy h.points) ≡ take found w ++ bytes (0xFFFD ∷ lossy rest.points)
+
+pub parted : {w : List ℕ} (h : IsWellFormed w) (found : ℕ) → IsLeastSurrogate w 0 found → Parted w h found
+parted {w} h found least =
+    let p = surrogate_in h.points found (subst (λ v. SurrogateAt v found) (sym h.encoded) least.here) in
+    let whole : w ≡ bytes (p.front ++ p.point ∷ p.back) = sym h.encoded ∙ ap bytes p.joined in
+    let a = around w p.front p.point p.back found whole p.front_len p.surrogate in
+    let clean : IsClean (p.front ++ p.point ∷ p.back) = subst IsClean p.joined h.clean in
+    let plain : AreScalar p.front = scalar_between [] p.front (p.point ∷ p.back) (λ j l u s. least.none_between j l (omega (arith, p.front_len)) (subst (λ v. SurrogateAt v j) (sym whole) s)) in
+    record {
+      within = a.within;
+      text = subst IsUtf8 (sym a.before) (utf8_of p.front (clean-front p.front (p.point ∷ p.back) clean) plain);
+      rest = record { points = p.back; clean = clean-rest p.point p.back (clean-back p.front (p.point ∷ p.back) clean); encoded = sym a.behind };
+      lossy_parts = ap (λ c. bytes (lossy c)) p.joined ∙ (ap bytes (lossy-append p.front (p.point ∷ p.back)) ∙ (bytes-append (lossy p.front) (lossy (p.point ∷ p.back)) ∙ (ap (λ c. bytes c ++ bytes (replaced p.point ∷ lossy p.back)) (lossy-scalar p.front plain) ∙ (ap (λ q. bytes p.front ++ bytes (q ∷ lossy p.back)) (replaced_surrogate p.point p.surrogate) ∙ ap (λ v. v ++ bytes (0xFFFD ∷ lossy p.back)) (sym a.before)))));
+    }

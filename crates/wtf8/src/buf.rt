@@ -1,5 +1,5 @@
 // Owned strings.
-ghost use Rattle.std.specs.Prelude.{◌≡◌, ℕ, List, [], ◌+◌, ◌≤◌, length, take, IsTrue, OnOk, OnErr, IsOk, IfOk, IfErr, ◌↔◌, vec_capacity, if◌then◌else◌};
+ghost use Rattle.std.specs.Prelude.{◌≡◌, ℕ, List, [], ◌+◌, ◌*◌, ◌≤◌, length, take, IsTrue, OnOk, OnErr, IsOk, IfOk, IfErr, ◌↔◌, vec_capacity, if◌then◌else◌};
 ghost use Rattle.std.specs.Str.{chars};
 ghost use Rattle.std.specs.String.{string_bytes};
 ghost use Rattle.wtf8.specs.Appending.{AppendsUnits, KeepsContents, HasRoomFor, AddsLength};
@@ -155,6 +155,23 @@ impl<A: Allocator> Wtf8Buf<A> {
         self.bytes.capacity()
     }
 
+    /// The number of bytes: at least the number of units, and at most three times that.
+    pub fn len(&self) -> usize
+        ensures bytes { result ≡ length self.now.bytes }
+        ensures at_least_units { length self.now.units ≤ result }
+        ensures at_most_three_times { result ≤ 3 * length self.now.units }
+    {
+        self.as_wtf8().len()
+    }
+
+    /// Whether the string has no units, and so no bytes.
+    pub fn is_empty(&self) -> bool
+        ensures units { IsTrue result ↔ self.now.units ≡ [] }
+        ensures bytes { IsTrue result ↔ self.now.bytes ≡ [] }
+    {
+        self.as_wtf8().is_empty()
+    }
+
     /// A view of the whole string.
     pub fn as_wtf8(&self) -> Wtf8<'_>
         ensures bytes { result.bytes.now ≡ self.now.bytes }
@@ -240,6 +257,16 @@ impl<A: Allocator> Wtf8Buf<A> {
             self.is_known_utf8 = true;
         }
         self.bytes.truncate(new_len)
+    }
+
+    /// Leaves no units, and the capacity as it was.
+    pub fn clear(&mut self)
+        ensures units { self.new.units ≡ [] }
+        ensures bytes { self.new.bytes ≡ [] }
+        ensures capacity { self.new.capacity ≡ self.old.capacity }
+    {
+        self.is_known_utf8 = true;
+        self.bytes.clear()
     }
 
     /// Keeps the first `n` units. Where `n` divides a pair its lead stays alone: three bytes in the place of four. It

@@ -10,6 +10,7 @@ mod concat;
 mod debug_text;
 mod decode;
 mod digits;
+mod display_text;
 mod encoding;
 mod iters;
 pub mod laws;

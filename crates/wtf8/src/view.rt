@@ -58,6 +58,14 @@ impl<'a> Wtf8<'a> {
         self.bytes.len()
     }
 
+    /// Whether the string has no units, and so no bytes.
+    pub fn is_empty(&self) -> bool
+        ensures units { IsTrue result ↔ view_units self.now ≡ [] }
+        ensures bytes { IsTrue result ↔ self.now.bytes.now ≡ [] }
+    {
+        self.bytes.is_empty()
+    }
+
     /// The code points of the string, in order.
     pub fn code_points(&self) -> Wtf8CodePoints<'a>
         ensures points { result ≡ view_points self.now }
@@ -186,6 +194,21 @@ impl<'a> Wtf8<'a> {
         let (code_point, width) = encoding::read(self.bytes);
         let (_, rest) = self.bytes.split_at(width);
         Some((code_point, Wtf8 { bytes: rest }))
+    }
+
+    /// The text before the first surrogate and the view behind it, or the whole text where there is none.
+    pub(crate) fn split_at_surrogate(self) -> (&'a str, Option<Wtf8<'a>>)
+        ensures none { IfNone result.1 (bytes (lossy (view_points self.entry)) ≡ result.0.now) }
+        ensures some { IfSome result.1 (λ rest. bytes (lossy (view_points self.entry)) ≡ result.0.now ++ bytes (0xFFFD ∷ lossy (view_points rest))) }
+        ensures shorter { IfSome result.1 (λ rest. length rest.bytes.now < length self.entry.bytes.now) }
+    {
+        let Some(place) = search::first_surrogate(self.bytes, 0) else {
+            return (unsafe { str::from_utf8_unchecked(self.bytes) }, None);
+        };
+        let (front, _) = self.bytes.split_at(place);
+        let (_, behind) = self.bytes.split_at(place + 3);
+        let text = unsafe { str::from_utf8_unchecked(front) };
+        (text, Some(Wtf8 { bytes: behind }))
     }
 
     /// The number of the lead surrogate that ends the string, if one does.

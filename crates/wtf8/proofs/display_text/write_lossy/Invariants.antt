@@ -1,0 +1,13 @@
+use Rattle.std.proofs.Common.{length}
+use Rattle.std.specs.Fmt.{IsFlush}
+use Rattle.wtf8.specs.Form.{bytes}
+use Rattle.wtf8.specs.Surrogates.{lossy}
+use Rattle.wtf8.proofs.DebugLemmas.{Continues}
+use Rattle.wtf8.proofs.display_text.write_lossy.Given as goal
+
+abbrev pub invariant-loop-next : goal.invariant-loop-next
+invariant-loop-next g l =
+    IsFlush l.fn.f → Continues g.W.Write.write_str_gives l.fn.f (bytes (lossy l.text.well_formed.points)) l.f (bytes (lossy l.rest.well_formed.points))
+
+abbrev pub decreases-loop-next : goal.decreases-loop-next
+decreases-loop-next g l = length l.rest.bytes.now

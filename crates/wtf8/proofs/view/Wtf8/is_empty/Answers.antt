@@ -1,0 +1,12 @@
+use Rattle.std.proofs.Common.{ap, arith, length}
+use Rattle.std.proofs.lemmas.Bool.Decides.{nat_tests}
+use Rattle.wtf8.specs.Unicode.{units}
+use Rattle.wtf8.proofs.Readings.{no_points}
+use Rattle.wtf8.proofs.UnitLemmas.{units_bounds}
+use Rattle.wtf8.proofs.view.Wtf8.is_empty.Goals as goal
+
+pub returns-clause-units : goal.returns-clause-units
+returns-clause-units c =
+    let h = c.args.self.now.well_formed in
+    let bounds = units_bounds h.points in
+    (λ empty. ap units (no_points h (grind (arith, nat_tests))), λ none. grind (arith, nat_tests, bounds.at_most, ap length none, ap length h.encoded))
