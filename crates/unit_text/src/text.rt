@@ -4,13 +4,12 @@ ghost use Rattle.std.specs.Cmp.Lexicographic.{slice_cmp};
 ghost use Rattle.std.specs.Option.{option_to_list};
 ghost use Rattle.std.specs.Ordering.{MatchOrdering, nat_cmp};
 ghost use Rattle.wtf8.specs.Order.{Before};
-ghost use Rattle.wtf8.specs.Units.{unread_units};
 ghost use Rattle.wtf8.specs.View.{view_units};
 
 use std::alloc::{AllocError, Allocator};
 use std::cmp::Ordering;
 use std::marker::Model;
-use wtf8::{CodePoint, IllFormedUtf16CodeUnits, Wtf8, Wtf8Buf};
+use wtf8::{CodePoint, Wtf8, Wtf8Buf};
 
 /// A text that is counted, cut and compared by its 16-bit units, as ECMAScript counts a string. It may hold any units,
 /// and is kept as WTF-8.
@@ -85,7 +84,7 @@ impl<A: Allocator> UnitText<A> {
         ensures value { result ≡ slice_cmp nat_cmp self.now other.now }
         ensures order { MatchOrdering result (Before self.now other.now) (self.now ≡ other.now) (Before other.now self.now) }
     {
-        self.units().cmp(other.units())
+        self.text.as_wtf8().cmp_units(&other.text.as_wtf8())
     }
 
     /// A view of the whole text.
@@ -93,13 +92,6 @@ impl<A: Allocator> UnitText<A> {
         ensures { view_units result ≡ self.now }
     {
         self.text.as_wtf8()
-    }
-
-    /// The units in order.
-    fn units(&self) -> IllFormedUtf16CodeUnits<'_>
-        ensures { unread_units result ≡ self.now }
-    {
-        self.text.as_wtf8().to_ill_formed_utf16()
     }
 }
 

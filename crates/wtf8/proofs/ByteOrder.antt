@@ -11,7 +11,7 @@ use Rattle.wtf8.specs.Form.{encoding, bytes}
 use Rattle.wtf8.specs.Order.{Before}
 use Rattle.wtf8.proofs.EncodingLemmas.{row_of, one, two, three, four}
 
-cmp_less : (x y : ℕ) → x < y → nat_cmp x y ≡ Less
+pub cmp_less : (x y : ℕ) → x < y → nat_cmp x y ≡ Less
 cmp_less x y h = grind (arith, nat_tests)
 
 cmp_same : (x : ℕ) → nat_cmp x x ≡ Equal
@@ -28,11 +28,11 @@ less_of (x ∷ xs) (y ∷ ys) h =
       | inr e ↦ ap (λ z. ordering_then (nat_cmp x z) (slice_cmp nat_cmp xs ys)) (sym e.0) ∙ (ap (λ o. ordering_then o (slice_cmp nat_cmp xs ys)) (cmp_same x) ∙ less_of xs ys e.1)
     ]
 
-greater_of : (c d : List ℕ) → Before d c → slice_cmp nat_cmp c d ≡ Greater
+pub greater_of : (c d : List ℕ) → Before d c → slice_cmp nat_cmp c d ≡ Greater
 greater_of c d h = nat_list_cmp_total.antisymm c d ∙ ap ordering_reverse (less_of d c h)
 
 -- a common front doesn't count
-cmp_behind : (f c d : List ℕ) → slice_cmp nat_cmp (f ++ c) (f ++ d) ≡ slice_cmp nat_cmp c d
+pub cmp_behind : (f c d : List ℕ) → slice_cmp nat_cmp (f ++ c) (f ++ d) ≡ slice_cmp nat_cmp c d
 cmp_behind [] c d = refl
 cmp_behind (x ∷ f) c d = ap (λ o. ordering_then o (slice_cmp nat_cmp (f ++ c) (f ++ d))) (cmp_same x) ∙ cmp_behind f c d
 
@@ -44,7 +44,7 @@ before_cons x y xs ys h rest =
       | inr m ↦ let same : x ≡ y = omega arith in inr (same, rest same)
     ]
 
-before_two : (a b x y : ℕ) (r s : List ℕ) → a ≤ x → (a ≡ x → b < y) → Before (a ∷ b ∷ r) (x ∷ y ∷ s)
+pub before_two : (a b x y : ℕ) (r s : List ℕ) → a ≤ x → (a ≡ x → b < y) → Before (a ∷ b ∷ r) (x ∷ y ∷ s)
 before_two a b x y r s h k = before_cons a x (b ∷ r) (y ∷ s) h (λ e. inl (k e))
 
 before_three : (a b c x y z : ℕ) (r s : List ℕ) → a ≤ x → (a ≡ x → b ≤ y) → (a ≡ x → b ≡ y → c < z) → Before (a ∷ b ∷ c ∷ r) (x ∷ y ∷ z ∷ s)
@@ -133,10 +133,14 @@ order_of (x ∷ xs) (y ∷ ys) =
       ]
     ]
 
+-- what an answer by a comparison says
+pub ordered : (o : Ordering) (c d : List ℕ) → o ≡ slice_cmp nat_cmp c d → MatchOrdering o (Before c d) (c ≡ d) (Before d c)
+ordered o c d e =
+    let P : Ordering → Type 0 = λ p. MatchOrdering p (Before c d) (c ≡ d) (Before d c) in
+    subst P (sym e) (order_of c d)
+
 before_of : (c d : List ℕ) → slice_cmp nat_cmp c d ≡ Less → Before c d
-before_of c d e =
-    let P : Ordering → Type 0 = λ o. MatchOrdering o (Before c d) (c ≡ d) (Before d c) in
-    subst P e (order_of c d)
+before_of c d e = ordered Less c d (sym e)
 
 -- encodings stand before one another as their code points do
 pub before_bytes : (c d : List ℕ) → Before (bytes c) (bytes d) ↔ Before c d

@@ -1,5 +1,5 @@
 -- What a comparison of the bytes of two strings says of their code points and units.
-use Rattle.std.proofs.Common.{◌≡◌, ◌↔◌, ℕ, List, Bool, IsTrue, nat_eq, sym, ap, ◌∙◌, subst}
+use Rattle.std.proofs.Common.{◌≡◌, ◌↔◌, ℕ, List, Bool, IsTrue, nat_eq, sym, ap, ◌∙◌}
 use Rattle.std.specs.declared.cmp.Ordering.{Ordering}
 use Rattle.std.specs.Ordering.{nat_cmp, MatchOrdering}
 use Rattle.std.specs.Cmp.Lexicographic.{slice_cmp, pointwise, bytes_decides}
@@ -7,7 +7,7 @@ use Rattle.wtf8.specs.Unicode.{units}
 use Rattle.wtf8.specs.Form.{Reads, bytes, IsWellFormed, IsForm}
 use Rattle.wtf8.specs.OneForm.{bytes-injective}
 use Rattle.wtf8.specs.Order.{Before}
-use Rattle.wtf8.proofs.ByteOrder.{cmp-bytes, order_of}
+use Rattle.wtf8.proofs.ByteOrder.{cmp-bytes, ordered}
 use Rattle.wtf8.proofs.OneReading.{same_reading}
 
 -- a form has the code points of well-formed bytes that are its own
@@ -30,6 +30,4 @@ cmp_points c d {w} {v} e f = ap (λ x. slice_cmp nat_cmp x v) (sym e) ∙ (ap (s
 
 -- a comparison says which string's code points come before the other's
 pub points_order : (r : Ordering) (c d : List ℕ) {w v : List ℕ} → bytes c ≡ w → bytes d ≡ v → r ≡ slice_cmp nat_cmp w v → MatchOrdering r (Before c d) (c ≡ d) (Before d c)
-points_order r c d e f h =
-    let P : Ordering → Type 0 = λ o. MatchOrdering o (Before c d) (c ≡ d) (Before d c) in
-    subst P (sym (h ∙ cmp_points c d e f)) (order_of c d)
+points_order r c d e f h = ordered r c d (h ∙ cmp_points c d e f)

@@ -24,4 +24,5 @@ pub mod Texts
 pub mod UnitCuts
 pub mod UnitLanes
 pub mod UnitLemmas
+pub mod UnitOrder
 pub mod UnitPositions

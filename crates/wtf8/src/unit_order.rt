@@ -1,0 +1,75 @@
+// The order of strings by their 16-bit units.
+ghost use Rattle.std.specs.Cmp.Lexicographic.{slice_cmp};
+ghost use Rattle.std.specs.Ordering.{MatchOrdering, nat_cmp};
+ghost use Rattle.std.specs.Prelude.{◌≡◌, ◌↔◌, ◌≤◌, length, take, slice_get, IsTrue};
+ghost use Rattle.wtf8.specs.Order.{Before, IsFirstDifference, PairBegins};
+ghost use Rattle.wtf8.specs.View.{view_units};
+
+use crate::view::Wtf8;
+use std::cmp::Ordering;
+
+/// How many bytes are compared together.
+const LANES: usize = 32;
+
+/// The first place where two lists of bytes differ, which is the end of the shorter one where none before it does.
+fn first_difference(own: &[u8], others: &[u8]) -> usize
+    ensures { IsFirstDifference own.now others.now result }
+{
+    let len = own.len().min(others.len());
+    let mut at = 0;
+    while LANES <= len - at {
+        if own[at..at + LANES] != others[at..at + LANES] {
+            break;
+        }
+        at += LANES;
+    }
+    first_difference_from(own, others, at)
+}
+
+/// The same for lists that are equal up to a place, one byte at a time.
+fn first_difference_from(own: &[u8], others: &[u8], from: usize) -> usize
+    requires within_first { from ≤ length own.now }
+    requires within_second { from ≤ length others.now }
+    requires same { take from own.now ≡ take from others.now }
+    ensures { IsFirstDifference own.now others.now result }
+{
+    let len = own.len().min(others.len());
+    for at in from..len {
+        if own[at] != others[at] {
+            return at;
+        }
+    }
+    len
+}
+
+/// The byte at a place, or `None` at or past the end.
+fn byte_at(bytes: &[u8], at: usize) -> Option<u8>
+    ensures { result ≡ slice_get bytes.now at }
+{
+    bytes.get(at).copied()
+}
+
+/// Whether a code point of two units begins at a place.
+fn pair_begins(bytes: &[u8], at: usize) -> bool
+    ensures { IsTrue result ↔ PairBegins bytes.now at }
+{
+    at < bytes.len() && 0xF0 <= bytes[at]
+}
+
+impl<'a> Wtf8<'a> {
+    /// The order of the 16-bit units, as ECMAScript compares strings: the first units that differ decide, and a
+    /// beginning stands before the longer string. It is not the order of `cmp`, which is that of code points.
+    pub fn cmp_units(&self, other: &Wtf8<'_>) -> Ordering
+        ensures value { result ≡ slice_cmp nat_cmp (view_units self.now) (view_units other.now) }
+        ensures order { let own = view_units self.now in let others = view_units other.now in
+            MatchOrdering result (Before own others) (own ≡ others) (Before others own) }
+    {
+        let at = first_difference(self.bytes, other.bytes);
+        if pair_begins(self.bytes, at) == pair_begins(other.bytes, at) {
+            return byte_at(self.bytes, at).cmp(&byte_at(other.bytes, at));
+        }
+        let own = self.slice_from(at);
+        let others = other.slice_from(at);
+        own.to_ill_formed_utf16().cmp(others.to_ill_formed_utf16())
+    }
+}
