@@ -7,6 +7,7 @@ pub mod EncodingLemmas
 pub mod Gaining
 pub mod Gluing
 pub mod Growth
+pub mod HexLanes
 pub mod Joining
 pub mod LaneLemmas
 pub mod LawLemmas

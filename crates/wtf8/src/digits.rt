@@ -1,9 +1,34 @@
 // Hexadecimal text.
-ghost use Rattle.std.specs.Prelude.{◌≡◌, [], ◌++◌, ◌<◌, IfOk, OnOk, IsOk};
+ghost use Rattle.std.specs.List.{flat_map};
+ghost use Rattle.std.specs.Prelude.{◌≡◌, [], ◌++◌, ◌+◌, ◌*◌, ◌<◌, ◌≤◌, length, map, take, vec_len, vec_capacity, IfOk, OnOk, OnErr, IsOk};
+ghost use Rattle.std.specs.Simd.Lanes.{Each1};
 ghost use Rattle.std.specs.String.{string_bytes};
-ghost use Rattle.wtf8.specs.Hex.{digit, hex_of, hex};
+ghost use Rattle.wtf8.specs.Hex.{digit, hex_of, spaced, hex};
 
 use std::alloc::{AllocError, Allocator};
+use std::simd::prelude::*;
+
+/// How many bytes are written together.
+const LANES: usize = 16;
+
+/// How many places the digits of so many bytes take, with a space before each byte.
+const BLOCK: usize = 48;
+
+/// The upper-case digits at their values.
+const DIGITS: [u8; LANES] = *b"0123456789ABCDEF";
+
+/// The places of a first and a second vector's lanes in turn.
+const IN_TURN: [usize; 32] = [
+    0, 16, 1, 17, 2, 18, 3, 19, 4, 20, 5, 21, 6, 22, 7, 23, 8, 24, 9, 25, 10, 26, 11, 27, 12, 28,
+    13, 29, 14, 30, 15, 31,
+];
+
+/// Before each pair of lanes one of a second vector, and more of that behind the last pair.
+const BEFORE_PAIRS: [usize; 64] = [
+    32, 0, 1, 32, 2, 3, 32, 4, 5, 32, 6, 7, 32, 8, 9, 32, 10, 11, 32, 12, 13, 32, 14, 15, 32, 16,
+    17, 32, 18, 19, 32, 20, 21, 32, 22, 23, 32, 24, 25, 32, 26, 27, 32, 28, 29, 32, 30, 31, 32, 32,
+    32, 32, 32, 32, 32, 32, 32, 32, 32, 32, 32, 32, 32, 32,
+];
 
 /// The upper-case digit of a number below 16.
 #[tactic(auto, unfolding(crate::specs::Hex::digit))]
@@ -19,13 +44,81 @@ pub(crate) fn upper_digit(value: u8) -> char
     }
 }
 
-/// Appends a byte as two digits.
+/// The digits of numbers below 16.
 #[inline(always)]
-fn push_byte<A: Allocator>(text: &mut String<A>, byte: u8) -> Result<(), AllocError>
-    ensures { OnOk result (string_bytes text.new ≡ string_bytes text.old ++ hex_of byte) }
+fn upper_digits(values: u8x16) -> u8x16
+    requires { Each1 (λ value. value < 16) values }
+    ensures { result ≡ map digit values }
 {
-    text.push(upper_digit(byte / 16))?;
-    text.push(upper_digit(byte % 16))?;
+    u8x16::from_array(DIGITS).swizzle_dyn(values)
+}
+
+/// A space and two digits for each of 16 bytes, and some spaces behind them.
+#[inline(always)]
+fn spaced_block(bytes: u8x16) -> [u8; 64]
+    ensures text { take 48 result ≡ flat_map spaced bytes }
+    ensures len { length result ≡ 64 }
+{
+    let high = upper_digits(bytes >> u8x16::splat(4));
+    let low = upper_digits(bytes & u8x16::splat(15));
+    let pairs: u8x32 = high.shuffle(low, IN_TURN);
+    let text: u8x64 = pairs.shuffle(u8x32::splat(b' '), BEFORE_PAIRS);
+    text.to_array()
+}
+
+/// Appends the digits of 16 bytes with a space before each byte. There is room for them.
+#[inline(always)]
+fn push_block<A: Allocator>(text: &mut Vec<u8, A>, bytes: u8x16)
+    requires { vec_len text.old + 48 ≤ vec_capacity text.old }
+    ensures items { text.new.items ≡ text.old.items ++ flat_map spaced bytes }
+    ensures len { vec_len text.new ≡ vec_len text.old + 48 }
+    ensures capacity { vec_capacity text.old ≤ vec_capacity text.new }
+{
+    let block = spaced_block(bytes);
+    let _ = text.extend_from_slice(&block[..BLOCK]);
+}
+
+/// Appends a byte as two digits. There is room for them.
+#[inline(always)]
+fn push_byte<A: Allocator>(text: &mut Vec<u8, A>, byte: u8)
+    requires { vec_len text.old + 2 ≤ vec_capacity text.old }
+    ensures items { text.new.items ≡ text.old.items ++ hex_of byte }
+    ensures capacity { vec_capacity text.new ≡ vec_capacity text.old }
+{
+    text.push_reserved(upper_digit(byte / 16) as u8);
+    text.push_reserved(upper_digit(byte % 16) as u8);
+}
+
+/// Appends the digits of bytes with a space before each byte. There is room for them.
+#[inline(always)]
+fn push_spaced<A: Allocator>(text: &mut Vec<u8, A>, bytes: &[u8])
+    requires { vec_len text.old + 3 * length bytes.now ≤ vec_capacity text.old }
+    ensures { text.new.items ≡ text.old.items ++ flat_map spaced bytes.now }
+{
+    for byte in bytes {
+        text.push_reserved(b' ');
+        push_byte(text, *byte);
+    }
+}
+
+/// Appends the bytes as two upper-case digits each, with one space between. It first finds room for three places a byte;
+/// after a refusal the text is as before.
+pub(crate) fn push_hex<A: Allocator>(text: &mut Vec<u8, A>, bytes: &[u8]) -> Result<(), AllocError>
+    ensures ok { OnOk result (text.new.items ≡ text.old.items ++ hex bytes.now) }
+    ensures kept { OnErr result (text.new.items ≡ text.old.items) }
+    ensures room { vec_len text.old + 3 * length bytes.now ≤ vec_capacity text.old → IsOk result }
+{
+    text.reserve(bytes.len().saturating_mul(3))?;
+    let Some((first, rest)) = bytes.split_first() else {
+        return Ok(());
+    };
+    push_byte(text, *first);
+    let mut at = 0;
+    while LANES <= rest.len() - at {
+        push_block(text, u8x16::from_slice(&rest[at..]));
+        at += LANES;
+    }
+    push_spaced(text, &rest[at..]);
     Ok(())
 }
 
@@ -35,14 +128,7 @@ pub(crate) fn hex_text<A: Allocator>(alloc: A, bytes: &[u8]) -> Result<String<A>
     ensures ok { IfOk result (λ t. string_bytes t ≡ hex bytes.now) }
     ensures empty { bytes.now ≡ [] → IsOk result }
 {
-    let mut text = String::with_capacity(alloc, bytes.len().saturating_mul(3))?;
-    let Some((first, rest)) = bytes.split_first() else {
-        return Ok(text);
-    };
-    push_byte(&mut text, *first)?;
-    for byte in rest {
-        text.push(' ')?;
-        push_byte(&mut text, *byte)?;
-    }
-    Ok(text)
+    let mut text = Vec::with_capacity(alloc, bytes.len().saturating_mul(3))?;
+    push_hex(&mut text, bytes)?;
+    Ok(unsafe { String::from_utf8_unchecked(text) })
 }

@@ -1,5 +1,5 @@
 // Borrowed strings.
-ghost use Rattle.std.specs.Prelude.{◌≡◌, ℕ, List, [], ◌∷◌, ◌++◌, ◌*◌, ◌^◌, ◌<◌, ◌≤◌, ◌↔◌, length, take, drop, slice_index, IsTrue, IsSome, IfSome, IfNone, IfOk, IsOk};
+ghost use Rattle.std.specs.Prelude.{◌≡◌, ℕ, List, [], ◌∷◌, ◌++◌, ◌+◌, ◌*◌, ◌^◌, ◌<◌, ◌≤◌, ◌↔◌, length, take, drop, slice_index, IsTrue, IsSome, IfSome, IfNone, IfOk, OnOk, OnErr, IsOk, vec_len, vec_capacity};
 ghost use Rattle.std.specs.Cow.{cow_str_bytes, IsBorrowedStr};
 ghost use Rattle.std.specs.Str.{chars};
 ghost use Rattle.std.specs.String.{string_bytes};
@@ -181,6 +181,16 @@ impl<'a> Wtf8<'a> {
         ensures empty { self.now.bytes.now ≡ [] → IsOk result }
     {
         digits::hex_text(alloc, self.bytes)
+    }
+
+    /// Appends to a text what `hex_dump` gives. It first finds room for three bytes a byte, and asks for none where that
+    /// room is there; after a refusal the text is as before.
+    pub fn append_hex_dump<A: Allocator>(&self, text: &mut Vec<u8, A>) -> Result<(), AllocError>
+        ensures ok { OnOk result (text.new.items ≡ text.old.items ++ hex self.now.bytes.now) }
+        ensures kept { OnErr result (text.new.items ≡ text.old.items) }
+        ensures room { vec_len text.old + 3 * length self.now.bytes.now ≤ vec_capacity text.old → IsOk result }
+    {
+        digits::push_hex(text, self.bytes)
     }
 
     /// The first code point and the view behind it, or `None` where the string is empty.
