@@ -7,8 +7,9 @@ use Rattle.std.specs.Bool.{beq}
 use Rattle.std.specs.Cmp.Lexicographic.{slice_cmp}
 use Rattle.std.specs.List.{slice_get}
 use Rattle.std.specs.Option.{option_cmp}
-use Rattle.std.specs.Ordering.{nat_cmp}
-use Rattle.std.specs.declared.cmp.Ordering.TheVariants.{Greater}
+use Rattle.std.specs.Ordering.{nat_cmp, ordering_then}
+use Rattle.std.specs.declared.cmp.Ordering.{Ordering}
+use Rattle.std.specs.declared.cmp.Ordering.TheVariants.{Less, Equal, Greater}
 use Rattle.wtf8.specs.Unicode.{units, units_of}
 use Rattle.wtf8.specs.Form.{encoding, bytes, IsWellFormed}
 use Rattle.wtf8.specs.Order.{Before, IsFirstDifference, PairBegins}
@@ -202,3 +203,15 @@ pub bytes_order : {w v : List ℕ} (h : IsWellFormed w) (k : IsWellFormed v) (at
 bytes_order {w} {v} h k at d both =
     let rows : PartInOneRow (bytes h.points) (bytes k.points) = subst (λ x. PartInOneRow x (bytes k.points)) (sym h.encoded) (subst (PartInOneRow w) (sym k.encoded) (parts_at w v at d both)) in
     order_there w v at d ∙ (cmp_points h.points k.points h.encoded k.encoded ∙ points_as_units h.points k.points rows)
+
+decided : (o p : Ordering) → o ≢ Equal → o ≡ ordering_then o p
+decided Less p n = refl
+decided Equal p n = absurd (n refl)
+decided Greater p n = refl
+
+-- first units that differ decide
+pub first_decides : (u v : List ℕ) → option_cmp nat_cmp (slice_get u 0) (slice_get v 0) ≢ Equal → option_cmp nat_cmp (slice_get u 0) (slice_get v 0) ≡ slice_cmp nat_cmp u v
+first_decides [] [] n = refl
+first_decides [] (y ∷ v) n = refl
+first_decides (x ∷ u) [] n = refl
+first_decides (x ∷ u) (y ∷ v) n = decided (nat_cmp x y) (slice_cmp nat_cmp u v) n
