@@ -5,7 +5,6 @@ ghost use Rattle.std.specs.Prelude.{◌≡◌, ◌↔◌, ◌≤◌, length, tak
 ghost use Rattle.wtf8.specs.Order.{Before, IsFirstDifference, PairBegins};
 ghost use Rattle.wtf8.specs.View.{view_units};
 
-use crate::unit_positions::first_unit;
 use crate::view::Wtf8;
 use std::cmp::Ordering;
 
@@ -70,13 +69,15 @@ fn pair_begins(bytes: &[u8], at: usize) -> bool
     at < bytes.len() && 0xF0 <= bytes[at]
 }
 
-/// The order of the units of two strings, one by one. Strings that differ at once are not worth their iterators.
+/// The order of the units of two strings, one by one. The first ones, which mostly decide, are looked at by themselves.
 #[inline(never)]
 fn cmp_one_by_one(own: Wtf8<'_>, others: Wtf8<'_>) -> Ordering
     ensures { result ≡ slice_cmp nat_cmp (view_units own.entry) (view_units others.entry) }
 {
-    match first_unit(own).cmp(&first_unit(others)) {
-        Ordering::Equal => own.to_ill_formed_utf16().cmp(others.to_ill_formed_utf16()),
+    let mut own = own.to_ill_formed_utf16();
+    let mut others = others.to_ill_formed_utf16();
+    match own.next().cmp(&others.next()) {
+        Ordering::Equal => own.cmp(others),
         order => order,
     }
 }

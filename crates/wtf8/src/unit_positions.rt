@@ -141,7 +141,7 @@ pub(crate) fn keep_lead<A: Allocator>(bytes: &mut Vec<u8, A>, at: usize, lead: u
 }
 
 /// The first unit of a string, or `None` where it is empty.
-pub(crate) fn first_unit(text: Wtf8<'_>) -> Option<u16>
+fn first_unit(text: Wtf8<'_>) -> Option<u16>
     ensures { result ≡ slice_get (view_units text.entry) 0 }
 {
     let Some((code_point, _)) = text.split_first() else {
