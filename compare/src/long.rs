@@ -68,6 +68,7 @@ fn changed_at(units: &[u16], places: impl IntoIterator<Item = usize>) -> Vec<Cal
             calls.extend(string_in(1, &changed(units, &[(place, other)])));
             calls.push(registers("comparisons", 0, 1));
             calls.push(registers("comparisons", 1, 0));
+            calls.push(registers("cmp_units", 0, 1));
         }
     }
     calls
@@ -85,6 +86,7 @@ pub fn fronts() -> Vec<Vec<Call>> {
                 calls.extend(string_in(1, &units[..len + more]));
                 calls.push(registers("comparisons", 0, 1));
                 calls.push(registers("comparisons", 1, 0));
+                calls.push(registers("cmp_units", 0, 1));
             }
             calls.extend(on(1, &["hash", "debug"]));
         }

@@ -18,7 +18,7 @@ pub enum Kind {
 use Kind::{Builds, Number, Points, Register, Steps, Text, Units, Value};
 
 /// The calls by opcode, with the kinds of their operands.
-pub const CALLS: [(&str, &[Kind]); 43] = [
+pub const CALLS: [(&str, &[Kind]); 44] = [
     ("new", &[Register]),
     ("with_capacity", &[Register, Number]),
     ("from_string", &[Register, Text]),
@@ -65,6 +65,7 @@ pub const CALLS: [(&str, &[Kind]); 43] = [
     ("apply_all", &[Register, Number, Number, Points, Builds]),
     ("units by number", &[Register]),
     ("slice_units", &[Register, Number, Number]),
+    ("cmp_units", &[Register, Register]),
 ];
 
 /// The number of grants that stands for as many as are asked for.

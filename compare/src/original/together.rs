@@ -14,6 +14,7 @@ impl Machine {
             40 => self.apply_all(reader),
             41 => self.units_by_number(reader),
             42 => self.slice_units(reader),
+            43 => self.compare_units(reader),
             _ => unreachable!("the generator knows no opcode {opcode}"),
         }
     }
@@ -38,6 +39,15 @@ impl Machine {
             .collect();
         let line = [&[format!("{} units", units.len())], &units[..]].concat();
         self.line(&format!("{} -", line.join(" ")));
+    }
+
+    /// The crate compares code points: its own units are walked.
+    fn compare_units(&mut self, reader: &mut Reader<'_>) {
+        let [own, other] = [reader.register(), reader.register()];
+        let units = |register: usize| self.strings[register].to_ill_formed_utf16();
+        let order = name_of(Some(units(own).cmp(units(other))));
+        let turned = name_of(Some(units(other).cmp(units(own))));
+        self.line(&format!("units {order}, turned {turned}"));
     }
 
     /// The units between two numbers, a pair's half at either end by itself: the code points that are whole lie between

@@ -42,7 +42,7 @@ impl<A: Allocator> UnitText<A> {
     pub fn unit_len(&self) -> usize
         ensures { result ≡ length self.now }
     {
-        self.text.as_wtf8().unit_len()
+        self.as_wtf8().unit_len()
     }
 
     /// The unit at a position, or `None` exactly where the position is at or past the number of units.
@@ -50,7 +50,7 @@ impl<A: Allocator> UnitText<A> {
         ensures unit { result ≡ slice_get self.now i }
         ensures none { IsNone result ↔ (length self.now ≤ i) }
     {
-        self.text.as_wtf8().unit_at(i)
+        self.as_wtf8().unit_at(i)
     }
 
     /// The units from a position to before another, as a text with the allocator that is given. Where a pair is cut its
@@ -61,7 +61,7 @@ impl<A: Allocator> UnitText<A> {
         ensures ok { IfOk result (λ t. t ≡ drop begin (take end self.now)) }
         ensures empty { begin ≡ end → IsOk result }
     {
-        let slice = self.text.as_wtf8().slice_units(begin, end);
+        let slice = self.as_wtf8().slice_units(begin, end);
         let mut text = Wtf8Buf::new(alloc);
         push_unit(&mut text, slice.trail)?;
         text.push_wtf8(slice.whole)?;
@@ -84,7 +84,7 @@ impl<A: Allocator> UnitText<A> {
         ensures value { result ≡ slice_cmp nat_cmp self.now other.now }
         ensures order { MatchOrdering result (Before self.now other.now) (self.now ≡ other.now) (Before other.now self.now) }
     {
-        self.text.as_wtf8().cmp_units(&other.text.as_wtf8())
+        self.as_wtf8().cmp_units(&other.as_wtf8())
     }
 
     /// A view of the whole text.

@@ -15,6 +15,18 @@ const LANES: usize = 32;
 fn first_difference(own: &[u8], others: &[u8]) -> usize
     ensures { IsFirstDifference own.now others.now result }
 {
+    // Short bytes begin no block, and many others differ at once.
+    if own.len().min(others.len()) < LANES || own[0] != others[0] {
+        return first_difference_from(own, others, 0);
+    }
+    first_difference_in_blocks(own, others)
+}
+
+/// The same, in blocks as far as these are equal.
+#[inline(never)]
+fn first_difference_in_blocks(own: &[u8], others: &[u8]) -> usize
+    ensures { IsFirstDifference own.now others.now result }
+{
     let len = own.len().min(others.len());
     let mut at = 0;
     while LANES <= len - at {
@@ -27,6 +39,7 @@ fn first_difference(own: &[u8], others: &[u8]) -> usize
 }
 
 /// The same for lists that are equal up to a place, one byte at a time.
+#[inline(always)]
 fn first_difference_from(own: &[u8], others: &[u8], from: usize) -> usize
     requires within_first { from ≤ length own.now }
     requires within_second { from ≤ length others.now }
@@ -56,6 +69,19 @@ fn pair_begins(bytes: &[u8], at: usize) -> bool
     at < bytes.len() && 0xF0 <= bytes[at]
 }
 
+/// The order of the units of two strings, one by one. The first ones, which mostly decide, are looked at by themselves.
+#[inline(never)]
+fn cmp_one_by_one(own: Wtf8<'_>, others: Wtf8<'_>) -> Ordering
+    ensures { result ≡ slice_cmp nat_cmp (view_units own.entry) (view_units others.entry) }
+{
+    let mut own = own.to_ill_formed_utf16();
+    let mut others = others.to_ill_formed_utf16();
+    match own.next().cmp(&others.next()) {
+        Ordering::Equal => own.cmp(others),
+        order => order,
+    }
+}
+
 impl<'a> Wtf8<'a> {
     /// The order of the 16-bit units, as ECMAScript compares strings: the first units that differ decide, and a
     /// beginning stands before the longer string. It is not the order of `cmp`, which is that of code points.
@@ -68,8 +94,6 @@ impl<'a> Wtf8<'a> {
         if pair_begins(self.bytes, at) == pair_begins(other.bytes, at) {
             return byte_at(self.bytes, at).cmp(&byte_at(other.bytes, at));
         }
-        let own = self.slice_from(at);
-        let others = other.slice_from(at);
-        own.to_ill_formed_utf16().cmp(others.to_ill_formed_utf16())
+        cmp_one_by_one(self.slice_from(at), other.slice_from(at))
     }
 }

@@ -174,7 +174,8 @@ pub fn write_comparisons<T: Ord>(
     )
 }
 
-fn name_of(order: Option<Ordering>) -> &'static str {
+/// The word that a transcript has for an order.
+pub fn name_of(order: Option<Ordering>) -> &'static str {
     match order {
         Some(Ordering::Less) => "less",
         Some(Ordering::Equal) => "equal",

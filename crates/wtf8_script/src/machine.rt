@@ -80,6 +80,7 @@ impl Machine {
             40 => self.apply_all(reader, transcript),
             41 => self.units_by_number(reader, transcript),
             42 => self.slice_units(reader, transcript),
+            43 => self.compare_units(reader, transcript),
             _ => Err(Stop::Malformed),
         }
     }

@@ -1,4 +1,5 @@
 // The calls that count in units.
+use crate::looking;
 use crate::machine::{self, Machine};
 use crate::reader::Reader;
 use crate::stop::Stop;
@@ -63,6 +64,20 @@ impl Machine {
         write!(transcript, " ({dump})")?;
         write_half(transcript, lead)?;
         machine::write_line(transcript, "")
+    }
+
+    /// `cmp_units` with another string, both ways: writes what they answer.
+    pub fn compare_units(
+        &self,
+        reader: &mut Reader<'_>,
+        transcript: &mut String,
+    ) -> Result<(), Stop> {
+        let own = self.view(reader.register()?);
+        let others = self.view(reader.register()?);
+        let order = looking::name_of(Some(own.cmp_units(&others)));
+        let turned = looking::name_of(Some(others.cmp_units(&own)));
+        writeln!(transcript, "units {order}, turned {turned}")?;
+        Ok(())
     }
 }
 

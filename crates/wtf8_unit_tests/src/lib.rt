@@ -6,6 +6,8 @@ pub mod callers;
 #[cfg(test)]
 mod cuts;
 #[cfg(test)]
+mod order;
+#[cfg(test)]
 mod slices;
 #[cfg(test)]
 mod strings;

@@ -1,11 +1,7 @@
-use Rattle.std.proofs.Common.{◌≡◌, ◌∙◌, refl, ap}
-use Rattle.std.proofs.lemmas.Iterator.Consumers.{YieldsList-from_first}
-use Rattle.std.proofs.lemmas.Iterator.Search.{cmp_from_yields_List}
+use Rattle.std.proofs.Common.{◌∙◌, ap}
 use Rattle.std.specs.List.{slice_get}
 use Rattle.std.specs.Option.{option_cmp}
 use Rattle.std.specs.Ordering.{nat_cmp}
-use Rattle.wtf8.specs.Units.{unread_units}
-use Rattle.wtf8.specs.View.{view_units}
 use Rattle.wtf8.proofs.ByteOrder.{ordered}
 use Rattle.wtf8.proofs.UnitCuts.{boundary_of}
 use Rattle.wtf8.proofs.UnitOrder.{both_or_neither, parts_there, bytes_order, rests_order}
@@ -22,14 +18,14 @@ returns-then-pair_begins-clause-value c =
 pub returns-then-pair_begins-clause-order : goal.returns-then-pair_begins-clause-order
 returns-then-pair_begins-clause-order c = ordered _ _ _ (returns-then-pair_begins-clause-value c)
 
-pub slice_from-own-requires : goal.slice_from-own-requires
-slice_from-own-requires c =
+pub slice_from-requires : goal.slice_from-requires
+slice_from-requires c =
     let h = c.args.self.now.well_formed in
     let p = parts_there h c.args.other.now.well_formed _ c.first_difference-at.ensures _ _ c.pair_begins.ensures c.pair_begins-2.ensures c.if-pair_begins.false in
     boundary_of h p.front p.own _ p.own_joined p.front_len
 
-pub slice_from-others-requires : goal.slice_from-others-requires
-slice_from-others-requires c =
+pub slice_from-requires-2 : goal.slice_from-requires-2
+slice_from-requires-2 c =
     let k = c.args.other.now.well_formed in
     let p = parts_there c.args.self.now.well_formed k _ c.first_difference-at.ensures _ _ c.pair_begins.ensures c.pair_begins-2.ensures c.if-pair_begins.false in
     boundary_of k p.front p.others _ p.others_joined p.front_len
@@ -39,10 +35,7 @@ returns-clause-value c =
     let h = c.args.self.now.well_formed in
     let k = c.args.other.now.well_formed in
     let p = parts_there h k _ c.first_difference-at.ensures _ _ c.pair_begins.ensures c.pair_begins-2.ensures c.if-pair_begins.false in
-    let own = c.slice_from-own.result in
-    let others = c.slice_from-others.result in
-    let walked = cmp_from_yields_List (λ x y. y ≡ x) _ nat_cmp _ c.cmp-2.ensures.ran (YieldsList-from_first (λ x. x) unread_units (view_units own) c.to_ill_formed_utf16.ensures.units) (λ it e. YieldsList-from_first (λ x. x) unread_units (view_units others) (ap unread_units e ∙ c.to_ill_formed_utf16-2.ensures.units)) (λ x y. refl) in
-    walked ∙ rests_order h k _ p own.well_formed others.well_formed c.slice_from-own.ensures.bytes c.slice_from-others.ensures.bytes
+    c.cmp_one_by_one.ensures ∙ rests_order h k _ p c.slice_from.result.well_formed c.slice_from-2.result.well_formed c.slice_from.ensures.bytes c.slice_from-2.ensures.bytes
 
 pub returns-clause-order : goal.returns-clause-order
 returns-clause-order c = ordered _ _ _ (returns-clause-value c)

@@ -1,5 +1,5 @@
 use Rattle.std.proofs.Common.{◌≡◌, ◌≤◌, ◌-◌, take}
-use Rattle.wtf8.proofs.unit_order.first_difference.Given as goal
+use Rattle.wtf8.proofs.unit_order.first_difference_in_blocks.Given as goal
 
 -- equal so far
 abbrev pub invariant-loop-at : goal.invariant-loop-at
