@@ -35,12 +35,13 @@ fn hostile_lines_have_their_answers(rt: HostRuntime) -> Result<(), Fail> {
 }
 
 /// Lines with their answers, and how many requests each makes: for the calls, which are kept four at first and then twice
-/// as many each time; for the string, of eight bytes at first; for the dump, all at once; and for a count behind it.
+/// as many each time; for the string, of eight bytes at first; for the dump, all at once; and two for a count, one for its
+/// text and one for what is behind the dump.
 const REQUESTS: [(&str, &str, u64); 6] = [
     ("", "", 0),
     ("0061", "61", 3),
     ("D83D DCA9", "F0 9F 92 A9", 3),
-    ("-1", "!1", 2),
+    ("-1", "!1", 3),
     ("0061 00E9 0020 D83D DCA9", "61 C3 A9 20 F0 9F 92 A9", 4),
     ("?", "?", 1),
 ];
@@ -66,6 +67,24 @@ fn a_line_answers_each_refusal(rt: HostRuntime) -> Result<(), Fail> {
     Ok(())
 }
 
+#[test]
+fn calls_are_applied_a_few_at_a_time(rt: HostRuntime) -> Result<(), Fail> {
+    // A pair is put together and a truncation refused on either side of each place where the calls may be divided.
+    for letters in 60..67 {
+        let mut line = Vec::new(rt.alloc());
+        let mut want = Vec::new(rt.alloc());
+        for _ in 0..letters {
+            line.extend_from_slice(b"0061 ")?;
+            want.extend_from_slice(b"61 ")?;
+        }
+        line.extend_from_slice(b"-999 D83D DCA9 -999")?;
+        want.extend_from_slice(b"F0 9F 92 A9 !2")?;
+        let answer = dump_line(rt.alloc(), line.as_slice())?;
+        assert!(rt; answer == want, "behind {letters} letters");
+    }
+    Ok(())
+}
+
 /// A run on one line, with so many requests granted: its answer, what it wrote, and how many of the grants are left.
 fn run_granted(
     alloc: Global,
@@ -81,8 +100,9 @@ fn run_granted(
 
 #[test]
 fn a_run_answers_each_refusal(rt: HostRuntime) -> Result<(), Fail> {
-    // One for the input, three for the line, and two for the answers: 11 bytes, and then a newline.
-    for granted in 0..6 {
+    // One for the input, one for the calls, one for the string, and one for the answers: 12 bytes, of which a newline is
+    // the last.
+    for granted in 0..4 {
         let (answer, out, left) = run_granted(rt.alloc(), "D83D DCA9\n", granted)?;
         assert_eq!(rt; answer, Err(Fault::Memory), "with {granted} granted");
         assert!(rt; out.is_empty(), "with {granted} granted");
@@ -91,7 +111,7 @@ fn a_run_answers_each_refusal(rt: HostRuntime) -> Result<(), Fail> {
     let (answer, out, left) = run_granted(rt.alloc(), "D83D DCA9\n", 9)?;
     assert_eq!(rt; answer, Ok(()));
     assert_eq!(rt; out.as_slice(), b"F0 9F 92 A9\n".as_slice());
-    assert_eq!(rt; left, 3);
+    assert_eq!(rt; left, 5);
     Ok(())
 }
 

@@ -1,7 +1,7 @@
 // The answer to one line.
-ghost use Rattle.std.specs.Prelude.{◌≡◌, ◌++◌, IfOk, MatchOption};
+ghost use Rattle.std.specs.Prelude.{◌≡◌, ℕ, List, [], ◌∷◌, ◌++◌, ◌≤◌, length, IfOk, OnOk, MatchOption};
 ghost use Rattle.std.specs.List.{Any, AllZip};
-ghost use Rattle.std.specs.String.{string_bytes};
+ghost use Rattle.wtf8.specs.Building.{Run};
 ghost use Rattle.wtf8.specs.Hex.{hex};
 ghost use Rattle.wtf8_dump.specs.Dump.{IsAnswer, note};
 ghost use Rattle.wtf8_dump.specs.Lines.{words};
@@ -12,59 +12,116 @@ use crate::word;
 use std::alloc::{AllocError, Allocator};
 use wtf8::{Build, Wtf8, Wtf8Buf};
 
-/// The answer to a line, both without a newline: the bytes, in hexadecimal, of the string that the line's calls build
-/// from the empty one, or `?` where some word stands for no call. Where truncations were refused, `!` and how many
-/// follows, behind a space where there are bytes.
-///
-/// A word is 4 to 6 hexadecimal digits of either case, which push the code point of that number, at most 0x10FFFF; `-`
-/// and 1 to 9 decimal digits, which truncate at that position in bytes; or `/` and 1 to 9 decimal digits, which truncate
-/// at that number of 16-bit units. A newline inside the line stands in no word, so it is answered `?`. An `Err` comes
-/// only where a growth of memory was refused.
+// How many calls are applied together.
+const CALLS: usize = 64;
+
+/// What the answers to lines are worked out in, one line after another: room for some calls and for the string that they
+/// build. It is found once and kept for the lines that follow.
+#[derive(Drop)]
+pub struct Workspace<A: Allocator> {
+    calls: Vec<Build<'static>, A>,
+    text: Wtf8Buf<A>,
+    alloc: A,
+}
+
+impl<A: Allocator + Copy> Workspace<A> {
+    /// A workspace with no room yet. It asks for no memory.
+    pub fn new(alloc: A) -> Workspace<A> {
+        Workspace {
+            calls: Vec::new(alloc),
+            text: Wtf8Buf::new(alloc),
+            alloc,
+        }
+    }
+
+    /// Appends the answer to a line, both without a newline: the bytes, in hexadecimal, of the string that the line's
+    /// calls build from the empty one, or `?` where some word stands for no call. Where truncations were refused, `!`
+    /// and how many follows, behind a space where there are bytes.
+    ///
+    /// A word is 4 to 6 hexadecimal digits of either case, which push the code point of that number, at most 0x10FFFF;
+    /// `-` and 1 to 9 decimal digits, which truncate at that position in bytes; or `/` and 1 to 9 decimal digits, which
+    /// truncate at that number of 16-bit units. A newline inside the line stands in no word, so it is answered `?`. An
+    /// `Err` comes only where a growth of memory was refused.
+    pub fn push_answer(&mut self, line: &[u8], out: &mut Vec<u8, A>) -> Result<(), AllocError>
+        ensures answer { OnOk result ((answer : List ℕ) × IsAnswer line.now answer × (out.new.items ≡ out.old.items ++ answer)) }
+    {
+        let Some(refused) = self.build(line)? else {
+            return Ok(out.push(b'?')?);
+        };
+        push_dump_with_note(self.alloc, self.text.as_wtf8(), refused, out)
+    }
+
+    // Makes the text that of the calls that the words of a line stand for, built from the empty string, and answers how
+    // many truncations were refused, or `None` where some word stands for no call.
+    fn build(&mut self, line: &[u8]) -> Result<Option<usize>, AllocError>
+        ensures { IfOk result (λ built. MatchOption built
+            (Any IsNoCall (words line.now))
+            (λ refused. (calls : List Build) × AllZip IsCall (words line.now) calls × Run [] calls self.new.text.units refused)) }
+    {
+        prove!(line.len() < usize::MAX);
+        self.text.truncate_units(0);
+        self.calls.clear();
+        let mut refused = 0;
+        for word in Words::new(line) {
+            let Some(call) = word::read_call(word) else {
+                return Ok(None);
+            };
+            refused += self.add_call(call)?;
+        }
+        refused += self.apply_calls()?;
+        Ok(Some(refused))
+    }
+
+    // Puts a call behind those that wait, applies them all where they are many, and answers how many truncations were
+    // refused.
+    fn add_call(&mut self, call: Build<'static>) -> Result<usize, AllocError>
+        ensures { IfOk result (λ refused. (applied : List Build) × (self.old.calls.items ++ call.entry ∷ [] ≡ applied ++ self.new.calls.items)
+            × Run self.old.text.units applied self.new.text.units refused × (refused ≤ length applied)) }
+    {
+        self.calls.push(call)?;
+        if self.calls.len() < CALLS {
+            return Ok(0);
+        }
+        self.apply_calls()
+    }
+
+    // Applies the calls that wait to the text, forgets them, and answers how many truncations were refused.
+    fn apply_calls(&mut self) -> Result<usize, AllocError>
+        ensures run { IfOk result (λ refused. Run self.old.text.units self.old.calls.items self.new.text.units refused) }
+        ensures bound { IfOk result (λ refused. refused ≤ length self.old.calls.items) }
+        ensures none { OnOk result (self.new.calls.items ≡ []) }
+    {
+        let Ok(refused) = self.text.apply_all(self.calls.as_slice()) else {
+            return Err(AllocError);
+        };
+        self.calls.clear();
+        Ok(refused)
+    }
+}
+
+/// The answer to a line by itself.
 pub fn dump_line<A: Allocator + Copy>(alloc: A, line: &[u8]) -> Result<Vec<u8, A>, AllocError>
     ensures answer { IfOk result (λ answer. IsAnswer line.now answer.items) }
 {
-    let Some(calls) = read_calls(alloc, line)? else {
-        return Ok(vec![in alloc; b'?']?);
-    };
-    let mut text = Wtf8Buf::new(alloc);
-    let Ok(refused) = text.apply_all(calls.as_slice()) else {
-        return Err(AllocError);
-    };
-    let answer = dump_with_note(alloc, text.as_wtf8(), refused)?;
-    Ok(answer.into_bytes())
+    let mut answer = Vec::new(alloc);
+    Workspace::new(alloc).push_answer(line, &mut answer)?;
+    Ok(answer)
 }
 
-// The calls that the words of a line stand for, or `None` where some word stands for none.
-fn read_calls<A: Allocator + Copy>(
-    alloc: A,
-    line: &[u8],
-) -> Result<Option<Vec<Build<'static>, A>>, AllocError>
-    ensures { IfOk result (λ read. MatchOption read
-        (Any IsNoCall (words line.now))
-        (λ calls. AllZip IsCall (words line.now) calls.items)) }
-{
-    let mut calls = Vec::new(alloc);
-    for word in Words::new(line) {
-        let Some(call) = word::read_call(word) else {
-            return Ok(None);
-        };
-        calls.push(call)?;
-    }
-    Ok(Some(calls))
-}
-
-// The bytes of a string in hexadecimal, and behind them how many truncations were refused where some were.
-fn dump_with_note<A: Allocator + Copy>(
+// Appends the bytes of a string in hexadecimal, and behind them how many truncations were refused where some were.
+fn push_dump_with_note<A: Allocator>(
     alloc: A,
     text: Wtf8<'_>,
     refused: usize,
-) -> Result<String<A>, AllocError>
-    ensures { IfOk result (λ answer. string_bytes answer ≡ hex text.entry.bytes.now ++ note text.entry.bytes.now refused) }
+    out: &mut Vec<u8, A>,
+) -> Result<(), AllocError>
+    ensures { OnOk result (out.new.items ≡ out.old.items ++ (hex text.entry.bytes.now ++ note text.entry.bytes.now refused)) }
 {
-    let dump = text.hex_dump(alloc)?;
+    text.append_hex_dump(out)?;
     if refused == 0 {
-        return Ok(dump);
+        return Ok(());
     }
     let space = if text.len() == 0 { "" } else { " " };
-    format!(in alloc; "{dump}{space}!{refused}")
+    let note = format!(in alloc; "{space}!{refused}")?;
+    out.extend_from_slice(note.as_bytes())
 }

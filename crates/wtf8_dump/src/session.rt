@@ -5,7 +5,7 @@ ghost use Rattle.wtf8_dump.specs.Dump.{IsDump};
 ghost use Rattle.wtf8_dump.specs.Known.{IsInput};
 
 use crate::fault::Fault;
-use crate::line::dump_line;
+use crate::line::Workspace;
 use crate::parts::Lines;
 use std::alloc::{AllocError, Allocator};
 use std::io::{Read, Write};
@@ -71,9 +71,9 @@ fn dump<A: Allocator + Copy>(alloc: A, input: &[u8]) -> Result<Vec<u8, A>, Alloc
     ensures { IfOk result (λ out. IsDump input.now out.items) }
 {
     let mut out = Vec::new(alloc);
+    let mut workspace = Workspace::new(alloc);
     for line in Lines::new(input) {
-        let answer = dump_line(alloc, line)?;
-        out.extend_from_slice(answer.as_slice())?;
+        workspace.push_answer(line, &mut out)?;
         out.push(b'\n')?;
     }
     Ok(out)

@@ -7,6 +7,8 @@ mod calls;
 #[cfg(test)]
 mod constructors;
 #[cfg(test)]
+mod hexadecimal;
+#[cfg(test)]
 mod laws;
 #[cfg(test)]
 mod points;
