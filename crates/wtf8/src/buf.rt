@@ -22,7 +22,23 @@ use std::marker::Model;
 ///
 /// Contracts see it as its units, its bytes, the fact that the bytes are the well-formed form of these units, and its
 /// capacity. They do not see a flag that saves `into_string` and `into_string_lossy` their search, and equality, order,
-/// hash and debug text do not look at it.
+/// hash, display and debug text do not look at it.
+///
+/// ```
+/// use std::alloc::{AllocError, Global};
+/// use wtf8::Wtf8Buf;
+///
+/// /// A file name of any units with an ending behind it.
+/// fn with_ending(alloc: Global, name: &[u16]) -> Result<Wtf8Buf<Global>, AllocError> {
+///     let mut file = Wtf8Buf::from_ill_formed_utf16(alloc, name)?;
+///     if file.is_empty() {
+///         file.push_str("unnamed")?;
+///     }
+///     // Were it refused for want of memory, `file` would still be the name alone.
+///     file.push_str(".txt")?;
+///     Ok(file)
+/// }
+/// ```
 #[derive(Drop)]
 pub struct Wtf8Buf<A: Allocator> {
     bytes: Vec<u8, A>,
@@ -112,6 +128,17 @@ impl<A: Allocator> Wtf8Buf<A> {
 
     /// The string whose units are `v`, whether they pair or not. It first asks for as many bytes as there are units, and
     /// for none where `v` is empty.
+    ///
+    /// ```
+    /// use std::alloc::{AllocError, Global};
+    /// use wtf8::Wtf8Buf;
+    ///
+    /// /// A pair, which is one code point of four bytes, and a lead that stands alone: F0 9F 92 A9 ED A0 BD.
+    /// fn pair_and_lead(alloc: Global) -> Result<Wtf8Buf<Global>, AllocError> {
+    ///     // A refusal leaves no string, and the list of units as it is.
+    ///     Wtf8Buf::from_ill_formed_utf16(alloc, &[0xD83D, 0xDCA9, 0xD83D])
+    /// }
+    /// ```
     pub fn from_ill_formed_utf16(alloc: A, v: &[u16]) -> Result<Wtf8Buf<A>, AllocError>
         ensures units { IfOk result (λ b. b.units ≡ v.now) }
         ensures form { IfOk result (λ b. (w : List ℕ) → IsForm w v.now → b.bytes ≡ w) }
@@ -229,6 +256,21 @@ impl<A: Allocator> Wtf8Buf<A> {
 
     /// Appends another string. A trail surrogate at its front joins a lead at the end: the two become the code point
     /// that they stand for, and the length grows by the other's length less 2. After a refusal the string is as before.
+    ///
+    /// ```
+    /// use std::alloc::Global;
+    /// use wtf8::{Wtf8, Wtf8Buf};
+    ///
+    /// /// Appends a piece, and answers whether there was memory for it.
+    /// fn append(text: &mut Wtf8Buf<Global>, piece: Wtf8<'_>) -> bool {
+    ///     match text.push_wtf8(piece) {
+    ///         // A lead that ended `text` and a trail that begins `piece` are one code point now.
+    ///         Ok(()) => true,
+    ///         // `text` is as it was, with the lead at its end.
+    ///         Err(_) => false,
+    ///     }
+    /// }
+    /// ```
     pub fn push_wtf8(&mut self, other: Wtf8<'_>) -> Result<(), AllocError>
         ensures ok { OnOk result (AppendsUnits self.old (view_units other.entry) self.new) }
         ensures kept { OnErr result (KeepsContents self.old self.new) }
@@ -431,6 +473,7 @@ mod tests {
         PushWtf8(&'static [u16]),
         Reserve(usize),
         Truncate(usize),
+        Clear,
     }
 
     /// Makes the call.
@@ -452,6 +495,10 @@ mod tests {
             }
             Call::Reserve(additional) => string.apply(Build::Reserve(additional)),
             Call::Truncate(position) => string.apply(Build::Truncate(position)),
+            Call::Clear => {
+                string.clear();
+                Ok(true)
+            }
         }
     }
 
@@ -469,7 +516,7 @@ mod tests {
     }
 
     /// A making, the calls after it, and whether the string is then known to hold no surrogate.
-    const FLAGS: [(Start, &[Call], bool); 26] = [
+    const FLAGS: [(Start, &[Call], bool); 27] = [
         (Start::New, &[], true),
         (Start::WithCapacity, &[], true),
         (Start::FromString, &[], true),
@@ -528,6 +575,7 @@ mod tests {
             &[Call::Push(0xD83D), Call::Truncate(0)],
             true,
         ),
+        (Start::FromStr, &[Call::Push(0xD83D), Call::Clear], true),
     ];
 
     #[test]

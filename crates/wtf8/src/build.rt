@@ -74,6 +74,21 @@ impl<A: Allocator> Wtf8Buf<A> {
     ///
     /// Where a call is refused for want of memory, the calls before it were applied, it is no truncation, and the string
     /// is what they leave, followed, where it is an extension, by some beginning of its points.
+    ///
+    /// ```
+    /// use std::alloc::Global;
+    /// use wtf8::{Build, Stopped, Wtf8Buf};
+    ///
+    /// /// Makes the string "a💩". Its last call would cut inside a code point: it is refused and counted, so `Ok(1)`.
+    /// fn rebuild(text: &mut Wtf8Buf<Global>) -> Result<usize, Stopped> {
+    ///     // Where there is no memory for the push: `Err`, `done` is 1, and `text` is empty.
+    ///     text.apply_all(&[
+    ///         Build::Truncate(0),
+    ///         Build::PushStr("a💩"),
+    ///         Build::Truncate(2),
+    ///     ])
+    /// }
+    /// ```
     pub fn apply_all(&mut self, calls: &[Build<'_>]) -> Result<usize, Stopped>
         // The whole list leads from the units before to the units after; the bytes are their one form, as always.
         ensures run { IfOk result (λ n. Run self.old.units calls.now self.new.units n) }

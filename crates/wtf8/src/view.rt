@@ -21,6 +21,26 @@ use std::borrow::CowStr;
 ///
 /// Its units are those of the code points that the bytes encode. The fields are public so that contracts of other
 /// crates can name the bytes and their code points: code makes a view by a buffer's `as_wtf8`.
+///
+/// ```
+/// use std::alloc::{AllocError, Global};
+/// use std::borrow::CowStr;
+/// use wtf8::Wtf8;
+///
+/// /// The lossy text before a position, or `None` where that is no code point boundary.
+/// fn text_before<'a>(
+///     alloc: Global,
+///     name: Wtf8<'a>,
+///     end: usize,
+/// ) -> Result<Option<CowStr<'a, Global>>, AllocError> {
+///     if !name.is_code_point_boundary(end) {
+///         return Ok(None);
+///     }
+///     // Only a text that has to be copied can be refused. The view and its bytes are never changed.
+///     let text = name.slice_to(end).to_string_lossy(alloc)?;
+///     Ok(Some(text))
+/// }
+/// ```
 #[derive(Clone, Copy)]
 pub struct Wtf8<'a> {
     pub bytes: &'a [u8],

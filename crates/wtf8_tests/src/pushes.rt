@@ -104,6 +104,22 @@ fn appended_views_have_the_units_of_both(rt: HostRuntime) -> Result<(), Fail> {
         text.push_wtf8(joined(rt.alloc(), back)?.as_wtf8())?;
         expect_dump(rt.alloc(), text.as_wtf8(), dump)?;
         assert_eq!(rt; text.as_wtf8().len(), length, "{dump}");
+        assert_eq!(rt; text.len(), length, "{dump}");
+        assert!(rt; !text.is_empty() && !text.as_wtf8().is_empty(), "{dump}");
+    }
+    Ok(())
+}
+
+#[test]
+fn a_cleared_string_is_empty_and_begins_anew(rt: HostRuntime) -> Result<(), Fail> {
+    for (front, back, dump, _) in GLUED {
+        let mut text = joined(rt.alloc(), front)?;
+        let capacity = text.capacity();
+        text.clear();
+        assert!(rt; text.is_empty() && text.as_wtf8().is_empty(), "{dump}");
+        assert_eq!(rt; (text.len(), text.capacity()), (0, capacity), "{dump}");
+        text.push_wtf8(joined(rt.alloc(), back)?.as_wtf8())?;
+        expect_units(rt.alloc(), text.as_wtf8(), back)?;
     }
     Ok(())
 }

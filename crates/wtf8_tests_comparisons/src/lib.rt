@@ -4,6 +4,8 @@
 #[cfg(test)]
 mod debugging;
 #[cfg(test)]
+mod displaying;
+#[cfg(test)]
 mod hashing;
 #[cfg(test)]
 mod ordering;
