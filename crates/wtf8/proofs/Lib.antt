@@ -20,7 +20,9 @@ pub mod Scalars
 pub mod StringLaws
 pub mod SurrogateLemmas
 pub mod Texts
+pub mod UnitBlocks
 pub mod UnitCuts
 pub mod UnitLanes
 pub mod UnitLemmas
+pub mod UnitParts
 pub mod UnitPositions

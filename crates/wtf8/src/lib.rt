@@ -14,6 +14,7 @@ mod encoding;
 mod iters;
 pub mod laws;
 mod search;
+mod unit_blocks;
 mod unit_positions;
 mod view;
 
