@@ -22,8 +22,10 @@ pub mod Scalars
 pub mod StringLaws
 pub mod SurrogateLemmas
 pub mod Texts
+pub mod UnitBlocks
 pub mod UnitCuts
 pub mod UnitLanes
 pub mod UnitLemmas
 pub mod UnitOrder
+pub mod UnitParts
 pub mod UnitPositions

@@ -14,7 +14,7 @@ ghost use Rattle.wtf8.specs.View.{view_points, view_units};
 
 use crate::code_point::CodePoint;
 use crate::view::Wtf8;
-use crate::{concat, decode, search, unit_positions};
+use crate::{concat, search, unit_blocks, unit_positions};
 use std::alloc::{AllocError, Allocator};
 use std::marker::Model;
 
@@ -145,8 +145,7 @@ impl<A: Allocator> Wtf8Buf<A> {
         ensures empty { v.now ≡ [] → IsOk result }
     {
         let mut bytes = Vec::with_capacity(alloc, v.len())?;
-        decode::append_units(&mut bytes, v)?;
-        let is_known_utf8 = search::first_surrogate(&bytes, 0).is_none();
+        let is_known_utf8 = unit_blocks::append_units(&mut bytes, v)?;
         Ok(from_well_formed(bytes, is_known_utf8))
     }
 

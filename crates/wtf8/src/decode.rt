@@ -1,11 +1,11 @@
 // Code units read as characters and lone surrogates.
-ghost use Rattle.std.specs.Prelude.{◌≡◌, ◌↔◌, ℕ, List, [], Result, None, IsTrue, IsOk, OnOk};
+ghost use Rattle.std.specs.Prelude.{◌≡◌, ◌↔◌, ℕ, List, Result, None, IsTrue, IfOk};
 ghost use Rattle.std.specs.Iterator.{count_map, Drains};
 ghost use Rattle.std.specs.Iterator.Adapters.{peekable_can, peekable_source, peekable_peeked, items_left_with_peeked};
 ghost use Rattle.wtf8.specs.CodePoint.{number};
-ghost use Rattle.wtf8.specs.Decoding.{point_of, units_left, decode_steps, ReadsAll};
-ghost use Rattle.wtf8.specs.Form.{IsForm};
+ghost use Rattle.wtf8.specs.Decoding.{units_left, decode_steps, ReadsAll};
 ghost use Rattle.wtf8.specs.Unicode.{IsLead, IsTrail, IsSurrogate, pair};
+ghost use Rattle.wtf8.specs.UnitParts.{AppendsForm};
 
 use crate::code_point::CodePoint;
 use crate::encoding;
@@ -61,16 +61,6 @@ fn joined(lead: u16, trail: u16) -> char
     unsafe { char::from_u32_unchecked(0x10000 + offset) }
 }
 
-/// The code point of an item: that of the character, or the lone surrogate itself.
-fn code_point_of(item: Result<char, u16>) -> CodePoint
-    ensures { number result ≡ point_of item }
-{
-    match item {
-        Ok(character) => CodePoint::from_u32_unchecked(u32::from(character)),
-        Err(surrogate) => CodePoint::from_u32_unchecked(u32::from(surrogate)),
-    }
-}
-
 impl<I: Iterator<Item = u16>> Iterator for DecodeUtf16<I> {
     type Item = Result<char, u16>;
 
@@ -98,20 +88,27 @@ impl<I: Iterator<Item = u16>> Iterator for DecodeUtf16<I> {
     }
 }
 
-/// Appends the string of the units to a buffer without bytes. Each code point is appended as it is: no two of those that
-/// are read make a pair.
+/// Appends the string of some units to bytes, and answers whether it has no lone surrogate. Each code point is appended
+/// as it is: no two of those that are read make a pair.
+#[inline(always)]
 pub(crate) fn append_units<A: Allocator>(
     bytes: &mut Vec<u8, A>,
     v: &[u16],
-) -> Result<(), AllocError>
-    requires { bytes.old.items ≡ [] }
-    ensures ok { OnOk result (IsForm bytes.new.items v.now) }
-    ensures empty { v.now ≡ [] → IsOk result }
+) -> Result<bool, AllocError>
+    ensures ok { IfOk result (λ known. AppendsForm bytes.old.items bytes.new.items v.now known) }
 {
+    let mut is_scalar = true;
     for item in decode_utf16(v.iter().copied()) {
-        encoding::append(bytes, code_point_of(item))?;
+        match item {
+            Ok(character) => encoding::append(bytes, CodePoint::from_char(character))?,
+            Err(surrogate) => {
+                is_scalar = false;
+                let point = CodePoint::from_u32_unchecked(u32::from(surrogate));
+                encoding::append(bytes, point)?;
+            }
+        }
     }
-    Ok(())
+    Ok(is_scalar)
 }
 
 #[cfg(test)]

@@ -60,14 +60,28 @@ pub(crate) fn append<A: Allocator>(
 {
     let value = code_point.to_u32();
     if value < 0x80 {
-        bytes.extend_from_slice(&[value as u8])
+        bytes.reserve(1)?;
+        bytes.push_reserved(value as u8);
     } else if value < 0x800 {
-        bytes.extend_from_slice(&two_bytes(value))
+        let [first, second] = two_bytes(value);
+        bytes.reserve(2)?;
+        bytes.push_reserved(first);
+        bytes.push_reserved(second);
     } else if value < 0x10000 {
-        bytes.extend_from_slice(&three_bytes(value))
+        let [first, second, third] = three_bytes(value);
+        bytes.reserve(3)?;
+        bytes.push_reserved(first);
+        bytes.push_reserved(second);
+        bytes.push_reserved(third);
     } else {
-        bytes.extend_from_slice(&four_bytes(value))
+        let [first, second, third, fourth] = four_bytes(value);
+        bytes.reserve(4)?;
+        bytes.push_reserved(first);
+        bytes.push_reserved(second);
+        bytes.push_reserved(third);
+        bytes.push_reserved(fourth);
     }
+    Ok(())
 }
 
 /// Whether a byte is the first one of a code point's encoding: the others are from 0x80 to 0xBF.

@@ -1,0 +1,31 @@
+-- Units that are turned into bytes part by part.
+use Rattle.std.specs.Prelude.{◌≡◌, ℕ, ◌+◌, ◌<◌, ◌≤◌, Bool, IsTrue, List, ◌++◌, length, take, drop}
+use lib.Lanes.{Each1}
+use Rattle.wtf8.specs.Concatenation.{MeetsAsPair}
+use Rattle.wtf8.specs.Form.{IsForm}
+use Rattle.wtf8.specs.Surrogates.{AreScalar}
+
+-- Bytes are the form of these units, and where the flag is set no surrogate is alone in them (Unicode 3.9, "Unicode scalar value").
+pub record IsKnownForm (w u : List ℕ) (known : Bool) : Type 0 where
+  pub form : IsForm w u
+  pub scalar : IsTrue known → AreScalar form.points
+
+-- The new bytes are the old ones with the form of these units behind them, as it is (WTF-8, "Converting between WTF-8 and potentially ill-formed UTF-16").
+pub record AppendsForm (old new u : List ℕ) (known : Bool) : Type 0 where
+  pub appended : List ℕ
+  pub behind : new ≡ old ++ appended
+  pub part : IsKnownForm appended u known
+
+-- No lead and trail stand on the two sides of this place (Unicode 3.8, "Surrogates").
+abbrev pub DividesNoPair : List ℕ → ℕ → Type 0
+DividesNoPair u n = ¬ (MeetsAsPair (take n u) (drop n u))
+
+-- Each of the units is below 80: its own code point, and its own byte (Unicode 3.9, "UTF-8", Table 3-6).
+abbrev pub AreAscii : List ℕ → Type 0
+AreAscii u = Each1 (λ n. n < 0x80) u
+
+-- Bytes are the sixteen units from a place on, all of them below 80.
+pub record IsAsciiBlock (u : List ℕ) (at : ℕ) (w : List ℕ) : Type 0 where
+  pub within : at + 16 ≤ length u
+  pub same : w ≡ take 16 (drop at u)
+  pub ascii : AreAscii w
