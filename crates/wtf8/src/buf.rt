@@ -300,7 +300,7 @@ impl<A: Allocator> Wtf8Buf<A> {
         self.bytes.truncate(new_len)
     }
 
-    /// Leaves no units, and the capacity as it was.
+    /// Leaves no units, and the capacity as it was. It asks for no memory.
     pub fn clear(&mut self)
         ensures units { self.new.units ≡ [] }
         ensures bytes { self.new.bytes ≡ [] }

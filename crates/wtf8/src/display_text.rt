@@ -29,7 +29,8 @@ fn write_lossy<W: fmt::Write>(text: Wtf8<'_>, f: &mut fmt::Formatter<W>) -> fmt:
 }
 
 /// The lossy text: U+FFFD in the place of each surrogate. A string that holds no surrogate is written as any text, with
-/// the width, the fill and the precision that stand outside; of one that holds a surrogate they are ignored.
+/// the width, the fill and the precision that stand outside; of one that holds a surrogate they are ignored. It asks for
+/// no memory. An error of the formatter's sink ends it and is its answer.
 impl<'a> fmt::Display for Wtf8<'a> {
     ghost output = { λ text. Some (bytes (lossy (view_points text))) };
 
