@@ -94,6 +94,7 @@ pub(crate) struct UnitCut {
 }
 
 /// Where the first `n` units of a string end, or `None` where it has fewer.
+#[inline(always)]
 pub(crate) fn cut(text: Wtf8<'_>, n: usize) -> Option<UnitCut>
     ensures some { IfSome result (λ cut. CutsUnits (view_points text.entry) n cut.position cut.divided) }
     ensures none { IfNone result (length (view_units text.entry) < n) }
