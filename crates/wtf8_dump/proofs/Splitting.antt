@@ -1,10 +1,11 @@
 -- Splitting at the first separator.
-use Rattle.std.proofs.Common.{◌≡◌, ◌≢◌, ℕ, ◌+◌, ◌<◌, ◌==◌, Bool, true, false, List, [], ◌∷◌, ◌++◌, length, get_or, take, drop, All, refl, sym, ap, ◌∙◌, inl, inr, take-append-drop, Option, Some, None, IfNone, unwrap_or}
+use Rattle.std.proofs.Common.{◌≡◌, ◌≢◌, ℕ, ◌+◌, ◌<◌, ◌≤◌, subst, arith, length-take-le, ◌==◌, Bool, true, false, List, [], ◌∷◌, ◌++◌, length, get_or, take, drop, All, refl, sym, ap, ◌∙◌, inl, inr, take-append-drop, Option, Some, None, IfNone, unwrap_or}
 use Rattle.std.specs.Borrow.{Bor}
 use Rattle.std.specs.List.{slice_split, onto_first}
 use Rattle.std.specs.Option.{option_map_or}
-use Rattle.std.proofs.lemmas.Bool.{cases_Bool}
-use Rattle.std.proofs.lemmas.List.{drop_more}
+use Rattle.std.proofs.lemmas.Bool.{cases_Bool, cases_lt}
+use Rattle.std.proofs.lemmas.List.Elements.{All-get_or, All-from_get_or}
+use Rattle.std.proofs.lemmas.List.{drop_more, get_or-take}
 use Rattle.std.proofs.lemmas.List.Splits.{slice_split_at, slice_split-cons_yes, slice_split-cons_no}
 use Rattle.wtf8_dump.specs.Lines.{without_empty_end, lines}
 
@@ -44,3 +45,13 @@ lines_step bytes line (Some r) end rest h split whole empty is =
     let more = some_part (λ b. b == 10) r.now in
     ap without_empty_end (split ∙ ap (λ parts. line ∷ parts) more.2) ∙ kept_before line more.0 more.1
     ∙ ap (λ parts. line ∷ without_empty_end parts) (sym more.2) ∙ ap (λ b. line ∷ lines b.now) (sym is)
+
+-- no separator among some more, by their places
+pub none_further : (separator : ℕ) (bytes : List ℕ) (at n : ℕ) → at + n ≤ length bytes → All (λ b. (b == separator) ≡ false) (take at bytes)
+    → ((k : ℕ) → at ≤ k → k < at + n → (get_or bytes k 0 == separator) ≡ false) → All (λ b. (b == separator) ≡ false) (take (at + n) bytes)
+none_further separator bytes at n room before here = All-from_get_or (λ b. (b == separator) ≡ false) (take (at + n) bytes) 0 (λ k lt.
+    let inside : k < at + n = omega (arith, lt, length-take-le (at + n) bytes room) in
+    subst (λ b. (b == separator) ≡ false) (sym (get_or-take (at + n) bytes k 0 inside)) (elim (cases_lt k at) [
+      | inl h ↦ subst (λ b. (b == separator) ≡ false) (get_or-take at bytes k 0 h) (All-get_or (λ b. (b == separator) ≡ false) (take at bytes) k 0 (omega (arith, h, length-take-le at bytes (omega arith))) before)
+      | inr h ↦ here k h inside
+    ]))

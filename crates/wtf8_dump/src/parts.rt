@@ -1,9 +1,14 @@
 // The lines of an input and the words of a line.
-ghost use Rattle.std.specs.Prelude.{◌≡◌, ◌==◌, [], ◌∷◌, IfNone};
-ghost use Rattle.std.specs.List.{slice_split};
+ghost use Rattle.std.specs.Prelude.{◌≡◌, ◌==◌, ◌≤◌, [], ◌∷◌, false, length, take, IfNone};
+ghost use Rattle.std.specs.List.{All, slice_split};
 ghost use Rattle.std.specs.Option.{option_map_or};
 ghost use Rattle.std.specs.Iterator.{YieldsFirstRef, item_count};
 ghost use Rattle.wtf8_dump.specs.Lines.{lines, words};
+
+use std::simd::prelude::*;
+
+// How many bytes are searched for a newline together.
+const LANES: usize = 32;
 
 /// The lines of an input, in order, each without its newline. What follows the last newline is a line too if it is not
 /// empty.
@@ -36,7 +41,7 @@ impl<'a> Iterator for Lines<'a> {
         if self.rest.is_empty() {
             return None;
         }
-        let (line, after) = split_first_part(self.rest, b'\n');
+        let (line, after) = split_first_part(self.rest, b'\n', skip_blocks(self.rest, b'\n'));
         self.rest = after.unwrap_or(&[]);
         Some(line)
     }
@@ -71,22 +76,42 @@ impl<'a> Iterator for Words<'a> {
 
     fn next(&mut self) -> Option<&'a [u8]> {
         let rest = self.rest?;
-        let (word, after) = split_first_part(rest, b' ');
+        let (word, after) = split_first_part(rest, b' ', 0);
         self.rest = after;
         Some(word)
     }
 }
 
-// The bytes before the first separator, and those after it where there is one.
-fn split_first_part(bytes: &[u8], separator: u8) -> (&[u8], Option<&[u8]>)
+// The bytes before the first separator, and those after it where there is one. None stands before `from`.
+fn split_first_part(bytes: &[u8], separator: u8, from: usize) -> (&[u8], Option<&[u8]>)
+    requires within { from ≤ length bytes.now }
+    requires none_before { All (λ byte. (byte == separator) ≡ false) (take from bytes.now) }
     ensures parts { slice_split (λ byte. byte == separator) bytes.now
         ≡ result.0.now ∷ option_map_or (λ rest. slice_split (λ byte. byte == separator) rest.now) result.1 [] }
     ensures whole { IfNone result.1 (result.0.now ≡ bytes.now) }
 {
-    for (at, byte) in bytes.iter().enumerate() {
-        if *byte == separator {
+    let mut at = from;
+    while at < bytes.len() {
+        if bytes[at] == separator {
             return (&bytes[..at], Some(&bytes[at + 1..]));
         }
+        at += 1;
     }
     (bytes, None)
+}
+
+// How many bytes at the front hold no separator, as far as blocks of so many bytes tell.
+fn skip_blocks(bytes: &[u8], separator: u8) -> usize
+    ensures within { result ≤ length bytes.now }
+    ensures none { All (λ byte. (byte == separator) ≡ false) (take result bytes.now) }
+{
+    let mut at = 0;
+    while LANES <= bytes.len() - at {
+        let block = u8x32::from_slice(&bytes[at..]);
+        if block.simd_eq(u8x32::splat(separator)).to_bitmask() != 0 {
+            return at;
+        }
+        at += LANES;
+    }
+    at
 }

@@ -1,4 +1,4 @@
-use Rattle.std.proofs.Common.{◌≡◌, List, [], ◌∷◌, ◌+◌, ◌≤◌, length, sym, ap, ◌∙◌, subst, arith}
+use Rattle.std.proofs.Common.{◌+◌, sym, ap, ◌∙◌, subst, arith}
 use Rattle.wtf8_dump.specs.Parts.{words_left}
 use Rattle.wtf8_dump.proofs.Counting.{Progress, progress_start, progress_more, progress_fits, progress_end}
 use Rattle.wtf8_dump.proofs.line.Workspace.build.Goals as goal

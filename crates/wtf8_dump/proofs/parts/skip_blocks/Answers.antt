@@ -1,0 +1,16 @@
+use Rattle.std.proofs.Common.{◌==◌, eqb, sym, ◌∙◌, arith, w8}
+use lib.Lanes.{chunk}
+use Rattle.std.proofs.lemmas.Simd.{bitmask_splat, length-chunk, none_from_empty_mask}
+use Rattle.wtf8_dump.proofs.Splitting.{none_further}
+use Rattle.wtf8_dump.proofs.parts.skip_blocks.Goals as goal
+
+pub loop-at-preserved : goal.loop-at-preserved
+loop-at-preserved c =
+    let at = c.loop-at.at in
+    let bytes = c.args.bytes.now in
+    let mark = c.args.separator in
+    let mask = bitmask_splat w8 eqb (chunk at 32 bytes) 32 mark (length-chunk at 32 bytes (omega arith)) (omega arith) in
+    record {
+      within = omega arith;
+      none = none_further mark bytes at 32 (omega arith) c.loop-at.invariant.none (none_from_empty_mask (λ b. b == mark) bytes at 32 0 (omega arith) (sym mask ∙ c.if-block-separator-ne0.false));
+    }
