@@ -1,42 +1,49 @@
 -- Units turned into bytes part by part: where parts meet, and the form of all that was read.
 use Rattle.std.proofs.Common.{◌≡◌, ℕ, ◌+◌, ◌<◌, ◌≤◌, Bool, IsTrue, List, [], ◌∷◌, ◌++◌, length, take, drop, get_or, refl, sym, ap, ◌∙◌, subst, arith, length-append}
 use Rattle.std.proofs.lemmas.List.{get_or-append-add, take-append-drop, take_all}
-use Rattle.std.proofs.lemmas.Simd.{Each1-get_or, length-chunk}
+use Rattle.std.proofs.lemmas.Simd.{Each1-get_or, Each1-weaker, length-chunk}
 use Rattle.std.proofs.Math.Seq.{get_or-append_seam, take-add}
 use Rattle.wtf8.specs.Concatenation.{MeetsAsPair}
 use Rattle.wtf8.specs.Form.{IsClean, bytes}
 use Rattle.wtf8.specs.OneForm.{bytes-injective}
 use Rattle.wtf8.specs.Surrogates.{AreScalar}
-use Rattle.wtf8.specs.Unicode.{units}
-use Rattle.wtf8.specs.UnitParts.{IsKnownForm, DividesNoPair, AreAscii, IsAsciiBlock}
+use Rattle.wtf8.specs.Unicode.{IsSurrogate, units}
+use Rattle.wtf8.specs.UnitParts.{IsKnownForm, DividesNoPair, AreAscii, AreScalarUnits, IsBlock}
 use Rattle.wtf8.proofs.EncodingLemmas.{encoding_one}
 use Rattle.wtf8.proofs.Gluing.{form_apart}
 use Rattle.wtf8.proofs.Joining.{bytes-append}
 use Rattle.wtf8.proofs.OneReading.{units-cons_one}
 use Rattle.wtf8.proofs.Scalars.{scalar-append}
 
--- ASCII units are their own code points and their own bytes
-ascii_clean : (u : List ℕ) → AreAscii u → IsClean u
-ascii_clean [] h = tt
-ascii_clean (p ∷ []) h = omega (arith, h.0)
-ascii_clean (p ∷ q ∷ u) h = (omega (arith, h.0), λ pair. omega (arith, h.0, pair.0), ascii_clean (q ∷ u) h.1)
+-- units that are no surrogates are their own code points
+scalar_clean : (u : List ℕ) → AreScalarUnits u → IsClean u
+scalar_clean [] h = tt
+scalar_clean (p ∷ []) h = omega (arith, h.0.0)
+scalar_clean (p ∷ q ∷ u) h = (omega (arith, h.0.0), λ pair. h.0.1 (pair.0.0, omega (arith, pair.0.1)), scalar_clean (q ∷ u) h.1)
 
-ascii_units : (u : List ℕ) → AreAscii u → units u ≡ u
-ascii_units [] h = refl
-ascii_units (p ∷ u) h = units-cons_one p u (omega (arith, h.0)) ∙ ap (λ v. p ∷ v) (ascii_units u h.1)
+scalar_units : (u : List ℕ) → AreScalarUnits u → units u ≡ u
+scalar_units [] h = refl
+scalar_units (p ∷ u) h = units-cons_one p u h.0.0 ∙ ap (λ v. p ∷ v) (scalar_units u h.1)
+
+are_scalar : (u : List ℕ) → AreScalarUnits u → AreScalar u
+are_scalar [] h = tt
+are_scalar (p ∷ u) h = (h.0.1, are_scalar u h.1)
+
+pub block_form : {u w : List ℕ} {at n : ℕ} (known : Bool) → IsBlock u at n w → IsKnownForm w (take n (drop at u)) known
+block_form {u} {w} {at} {n} known b = record {
+  form = record { points = take n (drop at u); reads = record { clean = scalar_clean (take n (drop at u)) b.scalars; same_units = scalar_units (take n (drop at u)) b.scalars }; encoded = sym b.encoded };
+  scalar = λ _. are_scalar (take n (drop at u)) b.scalars;
+}
 
 ascii_bytes : (u : List ℕ) → AreAscii u → bytes u ≡ u
 ascii_bytes [] h = refl
 ascii_bytes (p ∷ u) h = ap (λ w. w ++ bytes u) (encoding_one p h.0) ∙ ap (λ v. p ∷ v) (ascii_bytes u h.1)
 
-ascii_scalar : (u : List ℕ) → AreAscii u → AreScalar u
-ascii_scalar [] h = tt
-ascii_scalar (p ∷ u) h = (λ s. omega (arith, h.0, s.0), ascii_scalar u h.1)
-
-pub ascii_form : (u : List ℕ) (known : Bool) → AreAscii u → IsKnownForm u u known
-ascii_form u known h = record {
-  form = record { points = u; reads = record { clean = ascii_clean u h; same_units = ascii_units u h }; encoded = ascii_bytes u h };
-  scalar = λ _. ascii_scalar u h;
+pub ascii_block : (u w : List ℕ) (at : ℕ) → at + 16 ≤ length u → AreAscii (take 16 (drop at u)) → w ≡ take 16 (drop at u) → IsBlock u at 16 w
+ascii_block u w at within h e = record {
+  within = within;
+  scalars = Each1-weaker (λ n. n < 0x80) (λ n. (n < 0x10000) × ¬ (IsSurrogate n)) (λ n l. (omega (arith, l), λ s. omega (arith, l, s.0))) (take 16 (drop at u)) h;
+  encoded = e ∙ sym (ascii_bytes (take 16 (drop at u)) h);
 }
 
 pub nothing_read : {w : List ℕ} (known : Bool) → w ≡ [] → IsKnownForm w [] known
@@ -54,11 +61,13 @@ last_is u w f l k n e =
     let long : length u + k ≡ length f = omega (arith, n, ap length e, length-append u w, length-append f (l ∷ [])) in
     sym (get_or-append-add u w k 0) ∙ (ap (λ v. get_or v (length u + k) 0) e ∙ (ap (λ i. get_or (f ++ l ∷ []) i 0) long ∙ get_or-append_seam f l [] 0))
 
-pub ascii_apart : (u w : List ℕ) (at : ℕ) → IsAsciiBlock u at w → DividesNoPair u (at + 16)
-ascii_apart u w at b m =
-    let long : length w ≡ 15 + 1 = ap length b.same ∙ length-chunk at 16 u b.within in
-    let whole : take at u ++ w ≡ m.front ++ m.lead ∷ [] = ap (λ v. take at u ++ v) b.same ∙ (sym (take-add at 16 u) ∙ m.ends) in
-    omega (arith, last_is (take at u) w m.front m.lead 15 long whole, Each1-get_or (λ n. n < 0x80) w 15 0 (omega arith) b.ascii, m.is_lead)
+pub block_apart : {u w : List ℕ} (at k : ℕ) → IsBlock u at (k + 1) w → DividesNoPair u (at + (k + 1))
+block_apart {u} {w} at k b m =
+    let part = take (k + 1) (drop at u) in
+    let long : length part ≡ k + 1 = length-chunk at (k + 1) u b.within in
+    let last = last_is (take at u) part m.front m.lead k long (sym (take-add at (k + 1) u) ∙ m.ends) in
+    let apart = Each1-get_or (λ n. (n < 0x10000) × ¬ (IsSurrogate n)) part k 0 (omega (arith, long)) b.scalars in
+    apart.1 (omega (arith, last, m.is_lead), omega (arith, last, m.is_lead))
 
 -- where a part meets what is before it, all that is behind does
 meets_longer : (a b : List ℕ) (n : ℕ) → MeetsAsPair a (take n b) → MeetsAsPair a b

@@ -1,9 +1,10 @@
 -- Units that are turned into bytes part by part.
-use Rattle.std.specs.Prelude.{◌≡◌, ℕ, ◌+◌, ◌<◌, ◌≤◌, Bool, IsTrue, List, ◌++◌, length, take, drop}
+use Rattle.std.specs.Prelude.{◌≡◌, ℕ, ◌+◌, ◌/◌, ◌%◌, ◌<◌, ◌≤◌, Bool, IsTrue, List, [], ◌∷◌, ◌++◌, length, take, drop}
 use lib.Lanes.{Each1}
 use Rattle.wtf8.specs.Concatenation.{MeetsAsPair}
-use Rattle.wtf8.specs.Form.{IsForm}
+use Rattle.wtf8.specs.Form.{IsForm, bytes}
 use Rattle.wtf8.specs.Surrogates.{AreScalar}
+use Rattle.wtf8.specs.Unicode.{IsSurrogate}
 
 -- Bytes are the form of these units, and where the flag is set no surrogate is alone in them (Unicode 3.9, "Unicode scalar value").
 pub record IsKnownForm (w u : List ℕ) (known : Bool) : Type 0 where
@@ -24,8 +25,20 @@ DividesNoPair u n = ¬ (MeetsAsPair (take n u) (drop n u))
 abbrev pub AreAscii : List ℕ → Type 0
 AreAscii u = Each1 (λ n. n < 0x80) u
 
--- Bytes are the sixteen units from a place on, all of them below 80.
-pub record IsAsciiBlock (u : List ℕ) (at : ℕ) (w : List ℕ) : Type 0 where
-  pub within : at + 16 ≤ length u
-  pub same : w ≡ take 16 (drop at u)
-  pub ascii : AreAscii w
+-- Each of the units is a scalar value of its own number (Unicode 3.9, "Unicode scalar value").
+abbrev pub AreScalarUnits : List ℕ → Type 0
+AreScalarUnits u = Each1 (λ n. (n < 0x10000) × ¬ (IsSurrogate n)) u
+
+-- Each of the units takes three bytes, and none is a surrogate (Unicode 3.9, "UTF-8", Table 3-6).
+abbrev pub AreThreeByteUnits : List ℕ → Type 0
+AreThreeByteUnits u = Each1 (λ n. (0x800 ≤ n) × ¬ (IsSurrogate n)) u
+
+-- The three bytes that a unit from 800 on has (Unicode 3.9, "UTF-8", Table 3-6).
+abbrev pub three_byte_row : ℕ → List ℕ
+three_byte_row p = (0xE0 + p / 4096) ∷ (0x80 + p / 64 % 64) ∷ (0x80 + p % 64) ∷ []
+
+-- Bytes are those of n units from a place on, none of which is a surrogate.
+pub record IsBlock (u : List ℕ) (at n : ℕ) (w : List ℕ) : Type 0 where
+  pub within : at + n ≤ length u
+  pub scalars : AreScalarUnits (take n (drop at u))
+  pub encoded : w ≡ bytes (take n (drop at u))

@@ -1,6 +1,7 @@
-// Code units turned into bytes: sixteen of ASCII together, any others one after another.
-ghost use Rattle.std.specs.Prelude.{◌≡◌, List, [], ◌<◌, ◌≤◌, length, IfOk, IfSome, IsOk, IsTrue};
-ghost use Rattle.wtf8.specs.UnitParts.{IsKnownForm, DividesNoPair, AreAscii, IsAsciiBlock};
+// Code units turned into bytes: sixteen of ASCII or eight of three bytes together, any others one after another.
+ghost use Rattle.std.specs.Prelude.{◌≡◌, List, [], ◌<◌, ◌≤◌, length, take, IfOk, IfSome, IsOk, IsTrue};
+ghost use Rattle.std.specs.List.{flat_map};
+ghost use Rattle.wtf8.specs.UnitParts.{IsKnownForm, DividesNoPair, AreAscii, AreThreeByteUnits, IsBlock, three_byte_row};
 
 use crate::decode;
 use std::alloc::{AllocError, Allocator};
@@ -8,6 +9,18 @@ use std::simd::prelude::*;
 
 /// How many units are looked at together.
 const LANES: usize = 16;
+
+/// How many units of three bytes are written together.
+const TRIPLES: usize = 8;
+
+/// The lanes of one vector and then those of another.
+const FRONT_AND_BACK: [usize; 16] = [0, 1, 2, 3, 4, 5, 6, 7, 8, 9, 10, 11, 12, 13, 14, 15];
+
+/// The first, the second and the third bytes of eight units in turn; the last eight lanes are not used.
+const IN_THREES: [usize; 32] = [
+    0, 8, 16, 1, 9, 17, 2, 10, 18, 3, 11, 19, 4, 12, 20, 5, 13, 21, 6, 14, 22, 7, 15, 23, 0, 0, 0,
+    0, 0, 0, 0, 0,
+];
 
 /// How many units are read one after another before a block is looked at again.
 const PART: usize = 64;
@@ -33,7 +46,7 @@ fn narrowed(units: u16x16) -> [u8; LANES]
 #[inline(always)]
 fn ascii_block(v: &[u16], at: usize) -> Option<[u8; LANES]>
     requires { at ≤ length v.now }
-    ensures { IfSome result (λ block. IsAsciiBlock v.now at block) }
+    ensures { IfSome result (λ block. IsBlock v.now at LANES block) }
 {
     if v.len() - at < LANES {
         return None;
@@ -41,6 +54,55 @@ fn ascii_block(v: &[u16], at: usize) -> Option<[u8; LANES]>
     let units = u16x16::from_slice(&v[at..]);
     if is_ascii(units) {
         return Some(narrowed(units));
+    }
+    None
+}
+
+/// Whether all of eight units take three bytes and none is a surrogate.
+#[inline(always)]
+fn take_three_bytes(units: u16x8) -> bool
+    ensures { IsTrue result → AreThreeByteUnits units }
+{
+    let low = units.simd_lt(u16x8::splat(0x800));
+    let leads_on = units.simd_ge(u16x8::splat(0xD800));
+    let surrogates = leads_on & units.simd_le(u16x8::splat(0xDFFF));
+    (low | surrogates).to_bitmask() == 0
+}
+
+/// Three bytes for each of eight units, as those have them that take three, and eight more bytes behind these.
+#[inline(always)]
+fn three_bytes_each(units: [u16; 8]) -> [u8; 32]
+    ensures { take 24 result ≡ flat_map three_byte_row units }
+{
+    let [a, b, c, d, e, f, g, h] = units;
+    let units = u16x8::from_array([a, b, c, d, e, f, g, h]);
+    let six_bits = u16x8::splat(64);
+    let inside = u16x8::splat(0x80);
+    let high = units / u16x8::splat(4096);
+    let middle = units / six_bits % six_bits;
+    let low = units % six_bits;
+    let first = u16x8::splat(0xE0).strict_add(high).cast::<u8>();
+    let second = inside.strict_add(middle).cast::<u8>();
+    let third = inside.strict_add(low).cast::<u8>();
+    let front: u8x16 = first.shuffle(second, FRONT_AND_BACK);
+    let back: u8x16 = third.shuffle(third, FRONT_AND_BACK);
+    let bytes: u8x32 = front.shuffle(back, IN_THREES);
+    bytes.to_array()
+}
+
+/// The bytes of the eight units from a place on, where there are so many and all of them take three bytes, with eight
+/// more behind these.
+#[inline(always)]
+fn three_byte_block(v: &[u16], at: usize) -> Option<[u8; 32]>
+    requires { at ≤ length v.now }
+    ensures { IfSome result (λ block. IsBlock v.now at TRIPLES (take 24 block)) }
+{
+    if v.len() - at < TRIPLES {
+        return None;
+    }
+    let units = u16x8::from_slice(&v[at..]);
+    if take_three_bytes(units) {
+        return Some(three_bytes_each(units.to_array()));
     }
     None
 }
@@ -78,6 +140,11 @@ pub(crate) fn append_units<A: Allocator>(
         if let Some(block) = ascii_block(v, at) {
             bytes.extend_from_slice(&block)?;
             at += LANES;
+            continue;
+        }
+        if let Some(block) = three_byte_block(v, at) {
+            bytes.extend_from_slice(&block[..3 * TRIPLES])?;
+            at += TRIPLES;
             continue;
         }
         let end = end_of_part(v, at);

@@ -1,7 +1,6 @@
-use Rattle.std.proofs.Common.{◌+◌, ◌-◌, ◌&&◌, arith, refl, subst}
+use Rattle.std.proofs.Common.{take, ◌+◌, ◌-◌, ◌&&◌, arith, refl}
 use Rattle.std.proofs.lemmas.Bool.{and_parts}
-use Rattle.wtf8.specs.UnitParts.{IsKnownForm}
-use Rattle.wtf8.proofs.UnitParts.{ascii_apart, ascii_form, nothing_apart, nothing_read, part_read, all_read}
+use Rattle.wtf8.proofs.UnitParts.{block_apart, block_form, nothing_apart, nothing_read, part_read, all_read}
 use Rattle.wtf8.proofs.unit_blocks.append_units.Goals as goal
 
 pub loop-at-init : goal.loop-at-init
@@ -11,8 +10,13 @@ pub loop-at-preserved-in-Some : goal.loop-at-preserved-in-Some
 loop-at-preserved-in-Some g c =
     let known = c.loop-at.is_scalar in
     let b = c.in-Some.ensures in
-    let here = subst (λ u. IsKnownForm c.in-Some.block u known) b.same (ascii_form c.in-Some.block known b.ascii) in
-    (b.within, part_read c.args.v.now c.loop-at.bytes.items c.in-Some.block c.extend_from_slice.new.self.items c.loop-at.at 16 (c.loop-at.at + 16) known known known c.loop-at.invariant.1 here c.loop-at.invariant.2 (λ t. (t, t)) c.in_ok-extend_from_slice.ensures.items refl, ascii_apart c.args.v.now c.in-Some.block c.loop-at.at b)
+    (b.within, part_read c.args.v.now c.loop-at.bytes.items c.in-Some.block c.extend_from_slice.new.self.items c.loop-at.at 16 (c.loop-at.at + 16) known known known c.loop-at.invariant.1 (block_form known b) c.loop-at.invariant.2 (λ t. (t, t)) c.in_ok-extend_from_slice.ensures.items refl, block_apart c.loop-at.at 15 b)
+
+pub loop-at-preserved-in-Some-three_byte_block : goal.loop-at-preserved-in-Some-three_byte_block
+loop-at-preserved-in-Some-three_byte_block g c =
+    let known = c.loop-at.is_scalar in
+    let b = c.in-Some-three_byte_block.ensures in
+    (b.within, part_read c.args.v.now c.loop-at.bytes.items (take 24 c.in-Some-three_byte_block.block) c.extend_from_slice-in-Some-three_byte_block.new.self.items c.loop-at.at 8 (c.loop-at.at + 8) known known known c.loop-at.invariant.1 (block_form known b) c.loop-at.invariant.2 (λ t. (t, t)) c.in_ok-extend_from_slice-2.ensures.items refl, block_apart c.loop-at.at 7 b)
 
 pub loop-at-preserved : goal.loop-at-preserved
 loop-at-preserved g c =
