@@ -1,7 +1,6 @@
-//! Tests of the public calls of `wtf8`, and callers whose contracts are proved from its public contracts.
+//! Tests of the public calls of `wtf8`.
 #![tactic(auto)]
 
-pub mod callers;
 #[cfg(test)]
 mod calls;
 #[cfg(test)]

@@ -1,10 +1,8 @@
 -- Marks among bytes and units.
-use Rattle.std.proofs.Common.{◌≡◌, ◌≢◌, ℕ, ◌+◌, ◌<◌, inl, inr, List, ◌∷◌, [], drop, length, slice_index, refl, ◌∙◌, sym, arith}
-use Rattle.std.proofs.lemmas.Bool.{lt-ltb}
+use Rattle.std.proofs.Common.{◌≢◌, ℕ, ◌+◌, ◌<◌, inl, inr, List, drop, length, slice_index, ◌∙◌, sym, arith}
 use Rattle.std.proofs.lemmas.List.{get_or-drop, length-drop}
 use Rattle.std.proofs.lemmas.List.Elements.{All-from_get_or}
 use Rattle.std.specs.List.{All}
-use Rattle.wtf8.specs.Unicode.{units_of}
 use Rattle.wtf8_uses.specs.FileName.{IsMark}
 
 pub mark_is_ascii : (a b x : ℕ) → a < 0x80 → b < 0x80 → IsMark a b x → x < 0x80
@@ -18,8 +16,3 @@ none_behind w a k h =
 -- what no byte is, none of them is
 pub none_there : (w : List ℕ) (a : ℕ) → ((j : ℕ) → j < length w → slice_index w j ≢ a) → All (λ x. x ≢ a) w
 none_there w a h = All-from_get_or (λ x. x ≢ a) w 0 h
-
--- an ASCII character is one unit
-pub ascii_unit : (p : ℕ) → p < 0x80 → units_of p ≡ p ∷ []
-unfolding units_of
-ascii_unit p l = rw (lt-ltb p 0x10000 (omega arith)) refl

@@ -1,3 +1,4 @@
 pub mod FileName
+pub mod LittleEndian
 pub mod Numbered
 pub mod Sorted

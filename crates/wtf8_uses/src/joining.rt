@@ -5,6 +5,7 @@ ghost use Rattle.wtf8.specs.Form.{IsForm};
 ghost use Rattle.wtf8.specs.Position.{IsBoundary};
 ghost use Rattle.wtf8.specs.View.{view_units};
 
+use crate::appending::cut_and_joined;
 use std::alloc::{AllocError, Global};
 use wtf8::{Build, Stopped, Wtf8, Wtf8Buf, laws};
 
@@ -55,10 +56,6 @@ fn first_slash(text: Wtf8<'_>) -> usize
 pub fn cut_at_slash_and_joined(alloc: Global, path: Wtf8<'_>) -> Result<Wtf8Buf<Global>, AllocError>
     ensures { IfOk result (λ whole. whole.units ≡ view_units path.entry) }
 {
-    laws::law_append();
     let place = first_slash(path);
-    let mut whole = Wtf8Buf::new(alloc);
-    whole.push_wtf8(path.slice_to(place))?;
-    whole.push_wtf8(path.slice_from(place))?;
-    Ok(whole)
+    cut_and_joined(alloc, path, place)
 }

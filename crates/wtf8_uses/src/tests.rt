@@ -1,6 +1,8 @@
 // Each public function on its happy path. Expected values are worked by hand from the encoding's tables.
 use crate::interner::Interner;
-use crate::{file_names, joining, maps, refusals, round_trips, sorting, table, units, well_formed};
+use crate::{
+    appending, file_names, joining, maps, refusals, round_trips, sorting, table, units, well_formed,
+};
 use std::alloc::AllocError;
 use std::collections::HashMap;
 use std::hash::{BuildHasherDefault, FoldHasher};
@@ -32,6 +34,19 @@ fn lists_are_joined(rt: HostRuntime) -> Result<(), AllocError> {
     assert_dump(&rt, whole.as_wtf8(), PAIR_DUMP)?;
     let apart = joining::joined(rt.alloc(), &[TRAIL], &[LEAD])?;
     assert_dump(&rt, apart.as_wtf8(), "ED B2 A9 ED A0 BD")
+}
+
+#[test]
+fn a_pair_is_appended_by_its_halves(rt: HostRuntime) -> Result<(), AllocError> {
+    let lead = Wtf8Buf::from_ill_formed_utf16(rt.alloc(), &[LEAD])?;
+    let trail = Wtf8Buf::from_ill_formed_utf16(rt.alloc(), &[TRAIL])?;
+    let mut text = Wtf8Buf::from_str(rt.alloc(), "a")?;
+    appending::push_both(&mut text, lead.as_wtf8(), trail.as_wtf8())?;
+    appending::push_nothing(&mut text)?;
+    assert_dump(&rt, text.as_wtf8(), "61 F0 9F 92 A9")?;
+    assert!(rt; text.as_wtf8().is_code_point_boundary(1));
+    let whole = appending::cut_and_joined(rt.alloc(), text.as_wtf8(), 1)?;
+    assert_dump(&rt, whole.as_wtf8(), "61 F0 9F 92 A9")
 }
 
 #[test]

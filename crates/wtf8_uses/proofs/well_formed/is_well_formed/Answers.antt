@@ -6,7 +6,6 @@ use Rattle.wtf8_uses.proofs.well_formed.is_well_formed.Goals as goal
 
 pub returns : goal.returns
 returns g c =
-    let points = view_points c.as_wtf8.result in
-    let own : Reads points c.args.text.now = subst (Reads points) c.as_wtf8.ensures (view_form c.as_wtf8.result).reads in
-    let only = c.law_one_reading.ensures.one c.args.text.now (c.law_one_reading.ensures.of_units points c.args.text.now own) in
-    (λ h k r. subst AreScalar (only.no_other points own ∙ sym (only.no_other k r)) (c.as_str.ensures.some.0 (sym c.is_some.ensures ∙ h)), λ h. c.is_some.ensures ∙ c.as_str.ensures.some.1 (h points own))
+    let own = subst (Reads (view_points c.as_wtf8.result)) c.as_wtf8.ensures (view_form c.as_wtf8.result).reads in
+    let only = c.law_one_reading.ensures.one _ (c.law_one_reading.ensures.of_units _ _ own) in
+    (λ h k r. subst AreScalar (only.no_other _ own ∙ sym (only.no_other k r)) (c.as_str.ensures.some.0 (sym c.is_some.ensures ∙ h)), λ h. c.is_some.ensures ∙ c.as_str.ensures.some.1 (h _ own))

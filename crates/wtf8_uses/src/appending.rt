@@ -1,7 +1,7 @@
-//! Callers that rest on the laws of the form: what their contracts say follows from the library's public contracts.
+//! What appending leaves: the whole of what was cut, both of two strings, and what was there.
 ghost use Rattle.std.specs.Prelude.{◌≡◌, ◌++◌, IfOk, OnOk};
 ghost use Rattle.wtf8.specs.Position.{IsBoundary};
-ghost use Rattle.wtf8.specs.Unicode.{units};
+ghost use Rattle.wtf8.specs.View.{view_units};
 
 use std::alloc::{AllocError, Allocator};
 use wtf8::{Wtf8, Wtf8Buf, laws};
@@ -12,8 +12,8 @@ pub fn cut_and_joined<A: Allocator>(
     text: Wtf8<'_>,
     position: usize,
 ) -> Result<Wtf8Buf<A>, AllocError>
-    requires { IsBoundary (units text.well_formed.points) position }
-    ensures { IfOk result (λ whole. whole.units ≡ units text.entry.well_formed.points) }
+    requires { IsBoundary (view_units text) position }
+    ensures { IfOk result (λ whole. whole.units ≡ view_units text.entry) }
 {
     laws::law_append();
     let mut whole = Wtf8Buf::new(alloc);
@@ -28,7 +28,7 @@ pub fn push_both<A: Allocator>(
     front: Wtf8<'_>,
     back: Wtf8<'_>,
 ) -> Result<(), AllocError>
-    ensures { OnOk result (text.new.units ≡ text.old.units ++ (units front.entry.well_formed.points ++ units back.entry.well_formed.points)) }
+    ensures { OnOk result (text.new.units ≡ text.old.units ++ (view_units front.entry ++ view_units back.entry)) }
 {
     text.push_wtf8(front)?;
     text.push_wtf8(back)

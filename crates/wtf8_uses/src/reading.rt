@@ -1,0 +1,98 @@
+//! A reader of UTF-16 in little-endian bytes.
+ghost use Rattle.std.specs.Prelude.{◌≡◌, ◌≢◌, ℕ, List, [], ◌∷◌, ◌++◌, None, IfSome, IfOk, OnOk, IfErr, OnErr, IsErrOf};
+ghost use Rattle.std.specs.Io.KnownBytes.{Consumes, IsAtEnd};
+ghost use Rattle.std.specs.IoError.{error_kind};
+ghost use Rattle.std.specs.declared.io.Error.{Error};
+ghost use Rattle.std.specs.declared.io.ErrorKind.TheVariants.{Interrupted};
+ghost use Rattle.wtf8_uses.specs.LittleEndian.{bytes_read, little_endian};
+
+use std::alloc::{AllocError, Allocator};
+use std::io::{self, ErrorKind, Read};
+use wtf8::Wtf8Buf;
+
+/// How many bytes a reader is asked for at a time.
+const PIECE: usize = 4096;
+
+/// Why there is no string of what a reader gave.
+#[derive(Clone, Copy, Debug)]
+pub enum ReadError {
+    /// The reader answered this error, which is not `Interrupted`; it is `TimedOut` too where a read was tried 2⁶⁴ - 1
+    /// times.
+    Read(io::Error),
+    /// The input ended inside a unit: it has an odd number of bytes.
+    HalfUnit,
+    /// A growth of memory was refused.
+    Memory,
+}
+
+/// The string of the units that a reader has left, each by its low byte and its high byte, in whatever sizes the reader
+/// gives them. A unit or a pair that is cut between two reads is whole again. A byte order mark is a unit like any other.
+///
+/// A read that was interrupted is tried again, and any other error is handed on. After an error a beginning of the input
+/// was read and is lost; all of it was read where a last unit has one byte alone.
+pub fn read_utf16<A: Allocator + Copy, R: Read>(
+    alloc: A,
+    reader: &mut R,
+) -> Result<Wtf8Buf<A>, ReadError>
+    ensures units { IfOk result (λ s. IfSome (R.remaining reader.old) (λ input. input ≡ little_endian s.units)) }
+    ensures end { OnOk result (IsAtEnd (R.remaining reader.new)) }
+    ensures half_end { IsErrOf result ReadError.HalfUnit → IsAtEnd (R.remaining reader.new) }
+    ensures half { IsErrOf result ReadError.HalfUnit → IfSome (R.remaining reader.old) (λ input. (u : List ℕ) × (low : ℕ) × (input ≡ little_endian u ++ low ∷ [])) }
+    ensures retried { IfErr result (λ e. (error : Error) → e ≡ ReadError.Read error → error_kind error ≢ Interrupted) }
+    ensures beginning { OnErr result ((input : List ℕ) × Consumes (R.remaining reader.old) (R.remaining reader.new) input) }
+{
+    let mut string = Wtf8Buf::new(alloc);
+    let mut low = None;
+    let mut piece = [0; PIECE];
+    for _ in 0..u64::MAX {
+        match reader.read(&mut piece) {
+            Ok(0) => return whole(string, low),
+            Ok(count) => {
+                let Ok(left) = push_bytes(alloc, &mut string, low, &piece[..count]) else {
+                    return Err(ReadError::Memory);
+                };
+                low = left;
+            }
+            Err(error) if error.kind() == ErrorKind::Interrupted => {}
+            Err(error) => return Err(ReadError::Read(error)),
+        }
+    }
+    Err(ReadError::Read(io::Error::from(ErrorKind::TimedOut)))
+}
+
+/// Appends the units of some bytes, of which the first one begins with the low byte that is held, if any. The answer is
+/// the low byte that is left over, if any.
+fn push_bytes<A: Allocator + Copy>(
+    alloc: A,
+    string: &mut Wtf8Buf<A>,
+    held: Option<u8>,
+    bytes: &[u8],
+) -> Result<Option<u8>, AllocError>
+    ensures { IfOk result (λ low. bytes_read string.old.units held ++ bytes.now ≡ bytes_read string.new.units low) }
+{
+    let mut units = Vec::with_capacity(alloc, bytes.len() / 2 + 1)?;
+    let mut low = held;
+    for byte in bytes {
+        match low {
+            Some(first) => {
+                units.push(u16::from_le_bytes([first, *byte]))?;
+                low = None;
+            }
+            None => low = Some(*byte),
+        }
+    }
+    let piece = Wtf8Buf::from_ill_formed_utf16(alloc, units.as_slice())?;
+    string.push_wtf8(piece.as_wtf8())?;
+    Ok(low)
+}
+
+/// A string of which all was read, unless a low byte was left over.
+fn whole<A: Allocator>(string: Wtf8Buf<A>, low: Option<u8>) -> Result<Wtf8Buf<A>, ReadError>
+    ensures ok { IfOk result (λ s. (s.units ≡ string.units) × (low ≡ None)) }
+    ensures err { IfErr result (λ e. (e ≡ ReadError.HalfUnit) × (low ≢ None)) }
+{
+    match low {
+        None => Ok(string),
+        Some(_) => Err(ReadError::HalfUnit),
+    }
+}
