@@ -1,9 +1,9 @@
 -- A string that is given the next number.
-use Rattle.std.proofs.Common.{◌≡◌, ℕ, ◌+◌, ◌⊎◌, inl, inr, Bool, true, false, cond, List, [], ◌∷◌, ◌++◌, length, slice_get, Some, ◌↔◌, refl, sym, ap, subst, ◌∙◌, arith, length-append}
-use Rattle.std.proofs.Math.Seq.{get_or-append_seam}
-use Rattle.std.proofs.lemmas.Bool.{cases_lt, false≢true}
-use Rattle.std.proofs.lemmas.List.{get_or_append_left, length-map, map-append}
-use Rattle.std.proofs.lemmas.Option.{get_or_from_slice_get, slice_get_read, slice_get_within}
+use Rattle.std.proofs.Common.{◌≡◌, ℕ, zero, suc, ◌⊎◌, inl, inr, Bool, true, false, cond, List, [], ◌∷◌, ◌++◌, length, slice_get, Some, ◌↔◌, refl, sym, ap, subst, ◌∙◌, arith}
+use Rattle.std.proofs.lemmas.Bool.{false≢true}
+use Rattle.std.proofs.lemmas.Grind.{common_steps}
+use Rattle.std.proofs.lemmas.List.{length-map, map-append}
+use Rattle.std.proofs.lemmas.Option.{gets}
 use Rattle.std.proofs.lemmas.Slice.Eq.{bytes_eq-Decides}
 use Rattle.std.specs.HashMap.{HashMap, get}
 use Rattle.wtf8.specs.StringLaws.{EqualBuffersHaveEqualUnits}
@@ -12,23 +12,16 @@ use Rattle.wtf8_uses.specs.Numbered.{AreNumbered, same_bytes, units_of_strings}
 
 module _ {X : Type 0} where
   stays : (xs : List X) (x : X) (k : ℕ) (y : X) → slice_get xs k ≡ Some y → slice_get (xs ++ x ∷ []) k ≡ Some y
-  stays xs x k y e =
-      let within = slice_get_within xs k y e in
-      slice_get_read (xs ++ x ∷ []) (length xs + 1) k y (sym (length-append xs (x ∷ []))) (omega arith) (sym (get_or_append_left xs (x ∷ []) y k within ∙ get_or_from_slice_get xs k y y e))
+  stays xs x k y e = grind (arith, common_steps, gets, e)
 
   last : (xs : List X) (x : X) → slice_get (xs ++ x ∷ []) (length xs) ≡ Some x
-  last xs x = slice_get_read (xs ++ x ∷ []) (length xs + 1) (length xs) x (sym (length-append xs (x ∷ []))) (omega arith) (sym (get_or-append_seam xs x [] x))
+  last xs x = grind (arith, common_steps, gets)
 
   old_or_last : (xs : List X) (x : X) (k : ℕ) (y : X) → slice_get (xs ++ x ∷ []) k ≡ Some y → (slice_get xs k ≡ Some y) ⊎ ((k ≡ length xs) × (y ≡ x))
-  old_or_last xs x k y e =
-      let within = slice_get_within (xs ++ x ∷ []) k y e in
-      let here = get_or_from_slice_get (xs ++ x ∷ []) k y y e in
-      elim (cases_lt k (length xs)) [
-        | inl l ↦ inl (slice_get_read xs (length xs) k y refl l (sym (sym (get_or_append_left xs (x ∷ []) y k l) ∙ here)))
-        | inr l ↦
-            let place : k ≡ length xs = omega (arith, within, length-append xs (x ∷ [])) in
-            inr (place, cc (subst (λ n. slice_get (xs ++ x ∷ []) n ≡ Some y) place e, last xs x))
-      ]
+  old_or_last [] x zero y e = inr (refl, cc e)
+  old_or_last [] x (suc k) y e = grind (arith, common_steps, e)
+  old_or_last (z ∷ xs) x zero y e = inl e
+  old_or_last (z ∷ xs) x (suc k) y e = elim (old_or_last xs x k y e) [ inl l ↦ inl l | inr r ↦ inr (ap suc r.0, r.1) ]
 
 module _ {S : Type 0} (m n : HashMap UnitString ℕ S) (strings : List UnitString) (key copy : UnitString) (equal : EqualBuffersHaveEqualUnits) (old : AreNumbered m strings) (none : (k : ℕ) → slice_get (units_of_strings strings) k ≡ Some key.units → ⊥) (same : copy.units ≡ key.units) (put : (s : UnitString) → get same_bytes n s ≡ cond (same_bytes key s) (Some (length strings)) (get same_bytes m s)) where
   numbered_at : (s : UnitString) (k : ℕ) (b : Bool) → same_bytes key s ≡ b → (get same_bytes n s ≡ Some k) ↔ (slice_get (units_of_strings strings ++ copy.units ∷ []) k ≡ Some s.units)
