@@ -52,6 +52,8 @@ fn what_has_room(rt: HostRuntime) -> Result<(), Fail> {
     text.push(point_of_unit(TRAIL))?;
     expect_dump(rt.alloc(), text.as_wtf8(), "F0 9F 92 A9")?;
     text.reserve(0)?;
+    text.clear();
+    text.push_char('💩')?;
     assert_eq!(rt; heap.grants_left(), 9);
 
     let mut text = with_room(&heap, 20)?;
