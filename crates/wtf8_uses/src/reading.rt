@@ -16,8 +16,8 @@ const PIECE: usize = 4096;
 /// Why there is no string of what a reader gave.
 #[derive(Clone, Copy, Debug)]
 pub enum ReadError {
-    /// The reader answered this error, which is not `Interrupted`; it is `TimedOut` too where a read was tried 2⁶⁴ - 1
-    /// times.
+    /// The reader answered this error, which is not `Interrupted`; it is `TimedOut` too where 2⁶⁴ - 1 reads did not come
+    /// to the end.
     Read(io::Error),
     /// The input ended inside a unit: it has an odd number of bytes.
     HalfUnit,
