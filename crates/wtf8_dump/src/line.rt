@@ -45,6 +45,9 @@ impl<A: Allocator + Copy> Workspace<A> {
     pub fn push_answer(&mut self, line: &[u8], out: &mut Vec<u8, A>) -> Result<(), AllocError>
         ensures answer { OnOk result ((answer : List ℕ) × IsAnswer line.now answer × (out.new.items ≡ out.old.items ++ answer)) }
     {
+        if line.is_empty() {
+            return Ok(());
+        }
         let Some(refused) = self.build(line)? else {
             return Ok(out.push(b'?')?);
         };
