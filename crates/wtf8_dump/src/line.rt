@@ -62,7 +62,7 @@ impl<A: Allocator + Copy> Workspace<A> {
             (λ refused. (calls : List Build) × AllZip IsCall (words line.now) calls × Run [] calls self.new.text.units refused)) }
     {
         prove!(line.len() < usize::MAX);
-        self.text.truncate_units(0);
+        self.text.clear();
         self.calls.clear();
         let mut refused = 0;
         for word in Words::new(line) {

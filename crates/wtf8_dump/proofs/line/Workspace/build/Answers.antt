@@ -5,8 +5,8 @@ use Rattle.wtf8_dump.proofs.line.Workspace.build.Goals as goal
 
 pub loop-word-init : goal.loop-word-init
 loop-word-init g c =
-    progress_start c.args.line.now (words_left c.into_iter-word-iterator.result) c.clear.new.self.items c.truncate_units.new.self.units
-    (sym c.new-word-items.ensures ∙ ap words_left (sym c.into_iter-word-iterator.ensures.into_iter_gives)) c.clear.ensures.items c.truncate_units.ensures.units
+    progress_start c.args.line.now (words_left c.into_iter-word-iterator.result) c.clear-2.new.self.items c.clear.new.self.units
+    (sym c.new-word-items.ensures ∙ ap words_left (sym c.into_iter-word-iterator.ensures.into_iter_gives)) c.clear-2.ensures.items c.clear.ensures.units
 
 pub loop-word-preserved : goal.loop-word-preserved
 loop-word-preserved g c =
