@@ -20,7 +20,7 @@ const CALLS: usize = 64;
 #[derive(Drop)]
 pub struct Workspace<A: Allocator> {
     calls: Vec<Build<'static>, A>,
-    text: Wtf8Buf<A>,
+    string: Wtf8Buf<A>,
     alloc: A,
 }
 
@@ -29,7 +29,7 @@ impl<A: Allocator + Copy> Workspace<A> {
     pub fn new(alloc: A) -> Workspace<A> {
         Workspace {
             calls: Vec::new(alloc),
-            text: Wtf8Buf::new(alloc),
+            string: Wtf8Buf::new(alloc),
             alloc,
         }
     }
@@ -51,18 +51,18 @@ impl<A: Allocator + Copy> Workspace<A> {
         let Some(refused) = self.build(line)? else {
             return Ok(out.push(b'?')?);
         };
-        push_dump_with_note(self.alloc, self.text.as_wtf8(), refused, out)
+        push_dump_with_note(self.alloc, self.string.as_wtf8(), refused, out)
     }
 
-    // Makes the text that of the calls that the words of a line stand for, built from the empty string, and answers how
+    // Makes the string that of the calls that the words of a line stand for, built from the empty one, and answers how
     // many truncations were refused, or `None` where some word stands for no call.
     fn build(&mut self, line: &[u8]) -> Result<Option<usize>, AllocError>
         ensures { IfOk result (λ built. MatchOption built
             (Any IsNoCall (words line.now))
-            (λ refused. (calls : List Build) × AllZip IsCall (words line.now) calls × Run [] calls self.new.text.units refused)) }
+            (λ refused. (calls : List Build) × AllZip IsCall (words line.now) calls × Run [] calls self.new.string.units refused)) }
     {
         prove!(line.len() < usize::MAX);
-        self.text.clear();
+        self.string.clear();
         self.calls.clear();
         let mut refused = 0;
         for word in Words::new(line) {
@@ -79,7 +79,7 @@ impl<A: Allocator + Copy> Workspace<A> {
     // refused.
     fn add_call(&mut self, call: Build<'static>) -> Result<usize, AllocError>
         ensures { IfOk result (λ refused. (applied : List Build) × (self.old.calls.items ++ call.entry ∷ [] ≡ applied ++ self.new.calls.items)
-            × Run self.old.text.units applied self.new.text.units refused × (refused ≤ length applied)) }
+            × Run self.old.string.units applied self.new.string.units refused × (refused ≤ length applied)) }
     {
         self.calls.push(call)?;
         if self.calls.len() < CALLS {
@@ -88,13 +88,13 @@ impl<A: Allocator + Copy> Workspace<A> {
         self.apply_calls()
     }
 
-    // Applies the calls that wait to the text, forgets them, and answers how many truncations were refused.
+    // Applies the calls that wait to the string, forgets them, and answers how many truncations were refused.
     fn apply_calls(&mut self) -> Result<usize, AllocError>
-        ensures run { IfOk result (λ refused. Run self.old.text.units self.old.calls.items self.new.text.units refused) }
+        ensures run { IfOk result (λ refused. Run self.old.string.units self.old.calls.items self.new.string.units refused) }
         ensures bound { IfOk result (λ refused. refused ≤ length self.old.calls.items) }
         ensures none { OnOk result (self.new.calls.items ≡ []) }
     {
-        let Ok(refused) = self.text.apply_all(self.calls.as_slice()) else {
+        let Ok(refused) = self.string.apply_all(self.calls.as_slice()) else {
             return Err(AllocError);
         };
         self.calls.clear();
@@ -114,17 +114,17 @@ pub fn dump_line<A: Allocator + Copy>(alloc: A, line: &[u8]) -> Result<Vec<u8, A
 // Appends the bytes of a string in hexadecimal, and behind them how many truncations were refused where some were.
 fn push_dump_with_note<A: Allocator>(
     alloc: A,
-    text: Wtf8<'_>,
+    view: Wtf8<'_>,
     refused: usize,
     out: &mut Vec<u8, A>,
 ) -> Result<(), AllocError>
-    ensures { OnOk result (out.new.items ≡ out.old.items ++ (hex text.entry.bytes.now ++ note text.entry.bytes.now refused)) }
+    ensures { OnOk result (out.new.items ≡ out.old.items ++ (hex view.entry.bytes.now ++ note view.entry.bytes.now refused)) }
 {
-    text.append_hex_dump(out)?;
+    view.append_hex_dump(out)?;
     if refused == 0 {
         return Ok(());
     }
-    let space = if text.len() == 0 { "" } else { " " };
+    let space = if view.is_empty() { "" } else { " " };
     let note = format!(in alloc; "{space}!{refused}")?;
     out.extend_from_slice(note.as_bytes())
 }
