@@ -218,6 +218,9 @@ impl<A: Allocator> Wtf8Buf<A> {
         ensures room { HasRoomFor self.old (units_of (number code_point)) → IsOk result }
         ensures capacity { self.old.capacity ≤ self.new.capacity }
     {
+        if code_point.to_u32() < 0x80 {
+            return concat::push_ascii(&mut self.bytes, code_point);
+        }
         match code_point.to_char() {
             Some(c) => concat::push_scalar(&mut self.bytes, c),
             None => {

@@ -1,5 +1,5 @@
 // Concatenation of well-formed bytes: what is appended at their end, a lead and a trail that meet as one code point.
-ghost use Rattle.std.specs.Prelude.{◌≡◌, ℕ, List, [], ◌∷◌, ◌++◌, ◌+◌, ◌-◌, ◌≤◌, length, take, drop, OnOk, OnErr, IsOk, OnSome, IfSome, IfNone, vec_len, vec_capacity};
+ghost use Rattle.std.specs.Prelude.{◌≡◌, ℕ, List, [], ◌∷◌, ◌++◌, ◌+◌, ◌-◌, ◌≤◌, ◌<◌, length, take, drop, OnOk, OnErr, IsOk, OnSome, IfSome, IfNone, vec_len, vec_capacity};
 ghost use Rattle.std.specs.Str.{chars};
 ghost use Rattle.wtf8.specs.CodePoint.{number};
 ghost use Rattle.wtf8.specs.Form.{IsWellFormed, GainsUnits, FitsUnits, encoding};
@@ -135,6 +135,22 @@ pub(crate) fn push_scalar<A: Allocator>(bytes: &mut Vec<u8, A>, c: char) -> Resu
     ensures capacity { vec_capacity bytes.old ≤ vec_capacity bytes.new }
 {
     encoding::append(bytes, CodePoint::from_u32_unchecked(u32::from(c)))
+}
+
+/// Appends a code point of one byte, which joins nothing.
+#[inline(always)]
+pub(crate) fn push_ascii<A: Allocator>(
+    bytes: &mut Vec<u8, A>,
+    code_point: CodePoint,
+) -> Result<(), AllocError>
+    requires well_formed { IsWellFormed bytes.old.items }
+    requires ascii { number code_point < 0x80 }
+    ensures ok { OnOk result (GainsUnits bytes.old.items bytes.new.items (units_of (number code_point))) }
+    ensures err { OnErr result (bytes.new.items ≡ bytes.old.items) }
+    ensures room { FitsUnits bytes.old.items (units_of (number code_point)) (vec_capacity bytes.old) → IsOk result }
+    ensures capacity { vec_capacity bytes.old ≤ vec_capacity bytes.new }
+{
+    encoding::append(bytes, code_point)
 }
 
 /// Appends a text, none of whose characters joins anything.

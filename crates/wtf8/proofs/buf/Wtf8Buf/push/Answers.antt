@@ -1,6 +1,7 @@
-use Rattle.std.proofs.Common.{ap, sym, subst, [], ◌∷◌, OnOk}
+use Rattle.std.proofs.Common.{ap, sym, subst, arith, [], ◌∷◌, OnOk}
 use Rattle.std.proofs.lemmas.Bool.{false≢true}
 use Rattle.std.proofs.lemmas.List.{append-nil}
+use Rattle.wtf8.specs.CodePoint.{number}
 use Rattle.wtf8.specs.Form.{GainsUnits}
 use Rattle.wtf8.specs.UnitString.{UnitString}
 use Rattle.wtf8.specs.Unicode.{IsCodePoint, IsSurrogate, units_of}
@@ -10,6 +11,20 @@ use Rattle.wtf8.proofs.buf.Wtf8Buf.push.Goals as goal
 
 pub invariant_of-self-inside : goal.invariant_of-self-inside
 invariant_of-self-inside g c =
+    let p = number c.args.code_point in
+    let now = gained_or_kept c.push_ascii.result _ c.self.inside.well_formed c.push_ascii.ensures.ok c.push_ascii.ensures.err in
+    let apart : ¬ (IsSurrogate p) = λ s. omega (arith, s.0, c.if-to_u32-lt128.true, c.to_u32.ensures) in
+    (now, (λ known. scalar_gained c.push_ascii.result (p ∷ []) (units_of p) c.self.inside.well_formed now (sym (append-nil (units_of p))) c.args.code_point.in_range (apart, tt) (c.self.inside.known_scalar known) c.push_ascii.ensures.ok c.push_ascii.ensures.err, tt))
+
+pub returns-then-to_u32-lt128-clause-ok : goal.returns-then-to_u32-lt128-clause-ok
+returns-then-to_u32-lt128-clause-ok g c =
+    gained_units c.push_ascii.result _ c.self.inside.well_formed c.self-1.given.0 (ap (λ (t : UnitString). t.units) c.self.view_is) c.push_ascii.ensures.ok
+
+pub returns-then-to_u32-lt128-clause-kept : goal.returns-then-to_u32-lt128-clause-kept
+returns-then-to_u32-lt128-clause-kept g c = kept_contents c.push_ascii.result _ _ _ c.self.view_is c.push_ascii.ensures.err
+
+pub invariant_of-self-inside-in-Some : goal.invariant_of-self-inside-in-Some
+invariant_of-self-inside-in-Some g c =
     let p = c.in-Some.c in
     let now = gained_or_kept c.push_scalar.result _ c.self.inside.well_formed c.push_scalar.ensures.ok c.push_scalar.ensures.err in
     let range : IsCodePoint p = subst IsCodePoint (sym c.in-Some.ensures.some) c.args.code_point.in_range in
@@ -23,7 +38,7 @@ invariant_of-self-inside-in-None g c =
 pub returns-in-Some-clause-ok : goal.returns-in-Some-clause-ok
 returns-in-Some-clause-ok g c =
     let gains = subst (λ n. OnOk c.push_scalar.result (GainsUnits c.self.inside.bytes.items c.push_scalar.new.bytes.items (units_of n))) c.in-Some.ensures.some c.push_scalar.ensures.ok in
-    gained_units c.push_scalar.result _ c.self.inside.well_formed c.self-1.given.0 (ap (λ (t : UnitString). t.units) c.self.view_is) gains
+    gained_units c.push_scalar.result _ c.self.inside.well_formed c.self-in-Some-1.given.0 (ap (λ (t : UnitString). t.units) c.self.view_is) gains
 
 pub returns-in-Some-clause-kept : goal.returns-in-Some-clause-kept
 returns-in-Some-clause-kept g c = kept_contents c.push_scalar.result _ _ _ c.self.view_is c.push_scalar.ensures.err
