@@ -2,6 +2,7 @@
 ghost use Rattle.std.specs.Prelude.{◌≡◌, ℕ, List, [], ◌∷◌, ◌++◌, ◌+◌, ◌-◌, ◌≤◌, ◌<◌, length, take, drop, OnOk, OnErr, IsOk, OnSome, IfSome, IfNone, vec_len, vec_capacity};
 ghost use Rattle.std.specs.Str.{chars};
 ghost use Rattle.wtf8.specs.CodePoint.{number};
+ghost use Rattle.wtf8.specs.Concatenation.{MeetsAsPair};
 ghost use Rattle.wtf8.specs.Form.{IsWellFormed, GainsUnits, FitsUnits, encoding};
 ghost use Rattle.wtf8.specs.Unicode.{units, units_of, pair, IsLead, IsTrail};
 ghost use Rattle.wtf8.specs.View.{view_points, view_units};
@@ -35,7 +36,7 @@ fn joining_lead(text: Wtf8<'_>, code_point: CodePoint) -> Option<u32>
     ensures trail { OnSome result (IsTrail (number code_point)) }
     ensures lead { IfSome result (λ l. IsLead l) }
     ensures last { IfSome result (λ l. (f : List ℕ) × (view_points text.entry ≡ f ++ l ∷ [])) }
-    ensures none { IfNone result ((f : List ℕ) (l : ℕ) → IsLead l → IsTrail (number code_point) → view_points text.entry ≡ f ++ l ∷ [] → ⊥) }
+    ensures none { IfNone result (¬ (MeetsAsPair (view_points text.entry) (number code_point ∷ []))) }
 {
     match code_point.to_u32() {
         0xDC00..=0xDFFF => text.final_lead_surrogate(),
@@ -77,7 +78,7 @@ fn meeting_pair(front: Wtf8<'_>, back: Wtf8<'_>) -> Option<(u32, u32)>
     ensures pair { IfSome result (λ p. IsLead p.0 × IsTrail p.1) }
     ensures last { IfSome result (λ p. (f : List ℕ) × (view_points front.entry ≡ f ++ p.0 ∷ [])) }
     ensures first { IfSome result (λ p. (r : List ℕ) × (view_points back.entry ≡ p.1 ∷ r)) }
-    ensures none { IfNone result ((f r : List ℕ) (l t : ℕ) → IsLead l → IsTrail t → view_points front.entry ≡ f ++ l ∷ [] → view_points back.entry ≡ t ∷ r → ⊥) }
+    ensures none { IfNone result (¬ (MeetsAsPair (view_points front.entry) (view_points back.entry))) }
 {
     let trail = back.initial_trail_surrogate()?;
     let lead = front.final_lead_surrogate()?;

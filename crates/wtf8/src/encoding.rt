@@ -8,7 +8,7 @@ use crate::code_point::CodePoint;
 use std::alloc::{AllocError, Allocator};
 
 /// The two bytes of a code point from 0x80 to 0x7FF.
-#[tactic(auto, using(crate::proofs::EncodingLemmas::encoding_two))]
+#[tactic(auto, using(crate::proofs::lemmas::Encoding::encoding_two))]
 fn two_bytes(value: u32) -> [u8; 2]
     requires low { 0x80 ≤ value }
     requires high { value < 0x800 }
@@ -18,7 +18,7 @@ fn two_bytes(value: u32) -> [u8; 2]
 }
 
 /// The three bytes of a code point from 0x800 to 0xFFFF, a surrogate like any other.
-#[tactic(auto, using(crate::proofs::EncodingLemmas::encoding_three))]
+#[tactic(auto, using(crate::proofs::lemmas::Encoding::encoding_three))]
 pub(crate) fn three_bytes(value: u32) -> [u8; 3]
     requires low { 0x800 ≤ value }
     requires high { value < 0x10000 }
@@ -32,7 +32,7 @@ pub(crate) fn three_bytes(value: u32) -> [u8; 3]
 }
 
 /// The four bytes of a supplementary code point.
-#[tactic(auto, using(crate::proofs::EncodingLemmas::encoding_four))]
+#[tactic(auto, using(crate::proofs::lemmas::Encoding::encoding_four))]
 pub(crate) fn four_bytes(value: u32) -> [u8; 4]
     requires low { 0x10000 ≤ value }
     requires high { IsCodePoint value }
@@ -48,7 +48,7 @@ pub(crate) fn four_bytes(value: u32) -> [u8; 4]
 
 /// Appends the encoding of a code point, whatever stands before it. After a refusal the bytes are as before.
 #[inline(always)]
-#[tactic(auto, using(crate::proofs::EncodingLemmas::encoding_one))]
+#[tactic(auto, using(crate::proofs::lemmas::Encoding::encoding_one))]
 pub(crate) fn append<A: Allocator>(
     bytes: &mut Vec<u8, A>,
     code_point: CodePoint,

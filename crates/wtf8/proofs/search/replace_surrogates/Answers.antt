@@ -1,6 +1,7 @@
 use Rattle.std.proofs.Common.{◌+◌, sym, subst}
 use Rattle.wtf8.specs.Surrogates.{IsFirstSurrogate, IsLeastSurrogate}
-use Rattle.wtf8.proofs.SurrogateLemmas.{Replacing, replacing_step, replacing_end, none_found}
+use Rattle.wtf8.proofs.lemmas.Replacement.{Replacing, replacing_step, replacing_end}
+use Rattle.wtf8.proofs.lemmas.Surrogates.{none_found}
 use Rattle.wtf8.proofs.search.replace_surrogates.Goals as goal
 
 pub write_replacement-requires : goal.write_replacement-requires

@@ -5,8 +5,8 @@ use Rattle.wtf8.specs.CodePoint.{number}
 use Rattle.wtf8.specs.Form.{GainsUnits}
 use Rattle.wtf8.specs.UnitString.{UnitString}
 use Rattle.wtf8.specs.Unicode.{IsCodePoint, IsSurrogate, units_of}
-use Rattle.wtf8.proofs.Gaining.{gained_or_kept, gained_units, kept_contents}
-use Rattle.wtf8.proofs.Scalars.{scalar_gained}
+use Rattle.wtf8.proofs.lemmas.Gains.{gained_or_kept, gained_units, kept_contents}
+use Rattle.wtf8.proofs.lemmas.Scalars.{scalar_gained}
 use Rattle.wtf8.proofs.buf.Wtf8Buf.push.Goals as goal
 
 pub invariant_of-self-inside : goal.invariant_of-self-inside

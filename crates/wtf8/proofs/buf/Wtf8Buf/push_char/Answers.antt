@@ -2,9 +2,9 @@ use Rattle.wtf8.specs.UnitString.{UnitString}
 use Rattle.std.proofs.Common.{ap, sym, [], ◌∷◌}
 use Rattle.std.proofs.lemmas.List.{append-nil}
 use Rattle.wtf8.specs.Unicode.{units_of}
-use Rattle.wtf8.proofs.Scalars.{scalar_gained}
-use Rattle.wtf8.proofs.Texts.{scalar_facts}
-use Rattle.wtf8.proofs.Gaining.{gained_or_kept, gained_units, kept_contents}
+use Rattle.wtf8.proofs.lemmas.Gains.{gained_or_kept, gained_units, kept_contents}
+use Rattle.wtf8.proofs.lemmas.Scalars.{scalar_gained}
+use Rattle.wtf8.proofs.lemmas.Texts.{scalar_facts}
 use Rattle.wtf8.proofs.buf.Wtf8Buf.push_char.Goals as goal
 
 pub invariant_of-self-inside : goal.invariant_of-self-inside

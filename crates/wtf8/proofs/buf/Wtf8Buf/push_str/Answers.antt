@@ -1,9 +1,9 @@
 use Rattle.wtf8.specs.UnitString.{UnitString}
 use Rattle.std.proofs.Common.{ap, refl}
 use Rattle.wtf8.specs.Unicode.{units}
-use Rattle.wtf8.proofs.Scalars.{scalar_gained, scalar_text}
-use Rattle.wtf8.proofs.Texts.{well_formed_text}
-use Rattle.wtf8.proofs.Gaining.{gained_or_kept, gained_units, kept_contents}
+use Rattle.wtf8.proofs.lemmas.Gains.{gained_or_kept, gained_units, kept_contents}
+use Rattle.wtf8.proofs.lemmas.Scalars.{scalar_gained, scalar_text}
+use Rattle.wtf8.proofs.lemmas.Texts.{well_formed_text}
 use Rattle.wtf8.proofs.buf.Wtf8Buf.push_str.Goals as goal
 
 pub invariant_of-self-inside : goal.invariant_of-self-inside

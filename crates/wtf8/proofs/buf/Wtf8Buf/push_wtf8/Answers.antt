@@ -1,10 +1,9 @@
 use Rattle.wtf8.specs.UnitString.{UnitString}
 use Rattle.std.proofs.Common.{ap, refl, sym, subst, ◌∙◌, IsTrue}
 use Rattle.std.proofs.lemmas.Bool.{false≢true}
-use Rattle.wtf8.proofs.Scalars.{scalar_gained, scalar_unless_found}
+use Rattle.wtf8.proofs.lemmas.Gains.{gained_or_kept, gained_units, kept_contents, added_length}
+use Rattle.wtf8.proofs.lemmas.Scalars.{scalar_gained, scalar_unless_found}
 use Rattle.wtf8.specs.Unicode.{units}
-use Rattle.wtf8.proofs.Gaining.{gained_or_kept, gained_units, kept_contents}
-use Rattle.wtf8.proofs.Gluing.{added_length}
 use Rattle.wtf8.proofs.buf.Wtf8Buf.push_wtf8.Goals as goal
 use Rattle.wtf8.proofs.buf.Wtf8Buf.push_wtf8.Goals.{then-self, else-self}
 

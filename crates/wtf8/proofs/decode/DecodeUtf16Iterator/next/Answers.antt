@@ -2,7 +2,7 @@ use Rattle.std.proofs.Common.{◌<◌, rules, refl, inl, inr, sym, subst, arith,
 use Rattle.std.specs.Iterator.Adapters.{peekable_steps, peekable_peeked}
 use Rattle.wtf8.specs.Decoding.{units_left}
 use Rattle.wtf8.specs.Unicode.{IsTrail}
-use Rattle.wtf8.proofs.Decoded.{takes_one, takes_two, held_apart}
+use Rattle.wtf8.proofs.lemmas.Decoding.{takes_one, takes_two, held_apart}
 use Rattle.wtf8.proofs.decode.DecodeUtf16Iterator.next.Goals as goal
 
 pub returns-in-Some-clause-steps : goal.returns-in-Some-clause-steps

@@ -1,5 +1,5 @@
 use Rattle.std.proofs.Common.{◌++◌, ◌∷◌, [], arith, ap, ◌∙◌}
-use Rattle.wtf8.proofs.Joining.{last_point, ends_in_lead}
+use Rattle.wtf8.proofs.lemmas.FinalLead.{last_point, ends_in_lead}
 use Rattle.wtf8.proofs.view.Wtf8.final_lead_surrogate.Goals as goal
 use Rattle.wtf8.proofs.view.Wtf8.final_lead_surrogate.Goals.{else-first-via-then-first+then-second-ge160+else-second-le175, else-first-via-then-first+else-second-ge160, else-first-via-else-first}
 

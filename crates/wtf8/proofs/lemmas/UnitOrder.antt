@@ -13,13 +13,11 @@ use Rattle.std.specs.declared.cmp.Ordering.TheVariants.{Less, Equal, Greater}
 use Rattle.wtf8.specs.Unicode.{units, units_of}
 use Rattle.wtf8.specs.Form.{encoding, bytes, IsWellFormed}
 use Rattle.wtf8.specs.Order.{Before, IsFirstDifference, PairBegins}
-use Rattle.wtf8.proofs.ByteOrder.{cmp_less, less_of, greater_of, cmp_behind, before_two}
-use Rattle.wtf8.proofs.ComparingLemmas.{cmp_points}
-use Rattle.wtf8.proofs.EncodingLemmas.{row_of, one, two, three, four, encoding_same, length-encoding_bounds}
-use Rattle.wtf8.proofs.OneReading.{lead_of, trail_of, units-cons_one, units-cons_two}
-use Rattle.wtf8.proofs.Positions.{cut_at, boundary_from_byte}
-use Rattle.wtf8.proofs.UnitCuts.{points_behind}
-use Rattle.wtf8.proofs.UnitLemmas.{units-append}
+use Rattle.wtf8.proofs.lemmas.ByteOrder.{cmp_less, less_of, greater_of, cmp_behind, before_two}
+use Rattle.wtf8.proofs.lemmas.Comparing.{cmp_points}
+use Rattle.wtf8.proofs.lemmas.Encoding.{row_of, one, two, three, four, encoding_same, length-encoding_bounds}
+use Rattle.wtf8.proofs.lemmas.Positions.{cut_at, boundary_from_byte, points_behind}
+use Rattle.wtf8.proofs.lemmas.Units.{lead_of, trail_of, units-cons_one, units-cons_two, units-append}
 
 -- both numbers or neither is below a bound
 abbrev BothBelow : ℕ → ℕ → ℕ → Type 0

@@ -18,9 +18,9 @@ use Rattle.wtf8.specs.Decoding.{point_of, points_of, units_left, DecodesItem, de
 use Rattle.wtf8.specs.Form.{IsClean, encoding, bytes}
 use Rattle.wtf8.specs.Unicode.{IsCodePoint, IsLead, IsTrail, IsSurrogate, units_of, units, pair}
 use Rattle.wtf8.specs.Surrogates.{AreScalar}
-use Rattle.wtf8.proofs.Joining.{bytes-pushed}
-use Rattle.wtf8.proofs.Scalars.{scalar-append}
-use Rattle.wtf8.proofs.UnitLemmas.{units_one, units_pair}
+use Rattle.wtf8.proofs.lemmas.Encoding.{bytes-pushed}
+use Rattle.wtf8.proofs.lemmas.Scalars.{scalar-append}
+use Rattle.wtf8.proofs.lemmas.Units.{units_one, units_pair}
 
 module _ {S A : Type 0} (steps : S → Option A → S → Type 0) where
   -- what comes from t comes from s, where each call from t may be one from s

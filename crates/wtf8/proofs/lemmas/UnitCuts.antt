@@ -4,37 +4,18 @@ use Rattle.std.proofs.lemmas.Bool.{cases_lt}
 use Rattle.std.proofs.lemmas.List.{take_at, drop_at}
 use Rattle.std.specs.List.{slice_get}
 use Rattle.wtf8.specs.Unicode.{IsCodePoint, units, units_of}
-use Rattle.wtf8.specs.Form.{IsClean, bytes, encoding, IsWellFormed, IsForm}
-use Rattle.wtf8.specs.OneForm.{bytes-injective}
-use Rattle.wtf8.specs.Position.{IsBoundary, IsFront}
+use Rattle.wtf8.specs.Form.{IsClean, bytes, encoding, IsWellFormed}
+use Rattle.wtf8.specs.Position.{IsFront}
 use Rattle.wtf8.specs.UnitPosition.{IsPlaceOfUnit, Divides, CutsUnits}
-use Rattle.wtf8.proofs.EncodingLemmas.{encoding_four}
-use Rattle.wtf8.proofs.Joining.{bytes-append, bytes-pushed, clean-first, clean-front, clean-back, clean-pushed}
-use Rattle.wtf8.proofs.OneReading.{lead_of, trail_of, same_reading}
-use Rattle.wtf8.proofs.UnitLemmas.{units_one, units_two, units-append, units-pushed, units_bounds}
-use Rattle.wtf8.proofs.UnitPositions.{PointsAbout, points_about}
+use Rattle.wtf8.proofs.lemmas.Clean.{clean-first, clean-front, clean-back, clean-append}
+use Rattle.wtf8.proofs.lemmas.Meeting.{no_trail}
+use Rattle.wtf8.proofs.lemmas.Encoding.{encoding_four, bytes-append, bytes-pushed}
+use Rattle.wtf8.proofs.lemmas.Positions.{whole_bytes}
+use Rattle.wtf8.proofs.lemmas.UnitPositions.{PointsAbout, points_about}
+use Rattle.wtf8.proofs.lemmas.Units.{lead_of, trail_of, units_one, units_two, units-append, units-pushed, units_bounds}
 
 pub about : {w : List ℕ} (h : IsWellFormed w) (n place before : ℕ) → IsPlaceOfUnit w n place before → PointsAbout h.points n place before
 about h n place before x = points_about h.points n place before (subst (λ v. IsPlaceOfUnit v n place before) (sym h.encoded) x)
-
--- where a front and a back of the code points meet there is a boundary, and the bytes before and behind it are theirs
-pub boundary_of : {w : List ℕ} (h : IsWellFormed w) (front back : List ℕ) (k : ℕ) → h.points ≡ front ++ back → length (bytes front) ≡ k → IsBoundary (units h.points) k
-boundary_of h front back k e n = record {
-  front = front;
-  back = back;
-  splits = record { reads = record { clean = subst IsClean e h.clean; same_units = ap units (sym e) }; front_len = n };
-}
-
-pub whole_bytes : {w : List ℕ} (h : IsWellFormed w) (front back : List ℕ) → h.points ≡ front ++ back → w ≡ bytes front ++ bytes back
-whole_bytes h front back e = sym h.encoded ∙ (ap bytes e ∙ bytes-append front back)
-
-pub points_before : {w v : List ℕ} (h : IsWellFormed w) (p : IsWellFormed v) (front back : List ℕ) (k : ℕ) → h.points ≡ front ++ back → length (bytes front) ≡ k → v ≡ take k w → p.points ≡ front
-points_before h p front back k e n d =
-    bytes-injective p.points front (p.encoded ∙ (d ∙ (ap (take k) (whole_bytes h front back e) ∙ take_at (bytes front) (bytes back) k n)))
-
-pub points_behind : {w v : List ℕ} (h : IsWellFormed w) (p : IsWellFormed v) (front back : List ℕ) (k : ℕ) → h.points ≡ front ++ back → length (bytes front) ≡ k → v ≡ drop k w → p.points ≡ back
-points_behind h p front back k e n d =
-    bytes-injective p.points back (p.encoded ∙ (d ∙ (ap (drop k) (whole_bytes h front back e) ∙ drop_at (bytes front) (bytes back) k n)))
 
 -- what the code points about a place say of the number
 pub cut_at_place : {c : List ℕ} {n place before : ℕ} → PointsAbout c n place before → before ≡ n → CutsUnits c n place None
@@ -137,7 +118,7 @@ lead_kept {w} h {n} {k} {p} {front} {rest} d =
     let clean : IsClean (front ++ p ∷ rest) = subst IsClean d.joined h.clean in
     record {
       points = front ++ lead_of p ∷ [];
-      clean = clean-pushed front (lead_of p) (clean-front front (p ∷ rest) clean) (omega (arith, range, d.large)) (λ f l lead trail e. omega (arith, range, d.large, trail.0));
+      clean = clean-append front (lead_of p ∷ []) (clean-front front (p ∷ rest) clean) (omega (arith, range, d.large)) (no_trail (lead_of p) [] (λ t. omega (arith, range, d.large, t.0)));
       encoded = bytes-pushed front (lead_of p) ∙ ap (λ v. v ++ encoding (lead_of p)) (sym (ap (take k) (whole_bytes h front (p ∷ rest) d.joined) ∙ take_at (bytes front) (bytes (p ∷ rest)) k d.front_len));
     }
 
@@ -150,15 +131,3 @@ lead_kept_units {c} {n} {k} {p} {front} {rest} clean d =
 pub front_at : {w : List ℕ} (h : IsWellFormed w) {n k : ℕ} (x : CutsUnits h.points n k None) → IsFront (units h.points) k (take n (units h.points))
 front_at h x =
     record { front = x.front; back = x.back; splits = record { reads = record { clean = subst IsClean x.joined h.clean; same_units = ap units (sym x.joined) }; front_len = x.front_len }; same_units = sym (undivided x).kept }
-
--- the bytes before a position are the form of the units of the code points before it
-pub front_form : {w u : List ℕ} (h : IsForm w u) (k : ℕ) (v : List ℕ) → IsFront u k v → IsForm (take k w) v
-front_form {w} {u} h k v f =
-    let reads = f.splits.reads in
-    let points : h.points ≡ f.front ++ f.back = same_reading h.points (f.front ++ f.back) h.reads.clean reads.clean (h.reads.same_units ∙ sym reads.same_units) in
-    let whole : w ≡ bytes f.front ++ bytes f.back = sym h.encoded ∙ (ap bytes points ∙ bytes-append f.front f.back) in
-    record {
-      points = f.front;
-      reads = record { clean = clean-front f.front f.back reads.clean; same_units = f.same_units };
-      encoded = sym (ap (take k) whole ∙ take_at (bytes f.front) (bytes f.back) k f.splits.front_len);
-    }

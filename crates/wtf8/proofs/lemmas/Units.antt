@@ -1,34 +1,42 @@
 -- The units of code points: one below 10000 and two from there on.
-use Rattle.std.proofs.Common.{◌≡◌, ℕ, ◌+◌, ◌-◌, ◌*◌, ◌/◌, ◌%◌, ◌<◌, ◌≤◌, inl, inr, List, [], ◌∷◌, ◌++◌, length, refl, sym, ap, ◌∙◌, arith, append_assoc, length-append}
+use Rattle.std.proofs.Common.{◌≡◌, ℕ, ◌+◌, ◌-◌, ◌*◌, ◌/◌, ◌%◌, ◌<◌, ◌≤◌, inl, inr, List, [], ◌∷◌, ◌++◌, length, refl, ap, ◌∙◌, arith, length-append}
 use Rattle.std.proofs.lemmas.Bool.{lt-ltb, le-ltb, cases_lt}
 use Rattle.std.proofs.lemmas.List.{append-nil}
 use Rattle.std.proofs.lemmas.List.Concat.{flat_map-append}
 use Rattle.wtf8.specs.Unicode.{IsLead, IsTrail, units_of, units, pair}
 use Rattle.wtf8.specs.Form.{encoding, bytes}
-use Rattle.wtf8.proofs.EncodingLemmas.{row_of, one, two, three, four, length-encoding_bounds}
+use Rattle.wtf8.proofs.lemmas.Encoding.{row_of, one, two, three, four, length-encoding_bounds}
 
 pub units_one : (p : ℕ) → p < 0x10000 → units_of p ≡ p ∷ []
 unfolding units_of
 units_one p h = rw (lt-ltb p 0x10000 h) refl
 
-pub units_two : (p : ℕ) → 0x10000 ≤ p → units_of p ≡ (0xD800 + (p - 0x10000) / 0x400) ∷ (0xDC00 + (p - 0x10000) % 0x400) ∷ []
+-- the two units of a supplementary code point
+abbrev pub lead_of : ℕ → ℕ
+lead_of p = 0xD800 + (p - 0x10000) / 0x400
+
+abbrev pub trail_of : ℕ → ℕ
+trail_of p = 0xDC00 + (p - 0x10000) % 0x400
+
+pub units_two : (p : ℕ) → 0x10000 ≤ p → units_of p ≡ lead_of p ∷ trail_of p ∷ []
 unfolding units_of
 units_two p h = rw (le-ltb p 0x10000 h) refl
 
 pub units_pair : (l t : ℕ) → IsLead l → IsTrail t → units_of (pair l t) ≡ l ∷ t ∷ []
 units_pair l t h k =
-    units_two (pair l t) (omega arith) ∙ (ap (λ a. a ∷ (0xDC00 + (pair l t - 0x10000) % 0x400) ∷ []) (omega arith) ∙ ap (λ b. l ∷ b ∷ []) (omega arith))
+    units_two (pair l t) (omega arith) ∙ (ap (λ a. a ∷ trail_of (pair l t) ∷ []) (omega arith) ∙ ap (λ b. l ∷ b ∷ []) (omega arith))
+
+pub units-cons_one : (p : ℕ) (c : List ℕ) → p < 0x10000 → units (p ∷ c) ≡ p ∷ units c
+units-cons_one p c h = ap (λ u. u ++ units c) (units_one p h)
+
+pub units-cons_two : (p : ℕ) (c : List ℕ) → 0x10000 ≤ p → units (p ∷ c) ≡ lead_of p ∷ trail_of p ∷ units c
+units-cons_two p c h = ap (λ u. u ++ units c) (units_two p h)
 
 pub units-append : (c d : List ℕ) → units (c ++ d) ≡ units c ++ units d
 units-append c d = flat_map-append units_of c d
 
 pub units-pushed : (c : List ℕ) (p : ℕ) → units (c ++ p ∷ []) ≡ units c ++ units_of p
 units-pushed c p = units-append c (p ∷ []) ∙ ap (λ u. units c ++ u) (append-nil (units_of p))
-
--- a trail behind a lead, joined to it, adds its one unit
-pub units-joined : (f : List ℕ) (l t : ℕ) → IsLead l → IsTrail t → units (f ++ pair l t ∷ []) ≡ units (f ++ l ∷ []) ++ units_of t
-units-joined f l t h k =
-    units-pushed f (pair l t) ∙ (ap (λ u. units f ++ u) (units_pair l t h k) ∙ (sym (append_assoc (units f) (l ∷ []) (t ∷ [])) ∙ (ap (λ u. (units f ++ u) ++ t ∷ []) (sym (units_one l (omega arith))) ∙ (ap (λ u. u ++ t ∷ []) (sym (units-pushed f l)) ∙ ap (λ u. units (f ++ l ∷ []) ++ u) (sym (units_one t (omega arith)))))))
 
 -- the number of units against the number of bytes
 pub record Bounds (u w : ℕ) : Type 0 where

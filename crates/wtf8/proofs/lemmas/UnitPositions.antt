@@ -7,10 +7,10 @@ use lib.Lanes.{chunk}
 use Rattle.wtf8.specs.Unicode.{units, units_of}
 use Rattle.wtf8.specs.Form.{encoding, bytes}
 use Rattle.wtf8.specs.UnitPosition.{units_begun, all_units_begun, IsPlaceOfUnit}
-use Rattle.wtf8.proofs.EncodingLemmas.{Begins, row_of, one, two, three, four, length-encoding_bounds}
-use Rattle.wtf8.proofs.Joining.{split_at, bytes-append}
-use Rattle.wtf8.proofs.UnitLanes.{begun_low, begun_inside, begun_one, begun_two}
-use Rattle.wtf8.proofs.UnitLemmas.{units_one, units_two}
+use Rattle.wtf8.proofs.lemmas.Encoding.{Begins, row_of, one, two, three, four, length-encoding_bounds, bytes-append}
+use Rattle.wtf8.proofs.lemmas.Positions.{split_at}
+use Rattle.wtf8.proofs.lemmas.UnitLanes.{begun_low, begun_inside, begun_one, begun_two}
+use Rattle.wtf8.proofs.lemmas.Units.{units_one, units_two}
 
 -- a block more
 pub begun_more : (w : List ℕ) (i n : ℕ) → all_units_begun (take (i + n) w) ≡ all_units_begun (take i w) + all_units_begun (chunk i n w)

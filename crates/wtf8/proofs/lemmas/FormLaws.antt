@@ -1,5 +1,5 @@
--- Proofs of the laws.
-use Rattle.std.proofs.Common.{◌≡◌, ℕ, inl, inr, List, [], ◌∷◌, ◌++◌, refl, sym, ap, ◌∙◌, arith, length, subst}
+-- Proofs of the laws of readings and forms: which there are, and that there is one of each.
+use Rattle.std.proofs.Common.{ℕ, inl, inr, List, [], ◌∷◌, refl, sym, ◌∙◌, arith, subst}
 use Rattle.std.specs.List.{All}
 use Rattle.std.proofs.lemmas.Bool.{cases_lt}
 use Rattle.std.proofs.lemmas.List.{append-nil}
@@ -7,14 +7,12 @@ use Rattle.std.proofs.lemmas.List.Elements.{All-nil, All-cons, All-head, All-tai
 use Rattle.wtf8.specs.Unicode.{IsUnit, IsCodePoint, units, units_of}
 use Rattle.wtf8.specs.Form.{IsClean, Reads, encoding, bytes, IsForm}
 use Rattle.wtf8.specs.Concatenation.{glue}
-use Rattle.wtf8.specs.Laws.{UnitsHaveOneReading, ReadingsAreOfUnits, UnitsHaveOneForm, FormsAreOfOneList, EqualFormsHaveEqualUnits, NoEncodingBeginsAnother, FrontAndBackAreWhole}
-use Rattle.wtf8.specs.OneForm.{bytes-injective}
-use Rattle.wtf8.proofs.EncodingLemmas.{encoding_same}
-use Rattle.wtf8.proofs.UnitLemmas.{units_one, units_two, units-append}
-use Rattle.wtf8.proofs.Joining.{clean-first, clean-rest, same_parts, bytes-append}
-use Rattle.wtf8.proofs.OneReading.{same_reading, same_form, lead_of, trail_of}
-use Rattle.wtf8.proofs.Gaining.{form_of}
-use Rattle.wtf8.proofs.Gluing.{reads-glue}
+use Rattle.wtf8.specs.Laws.{UnitsHaveOneReading, ReadingsAreOfUnits, UnitsHaveOneForm, FormsAreOfOneList, EqualFormsHaveEqualUnits, NoEncodingBeginsAnother}
+use Rattle.wtf8.proofs.lemmas.Clean.{clean-first, clean-rest}
+use Rattle.wtf8.proofs.lemmas.Concatenation.{reads-glue}
+use Rattle.wtf8.proofs.lemmas.Encoding.{encoding_same}
+use Rattle.wtf8.proofs.lemmas.Readings.{same_reading, same_form, form_of, units_from_form}
+use Rattle.wtf8.proofs.lemmas.Units.{lead_of, trail_of, units_one, units_two}
 
 -- a unit alone is the code point of its number
 reads_one : (n : ℕ) → IsUnit n → Reads (n ∷ []) (n ∷ [])
@@ -52,11 +50,6 @@ one_form u h =
     let form : IsForm (bytes r.0) u = record { points = r.0; reads = r.1; encoded = refl } in
     record { one = bytes r.0; has = form; no_other = λ w x. same_form w (bytes r.0) u x form }
 
--- the units of a form
-units_from_form : (w a b : List ℕ) → IsForm w a → IsForm w b → a ≡ b
-units_from_form w a b x y =
-    sym x.reads.same_units ∙ (ap units (bytes-injective x.points y.points (x.encoded ∙ sym y.encoded)) ∙ y.reads.same_units)
-
 pub form_of_one : FormsAreOfOneList
 form_of_one w h = record { one = units h.points; has = form_of h; no_other = λ u x. units_from_form w u (units h.points) x (form_of h) }
 
@@ -66,17 +59,3 @@ equal_forms w v a b x y =
 
 pub none_begins_another : NoEncodingBeginsAnother
 none_begins_another p q r h k e = (encoding_same p q r [] (sym e ∙ sym (append-nil (encoding q)))).0
-
--- two fronts of the same code points with as many bytes are equal
-same_front : (f b g d : List ℕ) → f ++ b ≡ g ++ d → length (bytes f) ≡ length (bytes g) → f ≡ g
-same_front f b g d e n =
-    bytes-injective f g (same_parts (bytes f) (bytes g) (bytes b) (bytes d) n (sym (bytes-append f b) ∙ (ap bytes e ∙ bytes-append g d))).0
-
-pub front_and_back : FrontAndBackAreWhole
-front_and_back u a b k x y =
-    let points = same_reading (x.front ++ x.back) (y.front ++ y.back) x.splits.reads.clean y.splits.reads.clean (x.splits.reads.same_units ∙ sym y.splits.reads.same_units) in
-    let front = same_front x.front x.back y.front y.back points (x.splits.front_len ∙ sym y.splits.front_len) in
-    ap (λ v. v ++ b) (sym x.same_units ∙ ap units front)
-    ∙ (ap (λ v. units y.front ++ v) (sym y.same_units)
-    ∙ (sym (units-append y.front y.back)
-    ∙ y.splits.reads.same_units))

@@ -5,16 +5,15 @@ use Rattle.std.specs.Str.{chars, IsUtf8}
 use Rattle.std.proofs.lemmas.Str.{scalars-chars}
 use lib.Utf8.{scalars}
 use Rattle.wtf8.specs.Unicode.{units}
+use Rattle.wtf8.specs.Concatenation.{MeetsAsPair}
 use Rattle.wtf8.specs.Form.{IsClean, IsWellFormed, GainsUnits}
 use Rattle.wtf8.specs.OneForm.{bytes-injective}
 use Rattle.wtf8.specs.Surrogates.{AreScalar, IsFirstSurrogate}
-use Rattle.wtf8.proofs.Gaining.{form_of}
-use Rattle.wtf8.proofs.Joining.{NoPair, clean-append}
-use Rattle.wtf8.proofs.OneReading.{same_reading}
-use Rattle.wtf8.proofs.Readings.{same_points}
-use Rattle.wtf8.proofs.SurrogateLemmas.{scalar-middle, scalar_if_none}
-use Rattle.wtf8.proofs.Texts.{scalar_facts, scalars-parts}
-use Rattle.wtf8.proofs.UnitLemmas.{units-append}
+use Rattle.wtf8.proofs.lemmas.Clean.{clean-append}
+use Rattle.wtf8.proofs.lemmas.Readings.{form_of, same_reading, same_points}
+use Rattle.wtf8.proofs.lemmas.Surrogates.{scalar-middle, scalar_if_none}
+use Rattle.wtf8.proofs.lemmas.Texts.{scalar_facts, scalars-parts}
+use Rattle.wtf8.proofs.lemmas.Units.{units-append}
 
 pub scalar-front : (c d : List ℕ) → AreScalar (c ++ d) → AreScalar c
 scalar-front [] d s = tt
@@ -34,10 +33,12 @@ scalar-characters (p ∷ c) e =
 pub scalar_text : {w : List ℕ} → IsUtf8 w → AreScalar (chars w)
 scalar_text {w} u = scalar-characters (chars w) (scalars-chars w u)
 
--- scalar values end in no lead
-pub scalar_apart : (c d : List ℕ) → AreScalar c → NoPair c d
-scalar_apart c d s =
-    record { apart = λ f r l t e _ p. scalar-middle f l [] (subst AreScalar e s) (omega (arith, p.0), omega (arith, p.0)) }
+-- scalar values end in no lead and begin with no trail
+pub scalar_apart : {c d : List ℕ} → AreScalar c → ¬ (MeetsAsPair c d)
+scalar_apart s m = scalar-middle m.front m.lead [] (subst AreScalar m.ends s) (omega (arith, m.is_lead), omega (arith, m.is_lead))
+
+pub scalar_behind : {c d : List ℕ} → AreScalar d → ¬ (MeetsAsPair c d)
+scalar_behind s m = (subst AreScalar m.begins s).0 (omega (arith, m.is_trail), omega (arith, m.is_trail))
 
 -- what the search says that found none
 pub scalar_unless_found : (r : Option ℕ) (none : Bool) {w : List ℕ} (h : IsWellFormed w) → IsFirstSurrogate w 0 r → is_some r ≡ not none → IsTrue none → AreScalar h.points
@@ -54,6 +55,6 @@ module _ {T E : Type 0} where
   scalar_gained (Ok _) c v h k e x s t ok err =
       let f = ok (units h.points) (form_of h) in
       let whole : units k.points ≡ units (h.points ++ c) = ap units (bytes-injective k.points f.points (k.encoded ∙ sym f.encoded)) ∙ (f.reads.same_units ∙ (ap (λ u. units h.points ++ u) e ∙ sym (units-append h.points c))) in
-      let same : k.points ≡ h.points ++ c = same_reading k.points (h.points ++ c) k.clean (clean-append h.points c h.clean x (scalar_apart h.points c t)) whole in
+      let same : k.points ≡ h.points ++ c = same_reading k.points (h.points ++ c) k.clean (clean-append h.points c h.clean x (scalar_apart t)) whole in
       subst AreScalar (sym same) (scalar-append h.points c t s)
   scalar_gained (Err _) c v h k e x s t ok err = scalar_moved h k err t

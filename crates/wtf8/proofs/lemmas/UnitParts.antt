@@ -9,11 +9,11 @@ use Rattle.wtf8.specs.OneForm.{bytes-injective}
 use Rattle.wtf8.specs.Surrogates.{AreScalar}
 use Rattle.wtf8.specs.Unicode.{IsSurrogate, units}
 use Rattle.wtf8.specs.UnitParts.{IsKnownForm, DividesNoPair, AreAscii, AreScalarUnits, IsBlock}
-use Rattle.wtf8.proofs.EncodingLemmas.{encoding_one}
-use Rattle.wtf8.proofs.Gluing.{form_apart}
-use Rattle.wtf8.proofs.Joining.{bytes-append}
-use Rattle.wtf8.proofs.OneReading.{units-cons_one}
-use Rattle.wtf8.proofs.Scalars.{scalar-append}
+use Rattle.wtf8.proofs.lemmas.Encoding.{encoding_one, bytes-append}
+use Rattle.wtf8.proofs.lemmas.Forms.{form_apart}
+use Rattle.wtf8.proofs.lemmas.Meeting.{meets_by}
+use Rattle.wtf8.proofs.lemmas.Scalars.{scalar-append}
+use Rattle.wtf8.proofs.lemmas.Units.{units-cons_one}
 
 -- units that are no surrogates are their own code points
 scalar_clean : (u : List ℕ) → AreScalarUnits u → IsClean u
@@ -52,10 +52,7 @@ nothing_read known e = record {
   scalar = λ _. tt;
 }
 
--- no pair is divided before the first unit, nor behind units that end in none of a lead
-pub nothing_apart : {u : List ℕ} → ¬ (MeetsAsPair [] u)
-nothing_apart m = omega (arith, ap length m.ends, length-append m.front (m.lead ∷ []))
-
+-- no pair is divided behind units that are no surrogates
 last_is : (u w f : List ℕ) (l k : ℕ) → length w ≡ k + 1 → u ++ w ≡ f ++ l ∷ [] → get_or w k 0 ≡ l
 last_is u w f l k n e =
     let long : length u + k ≡ length f = omega (arith, n, ap length e, length-append u w, length-append f (l ∷ [])) in
@@ -71,11 +68,12 @@ block_apart {u} {w} at k b m =
 
 -- where a part meets what is before it, all that is behind does
 meets_longer : (a b : List ℕ) (n : ℕ) → MeetsAsPair a (take n b) → MeetsAsPair a b
-meets_longer a b n m = record { front = m.front; lead = m.lead; trail = m.trail; rest = m.rest ++ drop n b; is_lead = m.is_lead; is_trail = m.is_trail; ends = m.ends; begins = sym (take-append-drop n b) ∙ ap (λ c. c ++ drop n b) m.begins }
+meets_longer a b n m =
+    meets_by m.front (m.rest ++ drop n b) m.lead m.trail m.is_lead m.is_trail m.ends (sym (take-append-drop n b) ∙ ap (λ c. c ++ drop n b) m.begins)
 
 -- the form of a part behind the form of all before it
-form_behind : (w v a b : List ℕ) (known more both : Bool) → IsKnownForm w a known → IsKnownForm v b more → ¬ (MeetsAsPair a b) → (IsTrue both → IsTrue known × IsTrue more) → IsKnownForm (w ++ v) (a ++ b) both
-form_behind w v a b known more both x y n flags =
+known_behind : (w v a b : List ℕ) (known more both : Bool) → IsKnownForm w a known → IsKnownForm v b more → ¬ (MeetsAsPair a b) → (IsTrue both → IsTrue known × IsTrue more) → IsKnownForm (w ++ v) (a ++ b) both
+known_behind w v a b known more both x y n flags =
     let whole = form_apart w v a b x.form y.form n in
     let encoded : bytes (x.form.points ++ y.form.points) ≡ w ++ v = bytes-append x.form.points y.form.points ∙ (ap (λ z. z ++ bytes y.form.points) x.form.encoded ∙ ap (λ z. w ++ z) y.form.encoded) in
     let same : x.form.points ++ y.form.points ≡ whole.points = bytes-injective (x.form.points ++ y.form.points) whole.points (encoded ∙ sym whole.encoded) in
@@ -86,7 +84,7 @@ form_behind w v a b known more both x y n flags =
 
 pub part_read : (u w v new : List ℕ) (at n next : ℕ) (known more both : Bool) → IsKnownForm w (take at u) known → IsKnownForm v (take n (drop at u)) more → DividesNoPair u at → (IsTrue both → IsTrue known × IsTrue more) → new ≡ w ++ v → next ≡ at + n → IsKnownForm new (take next u) both
 part_read u w v new at n next known more both x y apart flags e f =
-    let whole = form_behind w v (take at u) (take n (drop at u)) known more both x y (λ m. apart (meets_longer (take at u) (drop at u) n m)) flags in
+    let whole = known_behind w v (take at u) (take n (drop at u)) known more both x y (λ m. apart (meets_longer (take at u) (drop at u) n m)) flags in
     subst (λ z. IsKnownForm z (take next u) both) (sym e) (subst (λ z. IsKnownForm (w ++ v) z both) (sym (ap (λ k. take k u) f ∙ take-add at n u)) whole)
 
 pub all_read : {w u : List ℕ} (at : ℕ) (known : Bool) → IsKnownForm w (take at u) known → length u ≤ at → IsKnownForm w u known

@@ -1,13 +1,13 @@
 -- A text's bytes are well-formed, and its characters are their code points.
-use Rattle.std.proofs.Common.{◌≡◌, inl, inr, List, [], ◌∷◌, ℕ, Bool, true, false, ◌&&◌, refl, ap, ◌∙◌, sym, arith}
+use Rattle.std.proofs.Common.{◌≡◌, inl, inr, List, [], ◌∷◌, ℕ, true, ◌∙◌, arith}
 use Rattle.std.specs.Str.{chars, IsUtf8}
 use Rattle.std.proofs.lemmas.Str.{encodes-chars, scalars-chars}
-use Rattle.std.proofs.lemmas.Bool.{false≢true}
+use Rattle.std.proofs.lemmas.Bool.{and_parts}
 use lib.Utf8.{scalar, scalars, scalar_cases}
-use Rattle.wtf8.specs.Unicode.{IsCodePoint, IsTrail, IsSurrogate}
+use Rattle.wtf8.specs.Unicode.{IsCodePoint, IsSurrogate}
 use Rattle.wtf8.specs.Form.{IsClean, IsWellFormed}
 use Rattle.wtf8.specs.OneForm.{bytes_are_encodes}
-use Rattle.wtf8.proofs.Readings.{moved}
+use Rattle.wtf8.proofs.lemmas.Readings.{moved}
 
 -- a scalar value is a code point and no surrogate
 pub record ScalarFacts (c : ℕ) : Type 0 where
@@ -19,10 +19,6 @@ scalar_facts c e = elim (scalar_cases c e) [
   | inl l ↦ record { range = omega arith; apart = λ s. omega arith }
   | inr h ↦ record { range = omega arith; apart = λ s. omega arith }
 ]
-
-and_parts : (a b : Bool) → (a && b) ≡ true → (a ≡ true) × (b ≡ true)
-and_parts true b e = (refl, e)
-and_parts false b e = absurd (false≢true e)
 
 pub scalars-parts : (c : ℕ) (cs : List ℕ) → scalars (c ∷ cs) ≡ true → (scalar c ≡ true) × (scalars cs ≡ true)
 scalars-parts c cs e = and_parts (scalar c) (scalars cs) e
@@ -38,11 +34,6 @@ clean-scalars (c ∷ d ∷ cs) e =
 -- a text's bytes as those of its characters
 abbrev pub well_formed_text : (w : List ℕ) → IsUtf8 w → IsWellFormed w
 well_formed_text w u = record { points = chars w; clean = clean-scalars (chars w) (scalars-chars w u); encoded = bytes_are_encodes (chars w) ∙ encodes-chars w u }
-
--- a text begins with no trail
-pub no_trail_first : (w : List ℕ) → IsUtf8 w → (t : ℕ) (r : List ℕ) → chars w ≡ t ∷ r → ¬ (IsTrail t)
-no_trail_first w u t r e h =
-    (scalar_facts t (scalars-parts t r (ap scalars (sym e) ∙ scalars-chars w u)).0).apart (omega (arith, h.0), omega (arith, h.1))
 
 abbrev pub text_at : {v w : List ℕ} → IsUtf8 v → w ≡ v → IsWellFormed w
 text_at {v} u e = moved (well_formed_text v u) e

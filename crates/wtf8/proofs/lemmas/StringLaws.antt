@@ -1,15 +1,15 @@
 -- Proofs of the laws of strings as contracts see them.
-use Rattle.std.proofs.Common.{◌≡◌, ◌∙◌, ◌++◌, sym, subst, arith}
+use Rattle.std.proofs.Common.{◌++◌, sym, subst, arith}
 use Rattle.wtf8.specs.Form.{bytes, IsForm}
 use Rattle.wtf8.specs.Concatenation.{glue}
 use Rattle.wtf8.specs.StringLaws.{EqualBuffersHaveEqualUnits, EqualBufferAndViewHaveEqualUnits, EqualViewsHaveEqualUnits, StringsAreJoined, StringsArePaired, TextsAreScalar, RoomLeftIsFound, ScalarsStay}
 use Rattle.wtf8.specs.View.{view_units, view_form}
-use Rattle.wtf8.proofs.Gluing.{form-glue, form_paired, form_apart}
-use Rattle.wtf8.proofs.LawLemmas.{equal_forms}
-use Rattle.wtf8.proofs.OneReading.{same_form}
-use Rattle.wtf8.proofs.PositionLaws.{both_no_longer}
-use Rattle.wtf8.proofs.Scalars.{scalar_text}
-use Rattle.wtf8.proofs.SurrogateLemmas.{lossy-scalar}
+use Rattle.wtf8.proofs.lemmas.FormLaws.{equal_forms}
+use Rattle.wtf8.proofs.lemmas.Forms.{form-glue, form_paired, form_apart}
+use Rattle.wtf8.proofs.lemmas.PositionLaws.{both_no_longer}
+use Rattle.wtf8.proofs.lemmas.Readings.{same_form}
+use Rattle.wtf8.proofs.lemmas.Replacement.{lossy-scalar}
+use Rattle.wtf8.proofs.lemmas.Scalars.{scalar_text}
 
 pub equal_buffers : EqualBuffersHaveEqualUnits
 equal_buffers s t = equal_forms s.bytes t.bytes s.units t.units s.form t.form

@@ -6,7 +6,7 @@ use Rattle.std.proofs.lemmas.Simd.{mask_l-mod, chunk-fits}
 use lib.Lanes.{Each1, zip2, mask_l, top}
 use Rattle.wtf8.specs.Form.{bytes, encoding}
 use Rattle.wtf8.specs.UnitParts.{AreAscii, AreScalarUnits, AreThreeByteUnits, IsBlock, three_byte_row}
-use Rattle.wtf8.proofs.EncodingLemmas.{encoding_three}
+use Rattle.wtf8.proofs.lemmas.Encoding.{encoding_three}
 
 -- a lane of a comparison of units
 abbrev wide : Bool → ℕ

@@ -7,8 +7,8 @@ use Rattle.wtf8.specs.Unicode.{units}
 use Rattle.wtf8.specs.Form.{Reads, bytes, IsWellFormed, IsForm}
 use Rattle.wtf8.specs.OneForm.{bytes-injective}
 use Rattle.wtf8.specs.Order.{Before}
-use Rattle.wtf8.proofs.ByteOrder.{cmp-bytes, ordered}
-use Rattle.wtf8.proofs.OneReading.{same_reading}
+use Rattle.wtf8.proofs.lemmas.ByteOrder.{cmp-bytes, ordered}
+use Rattle.wtf8.proofs.lemmas.Readings.{same_reading}
 
 -- a form has the code points of well-formed bytes that are its own
 pub form_points : {w v u : List ℕ} (h : IsWellFormed w) (f : IsForm v u) → w ≡ v → h.points ≡ f.points

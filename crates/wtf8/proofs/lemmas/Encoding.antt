@@ -1,10 +1,12 @@
--- The encoding of one code point: its bytes in each row of the table, its length, and which bytes begin one.
+-- The encoding of code points: its bytes in each row of the table, its length, and which bytes begin one.
 use Rattle.std.proofs.Common.{◌≡◌, ℕ, zero, suc, ◌+◌, ◌-◌, ◌*◌, ◌/◌, ◌%◌, ◌<◌, ◌≤◌, ◌⊎◌, inl, inr, List, [], ◌∷◌, ◌++◌, length, get_or, refl, sym, ap, ◌∙◌, arith, subst}
 use Rattle.std.proofs.lemmas.Bool.{lt-ltb, le-ltb, cases_lt}
+use Rattle.std.proofs.lemmas.List.{append-nil}
+use Rattle.std.proofs.lemmas.List.Concat.{flat_map-append}
 use Rattle.std.proofs.lemmas.Str.{encode_same}
 use Rattle.std.proofs.Math.Nat.{div-div-eq-div-mul}
-use Rattle.wtf8.specs.Unicode.{IsCodePoint}
-use Rattle.wtf8.specs.Form.{encoding, BeginsWithPoint}
+use Rattle.wtf8.specs.Unicode.{IsCodePoint, IsSurrogate}
+use Rattle.wtf8.specs.Form.{encoding, bytes, BeginsWithPoint}
 use Rattle.wtf8.specs.OneForm.{encoding_is_encode}
 
 abbrev second_row : ℕ → List ℕ
@@ -93,6 +95,16 @@ length-encoding_bounds p =
       | three l h e ↦ rw e (omega arith, omega arith)
       | four l e ↦ rw e (omega arith, omega arith)
     ]
+
+pub length-surrogate : (p : ℕ) → IsSurrogate p → length (encoding p) ≡ 3
+length-surrogate p s = ap length (encoding_three p (omega arith) (omega arith))
+
+-- the bytes of a list, and of one with a code point more
+pub bytes-append : (c d : List ℕ) → bytes (c ++ d) ≡ bytes c ++ bytes d
+bytes-append c d = flat_map-append encoding c d
+
+pub bytes-pushed : (c : List ℕ) (p : ℕ) → bytes (c ++ p ∷ []) ≡ bytes c ++ encoding p
+bytes-pushed c p = bytes-append c (p ∷ []) ∙ ap (λ w. bytes c ++ w) (append-nil (encoding p))
 
 -- no encoding begins another
 pub encoding_same : (p q : ℕ) (r s : List ℕ) → encoding p ++ r ≡ encoding q ++ s → (p ≡ q) × (r ≡ s)

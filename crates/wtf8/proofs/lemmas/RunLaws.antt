@@ -1,39 +1,30 @@
 -- A list of building calls has exactly one outcome and one count of refused truncations.
-use Rattle.std.proofs.Common.{◌≡◌, ◌+◌, ◌⊎◌, inl, inr, ℕ, List, [], ◌∷◌, ◌++◌, length, take, get_or, refl, ap, ◌∙◌, sym, subst, arith}
+use Rattle.std.proofs.Common.{◌≡◌, ◌+◌, ◌⊎◌, inl, inr, ℕ, List, [], ◌∷◌, ◌++◌, length, take, get_or, refl, sym, subst, arith}
 use Rattle.std.proofs.lemmas.Bool.{cases_lt}
-use Rattle.std.proofs.lemmas.List.{take_at}
+use Rattle.std.proofs.lemmas.List.Elements.{All-nil, All-cons, All-head, All-tail}
+use Rattle.std.specs.List.{All}
 use Rattle.std.specs.Str.{chars}
-use Rattle.wtf8.specs.Unicode.{units_of, units}
+use Rattle.wtf8.specs.Unicode.{IsUnit, units_of, units}
 use Rattle.wtf8.specs.CodePoint.{number, numbers}
-use Rattle.wtf8.specs.Form.{bytes, IsForm, IsWellFormed}
-use Rattle.wtf8.specs.OneForm.{bytes-injective}
+use Rattle.wtf8.specs.Form.{IsForm, IsWellFormed}
 use Rattle.wtf8.specs.Position.{IsBoundary, IsFront}
 use Rattle.wtf8.specs.Building.{Step, Run, RunsOnce, RunsAddUp}
 use Rattle.wtf8.specs.declared.build.Build.{Build}
 use Rattle.wtf8.specs.declared.build.Build.TheVariants.{Push, PushChar, PushStr, PushWtf8, Extend, Reserve, Truncate, TruncateUnits}
-use Rattle.wtf8.proofs.EncodingLemmas.{Begins}
-use Rattle.wtf8.proofs.Joining.{bytes-append}
-use Rattle.wtf8.proofs.OneReading.{same_reading}
-use Rattle.wtf8.proofs.Positions.{cut_at, boundary_from_byte, byte_from_boundary}
-use Rattle.wtf8.proofs.Runs.{AreSmall, small_units, pushed_units}
+use Rattle.wtf8.proofs.lemmas.Encoding.{Begins}
+use Rattle.wtf8.proofs.lemmas.FormLaws.{one_form, units_read}
+use Rattle.wtf8.proofs.lemmas.Positions.{same_front, cut_at, boundary_from_byte, byte_from_boundary}
+use Rattle.wtf8.proofs.lemmas.Readings.{well_formed_of}
 
--- the units before a position are the same in each splitting
-pub same_front : (u : List ℕ) (k : ℕ) (v w : List ℕ) → IsFront u k v → IsFront u k w → v ≡ w
-same_front u k v w x y =
-    let whole : x.front ++ x.back ≡ y.front ++ y.back = same_reading (x.front ++ x.back) (y.front ++ y.back) x.splits.reads.clean y.splits.reads.clean (x.splits.reads.same_units ∙ sym y.splits.reads.same_units) in
-    let first : take k (bytes (x.front ++ x.back)) ≡ bytes x.front = ap (take k) (bytes-append x.front x.back) ∙ take_at (bytes x.front) (bytes x.back) k x.splits.front_len in
-    let second : take k (bytes (y.front ++ y.back)) ≡ bytes y.front = ap (take k) (bytes-append y.front y.back) ∙ take_at (bytes y.front) (bytes y.back) k y.splits.front_len in
-    sym x.same_units ∙ (ap units (bytes-injective x.front y.front (sym first ∙ (ap (λ c. take k (bytes c)) whole ∙ second))) ∙ y.same_units)
-
--- a list has numbers of 16 bits alone or not
-small_or_not : (u : List ℕ) → AreSmall u ⊎ (AreSmall u → ⊥)
-small_or_not [] = inl tt
-small_or_not (x ∷ u) = elim (cases_lt x 0x10000) [
-  | inl h ↦ elim (small_or_not u) [
-    | inl s ↦ inl (h, s)
-    | inr n ↦ inr (λ s. n s.1)
+-- a list has units alone or not
+units_or_not : (u : List ℕ) → All IsUnit u ⊎ (All IsUnit u → ⊥)
+units_or_not [] = inl (All-nil IsUnit)
+units_or_not (x ∷ u) = elim (cases_lt x 0x10000) [
+  | inl h ↦ elim (units_or_not u) [
+    | inl s ↦ inl (All-cons IsUnit x u (omega arith) s)
+    | inr n ↦ inr (λ s. n (All-tail IsUnit x u s))
   ]
-  | inr h ↦ inr (λ s. omega (arith, s.0))
+  | inr h ↦ inr (λ s. omega (arith, All-head IsUnit x u s))
 ]
 
 begins_or_not : (b : ℕ) → Begins b ⊎ (Begins b → ⊥)
@@ -60,16 +51,15 @@ cut_or_not {w} h k = elim (cases_lt k (length w)) [
 
 boundary_of_form : {w u : List ℕ} (f : IsForm w u) (k : ℕ) → IsBoundary u k ⊎ (IsBoundary u k → ⊥)
 boundary_of_form f k =
-    elim (cut_or_not (record { points = f.points; clean = f.reads.clean; encoded = f.encoded }) k) [
+    elim (cut_or_not (well_formed_of f) k) [
       | inl b ↦ inl (subst (λ v. IsBoundary v k) f.reads.same_units b)
       | inr n ↦ inr (λ b. n (subst (λ v. IsBoundary v k) (sym f.reads.same_units) b))
     ]
 
 boundary_or_not : (u : List ℕ) (k : ℕ) → IsBoundary u k ⊎ (IsBoundary u k → ⊥)
-boundary_or_not u k = elim (small_or_not u) [
-  | inl s ↦
-      boundary_of_form (pushed_units u [] [] (record { points = []; reads = record { clean = tt; same_units = refl }; encoded = refl }) s).form k
-  | inr n ↦ inr (λ b. n (subst AreSmall b.splits.reads.same_units (small_units (b.front ++ b.back) b.splits.reads.clean)))
+boundary_or_not u k = elim (units_or_not u) [
+  | inl s ↦ boundary_of_form (one_form u s).has k
+  | inr n ↦ inr (λ b. n (units_read (b.front ++ b.back) u b.splits.reads))
 ]
 
 -- one outcome of one call

@@ -9,7 +9,7 @@ use Rattle.std.proofs.lemmas.Bool.Decides.{nat_tests}
 use Rattle.std.proofs.lemmas.Cmp.{nat_list_cmp_total}
 use Rattle.wtf8.specs.Form.{encoding, bytes}
 use Rattle.wtf8.specs.Order.{Before}
-use Rattle.wtf8.proofs.EncodingLemmas.{row_of, one, two, three, four}
+use Rattle.wtf8.proofs.lemmas.Encoding.{row_of, one, two, three, four}
 
 pub cmp_less : (x y : ℕ) → x < y → nat_cmp x y ≡ Less
 cmp_less x y h = grind (arith, nat_tests)
