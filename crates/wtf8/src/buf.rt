@@ -14,7 +14,7 @@ ghost use Rattle.wtf8.specs.View.{view_points, view_units};
 
 use crate::code_point::CodePoint;
 use crate::view::Wtf8;
-use crate::{concat, search, unit_blocks, unit_positions};
+use crate::{concat, search, surrogates, unit_blocks, unit_positions};
 use std::alloc::{AllocError, Allocator};
 use std::marker::Model;
 
@@ -225,7 +225,7 @@ impl<A: Allocator> Wtf8Buf<A> {
             Some(c) => concat::push_scalar(&mut self.bytes, c),
             None => {
                 self.is_known_utf8 = false;
-                concat::push_point(&mut self.bytes, code_point)
+                concat::push_surrogate(&mut self.bytes, code_point)
             }
         }
     }
@@ -337,7 +337,7 @@ impl<A: Allocator> Wtf8Buf<A> {
             None => self.truncate(cut.position),
             Some(value) => {
                 self.is_known_utf8 = false;
-                let lead = unit_positions::lead_of(value);
+                let lead = surrogates::lead_of(value);
                 unit_positions::keep_lead(&mut self.bytes, cut.position, lead);
             }
         }

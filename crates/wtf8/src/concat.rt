@@ -8,8 +8,8 @@ ghost use Rattle.wtf8.specs.Unicode.{units, units_of, pair, IsLead, IsTrail};
 ghost use Rattle.wtf8.specs.View.{view_points, view_units};
 
 use crate::code_point::CodePoint;
-use crate::encoding;
 use crate::view::Wtf8;
+use crate::{encoding, surrogates};
 use std::alloc::{AllocError, Allocator};
 
 /// Makes of the lead surrogate that ends the bytes and of a trail the code point that they stand for: its fourth byte
@@ -23,7 +23,7 @@ fn join<A: Allocator>(bytes: &mut Vec<u8, A>, lead: u32, trail: u32) -> Result<(
     ensures room { vec_len bytes.old + 1 ≤ vec_capacity bytes.old → IsOk result }
     ensures capacity { vec_capacity bytes.old ≤ vec_capacity bytes.new }
 {
-    let joined = encoding::four_bytes(0x10000 + (lead - 0xD800) * 0x400 + (trail - 0xDC00));
+    let joined = encoding::four_bytes(surrogates::joined(lead, trail));
     let start = bytes.len() - 3;
     bytes.push(joined[3])?;
     bytes[start..start + 3].copy_from_slice(&joined[..3]);
@@ -38,15 +38,16 @@ fn joining_lead(text: Wtf8<'_>, code_point: CodePoint) -> Option<u32>
     ensures last { IfSome result (λ l. (f : List ℕ) × (view_points text.entry ≡ f ++ l ∷ [])) }
     ensures none { IfNone result (¬ (MeetsAsPair (view_points text.entry) (number code_point ∷ []))) }
 {
-    match code_point.to_u32() {
-        0xDC00..=0xDFFF => text.final_lead_surrogate(),
-        _ => None,
+    if surrogates::is_trail(code_point.to_u32()) {
+        text.final_lead_surrogate()
+    } else {
+        None
     }
 }
 
-/// Appends a code point to well-formed bytes, a trail surrogate behind a lead as the code point that the two stand for.
+/// Appends a surrogate to well-formed bytes, a trail behind a lead as the code point that the two stand for.
 #[inline(always)]
-pub(crate) fn push_point<A: Allocator>(
+pub(crate) fn push_surrogate<A: Allocator>(
     bytes: &mut Vec<u8, A>,
     code_point: CodePoint,
 ) -> Result<(), AllocError>

@@ -33,7 +33,7 @@ invariant_of-self-inside-in-Some g c =
 
 pub invariant_of-self-inside-in-None : goal.invariant_of-self-inside-in-None
 invariant_of-self-inside-in-None g c =
-    (gained_or_kept c.push_point.result _ c.self.inside.well_formed c.push_point.ensures.ok c.push_point.ensures.err, (λ known. absurd (false≢true known), tt))
+    (gained_or_kept c.push_surrogate.result _ c.self.inside.well_formed c.push_surrogate.ensures.ok c.push_surrogate.ensures.err, (λ known. absurd (false≢true known), tt))
 
 pub returns-in-Some-clause-ok : goal.returns-in-Some-clause-ok
 returns-in-Some-clause-ok g c =
@@ -45,7 +45,7 @@ returns-in-Some-clause-kept g c = kept_contents c.push_scalar.result _ _ _ c.sel
 
 pub returns-in-None-clause-ok : goal.returns-in-None-clause-ok
 returns-in-None-clause-ok g c =
-    gained_units c.push_point.result _ c.self.inside.well_formed c.self-in-None-1.given.0 (ap (λ (t : UnitString). t.units) c.self.view_is) c.push_point.ensures.ok
+    gained_units c.push_surrogate.result _ c.self.inside.well_formed c.self-in-None-1.given.0 (ap (λ (t : UnitString). t.units) c.self.view_is) c.push_surrogate.ensures.ok
 
 pub returns-in-None-clause-kept : goal.returns-in-None-clause-kept
-returns-in-None-clause-kept g c = kept_contents c.push_point.result _ _ _ c.self.view_is c.push_point.ensures.err
+returns-in-None-clause-kept g c = kept_contents c.push_surrogate.result _ _ _ c.self.view_is c.push_surrogate.ensures.err

@@ -7,7 +7,7 @@ use Rattle.wtf8.specs.Form.{encoding, IsWellFormed, GainsUnits}
 use Rattle.wtf8.proofs.lemmas.Gains.{Joined, joined, gains_point, fits_length}
 use Rattle.wtf8.proofs.lemmas.Meeting.{meets_same}
 use Rattle.wtf8.proofs.lemmas.Readings.{same_points}
-use Rattle.wtf8.proofs.concat.push_point.Goals as goal
+use Rattle.wtf8.proofs.concat.push_surrogate.Goals as goal
 
 -- what the view of the bytes says of the bytes: a lead that ends it is joined, and else the code point stands behind them
 joined_here : {w v : List ℕ} (h : IsWellFormed w) (k : IsWellFormed v) → v ≡ w → (l t : ℕ) → IsLead l → IsTrail t → (f : List ℕ) × (k.points ≡ f ++ l ∷ []) → Joined w l t
