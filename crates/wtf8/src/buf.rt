@@ -7,7 +7,8 @@ ghost use Rattle.wtf8.specs.CodePoint.{number};
 ghost use Rattle.wtf8.specs.Form.{IsWellFormed, IsForm, bytes};
 ghost use Rattle.wtf8.specs.OneForm.{IsWellFormed-prop, KnownScalar-prop};
 ghost use Rattle.wtf8.specs.Position.{IsBoundary, IsFront};
-ghost use Rattle.wtf8.specs.Surrogates.{AreScalar, IsFirstSurrogate, lossy};
+ghost use Rattle.wtf8.specs.Surrogates.{AreScalar, lossy};
+ghost use Rattle.wtf8.specs.SurrogateSearch.{IsFirst, SurrogateAt};
 ghost use Rattle.wtf8.specs.Unicode.{units, units_of};
 ghost use Rattle.wtf8.specs.UnitPosition.{TruncatesUnits};
 ghost use Rattle.wtf8.specs.View.{view_points, view_units};
@@ -386,7 +387,7 @@ impl<A: Allocator> Wtf8Buf<A> {
 
     /// The place of the first surrogate. It makes no search where it is known that there is none.
     fn first_surrogate(&self) -> Option<usize>
-        ensures { IsFirstSurrogate self.now.bytes 0 result }
+        ensures { IsFirst (SurrogateAt self.now.bytes) 0 result }
     {
         if self.is_known_utf8 {
             return None;

@@ -3,7 +3,8 @@ ghost use Rattle.std.specs.Prelude.{◌≡◌, ℕ, List, [], ◌∷◌, ◌++�
 ghost use Rattle.std.specs.Str.{chars};
 ghost use Rattle.wtf8.specs.CodePoint.{number};
 ghost use Rattle.wtf8.specs.Concatenation.{MeetsAsPair};
-ghost use Rattle.wtf8.specs.Form.{IsWellFormed, GainsUnits, FitsUnits, encoding};
+ghost use Rattle.wtf8.specs.Form.{IsWellFormed, encoding};
+ghost use Rattle.wtf8.specs.Gains.{GainsUnits, FitsUnits};
 ghost use Rattle.wtf8.specs.Unicode.{units, units_of, pair, IsLead, IsTrail};
 ghost use Rattle.wtf8.specs.View.{view_points, view_units};
 

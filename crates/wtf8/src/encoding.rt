@@ -1,7 +1,8 @@
 // The encoding of one code point: written at the end of bytes, and read from their front.
 ghost use Rattle.std.specs.Prelude.{◌≡◌, ℕ, List, ◌++◌, ◌+◌, ◌-◌, ◌*◌, ◌%◌, ◌<◌, ◌≤◌, ◌↔◌, ◌⊎◌, IsTrue, length, OnOk, OnErr, IsOk, vec_len, vec_capacity};
 ghost use Rattle.wtf8.specs.CodePoint.{number};
-ghost use Rattle.wtf8.specs.Form.{encoding, BeginsWithPoint};
+ghost use Rattle.wtf8.specs.Form.{encoding};
+ghost use Rattle.wtf8.specs.Gains.{BeginsWithPoint};
 ghost use Rattle.wtf8.specs.Unicode.{IsCodePoint};
 
 use crate::code_point::CodePoint;

@@ -3,7 +3,8 @@ ghost use Rattle.std.specs.Prelude.{◌≡◌, ◌++◌, ◌+◌, ◌-◌, ◌/�
 ghost use Rattle.std.specs.Option.{option_to_list};
 ghost use Rattle.wtf8.specs.Form.{encoding};
 ghost use Rattle.wtf8.specs.Unicode.{IsLead};
-ghost use Rattle.wtf8.specs.UnitPosition.{units_begun, all_units_begun, IsPlaceOfUnit, CutsUnits, units_of_slice};
+ghost use Rattle.wtf8.specs.UnitCounts.{units_begun, all_units_begun, IsPlaceOfUnit, CutsUnits};
+ghost use Rattle.wtf8.specs.UnitPosition.{units_of_slice};
 ghost use Rattle.wtf8.specs.View.{view_points, view_units};
 
 use crate::encoding;

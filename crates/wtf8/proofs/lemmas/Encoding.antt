@@ -6,7 +6,8 @@ use Rattle.std.proofs.lemmas.List.Concat.{flat_map-append}
 use Rattle.std.proofs.lemmas.Str.{encode_same}
 use Rattle.std.proofs.Math.Nat.{div-div-eq-div-mul}
 use Rattle.wtf8.specs.Unicode.{IsCodePoint, IsSurrogate}
-use Rattle.wtf8.specs.Form.{encoding, bytes, BeginsWithPoint}
+use Rattle.wtf8.specs.Form.{encoding, bytes}
+use Rattle.wtf8.specs.Gains.{BeginsWithPoint}
 use Rattle.wtf8.specs.OneForm.{encoding_is_encode}
 
 abbrev second_row : ℕ → List ℕ

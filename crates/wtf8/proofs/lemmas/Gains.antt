@@ -6,7 +6,8 @@ use Rattle.wtf8.specs.Unicode.{units, units_of, pair, IsLead, IsTrail, IsCodePoi
 use Rattle.wtf8.specs.UnitString.{UnitString}
 use Rattle.wtf8.specs.Appending.{AddsLength, KeepsContents}
 use Rattle.wtf8.specs.Concatenation.{MeetsAsPair}
-use Rattle.wtf8.specs.Form.{encoding, IsWellFormed, IsForm, GainsUnits, FitsUnits}
+use Rattle.wtf8.specs.Form.{encoding, IsWellFormed, IsForm}
+use Rattle.wtf8.specs.Gains.{GainsUnits, FitsUnits}
 use Rattle.wtf8.specs.View.{view_units, view_form}
 use Rattle.wtf8.specs.declared.view.Wtf8.{Wtf8}
 use Rattle.wtf8.proofs.lemmas.Encoding.{length-surrogate}

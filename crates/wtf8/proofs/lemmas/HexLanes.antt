@@ -14,7 +14,8 @@ use borrow.Table.Row.{s_int}
 use lib.Lanes.{Each1, zip2}
 use mir.Val.{Fits}
 use mir.Syntax.{shr, unsigned, bit_and as bit_and_op}
-use Rattle.wtf8.specs.Hex.{digit, spaced, hex_of, hex}
+use Rattle.wtf8.specs.Hex.{digit, hex_of, hex}
+use Rattle.wtf8.specs.SpacedHex.{spaced}
 
 -- the digits at their values
 abbrev pub table : List ℕ

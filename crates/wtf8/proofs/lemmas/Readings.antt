@@ -4,7 +4,8 @@ use Rattle.std.proofs.lemmas.Bool.{cases_lt}
 use Rattle.std.proofs.lemmas.List.{drop_all, drop_at}
 use Rattle.wtf8.specs.OneForm.{bytes-injective}
 use Rattle.wtf8.specs.Unicode.{IsCodePoint, IsTrail, units}
-use Rattle.wtf8.specs.Form.{IsClean, bytes, encoding, IsWellFormed, IsForm, BeginsWithPoint}
+use Rattle.wtf8.specs.Form.{IsClean, bytes, encoding, IsWellFormed, IsForm}
+use Rattle.wtf8.specs.Gains.{BeginsWithPoint}
 use Rattle.wtf8.proofs.lemmas.Clean.{clean-first, clean-rest}
 use Rattle.wtf8.proofs.lemmas.Units.{lead_of, trail_of, units-cons_one, units-cons_two}
 

@@ -7,7 +7,8 @@ use lib.Utf8.{scalars}
 use Rattle.wtf8.specs.Unicode.{IsSurrogate}
 use Rattle.wtf8.specs.Form.{encoding, bytes, IsClean, IsWellFormed}
 use Rattle.wtf8.specs.OneForm.{bytes_are_encodes}
-use Rattle.wtf8.specs.Surrogates.{AreScalar, replaced, lossy, SurrogateAt, IsLeastSurrogate}
+use Rattle.wtf8.specs.Surrogates.{AreScalar, replaced, lossy}
+use Rattle.wtf8.specs.SurrogateSearch.{SurrogateAt, IsLeast}
 use Rattle.wtf8.proofs.lemmas.Clean.{clean-first, clean-front, clean-rest, clean-back}
 use Rattle.wtf8.proofs.lemmas.Encoding.{encoding_three, length-surrogate, bytes-append}
 use Rattle.wtf8.proofs.lemmas.Positions.{begun}
@@ -105,7 +106,7 @@ pub record Replaced (c w : List ℕ) (found : ℕ) : Type 0 where
   pub within : found + 3 ≤ length w
   pub next : Replacing c (take found w ++ (0xEF ∷ 0xBF ∷ 0xBD ∷ drop (found + 3) w)) (found + 3)
 
-pub replacing_step : (c w : List ℕ) (from found : ℕ) → Replacing c w from → IsLeastSurrogate w from found → Replaced c w found
+pub replacing_step : (c w : List ℕ) (from found : ℕ) → Replacing c w from → IsLeast (SurrogateAt w) from found → Replaced c w found
 replacing_step c w from found r least =
     let p = surrogate_in (lossy r.done ++ r.rest) found (subst (λ v. SurrogateAt v found) r.so_far least.here) in
     let b = begun (lossy r.done) r.rest p.front (p.point ∷ p.back) p.joined (omega (arith, r.place, p.front_len, least.not_before)) in
@@ -132,7 +133,7 @@ pub record Parted (w : List ℕ) (h : IsWellFormed w) (found : ℕ) : Type 0 whe
   pub rest : IsWellFormed (drop (found + 3) w)
   pub lossy_parts : bytes (lossy h.points) ≡ take found w ++ bytes (0xFFFD ∷ lossy rest.points)
 
-pub parted : {w : List ℕ} (h : IsWellFormed w) (found : ℕ) → IsLeastSurrogate w 0 found → Parted w h found
+pub parted : {w : List ℕ} (h : IsWellFormed w) (found : ℕ) → IsLeast (SurrogateAt w) 0 found → Parted w h found
 parted {w} h found least =
     let p = surrogate_in h.points found (subst (λ v. SurrogateAt v found) (sym h.encoded) least.here) in
     let whole : w ≡ bytes (p.front ++ p.point ∷ p.back) = sym h.encoded ∙ ap bytes p.joined in

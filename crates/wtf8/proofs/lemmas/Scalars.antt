@@ -6,9 +6,11 @@ use Rattle.std.proofs.lemmas.Str.{scalars-chars}
 use lib.Utf8.{scalars}
 use Rattle.wtf8.specs.Unicode.{units}
 use Rattle.wtf8.specs.Concatenation.{MeetsAsPair}
-use Rattle.wtf8.specs.Form.{IsClean, IsWellFormed, GainsUnits}
+use Rattle.wtf8.specs.Form.{IsClean, IsWellFormed}
+use Rattle.wtf8.specs.Gains.{GainsUnits}
 use Rattle.wtf8.specs.OneForm.{bytes-injective}
-use Rattle.wtf8.specs.Surrogates.{AreScalar, IsFirstSurrogate}
+use Rattle.wtf8.specs.Surrogates.{AreScalar}
+use Rattle.wtf8.specs.SurrogateSearch.{IsFirst, SurrogateAt}
 use Rattle.wtf8.proofs.lemmas.Clean.{clean-append}
 use Rattle.wtf8.proofs.lemmas.Readings.{form_of, same_reading, same_points}
 use Rattle.wtf8.proofs.lemmas.Surrogates.{scalar-middle, scalar_if_none}
@@ -41,7 +43,7 @@ pub scalar_behind : {c d : List ℕ} → AreScalar d → ¬ (MeetsAsPair c d)
 scalar_behind s m = (subst AreScalar m.begins s).0 (omega (arith, m.is_trail), omega (arith, m.is_trail))
 
 -- what the search says that found none
-pub scalar_unless_found : (r : Option ℕ) (none : Bool) {w : List ℕ} (h : IsWellFormed w) → IsFirstSurrogate w 0 r → is_some r ≡ not none → IsTrue none → AreScalar h.points
+pub scalar_unless_found : (r : Option ℕ) (none : Bool) {w : List ℕ} (h : IsWellFormed w) → IsFirst (SurrogateAt w) 0 r → is_some r ≡ not none → IsTrue none → AreScalar h.points
 scalar_unless_found None none h f e k = scalar_if_none h f
 scalar_unless_found (Some i) none h f e k = absurd (false≢true (sym (e ∙ ap not k)))
 

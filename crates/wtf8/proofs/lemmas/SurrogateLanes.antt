@@ -6,7 +6,7 @@ use Rattle.std.proofs.lemmas.Simd.{length-zip2, get_or-zip2, get_or-chunk, mask_
 use Rattle.std.specs.List.{prefix_len}
 use lib.Count.{count_trailing_zeros}
 use lib.Lanes.{chunk, zip2, mask_l, top}
-use Rattle.wtf8.specs.Surrogates.{SurrogateAt, IsLeastSurrogate, IsSurrogateLane, IsLeastLane}
+use Rattle.wtf8.specs.SurrogateSearch.{SurrogateAt, IsLeast, IsSurrogateLane}
 
 -- a lane of a comparison
 abbrev pub lane : Bool → ℕ
@@ -71,22 +71,23 @@ module _ (xs ys : List ℕ) (p : length xs ≡ 32) (q : length ys ≡ 32) where
   at : (j : ℕ) → j < 32 → get_or lanes j false ≡ test (get_or xs j 0) (get_or ys j 0)
   at j l = get_or-zip2 test xs ys j 0 0 false (omega arith) (omega arith)
 
-  before : (j : ℕ) → j < 32 → j < failing lanes → ¬ (IsSurrogateLane xs ys j)
-  before j l h s = both_ways _ (not-true _ (prefix_len_passes (λ b. not b) lanes j false h)) (at j l ∙ tells _ _ s)
+  before : (j : ℕ) → j < failing lanes → ¬ (IsSurrogateLane xs ys j)
+  before j h s = both_ways _ (not-true _ (prefix_len_passes (λ b. not b) lanes j false h)) (at j s.within ∙ tells _ _ (s.first, s.second))
 
-  pub no_lane : mask xs ys ≡ 0 → (j : ℕ) → j < 32 → ¬ (IsSurrogateLane xs ys j)
-  no_lane e j l = before j l (omega (arith, l, long, leading_from_mask_l (λ b. b) lanes (sym tests ∙ e)))
+  pub no_lane : mask xs ys ≡ 0 → (j : ℕ) → 0 ≤ j → ¬ (IsSurrogateLane xs ys j)
+  no_lane e j _ s = before j (omega (arith, s.within, long, leading_from_mask_l (λ b. b) lanes (sym tests ∙ e))) s
 
-  pub least_lane : ¬ (mask xs ys ≡ 0) → IsLeastLane xs ys (count_trailing_zeros 64 (mask xs ys))
+  pub least_lane : ¬ (mask xs ys ≡ 0) → IsLeast (IsSurrogateLane xs ys) 0 (count_trailing_zeros 64 (mask xs ys))
   least_lane n =
       let some : 0 < mask_l lanes = omega (arith, same, n) in
       let within : failing lanes < length lanes = some_hold lanes some in
       let inside : failing lanes < 32 = omega (arith, within, long) in
       let first : count_trailing_zeros 64 (mask xs ys) ≡ failing lanes = ap (count_trailing_zeros 64) tests ∙ trailing_mask_l (λ b. b) 64 lanes (omega (arith, long)) (omega (arith, sym same ∙ tests, some)) in
-      subst (IsLeastLane xs ys) (sym first) (record {
-        within = inside;
-        here = told _ _ (sym (at (failing lanes) inside) ∙ not-false _ (prefix_len_stops (λ b. not b) lanes false within));
-        none_before = λ j l. before j (omega (arith, l, inside)) l;
+      let found = told _ _ (sym (at (failing lanes) inside) ∙ not-false _ (prefix_len_stops (λ b. not b) lanes false within)) in
+      subst (IsLeast (IsSurrogateLane xs ys) 0) (sym first) (record {
+        not_before = omega arith;
+        here = record { within = inside; first = found.0; second = found.1 };
+        none_between = λ j _ l. before j l;
       })
 
 -- the lanes of the 32 bytes from a place on and of those one further are the places of surrogates
@@ -98,28 +99,28 @@ module _ (w : List ℕ) (i : ℕ) (room : i + 33 ≤ length w) where
   second_is k l = get_or-chunk (i + 1) 32 w k 0 l ∙ ap (λ n. get_or w n 0) (omega arith)
 
   to_lane : (k : ℕ) → k < 32 → SurrogateAt w (i + k) → IsSurrogateLane (chunk i 32 w) (chunk (i + 1) 32 w) k
-  to_lane k l s = (first_is k l ∙ s.first, omega (arith, second_is k l, s.second))
+  to_lane k l s = record { within = l; first = first_is k l ∙ s.first; second = omega (arith, second_is k l, s.second) }
 
-  from_lane : (k : ℕ) → k < 32 → IsSurrogateLane (chunk i 32 w) (chunk (i + 1) 32 w) k → SurrogateAt w (i + k)
-  from_lane k l s = record { within = omega arith; first = sym (first_is k l) ∙ s.0; second = omega (arith, second_is k l, s.1) }
+  from_lane : (k : ℕ) → IsSurrogateLane (chunk i 32 w) (chunk (i + 1) 32 w) k → SurrogateAt w (i + k)
+  from_lane k s = record { within = omega (arith, s.within); first = sym (first_is k s.within) ∙ s.first; second = omega (arith, second_is k s.within, s.second) }
 
   -- none in the lanes leaves none as far as the next 32
-  pub no_surrogate : (from : ℕ) → ((j : ℕ) → from ≤ j → j < i → ¬ (SurrogateAt w j)) → ((k : ℕ) → k < 32 → ¬ (IsSurrogateLane (chunk i 32 w) (chunk (i + 1) 32 w) k))
+  pub no_surrogate : (from : ℕ) → ((j : ℕ) → from ≤ j → j < i → ¬ (SurrogateAt w j)) → ((k : ℕ) → 0 ≤ k → ¬ (IsSurrogateLane (chunk i 32 w) (chunk (i + 1) 32 w) k))
       → (j : ℕ) → from ≤ j → j < i + 32 → ¬ (SurrogateAt w j)
   no_surrogate from before clear j l u s = elim (cases_lt j i) [
     | inl h ↦ before j l h s
     | inr h ↦ clear (j - i) (omega arith) (to_lane (j - i) (omega arith) (subst (SurrogateAt w) (omega arith) s))
   ]
 
-  pub least_surrogate : (from k : ℕ) → from ≤ i → ((j : ℕ) → from ≤ j → j < i → ¬ (SurrogateAt w j)) → IsLeastLane (chunk i 32 w) (chunk (i + 1) 32 w) k
-      → IsLeastSurrogate w from (i + k)
+  pub least_surrogate : (from k : ℕ) → from ≤ i → ((j : ℕ) → from ≤ j → j < i → ¬ (SurrogateAt w j)) → IsLeast (IsSurrogateLane (chunk i 32 w) (chunk (i + 1) 32 w)) 0 k
+      → IsLeast (SurrogateAt w) from (i + k)
   least_surrogate from k start before least =
-      let within = least.within in
+      let lane = least.here.within in
       record {
         not_before = omega arith;
-        here = from_lane k within least.here;
+        here = from_lane k least.here;
         none_between = λ j l u s. elim (cases_lt j i) [
           | inl h ↦ before j l h s
-          | inr h ↦ least.none_before (j - i) (omega arith) (to_lane (j - i) (omega arith) (subst (SurrogateAt w) (omega arith) s))
+          | inr h ↦ least.none_between (j - i) (omega arith) (omega arith) (to_lane (j - i) (omega arith) (subst (SurrogateAt w) (omega arith) s))
         ];
       }

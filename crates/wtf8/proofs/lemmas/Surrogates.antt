@@ -8,7 +8,8 @@ use lib.Utf8.{scalar, scalars, low_scalar}
 use Rattle.wtf8.specs.Unicode.{IsCodePoint, IsSurrogate}
 use Rattle.wtf8.specs.Form.{encoding, bytes, IsClean, IsWellFormed}
 use Rattle.wtf8.specs.OneForm.{bytes_are_encodes}
-use Rattle.wtf8.specs.Surrogates.{AreScalar, SurrogateAt, IsLeastSurrogate, IsFirstSurrogate}
+use Rattle.wtf8.specs.Surrogates.{AreScalar}
+use Rattle.wtf8.specs.SurrogateSearch.{SurrogateAt, IsLeast, IsFirst}
 use Rattle.wtf8.proofs.lemmas.Clean.{clean-first, clean-rest}
 use Rattle.wtf8.proofs.lemmas.Encoding.{encoding_three, length-encoding_bounds, row_of, one, two, three, four, bytes-append}
 use Rattle.wtf8.proofs.lemmas.Positions.{split_at}
@@ -106,7 +107,7 @@ scalar_between f (p ∷ c) b none =
     (λ s. none (length (bytes f)) (omega arith) within (subst (λ d. SurrogateAt (bytes d) (length (bytes f))) (sym at) (surrogate_at f p (c ++ b) s)), scalar_between (f ++ p ∷ []) c b (λ j l u. subst (λ d. ¬ (SurrogateAt (bytes (d ++ b)) j)) (sym more) (none j (omega (arith, l, ap length (bytes-append f (p ∷ [])), length-append (bytes f) (bytes (p ∷ [])))) (omega (arith, u, ap (λ d. length (bytes d)) more)))))
 
 -- an answer that is not `Some` says that there is none
-pub none_found : (w : List ℕ) (from : ℕ) (r : Option ℕ) → IsFirstSurrogate w from r → ((i : ℕ) → r ≡ Some i → ⊥) → (j : ℕ) → from ≤ j → ¬ (SurrogateAt w j)
+pub none_found : (w : List ℕ) (from : ℕ) (r : Option ℕ) → IsFirst (SurrogateAt w) from r → ((i : ℕ) → r ≡ Some i → ⊥) → (j : ℕ) → from ≤ j → ¬ (SurrogateAt w j)
 none_found w from None f n = f
 none_found w from (Some i) f n = absurd (n i refl)
 
@@ -114,7 +115,7 @@ none_found w from (Some i) f n = absurd (n i refl)
 pub scalar_if_none : {w : List ℕ} (h : IsWellFormed w) → ((j : ℕ) → 0 ≤ j → ¬ (SurrogateAt w j)) → AreScalar h.points
 scalar_if_none h none = scalar_from_none [] h.points (λ j l. subst (λ v. ¬ (SurrogateAt v j)) (sym h.encoded) (none j l))
 
-pub not_scalar_if_some : {w : List ℕ} (h : IsWellFormed w) (i : ℕ) → IsLeastSurrogate w 0 i → ¬ (AreScalar h.points)
+pub not_scalar_if_some : {w : List ℕ} (h : IsWellFormed w) (i : ℕ) → IsLeast (SurrogateAt w) 0 i → ¬ (AreScalar h.points)
 not_scalar_if_some h i least s = none_from_scalar h.points i s (subst (λ v. SurrogateAt v i) (sym h.encoded) least.here)
 
 pub utf8_if_none : {w : List ℕ} (h : IsWellFormed w) → ((j : ℕ) → 0 ≤ j → ¬ (SurrogateAt w j)) → IsUtf8 w

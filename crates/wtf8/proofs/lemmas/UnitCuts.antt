@@ -6,7 +6,7 @@ use Rattle.std.specs.List.{slice_get}
 use Rattle.wtf8.specs.Unicode.{IsCodePoint, units, units_of}
 use Rattle.wtf8.specs.Form.{IsClean, bytes, encoding, IsWellFormed}
 use Rattle.wtf8.specs.Position.{IsFront}
-use Rattle.wtf8.specs.UnitPosition.{IsPlaceOfUnit, Divides, CutsUnits}
+use Rattle.wtf8.specs.UnitCounts.{IsPlaceOfUnit, Divides, CutsUnits}
 use Rattle.wtf8.proofs.lemmas.Clean.{clean-first, clean-front, clean-back, clean-append}
 use Rattle.wtf8.proofs.lemmas.Meeting.{no_trail}
 use Rattle.wtf8.proofs.lemmas.Encoding.{encoding_four, bytes-append, bytes-pushed}

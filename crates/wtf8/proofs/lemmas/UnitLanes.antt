@@ -4,7 +4,7 @@ use Rattle.std.proofs.lemmas.Bool.{cases_lt, lt-ltb, le-ltb, le-leb, lt-leb}
 use Rattle.std.proofs.lemmas.Simd.{Each2-of, fold-sum, sum_bound, sum_fits}
 use Rattle.std.proofs.lemmas.List.Sums.{sum_by-cons}
 use lib.Lanes.{Each1, Each2, Steps, fold_l, sel_l, sum_l, top, zip2}
-use Rattle.wtf8.specs.UnitPosition.{units_begun, all_units_begun}
+use Rattle.wtf8.specs.UnitCounts.{units_begun, all_units_begun}
 use Rattle.wtf8.proofs.lemmas.SurrogateLanes.{lane}
 
 pub begun_low : (b : ℕ) → b < 0x80 → units_begun b ≡ 1

@@ -12,7 +12,8 @@ use Rattle.std.specs.declared.cmp.Ordering.{Ordering}
 use Rattle.std.specs.declared.cmp.Ordering.TheVariants.{Less, Equal, Greater}
 use Rattle.wtf8.specs.Unicode.{units, units_of}
 use Rattle.wtf8.specs.Form.{encoding, bytes, IsWellFormed}
-use Rattle.wtf8.specs.Order.{Before, IsFirstDifference, PairBegins}
+use Rattle.wtf8.specs.Order.{Before}
+use Rattle.wtf8.specs.Differences.{IsFirstDifference, PairBegins}
 use Rattle.wtf8.proofs.lemmas.ByteOrder.{cmp_less, less_of, greater_of, cmp_behind, before_two}
 use Rattle.wtf8.proofs.lemmas.Comparing.{cmp_points}
 use Rattle.wtf8.proofs.lemmas.Encoding.{row_of, one, two, three, four, encoding_same, length-encoding_bounds}

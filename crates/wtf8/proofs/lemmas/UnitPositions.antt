@@ -6,7 +6,7 @@ use Rattle.std.proofs.lemmas.List.Sums.{sum_by-append, sum_by_more}
 use lib.Lanes.{chunk}
 use Rattle.wtf8.specs.Unicode.{units, units_of}
 use Rattle.wtf8.specs.Form.{encoding, bytes}
-use Rattle.wtf8.specs.UnitPosition.{units_begun, all_units_begun, IsPlaceOfUnit}
+use Rattle.wtf8.specs.UnitCounts.{units_begun, all_units_begun, IsPlaceOfUnit}
 use Rattle.wtf8.proofs.lemmas.Encoding.{Begins, row_of, one, two, three, four, length-encoding_bounds, bytes-append}
 use Rattle.wtf8.proofs.lemmas.Positions.{split_at}
 use Rattle.wtf8.proofs.lemmas.UnitLanes.{begun_low, begun_inside, begun_one, begun_two}

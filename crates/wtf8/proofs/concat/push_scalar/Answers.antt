@@ -1,6 +1,7 @@
 use Rattle.std.proofs.Common.{◌++◌, ◌∙◌, ap, sym, subst, arith, length-append}
 use Rattle.std.proofs.lemmas.Result.{on_ok_weaker}
-use Rattle.wtf8.specs.Form.{encoding, GainsUnits}
+use Rattle.wtf8.specs.Form.{encoding}
+use Rattle.wtf8.specs.Gains.{GainsUnits}
 use Rattle.wtf8.specs.Unicode.{units_of}
 use Rattle.wtf8.proofs.lemmas.Gains.{gains_point, fits_length}
 use Rattle.wtf8.proofs.lemmas.Scalars.{scalar_behind}

@@ -3,7 +3,8 @@ use Rattle.std.proofs.lemmas.Result.{on_ok_weaker}
 use Rattle.wtf8.specs.CodePoint.{number}
 use Rattle.wtf8.specs.Concatenation.{MeetsAsPair}
 use Rattle.wtf8.specs.Unicode.{pair, units_of, IsLead, IsTrail, IsCodePoint}
-use Rattle.wtf8.specs.Form.{encoding, IsWellFormed, GainsUnits}
+use Rattle.wtf8.specs.Form.{encoding, IsWellFormed}
+use Rattle.wtf8.specs.Gains.{GainsUnits}
 use Rattle.wtf8.proofs.lemmas.Gains.{Joined, joined, gains_point, fits_length}
 use Rattle.wtf8.proofs.lemmas.Meeting.{meets_same}
 use Rattle.wtf8.proofs.lemmas.Readings.{same_points}

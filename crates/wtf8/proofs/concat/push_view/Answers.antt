@@ -1,7 +1,8 @@
 use Rattle.std.proofs.Common.{◌∙◌, ◌≡◌, ◌+◌, ◌≤◌, ◌++◌, ◌∷◌, [], List, ℕ, length, refl, sym, subst, arith, length-append}
 use Rattle.std.proofs.lemmas.Result.{on_ok_weaker}
 use Rattle.wtf8.specs.Concatenation.{MeetsAsPair}
-use Rattle.wtf8.specs.Form.{GainsUnits, IsWellFormed}
+use Rattle.wtf8.specs.Gains.{GainsUnits}
+use Rattle.wtf8.specs.Form.{IsWellFormed}
 use Rattle.wtf8.specs.Unicode.{units, IsLead, IsTrail}
 use Rattle.wtf8.proofs.lemmas.Forms.{paired_bytes, meeting_bytes, length-paired_bytes}
 use Rattle.wtf8.proofs.lemmas.Gains.{gains_meeting, gains_behind, fits_length}

@@ -2,7 +2,7 @@ use Rattle.std.proofs.Common.{ap, sym, subst, arith, [], ◌∷◌, OnOk}
 use Rattle.std.proofs.lemmas.Bool.{false≢true}
 use Rattle.std.proofs.lemmas.List.{append-nil}
 use Rattle.wtf8.specs.CodePoint.{number}
-use Rattle.wtf8.specs.Form.{GainsUnits}
+use Rattle.wtf8.specs.Gains.{GainsUnits}
 use Rattle.wtf8.specs.UnitString.{UnitString}
 use Rattle.wtf8.specs.Unicode.{IsCodePoint, IsSurrogate, units_of}
 use Rattle.wtf8.proofs.lemmas.Gains.{gained_or_kept, gained_units, kept_contents}
