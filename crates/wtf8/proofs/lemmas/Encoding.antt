@@ -13,7 +13,7 @@ use Rattle.wtf8.specs.OneForm.{encoding_is_encode}
 abbrev second_row : ℕ → List ℕ
 second_row p = (0xC0 + p / 64) ∷ (0x80 + p % 64) ∷ []
 
-abbrev third_row : ℕ → List ℕ
+abbrev pub third_row : ℕ → List ℕ
 third_row p = (0xE0 + p / 4096) ∷ (0x80 + p / 64 % 64) ∷ (0x80 + p % 64) ∷ []
 
 abbrev fourth_row : ℕ → List ℕ

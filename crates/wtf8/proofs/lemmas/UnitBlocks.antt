@@ -1,12 +1,13 @@
 -- Blocks of units in lanes: what the mask of a block says of its units.
-use Rattle.std.proofs.Common.{◌≡◌, ℕ, zero, suc, ◌+◌, ◌%◌, ◌^◌, ◌≤◌, leb, ltb, Bool, true, false, cond, ◌&&◌, ◌||◌, List, [], ◌∷◌, ◌++◌, map, length, take, drop, get_or, replicate, bit_and, bit_or, Fits, w16, refl, sym, ap, ◌∙◌, arith, inl, inr}
+use Rattle.std.proofs.Common.{◌≡◌, ℕ, zero, suc, ◌+◌, ◌%◌, ◌^◌, ◌<◌, ◌≤◌, leb, ltb, Bool, true, false, cond, ◌&&◌, ◌||◌, List, [], ◌∷◌, ◌++◌, map, length, take, drop, replicate, bit_and, bit_or, Fits, w16, refl, sym, ap, ◌∙◌, arith, inl, inr}
 use Rattle.std.specs.List.{flat_map}
 use Rattle.std.proofs.lemmas.Bool.{cases_lt, le-leb, lt-leb, lt-ltb, le-ltb}
-use Rattle.std.proofs.lemmas.Simd.{mask_l-mod, chunk-fits}
+use Rattle.std.proofs.lemmas.Simd.{mask_l-mod, Each1-weaker}
 use lib.Lanes.{Each1, zip2, mask_l, top}
 use Rattle.wtf8.specs.Form.{bytes, encoding}
-use Rattle.wtf8.specs.UnitParts.{AreAscii, AreScalarUnits, AreThreeByteUnits, IsBlock, three_byte_row}
-use Rattle.wtf8.proofs.lemmas.Encoding.{encoding_three}
+use Rattle.wtf8.specs.Unicode.{IsSurrogate}
+use Rattle.wtf8.specs.UnitParts.{AreAscii, AreThreeByteUnits, IsBlock}
+use Rattle.wtf8.proofs.lemmas.Encoding.{encoding_three, third_row}
 
 -- a lane of a comparison of units
 abbrev wide : Bool → ℕ
@@ -66,34 +67,34 @@ others_are (suc n) [] e = refl
 others_are zero (x ∷ xs) e = absurd (omega arith)
 others_are (suc n) (x ∷ xs) e = λ i. other_set (ltb x 0x800) (leb 0xD800 x) (leb x 0xDFFF) i ∷ others_are n xs (omega arith) i
 
-all_three : (xs : List ℕ) → mask_l (map other xs) ≡ 0 → AreThreeByteUnits xs
-all_three [] e = tt
-all_three (x ∷ xs) e = elim (cases_lt x 0x800) [
+all_three : (xs : List ℕ) → mask_l (map other xs) ≡ 0 → Each1 (Fits w16) xs → AreThreeByteUnits xs
+all_three [] e f = tt
+all_three (x ∷ xs) e f = elim (cases_lt x 0x800) [
   | inl h ↦ absurd (omega (arith, rw (lt-ltb x 0x800 h) at e))
   | inr l ↦ elim (cases_lt x 0xD800) [
-    | inl h ↦ ((l, λ s. omega (arith, h, s.0)), all_three xs (omega (arith, rw (le-ltb x 0x800 l, lt-leb 0xD800 x h) at e)))
+    | inl h ↦ ((l, f.0.fits, λ s. omega (arith, h, s.0)), all_three xs (omega (arith, rw (le-ltb x 0x800 l, lt-leb 0xD800 x h) at e)) f.1)
     | inr k ↦ elim (cases_lt 0xDFFF x) [
-      | inl h ↦ ((l, λ s. omega (arith, h, s.1)), all_three xs (omega (arith, rw (le-ltb x 0x800 l, le-leb 0xD800 x k, lt-leb x 0xDFFF h) at e)))
+      | inl h ↦ ((l, f.0.fits, λ s. omega (arith, h, s.1)), all_three xs (omega (arith, rw (le-ltb x 0x800 l, le-leb 0xD800 x k, lt-leb x 0xDFFF h) at e)) f.1)
       | inr h ↦ absurd (omega (arith, rw (le-ltb x 0x800 l, le-leb 0xD800 x k, le-leb x 0xDFFF h) at e))
     ]
   ]
 ]
 
 -- where no lane is set all units take three bytes
-pub none_other : (xs : List ℕ) → length xs ≡ 8 → mask_l (others 8 xs) % 2 ^ 64 ≡ 0 → AreThreeByteUnits xs
-none_other xs l e = all_three xs (none_set other xs (omega arith) (ap (λ ms. mask_l ms % 2 ^ 64) (sym (others_are 8 xs l)) ∙ e))
+pub none_other : (xs : List ℕ) → length xs ≡ 8 → Each1 (Fits w16) xs → mask_l (others 8 xs) % 2 ^ 64 ≡ 0 → AreThreeByteUnits xs
+none_other xs l f e = all_three xs (none_set other xs (omega arith) (ap (λ ms. mask_l ms % 2 ^ 64) (sym (others_are 8 xs l)) ∙ e)) f
 
 -- their rows are their encodings
-three_bytes : (xs : List ℕ) → AreThreeByteUnits xs → Each1 (Fits w16) xs → flat_map three_byte_row xs ≡ bytes xs
-three_bytes [] h f = refl
-three_bytes (x ∷ xs) h f = ap (λ w. w ++ flat_map three_byte_row xs) (sym (encoding_three x h.0.0 f.0.fits)) ∙ ap (λ w. encoding x ++ w) (three_bytes xs h.1 f.1)
+third_rows : (xs : List ℕ) → AreThreeByteUnits xs → flat_map third_row xs ≡ bytes xs
+third_rows [] h = refl
+third_rows (x ∷ xs) h = ap (λ w. w ++ flat_map third_row xs) (sym (encoding_three x h.0.0 h.0.1)) ∙ ap (λ w. encoding x ++ w) (third_rows xs h.1)
 
-are_scalar_units : (xs : List ℕ) → AreThreeByteUnits xs → Each1 (Fits w16) xs → AreScalarUnits xs
-are_scalar_units [] h f = tt
-are_scalar_units (x ∷ xs) h f = ((f.0.fits, h.0.1), are_scalar_units xs h.1 f.1)
+pub by_rows : {w : List ℕ} (xs : List ℕ) → AreThreeByteUnits xs → w ≡ flat_map third_row xs → w ≡ bytes xs
+by_rows xs h e = e ∙ third_rows xs h
 
-pub three_byte_block : (u w : List ℕ) (at : ℕ) → at + 8 ≤ length u → ((k : ℕ) → Fits w16 (get_or u k 0)) → AreThreeByteUnits (take 8 (drop at u)) → w ≡ flat_map three_byte_row (take 8 (drop at u)) → IsBlock u at 8 w
-three_byte_block u w at within fit h e =
-    let part = take 8 (drop at u) in
-    let fits = chunk-fits w16 at 8 u fit in
-    record { within = within; scalars = are_scalar_units part h fits; encoded = e ∙ three_bytes part h fits }
+pub three_byte_block : (u w : List ℕ) (at : ℕ) → at + 8 ≤ length u → AreThreeByteUnits (take 8 (drop at u)) → w ≡ bytes (take 8 (drop at u)) → IsBlock u at 8 w
+three_byte_block u w at within h e = record {
+  within = within;
+  scalars = Each1-weaker (λ n. (0x800 ≤ n) × (n < 0x10000) × ¬ (IsSurrogate n)) (λ n. (n < 0x10000) × ¬ (IsSurrogate n)) (λ n k. (k.1, k.2)) (take 8 (drop at u)) h;
+  encoded = e;
+}
