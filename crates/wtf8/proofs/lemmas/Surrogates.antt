@@ -2,7 +2,7 @@
 use Rattle.std.proofs.Common.{◌≡◌, ◌≤◌, ◌<◌, ◌+◌, ℕ, List, [], ◌∷◌, ◌++◌, length, get_or, refl, ap, ◌∙◌, sym, subst, arith, append_assoc, length-append, true, inl, inr, Option, Some, None}
 use Rattle.std.proofs.lemmas.Bool.Decides.{nat_tests}
 use Rattle.std.proofs.lemmas.Bool.{cases_lt, lt-ltb, le-ltb}
-use Rattle.std.proofs.lemmas.List.{get_or-append-add}
+use Rattle.std.proofs.lemmas.List.{append-nil, get_or-append-add}
 use Rattle.std.specs.Str.{IsUtf8}
 use lib.Utf8.{scalar, scalars, low_scalar}
 use Rattle.wtf8.specs.Unicode.{IsCodePoint, IsSurrogate}
@@ -64,12 +64,6 @@ surrogate_in c i s =
       surrogate = f.surrogate;
     }
 
--- where no surrogate begins from the bytes of f on, what follows f is scalar values
-pub scalar_from_none : (f c : List ℕ) → ((j : ℕ) → length (bytes f) ≤ j → ¬ (SurrogateAt (bytes (f ++ c)) j)) → AreScalar c
-scalar_from_none f [] none = tt
-scalar_from_none f (p ∷ c) none =
-    (λ s. none (length (bytes f)) (omega arith) (surrogate_at f p c s), scalar_from_none (f ++ p ∷ []) c (λ j l. subst (λ d. ¬ (SurrogateAt (bytes d) j)) (sym (append_assoc f (p ∷ []) c)) (none j (omega (arith, l, ap length (bytes-append f (p ∷ [])), length-append (bytes f) (bytes (p ∷ [])))))))
-
 pub scalar-middle : (f : List ℕ) (p : ℕ) (b : List ℕ) → AreScalar (f ++ p ∷ b) → ¬ (IsSurrogate p)
 scalar-middle [] p b s = s.0
 scalar-middle (q ∷ f) p b s = scalar-middle f p b s.1
@@ -105,6 +99,10 @@ scalar_between f (p ∷ c) b none =
     let within : length (bytes f) < length (bytes (f ++ p ∷ c)) = omega (arith, ap length (bytes-append f (p ∷ c)), length-append (bytes f) (bytes (p ∷ c)), length-append (encoding p) (bytes c), length-encoding_bounds p) in
     let more : (f ++ p ∷ []) ++ c ≡ f ++ p ∷ c = append_assoc f (p ∷ []) c in
     (λ s. none (length (bytes f)) (omega arith) within (subst (λ d. SurrogateAt (bytes d) (length (bytes f))) (sym at) (surrogate_at f p (c ++ b) s)), scalar_between (f ++ p ∷ []) c b (λ j l u. subst (λ d. ¬ (SurrogateAt (bytes (d ++ b)) j)) (sym more) (none j (omega (arith, l, ap length (bytes-append f (p ∷ [])), length-append (bytes f) (bytes (p ∷ [])))) (omega (arith, u, ap (λ d. length (bytes d)) more)))))
+
+-- the same where none begins behind them either
+pub scalar_from_none : (f c : List ℕ) → ((j : ℕ) → length (bytes f) ≤ j → ¬ (SurrogateAt (bytes (f ++ c)) j)) → AreScalar c
+scalar_from_none f c none = scalar_between f c [] (λ j l _ s. none j l (subst (λ d. SurrogateAt (bytes d) j) (append-nil (f ++ c)) s))
 
 -- an answer that is not `Some` says that there is none
 pub none_found : (w : List ℕ) (from : ℕ) (r : Option ℕ) → IsFirst (SurrogateAt w) from r → ((i : ℕ) → r ≡ Some i → ⊥) → (j : ℕ) → from ≤ j → ¬ (SurrogateAt w j)

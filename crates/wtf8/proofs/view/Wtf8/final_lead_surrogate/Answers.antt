@@ -1,17 +1,26 @@
-use Rattle.std.proofs.Common.{◌++◌, ◌∷◌, [], arith, ap, ◌∙◌}
-use Rattle.wtf8.proofs.lemmas.FinalLead.{last_point, ends_in_lead}
+use Rattle.std.proofs.Common.{◌++◌, ◌∷◌, [], arith, ap, sym, ◌∙◌, ◌≡◌, List, ℕ}
+use Rattle.wtf8.specs.Form.{bytes, IsWellFormed}
+use Rattle.wtf8.specs.Unicode.{IsLead}
+use Rattle.wtf8.proofs.lemmas.FinalLead.{EndsInSurrogate, ends_in_surrogate, last_surrogate}
 use Rattle.wtf8.proofs.view.Wtf8.final_lead_surrogate.Goals as goal
 
+ends_in_lead : {w : List ℕ} (h : IsWellFormed w) (f : List ℕ) (l : ℕ) → IsLead l → h.points ≡ f ++ l ∷ [] → EndsInSurrogate w l
+ends_in_lead {w} h f l lead e = ends_in_surrogate w f l (omega arith, omega arith) (ap bytes (sym e) ∙ h.encoded)
+
 pub three_byte_number-requires-clause-third : goal.three_byte_number-requires-clause-third
-three_byte_number-requires-clause-third c = let p = last_point c.args.self.now.well_formed (omega arith) (omega arith) in omega arith
+three_byte_number-requires-clause-third c =
+    let p = last_surrogate c.args.self.now.well_formed (omega arith) (omega arith) (omega arith) in
+    let n = p.ends in omega arith
 
 pub returns-in-237-clause-lead : goal.returns-in-237-clause-lead
-returns-in-237-clause-lead c = let p = last_point c.args.self.now.well_formed (omega arith) (omega arith) in (omega arith, omega arith)
+returns-in-237-clause-lead c =
+    let p = last_surrogate c.args.self.now.well_formed (omega arith) (omega arith) (omega arith) in
+    let n = p.ends in (omega (arith, p.surrogate), omega (arith, p.surrogate))
 
 pub returns-in-237-clause-last : goal.returns-in-237-clause-last
 returns-in-237-clause-last c =
-    let p = last_point c.args.self.now.well_formed (omega arith) (omega arith) in
-    (p.front, p.joined ∙ ap (λ n. p.front ++ n ∷ []) (omega arith))
+    let p = last_surrogate c.args.self.now.well_formed (omega arith) (omega arith) (omega arith) in
+    let n = p.ends in (p.front, p.joined ∙ ap (λ q. p.front ++ q ∷ []) (omega (arith, p.surrogate)))
 
 pub returns-in_default-clause-none : goal.returns-in_default-clause-none
 returns-in_default-clause-none c f l h e = let n = ends_in_lead c.args.self.now.well_formed f l h e in omega arith
