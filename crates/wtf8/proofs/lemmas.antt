@@ -32,4 +32,5 @@ pub mod UnitLanes
 pub mod UnitOrder
 pub mod UnitParts
 pub mod UnitPositions
+pub mod UnitRows
 pub mod Units

@@ -5,10 +5,9 @@ use Rattle.std.proofs.lemmas.List.{append-nil, take_at, drop_at, get_or-append_r
 use Rattle.wtf8.specs.Unicode.{units}
 use Rattle.wtf8.specs.Form.{encoding, bytes, IsClean, Reads, IsWellFormed, IsForm}
 use Rattle.wtf8.specs.Position.{Splits, IsBoundary, IsFront, IsBack, IsMiddle}
-use Rattle.wtf8.specs.OneForm.{bytes-injective}
 use Rattle.wtf8.proofs.lemmas.Clean.{clean-front, clean-back}
 use Rattle.wtf8.proofs.lemmas.Encoding.{Begins, first-encoding, inside-encoding, length-encoding_bounds, bytes-append}
-use Rattle.wtf8.proofs.lemmas.Readings.{same_heads, same_reading}
+use Rattle.wtf8.proofs.lemmas.Readings.{same_heads, same_points, same_reading, well_formed_of}
 
 -- a list of code points as a front whose bytes are so many, and what follows
 pub record Split (c : List ℕ) (k : ℕ) : Type 0 where
@@ -44,7 +43,7 @@ begins_behind : (f b : List ℕ) → length (bytes f) < length (bytes (f ++ b)) 
 begins_behind f [] h = absurd (omega (arith, ap (λ c. length (bytes c)) (append-nil f)))
 begins_behind f (p ∷ b) h = subst Begins (sym (first_behind f p b)) (first-encoding p (bytes b))
 
--- a boundary's front and back, as code points and as bytes
+-- a front and a back of the code points, and the bytes before and behind the place where they meet
 pub record Cut (w : List ℕ) (h : IsWellFormed w) (k : ℕ) : Type 0 where
   pub front : List ℕ
   pub back : List ℕ
@@ -56,28 +55,49 @@ pub record Cut (w : List ℕ) (h : IsWellFormed w) (k : ℕ) : Type 0 where
   pub behind : IsWellFormed (drop k w)
   pub behind_points : behind.points ≡ back
 
-pub cut_at : {w : List ℕ} (h : IsWellFormed w) (k : ℕ) → IsBoundary (units h.points) k → Cut w h k
-cut_at {w} h k b =
-    let s = b.splits in
-    let points : h.points ≡ b.front ++ b.back = same_reading h.points (b.front ++ b.back) h.clean s.reads.clean (sym s.reads.same_units) in
-    let whole : w ≡ bytes b.front ++ bytes b.back = sym h.encoded ∙ (ap bytes points ∙ bytes-append b.front b.back) in
+abbrev pub cut_by : {w : List ℕ} (h : IsWellFormed w) (front back : List ℕ) (k : ℕ) → h.points ≡ front ++ back → length (bytes front) ≡ k → Cut w h k
+cut_by {w} h front back k e n =
+    let whole : w ≡ bytes front ++ bytes back = sym h.encoded ∙ (ap bytes e ∙ bytes-append front back) in
+    let clean : IsClean (front ++ back) = subst IsClean e h.clean in
     record {
-      front = b.front;
-      back = b.back;
-      points = points;
-      within = omega (arith, s.front_len, ap length whole, length-append (bytes b.front) (bytes b.back));
-      splits = s;
-      before = record { points = b.front; clean = clean-front b.front b.back s.reads.clean; encoded = sym (ap (take k) whole ∙ take_at (bytes b.front) (bytes b.back) k s.front_len) };
+      front = front;
+      back = back;
+      points = e;
+      within = omega (arith, n, ap length whole, length-append (bytes front) (bytes back));
+      splits = record { reads = record { clean = clean; same_units = ap units (sym e) }; front_len = n };
+      before = record { points = front; clean = clean-front front back clean; encoded = sym (ap (take k) whole ∙ take_at (bytes front) (bytes back) k n) };
       before_points = refl;
-      behind = record { points = b.back; clean = clean-back b.front b.back s.reads.clean; encoded = sym (ap (drop k) whole ∙ drop_at (bytes b.front) (bytes b.back) k s.front_len) };
+      behind = record { points = back; clean = clean-back front back clean; encoded = sym (ap (drop k) whole ∙ drop_at (bytes front) (bytes back) k n) };
       behind_points = refl;
     }
+
+pub cut_at : {w : List ℕ} (h : IsWellFormed w) (k : ℕ) → IsBoundary (units h.points) k → Cut w h k
+cut_at h k b =
+    let reads = b.splits.reads in
+    cut_by h b.front b.back k (same_reading h.points (b.front ++ b.back) h.clean reads.clean (sym reads.same_units)) b.splits.front_len
+
+pub boundary_of : {w : List ℕ} (h : IsWellFormed w) (front back : List ℕ) (k : ℕ) → h.points ≡ front ++ back → length (bytes front) ≡ k → IsBoundary (units h.points) k
+boundary_of h front back k e n = record { front = front; back = back; splits = (cut_by h front back k e n).splits }
+
+pub points_before : {w v : List ℕ} (h : IsWellFormed w) (p : IsWellFormed v) (front back : List ℕ) (k : ℕ) → h.points ≡ front ++ back → length (bytes front) ≡ k → v ≡ take k w → p.points ≡ front
+points_before h p front back k e n d = same_points p (cut_by h front back k e n).before d
+
+pub points_behind : {w v : List ℕ} (h : IsWellFormed w) (p : IsWellFormed v) (front back : List ℕ) (k : ℕ) → h.points ≡ front ++ back → length (bytes front) ≡ k → v ≡ drop k w → p.points ≡ back
+points_behind h p front back k e n d = same_points p (cut_by h front back k e n).behind d
+
+-- the bytes before a position are the form of the units of the code points before it
+pub front_form : {w u : List ℕ} (h : IsForm w u) (k : ℕ) (v : List ℕ) → IsFront u k v → IsForm (take k w) v
+front_form h k v f =
+    let reads = f.splits.reads in
+    let points = same_reading h.points (f.front ++ f.back) h.reads.clean reads.clean (h.reads.same_units ∙ sym reads.same_units) in
+    let before = (cut_by (well_formed_of h) f.front f.back k points f.splits.front_len).before in
+    record { points = f.front; reads = record { clean = before.clean; same_units = f.same_units }; encoded = before.encoded }
 
 -- what the test of one byte says
 pub boundary_from_byte : {w : List ℕ} (h : IsWellFormed w) (k : ℕ) → k ≤ length w → (k < length w → Begins (get_or w k 0)) → IsBoundary (units h.points) k
 boundary_from_byte {w} h k within start =
     let cut = split_at h.points k (omega (arith, ap length h.encoded)) (λ m. subst (λ v. Begins (get_or v k 0)) (sym h.encoded) (start (omega (arith, ap length h.encoded)))) in
-    record { front = cut.front; back = cut.back; splits = record { reads = record { clean = subst IsClean cut.joined h.clean; same_units = ap units (sym cut.joined) }; front_len = cut.front_len } }
+    boundary_of h cut.front cut.back k cut.joined cut.front_len
 
 pub byte_from_boundary : {w : List ℕ} (h : IsWellFormed w) (k : ℕ) → IsBoundary (units h.points) k → k < length w → Begins (get_or w k 0)
 byte_from_boundary {w} h k b m =
@@ -88,10 +108,12 @@ byte_from_boundary {w} h k b m =
 -- the units before a position are the same in each splitting
 pub same_front : (u : List ℕ) (k : ℕ) (v w : List ℕ) → IsFront u k v → IsFront u k w → v ≡ w
 same_front u k v w x y =
-    let whole : x.front ++ x.back ≡ y.front ++ y.back = same_reading (x.front ++ x.back) (y.front ++ y.back) x.splits.reads.clean y.splits.reads.clean (x.splits.reads.same_units ∙ sym y.splits.reads.same_units) in
-    let first : take k (bytes (x.front ++ x.back)) ≡ bytes x.front = ap (take k) (bytes-append x.front x.back) ∙ take_at (bytes x.front) (bytes x.back) k x.splits.front_len in
-    let second : take k (bytes (y.front ++ y.back)) ≡ bytes y.front = ap (take k) (bytes-append y.front y.back) ∙ take_at (bytes y.front) (bytes y.back) k y.splits.front_len in
-    sym x.same_units ∙ (ap units (bytes-injective x.front y.front (sym first ∙ (ap (λ c. take k (bytes c)) whole ∙ second))) ∙ y.same_units)
+    let own = x.splits in
+    let other = y.splits in
+    let whole = same_reading (x.front ++ x.back) (y.front ++ y.back) own.reads.clean other.reads.clean (own.reads.same_units ∙ sym other.reads.same_units) in
+    let h : IsWellFormed (bytes (x.front ++ x.back)) = record { points = x.front ++ x.back; clean = own.reads.clean; encoded = refl } in
+    let front = points_before h (cut_by h x.front x.back k refl own.front_len).before y.front y.back k whole other.front_len refl in
+    sym x.same_units ∙ (ap units front ∙ y.same_units)
 
 -- of two fronts of one list the one with fewer bytes begins the other
 pub record Begun (f g : List ℕ) : Type 0 where
@@ -122,35 +144,4 @@ middle_of h begin end p f b =
       begins = record { reads = subst (λ c. Reads c (units h.points)) (ap (λ c. c ++ f.back) (sym parts) ∙ append_assoc b.front b.back f.back) f.splits.reads; front_len = b.splits.front_len };
       ends = record { reads = subst (λ c. Reads (c ++ f.back) (units h.points)) (sym parts) f.splits.reads; front_len = ap (λ c. length (bytes c)) parts ∙ f.splits.front_len };
       same_units = b.same_units;
-    }
-
--- where a front and a back of the code points meet there is a boundary, and the bytes before and behind it are theirs
-pub boundary_of : {w : List ℕ} (h : IsWellFormed w) (front back : List ℕ) (k : ℕ) → h.points ≡ front ++ back → length (bytes front) ≡ k → IsBoundary (units h.points) k
-boundary_of h front back k e n = record {
-  front = front;
-  back = back;
-  splits = record { reads = record { clean = subst IsClean e h.clean; same_units = ap units (sym e) }; front_len = n };
-}
-
-pub whole_bytes : {w : List ℕ} (h : IsWellFormed w) (front back : List ℕ) → h.points ≡ front ++ back → w ≡ bytes front ++ bytes back
-whole_bytes h front back e = sym h.encoded ∙ (ap bytes e ∙ bytes-append front back)
-
-pub points_before : {w v : List ℕ} (h : IsWellFormed w) (p : IsWellFormed v) (front back : List ℕ) (k : ℕ) → h.points ≡ front ++ back → length (bytes front) ≡ k → v ≡ take k w → p.points ≡ front
-points_before h p front back k e n d =
-    bytes-injective p.points front (p.encoded ∙ (d ∙ (ap (take k) (whole_bytes h front back e) ∙ take_at (bytes front) (bytes back) k n)))
-
-pub points_behind : {w v : List ℕ} (h : IsWellFormed w) (p : IsWellFormed v) (front back : List ℕ) (k : ℕ) → h.points ≡ front ++ back → length (bytes front) ≡ k → v ≡ drop k w → p.points ≡ back
-points_behind h p front back k e n d =
-    bytes-injective p.points back (p.encoded ∙ (d ∙ (ap (drop k) (whole_bytes h front back e) ∙ drop_at (bytes front) (bytes back) k n)))
-
--- the bytes before a position are the form of the units of the code points before it
-pub front_form : {w u : List ℕ} (h : IsForm w u) (k : ℕ) (v : List ℕ) → IsFront u k v → IsForm (take k w) v
-front_form {w} {u} h k v f =
-    let reads = f.splits.reads in
-    let points : h.points ≡ f.front ++ f.back = same_reading h.points (f.front ++ f.back) h.reads.clean reads.clean (h.reads.same_units ∙ sym reads.same_units) in
-    let whole : w ≡ bytes f.front ++ bytes f.back = sym h.encoded ∙ (ap bytes points ∙ bytes-append f.front f.back) in
-    record {
-      points = f.front;
-      reads = record { clean = clean-front f.front f.back reads.clean; same_units = f.same_units };
-      encoded = sym (ap (take k) whole ∙ take_at (bytes f.front) (bytes f.back) k f.splits.front_len);
     }

@@ -10,7 +10,7 @@ use Rattle.wtf8.specs.UnitCounts.{IsPlaceOfUnit, Divides, CutsUnits}
 use Rattle.wtf8.proofs.lemmas.Clean.{clean-first, clean-front, clean-back, clean-append}
 use Rattle.wtf8.proofs.lemmas.Meeting.{no_trail}
 use Rattle.wtf8.proofs.lemmas.Encoding.{encoding_four, bytes-append, bytes-pushed}
-use Rattle.wtf8.proofs.lemmas.Positions.{whole_bytes}
+use Rattle.wtf8.proofs.lemmas.Positions.{cut_by}
 use Rattle.wtf8.proofs.lemmas.UnitPositions.{PointsAbout, points_about}
 use Rattle.wtf8.proofs.lemmas.Units.{lead_of, trail_of, units_one, units_two, units-append, units-pushed, units_bounds}
 
@@ -119,7 +119,7 @@ lead_kept {w} h {n} {k} {p} {front} {rest} d =
     record {
       points = front ++ lead_of p ∷ [];
       clean = clean-append front (lead_of p ∷ []) (clean-front front (p ∷ rest) clean) (omega (arith, range, d.large)) (no_trail (lead_of p) [] (λ t. omega (arith, range, d.large, t.0)));
-      encoded = bytes-pushed front (lead_of p) ∙ ap (λ v. v ++ encoding (lead_of p)) (sym (ap (take k) (whole_bytes h front (p ∷ rest) d.joined) ∙ take_at (bytes front) (bytes (p ∷ rest)) k d.front_len));
+      encoded = bytes-pushed front (lead_of p) ∙ ap (λ v. v ++ encoding (lead_of p)) (cut_by h front (p ∷ rest) k d.joined d.front_len).before.encoded;
     }
 
 pub lead_kept_units : {c : List ℕ} {n k p : ℕ} {front rest : List ℕ} → IsClean c → Divided c n k p front rest → units (front ++ lead_of p ∷ []) ≡ take n (units c)
