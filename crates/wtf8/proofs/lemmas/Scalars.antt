@@ -1,10 +1,11 @@
 -- Code points that are scalar values, parts of them, and scalar values behind them.
 use Rattle.std.proofs.Common.{◌≡◌, ℕ, List, [], ◌∷◌, ◌++◌, Bool, true, not, IsTrue, Option, Some, None, is_some, Result, Ok, Err, OnOk, OnErr, ap, ◌∙◌, sym, subst, arith}
 use Rattle.std.proofs.lemmas.Bool.{false≢true}
+use Rattle.std.proofs.lemmas.List.{append-nil}
 use Rattle.std.specs.Str.{chars, IsUtf8}
 use Rattle.std.proofs.lemmas.Str.{scalars-chars}
 use lib.Utf8.{scalars}
-use Rattle.wtf8.specs.Unicode.{units}
+use Rattle.wtf8.specs.Unicode.{IsCodePoint, IsSurrogate, units, units_of}
 use Rattle.wtf8.specs.Concatenation.{MeetsAsPair}
 use Rattle.wtf8.specs.Form.{IsClean, IsWellFormed}
 use Rattle.wtf8.specs.Gains.{GainsUnits}
@@ -12,6 +13,7 @@ use Rattle.wtf8.specs.OneForm.{bytes-injective}
 use Rattle.wtf8.specs.Surrogates.{AreScalar}
 use Rattle.wtf8.specs.SurrogateSearch.{IsFirst, SurrogateAt}
 use Rattle.wtf8.proofs.lemmas.Clean.{clean-append}
+use Rattle.wtf8.proofs.lemmas.Gains.{gained_or_kept}
 use Rattle.wtf8.proofs.lemmas.Readings.{form_of, same_reading, same_points}
 use Rattle.wtf8.proofs.lemmas.Surrogates.{scalar-middle, scalar_if_none}
 use Rattle.wtf8.proofs.lemmas.Texts.{scalar_facts, scalars-parts}
@@ -60,3 +62,14 @@ module _ {T E : Type 0} where
       let same : k.points ≡ h.points ++ c = same_reading k.points (h.points ++ c) k.clean (clean-append h.points c h.clean x (scalar_apart t)) whole in
       subst AreScalar (sym same) (scalar-append h.points c t s)
   scalar_gained (Err _) c v h k e x s t ok err = scalar_moved h k err t
+
+  -- what a buffer holds behind a call that appends to it: well-formed bytes, without surrogates where the flag says so
+  pub known_gained : (r : Result T E) (c v : List ℕ) (known : Bool) {old new : List ℕ} (h : IsWellFormed old) → v ≡ units c → IsClean c → (IsTrue known → AreScalar h.points × AreScalar c)
+      → OnOk r (GainsUnits old new v) → OnErr r (new ≡ old) → (k : IsWellFormed new) × ((IsTrue known → AreScalar k.points) × Unit {0})
+  known_gained r c v known h e x s ok err =
+      let now = gained_or_kept r v h ok err in
+      (now, (λ t. scalar_gained r c v h now e x (s t).1 (s t).0 ok err, tt))
+
+  pub known_point : (r : Result T E) (p : ℕ) (known : Bool) {old new : List ℕ} (h : IsWellFormed old) → IsCodePoint p → ¬ (IsSurrogate p) → (IsTrue known → AreScalar h.points)
+      → OnOk r (GainsUnits old new (units_of p)) → OnErr r (new ≡ old) → (k : IsWellFormed new) × ((IsTrue known → AreScalar k.points) × Unit {0})
+  known_point r p known h range apart s ok err = known_gained r (p ∷ []) (units_of p) known h (sym (append-nil (units_of p))) range (λ t. (s t, (apart, tt))) ok err

@@ -1,20 +1,17 @@
-use Rattle.std.proofs.Common.{ap, sym, subst, arith, [], ◌∷◌, OnOk}
+use Rattle.std.proofs.Common.{ap, sym, subst, arith, OnOk}
 use Rattle.std.proofs.lemmas.Bool.{false≢true}
-use Rattle.std.proofs.lemmas.List.{append-nil}
 use Rattle.wtf8.specs.CodePoint.{number}
 use Rattle.wtf8.specs.Gains.{GainsUnits}
 use Rattle.wtf8.specs.UnitString.{UnitString}
 use Rattle.wtf8.specs.Unicode.{IsCodePoint, IsSurrogate, units_of}
 use Rattle.wtf8.proofs.lemmas.Gains.{gained_or_kept, gained_units, kept_contents}
-use Rattle.wtf8.proofs.lemmas.Scalars.{scalar_gained}
+use Rattle.wtf8.proofs.lemmas.Scalars.{known_point}
 use Rattle.wtf8.proofs.buf.Wtf8Buf.push.Goals as goal
 
 pub invariant_of-self-inside : goal.invariant_of-self-inside
 invariant_of-self-inside g c =
-    let p = number c.args.code_point in
-    let now = gained_or_kept c.push_ascii.result _ c.self.inside.well_formed c.push_ascii.ensures.ok c.push_ascii.ensures.err in
-    let apart : ¬ (IsSurrogate p) = λ s. omega (arith, s.0, c.if-to_u32-lt128.true, c.to_u32.ensures) in
-    (now, (λ known. scalar_gained c.push_ascii.result (p ∷ []) (units_of p) c.self.inside.well_formed now (sym (append-nil (units_of p))) c.args.code_point.in_range (apart, tt) (c.self.inside.known_scalar known) c.push_ascii.ensures.ok c.push_ascii.ensures.err, tt))
+    let apart : ¬ (IsSurrogate (number c.args.code_point)) = λ s. omega (arith, s.0, c.if-to_u32-lt128.true, c.to_u32.ensures) in
+    known_point c.push_ascii.result (number c.args.code_point) c.self.inside.is_known_utf8 c.self.inside.well_formed c.args.code_point.in_range apart c.self.inside.known_scalar c.push_ascii.ensures.ok c.push_ascii.ensures.err
 
 pub returns-then-to_u32-lt128-clause-ok : goal.returns-then-to_u32-lt128-clause-ok
 returns-then-to_u32-lt128-clause-ok g c =
@@ -25,11 +22,9 @@ returns-then-to_u32-lt128-clause-kept g c = kept_contents c.push_ascii.result _ 
 
 pub invariant_of-self-inside-in-Some : goal.invariant_of-self-inside-in-Some
 invariant_of-self-inside-in-Some g c =
-    let p = c.in-Some.c in
-    let now = gained_or_kept c.push_scalar.result _ c.self.inside.well_formed c.push_scalar.ensures.ok c.push_scalar.ensures.err in
-    let range : IsCodePoint p = subst IsCodePoint (sym c.in-Some.ensures.some) c.args.code_point.in_range in
-    let apart : ¬ (IsSurrogate p) = λ s. false≢true (sym (c.in-Some.ensures.none.1 (subst IsSurrogate c.in-Some.ensures.some s))) in
-    (now, (λ known. scalar_gained c.push_scalar.result (p ∷ []) (units_of p) c.self.inside.well_formed now (sym (append-nil (units_of p))) range (apart, tt) (c.self.inside.known_scalar known) c.push_scalar.ensures.ok c.push_scalar.ensures.err, tt))
+    let range : IsCodePoint c.in-Some.c = subst IsCodePoint (sym c.in-Some.ensures.some) c.args.code_point.in_range in
+    let apart : ¬ (IsSurrogate c.in-Some.c) = λ s. false≢true (sym (c.in-Some.ensures.none.1 (subst IsSurrogate c.in-Some.ensures.some s))) in
+    known_point c.push_scalar.result c.in-Some.c c.self.inside.is_known_utf8 c.self.inside.well_formed range apart c.self.inside.known_scalar c.push_scalar.ensures.ok c.push_scalar.ensures.err
 
 pub invariant_of-self-inside-in-None : goal.invariant_of-self-inside-in-None
 invariant_of-self-inside-in-None g c =
