@@ -220,7 +220,7 @@ impl<A: Allocator> Wtf8Buf<A> {
         ensures capacity { self.old.capacity ≤ self.new.capacity }
     {
         if code_point.to_u32() < 0x80 {
-            return concat::push_ascii(&mut self.bytes, code_point);
+            return concat::push_apart(&mut self.bytes, code_point);
         }
         match code_point.to_char() {
             Some(c) => concat::push_scalar(&mut self.bytes, c),

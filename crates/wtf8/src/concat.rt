@@ -46,6 +46,22 @@ fn joining_lead(text: Wtf8<'_>, code_point: CodePoint) -> Option<u32>
     }
 }
 
+/// Appends a code point that joins nothing: it is no trail surrogate, or no lead ends the bytes.
+#[inline(always)]
+pub(crate) fn push_apart<A: Allocator>(
+    bytes: &mut Vec<u8, A>,
+    code_point: CodePoint,
+) -> Result<(), AllocError>
+    requires well_formed { IsWellFormed bytes.old.items }
+    requires apart { (h : IsWellFormed bytes.old.items) → ¬ (MeetsAsPair h.points (number code_point ∷ [])) }
+    ensures ok { OnOk result (GainsUnits bytes.old.items bytes.new.items (units_of (number code_point))) }
+    ensures err { OnErr result (bytes.new.items ≡ bytes.old.items) }
+    ensures room { FitsUnits bytes.old.items (units_of (number code_point)) (vec_capacity bytes.old) → IsOk result }
+    ensures capacity { vec_capacity bytes.old ≤ vec_capacity bytes.new }
+{
+    encoding::append(bytes, code_point)
+}
+
 /// Appends a surrogate to well-formed bytes, a trail behind a lead as the code point that the two stand for.
 #[inline(always)]
 pub(crate) fn push_surrogate<A: Allocator>(
@@ -61,7 +77,7 @@ pub(crate) fn push_surrogate<A: Allocator>(
     let text = Wtf8::from_well_formed(bytes.as_slice());
     match joining_lead(text, code_point) {
         Some(lead) => join(bytes, lead, code_point.to_u32()),
-        None => encoding::append(bytes, code_point),
+        None => push_apart(bytes, code_point),
     }
 }
 
@@ -137,23 +153,7 @@ pub(crate) fn push_scalar<A: Allocator>(bytes: &mut Vec<u8, A>, c: char) -> Resu
     ensures room { FitsUnits bytes.old.items (units_of c) (vec_capacity bytes.old) → IsOk result }
     ensures capacity { vec_capacity bytes.old ≤ vec_capacity bytes.new }
 {
-    encoding::append(bytes, CodePoint::from_u32_unchecked(u32::from(c)))
-}
-
-/// Appends a code point of one byte, which joins nothing.
-#[inline(always)]
-pub(crate) fn push_ascii<A: Allocator>(
-    bytes: &mut Vec<u8, A>,
-    code_point: CodePoint,
-) -> Result<(), AllocError>
-    requires well_formed { IsWellFormed bytes.old.items }
-    requires ascii { number code_point < 0x80 }
-    ensures ok { OnOk result (GainsUnits bytes.old.items bytes.new.items (units_of (number code_point))) }
-    ensures err { OnErr result (bytes.new.items ≡ bytes.old.items) }
-    ensures room { FitsUnits bytes.old.items (units_of (number code_point)) (vec_capacity bytes.old) → IsOk result }
-    ensures capacity { vec_capacity bytes.old ≤ vec_capacity bytes.new }
-{
-    encoding::append(bytes, code_point)
+    push_apart(bytes, CodePoint::from_u32_unchecked(u32::from(c)))
 }
 
 /// Appends a text, none of whose characters joins anything.

@@ -1,24 +1,28 @@
-use Rattle.std.proofs.Common.{ap, sym, subst, arith, OnOk}
+use Rattle.std.proofs.Common.{[], ap, sym, subst, arith, OnOk}
 use Rattle.std.proofs.lemmas.Bool.{false≢true}
 use Rattle.wtf8.specs.CodePoint.{number}
 use Rattle.wtf8.specs.Gains.{GainsUnits}
 use Rattle.wtf8.specs.UnitString.{UnitString}
 use Rattle.wtf8.specs.Unicode.{IsCodePoint, IsSurrogate, units_of}
 use Rattle.wtf8.proofs.lemmas.Gains.{gained_or_kept, gained_units, kept_contents}
+use Rattle.wtf8.proofs.lemmas.Meeting.{no_trail}
 use Rattle.wtf8.proofs.lemmas.Scalars.{known_point}
 use Rattle.wtf8.proofs.buf.Wtf8Buf.push.Goals as goal
+
+pub push_apart-requires-clause-apart : goal.push_apart-requires-clause-apart
+push_apart-requires-clause-apart g c h = no_trail (number c.args.code_point) [] (λ t. omega (arith, t.0, c.if-to_u32-lt128.true, c.to_u32.ensures))
 
 pub invariant_of-self-inside : goal.invariant_of-self-inside
 invariant_of-self-inside g c =
     let apart : ¬ (IsSurrogate (number c.args.code_point)) = λ s. omega (arith, s.0, c.if-to_u32-lt128.true, c.to_u32.ensures) in
-    known_point c.push_ascii.result (number c.args.code_point) c.self.inside.is_known_utf8 c.self.inside.well_formed c.args.code_point.in_range apart c.self.inside.known_scalar c.push_ascii.ensures.ok c.push_ascii.ensures.err
+    known_point c.push_apart.result (number c.args.code_point) c.self.inside.is_known_utf8 c.self.inside.well_formed c.args.code_point.in_range apart c.self.inside.known_scalar c.push_apart.ensures.ok c.push_apart.ensures.err
 
 pub returns-then-to_u32-lt128-clause-ok : goal.returns-then-to_u32-lt128-clause-ok
 returns-then-to_u32-lt128-clause-ok g c =
-    gained_units c.push_ascii.result _ c.self.inside.well_formed c.self-1.given.0 (ap (λ (t : UnitString). t.units) c.self.view_is) c.push_ascii.ensures.ok
+    gained_units c.push_apart.result _ c.self.inside.well_formed c.self-1.given.0 (ap (λ (t : UnitString). t.units) c.self.view_is) c.push_apart.ensures.ok
 
 pub returns-then-to_u32-lt128-clause-kept : goal.returns-then-to_u32-lt128-clause-kept
-returns-then-to_u32-lt128-clause-kept g c = kept_contents c.push_ascii.result _ _ _ c.self.view_is c.push_ascii.ensures.err
+returns-then-to_u32-lt128-clause-kept g c = kept_contents c.push_apart.result _ _ _ c.self.view_is c.push_apart.ensures.err
 
 pub invariant_of-self-inside-in-Some : goal.invariant_of-self-inside-in-Some
 invariant_of-self-inside-in-Some g c =
