@@ -1,5 +1,5 @@
 -- The one well-formed WTF-8 form of a list of code units.
-use Rattle.std.specs.Prelude.{◌≡◌, ℕ, ◌+◌, ◌/◌, ◌%◌, ◌≤◌, length, List, [], ◌∷◌, ◌++◌, nat_lt, if◌then◌else◌, ⊤}
+use Rattle.std.specs.Prelude.{◌≡◌, ℕ, ◌+◌, ◌/◌, ◌%◌, List, [], ◌∷◌, nat_lt, if◌then◌else◌, ⊤}
 use Rattle.std.specs.List.{flat_map}
 use Rattle.wtf8.specs.Unicode.{IsCodePoint, IsLead, IsTrail, units}
 
@@ -37,22 +37,3 @@ pub record IsForm (w u : List ℕ) : Type 0 where
   pub points : List ℕ
   pub reads : Reads points u
   pub encoded : bytes points ≡ w
-
--- Bytes begin with a code point where they are its encoding and something behind it (WTF-8, "Generalized UTF-8").
-pub record BeginsWithPoint (w : List ℕ) : Type 0 where
-  pub point : ℕ
-  pub rest : List ℕ
-  pub in_range : IsCodePoint point
-  pub encoded : w ≡ encoding point ++ rest
-
--- Bytes gained these units: new bytes are the form of the units of the old ones with these behind them (WTF-8, "Concatenating").
-abbrev pub GainsUnits : List ℕ → List ℕ → List ℕ → Type 0
-GainsUnits old new v = (u : List ℕ) → IsForm old u → IsForm new (u ++ v)
-
--- Some bytes of at most this length are the form of the units of these bytes with v behind them.
-pub record FitsUnits (old v : List ℕ) (capacity : ℕ) : Type 0 where
-  pub units : List ℕ
-  pub whole : List ℕ
-  pub before : IsForm old units
-  pub after : IsForm whole (units ++ v)
-  pub within : length whole ≤ capacity

@@ -10,10 +10,6 @@ digit n = if nat_lt n 10 then 48 + n else 55 + n
 abbrev pub hex_of : ℕ → List ℕ
 hex_of b = digit (b / 16) ∷ digit (b % 16) ∷ []
 
--- A byte as two digits behind a space.
-abbrev pub spaced : ℕ → List ℕ
-spaced b = 32 ∷ hex_of b
-
 -- Bytes as hexadecimal text, one space between two bytes.
 abbrev pub hex : List ℕ → List ℕ
 hex w = join_by hex_of (32 ∷ []) w

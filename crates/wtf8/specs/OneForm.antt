@@ -1,4 +1,4 @@
--- That bytes are well-formed, and that they are a form of units, has one proof at most: encodings determine their code points.
+-- For types: that bytes are well-formed, and that they are a form of units, has one proof at most: encodings determine their code points.
 use Rattle.std.specs.Prelude.{◌≡◌, ℕ, Bool, IsTrue, List, [], ◌∷◌, ◌++◌, refl}
 use Rattle.std.specs.Coded.{×_prop, →_prop, Unit-prop, le_prop, Coded-set, coded_list, coded_ℕ}
 use Rattle.std.proofs.Common.{ap, sym, ◌∙◌}

@@ -1,5 +1,5 @@
--- Units that are turned into bytes part by part.
-use Rattle.std.specs.Prelude.{◌≡◌, ℕ, ◌+◌, ◌/◌, ◌%◌, ◌<◌, ◌≤◌, Bool, IsTrue, List, [], ◌∷◌, ◌++◌, length, take, drop}
+-- For private functions: units that are turned into bytes part by part.
+use Rattle.std.specs.Prelude.{◌≡◌, ℕ, ◌+◌, ◌<◌, ◌≤◌, Bool, IsTrue, List, ◌++◌, length, take, drop}
 use lib.Lanes.{Each1}
 use Rattle.wtf8.specs.Concatenation.{MeetsAsPair}
 use Rattle.wtf8.specs.Form.{IsForm, bytes}
@@ -31,11 +31,7 @@ AreScalarUnits u = Each1 (λ n. (n < 0x10000) × ¬ (IsSurrogate n)) u
 
 -- Each of the units takes three bytes, and none is a surrogate (Unicode 3.9, "UTF-8", Table 3-6).
 abbrev pub AreThreeByteUnits : List ℕ → Type 0
-AreThreeByteUnits u = Each1 (λ n. (0x800 ≤ n) × ¬ (IsSurrogate n)) u
-
--- The three bytes that a unit from 800 on has (Unicode 3.9, "UTF-8", Table 3-6).
-abbrev pub three_byte_row : ℕ → List ℕ
-three_byte_row p = (0xE0 + p / 4096) ∷ (0x80 + p / 64 % 64) ∷ (0x80 + p % 64) ∷ []
+AreThreeByteUnits u = Each1 (λ n. (0x800 ≤ n) × (n < 0x10000) × ¬ (IsSurrogate n)) u
 
 -- Bytes are those of n units from a place on, none of which is a surrogate.
 pub record IsBlock (u : List ℕ) (at n : ℕ) (w : List ℕ) : Type 0 where

@@ -1,41 +1,8 @@
--- Positions in a string, counted in 16-bit units.
-use Rattle.std.specs.Prelude.{◌≡◌, ℕ, ◌+◌, ◌<◌, ◌≤◌, ◌⊎◌, List, ◌∷◌, ◌++◌, length, take, nat_lt, if◌then◌else◌, Option, MatchOption}
-use Rattle.std.specs.List.{sum_by}
+-- Parts of a string, cut at numbers of 16-bit units.
+use Rattle.std.specs.Prelude.{◌≡◌, ℕ, ◌<◌, ◌≤◌, ◌⊎◌, List, ◌++◌, length, take}
 use Rattle.std.specs.Option.{option_to_list}
-use Rattle.wtf8.specs.Unicode.{units}
 use Rattle.wtf8.specs.View.{view_units}
 use Rattle.wtf8.specs.declared.unit_positions.UnitSlice.{UnitSlice}
-use Rattle.wtf8.specs.Form.{bytes}
-
--- How many units the code point has whose bytes begin with this one; a byte from 80 to BF begins none (Unicode 3.9, "UTF-8", Table 3-6).
-unfoldable pub units_begun : ℕ → ℕ
-units_begun b = if nat_lt b 0x80 then 1 else if nat_lt b 0xC0 then 0 else if nat_lt b 0xF0 then 1 else 2
-
--- How many units the code points have that begin among the bytes.
-abbrev pub all_units_begun : List ℕ → ℕ
-all_units_begun w = sum_by units_begun w
-
--- The code point that holds unit n begins at a place, and so many units are before it; or n units or fewer begin among all the bytes, and the place is their end.
-pub record IsPlaceOfUnit (w : List ℕ) (n place before : ℕ) : Type 0 where
-  pub within : place ≤ length w
-  pub counted : before ≡ all_units_begun (take place w)
-  pub not_beyond : before ≤ n
-  pub reaches : place < length w → n < all_units_begun (take (place + 1) w)
-
--- The code point p stands first in a list, it has two units, and n counts the first of them behind those of the front.
-pub record Divides (front back : List ℕ) (n p : ℕ) : Type 0 where
-  pub rest : List ℕ
-  pub first : back ≡ p ∷ rest
-  pub supplementary : 0x10000 ≤ p
-  pub inside : length (units front) + 1 ≡ n
-
--- The first n units of code points end at a position in bytes: at a boundary, or inside the pair of the code point that begins there.
-pub record CutsUnits (c : List ℕ) (n position : ℕ) (divided : Option ℕ) : Type 0 where
-  pub front : List ℕ
-  pub back : List ℕ
-  pub joined : c ≡ front ++ back
-  pub front_len : length (bytes front) ≡ position
-  pub counted : MatchOption divided (length (units front) ≡ n) (Divides front back n)
 
 -- The units that a slice by units has: the trail of a pair that its begin divides, those of the whole code points, and the lead of a pair that its end divides.
 abbrev pub units_of_slice : UnitSlice → List ℕ

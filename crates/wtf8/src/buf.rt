@@ -7,14 +7,15 @@ ghost use Rattle.wtf8.specs.CodePoint.{number};
 ghost use Rattle.wtf8.specs.Form.{IsWellFormed, IsForm, bytes};
 ghost use Rattle.wtf8.specs.OneForm.{IsWellFormed-prop, KnownScalar-prop};
 ghost use Rattle.wtf8.specs.Position.{IsBoundary, IsFront};
-ghost use Rattle.wtf8.specs.Surrogates.{AreScalar, IsFirstSurrogate, lossy};
+ghost use Rattle.wtf8.specs.Surrogates.{AreScalar, lossy};
+ghost use Rattle.wtf8.specs.SurrogateSearch.{IsFirst, SurrogateAt};
 ghost use Rattle.wtf8.specs.Unicode.{units, units_of};
 ghost use Rattle.wtf8.specs.UnitPosition.{TruncatesUnits};
 ghost use Rattle.wtf8.specs.View.{view_points, view_units};
 
 use crate::code_point::CodePoint;
 use crate::view::Wtf8;
-use crate::{concat, search, unit_blocks, unit_positions};
+use crate::{concat, search, surrogates, unit_blocks, unit_positions};
 use std::alloc::{AllocError, Allocator};
 use std::marker::Model;
 
@@ -218,11 +219,14 @@ impl<A: Allocator> Wtf8Buf<A> {
         ensures room { HasRoomFor self.old (units_of (number code_point)) → IsOk result }
         ensures capacity { self.old.capacity ≤ self.new.capacity }
     {
+        if code_point.to_u32() < 0x80 {
+            return concat::push_apart(&mut self.bytes, code_point);
+        }
         match code_point.to_char() {
             Some(c) => concat::push_scalar(&mut self.bytes, c),
             None => {
                 self.is_known_utf8 = false;
-                concat::push_point(&mut self.bytes, code_point)
+                concat::push_surrogate(&mut self.bytes, code_point)
             }
         }
     }
@@ -334,7 +338,7 @@ impl<A: Allocator> Wtf8Buf<A> {
             None => self.truncate(cut.position),
             Some(value) => {
                 self.is_known_utf8 = false;
-                let lead = unit_positions::lead_of(value);
+                let lead = surrogates::lead_of(value);
                 unit_positions::keep_lead(&mut self.bytes, cut.position, lead);
             }
         }
@@ -383,7 +387,7 @@ impl<A: Allocator> Wtf8Buf<A> {
 
     /// The place of the first surrogate. It makes no search where it is known that there is none.
     fn first_surrogate(&self) -> Option<usize>
-        ensures { IsFirstSurrogate self.now.bytes 0 result }
+        ensures { IsFirst (SurrogateAt self.now.bytes) 0 result }
     {
         if self.is_known_utf8 {
             return None;

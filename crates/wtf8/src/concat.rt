@@ -1,14 +1,16 @@
 // Concatenation of well-formed bytes: what is appended at their end, a lead and a trail that meet as one code point.
-ghost use Rattle.std.specs.Prelude.{◌≡◌, ℕ, List, [], ◌∷◌, ◌++◌, ◌+◌, ◌-◌, ◌≤◌, length, take, drop, OnOk, OnErr, IsOk, OnSome, IfSome, IfNone, vec_len, vec_capacity};
+ghost use Rattle.std.specs.Prelude.{◌≡◌, ℕ, List, [], ◌∷◌, ◌++◌, ◌+◌, ◌-◌, ◌≤◌, ◌<◌, length, take, drop, OnOk, OnErr, IsOk, OnSome, IfSome, IfNone, vec_len, vec_capacity};
 ghost use Rattle.std.specs.Str.{chars};
 ghost use Rattle.wtf8.specs.CodePoint.{number};
-ghost use Rattle.wtf8.specs.Form.{IsWellFormed, GainsUnits, FitsUnits, encoding};
+ghost use Rattle.wtf8.specs.Concatenation.{MeetsAsPair};
+ghost use Rattle.wtf8.specs.Form.{IsWellFormed, encoding};
+ghost use Rattle.wtf8.specs.Gains.{GainsUnits, FitsUnits};
 ghost use Rattle.wtf8.specs.Unicode.{units, units_of, pair, IsLead, IsTrail};
 ghost use Rattle.wtf8.specs.View.{view_points, view_units};
 
 use crate::code_point::CodePoint;
-use crate::encoding;
 use crate::view::Wtf8;
+use crate::{encoding, surrogates};
 use std::alloc::{AllocError, Allocator};
 
 /// Makes of the lead surrogate that ends the bytes and of a trail the code point that they stand for: its fourth byte
@@ -22,7 +24,7 @@ fn join<A: Allocator>(bytes: &mut Vec<u8, A>, lead: u32, trail: u32) -> Result<(
     ensures room { vec_len bytes.old + 1 ≤ vec_capacity bytes.old → IsOk result }
     ensures capacity { vec_capacity bytes.old ≤ vec_capacity bytes.new }
 {
-    let joined = encoding::four_bytes(0x10000 + (lead - 0xD800) * 0x400 + (trail - 0xDC00));
+    let joined = encoding::four_bytes(surrogates::joined(lead, trail));
     let start = bytes.len() - 3;
     bytes.push(joined[3])?;
     bytes[start..start + 3].copy_from_slice(&joined[..3]);
@@ -35,17 +37,34 @@ fn joining_lead(text: Wtf8<'_>, code_point: CodePoint) -> Option<u32>
     ensures trail { OnSome result (IsTrail (number code_point)) }
     ensures lead { IfSome result (λ l. IsLead l) }
     ensures last { IfSome result (λ l. (f : List ℕ) × (view_points text.entry ≡ f ++ l ∷ [])) }
-    ensures none { IfNone result ((f : List ℕ) (l : ℕ) → IsLead l → IsTrail (number code_point) → view_points text.entry ≡ f ++ l ∷ [] → ⊥) }
+    ensures none { IfNone result (¬ (MeetsAsPair (view_points text.entry) (number code_point ∷ []))) }
 {
-    match code_point.to_u32() {
-        0xDC00..=0xDFFF => text.final_lead_surrogate(),
-        _ => None,
+    if surrogates::is_trail(code_point.to_u32()) {
+        text.final_lead_surrogate()
+    } else {
+        None
     }
 }
 
-/// Appends a code point to well-formed bytes, a trail surrogate behind a lead as the code point that the two stand for.
+/// Appends a code point that joins nothing: it is no trail surrogate, or no lead ends the bytes.
 #[inline(always)]
-pub(crate) fn push_point<A: Allocator>(
+pub(crate) fn push_apart<A: Allocator>(
+    bytes: &mut Vec<u8, A>,
+    code_point: CodePoint,
+) -> Result<(), AllocError>
+    requires well_formed { IsWellFormed bytes.old.items }
+    requires apart { (h : IsWellFormed bytes.old.items) → ¬ (MeetsAsPair h.points (number code_point ∷ [])) }
+    ensures ok { OnOk result (GainsUnits bytes.old.items bytes.new.items (units_of (number code_point))) }
+    ensures err { OnErr result (bytes.new.items ≡ bytes.old.items) }
+    ensures room { FitsUnits bytes.old.items (units_of (number code_point)) (vec_capacity bytes.old) → IsOk result }
+    ensures capacity { vec_capacity bytes.old ≤ vec_capacity bytes.new }
+{
+    encoding::append(bytes, code_point)
+}
+
+/// Appends a surrogate to well-formed bytes, a trail behind a lead as the code point that the two stand for.
+#[inline(always)]
+pub(crate) fn push_surrogate<A: Allocator>(
     bytes: &mut Vec<u8, A>,
     code_point: CodePoint,
 ) -> Result<(), AllocError>
@@ -58,7 +77,7 @@ pub(crate) fn push_point<A: Allocator>(
     let text = Wtf8::from_well_formed(bytes.as_slice());
     match joining_lead(text, code_point) {
         Some(lead) => join(bytes, lead, code_point.to_u32()),
-        None => encoding::append(bytes, code_point),
+        None => push_apart(bytes, code_point),
     }
 }
 
@@ -77,7 +96,7 @@ fn meeting_pair(front: Wtf8<'_>, back: Wtf8<'_>) -> Option<(u32, u32)>
     ensures pair { IfSome result (λ p. IsLead p.0 × IsTrail p.1) }
     ensures last { IfSome result (λ p. (f : List ℕ) × (view_points front.entry ≡ f ++ p.0 ∷ [])) }
     ensures first { IfSome result (λ p. (r : List ℕ) × (view_points back.entry ≡ p.1 ∷ r)) }
-    ensures none { IfNone result ((f r : List ℕ) (l t : ℕ) → IsLead l → IsTrail t → view_points front.entry ≡ f ++ l ∷ [] → view_points back.entry ≡ t ∷ r → ⊥) }
+    ensures none { IfNone result (¬ (MeetsAsPair (view_points front.entry) (view_points back.entry))) }
 {
     let trail = back.initial_trail_surrogate()?;
     let lead = front.final_lead_surrogate()?;
@@ -134,7 +153,7 @@ pub(crate) fn push_scalar<A: Allocator>(bytes: &mut Vec<u8, A>, c: char) -> Resu
     ensures room { FitsUnits bytes.old.items (units_of c) (vec_capacity bytes.old) → IsOk result }
     ensures capacity { vec_capacity bytes.old ≤ vec_capacity bytes.new }
 {
-    encoding::append(bytes, CodePoint::from_u32_unchecked(u32::from(c)))
+    push_apart(bytes, CodePoint::from_u32_unchecked(u32::from(c)))
 }
 
 /// Appends a text, none of whose characters joins anything.

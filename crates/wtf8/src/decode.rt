@@ -8,7 +8,7 @@ ghost use Rattle.wtf8.specs.Unicode.{IsLead, IsTrail, IsSurrogate, pair};
 ghost use Rattle.wtf8.specs.UnitParts.{AppendsForm};
 
 use crate::code_point::CodePoint;
-use crate::encoding;
+use crate::{encoding, surrogates};
 use std::alloc::{AllocError, Allocator};
 use std::iter::Ahead;
 
@@ -40,7 +40,7 @@ pub(crate) struct DecodeUtf16<I> {
 fn is_trail(unit: &u16) -> bool
     ensures { IsTrue result ↔ IsTrail unit.now }
 {
-    0xDC00 <= *unit && *unit <= 0xDFFF
+    surrogates::is_trail(u32::from(*unit))
 }
 
 /// The character of a unit that is no surrogate.
@@ -57,8 +57,8 @@ fn joined(lead: u16, trail: u16) -> char
     requires trail { IsTrail trail }
     ensures { result ≡ pair lead trail }
 {
-    let offset = (u32::from(lead) - 0xD800) * 0x400 + (u32::from(trail) - 0xDC00);
-    unsafe { char::from_u32_unchecked(0x10000 + offset) }
+    let value = surrogates::joined(u32::from(lead), u32::from(trail));
+    unsafe { char::from_u32_unchecked(value) }
 }
 
 impl<I: Iterator<Item = u16>> Iterator for DecodeUtf16<I> {
@@ -72,14 +72,16 @@ impl<I: Iterator<Item = u16>> Iterator for DecodeUtf16<I> {
 
     fn next(&mut self) -> Option<Result<char, u16>> {
         let unit = self.units.next()?;
-        match unit {
-            0xD800..=0xDBFF => match self.units.next_if(is_trail) {
+        if surrogates::is_lead(u32::from(unit)) {
+            return match self.units.next_if(is_trail) {
                 Some(trail) => Some(Ok(joined(unit, trail))),
                 None => Some(Err(unit)),
-            },
-            0xDC00..=0xDFFF => Some(Err(unit)),
-            _ => Some(Ok(single(unit))),
+            };
         }
+        if is_trail(&unit) {
+            return Some(Err(unit));
+        }
+        Some(Ok(single(unit)))
     }
 
     fn size_hint(&self) -> (usize, Option<usize>) {

@@ -3,7 +3,8 @@ ghost use Rattle.std.specs.List.{flat_map};
 ghost use Rattle.std.specs.Prelude.{◌≡◌, [], ◌++◌, ◌+◌, ◌*◌, ◌<◌, ◌≤◌, length, map, take, vec_len, vec_capacity, IfOk, OnOk, OnErr, IsOk};
 ghost use Rattle.std.specs.Simd.Lanes.{Each1};
 ghost use Rattle.std.specs.String.{string_bytes};
-ghost use Rattle.wtf8.specs.Hex.{digit, hex_of, spaced, hex};
+ghost use Rattle.wtf8.specs.Hex.{digit, hex_of, hex};
+ghost use Rattle.wtf8.specs.SpacedHex.{spaced};
 
 use std::alloc::{AllocError, Allocator};
 use std::simd::prelude::*;

@@ -1,24 +1,33 @@
 // The encoding of one code point: written at the end of bytes, and read from their front.
-ghost use Rattle.std.specs.Prelude.{◌≡◌, ℕ, List, ◌++◌, ◌+◌, ◌<◌, ◌≤◌, ◌↔◌, ◌⊎◌, IsTrue, length, OnOk, OnErr, IsOk, vec_len, vec_capacity};
+ghost use Rattle.std.specs.Prelude.{◌≡◌, ℕ, List, ◌++◌, ◌+◌, ◌-◌, ◌*◌, ◌%◌, ◌<◌, ◌≤◌, ◌↔◌, ◌⊎◌, IsTrue, length, OnOk, OnErr, IsOk, vec_len, vec_capacity};
 ghost use Rattle.wtf8.specs.CodePoint.{number};
-ghost use Rattle.wtf8.specs.Form.{encoding, BeginsWithPoint};
+ghost use Rattle.wtf8.specs.Form.{encoding};
+ghost use Rattle.wtf8.specs.Gains.{BeginsWithPoint};
 ghost use Rattle.wtf8.specs.Unicode.{IsCodePoint};
 
 use crate::code_point::CodePoint;
 use std::alloc::{AllocError, Allocator};
 
+/// The byte of the last six bits of a number, as each byte behind a first one is.
+#[inline(always)]
+fn six_bits(value: u32) -> u8
+    ensures { result ≡ 0x80 + value % 64 }
+{
+    (0x80 + value % 64) as u8
+}
+
 /// The two bytes of a code point from 0x80 to 0x7FF.
-#[tactic(auto, using(crate::proofs::EncodingLemmas::encoding_two))]
+#[tactic(auto, using(crate::proofs::lemmas::Encoding::encoding_two))]
 fn two_bytes(value: u32) -> [u8; 2]
     requires low { 0x80 ≤ value }
     requires high { value < 0x800 }
     ensures { result ≡ encoding value }
 {
-    [(0xC0 + value / 64) as u8, (0x80 + value % 64) as u8]
+    [(0xC0 + value / 64) as u8, six_bits(value)]
 }
 
 /// The three bytes of a code point from 0x800 to 0xFFFF, a surrogate like any other.
-#[tactic(auto, using(crate::proofs::EncodingLemmas::encoding_three))]
+#[tactic(auto, using(crate::proofs::lemmas::Encoding::encoding_three))]
 pub(crate) fn three_bytes(value: u32) -> [u8; 3]
     requires low { 0x800 ≤ value }
     requires high { value < 0x10000 }
@@ -26,13 +35,13 @@ pub(crate) fn three_bytes(value: u32) -> [u8; 3]
 {
     [
         (0xE0 + value / 4096) as u8,
-        (0x80 + value / 64 % 64) as u8,
-        (0x80 + value % 64) as u8,
+        six_bits(value / 64),
+        six_bits(value),
     ]
 }
 
 /// The four bytes of a supplementary code point.
-#[tactic(auto, using(crate::proofs::EncodingLemmas::encoding_four))]
+#[tactic(auto, using(crate::proofs::lemmas::Encoding::encoding_four))]
 pub(crate) fn four_bytes(value: u32) -> [u8; 4]
     requires low { 0x10000 ≤ value }
     requires high { IsCodePoint value }
@@ -40,15 +49,15 @@ pub(crate) fn four_bytes(value: u32) -> [u8; 4]
 {
     [
         (0xF0 + value / 262144) as u8,
-        (0x80 + value / 4096 % 64) as u8,
-        (0x80 + value / 64 % 64) as u8,
-        (0x80 + value % 64) as u8,
+        six_bits(value / 4096),
+        six_bits(value / 64),
+        six_bits(value),
     ]
 }
 
 /// Appends the encoding of a code point, whatever stands before it. After a refusal the bytes are as before.
 #[inline(always)]
-#[tactic(auto, using(crate::proofs::EncodingLemmas::encoding_one))]
+#[tactic(auto, using(crate::proofs::lemmas::Encoding::encoding_one))]
 pub(crate) fn append<A: Allocator>(
     bytes: &mut Vec<u8, A>,
     code_point: CodePoint,
@@ -99,6 +108,19 @@ fn low_bits(byte: u8) -> u32
     u32::from(byte - 0x80)
 }
 
+/// The number that three bytes stand for, the first of which is from 0xE0 to 0xEF.
+#[inline(always)]
+pub(crate) fn three_byte_number(first: u32, second: u8, third: u8) -> u32
+    requires least { 0xE0 ≤ first }
+    requires most { first < 0xF0 }
+    requires second { 0x80 ≤ second }
+    requires third { 0x80 ≤ third }
+    ensures { result ≡ ((first - 0xE0) * 64 + (second - 0x80)) * 64 + (third - 0x80) }
+{
+    let high = (first - 0xE0) * 64 + low_bits(second);
+    high * 64 + low_bits(third)
+}
+
 /// The number of the code point at the front of the bytes, and how many bytes it takes.
 fn read_number(bytes: &[u8]) -> (u32, usize)
     requires { BeginsWithPoint bytes.now }
@@ -110,8 +132,7 @@ fn read_number(bytes: &[u8]) -> (u32, usize)
     } else if first < 0xE0 {
         ((first - 0xC0) * 64 + low_bits(bytes[1]), 2)
     } else if first < 0xF0 {
-        let high = (first - 0xE0) * 64 + low_bits(bytes[1]);
-        (high * 64 + low_bits(bytes[2]), 3)
+        (three_byte_number(first, bytes[1], bytes[2]), 3)
     } else {
         let high = (first - 0xF0) * 64 + low_bits(bytes[1]);
         let middle = high * 64 + low_bits(bytes[2]);

@@ -99,7 +99,8 @@ impl<'a> Model for IllFormedUtf16CodeUnits<'a> {
 impl<'a> IllFormedUtf16CodeUnits<'a> {
     ghost use Rattle.std.specs.Prelude.{◌≡◌, []};
     ghost use Rattle.std.specs.Iterator.{YieldsFirst};
-    ghost use Rattle.wtf8.specs.Units.{unread_units, unread_after};
+    ghost use Rattle.wtf8.specs.Units.{unread_units};
+    ghost use Rattle.wtf8.specs.UnitSteps.{unread_after};
     ghost use Rattle.wtf8.specs.View.{view_points};
 
     pub(crate) fn new(text: Wtf8<'a>) -> IllFormedUtf16CodeUnits<'a>

@@ -15,6 +15,7 @@ mod encoding;
 mod iters;
 pub mod laws;
 mod search;
+mod surrogates;
 mod unit_blocks;
 mod unit_order;
 mod unit_positions;

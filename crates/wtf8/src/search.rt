@@ -1,7 +1,8 @@
 // The search for surrogates in bytes, and their replacement.
 ghost use Rattle.std.specs.Prelude.{◌≡◌, ◌∷◌, ◌++◌, ◌+◌, ◌≤◌, length, take, drop};
 ghost use Rattle.wtf8.specs.Form.{IsWellFormed, bytes as bytes_of};
-ghost use Rattle.wtf8.specs.Surrogates.{IsFirstSurrogate, IsFirstLane, lossy};
+ghost use Rattle.wtf8.specs.SurrogateSearch.{IsFirst, IsSurrogateLane, SurrogateAt};
+ghost use Rattle.wtf8.specs.Surrogates.{lossy};
 
 use std::alloc::Allocator;
 use std::simd::prelude::*;
@@ -14,7 +15,7 @@ const LANES: usize = 32;
 
 /// The place of the first surrogate that begins at `from` or behind it, in any bytes.
 pub(crate) fn first_surrogate(bytes: &[u8], from: usize) -> Option<usize>
-    ensures { IsFirstSurrogate bytes.now from result }
+    ensures { IsFirst (SurrogateAt bytes.now) from result }
 {
     // Short bytes begin no block.
     if bytes.len() <= LANES {
@@ -35,7 +36,7 @@ pub(crate) fn first_surrogate(bytes: &[u8], from: usize) -> Option<usize>
 /// The first lane of a block in which the two vectors hold the first and the second byte of a surrogate.
 #[inline(always)]
 fn block(firsts: u8x32, seconds: u8x32) -> Option<usize>
-    ensures { IsFirstLane firsts seconds result }
+    ensures { IsFirst (IsSurrogateLane firsts seconds) 0 result }
 {
     let leads = firsts.simd_eq(u8x32::splat(0xED));
     let both = leads & seconds.simd_ge(u8x32::splat(0xA0));
@@ -49,7 +50,7 @@ fn block(firsts: u8x32, seconds: u8x32) -> Option<usize>
 /// The same search, one place at a time.
 #[inline(always)]
 fn first_surrogate_in_rest(bytes: &[u8], from: usize) -> Option<usize>
-    ensures { IsFirstSurrogate bytes.now from result }
+    ensures { IsFirst (SurrogateAt bytes.now) from result }
 {
     for index in from..bytes.len().saturating_sub(1) {
         if bytes[index] == 0xED && 0xA0 <= bytes[index + 1] {

@@ -1,7 +1,7 @@
 // Code units turned into bytes: sixteen of ASCII or eight of three bytes together, any others one after another.
 ghost use Rattle.std.specs.Prelude.{◌≡◌, List, [], ◌<◌, ◌≤◌, length, take, IfOk, IfSome, IsOk, IsTrue};
-ghost use Rattle.std.specs.List.{flat_map};
-ghost use Rattle.wtf8.specs.UnitParts.{IsKnownForm, DividesNoPair, AreAscii, AreThreeByteUnits, IsBlock, three_byte_row};
+ghost use Rattle.wtf8.specs.Form.{bytes as bytes_of};
+ghost use Rattle.wtf8.specs.UnitParts.{IsKnownForm, DividesNoPair, AreAscii, AreThreeByteUnits, IsBlock};
 
 use crate::decode;
 use std::alloc::{AllocError, Allocator};
@@ -69,10 +69,11 @@ fn take_three_bytes(units: u16x8) -> bool
     (low | surrogates).to_bitmask() == 0
 }
 
-/// Three bytes for each of eight units, as those have them that take three, and eight more bytes behind these.
+/// The bytes of eight units that take three each, and eight more bytes behind these.
 #[inline(always)]
 fn three_bytes_each(units: [u16; 8]) -> [u8; 32]
-    ensures { take 24 result ≡ flat_map three_byte_row units }
+    requires { AreThreeByteUnits units }
+    ensures { take 24 result ≡ bytes_of units }
 {
     let [a, b, c, d, e, f, g, h] = units;
     let units = u16x8::from_array([a, b, c, d, e, f, g, h]);

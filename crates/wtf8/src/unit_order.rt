@@ -2,7 +2,8 @@
 ghost use Rattle.std.specs.Cmp.Lexicographic.{slice_cmp};
 ghost use Rattle.std.specs.Ordering.{MatchOrdering, nat_cmp};
 ghost use Rattle.std.specs.Prelude.{◌≡◌, ◌↔◌, ◌≤◌, length, take, slice_get, IsTrue};
-ghost use Rattle.wtf8.specs.Order.{Before, IsFirstDifference, PairBegins};
+ghost use Rattle.wtf8.specs.Order.{Before};
+ghost use Rattle.wtf8.specs.Differences.{IsFirstDifference, PairBegins};
 ghost use Rattle.wtf8.specs.View.{view_units};
 
 use crate::view::Wtf8;

@@ -3,10 +3,12 @@ ghost use Rattle.std.specs.Prelude.{◌≡◌, ◌++◌, ◌+◌, ◌-◌, ◌/�
 ghost use Rattle.std.specs.Option.{option_to_list};
 ghost use Rattle.wtf8.specs.Form.{encoding};
 ghost use Rattle.wtf8.specs.Unicode.{IsLead};
-ghost use Rattle.wtf8.specs.UnitPosition.{units_begun, all_units_begun, IsPlaceOfUnit, CutsUnits, units_of_slice};
+ghost use Rattle.wtf8.specs.UnitCounts.{units_begun, all_units_begun, IsPlaceOfUnit, CutsUnits};
+ghost use Rattle.wtf8.specs.UnitPosition.{units_of_slice};
 ghost use Rattle.wtf8.specs.View.{view_points, view_units};
 
 use crate::encoding;
+use crate::surrogates::{lead_of, trail_of};
 use crate::view::Wtf8;
 use std::alloc::Allocator;
 use std::simd::prelude::*;
@@ -113,22 +115,6 @@ pub(crate) fn cut(text: Wtf8<'_>, n: usize) -> Option<UnitCut>
         position: place.at,
         divided: Some(code_point.to_u32()),
     })
-}
-
-/// The lead of the pair that a supplementary code point is.
-pub(crate) fn lead_of(value: u32) -> u32
-    requires supplementary { 0x10000 ≤ value }
-    ensures { result ≡ 0xD800 + (value - 0x10000) / 0x400 }
-{
-    0xD800 + (value - 0x10000) / 0x400
-}
-
-/// The trail of the pair that a supplementary code point is.
-fn trail_of(value: u32) -> u32
-    requires supplementary { 0x10000 ≤ value }
-    ensures { result ≡ 0xDC00 + (value - 0x10000) % 0x400 }
-{
-    0xDC00 + (value - 0x10000) % 0x400
 }
 
 /// Keeps the bytes before a place, and writes the bytes of a lead surrogate over the three behind it.

@@ -13,7 +13,7 @@ ghost use Rattle.wtf8.specs.Units.{unread_units};
 
 use crate::code_point::CodePoint;
 use crate::iters::{IllFormedUtf16CodeUnits, Wtf8CodePoints};
-use crate::{digits, encoding, search};
+use crate::{digits, encoding, search, surrogates};
 use std::alloc::{AllocError, Allocator};
 use std::borrow::CowStr;
 
@@ -247,19 +247,14 @@ impl<'a> Wtf8<'a> {
         ensures last { IfSome result (λ l. (f : List ℕ) × (view_points self.now ≡ f ++ l ∷ [])) }
         ensures none { IfNone result ((f : List ℕ) (l : ℕ) → IsLead l → view_points self.now ≡ f ++ l ∷ [] → ⊥) }
     {
-        let len = self.bytes.len();
-        if len < 3 {
-            return None;
-        }
-        let first = self.bytes[len - 3];
-        let second = u32::from(self.bytes[len - 2]);
-        let third = u32::from(self.bytes[len - 1]);
-        if first == 0xED && 0xA0 <= second && second <= 0xAF {
-            Some(0xD000 + (second - 0x80) * 64 + (third - 0x80))
-        } else {
-            None
+        match self.bytes {
+            [.., 0xED, second @ 0xA0..=0xAF, third] => {
+                Some(encoding::three_byte_number(0xED, *second, *third))
+            }
+            _ => None,
         }
     }
+
     /// The number of the trail surrogate that begins the string, if one does.
     pub(crate) fn initial_trail_surrogate(self) -> Option<u32>
         ensures trail { IfSome result (λ t. IsTrail t) }
@@ -269,9 +264,11 @@ impl<'a> Wtf8<'a> {
         let Some((code_point, _)) = self.split_first() else {
             return None;
         };
-        match code_point.to_u32() {
-            0xDC00..=0xDFFF => Some(code_point.to_u32()),
-            _ => None,
+        let value = code_point.to_u32();
+        if surrogates::is_trail(value) {
+            Some(value)
+        } else {
+            None
         }
     }
 }

@@ -8,7 +8,7 @@ use Rattle.wtf8.specs.declared.build.Build.{Build}
 use Rattle.wtf8.specs.declared.build.Build.TheVariants.{Push, PushChar, PushStr, PushWtf8, Extend, Reserve, Truncate, TruncateUnits}
 use Rattle.wtf8_dump.specs.Lines.{words}
 use Rattle.wtf8_dump.specs.Word.{IsCall}
-use Rattle.wtf8.proofs.RunLaws.{runs_add}
+use Rattle.wtf8.proofs.lemmas.RunLaws.{runs_add}
 use Rattle.wtf8_dump.proofs.Answering.{AllZip-one_more}
 
 -- one call refuses at most one

@@ -1,5 +1,6 @@
 use Rattle.std.proofs.Common.{arith, ap, ◌∙◌, length, ◌≡◌, ◌+◌}
-use Rattle.wtf8.proofs.Gaining.{no_err, length-joined}
+use Rattle.wtf8.proofs.lemmas.Forms.{length-joined}
+use Rattle.wtf8.proofs.lemmas.Gains.{no_err}
 use Rattle.wtf8.proofs.concat.join_bytes.Goals as goal
 
 pub returns-clause-err : goal.returns-clause-err

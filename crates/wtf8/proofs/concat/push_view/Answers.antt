@@ -1,45 +1,68 @@
-use Rattle.std.proofs.Common.{◌∙◌, sym, subst, arith, length-append}
+use Rattle.std.proofs.Common.{◌∙◌, ◌≡◌, ◌+◌, ◌≤◌, ◌++◌, ◌∷◌, [], List, ℕ, length, refl, sym, subst, arith, length-append}
 use Rattle.std.proofs.lemmas.Result.{on_ok_weaker}
-use Rattle.wtf8.specs.Form.{GainsUnits}
-use Rattle.wtf8.specs.Unicode.{units}
-use Rattle.wtf8.proofs.Readings.{same_points}
-use Rattle.wtf8.proofs.Gaining.{gains-appended, gains-joined_bytes, length-joined_bytes, fits_length, lead_bytes, behind_trail}
+use Rattle.wtf8.specs.Concatenation.{MeetsAsPair}
+use Rattle.wtf8.specs.Gains.{GainsUnits}
+use Rattle.wtf8.specs.Form.{IsWellFormed}
+use Rattle.wtf8.specs.Unicode.{units, IsLead, IsTrail}
+use Rattle.wtf8.proofs.lemmas.Forms.{paired_bytes, meeting_bytes, length-paired_bytes}
+use Rattle.wtf8.proofs.lemmas.Gains.{gains_meeting, gains_behind, fits_length}
+use Rattle.wtf8.proofs.lemmas.Meeting.{meets_by, meets_same}
+use Rattle.wtf8.proofs.lemmas.Readings.{same_points}
 use Rattle.wtf8.proofs.concat.push_view.Goals as goal
+
+-- what is gained where the view of the bytes meets the other, and where it does not
+record Paired (w v : List ℕ) (l t : ℕ) (u : List ℕ) : Type 0 where
+  three : 3 ≤ length w
+  three_behind : 3 ≤ length v
+  gains : GainsUnits w (paired_bytes w l t v) u
+  shorter : length (paired_bytes w l t v) + 2 ≡ length w + length v
+
+paired_here : {w v x : List ℕ} (h : IsWellFormed w) (i : IsWellFormed x) (k : IsWellFormed v) → x ≡ w → (l t : ℕ) → IsLead l × IsTrail t → (f : List ℕ) × (i.points ≡ f ++ l ∷ []) → (r : List ℕ) × (k.points ≡ t ∷ r) → Paired w v l t (units k.points)
+paired_here {w} {v} h i k e l t both last first =
+    let m : MeetsAsPair h.points k.points = meets_by last.0 first.0 l t both.0 both.1 (same_points h i (sym e) ∙ last.1) first.1 in
+    let s = meeting_bytes m h.encoded k.encoded in
+    record { three = s.three; three_behind = s.three_behind; gains = gains_meeting h k m; shorter = length-paired_bytes w v l t both.0 both.1 s.three s.three_behind }
+
+gains_here : {w v x : List ℕ} (h : IsWellFormed w) (i : IsWellFormed x) (k : IsWellFormed v) → x ≡ w → ¬ (MeetsAsPair i.points k.points) → GainsUnits w (w ++ v) (units k.points)
+gains_here h i k e apart = gains_behind h k (λ m. apart (meets_same m (same_points i h e) refl))
 
 pub from_well_formed-text-requires : goal.from_well_formed-text-requires
 from_well_formed-text-requires g c = rw c.as_slice.ensures.value c.requires
 
 pub join_bytes-requires-clause-three : goal.join_bytes-requires-clause-three
 join_bytes-requires-clause-three g c =
-    let text = same_points c.requires c.from_well_formed-text.result.well_formed (sym (c.from_well_formed-text.ensures.bytes ∙ c.as_slice.ensures.value)) in
-    (lead_bytes c.requires c.in-Some.ensures.last.0 c.in-Some.lead c.in-Some.ensures.pair.0 (text ∙ c.in-Some.ensures.last.1)).enough
+    let text = c.from_well_formed-text in
+    let met = c.in-Some.ensures in
+    (paired_here c.requires text.result.well_formed c.args.other.well_formed (text.ensures.bytes ∙ c.as_slice.ensures.value) c.in-Some.lead c.in-Some.trail met.pair met.last met.first).three
 
 pub join_bytes-requires-clause-other_three : goal.join_bytes-requires-clause-other_three
 join_bytes-requires-clause-other_three g c =
-    (behind_trail c.args.other.well_formed c.in-Some.trail c.in-Some.ensures.first.0 c.in-Some.ensures.pair.1 c.in-Some.ensures.first.1).enough
+    let text = c.from_well_formed-text in
+    let met = c.in-Some.ensures in
+    (paired_here c.requires text.result.well_formed c.args.other.well_formed (text.ensures.bytes ∙ c.as_slice.ensures.value) c.in-Some.lead c.in-Some.trail met.pair met.last met.first).three_behind
 
 pub returns-in-Some-clause-ok : goal.returns-in-Some-clause-ok
 returns-in-Some-clause-ok g c =
-    let text = same_points c.requires c.from_well_formed-text.result.well_formed (sym (c.from_well_formed-text.ensures.bytes ∙ c.as_slice.ensures.value)) in
-    let gains = gains-joined_bytes c.requires c.args.other.well_formed c.in-Some.ensures.last.0 c.in-Some.ensures.first.0 c.in-Some.lead c.in-Some.trail c.in-Some.ensures.pair.0 c.in-Some.ensures.pair.1 (text ∙ c.in-Some.ensures.last.1) c.in-Some.ensures.first.1 in
-    on_ok_weaker c.join_bytes.result (λ e. subst (λ w. GainsUnits c.args.bytes.now.items w (units c.args.other.well_formed.points)) (sym e) gains) c.join_bytes.ensures.ok
+    let text = c.from_well_formed-text in
+    let met = c.in-Some.ensures in
+    let x = paired_here c.requires text.result.well_formed c.args.other.well_formed (text.ensures.bytes ∙ c.as_slice.ensures.value) c.in-Some.lead c.in-Some.trail met.pair met.last met.first in
+    on_ok_weaker c.join_bytes.result (λ e. subst (λ w. GainsUnits c.args.bytes.now.items w (units c.args.other.well_formed.points)) (sym e) x.gains) c.join_bytes.ensures.ok
 
 pub returns-in-Some-clause-room : goal.returns-in-Some-clause-room
 returns-in-Some-clause-room g c fit =
-    let text = same_points c.requires c.from_well_formed-text.result.well_formed (sym (c.from_well_formed-text.ensures.bytes ∙ c.as_slice.ensures.value)) in
-    let gains = gains-joined_bytes c.requires c.args.other.well_formed c.in-Some.ensures.last.0 c.in-Some.ensures.first.0 c.in-Some.lead c.in-Some.trail c.in-Some.ensures.pair.0 c.in-Some.ensures.pair.1 (text ∙ c.in-Some.ensures.last.1) c.in-Some.ensures.first.1 in
-    let three = (lead_bytes c.requires c.in-Some.ensures.last.0 c.in-Some.lead c.in-Some.ensures.pair.0 (text ∙ c.in-Some.ensures.last.1)).enough in
-    let other_three = (behind_trail c.args.other.well_formed c.in-Some.trail c.in-Some.ensures.first.0 c.in-Some.ensures.pair.1 c.in-Some.ensures.first.1).enough in
-    c.join_bytes.ensures.room (omega (arith, fits_length gains fit, length-joined_bytes c.args.bytes.now.items c.args.other.bytes.now c.in-Some.lead c.in-Some.trail c.in-Some.ensures.pair.0 c.in-Some.ensures.pair.1 three other_three))
+    let text = c.from_well_formed-text in
+    let met = c.in-Some.ensures in
+    let x = paired_here c.requires text.result.well_formed c.args.other.well_formed (text.ensures.bytes ∙ c.as_slice.ensures.value) c.in-Some.lead c.in-Some.trail met.pair met.last met.first in
+    c.join_bytes.ensures.room (omega (arith, fits_length x.gains fit, x.shorter))
 
 pub returns-in-None-clause-ok : goal.returns-in-None-clause-ok
 returns-in-None-clause-ok g c =
-    let text = same_points c.requires c.from_well_formed-text.result.well_formed (sym (c.from_well_formed-text.ensures.bytes ∙ c.as_slice.ensures.value)) in
-    let gains = gains-appended c.requires c.args.other.well_formed (record { apart = λ f r l t e d p. c.in-None.ensures.none f r l t p.0 p.1 (sym text ∙ e) d }) in
+    let text = c.from_well_formed-text in
+    let gains = gains_here c.requires text.result.well_formed c.args.other.well_formed (text.ensures.bytes ∙ c.as_slice.ensures.value) c.in-None.ensures.none in
     on_ok_weaker c.append_bytes.result (λ e. subst (λ w. GainsUnits c.args.bytes.now.items w (units c.args.other.well_formed.points)) (sym e) gains) c.append_bytes.ensures.ok
 
 pub returns-in-None-clause-room : goal.returns-in-None-clause-room
 returns-in-None-clause-room g c fit =
-    let text = same_points c.requires c.from_well_formed-text.result.well_formed (sym (c.from_well_formed-text.ensures.bytes ∙ c.as_slice.ensures.value)) in
-    let gains = gains-appended c.requires c.args.other.well_formed (record { apart = λ f r l t e d p. c.in-None.ensures.none f r l t p.0 p.1 (sym text ∙ e) d }) in
+    let text = c.from_well_formed-text in
+    let gains = gains_here c.requires text.result.well_formed c.args.other.well_formed (text.ensures.bytes ∙ c.as_slice.ensures.value) c.in-None.ensures.none in
     c.append_bytes.ensures.room (omega (arith, fits_length gains fit, length-append c.args.bytes.now.items c.args.other.bytes.now))

@@ -1,7 +1,7 @@
 use Rattle.std.proofs.Common.{refl, ap, length, arith}
 use Rattle.std.specs.List.{flat_map}
 use Rattle.wtf8.specs.Debug.{shown}
-use Rattle.wtf8.proofs.DebugLemmas.{begun, continued, ended}
+use Rattle.wtf8.proofs.lemmas.DebugTexts.{begun, continued, ended}
 use Rattle.wtf8.proofs.debug_text.write_points.Goals as goal
 
 pub loop-code_point-init : goal.loop-code_point-init

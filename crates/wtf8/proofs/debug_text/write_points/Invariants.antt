@@ -2,7 +2,7 @@ use Rattle.std.proofs.Common.{length}
 use Rattle.std.specs.Fmt.{IsFlush}
 use Rattle.std.specs.List.{flat_map}
 use Rattle.wtf8.specs.Debug.{shown}
-use Rattle.wtf8.proofs.DebugLemmas.{Continues}
+use Rattle.wtf8.proofs.lemmas.DebugTexts.{Continues}
 use Rattle.wtf8.proofs.debug_text.write_points.Given as goal
 
 abbrev pub invariant-loop-code_point : goal.invariant-loop-code_point

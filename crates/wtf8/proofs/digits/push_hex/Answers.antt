@@ -1,7 +1,8 @@
 use Rattle.std.proofs.Common.{◌≡◌, ◌++◌, ◌∷◌, sym, ap, ◌∙◌, arith, append_assoc, flat_map, rules}
 use Rattle.std.proofs.lemmas.List.{take_rest}
-use Rattle.wtf8.specs.Hex.{spaced, hex, hex_of}
-use Rattle.wtf8.proofs.HexLanes.{more_spaced, all_spaced}
+use Rattle.wtf8.specs.SpacedHex.{spaced}
+use Rattle.wtf8.specs.Hex.{hex, hex_of}
+use Rattle.wtf8.proofs.lemmas.HexLanes.{more_spaced, all_spaced}
 use Rattle.wtf8.proofs.digits.push_hex.Goals as goal
 
 pub loop-at-preserved : goal.loop-at-preserved

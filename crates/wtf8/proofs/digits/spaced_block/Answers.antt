@@ -1,4 +1,4 @@
-use Rattle.wtf8.proofs.HexLanes.{highs_below, lows_below, block_text}
+use Rattle.wtf8.proofs.lemmas.HexLanes.{highs_below, lows_below, block_text}
 use Rattle.wtf8.proofs.digits.spaced_block.Goals as goal
 
 pub upper_digits-high-requires : goal.upper_digits-high-requires

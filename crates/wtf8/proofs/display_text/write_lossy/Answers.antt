@@ -2,8 +2,8 @@ use Rattle.std.proofs.Common.{◌≡◌, ◌++◌, ◌∷◌, IfSome, refl, subs
 use Rattle.wtf8.specs.Form.{bytes}
 use Rattle.wtf8.specs.Surrogates.{lossy}
 use Rattle.wtf8.specs.View.{view_points}
-use Rattle.wtf8.proofs.DebugLemmas.{continued, written_as}
-use Rattle.wtf8.proofs.EncodingLemmas.{encoding_three}
+use Rattle.wtf8.proofs.lemmas.DebugTexts.{continued, written_as}
+use Rattle.wtf8.proofs.lemmas.Encoding.{encoding_three}
 use Rattle.wtf8.proofs.display_text.write_lossy.Goals as goal
 
 pub loop-next-preserved : goal.loop-next-preserved

@@ -1,6 +1,6 @@
 use Rattle.std.proofs.Common.{◌++◌, ◌∙◌, ap, arith, drop, inl, inr, take-append-drop}
-use Rattle.wtf8.proofs.Gluing.{glue_assoc, glue-nil}
-use Rattle.wtf8.proofs.LawLemmas.{front_and_back}
+use Rattle.wtf8.proofs.lemmas.Concatenation.{glue_assoc, glue-nil}
+use Rattle.wtf8.proofs.lemmas.PositionLaws.{front_and_back}
 use Rattle.wtf8.proofs.laws.law_append.Goals as goal
 
 pub returns-clause-associative : goal.returns-clause-associative

@@ -1,11 +1,12 @@
-use Rattle.wtf8.proofs.Gluing.{no_pair, glue_meeting, glue_apart, reads-glue, form-glue, form_paired, form_apart}
+use Rattle.wtf8.proofs.lemmas.Concatenation.{glue_meeting, glue_apart, reads-glue}
+use Rattle.wtf8.proofs.lemmas.Forms.{form-glue, form_paired, form_apart}
 use Rattle.wtf8.proofs.laws.law_concat.Goals as goal
 
 pub returns-clause-pair : goal.returns-clause-pair
 returns-clause-pair c = glue_meeting
 
 pub returns-clause-others : goal.returns-clause-others
-returns-clause-others c = λ a b n. glue_apart a b (no_pair n)
+returns-clause-others c = glue_apart
 
 pub returns-clause-reads : goal.returns-clause-reads
 returns-clause-reads c = reads-glue

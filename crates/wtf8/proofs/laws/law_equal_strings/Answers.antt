@@ -1,4 +1,4 @@
-use Rattle.wtf8.proofs.StringLaws.{equal_buffers, equal_buffer_and_view, equal_views}
+use Rattle.wtf8.proofs.lemmas.StringLaws.{equal_buffers, equal_buffer_and_view, equal_views}
 use Rattle.wtf8.proofs.laws.law_equal_strings.Goals as goal
 
 pub returns-clause-buffers : goal.returns-clause-buffers

@@ -1,5 +1,5 @@
-use Rattle.wtf8.proofs.EncodingLemmas.{length-encoding_bounds}
-use Rattle.wtf8.proofs.PositionLaws.{lengths}
+use Rattle.wtf8.proofs.lemmas.Encoding.{length-encoding_bounds}
+use Rattle.wtf8.proofs.lemmas.PositionLaws.{lengths}
 use Rattle.wtf8.proofs.laws.law_lengths.Goals as goal
 
 pub returns-clause-encoding : goal.returns-clause-encoding

@@ -1,5 +1,5 @@
-use Rattle.wtf8.proofs.PositionLaws.{beginnings, both_no_longer}
-use Rattle.wtf8.proofs.StringLaws.{room_left}
+use Rattle.wtf8.proofs.lemmas.PositionLaws.{beginnings, both_no_longer}
+use Rattle.wtf8.proofs.lemmas.StringLaws.{room_left}
 use Rattle.wtf8.proofs.laws.law_room.Goals as goal
 
 pub returns-clause-beginning : goal.returns-clause-beginning

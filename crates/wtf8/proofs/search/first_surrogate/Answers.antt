@@ -1,5 +1,5 @@
 use Rattle.std.proofs.Common.{arith}
-use Rattle.wtf8.proofs.LaneLemmas.{no_surrogate, least_surrogate}
+use Rattle.wtf8.proofs.lemmas.SurrogateLanes.{no_surrogate, least_surrogate}
 use Rattle.wtf8.proofs.search.first_surrogate.Goals as goal
 
 pub returns-in-Some : goal.returns-in-Some

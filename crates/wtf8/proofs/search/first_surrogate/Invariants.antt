@@ -1,5 +1,5 @@
 use Rattle.std.proofs.Common.{ℕ, ◌≤◌, ◌<◌, ◌-◌, length}
-use Rattle.wtf8.specs.Surrogates.{SurrogateAt}
+use Rattle.wtf8.specs.SurrogateSearch.{SurrogateAt}
 use Rattle.wtf8.proofs.search.first_surrogate.Given as goal
 
 -- none so far

@@ -1,6 +1,6 @@
 use Rattle.std.proofs.Common.{◌-◌, length}
 use Rattle.wtf8.specs.Form.{IsWellFormed}
-use Rattle.wtf8.proofs.SurrogateLemmas.{Replacing}
+use Rattle.wtf8.proofs.lemmas.Replacement.{Replacing}
 use Rattle.wtf8.proofs.search.replace_surrogates.Given as goal
 
 -- for the reading of the bytes as they were: done up to `from`

@@ -1,10 +1,11 @@
 use Rattle.std.proofs.Common.{take, ◌+◌, ◌-◌, ◌&&◌, arith, refl}
 use Rattle.std.proofs.lemmas.Bool.{and_parts}
-use Rattle.wtf8.proofs.UnitParts.{block_apart, block_form, nothing_apart, nothing_read, part_read, all_read}
+use Rattle.wtf8.proofs.lemmas.Meeting.{nothing_ends}
+use Rattle.wtf8.proofs.lemmas.UnitParts.{block_apart, block_form, nothing_read, part_read, all_read}
 use Rattle.wtf8.proofs.unit_blocks.append_units.Goals as goal
 
 pub loop-at-init : goal.loop-at-init
-loop-at-init g c = (omega arith, nothing_read _ c.requires, nothing_apart)
+loop-at-init g c = (omega arith, nothing_read _ c.requires, nothing_ends)
 
 pub loop-at-preserved-in-Some : goal.loop-at-preserved-in-Some
 loop-at-preserved-in-Some g c =

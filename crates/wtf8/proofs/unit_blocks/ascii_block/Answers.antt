@@ -1,5 +1,5 @@
 use Rattle.std.proofs.Common.{arith}
-use Rattle.wtf8.proofs.UnitParts.{ascii_block}
+use Rattle.wtf8.proofs.lemmas.UnitParts.{ascii_block}
 use Rattle.wtf8.proofs.unit_blocks.ascii_block.Goals as goal
 
 pub returns-then-is_ascii : goal.returns-then-is_ascii

@@ -1,5 +1,5 @@
 use Rattle.std.proofs.lemmas.Bool.{eqb-true}
-use Rattle.wtf8.proofs.UnitBlocks.{none_high}
+use Rattle.wtf8.proofs.lemmas.UnitBlocks.{none_high}
 use Rattle.wtf8.proofs.unit_blocks.is_ascii.Goals as goal
 
 pub returns : goal.returns

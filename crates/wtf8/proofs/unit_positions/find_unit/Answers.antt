@@ -1,5 +1,5 @@
 use Rattle.std.proofs.Common.{arith}
-use Rattle.wtf8.proofs.UnitPositions.{begun_more}
+use Rattle.wtf8.proofs.lemmas.UnitPositions.{begun_more}
 use Rattle.wtf8.proofs.unit_positions.find_unit.Goals as goal
 
 pub loop-at-preserved : goal.loop-at-preserved

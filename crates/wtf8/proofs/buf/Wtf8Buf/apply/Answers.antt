@@ -1,7 +1,7 @@
 use Rattle.std.proofs.Common.{length, ap, subst, arith}
 use Rattle.std.proofs.lemmas.Bool.{false≢true}
 use Rattle.wtf8.specs.Form.{IsForm}
-use Rattle.wtf8.proofs.OneReading.{same_form}
+use Rattle.wtf8.proofs.lemmas.Readings.{same_form}
 use Rattle.wtf8.proofs.buf.Wtf8Buf.apply.Goals as goal
 
 pub returns-in_err-reserve-in-Reserve-clause-found : goal.returns-in_err-reserve-in-Reserve-clause-found

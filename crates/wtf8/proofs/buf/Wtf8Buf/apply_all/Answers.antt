@@ -1,10 +1,11 @@
-use Rattle.std.proofs.Common.{◌≡◌, ◌≤◌, ◌<◌, ◌+◌, ◌++◌, ◌∷◌, [], ◌∙◌, length, take, drop, cond, arith, ap, sym, subst, inl, inr}
+use Rattle.std.proofs.Common.{◌≡◌, ◌≤◌, ◌<◌, ◌+◌, ◌++◌, ◌∷◌, [], ◌∙◌, length, take, drop, cond, arith, ap, sym, subst, inl, inr, append_assoc}
 use Rattle.std.proofs.lemmas.Bool.{false≢true, cases_lt}
 use Rattle.std.proofs.lemmas.List.{append-nil}
 use Rattle.wtf8.specs.Building.{Run, Append, FindRoom}
-use Rattle.wtf8.proofs.Rooms.{Found, found_more, wider}
+use Rattle.wtf8.proofs.lemmas.Lists.{item_at, items_more}
+use Rattle.wtf8.proofs.lemmas.Room.{Found, found_more, wider, beginning}
+use Rattle.wtf8.proofs.lemmas.Runs.{run_more, step_appends, no_truncation, call_among, at_some, counted, not_counted, among}
 use Rattle.wtf8.specs.Form.{IsForm}
-use Rattle.wtf8.proofs.Runs.{run_more, step_appends, no_truncation, beginning, calls_at, calls_more, call_among, at_some, counted, not_counted, among}
 use Rattle.wtf8.proofs.buf.Wtf8Buf.apply_all.Goals as goal
 use Rattle.wtf8.proofs.buf.Wtf8Buf.apply_all.Goals.{then-not-kept, else-not-kept}
 
@@ -15,8 +16,8 @@ returns-in_default-clause-room g c v all fit =
     let call = c.index-calls-done.result in
     let below : i < length calls = omega arith in
     let inv = c.loop-done.invariant.appended in
-    let m = among c.args.self.now.units (take i calls) call (drop (i + 1) calls) v c.loop-done.self.units (λ a x. (inv a x).0) (subst (λ d. Append d v) (sym (calls_at calls i call below c.index-calls-done.is)) all) in
-    let b = beginning c.loop-done.self.units m.own m.rest fit.whole c.loop-done.self.bytes c.loop-done.self.form (subst (IsForm fit.whole) m.joined fit.form) in
+    let m = among c.args.self.now.units (take i calls) call (drop (i + 1) calls) v c.loop-done.self.units (λ a x. (inv a x).0) (subst (λ d. Append d v) (sym (item_at calls i call below c.index-calls-done.is)) all) in
+    let b = beginning (c.loop-done.self.units ++ m.own) m.rest fit.whole (subst (IsForm fit.whole) (m.joined ∙ sym (append_assoc c.loop-done.self.units m.own m.rest)) fit.form) in
     at_some _ _ m.own m.appends c.in_default.ensures.room (record { whole = b.whole; form = b.form; within = omega (arith, b.within, fit.within, (inv m.front m.before).1) })
 
 pub returns-in_default-clause-outgrown : goal.returns-in_default-clause-outgrown
@@ -26,9 +27,9 @@ returns-in_default-clause-outgrown g c v all w form =
     let call = c.index-calls-done.result in
     let below : i < length calls = omega arith in
     let inv = c.loop-done.invariant.appended in
-    let here = subst (λ d. Append d v) (calls_more calls i call below c.index-calls-done.is) all in
+    let here = subst (λ d. Append d v) (items_more calls i call below c.index-calls-done.is) all in
     let m = among c.args.self.now.units (take i calls) call [] v c.loop-done.self.units (λ a x. (inv a x).0) here in
-    let b = beginning c.loop-done.self.units m.own m.rest w c.loop-done.self.bytes c.loop-done.self.form (subst (IsForm w) m.joined form) in
+    let b = beginning (c.loop-done.self.units ++ m.own) m.rest w (subst (IsForm w) (m.joined ∙ sym (append_assoc c.loop-done.self.units m.own m.rest)) form) in
     elim (cases_lt c.args.self.now.capacity (length w)) [
       | inl h ↦ h
       | inr h ↦ absurd (false≢true (at_some _ _ m.own m.appends c.in_default.ensures.room (record { whole = b.whole; form = b.form; within = omega (arith, b.within, h, (inv m.front m.before).1) })))
@@ -41,7 +42,7 @@ returns-in_default-clause-capacity g c v all =
     let call = c.index-calls-done.result in
     let below : i < length calls = omega arith in
     let inv = c.loop-done.invariant.appended in
-    let m = among c.args.self.now.units (take i calls) call (drop (i + 1) calls) v c.loop-done.self.units (λ a x. (inv a x).0) (subst (λ d. Append d v) (sym (calls_at calls i call below c.index-calls-done.is)) all) in
+    let m = among c.args.self.now.units (take i calls) call (drop (i + 1) calls) v c.loop-done.self.units (λ a x. (inv a x).0) (subst (λ d. Append d v) (sym (item_at calls i call below c.index-calls-done.is)) all) in
     omega (arith, (inv m.front m.before).1, c.in_default.ensures.capacity (no_truncation call m.own m.appends))
 
 pub loop-done-preserved : goal.loop-done-preserved
@@ -50,7 +51,7 @@ loop-done-preserved g c =
     let calls = c.args.calls.now in
     let call = c.index-calls-done.result in
     let below : i < length calls = omega arith in
-    let more = calls_more calls i call below c.index-calls-done.is in
+    let more = items_more calls i call below c.index-calls-done.is in
     let u = c.args.self.now.units in
     let now = c.apply.new.self.units in
     let run = run_more u (take i calls) c.loop-done.self.units c.loop-done.refused call now (cond c.in-Ok.kept 0 1) c.loop-done.invariant.ran c.in-Ok.ensures.step in
@@ -79,7 +80,7 @@ returns-in_default-clause-found g c v room =
     let calls = c.args.calls.now in
     let call = c.index-calls-done.result in
     let below : i < length calls = omega arith in
-    let whole = subst (λ d. FindRoom c.args.self.now.units d v c.args.self.now.capacity) (sym (calls_at calls i call below c.index-calls-done.is)) room in
+    let whole = subst (λ d. FindRoom c.args.self.now.units d v c.args.self.now.capacity) (sym (item_at calls i call below c.index-calls-done.is)) room in
     let found = c.loop-done.invariant.found in
     let here = found.rest (call ∷ drop (i + 1) calls) v whole in
     c.in_default.ensures.found here.0 (wider here.1 (found.grows (call ∷ drop (i + 1) calls) v whole))
@@ -90,7 +91,7 @@ returns-in_default-clause-missed g c v room =
     let calls = c.args.calls.now in
     let call = c.index-calls-done.result in
     let below : i < length calls = omega arith in
-    let whole = subst (λ d. FindRoom c.args.self.now.units d v c.args.self.now.capacity) (calls_more calls i call below c.index-calls-done.is) room in
+    let whole = subst (λ d. FindRoom c.args.self.now.units d v c.args.self.now.capacity) (items_more calls i call below c.index-calls-done.is) room in
     let found = c.loop-done.invariant.found in
     let here = found.rest (call ∷ []) v whole in
     false≢true (c.in_default.ensures.found here.0 (wider here.1 (found.grows (call ∷ []) v whole)))

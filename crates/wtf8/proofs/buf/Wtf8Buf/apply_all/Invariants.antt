@@ -2,7 +2,7 @@ use Rattle.std.proofs.Common.{◌≤◌, List, ℕ, take}
 use Rattle.std.specs.List.{All}
 use Rattle.wtf8.specs.Appending.{AppendsUnits}
 use Rattle.wtf8.specs.Building.{Run, Append, IsNoTruncation}
-use Rattle.wtf8.proofs.Rooms.{Found}
+use Rattle.wtf8.proofs.lemmas.Room.{Found}
 use Rattle.wtf8.proofs.buf.Wtf8Buf.apply_all.Given as goal
 
 -- the calls so far ran; where they are pushes and extensions, their units are appended; and the capacity is no smaller where no call truncates

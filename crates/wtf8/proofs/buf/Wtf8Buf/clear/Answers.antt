@@ -1,6 +1,6 @@
 use Rattle.std.proofs.Common.{ap}
 use Rattle.wtf8.specs.Unicode.{units}
-use Rattle.wtf8.proofs.Readings.{empty_at, empty_form, same_points}
+use Rattle.wtf8.proofs.lemmas.Readings.{empty_at, empty_form, same_points}
 use Rattle.wtf8.proofs.buf.Wtf8Buf.clear.Goals as goal
 
 pub invariant_of-self-inside : goal.invariant_of-self-inside

@@ -1,9 +1,10 @@
 use Rattle.std.proofs.Common.{◌≡◌, ◌+◌, ◌++◌, ◌∷◌, ◌<◌, ◌∙◌, length, take, drop, arith, ap, sym, subst, append_assoc}
 use Rattle.std.proofs.lemmas.Bool.{false≢true}
-use Rattle.wtf8.specs.CodePoint.{numbers}
+use Rattle.wtf8.specs.CodePoint.{number, numbers}
 use Rattle.wtf8.specs.Form.{IsForm}
-use Rattle.wtf8.specs.Unicode.{units}
-use Rattle.wtf8.proofs.Growth.{extended_length, next_fits, points_at, units-points}
+use Rattle.wtf8.specs.Unicode.{units, units_of}
+use Rattle.wtf8.proofs.lemmas.Lists.{item_at}
+use Rattle.wtf8.proofs.lemmas.Room.{beginning, extended_length, units-points}
 use Rattle.wtf8.proofs.buf.Wtf8Buf.extend_from_points.Goals as goal
 
 pub returns-in_err-reserve-clause-room : goal.returns-in_err-reserve-clause-room
@@ -17,9 +18,11 @@ returns-in_err-push-clause-room g c fit =
     let ps = c.args.points.now in
     let p = c.code_point-item.result in
     let below : i < length ps = omega arith in
-    let here = points_at ps i p below c.code_point-item.is in
+    let here = item_at ps i p below c.code_point-item.is in
     let whole : c.args.self.now.units ++ units (numbers ps) ≡ c.loop-code_point.self.units ++ units (numbers (p ∷ drop (i + 1) ps)) =
     ap (λ v. c.args.self.now.units ++ v) (ap (λ d. units (numbers d)) (sym here) ∙ units-points (take i ps) (p ∷ drop (i + 1) ps))
     ∙ (sym (append_assoc c.args.self.now.units (units (numbers (take i ps))) (units (numbers (p ∷ drop (i + 1) ps)))) ∙ ap (λ v. v ++ units (numbers (p ∷ drop (i + 1) ps))) (sym c.loop-code_point.invariant.0)) in
-    let next = next_fits c.loop-code_point.self.units c.loop-code_point.self.bytes fit.whole p (drop (i + 1) ps) c.loop-code_point.self.form (subst (IsForm fit.whole) whole fit.form) in
+    let v = c.loop-code_point.self.units in
+    let rest = units (numbers (drop (i + 1) ps)) in
+    let next = beginning (v ++ units_of (number p)) rest fit.whole (subst (IsForm fit.whole) (whole ∙ sym (append_assoc v (units_of (number p)) rest)) fit.form) in
     absurd (false≢true (c.in_err-push.ensures.room (record { whole = next.whole; form = next.form; within = omega (arith, next.within, fit.within, c.loop-code_point.invariant.1) })))

@@ -1,7 +1,7 @@
 use Rattle.std.proofs.Common.{ap, subst, ◌∙◌}
-use Rattle.wtf8.specs.Surrogates.{SurrogateAt}
+use Rattle.wtf8.specs.SurrogateSearch.{SurrogateAt}
 use Rattle.wtf8.specs.UnitString.{UnitString}
-use Rattle.wtf8.proofs.SurrogateLemmas.{none_from_scalar}
+use Rattle.wtf8.proofs.lemmas.Surrogates.{none_from_scalar}
 use Rattle.wtf8.proofs.buf.Wtf8Buf.first_surrogate.Goals as goal
 
 pub returns-then-self : goal.returns-then-self

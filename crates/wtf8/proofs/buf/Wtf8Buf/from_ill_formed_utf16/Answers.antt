@@ -1,7 +1,6 @@
 use Rattle.std.proofs.Common.{◌∙◌, refl}
-use Rattle.wtf8.proofs.Gaining.{well_formed_of}
-use Rattle.wtf8.proofs.OneReading.{same_form}
-use Rattle.wtf8.proofs.Scalars.{scalar_moved}
+use Rattle.wtf8.proofs.lemmas.Readings.{well_formed_of, same_form}
+use Rattle.wtf8.proofs.lemmas.Scalars.{scalar_moved}
 use Rattle.wtf8.proofs.buf.Wtf8Buf.from_ill_formed_utf16.Goals as goal
 
 pub from_well_formed-requires-clause-scalar : goal.from_well_formed-requires-clause-scalar

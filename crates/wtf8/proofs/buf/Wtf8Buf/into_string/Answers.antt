@@ -2,8 +2,8 @@ use Rattle.std.proofs.Common.{ap, refl, sym, subst}
 use Rattle.std.proofs.lemmas.Bool.{false≢true}
 use Rattle.std.specs.Str.{IsUtf8}
 use Rattle.wtf8.specs.UnitString.{UnitString}
-use Rattle.wtf8.proofs.Gaining.{well_formed_of}
-use Rattle.wtf8.proofs.SurrogateLemmas.{scalar_if_none, not_scalar_if_some, utf8_if_none}
+use Rattle.wtf8.proofs.lemmas.Readings.{well_formed_of}
+use Rattle.wtf8.proofs.lemmas.Surrogates.{scalar_if_none, not_scalar_if_some, utf8_if_none}
 use Rattle.wtf8.proofs.buf.Wtf8Buf.into_string.Goals as goal
 
 pub from_utf8_unchecked-requires : goal.from_utf8_unchecked-requires

@@ -1,17 +1,14 @@
 use Rattle.wtf8.specs.UnitString.{UnitString}
-use Rattle.std.proofs.Common.{ap, sym, [], ◌∷◌}
-use Rattle.std.proofs.lemmas.List.{append-nil}
-use Rattle.wtf8.specs.Unicode.{units_of}
-use Rattle.wtf8.proofs.Scalars.{scalar_gained}
-use Rattle.wtf8.proofs.Texts.{scalar_facts}
-use Rattle.wtf8.proofs.Gaining.{gained_or_kept, gained_units, kept_contents}
+use Rattle.std.proofs.Common.{ap}
+use Rattle.wtf8.proofs.lemmas.Gains.{gained_units, kept_contents}
+use Rattle.wtf8.proofs.lemmas.Scalars.{known_point}
+use Rattle.wtf8.proofs.lemmas.Texts.{scalar_facts}
 use Rattle.wtf8.proofs.buf.Wtf8Buf.push_char.Goals as goal
 
 pub invariant_of-self-inside : goal.invariant_of-self-inside
 invariant_of-self-inside g c =
-    let now = gained_or_kept c.push_scalar.result _ c.self.inside.well_formed c.push_scalar.ensures.ok c.push_scalar.ensures.err in
     let f = scalar_facts c.args.c c.ranges.c.0 in
-    (now, (λ known. scalar_gained c.push_scalar.result (c.args.c ∷ []) (units_of c.args.c) c.self.inside.well_formed now (sym (append-nil (units_of c.args.c))) f.range (f.apart, tt) (c.self.inside.known_scalar known) c.push_scalar.ensures.ok c.push_scalar.ensures.err, tt))
+    known_point c.push_scalar.result c.args.c c.self.inside.is_known_utf8 c.self.inside.well_formed f.range f.apart c.self.inside.known_scalar c.push_scalar.ensures.ok c.push_scalar.ensures.err
 
 pub returns-clause-ok : goal.returns-clause-ok
 returns-clause-ok g c =

@@ -1,16 +1,15 @@
 use Rattle.wtf8.specs.UnitString.{UnitString}
 use Rattle.std.proofs.Common.{ap, refl}
 use Rattle.wtf8.specs.Unicode.{units}
-use Rattle.wtf8.proofs.Scalars.{scalar_gained, scalar_text}
-use Rattle.wtf8.proofs.Texts.{well_formed_text}
-use Rattle.wtf8.proofs.Gaining.{gained_or_kept, gained_units, kept_contents}
+use Rattle.wtf8.proofs.lemmas.Gains.{gained_units, kept_contents}
+use Rattle.wtf8.proofs.lemmas.Scalars.{known_gained, scalar_text}
+use Rattle.wtf8.proofs.lemmas.Texts.{well_formed_text}
 use Rattle.wtf8.proofs.buf.Wtf8Buf.push_str.Goals as goal
 
 pub invariant_of-self-inside : goal.invariant_of-self-inside
 invariant_of-self-inside g c =
-    let now = gained_or_kept c.push_text.result _ c.self.inside.well_formed c.push_text.ensures.ok c.push_text.ensures.err in
     let other = well_formed_text c.args.other.now c.utf8.other in
-    (now, (λ known. scalar_gained c.push_text.result other.points (units other.points) c.self.inside.well_formed now refl other.clean (scalar_text c.utf8.other) (c.self.inside.known_scalar known) c.push_text.ensures.ok c.push_text.ensures.err, tt))
+    known_gained c.push_text.result other.points (units other.points) c.self.inside.is_known_utf8 c.self.inside.well_formed refl other.clean (λ known. (c.self.inside.known_scalar known, scalar_text c.utf8.other)) c.push_text.ensures.ok c.push_text.ensures.err
 
 pub returns-clause-ok : goal.returns-clause-ok
 returns-clause-ok g c =

@@ -1,28 +1,23 @@
 use Rattle.wtf8.specs.UnitString.{UnitString}
 use Rattle.std.proofs.Common.{ap, refl, sym, subst, ◌∙◌, IsTrue}
 use Rattle.std.proofs.lemmas.Bool.{false≢true}
-use Rattle.wtf8.proofs.Scalars.{scalar_gained, scalar_unless_found}
+use Rattle.wtf8.proofs.lemmas.Gains.{gained_units, kept_contents, added_length}
+use Rattle.wtf8.proofs.lemmas.Scalars.{known_gained, scalar_unless_found}
 use Rattle.wtf8.specs.Unicode.{units}
-use Rattle.wtf8.proofs.Gaining.{gained_or_kept, gained_units, kept_contents}
-use Rattle.wtf8.proofs.Gluing.{added_length}
 use Rattle.wtf8.proofs.buf.Wtf8Buf.push_wtf8.Goals as goal
 use Rattle.wtf8.proofs.buf.Wtf8Buf.push_wtf8.Goals.{then-self, else-self}
 
 pub invariant_of-self-inside : goal.invariant_of-self-inside
 invariant_of-self-inside g c =
-    let now = gained_or_kept c.push_view.result _ c.self.inside.well_formed c.push_view.ensures.ok c.push_view.ensures.err in (
-      now,
-      (
-        λ known. elim c.if-self.branch [
-          | then-self w ↦
-              let other = c.args.other.well_formed in
-              let scalar = scalar_unless_found w.first_surrogate.result w.is_none-self-inside.result other w.first_surrogate.ensures w.is_none-self-inside.ensures (subst (λ s. IsTrue s.1.1.0) w.self-inside-is known) in
-              scalar_gained c.push_view.result other.points (units other.points) c.self.inside.well_formed now refl other.clean scalar (c.self.inside.known_scalar w.if-self.true) c.push_view.ensures.ok c.push_view.ensures.err
-          | else-self w ↦ absurd (false≢true (sym w.if-self.false ∙ subst (λ s. IsTrue s.1.1.0) w.self-inside-is known))
-        ],
-        tt,
-      ),
-    )
+    let other = c.args.other.well_formed in
+    known_gained c.push_view.result other.points (units other.points) _ c.self.inside.well_formed refl other.clean (
+      λ known. elim c.if-self.branch [
+        | then-self w ↦
+            let none = subst (λ s. IsTrue s.1.1.0) w.self-inside-is known in
+            (c.self.inside.known_scalar w.if-self.true, scalar_unless_found w.first_surrogate.result w.is_none-self-inside.result other w.first_surrogate.ensures w.is_none-self-inside.ensures none)
+        | else-self w ↦ absurd (false≢true (sym w.if-self.false ∙ subst (λ s. IsTrue s.1.1.0) w.self-inside-is known))
+      ]
+    ) c.push_view.ensures.ok c.push_view.ensures.err
 
 pub returns-clause-ok : goal.returns-clause-ok
 returns-clause-ok g c =

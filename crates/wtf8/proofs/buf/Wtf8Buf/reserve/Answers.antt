@@ -1,5 +1,5 @@
 use Rattle.std.proofs.Common.{ap, ◌∙◌}
-use Rattle.wtf8.proofs.Readings.{moved, same_points}
+use Rattle.wtf8.proofs.lemmas.Readings.{moved, same_points}
 use Rattle.wtf8.specs.UnitString.{UnitString}
 use Rattle.wtf8.specs.Unicode.{units}
 use Rattle.wtf8.proofs.buf.Wtf8Buf.reserve.Goals as goal

@@ -2,11 +2,11 @@ use Rattle.std.proofs.Common.{◌∙◌, ap, sym, subst, arith, length, length-t
 use Rattle.wtf8.specs.UnitString.{UnitString}
 use Rattle.wtf8.specs.Unicode.{units}
 use Rattle.wtf8.specs.Position.{IsBoundary, IsFront}
-use Rattle.wtf8.proofs.Readings.{moved, same_points, no_points}
-use Rattle.wtf8.proofs.Scalars.{scalar-front}
+use Rattle.wtf8.proofs.lemmas.Positions.{cut_at}
+use Rattle.wtf8.proofs.lemmas.Readings.{moved, same_points, no_points}
+use Rattle.wtf8.proofs.lemmas.Scalars.{scalar-front}
 use Rattle.wtf8.specs.Form.{IsWellFormed}
 use Rattle.wtf8.specs.Surrogates.{AreScalar}
-use Rattle.wtf8.proofs.Positions.{cut_at}
 use Rattle.wtf8.proofs.buf.Wtf8Buf.truncate.Goals as goal
 use Rattle.wtf8.proofs.buf.Wtf8Buf.truncate.Goals.{then-new_len-eq0, else-new_len-eq0}
 

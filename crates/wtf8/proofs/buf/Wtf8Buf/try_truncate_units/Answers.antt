@@ -4,11 +4,11 @@ use Rattle.wtf8.specs.Form.{encoding}
 use Rattle.wtf8.specs.Position.{IsFront}
 use Rattle.wtf8.specs.UnitString.{UnitString}
 use Rattle.wtf8.specs.Unicode.{units}
-use Rattle.wtf8.specs.UnitPosition.{CutsUnits}
-use Rattle.wtf8.proofs.OneReading.{lead_of}
-use Rattle.wtf8.proofs.Readings.{moved, same_points}
-use Rattle.wtf8.proofs.RunLaws.{same_front}
-use Rattle.wtf8.proofs.UnitCuts.{undivided, divided, in_range, front_at, lead_kept, lead_kept_units}
+use Rattle.wtf8.specs.UnitCounts.{CutsUnits}
+use Rattle.wtf8.proofs.lemmas.Positions.{same_front}
+use Rattle.wtf8.proofs.lemmas.Readings.{moved, same_points}
+use Rattle.wtf8.proofs.lemmas.UnitCuts.{undivided, divided, in_range, front_at, lead_kept, lead_kept_units}
+use Rattle.wtf8.proofs.lemmas.Units.{lead_of}
 use Rattle.wtf8.proofs.buf.Wtf8Buf.try_truncate_units.Goals as goal
 
 pub keep_lead-requires-clause-lead : goal.keep_lead-requires-clause-lead

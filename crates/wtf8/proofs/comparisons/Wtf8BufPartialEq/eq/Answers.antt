@@ -1,5 +1,5 @@
 use Rattle.std.proofs.Common.{rules}
-use Rattle.wtf8.proofs.ComparingLemmas.{equal_points}
+use Rattle.wtf8.proofs.lemmas.Comparing.{equal_points}
 use Rattle.wtf8.proofs.comparisons.Wtf8BufPartialEq.eq.Goals as goal
 
 pub returns-clause-bytes : goal.returns-clause-bytes

@@ -1,5 +1,5 @@
 use Rattle.std.proofs.Common.{◌∙◌}
-use Rattle.wtf8.proofs.ComparingLemmas.{cmp_points, points_order}
+use Rattle.wtf8.proofs.lemmas.Comparing.{cmp_points, points_order}
 use Rattle.wtf8.proofs.comparisons.Wtf8Ord.cmp.Goals as goal
 
 pub returns-clause-points : goal.returns-clause-points

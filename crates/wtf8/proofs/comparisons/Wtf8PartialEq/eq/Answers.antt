@@ -1,5 +1,5 @@
 use Rattle.std.proofs.Common.{refl}
-use Rattle.wtf8.proofs.ComparingLemmas.{equal_points, equal_units}
+use Rattle.wtf8.proofs.lemmas.Comparing.{equal_points, equal_units}
 use Rattle.wtf8.proofs.comparisons.Wtf8PartialEq.eq.Goals as goal
 
 pub returns-clause-points : goal.returns-clause-points

@@ -1,4 +1,4 @@
-use Rattle.wtf8.proofs.ComparingLemmas.{form_points}
+use Rattle.wtf8.proofs.lemmas.Comparing.{form_points}
 use Rattle.wtf8.proofs.debug_text.Wtf8BufDebug.fmt.Goals as goal
 
 pub returns-clause-writes : goal.returns-clause-writes

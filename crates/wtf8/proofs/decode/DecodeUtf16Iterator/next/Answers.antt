@@ -2,7 +2,7 @@ use Rattle.std.proofs.Common.{◌<◌, rules, refl, inl, inr, sym, subst, arith,
 use Rattle.std.specs.Iterator.Adapters.{peekable_steps, peekable_peeked}
 use Rattle.wtf8.specs.Decoding.{units_left}
 use Rattle.wtf8.specs.Unicode.{IsTrail}
-use Rattle.wtf8.proofs.Decoded.{takes_one, takes_two, held_apart}
+use Rattle.wtf8.proofs.lemmas.Decoding.{takes_one, takes_two, held_apart}
 use Rattle.wtf8.proofs.decode.DecodeUtf16Iterator.next.Goals as goal
 
 pub returns-in-Some-clause-steps : goal.returns-in-Some-clause-steps
@@ -32,8 +32,8 @@ returns-in-None-clause-steps g c =
       lone = λ _. held_apart (peekable_peeked c.next_if.new.self) told.0 _ told.2 c.in-None.ensures.refused (λ u failed trail. true≢false (sym (failed.1.1 (subst IsTrail (sym failed.2) trail))));
     }
 
-pub returns-in-56320-to-57343-clause-steps : goal.returns-in-56320-to-57343-clause-steps
-returns-in-56320-to-57343-clause-steps g c =
+pub returns-then-is_trail-clause-steps : goal.returns-then-is_trail-clause-steps
+returns-then-is_trail-clause-steps g c =
     let unit = c.in_ok-unit.unit in
     record {
       kind = (omega arith, omega arith);
@@ -43,8 +43,8 @@ returns-in-56320-to-57343-clause-steps g c =
       lone = λ lead. absurd (omega (arith, lead));
     }
 
-pub returns-in_default-clause-steps : goal.returns-in_default-clause-steps
-returns-in_default-clause-steps g c =
+pub returns-clause-steps : goal.returns-clause-steps
+returns-clause-steps g c =
     let unit = c.in_ok-unit.unit in
     let range : unit < 0x10000 = search rules in
     record {

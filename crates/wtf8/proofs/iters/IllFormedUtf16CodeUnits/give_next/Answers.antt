@@ -2,8 +2,9 @@ use Rattle.std.proofs.Common.{ap, ◌∙◌, sym, ◌≡◌, ◌+◌, ◌-◌, �
 use Rattle.std.specs.Option.{option_to_list}
 use Rattle.wtf8.specs.CodePoint.{number}
 use Rattle.wtf8.specs.Unicode.{units_of, units}
-use Rattle.wtf8.specs.Units.{unread_units, unread_after}
-use Rattle.wtf8.proofs.UnitLemmas.{units_one, units_two}
+use Rattle.wtf8.specs.Units.{unread_units}
+use Rattle.wtf8.specs.UnitSteps.{unread_after}
+use Rattle.wtf8.proofs.lemmas.Units.{units_one, units_two}
 use Rattle.wtf8.proofs.iters.IllFormedUtf16CodeUnits.give_next.Goals as goal
 
 -- behind the first unit of a code point its second one is held

@@ -1,6 +1,6 @@
 use Rattle.std.proofs.Common.{refl}
 use Rattle.std.proofs.lemmas.Bool.{false≢true}
-use Rattle.wtf8.proofs.SurrogateLemmas.{scalar_if_none, not_scalar_if_some, utf8_if_none}
+use Rattle.wtf8.proofs.lemmas.Surrogates.{scalar_if_none, not_scalar_if_some, utf8_if_none}
 use Rattle.wtf8.proofs.view.Wtf8.as_str.Goals as goal
 
 pub from_utf8_unchecked-requires : goal.from_utf8_unchecked-requires

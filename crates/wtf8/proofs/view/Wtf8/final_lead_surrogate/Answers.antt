@@ -1,35 +1,35 @@
-use Rattle.std.proofs.Common.{◌++◌, ◌∷◌, [], arith, ap, ◌∙◌}
-use Rattle.wtf8.proofs.Joining.{last_point, ends_in_lead}
+use Rattle.std.proofs.Common.{◌++◌, ◌∷◌, [], arith, ap, sym, ◌∙◌, ◌≡◌, List, ℕ}
+use Rattle.wtf8.specs.Form.{bytes, IsWellFormed}
+use Rattle.wtf8.specs.Unicode.{IsLead}
+use Rattle.wtf8.proofs.lemmas.FinalLead.{EndsInSurrogate, ends_in_surrogate, last_surrogate}
 use Rattle.wtf8.proofs.view.Wtf8.final_lead_surrogate.Goals as goal
-use Rattle.wtf8.proofs.view.Wtf8.final_lead_surrogate.Goals.{else-first-via-then-first+then-second-ge160+else-second-le175, else-first-via-then-first+else-second-ge160, else-first-via-else-first}
 
-pub returns-then-len-lt3-clause-none : goal.returns-then-len-lt3-clause-none
-returns-then-len-lt3-clause-none c f l h e =
-    let s = c.args.self.now.well_formed in
-    let n = ends_in_lead s f l h e in omega arith
+ends_in_lead : {w : List ℕ} (h : IsWellFormed w) (f : List ℕ) (l : ℕ) → IsLead l → h.points ≡ f ++ l ∷ [] → EndsInSurrogate w l
+ends_in_lead {w} h f l lead e = ends_in_surrogate w f l (omega arith, omega arith) (ap bytes (sym e) ∙ h.encoded)
 
-pub overflow_sub-result-then-second-le175 : goal.overflow_sub-result-then-second-le175
-overflow_sub-result-then-second-le175 c =
-    let s = c.args.self.now.well_formed in
-    let p = last_point s (omega arith) (omega arith) in omega arith
+pub three_byte_number-requires-clause-third : goal.three_byte_number-requires-clause-third
+three_byte_number-requires-clause-third c =
+    let p = last_surrogate c.args.self.now.well_formed (omega arith) (omega arith) (omega arith) in
+    let n = p.ends in omega arith
 
-pub returns-then-second-le175-clause-lead : goal.returns-then-second-le175-clause-lead
-returns-then-second-le175-clause-lead c =
-    let s = c.args.self.now.well_formed in
-    let p = last_point s (omega arith) (omega arith) in (omega arith, omega arith)
+pub returns-in-237-clause-lead : goal.returns-in-237-clause-lead
+returns-in-237-clause-lead c =
+    let p = last_surrogate c.args.self.now.well_formed (omega arith) (omega arith) (omega arith) in
+    let n = p.ends in (omega (arith, p.surrogate), omega (arith, p.surrogate))
 
-pub returns-then-second-le175-clause-last : goal.returns-then-second-le175-clause-last
-returns-then-second-le175-clause-last c =
-    let s = c.args.self.now.well_formed in
-    let p = last_point s (omega arith) (omega arith) in
-    (p.front, p.joined ∙ ap (λ n. p.front ++ n ∷ []) (omega arith))
+pub returns-in-237-clause-last : goal.returns-in-237-clause-last
+returns-in-237-clause-last c =
+    let p = last_surrogate c.args.self.now.well_formed (omega arith) (omega arith) (omega arith) in
+    let n = p.ends in (p.front, p.joined ∙ ap (λ q. p.front ++ q ∷ []) (omega (arith, p.surrogate)))
 
-pub returns-else-first-clause-none : goal.returns-else-first-clause-none
-returns-else-first-clause-none c f l h e =
-    let s = c.args.self.now.well_formed in
-    let n = ends_in_lead s f l h e in
-    elim c.else-first.branch [
-      | else-first-via-then-first+then-second-ge160+else-second-le175 w ↦ omega arith
-      | else-first-via-then-first+else-second-ge160 w ↦ omega arith
-      | else-first-via-else-first w ↦ omega arith
-    ]
+pub returns-in_default-clause-none : goal.returns-in_default-clause-none
+returns-in_default-clause-none c f l h e = let n = ends_in_lead c.args.self.now.well_formed f l h e in omega arith
+
+pub returns-in_default-2-clause-none : goal.returns-in_default-2-clause-none
+returns-in_default-2-clause-none c f l h e = let n = ends_in_lead c.args.self.now.well_formed f l h e in omega arith
+
+pub returns-in_default-3-clause-none : goal.returns-in_default-3-clause-none
+returns-in_default-3-clause-none c f l h e = let n = ends_in_lead c.args.self.now.well_formed f l h e in omega arith
+
+pub returns-in_default-4-clause-none : goal.returns-in_default-4-clause-none
+returns-in_default-4-clause-none c f l h e = let n = ends_in_lead c.args.self.now.well_formed f l h e in omega arith

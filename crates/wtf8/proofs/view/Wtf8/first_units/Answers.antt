@@ -1,8 +1,9 @@
 use Rattle.std.proofs.Common.{◌∙◌, [], ◌∷◌, ◌++◌, ap, sym, subst, arith}
 use Rattle.std.proofs.lemmas.List.{append-nil}
 use Rattle.wtf8.specs.Unicode.{units}
-use Rattle.wtf8.specs.UnitPosition.{CutsUnits}
-use Rattle.wtf8.proofs.UnitCuts.{undivided, divided, in_range, points_before}
+use Rattle.wtf8.specs.UnitCounts.{CutsUnits}
+use Rattle.wtf8.proofs.lemmas.Positions.{points_before}
+use Rattle.wtf8.proofs.lemmas.UnitCuts.{undivided, divided, in_range}
 use Rattle.wtf8.proofs.view.Wtf8.first_units.Goals as goal
 
 pub overflow_cast-result : goal.overflow_cast-result

@@ -1,7 +1,7 @@
 use Rattle.std.proofs.Common.{sym, subst}
 use Rattle.wtf8.specs.Surrogates.{AreScalar}
-use Rattle.wtf8.proofs.Scalars.{scalar_text}
-use Rattle.wtf8.proofs.Texts.{text_at}
+use Rattle.wtf8.proofs.lemmas.Scalars.{scalar_text}
+use Rattle.wtf8.proofs.lemmas.Texts.{text_at}
 use Rattle.wtf8.proofs.view.Wtf8.from_str.Goals as goal
 
 pub from_well_formed-requires : goal.from_well_formed-requires

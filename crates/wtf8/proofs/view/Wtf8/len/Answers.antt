@@ -1,5 +1,5 @@
 use Rattle.std.proofs.Common.{arith, length, ap}
-use Rattle.wtf8.proofs.UnitLemmas.{units_bounds}
+use Rattle.wtf8.proofs.lemmas.Units.{units_bounds}
 use Rattle.wtf8.proofs.view.Wtf8.len.Goals as goal
 
 pub returns-clause-at_least_units : goal.returns-clause-at_least_units

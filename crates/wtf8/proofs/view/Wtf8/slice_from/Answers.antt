@@ -1,7 +1,7 @@
 use Rattle.std.proofs.Common.{◌∙◌, ap, sym}
 use Rattle.wtf8.specs.Unicode.{units}
-use Rattle.wtf8.proofs.Readings.{moved}
-use Rattle.wtf8.proofs.Positions.{cut_at}
+use Rattle.wtf8.proofs.lemmas.Positions.{cut_at}
+use Rattle.wtf8.proofs.lemmas.Readings.{moved}
 use Rattle.wtf8.proofs.view.Wtf8.slice_from.Goals as goal
 
 pub split_at-requires : goal.split_at-requires

@@ -1,6 +1,6 @@
 use Rattle.std.proofs.Common.{◌∙◌, ◌∷◌, arith, ap, sym}
 use Rattle.std.proofs.lemmas.Bool.Decides.{nat_tests}
-use Rattle.wtf8.proofs.Readings.{no_points, first_of, taken, same_points}
+use Rattle.wtf8.proofs.lemmas.Readings.{no_points, first_of, taken, same_points}
 use Rattle.wtf8.specs.CodePoint.{number}
 use Rattle.wtf8.proofs.view.Wtf8.split_first.Goals as goal
 

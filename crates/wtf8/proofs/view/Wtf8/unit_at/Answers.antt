@@ -1,8 +1,9 @@
 use Rattle.std.proofs.Common.{◌∙◌, Some, ap, sym, subst}
 use Rattle.std.specs.List.{slice_get}
 use Rattle.wtf8.specs.Unicode.{units}
-use Rattle.wtf8.specs.UnitPosition.{CutsUnits}
-use Rattle.wtf8.proofs.UnitCuts.{undivided, divided, points_behind}
+use Rattle.wtf8.specs.UnitCounts.{CutsUnits}
+use Rattle.wtf8.proofs.lemmas.Positions.{points_behind}
+use Rattle.wtf8.proofs.lemmas.UnitCuts.{undivided, divided}
 use Rattle.wtf8.proofs.view.Wtf8.unit_at.Goals as goal
 
 pub returns-in-None : goal.returns-in-None

@@ -1,8 +1,9 @@
 use Rattle.std.proofs.Common.{◌∙◌, ◌+◌, [], ◌∷◌, ◌++◌, ap, sym, subst}
 use Rattle.wtf8.specs.Unicode.{units}
-use Rattle.wtf8.specs.UnitPosition.{CutsUnits}
-use Rattle.wtf8.proofs.OneReading.{trail_of}
-use Rattle.wtf8.proofs.UnitCuts.{undivided, divided, boundary_of, points_behind}
+use Rattle.wtf8.specs.UnitCounts.{CutsUnits}
+use Rattle.wtf8.proofs.lemmas.Positions.{boundary_of, points_behind}
+use Rattle.wtf8.proofs.lemmas.UnitCuts.{undivided, divided}
+use Rattle.wtf8.proofs.lemmas.Units.{trail_of}
 use Rattle.wtf8.proofs.view.Wtf8.units_behind.Goals as goal
 
 pub slice_from-requires-in-Some-divided : goal.slice_from-requires-in-Some-divided

@@ -1,0 +1,39 @@
+-- A text's bytes are well-formed, and its characters are their code points.
+use Rattle.std.proofs.Common.{◌≡◌, inl, inr, List, [], ◌∷◌, ℕ, true, ◌∙◌, arith}
+use Rattle.std.specs.Str.{chars, IsUtf8}
+use Rattle.std.proofs.lemmas.Str.{encodes-chars, scalars-chars}
+use Rattle.std.proofs.lemmas.Bool.{and_parts}
+use lib.Utf8.{scalar, scalars, scalar_cases}
+use Rattle.wtf8.specs.Unicode.{IsCodePoint, IsSurrogate}
+use Rattle.wtf8.specs.Form.{IsClean, IsWellFormed}
+use Rattle.wtf8.specs.OneForm.{bytes_are_encodes}
+use Rattle.wtf8.proofs.lemmas.Readings.{moved}
+
+-- a scalar value is a code point and no surrogate
+pub record ScalarFacts (c : ℕ) : Type 0 where
+  pub range : IsCodePoint c
+  pub apart : ¬ (IsSurrogate c)
+
+pub scalar_facts : (c : ℕ) → scalar c ≡ true → ScalarFacts c
+scalar_facts c e = elim (scalar_cases c e) [
+  | inl l ↦ record { range = omega arith; apart = λ s. omega arith }
+  | inr h ↦ record { range = omega arith; apart = λ s. omega arith }
+]
+
+pub scalars-parts : (c : ℕ) (cs : List ℕ) → scalars (c ∷ cs) ≡ true → (scalar c ≡ true) × (scalars cs ≡ true)
+scalars-parts c cs e = and_parts (scalar c) (scalars cs) e
+
+pub clean-scalars : (cs : List ℕ) → scalars cs ≡ true → IsClean cs
+clean-scalars [] e = tt
+clean-scalars (c ∷ []) e = (scalar_facts c (scalars-parts c [] e).0).range
+clean-scalars (c ∷ d ∷ cs) e =
+    let p = scalars-parts c (d ∷ cs) e in
+    let f = scalar_facts c p.0 in
+    (f.range, (λ h. f.apart (omega (arith, h.0), omega (arith, h.0))), clean-scalars (d ∷ cs) p.1)
+
+-- a text's bytes as those of its characters
+abbrev pub well_formed_text : (w : List ℕ) → IsUtf8 w → IsWellFormed w
+well_formed_text w u = record { points = chars w; clean = clean-scalars (chars w) (scalars-chars w u); encoded = bytes_are_encodes (chars w) ∙ encodes-chars w u }
+
+abbrev pub text_at : {v w : List ℕ} → IsUtf8 v → w ≡ v → IsWellFormed w
+text_at {v} u e = moved (well_formed_text v u) e

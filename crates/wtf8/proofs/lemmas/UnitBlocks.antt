@@ -1,0 +1,100 @@
+-- Blocks of units in lanes: what the mask of a block says of its units.
+use Rattle.std.proofs.Common.{◌≡◌, ℕ, zero, suc, ◌+◌, ◌%◌, ◌^◌, ◌<◌, ◌≤◌, leb, ltb, Bool, true, false, cond, ◌&&◌, ◌||◌, List, [], ◌∷◌, ◌++◌, map, length, take, drop, replicate, bit_and, bit_or, Fits, w16, refl, sym, ap, ◌∙◌, arith, inl, inr}
+use Rattle.std.specs.List.{flat_map}
+use Rattle.std.proofs.lemmas.Bool.{cases_lt, le-leb, lt-leb, lt-ltb, le-ltb}
+use Rattle.std.proofs.lemmas.Simd.{mask_l-mod, Each1-weaker}
+use lib.Lanes.{Each1, zip2, mask_l, top}
+use Rattle.wtf8.specs.Form.{bytes, encoding}
+use Rattle.wtf8.specs.Unicode.{IsSurrogate}
+use Rattle.wtf8.specs.UnitParts.{AreAscii, AreThreeByteUnits, IsBlock}
+use Rattle.wtf8.proofs.lemmas.Encoding.{encoding_three, third_row}
+
+-- a lane of a comparison of units
+abbrev wide : Bool → ℕ
+wide b = cond b 0xFFFF 0
+
+set : (b : Bool) → top 15 (wide b) ≡ b
+set true = refl
+set false = refl
+
+abbrev high : ℕ → List ℕ → List Bool
+high n xs = map (top 15) (zip2 (λ a b. wide (leb a b)) (replicate n 0x80) xs)
+
+high_are : (n : ℕ) (xs : List ℕ) → length xs ≡ n → high n xs ≡ map (λ x. leb 0x80 x) xs
+high_are zero [] e = refl
+high_are (suc n) [] e = refl
+high_are zero (x ∷ xs) e = absurd (omega arith)
+high_are (suc n) (x ∷ xs) e = λ i. set (leb 0x80 x) i ∷ high_are n xs (omega arith) i
+
+length_same : (p : ℕ → Bool) (xs : List ℕ) → length (map p xs) ≡ length xs
+length_same p [] = refl
+length_same p (x ∷ xs) = ap (λ n. suc n) (length_same p xs)
+
+none_set : (p : ℕ → Bool) (xs : List ℕ) → length xs ≤ 64 → mask_l (map p xs) % 2 ^ 64 ≡ 0 → mask_l (map p xs) ≡ 0
+none_set p xs h e = sym (mask_l-mod (map p xs) 64 (omega (arith, h, length_same p xs))) ∙ e
+
+all_low : (xs : List ℕ) → mask_l (map (λ x. leb 0x80 x) xs) ≡ 0 → AreAscii xs
+all_low [] e = tt
+all_low (x ∷ xs) e = elim (cases_lt x 0x80) [
+  | inl h ↦ (h, all_low xs (omega (arith, rw (lt-leb 0x80 x h) at e)))
+  | inr h ↦ absurd (omega (arith, rw (le-leb 0x80 x h) at e))
+]
+
+-- where no lane is set all units are below 80
+pub none_high : (xs : List ℕ) → length xs ≡ 16 → mask_l (high 16 xs) % 2 ^ 64 ≡ 0 → AreAscii xs
+none_high xs l e = all_low xs (none_set (λ x. leb 0x80 x) xs (omega arith) (ap (λ ms. mask_l ms % 2 ^ 64) (sym (high_are 16 xs l)) ∙ e))
+
+-- a lane is set by a unit below 800, and by a surrogate
+other_set : (a b c : Bool) → top 15 (bit_or (wide a) (bit_and (wide b) (wide c))) ≡ a || (b && c)
+other_set true true true = refl
+other_set true true false = refl
+other_set true false true = refl
+other_set true false false = refl
+other_set false true true = refl
+other_set false true false = refl
+other_set false false true = refl
+other_set false false false = refl
+
+abbrev other : ℕ → Bool
+other x = ltb x 0x800 || (leb 0xD800 x && leb x 0xDFFF)
+
+abbrev others : ℕ → List ℕ → List Bool
+others n xs = map (top 15) (zip2 bit_or (zip2 (λ a b. wide (ltb a b)) xs (replicate n 0x800)) (zip2 bit_and (zip2 (λ a b. wide (leb a b)) (replicate n 0xD800) xs) (zip2 (λ a b. wide (leb a b)) xs (replicate n 0xDFFF))))
+
+others_are : (n : ℕ) (xs : List ℕ) → length xs ≡ n → others n xs ≡ map other xs
+others_are zero [] e = refl
+others_are (suc n) [] e = refl
+others_are zero (x ∷ xs) e = absurd (omega arith)
+others_are (suc n) (x ∷ xs) e = λ i. other_set (ltb x 0x800) (leb 0xD800 x) (leb x 0xDFFF) i ∷ others_are n xs (omega arith) i
+
+all_three : (xs : List ℕ) → mask_l (map other xs) ≡ 0 → Each1 (Fits w16) xs → AreThreeByteUnits xs
+all_three [] e f = tt
+all_three (x ∷ xs) e f = elim (cases_lt x 0x800) [
+  | inl h ↦ absurd (omega (arith, rw (lt-ltb x 0x800 h) at e))
+  | inr l ↦ elim (cases_lt x 0xD800) [
+    | inl h ↦ ((l, f.0.fits, λ s. omega (arith, h, s.0)), all_three xs (omega (arith, rw (le-ltb x 0x800 l, lt-leb 0xD800 x h) at e)) f.1)
+    | inr k ↦ elim (cases_lt 0xDFFF x) [
+      | inl h ↦ ((l, f.0.fits, λ s. omega (arith, h, s.1)), all_three xs (omega (arith, rw (le-ltb x 0x800 l, le-leb 0xD800 x k, lt-leb x 0xDFFF h) at e)) f.1)
+      | inr h ↦ absurd (omega (arith, rw (le-ltb x 0x800 l, le-leb 0xD800 x k, le-leb x 0xDFFF h) at e))
+    ]
+  ]
+]
+
+-- where no lane is set all units take three bytes
+pub none_other : (xs : List ℕ) → length xs ≡ 8 → Each1 (Fits w16) xs → mask_l (others 8 xs) % 2 ^ 64 ≡ 0 → AreThreeByteUnits xs
+none_other xs l f e = all_three xs (none_set other xs (omega arith) (ap (λ ms. mask_l ms % 2 ^ 64) (sym (others_are 8 xs l)) ∙ e)) f
+
+-- their rows are their encodings
+third_rows : (xs : List ℕ) → AreThreeByteUnits xs → flat_map third_row xs ≡ bytes xs
+third_rows [] h = refl
+third_rows (x ∷ xs) h = ap (λ w. w ++ flat_map third_row xs) (sym (encoding_three x h.0.0 h.0.1)) ∙ ap (λ w. encoding x ++ w) (third_rows xs h.1)
+
+pub by_rows : {w : List ℕ} (xs : List ℕ) → AreThreeByteUnits xs → w ≡ flat_map third_row xs → w ≡ bytes xs
+by_rows xs h e = e ∙ third_rows xs h
+
+pub three_byte_block : (u w : List ℕ) (at : ℕ) → at + 8 ≤ length u → AreThreeByteUnits (take 8 (drop at u)) → w ≡ bytes (take 8 (drop at u)) → IsBlock u at 8 w
+three_byte_block u w at within h e = record {
+  within = within;
+  scalars = Each1-weaker (λ n. (0x800 ≤ n) × (n < 0x10000) × ¬ (IsSurrogate n)) (λ n. (n < 0x10000) × ¬ (IsSurrogate n)) (λ n k. (k.1, k.2)) (take 8 (drop at u)) h;
+  encoded = e;
+}

@@ -1,0 +1,24 @@
+-- For private functions: where a surrogate begins in bytes, and the first such place.
+use Rattle.std.specs.Prelude.{◌≡◌, ℕ, ◌+◌, ◌<◌, ◌≤◌, List, length, slice_index, Option, MatchOption}
+
+-- A surrogate's bytes begin at i: there is ED and behind it a byte of at least A0 (WTF-8, "Surrogate byte sequence").
+pub record SurrogateAt (w : List ℕ) (i : ℕ) : Type 0 where
+  pub within : i + 1 < length w
+  pub first : slice_index w i ≡ 0xED
+  pub second : 0xA0 ≤ slice_index w (i + 1)
+
+-- A lane of 32 in which one vector holds ED and another a byte of at least A0, as a surrogate's first two bytes are.
+pub record IsSurrogateLane (firsts seconds : List ℕ) (k : ℕ) : Type 0 where
+  pub within : k < 32
+  pub first : slice_index firsts k ≡ 0xED
+  pub second : 0xA0 ≤ slice_index seconds k
+
+-- The least place with a property, from a start on.
+pub record IsLeast (P : ℕ → Type 0) (from i : ℕ) : Type 0 where
+  pub not_before : from ≤ i
+  pub here : P i
+  pub none_between : (j : ℕ) → from ≤ j → j < i → ¬ (P j)
+
+-- An answer is the least place with a property from a start on, or that there is none.
+abbrev pub IsFirst : (ℕ → Type 0) → ℕ → Option ℕ → Type 0
+IsFirst P from r = MatchOption r ((j : ℕ) → from ≤ j → ¬ (P j)) (IsLeast P from)
