@@ -1,12 +1,13 @@
 -- Proofs of the laws of strings as contracts see them.
-use Rattle.std.proofs.Common.{◌≡◌, ◌∙◌, ◌++◌, sym, subst, arith}
-use Rattle.wtf8.specs.Form.{bytes, IsForm}
+use Rattle.std.proofs.Common.{◌∙◌, ◌++◌, ℕ, List, ◌↔◌, sym, subst, arith}
+use Rattle.wtf8.specs.Form.{bytes, IsForm, Reads}
 use Rattle.wtf8.specs.Concatenation.{glue}
-use Rattle.wtf8.specs.StringLaws.{EqualBuffersHaveEqualUnits, EqualBufferAndViewHaveEqualUnits, EqualViewsHaveEqualUnits, StringsAreJoined, StringsArePaired, TextsAreScalar, RoomLeftIsFound, ScalarsStay}
+use Rattle.wtf8.specs.StringLaws.{EqualBuffersHaveEqualUnits, EqualBufferAndViewHaveEqualUnits, EqualViewsHaveEqualUnits, StringsAreJoined, StringsArePaired, TextsAreScalar, RoomLeftIsFound, ScalarsStay, FormsAreOfBuffers, FormsAreOfViews, WhatFitsIsFound}
+use Rattle.wtf8.specs.Surrogates.{AreScalar}
 use Rattle.wtf8.specs.View.{view_units, view_form}
 use Rattle.wtf8.proofs.Gluing.{form-glue, form_paired, form_apart}
 use Rattle.wtf8.proofs.LawLemmas.{equal_forms}
-use Rattle.wtf8.proofs.OneReading.{same_form}
+use Rattle.wtf8.proofs.OneReading.{same_form, same_reading}
 use Rattle.wtf8.proofs.PositionLaws.{both_no_longer}
 use Rattle.wtf8.proofs.Scalars.{scalar_text}
 use Rattle.wtf8.proofs.SurrogateLemmas.{lossy-scalar}
@@ -39,3 +40,17 @@ room_left s w v f h =
 
 pub scalars_stay : ScalarsStay
 scalars_stay = lossy-scalar
+
+pub forms_of_buffers : FormsAreOfBuffers
+forms_of_buffers s w u form e = same_form s.bytes w u (subst (IsForm s.bytes) e s.form) form
+
+pub forms_of_views : FormsAreOfViews
+forms_of_views t w u form e = same_form t.bytes.now w u (subst (IsForm t.bytes.now) e (view_form t)) form
+
+pub what_fits : WhatFitsIsFound
+what_fits s v n fit h = room_left s fit.whole v fit.form (omega (arith, fit.within, h))
+
+-- a reading is of scalar values exactly where each reading of its units is
+pub scalar_in_each_reading : (c u : List ℕ) → Reads c u → AreScalar c ↔ ((d : List ℕ) → Reads d u → AreScalar d)
+scalar_in_each_reading c u r =
+    (λ s d x. subst AreScalar (same_reading c d r.clean x.clean (r.same_units ∙ sym x.same_units)) s, λ h. h c r)

@@ -1,13 +1,15 @@
 -- Laws of strings as contracts see them: of buffers, views and texts.
-use Rattle.std.specs.Prelude.{◌≡◌, ℕ, ◌+◌, ◌-◌, ◌≤◌, List, ◌++◌, length, take, drop, ◌↔◌}
+use Rattle.std.specs.Prelude.{◌≡◌, ◌≢◌, ℕ, ◌+◌, ◌-◌, ◌<◌, ◌≤◌, List, ◌++◌, length, take, drop, slice_index, ◌↔◌}
+use Rattle.std.specs.List.{All}
 use Rattle.std.specs.Cmp.Lexicographic.{slice_cmp}
 use Rattle.std.specs.Ordering.{nat_cmp, MatchOrdering}
 use Rattle.std.specs.Str.{chars, IsUtf8}
 use Rattle.wtf8.specs.Unicode.{pair}
-use Rattle.wtf8.specs.Appending.{HasRoomFor}
+use Rattle.wtf8.specs.Appending.{FitWithin, HasRoomFor}
 use Rattle.wtf8.specs.Form.{encoding, bytes, IsForm}
 use Rattle.wtf8.specs.Concatenation.{MeetsAsPair}
 use Rattle.wtf8.specs.Order.{Before}
+use Rattle.wtf8.specs.Position.{IsBack}
 use Rattle.wtf8.specs.Surrogates.{AreScalar, lossy}
 use Rattle.wtf8.specs.UnitString.{UnitString}
 use Rattle.wtf8.specs.View.{view_units}
@@ -52,3 +54,23 @@ RoomLeftIsFound = (s : UnitString) (w v : List ℕ) → IsForm w v → length s.
 -- Scalar values stay as they are where a list is made lossy.
 abbrev pub ScalarsStay : Type 0
 ScalarsStay = (c : List ℕ) → AreScalar c → lossy c ≡ c
+
+-- The form of a buffer's units is its bytes.
+abbrev pub FormsAreOfBuffers : Type 0
+FormsAreOfBuffers = (s : UnitString) (w u : List ℕ) → IsForm w u → s.units ≡ u → s.bytes ≡ w
+
+-- The form of a view's units is its bytes.
+abbrev pub FormsAreOfViews : Type 0
+FormsAreOfViews = (t : Wtf8) (w u : List ℕ) → IsForm w u → view_units t ≡ u → t.bytes.now ≡ w
+
+-- A string has room for units that fit within the room that is left.
+abbrev pub WhatFitsIsFound : Type 0
+WhatFitsIsFound = (s : UnitString) (v : List ℕ) (n : ℕ) → FitWithin v 0 n → length s.bytes + n ≤ s.capacity → HasRoomFor s v
+
+-- A number below 80 that is none of a view's bytes is none of its units.
+abbrev pub AsciiIsNoUnitOfView : Type 0
+AsciiIsNoUnitOfView = (t : Wtf8) (b : ℕ) → b < 0x80 → ((j : ℕ) → j < length t.bytes.now → slice_index t.bytes.now j ≢ b) → All (λ x. x ≢ b) (view_units t)
+
+-- Such a number that is none of the bytes from a position on is none of the units from there on.
+abbrev pub AsciiIsNoUnitBehind : Type 0
+AsciiIsNoUnitBehind = (t : Wtf8) (v : List ℕ) (k b : ℕ) → IsBack (view_units t) k v → b < 0x80 → ((j : ℕ) → k ≤ j → j < length t.bytes.now → slice_index t.bytes.now j ≢ b) → All (λ x. x ≢ b) v

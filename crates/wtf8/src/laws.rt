@@ -48,6 +48,11 @@ ghost use Rattle.wtf8.specs.StringLaws.{
   TextsAreScalar,
   RoomLeftIsFound,
   ScalarsStay,
+  FormsAreOfBuffers,
+  FormsAreOfViews,
+  WhatFitsIsFound,
+  AsciiIsNoUnitOfView,
+  AsciiIsNoUnitBehind,
 };
 ghost use Rattle.wtf8.specs.Building.{CallsRunOnce, RunsAddUp};
 
@@ -132,11 +137,12 @@ pub fn law_positions()
 {}
 
 /// How long forms are: a beginning is no longer than the whole, and two lists together are no longer than both of them.
-/// So a string has room for units whose form is no longer than the room that is left.
+/// So a string has room for units whose form is no longer than the room that is left, or that fit within it.
 pub fn law_room()
     ensures beginning { BeginningsAreNoLonger }
     ensures both { BothAreNoLonger }
     ensures found { RoomLeftIsFound }
+    ensures fits { WhatFitsIsFound }
 {}
 
 /// How many code points, units and bytes there are: a code point has one to four bytes, and code points are at most as
@@ -146,11 +152,21 @@ pub fn law_lengths()
     ensures lists { ListsHaveLengths }
 {}
 
-/// Strings have equal bytes exactly where they have equal units, two buffers, a buffer and a view, or two views.
+/// Strings have equal bytes exactly where they have equal units, two buffers, a buffer and a view, or two views; and the
+/// form of a string's units is its bytes.
 pub fn law_equal_strings()
     ensures buffers { EqualBuffersHaveEqualUnits }
     ensures buffer_and_view { EqualBufferAndViewHaveEqualUnits }
     ensures views { EqualViewsHaveEqualUnits }
+    ensures form_of_buffer { FormsAreOfBuffers }
+    ensures form_of_view { FormsAreOfViews }
+{}
+
+/// A number below 0x80 that is none of a view's bytes is none of its units; one that is none of the bytes from a position
+/// on is none of the units from there on.
+pub fn law_no_ascii()
+    ensures whole { AsciiIsNoUnitOfView }
+    ensures behind { AsciiIsNoUnitBehind }
 {}
 
 /// The bytes of a string that has the units of two others, one behind the other, by the bytes of these.

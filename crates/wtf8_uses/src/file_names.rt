@@ -1,10 +1,10 @@
 //! File names of Windows: 16-bit units that nobody checked.
-ghost use Rattle.std.specs.Prelude.{◌≡◌, ◌<◌, ◌∷◌, ◌++◌, length, IfOk, IfSome, IfNone};
+ghost use Rattle.std.specs.Prelude.{◌≡◌, ◌<◌, ◌∷◌, ◌++◌, IfOk, IfSome, IfNone};
 ghost use Rattle.std.specs.Cow.{cow_str_bytes};
 ghost use Rattle.wtf8.specs.Form.{bytes};
 ghost use Rattle.wtf8.specs.Surrogates.{lossy};
 ghost use Rattle.wtf8.specs.View.{view_points, view_units};
-ghost use Rattle.wtf8_uses.specs.FileName.{IsCutAtLast, HasNoMark, IsLastBelow};
+ghost use Rattle.wtf8_uses.specs.FileName.{IsCutAtLast, HasNoMark};
 
 use std::alloc::{AllocError, Global};
 use std::borrow::CowStr;
@@ -76,25 +76,12 @@ fn cut_at_last<'a>(text: Wtf8<'a>, mark: u8, other: u8) -> Option<(Wtf8<'a>, Wtf
     ensures some { IfSome result (λ x. IsCutAtLast mark other (view_units text.entry) (view_units x.0) (view_units x.1)) }
     ensures none { IfNone result (HasNoMark mark other (view_units text.entry)) }
 {
-    laws::law_positions();
-    match last_mark(text, mark, other) {
-        Some(place) => Some((text.slice_to(place), text.slice_from(place + 1))),
-        None => None,
-    }
-}
-
-/// The place of the last of two ASCII marks, in bytes.
-fn last_mark(text: Wtf8<'_>, mark: u8, other: u8) -> Option<usize>
-    requires mark { mark < 0x80 }
-    requires other { other < 0x80 }
-    ensures { IsLastBelow text.entry.bytes.now mark other (length text.entry.bytes.now) result }
-{
-    let mut last = None;
-    for place in 0..text.len() {
+    laws::law_no_ascii();
+    for place in (0..text.len()).rev() {
         let byte = text.ascii_byte_at(place);
         if byte == mark || byte == other {
-            last = Some(place);
+            return Some((text.slice_to(place), text.slice_from(place + 1)));
         }
     }
-    last
+    None
 }

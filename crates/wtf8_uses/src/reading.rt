@@ -1,5 +1,5 @@
 //! A reader of UTF-16 in little-endian bytes.
-ghost use Rattle.std.specs.Prelude.{◌≡◌, ◌≢◌, ℕ, List, [], ◌∷◌, ◌++◌, None, IfSome, IfOk, OnOk, IfErr, OnErr, IsErrOf};
+ghost use Rattle.std.specs.Prelude.{◌≡◌, ◌≢◌, ◌/◌, ◌%◌, ℕ, List, [], ◌∷◌, ◌++◌, None, IfSome, IfOk, OnOk, IfErr, OnErr, IsErrOf};
 ghost use Rattle.std.specs.Io.KnownBytes.{Consumes, IsAtEnd};
 ghost use Rattle.std.specs.IoError.{error_kind};
 ghost use Rattle.std.specs.declared.io.Error.{Error};
@@ -75,7 +75,7 @@ fn push_bytes<A: Allocator + Copy>(
     for byte in bytes {
         match low {
             Some(first) => {
-                units.push(u16::from_le_bytes([first, *byte]))?;
+                units.push(unit_of(first, *byte))?;
                 low = None;
             }
             None => low = Some(*byte),
@@ -84,6 +84,14 @@ fn push_bytes<A: Allocator + Copy>(
     let piece = Wtf8Buf::from_ill_formed_utf16(alloc, units.as_slice())?;
     string.push_wtf8(piece.as_wtf8())?;
     Ok(low)
+}
+
+/// The unit of a low byte and a high byte.
+fn unit_of(low: u8, high: u8) -> u16
+    ensures low { result % 0x100 ≡ low }
+    ensures high { result / 0x100 ≡ high }
+{
+    u16::from_le_bytes([low, high])
 }
 
 /// A string of which all was read, unless a low byte was left over.
