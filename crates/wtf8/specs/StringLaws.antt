@@ -67,10 +67,14 @@ FormsAreOfViews = (t : Wtf8) (w u : List ℕ) → IsForm w u → view_units t �
 abbrev pub WhatFitsIsFound : Type 0
 WhatFitsIsFound = (s : UnitString) (v : List ℕ) (n : ℕ) → FitWithin v 0 n → length s.bytes + n ≤ s.capacity → HasRoomFor s v
 
+-- None of a view's bytes from a place on is this number.
+abbrev pub HasNoByteFrom : Wtf8 → ℕ → ℕ → Type 0
+HasNoByteFrom t k b = (j : ℕ) → k ≤ j → j < length t.bytes.now → slice_index t.bytes.now j ≢ b
+
 -- A number below 80 that is none of a view's bytes is none of its units.
 abbrev pub AsciiIsNoUnitOfView : Type 0
-AsciiIsNoUnitOfView = (t : Wtf8) (b : ℕ) → b < 0x80 → ((j : ℕ) → j < length t.bytes.now → slice_index t.bytes.now j ≢ b) → All (λ x. x ≢ b) (view_units t)
+AsciiIsNoUnitOfView = (t : Wtf8) (b : ℕ) → b < 0x80 → HasNoByteFrom t 0 b → All (λ x. x ≢ b) (view_units t)
 
--- Such a number that is none of the bytes from a position on is none of the units from there on.
+-- Such a number that is none of the bytes from a place on is none of the units from a position on that is no earlier.
 abbrev pub AsciiIsNoUnitBehind : Type 0
-AsciiIsNoUnitBehind = (t : Wtf8) (v : List ℕ) (k b : ℕ) → IsBack (view_units t) k v → b < 0x80 → ((j : ℕ) → k ≤ j → j < length t.bytes.now → slice_index t.bytes.now j ≢ b) → All (λ x. x ≢ b) v
+AsciiIsNoUnitBehind = (t : Wtf8) (v : List ℕ) (m k b : ℕ) → IsBack (view_units t) m v → k ≤ m → b < 0x80 → HasNoByteFrom t k b → All (λ x. x ≢ b) v

@@ -25,7 +25,7 @@ pub fn put_and_found(
 pub fn hash_alike<H: BuildHasher>(build: &H, buffer: &Wtf8Buf<Global>, view: Wtf8<'_>) -> bool
     ensures { buffer.now.units ≡ view_units view.entry → IsTrue result }
 {
-    laws::law_equal_strings();
+    laws::law_equal(buffer.as_wtf8(), view);
     let mut first = build.build_hasher();
     let mut second = build.build_hasher();
     buffer.hash(&mut first);

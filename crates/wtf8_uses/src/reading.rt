@@ -73,17 +73,29 @@ fn push_bytes<A: Allocator + Copy>(
     let mut units = Vec::with_capacity(alloc, bytes.len() / 2 + 1)?;
     let mut low = held;
     for byte in bytes {
-        match low {
-            Some(first) => {
-                units.push(unit_of(first, *byte))?;
-                low = None;
-            }
-            None => low = Some(*byte),
-        }
+        low = push_byte(&mut units, low, *byte)?;
     }
     let piece = Wtf8Buf::from_ill_formed_utf16(alloc, units.as_slice())?;
     string.push_wtf8(piece.as_wtf8())?;
     Ok(low)
+}
+
+/// Appends the unit of the low byte that is held and of another byte. Where none is held it holds this one: the answer
+/// is the low byte that is held then.
+fn push_byte<A: Allocator>(
+    units: &mut Vec<u16, A>,
+    held: Option<u8>,
+    byte: u8,
+) -> Result<Option<u8>, AllocError>
+    ensures { IfOk result (λ low. bytes_read units.old.items held ++ byte ∷ [] ≡ bytes_read units.new.items low) }
+{
+    match held {
+        Some(low) => {
+            units.push(unit_of(low, byte))?;
+            Ok(None)
+        }
+        None => Ok(Some(byte)),
+    }
 }
 
 /// The unit of a low byte and a high byte.
