@@ -1,4 +1,5 @@
 // Laws of the encoding: nothing runs here, the contracts are theorems about the definitions.
+ghost use Rattle.std.specs.Prelude.{◌≡◌, ◌↔◌};
 ghost use Rattle.wtf8.specs.Laws.{
   UnitsHaveOneReading,
   ReadingsAreOfUnits,
@@ -55,7 +56,6 @@ ghost use Rattle.wtf8.specs.StringLaws.{
   AsciiIsNoUnitBehind,
 };
 ghost use Rattle.wtf8.specs.Building.{CallsRunOnce, RunsAddUp};
-ghost use Rattle.std.specs.Prelude.{◌≡◌, ◌↔◌};
 ghost use Rattle.wtf8.specs.View.{view_units};
 
 use crate::view::Wtf8;
@@ -166,6 +166,12 @@ pub fn law_equal_strings()
     ensures form_of_view { FormsAreOfViews }
 {}
 
+/// These two views have equal bytes exactly where they have equal units. A caller calls it with the views, or the views of
+/// buffers, and has nothing to cite.
+pub fn law_equal_views(first: Wtf8<'_>, second: Wtf8<'_>)
+    ensures { (first.entry.bytes.now ≡ second.entry.bytes.now) ↔ (view_units first.entry ≡ view_units second.entry) }
+{}
+
 /// A number below 0x80 that is none of a view's bytes is none of its units; one that is none of the bytes from a place on
 /// is none of the units from a position on that is no earlier.
 pub fn law_no_ascii()
@@ -187,9 +193,4 @@ pub fn law_texts()
 /// Scalar values stay as they are where a list is made lossy, so that a text made lossy is the same text.
 pub fn law_lossy()
     ensures { ScalarsStay }
-{}
-
-/// Two views have equal bytes exactly where they have equal units: `law_equal_strings` for these two.
-pub fn law_equal(first: Wtf8<'_>, second: Wtf8<'_>)
-    ensures { (first.entry.bytes.now ≡ second.entry.bytes.now) ↔ (view_units first.entry ≡ view_units second.entry) }
 {}

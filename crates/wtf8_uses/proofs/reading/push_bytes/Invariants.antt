@@ -1,8 +1,7 @@
-use Rattle.std.proofs.Common.{◌≡◌, ◌++◌, take}
-use Rattle.std.specs.Option.{option_to_list}
+use Rattle.std.proofs.Common.{◌≡◌, [], ◌++◌, take}
 use Rattle.wtf8_uses.specs.LittleEndian.{bytes_read}
 use Rattle.wtf8_uses.proofs.reading.push_bytes.Given as goal
 
 -- the byte that was held and the bytes so far are those of the units so far
 abbrev pub invariant-loop-byte : goal.invariant-loop-byte
-invariant-loop-byte g l = option_to_list l.fn.held ++ take l.byte-index l.bytes ≡ bytes_read l.units.items l.low
+invariant-loop-byte g l = bytes_read [] l.fn.held ++ take l.byte-index l.bytes ≡ bytes_read l.units.items l.low
