@@ -1,14 +1,17 @@
 -- Proofs of the laws of strings as contracts see them.
-use Rattle.std.proofs.Common.{◌∙◌, ◌++◌, ℕ, List, ◌↔◌, sym, subst, arith}
+use Rattle.std.proofs.Common.{◌≢◌, ◌<◌, ◌∙◌, ◌++◌, ℕ, List, length, slice_index, ◌↔◌, sym, subst, arith}
+use Rattle.std.proofs.lemmas.List.Elements.{All-from_get_or}
+use Rattle.std.specs.List.{All}
 use Rattle.wtf8.specs.Form.{bytes, IsForm, Reads}
 use Rattle.wtf8.specs.Concatenation.{glue}
 use Rattle.wtf8.specs.StringLaws.{EqualBuffersHaveEqualUnits, EqualBufferAndViewHaveEqualUnits, EqualViewsHaveEqualUnits, StringsAreJoined, StringsArePaired, TextsAreScalar, RoomLeftIsFound, ScalarsStay, FormsAreOfBuffers, FormsAreOfViews, WhatFitsIsFound}
 use Rattle.wtf8.specs.Surrogates.{AreScalar}
 use Rattle.wtf8.specs.View.{view_units, view_form}
+use Rattle.wtf8.specs.declared.view.Wtf8.{Wtf8}
 use Rattle.wtf8.proofs.Gluing.{form-glue, form_paired, form_apart}
 use Rattle.wtf8.proofs.LawLemmas.{equal_forms}
 use Rattle.wtf8.proofs.OneReading.{same_form, same_reading}
-use Rattle.wtf8.proofs.PositionLaws.{both_no_longer}
+use Rattle.wtf8.proofs.PositionLaws.{ascii_no_other_unit, both_no_longer}
 use Rattle.wtf8.proofs.Scalars.{scalar_text}
 use Rattle.wtf8.proofs.SurrogateLemmas.{lossy-scalar}
 
@@ -54,3 +57,8 @@ what_fits s v n fit h = room_left s fit.whole v fit.form (omega (arith, fit.with
 pub scalar_in_each_reading : (c u : List ℕ) → Reads c u → AreScalar c ↔ ((d : List ℕ) → Reads d u → AreScalar d)
 scalar_in_each_reading c u r =
     (λ s d x. subst AreScalar (same_reading c d r.clean x.clean (r.same_units ∙ sym x.same_units)) s, λ h. h c r)
+
+-- a number below 80 that is none of a view's bytes is none of its units
+pub no_ascii_unit : (t : Wtf8) (b : ℕ) → b < 0x80 → ((j : ℕ) → j < length t.bytes.now → slice_index t.bytes.now j ≢ b) → All (λ x. x ≢ b) (view_units t)
+no_ascii_unit t b l h =
+    ascii_no_other_unit t.bytes.now (view_units t) b (view_form t) l (All-from_get_or (λ x. x ≢ b) t.bytes.now 0 (λ i m e. h i m e))

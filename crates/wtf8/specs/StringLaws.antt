@@ -1,6 +1,5 @@
 -- Laws of strings as contracts see them: of buffers, views and texts.
-use Rattle.std.specs.Prelude.{◌≡◌, ◌≢◌, ℕ, ◌+◌, ◌-◌, ◌<◌, ◌≤◌, List, ◌++◌, length, take, drop, slice_index, ◌↔◌}
-use Rattle.std.specs.List.{All}
+use Rattle.std.specs.Prelude.{◌≡◌, ℕ, ◌+◌, ◌-◌, ◌≤◌, List, ◌++◌, length, take, drop, ◌↔◌}
 use Rattle.std.specs.Cmp.Lexicographic.{slice_cmp}
 use Rattle.std.specs.Ordering.{nat_cmp, MatchOrdering}
 use Rattle.std.specs.Str.{chars, IsUtf8}
@@ -9,7 +8,6 @@ use Rattle.wtf8.specs.Appending.{FitWithin, HasRoomFor}
 use Rattle.wtf8.specs.Form.{encoding, bytes, IsForm}
 use Rattle.wtf8.specs.Concatenation.{MeetsAsPair}
 use Rattle.wtf8.specs.Order.{Before}
-use Rattle.wtf8.specs.Position.{IsBack}
 use Rattle.wtf8.specs.Surrogates.{AreScalar, lossy}
 use Rattle.wtf8.specs.UnitString.{UnitString}
 use Rattle.wtf8.specs.View.{view_units}
@@ -66,15 +64,3 @@ FormsAreOfViews = (t : Wtf8) (w u : List ℕ) → IsForm w u → view_units t �
 -- A string has room for units that fit within the room that is left.
 abbrev pub WhatFitsIsFound : Type 0
 WhatFitsIsFound = (s : UnitString) (v : List ℕ) (n : ℕ) → FitWithin v 0 n → length s.bytes + n ≤ s.capacity → HasRoomFor s v
-
--- None of a view's bytes from a place on is this number.
-abbrev pub HasNoByteFrom : Wtf8 → ℕ → ℕ → Type 0
-HasNoByteFrom t k b = (j : ℕ) → k ≤ j → j < length t.bytes.now → slice_index t.bytes.now j ≢ b
-
--- A number below 80 that is none of a view's bytes is none of its units.
-abbrev pub AsciiIsNoUnitOfView : Type 0
-AsciiIsNoUnitOfView = (t : Wtf8) (b : ℕ) → b < 0x80 → HasNoByteFrom t 0 b → All (λ x. x ≢ b) (view_units t)
-
--- Such a number that is none of the bytes from a place on is none of the units from a position on that is no earlier.
-abbrev pub AsciiIsNoUnitBehind : Type 0
-AsciiIsNoUnitBehind = (t : Wtf8) (v : List ℕ) (m k b : ℕ) → IsBack (view_units t) m v → k ≤ m → b < 0x80 → HasNoByteFrom t k b → All (λ x. x ≢ b) v

@@ -1,5 +1,6 @@
 // Laws of the encoding: nothing runs here, the contracts are theorems about the definitions.
-ghost use Rattle.std.specs.Prelude.{◌≡◌, ◌↔◌};
+ghost use Rattle.std.specs.List.{All};
+ghost use Rattle.std.specs.Prelude.{◌≡◌, ◌≢◌, ◌<◌, ℕ, length, slice_index, ◌↔◌};
 ghost use Rattle.wtf8.specs.Laws.{
   UnitsHaveOneReading,
   ReadingsAreOfUnits,
@@ -52,8 +53,6 @@ ghost use Rattle.wtf8.specs.StringLaws.{
   FormsAreOfBuffers,
   FormsAreOfViews,
   WhatFitsIsFound,
-  AsciiIsNoUnitOfView,
-  AsciiIsNoUnitBehind,
 };
 ghost use Rattle.wtf8.specs.Building.{CallsRunOnce, RunsAddUp};
 ghost use Rattle.wtf8.specs.View.{view_units};
@@ -172,11 +171,11 @@ pub fn law_equal_views(first: Wtf8<'_>, second: Wtf8<'_>)
     ensures { (first.entry.bytes.now ≡ second.entry.bytes.now) ↔ (view_units first.entry ≡ view_units second.entry) }
 {}
 
-/// A number below 0x80 that is none of a view's bytes is none of its units; one that is none of the bytes from a place on
-/// is none of the units from a position on that is no earlier.
-pub fn law_no_ascii()
-    ensures whole { AsciiIsNoUnitOfView }
-    ensures behind { AsciiIsNoUnitBehind }
+/// A number below 0x80 that is none of this view's bytes is none of its units. A caller calls it with the view and the
+/// number, and has nothing to cite.
+pub fn law_no_ascii(text: Wtf8<'_>, byte: u8)
+    requires { byte < 0x80 }
+    ensures { ((j : ℕ) → j < length text.entry.bytes.now → slice_index text.entry.bytes.now j ≢ byte) → All (λ x. x ≢ byte) (view_units text.entry) }
 {}
 
 /// The bytes of a string that has the units of two others, one behind the other, by the bytes of these.

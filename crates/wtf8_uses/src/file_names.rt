@@ -84,12 +84,16 @@ fn cut_at_last<'a>(text: Wtf8<'a>, mark: u8, other: u8) -> Option<(Wtf8<'a>, u8,
     ensures behind { IfSome result (λ x. HasNoMark mark other (view_units x.2)) }
     ensures none { IfNone result (HasNoMark mark other (view_units text.entry)) }
 {
-    laws::law_no_ascii();
     for place in (0..text.len()).rev() {
         let byte = text.ascii_byte_at(place);
         if byte == mark || byte == other {
-            return Some((text.slice_to(place), byte, text.slice_from(place + 1)));
+            let back = text.slice_from(place + 1);
+            laws::law_no_ascii(back, mark);
+            laws::law_no_ascii(back, other);
+            return Some((text.slice_to(place), byte, back));
         }
     }
+    laws::law_no_ascii(text, mark);
+    laws::law_no_ascii(text, other);
     None
 }
