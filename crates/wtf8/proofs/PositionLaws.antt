@@ -1,19 +1,19 @@
 -- Proofs of the laws of positions and lengths.
-use Rattle.std.proofs.Common.{◌≡◌, ◌≢◌, ◌<◌, ◌+◌, ◌-◌, ◌/◌, ◌%◌, ℕ, inl, inr, List, [], ◌∷◌, ◌++◌, length, get_or, refl, ap, ◌∙◌, sym, subst, arith, append_assoc, length-append}
+use Rattle.std.proofs.Common.{◌≡◌, ◌≢◌, ◌≤◌, ◌<◌, ◌+◌, ◌-◌, ◌/◌, ◌%◌, ℕ, inl, inr, List, [], ◌∷◌, ◌++◌, length, get_or, refl, ap, ◌∙◌, sym, subst, arith, append_assoc, length-append}
 use Rattle.std.proofs.lemmas.List.{append-nil, append_cancel_left, append_cancel_right, drop_at, get_or-append_right}
 use Rattle.std.proofs.lemmas.List.Elements.{All-cons, All-drop, All-head, All-nil}
 use Rattle.std.specs.List.{All}
-use Rattle.wtf8.specs.Unicode.{units}
+use Rattle.wtf8.specs.Unicode.{units, units_of}
 use Rattle.wtf8.specs.Form.{encoding, bytes, IsClean, Reads, IsForm}
-use Rattle.wtf8.specs.Position.{IsBoundary, IsFront, IsBack}
+use Rattle.wtf8.specs.Position.{Splits, IsBoundary, IsFront, IsBack}
 use Rattle.wtf8.specs.PositionLaws.{StartIsBoundary, EndIsBoundary, NoneIsBeyondEnd, AsciiStandsAlone, AsciiIsOneUnit, AsciiIsNoOtherUnit, FrontBoundariesAreOfWhole, WholeBoundariesAreOfFront, WholeBoundariesAreOfBack, BackBoundariesAreOfWhole, BeginningsAreNoLonger, BothAreNoLonger, ListsHaveLengths}
-use Rattle.wtf8.proofs.EncodingLemmas.{row_of, one, two, three, four}
+use Rattle.wtf8.proofs.EncodingLemmas.{row_of, one, two, three, four, length-encoding_bounds}
 use Rattle.wtf8.proofs.Gaining.{well_formed_of}
 use Rattle.wtf8.proofs.Gluing.{length_paired, length_apart, meets_or_apart, points_meet, units_meet}
 use Rattle.wtf8.proofs.Joining.{bytes-append, bytes-pushed, clean-front, clean-back}
 use Rattle.wtf8.proofs.LawLemmas.{front_and_back}
 use Rattle.wtf8.proofs.OneReading.{same_reading, same_form}
-use Rattle.wtf8.proofs.Positions.{Cut, cut_at, boundary_from_byte, begun}
+use Rattle.wtf8.proofs.Positions.{Cut, cut_at, boundary_from_byte, Begun, begun}
 use Rattle.wtf8.proofs.Runs.{beginning}
 use Rattle.wtf8.proofs.UnitLemmas.{units_one, units_two, units-append, units_bounds, points_bounds}
 

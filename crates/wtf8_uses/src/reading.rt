@@ -37,7 +37,8 @@ pub fn read_utf16<A: Allocator + Copy, R: Read>(
     ensures units { IfOk result (λ s. IfSome (R.remaining reader.old) (λ input. input ≡ little_endian s.units)) }
     ensures end { OnOk result (IsAtEnd (R.remaining reader.new)) }
     ensures half_end { IsErrOf result ReadError.HalfUnit → IsAtEnd (R.remaining reader.new) }
-    ensures half { IsErrOf result ReadError.HalfUnit → IfSome (R.remaining reader.old) (λ input. (u : List ℕ) × (low : ℕ) × (input ≡ little_endian u ++ low ∷ [])) }
+    ensures half { IsErrOf result ReadError.HalfUnit →
+        IfSome (R.remaining reader.old) (λ input. (u : List ℕ) × (low : ℕ) × (input ≡ little_endian u ++ low ∷ [])) }
     ensures retried { IfErr result (λ e. (error : Error) → e ≡ ReadError.Read error → error_kind error ≢ Interrupted) }
     ensures beginning { OnErr result ((input : List ℕ) × Consumes (R.remaining reader.old) (R.remaining reader.new) input) }
 {

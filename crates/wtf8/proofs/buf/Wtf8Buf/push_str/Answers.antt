@@ -1,5 +1,5 @@
 use Rattle.wtf8.specs.UnitString.{UnitString}
-use Rattle.std.proofs.Common.{◌+◌, ◌≤◌, ap, arith, length, refl, vec_capacity}
+use Rattle.std.proofs.Common.{ap, arith, length, refl}
 use Rattle.wtf8.specs.Unicode.{units}
 use Rattle.wtf8.proofs.Scalars.{scalar_gained, scalar_text}
 use Rattle.wtf8.proofs.Texts.{well_formed_text}
@@ -23,13 +23,17 @@ returns-clause-kept g c = kept_contents c.push_text.result _ _ _ c.self.view_is 
 
 pub returns-clause-at_most : goal.returns-clause-at_most
 returns-clause-at_most g c =
-    grows_at_most c.push_text.result c.args.self.now _ _ _ (ap (λ (t : UnitString). t.bytes) c.self.view_is) (form_of (well_formed_text c.args.other.now c.utf8.other)) c.push_text.ensures.ok
+    let same = ap (λ (t : UnitString). t.bytes) c.self.view_is in
+    grows_at_most c.push_text.result c.args.self.now _ _ _ same (form_of (well_formed_text c.args.other.now c.utf8.other)) c.push_text.ensures.ok
 
 pub returns-clause-room_left : goal.returns-clause-room_left
 returns-clause-room_left g c h =
-    let room : length c.args.self.now.bytes + length c.args.other.now ≤ vec_capacity c.self.inside.bytes = omega (arith, h, ap (λ (t : UnitString). t.capacity) c.self.view_is) in
-    c.push_text.ensures.room (fits_left c.args.self.now _ _ _ (ap (λ (t : UnitString). t.bytes) c.self.view_is) (form_of (well_formed_text c.args.other.now c.utf8.other)) room)
+    let room = ap (λ (t : UnitString). t.capacity) c.self.view_is in
+    let same = ap (λ (t : UnitString). t.bytes) c.self.view_is in
+    let form = form_of (well_formed_text c.args.other.now c.utf8.other) in
+    c.push_text.ensures.room (fits_left c.args.self.now _ _ _ same form (omega (arith, h, room)))
 
 pub returns-clause-nothing : goal.returns-clause-nothing
 returns-clause-nothing g c e =
-    nothing_appended c.push_text.result _ _ _ (ap units (no_points (well_formed_text c.args.other.now c.utf8.other) (ap length e))) (returns-clause-ok g c) (returns-clause-kept g c)
+    let none = no_points (well_formed_text c.args.other.now c.utf8.other) (ap length e) in
+    nothing_appended c.push_text.result _ _ _ (ap units none) (returns-clause-ok g c) (returns-clause-kept g c)

@@ -1,5 +1,5 @@
 use Rattle.wtf8.specs.UnitString.{UnitString}
-use Rattle.std.proofs.Common.{◌+◌, ◌≤◌, ap, arith, length, refl, sym, subst, ◌∙◌, IsTrue, vec_capacity}
+use Rattle.std.proofs.Common.{ap, arith, length, refl, sym, subst, ◌∙◌, IsTrue}
 use Rattle.std.proofs.lemmas.Bool.{false≢true}
 use Rattle.wtf8.proofs.Scalars.{scalar_gained, scalar_unless_found}
 use Rattle.wtf8.specs.Unicode.{units}
@@ -39,12 +39,14 @@ returns-clause-length g c = added_length c.push_view.result _ _ _ c.args.other c
 
 pub returns-clause-at_most : goal.returns-clause-at_most
 returns-clause-at_most g c =
-    grows_at_most c.push_view.result c.args.self.now _ _ (view_units c.args.other) (ap (λ (t : UnitString). t.bytes) c.self.view_is) (view_form c.args.other) c.push_view.ensures.ok
+    let same = ap (λ (t : UnitString). t.bytes) c.self.view_is in
+    grows_at_most c.push_view.result c.args.self.now _ _ (view_units c.args.other) same (view_form c.args.other) c.push_view.ensures.ok
 
 pub returns-clause-room_left : goal.returns-clause-room_left
 returns-clause-room_left g c h =
-    let room : length c.args.self.now.bytes + length c.args.other.bytes.now ≤ vec_capacity c.self.inside.bytes = omega (arith, h, ap (λ (t : UnitString). t.capacity) c.self.view_is) in
-    c.push_view.ensures.room (fits_left c.args.self.now _ (view_units c.args.other) _ (ap (λ (t : UnitString). t.bytes) c.self.view_is) (view_form c.args.other) room)
+    let room = ap (λ (t : UnitString). t.capacity) c.self.view_is in
+    let same = ap (λ (t : UnitString). t.bytes) c.self.view_is in
+    c.push_view.ensures.room (fits_left c.args.self.now _ (view_units c.args.other) _ same (view_form c.args.other) (omega (arith, h, room)))
 
 pub returns-clause-nothing : goal.returns-clause-nothing
 returns-clause-nothing g c e =
