@@ -1,3 +1,4 @@
+pub mod Appending
 pub mod AsciiPositions
 pub mod ByteOrder
 pub mod Clean

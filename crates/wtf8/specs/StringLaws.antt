@@ -4,7 +4,7 @@ use Rattle.std.specs.Cmp.Lexicographic.{slice_cmp}
 use Rattle.std.specs.Ordering.{nat_cmp, MatchOrdering}
 use Rattle.std.specs.Str.{chars, IsUtf8}
 use Rattle.wtf8.specs.Unicode.{pair}
-use Rattle.wtf8.specs.Appending.{HasRoomFor}
+use Rattle.wtf8.specs.Appending.{FitWithin, HasRoomFor}
 use Rattle.wtf8.specs.Form.{encoding, bytes, IsForm}
 use Rattle.wtf8.specs.Concatenation.{MeetsAsPair}
 use Rattle.wtf8.specs.Order.{Before}
@@ -52,3 +52,15 @@ RoomLeftIsFound = (s : UnitString) (w v : List ℕ) → IsForm w v → length s.
 -- Scalar values stay as they are where a list is made lossy.
 abbrev pub ScalarsStay : Type 0
 ScalarsStay = (c : List ℕ) → AreScalar c → lossy c ≡ c
+
+-- The form of a buffer's units is its bytes.
+abbrev pub FormsAreOfBuffers : Type 0
+FormsAreOfBuffers = (s : UnitString) (w u : List ℕ) → IsForm w u → s.units ≡ u → s.bytes ≡ w
+
+-- The form of a view's units is its bytes.
+abbrev pub FormsAreOfViews : Type 0
+FormsAreOfViews = (t : Wtf8) (w u : List ℕ) → IsForm w u → view_units t ≡ u → t.bytes.now ≡ w
+
+-- A string has room for units that fit within the room that is left.
+abbrev pub WhatFitsIsFound : Type 0
+WhatFitsIsFound = (s : UnitString) (v : List ℕ) (n : ℕ) → FitWithin v 0 n → length s.bytes + n ≤ s.capacity → HasRoomFor s v

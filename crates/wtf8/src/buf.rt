@@ -4,7 +4,7 @@ ghost use Rattle.std.specs.Str.{chars};
 ghost use Rattle.std.specs.String.{string_bytes};
 ghost use Rattle.wtf8.specs.Appending.{AppendsUnits, KeepsContents, HasRoomFor, AddsLength};
 ghost use Rattle.wtf8.specs.CodePoint.{number};
-ghost use Rattle.wtf8.specs.Form.{IsWellFormed, IsForm, bytes};
+ghost use Rattle.wtf8.specs.Form.{IsWellFormed, IsForm, Reads, bytes};
 ghost use Rattle.wtf8.specs.OneForm.{IsWellFormed-prop, KnownScalar-prop};
 ghost use Rattle.wtf8.specs.Position.{IsBoundary, IsFront};
 ghost use Rattle.wtf8.specs.Surrogates.{AreScalar, lossy};
@@ -253,6 +253,11 @@ impl<A: Allocator> Wtf8Buf<A> {
         ensures room { HasRoomFor self.old (units (chars other.now)) → IsOk result }
         ensures empty { other.now ≡ [] → IsOk result }
         ensures capacity { self.old.capacity ≤ self.new.capacity }
+
+        // In bytes: the length grows by the text's length at most, which is room enough, and the empty text changes nothing.
+        ensures at_most { OnOk result (length self.new.bytes ≤ length self.old.bytes + length other.now) }
+        ensures room_left { length self.old.bytes + length other.now ≤ self.old.capacity → IsOk result }
+        ensures nothing { other.now ≡ [] → KeepsContents self.old self.new }
     {
         concat::push_text(&mut self.bytes, other)
     }
@@ -285,6 +290,12 @@ impl<A: Allocator> Wtf8Buf<A> {
         ensures room { HasRoomFor self.old (view_units other.entry) → IsOk result }
         ensures empty { view_units other.entry ≡ [] → IsOk result }
         ensures capacity { self.old.capacity ≤ self.new.capacity }
+
+        // In bytes: the length grows by the other's length at most, which is room enough, and the empty string changes
+        // nothing.
+        ensures at_most { OnOk result (length self.new.bytes ≤ length self.old.bytes + length other.entry.bytes.now) }
+        ensures room_left { length self.old.bytes + length other.entry.bytes.now ≤ self.old.capacity → IsOk result }
+        ensures nothing { other.entry.bytes.now ≡ [] → KeepsContents self.old self.new }
     {
         if self.is_known_utf8 {
             self.is_known_utf8 = search::first_surrogate(other.bytes, 0).is_none();
@@ -349,6 +360,7 @@ impl<A: Allocator> Wtf8Buf<A> {
     /// memory.
     pub fn into_string(self) -> Result<String<A>, Wtf8Buf<A>>
         ensures ok { IsOk result ↔ AreScalar self.form.points }
+        ensures units { IsOk result ↔ ((c : List ℕ) → Reads c self.units → AreScalar c) }
         ensures bytes { IfOk result (λ t. string_bytes t ≡ self.bytes) }
         ensures same_back { IfErr result (λ b. b ≡ self) }
     {

@@ -1,4 +1,6 @@
 // Laws of the encoding: nothing runs here, the contracts are theorems about the definitions.
+ghost use Rattle.std.specs.List.{All};
+ghost use Rattle.std.specs.Prelude.{◌≡◌, ◌≢◌, ◌<◌, ℕ, length, slice_index, ◌↔◌};
 ghost use Rattle.wtf8.specs.Laws.{
   UnitsHaveOneReading,
   ReadingsAreOfUnits,
@@ -48,8 +50,14 @@ ghost use Rattle.wtf8.specs.StringLaws.{
   TextsAreScalar,
   RoomLeftIsFound,
   ScalarsStay,
+  FormsAreOfBuffers,
+  FormsAreOfViews,
+  WhatFitsIsFound,
 };
 ghost use Rattle.wtf8.specs.Building.{CallsRunOnce, RunsAddUp};
+ghost use Rattle.wtf8.specs.View.{view_units};
+
+use crate::view::Wtf8;
 
 /// Each list of 16-bit units has exactly one reading as code points of which no two would join, and only such lists
 /// have one.
@@ -132,11 +140,12 @@ pub fn law_positions()
 {}
 
 /// How long forms are: a beginning is no longer than the whole, and two lists together are no longer than both of them.
-/// So a string has room for units whose form is no longer than the room that is left.
+/// So a string has room for units whose form is no longer than the room that is left, or that fit within it.
 pub fn law_room()
     ensures beginning { BeginningsAreNoLonger }
     ensures both { BothAreNoLonger }
     ensures found { RoomLeftIsFound }
+    ensures fits { WhatFitsIsFound }
 {}
 
 /// How many code points, units and bytes there are: a code point has one to four bytes, and code points are at most as
@@ -146,11 +155,27 @@ pub fn law_lengths()
     ensures lists { ListsHaveLengths }
 {}
 
-/// Strings have equal bytes exactly where they have equal units, two buffers, a buffer and a view, or two views.
+/// Strings have equal bytes exactly where they have equal units, two buffers, a buffer and a view, or two views; and the
+/// form of a string's units is its bytes.
 pub fn law_equal_strings()
     ensures buffers { EqualBuffersHaveEqualUnits }
     ensures buffer_and_view { EqualBufferAndViewHaveEqualUnits }
     ensures views { EqualViewsHaveEqualUnits }
+    ensures form_of_buffer { FormsAreOfBuffers }
+    ensures form_of_view { FormsAreOfViews }
+{}
+
+/// These two views have equal bytes exactly where they have equal units. A caller calls it with the views, or the views of
+/// buffers, and has nothing to cite.
+pub fn law_equal_views(first: Wtf8<'_>, second: Wtf8<'_>)
+    ensures { (first.entry.bytes.now ≡ second.entry.bytes.now) ↔ (view_units first.entry ≡ view_units second.entry) }
+{}
+
+/// A number below 0x80 that is none of this view's bytes is none of its units. A caller calls it with the view and the
+/// number, and has nothing to cite.
+pub fn law_no_ascii(text: Wtf8<'_>, byte: u8)
+    requires { byte < 0x80 }
+    ensures { ((j : ℕ) → j < length text.entry.bytes.now → slice_index text.entry.bytes.now j ≢ byte) → All (λ x. x ≢ byte) (view_units text.entry) }
 {}
 
 /// The bytes of a string that has the units of two others, one behind the other, by the bytes of these.

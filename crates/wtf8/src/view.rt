@@ -1,9 +1,10 @@
 // Borrowed strings.
-ghost use Rattle.std.specs.Prelude.{◌≡◌, ℕ, List, [], ◌∷◌, ◌++◌, ◌+◌, ◌*◌, ◌^◌, ◌<◌, ◌≤◌, ◌↔◌, length, take, drop, slice_index, IsTrue, IsSome, IfSome, IfNone, IfOk, OnOk, OnErr, IsOk, vec_len, vec_capacity};
+ghost use Rattle.std.specs.Prelude.{◌≡◌, ℕ, List, [], ◌∷◌, ◌++◌, ◌+◌, ◌*◌, ◌^◌, ◌<◌, ◌≤◌, ◌↔◌, length, take, drop, slice_index};
+ghost use Rattle.std.specs.Prelude.{IsTrue, IsSome, IfSome, IfNone, IfOk, OnOk, OnErr, IsOk, vec_len, vec_capacity};
 ghost use Rattle.std.specs.Cow.{cow_str_bytes, IsBorrowedStr};
 ghost use Rattle.std.specs.Str.{chars};
 ghost use Rattle.std.specs.String.{string_bytes};
-ghost use Rattle.wtf8.specs.Form.{bytes, IsWellFormed};
+ghost use Rattle.wtf8.specs.Form.{bytes, IsWellFormed, Reads};
 ghost use Rattle.wtf8.specs.Hex.{hex};
 ghost use Rattle.wtf8.specs.OneForm.{IsWellFormed-prop};
 ghost use Rattle.wtf8.specs.Position.{IsBoundary, IsFront, IsBack, IsMiddle};
@@ -136,6 +137,9 @@ impl<'a> Wtf8<'a> {
         requires { IsBoundary (view_units self.now) begin }
         ensures units { IsBack (view_units self.now) begin (view_units result) }
         ensures bytes { result.bytes.now ≡ drop begin self.now.bytes.now }
+
+        // Behind the units of the code points before the position these are the whole.
+        ensures whole { (front : List ℕ) → IsFront (view_units self.now) begin front → front ++ view_units result ≡ view_units self.now }
     {
         let (_, rest) = self.bytes.split_at(begin);
         Wtf8::from_well_formed(rest)
@@ -147,17 +151,26 @@ impl<'a> Wtf8<'a> {
         requires { IsBoundary (view_units self.now) end }
         ensures units { IsFront (view_units self.now) end (view_units result) }
         ensures bytes { result.bytes.now ≡ take end self.now.bytes.now }
+
+        // With the units of the code points from the position on behind them these are the whole.
+        ensures whole { (back : List ℕ) → IsBack (view_units self.now) end back → view_units result ++ back ≡ view_units self.now }
     {
         let (front, _) = self.bytes.split_at(end);
         Wtf8::from_well_formed(front)
     }
 
     /// The byte at a position below the length, if it is below 0x80, else 0xFF. The position may be inside a code
-    /// point.
+    /// point; where the answer is below 0x80 it is a code point and a unit by itself.
     pub fn ascii_byte_at(&self, position: usize) -> u8
         requires { position < length self.now.bytes.now }
         ensures ascii { slice_index self.now.bytes.now position < 0x80 → result ≡ slice_index self.now.bytes.now position }
         ensures other { 0x80 ≤ slice_index self.now.bytes.now position → result ≡ 0xFF }
+
+        // Both sides of an ASCII byte are code point boundaries, and it is the unit between what is before and behind it.
+        ensures before { result < 0x80 → IsBoundary (view_units self.now) position }
+        ensures behind { result < 0x80 → IsBoundary (view_units self.now) (position + 1) }
+        ensures unit { (front back : List ℕ) → result < 0x80 → IsFront (view_units self.now) position front →
+            IsBack (view_units self.now) (position + 1) back → view_units self.now ≡ front ++ result ∷ back }
     {
         match self.bytes[position] {
             byte @ 0x00..=0x7F => byte,
@@ -168,6 +181,7 @@ impl<'a> Wtf8<'a> {
     /// The same bytes as text, or `None` exactly where the string holds a surrogate. It asks for no memory.
     pub fn as_str(&self) -> Option<&'a str>
         ensures some { IsSome result ↔ AreScalar (view_points self.now) }
+        ensures units { IsSome result ↔ ((c : List ℕ) → Reads c (view_units self.now) → AreScalar c) }
         ensures bytes { IfSome result (λ t. t.now ≡ self.now.bytes.now) }
     {
         match search::first_surrogate(self.bytes, 0) {

@@ -1,5 +1,5 @@
 -- Names in paths: what a cut at the last of two marks says.
-use Rattle.std.specs.Prelude.{◌≡◌, ◌≢◌, ℕ, ◌<◌, ◌⊎◌, List, ◌∷◌, ◌++◌, slice_index, Option, MatchOption}
+use Rattle.std.specs.Prelude.{◌≡◌, ◌≢◌, ℕ, ◌⊎◌, List, ◌∷◌, ◌++◌}
 use Rattle.std.specs.List.{All}
 
 -- A number is one of two marks.
@@ -17,7 +17,3 @@ pub record IsCutAtLast (a b : ℕ) (u front back : List ℕ) : Type 0 where
   pub is_mark : IsMark a b mark
   pub joined : u ≡ front ++ mark ∷ back
   pub none : HasNoMark a b back
-
--- The last place below n of one of two marks, or that there is none.
-abbrev pub IsLastBelow : List ℕ → ℕ → ℕ → ℕ → Option ℕ → Type 0
-IsLastBelow w a b n last = MatchOption last ((j : ℕ) → j < n → (slice_index w j ≢ a) × (slice_index w j ≢ b)) (λ k. (k < n) × IsMark a b (slice_index w k) × ((j : ℕ) → k < j → j < n → (slice_index w j ≢ a) × (slice_index w j ≢ b)))

@@ -4,7 +4,7 @@ ghost use Rattle.wtf8.specs.Position.{IsBoundary};
 ghost use Rattle.wtf8.specs.View.{view_units};
 
 use std::alloc::{AllocError, Allocator};
-use wtf8::{Wtf8, Wtf8Buf, laws};
+use wtf8::{Wtf8, Wtf8Buf};
 
 /// A copy of a string that is cut at a code point boundary and joined again: it has the same units.
 pub fn cut_and_joined<A: Allocator>(
@@ -15,7 +15,6 @@ pub fn cut_and_joined<A: Allocator>(
     requires { IsBoundary (view_units text) position }
     ensures { IfOk result (λ whole. whole.units ≡ view_units text.entry) }
 {
-    laws::law_append();
     let mut whole = Wtf8Buf::new(alloc);
     whole.push_wtf8(text.slice_to(position))?;
     whole.push_wtf8(text.slice_from(position))?;

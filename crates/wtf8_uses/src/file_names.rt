@@ -1,10 +1,10 @@
 //! File names of Windows: 16-bit units that nobody checked.
-ghost use Rattle.std.specs.Prelude.{◌≡◌, ◌<◌, ◌∷◌, ◌++◌, length, IfOk, IfSome, IfNone};
+ghost use Rattle.std.specs.Prelude.{◌≡◌, ◌<◌, ◌∷◌, ◌++◌, IfOk, IfSome, IfNone};
 ghost use Rattle.std.specs.Cow.{cow_str_bytes};
 ghost use Rattle.wtf8.specs.Form.{bytes};
 ghost use Rattle.wtf8.specs.Surrogates.{lossy};
 ghost use Rattle.wtf8.specs.View.{view_points, view_units};
-ghost use Rattle.wtf8_uses.specs.FileName.{IsCutAtLast, HasNoMark, IsLastBelow};
+ghost use Rattle.wtf8_uses.specs.FileName.{IsCutAtLast, IsMark, HasNoMark};
 
 use std::alloc::{AllocError, Global};
 use std::borrow::CowStr;
@@ -15,7 +15,10 @@ pub fn folder_and_name<'a>(path: Wtf8<'a>) -> Option<(Wtf8<'a>, Wtf8<'a>)>
     ensures some { IfSome result (λ x. IsCutAtLast 0x2F 0x5C (view_units path.entry) (view_units x.0) (view_units x.1)) }
     ensures none { IfNone result (HasNoMark 0x2F 0x5C (view_units path.entry)) }
 {
-    cut_at_last(path, b'/', b'\\')
+    let Some((folder, _, name)) = cut_at_last(path, b'/', b'\\') else {
+        return None;
+    };
+    Some((folder, name))
 }
 
 /// The stem and the extension of a name, cut at its last `.`; `None` where it has none.
@@ -23,7 +26,10 @@ pub fn stem_and_extension<'a>(name: Wtf8<'a>) -> Option<(Wtf8<'a>, Wtf8<'a>)>
     ensures some { IfSome result (λ x. IsCutAtLast 0x2E 0x2E (view_units name.entry) (view_units x.0) (view_units x.1)) }
     ensures none { IfNone result (HasNoMark 0x2E 0x2E (view_units name.entry)) }
 {
-    cut_at_last(name, b'.', b'.')
+    let Some((stem, _, extension)) = cut_at_last(name, b'.', b'.') else {
+        return None;
+    };
+    Some((stem, extension))
 }
 
 /// A folder and a name with `\` between them.
@@ -69,32 +75,25 @@ fn with_mark(
     Ok(whole)
 }
 
-/// What is before the last of two ASCII marks, and what is behind it; `None` where neither is there.
-fn cut_at_last<'a>(text: Wtf8<'a>, mark: u8, other: u8) -> Option<(Wtf8<'a>, Wtf8<'a>)>
+/// What is before the last of two ASCII marks, that mark, and what is behind it; `None` where neither is there.
+fn cut_at_last<'a>(text: Wtf8<'a>, mark: u8, other: u8) -> Option<(Wtf8<'a>, u8, Wtf8<'a>)>
     requires mark { mark < 0x80 }
     requires other { other < 0x80 }
-    ensures some { IfSome result (λ x. IsCutAtLast mark other (view_units text.entry) (view_units x.0) (view_units x.1)) }
+    ensures mark { IfSome result (λ x. IsMark mark other x.1) }
+    ensures joined { IfSome result (λ x. view_units text.entry ≡ view_units x.0 ++ x.1 ∷ view_units x.2) }
+    ensures behind { IfSome result (λ x. HasNoMark mark other (view_units x.2)) }
     ensures none { IfNone result (HasNoMark mark other (view_units text.entry)) }
 {
-    laws::law_positions();
-    match last_mark(text, mark, other) {
-        Some(place) => Some((text.slice_to(place), text.slice_from(place + 1))),
-        None => None,
-    }
-}
-
-/// The place of the last of two ASCII marks, in bytes.
-fn last_mark(text: Wtf8<'_>, mark: u8, other: u8) -> Option<usize>
-    requires mark { mark < 0x80 }
-    requires other { other < 0x80 }
-    ensures { IsLastBelow text.entry.bytes.now mark other (length text.entry.bytes.now) result }
-{
-    let mut last = None;
-    for place in 0..text.len() {
+    for place in (0..text.len()).rev() {
         let byte = text.ascii_byte_at(place);
         if byte == mark || byte == other {
-            last = Some(place);
+            let back = text.slice_from(place + 1);
+            laws::law_no_ascii(back, mark);
+            laws::law_no_ascii(back, other);
+            return Some((text.slice_to(place), byte, back));
         }
     }
-    last
+    laws::law_no_ascii(text, mark);
+    laws::law_no_ascii(text, other);
+    None
 }

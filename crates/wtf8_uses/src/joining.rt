@@ -15,7 +15,7 @@ pub fn joined(alloc: Global, front: &[u16], back: &[u16]) -> Result<Wtf8Buf<Glob
     ensures units { IfOk result (λ s. s.units ≡ front.now ++ back.now) }
     ensures bytes { IfOk result (λ s. (w : List ℕ) → IsForm w (front.now ++ back.now) → s.bytes ≡ w) }
 {
-    laws::law_one_form();
+    laws::law_equal_strings();
     let mut whole = Wtf8Buf::from_ill_formed_utf16(alloc, front)?;
     let rest = Wtf8Buf::from_ill_formed_utf16(alloc, back)?;
     whole.push_wtf8(rest.as_wtf8())?;
@@ -43,7 +43,6 @@ fn first_slash(text: Wtf8<'_>) -> usize
     ensures boundary { IsBoundary (view_units text.entry) result }
     ensures slash { result < length text.entry.bytes.now → slice_index text.entry.bytes.now result ≡ 0x2F }
 {
-    laws::law_positions();
     for place in 0..text.len() {
         if text.ascii_byte_at(place) == b'/' {
             return place;

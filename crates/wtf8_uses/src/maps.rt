@@ -16,7 +16,7 @@ pub fn put_and_found(
 ) -> Result<Option<u32>, AllocError>
     ensures { IfOk result (λ found. key.units ≡ same_key.now.units → found ≡ Some value) }
 {
-    laws::law_equal_strings();
+    laws::law_equal_views(key.as_wtf8(), same_key.as_wtf8());
     map.insert(key, value)?;
     Ok(map.get(same_key).copied())
 }
@@ -25,7 +25,7 @@ pub fn put_and_found(
 pub fn hash_alike<H: BuildHasher>(build: &H, buffer: &Wtf8Buf<Global>, view: Wtf8<'_>) -> bool
     ensures { buffer.now.units ≡ view_units view.entry → IsTrue result }
 {
-    laws::law_equal_strings();
+    laws::law_equal_views(buffer.as_wtf8(), view);
     let mut first = build.build_hasher();
     let mut second = build.build_hasher();
     buffer.hash(&mut first);

@@ -1,5 +1,5 @@
 //! A reader of UTF-16 in little-endian bytes.
-ghost use Rattle.std.specs.Prelude.{◌≡◌, ◌≢◌, ℕ, List, [], ◌∷◌, ◌++◌, None, IfSome, IfOk, OnOk, IfErr, OnErr, IsErrOf};
+ghost use Rattle.std.specs.Prelude.{◌≡◌, ◌≢◌, ◌/◌, ◌%◌, ℕ, List, [], ◌∷◌, ◌++◌, None, IfSome, IfOk, OnOk, IfErr, OnErr, IsErrOf};
 ghost use Rattle.std.specs.Io.KnownBytes.{Consumes, IsAtEnd};
 ghost use Rattle.std.specs.IoError.{error_kind};
 ghost use Rattle.std.specs.declared.io.Error.{Error};
@@ -37,7 +37,8 @@ pub fn read_utf16<A: Allocator + Copy, R: Read>(
     ensures units { IfOk result (λ s. IfSome (R.remaining reader.old) (λ input. input ≡ little_endian s.units)) }
     ensures end { OnOk result (IsAtEnd (R.remaining reader.new)) }
     ensures half_end { IsErrOf result ReadError.HalfUnit → IsAtEnd (R.remaining reader.new) }
-    ensures half { IsErrOf result ReadError.HalfUnit → IfSome (R.remaining reader.old) (λ input. (u : List ℕ) × (low : ℕ) × (input ≡ little_endian u ++ low ∷ [])) }
+    ensures half { IsErrOf result ReadError.HalfUnit →
+        IfSome (R.remaining reader.old) (λ input. (u : List ℕ) × (low : ℕ) × (input ≡ little_endian u ++ low ∷ [])) }
     ensures retried { IfErr result (λ e. (error : Error) → e ≡ ReadError.Read error → error_kind error ≢ Interrupted) }
     ensures beginning { OnErr result ((input : List ℕ) × Consumes (R.remaining reader.old) (R.remaining reader.new) input) }
 {
@@ -73,17 +74,37 @@ fn push_bytes<A: Allocator + Copy>(
     let mut units = Vec::with_capacity(alloc, bytes.len() / 2 + 1)?;
     let mut low = held;
     for byte in bytes {
-        match low {
-            Some(first) => {
-                units.push(u16::from_le_bytes([first, *byte]))?;
-                low = None;
-            }
-            None => low = Some(*byte),
-        }
+        low = push_byte(&mut units, low, *byte)?;
     }
     let piece = Wtf8Buf::from_ill_formed_utf16(alloc, units.as_slice())?;
     string.push_wtf8(piece.as_wtf8())?;
     Ok(low)
+}
+
+/// Appends the unit of the low byte that is held and of another byte. Where none is held it holds this one: the answer
+/// is the low byte that is held then.
+fn push_byte<A: Allocator>(
+    units: &mut Vec<u16, A>,
+    held: Option<u8>,
+    byte: u8,
+) -> Result<Option<u8>, AllocError>
+    ensures { IfOk result (λ low. bytes_read units.old.items held ++ byte ∷ [] ≡ bytes_read units.new.items low) }
+{
+    match held {
+        Some(low) => {
+            units.push(unit_of(low, byte))?;
+            Ok(None)
+        }
+        None => Ok(Some(byte)),
+    }
+}
+
+/// The unit of a low byte and a high byte.
+fn unit_of(low: u8, high: u8) -> u16
+    ensures low { result % 0x100 ≡ low }
+    ensures high { result / 0x100 ≡ high }
+{
+    u16::from_le_bytes([low, high])
 }
 
 /// A string of which all was read, unless a low byte was left over.

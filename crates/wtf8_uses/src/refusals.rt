@@ -31,7 +31,6 @@ pub fn push_both<A: Allocator>(
     ensures ok { OnOk result (AppendsUnits string.old (view_units front.entry ++ view_units back.entry) string.new) }
     ensures kept { OnErr result (KeepsContents string.old string.new) }
 {
-    laws::law_room();
     let Some(both) = front.len().checked_add(back.len()) else {
         return Err(AllocError);
     };

@@ -6,12 +6,10 @@ ghost use Rattle.wtf8.specs.Surrogates.{AreScalar};
 
 use std::alloc::Allocator;
 use unit_text::UnitText;
-use wtf8::laws;
 
 /// Whether each surrogate of a text is in a pair: the code points that its units stand for are scalar values.
 pub fn is_well_formed<A: Allocator>(text: &UnitText<A>) -> bool
     ensures { IsTrue result ↔ ((c : List ℕ) → Reads c text.now → AreScalar c) }
 {
-    laws::law_one_reading();
     text.as_wtf8().as_str().is_some()
 }

@@ -1,5 +1,5 @@
 use Rattle.wtf8.proofs.lemmas.PositionLaws.{beginnings, both_no_longer}
-use Rattle.wtf8.proofs.lemmas.StringLaws.{room_left}
+use Rattle.wtf8.proofs.lemmas.StringLaws.{room_left, what_fits}
 use Rattle.wtf8.proofs.laws.law_room.Goals as goal
 
 pub returns-clause-beginning : goal.returns-clause-beginning
@@ -10,3 +10,6 @@ returns-clause-both c = both_no_longer
 
 pub returns-clause-found : goal.returns-clause-found
 returns-clause-found c = room_left
+
+pub returns-clause-fits : goal.returns-clause-fits
+returns-clause-fits c = what_fits

@@ -1,7 +1,7 @@
-use Rattle.std.proofs.Common.{◌≡◌, ◌++◌, take}
+use Rattle.std.proofs.Common.{◌≡◌, [], ◌++◌, take}
 use Rattle.wtf8_uses.specs.LittleEndian.{bytes_read}
 use Rattle.wtf8_uses.proofs.reading.push_bytes.Given as goal
 
--- the bytes so far are those of the units so far
+-- the byte that was held and the bytes so far are those of the units so far
 abbrev pub invariant-loop-byte : goal.invariant-loop-byte
-invariant-loop-byte g l = bytes_read l.string.units l.fn.held ++ take l.byte-index l.bytes ≡ bytes_read (l.string.units ++ l.units.items) l.low
+invariant-loop-byte g l = bytes_read [] l.fn.held ++ take l.byte-index l.bytes ≡ bytes_read l.units.items l.low

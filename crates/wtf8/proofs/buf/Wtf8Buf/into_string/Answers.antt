@@ -4,6 +4,7 @@ use Rattle.std.specs.Str.{IsUtf8}
 use Rattle.wtf8.specs.UnitString.{UnitString}
 use Rattle.wtf8.proofs.lemmas.Readings.{well_formed_of}
 use Rattle.wtf8.proofs.lemmas.Surrogates.{scalar_if_none, not_scalar_if_some, utf8_if_none}
+use Rattle.wtf8.proofs.lemmas.StringLaws.{scalar_in_each_reading}
 use Rattle.wtf8.proofs.buf.Wtf8Buf.into_string.Goals as goal
 
 pub from_utf8_unchecked-requires : goal.from_utf8_unchecked-requires
@@ -17,3 +18,13 @@ returns-in-None-clause-ok g c =
 pub returns-in-Some-clause-ok : goal.returns-in-Some-clause-ok
 returns-in-Some-clause-ok g c =
     (λ e. absurd (false≢true e), λ s. absurd (not_scalar_if_some (well_formed_of c.args.self.form) c.in-Some.field-0 c.in-Some.ensures s))
+
+pub returns-in-None-clause-units : goal.returns-in-None-clause-units
+returns-in-None-clause-units g c =
+    let each = scalar_in_each_reading _ _ c.args.self.form.reads in
+    (λ e. each.0 ((returns-in-None-clause-ok g c).0 e), λ h. refl)
+
+pub returns-in-Some-clause-units : goal.returns-in-Some-clause-units
+returns-in-Some-clause-units g c =
+    let each = scalar_in_each_reading _ _ c.args.self.form.reads in
+    (λ e. absurd (false≢true e), λ h. (returns-in-Some-clause-ok g c).1 (each.1 h))

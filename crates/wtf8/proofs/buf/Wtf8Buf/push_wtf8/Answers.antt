@@ -1,9 +1,12 @@
 use Rattle.wtf8.specs.UnitString.{UnitString}
-use Rattle.std.proofs.Common.{ap, refl, sym, subst, ◌∙◌, IsTrue}
+use Rattle.std.proofs.Common.{ap, arith, length, refl, sym, subst, ◌∙◌, IsTrue}
 use Rattle.std.proofs.lemmas.Bool.{false≢true}
-use Rattle.wtf8.proofs.lemmas.Gains.{gained_units, kept_contents, added_length}
+use Rattle.wtf8.proofs.lemmas.Gains.{gained_units, kept_contents, added_length, gained_or_kept}
 use Rattle.wtf8.proofs.lemmas.Scalars.{known_gained, scalar_unless_found}
 use Rattle.wtf8.specs.Unicode.{units}
+use Rattle.wtf8.proofs.lemmas.Appending.{grows_at_most, nothing_appended, fits_left}
+use Rattle.wtf8.proofs.lemmas.Readings.{no_points}
+use Rattle.wtf8.specs.View.{view_units, view_form}
 use Rattle.wtf8.proofs.buf.Wtf8Buf.push_wtf8.Goals as goal
 use Rattle.wtf8.proofs.buf.Wtf8Buf.push_wtf8.Goals.{then-self, else-self}
 
@@ -28,3 +31,18 @@ returns-clause-kept g c = kept_contents c.push_view.result _ _ _ c.self.view_is 
 
 pub returns-clause-length : goal.returns-clause-length
 returns-clause-length g c = added_length c.push_view.result _ _ _ c.args.other c.self.view_is c.push_view.ensures.ok
+
+pub returns-clause-at_most : goal.returns-clause-at_most
+returns-clause-at_most g c =
+    let same = ap (λ (t : UnitString). t.bytes) c.self.view_is in
+    grows_at_most c.push_view.result c.args.self.now _ _ (view_units c.args.other) same (view_form c.args.other) c.push_view.ensures.ok
+
+pub returns-clause-room_left : goal.returns-clause-room_left
+returns-clause-room_left g c h =
+    let room = ap (λ (t : UnitString). t.capacity) c.self.view_is in
+    let same = ap (λ (t : UnitString). t.bytes) c.self.view_is in
+    c.push_view.ensures.room (fits_left c.args.self.now _ (view_units c.args.other) _ same (view_form c.args.other) (omega (arith, h, room)))
+
+pub returns-clause-nothing : goal.returns-clause-nothing
+returns-clause-nothing g c e =
+    nothing_appended c.push_view.result _ _ _ (ap units (no_points c.args.other.well_formed (ap length e))) (returns-clause-ok g c) (returns-clause-kept g c)

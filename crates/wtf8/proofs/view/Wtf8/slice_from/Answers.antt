@@ -2,6 +2,8 @@ use Rattle.std.proofs.Common.{◌∙◌, ap, sym}
 use Rattle.wtf8.specs.Unicode.{units}
 use Rattle.wtf8.proofs.lemmas.Positions.{cut_at}
 use Rattle.wtf8.proofs.lemmas.Readings.{moved}
+use Rattle.wtf8.specs.View.{view_units}
+use Rattle.wtf8.proofs.lemmas.PositionLaws.{front_and_back}
 use Rattle.wtf8.proofs.view.Wtf8.slice_from.Goals as goal
 
 pub split_at-requires : goal.split_at-requires
@@ -15,3 +17,6 @@ returns-clause-units c =
     let cut = cut_at c.args.self.now.well_formed c.args.begin c.requires in
     let points = c.from_well_formed.ensures.points (moved cut.behind c.split_at.ensures.back) ∙ cut.behind_points in
     record { front = cut.front; back = cut.back; splits = cut.splits; same_units = ap units (sym points) }
+
+pub returns-clause-whole : goal.returns-clause-whole
+returns-clause-whole c front h = front_and_back (view_units c.args.self.now) front _ c.args.begin h (returns-clause-units c)
