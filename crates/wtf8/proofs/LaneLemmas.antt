@@ -1,12 +1,12 @@
 -- The search in lanes: from the mask of two vectors to the first lane that has a surrogate's two bytes.
-use Rattle.std.proofs.Common.{◌≡◌, ℕ, zero, suc, ◌+◌, ◌-◌, ◌%◌, ◌^◌, ◌<◌, ◌≤◌, eqb, leb, Bool, true, false, cond, not, ◌&&◌, List, [], ◌∷◌, map, length, get_or, replicate, bit_and, refl, sym, ap, ◌∙◌, subst, arith, inl, inr}
-use Rattle.std.proofs.lemmas.Bool.{and_parts, and_from, both_ways, not-true, not-false, cases_lt, leb-true, le-leb, eq-eqb, eqb-true}
+use Rattle.std.proofs.Common.{◌≡◌, ℕ, zero, suc, ◌+◌, ◌-◌, ◌%◌, ◌^◌, ◌<◌, ◌≤◌, eqb, leb, Bool, true, false, cond, not, ◌&&◌, List, [], ◌∷◌, map, length, get_or, replicate, bit_and, Option, None, Some, w8, refl, sym, ap, ◌∙◌, subst, arith}
+use Rattle.std.proofs.lemmas.Bool.{and_parts, and_from, both_ways, not-true, not-false, leb-true, le-leb, eq-eqb, eqb-true}
 use Rattle.std.proofs.lemmas.List.Sums.{prefix_len_passes, prefix_len_stops}
-use Rattle.std.proofs.lemmas.Simd.{length-zip2, get_or-zip2, get_or-chunk, mask_l-mod, leading_from_mask_l, trailing_mask_l}
+use Rattle.std.proofs.lemmas.Simd.{length-zip2, get_or-zip2, length-chunk, get_or-chunk, mask_l-mod, leading_from_mask_l, trailing_mask_l, bitmask_splat, none_from_empty_mask}
 use Rattle.std.specs.List.{prefix_len}
 use lib.Count.{count_trailing_zeros}
 use lib.Lanes.{chunk, zip2, mask_l, top}
-use Rattle.wtf8.specs.Surrogates.{SurrogateAt, IsLeastSurrogate, IsSurrogateLane, IsLeastLane}
+use Rattle.wtf8.specs.Surrogates.{SurrogateAt, IsLeastSurrogate, IsFirstInBlock, IsSurrogateLane, IsLeastLane}
 
 -- a lane of a comparison
 abbrev pub lane : Bool → ℕ
@@ -16,8 +16,8 @@ lane b = cond b 255 0
 abbrev pub compared : ℕ → List ℕ → List ℕ → List ℕ
 compared n xs ys = zip2 bit_and (zip2 (λ a b. lane (eqb a b)) xs (replicate n 0xED)) (zip2 (λ a b. lane (leb a b)) (replicate n 0xA0) ys)
 
-abbrev pub mask : List ℕ → List ℕ → ℕ
-mask xs ys = mask_l (map (top 7) (compared 32 xs ys)) % 2 ^ 64
+abbrev pub mask : ℕ → List ℕ → List ℕ → ℕ
+mask n xs ys = mask_l (map (top 7) (compared n xs ys)) % 2 ^ 64
 
 abbrev test : ℕ → ℕ → Bool
 test x y = eqb x 0xED && leb 0xA0 y
@@ -55,71 +55,74 @@ told x y e =
 tells : (x y : ℕ) → (x ≡ 0xED) × (0xA0 ≤ y) → test x y ≡ true
 tells x y h = and_from _ _ (eq-eqb x 0xED h.0) (le-leb 0xA0 y h.1)
 
-module _ (xs ys : List ℕ) (p : length xs ≡ 32) (q : length ys ≡ 32) where
+module _ (n : ℕ) (few : n ≤ 64) (xs ys : List ℕ) (p : length xs ≡ n) (q : length ys ≡ n) where
   abbrev lanes : List Bool
   lanes = zip2 test xs ys
 
-  long : length lanes ≡ 32
+  long : length lanes ≡ n
   long = length-zip2 test xs ys (p ∙ sym q) ∙ p
 
-  same : mask xs ys ≡ mask_l lanes
-  same = ap (λ m. mask_l m % 2 ^ 64) (tops 32 xs ys p q) ∙ mask_l-mod lanes 64 (omega (arith, long))
+  same : mask n xs ys ≡ mask_l lanes
+  same = ap (λ m. mask_l m % 2 ^ 64) (tops n xs ys p q) ∙ mask_l-mod lanes 64 (omega (arith, long, few))
 
-  tests : mask xs ys ≡ mask_l (map (λ b. b) lanes)
+  tests : mask n xs ys ≡ mask_l (map (λ b. b) lanes)
   tests = same ∙ ap mask_l (sym (itself lanes))
 
-  at : (j : ℕ) → j < 32 → get_or lanes j false ≡ test (get_or xs j 0) (get_or ys j 0)
+  at : (j : ℕ) → j < n → get_or lanes j false ≡ test (get_or xs j 0) (get_or ys j 0)
   at j l = get_or-zip2 test xs ys j 0 0 false (omega arith) (omega arith)
 
-  before : (j : ℕ) → j < 32 → j < failing lanes → ¬ (IsSurrogateLane xs ys j)
+  before : (j : ℕ) → j < n → j < failing lanes → ¬ (IsSurrogateLane xs ys j)
   before j l h s = both_ways _ (not-true _ (prefix_len_passes (λ b. not b) lanes j false h)) (at j l ∙ tells _ _ s)
 
-  pub no_lane : mask xs ys ≡ 0 → (j : ℕ) → j < 32 → ¬ (IsSurrogateLane xs ys j)
+  pub no_lane : mask n xs ys ≡ 0 → (j : ℕ) → j < n → ¬ (IsSurrogateLane xs ys j)
   no_lane e j l = before j l (omega (arith, l, long, leading_from_mask_l (λ b. b) lanes (sym tests ∙ e)))
 
-  pub least_lane : ¬ (mask xs ys ≡ 0) → IsLeastLane xs ys (count_trailing_zeros 64 (mask xs ys))
-  least_lane n =
-      let some : 0 < mask_l lanes = omega (arith, same, n) in
+  pub least_lane : ¬ (mask n xs ys ≡ 0) → IsLeastLane n xs ys (count_trailing_zeros 64 (mask n xs ys))
+  least_lane e =
+      let some : 0 < mask_l lanes = omega (arith, same, e) in
       let within : failing lanes < length lanes = some_hold lanes some in
-      let inside : failing lanes < 32 = omega (arith, within, long) in
-      let first : count_trailing_zeros 64 (mask xs ys) ≡ failing lanes = ap (count_trailing_zeros 64) tests ∙ trailing_mask_l (λ b. b) 64 lanes (omega (arith, long)) (omega (arith, sym same ∙ tests, some)) in
-      subst (IsLeastLane xs ys) (sym first) (record {
+      let inside : failing lanes < n = omega (arith, within, long) in
+      let first : count_trailing_zeros 64 (mask n xs ys) ≡ failing lanes = ap (count_trailing_zeros 64) tests ∙ trailing_mask_l (λ b. b) 64 lanes (omega (arith, long, few)) (omega (arith, sym same ∙ tests, some)) in
+      subst (IsLeastLane n xs ys) (sym first) (record {
         within = inside;
         here = told _ _ (sym (at (failing lanes) inside) ∙ not-false _ (prefix_len_stops (λ b. not b) lanes false within));
         none_before = λ j l. before j (omega (arith, l, inside)) l;
       })
 
--- the lanes of the 32 bytes from a place on and of those one further are the places of surrogates
-module _ (w : List ℕ) (i : ℕ) (room : i + 33 ≤ length w) where
-  first_is : (k : ℕ) → k < 32 → get_or (chunk i 32 w) k 0 ≡ get_or w (i + k) 0
-  first_is k l = get_or-chunk i 32 w k 0 l
+-- the lanes of the n bytes from a place on and of those one further are the places of surrogates
+module _ (n : ℕ) (w : List ℕ) (i : ℕ) (room : i + n < length w) where
+  first_is : (k : ℕ) → k < n → get_or (chunk i n w) k 0 ≡ get_or w (i + k) 0
+  first_is k l = get_or-chunk i n w k 0 l
 
-  second_is : (k : ℕ) → k < 32 → get_or (chunk (i + 1) 32 w) k 0 ≡ get_or w (i + k + 1) 0
-  second_is k l = get_or-chunk (i + 1) 32 w k 0 l ∙ ap (λ n. get_or w n 0) (omega arith)
+  second_is : (k : ℕ) → k < n → get_or (chunk (i + 1) n w) k 0 ≡ get_or w (i + k + 1) 0
+  second_is k l = get_or-chunk (i + 1) n w k 0 l ∙ ap (λ m. get_or w m 0) (omega arith)
 
-  to_lane : (k : ℕ) → k < 32 → SurrogateAt w (i + k) → IsSurrogateLane (chunk i 32 w) (chunk (i + 1) 32 w) k
+  to_lane : (k : ℕ) → k < n → SurrogateAt w (i + k) → IsSurrogateLane (chunk i n w) (chunk (i + 1) n w) k
   to_lane k l s = (first_is k l ∙ s.first, omega (arith, second_is k l, s.second))
 
-  from_lane : (k : ℕ) → k < 32 → IsSurrogateLane (chunk i 32 w) (chunk (i + 1) 32 w) k → SurrogateAt w (i + k)
+  from_lane : (k : ℕ) → k < n → IsSurrogateLane (chunk i n w) (chunk (i + 1) n w) k → SurrogateAt w (i + k)
   from_lane k l s = record { within = omega arith; first = sym (first_is k l) ∙ s.0; second = omega (arith, second_is k l, s.1) }
 
-  -- none in the lanes leaves none as far as the next 32
-  pub no_surrogate : (from : ℕ) → ((j : ℕ) → from ≤ j → j < i → ¬ (SurrogateAt w j)) → ((k : ℕ) → k < 32 → ¬ (IsSurrogateLane (chunk i 32 w) (chunk (i + 1) 32 w) k))
-      → (j : ℕ) → from ≤ j → j < i + 32 → ¬ (SurrogateAt w j)
-  no_surrogate from before clear j l u s = elim (cases_lt j i) [
-    | inl h ↦ before j l h s
-    | inr h ↦ clear (j - i) (omega arith) (to_lane (j - i) (omega arith) (subst (SurrogateAt w) (omega arith) s))
-  ]
+  -- none in the lanes leaves none in the block
+  pub no_surrogate : ((k : ℕ) → k < n → ¬ (IsSurrogateLane (chunk i n w) (chunk (i + 1) n w) k)) → IsFirstInBlock w i n None
+  no_surrogate clear j l u s = clear (j - i) (omega arith) (to_lane (j - i) (omega arith) (subst (SurrogateAt w) (omega arith) s))
 
-  pub least_surrogate : (from k : ℕ) → from ≤ i → ((j : ℕ) → from ≤ j → j < i → ¬ (SurrogateAt w j)) → IsLeastLane (chunk i 32 w) (chunk (i + 1) 32 w) k
-      → IsLeastSurrogate w from (i + k)
-  least_surrogate from k start before least =
+  pub least_surrogate : (k : ℕ) → IsLeastLane n (chunk i n w) (chunk (i + 1) n w) k → IsFirstInBlock w i n (Some (i + k))
+  least_surrogate k least =
       let within = least.within in
-      record {
+      (record {
         not_before = omega arith;
         here = from_lane k within least.here;
-        none_between = λ j l u s. elim (cases_lt j i) [
-          | inl h ↦ before j l h s
-          | inr h ↦ least.none_before (j - i) (omega arith) (to_lane (j - i) (omega arith) (subst (SurrogateAt w) (omega arith) s))
-        ];
-      }
+        none_between = λ j l u s. least.none_before (j - i) (omega arith) (to_lane (j - i) (omega arith) (subst (SurrogateAt w) (omega arith) s));
+      }, omega arith)
+
+-- ED in no lane
+abbrev leads : ℕ → List ℕ → ℕ
+leads n xs = mask_l (map (top 7) (zip2 (λ a b. lane (eqb a b)) xs (replicate n 0xED))) % 2 ^ 64
+
+-- where ED stands in no lane no surrogate begins in the block
+pub no_first_byte : (w : List ℕ) (i : ℕ) → i + 64 < length w → leads 64 (chunk i 64 w) ≡ 0 → IsFirstInBlock w i 64 None
+no_first_byte w i room e j l u s =
+    let long = length-chunk i 64 w (omega arith) in
+    let clear = none_from_empty_mask (λ x. eqb x 0xED) w i 64 0 (omega arith) (sym (bitmask_splat w8 eqb (chunk i 64 w) 64 0xED long (omega arith)) ∙ e) j l u in
+    both_ways _ clear (eq-eqb _ 0xED s.first)

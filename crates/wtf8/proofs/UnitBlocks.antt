@@ -1,12 +1,12 @@
 -- Blocks of units in lanes: what the mask of a block says of its units.
-use Rattle.std.proofs.Common.{◌≡◌, ℕ, zero, suc, ◌+◌, ◌%◌, ◌^◌, ◌≤◌, leb, ltb, Bool, true, false, cond, ◌&&◌, ◌||◌, List, [], ◌∷◌, ◌++◌, map, length, take, drop, get_or, replicate, bit_and, bit_or, Fits, w16, refl, sym, ap, ◌∙◌, arith, inl, inr}
+use Rattle.std.proofs.Common.{◌≡◌, ℕ, zero, suc, ◌+◌, ◌/◌, ◌%◌, ◌^◌, ◌≤◌, leb, ltb, Bool, true, false, cond, ◌&&◌, ◌||◌, List, [], ◌∷◌, ◌++◌, map, length, take, drop, get_or, replicate, bit_and, bit_or, Fits, w16, refl, sym, ap, ◌∙◌, arith, inl, inr}
 use Rattle.std.specs.List.{flat_map}
 use Rattle.std.proofs.lemmas.Bool.{cases_lt, le-leb, lt-leb, lt-ltb, le-ltb}
 use Rattle.std.proofs.lemmas.Simd.{mask_l-mod, chunk-fits}
 use lib.Lanes.{Each1, zip2, mask_l, top}
 use Rattle.wtf8.specs.Form.{bytes, encoding}
-use Rattle.wtf8.specs.UnitParts.{AreAscii, AreScalarUnits, AreThreeByteUnits, IsBlock, three_byte_row}
-use Rattle.wtf8.proofs.EncodingLemmas.{encoding_three}
+use Rattle.wtf8.specs.UnitParts.{AreAscii, AreScalarUnits, AreTwoByteUnits, AreThreeByteUnits, IsBlock, two_byte_row, three_byte_row}
+use Rattle.wtf8.proofs.EncodingLemmas.{encoding_two, encoding_three}
 
 -- a lane of a comparison of units
 abbrev wide : Bool → ℕ
@@ -42,6 +42,39 @@ all_low (x ∷ xs) e = elim (cases_lt x 0x80) [
 -- where no lane is set all units are below 80
 pub none_high : (xs : List ℕ) → length xs ≡ 16 → mask_l (high 16 xs) % 2 ^ 64 ≡ 0 → AreAscii xs
 none_high xs l e = all_low xs (none_set (λ x. leb 0x80 x) xs (omega arith) (ap (λ ms. mask_l ms % 2 ^ 64) (sym (high_are 16 xs l)) ∙ e))
+
+-- a lane is set by a unit that does not take two bytes
+either_set : (a b : Bool) → top 15 (bit_or (wide a) (wide b)) ≡ a || b
+either_set true true = refl
+either_set true false = refl
+either_set false true = refl
+either_set false false = refl
+
+abbrev no_two : ℕ → Bool
+no_two x = ltb x 0x80 || leb 0x800 x
+
+abbrev no_twos : ℕ → List ℕ → List Bool
+no_twos n xs = map (top 15) (zip2 bit_or (zip2 (λ a b. wide (ltb a b)) xs (replicate n 0x80)) (zip2 (λ a b. wide (leb a b)) (replicate n 0x800) xs))
+
+no_twos_are : (n : ℕ) (xs : List ℕ) → length xs ≡ n → no_twos n xs ≡ map no_two xs
+no_twos_are zero [] e = refl
+no_twos_are (suc n) [] e = refl
+no_twos_are zero (x ∷ xs) e = absurd (omega arith)
+no_twos_are (suc n) (x ∷ xs) e = λ i. either_set (ltb x 0x80) (leb 0x800 x) i ∷ no_twos_are n xs (omega arith) i
+
+all_two : (xs : List ℕ) → mask_l (map no_two xs) ≡ 0 → AreTwoByteUnits xs
+all_two [] e = tt
+all_two (x ∷ xs) e = elim (cases_lt x 0x80) [
+  | inl h ↦ absurd (omega (arith, rw (lt-ltb x 0x80 h) at e))
+  | inr l ↦ elim (cases_lt x 0x800) [
+    | inl h ↦ ((l, h), all_two xs (omega (arith, rw (le-ltb x 0x80 l, lt-leb 0x800 x h) at e)))
+    | inr h ↦ absurd (omega (arith, rw (le-ltb x 0x80 l, le-leb 0x800 x h) at e))
+  ]
+]
+
+-- where no lane is set all units take two bytes
+pub none_no_two : (xs : List ℕ) → length xs ≡ 8 → mask_l (no_twos 8 xs) % 2 ^ 64 ≡ 0 → AreTwoByteUnits xs
+none_no_two xs l e = all_two xs (none_set no_two xs (omega arith) (ap (λ ms. mask_l ms % 2 ^ 64) (sym (no_twos_are 8 xs l)) ∙ e))
 
 -- a lane is set by a unit below 800, and by a surrogate
 other_set : (a b c : Bool) → top 15 (bit_or (wide a) (bit_and (wide b) (wide c))) ≡ a || (b && c)
@@ -84,6 +117,22 @@ pub none_other : (xs : List ℕ) → length xs ≡ 8 → mask_l (others 8 xs) % 
 none_other xs l e = all_three xs (none_set other xs (omega arith) (ap (λ ms. mask_l ms % 2 ^ 64) (sym (others_are 8 xs l)) ∙ e))
 
 -- their rows are their encodings
+two_bytes : (xs : List ℕ) → AreTwoByteUnits xs → flat_map two_byte_row xs ≡ bytes xs
+two_bytes [] h = refl
+two_bytes (x ∷ xs) h =
+    let small : x / 64 % 32 ≡ x / 64 = omega (arith, h.0.1) in
+    let row : two_byte_row x ≡ encoding x = ap (λ n. (0xC0 + n) ∷ (0x80 + x % 64) ∷ []) small ∙ sym (encoding_two x h.0.0 h.0.1) in
+    ap (λ w. w ++ flat_map two_byte_row xs) row ∙ ap (λ w. encoding x ++ w) (two_bytes xs h.1)
+
+are_no_surrogates : (xs : List ℕ) → AreTwoByteUnits xs → AreScalarUnits xs
+are_no_surrogates [] h = tt
+are_no_surrogates (x ∷ xs) h = ((omega (arith, h.0.1), λ s. omega (arith, h.0.1, s.0)), are_no_surrogates xs h.1)
+
+pub two_byte_block : (u w : List ℕ) (at : ℕ) → at + 8 ≤ length u → AreTwoByteUnits (take 8 (drop at u)) → w ≡ flat_map two_byte_row (take 8 (drop at u)) → IsBlock u at 8 w
+two_byte_block u w at within h e =
+    let part = take 8 (drop at u) in
+    record { within = within; scalars = are_no_surrogates part h; encoded = e ∙ two_bytes part h }
+
 three_bytes : (xs : List ℕ) → AreThreeByteUnits xs → Each1 (Fits w16) xs → flat_map three_byte_row xs ≡ bytes xs
 three_bytes [] h f = refl
 three_bytes (x ∷ xs) h f = ap (λ w. w ++ flat_map three_byte_row xs) (sym (encoding_three x h.0.0 f.0.fits)) ∙ ap (λ w. encoding x ++ w) (three_bytes xs h.1 f.1)

@@ -35,12 +35,16 @@ IsFirstSurrogate w from r = MatchOption r ((j : ℕ) → from ≤ j → ¬ (Surr
 abbrev pub IsSurrogateLane : List ℕ → List ℕ → ℕ → Type 0
 IsSurrogateLane firsts seconds k = (slice_index firsts k ≡ 0xED) × (0xA0 ≤ slice_index seconds k)
 
--- The least such lane of 32.
-pub record IsLeastLane (firsts seconds : List ℕ) (k : ℕ) : Type 0 where
-  pub within : k < 32
+-- The least such lane of n.
+pub record IsLeastLane (n : ℕ) (firsts seconds : List ℕ) (k : ℕ) : Type 0 where
+  pub within : k < n
   pub here : IsSurrogateLane firsts seconds k
   pub none_before : (j : ℕ) → j < k → ¬ (IsSurrogateLane firsts seconds j)
 
--- An answer is the least such lane of 32, or that there is none.
-abbrev pub IsFirstLane : List ℕ → List ℕ → Option ℕ → Type 0
-IsFirstLane firsts seconds r = MatchOption r ((j : ℕ) → j < 32 → ¬ (IsSurrogateLane firsts seconds j)) (IsLeastLane firsts seconds)
+-- An answer is the least such lane of n, or that there is none.
+abbrev pub IsFirstLane : ℕ → List ℕ → List ℕ → Option ℕ → Type 0
+IsFirstLane n firsts seconds r = MatchOption r ((j : ℕ) → j < n → ¬ (IsSurrogateLane firsts seconds j)) (IsLeastLane n firsts seconds)
+
+-- An answer is the least place of a surrogate among n places from a start on, or that there is none.
+abbrev pub IsFirstInBlock : List ℕ → ℕ → ℕ → Option ℕ → Type 0
+IsFirstInBlock w at n r = MatchOption r ((j : ℕ) → at ≤ j → j < at + n → ¬ (SurrogateAt w j)) (λ i. IsLeastSurrogate w at i × (i < at + n))

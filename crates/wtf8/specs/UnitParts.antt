@@ -29,9 +29,17 @@ AreAscii u = Each1 (λ n. n < 0x80) u
 abbrev pub AreScalarUnits : List ℕ → Type 0
 AreScalarUnits u = Each1 (λ n. (n < 0x10000) × ¬ (IsSurrogate n)) u
 
+-- Each of the units takes two bytes (Unicode 3.9, "UTF-8", Table 3-6).
+abbrev pub AreTwoByteUnits : List ℕ → Type 0
+AreTwoByteUnits u = Each1 (λ n. (0x80 ≤ n) × (n < 0x800)) u
+
 -- Each of the units takes three bytes, and none is a surrogate (Unicode 3.9, "UTF-8", Table 3-6).
 abbrev pub AreThreeByteUnits : List ℕ → Type 0
 AreThreeByteUnits u = Each1 (λ n. (0x800 ≤ n) × ¬ (IsSurrogate n)) u
+
+-- The two bytes that a unit from 80 to 7FF has (Unicode 3.9, "UTF-8", Table 3-6).
+abbrev pub two_byte_row : ℕ → List ℕ
+two_byte_row p = (0xC0 + p / 64 % 32) ∷ (0x80 + p % 64) ∷ []
 
 -- The three bytes that a unit from 800 on has (Unicode 3.9, "UTF-8", Table 3-6).
 abbrev pub three_byte_row : ℕ → List ℕ

@@ -17,17 +17,41 @@ const BLOCK: usize = 48;
 /// The upper-case digits at their values.
 const DIGITS: [u8; LANES] = *b"0123456789ABCDEF";
 
-/// The places of a first and a second vector's lanes in turn.
-const IN_TURN: [usize; 32] = [
-    0, 16, 1, 17, 2, 18, 3, 19, 4, 20, 5, 21, 6, 22, 7, 23, 8, 24, 9, 25, 10, 26, 11, 27, 12, 28,
-    13, 29, 14, 30, 15, 31,
+/// The places of the first eight lanes of two vectors, in turn.
+const FRONT: [usize; LANES] = [0, 16, 1, 17, 2, 18, 3, 19, 4, 20, 5, 21, 6, 22, 7, 23];
+
+/// The same of eight lanes in the middle.
+const MIDDLE: [usize; LANES] = [
+    4, 20, 5, 21, 6, 22, 7, 23, 8, 24, 9, 25, 10, 26, 11, 27,
 ];
 
-/// Before each pair of lanes one of a second vector, and more of that behind the last pair.
-const BEFORE_PAIRS: [usize; 64] = [
-    32, 0, 1, 32, 2, 3, 32, 4, 5, 32, 6, 7, 32, 8, 9, 32, 10, 11, 32, 12, 13, 32, 14, 15, 32, 16,
-    17, 32, 18, 19, 32, 20, 21, 32, 22, 23, 32, 24, 25, 32, 26, 27, 32, 28, 29, 32, 30, 31, 32, 32,
-    32, 32, 32, 32, 32, 32, 32, 32, 32, 32, 32, 32, 32, 32,
+/// The same of the last eight lanes.
+const BACK: [usize; LANES] = [
+    8, 24, 9, 25, 10, 26, 11, 27, 12, 28, 13, 29, 14, 30, 15, 31,
+];
+
+/// The first sixteen places of a text that has a space before each pair of the front's lanes.
+const SPACED_FRONT: [usize; LANES] = [16, 0, 1, 16, 2, 3, 16, 4, 5, 16, 6, 7, 16, 8, 9, 16];
+
+/// The next sixteen, of the middle's lanes.
+const SPACED_MIDDLE: [usize; LANES] = [2, 3, 16, 4, 5, 16, 6, 7, 16, 8, 9, 16, 10, 11, 16, 12];
+
+/// The last sixteen, of the back's lanes.
+const SPACED_BACK: [usize; LANES] = [
+    5, 16, 6, 7, 16, 8, 9, 16, 10, 11, 16, 12, 13, 16, 14, 15,
+];
+
+/// All lanes of one vector and then those of another.
+const BOTH: [usize; 32] = [
+    0, 1, 2, 3, 4, 5, 6, 7, 8, 9, 10, 11, 12, 13, 14, 15, 16, 17, 18, 19, 20, 21, 22, 23, 24, 25,
+    26, 27, 28, 29, 30, 31,
+];
+
+/// The lanes of two vectors, of which the second one has nothing new behind the first half.
+const ALL: [usize; 64] = [
+    0, 1, 2, 3, 4, 5, 6, 7, 8, 9, 10, 11, 12, 13, 14, 15, 16, 17, 18, 19, 20, 21, 22, 23, 24, 25,
+    26, 27, 28, 29, 30, 31, 32, 33, 34, 35, 36, 37, 38, 39, 40, 41, 42, 43, 44, 45, 46, 47, 48, 49,
+    50, 51, 52, 53, 54, 55, 56, 57, 58, 59, 60, 61, 62, 63,
 ];
 
 /// The upper-case digit of a number below 16.
@@ -61,8 +85,16 @@ fn spaced_block(bytes: u8x16) -> [u8; 64]
 {
     let high = upper_digits(bytes >> u8x16::splat(4));
     let low = upper_digits(bytes & u8x16::splat(15));
-    let pairs: u8x32 = high.shuffle(low, IN_TURN);
-    let text: u8x64 = pairs.shuffle(u8x32::splat(b' '), BEFORE_PAIRS);
+    let spaces = u8x16::splat(b' ');
+    let front: u8x16 = high.shuffle(low, FRONT);
+    let middle: u8x16 = high.shuffle(low, MIDDLE);
+    let back: u8x16 = high.shuffle(low, BACK);
+    let front: u8x16 = front.shuffle(spaces, SPACED_FRONT);
+    let middle: u8x16 = middle.shuffle(spaces, SPACED_MIDDLE);
+    let back: u8x16 = back.shuffle(spaces, SPACED_BACK);
+    let first_half: u8x32 = front.shuffle(middle, BOTH);
+    let second_half: u8x32 = back.shuffle(spaces, BOTH);
+    let text: u8x64 = first_half.shuffle(second_half, ALL);
     text.to_array()
 }
 
