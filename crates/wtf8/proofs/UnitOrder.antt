@@ -123,7 +123,7 @@ cmp_greater : (x y : ℕ) → y < x → nat_cmp x y ≡ Greater
 cmp_greater x y h = grind (arith, nat_tests)
 
 -- the numbers there, or the ends, are in the order of the lists
-order_there : (w v : List ℕ) (at : ℕ) → IsFirstDifference w v at → option_cmp nat_cmp (slice_get w at) (slice_get v at) ≡ slice_cmp nat_cmp w v
+pub order_there : (w v : List ℕ) (at : ℕ) → IsFirstDifference w v at → option_cmp nat_cmp (slice_get w at) (slice_get v at) ≡ slice_cmp nat_cmp w v
 order_there [] [] at d = refl
 order_there [] (y ∷ v) zero d = refl
 order_there [] (y ∷ v) (suc n) d = absurd (omega (arith, d.within_first))

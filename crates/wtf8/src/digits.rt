@@ -41,19 +41,6 @@ const SPACED_BACK: [usize; LANES] = [
     5, 16, 6, 7, 16, 8, 9, 16, 10, 11, 16, 12, 13, 16, 14, 15,
 ];
 
-/// All lanes of one vector and then those of another.
-const BOTH: [usize; 32] = [
-    0, 1, 2, 3, 4, 5, 6, 7, 8, 9, 10, 11, 12, 13, 14, 15, 16, 17, 18, 19, 20, 21, 22, 23, 24, 25,
-    26, 27, 28, 29, 30, 31,
-];
-
-/// The lanes of two vectors, of which the second one has nothing new behind the first half.
-const ALL: [usize; 64] = [
-    0, 1, 2, 3, 4, 5, 6, 7, 8, 9, 10, 11, 12, 13, 14, 15, 16, 17, 18, 19, 20, 21, 22, 23, 24, 25,
-    26, 27, 28, 29, 30, 31, 32, 33, 34, 35, 36, 37, 38, 39, 40, 41, 42, 43, 44, 45, 46, 47, 48, 49,
-    50, 51, 52, 53, 54, 55, 56, 57, 58, 59, 60, 61, 62, 63,
-];
-
 /// The upper-case digit of a number below 16.
 #[tactic(auto, unfolding(crate::specs::Hex::digit))]
 pub(crate) fn upper_digit(value: u8) -> char
@@ -77,11 +64,10 @@ fn upper_digits(values: u8x16) -> u8x16
     u8x16::from_array(DIGITS).swizzle_dyn(values)
 }
 
-/// A space and two digits for each of 16 bytes, and some spaces behind them.
+/// A space and two digits for each of 16 bytes.
 #[inline(always)]
-fn spaced_block(bytes: u8x16) -> [u8; 64]
-    ensures text { take 48 result ≡ flat_map spaced bytes }
-    ensures len { length result ≡ 64 }
+fn spaced_block(bytes: u8x16) -> [u8; BLOCK]
+    ensures { result ≡ flat_map spaced bytes }
 {
     let high = upper_digits(bytes >> u8x16::splat(4));
     let low = upper_digits(bytes & u8x16::splat(15));
@@ -89,13 +75,11 @@ fn spaced_block(bytes: u8x16) -> [u8; 64]
     let front: u8x16 = high.shuffle(low, FRONT);
     let middle: u8x16 = high.shuffle(low, MIDDLE);
     let back: u8x16 = high.shuffle(low, BACK);
-    let front: u8x16 = front.shuffle(spaces, SPACED_FRONT);
-    let middle: u8x16 = middle.shuffle(spaces, SPACED_MIDDLE);
-    let back: u8x16 = back.shuffle(spaces, SPACED_BACK);
-    let first_half: u8x32 = front.shuffle(middle, BOTH);
-    let second_half: u8x32 = back.shuffle(spaces, BOTH);
-    let text: u8x64 = first_half.shuffle(second_half, ALL);
-    text.to_array()
+    let mut text = [0; BLOCK];
+    front.shuffle(spaces, SPACED_FRONT).copy_to_slice(&mut text);
+    middle.shuffle(spaces, SPACED_MIDDLE).copy_to_slice(&mut text[LANES..]);
+    back.shuffle(spaces, SPACED_BACK).copy_to_slice(&mut text[2 * LANES..]);
+    text
 }
 
 /// Appends the digits of 16 bytes with a space before each byte. There is room for them.
@@ -107,7 +91,7 @@ fn push_block<A: Allocator>(text: &mut Vec<u8, A>, bytes: u8x16)
     ensures capacity { vec_capacity text.old ≤ vec_capacity text.new }
 {
     let block = spaced_block(bytes);
-    let _ = text.extend_from_slice(&block[..BLOCK]);
+    let _ = text.extend_from_slice(&block);
 }
 
 /// Appends a byte as two digits. There is room for them.

@@ -13,13 +13,25 @@ const REPLACEMENT: [u8; 3] = [0xEF, 0xBF, 0xBD];
 const LANES: usize = 64;
 
 /// The place of the first surrogate that begins at `from` or behind it, in any bytes.
+#[inline]
 pub(crate) fn first_surrogate(bytes: &[u8], from: usize) -> Option<usize>
+    ensures { IsFirstSurrogate bytes.now from result }
+{
+    if LANES < bytes.len().saturating_sub(from) {
+        return first_surrogate_in_blocks(bytes, from);
+    }
+    first_surrogate_in_rest(bytes, from)
+}
+
+/// The same, in blocks as far as these have none.
+#[inline(never)]
+fn first_surrogate_in_blocks(bytes: &[u8], from: usize) -> Option<usize>
     ensures { IsFirstSurrogate bytes.now from result }
 {
     let mut at = from;
     while LANES < bytes.len().saturating_sub(at) {
-        if holds_first_byte(bytes, at) {
-            if let Some(found) = first_in_block::<LANES>(bytes, at) {
+        if holds_first_byte(bytes, at) && holds_surrogate(bytes, at) {
+            if let Some(found) = first_in_full_block(bytes, at) {
                 return Some(found);
             }
         }
@@ -72,6 +84,27 @@ fn holds_first_byte(bytes: &[u8], at: usize) -> bool
 {
     let firsts = Simd::<u8, LANES>::from_slice(&bytes[at..]);
     firsts.simd_eq(Simd::splat(0xED)).to_bitmask() != 0
+}
+
+/// Whether a surrogate begins in a block. It takes longer, but no place is made of its answer.
+#[inline(always)]
+fn holds_surrogate(bytes: &[u8], at: usize) -> bool
+    requires { at + 64 < length bytes.now }
+    ensures { result ≡ false → IsFirstInBlock bytes.now at 64 None }
+{
+    let firsts = Simd::<u8, LANES>::from_slice(&bytes[at..]);
+    let seconds = Simd::<u8, LANES>::from_slice(&bytes[at + 1..]);
+    let both = firsts.simd_eq(Simd::splat(0xED)) & seconds.simd_ge(Simd::splat(0xA0));
+    both.to_bitmask() != 0
+}
+
+/// The place of the first surrogate that begins in a block.
+#[inline(never)]
+fn first_in_full_block(bytes: &[u8], at: usize) -> Option<usize>
+    requires { at + 64 < length bytes.now }
+    ensures { IsFirstInBlock bytes.now at 64 result }
+{
+    first_in_block::<LANES>(bytes, at)
 }
 
 /// The place of the first surrogate that begins at one of `N` places.

@@ -84,7 +84,9 @@ fn two_bytes_each(units: [u16; 8]) -> [u8; 16]
     let first = u16x8::splat(0xC0).strict_add(high).cast::<u8>();
     let second = u16x8::splat(0x80).strict_add(low).cast::<u8>();
     let bytes: u8x16 = first.shuffle(second, IN_TWOS);
-    bytes.to_array()
+    let mut block = [0; 16];
+    bytes.copy_to_slice(&mut block);
+    block
 }
 
 /// The bytes of the eight units from a place on, where there are so many and all of them take two bytes.
@@ -132,7 +134,9 @@ fn three_bytes_each(units: [u16; 8]) -> [u8; 32]
     let front: u8x16 = first.shuffle(second, FRONT_AND_BACK);
     let back: u8x16 = third.shuffle(third, FRONT_AND_BACK);
     let bytes: u8x32 = front.shuffle(back, IN_THREES);
-    bytes.to_array()
+    let mut block = [0; 32];
+    bytes.copy_to_slice(&mut block);
+    block
 }
 
 /// The bytes of the eight units from a place on, where there are so many and all of them take three bytes, with eight

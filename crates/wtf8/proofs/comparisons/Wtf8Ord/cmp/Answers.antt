@@ -6,10 +6,10 @@ pub returns-clause-points : goal.returns-clause-points
 returns-clause-points c =
     let own = c.args.self.now.well_formed in
     let others = c.args.other.now.well_formed in
-    c.cmp.ensures ∙ cmp_points own.points others.points own.encoded others.encoded
+    c.order.ensures ∙ cmp_points own.points others.points own.encoded others.encoded
 
 pub returns-clause-order : goal.returns-clause-order
 returns-clause-order c =
     let own = c.args.self.now.well_formed in
     let others = c.args.other.now.well_formed in
-    points_order _ own.points others.points own.encoded others.encoded c.cmp.ensures
+    points_order _ own.points others.points own.encoded others.encoded c.order.ensures

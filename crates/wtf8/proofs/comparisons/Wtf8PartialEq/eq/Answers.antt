@@ -6,10 +6,10 @@ pub returns-clause-points : goal.returns-clause-points
 returns-clause-points c =
     let own = c.args.self.now.well_formed in
     let others = c.args.other.now.well_formed in
-    equal_points _ own.points others.points own.encoded others.encoded c.eq.ensures
+    equal_points _ own.points others.points own.encoded others.encoded c.equal.ensures
 
 pub returns-clause-units : goal.returns-clause-units
 returns-clause-units c =
     let own = c.args.self.now.well_formed in
     let others = c.args.other.now.well_formed in
-    equal_units _ (record { clean = own.clean; same_units = refl }) (record { clean = others.clean; same_units = refl }) own.encoded others.encoded c.eq.ensures
+    equal_units _ (record { clean = own.clean; same_units = refl }) (record { clean = others.clean; same_units = refl }) own.encoded others.encoded c.equal.ensures

@@ -1,6 +1,6 @@
 use Rattle.std.proofs.Common.{ℕ, ◌≤◌, ◌<◌, ◌-◌, length}
 use Rattle.wtf8.specs.Surrogates.{SurrogateAt}
-use Rattle.wtf8.proofs.search.first_surrogate.Given as goal
+use Rattle.wtf8.proofs.search.first_surrogate_in_blocks.Given as goal
 
 -- none so far
 abbrev pub invariant-loop-found : goal.invariant-loop-found
