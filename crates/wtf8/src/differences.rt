@@ -51,6 +51,18 @@ fn is_same_in_blocks(own: &[u8], others: &[u8]) -> bool
 pub(crate) fn order(own: &[u8], others: &[u8]) -> Ordering
     ensures { result ≡ slice_cmp nat_cmp own.now others.now }
 {
+    let len = own.len().min(others.len());
+    if len <= TURN && is_same_front(own, others, len) {
+        return own.len().cmp(&others.len());
+    }
+    order_by_difference(own, others)
+}
+
+/// The same by the first place where they differ.
+#[inline(never)]
+fn order_by_difference(own: &[u8], others: &[u8]) -> Ordering
+    ensures { result ≡ slice_cmp nat_cmp own.now others.now }
+{
     let at = first_difference(own, others);
     byte_at(own, at).cmp(&byte_at(others, at))
 }

@@ -13,7 +13,7 @@ const REPLACEMENT: [u8; 3] = [0xEF, 0xBF, 0xBD];
 const LANES: usize = 64;
 
 /// The place of the first surrogate that begins at `from` or behind it, in any bytes.
-#[inline]
+#[inline(always)]
 pub(crate) fn first_surrogate(bytes: &[u8], from: usize) -> Option<usize>
     ensures { IsFirstSurrogate bytes.now from result }
 {

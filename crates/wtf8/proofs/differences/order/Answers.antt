@@ -1,9 +1,15 @@
-use Rattle.std.proofs.Common.{◌∙◌, ap}
-use Rattle.std.specs.Option.{option_cmp}
-use Rattle.std.specs.Ordering.{nat_cmp}
-use Rattle.wtf8.proofs.UnitOrder.{order_there}
+use Rattle.std.proofs.Common.{◌≤◌, ◌⊎◌, inl, inr, length, ◌∙◌, arith}
+use Rattle.std.proofs.lemmas.Bool.{cases_lt}
+use Rattle.wtf8.proofs.UnitOrder.{lengths_decide}
 use Rattle.wtf8.proofs.differences.order.Goals as goal
 
-pub returns : goal.returns
-returns c =
-    c.cmp.ensures ∙ (ap (λ b. option_cmp nat_cmp b c.byte_at-2.result) c.byte_at.ensures ∙ (ap (option_cmp nat_cmp _) c.byte_at-2.ensures ∙ order_there c.args.own.now c.args.others.now c.first_difference-at.result c.first_difference-at.ensures))
+pub returns-then-is_same_front : goal.returns-then-is_same_front
+returns-then-is_same_front c =
+    let own = c.args.own.now in
+    let others = c.args.others.now in
+    let n = c.min-len.result in
+    let end : length own ≤ n ⊎ length others ≤ n = elim (cases_lt (length own) (length others)) [
+      | inl l ↦ inl (omega (arith, l, c.min-len.ensures))
+      | inr l ↦ inr (omega (arith, l, c.min-len.ensures))
+    ] in
+    c.cmp.ensures ∙ lengths_decide own others n end (omega (arith, c.min-len.ensures)) (omega (arith, c.min-len.ensures)) (c.is_same_front.ensures.0 c.if-is_same_front.true)
