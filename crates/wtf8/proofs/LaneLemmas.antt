@@ -109,12 +109,14 @@ module _ (n : ℕ) (w : List ℕ) (i : ℕ) (room : i + n < length w) where
 
   pub least_surrogate : (k : ℕ) → IsLeastLane n (chunk i n w) (chunk (i + 1) n w) k → IsFirstInBlock w i n (Some (i + k))
   least_surrogate k least =
-      let within = least.within in
-      (record {
-        not_before = omega arith;
-        here = from_lane k within least.here;
-        none_between = λ j l u s. least.none_before (j - i) (omega arith) (to_lane (j - i) (omega arith) (subst (SurrogateAt w) (omega arith) s));
-      }, omega arith)
+      let within = least.within in (
+        record {
+          not_before = omega arith;
+          here = from_lane k within least.here;
+          none_between = λ j l u s. least.none_before (j - i) (omega arith) (to_lane (j - i) (omega arith) (subst (SurrogateAt w) (omega arith) s));
+        },
+        omega arith,
+      )
 
 -- ED in no lane
 abbrev leads : ℕ → List ℕ → ℕ

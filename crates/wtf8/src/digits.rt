@@ -21,14 +21,10 @@ const DIGITS: [u8; LANES] = *b"0123456789ABCDEF";
 const FRONT: [usize; LANES] = [0, 16, 1, 17, 2, 18, 3, 19, 4, 20, 5, 21, 6, 22, 7, 23];
 
 /// The same of eight lanes in the middle.
-const MIDDLE: [usize; LANES] = [
-    4, 20, 5, 21, 6, 22, 7, 23, 8, 24, 9, 25, 10, 26, 11, 27,
-];
+const MIDDLE: [usize; LANES] = [4, 20, 5, 21, 6, 22, 7, 23, 8, 24, 9, 25, 10, 26, 11, 27];
 
 /// The same of the last eight lanes.
-const BACK: [usize; LANES] = [
-    8, 24, 9, 25, 10, 26, 11, 27, 12, 28, 13, 29, 14, 30, 15, 31,
-];
+const BACK: [usize; LANES] = [8, 24, 9, 25, 10, 26, 11, 27, 12, 28, 13, 29, 14, 30, 15, 31];
 
 /// The first sixteen places of a text that has a space before each pair of the front's lanes.
 const SPACED_FRONT: [usize; LANES] = [16, 0, 1, 16, 2, 3, 16, 4, 5, 16, 6, 7, 16, 8, 9, 16];
@@ -37,9 +33,7 @@ const SPACED_FRONT: [usize; LANES] = [16, 0, 1, 16, 2, 3, 16, 4, 5, 16, 6, 7, 16
 const SPACED_MIDDLE: [usize; LANES] = [2, 3, 16, 4, 5, 16, 6, 7, 16, 8, 9, 16, 10, 11, 16, 12];
 
 /// The last sixteen, of the back's lanes.
-const SPACED_BACK: [usize; LANES] = [
-    5, 16, 6, 7, 16, 8, 9, 16, 10, 11, 16, 12, 13, 16, 14, 15,
-];
+const SPACED_BACK: [usize; LANES] = [5, 16, 6, 7, 16, 8, 9, 16, 10, 11, 16, 12, 13, 16, 14, 15];
 
 /// The upper-case digit of a number below 16.
 #[tactic(auto, unfolding(crate::specs::Hex::digit))]
@@ -77,8 +71,11 @@ fn spaced_block(bytes: u8x16) -> [u8; BLOCK]
     let back: u8x16 = high.shuffle(low, BACK);
     let mut text = [0; BLOCK];
     front.shuffle(spaces, SPACED_FRONT).copy_to_slice(&mut text);
-    middle.shuffle(spaces, SPACED_MIDDLE).copy_to_slice(&mut text[LANES..]);
-    back.shuffle(spaces, SPACED_BACK).copy_to_slice(&mut text[2 * LANES..]);
+    middle
+        .shuffle(spaces, SPACED_MIDDLE)
+        .copy_to_slice(&mut text[LANES..]);
+    back.shuffle(spaces, SPACED_BACK)
+        .copy_to_slice(&mut text[2 * LANES..]);
     text
 }
 
