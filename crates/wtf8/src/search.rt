@@ -17,10 +17,14 @@ const LANES: usize = 64;
 pub(crate) fn first_surrogate(bytes: &[u8], from: usize) -> Option<usize>
     ensures { IsFirstSurrogate bytes.now from result }
 {
-    if LANES < bytes.len().saturating_sub(from) {
-        return first_surrogate_in_blocks(bytes, from);
+    let left = bytes.len().saturating_sub(from);
+    if left <= 16 {
+        return first_surrogate_in_few(bytes, from);
     }
-    first_surrogate_in_rest(bytes, from)
+    if left <= LANES {
+        return first_surrogate_in_rest(bytes, from);
+    }
+    first_surrogate_in_blocks(bytes, from)
 }
 
 /// The same, in blocks as far as these have none.
@@ -53,6 +57,16 @@ fn first_surrogate_in_rest(bytes: &[u8], from: usize) -> Option<usize>
     if 16 < left {
         return first_in_two_blocks::<16>(bytes, from);
     }
+    first_surrogate_in_few(bytes, from)
+}
+
+/// The same for up to 16 bytes.
+#[inline(always)]
+fn first_surrogate_in_few(bytes: &[u8], from: usize) -> Option<usize>
+    requires { length bytes.now ≤ from + 16 }
+    ensures { IsFirstSurrogate bytes.now from result }
+{
+    let left = bytes.len().saturating_sub(from);
     if 8 < left {
         return first_in_two_blocks::<8>(bytes, from);
     }
