@@ -1,5 +1,5 @@
 -- Bytes compared in lanes: what the mask of a block says of its bytes.
-use Rattle.std.proofs.Common.{◌≡◌, ◌≢◌, ◌↔◌, ℕ, zero, suc, ◌+◌, ◌-◌, ◌*◌, ◌%◌, ◌^◌, ◌<◌, ◌≤◌, eqb, Bool, true, false, IsTrue, cond, not, ◌&&◌, inl, inr, List, [], ◌∷◌, ◌++◌, map, length, nat_eq, take, drop, w8, refl, sym, ap, ◌∙◌, subst, arith, take-add, take-append-drop}
+use Rattle.std.proofs.Common.{◌≡◌, ◌↔◌, ℕ, ◌+◌, ◌-◌, ◌*◌, ◌%◌, ◌^◌, ◌≤◌, eqb, Bool, IsTrue, cond, not, ◌&&◌, inl, inr, List, [], ◌∷◌, ◌++◌, map, length, nat_eq, take, drop, w8, refl, sym, ap, ◌∙◌, subst, arith, take-add}
 use Rattle.std.proofs.lemmas.Bool.{cases_Bool, both_ways, and_parts, and_from, eq-eqb, eqb-true}
 use Rattle.std.proofs.lemmas.List.{drop-drop, drop-take, take-take, take_all}
 use Rattle.std.proofs.lemmas.Simd.{length-zip2, mask_l-mod, tops_compared}

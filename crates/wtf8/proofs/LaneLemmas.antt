@@ -1,12 +1,12 @@
 -- The search in lanes: from the mask of two vectors to the first lane that has a surrogate's two bytes.
-use Rattle.std.proofs.Common.{◌≡◌, ℕ, zero, suc, ◌+◌, ◌-◌, ◌%◌, ◌^◌, ◌<◌, ◌≤◌, eqb, leb, Bool, true, false, cond, not, ◌&&◌, List, [], ◌∷◌, map, length, get_or, replicate, bit_and, Option, None, Some, w8, refl, sym, ap, ◌∙◌, subst, arith}
+use Rattle.std.proofs.Common.{◌≡◌, ℕ, zero, suc, ◌+◌, ◌-◌, ◌%◌, ◌^◌, ◌<◌, ◌≤◌, eqb, leb, Bool, true, false, cond, not, ◌&&◌, List, [], ◌∷◌, map, length, get_or, replicate, bit_and, None, Some, w8, refl, sym, ap, ◌∙◌, subst, arith}
 use Rattle.std.proofs.lemmas.Bool.{and_parts, and_from, both_ways, not-true, not-false, leb-true, le-leb, eq-eqb, eqb-true}
 use Rattle.std.proofs.lemmas.List.Sums.{prefix_len_passes, prefix_len_stops}
 use Rattle.std.proofs.lemmas.Simd.{length-zip2, get_or-zip2, length-chunk, get_or-chunk, mask_l-mod, leading_from_mask_l, trailing_mask_l, bitmask_splat, none_from_empty_mask}
 use Rattle.std.specs.List.{prefix_len}
 use lib.Count.{count_trailing_zeros}
 use lib.Lanes.{chunk, zip2, mask_l, top}
-use Rattle.wtf8.specs.Surrogates.{SurrogateAt, IsLeastSurrogate, IsFirstInBlock, IsSurrogateLane, IsLeastLane}
+use Rattle.wtf8.specs.Surrogates.{SurrogateAt, IsFirstInBlock, IsSurrogateLane, IsLeastLane}
 
 -- a lane of a comparison
 abbrev pub lane : Bool → ℕ
