@@ -18,6 +18,29 @@ const BASES: [&[u16]; 7] = [
 /// Lengths beyond the blocks of any search.
 const LENGTHS: [usize; 7] = [255, 256, 257, 511, 600, 1023, 2000];
 
+/// Places at the ends, in the middle, and about the ends of the first and the last blocks of a search.
+fn places_in(len: usize) -> [usize; 15] {
+    let half = len / 2;
+    let back = |count: usize| len - count;
+    [
+        0,
+        1,
+        15,
+        31,
+        63,
+        64,
+        127,
+        half,
+        back(129),
+        back(128),
+        back(65),
+        back(64),
+        back(33),
+        back(2),
+        back(1),
+    ]
+}
+
 /// The most units that one call takes.
 const MOST_UNITS: usize = 255;
 
@@ -69,6 +92,27 @@ fn changed_at(units: &[u16], places: impl IntoIterator<Item = usize>) -> Vec<Cal
             calls.push(registers("comparisons", 0, 1));
             calls.push(registers("comparisons", 1, 0));
             calls.push(registers("cmp_units", 0, 1));
+        }
+    }
+    calls
+}
+
+/// Strings of every length up to 130 that are made of units, with one unit at each place that has more or fewer bytes.
+pub fn another_kind_at_each_place() -> Vec<Vec<Call>> {
+    let mut scripts = Vec::new();
+    for base in BASES {
+        for len in 0..=130 {
+            scripts.push(another_kind_at(&string_of(base, len), 0..len));
+        }
+    }
+    scripts
+}
+
+fn another_kind_at(units: &[u16], places: impl IntoIterator<Item = usize>) -> Vec<Call> {
+    let mut calls = string_in(0, units);
+    for place in places {
+        for other in [0x7F, 0x80, 0x7FF, 0x800] {
+            calls.extend(string_in(1, &changed(units, &[(place, other)])));
         }
     }
     calls
@@ -150,7 +194,7 @@ pub fn longest() -> Vec<Vec<Call>> {
     for base in BASES {
         for len in LENGTHS {
             let units = string_of(base, len);
-            for place in [0, 1, 15, 31, 63, len / 2, len - 33, len - 2, len - 1] {
+            for place in places_in(len) {
                 let mut calls = string_in(0, &units);
                 for other in [0x62, 0xD800, 0xDC00] {
                     let units = changed(&units, &[(place, other)]);

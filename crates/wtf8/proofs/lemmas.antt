@@ -6,6 +6,7 @@ pub mod Comparing
 pub mod Concatenation
 pub mod DebugTexts
 pub mod Decoding
+pub mod DifferenceLanes
 pub mod DisplayedTexts
 pub mod Encoding
 pub mod FinalLead

@@ -7,11 +7,9 @@ pub record SurrogateAt (w : List ℕ) (i : ℕ) : Type 0 where
   pub first : slice_index w i ≡ 0xED
   pub second : 0xA0 ≤ slice_index w (i + 1)
 
--- A lane of 32 in which one vector holds ED and another a byte of at least A0, as a surrogate's first two bytes are.
-pub record IsSurrogateLane (firsts seconds : List ℕ) (k : ℕ) : Type 0 where
-  pub within : k < 32
-  pub first : slice_index firsts k ≡ 0xED
-  pub second : 0xA0 ≤ slice_index seconds k
+-- A lane in which one vector holds ED and another a byte of at least A0, as a surrogate's first two bytes are.
+abbrev pub IsSurrogateLane : List ℕ → List ℕ → ℕ → Type 0
+IsSurrogateLane firsts seconds k = (slice_index firsts k ≡ 0xED) × (0xA0 ≤ slice_index seconds k)
 
 -- The least place with a property, from a start on.
 pub record IsLeast (P : ℕ → Type 0) (from i : ℕ) : Type 0 where
@@ -22,3 +20,7 @@ pub record IsLeast (P : ℕ → Type 0) (from i : ℕ) : Type 0 where
 -- An answer is the least place with a property from a start on, or that there is none.
 abbrev pub IsFirst : (ℕ → Type 0) → ℕ → Option ℕ → Type 0
 IsFirst P from r = MatchOption r ((j : ℕ) → from ≤ j → ¬ (P j)) (IsLeast P from)
+
+-- An answer is the least place with a property from a start on and below an end, or that there is none.
+abbrev pub IsFirstBelow : (ℕ → Type 0) → ℕ → ℕ → Option ℕ → Type 0
+IsFirstBelow P from end r = MatchOption r ((j : ℕ) → from ≤ j → j < end → ¬ (P j)) (λ i. IsLeast P from i × (i < end))

@@ -10,6 +10,7 @@ ghost use Rattle.wtf8.specs.Order.{Before};
 ghost use Rattle.wtf8.specs.View.{view_points, view_units};
 
 use crate::buf::Wtf8Buf;
+use crate::differences;
 use crate::view::Wtf8;
 use std::alloc::Allocator;
 use std::cmp::Ordering;
@@ -24,7 +25,7 @@ impl<'a> PartialEq for Wtf8<'a> {
         ensures points { IsTrue result ↔ (view_points self.now ≡ view_points other.now) }
         ensures units { IsTrue result ↔ (view_units self.now ≡ view_units other.now) }
     {
-        self.bytes == other.bytes
+        differences::equal(self.bytes, other.bytes)
     }
 
     ghost laws = { Prim.search (comparing, rules) };
@@ -55,7 +56,7 @@ impl<'a> Ord for Wtf8<'a> {
         ensures order { let own = view_points self.now in let others = view_points other.now in
             MatchOrdering result (Before own others) (own ≡ others) (Before others own) }
     {
-        self.bytes.cmp(&other.bytes)
+        differences::order(self.bytes, other.bytes)
     }
 
     ghost total = { Prim.search (comparing, rules) };

@@ -18,18 +18,23 @@ const BLOCK: usize = 48;
 /// The upper-case digits at their values.
 const DIGITS: [u8; LANES] = *b"0123456789ABCDEF";
 
-/// The places of a first and a second vector's lanes in turn.
-const IN_TURN: [usize; 32] = [
-    0, 16, 1, 17, 2, 18, 3, 19, 4, 20, 5, 21, 6, 22, 7, 23, 8, 24, 9, 25, 10, 26, 11, 27, 12, 28,
-    13, 29, 14, 30, 15, 31,
-];
+/// The places of the first eight lanes of two vectors, in turn.
+const FRONT: [usize; LANES] = [0, 16, 1, 17, 2, 18, 3, 19, 4, 20, 5, 21, 6, 22, 7, 23];
 
-/// Before each pair of lanes one of a second vector, and more of that behind the last pair.
-const BEFORE_PAIRS: [usize; 64] = [
-    32, 0, 1, 32, 2, 3, 32, 4, 5, 32, 6, 7, 32, 8, 9, 32, 10, 11, 32, 12, 13, 32, 14, 15, 32, 16,
-    17, 32, 18, 19, 32, 20, 21, 32, 22, 23, 32, 24, 25, 32, 26, 27, 32, 28, 29, 32, 30, 31, 32, 32,
-    32, 32, 32, 32, 32, 32, 32, 32, 32, 32, 32, 32, 32, 32,
-];
+/// The same of eight lanes in the middle.
+const MIDDLE: [usize; LANES] = [4, 20, 5, 21, 6, 22, 7, 23, 8, 24, 9, 25, 10, 26, 11, 27];
+
+/// The same of the last eight lanes.
+const BACK: [usize; LANES] = [8, 24, 9, 25, 10, 26, 11, 27, 12, 28, 13, 29, 14, 30, 15, 31];
+
+/// The first sixteen places of a text that has a space before each pair of the front's lanes.
+const SPACED_FRONT: [usize; LANES] = [16, 0, 1, 16, 2, 3, 16, 4, 5, 16, 6, 7, 16, 8, 9, 16];
+
+/// The next sixteen, of the middle's lanes.
+const SPACED_MIDDLE: [usize; LANES] = [2, 3, 16, 4, 5, 16, 6, 7, 16, 8, 9, 16, 10, 11, 16, 12];
+
+/// The last sixteen, of the back's lanes.
+const SPACED_BACK: [usize; LANES] = [5, 16, 6, 7, 16, 8, 9, 16, 10, 11, 16, 12, 13, 16, 14, 15];
 
 /// The upper-case digit of a number below 16.
 #[tactic(auto, unfolding(crate::specs::Hex::digit))]
@@ -54,17 +59,25 @@ fn upper_digits(values: u8x16) -> u8x16
     u8x16::from_array(DIGITS).swizzle_dyn(values)
 }
 
-/// A space and two digits for each of 16 bytes, and some spaces behind them.
+/// A space and two digits for each of 16 bytes.
 #[inline(always)]
-fn spaced_block(bytes: u8x16) -> [u8; 64]
-    ensures text { take 48 result ≡ flat_map spaced bytes }
-    ensures len { length result ≡ 64 }
+fn spaced_block(bytes: u8x16) -> [u8; BLOCK]
+    ensures { result ≡ flat_map spaced bytes }
 {
     let high = upper_digits(bytes >> u8x16::splat(4));
     let low = upper_digits(bytes & u8x16::splat(15));
-    let pairs: u8x32 = high.shuffle(low, IN_TURN);
-    let text: u8x64 = pairs.shuffle(u8x32::splat(b' '), BEFORE_PAIRS);
-    text.to_array()
+    let spaces = u8x16::splat(b' ');
+    let front: u8x16 = high.shuffle(low, FRONT);
+    let middle: u8x16 = high.shuffle(low, MIDDLE);
+    let back: u8x16 = high.shuffle(low, BACK);
+    let mut text = [0; BLOCK];
+    front.shuffle(spaces, SPACED_FRONT).copy_to_slice(&mut text);
+    middle
+        .shuffle(spaces, SPACED_MIDDLE)
+        .copy_to_slice(&mut text[LANES..]);
+    back.shuffle(spaces, SPACED_BACK)
+        .copy_to_slice(&mut text[2 * LANES..]);
+    text
 }
 
 /// Appends the digits of 16 bytes with a space before each byte. There is room for them.
@@ -76,7 +89,7 @@ fn push_block<A: Allocator>(text: &mut Vec<u8, A>, bytes: u8x16)
     ensures capacity { vec_capacity text.old ≤ vec_capacity text.new }
 {
     let block = spaced_block(bytes);
-    let _ = text.extend_from_slice(&block[..BLOCK]);
+    let _ = text.extend_from_slice(&block);
 }
 
 /// Appends a byte as two digits. There is room for them.

@@ -84,16 +84,18 @@ impl<'a> Clone for Wtf8CodePoints<'a> {
 #[derive(Drop)]
 pub struct IllFormedUtf16CodeUnits<'a> {
     code_points: Wtf8CodePoints<'a>,
-    trail: Option<u16>,
+
+    /// The trail that is held back, or 0, which is no trail, where none is.
+    trail: u16,
 }
 
 impl<'a> Model for IllFormedUtf16CodeUnits<'a> {
-    ghost use Rattle.std.specs.Option.{option_to_list};
     ghost use Rattle.wtf8.specs.Units.{Unread};
+    ghost use Rattle.wtf8.specs.UnitSteps.{held_trail};
 
     ghost Value = { Unread };
 
-    ghost view = { λ s. record { held = option_to_list s.trail; points = s.code_points } };
+    ghost view = { λ s. record { held = held_trail s.trail; points = s.code_points } };
 }
 
 impl<'a> IllFormedUtf16CodeUnits<'a> {
@@ -109,7 +111,7 @@ impl<'a> IllFormedUtf16CodeUnits<'a> {
     {
         IllFormedUtf16CodeUnits {
             code_points: Wtf8CodePoints::new(text),
-            trail: None,
+            trail: 0,
         }
     }
 
@@ -120,18 +122,18 @@ impl<'a> IllFormedUtf16CodeUnits<'a> {
         ensures first { YieldsFirst unread_units self.old result self.new }
         ensures left { self.new ≡ unread_after self.old }
     {
-        match self.trail.take() {
-            Some(trail) => Some(trail),
-            None => {
-                let code_point = self.code_points.next()?.to_u32();
-                if code_point < 0x10000 {
-                    return Some(code_point as u16);
-                }
-                let offset = code_point - 0x10000;
-                self.trail = Some((0xDC00 + offset % 0x400) as u16);
-                Some((0xD800 + offset / 0x400) as u16)
-            }
+        let trail = self.trail;
+        if trail != 0 {
+            self.trail = 0;
+            return Some(trail);
         }
+        let code_point = self.code_points.next()?.to_u32();
+        if code_point < 0x10000 {
+            return Some(code_point as u16);
+        }
+        let offset = code_point - 0x10000;
+        self.trail = (0xDC00 + offset % 0x400) as u16;
+        Some((0xD800 + offset / 0x400) as u16)
     }
 }
 
@@ -161,7 +163,7 @@ impl<'a> Iterator for IllFormedUtf16CodeUnits<'a> {
         ensures holds { IsTrueHint result (length (unread_units self.now)) }
     {
         let bytes = self.code_points.rest.len();
-        let held = usize::from(self.trail.is_some());
+        let held = usize::from(self.trail != 0);
         let most = match bytes.checked_mul(2) {
             Some(twice) => twice.checked_add(held),
             None => None,

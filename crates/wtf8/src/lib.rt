@@ -9,6 +9,7 @@ mod comparisons;
 mod concat;
 mod debug_text;
 mod decode;
+mod differences;
 mod digits;
 mod display_text;
 mod encoding;

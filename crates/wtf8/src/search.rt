@@ -1,7 +1,7 @@
 // The search for surrogates in bytes, and their replacement.
-ghost use Rattle.std.specs.Prelude.{◌≡◌, ◌∷◌, ◌++◌, ◌+◌, ◌≤◌, length, take, drop};
+ghost use Rattle.std.specs.Prelude.{◌≡◌, ◌∷◌, ◌++◌, ◌+◌, ◌*◌, ◌<◌, ◌≤◌, length, take, drop, false, None};
 ghost use Rattle.wtf8.specs.Form.{IsWellFormed, bytes as bytes_of};
-ghost use Rattle.wtf8.specs.SurrogateSearch.{IsFirst, IsSurrogateLane, SurrogateAt};
+ghost use Rattle.wtf8.specs.SurrogateSearch.{IsFirst, IsFirstBelow, IsSurrogateLane, SurrogateAt};
 ghost use Rattle.wtf8.specs.Surrogates.{lossy};
 
 use std::alloc::Allocator;
@@ -10,36 +10,141 @@ use std::simd::prelude::*;
 /// The bytes of U+FFFD, the replacement character: as many as any surrogate has.
 const REPLACEMENT: [u8; 3] = [0xEF, 0xBF, 0xBD];
 
-/// How many places the search looks at together.
-const LANES: usize = 32;
+/// How many places the search looks at together where so many are left.
+const LANES: usize = 64;
 
 /// The place of the first surrogate that begins at `from` or behind it, in any bytes.
+#[inline(always)]
 pub(crate) fn first_surrogate(bytes: &[u8], from: usize) -> Option<usize>
     ensures { IsFirst (SurrogateAt bytes.now) from result }
 {
-    // Short bytes begin no block.
-    if bytes.len() <= LANES {
+    let left = bytes.len().saturating_sub(from);
+    if left <= 16 {
+        return first_surrogate_in_few(bytes, from);
+    }
+    if left <= LANES {
         return first_surrogate_in_rest(bytes, from);
     }
+    first_surrogate_in_blocks(bytes, from)
+}
+
+/// The same, in blocks as far as these have none.
+#[inline(never)]
+fn first_surrogate_in_blocks(bytes: &[u8], from: usize) -> Option<usize>
+    ensures { IsFirst (SurrogateAt bytes.now) from result }
+{
     let mut at = from;
     while LANES < bytes.len().saturating_sub(at) {
-        let firsts = u8x32::from_slice(&bytes[at..]);
-        let seconds = u8x32::from_slice(&bytes[at + 1..]);
-        if let Some(lane) = block(firsts, seconds) {
-            return Some(at + lane);
+        if holds_first_byte(bytes, at) && holds_surrogate(bytes, at) {
+            if let Some(found) = first_in_full_block(bytes, at) {
+                return Some(found);
+            }
         }
         at += LANES;
     }
     first_surrogate_in_rest(bytes, at)
 }
 
+/// The same for the bytes behind all blocks, in two smaller blocks, which may overlap.
+#[inline(always)]
+fn first_surrogate_in_rest(bytes: &[u8], from: usize) -> Option<usize>
+    requires { length bytes.now ≤ from + 64 }
+    ensures { IsFirst (SurrogateAt bytes.now) from result }
+{
+    let left = bytes.len().saturating_sub(from);
+    if 32 < left {
+        return first_in_two_blocks::<32>(bytes, from);
+    }
+    if 16 < left {
+        return first_in_two_blocks::<16>(bytes, from);
+    }
+    first_surrogate_in_few(bytes, from)
+}
+
+/// The same for up to 16 bytes.
+#[inline(always)]
+fn first_surrogate_in_few(bytes: &[u8], from: usize) -> Option<usize>
+    requires { length bytes.now ≤ from + 16 }
+    ensures { IsFirst (SurrogateAt bytes.now) from result }
+{
+    let left = bytes.len().saturating_sub(from);
+    if 8 < left {
+        return first_in_two_blocks::<8>(bytes, from);
+    }
+    if 4 < left {
+        return first_in_two_blocks::<4>(bytes, from);
+    }
+    first_surrogate_one_by_one(bytes, from)
+}
+
+/// The same, where the `N` places from `from` on and the last `N` places are all.
+#[inline(always)]
+fn first_in_two_blocks<const N: usize>(bytes: &[u8], from: usize) -> Option<usize>
+    requires lanes { N ≤ 64 }
+    requires room { from + N < length bytes.now }
+    requires all { length bytes.now ≤ from + 2 * N + 1 }
+    ensures { IsFirst (SurrogateAt bytes.now) from result }
+{
+    if let Some(found) = first_in_block::<N>(bytes, from) {
+        return Some(found);
+    }
+    first_in_block::<N>(bytes, bytes.len() - N - 1)
+}
+
+/// Whether the first byte of a surrogate may stand in a block.
+#[inline(always)]
+fn holds_first_byte(bytes: &[u8], at: usize) -> bool
+    requires { at + 64 < length bytes.now }
+    ensures { result ≡ false → IsFirstBelow (SurrogateAt bytes.now) at (at + 64) None }
+{
+    let firsts = Simd::<u8, LANES>::from_slice(&bytes[at..]);
+    firsts.simd_eq(Simd::splat(0xED)).to_bitmask() != 0
+}
+
+/// Whether a surrogate begins in a block. It takes longer, but no place is made of its answer.
+#[inline(always)]
+fn holds_surrogate(bytes: &[u8], at: usize) -> bool
+    requires { at + 64 < length bytes.now }
+    ensures { result ≡ false → IsFirstBelow (SurrogateAt bytes.now) at (at + 64) None }
+{
+    let firsts = Simd::<u8, LANES>::from_slice(&bytes[at..]);
+    let seconds = Simd::<u8, LANES>::from_slice(&bytes[at + 1..]);
+    let both = firsts.simd_eq(Simd::splat(0xED)) & seconds.simd_ge(Simd::splat(0xA0));
+    both.to_bitmask() != 0
+}
+
+/// The place of the first surrogate that begins in a block.
+#[inline(never)]
+fn first_in_full_block(bytes: &[u8], at: usize) -> Option<usize>
+    requires { at + 64 < length bytes.now }
+    ensures { IsFirstBelow (SurrogateAt bytes.now) at (at + 64) result }
+{
+    first_in_block::<LANES>(bytes, at)
+}
+
+/// The place of the first surrogate that begins at one of `N` places.
+#[inline(always)]
+fn first_in_block<const N: usize>(bytes: &[u8], at: usize) -> Option<usize>
+    requires lanes { N ≤ 64 }
+    requires room { at + N < length bytes.now }
+    ensures { IsFirstBelow (SurrogateAt bytes.now) at (at + N) result }
+{
+    let firsts = Simd::<u8, N>::from_slice(&bytes[at..]);
+    let seconds = Simd::<u8, N>::from_slice(&bytes[at + 1..]);
+    match block(firsts, seconds) {
+        Some(lane) => Some(at + lane),
+        None => None,
+    }
+}
+
 /// The first lane of a block in which the two vectors hold the first and the second byte of a surrogate.
 #[inline(always)]
-fn block(firsts: u8x32, seconds: u8x32) -> Option<usize>
-    ensures { IsFirst (IsSurrogateLane firsts seconds) 0 result }
+fn block<const N: usize>(firsts: Simd<u8, N>, seconds: Simd<u8, N>) -> Option<usize>
+    requires { N ≤ 64 }
+    ensures { IsFirstBelow (IsSurrogateLane firsts.entry seconds.entry) 0 N result }
 {
-    let leads = firsts.simd_eq(u8x32::splat(0xED));
-    let both = leads & seconds.simd_ge(u8x32::splat(0xA0));
+    let leads = firsts.simd_eq(Simd::splat(0xED));
+    let both = leads & seconds.simd_ge(Simd::splat(0xA0));
     let mask = both.to_bitmask();
     if mask == 0 {
         return None;
@@ -49,7 +154,7 @@ fn block(firsts: u8x32, seconds: u8x32) -> Option<usize>
 
 /// The same search, one place at a time.
 #[inline(always)]
-fn first_surrogate_in_rest(bytes: &[u8], from: usize) -> Option<usize>
+fn first_surrogate_one_by_one(bytes: &[u8], from: usize) -> Option<usize>
     ensures { IsFirst (SurrogateAt bytes.now) from result }
 {
     for index in from..bytes.len().saturating_sub(1) {

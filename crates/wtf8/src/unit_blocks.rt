@@ -1,7 +1,7 @@
-// Code units turned into bytes: sixteen of ASCII or eight of three bytes together, any others one after another.
+// Code units turned into bytes: sixteen of ASCII, or eight of two or of three bytes together, any others one after another.
 ghost use Rattle.std.specs.Prelude.{◌≡◌, List, [], ◌<◌, ◌≤◌, length, take, IfOk, IfSome, IsOk, IsTrue};
 ghost use Rattle.wtf8.specs.Form.{bytes as bytes_of};
-ghost use Rattle.wtf8.specs.UnitParts.{IsKnownForm, DividesNoPair, AreAscii, AreThreeByteUnits, IsBlock};
+ghost use Rattle.wtf8.specs.UnitParts.{IsKnownForm, DividesNoPair, AreAscii, AreTwoByteUnits, AreThreeByteUnits, IsBlock};
 
 use crate::decode;
 use std::alloc::{AllocError, Allocator};
@@ -10,8 +10,11 @@ use std::simd::prelude::*;
 /// How many units are looked at together.
 const LANES: usize = 16;
 
-/// How many units of three bytes are written together.
-const TRIPLES: usize = 8;
+/// How many units of two or of three bytes are written together.
+const HALF: usize = 8;
+
+/// The first and the second bytes of eight units in turn.
+const IN_TWOS: [usize; 16] = [0, 8, 1, 9, 2, 10, 3, 11, 4, 12, 5, 13, 6, 14, 7, 15];
 
 /// The lanes of one vector and then those of another.
 const FRONT_AND_BACK: [usize; 16] = [0, 1, 2, 3, 4, 5, 6, 7, 8, 9, 10, 11, 12, 13, 14, 15];
@@ -58,6 +61,51 @@ fn ascii_block(v: &[u16], at: usize) -> Option<[u8; LANES]>
     None
 }
 
+/// Whether all of eight units take two bytes.
+#[inline(always)]
+fn take_two_bytes(units: u16x8) -> bool
+    ensures { IsTrue result → AreTwoByteUnits units }
+{
+    let low = units.simd_lt(u16x8::splat(0x80));
+    let high = units.simd_ge(u16x8::splat(0x800));
+    (low | high).to_bitmask() == 0
+}
+
+/// The bytes of eight units that take two each.
+#[inline(always)]
+fn two_bytes_each(units: [u16; 8]) -> [u8; 16]
+    requires { AreTwoByteUnits units }
+    ensures { result ≡ bytes_of units }
+{
+    let [a, b, c, d, e, f, g, h] = units;
+    let units = u16x8::from_array([a, b, c, d, e, f, g, h]);
+    let six_bits = u16x8::splat(64);
+    let high = units / six_bits % u16x8::splat(32);
+    let low = units % six_bits;
+    let first = u16x8::splat(0xC0).strict_add(high).cast::<u8>();
+    let second = u16x8::splat(0x80).strict_add(low).cast::<u8>();
+    let bytes: u8x16 = first.shuffle(second, IN_TWOS);
+    let mut block = [0; 16];
+    bytes.copy_to_slice(&mut block);
+    block
+}
+
+/// The bytes of the eight units from a place on, where there are so many and all of them take two bytes.
+#[inline(always)]
+fn two_byte_block(v: &[u16], at: usize) -> Option<[u8; 16]>
+    requires { at ≤ length v.now }
+    ensures { IfSome result (λ block. IsBlock v.now at HALF block) }
+{
+    if v.len() - at < HALF {
+        return None;
+    }
+    let units = u16x8::from_slice(&v[at..]);
+    if take_two_bytes(units) {
+        return Some(two_bytes_each(units.to_array()));
+    }
+    None
+}
+
 /// Whether all of eight units take three bytes and none is a surrogate.
 #[inline(always)]
 fn take_three_bytes(units: u16x8) -> bool
@@ -88,7 +136,9 @@ fn three_bytes_each(units: [u16; 8]) -> [u8; 32]
     let front: u8x16 = first.shuffle(second, FRONT_AND_BACK);
     let back: u8x16 = third.shuffle(third, FRONT_AND_BACK);
     let bytes: u8x32 = front.shuffle(back, IN_THREES);
-    bytes.to_array()
+    let mut block = [0; 32];
+    bytes.copy_to_slice(&mut block);
+    block
 }
 
 /// The bytes of the eight units from a place on, where there are so many and all of them take three bytes, with eight
@@ -96,9 +146,9 @@ fn three_bytes_each(units: [u16; 8]) -> [u8; 32]
 #[inline(always)]
 fn three_byte_block(v: &[u16], at: usize) -> Option<[u8; 32]>
     requires { at ≤ length v.now }
-    ensures { IfSome result (λ block. IsBlock v.now at TRIPLES (take 24 block)) }
+    ensures { IfSome result (λ block. IsBlock v.now at HALF (take 24 block)) }
 {
-    if v.len() - at < TRIPLES {
+    if v.len() - at < HALF {
         return None;
     }
     let units = u16x8::from_slice(&v[at..]);
@@ -144,8 +194,13 @@ pub(crate) fn append_units<A: Allocator>(
             continue;
         }
         if let Some(block) = three_byte_block(v, at) {
-            bytes.extend_from_slice(&block[..3 * TRIPLES])?;
-            at += TRIPLES;
+            bytes.extend_from_slice(&block[..3 * HALF])?;
+            at += HALF;
+            continue;
+        }
+        if let Some(block) = two_byte_block(v, at) {
+            bytes.extend_from_slice(&block)?;
+            at += HALF;
             continue;
         }
         let end = end_of_part(v, at);

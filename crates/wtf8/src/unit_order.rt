@@ -1,63 +1,17 @@
 // The order of strings by their 16-bit units.
 ghost use Rattle.std.specs.Cmp.Lexicographic.{slice_cmp};
 ghost use Rattle.std.specs.Ordering.{MatchOrdering, nat_cmp};
-ghost use Rattle.std.specs.Prelude.{◌≡◌, ◌↔◌, ◌≤◌, length, take, slice_get, IsTrue};
+ghost use Rattle.std.specs.Prelude.{◌≡◌, ◌↔◌, slice_get, IsTrue};
+ghost use Rattle.wtf8.specs.Differences.{PairBegins};
 ghost use Rattle.wtf8.specs.Order.{Before};
-ghost use Rattle.wtf8.specs.Differences.{IsFirstDifference, PairBegins};
 ghost use Rattle.wtf8.specs.View.{view_units};
 
+use crate::differences::first_difference;
 use crate::view::Wtf8;
 use std::cmp::Ordering;
 
-/// How many bytes are compared together.
-const LANES: usize = 32;
-
-/// The first place where two lists of bytes differ, which is the end of the shorter one where none before it does.
-fn first_difference(own: &[u8], others: &[u8]) -> usize
-    ensures { IsFirstDifference own.now others.now result }
-{
-    // Short bytes begin no block, and many others differ at once.
-    if own.len().min(others.len()) < LANES || own[0] != others[0] {
-        return first_difference_from(own, others, 0);
-    }
-    first_difference_in_blocks(own, others)
-}
-
-/// The same, in blocks as far as these are equal.
-#[inline(never)]
-fn first_difference_in_blocks(own: &[u8], others: &[u8]) -> usize
-    ensures { IsFirstDifference own.now others.now result }
-{
-    let len = own.len().min(others.len());
-    let mut at = 0;
-    while LANES <= len - at {
-        if own[at..at + LANES] != others[at..at + LANES] {
-            break;
-        }
-        at += LANES;
-    }
-    first_difference_from(own, others, at)
-}
-
-/// The same for lists that are equal up to a place, one byte at a time.
-#[inline(always)]
-fn first_difference_from(own: &[u8], others: &[u8], from: usize) -> usize
-    requires within_first { from ≤ length own.now }
-    requires within_second { from ≤ length others.now }
-    requires same { take from own.now ≡ take from others.now }
-    ensures { IsFirstDifference own.now others.now result }
-{
-    let len = own.len().min(others.len());
-    for at in from..len {
-        if own[at] != others[at] {
-            return at;
-        }
-    }
-    len
-}
-
 /// The byte at a place, or `None` at or past the end.
-fn byte_at(bytes: &[u8], at: usize) -> Option<u8>
+pub(crate) fn byte_at(bytes: &[u8], at: usize) -> Option<u8>
     ensures { result ≡ slice_get bytes.now at }
 {
     bytes.get(at).copied()

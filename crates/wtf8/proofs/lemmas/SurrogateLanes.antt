@@ -1,12 +1,12 @@
 -- The search in lanes: from the mask of two vectors to the first lane that has a surrogate's two bytes.
-use Rattle.std.proofs.Common.{◌≡◌, ℕ, zero, suc, ◌+◌, ◌-◌, ◌%◌, ◌^◌, ◌<◌, ◌≤◌, eqb, leb, Bool, true, false, cond, not, ◌&&◌, List, [], ◌∷◌, map, length, get_or, replicate, bit_and, refl, sym, ap, ◌∙◌, subst, arith, inl, inr}
-use Rattle.std.proofs.lemmas.Bool.{and_parts, and_from, both_ways, not-true, not-false, cases_lt, leb-true, le-leb, eq-eqb, eqb-true}
+use Rattle.std.proofs.Common.{◌≡◌, ℕ, zero, suc, ◌+◌, ◌-◌, ◌%◌, ◌^◌, ◌<◌, ◌≤◌, eqb, leb, Bool, true, false, cond, not, ◌&&◌, List, [], ◌∷◌, map, length, get_or, replicate, bit_and, None, Some, w8, refl, sym, ap, ◌∙◌, subst, arith}
+use Rattle.std.proofs.lemmas.Bool.{and_parts, and_from, both_ways, not-true, not-false, leb-true, le-leb, eq-eqb, eqb-true}
 use Rattle.std.proofs.lemmas.List.Sums.{prefix_len_passes, prefix_len_stops}
-use Rattle.std.proofs.lemmas.Simd.{length-zip2, get_or-zip2, get_or-chunk, mask_l-mod, leading_from_mask_l, trailing_mask_l}
+use Rattle.std.proofs.lemmas.Simd.{length-zip2, get_or-zip2, length-chunk, get_or-chunk, mask_l-mod, leading_from_mask_l, trailing_mask_l, bitmask_splat, none_from_empty_mask}
 use Rattle.std.specs.List.{prefix_len}
 use lib.Count.{count_trailing_zeros}
 use lib.Lanes.{chunk, zip2, mask_l, top}
-use Rattle.wtf8.specs.SurrogateSearch.{SurrogateAt, IsLeast, IsSurrogateLane}
+use Rattle.wtf8.specs.SurrogateSearch.{SurrogateAt, IsSurrogateLane, IsLeast, IsFirstBelow}
 
 -- a lane of a comparison
 abbrev pub lane : Bool → ℕ
@@ -16,8 +16,8 @@ lane b = cond b 255 0
 abbrev pub compared : ℕ → List ℕ → List ℕ → List ℕ
 compared n xs ys = zip2 bit_and (zip2 (λ a b. lane (eqb a b)) xs (replicate n 0xED)) (zip2 (λ a b. lane (leb a b)) (replicate n 0xA0) ys)
 
-abbrev pub mask : List ℕ → List ℕ → ℕ
-mask xs ys = mask_l (map (top 7) (compared 32 xs ys)) % 2 ^ 64
+abbrev pub mask : ℕ → List ℕ → List ℕ → ℕ
+mask n xs ys = mask_l (map (top 7) (compared n xs ys)) % 2 ^ 64
 
 abbrev test : ℕ → ℕ → Bool
 test x y = eqb x 0xED && leb 0xA0 y
@@ -55,72 +55,80 @@ told x y e =
 tells : (x y : ℕ) → (x ≡ 0xED) × (0xA0 ≤ y) → test x y ≡ true
 tells x y h = and_from _ _ (eq-eqb x 0xED h.0) (le-leb 0xA0 y h.1)
 
-module _ (xs ys : List ℕ) (p : length xs ≡ 32) (q : length ys ≡ 32) where
+module _ (n : ℕ) (few : n ≤ 64) (xs ys : List ℕ) (p : length xs ≡ n) (q : length ys ≡ n) where
   abbrev lanes : List Bool
   lanes = zip2 test xs ys
 
-  long : length lanes ≡ 32
+  long : length lanes ≡ n
   long = length-zip2 test xs ys (p ∙ sym q) ∙ p
 
-  same : mask xs ys ≡ mask_l lanes
-  same = ap (λ m. mask_l m % 2 ^ 64) (tops 32 xs ys p q) ∙ mask_l-mod lanes 64 (omega (arith, long))
+  same : mask n xs ys ≡ mask_l lanes
+  same = ap (λ m. mask_l m % 2 ^ 64) (tops n xs ys p q) ∙ mask_l-mod lanes 64 (omega (arith, long, few))
 
-  tests : mask xs ys ≡ mask_l (map (λ b. b) lanes)
+  tests : mask n xs ys ≡ mask_l (map (λ b. b) lanes)
   tests = same ∙ ap mask_l (sym (itself lanes))
 
-  at : (j : ℕ) → j < 32 → get_or lanes j false ≡ test (get_or xs j 0) (get_or ys j 0)
+  at : (j : ℕ) → j < n → get_or lanes j false ≡ test (get_or xs j 0) (get_or ys j 0)
   at j l = get_or-zip2 test xs ys j 0 0 false (omega arith) (omega arith)
 
-  before : (j : ℕ) → j < failing lanes → ¬ (IsSurrogateLane xs ys j)
-  before j h s = both_ways _ (not-true _ (prefix_len_passes (λ b. not b) lanes j false h)) (at j s.within ∙ tells _ _ (s.first, s.second))
+  before : (j : ℕ) → j < n → j < failing lanes → ¬ (IsSurrogateLane xs ys j)
+  before j l h s = both_ways _ (not-true _ (prefix_len_passes (λ b. not b) lanes j false h)) (at j l ∙ tells _ _ s)
 
-  pub no_lane : mask xs ys ≡ 0 → (j : ℕ) → 0 ≤ j → ¬ (IsSurrogateLane xs ys j)
-  no_lane e j _ s = before j (omega (arith, s.within, long, leading_from_mask_l (λ b. b) lanes (sym tests ∙ e))) s
+  pub no_lane : mask n xs ys ≡ 0 → IsFirstBelow (IsSurrogateLane xs ys) 0 n None
+  no_lane e j _ l = before j l (omega (arith, l, long, leading_from_mask_l (λ b. b) lanes (sym tests ∙ e)))
 
-  pub least_lane : ¬ (mask xs ys ≡ 0) → IsLeast (IsSurrogateLane xs ys) 0 (count_trailing_zeros 64 (mask xs ys))
-  least_lane n =
-      let some : 0 < mask_l lanes = omega (arith, same, n) in
+  pub least_lane : ¬ (mask n xs ys ≡ 0) → IsFirstBelow (IsSurrogateLane xs ys) 0 n (Some (count_trailing_zeros 64 (mask n xs ys)))
+  least_lane e =
+      let some : 0 < mask_l lanes = omega (arith, same, e) in
       let within : failing lanes < length lanes = some_hold lanes some in
-      let inside : failing lanes < 32 = omega (arith, within, long) in
-      let first : count_trailing_zeros 64 (mask xs ys) ≡ failing lanes = ap (count_trailing_zeros 64) tests ∙ trailing_mask_l (λ b. b) 64 lanes (omega (arith, long)) (omega (arith, sym same ∙ tests, some)) in
-      let found = told _ _ (sym (at (failing lanes) inside) ∙ not-false _ (prefix_len_stops (λ b. not b) lanes false within)) in
-      subst (IsLeast (IsSurrogateLane xs ys) 0) (sym first) (record {
-        not_before = omega arith;
-        here = record { within = inside; first = found.0; second = found.1 };
-        none_between = λ j _ l. before j l;
-      })
+      let inside : failing lanes < n = omega (arith, within, long) in
+      let first : count_trailing_zeros 64 (mask n xs ys) ≡ failing lanes = ap (count_trailing_zeros 64) tests ∙ trailing_mask_l (λ b. b) 64 lanes (omega (arith, long, few)) (omega (arith, sym same ∙ tests, some)) in
+      subst (λ k. IsFirstBelow (IsSurrogateLane xs ys) 0 n (Some k)) (sym first) (
+        record {
+          not_before = omega arith;
+          here = told _ _ (sym (at (failing lanes) inside) ∙ not-false _ (prefix_len_stops (λ b. not b) lanes false within));
+          none_between = λ j _ l. before j (omega (arith, l, inside)) l;
+        },
+        inside,
+      )
 
--- the lanes of the 32 bytes from a place on and of those one further are the places of surrogates
-module _ (w : List ℕ) (i : ℕ) (room : i + 33 ≤ length w) where
-  first_is : (k : ℕ) → k < 32 → get_or (chunk i 32 w) k 0 ≡ get_or w (i + k) 0
-  first_is k l = get_or-chunk i 32 w k 0 l
+-- the lanes of the n bytes from a place on and of those one further are the places of surrogates
+module _ (n : ℕ) (w : List ℕ) (i : ℕ) (room : i + n < length w) where
+  first_is : (k : ℕ) → k < n → get_or (chunk i n w) k 0 ≡ get_or w (i + k) 0
+  first_is k l = get_or-chunk i n w k 0 l
 
-  second_is : (k : ℕ) → k < 32 → get_or (chunk (i + 1) 32 w) k 0 ≡ get_or w (i + k + 1) 0
-  second_is k l = get_or-chunk (i + 1) 32 w k 0 l ∙ ap (λ n. get_or w n 0) (omega arith)
+  second_is : (k : ℕ) → k < n → get_or (chunk (i + 1) n w) k 0 ≡ get_or w (i + k + 1) 0
+  second_is k l = get_or-chunk (i + 1) n w k 0 l ∙ ap (λ m. get_or w m 0) (omega arith)
 
-  to_lane : (k : ℕ) → k < 32 → SurrogateAt w (i + k) → IsSurrogateLane (chunk i 32 w) (chunk (i + 1) 32 w) k
-  to_lane k l s = record { within = l; first = first_is k l ∙ s.first; second = omega (arith, second_is k l, s.second) }
+  to_lane : (k : ℕ) → k < n → SurrogateAt w (i + k) → IsSurrogateLane (chunk i n w) (chunk (i + 1) n w) k
+  to_lane k l s = (first_is k l ∙ s.first, omega (arith, second_is k l, s.second))
 
-  from_lane : (k : ℕ) → IsSurrogateLane (chunk i 32 w) (chunk (i + 1) 32 w) k → SurrogateAt w (i + k)
-  from_lane k s = record { within = omega (arith, s.within); first = sym (first_is k s.within) ∙ s.first; second = omega (arith, second_is k s.within, s.second) }
+  from_lane : (k : ℕ) → k < n → IsSurrogateLane (chunk i n w) (chunk (i + 1) n w) k → SurrogateAt w (i + k)
+  from_lane k l s = record { within = omega arith; first = sym (first_is k l) ∙ s.0; second = omega (arith, second_is k l, s.1) }
 
-  -- none in the lanes leaves none as far as the next 32
-  pub no_surrogate : (from : ℕ) → ((j : ℕ) → from ≤ j → j < i → ¬ (SurrogateAt w j)) → ((k : ℕ) → 0 ≤ k → ¬ (IsSurrogateLane (chunk i 32 w) (chunk (i + 1) 32 w) k))
-      → (j : ℕ) → from ≤ j → j < i + 32 → ¬ (SurrogateAt w j)
-  no_surrogate from before clear j l u s = elim (cases_lt j i) [
-    | inl h ↦ before j l h s
-    | inr h ↦ clear (j - i) (omega arith) (to_lane (j - i) (omega arith) (subst (SurrogateAt w) (omega arith) s))
-  ]
+  -- none in the lanes leaves none in the block
+  pub no_surrogate : IsFirstBelow (IsSurrogateLane (chunk i n w) (chunk (i + 1) n w)) 0 n None → IsFirstBelow (SurrogateAt w) i (i + n) None
+  no_surrogate clear j l u s = clear (j - i) (omega arith) (omega arith) (to_lane (j - i) (omega arith) (subst (SurrogateAt w) (omega arith) s))
 
-  pub least_surrogate : (from k : ℕ) → from ≤ i → ((j : ℕ) → from ≤ j → j < i → ¬ (SurrogateAt w j)) → IsLeast (IsSurrogateLane (chunk i 32 w) (chunk (i + 1) 32 w)) 0 k
-      → IsLeast (SurrogateAt w) from (i + k)
-  least_surrogate from k start before least =
-      let lane = least.here.within in
-      record {
-        not_before = omega arith;
-        here = from_lane k least.here;
-        none_between = λ j l u s. elim (cases_lt j i) [
-          | inl h ↦ before j l h s
-          | inr h ↦ least.none_between (j - i) (omega arith) (omega arith) (to_lane (j - i) (omega arith) (subst (SurrogateAt w) (omega arith) s))
-        ];
-      }
+  pub least_surrogate : (k : ℕ) → IsFirstBelow (IsSurrogateLane (chunk i n w) (chunk (i + 1) n w)) 0 n (Some k) → IsFirstBelow (SurrogateAt w) i (i + n) (Some (i + k))
+  least_surrogate k found =
+      let least = found.0 in
+      let within = found.1 in (
+        record {
+          not_before = omega arith;
+          here = from_lane k within least.here;
+          none_between = λ j l u s. least.none_between (j - i) (omega arith) (omega arith) (to_lane (j - i) (omega arith) (subst (SurrogateAt w) (omega arith) s));
+        },
+        omega arith,
+      )
+
+-- ED in no lane
+abbrev leads : ℕ → List ℕ → ℕ
+leads n xs = mask_l (map (top 7) (zip2 (λ a b. lane (eqb a b)) xs (replicate n 0xED))) % 2 ^ 64
+
+-- where ED stands in no lane no surrogate begins in the block
+pub no_first_byte : (w : List ℕ) (i : ℕ) → i + 64 < length w → leads 64 (chunk i 64 w) ≡ 0 → IsFirstBelow (SurrogateAt w) i (i + 64) None
+no_first_byte w i room e j l u s =
+    let long = length-chunk i 64 w (omega arith) in
+    let clear = none_from_empty_mask (λ x. eqb x 0xED) w i 64 0 (omega arith) (sym (bitmask_splat w8 eqb (chunk i 64 w) 64 0xED long (omega arith)) ∙ e) j l u in
+    both_ways _ clear (eq-eqb _ 0xED s.first)

@@ -1,13 +1,13 @@
 -- Blocks of units in lanes: what the mask of a block says of its units.
-use Rattle.std.proofs.Common.{◌≡◌, ℕ, zero, suc, ◌+◌, ◌%◌, ◌^◌, ◌<◌, ◌≤◌, leb, ltb, Bool, true, false, cond, ◌&&◌, ◌||◌, List, [], ◌∷◌, ◌++◌, map, length, take, drop, replicate, bit_and, bit_or, Fits, w16, refl, sym, ap, ◌∙◌, arith, inl, inr}
+use Rattle.std.proofs.Common.{◌≡◌, ℕ, zero, suc, ◌+◌, ◌/◌, ◌%◌, ◌^◌, ◌<◌, ◌≤◌, leb, ltb, Bool, true, false, cond, ◌&&◌, ◌||◌, List, [], ◌∷◌, ◌++◌, map, length, take, drop, replicate, bit_and, bit_or, Fits, w16, refl, sym, ap, ◌∙◌, arith, inl, inr}
 use Rattle.std.specs.List.{flat_map}
 use Rattle.std.proofs.lemmas.Bool.{cases_lt, le-leb, lt-leb, lt-ltb, le-ltb}
 use Rattle.std.proofs.lemmas.Simd.{mask_l-mod, Each1-weaker}
 use lib.Lanes.{Each1, zip2, mask_l, top}
 use Rattle.wtf8.specs.Form.{bytes, encoding}
 use Rattle.wtf8.specs.Unicode.{IsSurrogate}
-use Rattle.wtf8.specs.UnitParts.{AreAscii, AreThreeByteUnits, IsBlock}
-use Rattle.wtf8.proofs.lemmas.Encoding.{encoding_three, third_row}
+use Rattle.wtf8.specs.UnitParts.{AreAscii, AreTwoByteUnits, AreThreeByteUnits, IsBlock}
+use Rattle.wtf8.proofs.lemmas.Encoding.{encoding_two, encoding_three, third_row}
 
 -- a lane of a comparison of units
 abbrev wide : Bool → ℕ
@@ -43,6 +43,39 @@ all_low (x ∷ xs) e = elim (cases_lt x 0x80) [
 -- where no lane is set all units are below 80
 pub none_high : (xs : List ℕ) → length xs ≡ 16 → mask_l (high 16 xs) % 2 ^ 64 ≡ 0 → AreAscii xs
 none_high xs l e = all_low xs (none_set (λ x. leb 0x80 x) xs (omega arith) (ap (λ ms. mask_l ms % 2 ^ 64) (sym (high_are 16 xs l)) ∙ e))
+
+-- a lane is set by a unit that does not take two bytes
+either_set : (a b : Bool) → top 15 (bit_or (wide a) (wide b)) ≡ a || b
+either_set true true = refl
+either_set true false = refl
+either_set false true = refl
+either_set false false = refl
+
+abbrev no_two : ℕ → Bool
+no_two x = ltb x 0x80 || leb 0x800 x
+
+abbrev no_twos : ℕ → List ℕ → List Bool
+no_twos n xs = map (top 15) (zip2 bit_or (zip2 (λ a b. wide (ltb a b)) xs (replicate n 0x80)) (zip2 (λ a b. wide (leb a b)) (replicate n 0x800) xs))
+
+no_twos_are : (n : ℕ) (xs : List ℕ) → length xs ≡ n → no_twos n xs ≡ map no_two xs
+no_twos_are zero [] e = refl
+no_twos_are (suc n) [] e = refl
+no_twos_are zero (x ∷ xs) e = absurd (omega arith)
+no_twos_are (suc n) (x ∷ xs) e = λ i. either_set (ltb x 0x80) (leb 0x800 x) i ∷ no_twos_are n xs (omega arith) i
+
+all_two : (xs : List ℕ) → mask_l (map no_two xs) ≡ 0 → AreTwoByteUnits xs
+all_two [] e = tt
+all_two (x ∷ xs) e = elim (cases_lt x 0x80) [
+  | inl h ↦ absurd (omega (arith, rw (lt-ltb x 0x80 h) at e))
+  | inr l ↦ elim (cases_lt x 0x800) [
+    | inl h ↦ ((l, h), all_two xs (omega (arith, rw (le-ltb x 0x80 l, lt-leb 0x800 x h) at e)))
+    | inr h ↦ absurd (omega (arith, rw (le-ltb x 0x80 l, le-leb 0x800 x h) at e))
+  ]
+]
+
+-- where no lane is set all units take two bytes
+pub none_no_two : (xs : List ℕ) → length xs ≡ 8 → mask_l (no_twos 8 xs) % 2 ^ 64 ≡ 0 → AreTwoByteUnits xs
+none_no_two xs l e = all_two xs (none_set no_two xs (omega arith) (ap (λ ms. mask_l ms % 2 ^ 64) (sym (no_twos_are 8 xs l)) ∙ e))
 
 -- a lane is set by a unit below 800, and by a surrogate
 other_set : (a b c : Bool) → top 15 (bit_or (wide a) (bit_and (wide b) (wide c))) ≡ a || (b && c)
@@ -83,6 +116,27 @@ all_three (x ∷ xs) e f = elim (cases_lt x 0x800) [
 -- where no lane is set all units take three bytes
 pub none_other : (xs : List ℕ) → length xs ≡ 8 → Each1 (Fits w16) xs → mask_l (others 8 xs) % 2 ^ 64 ≡ 0 → AreThreeByteUnits xs
 none_other xs l f e = all_three xs (none_set other xs (omega arith) (ap (λ ms. mask_l ms % 2 ^ 64) (sym (others_are 8 xs l)) ∙ e)) f
+
+-- the two bytes that a unit from 80 to 7FF has
+abbrev pub two_byte_row : ℕ → List ℕ
+two_byte_row p = (0xC0 + p / 64 % 32) ∷ (0x80 + p % 64) ∷ []
+
+two_byte_rows : (xs : List ℕ) → AreTwoByteUnits xs → flat_map two_byte_row xs ≡ bytes xs
+two_byte_rows [] h = refl
+two_byte_rows (x ∷ xs) h =
+    let small : x / 64 % 32 ≡ x / 64 = omega (arith, h.0.1) in
+    let row : two_byte_row x ≡ encoding x = ap (λ n. (0xC0 + n) ∷ (0x80 + x % 64) ∷ []) small ∙ sym (encoding_two x h.0.0 h.0.1) in
+    ap (λ w. w ++ flat_map two_byte_row xs) row ∙ ap (λ w. encoding x ++ w) (two_byte_rows xs h.1)
+
+pub by_two_byte_rows : {w : List ℕ} (xs : List ℕ) → AreTwoByteUnits xs → w ≡ flat_map two_byte_row xs → w ≡ bytes xs
+by_two_byte_rows xs h e = e ∙ two_byte_rows xs h
+
+pub two_byte_block : (u w : List ℕ) (at : ℕ) → at + 8 ≤ length u → AreTwoByteUnits (take 8 (drop at u)) → w ≡ bytes (take 8 (drop at u)) → IsBlock u at 8 w
+two_byte_block u w at within h e = record {
+  within = within;
+  scalars = Each1-weaker (λ n. (0x80 ≤ n) × (n < 0x800)) (λ n. (n < 0x10000) × ¬ (IsSurrogate n)) (λ n k. (omega (arith, k.1), λ s. omega (arith, k.1, s.0))) (take 8 (drop at u)) h;
+  encoded = e;
+}
 
 -- their rows are their encodings
 third_rows : (xs : List ℕ) → AreThreeByteUnits xs → flat_map third_row xs ≡ bytes xs

@@ -7,5 +7,5 @@ upper_digits-high-requires c = highs_below c.args.bytes c.fits-bytes.0 c.fits-by
 pub upper_digits-low-requires : goal.upper_digits-low-requires
 upper_digits-low-requires c = lows_below c.args.bytes c.fits-bytes.0
 
-pub returns-clause-text : goal.returns-clause-text
-returns-clause-text c = block_text c.args.bytes c.upper_digits-high.result c.upper_digits-low.result c.fits-bytes.0 c.upper_digits-high.ensures c.upper_digits-low.ensures
+pub returns : goal.returns
+returns c = block_text c.args.bytes c.upper_digits-high.result c.upper_digits-low.result c.fits-bytes.0 c.upper_digits-high.ensures c.upper_digits-low.ensures

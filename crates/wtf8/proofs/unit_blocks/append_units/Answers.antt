@@ -19,6 +19,12 @@ loop-at-preserved-in-Some-three_byte_block g c =
     let b = c.in-Some-three_byte_block.ensures in
     (b.within, part_read c.args.v.now c.loop-at.bytes.items (take 24 c.in-Some-three_byte_block.block) c.extend_from_slice-in-Some-three_byte_block.new.self.items c.loop-at.at 8 (c.loop-at.at + 8) known known known c.loop-at.invariant.1 (block_form known b) c.loop-at.invariant.2 (λ t. (t, t)) c.in_ok-extend_from_slice-2.ensures.items refl, block_apart c.loop-at.at 7 b)
 
+pub loop-at-preserved-in-Some-two_byte_block : goal.loop-at-preserved-in-Some-two_byte_block
+loop-at-preserved-in-Some-two_byte_block g c =
+    let known = c.loop-at.is_scalar in
+    let b = c.in-Some-two_byte_block.ensures in
+    (b.within, part_read c.args.v.now c.loop-at.bytes.items c.in-Some-two_byte_block.block c.extend_from_slice-in-Some-two_byte_block.new.self.items c.loop-at.at 8 (c.loop-at.at + 8) known known known c.loop-at.invariant.1 (block_form known b) c.loop-at.invariant.2 (λ t. (t, t)) c.in_ok-extend_from_slice-3.ensures.items refl, block_apart c.loop-at.at 7 b)
+
 pub loop-at-preserved : goal.loop-at-preserved
 loop-at-preserved g c =
     let known = c.loop-at.is_scalar in

@@ -1,15 +1,18 @@
-use Rattle.std.proofs.Common.{refl}
+use Rattle.std.proofs.Common.{refl, rules}
 use Rattle.wtf8.proofs.lemmas.Comparing.{equal_points, equal_units}
 use Rattle.wtf8.proofs.comparisons.Wtf8PartialEq.eq.Goals as goal
+
+pub returns-clause-bytes : goal.returns-clause-bytes
+returns-clause-bytes c = search rules
 
 pub returns-clause-points : goal.returns-clause-points
 returns-clause-points c =
     let own = c.args.self.now.well_formed in
     let others = c.args.other.now.well_formed in
-    equal_points _ own.points others.points own.encoded others.encoded c.eq.ensures
+    equal_points _ own.points others.points own.encoded others.encoded (returns-clause-bytes c)
 
 pub returns-clause-units : goal.returns-clause-units
 returns-clause-units c =
     let own = c.args.self.now.well_formed in
     let others = c.args.other.now.well_formed in
-    equal_units _ (record { clean = own.clean; same_units = refl }) (record { clean = others.clean; same_units = refl }) own.encoded others.encoded c.eq.ensures
+    equal_units _ (record { clean = own.clean; same_units = refl }) (record { clean = others.clean; same_units = refl }) own.encoded others.encoded (returns-clause-bytes c)

@@ -1,6 +1,6 @@
 use Rattle.std.proofs.Common.{ℕ, ◌≤◌, ◌<◌}
 use Rattle.wtf8.specs.SurrogateSearch.{SurrogateAt}
-use Rattle.wtf8.proofs.search.first_surrogate_in_rest.Given as goal
+use Rattle.wtf8.proofs.search.first_surrogate_one_by_one.Given as goal
 
 -- none so far
 abbrev pub invariant-loop-index : goal.invariant-loop-index

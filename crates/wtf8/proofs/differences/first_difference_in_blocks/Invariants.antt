@@ -1,7 +1,7 @@
 use Rattle.std.proofs.Common.{◌≡◌, ◌≤◌, ◌-◌, take}
-use Rattle.wtf8.proofs.unit_order.first_difference_in_blocks.Given as goal
+use Rattle.wtf8.proofs.differences.first_difference_in_blocks.Given as goal
 
--- equal so far
+-- the same so far
 abbrev pub invariant-loop-at : goal.invariant-loop-at
 invariant-loop-at l = (l.at ≤ l.len) × (take l.at l.own ≡ take l.at l.others)
 

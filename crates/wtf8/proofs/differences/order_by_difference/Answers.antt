@@ -1,0 +1,9 @@
+use Rattle.std.proofs.Common.{◌∙◌, ap}
+use Rattle.std.specs.Option.{option_cmp}
+use Rattle.std.specs.Ordering.{nat_cmp}
+use Rattle.wtf8.proofs.lemmas.UnitOrder.{order_there}
+use Rattle.wtf8.proofs.differences.order_by_difference.Goals as goal
+
+pub returns : goal.returns
+returns c =
+    c.cmp.ensures ∙ (ap (λ b. option_cmp nat_cmp b c.byte_at-2.result) c.byte_at.ensures ∙ (ap (option_cmp nat_cmp _) c.byte_at-2.ensures ∙ order_there c.args.own.now c.args.others.now c.first_difference-at.result c.first_difference-at.ensures))

@@ -1,0 +1,11 @@
+use Rattle.std.proofs.Common.{◌+◌, arith, take, drop}
+use Rattle.std.proofs.lemmas.Bool.{eqb-true, not-false}
+use Rattle.std.proofs.lemmas.Simd.{length-chunk}
+use Rattle.wtf8.proofs.lemmas.SurrogateLanes.{no_lane, no_surrogate}
+use Rattle.wtf8.proofs.search.holds_surrogate.Goals as goal
+
+pub returns : goal.returns
+returns c e =
+    let w = c.args.bytes.now in
+    let at = c.args.at in
+    no_surrogate 64 w at c.requires (no_lane 64 (omega arith) (take 64 (drop at w)) (take 64 (drop (at + 1) w)) (length-chunk at 64 w (omega arith)) (length-chunk (at + 1) 64 w (omega arith)) (eqb-true _ 0 (not-false _ e)))
