@@ -1,5 +1,5 @@
 // Owned strings.
-ghost use Rattle.std.specs.Prelude.{◌≡◌, ℕ, List, [], ◌+◌, ◌*◌, ◌≤◌, length, take, IsTrue, OnOk, OnErr, IsOk, IfOk, IfErr, ◌↔◌, vec_capacity, if◌then◌else◌};
+ghost use Rattle.std.specs.Prelude.{◌≡◌, ℕ, List, [], ◌∷◌, ◌+◌, ◌*◌, ◌<◌, ◌≤◌, length, take, IsTrue, OnOk, OnErr, IsOk, IfOk, IfErr, ◌↔◌, vec_capacity, if◌then◌else◌};
 ghost use Rattle.std.specs.Str.{chars};
 ghost use Rattle.std.specs.String.{string_bytes};
 ghost use Rattle.wtf8.specs.Appending.{AppendsUnits, KeepsContents, HasRoomFor, AddsLength};
@@ -236,6 +236,9 @@ impl<A: Allocator> Wtf8Buf<A> {
     pub fn push_char(&mut self, c: char) -> Result<(), AllocError>
         ensures ok { OnOk result (AppendsUnits self.old (units_of c) self.new) }
         ensures kept { OnErr result (KeepsContents self.old self.new) }
+
+        // A character below U+10000 is one unit.
+        ensures one { c < 0x10000 → OnOk result (AppendsUnits self.old (c ∷ []) self.new) }
 
         // A push whose bytes fit is never refused, and the capacity never shrinks.
         ensures room { HasRoomFor self.old (units_of c) → IsOk result }

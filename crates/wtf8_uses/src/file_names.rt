@@ -58,7 +58,6 @@ pub fn shown<'a>(alloc: Global, name: Wtf8<'a>) -> Result<CowStr<'a, Global>, Al
 }
 
 /// Two strings and a character between them.
-#[tactic(auto, unfolding(wtf8::specs::Unicode::units_of))]
 fn with_mark(
     alloc: Global,
     front: Wtf8<'_>,

@@ -1,8 +1,12 @@
 use Rattle.wtf8.specs.UnitString.{UnitString}
-use Rattle.std.proofs.Common.{ap}
-use Rattle.wtf8.proofs.lemmas.Gains.{gained_units, kept_contents}
-use Rattle.wtf8.proofs.lemmas.Scalars.{known_point}
+use Rattle.std.proofs.Common.{ap, sym, subst, [], ◌∷◌, OnOk}
+use Rattle.wtf8.proofs.lemmas.Gains.{gained_units, kept_contents, gained_or_kept}
+use Rattle.wtf8.proofs.lemmas.Scalars.{known_point, scalar_gained}
 use Rattle.wtf8.proofs.lemmas.Texts.{scalar_facts}
+use Rattle.std.proofs.lemmas.List.{append-nil}
+use Rattle.wtf8.specs.Form.{GainsUnits}
+use Rattle.wtf8.specs.Unicode.{units_of}
+use Rattle.wtf8.proofs.lemmas.Units.{units_one}
 use Rattle.wtf8.proofs.buf.Wtf8Buf.push_char.Goals as goal
 
 pub invariant_of-self-inside : goal.invariant_of-self-inside
@@ -16,3 +20,10 @@ returns-clause-ok g c =
 
 pub returns-clause-kept : goal.returns-clause-kept
 returns-clause-kept g c = kept_contents c.push_scalar.result _ _ _ c.self.view_is c.push_scalar.ensures.err
+
+pub returns-clause-one : goal.returns-clause-one
+returns-clause-one g c low =
+    let old = c.self.inside.bytes.items in
+    let new = c.push_scalar.new.bytes.items in
+    let gains = subst (λ u. OnOk c.push_scalar.result (GainsUnits old new u)) (units_one c.args.c low) c.push_scalar.ensures.ok in
+    gained_units c.push_scalar.result _ c.self.inside.well_formed c.self-1.given.0 (ap (λ (t : UnitString). t.units) c.self.view_is) gains
