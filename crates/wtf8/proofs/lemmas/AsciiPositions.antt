@@ -9,8 +9,9 @@ use Rattle.wtf8.specs.Position.{IsFront, IsBack}
 use Rattle.wtf8.specs.PositionLaws.{AsciiStandsAlone, AsciiIsOneUnit, AsciiIsNoOtherUnit}
 use Rattle.wtf8.proofs.lemmas.Encoding.{bytes-pushed, row_of, one, two, three, four}
 use Rattle.wtf8.proofs.lemmas.PositionLaws.{front_and_back}
-use Rattle.wtf8.proofs.lemmas.Positions.{cut_at, boundary_from_byte, first_behind}
+use Rattle.wtf8.proofs.lemmas.Positions.{cut_at, boundary_from_byte}
 use Rattle.wtf8.proofs.lemmas.Readings.{well_formed_of}
+use Rattle.wtf8.proofs.lemmas.Splits.{first_behind}
 use Rattle.wtf8.proofs.lemmas.Units.{units-append, units_one, units_two}
 
 -- a byte below 80 as a code point and a unit, with what is in front of it and behind it

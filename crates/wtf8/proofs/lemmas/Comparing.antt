@@ -7,7 +7,8 @@ use Rattle.wtf8.specs.Unicode.{units}
 use Rattle.wtf8.specs.Form.{Reads, bytes, IsWellFormed, IsForm}
 use Rattle.wtf8.specs.OneForm.{bytes-injective}
 use Rattle.wtf8.specs.Order.{Before}
-use Rattle.wtf8.proofs.lemmas.ByteOrder.{cmp-bytes, ordered}
+use Rattle.wtf8.proofs.lemmas.ByteOrder.{cmp-bytes}
+use Rattle.wtf8.proofs.lemmas.ListOrder.{ordered}
 use Rattle.wtf8.proofs.lemmas.Readings.{same_reading}
 
 -- a form has the code points of well-formed bytes that are its own

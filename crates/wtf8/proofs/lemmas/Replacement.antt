@@ -1,67 +1,16 @@
 -- Surrogates replaced by U+FFFD: the lossy list, and bytes in which it is written over them one by one.
-use Rattle.std.proofs.Common.{◌≡◌, ◌≤◌, ◌+◌, ℕ, List, [], ◌∷◌, ◌++◌, length, take, drop, refl, ap, ◌∙◌, sym, subst, arith, append_assoc, length-append, true, inl, inr, lit≤, lit<}
-use Rattle.std.proofs.lemmas.Bool.{cases_lt, le-leb, lt-leb}
-use Rattle.std.proofs.lemmas.List.{append-nil, append_cancel_left, map-append, take_at, drop_at}
+use Rattle.std.proofs.Common.{◌≡◌, ◌≤◌, ◌+◌, ℕ, List, [], ◌∷◌, ◌++◌, length, take, drop, refl, ap, ◌∙◌, sym, subst, arith, append_assoc, length-append, lit≤, lit<}
+use Rattle.std.proofs.lemmas.List.{append-nil, append_cancel_left, take_at, drop_at}
 use Rattle.std.specs.Str.{IsUtf8}
-use lib.Utf8.{scalars}
 use Rattle.wtf8.specs.Unicode.{IsSurrogate}
 use Rattle.wtf8.specs.Form.{encoding, bytes, IsClean, IsWellFormed}
-use Rattle.wtf8.specs.OneForm.{bytes_are_encodes}
 use Rattle.wtf8.specs.Surrogates.{AreScalar, replaced, lossy}
 use Rattle.wtf8.specs.SurrogateSearch.{SurrogateAt, IsLeast}
-use Rattle.wtf8.proofs.lemmas.Clean.{clean-first, clean-front, clean-rest, clean-back}
+use Rattle.wtf8.proofs.lemmas.Clean.{clean-front, clean-rest, clean-back}
 use Rattle.wtf8.proofs.lemmas.Encoding.{encoding_three, length-surrogate, bytes-append}
 use Rattle.wtf8.proofs.lemmas.Positions.{begun}
-use Rattle.wtf8.proofs.lemmas.Surrogates.{surrogate_in, scalar_from_none, scalar_between, scalar_true, utf8_of}
-
--- a code point is a surrogate, which is replaced, or a scalar value, which stays
-pub data Kind (p : ℕ) : Type 0 where
-  surrogate : IsSurrogate p → replaced p ≡ 0xFFFD → Kind p
-  scalar_value : ¬ (IsSurrogate p) → replaced p ≡ p → Kind p
-
-pub kind_of : (p : ℕ) → Kind p
-unfolding replaced
-kind_of p =
-    elim (cases_lt p 0xD800) [
-      | inl h ↦ scalar_value (λ s. omega arith) (rw (lt-leb 0xD800 p h) refl)
-      | inr h ↦ elim (cases_lt p 0xE000) [
-        | inl k ↦ surrogate (h, omega arith) (rw (le-leb 0xD800 p h, le-leb p 0xDFFF (omega arith)) refl)
-        | inr k ↦ scalar_value (λ s. omega arith) (rw (le-leb 0xD800 p h, lt-leb p 0xDFFF (omega arith)) refl)
-      ]
-    ]
-
-pub lossy-append : (c d : List ℕ) → lossy (c ++ d) ≡ lossy c ++ lossy d
-lossy-append c d = map-append replaced c d
-
-pub lossy-scalar : (c : List ℕ) → AreScalar c → lossy c ≡ c
-lossy-scalar [] s = refl
-lossy-scalar (p ∷ c) s = elim (kind_of p) [
-  | surrogate k e ↦ absurd (s.0 k)
-  | scalar_value n e ↦ rw (e, lossy-scalar c s.1) refl
-]
-
--- it is as long: a surrogate has three bytes too
-pub length-lossy : (c : List ℕ) → length (bytes (lossy c)) ≡ length (bytes c)
-length-lossy [] = refl
-length-lossy (p ∷ c) =
-    let r = length-lossy c in
-    let whole = length-append (encoding (replaced p)) (bytes (lossy c)) in
-    let here = length-append (encoding p) (bytes c) in
-    elim (kind_of p) [
-      | surrogate k e ↦ omega (arith, ap (λ q. length (encoding q)) e, ap length (encoding_three 0xFFFD (lit≤ tt) (lit< tt)), length-surrogate p k)
-      | scalar_value n e ↦ omega (arith, ap (λ q. length (encoding q)) e)
-    ]
-
-pub scalars-lossy : (c : List ℕ) → IsClean c → scalars (lossy c) ≡ true
-scalars-lossy [] x = refl
-scalars-lossy (p ∷ c) x = elim (kind_of p) [
-  | surrogate k e ↦ rw e (scalars-lossy c (clean-rest p c x))
-  | scalar_value n e ↦ rw (e, scalar_true p (clean-first p c x) n) (scalars-lossy c (clean-rest p c x))
-]
-
--- the bytes of the list with surrogates replaced are text
-pub utf8_lossy_points : (c : List ℕ) → IsClean c → IsUtf8 (bytes (lossy c))
-utf8_lossy_points c x = (lossy c, (scalars-lossy c x, sym (bytes_are_encodes (lossy c))))
+use Rattle.wtf8.proofs.lemmas.Surrogates.{surrogate_in, scalar_from_none, scalar_between, utf8_of}
+use Rattle.wtf8.proofs.lemmas.Lossy.{lossy-append, lossy-scalar, replaced_surrogate}
 
 -- While surrogates are replaced from the front on: some code points are done, their bytes end at `from`, and the others stand behind them as they were.
 pub record Replacing (c w : List ℕ) (from : ℕ) : Type 0 where
@@ -78,12 +27,6 @@ pub replacing_end : (c w : List ℕ) (from : ℕ) → Replacing c w from → ((j
 replacing_end c w from r none =
     let plain = scalar_from_none (lossy r.done) r.rest (λ j l. subst (λ v. ¬ (SurrogateAt v j)) r.so_far (none j (omega (arith, l, r.place)))) in
     r.so_far ∙ (ap (λ d. bytes (lossy r.done ++ d)) (sym (lossy-scalar r.rest plain)) ∙ ap bytes (sym (lossy-append r.done r.rest) ∙ ap lossy (sym r.joined)))
-
-pub replaced_surrogate : (p : ℕ) → IsSurrogate p → replaced p ≡ 0xFFFD
-replaced_surrogate p s = elim (kind_of p) [ surrogate k e ↦ e | scalar_value n e ↦ absurd (n s) ]
-
-pub replaced_scalar : (p : ℕ) → ¬ (IsSurrogate p) → replaced p ≡ p
-replaced_scalar p n = elim (kind_of p) [ surrogate k e ↦ absurd (n k) | scalar_value m e ↦ e ]
 
 -- a string about a surrogate, in bytes
 pub record Around (w : List ℕ) (front : List ℕ) (found : ℕ) (back : List ℕ) : Type 0 where

@@ -6,9 +6,9 @@ use Rattle.wtf8.specs.StringLaws.{EqualBuffersHaveEqualUnits, EqualBufferAndView
 use Rattle.wtf8.specs.View.{view_units, view_form}
 use Rattle.wtf8.proofs.lemmas.FormLaws.{equal_forms}
 use Rattle.wtf8.proofs.lemmas.Forms.{form-glue, form_paired, form_apart}
+use Rattle.wtf8.proofs.lemmas.Lossy.{lossy-scalar}
 use Rattle.wtf8.proofs.lemmas.PositionLaws.{both_no_longer}
 use Rattle.wtf8.proofs.lemmas.Readings.{same_form}
-use Rattle.wtf8.proofs.lemmas.Replacement.{lossy-scalar}
 use Rattle.wtf8.proofs.lemmas.Scalars.{scalar_text}
 
 pub equal_buffers : EqualBuffersHaveEqualUnits

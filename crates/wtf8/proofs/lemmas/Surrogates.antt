@@ -12,7 +12,7 @@ use Rattle.wtf8.specs.Surrogates.{AreScalar}
 use Rattle.wtf8.specs.SurrogateSearch.{SurrogateAt, IsLeast, IsFirst}
 use Rattle.wtf8.proofs.lemmas.Clean.{clean-first, clean-rest}
 use Rattle.wtf8.proofs.lemmas.Encoding.{encoding_three, length-encoding_bounds, row_of, one, two, three, four, bytes-append}
-use Rattle.wtf8.proofs.lemmas.Positions.{split_at}
+use Rattle.wtf8.proofs.lemmas.Splits.{split_at}
 
 -- the bytes of a surrogate are ED and from A0 on
 pub surrogate_at : (f : List ℕ) (p : ℕ) (b : List ℕ) → IsSurrogate p → SurrogateAt (bytes (f ++ p ∷ b)) (length (bytes f))

@@ -7,8 +7,8 @@ use Rattle.wtf8.specs.Unicode.{units, units_of}
 use Rattle.wtf8.specs.Form.{encoding, bytes}
 use Rattle.wtf8.specs.Order.{Before}
 use Rattle.wtf8.specs.Differences.{IsFirstDifference, PairBegins}
-use Rattle.wtf8.proofs.lemmas.ByteOrder.{less_of, greater_of, cmp_behind, before_two}
 use Rattle.wtf8.proofs.lemmas.Encoding.{row_of, one, two, three, four}
+use Rattle.wtf8.proofs.lemmas.ListOrder.{less_of, greater_of, cmp_behind, before_two}
 use Rattle.wtf8.proofs.lemmas.Units.{lead_of, trail_of, units-cons_one, units-cons_two}
 
 -- both numbers or neither is below a bound

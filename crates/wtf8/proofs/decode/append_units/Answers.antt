@@ -6,7 +6,7 @@ use Rattle.std.specs.Slice.Iter.{iter_rest, iter_steps}
 use Rattle.wtf8.specs.Decoding.{point_of, points_of, decode_steps}
 use Rattle.wtf8.specs.Form.{bytes}
 use Rattle.wtf8.specs.Unicode.{units}
-use Rattle.wtf8.proofs.lemmas.Decoding.{item_appended, scalar_item, scalars_more, slice_units}
+use Rattle.wtf8.proofs.lemmas.DecodedItems.{item_appended, scalar_item, scalars_more, slice_units}
 use Rattle.wtf8.proofs.decode.append_units.Goals as goal
 
 pub loop-item-preserved-in-Continue-1 : goal.loop-item-preserved-in-Continue-1

@@ -2,8 +2,9 @@ use Rattle.std.proofs.Common.{◌∷◌, ◌++◌, ◌∙◌, ap, sym, subst}
 use Rattle.std.specs.Str.{IsUtf8}
 use Rattle.wtf8.specs.Form.{bytes}
 use Rattle.wtf8.specs.Surrogates.{lossy}
+use Rattle.wtf8.proofs.lemmas.Lossy.{lossy-scalar}
 use Rattle.wtf8.proofs.lemmas.Readings.{moved, same_points}
-use Rattle.wtf8.proofs.lemmas.Replacement.{parted, lossy-scalar}
+use Rattle.wtf8.proofs.lemmas.Replacement.{parted}
 use Rattle.wtf8.proofs.lemmas.Surrogates.{scalar_if_none, utf8_if_none}
 use Rattle.wtf8.proofs.view.Wtf8.split_at_surrogate.Goals as goal
 
