@@ -37,6 +37,7 @@ pub mod UnitCuts
 pub mod UnitLanes
 pub mod UnitOrder
 pub mod UnitParts
+pub mod UnitPlaces
 pub mod UnitPositions
 pub mod UnitRows
 pub mod Units

@@ -8,9 +8,9 @@ use Rattle.wtf8.specs.Surrogates.{AreScalar, replaced, lossy}
 use Rattle.wtf8.specs.SurrogateSearch.{SurrogateAt, IsLeast}
 use Rattle.wtf8.proofs.lemmas.Clean.{clean-front, clean-rest, clean-back}
 use Rattle.wtf8.proofs.lemmas.Encoding.{encoding_three, length-surrogate, bytes-append}
+use Rattle.wtf8.proofs.lemmas.Lossy.{lossy-append, lossy-scalar, replaced_surrogate}
 use Rattle.wtf8.proofs.lemmas.Positions.{begun}
 use Rattle.wtf8.proofs.lemmas.Surrogates.{surrogate_in, scalar_from_none, scalar_between, utf8_of}
-use Rattle.wtf8.proofs.lemmas.Lossy.{lossy-append, lossy-scalar, replaced_surrogate}
 
 -- While surrogates are replaced from the front on: some code points are done, their bytes end at `from`, and the others stand behind them as they were.
 pub record Replacing (c w : List ℕ) (from : ℕ) : Type 0 where

@@ -1,5 +1,5 @@
 -- Runs of building calls, one call after another, and what pushes and extensions append.
-use Rattle.std.proofs.Common.{◌≡◌, ◌<◌, ◌+◌, ℕ, List, [], ◌∷◌, ◌++◌, length, get_or, Bool, true, false, cond, Option, Some, IfSome, refl, ap, ◌∙◌, sym, subst, arith, append_assoc}
+use Rattle.std.proofs.Common.{◌≡◌, ◌<◌, ◌+◌, ℕ, List, [], ◌∷◌, ◌++◌, length, get_or, Bool, true, false, cond, Some, refl, ap, ◌∙◌, sym, subst, arith, append_assoc}
 use Rattle.std.specs.List.{All}
 use Rattle.std.proofs.lemmas.List.Elements.{All-get_or}
 use Rattle.std.proofs.lemmas.Option.{none-some}
@@ -54,10 +54,6 @@ append_parts (c ∷ calls) more v x =
 
 pub call_among : (calls : List Build) (i : ℕ) (call : Build) → i < length calls → call ≡ get_or calls i call → All IsNoTruncation calls → IsNoTruncation call
 call_among calls i call h e all = subst IsNoTruncation (sym e) (All-get_or IsNoTruncation calls i call h all)
-
--- what a fact of an option says at its value
-pub at_some : (P : List ℕ → Type 0) (o : Option (List ℕ)) (a : List ℕ) → o ≡ Some a → IfSome o P → P a
-at_some P o a e h = subst (λ x. IfSome x P) e h
 
 -- the counts of refused truncations
 pub counted : (kept : Bool) (n : ℕ) → kept ≡ false → n + 1 ≡ n + cond kept 0 1

@@ -7,6 +7,7 @@ use Rattle.std.specs.List.{prefix_len}
 use lib.Count.{count_trailing_zeros}
 use lib.Lanes.{chunk, zip2, mask_l, top}
 use Rattle.wtf8.specs.SurrogateSearch.{SurrogateAt, IsLeast, IsSurrogateLane}
+use Rattle.std.proofs.lemmas.List.{map-id}
 
 -- a lane of a comparison
 abbrev pub lane : Bool → ℕ
@@ -38,10 +39,6 @@ tops (suc n) (x ∷ xs) (y ∷ ys) p q = λ i. both (eqb x 0xED) (leb 0xA0 y) i 
 abbrev failing : List Bool → ℕ
 failing bs = prefix_len (λ b. not b) bs
 
-itself : (bs : List Bool) → map (λ b. b) bs ≡ bs
-itself [] = refl
-itself (b ∷ bs) = ap (λ rest. b ∷ rest) (itself bs)
-
 some_hold : (bs : List Bool) → 0 < mask_l bs → failing bs < length bs
 some_hold [] h = absurd (omega arith)
 some_hold (true ∷ bs) h = omega arith
@@ -66,7 +63,7 @@ module _ (xs ys : List ℕ) (p : length xs ≡ 32) (q : length ys ≡ 32) where
   same = ap (λ m. mask_l m % 2 ^ 64) (tops 32 xs ys p q) ∙ mask_l-mod lanes 64 (omega (arith, long))
 
   tests : mask xs ys ≡ mask_l (map (λ b. b) lanes)
-  tests = same ∙ ap mask_l (sym (itself lanes))
+  tests = same ∙ ap mask_l (sym (map-id lanes))
 
   at : (j : ℕ) → j < 32 → get_or lanes j false ≡ test (get_or xs j 0) (get_or ys j 0)
   at j l = get_or-zip2 test xs ys j 0 0 false (omega arith) (omega arith)

@@ -8,6 +8,7 @@ use Rattle.wtf8.specs.Form.{bytes, encoding}
 use Rattle.wtf8.specs.Unicode.{IsSurrogate}
 use Rattle.wtf8.specs.UnitParts.{AreAscii, AreThreeByteUnits, IsBlock}
 use Rattle.wtf8.proofs.lemmas.Encoding.{encoding_three, third_row}
+use Rattle.std.proofs.lemmas.List.{length-map}
 
 -- a lane of a comparison of units
 abbrev wide : Bool → ℕ
@@ -26,12 +27,8 @@ high_are (suc n) [] e = refl
 high_are zero (x ∷ xs) e = absurd (omega arith)
 high_are (suc n) (x ∷ xs) e = λ i. set (leb 0x80 x) i ∷ high_are n xs (omega arith) i
 
-length_same : (p : ℕ → Bool) (xs : List ℕ) → length (map p xs) ≡ length xs
-length_same p [] = refl
-length_same p (x ∷ xs) = ap (λ n. suc n) (length_same p xs)
-
 none_set : (p : ℕ → Bool) (xs : List ℕ) → length xs ≤ 64 → mask_l (map p xs) % 2 ^ 64 ≡ 0 → mask_l (map p xs) ≡ 0
-none_set p xs h e = sym (mask_l-mod (map p xs) 64 (omega (arith, h, length_same p xs))) ∙ e
+none_set p xs h e = sym (mask_l-mod (map p xs) 64 (omega (arith, h, length-map xs p))) ∙ e
 
 all_low : (xs : List ℕ) → mask_l (map (λ x. leb 0x80 x) xs) ≡ 0 → AreAscii xs
 all_low [] e = tt
