@@ -27,14 +27,16 @@ before_encoding p q r s l =
       | three m h e ↦ elim (row_of q) [
         | one k f ↦ absurd (omega arith)
         | two _ k f ↦ absurd (omega arith)
-        | three k _ f ↦ rw (e, f) (before_three (0xE0 + p / 4096) (0x80 + p / 64 % 64) (0x80 + p % 64) (0xE0 + q / 4096) (0x80 + q / 64 % 64) (0x80 + q % 64) r s (omega arith) (λ a. omega arith) (λ a b. omega arith))
+        | three k _ f ↦ rw (e, f) (before_three (0xE0 + p / 4096) (0x80 + p / 64 % 64) (0x80 + p % 64) (0xE0 + q / 4096) (0x80 + q / 64 % 64)
+            (0x80 + q % 64) r s (omega arith) (λ a. omega arith) (λ a b. omega arith))
         | four k f ↦ rw (e, f) (inl (omega arith))
       ]
       | four m e ↦ elim (row_of q) [
         | one k f ↦ absurd (omega arith)
         | two _ k f ↦ absurd (omega arith)
         | three _ k f ↦ absurd (omega arith)
-        | four k f ↦ rw (e, f) (before_four (0xF0 + p / 262144) (0x80 + p / 4096 % 64) (0x80 + p / 64 % 64) (0x80 + p % 64) (0xF0 + q / 262144) (0x80 + q / 4096 % 64) (0x80 + q / 64 % 64) (0x80 + q % 64) r s (omega arith) (λ a. omega arith) (λ a b. omega arith) (λ a b c. omega arith))
+        | four k f ↦ rw (e, f) (before_four (0xF0 + p / 262144) (0x80 + p / 4096 % 64) (0x80 + p / 64 % 64) (0x80 + p % 64) (0xF0 + q / 262144)
+            (0x80 + q / 4096 % 64) (0x80 + q / 64 % 64) (0x80 + q % 64) r s (omega arith) (λ a. omega arith) (λ a b. omega arith) (λ a b c. omega arith))
       ]
     ]
 
@@ -59,7 +61,9 @@ cmp-bytes (p ∷ c) (q ∷ d) =
         | inl l ↦ greater_of (bytes (p ∷ c)) (bytes (q ∷ d)) (before_encoding q p (bytes d) (bytes c) l) ∙ sym (greater_of (p ∷ c) (q ∷ d) (inl l))
         | inr n ↦
             let same : p ≡ q = omega arith in
-            ap (λ x. slice_cmp nat_cmp (bytes (p ∷ c)) (bytes (x ∷ d))) (sym same) ∙ (cmp_behind (encoding p) (bytes c) (bytes d) ∙ (cmp-bytes c d ∙ (sym (cmp_behind (p ∷ []) c d) ∙ ap (λ x. slice_cmp nat_cmp (p ∷ c) (x ∷ d)) same)))
+            ap (λ x. slice_cmp nat_cmp (bytes (p ∷ c)) (bytes (x ∷ d))) (sym same)
+            ∙ (cmp_behind (encoding p) (bytes c) (bytes d)
+            ∙ (cmp-bytes c d ∙ (sym (cmp_behind (p ∷ []) c d) ∙ ap (λ x. slice_cmp nat_cmp (p ∷ c) (x ∷ d)) same)))
       ]
     ]
 

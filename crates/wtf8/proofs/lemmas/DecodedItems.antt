@@ -1,5 +1,6 @@
 -- The items of a decoder one by one: what was appended of them.
-use Rattle.std.proofs.Common.{◌≡◌, inl, inr, ℕ, List, [], ◌∷◌, ◌++◌, Result, Ok, Err, MatchResult, IsTrue, is_ok, sym, ap, ◌∙◌, subst, arith, append_assoc, map-id}
+use Rattle.std.proofs.Common.{◌≡◌, inl, inr, ℕ, List, [], ◌∷◌, ◌++◌, Result, Ok, Err, MatchResult, IsTrue, is_ok, sym, ap, ◌∙◌, subst, arith, append_assoc}
+use Rattle.std.proofs.Common.{map-id}
 use Rattle.std.specs.Char.{IsScalar}
 use Rattle.std.specs.declared.iter.Copied.{Copied}
 use Rattle.std.specs.declared.slice.Iter.{Iter}
@@ -27,13 +28,17 @@ pub scalar_item : (x : Result ℕ ℕ) → MatchResult x IsScalar IsSurrogate �
 scalar_item (Ok c) kind t s = elim (scalar_cases c kind) [ inl l ↦ omega (arith, s.0, l) | inr r ↦ omega (arith, s.1, r) ]
 scalar_item (Err u) kind t s = absurd (false≢true t)
 
-pub scalars_more : (items : List (Result ℕ ℕ)) (x : Result ℕ ℕ) → AreScalar (points_of items) → ¬ (IsSurrogate (point_of x)) → AreScalar (points_of (items ++ x ∷ []))
-scalars_more items x before here = subst AreScalar (sym (map-append point_of items (x ∷ []))) (scalar-append (points_of items) (point_of x ∷ []) before (here, tt))
+pub scalars_more : (items : List (Result ℕ ℕ)) (x : Result ℕ ℕ) → AreScalar (points_of items) → ¬ (IsSurrogate (point_of x))
+    → AreScalar (points_of (items ++ x ∷ []))
+scalars_more items x before here = subst AreScalar (sym (map-append point_of items (x ∷ [])))
+    (scalar-append (points_of items) (point_of x ∷ []) before (here, tt))
 
 -- what was appended of items where one more came
-pub item_appended : (was w new : List ℕ) (items : List (Result ℕ ℕ)) (x : Result ℕ ℕ) (p : ℕ) → w ≡ was ++ bytes (points_of items) → new ≡ w ++ encoding p → p ≡ point_of x → new ≡ was ++ bytes (points_of (items ++ x ∷ []))
+pub item_appended : (was w new : List ℕ) (items : List (Result ℕ ℕ)) (x : Result ℕ ℕ) (p : ℕ) → w ≡ was ++ bytes (points_of items) → new ≡ w ++ encoding p
+    → p ≡ point_of x → new ≡ was ++ bytes (points_of (items ++ x ∷ []))
 item_appended was w new items x p before here same =
-    here ∙ (ap (λ v. v ++ encoding p) before ∙ (append_assoc was (bytes (points_of items)) (encoding p) ∙ ap (λ v. was ++ v) (ap (λ n. bytes (points_of items) ++ encoding n) same ∙ sym (bytes_more items x))))
+    here ∙ (ap (λ v. v ++ encoding p) before ∙ (append_assoc was (bytes (points_of items)) (encoding p)
+    ∙ ap (λ v. was ++ v) (ap (λ n. bytes (points_of items) ++ encoding n) same ∙ sym (bytes_more items x))))
 
 -- what a slice's units give is the slice
 pub slice_units : (s : Copied (Iter ℕ)) (u v : List ℕ) → iter_rest (copied_source s) ≡ v → Drains (copied_steps iter_steps) s u → u ≡ v

@@ -77,13 +77,16 @@ inside_at (x ∷ xs) r zero t h = (t.0, t.1)
 inside_at (x ∷ xs) r (suc k) t h = inside_at xs r k t.2 (omega arith)
 
 -- the bytes behind the first are from 80 to BF
-pub inside-encoding : (p k : ℕ) (r : List ℕ) → suc k < length (encoding p) → (0x80 ≤ get_or (encoding p ++ r) (suc k) 0) × (get_or (encoding p ++ r) (suc k) 0 < 0xC0)
+pub inside-encoding : (p k : ℕ) (r : List ℕ) → suc k < length (encoding p)
+    → (0x80 ≤ get_or (encoding p ++ r) (suc k) 0) × (get_or (encoding p ++ r) (suc k) 0 < 0xC0)
 inside-encoding p k r l =
     elim (row_of p) [
       | one h e ↦ absurd (omega (arith, ap length e))
       | two _ h e ↦ let m = rw e at l in rw e (inside_at ((0x80 + p % 64) ∷ []) r k (omega arith, omega arith, tt) (omega arith))
-      | three _ h e ↦ let m = rw e at l in rw e (inside_at ((0x80 + p / 64 % 64) ∷ (0x80 + p % 64) ∷ []) r k (omega arith, omega arith, (omega arith, omega arith, tt)) (omega arith))
-      | four _ e ↦ let m = rw e at l in rw e (inside_at ((0x80 + p / 4096 % 64) ∷ (0x80 + p / 64 % 64) ∷ (0x80 + p % 64) ∷ []) r k (omega arith, omega arith, (omega arith, omega arith, (omega arith, omega arith, tt))) (omega arith))
+      | three _ h e ↦ let m = rw e at l in rw e (inside_at ((0x80 + p / 64 % 64) ∷ (0x80 + p % 64) ∷ []) r k
+          (omega arith, omega arith, (omega arith, omega arith, tt)) (omega arith))
+      | four _ e ↦ let m = rw e at l in rw e (inside_at ((0x80 + p / 4096 % 64) ∷ (0x80 + p / 64 % 64) ∷ (0x80 + p % 64) ∷ []) r k
+          (omega arith, omega arith, (omega arith, omega arith, (omega arith, omega arith, tt))) (omega arith))
     ]
 
 pub length-encoding_bounds : (p : ℕ) → (1 ≤ length (encoding p)) × (length (encoding p) ≤ 4)

@@ -19,7 +19,8 @@ pub both_are : {u v : List ℕ} (a b : List ℕ) → u ≡ a → v ≡ b → sli
 both_are {u} {v} a b e f = ap (λ z. slice_cmp nat_cmp z v) e ∙ ap (slice_cmp nat_cmp a) f
 
 -- first units that differ decide
-pub first_decides : (u v r s : List ℕ) (a b : Option ℕ) → Gives u a r → Gives v b s → option_cmp nat_cmp a b ≢ Equal → option_cmp nat_cmp a b ≡ slice_cmp nat_cmp u v
+pub first_decides : (u v r s : List ℕ) (a b : Option ℕ) → Gives u a r → Gives v b s → option_cmp nat_cmp a b ≢ Equal
+    → option_cmp nat_cmp a b ≡ slice_cmp nat_cmp u v
 first_decides u v r s None None g h n = absurd (n refl)
 first_decides u v r s None (Some y) g h n = sym (both_are [] (y ∷ s) g.0 h)
 first_decides u v r s (Some x) None g h n = sym (both_are (x ∷ r) [] g h.0)
@@ -29,7 +30,8 @@ unlike : (o : Ordering) → o ≡ Equal → MatchOrdering o ⊥ (Unit {0}) ⊥
 unlike o e = subst (λ p. MatchOrdering p ⊥ (Unit {0}) ⊥) (sym e) tt
 
 -- else those behind them do
-pub rests_decide : (u v r s : List ℕ) (a b : Option ℕ) → Gives u a r → Gives v b s → option_cmp nat_cmp a b ≡ Equal → slice_cmp nat_cmp r s ≡ slice_cmp nat_cmp u v
+pub rests_decide : (u v r s : List ℕ) (a b : Option ℕ) → Gives u a r → Gives v b s → option_cmp nat_cmp a b ≡ Equal
+    → slice_cmp nat_cmp r s ≡ slice_cmp nat_cmp u v
 rests_decide u v r s None None g h e = both_are [] [] g.1 h.1 ∙ sym (both_are [] [] g.0 h.0)
 rests_decide u v r s None (Some y) g h e = absurd (unlike Less e)
 rests_decide u v r s (Some x) None g h e = absurd (unlike Greater e)

@@ -23,7 +23,8 @@ less_of (x ∷ xs) [] h = absurd h
 less_of (x ∷ xs) (y ∷ ys) h =
     elim h [
       | inl l ↦ ap (λ o. ordering_then o (slice_cmp nat_cmp xs ys)) (cmp_less x y l)
-      | inr e ↦ ap (λ z. ordering_then (nat_cmp x z) (slice_cmp nat_cmp xs ys)) (sym e.0) ∙ (ap (λ o. ordering_then o (slice_cmp nat_cmp xs ys)) (cmp_same x) ∙ less_of xs ys e.1)
+      | inr e ↦ ap (λ z. ordering_then (nat_cmp x z) (slice_cmp nat_cmp xs ys)) (sym e.0)
+          ∙ (ap (λ o. ordering_then o (slice_cmp nat_cmp xs ys)) (cmp_same x) ∙ less_of xs ys e.1)
     ]
 
 pub greater_of : (c d : List ℕ) → Before d c → slice_cmp nat_cmp c d ≡ Greater
@@ -49,11 +50,13 @@ pub before_three : (a b c x y z : ℕ) (r s : List ℕ) → a ≤ x → (a ≡ x
 before_three a b c x y z r s h k l =
     before_cons a x (b ∷ c ∷ r) (y ∷ z ∷ s) h (λ e. before_two b c y z r s (k e) (l e))
 
-pub before_four : (a b c d x y z w : ℕ) (r s : List ℕ) → a ≤ x → (a ≡ x → b ≤ y) → (a ≡ x → b ≡ y → c ≤ z) → (a ≡ x → b ≡ y → c ≡ z → d < w) → Before (a ∷ b ∷ c ∷ d ∷ r) (x ∷ y ∷ z ∷ w ∷ s)
+pub before_four : (a b c d x y z w : ℕ) (r s : List ℕ) → a ≤ x → (a ≡ x → b ≤ y) → (a ≡ x → b ≡ y → c ≤ z) → (a ≡ x → b ≡ y → c ≡ z → d < w)
+    → Before (a ∷ b ∷ c ∷ d ∷ r) (x ∷ y ∷ z ∷ w ∷ s)
 before_four a b c d x y z w r s h k l m =
     before_cons a x (b ∷ c ∷ d ∷ r) (y ∷ z ∷ w ∷ s) h (λ e. before_three b c d y z w r s (k e) (l e) (m e))
 
-with_first : (x y : ℕ) (xs ys : List ℕ) → x ≡ y → (o : Ordering) → MatchOrdering o (Before xs ys) (xs ≡ ys) (Before ys xs) → MatchOrdering o (Before (x ∷ xs) (y ∷ ys)) (x ∷ xs ≡ y ∷ ys) (Before (y ∷ ys) (x ∷ xs))
+with_first : (x y : ℕ) (xs ys : List ℕ) → x ≡ y → (o : Ordering) → MatchOrdering o (Before xs ys) (xs ≡ ys) (Before ys xs)
+    → MatchOrdering o (Before (x ∷ xs) (y ∷ ys)) (x ∷ xs ≡ y ∷ ys) (Before (y ∷ ys) (x ∷ xs))
 with_first x y xs ys e Less h = inr (e, h)
 with_first x y xs ys e Equal h = ap (λ z. z ∷ xs) e ∙ ap (λ zs. y ∷ zs) h
 with_first x y xs ys e Greater h = inr (sym e, h)

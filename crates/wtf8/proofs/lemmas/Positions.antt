@@ -42,13 +42,16 @@ cut_at h k b =
     let reads = b.splits.reads in
     cut_by h b.front b.back k (same_reading h.points (b.front ++ b.back) h.clean reads.clean (sym reads.same_units)) b.splits.front_len
 
-pub boundary_of : {w : List ℕ} (h : IsWellFormed w) (front back : List ℕ) (k : ℕ) → h.points ≡ front ++ back → length (bytes front) ≡ k → IsBoundary (units h.points) k
+pub boundary_of : {w : List ℕ} (h : IsWellFormed w) (front back : List ℕ) (k : ℕ) → h.points ≡ front ++ back → length (bytes front) ≡ k
+    → IsBoundary (units h.points) k
 boundary_of h front back k e n = record { front = front; back = back; splits = (cut_by h front back k e n).splits }
 
-pub points_before : {w v : List ℕ} (h : IsWellFormed w) (p : IsWellFormed v) (front back : List ℕ) (k : ℕ) → h.points ≡ front ++ back → length (bytes front) ≡ k → v ≡ take k w → p.points ≡ front
+pub points_before : {w v : List ℕ} (h : IsWellFormed w) (p : IsWellFormed v) (front back : List ℕ) (k : ℕ) → h.points ≡ front ++ back → length (bytes front) ≡ k
+    → v ≡ take k w → p.points ≡ front
 points_before h p front back k e n d = same_points p (cut_by h front back k e n).before d
 
-pub points_behind : {w v : List ℕ} (h : IsWellFormed w) (p : IsWellFormed v) (front back : List ℕ) (k : ℕ) → h.points ≡ front ++ back → length (bytes front) ≡ k → v ≡ drop k w → p.points ≡ back
+pub points_behind : {w v : List ℕ} (h : IsWellFormed w) (p : IsWellFormed v) (front back : List ℕ) (k : ℕ) → h.points ≡ front ++ back → length (bytes front) ≡ k
+    → v ≡ drop k w → p.points ≡ back
 points_behind h p front back k e n d = same_points p (cut_by h front back k e n).behind d
 
 -- the bytes before a position are the form of the units of the code points before it
@@ -62,14 +65,16 @@ front_form h k v f =
 -- what the test of one byte says
 pub boundary_from_byte : {w : List ℕ} (h : IsWellFormed w) (k : ℕ) → k ≤ length w → (k < length w → Begins (get_or w k 0)) → IsBoundary (units h.points) k
 boundary_from_byte {w} h k within start =
-    let cut = split_at h.points k (omega (arith, ap length h.encoded)) (λ m. subst (λ v. Begins (get_or v k 0)) (sym h.encoded) (start (omega (arith, ap length h.encoded)))) in
+    let cut = split_at h.points k (omega (arith, ap length h.encoded))
+    (λ m. subst (λ v. Begins (get_or v k 0)) (sym h.encoded) (start (omega (arith, ap length h.encoded)))) in
     boundary_of h cut.front cut.back k cut.joined cut.front_len
 
 pub byte_from_boundary : {w : List ℕ} (h : IsWellFormed w) (k : ℕ) → IsBoundary (units h.points) k → k < length w → Begins (get_or w k 0)
 byte_from_boundary {w} h k b m =
     let c = cut_at h k b in
     let whole : bytes (c.front ++ c.back) ≡ w = ap bytes (sym c.points) ∙ h.encoded in
-    subst (λ v. Begins (get_or v k 0)) whole (subst (λ n. Begins (get_or (bytes (c.front ++ c.back)) n 0)) c.splits.front_len (begins_behind c.front c.back (omega (arith, c.splits.front_len, ap length whole))))
+    subst (λ v. Begins (get_or v k 0)) whole (subst (λ n. Begins (get_or (bytes (c.front ++ c.back)) n 0)) c.splits.front_len
+    (begins_behind c.front c.back (omega (arith, c.splits.front_len, ap length whole))))
 
 -- the units before a position are the same in each splitting
 pub same_front : (u : List ℕ) (k : ℕ) (v w : List ℕ) → IsFront u k v → IsFront u k w → v ≡ w
@@ -99,15 +104,24 @@ front_points : {w v : List ℕ} (h : IsWellFormed w) (k : ℕ) (p : IsWellFormed
 front_points h k p f = same_reading p.points f.front p.clean (clean-front f.front f.back f.splits.reads.clean) (sym f.same_units)
 
 -- the back of a front is the middle
-pub middle_of : {w v : List ℕ} (h : IsWellFormed w) (begin end : ℕ) (p : IsWellFormed v) {u : List ℕ} → IsFront (units h.points) end (units p.points) → IsBack (units p.points) begin u → IsMiddle (units h.points) begin end u
+pub middle_of : {w v : List ℕ} (h : IsWellFormed w) (begin end : ℕ) (p : IsWellFormed v) {u : List ℕ} → IsFront (units h.points) end (units p.points)
+    → IsBack (units p.points) begin u → IsMiddle (units h.points) begin end u
 middle_of h begin end p f b =
     let points = front_points h end p f in
-    let parts : b.front ++ b.back ≡ f.front = same_reading (b.front ++ b.back) f.front b.splits.reads.clean (clean-front f.front f.back f.splits.reads.clean) (b.splits.reads.same_units ∙ ap units points) in
+    let parts : b.front ++ b.back ≡ f.front = same_reading (b.front ++ b.back) f.front b.splits.reads.clean (clean-front f.front f.back f.splits.reads.clean)
+    (b.splits.reads.same_units ∙ ap units points) in
     record {
       front = b.front;
       middle = b.back;
       back = f.back;
-      begins = record { reads = subst (λ c. Reads c (units h.points)) (ap (λ c. c ++ f.back) (sym parts) ∙ append_assoc b.front b.back f.back) f.splits.reads; front_len = b.splits.front_len };
-      ends = record { reads = subst (λ c. Reads (c ++ f.back) (units h.points)) (sym parts) f.splits.reads; front_len = ap (λ c. length (bytes c)) parts ∙ f.splits.front_len };
+      begins = record {
+        reads = subst (λ c. Reads c (units h.points)) (ap (λ c. c ++ f.back) (sym parts) ∙ append_assoc b.front b.back f.back) f.splits.reads;
+        front_len = b.splits.front_len;
+      };
+      ends = record {
+        reads = subst (λ c. Reads (c ++ f.back) (units h.points)) (sym parts) f.splits.reads;
+        front_len = ap (λ c. length (bytes c)) parts
+            ∙ f.splits.front_len;
+      };
       same_units = b.same_units;
     }

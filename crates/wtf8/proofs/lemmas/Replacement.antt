@@ -1,5 +1,6 @@
 -- Surrogates replaced by U+FFFD: the lossy list, and bytes in which it is written over them one by one.
-use Rattle.std.proofs.Common.{◌≡◌, ◌≤◌, ◌+◌, ℕ, List, [], ◌∷◌, ◌++◌, length, take, drop, refl, ap, ◌∙◌, sym, subst, arith, append_assoc, length-append, lit≤, lit<}
+use Rattle.std.proofs.Common.{◌≡◌, ◌≤◌, ◌+◌, ℕ, List, [], ◌∷◌, ◌++◌, length, take, drop, refl, ap, ◌∙◌, sym, subst, arith, append_assoc, length-append, lit≤}
+use Rattle.std.proofs.Common.{lit<}
 use Rattle.std.proofs.lemmas.List.{append-nil, append_cancel_left, take_at, drop_at}
 use Rattle.std.specs.Str.{IsUtf8}
 use Rattle.wtf8.specs.Unicode.{IsSurrogate}
@@ -34,14 +35,16 @@ pub record Around (w : List ℕ) (front : List ℕ) (found : ℕ) (back : List �
   pub behind : drop (found + 3) w ≡ bytes back
   pub within : found + 3 ≤ length w
 
-pub around : (w front : List ℕ) (p : ℕ) (back : List ℕ) (found : ℕ) → w ≡ bytes (front ++ p ∷ back) → length (bytes front) ≡ found → IsSurrogate p → Around w front found back
+pub around : (w front : List ℕ) (p : ℕ) (back : List ℕ) (found : ℕ) → w ≡ bytes (front ++ p ∷ back) → length (bytes front) ≡ found → IsSurrogate p
+    → Around w front found back
 around w front p back found e n s =
     let three = length-surrogate p s in
     let whole : w ≡ bytes front ++ (encoding p ++ bytes back) = e ∙ bytes-append front (p ∷ back) in
     let other : w ≡ (bytes front ++ encoding p) ++ bytes back = whole ∙ sym (append_assoc (bytes front) (encoding p) (bytes back)) in
     record {
       before = ap (take found) whole ∙ take_at (bytes front) (encoding p ++ bytes back) found n;
-      behind = ap (drop (found + 3)) other ∙ drop_at (bytes front ++ encoding p) (bytes back) (found + 3) (omega (arith, n, three, length-append (bytes front) (encoding p)));
+      behind = ap (drop (found + 3)) other ∙ drop_at (bytes front ++ encoding p) (bytes back) (found + 3)
+          (omega (arith, n, three, length-append (bytes front) (encoding p)));
       within = omega (arith, n, three, ap length whole, length-append (bytes front) (encoding p ++ bytes back), length-append (encoding p) (bytes back));
     }
 
@@ -54,18 +57,36 @@ replacing_step c w from found r least =
     let p = surrogate_in (lossy r.done ++ r.rest) found (subst (λ v. SurrogateAt v found) r.so_far least.here) in
     let b = begun (lossy r.done) r.rest p.front (p.point ∷ p.back) p.joined (omega (arith, r.place, p.front_len, least.not_before)) in
     let a = around w p.front p.point p.back found (r.so_far ∙ ap bytes p.joined) p.front_len p.surrogate in
-    let rest : r.rest ≡ b.more ++ p.point ∷ p.back = append_cancel_left (lossy r.done) r.rest (b.more ++ p.point ∷ p.back) (p.joined ∙ (ap (λ d. d ++ p.point ∷ p.back) b.joined ∙ append_assoc (lossy r.done) b.more (p.point ∷ p.back))) in
-    let plain : AreScalar b.more = scalar_between (lossy r.done) b.more (p.point ∷ p.back) (λ j l u s. least.none_between j (omega (arith, r.place)) (omega (arith, p.front_len, ap (λ d. length (bytes d)) b.joined)) (subst (λ v. SurrogateAt v j) (sym (r.so_far ∙ ap bytes (p.joined ∙ ap (λ d. d ++ p.point ∷ p.back) b.joined))) s)) in
-    let done : lossy ((r.done ++ b.more) ++ p.point ∷ []) ≡ p.front ++ 0xFFFD ∷ [] = lossy-append (r.done ++ b.more) (p.point ∷ []) ∙ (ap (λ d. d ++ lossy (p.point ∷ [])) (lossy-append r.done b.more ∙ (ap (λ d. lossy r.done ++ d) (lossy-scalar b.more plain) ∙ sym b.joined)) ∙ ap (λ q. p.front ++ q ∷ []) (replaced_surrogate p.point p.surrogate)) in
+    let rest : r.rest ≡ b.more ++ p.point ∷ p.back = append_cancel_left (lossy r.done) r.rest (b.more ++ p.point ∷ p.back)
+    (p.joined ∙ (ap (λ d. d ++ p.point ∷ p.back) b.joined ∙ append_assoc (lossy r.done) b.more (p.point ∷ p.back))) in
+    let plain : AreScalar b.more = scalar_between (lossy r.done) b.more (p.point ∷ p.back)
+    (λ j l u s. least.none_between j (omega (arith, r.place)) (omega (arith, p.front_len, ap (λ d. length (bytes d)) b.joined))
+    (subst (λ v. SurrogateAt v j) (sym (r.so_far ∙ ap bytes (p.joined ∙ ap (λ d. d ++ p.point ∷ p.back) b.joined))) s)) in
+    let done : lossy ((r.done ++ b.more) ++ p.point ∷ []) ≡ p.front ++ 0xFFFD ∷ [] = lossy-append (r.done ++ b.more) (p.point ∷ [])
+    ∙ (ap (λ d. d ++ lossy (p.point ∷ [])) (lossy-append r.done b.more ∙ (ap (λ d. lossy r.done ++ d) (lossy-scalar b.more plain) ∙ sym b.joined))
+    ∙ ap (λ q. p.front ++ q ∷ []) (replaced_surrogate p.point p.surrogate)) in
     let sign : encoding 0xFFFD ≡ 0xEF ∷ 0xBF ∷ 0xBD ∷ [] = encoding_three 0xFFFD (lit≤ tt) (lit< tt) in
     record {
       within = a.within;
       next = record {
         done = (r.done ++ b.more) ++ p.point ∷ [];
         rest = p.back;
-        joined = r.joined ∙ (ap (λ d. r.done ++ d) rest ∙ (sym (append_assoc r.done b.more (p.point ∷ p.back)) ∙ sym (append_assoc (r.done ++ b.more) (p.point ∷ []) p.back)));
-        so_far = ap (λ v. v ++ (0xEF ∷ 0xBF ∷ 0xBD ∷ drop (found + 3) w)) a.before ∙ (ap (λ v. bytes p.front ++ (0xEF ∷ 0xBF ∷ 0xBD ∷ v)) a.behind ∙ (ap (λ v. bytes p.front ++ (v ++ bytes p.back)) (sym sign) ∙ (sym (bytes-append p.front (0xFFFD ∷ p.back)) ∙ (ap bytes (sym (append_assoc p.front (0xFFFD ∷ []) p.back)) ∙ ap (λ d. bytes (d ++ p.back)) (sym done)))));
-        place = omega (arith, ap (λ d. length (bytes d)) done, ap length (bytes-append p.front (0xFFFD ∷ [])), length-append (bytes p.front) (bytes (0xFFFD ∷ [])), ap length (append-nil (encoding 0xFFFD)), ap length sign, p.front_len);
+        joined = r.joined ∙ (ap (λ d. r.done ++ d) rest ∙ (sym (append_assoc r.done b.more (p.point ∷ p.back))
+            ∙ sym (append_assoc (r.done ++ b.more) (p.point ∷ []) p.back)));
+        so_far = ap (λ v. v ++ (0xEF ∷ 0xBF ∷ 0xBD ∷ drop (found + 3) w)) a.before
+            ∙ (ap (λ v. bytes p.front ++ (0xEF ∷ 0xBF ∷ 0xBD ∷ v)) a.behind
+            ∙ (ap (λ v. bytes p.front ++ (v ++ bytes p.back)) (sym sign)
+            ∙ (sym (bytes-append p.front (0xFFFD ∷ p.back)) ∙ (ap bytes (sym (append_assoc p.front (0xFFFD ∷ []) p.back))
+            ∙ ap (λ d. bytes (d ++ p.back)) (sym done)))));
+        place = omega (
+          arith,
+          ap (λ d. length (bytes d)) done,
+          ap length (bytes-append p.front (0xFFFD ∷ [])),
+          length-append (bytes p.front) (bytes (0xFFFD ∷ [])),
+          ap length (append-nil (encoding 0xFFFD)),
+          ap length sign,
+          p.front_len,
+        );
       };
     }
 
@@ -82,10 +103,15 @@ parted {w} h found least =
     let whole : w ≡ bytes (p.front ++ p.point ∷ p.back) = sym h.encoded ∙ ap bytes p.joined in
     let a = around w p.front p.point p.back found whole p.front_len p.surrogate in
     let clean : IsClean (p.front ++ p.point ∷ p.back) = subst IsClean p.joined h.clean in
-    let plain : AreScalar p.front = scalar_between [] p.front (p.point ∷ p.back) (λ j l u s. least.none_between j l (omega (arith, p.front_len)) (subst (λ v. SurrogateAt v j) (sym whole) s)) in
+    let plain : AreScalar p.front = scalar_between [] p.front (p.point ∷ p.back)
+    (λ j l u s. least.none_between j l (omega (arith, p.front_len)) (subst (λ v. SurrogateAt v j) (sym whole) s)) in
     record {
       within = a.within;
       text = subst IsUtf8 (sym a.before) (utf8_of p.front (clean-front p.front (p.point ∷ p.back) clean) plain);
       rest = record { points = p.back; clean = clean-rest p.point p.back (clean-back p.front (p.point ∷ p.back) clean); encoded = sym a.behind };
-      lossy_parts = ap (λ c. bytes (lossy c)) p.joined ∙ (ap bytes (lossy-append p.front (p.point ∷ p.back)) ∙ (bytes-append (lossy p.front) (lossy (p.point ∷ p.back)) ∙ (ap (λ c. bytes c ++ bytes (replaced p.point ∷ lossy p.back)) (lossy-scalar p.front plain) ∙ (ap (λ q. bytes p.front ++ bytes (q ∷ lossy p.back)) (replaced_surrogate p.point p.surrogate) ∙ ap (λ v. v ++ bytes (0xFFFD ∷ lossy p.back)) (sym a.before)))));
+      lossy_parts = ap (λ c. bytes (lossy c)) p.joined ∙ (ap bytes (lossy-append p.front (p.point ∷ p.back))
+          ∙ (bytes-append (lossy p.front) (lossy (p.point ∷ p.back))
+          ∙ (ap (λ c. bytes c ++ bytes (replaced p.point ∷ lossy p.back)) (lossy-scalar p.front plain)
+          ∙ (ap (λ q. bytes p.front ++ bytes (q ∷ lossy p.back)) (replaced_surrogate p.point p.surrogate)
+          ∙ ap (λ v. v ++ bytes (0xFFFD ∷ lossy p.back)) (sym a.before)))));
     }

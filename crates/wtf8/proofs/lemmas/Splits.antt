@@ -23,9 +23,17 @@ split_at (p ∷ c) (suc k) h s =
       | inl l ↦ let inside = inside-encoding p k (bytes c) l in
           absurd (elim ((s (omega arith)).start) [ inl b ↦ omega arith | inr b ↦ omega arith ])
       | inr l ↦
-          let at : (suc k < length (encoding p ++ bytes c)) → get_or (encoding p ++ bytes c) (suc k) 0 ≡ get_or (bytes c) (suc k - length (encoding p)) 0 = λ _. get_or-append_right (encoding p) (bytes c) (length (encoding p)) (suc k) 0 refl l in
-          let rest = split_at c (suc k - length (encoding p)) (omega arith) (λ m. let q : suc k < length (encoding p ++ bytes c) = omega arith in subst Begins (at q) (s q)) in
-          record { front = p ∷ rest.front; back = rest.back; joined = ap (λ r. p ∷ r) rest.joined; front_len = length-append (encoding p) (bytes rest.front) ∙ (omega (arith, rest.front_len)) }
+          let at : (suc k < length (encoding p ++ bytes c)) → get_or (encoding p ++ bytes c) (suc k) 0 ≡ get_or (bytes c) (suc k - length (encoding p)) 0 =
+          λ _. get_or-append_right (encoding p) (bytes c) (length (encoding p)) (suc k) 0 refl l in
+          let rest = split_at c (suc k - length (encoding p)) (omega arith) (λ m. let q : suc k < length (encoding p ++ bytes c) = omega arith in
+          subst Begins (at q) (s q)) in
+          record {
+            front = p ∷ rest.front;
+            back = rest.back;
+            joined = ap (λ r. p ∷ r) rest.joined;
+            front_len = length-append (encoding p) (bytes rest.front)
+                ∙ (omega (arith, rest.front_len));
+          }
     ]
 
 -- the byte behind the bytes of a front is the first of the next code point
@@ -33,7 +41,8 @@ pub first_behind : (front : List ℕ) (p : ℕ) (b : List ℕ) → get_or (bytes
 first_behind front p b =
     let n = length (bytes front) in
     let start : n - n ≡ 0 = omega arith in
-    ap (λ w. get_or w n 0) (bytes-append front (p ∷ b)) ∙ (get_or-append_right (bytes front) (encoding p ++ bytes b) n n 0 refl (omega arith) ∙ ap (λ k. get_or (encoding p ++ bytes b) k 0) start)
+    ap (λ w. get_or w n 0) (bytes-append front (p ∷ b)) ∙ (get_or-append_right (bytes front) (encoding p ++ bytes b) n n 0 refl (omega arith)
+    ∙ ap (λ k. get_or (encoding p ++ bytes b) k 0) start)
 
 pub begins_behind : (f b : List ℕ) → length (bytes f) < length (bytes (f ++ b)) → Begins (get_or (bytes (f ++ b)) (length (bytes f)) 0)
 begins_behind f [] h = absurd (omega (arith, ap (λ c. length (bytes c)) (append-nil f)))

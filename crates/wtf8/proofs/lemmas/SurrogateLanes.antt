@@ -1,5 +1,6 @@
 -- The search in lanes: from the mask of two vectors to the first lane that has a surrogate's two bytes.
-use Rattle.std.proofs.Common.{◌≡◌, ℕ, zero, suc, ◌+◌, ◌-◌, ◌%◌, ◌^◌, ◌<◌, ◌≤◌, eqb, leb, Bool, true, false, cond, not, ◌&&◌, List, [], ◌∷◌, map, length, get_or, replicate, bit_and, refl, sym, ap, ◌∙◌, subst, arith, inl, inr}
+use Rattle.std.proofs.Common.{◌≡◌, ℕ, zero, suc, ◌+◌, ◌-◌, ◌%◌, ◌^◌, ◌<◌, ◌≤◌, eqb, leb, Bool, true, false, cond, not, ◌&&◌, List, [], ◌∷◌, map, length, get_or}
+use Rattle.std.proofs.Common.{replicate, bit_and, refl, sym, ap, ◌∙◌, subst, arith, inl, inr}
 use Rattle.std.proofs.lemmas.Bool.{and_parts, and_from, both_ways, not-true, not-false, cases_lt, leb-true, le-leb, eq-eqb, eqb-true}
 use Rattle.std.proofs.lemmas.List.Sums.{prefix_len_passes, prefix_len_stops}
 use Rattle.std.proofs.lemmas.Simd.{length-zip2, get_or-zip2, get_or-chunk, mask_l-mod, leading_from_mask_l, trailing_mask_l}
@@ -79,7 +80,8 @@ module _ (xs ys : List ℕ) (p : length xs ≡ 32) (q : length ys ≡ 32) where
       let some : 0 < mask_l lanes = omega (arith, same, n) in
       let within : failing lanes < length lanes = some_hold lanes some in
       let inside : failing lanes < 32 = omega (arith, within, long) in
-      let first : count_trailing_zeros 64 (mask xs ys) ≡ failing lanes = ap (count_trailing_zeros 64) tests ∙ trailing_mask_l (λ b. b) 64 lanes (omega (arith, long)) (omega (arith, sym same ∙ tests, some)) in
+      let first : count_trailing_zeros 64 (mask xs ys) ≡ failing lanes = ap (count_trailing_zeros 64) tests
+      ∙ trailing_mask_l (λ b. b) 64 lanes (omega (arith, long)) (omega (arith, sym same ∙ tests, some)) in
       let found = told _ _ (sym (at (failing lanes) inside) ∙ not-false _ (prefix_len_stops (λ b. not b) lanes false within)) in
       subst (IsLeast (IsSurrogateLane xs ys) 0) (sym first) (record {
         not_before = omega arith;
@@ -99,17 +101,24 @@ module _ (w : List ℕ) (i : ℕ) (room : i + 33 ≤ length w) where
   to_lane k l s = record { within = l; first = first_is k l ∙ s.first; second = omega (arith, second_is k l, s.second) }
 
   from_lane : (k : ℕ) → IsSurrogateLane (chunk i 32 w) (chunk (i + 1) 32 w) k → SurrogateAt w (i + k)
-  from_lane k s = record { within = omega (arith, s.within); first = sym (first_is k s.within) ∙ s.first; second = omega (arith, second_is k s.within, s.second) }
+  from_lane k s = record {
+    within = omega (arith, s.within);
+    first = sym (first_is k s.within)
+        ∙ s.first;
+    second = omega (arith, second_is k s.within, s.second);
+  }
 
   -- none in the lanes leaves none as far as the next 32
-  pub no_surrogate : (from : ℕ) → ((j : ℕ) → from ≤ j → j < i → ¬ (SurrogateAt w j)) → ((k : ℕ) → 0 ≤ k → ¬ (IsSurrogateLane (chunk i 32 w) (chunk (i + 1) 32 w) k))
+  pub no_surrogate : (from : ℕ) → ((j : ℕ) → from ≤ j → j < i → ¬ (SurrogateAt w j))
+      → ((k : ℕ) → 0 ≤ k → ¬ (IsSurrogateLane (chunk i 32 w) (chunk (i + 1) 32 w) k))
       → (j : ℕ) → from ≤ j → j < i + 32 → ¬ (SurrogateAt w j)
   no_surrogate from before clear j l u s = elim (cases_lt j i) [
     | inl h ↦ before j l h s
     | inr h ↦ clear (j - i) (omega arith) (to_lane (j - i) (omega arith) (subst (SurrogateAt w) (omega arith) s))
   ]
 
-  pub least_surrogate : (from k : ℕ) → from ≤ i → ((j : ℕ) → from ≤ j → j < i → ¬ (SurrogateAt w j)) → IsLeast (IsSurrogateLane (chunk i 32 w) (chunk (i + 1) 32 w)) 0 k
+  pub least_surrogate : (from k : ℕ) → from ≤ i → ((j : ℕ) → from ≤ j → j < i → ¬ (SurrogateAt w j))
+      → IsLeast (IsSurrogateLane (chunk i 32 w) (chunk (i + 1) 32 w)) 0 k
       → IsLeast (SurrogateAt w) from (i + k)
   least_surrogate from k start before least =
       let lane = least.here.within in

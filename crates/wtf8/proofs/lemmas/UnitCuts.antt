@@ -1,5 +1,6 @@
 -- What a string has before and behind a number of its units.
-use Rattle.std.proofs.Common.{◌≡◌, ℕ, zero, suc, ◌+◌, ◌≤◌, List, [], ◌∷◌, ◌++◌, length, take, drop, None, Some, refl, sym, ap, ◌∙◌, subst, arith, length-append, append_assoc}
+use Rattle.std.proofs.Common.{◌≡◌, ℕ, zero, suc, ◌+◌, ◌≤◌, List, [], ◌∷◌, ◌++◌, length, take, drop, None, Some, refl, sym, ap, ◌∙◌, subst, arith, length-append}
+use Rattle.std.proofs.Common.{append_assoc}
 use Rattle.std.proofs.lemmas.List.{take_at, drop_at}
 use Rattle.std.specs.List.{slice_get}
 use Rattle.wtf8.specs.Unicode.{IsCodePoint, units}
@@ -53,10 +54,18 @@ divided {c} {n} {k} {p} x =
     let d : Divides x.front x.back n p = x.counted in
     let joined : c ≡ x.front ++ p ∷ d.rest = x.joined ∙ ap (λ b. x.front ++ b) d.first in
     let whole : units c ≡ (units x.front ++ lead_of p ∷ []) ++ (trail_of p ∷ units d.rest) =
-    ap units joined ∙ (units-append x.front (p ∷ d.rest) ∙ (ap (λ u. units x.front ++ (u ++ units d.rest)) (units_two p d.supplementary) ∙ sym (append_assoc (units x.front) (lead_of p ∷ []) (trail_of p ∷ units d.rest)))) in
+    ap units joined ∙ (units-append x.front (p ∷ d.rest) ∙ (ap (λ u. units x.front ++ (u ++ units d.rest)) (units_two p d.supplementary)
+    ∙ sym (append_assoc (units x.front) (lead_of p ∷ []) (trail_of p ∷ units d.rest)))) in
     let long : length (units x.front ++ lead_of p ∷ []) ≡ n = omega (arith, length-append (units x.front) (lead_of p ∷ []), d.inside) in
     let pushed : c ≡ (x.front ++ p ∷ []) ++ d.rest = joined ∙ sym (append_assoc x.front (p ∷ []) d.rest) in
-    let pushed_len : length (bytes (x.front ++ p ∷ [])) ≡ k + 4 = omega (arith, ap length (bytes-pushed x.front p), length-append (bytes x.front) (encoding p), ap length (encoding_four p d.supplementary), x.front_len) in
+    let pushed_len : length (bytes (x.front ++ p ∷ [])) ≡ k + 4 =
+    omega (
+      arith,
+      ap length (bytes-pushed x.front p),
+      length-append (bytes x.front) (encoding p),
+      ap length (encoding_four p d.supplementary),
+      x.front_len,
+    ) in
     record {
       joined = joined;
       large = d.supplementary;
@@ -67,24 +76,34 @@ divided {c} {n} {k} {p} x =
       front_len = x.front_len;
       pushed = pushed;
       pushed_len = pushed_len;
-      long = omega (arith, pushed_len, ap (λ v. length (bytes v)) pushed, ap length (bytes-append (x.front ++ p ∷ []) d.rest), length-append (bytes (x.front ++ p ∷ [])) (bytes d.rest));
+      long = omega (
+        arith,
+        pushed_len,
+        ap (λ v. length (bytes v)) pushed,
+        ap length (bytes-append (x.front ++ p ∷ []) d.rest),
+        length-append
+            (bytes (x.front ++ p ∷ [])) (bytes d.rest),
+      );
     }
 
 pub in_range : {c : List ℕ} {n k p : ℕ} {front rest : List ℕ} → IsClean c → Divided c n k p front rest → IsCodePoint p
 in_range {c} {n} {k} {p} {front} {rest} clean d = clean-first p rest (clean-back front (p ∷ rest) (subst IsClean d.joined clean))
 
 -- the bytes before the pair and those of its lead
-abbrev pub lead_kept : {w : List ℕ} (h : IsWellFormed w) {n k p : ℕ} {front rest : List ℕ} → Divided h.points n k p front rest → IsWellFormed (take k w ++ encoding (lead_of p))
+abbrev pub lead_kept : {w : List ℕ} (h : IsWellFormed w) {n k p : ℕ} {front rest : List ℕ} → Divided h.points n k p front rest
+    → IsWellFormed (take k w ++ encoding (lead_of p))
 lead_kept {w} h {n} {k} {p} {front} {rest} d =
     let range = in_range h.clean d in
     let clean : IsClean (front ++ p ∷ rest) = subst IsClean d.joined h.clean in
     record {
       points = front ++ lead_of p ∷ [];
-      clean = clean-append front (lead_of p ∷ []) (clean-front front (p ∷ rest) clean) (omega (arith, range, d.large)) (no_trail (lead_of p) [] (λ t. omega (arith, range, d.large, t.0)));
+      clean = clean-append front (lead_of p ∷ []) (clean-front front (p ∷ rest) clean) (omega (arith, range, d.large))
+          (no_trail (lead_of p) [] (λ t. omega (arith, range, d.large, t.0)));
       encoded = bytes-pushed front (lead_of p) ∙ ap (λ v. v ++ encoding (lead_of p)) (cut_by h front (p ∷ rest) k d.joined d.front_len).before.encoded;
     }
 
-pub lead_kept_units : {c : List ℕ} {n k p : ℕ} {front rest : List ℕ} → IsClean c → Divided c n k p front rest → units (front ++ lead_of p ∷ []) ≡ take n (units c)
+pub lead_kept_units : {c : List ℕ} {n k p : ℕ} {front rest : List ℕ} → IsClean c → Divided c n k p front rest
+    → units (front ++ lead_of p ∷ []) ≡ take n (units c)
 lead_kept_units {c} {n} {k} {p} {front} {rest} clean d =
     let range = in_range clean d in
     units-pushed front (lead_of p) ∙ (ap (λ u. units front ++ u) (units_one (lead_of p) (omega (arith, range, d.large))) ∙ sym d.kept)
@@ -92,4 +111,12 @@ lead_kept_units {c} {n} {k} {p} {front} {rest} clean d =
 -- the code points before an undivided pair are the front of its position
 pub front_at : {w : List ℕ} (h : IsWellFormed w) {n k : ℕ} (x : CutsUnits h.points n k None) → IsFront (units h.points) k (take n (units h.points))
 front_at h x =
-    record { front = x.front; back = x.back; splits = record { reads = record { clean = subst IsClean x.joined h.clean; same_units = ap units (sym x.joined) }; front_len = x.front_len }; same_units = sym (undivided x).kept }
+    record {
+      front = x.front;
+      back = x.back;
+      splits = record {
+        reads = record { clean = subst IsClean x.joined h.clean; same_units = ap units (sym x.joined) };
+        front_len = x.front_len;
+      };
+      same_units = sym (undivided x).kept;
+    }

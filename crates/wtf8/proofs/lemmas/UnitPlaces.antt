@@ -19,7 +19,8 @@ too_few {c} x m e =
     let whole : units c ≡ units x.front ++ units x.back = ap units x.joined ∙ units-append x.front x.back in
     omega (arith, ap length whole, length-append (units x.front) (units x.back), ap (λ b. length (units b)) e, x.counted, x.not_beyond, m)
 
-pub cut_inside : {c : List ℕ} {n place before : ℕ} (x : PointsAbout c n place before) (p : ℕ) (rest : List ℕ) → ¬ (before ≡ n) → x.back ≡ p ∷ rest → CutsUnits c n place (Some p)
+pub cut_inside : {c : List ℕ} {n place before : ℕ} (x : PointsAbout c n place before) (p : ℕ) (rest : List ℕ) → ¬ (before ≡ n) → x.back ≡ p ∷ rest
+    → CutsUnits c n place (Some p)
 cut_inside {c} {n} {place} {before} x p rest m e =
     let more = x.holds p rest e in
     let least : before ≤ n = x.not_beyond in
@@ -28,7 +29,13 @@ cut_inside {c} {n} {place} {before} x p rest m e =
       | inl h ↦ absurd (omega (arith, more, ap length (units_one p h), m, least))
       | inr h ↦ h
     ] in
-    record { front = x.front; back = x.back; joined = x.joined; front_len = x.front_len; counted = record { rest = rest; first = e; supplementary = large; inside = omega (arith, more, ap length (units_two p large), m, least, same) } }
+    record {
+      front = x.front;
+      back = x.back;
+      joined = x.joined;
+      front_len = x.front_len;
+      counted = record { rest = rest; first = e; supplementary = large; inside = omega (arith, more, ap length (units_two p large), m, least, same) };
+    }
 
 first_or_none : (c : List ℕ) → (c ≡ []) ⊎ ((p : ℕ) × (rest : List ℕ) × (c ≡ p ∷ rest))
 first_or_none [] = inl refl
@@ -40,5 +47,15 @@ all_counted {w} h place before x =
     let whole : units h.points ≡ units x.front ++ units x.back = ap units x.joined ∙ units-append x.front x.back in
     elim (first_or_none x.back) [
       | inl e ↦ omega (arith, ap length whole, length-append (units x.front) (units x.back), ap (λ b. length (units b)) e, x.counted)
-      | inr s ↦ absurd (omega (arith, x.holds s.0 s.1 s.2, ap length whole, length-append (units x.front) (units x.back), ap (λ b. length (units b)) s.2, length-append (units_of s.0) (units s.1), x.counted, (units_bounds h.points).at_least, ap length h.encoded))
+      | inr s ↦ absurd (omega (
+        arith,
+        x.holds s.0 s.1 s.2,
+        ap length whole,
+        length-append (units x.front) (units x.back),
+        ap (λ b. length (units b)) s.2,
+        length-append (units_of s.0) (units s.1),
+        x.counted,
+        (units_bounds h.points).at_least,
+        ap length h.encoded,
+      ))
     ]
