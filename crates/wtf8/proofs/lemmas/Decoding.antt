@@ -49,8 +49,7 @@ module _ {S : Type 0} (steps : S → Option ℕ → S → Type 0) where
     (
       peekable_source s,
       refl,
-      bare_call s d.0 None e
-          (subst (λ k. peekable_steps steps k None d.0) (sym d.1.1) d.1.2),
+      bare_call s d.0 None e (subst (λ k. peekable_steps steps k None d.0) (sym d.1.1) d.1.2),
     ),
   )
   drains_source s (x ∷ xs) e d =
@@ -95,8 +94,7 @@ module _ {S : Type 0} (steps : S → Option ℕ → S → Type 0) where
             (λ r u. peeked_call item.behind (units_left next) u r h) rest.all_units
       ] in
       record {
-        clean = clean_first (point_of x) (points_of items) (item_range x item.kind) rest.clean
-            (λ q c e pair. lone_lead (units_left next) q c (item.lone pair.0)
+        clean = clean_first (point_of x) (points_of items) (item_range x item.kind) rest.clean (λ q c e pair. lone_lead (units_left next) q c (item.lone pair.0)
             (subst (λ v. Drains (peekable_steps steps) (units_left next) (units v)) e rest.all_units) pair.1);
         all_units = drains-append (peekable_steps steps) (units_left s) item.behind (units_of (point_of x)) (units (points_of items)) item.taken behind;
       }

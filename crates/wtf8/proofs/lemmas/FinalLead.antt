@@ -23,8 +23,7 @@ ends_in_surrogate w f p s e =
     ap (λ i. get_or w i 0) (sym q) ∙ (ap (λ v. get_or v (length (bytes f) + k) 0) whole ∙ get_or-append-add (bytes f) row k 0) in
     record {
       enough = omega arith;
-      first = at 0 (length w - 3) (omega arith)
-          ∙ omega arith;
+      first = at 0 (length w - 3) (omega arith) ∙ omega arith;
       second = at 1 (length w - 2) (omega arith);
       third = at 2 (length w - 1) (omega arith);
     }
@@ -56,8 +55,7 @@ last_surrogate {w} h len first second =
       p.front_len,
       ap length whole,
       length-append (bytes p.front) (encoding p.point ++ bytes p.back),
-      length-append
-          (encoding p.point) (bytes p.back),
+      length-append (encoding p.point) (bytes p.back),
       length-surrogate p.point p.surrogate,
     )) in
     let joined : h.points ≡ p.front ++ p.point ∷ [] = p.joined ∙ ap (λ b. p.front ++ p.point ∷ b) none in

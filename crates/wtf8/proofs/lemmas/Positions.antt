@@ -120,8 +120,7 @@ middle_of h begin end p f b =
       };
       ends = record {
         reads = subst (λ c. Reads (c ++ f.back) (units h.points)) (sym parts) f.splits.reads;
-        front_len = ap (λ c. length (bytes c)) parts
-            ∙ f.splits.front_len;
+        front_len = ap (λ c. length (bytes c)) parts ∙ f.splits.front_len;
       };
       same_units = b.same_units;
     }

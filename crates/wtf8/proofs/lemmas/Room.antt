@@ -34,13 +34,11 @@ glued_length c d =
           let three = length-surrogate m.trail (omega (arith, m.is_trail), omega (arith, m.is_trail)) in
           let back : length (bytes d) ≡ 3 + length (bytes m.rest) = ap (λ e. length (bytes e)) m.begins
           ∙ (length-append (encoding m.trail) (bytes m.rest) ∙ ap (λ n. n + length (bytes m.rest)) three) in
-          let own : length (units d) ≡ 1 + length (units m.rest) =
-          omega (
+          let own : length (units d) ≡ 1 + length (units m.rest) = omega (
             arith,
             ap (λ e. length (units e)) m.begins,
             length-append (units_of m.trail) (units m.rest),
-            ap length
-                (units_one m.trail (omega (arith, m.is_trail))),
+            ap length (units_one m.trail (omega (arith, m.is_trail))),
           ) in
           let rest = (units_bounds m.rest).at_least in
           record { least = omega (arith, both, paired, back, own, rest); most = omega (arith, both, paired) }

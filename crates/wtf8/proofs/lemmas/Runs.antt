@@ -57,8 +57,7 @@ append_parts (c ∷ calls) more v x =
       back = p.back;
       first = (x.0, p.front, x.2, p.first, refl);
       second = p.second;
-      joined = x.4
-          ∙ (ap (λ b. x.0 ++ b) p.joined ∙ sym (append_assoc x.0 p.front p.back));
+      joined = x.4 ∙ (ap (λ b. x.0 ++ b) p.joined ∙ sym (append_assoc x.0 p.front p.back));
     }
 
 pub call_among : (calls : List Build) (i : ℕ) (call : Build) → i < length calls → call ≡ get_or calls i call → All IsNoTruncation calls → IsNoTruncation call

@@ -31,8 +31,7 @@ split_at (p ∷ c) (suc k) h s =
             front = p ∷ rest.front;
             back = rest.back;
             joined = ap (λ r. p ∷ r) rest.joined;
-            front_len = length-append (encoding p) (bytes rest.front)
-                ∙ (omega (arith, rest.front_len));
+            front_len = length-append (encoding p) (bytes rest.front) ∙ (omega (arith, rest.front_len));
           }
     ]
 

@@ -103,8 +103,7 @@ module _ (w : List ℕ) (i : ℕ) (room : i + 33 ≤ length w) where
   from_lane : (k : ℕ) → IsSurrogateLane (chunk i 32 w) (chunk (i + 1) 32 w) k → SurrogateAt w (i + k)
   from_lane k s = record {
     within = omega (arith, s.within);
-    first = sym (first_is k s.within)
-        ∙ s.first;
+    first = sym (first_is k s.within) ∙ s.first;
     second = omega (arith, second_is k s.within, s.second);
   }
 

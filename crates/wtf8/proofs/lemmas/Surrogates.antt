@@ -100,8 +100,7 @@ pub scalar_between : (f c b : List ℕ) → ((j : ℕ) → length (bytes f) ≤ 
 scalar_between f [] b none = tt
 scalar_between f (p ∷ c) b none =
     let at : (f ++ p ∷ c) ++ b ≡ f ++ p ∷ (c ++ b) = append_assoc f (p ∷ c) b in
-    let within : length (bytes f) < length (bytes (f ++ p ∷ c)) =
-    omega (
+    let within : length (bytes f) < length (bytes (f ++ p ∷ c)) = omega (
       arith,
       ap length (bytes-append f (p ∷ c)),
       length-append (bytes f) (bytes (p ∷ c)),

@@ -36,8 +36,7 @@ abbrev pub well_formed_text : (w : List ℕ) → IsUtf8 w → IsWellFormed w
 well_formed_text w u = record {
   points = chars w;
   clean = clean-scalars (chars w) (scalars-chars w u);
-  encoded = bytes_are_encodes (chars w)
-      ∙ encodes-chars w u;
+  encoded = bytes_are_encodes (chars w) ∙ encodes-chars w u;
 }
 
 abbrev pub text_at : {v w : List ℕ} → IsUtf8 v → w ≡ v → IsWellFormed w

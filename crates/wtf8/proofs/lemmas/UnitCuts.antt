@@ -58,8 +58,7 @@ divided {c} {n} {k} {p} x =
     ∙ sym (append_assoc (units x.front) (lead_of p ∷ []) (trail_of p ∷ units d.rest)))) in
     let long : length (units x.front ++ lead_of p ∷ []) ≡ n = omega (arith, length-append (units x.front) (lead_of p ∷ []), d.inside) in
     let pushed : c ≡ (x.front ++ p ∷ []) ++ d.rest = joined ∙ sym (append_assoc x.front (p ∷ []) d.rest) in
-    let pushed_len : length (bytes (x.front ++ p ∷ [])) ≡ k + 4 =
-    omega (
+    let pushed_len : length (bytes (x.front ++ p ∷ [])) ≡ k + 4 = omega (
       arith,
       ap length (bytes-pushed x.front p),
       length-append (bytes x.front) (encoding p),
@@ -81,8 +80,7 @@ divided {c} {n} {k} {p} x =
         pushed_len,
         ap (λ v. length (bytes v)) pushed,
         ap length (bytes-append (x.front ++ p ∷ []) d.rest),
-        length-append
-            (bytes (x.front ++ p ∷ [])) (bytes d.rest),
+        length-append (bytes (x.front ++ p ∷ [])) (bytes d.rest),
       );
     }
 

@@ -96,8 +96,7 @@ points_as_units (p ∷ c) (q ∷ d) h =
         | inr n ↦
             let same : q ≡ p = omega arith in
             let rest = points_as_units c d (behind (encoding p) (bytes c) (bytes d) (subst (λ k. PartInOneRow (bytes (p ∷ c)) (bytes (k ∷ d))) same h)) in
-            ap (λ k. slice_cmp nat_cmp (p ∷ c) (k ∷ d)) same
-            ∙ (cmp_behind (p ∷ []) c d ∙ (rest ∙ (sym (cmp_behind (units_of p) (units c) (units d))
+            ap (λ k. slice_cmp nat_cmp (p ∷ c) (k ∷ d)) same ∙ (cmp_behind (p ∷ []) c d ∙ (rest ∙ (sym (cmp_behind (units_of p) (units c) (units d))
             ∙ ap (λ k. slice_cmp nat_cmp (units (p ∷ c)) (units (k ∷ d))) (sym same))))
       ]
     ]
@@ -121,14 +120,12 @@ parts_at (x ∷ w) (y ∷ v) zero d both = (
   λ e. absurd (d.differ_there (omega arith) (omega arith) e),
   λ n. (
     λ h. elim (cases_lt y 0xF0) [ inl m ↦ m | inr m ↦ let back = both.1 (omega arith, m) in absurd (omega (arith, back.1)) ],
-    λ h. elim
-        (cases_lt x 0xF0) [ inl m ↦ m | inr m ↦ let there = both.0 (omega arith, m) in absurd (omega (arith, there.1)) ],
+    λ h. elim (cases_lt x 0xF0) [ inl m ↦ m | inr m ↦ let there = both.0 (omega arith, m) in absurd (omega (arith, there.1)) ],
   ),
 )
 parts_at (x ∷ w) (y ∷ v) (suc n) d both =
     let own = pair_behind x w n in
     let others = pair_behind y v n in (
       λ e. parts_at w v n (difference_behind x y w v n d) (λ h. others.0 (both.0 (own.1 h)), λ h. own.0 (both.1 (others.1 h))),
-      λ e. absurd
-          (e (ap (λ u. get_or u 0 0) d.same_before)),
+      λ e. absurd (e (ap (λ u. get_or u 0 0) d.same_before)),
     )
