@@ -3,7 +3,8 @@ use Rattle.std.specs.Prelude.{ℕ, List, [], ◌∷◌, drop}
 use Rattle.wtf8.specs.Unicode.{units_of}
 use Rattle.wtf8.specs.Units.{Unread}
 
--- What is left of a held part and unread code points behind their first unit: a held unit goes first, and behind the first unit of a code point its second one is held.
+-- What is left of a held part and unread code points behind their first unit: a held unit goes first, and behind the first unit of a code point its second one
+-- is held.
 abbrev pub left_after : List ℕ → List ℕ → Unread
 left_after (t ∷ held) c = record { held = held; points = c }
 left_after [] [] = record { held = []; points = [] }
