@@ -5,16 +5,21 @@ pub mod Clean
 pub mod Comparing
 pub mod Concatenation
 pub mod DebugTexts
+pub mod DecodedItems
 pub mod Decoding
 pub mod DifferenceLanes
 pub mod DisplayedTexts
 pub mod Encoding
 pub mod FinalLead
+pub mod FirstBytes
+pub mod FirstUnits
 pub mod FormLaws
 pub mod Forms
 pub mod Gains
 pub mod HexLanes
+pub mod ListOrder
 pub mod Lists
+pub mod Lossy
 pub mod Meeting
 pub mod PositionLaws
 pub mod Positions
@@ -24,6 +29,7 @@ pub mod Room
 pub mod RunLaws
 pub mod Runs
 pub mod Scalars
+pub mod Splits
 pub mod StringLaws
 pub mod SurrogateLanes
 pub mod Surrogates
@@ -33,6 +39,7 @@ pub mod UnitCuts
 pub mod UnitLanes
 pub mod UnitOrder
 pub mod UnitParts
+pub mod UnitPlaces
 pub mod UnitPositions
 pub mod UnitRows
 pub mod Units

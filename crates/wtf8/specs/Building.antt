@@ -30,7 +30,8 @@ abbrev pub Run : List ℕ → List Build → List ℕ → ℕ → Type 0
 Run u [] v n = (v ≡ u) × (n ≡ 0)
 Run u (call ∷ calls) v n = (mid : List ℕ) × (r : ℕ) × (m : ℕ) × Step u call mid r × Run mid calls v m × (n ≡ r + m)
 
--- What a call that was refused for want of memory leaves of units u: the same, and behind them some beginning of an extension's points; no truncation is refused so.
+-- What a call that was refused for want of memory leaves of units u: the same, and behind them some beginning of an extension's points; no truncation is
+-- refused so.
 abbrev pub LeavesRefused : List ℕ → Build → List ℕ → Type 0
 LeavesRefused u (Extend d) v = (n : ℕ) × (v ≡ u ++ units (numbers (take n d.now)))
 LeavesRefused u (Truncate k) v = ⊥

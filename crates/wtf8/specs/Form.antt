@@ -32,7 +32,8 @@ pub record IsWellFormed (w : List ℕ) : Type 0 where
   pub clean : IsClean points
   pub encoded : bytes points ≡ w
 
--- Bytes are the form of a list of units where some code points read those units and are encoded so (WTF-8, "Converting between WTF-8 and potentially ill-formed UTF-16").
+-- Bytes are the form of a list of units where some code points read those units and are encoded so (WTF-8, "Converting between WTF-8 and potentially
+-- ill-formed UTF-16").
 pub record IsForm (w u : List ℕ) : Type 0 where
   pub points : List ℕ
   pub reads : Reads points u

@@ -65,9 +65,11 @@ GlueReadsBoth = (c d a b : List ℕ) → Reads c a → Reads d b → Reads (glue
 abbrev pub GlueFormsBoth : Type 0
 GlueFormsBoth = (w v a b : List ℕ) (x : IsForm w a) (y : IsForm v b) → IsForm (bytes (glue x.points y.points)) (a ++ b)
 
--- Where a lead meets a trail, the form of both is the first form without its last three bytes, the four bytes of the pair, and the second form without its first three.
+-- Where a lead meets a trail, the form of both is the first form without its last three bytes, the four bytes of the pair, and the second form without its
+-- first three.
 abbrev pub PairFormsBoth : Type 0
-PairFormsBoth = (w v a b : List ℕ) → IsForm w a → IsForm v b → (m : MeetsAsPair a b) → IsForm ((take (length w - 3) w ++ encoding (pair m.lead m.trail)) ++ drop 3 v) (a ++ b)
+PairFormsBoth = (w v a b : List ℕ) → IsForm w a → IsForm v b → (m : MeetsAsPair a b)
+    → IsForm ((take (length w - 3) w ++ encoding (pair m.lead m.trail)) ++ drop 3 v) (a ++ b)
 
 -- Elsewhere the form of both is the one form behind the other.
 abbrev pub OthersFormBoth : Type 0

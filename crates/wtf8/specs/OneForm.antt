@@ -40,7 +40,8 @@ well_formed t = record { points = t.0; clean = t.1.0; encoded = t.1.1 }
 pub IsWellFormed-prop : (w : List ℕ) → IsProp (IsWellFormed w)
 IsWellFormed-prop w x y =
     let same : (c : List ℕ) → IsProp (IsClean c × (bytes c ≡ w)) = λ c. ×_prop (IsClean-prop c) (list_set (bytes c) w) in
-    ap well_formed (Σ_prop_path same {u = (x.points, (x.clean, x.encoded))} {v = (y.points, (y.clean, y.encoded))} (bytes-injective x.points y.points (x.encoded ∙ sym y.encoded)))
+    ap well_formed (Σ_prop_path same {u = (x.points, (x.clean, x.encoded))} {v = (y.points, (y.clean, y.encoded))}
+    (bytes-injective x.points y.points (x.encoded ∙ sym y.encoded)))
 
 abbrev Form : List ℕ → List ℕ → Type 0
 Form w u = (c : List ℕ) × ((IsClean c × (units c ≡ u)) × (bytes c ≡ w))
@@ -48,11 +49,15 @@ Form w u = (c : List ℕ) × ((IsClean c × (units c ≡ u)) × (bytes c ≡ w))
 abbrev form : {w u : List ℕ} → Form w u → IsForm w u
 form t = record { points = t.0; reads = record { clean = t.1.0.0; same_units = t.1.0.1 }; encoded = t.1.1 }
 
+abbrev form_parts : {w u : List ℕ} → IsForm w u → Form w u
+form_parts x = (x.points, ((x.reads.clean, x.reads.same_units), x.encoded))
+
 -- bytes are the form of units in one way
 pub IsForm-prop : (w u : List ℕ) → IsProp (IsForm w u)
 IsForm-prop w u x y =
-    let same : (c : List ℕ) → IsProp ((IsClean c × (units c ≡ u)) × (bytes c ≡ w)) = λ c. ×_prop (×_prop (IsClean-prop c) (list_set (units c) u)) (list_set (bytes c) w) in
-    ap form (Σ_prop_path same {u = (x.points, ((x.reads.clean, x.reads.same_units), x.encoded))} {v = (y.points, ((y.reads.clean, y.reads.same_units), y.encoded))} (bytes-injective x.points y.points (x.encoded ∙ sym y.encoded)))
+    let same : (c : List ℕ) → IsProp ((IsClean c × (units c ≡ u)) × (bytes c ≡ w)) =
+    λ c. ×_prop (×_prop (IsClean-prop c) (list_set (units c) u)) (list_set (bytes c) w) in
+    ap form (Σ_prop_path same {u = form_parts x} {v = form_parts y} (bytes-injective x.points y.points (x.encoded ∙ sym y.encoded)))
 
 AreScalar-prop : (c : List ℕ) → IsProp (AreScalar c)
 AreScalar-prop [] = Unit-prop

@@ -23,7 +23,8 @@ AsciiStandsAlone = (w u : List ℕ) (k : ℕ) → IsForm w u → k < length w �
 
 -- Such a byte is a unit by itself, between the units before it and those behind it.
 abbrev pub AsciiIsOneUnit : Type 0
-AsciiIsOneUnit = (w u f g : List ℕ) (k : ℕ) → IsForm w u → k < length w → slice_index w k < 0x80 → IsFront u k f → IsBack u (k + 1) g → u ≡ f ++ slice_index w k ∷ g
+AsciiIsOneUnit = (w u f g : List ℕ) (k : ℕ) → IsForm w u → k < length w → slice_index w k < 0x80 → IsFront u k f → IsBack u (k + 1) g
+    → u ≡ f ++ slice_index w k ∷ g
 
 -- A number below 80 that is none of the bytes is none of the units.
 abbrev pub AsciiIsNoOtherUnit : Type 0
@@ -57,7 +58,8 @@ BothAreNoLonger = (w v x a b : List ℕ) → IsForm w a → IsForm v b → IsFor
 abbrev pub PointsHaveOneToFourBytes : Type 0
 PointsHaveOneToFourBytes = (p : ℕ) → (1 ≤ length (encoding p)) × (length (encoding p) ≤ 4)
 
--- How many code points, units and bytes a list of code points has: the code points are at most as many as the units, these at most as many as the bytes, and the bytes at most three times the units and four times the code points.
+-- How many code points, units and bytes a list of code points has: the code points are at most as many as the units, these at most as many as the bytes, and
+-- the bytes at most three times the units and four times the code points.
 pub record Lengths (c : List ℕ) : Type 0 where
   pub points : length c ≤ length (units c)
   pub units_least : length (units c) ≤ length (bytes c)

@@ -31,7 +31,8 @@ StringsAreJoined = (s t both : UnitString) → both.units ≡ s.units ++ t.units
 
 -- Where a lead meets a trail it has the first string's bytes without the last three, those of the pair, and the second's without the first three.
 abbrev pub StringsArePaired : Type 0
-StringsArePaired = (s t both : UnitString) → both.units ≡ s.units ++ t.units → (m : MeetsAsPair s.units t.units) → both.bytes ≡ (take (length s.bytes - 3) s.bytes ++ encoding (pair m.lead m.trail)) ++ drop 3 t.bytes
+StringsArePaired = (s t both : UnitString) → both.units ≡ s.units ++ t.units → (m : MeetsAsPair s.units t.units)
+    → both.bytes ≡ (take (length s.bytes - 3) s.bytes ++ encoding (pair m.lead m.trail)) ++ drop 3 t.bytes
 
 -- Comparing bytes one by one is comparing code points one by one.
 abbrev pub BytesCompareAsPoints : Type 0

@@ -12,7 +12,8 @@ units_begun b = if nat_lt b 0x80 then 1 else if nat_lt b 0xC0 then 0 else if nat
 abbrev pub all_units_begun : List ℕ → ℕ
 all_units_begun w = sum_by units_begun w
 
--- The code point that holds unit n begins at a place, and so many units are before it; or n units or fewer begin among all the bytes, and the place is their end.
+-- The code point that holds unit n begins at a place, and so many units are before it; or n units or fewer begin among all the bytes, and the place is their
+-- end.
 pub record IsPlaceOfUnit (w : List ℕ) (n place before : ℕ) : Type 0 where
   pub within : place ≤ length w
   pub counted : before ≡ all_units_begun (take place w)

@@ -7,7 +7,8 @@ use Rattle.wtf8.specs.Units.{Unread}
 abbrev pub held_trail : ℕ → List ℕ
 held_trail t = if nat_eq t 0 then [] else t ∷ []
 
--- What is left of a held part and unread code points behind their first unit: a held unit goes first, and behind the first unit of a code point its second one is held.
+-- What is left of a held part and unread code points behind their first unit: a held unit goes first, and behind the first unit of a code point its second one
+-- is held.
 abbrev pub left_after : List ℕ → List ℕ → Unread
 left_after (t ∷ held) c = record { held = held; points = c }
 left_after [] [] = record { held = []; points = [] }

@@ -6,7 +6,8 @@ use Rattle.std.proofs.Common.{subst}
 use Rattle.wtf8.specs.Form.{IsForm}
 use Rattle.wtf8.specs.OneForm.{IsForm-prop}
 
--- A string of units with room to grow: its units, its bytes, that these are the well-formed form of the units, how many bytes fit without a growth, and that its own bytes do.
+-- A string of units with room to grow: its units, its bytes, that these are the well-formed form of the units, how many bytes fit without a growth, and that
+-- its own bytes do.
 pub record UnitString : Type 0 where
   pub units : List ℕ
   pub bytes : List ℕ
@@ -25,7 +26,10 @@ IsString-prop p = ×_prop (IsForm-prop p.1 p.0) le_prop
 
 -- a string is stored as its parts
 abbrev pub unit_string_code : Coded UnitString
-unit_string_code = code_by ((p : Numbers) × IsString p) (coded_sub (code_by (List ℕ × (List ℕ × ℕ)) (coded× (coded_list coded_ℕ) (coded× (coded_list coded_ℕ) coded_ℕ)) (λ p. (p.0, (p.1, p.2))) (λ q. (q.0, q.1.0, q.1.1)) (λ _. refl)) IsString IsString-prop) (λ s. ((s.units, s.bytes, s.capacity), (s.form, s.fits))) (λ q. record { units = q.0.0; bytes = q.0.1; form = q.1.0; capacity = q.0.2; fits = q.1.1 }) (λ _. refl)
+unit_string_code = code_by ((p : Numbers) × IsString p) (coded_sub
+    (code_by (List ℕ × (List ℕ × ℕ)) (coded× (coded_list coded_ℕ) (coded× (coded_list coded_ℕ) coded_ℕ)) (λ p. (p.0, (p.1, p.2))) (λ q. (q.0, q.1.0, q.1.1))
+    (λ _. refl)) IsString IsString-prop) (λ s. ((s.units, s.bytes, s.capacity), (s.form, s.fits)))
+    (λ q. record { units = q.0.0; bytes = q.0.1; form = q.1.0; capacity = q.0.2; fits = q.1.1 }) (λ _. refl)
 
 -- a number of items that is a list's length fits where that length does
 pub fits_as_items : {n m k : ℕ} → n ≡ m → n ≤ k → m ≤ k

@@ -1,5 +1,6 @@
 -- Proofs of the laws of bytes below 80: each is a code point and a unit by itself.
-use Rattle.std.proofs.Common.{◌≡◌, ◌≢◌, ◌<◌, ◌+◌, ◌-◌, ◌/◌, ◌%◌, ℕ, inl, List, [], ◌∷◌, ◌++◌, length, get_or, refl, ap, ◌∙◌, sym, subst, arith, append_assoc, length-append}
+use Rattle.std.proofs.Common.{◌≡◌, ◌≢◌, ◌<◌, ◌+◌, ◌-◌, ◌/◌, ◌%◌, ℕ, inl, List, [], ◌∷◌, ◌++◌, length, get_or, refl, ap, ◌∙◌, sym, subst, arith, append_assoc}
+use Rattle.std.proofs.Common.{length-append}
 use Rattle.std.proofs.lemmas.List.{append-nil, append_cancel_left, append_cancel_right, drop_at}
 use Rattle.std.proofs.lemmas.List.Elements.{All-cons, All-drop, All-head, All-nil}
 use Rattle.std.specs.List.{All}
@@ -9,8 +10,9 @@ use Rattle.wtf8.specs.Position.{IsFront, IsBack}
 use Rattle.wtf8.specs.PositionLaws.{AsciiStandsAlone, AsciiIsOneUnit, AsciiIsNoOtherUnit}
 use Rattle.wtf8.proofs.lemmas.Encoding.{bytes-pushed, row_of, one, two, three, four}
 use Rattle.wtf8.proofs.lemmas.PositionLaws.{front_and_back}
-use Rattle.wtf8.proofs.lemmas.Positions.{cut_at, boundary_from_byte, first_behind}
+use Rattle.wtf8.proofs.lemmas.Positions.{cut_at, boundary_from_byte}
 use Rattle.wtf8.proofs.lemmas.Readings.{well_formed_of}
+use Rattle.wtf8.proofs.lemmas.Splits.{first_behind}
 use Rattle.wtf8.proofs.lemmas.Units.{units-append, units_one, units_two}
 
 -- a byte below 80 as a code point and a unit, with what is in front of it and behind it
@@ -30,7 +32,8 @@ own_byte p r h = elim (row_of p) [
   | four l e ↦ absurd (omega (arith, rw e at h))
 ]
 
-stands : (front back u : List ℕ) → Reads (front ++ back) u → length (bytes front) < length (bytes (front ++ back)) → get_or (bytes (front ++ back)) (length (bytes front)) 0 < 0x80 → Stands u (length (bytes front)) (get_or (bytes (front ++ back)) (length (bytes front)) 0)
+stands : (front back u : List ℕ) → Reads (front ++ back) u → length (bytes front) < length (bytes (front ++ back))
+    → get_or (bytes (front ++ back)) (length (bytes front)) 0 < 0x80 → Stands u (length (bytes front)) (get_or (bytes (front ++ back)) (length (bytes front)) 0)
 stands front [] u r h low = absurd (omega (arith, ap (λ c. length (bytes c)) (append-nil front)))
 stands front (p ∷ b) u r h low =
     let at : get_or (bytes (front ++ p ∷ b)) (length (bytes front)) 0 ≡ get_or (encoding p ++ bytes b) 0 0 = first_behind front p b in
@@ -60,7 +63,8 @@ ascii_stands {w} {u} form k h low =
     let whole : bytes (c.front ++ c.back) ≡ w = ap bytes (sym c.points) ∙ form.encoded in
     let len = c.splits.front_len in
     let reads : Reads (c.front ++ c.back) u = subst (λ d. Reads d u) c.points form.reads in
-    let byte : get_or (bytes (c.front ++ c.back)) (length (bytes c.front)) 0 ≡ get_or w k 0 = ap (λ v. get_or v (length (bytes c.front)) 0) whole ∙ ap (λ n. get_or w n 0) len in
+    let byte : get_or (bytes (c.front ++ c.back)) (length (bytes c.front)) 0 ≡ get_or w k 0 = ap (λ v. get_or v (length (bytes c.front)) 0) whole
+    ∙ ap (λ n. get_or w n 0) len in
     let x = stands c.front c.back u reads (omega (arith, len, ap length whole)) (omega (arith, byte)) in
     subst (λ n. Stands u n (get_or w k 0)) len (subst (λ b. Stands u (length (bytes c.front)) b) byte x)
 
@@ -75,7 +79,8 @@ pub ascii_one_unit : AsciiIsOneUnit
 ascii_one_unit w u f g k form h low front back =
     let s = ascii_stands form k h low in
     let same_front = append_cancel_right f s.front (get_or w k 0 ∷ s.back) (front_and_back u f _ k front s.from_it ∙ sym s.whole) in
-    let same_back = append_cancel_left (s.front ++ get_or w k 0 ∷ []) g s.back (front_and_back u _ g (k + 1) s.to_it back ∙ (sym s.whole ∙ sym (append_assoc s.front (get_or w k 0 ∷ []) s.back))) in
+    let same_back = append_cancel_left (s.front ++ get_or w k 0 ∷ []) g s.back
+    (front_and_back u _ g (k + 1) s.to_it back ∙ (sym s.whole ∙ sym (append_assoc s.front (get_or w k 0 ∷ []) s.back))) in
     sym s.whole ∙ (ap (λ v. v ++ get_or w k 0 ∷ s.back) (sym same_front) ∙ ap (λ v. f ++ get_or w k 0 ∷ v) (sym same_back))
 
 -- a number below 80 that is none of the bytes is none of the units of the code points
@@ -83,7 +88,8 @@ none_of_points : (c : List ℕ) (b : ℕ) → b < 0x80 → All (λ x. x ≢ b) (
 none_of_points [] b l h = All-nil (λ x. x ≢ b)
 none_of_points (p ∷ c) b l h =
     let P : ℕ → Type 0 = λ x. x ≢ b in
-    let rest : All P (bytes c) = subst (All P) (drop_at (encoding p) (bytes c) (length (encoding p)) refl) (All-drop P (length (encoding p)) (encoding p ++ bytes c) h) in
+    let rest : All P (bytes c) = subst (All P) (drop_at (encoding p) (bytes c) (length (encoding p)) refl)
+    (All-drop P (length (encoding p)) (encoding p ++ bytes c) h) in
     let behind = none_of_points c b l rest in
     elim (row_of p) [
       | one m e ↦ rw (units_one p (omega arith)) (All-cons P p (units c) (All-head P p (bytes c) (rw e at h)) behind)
@@ -92,7 +98,8 @@ none_of_points (p ∷ c) b l h =
       | four m e ↦
           let lead = 0xD800 + (p - 0x10000) / 0x400 in
           let trail = 0xDC00 + (p - 0x10000) % 0x400 in
-          rw (units_two p m) (All-cons P lead (trail ∷ units c) (λ (q : lead ≡ b). omega (arith, q)) (All-cons P trail (units c) (λ (q : trail ≡ b). omega (arith, q)) behind))
+          rw (units_two p m) (All-cons P lead (trail ∷ units c) (λ (q : lead ≡ b). omega (arith, q))
+          (All-cons P trail (units c) (λ (q : trail ≡ b). omega (arith, q)) behind))
     ]
 
 pub ascii_no_other_unit : AsciiIsNoOtherUnit

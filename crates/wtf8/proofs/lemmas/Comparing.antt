@@ -7,7 +7,8 @@ use Rattle.wtf8.specs.Unicode.{units}
 use Rattle.wtf8.specs.Form.{Reads, bytes, IsWellFormed, IsForm}
 use Rattle.wtf8.specs.OneForm.{bytes-injective}
 use Rattle.wtf8.specs.Order.{Before}
-use Rattle.wtf8.proofs.lemmas.ByteOrder.{cmp-bytes, ordered}
+use Rattle.wtf8.proofs.lemmas.ByteOrder.{cmp-bytes}
+use Rattle.wtf8.proofs.lemmas.ListOrder.{ordered}
 use Rattle.wtf8.proofs.lemmas.Readings.{same_reading}
 
 -- a form has the code points of well-formed bytes that are its own
@@ -29,5 +30,6 @@ pub cmp_points : (c d : List ℕ) {w v : List ℕ} → bytes c ≡ w → bytes d
 cmp_points c d {w} {v} e f = ap (λ x. slice_cmp nat_cmp x v) (sym e) ∙ (ap (slice_cmp nat_cmp (bytes c)) (sym f) ∙ cmp-bytes c d)
 
 -- a comparison says which string's code points come before the other's
-pub points_order : (r : Ordering) (c d : List ℕ) {w v : List ℕ} → bytes c ≡ w → bytes d ≡ v → r ≡ slice_cmp nat_cmp w v → MatchOrdering r (Before c d) (c ≡ d) (Before d c)
+pub points_order : (r : Ordering) (c d : List ℕ) {w v : List ℕ} → bytes c ≡ w → bytes d ≡ v → r ≡ slice_cmp nat_cmp w v
+    → MatchOrdering r (Before c d) (c ≡ d) (Before d c)
 points_order r c d e f h = ordered r c d (h ∙ cmp_points c d e f)

@@ -38,13 +38,15 @@ clean-paired f l t r x y h k =
 clean-glue : (c d : List ℕ) → IsClean c → IsClean d → IsClean (glue c d)
 clean-glue c d x y =
     elim (meets_or_apart c d) [
-      | inl m ↦ subst IsClean (sym (glue_meeting c d m)) (clean-paired m.front m.lead m.trail m.rest (subst IsClean m.ends x) (subst IsClean m.begins y) m.is_lead m.is_trail)
+      | inl m ↦ subst IsClean (sym (glue_meeting c d m)) (clean-paired m.front m.lead m.trail m.rest (subst IsClean m.ends x)
+          (subst IsClean m.begins y) m.is_lead m.is_trail)
       | inr n ↦ subst IsClean (sym (glue_apart c d n)) (clean-append c d x y n)
     ]
 
 units-paired : (p q : ℕ) (d : List ℕ) → IsLead p → IsTrail q → units (pair p q ∷ d) ≡ units (p ∷ []) ++ units (q ∷ d)
 units-paired p q d h k =
-    ap (λ u. u ++ units d) (units_pair p q h k) ∙ sym (ap (λ u. (u ++ []) ++ units (q ∷ d)) (units_one p (omega arith)) ∙ ap (λ u. p ∷ (u ++ units d)) (units_one q (omega arith)))
+    ap (λ u. u ++ units d) (units_pair p q h k) ∙ sym (ap (λ u. (u ++ []) ++ units (q ∷ d)) (units_one p (omega arith))
+    ∙ ap (λ u. p ∷ (u ++ units d)) (units_one q (omega arith)))
 
 units-glue : (c d : List ℕ) → units (glue c d) ≡ units c ++ units d
 units-glue [] d = refl
@@ -69,4 +71,6 @@ pub glue_assoc : (c d e : List ℕ) → IsClean c → IsClean d → IsClean e �
 glue_assoc c d e x y z =
     let left = clean-glue (glue c d) e (clean-glue c d x y) z in
     let right = clean-glue c (glue d e) x (clean-glue d e y z) in
-    same_reading (glue (glue c d) e) (glue c (glue d e)) left right (units-glue (glue c d) e ∙ (ap (λ u. u ++ units e) (units-glue c d) ∙ (append_assoc (units c) (units d) (units e) ∙ sym (units-glue c (glue d e) ∙ ap (λ u. units c ++ u) (units-glue d e)))))
+    same_reading (glue (glue c d) e) (glue c (glue d e)) left right
+    (units-glue (glue c d) e ∙ (ap (λ u. u ++ units e) (units-glue c d)
+    ∙ (append_assoc (units c) (units d) (units e) ∙ sym (units-glue c (glue d e) ∙ ap (λ u. units c ++ u) (units-glue d e)))))

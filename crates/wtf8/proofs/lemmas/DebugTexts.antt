@@ -32,7 +32,8 @@ module _ {W : Type 0} {took : W → List ℕ → W → Type 0} where
   pub begun : {f : Formatter W} (whole : List ℕ) → IsFlush f → Continues took f whole f whole
   begun whole flush = record { flush = flush; ends = λ h w. w }
 
-  pub continued : {f g h : Formatter W} {whole rest a b : List ℕ} → Continues took f whole g rest → HasWrittenStyled took g a h → rest ≡ a ++ b → Continues took f whole h b
+  pub continued : {f g h : Formatter W} {whole rest a b : List ℕ} → Continues took f whole g rest → HasWrittenStyled took g a h → rest ≡ a ++ b
+      → Continues took f whole h b
   continued c w e = record { flush = w.flush; ends = λ h v. c.ends h (written_as (sym e) (then_written w v)) }
 
   pub ended : {f g : Formatter W} {whole rest : List ℕ} → Continues took f whole g rest → rest ≡ [] → HasWrittenStyled took f whole g

@@ -1,25 +1,16 @@
 -- The items that a decoder gives are a reading of the units of its iterator.
-use Rattle.std.proofs.Common.{◌≡◌, ◌<◌, inl, inr, ℕ, List, [], ◌∷◌, ◌++◌, Option, None, Some, Result, Ok, Err, MatchOption, MatchResult, IsTrue, is_ok, refl, sym, ap, ◌∙◌, subst, arith, append_assoc, map-id}
+use Rattle.std.proofs.Common.{◌≡◌, ◌<◌, inl, inr, ℕ, List, [], ◌∷◌, ◌++◌, Option, None, Some, Result, Ok, Err, MatchOption, MatchResult, refl, sym, ap, ◌∙◌}
+use Rattle.std.proofs.Common.{subst, arith}
 use Rattle.std.specs.Prelude.{IfSome, IsSomeAnd}
 use Rattle.std.specs.Char.{IsScalar}
 use Rattle.std.specs.declared.iter.Ahead.{Ahead}
-use Rattle.std.specs.declared.iter.Copied.{Copied}
-use Rattle.std.specs.declared.slice.Iter.{Iter}
 use Rattle.std.specs.Iterator.{Yields, Drains}
-use Rattle.std.specs.Iterator.Adapters.{peekable_steps, peekable_source, peekable_peeked, PeeksNext, copied_source, copied_steps}
-use Rattle.std.specs.Slice.Iter.{iter_rest, iter_steps}
+use Rattle.std.specs.Iterator.Adapters.{peekable_steps, peekable_source, peekable_peeked, PeeksNext}
 use Rattle.std.proofs.Math.Utf8.{scalar_cases}
-use Rattle.std.proofs.lemmas.Bool.{false≢true}
-use Rattle.std.proofs.lemmas.Iterator.{YieldsList-from_slice, items_from_drains}
-use Rattle.std.proofs.lemmas.Iterator.Consumers.{YieldsList-from_copied}
-use Rattle.std.proofs.lemmas.List.{map-append}
 use Rattle.wtf8.specs.declared.decode.DecodeUtf16.{DecodeUtf16}
 use Rattle.wtf8.specs.Decoding.{point_of, points_of, units_left, DecodesItem, decode_steps, ReadsAll}
-use Rattle.wtf8.specs.Form.{IsClean, encoding, bytes}
+use Rattle.wtf8.specs.Form.{IsClean}
 use Rattle.wtf8.specs.Unicode.{IsCodePoint, IsLead, IsTrail, IsSurrogate, units_of, units, pair}
-use Rattle.wtf8.specs.Surrogates.{AreScalar}
-use Rattle.wtf8.proofs.lemmas.Encoding.{bytes-pushed}
-use Rattle.wtf8.proofs.lemmas.Scalars.{scalar-append}
 use Rattle.wtf8.proofs.lemmas.Units.{units_one, units_pair}
 
 module _ {S A : Type 0} (steps : S → Option A → S → Type 0) where
@@ -35,28 +26,39 @@ module _ {S A : Type 0} (steps : S → Option A → S → Type 0) where
       (r.0, (r.1.0, (y.0, y.1, r.1.1), r.1.2))
 
 module _ {S : Type 0} (steps : S → Option ℕ → S → Type 0) where
-  answer_of : (p : Option (Option ℕ)) (a b c : S) (r o : Option ℕ) → MatchOption p (steps a o b) (λ k. (o ≡ k) × (b ≡ a)) → r ≡ o → c ≡ b → MatchOption p (steps a r c) (λ k. (r ≡ k) × (c ≡ a))
+  answer_of : (p : Option (Option ℕ)) (a b c : S) (r o : Option ℕ) → MatchOption p (steps a o b) (λ k. (o ≡ k) × (b ≡ a)) → r ≡ o → c ≡ b
+      → MatchOption p (steps a r c) (λ k. (r ≡ k) × (c ≡ a))
   answer_of None a b c r o h e f = subst (λ k. steps a k c) (sym e) (subst (λ k. steps a o k) (sym f) h)
   answer_of (Some k) a b c r o h e f = (e ∙ h.0, f ∙ h.1)
 
   -- a call behind a peek gives what it would have given before
   peeked_call : (s t u : Ahead S ℕ) (r : Option ℕ) → PeeksNext steps s t → peekable_steps steps t r u → peekable_steps steps s r u
   peeked_call s t u r h k =
-      let same = subst (λ p. MatchOption p (steps (peekable_source t) r (peekable_source u)) (λ o. (r ≡ o) × (peekable_source u ≡ peekable_source t))) h.2 k.1 in
+      let same = subst (λ p. MatchOption p (steps (peekable_source t) r (peekable_source u))
+      (λ o. (r ≡ o) × (peekable_source u ≡ peekable_source t))) h.2 k.1 in
       (k.0, answer_of (peekable_peeked s) (peekable_source s) (peekable_source t) (peekable_source u) r h.0 h.1 same.0 same.1)
 
   bare_call : (s t : Ahead S ℕ) (r : Option ℕ) → peekable_peeked s ≡ None → peekable_steps steps s r t → steps (peekable_source s) r (peekable_source t)
-  bare_call s t r e k = subst (λ p. MatchOption p (steps (peekable_source s) r (peekable_source t)) (λ o. (r ≡ o) × (peekable_source t ≡ peekable_source s))) e k.1
+  bare_call s t r e k = subst (λ p. MatchOption p (steps (peekable_source s) r (peekable_source t))
+      (λ o. (r ≡ o) × (peekable_source t ≡ peekable_source s))) e k.1
 
   -- where nothing is peeked the units come from the source
   drains_source : (s : Ahead S ℕ) (xs : List ℕ) → peekable_peeked s ≡ None → Drains (peekable_steps steps) s xs → Drains steps (peekable_source s) xs
-  drains_source s [] e d = (peekable_source d.0, (peekable_source s, refl, bare_call s d.0 None e (subst (λ k. peekable_steps steps k None d.0) (sym d.1.1) d.1.2)))
+  drains_source s [] e d = (
+    peekable_source d.0,
+    (
+      peekable_source s,
+      refl,
+      bare_call s d.0 None e (subst (λ k. peekable_steps steps k None d.0) (sym d.1.1) d.1.2),
+    ),
+  )
   drains_source s (x ∷ xs) e d =
       let next = d.1.1.0 in
       let r = drains_source next xs d.1.1.1.0 (d.0, (d.1.0, d.1.1.2, d.1.2)) in
       (r.0, (r.1.0, (peekable_source next, bare_call s next (Some x) e d.1.1.1, r.1.1), r.1.2))
 
-  no_trail : (p : Option (Option ℕ)) (a b : Type 0) (q : ℕ) → IsSomeAnd p (λ o. IfSome o (λ u. ¬ (IsTrail u))) → MatchOption p a (λ o. (Some q ≡ o) × b) → ¬ (IsTrail q)
+  no_trail : (p : Option (Option ℕ)) (a b : Type 0) (q : ℕ) → IsSomeAnd p (λ o. IfSome o (λ u. ¬ (IsTrail u))) → MatchOption p a (λ o. (Some q ≡ o) × b)
+      → ¬ (IsTrail q)
   no_trail None a b q h e = absurd h
   no_trail (Some o) a b q h e = subst (λ k. IfSome k (λ u. ¬ (IsTrail u))) (sym e.0) h
 
@@ -69,7 +71,8 @@ module _ {S : Type 0} (steps : S → Option ℕ → S → Type 0) where
   clean_first p (q ∷ c) range clean apart = (range, apart q c refl, clean)
 
   -- no trail comes first where the unit that is held back is none
-  lone_lead : (s : Ahead S ℕ) (q : ℕ) (d : List ℕ) → IsSomeAnd (peekable_peeked s) (λ o. IfSome o (λ u. ¬ (IsTrail u))) → Drains (peekable_steps steps) s (units (q ∷ d)) → ¬ (IsTrail q)
+  lone_lead : (s : Ahead S ℕ) (q : ℕ) (d : List ℕ) → IsSomeAnd (peekable_peeked s) (λ o. IfSome o (λ u. ¬ (IsTrail u)))
+      → Drains (peekable_steps steps) s (units (q ∷ d)) → ¬ (IsTrail q)
   lone_lead s q d lone drains trail =
       let front : units (q ∷ d) ≡ q ∷ units d = ap (λ u. u ++ units d) (units_one q (omega (arith, trail))) in
       let first = subst (λ u. Drains (peekable_steps steps) s u) front drains in
@@ -87,14 +90,17 @@ module _ {S : Type 0} (steps : S → Option ℕ → S → Type 0) where
       let rest = reads_left items next (d.0, (d.1.0, d.1.1.2, d.1.2)) in
       let behind : Drains (peekable_steps steps) item.behind (units (points_of items)) = elim item.held [
         | inl e ↦ subst (λ k. Drains (peekable_steps steps) k (units (points_of items))) e rest.all_units
-        | inr h ↦ drains_on (peekable_steps steps) item.behind (units_left next) (units (points_of items)) (λ r u. peeked_call item.behind (units_left next) u r h) rest.all_units
+        | inr h ↦ drains_on (peekable_steps steps) item.behind (units_left next) (units (points_of items))
+            (λ r u. peeked_call item.behind (units_left next) u r h) rest.all_units
       ] in
       record {
-        clean = clean_first (point_of x) (points_of items) (item_range x item.kind) rest.clean (λ q c e pair. lone_lead (units_left next) q c (item.lone pair.0) (subst (λ v. Drains (peekable_steps steps) (units_left next) (units v)) e rest.all_units) pair.1);
+        clean = clean_first (point_of x) (points_of items) (item_range x item.kind) rest.clean (λ q c e pair. lone_lead (units_left next) q c (item.lone pair.0)
+            (subst (λ v. Drains (peekable_steps steps) (units_left next) (units v)) e rest.all_units) pair.1);
         all_units = drains-append (peekable_steps steps) (units_left s) item.behind (units_of (point_of x)) (units (points_of items)) item.taken behind;
       }
 
-  pub reads_all : (items : List (Result ℕ ℕ)) (s : DecodeUtf16 S) → peekable_peeked (units_left s) ≡ None → Drains (decode_steps steps) s items → ReadsAll steps (peekable_source (units_left s)) items
+  pub reads_all : (items : List (Result ℕ ℕ)) (s : DecodeUtf16 S) → peekable_peeked (units_left s) ≡ None → Drains (decode_steps steps) s items
+      → ReadsAll steps (peekable_source (units_left s)) items
   reads_all items s e d =
       let r = reads_left items s d in
       record { clean = r.clean; all_units = drains_source (units_left s) (units (points_of items)) e r.all_units }
@@ -103,33 +109,14 @@ module _ {S : Type 0} (steps : S → Option ℕ → S → Type 0) where
   pub takes_one : (s t : Ahead S ℕ) (u p : ℕ) → p ≡ u → u < 0x10000 → peekable_steps steps s (Some u) t → Yields (peekable_steps steps) s (units_of p) t
   takes_one s t u p e h k = subst (λ us. Yields (peekable_steps steps) s us t) (sym (ap units_of e ∙ units_one u h)) (t, k, refl)
 
-  pub takes_two : (s m t : Ahead S ℕ) (l u p : ℕ) → p ≡ pair l u → IsLead l → IsTrail u → peekable_steps steps s (Some l) m → peekable_steps steps m (Some u) t → Yields (peekable_steps steps) s (units_of p) t
-  takes_two s m t l u p e lead trail h k = subst (λ us. Yields (peekable_steps steps) s us t) (sym (ap units_of e ∙ units_pair l u lead trail)) (m, h, (t, k, refl))
+  pub takes_two : (s m t : Ahead S ℕ) (l u p : ℕ) → p ≡ pair l u → IsLead l → IsTrail u → peekable_steps steps s (Some l) m → peekable_steps steps m (Some u) t
+      → Yields (peekable_steps steps) s (units_of p) t
+  takes_two s m t l u p e lead trail h k = subst (λ us. Yields (peekable_steps steps) s us t) (sym (ap units_of e ∙ units_pair l u lead trail))
+      (m, h, (t, k, refl))
 
 -- what is held back is no trail where a test of it failed
-pub held_apart : (p : Option (Option ℕ)) (o : Option ℕ) (Failed : ℕ → Type 0) → p ≡ Some o → IfSome p (λ o. IfSome o Failed) → ((u : ℕ) → Failed u → ¬ (IsTrail u)) → IsSomeAnd p (λ o. IfSome o (λ u. ¬ (IsTrail u)))
+pub held_apart : (p : Option (Option ℕ)) (o : Option ℕ) (Failed : ℕ → Type 0) → p ≡ Some o → IfSome p (λ o. IfSome o Failed)
+    → ((u : ℕ) → Failed u → ¬ (IsTrail u)) → IsSomeAnd p (λ o. IfSome o (λ u. ¬ (IsTrail u)))
 held_apart None o Failed e h apart = absurd cc
 held_apart (Some None) o Failed e h apart = tt
 held_apart (Some (Some u)) o Failed e h apart = apart u h
-
--- the bytes of the code points of items where one more came
-bytes_more : (items : List (Result ℕ ℕ)) (x : Result ℕ ℕ) → bytes (points_of (items ++ x ∷ [])) ≡ bytes (points_of items) ++ encoding (point_of x)
-bytes_more items x = ap bytes (map-append point_of items (x ∷ [])) ∙ bytes-pushed (points_of items) (point_of x)
-
--- an item that is no lone surrogate is a scalar value
-pub scalar_item : (x : Result ℕ ℕ) → MatchResult x IsScalar IsSurrogate → IsTrue (is_ok x) → ¬ (IsSurrogate (point_of x))
-scalar_item (Ok c) kind t s = elim (scalar_cases c kind) [ inl l ↦ omega (arith, s.0, l) | inr r ↦ omega (arith, s.1, r) ]
-scalar_item (Err u) kind t s = absurd (false≢true t)
-
-pub scalars_more : (items : List (Result ℕ ℕ)) (x : Result ℕ ℕ) → AreScalar (points_of items) → ¬ (IsSurrogate (point_of x)) → AreScalar (points_of (items ++ x ∷ []))
-scalars_more items x before here = subst AreScalar (sym (map-append point_of items (x ∷ []))) (scalar-append (points_of items) (point_of x ∷ []) before (here, tt))
-
--- what was appended of items where one more came
-pub item_appended : (was w new : List ℕ) (items : List (Result ℕ ℕ)) (x : Result ℕ ℕ) (p : ℕ) → w ≡ was ++ bytes (points_of items) → new ≡ w ++ encoding p → p ≡ point_of x → new ≡ was ++ bytes (points_of (items ++ x ∷ []))
-item_appended was w new items x p before here same =
-    here ∙ (ap (λ v. v ++ encoding p) before ∙ (append_assoc was (bytes (points_of items)) (encoding p) ∙ ap (λ v. was ++ v) (ap (λ n. bytes (points_of items) ++ encoding n) same ∙ sym (bytes_more items x))))
-
--- what a slice's units give is the slice
-pub slice_units : (s : Copied (Iter ℕ)) (u v : List ℕ) → iter_rest (copied_source s) ≡ v → Drains (copied_steps iter_steps) s u → u ≡ v
-slice_units s u v e d =
-    sym (map-id u) ∙ items_from_drains u (d.1.0, d.1.1, λ _. (d.0, d.1.2)) (YieldsList-from_copied (YieldsList-from_slice v e))

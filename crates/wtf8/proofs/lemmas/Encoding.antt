@@ -1,13 +1,11 @@
 -- The encoding of code points: its bytes in each row of the table, its length, and which bytes begin one.
-use Rattle.std.proofs.Common.{◌≡◌, ℕ, zero, suc, ◌+◌, ◌-◌, ◌*◌, ◌/◌, ◌%◌, ◌<◌, ◌≤◌, ◌⊎◌, inl, inr, List, [], ◌∷◌, ◌++◌, length, get_or, refl, sym, ap, ◌∙◌, arith, subst}
+use Rattle.std.proofs.Common.{◌≡◌, ℕ, zero, suc, ◌+◌, ◌/◌, ◌%◌, ◌<◌, ◌≤◌, ◌⊎◌, inl, inr, List, [], ◌∷◌, ◌++◌, length, get_or, refl, sym, ap, ◌∙◌, arith}
 use Rattle.std.proofs.lemmas.Bool.{lt-ltb, le-ltb, cases_lt}
 use Rattle.std.proofs.lemmas.List.{append-nil}
 use Rattle.std.proofs.lemmas.List.Concat.{flat_map-append}
 use Rattle.std.proofs.lemmas.Str.{encode_same}
-use Rattle.std.proofs.Math.Nat.{div-div-eq-div-mul}
-use Rattle.wtf8.specs.Unicode.{IsCodePoint, IsSurrogate}
+use Rattle.wtf8.specs.Unicode.{IsSurrogate}
 use Rattle.wtf8.specs.Form.{encoding, bytes}
-use Rattle.wtf8.specs.Gains.{BeginsWithPoint}
 use Rattle.wtf8.specs.OneForm.{encoding_is_encode}
 
 abbrev second_row : ℕ → List ℕ
@@ -79,13 +77,16 @@ inside_at (x ∷ xs) r zero t h = (t.0, t.1)
 inside_at (x ∷ xs) r (suc k) t h = inside_at xs r k t.2 (omega arith)
 
 -- the bytes behind the first are from 80 to BF
-pub inside-encoding : (p k : ℕ) (r : List ℕ) → suc k < length (encoding p) → (0x80 ≤ get_or (encoding p ++ r) (suc k) 0) × (get_or (encoding p ++ r) (suc k) 0 < 0xC0)
+pub inside-encoding : (p k : ℕ) (r : List ℕ) → suc k < length (encoding p)
+    → (0x80 ≤ get_or (encoding p ++ r) (suc k) 0) × (get_or (encoding p ++ r) (suc k) 0 < 0xC0)
 inside-encoding p k r l =
     elim (row_of p) [
       | one h e ↦ absurd (omega (arith, ap length e))
       | two _ h e ↦ let m = rw e at l in rw e (inside_at ((0x80 + p % 64) ∷ []) r k (omega arith, omega arith, tt) (omega arith))
-      | three _ h e ↦ let m = rw e at l in rw e (inside_at ((0x80 + p / 64 % 64) ∷ (0x80 + p % 64) ∷ []) r k (omega arith, omega arith, (omega arith, omega arith, tt)) (omega arith))
-      | four _ e ↦ let m = rw e at l in rw e (inside_at ((0x80 + p / 4096 % 64) ∷ (0x80 + p / 64 % 64) ∷ (0x80 + p % 64) ∷ []) r k (omega arith, omega arith, (omega arith, omega arith, (omega arith, omega arith, tt))) (omega arith))
+      | three _ h e ↦ let m = rw e at l in rw e (inside_at ((0x80 + p / 64 % 64) ∷ (0x80 + p % 64) ∷ []) r k
+          (omega arith, omega arith, (omega arith, omega arith, tt)) (omega arith))
+      | four _ e ↦ let m = rw e at l in rw e (inside_at ((0x80 + p / 4096 % 64) ∷ (0x80 + p / 64 % 64) ∷ (0x80 + p % 64) ∷ []) r k
+          (omega arith, omega arith, (omega arith, omega arith, (omega arith, omega arith, tt))) (omega arith))
     ]
 
 pub length-encoding_bounds : (p : ℕ) → (1 ≤ length (encoding p)) × (length (encoding p) ≤ 4)
@@ -110,27 +111,3 @@ bytes-pushed c p = bytes-append c (p ∷ []) ∙ ap (λ w. bytes c ++ w) (append
 -- no encoding begins another
 pub encoding_same : (p q : ℕ) (r s : List ℕ) → encoding p ++ r ≡ encoding q ++ s → (p ≡ q) × (r ≡ s)
 encoding_same p q r s e = encode_same p q r s (ap (λ x. x ++ r) (sym (encoding_is_encode p)) ∙ (e ∙ ap (λ x. x ++ s) (encoding_is_encode q)))
-
--- what the first bytes of a code point's encoding say of it
-pub record Front (w : List ℕ) (p n : ℕ) : Type 0 where
-  pub nonempty : 0 < length w
-  pub one : get_or w 0 0 < 0x80 → (p ≡ get_or w 0 0) × (n ≡ 1)
-  pub two : 0x80 ≤ get_or w 0 0 → get_or w 0 0 < 0xE0 → (0xC0 ≤ get_or w 0 0) × (1 < length w) × (0x80 ≤ get_or w 1 0) × (p ≡ (get_or w 0 0 - 0xC0) * 64 + (get_or w 1 0 - 0x80)) × (n ≡ 2)
-  pub three : 0xE0 ≤ get_or w 0 0 → get_or w 0 0 < 0xF0 → (2 < length w) × (0x80 ≤ get_or w 1 0) × (0x80 ≤ get_or w 2 0) × (p ≡ ((get_or w 0 0 - 0xE0) * 64 + (get_or w 1 0 - 0x80)) * 64 + (get_or w 2 0 - 0x80)) × (n ≡ 3)
-  pub four : 0xF0 ≤ get_or w 0 0 → (3 < length w) × (0x80 ≤ get_or w 1 0) × (0x80 ≤ get_or w 2 0) × (0x80 ≤ get_or w 3 0) × (p ≡ (((get_or w 0 0 - 0xF0) * 64 + (get_or w 1 0 - 0x80)) * 64 + (get_or w 2 0 - 0x80)) * 64 + (get_or w 3 0 - 0x80)) × (n ≡ 4)
-
-sixty_fours : (p : ℕ) → (p / 64 / 64 ≡ p / 4096) × (p / 4096 / 64 ≡ p / 262144)
-sixty_fours p = (div-div-eq-div-mul p 64 64, div-div-eq-div-mul p 4096 64)
-
-pub front-encoding : (p : ℕ) (r : List ℕ) → IsCodePoint p → Front (encoding p ++ r) p (length (encoding p))
-front-encoding p r range =
-    let d = sixty_fours p in
-    elim (row_of p) [
-      | one h e ↦ rw e (record { nonempty = omega arith; one = λ _. (refl, refl); two = λ a b. absurd (omega arith); three = λ a b. absurd (omega arith); four = λ a. absurd (omega arith) })
-      | two l h e ↦ rw e (record { nonempty = omega arith; one = λ a. absurd (omega arith); two = λ _ _. (omega arith, omega arith, omega arith, omega arith, refl); three = λ a b. absurd (omega arith); four = λ a. absurd (omega arith) })
-      | three l h e ↦ rw e (record { nonempty = omega arith; one = λ a. absurd (omega arith); two = λ a b. absurd (omega arith); three = λ _ _. (omega arith, omega arith, omega arith, omega arith, refl); four = λ a. absurd (omega arith) })
-      | four l e ↦ rw e (record { nonempty = omega arith; one = λ a. absurd (omega arith); two = λ a b. absurd (omega arith); three = λ a b. absurd (omega arith); four = λ _. (omega arith, omega arith, omega arith, omega arith, omega arith, refl) })
-    ]
-
-pub front_of : {w : List ℕ} (b : BeginsWithPoint w) → Front w b.point (length (encoding b.point))
-front_of {w} b = subst (λ (v : List ℕ). Front v b.point (length (encoding b.point))) (sym b.encoded) (front-encoding b.point b.rest b.in_range)

@@ -20,8 +20,13 @@ ends_in_surrogate w f p s e =
     let whole : w ≡ bytes f ++ row = sym e ∙ (bytes-pushed f p ∙ ap (λ v. bytes f ++ v) (encoding_three p (omega arith) (omega arith))) in
     let long : length w ≡ length (bytes f) + 3 = ap length whole ∙ length-append (bytes f) row in
     let at : (k m : ℕ) → length (bytes f) + k ≡ m → get_or w m 0 ≡ get_or row k 0 = λ k m q.
-        ap (λ i. get_or w i 0) (sym q) ∙ (ap (λ v. get_or v (length (bytes f) + k) 0) whole ∙ get_or-append-add (bytes f) row k 0) in
-    record { enough = omega arith; first = at 0 (length w - 3) (omega arith) ∙ omega arith; second = at 1 (length w - 2) (omega arith); third = at 2 (length w - 1) (omega arith) }
+    ap (λ i. get_or w i 0) (sym q) ∙ (ap (λ v. get_or v (length (bytes f) + k) 0) whole ∙ get_or-append-add (bytes f) row k 0) in
+    record {
+      enough = omega arith;
+      first = at 0 (length w - 3) (omega arith) ∙ omega arith;
+      second = at 1 (length w - 2) (omega arith);
+      third = at 2 (length w - 1) (omega arith);
+    }
 
 no_bytes : (c : List ℕ) → length (bytes c) ≡ 0 → c ≡ []
 no_bytes [] e = refl
@@ -35,13 +40,29 @@ pub record LastSurrogate (c w : List ℕ) : Type 0 where
   pub surrogate : IsSurrogate point
   pub ends : EndsInSurrogate w point
 
-pub last_surrogate : {w : List ℕ} (h : IsWellFormed w) → 3 ≤ length w → get_or w (length w - 3) 0 ≡ 0xED → 0xA0 ≤ get_or w (length w - 2) 0 → LastSurrogate h.points w
+pub last_surrogate : {w : List ℕ} (h : IsWellFormed w) → 3 ≤ length w → get_or w (length w - 3) 0 ≡ 0xED → 0xA0 ≤ get_or w (length w - 2) 0
+    → LastSurrogate h.points w
 last_surrogate {w} h len first second =
     let i = length w - 3 in
     let next : get_or w (i + 1) 0 ≡ get_or w (length w - 2) 0 = ap (λ k. get_or w k 0) (omega arith) in
     let at : SurrogateAt w i = record { within = omega arith; first = first; second = omega (arith, next, second) } in
     let p = surrogate_in h.points i (subst (λ v. SurrogateAt v i) (sym h.encoded) at) in
-    let whole : bytes p.front ++ (encoding p.point ++ bytes p.back) ≡ w = sym (bytes-append p.front (p.point ∷ p.back)) ∙ (ap bytes (sym p.joined) ∙ h.encoded) in
-    let none = no_bytes p.back (omega (arith, len, p.front_len, ap length whole, length-append (bytes p.front) (encoding p.point ++ bytes p.back), length-append (encoding p.point) (bytes p.back), length-surrogate p.point p.surrogate)) in
+    let whole : bytes p.front ++ (encoding p.point ++ bytes p.back) ≡ w = sym (bytes-append p.front (p.point ∷ p.back))
+    ∙ (ap bytes (sym p.joined) ∙ h.encoded) in
+    let none = no_bytes p.back (omega (
+      arith,
+      len,
+      p.front_len,
+      ap length whole,
+      length-append (bytes p.front) (encoding p.point ++ bytes p.back),
+      length-append (encoding p.point) (bytes p.back),
+      length-surrogate p.point p.surrogate,
+    )) in
     let joined : h.points ≡ p.front ++ p.point ∷ [] = p.joined ∙ ap (λ b. p.front ++ p.point ∷ b) none in
-    record { front = p.front; point = p.point; joined = joined; surrogate = p.surrogate; ends = ends_in_surrogate w p.front p.point p.surrogate (ap bytes (sym joined) ∙ h.encoded) }
+    record {
+      front = p.front;
+      point = p.point;
+      joined = joined;
+      surrogate = p.surrogate;
+      ends = ends_in_surrogate w p.front p.point p.surrogate (ap bytes (sym joined) ∙ h.encoded);
+    }

@@ -34,7 +34,8 @@ units_in_range : (p : ℕ) → IsCodePoint p → All IsUnit (units_of p)
 units_in_range p h =
     elim (cases_lt p 0x10000) [
       | inl l ↦ rw (units_one p l) (All-cons IsUnit p [] (omega arith) (All-nil IsUnit))
-      | inr l ↦ rw (units_two p l) (All-cons IsUnit (lead_of p) (trail_of p ∷ []) (omega arith) (All-cons IsUnit (trail_of p) [] (omega arith) (All-nil IsUnit)))
+      | inr l ↦ rw (units_two p l) (All-cons IsUnit (lead_of p) (trail_of p ∷ []) (omega arith)
+          (All-cons IsUnit (trail_of p) [] (omega arith) (All-nil IsUnit)))
     ]
 
 all_units : (c : List ℕ) → IsClean c → All IsUnit (units c)

@@ -1,5 +1,6 @@
 -- The form of the units of two lists, one behind the other: its bytes and its length.
-use Rattle.std.proofs.Common.{◌≡◌, ℕ, ◌+◌, ◌-◌, ◌≤◌, inl, inr, List, [], ◌∷◌, ◌++◌, length, take, drop, refl, sym, ap, ◌∙◌, subst, arith, append_assoc, length-append, length-drop}
+use Rattle.std.proofs.Common.{◌≡◌, ℕ, ◌+◌, ◌-◌, ◌≤◌, inl, inr, List, [], ◌∷◌, ◌++◌, length, take, drop, refl, sym, ap, ◌∙◌, subst, arith, append_assoc}
+use Rattle.std.proofs.Common.{length-append, length-drop}
 use Rattle.std.proofs.lemmas.Bool.{cases_lt}
 use Rattle.std.proofs.lemmas.List.{take_at, drop_at, length-take-le, same_from_push}
 use Rattle.wtf8.specs.Unicode.{IsLead, IsTrail, units, units_of, pair}
@@ -29,7 +30,8 @@ meeting_bytes {w} {v} m e g =
     let back : v ≡ encoding m.trail ++ bytes m.rest = sym g ∙ ap bytes m.begins in
     let lead : length (encoding m.lead) ≡ 3 = length-surrogate m.lead (omega (arith, m.is_lead), omega (arith, m.is_lead)) in
     let trail : length (encoding m.trail) ≡ 3 = length-surrogate m.trail (omega (arith, m.is_trail), omega (arith, m.is_trail)) in
-    let long : length w ≡ length (bytes m.front) + 3 = ap length front ∙ (length-append (bytes m.front) (encoding m.lead) ∙ ap (λ n. length (bytes m.front) + n) lead) in
+    let long : length w ≡ length (bytes m.front) + 3 = ap length front
+    ∙ (length-append (bytes m.front) (encoding m.lead) ∙ ap (λ n. length (bytes m.front) + n) lead) in
     record {
       three = omega (arith, long);
       three_behind = omega (arith, ap length back, length-append (encoding m.trail) (bytes m.rest), trail);
@@ -54,9 +56,11 @@ bytes_apart {w} {v} c d n e g = ap bytes (glue_apart c d n) ∙ (bytes-append c 
 -- a pair has one byte more than its lead, and two less than both
 pub length-joined : (w : List ℕ) (l t : ℕ) → IsLead l → IsTrail t → 3 ≤ length w → length (take (length w - 3) w ++ encoding (pair l t)) ≡ length w + 1
 length-joined w l t lead trail n =
-    length-append (take (length w - 3) w) (encoding (pair l t)) ∙ omega (arith, length-take-le (length w - 3) w (omega arith), ap length (encoding_four (pair l t) (omega arith)))
+    length-append (take (length w - 3) w) (encoding (pair l t))
+    ∙ omega (arith, length-take-le (length w - 3) w (omega arith), ap length (encoding_four (pair l t) (omega arith)))
 
-pub length-paired_bytes : (w v : List ℕ) (l t : ℕ) → IsLead l → IsTrail t → 3 ≤ length w → 3 ≤ length v → length (paired_bytes w l t v) + 2 ≡ length w + length v
+pub length-paired_bytes : (w v : List ℕ) (l t : ℕ) → IsLead l → IsTrail t → 3 ≤ length w → 3 ≤ length v
+    → length (paired_bytes w l t v) + 2 ≡ length w + length v
 length-paired_bytes w v l t lead trail m n =
     omega (arith, length-append (take (length w - 3) w ++ encoding (pair l t)) (drop 3 v), length-joined w l t lead trail m, length-drop 3 v)
 
@@ -82,7 +86,8 @@ lead_last c g l h e =
                 let same = same_from_push (units f) g p l (ap (λ u. units f ++ u) (sym (units_one p s)) ∙ whole) in
                 (f, z ∙ ap (λ n. f ++ n ∷ []) same.1)
             | inr s ↦
-                let two : (units f ++ lead_of p ∷ []) ++ trail_of p ∷ [] ≡ g ++ l ∷ [] = append_assoc (units f) (lead_of p ∷ []) (trail_of p ∷ []) ∙ (ap (λ u. units f ++ u) (sym (units_two p s)) ∙ whole) in
+                let two : (units f ++ lead_of p ∷ []) ++ trail_of p ∷ [] ≡ g ++ l ∷ [] = append_assoc (units f) (lead_of p ∷ []) (trail_of p ∷ [])
+                ∙ (ap (λ u. units f ++ u) (sym (units_two p s)) ∙ whole) in
                 let same = same_from_push (units f ++ lead_of p ∷ []) g (trail_of p) l two in
                 absurd (omega (arith, same.1, h.1))
           ]

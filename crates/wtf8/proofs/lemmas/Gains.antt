@@ -1,5 +1,6 @@
 -- What a call that appends to bytes, or is refused, leaves of the string that holds them.
-use Rattle.std.proofs.Common.{◌≡◌, ◌+◌, ◌-◌, ◌≤◌, List, [], ◌∷◌, ℕ, ◌++◌, length, take, drop, Result, Ok, Err, OnOk, OnErr, IsOk, refl, ap, ◌∙◌, sym, subst, arith}
+use Rattle.std.proofs.Common.{◌≡◌, ◌+◌, ◌-◌, ◌≤◌, List, [], ◌∷◌, ℕ, ◌++◌, length, take, drop, Result, Ok, Err, OnOk, OnErr, IsOk, refl, ap, ◌∙◌, sym, subst}
+use Rattle.std.proofs.Common.{arith}
 use Rattle.std.proofs.lemmas.Bool.{false≢true}
 use Rattle.std.proofs.lemmas.List.{append-nil, drop_all}
 use Rattle.wtf8.specs.Unicode.{units, units_of, pair, IsLead, IsTrail, IsCodePoint}
@@ -26,11 +27,13 @@ module _ {T E : Type 0} where
   no_err P (Ok _) ok = tt
   no_err P (Err _) ok = absurd (false≢true ok)
 
-  pub gained_or_kept : (r : Result T E) (v : List ℕ) {old new : List ℕ} → IsWellFormed old → OnOk r (GainsUnits old new v) → OnErr r (new ≡ old) → IsWellFormed new
+  pub gained_or_kept : (r : Result T E) (v : List ℕ) {old new : List ℕ} → IsWellFormed old → OnOk r (GainsUnits old new v) → OnErr r (new ≡ old)
+      → IsWellFormed new
   gained_or_kept (Ok _) v h ok err = well_formed_of (ok (units h.points) (form_of h))
   gained_or_kept (Err _) v h ok err = subst IsWellFormed (sym err) h
 
-  pub gained_units : (r : Result T E) (v : List ℕ) {old new u : List ℕ} (h : IsWellFormed old) (k : IsWellFormed new) → units h.points ≡ u → OnOk r (GainsUnits old new v) → OnOk r (units k.points ≡ u ++ v)
+  pub gained_units : (r : Result T E) (v : List ℕ) {old new u : List ℕ} (h : IsWellFormed old) (k : IsWellFormed new) → units h.points ≡ u
+      → OnOk r (GainsUnits old new v) → OnOk r (units k.points ≡ u ++ v)
   gained_units (Ok _) v {old} {new} h k e ok = units_from_form new (units k.points) _ (form_of k) (ok _ (form_of h)) ∙ ap (λ x. x ++ v) e
   gained_units (Err _) v h k e ok = tt
 
@@ -40,7 +43,8 @@ module _ {T E : Type 0} where
   kept_contents (Err _) was old new e err = contents_of new old (err ∙ ap (λ (s : UnitString). s.bytes) e)
 
   -- how long the string is that a view was appended to
-  pub added_length : (r : Result T E) (was old new : UnitString) (other : Wtf8) → was ≡ old → OnOk r (GainsUnits was.bytes new.bytes (view_units other)) → OnOk r (AddsLength old other new)
+  pub added_length : (r : Result T E) (was old new : UnitString) (other : Wtf8) → was ≡ old → OnOk r (GainsUnits was.bytes new.bytes (view_units other))
+      → OnOk r (AddsLength old other new)
   added_length (Ok _) was old new other e gains =
       let gained = gains old.units (subst (λ b. IsForm b old.units) (sym (ap (λ (s : UnitString). s.bytes) e)) old.form) in
       record {
@@ -59,7 +63,8 @@ gains_by : {w new : List ℕ} (v : List ℕ) (h : IsWellFormed w) → IsForm new
 gains_by {w} {new} v h f u x = subst (λ a. IsForm new (a ++ v)) (units_from_form w (units h.points) u (form_of h) x) f
 
 -- well-formed bytes whose first trail joined the lead at the end, and others that came behind
-pub gains_meeting : {w v : List ℕ} (h : IsWellFormed w) (k : IsWellFormed v) (m : MeetsAsPair h.points k.points) → GainsUnits w (paired_bytes w m.lead m.trail v) (units k.points)
+pub gains_meeting : {w v : List ℕ} (h : IsWellFormed w) (k : IsWellFormed v) (m : MeetsAsPair h.points k.points)
+    → GainsUnits w (paired_bytes w m.lead m.trail v) (units k.points)
 gains_meeting h k m = gains_by (units k.points) h (form_meeting (form_of h) (form_of k) m)
 
 pub gains_behind : {w v : List ℕ} (h : IsWellFormed w) (k : IsWellFormed v) → ¬ (MeetsAsPair h.points k.points) → GainsUnits w (w ++ v) (units k.points)

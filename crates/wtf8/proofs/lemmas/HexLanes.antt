@@ -1,5 +1,6 @@
 -- Hexadecimal digits in lanes.
-use Rattle.std.proofs.Common.{◌≡◌, ℕ, zero, suc, ◌+◌, ◌*◌, ◌/◌, ◌%◌, ◌<◌, ◌≤◌, false, cond, leb, ltb, inl, inr, List, [], ◌∷◌, ◌++◌, map, length, get_or, take, drop, replicate, refl, sym, ap, ◌∙◌, subst, arith, w8, flat_map, append_assoc, take-append-drop}
+use Rattle.std.proofs.Common.{◌≡◌, ℕ, zero, suc, ◌+◌, ◌*◌, ◌/◌, ◌%◌, ◌<◌, ◌≤◌, false, cond, leb, ltb, inl, inr, List, [], ◌∷◌, ◌++◌, map, length, get_or, take}
+use Rattle.std.proofs.Common.{drop, replicate, refl, sym, ap, ◌∙◌, subst, arith, w8, flat_map, append_assoc, take-append-drop}
 use Rattle.std.specs.List.{range_with_len}
 use Rattle.std.proofs.Math.Seq.{take-add}
 use Rattle.std.proofs.lemmas.List.Concat.{flat_map-append}
@@ -68,21 +69,26 @@ pub lows_below : (bytes : List ℕ) → length bytes ≡ 16 → Each1 (λ v. v <
 lows_below bytes p = subst (Each1 (λ v. v < 16)) (sym (low bytes p)) (low_below bytes)
 
 woven : (bytes : List ℕ) → length bytes ≡ 16 → placed (map digit (map (λ b. b / 16) bytes) ++ map digit (map (λ b. b % 16) bytes)) ≡ flat_map spaced bytes
-woven bytes p = subst (λ bs. placed (map digit (map (λ b. b / 16) bs) ++ map digit (map (λ b. b % 16) bs)) ≡ flat_map spaced bs) (pick_l_whole 0 bytes 16 p) refl
+woven bytes p = subst (λ bs. placed (map digit (map (λ b. b / 16) bs) ++ map digit (map (λ b. b % 16) bs)) ≡ flat_map spaced bs)
+    (pick_l_whole 0 bytes 16 p) refl
 
 -- the digits of the halves, put in their places, are those of the bytes
-pub block_text : (bytes first second : List ℕ) → length bytes ≡ 16 → first ≡ map digit (highs bytes) → second ≡ map digit (lows bytes) → placed (first ++ second) ≡ flat_map spaced bytes
+pub block_text : (bytes first second : List ℕ) → length bytes ≡ 16 → first ≡ map digit (highs bytes) → second ≡ map digit (lows bytes)
+    → placed (first ++ second) ≡ flat_map spaced bytes
 block_text bytes first second p f s =
-    ap (λ h. placed (h ++ second)) (f ∙ ap (map digit) (high bytes p)) ∙ ap (λ l. placed (map digit (map (λ b. b / 16) bytes) ++ l)) (s ∙ ap (map digit) (low bytes p)) ∙ woven bytes p
+    ap (λ h. placed (h ++ second)) (f ∙ ap (map digit) (high bytes p))
+    ∙ ap (λ l. placed (map digit (map (λ b. b / 16) bytes) ++ l)) (s ∙ ap (map digit) (low bytes p)) ∙ woven bytes p
 
 -- some bytes more behind those so far
-pub more_spaced : (text start bytes : List ℕ) (at n : ℕ) → text ≡ start ++ flat_map spaced (take at bytes) → text ++ flat_map spaced (take n (drop at bytes)) ≡ start ++ flat_map spaced (take (at + n) bytes)
+pub more_spaced : (text start bytes : List ℕ) (at n : ℕ) → text ≡ start ++ flat_map spaced (take at bytes)
+    → text ++ flat_map spaced (take n (drop at bytes)) ≡ start ++ flat_map spaced (take (at + n) bytes)
 more_spaced text start bytes at n e =
     ap (λ t. t ++ flat_map spaced (take n (drop at bytes))) e ∙ append_assoc start _ _
     ∙ ap (λ t. start ++ t) (sym (flat_map-append spaced (take at bytes) (take n (drop at bytes))) ∙ ap (flat_map spaced) (sym (take-add at n bytes)))
 
 -- and the rest of them
-pub all_spaced : (text start bytes : List ℕ) (at : ℕ) → text ≡ start ++ flat_map spaced (take at bytes) → text ++ flat_map spaced (drop at bytes) ≡ start ++ flat_map spaced bytes
+pub all_spaced : (text start bytes : List ℕ) (at : ℕ) → text ≡ start ++ flat_map spaced (take at bytes)
+    → text ++ flat_map spaced (drop at bytes) ≡ start ++ flat_map spaced bytes
 all_spaced text start bytes at e =
     ap (λ t. t ++ flat_map spaced (drop at bytes)) e ∙ append_assoc start _ _
     ∙ ap (λ t. start ++ t) (sym (flat_map-append spaced (take at bytes) (drop at bytes)) ∙ ap (flat_map spaced) (take-append-drop at bytes))

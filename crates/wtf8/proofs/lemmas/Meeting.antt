@@ -1,5 +1,6 @@
 -- Where a lead ends one list and a trail begins another, and where they do not meet so.
-use Rattle.std.proofs.Common.{◌≡◌, ℕ, ◌⊎◌, inl, inr, List, [], ◌∷◌, ◌++◌, drop, get_or, length, true, ◌&&◌, leb, refl, sym, ap, ◌∙◌, subst, arith, length-append}
+use Rattle.std.proofs.Common.{◌≡◌, ℕ, ◌⊎◌, inl, inr, List, [], ◌∷◌, ◌++◌, drop, get_or, length, true, ◌&&◌, leb, refl, sym, ap, ◌∙◌, subst, arith}
+use Rattle.std.proofs.Common.{length-append}
 use Rattle.std.proofs.lemmas.Bool.{leb-true, le-leb, and_parts, and_from, cases_Bool, false≢true}
 use Rattle.std.proofs.lemmas.List.{same_from_push}
 use Rattle.wtf8.specs.Unicode.{IsLead, IsTrail}

@@ -1,47 +1,13 @@
 -- Where a string may be cut, and what the parts are.
-use Rattle.std.proofs.Common.{◌≡◌, ◌-◌, ◌≤◌, ◌<◌, ℕ, zero, suc, inl, inr, List, [], ◌∷◌, ◌++◌, length, take, drop, get_or, refl, ap, ◌∙◌, sym, subst, arith, append_assoc, length-append}
-use Rattle.std.proofs.lemmas.Bool.{cases_lt}
-use Rattle.std.proofs.lemmas.List.{append-nil, take_at, drop_at, get_or-append_right}
+use Rattle.std.proofs.Common.{◌≡◌, ◌≤◌, ◌<◌, ℕ, List, [], ◌∷◌, ◌++◌, length, take, drop, get_or, refl, ap, ◌∙◌, sym, subst, arith, append_assoc, length-append}
+use Rattle.std.proofs.lemmas.List.{take_at, drop_at}
 use Rattle.wtf8.specs.Unicode.{units}
 use Rattle.wtf8.specs.Form.{encoding, bytes, IsClean, Reads, IsWellFormed, IsForm}
 use Rattle.wtf8.specs.Position.{Splits, IsBoundary, IsFront, IsBack, IsMiddle}
 use Rattle.wtf8.proofs.lemmas.Clean.{clean-front, clean-back}
-use Rattle.wtf8.proofs.lemmas.Encoding.{Begins, first-encoding, inside-encoding, length-encoding_bounds, bytes-append}
+use Rattle.wtf8.proofs.lemmas.Encoding.{Begins, length-encoding_bounds, bytes-append}
 use Rattle.wtf8.proofs.lemmas.Readings.{same_heads, same_points, same_reading, well_formed_of}
-
--- a list of code points as a front whose bytes are so many, and what follows
-pub record Split (c : List ℕ) (k : ℕ) : Type 0 where
-  pub front : List ℕ
-  pub back : List ℕ
-  pub joined : c ≡ front ++ back
-  pub front_len : length (bytes front) ≡ k
-
--- bytes may be cut at their end, and where a code point begins
-pub split_at : (c : List ℕ) (k : ℕ) → k ≤ length (bytes c) → (k < length (bytes c) → Begins (get_or (bytes c) k 0)) → Split c k
-split_at c zero h s = record { front = []; back = c; joined = refl; front_len = refl }
-split_at [] (suc k) h s = absurd (omega arith)
-split_at (p ∷ c) (suc k) h s =
-    let n = length-encoding_bounds p in
-    let whole = length-append (encoding p) (bytes c) in
-    elim (cases_lt (suc k) (length (encoding p))) [
-      | inl l ↦ let inside = inside-encoding p k (bytes c) l in
-          absurd (elim ((s (omega arith)).start) [ inl b ↦ omega arith | inr b ↦ omega arith ])
-      | inr l ↦
-          let at : (suc k < length (encoding p ++ bytes c)) → get_or (encoding p ++ bytes c) (suc k) 0 ≡ get_or (bytes c) (suc k - length (encoding p)) 0 = λ _. get_or-append_right (encoding p) (bytes c) (length (encoding p)) (suc k) 0 refl l in
-          let rest = split_at c (suc k - length (encoding p)) (omega arith) (λ m. let q : suc k < length (encoding p ++ bytes c) = omega arith in subst Begins (at q) (s q)) in
-          record { front = p ∷ rest.front; back = rest.back; joined = ap (λ r. p ∷ r) rest.joined; front_len = length-append (encoding p) (bytes rest.front) ∙ (omega (arith, rest.front_len)) }
-    ]
-
--- the byte behind the bytes of a front is the first of the next code point
-pub first_behind : (front : List ℕ) (p : ℕ) (b : List ℕ) → get_or (bytes (front ++ p ∷ b)) (length (bytes front)) 0 ≡ get_or (encoding p ++ bytes b) 0 0
-first_behind front p b =
-    let n = length (bytes front) in
-    let start : n - n ≡ 0 = omega arith in
-    ap (λ w. get_or w n 0) (bytes-append front (p ∷ b)) ∙ (get_or-append_right (bytes front) (encoding p ++ bytes b) n n 0 refl (omega arith) ∙ ap (λ k. get_or (encoding p ++ bytes b) k 0) start)
-
-begins_behind : (f b : List ℕ) → length (bytes f) < length (bytes (f ++ b)) → Begins (get_or (bytes (f ++ b)) (length (bytes f)) 0)
-begins_behind f [] h = absurd (omega (arith, ap (λ c. length (bytes c)) (append-nil f)))
-begins_behind f (p ∷ b) h = subst Begins (sym (first_behind f p b)) (first-encoding p (bytes b))
+use Rattle.wtf8.proofs.lemmas.Splits.{split_at, begins_behind}
 
 -- a front and a back of the code points, and the bytes before and behind the place where they meet
 pub record Cut (w : List ℕ) (h : IsWellFormed w) (k : ℕ) : Type 0 where
@@ -76,13 +42,16 @@ cut_at h k b =
     let reads = b.splits.reads in
     cut_by h b.front b.back k (same_reading h.points (b.front ++ b.back) h.clean reads.clean (sym reads.same_units)) b.splits.front_len
 
-pub boundary_of : {w : List ℕ} (h : IsWellFormed w) (front back : List ℕ) (k : ℕ) → h.points ≡ front ++ back → length (bytes front) ≡ k → IsBoundary (units h.points) k
+pub boundary_of : {w : List ℕ} (h : IsWellFormed w) (front back : List ℕ) (k : ℕ) → h.points ≡ front ++ back → length (bytes front) ≡ k
+    → IsBoundary (units h.points) k
 boundary_of h front back k e n = record { front = front; back = back; splits = (cut_by h front back k e n).splits }
 
-pub points_before : {w v : List ℕ} (h : IsWellFormed w) (p : IsWellFormed v) (front back : List ℕ) (k : ℕ) → h.points ≡ front ++ back → length (bytes front) ≡ k → v ≡ take k w → p.points ≡ front
+pub points_before : {w v : List ℕ} (h : IsWellFormed w) (p : IsWellFormed v) (front back : List ℕ) (k : ℕ) → h.points ≡ front ++ back → length (bytes front) ≡ k
+    → v ≡ take k w → p.points ≡ front
 points_before h p front back k e n d = same_points p (cut_by h front back k e n).before d
 
-pub points_behind : {w v : List ℕ} (h : IsWellFormed w) (p : IsWellFormed v) (front back : List ℕ) (k : ℕ) → h.points ≡ front ++ back → length (bytes front) ≡ k → v ≡ drop k w → p.points ≡ back
+pub points_behind : {w v : List ℕ} (h : IsWellFormed w) (p : IsWellFormed v) (front back : List ℕ) (k : ℕ) → h.points ≡ front ++ back → length (bytes front) ≡ k
+    → v ≡ drop k w → p.points ≡ back
 points_behind h p front back k e n d = same_points p (cut_by h front back k e n).behind d
 
 -- the bytes before a position are the form of the units of the code points before it
@@ -96,14 +65,16 @@ front_form h k v f =
 -- what the test of one byte says
 pub boundary_from_byte : {w : List ℕ} (h : IsWellFormed w) (k : ℕ) → k ≤ length w → (k < length w → Begins (get_or w k 0)) → IsBoundary (units h.points) k
 boundary_from_byte {w} h k within start =
-    let cut = split_at h.points k (omega (arith, ap length h.encoded)) (λ m. subst (λ v. Begins (get_or v k 0)) (sym h.encoded) (start (omega (arith, ap length h.encoded)))) in
+    let cut = split_at h.points k (omega (arith, ap length h.encoded))
+    (λ m. subst (λ v. Begins (get_or v k 0)) (sym h.encoded) (start (omega (arith, ap length h.encoded)))) in
     boundary_of h cut.front cut.back k cut.joined cut.front_len
 
 pub byte_from_boundary : {w : List ℕ} (h : IsWellFormed w) (k : ℕ) → IsBoundary (units h.points) k → k < length w → Begins (get_or w k 0)
 byte_from_boundary {w} h k b m =
     let c = cut_at h k b in
     let whole : bytes (c.front ++ c.back) ≡ w = ap bytes (sym c.points) ∙ h.encoded in
-    subst (λ v. Begins (get_or v k 0)) whole (subst (λ n. Begins (get_or (bytes (c.front ++ c.back)) n 0)) c.splits.front_len (begins_behind c.front c.back (omega (arith, c.splits.front_len, ap length whole))))
+    subst (λ v. Begins (get_or v k 0)) whole (subst (λ n. Begins (get_or (bytes (c.front ++ c.back)) n 0)) c.splits.front_len
+    (begins_behind c.front c.back (omega (arith, c.splits.front_len, ap length whole))))
 
 -- the units before a position are the same in each splitting
 pub same_front : (u : List ℕ) (k : ℕ) (v w : List ℕ) → IsFront u k v → IsFront u k w → v ≡ w
@@ -133,15 +104,23 @@ front_points : {w v : List ℕ} (h : IsWellFormed w) (k : ℕ) (p : IsWellFormed
 front_points h k p f = same_reading p.points f.front p.clean (clean-front f.front f.back f.splits.reads.clean) (sym f.same_units)
 
 -- the back of a front is the middle
-pub middle_of : {w v : List ℕ} (h : IsWellFormed w) (begin end : ℕ) (p : IsWellFormed v) {u : List ℕ} → IsFront (units h.points) end (units p.points) → IsBack (units p.points) begin u → IsMiddle (units h.points) begin end u
+pub middle_of : {w v : List ℕ} (h : IsWellFormed w) (begin end : ℕ) (p : IsWellFormed v) {u : List ℕ} → IsFront (units h.points) end (units p.points)
+    → IsBack (units p.points) begin u → IsMiddle (units h.points) begin end u
 middle_of h begin end p f b =
     let points = front_points h end p f in
-    let parts : b.front ++ b.back ≡ f.front = same_reading (b.front ++ b.back) f.front b.splits.reads.clean (clean-front f.front f.back f.splits.reads.clean) (b.splits.reads.same_units ∙ ap units points) in
+    let parts : b.front ++ b.back ≡ f.front = same_reading (b.front ++ b.back) f.front b.splits.reads.clean (clean-front f.front f.back f.splits.reads.clean)
+    (b.splits.reads.same_units ∙ ap units points) in
     record {
       front = b.front;
       middle = b.back;
       back = f.back;
-      begins = record { reads = subst (λ c. Reads c (units h.points)) (ap (λ c. c ++ f.back) (sym parts) ∙ append_assoc b.front b.back f.back) f.splits.reads; front_len = b.splits.front_len };
-      ends = record { reads = subst (λ c. Reads (c ++ f.back) (units h.points)) (sym parts) f.splits.reads; front_len = ap (λ c. length (bytes c)) parts ∙ f.splits.front_len };
+      begins = record {
+        reads = subst (λ c. Reads c (units h.points)) (ap (λ c. c ++ f.back) (sym parts) ∙ append_assoc b.front b.back f.back) f.splits.reads;
+        front_len = b.splits.front_len;
+      };
+      ends = record {
+        reads = subst (λ c. Reads (c ++ f.back) (units h.points)) (sym parts) f.splits.reads;
+        front_len = ap (λ c. length (bytes c)) parts ∙ f.splits.front_len;
+      };
       same_units = b.same_units;
     }

@@ -55,7 +55,8 @@ same_reading (p ∷ c) (q ∷ d) x y e =
       | inr h ↦ elim (cases_lt q 0x10000) [
         | inl k ↦ absurd (apart q p d c y x k h (sym e))
         | inr k ↦
-            let leads = same_heads (lead_of p) (lead_of q) (trail_of p ∷ units c) (trail_of q ∷ units d) (sym (units-cons_two p c h) ∙ (e ∙ units-cons_two q d k)) in
+            let leads = same_heads (lead_of p) (lead_of q) (trail_of p ∷ units c) (trail_of q ∷ units d)
+            (sym (units-cons_two p c h) ∙ (e ∙ units-cons_two q d k)) in
             let trails = same_heads (trail_of p) (trail_of q) (units c) (units d) leads.1 in
             let same : p ≡ q = omega (arith, leads.0, trails.0) in
             ap (λ n. n ∷ c) same ∙ ap (λ r. q ∷ r) (same_reading c d (clean-rest p c x) (clean-rest q d y) trails.1)
@@ -101,7 +102,13 @@ pub record FirstOf (c w : List ℕ) : Type 0 where
 
 first_by : (c w : List ℕ) → IsClean c → bytes c ≡ w → 0 < length w → FirstOf c w
 first_by [] w x e n = absurd (omega (arith, ap length e))
-first_by (p ∷ c) w x e n = record { begins = record { point = p; rest = bytes c; in_range = clean-first p c x; encoded = sym e }; rest = c; points = refl; clean = clean-rest p c x; encoded = refl }
+first_by (p ∷ c) w x e n = record {
+  begins = record { point = p; rest = bytes c; in_range = clean-first p c x; encoded = sym e };
+  rest = c;
+  points = refl;
+  clean = clean-rest p c x;
+  encoded = refl;
+}
 
 pub first_of : {w : List ℕ} (h : IsWellFormed w) → 0 < length w → FirstOf h.points w
 first_of {w} h n = first_by h.points w h.clean h.encoded n
@@ -112,7 +119,8 @@ pub record Taken (w : List ℕ) (h : IsWellFormed w) (p n : ℕ) : Type 0 where
   pub rest : IsWellFormed (drop n w)
   pub joined : h.points ≡ p ∷ rest.points
 
-pub taken : {w : List ℕ} (h : IsWellFormed w) (p n : ℕ) → 0 < length w → ((q : ℕ) (r : List ℕ) → IsCodePoint q → w ≡ encoding q ++ r → (p ≡ q) × (n ≡ length (encoding q))) → Taken w h p n
+pub taken : {w : List ℕ} (h : IsWellFormed w) (p n : ℕ) → 0 < length w
+    → ((q : ℕ) (r : List ℕ) → IsCodePoint q → w ≡ encoding q ++ r → (p ≡ q) × (n ≡ length (encoding q))) → Taken w h p n
 taken {w} h p n long read =
     let f = first_of h long in
     let b = f.begins in

@@ -1,67 +1,17 @@
 -- Surrogates replaced by U+FFFD: the lossy list, and bytes in which it is written over them one by one.
-use Rattle.std.proofs.Common.{◌≡◌, ◌≤◌, ◌+◌, ℕ, List, [], ◌∷◌, ◌++◌, length, take, drop, refl, ap, ◌∙◌, sym, subst, arith, append_assoc, length-append, true, inl, inr, lit≤, lit<}
-use Rattle.std.proofs.lemmas.Bool.{cases_lt, le-leb, lt-leb}
-use Rattle.std.proofs.lemmas.List.{append-nil, append_cancel_left, map-append, take_at, drop_at}
+use Rattle.std.proofs.Common.{◌≡◌, ◌≤◌, ◌+◌, ℕ, List, [], ◌∷◌, ◌++◌, length, take, drop, refl, ap, ◌∙◌, sym, subst, arith, append_assoc, length-append, lit≤}
+use Rattle.std.proofs.Common.{lit<}
+use Rattle.std.proofs.lemmas.List.{append-nil, append_cancel_left, take_at, drop_at}
 use Rattle.std.specs.Str.{IsUtf8}
-use lib.Utf8.{scalars}
 use Rattle.wtf8.specs.Unicode.{IsSurrogate}
 use Rattle.wtf8.specs.Form.{encoding, bytes, IsClean, IsWellFormed}
-use Rattle.wtf8.specs.OneForm.{bytes_are_encodes}
 use Rattle.wtf8.specs.Surrogates.{AreScalar, replaced, lossy}
 use Rattle.wtf8.specs.SurrogateSearch.{SurrogateAt, IsLeast}
-use Rattle.wtf8.proofs.lemmas.Clean.{clean-first, clean-front, clean-rest, clean-back}
+use Rattle.wtf8.proofs.lemmas.Clean.{clean-front, clean-rest, clean-back}
 use Rattle.wtf8.proofs.lemmas.Encoding.{encoding_three, length-surrogate, bytes-append}
+use Rattle.wtf8.proofs.lemmas.Lossy.{lossy-append, lossy-scalar, replaced_surrogate}
 use Rattle.wtf8.proofs.lemmas.Positions.{begun}
-use Rattle.wtf8.proofs.lemmas.Surrogates.{surrogate_in, scalar_from_none, scalar_between, scalar_true, utf8_of}
-
--- a code point is a surrogate, which is replaced, or a scalar value, which stays
-pub data Kind (p : ℕ) : Type 0 where
-  surrogate : IsSurrogate p → replaced p ≡ 0xFFFD → Kind p
-  scalar_value : ¬ (IsSurrogate p) → replaced p ≡ p → Kind p
-
-pub kind_of : (p : ℕ) → Kind p
-unfolding replaced
-kind_of p =
-    elim (cases_lt p 0xD800) [
-      | inl h ↦ scalar_value (λ s. omega arith) (rw (lt-leb 0xD800 p h) refl)
-      | inr h ↦ elim (cases_lt p 0xE000) [
-        | inl k ↦ surrogate (h, omega arith) (rw (le-leb 0xD800 p h, le-leb p 0xDFFF (omega arith)) refl)
-        | inr k ↦ scalar_value (λ s. omega arith) (rw (le-leb 0xD800 p h, lt-leb p 0xDFFF (omega arith)) refl)
-      ]
-    ]
-
-pub lossy-append : (c d : List ℕ) → lossy (c ++ d) ≡ lossy c ++ lossy d
-lossy-append c d = map-append replaced c d
-
-pub lossy-scalar : (c : List ℕ) → AreScalar c → lossy c ≡ c
-lossy-scalar [] s = refl
-lossy-scalar (p ∷ c) s = elim (kind_of p) [
-  | surrogate k e ↦ absurd (s.0 k)
-  | scalar_value n e ↦ rw (e, lossy-scalar c s.1) refl
-]
-
--- it is as long: a surrogate has three bytes too
-pub length-lossy : (c : List ℕ) → length (bytes (lossy c)) ≡ length (bytes c)
-length-lossy [] = refl
-length-lossy (p ∷ c) =
-    let r = length-lossy c in
-    let whole = length-append (encoding (replaced p)) (bytes (lossy c)) in
-    let here = length-append (encoding p) (bytes c) in
-    elim (kind_of p) [
-      | surrogate k e ↦ omega (arith, ap (λ q. length (encoding q)) e, ap length (encoding_three 0xFFFD (lit≤ tt) (lit< tt)), length-surrogate p k)
-      | scalar_value n e ↦ omega (arith, ap (λ q. length (encoding q)) e)
-    ]
-
-pub scalars-lossy : (c : List ℕ) → IsClean c → scalars (lossy c) ≡ true
-scalars-lossy [] x = refl
-scalars-lossy (p ∷ c) x = elim (kind_of p) [
-  | surrogate k e ↦ rw e (scalars-lossy c (clean-rest p c x))
-  | scalar_value n e ↦ rw (e, scalar_true p (clean-first p c x) n) (scalars-lossy c (clean-rest p c x))
-]
-
--- the bytes of the list with surrogates replaced are text
-pub utf8_lossy_points : (c : List ℕ) → IsClean c → IsUtf8 (bytes (lossy c))
-utf8_lossy_points c x = (lossy c, (scalars-lossy c x, sym (bytes_are_encodes (lossy c))))
+use Rattle.wtf8.proofs.lemmas.Surrogates.{surrogate_in, scalar_from_none, scalar_between, utf8_of}
 
 -- While surrogates are replaced from the front on: some code points are done, their bytes end at `from`, and the others stand behind them as they were.
 pub record Replacing (c w : List ℕ) (from : ℕ) : Type 0 where
@@ -79,26 +29,22 @@ replacing_end c w from r none =
     let plain = scalar_from_none (lossy r.done) r.rest (λ j l. subst (λ v. ¬ (SurrogateAt v j)) r.so_far (none j (omega (arith, l, r.place)))) in
     r.so_far ∙ (ap (λ d. bytes (lossy r.done ++ d)) (sym (lossy-scalar r.rest plain)) ∙ ap bytes (sym (lossy-append r.done r.rest) ∙ ap lossy (sym r.joined)))
 
-pub replaced_surrogate : (p : ℕ) → IsSurrogate p → replaced p ≡ 0xFFFD
-replaced_surrogate p s = elim (kind_of p) [ surrogate k e ↦ e | scalar_value n e ↦ absurd (n s) ]
-
-pub replaced_scalar : (p : ℕ) → ¬ (IsSurrogate p) → replaced p ≡ p
-replaced_scalar p n = elim (kind_of p) [ surrogate k e ↦ absurd (n k) | scalar_value m e ↦ e ]
-
 -- a string about a surrogate, in bytes
 pub record Around (w : List ℕ) (front : List ℕ) (found : ℕ) (back : List ℕ) : Type 0 where
   pub before : take found w ≡ bytes front
   pub behind : drop (found + 3) w ≡ bytes back
   pub within : found + 3 ≤ length w
 
-pub around : (w front : List ℕ) (p : ℕ) (back : List ℕ) (found : ℕ) → w ≡ bytes (front ++ p ∷ back) → length (bytes front) ≡ found → IsSurrogate p → Around w front found back
+pub around : (w front : List ℕ) (p : ℕ) (back : List ℕ) (found : ℕ) → w ≡ bytes (front ++ p ∷ back) → length (bytes front) ≡ found → IsSurrogate p
+    → Around w front found back
 around w front p back found e n s =
     let three = length-surrogate p s in
     let whole : w ≡ bytes front ++ (encoding p ++ bytes back) = e ∙ bytes-append front (p ∷ back) in
     let other : w ≡ (bytes front ++ encoding p) ++ bytes back = whole ∙ sym (append_assoc (bytes front) (encoding p) (bytes back)) in
     record {
       before = ap (take found) whole ∙ take_at (bytes front) (encoding p ++ bytes back) found n;
-      behind = ap (drop (found + 3)) other ∙ drop_at (bytes front ++ encoding p) (bytes back) (found + 3) (omega (arith, n, three, length-append (bytes front) (encoding p)));
+      behind = ap (drop (found + 3)) other ∙ drop_at (bytes front ++ encoding p) (bytes back) (found + 3)
+          (omega (arith, n, three, length-append (bytes front) (encoding p)));
       within = omega (arith, n, three, ap length whole, length-append (bytes front) (encoding p ++ bytes back), length-append (encoding p) (bytes back));
     }
 
@@ -111,18 +57,36 @@ replacing_step c w from found r least =
     let p = surrogate_in (lossy r.done ++ r.rest) found (subst (λ v. SurrogateAt v found) r.so_far least.here) in
     let b = begun (lossy r.done) r.rest p.front (p.point ∷ p.back) p.joined (omega (arith, r.place, p.front_len, least.not_before)) in
     let a = around w p.front p.point p.back found (r.so_far ∙ ap bytes p.joined) p.front_len p.surrogate in
-    let rest : r.rest ≡ b.more ++ p.point ∷ p.back = append_cancel_left (lossy r.done) r.rest (b.more ++ p.point ∷ p.back) (p.joined ∙ (ap (λ d. d ++ p.point ∷ p.back) b.joined ∙ append_assoc (lossy r.done) b.more (p.point ∷ p.back))) in
-    let plain : AreScalar b.more = scalar_between (lossy r.done) b.more (p.point ∷ p.back) (λ j l u s. least.none_between j (omega (arith, r.place)) (omega (arith, p.front_len, ap (λ d. length (bytes d)) b.joined)) (subst (λ v. SurrogateAt v j) (sym (r.so_far ∙ ap bytes (p.joined ∙ ap (λ d. d ++ p.point ∷ p.back) b.joined))) s)) in
-    let done : lossy ((r.done ++ b.more) ++ p.point ∷ []) ≡ p.front ++ 0xFFFD ∷ [] = lossy-append (r.done ++ b.more) (p.point ∷ []) ∙ (ap (λ d. d ++ lossy (p.point ∷ [])) (lossy-append r.done b.more ∙ (ap (λ d. lossy r.done ++ d) (lossy-scalar b.more plain) ∙ sym b.joined)) ∙ ap (λ q. p.front ++ q ∷ []) (replaced_surrogate p.point p.surrogate)) in
+    let rest : r.rest ≡ b.more ++ p.point ∷ p.back = append_cancel_left (lossy r.done) r.rest (b.more ++ p.point ∷ p.back)
+    (p.joined ∙ (ap (λ d. d ++ p.point ∷ p.back) b.joined ∙ append_assoc (lossy r.done) b.more (p.point ∷ p.back))) in
+    let plain : AreScalar b.more = scalar_between (lossy r.done) b.more (p.point ∷ p.back)
+    (λ j l u s. least.none_between j (omega (arith, r.place)) (omega (arith, p.front_len, ap (λ d. length (bytes d)) b.joined))
+    (subst (λ v. SurrogateAt v j) (sym (r.so_far ∙ ap bytes (p.joined ∙ ap (λ d. d ++ p.point ∷ p.back) b.joined))) s)) in
+    let done : lossy ((r.done ++ b.more) ++ p.point ∷ []) ≡ p.front ++ 0xFFFD ∷ [] = lossy-append (r.done ++ b.more) (p.point ∷ [])
+    ∙ (ap (λ d. d ++ lossy (p.point ∷ [])) (lossy-append r.done b.more ∙ (ap (λ d. lossy r.done ++ d) (lossy-scalar b.more plain) ∙ sym b.joined))
+    ∙ ap (λ q. p.front ++ q ∷ []) (replaced_surrogate p.point p.surrogate)) in
     let sign : encoding 0xFFFD ≡ 0xEF ∷ 0xBF ∷ 0xBD ∷ [] = encoding_three 0xFFFD (lit≤ tt) (lit< tt) in
     record {
       within = a.within;
       next = record {
         done = (r.done ++ b.more) ++ p.point ∷ [];
         rest = p.back;
-        joined = r.joined ∙ (ap (λ d. r.done ++ d) rest ∙ (sym (append_assoc r.done b.more (p.point ∷ p.back)) ∙ sym (append_assoc (r.done ++ b.more) (p.point ∷ []) p.back)));
-        so_far = ap (λ v. v ++ (0xEF ∷ 0xBF ∷ 0xBD ∷ drop (found + 3) w)) a.before ∙ (ap (λ v. bytes p.front ++ (0xEF ∷ 0xBF ∷ 0xBD ∷ v)) a.behind ∙ (ap (λ v. bytes p.front ++ (v ++ bytes p.back)) (sym sign) ∙ (sym (bytes-append p.front (0xFFFD ∷ p.back)) ∙ (ap bytes (sym (append_assoc p.front (0xFFFD ∷ []) p.back)) ∙ ap (λ d. bytes (d ++ p.back)) (sym done)))));
-        place = omega (arith, ap (λ d. length (bytes d)) done, ap length (bytes-append p.front (0xFFFD ∷ [])), length-append (bytes p.front) (bytes (0xFFFD ∷ [])), ap length (append-nil (encoding 0xFFFD)), ap length sign, p.front_len);
+        joined = r.joined ∙ (ap (λ d. r.done ++ d) rest ∙ (sym (append_assoc r.done b.more (p.point ∷ p.back))
+            ∙ sym (append_assoc (r.done ++ b.more) (p.point ∷ []) p.back)));
+        so_far = ap (λ v. v ++ (0xEF ∷ 0xBF ∷ 0xBD ∷ drop (found + 3) w)) a.before
+            ∙ (ap (λ v. bytes p.front ++ (0xEF ∷ 0xBF ∷ 0xBD ∷ v)) a.behind
+            ∙ (ap (λ v. bytes p.front ++ (v ++ bytes p.back)) (sym sign)
+            ∙ (sym (bytes-append p.front (0xFFFD ∷ p.back)) ∙ (ap bytes (sym (append_assoc p.front (0xFFFD ∷ []) p.back))
+            ∙ ap (λ d. bytes (d ++ p.back)) (sym done)))));
+        place = omega (
+          arith,
+          ap (λ d. length (bytes d)) done,
+          ap length (bytes-append p.front (0xFFFD ∷ [])),
+          length-append (bytes p.front) (bytes (0xFFFD ∷ [])),
+          ap length (append-nil (encoding 0xFFFD)),
+          ap length sign,
+          p.front_len,
+        );
       };
     }
 
@@ -139,10 +103,15 @@ parted {w} h found least =
     let whole : w ≡ bytes (p.front ++ p.point ∷ p.back) = sym h.encoded ∙ ap bytes p.joined in
     let a = around w p.front p.point p.back found whole p.front_len p.surrogate in
     let clean : IsClean (p.front ++ p.point ∷ p.back) = subst IsClean p.joined h.clean in
-    let plain : AreScalar p.front = scalar_between [] p.front (p.point ∷ p.back) (λ j l u s. least.none_between j l (omega (arith, p.front_len)) (subst (λ v. SurrogateAt v j) (sym whole) s)) in
+    let plain : AreScalar p.front = scalar_between [] p.front (p.point ∷ p.back)
+    (λ j l u s. least.none_between j l (omega (arith, p.front_len)) (subst (λ v. SurrogateAt v j) (sym whole) s)) in
     record {
       within = a.within;
       text = subst IsUtf8 (sym a.before) (utf8_of p.front (clean-front p.front (p.point ∷ p.back) clean) plain);
       rest = record { points = p.back; clean = clean-rest p.point p.back (clean-back p.front (p.point ∷ p.back) clean); encoded = sym a.behind };
-      lossy_parts = ap (λ c. bytes (lossy c)) p.joined ∙ (ap bytes (lossy-append p.front (p.point ∷ p.back)) ∙ (bytes-append (lossy p.front) (lossy (p.point ∷ p.back)) ∙ (ap (λ c. bytes c ++ bytes (replaced p.point ∷ lossy p.back)) (lossy-scalar p.front plain) ∙ (ap (λ q. bytes p.front ++ bytes (q ∷ lossy p.back)) (replaced_surrogate p.point p.surrogate) ∙ ap (λ v. v ++ bytes (0xFFFD ∷ lossy p.back)) (sym a.before)))));
+      lossy_parts = ap (λ c. bytes (lossy c)) p.joined ∙ (ap bytes (lossy-append p.front (p.point ∷ p.back))
+          ∙ (bytes-append (lossy p.front) (lossy (p.point ∷ p.back))
+          ∙ (ap (λ c. bytes c ++ bytes (replaced p.point ∷ lossy p.back)) (lossy-scalar p.front plain)
+          ∙ (ap (λ q. bytes p.front ++ bytes (q ∷ lossy p.back)) (replaced_surrogate p.point p.surrogate)
+          ∙ ap (λ v. v ++ bytes (0xFFFD ∷ lossy p.back)) (sym a.before)))));
     }

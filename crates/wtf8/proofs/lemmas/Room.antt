@@ -1,5 +1,6 @@
 -- Room: how long the forms of parts and of wholes are, and the room that calls find, one after another.
-use Rattle.std.proofs.Common.{◌≡◌, ◌≤◌, ◌+◌, inl, inr, ℕ, List, [], ◌∷◌, ◌++◌, length, take, drop, refl, ap, ◌∙◌, sym, subst, arith, append_assoc, length-append}
+use Rattle.std.proofs.Common.{◌≡◌, ◌≤◌, ◌+◌, inl, inr, ℕ, List, [], ◌∷◌, ◌++◌, length, take, drop, refl, ap, ◌∙◌, sym, subst, arith, append_assoc}
+use Rattle.std.proofs.Common.{length-append}
 use Rattle.std.specs.List.{All}
 use Rattle.std.proofs.lemmas.List.{length-map, map-append, take_at, drop_at}
 use Rattle.std.proofs.lemmas.List.Elements.{All-take, All-drop, All-same}
@@ -31,8 +32,14 @@ glued_length c d =
           let both = ap length (bytes_paired c d m refl refl) in
           let paired = length-paired_bytes (bytes c) (bytes d) m.lead m.trail m.is_lead m.is_trail s.three s.three_behind in
           let three = length-surrogate m.trail (omega (arith, m.is_trail), omega (arith, m.is_trail)) in
-          let back : length (bytes d) ≡ 3 + length (bytes m.rest) = ap (λ e. length (bytes e)) m.begins ∙ (length-append (encoding m.trail) (bytes m.rest) ∙ ap (λ n. n + length (bytes m.rest)) three) in
-          let own : length (units d) ≡ 1 + length (units m.rest) = omega (arith, ap (λ e. length (units e)) m.begins, length-append (units_of m.trail) (units m.rest), ap length (units_one m.trail (omega (arith, m.is_trail)))) in
+          let back : length (bytes d) ≡ 3 + length (bytes m.rest) = ap (λ e. length (bytes e)) m.begins
+          ∙ (length-append (encoding m.trail) (bytes m.rest) ∙ ap (λ n. n + length (bytes m.rest)) three) in
+          let own : length (units d) ≡ 1 + length (units m.rest) = omega (
+            arith,
+            ap (λ e. length (units e)) m.begins,
+            length-append (units_of m.trail) (units m.rest),
+            ap length (units_one m.trail (omega (arith, m.is_trail))),
+          ) in
           let rest = (units_bounds m.rest).at_least in
           record { least = omega (arith, both, paired, back, own, rest); most = omega (arith, both, paired) }
       | inr n ↦
@@ -107,11 +114,14 @@ pub record Found (u : List ℕ) (calls : List Build) (now : List ℕ) (capacity 
   pub rest : (more : List Build) (v : List ℕ) → FindRoom u (calls ++ more) v capacity → FindRoom now more v capacity
   pub grows : (more : List Build) (v : List ℕ) → FindRoom u (calls ++ more) v capacity → capacity ≤ grown
 
-pub found_more : {u now new : List ℕ} {calls : List Build} {call : Build} {capacity grown larger : ℕ} (r : ℕ) → Found u calls now capacity grown → Step now call new r → ((v : List ℕ) → FindsRoom now call v capacity → grown ≤ larger) → Found u (calls ++ call ∷ []) new capacity larger
+pub found_more : {u now new : List ℕ} {calls : List Build} {call : Build} {capacity grown larger : ℕ} (r : ℕ) → Found u calls now capacity grown
+    → Step now call new r → ((v : List ℕ) → FindsRoom now call v capacity → grown ≤ larger) → Found u (calls ++ call ∷ []) new capacity larger
 found_more {u} {now} {new} {calls} {call} {capacity} {grown} {larger} r f s h =
-    let before : (more : List Build) (v : List ℕ) → FindRoom u ((calls ++ call ∷ []) ++ more) v capacity → FindRoom u (calls ++ call ∷ more) v capacity = λ more v x. subst (λ d. FindRoom u d v capacity) (append_assoc calls (call ∷ []) more) x in
+    let before : (more : List Build) (v : List ℕ) → FindRoom u ((calls ++ call ∷ []) ++ more) v capacity
+    → FindRoom u (calls ++ call ∷ more) v capacity = λ more v x. subst (λ d. FindRoom u d v capacity) (append_assoc calls (call ∷ []) more) x in
     record {
-      rest = λ more v x. let here = f.rest (call ∷ more) v (before more v x) in subst (λ m. FindRoom m more v capacity) (sym (found_step now call here.0 new capacity r here.1 s)) here.2;
+      rest = λ more v x. let here = f.rest (call ∷ more) v (before more v x) in
+          subst (λ m. FindRoom m more v capacity) (sym (found_step now call here.0 new capacity r here.1 s)) here.2;
       grows = λ more v x.
           let here = f.rest (call ∷ more) v (before more v x) in
           let first = f.grows (call ∷ more) v (before more v x) in omega (arith, first, h here.0 here.1);

@@ -79,13 +79,33 @@ step_once u (Reserve n) = record { outcome = u; count = 0; goes = (refl, refl); 
 step_once u (Truncate k) = elim (boundary_or_not u k) [
   | inl b ↦
       let front : IsFront u k (units b.front) = record { front = b.front; back = b.back; splits = b.splits; same_units = refl } in
-      record { outcome = units b.front; count = 0; goes = inl (front, refl); no_other = λ v r s. elim s [ inl x ↦ (same_front u k v (units b.front) x.0 front, x.1) | inr n ↦ absurd (n.0 b) ] }
+      record {
+        outcome = units b.front;
+        count = 0;
+        goes = inl (front, refl);
+        no_other = λ v r s. elim s [ inl x ↦ (same_front u k v (units b.front) x.0 front, x.1) | inr n ↦ absurd (n.0 b) ];
+      }
   | inr n ↦
-      record { outcome = u; count = 1; goes = inr (n, refl, refl); no_other = λ v r s. elim s [ inl x ↦ absurd (n (record { front = x.0.front; back = x.0.back; splits = x.0.splits })) | inr m ↦ (m.1, m.2) ] }
+      record {
+        outcome = u;
+        count = 1;
+        goes = inr (n, refl, refl);
+        no_other = λ v r s. elim s [ inl x ↦ absurd (n (record { front = x.0.front; back = x.0.back; splits = x.0.splits })) | inr m ↦ (m.1, m.2) ];
+      }
 ]
 step_once u (TruncateUnits n) = elim (cases_lt (length u) n) [
-  | inl h ↦ record { outcome = u; count = 1; goes = inr (h, refl, refl); no_other = λ v r s. elim s [ inl x ↦ absurd (omega (arith, x.0, h)) | inr x ↦ (x.1, x.2) ] }
-  | inr h ↦ record { outcome = take n u; count = 0; goes = inl (h, refl, refl); no_other = λ v r s. elim s [ inl x ↦ (x.1, x.2) | inr x ↦ absurd (omega (arith, x.0, h)) ] }
+  | inl h ↦ record {
+    outcome = u;
+    count = 1;
+    goes = inr (h, refl, refl);
+    no_other = λ v r s. elim s [ inl x ↦ absurd (omega (arith, x.0, h)) | inr x ↦ (x.1, x.2) ];
+  }
+  | inr h ↦ record {
+    outcome = take n u;
+    count = 0;
+    goes = inl (h, refl, refl);
+    no_other = λ v r s. elim s [ inl x ↦ (x.1, x.2) | inr x ↦ absurd (omega (arith, x.0, h)) ];
+  }
 ]
 
 -- one run behind another

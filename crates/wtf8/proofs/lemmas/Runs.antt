@@ -1,5 +1,6 @@
 -- Runs of building calls, one call after another, and what pushes and extensions append.
-use Rattle.std.proofs.Common.{◌≡◌, ◌<◌, ◌+◌, ℕ, List, [], ◌∷◌, ◌++◌, length, get_or, Bool, true, false, cond, Option, Some, IfSome, refl, ap, ◌∙◌, sym, subst, arith, append_assoc}
+use Rattle.std.proofs.Common.{◌≡◌, ◌<◌, ◌+◌, ℕ, List, [], ◌∷◌, ◌++◌, length, get_or, Bool, true, false, cond, Some, refl, ap, ◌∙◌, sym, subst, arith}
+use Rattle.std.proofs.Common.{append_assoc}
 use Rattle.std.specs.List.{All}
 use Rattle.std.proofs.lemmas.List.Elements.{All-get_or}
 use Rattle.std.proofs.lemmas.Option.{none-some}
@@ -8,7 +9,8 @@ use Rattle.wtf8.specs.declared.build.Build.{Build}
 use Rattle.wtf8.specs.declared.build.Build.TheVariants.{Push, PushChar, PushStr, PushWtf8, Extend, Reserve, Truncate, TruncateUnits}
 
 -- one call more
-pub run_more : (u : List ℕ) (calls : List Build) (mid : List ℕ) (n : ℕ) (call : Build) (v : List ℕ) (r : ℕ) → Run u calls mid n → Step mid call v r → Run u (calls ++ call ∷ []) v (n + r)
+pub run_more : (u : List ℕ) (calls : List Build) (mid : List ℕ) (n : ℕ) (call : Build) (v : List ℕ) (r : ℕ) → Run u calls mid n → Step mid call v r
+    → Run u (calls ++ call ∷ []) v (n + r)
 run_more u [] mid n call v r x s =
     (v, r, 0, subst (λ m. Step m call v r) x.0 s, (refl, refl), omega (arith, x.1))
 run_more u (c ∷ calls) mid n call v r x s =
@@ -50,14 +52,16 @@ pub append_parts : (calls more : List Build) (v : List ℕ) → Append (calls ++
 append_parts [] more v x = record { front = []; back = v; first = refl; second = x; joined = refl }
 append_parts (c ∷ calls) more v x =
     let p = append_parts calls more x.1 x.3 in
-    record { front = x.0 ++ p.front; back = p.back; first = (x.0, p.front, x.2, p.first, refl); second = p.second; joined = x.4 ∙ (ap (λ b. x.0 ++ b) p.joined ∙ sym (append_assoc x.0 p.front p.back)) }
+    record {
+      front = x.0 ++ p.front;
+      back = p.back;
+      first = (x.0, p.front, x.2, p.first, refl);
+      second = p.second;
+      joined = x.4 ∙ (ap (λ b. x.0 ++ b) p.joined ∙ sym (append_assoc x.0 p.front p.back));
+    }
 
 pub call_among : (calls : List Build) (i : ℕ) (call : Build) → i < length calls → call ≡ get_or calls i call → All IsNoTruncation calls → IsNoTruncation call
 call_among calls i call h e all = subst IsNoTruncation (sym e) (All-get_or IsNoTruncation calls i call h all)
-
--- what a fact of an option says at its value
-pub at_some : (P : List ℕ → Type 0) (o : Option (List ℕ)) (a : List ℕ) → o ≡ Some a → IfSome o P → P a
-at_some P o a e h = subst (λ x. IfSome x P) e h
 
 -- the counts of refused truncations
 pub counted : (kept : Bool) (n : ℕ) → kept ≡ false → n + 1 ≡ n + cond kept 0 1
@@ -76,7 +80,8 @@ pub record Among (u v mid : List ℕ) (call : Build) (calls more : List Build) :
   pub behind : Append more rest
   pub joined : u ++ v ≡ mid ++ (own ++ rest)
 
-pub among : (u : List ℕ) (calls : List Build) (call : Build) (more : List Build) (v mid : List ℕ) → ((a : List ℕ) → Append calls a → mid ≡ u ++ a) → Append (calls ++ call ∷ more) v → Among u v mid call calls more
+pub among : (u : List ℕ) (calls : List Build) (call : Build) (more : List Build) (v mid : List ℕ) → ((a : List ℕ) → Append calls a → mid ≡ u ++ a)
+    → Append (calls ++ call ∷ more) v → Among u v mid call calls more
 among u calls call more v mid f x =
     let p = append_parts calls (call ∷ more) v x in
     record {
@@ -86,5 +91,6 @@ among u calls call more v mid f x =
       before = p.first;
       appends = p.second.2;
       behind = p.second.3;
-      joined = ap (λ b. u ++ b) (p.joined ∙ ap (λ b. p.front ++ b) p.second.4) ∙ (sym (append_assoc u p.front (p.second.0 ++ p.second.1)) ∙ ap (λ b. b ++ (p.second.0 ++ p.second.1)) (sym (f p.front p.first)));
+      joined = ap (λ b. u ++ b) (p.joined ∙ ap (λ b. p.front ++ b) p.second.4)
+          ∙ (sym (append_assoc u p.front (p.second.0 ++ p.second.1)) ∙ ap (λ b. b ++ (p.second.0 ++ p.second.1)) (sym (f p.front p.first)));
     }

@@ -1,5 +1,6 @@
 -- Code points that are scalar values, parts of them, and scalar values behind them.
-use Rattle.std.proofs.Common.{◌≡◌, ℕ, List, [], ◌∷◌, ◌++◌, Bool, true, not, IsTrue, Option, Some, None, is_some, Result, Ok, Err, OnOk, OnErr, ap, ◌∙◌, sym, subst, arith}
+use Rattle.std.proofs.Common.{◌≡◌, ℕ, List, [], ◌∷◌, ◌++◌, Bool, true, not, IsTrue, Option, Some, None, is_some, Result, Ok, Err, OnOk, OnErr, ap, ◌∙◌, sym}
+use Rattle.std.proofs.Common.{subst, arith}
 use Rattle.std.proofs.lemmas.Bool.{false≢true}
 use Rattle.std.proofs.lemmas.List.{append-nil}
 use Rattle.std.specs.Str.{chars, IsUtf8}
@@ -45,7 +46,8 @@ pub scalar_behind : {c d : List ℕ} → AreScalar d → ¬ (MeetsAsPair c d)
 scalar_behind s m = (subst AreScalar m.begins s).0 (omega (arith, m.is_trail), omega (arith, m.is_trail))
 
 -- what the search says that found none
-pub scalar_unless_found : (r : Option ℕ) (none : Bool) {w : List ℕ} (h : IsWellFormed w) → IsFirst (SurrogateAt w) 0 r → is_some r ≡ not none → IsTrue none → AreScalar h.points
+pub scalar_unless_found : (r : Option ℕ) (none : Bool) {w : List ℕ} (h : IsWellFormed w) → IsFirst (SurrogateAt w) 0 r → is_some r ≡ not none → IsTrue none
+    → AreScalar h.points
 scalar_unless_found None none h f e k = scalar_if_none h f
 scalar_unless_found (Some i) none h f e k = absurd (false≢true (sym (e ∙ ap not k)))
 
@@ -55,21 +57,26 @@ scalar_moved h k e s = subst AreScalar (sym (same_points k h e)) s
 
 module _ {T E : Type 0} where
   -- scalar values behind scalar values are appended as they are, or the string is as before
-  pub scalar_gained : (r : Result T E) (c v : List ℕ) {old new : List ℕ} (h : IsWellFormed old) (k : IsWellFormed new) → v ≡ units c → IsClean c → AreScalar c → AreScalar h.points → OnOk r (GainsUnits old new v) → OnErr r (new ≡ old) → AreScalar k.points
+  pub scalar_gained : (r : Result T E) (c v : List ℕ) {old new : List ℕ} (h : IsWellFormed old) (k : IsWellFormed new) → v ≡ units c → IsClean c → AreScalar c
+      → AreScalar h.points → OnOk r (GainsUnits old new v) → OnErr r (new ≡ old) → AreScalar k.points
   scalar_gained (Ok _) c v h k e x s t ok err =
       let f = ok (units h.points) (form_of h) in
-      let whole : units k.points ≡ units (h.points ++ c) = ap units (bytes-injective k.points f.points (k.encoded ∙ sym f.encoded)) ∙ (f.reads.same_units ∙ (ap (λ u. units h.points ++ u) e ∙ sym (units-append h.points c))) in
+      let whole : units k.points ≡ units (h.points ++ c) = ap units (bytes-injective k.points f.points (k.encoded ∙ sym f.encoded))
+      ∙ (f.reads.same_units ∙ (ap (λ u. units h.points ++ u) e ∙ sym (units-append h.points c))) in
       let same : k.points ≡ h.points ++ c = same_reading k.points (h.points ++ c) k.clean (clean-append h.points c h.clean x (scalar_apart t)) whole in
       subst AreScalar (sym same) (scalar-append h.points c t s)
   scalar_gained (Err _) c v h k e x s t ok err = scalar_moved h k err t
 
   -- what a buffer holds behind a call that appends to it: well-formed bytes, without surrogates where the flag says so
-  pub known_gained : (r : Result T E) (c v : List ℕ) (known : Bool) {old new : List ℕ} (h : IsWellFormed old) → v ≡ units c → IsClean c → (IsTrue known → AreScalar h.points × AreScalar c)
+  pub known_gained : (r : Result T E) (c v : List ℕ) (known : Bool) {old new : List ℕ} (h : IsWellFormed old) → v ≡ units c → IsClean c
+      → (IsTrue known → AreScalar h.points × AreScalar c)
       → OnOk r (GainsUnits old new v) → OnErr r (new ≡ old) → (k : IsWellFormed new) × ((IsTrue known → AreScalar k.points) × Unit {0})
   known_gained r c v known h e x s ok err =
       let now = gained_or_kept r v h ok err in
       (now, (λ t. scalar_gained r c v h now e x (s t).1 (s t).0 ok err, tt))
 
-  pub known_point : (r : Result T E) (p : ℕ) (known : Bool) {old new : List ℕ} (h : IsWellFormed old) → IsCodePoint p → ¬ (IsSurrogate p) → (IsTrue known → AreScalar h.points)
+  pub known_point : (r : Result T E) (p : ℕ) (known : Bool) {old new : List ℕ} (h : IsWellFormed old) → IsCodePoint p → ¬ (IsSurrogate p)
+      → (IsTrue known → AreScalar h.points)
       → OnOk r (GainsUnits old new (units_of p)) → OnErr r (new ≡ old) → (k : IsWellFormed new) × ((IsTrue known → AreScalar k.points) × Unit {0})
-  known_point r p known h range apart s ok err = known_gained r (p ∷ []) (units_of p) known h (sym (append-nil (units_of p))) range (λ t. (s t, (apart, tt))) ok err
+  known_point r p known h range apart s ok err = known_gained r (p ∷ []) (units_of p) known h (sym (append-nil (units_of p))) range
+      (λ t. (s t, (apart, tt))) ok err

@@ -11,7 +11,7 @@ use Rattle.wtf8.proofs.lemmas.FormLaws.{equal_forms}
 use Rattle.wtf8.proofs.lemmas.Forms.{form-glue, form_paired, form_apart}
 use Rattle.wtf8.proofs.lemmas.PositionLaws.{both_no_longer}
 use Rattle.wtf8.proofs.lemmas.Readings.{same_form, same_reading}
-use Rattle.wtf8.proofs.lemmas.Replacement.{lossy-scalar}
+use Rattle.wtf8.proofs.lemmas.Lossy.{lossy-scalar}
 use Rattle.wtf8.proofs.lemmas.Scalars.{scalar_text}
 use Rattle.wtf8.specs.declared.view.Wtf8.{Wtf8}
 use Rattle.wtf8.proofs.lemmas.AsciiPositions.{ascii_no_other_unit}

@@ -1,5 +1,6 @@
 -- Surrogates in bytes against surrogates among code points.
-use Rattle.std.proofs.Common.{◌≡◌, ◌≤◌, ◌<◌, ◌+◌, ℕ, List, [], ◌∷◌, ◌++◌, length, get_or, refl, ap, ◌∙◌, sym, subst, arith, append_assoc, length-append, true, inl, inr, Option, Some, None}
+use Rattle.std.proofs.Common.{◌≡◌, ◌≤◌, ◌<◌, ◌+◌, ℕ, List, [], ◌∷◌, ◌++◌, length, get_or, refl, ap, ◌∙◌, sym, subst, arith, append_assoc, length-append, true}
+use Rattle.std.proofs.Common.{inl, inr, Option, Some, None}
 use Rattle.std.proofs.lemmas.Bool.Decides.{nat_tests}
 use Rattle.std.proofs.lemmas.Bool.{cases_lt, lt-ltb, le-ltb}
 use Rattle.std.proofs.lemmas.List.{append-nil, get_or-append-add}
@@ -12,14 +13,15 @@ use Rattle.wtf8.specs.Surrogates.{AreScalar}
 use Rattle.wtf8.specs.SurrogateSearch.{SurrogateAt, IsLeast, IsFirst}
 use Rattle.wtf8.proofs.lemmas.Clean.{clean-first, clean-rest}
 use Rattle.wtf8.proofs.lemmas.Encoding.{encoding_three, length-encoding_bounds, row_of, one, two, three, four, bytes-append}
-use Rattle.wtf8.proofs.lemmas.Positions.{split_at}
+use Rattle.wtf8.proofs.lemmas.Splits.{split_at}
 
 -- the bytes of a surrogate are ED and from A0 on
 pub surrogate_at : (f : List ℕ) (p : ℕ) (b : List ℕ) → IsSurrogate p → SurrogateAt (bytes (f ++ p ∷ b)) (length (bytes f))
 surrogate_at f p b s =
     let row = encoding_three p (omega arith) (omega arith) in
     let whole : bytes (f ++ p ∷ b) ≡ bytes f ++ (encoding p ++ bytes b) = bytes-append f (p ∷ b) in
-    let at : (k : ℕ) → get_or (bytes (f ++ p ∷ b)) (length (bytes f) + k) 0 ≡ get_or (encoding p ++ bytes b) k 0 = λ k. ap (λ w. get_or w (length (bytes f) + k) 0) whole ∙ get_or-append-add (bytes f) (encoding p ++ bytes b) k 0 in
+    let at : (k : ℕ) → get_or (bytes (f ++ p ∷ b)) (length (bytes f) + k) 0 ≡ get_or (encoding p ++ bytes b) k 0 =
+    λ k. ap (λ w. get_or w (length (bytes f) + k) 0) whole ∙ get_or-append-add (bytes f) (encoding p ++ bytes b) k 0 in
     record {
       within = omega (arith, ap length whole, length-append (bytes f) (encoding p ++ bytes b), length-append (encoding p) (bytes b), ap length row);
       first = ap (λ k. get_or (bytes (f ++ p ∷ b)) k 0) (omega arith) ∙ (at 0 ∙ (ap (λ w. get_or (w ++ bytes b) 0 0) row ∙ omega arith));
@@ -52,9 +54,11 @@ pub surrogate_in : (c : List ℕ) (i : ℕ) → SurrogateAt (bytes c) i → Surr
 surrogate_in c i s =
     let cut = split_at c i (omega (arith, s.within)) (λ _. record { start = inr (omega (arith, s.first)) }) in
     let whole : bytes c ≡ bytes cut.front ++ bytes cut.back = ap bytes cut.joined ∙ bytes-append cut.front cut.back in
-    let at : (k : ℕ) → get_or (bytes c) (i + k) 0 ≡ get_or (bytes cut.back) k 0 = λ k. ap (λ w. get_or w (i + k) 0) whole ∙ (ap (λ n. get_or (bytes cut.front ++ bytes cut.back) (n + k) 0) (sym cut.front_len) ∙ get_or-append-add (bytes cut.front) (bytes cut.back) k 0) in
+    let at : (k : ℕ) → get_or (bytes c) (i + k) 0 ≡ get_or (bytes cut.back) k 0 = λ k. ap (λ w. get_or w (i + k) 0) whole
+    ∙ (ap (λ n. get_or (bytes cut.front ++ bytes cut.back) (n + k) 0) (sym cut.front_len) ∙ get_or-append-add (bytes cut.front) (bytes cut.back) k 0) in
     let zero_there : i + 0 ≡ i = omega arith in
-    let f = first_surrogate_in cut.back (omega (arith, s.within, cut.front_len, ap length whole, length-append (bytes cut.front) (bytes cut.back))) (sym (at 0) ∙ (ap (λ n. get_or (bytes c) n 0) zero_there ∙ s.first)) (omega (arith, at 1, s.second)) in
+    let f = first_surrogate_in cut.back (omega (arith, s.within, cut.front_len, ap length whole, length-append (bytes cut.front) (bytes cut.back)))
+    (sym (at 0) ∙ (ap (λ n. get_or (bytes c) n 0) zero_there ∙ s.first)) (omega (arith, at 1, s.second)) in
     record {
       front = cut.front ++ f.front;
       point = f.point;
@@ -96,9 +100,19 @@ pub scalar_between : (f c b : List ℕ) → ((j : ℕ) → length (bytes f) ≤ 
 scalar_between f [] b none = tt
 scalar_between f (p ∷ c) b none =
     let at : (f ++ p ∷ c) ++ b ≡ f ++ p ∷ (c ++ b) = append_assoc f (p ∷ c) b in
-    let within : length (bytes f) < length (bytes (f ++ p ∷ c)) = omega (arith, ap length (bytes-append f (p ∷ c)), length-append (bytes f) (bytes (p ∷ c)), length-append (encoding p) (bytes c), length-encoding_bounds p) in
-    let more : (f ++ p ∷ []) ++ c ≡ f ++ p ∷ c = append_assoc f (p ∷ []) c in
-    (λ s. none (length (bytes f)) (omega arith) within (subst (λ d. SurrogateAt (bytes d) (length (bytes f))) (sym at) (surrogate_at f p (c ++ b) s)), scalar_between (f ++ p ∷ []) c b (λ j l u. subst (λ d. ¬ (SurrogateAt (bytes (d ++ b)) j)) (sym more) (none j (omega (arith, l, ap length (bytes-append f (p ∷ [])), length-append (bytes f) (bytes (p ∷ [])))) (omega (arith, u, ap (λ d. length (bytes d)) more)))))
+    let within : length (bytes f) < length (bytes (f ++ p ∷ c)) = omega (
+      arith,
+      ap length (bytes-append f (p ∷ c)),
+      length-append (bytes f) (bytes (p ∷ c)),
+      length-append (encoding p) (bytes c),
+      length-encoding_bounds p,
+    ) in
+    let more : (f ++ p ∷ []) ++ c ≡ f ++ p ∷ c = append_assoc f (p ∷ []) c in (
+      λ s. none (length (bytes f)) (omega arith) within (subst (λ d. SurrogateAt (bytes d) (length (bytes f))) (sym at) (surrogate_at f p (c ++ b) s)),
+      scalar_between (f ++ p ∷ []) c b (λ j l u. subst (λ d. ¬ (SurrogateAt (bytes (d ++ b)) j)) (sym more)
+          (none j (omega (arith, l, ap length (bytes-append f (p ∷ [])), length-append (bytes f) (bytes (p ∷ []))))
+          (omega (arith, u, ap (λ d. length (bytes d)) more)))),
+    )
 
 -- the same where none begins behind them either
 pub scalar_from_none : (f c : List ℕ) → ((j : ℕ) → length (bytes f) ≤ j → ¬ (SurrogateAt (bytes (f ++ c)) j)) → AreScalar c

@@ -33,7 +33,11 @@ clean-scalars (c ∷ d ∷ cs) e =
 
 -- a text's bytes as those of its characters
 abbrev pub well_formed_text : (w : List ℕ) → IsUtf8 w → IsWellFormed w
-well_formed_text w u = record { points = chars w; clean = clean-scalars (chars w) (scalars-chars w u); encoded = bytes_are_encodes (chars w) ∙ encodes-chars w u }
+well_formed_text w u = record {
+  points = chars w;
+  clean = clean-scalars (chars w) (scalars-chars w u);
+  encoded = bytes_are_encodes (chars w) ∙ encodes-chars w u;
+}
 
 abbrev pub text_at : {v w : List ℕ} → IsUtf8 v → w ≡ v → IsWellFormed w
 text_at {v} u e = moved (well_formed_text v u) e

@@ -1,54 +1,17 @@
 -- What a string has before and behind a number of its units.
-use Rattle.std.proofs.Common.{◌≡◌, ℕ, zero, suc, ◌+◌, ◌<◌, ◌≤◌, ◌⊎◌, inl, inr, List, [], ◌∷◌, ◌++◌, length, take, drop, None, Some, refl, sym, ap, ◌∙◌, subst, arith, length-append, append_assoc}
-use Rattle.std.proofs.lemmas.Bool.{cases_lt}
+use Rattle.std.proofs.Common.{◌≡◌, ℕ, zero, suc, ◌+◌, ◌≤◌, List, [], ◌∷◌, ◌++◌, length, take, drop, None, Some, refl, sym, ap, ◌∙◌, subst, arith, length-append}
+use Rattle.std.proofs.Common.{append_assoc}
 use Rattle.std.proofs.lemmas.List.{take_at, drop_at}
 use Rattle.std.specs.List.{slice_get}
-use Rattle.wtf8.specs.Unicode.{IsCodePoint, units, units_of}
+use Rattle.wtf8.specs.Unicode.{IsCodePoint, units}
 use Rattle.wtf8.specs.Form.{IsClean, bytes, encoding, IsWellFormed}
 use Rattle.wtf8.specs.Position.{IsFront}
-use Rattle.wtf8.specs.UnitCounts.{IsPlaceOfUnit, Divides, CutsUnits}
+use Rattle.wtf8.specs.UnitCounts.{Divides, CutsUnits}
 use Rattle.wtf8.proofs.lemmas.Clean.{clean-first, clean-front, clean-back, clean-append}
-use Rattle.wtf8.proofs.lemmas.Meeting.{no_trail}
 use Rattle.wtf8.proofs.lemmas.Encoding.{encoding_four, bytes-append, bytes-pushed}
+use Rattle.wtf8.proofs.lemmas.Meeting.{no_trail}
 use Rattle.wtf8.proofs.lemmas.Positions.{cut_by}
-use Rattle.wtf8.proofs.lemmas.UnitPositions.{PointsAbout, points_about}
-use Rattle.wtf8.proofs.lemmas.Units.{lead_of, trail_of, units_one, units_two, units-append, units-pushed, units_bounds}
-
-pub about : {w : List ℕ} (h : IsWellFormed w) (n place before : ℕ) → IsPlaceOfUnit w n place before → PointsAbout h.points n place before
-about h n place before x = points_about h.points n place before (subst (λ v. IsPlaceOfUnit v n place before) (sym h.encoded) x)
-
--- what the code points about a place say of the number
-pub cut_at_place : {c : List ℕ} {n place before : ℕ} → PointsAbout c n place before → before ≡ n → CutsUnits c n place None
-cut_at_place x e = record { front = x.front; back = x.back; joined = x.joined; front_len = x.front_len; counted = x.counted ∙ e }
-
-pub too_few : {c : List ℕ} {n place before : ℕ} (x : PointsAbout c n place before) → ¬ (before ≡ n) → x.back ≡ [] → length (units c) < n
-too_few {c} x m e =
-    let whole : units c ≡ units x.front ++ units x.back = ap units x.joined ∙ units-append x.front x.back in
-    omega (arith, ap length whole, length-append (units x.front) (units x.back), ap (λ b. length (units b)) e, x.counted, x.not_beyond, m)
-
-pub cut_inside : {c : List ℕ} {n place before : ℕ} (x : PointsAbout c n place before) (p : ℕ) (rest : List ℕ) → ¬ (before ≡ n) → x.back ≡ p ∷ rest → CutsUnits c n place (Some p)
-cut_inside {c} {n} {place} {before} x p rest m e =
-    let more = x.holds p rest e in
-    let least : before ≤ n = x.not_beyond in
-    let same : length (units x.front) ≡ before = x.counted in
-    let large : 0x10000 ≤ p = elim (cases_lt p 0x10000) [
-      | inl h ↦ absurd (omega (arith, more, ap length (units_one p h), m, least))
-      | inr h ↦ h
-    ] in
-    record { front = x.front; back = x.back; joined = x.joined; front_len = x.front_len; counted = record { rest = rest; first = e; supplementary = large; inside = omega (arith, more, ap length (units_two p large), m, least, same) } }
-
-first_or_none : (c : List ℕ) → (c ≡ []) ⊎ ((p : ℕ) × (rest : List ℕ) × (c ≡ p ∷ rest))
-first_or_none [] = inl refl
-first_or_none (p ∷ rest) = inr (p, rest, refl)
-
--- all units are counted where more are asked for than there are bytes
-pub all_counted : {w : List ℕ} (h : IsWellFormed w) (place before : ℕ) → PointsAbout h.points (length w) place before → before ≡ length (units h.points)
-all_counted {w} h place before x =
-    let whole : units h.points ≡ units x.front ++ units x.back = ap units x.joined ∙ units-append x.front x.back in
-    elim (first_or_none x.back) [
-      | inl e ↦ omega (arith, ap length whole, length-append (units x.front) (units x.back), ap (λ b. length (units b)) e, x.counted)
-      | inr s ↦ absurd (omega (arith, x.holds s.0 s.1 s.2, ap length whole, length-append (units x.front) (units x.back), ap (λ b. length (units b)) s.2, length-append (units_of s.0) (units s.1), x.counted, (units_bounds h.points).at_least, ap length h.encoded))
-    ]
+use Rattle.wtf8.proofs.lemmas.Units.{lead_of, trail_of, units_one, units_two, units-append, units-pushed}
 
 -- no pair is divided
 pub record Undivided (c : List ℕ) (n : ℕ) (front back : List ℕ) : Type 0 where
@@ -91,10 +54,17 @@ divided {c} {n} {k} {p} x =
     let d : Divides x.front x.back n p = x.counted in
     let joined : c ≡ x.front ++ p ∷ d.rest = x.joined ∙ ap (λ b. x.front ++ b) d.first in
     let whole : units c ≡ (units x.front ++ lead_of p ∷ []) ++ (trail_of p ∷ units d.rest) =
-    ap units joined ∙ (units-append x.front (p ∷ d.rest) ∙ (ap (λ u. units x.front ++ (u ++ units d.rest)) (units_two p d.supplementary) ∙ sym (append_assoc (units x.front) (lead_of p ∷ []) (trail_of p ∷ units d.rest)))) in
+    ap units joined ∙ (units-append x.front (p ∷ d.rest) ∙ (ap (λ u. units x.front ++ (u ++ units d.rest)) (units_two p d.supplementary)
+    ∙ sym (append_assoc (units x.front) (lead_of p ∷ []) (trail_of p ∷ units d.rest)))) in
     let long : length (units x.front ++ lead_of p ∷ []) ≡ n = omega (arith, length-append (units x.front) (lead_of p ∷ []), d.inside) in
     let pushed : c ≡ (x.front ++ p ∷ []) ++ d.rest = joined ∙ sym (append_assoc x.front (p ∷ []) d.rest) in
-    let pushed_len : length (bytes (x.front ++ p ∷ [])) ≡ k + 4 = omega (arith, ap length (bytes-pushed x.front p), length-append (bytes x.front) (encoding p), ap length (encoding_four p d.supplementary), x.front_len) in
+    let pushed_len : length (bytes (x.front ++ p ∷ [])) ≡ k + 4 = omega (
+      arith,
+      ap length (bytes-pushed x.front p),
+      length-append (bytes x.front) (encoding p),
+      ap length (encoding_four p d.supplementary),
+      x.front_len,
+    ) in
     record {
       joined = joined;
       large = d.supplementary;
@@ -105,24 +75,33 @@ divided {c} {n} {k} {p} x =
       front_len = x.front_len;
       pushed = pushed;
       pushed_len = pushed_len;
-      long = omega (arith, pushed_len, ap (λ v. length (bytes v)) pushed, ap length (bytes-append (x.front ++ p ∷ []) d.rest), length-append (bytes (x.front ++ p ∷ [])) (bytes d.rest));
+      long = omega (
+        arith,
+        pushed_len,
+        ap (λ v. length (bytes v)) pushed,
+        ap length (bytes-append (x.front ++ p ∷ []) d.rest),
+        length-append (bytes (x.front ++ p ∷ [])) (bytes d.rest),
+      );
     }
 
 pub in_range : {c : List ℕ} {n k p : ℕ} {front rest : List ℕ} → IsClean c → Divided c n k p front rest → IsCodePoint p
 in_range {c} {n} {k} {p} {front} {rest} clean d = clean-first p rest (clean-back front (p ∷ rest) (subst IsClean d.joined clean))
 
 -- the bytes before the pair and those of its lead
-abbrev pub lead_kept : {w : List ℕ} (h : IsWellFormed w) {n k p : ℕ} {front rest : List ℕ} → Divided h.points n k p front rest → IsWellFormed (take k w ++ encoding (lead_of p))
+abbrev pub lead_kept : {w : List ℕ} (h : IsWellFormed w) {n k p : ℕ} {front rest : List ℕ} → Divided h.points n k p front rest
+    → IsWellFormed (take k w ++ encoding (lead_of p))
 lead_kept {w} h {n} {k} {p} {front} {rest} d =
     let range = in_range h.clean d in
     let clean : IsClean (front ++ p ∷ rest) = subst IsClean d.joined h.clean in
     record {
       points = front ++ lead_of p ∷ [];
-      clean = clean-append front (lead_of p ∷ []) (clean-front front (p ∷ rest) clean) (omega (arith, range, d.large)) (no_trail (lead_of p) [] (λ t. omega (arith, range, d.large, t.0)));
+      clean = clean-append front (lead_of p ∷ []) (clean-front front (p ∷ rest) clean) (omega (arith, range, d.large))
+          (no_trail (lead_of p) [] (λ t. omega (arith, range, d.large, t.0)));
       encoded = bytes-pushed front (lead_of p) ∙ ap (λ v. v ++ encoding (lead_of p)) (cut_by h front (p ∷ rest) k d.joined d.front_len).before.encoded;
     }
 
-pub lead_kept_units : {c : List ℕ} {n k p : ℕ} {front rest : List ℕ} → IsClean c → Divided c n k p front rest → units (front ++ lead_of p ∷ []) ≡ take n (units c)
+pub lead_kept_units : {c : List ℕ} {n k p : ℕ} {front rest : List ℕ} → IsClean c → Divided c n k p front rest
+    → units (front ++ lead_of p ∷ []) ≡ take n (units c)
 lead_kept_units {c} {n} {k} {p} {front} {rest} clean d =
     let range = in_range clean d in
     units-pushed front (lead_of p) ∙ (ap (λ u. units front ++ u) (units_one (lead_of p) (omega (arith, range, d.large))) ∙ sym d.kept)
@@ -130,4 +109,12 @@ lead_kept_units {c} {n} {k} {p} {front} {rest} clean d =
 -- the code points before an undivided pair are the front of its position
 pub front_at : {w : List ℕ} (h : IsWellFormed w) {n k : ℕ} (x : CutsUnits h.points n k None) → IsFront (units h.points) k (take n (units h.points))
 front_at h x =
-    record { front = x.front; back = x.back; splits = record { reads = record { clean = subst IsClean x.joined h.clean; same_units = ap units (sym x.joined) }; front_len = x.front_len }; same_units = sym (undivided x).kept }
+    record {
+      front = x.front;
+      back = x.back;
+      splits = record {
+        reads = record { clean = subst IsClean x.joined h.clean; same_units = ap units (sym x.joined) };
+        front_len = x.front_len;
+      };
+      same_units = sym (undivided x).kept;
+    }

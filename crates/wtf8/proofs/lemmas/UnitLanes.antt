@@ -1,5 +1,6 @@
 -- Units counted in lanes: what a block's lanes add up to.
-use Rattle.std.proofs.Common.{◌≡◌, ℕ, zero, suc, ◌+◌, ◌<◌, ◌≤◌, ltb, leb, Bool, true, false, cond, ◌||◌, List, [], ◌∷◌, map, length, replicate, bit_or, Fits, w8, refl, sym, ap, ◌∙◌, arith, inl, inr}
+use Rattle.std.proofs.Common.{◌≡◌, ℕ, zero, suc, ◌+◌, ◌<◌, ◌≤◌, ltb, leb, Bool, true, false, cond, ◌||◌, List, [], ◌∷◌, map, length, replicate, bit_or, Fits}
+use Rattle.std.proofs.Common.{w8, refl, sym, ap, ◌∙◌, arith, inl, inr}
 use Rattle.std.proofs.lemmas.Bool.{cases_lt, lt-ltb, le-ltb, le-leb, lt-leb}
 use Rattle.std.proofs.lemmas.Simd.{Each2-of, fold-sum, sum_bound, sum_fits}
 use Rattle.std.proofs.lemmas.List.Sums.{sum_by-cons}

@@ -1,24 +1,23 @@
 -- The order of units: the bytes where two strings first differ, and the strings behind the place where they part.
-use Rattle.std.proofs.Common.{◌≡◌, ◌≢◌, ◌↔◌, ℕ, zero, suc, Option, None, Some, Bool, true, false, IsTrue, ◌+◌, ◌/◌, ◌%◌, ◌<◌, ◌≤◌, ◌⊎◌, inl, inr, List, [], ◌∷◌, ◌++◌, length, take, drop, get_or, refl, sym, ap, ◌∙◌, subst, arith, length-append, append_assoc}
+use Rattle.std.proofs.Common.{◌≡◌, ◌↔◌, ℕ, zero, suc, Bool, true, false, IsTrue, ◌<◌, ◌≤◌, ◌⊎◌, inl, inr, List, [], ◌∷◌, ◌++◌, length, take, drop, get_or, refl, sym, ap, ◌∙◌, subst, arith, length-append, append_assoc}
 use Rattle.std.proofs.lemmas.Bool.{cases_lt, false≢true, true≢false}
 use Rattle.std.proofs.lemmas.List.{take-append-drop}
 use Rattle.std.proofs.lemmas.Bool.Decides.{nat_tests}
 use Rattle.std.specs.Bool.{beq}
 use Rattle.std.specs.Cmp.Lexicographic.{slice_cmp}
 use Rattle.std.specs.List.{slice_get}
-use Rattle.std.specs.Option.{option_cmp, MatchOption}
-use Rattle.std.specs.Ordering.{nat_cmp, ordering_then, MatchOrdering}
-use Rattle.std.specs.declared.cmp.Ordering.{Ordering}
-use Rattle.std.specs.declared.cmp.Ordering.TheVariants.{Less, Equal, Greater}
+use Rattle.std.specs.Option.{option_cmp}
+use Rattle.std.specs.Ordering.{nat_cmp}
+use Rattle.std.specs.declared.cmp.Ordering.TheVariants.{Greater}
 use Rattle.wtf8.specs.Unicode.{units}
 use Rattle.wtf8.specs.Form.{encoding, bytes, IsWellFormed}
 use Rattle.wtf8.specs.Differences.{IsFirstDifference, PairBegins}
-use Rattle.wtf8.proofs.lemmas.ByteOrder.{cmp_less, less_of, greater_of, cmp_behind}
 use Rattle.wtf8.proofs.lemmas.Comparing.{cmp_points}
 use Rattle.wtf8.proofs.lemmas.Encoding.{encoding_same, length-encoding_bounds}
+use Rattle.wtf8.proofs.lemmas.ListOrder.{cmp_less, less_of, greater_of, cmp_behind}
 use Rattle.wtf8.proofs.lemmas.Positions.{cut_at, boundary_from_byte, points_behind}
-use Rattle.wtf8.proofs.lemmas.Units.{units-append}
 use Rattle.wtf8.proofs.lemmas.UnitRows.{PartInOneRow, difference_behind, parts_at, points_as_units}
+use Rattle.wtf8.proofs.lemmas.Units.{units-append}
 
 cmp_greater : (x y : ℕ) → y < x → nat_cmp x y ≡ Greater
 cmp_greater x y h = grind (arith, nat_tests)
@@ -63,7 +62,13 @@ record Continues (front d rest : List ℕ) : Type 0 where
 
 continues : (front d rest : List ℕ) → bytes d ≡ bytes front ++ rest → Continues front d rest
 continues [] d rest e = record { points = d; joined = refl; encoded = e }
-continues (p ∷ front) [] rest e = absurd (omega (arith, ap length e, length-append (bytes (p ∷ front)) rest, length-append (encoding p) (bytes front), length-encoding_bounds p))
+continues (p ∷ front) [] rest e = absurd (omega (
+  arith,
+  ap length e,
+  length-append (bytes (p ∷ front)) rest,
+  length-append (encoding p) (bytes front),
+  length-encoding_bounds p,
+))
 continues (p ∷ front) (q ∷ d) rest e =
     let heads = encoding_same q p (bytes d) (bytes front ++ rest) (e ∙ append_assoc (encoding p) (bytes front) rest) in
     let more = continues front d rest heads.1 in
@@ -89,11 +94,16 @@ turned : {c d : List ℕ} {at : ℕ} → Parting c d at → Parting d c at
 turned p = record { front = p.front; own = p.others; others = p.own; own_joined = p.others_joined; others_joined = p.own_joined; front_len = p.front_len }
 
 -- the rests of both are in the order of the whole strings
-pub rests_order : {w v x y : List ℕ} (h : IsWellFormed w) (k : IsWellFormed v) (at : ℕ) → Parting h.points k.points at → (i : IsWellFormed x) (j : IsWellFormed y) → x ≡ drop at w → y ≡ drop at v → slice_cmp nat_cmp (units i.points) (units j.points) ≡ slice_cmp nat_cmp (units h.points) (units k.points)
+pub rests_order : {w v x y : List ℕ} (h : IsWellFormed w) (k : IsWellFormed v) (at : ℕ) → Parting h.points k.points at
+    → (i : IsWellFormed x) (j : IsWellFormed y) → x ≡ drop at w → y ≡ drop at v
+    → slice_cmp nat_cmp (units i.points) (units j.points) ≡ slice_cmp nat_cmp (units h.points) (units k.points)
 rests_order h k at p i j e f =
-    let own : units h.points ≡ units p.front ++ units i.points = ap units p.own_joined ∙ (units-append p.front p.own ∙ ap (λ c. units p.front ++ units c) (sym (points_behind h i p.front p.own at p.own_joined p.front_len e))) in
-    let others : units k.points ≡ units p.front ++ units j.points = ap units p.others_joined ∙ (units-append p.front p.others ∙ ap (λ c. units p.front ++ units c) (sym (points_behind k j p.front p.others at p.others_joined p.front_len f))) in
-    sym (ap (λ u. slice_cmp nat_cmp u (units k.points)) own ∙ (ap (slice_cmp nat_cmp (units p.front ++ units i.points)) others ∙ cmp_behind (units p.front) (units i.points) (units j.points)))
+    let own : units h.points ≡ units p.front ++ units i.points = ap units p.own_joined
+    ∙ (units-append p.front p.own ∙ ap (λ c. units p.front ++ units c) (sym (points_behind h i p.front p.own at p.own_joined p.front_len e))) in
+    let others : units k.points ≡ units p.front ++ units j.points = ap units p.others_joined
+    ∙ (units-append p.front p.others ∙ ap (λ c. units p.front ++ units c) (sym (points_behind k j p.front p.others at p.others_joined p.front_len f))) in
+    sym (ap (λ u. slice_cmp nat_cmp u (units k.points)) own ∙ (ap (slice_cmp nat_cmp (units p.front ++ units i.points)) others
+    ∙ cmp_behind (units p.front) (units i.points) (units j.points)))
 
 pub both_or_neither : {P Q : Type 0} (a b : Bool) → IsTrue a ↔ P → IsTrue b ↔ Q → beq a b ≡ true → P ↔ Q
 both_or_neither true true p q e = (λ _. q.0 refl, λ _. p.0 refl)
@@ -107,43 +117,17 @@ one_of_both false true p q e = inr (q.0 refl)
 one_of_both false false p q e = absurd (true≢false e)
 
 -- where a code point of two units begins in one of both strings they part
-pub parts_there : {w v : List ℕ} (h : IsWellFormed w) (k : IsWellFormed v) (at : ℕ) → IsFirstDifference w v at → (a b : Bool) → IsTrue a ↔ PairBegins w at → IsTrue b ↔ PairBegins v at → beq a b ≡ false → Parting h.points k.points at
+pub parts_there : {w v : List ℕ} (h : IsWellFormed w) (k : IsWellFormed v) (at : ℕ) → IsFirstDifference w v at → (a b : Bool) → IsTrue a ↔ PairBegins w at
+    → IsTrue b ↔ PairBegins v at → beq a b ≡ false → Parting h.points k.points at
 parts_there h k at d a b p q e = elim (one_of_both a b p q e) [
   | inl l ↦ parting h k at d.same_before l
   | inr l ↦ turned (parting k h at (sym d.same_before) l)
 ]
 
 -- and elsewhere the bytes there are in the order of the units
-pub bytes_order : {w v : List ℕ} (h : IsWellFormed w) (k : IsWellFormed v) (at : ℕ) → IsFirstDifference w v at → PairBegins w at ↔ PairBegins v at → option_cmp nat_cmp (slice_get w at) (slice_get v at) ≡ slice_cmp nat_cmp (units h.points) (units k.points)
+pub bytes_order : {w v : List ℕ} (h : IsWellFormed w) (k : IsWellFormed v) (at : ℕ) → IsFirstDifference w v at → PairBegins w at ↔ PairBegins v at
+    → option_cmp nat_cmp (slice_get w at) (slice_get v at) ≡ slice_cmp nat_cmp (units h.points) (units k.points)
 bytes_order {w} {v} h k at d both =
-    let rows : PartInOneRow (bytes h.points) (bytes k.points) = subst (λ x. PartInOneRow x (bytes k.points)) (sym h.encoded) (subst (PartInOneRow w) (sym k.encoded) (parts_at w v at d both)) in
+    let rows : PartInOneRow (bytes h.points) (bytes k.points) =
+    subst (λ x. PartInOneRow x (bytes k.points)) (sym h.encoded) (subst (PartInOneRow w) (sym k.encoded) (parts_at w v at d both)) in
     order_there w v at d ∙ (cmp_points h.points k.points h.encoded k.encoded ∙ points_as_units h.points k.points rows)
-
-decided : (o p : Ordering) → o ≢ Equal → o ≡ ordering_then o p
-decided Less p n = refl
-decided Equal p n = absurd (n refl)
-decided Greater p n = refl
-
--- what an iterator gave of a list, if any, and the list that it left
-abbrev Gives : List ℕ → Option ℕ → List ℕ → Type 0
-Gives u a rest = MatchOption a ((u ≡ []) × (rest ≡ [])) (λ x. u ≡ x ∷ rest)
-
-pub both_are : {u v : List ℕ} (a b : List ℕ) → u ≡ a → v ≡ b → slice_cmp nat_cmp u v ≡ slice_cmp nat_cmp a b
-both_are {u} {v} a b e f = ap (λ z. slice_cmp nat_cmp z v) e ∙ ap (slice_cmp nat_cmp a) f
-
--- first units that differ decide
-pub first_decides : (u v r s : List ℕ) (a b : Option ℕ) → Gives u a r → Gives v b s → option_cmp nat_cmp a b ≢ Equal → option_cmp nat_cmp a b ≡ slice_cmp nat_cmp u v
-first_decides u v r s None None g h n = absurd (n refl)
-first_decides u v r s None (Some y) g h n = sym (both_are [] (y ∷ s) g.0 h)
-first_decides u v r s (Some x) None g h n = sym (both_are (x ∷ r) [] g h.0)
-first_decides u v r s (Some x) (Some y) g h n = decided (nat_cmp x y) (slice_cmp nat_cmp r s) n ∙ sym (both_are (x ∷ r) (y ∷ s) g h)
-
-unlike : (o : Ordering) → o ≡ Equal → MatchOrdering o ⊥ (Unit {0}) ⊥
-unlike o e = subst (λ p. MatchOrdering p ⊥ (Unit {0}) ⊥) (sym e) tt
-
--- else those behind them do
-pub rests_decide : (u v r s : List ℕ) (a b : Option ℕ) → Gives u a r → Gives v b s → option_cmp nat_cmp a b ≡ Equal → slice_cmp nat_cmp r s ≡ slice_cmp nat_cmp u v
-rests_decide u v r s None None g h e = both_are [] [] g.1 h.1 ∙ sym (both_are [] [] g.0 h.0)
-rests_decide u v r s None (Some y) g h e = absurd (unlike Less e)
-rests_decide u v r s (Some x) None g h e = absurd (unlike Greater e)
-rests_decide u v r s (Some x) (Some y) g h e = sym (both_are (x ∷ r) (y ∷ s) g h ∙ ap (λ o. ordering_then o (slice_cmp nat_cmp r s)) e)

@@ -1,5 +1,6 @@
 -- Units turned into bytes part by part: where parts meet, and the form of all that was read.
-use Rattle.std.proofs.Common.{◌≡◌, ℕ, ◌+◌, ◌<◌, ◌≤◌, Bool, IsTrue, List, [], ◌∷◌, ◌++◌, length, take, drop, get_or, refl, sym, ap, ◌∙◌, subst, arith, length-append}
+use Rattle.std.proofs.Common.{◌≡◌, ℕ, ◌+◌, ◌<◌, ◌≤◌, Bool, IsTrue, List, [], ◌∷◌, ◌++◌, length, take, drop, get_or, refl, sym, ap, ◌∙◌, subst, arith}
+use Rattle.std.proofs.Common.{length-append}
 use Rattle.std.proofs.lemmas.List.{get_or-append-add, take-append-drop, take_all}
 use Rattle.std.proofs.lemmas.Simd.{Each1-get_or, Each1-weaker, length-chunk}
 use Rattle.std.proofs.Math.Seq.{get_or-append_seam, take-add}
@@ -31,7 +32,14 @@ are_scalar (p ∷ u) h = (h.0.1, are_scalar u h.1)
 
 pub block_form : {u w : List ℕ} {at n : ℕ} (known : Bool) → IsBlock u at n w → IsKnownForm w (take n (drop at u)) known
 block_form {u} {w} {at} {n} known b = record {
-  form = record { points = take n (drop at u); reads = record { clean = scalar_clean (take n (drop at u)) b.scalars; same_units = scalar_units (take n (drop at u)) b.scalars }; encoded = sym b.encoded };
+  form = record {
+    points = take n (drop at u);
+    reads = record {
+      clean = scalar_clean (take n (drop at u)) b.scalars;
+      same_units = scalar_units (take n (drop at u)) b.scalars;
+    };
+    encoded = sym b.encoded;
+  };
   scalar = λ _. are_scalar (take n (drop at u)) b.scalars;
 }
 
@@ -42,7 +50,8 @@ ascii_bytes (p ∷ u) h = ap (λ w. w ++ bytes u) (encoding_one p h.0) ∙ ap (�
 pub ascii_block : (u w : List ℕ) (at : ℕ) → at + 16 ≤ length u → AreAscii (take 16 (drop at u)) → w ≡ take 16 (drop at u) → IsBlock u at 16 w
 ascii_block u w at within h e = record {
   within = within;
-  scalars = Each1-weaker (λ n. n < 0x80) (λ n. (n < 0x10000) × ¬ (IsSurrogate n)) (λ n l. (omega (arith, l), λ s. omega (arith, l, s.0))) (take 16 (drop at u)) h;
+  scalars = Each1-weaker (λ n. n < 0x80) (λ n. (n < 0x10000) × ¬ (IsSurrogate n)) (λ n l. (omega (arith, l), λ s. omega (arith, l, s.0)))
+      (take 16 (drop at u)) h;
   encoded = e ∙ sym (ascii_bytes (take 16 (drop at u)) h);
 }
 
@@ -72,17 +81,20 @@ meets_longer a b n m =
     meets_by m.front (m.rest ++ drop n b) m.lead m.trail m.is_lead m.is_trail m.ends (sym (take-append-drop n b) ∙ ap (λ c. c ++ drop n b) m.begins)
 
 -- the form of a part behind the form of all before it
-known_behind : (w v a b : List ℕ) (known more both : Bool) → IsKnownForm w a known → IsKnownForm v b more → ¬ (MeetsAsPair a b) → (IsTrue both → IsTrue known × IsTrue more) → IsKnownForm (w ++ v) (a ++ b) both
+known_behind : (w v a b : List ℕ) (known more both : Bool) → IsKnownForm w a known → IsKnownForm v b more → ¬ (MeetsAsPair a b)
+    → (IsTrue both → IsTrue known × IsTrue more) → IsKnownForm (w ++ v) (a ++ b) both
 known_behind w v a b known more both x y n flags =
     let whole = form_apart w v a b x.form y.form n in
-    let encoded : bytes (x.form.points ++ y.form.points) ≡ w ++ v = bytes-append x.form.points y.form.points ∙ (ap (λ z. z ++ bytes y.form.points) x.form.encoded ∙ ap (λ z. w ++ z) y.form.encoded) in
+    let encoded : bytes (x.form.points ++ y.form.points) ≡ w ++ v = bytes-append x.form.points y.form.points
+    ∙ (ap (λ z. z ++ bytes y.form.points) x.form.encoded ∙ ap (λ z. w ++ z) y.form.encoded) in
     let same : x.form.points ++ y.form.points ≡ whole.points = bytes-injective (x.form.points ++ y.form.points) whole.points (encoded ∙ sym whole.encoded) in
     record {
       form = whole;
       scalar = λ t. subst AreScalar same (scalar-append x.form.points y.form.points (x.scalar (flags t).0) (y.scalar (flags t).1));
     }
 
-pub part_read : (u w v new : List ℕ) (at n next : ℕ) (known more both : Bool) → IsKnownForm w (take at u) known → IsKnownForm v (take n (drop at u)) more → DividesNoPair u at → (IsTrue both → IsTrue known × IsTrue more) → new ≡ w ++ v → next ≡ at + n → IsKnownForm new (take next u) both
+pub part_read : (u w v new : List ℕ) (at n next : ℕ) (known more both : Bool) → IsKnownForm w (take at u) known → IsKnownForm v (take n (drop at u)) more
+    → DividesNoPair u at → (IsTrue both → IsTrue known × IsTrue more) → new ≡ w ++ v → next ≡ at + n → IsKnownForm new (take next u) both
 part_read u w v new at n next known more both x y apart flags e f =
     let whole = known_behind w v (take at u) (take n (drop at u)) known more both x y (λ m. apart (meets_longer (take at u) (drop at u) n m)) flags in
     subst (λ z. IsKnownForm z (take next u) both) (sym e) (subst (λ z. IsKnownForm (w ++ v) z both) (sym (ap (λ k. take k u) f ∙ take-add at n u)) whole)

@@ -7,8 +7,8 @@ use Rattle.wtf8.specs.Unicode.{units, units_of}
 use Rattle.wtf8.specs.Form.{encoding, bytes}
 use Rattle.wtf8.specs.Order.{Before}
 use Rattle.wtf8.specs.Differences.{IsFirstDifference, PairBegins}
-use Rattle.wtf8.proofs.lemmas.ByteOrder.{less_of, greater_of, cmp_behind, before_two}
 use Rattle.wtf8.proofs.lemmas.Encoding.{row_of, one, two, three, four}
+use Rattle.wtf8.proofs.lemmas.ListOrder.{less_of, greater_of, cmp_behind, before_two}
 use Rattle.wtf8.proofs.lemmas.Units.{lead_of, trail_of, units-cons_one, units-cons_two}
 
 -- both numbers or neither is below a bound
@@ -19,7 +19,8 @@ BothBelow n x y = (x < n) ↔ (y < n)
 before_units : (p q : ℕ) (c d : List ℕ) → p < q → BothBelow 0x10000 p q → Before (units (p ∷ c)) (units (q ∷ d))
 before_units p q c d l both = elim (cases_lt p 0x10000) [
   | inl h ↦ rw (units-cons_one p c h, units-cons_one q d (both.0 h)) (inl l)
-  | inr h ↦ rw (units-cons_two p c h, units-cons_two q d (omega arith)) (before_two (lead_of p) (trail_of p) (lead_of q) (trail_of q) (units c) (units d) (omega arith) (λ e. omega arith))
+  | inr h ↦ rw (units-cons_two p c h, units-cons_two q d (omega arith))
+      (before_two (lead_of p) (trail_of p) (lead_of q) (trail_of q) (units c) (units d) (omega arith) (λ e. omega arith))
 ]
 
 -- where lists differ first, both numbers or neither is below F0
@@ -43,15 +44,26 @@ first_byte : (p : ℕ) (r : List ℕ) → FirstByte p r
 first_byte p r = elim (row_of p) [
   | one h e ↦ record { byte = p; rest = r; encoded = rw e refl; row = (λ _. omega arith, λ _. omega arith) }
   | two l h e ↦ record { byte = 0xC0 + p / 64; rest = (0x80 + p % 64) ∷ r; encoded = rw e refl; row = (λ _. omega arith, λ _. omega arith) }
-  | three l h e ↦ record { byte = 0xE0 + p / 4096; rest = (0x80 + p / 64 % 64) ∷ (0x80 + p % 64) ∷ r; encoded = rw e refl; row = (λ _. omega arith, λ _. omega arith) }
-  | four l e ↦ record { byte = 0xF0 + p / 262144; rest = (0x80 + p / 4096 % 64) ∷ (0x80 + p / 64 % 64) ∷ (0x80 + p % 64) ∷ r; encoded = rw e refl; row = (λ m. absurd (omega arith), λ m. absurd (omega arith)) }
+  | three l h e ↦ record {
+    byte = 0xE0 + p / 4096;
+    rest = (0x80 + p / 64 % 64) ∷ (0x80 + p % 64) ∷ r;
+    encoded = rw e refl;
+    row = (λ _. omega arith, λ _. omega arith);
+  }
+  | four l e ↦ record {
+    byte = 0xF0 + p / 262144;
+    rest = (0x80 + p / 4096 % 64) ∷ (0x80 + p / 64 % 64) ∷ (0x80 + p % 64) ∷ r;
+    encoded = rw e refl;
+    row = (λ m. absurd (omega arith), λ m. absurd (omega arith));
+  }
 ]
 
 same_row : (p q : ℕ) (r s : List ℕ) → PartInOneRow (encoding p ++ r) (encoding q ++ s) → BothBelow 0x10000 p q
 same_row p q r s h =
     let x = first_byte p r in
     let y = first_byte q s in
-    let parts : PartInOneRow (x.byte ∷ x.rest) (y.byte ∷ y.rest) = subst (λ v. PartInOneRow v (y.byte ∷ y.rest)) x.encoded (subst (PartInOneRow (encoding p ++ r)) y.encoded h) in
+    let parts : PartInOneRow (x.byte ∷ x.rest) (y.byte ∷ y.rest) =
+    subst (λ v. PartInOneRow v (y.byte ∷ y.rest)) x.encoded (subst (PartInOneRow (encoding p ++ r)) y.encoded h) in
     let both : BothBelow 0xF0 x.byte y.byte = elim (cases_lt x.byte y.byte) [
       | inl l ↦ parts.1 (omega arith)
       | inr l ↦ elim (cases_lt y.byte x.byte) [
@@ -84,7 +96,8 @@ points_as_units (p ∷ c) (q ∷ d) h =
         | inr n ↦
             let same : q ≡ p = omega arith in
             let rest = points_as_units c d (behind (encoding p) (bytes c) (bytes d) (subst (λ k. PartInOneRow (bytes (p ∷ c)) (bytes (k ∷ d))) same h)) in
-            ap (λ k. slice_cmp nat_cmp (p ∷ c) (k ∷ d)) same ∙ (cmp_behind (p ∷ []) c d ∙ (rest ∙ (sym (cmp_behind (units_of p) (units c) (units d)) ∙ ap (λ k. slice_cmp nat_cmp (units (p ∷ c)) (units (k ∷ d))) (sym same))))
+            ap (λ k. slice_cmp nat_cmp (p ∷ c) (k ∷ d)) same ∙ (cmp_behind (p ∷ []) c d ∙ (rest ∙ (sym (cmp_behind (units_of p) (units c) (units d))
+            ∙ ap (λ k. slice_cmp nat_cmp (units (p ∷ c)) (units (k ∷ d))) (sym same))))
       ]
     ]
 
@@ -103,8 +116,16 @@ pair_behind x w n = (λ h. (omega (arith, h.0), h.1), λ h. (omega (arith, h.0),
 pub parts_at : (w v : List ℕ) (at : ℕ) → IsFirstDifference w v at → PairBegins w at ↔ PairBegins v at → PartInOneRow w v
 parts_at [] v at d both = tt
 parts_at (x ∷ w) [] at d both = tt
-parts_at (x ∷ w) (y ∷ v) zero d both = (λ e. absurd (d.differ_there (omega arith) (omega arith) e), λ n. (λ h. elim (cases_lt y 0xF0) [ inl m ↦ m | inr m ↦ let back = both.1 (omega arith, m) in absurd (omega (arith, back.1)) ], λ h. elim (cases_lt x 0xF0) [ inl m ↦ m | inr m ↦ let there = both.0 (omega arith, m) in absurd (omega (arith, there.1)) ]))
+parts_at (x ∷ w) (y ∷ v) zero d both = (
+  λ e. absurd (d.differ_there (omega arith) (omega arith) e),
+  λ n. (
+    λ h. elim (cases_lt y 0xF0) [ inl m ↦ m | inr m ↦ let back = both.1 (omega arith, m) in absurd (omega (arith, back.1)) ],
+    λ h. elim (cases_lt x 0xF0) [ inl m ↦ m | inr m ↦ let there = both.0 (omega arith, m) in absurd (omega (arith, there.1)) ],
+  ),
+)
 parts_at (x ∷ w) (y ∷ v) (suc n) d both =
     let own = pair_behind x w n in
-    let others = pair_behind y v n in
-    (λ e. parts_at w v n (difference_behind x y w v n d) (λ h. others.0 (both.0 (own.1 h)), λ h. own.0 (both.1 (others.1 h))), λ e. absurd (e (ap (λ u. get_or u 0 0) d.same_before)))
+    let others = pair_behind y v n in (
+      λ e. parts_at w v n (difference_behind x y w v n d) (λ h. others.0 (both.0 (own.1 h)), λ h. own.0 (both.1 (others.1 h))),
+      λ e. absurd (e (ap (λ u. get_or u 0 0) d.same_before)),
+    )

@@ -78,4 +78,5 @@ points_bounds (p ∷ c) =
     let r = points_bounds c in
     let e = length-encoding_bounds p in
     let u = one_or_two p in
-    rw (length-append (units_of p) (units c), length-append (encoding p) (bytes c)) (record { at_least = omega arith; at_most = omega arith; units_least = omega arith; units_most = omega arith })
+    rw (length-append (units_of p) (units c), length-append (encoding p) (bytes c))
+    (record { at_least = omega arith; at_most = omega arith; units_least = omega arith; units_most = omega arith })

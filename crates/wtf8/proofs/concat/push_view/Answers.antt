@@ -17,13 +17,20 @@ record Paired (w v : List ℕ) (l t : ℕ) (u : List ℕ) : Type 0 where
   gains : GainsUnits w (paired_bytes w l t v) u
   shorter : length (paired_bytes w l t v) + 2 ≡ length w + length v
 
-paired_here : {w v x : List ℕ} (h : IsWellFormed w) (i : IsWellFormed x) (k : IsWellFormed v) → x ≡ w → (l t : ℕ) → IsLead l × IsTrail t → (f : List ℕ) × (i.points ≡ f ++ l ∷ []) → (r : List ℕ) × (k.points ≡ t ∷ r) → Paired w v l t (units k.points)
+paired_here : {w v x : List ℕ} (h : IsWellFormed w) (i : IsWellFormed x) (k : IsWellFormed v) → x ≡ w → (l t : ℕ) → IsLead l × IsTrail t
+    → (f : List ℕ) × (i.points ≡ f ++ l ∷ []) → (r : List ℕ) × (k.points ≡ t ∷ r) → Paired w v l t (units k.points)
 paired_here {w} {v} h i k e l t both last first =
     let m : MeetsAsPair h.points k.points = meets_by last.0 first.0 l t both.0 both.1 (same_points h i (sym e) ∙ last.1) first.1 in
     let s = meeting_bytes m h.encoded k.encoded in
-    record { three = s.three; three_behind = s.three_behind; gains = gains_meeting h k m; shorter = length-paired_bytes w v l t both.0 both.1 s.three s.three_behind }
+    record {
+      three = s.three;
+      three_behind = s.three_behind;
+      gains = gains_meeting h k m;
+      shorter = length-paired_bytes w v l t both.0 both.1 s.three s.three_behind;
+    }
 
-gains_here : {w v x : List ℕ} (h : IsWellFormed w) (i : IsWellFormed x) (k : IsWellFormed v) → x ≡ w → ¬ (MeetsAsPair i.points k.points) → GainsUnits w (w ++ v) (units k.points)
+gains_here : {w v x : List ℕ} (h : IsWellFormed w) (i : IsWellFormed x) (k : IsWellFormed v) → x ≡ w → ¬ (MeetsAsPair i.points k.points)
+    → GainsUnits w (w ++ v) (units k.points)
 gains_here h i k e apart = gains_behind h k (λ m. apart (meets_same m (same_points i h e) refl))
 
 pub from_well_formed-text-requires : goal.from_well_formed-text-requires
@@ -33,33 +40,39 @@ pub join_bytes-requires-clause-three : goal.join_bytes-requires-clause-three
 join_bytes-requires-clause-three g c =
     let text = c.from_well_formed-text in
     let met = c.in-Some.ensures in
-    (paired_here c.requires text.result.well_formed c.args.other.well_formed (text.ensures.bytes ∙ c.as_slice.ensures.value) c.in-Some.lead c.in-Some.trail met.pair met.last met.first).three
+    (paired_here c.requires text.result.well_formed c.args.other.well_formed
+    (text.ensures.bytes ∙ c.as_slice.ensures.value) c.in-Some.lead c.in-Some.trail met.pair met.last met.first).three
 
 pub join_bytes-requires-clause-other_three : goal.join_bytes-requires-clause-other_three
 join_bytes-requires-clause-other_three g c =
     let text = c.from_well_formed-text in
     let met = c.in-Some.ensures in
-    (paired_here c.requires text.result.well_formed c.args.other.well_formed (text.ensures.bytes ∙ c.as_slice.ensures.value) c.in-Some.lead c.in-Some.trail met.pair met.last met.first).three_behind
+    (paired_here c.requires text.result.well_formed c.args.other.well_formed
+    (text.ensures.bytes ∙ c.as_slice.ensures.value) c.in-Some.lead c.in-Some.trail met.pair met.last met.first).three_behind
 
 pub returns-in-Some-clause-ok : goal.returns-in-Some-clause-ok
 returns-in-Some-clause-ok g c =
     let text = c.from_well_formed-text in
     let met = c.in-Some.ensures in
-    let x = paired_here c.requires text.result.well_formed c.args.other.well_formed (text.ensures.bytes ∙ c.as_slice.ensures.value) c.in-Some.lead c.in-Some.trail met.pair met.last met.first in
-    on_ok_weaker c.join_bytes.result (λ e. subst (λ w. GainsUnits c.args.bytes.now.items w (units c.args.other.well_formed.points)) (sym e) x.gains) c.join_bytes.ensures.ok
+    let x = paired_here c.requires text.result.well_formed c.args.other.well_formed
+    (text.ensures.bytes ∙ c.as_slice.ensures.value) c.in-Some.lead c.in-Some.trail met.pair met.last met.first in
+    on_ok_weaker c.join_bytes.result (λ e. subst (λ w. GainsUnits c.args.bytes.now.items w (units c.args.other.well_formed.points))
+    (sym e) x.gains) c.join_bytes.ensures.ok
 
 pub returns-in-Some-clause-room : goal.returns-in-Some-clause-room
 returns-in-Some-clause-room g c fit =
     let text = c.from_well_formed-text in
     let met = c.in-Some.ensures in
-    let x = paired_here c.requires text.result.well_formed c.args.other.well_formed (text.ensures.bytes ∙ c.as_slice.ensures.value) c.in-Some.lead c.in-Some.trail met.pair met.last met.first in
+    let x = paired_here c.requires text.result.well_formed c.args.other.well_formed
+    (text.ensures.bytes ∙ c.as_slice.ensures.value) c.in-Some.lead c.in-Some.trail met.pair met.last met.first in
     c.join_bytes.ensures.room (omega (arith, fits_length x.gains fit, x.shorter))
 
 pub returns-in-None-clause-ok : goal.returns-in-None-clause-ok
 returns-in-None-clause-ok g c =
     let text = c.from_well_formed-text in
     let gains = gains_here c.requires text.result.well_formed c.args.other.well_formed (text.ensures.bytes ∙ c.as_slice.ensures.value) c.in-None.ensures.none in
-    on_ok_weaker c.append_bytes.result (λ e. subst (λ w. GainsUnits c.args.bytes.now.items w (units c.args.other.well_formed.points)) (sym e) gains) c.append_bytes.ensures.ok
+    on_ok_weaker c.append_bytes.result (λ e. subst (λ w. GainsUnits c.args.bytes.now.items w (units c.args.other.well_formed.points))
+    (sym e) gains) c.append_bytes.ensures.ok
 
 pub returns-in-None-clause-room : goal.returns-in-None-clause-room
 returns-in-None-clause-room g c fit =

@@ -1,6 +1,6 @@
 -- Each branch knows its row of the table by the first byte.
 use Rattle.std.proofs.Common.{arith}
-use Rattle.wtf8.proofs.lemmas.Encoding.{front_of}
+use Rattle.wtf8.proofs.lemmas.FirstBytes.{front_of}
 use Rattle.wtf8.proofs.encoding.read_number.Goals as goal
 
 pub bounds-bytes-0 : goal.bounds-bytes-0

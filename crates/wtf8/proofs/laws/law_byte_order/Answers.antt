@@ -1,7 +1,8 @@
 use Rattle.std.proofs.Common.{ap}
 use Rattle.wtf8.specs.Form.{bytes}
 use Rattle.wtf8.specs.OneForm.{bytes-injective}
-use Rattle.wtf8.proofs.lemmas.ByteOrder.{before_bytes, cmp-bytes, order_of}
+use Rattle.wtf8.proofs.lemmas.ByteOrder.{before_bytes, cmp-bytes}
+use Rattle.wtf8.proofs.lemmas.ListOrder.{order_of}
 use Rattle.wtf8.proofs.laws.law_byte_order.Goals as goal
 
 pub returns-clause-same : goal.returns-clause-same

@@ -1,6 +1,6 @@
 use Rattle.std.proofs.Common.{◌∙◌, sym}
 use Rattle.wtf8.proofs.lemmas.Positions.{boundary_of, points_behind}
-use Rattle.wtf8.proofs.lemmas.UnitCuts.{about, cut_at_place, too_few, cut_inside}
+use Rattle.wtf8.proofs.lemmas.UnitPlaces.{about, cut_at_place, too_few, cut_inside}
 use Rattle.wtf8.proofs.unit_positions.cut.Goals as goal
 
 pub returns-then-place-n-clause-some : goal.returns-then-place-n-clause-some

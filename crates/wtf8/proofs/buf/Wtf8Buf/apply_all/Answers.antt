@@ -1,10 +1,11 @@
 use Rattle.std.proofs.Common.{◌≡◌, ◌≤◌, ◌<◌, ◌+◌, ◌++◌, ◌∷◌, [], ◌∙◌, length, take, drop, cond, arith, ap, sym, subst, inl, inr, append_assoc}
 use Rattle.std.proofs.lemmas.Bool.{false≢true, cases_lt}
 use Rattle.std.proofs.lemmas.List.{append-nil}
+use Rattle.std.proofs.lemmas.Option.{MatchOption-at_some}
 use Rattle.wtf8.specs.Building.{Run, Append, FindRoom}
 use Rattle.wtf8.proofs.lemmas.Lists.{item_at, items_more}
 use Rattle.wtf8.proofs.lemmas.Room.{Found, found_more, wider, beginning}
-use Rattle.wtf8.proofs.lemmas.Runs.{run_more, step_appends, no_truncation, call_among, at_some, counted, not_counted, among}
+use Rattle.wtf8.proofs.lemmas.Runs.{run_more, step_appends, no_truncation, call_among, counted, not_counted, among}
 use Rattle.wtf8.specs.Form.{IsForm}
 use Rattle.wtf8.proofs.buf.Wtf8Buf.apply_all.Goals as goal
 use Rattle.wtf8.proofs.buf.Wtf8Buf.apply_all.Goals.{then-not-kept, else-not-kept}
@@ -18,7 +19,7 @@ returns-in_default-clause-room g c v all fit =
     let inv = c.loop-done.invariant.appended in
     let m = among c.args.self.now.units (take i calls) call (drop (i + 1) calls) v c.loop-done.self.units (λ a x. (inv a x).0) (subst (λ d. Append d v) (sym (item_at calls i call below c.index-calls-done.is)) all) in
     let b = beginning (c.loop-done.self.units ++ m.own) m.rest fit.whole (subst (IsForm fit.whole) (m.joined ∙ sym (append_assoc c.loop-done.self.units m.own m.rest)) fit.form) in
-    at_some _ _ m.own m.appends c.in_default.ensures.room (record { whole = b.whole; form = b.form; within = omega (arith, b.within, fit.within, (inv m.front m.before).1) })
+    MatchOption-at_some _ _ m.own m.appends c.in_default.ensures.room (record { whole = b.whole; form = b.form; within = omega (arith, b.within, fit.within, (inv m.front m.before).1) })
 
 pub returns-in_default-clause-outgrown : goal.returns-in_default-clause-outgrown
 returns-in_default-clause-outgrown g c v all w form =
@@ -32,7 +33,7 @@ returns-in_default-clause-outgrown g c v all w form =
     let b = beginning (c.loop-done.self.units ++ m.own) m.rest w (subst (IsForm w) (m.joined ∙ sym (append_assoc c.loop-done.self.units m.own m.rest)) form) in
     elim (cases_lt c.args.self.now.capacity (length w)) [
       | inl h ↦ h
-      | inr h ↦ absurd (false≢true (at_some _ _ m.own m.appends c.in_default.ensures.room (record { whole = b.whole; form = b.form; within = omega (arith, b.within, h, (inv m.front m.before).1) })))
+      | inr h ↦ absurd (false≢true (MatchOption-at_some _ _ m.own m.appends c.in_default.ensures.room (record { whole = b.whole; form = b.form; within = omega (arith, b.within, h, (inv m.front m.before).1) })))
     ]
 
 pub returns-in_default-clause-capacity : goal.returns-in_default-clause-capacity

@@ -2,7 +2,7 @@ use Rattle.std.proofs.Common.{ap, sym, ◌∙◌}
 use Rattle.wtf8.specs.Form.{bytes}
 use Rattle.wtf8.specs.Surrogates.{lossy}
 use Rattle.wtf8.specs.UnitString.{UnitString}
-use Rattle.wtf8.proofs.lemmas.Replacement.{lossy-scalar}
+use Rattle.wtf8.proofs.lemmas.Lossy.{lossy-scalar}
 use Rattle.wtf8.proofs.buf.Wtf8Buf.into_lossy_bytes.Goals as goal
 
 pub returns-then-not-is_known_utf8 : goal.returns-then-not-is_known_utf8

@@ -1,6 +1,6 @@
 use Rattle.std.proofs.Common.{ap, sym, ◌∙◌, subst, length}
 use Rattle.std.specs.Str.{IsUtf8}
-use Rattle.wtf8.proofs.lemmas.Replacement.{utf8_lossy_points, length-lossy}
+use Rattle.wtf8.proofs.lemmas.Lossy.{utf8_lossy_points, length-lossy}
 use Rattle.wtf8.proofs.buf.Wtf8Buf.into_string_lossy.Goals as goal
 
 pub from_utf8_unchecked-requires : goal.from_utf8_unchecked-requires

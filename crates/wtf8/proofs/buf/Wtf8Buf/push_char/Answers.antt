@@ -4,7 +4,7 @@ use Rattle.wtf8.proofs.lemmas.Gains.{gained_units, kept_contents, gained_or_kept
 use Rattle.wtf8.proofs.lemmas.Scalars.{known_point, scalar_gained}
 use Rattle.wtf8.proofs.lemmas.Texts.{scalar_facts}
 use Rattle.std.proofs.lemmas.List.{append-nil}
-use Rattle.wtf8.specs.Form.{GainsUnits}
+use Rattle.wtf8.specs.Gains.{GainsUnits}
 use Rattle.wtf8.specs.Unicode.{units_of}
 use Rattle.wtf8.proofs.lemmas.Units.{units_one}
 use Rattle.wtf8.proofs.buf.Wtf8Buf.push_char.Goals as goal
@@ -12,7 +12,9 @@ use Rattle.wtf8.proofs.buf.Wtf8Buf.push_char.Goals as goal
 pub invariant_of-self-inside : goal.invariant_of-self-inside
 invariant_of-self-inside g c =
     let f = scalar_facts c.args.c c.ranges.c.0 in
-    known_point c.push_scalar.result c.args.c c.self.inside.is_known_utf8 c.self.inside.well_formed f.range f.apart c.self.inside.known_scalar c.push_scalar.ensures.ok c.push_scalar.ensures.err
+    let own = c.self.inside in
+    let call = c.push_scalar in
+    known_point call.result c.args.c own.is_known_utf8 own.well_formed f.range f.apart own.known_scalar call.ensures.ok call.ensures.err
 
 pub returns-clause-ok : goal.returns-clause-ok
 returns-clause-ok g c =

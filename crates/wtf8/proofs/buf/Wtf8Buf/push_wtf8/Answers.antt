@@ -14,12 +14,14 @@ pub invariant_of-self-inside : goal.invariant_of-self-inside
 invariant_of-self-inside g c =
     let other = c.args.other.well_formed in
     known_gained c.push_view.result other.points (units other.points) _ c.self.inside.well_formed refl other.clean (
-      λ known. elim c.if-self.branch [
-        | then-self w ↦
-            let none = subst (λ s. IsTrue s.1.1.0) w.self-inside-is known in
-            (c.self.inside.known_scalar w.if-self.true, scalar_unless_found w.first_surrogate.result w.is_none-self-inside.result other w.first_surrogate.ensures w.is_none-self-inside.ensures none)
-        | else-self w ↦ absurd (false≢true (sym w.if-self.false ∙ subst (λ s. IsTrue s.1.1.0) w.self-inside-is known))
-      ]
+    λ known. elim c.if-self.branch [
+      | then-self w ↦
+          let none = subst (λ s. IsTrue s.1.1.0) w.self-inside-is known in (
+            c.self.inside.known_scalar w.if-self.true,
+            scalar_unless_found w.first_surrogate.result w.is_none-self-inside.result other w.first_surrogate.ensures w.is_none-self-inside.ensures none,
+          )
+      | else-self w ↦ absurd (false≢true (sym w.if-self.false ∙ subst (λ s. IsTrue s.1.1.0) w.self-inside-is known))
+    ]
     ) c.push_view.ensures.ok c.push_view.ensures.err
 
 pub returns-clause-ok : goal.returns-clause-ok

@@ -4,7 +4,7 @@ use Rattle.std.specs.Option.{IsNone, unwrap_or}
 use Rattle.wtf8.specs.CodePoint.{number}
 use Rattle.wtf8.specs.Surrogates.{replaced}
 use Rattle.wtf8.specs.Unicode.{IsSurrogate}
-use Rattle.wtf8.proofs.lemmas.Replacement.{replaced_surrogate, replaced_scalar}
+use Rattle.wtf8.proofs.lemmas.Lossy.{replaced_surrogate, replaced_scalar}
 use Rattle.wtf8.proofs.code_point.CodePoint.to_char_lossy.Goals as goal
 
 lossy_value : (r : Option ℕ) (n : ℕ) → IsNone r ↔ IsSurrogate n → IfSome r (λ c. c ≡ n) → unwrap_or r 0xFFFD ≡ replaced n

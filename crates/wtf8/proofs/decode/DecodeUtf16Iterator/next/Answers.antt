@@ -15,7 +15,8 @@ returns-in-Some-clause-steps g c =
     record {
       kind = search rules;
       behind = c.next_if.new.self;
-      taken = takes_two steps (units_left c.args.self.now) c.next.new.self c.next_if.new.self unit trail c.joined.result c.joined.ensures (search rules) (search rules) c.in_ok-unit.ensures.steps second;
+      taken = takes_two steps (units_left c.args.self.now) c.next.new.self c.next_if.new.self unit trail c.joined.result c.joined.ensures (search rules)
+          (search rules) c.in_ok-unit.ensures.steps second;
       held = inl refl;
       lone = λ lead. absurd (omega (arith, c.joined.ensures, lead));
     }
@@ -29,7 +30,8 @@ returns-in-None-clause-steps g c =
       behind = c.next.new.self;
       taken = takes_one g.I.Iterator.next_gives (units_left c.args.self.now) c.next.new.self unit unit refl (omega arith) c.in_ok-unit.ensures.steps;
       held = inr (told.0, told.1, told.2);
-      lone = λ _. held_apart (peekable_peeked c.next_if.new.self) told.0 _ told.2 c.in-None.ensures.refused (λ u failed trail. true≢false (sym (failed.1.1 (subst IsTrail (sym failed.2) trail))));
+      lone = λ _. held_apart (peekable_peeked c.next_if.new.self) told.0 _ told.2 c.in-None.ensures.refused
+          (λ u failed trail. true≢false (sym (failed.1.1 (subst IsTrail (sym failed.2) trail))));
     }
 
 pub returns-then-is_trail-clause-steps : goal.returns-then-is_trail-clause-steps
@@ -50,7 +52,8 @@ returns-clause-steps g c =
     record {
       kind = search rules;
       behind = c.next.new.self;
-      taken = takes_one g.I.Iterator.next_gives (units_left c.args.self.now) c.next.new.self unit c.single.result c.single.ensures range c.in_ok-unit.ensures.steps;
+      taken =
+          takes_one g.I.Iterator.next_gives (units_left c.args.self.now) c.next.new.self unit c.single.result c.single.ensures range c.in_ok-unit.ensures.steps;
       held = inl refl;
       lone = λ lead. absurd (search rules);
     }

@@ -2,8 +2,9 @@ use Rattle.std.proofs.Common.{◌∷◌, ◌++◌, ◌∙◌, ap, sym, subst}
 use Rattle.std.specs.Str.{IsUtf8}
 use Rattle.wtf8.specs.Form.{bytes}
 use Rattle.wtf8.specs.Surrogates.{lossy}
+use Rattle.wtf8.proofs.lemmas.Lossy.{lossy-scalar}
 use Rattle.wtf8.proofs.lemmas.Readings.{moved, same_points}
-use Rattle.wtf8.proofs.lemmas.Replacement.{parted, lossy-scalar}
+use Rattle.wtf8.proofs.lemmas.Replacement.{parted}
 use Rattle.wtf8.proofs.lemmas.Surrogates.{scalar_if_none, utf8_if_none}
 use Rattle.wtf8.proofs.view.Wtf8.split_at_surrogate.Goals as goal
 
@@ -32,4 +33,5 @@ returns-clause-some c =
     let parts = parted h c.in-Some.place c.in-Some.ensures in
     let text = c.from_utf8_unchecked-text.ensures ∙ c.split_at.ensures.front in
     let rest = same_points c.result-1.given.0 parts.rest c.split_at-2.ensures.back in
-    parts.lossy_parts ∙ (ap (λ t. t ++ bytes (0xFFFD ∷ lossy parts.rest.points)) (sym text) ∙ ap (λ r. c.from_utf8_unchecked-text.result.now ++ bytes (0xFFFD ∷ lossy r)) (sym rest))
+    parts.lossy_parts ∙ (ap (λ t. t ++ bytes (0xFFFD ∷ lossy parts.rest.points)) (sym text)
+    ∙ ap (λ r. c.from_utf8_unchecked-text.result.now ++ bytes (0xFFFD ∷ lossy r)) (sym rest))

@@ -1,8 +1,8 @@
 use Rattle.std.proofs.Common.{ap, sym, ◌∙◌, subst, refl}
 use Rattle.std.specs.Str.{IsUtf8}
 use Rattle.wtf8.specs.Form.{bytes}
+use Rattle.wtf8.proofs.lemmas.Lossy.{utf8_lossy_points, lossy-scalar}
 use Rattle.wtf8.proofs.lemmas.Readings.{moved}
-use Rattle.wtf8.proofs.lemmas.Replacement.{utf8_lossy_points, lossy-scalar}
 use Rattle.wtf8.proofs.view.Wtf8.to_string_lossy.Goals as goal
 
 pub returns-in-Some-clause-text : goal.returns-in-Some-clause-text

@@ -1,4 +1,4 @@
-use Rattle.wtf8.proofs.lemmas.UnitCuts.{about, all_counted}
+use Rattle.wtf8.proofs.lemmas.UnitPlaces.{about, all_counted}
 use Rattle.wtf8.proofs.view.Wtf8.unit_len.Goals as goal
 
 pub returns : goal.returns

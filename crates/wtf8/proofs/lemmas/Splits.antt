@@ -1,0 +1,48 @@
+-- Where the bytes of a list of code points may be cut.
+use Rattle.std.proofs.Common.{◌≡◌, ◌-◌, ◌≤◌, ◌<◌, ℕ, zero, suc, inl, inr, List, [], ◌∷◌, ◌++◌, length, get_or, refl, ap, ◌∙◌, sym, subst, arith, length-append}
+use Rattle.std.proofs.lemmas.Bool.{cases_lt}
+use Rattle.std.proofs.lemmas.List.{append-nil, get_or-append_right}
+use Rattle.wtf8.specs.Form.{encoding, bytes}
+use Rattle.wtf8.proofs.lemmas.Encoding.{Begins, first-encoding, inside-encoding, length-encoding_bounds, bytes-append}
+
+-- a list of code points as a front whose bytes are so many, and what follows
+pub record Split (c : List ℕ) (k : ℕ) : Type 0 where
+  pub front : List ℕ
+  pub back : List ℕ
+  pub joined : c ≡ front ++ back
+  pub front_len : length (bytes front) ≡ k
+
+-- bytes may be cut at their end, and where a code point begins
+pub split_at : (c : List ℕ) (k : ℕ) → k ≤ length (bytes c) → (k < length (bytes c) → Begins (get_or (bytes c) k 0)) → Split c k
+split_at c zero h s = record { front = []; back = c; joined = refl; front_len = refl }
+split_at [] (suc k) h s = absurd (omega arith)
+split_at (p ∷ c) (suc k) h s =
+    let n = length-encoding_bounds p in
+    let whole = length-append (encoding p) (bytes c) in
+    elim (cases_lt (suc k) (length (encoding p))) [
+      | inl l ↦ let inside = inside-encoding p k (bytes c) l in
+          absurd (elim ((s (omega arith)).start) [ inl b ↦ omega arith | inr b ↦ omega arith ])
+      | inr l ↦
+          let at : (suc k < length (encoding p ++ bytes c)) → get_or (encoding p ++ bytes c) (suc k) 0 ≡ get_or (bytes c) (suc k - length (encoding p)) 0 =
+          λ _. get_or-append_right (encoding p) (bytes c) (length (encoding p)) (suc k) 0 refl l in
+          let rest = split_at c (suc k - length (encoding p)) (omega arith) (λ m. let q : suc k < length (encoding p ++ bytes c) = omega arith in
+          subst Begins (at q) (s q)) in
+          record {
+            front = p ∷ rest.front;
+            back = rest.back;
+            joined = ap (λ r. p ∷ r) rest.joined;
+            front_len = length-append (encoding p) (bytes rest.front) ∙ (omega (arith, rest.front_len));
+          }
+    ]
+
+-- the byte behind the bytes of a front is the first of the next code point
+pub first_behind : (front : List ℕ) (p : ℕ) (b : List ℕ) → get_or (bytes (front ++ p ∷ b)) (length (bytes front)) 0 ≡ get_or (encoding p ++ bytes b) 0 0
+first_behind front p b =
+    let n = length (bytes front) in
+    let start : n - n ≡ 0 = omega arith in
+    ap (λ w. get_or w n 0) (bytes-append front (p ∷ b)) ∙ (get_or-append_right (bytes front) (encoding p ++ bytes b) n n 0 refl (omega arith)
+    ∙ ap (λ k. get_or (encoding p ++ bytes b) k 0) start)
+
+pub begins_behind : (f b : List ℕ) → length (bytes f) < length (bytes (f ++ b)) → Begins (get_or (bytes (f ++ b)) (length (bytes f)) 0)
+begins_behind f [] h = absurd (omega (arith, ap (λ c. length (bytes c)) (append-nil f)))
+begins_behind f (p ∷ b) h = subst Begins (sym (first_behind f p b)) (first-encoding p (bytes b))
