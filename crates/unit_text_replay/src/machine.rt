@@ -1,7 +1,8 @@
 // Running the calls of a script.
-use crate::call::Call;
+use compare_lines::Fault;
 use std::alloc::{AllocError, Global};
 use std::fmt::Write;
+use std::mem;
 use unit_text::UnitText;
 use unit_text_uses::cuts::is_whole_again;
 use unit_text_uses::strings::{char_at, char_code_at, is_less, starts_with, substring};
@@ -24,62 +25,78 @@ impl Machine {
         })
     }
 
-    /// Does a call, and writes what it answers behind a space.
-    pub fn run(&mut self, call: Call<'_>, answers: &mut String) -> Result<(), AllocError> {
-        match call {
-            Call::Set(units) => self.set(units, answers),
-            Call::Swap => self.swap(answers),
-            Call::Len => write!(answers, " {}", self.first.unit_len()),
-            Call::UnitAt(at) => self.unit_at(usize::from(at), answers),
-            Call::Slice(begin, end) => self.slice(usize::from(begin), usize::from(end), answers),
-            Call::Substring(first, second) => {
-                let between = substring(
-                    self.alloc,
-                    &self.first,
-                    usize::from(first),
-                    usize::from(second),
-                )?;
-                write_units(answers, &between)
+    /// Does the first call of some words, writes what it answers behind a space, and answers the words behind the call.
+    /// `compare/README.md` has the calls by their numbers.
+    pub fn run<'w>(&mut self, words: &'w [u16], answers: &mut String) -> Result<&'w [u16], Fault> {
+        let behind = match words {
+            [0, len, rest @ ..] => {
+                let Some((units, behind)) = rest.split_at_checked(usize::from(*len)) else {
+                    return Err(Fault::Malformed);
+                };
+                self.first = UnitText::from_units(self.alloc, units)?;
+                write_units(answers, &self.first)?;
+                behind
             }
-            Call::CharAt(at) => {
-                let found = char_at(self.alloc, &self.first, usize::from(at))?;
-                write_units(answers, &found)
+            [1, rest @ ..] => {
+                mem::swap(&mut self.first, &mut self.second);
+                write_units(answers, &self.first)?;
+                rest
             }
-            Call::StartsWith(at) => {
-                write!(
-                    answers,
-                    " {}",
-                    starts_with(&self.first, &self.second, usize::from(at))
-                )
+            [4, begin, end, rest @ ..] => {
+                self.slice(usize::from(*begin), usize::from(*end), answers)?;
+                rest
             }
-            Call::Concat => {
+            [8, rest @ ..] => {
                 self.first.concat(&self.second)?;
-                write_units(answers, &self.first)
+                write_units(answers, &self.first)?;
+                rest
             }
-            Call::Compare => self.compare(answers),
-            Call::CutEverywhere => self.cut_everywhere(answers),
-        }
+            _ => self.look(words, answers)?,
+        };
+        Ok(behind)
     }
 
-    // The first text becomes these units.
-    fn set(&mut self, units: &[u16], answers: &mut String) -> Result<(), AllocError> {
-        self.first = UnitText::from_units(self.alloc, units)?;
-        write_units(answers, &self.first)
+    // The calls that leave both texts as they are.
+    fn look<'w>(&self, words: &'w [u16], answers: &mut String) -> Result<&'w [u16], Fault> {
+        let (alloc, text) = (self.alloc, &self.first);
+        let behind = match words {
+            [2, rest @ ..] => {
+                write!(answers, " {}", text.unit_len())?;
+                rest
+            }
+            [3, at, rest @ ..] => {
+                write_unit(answers, text.unit_at(usize::from(*at)))?;
+                write_unit(answers, char_code_at(text, usize::from(*at)))?;
+                rest
+            }
+            [5, first, second, rest @ ..] => {
+                let between = substring(alloc, text, usize::from(*first), usize::from(*second))?;
+                write_units(answers, &between)?;
+                rest
+            }
+            [6, at, rest @ ..] => {
+                write_units(answers, &char_at(alloc, text, usize::from(*at))?)?;
+                rest
+            }
+            [7, at, rest @ ..] => {
+                let is_there = starts_with(text, &self.second, usize::from(*at));
+                write!(answers, " {is_there}")?;
+                rest
+            }
+            [9, rest @ ..] => {
+                write_comparisons(answers, text, &self.second)?;
+                rest
+            }
+            [10, rest @ ..] => {
+                write!(answers, " {}", whole_cuts(alloc, text)?)?;
+                rest
+            }
+            _ => return Err(Fault::Malformed),
+        };
+        Ok(behind)
     }
 
-    // The two texts change places.
-    fn swap(&mut self, answers: &mut String) -> Result<(), AllocError> {
-        std::mem::swap(&mut self.first, &mut self.second);
-        write_units(answers, &self.first)
-    }
-
-    // The unit at a position, by both calls that answer it.
-    fn unit_at(&self, at: usize, answers: &mut String) -> Result<(), AllocError> {
-        write_unit(answers, self.first.unit_at(at))?;
-        write_unit(answers, char_code_at(&self.first, at))
-    }
-
-    // The first text becomes the units between two positions.
+    // The first text becomes the units between two positions, where they are in order and within it.
     fn slice(&mut self, begin: usize, end: usize, answers: &mut String) -> Result<(), AllocError> {
         if end < begin || self.first.unit_len() < end {
             return write!(answers, " none");
@@ -87,33 +104,36 @@ impl Machine {
         self.first = self.first.slice_units(self.alloc, begin, end)?;
         write_units(answers, &self.first)
     }
+}
 
-    // How the two texts compare.
-    fn compare(&self, answers: &mut String) -> Result<(), AllocError> {
-        let order = self.first.cmp_units(&self.second);
-        write!(answers, " {order:?}")?;
-        write!(answers, " {}", is_less(&self.first, &self.second))?;
-        write!(answers, " {}", is_less(&self.second, &self.first))?;
-        write!(answers, " {}", self.first == self.second)
-    }
+// Writes how two texts compare: their order, both ways of `is_less`, and whether they are equal.
+fn write_comparisons(
+    answers: &mut String,
+    first: &UnitText<Global>,
+    second: &UnitText<Global>,
+) -> Result<(), AllocError> {
+    let order = first.cmp_units(second);
+    let is_below = is_less(first, second);
+    let is_above = is_less(second, first);
+    let is_equal = first == second;
+    write!(answers, " {order:?} {is_below} {is_above} {is_equal}")
+}
 
-    // At how many places the first text can be cut and is found whole again.
-    fn cut_everywhere(&self, answers: &mut String) -> Result<(), AllocError> {
-        let mut whole = 0u64;
-        for place in 0..=self.first.unit_len() {
-            if is_whole_again(self.alloc, self.alloc, &self.first, place)? {
-                whole = whole.wrapping_add(1);
-            }
+// At how many places a text can be cut and is found whole again.
+fn whole_cuts(alloc: Global, text: &UnitText<Global>) -> Result<u64, AllocError> {
+    let mut whole = 0u64;
+    for place in 0..=text.unit_len() {
+        if is_whole_again(alloc, alloc, text, place)? {
+            whole = whole.wrapping_add(1);
         }
-        write!(answers, " {whole}")
     }
+    Ok(whole)
 }
 
 // Writes the units of a text behind a space, with a full stop behind each.
 fn write_units(answers: &mut String, text: &UnitText<Global>) -> Result<(), AllocError> {
     write!(answers, " ")?;
-    let mut units = text.as_wtf8().to_ill_formed_utf16();
-    while let Some(unit) = units.next() {
+    for unit in text.as_wtf8().to_ill_formed_utf16() {
         write!(answers, "{unit:04X}.")?;
     }
     Ok(())

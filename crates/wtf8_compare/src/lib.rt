@@ -1,14 +1,14 @@
 //! The proved library for programs that are not Rattle: exports on numbers and slices alone.
 #![tactic(auto)]
 
-ghost use Rattle.std.specs.Prelude.{◌≡◌, ◌<◌, ◌<ℤ◌, ◌↔◌, ◌⊎◌, ℕ, pos, length, drop};
+ghost use Rattle.std.specs.Prelude.{◌≡◌, ◌<◌, ◌≤◌, ◌<ℤ◌, ◌↔◌, ◌⊎◌, ℕ, pos, length, drop};
 ghost use Rattle.wtf8_compare.specs.Front.{with_front};
 
 mod counted;
 mod timing;
 
 use std::alloc::{AllocError, Global};
-use timing::{Bench, Timed};
+use timing::{Bench, LAST};
 use wtf8_script::{Stop, run_script};
 
 /// The script ends inside a call, or a byte or a text in it stands for nothing.
@@ -60,10 +60,10 @@ pub extern "C" fn wtf8_compare_time(
     ensures kept { result <ℤ pos 0 → sum.new ≡ sum.old }
     ensures no_loop { (result ≡ NO_LOOP) ↔ 19 < number }
 {
-    let Some(timed) = Timed::from_number(number) else {
+    if LAST < number {
         return NO_LOOP;
-    };
-    match run_loop(alloc, timed, units, rounds) {
+    }
+    match run_loop(alloc, number, units, rounds) {
         Ok(answer) => {
             *sum = answer;
             0
@@ -73,8 +73,10 @@ pub extern "C" fn wtf8_compare_time(
 }
 
 // The sum of a loop over the strings of some units.
-fn run_loop(alloc: Global, timed: Timed, units: &[u16], rounds: u32) -> Result<u64, AllocError> {
-    Bench::new(alloc, units, rounds)?.run(timed)
+fn run_loop(alloc: Global, number: u32, units: &[u16], rounds: u32) -> Result<u64, AllocError>
+    requires { number ≤ 19 }
+{
+    Bench::new(alloc, units, rounds)?.run(number)
 }
 
 // Writes some bytes at the front where they fit, and answers how many there are.

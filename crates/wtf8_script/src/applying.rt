@@ -1,30 +1,27 @@
 // Building calls by their names, one by one and lists of them.
-use crate::machine::{self, Machine};
+use crate::machine::Machine;
 use crate::reader::{Reader, STRINGS};
 use crate::stop::Stop;
+use crate::tape::Tape;
 use refusing::Refusing;
 use std::alloc::{AllocError, Global};
 use std::fmt::Write;
-use wtf8::{Build, CodePoint, Stopped, Wtf8, Wtf8Buf};
+use wtf8::{Build, CodePoint, Stopped, Wtf8Buf};
 
 /// So many requests for memory are granted that none is refused.
 const UNBOUNDED: usize = 0xFFFF;
 
 impl Machine {
     /// `apply` of each call of a list: writes what it answers, and the string behind it.
-    pub fn apply_each(
-        &mut self,
-        reader: &mut Reader<'_>,
-        transcript: &mut String,
-    ) -> Result<(), Stop> {
-        let register = reader.register()?;
-        let points = reader.points(self.alloc)?;
+    pub fn apply_each(&mut self, tape: &mut Tape<'_>) -> Result<(), Stop> {
+        let at = tape.reader.register()?;
+        let points = tape.reader.points(self.alloc)?;
         let pieces = self.copies()?;
-        let calls = read_calls(self.alloc, reader, points.as_slice(), &pieces)?;
+        let calls = read_calls(self.alloc, &mut tape.reader, points.as_slice(), &pieces)?;
         for call in calls.as_slice() {
-            let is_done = self.strings[register.index].apply(*call)?;
-            writeln!(transcript, "applied {is_done}")?;
-            self.show(register, transcript)?;
+            let is_done = self.strings[at.index].apply(*call)?;
+            writeln!(tape.transcript, "applied {is_done}")?;
+            self.show(at, tape)?;
         }
         Ok(())
     }
@@ -32,34 +29,34 @@ impl Machine {
     /// `apply_all` of a list of calls, on a copy that has so much spare room and an allocator that grants so many
     /// requests: writes how many truncations were refused or where the list was stopped, the units, and the string
     /// afterwards.
-    pub fn apply_all(
-        &mut self,
-        reader: &mut Reader<'_>,
-        transcript: &mut String,
-    ) -> Result<(), Stop> {
-        let register = reader.register()?;
-        let spare = reader.number()?;
-        let grants = reader.number()?;
-        let points = reader.points(self.alloc)?;
+    pub fn apply_all(&mut self, tape: &mut Tape<'_>) -> Result<(), Stop> {
+        let at = tape.reader.register()?;
+        let spare = tape.reader.number()?;
+        let grants = tape.reader.number()?;
+        let points = tape.reader.points(self.alloc)?;
         let pieces = self.copies()?;
-        let calls = read_calls(self.alloc, reader, points.as_slice(), &pieces)?;
+        let calls = read_calls(self.alloc, &mut tape.reader, points.as_slice(), &pieces)?;
         let heap = Refusing::new(self.alloc, u64::MAX);
-        let whole = self.view(register);
+        let whole = self.view(at);
         let mut string = Wtf8Buf::with_capacity(&heap, whole.len().saturating_add(spare))?;
         string.push_wtf8(whole)?;
         if grants < UNBOUNDED {
             heap.grant(grants as u64);
         }
         match string.apply_all(calls.as_slice()) {
-            Ok(refused) => writeln!(transcript, "all, {refused} refused")?,
-            Err(Stopped { done }) => writeln!(transcript, "stopped at {done}")?,
+            Ok(refused) => writeln!(tape.transcript, "all, {refused} refused")?,
+            Err(Stopped { done }) => writeln!(tape.transcript, "stopped at {done}")?,
         }
-        write_units(self.alloc, transcript, string.as_wtf8())?;
+        let units: Vec<u16> = string.as_wtf8().to_ill_formed_utf16().collect(self.alloc)?;
+        write!(tape.transcript, "units")?;
+        tape.write_items(units.as_slice())?;
+        tape.write_line("")?;
         let mut copy = Wtf8Buf::new(self.alloc);
         copy.push_wtf8(string.as_wtf8())?;
-        self.put(register, transcript, copy)
+        self.put(at, tape, copy)
     }
 
+    // Copies of all strings, which stay as they are while a list of calls runs.
     fn copies(&self) -> Result<[Wtf8Buf<Global>; STRINGS], AllocError> {
         let [first, second, third, fourth] = &self.strings;
         Ok([
@@ -111,14 +108,4 @@ fn read_call<'s: 'c, 'c>(
         _ => return Err(Stop::Malformed),
     };
     Ok(Some(call))
-}
-
-// Writes the units of a view.
-fn write_units(alloc: Global, transcript: &mut String, view: Wtf8<'_>) -> Result<(), Stop> {
-    let units: Vec<u16> = view.to_ill_formed_utf16().collect(alloc)?;
-    write!(transcript, "units")?;
-    for unit in units.as_slice() {
-        write!(transcript, " {unit:04X}")?;
-    }
-    machine::write_line(transcript, "")
 }

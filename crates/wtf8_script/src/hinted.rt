@@ -1,14 +1,18 @@
 // Code points under a lower hint that may be false.
-use crate::machine::Machine;
-use crate::reader::Reader;
-use crate::stop::Stop;
-use wtf8::{CodePoint, Wtf8Buf};
+use wtf8::CodePoint;
 
 /// Code points, and the lower hint that they come with, which may be false.
 #[derive(Drop)]
-struct Hinted<'a> {
+pub struct Hinted<'a> {
     points: &'a [CodePoint],
     low: usize,
+}
+
+impl<'a> Hinted<'a> {
+    /// These code points under this lower hint.
+    pub fn new(points: &'a [CodePoint], low: usize) -> Hinted<'a> {
+        Hinted { points, low }
+    }
 }
 
 impl<'a> Iterator for Hinted<'a> {
@@ -27,35 +31,5 @@ impl<'a> Iterator for Hinted<'a> {
 
     fn size_hint(&self) -> (usize, Option<usize>) {
         (self.low, None)
-    }
-}
-
-impl Machine {
-    /// `extend` by points under a lower hint: writes the string afterwards.
-    pub fn extend_hinted(
-        &mut self,
-        reader: &mut Reader<'_>,
-        transcript: &mut String,
-    ) -> Result<(), Stop> {
-        let register = reader.register()?;
-        let low = reader.number()?;
-        let points = reader.points(self.alloc)?;
-        let points = points.as_slice();
-        self.strings[register.index].extend(Hinted { points, low })?;
-        self.show(register, transcript)
-    }
-
-    /// `from_iter` of points under a lower hint: writes their string.
-    pub fn collect_hinted(
-        &mut self,
-        reader: &mut Reader<'_>,
-        transcript: &mut String,
-    ) -> Result<(), Stop> {
-        let register = reader.register()?;
-        let low = reader.number()?;
-        let points = reader.points(self.alloc)?;
-        let points = points.as_slice();
-        let string = Wtf8Buf::from_iter(self.alloc, Hinted { points, low })?;
-        self.put(register, transcript, string)
     }
 }

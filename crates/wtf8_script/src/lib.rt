@@ -5,17 +5,16 @@
 #![tactic(auto)]
 
 mod applying;
-mod building;
+mod changing;
+mod comparing;
 mod hinted;
 mod looking;
 mod machine;
-mod points;
+mod making;
 mod reader;
 mod recorder;
-mod slicing;
 mod stop;
-mod turning;
-mod unit_positions;
+mod tape;
 mod walking;
 
 pub use machine::run_script;

@@ -1,6 +1,7 @@
 // What a hasher is fed.
 ghost use Rattle.std.specs.Prelude.{◌-◌, nat_lt, length, slice_index, Some, is_some, if◌then◌else◌};
 
+use crate::tape::Tape;
 use std::alloc::AllocError;
 use std::fmt::Write;
 use std::hash::{Hash, Hasher};
@@ -36,8 +37,8 @@ impl Hasher for ByteAt {
 }
 
 /// Writes the bytes that a value feeds a hasher, one after the other.
-pub fn write_hash_input<T: Hash>(transcript: &mut String, value: &T) -> Result<(), AllocError> {
-    write!(transcript, "fed")?;
+pub fn write_hash_input<T: Hash>(tape: &mut Tape<'_>, value: &T) -> Result<(), AllocError> {
+    write!(tape.transcript, "fed")?;
     for in_front in 0..usize::MAX {
         let mut state = ByteAt {
             in_front,
@@ -47,7 +48,7 @@ pub fn write_hash_input<T: Hash>(transcript: &mut String, value: &T) -> Result<(
         let Some(byte) = state.byte else {
             break;
         };
-        write!(transcript, " {byte:02X}")?;
+        write!(tape.transcript, " {byte:02X}")?;
     }
-    writeln!(transcript)
+    writeln!(tape.transcript)
 }

@@ -1,7 +1,10 @@
-// Why a replay stopped.
+// Why answers stopped.
 ghost use Rattle.std.specs.Prelude.{◌≡◌};
+ghost use Rattle.compare_lines.specs.declared.fault.Fault.TheVariants.{Memory};
 
-/// Why a replay stopped before its end.
+use std::alloc::AllocError;
+
+/// Why answers stopped before the end of the input.
 #[derive(Clone, Copy, PartialEq, Eq, Debug)]
 pub enum Fault {
     /// A read answered an error.
@@ -10,14 +13,14 @@ pub enum Fault {
     Write,
     /// A growth of memory was refused.
     Memory,
-    /// A line is not bytes in hexadecimal.
+    /// A line is not in hexadecimal.
     NotHexadecimal,
     /// A line's script ends inside a call, or a byte or a text in it stands for nothing.
     Malformed,
 }
 
 impl Fault {
-    ghost use Rattle.wtf8_replay.specs.Fault.{status_of, text_of};
+    ghost use Rattle.compare_lines.specs.Fault.{status_of, text_of};
 
     /// The exit status that the program ends with: 1 for a failed read or write, 2 for want of memory, 3 for a bad line.
     pub fn status(&self) -> u8
@@ -41,5 +44,13 @@ impl Fault {
             Fault::NotHexadecimal => "a line is not hexadecimal",
             Fault::Malformed => "a script is malformed",
         }
+    }
+}
+
+impl From<AllocError> for Fault {
+    ghost from_gives = { λ _ fault. fault ≡ Memory };
+
+    fn from(_: AllocError) -> Fault {
+        Fault::Memory
     }
 }

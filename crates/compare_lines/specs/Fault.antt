@@ -1,7 +1,7 @@
 -- What a fault shows to the outside.
 use Rattle.std.specs.Prelude.{ℕ, List, codes}
-use Rattle.wtf8_replay.specs.declared.fault.Fault.{Fault}
-use Rattle.wtf8_replay.specs.declared.fault.Fault.TheVariants.{Read, Write, Memory, NotHexadecimal, Malformed}
+use Rattle.compare_lines.specs.declared.fault.Fault.{Fault}
+use Rattle.compare_lines.specs.declared.fault.Fault.TheVariants.{Read, Write, Memory, NotHexadecimal, Malformed}
 
 -- The exit status: 1 where input or output failed, 2 where memory ran out, 3 where a line is bad.
 abbrev pub status_of : Fault → ℕ
