@@ -1,7 +1,6 @@
 // What comparisons answer.
 use crate::stop::Stop;
 use crate::tape::Tape;
-use std::alloc::AllocError;
 use std::cmp::Ordering;
 use std::fmt::Write;
 
@@ -14,10 +13,7 @@ pub fn write_if_both<T: Ord + Drop>(
     missing: &str,
 ) -> Result<(), Stop> {
     match (own, other) {
-        (Some(own), Some(other)) => {
-            write_comparisons(tape, word, &own, &other)?;
-            Ok(())
-        }
+        (Some(own), Some(other)) => write_comparisons(tape, word, &own, &other),
         _ => tape.write_line(missing),
     }
 }
@@ -28,7 +24,7 @@ pub fn write_comparisons<T: Ord>(
     word: &str,
     own: &T,
     other: &T,
-) -> Result<(), AllocError> {
+) -> Result<(), Stop> {
     let equal = own == other;
     let different = own != other;
     let order = name_of(own.cmp(other));
@@ -41,10 +37,10 @@ pub fn write_comparisons<T: Ord>(
     let at_most = own <= other;
     let above = own > other;
     let at_least = own >= other;
-    writeln!(
+    Ok(writeln!(
         tape.transcript,
         "{word} lt {below} le {at_most} gt {above} ge {at_least}"
-    )
+    )?)
 }
 
 /// The word that a transcript has for an order.

@@ -37,13 +37,11 @@ impl Machine {
             27 => {
                 let other = self.string(tape.reader.register()?);
                 write_comparisons(tape, "buffers", string, other)?;
-                write_comparisons(tape, "views", &view, &other.as_wtf8())?;
-                Ok(())
+                write_comparisons(tape, "views", &view, &other.as_wtf8())
             }
             28 => {
                 write_hash_input(tape, string)?;
-                write_hash_input(tape, &view)?;
-                Ok(())
+                write_hash_input(tape, &view)
             }
             29 => {
                 let text = format!(in tape.alloc; "{string:?}")?;
@@ -56,8 +54,7 @@ impl Machine {
                 let other = self.view(tape.reader.register()?);
                 let order = name_of(view.cmp_units(&other));
                 let turned = name_of(other.cmp_units(&view));
-                writeln!(tape.transcript, "units {order}, turned {turned}")?;
-                Ok(())
+                Ok(writeln!(tape.transcript, "units {order}, turned {turned}")?)
             }
             _ => Err(Stop::Malformed),
         }
@@ -99,8 +96,7 @@ fn write_ascii_byte(tape: &mut Tape<'_>, view: Wtf8<'_>) -> Result<(), Stop> {
         return tape.write_line(REFUSED);
     }
     let byte = view.ascii_byte_at(position);
-    writeln!(tape.transcript, "byte {byte:02X}")?;
-    Ok(())
+    Ok(writeln!(tape.transcript, "byte {byte:02X}")?)
 }
 
 // `is_code_point_boundary` of each index up to the length: those that are boundaries.
@@ -190,8 +186,7 @@ fn write_point(tape: &mut Tape<'_>) -> Result<(), Stop> {
         }
         None => writeln!(tape.transcript, "no char lossy {lossy:X}")?,
     }
-    write_hash_input(tape, &point)?;
-    Ok(())
+    write_hash_input(tape, &point)
 }
 
 // All that can be asked of a slice, inside its string.

@@ -106,10 +106,7 @@ impl<'a> Reader<'a> {
         ensures ok { IfOk result (λ text. self.old ≡ (length text.now ∷ text.now) ++ self.new) }
         ensures err { IfErr result (λ stop. stop ≡ Stop.Malformed) }
     {
-        match str::from_utf8(self.bytes()?) {
-            Ok(text) => Ok(text),
-            Err(_) => Err(Stop::Malformed),
-        }
+        str::from_utf8(self.bytes()?).or(Err(Stop::Malformed))
     }
 
     /// A byte with their number, and units of two bytes.

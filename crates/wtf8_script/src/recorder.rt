@@ -1,8 +1,8 @@
 // What a hasher is fed.
 ghost use Rattle.std.specs.Prelude.{◌-◌, nat_lt, length, slice_index, Some, is_some, if◌then◌else◌};
 
+use crate::stop::Stop;
 use crate::tape::Tape;
-use std::alloc::AllocError;
 use std::fmt::Write;
 use std::hash::{Hash, Hasher};
 
@@ -37,7 +37,7 @@ impl Hasher for ByteAt {
 }
 
 /// Writes the bytes that a value feeds a hasher, one after the other.
-pub fn write_hash_input<T: Hash>(tape: &mut Tape<'_>, value: &T) -> Result<(), AllocError> {
+pub fn write_hash_input<T: Hash>(tape: &mut Tape<'_>, value: &T) -> Result<(), Stop> {
     write!(tape.transcript, "fed")?;
     for in_front in 0..usize::MAX {
         let mut state = ByteAt {
@@ -50,5 +50,5 @@ pub fn write_hash_input<T: Hash>(tape: &mut Tape<'_>, value: &T) -> Result<(), A
         };
         write!(tape.transcript, " {byte:02X}")?;
     }
-    writeln!(tape.transcript)
+    tape.write_line("")
 }

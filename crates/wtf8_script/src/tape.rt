@@ -40,8 +40,7 @@ impl<'s> Tape<'s> {
     pub fn write_line(&mut self, line: &str) -> Result<(), Stop>
         ensures { OnOk result (string_bytes self.new.transcript ≡ string_bytes self.old.transcript ++ (line.now ++ 10 ∷ [])) }
     {
-        writeln!(self.transcript, "{line}")?;
-        Ok(())
+        Ok(writeln!(self.transcript, "{line}")?)
     }
 
     /// Writes a line with a word and the bytes of a text in hexadecimal.
@@ -49,16 +48,14 @@ impl<'s> Tape<'s> {
         ensures { OnOk result (string_bytes self.new.transcript ≡ string_bytes self.old.transcript ++ (word.now ++ 58 ∷ 32 ∷ (hex text.now ++ 10 ∷ []))) }
     {
         let dump = Wtf8::from_str(text).hex_dump(self.alloc)?;
-        writeln!(self.transcript, "{word}: {dump}")?;
-        Ok(())
+        Ok(writeln!(self.transcript, "{word}: {dump}")?)
     }
 
     /// Writes the length and the bytes of a view behind a space, to the end of the line.
     pub fn write_view(&mut self, view: Wtf8<'_>) -> Result<(), Stop> {
         let len = view.len();
         let dump = view.hex_dump(self.alloc)?;
-        writeln!(self.transcript, " {len}: {dump}")?;
-        Ok(())
+        Ok(writeln!(self.transcript, " {len}: {dump}")?)
     }
 
     /// Writes an item behind a space, or a word where there is none.
