@@ -69,8 +69,8 @@ impl Bench {
             7 => self.sum(|round| Ok(u64::from(
                 self.string_at(round).clone()?.into_string().is_ok(),
             ))),
-            8 => self.sum(|_| len_of(self.pushed_points())),
-            9 => self.sum(|round| len_of(self.extended(round))),
+            8 => self.sum(|_| self.push()),
+            9 => self.sum(|round| self.extend(round)),
             10 => self.push_strings(),
             11 => self.sum(|round| Ok(u64::from(
                 self.string_at(round) == self.string_at(other_than(round)),
@@ -138,20 +138,20 @@ impl Bench {
         self.counted_at(round).text()
     }
 
-    // A string of all code points, pushed one by one.
-    fn pushed_points(&self) -> Result<Wtf8Buf<Global>, AllocError> {
+    // The length of a string of all code points, pushed one by one.
+    fn push(&self) -> Result<u64, AllocError> {
         let mut string = Wtf8Buf::new(self.alloc);
         for point in &self.points {
             string.push(*point)?;
         }
-        Ok(string)
+        Ok(string.len() as u64)
     }
 
-    // An empty string that is extended by the code points of a round's string.
-    fn extended(&self, round: u32) -> Result<Wtf8Buf<Global>, AllocError> {
+    // The length of an empty string that is extended by the code points of a round's string.
+    fn extend(&self, round: u32) -> Result<u64, AllocError> {
         let mut string = Wtf8Buf::new(self.alloc);
         string.extend(self.view_at(round).code_points())?;
-        Ok(string)
+        Ok(string.len() as u64)
     }
 
     // The length of the last string that was pushed to, up to 64 times each.
