@@ -2,15 +2,15 @@
 #![tactic(auto)]
 
 ghost use Rattle.std.specs.Prelude.{◌≢◌, ℕ, List, OnOk, IfErr, IsErrOf};
-ghost use Rattle.wtf8_replay.specs.Hex.{IsHex, Spells};
+ghost use Rattle.compare_replay.specs.Hex.{IsHex, Spells};
 
 mod hex;
 
 use compare_lines::{Fault, answer_lines};
+use compare_scripts::{Stop, run_script};
 use hex::read_hex;
 use std::alloc::Global;
 use std::process::ExitCode;
-use wtf8_script::{Stop, run_script};
 
 fn main(rt: HostRuntime) -> ExitCode {
     answer_lines(&rt, rt.alloc(), run_line)

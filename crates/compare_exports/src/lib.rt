@@ -2,14 +2,14 @@
 #![tactic(auto)]
 
 ghost use Rattle.std.specs.Prelude.{◌≡◌, ◌<◌, ◌≤◌, ◌<ℤ◌, ◌↔◌, ◌⊎◌, ℕ, pos, length, drop};
-ghost use Rattle.wtf8_compare.specs.Front.{with_front};
+ghost use Rattle.compare_exports.specs.Front.{with_front};
 
 mod counted;
 mod timing;
 
+use compare_scripts::{Stop, run_script};
 use std::alloc::{AllocError, Global};
 use timing::{Bench, LAST};
-use wtf8_script::{Stop, run_script};
 
 /// The script ends inside a call, or a byte or a text in it stands for nothing.
 const MALFORMED: i64 = -1;
@@ -26,7 +26,7 @@ const MEMORY: i64 = -2;
 /// for want of memory. `out` is left as it was where there is no transcript and where it is longer than `out`, and else
 /// behind the transcript.
 #[unsafe(no_mangle)]
-pub extern "C" fn wtf8_compare_run(alloc: Global, script: &[u8], out: &mut [u8]) -> i64
+pub extern "C" fn compare_exports_run(alloc: Global, script: &[u8], out: &mut [u8]) -> i64
     ensures code { result <ℤ pos 0 → (result ≡ MALFORMED) ⊎ (result ≡ MEMORY) }
 
     // Nothing is written where there is no transcript, or no room for it.
@@ -49,7 +49,7 @@ pub extern "C" fn wtf8_compare_run(alloc: Global, script: &[u8], out: &mut [u8])
 /// It answers 0, or a number below 0 where `sum` is left as it was: -1 where the number has no loop, -2 for want of
 /// memory.
 #[unsafe(no_mangle)]
-pub extern "C" fn wtf8_compare_time(
+pub extern "C" fn compare_exports_time(
     alloc: Global,
     number: u32,
     units: &[u16],

@@ -1,7 +1,7 @@
 use Rattle.std.proofs.Common.{◌≡◌, ◌∷◌, ◌++◌, length}
 use Rattle.std.specs.Int.{w16, to_le_bytes}
 use Rattle.std.specs.List.{flat_map}
-use Rattle.wtf8_script.proofs.reader.Reader.units.Given as goal
+use Rattle.compare_scripts.proofs.reader.Reader.units.Given as goal
 
 -- the units so far were taken
 abbrev pub invariant-loop : goal.invariant-loop

@@ -2,8 +2,8 @@ use Rattle.std.proofs.Common.{◌≡◌, ℕ, List, ◌∷◌, ◌++◌, length,
 use Rattle.std.specs.Int.{w32, to_le_bytes}
 use Rattle.std.specs.List.{flat_map}
 use Rattle.wtf8.specs.CodePoint.{number}
-use Rattle.wtf8_script.specs.Operand.{code_points}
-use Rattle.wtf8_script.proofs.reader.Reader.points.Given as goal
+use Rattle.compare_scripts.specs.Operand.{code_points}
+use Rattle.compare_scripts.proofs.reader.Reader.points.Given as goal
 
 -- some values so far were taken, and the points so far are those of them that are code points
 abbrev pub invariant-loop : goal.invariant-loop

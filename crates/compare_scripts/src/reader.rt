@@ -1,6 +1,6 @@
 // What is left of a script, and its operands.
 ghost use Rattle.std.specs.Prelude.{◌<◌};
-ghost use Rattle.wtf8_script.specs.declared.reader.TheConstants.{STRINGS};
+ghost use Rattle.compare_scripts.specs.declared.reader.TheConstants.{STRINGS};
 
 use crate::stop::Stop;
 use std::alloc::{AllocError, Global};
@@ -38,7 +38,7 @@ impl<'a> Reader<'a> {
     ghost use Rattle.std.specs.Prelude.{◌≡◌, ◌≤◌, ◌<◌, ◌⊎◌, List, ℕ, [], ◌∷◌, ◌++◌, length, map, slice_index, IfSome, IfNone, IfOk, IfErr};
     ghost use Rattle.std.specs.Int.{w16, w32, to_le_bytes};
     ghost use Rattle.wtf8.specs.CodePoint.{number as number_of};
-    ghost use Rattle.wtf8_script.specs.Operand.{units_bytes, values_bytes, code_points};
+    ghost use Rattle.compare_scripts.specs.Operand.{units_bytes, values_bytes, code_points};
 
     /// The whole script.
     pub fn new(script: &'a [u8]) -> Reader<'a>

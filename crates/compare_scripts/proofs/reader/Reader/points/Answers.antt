@@ -2,10 +2,10 @@ use Rattle.std.proofs.Common.{◌≡◌, [], ◌∷◌, ◌++◌, ◌+◌, ◌�
 use Rattle.std.specs.Int.{w32, to_le_bytes}
 use Rattle.std.proofs.lemmas.Grind.{common_steps}
 use Rattle.wtf8.specs.CodePoint.{number}
-use Rattle.wtf8_script.specs.Operand.{code_points}
-use Rattle.wtf8_script.proofs.Taking.{one_more, code_points-push, code_points-skip}
-use Rattle.wtf8_script.proofs.reader.Reader.points.Goals as goal
-use Rattle.wtf8_script.proofs.reader.Reader.points.Goals.{in-Some+in_ok-map_err, in_default}
+use Rattle.compare_scripts.specs.Operand.{code_points}
+use Rattle.compare_scripts.proofs.Taking.{one_more, code_points-push, code_points-skip}
+use Rattle.compare_scripts.proofs.reader.Reader.points.Goals as goal
+use Rattle.compare_scripts.proofs.reader.Reader.points.Goals.{in-Some+in_ok-map_err, in_default}
 
 pub loop-preserved : goal.loop-preserved
 loop-preserved c =

@@ -1,6 +1,6 @@
 // Bytes in hexadecimal.
 ghost use Rattle.std.specs.Prelude.{IfOk, IfSome, IfNone};
-ghost use Rattle.wtf8_replay.specs.Hex.{IsHex, Spells};
+ghost use Rattle.compare_replay.specs.Hex.{IsHex, Spells};
 
 use compare_lines::byte_of;
 use std::alloc::{AllocError, Global};

@@ -6,7 +6,7 @@ use Rattle.std.proofs.lemmas.List.{flat_map_more, map-append}
 use Rattle.std.proofs.lemmas.List.Elements.{filter-append}
 use Rattle.wtf8.specs.CodePoint.{number}
 use Rattle.wtf8.specs.declared.code_point.CodePoint.{CodePoint}
-use Rattle.wtf8_script.specs.Operand.{code_points}
+use Rattle.compare_scripts.specs.Operand.{code_points}
 
 -- one more piece between the pieces so far and the rest
 pub one_more : {X : Type 0} (f : X → List ℕ) (n : ℕ) (old new newer : List ℕ) (xs : List X) (x : X) → old ≡ (n ∷ flat_map f xs) ++ new → new ≡ f x ++ newer → old ≡ (n ∷ flat_map f (xs ++ x ∷ [])) ++ newer
