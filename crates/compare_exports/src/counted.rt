@@ -56,9 +56,9 @@ impl Counted {
         &self.text
     }
 
-    /// The unit in the middle of the text.
-    pub fn middle_unit(&self) -> Option<u16> {
-        self.text.unit_at(self.middle)
+    /// The unit in the middle of the text, 0 for the empty text.
+    pub fn middle_unit(&self) -> u16 {
+        self.text.unit_at(self.middle).unwrap_or(0)
     }
 
     /// The text without its first and its last quarter.

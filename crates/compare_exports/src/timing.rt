@@ -5,6 +5,7 @@ ghost use Rattle.std.specs.Prelude.{◌≤◌};
 
 use crate::counted::Counted;
 use std::alloc::{AllocError, Global};
+use std::cmp::Ordering;
 use unit_text::UnitText;
 use wtf8::{CodePoint, Wtf8, Wtf8Buf};
 
@@ -52,61 +53,27 @@ impl Bench {
     {
         match number {
             0 => Ok(0),
-            1 => self.sum(|_| len_of(Wtf8Buf::from_ill_formed_utf16(
-                self.alloc,
-                self.units.as_slice(),
-            ))),
+            1 => self.sum(|_| self.from_units()),
             2 => self.sum(|round| collected_units(self.alloc, self.view_at(round))),
             3 => self.sum(|round| Ok(sum_of_units(self.view_at(round)))),
             4 => self.sum(|round| Ok(sum_of_points(self.view_at(round)))),
-            5 => self.sum(|round| Ok(u64::from(self.view_at(round).as_str().is_some()))),
-            6 => self.sum(|round| Ok(
-                self.view_at(round)
-                    .to_string_lossy(self.alloc)?
-                    .as_str()
-                    .len() as u64,
-            )),
-            7 => self.sum(|round| Ok(u64::from(
-                self.string_at(round).clone()?.into_string().is_ok(),
-            ))),
+            5 => self.sum(|round| Ok(self.view_at(round).as_str().is_some() as u64)),
+            6 => self.sum(|round| lossy_len(self.alloc, self.view_at(round))),
+            7 => self.sum(|round| Ok(self.string_at(round).clone()?.into_string().is_ok() as u64)),
             8 => self.sum(|_| self.push()),
             9 => self.sum(|round| self.extend(round)),
             10 => self.push_strings(),
-            11 => self.sum(|round| Ok(u64::from(
-                self.string_at(round) == self.string_at(other_than(round)),
-            ))),
-            12 => self.sum(|round| Ok(u64::from(
-                self.string_at(round)
-                    .cmp(self.string_at(other_than(round)))
-                    .is_eq(),
-            ))),
-            13 => self.sum(|round| len_of(self.string_at(round).clone())),
-            14 => self.sum(|round| Ok(self.view_at(round).hex_dump(self.alloc)?.len() as u64)),
-            _ => self.run_in_units(number),
-        }
-    }
-
-    // The loops over calls that count in units.
-    fn run_in_units(&self, number: u32) -> Result<u64, AllocError>
-        requires { (15 ≤ number) × (number ≤ 19) }
-    {
-        match number {
-            15 => self.sum(|round| Ok(self.text_at(round).unit_len() as u64)),
-            16 => self.sum(|round| Ok(u64::from(
-                self.counted_at(round).middle_unit().unwrap_or(0),
-            ))),
-            17 => self.sum(|round| Ok(
-                self.counted_at(round)
-                    .middle_half(self.alloc)?
-                    .as_wtf8()
-                    .len() as u64,
+            11 => self.sum(|round| Ok((self.string_at(round) == self.other_at(round)) as u64)),
+            12 => self.sum(|round| Ok(
+                self.string_at(round).cmp(self.other_at(round)).is_eq() as u64,
             )),
-            18 => self.sum(|round| Ok(u64::from(
-                self.text_at(round)
-                    .cmp_units(self.text_at(other_than(round)))
-                    .is_eq(),
-            ))),
-            19 => self.sum(|round| len_of(self.counted_at(round).first_half())),
+            13 => self.sum(|round| Ok(self.string_at(round).clone()?.len() as u64)),
+            14 => self.sum(|round| Ok(self.view_at(round).hex_dump(self.alloc)?.len() as u64)),
+            15 => self.sum(|round| Ok(self.text_at(round).unit_len() as u64)),
+            16 => self.sum(|round| Ok(u64::from(self.counted_at(round).middle_unit()))),
+            17 => self.sum(|round| self.middle_len(round)),
+            18 => self.sum(|round| Ok(self.order_in_units(round).is_eq() as u64)),
+            19 => self.sum(|round| Ok(self.counted_at(round).first_half()?.len() as u64)),
             _ => unreachable!(),
         }
     }
@@ -134,8 +101,31 @@ impl Bench {
         self.string_at(round).as_wtf8()
     }
 
+    // Another string than that of the round.
+    fn other_at(&self, round: u32) -> &Wtf8Buf<Global> {
+        self.string_at(round / STRINGS as u32 + 1)
+    }
+
     fn text_at(&self, round: u32) -> &UnitText<Global> {
         self.counted_at(round).text()
+    }
+
+    // The order of the round's text and another one.
+    fn order_in_units(&self, round: u32) -> Ordering {
+        let other = self.text_at(round / STRINGS as u32 + 1);
+        self.text_at(round).cmp_units(other)
+    }
+
+    // The length of the middle half of the round's text, in bytes.
+    fn middle_len(&self, round: u32) -> Result<u64, AllocError> {
+        let half = self.counted_at(round).middle_half(self.alloc)?;
+        Ok(half.as_wtf8().len() as u64)
+    }
+
+    // The length of a string of the units.
+    fn from_units(&self) -> Result<u64, AllocError> {
+        let string = Wtf8Buf::from_ill_formed_utf16(self.alloc, self.units.as_slice())?;
+        Ok(string.len() as u64)
     }
 
     // The length of a string of all code points, pushed one by one.
@@ -167,14 +157,9 @@ impl Bench {
     }
 }
 
-// A round that has another string than this one.
-fn other_than(round: u32) -> u32 {
-    round / STRINGS as u32 + 1
-}
-
-// The length of a string in bytes, where there is one.
-fn len_of(string: Result<Wtf8Buf<Global>, AllocError>) -> Result<u64, AllocError> {
-    Ok(string?.as_wtf8().len() as u64)
+// The length of a view's text with its surrogates replaced.
+fn lossy_len(alloc: Global, view: Wtf8<'_>) -> Result<u64, AllocError> {
+    Ok(view.to_string_lossy(alloc)?.as_str().len() as u64)
 }
 
 // How many units a view has, by a list of them.
