@@ -1,41 +1,43 @@
 // Building calls by their names, one by one and lists of them.
 use crate::machine::Machine;
-use crate::reader::{Reader, STRINGS};
+use crate::reader::{Reader, Register, STRINGS};
 use crate::stop::Stop;
 use crate::tape::Tape;
 use refusing::Refusing;
 use std::alloc::{AllocError, Global};
 use std::fmt::Write;
+use std::mem;
 use wtf8::{Build, CodePoint, Stopped, Wtf8Buf};
 
 /// So many requests for memory are granted that none is refused.
 const UNBOUNDED: usize = 0xFFFF;
 
 impl Machine {
-    /// `apply` of each call of a list: writes what it answers, and the string behind it.
+    /// `apply` of each call of a list, whose strings stay as they are: writes what it answers, and the string behind it.
     pub fn apply_each(&mut self, tape: &mut Tape<'_>) -> Result<(), Stop> {
         let at = tape.reader.register()?;
         let points = tape.reader.points(self.alloc)?;
-        let pieces = self.copies()?;
-        let calls = read_calls(self.alloc, &mut tape.reader, points.as_slice(), &pieces)?;
+        let copy = self.string(at).clone()?;
+        let mut string = mem::replace(&mut self.strings[at.index], copy);
+        let calls = read_calls(tape, points.as_slice(), &self.strings)?;
         for call in calls.as_slice() {
-            let is_done = self.strings[at.index].apply(*call)?;
+            let is_done = string.apply(*call)?;
             writeln!(tape.transcript, "applied {is_done}")?;
-            self.show(at, tape)?;
+            tape.write_string(at, string.as_wtf8())?;
         }
+        drop(calls);
+        self.strings[at.index] = string;
         Ok(())
     }
 
     /// `apply_all` of a list of calls, on a copy that has so much spare room and an allocator that grants so many
-    /// requests: writes how many truncations were refused or where the list was stopped, the units, and the string
-    /// afterwards.
-    pub fn apply_all(&mut self, tape: &mut Tape<'_>) -> Result<(), Stop> {
-        let at = tape.reader.register()?;
+    /// requests: writes how many truncations were refused or where the list was stopped, and the units, and answers the
+    /// string afterwards.
+    pub fn apply_all(&self, at: Register, tape: &mut Tape<'_>) -> Result<Wtf8Buf<Global>, Stop> {
         let spare = tape.reader.number()?;
         let grants = tape.reader.number()?;
         let points = tape.reader.points(self.alloc)?;
-        let pieces = self.copies()?;
-        let calls = read_calls(self.alloc, &mut tape.reader, points.as_slice(), &pieces)?;
+        let calls = read_calls(tape, points.as_slice(), &self.strings)?;
         let heap = Refusing::new(self.alloc, u64::MAX);
         let whole = self.view(at);
         let mut string = Wtf8Buf::with_capacity(&heap, whole.len().saturating_add(spare))?;
@@ -53,31 +55,19 @@ impl Machine {
         tape.write_line("")?;
         let mut copy = Wtf8Buf::new(self.alloc);
         copy.push_wtf8(string.as_wtf8())?;
-        self.put(at, tape, copy)
-    }
-
-    // Copies of all strings, which stay as they are while a list of calls runs.
-    fn copies(&self) -> Result<[Wtf8Buf<Global>; STRINGS], AllocError> {
-        let [first, second, third, fourth] = &self.strings;
-        Ok([
-            first.clone()?,
-            second.clone()?,
-            third.clone()?,
-            fourth.clone()?,
-        ])
+        Ok(copy)
     }
 }
 
 // The building calls of a list: a byte with their number, and each of them.
 fn read_calls<'s: 'c, 'c>(
-    alloc: Global,
-    reader: &mut Reader<'s>,
+    tape: &mut Tape<'s>,
     points: &'c [CodePoint],
     pieces: &'c [Wtf8Buf<Global>; STRINGS],
 ) -> Result<Vec<Build<'c>>, Stop> {
-    let mut calls = Vec::new(alloc);
-    for _ in 0..reader.byte()? {
-        if let Some(call) = read_call(reader, points, pieces)? {
+    let mut calls = Vec::new(tape.alloc);
+    for _ in 0..tape.reader.byte()? {
+        if let Some(call) = read_call(&mut tape.reader, points, pieces)? {
             calls.push(call).map_err(AllocError::from)?;
         }
     }

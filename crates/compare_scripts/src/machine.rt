@@ -3,7 +3,6 @@ use crate::reader::{Reader, Register, STRINGS};
 use crate::stop::Stop;
 use crate::tape::Tape;
 use std::alloc::Global;
-use std::fmt::Write;
 use wtf8::{Wtf8, Wtf8Buf};
 
 /// The transcript of a script: what each of its calls answers, and for one that changes a string its length and bytes
@@ -45,14 +44,13 @@ impl Machine {
     /// Does the call of an opcode, whose operands come next in the script, and writes what it answers.
     fn run(&mut self, opcode: u8, tape: &mut Tape<'_>) -> Result<(), Stop> {
         match opcode {
-            0..=7 | 16..=18 | 36 | 38 => self.make(opcode, tape),
+            0..=7 | 16..=18 | 36 | 38 | 40 => self.make(opcode, tape),
             8 => self.reserve(tape),
             9..=14 | 37 => self.append(opcode, tape),
             15 | 33 => self.cut(opcode, tape),
             19 | 20 => self.turn(opcode, tape),
             21..=29 | 41..=43 => self.look(opcode, tape),
             39 => self.apply_each(tape),
-            40 => self.apply_all(tape),
             _ => self.look_at_operands(opcode, tape),
         }
     }
@@ -94,8 +92,6 @@ impl Machine {
 
     /// Writes a register, and its string's length and bytes.
     pub fn show(&self, at: Register, tape: &mut Tape<'_>) -> Result<(), Stop> {
-        let index = at.index;
-        write!(tape.transcript, "s{index}")?;
-        tape.write_view(self.view(at))
+        tape.write_string(at, self.view(at))
     }
 }

@@ -15,6 +15,7 @@ impl Machine {
         let made = match opcode {
             16..=18 => self.push_part(opcode, Wtf8Buf::new(self.alloc), &mut tape.reader)?,
             36 => self.push_part(opcode, self.string(at).clone()?, &mut tape.reader)?,
+            40 => Some(self.apply_all(at, tape)?),
             _ => Some(self.made(opcode, tape)?),
         };
         match made {

@@ -3,7 +3,7 @@ ghost use Rattle.std.specs.Prelude.{◌≡◌, [], ◌∷◌, ◌++◌, OnOk};
 ghost use Rattle.std.specs.String.{string_bytes};
 ghost use Rattle.wtf8.specs.Hex.{hex};
 
-use crate::reader::Reader;
+use crate::reader::{Reader, Register};
 use crate::stop::Stop;
 use std::alloc::{AllocError, Global};
 use std::fmt::Write;
@@ -49,6 +49,13 @@ impl<'s> Tape<'s> {
     {
         let dump = Wtf8::from_str(text).hex_dump(self.alloc)?;
         Ok(writeln!(self.transcript, "{word}: {dump}")?)
+    }
+
+    /// Writes a register, and a string's length and bytes.
+    pub fn write_string(&mut self, at: Register, string: Wtf8<'_>) -> Result<(), Stop> {
+        let index = at.index;
+        write!(self.transcript, "s{index}")?;
+        self.write_view(string)
     }
 
     /// Writes the length and the bytes of a view behind a space, to the end of the line.

@@ -1,5 +1,4 @@
 // The steps of an iterator.
-ghost use Rattle.std.specs.Prelude.{};
 ghost use Rattle.std.specs.Iterator.{IsFinite};
 
 use crate::stop::Stop;
@@ -10,7 +9,8 @@ use std::fmt::Write;
 /// The word for the end of an iterator.
 const END: &str = "end";
 
-/// Writes what each step answers at an iterator, and then all that is left, to the end of the line.
+/// Writes what each step answers at an iterator, and then all that is left, to the end of the line. The iterator may be
+/// asked at every moment, behind its end too.
 pub fn write_steps<T: Shown, I: Iterator<Item = T> + Clone>(
     tape: &mut Tape<'_>,
     mut items: I,
