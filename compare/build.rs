@@ -23,17 +23,17 @@ fn main() {
 
 fn link_library() {
     let here = PathBuf::from(env::var("CARGO_MANIFEST_DIR").expect("cargo names the folder"));
-    let library = here.join("../crates/wtf8_compare/out");
+    let library = here.join("../crates/compare_exports/out");
     println!(
         "cargo:rerun-if-changed={}",
-        library.join("libwtf8_compare.a").display()
+        library.join("libcompare_exports.a").display()
     );
     println!("cargo:rustc-link-search=native={}", library.display());
     println!(
         "cargo:rustc-link-search=native={}",
         toolchain().join("c").display()
     );
-    println!("cargo:rustc-link-lib=static=wtf8_compare");
+    println!("cargo:rustc-link-lib=static=compare_exports");
     println!("cargo:rustc-link-lib=static=libc_c");
 }
 

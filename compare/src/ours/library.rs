@@ -5,8 +5,13 @@ use std::cell::RefCell;
 use crate::console::fail;
 
 extern "C" {
-    fn wtf8_compare_run(script: *const u8, script_len: usize, out: *mut u8, out_len: usize) -> i64;
-    fn wtf8_compare_time(
+    fn compare_exports_run(
+        script: *const u8,
+        script_len: usize,
+        out: *mut u8,
+        out_len: usize,
+    ) -> i64;
+    fn compare_exports_time(
         number: u32,
         units: *const u16,
         units_len: usize,
@@ -23,8 +28,9 @@ thread_local! {
 /// The proved library's transcript of a script, or what it gave in the place of one.
 pub fn run(script: &[u8]) -> String {
     TRANSCRIPT.with_borrow_mut(|out| loop {
-        let len =
-            unsafe { wtf8_compare_run(script.as_ptr(), script.len(), out.as_mut_ptr(), out.len()) };
+        let len = unsafe {
+            compare_exports_run(script.as_ptr(), script.len(), out.as_mut_ptr(), out.len())
+        };
         let Ok(len) = usize::try_from(len) else {
             return format!("NO TRANSCRIPT, {len}\n");
         };
@@ -39,7 +45,7 @@ pub fn run(script: &[u8]) -> String {
 pub fn time(number: u32, units: &[u16], rounds: u32) -> u64 {
     let mut sum = 0;
     let status =
-        unsafe { wtf8_compare_time(number, units.as_ptr(), units.len(), rounds, &mut sum) };
+        unsafe { compare_exports_time(number, units.as_ptr(), units.len(), rounds, &mut sum) };
     match status {
         0 => sum,
         _ => fail(&format!("the proved library's loop {number} gave {status}")),

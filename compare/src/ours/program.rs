@@ -1,4 +1,4 @@
-//! The proved library as the program `wtf8_replay` runs it: a script a line in hexadecimal, and its transcript with an empty
+//! The proved library as the program `compare_replay` runs it: a script a line in hexadecimal, and its transcript with an empty
 //! line behind. The variable `COMPARE_PROGRAM` names the built program.
 
 use std::cell::RefCell;

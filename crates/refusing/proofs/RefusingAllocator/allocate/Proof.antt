@@ -1,7 +1,7 @@
 -- It uses a grant up and answers what the inner allocator answers, or answers `Err`. Assumes `Logic`.
 use Rattle.std.proofs.Common.{◌≡◌, ℕ, ◌+◌, ◌^◌, ◌<◌, Bool, true, false, List, [], ◌∷◌, Ok, Err, refl, ap, w64, Bor}
 use seplogic.Ra.Ura.{Ura}
-use mir.Syntax.{Ty, Args, Fn, a_type, dnil, dcons}
+use mir.Syntax.{Ty, Fn}
 use mir.Val.{Val, vbool, vint, vptr}
 use mir.MapTy.{inst_fn}
 use base.Logic.{SProp, ent, sep, ex, guard, id⊢}
@@ -21,9 +21,8 @@ use denote.RattleType.{RattleType, owns}
 use denote.Memory.{hidden_shr}
 use denote.Ref.{shr_vals}
 use denote.Opens.{unhide}
-use denote.Param.{bounded, param}
 use denote.Plain.{uint_vals, uint_Tells}
-use denote.Signature.{Slot, plain, types_at}
+use denote.Signature.{plain, types_at}
 use denote.Steps.{heard, nothing, only}
 use denote.Triple.Clauses.{Ended, Clauses}
 use denote.Triple.Spec.{triple_of}
@@ -33,7 +32,7 @@ use denote.Triple.Walked.{Stays, stay_dropped, walk_of, ends_at, walked, Goes-dr
 use types.Kit.{‵, raw, ◌⊛◌, some, later, given, prop, at_ret, Sq, learn, ◌$◌, ◌∵◌, !, qed, move, keep, use0, use1, use2, split, join, pick, fsplit, fjoin, feq_i, feq_l, check, show, suffices, await, updating, now as at_once, done}
 use types.ByLocal.{alloc_all, pass_all, free_all, look_at, get, through, sets, lands_as, env}
 use denote.RawPtr.{block_ptr}
-use denote.Builtin.{u64, usize, bool, RefOf}
+use denote.Builtin.{u64, usize, bool}
 use denote.Triple.Call.{calls_at}
 use Rattle.std.proofs.alloc.Calls.{Al, α, seen, Answer, answer_val, Answer-typed, Answer-Ok, Answer-err, takes_key, Takes, at_takes, Answered, Takes-goes, Takes-gives, answers}
 use Rattle.refusing.proofs.use_grant.Symbol as grant_sym
@@ -42,6 +41,7 @@ use Rattle.std.proofs.VecSteps.Shapes.{after}
 use Rattle.std.specs.contracts.cell.Cell as cell
 use Rattle.refusing.specs.contracts.use_grant as grant
 use Rattle.refusing.specs.contracts.Refusing as wrapper
+use Rattle.refusing.proofs.Wrapper.{args, self}
 use Rattle.refusing.specs.contracts.RefusingAllocator.allocate as F
 use Rattle.refusing.specs.contracts.RefusingAllocator.allocate.Key as key
 use Rattle.refusing.proofs.RefusingAllocator.allocate.Statement as stated
@@ -73,20 +73,14 @@ module _ {M : Type 1} {𝓤 : Ura M} (𝓛 : Logic 𝓤) (at_mem : Memory → SP
       split ! $ split ! $ move ! (1 ∷ []) $ feq_l ! (λ e. split ! $ at_once ! $ show ! (λ (y : Bool). guard 𝓤 (v ≡ vbool y) (A.lft κ q)) y $ check ! (ap only e) $ keep ! (0 ∷ []) $ done !))
 
 module _ (Z : Al) where
-  abbrev args : Args
-  args = bounded (a_type ∷ []) (Z.row, tt) (dcons Z.d (dcons Z.drops dnil))
-
   abbrev here : Fn
-  here = inst_fn args code.function
-
-  abbrev self : Slot 2
-  self = RefOf (0 ∷ []) tt (plain (λ _. wrapper.the_row (param 0 Z.row))) (λ _. tt)
+  here = inst_fn (args Z) code.function
 
   abbrev ended : Ended
   ended = F.ended Z.row Z.g Z.d Z.drops
 
   abbrev stayed : Stays ended.signature.params ended.kept
-  stayed = (stay_dropped self yes, (stay_dropped (plain (λ _. usize)) yes, (stay_dropped (plain (λ _. usize)) yes, tt)))
+  stayed = (stay_dropped (self Z) yes, (stay_dropped (plain (λ _. usize)) yes, (stay_dropped (plain (λ _. usize)) yes, tt)))
 
 module _ (Z : Al) {M : Type 1} {𝓤 : Ura M} (𝓛 : Logic 𝓤) (at_mem : Memory → SProp 𝓤) (run : Routine → Fun 𝓤) (𝓣 : Tables 𝓤 𝓛.H) (tk : Triple 𝓤 (𝓣.C (takes_key Z)) (Takes Z 𝓛 at_mem run)) (gr : Triple 𝓤 (𝓣.C grant_sym.name) (Uses 𝓛 at_mem run)) where
   open 𝓛 use {H}
@@ -142,7 +136,6 @@ pub allocate_spec : {M : Type 1} → stated.statement M
 unfolding tables_of
 allocate_spec 𝓤 𝓛 𝓜 𝓡 wired Y L g d d' met _ =
     let Z : Al = record { row = Y; laws = L; g = g; d = d; drops = d' } in
-    let A = 𝓛.A in
     let 𝓣 : Tables 𝓤 𝓛.H = tables_of 𝓤 𝓛.H 𝓜 (tables 𝓤 𝓛.H 𝓜 𝓡 𝓡.env) in
     let c = F.clauses Y g d d' 𝓛 𝓜.mem 𝓡.returns in
     entered 𝓤 𝓛.H (triple_of 𝓛 (F.signature Y) (F.spec Y g d d' 𝓛 𝓜.mem 𝓡.returns)) 𝓣.C 𝓣.Λ (key.name (args Z)) (here Z) (code.unfolded 𝓤 𝓛.H 𝓜 𝓡 wired (Y, tt) d d')

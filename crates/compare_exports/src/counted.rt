@@ -1,0 +1,75 @@
+//! Strings with places that are counted in units.
+ghost use Rattle.std.specs.Prelude.{◌≡◌, ◌≤◌, length};
+
+use std::alloc::{AllocError, Global};
+use unit_text::UnitText;
+use wtf8::Wtf8Buf;
+
+/// A string, a text of the same units, and where its middle is and its middle half begins and ends, in units.
+#[derive(Drop)]
+pub struct Counted {
+    string: Wtf8Buf<Global>,
+    text: UnitText<Global>,
+    middle: usize,
+    begin: usize,
+    end: usize,
+    ghost in_string: { middle ≤ length string.units },
+    ghost in_order: { begin ≤ end },
+    ghost in_text: { end ≤ length text },
+}
+
+impl Counted {
+    /// A string of these units, with a text of them.
+    pub fn new(alloc: Global, string: Wtf8Buf<Global>, units: &[u16]) -> Result<Counted, AllocError>
+        requires { string.units ≡ units.now }
+    {
+        let begin = units.len() / 4;
+        Ok(Counted {
+            string,
+            text: UnitText::from_units(alloc, units)?,
+            middle: units.len() / 2,
+            begin,
+            end: units.len() - begin,
+        })
+    }
+
+    /// The same again, copied in place of made from units.
+    pub fn copy(&self, alloc: Global) -> Result<Counted, AllocError> {
+        let mut text = UnitText::from_units(alloc, &[])?;
+        text.concat(&self.text)?;
+        Ok(Counted {
+            string: self.string.clone()?,
+            text,
+            middle: self.middle,
+            begin: self.begin,
+            end: self.end,
+        })
+    }
+
+    /// The string.
+    pub fn string(&self) -> &Wtf8Buf<Global> {
+        &self.string
+    }
+
+    /// The text.
+    pub fn text(&self) -> &UnitText<Global> {
+        &self.text
+    }
+
+    /// The unit in the middle of the text, 0 for the empty text.
+    pub fn middle_unit(&self) -> u16 {
+        self.text.unit_at(self.middle).unwrap_or(0)
+    }
+
+    /// The text without its first and its last quarter.
+    pub fn middle_half(&self, alloc: Global) -> Result<UnitText<Global>, AllocError> {
+        self.text.slice_units(alloc, self.begin, self.end)
+    }
+
+    /// The first half of the string.
+    pub fn first_half(&self) -> Result<Wtf8Buf<Global>, AllocError> {
+        let mut string = self.string.clone()?;
+        string.truncate_units(self.middle);
+        Ok(string)
+    }
+}

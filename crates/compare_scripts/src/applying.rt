@@ -1,0 +1,101 @@
+// Building calls by their names, one by one and lists of them.
+use crate::machine::Machine;
+use crate::reader::{Reader, Register, STRINGS};
+use crate::stop::Stop;
+use crate::tape::Tape;
+use refusing::Refusing;
+use std::alloc::{AllocError, Global};
+use std::fmt::Write;
+use std::mem;
+use wtf8::{Build, CodePoint, Stopped, Wtf8Buf};
+
+/// So many requests for memory are granted that none is refused.
+const UNBOUNDED: usize = 0xFFFF;
+
+impl Machine {
+    /// `apply` of each call of a list, whose strings stay as they are: writes what it answers, and the string behind it.
+    pub fn apply_each(&mut self, tape: &mut Tape<'_>) -> Result<(), Stop> {
+        let at = tape.reader.register()?;
+        let points = tape.reader.points(self.alloc)?;
+        let copy = self.string(at).clone()?;
+        let mut string = mem::replace(&mut self.strings[at.index], copy);
+        let calls = read_calls(tape, points.as_slice(), &self.strings)?;
+        for call in calls.as_slice() {
+            let is_done = string.apply(*call)?;
+            writeln!(tape.transcript, "applied {is_done}")?;
+            tape.write_string(at, string.as_wtf8())?;
+        }
+        drop(calls);
+        self.strings[at.index] = string;
+        Ok(())
+    }
+
+    /// `apply_all` of a list of calls, on a copy that has so much spare room and an allocator that grants so many
+    /// requests: writes how many truncations were refused or where the list was stopped, and the units, and answers the
+    /// string afterwards.
+    pub fn apply_all(&self, at: Register, tape: &mut Tape<'_>) -> Result<Wtf8Buf<Global>, Stop> {
+        let spare = tape.reader.number()?;
+        let grants = tape.reader.number()?;
+        let points = tape.reader.points(self.alloc)?;
+        let calls = read_calls(tape, points.as_slice(), &self.strings)?;
+        let heap = Refusing::new(self.alloc, u64::MAX);
+        let whole = self.view(at);
+        let mut string = Wtf8Buf::with_capacity(&heap, whole.len().saturating_add(spare))?;
+        string.push_wtf8(whole)?;
+        if grants < UNBOUNDED {
+            heap.grant(grants as u64);
+        }
+        match string.apply_all(calls.as_slice()) {
+            Ok(refused) => writeln!(tape.transcript, "all, {refused} refused")?,
+            Err(Stopped { done }) => writeln!(tape.transcript, "stopped at {done}")?,
+        }
+        let units: Vec<u16> = string.as_wtf8().to_ill_formed_utf16().collect(self.alloc)?;
+        write!(tape.transcript, "units")?;
+        tape.write_items(units.as_slice())?;
+        tape.write_line("")?;
+        let mut copy = Wtf8Buf::new(self.alloc);
+        copy.push_wtf8(string.as_wtf8())?;
+        Ok(copy)
+    }
+}
+
+// The building calls of a list: a byte with their number, and each of them.
+fn read_calls<'s: 'c, 'c>(
+    tape: &mut Tape<'s>,
+    points: &'c [CodePoint],
+    pieces: &'c [Wtf8Buf<Global>; STRINGS],
+) -> Result<Vec<Build<'c>>, Stop> {
+    let mut calls = Vec::new(tape.alloc);
+    for _ in 0..tape.reader.byte()? {
+        if let Some(call) = read_call(&mut tape.reader, points, pieces)? {
+            calls.push(call).map_err(AllocError::from)?;
+        }
+    }
+    Ok(calls)
+}
+
+// A building call: a byte that names it, and its operand. A number that is no code point gives no call.
+fn read_call<'s: 'c, 'c>(
+    reader: &mut Reader<'s>,
+    points: &'c [CodePoint],
+    pieces: &'c [Wtf8Buf<Global>; STRINGS],
+) -> Result<Option<Build<'c>>, Stop> {
+    let call = match reader.byte()? {
+        0 => match CodePoint::from_u32(reader.value()?) {
+            Some(point) => Build::Push(point),
+            None => return Ok(None),
+        },
+        1 => match char::from_u32(reader.value()?) {
+            Some(c) => Build::PushChar(c),
+            None => return Ok(None),
+        },
+        2 => Build::PushStr(reader.text()?),
+        3 => Build::PushWtf8(pieces[reader.register()?.index].as_wtf8()),
+        4 => Build::Extend(&points[..reader.number()?.min(points.len())]),
+        5 => Build::Reserve(reader.number()?),
+        6 => Build::Truncate(reader.number()?),
+        7 => Build::TruncateUnits(reader.number()?),
+        _ => return Err(Stop::Malformed),
+    };
+    Ok(Some(call))
+}

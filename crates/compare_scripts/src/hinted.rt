@@ -1,0 +1,35 @@
+// Code points under a lower hint that may be false.
+use wtf8::CodePoint;
+
+/// Code points, and the lower hint that they come with, which may be false.
+#[derive(Drop)]
+pub struct Hinted<'a> {
+    points: &'a [CodePoint],
+    low: usize,
+}
+
+impl<'a> Hinted<'a> {
+    /// These code points under this lower hint.
+    pub fn new(points: &'a [CodePoint], low: usize) -> Hinted<'a> {
+        Hinted { points, low }
+    }
+}
+
+impl<'a> Iterator for Hinted<'a> {
+    type Item = CodePoint;
+
+    ghost use Rattle.std.specs.Prelude.{◌+◌, length};
+    ghost use Rattle.std.specs.Iterator.{at_most};
+
+    ghost remaining = { λ s. at_most (length s.points.now + s.low) };
+
+    fn next(&mut self) -> Option<CodePoint> {
+        let (first, rest) = self.points.split_first()?;
+        self.points = rest;
+        Some(*first)
+    }
+
+    fn size_hint(&self) -> (usize, Option<usize>) {
+        (self.low, None)
+    }
+}

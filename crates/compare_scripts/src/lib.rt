@@ -1,0 +1,21 @@
+//! Short scripts of calls on strings, and the transcripts of what the calls answer.
+//!
+//! A script is bytes: one call after another, each an opcode and its operands, over four strings that are empty at the
+//! start. `compare/README.md` has the table. A transcript has lines of text, at least one for each call.
+#![tactic(auto)]
+
+mod applying;
+mod changing;
+mod comparing;
+mod hinted;
+mod looking;
+mod machine;
+mod making;
+mod reader;
+mod recorder;
+mod stop;
+mod tape;
+mod walking;
+
+pub use machine::run_script;
+pub use stop::Stop;

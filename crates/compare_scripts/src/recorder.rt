@@ -1,0 +1,54 @@
+// What a hasher is fed.
+ghost use Rattle.std.specs.Prelude.{◌-◌, nat_lt, length, slice_index, Some, is_some, if◌then◌else◌};
+
+use crate::stop::Stop;
+use crate::tape::Tape;
+use std::fmt::Write;
+use std::hash::{Hash, Hasher};
+
+/// A hasher that keeps one byte of what it is fed: the one that has so many in front of it.
+#[derive(Drop)]
+struct ByteAt {
+    in_front: usize,
+    byte: Option<u8>,
+}
+
+impl Hasher for ByteAt {
+    ghost write = { λ s bytes. if is_some s.byte then s
+        else if nat_lt s.in_front (length bytes) then record { in_front = s.in_front; byte = Some (slice_index bytes s.in_front) }
+        else record { in_front = s.in_front - length bytes; byte = s.byte } };
+
+    ghost finish = { λ s. s.in_front };
+
+    fn finish(&self) -> u64 {
+        self.in_front as u64
+    }
+
+    fn write(&mut self, bytes: &[u8]) {
+        if self.byte.is_some() {
+            return;
+        }
+        if self.in_front < bytes.len() {
+            self.byte = Some(bytes[self.in_front]);
+        } else {
+            self.in_front -= bytes.len();
+        }
+    }
+}
+
+/// Writes the bytes that a value feeds a hasher, one after the other.
+pub fn write_hash_input<T: Hash>(tape: &mut Tape<'_>, value: &T) -> Result<(), Stop> {
+    write!(tape.transcript, "fed")?;
+    for in_front in 0..usize::MAX {
+        let mut state = ByteAt {
+            in_front,
+            byte: None,
+        };
+        value.hash(&mut state);
+        let Some(byte) = state.byte else {
+            break;
+        };
+        write!(tape.transcript, " {byte:02X}")?;
+    }
+    tape.write_line("")
+}

@@ -1,0 +1,82 @@
+// The steps of an iterator.
+ghost use Rattle.std.specs.Iterator.{IsFinite};
+
+use crate::stop::Stop;
+use crate::tape::{Shown, Tape};
+use std::alloc::AllocError;
+use std::fmt::Write;
+
+/// The word for the end of an iterator.
+const END: &str = "end";
+
+/// Writes what each step answers at an iterator, and then all that is left, to the end of the line. The iterator may be
+/// asked at every moment, behind its end too.
+pub fn write_steps<T: Shown, I: Iterator<Item = T> + Clone>(
+    tape: &mut Tape<'_>,
+    mut items: I,
+    steps: &[u8],
+) -> Result<(), Stop>
+    requires { (state : I) → I.can_next state × IsFinite (I.remaining state) }
+{
+    for step in steps {
+        match *step {
+            // The next item.
+            0 => tape.write_item(items.next(), END)?,
+            // The hint.
+            1 => write_hint(tape, items.size_hint())?,
+            // All items of a clone.
+            2 => drain(tape, items.clone()?)?,
+            // Going on with a clone.
+            3 => items = items.clone()?,
+            // The item behind the next one.
+            4 => tape.write_item(items.nth(1), END)?,
+            // The last item of a clone.
+            5 => tape.write_item(items.clone()?.last(), END)?,
+            // The item of a clone behind two that are skipped.
+            6 => tape.write_item(items.clone()?.skip(2).next(), END)?,
+            // The items of a clone, collected.
+            7 => write_collected(tape, items.clone()?)?,
+            _ => return Err(Stop::Malformed),
+        }
+    }
+    drain(tape, items)?;
+    tape.write_line("")
+}
+
+// Writes how many items are collected, and each.
+fn write_collected<T: Shown, I: Iterator<Item = T>>(
+    tape: &mut Tape<'_>,
+    items: I,
+) -> Result<(), AllocError>
+    requires { (state : I) → I.can_next state × IsFinite (I.remaining state) }
+{
+    let items: Vec<T> = items.collect(tape.alloc)?;
+    let count = items.len();
+    write!(tape.transcript, " {count} items")?;
+    tape.write_items(items.as_slice())
+}
+
+// Writes the items that are left in brackets, each behind the hint before it, and asks once more at the end.
+fn drain<T: Shown, I: Iterator<Item = T>>(
+    tape: &mut Tape<'_>,
+    mut items: I,
+) -> Result<(), AllocError>
+    requires { (state : I) → I.can_next state × IsFinite (I.remaining state) }
+{
+    write!(tape.transcript, " [")?;
+    write_hint(tape, items.size_hint())?;
+    while let Some(item) = items.next() {
+        item.show(&mut tape.transcript)?;
+        write_hint(tape, items.size_hint())?;
+    }
+    tape.write_item(items.next(), END)?;
+    write!(tape.transcript, " ]")
+}
+
+fn write_hint(tape: &mut Tape<'_>, hint: (usize, Option<usize>)) -> Result<(), AllocError> {
+    let (low, high) = hint;
+    match high {
+        Some(high) => write!(tape.transcript, " {low}..{high}"),
+        None => write!(tape.transcript, " {low}.."),
+    }
+}
