@@ -1,5 +1,6 @@
 -- Blocks of units in lanes: what the mask of a block says of its units.
-use Rattle.std.proofs.Common.{◌≡◌, ℕ, zero, suc, ◌+◌, ◌/◌, ◌%◌, ◌^◌, ◌≤◌, leb, ltb, Bool, true, false, cond, ◌&&◌, ◌||◌, List, [], ◌∷◌, ◌++◌, map, length, take, drop, get_or, replicate, bit_and, bit_or, Fits, w16, refl, sym, ap, ◌∙◌, arith, inl, inr}
+use Rattle.std.proofs.Common.{◌≡◌, ℕ, zero, suc, ◌+◌, ◌/◌, ◌%◌, ◌^◌, ◌≤◌, leb, ltb, Bool, true, false, cond, ◌&&◌, ◌||◌, List, [], ◌∷◌, ◌++◌, map}
+use Rattle.std.proofs.Common.{length, take, drop, get_or, replicate, bit_and, bit_or, Fits, w16, refl, sym, ap, ◌∙◌, arith, inl, inr}
 use Rattle.std.specs.List.{flat_map}
 use Rattle.std.proofs.lemmas.Bool.{cases_lt, le-leb, lt-leb, lt-ltb, le-ltb}
 use Rattle.std.proofs.lemmas.Simd.{mask_l-mod, chunk-fits}
@@ -128,7 +129,8 @@ are_no_surrogates : (xs : List ℕ) → AreTwoByteUnits xs → AreScalarUnits xs
 are_no_surrogates [] h = tt
 are_no_surrogates (x ∷ xs) h = ((omega (arith, h.0.1), λ s. omega (arith, h.0.1, s.0)), are_no_surrogates xs h.1)
 
-pub two_byte_block : (u w : List ℕ) (at : ℕ) → at + 8 ≤ length u → AreTwoByteUnits (take 8 (drop at u)) → w ≡ flat_map two_byte_row (take 8 (drop at u)) → IsBlock u at 8 w
+pub two_byte_block : (u w : List ℕ) (at : ℕ) → at + 8 ≤ length u → AreTwoByteUnits (take 8 (drop at u))
+    → w ≡ flat_map two_byte_row (take 8 (drop at u)) → IsBlock u at 8 w
 two_byte_block u w at within h e =
     let part = take 8 (drop at u) in
     record { within = within; scalars = are_no_surrogates part h; encoded = e ∙ two_bytes part h }
