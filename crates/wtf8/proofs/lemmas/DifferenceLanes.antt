@@ -1,5 +1,6 @@
 -- Bytes compared in lanes: what the mask of a block says of its bytes.
-use Rattle.std.proofs.Common.{◌≡◌, ◌↔◌, ℕ, ◌+◌, ◌-◌, ◌*◌, ◌%◌, ◌^◌, ◌≤◌, eqb, Bool, IsTrue, cond, not, ◌&&◌, inl, inr, List, [], ◌∷◌, ◌++◌, map, length, nat_eq, take, drop, w8, refl, sym, ap, ◌∙◌, subst, arith, take-add}
+use Rattle.std.proofs.Common.{◌≡◌, ◌↔◌, ℕ, ◌+◌, ◌-◌, ◌*◌, ◌%◌, ◌^◌, ◌≤◌, eqb, Bool, IsTrue, cond, not, ◌&&◌, inl, inr, w8, refl, sym, ap, ◌∙◌, subst, arith}
+use Rattle.std.proofs.Common.{List, [], ◌∷◌, ◌++◌, map, length, nat_eq, take, drop, take-add}
 use Rattle.std.proofs.lemmas.Bool.{cases_Bool, both_ways, and_parts, and_from, eq-eqb, eqb-true}
 use Rattle.std.proofs.lemmas.List.{drop-drop, drop-take, take-take, take_all}
 use Rattle.std.proofs.lemmas.Simd.{length-zip2, mask_l-mod, tops_compared}
@@ -17,7 +18,9 @@ abbrev mask : List ℕ → List ℕ → ℕ
 mask xs ys = mask_l (map (top 7) (zip2 (λ a b. cond (unlike a b) 255 0) xs ys)) % 2 ^ 64
 
 tests : (n : ℕ) (xs ys : List ℕ) → n ≤ 64 → length xs ≡ n → length ys ≡ n → mask xs ys ≡ mask_l (apart xs ys)
-tests n xs ys few p q = ap (λ ms. mask_l ms % 2 ^ 64) (tops_compared w8 unlike xs ys) ∙ mask_l-mod (apart xs ys) 64 (omega (arith, length-zip2 unlike xs ys (p ∙ sym q), few, p))
+tests n xs ys few p q =
+    let long = length-zip2 unlike xs ys (p ∙ sym q) in
+    ap (λ ms. mask_l ms % 2 ^ 64) (tops_compared w8 unlike xs ys) ∙ mask_l-mod (apart xs ys) 64 (omega (arith, long, few, p))
 
 none_apart : (xs ys : List ℕ) → length xs ≡ length ys → mask_l (apart xs ys) ≡ 0 → xs ≡ ys
 none_apart [] [] p e = refl
@@ -48,7 +51,9 @@ cut_out xs d m n h = sym (drop-take d m xs) ∙ ap (drop d) (sym (take-take (d +
 -- then so is each part of them
 part_same : (w v : List ℕ) (i n d m : ℕ) → d + m ≤ n → Same w v i n → Same w v (i + d) m
 part_same w v i n d m h e =
-    ap (take m) (sym (drop-drop d i w)) ∙ (cut_out (drop i w) d m n h ∙ (ap (λ xs. drop d (take (d + m) xs)) e ∙ (sym (cut_out (drop i v) d m n h) ∙ ap (take m) (drop-drop d i v))))
+    let own = ap (take m) (sym (drop-drop d i w)) ∙ cut_out (drop i w) d m n h in
+    let others = sym (cut_out (drop i v) d m n h) ∙ ap (take m) (drop-drop d i v) in
+    own ∙ (ap (λ xs. drop d (take (d + m) xs)) e ∙ others)
 
 -- and so are those of two blocks together
 pub both_same : (w v : List ℕ) (i n m : ℕ) → Same w v i n → Same w v (i + n) m → Same w v i (n + m)
@@ -64,19 +69,29 @@ reach w v at i n h k e f =
     subst (λ j. take j w ≡ take j v) (omega arith) whole
 
 -- the first n and the last n of up to twice so many bytes are the same exactly where all are
-pub ends_same : (w v : List ℕ) (n len : ℕ) → n ≤ len → len ≤ 2 * n → (a b : Bool) → IsTrue a ↔ Same w v 0 n → IsTrue b ↔ Same w v (len - n) n → IsTrue (a && b) ↔ (take len w ≡ take len v)
+pub ends_same : (w v : List ℕ) (n len : ℕ) → n ≤ len → len ≤ 2 * n → (a b : Bool) → IsTrue a ↔ Same w v 0 n → IsTrue b ↔ Same w v (len - n) n
+    → IsTrue (a && b) ↔ (take len w ≡ take len v)
 ends_same w v n len h k a b p q =
-    (λ t. let parts = and_parts a b t in subst (λ j. take j w ≡ take j v) (omega arith) (reach w v n (len - n) n (omega arith) (omega arith) (p.0 parts.0) (q.0 parts.1)), λ e. and_from a b (p.1 (part_same w v 0 len 0 n (omega arith) e)) (q.1 (subst (λ j. Same w v j n) (omega arith) (part_same w v 0 len (len - n) n (omega arith) e))))
+    let there : IsTrue (a && b) → take len w ≡ take len v = λ t.
+    let parts = and_parts a b t in
+    subst (λ j. take j w ≡ take j v) (omega arith) (reach w v n (len - n) n (omega arith) (omega arith) (p.0 parts.0) (q.0 parts.1)) in
+    let last : take len w ≡ take len v → Same w v (len - n) n = λ e.
+    subst (λ j. Same w v j n) (omega arith) (part_same w v 0 len (len - n) n (omega arith) e) in
+    (there, λ e. and_from a b (p.1 (part_same w v 0 len 0 n (omega arith) e)) (q.1 (last e)))
 
 -- two blocks of 64 are the same exactly where the 128 bytes are
 pub turn_same : (w v : List ℕ) (at : ℕ) (a b : Bool) → IsTrue a ↔ Same w v at 64 → IsTrue b ↔ Same w v (at + 64) 64 → IsTrue (a && b) ↔ Same w v at 128
 turn_same w v at a b p q =
-    (λ t. let parts = and_parts a b t in both_same w v at 64 64 (p.0 parts.0) (q.0 parts.1), λ e. and_from a b (p.1 (subst (λ j. Same w v j 64) (omega arith) (part_same w v at 128 0 64 (omega arith) e))) (q.1 (part_same w v at 128 64 64 (omega arith) e)))
+    let first : Same w v at 128 → Same w v at 64 = λ e. subst (λ j. Same w v j 64) (omega arith) (part_same w v at 128 0 64 (omega arith) e) in
+    let there : IsTrue (a && b) → Same w v at 128 = λ t. let parts = and_parts a b t in both_same w v at 64 64 (p.0 parts.0) (q.0 parts.1) in
+    (there, λ e. and_from a b (p.1 (first e)) (q.1 (part_same w v at 128 64 64 (omega arith) e)))
 
 -- lists that are the same up to a place and in a last block are the same
-pub all_same : (w v : List ℕ) (at n : ℕ) → length w ≡ length v → n ≤ length w → length w - n ≤ at → at ≤ length w → take at w ≡ take at v → Same w v (length w - n) n → w ≡ v
+pub all_same : (w v : List ℕ) (at n : ℕ) → length w ≡ length v → n ≤ length w → length w - n ≤ at → at ≤ length w → take at w ≡ take at v
+    → Same w v (length w - n) n → w ≡ v
 all_same w v at n long few begun within e f =
-    let whole : take (length w) w ≡ take (length w) v = subst (λ j. take j w ≡ take j v) (omega arith) (reach w v at (length w - n) n begun (omega arith) e f) in
+    let reached = reach w v at (length w - n) n begun (omega arith) e f in
+    let whole : take (length w) w ≡ take (length w) v = subst (λ j. take j w ≡ take j v) (omega arith) reached in
     sym (take_all (length w) w (omega arith)) ∙ (whole ∙ take_all (length w) v (omega arith))
 
 -- lists that are the same up to a place and in a block from there on are the same up to the end of the block

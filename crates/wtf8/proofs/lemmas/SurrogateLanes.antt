@@ -1,8 +1,10 @@
 -- The search in lanes: from the mask of two vectors to the first lane that has a surrogate's two bytes.
-use Rattle.std.proofs.Common.{◌≡◌, ℕ, zero, suc, ◌+◌, ◌-◌, ◌%◌, ◌^◌, ◌<◌, ◌≤◌, eqb, leb, Bool, true, false, cond, not, ◌&&◌, List, [], ◌∷◌, map, length, get_or, replicate, bit_and, None, Some, w8, refl, sym, ap, ◌∙◌, subst, arith}
+use Rattle.std.proofs.Common.{◌≡◌, ℕ, zero, suc, ◌+◌, ◌-◌, ◌%◌, ◌^◌, ◌<◌, ◌≤◌, eqb, leb, Bool, true, false, cond, not, ◌&&◌, List, [], ◌∷◌, map}
+use Rattle.std.proofs.Common.{length, get_or, replicate, bit_and, None, Some, w8, refl, sym, ap, ◌∙◌, subst, arith}
 use Rattle.std.proofs.lemmas.Bool.{and_parts, and_from, both_ways, not-true, not-false, leb-true, le-leb, eq-eqb, eqb-true}
 use Rattle.std.proofs.lemmas.List.Sums.{prefix_len_passes, prefix_len_stops}
-use Rattle.std.proofs.lemmas.Simd.{length-zip2, get_or-zip2, length-chunk, get_or-chunk, mask_l-mod, leading_from_mask_l, trailing_mask_l, bitmask_splat, none_from_empty_mask}
+use Rattle.std.proofs.lemmas.Simd.{length-zip2, get_or-zip2, length-chunk, get_or-chunk, mask_l-mod, leading_from_mask_l, trailing_mask_l}
+use Rattle.std.proofs.lemmas.Simd.{bitmask_splat, none_from_empty_mask}
 use Rattle.std.specs.List.{prefix_len}
 use lib.Count.{count_trailing_zeros}
 use lib.Lanes.{chunk, zip2, mask_l, top}
@@ -82,7 +84,8 @@ module _ (n : ℕ) (few : n ≤ 64) (xs ys : List ℕ) (p : length xs ≡ n) (q 
       let some : 0 < mask_l lanes = omega (arith, same, e) in
       let within : failing lanes < length lanes = some_hold lanes some in
       let inside : failing lanes < n = omega (arith, within, long) in
-      let first : count_trailing_zeros 64 (mask n xs ys) ≡ failing lanes = ap (count_trailing_zeros 64) tests ∙ trailing_mask_l (λ b. b) 64 lanes (omega (arith, long, few)) (omega (arith, sym same ∙ tests, some)) in
+      let counted = trailing_mask_l (λ b. b) 64 lanes (omega (arith, long, few)) (omega (arith, sym same ∙ tests, some)) in
+      let first : count_trailing_zeros 64 (mask n xs ys) ≡ failing lanes = ap (count_trailing_zeros 64) tests ∙ counted in
       subst (λ k. IsFirstBelow (IsSurrogateLane xs ys) 0 n (Some k)) (sym first) (
         record {
           not_before = omega arith;
@@ -130,5 +133,6 @@ leads n xs = mask_l (map (top 7) (zip2 (λ a b. lane (eqb a b)) xs (replicate n 
 pub no_first_byte : (w : List ℕ) (i : ℕ) → i + 64 < length w → leads 64 (chunk i 64 w) ≡ 0 → IsFirstBelow (SurrogateAt w) i (i + 64) None
 no_first_byte w i room e j l u s =
     let long = length-chunk i 64 w (omega arith) in
-    let clear = none_from_empty_mask (λ x. eqb x 0xED) w i 64 0 (omega arith) (sym (bitmask_splat w8 eqb (chunk i 64 w) 64 0xED long (omega arith)) ∙ e) j l u in
+    let empty = sym (bitmask_splat w8 eqb (chunk i 64 w) 64 0xED long (omega arith)) ∙ e in
+    let clear = none_from_empty_mask (λ x. eqb x 0xED) w i 64 0 (omega arith) empty j l u in
     both_ways _ clear (eq-eqb _ 0xED s.first)

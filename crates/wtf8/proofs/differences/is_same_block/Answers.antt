@@ -7,4 +7,8 @@ pub returns : goal.returns
 returns g c =
     let n = g.row.N in
     let at = c.args.at in
-    same_lanes n (take n (drop at c.args.own.now)) (take n (drop at c.args.others.now)) c.requires.lanes (length-chunk at n c.args.own.now c.requires.within_first) (length-chunk at n c.args.others.now c.requires.within_second)
+    let own = c.args.own.now in
+    let others = c.args.others.now in
+    let first = length-chunk at n own c.requires.within_first in
+    let second = length-chunk at n others c.requires.within_second in
+    same_lanes n (take n (drop at own)) (take n (drop at others)) c.requires.lanes first second

@@ -1,4 +1,4 @@
-use Rattle.std.proofs.Common.{◌-◌, length, take, drop, ap, arith}
+use Rattle.std.proofs.Common.{◌≡◌, ◌-◌, length, take, drop, ap, arith}
 use Rattle.wtf8.proofs.lemmas.DifferenceLanes.{more_same, all_same}
 use Rattle.wtf8.proofs.differences.is_same_in_blocks.Goals as goal
 
@@ -9,5 +9,9 @@ loop-at-preserved c =
 pub returns : goal.returns
 returns c =
     let own = c.args.own.now in
-    let begun = c.loop-at.invariant.0 in
-    (λ t. all_same own c.args.others.now c.loop-at.at 128 c.requires.both c.requires.long (omega arith) begun c.loop-at.invariant.1 (c.is_same_turn-2.ensures.0 t), λ e. c.is_same_turn-2.ensures.1 (ap (λ w. take 128 (drop (length own - 128) w)) e))
+    let others = c.args.others.now in
+    let at = c.loop-at.at in
+    let begun = c.loop-at.invariant in
+    let last = c.is_same_turn-2.ensures in
+    let back : own ≡ others → take 128 (drop (length own - 128) own) ≡ take 128 (drop (length own - 128) others) = ap (λ w. take 128 (drop (length own - 128) w)) in
+    (λ t. all_same own others at 128 c.requires.both c.requires.long (omega arith) begun.0 begun.1 (last.0 t), λ e. last.1 (back e))

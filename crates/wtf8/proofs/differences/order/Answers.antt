@@ -12,4 +12,5 @@ returns-then-is_same_front c =
       | inl l ↦ inl (omega (arith, l, c.min-len.ensures))
       | inr l ↦ inr (omega (arith, l, c.min-len.ensures))
     ] in
-    c.cmp.ensures ∙ lengths_decide own others n end (omega (arith, c.min-len.ensures)) (omega (arith, c.min-len.ensures)) (c.is_same_front.ensures.0 c.if-is_same_front.true)
+    let same = c.is_same_front.ensures.0 c.if-is_same_front.true in
+    c.cmp.ensures ∙ lengths_decide own others n end (omega (arith, c.min-len.ensures)) (omega (arith, c.min-len.ensures)) same

@@ -23,7 +23,14 @@ pub loop-at-preserved-in-Some-two_byte_block : goal.loop-at-preserved-in-Some-tw
 loop-at-preserved-in-Some-two_byte_block g c =
     let known = c.loop-at.is_scalar in
     let b = c.in-Some-two_byte_block.ensures in
-    (b.within, part_read c.args.v.now c.loop-at.bytes.items c.in-Some-two_byte_block.block c.extend_from_slice-in-Some-two_byte_block.new.self.items c.loop-at.at 8 (c.loop-at.at + 8) known known known c.loop-at.invariant.1 (block_form known b) c.loop-at.invariant.2 (λ t. (t, t)) c.in_ok-extend_from_slice-3.ensures.items refl, block_apart c.loop-at.at 7 b)
+    let at = c.loop-at.at in
+    let before = c.loop-at.bytes.items in
+    let more = c.in-Some-two_byte_block.block in
+    let after = c.extend_from_slice-in-Some-two_byte_block.new.self.items in
+    let so_far = c.loop-at.invariant in
+    let behind = c.in_ok-extend_from_slice-3.ensures.items in
+    let read = part_read c.args.v.now before more after at 8 (at + 8) known known known so_far.1 (block_form known b) so_far.2 (λ t. (t, t)) behind refl in
+    (b.within, read, block_apart at 7 b)
 
 pub loop-at-preserved : goal.loop-at-preserved
 loop-at-preserved g c =

@@ -15,4 +15,5 @@ pub returns-clause-units : goal.returns-clause-units
 returns-clause-units c =
     let own = c.args.self.now.well_formed in
     let others = c.args.other.now.well_formed in
-    equal_units _ (record { clean = own.clean; same_units = refl }) (record { clean = others.clean; same_units = refl }) own.encoded others.encoded (returns-clause-bytes c)
+    let same = returns-clause-bytes c in
+    equal_units _ (record { clean = own.clean; same_units = refl }) (record { clean = others.clean; same_units = refl }) own.encoded others.encoded same
