@@ -1,66 +1,8 @@
-// Lines and inputs with known answers, and readers and writers that fail.
+// Lines and inputs with known answers.
+use crate::fakes::expect_answer;
 use crate::fault::Fault;
-use crate::line::dump_line;
 use crate::session::run;
-use std::io;
-use std::io::{Error, ErrorKind, Read, Write};
 use std::test::Fail;
-
-// Gives its bytes, and then answers an error.
-#[derive(Drop)]
-struct BreakingReader<'a> {
-    rest: &'a [u8],
-    error: ErrorKind,
-}
-
-impl<'a> Read for BreakingReader<'a> {
-    fn read(&mut self, buf: &mut [u8]) -> io::Result<usize> {
-        if self.rest.is_empty() {
-            return Err(Error::from(self.error));
-        }
-        self.rest.read(buf)
-    }
-}
-
-// What a writer does once it is full.
-#[derive(Clone, Copy)]
-enum Full {
-    TakesNothing,
-    Fails,
-}
-
-// Takes one byte a call, until it is full.
-#[derive(Drop)]
-struct NarrowWriter {
-    taken: Vec<u8>,
-    room: usize,
-    full: Full,
-    can_flush: bool,
-}
-
-impl Write for NarrowWriter {
-    fn write(&mut self, buf: &[u8]) -> io::Result<usize> {
-        if self.taken.len() >= self.room {
-            return match self.full {
-                Full::TakesNothing => Ok(0),
-                Full::Fails => Err(Error::from(ErrorKind::Other)),
-            };
-        }
-        let Some(byte) = buf.first() else {
-            return Ok(0);
-        };
-        self.taken.push(*byte)?;
-        Ok(1)
-    }
-
-    fn flush(&mut self) -> io::Result<()> {
-        if self.can_flush {
-            Ok(())
-        } else {
-            Err(Error::from(ErrorKind::Other))
-        }
-    }
-}
 
 #[test]
 fn lines_have_their_answers(rt: HostRuntime) -> Result<(), Fail> {
@@ -93,8 +35,7 @@ fn lines_have_their_answers(rt: HostRuntime) -> Result<(), Fail> {
         ("0061 00g1", "?"),
         ("0061 1F4A9 +2", "?"),
     ] {
-        let answer = dump_line(rt.alloc(), line.as_bytes())?;
-        assert_eq!(rt; answer.as_slice(), want.as_bytes(), "at {line:?}");
+        expect_answer(rt.alloc(), line.as_bytes(), want.as_bytes())?;
     }
     Ok(())
 }
@@ -115,8 +56,7 @@ fn truncations_are_kept_or_counted(rt: HostRuntime) -> Result<(), Fail> {
         ("0061 00E9 -2 -9 -1", "61 !2"),
         ("0061 -2 -2 -2 -2 -2 -2 -2 -2 -2 -2", "61 !10"),
     ] {
-        let answer = dump_line(rt.alloc(), line.as_bytes())?;
-        assert_eq!(rt; answer.as_slice(), want.as_bytes(), "at {line:?}");
+        expect_answer(rt.alloc(), line.as_bytes(), want.as_bytes())?;
     }
     Ok(())
 }
@@ -138,8 +78,7 @@ fn cuts_at_units_are_kept_or_counted(rt: HostRuntime) -> Result<(), Fail> {
         ("/0A", "?"),
         ("//1", "?"),
     ] {
-        let answer = dump_line(rt.alloc(), line.as_bytes())?;
-        assert_eq!(rt; answer.as_slice(), want.as_bytes(), "at {line:?}");
+        expect_answer(rt.alloc(), line.as_bytes(), want.as_bytes())?;
     }
     Ok(())
 }
@@ -182,58 +121,6 @@ fn a_long_input_is_read_in_pieces(rt: HostRuntime) -> Result<(), Fail> {
     let mut out = Vec::new(rt.alloc());
     assert_eq!(rt; run(rt.alloc(), &mut input.as_slice(), &mut out), Ok(()));
     assert!(rt; out == want);
-    Ok(())
-}
-
-#[test]
-fn a_failed_read_writes_nothing(rt: HostRuntime) -> Result<(), Fail> {
-    for (given, error) in [
-        ("", ErrorKind::Other),
-        ("0061", ErrorKind::Other),
-        ("0061\n0062\n", ErrorKind::Interrupted),
-    ] {
-        let mut reader = BreakingReader {
-            rest: given.as_bytes(),
-            error,
-        };
-        let mut out = Vec::new(rt.alloc());
-        assert_eq!(rt;
-            run(rt.alloc(), &mut reader, &mut out),
-            Err(Fault::Read),
-            "after {given:?}"
-        );
-        assert!(rt; out.is_empty());
-    }
-    Ok(())
-}
-
-#[test]
-fn a_failed_write_leaves_a_beginning(rt: HostRuntime) -> Result<(), Fail> {
-    for (room, full, can_flush, result, want) in [
-        (3, Full::Fails, true, Ok(()), "61\n"),
-        (3, Full::Fails, false, Err(Fault::Write), "61\n"),
-        (2, Full::Fails, true, Err(Fault::Write), "61"),
-        (1, Full::TakesNothing, true, Err(Fault::Write), "6"),
-        (0, Full::Fails, true, Err(Fault::Write), ""),
-    ] {
-        let mut writer = NarrowWriter {
-            taken: Vec::new(rt.alloc()),
-            room,
-            full,
-            can_flush,
-        };
-        let mut rest = b"0061\n".as_slice();
-        assert_eq!(rt;
-            run(rt.alloc(), &mut rest, &mut writer),
-            result,
-            "with room for {room}"
-        );
-        assert_eq!(rt;
-            writer.taken.as_slice(),
-            want.as_bytes(),
-            "with room for {room}"
-        );
-    }
     Ok(())
 }
 
