@@ -151,7 +151,13 @@ fn a_reader_that_fails_once_is_not_asked_again(rt: HostRuntime) {
             ("0061", 3),
             ("0061\n0062\n", 6),
         ] {
-            let (answer, is_empty, calls) = run_from(rt.alloc(), given.as_bytes(), error, failing, 99);
+            let (answer, is_empty, calls) = run_from(
+                rt.alloc(),
+                given.as_bytes(),
+                error,
+                failing,
+                99,
+            );
             assert_eq!(rt; answer, Err(Fault::Read), "at call {failing}");
             assert!(rt; is_empty, "at call {failing}");
             assert_eq!(rt; calls, failing);
@@ -166,7 +172,13 @@ fn want_of_memory_is_told_from_a_failed_read(rt: HostRuntime) {
         (2, 0, Fault::Memory),
         (2, 1, Fault::Read),
     ] {
-        let (answer, is_empty, _) = run_from(rt.alloc(), b"0061\n", ErrorKind::Other, failing, granted);
+        let (answer, is_empty, _) = run_from(
+            rt.alloc(),
+            b"0061\n",
+            ErrorKind::Other,
+            failing,
+            granted,
+        );
         assert_eq!(rt;
             answer,
             Err(fault),
@@ -221,7 +233,11 @@ fn a_writer_that_fails_once_is_not_asked_again(rt: HostRuntime) {
             let (answer, writer) = run_into(rt.alloc(), given.as_bytes(), most, failing, how, None);
             assert_eq!(rt; answer, Err(Fault::Write), "at call {failing}");
             assert_eq!(rt; writer.calls, failing);
-            assert_eq!(rt; writer.taken.as_slice(), taken.as_bytes(), "at call {failing}");
+            assert_eq!(rt;
+                writer.taken.as_slice(),
+                taken.as_bytes(),
+                "at call {failing}"
+            );
             assert_eq!(rt; writer.flushes, 0, "at call {failing}");
         }
     }
@@ -239,7 +255,14 @@ fn a_flush_that_fails_is_the_last_call(rt: HostRuntime) {
             (Some(ErrorKind::Interrupted), Err(Fault::Write)),
             (Some(ErrorKind::Other), Err(Fault::Write)),
         ] {
-            let (answer, writer) = run_into(rt.alloc(), given.as_bytes(), most, 0, Failing::TakesNothing, flush_error);
+            let (answer, writer) = run_into(
+                rt.alloc(),
+                given.as_bytes(),
+                most,
+                0,
+                Failing::TakesNothing,
+                flush_error,
+            );
             assert_eq!(rt; answer, result);
             assert_eq!(rt; writer.calls, calls);
             assert_eq!(rt; writer.taken.as_slice(), want.as_bytes());

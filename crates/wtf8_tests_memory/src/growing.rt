@@ -1,5 +1,4 @@
 // Calls that grow a string: how many requests each makes, and what it leaves where one of them is refused.
-use crate::lists::call_named;
 use refusing::Refusing;
 use std::alloc::{AllocError, Global};
 use std::test::Fail;
@@ -109,54 +108,76 @@ fn full(heap: Lent<'_>) -> Result<Wtf8Buf<Lent<'_>>, AllocError> {
     Ok(text)
 }
 
-/// Makes the call by its name or through `apply`, which answers that it was done, and answers whether all that it asked
-/// for was granted.
-fn is_granted(text: &mut Wtf8Buf<Lent<'_>>, call: Build<'_>, is_applied: bool) -> bool {
-    if is_applied {
-        return text.apply(call) == Ok(true);
+/// Makes the call of that name.
+fn call_named(alloc: Global, text: &mut Wtf8Buf<Lent<'_>>, piece: Piece) -> Result<(), AllocError> {
+    match piece {
+        Piece::Push(unit) => text.push(point_of_unit(unit)),
+        Piece::PushChar(c) => text.push_char(c),
+        Piece::PushStr(piece) => text.push_str(piece),
+        Piece::PushWtf8(units) => text.push_wtf8(joined(alloc, units)?.as_wtf8()),
+        Piece::Extend(units) => text.extend(points_of_units(alloc, units)?),
+        Piece::Reserve(additional) => text.reserve(additional),
     }
-    call_named(text, call).is_ok()
 }
 
-/// Whether the call was granted all that it asked for, after the string was found to hold what it should, and how many of
-/// the grants it left.
-fn outcome(
+/// Makes the call through `apply`, which answers that it was done.
+fn apply_named(
     alloc: Global,
-    row: &Row,
+    text: &mut Wtf8Buf<Lent<'_>>,
+    piece: Piece,
+) -> Result<bool, AllocError> {
+    match piece {
+        Piece::Push(unit) => text.apply(Build::Push(point_of_unit(unit))),
+        Piece::PushChar(c) => text.apply(Build::PushChar(c)),
+        Piece::PushStr(piece) => text.apply(Build::PushStr(piece)),
+        Piece::PushWtf8(units) => {
+            let other = joined(alloc, units)?;
+            text.apply(Build::PushWtf8(other.as_wtf8()))
+        }
+        Piece::Extend(units) => {
+            let points = points_of_units(alloc, units)?;
+            text.apply(Build::Extend(&points))
+        }
+        Piece::Reserve(additional) => text.apply(Build::Reserve(additional)),
+    }
+}
+
+/// Makes the call where so many requests are granted. Fails unless it is done or not, leaves so many of the grants, and
+/// the string holds these bytes.
+fn expect_outcome(
+    alloc: Global,
+    piece: Piece,
     is_applied: bool,
     grants: u64,
-    dump: &str,
-) -> Result<(bool, u64), Fail> {
-    let units = match row.piece {
-        Piece::PushWtf8(units) | Piece::Extend(units) => units,
-        _ => &[],
-    };
-    let other = joined(alloc, units)?;
-    let points = points_of_units(alloc, units)?;
-    let call = match row.piece {
-        Piece::Push(unit) => Build::Push(point_of_unit(unit)),
-        Piece::PushChar(c) => Build::PushChar(c),
-        Piece::PushStr(piece) => Build::PushStr(piece),
-        Piece::PushWtf8(_) => Build::PushWtf8(other.as_wtf8()),
-        Piece::Extend(_) => Build::Extend(&points),
-        Piece::Reserve(additional) => Build::Reserve(additional),
-    };
+    wanted: (bool, u64, &str),
+) -> Result<(), Fail> {
     let heap = Refusing::new(alloc, 0);
     let mut text = full(&heap)?;
     heap.grant(grants);
-    let is_done = is_granted(&mut text, call, is_applied);
-    expect_dump(alloc, text.as_wtf8(), dump)?;
-    Ok((is_done, heap.grants_left()))
+    let is_done = if is_applied {
+        apply_named(alloc, &mut text, piece) == Ok(true)
+    } else {
+        call_named(alloc, &mut text, piece).is_ok()
+    };
+    let (is_done_wanted, left, dump) = wanted;
+    if is_done != is_done_wanted || heap.grants_left() != left {
+        return Err(Fail::new(format_args!("at {dump} with {grants} granted")));
+    }
+    expect_dump(alloc, text.as_wtf8(), dump)
 }
 
 #[test]
 fn a_growing_call_makes_its_requests_and_no_other(rt: HostRuntime) -> Result<(), Fail> {
     for row in &ROWS {
-        let requests = row.refused.len() as u64;
+        let left = 9u64.wrapping_sub(row.refused.len() as u64);
         for is_applied in [false, true] {
-            let (is_done, left) = outcome(rt.alloc(), row, is_applied, 9, row.granted)?;
-            assert!(rt; is_done, "{}", row.granted);
-            assert_eq!(rt; left.wrapping_add(requests), 9, "{}", row.granted);
+            expect_outcome(
+                rt.alloc(),
+                row.piece,
+                is_applied,
+                9,
+                (true, left, row.granted),
+            )?;
         }
     }
     Ok(())
@@ -167,9 +188,13 @@ fn a_refused_request_leaves_what_was_there(rt: HostRuntime) -> Result<(), Fail> 
     for row in &ROWS {
         for (granted, dump) in row.refused.iter().enumerate() {
             for is_applied in [false, true] {
-                let (is_done, left) = outcome(rt.alloc(), row, is_applied, granted as u64, dump)?;
-                assert!(rt; !is_done, "{dump} with {granted} granted");
-                assert_eq!(rt; left, 0, "{dump} with {granted} granted");
+                expect_outcome(
+                    rt.alloc(),
+                    row.piece,
+                    is_applied,
+                    granted as u64,
+                    (false, 0, dump),
+                )?;
             }
         }
     }

@@ -1,12 +1,12 @@
 // Lists of building calls that are stopped by want of memory.
 use refusing::Refusing;
-use std::alloc::{AllocError, Allocator, Global};
+use std::alloc::{AllocError, Global};
 use std::test::Fail;
 use wtf8::{Build, CodePoint, Stopped, Wtf8Buf};
 use wtf8_examples::{expect_dump, point_of_unit, pushed};
 
 /// Does a call by its name, a truncation where the position is a boundary or where there are so many units.
-pub fn call_named<A: Allocator>(text: &mut Wtf8Buf<A>, call: Build<'_>) -> Result<(), AllocError> {
+fn call_named(text: &mut Wtf8Buf<Global>, call: Build<'_>) -> Result<(), AllocError> {
     match call {
         Build::Push(code_point) => text.push(code_point),
         Build::PushChar(c) => text.push_char(c),
