@@ -14,6 +14,14 @@ pub fn expect_answer(alloc: Global, line: &[u8], want: &[u8]) -> Result<(), Fail
     Ok(())
 }
 
+/// Fails unless each of these lines has its answer.
+pub fn expect_answers(alloc: Global, rows: &[(&str, &str)]) -> Result<(), Fail> {
+    for (line, want) in rows {
+        expect_answer(alloc, line.as_bytes(), want.as_bytes())?;
+    }
+    Ok(())
+}
+
 /// Gives its bytes two at a time, fails once at that call, counted from 1, and then would go on.
 #[derive(Drop)]
 pub struct FailingReader<'a> {
