@@ -1,10 +1,9 @@
 // Refused memory.
-use crate::shared::assert_dump;
 use refusing::Refusing;
-use std::alloc::{AllocError, Global};
-use std::process::Abort;
+use std::alloc::Global;
 use std::test::Fail;
 use unit_text::UnitText;
+use wtf8_examples::expect_dump;
 
 type Lent<'a> = &'a Refusing<Global>;
 
@@ -15,10 +14,9 @@ const WIDE: [u16; 6] = [0xE000; 6];
 fn no_units_ask_for_no_memory(rt: HostRuntime) -> Result<(), Fail> {
     let heap = Refusing::new(rt.alloc(), 0);
     let empty = UnitText::from_units(&heap, &[])?;
-    assert_dump(&rt, &empty, "")?;
+    expect_dump(rt.alloc(), empty.as_wtf8(), "")?;
     let slice = empty.slice_units(&heap, 0, 0)?;
-    assert_dump(&rt, &slice, "")?;
-    Ok(())
+    expect_dump(rt.alloc(), slice.as_wtf8(), "")
 }
 
 #[test]
@@ -28,8 +26,7 @@ fn the_empty_text_asks_for_no_memory(rt: HostRuntime) -> Result<(), Fail> {
     heap.grant(0);
     let empty = UnitText::from_units(&heap, &[])?;
     lead.concat(&empty)?;
-    assert_dump(&rt, &lead, "ED A0 BD")?;
-    Ok(())
+    expect_dump(rt.alloc(), lead.as_wtf8(), "ED A0 BD")
 }
 
 #[test]
@@ -38,9 +35,8 @@ fn an_empty_slice_asks_for_no_memory(rt: HostRuntime) -> Result<(), Fail> {
     let text = UnitText::from_units(&heap, &[0xD83D, 0xDCA9])?;
     heap.grant(0);
     let slice = text.slice_units(&heap, 1, 1)?;
-    assert_dump(&rt, &slice, "")?;
-    assert_dump(&rt, &text, "F0 9F 92 A9")?;
-    Ok(())
+    expect_dump(rt.alloc(), slice.as_wtf8(), "")?;
+    expect_dump(rt.alloc(), text.as_wtf8(), "F0 9F 92 A9")
 }
 
 /// One of the calls that make a text, and whether memory was granted.
@@ -65,9 +61,9 @@ fn each_request_of_a_call_that_makes_may_be_refused(rt: HostRuntime) -> Result<(
                 refused = refused.wrapping_add(1);
                 assert_eq!(rt; heap.grants_left(), 0, "call {way}");
             }
-            assert_dump(
-                &rt,
-                &text,
+            expect_dump(
+                rt.alloc(),
+                text.as_wtf8(),
                 "EE 80 80 EE 80 80 EE 80 80 EE 80 80 EE 80 80 EE 80 80",
             )?;
         }
@@ -79,31 +75,50 @@ fn each_request_of_a_call_that_makes_may_be_refused(rt: HostRuntime) -> Result<(
     Ok(())
 }
 
-/// Appends a hundred trails to a text that ends with a lead, where so many requests are granted. Ends the test unless a
-/// refusal leaves the text as before, and answers whether memory was granted.
-fn grows<R: Abort + AllocGlobal>(rt: &R, granted: u64) -> Result<bool, AllocError> {
-    let heap = Refusing::new(rt.alloc(), 9);
-    let mut text = UnitText::from_units(&heap, &[0x0061, 0xD83D])?;
-    let trails = vec![in rt.alloc(); 0xDCA9u16; 100]?;
-    let behind = UnitText::from_units(&heap, trails.as_slice())?;
-    heap.grant(granted);
-    let grown = text.concat(&behind).is_ok();
-    if grown {
-        assert_eq!(rt; text.unit_len(), 102);
-        heap.grant(9);
-        assert_dump(rt, &text.slice_units(&heap, 0, 3)?, "61 F0 9F 92 A9")?;
-    } else {
-        assert_eq!(rt; heap.grants_left(), 0);
-        assert_dump(rt, &text, "61 ED A0 BD")?;
+/// Fails unless the first three units of a text have these bytes.
+fn expect_front<'a>(
+    alloc: Global,
+    heap: Lent<'a>,
+    text: &UnitText<Lent<'a>>,
+    dump: &str,
+) -> Result<(), Fail> {
+    if text.unit_len() < 3 {
+        return Err(Fail::new("fewer units"));
     }
-    assert_eq!(rt; behind.unit_len(), 100);
-    Ok(grown)
+    let front = text.slice_units(heap, 0, 3)?;
+    expect_dump(alloc, front.as_wtf8(), dump)
+}
+
+/// Appends a hundred trails to a text that ends with a lead, where so many requests are granted, and answers whether they
+/// were enough. Fails unless a refusal leaves the text as before.
+fn is_grown(alloc: Global, granted: u64) -> Result<bool, Fail> {
+    let heap = Refusing::new(alloc, 9);
+    let mut text = UnitText::from_units(&heap, &[0x0061, 0xD83D])?;
+    let behind = UnitText::from_units(&heap, &[0xDCA9; 100])?;
+    heap.grant(granted);
+    let is_grown = text.concat(&behind).is_ok();
+    let left = heap.grants_left();
+    heap.grant(9);
+    if is_grown {
+        expect_front(alloc, &heap, &text, "61 F0 9F 92 A9")?;
+    } else {
+        expect_dump(alloc, text.as_wtf8(), "61 ED A0 BD")?;
+    }
+    let len = if is_grown { 102 } else { 2 };
+    if text.unit_len() != len || behind.unit_len() != 100 || !is_grown && left != 0 {
+        return Err(Fail::new("another length, or a grant is left"));
+    }
+    Ok(is_grown)
 }
 
 #[test]
 fn a_refused_text_is_not_appended(rt: HostRuntime) -> Result<(), Fail> {
-    assert!(rt; !grows(&rt, 0)?);
-    assert!(rt; grows(&rt, 1)?);
-    assert!(rt; grows(&rt, 9)?);
+    for (granted, is_granted) in [(0, false), (1, true), (9, true)] {
+        assert_eq!(rt;
+            is_grown(rt.alloc(), granted)?,
+            is_granted,
+            "with {granted} granted"
+        );
+    }
     Ok(())
 }

@@ -11,20 +11,21 @@ fn text_of(alloc: Global, units: &[u16]) -> Result<UnitText<Global>, AllocError>
     UnitText::from_units(alloc, units)
 }
 
+/// Whether the text at a position is that of these units, and its unit is the first of them.
+fn has_at(alloc: Global, position: usize, units: &[u16]) -> Result<bool, AllocError> {
+    let text = text_of(alloc, &UNITS)?;
+    let found = char_at(alloc, &text, position)?;
+    let want = text_of(alloc, units)?;
+    Ok(found == want && char_code_at(&text, position) == units.first().copied())
+}
+
 #[test]
 fn units_at_a_position(rt: HostRuntime) -> Result<(), Fail> {
-    let text = text_of(rt.alloc(), &UNITS)?;
     for (position, unit) in UNITS.iter().enumerate() {
-        let found = char_at(rt.alloc(), &text, position)?;
-        assert_eq!(rt; found, text_of(rt.alloc(), &[*unit])?, "at {position}");
-        assert_eq!(rt; char_code_at(&text, position), Some(*unit), "at {position}");
+        assert!(rt; has_at(rt.alloc(), position, &[*unit])?, "at {position}");
     }
     for position in [5, 6, usize::MAX] {
-        assert_eq!(rt;
-            char_at(rt.alloc(), &text, position)?,
-            text_of(rt.alloc(), &[])?
-        );
-        assert_eq!(rt; char_code_at(&text, position), None);
+        assert!(rt; has_at(rt.alloc(), position, &[])?, "at {position}");
     }
     Ok(())
 }
@@ -46,11 +47,8 @@ fn units_between_two_positions(rt: HostRuntime) -> Result<(), Fail> {
     let text = text_of(rt.alloc(), &UNITS)?;
     for (first, second, units) in BETWEEN {
         let found = substring(rt.alloc(), &text, first, second)?;
-        assert_eq!(rt;
-            found,
-            text_of(rt.alloc(), units)?,
-            "from {first} to {second}"
-        );
+        let want = text_of(rt.alloc(), units)?;
+        assert!(rt; found == want, "from {first} to {second}");
     }
     Ok(())
 }

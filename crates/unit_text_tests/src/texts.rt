@@ -1,25 +1,21 @@
 // Lengths, units and slices of texts, and texts appended.
-use crate::shared::{JOINING, assert_dump, assert_units};
+use crate::shared::expect_text;
 use std::alloc::{AllocError, Global};
-use std::process::Abort;
 use std::test::Fail;
 use unit_text::UnitText;
+use wtf8_examples::{JOINING, expect_dump};
 
-#[test]
-fn no_units_are_the_empty_text(rt: HostRuntime) -> Result<(), Fail> {
-    let empty = UnitText::from_units(rt.alloc(), &[])?;
-    assert_eq!(rt; empty.unit_len(), 0);
-    assert_eq!(rt; empty.unit_at(0), None);
-    assert_dump(&rt, &empty, "")?;
-    Ok(())
+/// Fails unless the text of these units has them, one by one, and these bytes.
+fn expect_made(alloc: Global, units: &[u16], dump: &str) -> Result<(), Fail> {
+    let text = UnitText::from_units(alloc, units)?;
+    expect_text(alloc, &text, units, dump)
 }
 
 #[test]
 fn units_are_kept(rt: HostRuntime) -> Result<(), Fail> {
-    for (units, dump) in JOINING {
-        let text = UnitText::from_units(rt.alloc(), units)?;
-        assert_dump(&rt, &text, dump)?;
-        assert_units(&rt, &text, units);
+    expect_made(rt.alloc(), &[], "")?;
+    for (units, _, dump) in JOINING {
+        expect_made(rt.alloc(), units, dump)?;
     }
     Ok(())
 }
@@ -35,64 +31,56 @@ const PARTS: [(usize, usize, &str); 4] = [
     (0, 3, "61 F0 9F 92 A9"),
 ];
 
-/// The units between two positions. Ends the test unless they are in order and within the text.
-fn cut_out<R: Abort + AllocGlobal>(
-    rt: &R,
-    text: &UnitText<Global>,
-    begin: usize,
-    end: usize,
-) -> Result<UnitText<Global>, AllocError> {
-    if begin <= end && end <= text.unit_len() {
-        return text.slice_units(rt.alloc(), begin, end);
+/// Fails unless the units of the pair between two positions have these bytes.
+fn expect_part(alloc: Global, begin: usize, end: usize, dump: &str) -> Result<(), Fail> {
+    let text = UnitText::from_units(alloc, &PAIR)?;
+    if begin > end || end > text.unit_len() {
+        return Err(Fail::new("no such positions"));
     }
-    assert!(rt; false, "from {begin} to {end}");
-    UnitText::from_units(rt.alloc(), &[])
+    let part = text.slice_units(alloc, begin, end)?;
+    expect_dump(alloc, part.as_wtf8(), dump)
 }
 
 #[test]
 fn a_pair_is_counted_and_cut(rt: HostRuntime) -> Result<(), Fail> {
-    let text = UnitText::from_units(rt.alloc(), &PAIR)?;
-    assert_eq!(rt; text.unit_len(), 3);
-    assert_eq!(rt; text.unit_at(1), Some(0xD83D));
-    assert_eq!(rt; text.unit_at(3), None);
+    expect_made(rt.alloc(), &PAIR, "61 F0 9F 92 A9")?;
     for (begin, end, dump) in PARTS {
-        let part = cut_out(&rt, &text, begin, end)?;
-        assert_dump(&rt, &part, dump)?;
+        expect_part(rt.alloc(), begin, end, dump)?;
     }
     Ok(())
 }
 
-#[test]
-fn halves_of_a_pair_are_joined(rt: HostRuntime) -> Result<(), Fail> {
-    let text = UnitText::from_units(rt.alloc(), &PAIR)?;
-    let mut front = cut_out(&rt, &text, 0, 2)?;
-    let back = cut_out(&rt, &text, 2, 3)?;
-    front.concat(&back)?;
-    assert_dump(&rt, &front, "61 F0 9F 92 A9")?;
-    assert_dump(&rt, &text, "61 F0 9F 92 A9")?;
-    Ok(())
+/// The text of two lists of units, one appended to the other.
+fn appended(alloc: Global, front: &[u16], back: &[u16]) -> Result<UnitText<Global>, AllocError> {
+    let mut text = UnitText::from_units(alloc, front)?;
+    text.concat(&UnitText::from_units(alloc, back)?)?;
+    Ok(text)
 }
+
+/// Two lists of units, and the units and bytes of the text of both.
+const APPENDED: [(&[u16], &[u16], &[u16], &str); 3] = [
+    (
+        &[0x0061, 0xD83D],
+        &[0xDCA9],
+        &[0x0061, 0xD83D, 0xDCA9],
+        "61 F0 9F 92 A9",
+    ),
+    (&[0xD83D], &[0xDCA9], &[0xD83D, 0xDCA9], "F0 9F 92 A9"),
+    (
+        &[0xDCA9, 0x0061, 0xD83D],
+        &[0xDCA9, 0x0061, 0xD83D],
+        &[0xDCA9, 0x0061, 0xD83D, 0xDCA9, 0x0061, 0xD83D],
+        "ED B2 A9 61 F0 9F 92 A9 61 ED A0 BD",
+    ),
+];
 
 #[test]
 fn a_trail_joins_a_lead(rt: HostRuntime) -> Result<(), Fail> {
-    let mut text = UnitText::from_units(rt.alloc(), &[0xD83D])?;
-    text.concat(&UnitText::from_units(rt.alloc(), &[0xDCA9])?)?;
-    assert_eq!(rt; text.unit_len(), 2);
-    assert_eq!(rt; text, UnitText::from_units(rt.alloc(), &[0xD83D, 0xDCA9])?);
-    assert_dump(&rt, &text, "F0 9F 92 A9")?;
-    Ok(())
-}
-
-#[test]
-fn a_text_may_be_appended_to_its_equal(rt: HostRuntime) -> Result<(), Fail> {
-    let units = [0xDCA9, 0x0061, 0xD83D];
-    let mut text = UnitText::from_units(rt.alloc(), &units)?;
-    text.concat(&UnitText::from_units(rt.alloc(), &units)?)?;
-    assert_units(
-        &rt,
-        &text,
-        &[0xDCA9, 0x0061, 0xD83D, 0xDCA9, 0x0061, 0xD83D],
-    );
-    assert_dump(&rt, &text, "ED B2 A9 61 F0 9F 92 A9 61 ED A0 BD")?;
+    for (front, back, units, dump) in APPENDED {
+        let text = appended(rt.alloc(), front, back)?;
+        expect_text(rt.alloc(), &text, units, dump)?;
+        let same = UnitText::from_units(rt.alloc(), units)?;
+        assert!(rt; text == same, "{dump}");
+    }
     Ok(())
 }

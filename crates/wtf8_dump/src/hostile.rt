@@ -1,11 +1,11 @@
 // Hostile lines, refused memory, and readers and writers that fail once and then would go on.
+use crate::fakes::{Failing, FailingReader, FailingWriter, expect_answer};
 use crate::fault::Fault;
 use crate::line::dump_line;
 use crate::session::run;
 use refusing::Refusing;
 use std::alloc::Global;
-use std::io;
-use std::io::{Error, ErrorKind, Read, Write};
+use std::io::ErrorKind;
 use std::test::Fail;
 
 #[test]
@@ -28,8 +28,7 @@ fn hostile_lines_have_their_answers(rt: HostRuntime) -> Result<(), Fail> {
         (b"\xEF\xBC\x90\xEF\xBC\x90\xEF\xBC\x96\xEF\xBC\x91", b"?"),
     ];
     for (line, want) in lines {
-        let answer = dump_line(rt.alloc(), line)?;
-        assert_eq!(rt; answer.as_slice(), want, "at {line:?}");
+        expect_answer(rt.alloc(), line, want)?;
     }
     Ok(())
 }
@@ -115,190 +114,159 @@ fn a_run_answers_each_refusal(rt: HostRuntime) -> Result<(), Fail> {
     Ok(())
 }
 
-/// Gives its bytes two at a time, fails once at that call, counted from 1, and then would go on.
-#[derive(Drop)]
-struct FailingReader<'a> {
-    rest: &'a [u8],
+/// A run on these bytes, where the reader fails at that call and so many requests for memory are granted: its answer,
+/// whether it wrote nothing, and how often it called the reader.
+fn run_from(
+    alloc: Global,
+    given: &[u8],
     error: ErrorKind,
-    calls: u32,
     failing: u32,
-}
-
-impl<'a> Read for FailingReader<'a> {
-    fn read(&mut self, buf: &mut [u8]) -> io::Result<usize> {
-        self.calls = self.calls.wrapping_add(1);
-        if self.calls == self.failing {
-            return Err(Error::from(self.error));
-        }
-        let two = self.rest.len().min(2);
-        let (mut given, rest) = self.rest.split_at(two);
-        let count = given.read(buf)?;
-        if count == two {
-            self.rest = rest;
-        }
-        Ok(count)
-    }
+    granted: u64,
+) -> (Result<(), Fault>, bool, u32) {
+    let heap = Refusing::new(alloc, granted);
+    let mut reader = FailingReader {
+        rest: given,
+        error,
+        calls: 0,
+        failing,
+    };
+    let mut out = Vec::new(alloc);
+    let answer = run(&heap, &mut reader, &mut out);
+    (answer, out.is_empty(), reader.calls)
 }
 
 #[test]
-fn a_reader_that_fails_once_is_not_asked_again(rt: HostRuntime) -> Result<(), Fail> {
+fn a_reader_that_fails_once_is_not_asked_again(rt: HostRuntime) {
     for error in [
         ErrorKind::Other,
         ErrorKind::Interrupted,
         ErrorKind::WouldBlock,
     ] {
-        for failing in 1..5 {
-            let mut reader = FailingReader {
-                rest: b"0061\n",
+        for (given, failing) in [
+            ("", 1),
+            ("0061\n", 1),
+            ("0061\n", 2),
+            ("0061\n", 3),
+            ("0061\n", 4),
+            ("0061", 3),
+            ("0061\n0062\n", 6),
+        ] {
+            let (answer, is_empty, calls) = run_from(
+                rt.alloc(),
+                given.as_bytes(),
                 error,
-                calls: 0,
                 failing,
-            };
-            let mut out = Vec::new(rt.alloc());
-            let answer = run(rt.alloc(), &mut reader, &mut out);
+                99,
+            );
             assert_eq!(rt; answer, Err(Fault::Read), "at call {failing}");
-            assert_eq!(rt; reader.calls, failing);
-            assert!(rt; out.is_empty(), "at call {failing}");
+            assert!(rt; is_empty, "at call {failing}");
+            assert_eq!(rt; calls, failing);
         }
     }
-    Ok(())
 }
 
 #[test]
-fn want_of_memory_is_told_from_a_failed_read(rt: HostRuntime) -> Result<(), Fail> {
+fn want_of_memory_is_told_from_a_failed_read(rt: HostRuntime) {
     for (failing, granted, fault) in [
         (1, 0, Fault::Read),
         (2, 0, Fault::Memory),
         (2, 1, Fault::Read),
     ] {
-        let mut reader = FailingReader {
-            rest: b"0061\n",
-            error: ErrorKind::Other,
-            calls: 0,
+        let (answer, is_empty, _) = run_from(
+            rt.alloc(),
+            b"0061\n",
+            ErrorKind::Other,
             failing,
-        };
-        let heap = Refusing::new(rt.alloc(), granted);
-        let mut out = Vec::new(rt.alloc());
-        let answer = run(&heap, &mut reader, &mut out);
+            granted,
+        );
         assert_eq!(rt;
             answer,
             Err(fault),
             "at call {failing} with {granted} granted"
         );
-        assert!(rt; out.is_empty());
-    }
-    Ok(())
-}
-
-/// What a writer does at one of its calls: answers an error, or takes no byte.
-#[derive(Clone, Copy, Debug)]
-enum Failing {
-    Fails,
-    TakesNothing,
-}
-
-/// Takes two bytes a call, and fails once, at that call, counted from 1, or at its flush; then it would go on.
-#[derive(Drop)]
-struct FailingWriter {
-    taken: Vec<u8>,
-    calls: u32,
-    failing: u32,
-    how: Failing,
-    flushes: u32,
-    can_flush: bool,
-}
-
-impl Write for FailingWriter {
-    fn write(&mut self, buf: &[u8]) -> io::Result<usize> {
-        self.calls = self.calls.wrapping_add(1);
-        if self.calls == self.failing {
-            return match self.how {
-                Failing::Fails => Err(Error::from(ErrorKind::Interrupted)),
-                Failing::TakesNothing => Ok(0),
-            };
-        }
-        let count = buf.len().min(2);
-        self.taken.extend_from_slice(&buf[..count])?;
-        Ok(count)
-    }
-
-    fn flush(&mut self) -> io::Result<()> {
-        self.flushes = self.flushes.wrapping_add(1);
-        if self.can_flush {
-            Ok(())
-        } else {
-            Err(Error::from(ErrorKind::Interrupted))
-        }
+        assert!(rt; is_empty);
     }
 }
 
-/// A run on one line into a writer that fails at that call, or at its flush.
+/// A run on these bytes into a writer that takes so many bytes a call and fails at that call, or at its flush.
 fn run_into(
     alloc: Global,
+    given: &[u8],
+    most: usize,
     failing: u32,
     how: Failing,
-    can_flush: bool,
+    flush_error: Option<ErrorKind>,
 ) -> (Result<(), Fault>, FailingWriter) {
     let mut writer = FailingWriter {
         taken: Vec::new(alloc),
+        most,
         calls: 0,
         failing,
         how,
         flushes: 0,
-        can_flush,
+        flush_error,
     };
-    let mut rest = b"0061 0062 0063\n".as_slice();
+    let mut rest = given;
     (run(alloc, &mut rest, &mut writer), writer)
 }
 
+/// What a writer took before the call at which it fails, where it takes so many bytes a call.
+const TAKEN: [(&str, usize, u32, &str); 8] = [
+    ("0061 0062 0063\n", 2, 1, ""),
+    ("0061 0062 0063\n", 2, 2, "61"),
+    ("0061 0062 0063\n", 2, 3, "61 6"),
+    ("0061 0062 0063\n", 2, 4, "61 62 "),
+    ("0061 0062 0063\n", 2, 5, "61 62 63"),
+    ("0061\n", 1, 1, ""),
+    ("0061\n", 1, 2, "6"),
+    ("0061\n", 1, 3, "61"),
+];
+
 #[test]
 fn a_writer_that_fails_once_is_not_asked_again(rt: HostRuntime) {
-    for how in [Failing::Fails, Failing::TakesNothing] {
-        for (failing, taken) in [
-            (1, ""),
-            (2, "61"),
-            (3, "61 6"),
-            (4, "61 62 "),
-            (5, "61 62 63"),
-        ] {
-            let (answer, writer) = run_into(rt.alloc(), failing, how, true);
-            assert_eq!(rt; answer, Err(Fault::Write), "{how:?} at call {failing}");
-            assert_eq!(rt; writer.calls, failing, "{how:?}");
+    for how in [
+        Failing::Fails(ErrorKind::Interrupted),
+        Failing::Fails(ErrorKind::Other),
+        Failing::TakesNothing,
+    ] {
+        for (given, most, failing, taken) in TAKEN {
+            let (answer, writer) = run_into(rt.alloc(), given.as_bytes(), most, failing, how, None);
+            assert_eq!(rt; answer, Err(Fault::Write), "at call {failing}");
+            assert_eq!(rt; writer.calls, failing);
             assert_eq!(rt;
                 writer.taken.as_slice(),
                 taken.as_bytes(),
-                "{how:?} at call {failing}"
+                "at call {failing}"
             );
-            assert_eq!(rt; writer.flushes, 0, "{how:?} at call {failing}");
+            assert_eq!(rt; writer.flushes, 0, "at call {failing}");
         }
     }
 }
 
 #[test]
 fn a_flush_that_fails_is_the_last_call(rt: HostRuntime) {
-    for (can_flush, want) in [(true, Ok(())), (false, Err(Fault::Write))] {
-        let (answer, writer) = run_into(rt.alloc(), 0, Failing::Fails, can_flush);
-        assert_eq!(rt; answer, want);
-        assert_eq!(rt; writer.calls, 5);
-        assert_eq!(rt; writer.taken.as_slice(), b"61 62 63\n".as_slice());
-        assert_eq!(rt; writer.flushes, 1);
-    }
-}
-
-#[test]
-fn an_empty_output_is_flushed(rt: HostRuntime) {
-    for (can_flush, want) in [(true, Ok(())), (false, Err(Fault::Write))] {
-        let mut writer = FailingWriter {
-            taken: Vec::new(rt.alloc()),
-            calls: 0,
-            failing: 0,
-            how: Failing::Fails,
-            flushes: 0,
-            can_flush,
-        };
-        let mut nothing = b"".as_slice();
-        assert_eq!(rt; run(rt.alloc(), &mut nothing, &mut writer), want);
-        assert_eq!(rt; writer.calls, 0);
-        assert_eq!(rt; writer.flushes, 1);
+    for (given, most, calls, want) in [
+        ("0061 0062 0063\n", 2, 5, "61 62 63\n"),
+        ("0061\n", 1, 3, "61\n"),
+        ("", 2, 0, ""),
+    ] {
+        for (flush_error, result) in [
+            (None, Ok(())),
+            (Some(ErrorKind::Interrupted), Err(Fault::Write)),
+            (Some(ErrorKind::Other), Err(Fault::Write)),
+        ] {
+            let (answer, writer) = run_into(
+                rt.alloc(),
+                given.as_bytes(),
+                most,
+                0,
+                Failing::TakesNothing,
+                flush_error,
+            );
+            assert_eq!(rt; answer, result);
+            assert_eq!(rt; writer.calls, calls);
+            assert_eq!(rt; writer.taken.as_slice(), want.as_bytes());
+            assert_eq!(rt; writer.flushes, 1);
+        }
     }
 }

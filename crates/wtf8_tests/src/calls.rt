@@ -4,11 +4,11 @@ use std::test::Fail;
 use wtf8::{Build, Wtf8Buf};
 use wtf8_examples::{JOINING, expect_dump, expect_units, joined, point_of_unit, points_of_units};
 
-/// Fails unless a list of calls, none of them refused, builds a string of these bytes.
-fn expect_list(alloc: Global, calls: &[Build<'_>], dump: &str) -> Result<(), Fail> {
+/// Fails unless a list of calls, so many of them refused truncations, builds a string of these bytes.
+fn expect_list(alloc: Global, calls: &[Build<'_>], refused: usize, dump: &str) -> Result<(), Fail> {
     let mut text = Wtf8Buf::new(alloc);
-    if text.apply_all(calls) != Ok(0) {
-        return Err(Fail::new("a list is refused"));
+    if text.apply_all(calls) != Ok(refused) {
+        return Err(Fail::new("a list is refused, or another number of truncations"));
     }
     expect_dump(alloc, text.as_wtf8(), dump)
 }
@@ -27,9 +27,9 @@ fn expect_built(alloc: Global, units: &[u16], dump: &str) -> Result<(), Fail> {
     }
     expect_dump(alloc, text.as_wtf8(), dump)?;
     expect_units(alloc, text.as_wtf8(), units)?;
-    expect_list(alloc, &calls, dump)?;
+    expect_list(alloc, &calls, 0, dump)?;
     let points = points_of_units(alloc, units)?;
-    expect_list(alloc, &[Build::Extend(&points)], dump)
+    expect_list(alloc, &[Build::Extend(&points)], 0, dump)
 }
 
 #[test]
@@ -40,12 +40,23 @@ fn a_push_for_each_code_point_builds_the_string(rt: HostRuntime) -> Result<(), F
     Ok(())
 }
 
+/// Fails unless each of these calls, one after the other, is done, or refused as a truncation is, and leaves these bytes.
+fn expect_steps(alloc: Global, steps: &[(Build<'_>, bool, &str)]) -> Result<(), Fail> {
+    let mut text = Wtf8Buf::new(alloc);
+    for (call, is_done, dump) in steps {
+        if text.apply(*call)? != *is_done {
+            return Err(Fail::new(format_args!("before {dump}")));
+        }
+        expect_dump(alloc, text.as_wtf8(), dump)?;
+    }
+    Ok(())
+}
+
 #[test]
 fn each_call_does_what_it_is_named_for(rt: HostRuntime) -> Result<(), Fail> {
     let pair = [point_of_unit(0xD83D), point_of_unit(0xDCA9)];
     let trail = joined(rt.alloc(), &[0xDCA9, 0x62])?;
-    let mut text = Wtf8Buf::new(rt.alloc());
-    for (call, done, dump) in [
+    let steps = [
         (Build::Push(point_of_unit(0xE9)), true, "C3 A9"),
         (Build::Truncate(1), false, "C3 A9"),
         (Build::Truncate(0), true, ""),
@@ -58,10 +69,13 @@ fn each_call_does_what_it_is_named_for(rt: HostRuntime) -> Result<(), Fail> {
         (Build::Truncate(1), true, "61"),
         (Build::Push(pair[0]), true, "61 ED A0 BD"),
         (Build::PushWtf8(trail.as_wtf8()), true, "61 F0 9F 92 A9 62"),
-    ] {
-        assert_eq!(rt; text.apply(call)?, done, "before {dump}");
-        expect_dump(rt.alloc(), text.as_wtf8(), dump)?;
-    }
+    ];
+    expect_steps(rt.alloc(), &steps)
+}
+
+#[test]
+fn a_reserve_finds_room(rt: HostRuntime) -> Result<(), Fail> {
+    let mut text = Wtf8Buf::from_str(rt.alloc(), "a💩b")?;
     assert!(rt; text.apply(Build::Reserve(50))?);
     assert!(rt; 50 <= text.capacity() - text.as_wtf8().len());
     Ok(())
@@ -73,12 +87,11 @@ fn a_list_counts_the_refused_truncations(rt: HostRuntime) -> Result<(), Fail> {
     let trail = Build::Push(point_of_unit(0xDCA9));
     let front = [point_of_unit(0xD83D)];
     let behind = [point_of_unit(0xDCA9), point_of_unit(0x61)];
-    expect_list(rt.alloc(), &[], "")?;
+    expect_list(rt.alloc(), &[], 0, "")?;
     let extending = [Build::Extend(&front), Build::Extend(&behind)];
-    expect_list(rt.alloc(), &extending, "F0 9F 92 A9 61")?;
+    expect_list(rt.alloc(), &extending, 0, "F0 9F 92 A9 61")?;
     let joining = [lead, Build::Truncate(3), trail];
-    expect_list(rt.alloc(), &joining, "F0 9F 92 A9")?;
-
+    expect_list(rt.alloc(), &joining, 0, "F0 9F 92 A9")?;
     let cutting = [
         lead,
         trail,
@@ -86,9 +99,7 @@ fn a_list_counts_the_refused_truncations(rt: HostRuntime) -> Result<(), Fail> {
         Build::Truncate(0),
         Build::Truncate(1),
     ];
-    let mut text = Wtf8Buf::new(rt.alloc());
-    assert_eq!(rt; text.apply_all(&cutting), Ok(2));
-    expect_dump(rt.alloc(), text.as_wtf8(), "")?;
+    expect_list(rt.alloc(), &cutting, 2, "")?;
     let mixed = [
         Build::PushStr("a"),
         Build::Truncate(2),
@@ -97,6 +108,5 @@ fn a_list_counts_the_refused_truncations(rt: HostRuntime) -> Result<(), Fail> {
         Build::Truncate(4),
         Build::Truncate(5),
     ];
-    assert_eq!(rt; text.apply_all(&mixed), Ok(2));
-    expect_dump(rt.alloc(), text.as_wtf8(), "61 F0 9F 92 A9")
+    expect_list(rt.alloc(), &mixed, 2, "61 F0 9F 92 A9")
 }

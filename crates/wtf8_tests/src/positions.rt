@@ -83,12 +83,22 @@ fn code_points_begin_at_the_boundaries(rt: HostRuntime) -> Result<(), Fail> {
         let sums = sums_of(rt.alloc(), numbers)?;
         assert!(rt; has_boundaries(text.as_wtf8(), &sums), "{dump}");
     }
+    Ok(())
+}
+
+#[test]
+fn code_points_of_a_text_begin_at_the_boundaries(rt: HostRuntime) -> Result<(), Fail> {
     let (_, numbers, _) = TEXT_ROW;
     let sums = sums_of(rt.alloc(), numbers)?;
     assert_eq!(rt; sums.as_slice(), [0, 1, 3, 4, 8].as_slice());
     assert!(rt; has_boundaries(Wtf8::from_str(TEXT), &sums));
     assert!(rt; has_boundaries(Wtf8::from_str("aé"), &[0, 1, 3]));
     assert!(rt; has_boundaries(Wtf8::from_str(""), &[0]));
+    Ok(())
+}
+
+#[test]
+fn a_pair_has_no_boundary_inside(rt: HostRuntime) -> Result<(), Fail> {
     let alone = pushed(rt.alloc(), &[0xD83D, 0x20, 0xDCA9])?;
     assert!(rt; has_boundaries(alone.as_wtf8(), &[0, 3, 4, 7]));
     let mut pair = pushed(rt.alloc(), &[0xD83D])?;

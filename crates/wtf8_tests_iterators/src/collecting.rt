@@ -57,7 +57,8 @@ fn an_array_is_taken(rt: HostRuntime) -> Result<(), Fail> {
 
 #[test]
 fn characters_are_taken_as_code_points(rt: HostRuntime) -> Result<(), Fail> {
-    let text = Wtf8Buf::from_iter(rt.alloc(), TEXT.chars().map(|c| CodePoint::from_char(c)))?;
+    let points = TEXT.chars().map(CodePoint::from_char);
+    let text = Wtf8Buf::from_iter(rt.alloc(), points)?;
     expect_dump(rt.alloc(), text.as_wtf8(), TEXT_DUMP)
 }
 

@@ -21,49 +21,84 @@ fn with_room(heap: Lent<'_>, room: usize) -> Result<Wtf8Buf<Lent<'_>>, AllocErro
     Ok(text)
 }
 
+/// Appends nothing, by each call that appends.
+fn append_nothing(text: &mut Wtf8Buf<Lent<'_>>) -> Result<(), AllocError> {
+    text.reserve(0)?;
+    text.push_str("")?;
+    text.push_wtf8(Wtf8::from_str(""))?;
+    text.extend([])
+}
+
+/// Fails unless a string was made, and is empty.
+fn expect_empty(alloc: Global, made: Result<Wtf8Buf<Lent<'_>>, AllocError>) -> Result<(), Fail> {
+    expect_dump(alloc, made?.as_wtf8(), "")
+}
+
 #[test]
 fn what_is_empty(rt: HostRuntime) -> Result<(), Fail> {
     let heap = Refusing::new(rt.alloc(), 9);
     let mut text = Wtf8Buf::new(&heap);
-    text.reserve(0)?;
-    text.push_str("")?;
-    text.push_wtf8(Wtf8::from_str(""))?;
-    text.extend([])?;
+    append_nothing(&mut text)?;
     expect_dump(rt.alloc(), text.as_wtf8(), "")?;
-    assert_eq!(rt; text.as_wtf8().hex_dump(&heap)?.as_str(), "");
-    assert_eq!(rt; text.as_wtf8().to_string_lossy(&heap)?.as_str(), "");
-    for made in [
-        Wtf8Buf::with_capacity(&heap, 0)?,
-        Wtf8Buf::from_str(&heap, "")?,
-        Wtf8Buf::from_ill_formed_utf16(&heap, &[])?,
-        Wtf8Buf::from_iter(&heap, [])?,
-    ] {
-        expect_dump(rt.alloc(), made.as_wtf8(), "")?;
-    }
+    let dump = text.as_wtf8().hex_dump(&heap)?;
+    assert!(rt; dump.as_str().is_empty());
+    let lossy = text.as_wtf8().to_string_lossy(&heap)?;
+    assert!(rt; lossy.as_str().is_empty());
     assert_eq!(rt; heap.grants_left(), 9);
     Ok(())
+}
+
+#[test]
+fn what_is_made_of_nothing(rt: HostRuntime) -> Result<(), Fail> {
+    let heap = Refusing::new(rt.alloc(), 9);
+    expect_empty(rt.alloc(), Wtf8Buf::with_capacity(&heap, 0))?;
+    expect_empty(rt.alloc(), Wtf8Buf::from_str(&heap, ""))?;
+    expect_empty(rt.alloc(), Wtf8Buf::from_ill_formed_utf16(&heap, &[]))?;
+    expect_empty(rt.alloc(), Wtf8Buf::from_iter(&heap, []))?;
+    assert_eq!(rt; heap.grants_left(), 9);
+    Ok(())
+}
+
+/// Appends the two halves of a pair.
+fn push_pair(text: &mut Wtf8Buf<Lent<'_>>) -> Result<(), AllocError> {
+    text.push(point_of_unit(LEAD))?;
+    text.push(point_of_unit(TRAIL))
+}
+
+/// Empties a string and appends the pair anew.
+fn push_anew(text: &mut Wtf8Buf<Lent<'_>>) -> Result<(), AllocError> {
+    text.reserve(0)?;
+    text.clear();
+    text.push_char('💩')
 }
 
 #[test]
 fn what_has_room(rt: HostRuntime) -> Result<(), Fail> {
     let heap = Refusing::new(rt.alloc(), 0);
     let mut text = with_room(&heap, 4)?;
-    text.push(point_of_unit(LEAD))?;
-    text.push(point_of_unit(TRAIL))?;
+    push_pair(&mut text)?;
     expect_dump(rt.alloc(), text.as_wtf8(), "F0 9F 92 A9")?;
-    text.reserve(0)?;
-    text.clear();
-    text.push_char('💩')?;
+    push_anew(&mut text)?;
     assert_eq!(rt; heap.grants_left(), 9);
+    Ok(())
+}
 
-    let mut text = with_room(&heap, 20)?;
-    let trail = pushed(rt.alloc(), &[0xDCA9, 0x62])?;
+/// Makes each call that appends, the other string's trail behind a lead.
+fn push_each(text: &mut Wtf8Buf<Lent<'_>>, trail: Wtf8<'_>) -> Result<(), AllocError> {
     text.push_str(TEXT)?;
     text.push_char('a')?;
     text.push(point_of_unit(LEAD))?;
-    text.push_wtf8(trail.as_wtf8())?;
+    text.push_wtf8(trail)?;
     text.extend([point_of_unit(LEAD), point_of_unit(TRAIL)])?;
-    text.reserve(2)?;
+    text.reserve(2)
+}
+
+#[test]
+fn what_has_room_by_each_call(rt: HostRuntime) -> Result<(), Fail> {
+    let heap = Refusing::new(rt.alloc(), 0);
+    let mut text = with_room(&heap, 20)?;
+    let trail = pushed(rt.alloc(), &[0xDCA9, 0x62])?;
+    push_each(&mut text, trail.as_wtf8())?;
     expect_dump(
         rt.alloc(),
         text.as_wtf8(),
@@ -87,23 +122,32 @@ fn what_has_room_as_a_list(rt: HostRuntime) -> Result<(), Fail> {
     assert_eq!(rt; text.apply_all(&calls), Ok(0));
     expect_dump(rt.alloc(), text.as_wtf8(), "F0 9F 92 A9")?;
     assert_eq!(rt; heap.grants_left(), 9);
+    Ok(())
+}
 
+#[test]
+fn what_has_room_is_applied(rt: HostRuntime) -> Result<(), Fail> {
+    let heap = Refusing::new(rt.alloc(), 0);
     let mut text = with_room(&heap, 20)?;
+    let lead = [point_of_unit(LEAD)];
     let piece = pushed(rt.alloc(), &[0xDCA9, 0x62])?;
-    for (call, dump) in [
-        (Build::Push(lead[0]), "ED A0 BD"),
-        (Build::PushWtf8(piece.as_wtf8()), "F0 9F 92 A9 62"),
-        (Build::Truncate(3), "F0 9F 92 A9 62"),
-        (Build::Truncate(4), "F0 9F 92 A9"),
-        (Build::PushStr("é "), "F0 9F 92 A9 C3 A9 20"),
-        (Build::PushChar('💩'), "F0 9F 92 A9 C3 A9 20 F0 9F 92 A9"),
-        (Build::Truncate(7), "F0 9F 92 A9 C3 A9 20"),
-        (Build::Extend(&lead), "F0 9F 92 A9 C3 A9 20 ED A0 BD"),
-        (Build::Reserve(10), "F0 9F 92 A9 C3 A9 20 ED A0 BD"),
-        (Build::Truncate(0), ""),
+    for (call, is_done, dump) in [
+        (Build::Push(lead[0]), true, "ED A0 BD"),
+        (Build::PushWtf8(piece.as_wtf8()), true, "F0 9F 92 A9 62"),
+        (Build::Truncate(3), false, "F0 9F 92 A9 62"),
+        (Build::Truncate(4), true, "F0 9F 92 A9"),
+        (Build::PushStr("é "), true, "F0 9F 92 A9 C3 A9 20"),
+        (
+            Build::PushChar('💩'),
+            true,
+            "F0 9F 92 A9 C3 A9 20 F0 9F 92 A9",
+        ),
+        (Build::Truncate(7), true, "F0 9F 92 A9 C3 A9 20"),
+        (Build::Extend(&lead), true, "F0 9F 92 A9 C3 A9 20 ED A0 BD"),
+        (Build::Reserve(10), true, "F0 9F 92 A9 C3 A9 20 ED A0 BD"),
+        (Build::Truncate(0), true, ""),
     ] {
-        let is_refused = matches!(call, Build::Truncate(3));
-        assert_eq!(rt; text.apply(call)?, !is_refused, "before {dump}");
+        assert_eq!(rt; text.apply(call)?, is_done, "before {dump}");
         expect_dump(rt.alloc(), text.as_wtf8(), dump)?;
     }
     assert_eq!(rt; heap.grants_left(), 9);

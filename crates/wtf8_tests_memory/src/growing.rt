@@ -8,7 +8,7 @@ use wtf8_examples::{TEXT, expect_dump, joined, point_of_unit, points_of_units};
 type Lent<'a> = &'a Refusing<Global>;
 
 /// What is appended to a string, by the call of that name, or the room that is reserved in it.
-#[derive(Clone, Copy, Debug)]
+#[derive(Clone, Copy)]
 enum Piece {
     Push(u16),
     PushChar(char),
@@ -130,41 +130,54 @@ fn apply_named(
         Piece::Push(unit) => text.apply(Build::Push(point_of_unit(unit))),
         Piece::PushChar(c) => text.apply(Build::PushChar(c)),
         Piece::PushStr(piece) => text.apply(Build::PushStr(piece)),
-        Piece::PushWtf8(units) => text.apply(Build::PushWtf8(joined(alloc, units)?.as_wtf8())),
-        Piece::Extend(units) => text.apply(Build::Extend(&points_of_units(alloc, units)?)),
+        Piece::PushWtf8(units) => {
+            let other = joined(alloc, units)?;
+            text.apply(Build::PushWtf8(other.as_wtf8()))
+        }
+        Piece::Extend(units) => {
+            let points = points_of_units(alloc, units)?;
+            text.apply(Build::Extend(&points))
+        }
         Piece::Reserve(additional) => text.apply(Build::Reserve(additional)),
     }
 }
 
-/// Whether the call was granted all that it asked for, and how many of the grants it left, after the string was found to
-/// hold what it should.
-fn outcome(
+/// Makes the call where so many requests are granted. Fails unless it is done or not, leaves so many of the grants, and
+/// the string holds these bytes.
+fn expect_outcome(
     alloc: Global,
-    row: &Row,
+    piece: Piece,
     is_applied: bool,
     grants: u64,
-    dump: &str,
-) -> Result<(bool, u64), Fail> {
+    wanted: (bool, u64, &str),
+) -> Result<(), Fail> {
     let heap = Refusing::new(alloc, 0);
     let mut text = full(&heap)?;
     heap.grant(grants);
     let is_done = if is_applied {
-        apply_named(alloc, &mut text, row.piece) == Ok(true)
+        apply_named(alloc, &mut text, piece) == Ok(true)
     } else {
-        call_named(alloc, &mut text, row.piece).is_ok()
+        call_named(alloc, &mut text, piece).is_ok()
     };
-    expect_dump(alloc, text.as_wtf8(), dump)?;
-    Ok((is_done, heap.grants_left()))
+    let (is_done_wanted, left, dump) = wanted;
+    if is_done != is_done_wanted || heap.grants_left() != left {
+        return Err(Fail::new(format_args!("at {dump} with {grants} granted")));
+    }
+    expect_dump(alloc, text.as_wtf8(), dump)
 }
 
 #[test]
 fn a_growing_call_makes_its_requests_and_no_other(rt: HostRuntime) -> Result<(), Fail> {
     for row in &ROWS {
-        let requests = row.refused.len() as u64;
+        let left = 9u64.wrapping_sub(row.refused.len() as u64);
         for is_applied in [false, true] {
-            let (is_done, left) = outcome(rt.alloc(), row, is_applied, 9, row.granted)?;
-            assert!(rt; is_done, "{:?}", row.piece);
-            assert_eq!(rt; left.wrapping_add(requests), 9, "{:?}", row.piece);
+            expect_outcome(
+                rt.alloc(),
+                row.piece,
+                is_applied,
+                9,
+                (true, left, row.granted),
+            )?;
         }
     }
     Ok(())
@@ -175,9 +188,13 @@ fn a_refused_request_leaves_what_was_there(rt: HostRuntime) -> Result<(), Fail> 
     for row in &ROWS {
         for (granted, dump) in row.refused.iter().enumerate() {
             for is_applied in [false, true] {
-                let (is_done, left) = outcome(rt.alloc(), row, is_applied, granted as u64, dump)?;
-                assert!(rt; !is_done, "{:?} with {granted} granted", row.piece);
-                assert_eq!(rt; left, 0, "{:?} with {granted} granted", row.piece);
+                expect_outcome(
+                    rt.alloc(),
+                    row.piece,
+                    is_applied,
+                    granted as u64,
+                    (false, 0, dump),
+                )?;
             }
         }
     }

@@ -1,50 +1,62 @@
 // Cuts at every number of units.
 use crate::callers::cut_at_units_and_joined;
-use crate::strings::{JOINING, LISTS, assert_units, long_list};
+use crate::strings::{LISTS, long_list};
 use refusing::Refusing;
-use std::process::Abort;
+use std::alloc::Global;
 use std::test::Fail;
 use wtf8::{Build, Wtf8Buf};
+use wtf8_examples::{JOINING, expect_dump, expect_units};
 
-/// Cuts the string of some units at each number of them and at two more, with every request for memory refused, and
-/// puts it together again.
-fn cut_everywhere<R: Abort + AllocGlobal>(rt: &R, units: &[u16]) -> Result<(), Fail> {
-    let heap = Refusing::new(rt.alloc(), 0);
-    for (n, _) in units.iter().enumerate() {
-        heap.grant(1_000);
-        let mut text = Wtf8Buf::from_ill_formed_utf16(&heap, units)?;
-        heap.grant(0);
+/// Cuts the string of some units at a number of them, with every request for memory refused, by the call itself or by the
+/// call that answers whether there are so many.
+fn expect_cut(alloc: Global, units: &[u16], n: usize, is_applied: bool) -> Result<(), Fail> {
+    let heap = Refusing::new(alloc, 1_000);
+    let mut text = Wtf8Buf::from_ill_formed_utf16(&heap, units)?;
+    heap.grant(0);
+    let is_within = n <= units.len();
+    if is_applied {
+        if text.apply(Build::TruncateUnits(n)) != Ok(is_within) {
+            return Err(Fail::new(format_args!("a cut at {n}")));
+        }
+    } else if n <= text.as_wtf8().unit_len() {
         text.truncate_units(n);
-        assert_units(rt, text.as_wtf8(), &units[..n])?;
     }
+    expect_units(alloc, text.as_wtf8(), &units[..n.min(units.len())])
+}
+
+/// Fails unless the string of some units that is cut at a number of them and put together again is the whole.
+fn expect_whole(alloc: Global, units: &[u16], n: usize) -> Result<(), Fail> {
+    let whole = Wtf8Buf::from_ill_formed_utf16(alloc, units)?;
+    if n <= whole.as_wtf8().unit_len() {
+        let joined = cut_at_units_and_joined(alloc, whole.as_wtf8(), n)?;
+        if joined == whole {
+            return Ok(());
+        }
+    }
+    Err(Fail::new(format_args!("not the whole, cut at {n}")))
+}
+
+/// Cuts the string of some units at each number of them and at two more, and puts it together again.
+fn cut_everywhere(alloc: Global, units: &[u16]) -> Result<(), Fail> {
     for n in 0..units.len().saturating_add(3) {
-        heap.grant(1_000);
-        let mut text = Wtf8Buf::from_ill_formed_utf16(&heap, units)?;
-        heap.grant(0);
-        assert_eq!(rt;
-            text.apply(Build::TruncateUnits(n))?,
-            n <= units.len(),
-            "at {n}"
-        );
-        assert_units(rt, text.as_wtf8(), units.get(..n).unwrap_or(units))?;
-    }
-    let whole = Wtf8Buf::from_ill_formed_utf16(rt.alloc(), units)?;
-    for n in 0..units.len() {
-        let joined = cut_at_units_and_joined(rt.alloc(), whole.as_wtf8(), n)?;
-        assert_eq!(rt; joined, whole, "at {n}");
+        expect_cut(alloc, units, n, true)?;
+        expect_cut(alloc, units, n, false)?;
+        if n <= units.len() {
+            expect_whole(alloc, units, n)?;
+        }
     }
     Ok(())
 }
 
 #[test]
 fn cuts_keep_the_first_units_without_memory(rt: HostRuntime) -> Result<(), Fail> {
-    for (units, dump) in JOINING {
+    for (units, _, dump) in JOINING {
         let text = Wtf8Buf::from_ill_formed_utf16(rt.alloc(), units)?;
-        assert_eq!(rt; text.as_wtf8().hex_dump(rt.alloc())?.as_str(), dump);
-        cut_everywhere(&rt, units)?;
+        expect_dump(rt.alloc(), text.as_wtf8(), dump)?;
+        cut_everywhere(rt.alloc(), units)?;
     }
     for units in LISTS {
-        cut_everywhere(&rt, units)?;
+        cut_everywhere(rt.alloc(), units)?;
     }
     Ok(())
 }
@@ -52,8 +64,8 @@ fn cuts_keep_the_first_units_without_memory(rt: HostRuntime) -> Result<(), Fail>
 #[test]
 fn cuts_are_right_about_the_blocks(rt: HostRuntime) -> Result<(), Fail> {
     for letters in 20..36 {
-        let units = long_list(&rt, letters)?;
-        cut_everywhere(&rt, units.as_slice())?;
+        let units = long_list(rt.alloc(), letters)?;
+        cut_everywhere(rt.alloc(), units.as_slice())?;
     }
     Ok(())
 }
@@ -70,6 +82,5 @@ fn refused_cuts_are_counted(rt: HostRuntime) -> Result<(), Fail> {
         Build::TruncateUnits(usize::MAX),
     ];
     assert_eq!(rt; text.apply_all(&calls), Ok(4));
-    assert_units(&rt, text.as_wtf8(), &[0x61, 0xD83D, 0x62])?;
-    Ok(())
+    expect_units(rt.alloc(), text.as_wtf8(), &[0x61, 0xD83D, 0x62])
 }

@@ -1,9 +1,10 @@
 // The order of units.
-use crate::strings::{JOINING, LISTS, long_list};
+use crate::strings::{LISTS, long_list};
+use std::alloc::Global;
 use std::cmp::Ordering;
-use std::process::Abort;
 use std::test::Fail;
 use wtf8::Wtf8Buf;
+use wtf8_examples::JOINING;
 
 /// Two lists of units, the order of these, and that of their code points.
 struct Row {
@@ -102,11 +103,25 @@ fn units_above_surrogates_are_behind_pairs(rt: HostRuntime) -> Result<(), Fail> 
     Ok(())
 }
 
-/// Compares the order of two lists with that of their strings.
-fn compare_lists<R: Abort + AllocGlobal>(rt: &R, own: &[u16], others: &[u16]) -> Result<(), Fail> {
-    let text = Wtf8Buf::from_ill_formed_utf16(rt.alloc(), own)?;
-    let other = Wtf8Buf::from_ill_formed_utf16(rt.alloc(), others)?;
-    assert_eq!(rt; text.as_wtf8().cmp_units(&other.as_wtf8()), own.cmp(others));
+/// Fails unless the order of two lists is that of their strings.
+fn compare_lists(alloc: Global, own: &[u16], others: &[u16]) -> Result<(), Fail> {
+    let text = Wtf8Buf::from_ill_formed_utf16(alloc, own)?;
+    let other = Wtf8Buf::from_ill_formed_utf16(alloc, others)?;
+    if text.as_wtf8().cmp_units(&other.as_wtf8()) != own.cmp(others) {
+        return Err(Fail::new(format_args!("{own:?} and {others:?}")));
+    }
+    Ok(())
+}
+
+/// Fails unless a list with another unit at each of its places is ordered as its string, and so is its beginning before
+/// that place.
+fn compare_changed(alloc: Global, list: &[u16], unit: u16) -> Result<(), Fail> {
+    for place in 0..list.len() {
+        let mut other = Vec::from_slice(alloc, list)?;
+        other[place] = unit;
+        compare_lists(alloc, list, other.as_slice())?;
+        compare_lists(alloc, other.as_slice(), &list[..place])?;
+    }
     Ok(())
 }
 
@@ -114,11 +129,11 @@ fn compare_lists<R: Abort + AllocGlobal>(rt: &R, own: &[u16], others: &[u16]) ->
 fn strings_are_ordered_as_their_lists(rt: HostRuntime) -> Result<(), Fail> {
     for own in LISTS {
         for others in LISTS {
-            compare_lists(&rt, own, others)?;
+            compare_lists(rt.alloc(), own, others)?;
         }
-        for (others, _) in JOINING {
-            compare_lists(&rt, own, others)?;
-            compare_lists(&rt, others, own)?;
+        for (others, _, _) in JOINING {
+            compare_lists(rt.alloc(), own, others)?;
+            compare_lists(rt.alloc(), others, own)?;
         }
     }
     Ok(())
@@ -127,14 +142,9 @@ fn strings_are_ordered_as_their_lists(rt: HostRuntime) -> Result<(), Fail> {
 #[test]
 fn a_difference_is_found_at_each_place(rt: HostRuntime) -> Result<(), Fail> {
     for letters in 0..70 {
-        let list = long_list(&rt, letters)?;
+        let list = long_list(rt.alloc(), letters)?;
         for unit in [0x62, 0xE000, 0xD83E] {
-            for place in 0..list.len() {
-                let mut other = list.clone()?;
-                other[place] = unit;
-                compare_lists(&rt, list.as_slice(), other.as_slice())?;
-                compare_lists(&rt, other.as_slice(), &list[..place])?;
-            }
+            compare_changed(rt.alloc(), list.as_slice(), unit)?;
         }
     }
     Ok(())
@@ -142,19 +152,12 @@ fn a_difference_is_found_at_each_place(rt: HostRuntime) -> Result<(), Fail> {
 
 #[test]
 fn a_difference_is_found_among_pairs(rt: HostRuntime) -> Result<(), Fail> {
-    for pairs in 0..20 {
-        let mut list = Vec::new(rt.alloc());
-        for _ in 0..pairs {
-            list.extend_from_slice(&[0xD83D, 0xDCA9])?;
+    let mut list = Vec::new(rt.alloc());
+    for _ in 0..20 {
+        for unit in [0xDCAA, 0xE000, 0xD83D] {
+            compare_changed(rt.alloc(), list.as_slice(), unit)?;
         }
-        for place in 0..list.len() {
-            for unit in [0xDCAA, 0xE000, 0xD83D] {
-                let mut other = list.clone()?;
-                other[place] = unit;
-                compare_lists(&rt, list.as_slice(), other.as_slice())?;
-                compare_lists(&rt, other.as_slice(), &list[..place])?;
-            }
-        }
+        list.extend_from_slice(&[0xD83D, 0xDCA9])?;
     }
     Ok(())
 }

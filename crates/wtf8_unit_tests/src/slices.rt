@@ -1,24 +1,46 @@
 // Units by their numbers, and slices between two of them.
 use crate::callers::push_slice;
-use crate::strings::{JOINING, LISTS, assert_units, long_list};
-use std::process::Abort;
+use crate::strings::{LISTS, long_list};
+use std::alloc::Global;
 use std::test::Fail;
 use wtf8::{Wtf8, Wtf8Buf};
+use wtf8_examples::{JOINING, expect_dump, expect_units};
 
-/// Compares the units of a string by their numbers with the list of them, and each slice with that of the list.
-fn compare_with_list<R: Abort + AllocGlobal>(rt: &R, units: &[u16]) -> Result<(), Fail> {
-    let text = Wtf8Buf::from_ill_formed_utf16(rt.alloc(), units)?;
-    let view = text.as_wtf8();
-    assert_eq!(rt; view.unit_len(), units.len());
+/// Whether the units of a string by their numbers are those of the list, and none stands behind them.
+fn has_units(text: Wtf8<'_>, units: &[u16]) -> bool {
     for n in 0..units.len().saturating_add(3) {
-        assert_eq!(rt; view.unit_at(n), units.get(n).copied(), "at {n}");
+        if text.unit_at(n) != units.get(n).copied() {
+            return false;
+        }
+    }
+    text.unit_len() == units.len()
+}
+
+/// Fails unless the slice between two numbers of units, which are in order, is that of the list.
+fn expect_slice(
+    alloc: Global,
+    text: Wtf8<'_>,
+    units: &[u16],
+    begin: usize,
+    end: usize,
+) -> Result<(), Fail> {
+    if end < begin || text.unit_len() < end || units.len() < end {
+        return Err(Fail::new(format_args!("no slice from {begin} to {end}")));
+    }
+    let mut part = Wtf8Buf::new(alloc);
+    push_slice(&mut part, text.slice_units(begin, end))?;
+    expect_units(alloc, part.as_wtf8(), &units[begin..end])
+}
+
+/// Fails unless the units of a string by their numbers are those of the list, and each slice is that of the list.
+fn expect_list(alloc: Global, units: &[u16]) -> Result<(), Fail> {
+    let text = Wtf8Buf::from_ill_formed_utf16(alloc, units)?;
+    if !has_units(text.as_wtf8(), units) {
+        return Err(Fail::new(format_args!("not the units {units:?}")));
     }
     for end in 0..units.len() {
         for begin in 0..end {
-            let slice = view.slice_units(begin, end);
-            let mut part = Wtf8Buf::new(rt.alloc());
-            push_slice(&mut part, slice)?;
-            assert_units(rt, part.as_wtf8(), &units[begin..end])?;
+            expect_slice(alloc, text.as_wtf8(), units, begin, end)?;
         }
     }
     Ok(())
@@ -26,14 +48,14 @@ fn compare_with_list<R: Abort + AllocGlobal>(rt: &R, units: &[u16]) -> Result<()
 
 #[test]
 fn units_are_those_of_the_list(rt: HostRuntime) -> Result<(), Fail> {
-    for (units, _) in JOINING {
-        compare_with_list(&rt, units)?;
+    for (units, _, _) in JOINING {
+        expect_list(rt.alloc(), units)?;
     }
     for units in LISTS {
-        compare_with_list(&rt, units)?;
+        expect_list(rt.alloc(), units)?;
     }
     for letters in 24..34 {
-        compare_with_list(&rt, long_list(&rt, letters)?.as_slice())?;
+        expect_list(rt.alloc(), long_list(rt.alloc(), letters)?.as_slice())?;
     }
     Ok(())
 }
@@ -54,11 +76,7 @@ fn halves_of_divided_pairs_stand_beside_the_rest(rt: HostRuntime) -> Result<(), 
         assert!(rt; begin <= end && end <= text.unit_len());
         let slice = text.slice_units(begin, end);
         assert_eq!(rt; slice.trail, trail, "{begin} to {end}");
-        assert_eq!(rt;
-            slice.whole.hex_dump(rt.alloc())?.as_str(),
-            dump,
-            "{begin} to {end}"
-        );
+        expect_dump(rt.alloc(), slice.whole, dump)?;
         assert_eq!(rt; slice.lead, lead, "{begin} to {end}");
     }
     Ok(())

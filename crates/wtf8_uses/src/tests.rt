@@ -1,14 +1,18 @@
 // Each public function on its happy path. Expected values are worked by hand from the encoding's tables.
+ghost use Rattle.std.specs.Prelude.{IfOk};
+ghost use Rattle.wtf8_uses.specs.Sorted.{AreInPointOrder};
+
 use crate::interner::Interner;
 use crate::{
     appending, file_names, joining, maps, refusals, round_trips, sorting, table, units, well_formed,
 };
-use std::alloc::AllocError;
+use std::alloc::{AllocError, Global};
 use std::collections::HashMap;
 use std::hash::{BuildHasherDefault, FoldHasher};
-use std::process::Abort;
+use std::test::Fail;
 use unit_text::UnitText;
 use wtf8::{Build, CodePoint, Stopped, Wtf8, Wtf8Buf};
+use wtf8_examples::expect_dump;
 
 /// U+1F4A9 as two units, and its bytes.
 const LEAD: u16 = 0xD83D;
@@ -17,40 +21,29 @@ const TRAIL: u16 = 0xDCA9;
 
 const PAIR_DUMP: &str = "F0 9F 92 A9";
 
-/// Ends the test unless the string's bytes are those of the dump.
-fn assert_dump<R: Abort + AllocGlobal>(
-    rt: &R,
-    text: Wtf8<'_>,
-    dump: &str,
-) -> Result<(), AllocError> {
-    let found = text.hex_dump(rt.alloc())?;
-    assert_eq!(rt; found.as_str(), dump);
-    Ok(())
-}
-
 #[test]
-fn lists_are_joined(rt: HostRuntime) -> Result<(), AllocError> {
+fn lists_are_joined(rt: HostRuntime) -> Result<(), Fail> {
     let whole = joining::joined(rt.alloc(), &[LEAD], &[TRAIL])?;
-    assert_dump(&rt, whole.as_wtf8(), PAIR_DUMP)?;
+    expect_dump(rt.alloc(), whole.as_wtf8(), PAIR_DUMP)?;
     let apart = joining::joined(rt.alloc(), &[TRAIL], &[LEAD])?;
-    assert_dump(&rt, apart.as_wtf8(), "ED B2 A9 ED A0 BD")
+    expect_dump(rt.alloc(), apart.as_wtf8(), "ED B2 A9 ED A0 BD")
 }
 
 #[test]
-fn a_pair_is_appended_by_its_halves(rt: HostRuntime) -> Result<(), AllocError> {
+fn a_pair_is_appended_by_its_halves(rt: HostRuntime) -> Result<(), Fail> {
     let lead = Wtf8Buf::from_ill_formed_utf16(rt.alloc(), &[LEAD])?;
     let trail = Wtf8Buf::from_ill_formed_utf16(rt.alloc(), &[TRAIL])?;
     let mut text = Wtf8Buf::from_str(rt.alloc(), "a")?;
     appending::push_both(&mut text, lead.as_wtf8(), trail.as_wtf8())?;
     appending::push_nothing(&mut text)?;
-    assert_dump(&rt, text.as_wtf8(), "61 F0 9F 92 A9")?;
+    expect_dump(rt.alloc(), text.as_wtf8(), "61 F0 9F 92 A9")?;
     assert!(rt; text.as_wtf8().is_code_point_boundary(1));
     let whole = appending::cut_and_joined(rt.alloc(), text.as_wtf8(), 1)?;
-    assert_dump(&rt, whole.as_wtf8(), "61 F0 9F 92 A9")
+    expect_dump(rt.alloc(), whole.as_wtf8(), "61 F0 9F 92 A9")
 }
 
 #[test]
-fn a_path_is_cut_and_joined(rt: HostRuntime) -> Result<(), AllocError> {
+fn a_path_is_cut_and_joined(rt: HostRuntime) -> Result<(), Fail> {
     for path in ["a/b/c", "/", "", "no slash", "é/💩"] {
         let whole = joining::cut_at_slash_and_joined(rt.alloc(), Wtf8::from_str(path))?;
         assert_eq!(rt; whole.as_wtf8().as_str(), Some(path));
@@ -59,7 +52,7 @@ fn a_path_is_cut_and_joined(rt: HostRuntime) -> Result<(), AllocError> {
 }
 
 #[test]
-fn units_and_texts_come_back(rt: HostRuntime) -> Result<(), AllocError> {
+fn units_and_texts_come_back(rt: HostRuntime) -> Result<(), Fail> {
     let list = [TRAIL, LEAD, TRAIL, 0x0041, LEAD];
     let again = round_trips::units_again(rt.alloc(), &list)?;
     assert_eq!(rt; again.as_slice(), list.as_slice());
@@ -77,32 +70,53 @@ fn units_and_texts_come_back(rt: HostRuntime) -> Result<(), AllocError> {
 /// U+E000 and U+10000, which stand the other way round by their units.
 const IN_ORDER: [&str; 2] = ["EE 80 80", "F0 90 80 80"];
 
+/// Two strings, the first of which stands behind the other in the order of code points.
+fn behind_and_before(alloc: Global) -> Result<(Wtf8Buf<Global>, Wtf8Buf<Global>), AllocError> {
+    let before = Wtf8Buf::from_ill_formed_utf16(alloc, &[0xE000])?;
+    let behind = Wtf8Buf::from_ill_formed_utf16(alloc, &[0xD800, 0xDC00])?;
+    Ok((behind, before))
+}
+
 #[test]
-fn strings_and_views_are_sorted(rt: HostRuntime) -> Result<(), AllocError> {
-    let first = Wtf8Buf::from_ill_formed_utf16(rt.alloc(), &[0xE000])?;
-    let second = Wtf8Buf::from_ill_formed_utf16(rt.alloc(), &[0xD800, 0xDC00])?;
+fn views_are_sorted(rt: HostRuntime) -> Result<(), Fail> {
+    let (behind, before) = behind_and_before(rt.alloc())?;
     let mut views = Vec::new(rt.alloc());
-    views.push(second.as_wtf8())?;
-    views.push(first.as_wtf8())?;
+    views.push(behind.as_wtf8())?;
+    views.push(before.as_wtf8())?;
     sorting::sort_views(&mut views)?;
     for (view, dump) in views.iter().zip(IN_ORDER) {
-        assert_dump(&rt, *view, dump)?;
+        expect_dump(rt.alloc(), *view, dump)?;
     }
-    let mut strings = Vec::new(rt.alloc());
-    strings.push(second.clone()?)?;
-    strings.push(first.clone()?)?;
+    Ok(())
+}
+
+/// The two strings, sorted.
+fn sorted(alloc: Global) -> Result<Vec<Wtf8Buf<Global>>, AllocError>
+    ensures { IfOk result (λ strings. AreInPointOrder strings.items) }
+{
+    let (behind, before) = behind_and_before(alloc)?;
+    let mut strings = Vec::new(alloc);
+    strings.push(behind)?;
+    strings.push(before)?;
     sorting::sort_strings(&mut strings)?;
+    Ok(strings)
+}
+
+#[test]
+fn strings_are_sorted_and_found(rt: HostRuntime) -> Result<(), Fail> {
+    let strings = sorted(rt.alloc())?;
     for (string, dump) in strings.iter().zip(IN_ORDER) {
-        assert_dump(&rt, string.as_wtf8(), dump)?;
+        expect_dump(rt.alloc(), string.as_wtf8(), dump)?;
     }
-    assert_eq!(rt; table::place_of(strings.as_slice(), &second), Ok(1));
-    let behind = Wtf8Buf::from_ill_formed_utf16(rt.alloc(), &[0xF000])?;
-    assert_eq!(rt; table::place_of(strings.as_slice(), &behind), Err(1));
+    let there = Wtf8Buf::from_ill_formed_utf16(rt.alloc(), &[0xD800, 0xDC00])?;
+    assert_eq!(rt; table::place_of(strings.as_slice(), &there), Ok(1));
+    let absent = Wtf8Buf::from_ill_formed_utf16(rt.alloc(), &[0xF000])?;
+    assert_eq!(rt; table::place_of(strings.as_slice(), &absent), Err(1));
     Ok(())
 }
 
 #[test]
-fn a_map_finds_equal_strings(rt: HostRuntime) -> Result<(), AllocError> {
+fn a_map_finds_equal_strings(rt: HostRuntime) -> Result<(), Fail> {
     let mut map = HashMap::new(rt.alloc());
     let key = joining::joined(rt.alloc(), &[LEAD], &[TRAIL])?;
     let same = Wtf8Buf::from_str(rt.alloc(), "💩")?;
@@ -112,44 +126,44 @@ fn a_map_finds_equal_strings(rt: HostRuntime) -> Result<(), AllocError> {
     Ok(())
 }
 
+/// The path C:\\a/b<lone trail>.tar.gz.
+const PATH: [u16; 14] = [
+    0x43, 0x3A, 0x5C, 0x61, 0x2F, 0x62, TRAIL, 0x2E, 0x74, 0x61, 0x72, 0x2E, 0x67, 0x7A,
+];
+
 #[test]
-fn a_path_has_a_folder_a_name_and_an_extension(rt: HostRuntime) -> Result<(), AllocError> {
-    // C:\a/b<lone trail>.tar.gz
-    let path = Wtf8Buf::from_ill_formed_utf16(
-        rt.alloc(),
-        &[
-            0x43, 0x3A, 0x5C, 0x61, 0x2F, 0x62, TRAIL, 0x2E, 0x74, 0x61, 0x72, 0x2E, 0x67, 0x7A,
-        ],
-    )?;
-    let Some((folder, name)) = file_names::folder_and_name(path.as_wtf8()) else {
-        assert!(rt; false, "a folder");
-        return Ok(());
-    };
-    assert_dump(&rt, folder, "43 3A 5C 61")?;
-    assert_dump(&rt, name, "62 ED B2 A9 2E 74 61 72 2E 67 7A")?;
+fn a_path_has_a_folder_and_a_name(rt: HostRuntime) -> Result<(), Fail> {
+    let path = Wtf8Buf::from_ill_formed_utf16(rt.alloc(), &PATH)?;
+    let parts = file_names::folder_and_name(path.as_wtf8());
+    let (folder, name) = parts.ok_or("a folder")?;
+    expect_dump(rt.alloc(), folder, "43 3A 5C 61")?;
+    expect_dump(rt.alloc(), name, "62 ED B2 A9 2E 74 61 72 2E 67 7A")?;
     assert!(rt; file_names::folder_and_name(name).is_none());
-    let Some((stem, extension)) = file_names::stem_and_extension(name) else {
-        assert!(rt; false, "an extension");
-        return Ok(());
-    };
-    assert_dump(&rt, stem, "62 ED B2 A9 2E 74 61 72")?;
-    assert_dump(&rt, extension, "67 7A")?;
-    assert!(rt; file_names::stem_and_extension(extension).is_none());
-    let again = file_names::with_extension(rt.alloc(), stem, extension)?;
-    assert!(rt; again.as_wtf8() == name);
     let joined = file_names::join(rt.alloc(), folder, name)?;
-    assert_dump(
-        &rt,
+    expect_dump(
+        rt.alloc(),
         joined.as_wtf8(),
         "43 3A 5C 61 5C 62 ED B2 A9 2E 74 61 72 2E 67 7A",
-    )?;
-    let shown = file_names::shown(rt.alloc(), name)?;
+    )
+}
+
+#[test]
+fn a_name_has_a_stem_and_an_extension(rt: HostRuntime) -> Result<(), Fail> {
+    let name = Wtf8Buf::from_ill_formed_utf16(rt.alloc(), &PATH[5..])?;
+    let parts = file_names::stem_and_extension(name.as_wtf8());
+    let (stem, extension) = parts.ok_or("an extension")?;
+    expect_dump(rt.alloc(), stem, "62 ED B2 A9 2E 74 61 72")?;
+    expect_dump(rt.alloc(), extension, "67 7A")?;
+    assert!(rt; file_names::stem_and_extension(extension).is_none());
+    let again = file_names::with_extension(rt.alloc(), stem, extension)?;
+    assert!(rt; again == name);
+    let shown = file_names::shown(rt.alloc(), name.as_wtf8())?;
     assert_eq!(rt; shown.as_str(), "b\u{FFFD}.tar.gz");
     Ok(())
 }
 
 #[test]
-fn a_number_stays(rt: HostRuntime) -> Result<(), AllocError> {
+fn a_number_stays(rt: HostRuntime) -> Result<(), Fail> {
     let mut interner = Interner::new(rt.alloc());
     let first = Wtf8Buf::from_ill_formed_utf16(rt.alloc(), &[LEAD])?;
     assert_eq!(rt; interner.number(first.clone()?)?, 0);
@@ -157,7 +171,7 @@ fn a_number_stays(rt: HostRuntime) -> Result<(), AllocError> {
     assert_eq!(rt; interner.number(first)?, 0);
     for (number, dump) in [(0, Some("ED A0 BD")), (1, Some("")), (2, None)] {
         match (interner.string(number), dump) {
-            (Some(string), Some(dump)) => assert_dump(&rt, string, dump)?,
+            (Some(string), Some(dump)) => expect_dump(rt.alloc(), string, dump)?,
             (found, dump) => assert_eq!(rt; found.is_some(), dump.is_some()),
         }
     }
@@ -165,13 +179,13 @@ fn a_number_stays(rt: HostRuntime) -> Result<(), AllocError> {
 }
 
 #[test]
-fn room_is_found_once(rt: HostRuntime) -> Result<(), AllocError> {
+fn room_is_found_once(rt: HostRuntime) -> Result<(), Fail> {
     let mut string = Wtf8Buf::from_ill_formed_utf16(rt.alloc(), &[LEAD])?;
     let trail = Wtf8Buf::from_ill_formed_utf16(rt.alloc(), &[TRAIL])?;
     refusals::push_both(&mut string, trail.as_wtf8(), Wtf8::from_str("é"))?;
-    assert_dump(&rt, string.as_wtf8(), "F0 9F 92 A9 C3 A9")?;
+    expect_dump(rt.alloc(), string.as_wtf8(), "F0 9F 92 A9 C3 A9")?;
     refusals::push_list(&mut string, &[Build::PushChar('a'), Build::PushStr("b")], 2)?;
-    assert_dump(&rt, string.as_wtf8(), "F0 9F 92 A9 C3 A9 61 62")?;
+    expect_dump(rt.alloc(), string.as_wtf8(), "F0 9F 92 A9 C3 A9 61 62")?;
     assert!(rt; refusals::is_kept_by_a_refusal(&mut string, CodePoint::from_char('c'))?);
     Ok(())
 }
@@ -194,7 +208,7 @@ fn units_are_counted(rt: HostRuntime) {
 }
 
 #[test]
-fn lone_surrogates_are_not_well_formed(rt: HostRuntime) -> Result<(), AllocError> {
+fn lone_surrogates_are_not_well_formed(rt: HostRuntime) -> Result<(), Fail> {
     let rows: [(&[u16], bool); 5] = [
         (&[], true),
         (&[0x0061, LEAD, TRAIL], true),
