@@ -8,7 +8,8 @@ ghost use Rattle.wtf8.specs.Unicode.{IsLead, IsTrail, IsSurrogate, pair};
 ghost use Rattle.wtf8.specs.UnitParts.{AppendsForm};
 
 use crate::code_point::CodePoint;
-use crate::{encoding, surrogates};
+use crate::encoding;
+use crate::surrogates::{self, FIRST_LEAD, FIRST_TRAIL, LAST_LEAD, LAST_TRAIL};
 use std::alloc::{AllocError, Allocator};
 use std::iter::Ahead;
 
@@ -72,16 +73,14 @@ impl<I: Iterator<Item = u16>> Iterator for DecodeUtf16<I> {
 
     fn next(&mut self) -> Option<Result<char, u16>> {
         let unit = self.units.next()?;
-        if surrogates::is_lead(u32::from(unit)) {
-            return match self.units.next_if(is_trail) {
+        match unit {
+            FIRST_LEAD..=LAST_LEAD => match self.units.next_if(is_trail) {
                 Some(trail) => Some(Ok(joined(unit, trail))),
                 None => Some(Err(unit)),
-            };
+            },
+            FIRST_TRAIL..=LAST_TRAIL => Some(Err(unit)),
+            _ => Some(Ok(single(unit))),
         }
-        if is_trail(&unit) {
-            return Some(Err(unit));
-        }
-        Some(Ok(single(unit)))
     }
 
     fn size_hint(&self) -> (usize, Option<usize>) {

@@ -1,5 +1,5 @@
 // The encoding of one code point: written at the end of bytes, and read from their front.
-ghost use Rattle.std.specs.Prelude.{◌≡◌, ℕ, List, ◌++◌, ◌+◌, ◌-◌, ◌*◌, ◌%◌, ◌<◌, ◌≤◌, ◌↔◌, ◌⊎◌, IsTrue, length, OnOk, OnErr, IsOk, vec_len, vec_capacity};
+ghost use Rattle.std.specs.Prelude.{◌≡◌, ℕ, List, ◌++◌, ◌+◌, ◌%◌, ◌<◌, ◌≤◌, ◌↔◌, ◌⊎◌, IsTrue, length, OnOk, OnErr, IsOk, vec_len, vec_capacity};
 ghost use Rattle.wtf8.specs.CodePoint.{number};
 ghost use Rattle.wtf8.specs.Form.{encoding};
 ghost use Rattle.wtf8.specs.Gains.{BeginsWithPoint};
@@ -101,24 +101,11 @@ pub(crate) fn begins_code_point(byte: u8) -> bool
 }
 
 /// The low six bits of a byte behind the first one.
-fn low_bits(byte: u8) -> u32
+pub(crate) fn low_bits(byte: u8) -> u32
     requires inside { 0x80 ≤ byte }
     ensures { result + 0x80 ≡ byte }
 {
     u32::from(byte - 0x80)
-}
-
-/// The number that three bytes stand for, the first of which is from 0xE0 to 0xEF.
-#[inline(always)]
-pub(crate) fn three_byte_number(first: u32, second: u8, third: u8) -> u32
-    requires least { 0xE0 ≤ first }
-    requires most { first < 0xF0 }
-    requires second { 0x80 ≤ second }
-    requires third { 0x80 ≤ third }
-    ensures { result ≡ ((first - 0xE0) * 64 + (second - 0x80)) * 64 + (third - 0x80) }
-{
-    let high = (first - 0xE0) * 64 + low_bits(second);
-    high * 64 + low_bits(third)
 }
 
 /// The number of the code point at the front of the bytes, and how many bytes it takes.
@@ -132,7 +119,8 @@ fn read_number(bytes: &[u8]) -> (u32, usize)
     } else if first < 0xE0 {
         ((first - 0xC0) * 64 + low_bits(bytes[1]), 2)
     } else if first < 0xF0 {
-        (three_byte_number(first, bytes[1], bytes[2]), 3)
+        let high = (first - 0xE0) * 64 + low_bits(bytes[1]);
+        (high * 64 + low_bits(bytes[2]), 3)
     } else {
         let high = (first - 0xF0) * 64 + low_bits(bytes[1]);
         let middle = high * 64 + low_bits(bytes[2]);

@@ -2,11 +2,23 @@
 ghost use Rattle.std.specs.Prelude.{◌≡◌, ◌↔◌, ◌+◌, ◌-◌, ◌/◌, ◌%◌, ◌≤◌, IsTrue};
 ghost use Rattle.wtf8.specs.Unicode.{IsLead, IsTrail, pair};
 
-/// The first lead surrogate.
-const FIRST_LEAD: u32 = 0xD800;
+/// The first lead surrogate, as a unit.
+pub(crate) const FIRST_LEAD: u16 = 0xD800;
+
+/// The last lead surrogate.
+pub(crate) const LAST_LEAD: u16 = 0xDBFF;
 
 /// The first trail surrogate.
-const FIRST_TRAIL: u32 = 0xDC00;
+pub(crate) const FIRST_TRAIL: u16 = 0xDC00;
+
+/// The last trail surrogate.
+pub(crate) const LAST_TRAIL: u16 = 0xDFFF;
+
+/// The number of the first lead surrogate.
+const LEADS_FROM: u32 = FIRST_LEAD as u32;
+
+/// The number of the first trail surrogate.
+const TRAILS_FROM: u32 = FIRST_TRAIL as u32;
 
 /// How many surrogates of either kind there are.
 const OF_A_KIND: u32 = 0x400;
@@ -14,20 +26,12 @@ const OF_A_KIND: u32 = 0x400;
 /// The first supplementary code point.
 const FIRST_SUPPLEMENTARY: u32 = 0x10000;
 
-/// Whether a number is a lead surrogate.
-#[inline(always)]
-pub(crate) fn is_lead(value: u32) -> bool
-    ensures { IsTrue result ↔ IsLead value }
-{
-    FIRST_LEAD <= value && value < FIRST_LEAD + OF_A_KIND
-}
-
 /// Whether a number is a trail surrogate.
 #[inline(always)]
 pub(crate) fn is_trail(value: u32) -> bool
     ensures { IsTrue result ↔ IsTrail value }
 {
-    FIRST_TRAIL <= value && value < FIRST_TRAIL + OF_A_KIND
+    TRAILS_FROM <= value && value <= LAST_TRAIL as u32
 }
 
 /// The supplementary code point that a lead and a trail stand for.
@@ -37,7 +41,7 @@ pub(crate) fn joined(lead: u32, trail: u32) -> u32
     requires trail { IsTrail trail }
     ensures { result ≡ pair lead trail }
 {
-    FIRST_SUPPLEMENTARY + (lead - FIRST_LEAD) * OF_A_KIND + (trail - FIRST_TRAIL)
+    FIRST_SUPPLEMENTARY + (lead - LEADS_FROM) * OF_A_KIND + (trail - TRAILS_FROM)
 }
 
 /// The lead of the pair that a supplementary code point is.
@@ -45,7 +49,7 @@ pub(crate) fn lead_of(value: u32) -> u32
     requires supplementary { 0x10000 ≤ value }
     ensures { result ≡ 0xD800 + (value - 0x10000) / 0x400 }
 {
-    FIRST_LEAD + (value - FIRST_SUPPLEMENTARY) / OF_A_KIND
+    LEADS_FROM + (value - FIRST_SUPPLEMENTARY) / OF_A_KIND
 }
 
 /// The trail of the pair that a supplementary code point is.
@@ -53,5 +57,5 @@ pub(crate) fn trail_of(value: u32) -> u32
     requires supplementary { 0x10000 ≤ value }
     ensures { result ≡ 0xDC00 + (value - 0x10000) % 0x400 }
 {
-    FIRST_TRAIL + (value - FIRST_SUPPLEMENTARY) % OF_A_KIND
+    TRAILS_FROM + (value - FIRST_SUPPLEMENTARY) % OF_A_KIND
 }

@@ -268,7 +268,7 @@ impl<'a> Wtf8<'a> {
     {
         match self.bytes {
             [.., 0xED, second @ 0xA0..=0xAF, third] => {
-                Some(encoding::three_byte_number(0xED, *second, *third))
+                Some(0xD000 + encoding::low_bits(*second) * 64 + encoding::low_bits(*third))
             }
             _ => None,
         }

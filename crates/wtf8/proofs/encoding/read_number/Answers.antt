@@ -18,14 +18,14 @@ low_bits-requires c = let f = front_of c.requires in omega arith
 pub bounds-bytes-1-then-first-lt240 : goal.bounds-bytes-1-then-first-lt240
 bounds-bytes-1-then-first-lt240 c = let f = front_of c.requires in omega arith
 
-pub three_byte_number-requires-clause-second : goal.three_byte_number-requires-clause-second
-three_byte_number-requires-clause-second c = let f = front_of c.requires in omega arith
+pub low_bits-requires-then-first-lt240 : goal.low_bits-requires-then-first-lt240
+low_bits-requires-then-first-lt240 c = let f = front_of c.requires in omega arith
 
 pub bounds-bytes-2 : goal.bounds-bytes-2
 bounds-bytes-2 c = let f = front_of c.requires in omega arith
 
-pub three_byte_number-requires-clause-third : goal.three_byte_number-requires-clause-third
-three_byte_number-requires-clause-third c = let f = front_of c.requires in omega arith
+pub low_bits-requires-then-first-lt240-2 : goal.low_bits-requires-then-first-lt240-2
+low_bits-requires-then-first-lt240-2 c = let f = front_of c.requires in omega arith
 
 pub bounds-bytes-1-else-first-lt240 : goal.bounds-bytes-1-else-first-lt240
 bounds-bytes-1-else-first-lt240 c = let f = front_of c.requires in omega arith

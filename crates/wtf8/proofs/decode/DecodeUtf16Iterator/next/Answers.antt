@@ -34,8 +34,8 @@ returns-in-None-clause-steps g c =
           (λ u failed trail. true≢false (sym (failed.1.1 (subst IsTrail (sym failed.2) trail))));
     }
 
-pub returns-then-is_trail-clause-steps : goal.returns-then-is_trail-clause-steps
-returns-then-is_trail-clause-steps g c =
+pub returns-in-56320-to-57343-clause-steps : goal.returns-in-56320-to-57343-clause-steps
+returns-in-56320-to-57343-clause-steps g c =
     let unit = c.in_ok-unit.unit in
     record {
       kind = (omega arith, omega arith);
@@ -45,8 +45,8 @@ returns-then-is_trail-clause-steps g c =
       lone = λ lead. absurd (omega (arith, lead));
     }
 
-pub returns-clause-steps : goal.returns-clause-steps
-returns-clause-steps g c =
+pub returns-in_default-clause-steps : goal.returns-in_default-clause-steps
+returns-in_default-clause-steps g c =
     let unit = c.in_ok-unit.unit in
     let range : unit < 0x10000 = search rules in
     record {
