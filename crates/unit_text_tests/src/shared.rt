@@ -6,13 +6,12 @@ use wtf8_examples::expect_dump;
 
 /// Whether the text has these units, one by one, and none behind them.
 fn has_units<A: Allocator>(text: &UnitText<A>, units: &[u16]) -> bool {
-    for (i, unit) in units.iter().enumerate() {
-        if text.unit_at(i) != Some(*unit) {
+    for i in 0..units.len().saturating_add(1) {
+        if text.unit_at(i) != units.get(i).copied() {
             return false;
         }
     }
-    let len = units.len();
-    text.unit_len() == len && text.unit_at(len) == None && text.unit_at(usize::MAX) == None
+    text.unit_len() == units.len() && text.unit_at(usize::MAX).is_none()
 }
 
 /// Fails unless the text has these units, one by one.
