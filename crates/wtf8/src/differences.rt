@@ -132,6 +132,7 @@ fn skip_same<const N: usize>(own: &[u8], others: &[u8], from: usize) -> usize
     requires within_first { from ≤ length own.now }
     requires within_second { from ≤ length others.now }
     requires same { take from own.now ≡ take from others.now }
+    ensures not_before { from ≤ result }
     ensures within_first { result ≤ length own.now }
     ensures within_second { result ≤ length others.now }
     ensures same { take result own.now ≡ take result others.now }
