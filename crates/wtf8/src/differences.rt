@@ -52,6 +52,10 @@ pub(crate) fn order(own: &[u8], others: &[u8]) -> Ordering
     ensures { result ≡ slice_cmp nat_cmp own.now others.now }
 {
     let len = own.len().min(others.len());
+    // Many lists differ at once.
+    if 0 < len && own[0] != others[0] {
+        return own[0].cmp(&others[0]);
+    }
     if len <= TURN && is_same_front(own, others, len) {
         return own.len().cmp(&others.len());
     }
@@ -63,7 +67,7 @@ pub(crate) fn order(own: &[u8], others: &[u8]) -> Ordering
 fn order_by_difference(own: &[u8], others: &[u8]) -> Ordering
     ensures { result ≡ slice_cmp nat_cmp own.now others.now }
 {
-    let at = first_difference(own, others);
+    let at = first_difference_in_blocks(own, others);
     byte_at(own, at).cmp(&byte_at(others, at))
 }
 
@@ -73,6 +77,10 @@ pub(crate) fn first_difference(own: &[u8], others: &[u8]) -> usize
     ensures { IsFirstDifference own.now others.now result }
 {
     let len = own.len().min(others.len());
+    // Many lists differ at once.
+    if 0 < len && own[0] != others[0] {
+        return 0;
+    }
     if TURN < len {
         return first_difference_in_blocks(own, others);
     }
@@ -124,6 +132,7 @@ fn skip_same<const N: usize>(own: &[u8], others: &[u8], from: usize) -> usize
     requires within_first { from ≤ length own.now }
     requires within_second { from ≤ length others.now }
     requires same { take from own.now ≡ take from others.now }
+    ensures not_before { from ≤ result }
     ensures within_first { result ≤ length own.now }
     ensures within_second { result ≤ length others.now }
     ensures same { take result own.now ≡ take result others.now }

@@ -13,4 +13,4 @@ returns-then-is_same_front c =
       | inr l ↦ inr (omega (arith, l, c.min-len.ensures))
     ] in
     let same = c.is_same_front.ensures.0 c.if-is_same_front.true in
-    c.cmp.ensures ∙ lengths_decide own others n end (omega (arith, c.min-len.ensures)) (omega (arith, c.min-len.ensures)) same
+    c.cmp-then-is_same_front.ensures ∙ lengths_decide own others n end (omega (arith, c.min-len.ensures)) (omega (arith, c.min-len.ensures)) same
