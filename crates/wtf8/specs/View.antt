@@ -6,16 +6,16 @@ use Rattle.wtf8.specs.declared.view.Wtf8.{Wtf8}
 
 -- The code points that a view's bytes encode.
 abbrev pub view_points : Wtf8 → List ℕ
-view_points text = text.well_formed.points
+view_points view = view.well_formed.points
 
 -- The units of a view: those of its code points (WTF-8, "Potentially ill-formed UTF-16").
 abbrev pub view_units : Wtf8 → List ℕ
-view_units text = units text.well_formed.points
+view_units view = units view.well_formed.points
 
 -- A view's bytes are the form of its units.
-abbrev pub view_form : (text : Wtf8) → IsForm text.bytes.now (view_units text)
-view_form text = record {
-  points = text.well_formed.points;
-  reads = record { clean = text.well_formed.clean; same_units = refl };
-  encoded = text.well_formed.encoded;
+abbrev pub view_form : (view : Wtf8) → IsForm view.bytes.now (view_units view)
+view_form view = record {
+  points = view.well_formed.points;
+  reads = record { clean = view.well_formed.clean; same_units = refl };
+  encoded = view.well_formed.encoded;
 }

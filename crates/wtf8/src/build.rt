@@ -60,7 +60,7 @@ impl<A: Allocator> Wtf8Buf<A> {
             Build::Push(code_point) => self.push(code_point)?,
             Build::PushChar(c) => self.push_char(c)?,
             Build::PushStr(text) => self.push_str(text)?,
-            Build::PushWtf8(text) => self.push_wtf8(text)?,
+            Build::PushWtf8(view) => self.push_wtf8(view)?,
             Build::Extend(points) => self.extend_from_points(points)?,
             Build::Reserve(additional) => self.reserve(additional)?,
             Build::Truncate(position) => return Ok(self.try_truncate(position)),

@@ -18,7 +18,7 @@ use std::hash::{Hash, Hasher};
 
 /// Strings are equal where their bytes are, which is where their units are.
 impl<'a> PartialEq for Wtf8<'a> {
-    ghost eq = { on (λ text. text.bytes.now) (pointwise nat_eq) };
+    ghost eq = { on (λ view. view.bytes.now) (pointwise nat_eq) };
 
     fn eq(&self, other: &Wtf8<'a>) -> bool
         ensures bytes { result ≡ pointwise nat_eq self.now.bytes.now other.now.bytes.now }
@@ -36,7 +36,7 @@ impl<'a> Eq for Wtf8<'a> {
 }
 
 impl<'a> PartialOrd for Wtf8<'a> {
-    ghost partial_cmp = { as_partial_cmp (on (λ text. text.bytes.now) (slice_cmp nat_cmp)) };
+    ghost partial_cmp = { as_partial_cmp (on (λ view. view.bytes.now) (slice_cmp nat_cmp)) };
 
     fn partial_cmp(&self, other: &Wtf8<'a>) -> Option<Ordering> {
         Some(self.cmp(other))
@@ -48,7 +48,7 @@ impl<'a> PartialOrd for Wtf8<'a> {
 /// The order of the bytes one by one, a beginning before the longer string. It is the order of the code points, not
 /// that of the units.
 impl<'a> Ord for Wtf8<'a> {
-    ghost cmp = { on (λ text. text.bytes.now) (slice_cmp nat_cmp) };
+    ghost cmp = { on (λ view. view.bytes.now) (slice_cmp nat_cmp) };
 
     fn cmp(&self, other: &Wtf8<'a>) -> Ordering
         ensures bytes { result ≡ slice_cmp nat_cmp self.now.bytes.now other.now.bytes.now }
@@ -68,7 +68,7 @@ impl<'a> Ord for Wtf8<'a> {
 
 /// A hasher is fed the bytes and then the byte 0xFE, which stands in no string.
 impl<'a> Hash for Wtf8<'a> {
-    ghost hash_input = { λ text. text.bytes.now ∷ fed.u8 254 };
+    ghost hash_input = { λ view. view.bytes.now ∷ fed.u8 254 };
 
     fn hash<H: Hasher>(&self, state: &mut H) {
         state.write(self.bytes);
@@ -80,7 +80,7 @@ impl<'a> Hash for Wtf8<'a> {
 
 /// A buffer is equal to another where their views are.
 impl<A: Allocator> PartialEq for Wtf8Buf<A> {
-    ghost eq = { on (λ text. text.bytes) (pointwise nat_eq) };
+    ghost eq = { on (λ string. string.bytes) (pointwise nat_eq) };
 
     fn eq(&self, other: &Wtf8Buf<A>) -> bool
         ensures bytes { result ≡ pointwise nat_eq self.now.bytes other.now.bytes }
@@ -98,7 +98,7 @@ impl<A: Allocator> Eq for Wtf8Buf<A> {
 }
 
 impl<A: Allocator> PartialOrd for Wtf8Buf<A> {
-    ghost partial_cmp = { as_partial_cmp (on (λ text. text.bytes) (slice_cmp nat_cmp)) };
+    ghost partial_cmp = { as_partial_cmp (on (λ string. string.bytes) (slice_cmp nat_cmp)) };
 
     fn partial_cmp(&self, other: &Wtf8Buf<A>) -> Option<Ordering> {
         Some(self.cmp(other))
@@ -109,7 +109,7 @@ impl<A: Allocator> PartialOrd for Wtf8Buf<A> {
 
 /// The order of the views.
 impl<A: Allocator> Ord for Wtf8Buf<A> {
-    ghost cmp = { on (λ text. text.bytes) (slice_cmp nat_cmp) };
+    ghost cmp = { on (λ string. string.bytes) (slice_cmp nat_cmp) };
 
     fn cmp(&self, other: &Wtf8Buf<A>) -> Ordering
         ensures bytes { result ≡ slice_cmp nat_cmp self.now.bytes other.now.bytes }
@@ -129,7 +129,7 @@ impl<A: Allocator> Ord for Wtf8Buf<A> {
 
 /// A hasher is fed what the view feeds it.
 impl<A: Allocator> Hash for Wtf8Buf<A> {
-    ghost hash_input = { λ text. text.bytes ∷ fed.u8 254 };
+    ghost hash_input = { λ string. string.bytes ∷ fed.u8 254 };
 
     fn hash<H: Hasher>(&self, state: &mut H) {
         self.as_wtf8().hash(state);

@@ -32,16 +32,16 @@ fn join<A: Allocator>(bytes: &mut Vec<u8, A>, lead: u32, trail: u32) -> Result<(
     Ok(())
 }
 
-/// The lead surrogate that ends the text and that the code point would join: there is one only if the code point is a
+/// The lead surrogate that ends the string and that the code point would join: there is one only if the code point is a
 /// trail surrogate.
-fn joining_lead(text: Wtf8<'_>, code_point: CodePoint) -> Option<u32>
+fn joining_lead(view: Wtf8<'_>, code_point: CodePoint) -> Option<u32>
     ensures trail { OnSome result (IsTrail (number code_point)) }
     ensures lead { IfSome result (λ l. IsLead l) }
-    ensures last { IfSome result (λ l. (f : List ℕ) × (view_points text.entry ≡ f ++ l ∷ [])) }
-    ensures none { IfNone result (¬ (MeetsAsPair (view_points text.entry) (number code_point ∷ []))) }
+    ensures last { IfSome result (λ l. (f : List ℕ) × (view_points view.entry ≡ f ++ l ∷ [])) }
+    ensures none { IfNone result (¬ (MeetsAsPair (view_points view.entry) (number code_point ∷ []))) }
 {
     if surrogates::is_trail(code_point.to_u32()) {
-        text.final_lead_surrogate()
+        view.final_lead_surrogate()
     } else {
         None
     }
@@ -75,8 +75,8 @@ pub(crate) fn push_surrogate<A: Allocator>(
     ensures room { FitsUnits bytes.old.items (units_of (number code_point)) (vec_capacity bytes.old) → IsOk result }
     ensures capacity { vec_capacity bytes.old ≤ vec_capacity bytes.new }
 {
-    let text = Wtf8::from_well_formed(bytes.as_slice());
-    match joining_lead(text, code_point) {
+    let view = Wtf8::from_well_formed(bytes.as_slice());
+    match joining_lead(view, code_point) {
         Some(lead) => join(bytes, lead, code_point.to_u32()),
         None => push_apart(bytes, code_point),
     }
@@ -92,7 +92,7 @@ fn append_bytes<A: Allocator>(bytes: &mut Vec<u8, A>, other: &[u8]) -> Result<()
     bytes.extend_from_slice(other)
 }
 
-/// The lead surrogate that ends the first text and the trail surrogate that begins the second, where both are there.
+/// The lead surrogate that ends the first string and the trail surrogate that begins the second, where both are there.
 fn meeting_pair(front: Wtf8<'_>, back: Wtf8<'_>) -> Option<(u32, u32)>
     ensures pair { IfSome result (λ p. IsLead p.0 × IsTrail p.1) }
     ensures last { IfSome result (λ p. (f : List ℕ) × (view_points front.entry ≡ f ++ p.0 ∷ [])) }
@@ -138,8 +138,8 @@ pub(crate) fn push_view<A: Allocator>(
     ensures room { FitsUnits bytes.old.items (view_units other.entry) (vec_capacity bytes.old) → IsOk result }
     ensures capacity { vec_capacity bytes.old ≤ vec_capacity bytes.new }
 {
-    let text = Wtf8::from_well_formed(bytes.as_slice());
-    match meeting_pair(text, other) {
+    let view = Wtf8::from_well_formed(bytes.as_slice());
+    match meeting_pair(view, other) {
         Some((lead, trail)) => join_bytes(bytes, lead, trail, other.bytes),
         None => append_bytes(bytes, other.bytes),
     }

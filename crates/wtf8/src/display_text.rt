@@ -13,10 +13,10 @@ use std::fmt;
 
 /// Writes the lossy text in parts: each text up to a surrogate, and U+FFFD for that surrogate. It writes whatever width
 /// and flags the formatter has.
-fn write_lossy<W: fmt::Write>(text: Wtf8<'_>, f: &mut fmt::Formatter<W>) -> fmt::Result
-    ensures { WritesStyledOnOk W.write_str_gives f.old result (bytes (lossy (view_points text.entry))) f.new }
+fn write_lossy<W: fmt::Write>(view: Wtf8<'_>, f: &mut fmt::Formatter<W>) -> fmt::Result
+    ensures { WritesStyledOnOk W.write_str_gives f.old result (bytes (lossy (view_points view.entry))) f.new }
 {
-    let mut rest = text;
+    let mut rest = view;
     loop {
         let (part, behind) = rest.split_at_surrogate();
         f.write_str(part)?;
@@ -32,9 +32,9 @@ fn write_lossy<W: fmt::Write>(text: Wtf8<'_>, f: &mut fmt::Formatter<W>) -> fmt:
 /// the width, the fill and the precision that stand outside; of one that holds a surrogate they are ignored. It asks for
 /// no memory. An error of the formatter's sink ends it and is its answer.
 impl<'a> fmt::Display for Wtf8<'a> {
-    ghost output = { λ text. Some (bytes (lossy (view_points text))) };
+    ghost output = { λ view. Some (bytes (lossy (view_points view))) };
 
-    ghost styled_output = { λ text spec. Some (displayed (view_points text) (styled_text spec text.bytes.now)) };
+    ghost styled_output = { λ view spec. Some (displayed (view_points view) (styled_text spec view.bytes.now)) };
 
     fn fmt<W: fmt::Write>(&self, f: &mut fmt::Formatter<W>) -> fmt::Result {
         match self.as_str() {
@@ -46,9 +46,9 @@ impl<'a> fmt::Display for Wtf8<'a> {
 
 /// The lossy text of the view.
 impl<A: Allocator> fmt::Display for Wtf8Buf<A> {
-    ghost output = { λ text. Some (bytes (lossy text.form.points)) };
+    ghost output = { λ string. Some (bytes (lossy string.form.points)) };
 
-    ghost styled_output = { λ text spec. Some (displayed text.form.points (styled_text spec text.bytes)) };
+    ghost styled_output = { λ string spec. Some (displayed string.form.points (styled_text spec string.bytes)) };
 
     fn fmt<W: fmt::Write>(&self, f: &mut fmt::Formatter<W>) -> fmt::Result {
         fmt::Display::fmt(&self.as_wtf8(), f)

@@ -25,10 +25,10 @@ impl<'a> Wtf8CodePoints<'a> {
     ghost use Rattle.std.specs.Prelude.{◌≡◌};
     ghost use Rattle.wtf8.specs.View.{view_points};
 
-    pub(crate) fn new(text: Wtf8<'a>) -> Wtf8CodePoints<'a>
-        ensures { result ≡ view_points text.entry }
+    pub(crate) fn new(view: Wtf8<'a>) -> Wtf8CodePoints<'a>
+        ensures { result ≡ view_points view.entry }
     {
-        Wtf8CodePoints { rest: text }
+        Wtf8CodePoints { rest: view }
     }
 }
 
@@ -105,12 +105,12 @@ impl<'a> IllFormedUtf16CodeUnits<'a> {
     ghost use Rattle.wtf8.specs.UnitSteps.{unread_after};
     ghost use Rattle.wtf8.specs.View.{view_points};
 
-    pub(crate) fn new(text: Wtf8<'a>) -> IllFormedUtf16CodeUnits<'a>
+    pub(crate) fn new(view: Wtf8<'a>) -> IllFormedUtf16CodeUnits<'a>
         ensures held { result.held ≡ [] }
-        ensures points { result.points ≡ view_points text.entry }
+        ensures points { result.points ≡ view_points view.entry }
     {
         IllFormedUtf16CodeUnits {
-            code_points: Wtf8CodePoints::new(text),
+            code_points: Wtf8CodePoints::new(view),
             trail: 0,
         }
     }

@@ -173,9 +173,9 @@ pub fn law_equal_views(first: Wtf8<'_>, second: Wtf8<'_>)
 
 /// A number below 0x80 that is none of this view's bytes is none of its units. A caller calls it with the view and the
 /// number, and has nothing to cite.
-pub fn law_no_ascii(text: Wtf8<'_>, byte: u8)
+pub fn law_no_ascii(view: Wtf8<'_>, byte: u8)
     requires { byte < 0x80 }
-    ensures { ((j : ℕ) → j < length text.entry.bytes.now → slice_index text.entry.bytes.now j ≢ byte) → All (λ x. x ≢ byte) (view_units text.entry) }
+    ensures { ((j : ℕ) → j < length view.entry.bytes.now → slice_index view.entry.bytes.now j ≢ byte) → All (λ x. x ≢ byte) (view_units view.entry) }
 {}
 
 /// The bytes of a string that has the units of two others, one behind the other, by the bytes of these.

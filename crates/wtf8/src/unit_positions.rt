@@ -97,18 +97,18 @@ pub(crate) struct UnitCut {
 
 /// Where the first `n` units of a string end, or `None` where it has fewer.
 #[inline(always)]
-pub(crate) fn cut(text: Wtf8<'_>, n: usize) -> Option<UnitCut>
-    ensures some { IfSome result (λ cut. CutsUnits (view_points text.entry) n cut.position cut.divided) }
-    ensures none { IfNone result (length (view_units text.entry) < n) }
+pub(crate) fn cut(view: Wtf8<'_>, n: usize) -> Option<UnitCut>
+    ensures some { IfSome result (λ cut. CutsUnits (view_points view.entry) n cut.position cut.divided) }
+    ensures none { IfNone result (length (view_units view.entry) < n) }
 {
-    let place = find_unit(text.bytes, n);
+    let place = find_unit(view.bytes, n);
     if place.units_before == n {
         return Some(UnitCut {
             position: place.at,
             divided: None,
         });
     }
-    let Some((code_point, _)) = text.slice_from(place.at).split_first() else {
+    let Some((code_point, _)) = view.slice_from(place.at).split_first() else {
         return None;
     };
     Some(UnitCut {
@@ -128,10 +128,10 @@ pub(crate) fn keep_lead<A: Allocator>(bytes: &mut Vec<u8, A>, at: usize, lead: u
 }
 
 /// The first unit of a string, or `None` where it is empty.
-fn first_unit(text: Wtf8<'_>) -> Option<u16>
-    ensures { result ≡ slice_get (view_units text.entry) 0 }
+fn first_unit(view: Wtf8<'_>) -> Option<u16>
+    ensures { result ≡ slice_get (view_units view.entry) 0 }
 {
-    let Some((code_point, _)) = text.split_first() else {
+    let Some((code_point, _)) = view.split_first() else {
         return None;
     };
     let value = code_point.to_u32();

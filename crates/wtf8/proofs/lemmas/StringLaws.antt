@@ -4,7 +4,8 @@ use Rattle.wtf8.specs.Form.{bytes, IsForm, Reads}
 use Rattle.std.proofs.lemmas.List.Elements.{All-from_get_or}
 use Rattle.std.specs.List.{All}
 use Rattle.wtf8.specs.Concatenation.{glue}
-use Rattle.wtf8.specs.StringLaws.{EqualBuffersHaveEqualUnits, EqualBufferAndViewHaveEqualUnits, EqualViewsHaveEqualUnits, StringsAreJoined, StringsArePaired, TextsAreScalar, RoomLeftIsFound, ScalarsStay, FormsAreOfBuffers, FormsAreOfViews, WhatFitsIsFound}
+use Rattle.wtf8.specs.StringLaws.{EqualBuffersHaveEqualUnits, EqualBufferAndViewHaveEqualUnits, EqualViewsHaveEqualUnits, StringsAreJoined, StringsArePaired}
+use Rattle.wtf8.specs.StringLaws.{TextsAreScalar, RoomLeftIsFound, ScalarsStay, FormsAreOfBuffers, FormsAreOfViews, WhatFitsIsFound}
 use Rattle.wtf8.specs.Surrogates.{AreScalar}
 use Rattle.wtf8.specs.View.{view_units, view_form}
 use Rattle.wtf8.proofs.lemmas.FormLaws.{equal_forms}
@@ -27,7 +28,8 @@ equal_views s t = equal_forms s.bytes.now t.bytes.now (view_units s) (view_units
 
 pub strings_joined : StringsAreJoined
 strings_joined s t both e n =
-    same_form both.bytes (s.bytes ++ t.bytes) both.units both.form (subst (IsForm (s.bytes ++ t.bytes)) (sym e) (form_apart s.bytes t.bytes s.units t.units s.form t.form n))
+    same_form both.bytes (s.bytes ++ t.bytes) both.units both.form (subst (IsForm (s.bytes ++ t.bytes)) (sym e)
+    (form_apart s.bytes t.bytes s.units t.units s.form t.form n))
 
 pub strings_paired : StringsArePaired
 strings_paired s t both e m =

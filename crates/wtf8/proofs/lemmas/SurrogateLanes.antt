@@ -8,7 +8,7 @@ use Rattle.std.proofs.lemmas.Simd.{bitmask_splat, none_from_empty_mask}
 use Rattle.std.specs.List.{prefix_len}
 use lib.Count.{count_trailing_zeros}
 use lib.Lanes.{chunk, zip2, mask_l, top}
-use Rattle.wtf8.specs.SurrogateSearch.{SurrogateAt, IsSurrogateLane, IsLeast, IsFirstBelow}
+use Rattle.wtf8.specs.SurrogateSearch.{SurrogateAt, IsSurrogateLane, IsFirstBelow}
 
 -- a lane of a comparison
 abbrev pub lane : Bool → ℕ
@@ -113,14 +113,16 @@ module _ (n : ℕ) (w : List ℕ) (i : ℕ) (room : i + n < length w) where
   pub no_surrogate : IsFirstBelow (IsSurrogateLane (chunk i n w) (chunk (i + 1) n w)) 0 n None → IsFirstBelow (SurrogateAt w) i (i + n) None
   no_surrogate clear j l u s = clear (j - i) (omega arith) (omega arith) (to_lane (j - i) (omega arith) (subst (SurrogateAt w) (omega arith) s))
 
-  pub least_surrogate : (k : ℕ) → IsFirstBelow (IsSurrogateLane (chunk i n w) (chunk (i + 1) n w)) 0 n (Some k) → IsFirstBelow (SurrogateAt w) i (i + n) (Some (i + k))
+  pub least_surrogate : (k : ℕ) → IsFirstBelow (IsSurrogateLane (chunk i n w) (chunk (i + 1) n w)) 0 n (Some k)
+      → IsFirstBelow (SurrogateAt w) i (i + n) (Some (i + k))
   least_surrogate k found =
       let least = found.0 in
       let within = found.1 in (
         record {
           not_before = omega arith;
           here = from_lane k within least.here;
-          none_between = λ j l u s. least.none_between (j - i) (omega arith) (omega arith) (to_lane (j - i) (omega arith) (subst (SurrogateAt w) (omega arith) s));
+          none_between = λ j l u s. least.none_between (j - i) (omega arith) (omega arith)
+              (to_lane (j - i) (omega arith) (subst (SurrogateAt w) (omega arith) s));
         },
         omega arith,
       )

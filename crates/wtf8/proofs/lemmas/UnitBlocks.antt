@@ -1,5 +1,6 @@
 -- Blocks of units in lanes: what the mask of a block says of its units.
-use Rattle.std.proofs.Common.{◌≡◌, ℕ, zero, suc, ◌+◌, ◌/◌, ◌%◌, ◌^◌, ◌<◌, ◌≤◌, leb, ltb, Bool, true, false, cond, ◌&&◌, ◌||◌, List, [], ◌∷◌, ◌++◌, map, length, take, drop, replicate, bit_and, bit_or, Fits, w16, refl, sym, ap, ◌∙◌, arith, inl, inr}
+use Rattle.std.proofs.Common.{◌≡◌, ℕ, zero, suc, ◌+◌, ◌/◌, ◌%◌, ◌^◌, ◌<◌, ◌≤◌, leb, ltb, Bool, true, false, cond, ◌&&◌, ◌||◌, List, [], ◌∷◌, ◌++◌, map, length}
+use Rattle.std.proofs.Common.{take, drop, replicate, bit_and, bit_or, Fits, w16, refl, sym, ap, ◌∙◌, arith, inl, inr}
 use Rattle.std.specs.List.{flat_map}
 use Rattle.std.proofs.lemmas.Bool.{cases_lt, le-leb, lt-leb, lt-ltb, le-ltb}
 use Rattle.std.proofs.lemmas.Simd.{mask_l-mod, Each1-weaker}
@@ -92,7 +93,8 @@ abbrev other : ℕ → Bool
 other x = ltb x 0x800 || (leb 0xD800 x && leb x 0xDFFF)
 
 abbrev others : ℕ → List ℕ → List Bool
-others n xs = map (top 15) (zip2 bit_or (zip2 (λ a b. wide (ltb a b)) xs (replicate n 0x800)) (zip2 bit_and (zip2 (λ a b. wide (leb a b)) (replicate n 0xD800) xs) (zip2 (λ a b. wide (leb a b)) xs (replicate n 0xDFFF))))
+others n xs = map (top 15) (zip2 bit_or (zip2 (λ a b. wide (ltb a b)) xs (replicate n 0x800))
+    (zip2 bit_and (zip2 (λ a b. wide (leb a b)) (replicate n 0xD800) xs) (zip2 (λ a b. wide (leb a b)) xs (replicate n 0xDFFF))))
 
 others_are : (n : ℕ) (xs : List ℕ) → length xs ≡ n → others n xs ≡ map other xs
 others_are zero [] e = refl
@@ -134,7 +136,8 @@ by_two_byte_rows xs h e = e ∙ two_byte_rows xs h
 pub two_byte_block : (u w : List ℕ) (at : ℕ) → at + 8 ≤ length u → AreTwoByteUnits (take 8 (drop at u)) → w ≡ bytes (take 8 (drop at u)) → IsBlock u at 8 w
 two_byte_block u w at within h e = record {
   within = within;
-  scalars = Each1-weaker (λ n. (0x80 ≤ n) × (n < 0x800)) (λ n. (n < 0x10000) × ¬ (IsSurrogate n)) (λ n k. (omega (arith, k.1), λ s. omega (arith, k.1, s.0))) (take 8 (drop at u)) h;
+  scalars = Each1-weaker (λ n. (0x80 ≤ n) × (n < 0x800)) (λ n. (n < 0x10000) × ¬ (IsSurrogate n)) (λ n k. (omega (arith, k.1), λ s. omega (arith, k.1, s.0)))
+      (take 8 (drop at u)) h;
   encoded = e;
 }
 
@@ -149,6 +152,7 @@ by_rows xs h e = e ∙ third_rows xs h
 pub three_byte_block : (u w : List ℕ) (at : ℕ) → at + 8 ≤ length u → AreThreeByteUnits (take 8 (drop at u)) → w ≡ bytes (take 8 (drop at u)) → IsBlock u at 8 w
 three_byte_block u w at within h e = record {
   within = within;
-  scalars = Each1-weaker (λ n. (0x800 ≤ n) × (n < 0x10000) × ¬ (IsSurrogate n)) (λ n. (n < 0x10000) × ¬ (IsSurrogate n)) (λ n k. (k.1, k.2)) (take 8 (drop at u)) h;
+  scalars = Each1-weaker (λ n. (0x800 ≤ n) × (n < 0x10000) × ¬ (IsSurrogate n)) (λ n. (n < 0x10000) × ¬ (IsSurrogate n)) (λ n k. (k.1, k.2))
+      (take 8 (drop at u)) h;
   encoded = e;
 }

@@ -33,49 +33,49 @@ gains_here : {w v x : List ℕ} (h : IsWellFormed w) (i : IsWellFormed x) (k : I
     → GainsUnits w (w ++ v) (units k.points)
 gains_here h i k e apart = gains_behind h k (λ m. apart (meets_same m (same_points i h e) refl))
 
-pub from_well_formed-text-requires : goal.from_well_formed-text-requires
-from_well_formed-text-requires g c = rw c.as_slice.ensures.value c.requires
+pub from_well_formed-view-requires : goal.from_well_formed-view-requires
+from_well_formed-view-requires g c = rw c.as_slice.ensures.value c.requires
 
 pub join_bytes-requires-clause-three : goal.join_bytes-requires-clause-three
 join_bytes-requires-clause-three g c =
-    let text = c.from_well_formed-text in
+    let view = c.from_well_formed-view in
     let met = c.in-Some.ensures in
-    (paired_here c.requires text.result.well_formed c.args.other.well_formed
-    (text.ensures.bytes ∙ c.as_slice.ensures.value) c.in-Some.lead c.in-Some.trail met.pair met.last met.first).three
+    (paired_here c.requires view.result.well_formed c.args.other.well_formed
+    (view.ensures.bytes ∙ c.as_slice.ensures.value) c.in-Some.lead c.in-Some.trail met.pair met.last met.first).three
 
 pub join_bytes-requires-clause-other_three : goal.join_bytes-requires-clause-other_three
 join_bytes-requires-clause-other_three g c =
-    let text = c.from_well_formed-text in
+    let view = c.from_well_formed-view in
     let met = c.in-Some.ensures in
-    (paired_here c.requires text.result.well_formed c.args.other.well_formed
-    (text.ensures.bytes ∙ c.as_slice.ensures.value) c.in-Some.lead c.in-Some.trail met.pair met.last met.first).three_behind
+    (paired_here c.requires view.result.well_formed c.args.other.well_formed
+    (view.ensures.bytes ∙ c.as_slice.ensures.value) c.in-Some.lead c.in-Some.trail met.pair met.last met.first).three_behind
 
 pub returns-in-Some-clause-ok : goal.returns-in-Some-clause-ok
 returns-in-Some-clause-ok g c =
-    let text = c.from_well_formed-text in
+    let view = c.from_well_formed-view in
     let met = c.in-Some.ensures in
-    let x = paired_here c.requires text.result.well_formed c.args.other.well_formed
-    (text.ensures.bytes ∙ c.as_slice.ensures.value) c.in-Some.lead c.in-Some.trail met.pair met.last met.first in
+    let x = paired_here c.requires view.result.well_formed c.args.other.well_formed
+    (view.ensures.bytes ∙ c.as_slice.ensures.value) c.in-Some.lead c.in-Some.trail met.pair met.last met.first in
     on_ok_weaker c.join_bytes.result (λ e. subst (λ w. GainsUnits c.args.bytes.now.items w (units c.args.other.well_formed.points))
     (sym e) x.gains) c.join_bytes.ensures.ok
 
 pub returns-in-Some-clause-room : goal.returns-in-Some-clause-room
 returns-in-Some-clause-room g c fit =
-    let text = c.from_well_formed-text in
+    let view = c.from_well_formed-view in
     let met = c.in-Some.ensures in
-    let x = paired_here c.requires text.result.well_formed c.args.other.well_formed
-    (text.ensures.bytes ∙ c.as_slice.ensures.value) c.in-Some.lead c.in-Some.trail met.pair met.last met.first in
+    let x = paired_here c.requires view.result.well_formed c.args.other.well_formed
+    (view.ensures.bytes ∙ c.as_slice.ensures.value) c.in-Some.lead c.in-Some.trail met.pair met.last met.first in
     c.join_bytes.ensures.room (omega (arith, fits_length x.gains fit, x.shorter))
 
 pub returns-in-None-clause-ok : goal.returns-in-None-clause-ok
 returns-in-None-clause-ok g c =
-    let text = c.from_well_formed-text in
-    let gains = gains_here c.requires text.result.well_formed c.args.other.well_formed (text.ensures.bytes ∙ c.as_slice.ensures.value) c.in-None.ensures.none in
+    let view = c.from_well_formed-view in
+    let gains = gains_here c.requires view.result.well_formed c.args.other.well_formed (view.ensures.bytes ∙ c.as_slice.ensures.value) c.in-None.ensures.none in
     on_ok_weaker c.append_bytes.result (λ e. subst (λ w. GainsUnits c.args.bytes.now.items w (units c.args.other.well_formed.points))
     (sym e) gains) c.append_bytes.ensures.ok
 
 pub returns-in-None-clause-room : goal.returns-in-None-clause-room
 returns-in-None-clause-room g c fit =
-    let text = c.from_well_formed-text in
-    let gains = gains_here c.requires text.result.well_formed c.args.other.well_formed (text.ensures.bytes ∙ c.as_slice.ensures.value) c.in-None.ensures.none in
+    let view = c.from_well_formed-view in
+    let gains = gains_here c.requires view.result.well_formed c.args.other.well_formed (view.ensures.bytes ∙ c.as_slice.ensures.value) c.in-None.ensures.none in
     c.append_bytes.ensures.room (omega (arith, fits_length gains fit, length-append c.args.bytes.now.items c.args.other.bytes.now))

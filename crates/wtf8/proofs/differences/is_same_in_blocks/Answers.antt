@@ -13,5 +13,6 @@ returns c =
     let at = c.loop-at.at in
     let begun = c.loop-at.invariant in
     let last = c.is_same_turn-2.ensures in
-    let back : own ≡ others → take 128 (drop (length own - 128) own) ≡ take 128 (drop (length own - 128) others) = ap (λ w. take 128 (drop (length own - 128) w)) in
+    let back : own ≡ others → take 128 (drop (length own - 128) own) ≡ take 128 (drop (length own - 128) others) =
+    ap (λ w. take 128 (drop (length own - 128) w)) in
     (λ t. all_same own others at 128 c.requires.both c.requires.long (omega arith) begun.0 begun.1 (last.0 t), λ e. last.1 (back e))

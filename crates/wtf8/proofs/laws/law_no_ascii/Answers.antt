@@ -2,4 +2,4 @@ use Rattle.wtf8.proofs.lemmas.StringLaws.{no_ascii_unit}
 use Rattle.wtf8.proofs.laws.law_no_ascii.Goals as goal
 
 pub returns : goal.returns
-returns c = no_ascii_unit c.args.text c.args.byte c.requires
+returns c = no_ascii_unit c.args.view c.args.byte c.requires

@@ -10,14 +10,24 @@ loop-at-init g c = (omega arith, nothing_read _ c.requires, nothing_ends)
 pub loop-at-preserved-in-Some : goal.loop-at-preserved-in-Some
 loop-at-preserved-in-Some g c =
     let known = c.loop-at.is_scalar in
-    let b = c.in-Some.ensures in
-    (b.within, part_read c.args.v.now c.loop-at.bytes.items c.in-Some.block c.extend_from_slice.new.self.items c.loop-at.at 16 (c.loop-at.at + 16) known known known c.loop-at.invariant.1 (block_form known b) c.loop-at.invariant.2 (λ t. (t, t)) c.in_ok-extend_from_slice.ensures.items refl, block_apart c.loop-at.at 15 b)
+    let b = c.in-Some.ensures in (
+      b.within,
+      part_read c.args.v.now c.loop-at.bytes.items c.in-Some.block c.extend_from_slice.new.self.items c.loop-at.at 16
+          (c.loop-at.at + 16) known known known c.loop-at.invariant.1 (block_form known b) c.loop-at.invariant.2
+          (λ t. (t, t)) c.in_ok-extend_from_slice.ensures.items refl,
+      block_apart c.loop-at.at 15 b,
+    )
 
 pub loop-at-preserved-in-Some-three_byte_block : goal.loop-at-preserved-in-Some-three_byte_block
 loop-at-preserved-in-Some-three_byte_block g c =
     let known = c.loop-at.is_scalar in
-    let b = c.in-Some-three_byte_block.ensures in
-    (b.within, part_read c.args.v.now c.loop-at.bytes.items (take 24 c.in-Some-three_byte_block.block) c.extend_from_slice-in-Some-three_byte_block.new.self.items c.loop-at.at 8 (c.loop-at.at + 8) known known known c.loop-at.invariant.1 (block_form known b) c.loop-at.invariant.2 (λ t. (t, t)) c.in_ok-extend_from_slice-2.ensures.items refl, block_apart c.loop-at.at 7 b)
+    let b = c.in-Some-three_byte_block.ensures in (
+      b.within,
+      part_read c.args.v.now c.loop-at.bytes.items (take 24 c.in-Some-three_byte_block.block)
+          c.extend_from_slice-in-Some-three_byte_block.new.self.items c.loop-at.at 8 (c.loop-at.at + 8) known known known c.loop-at.invariant.1
+          (block_form known b) c.loop-at.invariant.2 (λ t. (t, t)) c.in_ok-extend_from_slice-2.ensures.items refl,
+      block_apart c.loop-at.at 7 b,
+    )
 
 pub loop-at-preserved-in-Some-two_byte_block : goal.loop-at-preserved-in-Some-two_byte_block
 loop-at-preserved-in-Some-two_byte_block g c =
@@ -37,8 +47,13 @@ loop-at-preserved g c =
     let known = c.loop-at.is_scalar in
     let more = c.in_ok-is_part_scalar.is_part_scalar in
     let end = c.end_of_part-end.result in
-    let read = c.in_ok-is_part_scalar.ensures.ok in
-    (c.end_of_part-end.ensures.within, part_read c.args.v.now c.loop-at.bytes.items read.appended c.append_units.new.bytes.items c.loop-at.at (end - c.loop-at.at) end known more (known && more) c.loop-at.invariant.1 read.part c.loop-at.invariant.2 (and_parts known more) read.behind (let l = c.end_of_part-end.ensures.order in omega arith), c.end_of_part-end.ensures.apart)
+    let read = c.in_ok-is_part_scalar.ensures.ok in (
+      c.end_of_part-end.ensures.within,
+      part_read c.args.v.now c.loop-at.bytes.items read.appended c.append_units.new.bytes.items c.loop-at.at
+          (end - c.loop-at.at) end known more (known && more) c.loop-at.invariant.1 read.part c.loop-at.invariant.2 (and_parts known more) read.behind
+          (let l = c.end_of_part-end.ensures.order in omega arith),
+      c.end_of_part-end.ensures.apart,
+    )
 
 pub returns-clause-ok : goal.returns-clause-ok
 returns-clause-ok g c = all_read c.loop-at.at c.loop-at.is_scalar c.loop-at.invariant.1 (let h = c.loop-at.invariant.0 in omega arith)

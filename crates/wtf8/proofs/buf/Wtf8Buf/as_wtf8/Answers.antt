@@ -9,8 +9,10 @@ from_well_formed-requires g c = rw c.as_slice.ensures.value c.self.inside.well_f
 
 pub returns-clause-units : goal.returns-clause-units
 returns-clause-units g c =
-    ap units (same_points c.from_well_formed.result.well_formed c.self.inside.well_formed (c.from_well_formed.ensures.bytes ∙ c.as_slice.ensures.value)) ∙ ap (λ (t : UnitString). t.units) c.self.view_is
+    ap units (same_points c.from_well_formed.result.well_formed c.self.inside.well_formed (c.from_well_formed.ensures.bytes ∙ c.as_slice.ensures.value))
+    ∙ ap (λ (t : UnitString). t.units) c.self.view_is
 
 pub returns-clause-points : goal.returns-clause-points
 returns-clause-points g c =
-    same_points c.from_well_formed.result.well_formed c.self.inside.well_formed (c.from_well_formed.ensures.bytes ∙ c.as_slice.ensures.value) ∙ ap (λ (t : UnitString). t.form.points) c.self.view_is
+    same_points c.from_well_formed.result.well_formed c.self.inside.well_formed (c.from_well_formed.ensures.bytes ∙ c.as_slice.ensures.value)
+    ∙ ap (λ (t : UnitString). t.form.points) c.self.view_is

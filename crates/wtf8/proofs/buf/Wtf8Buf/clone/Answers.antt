@@ -10,4 +10,5 @@ from_well_formed-requires-clause-scalar g c known h =
 
 pub returns-clause-units : goal.returns-clause-units
 returns-clause-units g c =
-    c.from_well_formed.ensures.units (moved c.self.inside.well_formed (c.in_ok-bytes.ensures.items ∙ c.as_slice.ensures.value)) ∙ ap (λ (t : UnitString). t.units) c.self.view_is
+    c.from_well_formed.ensures.units (moved c.self.inside.well_formed (c.in_ok-bytes.ensures.items ∙ c.as_slice.ensures.value))
+    ∙ ap (λ (t : UnitString). t.units) c.self.view_is

@@ -10,7 +10,8 @@ from_well_formed-requires-clause-well_formed g c = text_at (IsUtf8-string_bytes 
 
 pub from_well_formed-requires-clause-scalar : goal.from_well_formed-requires-clause-scalar
 from_well_formed-requires-clause-scalar g c _ h =
-    scalar_moved (text_at (IsUtf8-string_bytes c.args.string) (ap (λ v. v.items) c.into_bytes.ensures.value)) h refl (scalar_text (IsUtf8-string_bytes c.args.string))
+    scalar_moved (text_at (IsUtf8-string_bytes c.args.string) (ap (λ v. v.items) c.into_bytes.ensures.value)) h refl
+    (scalar_text (IsUtf8-string_bytes c.args.string))
 
 pub returns-clause-units : goal.returns-clause-units
 returns-clause-units g c =
@@ -18,4 +19,5 @@ returns-clause-units g c =
 
 pub returns-clause-scalar : goal.returns-clause-scalar
 returns-clause-scalar g c =
-    scalar_moved (text_at (IsUtf8-string_bytes c.args.string) (ap (λ v. v.items) c.into_bytes.ensures.value)) (well_formed_of c.from_well_formed.result.form) c.from_well_formed.ensures.bytes (scalar_text (IsUtf8-string_bytes c.args.string))
+    scalar_moved (text_at (IsUtf8-string_bytes c.args.string) (ap (λ v. v.items) c.into_bytes.ensures.value))
+    (well_formed_of c.from_well_formed.result.form) c.from_well_formed.ensures.bytes (scalar_text (IsUtf8-string_bytes c.args.string))

@@ -1,8 +1,8 @@
 use Rattle.wtf8.specs.UnitString.{UnitString}
 use Rattle.std.proofs.Common.{ap, arith, length, refl}
 use Rattle.wtf8.specs.Unicode.{units}
-use Rattle.wtf8.proofs.lemmas.Gains.{gained_units, kept_contents, gained_or_kept}
-use Rattle.wtf8.proofs.lemmas.Scalars.{known_gained, scalar_text, scalar_gained}
+use Rattle.wtf8.proofs.lemmas.Gains.{gained_units, kept_contents}
+use Rattle.wtf8.proofs.lemmas.Scalars.{known_gained, scalar_text}
 use Rattle.wtf8.proofs.lemmas.Texts.{well_formed_text}
 use Rattle.wtf8.proofs.lemmas.Appending.{grows_at_most, nothing_appended, fits_left}
 use Rattle.wtf8.proofs.lemmas.Readings.{form_of, no_points}

@@ -1,7 +1,7 @@
 use Rattle.wtf8.specs.UnitString.{UnitString}
 use Rattle.std.proofs.Common.{ap, arith, length, refl, sym, subst, ◌∙◌, IsTrue}
 use Rattle.std.proofs.lemmas.Bool.{false≢true}
-use Rattle.wtf8.proofs.lemmas.Gains.{gained_units, kept_contents, added_length, gained_or_kept}
+use Rattle.wtf8.proofs.lemmas.Gains.{gained_units, kept_contents, added_length}
 use Rattle.wtf8.proofs.lemmas.Scalars.{known_gained, scalar_unless_found}
 use Rattle.wtf8.specs.Unicode.{units}
 use Rattle.wtf8.proofs.lemmas.Appending.{grows_at_most, nothing_appended, fits_left}

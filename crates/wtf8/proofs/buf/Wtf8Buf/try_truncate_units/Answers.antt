@@ -30,7 +30,8 @@ invariant_of-self-inside g c =
     let k = c.in-Some.cut.position in
     let x = subst (CutsUnits h.points c.args.n k) c.in-Some-divided.is c.in-Some.ensures.some in
     let same = c.as_wtf8.ensures.bytes ∙ sym (ap (λ (t : UnitString). t.bytes) c.self.view_is) in
-    let kept = ap (λ l. take k c.self.inside.bytes.items ++ encoding l) c.lead_of-lead.ensures ∙ ap (λ w. take k w ++ encoding (lead_of c.in-Some-divided.value)) (sym same) in
+    let kept = ap (λ l. take k c.self.inside.bytes.items ++ encoding l) c.lead_of-lead.ensures
+    ∙ ap (λ w. take k w ++ encoding (lead_of c.in-Some-divided.value)) (sym same) in
     (moved (lead_kept h (divided x)) (c.keep_lead.ensures ∙ kept), (λ known. absurd (false≢true known), tt))
 
 pub returns-in-None : goal.returns-in-None
@@ -40,7 +41,11 @@ returns-in-None g c =
     let x = subst (CutsUnits h.points c.args.n k) c.in-None.is c.in-Some.ensures.some in
     let u = c.args.self.now.units in
     let front = subst (λ v. IsFront v k (take c.args.n v)) c.as_wtf8.ensures.units (front_at h x) in
-    inl (omega (arith, (undivided x).within, ap length c.as_wtf8.ensures.units), same_front u k c.truncate.new.self.units (take c.args.n u) c.truncate.ensures.units front, refl)
+    inl (
+      omega (arith, (undivided x).within, ap length c.as_wtf8.ensures.units),
+      same_front u k c.truncate.new.self.units (take c.args.n u) c.truncate.ensures.units front,
+      refl,
+    )
 
 pub returns-in-Some-divided : goal.returns-in-Some-divided
 returns-in-Some-divided g c =
@@ -48,6 +53,12 @@ returns-in-Some-divided g c =
     let k = c.in-Some.cut.position in
     let x = subst (CutsUnits h.points c.args.n k) c.in-Some-divided.is c.in-Some.ensures.some in
     let same = c.as_wtf8.ensures.bytes ∙ sym (ap (λ (t : UnitString). t.bytes) c.self.view_is) in
-    let kept = ap (λ l. take k c.self.inside.bytes.items ++ encoding l) c.lead_of-lead.ensures ∙ ap (λ w. take k w ++ encoding (lead_of c.in-Some-divided.value)) (sym same) in
+    let kept = ap (λ l. take k c.self.inside.bytes.items ++ encoding l) c.lead_of-lead.ensures
+    ∙ ap (λ w. take k w ++ encoding (lead_of c.in-Some-divided.value)) (sym same) in
     let points = same_points c.self-1.given.0 (lead_kept h (divided x)) (c.keep_lead.ensures ∙ kept) in
-    inl (omega (arith, (divided x).within, ap length c.as_wtf8.ensures.units), ap units points ∙ (lead_kept_units h.clean (divided x) ∙ ap (take c.args.n) c.as_wtf8.ensures.units), refl)
+    inl (
+      omega (arith, (divided x).within, ap length c.as_wtf8.ensures.units),
+      ap units points
+          ∙ (lead_kept_units h.clean (divided x) ∙ ap (take c.args.n) c.as_wtf8.ensures.units),
+      refl,
+    )

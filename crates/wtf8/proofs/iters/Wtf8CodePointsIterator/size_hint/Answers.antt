@@ -16,4 +16,8 @@ pub returns-clause-holds : goal.returns-clause-holds
 returns-clause-holds c =
     let s = c.self.inside.rest.well_formed in
     let b = points_bounds s.points in
-    record { lower = omega (arith, ap length s.encoded, ap length c.self.view_is, c.div_ceil.ensures, c.len-bytes.ensures.bytes); upper = omega (arith, ap length s.encoded, ap length c.self.view_is, c.len-bytes.ensures.bytes) }
+    record {
+      lower = omega (arith, ap length s.encoded, ap length c.self.view_is, c.div_ceil.ensures, c.len-bytes.ensures.bytes);
+      upper =
+          omega (arith, ap length s.encoded, ap length c.self.view_is, c.len-bytes.ensures.bytes);
+    }

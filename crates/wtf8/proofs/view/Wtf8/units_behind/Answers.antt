@@ -25,5 +25,7 @@ returns-in-Some-divided c =
     let h = c.args.self.well_formed in
     let k = c.in-Some.cut.position in
     let x = subst (CutsUnits h.points c.args.n k) c.in-Some-divided.is c.in-Some.ensures.some in
-    let rest = points_behind h c.slice_from-in-Some-divided.result.well_formed (x.front ++ c.in-Some-divided.value ∷ []) x.counted.rest (k + 4) (divided x).pushed (divided x).pushed_len c.slice_from-in-Some-divided.ensures.bytes in
-    ap (λ t. t ∷ units c.slice_from-in-Some-divided.result.well_formed.points) c.trail_of.ensures ∙ (ap (λ d. trail_of c.in-Some-divided.value ∷ units d) rest ∙ sym (divided x).behind)
+    let rest = points_behind h c.slice_from-in-Some-divided.result.well_formed (x.front ++ c.in-Some-divided.value ∷ []) x.counted.rest (k + 4)
+    (divided x).pushed (divided x).pushed_len c.slice_from-in-Some-divided.ensures.bytes in
+    ap (λ t. t ∷ units c.slice_from-in-Some-divided.result.well_formed.points) c.trail_of.ensures
+    ∙ (ap (λ d. trail_of c.in-Some-divided.value ∷ units d) rest ∙ sym (divided x).behind)
