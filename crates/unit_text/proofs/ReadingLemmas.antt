@@ -17,7 +17,8 @@ unit_reads n h = record { clean = omega arith; same_units = append-nil (units_of
 
 reading_reads : GlueReadsBoth → (u : List ℕ) → All IsUnit u → Reads (reading u) u
 reading_reads both [] h = record { clean = tt; same_units = refl }
-reading_reads both (n ∷ u) h = both (n ∷ []) (reading u) (n ∷ []) u (unit_reads n (h 0 n (omega arith))) (reading_reads both u (λ k d l. h (suc k) d (omega arith)))
+reading_reads both (n ∷ u) h = both (n ∷ []) (reading u) (n ∷ []) u (unit_reads n (h 0 n (omega arith)))
+    (reading_reads both u (λ k d l. h (suc k) d (omega arith)))
 
 -- whatever reads the units is their reading
 pub same_as_reading : UnitsHaveOneReading → ReadingsAreOfUnits → GlueReadsBoth → (c u : List ℕ) → Reads c u → c ≡ reading u

@@ -1,5 +1,6 @@
 pub mod Appending
 pub mod AsciiPositions
+pub mod BlockBytes
 pub mod ByteOrder
 pub mod Clean
 pub mod Comparing

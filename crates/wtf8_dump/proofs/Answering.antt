@@ -5,7 +5,8 @@ use Rattle.std.specs.List.{AllZip}
 use Rattle.wtf8_dump.specs.Dump.{IsAnswer, HoldsAnswers}
 
 -- lists that agree place by place still do with one more element each
-pub AllZip-one_more : {A B : Type 0} (R : A → B → Type 0) (xs : List A) (ys : List B) (x : A) (y : B) → AllZip R xs ys → R x y → AllZip R (xs ++ x ∷ []) (ys ++ y ∷ [])
+pub AllZip-one_more : {A B : Type 0} (R : A → B → Type 0) (xs : List A) (ys : List B) (x : A) (y : B) → AllZip R xs ys → R x y
+    → AllZip R (xs ++ x ∷ []) (ys ++ y ∷ [])
 AllZip-one_more R [] [] x y h here = (here, tt)
 AllZip-one_more R [] (b ∷ ys) x y h here = absurd h
 AllZip-one_more R (a ∷ xs) [] x y h here = absurd h
@@ -15,7 +16,8 @@ one : (answer : List ℕ) → answer ++ 10 ∷ [] ≡ flat_map (λ a. a ++ 10 �
 one answer = sym (append-nil (answer ++ 10 ∷ []))
 
 -- one more line is answered
-pub HoldsAnswers-push : (lines : List (List ℕ)) (out new line answer : List ℕ) → HoldsAnswers lines out → IsAnswer line answer → new ≡ (out ++ answer) ++ 10 ∷ []
+pub HoldsAnswers-push : (lines : List (List ℕ)) (out new line answer : List ℕ) → HoldsAnswers lines out → IsAnswer line answer
+    → new ≡ (out ++ answer) ++ 10 ∷ []
     → HoldsAnswers (lines ++ line ∷ []) new
 HoldsAnswers-push lines out new line answer h here e = record {
   answers = h.answers ++ answer ∷ [];

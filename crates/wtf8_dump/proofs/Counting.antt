@@ -1,5 +1,6 @@
 -- How many truncations a run refuses, and how many words a line has.
-use Rattle.std.proofs.Common.{◌≡◌, ◌≤◌, ◌+◌, inl, inr, ℕ, List, [], ◌∷◌, ◌++◌, ◌==◌, length, refl, sym, ap, ◌∙◌, subst, arith, length-append, append_assoc, append-nil}
+use Rattle.std.proofs.Common.{◌≡◌, ◌≤◌, ◌+◌, inl, inr, ℕ, List, [], ◌∷◌, ◌++◌, ◌==◌, length, refl, sym, ap, ◌∙◌, subst, arith, length-append, append_assoc}
+use Rattle.std.proofs.Common.{append-nil}
 use Rattle.std.specs.List.{AllZip}
 use Rattle.std.proofs.lemmas.List.Sums.{count_by-le-length}
 use Rattle.std.proofs.lemmas.List.Splits.{length-slice_split}
@@ -38,7 +39,8 @@ as_many (word ∷ front) [] h = absurd h
 as_many (word ∷ front) (call ∷ calls) h = omega (arith, as_many front calls h.1)
 
 -- the calls of some words of a line are at most one more than its bytes
-pub calls_count : (line : List ℕ) (front rest : List (List ℕ)) (calls : List Build) → words line ≡ front ++ rest → AllZip IsCall front calls → length calls ≤ length line + 1
+pub calls_count : (line : List ℕ) (front rest : List (List ℕ)) (calls : List Build) → words line ≡ front ++ rest → AllZip IsCall front calls
+    → length calls ≤ length line + 1
 calls_count line front rest calls e h = omega (arith, words_count line, ap length e, length-append front rest, as_many front calls h)
 
 -- The words so far stand for calls, of which some are applied and the others wait.
@@ -50,13 +52,25 @@ pub record Progress (line : List ℕ) (rest : List (List ℕ)) (waiting : List B
   pub run : Run [] done u refused
   pub bound : refused ≤ length done
 
-pub progress_start : (line : List ℕ) (rest : List (List ℕ)) (waiting : List Build) (u : List ℕ) → words line ≡ rest → waiting ≡ [] → u ≡ [] → Progress line rest waiting u 0
-progress_start line rest waiting u e w empty = record { front = []; done = []; split = e; calls = subst (AllZip IsCall []) (sym w) tt; run = (empty, refl); bound = omega arith }
+pub progress_start : (line : List ℕ) (rest : List (List ℕ)) (waiting : List Build) (u : List ℕ) → words line ≡ rest → waiting ≡ [] → u ≡ []
+    → Progress line rest waiting u 0
+progress_start line rest waiting u e w empty = record {
+  front = [];
+  done = [];
+  split = e;
+  calls = subst (AllZip IsCall []) (sym w) tt;
+  run =
+      (empty, refl);
+  bound = omega arith;
+}
 
-pub progress_more : (line word : List ℕ) (rest : List (List ℕ)) (waiting : List Build) (u : List ℕ) (n : ℕ) (call : Build) (applied later : List Build) (v : List ℕ) (m : ℕ)
-    → Progress line (word ∷ rest) waiting u n → IsCall word call → waiting ++ call ∷ [] ≡ applied ++ later → Run u applied v m → m ≤ length applied → Progress line rest later v (n + m)
+pub progress_more : (line word : List ℕ) (rest : List (List ℕ)) (waiting : List Build) (u : List ℕ) (n : ℕ) (call : Build) (applied later : List Build)
+    (v : List ℕ) (m : ℕ)
+    → Progress line (word ∷ rest) waiting u n → IsCall word call → waiting ++ call ∷ [] ≡ applied ++ later → Run u applied v m → m ≤ length applied
+    → Progress line rest later v (n + m)
 progress_more line word rest waiting u n call applied later v m p is e run bound =
-    let all : (p.done ++ waiting) ++ call ∷ [] ≡ (p.done ++ applied) ++ later = append_assoc p.done waiting (call ∷ []) ∙ ap (λ calls. p.done ++ calls) e ∙ sym (append_assoc p.done applied later) in
+    let all : (p.done ++ waiting) ++ call ∷ [] ≡ (p.done ++ applied) ++ later = append_assoc p.done waiting (call ∷ []) ∙ ap (λ calls. p.done ++ calls) e
+    ∙ sym (append_assoc p.done applied later) in
     record {
       front = p.front ++ word ∷ [];
       done = p.done ++ applied;
@@ -66,9 +80,15 @@ progress_more line word rest waiting u n call applied later v m p is e run bound
       bound = omega (arith, p.bound, bound, length-append p.done applied);
     }
 
-pub progress_fits : (line : List ℕ) (rest : List (List ℕ)) (waiting : List Build) (u : List ℕ) (n : ℕ) → Progress line rest waiting u n → n + length waiting ≤ length line + 1
+pub progress_fits : (line : List ℕ) (rest : List (List ℕ)) (waiting : List Build) (u : List ℕ) (n : ℕ) → Progress line rest waiting u n
+    → n + length waiting ≤ length line + 1
 progress_fits line rest waiting u n p = omega (arith, p.bound, length-append p.done waiting, calls_count line p.front rest (p.done ++ waiting) p.split p.calls)
 
 pub progress_end : (line : List ℕ) (waiting : List Build) (u : List ℕ) (n : ℕ) (v : List ℕ) (m : ℕ) → Progress line [] waiting u n → Run u waiting v m
     → (calls : List Build) × AllZip IsCall (words line) calls × Run [] calls v (n + m)
-progress_end line waiting u n v m p run = (p.done ++ waiting, subst (λ front. AllZip IsCall front (p.done ++ waiting)) (sym (p.split ∙ append-nil p.front)) p.calls, runs_add [] u v p.done waiting n m p.run run)
+progress_end line waiting u n v m p run = (
+  p.done ++ waiting,
+  subst (λ front. AllZip IsCall front (p.done ++ waiting))
+      (sym (p.split ∙ append-nil p.front)) p.calls,
+  runs_add [] u v p.done waiting n m p.run run,
+)

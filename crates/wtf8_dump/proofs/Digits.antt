@@ -16,7 +16,8 @@ number_below base word i n least spelled digits =
     omega (arith, spelled, power, digits_value-lt base (take i word) digits)
 
 -- the byte at i is read as the digit d, after the digits so far spelled n
-module _ (base : ℕ) (word : List ℕ) (i n d b : ℕ) (here : i < length word) (read : b ≡ get_or word i 0) (digit : (digit_value b < base) × (d ≡ digit_value b)) where
+module _ (base : ℕ) (word : List ℕ) (i n d b : ℕ) (here : i < length word) (read : b ≡ get_or word i 0)
+    (digit : (digit_value b < base) × (d ≡ digit_value b)) where
   small : digit_value (get_or word i 0) < base
   small = rw read at digit.0
 
@@ -25,7 +26,8 @@ module _ (base : ℕ) (word : List ℕ) (i n d b : ℕ) (here : i < length word)
 
   pub next_number : n ≡ digits_value base (take i word) → n * base + d ≡ digits_value base (take (i + 1) word)
   next_number spelled =
-      ap (λ m. m * base + d) spelled ∙ ap (λ k. digits_value base (take i word) * base + k) (digit.1 ∙ ap digit_value read) ∙ sym (digits_value_more base word i here)
+      ap (λ m. m * base + d) spelled ∙ ap (λ k. digits_value base (take i word) * base + k) (digit.1 ∙ ap digit_value read)
+      ∙ sym (digits_value_more base word i here)
 
   pub next_below : 2 ≤ base → n ≡ digits_value base (take i word) → AllDigits base (take i word) → n * base + d < base ^ length word
   next_below least spelled digits = number_below base word (i + 1) (n * base + d) least (next_number spelled) (next_digits digits)

@@ -1,5 +1,6 @@
 -- Splitting at the first separator.
-use Rattle.std.proofs.Common.{◌≡◌, ◌≢◌, ℕ, ◌+◌, ◌<◌, ◌≤◌, subst, arith, length-take-le, ◌==◌, Bool, true, false, List, [], ◌∷◌, ◌++◌, length, get_or, take, drop, All, refl, sym, ap, ◌∙◌, inl, inr, take-append-drop, Option, Some, None, IfNone, unwrap_or}
+use Rattle.std.proofs.Common.{◌≡◌, ◌≢◌, ℕ, ◌+◌, ◌<◌, ◌≤◌, subst, arith, length-take-le, ◌==◌, Bool, true, false, List, [], ◌∷◌, ◌++◌, length, get_or, take}
+use Rattle.std.proofs.Common.{drop, All, refl, sym, ap, ◌∙◌, inl, inr, take-append-drop, Option, Some, None, IfNone, unwrap_or}
 use Rattle.std.specs.Borrow.{Bor}
 use Rattle.std.specs.List.{slice_split, onto_first}
 use Rattle.std.specs.Option.{option_map_or}
@@ -10,7 +11,8 @@ use Rattle.std.proofs.lemmas.List.Splits.{slice_split_at, slice_split-cons_yes, 
 use Rattle.wtf8_dump.specs.Lines.{without_empty_end, lines}
 
 -- the first part ends at the first separator
-pub slice_split_read : (p : ℕ → Bool) (xs : List ℕ) (i : ℕ) → i < length xs → p (get_or xs i 0) ≡ true → All (λ x. p x ≡ false) (take i xs) → slice_split p xs ≡ take i xs ∷ slice_split p (drop (i + 1) xs)
+pub slice_split_read : (p : ℕ → Bool) (xs : List ℕ) (i : ℕ) → i < length xs → p (get_or xs i 0) ≡ true → All (λ x. p x ≡ false) (take i xs)
+    → slice_split p xs ≡ take i xs ∷ slice_split p (drop (i + 1) xs)
 slice_split_read p xs i lt passes h =
     let parts : xs ≡ take i xs ++ get_or xs i 0 ∷ drop (i + 1) xs = sym (take-append-drop i xs) ∙ ap (λ zs. take i xs ++ zs) (drop_more xs i 0 lt) in
     ap (slice_split p) parts ∙ slice_split_at p (take i xs) (get_or xs i 0) (drop (i + 1) xs) h passes
@@ -52,6 +54,7 @@ pub none_further : (separator : ℕ) (bytes : List ℕ) (at n : ℕ) → at + n 
 none_further separator bytes at n room before here = All-from_get_or (λ b. (b == separator) ≡ false) (take (at + n) bytes) 0 (λ k lt.
     let inside : k < at + n = omega (arith, lt, length-take-le (at + n) bytes room) in
     subst (λ b. (b == separator) ≡ false) (sym (get_or-take (at + n) bytes k 0 inside)) (elim (cases_lt k at) [
-      | inl h ↦ subst (λ b. (b == separator) ≡ false) (get_or-take at bytes k 0 h) (All-get_or (λ b. (b == separator) ≡ false) (take at bytes) k 0 (omega (arith, h, length-take-le at bytes (omega arith))) before)
+      | inl h ↦ subst (λ b. (b == separator) ≡ false) (get_or-take at bytes k 0 h)
+          (All-get_or (λ b. (b == separator) ≡ false) (take at bytes) k 0 (omega (arith, h, length-take-le at bytes (omega arith))) before)
       | inr h ↦ here k h inside
     ]))

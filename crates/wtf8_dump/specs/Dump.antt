@@ -9,16 +9,19 @@ use Rattle.wtf8.specs.declared.build.Build.{Build}
 use Rattle.wtf8_dump.specs.Lines.{lines, words}
 use Rattle.wtf8_dump.specs.Word.{IsCall, IsNoCall}
 
--- What follows the bytes of a string: nothing where no truncation was refused, else an exclamation mark and how many were, behind a space where there are bytes.
+-- What follows the bytes of a string: nothing where no truncation was refused, else an exclamation mark and how many were, behind a space where there are
+-- bytes.
 abbrev pub note : List ℕ → ℕ → List ℕ
 note w zero = []
 note [] (suc n) = 33 ∷ decimal (suc n)
 note (byte ∷ w) (suc n) = 32 ∷ 33 ∷ decimal (suc n)
 
--- A line with a word that stands for no call is answered by a question mark. Any other line is answered by the bytes, in hexadecimal, of the string that its calls build from the empty one, and by a note of the truncations that were refused.
+-- A line with a word that stands for no call is answered by a question mark. Any other line is answered by the bytes, in hexadecimal, of the string that its
+-- calls build from the empty one, and by a note of the truncations that were refused.
 pub data IsAnswer (line answer : List ℕ) : Type 0 where
   refused : Any IsNoCall (words line) → answer ≡ 63 ∷ [] → IsAnswer line answer
-  dumped : (calls : List Build) (v : List ℕ) (n : ℕ) (w : List ℕ) → AllZip IsCall (words line) calls → Run [] calls v n → IsForm w v → answer ≡ hex w ++ note w n → IsAnswer line answer
+  dumped : (calls : List Build) (v : List ℕ) (n : ℕ) (w : List ℕ) → AllZip IsCall (words line) calls → Run [] calls v n → IsForm w v
+      → answer ≡ hex w ++ note w n → IsAnswer line answer
 
 -- An output holds answers to some lines where it is these answers in order, each followed by a newline.
 pub record HoldsAnswers (lines : List (List ℕ)) (out : List ℕ) : Type 0 where

@@ -20,15 +20,18 @@ abbrev pub number_behind : ℕ → List ℕ → Option ℕ
 number_behind mark [] = None
 number_behind mark (byte ∷ digits) = if byte == mark then bounded_number 10 1 9 digits else None
 
--- The code point that a word stands for: four to six hexadecimal digits stand for the number that they spell if it is at most 10FFFF, and any other word stands for none.
+-- The code point that a word stands for: four to six hexadecimal digits stand for the number that they spell if it is at most 10FFFF, and any other word
+-- stands for none.
 abbrev pub point_of : List ℕ → Option ℕ
 point_of word = option_and_then (λ n. if nat_le n 0x10FFFF then Some n else None) (bounded_number 16 4 6 word)
 
--- The position in bytes that a word stands for: a hyphen and one to nine decimal digits stand for the number that the digits spell, and any other word stands for none.
+-- The position in bytes that a word stands for: a hyphen and one to nine decimal digits stand for the number that the digits spell, and any other word stands
+-- for none.
 abbrev pub position_of : List ℕ → Option ℕ
 position_of word = number_behind 45 word
 
--- The number of units that a word stands for: a slash and one to nine decimal digits stand for the number that the digits spell, and any other word stands for none.
+-- The number of units that a word stands for: a slash and one to nine decimal digits stand for the number that the digits spell, and any other word stands for
+-- none.
 abbrev pub unit_count_of : List ℕ → Option ℕ
 unit_count_of word = number_behind 47 word
 

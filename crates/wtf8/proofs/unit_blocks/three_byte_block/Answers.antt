@@ -1,5 +1,5 @@
 use Rattle.std.proofs.Common.{take, arith}
-use Rattle.wtf8.proofs.lemmas.UnitBlocks.{three_byte_block}
+use Rattle.wtf8.proofs.lemmas.BlockBytes.{three_byte_block}
 use Rattle.wtf8.proofs.unit_blocks.three_byte_block.Goals as goal
 
 pub returns-then-take_three_bytes : goal.returns-then-take_three_bytes

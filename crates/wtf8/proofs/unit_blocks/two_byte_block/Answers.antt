@@ -1,5 +1,5 @@
 use Rattle.std.proofs.Common.{arith}
-use Rattle.wtf8.proofs.lemmas.UnitBlocks.{two_byte_block}
+use Rattle.wtf8.proofs.lemmas.BlockBytes.{two_byte_block}
 use Rattle.wtf8.proofs.unit_blocks.two_byte_block.Goals as goal
 
 pub returns-then-take_two_bytes : goal.returns-then-take_two_bytes

@@ -12,5 +12,6 @@ loop-at-preserved c =
     let mask = bitmask_splat w8 eqb (chunk at 32 bytes) 32 mark (length-chunk at 32 bytes (omega arith)) (omega arith) in
     record {
       within = omega arith;
-      none = none_further mark bytes at 32 (omega arith) c.loop-at.invariant.none (none_from_empty_mask (λ b. b == mark) bytes at 32 0 (omega arith) (sym mask ∙ c.if-block-separator-ne0.false));
+      none = none_further mark bytes at 32 (omega arith) c.loop-at.invariant.none
+          (none_from_empty_mask (λ b. b == mark) bytes at 32 0 (omega arith) (sym mask ∙ c.if-block-separator-ne0.false));
     }

@@ -4,11 +4,19 @@ use Rattle.wtf8_dump.proofs.word.read_number.Goals as goal
 
 pub overflow_mul-number : goal.overflow_mul-number
 overflow_mul-number c =
-    omega (arith, next_below _ _ _ _ _ _ c.loop-byte-test.true c.from.ensures c.in_ok-digit.ensures.value c.requires.least c.loop-byte.invariant.spelled c.loop-byte.invariant.digits)
+    omega (
+      arith,
+      next_below _ _ _ _ _ _ c.loop-byte-test.true c.from.ensures c.in_ok-digit.ensures.value c.requires.least c.loop-byte.invariant.spelled
+          c.loop-byte.invariant.digits,
+    )
 
 pub overflow_add-number : goal.overflow_add-number
 overflow_add-number c =
-    omega (arith, next_below _ _ _ _ _ _ c.loop-byte-test.true c.from.ensures c.in_ok-digit.ensures.value c.requires.least c.loop-byte.invariant.spelled c.loop-byte.invariant.digits)
+    omega (
+      arith,
+      next_below _ _ _ _ _ _ c.loop-byte-test.true c.from.ensures c.in_ok-digit.ensures.value c.requires.least c.loop-byte.invariant.spelled
+          c.loop-byte.invariant.digits,
+    )
 
 pub loop-byte-preserved : goal.loop-byte-preserved
 loop-byte-preserved c = record {

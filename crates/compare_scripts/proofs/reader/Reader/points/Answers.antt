@@ -23,5 +23,6 @@ loop-preserved c =
           ap (λ points. map number points.items) w.points-is
           ∙ code_points-skip _ values value c.loop.invariant.3 (λ in_range. cc (w.in_default.ensures.some.1 in_range))
     ] in
-    let taken = one_more (to_le_bytes w32) c.in_ok-end.end c.args.self.now c.loop.self c.value.new.self values value c.loop.invariant.2 c.in_ok-value.ensures.ok in
+    let taken = one_more (to_le_bytes w32) c.in_ok-end.end c.args.self.now c.loop.self c.value.new.self values value c.loop.invariant.2
+    c.in_ok-value.ensures.ok in
     (values ++ value ∷ [], count, taken, points)
