@@ -1,5 +1,5 @@
 -- Of two lists of numbers at most one stands before the other, and only where they differ.
-use Rattle.std.proofs.Common.{◌≡◌, ◌↔◌, ℕ, ◌<◌, inl, inr, List, [], ◌∷◌, IsTrue, refl, subst, arith}
+use Rattle.std.proofs.Common.{◌≡◌, ◌↔◌, ℕ, inl, inr, List, [], ◌∷◌, IsTrue, refl, subst, arith}
 use Rattle.std.proofs.lemmas.Bool.{false≢true}
 use Rattle.std.specs.Ordering.{MatchOrdering, is_lt}
 use Rattle.std.specs.declared.cmp.Ordering.{Ordering}
