@@ -2,6 +2,7 @@
 
 use std::fmt::Write;
 use std::fs;
+use std::hint::black_box;
 use std::path::Path;
 use std::time::Instant;
 
@@ -11,6 +12,7 @@ use crate::column::standard;
 use crate::console::fail;
 use crate::inputs::{self, Input};
 use crate::ours;
+use crate::random::Random;
 use crate::say;
 
 /// The loops by number, as the proved library's exports know them.
@@ -122,13 +124,16 @@ pub fn run_loop(column: &str, row: &str, rounds: &str) -> bool {
 
 /// Times a row, or answers `None` where the sides' answers differ.
 fn time(number: u32, name: String, input: &Input) -> Option<Row> {
-    let original = original::Bench::new(&input.units);
-    let rounds = rounds_of_a_turn(number, input, &original);
+    let rounds = rounds_of_a_turn(number, input, &original::Bench::new(&input.units));
     let items = f64::from(rounds) * input.units.len() as f64;
-    #[cfg(std_wtf8)]
-    let standard = standard::Bench::new(&input.units);
+    let mut random = Random::new(u64::from(number));
     let mut least = [f64::INFINITY; 4];
     for _ in 0..TURNS {
+        // Where strings lie decides as much as what is done with them, so each turn makes all of them elsewhere.
+        let _elsewhere = black_box(vec![0u8; random.between(1, 8192) as usize]);
+        let original = original::Bench::new(&input.units);
+        #[cfg(std_wtf8)]
+        let standard = standard::Bench::new(&input.units);
         let (made, _) = timed(|| ours::time(0, &input.units, rounds));
         let (with_making, answer) = timed(|| ours::time(number, &input.units, rounds));
         let (crate_time, crate_answer) = timed(|| original.run(number, rounds));

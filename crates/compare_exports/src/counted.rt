@@ -33,19 +33,6 @@ impl Counted {
         })
     }
 
-    /// The same again, copied in place of made from units.
-    pub fn copy(&self, alloc: Global) -> Result<Counted, AllocError> {
-        let mut text = UnitText::from_units(alloc, &[])?;
-        text.concat(&self.text)?;
-        Ok(Counted {
-            string: self.string.clone()?,
-            text,
-            middle: self.middle,
-            begin: self.begin,
-            end: self.end,
-        })
-    }
-
     /// The string.
     pub fn string(&self) -> &Wtf8Buf<Global> {
         &self.string

@@ -30,12 +30,14 @@ impl Bench {
     pub fn new(alloc: Global, units: &[u16], rounds: u32) -> Result<Bench, AllocError> {
         let string = Wtf8Buf::from_ill_formed_utf16(alloc, units)?;
         let points = string.as_wtf8().code_points().collect(alloc)?;
-        let first = Counted::new(alloc, string, units)?;
+        let second = string.clone()?;
+        let third = string.clone()?;
+        let fourth = string.clone()?;
         let strings = [
-            first.copy(alloc)?,
-            first.copy(alloc)?,
-            first.copy(alloc)?,
-            first,
+            Counted::new(alloc, string, units)?,
+            Counted::new(alloc, second, units)?,
+            Counted::new(alloc, third, units)?,
+            Counted::new(alloc, fourth, units)?,
         ];
         Ok(Bench {
             alloc,
