@@ -1,15 +1,15 @@
 //! Strings with places that are counted in units.
-ghost use Rattle.std.specs.Prelude.{◌≡◌, ◌≤◌, length};
+ghost use Rattle.std.specs.Prelude.{◌≤◌, length};
 
 use std::alloc::{AllocError, Global};
 use unit_text::UnitText;
-use wtf8::Wtf8Buf;
+use wtf8::{Wtf8, Wtf8Buf};
 
 /// A string, a text of the same units, and where its middle is and its middle half begins and ends, in units.
 #[derive(Drop)]
 pub struct Counted {
-    string: Wtf8Buf<Global>,
-    text: UnitText<Global>,
+    pub string: Wtf8Buf<Global>,
+    pub text: UnitText<Global>,
     middle: usize,
     begin: usize,
     end: usize,
@@ -19,13 +19,11 @@ pub struct Counted {
 }
 
 impl Counted {
-    /// A string of these units, with a text of them.
-    pub fn new(alloc: Global, string: Wtf8Buf<Global>, units: &[u16]) -> Result<Counted, AllocError>
-        requires { string.units ≡ units.now }
-    {
+    /// A string and a text of these units.
+    pub fn new(alloc: Global, units: &[u16]) -> Result<Counted, AllocError> {
         let begin = units.len() / 4;
         Ok(Counted {
-            string,
+            string: Wtf8Buf::from_ill_formed_utf16(alloc, units)?,
             text: UnitText::from_units(alloc, units)?,
             middle: units.len() / 2,
             begin,
@@ -33,27 +31,9 @@ impl Counted {
         })
     }
 
-    /// The same again, copied in place of made from units.
-    pub fn copy(&self, alloc: Global) -> Result<Counted, AllocError> {
-        let mut text = UnitText::from_units(alloc, &[])?;
-        text.concat(&self.text)?;
-        Ok(Counted {
-            string: self.string.clone()?,
-            text,
-            middle: self.middle,
-            begin: self.begin,
-            end: self.end,
-        })
-    }
-
-    /// The string.
-    pub fn string(&self) -> &Wtf8Buf<Global> {
-        &self.string
-    }
-
-    /// The text.
-    pub fn text(&self) -> &UnitText<Global> {
-        &self.text
+    /// A view of the string.
+    pub fn view(&self) -> Wtf8<'_> {
+        self.string.as_wtf8()
     }
 
     /// The unit in the middle of the text, 0 for the empty text.

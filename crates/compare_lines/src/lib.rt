@@ -1,11 +1,11 @@
 //! Programs that answer a script a line: what they have in common.
 #![tactic(auto)]
 
-mod digits;
 mod fault;
+mod hex;
 
-pub use digits::byte_of;
 pub use fault::Fault;
+pub use hex::{byte_of, read_hex};
 use std::alloc::Global;
 use std::io::ErrorKind;
 use std::process::ExitCode;

@@ -1,22 +1,8 @@
 // What comparisons answer.
-use crate::stop::Stop;
 use crate::tape::Tape;
+use std::alloc::AllocError;
 use std::cmp::Ordering;
 use std::fmt::Write;
-
-/// Writes what each comparison of two values answers, or a line where one of them is missing.
-pub fn write_if_both<T: Ord + Drop>(
-    tape: &mut Tape<'_>,
-    word: &str,
-    own: Option<T>,
-    other: Option<T>,
-    missing: &str,
-) -> Result<(), Stop> {
-    match (own, other) {
-        (Some(own), Some(other)) => write_comparisons(tape, word, &own, &other),
-        _ => tape.write_line(missing),
-    }
-}
 
 /// Writes what each comparison of two values answers.
 pub fn write_comparisons<T: Ord>(
@@ -24,7 +10,7 @@ pub fn write_comparisons<T: Ord>(
     word: &str,
     own: &T,
     other: &T,
-) -> Result<(), Stop> {
+) -> Result<(), AllocError> {
     let equal = own == other;
     let different = own != other;
     let order = name_of(own.cmp(other));
@@ -37,10 +23,10 @@ pub fn write_comparisons<T: Ord>(
     let at_most = own <= other;
     let above = own > other;
     let at_least = own >= other;
-    Ok(writeln!(
+    writeln!(
         tape.transcript,
         "{word} lt {below} le {at_most} gt {above} ge {at_least}"
-    )?)
+    )
 }
 
 /// The word that a transcript has for an order.
