@@ -11,18 +11,15 @@ pub fn write_comparisons<T: Ord>(
     own: &T,
     other: &T,
 ) -> Result<(), AllocError> {
-    let equal = own == other;
-    let different = own != other;
+    let (equal, different) = (own == other, own != other);
     let order = name_of(own.cmp(other));
     let partial_order = own.partial_cmp(other).map_or("none", name_of);
     writeln!(
         tape.transcript,
         "{word} eq {equal} ne {different} cmp {order} partial {partial_order}"
     )?;
-    let below = own < other;
-    let at_most = own <= other;
-    let above = own > other;
-    let at_least = own >= other;
+    let (below, at_most) = (own < other, own <= other);
+    let (above, at_least) = (own > other, own >= other);
     writeln!(
         tape.transcript,
         "{word} lt {below} le {at_most} gt {above} ge {at_least}"

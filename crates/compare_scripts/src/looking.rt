@@ -61,12 +61,7 @@ impl Machine {
     }
 
     /// The calls that look at a slice, in its place, and that compare it with another one.
-    pub fn look_at_slices(
-        &self,
-        opcode: u8,
-        at: Register,
-        tape: &mut Tape<'_>,
-    ) -> Result<(), Stop> {
+    pub fn look_inside(&self, opcode: u8, at: Register, tape: &mut Tape<'_>) -> Result<(), Stop> {
         let own = self.read_slice(at, &mut tape.reader);
         if opcode == 34 {
             return write_answers(tape, own?);

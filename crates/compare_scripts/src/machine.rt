@@ -52,7 +52,7 @@ impl Machine {
             15 | 33 => self.cut(opcode, at, tape)?,
             19 | 20 => self.turn(opcode, at, tape)?,
             21..=29 | 41..=43 => return self.look(opcode, at, tape),
-            34 | 35 => return self.look_at_slices(opcode, at, tape),
+            34 | 35 => return self.look_inside(opcode, at, tape),
             39 => return self.apply_each(at, tape),
             _ => self.strings[at.index] = self.make(opcode, at, tape)?,
         }

@@ -73,11 +73,9 @@ impl<'a> Reader<'a> {
         ensures ok { IfOk result (λ value. self.old ≡ to_le_bytes w32 value ++ self.new) }
         ensures err { IfErr result (λ stop. (stop ≡ Stop.Malformed) × (length self.old < 4)) }
     {
-        let Some(([first, second, third, fourth], rest)) = self.rest.split_first_chunk::<4>() else {
-            return Err(Stop::Malformed);
-        };
+        let ([a, b, c, d], rest) = self.rest.split_first_chunk::<4>().ok_or(Stop::Malformed)?;
         self.rest = rest;
-        Ok(u32::from_le_bytes([*first, *second, *third, *fourth]))
+        Ok(u32::from_le_bytes([*a, *b, *c, *d]))
     }
 
     /// A value that is a code point's.
@@ -155,9 +153,7 @@ impl<'a> Reader<'a> {
         ensures ok { IfOk result (λ unit. self.old ≡ to_le_bytes w16 unit ++ self.new) }
         ensures err { IfErr result (λ stop. (stop ≡ Stop.Malformed) × (length self.old < 2)) }
     {
-        let Some(([low, high], rest)) = self.rest.split_first_chunk::<2>() else {
-            return Err(Stop::Malformed);
-        };
+        let ([low, high], rest) = self.rest.split_first_chunk::<2>().ok_or(Stop::Malformed)?;
         self.rest = rest;
         Ok(u16::from_le_bytes([*low, *high]))
     }

@@ -37,16 +37,14 @@ impl<'s> Tape<'s> {
 
     /// Writes a register, and a string's length and bytes.
     pub fn write_string(&mut self, at: Register, string: Wtf8<'_>) -> Result<(), AllocError> {
-        let index = at.index;
-        write!(self.transcript, "s{index}")?;
+        write!(self.transcript, "s{}", at.index)?;
         self.write_view(string)
     }
 
     /// Writes the length and the bytes of a view behind a space, to the end of the line.
     pub fn write_view(&mut self, view: Wtf8<'_>) -> Result<(), AllocError> {
-        let len = view.len();
         let dump = view.hex_dump(self.alloc)?;
-        writeln!(self.transcript, " {len}: {dump}")
+        writeln!(self.transcript, " {}: {dump}", view.len())
     }
 
     /// Writes an item behind a space, or a word where there is none.
