@@ -49,8 +49,17 @@ impl Bench {
                 Wtf8Buf::from_ill_formed_utf16(self.alloc, self.units.as_slice())?.len() as u64,
             )),
             2 => self.sum(|own, _| collected_units(self.alloc, own.view())),
-            3 => self.sum(|own, _| Ok(sum_of_units(own.view()))),
-            4 => self.sum(|own, _| Ok(sum_of_points(own.view()))),
+            3 => self.sum(|own, _| {
+                let units = own.view().to_ill_formed_utf16();
+                Ok(units.fold(0u64, |sum, unit| sum.wrapping_add(u64::from(unit))))
+            }),
+            4 => self.sum(|own, _| {
+                let points = own.view().code_points();
+                Ok(points.fold(
+                    0u64,
+                    |sum, point| sum.wrapping_add(u64::from(point.to_u32())),
+                ))
+            }),
             5 => self.sum(|own, _| Ok(own.view().as_str().is_some() as u64)),
             6 => self.sum(|own, _| Ok(
                 own.view().to_string_lossy(self.alloc)?.as_str().len() as u64,
@@ -129,22 +138,4 @@ impl Bench {
 fn collected_units(alloc: Global, view: Wtf8<'_>) -> Result<u64, AllocError> {
     let units: Vec<u16> = view.to_ill_formed_utf16().collect(alloc)?;
     Ok(units.len() as u64)
-}
-
-// The sum of a view's units, which wraps round.
-fn sum_of_units(view: Wtf8<'_>) -> u64 {
-    let mut sum = 0u64;
-    for unit in view.to_ill_formed_utf16() {
-        sum = sum.wrapping_add(u64::from(unit));
-    }
-    sum
-}
-
-// The sum of the numbers of a view's code points, which wraps round.
-fn sum_of_points(view: Wtf8<'_>) -> u64 {
-    let mut sum = 0u64;
-    for point in view.code_points() {
-        sum = sum.wrapping_add(u64::from(point.to_u32()));
-    }
-    sum
 }

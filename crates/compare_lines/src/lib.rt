@@ -43,9 +43,7 @@ fn print_answers<R: Input + Print, F: Fn(Global, &str) -> Result<String, Fault>>
             Err(_) => return Err(Fault::Read),
         };
         let answer = answer(alloc, line.as_str())?;
-        if println!(rt; "{answer}").is_err() {
-            return Err(Fault::Write);
-        }
+        println!(rt; "{answer}").or(Err(Fault::Write))?;
     }
     Ok(())
 }

@@ -20,8 +20,7 @@ impl Machine {
         let mut string = mem::replace(&mut self.strings[at.index], copy);
         let calls = self.read_calls(tape, points.as_slice())?;
         for call in calls.as_slice() {
-            let is_done = string.apply(*call)?;
-            writeln!(tape.transcript, "applied {is_done}")?;
+            writeln!(tape.transcript, "applied {}", string.apply(*call)?)?;
             tape.write_string(at, string.as_wtf8())?;
         }
         drop(calls);

@@ -23,8 +23,7 @@ impl Machine {
             21 => write_ascii_byte(tape, view)?,
             22 => write_boundaries(tape, view)?,
             23 => {
-                let count = view.code_points().count();
-                write!(tape.transcript, "points, {count}:")?;
+                write!(tape.transcript, "points, {}:", view.code_points().count())?;
                 write_steps(tape, view.code_points())?;
             }
             24 => {

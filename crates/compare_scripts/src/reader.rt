@@ -119,8 +119,7 @@ impl<'a> Reader<'a> {
     {
         let mut units = Vec::new(alloc);
         for _ in 0..self.byte()? {
-            let unit = self.unit()?;
-            units.push(unit).map_err(AllocError::from)?;
+            units.push(self.unit()?).map_err(AllocError::from)?;
         }
         Ok(units)
     }
