@@ -3,13 +3,13 @@ ghost use Rattle.std.specs.Prelude.{◌≡◌, ◌≤◌, length};
 
 use std::alloc::{AllocError, Global};
 use unit_text::UnitText;
-use wtf8::Wtf8Buf;
+use wtf8::{Wtf8, Wtf8Buf};
 
 /// A string, a text of the same units, and where its middle is and its middle half begins and ends, in units.
 #[derive(Drop)]
 pub struct Counted {
-    string: Wtf8Buf<Global>,
-    text: UnitText<Global>,
+    pub string: Wtf8Buf<Global>,
+    pub text: UnitText<Global>,
     middle: usize,
     begin: usize,
     end: usize,
@@ -33,14 +33,9 @@ impl Counted {
         })
     }
 
-    /// The string.
-    pub fn string(&self) -> &Wtf8Buf<Global> {
-        &self.string
-    }
-
-    /// The text.
-    pub fn text(&self) -> &UnitText<Global> {
-        &self.text
+    /// A view of the string.
+    pub fn view(&self) -> Wtf8<'_> {
+        self.string.as_wtf8()
     }
 
     /// The unit in the middle of the text, 0 for the empty text.

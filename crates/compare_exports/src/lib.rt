@@ -7,8 +7,8 @@ ghost use Rattle.compare_exports.specs.Front.{with_front};
 mod counted;
 mod timing;
 
-use compare_scripts::{Stop, run_script};
-use std::alloc::{AllocError, Global};
+use compare_scripts::run_script;
+use std::alloc::Global;
 use timing::{Bench, LAST};
 
 /// The script ends inside a call, or a byte or a text in it stands for nothing.
@@ -37,9 +37,9 @@ pub extern "C" fn compare_exports_run(alloc: Global, script: &[u8], out: &mut [u
     ensures behind { (n : ℕ) → result ≡ pos n → drop n out.new ≡ drop n out.old }
 {
     match run_script(alloc, script) {
-        Ok(transcript) => write_front(transcript.as_str().as_bytes(), out),
-        Err(Stop::Malformed) => MALFORMED,
-        Err(Stop::Memory) => MEMORY,
+        Ok(Some(transcript)) => write_front(transcript.as_str().as_bytes(), out),
+        Ok(None) => MALFORMED,
+        Err(_) => MEMORY,
     }
 }
 
@@ -63,20 +63,13 @@ pub extern "C" fn compare_exports_time(
     if LAST < number {
         return NO_LOOP;
     }
-    match run_loop(alloc, number, units, rounds) {
+    match Bench::new(alloc, units, rounds).and_then(|bench| bench.run(number)) {
         Ok(answer) => {
             *sum = answer;
             0
         }
         Err(_) => MEMORY,
     }
-}
-
-// The sum of a loop over the strings of some units.
-fn run_loop(alloc: Global, number: u32, units: &[u16], rounds: u32) -> Result<u64, AllocError>
-    requires { number ≤ 19 }
-{
-    Bench::new(alloc, units, rounds)?.run(number)
 }
 
 // Writes some bytes at the front where they fit, and answers how many there are.

@@ -1,11 +1,11 @@
 //! Programs that answer a script a line: what they have in common.
 #![tactic(auto)]
 
-mod digits;
 mod fault;
+mod hex;
 
-pub use digits::byte_of;
 pub use fault::Fault;
+pub use hex::{byte_of, read_hex};
 use std::alloc::Global;
 use std::io::ErrorKind;
 use std::process::ExitCode;
@@ -43,9 +43,7 @@ fn print_answers<R: Input + Print, F: Fn(Global, &str) -> Result<String, Fault>>
             Err(_) => return Err(Fault::Read),
         };
         let answer = answer(alloc, line.as_str())?;
-        if println!(rt; "{answer}").is_err() {
-            return Err(Fault::Write);
-        }
+        println!(rt; "{answer}").or(Err(Fault::Write))?;
     }
     Ok(())
 }

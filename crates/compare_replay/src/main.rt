@@ -2,13 +2,10 @@
 #![tactic(auto)]
 
 ghost use Rattle.std.specs.Prelude.{◌≢◌, ℕ, List, OnOk, IfErr, IsErrOf};
-ghost use Rattle.compare_replay.specs.Hex.{IsHex, Spells};
+ghost use Rattle.compare_lines.specs.Hex.{IsHex, Spells};
 
-mod hex;
-
-use compare_lines::{Fault, answer_lines};
-use compare_scripts::{Stop, run_script};
-use hex::read_hex;
+use compare_lines::{Fault, answer_lines, read_hex};
+use compare_scripts::run_script;
 use std::alloc::Global;
 use std::process::ExitCode;
 
@@ -22,12 +19,6 @@ fn run_line(alloc: Global, line: &str) -> Result<String, Fault>
     ensures not_hexadecimal { IsErrOf result Fault.NotHexadecimal → ¬ IsHex line.now }
     ensures fault { IfErr result (λ fault. (fault ≢ Fault.Read) × (fault ≢ Fault.Write)) }
 {
-    let Some(script) = read_hex(alloc, line)? else {
-        return Err(Fault::NotHexadecimal);
-    };
-    match run_script(alloc, script.as_slice()) {
-        Ok(transcript) => Ok(transcript),
-        Err(Stop::Malformed) => Err(Fault::Malformed),
-        Err(Stop::Memory) => Err(Fault::Memory),
-    }
+    let script = read_hex(alloc, line)?.ok_or(Fault::NotHexadecimal)?;
+    run_script(alloc, script.as_slice())?.ok_or(Fault::Malformed)
 }

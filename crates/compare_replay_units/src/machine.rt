@@ -1,4 +1,5 @@
 // Running the calls of a script.
+use crate::words::Words;
 use compare_lines::Fault;
 use std::alloc::{AllocError, Global};
 use std::fmt::Write;
@@ -25,84 +26,55 @@ impl Machine {
         })
     }
 
-    /// Does the first call of some words, writes what it answers behind a space, and answers the words behind the call.
-    /// `compare/README.md` has the calls by their numbers.
-    pub fn run<'w>(&mut self, words: &'w [u16], answers: &mut String) -> Result<&'w [u16], Fault> {
-        let behind = match words {
-            [0, len, rest @ ..] => {
-                let Some((units, behind)) = rest.split_at_checked(usize::from(*len)) else {
-                    return Err(Fault::Malformed);
-                };
+    /// Does the next call of some words, and writes what it answers behind a space. `compare/README.md` has the calls by
+    /// their numbers.
+    pub fn run(&mut self, words: &mut Words<'_>, answers: &mut String) -> Result<(), Fault> {
+        match words.number()? {
+            0 => {
+                let count = words.number()?;
+                let (units, rest) = words.rest.split_at_checked(count).ok_or(Fault::Malformed)?;
+                words.rest = rest;
                 self.first = UnitText::from_units(self.alloc, units)?;
-                write_units(answers, &self.first)?;
-                behind
             }
-            [1, rest @ ..] => {
-                mem::swap(&mut self.first, &mut self.second);
-                write_units(answers, &self.first)?;
-                rest
+            1 => mem::swap(&mut self.first, &mut self.second),
+            4 => {
+                let begin = words.number()?;
+                let end = words.number()?;
+                if end < begin || self.first.unit_len() < end {
+                    return Ok(write!(answers, " none")?);
+                }
+                self.first = self.first.slice_units(self.alloc, begin, end)?;
             }
-            [4, begin, end, rest @ ..] => {
-                self.slice(usize::from(*begin), usize::from(*end), answers)?;
-                rest
-            }
-            [8, rest @ ..] => {
-                self.first.concat(&self.second)?;
-                write_units(answers, &self.first)?;
-                rest
-            }
-            _ => self.look(words, answers)?,
-        };
-        Ok(behind)
+            8 => self.first.concat(&self.second)?,
+            call => return self.look(call, words, answers),
+        }
+        Ok(write_units(answers, &self.first)?)
     }
 
     // The calls that leave both texts as they are.
-    fn look<'w>(&self, words: &'w [u16], answers: &mut String) -> Result<&'w [u16], Fault> {
+    fn look(&self, call: usize, words: &mut Words<'_>, answers: &mut String) -> Result<(), Fault> {
         let (alloc, text) = (self.alloc, &self.first);
-        let behind = match words {
-            [2, rest @ ..] => {
-                write!(answers, " {}", text.unit_len())?;
-                rest
+        match call {
+            2 => write!(answers, " {}", text.unit_len())?,
+            3 => {
+                let at = words.number()?;
+                write_unit(answers, text.unit_at(at))?;
+                write_unit(answers, char_code_at(text, at))?;
             }
-            [3, at, rest @ ..] => {
-                write_unit(answers, text.unit_at(usize::from(*at)))?;
-                write_unit(answers, char_code_at(text, usize::from(*at)))?;
-                rest
-            }
-            [5, first, second, rest @ ..] => {
-                let between = substring(alloc, text, usize::from(*first), usize::from(*second))?;
+            5 => {
+                let between = substring(alloc, text, words.number()?, words.number()?)?;
                 write_units(answers, &between)?;
-                rest
             }
-            [6, at, rest @ ..] => {
-                write_units(answers, &char_at(alloc, text, usize::from(*at))?)?;
-                rest
-            }
-            [7, at, rest @ ..] => {
-                let is_there = starts_with(text, &self.second, usize::from(*at));
+            6 => write_units(answers, &char_at(alloc, text, words.number()?)?)?,
+            7 => {
+                let is_there = starts_with(text, &self.second, words.number()?);
                 write!(answers, " {is_there}")?;
-                rest
             }
-            [9, rest @ ..] => {
-                write_comparisons(answers, text, &self.second)?;
-                rest
-            }
-            [10, rest @ ..] => {
-                write!(answers, " {}", whole_cuts(alloc, text)?)?;
-                rest
-            }
+            9 => write_comparisons(answers, text, &self.second)?,
+            10 => write!(answers, " {}", whole_cuts(alloc, text)?)?,
             _ => return Err(Fault::Malformed),
-        };
-        Ok(behind)
-    }
-
-    // The first text becomes the units between two positions, where they are in order and within it.
-    fn slice(&mut self, begin: usize, end: usize, answers: &mut String) -> Result<(), AllocError> {
-        if end < begin || self.first.unit_len() < end {
-            return write!(answers, " none");
         }
-        self.first = self.first.slice_units(self.alloc, begin, end)?;
-        write_units(answers, &self.first)
+        Ok(())
     }
 }
 

@@ -8,6 +8,7 @@ use compare_lines::{Fault, answer_lines};
 use machine::Machine;
 use std::alloc::Global;
 use std::process::ExitCode;
+use words::{Words, read_words};
 
 fn main(rt: HostRuntime) -> ExitCode {
     answer_lines(&rt, rt.alloc(), run_line)
@@ -15,17 +16,17 @@ fn main(rt: HostRuntime) -> ExitCode {
 
 // What the calls of a line answer, with a space before each.
 fn run_line(alloc: Global, line: &str) -> Result<String, Fault> {
-    let Some(words) = words::read_words(alloc, line)? else {
-        return Err(Fault::NotHexadecimal);
+    let numbers = read_words(alloc, line)?.ok_or(Fault::NotHexadecimal)?;
+    let mut words = Words {
+        rest: numbers.as_slice(),
     };
     let mut machine = Machine::new(alloc)?;
     let mut answers = String::new(alloc);
-    let mut rest = words.as_slice();
-    for _ in 0..words.len() {
-        if rest.is_empty() {
+    for _ in 0..numbers.len() {
+        if words.rest.is_empty() {
             break;
         }
-        rest = machine.run(rest, &mut answers)?;
+        machine.run(&mut words, &mut answers)?;
     }
     Ok(answers)
 }

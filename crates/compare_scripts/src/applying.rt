@@ -1,8 +1,8 @@
 // Building calls by their names, one by one and lists of them.
 use crate::machine::Machine;
-use crate::reader::{Reader, Register, STRINGS};
+use crate::reader::{Reader, Register};
 use crate::stop::Stop;
-use crate::tape::Tape;
+use crate::tape::{Shown, Tape};
 use refusing::Refusing;
 use std::alloc::{AllocError, Global};
 use std::fmt::Write;
@@ -14,15 +14,13 @@ const UNBOUNDED: usize = 0xFFFF;
 
 impl Machine {
     /// `apply` of each call of a list, whose strings stay as they are: writes what it answers, and the string behind it.
-    pub fn apply_each(&mut self, tape: &mut Tape<'_>) -> Result<(), Stop> {
-        let at = tape.reader.register()?;
-        let points = tape.reader.points(self.alloc)?;
+    pub fn apply_each(&mut self, at: Register, tape: &mut Tape<'_>) -> Result<(), Stop> {
+        let points = tape.reader.points(tape.alloc)?;
         let copy = self.string(at).clone()?;
         let mut string = mem::replace(&mut self.strings[at.index], copy);
-        let calls = read_calls(tape, points.as_slice(), &self.strings)?;
+        let calls = self.read_calls(tape, points.as_slice())?;
         for call in calls.as_slice() {
-            let is_done = string.apply(*call)?;
-            writeln!(tape.transcript, "applied {is_done}")?;
+            writeln!(tape.transcript, "applied {}", string.apply(*call)?)?;
             tape.write_string(at, string.as_wtf8())?;
         }
         drop(calls);
@@ -36,9 +34,9 @@ impl Machine {
     pub fn apply_all(&self, at: Register, tape: &mut Tape<'_>) -> Result<Wtf8Buf<Global>, Stop> {
         let spare = tape.reader.number()?;
         let grants = tape.reader.number()?;
-        let points = tape.reader.points(self.alloc)?;
-        let calls = read_calls(tape, points.as_slice(), &self.strings)?;
-        let heap = Refusing::new(self.alloc, u64::MAX);
+        let points = tape.reader.points(tape.alloc)?;
+        let calls = self.read_calls(tape, points.as_slice())?;
+        let heap = Refusing::new(tape.alloc, u64::MAX);
         let whole = self.view(at);
         let mut string = Wtf8Buf::with_capacity(&heap, whole.len().saturating_add(spare))?;
         string.push_wtf8(whole)?;
@@ -49,53 +47,51 @@ impl Machine {
             Ok(refused) => writeln!(tape.transcript, "all, {refused} refused")?,
             Err(Stopped { done }) => writeln!(tape.transcript, "stopped at {done}")?,
         }
-        let units: Vec<u16> = string.as_wtf8().to_ill_formed_utf16().collect(self.alloc)?;
         write!(tape.transcript, "units")?;
-        tape.write_items(units.as_slice())?;
+        for unit in string.as_wtf8().to_ill_formed_utf16() {
+            unit.show(&mut tape.transcript)?;
+        }
         tape.write_line("")?;
-        let mut copy = Wtf8Buf::new(self.alloc);
+        let mut copy = Wtf8Buf::new(tape.alloc);
         copy.push_wtf8(string.as_wtf8())?;
         Ok(copy)
     }
-}
 
-// The building calls of a list: a byte with their number, and each of them.
-fn read_calls<'s: 'c, 'c>(
-    tape: &mut Tape<'s>,
-    points: &'c [CodePoint],
-    pieces: &'c [Wtf8Buf<Global>; STRINGS],
-) -> Result<Vec<Build<'c>>, Stop> {
-    let mut calls = Vec::new(tape.alloc);
-    for _ in 0..tape.reader.byte()? {
-        if let Some(call) = read_call(&mut tape.reader, points, pieces)? {
-            calls.push(call).map_err(AllocError::from)?;
+    // The building calls of a list: a byte with their number, and each of them. A number that is no code point gives no
+    // call.
+    fn read_calls<'s: 'c, 'c>(
+        &'c self,
+        tape: &mut Tape<'s>,
+        points: &'c [CodePoint],
+    ) -> Result<Vec<Build<'c>>, Stop> {
+        let mut calls = Vec::new(tape.alloc);
+        for _ in 0..tape.reader.byte()? {
+            match self.read_call(&mut tape.reader, points) {
+                Ok(call) => calls.push(call).map_err(AllocError::from)?,
+                Err(Stop::NoCodePoint | Stop::NoCharacter) => {}
+                Err(stop) => return Err(stop),
+            }
         }
+        Ok(calls)
     }
-    Ok(calls)
-}
 
-// A building call: a byte that names it, and its operand. A number that is no code point gives no call.
-fn read_call<'s: 'c, 'c>(
-    reader: &mut Reader<'s>,
-    points: &'c [CodePoint],
-    pieces: &'c [Wtf8Buf<Global>; STRINGS],
-) -> Result<Option<Build<'c>>, Stop> {
-    let call = match reader.byte()? {
-        0 => match CodePoint::from_u32(reader.value()?) {
-            Some(point) => Build::Push(point),
-            None => return Ok(None),
-        },
-        1 => match char::from_u32(reader.value()?) {
-            Some(c) => Build::PushChar(c),
-            None => return Ok(None),
-        },
-        2 => Build::PushStr(reader.text()?),
-        3 => Build::PushWtf8(pieces[reader.register()?.index].as_wtf8()),
-        4 => Build::Extend(&points[..reader.number()?.min(points.len())]),
-        5 => Build::Reserve(reader.number()?),
-        6 => Build::Truncate(reader.number()?),
-        7 => Build::TruncateUnits(reader.number()?),
-        _ => return Err(Stop::Malformed),
-    };
-    Ok(Some(call))
+    // A building call: a byte that names it, and its operand.
+    fn read_call<'s: 'c, 'c>(
+        &'c self,
+        reader: &mut Reader<'s>,
+        points: &'c [CodePoint],
+    ) -> Result<Build<'c>, Stop> {
+        let call = match reader.byte()? {
+            0 => Build::Push(reader.point()?),
+            1 => Build::PushChar(reader.character()?),
+            2 => Build::PushStr(reader.text()?),
+            3 => Build::PushWtf8(self.view(reader.register()?)),
+            4 => Build::Extend(&points[..reader.number()?.min(points.len())]),
+            5 => Build::Reserve(reader.number()?),
+            6 => Build::Truncate(reader.number()?),
+            7 => Build::TruncateUnits(reader.number()?),
+            _ => return Err(Stop::Malformed),
+        };
+        Ok(call)
+    }
 }

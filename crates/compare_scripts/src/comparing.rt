@@ -1,22 +1,8 @@
 // What comparisons answer.
-use crate::stop::Stop;
 use crate::tape::Tape;
+use std::alloc::AllocError;
 use std::cmp::Ordering;
 use std::fmt::Write;
-
-/// Writes what each comparison of two values answers, or a line where one of them is missing.
-pub fn write_if_both<T: Ord + Drop>(
-    tape: &mut Tape<'_>,
-    word: &str,
-    own: Option<T>,
-    other: Option<T>,
-    missing: &str,
-) -> Result<(), Stop> {
-    match (own, other) {
-        (Some(own), Some(other)) => write_comparisons(tape, word, &own, &other),
-        _ => tape.write_line(missing),
-    }
-}
 
 /// Writes what each comparison of two values answers.
 pub fn write_comparisons<T: Ord>(
@@ -24,23 +10,20 @@ pub fn write_comparisons<T: Ord>(
     word: &str,
     own: &T,
     other: &T,
-) -> Result<(), Stop> {
-    let equal = own == other;
-    let different = own != other;
+) -> Result<(), AllocError> {
+    let (equal, different) = (own == other, own != other);
     let order = name_of(own.cmp(other));
     let partial_order = own.partial_cmp(other).map_or("none", name_of);
     writeln!(
         tape.transcript,
         "{word} eq {equal} ne {different} cmp {order} partial {partial_order}"
     )?;
-    let below = own < other;
-    let at_most = own <= other;
-    let above = own > other;
-    let at_least = own >= other;
-    Ok(writeln!(
+    let (below, at_most) = (own < other, own <= other);
+    let (above, at_least) = (own > other, own >= other);
+    writeln!(
         tape.transcript,
         "{word} lt {below} le {at_most} gt {above} ge {at_least}"
-    )?)
+    )
 }
 
 /// The word that a transcript has for an order.

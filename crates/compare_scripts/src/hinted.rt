@@ -4,15 +4,8 @@ use wtf8::CodePoint;
 /// Code points, and the lower hint that they come with, which may be false.
 #[derive(Drop)]
 pub struct Hinted<'a> {
-    points: &'a [CodePoint],
-    low: usize,
-}
-
-impl<'a> Hinted<'a> {
-    /// These code points under this lower hint.
-    pub fn new(points: &'a [CodePoint], low: usize) -> Hinted<'a> {
-        Hinted { points, low }
-    }
+    pub points: &'a [CodePoint],
+    pub low: usize,
 }
 
 impl<'a> Iterator for Hinted<'a> {

@@ -5,12 +5,11 @@
 #![tactic(auto)]
 
 mod applying;
-mod changing;
+mod building;
 mod comparing;
 mod hinted;
 mod looking;
 mod machine;
-mod making;
 mod reader;
 mod recorder;
 mod stop;
@@ -18,4 +17,3 @@ mod tape;
 mod walking;
 
 pub use machine::run_script;
-pub use stop::Stop;

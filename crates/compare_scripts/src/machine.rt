@@ -1,58 +1,62 @@
 // Running a script.
+use crate::looking::look_at_operands;
 use crate::reader::{Reader, Register, STRINGS};
 use crate::stop::Stop;
 use crate::tape::Tape;
-use std::alloc::Global;
+use std::alloc::{AllocError, Global};
+use std::array;
 use wtf8::{Wtf8, Wtf8Buf};
 
 /// The transcript of a script: what each of its calls answers, and for one that changes a string its length and bytes
-/// afterwards.
-pub fn run_script(alloc: Global, script: &[u8]) -> Result<String, Stop> {
-    let mut machine = Machine::new(alloc);
-    let mut tape = Tape::new(alloc, script);
+/// afterwards. A script that ends inside a call, or with a byte or a text that stands for nothing, has none.
+pub fn run_script(alloc: Global, script: &[u8]) -> Result<Option<String>, AllocError> {
+    let mut machine = Machine {
+        strings: array::from_fn(|_| Wtf8Buf::new(alloc)),
+    };
+    let mut tape = Tape {
+        alloc,
+        reader: Reader::new(script),
+        transcript: String::new(alloc),
+    };
     for _ in 0..script.len() {
-        let Some(opcode) = tape.reader.opcode() else {
+        let Ok(opcode) = tape.reader.byte() else {
             break;
         };
-        machine.run(opcode, &mut tape)?;
+        match machine.run(opcode, &mut tape) {
+            Ok(()) => {}
+            Err(Stop::Refused) => tape.write_line("refused")?,
+            Err(Stop::NoCodePoint) => tape.write_line("no code point")?,
+            Err(Stop::NoCharacter) => tape.write_line("no character")?,
+            Err(Stop::Malformed) => return Ok(None),
+            Err(Stop::Memory) => return Err(AllocError),
+        }
     }
-    Ok(tape.transcript)
+    Ok(Some(tape.transcript))
 }
 
-/// The strings that a script works on.
+/// The strings that a script works on, by their registers.
 #[derive(Drop)]
 pub struct Machine {
-    /// Where their memory comes from.
-    pub alloc: Global,
-    /// The strings, by their registers.
     pub strings: [Wtf8Buf<Global>; STRINGS],
 }
 
 impl Machine {
-    fn new(alloc: Global) -> Machine {
-        Machine {
-            alloc,
-            strings: [
-                Wtf8Buf::new(alloc),
-                Wtf8Buf::new(alloc),
-                Wtf8Buf::new(alloc),
-                Wtf8Buf::new(alloc),
-            ],
-        }
-    }
-
     /// Does the call of an opcode, whose operands come next in the script, and writes what it answers.
     fn run(&mut self, opcode: u8, tape: &mut Tape<'_>) -> Result<(), Stop> {
-        match opcode {
-            0..=7 | 16..=18 | 36 | 38 | 40 => self.make(opcode, tape),
-            8 => self.reserve(tape),
-            9..=14 | 37 => self.append(opcode, tape),
-            15 | 33 => self.cut(opcode, tape),
-            19 | 20 => self.turn(opcode, tape),
-            21..=29 | 41..=43 => self.look(opcode, tape),
-            39 => self.apply_each(tape),
-            _ => self.look_at_operands(opcode, tape),
+        if let 30..=32 = opcode {
+            return look_at_operands(opcode, tape);
         }
+        let at = tape.reader.register()?;
+        match opcode {
+            8..=14 | 37 => self.append(opcode, at, tape)?,
+            15 | 33 => self.cut(opcode, at, tape)?,
+            19 | 20 => self.turn(opcode, at, tape)?,
+            21..=29 | 41..=43 => return self.look(opcode, at, tape),
+            34 | 35 => return self.look_inside(opcode, at, tape),
+            39 => return self.apply_each(at, tape),
+            _ => self.strings[at.index] = self.make(opcode, at, tape)?,
+        }
+        Ok(tape.write_string(at, self.view(at))?)
     }
 
     /// One of the strings.
@@ -62,36 +66,20 @@ impl Machine {
 
     /// A view of one of the strings.
     pub fn view(&self, at: Register) -> Wtf8<'_> {
-        self.strings[at.index].as_wtf8()
+        self.string(at).as_wtf8()
     }
 
-    /// A string, a begin and an end: the slice of it, or `None` where the range is refused.
-    pub fn read_slice(&self, reader: &mut Reader<'_>) -> Result<Option<Wtf8<'_>>, Stop> {
-        let whole = self.view(reader.register()?);
+    /// A begin and an end: the slice of a string, which is refused where the range is.
+    pub fn read_slice(&self, at: Register, reader: &mut Reader<'_>) -> Result<Wtf8<'_>, Stop> {
+        let whole = self.view(at);
         let begin = reader.number()?;
         let end = reader.number()?;
         let is_slice = begin <= end
             && whole.is_code_point_boundary(begin)
             && whole.is_code_point_boundary(end);
         if !is_slice {
-            return Ok(None);
+            return Err(Stop::Refused);
         }
-        Ok(Some(whole.slice(begin, end)))
-    }
-
-    /// Puts a string in a register, and writes it.
-    pub fn put(
-        &mut self,
-        at: Register,
-        tape: &mut Tape<'_>,
-        string: Wtf8Buf<Global>,
-    ) -> Result<(), Stop> {
-        self.strings[at.index] = string;
-        self.show(at, tape)
-    }
-
-    /// Writes a register, and its string's length and bytes.
-    pub fn show(&self, at: Register, tape: &mut Tape<'_>) -> Result<(), Stop> {
-        tape.write_string(at, self.view(at))
+        Ok(whole.slice(begin, end))
     }
 }

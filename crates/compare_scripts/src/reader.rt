@@ -35,7 +35,7 @@ impl<'a> Model for Reader<'a> {
 }
 
 impl<'a> Reader<'a> {
-    ghost use Rattle.std.specs.Prelude.{◌≡◌, ◌≤◌, ◌<◌, ◌⊎◌, List, ℕ, [], ◌∷◌, ◌++◌, length, map, slice_index, IfSome, IfNone, IfOk, IfErr};
+    ghost use Rattle.std.specs.Prelude.{◌≡◌, ◌≤◌, ◌<◌, ◌⊎◌, List, ℕ, [], ◌∷◌, ◌++◌, length, map, slice_index, IfOk, IfErr};
     ghost use Rattle.std.specs.Int.{w16, w32, to_le_bytes};
     ghost use Rattle.wtf8.specs.CodePoint.{number as number_of};
     ghost use Rattle.compare_scripts.specs.Operand.{units_bytes, values_bytes, code_points};
@@ -45,14 +45,6 @@ impl<'a> Reader<'a> {
         ensures { result ≡ script.now }
     {
         Reader { rest: script }
-    }
-
-    /// The next call's opcode, or `None` at the end of the script.
-    pub fn opcode(&mut self) -> Option<u8>
-        ensures some { IfSome result (λ opcode. self.old ≡ opcode ∷ self.new) }
-        ensures none { IfNone result (self.old ≡ []) }
-    {
-        self.byte().ok()
     }
 
     /// A byte that names one of the strings.
@@ -81,11 +73,25 @@ impl<'a> Reader<'a> {
         ensures ok { IfOk result (λ value. self.old ≡ to_le_bytes w32 value ++ self.new) }
         ensures err { IfErr result (λ stop. (stop ≡ Stop.Malformed) × (length self.old < 4)) }
     {
-        let Some(([first, second, third, fourth], rest)) = self.rest.split_first_chunk::<4>() else {
-            return Err(Stop::Malformed);
-        };
+        let ([a, b, c, d], rest) = self.rest.split_first_chunk::<4>().ok_or(Stop::Malformed)?;
         self.rest = rest;
-        Ok(u32::from_le_bytes([*first, *second, *third, *fourth]))
+        Ok(u32::from_le_bytes([*a, *b, *c, *d]))
+    }
+
+    /// A value that is a code point's.
+    pub fn point(&mut self) -> Result<CodePoint, Stop>
+        ensures ok { IfOk result (λ point. self.old ≡ to_le_bytes w32 (number_of point) ++ self.new) }
+        ensures err { IfErr result (λ stop. (stop ≡ Stop.NoCodePoint) ⊎ ((stop ≡ Stop.Malformed) × (length self.old < 4))) }
+    {
+        CodePoint::from_u32(self.value()?).ok_or(Stop::NoCodePoint)
+    }
+
+    /// A value that is a character's.
+    pub fn character(&mut self) -> Result<char, Stop>
+        ensures ok { IfOk result (λ c. self.old ≡ to_le_bytes w32 c ++ self.new) }
+        ensures err { IfErr result (λ stop. (stop ≡ Stop.NoCharacter) ⊎ ((stop ≡ Stop.Malformed) × (length self.old < 4))) }
+    {
+        char::from_u32(self.value()?).ok_or(Stop::NoCharacter)
     }
 
     /// A byte with the number of bytes that follow, and those bytes.
@@ -94,9 +100,7 @@ impl<'a> Reader<'a> {
         ensures err { IfErr result (λ stop. (stop ≡ Stop.Malformed) × (length self.old ≤ slice_index self.old 0)) }
     {
         let count = usize::from(self.byte()?);
-        let Some((front, rest)) = self.rest.split_at_checked(count) else {
-            return Err(Stop::Malformed);
-        };
+        let (front, rest) = self.rest.split_at_checked(count).ok_or(Stop::Malformed)?;
         self.rest = rest;
         Ok(front)
     }
@@ -115,8 +119,7 @@ impl<'a> Reader<'a> {
     {
         let mut units = Vec::new(alloc);
         for _ in 0..self.byte()? {
-            let unit = self.unit()?;
-            units.push(unit).map_err(AllocError::from)?;
+            units.push(self.unit()?).map_err(AllocError::from)?;
         }
         Ok(units)
     }
@@ -139,9 +142,7 @@ impl<'a> Reader<'a> {
         ensures ok { IfOk result (λ byte. self.old ≡ byte ∷ self.new) }
         ensures err { IfErr result (λ stop. (stop ≡ Stop.Malformed) × (self.old ≡ [])) }
     {
-        let Some((first, rest)) = self.rest.split_first() else {
-            return Err(Stop::Malformed);
-        };
+        let (first, rest) = self.rest.split_first().ok_or(Stop::Malformed)?;
         self.rest = rest;
         Ok(*first)
     }
@@ -151,9 +152,7 @@ impl<'a> Reader<'a> {
         ensures ok { IfOk result (λ unit. self.old ≡ to_le_bytes w16 unit ++ self.new) }
         ensures err { IfErr result (λ stop. (stop ≡ Stop.Malformed) × (length self.old < 2)) }
     {
-        let Some(([low, high], rest)) = self.rest.split_first_chunk::<2>() else {
-            return Err(Stop::Malformed);
-        };
+        let ([low, high], rest) = self.rest.split_first_chunk::<2>().ok_or(Stop::Malformed)?;
         self.rest = rest;
         Ok(u16::from_le_bytes([*low, *high]))
     }

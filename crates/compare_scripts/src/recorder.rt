@@ -1,8 +1,8 @@
 // What a hasher is fed.
 ghost use Rattle.std.specs.Prelude.{◌-◌, nat_lt, length, slice_index, Some, is_some, if◌then◌else◌};
 
-use crate::stop::Stop;
 use crate::tape::Tape;
+use std::alloc::AllocError;
 use std::fmt::Write;
 use std::hash::{Hash, Hasher};
 
@@ -15,8 +15,7 @@ struct ByteAt {
 
 impl Hasher for ByteAt {
     ghost write = { λ s bytes. if is_some s.byte then s
-        else if nat_lt s.in_front (length bytes) then record { in_front = s.in_front; byte = Some (slice_index bytes s.in_front) }
-        else record { in_front = s.in_front - length bytes; byte = s.byte } };
+        else record { in_front = s.in_front - length bytes; byte = if nat_lt s.in_front (length bytes) then Some (slice_index bytes s.in_front) else s.byte } };
 
     ghost finish = { λ s. s.in_front };
 
@@ -25,19 +24,15 @@ impl Hasher for ByteAt {
     }
 
     fn write(&mut self, bytes: &[u8]) {
-        if self.byte.is_some() {
-            return;
-        }
-        if self.in_front < bytes.len() {
-            self.byte = Some(bytes[self.in_front]);
-        } else {
-            self.in_front -= bytes.len();
+        if self.byte.is_none() {
+            self.byte = bytes.get(self.in_front).copied();
+            self.in_front = self.in_front.saturating_sub(bytes.len());
         }
     }
 }
 
 /// Writes the bytes that a value feeds a hasher, one after the other.
-pub fn write_hash_input<T: Hash>(tape: &mut Tape<'_>, value: &T) -> Result<(), Stop> {
+pub fn write_hash_input<T: Hash>(tape: &mut Tape<'_>, value: &T) -> Result<(), AllocError> {
     write!(tape.transcript, "fed")?;
     for in_front in 0..usize::MAX {
         let mut state = ByteAt {

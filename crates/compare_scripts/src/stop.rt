@@ -1,10 +1,16 @@
-// Why a script has no transcript.
+// Why a call is not done.
 use std::alloc::AllocError;
 
-/// Why a script has no transcript.
+/// Why a call is not done.
 #[derive(Clone, Copy, PartialEq, Eq, Debug)]
 pub enum Stop {
-    /// The script ends inside a call, a byte is no opcode or no step, or a text is not UTF-8.
+    /// A position or a range is refused.
+    Refused,
+    /// A value is no code point.
+    NoCodePoint,
+    /// A value is no character.
+    NoCharacter,
+    /// The script ends inside the call, a byte is no opcode or no step, or a text is not UTF-8.
     Malformed,
     /// A growth of memory was refused.
     Memory,

@@ -4,16 +4,9 @@ ghost use Rattle.std.specs.String.{string_bytes};
 ghost use Rattle.wtf8.specs.Hex.{hex};
 
 use crate::reader::{Reader, Register};
-use crate::stop::Stop;
 use std::alloc::{AllocError, Global};
 use std::fmt::Write;
-use wtf8::{CodePoint, Wtf8};
-
-/// The line of a position that is refused.
-pub const REFUSED: &str = "refused";
-
-/// The line of a value that is no code point.
-pub const NO_CODE_POINT: &str = "no code point";
+use wtf8::{CodePoint, Wtf8, Wtf8Buf};
 
 /// A script that runs: what is left of it, and its transcript so far.
 #[derive(Drop)]
@@ -27,42 +20,31 @@ pub struct Tape<'s> {
 }
 
 impl<'s> Tape<'s> {
-    /// A whole script, and an empty transcript.
-    pub fn new(alloc: Global, script: &'s [u8]) -> Tape<'s> {
-        Tape {
-            alloc,
-            reader: Reader::new(script),
-            transcript: String::new(alloc),
-        }
-    }
-
     /// Writes a line.
-    pub fn write_line(&mut self, line: &str) -> Result<(), Stop>
+    pub fn write_line(&mut self, line: &str) -> Result<(), AllocError>
         ensures { OnOk result (string_bytes self.new.transcript ≡ string_bytes self.old.transcript ++ (line.now ++ 10 ∷ [])) }
     {
-        Ok(writeln!(self.transcript, "{line}")?)
+        writeln!(self.transcript, "{line}")
     }
 
     /// Writes a line with a word and the bytes of a text in hexadecimal.
-    pub fn write_text(&mut self, word: &str, text: &str) -> Result<(), Stop>
+    pub fn write_text(&mut self, word: &str, text: &str) -> Result<(), AllocError>
         ensures { OnOk result (string_bytes self.new.transcript ≡ string_bytes self.old.transcript ++ (word.now ++ 58 ∷ 32 ∷ (hex text.now ++ 10 ∷ []))) }
     {
         let dump = Wtf8::from_str(text).hex_dump(self.alloc)?;
-        Ok(writeln!(self.transcript, "{word}: {dump}")?)
+        writeln!(self.transcript, "{word}: {dump}")
     }
 
     /// Writes a register, and a string's length and bytes.
-    pub fn write_string(&mut self, at: Register, string: Wtf8<'_>) -> Result<(), Stop> {
-        let index = at.index;
-        write!(self.transcript, "s{index}")?;
+    pub fn write_string(&mut self, at: Register, string: Wtf8<'_>) -> Result<(), AllocError> {
+        write!(self.transcript, "s{}", at.index)?;
         self.write_view(string)
     }
 
     /// Writes the length and the bytes of a view behind a space, to the end of the line.
-    pub fn write_view(&mut self, view: Wtf8<'_>) -> Result<(), Stop> {
-        let len = view.len();
+    pub fn write_view(&mut self, view: Wtf8<'_>) -> Result<(), AllocError> {
         let dump = view.hex_dump(self.alloc)?;
-        Ok(writeln!(self.transcript, " {len}: {dump}")?)
+        writeln!(self.transcript, " {}: {dump}", view.len())
     }
 
     /// Writes an item behind a space, or a word where there is none.
@@ -73,12 +55,15 @@ impl<'s> Tape<'s> {
         }
     }
 
-    /// Writes some items, each behind a space.
-    pub fn write_items<T: Shown>(&mut self, items: &[T]) -> Result<(), AllocError> {
-        for item in items {
-            item.show(&mut self.transcript)?;
-        }
-        Ok(())
+    /// Writes whether a string has as much spare room as was asked.
+    pub fn write_room(&mut self, string: &Wtf8Buf<Global>, asked: usize) -> Result<(), AllocError> {
+        let has_room = asked <= string.capacity() - string.len();
+        writeln!(self.transcript, "room {has_room}")
+    }
+
+    /// Writes whether the capacity is as before.
+    pub fn write_kept(&mut self, is_kept: bool) -> Result<(), AllocError> {
+        writeln!(self.transcript, "room kept {is_kept}")
     }
 }
 

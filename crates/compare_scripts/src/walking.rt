@@ -9,38 +9,29 @@ use std::fmt::Write;
 /// The word for the end of an iterator.
 const END: &str = "end";
 
-/// Writes what each step answers at an iterator, and then all that is left, to the end of the line. The iterator may be
-/// asked at every moment, behind its end too.
+/// Writes what each of the script's next steps answers at an iterator, and then all that is left, to the end of the line.
+/// The iterator may be asked at every moment, behind its end too. `compare/README.md` has the steps.
 pub fn write_steps<T: Shown, I: Iterator<Item = T> + Clone>(
     tape: &mut Tape<'_>,
     mut items: I,
-    steps: &[u8],
 ) -> Result<(), Stop>
     requires { (state : I) → I.can_next state × IsFinite (I.remaining state) }
 {
-    for step in steps {
+    for step in tape.reader.bytes()? {
         match *step {
-            // The next item.
             0 => tape.write_item(items.next(), END)?,
-            // The hint.
             1 => write_hint(tape, items.size_hint())?,
-            // All items of a clone.
             2 => drain(tape, items.clone()?)?,
-            // Going on with a clone.
             3 => items = items.clone()?,
-            // The item behind the next one.
             4 => tape.write_item(items.nth(1), END)?,
-            // The last item of a clone.
             5 => tape.write_item(items.clone()?.last(), END)?,
-            // The item of a clone behind two that are skipped.
             6 => tape.write_item(items.clone()?.skip(2).next(), END)?,
-            // The items of a clone, collected.
             7 => write_collected(tape, items.clone()?)?,
             _ => return Err(Stop::Malformed),
         }
     }
     drain(tape, items)?;
-    tape.write_line("")
+    Ok(tape.write_line("")?)
 }
 
 // Writes how many items are collected, and each.
@@ -53,11 +44,14 @@ fn write_collected<T: Shown, I: Iterator<Item = T>>(
     let items: Vec<T> = items.collect(tape.alloc)?;
     let count = items.len();
     write!(tape.transcript, " {count} items")?;
-    tape.write_items(items.as_slice())
+    for item in &items {
+        item.show(&mut tape.transcript)?;
+    }
+    Ok(())
 }
 
-// Writes the items that are left in brackets, each behind the hint before it, and asks once more at the end.
-fn drain<T: Shown, I: Iterator<Item = T>>(
+/// Writes the items that are left in brackets, each behind the hint before it, and asks once more at the end.
+pub fn drain<T: Shown, I: Iterator<Item = T>>(
     tape: &mut Tape<'_>,
     mut items: I,
 ) -> Result<(), AllocError>

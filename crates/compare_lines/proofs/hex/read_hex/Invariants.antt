@@ -1,8 +1,8 @@
 use Rattle.std.proofs.Common.{◌≡◌, ◌++◌, length, map}
 use Rattle.std.specs.Char.{digit_value}
 use Rattle.std.specs.List.{flat_map}
-use Rattle.compare_replay.specs.Hex.{IsHex, halves}
-use Rattle.compare_replay.proofs.hex.read_hex.Given as goal
+use Rattle.compare_lines.specs.Hex.{IsHex, halves}
+use Rattle.compare_lines.proofs.hex.read_hex.Given as goal
 
 -- the digits so far stand for the bytes so far, and the text is hexadecimal only if the rest is
 abbrev pub invariant-loop-rest : goal.invariant-loop-rest

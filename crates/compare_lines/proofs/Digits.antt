@@ -5,7 +5,7 @@ use Rattle.std.specs.Char.{digit_value}
 use Rattle.std.specs.List.{flat_map}
 use Rattle.std.proofs.lemmas.List.Concat.{flat_map-append}
 use Rattle.std.proofs.lemmas.List.Elements.{All-drop}
-use Rattle.compare_replay.specs.Hex.{IsHex, halves}
+use Rattle.compare_lines.specs.Hex.{IsHex, halves}
 
 -- the byte that two digits stand for has them as its halves
 halves-of_digits : (high low : ℕ) → high < 16 → low < 16 → halves (16 * high + low) ≡ high ∷ low ∷ []

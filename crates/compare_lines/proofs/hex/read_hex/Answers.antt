@@ -1,6 +1,6 @@
 use Rattle.std.proofs.lemmas.List.{take_rest}
-use Rattle.compare_replay.proofs.Digits.{spelled-push, IsHex-behind}
-use Rattle.compare_replay.proofs.hex.read_hex.Goals as goal
+use Rattle.compare_lines.proofs.Digits.{spelled-push, IsHex-behind}
+use Rattle.compare_lines.proofs.hex.read_hex.Goals as goal
 
 pub loop-rest-preserved : goal.loop-rest-preserved
 loop-rest-preserved c =
