@@ -51,9 +51,7 @@ impl Machine {
             42 => write_unit_slice(tape, view)?,
             _ => {
                 let other = self.view(tape.reader.register()?);
-                let order = name_of(view.cmp_units(&other));
-                let turned = name_of(other.cmp_units(&view));
-                writeln!(tape.transcript, "units {order}, turned {turned}")?;
+                write_orders_of_units(tape, &view, &other)?;
             }
         }
         Ok(())
@@ -69,6 +67,17 @@ impl Machine {
         let other = self.read_slice(at, &mut tape.reader);
         Ok(write_comparisons(tape, "views", &own?, &other?)?)
     }
+}
+
+// How two views compare by their units, and the second with the first.
+fn write_orders_of_units(
+    tape: &mut Tape<'_>,
+    own: &Wtf8<'_>,
+    other: &Wtf8<'_>,
+) -> Result<(), AllocError> {
+    let order = name_of(own.cmp_units(other));
+    let turned = name_of(other.cmp_units(own));
+    Ok(writeln!(tape.transcript, "units {order}, turned {turned}")?)
 }
 
 /// The calls that look at what their operands say, a text or code points: writes what they answer.
