@@ -1,12 +1,8 @@
 -- Proofs of the laws of bytes below 80: each is a code point and a unit by itself.
-use Rattle.std.proofs.Common.{◌≡◌, ◌≢◌, ◌<◌, ◌+◌, ◌-◌, ◌/◌, ◌%◌, ℕ, inl, List, [], ◌∷◌, ◌++◌, length, get_or, refl, ap, ◌∙◌, sym, subst, arith, append_assoc}
-use Rattle.std.proofs.Common.{length-append}
-use Rattle.std.proofs.lemmas.List.{append-nil, append_cancel_left, append_cancel_right, drop_at}
-use Rattle.std.proofs.lemmas.List.Elements.{All-cons, All-drop, All-head, All-nil}
-use Rattle.std.specs.List.{All}
-use Rattle.wtf8.specs.Unicode.{units}
-use Rattle.wtf8.specs.Form.{encoding, bytes, Reads, IsForm}
-use Rattle.wtf8.specs.Position.{IsFront, IsBack}
+use Rattle.wtf8.proofs.Common.{◌≡◌, ◌≢◌, ◌<◌, ◌+◌, ◌-◌, ◌/◌, ◌%◌, ℕ, inl, List, [], ◌∷◌, ◌++◌, length, get_or, refl, ap, ◌∙◌, sym, subst, arith, append_assoc}
+use Rattle.wtf8.proofs.Common.{length-append, append-nil, append_cancel_left, drop_at, All-cons, All-drop, All-head, All-nil, All, units, encoding, bytes}
+use Rattle.wtf8.proofs.Common.{Reads, IsForm, IsFront, IsBack}
+use Rattle.std.proofs.lemmas.List.{append_cancel_right}
 use Rattle.wtf8.specs.PositionLaws.{AsciiStandsAlone, AsciiIsOneUnit, AsciiIsNoOtherUnit}
 use Rattle.wtf8.proofs.lemmas.Encoding.{bytes-pushed, row_of, one, two, three, four}
 use Rattle.wtf8.proofs.lemmas.PositionLaws.{front_and_back}

@@ -1,10 +1,6 @@
 -- The order of encodings byte by byte is the order of their code points.
-use Rattle.std.proofs.Common.{◌≡◌, ℕ, ◌+◌, ◌/◌, ◌%◌, ◌<◌, inl, inr, ◌↔◌, List, [], ◌∷◌, ◌++◌, refl, sym, ap, ◌∙◌, arith}
-use Rattle.std.specs.Ordering.{nat_cmp}
-use Rattle.std.specs.Cmp.Lexicographic.{slice_cmp}
-use Rattle.std.proofs.lemmas.Bool.{cases_lt}
-use Rattle.wtf8.specs.Form.{encoding, bytes}
-use Rattle.wtf8.specs.Order.{Before}
+use Rattle.wtf8.proofs.Common.{◌≡◌, ℕ, ◌+◌, ◌/◌, ◌%◌, ◌<◌, inl, inr, ◌↔◌, List, [], ◌∷◌, ◌++◌, refl, sym, ap, ◌∙◌, arith, nat_cmp, slice_cmp, cases_lt}
+use Rattle.wtf8.proofs.Common.{encoding, bytes, Before}
 use Rattle.wtf8.proofs.lemmas.Encoding.{row_of, one, two, three, four}
 use Rattle.wtf8.proofs.lemmas.ListOrder.{less_of, greater_of, cmp_behind, before_two, before_three, before_four, before_of}
 

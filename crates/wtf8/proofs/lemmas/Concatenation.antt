@@ -1,10 +1,6 @@
 -- Lists of code points glued: what they are, that they stay clean, and that they have the units of both.
-use Rattle.std.proofs.Common.{◌≡◌, ℕ, inl, inr, List, [], ◌∷◌, ◌++◌, refl, sym, ap, ◌∙◌, subst, arith, append_assoc}
-use Rattle.std.proofs.lemmas.Bool.{cases_Bool}
-use Rattle.std.proofs.lemmas.List.{append-nil}
-use Rattle.wtf8.specs.Unicode.{IsLead, IsTrail, units, units_of, pair}
-use Rattle.wtf8.specs.Form.{IsClean, Reads}
-use Rattle.wtf8.specs.Concatenation.{MeetsAsPair, is_pair, glue}
+use Rattle.wtf8.proofs.Common.{◌≡◌, ℕ, inl, inr, List, [], ◌∷◌, ◌++◌, refl, sym, ap, ◌∙◌, subst, arith, append_assoc, cases_Bool, append-nil, IsLead, IsTrail}
+use Rattle.wtf8.proofs.Common.{units, units_of, pair, IsClean, Reads, MeetsAsPair, is_pair, glue}
 use Rattle.wtf8.proofs.lemmas.Clean.{clean-append, clean-front, clean-rest}
 use Rattle.wtf8.proofs.lemmas.Meeting.{pair_true, true_pair, meets_by, meets_behind, meets_or_apart, nothing_begins, no_lead, no_trail}
 use Rattle.wtf8.proofs.lemmas.Readings.{same_reading}

@@ -1,9 +1,6 @@
 -- The surrogate that ends a string, in its last three bytes.
-use Rattle.std.proofs.Common.{◌≡◌, ℕ, ◌+◌, ◌-◌, ◌/◌, ◌%◌, ◌≤◌, List, [], ◌∷◌, ◌++◌, length, get_or, refl, sym, ap, ◌∙◌, subst, arith, length-append}
-use Rattle.std.proofs.lemmas.List.{get_or-append-add}
-use Rattle.wtf8.specs.Form.{encoding, bytes, IsWellFormed}
-use Rattle.wtf8.specs.SurrogateSearch.{SurrogateAt}
-use Rattle.wtf8.specs.Unicode.{IsSurrogate}
+use Rattle.wtf8.proofs.Common.{◌≡◌, ℕ, ◌+◌, ◌-◌, ◌/◌, ◌%◌, ◌≤◌, List, [], ◌∷◌, ◌++◌, length, get_or, refl, sym, ap, ◌∙◌, subst, arith, length-append}
+use Rattle.wtf8.proofs.Common.{get_or-append-add, encoding, bytes, IsWellFormed, SurrogateAt, IsSurrogate}
 use Rattle.wtf8.proofs.lemmas.Encoding.{third_row, encoding_three, length-encoding_bounds, length-surrogate, bytes-append, bytes-pushed}
 use Rattle.wtf8.proofs.lemmas.Surrogates.{surrogate_in}
 

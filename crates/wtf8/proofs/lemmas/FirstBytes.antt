@@ -1,9 +1,7 @@
 -- What the first bytes of an encoding say of the code point.
-use Rattle.std.proofs.Common.{◌≡◌, ℕ, ◌+◌, ◌-◌, ◌*◌, ◌/◌, ◌<◌, ◌≤◌, List, ◌++◌, length, get_or, refl, sym, arith, subst}
+use Rattle.wtf8.proofs.Common.{◌≡◌, ℕ, ◌+◌, ◌-◌, ◌*◌, ◌/◌, ◌<◌, ◌≤◌, List, ◌++◌, length, get_or, refl, sym, arith, subst, IsCodePoint, encoding}
+use Rattle.wtf8.proofs.Common.{BeginsWithPoint}
 use Rattle.std.proofs.Math.Nat.{div-div-eq-div-mul}
-use Rattle.wtf8.specs.Unicode.{IsCodePoint}
-use Rattle.wtf8.specs.Form.{encoding}
-use Rattle.wtf8.specs.Gains.{BeginsWithPoint}
 use Rattle.wtf8.proofs.lemmas.Encoding.{row_of, one, two, three, four}
 
 -- what the first bytes of a code point's encoding say of it

@@ -1,12 +1,7 @@
 -- Proofs of the laws of readings and forms: which there are, and that there is one of each.
-use Rattle.std.proofs.Common.{ℕ, inl, inr, List, [], ◌∷◌, refl, sym, ◌∙◌, arith, subst}
-use Rattle.std.specs.List.{All}
-use Rattle.std.proofs.lemmas.Bool.{cases_lt}
-use Rattle.std.proofs.lemmas.List.{append-nil}
-use Rattle.std.proofs.lemmas.List.Elements.{All-nil, All-cons, All-head, All-tail, All-append, All-same}
-use Rattle.wtf8.specs.Unicode.{IsUnit, IsCodePoint, units, units_of}
-use Rattle.wtf8.specs.Form.{IsClean, Reads, encoding, bytes, IsForm}
-use Rattle.wtf8.specs.Concatenation.{glue}
+use Rattle.wtf8.proofs.Common.{ℕ, inl, inr, List, [], ◌∷◌, refl, sym, ◌∙◌, arith, subst, All, cases_lt, append-nil, All-nil, All-cons, All-head, All-tail}
+use Rattle.wtf8.proofs.Common.{All-same, IsUnit, IsCodePoint, units, units_of, IsClean, Reads, encoding, bytes, IsForm, glue}
+use Rattle.std.proofs.lemmas.List.Elements.{All-append}
 use Rattle.wtf8.specs.Laws.{UnitsHaveOneReading, ReadingsAreOfUnits, UnitsHaveOneForm, FormsAreOfOneList, EqualFormsHaveEqualUnits, NoEncodingBeginsAnother}
 use Rattle.wtf8.proofs.lemmas.Clean.{clean-first, clean-rest}
 use Rattle.wtf8.proofs.lemmas.Concatenation.{reads-glue}

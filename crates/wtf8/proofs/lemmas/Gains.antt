@@ -1,16 +1,9 @@
 -- What a call that appends to bytes, or is refused, leaves of the string that holds them.
-use Rattle.std.proofs.Common.{◌≡◌, ◌+◌, ◌-◌, ◌≤◌, List, [], ◌∷◌, ℕ, ◌++◌, length, take, drop, Result, Ok, Err, OnOk, OnErr, IsOk, refl, ap, ◌∙◌, sym, subst}
-use Rattle.std.proofs.Common.{arith}
-use Rattle.std.proofs.lemmas.Bool.{false≢true}
-use Rattle.std.proofs.lemmas.List.{append-nil, drop_all}
-use Rattle.wtf8.specs.Unicode.{units, units_of, pair, IsLead, IsTrail, IsCodePoint}
-use Rattle.wtf8.specs.UnitString.{UnitString}
-use Rattle.wtf8.specs.Appending.{AddsLength, KeepsContents}
-use Rattle.wtf8.specs.Concatenation.{MeetsAsPair}
-use Rattle.wtf8.specs.Form.{encoding, IsWellFormed, IsForm}
-use Rattle.wtf8.specs.Gains.{GainsUnits, FitsUnits}
-use Rattle.wtf8.specs.View.{view_units, view_form}
-use Rattle.wtf8.specs.declared.view.Wtf8.{Wtf8}
+use Rattle.wtf8.proofs.Common.{◌≡◌, ◌+◌, ◌-◌, ◌≤◌, List, [], ◌∷◌, ℕ, ◌++◌, length, take, drop, Result, Ok, Err, OnOk, OnErr, refl, ap, ◌∙◌, sym, subst, arith}
+use Rattle.wtf8.proofs.Common.{false≢true, append-nil, drop_all, units, units_of, pair, IsLead, IsTrail, IsCodePoint, UnitString, KeepsContents, MeetsAsPair}
+use Rattle.wtf8.proofs.Common.{encoding, IsWellFormed, IsForm, GainsUnits, FitsUnits, view_units, view_form, Wtf8}
+use Rattle.std.proofs.Common.{IsOk}
+use Rattle.wtf8.specs.Appending.{AddsLength}
 use Rattle.wtf8.proofs.lemmas.Encoding.{length-surrogate}
 use Rattle.wtf8.proofs.lemmas.Forms.{paired_bytes, meeting_bytes, form_meeting, form_behind, length-joined, length_paired, length_apart}
 use Rattle.wtf8.proofs.lemmas.Meeting.{meets_by}

@@ -1,22 +1,20 @@
 -- Hexadecimal digits in lanes.
-use Rattle.std.proofs.Common.{◌≡◌, ℕ, zero, suc, ◌+◌, ◌*◌, ◌/◌, ◌%◌, ◌<◌, ◌≤◌, false, cond, leb, ltb, inl, inr, List, [], ◌∷◌, ◌++◌, map, length, get_or, take}
-use Rattle.std.proofs.Common.{drop, replicate, refl, sym, ap, ◌∙◌, subst, arith, w8, flat_map, append_assoc, take-append-drop}
+use Rattle.wtf8.proofs.Common.{◌≡◌, ℕ, zero, suc, ◌+◌, ◌*◌, ◌/◌, ◌%◌, ◌<◌, ◌≤◌, false, cond, leb, ltb, inl, inr, List, [], ◌∷◌, ◌++◌, map, length, get_or, take}
+use Rattle.wtf8.proofs.Common.{drop, replicate, refl, sym, ap, ◌∙◌, subst, arith, w8, append_assoc, flat_map-append, lt-leb, cases_Bool, pick_l_whole, Each1}
+use Rattle.wtf8.proofs.Common.{zip2, hex_of, hex, spaced}
+use Rattle.std.proofs.Common.{flat_map, take-append-drop}
 use Rattle.std.specs.List.{range_with_len}
 use Rattle.std.proofs.Math.Seq.{take-add}
-use Rattle.std.proofs.lemmas.List.Concat.{flat_map-append}
-use Rattle.std.proofs.lemmas.Bool.{lt-leb, cases_Bool}
 use Rattle.std.specs.Str.{IsAscii}
 use Rattle.std.proofs.lemmas.Str.{IsAscii-append}
 use Rattle.std.proofs.lemmas.List.FromFn.{get_or-map-range_with_len}
-use Rattle.std.proofs.lemmas.Simd.{swz_l, pick_l_whole, zip2_splat}
+use Rattle.std.proofs.lemmas.Simd.{swz_l, zip2_splat}
 use Rattle.std.proofs.lemmas.Nat.{and_mask}
 use borrow.Rule.Simd.Lanes.{act2}
 use borrow.Table.Row.{s_int}
-use lib.Lanes.{Each1, zip2}
 use mir.Val.{Fits}
 use mir.Syntax.{shr, unsigned, bit_and as bit_and_op}
-use Rattle.wtf8.specs.Hex.{digit, hex_of, hex}
-use Rattle.wtf8.specs.SpacedHex.{spaced}
+use Rattle.wtf8.specs.Hex.{digit}
 
 -- the digits at their values
 abbrev pub table : List ℕ

@@ -1,13 +1,7 @@
 -- The list with U+FFFD in the place of each surrogate.
-use Rattle.std.proofs.Common.{◌≡◌, ℕ, List, [], ◌∷◌, ◌++◌, length, refl, ap, sym, arith, length-append, true, inl, inr, lit≤, lit<}
-use Rattle.std.proofs.lemmas.Bool.{cases_lt, le-leb, lt-leb}
-use Rattle.std.proofs.lemmas.List.{map-append}
-use Rattle.std.specs.Str.{IsUtf8}
-use lib.Utf8.{scalars}
-use Rattle.wtf8.specs.Unicode.{IsSurrogate}
-use Rattle.wtf8.specs.Form.{encoding, bytes, IsClean}
-use Rattle.wtf8.specs.OneForm.{bytes_are_encodes}
-use Rattle.wtf8.specs.Surrogates.{AreScalar, replaced, lossy}
+use Rattle.wtf8.proofs.Common.{◌≡◌, ℕ, List, [], ◌∷◌, ◌++◌, length, refl, ap, sym, arith, length-append, true, inl, inr, lit≤, lit<, cases_lt, le-leb, lt-leb}
+use Rattle.wtf8.proofs.Common.{map-append, IsUtf8, scalars, IsSurrogate, encoding, bytes, IsClean, bytes_are_encodes, AreScalar, lossy}
+use Rattle.wtf8.specs.Surrogates.{replaced}
 use Rattle.wtf8.proofs.lemmas.Clean.{clean-first, clean-rest}
 use Rattle.wtf8.proofs.lemmas.Encoding.{encoding_three, length-surrogate}
 use Rattle.wtf8.proofs.lemmas.Surrogates.{scalar_true}

@@ -1,10 +1,7 @@
 -- Where a lead ends one list and a trail begins another, and where they do not meet so.
-use Rattle.std.proofs.Common.{◌≡◌, ℕ, ◌⊎◌, inl, inr, List, [], ◌∷◌, ◌++◌, drop, get_or, length, true, ◌&&◌, leb, refl, sym, ap, ◌∙◌, subst, arith}
-use Rattle.std.proofs.Common.{length-append}
-use Rattle.std.proofs.lemmas.Bool.{leb-true, le-leb, and_parts, and_from, cases_Bool, false≢true}
-use Rattle.std.proofs.lemmas.List.{same_from_push}
-use Rattle.wtf8.specs.Unicode.{IsLead, IsTrail}
-use Rattle.wtf8.specs.Concatenation.{MeetsAsPair, is_pair}
+use Rattle.wtf8.proofs.Common.{◌≡◌, ℕ, ◌⊎◌, inl, inr, List, [], ◌∷◌, ◌++◌, drop, get_or, length, true, ◌&&◌, leb, refl, sym, ap, ◌∙◌, subst, arith}
+use Rattle.wtf8.proofs.Common.{length-append, leb-true, le-leb, and_parts, and_from, cases_Bool, false≢true, same_from_push, IsLead, IsTrail, MeetsAsPair}
+use Rattle.wtf8.specs.Concatenation.{is_pair}
 
 pub pair_true : (l t : ℕ) → IsLead l → IsTrail t → is_pair l t ≡ true
 unfolding is_pair

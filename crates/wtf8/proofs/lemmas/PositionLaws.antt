@@ -1,10 +1,7 @@
 -- Proofs of the laws of positions and lengths.
-use Rattle.std.proofs.Common.{◌≡◌, ℕ, List, [], ◌++◌, length, refl, ap, ◌∙◌, sym, subst, arith, append_assoc, length-append}
-use Rattle.std.proofs.lemmas.List.{append-nil, append_cancel_left}
-use Rattle.wtf8.specs.Unicode.{units}
-use Rattle.wtf8.specs.Form.{bytes, IsClean, Reads, IsForm}
+use Rattle.wtf8.proofs.Common.{◌≡◌, ℕ, List, [], ◌++◌, length, refl, ap, ◌∙◌, sym, subst, arith, append_assoc, length-append, append-nil, append_cancel_left}
+use Rattle.wtf8.proofs.Common.{units, bytes, IsClean, Reads, IsForm, IsBoundary}
 use Rattle.wtf8.specs.Laws.{FrontAndBackAreWhole}
-use Rattle.wtf8.specs.Position.{IsBoundary}
 use Rattle.wtf8.specs.PositionLaws.{StartIsBoundary, EndIsBoundary, NoneIsBeyondEnd, FrontBoundariesAreOfWhole, WholeBoundariesAreOfFront}
 use Rattle.wtf8.specs.PositionLaws.{WholeBoundariesAreOfBack, BackBoundariesAreOfWhole, BeginningsAreNoLonger, BothAreNoLonger, ListsHaveLengths}
 use Rattle.wtf8.proofs.lemmas.Clean.{clean-front, clean-back}

@@ -1,9 +1,7 @@
 -- Where a string may be cut, and what the parts are.
-use Rattle.std.proofs.Common.{◌≡◌, ◌≤◌, ◌<◌, ℕ, List, [], ◌∷◌, ◌++◌, length, take, drop, get_or, refl, ap, ◌∙◌, sym, subst, arith, append_assoc, length-append}
-use Rattle.std.proofs.lemmas.List.{take_at, drop_at}
-use Rattle.wtf8.specs.Unicode.{units}
-use Rattle.wtf8.specs.Form.{encoding, bytes, IsClean, Reads, IsWellFormed, IsForm}
-use Rattle.wtf8.specs.Position.{Splits, IsBoundary, IsFront, IsBack, IsMiddle}
+use Rattle.wtf8.proofs.Common.{◌≡◌, ◌≤◌, ◌<◌, ℕ, List, [], ◌∷◌, ◌++◌, length, take, drop, get_or, refl, ap, ◌∙◌, sym, subst, arith, append_assoc, length-append}
+use Rattle.wtf8.proofs.Common.{take_at, drop_at, units, encoding, bytes, IsClean, Reads, IsWellFormed, IsForm, IsBoundary, IsFront, IsBack}
+use Rattle.wtf8.specs.Position.{Splits, IsMiddle}
 use Rattle.wtf8.proofs.lemmas.Clean.{clean-front, clean-back}
 use Rattle.wtf8.proofs.lemmas.Encoding.{Begins, length-encoding_bounds, bytes-append}
 use Rattle.wtf8.proofs.lemmas.Readings.{same_heads, same_points, same_reading, well_formed_of}

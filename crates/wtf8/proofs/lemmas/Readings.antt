@@ -1,11 +1,6 @@
 -- Each list of units has one reading at most and one form at most, and bytes determine code points and units.
-use Rattle.std.proofs.Common.{◌≡◌, ℕ, ◌<◌, ◌≤◌, inl, inr, List, [], ◌∷◌, ◌++◌, length, get_or, drop, refl, sym, ap, ◌∙◌, arith, length-append}
-use Rattle.std.proofs.lemmas.Bool.{cases_lt}
-use Rattle.std.proofs.lemmas.List.{drop_all, drop_at}
-use Rattle.wtf8.specs.OneForm.{bytes-injective}
-use Rattle.wtf8.specs.Unicode.{IsCodePoint, IsTrail, units}
-use Rattle.wtf8.specs.Form.{IsClean, bytes, encoding, IsWellFormed, IsForm}
-use Rattle.wtf8.specs.Gains.{BeginsWithPoint}
+use Rattle.wtf8.proofs.Common.{◌≡◌, ℕ, ◌<◌, ◌≤◌, inl, inr, List, [], ◌∷◌, ◌++◌, length, get_or, drop, refl, sym, ap, ◌∙◌, arith, length-append, cases_lt}
+use Rattle.wtf8.proofs.Common.{drop_all, drop_at, bytes-injective, IsCodePoint, IsTrail, units, IsClean, bytes, encoding, IsWellFormed, IsForm, BeginsWithPoint}
 use Rattle.wtf8.proofs.lemmas.Clean.{clean-first, clean-rest}
 use Rattle.wtf8.proofs.lemmas.Units.{lead_of, trail_of, units-cons_one, units-cons_two}
 

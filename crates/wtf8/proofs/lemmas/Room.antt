@@ -1,17 +1,11 @@
 -- Room: how long the forms of parts and of wholes are, and the room that calls find, one after another.
-use Rattle.std.proofs.Common.{◌≡◌, ◌≤◌, ◌+◌, inl, inr, ℕ, List, [], ◌∷◌, ◌++◌, length, take, drop, refl, ap, ◌∙◌, sym, subst, arith, append_assoc}
-use Rattle.std.proofs.Common.{length-append}
-use Rattle.std.specs.List.{All}
-use Rattle.std.proofs.lemmas.List.{length-map, map-append, take_at, drop_at}
-use Rattle.std.proofs.lemmas.List.Elements.{All-take, All-drop, All-same}
-use Rattle.wtf8.specs.Building.{Step, FindsRoom, FindRoom}
-use Rattle.wtf8.specs.declared.build.Build.{Build}
-use Rattle.wtf8.specs.declared.build.Build.TheVariants.{Push, PushChar, PushStr, PushWtf8, Extend, Reserve, Truncate, TruncateUnits}
-use Rattle.wtf8.specs.CodePoint.{number, numbers}
+use Rattle.wtf8.proofs.Common.{◌≡◌, ◌≤◌, ◌+◌, inl, inr, ℕ, List, [], ◌∷◌, ◌++◌, length, take, drop, refl, ap, ◌∙◌, sym, subst, arith, append_assoc}
+use Rattle.wtf8.proofs.Common.{length-append, All, map-append, take_at, drop_at, All-drop, All-same, Step, FindRoom, Build, Push, PushChar, PushStr, PushWtf8}
+use Rattle.wtf8.proofs.Common.{Extend, Reserve, Truncate, TruncateUnits, number, numbers, glue, IsUnit, units_of, units, bytes, encoding, IsForm}
+use Rattle.std.proofs.lemmas.List.{length-map}
+use Rattle.std.proofs.lemmas.List.Elements.{All-take}
+use Rattle.wtf8.specs.Building.{FindsRoom}
 use Rattle.wtf8.specs.declared.code_point.CodePoint.{CodePoint}
-use Rattle.wtf8.specs.Concatenation.{glue}
-use Rattle.wtf8.specs.Unicode.{IsUnit, units_of, units}
-use Rattle.wtf8.specs.Form.{bytes, encoding, IsForm}
 use Rattle.wtf8.proofs.lemmas.Encoding.{length-surrogate}
 use Rattle.wtf8.proofs.lemmas.FormLaws.{one_form, units_read}
 use Rattle.wtf8.proofs.lemmas.Forms.{meeting_bytes, bytes_paired, bytes_apart, length-paired_bytes, form-glue}

@@ -1,16 +1,8 @@
 -- A list of building calls has exactly one outcome and one count of refused truncations.
-use Rattle.std.proofs.Common.{◌≡◌, ◌+◌, ◌⊎◌, inl, inr, ℕ, List, [], ◌∷◌, ◌++◌, length, take, get_or, refl, sym, subst, arith}
-use Rattle.std.proofs.lemmas.Bool.{cases_lt}
-use Rattle.std.proofs.lemmas.List.Elements.{All-nil, All-cons, All-head, All-tail}
-use Rattle.std.specs.List.{All}
-use Rattle.std.specs.Str.{chars}
-use Rattle.wtf8.specs.Unicode.{IsUnit, units_of, units}
-use Rattle.wtf8.specs.CodePoint.{number, numbers}
-use Rattle.wtf8.specs.Form.{IsForm, IsWellFormed}
-use Rattle.wtf8.specs.Position.{IsBoundary, IsFront}
-use Rattle.wtf8.specs.Building.{Step, Run, RunsOnce, RunsAddUp}
-use Rattle.wtf8.specs.declared.build.Build.{Build}
-use Rattle.wtf8.specs.declared.build.Build.TheVariants.{Push, PushChar, PushStr, PushWtf8, Extend, Reserve, Truncate, TruncateUnits}
+use Rattle.wtf8.proofs.Common.{◌≡◌, ◌+◌, ◌⊎◌, inl, inr, ℕ, List, [], ◌∷◌, ◌++◌, length, take, get_or, refl, sym, subst, arith, cases_lt, All-nil, All-cons}
+use Rattle.wtf8.proofs.Common.{All-head, All-tail, All, chars, IsUnit, units_of, units, number, numbers, IsForm, IsWellFormed, IsBoundary, IsFront, Step, Run}
+use Rattle.wtf8.proofs.Common.{Build, Push, PushChar, PushStr, PushWtf8, Extend, Reserve, Truncate, TruncateUnits}
+use Rattle.wtf8.specs.Building.{RunsOnce, RunsAddUp}
 use Rattle.wtf8.proofs.lemmas.Encoding.{Begins}
 use Rattle.wtf8.proofs.lemmas.FormLaws.{one_form, units_read}
 use Rattle.wtf8.proofs.lemmas.Positions.{same_front, cut_at, boundary_from_byte, byte_from_boundary}

@@ -1,18 +1,8 @@
 -- Code points that are scalar values, parts of them, and scalar values behind them.
-use Rattle.std.proofs.Common.{◌≡◌, ℕ, List, [], ◌∷◌, ◌++◌, Bool, true, not, IsTrue, Option, Some, None, is_some, Result, Ok, Err, OnOk, OnErr, ap, ◌∙◌, sym}
-use Rattle.std.proofs.Common.{subst, arith}
-use Rattle.std.proofs.lemmas.Bool.{false≢true}
-use Rattle.std.proofs.lemmas.List.{append-nil}
-use Rattle.std.specs.Str.{chars, IsUtf8}
-use Rattle.std.proofs.lemmas.Str.{scalars-chars}
-use lib.Utf8.{scalars}
-use Rattle.wtf8.specs.Unicode.{IsCodePoint, IsSurrogate, units, units_of}
-use Rattle.wtf8.specs.Concatenation.{MeetsAsPair}
-use Rattle.wtf8.specs.Form.{IsClean, IsWellFormed}
-use Rattle.wtf8.specs.Gains.{GainsUnits}
-use Rattle.wtf8.specs.OneForm.{bytes-injective}
-use Rattle.wtf8.specs.Surrogates.{AreScalar}
-use Rattle.wtf8.specs.SurrogateSearch.{IsFirst, SurrogateAt}
+use Rattle.wtf8.proofs.Common.{◌≡◌, ℕ, List, [], ◌∷◌, ◌++◌, Bool, true, not, IsTrue, Option, Some, None, Result, Ok, Err, OnOk, OnErr, ap, ◌∙◌, sym, subst}
+use Rattle.wtf8.proofs.Common.{arith, false≢true, append-nil, chars, IsUtf8, scalars-chars, scalars, IsCodePoint, IsSurrogate, units, units_of, MeetsAsPair}
+use Rattle.wtf8.proofs.Common.{IsClean, IsWellFormed, GainsUnits, bytes-injective, AreScalar, IsFirst, SurrogateAt}
+use Rattle.std.proofs.Common.{is_some}
 use Rattle.wtf8.proofs.lemmas.Clean.{clean-append}
 use Rattle.wtf8.proofs.lemmas.Gains.{gained_or_kept}
 use Rattle.wtf8.proofs.lemmas.Readings.{form_of, same_reading, same_points}

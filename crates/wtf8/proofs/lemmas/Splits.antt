@@ -1,8 +1,6 @@
 -- Where the bytes of a list of code points may be cut.
-use Rattle.std.proofs.Common.{◌≡◌, ◌-◌, ◌≤◌, ◌<◌, ℕ, zero, suc, inl, inr, List, [], ◌∷◌, ◌++◌, length, get_or, refl, ap, ◌∙◌, sym, subst, arith, length-append}
-use Rattle.std.proofs.lemmas.Bool.{cases_lt}
-use Rattle.std.proofs.lemmas.List.{append-nil, get_or-append_right}
-use Rattle.wtf8.specs.Form.{encoding, bytes}
+use Rattle.wtf8.proofs.Common.{◌≡◌, ◌-◌, ◌≤◌, ◌<◌, ℕ, zero, suc, inl, inr, List, [], ◌∷◌, ◌++◌, length, get_or, refl, ap, ◌∙◌, sym, subst, arith, length-append}
+use Rattle.wtf8.proofs.Common.{cases_lt, append-nil, get_or-append_right, encoding, bytes}
 use Rattle.wtf8.proofs.lemmas.Encoding.{Begins, first-encoding, inside-encoding, length-encoding_bounds, bytes-append}
 
 -- a list of code points as a front whose bytes are so many, and what follows

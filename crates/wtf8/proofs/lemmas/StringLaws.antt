@@ -1,20 +1,16 @@
 -- Proofs of the laws of strings as contracts see them.
-use Rattle.std.proofs.Common.{◌++◌, sym, subst, arith, ◌≢◌, ◌<◌, ◌∙◌, ℕ, List, length, slice_index, ◌↔◌}
-use Rattle.wtf8.specs.Form.{bytes, IsForm, Reads}
+use Rattle.wtf8.proofs.Common.{◌++◌, sym, subst, arith, ◌≢◌, ◌<◌, ◌∙◌, ℕ, List, length, ◌↔◌, bytes, IsForm, Reads, All, glue, AreScalar, view_units, view_form}
+use Rattle.wtf8.proofs.Common.{Wtf8}
+use Rattle.std.proofs.Common.{slice_index}
 use Rattle.std.proofs.lemmas.List.Elements.{All-from_get_or}
-use Rattle.std.specs.List.{All}
-use Rattle.wtf8.specs.Concatenation.{glue}
 use Rattle.wtf8.specs.StringLaws.{EqualBuffersHaveEqualUnits, EqualBufferAndViewHaveEqualUnits, EqualViewsHaveEqualUnits, StringsAreJoined, StringsArePaired}
 use Rattle.wtf8.specs.StringLaws.{TextsAreScalar, RoomLeftIsFound, ScalarsStay, FormsAreOfBuffers, FormsAreOfViews, WhatFitsIsFound}
-use Rattle.wtf8.specs.Surrogates.{AreScalar}
-use Rattle.wtf8.specs.View.{view_units, view_form}
 use Rattle.wtf8.proofs.lemmas.FormLaws.{equal_forms}
 use Rattle.wtf8.proofs.lemmas.Forms.{form-glue, form_paired, form_apart}
 use Rattle.wtf8.proofs.lemmas.PositionLaws.{both_no_longer}
 use Rattle.wtf8.proofs.lemmas.Readings.{same_form, same_reading}
 use Rattle.wtf8.proofs.lemmas.Lossy.{lossy-scalar}
 use Rattle.wtf8.proofs.lemmas.Scalars.{scalar_text}
-use Rattle.wtf8.specs.declared.view.Wtf8.{Wtf8}
 use Rattle.wtf8.proofs.lemmas.AsciiPositions.{ascii_no_other_unit}
 
 pub equal_buffers : EqualBuffersHaveEqualUnits

@@ -1,12 +1,8 @@
 -- What a string has before and behind a number of its units.
-use Rattle.std.proofs.Common.{◌≡◌, ℕ, zero, suc, ◌+◌, ◌≤◌, List, [], ◌∷◌, ◌++◌, length, take, drop, None, Some, refl, sym, ap, ◌∙◌, subst, arith, length-append}
-use Rattle.std.proofs.Common.{append_assoc}
-use Rattle.std.proofs.lemmas.List.{take_at, drop_at}
-use Rattle.std.specs.List.{slice_get}
-use Rattle.wtf8.specs.Unicode.{IsCodePoint, units}
-use Rattle.wtf8.specs.Form.{IsClean, bytes, encoding, IsWellFormed}
-use Rattle.wtf8.specs.Position.{IsFront}
-use Rattle.wtf8.specs.UnitCounts.{Divides, CutsUnits}
+use Rattle.wtf8.proofs.Common.{◌≡◌, ℕ, zero, suc, ◌+◌, ◌≤◌, List, [], ◌∷◌, ◌++◌, length, take, drop, None, Some, refl, sym, ap, ◌∙◌, subst, arith}
+use Rattle.wtf8.proofs.Common.{length-append, append_assoc, take_at, drop_at, slice_get, IsCodePoint, units, IsClean, bytes, encoding, IsWellFormed, IsFront}
+use Rattle.wtf8.proofs.Common.{CutsUnits}
+use Rattle.wtf8.specs.UnitCounts.{Divides}
 use Rattle.wtf8.proofs.lemmas.Clean.{clean-first, clean-front, clean-back, clean-append}
 use Rattle.wtf8.proofs.lemmas.Encoding.{encoding_four, bytes-append, bytes-pushed}
 use Rattle.wtf8.proofs.lemmas.Meeting.{no_trail}

@@ -1,18 +1,9 @@
 -- The order of units: the bytes where two strings first differ, and the strings behind the place where they part.
-use Rattle.std.proofs.Common.{◌≡◌, ◌↔◌, ℕ, zero, suc, Bool, true, false, IsTrue, ◌<◌, ◌≤◌, ◌⊎◌, inl, inr, List, [], ◌∷◌, ◌++◌, length, take, drop, get_or, refl}
-use Rattle.std.proofs.Common.{sym, ap, ◌∙◌, subst, arith, length-append, append_assoc}
-use Rattle.std.proofs.lemmas.Bool.{cases_lt, false≢true, true≢false}
-use Rattle.std.proofs.lemmas.List.{take-append-drop}
-use Rattle.std.proofs.lemmas.Bool.Decides.{nat_tests}
+use Rattle.wtf8.proofs.Common.{◌≡◌, ◌↔◌, ℕ, zero, suc, Bool, true, false, IsTrue, ◌<◌, ◌≤◌, ◌⊎◌, inl, inr, List, [], ◌∷◌, ◌++◌, length, take, drop, get_or}
+use Rattle.wtf8.proofs.Common.{refl, sym, ap, ◌∙◌, subst, arith, length-append, append_assoc, cases_lt, false≢true, take-append-drop, nat_tests, slice_cmp}
+use Rattle.wtf8.proofs.Common.{slice_get, option_cmp, nat_cmp, Greater, units, encoding, bytes, IsWellFormed, IsFirstDifference, PairBegins}
+use Rattle.std.proofs.lemmas.Bool.{true≢false}
 use Rattle.std.specs.Bool.{beq}
-use Rattle.std.specs.Cmp.Lexicographic.{slice_cmp}
-use Rattle.std.specs.List.{slice_get}
-use Rattle.std.specs.Option.{option_cmp}
-use Rattle.std.specs.Ordering.{nat_cmp}
-use Rattle.std.specs.declared.cmp.Ordering.TheVariants.{Greater}
-use Rattle.wtf8.specs.Unicode.{units}
-use Rattle.wtf8.specs.Form.{encoding, bytes, IsWellFormed}
-use Rattle.wtf8.specs.Differences.{IsFirstDifference, PairBegins}
 use Rattle.wtf8.proofs.lemmas.Comparing.{cmp_points}
 use Rattle.wtf8.proofs.lemmas.Encoding.{encoding_same, length-encoding_bounds}
 use Rattle.wtf8.proofs.lemmas.ListOrder.{cmp_less, less_of, greater_of, cmp_behind}

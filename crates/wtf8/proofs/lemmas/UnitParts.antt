@@ -1,15 +1,10 @@
 -- Units turned into bytes part by part: where parts meet, and the form of all that was read.
-use Rattle.std.proofs.Common.{◌≡◌, ℕ, ◌+◌, ◌<◌, ◌≤◌, Bool, IsTrue, List, [], ◌∷◌, ◌++◌, length, take, drop, get_or, refl, sym, ap, ◌∙◌, subst, arith}
-use Rattle.std.proofs.Common.{length-append}
-use Rattle.std.proofs.lemmas.List.{get_or-append-add, take-append-drop, take_all}
-use Rattle.std.proofs.lemmas.Simd.{Each1-get_or, Each1-weaker, length-chunk}
+use Rattle.wtf8.proofs.Common.{◌≡◌, ℕ, ◌+◌, ◌<◌, ◌≤◌, Bool, IsTrue, List, [], ◌∷◌, ◌++◌, length, take, drop, get_or, refl, sym, ap, ◌∙◌, subst, arith}
+use Rattle.wtf8.proofs.Common.{length-append, get_or-append-add, take-append-drop, take_all, Each1-weaker, length-chunk, MeetsAsPair, IsClean, bytes}
+use Rattle.wtf8.proofs.Common.{bytes-injective, AreScalar, IsSurrogate, units, IsKnownForm, DividesNoPair, AreAscii, IsBlock}
+use Rattle.std.proofs.lemmas.Simd.{Each1-get_or}
 use Rattle.std.proofs.Math.Seq.{get_or-append_seam, take-add}
-use Rattle.wtf8.specs.Concatenation.{MeetsAsPair}
-use Rattle.wtf8.specs.Form.{IsClean, bytes}
-use Rattle.wtf8.specs.OneForm.{bytes-injective}
-use Rattle.wtf8.specs.Surrogates.{AreScalar}
-use Rattle.wtf8.specs.Unicode.{IsSurrogate, units}
-use Rattle.wtf8.specs.UnitParts.{IsKnownForm, DividesNoPair, AreAscii, AreScalarUnits, IsBlock}
+use Rattle.wtf8.specs.UnitParts.{AreScalarUnits}
 use Rattle.wtf8.proofs.lemmas.Encoding.{encoding_one, bytes-append}
 use Rattle.wtf8.proofs.lemmas.Forms.{form_apart}
 use Rattle.wtf8.proofs.lemmas.Meeting.{meets_by}

@@ -1,12 +1,6 @@
 -- Where code points part in one row of the table, the order of their bytes is the order of their units.
-use Rattle.std.proofs.Common.{◌≡◌, ◌≢◌, ◌↔◌, ℕ, zero, suc, ◌+◌, ◌/◌, ◌%◌, ◌<◌, inl, inr, List, [], ◌∷◌, ◌++◌, drop, get_or, refl, sym, ap, ◌∙◌, subst, arith}
-use Rattle.std.proofs.lemmas.Bool.{cases_lt}
-use Rattle.std.specs.Cmp.Lexicographic.{slice_cmp}
-use Rattle.std.specs.Ordering.{nat_cmp}
-use Rattle.wtf8.specs.Unicode.{units, units_of}
-use Rattle.wtf8.specs.Form.{encoding, bytes}
-use Rattle.wtf8.specs.Order.{Before}
-use Rattle.wtf8.specs.Differences.{IsFirstDifference, PairBegins}
+use Rattle.wtf8.proofs.Common.{◌≡◌, ◌≢◌, ◌↔◌, ℕ, zero, suc, ◌+◌, ◌/◌, ◌%◌, ◌<◌, inl, inr, List, [], ◌∷◌, ◌++◌, drop, get_or, refl, sym, ap, ◌∙◌, subst, arith}
+use Rattle.wtf8.proofs.Common.{cases_lt, slice_cmp, nat_cmp, units, units_of, encoding, bytes, Before, IsFirstDifference, PairBegins}
 use Rattle.wtf8.proofs.lemmas.Encoding.{row_of, one, two, three, four}
 use Rattle.wtf8.proofs.lemmas.ListOrder.{less_of, greater_of, cmp_behind, before_two}
 use Rattle.wtf8.proofs.lemmas.Units.{lead_of, trail_of, units-cons_one, units-cons_two}

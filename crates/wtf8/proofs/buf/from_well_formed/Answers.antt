@@ -1,6 +1,5 @@
-use Rattle.std.proofs.Common.{ap, refl}
+use Rattle.wtf8.proofs.Common.{ap, refl, units}
 use Rattle.wtf8.proofs.lemmas.Readings.{same_points}
-use Rattle.wtf8.specs.Unicode.{units}
 use Rattle.wtf8.proofs.buf.from_well_formed.Goals as goal
 
 pub invariant_of-result : goal.invariant_of-result

@@ -1,9 +1,4 @@
-use Rattle.std.proofs.Common.{sym, subst, arith, length-append}
-use Rattle.std.proofs.lemmas.Result.{on_ok_weaker}
-use Rattle.wtf8.specs.CodePoint.{number}
-use Rattle.wtf8.specs.Form.{encoding}
-use Rattle.wtf8.specs.Gains.{GainsUnits}
-use Rattle.wtf8.specs.Unicode.{units_of}
+use Rattle.wtf8.proofs.Common.{sym, subst, arith, length-append, on_ok_weaker, number, encoding, GainsUnits, units_of}
 use Rattle.wtf8.proofs.lemmas.Gains.{gains_point, fits_length}
 use Rattle.wtf8.proofs.concat.push_apart.Goals as goal
 

@@ -1,9 +1,5 @@
-use Rattle.std.proofs.Common.{◌≡◌, ◌-◌, take, length, ◌++◌, arith, ap, ◌∙◌, sym, subst, List, ℕ, [], ◌∷◌, refl}
-use Rattle.std.proofs.lemmas.Result.{on_ok_weaker}
-use Rattle.wtf8.specs.CodePoint.{number}
-use Rattle.wtf8.specs.Unicode.{pair, units_of, IsLead, IsTrail}
-use Rattle.wtf8.specs.Form.{encoding, IsWellFormed}
-use Rattle.wtf8.specs.Gains.{GainsUnits}
+use Rattle.wtf8.proofs.Common.{◌≡◌, ◌-◌, take, length, ◌++◌, arith, ap, ◌∙◌, sym, subst, List, ℕ, [], ◌∷◌, refl, on_ok_weaker, number, pair, units_of, IsLead}
+use Rattle.wtf8.proofs.Common.{IsTrail, encoding, IsWellFormed, GainsUnits}
 use Rattle.wtf8.proofs.lemmas.Gains.{Joined, joined, fits_length}
 use Rattle.wtf8.proofs.lemmas.Meeting.{meets_same}
 use Rattle.wtf8.proofs.lemmas.Readings.{same_points}

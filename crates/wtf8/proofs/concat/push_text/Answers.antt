@@ -1,8 +1,4 @@
-use Rattle.std.proofs.Common.{◌++◌, ◌∙◌, ap, sym, subst, arith, length-append}
-use Rattle.std.proofs.lemmas.Result.{on_ok_weaker}
-use Rattle.std.specs.Str.{chars}
-use Rattle.wtf8.specs.Gains.{GainsUnits}
-use Rattle.wtf8.specs.Unicode.{units}
+use Rattle.wtf8.proofs.Common.{◌++◌, ◌∙◌, ap, sym, subst, arith, length-append, on_ok_weaker, chars, GainsUnits, units}
 use Rattle.wtf8.proofs.lemmas.Gains.{gains_behind, fits_length}
 use Rattle.wtf8.proofs.lemmas.Scalars.{scalar_behind, scalar_text}
 use Rattle.wtf8.proofs.lemmas.Texts.{well_formed_text}

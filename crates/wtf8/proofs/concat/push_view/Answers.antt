@@ -1,9 +1,5 @@
-use Rattle.std.proofs.Common.{◌∙◌, ◌≡◌, ◌+◌, ◌≤◌, ◌++◌, ◌∷◌, [], List, ℕ, length, refl, sym, subst, arith, length-append}
-use Rattle.std.proofs.lemmas.Result.{on_ok_weaker}
-use Rattle.wtf8.specs.Concatenation.{MeetsAsPair}
-use Rattle.wtf8.specs.Gains.{GainsUnits}
-use Rattle.wtf8.specs.Form.{IsWellFormed}
-use Rattle.wtf8.specs.Unicode.{units, IsLead, IsTrail}
+use Rattle.wtf8.proofs.Common.{◌∙◌, ◌≡◌, ◌+◌, ◌≤◌, ◌++◌, ◌∷◌, [], List, ℕ, length, refl, sym, subst, arith, length-append, on_ok_weaker, MeetsAsPair}
+use Rattle.wtf8.proofs.Common.{GainsUnits, IsWellFormed, units, IsLead, IsTrail}
 use Rattle.wtf8.proofs.lemmas.Forms.{paired_bytes, meeting_bytes, length-paired_bytes}
 use Rattle.wtf8.proofs.lemmas.Gains.{gains_meeting, gains_behind, fits_length}
 use Rattle.wtf8.proofs.lemmas.Meeting.{meets_by, meets_same}

@@ -1,7 +1,6 @@
-use Rattle.std.proofs.Common.{◌≡◌, ◌++◌, ◌∷◌, sym, ap, ◌∙◌, arith, append_assoc, flat_map, rules}
+use Rattle.wtf8.proofs.Common.{◌≡◌, ◌++◌, ◌∷◌, sym, ap, ◌∙◌, arith, append_assoc, rules, spaced, hex, hex_of}
+use Rattle.std.proofs.Common.{flat_map}
 use Rattle.std.proofs.lemmas.List.{take_rest}
-use Rattle.wtf8.specs.SpacedHex.{spaced}
-use Rattle.wtf8.specs.Hex.{hex, hex_of}
 use Rattle.wtf8.proofs.lemmas.HexLanes.{more_spaced, all_spaced}
 use Rattle.wtf8.proofs.digits.push_hex.Goals as goal
 

@@ -1,6 +1,4 @@
-use Rattle.std.proofs.Common.{◌≡◌, ◌++◌, ◌∷◌, IfSome, refl, subst, sym, lit≤, lit<}
-use Rattle.wtf8.specs.Form.{bytes}
-use Rattle.wtf8.specs.Surrogates.{lossy}
+use Rattle.wtf8.proofs.Common.{◌≡◌, ◌++◌, ◌∷◌, IfSome, refl, subst, sym, lit≤, lit<, bytes, lossy}
 use Rattle.wtf8.specs.View.{view_points}
 use Rattle.wtf8.proofs.lemmas.DebugTexts.{continued, written_as}
 use Rattle.wtf8.proofs.lemmas.Encoding.{encoding_three}

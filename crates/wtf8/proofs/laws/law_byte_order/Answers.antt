@@ -1,6 +1,4 @@
-use Rattle.std.proofs.Common.{ap}
-use Rattle.wtf8.specs.Form.{bytes}
-use Rattle.wtf8.specs.OneForm.{bytes-injective}
+use Rattle.wtf8.proofs.Common.{ap, bytes, bytes-injective}
 use Rattle.wtf8.proofs.lemmas.ByteOrder.{before_bytes, cmp-bytes}
 use Rattle.wtf8.proofs.lemmas.ListOrder.{order_of}
 use Rattle.wtf8.proofs.laws.law_byte_order.Goals as goal

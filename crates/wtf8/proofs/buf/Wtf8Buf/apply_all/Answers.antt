@@ -1,12 +1,9 @@
-use Rattle.std.proofs.Common.{◌≡◌, ◌≤◌, ◌<◌, ◌+◌, ◌++◌, ◌∷◌, [], ◌∙◌, length, take, drop, cond, arith, ap, sym, subst, inl, inr, append_assoc}
-use Rattle.std.proofs.lemmas.Bool.{false≢true, cases_lt}
-use Rattle.std.proofs.lemmas.List.{append-nil}
+use Rattle.wtf8.proofs.Common.{◌≡◌, ◌≤◌, ◌<◌, ◌+◌, ◌++◌, ◌∷◌, [], ◌∙◌, length, take, drop, cond, arith, ap, sym, subst, inl, inr, append_assoc, false≢true}
+use Rattle.wtf8.proofs.Common.{cases_lt, append-nil, Run, Append, FindRoom, IsForm}
 use Rattle.std.proofs.lemmas.Option.{MatchOption-at_some}
-use Rattle.wtf8.specs.Building.{Run, Append, FindRoom}
 use Rattle.wtf8.proofs.lemmas.Lists.{item_at, items_more}
 use Rattle.wtf8.proofs.lemmas.Room.{Found, found_more, wider, beginning}
 use Rattle.wtf8.proofs.lemmas.Runs.{run_more, step_appends, no_truncation, call_among, counted, not_counted, among}
-use Rattle.wtf8.specs.Form.{IsForm}
 use Rattle.wtf8.proofs.buf.Wtf8Buf.apply_all.Goals as goal
 use Rattle.wtf8.proofs.buf.Wtf8Buf.apply_all.Goals.{then-not-kept, else-not-kept}
 

@@ -1,7 +1,5 @@
-use Rattle.std.proofs.Common.{ap, ◌∙◌}
+use Rattle.wtf8.proofs.Common.{ap, ◌∙◌, UnitString, units}
 use Rattle.wtf8.proofs.lemmas.Readings.{same_points}
-use Rattle.wtf8.specs.UnitString.{UnitString}
-use Rattle.wtf8.specs.Unicode.{units}
 use Rattle.wtf8.proofs.buf.Wtf8Buf.as_wtf8.Goals as goal
 
 pub from_well_formed-requires : goal.from_well_formed-requires

@@ -1,8 +1,5 @@
-use Rattle.std.proofs.Common.{◌≡◌, ◌+◌, ◌++◌, ◌∷◌, ◌<◌, ◌∙◌, length, take, drop, arith, ap, sym, subst, append_assoc}
-use Rattle.std.proofs.lemmas.Bool.{false≢true}
-use Rattle.wtf8.specs.CodePoint.{number, numbers}
-use Rattle.wtf8.specs.Form.{IsForm}
-use Rattle.wtf8.specs.Unicode.{units, units_of}
+use Rattle.wtf8.proofs.Common.{◌≡◌, ◌+◌, ◌++◌, ◌∷◌, ◌<◌, ◌∙◌, length, take, drop, arith, ap, sym, subst, append_assoc, false≢true, number, numbers, IsForm}
+use Rattle.wtf8.proofs.Common.{units, units_of}
 use Rattle.wtf8.proofs.lemmas.Lists.{item_at}
 use Rattle.wtf8.proofs.lemmas.Room.{beginning, extended_length, units-points}
 use Rattle.wtf8.proofs.buf.Wtf8Buf.extend_from_points.Goals as goal

@@ -1,6 +1,4 @@
-use Rattle.std.proofs.Common.{◌≡◌, ◌++◌, ◌≤◌, take}
-use Rattle.wtf8.specs.CodePoint.{numbers}
-use Rattle.wtf8.specs.Unicode.{units}
+use Rattle.wtf8.proofs.Common.{◌≡◌, ◌++◌, ◌≤◌, take, numbers, units}
 use Rattle.wtf8.proofs.buf.Wtf8Buf.extend_from_points.Given as goal
 
 -- the points so far are appended, and the capacity is no smaller

@@ -1,6 +1,4 @@
-use Rattle.std.proofs.Common.{ap, subst, ◌∙◌}
-use Rattle.wtf8.specs.SurrogateSearch.{SurrogateAt}
-use Rattle.wtf8.specs.UnitString.{UnitString}
+use Rattle.wtf8.proofs.Common.{ap, subst, ◌∙◌, SurrogateAt, UnitString}
 use Rattle.wtf8.proofs.lemmas.Surrogates.{none_from_scalar}
 use Rattle.wtf8.proofs.buf.Wtf8Buf.first_surrogate.Goals as goal
 

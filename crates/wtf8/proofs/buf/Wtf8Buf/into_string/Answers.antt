@@ -1,7 +1,4 @@
-use Rattle.std.proofs.Common.{ap, refl, sym, subst}
-use Rattle.std.proofs.lemmas.Bool.{false≢true}
-use Rattle.std.specs.Str.{IsUtf8}
-use Rattle.wtf8.specs.UnitString.{UnitString}
+use Rattle.wtf8.proofs.Common.{ap, refl, sym, subst, false≢true, IsUtf8, UnitString}
 use Rattle.wtf8.proofs.lemmas.Readings.{well_formed_of}
 use Rattle.wtf8.proofs.lemmas.Surrogates.{scalar_if_none, not_scalar_if_some, utf8_if_none}
 use Rattle.wtf8.proofs.lemmas.StringLaws.{scalar_in_each_reading}

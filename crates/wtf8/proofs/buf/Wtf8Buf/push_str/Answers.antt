@@ -1,6 +1,4 @@
-use Rattle.wtf8.specs.UnitString.{UnitString}
-use Rattle.std.proofs.Common.{ap, arith, length, refl}
-use Rattle.wtf8.specs.Unicode.{units}
+use Rattle.wtf8.proofs.Common.{UnitString, ap, arith, length, refl, units}
 use Rattle.wtf8.proofs.lemmas.Gains.{gained_units, kept_contents}
 use Rattle.wtf8.proofs.lemmas.Scalars.{known_gained, scalar_text}
 use Rattle.wtf8.proofs.lemmas.Texts.{well_formed_text}

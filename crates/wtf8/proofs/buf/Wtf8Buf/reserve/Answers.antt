@@ -1,7 +1,5 @@
-use Rattle.std.proofs.Common.{ap, ◌∙◌}
+use Rattle.wtf8.proofs.Common.{ap, ◌∙◌, UnitString, units}
 use Rattle.wtf8.proofs.lemmas.Readings.{moved, same_points}
-use Rattle.wtf8.specs.UnitString.{UnitString}
-use Rattle.wtf8.specs.Unicode.{units}
 use Rattle.wtf8.proofs.buf.Wtf8Buf.reserve.Goals as goal
 
 pub invariant_of-self-inside : goal.invariant_of-self-inside

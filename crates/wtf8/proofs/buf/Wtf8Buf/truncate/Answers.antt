@@ -1,12 +1,7 @@
-use Rattle.std.proofs.Common.{◌∙◌, ap, sym, subst, arith, length, length-take, IsTrue}
-use Rattle.wtf8.specs.UnitString.{UnitString}
-use Rattle.wtf8.specs.Unicode.{units}
-use Rattle.wtf8.specs.Position.{IsBoundary, IsFront}
+use Rattle.wtf8.proofs.Common.{◌∙◌, ap, sym, subst, arith, length, length-take, IsTrue, UnitString, units, IsBoundary, IsFront, IsWellFormed, AreScalar}
 use Rattle.wtf8.proofs.lemmas.Positions.{cut_at}
 use Rattle.wtf8.proofs.lemmas.Readings.{moved, same_points, no_points}
 use Rattle.wtf8.proofs.lemmas.Scalars.{scalar-front}
-use Rattle.wtf8.specs.Form.{IsWellFormed}
-use Rattle.wtf8.specs.Surrogates.{AreScalar}
 use Rattle.wtf8.proofs.buf.Wtf8Buf.truncate.Goals as goal
 use Rattle.wtf8.proofs.buf.Wtf8Buf.truncate.Goals.{then-new_len-eq0, else-new_len-eq0}
 

@@ -1,10 +1,4 @@
-use Rattle.std.proofs.Common.{◌∙◌, ◌++◌, ap, sym, subst, arith, inl, refl, length, take}
-use Rattle.std.proofs.lemmas.Bool.{false≢true}
-use Rattle.wtf8.specs.Form.{encoding}
-use Rattle.wtf8.specs.Position.{IsFront}
-use Rattle.wtf8.specs.UnitString.{UnitString}
-use Rattle.wtf8.specs.Unicode.{units}
-use Rattle.wtf8.specs.UnitCounts.{CutsUnits}
+use Rattle.wtf8.proofs.Common.{◌∙◌, ◌++◌, ap, sym, subst, arith, inl, refl, length, take, false≢true, encoding, IsFront, UnitString, units, CutsUnits}
 use Rattle.wtf8.proofs.lemmas.Positions.{same_front}
 use Rattle.wtf8.proofs.lemmas.Readings.{moved, same_points}
 use Rattle.wtf8.proofs.lemmas.UnitCuts.{undivided, divided, in_range, front_at, lead_kept, lead_kept_units}

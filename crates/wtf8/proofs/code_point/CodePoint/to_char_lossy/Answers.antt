@@ -1,9 +1,5 @@
-use Rattle.std.proofs.Common.{◌≡◌, ◌↔◌, ℕ, Option, None, Some, IfSome, refl, sym, ◌∙◌}
-use Rattle.std.proofs.lemmas.Bool.{false≢true}
+use Rattle.wtf8.proofs.Common.{◌≡◌, ◌↔◌, ℕ, Option, None, Some, IfSome, refl, sym, ◌∙◌, false≢true, number, replaced, IsSurrogate}
 use Rattle.std.specs.Option.{IsNone, unwrap_or}
-use Rattle.wtf8.specs.CodePoint.{number}
-use Rattle.wtf8.specs.Surrogates.{replaced}
-use Rattle.wtf8.specs.Unicode.{IsSurrogate}
 use Rattle.wtf8.proofs.lemmas.Lossy.{replaced_surrogate, replaced_scalar}
 use Rattle.wtf8.proofs.code_point.CodePoint.to_char_lossy.Goals as goal
 

@@ -1,7 +1,5 @@
-use Rattle.std.proofs.Common.{refl}
-use Rattle.wtf8.specs.View.{view_form}
+use Rattle.wtf8.proofs.Common.{refl, view_form, false≢true}
 use Rattle.wtf8.proofs.lemmas.StringLaws.{scalar_in_each_reading}
-use Rattle.std.proofs.lemmas.Bool.{false≢true}
 use Rattle.wtf8.proofs.lemmas.Surrogates.{scalar_if_none, not_scalar_if_some, utf8_if_none}
 use Rattle.wtf8.proofs.view.Wtf8.as_str.Goals as goal
 

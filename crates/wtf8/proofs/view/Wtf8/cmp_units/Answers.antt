@@ -1,7 +1,4 @@
-use Rattle.std.proofs.Common.{◌∙◌, ap}
-use Rattle.std.specs.List.{slice_get}
-use Rattle.std.specs.Option.{option_cmp}
-use Rattle.std.specs.Ordering.{nat_cmp}
+use Rattle.wtf8.proofs.Common.{◌∙◌, ap, slice_get, option_cmp, nat_cmp}
 use Rattle.wtf8.proofs.lemmas.ListOrder.{ordered}
 use Rattle.wtf8.proofs.lemmas.Positions.{boundary_of}
 use Rattle.wtf8.proofs.lemmas.UnitOrder.{both_or_neither, parts_there, bytes_order, rests_order}

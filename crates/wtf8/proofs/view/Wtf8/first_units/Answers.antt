@@ -1,7 +1,4 @@
-use Rattle.std.proofs.Common.{◌∙◌, [], ◌∷◌, ◌++◌, ap, sym, subst, arith}
-use Rattle.std.proofs.lemmas.List.{append-nil}
-use Rattle.wtf8.specs.Unicode.{units}
-use Rattle.wtf8.specs.UnitCounts.{CutsUnits}
+use Rattle.wtf8.proofs.Common.{◌∙◌, [], ◌∷◌, ◌++◌, ap, sym, subst, arith, append-nil, units, CutsUnits}
 use Rattle.wtf8.proofs.lemmas.Positions.{points_before}
 use Rattle.wtf8.proofs.lemmas.UnitCuts.{undivided, divided, in_range}
 use Rattle.wtf8.proofs.view.Wtf8.first_units.Goals as goal

@@ -1,8 +1,6 @@
-use Rattle.std.proofs.Common.{◌∙◌, ap, sym}
-use Rattle.wtf8.specs.Unicode.{units}
+use Rattle.wtf8.proofs.Common.{◌∙◌, ap, sym, units, view_units}
 use Rattle.wtf8.proofs.lemmas.Positions.{cut_at}
 use Rattle.wtf8.proofs.lemmas.Readings.{moved}
-use Rattle.wtf8.specs.View.{view_units}
 use Rattle.wtf8.proofs.lemmas.PositionLaws.{front_and_back}
 use Rattle.wtf8.proofs.view.Wtf8.slice_to.Goals as goal
 

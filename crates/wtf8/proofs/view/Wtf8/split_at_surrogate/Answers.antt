@@ -1,7 +1,4 @@
-use Rattle.std.proofs.Common.{◌∷◌, ◌++◌, ◌∙◌, ap, sym, subst}
-use Rattle.std.specs.Str.{IsUtf8}
-use Rattle.wtf8.specs.Form.{bytes}
-use Rattle.wtf8.specs.Surrogates.{lossy}
+use Rattle.wtf8.proofs.Common.{◌∷◌, ◌++◌, ◌∙◌, ap, sym, subst, IsUtf8, bytes, lossy}
 use Rattle.wtf8.proofs.lemmas.Lossy.{lossy-scalar}
 use Rattle.wtf8.proofs.lemmas.Readings.{moved, same_points}
 use Rattle.wtf8.proofs.lemmas.Replacement.{parted}

@@ -1,9 +1,5 @@
-use Rattle.std.proofs.Common.{◌≡◌, ℕ, List, ◌++◌, ◌∙◌, ◌∷◌, length, arith, ap, sym, subst}
-use Rattle.std.proofs.lemmas.Bool.Decides.{nat_tests}
+use Rattle.wtf8.proofs.Common.{◌≡◌, ℕ, List, ◌++◌, ◌∙◌, ◌∷◌, length, arith, ap, sym, subst, nat_tests, number, encoding, IsCodePoint}
 use Rattle.wtf8.proofs.lemmas.Readings.{no_points, first_of, taken, same_points}
-use Rattle.wtf8.specs.CodePoint.{number}
-use Rattle.wtf8.specs.Form.{encoding}
-use Rattle.wtf8.specs.Unicode.{IsCodePoint}
 use Rattle.wtf8.proofs.view.Wtf8.split_first.Goals as goal
 
 -- a code point and its width were read at the front of bytes

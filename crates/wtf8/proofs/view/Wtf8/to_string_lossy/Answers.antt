@@ -1,6 +1,4 @@
-use Rattle.std.proofs.Common.{ap, sym, ◌∙◌, subst, refl}
-use Rattle.std.specs.Str.{IsUtf8}
-use Rattle.wtf8.specs.Form.{bytes}
+use Rattle.wtf8.proofs.Common.{ap, sym, ◌∙◌, subst, refl, IsUtf8, bytes}
 use Rattle.wtf8.proofs.lemmas.Lossy.{utf8_lossy_points, lossy-scalar}
 use Rattle.wtf8.proofs.lemmas.Readings.{moved}
 use Rattle.wtf8.proofs.view.Wtf8.to_string_lossy.Goals as goal

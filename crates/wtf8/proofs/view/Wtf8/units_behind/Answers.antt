@@ -1,6 +1,4 @@
-use Rattle.std.proofs.Common.{◌∙◌, ◌+◌, [], ◌∷◌, ◌++◌, ap, sym, subst}
-use Rattle.wtf8.specs.Unicode.{units}
-use Rattle.wtf8.specs.UnitCounts.{CutsUnits}
+use Rattle.wtf8.proofs.Common.{◌∙◌, ◌+◌, [], ◌∷◌, ◌++◌, ap, sym, subst, units, CutsUnits}
 use Rattle.wtf8.proofs.lemmas.Positions.{boundary_of, points_behind}
 use Rattle.wtf8.proofs.lemmas.UnitCuts.{undivided, divided}
 use Rattle.wtf8.proofs.lemmas.Units.{trail_of}
