@@ -19,11 +19,10 @@ glue_meeting c d m = ap (λ x. glue x d) m.ends ∙ (ap (glue (m.front ++ m.lead
 pub glue_apart : (c d : List ℕ) → ¬ (MeetsAsPair c d) → glue c d ≡ c ++ d
 glue_apart [] d n = refl
 glue_apart (p ∷ []) [] n = refl
-glue_apart (p ∷ []) (q ∷ d) n =
-    elim (cases_Bool (is_pair p q)) [
-      | inl e ↦ let h = true_pair p q e in absurd (n (meets_by [] d p q h.0 h.1 refl refl))
-      | inr e ↦ rw e refl
-    ]
+glue_apart (p ∷ []) (q ∷ d) n = elim (cases_Bool (is_pair p q)) [
+  | inl e ↦ let h = true_pair p q e in absurd (n (meets_by [] d p q h.0 h.1 refl refl))
+  | inr e ↦ rw e refl
+]
 glue_apart (p ∷ q ∷ c) d n = ap (λ e. p ∷ e) (glue_apart (q ∷ c) d (λ m. n (meets_behind p m)))
 
 clean-paired : (f : List ℕ) (l t : ℕ) (r : List ℕ) → IsClean (f ++ l ∷ []) → IsClean (t ∷ r) → IsLead l → IsTrail t → IsClean (f ++ pair l t ∷ r)
@@ -32,12 +31,11 @@ clean-paired f l t r x y h k =
     clean-append f (pair l t ∷ r) (clean-front f (l ∷ []) x) behind (no_trail (pair l t) r (λ p. omega (arith, p.1)))
 
 clean-glue : (c d : List ℕ) → IsClean c → IsClean d → IsClean (glue c d)
-clean-glue c d x y =
-    elim (meets_or_apart c d) [
-      | inl m ↦ subst IsClean (sym (glue_meeting c d m)) (clean-paired m.front m.lead m.trail m.rest (subst IsClean m.ends x)
-          (subst IsClean m.begins y) m.is_lead m.is_trail)
-      | inr n ↦ subst IsClean (sym (glue_apart c d n)) (clean-append c d x y n)
-    ]
+clean-glue c d x y = elim (meets_or_apart c d) [
+  | inl m ↦ subst IsClean (sym (glue_meeting c d m)) (clean-paired m.front m.lead m.trail m.rest (subst IsClean m.ends x)
+      (subst IsClean m.begins y) m.is_lead m.is_trail)
+  | inr n ↦ subst IsClean (sym (glue_apart c d n)) (clean-append c d x y n)
+]
 
 units-paired : (p q : ℕ) (d : List ℕ) → IsLead p → IsTrail q → units (pair p q ∷ d) ≡ units (p ∷ []) ++ units (q ∷ d)
 units-paired p q d h k =
@@ -47,11 +45,10 @@ units-paired p q d h k =
 units-glue : (c d : List ℕ) → units (glue c d) ≡ units c ++ units d
 units-glue [] d = refl
 units-glue (p ∷ []) [] = sym (append-nil (units (p ∷ [])))
-units-glue (p ∷ []) (q ∷ d) =
-    elim (cases_Bool (is_pair p q)) [
-      | inl e ↦ let h = true_pair p q e in rw e (units-paired p q d h.0 h.1)
-      | inr e ↦ rw e (ap (λ u. u ++ units (q ∷ d)) (sym (append-nil (units_of p))))
-    ]
+units-glue (p ∷ []) (q ∷ d) = elim (cases_Bool (is_pair p q)) [
+  | inl e ↦ let h = true_pair p q e in rw e (units-paired p q d h.0 h.1)
+  | inr e ↦ rw e (ap (λ u. u ++ units (q ∷ d)) (sym (append-nil (units_of p))))
+]
 units-glue (p ∷ q ∷ c) d = ap (λ u. units_of p ++ u) (units-glue (q ∷ c) d) ∙ sym (append_assoc (units_of p) (units (q ∷ c)) (units d))
 
 -- two readings glued read the units of both
@@ -67,6 +64,5 @@ pub glue_assoc : (c d e : List ℕ) → IsClean c → IsClean d → IsClean e �
 glue_assoc c d e x y z =
     let left = clean-glue (glue c d) e (clean-glue c d x y) z in
     let right = clean-glue c (glue d e) x (clean-glue d e y z) in
-    same_reading (glue (glue c d) e) (glue c (glue d e)) left right
-    (units-glue (glue c d) e ∙ (ap (λ u. u ++ units e) (units-glue c d)
+    same_reading (glue (glue c d) e) (glue c (glue d e)) left right (units-glue (glue c d) e ∙ (ap (λ u. u ++ units e) (units-glue c d)
     ∙ (append_assoc (units c) (units d) (units e) ∙ sym (units-glue c (glue d e) ∙ ap (λ u. units c ++ u) (units-glue d e)))))

@@ -56,14 +56,10 @@ shown_surrogate n p h e = rw (e, le-leb 0xD800 p h.0, le-leb p 0xDFFF h.1) refl
 
 shown_itself : (p : ℕ) → ¬ IsSurrogate p → shown p ≡ encoding p
 unfolding shown
-shown_itself p h =
-    elim (cases_lt p 0xD800) [
-      | inl l ↦ rw (lt-leb 0xD800 p l) refl
-      | inr l ↦ elim (cases_lt 0xDFFF p) [
-        | inl m ↦ rw (le-leb 0xD800 p l, lt-leb p 0xDFFF m) refl
-        | inr m ↦ absurd (h (l, m))
-      ]
-    ]
+shown_itself p h = elim (cases_lt p 0xD800) [
+  | inl l ↦ rw (lt-leb 0xD800 p l) refl
+  | inr l ↦ elim (cases_lt 0xDFFF p) [ inl m ↦ rw (le-leb 0xD800 p l, lt-leb p 0xDFFF m) refl | inr m ↦ absurd (h (l, m)) ]
+]
 
 pub shown_scalar : (c p : ℕ) → ¬ IsSurrogate p → c ≡ p → encode c ≡ shown p
 shown_scalar c p h e = ap encode e ∙ (sym (encoding_is_encode p) ∙ sym (shown_itself p h))

@@ -42,11 +42,8 @@ pub bytes_paired : {w v : List ℕ} (c d : List ℕ) (m : MeetsAsPair c d) → b
 bytes_paired {w} {v} c d m e g =
     let s = meeting_bytes m e g in
     let four = encoding (pair m.lead m.trail) in
-    ap bytes (glue_meeting c d m)
-    ∙ (bytes-append m.front (pair m.lead m.trail ∷ m.rest)
-    ∙ (sym (append_assoc (bytes m.front) four (bytes m.rest))
-    ∙ (ap (λ f. (f ++ four) ++ bytes m.rest) (sym s.before)
-    ∙ ap (λ r. (take (length w - 3) w ++ four) ++ r) (sym s.behind))))
+    ap bytes (glue_meeting c d m) ∙ (bytes-append m.front (pair m.lead m.trail ∷ m.rest) ∙ (sym (append_assoc (bytes m.front) four (bytes m.rest))
+    ∙ (ap (λ f. (f ++ four) ++ bytes m.rest) (sym s.before) ∙ ap (λ r. (take (length w - 3) w ++ four) ++ r) (sym s.behind))))
 
 pub bytes_apart : {w v : List ℕ} (c d : List ℕ) → ¬ (MeetsAsPair c d) → bytes c ≡ w → bytes d ≡ v → bytes (glue c d) ≡ w ++ v
 bytes_apart {w} {v} c d n e g = ap bytes (glue_apart c d n) ∙ (bytes-append c d ∙ (ap (λ z. z ++ bytes d) e ∙ ap (λ z. w ++ z) g))
@@ -74,22 +71,21 @@ form_behind {w} {v} {a} {b} x y n = subst (λ z. IsForm z (a ++ b)) (bytes_apart
 
 -- where a lead is the last unit it is the last code point
 pub lead_last : (c g : List ℕ) (l : ℕ) → IsLead l → units c ≡ g ++ l ∷ [] → (f : List ℕ) × (c ≡ f ++ l ∷ [])
-lead_last c g l h e =
-    elim (last_of c) [
-      | empty z ↦ absurd (omega (arith, ap (λ d. length (units d)) z, ap length e, length-append g (l ∷ [])))
-      | ends f p z ↦
-          let whole : units f ++ units_of p ≡ g ++ l ∷ [] = sym (units-pushed f p) ∙ (ap units (sym z) ∙ e) in
-          elim (cases_lt p 0x10000) [
-            | inl s ↦
-                let same = same_from_push (units f) g p l (ap (λ u. units f ++ u) (sym (units_one p s)) ∙ whole) in
-                (f, z ∙ ap (λ n. f ++ n ∷ []) same.1)
-            | inr s ↦
-                let two : (units f ++ lead_of p ∷ []) ++ trail_of p ∷ [] ≡ g ++ l ∷ [] = append_assoc (units f) (lead_of p ∷ []) (trail_of p ∷ [])
-                ∙ (ap (λ u. units f ++ u) (sym (units_two p s)) ∙ whole) in
-                let same = same_from_push (units f ++ lead_of p ∷ []) g (trail_of p) l two in
-                absurd (omega (arith, same.1, h.1))
-          ]
-    ]
+lead_last c g l h e = elim (last_of c) [
+  | empty z ↦ absurd (omega (arith, ap (λ d. length (units d)) z, ap length e, length-append g (l ∷ [])))
+  | ends f p z ↦
+      let whole : units f ++ units_of p ≡ g ++ l ∷ [] = sym (units-pushed f p) ∙ (ap units (sym z) ∙ e) in
+      elim (cases_lt p 0x10000) [
+        | inl s ↦
+            let same = same_from_push (units f) g p l (ap (λ u. units f ++ u) (sym (units_one p s)) ∙ whole) in
+            (f, z ∙ ap (λ n. f ++ n ∷ []) same.1)
+        | inr s ↦
+            let two : (units f ++ lead_of p ∷ []) ++ trail_of p ∷ [] ≡ g ++ l ∷ [] = append_assoc (units f) (lead_of p ∷ []) (trail_of p ∷ [])
+            ∙ (ap (λ u. units f ++ u) (sym (units_two p s)) ∙ whole) in
+            let same = same_from_push (units f ++ lead_of p ∷ []) g (trail_of p) l two in
+            absurd (omega (arith, same.1, h.1))
+      ]
+]
 
 -- where a trail is the first unit it is the first code point
 pub trail_begins : (d r : List ℕ) (t : ℕ) → IsClean d → IsTrail t → units d ≡ t ∷ r → (s : List ℕ) × (d ≡ t ∷ s)

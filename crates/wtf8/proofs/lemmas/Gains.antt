@@ -11,8 +11,7 @@ use Rattle.wtf8.proofs.lemmas.Readings.{form_of, well_formed_of, same_form, unit
 
 -- strings of equal bytes have equal contents
 pub contents_of : (new old : UnitString) → new.bytes ≡ old.bytes → KeepsContents old new
-contents_of new old e =
-    record { units = units_from_form new.bytes new.units old.units new.form (subst (λ w. IsForm w old.units) (sym e) old.form); bytes = e }
+contents_of new old e = record { units = units_from_form new.bytes new.units old.units new.form (subst (λ w. IsForm w old.units) (sym e) old.form); bytes = e }
 
 module _ {T E : Type 0} where
   -- what succeeded left nothing to say of a refusal
@@ -48,8 +47,7 @@ module _ {T E : Type 0} where
 
 -- where the units fit, the bytes that gained them are within the capacity
 pub fits_length : {old new v : List ℕ} {n : ℕ} → GainsUnits old new v → FitsUnits old v n → length new ≤ n
-fits_length {old} {new} {v} gains fit =
-    omega (arith, fit.within, ap length (same_form new fit.whole (fit.units ++ v) (gains fit.units fit.before) fit.after))
+fits_length {old} {new} {v} gains fit = omega (arith, fit.within, ap length (same_form new fit.whole (fit.units ++ v) (gains fit.units fit.before) fit.after))
 
 -- the form of the units of the old bytes and of others says what was gained
 gains_by : {w new : List ℕ} (v : List ℕ) (h : IsWellFormed w) → IsForm new (units h.points ++ v) → GainsUnits w new v

@@ -93,10 +93,7 @@ all_spaced text start bytes at e =
 
 digit_ascii : (n : ℕ) → n < 16 → digit n < 128
 unfolding digit
-digit_ascii n h = elim (cases_Bool (ltb n 10)) [
-  | inl less ↦ rw less (omega arith)
-  | inr more ↦ rw more (omega arith)
-]
+digit_ascii n h = elim (cases_Bool (ltb n 10)) [ inl less ↦ rw less (omega arith) | inr more ↦ rw more (omega arith) ]
 
 spaced_ascii : (b : ℕ) → b < 256 → IsAscii (spaced b)
 spaced_ascii b h zero = omega arith

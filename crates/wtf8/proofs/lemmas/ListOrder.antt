@@ -15,12 +15,11 @@ pub less_of : (c d : List ℕ) → Before c d → slice_cmp nat_cmp c d ≡ Less
 less_of [] [] h = absurd h
 less_of [] (y ∷ ys) h = refl
 less_of (x ∷ xs) [] h = absurd h
-less_of (x ∷ xs) (y ∷ ys) h =
-    elim h [
-      | inl l ↦ ap (λ o. ordering_then o (slice_cmp nat_cmp xs ys)) (cmp_less x y l)
-      | inr e ↦ ap (λ z. ordering_then (nat_cmp x z) (slice_cmp nat_cmp xs ys)) (sym e.0)
-          ∙ (ap (λ o. ordering_then o (slice_cmp nat_cmp xs ys)) (cmp_same x) ∙ less_of xs ys e.1)
-    ]
+less_of (x ∷ xs) (y ∷ ys) h = elim h [
+  | inl l ↦ ap (λ o. ordering_then o (slice_cmp nat_cmp xs ys)) (cmp_less x y l)
+  | inr e ↦ ap (λ z. ordering_then (nat_cmp x z) (slice_cmp nat_cmp xs ys)) (sym e.0)
+      ∙ (ap (λ o. ordering_then o (slice_cmp nat_cmp xs ys)) (cmp_same x) ∙ less_of xs ys e.1)
+]
 
 pub greater_of : (c d : List ℕ) → Before d c → slice_cmp nat_cmp c d ≡ Greater
 greater_of c d h = nat_list_cmp_total.antisymm c d ∙ ap ordering_reverse (less_of d c h)
@@ -32,23 +31,20 @@ cmp_behind (x ∷ f) c d = ap (λ o. ordering_then o (slice_cmp nat_cmp (f ++ c)
 
 -- the first numbers decide, or the rest does
 pub before_cons : (x y : ℕ) (xs ys : List ℕ) → x ≤ y → (x ≡ y → Before xs ys) → Before (x ∷ xs) (y ∷ ys)
-before_cons x y xs ys h rest =
-    elim (cases_lt x y) [
-      | inl l ↦ inl l
-      | inr m ↦ let same : x ≡ y = omega arith in inr (same, rest same)
-    ]
+before_cons x y xs ys h rest = elim (cases_lt x y) [
+  | inl l ↦ inl l
+  | inr m ↦ let same : x ≡ y = omega arith in inr (same, rest same)
+]
 
 pub before_two : (a b x y : ℕ) (r s : List ℕ) → a ≤ x → (a ≡ x → b < y) → Before (a ∷ b ∷ r) (x ∷ y ∷ s)
 before_two a b x y r s h k = before_cons a x (b ∷ r) (y ∷ s) h (λ e. inl (k e))
 
 pub before_three : (a b c x y z : ℕ) (r s : List ℕ) → a ≤ x → (a ≡ x → b ≤ y) → (a ≡ x → b ≡ y → c < z) → Before (a ∷ b ∷ c ∷ r) (x ∷ y ∷ z ∷ s)
-before_three a b c x y z r s h k l =
-    before_cons a x (b ∷ c ∷ r) (y ∷ z ∷ s) h (λ e. before_two b c y z r s (k e) (l e))
+before_three a b c x y z r s h k l = before_cons a x (b ∷ c ∷ r) (y ∷ z ∷ s) h (λ e. before_two b c y z r s (k e) (l e))
 
 pub before_four : (a b c d x y z w : ℕ) (r s : List ℕ) → a ≤ x → (a ≡ x → b ≤ y) → (a ≡ x → b ≡ y → c ≤ z) → (a ≡ x → b ≡ y → c ≡ z → d < w)
     → Before (a ∷ b ∷ c ∷ d ∷ r) (x ∷ y ∷ z ∷ w ∷ s)
-before_four a b c d x y z w r s h k l m =
-    before_cons a x (b ∷ c ∷ d ∷ r) (y ∷ z ∷ w ∷ s) h (λ e. before_three b c d y z w r s (k e) (l e) (m e))
+before_four a b c d x y z w r s h k l m = before_cons a x (b ∷ c ∷ d ∷ r) (y ∷ z ∷ w ∷ s) h (λ e. before_three b c d y z w r s (k e) (l e) (m e))
 
 with_first : (x y : ℕ) (xs ys : List ℕ) → x ≡ y → (o : Ordering) → MatchOrdering o (Before xs ys) (xs ≡ ys) (Before ys xs)
     → MatchOrdering o (Before (x ∷ xs) (y ∷ ys)) (x ∷ xs ≡ y ∷ ys) (Before (y ∷ ys) (x ∷ xs))

@@ -13,24 +13,20 @@ pub data Kind (p : ℕ) : Type 0 where
 
 pub kind_of : (p : ℕ) → Kind p
 unfolding replaced
-kind_of p =
-    elim (cases_lt p 0xD800) [
-      | inl h ↦ scalar_value (λ s. omega arith) (rw (lt-leb 0xD800 p h) refl)
-      | inr h ↦ elim (cases_lt p 0xE000) [
-        | inl k ↦ surrogate (h, omega arith) (rw (le-leb 0xD800 p h, le-leb p 0xDFFF (omega arith)) refl)
-        | inr k ↦ scalar_value (λ s. omega arith) (rw (le-leb 0xD800 p h, lt-leb p 0xDFFF (omega arith)) refl)
-      ]
-    ]
+kind_of p = elim (cases_lt p 0xD800) [
+  | inl h ↦ scalar_value (λ s. omega arith) (rw (lt-leb 0xD800 p h) refl)
+  | inr h ↦ elim (cases_lt p 0xE000) [
+    | inl k ↦ surrogate (h, omega arith) (rw (le-leb 0xD800 p h, le-leb p 0xDFFF (omega arith)) refl)
+    | inr k ↦ scalar_value (λ s. omega arith) (rw (le-leb 0xD800 p h, lt-leb p 0xDFFF (omega arith)) refl)
+  ]
+]
 
 pub lossy-append : (c d : List ℕ) → lossy (c ++ d) ≡ lossy c ++ lossy d
 lossy-append c d = map-append replaced c d
 
 pub lossy-scalar : (c : List ℕ) → AreScalar c → lossy c ≡ c
 lossy-scalar [] s = refl
-lossy-scalar (p ∷ c) s = elim (kind_of p) [
-  | surrogate k e ↦ absurd (s.0 k)
-  | scalar_value n e ↦ rw (e, lossy-scalar c s.1) refl
-]
+lossy-scalar (p ∷ c) s = elim (kind_of p) [ surrogate k e ↦ absurd (s.0 k) | scalar_value n e ↦ rw (e, lossy-scalar c s.1) refl ]
 
 -- it is as long: a surrogate has three bytes too
 pub length-lossy : (c : List ℕ) → length (bytes (lossy c)) ≡ length (bytes c)

@@ -6,8 +6,7 @@ use Rattle.wtf8.specs.Concatenation.{is_pair}
 pub pair_true : (l t : ℕ) → IsLead l → IsTrail t → is_pair l t ≡ true
 unfolding is_pair
 pair_true l t h k =
-    and_from (leb 0xD800 l && leb l 0xDBFF) (leb 0xDC00 t && leb t 0xDFFF)
-    (and_from (leb 0xD800 l) (leb l 0xDBFF) (le-leb 0xD800 l h.0) (le-leb l 0xDBFF h.1))
+    and_from (leb 0xD800 l && leb l 0xDBFF) (leb 0xDC00 t && leb t 0xDFFF) (and_from (leb 0xD800 l) (leb l 0xDBFF) (le-leb 0xD800 l h.0) (le-leb l 0xDBFF h.1))
     (and_from (leb 0xDC00 t) (leb t 0xDFFF) (le-leb 0xDC00 t k.0) (le-leb t 0xDFFF k.1))
 
 pub true_pair : (l t : ℕ) → is_pair l t ≡ true → IsLead l × IsTrail t
@@ -60,13 +59,8 @@ meets_before p q c d m =
 pub meets_or_apart : (c d : List ℕ) → MeetsAsPair c d ⊎ ¬ (MeetsAsPair c d)
 meets_or_apart [] d = inr nothing_ends
 meets_or_apart (p ∷ []) [] = inr nothing_begins
-meets_or_apart (p ∷ []) (q ∷ d) =
-    elim (cases_Bool (is_pair p q)) [
-      | inl e ↦ let h = true_pair p q e in inl (meets_by [] d p q h.0 h.1 refl refl)
-      | inr e ↦ inr (λ m. false≢true (sym e ∙ meeting_numbers p q d m))
-    ]
-meets_or_apart (p ∷ q ∷ c) d =
-    elim (meets_or_apart (q ∷ c) d) [
-      | inl m ↦ inl (meets_behind p m)
-      | inr n ↦ inr (λ m. n (meets_before p q c d m))
-    ]
+meets_or_apart (p ∷ []) (q ∷ d) = elim (cases_Bool (is_pair p q)) [
+  | inl e ↦ let h = true_pair p q e in inl (meets_by [] d p q h.0 h.1 refl refl)
+  | inr e ↦ inr (λ m. false≢true (sym e ∙ meeting_numbers p q d m))
+]
+meets_or_apart (p ∷ q ∷ c) d = elim (meets_or_apart (q ∷ c) d) [ inl m ↦ inl (meets_behind p m) | inr n ↦ inr (λ m. n (meets_before p q c d m)) ]

@@ -46,10 +46,7 @@ whole_in_front u v k m x h b =
       front = b.front;
       back = more.more;
       splits = record {
-        reads = record {
-          clean = subst IsClean more.joined clean;
-          same_units = ap units (sym more.joined) ∙ x.same_units;
-        };
+        reads = record { clean = subst IsClean more.joined clean; same_units = ap units (sym more.joined) ∙ x.same_units };
         front_len = b.splits.front_len;
       };
     }

@@ -68,8 +68,7 @@ replacing_step c w from found r least =
         rest = p.back;
         joined = r.joined ∙ (ap (λ d. r.done ++ d) rest ∙ (sym (append_assoc r.done b.more (p.point ∷ p.back))
             ∙ sym (append_assoc (r.done ++ b.more) (p.point ∷ []) p.back)));
-        so_far = ap (λ v. v ++ (0xEF ∷ 0xBF ∷ 0xBD ∷ drop (found + 3) w)) a.before
-            ∙ (ap (λ v. bytes p.front ++ (0xEF ∷ 0xBF ∷ 0xBD ∷ v)) a.behind
+        so_far = ap (λ v. v ++ (0xEF ∷ 0xBF ∷ 0xBD ∷ drop (found + 3) w)) a.before ∙ (ap (λ v. bytes p.front ++ (0xEF ∷ 0xBF ∷ 0xBD ∷ v)) a.behind
             ∙ (ap (λ v. bytes p.front ++ (v ++ bytes p.back)) (sym sign)
             ∙ (sym (bytes-append p.front (0xFFFD ∷ p.back)) ∙ (ap bytes (sym (append_assoc p.front (0xFFFD ∷ []) p.back))
             ∙ ap (λ d. bytes (d ++ p.back)) (sym done)))));

@@ -19,27 +19,26 @@ pub record GluedLength (c d : List ℕ) : Type 0 where
   pub most : length (bytes (glue c d)) ≤ length (bytes c) + length (bytes d)
 
 glued_length : (c d : List ℕ) → GluedLength c d
-glued_length c d =
-    elim (meets_or_apart c d) [
-      | inl m ↦
-          let s = meeting_bytes m refl refl in
-          let both = ap length (bytes_paired c d m refl refl) in
-          let paired = length-paired_bytes (bytes c) (bytes d) m.lead m.trail m.is_lead m.is_trail s.three s.three_behind in
-          let three = length-surrogate m.trail (omega (arith, m.is_trail), omega (arith, m.is_trail)) in
-          let back : length (bytes d) ≡ 3 + length (bytes m.rest) = ap (λ e. length (bytes e)) m.begins
-          ∙ (length-append (encoding m.trail) (bytes m.rest) ∙ ap (λ n. n + length (bytes m.rest)) three) in
-          let own : length (units d) ≡ 1 + length (units m.rest) = omega (
-            arith,
-            ap (λ e. length (units e)) m.begins,
-            length-append (units_of m.trail) (units m.rest),
-            ap length (units_one m.trail (omega (arith, m.is_trail))),
-          ) in
-          let rest = (units_bounds m.rest).at_least in
-          record { least = omega (arith, both, paired, back, own, rest); most = omega (arith, both, paired) }
-      | inr n ↦
-          let both = ap length (bytes_apart c d n refl refl) ∙ length-append (bytes c) (bytes d) in
-          record { least = omega (arith, both, (units_bounds d).at_least); most = omega (arith, both) }
-    ]
+glued_length c d = elim (meets_or_apart c d) [
+  | inl m ↦
+      let s = meeting_bytes m refl refl in
+      let both = ap length (bytes_paired c d m refl refl) in
+      let paired = length-paired_bytes (bytes c) (bytes d) m.lead m.trail m.is_lead m.is_trail s.three s.three_behind in
+      let three = length-surrogate m.trail (omega (arith, m.is_trail), omega (arith, m.is_trail)) in
+      let back : length (bytes d) ≡ 3 + length (bytes m.rest) = ap (λ e. length (bytes e)) m.begins
+      ∙ (length-append (encoding m.trail) (bytes m.rest) ∙ ap (λ n. n + length (bytes m.rest)) three) in
+      let own : length (units d) ≡ 1 + length (units m.rest) = omega (
+        arith,
+        ap (λ e. length (units e)) m.begins,
+        length-append (units_of m.trail) (units m.rest),
+        ap length (units_one m.trail (omega (arith, m.is_trail))),
+      ) in
+      let rest = (units_bounds m.rest).at_least in
+      record { least = omega (arith, both, paired, back, own, rest); most = omega (arith, both, paired) }
+  | inr n ↦
+      let both = ap length (bytes_apart c d n refl refl) ∙ length-append (bytes c) (bytes d) in
+      record { least = omega (arith, both, (units_bounds d).at_least); most = omega (arith, both) }
+]
 
 -- the form of both is as long as those of the parts let it be
 pub record BothLength (w v z b : List ℕ) : Type 0 where

@@ -12,10 +12,7 @@ use Rattle.wtf8.proofs.lemmas.Readings.{well_formed_of}
 units_or_not : (u : List ℕ) → All IsUnit u ⊎ (All IsUnit u → ⊥)
 units_or_not [] = inl (All-nil IsUnit)
 units_or_not (x ∷ u) = elim (cases_lt x 0x10000) [
-  | inl h ↦ elim (units_or_not u) [
-    | inl s ↦ inl (All-cons IsUnit x u (omega arith) s)
-    | inr n ↦ inr (λ s. n (All-tail IsUnit x u s))
-  ]
+  | inl h ↦ elim (units_or_not u) [ inl s ↦ inl (All-cons IsUnit x u (omega arith) s) | inr n ↦ inr (λ s. n (All-tail IsUnit x u s)) ]
   | inr h ↦ inr (λ s. omega (arith, All-head IsUnit x u s))
 ]
 
@@ -42,11 +39,10 @@ cut_or_not {w} h k = elim (cases_lt k (length w)) [
 ]
 
 boundary_of_form : {w u : List ℕ} (f : IsForm w u) (k : ℕ) → IsBoundary u k ⊎ (IsBoundary u k → ⊥)
-boundary_of_form f k =
-    elim (cut_or_not (well_formed_of f) k) [
-      | inl b ↦ inl (subst (λ v. IsBoundary v k) f.reads.same_units b)
-      | inr n ↦ inr (λ b. n (subst (λ v. IsBoundary v k) (sym f.reads.same_units) b))
-    ]
+boundary_of_form f k = elim (cut_or_not (well_formed_of f) k) [
+  | inl b ↦ inl (subst (λ v. IsBoundary v k) f.reads.same_units b)
+  | inr n ↦ inr (λ b. n (subst (λ v. IsBoundary v k) (sym f.reads.same_units) b))
+]
 
 boundary_or_not : (u : List ℕ) (k : ℕ) → IsBoundary u k ⊎ (IsBoundary u k → ⊥)
 boundary_or_not u k = elim (units_or_not u) [
@@ -102,8 +98,7 @@ step_once u (TruncateUnits n) = elim (cases_lt (length u) n) [
 
 -- one run behind another
 pub runs_add : RunsAddUp
-runs_add u mid v [] back m n x y =
-    subst (λ k. Run u back v k) (let same : n ≡ m + n = omega (arith, x.1) in same) (subst (λ w. Run w back v n) x.0 y)
+runs_add u mid v [] back m n x y = subst (λ k. Run u back v k) (let same : n ≡ m + n = omega (arith, x.1) in same) (subst (λ w. Run w back v n) x.0 y)
 runs_add u mid v (call ∷ front) back m n x y = (x.0, x.1, x.2 + n, x.3, runs_add x.0 mid v front back x.2 n x.4 y, omega (arith, x.5))
 
 pub run_once : (u : List ℕ) (calls : List Build) → RunsOnce u calls

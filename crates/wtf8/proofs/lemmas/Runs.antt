@@ -9,10 +9,8 @@ use Rattle.wtf8.specs.Building.{appended}
 -- one call more
 pub run_more : (u : List ℕ) (calls : List Build) (mid : List ℕ) (n : ℕ) (call : Build) (v : List ℕ) (r : ℕ) → Run u calls mid n → Step mid call v r
     → Run u (calls ++ call ∷ []) v (n + r)
-run_more u [] mid n call v r x s =
-    (v, r, 0, subst (λ m. Step m call v r) x.0 s, (refl, refl), omega (arith, x.1))
-run_more u (c ∷ calls) mid n call v r x s =
-    (x.0, x.1, x.2 + r, x.3, run_more x.0 calls mid x.2 call v r x.4 s, omega (arith, x.5))
+run_more u [] mid n call v r x s = (v, r, 0, subst (λ m. Step m call v r) x.0 s, (refl, refl), omega (arith, x.1))
+run_more u (c ∷ calls) mid n call v r x s = (x.0, x.1, x.2 + r, x.3, run_more x.0 calls mid x.2 call v r x.4 s, omega (arith, x.5))
 
 some_same : (a b : List ℕ) → Some a ≡ Some b → a ≡ b
 some_same a b e = cc

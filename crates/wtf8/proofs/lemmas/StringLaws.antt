@@ -54,10 +54,8 @@ what_fits s v n fit h = room_left s fit.whole v fit.form (omega (arith, fit.with
 
 -- a reading is of scalar values exactly where each reading of its units is
 pub scalar_in_each_reading : (c u : List ℕ) → Reads c u → AreScalar c ↔ ((d : List ℕ) → Reads d u → AreScalar d)
-scalar_in_each_reading c u r =
-    (λ s d x. subst AreScalar (same_reading c d r.clean x.clean (r.same_units ∙ sym x.same_units)) s, λ h. h c r)
+scalar_in_each_reading c u r = (λ s d x. subst AreScalar (same_reading c d r.clean x.clean (r.same_units ∙ sym x.same_units)) s, λ h. h c r)
 
 -- a number below 80 that is none of a view's bytes is none of its units
 pub no_ascii_unit : (t : Wtf8) (b : ℕ) → b < 0x80 → ((j : ℕ) → j < length t.bytes.now → slice_index t.bytes.now j ≢ b) → All (λ x. x ≢ b) (view_units t)
-no_ascii_unit t b l h =
-    ascii_no_other_unit t.bytes.now (view_units t) b (view_form t) l (All-from_get_or (λ x. x ≢ b) t.bytes.now 0 (λ i m e. h i m e))
+no_ascii_unit t b l h = ascii_no_other_unit t.bytes.now (view_units t) b (view_form t) l (All-from_get_or (λ x. x ≢ b) t.bytes.now 0 (λ i m e. h i m e))

@@ -104,13 +104,9 @@ lead_kept_units {c} {n} {k} {p} {front} {rest} clean d =
 
 -- the code points before an undivided pair are the front of its position
 pub front_at : {w : List ℕ} (h : IsWellFormed w) {n k : ℕ} (x : CutsUnits h.points n k None) → IsFront (units h.points) k (take n (units h.points))
-front_at h x =
-    record {
-      front = x.front;
-      back = x.back;
-      splits = record {
-        reads = record { clean = subst IsClean x.joined h.clean; same_units = ap units (sym x.joined) };
-        front_len = x.front_len;
-      };
-      same_units = sym (undivided x).kept;
-    }
+front_at h x = record {
+  front = x.front;
+  back = x.back;
+  splits = record { reads = record { clean = subst IsClean x.joined h.clean; same_units = ap units (sym x.joined) }; front_len = x.front_len };
+  same_units = sym (undivided x).kept;
+}

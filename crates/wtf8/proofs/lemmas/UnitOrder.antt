@@ -113,10 +113,7 @@ one_of_both false false p q e = absurd (true≢false e)
 -- where a code point of two units begins in one of both strings they part
 pub parts_there : {w v : List ℕ} (h : IsWellFormed w) (k : IsWellFormed v) (at : ℕ) → IsFirstDifference w v at → (a b : Bool) → IsTrue a ↔ PairBegins w at
     → IsTrue b ↔ PairBegins v at → beq a b ≡ false → Parting h.points k.points at
-parts_there h k at d a b p q e = elim (one_of_both a b p q e) [
-  | inl l ↦ parting h k at d.same_before l
-  | inr l ↦ turned (parting k h at (sym d.same_before) l)
-]
+parts_there h k at d a b p q e = elim (one_of_both a b p q e) [ inl l ↦ parting h k at d.same_before l | inr l ↦ turned (parting k h at (sym d.same_before) l) ]
 
 -- and elsewhere the bytes there are in the order of the units
 pub bytes_order : {w v : List ℕ} (h : IsWellFormed w) (k : IsWellFormed v) (at : ℕ) → IsFirstDifference w v at → PairBegins w at ↔ PairBegins v at

@@ -29,10 +29,7 @@ pub block_form : {u w : List ℕ} {at n : ℕ} (known : Bool) → IsBlock u at n
 block_form {u} {w} {at} {n} known b = record {
   form = record {
     points = take n (drop at u);
-    reads = record {
-      clean = scalar_clean (take n (drop at u)) b.scalars;
-      same_units = scalar_units (take n (drop at u)) b.scalars;
-    };
+    reads = record { clean = scalar_clean (take n (drop at u)) b.scalars; same_units = scalar_units (take n (drop at u)) b.scalars };
     encoded = sym b.encoded;
   };
   scalar = λ _. are_scalar (take n (drop at u)) b.scalars;
@@ -51,10 +48,7 @@ ascii_block u w at within h e = record {
 }
 
 pub nothing_read : {w : List ℕ} (known : Bool) → w ≡ [] → IsKnownForm w [] known
-nothing_read known e = record {
-  form = record { points = []; reads = record { clean = tt; same_units = refl }; encoded = sym e };
-  scalar = λ _. tt;
-}
+nothing_read known e = record { form = record { points = []; reads = record { clean = tt; same_units = refl }; encoded = sym e }; scalar = λ _. tt }
 
 -- no pair is divided behind units that are no surrogates
 last_is : (u w f : List ℕ) (l k : ℕ) → length w ≡ k + 1 → u ++ w ≡ f ++ l ∷ [] → get_or w k 0 ≡ l
@@ -83,10 +77,7 @@ known_behind w v a b known more both x y n flags =
     let encoded : bytes (x.form.points ++ y.form.points) ≡ w ++ v = bytes-append x.form.points y.form.points
     ∙ (ap (λ z. z ++ bytes y.form.points) x.form.encoded ∙ ap (λ z. w ++ z) y.form.encoded) in
     let same : x.form.points ++ y.form.points ≡ whole.points = bytes-injective (x.form.points ++ y.form.points) whole.points (encoded ∙ sym whole.encoded) in
-    record {
-      form = whole;
-      scalar = λ t. subst AreScalar same (scalar-append x.form.points y.form.points (x.scalar (flags t).0) (y.scalar (flags t).1));
-    }
+    record { form = whole; scalar = λ t. subst AreScalar same (scalar-append x.form.points y.form.points (x.scalar (flags t).0) (y.scalar (flags t).1)) }
 
 pub part_read : (u w v new : List ℕ) (at n next : ℕ) (known more both : Bool) → IsKnownForm w (take at u) known → IsKnownForm v (take n (drop at u)) more
     → DividesNoPair u at → (IsTrue both → IsTrue known × IsTrue more) → new ≡ w ++ v → next ≡ at + n → IsKnownForm new (take next u) both

@@ -22,10 +22,7 @@ cut_inside {c} {n} {place} {before} x p rest m e =
     let more = x.holds p rest e in
     let least : before ≤ n = x.not_beyond in
     let same : length (units x.front) ≡ before = x.counted in
-    let large : 0x10000 ≤ p = elim (cases_lt p 0x10000) [
-      | inl h ↦ absurd (omega (arith, more, ap length (units_one p h), m, least))
-      | inr h ↦ h
-    ] in
+    let large : 0x10000 ≤ p = elim (cases_lt p 0x10000) [ inl h ↦ absurd (omega (arith, more, ap length (units_one p h), m, least)) | inr h ↦ h ] in
     record {
       front = x.front;
       back = x.back;

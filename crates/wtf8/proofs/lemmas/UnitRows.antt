@@ -60,18 +60,12 @@ same_row p q r s h =
     subst (λ v. PartInOneRow v (y.byte ∷ y.rest)) x.encoded (subst (PartInOneRow (encoding p ++ r)) y.encoded h) in
     let both : BothBelow 0xF0 x.byte y.byte = elim (cases_lt x.byte y.byte) [
       | inl l ↦ parts.1 (omega arith)
-      | inr l ↦ elim (cases_lt y.byte x.byte) [
-        | inl m ↦ parts.1 (omega arith)
-        | inr m ↦ (λ k. omega arith, λ k. omega arith)
-      ]
+      | inr l ↦ elim (cases_lt y.byte x.byte) [ inl m ↦ parts.1 (omega arith) | inr m ↦ (λ k. omega arith, λ k. omega arith) ]
     ] in
     (λ k. y.row.1 (both.0 (x.row.0 k)), λ k. x.row.1 (both.1 (y.row.0 k)))
 
 nothing_before : (q : ℕ) (d : List ℕ) → Before [] (units (q ∷ d))
-nothing_before q d = elim (cases_lt q 0x10000) [
-  | inl h ↦ rw (units-cons_one q d h) tt
-  | inr h ↦ rw (units-cons_two q d h) tt
-]
+nothing_before q d = elim (cases_lt q 0x10000) [ inl h ↦ rw (units-cons_one q d h) tt | inr h ↦ rw (units-cons_two q d h) tt ]
 
 swapped : (x y : ℕ) → BothBelow 0x10000 x y → BothBelow 0x10000 y x
 swapped x y h = (h.1, h.0)

@@ -9,8 +9,7 @@ from_utf8_unchecked-requires g c =
     subst IsUtf8 (sym (ap (λ (t : UnitString). t.bytes) c.self.view_is)) (utf8_if_none (well_formed_of c.args.self.form) c.in-None.ensures)
 
 pub returns-in-None-clause-ok : goal.returns-in-None-clause-ok
-returns-in-None-clause-ok g c =
-    (λ _. scalar_if_none (well_formed_of c.args.self.form) c.in-None.ensures, λ _. refl)
+returns-in-None-clause-ok g c = (λ _. scalar_if_none (well_formed_of c.args.self.form) c.in-None.ensures, λ _. refl)
 
 pub returns-in-Some-clause-ok : goal.returns-in-Some-clause-ok
 returns-in-Some-clause-ok g c =

@@ -14,8 +14,7 @@ invariant_of-self-inside g c =
       (
         λ known. elim c.if-new_len-eq0.branch [
           | then-new_len-eq0 w ↦
-              subst AreScalar
-              (sym (no_points now (omega (
+              subst AreScalar (sym (no_points now (omega (
                 arith,
                 w.if-new_len-eq0.true,
                 ap length c.truncate.ensures.items,
@@ -33,11 +32,9 @@ pub returns-clause-units : goal.returns-clause-units
 returns-clause-units g c =
     let same = ap (λ (t : UnitString). t.units) c.self.view_is in
     let cut = cut_at c.self.inside.well_formed c.args.new_len (subst (λ u. IsBoundary u c.args.new_len) (sym same) c.requires) in
-    subst (λ u. IsFront u c.args.new_len (units c.self-1.given.0.points)) same
-    (record {
+    subst (λ u. IsFront u c.args.new_len (units c.self-1.given.0.points)) same (record {
       front = cut.front;
       back = cut.back;
       splits = cut.splits;
-      same_units =
-          ap units (sym (same_points c.self-1.given.0 cut.before c.truncate.ensures.items ∙ cut.before_points));
+      same_units = ap units (sym (same_points c.self-1.given.0 cut.before c.truncate.ensures.items ∙ cut.before_points));
     })

@@ -52,7 +52,6 @@ returns-in-Some-divided g c =
     let points = same_points c.self-1.given.0 (lead_kept h (divided x)) (c.keep_lead.ensures ∙ kept) in
     inl (
       omega (arith, (divided x).within, ap length c.as_wtf8.ensures.units),
-      ap units points
-          ∙ (lead_kept_units h.clean (divided x) ∙ ap (take c.args.n) c.as_wtf8.ensures.units),
+      ap units points ∙ (lead_kept_units h.clean (divided x) ∙ ap (take c.args.n) c.as_wtf8.ensures.units),
       refl,
     )

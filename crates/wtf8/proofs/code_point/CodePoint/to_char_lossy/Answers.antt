@@ -8,5 +8,4 @@ lossy_value None n h e = sym (replaced_surrogate n (h.0 refl))
 lossy_value (Some c) n h e = e ∙ sym (replaced_scalar n (λ s. false≢true (sym (h.1 s))))
 
 pub returns-clause-value : goal.returns-clause-value
-returns-clause-value c =
-    c.unwrap_or.ensures ∙ lossy_value c.to_char.result (number c.args.self.now) c.to_char.ensures.none c.to_char.ensures.some
+returns-clause-value c = c.unwrap_or.ensures ∙ lossy_value c.to_char.result (number c.args.self.now) c.to_char.ensures.none c.to_char.ensures.some

@@ -10,8 +10,7 @@ pub returns-in-None-clause-some : goal.returns-in-None-clause-some
 returns-in-None-clause-some c = (λ _. scalar_if_none c.args.self.now.well_formed c.in-None.ensures, λ _. refl)
 
 pub returns-in-Some-clause-some : goal.returns-in-Some-clause-some
-returns-in-Some-clause-some c =
-    (λ e. absurd (false≢true e), λ s. absurd (not_scalar_if_some c.args.self.now.well_formed c.in-Some.field-0 c.in-Some.ensures s))
+returns-in-Some-clause-some c = (λ e. absurd (false≢true e), λ s. absurd (not_scalar_if_some c.args.self.now.well_formed c.in-Some.field-0 c.in-Some.ensures s))
 
 pub returns-in-None-clause-units : goal.returns-in-None-clause-units
 returns-in-None-clause-units c =

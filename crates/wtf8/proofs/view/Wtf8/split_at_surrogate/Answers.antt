@@ -17,12 +17,10 @@ pub split_at-requires-2 : goal.split_at-requires-2
 split_at-requires-2 c = (parted c.args.self.well_formed c.in-Some.place c.in-Some.ensures).within
 
 pub from_utf8_unchecked-text-requires : goal.from_utf8_unchecked-text-requires
-from_utf8_unchecked-text-requires c =
-    subst IsUtf8 (sym c.split_at.ensures.front) (parted c.args.self.well_formed c.in-Some.place c.in-Some.ensures).text
+from_utf8_unchecked-text-requires c = subst IsUtf8 (sym c.split_at.ensures.front) (parted c.args.self.well_formed c.in-Some.place c.in-Some.ensures).text
 
 pub invariant_of-result : goal.invariant_of-result
-invariant_of-result c =
-    record { well_formed = moved (parted c.args.self.well_formed c.in-Some.place c.in-Some.ensures).rest c.split_at-2.ensures.back }
+invariant_of-result c = record { well_formed = moved (parted c.args.self.well_formed c.in-Some.place c.in-Some.ensures).rest c.split_at-2.ensures.back }
 
 pub returns-clause-some : goal.returns-clause-some
 returns-clause-some c =
