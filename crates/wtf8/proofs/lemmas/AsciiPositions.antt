@@ -43,10 +43,7 @@ stands front (p ∷ b) u r h low =
       to_it = record {
         front = front ++ p ∷ [];
         back = b;
-        splits = record {
-          reads = subst (λ c. Reads c u) (sym (append_assoc front (p ∷ []) b)) r;
-          front_len = ap length (bytes-pushed front p) ∙ (length-append (bytes front) (encoding p) ∙ ap (λ e. length (bytes front) + length e) own.0);
-        };
+        splits = record { reads = rw append_assoc r; front_len = simp (bytes-pushed, length-append, own.0) };
         same_units = units-append front (p ∷ []) ∙ ap (λ v. units front ++ (v ++ [])) unit;
       };
       whole = ap (λ v. units front ++ (v ++ units b)) (sym unit) ∙ (sym (units-append front (p ∷ b)) ∙ r.same_units);
@@ -59,8 +56,7 @@ ascii_stands {w} {u} form k h low =
     let whole : bytes (c.front ++ c.back) ≡ w = ap bytes (sym c.points) ∙ form.encoded in
     let len = c.splits.front_len in
     let reads : Reads (c.front ++ c.back) u = subst (λ d. Reads d u) c.points form.reads in
-    let byte : get_or (bytes (c.front ++ c.back)) (length (bytes c.front)) 0 ≡ get_or w k 0 = ap (λ v. get_or v (length (bytes c.front)) 0) whole
-    ∙ ap (λ n. get_or w n 0) len in
+    let byte : get_or (bytes (c.front ++ c.back)) (length (bytes c.front)) 0 ≡ get_or w k 0 = cc (whole, len) in
     let x = stands c.front c.back u reads (omega (arith, len, ap length whole)) (omega (arith, byte)) in
     subst (λ n. Stands u n (get_or w k 0)) len (subst (λ b. Stands u (length (bytes c.front)) b) byte x)
 

@@ -38,9 +38,7 @@ clean-glue c d x y = elim (meets_or_apart c d) [
 ]
 
 units-paired : (p q : ℕ) (d : List ℕ) → IsLead p → IsTrail q → units (pair p q ∷ d) ≡ units (p ∷ []) ++ units (q ∷ d)
-units-paired p q d h k =
-    ap (λ u. u ++ units d) (units_pair p q h k) ∙ sym (ap (λ u. (u ++ []) ++ units (q ∷ d)) (units_one p (omega arith))
-    ∙ ap (λ u. p ∷ (u ++ units d)) (units_one q (omega arith)))
+units-paired p q d h k = simp (units_pair p q h k, units_one p (omega arith), units_one q (omega arith))
 
 units-glue : (c d : List ℕ) → units (glue c d) ≡ units c ++ units d
 units-glue [] d = refl
@@ -53,8 +51,7 @@ units-glue (p ∷ q ∷ c) d = ap (λ u. units_of p ++ u) (units-glue (q ∷ c) 
 
 -- two readings glued read the units of both
 pub reads-glue : (c d a b : List ℕ) → Reads c a → Reads d b → Reads (glue c d) (a ++ b)
-reads-glue c d a b x y =
-    record { clean = clean-glue c d x.clean y.clean; same_units = units-glue c d ∙ (ap (λ u. u ++ units d) x.same_units ∙ ap (λ u. a ++ u) y.same_units) }
+reads-glue c d a b x y = record { clean = clean-glue c d x.clean y.clean; same_units = cc (units-glue c d) }
 
 pub glue-nil : (c : List ℕ) → glue c [] ≡ c
 glue-nil c = glue_apart c [] nothing_begins ∙ append-nil c
@@ -64,5 +61,4 @@ pub glue_assoc : (c d e : List ℕ) → IsClean c → IsClean d → IsClean e �
 glue_assoc c d e x y z =
     let left = clean-glue (glue c d) e (clean-glue c d x y) z in
     let right = clean-glue c (glue d e) x (clean-glue d e y z) in
-    same_reading (glue (glue c d) e) (glue c (glue d e)) left right (units-glue (glue c d) e ∙ (ap (λ u. u ++ units e) (units-glue c d)
-    ∙ (append_assoc (units c) (units d) (units e) ∙ sym (units-glue c (glue d e) ∙ ap (λ u. units c ++ u) (units-glue d e)))))
+    same_reading (glue (glue c d) e) (glue c (glue d e)) left right (simp (units-glue, append_assoc))

@@ -16,8 +16,7 @@ ends_in_surrogate w f p s e =
     let row = third_row p in
     let whole : w ≡ bytes f ++ row = sym e ∙ (bytes-pushed f p ∙ ap (λ v. bytes f ++ v) (encoding_three p (omega arith) (omega arith))) in
     let long : length w ≡ length (bytes f) + 3 = ap length whole ∙ length-append (bytes f) row in
-    let at : (k m : ℕ) → length (bytes f) + k ≡ m → get_or w m 0 ≡ get_or row k 0 = λ k m q.
-    ap (λ i. get_or w i 0) (sym q) ∙ (ap (λ v. get_or v (length (bytes f) + k) 0) whole ∙ get_or-append-add (bytes f) row k 0) in
+    let at : (k m : ℕ) → length (bytes f) + k ≡ m → get_or w m 0 ≡ get_or row k 0 = λ k m q. cc (get_or-append-add (bytes f) row k 0) in
     record {
       enough = omega arith;
       first = at 0 (length w - 3) (omega arith) ∙ omega arith;
@@ -44,8 +43,7 @@ last_surrogate {w} h len first second =
     let next : get_or w (i + 1) 0 ≡ get_or w (length w - 2) 0 = ap (λ k. get_or w k 0) (omega arith) in
     let at : SurrogateAt w i = record { within = omega arith; first = first; second = omega (arith, next, second) } in
     let p = surrogate_in h.points i (subst (λ v. SurrogateAt v i) (sym h.encoded) at) in
-    let whole : bytes p.front ++ (encoding p.point ++ bytes p.back) ≡ w = sym (bytes-append p.front (p.point ∷ p.back))
-    ∙ (ap bytes (sym p.joined) ∙ h.encoded) in
+    let whole : bytes p.front ++ (encoding p.point ++ bytes p.back) ≡ w = cc (bytes-append p.front (p.point ∷ p.back)) in
     let none = no_bytes p.back (omega (
       arith,
       len,

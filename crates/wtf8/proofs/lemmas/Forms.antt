@@ -28,8 +28,7 @@ meeting_bytes {w} {v} m e g =
     let back : v ≡ encoding m.trail ++ bytes m.rest = sym g ∙ ap bytes m.begins in
     let lead : length (encoding m.lead) ≡ 3 = length-surrogate m.lead (omega (arith, m.is_lead), omega (arith, m.is_lead)) in
     let trail : length (encoding m.trail) ≡ 3 = length-surrogate m.trail (omega (arith, m.is_trail), omega (arith, m.is_trail)) in
-    let long : length w ≡ length (bytes m.front) + 3 = ap length front
-    ∙ (length-append (bytes m.front) (encoding m.lead) ∙ ap (λ n. length (bytes m.front) + n) lead) in
+    let long : length w ≡ length (bytes m.front) + 3 = cc (ap length front, length-append (bytes m.front) (encoding m.lead)) in
     record {
       three = omega (arith, long);
       three_behind = omega (arith, ap length back, length-append (encoding m.trail) (bytes m.rest), trail);
@@ -40,13 +39,10 @@ meeting_bytes {w} {v} m e g =
 -- the bytes of two lists glued
 pub bytes_paired : {w v : List ℕ} (c d : List ℕ) (m : MeetsAsPair c d) → bytes c ≡ w → bytes d ≡ v → bytes (glue c d) ≡ paired_bytes w m.lead m.trail v
 bytes_paired {w} {v} c d m e g =
-    let s = meeting_bytes m e g in
-    let four = encoding (pair m.lead m.trail) in
-    ap bytes (glue_meeting c d m) ∙ (bytes-append m.front (pair m.lead m.trail ∷ m.rest) ∙ (sym (append_assoc (bytes m.front) four (bytes m.rest))
-    ∙ (ap (λ f. (f ++ four) ++ bytes m.rest) (sym s.before) ∙ ap (λ r. (take (length w - 3) w ++ four) ++ r) (sym s.behind))))
+    let s = meeting_bytes m e g in simp (glue_meeting c d m, bytes-append, s.before, s.behind, append_assoc)
 
 pub bytes_apart : {w v : List ℕ} (c d : List ℕ) → ¬ (MeetsAsPair c d) → bytes c ≡ w → bytes d ≡ v → bytes (glue c d) ≡ w ++ v
-bytes_apart {w} {v} c d n e g = ap bytes (glue_apart c d n) ∙ (bytes-append c d ∙ (ap (λ z. z ++ bytes d) e ∙ ap (λ z. w ++ z) g))
+bytes_apart {w} {v} c d n e g = simp (glue_apart c d n, bytes-append, e, g)
 
 -- a pair has one byte more than its lead, and two less than both
 pub length-joined : (w : List ℕ) (l t : ℕ) → IsLead l → IsTrail t → 3 ≤ length w → length (take (length w - 3) w ++ encoding (pair l t)) ≡ length w + 1
@@ -80,8 +76,7 @@ lead_last c g l h e = elim (last_of c) [
             let same = same_from_push (units f) g p l (ap (λ u. units f ++ u) (sym (units_one p s)) ∙ whole) in
             (f, z ∙ ap (λ n. f ++ n ∷ []) same.1)
         | inr s ↦
-            let two : (units f ++ lead_of p ∷ []) ++ trail_of p ∷ [] ≡ g ++ l ∷ [] = append_assoc (units f) (lead_of p ∷ []) (trail_of p ∷ [])
-            ∙ (ap (λ u. units f ++ u) (sym (units_two p s)) ∙ whole) in
+            let two : (units f ++ lead_of p ∷ []) ++ trail_of p ∷ [] ≡ g ++ l ∷ [] = rw (append_assoc, ← units_two p s) whole in
             let same = same_from_push (units f ++ lead_of p ∷ []) g (trail_of p) l two in
             absurd (omega (arith, same.1, h.1))
       ]

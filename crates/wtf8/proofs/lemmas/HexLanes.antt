@@ -73,23 +73,17 @@ woven bytes p = subst (λ bs. placed (map digit (map (λ b. b / 16) bs) ++ map d
 -- the digits of the halves, put in their places, are those of the bytes
 pub block_text : (bytes first second : List ℕ) → length bytes ≡ 16 → first ≡ map digit (highs bytes) → second ≡ map digit (lows bytes)
     → placed (first ++ second) ≡ flat_map spaced bytes
-block_text bytes first second p f s =
-    ap (λ h. placed (h ++ second)) (f ∙ ap (map digit) (high bytes p))
-    ∙ ap (λ l. placed (map digit (map (λ b. b / 16) bytes) ++ l)) (s ∙ ap (map digit) (low bytes p)) ∙ woven bytes p
+block_text bytes first second p f s = rw (f, s, high bytes p, low bytes p) (woven bytes p)
 
 -- some bytes more behind those so far
 pub more_spaced : (text start bytes : List ℕ) (at n : ℕ) → text ≡ start ++ flat_map spaced (take at bytes)
     → text ++ flat_map spaced (take n (drop at bytes)) ≡ start ++ flat_map spaced (take (at + n) bytes)
-more_spaced text start bytes at n e =
-    ap (λ t. t ++ flat_map spaced (take n (drop at bytes))) e ∙ append_assoc start _ _
-    ∙ ap (λ t. start ++ t) (sym (flat_map-append spaced (take at bytes) (take n (drop at bytes))) ∙ ap (flat_map spaced) (sym (take-add at n bytes)))
+more_spaced text start bytes at n e = simp (e, append_assoc, take-add at n bytes, flat_map-append)
 
 -- and the rest of them
 pub all_spaced : (text start bytes : List ℕ) (at : ℕ) → text ≡ start ++ flat_map spaced (take at bytes)
     → text ++ flat_map spaced (drop at bytes) ≡ start ++ flat_map spaced bytes
-all_spaced text start bytes at e =
-    ap (λ t. t ++ flat_map spaced (drop at bytes)) e ∙ append_assoc start _ _
-    ∙ ap (λ t. start ++ t) (sym (flat_map-append spaced (take at bytes) (drop at bytes)) ∙ ap (flat_map spaced) (take-append-drop at bytes))
+all_spaced text start bytes at e = simp (e, append_assoc, ← flat_map-append, take-append-drop)
 
 digit_ascii : (n : ℕ) → n < 16 → digit n < 128
 unfolding digit

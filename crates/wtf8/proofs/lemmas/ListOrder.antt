@@ -17,8 +17,7 @@ less_of [] (y ∷ ys) h = refl
 less_of (x ∷ xs) [] h = absurd h
 less_of (x ∷ xs) (y ∷ ys) h = elim h [
   | inl l ↦ ap (λ o. ordering_then o (slice_cmp nat_cmp xs ys)) (cmp_less x y l)
-  | inr e ↦ ap (λ z. ordering_then (nat_cmp x z) (slice_cmp nat_cmp xs ys)) (sym e.0)
-      ∙ (ap (λ o. ordering_then o (slice_cmp nat_cmp xs ys)) (cmp_same x) ∙ less_of xs ys e.1)
+  | inr e ↦ rw (← e.0, cmp_same x) (less_of xs ys e.1)
 ]
 
 pub greater_of : (c d : List ℕ) → Before d c → slice_cmp nat_cmp c d ≡ Greater

@@ -1,6 +1,6 @@
 -- Each list of units has one reading at most and one form at most, and bytes determine code points and units.
 use Rattle.wtf8.proofs.Common.{◌≡◌, ℕ, ◌<◌, ◌≤◌, inl, inr, List, [], ◌∷◌, ◌++◌, length, get_or, drop, refl, sym, ap, ◌∙◌, arith, length-append, cases_lt}
-use Rattle.wtf8.proofs.Common.{drop_all, drop_at, bytes-injective, IsCodePoint, IsTrail, units, IsClean, bytes, encoding, IsWellFormed, IsForm, BeginsWithPoint}
+use Rattle.wtf8.proofs.Common.{drop_all, drop_at, bytes-injective, IsCodePoint, IsTrail, units, IsClean, Reads, bytes, encoding, IsWellFormed, IsForm, BeginsWithPoint}
 use Rattle.wtf8.proofs.lemmas.Clean.{clean-first, clean-rest}
 use Rattle.wtf8.proofs.lemmas.Units.{lead_of, trail_of, units-cons_one, units-cons_two}
 
@@ -52,10 +52,12 @@ same_reading (p ∷ c) (q ∷ d) x y e = elim (cases_lt p 0x10000) [
   ]
 ]
 
+pub reads_same : {c d u : List ℕ} → Reads c u → Reads d u → c ≡ d
+reads_same {c} {d} x y = same_reading c d x.clean y.clean (x.same_units ∙ sym y.same_units)
+
 -- equal units have equal forms
 pub same_form : (w v u : List ℕ) → IsForm w u → IsForm v u → w ≡ v
-same_form w v u x y =
-    sym x.encoded ∙ (ap bytes (same_reading x.points y.points x.reads.clean y.reads.clean (x.reads.same_units ∙ sym y.reads.same_units)) ∙ y.encoded)
+same_form w v u x y = sym x.encoded ∙ ap bytes (reads_same x.reads y.reads) ∙ y.encoded
 
 -- well-formed bytes are the form of the units of their code points
 abbrev pub form_of : {w : List ℕ} (h : IsWellFormed w) → IsForm w (units h.points)

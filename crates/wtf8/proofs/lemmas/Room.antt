@@ -25,14 +25,9 @@ glued_length c d = elim (meets_or_apart c d) [
       let both = ap length (bytes_paired c d m refl refl) in
       let paired = length-paired_bytes (bytes c) (bytes d) m.lead m.trail m.is_lead m.is_trail s.three s.three_behind in
       let three = length-surrogate m.trail (omega (arith, m.is_trail), omega (arith, m.is_trail)) in
-      let back : length (bytes d) ≡ 3 + length (bytes m.rest) = ap (λ e. length (bytes e)) m.begins
-      ∙ (length-append (encoding m.trail) (bytes m.rest) ∙ ap (λ n. n + length (bytes m.rest)) three) in
-      let own : length (units d) ≡ 1 + length (units m.rest) = omega (
-        arith,
-        ap (λ e. length (units e)) m.begins,
-        length-append (units_of m.trail) (units m.rest),
-        ap length (units_one m.trail (omega (arith, m.is_trail))),
-      ) in
+      let back : length (bytes d) ≡ 3 + length (bytes m.rest) = simp (m.begins, length-append, three) in
+      let one = units_one m.trail (omega (arith, m.is_trail)) in
+      let own : length (units d) ≡ 1 + length (units m.rest) = simp (m.begins, length-append, one) in
       let rest = (units_bounds m.rest).at_least in
       record { least = omega (arith, both, paired, back, own, rest); most = omega (arith, both, paired) }
   | inr n ↦
@@ -85,14 +80,9 @@ units-points ps qs = ap units (map-append number ps qs) ∙ units-append (number
 
 -- a call that finds room leads where it is said to
 pub found_step : (u : List ℕ) (call : Build) (v w : List ℕ) (n r : ℕ) → FindsRoom u call v n → Step u call w r → w ≡ v
-found_step u (Push p) v w n r f s = s.0 ∙ sym f.step.0
-found_step u (PushChar x) v w n r f s = s.0 ∙ sym f.step.0
-found_step u (PushStr t) v w n r f s = s.0 ∙ sym f.step.0
-found_step u (PushWtf8 t) v w n r f s = s.0 ∙ sym f.step.0
-found_step u (Extend d) v w n r f s = s.0 ∙ sym f.step.0
-found_step u (Reserve k) v w n r f s = s.0 ∙ sym f.step.0
 found_step u (Truncate k) v w n r f s = absurd f.no_truncation
 found_step u (TruncateUnits k) v w n r f s = absurd f.no_truncation
+found_step u call v w n r f s = s.0 ∙ sym f.step.0
 
 -- what finds room in a capacity finds it in a greater one
 pub wider : {u v : List ℕ} {call : Build} {m n : ℕ} → FindsRoom u call v m → m ≤ n → FindsRoom u call v n
@@ -110,12 +100,10 @@ pub record Found (u : List ℕ) (calls : List Build) (now : List ℕ) (capacity 
 pub found_more : {u now new : List ℕ} {calls : List Build} {call : Build} {capacity grown larger : ℕ} (r : ℕ) → Found u calls now capacity grown
     → Step now call new r → ((v : List ℕ) → FindsRoom now call v capacity → grown ≤ larger) → Found u (calls ++ call ∷ []) new capacity larger
 found_more {u} {now} {new} {calls} {call} {capacity} {grown} {larger} r f s h =
-    let before : (more : List Build) (v : List ℕ) → FindRoom u ((calls ++ call ∷ []) ++ more) v capacity
-    → FindRoom u (calls ++ call ∷ more) v capacity = λ more v x. subst (λ d. FindRoom u d v capacity) (append_assoc calls (call ∷ []) more) x in
     record {
-      rest = λ more v x. let here = f.rest (call ∷ more) v (before more v x) in
+      rest = λ more v x. let here = f.rest (call ∷ more) v (rw append_assoc at x) in
           subst (λ m. FindRoom m more v capacity) (sym (found_step now call here.0 new capacity r here.1 s)) here.2;
       grows = λ more v x.
-          let here = f.rest (call ∷ more) v (before more v x) in
-          let first = f.grows (call ∷ more) v (before more v x) in omega (arith, first, h here.0 here.1);
+          let here = f.rest (call ∷ more) v (rw append_assoc at x) in
+          omega (arith, f.grows (call ∷ more) v (rw append_assoc at x), h here.0 here.1);
     }

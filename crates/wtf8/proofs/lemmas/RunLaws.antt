@@ -58,12 +58,6 @@ record StepsOnce (u : List ℕ) (call : Build) : Type 0 where
   no_other : (v : List ℕ) (r : ℕ) → Step u call v r → (v ≡ outcome) × (r ≡ count)
 
 step_once : (u : List ℕ) (call : Build) → StepsOnce u call
-step_once u (Push p) = record { outcome = u ++ units_of (number p); count = 0; goes = (refl, refl); no_other = λ v r s. s }
-step_once u (PushChar x) = record { outcome = u ++ units_of x; count = 0; goes = (refl, refl); no_other = λ v r s. s }
-step_once u (PushStr t) = record { outcome = u ++ units (chars t.now); count = 0; goes = (refl, refl); no_other = λ v r s. s }
-step_once u (PushWtf8 t) = record { outcome = u ++ units t.well_formed.points; count = 0; goes = (refl, refl); no_other = λ v r s. s }
-step_once u (Extend d) = record { outcome = u ++ units (numbers d.now); count = 0; goes = (refl, refl); no_other = λ v r s. s }
-step_once u (Reserve n) = record { outcome = u; count = 0; goes = (refl, refl); no_other = λ v r s. s }
 step_once u (Truncate k) = elim (boundary_or_not u k) [
   | inl b ↦
       let front : IsFront u k (units b.front) = record { front = b.front; back = b.back; splits = b.splits; same_units = refl } in
@@ -95,6 +89,7 @@ step_once u (TruncateUnits n) = elim (cases_lt (length u) n) [
     no_other = λ v r s. elim s [ inl x ↦ (x.1, x.2) | inr x ↦ absurd (omega (arith, x.0, h)) ];
   }
 ]
+step_once u call = record { outcome = _; count = _; goes = (refl, refl); no_other = λ v r s. s }
 
 -- one run behind another
 pub runs_add : RunsAddUp

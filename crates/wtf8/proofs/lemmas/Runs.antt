@@ -17,24 +17,15 @@ some_same a b e = cc
 
 -- what a call appends
 pub step_appends : (u : List ℕ) (call : Build) (v : List ℕ) (r : ℕ) (a : List ℕ) → Step u call v r → appended call ≡ Some a → v ≡ u ++ a
-step_appends u (Push p) v r a s e = s.0 ∙ ap (λ b. u ++ b) (some_same _ a e)
-step_appends u (PushChar x) v r a s e = s.0 ∙ ap (λ b. u ++ b) (some_same _ a e)
-step_appends u (PushStr t) v r a s e = s.0 ∙ ap (λ b. u ++ b) (some_same _ a e)
-step_appends u (PushWtf8 t) v r a s e = s.0 ∙ ap (λ b. u ++ b) (some_same _ a e)
-step_appends u (Extend d) v r a s e = s.0 ∙ ap (λ b. u ++ b) (some_same _ a e)
 step_appends u (Reserve n) v r a s e = absurd (none-some a e)
 step_appends u (Truncate k) v r a s e = absurd (none-some a e)
 step_appends u (TruncateUnits n) v r a s e = absurd (none-some a e)
+step_appends u call v r a s e = s.0 ∙ ap (λ b. u ++ b) (some_same _ a e)
 
 pub no_truncation : (call : Build) (a : List ℕ) → appended call ≡ Some a → IsNoTruncation call
-no_truncation (Push p) a e = tt
-no_truncation (PushChar x) a e = tt
-no_truncation (PushStr t) a e = tt
-no_truncation (PushWtf8 t) a e = tt
-no_truncation (Extend d) a e = tt
-no_truncation (Reserve n) a e = tt
 no_truncation (Truncate k) a e = absurd (none-some a e)
 no_truncation (TruncateUnits n) a e = absurd (none-some a e)
+no_truncation call a e = tt
 
 -- what a list appends, in two parts
 pub record Parts (calls more : List Build) (v : List ℕ) : Type 0 where
@@ -87,6 +78,5 @@ among u calls call more v mid f x =
       before = p.first;
       appends = p.second.2;
       behind = p.second.3;
-      joined = ap (λ b. u ++ b) (p.joined ∙ ap (λ b. p.front ++ b) p.second.4)
-          ∙ (sym (append_assoc u p.front (p.second.0 ++ p.second.1)) ∙ ap (λ b. b ++ (p.second.0 ++ p.second.1)) (sym (f p.front p.first)));
+      joined = simp (p.joined, p.second.4, f p.front p.first, append_assoc);
     }

@@ -51,8 +51,7 @@ module _ {T E : Type 0} where
       → AreScalar h.points → OnOk r (GainsUnits old new v) → OnErr r (new ≡ old) → AreScalar k.points
   scalar_gained (Ok _) c v h k e x s t ok err =
       let f = ok (units h.points) (form_of h) in
-      let whole : units k.points ≡ units (h.points ++ c) = ap units (bytes-injective k.points f.points (k.encoded ∙ sym f.encoded))
-      ∙ (f.reads.same_units ∙ (ap (λ u. units h.points ++ u) e ∙ sym (units-append h.points c))) in
+      let whole : units k.points ≡ units (h.points ++ c) = cc (bytes-injective k.points f.points (cc), units-append h.points c) in
       let same : k.points ≡ h.points ++ c = same_reading k.points (h.points ++ c) k.clean (clean-append h.points c h.clean x (scalar_apart t)) whole in
       subst AreScalar (sym same) (scalar-append h.points c t s)
   scalar_gained (Err _) c v h k e x s t ok err = scalar_moved h k err t

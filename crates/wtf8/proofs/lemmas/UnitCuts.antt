@@ -50,8 +50,7 @@ divided {c} {n} {k} {p} x =
     let d : Divides x.front x.back n p = x.counted in
     let joined : c ≡ x.front ++ p ∷ d.rest = x.joined ∙ ap (λ b. x.front ++ b) d.first in
     let whole : units c ≡ (units x.front ++ lead_of p ∷ []) ++ (trail_of p ∷ units d.rest) =
-    ap units joined ∙ (units-append x.front (p ∷ d.rest) ∙ (ap (λ u. units x.front ++ (u ++ units d.rest)) (units_two p d.supplementary)
-    ∙ sym (append_assoc (units x.front) (lead_of p ∷ []) (trail_of p ∷ units d.rest)))) in
+    simp (joined, units-append, units_two p d.supplementary, append_assoc) in
     let long : length (units x.front ++ lead_of p ∷ []) ≡ n = omega (arith, length-append (units x.front) (lead_of p ∷ []), d.inside) in
     let pushed : c ≡ (x.front ++ p ∷ []) ++ d.rest = joined ∙ sym (append_assoc x.front (p ∷ []) d.rest) in
     let pushed_len : length (bytes (x.front ++ p ∷ [])) ≡ k + 4 = omega (
@@ -100,7 +99,7 @@ pub lead_kept_units : {c : List ℕ} {n k p : ℕ} {front rest : List ℕ} → I
     → units (front ++ lead_of p ∷ []) ≡ take n (units c)
 lead_kept_units {c} {n} {k} {p} {front} {rest} clean d =
     let range = in_range clean d in
-    units-pushed front (lead_of p) ∙ (ap (λ u. units front ++ u) (units_one (lead_of p) (omega (arith, range, d.large))) ∙ sym d.kept)
+    cc (units-pushed front (lead_of p), units_one (lead_of p) (omega (arith, range, d.large)), d.kept)
 
 -- the code points before an undivided pair are the front of its position
 pub front_at : {w : List ℕ} (h : IsWellFormed w) {n k : ℕ} (x : CutsUnits h.points n k None) → IsFront (units h.points) k (take n (units h.points))

@@ -30,7 +30,7 @@ order_there (x ∷ w) (y ∷ v) zero d = elim (cases_lt x y) [
 ]
 order_there (x ∷ w) (y ∷ v) (suc n) d =
     let same : y ≡ x = sym (ap (λ u. get_or u 0 0) d.same_before) in
-    order_there w v n (difference_behind x y w v n d) ∙ (sym (cmp_behind (x ∷ []) w v) ∙ ap (λ z. slice_cmp nat_cmp (x ∷ w) (z ∷ v)) (sym same))
+    order_there w v n (difference_behind x y w v n d) ∙ rw same (sym (cmp_behind (x ∷ []) w v))
 
 cmp_behind_both : (a b : ℕ) → nat_cmp (suc a) (suc b) ≡ nat_cmp a b
 cmp_behind_both a b = grind (arith, nat_tests)
@@ -56,13 +56,7 @@ record Continues (front d rest : List ℕ) : Type 0 where
 
 continues : (front d rest : List ℕ) → bytes d ≡ bytes front ++ rest → Continues front d rest
 continues [] d rest e = record { points = d; joined = refl; encoded = e }
-continues (p ∷ front) [] rest e = absurd (omega (
-  arith,
-  ap length e,
-  length-append (bytes (p ∷ front)) rest,
-  length-append (encoding p) (bytes front),
-  length-encoding_bounds p,
-))
+continues (p ∷ front) [] rest e = absurd (omega (arith, simp length-append at (ap length e), length-encoding_bounds p))
 continues (p ∷ front) (q ∷ d) rest e =
     let heads = encoding_same q p (bytes d) (bytes front ++ rest) (e ∙ append_assoc (encoding p) (bytes front) rest) in
     let more = continues front d rest heads.1 in
@@ -92,12 +86,11 @@ pub rests_order : {w v x y : List ℕ} (h : IsWellFormed w) (k : IsWellFormed v)
     → (i : IsWellFormed x) (j : IsWellFormed y) → x ≡ drop at w → y ≡ drop at v
     → slice_cmp nat_cmp (units i.points) (units j.points) ≡ slice_cmp nat_cmp (units h.points) (units k.points)
 rests_order h k at p i j e f =
-    let own : units h.points ≡ units p.front ++ units i.points = ap units p.own_joined
-    ∙ (units-append p.front p.own ∙ ap (λ c. units p.front ++ units c) (sym (points_behind h i p.front p.own at p.own_joined p.front_len e))) in
-    let others : units k.points ≡ units p.front ++ units j.points = ap units p.others_joined
-    ∙ (units-append p.front p.others ∙ ap (λ c. units p.front ++ units c) (sym (points_behind k j p.front p.others at p.others_joined p.front_len f))) in
-    sym (ap (λ u. slice_cmp nat_cmp u (units k.points)) own ∙ (ap (slice_cmp nat_cmp (units p.front ++ units i.points)) others
-    ∙ cmp_behind (units p.front) (units i.points) (units j.points)))
+    let own : units h.points ≡ units p.front ++ units i.points =
+    cc (p.own_joined, units-append p.front p.own, points_behind h i p.front p.own at p.own_joined p.front_len e) in
+    let others : units k.points ≡ units p.front ++ units j.points =
+    cc (p.others_joined, units-append p.front p.others, points_behind k j p.front p.others at p.others_joined p.front_len f) in
+    cc (own, others, cmp_behind (units p.front) (units i.points) (units j.points))
 
 pub both_or_neither : {P Q : Type 0} (a b : Bool) → IsTrue a ↔ P → IsTrue b ↔ Q → beq a b ≡ true → P ↔ Q
 both_or_neither true true p q e = (λ _. q.0 refl, λ _. p.0 refl)

@@ -74,8 +74,7 @@ known_behind : (w v a b : List ℕ) (known more both : Bool) → IsKnownForm w a
     → (IsTrue both → IsTrue known × IsTrue more) → IsKnownForm (w ++ v) (a ++ b) both
 known_behind w v a b known more both x y n flags =
     let whole = form_apart w v a b x.form y.form n in
-    let encoded : bytes (x.form.points ++ y.form.points) ≡ w ++ v = bytes-append x.form.points y.form.points
-    ∙ (ap (λ z. z ++ bytes y.form.points) x.form.encoded ∙ ap (λ z. w ++ z) y.form.encoded) in
+    let encoded : bytes (x.form.points ++ y.form.points) ≡ w ++ v = simp (bytes-append, x.form.encoded, y.form.encoded) in
     let same : x.form.points ++ y.form.points ≡ whole.points = bytes-injective (x.form.points ++ y.form.points) whole.points (encoded ∙ sym whole.encoded) in
     record { form = whole; scalar = λ t. subst AreScalar same (scalar-append x.form.points y.form.points (x.scalar (flags t).0) (y.scalar (flags t).1)) }
 

@@ -57,7 +57,7 @@ same_row p q r s h =
     let x = first_byte p r in
     let y = first_byte q s in
     let parts : PartInOneRow (x.byte ∷ x.rest) (y.byte ∷ y.rest) =
-    subst (λ v. PartInOneRow v (y.byte ∷ y.rest)) x.encoded (subst (PartInOneRow (encoding p ++ r)) y.encoded h) in
+    rw (x.encoded, y.encoded) at h in
     let both : BothBelow 0xF0 x.byte y.byte = elim (cases_lt x.byte y.byte) [
       | inl l ↦ parts.1 (omega arith)
       | inr l ↦ elim (cases_lt y.byte x.byte) [ inl m ↦ parts.1 (omega arith) | inr m ↦ (λ k. omega arith, λ k. omega arith) ]
@@ -84,8 +84,7 @@ points_as_units (p ∷ c) (q ∷ d) h =
         | inr n ↦
             let same : q ≡ p = omega arith in
             let rest = points_as_units c d (behind (encoding p) (bytes c) (bytes d) (subst (λ k. PartInOneRow (bytes (p ∷ c)) (bytes (k ∷ d))) same h)) in
-            ap (λ k. slice_cmp nat_cmp (p ∷ c) (k ∷ d)) same ∙ (cmp_behind (p ∷ []) c d ∙ (rest ∙ (sym (cmp_behind (units_of p) (units c) (units d))
-            ∙ ap (λ k. slice_cmp nat_cmp (units (p ∷ c)) (units (k ∷ d))) (sym same))))
+            rw same (cmp_behind (p ∷ []) c d ∙ rest ∙ sym (cmp_behind (units_of p) (units c) (units d)))
       ]
     ]
 

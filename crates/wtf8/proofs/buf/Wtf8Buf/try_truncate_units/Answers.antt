@@ -23,10 +23,8 @@ invariant_of-self-inside g c =
     let h = c.as_wtf8.result.well_formed in
     let k = c.in-Some.cut.position in
     let x = subst (CutsUnits h.points c.args.n k) c.in-Some-divided.is c.in-Some.ensures.some in
-    let same = c.as_wtf8.ensures.bytes ∙ sym (ap (λ (t : UnitString). t.bytes) c.self.view_is) in
-    let kept = ap (λ l. take k c.self.inside.bytes.items ++ encoding l) c.lead_of-lead.ensures
-    ∙ ap (λ w. take k w ++ encoding (lead_of c.in-Some-divided.value)) (sym same) in
-    (moved (lead_kept h (divided x)) (c.keep_lead.ensures ∙ kept), (λ known. absurd (false≢true known), tt))
+    let same = ap (λ (t : UnitString). t.bytes) c.self.view_is in
+    (moved (lead_kept h (divided x)) (cc same), (λ known. absurd (false≢true known), tt))
 
 pub returns-in-None : goal.returns-in-None
 returns-in-None g c =
@@ -46,10 +44,8 @@ returns-in-Some-divided g c =
     let h = c.as_wtf8.result.well_formed in
     let k = c.in-Some.cut.position in
     let x = subst (CutsUnits h.points c.args.n k) c.in-Some-divided.is c.in-Some.ensures.some in
-    let same = c.as_wtf8.ensures.bytes ∙ sym (ap (λ (t : UnitString). t.bytes) c.self.view_is) in
-    let kept = ap (λ l. take k c.self.inside.bytes.items ++ encoding l) c.lead_of-lead.ensures
-    ∙ ap (λ w. take k w ++ encoding (lead_of c.in-Some-divided.value)) (sym same) in
-    let points = same_points c.self-1.given.0 (lead_kept h (divided x)) (c.keep_lead.ensures ∙ kept) in
+    let same = ap (λ (t : UnitString). t.bytes) c.self.view_is in
+    let points = same_points c.self-1.given.0 (lead_kept h (divided x)) (cc same) in
     inl (
       omega (arith, (divided x).within, ap length c.as_wtf8.ensures.units),
       ap units points ∙ (lead_kept_units h.clean (divided x) ∙ ap (take c.args.n) c.as_wtf8.ensures.units),
