@@ -5,7 +5,7 @@ pub use Rattle.std.proofs.Common.{OnOk, OnErr, ◌≢◌, ◌↔◌, IsTrue, ◌
 pub use Rattle.std.proofs.Common.{Fits, Option, MatchResult, IfSome, bit_and, is_ok, rules, vec_len, vec_capacity, length-take}
 pub use Rattle.std.proofs.Math.Utf8.{scalar_cases}
 pub use Rattle.std.proofs.Output.{has_written_styled_nil}
-pub use Rattle.std.proofs.lemmas.Bool.{cases_Bool, eqb-true, cases_lt, le-leb, lt-leb, false≢true, lt-ltb, le-ltb, leb-true, and_parts, and_from, both_ways}
+pub use Rattle.std.proofs.lemmas.Bool.{cases_order, cases_Bool, eqb-true, cases_lt, le-leb, lt-leb, false≢true, lt-ltb, le-ltb, leb-true, and_parts, and_from, both_ways}
 pub use Rattle.std.proofs.lemmas.Bool.{eq-eqb, not-false}
 pub use Rattle.std.proofs.lemmas.Bool.Decides.{nat_tests}
 pub use Rattle.std.proofs.lemmas.List.{take-append-drop, map-append, append-nil, take_at, drop_at, get_or-append_right, drop_all, get_or-append-add, take_all}

@@ -6,7 +6,7 @@ use Rattle.std.proofs.lemmas.List.{append_cancel_right}
 use Rattle.wtf8.specs.PositionLaws.{AsciiStandsAlone, AsciiIsOneUnit, AsciiIsNoOtherUnit}
 use Rattle.wtf8.proofs.lemmas.Encoding.{bytes-pushed, row_of, one, two, three, four}
 use Rattle.wtf8.proofs.lemmas.PositionLaws.{front_and_back}
-use Rattle.wtf8.proofs.lemmas.Positions.{cut_at, boundary_from_byte}
+use Rattle.wtf8.proofs.lemmas.Positions.{cut_at, front_boundary, boundary_from_byte}
 use Rattle.wtf8.proofs.lemmas.Readings.{well_formed_of}
 use Rattle.wtf8.proofs.lemmas.Splits.{first_behind}
 use Rattle.wtf8.proofs.lemmas.Units.{units-append, units_one, units_two}
@@ -63,9 +63,7 @@ ascii_stands {w} {u} form k h low =
 pub ascii_alone : AsciiStandsAlone
 ascii_alone w u k form h low =
     let s = ascii_stands form k h low in
-    let from = s.from_it in
-    let to = s.to_it in
-    (record { front = from.front; back = from.back; splits = from.splits }, record { front = to.front; back = to.back; splits = to.splits })
+    let from = s.from_it in (record { front = from.front; back = from.back; splits = from.splits }, front_boundary s.to_it)
 
 pub ascii_one_unit : AsciiIsOneUnit
 ascii_one_unit w u f g k form h low front back =

@@ -1,6 +1,6 @@
 -- The order of encodings byte by byte is the order of their code points.
 use Rattle.wtf8.proofs.Common.{◌≡◌, ℕ, ◌+◌, ◌/◌, ◌%◌, ◌<◌, inl, inr, ◌↔◌, List, [], ◌∷◌, ◌++◌, refl, sym, ap, ◌∙◌, arith, nat_cmp, slice_cmp, cases_lt}
-use Rattle.wtf8.proofs.Common.{encoding, bytes, Before}
+use Rattle.wtf8.proofs.Common.{encoding, bytes, Before, cases_order}
 use Rattle.wtf8.proofs.lemmas.Encoding.{row_of, one, two, three, four}
 use Rattle.wtf8.proofs.lemmas.ListOrder.{less_of, greater_of, cmp_behind, before_two, before_three, before_four, before_of}
 
@@ -43,15 +43,10 @@ pub cmp-bytes : (c d : List ℕ) → slice_cmp nat_cmp (bytes c) (bytes d) ≡ s
 cmp-bytes [] [] = refl
 cmp-bytes [] (q ∷ d) = less_of [] (bytes (q ∷ d)) (empty_before q (bytes d))
 cmp-bytes (p ∷ c) [] = greater_of (bytes (p ∷ c)) [] (empty_before p (bytes c))
-cmp-bytes (p ∷ c) (q ∷ d) = elim (cases_lt p q) [
-  | inl l ↦ less_of (bytes (p ∷ c)) (bytes (q ∷ d)) (before_encoding p q (bytes c) (bytes d) l) ∙ sym (less_of (p ∷ c) (q ∷ d) (inl l))
-  | inr m ↦ elim (cases_lt q p) [
-    | inl l ↦ greater_of (bytes (p ∷ c)) (bytes (q ∷ d)) (before_encoding q p (bytes d) (bytes c) l) ∙ sym (greater_of (p ∷ c) (q ∷ d) (inl l))
-    | inr n ↦
-        let same : p ≡ q = omega arith in
-        ap (λ x. slice_cmp nat_cmp (bytes (p ∷ c)) (bytes (x ∷ d))) (sym same) ∙ (cmp_behind (encoding p) (bytes c) (bytes d)
-        ∙ (cmp-bytes c d ∙ (sym (cmp_behind (p ∷ []) c d) ∙ ap (λ x. slice_cmp nat_cmp (p ∷ c) (x ∷ d)) same)))
-  ]
+cmp-bytes (p ∷ c) (q ∷ d) = elim (cases_order p q) [
+  | inl same ↦ rw (← same) (cmp_behind (encoding p) (bytes c) (bytes d) ∙ cmp-bytes c d ∙ sym (cmp_behind (p ∷ []) c d))
+  | inr (inl l) ↦ less_of (bytes (p ∷ c)) (bytes (q ∷ d)) (before_encoding p q (bytes c) (bytes d) l) ∙ sym (less_of (p ∷ c) (q ∷ d) (inl l))
+  | inr (inr l) ↦ greater_of (bytes (p ∷ c)) (bytes (q ∷ d)) (before_encoding q p (bytes d) (bytes c) l) ∙ sym (greater_of (p ∷ c) (q ∷ d) (inl l))
 ]
 
 -- encodings stand before one another as their code points do

@@ -44,20 +44,8 @@ last_surrogate {w} h len first second =
     let at : SurrogateAt w i = record { within = omega arith; first = first; second = omega (arith, next, second) } in
     let p = surrogate_in h.points i (subst (λ v. SurrogateAt v i) (sym h.encoded) at) in
     let whole : bytes p.front ++ (encoding p.point ++ bytes p.back) ≡ w = cc (bytes-append p.front (p.point ∷ p.back)) in
-    let none = no_bytes p.back (omega (
-      arith,
-      len,
-      p.front_len,
-      ap length whole,
-      length-append (bytes p.front) (encoding p.point ++ bytes p.back),
-      length-append (encoding p.point) (bytes p.back),
-      length-surrogate p.point p.surrogate,
-    )) in
+    let long = simp length-append at (ap length whole) in
+    let none = no_bytes p.back (omega (arith, len, p.front_len, long, length-surrogate p.point p.surrogate)) in
     let joined : h.points ≡ p.front ++ p.point ∷ [] = p.joined ∙ ap (λ b. p.front ++ p.point ∷ b) none in
-    record {
-      front = p.front;
-      point = p.point;
-      joined = joined;
-      surrogate = p.surrogate;
-      ends = ends_in_surrogate w p.front p.point p.surrogate (ap bytes (sym joined) ∙ h.encoded);
-    }
+    let ends = ends_in_surrogate w p.front p.point p.surrogate (ap bytes (sym joined) ∙ h.encoded) in
+    record { front = p.front; point = p.point; joined = joined; surrogate = p.surrogate; ends = ends }

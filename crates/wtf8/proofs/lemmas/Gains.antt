@@ -83,8 +83,5 @@ joined {w} h f l t lead trail e =
     let pair_bytes = take (length w - 3) w ++ encoding (pair l t) in
     let nothing : drop 3 (encoding t) ≡ [] = drop_all 3 (encoding t) (omega (arith, length-surrogate t (omega arith, omega arith))) in
     let whole : pair_bytes ++ drop 3 (encoding t) ≡ pair_bytes = ap (λ r. pair_bytes ++ r) nothing ∙ append-nil pair_bytes in
-    record {
-      three = three;
-      gains = subst (GainsUnits w pair_bytes) (append-nil (units_of t)) (subst (λ x. GainsUnits w x (units (t ∷ []))) whole (gains_meeting h k m));
-      longer = length-joined w l t lead trail three;
-    }
+    let gains = subst (GainsUnits w pair_bytes) (append-nil (units_of t)) (subst (λ x. GainsUnits w x (units (t ∷ []))) whole (gains_meeting h k m)) in
+    record { three = three; gains = gains; longer = length-joined w l t lead trail three }

@@ -1,6 +1,6 @@
 -- The order of lists of numbers, and comparing them one by one.
 use Rattle.wtf8.proofs.Common.{◌≡◌, ℕ, ◌<◌, ◌≤◌, inl, inr, List, [], ◌∷◌, ◌++◌, refl, sym, ap, ◌∙◌, arith, subst, Ordering, Less, Equal, Greater, nat_cmp}
-use Rattle.wtf8.proofs.Common.{ordering_then, MatchOrdering, slice_cmp, cases_lt, nat_tests, Before}
+use Rattle.wtf8.proofs.Common.{ordering_then, MatchOrdering, slice_cmp, cases_lt, nat_tests, Before, cases_order}
 use Rattle.std.specs.Ordering.{ordering_reverse}
 use Rattle.std.proofs.lemmas.Cmp.{nat_list_cmp_total}
 
@@ -58,15 +58,12 @@ order_of [] (y ∷ ys) = tt
 order_of (x ∷ xs) [] = tt
 order_of (x ∷ xs) (y ∷ ys) =
     let P : Ordering → Type 0 = λ o. MatchOrdering o (Before (x ∷ xs) (y ∷ ys)) (x ∷ xs ≡ y ∷ ys) (Before (y ∷ ys) (x ∷ xs)) in
-    elim (cases_lt x y) [
-      | inl l ↦ subst P (sym (less_of (x ∷ xs) (y ∷ ys) (inl l))) (inl l)
-      | inr m ↦ elim (cases_lt y x) [
-        | inl l ↦ subst P (sym (greater_of (x ∷ xs) (y ∷ ys) (inl l))) (inl l)
-        | inr n ↦
-            let same : x ≡ y = omega arith in
-            let first : nat_cmp x y ≡ Equal = ap (nat_cmp x) (sym same) ∙ cmp_same x in
-            subst P (ap (λ o. ordering_then o (slice_cmp nat_cmp xs ys)) (sym first)) (with_first x y xs ys same (slice_cmp nat_cmp xs ys) (order_of xs ys))
-      ]
+    elim (cases_order x y) [
+      | inl same ↦
+          let first : nat_cmp x y ≡ Equal = ap (nat_cmp x) (sym same) ∙ cmp_same x in
+          subst P (ap (λ o. ordering_then o (slice_cmp nat_cmp xs ys)) (sym first)) (with_first x y xs ys same (slice_cmp nat_cmp xs ys) (order_of xs ys))
+      | inr (inl l) ↦ subst P (sym (less_of (x ∷ xs) (y ∷ ys) (inl l))) (inl l)
+      | inr (inr l) ↦ subst P (sym (greater_of (x ∷ xs) (y ∷ ys) (inl l))) (inl l)
     ]
 
 -- what an answer by a comparison says

@@ -31,11 +31,7 @@ none_is_beyond w u k f b = (own_boundary f k b).within
 pub front_in_whole : FrontBoundariesAreOfWhole
 front_in_whole u v k m x b =
     let whole = ap (λ c. c ++ x.back) (reads_same (front_reads x) b.splits.reads) ∙ append_assoc b.front b.back x.back in
-    record {
-      front = b.front;
-      back = b.back ++ x.back;
-      splits = record { reads = subst (λ c. Reads c u) whole x.splits.reads; front_len = b.splits.front_len };
-    }
+    record { front = b.front; back = b.back ++ x.back; splits = record { reads = subst (λ c. Reads c u) whole x.splits.reads; front_len = b.splits.front_len } }
 
 pub whole_in_front : WholeBoundariesAreOfFront
 whole_in_front u v k m x h b =

@@ -14,6 +14,9 @@ front_reads f = record { clean = clean-front f.front f.back f.splits.reads.clean
 pub back_reads : {u v : List ℕ} {k : ℕ} (b : IsBack u k v) → Reads b.back v
 back_reads b = record { clean = clean-back b.front b.back b.splits.reads.clean; same_units = b.same_units }
 
+pub front_boundary : {u v : List ℕ} {k : ℕ} → IsFront u k v → IsBoundary u k
+front_boundary f = record { front = f.front; back = f.back; splits = f.splits }
+
 -- a front and a back of the code points, and the bytes before and behind the place where they meet
 pub record Cut (w : List ℕ) (h : IsWellFormed w) (k : ℕ) : Type 0 where
   pub front : List ℕ

@@ -64,21 +64,9 @@ replacing_step c w from found r least =
       next = record {
         done = (r.done ++ b.more) ++ p.point ∷ [];
         rest = p.back;
-        joined = r.joined ∙ (ap (λ d. r.done ++ d) rest ∙ (sym (append_assoc r.done b.more (p.point ∷ p.back))
-            ∙ sym (append_assoc (r.done ++ b.more) (p.point ∷ []) p.back)));
-        so_far = ap (λ v. v ++ (0xEF ∷ 0xBF ∷ 0xBD ∷ drop (found + 3) w)) a.before ∙ (ap (λ v. bytes p.front ++ (0xEF ∷ 0xBF ∷ 0xBD ∷ v)) a.behind
-            ∙ (ap (λ v. bytes p.front ++ (v ++ bytes p.back)) (sym sign)
-            ∙ (sym (bytes-append p.front (0xFFFD ∷ p.back)) ∙ (ap bytes (sym (append_assoc p.front (0xFFFD ∷ []) p.back))
-            ∙ ap (λ d. bytes (d ++ p.back)) (sym done)))));
-        place = omega (
-          arith,
-          ap (λ d. length (bytes d)) done,
-          ap length (bytes-append p.front (0xFFFD ∷ [])),
-          length-append (bytes p.front) (bytes (0xFFFD ∷ [])),
-          ap length (append-nil (encoding 0xFFFD)),
-          ap length sign,
-          p.front_len,
-        );
+        joined = r.joined ∙ simp (rest, append_assoc);
+        so_far = rw (a.before, a.behind, done, append_assoc p.front (0xFFFD ∷ []) p.back, bytes-append p.front (0xFFFD ∷ p.back), sign);
+        place = simp (done, bytes-append, length-append, sign, p.front_len);
       };
     }
 

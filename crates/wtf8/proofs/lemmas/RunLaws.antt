@@ -5,7 +5,7 @@ use Rattle.wtf8.proofs.Common.{Build, Push, PushChar, PushStr, PushWtf8, Extend,
 use Rattle.wtf8.specs.Building.{RunsOnce, RunsAddUp}
 use Rattle.wtf8.proofs.lemmas.Encoding.{Begins}
 use Rattle.wtf8.proofs.lemmas.FormLaws.{one_form, units_read}
-use Rattle.wtf8.proofs.lemmas.Positions.{same_front, cut_at, boundary_from_byte, byte_from_boundary}
+use Rattle.wtf8.proofs.lemmas.Positions.{same_front, front_boundary, cut_at, boundary_from_byte, byte_from_boundary}
 use Rattle.wtf8.proofs.lemmas.Readings.{well_formed_of}
 
 -- a list has units alone or not
@@ -19,10 +19,7 @@ units_or_not (x ∷ u) = elim (cases_lt x 0x10000) [
 begins_or_not : (b : ℕ) → Begins b ⊎ (Begins b → ⊥)
 begins_or_not b = elim (cases_lt b 0x80) [
   | inl h ↦ inl (record { start = inl h })
-  | inr h ↦ elim (cases_lt b 0xC0) [
-    | inl k ↦ inr (λ s. elim s.start [ inl x ↦ omega arith | inr x ↦ omega arith ])
-    | inr k ↦ inl (record { start = inr k })
-  ]
+  | inr h ↦ elim (cases_lt b 0xC0) [ inl k ↦ inr (λ s. omega (arith, s.start)) | inr k ↦ inl (record { start = inr k }) ]
 ]
 
 -- a position is a boundary of the form or not
@@ -60,34 +57,16 @@ record StepsOnce (u : List ℕ) (call : Build) : Type 0 where
 step_once : (u : List ℕ) (call : Build) → StepsOnce u call
 step_once u (Truncate k) = elim (boundary_or_not u k) [
   | inl b ↦
-      let front : IsFront u k (units b.front) = record { front = b.front; back = b.back; splits = b.splits; same_units = refl } in
-      record {
-        outcome = units b.front;
-        count = 0;
-        goes = inl (front, refl);
-        no_other = λ v r s. elim s [ inl x ↦ (same_front u k v (units b.front) x.0 front, x.1) | inr n ↦ absurd (n.0 b) ];
-      }
+      let f : IsFront u k (units b.front) = record { front = b.front; back = b.back; splits = b.splits; same_units = refl } in
+      record { outcome = _; count = _; goes = inl (f, refl); no_other = λ v r s. elim s [ inl x ↦ (same_front u k v _ x.0 f, x.1) | inr n ↦ absurd (n.0 b) ] }
   | inr n ↦
-      record {
-        outcome = u;
-        count = 1;
-        goes = inr (n, refl, refl);
-        no_other = λ v r s. elim s [ inl x ↦ absurd (n (record { front = x.0.front; back = x.0.back; splits = x.0.splits })) | inr m ↦ (m.1, m.2) ];
-      }
+      record { outcome = _; count = _; goes = inr (n, refl, refl); no_other = λ v r s. elim s [ inl x ↦ absurd (n (front_boundary x.0)) | inr m ↦ (m.1, m.2) ] }
 ]
 step_once u (TruncateUnits n) = elim (cases_lt (length u) n) [
-  | inl h ↦ record {
-    outcome = u;
-    count = 1;
-    goes = inr (h, refl, refl);
-    no_other = λ v r s. elim s [ inl x ↦ absurd (omega (arith, x.0, h)) | inr x ↦ (x.1, x.2) ];
-  }
-  | inr h ↦ record {
-    outcome = take n u;
-    count = 0;
-    goes = inl (h, refl, refl);
-    no_other = λ v r s. elim s [ inl x ↦ (x.1, x.2) | inr x ↦ absurd (omega (arith, x.0, h)) ];
-  }
+  | inl h ↦
+      record { outcome = _; count = _; goes = inr (h, refl, refl); no_other = λ v r s. elim s [ inl x ↦ absurd (omega (arith, x.0, h)) | inr x ↦ (x.1, x.2) ] }
+  | inr h ↦
+      record { outcome = _; count = _; goes = inl (h, refl, refl); no_other = λ v r s. elim s [ inl x ↦ (x.1, x.2) | inr x ↦ absurd (omega (arith, x.0, h)) ] }
 ]
 step_once u call = record { outcome = _; count = _; goes = (refl, refl); no_other = λ v r s. s }
 

@@ -39,13 +39,8 @@ pub append_parts : (calls more : List Build) (v : List ℕ) → Append (calls ++
 append_parts [] more v x = record { front = []; back = v; first = refl; second = x; joined = refl }
 append_parts (c ∷ calls) more v x =
     let p = append_parts calls more x.1 x.3 in
-    record {
-      front = x.0 ++ p.front;
-      back = p.back;
-      first = (x.0, p.front, x.2, p.first, refl);
-      second = p.second;
-      joined = x.4 ∙ (ap (λ b. x.0 ++ b) p.joined ∙ sym (append_assoc x.0 p.front p.back));
-    }
+    let joined = x.4 ∙ ap (λ b. x.0 ++ b) p.joined ∙ sym (append_assoc x.0 p.front p.back) in
+    record { front = x.0 ++ p.front; back = p.back; first = (x.0, p.front, x.2, p.first, refl); second = p.second; joined = joined }
 
 pub call_among : (calls : List Build) (i : ℕ) (call : Build) → i < length calls → call ≡ get_or calls i call → All IsNoTruncation calls → IsNoTruncation call
 call_among calls i call h e all = subst IsNoTruncation (sym e) (All-get_or IsNoTruncation calls i call h all)

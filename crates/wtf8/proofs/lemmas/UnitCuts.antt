@@ -53,13 +53,9 @@ divided {c} {n} {k} {p} x =
     simp (joined, units-append, units_two p d.supplementary, append_assoc) in
     let long : length (units x.front ++ lead_of p ∷ []) ≡ n = omega (arith, length-append (units x.front) (lead_of p ∷ []), d.inside) in
     let pushed : c ≡ (x.front ++ p ∷ []) ++ d.rest = joined ∙ sym (append_assoc x.front (p ∷ []) d.rest) in
-    let pushed_len : length (bytes (x.front ++ p ∷ [])) ≡ k + 4 = omega (
-      arith,
-      ap length (bytes-pushed x.front p),
-      length-append (bytes x.front) (encoding p),
-      ap length (encoding_four p d.supplementary),
-      x.front_len,
-    ) in
+    let pushed_len : length (bytes (x.front ++ p ∷ [])) ≡ k + 4 =
+    simp (bytes-pushed, length-append, encoding_four p d.supplementary, x.front_len) in
+    let all_len = ap (λ v. length (bytes v)) pushed ∙ ap length (bytes-append (x.front ++ p ∷ []) d.rest) in
     record {
       joined = joined;
       large = d.supplementary;
@@ -70,13 +66,7 @@ divided {c} {n} {k} {p} x =
       front_len = x.front_len;
       pushed = pushed;
       pushed_len = pushed_len;
-      long = omega (
-        arith,
-        pushed_len,
-        ap (λ v. length (bytes v)) pushed,
-        ap length (bytes-append (x.front ++ p ∷ []) d.rest),
-        length-append (bytes (x.front ++ p ∷ [])) (bytes d.rest),
-      );
+      long = omega (arith, pushed_len, all_len, length-append (bytes (x.front ++ p ∷ [])) (bytes d.rest));
     }
 
 pub in_range : {c : List ℕ} {n k p : ℕ} {front rest : List ℕ} → IsClean c → Divided c n k p front rest → IsCodePoint p

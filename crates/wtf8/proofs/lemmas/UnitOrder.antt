@@ -1,7 +1,7 @@
 -- The order of units: the bytes where two strings first differ, and the strings behind the place where they part.
 use Rattle.wtf8.proofs.Common.{◌≡◌, ◌↔◌, ℕ, zero, suc, Bool, true, false, IsTrue, ◌<◌, ◌≤◌, ◌⊎◌, inl, inr, List, [], ◌∷◌, ◌++◌, length, take, drop, get_or}
 use Rattle.wtf8.proofs.Common.{refl, sym, ap, ◌∙◌, subst, arith, length-append, append_assoc, cases_lt, false≢true, take-append-drop, nat_tests, slice_cmp}
-use Rattle.wtf8.proofs.Common.{slice_get, option_cmp, nat_cmp, Greater, units, encoding, bytes, IsWellFormed, IsFirstDifference, PairBegins}
+use Rattle.wtf8.proofs.Common.{slice_get, option_cmp, nat_cmp, Greater, units, encoding, bytes, IsWellFormed, IsFirstDifference, PairBegins, cases_order}
 use Rattle.std.proofs.lemmas.Bool.{true≢false}
 use Rattle.std.specs.Bool.{beq}
 use Rattle.wtf8.proofs.lemmas.Comparing.{cmp_points}
@@ -21,12 +21,10 @@ order_there [] (y ∷ v) zero d = refl
 order_there [] (y ∷ v) (suc n) d = absurd (omega (arith, d.within_first))
 order_there (x ∷ w) [] zero d = refl
 order_there (x ∷ w) [] (suc n) d = absurd (omega (arith, d.within_second))
-order_there (x ∷ w) (y ∷ v) zero d = elim (cases_lt x y) [
-  | inl l ↦ cmp_less x y l ∙ sym (less_of (x ∷ w) (y ∷ v) (inl l))
-  | inr m ↦ elim (cases_lt y x) [
-    | inl l ↦ cmp_greater x y l ∙ sym (greater_of (x ∷ w) (y ∷ v) (inl l))
-    | inr n ↦ absurd (d.differ_there (omega arith) (omega arith) (omega arith))
-  ]
+order_there (x ∷ w) (y ∷ v) zero d = elim (cases_order x y) [
+  | inl e ↦ absurd (d.differ_there (omega arith) (omega arith) e)
+  | inr (inl l) ↦ cmp_less x y l ∙ sym (less_of (x ∷ w) (y ∷ v) (inl l))
+  | inr (inr l) ↦ cmp_greater x y l ∙ sym (greater_of (x ∷ w) (y ∷ v) (inl l))
 ]
 order_there (x ∷ w) (y ∷ v) (suc n) d =
     let same : y ≡ x = sym (ap (λ u. get_or u 0 0) d.same_before) in
@@ -46,7 +44,7 @@ lengths_decide (x ∷ w) (y ∷ v) (suc n) end h k e =
     let same : y ≡ x = sym (ap (λ u. get_or u 0 0) e) in
     let shorter : length w ≤ n ⊎ length v ≤ n = elim end [ inl l ↦ inl (omega (arith, l)) | inr l ↦ inr (omega (arith, l)) ] in
     let rests = lengths_decide w v n shorter (omega arith) (omega arith) (ap (drop 1) e) in
-    cmp_behind_both (length w) (length v) ∙ (rests ∙ (sym (cmp_behind (x ∷ []) w v) ∙ ap (λ z. slice_cmp nat_cmp (x ∷ w) (z ∷ v)) (sym same)))
+    rw same (cmp_behind_both (length w) (length v) ∙ rests ∙ sym (cmp_behind (x ∷ []) w v))
 
 -- code points whose bytes begin with those of a front have that front
 record Continues (front d rest : List ℕ) : Type 0 where

@@ -14,12 +14,8 @@ invariant_of-self-inside g c =
       (
         λ known. elim c.if-new_len-eq0.branch [
           | then-new_len-eq0 w ↦
-              subst AreScalar (sym (no_points now (omega (
-                arith,
-                w.if-new_len-eq0.true,
-                ap length c.truncate.ensures.items,
-                length-take c.args.new_len c.self.inside.bytes.items,
-              )))) tt
+              let none = length-take c.args.new_len c.self.inside.bytes.items in
+              subst AreScalar (sym (no_points now (omega (arith, w.if-new_len-eq0.true, ap length c.truncate.ensures.items, none)))) tt
           | else-new_len-eq0 w ↦
               let scalar = c.self.inside.known_scalar (subst (λ s. IsTrue s.1.1.0) w.self-inside-is known) in
               subst AreScalar (sym cut.before_points) (scalar-front cut.front cut.back (subst AreScalar cut.points scalar))
