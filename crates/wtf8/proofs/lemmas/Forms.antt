@@ -70,11 +70,9 @@ pub lead_last : (c g : List ℕ) (l : ℕ) → IsLead l → units c ≡ g ++ l �
 lead_last c g l h e = elim (last_of c) [
   | empty z ↦ absurd (omega (arith, ap (λ d. length (units d)) z, ap length e, length-append g (l ∷ [])))
   | ends f p z ↦
-      let whole : units f ++ units_of p ≡ g ++ l ∷ [] = sym (units-pushed f p) ∙ (ap units (sym z) ∙ e) in
+      let whole : units f ++ units_of p ≡ g ++ l ∷ [] = cc (units-pushed f p) in
       elim (cases_lt p 0x10000) [
-        | inl s ↦
-            let same = same_from_push (units f) g p l (ap (λ u. units f ++ u) (sym (units_one p s)) ∙ whole) in
-            (f, z ∙ ap (λ n. f ++ n ∷ []) same.1)
+        | inl s ↦ (f, z ∙ ap (λ n. f ++ n ∷ []) (same_from_push (units f) g p l (ap (λ u. units f ++ u) (sym (units_one p s)) ∙ whole)).1)
         | inr s ↦
             let two : (units f ++ lead_of p ∷ []) ++ trail_of p ∷ [] ≡ g ++ l ∷ [] = rw (append_assoc, ← units_two p s) whole in
             let same = same_from_push (units f ++ lead_of p ∷ []) g (trail_of p) l two in

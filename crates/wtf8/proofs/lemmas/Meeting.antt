@@ -1,13 +1,11 @@
 -- Where a lead ends one list and a trail begins another, and where they do not meet so.
 use Rattle.wtf8.proofs.Common.{◌≡◌, ℕ, ◌⊎◌, inl, inr, List, [], ◌∷◌, ◌++◌, drop, get_or, length, true, ◌&&◌, leb, refl, sym, ap, ◌∙◌, subst, arith}
-use Rattle.wtf8.proofs.Common.{length-append, leb-true, le-leb, and_parts, and_from, cases_Bool, false≢true, same_from_push, IsLead, IsTrail, MeetsAsPair}
+use Rattle.wtf8.proofs.Common.{length-append, leb-true, le-leb, and_parts, cases_Bool, false≢true, same_from_push, IsLead, IsTrail, MeetsAsPair}
 use Rattle.wtf8.specs.Concatenation.{is_pair}
 
 pub pair_true : (l t : ℕ) → IsLead l → IsTrail t → is_pair l t ≡ true
 unfolding is_pair
-pair_true l t h k =
-    and_from (leb 0xD800 l && leb l 0xDBFF) (leb 0xDC00 t && leb t 0xDFFF) (and_from (leb 0xD800 l) (leb l 0xDBFF) (le-leb 0xD800 l h.0) (le-leb l 0xDBFF h.1))
-    (and_from (leb 0xDC00 t) (leb t 0xDFFF) (le-leb 0xDC00 t k.0) (le-leb t 0xDFFF k.1))
+pair_true l t h k = rw (le-leb 0xD800 l h.0, le-leb l 0xDBFF h.1, le-leb 0xDC00 t k.0, le-leb t 0xDFFF k.1) refl
 
 pub true_pair : (l t : ℕ) → is_pair l t ≡ true → IsLead l × IsTrail t
 unfolding is_pair

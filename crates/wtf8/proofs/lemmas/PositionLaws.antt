@@ -1,10 +1,9 @@
 -- Proofs of the laws of positions and lengths.
-use Rattle.wtf8.proofs.Common.{◌≡◌, ℕ, List, [], ◌++◌, length, refl, ap, ◌∙◌, sym, subst, arith, append_assoc, length-append, append-nil, append_cancel_left}
-use Rattle.wtf8.proofs.Common.{units, bytes, IsClean, Reads, IsForm, IsBoundary}
+use Rattle.wtf8.proofs.Common.{ℕ, List, [], ◌++◌, length, refl, ap, ◌∙◌, sym, subst, arith, append_assoc, length-append, append-nil, append_cancel_left}
+use Rattle.wtf8.proofs.Common.{units, bytes, Reads, IsForm, IsBoundary}
 use Rattle.wtf8.specs.Laws.{FrontAndBackAreWhole}
 use Rattle.wtf8.specs.PositionLaws.{StartIsBoundary, EndIsBoundary, NoneIsBeyondEnd, FrontBoundariesAreOfWhole, WholeBoundariesAreOfFront}
 use Rattle.wtf8.specs.PositionLaws.{WholeBoundariesAreOfBack, BackBoundariesAreOfWhole, BeginningsAreNoLonger, BothAreNoLonger, ListsHaveLengths}
-use Rattle.wtf8.proofs.lemmas.Clean.{clean-front, clean-back}
 use Rattle.wtf8.proofs.lemmas.Encoding.{bytes-append}
 use Rattle.wtf8.proofs.lemmas.Positions.{Cut, cut_at, begun, same_front, front_reads, back_reads}
 use Rattle.wtf8.proofs.lemmas.Readings.{well_formed_of, reads_same, same_form}

@@ -1,7 +1,7 @@
 -- Surrogates replaced by U+FFFD: the lossy list, and bytes in which it is written over them one by one.
 use Rattle.wtf8.proofs.Common.{◌≡◌, ◌≤◌, ◌+◌, ℕ, List, [], ◌∷◌, ◌++◌, length, take, drop, refl, ap, ◌∙◌, sym, subst, arith, append_assoc, length-append, lit≤}
-use Rattle.wtf8.proofs.Common.{lit<, append-nil, append_cancel_left, take_at, drop_at, IsUtf8, IsSurrogate, encoding, bytes, IsClean, IsWellFormed, AreScalar}
-use Rattle.wtf8.proofs.Common.{replaced, lossy, SurrogateAt, IsLeast}
+use Rattle.wtf8.proofs.Common.{lit<, append_cancel_left, take_at, drop_at, IsUtf8, IsSurrogate, encoding, bytes, IsClean, IsWellFormed, AreScalar}
+use Rattle.wtf8.proofs.Common.{lossy, SurrogateAt, IsLeast}
 use Rattle.wtf8.proofs.lemmas.Clean.{clean-front, clean-rest, clean-back}
 use Rattle.wtf8.proofs.lemmas.Encoding.{encoding_three, length-surrogate, bytes-append}
 use Rattle.wtf8.proofs.lemmas.Lossy.{lossy-append, lossy-scalar, replaced_surrogate}

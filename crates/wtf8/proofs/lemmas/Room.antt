@@ -1,7 +1,7 @@
 -- Room: how long the forms of parts and of wholes are, and the room that calls find, one after another.
 use Rattle.wtf8.proofs.Common.{◌≡◌, ◌≤◌, ◌+◌, inl, inr, ℕ, List, [], ◌∷◌, ◌++◌, length, take, drop, refl, ap, ◌∙◌, sym, subst, arith, append_assoc}
-use Rattle.wtf8.proofs.Common.{length-append, All, map-append, take_at, drop_at, All-drop, All-same, Step, FindRoom, Build, Push, PushChar, PushStr, PushWtf8}
-use Rattle.wtf8.proofs.Common.{Extend, Reserve, Truncate, TruncateUnits, number, numbers, glue, IsUnit, units_of, units, bytes, encoding, IsForm}
+use Rattle.wtf8.proofs.Common.{length-append, All, map-append, take_at, drop_at, All-drop, All-same, Step, FindRoom, Build}
+use Rattle.wtf8.proofs.Common.{Truncate, TruncateUnits, number, numbers, glue, IsUnit, units, bytes, IsForm}
 use Rattle.std.proofs.lemmas.List.{length-map}
 use Rattle.std.proofs.lemmas.List.Elements.{All-take}
 use Rattle.wtf8.specs.Building.{FindsRoom}

@@ -1,6 +1,6 @@
 -- The order of units: the bytes where two strings first differ, and the strings behind the place where they part.
 use Rattle.wtf8.proofs.Common.{◌≡◌, ◌↔◌, ℕ, zero, suc, Bool, true, false, IsTrue, ◌<◌, ◌≤◌, ◌⊎◌, inl, inr, List, [], ◌∷◌, ◌++◌, length, take, drop, get_or}
-use Rattle.wtf8.proofs.Common.{refl, sym, ap, ◌∙◌, subst, arith, length-append, append_assoc, cases_lt, false≢true, take-append-drop, nat_tests, slice_cmp}
+use Rattle.wtf8.proofs.Common.{refl, sym, ap, ◌∙◌, subst, arith, length-append, append_assoc, false≢true, take-append-drop, nat_tests, slice_cmp}
 use Rattle.wtf8.proofs.Common.{slice_get, option_cmp, nat_cmp, Greater, units, encoding, bytes, IsWellFormed, IsFirstDifference, PairBegins, cases_order}
 use Rattle.std.proofs.lemmas.Bool.{true≢false}
 use Rattle.std.specs.Bool.{beq}

@@ -54,7 +54,7 @@ nothing_read known e = record { form = record { points = []; reads = record { cl
 last_is : (u w f : List ℕ) (l k : ℕ) → length w ≡ k + 1 → u ++ w ≡ f ++ l ∷ [] → get_or w k 0 ≡ l
 last_is u w f l k n e =
     let long : length u + k ≡ length f = omega (arith, n, ap length e, length-append u w, length-append f (l ∷ [])) in
-    sym (get_or-append-add u w k 0) ∙ (ap (λ v. get_or v (length u + k) 0) e ∙ (ap (λ i. get_or (f ++ l ∷ []) i 0) long ∙ get_or-append_seam f l [] 0))
+    cc (get_or-append-add u w k 0, e, long, get_or-append_seam f l [] 0)
 
 pub block_apart : {u w : List ℕ} (at k : ℕ) → IsBlock u at (k + 1) w → DividesNoPair u (at + (k + 1))
 block_apart {u} {w} at k b m =

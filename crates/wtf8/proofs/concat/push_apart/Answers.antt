@@ -1,4 +1,4 @@
-use Rattle.wtf8.proofs.Common.{sym, subst, arith, length-append, on_ok_weaker, number, encoding, GainsUnits, units_of}
+use Rattle.wtf8.proofs.Common.{arith, length-append, on_ok_weaker, number, encoding}
 use Rattle.wtf8.proofs.lemmas.Gains.{gains_point, fits_length}
 use Rattle.wtf8.proofs.concat.push_apart.Goals as goal
 

@@ -1,4 +1,4 @@
-use Rattle.wtf8.proofs.Common.{◌++◌, ◌∙◌, ap, sym, subst, arith, length-append, on_ok_weaker, chars, GainsUnits, units}
+use Rattle.wtf8.proofs.Common.{arith, length-append, on_ok_weaker}
 use Rattle.wtf8.proofs.lemmas.Gains.{gains_behind, fits_length}
 use Rattle.wtf8.proofs.lemmas.Scalars.{scalar_behind, scalar_text}
 use Rattle.wtf8.proofs.lemmas.Texts.{well_formed_text}

@@ -1,5 +1,5 @@
 use Rattle.wtf8.proofs.Common.{◌≡◌, ◌≤◌, ◌+◌, ◌++◌, ◌∷◌, ◌∙◌, [], List, ℕ, length, take, drop, cond, arith, ap, sym, subst, inl, inr, append_assoc}
-use Rattle.wtf8.proofs.Common.{false≢true, cases_lt, append-nil, Build, Run, Append, FindRoom, IsForm}
+use Rattle.wtf8.proofs.Common.{false≢true, cases_lt, append-nil, Build, Run, Append, FindRoom}
 use Rattle.std.proofs.lemmas.Option.{MatchOption-at_some}
 use Rattle.wtf8.proofs.lemmas.Lists.{item_at, items_more}
 use Rattle.wtf8.proofs.lemmas.Room.{Found, found_more, wider, beginning}

@@ -1,4 +1,4 @@
-use Rattle.wtf8.proofs.Common.{◌≡◌, ◌+◌, ◌++◌, ◌∷◌, ◌<◌, ◌∙◌, length, take, drop, arith, ap, sym, subst, append_assoc, false≢true, number, numbers, IsForm}
+use Rattle.wtf8.proofs.Common.{◌≡◌, ◌+◌, ◌++◌, ◌∷◌, ◌<◌, ◌∙◌, length, take, drop, arith, ap, sym, append_assoc, false≢true, number, numbers}
 use Rattle.wtf8.proofs.Common.{units, units_of}
 use Rattle.wtf8.proofs.lemmas.Lists.{item_at}
 use Rattle.wtf8.proofs.lemmas.Room.{beginning, extended_length, units-points}

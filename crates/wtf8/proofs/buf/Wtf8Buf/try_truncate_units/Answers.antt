@@ -1,8 +1,7 @@
-use Rattle.wtf8.proofs.Common.{◌∙◌, ◌++◌, ap, sym, subst, arith, inl, refl, length, take, false≢true, encoding, IsFront, UnitString, units, CutsUnits}
+use Rattle.wtf8.proofs.Common.{◌∙◌, ap, subst, arith, inl, refl, length, take, false≢true, IsFront, UnitString, units, CutsUnits}
 use Rattle.wtf8.proofs.lemmas.Positions.{same_front}
 use Rattle.wtf8.proofs.lemmas.Readings.{moved, same_points}
 use Rattle.wtf8.proofs.lemmas.UnitCuts.{undivided, divided, in_range, front_at, lead_kept, lead_kept_units}
-use Rattle.wtf8.proofs.lemmas.Units.{lead_of}
 use Rattle.wtf8.proofs.buf.Wtf8Buf.try_truncate_units.Goals as goal
 
 pub keep_lead-requires-clause-lead : goal.keep_lead-requires-clause-lead

@@ -1,4 +1,4 @@
-use Rattle.wtf8.proofs.Common.{◌∙◌, [], ◌∷◌, ◌++◌, ap, sym, subst, arith, append-nil, units, CutsUnits}
+use Rattle.wtf8.proofs.Common.{◌∙◌, ap, sym, subst, arith, append-nil, units, CutsUnits}
 use Rattle.wtf8.proofs.lemmas.Positions.{points_before}
 use Rattle.wtf8.proofs.lemmas.UnitCuts.{undivided, divided, in_range}
 use Rattle.wtf8.proofs.view.Wtf8.first_units.Goals as goal
@@ -24,4 +24,4 @@ returns-in-Some-divided c =
     let k = c.in-Some.cut.position in
     let x = subst (CutsUnits h.points c.args.n k) c.in-Some-divided.is c.in-Some.ensures.some in
     let front = points_before h c.slice_to-front.result.well_formed x.front x.back k x.joined x.front_len c.slice_to-front.ensures.bytes in
-    ap (λ d. units d ++ c.lead_of.result ∷ []) front ∙ (ap (λ l. units x.front ++ l ∷ []) c.lead_of.ensures ∙ sym (divided x).kept)
+    rw (front, c.lead_of.ensures) (sym (divided x).kept)

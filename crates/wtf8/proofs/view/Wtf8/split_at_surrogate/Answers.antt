@@ -1,4 +1,4 @@
-use Rattle.wtf8.proofs.Common.{◌∷◌, ◌++◌, ◌∙◌, ap, sym, subst, IsUtf8, bytes, lossy}
+use Rattle.wtf8.proofs.Common.{◌∙◌, ap, sym, subst, IsUtf8, bytes}
 use Rattle.wtf8.proofs.lemmas.Lossy.{lossy-scalar}
 use Rattle.wtf8.proofs.lemmas.Readings.{moved, same_points}
 use Rattle.wtf8.proofs.lemmas.Replacement.{parted}
@@ -28,5 +28,4 @@ returns-clause-some c =
     let parts = parted h c.in-Some.place c.in-Some.ensures in
     let text = c.from_utf8_unchecked-text.ensures ∙ c.split_at.ensures.front in
     let rest = same_points c.result-1.given.0 parts.rest c.split_at-2.ensures.back in
-    parts.lossy_parts ∙ (ap (λ t. t ++ bytes (0xFFFD ∷ lossy parts.rest.points)) (sym text)
-    ∙ ap (λ r. c.from_utf8_unchecked-text.result.now ++ bytes (0xFFFD ∷ lossy r)) (sym rest))
+    parts.lossy_parts ∙ simp (text, rest)
