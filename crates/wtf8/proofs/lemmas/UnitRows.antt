@@ -36,28 +36,17 @@ record FirstByte (p : ℕ) (r : List ℕ) : Type 0 where
 
 first_byte : (p : ℕ) (r : List ℕ) → FirstByte p r
 first_byte p r = elim (row_of p) [
-  | one h e ↦ record { byte = p; rest = r; encoded = rw e refl; row = (λ _. omega arith, λ _. omega arith) }
-  | two l h e ↦ record { byte = 0xC0 + p / 64; rest = (0x80 + p % 64) ∷ r; encoded = rw e refl; row = (λ _. omega arith, λ _. omega arith) }
-  | three l h e ↦ record {
-    byte = 0xE0 + p / 4096;
-    rest = (0x80 + p / 64 % 64) ∷ (0x80 + p % 64) ∷ r;
-    encoded = rw e refl;
-    row = (λ _. omega arith, λ _. omega arith);
-  }
-  | four l e ↦ record {
-    byte = 0xF0 + p / 262144;
-    rest = (0x80 + p / 4096 % 64) ∷ (0x80 + p / 64 % 64) ∷ (0x80 + p % 64) ∷ r;
-    encoded = rw e refl;
-    row = (λ m. absurd (omega arith), λ m. absurd (omega arith));
-  }
+  | one h e ↦ record { byte = _; rest = _; encoded = ap (λ v. v ++ r) e; row = (λ _. omega arith, λ _. omega arith) }
+  | two l h e ↦ record { byte = _; rest = _; encoded = ap (λ v. v ++ r) e; row = (λ _. omega arith, λ _. omega arith) }
+  | three l h e ↦ record { byte = _; rest = _; encoded = ap (λ v. v ++ r) e; row = (λ _. omega arith, λ _. omega arith) }
+  | four l e ↦ record { byte = _; rest = _; encoded = ap (λ v. v ++ r) e; row = (λ m. absurd (omega arith), λ m. absurd (omega arith)) }
 ]
 
 same_row : (p q : ℕ) (r s : List ℕ) → PartInOneRow (encoding p ++ r) (encoding q ++ s) → BothBelow 0x10000 p q
 same_row p q r s h =
     let x = first_byte p r in
     let y = first_byte q s in
-    let parts : PartInOneRow (x.byte ∷ x.rest) (y.byte ∷ y.rest) =
-    rw (x.encoded, y.encoded) at h in
+    let parts : PartInOneRow (x.byte ∷ x.rest) (y.byte ∷ y.rest) = rw (x.encoded, y.encoded) at h in
     let both : BothBelow 0xF0 x.byte y.byte = elim (cases_order x.byte y.byte) [
       | inl e ↦ (λ k. omega arith, λ k. omega arith)
       | inr n ↦ parts.1 (λ e. omega (arith, n))

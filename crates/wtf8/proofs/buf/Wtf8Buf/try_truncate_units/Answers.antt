@@ -30,13 +30,9 @@ returns-in-None g c =
     let h = c.as_wtf8.result.well_formed in
     let k = c.in-Some.cut.position in
     let x = subst (CutsUnits h.points c.args.n k) c.in-None.is c.in-Some.ensures.some in
-    let u = c.args.self.now.units in
     let front = subst (λ v. IsFront v k (take c.args.n v)) c.as_wtf8.ensures.units (front_at h x) in
-    inl (
-      omega (arith, (undivided x).within, ap length c.as_wtf8.ensures.units),
-      same_front u k c.truncate.new.self.units (take c.args.n u) c.truncate.ensures.units front,
-      refl,
-    )
+    let within = (undivided x).within in
+    inl (omega (arith, within, ap length c.as_wtf8.ensures.units), same_front c.args.self.now.units k _ _ c.truncate.ensures.units front, refl)
 
 pub returns-in-Some-divided : goal.returns-in-Some-divided
 returns-in-Some-divided g c =
@@ -45,8 +41,5 @@ returns-in-Some-divided g c =
     let x = subst (CutsUnits h.points c.args.n k) c.in-Some-divided.is c.in-Some.ensures.some in
     let same = ap (λ (t : UnitString). t.bytes) c.self.view_is in
     let points = same_points c.self-1.given.0 (lead_kept h (divided x)) (cc same) in
-    inl (
-      omega (arith, (divided x).within, ap length c.as_wtf8.ensures.units),
-      ap units points ∙ (lead_kept_units h.clean (divided x) ∙ ap (take c.args.n) c.as_wtf8.ensures.units),
-      refl,
-    )
+    let kept = ap units points ∙ lead_kept_units h.clean (divided x) ∙ ap (take c.args.n) c.as_wtf8.ensures.units in
+    inl (omega (arith, (divided x).within, ap length c.as_wtf8.ensures.units), kept, refl)
