@@ -59,6 +59,5 @@ glue-nil c = glue_apart c [] nothing_begins ∙ append-nil c
 -- gluing is associative: both ways read the same units
 pub glue_assoc : (c d e : List ℕ) → IsClean c → IsClean d → IsClean e → glue (glue c d) e ≡ glue c (glue d e)
 glue_assoc c d e x y z =
-    let left = clean-glue (glue c d) e (clean-glue c d x y) z in
     let right = clean-glue c (glue d e) x (clean-glue d e y z) in
-    same_reading (glue (glue c d) e) (glue c (glue d e)) left right (simp (units-glue, append_assoc))
+    same_reading (glue (glue c d) e) (glue c (glue d e)) (clean-glue (glue c d) e (clean-glue c d x y) z) right (simp (units-glue, append_assoc))

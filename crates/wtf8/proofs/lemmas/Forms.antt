@@ -75,8 +75,7 @@ lead_last c g l h e = elim (last_of c) [
         | inl s ↦ (f, z ∙ ap (λ n. f ++ n ∷ []) (same_from_push (units f) g p l (ap (λ u. units f ++ u) (sym (units_one p s)) ∙ whole)).1)
         | inr s ↦
             let two : (units f ++ lead_of p ∷ []) ++ trail_of p ∷ [] ≡ g ++ l ∷ [] = rw (append_assoc, ← units_two p s) whole in
-            let same = same_from_push (units f ++ lead_of p ∷ []) g (trail_of p) l two in
-            absurd (omega (arith, same.1, h.1))
+            absurd (omega (arith, (same_from_push (units f ++ lead_of p ∷ []) g (trail_of p) l two).1, h.1))
       ]
 ]
 

@@ -42,8 +42,7 @@ no_trail p r n m = n (subst IsTrail (sym (ap (λ w. get_or w 0 0) m.begins)) m.i
 meeting_numbers : (p q : ℕ) (d : List ℕ) → MeetsAsPair (p ∷ []) (q ∷ d) → is_pair p q ≡ true
 meeting_numbers p q d m =
     let last = (same_from_push [] m.front p m.lead m.ends).1 in
-    let first = ap (λ w. get_or w 0 0) m.begins in
-    pair_true p q (subst IsLead (sym last) m.is_lead) (subst IsTrail (sym first) m.is_trail)
+    pair_true p q (subst IsLead (sym last) m.is_lead) (subst IsTrail (sym (ap (λ w. get_or w 0 0) m.begins)) m.is_trail)
 
 without_first : (p q : ℕ) (c f : List ℕ) (l : ℕ) → p ∷ q ∷ c ≡ f ++ l ∷ [] → (g : List ℕ) × (q ∷ c ≡ g ++ l ∷ [])
 without_first p q c [] l e = absurd (omega (arith, ap length e))

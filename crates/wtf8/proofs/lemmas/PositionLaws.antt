@@ -34,8 +34,7 @@ front_in_whole u v k m x b =
 
 pub whole_in_front : WholeBoundariesAreOfFront
 whole_in_front u v k m x h b =
-    let whole = reads_same b.splits.reads x.splits.reads in
-    let more = begun b.front b.back x.front x.back whole (omega (arith, b.splits.front_len, x.splits.front_len)) in
+    let more = begun b.front b.back x.front x.back (reads_same b.splits.reads x.splits.reads) (omega (arith, b.splits.front_len, x.splits.front_len)) in
     let reads = subst (λ c. Reads c v) more.joined (front_reads x) in
     record { front = b.front; back = more.more; splits = record { reads = reads; front_len = b.splits.front_len } }
 
@@ -58,10 +57,7 @@ back_in_whole u v k m x b =
     record {
       front = x.front ++ b.front;
       back = b.back;
-      splits = record {
-        reads = subst (λ c. Reads c u) whole x.splits.reads;
-        front_len = omega (arith, long, x.splits.front_len, b.splits.front_len);
-      };
+      splits = record { reads = subst (λ c. Reads c u) whole x.splits.reads; front_len = omega (arith, long, x.splits.front_len, b.splits.front_len) };
     }
 
 -- the units before a boundary and those from it on are the whole

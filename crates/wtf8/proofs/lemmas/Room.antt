@@ -26,8 +26,7 @@ glued_length c d = elim (meets_or_apart c d) [
       let paired = length-paired_bytes (bytes c) (bytes d) m.lead m.trail m.is_lead m.is_trail s.three s.three_behind in
       let three = length-surrogate m.trail (omega (arith, m.is_trail), omega (arith, m.is_trail)) in
       let back : length (bytes d) ≡ 3 + length (bytes m.rest) = simp (m.begins, length-append, three) in
-      let one = units_one m.trail (omega (arith, m.is_trail)) in
-      let own : length (units d) ≡ 1 + length (units m.rest) = simp (m.begins, length-append, one) in
+      let own : length (units d) ≡ 1 + length (units m.rest) = simp (m.begins, length-append, units_one m.trail (omega (arith, m.is_trail))) in
       let rest = (units_bounds m.rest).at_least in
       record { least = omega (arith, both, paired, back, own, rest); most = omega (arith, both, paired) }
   | inr n ↦
@@ -45,9 +44,7 @@ both_length {w} {v} {z} {a} {b} x y f =
     let n = glued_length x.points y.points in
     let whole = ap length (same_form z (bytes (glue x.points y.points)) (a ++ b) f (form-glue w v a b x y)) in
     let front = ap length x.encoded in
-    let back = ap length y.encoded in
-    let own = ap length y.reads.same_units in
-    record { least = omega (arith, n.least, whole, front, own); most = omega (arith, n.most, whole, front, back) }
+    record { least = omega (arith, n.least, whole, front, ap length y.reads.same_units); most = omega (arith, n.most, whole, front, ap length y.encoded) }
 
 -- where all units have a form, so has each part of them, and that of the first part is no longer
 pub record Beginning (u w : List ℕ) : Type 0 where
@@ -65,8 +62,7 @@ pub beginning : (a b w : List ℕ) → IsForm w (a ++ b) → Beginning a w
 beginning a b w f =
     let all = units_read f.points (a ++ b) f.reads in
     let front = one_form a (all_front a b all) in
-    let back = one_form b (all_back a b all) in
-    record { whole = front.one; form = front.has; within = omega (arith, (both_length front.has back.has f).least) }
+    record { whole = front.one; form = front.has; within = omega (arith, (both_length front.has (one_form b (all_back a b all)).has f).least) }
 
 -- the form with all of some code points is longer by a byte or more for each
 pub extended_length : (ps : List CodePoint) (w u y : List ℕ) → IsForm w u → IsForm y (u ++ units (numbers ps)) → length w + length ps ≤ length y
@@ -99,11 +95,10 @@ pub record Found (u : List ℕ) (calls : List Build) (now : List ℕ) (capacity 
 
 pub found_more : {u now new : List ℕ} {calls : List Build} {call : Build} {capacity grown larger : ℕ} (r : ℕ) → Found u calls now capacity grown
     → Step now call new r → ((v : List ℕ) → FindsRoom now call v capacity → grown ≤ larger) → Found u (calls ++ call ∷ []) new capacity larger
-found_more {u} {now} {new} {calls} {call} {capacity} {grown} {larger} r f s h =
-    record {
-      rest = λ more v x. let here = f.rest (call ∷ more) v (rw append_assoc at x) in
-          subst (λ m. FindRoom m more v capacity) (sym (found_step now call here.0 new capacity r here.1 s)) here.2;
-      grows = λ more v x.
-          let here = f.rest (call ∷ more) v (rw append_assoc at x) in
-          omega (arith, f.grows (call ∷ more) v (rw append_assoc at x), h here.0 here.1);
-    }
+found_more {u} {now} {new} {calls} {call} {capacity} {grown} {larger} r f s h = record {
+  rest = λ more v x. let here = f.rest (call ∷ more) v (rw append_assoc at x) in
+      subst (λ m. FindRoom m more v capacity) (sym (found_step now call here.0 new capacity r here.1 s)) here.2;
+  grows = λ more v x.
+      let here = f.rest (call ∷ more) v (rw append_assoc at x) in
+      omega (arith, f.grows (call ∷ more) v (rw append_assoc at x), h here.0 here.1);
+}

@@ -88,8 +88,7 @@ lead_kept {w} h {n} {k} {p} {front} {rest} d =
 pub lead_kept_units : {c : List ℕ} {n k p : ℕ} {front rest : List ℕ} → IsClean c → Divided c n k p front rest
     → units (front ++ lead_of p ∷ []) ≡ take n (units c)
 lead_kept_units {c} {n} {k} {p} {front} {rest} clean d =
-    let range = in_range clean d in
-    cc (units-pushed front (lead_of p), units_one (lead_of p) (omega (arith, range, d.large)), d.kept)
+    cc (units-pushed front (lead_of p), units_one (lead_of p) (omega (arith, in_range clean d, d.large)), d.kept)
 
 -- the code points before an undivided pair are the front of its position
 pub front_at : {w : List ℕ} (h : IsWellFormed w) {n k : ℕ} (x : CutsUnits h.points n k None) → IsFront (units h.points) k (take n (units h.points))

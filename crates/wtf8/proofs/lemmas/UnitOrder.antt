@@ -43,8 +43,7 @@ lengths_decide (x ∷ w) (y ∷ v) zero end h k e = absurd (omega (arith, end))
 lengths_decide (x ∷ w) (y ∷ v) (suc n) end h k e =
     let same : y ≡ x = sym (ap (λ u. get_or u 0 0) e) in
     let shorter : length w ≤ n ⊎ length v ≤ n = elim end [ inl l ↦ inl (omega (arith, l)) | inr l ↦ inr (omega (arith, l)) ] in
-    let rests = lengths_decide w v n shorter (omega arith) (omega arith) (ap (drop 1) e) in
-    rw same (cmp_behind_both (length w) (length v) ∙ rests ∙ sym (cmp_behind (x ∷ []) w v))
+    rw same (cmp_behind_both (length w) (length v) ∙ lengths_decide w v n shorter (omega arith) (omega arith) (ap (drop 1) e) ∙ sym (cmp_behind (x ∷ []) w v))
 
 -- code points whose bytes begin with those of a front have that front
 record Continues (front d rest : List ℕ) : Type 0 where

@@ -6,8 +6,7 @@ use Rattle.wtf8.proofs.concat.push_text.Goals as goal
 
 pub returns-clause-ok : goal.returns-clause-ok
 returns-clause-ok g c =
-    let other = c.args.other.now in
-    let gains = gains_behind c.requires (well_formed_text other c.utf8.other) (scalar_behind (scalar_text c.utf8.other)) in
+    let gains = gains_behind c.requires (well_formed_text c.args.other.now c.utf8.other) (scalar_behind (scalar_text c.utf8.other)) in
     on_ok_weaker c.append_bytes.result (λ e. rw e (rw c.as_bytes.ensures.value gains)) c.append_bytes.ensures.ok
 
 pub returns-clause-room : goal.returns-clause-room

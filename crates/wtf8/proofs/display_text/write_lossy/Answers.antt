@@ -10,5 +10,4 @@ loop-next-preserved g c = λ flush.
     let parts = subst (λ r. IfSome r (λ next. bytes (lossy (view_points c.loop-next.rest)) ≡ c.split_at_surrogate.result.0.now ++ bytes
     (0xFFFD ∷ lossy (view_points next)))) c.in-Some.is c.split_at_surrogate.ensures.some in
     let part = continued before (c.in_ok-write_str.ensures.styled before.flush refl) parts in
-    let sign = encoding_three 0xFFFD (lit≤ tt) (lit< tt) in
-    continued part (written_as (sym sign) (c.in_ok-write_str-2.ensures.styled part.flush refl)) refl
+    continued part (written_as (sym (encoding_three 0xFFFD (lit≤ tt) (lit< tt))) (c.in_ok-write_str-2.ensures.styled part.flush refl)) refl

@@ -17,10 +17,9 @@ returns-in-None g c =
 pub returns-in-Some : goal.returns-in-Some
 returns-in-Some g c =
     let none = not_scalar_if_some (well_formed_of c.args.self.form) c.in-Some.field-0 c.in-Some.ensures in
-    let each = scalar_in_each_reading _ _ c.args.self.form.reads in
     record {
       ok = (λ e. absurd (false≢true e), λ s. absurd (none s));
-      units = (λ e. absurd (false≢true e), λ h. absurd (none (each.1 h)));
+      units = (λ e. absurd (false≢true e), λ h. absurd (none ((scalar_in_each_reading _ _ c.args.self.form.reads).1 h)));
       bytes = tt;
       same_back = refl;
     }

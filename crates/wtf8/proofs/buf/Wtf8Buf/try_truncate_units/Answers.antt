@@ -20,10 +20,8 @@ keep_lead-requires-clause-within g c =
 pub invariant_of-self-inside : goal.invariant_of-self-inside
 invariant_of-self-inside g c =
     let h = c.as_wtf8.result.well_formed in
-    let k = c.in-Some.cut.position in
-    let x = subst (CutsUnits h.points c.args.n k) c.in-Some-divided.is c.in-Some.ensures.some in
-    let same = ap (λ (t : UnitString). t.bytes) c.self.view_is in
-    (moved (lead_kept h (divided x)) (cc same), (λ known. absurd (false≢true known), tt))
+    let x = subst (CutsUnits h.points c.args.n c.in-Some.cut.position) c.in-Some-divided.is c.in-Some.ensures.some in
+    (moved (lead_kept h (divided x)) (cc (ap (λ (t : UnitString). t.bytes) c.self.view_is)), (λ known. absurd (false≢true known), tt))
 
 pub returns-in-None : goal.returns-in-None
 returns-in-None g c =
@@ -37,9 +35,7 @@ returns-in-None g c =
 pub returns-in-Some-divided : goal.returns-in-Some-divided
 returns-in-Some-divided g c =
     let h = c.as_wtf8.result.well_formed in
-    let k = c.in-Some.cut.position in
-    let x = subst (CutsUnits h.points c.args.n k) c.in-Some-divided.is c.in-Some.ensures.some in
-    let same = ap (λ (t : UnitString). t.bytes) c.self.view_is in
-    let points = same_points c.self-1.given.0 (lead_kept h (divided x)) (cc same) in
+    let x = subst (CutsUnits h.points c.args.n c.in-Some.cut.position) c.in-Some-divided.is c.in-Some.ensures.some in
+    let points = same_points c.self-1.given.0 (lead_kept h (divided x)) (cc (ap (λ (t : UnitString). t.bytes) c.self.view_is)) in
     let kept = ap units points ∙ lead_kept_units h.clean (divided x) ∙ ap (take c.args.n) c.as_wtf8.ensures.units in
     inl (omega (arith, (divided x).within, ap length c.as_wtf8.ensures.units), kept, refl)

@@ -7,8 +7,7 @@ pub overflow_cast-result : goal.overflow_cast-result
 overflow_cast-result c =
     let h = c.args.self.well_formed in
     let x = subst (CutsUnits h.points c.args.n c.in-Some.cut.position) c.in-Some-divided.is c.in-Some.ensures.some in
-    let range = in_range h.clean (divided x) in
-    let large = (divided x).large in record { fits = omega (arith, range, large, c.lead_of.ensures) }
+    let large = (divided x).large in record { fits = omega (arith, in_range h.clean (divided x), large, c.lead_of.ensures) }
 
 pub returns-in-None : goal.returns-in-None
 returns-in-None c =

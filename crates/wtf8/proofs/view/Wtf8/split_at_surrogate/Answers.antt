@@ -24,8 +24,6 @@ invariant_of-result c = record { well_formed = moved (parted c.args.self.well_fo
 
 pub returns-clause-some : goal.returns-clause-some
 returns-clause-some c =
-    let h = c.args.self.well_formed in
-    let parts = parted h c.in-Some.place c.in-Some.ensures in
+    let parts = parted c.args.self.well_formed c.in-Some.place c.in-Some.ensures in
     let text = c.from_utf8_unchecked-text.ensures ∙ c.split_at.ensures.front in
-    let rest = same_points c.result-1.given.0 parts.rest c.split_at-2.ensures.back in
-    parts.lossy_parts ∙ simp (text, rest)
+    parts.lossy_parts ∙ simp (text, same_points c.result-1.given.0 parts.rest c.split_at-2.ensures.back)

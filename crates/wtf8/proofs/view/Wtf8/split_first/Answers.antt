@@ -15,8 +15,7 @@ split_at-requires c =
 pub invariant_of-result : goal.invariant_of-result
 invariant_of-result c =
     let told = rw c.if-width-eq1.true at c.read-width.ensures in
-    let t = taken c.args.self.well_formed (number c.read-width.result.0) 1 (grind (arith, nat_tests)) told in
-    record { well_formed = rw c.split_at.ensures.back t.rest }
+    record { well_formed = rw c.split_at.ensures.back (taken c.args.self.well_formed (number c.read-width.result.0) 1 (grind (arith, nat_tests)) told).rest }
 
 pub returns-then-width-eq1-clause-some : goal.returns-then-width-eq1-clause-some
 returns-then-width-eq1-clause-some c =

@@ -15,5 +15,4 @@ from_utf8_unchecked-requires g c =
 
 pub returns-clause-text : goal.returns-clause-text
 returns-clause-text g c =
-    let h = c.args.self.now.well_formed in
-    ap (λ v. v.items) c.from_utf8_unchecked.ensures.value ∙ c.replace_surrogates.ensures (moved h c.in_ok-bytes.ensures.items)
+    ap (λ v. v.items) c.from_utf8_unchecked.ensures.value ∙ c.replace_surrogates.ensures (moved c.args.self.now.well_formed c.in_ok-bytes.ensures.items)
