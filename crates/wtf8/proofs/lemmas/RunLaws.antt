@@ -1,7 +1,6 @@
 -- A list of building calls has exactly one outcome and one count of refused truncations.
-use Rattle.wtf8.proofs.Common.{◌≡◌, ◌+◌, ◌⊎◌, inl, inr, ℕ, List, [], ◌∷◌, ◌++◌, length, get_or, refl, sym, subst, arith, cases_lt, All-nil, All-cons}
-use Rattle.wtf8.proofs.Common.{All-head, All-tail, All, IsUnit, units, IsForm, IsWellFormed, IsBoundary, IsFront, Step, Run}
-use Rattle.wtf8.proofs.Common.{Build, Truncate, TruncateUnits}
+use Rattle.wtf8.proofs.Common.{◌≡◌, ◌+◌, ◌⊎◌, inl, inr, ℕ, List, [], ◌∷◌, ◌++◌, length, get_or, refl, sym, subst, arith, cases_lt, All-nil, All-cons, All-head}
+use Rattle.wtf8.proofs.Common.{All-tail, All, IsUnit, units, IsForm, IsWellFormed, IsBoundary, IsFront, Step, Run, Build, Truncate, TruncateUnits}
 use Rattle.wtf8.specs.Building.{RunsOnce, RunsAddUp}
 use Rattle.wtf8.proofs.lemmas.Encoding.{Begins}
 use Rattle.wtf8.proofs.lemmas.FormLaws.{one_form, units_read}

@@ -1,7 +1,6 @@
 -- Runs of building calls, one call after another, and what pushes and extensions append.
 use Rattle.wtf8.proofs.Common.{◌≡◌, ◌<◌, ◌+◌, ℕ, List, [], ◌∷◌, ◌++◌, length, get_or, Bool, true, false, cond, Some, refl, ap, ◌∙◌, sym, subst, arith}
-use Rattle.wtf8.proofs.Common.{append_assoc, All, Step, Run, Append, IsNoTruncation, Build, Reserve, Truncate}
-use Rattle.wtf8.proofs.Common.{TruncateUnits}
+use Rattle.wtf8.proofs.Common.{append_assoc, All, Step, Run, Append, IsNoTruncation, Build, Reserve, Truncate, TruncateUnits}
 use Rattle.std.proofs.lemmas.List.Elements.{All-get_or}
 use Rattle.std.proofs.lemmas.Option.{none-some}
 use Rattle.wtf8.specs.Building.{appended}

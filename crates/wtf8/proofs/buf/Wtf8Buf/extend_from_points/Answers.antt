@@ -1,5 +1,4 @@
-use Rattle.wtf8.proofs.Common.{◌≡◌, ◌+◌, ◌++◌, ◌∷◌, ◌<◌, ◌∙◌, length, take, drop, arith, ap, sym, append_assoc, false≢true, number, numbers}
-use Rattle.wtf8.proofs.Common.{units, units_of}
+use Rattle.wtf8.proofs.Common.{◌≡◌, ◌+◌, ◌++◌, ◌∷◌, ◌<◌, ◌∙◌, length, take, drop, arith, ap, sym, append_assoc, false≢true, number, numbers, units, units_of}
 use Rattle.wtf8.proofs.lemmas.Lists.{item_at}
 use Rattle.wtf8.proofs.lemmas.Room.{beginning, extended_length, units-points}
 use Rattle.wtf8.proofs.buf.Wtf8Buf.extend_from_points.Goals as goal
