@@ -1,4 +1,5 @@
-use Rattle.wtf8.proofs.Common.{◌≡◌, ◌+◌, ◌++◌, ◌∷◌, ◌<◌, ◌∙◌, length, take, drop, arith, ap, sym, append_assoc, false≢true, number, numbers, units, units_of}
+use Rattle.wtf8.proofs.Common.{ℕ, rules, ◌≡◌, ◌+◌, ◌++◌, ◌∷◌, ◌<◌, ◌∙◌, length, take, drop, arith, ap, sym, append_assoc, false≢true, number, numbers}
+use Rattle.wtf8.proofs.Common.{units, units_of}
 use Rattle.wtf8.proofs.lemmas.Lists.{item_at}
 use Rattle.wtf8.proofs.lemmas.Room.{beginning, extended_length, units-points}
 use Rattle.wtf8.proofs.buf.Wtf8Buf.extend_from_points.Goals as goal
@@ -20,3 +21,9 @@ returns-in_err-push-clause-room g c fit =
     let whole : c.args.self.now.units ++ units (numbers ps) ≡ c.loop-code_point.self.units ++ (units_of (number p) ++ rest) = rw (all, inv.0, append_assoc) in
     let next = beginning (c.loop-code_point.self.units ++ units_of (number p)) rest fit.whole (rw (append_assoc, ← whole) fit.form) in
     absurd (false≢true (c.in_err-push.ensures.room (record { whole = next.whole; form = next.form; within = omega (arith, next.within, fit.within, inv.1) })))
+
+pub returns-in_err-push-clause-err : goal.returns-in_err-push-clause-err
+returns-in_err-push-clause-err g c =
+    let so_far : (n : ℕ) × (c.push.new.self.units ≡ c.args.self.now.units ++ units (numbers (take n c.args.points.now))) =
+    (c.loop-code_point.code_point-index, c.in_err-push.ensures.kept.units ∙ c.loop-code_point.invariant.0) in
+    search (rules, so_far)
