@@ -1,10 +1,6 @@
 -- What an appending call says in bytes, by what it says in units.
-use Rattle.std.proofs.Common.{◌≡◌, ◌≤◌, ◌+◌, ◌++◌, ◌∙◌, List, [], ℕ, Result, Ok, Err, OnOk, OnErr, length, ap, sym, subst, arith}
-use Rattle.std.proofs.lemmas.List.{append-nil}
-use Rattle.wtf8.specs.Appending.{AppendsUnits, KeepsContents}
-use Rattle.wtf8.specs.Form.{IsForm}
-use Rattle.wtf8.specs.Gains.{GainsUnits, FitsUnits}
-use Rattle.wtf8.specs.UnitString.{UnitString}
+use Rattle.wtf8.proofs.Common.{◌≡◌, ◌≤◌, ◌+◌, ◌++◌, ◌∙◌, List, [], ℕ, Result, Ok, Err, OnOk, OnErr, length, ap, sym, subst, arith, append-nil, AppendsUnits}
+use Rattle.wtf8.proofs.Common.{KeepsContents, IsForm, GainsUnits, FitsUnits, UnitString}
 use Rattle.wtf8.proofs.lemmas.PositionLaws.{both_no_longer}
 use Rattle.wtf8.proofs.lemmas.StringLaws.{equal_buffers, room_left}
 

@@ -1,16 +1,12 @@
 -- Proofs of the laws of bytes below 80: each is a code point and a unit by itself.
-use Rattle.std.proofs.Common.{◌≡◌, ◌≢◌, ◌<◌, ◌+◌, ◌-◌, ◌/◌, ◌%◌, ℕ, inl, List, [], ◌∷◌, ◌++◌, length, get_or, refl, ap, ◌∙◌, sym, subst, arith, append_assoc}
-use Rattle.std.proofs.Common.{length-append}
-use Rattle.std.proofs.lemmas.List.{append-nil, append_cancel_left, append_cancel_right, drop_at}
-use Rattle.std.proofs.lemmas.List.Elements.{All-cons, All-drop, All-head, All-nil}
-use Rattle.std.specs.List.{All}
-use Rattle.wtf8.specs.Unicode.{units}
-use Rattle.wtf8.specs.Form.{encoding, bytes, Reads, IsForm}
-use Rattle.wtf8.specs.Position.{IsFront, IsBack}
+use Rattle.wtf8.proofs.Common.{◌≡◌, ◌≢◌, ◌<◌, ◌+◌, ◌-◌, ◌/◌, ◌%◌, ℕ, inl, List, [], ◌∷◌, ◌++◌, length, get_or, refl, ap, ◌∙◌, sym, subst, arith, append_assoc}
+use Rattle.wtf8.proofs.Common.{length-append, append-nil, append_cancel_left, drop_at, All-cons, All-drop, All-head, All-nil, All, units, encoding, bytes}
+use Rattle.wtf8.proofs.Common.{Reads, IsForm, IsFront, IsBack}
+use Rattle.std.proofs.lemmas.List.{append_cancel_right}
 use Rattle.wtf8.specs.PositionLaws.{AsciiStandsAlone, AsciiIsOneUnit, AsciiIsNoOtherUnit}
 use Rattle.wtf8.proofs.lemmas.Encoding.{bytes-pushed, row_of, one, two, three, four}
 use Rattle.wtf8.proofs.lemmas.PositionLaws.{front_and_back}
-use Rattle.wtf8.proofs.lemmas.Positions.{cut_at, boundary_from_byte}
+use Rattle.wtf8.proofs.lemmas.Positions.{cut_at, front_boundary, boundary_from_byte}
 use Rattle.wtf8.proofs.lemmas.Readings.{well_formed_of}
 use Rattle.wtf8.proofs.lemmas.Splits.{first_behind}
 use Rattle.wtf8.proofs.lemmas.Units.{units-append, units_one, units_two}
@@ -47,10 +43,7 @@ stands front (p ∷ b) u r h low =
       to_it = record {
         front = front ++ p ∷ [];
         back = b;
-        splits = record {
-          reads = subst (λ c. Reads c u) (sym (append_assoc front (p ∷ []) b)) r;
-          front_len = ap length (bytes-pushed front p) ∙ (length-append (bytes front) (encoding p) ∙ ap (λ e. length (bytes front) + length e) own.0);
-        };
+        splits = record { reads = rw append_assoc r; front_len = simp (bytes-pushed, length-append, own.0) };
         same_units = units-append front (p ∷ []) ∙ ap (λ v. units front ++ (v ++ [])) unit;
       };
       whole = ap (λ v. units front ++ (v ++ units b)) (sym unit) ∙ (sym (units-append front (p ∷ b)) ∙ r.same_units);
@@ -63,17 +56,14 @@ ascii_stands {w} {u} form k h low =
     let whole : bytes (c.front ++ c.back) ≡ w = ap bytes (sym c.points) ∙ form.encoded in
     let len = c.splits.front_len in
     let reads : Reads (c.front ++ c.back) u = subst (λ d. Reads d u) c.points form.reads in
-    let byte : get_or (bytes (c.front ++ c.back)) (length (bytes c.front)) 0 ≡ get_or w k 0 = ap (λ v. get_or v (length (bytes c.front)) 0) whole
-    ∙ ap (λ n. get_or w n 0) len in
+    let byte : get_or (bytes (c.front ++ c.back)) (length (bytes c.front)) 0 ≡ get_or w k 0 = cc (whole, len) in
     let x = stands c.front c.back u reads (omega (arith, len, ap length whole)) (omega (arith, byte)) in
     subst (λ n. Stands u n (get_or w k 0)) len (subst (λ b. Stands u (length (bytes c.front)) b) byte x)
 
 pub ascii_alone : AsciiStandsAlone
 ascii_alone w u k form h low =
     let s = ascii_stands form k h low in
-    let from = s.from_it in
-    let to = s.to_it in
-    (record { front = from.front; back = from.back; splits = from.splits }, record { front = to.front; back = to.back; splits = to.splits })
+    let from = s.from_it in (record { front = from.front; back = from.back; splits = from.splits }, front_boundary s.to_it)
 
 pub ascii_one_unit : AsciiIsOneUnit
 ascii_one_unit w u f g k form h low front back =

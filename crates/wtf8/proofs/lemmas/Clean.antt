@@ -1,8 +1,5 @@
 -- Clean lists of code points, cut and joined.
-use Rattle.std.proofs.Common.{ℕ, List, [], ◌∷◌, ◌++◌, refl}
-use Rattle.wtf8.specs.Unicode.{IsCodePoint}
-use Rattle.wtf8.specs.Concatenation.{MeetsAsPair}
-use Rattle.wtf8.specs.Form.{IsClean}
+use Rattle.wtf8.proofs.Common.{ℕ, List, [], ◌∷◌, ◌++◌, refl, IsCodePoint, MeetsAsPair, IsClean}
 use Rattle.wtf8.proofs.lemmas.Meeting.{meets_by, meets_behind}
 
 pub clean-first : (p : ℕ) (c : List ℕ) → IsClean (p ∷ c) → IsCodePoint p

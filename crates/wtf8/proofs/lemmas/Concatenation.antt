@@ -1,10 +1,6 @@
 -- Lists of code points glued: what they are, that they stay clean, and that they have the units of both.
-use Rattle.std.proofs.Common.{◌≡◌, ℕ, inl, inr, List, [], ◌∷◌, ◌++◌, refl, sym, ap, ◌∙◌, subst, arith, append_assoc}
-use Rattle.std.proofs.lemmas.Bool.{cases_Bool}
-use Rattle.std.proofs.lemmas.List.{append-nil}
-use Rattle.wtf8.specs.Unicode.{IsLead, IsTrail, units, units_of, pair}
-use Rattle.wtf8.specs.Form.{IsClean, Reads}
-use Rattle.wtf8.specs.Concatenation.{MeetsAsPair, is_pair, glue}
+use Rattle.wtf8.proofs.Common.{◌≡◌, ℕ, inl, inr, List, [], ◌∷◌, ◌++◌, refl, sym, ap, ◌∙◌, subst, arith, append_assoc, cases_Bool, append-nil, IsLead, IsTrail}
+use Rattle.wtf8.proofs.Common.{units, units_of, pair, IsClean, Reads, MeetsAsPair, is_pair, glue}
 use Rattle.wtf8.proofs.lemmas.Clean.{clean-append, clean-front, clean-rest}
 use Rattle.wtf8.proofs.lemmas.Meeting.{pair_true, true_pair, meets_by, meets_behind, meets_or_apart, nothing_begins, no_lead, no_trail}
 use Rattle.wtf8.proofs.lemmas.Readings.{same_reading}
@@ -23,11 +19,10 @@ glue_meeting c d m = ap (λ x. glue x d) m.ends ∙ (ap (glue (m.front ++ m.lead
 pub glue_apart : (c d : List ℕ) → ¬ (MeetsAsPair c d) → glue c d ≡ c ++ d
 glue_apart [] d n = refl
 glue_apart (p ∷ []) [] n = refl
-glue_apart (p ∷ []) (q ∷ d) n =
-    elim (cases_Bool (is_pair p q)) [
-      | inl e ↦ let h = true_pair p q e in absurd (n (meets_by [] d p q h.0 h.1 refl refl))
-      | inr e ↦ rw e refl
-    ]
+glue_apart (p ∷ []) (q ∷ d) n = elim (cases_Bool (is_pair p q)) [
+  | inl e ↦ let h = true_pair p q e in absurd (n (meets_by [] d p q h.0 h.1 refl refl))
+  | inr e ↦ rw e refl
+]
 glue_apart (p ∷ q ∷ c) d n = ap (λ e. p ∷ e) (glue_apart (q ∷ c) d (λ m. n (meets_behind p m)))
 
 clean-paired : (f : List ℕ) (l t : ℕ) (r : List ℕ) → IsClean (f ++ l ∷ []) → IsClean (t ∷ r) → IsLead l → IsTrail t → IsClean (f ++ pair l t ∷ r)
@@ -36,32 +31,27 @@ clean-paired f l t r x y h k =
     clean-append f (pair l t ∷ r) (clean-front f (l ∷ []) x) behind (no_trail (pair l t) r (λ p. omega (arith, p.1)))
 
 clean-glue : (c d : List ℕ) → IsClean c → IsClean d → IsClean (glue c d)
-clean-glue c d x y =
-    elim (meets_or_apart c d) [
-      | inl m ↦ subst IsClean (sym (glue_meeting c d m)) (clean-paired m.front m.lead m.trail m.rest (subst IsClean m.ends x)
-          (subst IsClean m.begins y) m.is_lead m.is_trail)
-      | inr n ↦ subst IsClean (sym (glue_apart c d n)) (clean-append c d x y n)
-    ]
+clean-glue c d x y = elim (meets_or_apart c d) [
+  | inl m ↦ subst IsClean (sym (glue_meeting c d m)) (clean-paired m.front m.lead m.trail m.rest (subst IsClean m.ends x)
+      (subst IsClean m.begins y) m.is_lead m.is_trail)
+  | inr n ↦ subst IsClean (sym (glue_apart c d n)) (clean-append c d x y n)
+]
 
 units-paired : (p q : ℕ) (d : List ℕ) → IsLead p → IsTrail q → units (pair p q ∷ d) ≡ units (p ∷ []) ++ units (q ∷ d)
-units-paired p q d h k =
-    ap (λ u. u ++ units d) (units_pair p q h k) ∙ sym (ap (λ u. (u ++ []) ++ units (q ∷ d)) (units_one p (omega arith))
-    ∙ ap (λ u. p ∷ (u ++ units d)) (units_one q (omega arith)))
+units-paired p q d h k = simp (units_pair p q h k, units_one p (omega arith), units_one q (omega arith))
 
 units-glue : (c d : List ℕ) → units (glue c d) ≡ units c ++ units d
 units-glue [] d = refl
 units-glue (p ∷ []) [] = sym (append-nil (units (p ∷ [])))
-units-glue (p ∷ []) (q ∷ d) =
-    elim (cases_Bool (is_pair p q)) [
-      | inl e ↦ let h = true_pair p q e in rw e (units-paired p q d h.0 h.1)
-      | inr e ↦ rw e (ap (λ u. u ++ units (q ∷ d)) (sym (append-nil (units_of p))))
-    ]
+units-glue (p ∷ []) (q ∷ d) = elim (cases_Bool (is_pair p q)) [
+  | inl e ↦ let h = true_pair p q e in rw e (units-paired p q d h.0 h.1)
+  | inr e ↦ rw e (ap (λ u. u ++ units (q ∷ d)) (sym (append-nil (units_of p))))
+]
 units-glue (p ∷ q ∷ c) d = ap (λ u. units_of p ++ u) (units-glue (q ∷ c) d) ∙ sym (append_assoc (units_of p) (units (q ∷ c)) (units d))
 
 -- two readings glued read the units of both
 pub reads-glue : (c d a b : List ℕ) → Reads c a → Reads d b → Reads (glue c d) (a ++ b)
-reads-glue c d a b x y =
-    record { clean = clean-glue c d x.clean y.clean; same_units = units-glue c d ∙ (ap (λ u. u ++ units d) x.same_units ∙ ap (λ u. a ++ u) y.same_units) }
+reads-glue c d a b x y = record { clean = clean-glue c d x.clean y.clean; same_units = cc (units-glue c d) }
 
 pub glue-nil : (c : List ℕ) → glue c [] ≡ c
 glue-nil c = glue_apart c [] nothing_begins ∙ append-nil c
@@ -69,8 +59,5 @@ glue-nil c = glue_apart c [] nothing_begins ∙ append-nil c
 -- gluing is associative: both ways read the same units
 pub glue_assoc : (c d e : List ℕ) → IsClean c → IsClean d → IsClean e → glue (glue c d) e ≡ glue c (glue d e)
 glue_assoc c d e x y z =
-    let left = clean-glue (glue c d) e (clean-glue c d x y) z in
     let right = clean-glue c (glue d e) x (clean-glue d e y z) in
-    same_reading (glue (glue c d) e) (glue c (glue d e)) left right
-    (units-glue (glue c d) e ∙ (ap (λ u. u ++ units e) (units-glue c d)
-    ∙ (append_assoc (units c) (units d) (units e) ∙ sym (units-glue c (glue d e) ∙ ap (λ u. units c ++ u) (units-glue d e)))))
+    same_reading (glue (glue c d) e) (glue c (glue d e)) (clean-glue (glue c d) e (clean-glue c d x y) z) right (simp (units-glue, append_assoc))

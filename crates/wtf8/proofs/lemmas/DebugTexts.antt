@@ -1,14 +1,11 @@
 -- Debug texts: writes one after the other, and the digits of a number.
-use Rattle.std.proofs.Common.{◌≡◌, ℕ, ◌/◌, ◌%◌, ◌<◌, ◌≤◌, List, [], ◌∷◌, ◌++◌, inl, inr, codes, refl, sym, ap, ◌∙◌, subst, arith}
+use Rattle.wtf8.proofs.Common.{◌≡◌, ℕ, ◌/◌, ◌%◌, ◌<◌, ◌≤◌, List, [], ◌∷◌, ◌++◌, inl, inr, refl, sym, ap, ◌∙◌, subst, arith, lt-ltb, le-ltb, lt-leb, le-leb}
+use Rattle.wtf8.proofs.Common.{cases_lt, IsFlush, has_written_styled_nil, encoding, digit, encoding_is_encode, IsSurrogate}
+use Rattle.std.proofs.Common.{codes}
 use lib.Utf8.{encode}
-use Rattle.std.proofs.lemmas.Bool.{lt-ltb, le-ltb, lt-leb, le-leb, cases_lt}
 use Rattle.std.specs.declared.fmt.Formatter.{Formatter}
-use Rattle.std.specs.Fmt.{HasWrittenStyled, IsFlush}
-use Rattle.std.proofs.Output.{writes_in_calls_append, has_written_styled_nil}
-use Rattle.wtf8.specs.Form.{encoding}
-use Rattle.wtf8.specs.Hex.{digit}
-use Rattle.wtf8.specs.OneForm.{encoding_is_encode}
-use Rattle.wtf8.specs.Unicode.{IsSurrogate}
+use Rattle.std.specs.Fmt.{HasWrittenStyled}
+use Rattle.std.proofs.Output.{writes_in_calls_append}
 use Rattle.wtf8.specs.Debug.{last_four, upper, shown}
 
 -- g has written the front of a text that f began: once it has written the rest, the whole is written
@@ -59,14 +56,10 @@ shown_surrogate n p h e = rw (e, le-leb 0xD800 p h.0, le-leb p 0xDFFF h.1) refl
 
 shown_itself : (p : ℕ) → ¬ IsSurrogate p → shown p ≡ encoding p
 unfolding shown
-shown_itself p h =
-    elim (cases_lt p 0xD800) [
-      | inl l ↦ rw (lt-leb 0xD800 p l) refl
-      | inr l ↦ elim (cases_lt 0xDFFF p) [
-        | inl m ↦ rw (le-leb 0xD800 p l, lt-leb p 0xDFFF m) refl
-        | inr m ↦ absurd (h (l, m))
-      ]
-    ]
+shown_itself p h = elim (cases_lt p 0xD800) [
+  | inl l ↦ rw (lt-leb 0xD800 p l) refl
+  | inr l ↦ elim (cases_lt 0xDFFF p) [ inl m ↦ rw (le-leb 0xD800 p l, lt-leb p 0xDFFF m) refl | inr m ↦ absurd (h (l, m)) ]
+]
 
 pub shown_scalar : (c p : ℕ) → ¬ IsSurrogate p → c ≡ p → encode c ≡ shown p
 shown_scalar c p h e = ap encode e ∙ (sym (encoding_is_encode p) ∙ sym (shown_itself p h))

@@ -1,9 +1,6 @@
 -- What is displayed of scalar values, and of code points of which one is a surrogate.
-use Rattle.std.proofs.Common.{◌≡◌, ℕ, List, refl}
+use Rattle.wtf8.proofs.Common.{◌≡◌, ℕ, List, refl, scalars, bytes, IsClean, AreScalar, lossy}
 use Rattle.std.proofs.lemmas.Bool.{false_from_ne_true}
-use lib.Utf8.{scalars}
-use Rattle.wtf8.specs.Form.{bytes, IsClean}
-use Rattle.wtf8.specs.Surrogates.{AreScalar, lossy}
 use Rattle.wtf8.specs.Display.{displayed}
 use Rattle.wtf8.proofs.lemmas.Scalars.{scalar-characters}
 use Rattle.wtf8.proofs.lemmas.Surrogates.{scalars_true}

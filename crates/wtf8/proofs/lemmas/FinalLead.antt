@@ -1,9 +1,6 @@
 -- The surrogate that ends a string, in its last three bytes.
-use Rattle.std.proofs.Common.{◌≡◌, ℕ, ◌+◌, ◌-◌, ◌/◌, ◌%◌, ◌≤◌, List, [], ◌∷◌, ◌++◌, length, get_or, refl, sym, ap, ◌∙◌, subst, arith, length-append}
-use Rattle.std.proofs.lemmas.List.{get_or-append-add}
-use Rattle.wtf8.specs.Form.{encoding, bytes, IsWellFormed}
-use Rattle.wtf8.specs.SurrogateSearch.{SurrogateAt}
-use Rattle.wtf8.specs.Unicode.{IsSurrogate}
+use Rattle.wtf8.proofs.Common.{◌≡◌, ℕ, ◌+◌, ◌-◌, ◌/◌, ◌%◌, ◌≤◌, List, [], ◌∷◌, ◌++◌, length, get_or, refl, sym, ap, ◌∙◌, subst, arith, length-append}
+use Rattle.wtf8.proofs.Common.{get_or-append-add, encoding, bytes, IsWellFormed, SurrogateAt, IsSurrogate}
 use Rattle.wtf8.proofs.lemmas.Encoding.{third_row, encoding_three, length-encoding_bounds, length-surrogate, bytes-append, bytes-pushed}
 use Rattle.wtf8.proofs.lemmas.Surrogates.{surrogate_in}
 
@@ -19,8 +16,7 @@ ends_in_surrogate w f p s e =
     let row = third_row p in
     let whole : w ≡ bytes f ++ row = sym e ∙ (bytes-pushed f p ∙ ap (λ v. bytes f ++ v) (encoding_three p (omega arith) (omega arith))) in
     let long : length w ≡ length (bytes f) + 3 = ap length whole ∙ length-append (bytes f) row in
-    let at : (k m : ℕ) → length (bytes f) + k ≡ m → get_or w m 0 ≡ get_or row k 0 = λ k m q.
-    ap (λ i. get_or w i 0) (sym q) ∙ (ap (λ v. get_or v (length (bytes f) + k) 0) whole ∙ get_or-append-add (bytes f) row k 0) in
+    let at : (k m : ℕ) → length (bytes f) + k ≡ m → get_or w m 0 ≡ get_or row k 0 = λ k m q. cc (get_or-append-add (bytes f) row k 0) in
     record {
       enough = omega arith;
       first = at 0 (length w - 3) (omega arith) ∙ omega arith;
@@ -47,22 +43,9 @@ last_surrogate {w} h len first second =
     let next : get_or w (i + 1) 0 ≡ get_or w (length w - 2) 0 = ap (λ k. get_or w k 0) (omega arith) in
     let at : SurrogateAt w i = record { within = omega arith; first = first; second = omega (arith, next, second) } in
     let p = surrogate_in h.points i (subst (λ v. SurrogateAt v i) (sym h.encoded) at) in
-    let whole : bytes p.front ++ (encoding p.point ++ bytes p.back) ≡ w = sym (bytes-append p.front (p.point ∷ p.back))
-    ∙ (ap bytes (sym p.joined) ∙ h.encoded) in
-    let none = no_bytes p.back (omega (
-      arith,
-      len,
-      p.front_len,
-      ap length whole,
-      length-append (bytes p.front) (encoding p.point ++ bytes p.back),
-      length-append (encoding p.point) (bytes p.back),
-      length-surrogate p.point p.surrogate,
-    )) in
+    let whole : bytes p.front ++ (encoding p.point ++ bytes p.back) ≡ w = cc (bytes-append p.front (p.point ∷ p.back)) in
+    let long = simp length-append at (ap length whole) in
+    let none = no_bytes p.back (omega (arith, len, p.front_len, long, length-surrogate p.point p.surrogate)) in
     let joined : h.points ≡ p.front ++ p.point ∷ [] = p.joined ∙ ap (λ b. p.front ++ p.point ∷ b) none in
-    record {
-      front = p.front;
-      point = p.point;
-      joined = joined;
-      surrogate = p.surrogate;
-      ends = ends_in_surrogate w p.front p.point p.surrogate (ap bytes (sym joined) ∙ h.encoded);
-    }
+    let ends = ends_in_surrogate w p.front p.point p.surrogate (ap bytes (sym joined) ∙ h.encoded) in
+    record { front = p.front; point = p.point; joined = joined; surrogate = p.surrogate; ends = ends }

@@ -1,9 +1,7 @@
 -- What the first bytes of an encoding say of the code point.
-use Rattle.std.proofs.Common.{◌≡◌, ℕ, ◌+◌, ◌-◌, ◌*◌, ◌/◌, ◌<◌, ◌≤◌, List, ◌++◌, length, get_or, refl, sym, arith, subst}
+use Rattle.wtf8.proofs.Common.{◌≡◌, ℕ, ◌+◌, ◌-◌, ◌*◌, ◌/◌, ◌<◌, ◌≤◌, List, ◌++◌, length, get_or, refl, sym, arith, subst, IsCodePoint, encoding}
+use Rattle.wtf8.proofs.Common.{BeginsWithPoint}
 use Rattle.std.proofs.Math.Nat.{div-div-eq-div-mul}
-use Rattle.wtf8.specs.Unicode.{IsCodePoint}
-use Rattle.wtf8.specs.Form.{encoding}
-use Rattle.wtf8.specs.Gains.{BeginsWithPoint}
 use Rattle.wtf8.proofs.lemmas.Encoding.{row_of, one, two, three, four}
 
 -- what the first bytes of a code point's encoding say of it
@@ -24,34 +22,10 @@ pub front-encoding : (p : ℕ) (r : List ℕ) → IsCodePoint p → Front (encod
 front-encoding p r range =
     let d = sixty_fours p in
     elim (row_of p) [
-      | one h e ↦ rw e (record {
-        nonempty = omega arith;
-        one = λ _. (refl, refl);
-        two = λ a b. absurd (omega arith);
-        three = λ a b. absurd (omega arith);
-        four = λ a. absurd (omega arith);
-      })
-      | two l h e ↦ rw e (record {
-        nonempty = omega arith;
-        one = λ a. absurd (omega arith);
-        two = λ _ _. (omega arith, omega arith, omega arith, omega arith, refl);
-        three = λ a b. absurd (omega arith);
-        four = λ a. absurd (omega arith);
-      })
-      | three l h e ↦ rw e (record {
-        nonempty = omega arith;
-        one = λ a. absurd (omega arith);
-        two = λ a b. absurd (omega arith);
-        three = λ _ _. (omega arith, omega arith, omega arith, omega arith, refl);
-        four = λ a. absurd (omega arith);
-      })
-      | four l e ↦ rw e (record {
-        nonempty = omega arith;
-        one = λ a. absurd (omega arith);
-        two = λ a b. absurd (omega arith);
-        three = λ a b. absurd (omega arith);
-        four = λ _. (omega arith, omega arith, omega arith, omega arith, omega arith, refl);
-      })
+      | one h e ↦ rw e (record { nonempty = omega arith; one = grind arith; two = grind arith; three = grind arith; four = grind arith })
+      | two l h e ↦ rw e (record { nonempty = omega arith; one = grind arith; two = grind arith; three = grind arith; four = grind arith })
+      | three l h e ↦ rw e (record { nonempty = omega arith; one = grind arith; two = grind arith; three = grind arith; four = grind arith })
+      | four l e ↦ rw e (record { nonempty = omega arith; one = grind arith; two = grind arith; three = grind arith; four = grind arith })
     ]
 
 pub front_of : {w : List ℕ} (b : BeginsWithPoint w) → Front w b.point (length (encoding b.point))

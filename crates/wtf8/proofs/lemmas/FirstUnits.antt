@@ -1,10 +1,7 @@
 -- Lists compared one by one: the first numbers decide, or those behind them do.
-use Rattle.std.proofs.Common.{◌≡◌, ◌≢◌, ℕ, Option, None, Some, List, [], ◌∷◌, refl, sym, ap, ◌∙◌, subst}
-use Rattle.std.specs.Cmp.Lexicographic.{slice_cmp}
-use Rattle.std.specs.Option.{option_cmp, MatchOption}
-use Rattle.std.specs.Ordering.{nat_cmp, ordering_then, MatchOrdering}
-use Rattle.std.specs.declared.cmp.Ordering.{Ordering}
-use Rattle.std.specs.declared.cmp.Ordering.TheVariants.{Less, Equal, Greater}
+use Rattle.wtf8.proofs.Common.{◌≡◌, ◌≢◌, ℕ, Option, None, Some, List, [], ◌∷◌, refl, sym, ap, ◌∙◌, subst, slice_cmp, option_cmp, nat_cmp, ordering_then}
+use Rattle.wtf8.proofs.Common.{MatchOrdering, Ordering, Less, Equal, Greater}
+use Rattle.std.specs.Option.{MatchOption}
 
 decided : (o p : Ordering) → o ≢ Equal → o ≡ ordering_then o p
 decided Less p n = refl

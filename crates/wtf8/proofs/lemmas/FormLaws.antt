@@ -1,12 +1,7 @@
 -- Proofs of the laws of readings and forms: which there are, and that there is one of each.
-use Rattle.std.proofs.Common.{ℕ, inl, inr, List, [], ◌∷◌, refl, sym, ◌∙◌, arith, subst}
-use Rattle.std.specs.List.{All}
-use Rattle.std.proofs.lemmas.Bool.{cases_lt}
-use Rattle.std.proofs.lemmas.List.{append-nil}
-use Rattle.std.proofs.lemmas.List.Elements.{All-nil, All-cons, All-head, All-tail, All-append, All-same}
-use Rattle.wtf8.specs.Unicode.{IsUnit, IsCodePoint, units, units_of}
-use Rattle.wtf8.specs.Form.{IsClean, Reads, encoding, bytes, IsForm}
-use Rattle.wtf8.specs.Concatenation.{glue}
+use Rattle.wtf8.proofs.Common.{ℕ, inl, inr, List, [], ◌∷◌, refl, sym, ◌∙◌, arith, subst, All, cases_lt, append-nil, All-nil, All-cons, All-head, All-tail}
+use Rattle.wtf8.proofs.Common.{All-same, IsUnit, IsCodePoint, units, units_of, IsClean, Reads, encoding, bytes, IsForm, glue}
+use Rattle.std.proofs.lemmas.List.Elements.{All-append}
 use Rattle.wtf8.specs.Laws.{UnitsHaveOneReading, ReadingsAreOfUnits, UnitsHaveOneForm, FormsAreOfOneList, EqualFormsHaveEqualUnits, NoEncodingBeginsAnother}
 use Rattle.wtf8.proofs.lemmas.Clean.{clean-first, clean-rest}
 use Rattle.wtf8.proofs.lemmas.Concatenation.{reads-glue}
@@ -31,12 +26,10 @@ one_reading u h =
     record { one = r.0; has = r.1; no_other = λ c x. same_reading c r.0 x.clean r.1.clean (x.same_units ∙ sym r.1.same_units) }
 
 units_in_range : (p : ℕ) → IsCodePoint p → All IsUnit (units_of p)
-units_in_range p h =
-    elim (cases_lt p 0x10000) [
-      | inl l ↦ rw (units_one p l) (All-cons IsUnit p [] (omega arith) (All-nil IsUnit))
-      | inr l ↦ rw (units_two p l) (All-cons IsUnit (lead_of p) (trail_of p ∷ []) (omega arith)
-          (All-cons IsUnit (trail_of p) [] (omega arith) (All-nil IsUnit)))
-    ]
+units_in_range p h = elim (cases_lt p 0x10000) [
+  | inl l ↦ rw (units_one p l) (All-cons IsUnit p [] (omega arith) (All-nil IsUnit))
+  | inr l ↦ rw (units_two p l) (All-cons IsUnit (lead_of p) (trail_of p ∷ []) (omega arith) (All-cons IsUnit (trail_of p) [] (omega arith) (All-nil IsUnit)))
+]
 
 all_units : (c : List ℕ) → IsClean c → All IsUnit (units c)
 all_units [] x = All-nil IsUnit
@@ -55,8 +48,7 @@ pub form_of_one : FormsAreOfOneList
 form_of_one w h = record { one = units h.points; has = form_of h; no_other = λ u x. units_from_form w u (units h.points) x (form_of h) }
 
 pub equal_forms : EqualFormsHaveEqualUnits
-equal_forms w v a b x y =
-    (λ e. units_from_form v a b (subst (λ z. IsForm z a) e x) y, λ e. same_form w v b (subst (IsForm w) e x) y)
+equal_forms w v a b x y = (λ e. units_from_form v a b (subst (λ z. IsForm z a) e x) y, λ e. same_form w v b (subst (IsForm w) e x) y)
 
 pub none_begins_another : NoEncodingBeginsAnother
 none_begins_another p q r h k e = (encoding_same p q r [] (sym e ∙ sym (append-nil (encoding q)))).0

@@ -1,11 +1,9 @@
 -- The form of the units of two lists, one behind the other: its bytes and its length.
-use Rattle.std.proofs.Common.{◌≡◌, ℕ, ◌+◌, ◌-◌, ◌≤◌, inl, inr, List, [], ◌∷◌, ◌++◌, length, take, drop, refl, sym, ap, ◌∙◌, subst, arith, append_assoc}
-use Rattle.std.proofs.Common.{length-append, length-drop}
-use Rattle.std.proofs.lemmas.Bool.{cases_lt}
-use Rattle.std.proofs.lemmas.List.{take_at, drop_at, length-take-le, same_from_push}
-use Rattle.wtf8.specs.Unicode.{IsLead, IsTrail, units, units_of, pair}
-use Rattle.wtf8.specs.Form.{IsClean, Reads, bytes, encoding, IsForm}
-use Rattle.wtf8.specs.Concatenation.{MeetsAsPair, glue}
+use Rattle.wtf8.proofs.Common.{◌≡◌, ℕ, ◌+◌, ◌-◌, ◌≤◌, inl, inr, List, [], ◌∷◌, ◌++◌, length, take, drop, refl, sym, ap, ◌∙◌, subst, arith, append_assoc}
+use Rattle.wtf8.proofs.Common.{length-append, cases_lt, take_at, drop_at, same_from_push, IsLead, IsTrail, units, units_of, pair, IsClean, Reads, bytes}
+use Rattle.wtf8.proofs.Common.{encoding, IsForm, MeetsAsPair, glue}
+use Rattle.std.proofs.Common.{length-drop}
+use Rattle.std.proofs.lemmas.List.{length-take-le}
 use Rattle.wtf8.proofs.lemmas.Concatenation.{glue_meeting, glue_apart, reads-glue}
 use Rattle.wtf8.proofs.lemmas.Encoding.{encoding_four, length-surrogate, bytes-append, bytes-pushed}
 use Rattle.wtf8.proofs.lemmas.Lists.{last_of, empty, ends}
@@ -30,8 +28,7 @@ meeting_bytes {w} {v} m e g =
     let back : v ≡ encoding m.trail ++ bytes m.rest = sym g ∙ ap bytes m.begins in
     let lead : length (encoding m.lead) ≡ 3 = length-surrogate m.lead (omega (arith, m.is_lead), omega (arith, m.is_lead)) in
     let trail : length (encoding m.trail) ≡ 3 = length-surrogate m.trail (omega (arith, m.is_trail), omega (arith, m.is_trail)) in
-    let long : length w ≡ length (bytes m.front) + 3 = ap length front
-    ∙ (length-append (bytes m.front) (encoding m.lead) ∙ ap (λ n. length (bytes m.front) + n) lead) in
+    let long : length w ≡ length (bytes m.front) + 3 = cc (ap length front, length-append (bytes m.front) (encoding m.lead)) in
     record {
       three = omega (arith, long);
       three_behind = omega (arith, ap length back, length-append (encoding m.trail) (bytes m.rest), trail);
@@ -42,16 +39,10 @@ meeting_bytes {w} {v} m e g =
 -- the bytes of two lists glued
 pub bytes_paired : {w v : List ℕ} (c d : List ℕ) (m : MeetsAsPair c d) → bytes c ≡ w → bytes d ≡ v → bytes (glue c d) ≡ paired_bytes w m.lead m.trail v
 bytes_paired {w} {v} c d m e g =
-    let s = meeting_bytes m e g in
-    let four = encoding (pair m.lead m.trail) in
-    ap bytes (glue_meeting c d m)
-    ∙ (bytes-append m.front (pair m.lead m.trail ∷ m.rest)
-    ∙ (sym (append_assoc (bytes m.front) four (bytes m.rest))
-    ∙ (ap (λ f. (f ++ four) ++ bytes m.rest) (sym s.before)
-    ∙ ap (λ r. (take (length w - 3) w ++ four) ++ r) (sym s.behind))))
+    let s = meeting_bytes m e g in simp (glue_meeting c d m, bytes-append, s.before, s.behind, append_assoc)
 
 pub bytes_apart : {w v : List ℕ} (c d : List ℕ) → ¬ (MeetsAsPair c d) → bytes c ≡ w → bytes d ≡ v → bytes (glue c d) ≡ w ++ v
-bytes_apart {w} {v} c d n e g = ap bytes (glue_apart c d n) ∙ (bytes-append c d ∙ (ap (λ z. z ++ bytes d) e ∙ ap (λ z. w ++ z) g))
+bytes_apart {w} {v} c d n e g = simp (glue_apart c d n, bytes-append, e, g)
 
 -- a pair has one byte more than its lead, and two less than both
 pub length-joined : (w : List ℕ) (l t : ℕ) → IsLead l → IsTrail t → 3 ≤ length w → length (take (length w - 3) w ++ encoding (pair l t)) ≡ length w + 1
@@ -76,22 +67,17 @@ form_behind {w} {v} {a} {b} x y n = subst (λ z. IsForm z (a ++ b)) (bytes_apart
 
 -- where a lead is the last unit it is the last code point
 pub lead_last : (c g : List ℕ) (l : ℕ) → IsLead l → units c ≡ g ++ l ∷ [] → (f : List ℕ) × (c ≡ f ++ l ∷ [])
-lead_last c g l h e =
-    elim (last_of c) [
-      | empty z ↦ absurd (omega (arith, ap (λ d. length (units d)) z, ap length e, length-append g (l ∷ [])))
-      | ends f p z ↦
-          let whole : units f ++ units_of p ≡ g ++ l ∷ [] = sym (units-pushed f p) ∙ (ap units (sym z) ∙ e) in
-          elim (cases_lt p 0x10000) [
-            | inl s ↦
-                let same = same_from_push (units f) g p l (ap (λ u. units f ++ u) (sym (units_one p s)) ∙ whole) in
-                (f, z ∙ ap (λ n. f ++ n ∷ []) same.1)
-            | inr s ↦
-                let two : (units f ++ lead_of p ∷ []) ++ trail_of p ∷ [] ≡ g ++ l ∷ [] = append_assoc (units f) (lead_of p ∷ []) (trail_of p ∷ [])
-                ∙ (ap (λ u. units f ++ u) (sym (units_two p s)) ∙ whole) in
-                let same = same_from_push (units f ++ lead_of p ∷ []) g (trail_of p) l two in
-                absurd (omega (arith, same.1, h.1))
-          ]
-    ]
+lead_last c g l h e = elim (last_of c) [
+  | empty z ↦ absurd (omega (arith, ap (λ d. length (units d)) z, ap length e, length-append g (l ∷ [])))
+  | ends f p z ↦
+      let whole : units f ++ units_of p ≡ g ++ l ∷ [] = cc (units-pushed f p) in
+      elim (cases_lt p 0x10000) [
+        | inl s ↦ (f, z ∙ ap (λ n. f ++ n ∷ []) (same_from_push (units f) g p l (ap (λ u. units f ++ u) (sym (units_one p s)) ∙ whole)).1)
+        | inr s ↦
+            let two : (units f ++ lead_of p ∷ []) ++ trail_of p ∷ [] ≡ g ++ l ∷ [] = rw (append_assoc, ← units_two p s) whole in
+            absurd (omega (arith, (same_from_push (units f ++ lead_of p ∷ []) g (trail_of p) l two).1, h.1))
+      ]
+]
 
 -- where a trail is the first unit it is the first code point
 pub trail_begins : (d r : List ℕ) (t : ℕ) → IsClean d → IsTrail t → units d ≡ t ∷ r → (s : List ℕ) × (d ≡ t ∷ s)

@@ -1,16 +1,9 @@
 -- What a call that appends to bytes, or is refused, leaves of the string that holds them.
-use Rattle.std.proofs.Common.{◌≡◌, ◌+◌, ◌-◌, ◌≤◌, List, [], ◌∷◌, ℕ, ◌++◌, length, take, drop, Result, Ok, Err, OnOk, OnErr, IsOk, refl, ap, ◌∙◌, sym, subst}
-use Rattle.std.proofs.Common.{arith}
-use Rattle.std.proofs.lemmas.Bool.{false≢true}
-use Rattle.std.proofs.lemmas.List.{append-nil, drop_all}
-use Rattle.wtf8.specs.Unicode.{units, units_of, pair, IsLead, IsTrail, IsCodePoint}
-use Rattle.wtf8.specs.UnitString.{UnitString}
-use Rattle.wtf8.specs.Appending.{AddsLength, KeepsContents}
-use Rattle.wtf8.specs.Concatenation.{MeetsAsPair}
-use Rattle.wtf8.specs.Form.{encoding, IsWellFormed, IsForm}
-use Rattle.wtf8.specs.Gains.{GainsUnits, FitsUnits}
-use Rattle.wtf8.specs.View.{view_units, view_form}
-use Rattle.wtf8.specs.declared.view.Wtf8.{Wtf8}
+use Rattle.wtf8.proofs.Common.{◌≡◌, ◌+◌, ◌-◌, ◌≤◌, List, [], ◌∷◌, ℕ, ◌++◌, length, take, drop, Result, Ok, Err, OnOk, OnErr, refl, ap, ◌∙◌, sym, subst, arith}
+use Rattle.wtf8.proofs.Common.{false≢true, append-nil, drop_all, units, units_of, pair, IsLead, IsTrail, IsCodePoint, UnitString, KeepsContents, MeetsAsPair}
+use Rattle.wtf8.proofs.Common.{encoding, IsWellFormed, IsForm, GainsUnits, FitsUnits, view_units, view_form, Wtf8}
+use Rattle.std.proofs.Common.{IsOk}
+use Rattle.wtf8.specs.Appending.{AddsLength}
 use Rattle.wtf8.proofs.lemmas.Encoding.{length-surrogate}
 use Rattle.wtf8.proofs.lemmas.Forms.{paired_bytes, meeting_bytes, form_meeting, form_behind, length-joined, length_paired, length_apart}
 use Rattle.wtf8.proofs.lemmas.Meeting.{meets_by}
@@ -18,8 +11,7 @@ use Rattle.wtf8.proofs.lemmas.Readings.{form_of, well_formed_of, same_form, unit
 
 -- strings of equal bytes have equal contents
 pub contents_of : (new old : UnitString) → new.bytes ≡ old.bytes → KeepsContents old new
-contents_of new old e =
-    record { units = units_from_form new.bytes new.units old.units new.form (subst (λ w. IsForm w old.units) (sym e) old.form); bytes = e }
+contents_of new old e = record { units = units_from_form new.bytes new.units old.units new.form (subst (λ w. IsForm w old.units) (sym e) old.form); bytes = e }
 
 module _ {T E : Type 0} where
   -- what succeeded left nothing to say of a refusal
@@ -55,8 +47,7 @@ module _ {T E : Type 0} where
 
 -- where the units fit, the bytes that gained them are within the capacity
 pub fits_length : {old new v : List ℕ} {n : ℕ} → GainsUnits old new v → FitsUnits old v n → length new ≤ n
-fits_length {old} {new} {v} gains fit =
-    omega (arith, fit.within, ap length (same_form new fit.whole (fit.units ++ v) (gains fit.units fit.before) fit.after))
+fits_length {old} {new} {v} gains fit = omega (arith, fit.within, ap length (same_form new fit.whole (fit.units ++ v) (gains fit.units fit.before) fit.after))
 
 -- the form of the units of the old bytes and of others says what was gained
 gains_by : {w new : List ℕ} (v : List ℕ) (h : IsWellFormed w) → IsForm new (units h.points ++ v) → GainsUnits w new v
@@ -92,8 +83,5 @@ joined {w} h f l t lead trail e =
     let pair_bytes = take (length w - 3) w ++ encoding (pair l t) in
     let nothing : drop 3 (encoding t) ≡ [] = drop_all 3 (encoding t) (omega (arith, length-surrogate t (omega arith, omega arith))) in
     let whole : pair_bytes ++ drop 3 (encoding t) ≡ pair_bytes = ap (λ r. pair_bytes ++ r) nothing ∙ append-nil pair_bytes in
-    record {
-      three = three;
-      gains = subst (GainsUnits w pair_bytes) (append-nil (units_of t)) (subst (λ x. GainsUnits w x (units (t ∷ []))) whole (gains_meeting h k m));
-      longer = length-joined w l t lead trail three;
-    }
+    let gains = subst (GainsUnits w pair_bytes) (append-nil (units_of t)) (subst (λ x. GainsUnits w x (units (t ∷ []))) whole (gains_meeting h k m)) in
+    record { three = three; gains = gains; longer = length-joined w l t lead trail three }

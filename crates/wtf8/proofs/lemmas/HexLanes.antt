@@ -1,22 +1,20 @@
 -- Hexadecimal digits in lanes.
-use Rattle.std.proofs.Common.{◌≡◌, ℕ, zero, suc, ◌+◌, ◌*◌, ◌/◌, ◌%◌, ◌<◌, ◌≤◌, false, cond, leb, ltb, inl, inr, List, [], ◌∷◌, ◌++◌, map, length, get_or, take}
-use Rattle.std.proofs.Common.{drop, replicate, refl, sym, ap, ◌∙◌, subst, arith, w8, flat_map, append_assoc, take-append-drop}
+use Rattle.wtf8.proofs.Common.{◌≡◌, ℕ, zero, suc, ◌+◌, ◌*◌, ◌/◌, ◌%◌, ◌<◌, ◌≤◌, false, cond, leb, ltb, inl, inr, List, [], ◌∷◌, ◌++◌, map, length, get_or, take}
+use Rattle.wtf8.proofs.Common.{drop, replicate, refl, sym, ap, ◌∙◌, subst, arith, w8, append_assoc, flat_map-append, lt-leb, cases_Bool, pick_l_whole, Each1}
+use Rattle.wtf8.proofs.Common.{zip2, hex_of, hex, spaced}
+use Rattle.std.proofs.Common.{flat_map, take-append-drop}
 use Rattle.std.specs.List.{range_with_len}
 use Rattle.std.proofs.Math.Seq.{take-add}
-use Rattle.std.proofs.lemmas.List.Concat.{flat_map-append}
-use Rattle.std.proofs.lemmas.Bool.{lt-leb, cases_Bool}
 use Rattle.std.specs.Str.{IsAscii}
 use Rattle.std.proofs.lemmas.Str.{IsAscii-append}
 use Rattle.std.proofs.lemmas.List.FromFn.{get_or-map-range_with_len}
-use Rattle.std.proofs.lemmas.Simd.{swz_l, pick_l_whole, zip2_splat}
+use Rattle.std.proofs.lemmas.Simd.{swz_l, zip2_splat}
 use Rattle.std.proofs.lemmas.Nat.{and_mask}
 use borrow.Rule.Simd.Lanes.{act2}
 use borrow.Table.Row.{s_int}
-use lib.Lanes.{Each1, zip2}
 use mir.Val.{Fits}
 use mir.Syntax.{shr, unsigned, bit_and as bit_and_op}
-use Rattle.wtf8.specs.Hex.{digit, hex_of, hex}
-use Rattle.wtf8.specs.SpacedHex.{spaced}
+use Rattle.wtf8.specs.Hex.{digit}
 
 -- the digits at their values
 abbrev pub table : List ℕ
@@ -75,30 +73,21 @@ woven bytes p = subst (λ bs. placed (map digit (map (λ b. b / 16) bs) ++ map d
 -- the digits of the halves, put in their places, are those of the bytes
 pub block_text : (bytes first second : List ℕ) → length bytes ≡ 16 → first ≡ map digit (highs bytes) → second ≡ map digit (lows bytes)
     → placed (first ++ second) ≡ flat_map spaced bytes
-block_text bytes first second p f s =
-    ap (λ h. placed (h ++ second)) (f ∙ ap (map digit) (high bytes p))
-    ∙ ap (λ l. placed (map digit (map (λ b. b / 16) bytes) ++ l)) (s ∙ ap (map digit) (low bytes p)) ∙ woven bytes p
+block_text bytes first second p f s = rw (f, s, high bytes p, low bytes p) (woven bytes p)
 
 -- some bytes more behind those so far
 pub more_spaced : (text start bytes : List ℕ) (at n : ℕ) → text ≡ start ++ flat_map spaced (take at bytes)
     → text ++ flat_map spaced (take n (drop at bytes)) ≡ start ++ flat_map spaced (take (at + n) bytes)
-more_spaced text start bytes at n e =
-    ap (λ t. t ++ flat_map spaced (take n (drop at bytes))) e ∙ append_assoc start _ _
-    ∙ ap (λ t. start ++ t) (sym (flat_map-append spaced (take at bytes) (take n (drop at bytes))) ∙ ap (flat_map spaced) (sym (take-add at n bytes)))
+more_spaced text start bytes at n e = simp (e, append_assoc, take-add at n bytes, flat_map-append)
 
 -- and the rest of them
 pub all_spaced : (text start bytes : List ℕ) (at : ℕ) → text ≡ start ++ flat_map spaced (take at bytes)
     → text ++ flat_map spaced (drop at bytes) ≡ start ++ flat_map spaced bytes
-all_spaced text start bytes at e =
-    ap (λ t. t ++ flat_map spaced (drop at bytes)) e ∙ append_assoc start _ _
-    ∙ ap (λ t. start ++ t) (sym (flat_map-append spaced (take at bytes) (drop at bytes)) ∙ ap (flat_map spaced) (take-append-drop at bytes))
+all_spaced text start bytes at e = simp (e, append_assoc, ← flat_map-append, take-append-drop)
 
 digit_ascii : (n : ℕ) → n < 16 → digit n < 128
 unfolding digit
-digit_ascii n h = elim (cases_Bool (ltb n 10)) [
-  | inl less ↦ rw less (omega arith)
-  | inr more ↦ rw more (omega arith)
-]
+digit_ascii n h = elim (cases_Bool (ltb n 10)) [ inl less ↦ rw less (omega arith) | inr more ↦ rw more (omega arith) ]
 
 spaced_ascii : (b : ℕ) → b < 256 → IsAscii (spaced b)
 spaced_ascii b h zero = omega arith

@@ -1,13 +1,8 @@
 -- The order of lists of numbers, and comparing them one by one.
-use Rattle.std.proofs.Common.{◌≡◌, ℕ, ◌<◌, ◌≤◌, inl, inr, List, [], ◌∷◌, ◌++◌, refl, sym, ap, ◌∙◌, arith, subst}
-use Rattle.std.specs.declared.cmp.Ordering.{Ordering}
-use Rattle.std.specs.declared.cmp.Ordering.TheVariants.{Less, Equal, Greater}
-use Rattle.std.specs.Ordering.{nat_cmp, ordering_then, ordering_reverse, MatchOrdering}
-use Rattle.std.specs.Cmp.Lexicographic.{slice_cmp}
-use Rattle.std.proofs.lemmas.Bool.{cases_lt}
-use Rattle.std.proofs.lemmas.Bool.Decides.{nat_tests}
+use Rattle.wtf8.proofs.Common.{◌≡◌, ℕ, ◌<◌, ◌≤◌, inl, inr, List, [], ◌∷◌, ◌++◌, refl, sym, ap, ◌∙◌, arith, subst, Ordering, Less, Equal, Greater, nat_cmp}
+use Rattle.wtf8.proofs.Common.{ordering_then, MatchOrdering, slice_cmp, cases_lt, nat_tests, Before, cases_order}
+use Rattle.std.specs.Ordering.{ordering_reverse}
 use Rattle.std.proofs.lemmas.Cmp.{nat_list_cmp_total}
-use Rattle.wtf8.specs.Order.{Before}
 
 pub cmp_less : (x y : ℕ) → x < y → nat_cmp x y ≡ Less
 cmp_less x y h = grind (arith, nat_tests)
@@ -20,12 +15,10 @@ pub less_of : (c d : List ℕ) → Before c d → slice_cmp nat_cmp c d ≡ Less
 less_of [] [] h = absurd h
 less_of [] (y ∷ ys) h = refl
 less_of (x ∷ xs) [] h = absurd h
-less_of (x ∷ xs) (y ∷ ys) h =
-    elim h [
-      | inl l ↦ ap (λ o. ordering_then o (slice_cmp nat_cmp xs ys)) (cmp_less x y l)
-      | inr e ↦ ap (λ z. ordering_then (nat_cmp x z) (slice_cmp nat_cmp xs ys)) (sym e.0)
-          ∙ (ap (λ o. ordering_then o (slice_cmp nat_cmp xs ys)) (cmp_same x) ∙ less_of xs ys e.1)
-    ]
+less_of (x ∷ xs) (y ∷ ys) h = elim h [
+  | inl l ↦ ap (λ o. ordering_then o (slice_cmp nat_cmp xs ys)) (cmp_less x y l)
+  | inr e ↦ rw (← e.0, cmp_same x) (less_of xs ys e.1)
+]
 
 pub greater_of : (c d : List ℕ) → Before d c → slice_cmp nat_cmp c d ≡ Greater
 greater_of c d h = nat_list_cmp_total.antisymm c d ∙ ap ordering_reverse (less_of d c h)
@@ -37,23 +30,20 @@ cmp_behind (x ∷ f) c d = ap (λ o. ordering_then o (slice_cmp nat_cmp (f ++ c)
 
 -- the first numbers decide, or the rest does
 pub before_cons : (x y : ℕ) (xs ys : List ℕ) → x ≤ y → (x ≡ y → Before xs ys) → Before (x ∷ xs) (y ∷ ys)
-before_cons x y xs ys h rest =
-    elim (cases_lt x y) [
-      | inl l ↦ inl l
-      | inr m ↦ let same : x ≡ y = omega arith in inr (same, rest same)
-    ]
+before_cons x y xs ys h rest = elim (cases_lt x y) [
+  | inl l ↦ inl l
+  | inr m ↦ let same : x ≡ y = omega arith in inr (same, rest same)
+]
 
 pub before_two : (a b x y : ℕ) (r s : List ℕ) → a ≤ x → (a ≡ x → b < y) → Before (a ∷ b ∷ r) (x ∷ y ∷ s)
 before_two a b x y r s h k = before_cons a x (b ∷ r) (y ∷ s) h (λ e. inl (k e))
 
 pub before_three : (a b c x y z : ℕ) (r s : List ℕ) → a ≤ x → (a ≡ x → b ≤ y) → (a ≡ x → b ≡ y → c < z) → Before (a ∷ b ∷ c ∷ r) (x ∷ y ∷ z ∷ s)
-before_three a b c x y z r s h k l =
-    before_cons a x (b ∷ c ∷ r) (y ∷ z ∷ s) h (λ e. before_two b c y z r s (k e) (l e))
+before_three a b c x y z r s h k l = before_cons a x (b ∷ c ∷ r) (y ∷ z ∷ s) h (λ e. before_two b c y z r s (k e) (l e))
 
 pub before_four : (a b c d x y z w : ℕ) (r s : List ℕ) → a ≤ x → (a ≡ x → b ≤ y) → (a ≡ x → b ≡ y → c ≤ z) → (a ≡ x → b ≡ y → c ≡ z → d < w)
     → Before (a ∷ b ∷ c ∷ d ∷ r) (x ∷ y ∷ z ∷ w ∷ s)
-before_four a b c d x y z w r s h k l m =
-    before_cons a x (b ∷ c ∷ d ∷ r) (y ∷ z ∷ w ∷ s) h (λ e. before_three b c d y z w r s (k e) (l e) (m e))
+before_four a b c d x y z w r s h k l m = before_cons a x (b ∷ c ∷ d ∷ r) (y ∷ z ∷ w ∷ s) h (λ e. before_three b c d y z w r s (k e) (l e) (m e))
 
 with_first : (x y : ℕ) (xs ys : List ℕ) → x ≡ y → (o : Ordering) → MatchOrdering o (Before xs ys) (xs ≡ ys) (Before ys xs)
     → MatchOrdering o (Before (x ∷ xs) (y ∷ ys)) (x ∷ xs ≡ y ∷ ys) (Before (y ∷ ys) (x ∷ xs))
@@ -68,15 +58,12 @@ order_of [] (y ∷ ys) = tt
 order_of (x ∷ xs) [] = tt
 order_of (x ∷ xs) (y ∷ ys) =
     let P : Ordering → Type 0 = λ o. MatchOrdering o (Before (x ∷ xs) (y ∷ ys)) (x ∷ xs ≡ y ∷ ys) (Before (y ∷ ys) (x ∷ xs)) in
-    elim (cases_lt x y) [
-      | inl l ↦ subst P (sym (less_of (x ∷ xs) (y ∷ ys) (inl l))) (inl l)
-      | inr m ↦ elim (cases_lt y x) [
-        | inl l ↦ subst P (sym (greater_of (x ∷ xs) (y ∷ ys) (inl l))) (inl l)
-        | inr n ↦
-            let same : x ≡ y = omega arith in
-            let first : nat_cmp x y ≡ Equal = ap (nat_cmp x) (sym same) ∙ cmp_same x in
-            subst P (ap (λ o. ordering_then o (slice_cmp nat_cmp xs ys)) (sym first)) (with_first x y xs ys same (slice_cmp nat_cmp xs ys) (order_of xs ys))
-      ]
+    elim (cases_order x y) [
+      | inl same ↦
+          let first : nat_cmp x y ≡ Equal = ap (nat_cmp x) (sym same) ∙ cmp_same x in
+          subst P (ap (λ o. ordering_then o (slice_cmp nat_cmp xs ys)) (sym first)) (with_first x y xs ys same (slice_cmp nat_cmp xs ys) (order_of xs ys))
+      | inr (inl l) ↦ subst P (sym (less_of (x ∷ xs) (y ∷ ys) (inl l))) (inl l)
+      | inr (inr l) ↦ subst P (sym (greater_of (x ∷ xs) (y ∷ ys) (inl l))) (inl l)
     ]
 
 -- what an answer by a comparison says

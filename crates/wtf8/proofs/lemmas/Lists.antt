@@ -9,10 +9,7 @@ pub data Last (c : List ℕ) : Type 0 where
 
 pub last_of : (c : List ℕ) → Last c
 last_of [] = empty refl
-last_of (p ∷ c) = elim (last_of c) [
-  | empty e ↦ ends [] p (ap (λ d. p ∷ d) e)
-  | ends f l e ↦ ends (p ∷ f) l (ap (λ d. p ∷ d) e)
-]
+last_of (p ∷ c) = elim (last_of c) [ empty e ↦ ends [] p (ap (λ d. p ∷ d) e) | ends f l e ↦ ends (p ∷ f) l (ap (λ d. p ∷ d) e) ]
 
 module _ {X : Type 0} where
   -- a list before an item, the item and what is behind it

@@ -1,13 +1,7 @@
 -- The list with U+FFFD in the place of each surrogate.
-use Rattle.std.proofs.Common.{◌≡◌, ℕ, List, [], ◌∷◌, ◌++◌, length, refl, ap, sym, arith, length-append, true, inl, inr, lit≤, lit<}
-use Rattle.std.proofs.lemmas.Bool.{cases_lt, le-leb, lt-leb}
-use Rattle.std.proofs.lemmas.List.{map-append}
-use Rattle.std.specs.Str.{IsUtf8}
-use lib.Utf8.{scalars}
-use Rattle.wtf8.specs.Unicode.{IsSurrogate}
-use Rattle.wtf8.specs.Form.{encoding, bytes, IsClean}
-use Rattle.wtf8.specs.OneForm.{bytes_are_encodes}
-use Rattle.wtf8.specs.Surrogates.{AreScalar, replaced, lossy}
+use Rattle.wtf8.proofs.Common.{◌≡◌, ℕ, List, [], ◌∷◌, ◌++◌, length, refl, ap, sym, arith, length-append, true, inl, inr, lit≤, lit<, cases_lt, le-leb, lt-leb}
+use Rattle.wtf8.proofs.Common.{map-append, IsUtf8, scalars, IsSurrogate, encoding, bytes, IsClean, bytes_are_encodes, AreScalar, lossy}
+use Rattle.wtf8.specs.Surrogates.{replaced}
 use Rattle.wtf8.proofs.lemmas.Clean.{clean-first, clean-rest}
 use Rattle.wtf8.proofs.lemmas.Encoding.{encoding_three, length-surrogate}
 use Rattle.wtf8.proofs.lemmas.Surrogates.{scalar_true}
@@ -19,24 +13,20 @@ pub data Kind (p : ℕ) : Type 0 where
 
 pub kind_of : (p : ℕ) → Kind p
 unfolding replaced
-kind_of p =
-    elim (cases_lt p 0xD800) [
-      | inl h ↦ scalar_value (λ s. omega arith) (rw (lt-leb 0xD800 p h) refl)
-      | inr h ↦ elim (cases_lt p 0xE000) [
-        | inl k ↦ surrogate (h, omega arith) (rw (le-leb 0xD800 p h, le-leb p 0xDFFF (omega arith)) refl)
-        | inr k ↦ scalar_value (λ s. omega arith) (rw (le-leb 0xD800 p h, lt-leb p 0xDFFF (omega arith)) refl)
-      ]
-    ]
+kind_of p = elim (cases_lt p 0xD800) [
+  | inl h ↦ scalar_value (λ s. omega arith) (rw (lt-leb 0xD800 p h) refl)
+  | inr h ↦ elim (cases_lt p 0xE000) [
+    | inl k ↦ surrogate (h, omega arith) (rw (le-leb 0xD800 p h, le-leb p 0xDFFF (omega arith)) refl)
+    | inr k ↦ scalar_value (λ s. omega arith) (rw (le-leb 0xD800 p h, lt-leb p 0xDFFF (omega arith)) refl)
+  ]
+]
 
 pub lossy-append : (c d : List ℕ) → lossy (c ++ d) ≡ lossy c ++ lossy d
 lossy-append c d = map-append replaced c d
 
 pub lossy-scalar : (c : List ℕ) → AreScalar c → lossy c ≡ c
 lossy-scalar [] s = refl
-lossy-scalar (p ∷ c) s = elim (kind_of p) [
-  | surrogate k e ↦ absurd (s.0 k)
-  | scalar_value n e ↦ rw (e, lossy-scalar c s.1) refl
-]
+lossy-scalar (p ∷ c) s = elim (kind_of p) [ surrogate k e ↦ absurd (s.0 k) | scalar_value n e ↦ rw (e, lossy-scalar c s.1) refl ]
 
 -- it is as long: a surrogate has three bytes too
 pub length-lossy : (c : List ℕ) → length (bytes (lossy c)) ≡ length (bytes c)

@@ -1,17 +1,11 @@
 -- Where a lead ends one list and a trail begins another, and where they do not meet so.
-use Rattle.std.proofs.Common.{◌≡◌, ℕ, ◌⊎◌, inl, inr, List, [], ◌∷◌, ◌++◌, drop, get_or, length, true, ◌&&◌, leb, refl, sym, ap, ◌∙◌, subst, arith}
-use Rattle.std.proofs.Common.{length-append}
-use Rattle.std.proofs.lemmas.Bool.{leb-true, le-leb, and_parts, and_from, cases_Bool, false≢true}
-use Rattle.std.proofs.lemmas.List.{same_from_push}
-use Rattle.wtf8.specs.Unicode.{IsLead, IsTrail}
-use Rattle.wtf8.specs.Concatenation.{MeetsAsPair, is_pair}
+use Rattle.wtf8.proofs.Common.{◌≡◌, ℕ, ◌⊎◌, inl, inr, List, [], ◌∷◌, ◌++◌, drop, get_or, length, true, ◌&&◌, leb, refl, sym, ap, ◌∙◌, subst, arith}
+use Rattle.wtf8.proofs.Common.{length-append, leb-true, le-leb, and_parts, cases_Bool, false≢true, same_from_push, IsLead, IsTrail, MeetsAsPair}
+use Rattle.wtf8.specs.Concatenation.{is_pair}
 
 pub pair_true : (l t : ℕ) → IsLead l → IsTrail t → is_pair l t ≡ true
 unfolding is_pair
-pair_true l t h k =
-    and_from (leb 0xD800 l && leb l 0xDBFF) (leb 0xDC00 t && leb t 0xDFFF)
-    (and_from (leb 0xD800 l) (leb l 0xDBFF) (le-leb 0xD800 l h.0) (le-leb l 0xDBFF h.1))
-    (and_from (leb 0xDC00 t) (leb t 0xDFFF) (le-leb 0xDC00 t k.0) (le-leb t 0xDFFF k.1))
+pair_true l t h k = rw (le-leb 0xD800 l h.0, le-leb l 0xDBFF h.1, le-leb 0xDC00 t k.0, le-leb t 0xDFFF k.1) refl
 
 pub true_pair : (l t : ℕ) → is_pair l t ≡ true → IsLead l × IsTrail t
 unfolding is_pair
@@ -48,8 +42,7 @@ no_trail p r n m = n (subst IsTrail (sym (ap (λ w. get_or w 0 0) m.begins)) m.i
 meeting_numbers : (p q : ℕ) (d : List ℕ) → MeetsAsPair (p ∷ []) (q ∷ d) → is_pair p q ≡ true
 meeting_numbers p q d m =
     let last = (same_from_push [] m.front p m.lead m.ends).1 in
-    let first = ap (λ w. get_or w 0 0) m.begins in
-    pair_true p q (subst IsLead (sym last) m.is_lead) (subst IsTrail (sym first) m.is_trail)
+    pair_true p q (subst IsLead (sym last) m.is_lead) (subst IsTrail (sym (ap (λ w. get_or w 0 0) m.begins)) m.is_trail)
 
 without_first : (p q : ℕ) (c f : List ℕ) (l : ℕ) → p ∷ q ∷ c ≡ f ++ l ∷ [] → (g : List ℕ) × (q ∷ c ≡ g ++ l ∷ [])
 without_first p q c [] l e = absurd (omega (arith, ap length e))
@@ -63,13 +56,8 @@ meets_before p q c d m =
 pub meets_or_apart : (c d : List ℕ) → MeetsAsPair c d ⊎ ¬ (MeetsAsPair c d)
 meets_or_apart [] d = inr nothing_ends
 meets_or_apart (p ∷ []) [] = inr nothing_begins
-meets_or_apart (p ∷ []) (q ∷ d) =
-    elim (cases_Bool (is_pair p q)) [
-      | inl e ↦ let h = true_pair p q e in inl (meets_by [] d p q h.0 h.1 refl refl)
-      | inr e ↦ inr (λ m. false≢true (sym e ∙ meeting_numbers p q d m))
-    ]
-meets_or_apart (p ∷ q ∷ c) d =
-    elim (meets_or_apart (q ∷ c) d) [
-      | inl m ↦ inl (meets_behind p m)
-      | inr n ↦ inr (λ m. n (meets_before p q c d m))
-    ]
+meets_or_apart (p ∷ []) (q ∷ d) = elim (cases_Bool (is_pair p q)) [
+  | inl e ↦ let h = true_pair p q e in inl (meets_by [] d p q h.0 h.1 refl refl)
+  | inr e ↦ inr (λ m. false≢true (sym e ∙ meeting_numbers p q d m))
+]
+meets_or_apart (p ∷ q ∷ c) d = elim (meets_or_apart (q ∷ c) d) [ inl m ↦ inl (meets_behind p m) | inr n ↦ inr (λ m. n (meets_before p q c d m)) ]

@@ -1,13 +1,21 @@
 -- Where a string may be cut, and what the parts are.
-use Rattle.std.proofs.Common.{◌≡◌, ◌≤◌, ◌<◌, ℕ, List, [], ◌∷◌, ◌++◌, length, take, drop, get_or, refl, ap, ◌∙◌, sym, subst, arith, append_assoc, length-append}
-use Rattle.std.proofs.lemmas.List.{take_at, drop_at}
-use Rattle.wtf8.specs.Unicode.{units}
-use Rattle.wtf8.specs.Form.{encoding, bytes, IsClean, Reads, IsWellFormed, IsForm}
-use Rattle.wtf8.specs.Position.{Splits, IsBoundary, IsFront, IsBack, IsMiddle}
+use Rattle.wtf8.proofs.Common.{◌≡◌, ◌≤◌, ◌<◌, ℕ, List, [], ◌∷◌, ◌++◌, length, take, drop, get_or, refl, ap, ◌∙◌, sym, subst, arith, append_assoc, length-append}
+use Rattle.wtf8.proofs.Common.{take_at, drop_at, units, encoding, bytes, IsClean, Reads, IsWellFormed, IsForm, IsBoundary, IsFront, IsBack}
+use Rattle.wtf8.specs.Position.{Splits, IsMiddle}
 use Rattle.wtf8.proofs.lemmas.Clean.{clean-front, clean-back}
 use Rattle.wtf8.proofs.lemmas.Encoding.{Begins, length-encoding_bounds, bytes-append}
-use Rattle.wtf8.proofs.lemmas.Readings.{same_heads, same_points, same_reading, well_formed_of}
+use Rattle.wtf8.proofs.lemmas.Readings.{form_of, reads_same, same_heads, same_points, same_reading, well_formed_of}
 use Rattle.wtf8.proofs.lemmas.Splits.{split_at, begins_behind}
+
+-- what is before a position and what is behind it is read as it is in the whole
+pub front_reads : {u v : List ℕ} {k : ℕ} (f : IsFront u k v) → Reads f.front v
+front_reads f = record { clean = clean-front f.front f.back f.splits.reads.clean; same_units = f.same_units }
+
+pub back_reads : {u v : List ℕ} {k : ℕ} (b : IsBack u k v) → Reads b.back v
+back_reads b = record { clean = clean-back b.front b.back b.splits.reads.clean; same_units = b.same_units }
+
+pub front_boundary : {u v : List ℕ} {k : ℕ} → IsFront u k v → IsBoundary u k
+front_boundary f = record { front = f.front; back = f.back; splits = f.splits }
 
 -- a front and a back of the code points, and the bytes before and behind the place where they meet
 pub record Cut (w : List ℕ) (h : IsWellFormed w) (k : ℕ) : Type 0 where
@@ -57,9 +65,7 @@ points_behind h p front back k e n d = same_points p (cut_by h front back k e n)
 -- the bytes before a position are the form of the units of the code points before it
 pub front_form : {w u : List ℕ} (h : IsForm w u) (k : ℕ) (v : List ℕ) → IsFront u k v → IsForm (take k w) v
 front_form h k v f =
-    let reads = f.splits.reads in
-    let points = same_reading h.points (f.front ++ f.back) h.reads.clean reads.clean (h.reads.same_units ∙ sym reads.same_units) in
-    let before = (cut_by (well_formed_of h) f.front f.back k points f.splits.front_len).before in
+    let before = (cut_by (well_formed_of h) f.front f.back k (reads_same h.reads f.splits.reads) f.splits.front_len).before in
     record { points = f.front; reads = record { clean = before.clean; same_units = f.same_units }; encoded = before.encoded }
 
 -- what the test of one byte says
@@ -81,7 +87,7 @@ pub same_front : (u : List ℕ) (k : ℕ) (v w : List ℕ) → IsFront u k v →
 same_front u k v w x y =
     let own = x.splits in
     let other = y.splits in
-    let whole = same_reading (x.front ++ x.back) (y.front ++ y.back) own.reads.clean other.reads.clean (own.reads.same_units ∙ sym other.reads.same_units) in
+    let whole = reads_same own.reads other.reads in
     let h : IsWellFormed (bytes (x.front ++ x.back)) = record { points = x.front ++ x.back; clean = own.reads.clean; encoded = refl } in
     let front = points_before h (cut_by h x.front x.back k refl own.front_len).before y.front y.back k whole other.front_len refl in
     sym x.same_units ∙ (ap units front ∙ y.same_units)
@@ -101,26 +107,18 @@ begun (p ∷ f) b (q ∷ g) d e n =
 
 -- the front's reading is the front
 front_points : {w v : List ℕ} (h : IsWellFormed w) (k : ℕ) (p : IsWellFormed v) (f : IsFront (units h.points) k (units p.points)) → p.points ≡ f.front
-front_points h k p f = same_reading p.points f.front p.clean (clean-front f.front f.back f.splits.reads.clean) (sym f.same_units)
+front_points h k p f = reads_same (form_of p).reads (front_reads f)
 
 -- the back of a front is the middle
 pub middle_of : {w v : List ℕ} (h : IsWellFormed w) (begin end : ℕ) (p : IsWellFormed v) {u : List ℕ} → IsFront (units h.points) end (units p.points)
     → IsBack (units p.points) begin u → IsMiddle (units h.points) begin end u
 middle_of h begin end p f b =
-    let points = front_points h end p f in
-    let parts : b.front ++ b.back ≡ f.front = same_reading (b.front ++ b.back) f.front b.splits.reads.clean (clean-front f.front f.back f.splits.reads.clean)
-    (b.splits.reads.same_units ∙ ap units points) in
+    let parts : b.front ++ b.back ≡ f.front = reads_same b.splits.reads (front_reads f) in
     record {
       front = b.front;
       middle = b.back;
       back = f.back;
-      begins = record {
-        reads = subst (λ c. Reads c (units h.points)) (ap (λ c. c ++ f.back) (sym parts) ∙ append_assoc b.front b.back f.back) f.splits.reads;
-        front_len = b.splits.front_len;
-      };
-      ends = record {
-        reads = subst (λ c. Reads (c ++ f.back) (units h.points)) (sym parts) f.splits.reads;
-        front_len = ap (λ c. length (bytes c)) parts ∙ f.splits.front_len;
-      };
+      begins = record { reads = rw (← append_assoc, parts) f.splits.reads; front_len = b.splits.front_len };
+      ends = record { reads = rw parts f.splits.reads; front_len = rw parts f.splits.front_len };
       same_units = b.same_units;
     }

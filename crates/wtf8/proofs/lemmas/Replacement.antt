@@ -1,12 +1,7 @@
 -- Surrogates replaced by U+FFFD: the lossy list, and bytes in which it is written over them one by one.
-use Rattle.std.proofs.Common.{◌≡◌, ◌≤◌, ◌+◌, ℕ, List, [], ◌∷◌, ◌++◌, length, take, drop, refl, ap, ◌∙◌, sym, subst, arith, append_assoc, length-append, lit≤}
-use Rattle.std.proofs.Common.{lit<}
-use Rattle.std.proofs.lemmas.List.{append-nil, append_cancel_left, take_at, drop_at}
-use Rattle.std.specs.Str.{IsUtf8}
-use Rattle.wtf8.specs.Unicode.{IsSurrogate}
-use Rattle.wtf8.specs.Form.{encoding, bytes, IsClean, IsWellFormed}
-use Rattle.wtf8.specs.Surrogates.{AreScalar, replaced, lossy}
-use Rattle.wtf8.specs.SurrogateSearch.{SurrogateAt, IsLeast}
+use Rattle.wtf8.proofs.Common.{◌≡◌, ◌≤◌, ◌+◌, ℕ, List, [], ◌∷◌, ◌++◌, length, take, drop, refl, ap, ◌∙◌, sym, subst, arith, append_assoc, length-append, lit≤}
+use Rattle.wtf8.proofs.Common.{lit<, append_cancel_left, take_at, drop_at, IsUtf8, IsSurrogate, encoding, bytes, IsClean, IsWellFormed, AreScalar}
+use Rattle.wtf8.proofs.Common.{lossy, SurrogateAt, IsLeast}
 use Rattle.wtf8.proofs.lemmas.Clean.{clean-front, clean-rest, clean-back}
 use Rattle.wtf8.proofs.lemmas.Encoding.{encoding_three, length-surrogate, bytes-append}
 use Rattle.wtf8.proofs.lemmas.Lossy.{lossy-append, lossy-scalar, replaced_surrogate}
@@ -27,7 +22,7 @@ replacing_start h = record { done = []; rest = h.points; joined = refl; so_far =
 pub replacing_end : (c w : List ℕ) (from : ℕ) → Replacing c w from → ((j : ℕ) → from ≤ j → ¬ (SurrogateAt w j)) → w ≡ bytes (lossy c)
 replacing_end c w from r none =
     let plain = scalar_from_none (lossy r.done) r.rest (λ j l. subst (λ v. ¬ (SurrogateAt v j)) r.so_far (none j (omega (arith, l, r.place)))) in
-    r.so_far ∙ (ap (λ d. bytes (lossy r.done ++ d)) (sym (lossy-scalar r.rest plain)) ∙ ap bytes (sym (lossy-append r.done r.rest) ∙ ap lossy (sym r.joined)))
+    cc (lossy-scalar r.rest plain, lossy-append r.done r.rest)
 
 -- a string about a surrogate, in bytes
 pub record Around (w : List ℕ) (front : List ℕ) (found : ℕ) (back : List ℕ) : Type 0 where
@@ -57,36 +52,21 @@ replacing_step c w from found r least =
     let p = surrogate_in (lossy r.done ++ r.rest) found (subst (λ v. SurrogateAt v found) r.so_far least.here) in
     let b = begun (lossy r.done) r.rest p.front (p.point ∷ p.back) p.joined (omega (arith, r.place, p.front_len, least.not_before)) in
     let a = around w p.front p.point p.back found (r.so_far ∙ ap bytes p.joined) p.front_len p.surrogate in
-    let rest : r.rest ≡ b.more ++ p.point ∷ p.back = append_cancel_left (lossy r.done) r.rest (b.more ++ p.point ∷ p.back)
-    (p.joined ∙ (ap (λ d. d ++ p.point ∷ p.back) b.joined ∙ append_assoc (lossy r.done) b.more (p.point ∷ p.back))) in
+    let rest : r.rest ≡ b.more ++ p.point ∷ p.back = append_cancel_left (lossy r.done) _ _ (p.joined ∙ simp (b.joined, append_assoc)) in
     let plain : AreScalar b.more = scalar_between (lossy r.done) b.more (p.point ∷ p.back)
     (λ j l u s. least.none_between j (omega (arith, r.place)) (omega (arith, p.front_len, ap (λ d. length (bytes d)) b.joined))
     (subst (λ v. SurrogateAt v j) (sym (r.so_far ∙ ap bytes (p.joined ∙ ap (λ d. d ++ p.point ∷ p.back) b.joined))) s)) in
-    let done : lossy ((r.done ++ b.more) ++ p.point ∷ []) ≡ p.front ++ 0xFFFD ∷ [] = lossy-append (r.done ++ b.more) (p.point ∷ [])
-    ∙ (ap (λ d. d ++ lossy (p.point ∷ [])) (lossy-append r.done b.more ∙ (ap (λ d. lossy r.done ++ d) (lossy-scalar b.more plain) ∙ sym b.joined))
-    ∙ ap (λ q. p.front ++ q ∷ []) (replaced_surrogate p.point p.surrogate)) in
+    let done : lossy ((r.done ++ b.more) ++ p.point ∷ []) ≡ p.front ++ 0xFFFD ∷ [] =
+    simp (lossy-append, lossy-scalar b.more plain, ← b.joined, replaced_surrogate p.point p.surrogate) in
     let sign : encoding 0xFFFD ≡ 0xEF ∷ 0xBF ∷ 0xBD ∷ [] = encoding_three 0xFFFD (lit≤ tt) (lit< tt) in
     record {
       within = a.within;
       next = record {
         done = (r.done ++ b.more) ++ p.point ∷ [];
         rest = p.back;
-        joined = r.joined ∙ (ap (λ d. r.done ++ d) rest ∙ (sym (append_assoc r.done b.more (p.point ∷ p.back))
-            ∙ sym (append_assoc (r.done ++ b.more) (p.point ∷ []) p.back)));
-        so_far = ap (λ v. v ++ (0xEF ∷ 0xBF ∷ 0xBD ∷ drop (found + 3) w)) a.before
-            ∙ (ap (λ v. bytes p.front ++ (0xEF ∷ 0xBF ∷ 0xBD ∷ v)) a.behind
-            ∙ (ap (λ v. bytes p.front ++ (v ++ bytes p.back)) (sym sign)
-            ∙ (sym (bytes-append p.front (0xFFFD ∷ p.back)) ∙ (ap bytes (sym (append_assoc p.front (0xFFFD ∷ []) p.back))
-            ∙ ap (λ d. bytes (d ++ p.back)) (sym done)))));
-        place = omega (
-          arith,
-          ap (λ d. length (bytes d)) done,
-          ap length (bytes-append p.front (0xFFFD ∷ [])),
-          length-append (bytes p.front) (bytes (0xFFFD ∷ [])),
-          ap length (append-nil (encoding 0xFFFD)),
-          ap length sign,
-          p.front_len,
-        );
+        joined = r.joined ∙ simp (rest, append_assoc);
+        so_far = rw (a.before, a.behind, done, append_assoc p.front (0xFFFD ∷ []) p.back, bytes-append p.front (0xFFFD ∷ p.back), sign);
+        place = simp (done, bytes-append, length-append, sign, p.front_len);
       };
     }
 
@@ -109,9 +89,5 @@ parted {w} h found least =
       within = a.within;
       text = subst IsUtf8 (sym a.before) (utf8_of p.front (clean-front p.front (p.point ∷ p.back) clean) plain);
       rest = record { points = p.back; clean = clean-rest p.point p.back (clean-back p.front (p.point ∷ p.back) clean); encoded = sym a.behind };
-      lossy_parts = ap (λ c. bytes (lossy c)) p.joined ∙ (ap bytes (lossy-append p.front (p.point ∷ p.back))
-          ∙ (bytes-append (lossy p.front) (lossy (p.point ∷ p.back))
-          ∙ (ap (λ c. bytes c ++ bytes (replaced p.point ∷ lossy p.back)) (lossy-scalar p.front plain)
-          ∙ (ap (λ q. bytes p.front ++ bytes (q ∷ lossy p.back)) (replaced_surrogate p.point p.surrogate)
-          ∙ ap (λ v. v ++ bytes (0xFFFD ∷ lossy p.back)) (sym a.before)))));
+      lossy_parts = simp (p.joined, lossy-append, bytes-append, lossy-scalar p.front plain, replaced_surrogate p.point p.surrogate, a.before);
     }

@@ -1,17 +1,11 @@
 -- Room: how long the forms of parts and of wholes are, and the room that calls find, one after another.
-use Rattle.std.proofs.Common.{◌≡◌, ◌≤◌, ◌+◌, inl, inr, ℕ, List, [], ◌∷◌, ◌++◌, length, take, drop, refl, ap, ◌∙◌, sym, subst, arith, append_assoc}
-use Rattle.std.proofs.Common.{length-append}
-use Rattle.std.specs.List.{All}
-use Rattle.std.proofs.lemmas.List.{length-map, map-append, take_at, drop_at}
-use Rattle.std.proofs.lemmas.List.Elements.{All-take, All-drop, All-same}
-use Rattle.wtf8.specs.Building.{Step, FindsRoom, FindRoom}
-use Rattle.wtf8.specs.declared.build.Build.{Build}
-use Rattle.wtf8.specs.declared.build.Build.TheVariants.{Push, PushChar, PushStr, PushWtf8, Extend, Reserve, Truncate, TruncateUnits}
-use Rattle.wtf8.specs.CodePoint.{number, numbers}
+use Rattle.wtf8.proofs.Common.{◌≡◌, ◌≤◌, ◌+◌, inl, inr, ℕ, List, [], ◌∷◌, ◌++◌, length, take, drop, refl, ap, ◌∙◌, sym, subst, arith, append_assoc}
+use Rattle.wtf8.proofs.Common.{length-append, All, map-append, take_at, drop_at, All-drop, All-same, Step, FindRoom, Build}
+use Rattle.wtf8.proofs.Common.{Truncate, TruncateUnits, number, numbers, glue, IsUnit, units, bytes, IsForm}
+use Rattle.std.proofs.lemmas.List.{length-map}
+use Rattle.std.proofs.lemmas.List.Elements.{All-take}
+use Rattle.wtf8.specs.Building.{FindsRoom}
 use Rattle.wtf8.specs.declared.code_point.CodePoint.{CodePoint}
-use Rattle.wtf8.specs.Concatenation.{glue}
-use Rattle.wtf8.specs.Unicode.{IsUnit, units_of, units}
-use Rattle.wtf8.specs.Form.{bytes, encoding, IsForm}
 use Rattle.wtf8.proofs.lemmas.Encoding.{length-surrogate}
 use Rattle.wtf8.proofs.lemmas.FormLaws.{one_form, units_read}
 use Rattle.wtf8.proofs.lemmas.Forms.{meeting_bytes, bytes_paired, bytes_apart, length-paired_bytes, form-glue}
@@ -25,27 +19,20 @@ pub record GluedLength (c d : List ℕ) : Type 0 where
   pub most : length (bytes (glue c d)) ≤ length (bytes c) + length (bytes d)
 
 glued_length : (c d : List ℕ) → GluedLength c d
-glued_length c d =
-    elim (meets_or_apart c d) [
-      | inl m ↦
-          let s = meeting_bytes m refl refl in
-          let both = ap length (bytes_paired c d m refl refl) in
-          let paired = length-paired_bytes (bytes c) (bytes d) m.lead m.trail m.is_lead m.is_trail s.three s.three_behind in
-          let three = length-surrogate m.trail (omega (arith, m.is_trail), omega (arith, m.is_trail)) in
-          let back : length (bytes d) ≡ 3 + length (bytes m.rest) = ap (λ e. length (bytes e)) m.begins
-          ∙ (length-append (encoding m.trail) (bytes m.rest) ∙ ap (λ n. n + length (bytes m.rest)) three) in
-          let own : length (units d) ≡ 1 + length (units m.rest) = omega (
-            arith,
-            ap (λ e. length (units e)) m.begins,
-            length-append (units_of m.trail) (units m.rest),
-            ap length (units_one m.trail (omega (arith, m.is_trail))),
-          ) in
-          let rest = (units_bounds m.rest).at_least in
-          record { least = omega (arith, both, paired, back, own, rest); most = omega (arith, both, paired) }
-      | inr n ↦
-          let both = ap length (bytes_apart c d n refl refl) ∙ length-append (bytes c) (bytes d) in
-          record { least = omega (arith, both, (units_bounds d).at_least); most = omega (arith, both) }
-    ]
+glued_length c d = elim (meets_or_apart c d) [
+  | inl m ↦
+      let s = meeting_bytes m refl refl in
+      let both = ap length (bytes_paired c d m refl refl) in
+      let paired = length-paired_bytes (bytes c) (bytes d) m.lead m.trail m.is_lead m.is_trail s.three s.three_behind in
+      let three = length-surrogate m.trail (omega (arith, m.is_trail), omega (arith, m.is_trail)) in
+      let back : length (bytes d) ≡ 3 + length (bytes m.rest) = simp (m.begins, length-append, three) in
+      let own : length (units d) ≡ 1 + length (units m.rest) = simp (m.begins, length-append, units_one m.trail (omega (arith, m.is_trail))) in
+      let rest = (units_bounds m.rest).at_least in
+      record { least = omega (arith, both, paired, back, own, rest); most = omega (arith, both, paired) }
+  | inr n ↦
+      let both = ap length (bytes_apart c d n refl refl) ∙ length-append (bytes c) (bytes d) in
+      record { least = omega (arith, both, (units_bounds d).at_least); most = omega (arith, both) }
+]
 
 -- the form of both is as long as those of the parts let it be
 pub record BothLength (w v z b : List ℕ) : Type 0 where
@@ -57,9 +44,7 @@ both_length {w} {v} {z} {a} {b} x y f =
     let n = glued_length x.points y.points in
     let whole = ap length (same_form z (bytes (glue x.points y.points)) (a ++ b) f (form-glue w v a b x y)) in
     let front = ap length x.encoded in
-    let back = ap length y.encoded in
-    let own = ap length y.reads.same_units in
-    record { least = omega (arith, n.least, whole, front, own); most = omega (arith, n.most, whole, front, back) }
+    record { least = omega (arith, n.least, whole, front, ap length y.reads.same_units); most = omega (arith, n.most, whole, front, ap length y.encoded) }
 
 -- where all units have a form, so has each part of them, and that of the first part is no longer
 pub record Beginning (u w : List ℕ) : Type 0 where
@@ -77,8 +62,7 @@ pub beginning : (a b w : List ℕ) → IsForm w (a ++ b) → Beginning a w
 beginning a b w f =
     let all = units_read f.points (a ++ b) f.reads in
     let front = one_form a (all_front a b all) in
-    let back = one_form b (all_back a b all) in
-    record { whole = front.one; form = front.has; within = omega (arith, (both_length front.has back.has f).least) }
+    record { whole = front.one; form = front.has; within = omega (arith, (both_length front.has (one_form b (all_back a b all)).has f).least) }
 
 -- the form with all of some code points is longer by a byte or more for each
 pub extended_length : (ps : List CodePoint) (w u y : List ℕ) → IsForm w u → IsForm y (u ++ units (numbers ps)) → length w + length ps ≤ length y
@@ -92,14 +76,9 @@ units-points ps qs = ap units (map-append number ps qs) ∙ units-append (number
 
 -- a call that finds room leads where it is said to
 pub found_step : (u : List ℕ) (call : Build) (v w : List ℕ) (n r : ℕ) → FindsRoom u call v n → Step u call w r → w ≡ v
-found_step u (Push p) v w n r f s = s.0 ∙ sym f.step.0
-found_step u (PushChar x) v w n r f s = s.0 ∙ sym f.step.0
-found_step u (PushStr t) v w n r f s = s.0 ∙ sym f.step.0
-found_step u (PushWtf8 t) v w n r f s = s.0 ∙ sym f.step.0
-found_step u (Extend d) v w n r f s = s.0 ∙ sym f.step.0
-found_step u (Reserve k) v w n r f s = s.0 ∙ sym f.step.0
 found_step u (Truncate k) v w n r f s = absurd f.no_truncation
 found_step u (TruncateUnits k) v w n r f s = absurd f.no_truncation
+found_step u call v w n r f s = s.0 ∙ sym f.step.0
 
 -- what finds room in a capacity finds it in a greater one
 pub wider : {u v : List ℕ} {call : Build} {m n : ℕ} → FindsRoom u call v m → m ≤ n → FindsRoom u call v n
@@ -116,13 +95,10 @@ pub record Found (u : List ℕ) (calls : List Build) (now : List ℕ) (capacity 
 
 pub found_more : {u now new : List ℕ} {calls : List Build} {call : Build} {capacity grown larger : ℕ} (r : ℕ) → Found u calls now capacity grown
     → Step now call new r → ((v : List ℕ) → FindsRoom now call v capacity → grown ≤ larger) → Found u (calls ++ call ∷ []) new capacity larger
-found_more {u} {now} {new} {calls} {call} {capacity} {grown} {larger} r f s h =
-    let before : (more : List Build) (v : List ℕ) → FindRoom u ((calls ++ call ∷ []) ++ more) v capacity
-    → FindRoom u (calls ++ call ∷ more) v capacity = λ more v x. subst (λ d. FindRoom u d v capacity) (append_assoc calls (call ∷ []) more) x in
-    record {
-      rest = λ more v x. let here = f.rest (call ∷ more) v (before more v x) in
-          subst (λ m. FindRoom m more v capacity) (sym (found_step now call here.0 new capacity r here.1 s)) here.2;
-      grows = λ more v x.
-          let here = f.rest (call ∷ more) v (before more v x) in
-          let first = f.grows (call ∷ more) v (before more v x) in omega (arith, first, h here.0 here.1);
-    }
+found_more {u} {now} {new} {calls} {call} {capacity} {grown} {larger} r f s h = record {
+  rest = λ more v x. let here = f.rest (call ∷ more) v (rw append_assoc at x) in
+      subst (λ m. FindRoom m more v capacity) (sym (found_step now call here.0 new capacity r here.1 s)) here.2;
+  grows = λ more v x.
+      let here = f.rest (call ∷ more) v (rw append_assoc at x) in
+      omega (arith, f.grows (call ∷ more) v (rw append_assoc at x), h here.0 here.1);
+}

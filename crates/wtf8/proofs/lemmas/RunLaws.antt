@@ -1,39 +1,24 @@
 -- A list of building calls has exactly one outcome and one count of refused truncations.
-use Rattle.std.proofs.Common.{◌≡◌, ◌+◌, ◌⊎◌, inl, inr, ℕ, List, [], ◌∷◌, ◌++◌, length, take, get_or, refl, sym, subst, arith}
-use Rattle.std.proofs.lemmas.Bool.{cases_lt}
-use Rattle.std.proofs.lemmas.List.Elements.{All-nil, All-cons, All-head, All-tail}
-use Rattle.std.specs.List.{All}
-use Rattle.std.specs.Str.{chars}
-use Rattle.wtf8.specs.Unicode.{IsUnit, units_of, units}
-use Rattle.wtf8.specs.CodePoint.{number, numbers}
-use Rattle.wtf8.specs.Form.{IsForm, IsWellFormed}
-use Rattle.wtf8.specs.Position.{IsBoundary, IsFront}
-use Rattle.wtf8.specs.Building.{Step, Run, RunsOnce, RunsAddUp}
-use Rattle.wtf8.specs.declared.build.Build.{Build}
-use Rattle.wtf8.specs.declared.build.Build.TheVariants.{Push, PushChar, PushStr, PushWtf8, Extend, Reserve, Truncate, TruncateUnits}
+use Rattle.wtf8.proofs.Common.{◌≡◌, ◌+◌, ◌⊎◌, inl, inr, ℕ, List, [], ◌∷◌, ◌++◌, length, get_or, refl, sym, subst, arith, cases_lt, All-nil, All-cons, All-head}
+use Rattle.wtf8.proofs.Common.{All-tail, All, IsUnit, units, IsForm, IsWellFormed, IsBoundary, IsFront, Step, Run, Build, Truncate, TruncateUnits}
+use Rattle.wtf8.specs.Building.{RunsOnce, RunsAddUp}
 use Rattle.wtf8.proofs.lemmas.Encoding.{Begins}
 use Rattle.wtf8.proofs.lemmas.FormLaws.{one_form, units_read}
-use Rattle.wtf8.proofs.lemmas.Positions.{same_front, cut_at, boundary_from_byte, byte_from_boundary}
+use Rattle.wtf8.proofs.lemmas.Positions.{same_front, front_boundary, cut_at, boundary_from_byte, byte_from_boundary}
 use Rattle.wtf8.proofs.lemmas.Readings.{well_formed_of}
 
 -- a list has units alone or not
 units_or_not : (u : List ℕ) → All IsUnit u ⊎ (All IsUnit u → ⊥)
 units_or_not [] = inl (All-nil IsUnit)
 units_or_not (x ∷ u) = elim (cases_lt x 0x10000) [
-  | inl h ↦ elim (units_or_not u) [
-    | inl s ↦ inl (All-cons IsUnit x u (omega arith) s)
-    | inr n ↦ inr (λ s. n (All-tail IsUnit x u s))
-  ]
+  | inl h ↦ elim (units_or_not u) [ inl s ↦ inl (All-cons IsUnit x u (omega arith) s) | inr n ↦ inr (λ s. n (All-tail IsUnit x u s)) ]
   | inr h ↦ inr (λ s. omega (arith, All-head IsUnit x u s))
 ]
 
 begins_or_not : (b : ℕ) → Begins b ⊎ (Begins b → ⊥)
 begins_or_not b = elim (cases_lt b 0x80) [
   | inl h ↦ inl (record { start = inl h })
-  | inr h ↦ elim (cases_lt b 0xC0) [
-    | inl k ↦ inr (λ s. elim s.start [ inl x ↦ omega arith | inr x ↦ omega arith ])
-    | inr k ↦ inl (record { start = inr k })
-  ]
+  | inr h ↦ elim (cases_lt b 0xC0) [ inl k ↦ inr (λ s. omega (arith, s.start)) | inr k ↦ inl (record { start = inr k }) ]
 ]
 
 -- a position is a boundary of the form or not
@@ -50,11 +35,10 @@ cut_or_not {w} h k = elim (cases_lt k (length w)) [
 ]
 
 boundary_of_form : {w u : List ℕ} (f : IsForm w u) (k : ℕ) → IsBoundary u k ⊎ (IsBoundary u k → ⊥)
-boundary_of_form f k =
-    elim (cut_or_not (well_formed_of f) k) [
-      | inl b ↦ inl (subst (λ v. IsBoundary v k) f.reads.same_units b)
-      | inr n ↦ inr (λ b. n (subst (λ v. IsBoundary v k) (sym f.reads.same_units) b))
-    ]
+boundary_of_form f k = elim (cut_or_not (well_formed_of f) k) [
+  | inl b ↦ inl (subst (λ v. IsBoundary v k) f.reads.same_units b)
+  | inr n ↦ inr (λ b. n (subst (λ v. IsBoundary v k) (sym f.reads.same_units) b))
+]
 
 boundary_or_not : (u : List ℕ) (k : ℕ) → IsBoundary u k ⊎ (IsBoundary u k → ⊥)
 boundary_or_not u k = elim (units_or_not u) [
@@ -70,48 +54,24 @@ record StepsOnce (u : List ℕ) (call : Build) : Type 0 where
   no_other : (v : List ℕ) (r : ℕ) → Step u call v r → (v ≡ outcome) × (r ≡ count)
 
 step_once : (u : List ℕ) (call : Build) → StepsOnce u call
-step_once u (Push p) = record { outcome = u ++ units_of (number p); count = 0; goes = (refl, refl); no_other = λ v r s. s }
-step_once u (PushChar x) = record { outcome = u ++ units_of x; count = 0; goes = (refl, refl); no_other = λ v r s. s }
-step_once u (PushStr t) = record { outcome = u ++ units (chars t.now); count = 0; goes = (refl, refl); no_other = λ v r s. s }
-step_once u (PushWtf8 t) = record { outcome = u ++ units t.well_formed.points; count = 0; goes = (refl, refl); no_other = λ v r s. s }
-step_once u (Extend d) = record { outcome = u ++ units (numbers d.now); count = 0; goes = (refl, refl); no_other = λ v r s. s }
-step_once u (Reserve n) = record { outcome = u; count = 0; goes = (refl, refl); no_other = λ v r s. s }
 step_once u (Truncate k) = elim (boundary_or_not u k) [
   | inl b ↦
-      let front : IsFront u k (units b.front) = record { front = b.front; back = b.back; splits = b.splits; same_units = refl } in
-      record {
-        outcome = units b.front;
-        count = 0;
-        goes = inl (front, refl);
-        no_other = λ v r s. elim s [ inl x ↦ (same_front u k v (units b.front) x.0 front, x.1) | inr n ↦ absurd (n.0 b) ];
-      }
+      let f : IsFront u k (units b.front) = record { front = b.front; back = b.back; splits = b.splits; same_units = refl } in
+      record { outcome = _; count = _; goes = inl (f, refl); no_other = λ v r s. elim s [ inl x ↦ (same_front u k v _ x.0 f, x.1) | inr n ↦ absurd (n.0 b) ] }
   | inr n ↦
-      record {
-        outcome = u;
-        count = 1;
-        goes = inr (n, refl, refl);
-        no_other = λ v r s. elim s [ inl x ↦ absurd (n (record { front = x.0.front; back = x.0.back; splits = x.0.splits })) | inr m ↦ (m.1, m.2) ];
-      }
+      record { outcome = _; count = _; goes = inr (n, refl, refl); no_other = λ v r s. elim s [ inl x ↦ absurd (n (front_boundary x.0)) | inr m ↦ (m.1, m.2) ] }
 ]
 step_once u (TruncateUnits n) = elim (cases_lt (length u) n) [
-  | inl h ↦ record {
-    outcome = u;
-    count = 1;
-    goes = inr (h, refl, refl);
-    no_other = λ v r s. elim s [ inl x ↦ absurd (omega (arith, x.0, h)) | inr x ↦ (x.1, x.2) ];
-  }
-  | inr h ↦ record {
-    outcome = take n u;
-    count = 0;
-    goes = inl (h, refl, refl);
-    no_other = λ v r s. elim s [ inl x ↦ (x.1, x.2) | inr x ↦ absurd (omega (arith, x.0, h)) ];
-  }
+  | inl h ↦
+      record { outcome = _; count = _; goes = inr (h, refl, refl); no_other = λ v r s. elim s [ inl x ↦ absurd (omega (arith, x.0, h)) | inr x ↦ (x.1, x.2) ] }
+  | inr h ↦
+      record { outcome = _; count = _; goes = inl (h, refl, refl); no_other = λ v r s. elim s [ inl x ↦ (x.1, x.2) | inr x ↦ absurd (omega (arith, x.0, h)) ] }
 ]
+step_once u call = record { outcome = _; count = _; goes = (refl, refl); no_other = λ v r s. s }
 
 -- one run behind another
 pub runs_add : RunsAddUp
-runs_add u mid v [] back m n x y =
-    subst (λ k. Run u back v k) (let same : n ≡ m + n = omega (arith, x.1) in same) (subst (λ w. Run w back v n) x.0 y)
+runs_add u mid v [] back m n x y = subst (λ k. Run u back v k) (let same : n ≡ m + n = omega (arith, x.1) in same) (subst (λ w. Run w back v n) x.0 y)
 runs_add u mid v (call ∷ front) back m n x y = (x.0, x.1, x.2 + n, x.3, runs_add x.0 mid v front back x.2 n x.4 y, omega (arith, x.5))
 
 pub run_once : (u : List ℕ) (calls : List Build) → RunsOnce u calls

@@ -1,44 +1,30 @@
 -- Runs of building calls, one call after another, and what pushes and extensions append.
-use Rattle.std.proofs.Common.{◌≡◌, ◌<◌, ◌+◌, ℕ, List, [], ◌∷◌, ◌++◌, length, get_or, Bool, true, false, cond, Some, refl, ap, ◌∙◌, sym, subst, arith}
-use Rattle.std.proofs.Common.{append_assoc}
-use Rattle.std.specs.List.{All}
+use Rattle.wtf8.proofs.Common.{◌≡◌, ◌<◌, ◌+◌, ℕ, List, [], ◌∷◌, ◌++◌, length, get_or, Bool, true, false, cond, Some, refl, ap, ◌∙◌, sym, subst, arith}
+use Rattle.wtf8.proofs.Common.{append_assoc, All, Step, Run, Append, IsNoTruncation, Build, Reserve, Truncate, TruncateUnits}
 use Rattle.std.proofs.lemmas.List.Elements.{All-get_or}
 use Rattle.std.proofs.lemmas.Option.{none-some}
-use Rattle.wtf8.specs.Building.{Step, Run, appended, Append, IsNoTruncation}
-use Rattle.wtf8.specs.declared.build.Build.{Build}
-use Rattle.wtf8.specs.declared.build.Build.TheVariants.{Push, PushChar, PushStr, PushWtf8, Extend, Reserve, Truncate, TruncateUnits}
+use Rattle.wtf8.specs.Building.{appended}
 
 -- one call more
 pub run_more : (u : List ℕ) (calls : List Build) (mid : List ℕ) (n : ℕ) (call : Build) (v : List ℕ) (r : ℕ) → Run u calls mid n → Step mid call v r
     → Run u (calls ++ call ∷ []) v (n + r)
-run_more u [] mid n call v r x s =
-    (v, r, 0, subst (λ m. Step m call v r) x.0 s, (refl, refl), omega (arith, x.1))
-run_more u (c ∷ calls) mid n call v r x s =
-    (x.0, x.1, x.2 + r, x.3, run_more x.0 calls mid x.2 call v r x.4 s, omega (arith, x.5))
+run_more u [] mid n call v r x s = (v, r, 0, subst (λ m. Step m call v r) x.0 s, (refl, refl), omega (arith, x.1))
+run_more u (c ∷ calls) mid n call v r x s = (x.0, x.1, x.2 + r, x.3, run_more x.0 calls mid x.2 call v r x.4 s, omega (arith, x.5))
 
 some_same : (a b : List ℕ) → Some a ≡ Some b → a ≡ b
 some_same a b e = cc
 
 -- what a call appends
 pub step_appends : (u : List ℕ) (call : Build) (v : List ℕ) (r : ℕ) (a : List ℕ) → Step u call v r → appended call ≡ Some a → v ≡ u ++ a
-step_appends u (Push p) v r a s e = s.0 ∙ ap (λ b. u ++ b) (some_same _ a e)
-step_appends u (PushChar x) v r a s e = s.0 ∙ ap (λ b. u ++ b) (some_same _ a e)
-step_appends u (PushStr t) v r a s e = s.0 ∙ ap (λ b. u ++ b) (some_same _ a e)
-step_appends u (PushWtf8 t) v r a s e = s.0 ∙ ap (λ b. u ++ b) (some_same _ a e)
-step_appends u (Extend d) v r a s e = s.0 ∙ ap (λ b. u ++ b) (some_same _ a e)
 step_appends u (Reserve n) v r a s e = absurd (none-some a e)
 step_appends u (Truncate k) v r a s e = absurd (none-some a e)
 step_appends u (TruncateUnits n) v r a s e = absurd (none-some a e)
+step_appends u call v r a s e = s.0 ∙ ap (λ b. u ++ b) (some_same _ a e)
 
 pub no_truncation : (call : Build) (a : List ℕ) → appended call ≡ Some a → IsNoTruncation call
-no_truncation (Push p) a e = tt
-no_truncation (PushChar x) a e = tt
-no_truncation (PushStr t) a e = tt
-no_truncation (PushWtf8 t) a e = tt
-no_truncation (Extend d) a e = tt
-no_truncation (Reserve n) a e = tt
 no_truncation (Truncate k) a e = absurd (none-some a e)
 no_truncation (TruncateUnits n) a e = absurd (none-some a e)
+no_truncation call a e = tt
 
 -- what a list appends, in two parts
 pub record Parts (calls more : List Build) (v : List ℕ) : Type 0 where
@@ -52,13 +38,8 @@ pub append_parts : (calls more : List Build) (v : List ℕ) → Append (calls ++
 append_parts [] more v x = record { front = []; back = v; first = refl; second = x; joined = refl }
 append_parts (c ∷ calls) more v x =
     let p = append_parts calls more x.1 x.3 in
-    record {
-      front = x.0 ++ p.front;
-      back = p.back;
-      first = (x.0, p.front, x.2, p.first, refl);
-      second = p.second;
-      joined = x.4 ∙ (ap (λ b. x.0 ++ b) p.joined ∙ sym (append_assoc x.0 p.front p.back));
-    }
+    let joined = x.4 ∙ ap (λ b. x.0 ++ b) p.joined ∙ sym (append_assoc x.0 p.front p.back) in
+    record { front = x.0 ++ p.front; back = p.back; first = (x.0, p.front, x.2, p.first, refl); second = p.second; joined = joined }
 
 pub call_among : (calls : List Build) (i : ℕ) (call : Build) → i < length calls → call ≡ get_or calls i call → All IsNoTruncation calls → IsNoTruncation call
 call_among calls i call h e all = subst IsNoTruncation (sym e) (All-get_or IsNoTruncation calls i call h all)
@@ -91,6 +72,5 @@ among u calls call more v mid f x =
       before = p.first;
       appends = p.second.2;
       behind = p.second.3;
-      joined = ap (λ b. u ++ b) (p.joined ∙ ap (λ b. p.front ++ b) p.second.4)
-          ∙ (sym (append_assoc u p.front (p.second.0 ++ p.second.1)) ∙ ap (λ b. b ++ (p.second.0 ++ p.second.1)) (sym (f p.front p.first)));
+      joined = simp (p.joined, p.second.4, f p.front p.first, append_assoc);
     }

@@ -1,18 +1,8 @@
 -- Code points that are scalar values, parts of them, and scalar values behind them.
-use Rattle.std.proofs.Common.{◌≡◌, ℕ, List, [], ◌∷◌, ◌++◌, Bool, true, not, IsTrue, Option, Some, None, is_some, Result, Ok, Err, OnOk, OnErr, ap, ◌∙◌, sym}
-use Rattle.std.proofs.Common.{subst, arith}
-use Rattle.std.proofs.lemmas.Bool.{false≢true}
-use Rattle.std.proofs.lemmas.List.{append-nil}
-use Rattle.std.specs.Str.{chars, IsUtf8}
-use Rattle.std.proofs.lemmas.Str.{scalars-chars}
-use lib.Utf8.{scalars}
-use Rattle.wtf8.specs.Unicode.{IsCodePoint, IsSurrogate, units, units_of}
-use Rattle.wtf8.specs.Concatenation.{MeetsAsPair}
-use Rattle.wtf8.specs.Form.{IsClean, IsWellFormed}
-use Rattle.wtf8.specs.Gains.{GainsUnits}
-use Rattle.wtf8.specs.OneForm.{bytes-injective}
-use Rattle.wtf8.specs.Surrogates.{AreScalar}
-use Rattle.wtf8.specs.SurrogateSearch.{IsFirst, SurrogateAt}
+use Rattle.wtf8.proofs.Common.{◌≡◌, ℕ, List, [], ◌∷◌, ◌++◌, Bool, true, not, IsTrue, Option, Some, None, Result, Ok, Err, OnOk, OnErr, ap, ◌∙◌, sym, subst}
+use Rattle.wtf8.proofs.Common.{arith, false≢true, append-nil, chars, IsUtf8, scalars-chars, scalars, IsCodePoint, IsSurrogate, units, units_of, MeetsAsPair}
+use Rattle.wtf8.proofs.Common.{IsClean, IsWellFormed, GainsUnits, bytes-injective, AreScalar, IsFirst, SurrogateAt}
+use Rattle.std.proofs.Common.{is_some}
 use Rattle.wtf8.proofs.lemmas.Clean.{clean-append}
 use Rattle.wtf8.proofs.lemmas.Gains.{gained_or_kept}
 use Rattle.wtf8.proofs.lemmas.Readings.{form_of, same_reading, same_points}
@@ -61,8 +51,7 @@ module _ {T E : Type 0} where
       → AreScalar h.points → OnOk r (GainsUnits old new v) → OnErr r (new ≡ old) → AreScalar k.points
   scalar_gained (Ok _) c v h k e x s t ok err =
       let f = ok (units h.points) (form_of h) in
-      let whole : units k.points ≡ units (h.points ++ c) = ap units (bytes-injective k.points f.points (k.encoded ∙ sym f.encoded))
-      ∙ (f.reads.same_units ∙ (ap (λ u. units h.points ++ u) e ∙ sym (units-append h.points c))) in
+      let whole : units k.points ≡ units (h.points ++ c) = cc (bytes-injective k.points f.points (cc), units-append h.points c) in
       let same : k.points ≡ h.points ++ c = same_reading k.points (h.points ++ c) k.clean (clean-append h.points c h.clean x (scalar_apart t)) whole in
       subst AreScalar (sym same) (scalar-append h.points c t s)
   scalar_gained (Err _) c v h k e x s t ok err = scalar_moved h k err t

@@ -1,8 +1,6 @@
 -- Where the bytes of a list of code points may be cut.
-use Rattle.std.proofs.Common.{◌≡◌, ◌-◌, ◌≤◌, ◌<◌, ℕ, zero, suc, inl, inr, List, [], ◌∷◌, ◌++◌, length, get_or, refl, ap, ◌∙◌, sym, subst, arith, length-append}
-use Rattle.std.proofs.lemmas.Bool.{cases_lt}
-use Rattle.std.proofs.lemmas.List.{append-nil, get_or-append_right}
-use Rattle.wtf8.specs.Form.{encoding, bytes}
+use Rattle.wtf8.proofs.Common.{◌≡◌, ◌-◌, ◌≤◌, ◌<◌, ℕ, zero, suc, inl, inr, List, [], ◌∷◌, ◌++◌, length, get_or, refl, ap, ◌∙◌, sym, subst, arith, length-append}
+use Rattle.wtf8.proofs.Common.{cases_lt, append-nil, get_or-append_right, encoding, bytes}
 use Rattle.wtf8.proofs.lemmas.Encoding.{Begins, first-encoding, inside-encoding, length-encoding_bounds, bytes-append}
 
 -- a list of code points as a front whose bytes are so many, and what follows
@@ -12,6 +10,11 @@ pub record Split (c : List ℕ) (k : ℕ) : Type 0 where
   pub joined : c ≡ front ++ back
   pub front_len : length (bytes front) ≡ k
 
+split_behind : (p : ℕ) {c : List ℕ} {k : ℕ} → length (encoding p) ≤ k → Split c (k - length (encoding p)) → Split (p ∷ c) k
+split_behind p h s =
+    let whole = length-append (encoding p) (bytes s.front) in
+    record { front = p ∷ s.front; back = s.back; joined = ap (λ r. p ∷ r) s.joined; front_len = omega (arith, h, s.front_len, whole) }
+
 -- bytes may be cut at their end, and where a code point begins
 pub split_at : (c : List ℕ) (k : ℕ) → k ≤ length (bytes c) → (k < length (bytes c) → Begins (get_or (bytes c) k 0)) → Split c k
 split_at c zero h s = record { front = []; back = c; joined = refl; front_len = refl }
@@ -20,19 +23,10 @@ split_at (p ∷ c) (suc k) h s =
     let n = length-encoding_bounds p in
     let whole = length-append (encoding p) (bytes c) in
     elim (cases_lt (suc k) (length (encoding p))) [
-      | inl l ↦ let inside = inside-encoding p k (bytes c) l in
-          absurd (elim ((s (omega arith)).start) [ inl b ↦ omega arith | inr b ↦ omega arith ])
+      | inl l ↦ let inside = inside-encoding p k (bytes c) l in absurd (omega (arith, (s (omega arith)).start))
       | inr l ↦
-          let at : (suc k < length (encoding p ++ bytes c)) → get_or (encoding p ++ bytes c) (suc k) 0 ≡ get_or (bytes c) (suc k - length (encoding p)) 0 =
-          λ _. get_or-append_right (encoding p) (bytes c) (length (encoding p)) (suc k) 0 refl l in
-          let rest = split_at c (suc k - length (encoding p)) (omega arith) (λ m. let q : suc k < length (encoding p ++ bytes c) = omega arith in
-          subst Begins (at q) (s q)) in
-          record {
-            front = p ∷ rest.front;
-            back = rest.back;
-            joined = ap (λ r. p ∷ r) rest.joined;
-            front_len = length-append (encoding p) (bytes rest.front) ∙ (omega (arith, rest.front_len));
-          }
+          let at = get_or-append_right (encoding p) (bytes c) (length (encoding p)) (suc k) 0 refl l in
+          split_behind p l (split_at c (suc k - length (encoding p)) (omega arith) (λ m. subst Begins at (s (omega arith))))
     ]
 
 -- the byte behind the bytes of a front is the first of the next code point

@@ -1,20 +1,16 @@
 -- Proofs of the laws of strings as contracts see them.
-use Rattle.std.proofs.Common.{◌++◌, sym, subst, arith, ◌≢◌, ◌<◌, ◌∙◌, ℕ, List, length, slice_index, ◌↔◌}
-use Rattle.wtf8.specs.Form.{bytes, IsForm, Reads}
+use Rattle.wtf8.proofs.Common.{◌++◌, sym, subst, arith, ◌≢◌, ◌<◌, ◌∙◌, ℕ, List, length, ◌↔◌, bytes, IsForm, Reads, All, glue, AreScalar, view_units, view_form}
+use Rattle.wtf8.proofs.Common.{Wtf8}
+use Rattle.std.proofs.Common.{slice_index}
 use Rattle.std.proofs.lemmas.List.Elements.{All-from_get_or}
-use Rattle.std.specs.List.{All}
-use Rattle.wtf8.specs.Concatenation.{glue}
 use Rattle.wtf8.specs.StringLaws.{EqualBuffersHaveEqualUnits, EqualBufferAndViewHaveEqualUnits, EqualViewsHaveEqualUnits, StringsAreJoined, StringsArePaired}
 use Rattle.wtf8.specs.StringLaws.{TextsAreScalar, RoomLeftIsFound, ScalarsStay, FormsAreOfBuffers, FormsAreOfViews, WhatFitsIsFound}
-use Rattle.wtf8.specs.Surrogates.{AreScalar}
-use Rattle.wtf8.specs.View.{view_units, view_form}
 use Rattle.wtf8.proofs.lemmas.FormLaws.{equal_forms}
 use Rattle.wtf8.proofs.lemmas.Forms.{form-glue, form_paired, form_apart}
 use Rattle.wtf8.proofs.lemmas.PositionLaws.{both_no_longer}
 use Rattle.wtf8.proofs.lemmas.Readings.{same_form, same_reading}
 use Rattle.wtf8.proofs.lemmas.Lossy.{lossy-scalar}
 use Rattle.wtf8.proofs.lemmas.Scalars.{scalar_text}
-use Rattle.wtf8.specs.declared.view.Wtf8.{Wtf8}
 use Rattle.wtf8.proofs.lemmas.AsciiPositions.{ascii_no_other_unit}
 
 pub equal_buffers : EqualBuffersHaveEqualUnits
@@ -58,10 +54,8 @@ what_fits s v n fit h = room_left s fit.whole v fit.form (omega (arith, fit.with
 
 -- a reading is of scalar values exactly where each reading of its units is
 pub scalar_in_each_reading : (c u : List ℕ) → Reads c u → AreScalar c ↔ ((d : List ℕ) → Reads d u → AreScalar d)
-scalar_in_each_reading c u r =
-    (λ s d x. subst AreScalar (same_reading c d r.clean x.clean (r.same_units ∙ sym x.same_units)) s, λ h. h c r)
+scalar_in_each_reading c u r = (λ s d x. subst AreScalar (same_reading c d r.clean x.clean (r.same_units ∙ sym x.same_units)) s, λ h. h c r)
 
 -- a number below 80 that is none of a view's bytes is none of its units
 pub no_ascii_unit : (t : Wtf8) (b : ℕ) → b < 0x80 → ((j : ℕ) → j < length t.bytes.now → slice_index t.bytes.now j ≢ b) → All (λ x. x ≢ b) (view_units t)
-no_ascii_unit t b l h =
-    ascii_no_other_unit t.bytes.now (view_units t) b (view_form t) l (All-from_get_or (λ x. x ≢ b) t.bytes.now 0 (λ i m e. h i m e))
+no_ascii_unit t b l h = ascii_no_other_unit t.bytes.now (view_units t) b (view_form t) l (All-from_get_or (λ x. x ≢ b) t.bytes.now 0 (λ i m e. h i m e))

@@ -1,12 +1,8 @@
 -- A text's bytes are well-formed, and its characters are their code points.
-use Rattle.std.proofs.Common.{◌≡◌, inl, inr, List, [], ◌∷◌, ℕ, true, ◌∙◌, arith}
-use Rattle.std.specs.Str.{chars, IsUtf8}
-use Rattle.std.proofs.lemmas.Str.{encodes-chars, scalars-chars}
-use Rattle.std.proofs.lemmas.Bool.{and_parts}
-use lib.Utf8.{scalar, scalars, scalar_cases}
-use Rattle.wtf8.specs.Unicode.{IsCodePoint, IsSurrogate}
-use Rattle.wtf8.specs.Form.{IsClean, IsWellFormed}
-use Rattle.wtf8.specs.OneForm.{bytes_are_encodes}
+use Rattle.wtf8.proofs.Common.{◌≡◌, inl, inr, List, [], ◌∷◌, ℕ, true, ◌∙◌, arith, chars, IsUtf8, scalars-chars, and_parts, scalar, scalars, IsCodePoint}
+use Rattle.wtf8.proofs.Common.{IsSurrogate, IsClean, IsWellFormed, bytes_are_encodes}
+use Rattle.std.proofs.lemmas.Str.{encodes-chars}
+use lib.Utf8.{scalar_cases}
 use Rattle.wtf8.proofs.lemmas.Readings.{moved}
 
 -- a scalar value is a code point and no surrogate

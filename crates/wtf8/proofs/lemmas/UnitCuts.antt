@@ -1,12 +1,8 @@
 -- What a string has before and behind a number of its units.
-use Rattle.std.proofs.Common.{◌≡◌, ℕ, zero, suc, ◌+◌, ◌≤◌, List, [], ◌∷◌, ◌++◌, length, take, drop, None, Some, refl, sym, ap, ◌∙◌, subst, arith, length-append}
-use Rattle.std.proofs.Common.{append_assoc}
-use Rattle.std.proofs.lemmas.List.{take_at, drop_at}
-use Rattle.std.specs.List.{slice_get}
-use Rattle.wtf8.specs.Unicode.{IsCodePoint, units}
-use Rattle.wtf8.specs.Form.{IsClean, bytes, encoding, IsWellFormed}
-use Rattle.wtf8.specs.Position.{IsFront}
-use Rattle.wtf8.specs.UnitCounts.{Divides, CutsUnits}
+use Rattle.wtf8.proofs.Common.{◌≡◌, ℕ, zero, suc, ◌+◌, ◌≤◌, List, [], ◌∷◌, ◌++◌, length, take, drop, None, Some, refl, sym, ap, ◌∙◌, subst, arith}
+use Rattle.wtf8.proofs.Common.{length-append, append_assoc, take_at, drop_at, slice_get, IsCodePoint, units, IsClean, bytes, encoding, IsWellFormed, IsFront}
+use Rattle.wtf8.proofs.Common.{CutsUnits}
+use Rattle.wtf8.specs.UnitCounts.{Divides}
 use Rattle.wtf8.proofs.lemmas.Clean.{clean-first, clean-front, clean-back, clean-append}
 use Rattle.wtf8.proofs.lemmas.Encoding.{encoding_four, bytes-append, bytes-pushed}
 use Rattle.wtf8.proofs.lemmas.Meeting.{no_trail}
@@ -54,17 +50,12 @@ divided {c} {n} {k} {p} x =
     let d : Divides x.front x.back n p = x.counted in
     let joined : c ≡ x.front ++ p ∷ d.rest = x.joined ∙ ap (λ b. x.front ++ b) d.first in
     let whole : units c ≡ (units x.front ++ lead_of p ∷ []) ++ (trail_of p ∷ units d.rest) =
-    ap units joined ∙ (units-append x.front (p ∷ d.rest) ∙ (ap (λ u. units x.front ++ (u ++ units d.rest)) (units_two p d.supplementary)
-    ∙ sym (append_assoc (units x.front) (lead_of p ∷ []) (trail_of p ∷ units d.rest)))) in
+    simp (joined, units-append, units_two p d.supplementary, append_assoc) in
     let long : length (units x.front ++ lead_of p ∷ []) ≡ n = omega (arith, length-append (units x.front) (lead_of p ∷ []), d.inside) in
     let pushed : c ≡ (x.front ++ p ∷ []) ++ d.rest = joined ∙ sym (append_assoc x.front (p ∷ []) d.rest) in
-    let pushed_len : length (bytes (x.front ++ p ∷ [])) ≡ k + 4 = omega (
-      arith,
-      ap length (bytes-pushed x.front p),
-      length-append (bytes x.front) (encoding p),
-      ap length (encoding_four p d.supplementary),
-      x.front_len,
-    ) in
+    let pushed_len : length (bytes (x.front ++ p ∷ [])) ≡ k + 4 =
+    simp (bytes-pushed, length-append, encoding_four p d.supplementary, x.front_len) in
+    let all_len = ap (λ v. length (bytes v)) pushed ∙ ap length (bytes-append (x.front ++ p ∷ []) d.rest) in
     record {
       joined = joined;
       large = d.supplementary;
@@ -75,13 +66,7 @@ divided {c} {n} {k} {p} x =
       front_len = x.front_len;
       pushed = pushed;
       pushed_len = pushed_len;
-      long = omega (
-        arith,
-        pushed_len,
-        ap (λ v. length (bytes v)) pushed,
-        ap length (bytes-append (x.front ++ p ∷ []) d.rest),
-        length-append (bytes (x.front ++ p ∷ [])) (bytes d.rest),
-      );
+      long = omega (arith, pushed_len, all_len, length-append (bytes (x.front ++ p ∷ [])) (bytes d.rest));
     }
 
 pub in_range : {c : List ℕ} {n k p : ℕ} {front rest : List ℕ} → IsClean c → Divided c n k p front rest → IsCodePoint p
@@ -103,18 +88,13 @@ lead_kept {w} h {n} {k} {p} {front} {rest} d =
 pub lead_kept_units : {c : List ℕ} {n k p : ℕ} {front rest : List ℕ} → IsClean c → Divided c n k p front rest
     → units (front ++ lead_of p ∷ []) ≡ take n (units c)
 lead_kept_units {c} {n} {k} {p} {front} {rest} clean d =
-    let range = in_range clean d in
-    units-pushed front (lead_of p) ∙ (ap (λ u. units front ++ u) (units_one (lead_of p) (omega (arith, range, d.large))) ∙ sym d.kept)
+    cc (units-pushed front (lead_of p), units_one (lead_of p) (omega (arith, in_range clean d, d.large)), d.kept)
 
 -- the code points before an undivided pair are the front of its position
 pub front_at : {w : List ℕ} (h : IsWellFormed w) {n k : ℕ} (x : CutsUnits h.points n k None) → IsFront (units h.points) k (take n (units h.points))
-front_at h x =
-    record {
-      front = x.front;
-      back = x.back;
-      splits = record {
-        reads = record { clean = subst IsClean x.joined h.clean; same_units = ap units (sym x.joined) };
-        front_len = x.front_len;
-      };
-      same_units = sym (undivided x).kept;
-    }
+front_at h x = record {
+  front = x.front;
+  back = x.back;
+  splits = record { reads = record { clean = subst IsClean x.joined h.clean; same_units = ap units (sym x.joined) }; front_len = x.front_len };
+  same_units = sym (undivided x).kept;
+}

@@ -1,18 +1,9 @@
 -- The order of units: the bytes where two strings first differ, and the strings behind the place where they part.
-use Rattle.std.proofs.Common.{◌≡◌, ◌↔◌, ℕ, zero, suc, Bool, true, false, IsTrue, ◌<◌, ◌≤◌, ◌⊎◌, inl, inr, List, [], ◌∷◌, ◌++◌, length, take, drop, get_or, refl}
-use Rattle.std.proofs.Common.{sym, ap, ◌∙◌, subst, arith, length-append, append_assoc}
-use Rattle.std.proofs.lemmas.Bool.{cases_lt, false≢true, true≢false}
-use Rattle.std.proofs.lemmas.List.{take-append-drop}
-use Rattle.std.proofs.lemmas.Bool.Decides.{nat_tests}
+use Rattle.wtf8.proofs.Common.{◌≡◌, ◌↔◌, ℕ, zero, suc, Bool, true, false, IsTrue, ◌<◌, ◌≤◌, ◌⊎◌, inl, inr, List, [], ◌∷◌, ◌++◌, length, take, drop, get_or}
+use Rattle.wtf8.proofs.Common.{refl, sym, ap, ◌∙◌, subst, arith, length-append, append_assoc, false≢true, take-append-drop, nat_tests, slice_cmp}
+use Rattle.wtf8.proofs.Common.{slice_get, option_cmp, nat_cmp, Greater, units, encoding, bytes, IsWellFormed, IsFirstDifference, PairBegins, cases_order}
+use Rattle.std.proofs.lemmas.Bool.{true≢false}
 use Rattle.std.specs.Bool.{beq}
-use Rattle.std.specs.Cmp.Lexicographic.{slice_cmp}
-use Rattle.std.specs.List.{slice_get}
-use Rattle.std.specs.Option.{option_cmp}
-use Rattle.std.specs.Ordering.{nat_cmp}
-use Rattle.std.specs.declared.cmp.Ordering.TheVariants.{Greater}
-use Rattle.wtf8.specs.Unicode.{units}
-use Rattle.wtf8.specs.Form.{encoding, bytes, IsWellFormed}
-use Rattle.wtf8.specs.Differences.{IsFirstDifference, PairBegins}
 use Rattle.wtf8.proofs.lemmas.Comparing.{cmp_points}
 use Rattle.wtf8.proofs.lemmas.Encoding.{encoding_same, length-encoding_bounds}
 use Rattle.wtf8.proofs.lemmas.ListOrder.{cmp_less, less_of, greater_of, cmp_behind}
@@ -30,16 +21,14 @@ order_there [] (y ∷ v) zero d = refl
 order_there [] (y ∷ v) (suc n) d = absurd (omega (arith, d.within_first))
 order_there (x ∷ w) [] zero d = refl
 order_there (x ∷ w) [] (suc n) d = absurd (omega (arith, d.within_second))
-order_there (x ∷ w) (y ∷ v) zero d = elim (cases_lt x y) [
-  | inl l ↦ cmp_less x y l ∙ sym (less_of (x ∷ w) (y ∷ v) (inl l))
-  | inr m ↦ elim (cases_lt y x) [
-    | inl l ↦ cmp_greater x y l ∙ sym (greater_of (x ∷ w) (y ∷ v) (inl l))
-    | inr n ↦ absurd (d.differ_there (omega arith) (omega arith) (omega arith))
-  ]
+order_there (x ∷ w) (y ∷ v) zero d = elim (cases_order x y) [
+  | inl e ↦ absurd (d.differ_there (omega arith) (omega arith) e)
+  | inr (inl l) ↦ cmp_less x y l ∙ sym (less_of (x ∷ w) (y ∷ v) (inl l))
+  | inr (inr l) ↦ cmp_greater x y l ∙ sym (greater_of (x ∷ w) (y ∷ v) (inl l))
 ]
 order_there (x ∷ w) (y ∷ v) (suc n) d =
     let same : y ≡ x = sym (ap (λ u. get_or u 0 0) d.same_before) in
-    order_there w v n (difference_behind x y w v n d) ∙ (sym (cmp_behind (x ∷ []) w v) ∙ ap (λ z. slice_cmp nat_cmp (x ∷ w) (z ∷ v)) (sym same))
+    order_there w v n (difference_behind x y w v n d) ∙ rw same (sym (cmp_behind (x ∷ []) w v))
 
 cmp_behind_both : (a b : ℕ) → nat_cmp (suc a) (suc b) ≡ nat_cmp a b
 cmp_behind_both a b = grind (arith, nat_tests)
@@ -54,8 +43,7 @@ lengths_decide (x ∷ w) (y ∷ v) zero end h k e = absurd (omega (arith, end))
 lengths_decide (x ∷ w) (y ∷ v) (suc n) end h k e =
     let same : y ≡ x = sym (ap (λ u. get_or u 0 0) e) in
     let shorter : length w ≤ n ⊎ length v ≤ n = elim end [ inl l ↦ inl (omega (arith, l)) | inr l ↦ inr (omega (arith, l)) ] in
-    let rests = lengths_decide w v n shorter (omega arith) (omega arith) (ap (drop 1) e) in
-    cmp_behind_both (length w) (length v) ∙ (rests ∙ (sym (cmp_behind (x ∷ []) w v) ∙ ap (λ z. slice_cmp nat_cmp (x ∷ w) (z ∷ v)) (sym same)))
+    rw same (cmp_behind_both (length w) (length v) ∙ lengths_decide w v n shorter (omega arith) (omega arith) (ap (drop 1) e) ∙ sym (cmp_behind (x ∷ []) w v))
 
 -- code points whose bytes begin with those of a front have that front
 record Continues (front d rest : List ℕ) : Type 0 where
@@ -65,13 +53,7 @@ record Continues (front d rest : List ℕ) : Type 0 where
 
 continues : (front d rest : List ℕ) → bytes d ≡ bytes front ++ rest → Continues front d rest
 continues [] d rest e = record { points = d; joined = refl; encoded = e }
-continues (p ∷ front) [] rest e = absurd (omega (
-  arith,
-  ap length e,
-  length-append (bytes (p ∷ front)) rest,
-  length-append (encoding p) (bytes front),
-  length-encoding_bounds p,
-))
+continues (p ∷ front) [] rest e = absurd (omega (arith, simp length-append at (ap length e), length-encoding_bounds p))
 continues (p ∷ front) (q ∷ d) rest e =
     let heads = encoding_same q p (bytes d) (bytes front ++ rest) (e ∙ append_assoc (encoding p) (bytes front) rest) in
     let more = continues front d rest heads.1 in
@@ -101,12 +83,11 @@ pub rests_order : {w v x y : List ℕ} (h : IsWellFormed w) (k : IsWellFormed v)
     → (i : IsWellFormed x) (j : IsWellFormed y) → x ≡ drop at w → y ≡ drop at v
     → slice_cmp nat_cmp (units i.points) (units j.points) ≡ slice_cmp nat_cmp (units h.points) (units k.points)
 rests_order h k at p i j e f =
-    let own : units h.points ≡ units p.front ++ units i.points = ap units p.own_joined
-    ∙ (units-append p.front p.own ∙ ap (λ c. units p.front ++ units c) (sym (points_behind h i p.front p.own at p.own_joined p.front_len e))) in
-    let others : units k.points ≡ units p.front ++ units j.points = ap units p.others_joined
-    ∙ (units-append p.front p.others ∙ ap (λ c. units p.front ++ units c) (sym (points_behind k j p.front p.others at p.others_joined p.front_len f))) in
-    sym (ap (λ u. slice_cmp nat_cmp u (units k.points)) own ∙ (ap (slice_cmp nat_cmp (units p.front ++ units i.points)) others
-    ∙ cmp_behind (units p.front) (units i.points) (units j.points)))
+    let own : units h.points ≡ units p.front ++ units i.points =
+    cc (p.own_joined, units-append p.front p.own, points_behind h i p.front p.own at p.own_joined p.front_len e) in
+    let others : units k.points ≡ units p.front ++ units j.points =
+    cc (p.others_joined, units-append p.front p.others, points_behind k j p.front p.others at p.others_joined p.front_len f) in
+    cc (own, others, cmp_behind (units p.front) (units i.points) (units j.points))
 
 pub both_or_neither : {P Q : Type 0} (a b : Bool) → IsTrue a ↔ P → IsTrue b ↔ Q → beq a b ≡ true → P ↔ Q
 both_or_neither true true p q e = (λ _. q.0 refl, λ _. p.0 refl)
@@ -122,10 +103,7 @@ one_of_both false false p q e = absurd (true≢false e)
 -- where a code point of two units begins in one of both strings they part
 pub parts_there : {w v : List ℕ} (h : IsWellFormed w) (k : IsWellFormed v) (at : ℕ) → IsFirstDifference w v at → (a b : Bool) → IsTrue a ↔ PairBegins w at
     → IsTrue b ↔ PairBegins v at → beq a b ≡ false → Parting h.points k.points at
-parts_there h k at d a b p q e = elim (one_of_both a b p q e) [
-  | inl l ↦ parting h k at d.same_before l
-  | inr l ↦ turned (parting k h at (sym d.same_before) l)
-]
+parts_there h k at d a b p q e = elim (one_of_both a b p q e) [ inl l ↦ parting h k at d.same_before l | inr l ↦ turned (parting k h at (sym d.same_before) l) ]
 
 -- and elsewhere the bytes there are in the order of the units
 pub bytes_order : {w v : List ℕ} (h : IsWellFormed w) (k : IsWellFormed v) (at : ℕ) → IsFirstDifference w v at → PairBegins w at ↔ PairBegins v at

@@ -1,15 +1,10 @@
 -- Units turned into bytes part by part: where parts meet, and the form of all that was read.
-use Rattle.std.proofs.Common.{◌≡◌, ℕ, ◌+◌, ◌<◌, ◌≤◌, Bool, IsTrue, List, [], ◌∷◌, ◌++◌, length, take, drop, get_or, refl, sym, ap, ◌∙◌, subst, arith}
-use Rattle.std.proofs.Common.{length-append}
-use Rattle.std.proofs.lemmas.List.{get_or-append-add, take-append-drop, take_all}
-use Rattle.std.proofs.lemmas.Simd.{Each1-get_or, Each1-weaker, length-chunk}
+use Rattle.wtf8.proofs.Common.{◌≡◌, ℕ, ◌+◌, ◌<◌, ◌≤◌, Bool, IsTrue, List, [], ◌∷◌, ◌++◌, length, take, drop, get_or, refl, sym, ap, ◌∙◌, subst, arith}
+use Rattle.wtf8.proofs.Common.{length-append, get_or-append-add, take-append-drop, take_all, Each1-weaker, length-chunk, MeetsAsPair, IsClean, bytes}
+use Rattle.wtf8.proofs.Common.{bytes-injective, AreScalar, IsSurrogate, units, IsKnownForm, DividesNoPair, AreAscii, IsBlock}
+use Rattle.std.proofs.lemmas.Simd.{Each1-get_or}
 use Rattle.std.proofs.Math.Seq.{get_or-append_seam, take-add}
-use Rattle.wtf8.specs.Concatenation.{MeetsAsPair}
-use Rattle.wtf8.specs.Form.{IsClean, bytes}
-use Rattle.wtf8.specs.OneForm.{bytes-injective}
-use Rattle.wtf8.specs.Surrogates.{AreScalar}
-use Rattle.wtf8.specs.Unicode.{IsSurrogate, units}
-use Rattle.wtf8.specs.UnitParts.{IsKnownForm, DividesNoPair, AreAscii, AreScalarUnits, IsBlock}
+use Rattle.wtf8.specs.UnitParts.{AreScalarUnits}
 use Rattle.wtf8.proofs.lemmas.Encoding.{encoding_one, bytes-append}
 use Rattle.wtf8.proofs.lemmas.Forms.{form_apart}
 use Rattle.wtf8.proofs.lemmas.Meeting.{meets_by}
@@ -34,10 +29,7 @@ pub block_form : {u w : List ℕ} {at n : ℕ} (known : Bool) → IsBlock u at n
 block_form {u} {w} {at} {n} known b = record {
   form = record {
     points = take n (drop at u);
-    reads = record {
-      clean = scalar_clean (take n (drop at u)) b.scalars;
-      same_units = scalar_units (take n (drop at u)) b.scalars;
-    };
+    reads = record { clean = scalar_clean (take n (drop at u)) b.scalars; same_units = scalar_units (take n (drop at u)) b.scalars };
     encoded = sym b.encoded;
   };
   scalar = λ _. are_scalar (take n (drop at u)) b.scalars;
@@ -56,16 +48,13 @@ ascii_block u w at within h e = record {
 }
 
 pub nothing_read : {w : List ℕ} (known : Bool) → w ≡ [] → IsKnownForm w [] known
-nothing_read known e = record {
-  form = record { points = []; reads = record { clean = tt; same_units = refl }; encoded = sym e };
-  scalar = λ _. tt;
-}
+nothing_read known e = record { form = record { points = []; reads = record { clean = tt; same_units = refl }; encoded = sym e }; scalar = λ _. tt }
 
 -- no pair is divided behind units that are no surrogates
 last_is : (u w f : List ℕ) (l k : ℕ) → length w ≡ k + 1 → u ++ w ≡ f ++ l ∷ [] → get_or w k 0 ≡ l
 last_is u w f l k n e =
     let long : length u + k ≡ length f = omega (arith, n, ap length e, length-append u w, length-append f (l ∷ [])) in
-    sym (get_or-append-add u w k 0) ∙ (ap (λ v. get_or v (length u + k) 0) e ∙ (ap (λ i. get_or (f ++ l ∷ []) i 0) long ∙ get_or-append_seam f l [] 0))
+    cc (get_or-append-add u w k 0, e, long, get_or-append_seam f l [] 0)
 
 pub block_apart : {u w : List ℕ} (at k : ℕ) → IsBlock u at (k + 1) w → DividesNoPair u (at + (k + 1))
 block_apart {u} {w} at k b m =
@@ -85,13 +74,9 @@ known_behind : (w v a b : List ℕ) (known more both : Bool) → IsKnownForm w a
     → (IsTrue both → IsTrue known × IsTrue more) → IsKnownForm (w ++ v) (a ++ b) both
 known_behind w v a b known more both x y n flags =
     let whole = form_apart w v a b x.form y.form n in
-    let encoded : bytes (x.form.points ++ y.form.points) ≡ w ++ v = bytes-append x.form.points y.form.points
-    ∙ (ap (λ z. z ++ bytes y.form.points) x.form.encoded ∙ ap (λ z. w ++ z) y.form.encoded) in
+    let encoded : bytes (x.form.points ++ y.form.points) ≡ w ++ v = simp (bytes-append, x.form.encoded, y.form.encoded) in
     let same : x.form.points ++ y.form.points ≡ whole.points = bytes-injective (x.form.points ++ y.form.points) whole.points (encoded ∙ sym whole.encoded) in
-    record {
-      form = whole;
-      scalar = λ t. subst AreScalar same (scalar-append x.form.points y.form.points (x.scalar (flags t).0) (y.scalar (flags t).1));
-    }
+    record { form = whole; scalar = λ t. subst AreScalar same (scalar-append x.form.points y.form.points (x.scalar (flags t).0) (y.scalar (flags t).1)) }
 
 pub part_read : (u w v new : List ℕ) (at n next : ℕ) (known more both : Bool) → IsKnownForm w (take at u) known → IsKnownForm v (take n (drop at u)) more
     → DividesNoPair u at → (IsTrue both → IsTrue known × IsTrue more) → new ≡ w ++ v → next ≡ at + n → IsKnownForm new (take next u) both

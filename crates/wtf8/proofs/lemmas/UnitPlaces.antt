@@ -1,23 +1,22 @@
 -- The code points about a place among bytes, and what they say of a number of units.
-use Rattle.std.proofs.Common.{◌≡◌, ℕ, ◌<◌, ◌≤◌, inl, inr, List, [], ◌∷◌, ◌++◌, length, refl, sym, ap, ◌∙◌, arith, length-append, ◌⊎◌, None, Some, subst}
-use Rattle.std.proofs.lemmas.Bool.{cases_lt}
-use Rattle.wtf8.specs.Unicode.{units, units_of}
-use Rattle.wtf8.specs.Form.{IsWellFormed}
-use Rattle.wtf8.specs.UnitCounts.{IsPlaceOfUnit, CutsUnits}
+use Rattle.wtf8.proofs.Common.{◌≡◌, ◌+◌, ℕ, ◌<◌, ◌≤◌, inl, inr, List, [], ◌∷◌, length, refl, sym, ap, ◌∙◌, arith, length-append, ◌⊎◌, None, Some, subst}
+use Rattle.wtf8.proofs.Common.{cases_lt, units, IsWellFormed, IsPlaceOfUnit, CutsUnits}
 use Rattle.wtf8.proofs.lemmas.Units.{units_one, units_two, units-append, units_bounds}
 use Rattle.wtf8.proofs.lemmas.UnitPositions.{PointsAbout, points_about}
 
 pub about : {w : List ℕ} (h : IsWellFormed w) (n place before : ℕ) → IsPlaceOfUnit w n place before → PointsAbout h.points n place before
 about h n place before x = points_about h.points n place before (subst (λ v. IsPlaceOfUnit v n place before) (sym h.encoded) x)
 
+-- the units of all are those before the place and those behind it
+units_counted : {c : List ℕ} {n place before : ℕ} (x : PointsAbout c n place before) → length (units c) ≡ before + length (units x.back)
+units_counted x = simp (x.joined, units-append, length-append, x.counted)
+
 -- what the code points about a place say of the number
 pub cut_at_place : {c : List ℕ} {n place before : ℕ} → PointsAbout c n place before → before ≡ n → CutsUnits c n place None
 cut_at_place x e = record { front = x.front; back = x.back; joined = x.joined; front_len = x.front_len; counted = x.counted ∙ e }
 
 pub too_few : {c : List ℕ} {n place before : ℕ} (x : PointsAbout c n place before) → ¬ (before ≡ n) → x.back ≡ [] → length (units c) < n
-too_few {c} x m e =
-    let whole : units c ≡ units x.front ++ units x.back = ap units x.joined ∙ units-append x.front x.back in
-    omega (arith, ap length whole, length-append (units x.front) (units x.back), ap (λ b. length (units b)) e, x.counted, x.not_beyond, m)
+too_few x m e = omega (arith, units_counted x, ap (λ b. length (units b)) e, x.not_beyond, m)
 
 pub cut_inside : {c : List ℕ} {n place before : ℕ} (x : PointsAbout c n place before) (p : ℕ) (rest : List ℕ) → ¬ (before ≡ n) → x.back ≡ p ∷ rest
     → CutsUnits c n place (Some p)
@@ -25,10 +24,7 @@ cut_inside {c} {n} {place} {before} x p rest m e =
     let more = x.holds p rest e in
     let least : before ≤ n = x.not_beyond in
     let same : length (units x.front) ≡ before = x.counted in
-    let large : 0x10000 ≤ p = elim (cases_lt p 0x10000) [
-      | inl h ↦ absurd (omega (arith, more, ap length (units_one p h), m, least))
-      | inr h ↦ h
-    ] in
+    let large : 0x10000 ≤ p = elim (cases_lt p 0x10000) [ inl h ↦ absurd (omega (arith, more, ap length (units_one p h), m, least)) | inr h ↦ h ] in
     record {
       front = x.front;
       back = x.back;
@@ -43,19 +39,9 @@ first_or_none (p ∷ rest) = inr (p, rest, refl)
 
 -- all units are counted where more are asked for than there are bytes
 pub all_counted : {w : List ℕ} (h : IsWellFormed w) (place before : ℕ) → PointsAbout h.points (length w) place before → before ≡ length (units h.points)
-all_counted {w} h place before x =
-    let whole : units h.points ≡ units x.front ++ units x.back = ap units x.joined ∙ units-append x.front x.back in
-    elim (first_or_none x.back) [
-      | inl e ↦ omega (arith, ap length whole, length-append (units x.front) (units x.back), ap (λ b. length (units b)) e, x.counted)
-      | inr s ↦ absurd (omega (
-        arith,
-        x.holds s.0 s.1 s.2,
-        ap length whole,
-        length-append (units x.front) (units x.back),
-        ap (λ b. length (units b)) s.2,
-        length-append (units_of s.0) (units s.1),
-        x.counted,
-        (units_bounds h.points).at_least,
-        ap length h.encoded,
-      ))
-    ]
+all_counted h place before x = elim (first_or_none x.back) [
+  | inl e ↦ omega (arith, units_counted x, ap (λ b. length (units b)) e)
+  | inr s ↦
+      let long = simp length-append at (ap (λ b. length (units b)) s.2) in
+      absurd (omega (arith, x.holds s.0 s.1 s.2, units_counted x, long, (units_bounds h.points).at_least, ap length h.encoded))
+]

@@ -1,12 +1,6 @@
 -- Where code points part in one row of the table, the order of their bytes is the order of their units.
-use Rattle.std.proofs.Common.{◌≡◌, ◌≢◌, ◌↔◌, ℕ, zero, suc, ◌+◌, ◌/◌, ◌%◌, ◌<◌, inl, inr, List, [], ◌∷◌, ◌++◌, drop, get_or, refl, sym, ap, ◌∙◌, subst, arith}
-use Rattle.std.proofs.lemmas.Bool.{cases_lt}
-use Rattle.std.specs.Cmp.Lexicographic.{slice_cmp}
-use Rattle.std.specs.Ordering.{nat_cmp}
-use Rattle.wtf8.specs.Unicode.{units, units_of}
-use Rattle.wtf8.specs.Form.{encoding, bytes}
-use Rattle.wtf8.specs.Order.{Before}
-use Rattle.wtf8.specs.Differences.{IsFirstDifference, PairBegins}
+use Rattle.wtf8.proofs.Common.{◌≡◌, ◌≢◌, ◌↔◌, ℕ, zero, suc, ◌+◌, ◌/◌, ◌%◌, ◌<◌, inl, inr, List, [], ◌∷◌, ◌++◌, drop, get_or, refl, sym, ap, ◌∙◌, arith}
+use Rattle.wtf8.proofs.Common.{cases_lt, slice_cmp, nat_cmp, units, units_of, encoding, bytes, Before, IsFirstDifference, PairBegins, cases_order}
 use Rattle.wtf8.proofs.lemmas.Encoding.{row_of, one, two, three, four}
 use Rattle.wtf8.proofs.lemmas.ListOrder.{less_of, greater_of, cmp_behind, before_two}
 use Rattle.wtf8.proofs.lemmas.Units.{lead_of, trail_of, units-cons_one, units-cons_two}
@@ -42,45 +36,25 @@ record FirstByte (p : ℕ) (r : List ℕ) : Type 0 where
 
 first_byte : (p : ℕ) (r : List ℕ) → FirstByte p r
 first_byte p r = elim (row_of p) [
-  | one h e ↦ record { byte = p; rest = r; encoded = rw e refl; row = (λ _. omega arith, λ _. omega arith) }
-  | two l h e ↦ record { byte = 0xC0 + p / 64; rest = (0x80 + p % 64) ∷ r; encoded = rw e refl; row = (λ _. omega arith, λ _. omega arith) }
-  | three l h e ↦ record {
-    byte = 0xE0 + p / 4096;
-    rest = (0x80 + p / 64 % 64) ∷ (0x80 + p % 64) ∷ r;
-    encoded = rw e refl;
-    row = (λ _. omega arith, λ _. omega arith);
-  }
-  | four l e ↦ record {
-    byte = 0xF0 + p / 262144;
-    rest = (0x80 + p / 4096 % 64) ∷ (0x80 + p / 64 % 64) ∷ (0x80 + p % 64) ∷ r;
-    encoded = rw e refl;
-    row = (λ m. absurd (omega arith), λ m. absurd (omega arith));
-  }
+  | one h e ↦ record { byte = _; rest = _; encoded = ap (λ v. v ++ r) e; row = (λ _. omega arith, λ _. omega arith) }
+  | two l h e ↦ record { byte = _; rest = _; encoded = ap (λ v. v ++ r) e; row = (λ _. omega arith, λ _. omega arith) }
+  | three l h e ↦ record { byte = _; rest = _; encoded = ap (λ v. v ++ r) e; row = (λ _. omega arith, λ _. omega arith) }
+  | four l e ↦ record { byte = _; rest = _; encoded = ap (λ v. v ++ r) e; row = (λ m. absurd (omega arith), λ m. absurd (omega arith)) }
 ]
 
 same_row : (p q : ℕ) (r s : List ℕ) → PartInOneRow (encoding p ++ r) (encoding q ++ s) → BothBelow 0x10000 p q
 same_row p q r s h =
     let x = first_byte p r in
     let y = first_byte q s in
-    let parts : PartInOneRow (x.byte ∷ x.rest) (y.byte ∷ y.rest) =
-    subst (λ v. PartInOneRow v (y.byte ∷ y.rest)) x.encoded (subst (PartInOneRow (encoding p ++ r)) y.encoded h) in
-    let both : BothBelow 0xF0 x.byte y.byte = elim (cases_lt x.byte y.byte) [
-      | inl l ↦ parts.1 (omega arith)
-      | inr l ↦ elim (cases_lt y.byte x.byte) [
-        | inl m ↦ parts.1 (omega arith)
-        | inr m ↦ (λ k. omega arith, λ k. omega arith)
-      ]
+    let parts : PartInOneRow (x.byte ∷ x.rest) (y.byte ∷ y.rest) = rw (x.encoded, y.encoded) at h in
+    let both : BothBelow 0xF0 x.byte y.byte = elim (cases_order x.byte y.byte) [
+      | inl e ↦ (λ k. omega arith, λ k. omega arith)
+      | inr n ↦ parts.1 (λ e. omega (arith, n))
     ] in
     (λ k. y.row.1 (both.0 (x.row.0 k)), λ k. x.row.1 (both.1 (y.row.0 k)))
 
 nothing_before : (q : ℕ) (d : List ℕ) → Before [] (units (q ∷ d))
-nothing_before q d = elim (cases_lt q 0x10000) [
-  | inl h ↦ rw (units-cons_one q d h) tt
-  | inr h ↦ rw (units-cons_two q d h) tt
-]
-
-swapped : (x y : ℕ) → BothBelow 0x10000 x y → BothBelow 0x10000 y x
-swapped x y h = (h.1, h.0)
+nothing_before q d = elim (cases_lt q 0x10000) [ inl h ↦ rw (units-cons_one q d h) tt | inr h ↦ rw (units-cons_two q d h) tt ]
 
 -- then the order of the code points is that of the units
 pub points_as_units : (c d : List ℕ) → PartInOneRow (bytes c) (bytes d) → slice_cmp nat_cmp c d ≡ slice_cmp nat_cmp (units c) (units d)
@@ -89,16 +63,12 @@ points_as_units [] (q ∷ d) h = sym (less_of [] (units (q ∷ d)) (nothing_befo
 points_as_units (p ∷ c) [] h = sym (greater_of (units (p ∷ c)) [] (nothing_before p c))
 points_as_units (p ∷ c) (q ∷ d) h =
     let row = same_row p q (bytes c) (bytes d) h in
-    elim (cases_lt p q) [
-      | inl l ↦ less_of (p ∷ c) (q ∷ d) (inl l) ∙ sym (less_of (units (p ∷ c)) (units (q ∷ d)) (before_units p q c d l row))
-      | inr m ↦ elim (cases_lt q p) [
-        | inl l ↦ greater_of (p ∷ c) (q ∷ d) (inl l) ∙ sym (greater_of (units (p ∷ c)) (units (q ∷ d)) (before_units q p d c l (swapped p q row)))
-        | inr n ↦
-            let same : q ≡ p = omega arith in
-            let rest = points_as_units c d (behind (encoding p) (bytes c) (bytes d) (subst (λ k. PartInOneRow (bytes (p ∷ c)) (bytes (k ∷ d))) same h)) in
-            ap (λ k. slice_cmp nat_cmp (p ∷ c) (k ∷ d)) same ∙ (cmp_behind (p ∷ []) c d ∙ (rest ∙ (sym (cmp_behind (units_of p) (units c) (units d))
-            ∙ ap (λ k. slice_cmp nat_cmp (units (p ∷ c)) (units (k ∷ d))) (sym same))))
-      ]
+    elim (cases_order q p) [
+      | inl same ↦
+          let rest = points_as_units c d (behind (encoding p) (bytes c) (bytes d) (rw same at h)) in
+          rw same (cmp_behind (p ∷ []) c d ∙ rest ∙ sym (cmp_behind (units_of p) (units c) (units d)))
+      | inr (inl l) ↦ greater_of (p ∷ c) (q ∷ d) (inl l) ∙ sym (greater_of (units (p ∷ c)) (units (q ∷ d)) (before_units q p d c l (row.1, row.0)))
+      | inr (inr l) ↦ less_of (p ∷ c) (q ∷ d) (inl l) ∙ sym (less_of (units (p ∷ c)) (units (q ∷ d)) (before_units p q c d l row))
     ]
 
 -- behind the first numbers of both lists

@@ -1,17 +1,11 @@
-use Rattle.std.proofs.Common.{sym, subst, arith, length-append}
-use Rattle.std.proofs.lemmas.Result.{on_ok_weaker}
-use Rattle.wtf8.specs.CodePoint.{number}
-use Rattle.wtf8.specs.Form.{encoding}
-use Rattle.wtf8.specs.Gains.{GainsUnits}
-use Rattle.wtf8.specs.Unicode.{units_of}
+use Rattle.wtf8.proofs.Common.{arith, length-append, on_ok_weaker, number, encoding}
 use Rattle.wtf8.proofs.lemmas.Gains.{gains_point, fits_length}
 use Rattle.wtf8.proofs.concat.push_apart.Goals as goal
 
 pub returns-clause-ok : goal.returns-clause-ok
 returns-clause-ok g c =
     let h = c.requires.well_formed in
-    let gains = gains_point h (number c.args.code_point) c.args.code_point.in_range (c.requires.apart h) in
-    on_ok_weaker c.append.result (λ e. subst (λ w. GainsUnits c.args.bytes.now.items w (units_of (number c.args.code_point))) (sym e) gains) c.append.ensures.ok
+    on_ok_weaker c.append.result (λ e. rw e (gains_point h (number c.args.code_point) c.args.code_point.in_range (c.requires.apart h))) c.append.ensures.ok
 
 pub returns-clause-room : goal.returns-clause-room
 returns-clause-room g c fit =

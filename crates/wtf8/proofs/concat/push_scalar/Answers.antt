@@ -1,5 +1,4 @@
-use Rattle.std.proofs.Common.{◌∙◌, ◌∷◌, [], sym, subst}
-use Rattle.wtf8.specs.Surrogates.{AreScalar}
+use Rattle.wtf8.proofs.Common.{◌∙◌, ◌∷◌, [], sym, subst, AreScalar}
 use Rattle.wtf8.proofs.lemmas.Scalars.{scalar_behind}
 use Rattle.wtf8.proofs.lemmas.Texts.{scalar_facts}
 use Rattle.wtf8.proofs.concat.push_scalar.Goals as goal

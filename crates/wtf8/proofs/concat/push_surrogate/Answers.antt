@@ -1,42 +1,37 @@
-use Rattle.std.proofs.Common.{◌≡◌, ◌-◌, take, length, ◌++◌, arith, ap, ◌∙◌, sym, subst, List, ℕ, [], ◌∷◌, refl}
-use Rattle.std.proofs.lemmas.Result.{on_ok_weaker}
-use Rattle.wtf8.specs.CodePoint.{number}
-use Rattle.wtf8.specs.Unicode.{pair, units_of, IsLead, IsTrail}
-use Rattle.wtf8.specs.Form.{encoding, IsWellFormed}
-use Rattle.wtf8.specs.Gains.{GainsUnits}
+use Rattle.wtf8.proofs.Common.{◌≡◌, ◌++◌, ◌∷◌, [], ◌∙◌, List, ℕ, refl, sym, arith, on_ok_weaker, IsLead, IsTrail}
 use Rattle.wtf8.proofs.lemmas.Gains.{Joined, joined, fits_length}
 use Rattle.wtf8.proofs.lemmas.Meeting.{meets_same}
 use Rattle.wtf8.proofs.lemmas.Readings.{same_points}
+use Rattle.wtf8.proofs.concat.push_surrogate.Given.{Over}
+use Rattle.wtf8.proofs.concat.push_surrogate.Goals.{After-from_well_formed-view}
 use Rattle.wtf8.proofs.concat.push_surrogate.Goals as goal
 
 -- the lead that ends the view of the bytes ends these
-joined_here : {w v : List ℕ} (h : IsWellFormed w) (k : IsWellFormed v) → v ≡ w → (l t : ℕ) → IsLead l → IsTrail t → (f : List ℕ) × (k.points ≡ f ++ l ∷ [])
-    → Joined w l t
-joined_here h k e l t lead trail last = joined h last.0 l t lead trail (same_points h k (sym e) ∙ last.1)
+joined_here : (g : Over) (c : After-from_well_formed-view g) (l t : ℕ) → IsLead l → IsTrail t
+    → (f : List ℕ) × (c.from_well_formed-view.result.well_formed.points ≡ f ++ l ∷ []) → Joined c.args.bytes.now.items l t
+joined_here g c l t lead trail last =
+    let view = c.from_well_formed-view in
+    let same = same_points c.requires view.result.well_formed (sym (view.ensures.bytes ∙ c.as_slice.ensures.value)) in
+    joined c.requires last.0 l t lead trail (same ∙ last.1)
 
 pub from_well_formed-view-requires : goal.from_well_formed-view-requires
 from_well_formed-view-requires g c = rw c.as_slice.ensures.value c.requires
 
 pub join-requires-clause-three : goal.join-requires-clause-three
 join-requires-clause-three g c =
-    let view = c.from_well_formed-view in
-    (joined_here c.requires view.result.well_formed (view.ensures.bytes ∙ c.as_slice.ensures.value) c.in-Some.lead
-    (number c.args.code_point) c.in-Some.ensures.lead c.in-Some.ensures.trail c.in-Some.ensures.last).three
+    let met = c.in-Some.ensures in
+    (joined_here g (goal.at.join-requires-clause-three g c).After-from_well_formed-view _ _ met.lead met.trail met.last).three
 
 pub returns-in-Some-clause-ok : goal.returns-in-Some-clause-ok
 returns-in-Some-clause-ok g c =
-    let view = c.from_well_formed-view in
-    let w = c.args.bytes.now.items in
-    let x = joined_here c.requires view.result.well_formed (view.ensures.bytes ∙ c.as_slice.ensures.value) c.in-Some.lead
-    (number c.args.code_point) c.in-Some.ensures.lead c.in-Some.ensures.trail c.in-Some.ensures.last in
-    on_ok_weaker c.join.result (λ e. subst (λ v. GainsUnits w v (units_of (number c.args.code_point)))
-    (sym (e ∙ ap (λ t. take (length w - 3) w ++ encoding (pair c.in-Some.lead t)) c.to_u32.ensures.value)) x.gains) c.join.ensures.ok
+    let met = c.in-Some.ensures in
+    let x = joined_here g (goal.at.returns-in-Some-clause-ok g c).After-from_well_formed-view _ _ met.lead met.trail met.last in
+    on_ok_weaker c.join.result (λ e. rw e (rw c.to_u32.ensures.value x.gains)) c.join.ensures.ok
 
 pub returns-in-Some-clause-room : goal.returns-in-Some-clause-room
 returns-in-Some-clause-room g c fit =
-    let view = c.from_well_formed-view in
-    let x = joined_here c.requires view.result.well_formed (view.ensures.bytes ∙ c.as_slice.ensures.value) c.in-Some.lead
-    (number c.args.code_point) c.in-Some.ensures.lead c.in-Some.ensures.trail c.in-Some.ensures.last in
+    let met = c.in-Some.ensures in
+    let x = joined_here g (goal.at.returns-in-Some-clause-room g c).After-from_well_formed-view _ _ met.lead met.trail met.last in
     c.join.ensures.room (omega (arith, fits_length x.gains fit, x.longer))
 
 pub push_apart-requires-clause-apart : goal.push_apart-requires-clause-apart

@@ -1,8 +1,4 @@
-use Rattle.std.proofs.Common.{◌++◌, ◌∙◌, ap, sym, subst, arith, length-append}
-use Rattle.std.proofs.lemmas.Result.{on_ok_weaker}
-use Rattle.std.specs.Str.{chars}
-use Rattle.wtf8.specs.Gains.{GainsUnits}
-use Rattle.wtf8.specs.Unicode.{units}
+use Rattle.wtf8.proofs.Common.{arith, length-append, on_ok_weaker}
 use Rattle.wtf8.proofs.lemmas.Gains.{gains_behind, fits_length}
 use Rattle.wtf8.proofs.lemmas.Scalars.{scalar_behind, scalar_text}
 use Rattle.wtf8.proofs.lemmas.Texts.{well_formed_text}
@@ -10,10 +6,8 @@ use Rattle.wtf8.proofs.concat.push_text.Goals as goal
 
 pub returns-clause-ok : goal.returns-clause-ok
 returns-clause-ok g c =
-    let other = c.args.other.now in
-    let gains = gains_behind c.requires (well_formed_text other c.utf8.other) (scalar_behind (scalar_text c.utf8.other)) in
-    on_ok_weaker c.append_bytes.result (λ e. subst (λ w. GainsUnits c.args.bytes.now.items w (units (chars other)))
-    (sym (e ∙ ap (λ w. c.args.bytes.now.items ++ w) c.as_bytes.ensures.value)) gains) c.append_bytes.ensures.ok
+    let gains = gains_behind c.requires (well_formed_text c.args.other.now c.utf8.other) (scalar_behind (scalar_text c.utf8.other)) in
+    on_ok_weaker c.append_bytes.result (λ e. rw e (rw c.as_bytes.ensures.value gains)) c.append_bytes.ensures.ok
 
 pub returns-clause-room : goal.returns-clause-room
 returns-clause-room g c fit =

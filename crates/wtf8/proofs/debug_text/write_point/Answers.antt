@@ -1,5 +1,4 @@
-use Rattle.std.proofs.Common.{refl}
-use Rattle.wtf8.specs.CodePoint.{number}
+use Rattle.wtf8.proofs.Common.{refl, number}
 use Rattle.wtf8.proofs.lemmas.DebugTexts.{then_written, written_as, shown_scalar, shown_surrogate}
 use Rattle.wtf8.proofs.debug_text.write_point.Goals as goal
 

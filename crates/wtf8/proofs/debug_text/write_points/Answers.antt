@@ -1,6 +1,4 @@
-use Rattle.std.proofs.Common.{refl, ap, length, arith}
-use Rattle.std.specs.List.{flat_map}
-use Rattle.wtf8.specs.Debug.{shown}
+use Rattle.wtf8.proofs.Common.{refl, ap, length, arith, flat_map, shown}
 use Rattle.wtf8.proofs.lemmas.DebugTexts.{begun, continued, ended}
 use Rattle.wtf8.proofs.debug_text.write_points.Goals as goal
 

@@ -1,7 +1,4 @@
-use Rattle.std.proofs.Common.{length}
-use Rattle.std.specs.Fmt.{IsFlush}
-use Rattle.std.specs.List.{flat_map}
-use Rattle.wtf8.specs.Debug.{shown}
+use Rattle.wtf8.proofs.Common.{length, IsFlush, flat_map, shown}
 use Rattle.wtf8.proofs.lemmas.DebugTexts.{Continues}
 use Rattle.wtf8.proofs.debug_text.write_points.Given as goal
 

@@ -1,5 +1,4 @@
-use Rattle.std.proofs.Common.{refl, sym}
-use Rattle.std.proofs.Output.{has_written_styled_nil}
+use Rattle.wtf8.proofs.Common.{refl, sym, has_written_styled_nil}
 use Rattle.wtf8.proofs.lemmas.DebugTexts.{then_written, written_as, written_to, upper_four, upper_five, upper_six}
 use Rattle.wtf8.proofs.debug_text.write_upper.Goals as goal
 use Rattle.wtf8.proofs.debug_text.write_upper.Goals.{then-value-ge1048576+in_ok-write_digit+in_ok-write_digit-2}

@@ -1,10 +1,7 @@
-use Rattle.std.proofs.Common.{sym, subst, rules}
-use Rattle.std.specs.Str.{IsUtf8}
+use Rattle.wtf8.proofs.Common.{sym, subst, rules, IsUtf8, hex, ◌≡◌}
 use Rattle.std.proofs.lemmas.Str.{IsUtf8-from_ascii}
-use Rattle.wtf8.specs.Hex.{hex}
 use Rattle.wtf8.proofs.lemmas.HexLanes.{hex_ascii}
 use Rattle.wtf8.proofs.digits.hex_text.Goals as goal
-use Rattle.std.proofs.Common.{◌≡◌}
 
 pub from_utf8_unchecked-requires : goal.from_utf8_unchecked-requires
 from_utf8_unchecked-requires g c =

@@ -1,6 +1,4 @@
-use Rattle.std.proofs.Common.{◌≡◌, ◌++◌, ◌+◌, ◌*◌, ◌-◌, ◌≤◌, length, take, vec_len, vec_capacity}
-use Rattle.std.specs.List.{flat_map}
-use Rattle.wtf8.specs.SpacedHex.{spaced}
+use Rattle.wtf8.proofs.Common.{◌≡◌, ◌++◌, ◌+◌, ◌*◌, ◌-◌, ◌≤◌, length, take, vec_len, vec_capacity, flat_map, spaced}
 use Rattle.wtf8.proofs.digits.push_hex.Given as goal
 
 -- the blocks so far are written, and there is room for the other bytes

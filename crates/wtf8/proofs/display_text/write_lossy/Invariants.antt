@@ -1,7 +1,4 @@
-use Rattle.std.proofs.Common.{length}
-use Rattle.std.specs.Fmt.{IsFlush}
-use Rattle.wtf8.specs.Form.{bytes}
-use Rattle.wtf8.specs.Surrogates.{lossy}
+use Rattle.wtf8.proofs.Common.{length, IsFlush, bytes, lossy}
 use Rattle.wtf8.proofs.lemmas.DebugTexts.{Continues}
 use Rattle.wtf8.proofs.display_text.write_lossy.Given as goal
 

@@ -1,9 +1,6 @@
-use Rattle.std.proofs.Common.{◌≡◌, ◌∙◌, refl, sym, ap}
+use Rattle.wtf8.proofs.Common.{◌≡◌, ◌∙◌, refl, sym, ap, nat_cmp, unread_units, view_units}
 use Rattle.std.proofs.lemmas.Iterator.Consumers.{YieldsList-from_first}
 use Rattle.std.proofs.lemmas.Iterator.Search.{cmp_from_yields_List}
-use Rattle.std.specs.Ordering.{nat_cmp}
-use Rattle.wtf8.specs.Units.{unread_units}
-use Rattle.wtf8.specs.View.{view_units}
 use Rattle.wtf8.proofs.lemmas.FirstUnits.{first_decides, rests_decide, both_are}
 use Rattle.wtf8.proofs.unit_order.cmp_one_by_one.Goals as goal
 

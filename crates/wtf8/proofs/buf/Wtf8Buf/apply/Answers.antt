@@ -1,6 +1,4 @@
-use Rattle.std.proofs.Common.{length, ap, subst, arith}
-use Rattle.std.proofs.lemmas.Bool.{false≢true}
-use Rattle.wtf8.specs.Form.{IsForm}
+use Rattle.wtf8.proofs.Common.{length, ap, subst, arith, false≢true, IsForm}
 use Rattle.wtf8.proofs.lemmas.Readings.{same_form}
 use Rattle.wtf8.proofs.buf.Wtf8Buf.apply.Goals as goal
 

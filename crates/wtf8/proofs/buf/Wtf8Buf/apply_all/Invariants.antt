@@ -1,7 +1,4 @@
-use Rattle.std.proofs.Common.{◌≤◌, List, ℕ, take}
-use Rattle.std.specs.List.{All}
-use Rattle.wtf8.specs.Appending.{AppendsUnits}
-use Rattle.wtf8.specs.Building.{Run, Append, IsNoTruncation}
+use Rattle.wtf8.proofs.Common.{◌≤◌, List, ℕ, take, All, AppendsUnits, Run, Append, IsNoTruncation}
 use Rattle.wtf8.proofs.lemmas.Room.{Found}
 use Rattle.wtf8.proofs.buf.Wtf8Buf.apply_all.Given as goal
 

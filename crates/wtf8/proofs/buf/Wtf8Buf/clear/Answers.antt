@@ -1,5 +1,4 @@
-use Rattle.std.proofs.Common.{ap}
-use Rattle.wtf8.specs.Unicode.{units}
+use Rattle.wtf8.proofs.Common.{ap, units}
 use Rattle.wtf8.proofs.lemmas.Readings.{empty_at, empty_form, same_points}
 use Rattle.wtf8.proofs.buf.Wtf8Buf.clear.Goals as goal
 

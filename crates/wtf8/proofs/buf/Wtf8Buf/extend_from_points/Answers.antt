@@ -1,8 +1,5 @@
-use Rattle.std.proofs.Common.{◌≡◌, ◌+◌, ◌++◌, ◌∷◌, ◌<◌, ◌∙◌, length, take, drop, arith, ap, sym, subst, append_assoc}
-use Rattle.std.proofs.lemmas.Bool.{false≢true}
-use Rattle.wtf8.specs.CodePoint.{number, numbers}
-use Rattle.wtf8.specs.Form.{IsForm}
-use Rattle.wtf8.specs.Unicode.{units, units_of}
+use Rattle.wtf8.proofs.Common.{ℕ, rules, ◌≡◌, ◌+◌, ◌++◌, ◌∷◌, ◌<◌, ◌∙◌, length, take, drop, arith, ap, sym, append_assoc, false≢true, number, numbers}
+use Rattle.wtf8.proofs.Common.{units, units_of}
 use Rattle.wtf8.proofs.lemmas.Lists.{item_at}
 use Rattle.wtf8.proofs.lemmas.Room.{beginning, extended_length, units-points}
 use Rattle.wtf8.proofs.buf.Wtf8Buf.extend_from_points.Goals as goal
@@ -18,17 +15,15 @@ returns-in_err-push-clause-room g c fit =
     let ps = c.args.points.now in
     let p = c.code_point-item.result in
     let below : i < length ps = omega arith in
-    let here = item_at ps i p below c.code_point-item.is in
-    let whole : c.args.self.now.units ++ units (numbers ps) ≡ c.loop-code_point.self.units ++ units (numbers (p ∷ drop (i + 1) ps)) =
-    ap (λ v. c.args.self.now.units ++ v) (ap (λ d. units (numbers d)) (sym here) ∙ units-points (take i ps) (p ∷ drop (i + 1) ps))
-    ∙ (sym (append_assoc c.args.self.now.units (units (numbers (take i ps))) (units (numbers (p ∷ drop (i + 1) ps))))
-    ∙ ap (λ v. v ++ units (numbers (p ∷ drop (i + 1) ps))) (sym c.loop-code_point.invariant.0)) in
-    let v = c.loop-code_point.self.units in
+    let inv = c.loop-code_point.invariant in
+    let all = ap (λ d. units (numbers d)) (sym (item_at ps i p below c.code_point-item.is)) ∙ units-points (take i ps) (p ∷ drop (i + 1) ps) in
     let rest = units (numbers (drop (i + 1) ps)) in
-    let next = beginning (v ++ units_of (number p)) rest fit.whole
-    (subst (IsForm fit.whole) (whole ∙ sym (append_assoc v (units_of (number p)) rest)) fit.form) in
-    absurd (false≢true (c.in_err-push.ensures.room (record {
-      whole = next.whole;
-      form = next.form;
-      within = omega (arith, next.within, fit.within, c.loop-code_point.invariant.1);
-    })))
+    let whole : c.args.self.now.units ++ units (numbers ps) ≡ c.loop-code_point.self.units ++ (units_of (number p) ++ rest) = rw (all, inv.0, append_assoc) in
+    let next = beginning (c.loop-code_point.self.units ++ units_of (number p)) rest fit.whole (rw (append_assoc, ← whole) fit.form) in
+    absurd (false≢true (c.in_err-push.ensures.room (record { whole = next.whole; form = next.form; within = omega (arith, next.within, fit.within, inv.1) })))
+
+pub returns-in_err-push-clause-err : goal.returns-in_err-push-clause-err
+returns-in_err-push-clause-err g c =
+    let so_far : (n : ℕ) × (c.push.new.self.units ≡ c.args.self.now.units ++ units (numbers (take n c.args.points.now))) =
+    (c.loop-code_point.code_point-index, c.in_err-push.ensures.kept.units ∙ c.loop-code_point.invariant.0) in
+    search (rules, so_far)

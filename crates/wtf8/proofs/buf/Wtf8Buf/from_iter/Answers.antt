@@ -1,6 +1,4 @@
-use Rattle.std.proofs.Common.{◌++◌, ◌∙◌, ap}
-use Rattle.wtf8.specs.CodePoint.{numbers}
-use Rattle.wtf8.specs.Unicode.{units}
+use Rattle.wtf8.proofs.Common.{◌++◌, ◌∙◌, ap, numbers, units}
 use Rattle.wtf8.proofs.buf.Wtf8Buf.from_iter.Goals as goal
 
 pub returns : goal.returns

@@ -6,8 +6,7 @@ use Rattle.wtf8.proofs.buf.Wtf8Buf.from_str.Goals as goal
 
 pub from_well_formed-requires-clause-well_formed : goal.from_well_formed-requires-clause-well_formed
 from_well_formed-requires-clause-well_formed g c =
-    text_at c.utf8.value (c.in_ok-extend_from_slice.ensures.items ∙ (ap (λ w. w ++ c.as_bytes.result.now) c.in_ok-bytes.ensures.items
-    ∙ c.as_bytes.ensures.value))
+    text_at c.utf8.value (rw (c.in_ok-extend_from_slice.ensures.items, c.in_ok-bytes.ensures.items) c.as_bytes.ensures.value)
 
 pub from_well_formed-requires-clause-scalar : goal.from_well_formed-requires-clause-scalar
 from_well_formed-requires-clause-scalar g c _ h =

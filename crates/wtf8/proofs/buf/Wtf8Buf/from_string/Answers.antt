@@ -14,8 +14,7 @@ from_well_formed-requires-clause-scalar g c _ h =
     (scalar_text (IsUtf8-string_bytes c.args.string))
 
 pub returns-clause-units : goal.returns-clause-units
-returns-clause-units g c =
-    c.from_well_formed.ensures.units (text_at (IsUtf8-string_bytes c.args.string) (ap (λ v. v.items) c.into_bytes.ensures.value))
+returns-clause-units g c = c.from_well_formed.ensures.units (text_at (IsUtf8-string_bytes c.args.string) (ap (λ v. v.items) c.into_bytes.ensures.value))
 
 pub returns-clause-scalar : goal.returns-clause-scalar
 returns-clause-scalar g c =

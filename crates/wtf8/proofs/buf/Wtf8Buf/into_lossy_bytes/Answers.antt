@@ -1,7 +1,4 @@
-use Rattle.std.proofs.Common.{ap, sym, ◌∙◌}
-use Rattle.wtf8.specs.Form.{bytes}
-use Rattle.wtf8.specs.Surrogates.{lossy}
-use Rattle.wtf8.specs.UnitString.{UnitString}
+use Rattle.wtf8.proofs.Common.{ap, sym, ◌∙◌, bytes, lossy, UnitString}
 use Rattle.wtf8.proofs.lemmas.Lossy.{lossy-scalar}
 use Rattle.wtf8.proofs.buf.Wtf8Buf.into_lossy_bytes.Goals as goal
 

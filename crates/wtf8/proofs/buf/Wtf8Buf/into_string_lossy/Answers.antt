@@ -1,5 +1,4 @@
-use Rattle.std.proofs.Common.{ap, sym, ◌∙◌, subst, length}
-use Rattle.std.specs.Str.{IsUtf8}
+use Rattle.wtf8.proofs.Common.{ap, sym, ◌∙◌, subst, length, IsUtf8}
 use Rattle.wtf8.proofs.lemmas.Lossy.{utf8_lossy_points, length-lossy}
 use Rattle.wtf8.proofs.buf.Wtf8Buf.into_string_lossy.Goals as goal
 

@@ -1,6 +1,4 @@
-use Rattle.wtf8.specs.UnitString.{UnitString}
-use Rattle.std.proofs.Common.{ap, arith, length, refl}
-use Rattle.wtf8.specs.Unicode.{units}
+use Rattle.wtf8.proofs.Common.{UnitString, ap, arith, length, refl, units}
 use Rattle.wtf8.proofs.lemmas.Gains.{gained_units, kept_contents}
 use Rattle.wtf8.proofs.lemmas.Scalars.{known_gained, scalar_text}
 use Rattle.wtf8.proofs.lemmas.Texts.{well_formed_text}
@@ -28,10 +26,9 @@ returns-clause-at_most g c =
 
 pub returns-clause-room_left : goal.returns-clause-room_left
 returns-clause-room_left g c h =
-    let room = ap (λ (t : UnitString). t.capacity) c.self.view_is in
     let same = ap (λ (t : UnitString). t.bytes) c.self.view_is in
     let form = form_of (well_formed_text c.args.other.now c.utf8.other) in
-    c.push_text.ensures.room (fits_left c.args.self.now _ _ _ same form (omega (arith, h, room)))
+    c.push_text.ensures.room (fits_left c.args.self.now _ _ _ same form (omega (arith, h, ap (λ (t : UnitString). t.capacity) c.self.view_is)))
 
 pub returns-clause-nothing : goal.returns-clause-nothing
 returns-clause-nothing g c e =

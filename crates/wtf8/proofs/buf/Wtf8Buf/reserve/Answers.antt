@@ -1,12 +1,9 @@
-use Rattle.std.proofs.Common.{ap, ◌∙◌}
+use Rattle.wtf8.proofs.Common.{ap, ◌∙◌, UnitString, units}
 use Rattle.wtf8.proofs.lemmas.Readings.{moved, same_points}
-use Rattle.wtf8.specs.UnitString.{UnitString}
-use Rattle.wtf8.specs.Unicode.{units}
 use Rattle.wtf8.proofs.buf.Wtf8Buf.reserve.Goals as goal
 
 pub invariant_of-self-inside : goal.invariant_of-self-inside
-invariant_of-self-inside g c =
-    (moved c.self.inside.well_formed c.reserve.ensures.items, (c.self.inside.known_scalar, tt))
+invariant_of-self-inside g c = (moved c.self.inside.well_formed c.reserve.ensures.items, (c.self.inside.known_scalar, tt))
 
 pub returns-clause-units : goal.returns-clause-units
 returns-clause-units g c =

@@ -1,5 +1,4 @@
-use Rattle.std.proofs.Common.{subst, inl, inr, take, arith}
-use Rattle.wtf8.specs.Form.{IsForm}
+use Rattle.wtf8.proofs.Common.{subst, inl, inr, take, arith, IsForm}
 use Rattle.wtf8.proofs.lemmas.Positions.{front_form}
 use Rattle.wtf8.proofs.lemmas.Readings.{same_form}
 use Rattle.wtf8.proofs.buf.Wtf8Buf.truncate_units.Goals as goal

@@ -1,14 +1,7 @@
-use Rattle.std.proofs.Common.{◌∙◌, ◌++◌, ap, sym, subst, arith, inl, refl, length, take}
-use Rattle.std.proofs.lemmas.Bool.{false≢true}
-use Rattle.wtf8.specs.Form.{encoding}
-use Rattle.wtf8.specs.Position.{IsFront}
-use Rattle.wtf8.specs.UnitString.{UnitString}
-use Rattle.wtf8.specs.Unicode.{units}
-use Rattle.wtf8.specs.UnitCounts.{CutsUnits}
+use Rattle.wtf8.proofs.Common.{◌∙◌, ap, subst, arith, inl, refl, length, take, false≢true, IsFront, UnitString, units, CutsUnits}
 use Rattle.wtf8.proofs.lemmas.Positions.{same_front}
 use Rattle.wtf8.proofs.lemmas.Readings.{moved, same_points}
 use Rattle.wtf8.proofs.lemmas.UnitCuts.{undivided, divided, in_range, front_at, lead_kept, lead_kept_units}
-use Rattle.wtf8.proofs.lemmas.Units.{lead_of}
 use Rattle.wtf8.proofs.buf.Wtf8Buf.try_truncate_units.Goals as goal
 
 pub keep_lead-requires-clause-lead : goal.keep_lead-requires-clause-lead
@@ -27,38 +20,22 @@ keep_lead-requires-clause-within g c =
 pub invariant_of-self-inside : goal.invariant_of-self-inside
 invariant_of-self-inside g c =
     let h = c.as_wtf8.result.well_formed in
-    let k = c.in-Some.cut.position in
-    let x = subst (CutsUnits h.points c.args.n k) c.in-Some-divided.is c.in-Some.ensures.some in
-    let same = c.as_wtf8.ensures.bytes ∙ sym (ap (λ (t : UnitString). t.bytes) c.self.view_is) in
-    let kept = ap (λ l. take k c.self.inside.bytes.items ++ encoding l) c.lead_of-lead.ensures
-    ∙ ap (λ w. take k w ++ encoding (lead_of c.in-Some-divided.value)) (sym same) in
-    (moved (lead_kept h (divided x)) (c.keep_lead.ensures ∙ kept), (λ known. absurd (false≢true known), tt))
+    let x = subst (CutsUnits h.points c.args.n c.in-Some.cut.position) c.in-Some-divided.is c.in-Some.ensures.some in
+    (moved (lead_kept h (divided x)) (cc (ap (λ (t : UnitString). t.bytes) c.self.view_is)), (λ known. absurd (false≢true known), tt))
 
 pub returns-in-None : goal.returns-in-None
 returns-in-None g c =
     let h = c.as_wtf8.result.well_formed in
     let k = c.in-Some.cut.position in
     let x = subst (CutsUnits h.points c.args.n k) c.in-None.is c.in-Some.ensures.some in
-    let u = c.args.self.now.units in
     let front = subst (λ v. IsFront v k (take c.args.n v)) c.as_wtf8.ensures.units (front_at h x) in
-    inl (
-      omega (arith, (undivided x).within, ap length c.as_wtf8.ensures.units),
-      same_front u k c.truncate.new.self.units (take c.args.n u) c.truncate.ensures.units front,
-      refl,
-    )
+    let within = (undivided x).within in
+    inl (omega (arith, within, ap length c.as_wtf8.ensures.units), same_front c.args.self.now.units k _ _ c.truncate.ensures.units front, refl)
 
 pub returns-in-Some-divided : goal.returns-in-Some-divided
 returns-in-Some-divided g c =
     let h = c.as_wtf8.result.well_formed in
-    let k = c.in-Some.cut.position in
-    let x = subst (CutsUnits h.points c.args.n k) c.in-Some-divided.is c.in-Some.ensures.some in
-    let same = c.as_wtf8.ensures.bytes ∙ sym (ap (λ (t : UnitString). t.bytes) c.self.view_is) in
-    let kept = ap (λ l. take k c.self.inside.bytes.items ++ encoding l) c.lead_of-lead.ensures
-    ∙ ap (λ w. take k w ++ encoding (lead_of c.in-Some-divided.value)) (sym same) in
-    let points = same_points c.self-1.given.0 (lead_kept h (divided x)) (c.keep_lead.ensures ∙ kept) in
-    inl (
-      omega (arith, (divided x).within, ap length c.as_wtf8.ensures.units),
-      ap units points
-          ∙ (lead_kept_units h.clean (divided x) ∙ ap (take c.args.n) c.as_wtf8.ensures.units),
-      refl,
-    )
+    let x = subst (CutsUnits h.points c.args.n c.in-Some.cut.position) c.in-Some-divided.is c.in-Some.ensures.some in
+    let points = same_points c.self-1.given.0 (lead_kept h (divided x)) (cc (ap (λ (t : UnitString). t.bytes) c.self.view_is)) in
+    let kept = ap units points ∙ lead_kept_units h.clean (divided x) ∙ ap (take c.args.n) c.as_wtf8.ensures.units in
+    inl (omega (arith, (divided x).within, ap length c.as_wtf8.ensures.units), kept, refl)

@@ -1,9 +1,5 @@
-use Rattle.std.proofs.Common.{◌≡◌, ◌↔◌, ℕ, Option, None, Some, IfSome, refl, sym, ◌∙◌}
-use Rattle.std.proofs.lemmas.Bool.{false≢true}
+use Rattle.wtf8.proofs.Common.{◌≡◌, ◌↔◌, ℕ, Option, None, Some, IfSome, refl, sym, ◌∙◌, false≢true, number, replaced, IsSurrogate}
 use Rattle.std.specs.Option.{IsNone, unwrap_or}
-use Rattle.wtf8.specs.CodePoint.{number}
-use Rattle.wtf8.specs.Surrogates.{replaced}
-use Rattle.wtf8.specs.Unicode.{IsSurrogate}
 use Rattle.wtf8.proofs.lemmas.Lossy.{replaced_surrogate, replaced_scalar}
 use Rattle.wtf8.proofs.code_point.CodePoint.to_char_lossy.Goals as goal
 
@@ -12,5 +8,4 @@ lossy_value None n h e = sym (replaced_surrogate n (h.0 refl))
 lossy_value (Some c) n h e = e ∙ sym (replaced_scalar n (λ s. false≢true (sym (h.1 s))))
 
 pub returns-clause-value : goal.returns-clause-value
-returns-clause-value c =
-    c.unwrap_or.ensures ∙ lossy_value c.to_char.result (number c.args.self.now) c.to_char.ensures.none c.to_char.ensures.some
+returns-clause-value c = c.unwrap_or.ensures ∙ lossy_value c.to_char.result (number c.args.self.now) c.to_char.ensures.none c.to_char.ensures.some

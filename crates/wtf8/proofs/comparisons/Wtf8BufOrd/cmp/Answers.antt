@@ -6,13 +6,7 @@ pub returns-clause-bytes : goal.returns-clause-bytes
 returns-clause-bytes g c = search rules
 
 pub returns-clause-points : goal.returns-clause-points
-returns-clause-points g c =
-    let own = c.args.self.now.form in
-    let others = c.args.other.now.form in
-    returns-clause-bytes g c ∙ cmp_points own.points others.points own.encoded others.encoded
+returns-clause-points g c = returns-clause-bytes g c ∙ cmp_points _ _ c.args.self.now.form.encoded c.args.other.now.form.encoded
 
 pub returns-clause-order : goal.returns-clause-order
-returns-clause-order g c =
-    let own = c.args.self.now.form in
-    let others = c.args.other.now.form in
-    points_order _ own.points others.points own.encoded others.encoded (returns-clause-bytes g c)
+returns-clause-order g c = points_order _ _ _ c.args.self.now.form.encoded c.args.other.now.form.encoded (returns-clause-bytes g c)

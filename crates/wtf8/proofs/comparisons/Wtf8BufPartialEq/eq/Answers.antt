@@ -6,7 +6,4 @@ pub returns-clause-bytes : goal.returns-clause-bytes
 returns-clause-bytes g c = search rules
 
 pub returns-clause-points : goal.returns-clause-points
-returns-clause-points g c =
-    let own = c.args.self.now.form in
-    let others = c.args.other.now.form in
-    equal_points _ own.points others.points own.encoded others.encoded (returns-clause-bytes g c)
+returns-clause-points g c = equal_points _ _ _ c.args.self.now.form.encoded c.args.other.now.form.encoded (returns-clause-bytes g c)

@@ -6,13 +6,7 @@ pub returns-clause-bytes : goal.returns-clause-bytes
 returns-clause-bytes c = search rules
 
 pub returns-clause-points : goal.returns-clause-points
-returns-clause-points c =
-    let own = c.args.self.now.well_formed in
-    let others = c.args.other.now.well_formed in
-    returns-clause-bytes c ∙ cmp_points own.points others.points own.encoded others.encoded
+returns-clause-points c = returns-clause-bytes c ∙ cmp_points _ _ c.args.self.now.well_formed.encoded c.args.other.now.well_formed.encoded
 
 pub returns-clause-order : goal.returns-clause-order
-returns-clause-order c =
-    let own = c.args.self.now.well_formed in
-    let others = c.args.other.now.well_formed in
-    points_order _ own.points others.points own.encoded others.encoded (returns-clause-bytes c)
+returns-clause-order c = points_order _ _ _ c.args.self.now.well_formed.encoded c.args.other.now.well_formed.encoded (returns-clause-bytes c)

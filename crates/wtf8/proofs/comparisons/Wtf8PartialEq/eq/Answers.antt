@@ -6,10 +6,7 @@ pub returns-clause-bytes : goal.returns-clause-bytes
 returns-clause-bytes c = search rules
 
 pub returns-clause-points : goal.returns-clause-points
-returns-clause-points c =
-    let own = c.args.self.now.well_formed in
-    let others = c.args.other.now.well_formed in
-    equal_points _ own.points others.points own.encoded others.encoded (returns-clause-bytes c)
+returns-clause-points c = equal_points _ _ _ c.args.self.now.well_formed.encoded c.args.other.now.well_formed.encoded (returns-clause-bytes c)
 
 pub returns-clause-units : goal.returns-clause-units
 returns-clause-units c =

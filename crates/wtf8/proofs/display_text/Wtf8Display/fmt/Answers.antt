@@ -1,6 +1,4 @@
-use Rattle.std.proofs.Common.{ap, refl}
-use Rattle.std.proofs.lemmas.Bool.{false≢true}
-use Rattle.wtf8.specs.Form.{bytes}
+use Rattle.wtf8.proofs.Common.{ap, refl, false≢true, bytes}
 use Rattle.wtf8.proofs.lemmas.DisplayedTexts.{displayed_text, displayed_lossy}
 use Rattle.wtf8.proofs.lemmas.Lossy.{lossy-scalar}
 use Rattle.wtf8.proofs.display_text.Wtf8Display.fmt.Goals as goal

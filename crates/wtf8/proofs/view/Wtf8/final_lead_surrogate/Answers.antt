@@ -1,6 +1,4 @@
-use Rattle.std.proofs.Common.{◌++◌, ◌∷◌, [], arith, ap, sym, ◌∙◌, ◌≡◌, List, ℕ}
-use Rattle.wtf8.specs.Form.{bytes, IsWellFormed}
-use Rattle.wtf8.specs.Unicode.{IsLead}
+use Rattle.wtf8.proofs.Common.{◌++◌, ◌∷◌, [], arith, ap, sym, ◌∙◌, ◌≡◌, List, ℕ, bytes, IsWellFormed, IsLead}
 use Rattle.wtf8.proofs.lemmas.FinalLead.{EndsInSurrogate, ends_in_surrogate, last_surrogate}
 use Rattle.wtf8.proofs.view.Wtf8.final_lead_surrogate.Goals as goal
 

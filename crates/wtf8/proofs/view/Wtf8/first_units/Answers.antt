@@ -1,7 +1,4 @@
-use Rattle.std.proofs.Common.{◌∙◌, [], ◌∷◌, ◌++◌, ap, sym, subst, arith}
-use Rattle.std.proofs.lemmas.List.{append-nil}
-use Rattle.wtf8.specs.Unicode.{units}
-use Rattle.wtf8.specs.UnitCounts.{CutsUnits}
+use Rattle.wtf8.proofs.Common.{◌∙◌, ap, sym, subst, arith, append-nil, units, CutsUnits}
 use Rattle.wtf8.proofs.lemmas.Positions.{points_before}
 use Rattle.wtf8.proofs.lemmas.UnitCuts.{undivided, divided, in_range}
 use Rattle.wtf8.proofs.view.Wtf8.first_units.Goals as goal
@@ -10,8 +7,7 @@ pub overflow_cast-result : goal.overflow_cast-result
 overflow_cast-result c =
     let h = c.args.self.well_formed in
     let x = subst (CutsUnits h.points c.args.n c.in-Some.cut.position) c.in-Some-divided.is c.in-Some.ensures.some in
-    let range = in_range h.clean (divided x) in
-    let large = (divided x).large in record { fits = omega (arith, range, large, c.lead_of.ensures) }
+    let large = (divided x).large in record { fits = omega (arith, in_range h.clean (divided x), large, c.lead_of.ensures) }
 
 pub returns-in-None : goal.returns-in-None
 returns-in-None c =
@@ -27,4 +23,4 @@ returns-in-Some-divided c =
     let k = c.in-Some.cut.position in
     let x = subst (CutsUnits h.points c.args.n k) c.in-Some-divided.is c.in-Some.ensures.some in
     let front = points_before h c.slice_to-front.result.well_formed x.front x.back k x.joined x.front_len c.slice_to-front.ensures.bytes in
-    ap (λ d. units d ++ c.lead_of.result ∷ []) front ∙ (ap (λ l. units x.front ++ l ∷ []) c.lead_of.ensures ∙ sym (divided x).kept)
+    rw (front, c.lead_of.ensures) (sym (divided x).kept)

@@ -1,5 +1,4 @@
-use Rattle.std.proofs.Common.{sym, subst}
-use Rattle.wtf8.specs.Surrogates.{AreScalar}
+use Rattle.wtf8.proofs.Common.{sym, subst, AreScalar}
 use Rattle.wtf8.proofs.lemmas.Scalars.{scalar_text}
 use Rattle.wtf8.proofs.lemmas.Texts.{text_at}
 use Rattle.wtf8.proofs.view.Wtf8.from_str.Goals as goal

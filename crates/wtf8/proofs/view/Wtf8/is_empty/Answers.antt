@@ -1,6 +1,4 @@
-use Rattle.std.proofs.Common.{ap, arith, length}
-use Rattle.std.proofs.lemmas.Bool.Decides.{nat_tests}
-use Rattle.wtf8.specs.Unicode.{units}
+use Rattle.wtf8.proofs.Common.{ap, arith, length, nat_tests, units}
 use Rattle.wtf8.proofs.lemmas.Readings.{no_points}
 use Rattle.wtf8.proofs.lemmas.Units.{units_bounds}
 use Rattle.wtf8.proofs.view.Wtf8.is_empty.Goals as goal

@@ -1,13 +1,9 @@
-use Rattle.std.proofs.Common.{arith, length, ap}
+use Rattle.std.proofs.Common.{arith, rules, length, ap}
 use Rattle.wtf8.proofs.lemmas.Units.{units_bounds}
 use Rattle.wtf8.proofs.view.Wtf8.len.Goals as goal
 
-pub returns-clause-at_least_units : goal.returns-clause-at_least_units
-returns-clause-at_least_units c =
+pub returns : goal.returns
+returns c =
     let s = c.args.self.now.well_formed in
-    let b = units_bounds s.points in omega (arith, ap length s.encoded)
-
-pub returns-clause-at_most_three_times : goal.returns-clause-at_most_three_times
-returns-clause-at_most_three_times c =
-    let s = c.args.self.now.well_formed in
-    let b = units_bounds s.points in omega (arith, ap length s.encoded)
+    let b = units_bounds s.points in
+    let long = ap length s.encoded in record { bytes = search rules; at_least_units = omega arith; at_most_three_times = omega arith }

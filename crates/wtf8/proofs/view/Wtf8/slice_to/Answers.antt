@@ -1,8 +1,6 @@
-use Rattle.std.proofs.Common.{◌∙◌, ap, sym}
-use Rattle.wtf8.specs.Unicode.{units}
+use Rattle.wtf8.proofs.Common.{◌∙◌, ap, sym, rules, units, view_units, IsFront}
 use Rattle.wtf8.proofs.lemmas.Positions.{cut_at}
 use Rattle.wtf8.proofs.lemmas.Readings.{moved}
-use Rattle.wtf8.specs.View.{view_units}
 use Rattle.wtf8.proofs.lemmas.PositionLaws.{front_and_back}
 use Rattle.wtf8.proofs.view.Wtf8.slice_to.Goals as goal
 
@@ -12,11 +10,10 @@ split_at-requires c = (cut_at c.args.self.now.well_formed c.args.end c.requires)
 pub from_well_formed-requires : goal.from_well_formed-requires
 from_well_formed-requires c = moved (cut_at c.args.self.now.well_formed c.args.end c.requires).before c.split_at.ensures.front
 
-pub returns-clause-units : goal.returns-clause-units
-returns-clause-units c =
+pub returns : goal.returns
+returns c =
     let cut = cut_at c.args.self.now.well_formed c.args.end c.requires in
     let points = c.from_well_formed.ensures.points (moved cut.before c.split_at.ensures.front) ∙ cut.before_points in
-    record { front = cut.front; back = cut.back; splits = cut.splits; same_units = ap units (sym points) }
-
-pub returns-clause-whole : goal.returns-clause-whole
-returns-clause-whole c back h = front_and_back (view_units c.args.self.now) _ back c.args.end (returns-clause-units c) h
+    let part : IsFront (view_units c.args.self.now) c.args.end (view_units c.from_well_formed.result) =
+    record { front = cut.front; back = cut.back; splits = cut.splits; same_units = ap units (sym points) } in
+    record { units = part; bytes = search rules; whole = λ back h. front_and_back (view_units c.args.self.now) _ back c.args.end part h }

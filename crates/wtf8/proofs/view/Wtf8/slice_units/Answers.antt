@@ -1,6 +1,4 @@
-use Rattle.std.proofs.Common.{◌∙◌, [], ◌++◌, ap, sym, length, take, arith, length-take}
-use Rattle.std.proofs.lemmas.List.{drop_all}
-use Rattle.wtf8.specs.Unicode.{units}
+use Rattle.wtf8.proofs.Common.{◌∙◌, [], ◌++◌, ap, sym, length, take, arith, length-take, drop_all, units}
 use Rattle.wtf8.proofs.lemmas.Readings.{no_points}
 use Rattle.wtf8.proofs.view.Wtf8.slice_units.Goals as goal
 

@@ -1,7 +1,4 @@
-use Rattle.std.proofs.Common.{◌∷◌, ◌++◌, ◌∙◌, ap, sym, subst}
-use Rattle.std.specs.Str.{IsUtf8}
-use Rattle.wtf8.specs.Form.{bytes}
-use Rattle.wtf8.specs.Surrogates.{lossy}
+use Rattle.wtf8.proofs.Common.{◌∙◌, ap, sym, subst, IsUtf8, bytes}
 use Rattle.wtf8.proofs.lemmas.Lossy.{lossy-scalar}
 use Rattle.wtf8.proofs.lemmas.Readings.{moved, same_points}
 use Rattle.wtf8.proofs.lemmas.Replacement.{parted}
@@ -20,18 +17,13 @@ pub split_at-requires-2 : goal.split_at-requires-2
 split_at-requires-2 c = (parted c.args.self.well_formed c.in-Some.place c.in-Some.ensures).within
 
 pub from_utf8_unchecked-text-requires : goal.from_utf8_unchecked-text-requires
-from_utf8_unchecked-text-requires c =
-    subst IsUtf8 (sym c.split_at.ensures.front) (parted c.args.self.well_formed c.in-Some.place c.in-Some.ensures).text
+from_utf8_unchecked-text-requires c = subst IsUtf8 (sym c.split_at.ensures.front) (parted c.args.self.well_formed c.in-Some.place c.in-Some.ensures).text
 
 pub invariant_of-result : goal.invariant_of-result
-invariant_of-result c =
-    record { well_formed = moved (parted c.args.self.well_formed c.in-Some.place c.in-Some.ensures).rest c.split_at-2.ensures.back }
+invariant_of-result c = record { well_formed = moved (parted c.args.self.well_formed c.in-Some.place c.in-Some.ensures).rest c.split_at-2.ensures.back }
 
 pub returns-clause-some : goal.returns-clause-some
 returns-clause-some c =
-    let h = c.args.self.well_formed in
-    let parts = parted h c.in-Some.place c.in-Some.ensures in
+    let parts = parted c.args.self.well_formed c.in-Some.place c.in-Some.ensures in
     let text = c.from_utf8_unchecked-text.ensures ∙ c.split_at.ensures.front in
-    let rest = same_points c.result-1.given.0 parts.rest c.split_at-2.ensures.back in
-    parts.lossy_parts ∙ (ap (λ t. t ++ bytes (0xFFFD ∷ lossy parts.rest.points)) (sym text)
-    ∙ ap (λ r. c.from_utf8_unchecked-text.result.now ++ bytes (0xFFFD ∷ lossy r)) (sym rest))
+    parts.lossy_parts ∙ simp (text, same_points c.result-1.given.0 parts.rest c.split_at-2.ensures.back)

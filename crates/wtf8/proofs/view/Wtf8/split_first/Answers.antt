@@ -1,14 +1,6 @@
-use Rattle.std.proofs.Common.{◌≡◌, ℕ, List, ◌++◌, ◌∙◌, ◌∷◌, length, arith, ap, sym, subst}
-use Rattle.std.proofs.lemmas.Bool.Decides.{nat_tests}
+use Rattle.wtf8.proofs.Common.{◌≡◌, ℕ, List, ◌++◌, ◌∙◌, ◌∷◌, length, arith, ap, sym, subst, nat_tests, number, encoding, IsCodePoint}
 use Rattle.wtf8.proofs.lemmas.Readings.{no_points, first_of, taken, same_points}
-use Rattle.wtf8.specs.CodePoint.{number}
-use Rattle.wtf8.specs.Form.{encoding}
-use Rattle.wtf8.specs.Unicode.{IsCodePoint}
 use Rattle.wtf8.proofs.view.Wtf8.split_first.Goals as goal
-
--- a code point and its width were read at the front of bytes
-abbrev Told : List ℕ → ℕ → ℕ → Type 0
-Told w p n = (q : ℕ) (rest : List ℕ) → IsCodePoint q → w ≡ encoding q ++ rest → (p ≡ q) × (n ≡ length (encoding q))
 
 pub returns-then-is_empty-clause-none : goal.returns-then-is_empty-clause-none
 returns-then-is_empty-clause-none c = no_points c.args.self.well_formed (grind (arith, nat_tests))
@@ -18,18 +10,16 @@ read-width-requires c = (first_of c.args.self.well_formed (grind (arith, nat_tes
 
 pub split_at-requires : goal.split_at-requires
 split_at-requires c =
-    let told = subst (Told c.args.self.bytes.now (number c.read-width.result.0)) c.if-width-eq1.true c.read-width.ensures in
-    (taken c.args.self.well_formed (number c.read-width.result.0) 1 (grind (arith, nat_tests)) told).within
+    (taken c.args.self.well_formed (number c.read-width.result.0) 1 (grind (arith, nat_tests)) (rw c.if-width-eq1.true at c.read-width.ensures)).within
 
 pub invariant_of-result : goal.invariant_of-result
 invariant_of-result c =
-    let told = subst (Told c.args.self.bytes.now (number c.read-width.result.0)) c.if-width-eq1.true c.read-width.ensures in
-    let t = taken c.args.self.well_formed (number c.read-width.result.0) 1 (grind (arith, nat_tests)) told in
-    record { well_formed = rw c.split_at.ensures.back t.rest }
+    let told = rw c.if-width-eq1.true at c.read-width.ensures in
+    record { well_formed = rw c.split_at.ensures.back (taken c.args.self.well_formed (number c.read-width.result.0) 1 (grind (arith, nat_tests)) told).rest }
 
 pub returns-then-width-eq1-clause-some : goal.returns-then-width-eq1-clause-some
 returns-then-width-eq1-clause-some c =
-    let told = subst (Told c.args.self.bytes.now (number c.read-width.result.0)) c.if-width-eq1.true c.read-width.ensures in
+    let told = rw c.if-width-eq1.true at c.read-width.ensures in
     let t = taken c.args.self.well_formed (number c.read-width.result.0) 1 (grind (arith, nat_tests)) told in
     t.joined ∙ ap (λ r. number c.read-width.result.0 ∷ r) (same_points t.rest c.result-1.given.0 (sym c.split_at.ensures.back))
 

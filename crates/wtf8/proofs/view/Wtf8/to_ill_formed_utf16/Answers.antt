@@ -1,5 +1,4 @@
-use Rattle.std.proofs.Common.{◌++◌, length, ap, arith}
-use Rattle.wtf8.specs.Unicode.{units}
+use Rattle.wtf8.proofs.Common.{◌++◌, length, ap, arith, units}
 use Rattle.wtf8.proofs.view.Wtf8.to_ill_formed_utf16.Goals as goal
 
 pub returns-clause-fits : goal.returns-clause-fits

@@ -1,6 +1,4 @@
-use Rattle.std.proofs.Common.{ap, sym, ◌∙◌, subst, refl}
-use Rattle.std.specs.Str.{IsUtf8}
-use Rattle.wtf8.specs.Form.{bytes}
+use Rattle.wtf8.proofs.Common.{ap, sym, ◌∙◌, subst, refl, IsUtf8, bytes}
 use Rattle.wtf8.proofs.lemmas.Lossy.{utf8_lossy_points, lossy-scalar}
 use Rattle.wtf8.proofs.lemmas.Readings.{moved}
 use Rattle.wtf8.proofs.view.Wtf8.to_string_lossy.Goals as goal
@@ -17,5 +15,4 @@ from_utf8_unchecked-requires g c =
 
 pub returns-clause-text : goal.returns-clause-text
 returns-clause-text g c =
-    let h = c.args.self.now.well_formed in
-    ap (λ v. v.items) c.from_utf8_unchecked.ensures.value ∙ c.replace_surrogates.ensures (moved h c.in_ok-bytes.ensures.items)
+    ap (λ v. v.items) c.from_utf8_unchecked.ensures.value ∙ c.replace_surrogates.ensures (moved c.args.self.now.well_formed c.in_ok-bytes.ensures.items)

@@ -1,7 +1,4 @@
-use Rattle.std.proofs.Common.{◌∙◌, Some, ap, sym, subst}
-use Rattle.std.specs.List.{slice_get}
-use Rattle.wtf8.specs.Unicode.{units}
-use Rattle.wtf8.specs.UnitCounts.{CutsUnits}
+use Rattle.wtf8.proofs.Common.{◌∙◌, Some, ap, sym, subst, slice_get, units, CutsUnits}
 use Rattle.wtf8.proofs.lemmas.Positions.{points_behind}
 use Rattle.wtf8.proofs.lemmas.UnitCuts.{undivided, divided}
 use Rattle.wtf8.proofs.view.Wtf8.unit_at.Goals as goal

@@ -1,9 +1,6 @@
-use Rattle.std.proofs.Common.{◌∙◌, ◌+◌, [], ◌∷◌, ◌++◌, ap, sym, subst}
-use Rattle.wtf8.specs.Unicode.{units}
-use Rattle.wtf8.specs.UnitCounts.{CutsUnits}
+use Rattle.wtf8.proofs.Common.{◌∙◌, ◌+◌, [], ◌∷◌, ◌++◌, ap, sym, subst, units, CutsUnits}
 use Rattle.wtf8.proofs.lemmas.Positions.{boundary_of, points_behind}
 use Rattle.wtf8.proofs.lemmas.UnitCuts.{undivided, divided}
-use Rattle.wtf8.proofs.lemmas.Units.{trail_of}
 use Rattle.wtf8.proofs.view.Wtf8.units_behind.Goals as goal
 
 pub slice_from-requires-in-Some-divided : goal.slice_from-requires-in-Some-divided
@@ -27,5 +24,4 @@ returns-in-Some-divided c =
     let x = subst (CutsUnits h.points c.args.n k) c.in-Some-divided.is c.in-Some.ensures.some in
     let rest = points_behind h c.slice_from-in-Some-divided.result.well_formed (x.front ++ c.in-Some-divided.value ∷ []) x.counted.rest (k + 4)
     (divided x).pushed (divided x).pushed_len c.slice_from-in-Some-divided.ensures.bytes in
-    ap (λ t. t ∷ units c.slice_from-in-Some-divided.result.well_formed.points) c.trail_of.ensures
-    ∙ (ap (λ d. trail_of c.in-Some-divided.value ∷ units d) rest ∙ sym (divided x).behind)
+    rw (c.trail_of.ensures, rest) (sym (divided x).behind)
