@@ -1,4 +1,5 @@
 mod Answering
 mod Counting
 mod Digits
+mod Four
 mod Splitting

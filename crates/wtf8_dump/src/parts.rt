@@ -10,6 +10,9 @@ use std::simd::prelude::*;
 // How many bytes are searched for a newline together.
 const LANES: usize = 32;
 
+// How many bytes of a word are searched for a space together: most words are so long.
+const SHORT_LANES: usize = 4;
+
 /// The lines of an input, in order, each without its newline. What follows the last newline is a line too if it is not
 /// empty.
 #[derive(Drop)]
@@ -41,7 +44,12 @@ impl<'a> Iterator for Lines<'a> {
         if self.rest.is_empty() {
             return None;
         }
-        let (line, after) = split_first_part(self.rest, b'\n', skip_blocks(self.rest, b'\n'));
+        let from = if self.rest[0] == b'\n' {
+            0
+        } else {
+            skip_blocks(self.rest, b'\n')
+        };
+        let (line, after) = split_first_part(self.rest, b'\n', from);
         self.rest = after.unwrap_or(&[]);
         Some(line)
     }
@@ -76,7 +84,7 @@ impl<'a> Iterator for Words<'a> {
 
     fn next(&mut self) -> Option<&'a [u8]> {
         let rest = self.rest?;
-        let (word, after) = split_first_part(rest, b' ', 0);
+        let (word, after) = split_first_part(rest, b' ', skip_short_block(rest, b' '));
         self.rest = after;
         Some(word)
     }
@@ -100,6 +108,22 @@ fn split_first_part(bytes: &[u8], separator: u8, from: usize) -> (&[u8], Option<
     (bytes, None)
 }
 
+// How many bytes at the front hold no separator: those of a short block, or none.
+#[inline(always)]
+fn skip_short_block(bytes: &[u8], separator: u8) -> usize
+    ensures within { result ≤ length bytes.now }
+    ensures none { All (λ byte. (byte == separator) ≡ false) (take result bytes.now) }
+{
+    if bytes.len() < SHORT_LANES {
+        return 0;
+    }
+    let block = u8x4::from_slice(bytes);
+    if block.simd_eq(u8x4::splat(separator)).to_bitmask() != 0 {
+        return 0;
+    }
+    SHORT_LANES
+}
+
 // How many bytes at the front hold no separator, as far as blocks of so many bytes tell.
 fn skip_blocks(bytes: &[u8], separator: u8) -> usize
     ensures within { result ≤ length bytes.now }
@@ -108,8 +132,9 @@ fn skip_blocks(bytes: &[u8], separator: u8) -> usize
     let mut at = 0;
     while LANES <= bytes.len() - at {
         let block = u8x32::from_slice(&bytes[at..]);
-        if block.simd_eq(u8x32::splat(separator)).to_bitmask() != 0 {
-            return at;
+        let found = block.simd_eq(u8x32::splat(separator)).to_bitmask();
+        if found != 0 {
+            return at + found.trailing_zeros() as usize;
         }
         at += LANES;
     }

@@ -1,0 +1,29 @@
+-- Four hexadecimal digits, by a table of their values.
+use Rattle.std.proofs.Common.{◌≡◌, ℕ, ◌+◌, ◌*◌, ◌<◌, List, [], ◌∷◌, length, get_or, Some, refl, sym, ap, ◌∙◌, arith, true, map}
+use Rattle.std.proofs.lemmas.Bool.{lt-ltb}
+use Rattle.std.proofs.lemmas.List.FromFn.{get_or-map-range_with_len}
+use Rattle.std.specs.List.{range_with_len}
+use Rattle.std.specs.Char.{digit_value, is_digit}
+use Rattle.std.specs.Str.Parse.{digits_value}
+use Rattle.wtf8_dump.specs.Word.{bounded_number}
+use Rattle.wtf8_dump.specs.declared.word.TheConstants.{VALUES}
+
+-- the table has the value of each byte
+table : VALUES ≡ map digit_value (range_with_len 0 256)
+table = refl
+
+pub value_in_table : (byte : ℕ) → byte < 256 → get_or VALUES byte 0 ≡ digit_value byte
+value_in_table byte small = ap (λ values. get_or values byte 0) table ∙ get_or-map-range_with_len digit_value 0 256 byte byte 0 small (omega arith)
+
+-- a word of four digits spells this number
+pub four_digits : (word : List ℕ) → length word ≡ 4 → digit_value (get_or word 0 0) < 16 → digit_value (get_or word 1 0) < 16
+    → digit_value (get_or word 2 0) < 16 → digit_value (get_or word 3 0) < 16
+    → bounded_number 16 4 6 word
+    ≡ Some (((digit_value (get_or word 0 0) * 16 + digit_value (get_or word 1 0)) * 16 + digit_value (get_or word 2 0)) * 16 + digit_value (get_or word 3 0))
+four_digits [] e first second third fourth = absurd (omega arith)
+four_digits (a ∷ []) e first second third fourth = absurd (omega (arith, e))
+four_digits (a ∷ b ∷ []) e first second third fourth = absurd (omega (arith, e))
+four_digits (a ∷ b ∷ c ∷ []) e first second third fourth = absurd (omega (arith, e))
+four_digits (a ∷ b ∷ c ∷ d ∷ f ∷ w) e first second third fourth = absurd (omega (arith, e))
+four_digits (a ∷ b ∷ c ∷ d ∷ []) e first second third fourth =
+    rw (lt-ltb (digit_value a) 16 first, lt-ltb (digit_value b) 16 second, lt-ltb (digit_value c) 16 third, lt-ltb (digit_value d) 16 fourth) (ap Some (omega arith))
