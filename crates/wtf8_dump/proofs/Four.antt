@@ -1,6 +1,7 @@
 -- Four hexadecimal digits, by a table of their values.
-use Rattle.std.proofs.Common.{◌≡◌, ℕ, ◌+◌, ◌*◌, ◌<◌, List, [], ◌∷◌, length, get_or, Some, refl, sym, ap, ◌∙◌, arith, true, map}
-use Rattle.std.proofs.lemmas.Bool.{lt-ltb}
+use Rattle.std.proofs.Common.{◌≡◌, ℕ, ◌+◌, ◌*◌, ◌<◌, List, [], ◌∷◌, length, get_or, Some, subst, refl, sym, ap, ◌∙◌, arith, true, false, ◌==◌, All, zero, suc, map}
+use Rattle.std.proofs.lemmas.Bool.{lt-ltb, ne_eqb}
+use Rattle.std.proofs.lemmas.List.Elements.{All-from_get_or}
 use Rattle.std.proofs.lemmas.List.FromFn.{get_or-map-range_with_len}
 use Rattle.std.specs.List.{range_with_len}
 use Rattle.std.specs.Char.{digit_value, is_digit}
@@ -27,3 +28,19 @@ four_digits (a ∷ b ∷ c ∷ []) e first second third fourth = absurd (omega (
 four_digits (a ∷ b ∷ c ∷ d ∷ f ∷ w) e first second third fourth = absurd (omega (arith, e))
 four_digits (a ∷ b ∷ c ∷ d ∷ []) e first second third fourth =
     rw (lt-ltb (digit_value a) 16 first, lt-ltb (digit_value b) 16 second, lt-ltb (digit_value c) 16 third, lt-ltb (digit_value d) 16 fourth) (ap Some (omega arith))
+
+-- a digit is no space
+no_space : (byte : ℕ) → digit_value byte < 16 → (byte == 32) ≡ false
+no_space byte small = ne_eqb byte 32 (λ is. absurd (omega (arith, subst (λ b. digit_value b < 16) is small)))
+
+each : (word : List ℕ) → length word ≡ 4 → digit_value (get_or word 0 0) < 16 → digit_value (get_or word 1 0) < 16
+    → digit_value (get_or word 2 0) < 16 → digit_value (get_or word 3 0) < 16 → (k : ℕ) → k < length word → (get_or word k 0 == 32) ≡ false
+each word long first second third fourth zero lt = no_space _ first
+each word long first second third fourth (suc zero) lt = no_space _ second
+each word long first second third fourth (suc (suc zero)) lt = no_space _ third
+each word long first second third fourth (suc (suc (suc zero))) lt = no_space _ fourth
+each word long first second third fourth (suc (suc (suc (suc k)))) lt = absurd (omega arith)
+
+pub four_no_space : (word : List ℕ) → length word ≡ 4 → digit_value (get_or word 0 0) < 16 → digit_value (get_or word 1 0) < 16
+    → digit_value (get_or word 2 0) < 16 → digit_value (get_or word 3 0) < 16 → All (λ byte. (byte == 32) ≡ false) word
+four_no_space word long first second third fourth = All-from_get_or (λ byte. (byte == 32) ≡ false) word 0 (each word long first second third fourth)

@@ -78,3 +78,10 @@ none_before_lowest separator bytes at n mask room few before is some =
       none_further separator bytes at (count_trailing_zeros 64 mask) (omega (arith, within)) before
           (run_in_chunk_fails p bytes at n (count_trailing_zeros 64 mask) 0 room counted),
     )
+
+-- a part in front of a separator is the first
+pub slice_split_front : (p : ℕ → Bool) (bytes front behind after : List ℕ) → bytes ≡ front ++ behind → 0 < length behind → p (get_or behind 0 0) ≡ true
+    → after ≡ drop 1 behind → All (λ b. p b ≡ false) front → slice_split p bytes ≡ front ∷ slice_split p after
+slice_split_front p bytes front [] after whole some is rest none = absurd (omega arith)
+slice_split_front p bytes front (x ∷ xs) after whole some is rest none =
+    ap (slice_split p) whole ∙ slice_split_at p front x xs none is ∙ ap (λ r. front ∷ slice_split p r) (sym rest)

@@ -5,6 +5,8 @@ ghost use Rattle.wtf8.specs.Building.{Run};
 ghost use Rattle.wtf8.specs.Hex.{hex};
 ghost use Rattle.wtf8_dump.specs.Dump.{IsAnswer, note};
 ghost use Rattle.wtf8_dump.specs.Lines.{words};
+ghost use Rattle.wtf8_dump.specs.Parts.{words_left};
+ghost use Rattle.wtf8_dump.specs.Reading.{TakesCalls};
 ghost use Rattle.wtf8_dump.specs.Word.{IsCall, IsNoCall};
 
 use crate::parts::Words;
@@ -65,7 +67,12 @@ impl<A: Allocator + Copy> Workspace<A> {
         self.string.clear();
         self.calls.clear();
         let mut refused = 0;
-        for word in Words::new(line) {
+        let mut words = Words::new(line);
+        loop {
+            add_short_words(&mut words, &mut self.calls)?;
+            let Some(word) = words.next() else {
+                break;
+            };
             let Some(call) = word::read_call(word) else {
                 return Ok(None);
             };
@@ -100,6 +107,24 @@ impl<A: Allocator + Copy> Workspace<A> {
         self.calls.clear();
         Ok(refused)
     }
+}
+
+// Puts the calls of words of four digits behind those that wait, as long as such a word comes next and there is room
+// for one more call behind its own.
+#[inline(always)]
+fn add_short_words<A: Allocator>(
+    words: &mut Words<'_>,
+    calls: &mut Vec<Build<'static>, A>,
+) -> Result<(), AllocError>
+    ensures { OnOk result (TakesCalls (words_left words.old) calls.old.items (words_left words.new) calls.new.items) }
+{
+    while calls.len() < CALLS - 1 {
+        let Some(point) = words.next_short_point() else {
+            return Ok(());
+        };
+        calls.push(Build::Push(point))?;
+    }
+    Ok(())
 }
 
 /// The answer to a line by itself.

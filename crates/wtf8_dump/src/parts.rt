@@ -1,11 +1,14 @@
 // The lines of an input and the words of a line.
-ghost use Rattle.std.specs.Prelude.{◌≡◌, ◌==◌, ◌≤◌, [], ◌∷◌, false, length, take, IfNone};
+ghost use Rattle.std.specs.Prelude.{◌≡◌, ◌==◌, ◌≤◌, [], ◌∷◌, false, length, take, IfSome, IfNone};
 ghost use Rattle.std.specs.List.{All, slice_split};
 ghost use Rattle.std.specs.Option.{option_map_or};
 ghost use Rattle.std.specs.Iterator.{YieldsFirstRef, item_count};
 ghost use Rattle.wtf8_dump.specs.Lines.{lines, words};
+ghost use Rattle.wtf8_dump.specs.Reading.{IsNextPoint};
 
+use crate::word;
 use std::simd::prelude::*;
+use wtf8::CodePoint;
 
 // How many bytes are searched for a newline together.
 const LANES: usize = 32;
@@ -71,6 +74,20 @@ impl<'a> Words<'a> {
         let rest = if line.is_empty() { None } else { Some(line) };
         Words { rest }
     }
+
+    /// The code point of the next word where that has four hexadecimal digits, and the word is then given. Any other word
+    /// stays.
+    #[inline(always)]
+    pub fn next_short_point(&mut self) -> Option<CodePoint>
+        ensures some { IfSome result (λ point. IsNextPoint (words_left self.old) point (words_left self.new)) }
+        ensures none { IfNone result (words_left self.new ≡ words_left self.old) }
+    {
+        let Some((point, after)) = split_short_point(self.rest?) else {
+            return None;
+        };
+        self.rest = after;
+        Some(point)
+    }
 }
 
 impl<'a> Iterator for Words<'a> {
@@ -88,6 +105,28 @@ impl<'a> Iterator for Words<'a> {
         self.rest = after;
         Some(word)
     }
+}
+
+// The code point of the first word of some bytes where that has four hexadecimal digits, and the bytes after its space
+// where there is one.
+#[inline(always)]
+fn split_short_point(bytes: &[u8]) -> Option<(CodePoint, Option<&[u8]>)>
+    ensures { IfSome result (λ x. IsNextPoint (slice_split (λ byte. byte == 32) bytes.now) x.0
+        (option_map_or (λ rest. slice_split (λ byte. byte == 32) rest.now) x.1 [])) }
+{
+    if bytes.len() < SHORT_LANES {
+        return None;
+    }
+    let (word, behind) = bytes.split_at(SHORT_LANES);
+    let point = word::read_short_point(word)?;
+    if behind.is_empty() {
+        return Some((point, None));
+    }
+    if behind[0] != b' ' {
+        return None;
+    }
+    let (_, after) = behind.split_at(1);
+    Some((point, Some(after)))
 }
 
 // The bytes before the first separator, and those after it where there is one. None stands before `from`.

@@ -1,6 +1,7 @@
 // What a word stands for.
-ghost use Rattle.std.specs.Prelude.{◌≡◌, ◌≤◌, ◌<◌, ◌^◌, length, option_map, Some, IfSome, IfNone};
+ghost use Rattle.std.specs.Prelude.{◌≡◌, ◌==◌, false, ◌≤◌, ◌<◌, ◌^◌, length, option_map, Some, IfSome, IfNone};
 ghost use Rattle.std.specs.Char.{digit_value};
+ghost use Rattle.std.specs.List.{All};
 ghost use Rattle.wtf8.specs.CodePoint.{number};
 ghost use Rattle.wtf8_dump.specs.Word.{number_in, bounded_number, number_behind, point_of, IsCall, IsNoCall};
 
@@ -46,16 +47,26 @@ pub fn read_call(word: &[u8]) -> Option<Build<'static>>
 fn read_point(word: &[u8]) -> Option<CodePoint>
     ensures { option_map number result ≡ point_of word.now }
 {
-    if let Some(number) = read_four_digits(word) {
-        return CodePoint::from_u32(number);
+    if let Some(point) = read_short_point(word) {
+        return Some(point);
     }
     CodePoint::from_u32(read_bounded_number(word, HEXADECIMAL, 4, 6)?)
+}
+
+/// The code point that a word of four hexadecimal digits stands for, or `None` for any other word.
+#[inline(always)]
+pub fn read_short_point(word: &[u8]) -> Option<CodePoint>
+    ensures point { IfSome result (λ point. point_of word.now ≡ Some (number point)) }
+    ensures no_space { IfSome result (λ _. All (λ byte. (byte == 32) ≡ false) word.now) }
+{
+    CodePoint::from_u32(read_four_digits(word)?)
 }
 
 // The number that a word of four hexadecimal digits spells. All four are looked up before any is tested.
 #[inline(always)]
 fn read_four_digits(word: &[u8]) -> Option<u32>
-    ensures { IfSome result (λ n. bounded_number 16 4 6 word.now ≡ Some n) }
+    ensures number { IfSome result (λ n. bounded_number 16 4 6 word.now ≡ Some n) }
+    ensures no_space { IfSome result (λ _. All (λ byte. (byte == 32) ≡ false) word.now) }
 {
     let [first, second, third, fourth] = word else {
         return None;

@@ -1,0 +1,11 @@
+use Rattle.wtf8_dump.specs.Parts.{words_left}
+use Rattle.wtf8_dump.proofs.Counting.{takes_none, takes_more}
+use Rattle.wtf8_dump.proofs.line.add_short_words.Goals as goal
+
+pub loop-words-init : goal.loop-words-init
+loop-words-init g c = takes_none (words_left c.args.words.now) c.args.calls.now.items
+
+pub loop-words-preserved : goal.loop-words-preserved
+loop-words-preserved g c =
+    takes_more (words_left c.args.words.now) c.args.calls.now.items (words_left c.loop-words.words) c.loop-words.calls.items c.in-Some.point
+    (words_left c.next_short_point.new.self) c.push.new.self.items c.loop-words.invariant c.in-Some.ensures.some c.in_ok-push.ensures.items
