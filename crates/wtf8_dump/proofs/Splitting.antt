@@ -1,7 +1,7 @@
 -- Splitting at the first separator.
 use Rattle.std.proofs.Common.{◌≡◌, ◌≢◌, ℕ, ◌+◌, ◌<◌, ◌≤◌, subst, arith, length-take-le, ◌==◌, Bool, true, false, List, [], ◌∷◌, ◌++◌, length, get_or, take}
 use Rattle.std.proofs.Common.{drop, All, refl, sym, ap, ◌∙◌, inl, inr, take-append-drop, Option, Some, None, IfNone, unwrap_or}
-use Rattle.std.proofs.Common.{map, not}
+use Rattle.std.proofs.Common.{map, not, eq-eqb}
 use Rattle.std.specs.Borrow.{Bor}
 use Rattle.std.specs.List.{slice_split, onto_first, prefix_len}
 use lib.Count.{count_trailing_zeros}
@@ -85,3 +85,10 @@ pub slice_split_front : (p : ℕ → Bool) (bytes front behind after : List ℕ)
 slice_split_front p bytes front [] after whole some is rest none = absurd (omega arith)
 slice_split_front p bytes front (x ∷ xs) after whole some is rest none =
     ap (slice_split p) whole ∙ slice_split_at p front x xs none is ∙ ap (λ r. front ∷ slice_split p r) (sym rest)
+
+-- an empty line in front of the others
+pub lines_empty : (bytes rest : List ℕ) → 0 < length bytes → get_or bytes 0 0 ≡ 10 → rest ≡ drop 1 bytes → lines bytes ≡ [] ∷ lines rest
+lines_empty bytes rest some is after =
+    let more = some_part (λ b. b == 10) rest in
+    let split = slice_split_front (λ b. b == 10) bytes [] bytes rest refl some (eq-eqb (get_or bytes 0 0) 10 is) after (λ k d lt. absurd (omega (arith, lt))) in
+    ap without_empty_end (split ∙ ap (λ parts. [] ∷ parts) more.2) ∙ kept_before [] more.0 more.1 ∙ ap (λ parts. [] ∷ without_empty_end parts) (sym more.2)

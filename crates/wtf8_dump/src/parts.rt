@@ -1,5 +1,5 @@
 // The lines of an input and the words of a line.
-ghost use Rattle.std.specs.Prelude.{◌≡◌, ◌==◌, ◌≤◌, [], ◌∷◌, false, length, take, IfSome, IfNone};
+ghost use Rattle.std.specs.Prelude.{◌≡◌, ◌==◌, ◌≤◌, ◌<◌, [], ◌∷◌, false, length, take, IfSome, IfNone};
 ghost use Rattle.std.specs.List.{All, slice_split};
 ghost use Rattle.std.specs.Option.{option_map_or};
 ghost use Rattle.std.specs.Iterator.{YieldsFirstRef, item_count};
@@ -47,13 +47,8 @@ impl<'a> Iterator for Lines<'a> {
         if self.rest.is_empty() {
             return None;
         }
-        let from = if self.rest[0] == b'\n' {
-            0
-        } else {
-            skip_blocks(self.rest, b'\n')
-        };
-        let (line, after) = split_first_part(self.rest, b'\n', from);
-        self.rest = after.unwrap_or(&[]);
+        let (line, after) = split_first_line(self.rest);
+        self.rest = after;
         Some(line)
     }
 }
@@ -105,6 +100,20 @@ impl<'a> Iterator for Words<'a> {
         self.rest = after;
         Some(word)
     }
+}
+
+// The first line of some bytes and the bytes after its newline.
+#[inline(always)]
+fn split_first_line(bytes: &[u8]) -> (&[u8], &[u8])
+    requires { 0 < length bytes.now }
+    ensures { lines bytes.now ≡ result.0.now ∷ lines result.1.now }
+{
+    if bytes[0] == b'\n' {
+        let (_, after) = bytes.split_at(1);
+        return (&[], after);
+    }
+    let (line, after) = split_first_part(bytes, b'\n', skip_blocks(bytes, b'\n'));
+    (line, after.unwrap_or(&[]))
 }
 
 // The code point of the first word of some bytes where that has four hexadecimal digits, and the bytes after its space
