@@ -50,6 +50,14 @@ impl<A: Allocator + Copy> Workspace<A> {
         if line.is_empty() {
             return Ok(());
         }
+        self.push_words_answer(line, out)
+    }
+
+    // Appends the answer to a line by its words. It stands by itself, so that an empty line costs little.
+    #[inline(never)]
+    fn push_words_answer(&mut self, line: &[u8], out: &mut Vec<u8, A>) -> Result<(), AllocError>
+        ensures { OnOk result ((answer : List ℕ) × IsAnswer line.now answer × (out.new.items ≡ out.old.items ++ answer)) }
+    {
         let Some(refused) = self.build(line)? else {
             return Ok(out.push(b'?')?);
         };

@@ -15,23 +15,3 @@ pub returns-then-is_empty : goal.returns-then-is_empty
 returns-then-is_empty g c =
     let none = nil_from_length c.args.line.now (grind (arith, nat_tests)) in
     record { answer = ([], subst (λ line. IsAnswer line []) (sym none) empty_answer, sym (append-nil c.args.out.now.items)) }
-
-pub returns : goal.returns
-returns g c =
-    let built = MatchOption-at_some _ _ _ c.in-Some.is c.in_ok-refused.ensures in
-    let view = c.as_wtf8.result in
-    let n = c.in-Some.refused in
-    let v = c.build.new.self.string.units in
-    let form : IsForm view.bytes.now v = record {
-      points = view.well_formed.points;
-      reads =
-          record { clean = view.well_formed.clean; same_units = c.as_wtf8.ensures.units };
-      encoded = view.well_formed.encoded;
-    } in
-    record {
-      answer = on_ok_weaker c.push_dump_with_note.result (λ e. (
-        hex view.bytes.now ++ note view.bytes.now n,
-        dumped built.0 v n view.bytes.now built.1 built.2 form refl,
-        e,
-      )) c.push_dump_with_note.ensures;
-    }
