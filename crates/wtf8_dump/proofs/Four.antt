@@ -1,11 +1,10 @@
 -- Four hexadecimal digits, by a table of their values.
-use Rattle.std.proofs.Common.{◌≡◌, ℕ, ◌+◌, ◌*◌, ◌<◌, List, [], ◌∷◌, length, get_or, Some, subst, refl, sym, ap, ◌∙◌, arith, true, false, ◌==◌, All, zero, suc, map}
+use Rattle.std.proofs.Common.{◌≡◌, ℕ, ◌+◌, ◌*◌, ◌<◌, List, [], ◌∷◌, length, get_or, Some, subst, refl, ap, ◌∙◌, arith, false, ◌==◌, All, zero, suc, map}
 use Rattle.std.proofs.lemmas.Bool.{lt-ltb, ne_eqb}
 use Rattle.std.proofs.lemmas.List.Elements.{All-from_get_or}
 use Rattle.std.proofs.lemmas.List.FromFn.{get_or-map-range_with_len}
 use Rattle.std.specs.List.{range_with_len}
-use Rattle.std.specs.Char.{digit_value, is_digit}
-use Rattle.std.specs.Str.Parse.{digits_value}
+use Rattle.std.specs.Char.{digit_value}
 use Rattle.wtf8_dump.specs.Word.{bounded_number}
 use Rattle.wtf8_dump.specs.declared.word.TheConstants.{VALUES}
 

@@ -73,7 +73,7 @@ impl<'a> Words<'a> {
     /// The code point of the next word where that has four hexadecimal digits, and the word is then given. Any other word
     /// stays.
     #[inline(always)]
-    pub fn next_short_point(&mut self) -> Option<CodePoint>
+    pub(crate) fn next_short_point(&mut self) -> Option<CodePoint>
         ensures some { IfSome result (λ point. IsNextPoint (words_left self.old) point (words_left self.new)) }
         ensures none { IfNone result (words_left self.new ≡ words_left self.old) }
     {

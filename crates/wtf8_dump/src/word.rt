@@ -55,7 +55,7 @@ fn read_point(word: &[u8]) -> Option<CodePoint>
 
 /// The code point that a word of four hexadecimal digits stands for, or `None` for any other word.
 #[inline(always)]
-pub fn read_short_point(word: &[u8]) -> Option<CodePoint>
+pub(crate) fn read_short_point(word: &[u8]) -> Option<CodePoint>
     ensures point { IfSome result (λ point. point_of word.now ≡ Some (number point)) }
     ensures no_space { IfSome result (λ _. All (λ byte. (byte == 32) ≡ false) word.now) }
 {

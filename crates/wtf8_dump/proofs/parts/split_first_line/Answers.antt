@@ -1,4 +1,4 @@
-use Rattle.std.proofs.Common.{◌≢◌, ◌==◌, ℕ, List, [], length, ap, refl, arith}
+use Rattle.std.proofs.Common.{◌≢◌, [], length, ap, refl, arith}
 use Rattle.wtf8_dump.proofs.Splitting.{lines_step, lines_empty}
 use Rattle.wtf8_dump.proofs.parts.split_first_line.Goals as goal
 

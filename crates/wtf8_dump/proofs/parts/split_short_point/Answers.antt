@@ -1,4 +1,4 @@
-use Rattle.std.proofs.Common.{◌≡◌, ◌<◌, ◌++◌, ◌==◌, arith, length, eq-eqb, take-append-drop, subst, sym, All, false}
+use Rattle.std.proofs.Common.{◌≡◌, ◌<◌, ◌++◌, ◌==◌, arith, length, eq-eqb, take-append-drop}
 use Rattle.std.proofs.lemmas.Bool.Decides.{nat_tests}
 use Rattle.wtf8_dump.proofs.Splitting.{slice_split_front}
 use Rattle.wtf8_dump.proofs.parts.split_short_point.Goals as goal

@@ -1,4 +1,4 @@
-use Rattle.std.proofs.Common.{arith, ◌<◌, ◌≡◌, length}
+use Rattle.std.proofs.Common.{arith, ◌<◌}
 use Rattle.std.proofs.lemmas.Bool.Decides.{nat_tests}
 use Rattle.wtf8_dump.proofs.Four.{four_digits, four_no_space}
 use Rattle.wtf8_dump.proofs.word.read_four_digits.Goals as goal

@@ -1,4 +1,4 @@
-use Rattle.std.proofs.Common.{arith, ◌∙◌}
+use Rattle.std.proofs.Common.{arith}
 use Rattle.wtf8_dump.proofs.Four.{value_in_table}
 use Rattle.wtf8_dump.proofs.word.value_of.Goals as goal
 

@@ -1,4 +1,4 @@
-use Rattle.std.proofs.Common.{◌+◌, ◌∷◌, sym, ap, ◌∙◌, subst, arith, length, ◌≤◌}
+use Rattle.std.proofs.Common.{◌+◌, sym, ap, subst, arith, length, ◌≤◌}
 use Rattle.wtf8_dump.specs.Parts.{words_left}
 use Rattle.wtf8_dump.specs.Reading.{pushes}
 use Rattle.wtf8_dump.proofs.Counting.{Progress, progress_start, progress_takes, progress_more, progress_fits, progress_ends, progress_stops, takes_count}

@@ -1,11 +1,9 @@
-use Rattle.std.proofs.Common.{◌++◌, [], arith, refl, sym, subst}
-use Rattle.std.proofs.lemmas.Bool.Decides.{nat_tests}
-use Rattle.std.proofs.lemmas.List.{append-nil, nil_from_length}
+use Rattle.std.proofs.Common.{◌++◌, refl}
 use Rattle.std.proofs.lemmas.Option.{MatchOption-at_some}
 use Rattle.std.proofs.lemmas.Result.{on_ok_weaker}
 use Rattle.wtf8.specs.Form.{IsForm}
 use Rattle.wtf8.specs.Hex.{hex}
-use Rattle.wtf8_dump.specs.Dump.{IsAnswer, dumped, note}
+use Rattle.wtf8_dump.specs.Dump.{dumped, note}
 use Rattle.wtf8_dump.proofs.line.Workspace.push_words_answer.Goals as goal
 
 pub returns : goal.returns
