@@ -26,7 +26,10 @@ four_digits (a ∷ b ∷ []) e first second third fourth = absurd (omega (arith,
 four_digits (a ∷ b ∷ c ∷ []) e first second third fourth = absurd (omega (arith, e))
 four_digits (a ∷ b ∷ c ∷ d ∷ f ∷ w) e first second third fourth = absurd (omega (arith, e))
 four_digits (a ∷ b ∷ c ∷ d ∷ []) e first second third fourth =
-    rw (lt-ltb (digit_value a) 16 first, lt-ltb (digit_value b) 16 second, lt-ltb (digit_value c) 16 third, lt-ltb (digit_value d) 16 fourth) (ap Some (omega arith))
+    let a_small = lt-ltb (digit_value a) 16 first in
+    let b_small = lt-ltb (digit_value b) 16 second in
+    let c_small = lt-ltb (digit_value c) 16 third in
+    let d_small = lt-ltb (digit_value d) 16 fourth in rw (a_small, b_small, c_small, d_small) (ap Some (omega arith))
 
 -- a digit is no space
 no_space : (byte : ℕ) → digit_value byte < 16 → (byte == 32) ≡ false

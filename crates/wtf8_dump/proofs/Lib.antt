@@ -3,3 +3,4 @@ mod Counting
 mod Digits
 mod Four
 mod Splitting
+mod Waiting

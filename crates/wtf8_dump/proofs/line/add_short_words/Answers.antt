@@ -1,6 +1,6 @@
 use Rattle.wtf8_dump.specs.Parts.{words_left}
 use Rattle.wtf8_dump.specs.Reading.{pushes}
-use Rattle.wtf8_dump.proofs.Counting.{takes_none, takes_more, one_more_push}
+use Rattle.wtf8_dump.proofs.Waiting.{takes_none, takes_more, one_more_push}
 use Rattle.wtf8_dump.proofs.line.add_short_words.Goals as goal
 
 pub loop-words-init : goal.loop-words-init

@@ -1,4 +1,4 @@
-use Rattle.wtf8_dump.proofs.Counting.{extension_runs_before}
+use Rattle.wtf8_dump.proofs.Waiting.{extension_runs_before}
 use Rattle.wtf8_dump.proofs.line.apply_behind.Goals as goal
 
 pub returns : goal.returns

@@ -1,4 +1,4 @@
-use Rattle.wtf8_dump.proofs.Counting.{extension_runs}
+use Rattle.wtf8_dump.proofs.Waiting.{extension_runs}
 use Rattle.wtf8_dump.proofs.line.extend.Goals as goal
 
 pub returns : goal.returns

@@ -1,7 +1,8 @@
 use Rattle.std.proofs.Common.{◌+◌, sym, ap, subst, arith, length, ◌≤◌}
 use Rattle.wtf8_dump.specs.Parts.{words_left}
 use Rattle.wtf8_dump.specs.Reading.{pushes}
-use Rattle.wtf8_dump.proofs.Counting.{Progress, progress_start, progress_takes, progress_more, progress_fits, progress_ends, progress_stops, takes_count}
+use Rattle.wtf8_dump.proofs.Counting.{Progress, progress_start, progress_takes, progress_more, progress_fits, progress_ends, progress_stops}
+use Rattle.wtf8_dump.proofs.Waiting.{takes_count}
 use Rattle.wtf8_dump.proofs.line.Workspace.build.Goals as goal
 
 pub loop-words-init : goal.loop-words-init
@@ -23,8 +24,9 @@ loop-words-preserved g c =
 
 pub loop-words-smaller : goal.loop-words-smaller
 loop-words-smaller g c =
-    let fewer : length (words_left c.add_short_words.new.words) ≤ length (words_left c.loop-words.words) = takes_count (words_left c.loop-words.words)
-    (pushes c.loop-words.self.points.items) (words_left c.add_short_words.new.words) (pushes c.add_short_words.new.points.items) c.in_ok-add_short_words.ensures in
+    let fewer : length (words_left c.add_short_words.new.words) ≤ length (words_left c.loop-words.words) = takes_count
+    (words_left c.loop-words.words) (pushes c.loop-words.self.points.items) (words_left c.add_short_words.new.words)
+    (pushes c.add_short_words.new.points.items) c.in_ok-add_short_words.ensures in
     omega (arith, fewer, ap length c.in-Some.ensures.steps)
 
 pub overflow_add-refused : goal.overflow_add-refused
