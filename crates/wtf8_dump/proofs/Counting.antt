@@ -1,14 +1,16 @@
 -- How many truncations a run refuses, and how many words a line has.
 use Rattle.std.proofs.Common.{◌≡◌, ◌≤◌, ◌+◌, inl, inr, ℕ, List, [], ◌∷◌, ◌++◌, ◌==◌, length, refl, sym, ap, ◌∙◌, subst, arith, length-append, append_assoc}
 use Rattle.std.proofs.Common.{append-nil}
-use Rattle.std.specs.List.{AllZip}
+use Rattle.std.specs.List.{Any, AllZip}
+use Rattle.std.proofs.Math.Seq.{get_or-append_seam}
 use Rattle.std.proofs.lemmas.List.Sums.{count_by-le-length}
 use Rattle.std.proofs.lemmas.List.Splits.{length-slice_split}
 use Rattle.wtf8.specs.Building.{Step, Run}
 use Rattle.wtf8.specs.declared.build.Build.{Build}
 use Rattle.wtf8.specs.declared.build.Build.TheVariants.{Push, PushChar, PushStr, PushWtf8, Extend, Reserve, Truncate, TruncateUnits}
 use Rattle.wtf8_dump.specs.Lines.{words}
-use Rattle.wtf8_dump.specs.Word.{IsCall}
+use Rattle.wtf8_dump.specs.Reading.{TakesCalls}
+use Rattle.wtf8_dump.specs.Word.{IsCall, IsNoCall}
 use Rattle.wtf8.proofs.lemmas.RunLaws.{runs_add}
 use Rattle.wtf8_dump.proofs.Answering.{AllZip-one_more}
 
@@ -92,3 +94,39 @@ progress_end line waiting u n v m p run = (
       (sym (p.split ∙ append-nil p.front)) p.calls,
   runs_add [] u v p.done waiting n m p.run run,
 )
+
+AllZip-append : {A B : Type 0} (R : A → B → Type 0) (xs xs' : List A) (ys ys' : List B) → AllZip R xs ys → AllZip R xs' ys' → AllZip R (xs ++ xs') (ys ++ ys')
+AllZip-append R [] xs' [] ys' h more = more
+AllZip-append R [] xs' (y ∷ ys) ys' h more = absurd h
+AllZip-append R (x ∷ xs) xs' [] ys' h more = absurd h
+AllZip-append R (x ∷ xs) xs' (y ∷ ys) ys' h more = (h.0, AllZip-append R xs xs' ys ys' h.1 more)
+
+pub progress_takes : (line : List ℕ) (words : List (List ℕ)) (waiting : List Build) (u : List ℕ) (n : ℕ) (rest : List (List ℕ)) (later : List Build)
+    → Progress line words waiting u n → TakesCalls words waiting rest later → Progress line rest later u n
+progress_takes line words waiting u n rest later p t = record {
+  front = p.front ++ t.front;
+  done = p.done;
+  split = p.split ∙ ap (λ r. p.front ++ r) t.split ∙ sym (append_assoc p.front t.front rest);
+  calls = subst (AllZip IsCall (p.front ++ t.front)) (append_assoc p.done waiting t.more ∙ ap (λ calls. p.done ++ calls) (sym t.added))
+      (AllZip-append IsCall p.front t.front (p.done ++ waiting) t.more p.calls t.calls);
+  run = p.run;
+  bound = p.bound;
+}
+
+-- a word that stands for no call is one of the line's
+pub progress_stops : (line word : List ℕ) (rest : List (List ℕ)) (waiting : List Build) (u : List ℕ) (n : ℕ) → Progress line (word ∷ rest) waiting u n
+    → IsNoCall word → Any IsNoCall (words line)
+progress_stops line word rest waiting u n p none = subst (Any IsNoCall) (sym p.split) (
+  length p.front,
+  word,
+  omega (arith, length-append p.front (word ∷ rest)),
+  get_or-append_seam p.front word rest word,
+  none,
+)
+
+pub progress_ends : (line : List ℕ) (waiting : List Build) (u : List ℕ) (n : ℕ) (v : List ℕ) → Progress line [] waiting u n → Run u waiting v 0
+    → (calls : List Build) × AllZip IsCall (words line) calls × Run [] calls v n
+progress_ends line waiting u n v p run =
+    let whole = progress_end line waiting u n v 0 p run in
+    let same : n + 0 ≡ n = omega arith in
+    (whole.0, whole.1, subst (Run [] whole.0 v) same whole.2)

@@ -1,4 +1,6 @@
 mod Answering
 mod Counting
 mod Digits
+mod Four
 mod Splitting
+mod Waiting

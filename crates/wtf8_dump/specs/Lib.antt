@@ -3,4 +3,5 @@ pub mod Fault
 pub mod Known
 pub mod Lines
 pub mod Parts
+pub mod Reading
 pub mod Word

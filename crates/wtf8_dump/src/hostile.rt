@@ -33,14 +33,14 @@ fn hostile_lines_have_their_answers(rt: HostRuntime) -> Result<(), Fail> {
     Ok(())
 }
 
-/// Lines with their answers, and how many requests each makes: for the calls, which are kept four at first and then twice
-/// as many each time; for the string, of eight bytes at first; for the dump, all at once; and two for a count, one for its
-/// text and one for what is behind the dump.
+/// Lines with their answers, and how many requests each makes: for the code points that wait, which are kept four at first
+/// and then twice as many each time; for the string, of eight bytes at first; for the dump, all at once; and two for a
+/// count, one for its text and one for what is behind the dump.
 const REQUESTS: [(&str, &str, u64); 6] = [
     ("", "", 0),
     ("0061", "61", 3),
     ("D83D DCA9", "F0 9F 92 A9", 3),
-    ("-1", "!1", 3),
+    ("-1", "!1", 2),
     ("0061 00E9 0020 D83D DCA9", "61 C3 A9 20 F0 9F 92 A9", 4),
     ("?", "?", 1),
 ];
@@ -99,8 +99,8 @@ fn run_granted(
 
 #[test]
 fn a_run_answers_each_refusal(rt: HostRuntime) -> Result<(), Fail> {
-    // One for the input, one for the calls, one for the string, and one for the answers: 12 bytes, of which a newline is
-    // the last.
+    // One for the input, one for the code points that wait, one for the string, and one for the answers: 12 bytes, of which
+    // a newline is the last.
     for granted in 0..4 {
         let (answer, out, left) = run_granted(rt.alloc(), "D83D DCA9\n", granted)?;
         assert_eq!(rt; answer, Err(Fault::Memory), "with {granted} granted");

@@ -5,21 +5,23 @@ ghost use Rattle.wtf8.specs.Building.{Run};
 ghost use Rattle.wtf8.specs.Hex.{hex};
 ghost use Rattle.wtf8_dump.specs.Dump.{IsAnswer, note};
 ghost use Rattle.wtf8_dump.specs.Lines.{words};
+ghost use Rattle.wtf8_dump.specs.Parts.{words_left};
+ghost use Rattle.wtf8_dump.specs.Reading.{TakesCalls, pushes};
 ghost use Rattle.wtf8_dump.specs.Word.{IsCall, IsNoCall};
 
 use crate::parts::Words;
 use crate::word;
 use std::alloc::{AllocError, Allocator};
-use wtf8::{Build, Wtf8, Wtf8Buf};
+use wtf8::{Build, CodePoint, Stopped, Wtf8, Wtf8Buf};
 
-// How many calls are applied together.
-const CALLS: usize = 64;
+// How many code points wait together at most.
+const POINTS: usize = 64;
 
-/// What the answers to lines are worked out in, one line after another: room for some calls and for the string that they
-/// build. It is found once and kept for the lines that follow.
+/// What the answers to lines are worked out in, one line after another: room for some code points that wait to be pushed
+/// and for the string that the calls build. It is found once and kept for the lines that follow.
 #[derive(Drop)]
 pub struct Workspace<A: Allocator> {
-    calls: Vec<Build<'static>, A>,
+    points: Vec<CodePoint, A>,
     string: Wtf8Buf<A>,
     alloc: A,
 }
@@ -28,7 +30,7 @@ impl<A: Allocator + Copy> Workspace<A> {
     /// A workspace with no room yet. It asks for no memory.
     pub fn new(alloc: A) -> Workspace<A> {
         Workspace {
-            calls: Vec::new(alloc),
+            points: Vec::new(alloc),
             string: Wtf8Buf::new(alloc),
             alloc,
         }
@@ -48,6 +50,14 @@ impl<A: Allocator + Copy> Workspace<A> {
         if line.is_empty() {
             return Ok(());
         }
+        self.push_words_answer(line, out)
+    }
+
+    // Appends the answer to a line by its words. It stands by itself, so that an empty line costs little.
+    #[inline(never)]
+    fn push_words_answer(&mut self, line: &[u8], out: &mut Vec<u8, A>) -> Result<(), AllocError>
+        ensures { OnOk result ((answer : List ℕ) × IsAnswer line.now answer × (out.new.items ≡ out.old.items ++ answer)) }
+    {
         let Some(refused) = self.build(line)? else {
             return Ok(out.push(b'?')?);
         };
@@ -63,43 +73,101 @@ impl<A: Allocator + Copy> Workspace<A> {
     {
         prove!(line.len() < usize::MAX);
         self.string.clear();
-        self.calls.clear();
+        self.points.clear();
         let mut refused = 0;
-        for word in Words::new(line) {
+        let mut words = Words::new(line);
+        loop {
+            add_short_words(&mut words, &mut self.points)?;
+            let Some(word) = words.next() else {
+                break;
+            };
             let Some(call) = word::read_call(word) else {
                 return Ok(None);
             };
             refused += self.add_call(call)?;
         }
-        refused += self.apply_calls()?;
+        self.push_points()?;
         Ok(Some(refused))
     }
 
-    // Puts a call behind those that wait, applies them all where they are many, and answers how many truncations were
-    // refused.
+    // Does a call behind the pushes that wait, or lets it wait where it is a push too and they are not too many, and answers
+    // how many truncations were refused.
     fn add_call(&mut self, call: Build<'static>) -> Result<usize, AllocError>
-        ensures { IfOk result (λ refused. (applied : List Build) × (self.old.calls.items ++ call.entry ∷ [] ≡ applied ++ self.new.calls.items)
+        ensures { IfOk result (λ refused. (applied : List Build) × (pushes self.old.points.items ++ call.entry ∷ [] ≡ applied ++ pushes self.new.points.items)
             × Run self.old.string.units applied self.new.string.units refused × (refused ≤ length applied)) }
     {
-        self.calls.push(call)?;
-        if self.calls.len() < CALLS {
-            return Ok(0);
+        if let Build::Push(point) = call {
+            if self.points.len() < POINTS {
+                self.points.push(point)?;
+                return Ok(0);
+            }
         }
-        self.apply_calls()
-    }
-
-    // Applies the calls that wait to the string, forgets them, and answers how many truncations were refused.
-    fn apply_calls(&mut self) -> Result<usize, AllocError>
-        ensures run { IfOk result (λ refused. Run self.old.string.units self.old.calls.items self.new.string.units refused) }
-        ensures bound { IfOk result (λ refused. refused ≤ length self.old.calls.items) }
-        ensures none { OnOk result (self.new.calls.items ≡ []) }
-    {
-        let Ok(refused) = self.string.apply_all(self.calls.as_slice()) else {
-            return Err(AllocError);
-        };
-        self.calls.clear();
+        let refused = self.apply_calls(call)?;
         Ok(refused)
     }
+
+    // Does the pushes that wait and a call behind them, forgets them, and answers how many truncations were refused.
+    fn apply_calls(&mut self, call: Build<'static>) -> Result<usize, AllocError>
+        ensures run { IfOk result (λ refused. Run self.old.string.units (pushes self.old.points.items ++ call.entry ∷ []) self.new.string.units refused) }
+        ensures none { OnOk result (self.new.points.items ≡ []) }
+    {
+        let Ok(refused) = apply_behind(&mut self.string, self.points.as_slice(), call) else {
+            return Err(AllocError);
+        };
+        self.points.clear();
+        Ok(refused)
+    }
+
+    // Does the pushes that wait.
+    fn push_points(&mut self) -> Result<(), AllocError>
+        ensures { OnOk result (Run self.old.string.units (pushes self.old.points.items) self.new.string.units 0) }
+    {
+        if extend(&mut self.string, self.points.as_slice()).is_err() {
+            return Err(AllocError);
+        }
+        Ok(())
+    }
+}
+
+// Pushes code points and does a call behind them.
+fn apply_behind<A: Allocator>(
+    string: &mut Wtf8Buf<A>,
+    points: &[CodePoint],
+    call: Build<'_>,
+) -> Result<usize, Stopped>
+    ensures { IfOk result (λ refused. Run string.old.units (pushes points.now ++ call.entry ∷ []) string.new.units refused) }
+{
+    let extension = Build::Extend(points);
+    let calls = [extension, call];
+    let refused = string.apply_all(&calls)?;
+    Ok(refused)
+}
+
+// Pushes code points.
+fn extend<A: Allocator>(string: &mut Wtf8Buf<A>, points: &[CodePoint]) -> Result<(), Stopped>
+    ensures { OnOk result (Run string.old.units (pushes points.now) string.new.units 0) }
+{
+    let calls = [Build::Extend(points)];
+    string.apply_all(&calls)?;
+    Ok(())
+}
+
+// Lets the code points of words of four digits wait behind the others, as long as such a word comes next and they are not
+// too many.
+#[inline(always)]
+fn add_short_words<A: Allocator>(
+    words: &mut Words<'_>,
+    points: &mut Vec<CodePoint, A>,
+) -> Result<(), AllocError>
+    ensures { OnOk result (TakesCalls (words_left words.old) (pushes points.old.items) (words_left words.new) (pushes points.new.items)) }
+{
+    while points.len() < POINTS {
+        let Some(point) = words.next_short_point() else {
+            return Ok(());
+        };
+        points.push(point)?;
+    }
+    Ok(())
 }
 
 /// The answer to a line by itself.

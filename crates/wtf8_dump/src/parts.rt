@@ -1,14 +1,20 @@
 // The lines of an input and the words of a line.
-ghost use Rattle.std.specs.Prelude.{◌≡◌, ◌==◌, ◌≤◌, [], ◌∷◌, false, length, take, IfNone};
+ghost use Rattle.std.specs.Prelude.{◌≡◌, ◌==◌, ◌≤◌, ◌<◌, [], ◌∷◌, false, length, take, IfSome, IfNone};
 ghost use Rattle.std.specs.List.{All, slice_split};
 ghost use Rattle.std.specs.Option.{option_map_or};
 ghost use Rattle.std.specs.Iterator.{YieldsFirstRef, item_count};
 ghost use Rattle.wtf8_dump.specs.Lines.{lines, words};
+ghost use Rattle.wtf8_dump.specs.Reading.{IsNextPoint};
 
+use crate::word;
 use std::simd::prelude::*;
+use wtf8::CodePoint;
 
 // How many bytes are searched for a newline together.
 const LANES: usize = 32;
+
+// How many bytes of a word are searched for a space together: most words are so long.
+const SHORT_LANES: usize = 4;
 
 /// The lines of an input, in order, each without its newline. What follows the last newline is a line too if it is not
 /// empty.
@@ -41,8 +47,8 @@ impl<'a> Iterator for Lines<'a> {
         if self.rest.is_empty() {
             return None;
         }
-        let (line, after) = split_first_part(self.rest, b'\n', skip_blocks(self.rest, b'\n'));
-        self.rest = after.unwrap_or(&[]);
+        let (line, after) = split_first_line(self.rest);
+        self.rest = after;
         Some(line)
     }
 }
@@ -63,6 +69,20 @@ impl<'a> Words<'a> {
         let rest = if line.is_empty() { None } else { Some(line) };
         Words { rest }
     }
+
+    /// The code point of the next word where that has four hexadecimal digits, and the word is then given. Any other word
+    /// stays.
+    #[inline(always)]
+    pub(crate) fn next_short_point(&mut self) -> Option<CodePoint>
+        ensures some { IfSome result (λ point. IsNextPoint (words_left self.old) point (words_left self.new)) }
+        ensures none { IfNone result (words_left self.new ≡ words_left self.old) }
+    {
+        let Some((point, after)) = split_short_point(self.rest?) else {
+            return None;
+        };
+        self.rest = after;
+        Some(point)
+    }
 }
 
 impl<'a> Iterator for Words<'a> {
@@ -76,10 +96,46 @@ impl<'a> Iterator for Words<'a> {
 
     fn next(&mut self) -> Option<&'a [u8]> {
         let rest = self.rest?;
-        let (word, after) = split_first_part(rest, b' ', 0);
+        let (word, after) = split_first_part(rest, b' ', skip_short_block(rest, b' '));
         self.rest = after;
         Some(word)
     }
+}
+
+// The first line of some bytes and the bytes after its newline.
+#[inline(always)]
+fn split_first_line(bytes: &[u8]) -> (&[u8], &[u8])
+    requires { 0 < length bytes.now }
+    ensures { lines bytes.now ≡ result.0.now ∷ lines result.1.now }
+{
+    if bytes[0] == b'\n' {
+        let (_, after) = bytes.split_at(1);
+        return (&[], after);
+    }
+    let (line, after) = split_first_part(bytes, b'\n', skip_blocks(bytes, b'\n'));
+    (line, after.unwrap_or(&[]))
+}
+
+// The code point of the first word of some bytes where that has four hexadecimal digits, and the bytes after its space
+// where there is one.
+#[inline(always)]
+fn split_short_point(bytes: &[u8]) -> Option<(CodePoint, Option<&[u8]>)>
+    ensures { IfSome result (λ x. IsNextPoint (slice_split (λ byte. byte == 32) bytes.now) x.0
+        (option_map_or (λ rest. slice_split (λ byte. byte == 32) rest.now) x.1 [])) }
+{
+    if bytes.len() < SHORT_LANES {
+        return None;
+    }
+    let (word, behind) = bytes.split_at(SHORT_LANES);
+    let point = word::read_short_point(word)?;
+    if behind.is_empty() {
+        return Some((point, None));
+    }
+    if behind[0] != b' ' {
+        return None;
+    }
+    let (_, after) = behind.split_at(1);
+    Some((point, Some(after)))
 }
 
 // The bytes before the first separator, and those after it where there is one. None stands before `from`.
@@ -100,6 +156,22 @@ fn split_first_part(bytes: &[u8], separator: u8, from: usize) -> (&[u8], Option<
     (bytes, None)
 }
 
+// How many bytes at the front hold no separator: those of a short block, or none.
+#[inline(always)]
+fn skip_short_block(bytes: &[u8], separator: u8) -> usize
+    ensures within { result ≤ length bytes.now }
+    ensures none { All (λ byte. (byte == separator) ≡ false) (take result bytes.now) }
+{
+    if bytes.len() < SHORT_LANES {
+        return 0;
+    }
+    let block = u8x4::from_slice(bytes);
+    if block.simd_eq(u8x4::splat(separator)).to_bitmask() != 0 {
+        return 0;
+    }
+    SHORT_LANES
+}
+
 // How many bytes at the front hold no separator, as far as blocks of so many bytes tell.
 fn skip_blocks(bytes: &[u8], separator: u8) -> usize
     ensures within { result ≤ length bytes.now }
@@ -108,8 +180,9 @@ fn skip_blocks(bytes: &[u8], separator: u8) -> usize
     let mut at = 0;
     while LANES <= bytes.len() - at {
         let block = u8x32::from_slice(&bytes[at..]);
-        if block.simd_eq(u8x32::splat(separator)).to_bitmask() != 0 {
-            return at;
+        let found = block.simd_eq(u8x32::splat(separator)).to_bitmask();
+        if found != 0 {
+            return at + found.trailing_zeros() as usize;
         }
         at += LANES;
     }

@@ -1,5 +1,7 @@
 // What a word stands for.
-ghost use Rattle.std.specs.Prelude.{◌≡◌, ◌≤◌, ◌<◌, ◌^◌, length, option_map, IfSome, IfNone};
+ghost use Rattle.std.specs.Prelude.{◌≡◌, ◌==◌, false, ◌≤◌, ◌<◌, ◌^◌, length, option_map, Some, IfSome, IfNone};
+ghost use Rattle.std.specs.Char.{digit_value};
+ghost use Rattle.std.specs.List.{All};
 ghost use Rattle.wtf8.specs.CodePoint.{number};
 ghost use Rattle.wtf8_dump.specs.Word.{number_in, bounded_number, number_behind, point_of, IsCall, IsNoCall};
 
@@ -8,6 +10,21 @@ use wtf8::{Build, CodePoint};
 const HEXADECIMAL: u32 = 16;
 
 const DECIMAL: u32 = 10;
+
+// The value of each byte as a digit: 0 to 9, then 10 to 35 for the letters of either case, and 36 for any other byte.
+const VALUES: [u8; 256] = [
+    36, 36, 36, 36, 36, 36, 36, 36, 36, 36, 36, 36, 36, 36, 36, 36, 36, 36, 36, 36, 36, 36, 36, 36,
+    36, 36, 36, 36, 36, 36, 36, 36, 36, 36, 36, 36, 36, 36, 36, 36, 36, 36, 36, 36, 36, 36, 36, 36,
+    0, 1, 2, 3, 4, 5, 6, 7, 8, 9, 36, 36, 36, 36, 36, 36, 36, 10, 11, 12, 13, 14, 15, 16, 17, 18,
+    19, 20, 21, 22, 23, 24, 25, 26, 27, 28, 29, 30, 31, 32, 33, 34, 35, 36, 36, 36, 36, 36, 36, 10,
+    11, 12, 13, 14, 15, 16, 17, 18, 19, 20, 21, 22, 23, 24, 25, 26, 27, 28, 29, 30, 31, 32, 33, 34,
+    35, 36, 36, 36, 36, 36, 36, 36, 36, 36, 36, 36, 36, 36, 36, 36, 36, 36, 36, 36, 36, 36, 36, 36,
+    36, 36, 36, 36, 36, 36, 36, 36, 36, 36, 36, 36, 36, 36, 36, 36, 36, 36, 36, 36, 36, 36, 36, 36,
+    36, 36, 36, 36, 36, 36, 36, 36, 36, 36, 36, 36, 36, 36, 36, 36, 36, 36, 36, 36, 36, 36, 36, 36,
+    36, 36, 36, 36, 36, 36, 36, 36, 36, 36, 36, 36, 36, 36, 36, 36, 36, 36, 36, 36, 36, 36, 36, 36,
+    36, 36, 36, 36, 36, 36, 36, 36, 36, 36, 36, 36, 36, 36, 36, 36, 36, 36, 36, 36, 36, 36, 36, 36,
+    36, 36, 36, 36, 36, 36, 36, 36, 36, 36, 36, 36, 36, 36,
+];
 
 /// The call that a word stands for: the push of a code point for 4 to 6 hexadecimal digits of either case, of a value
 /// of at most 0x10FFFF; the truncation at a position in bytes for `-` and 1 to 9 decimal digits, or at a number of units
@@ -30,7 +47,44 @@ pub fn read_call(word: &[u8]) -> Option<Build<'static>>
 fn read_point(word: &[u8]) -> Option<CodePoint>
     ensures { option_map number result ≡ point_of word.now }
 {
+    if let Some(point) = read_short_point(word) {
+        return Some(point);
+    }
     CodePoint::from_u32(read_bounded_number(word, HEXADECIMAL, 4, 6)?)
+}
+
+/// The code point that a word of four hexadecimal digits stands for, or `None` for any other word.
+#[inline(always)]
+pub(crate) fn read_short_point(word: &[u8]) -> Option<CodePoint>
+    ensures point { IfSome result (λ point. point_of word.now ≡ Some (number point)) }
+    ensures no_space { IfSome result (λ _. All (λ byte. (byte == 32) ≡ false) word.now) }
+{
+    CodePoint::from_u32(read_four_digits(word)?)
+}
+
+// The number that a word of four hexadecimal digits spells. All four are looked up before any is tested.
+#[inline(always)]
+fn read_four_digits(word: &[u8]) -> Option<u32>
+    ensures number { IfSome result (λ n. bounded_number 16 4 6 word.now ≡ Some n) }
+    ensures no_space { IfSome result (λ _. All (λ byte. (byte == 32) ≡ false) word.now) }
+{
+    let [first, second, third, fourth] = word else {
+        return None;
+    };
+    let (first, second) = (value_of(*first), value_of(*second));
+    let (third, fourth) = (value_of(*third), value_of(*fourth));
+    if (first < 16) & (second < 16) & (third < 16) & (fourth < 16) {
+        return Some(((first * 16 + second) * 16 + third) * 16 + fourth);
+    }
+    None
+}
+
+// The value of a byte as a digit or a letter of either case, and 36 for any other byte.
+#[inline(always)]
+fn value_of(byte: u8) -> u32
+    ensures { result ≡ digit_value byte }
+{
+    u32::from(VALUES[usize::from(byte)])
 }
 
 // The number that 1 to 9 decimal digits behind a mark spell, or `None` for any other word.
