@@ -29,7 +29,8 @@ invariant_of-self-inside-then-this-lt2048 g c =
 
 pub returns-in-128-to-2047-clause-ok : goal.returns-in-128-to-2047-clause-ok
 returns-in-128-to-2047-clause-ok g c =
-    gained_units c.push_apart-in-128-to-2047.result _ c.self.inside.well_formed c.self-then-this-lt2048-1.given.0 (ap (λ (t : UnitString). t.units) c.self.view_is) c.push_apart-in-128-to-2047.ensures.ok
+    gained_units c.push_apart-in-128-to-2047.result _ c.self.inside.well_formed c.self-then-this-lt2048-1.given.0
+    (ap (λ (t : UnitString). t.units) c.self.view_is) c.push_apart-in-128-to-2047.ensures.ok
 
 pub returns-in-128-to-2047-clause-kept : goal.returns-in-128-to-2047-clause-kept
 returns-in-128-to-2047-clause-kept g c = kept_contents c.push_apart-in-128-to-2047.result _ _ _ c.self.view_is c.push_apart-in-128-to-2047.ensures.err
@@ -43,7 +44,8 @@ invariant_of-self-inside-then-this-lt55296 g c =
 
 pub returns-in-2048-to-55295-clause-ok : goal.returns-in-2048-to-55295-clause-ok
 returns-in-2048-to-55295-clause-ok g c =
-    gained_units c.push_apart-in-2048-to-55295.result _ c.self.inside.well_formed c.self-then-this-lt55296-1.given.0 (ap (λ (t : UnitString). t.units) c.self.view_is) c.push_apart-in-2048-to-55295.ensures.ok
+    gained_units c.push_apart-in-2048-to-55295.result _ c.self.inside.well_formed c.self-then-this-lt55296-1.given.0
+    (ap (λ (t : UnitString). t.units) c.self.view_is) c.push_apart-in-2048-to-55295.ensures.ok
 
 pub returns-in-2048-to-55295-clause-kept : goal.returns-in-2048-to-55295-clause-kept
 returns-in-2048-to-55295-clause-kept g c = kept_contents c.push_apart-in-2048-to-55295.result _ _ _ c.self.view_is c.push_apart-in-2048-to-55295.ensures.err
@@ -57,7 +59,8 @@ invariant_of-self-inside-in_default g c =
 
 pub returns-in_default-clause-ok : goal.returns-in_default-clause-ok
 returns-in_default-clause-ok g c =
-    gained_units c.push_apart-in_default.result _ c.self.inside.well_formed c.self-in_default-1.given.0 (ap (λ (t : UnitString). t.units) c.self.view_is) c.push_apart-in_default.ensures.ok
+    gained_units c.push_apart-in_default.result _ c.self.inside.well_formed c.self-in_default-1.given.0
+    (ap (λ (t : UnitString). t.units) c.self.view_is) c.push_apart-in_default.ensures.ok
 
 pub returns-in_default-clause-kept : goal.returns-in_default-clause-kept
 returns-in_default-clause-kept g c = kept_contents c.push_apart-in_default.result _ _ _ c.self.view_is c.push_apart-in_default.ensures.err
