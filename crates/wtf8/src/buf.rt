@@ -219,15 +219,16 @@ impl<A: Allocator> Wtf8Buf<A> {
         ensures room { HasRoomFor self.old (units_of (number code_point)) → IsOk result }
         ensures capacity { self.old.capacity ≤ self.new.capacity }
     {
-        if code_point.to_u32() < 0x80 {
-            return concat::push_apart(&mut self.bytes, code_point);
-        }
-        match code_point.to_char() {
-            Some(c) => concat::push_scalar(&mut self.bytes, c),
-            None => {
+        // Each row has an append of its own, in which the compiler knows how many bytes are written.
+        match code_point.to_u32() {
+            0..=0x7F => concat::push_apart(&mut self.bytes, code_point),
+            0x80..=0x7FF => concat::push_apart(&mut self.bytes, code_point),
+            0x800..=0xD7FF => concat::push_apart(&mut self.bytes, code_point),
+            0xD800..=0xDFFF => {
                 self.is_known_utf8 = false;
                 concat::push_surrogate(&mut self.bytes, code_point)
             }
+            _ => concat::push_apart(&mut self.bytes, code_point),
         }
     }
 

@@ -83,12 +83,7 @@ pub(crate) fn append<A: Allocator>(
         bytes.push_reserved(second);
         bytes.push_reserved(third);
     } else {
-        let [first, second, third, fourth] = four_bytes(value);
-        bytes.reserve(4)?;
-        bytes.push_reserved(first);
-        bytes.push_reserved(second);
-        bytes.push_reserved(third);
-        bytes.push_reserved(fourth);
+        bytes.extend_from_slice(&four_bytes(value))?;
     }
     Ok(())
 }

@@ -26,7 +26,7 @@ const IN_THREES: [usize; 32] = [
 ];
 
 /// How many units are read one after another before a block is looked at again.
-const PART: usize = 64;
+const PART: usize = 32;
 
 /// Whether all units of a block are below 0x80.
 #[inline(always)]
