@@ -33,6 +33,7 @@ pub mod Scalars
 pub mod Splits
 pub mod StringLaws
 pub mod SurrogateLanes
+pub mod SurrogatePresence
 pub mod Surrogates
 pub mod Texts
 pub mod UnitBlocks

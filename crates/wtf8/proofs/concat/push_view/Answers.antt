@@ -34,27 +34,33 @@ gains_here : {w v x : List ℕ} (h : IsWellFormed w) (i : IsWellFormed x) (k : I
 gains_here h i k e apart = gains_behind h k (λ m. apart (meets_same m (same_points i h e) refl))
 
 pub from_well_formed-view-requires : goal.from_well_formed-view-requires
-from_well_formed-view-requires g c = rw c.as_slice.ensures.value c.requires
+from_well_formed-view-requires g c = rw c.as_slice.ensures.value c.requires.well_formed
+
+pub meeting_pair-requires : goal.meeting_pair-requires
+meeting_pair-requires g c t m =
+    let view = c.from_well_formed-view in
+    c.requires.apart t c.requires.well_formed
+    (meets_same m (same_points c.requires.well_formed view.result.well_formed (sym (view.ensures.bytes ∙ c.as_slice.ensures.value))) refl)
 
 pub join_bytes-requires-clause-three : goal.join_bytes-requires-clause-three
 join_bytes-requires-clause-three g c =
     let view = c.from_well_formed-view in
     let met = c.in-Some.ensures in
-    (paired_here c.requires view.result.well_formed c.args.other.well_formed
+    (paired_here c.requires.well_formed view.result.well_formed c.args.other.well_formed
     (view.ensures.bytes ∙ c.as_slice.ensures.value) c.in-Some.lead c.in-Some.trail met.pair met.last met.first).three
 
 pub join_bytes-requires-clause-other_three : goal.join_bytes-requires-clause-other_three
 join_bytes-requires-clause-other_three g c =
     let view = c.from_well_formed-view in
     let met = c.in-Some.ensures in
-    (paired_here c.requires view.result.well_formed c.args.other.well_formed
+    (paired_here c.requires.well_formed view.result.well_formed c.args.other.well_formed
     (view.ensures.bytes ∙ c.as_slice.ensures.value) c.in-Some.lead c.in-Some.trail met.pair met.last met.first).three_behind
 
 pub returns-in-Some-clause-ok : goal.returns-in-Some-clause-ok
 returns-in-Some-clause-ok g c =
     let view = c.from_well_formed-view in
     let met = c.in-Some.ensures in
-    let x = paired_here c.requires view.result.well_formed c.args.other.well_formed
+    let x = paired_here c.requires.well_formed view.result.well_formed c.args.other.well_formed
     (view.ensures.bytes ∙ c.as_slice.ensures.value) c.in-Some.lead c.in-Some.trail met.pair met.last met.first in
     on_ok_weaker c.join_bytes.result (λ e. subst (λ w. GainsUnits c.args.bytes.now.items w (units c.args.other.well_formed.points))
     (sym e) x.gains) c.join_bytes.ensures.ok
@@ -63,19 +69,19 @@ pub returns-in-Some-clause-room : goal.returns-in-Some-clause-room
 returns-in-Some-clause-room g c fit =
     let view = c.from_well_formed-view in
     let met = c.in-Some.ensures in
-    let x = paired_here c.requires view.result.well_formed c.args.other.well_formed
+    let x = paired_here c.requires.well_formed view.result.well_formed c.args.other.well_formed
     (view.ensures.bytes ∙ c.as_slice.ensures.value) c.in-Some.lead c.in-Some.trail met.pair met.last met.first in
     c.join_bytes.ensures.room (omega (arith, fits_length x.gains fit, x.shorter))
 
 pub returns-in-None-clause-ok : goal.returns-in-None-clause-ok
 returns-in-None-clause-ok g c =
     let view = c.from_well_formed-view in
-    let gains = gains_here c.requires view.result.well_formed c.args.other.well_formed (view.ensures.bytes ∙ c.as_slice.ensures.value) c.in-None.ensures.none in
+    let gains = gains_here c.requires.well_formed view.result.well_formed c.args.other.well_formed (view.ensures.bytes ∙ c.as_slice.ensures.value) c.in-None.ensures.none in
     on_ok_weaker c.append_bytes.result (λ e. subst (λ w. GainsUnits c.args.bytes.now.items w (units c.args.other.well_formed.points))
     (sym e) gains) c.append_bytes.ensures.ok
 
 pub returns-in-None-clause-room : goal.returns-in-None-clause-room
 returns-in-None-clause-room g c fit =
     let view = c.from_well_formed-view in
-    let gains = gains_here c.requires view.result.well_formed c.args.other.well_formed (view.ensures.bytes ∙ c.as_slice.ensures.value) c.in-None.ensures.none in
+    let gains = gains_here c.requires.well_formed view.result.well_formed c.args.other.well_formed (view.ensures.bytes ∙ c.as_slice.ensures.value) c.in-None.ensures.none in
     c.append_bytes.ensures.room (omega (arith, fits_length gains fit, length-append c.args.bytes.now.items c.args.other.bytes.now))
