@@ -18,6 +18,7 @@ pub mod FormLaws
 pub mod Forms
 pub mod Gains
 pub mod HexLanes
+pub mod InitialTrail
 pub mod ListOrder
 pub mod Lists
 pub mod Lossy

@@ -282,6 +282,7 @@ impl<A: Allocator> Wtf8Buf<A> {
     ///     }
     /// }
     /// ```
+    #[inline(always)]
     pub fn push_wtf8(&mut self, other: Wtf8<'_>) -> Result<(), AllocError>
         ensures ok { OnOk result (AppendsUnits self.old (view_units other.entry) self.new) }
         ensures kept { OnErr result (KeepsContents self.old self.new) }
