@@ -149,7 +149,7 @@ fn lacks_surrogate(bytes: &[u8], at: usize) -> bool
     requires { at + 128 < length bytes.now }
     ensures { IsTrue result → NoneBefore bytes.now at → NoneBefore bytes.now (at + 128) }
 {
-    let seconds = gathered(
+    let seconds = greatest(
         seconds_of_block(bytes, at),
         seconds_of_block(bytes, at + 64),
     );
@@ -187,16 +187,15 @@ fn first_bytes_of_block(bytes: &[u8], at: usize) -> u8x16
     greatest(front, back)
 }
 
-/// The bits of all bytes that stand behind the first byte of a surrogate in a block of 64. Bytes from 80 to 9F have none
-/// that make a greater one.
+/// The greatest bytes that stand behind the first byte of a surrogate in a block of 64.
 #[inline(always)]
 fn seconds_of_block(bytes: &[u8], at: usize) -> u8x16
     requires { at + 64 < length bytes.now }
     ensures { ShowsSurrogate bytes.now at (at + 64) 0xA0 result }
 {
-    let front = gathered(seconds(bytes, at), seconds(bytes, at + 16));
-    let back = gathered(seconds(bytes, at + 32), seconds(bytes, at + 48));
-    gathered(front, back)
+    let front = greatest(seconds(bytes, at), seconds(bytes, at + 16));
+    let back = greatest(seconds(bytes, at + 32), seconds(bytes, at + 48));
+    greatest(front, back)
 }
 
 /// The `N` bytes from a place on.
@@ -240,15 +239,6 @@ fn greatest<const N: usize>(own: Simd<u8, N>, others: Simd<u8, N>) -> Simd<u8, N
     ensures others { (least : ℕ) → HasLane least others.entry → HasLane least result }
 {
     own.simd_max(others)
-}
-
-/// The bits of two vectors' lanes. It is faster than the greater lanes where a vector was chosen by a comparison.
-#[inline(always)]
-fn gathered(own: u8x16, others: u8x16) -> u8x16
-    ensures own { (least : ℕ) → HasLane least own → HasLane least result }
-    ensures others { (least : ℕ) → HasLane least others → HasLane least result }
-{
-    own | others
 }
 
 /// Whether all lanes are below a number.

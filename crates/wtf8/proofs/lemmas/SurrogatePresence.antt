@@ -1,9 +1,8 @@
 -- Whether bytes hold a surrogate, by the lanes of vectors: what the greater lanes of two vectors, or chosen ones, still show.
 use Rattle.std.proofs.Common.{◌≡◌, ℕ, zero, suc, ◌+◌, ◌-◌, ◌%◌, ◌^◌, ◌<◌, ◌≤◌, eqb, ltb, leb, Bool, true, false, IsTrue, cond, List, [], ◌∷◌, map, length}
-use Rattle.std.proofs.Common.{bit_or, get_or, replicate, w8, inl, inr, sym, ap, ◌∙◌, arith}
+use Rattle.std.proofs.Common.{get_or, replicate, w8, inl, inr, sym, ap, ◌∙◌, arith}
 use Rattle.std.proofs.lemmas.Bool.{cases_lt, lt-ltb, le-ltb, le-leb, eq-eqb, eqb-true}
 use Rattle.std.proofs.lemmas.List.{get_or-replicate, length-replicate}
-use Rattle.std.proofs.lemmas.Nat.{le_or_l, le_or_r}
 use Rattle.std.proofs.lemmas.Simd.{length-zip2, get_or-zip2, length-sel_l, get_or-sel_l, length-chunk, get_or-chunk, mask_l-mod, tops_compared}
 use lib.Lanes.{chunk, sel_l, zip2, mask_l, top}
 use Rattle.wtf8.specs.SurrogateSearch.{SurrogateAt, HasLane, ShowsSurrogate}
@@ -47,20 +46,6 @@ module _ (xs ys : List ℕ) (p : length xs ≡ length ys) where
   keeps_other least h =
       let within : h.0 < length xs = omega (arith, h.1.0, p) in
       (h.0, (omega (arith, within, length_is), omega (arith, h.1.1, lane_is h.0 within, least_other (get_or xs h.0 0) (get_or ys h.0 0))))
-
--- the bits of the lanes of two vectors
-module _ (xs ys : List ℕ) (p : length xs ≡ length ys) where
-  bits_are : (k : ℕ) → k < length xs → get_or (zip2 bit_or xs ys) k 0 ≡ bit_or (get_or xs k 0) (get_or ys k 0)
-  bits_are k l = get_or-zip2 bit_or xs ys k 0 0 0 l (omega (arith, p, l))
-
-  pub gathers_own : (least : ℕ) → HasLane least xs → HasLane least (zip2 bit_or xs ys)
-  gathers_own least h =
-      (h.0, (omega (arith, h.1.0, length-zip2 bit_or xs ys p), omega (arith, h.1.1, bits_are h.0 h.1.0, le_or_l (get_or xs h.0 0) (get_or ys h.0 0))))
-
-  pub gathers_other : (least : ℕ) → HasLane least ys → HasLane least (zip2 bit_or xs ys)
-  gathers_other least h =
-      let within : h.0 < length xs = omega (arith, h.1.0, p) in
-      (h.0, (omega (arith, within, length-zip2 bit_or xs ys p), omega (arith, h.1.1, bits_are h.0 within, le_or_r (get_or xs h.0 0) (get_or ys h.0 0))))
 
 -- the lanes of one vector where another holds ED, else 0
 abbrev pub chosen : ℕ → List ℕ → List ℕ → List ℕ
