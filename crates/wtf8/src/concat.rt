@@ -1,6 +1,6 @@
 // Concatenation of well-formed bytes: what is appended at their end, a lead and a trail that meet as one code point.
-ghost use Rattle.std.specs.Prelude.{◌≡◌, ℕ, List, [], ◌∷◌, ◌++◌, ◌+◌, ◌-◌, ◌≤◌, ◌<◌, length, take, drop, OnOk, OnErr, IsOk, OnSome, IfSome, IfNone, vec_len, IsTrue};
-ghost use Rattle.std.specs.Prelude.{vec_capacity};
+ghost use Rattle.std.specs.Prelude.{◌≡◌, ℕ, List, [], ◌∷◌, ◌++◌, ◌+◌, ◌-◌, ◌≤◌, ◌<◌, length, take, drop, OnOk, OnErr, IsOk, OnSome, IfSome, IfNone, vec_len};
+ghost use Rattle.std.specs.Prelude.{vec_capacity, IsTrue};
 ghost use Rattle.std.specs.Str.{chars};
 ghost use Rattle.wtf8.specs.CodePoint.{number};
 ghost use Rattle.wtf8.specs.Concatenation.{MeetsAsPair};

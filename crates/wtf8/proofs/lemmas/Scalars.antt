@@ -46,7 +46,8 @@ pub scalar_behind : {c d : List ℕ} → AreScalar d → ¬ (MeetsAsPair c d)
 scalar_behind s m = (subst AreScalar m.begins s).0 (omega (arith, m.is_trail), omega (arith, m.is_trail))
 
 -- what the search says that found none
-pub scalar_unless_held : (held : Bool) {w : List ℕ} (h : IsWellFormed w) → (held ≡ false → IsFirst (SurrogateAt w) 0 None) → IsTrue (not held) → AreScalar h.points
+pub scalar_unless_held : (held : Bool) {w : List ℕ} (h : IsWellFormed w) → (held ≡ false → IsFirst (SurrogateAt w) 0 None) → IsTrue (not held)
+    → AreScalar h.points
 scalar_unless_held true h f t = absurd (false≢true t)
 scalar_unless_held false h f t = scalar_if_none h (f refl)
 

@@ -75,7 +75,8 @@ module _ (n : ℕ) (xs ys : List ℕ) (p : length xs ≡ n) (q : length ys ≡ n
   pub has_chosen : (k least : ℕ) → k < n → get_or xs k 0 ≡ 0xED → least ≤ get_or ys k 0 → HasLane least (chosen n xs ys)
   has_chosen k least l e h =
       let zeros : length {A = ℕ} (replicate n 0) ≡ n = length-replicate n 0 in
-      let long : length (chosen n xs ys) ≡ n = ap length chosen_are ∙ (length-sel_l tests ys (replicate n 0) (tests_long ∙ sym q) (tests_long ∙ sym zeros) ∙ tests_long) in
+      let long : length (chosen n xs ys) ≡ n = ap length chosen_are
+      ∙ (length-sel_l tests ys (replicate n 0) (tests_long ∙ sym q) (tests_long ∙ sym zeros) ∙ tests_long) in
       let here : get_or (chosen n xs ys) k 0 ≡ get_or ys k 0 = ap (λ zs. get_or zs k 0) chosen_are
       ∙ (get_or-sel_l tests ys (replicate n 0) k 0 (omega (arith, tests_long, l)) (omega (arith, q, l)) (omega (arith, zeros, l))
       ∙ ap (λ b. cond b (get_or ys k 0) (get_or (replicate n 0) k 0)) (test_is k l e)) in
@@ -113,5 +114,6 @@ pub none_at_least : (n least : ℕ) (xs : List ℕ) → n ≤ 64 → length xs �
 none_at_least n least xs few p t h =
     let rest = length-replicate n least in
     let long : length (zip2 leb (replicate n least) xs) ≡ n = length-zip2 leb (replicate n least) xs (rest ∙ sym p) ∙ rest in
-    let told = ap (λ ms. mask_l ms % 2 ^ 64) (tops_compared w8 leb (replicate n least) xs) ∙ mask_l-mod (zip2 leb (replicate n least) xs) 64 (omega (arith, long, few)) in
+    let told = ap (λ ms. mask_l ms % 2 ^ 64) (tops_compared w8 leb (replicate n least) xs)
+    ∙ mask_l-mod (zip2 leb (replicate n least) xs) 64 (omega (arith, long, few)) in
     none_high n least xs p (sym told ∙ eqb-true _ 0 t) h.0 h.1.0 h.1.1

@@ -76,12 +76,14 @@ returns-in-Some-clause-room g c fit =
 pub returns-in-None-clause-ok : goal.returns-in-None-clause-ok
 returns-in-None-clause-ok g c =
     let view = c.from_well_formed-view in
-    let gains = gains_here c.requires.well_formed view.result.well_formed c.args.other.well_formed (view.ensures.bytes ∙ c.as_slice.ensures.value) c.in-None.ensures.none in
+    let same = view.ensures.bytes ∙ c.as_slice.ensures.value in
+    let gains = gains_here c.requires.well_formed view.result.well_formed c.args.other.well_formed same c.in-None.ensures.none in
     on_ok_weaker c.append_bytes.result (λ e. subst (λ w. GainsUnits c.args.bytes.now.items w (units c.args.other.well_formed.points))
     (sym e) gains) c.append_bytes.ensures.ok
 
 pub returns-in-None-clause-room : goal.returns-in-None-clause-room
 returns-in-None-clause-room g c fit =
     let view = c.from_well_formed-view in
-    let gains = gains_here c.requires.well_formed view.result.well_formed c.args.other.well_formed (view.ensures.bytes ∙ c.as_slice.ensures.value) c.in-None.ensures.none in
+    let same = view.ensures.bytes ∙ c.as_slice.ensures.value in
+    let gains = gains_here c.requires.well_formed view.result.well_formed c.args.other.well_formed same c.in-None.ensures.none in
     c.append_bytes.ensures.room (omega (arith, fits_length gains fit, length-append c.args.bytes.now.items c.args.other.bytes.now))
