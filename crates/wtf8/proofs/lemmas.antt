@@ -18,6 +18,7 @@ pub mod FormLaws
 pub mod Forms
 pub mod Gains
 pub mod HexLanes
+pub mod InitialTrail
 pub mod ListOrder
 pub mod Lists
 pub mod Lossy
@@ -33,6 +34,7 @@ pub mod Scalars
 pub mod Splits
 pub mod StringLaws
 pub mod SurrogateLanes
+pub mod SurrogatePresence
 pub mod Surrogates
 pub mod Texts
 pub mod UnitBlocks

@@ -24,3 +24,15 @@ IsFirst P from r = MatchOption r ((j : ℕ) → from ≤ j → ¬ (P j)) (IsLeas
 -- An answer is the least place with a property from a start on and below an end, or that there is none.
 abbrev pub IsFirstBelow : (ℕ → Type 0) → ℕ → ℕ → Option ℕ → Type 0
 IsFirstBelow P from end r = MatchOption r ((j : ℕ) → from ≤ j → j < end → ¬ (P j)) (λ i. IsLeast P from i × (i < end))
+
+-- No surrogate begins before a place.
+abbrev pub NoneBefore : List ℕ → ℕ → Type 0
+NoneBefore w end = (j : ℕ) → j < end → ¬ (SurrogateAt w j)
+
+-- Some lane of a vector is no less than a number.
+abbrev pub HasLane : ℕ → List ℕ → Type 0
+HasLane least lanes = (k : ℕ) × ((k < length lanes) × (least ≤ slice_index lanes k))
+
+-- Where a surrogate begins at one of the places from a start on and below an end, some lane of a vector is no less than a number.
+abbrev pub ShowsSurrogate : List ℕ → ℕ → ℕ → ℕ → List ℕ → Type 0
+ShowsSurrogate w from end least lanes = (j : ℕ) → from ≤ j → j < end → SurrogateAt w j → HasLane least lanes

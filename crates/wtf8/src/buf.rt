@@ -15,7 +15,7 @@ ghost use Rattle.wtf8.specs.View.{view_points, view_units};
 
 use crate::code_point::CodePoint;
 use crate::view::Wtf8;
-use crate::{concat, search, surrogates, unit_blocks, unit_positions};
+use crate::{concat, search, surrogate_presence, surrogates, unit_blocks, unit_positions};
 use std::alloc::{AllocError, Allocator};
 use std::marker::Model;
 
@@ -283,6 +283,7 @@ impl<A: Allocator> Wtf8Buf<A> {
     ///     }
     /// }
     /// ```
+    #[inline(always)]
     pub fn push_wtf8(&mut self, other: Wtf8<'_>) -> Result<(), AllocError>
         ensures ok { OnOk result (AppendsUnits self.old (view_units other.entry) self.new) }
         ensures kept { OnErr result (KeepsContents self.old self.new) }
@@ -301,10 +302,12 @@ impl<A: Allocator> Wtf8Buf<A> {
         ensures room_left { length self.old.bytes + length other.entry.bytes.now ≤ self.old.capacity → IsOk result }
         ensures nothing { other.entry.bytes.now ≡ [] → KeepsContents self.old self.new }
     {
-        if self.is_known_utf8 {
-            self.is_known_utf8 = search::first_surrogate(other.bytes, 0).is_none();
+        // Where no surrogate is held, none at the end meets another.
+        let is_apart = self.is_known_utf8;
+        if is_apart {
+            self.is_known_utf8 = !surrogate_presence::holds_surrogate(other.bytes);
         }
-        concat::push_view(&mut self.bytes, other)
+        concat::push_view(&mut self.bytes, other, is_apart)
     }
 
     /// Keeps the code points before a position, which `is_code_point_boundary` of the view tests.

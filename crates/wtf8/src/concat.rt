@@ -1,6 +1,6 @@
 // Concatenation of well-formed bytes: what is appended at their end, a lead and a trail that meet as one code point.
 ghost use Rattle.std.specs.Prelude.{◌≡◌, ℕ, List, [], ◌∷◌, ◌++◌, ◌+◌, ◌-◌, ◌≤◌, ◌<◌, length, take, drop, OnOk, OnErr, IsOk, OnSome, IfSome, IfNone, vec_len};
-ghost use Rattle.std.specs.Prelude.{vec_capacity};
+ghost use Rattle.std.specs.Prelude.{vec_capacity, IsTrue};
 ghost use Rattle.std.specs.Str.{chars};
 ghost use Rattle.wtf8.specs.CodePoint.{number};
 ghost use Rattle.wtf8.specs.Concatenation.{MeetsAsPair};
@@ -93,12 +93,18 @@ fn append_bytes<A: Allocator>(bytes: &mut Vec<u8, A>, other: &[u8]) -> Result<()
 }
 
 /// The lead surrogate that ends the first string and the trail surrogate that begins the second, where both are there.
-fn meeting_pair(front: Wtf8<'_>, back: Wtf8<'_>) -> Option<(u32, u32)>
+/// Neither is looked for where it is known that they are not.
+#[inline(always)]
+fn meeting_pair(front: Wtf8<'_>, back: Wtf8<'_>, is_apart: bool) -> Option<(u32, u32)>
+    requires { IsTrue is_apart → ¬ (MeetsAsPair (view_points front) (view_points back)) }
     ensures pair { IfSome result (λ p. IsLead p.0 × IsTrail p.1) }
     ensures last { IfSome result (λ p. (f : List ℕ) × (view_points front.entry ≡ f ++ p.0 ∷ [])) }
     ensures first { IfSome result (λ p. (r : List ℕ) × (view_points back.entry ≡ p.1 ∷ r)) }
     ensures none { IfNone result (¬ (MeetsAsPair (view_points front.entry) (view_points back.entry))) }
 {
+    if is_apart {
+        return None;
+    }
     let trail = back.initial_trail_surrogate()?;
     let lead = front.final_lead_surrogate()?;
     Some((lead, trail))
@@ -106,6 +112,7 @@ fn meeting_pair(front: Wtf8<'_>, back: Wtf8<'_>) -> Option<(u32, u32)>
 
 /// Appends bytes whose first three are a trail surrogate, which the lead surrogate at the end joins. Room for all that
 /// is added is found first; after a refusal the bytes are as before.
+#[inline(never)]
 fn join_bytes<A: Allocator>(
     bytes: &mut Vec<u8, A>,
     lead: u32,
@@ -127,19 +134,23 @@ fn join_bytes<A: Allocator>(
     append_bytes(bytes, rest)
 }
 
-/// Appends a view, a trail surrogate at its front and a lead at the end as the code point that the two stand for.
+/// Appends a view, a trail surrogate at its front and a lead at the end as the code point that the two stand for. It is
+/// told where it is known that these are not both there.
+#[inline(always)]
 pub(crate) fn push_view<A: Allocator>(
     bytes: &mut Vec<u8, A>,
     other: Wtf8<'_>,
+    is_apart: bool,
 ) -> Result<(), AllocError>
-    requires { IsWellFormed bytes.old.items }
+    requires well_formed { IsWellFormed bytes.old.items }
+    requires apart { IsTrue is_apart → (h : IsWellFormed bytes.old.items) → ¬ (MeetsAsPair h.points (view_points other)) }
     ensures ok { OnOk result (GainsUnits bytes.old.items bytes.new.items (view_units other.entry)) }
     ensures err { OnErr result (bytes.new.items ≡ bytes.old.items) }
     ensures room { FitsUnits bytes.old.items (view_units other.entry) (vec_capacity bytes.old) → IsOk result }
     ensures capacity { vec_capacity bytes.old ≤ vec_capacity bytes.new }
 {
     let view = Wtf8::from_well_formed(bytes.as_slice());
-    match meeting_pair(view, other) {
+    match meeting_pair(view, other, is_apart) {
         Some((lead, trail)) => join_bytes(bytes, lead, trail, other.bytes),
         None => append_bytes(bytes, other.bytes),
     }

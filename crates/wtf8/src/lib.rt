@@ -16,6 +16,7 @@ mod encoding;
 mod iters;
 pub mod laws;
 mod search;
+mod surrogate_presence;
 mod surrogates;
 mod unit_blocks;
 mod unit_order;

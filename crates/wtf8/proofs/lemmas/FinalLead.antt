@@ -24,7 +24,7 @@ ends_in_surrogate w f p s e =
       third = at 2 (length w - 1) (omega arith);
     }
 
-no_bytes : (c : List ℕ) → length (bytes c) ≡ 0 → c ≡ []
+pub no_bytes : (c : List ℕ) → length (bytes c) ≡ 0 → c ≡ []
 no_bytes [] e = refl
 no_bytes (p ∷ c) e = absurd (omega (arith, length-encoding_bounds p, length-append (encoding p) (bytes c)))
 

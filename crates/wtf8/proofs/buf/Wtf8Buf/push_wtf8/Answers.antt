@@ -2,25 +2,26 @@ use Rattle.wtf8.specs.UnitString.{UnitString}
 use Rattle.std.proofs.Common.{ap, arith, length, refl, sym, subst, ◌∙◌, IsTrue}
 use Rattle.std.proofs.lemmas.Bool.{false≢true}
 use Rattle.wtf8.proofs.lemmas.Gains.{gained_units, kept_contents, added_length}
-use Rattle.wtf8.proofs.lemmas.Scalars.{known_gained, scalar_unless_found}
+use Rattle.wtf8.proofs.lemmas.Scalars.{known_gained, scalar_apart, scalar_moved, scalar_unless_held}
 use Rattle.wtf8.specs.Unicode.{units}
 use Rattle.wtf8.proofs.lemmas.Appending.{grows_at_most, nothing_appended, fits_left}
 use Rattle.wtf8.proofs.lemmas.Readings.{no_points}
 use Rattle.wtf8.specs.View.{view_units, view_form}
 use Rattle.wtf8.proofs.buf.Wtf8Buf.push_wtf8.Goals as goal
-use Rattle.wtf8.proofs.buf.Wtf8Buf.push_wtf8.Goals.{then-self, else-self}
+use Rattle.wtf8.proofs.buf.Wtf8Buf.push_wtf8.Goals.{then-is_apart, else-is_apart}
+
+pub push_view-requires-clause-apart : goal.push_view-requires-clause-apart
+push_view-requires-clause-apart g c t h = scalar_apart (scalar_moved c.self.inside.well_formed h refl (c.self.inside.known_scalar t))
 
 pub invariant_of-self-inside : goal.invariant_of-self-inside
 invariant_of-self-inside g c =
     let other = c.args.other.well_formed in
     known_gained c.push_view.result other.points (units other.points) _ c.self.inside.well_formed refl other.clean (
-    λ known. elim c.if-self.branch [
-      | then-self w ↦
-          let none = subst (λ s. IsTrue s.1.1.0) w.self-inside-is known in (
-            c.self.inside.known_scalar w.if-self.true,
-            scalar_unless_found w.first_surrogate.result w.is_none-self-inside.result other w.first_surrogate.ensures w.is_none-self-inside.ensures none,
-          )
-      | else-self w ↦ absurd (false≢true (sym w.if-self.false ∙ subst (λ s. IsTrue s.1.1.0) w.self-inside-is known))
+    λ known. elim c.if-is_apart.branch [
+      | then-is_apart w ↦
+          let none = subst (λ s. IsTrue s.1.1.0) w.self-inside-is known in
+          (c.self.inside.known_scalar w.if-is_apart.true, scalar_unless_held w.holds_surrogate.result other w.holds_surrogate.ensures none)
+      | else-is_apart w ↦ absurd (false≢true (sym w.if-is_apart.false ∙ subst (λ s. IsTrue s.1.1.0) w.self-inside-is known))
     ]
     ) c.push_view.ensures.ok c.push_view.ensures.err
 
