@@ -1,47 +1,26 @@
-use Rattle.std.proofs.Common.{◌≡◌, ℕ, List, ◌++◌, ◌∙◌, ◌∷◌, length, arith, ap, sym, subst}
+use Rattle.std.proofs.Common.{◌∙◌, ◌∷◌, arith, ap, sym}
 use Rattle.std.proofs.lemmas.Bool.Decides.{nat_tests}
 use Rattle.wtf8.proofs.lemmas.Readings.{no_points, first_of, taken, same_points}
 use Rattle.wtf8.specs.CodePoint.{number}
-use Rattle.wtf8.specs.Form.{encoding}
-use Rattle.wtf8.specs.Unicode.{IsCodePoint}
 use Rattle.wtf8.proofs.view.Wtf8.split_first.Goals as goal
-
--- a code point and its width were read at the front of bytes
-abbrev Told : List ℕ → ℕ → ℕ → Type 0
-Told w p n = (q : ℕ) (rest : List ℕ) → IsCodePoint q → w ≡ encoding q ++ rest → (p ≡ q) × (n ≡ length (encoding q))
 
 pub returns-then-is_empty-clause-none : goal.returns-then-is_empty-clause-none
 returns-then-is_empty-clause-none c = no_points c.args.self.well_formed (grind (arith, nat_tests))
 
-pub read-width-requires : goal.read-width-requires
-read-width-requires c = (first_of c.args.self.well_formed (grind (arith, nat_tests))).begins
+pub read-width-requires-clause-front : goal.read-width-requires-clause-front
+read-width-requires-clause-front c = (first_of c.args.self.well_formed (grind (arith, nat_tests))).begins
 
 pub split_at-requires : goal.split_at-requires
-split_at-requires c =
-    let told = subst (Told c.args.self.bytes.now (number c.read-width.result.0)) c.if-width-eq1.true c.read-width.ensures in
-    (taken c.args.self.well_formed (number c.read-width.result.0) 1 (grind (arith, nat_tests)) told).within
+split_at-requires c = (taken c.args.self.bytes.now 0 c.args.self.well_formed _ _ (grind (arith, nat_tests)) c.read-width.ensures).within
 
 pub invariant_of-result : goal.invariant_of-result
 invariant_of-result c =
-    let told = subst (Told c.args.self.bytes.now (number c.read-width.result.0)) c.if-width-eq1.true c.read-width.ensures in
-    let t = taken c.args.self.well_formed (number c.read-width.result.0) 1 (grind (arith, nat_tests)) told in
+    let t = taken c.args.self.bytes.now 0 c.args.self.well_formed (number c.read-width.result.0) c.read-width.result.1 (grind (arith, nat_tests))
+    c.read-width.ensures in
     record { well_formed = rw c.split_at.ensures.back t.rest }
-
-pub returns-then-width-eq1-clause-some : goal.returns-then-width-eq1-clause-some
-returns-then-width-eq1-clause-some c =
-    let told = subst (Told c.args.self.bytes.now (number c.read-width.result.0)) c.if-width-eq1.true c.read-width.ensures in
-    let t = taken c.args.self.well_formed (number c.read-width.result.0) 1 (grind (arith, nat_tests)) told in
-    t.joined ∙ ap (λ r. number c.read-width.result.0 ∷ r) (same_points t.rest c.result-1.given.0 (sym c.split_at.ensures.back))
-
-pub split_at-requires-2 : goal.split_at-requires-2
-split_at-requires-2 c = (taken c.args.self.well_formed _ _ (grind (arith, nat_tests)) c.read-width.ensures).within
-
-pub invariant_of-result-2 : goal.invariant_of-result-2
-invariant_of-result-2 c =
-    let t = taken c.args.self.well_formed (number c.read-width.result.0) c.read-width.result.1 (grind (arith, nat_tests)) c.read-width.ensures in
-    record { well_formed = rw c.split_at-2.ensures.back t.rest }
 
 pub returns-clause-some : goal.returns-clause-some
 returns-clause-some c =
-    let t = taken c.args.self.well_formed (number c.read-width.result.0) c.read-width.result.1 (grind (arith, nat_tests)) c.read-width.ensures in
-    t.joined ∙ ap (λ r. number c.read-width.result.0 ∷ r) (same_points t.rest c.result-2-1.given.0 (sym c.split_at-2.ensures.back))
+    let t = taken c.args.self.bytes.now 0 c.args.self.well_formed (number c.read-width.result.0) c.read-width.result.1 (grind (arith, nat_tests))
+    c.read-width.ensures in
+    t.joined ∙ ap (λ r. number c.read-width.result.0 ∷ r) (same_points t.rest c.result-1.given.0 (sym c.split_at.ensures.back))
