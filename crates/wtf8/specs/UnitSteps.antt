@@ -1,5 +1,5 @@
 -- For private functions: what an iterator of units holds back, and what a step leaves of it.
-use Rattle.std.specs.Prelude.{ℕ, Bool, true, false, ◌+◌, ◌*◌, ◌%◌, List, [], ◌∷◌, drop, nat_lt, if◌then◌else◌}
+use Rattle.std.specs.Prelude.{ℕ, Bool, false, ◌+◌, ◌*◌, ◌%◌, List, [], ◌∷◌, drop, nat_lt, if◌then◌else◌}
 use Rattle.wtf8.specs.Unicode.{units_of}
 use Rattle.wtf8.specs.Units.{Unread}
 

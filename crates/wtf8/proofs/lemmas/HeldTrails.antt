@@ -1,10 +1,10 @@
 -- Bytes that begin with a held trail or with a code point, and what one unit leaves of them.
-use Rattle.std.proofs.Common.{◌≡◌, ℕ, Bool, true, false, ◌+◌, ◌-◌, ◌*◌, ◌/◌, ◌%◌, ◌<◌, ◌≤◌, inl, inr, List, [], ◌∷◌, ◌++◌, length, get_or, drop, refl, sym, ap, subst, ◌∙◌}
-use Rattle.std.proofs.Common.{arith, length-drop, length-append}
-use Rattle.std.proofs.lemmas.Bool.{lt-ltb, le-ltb, cases_lt}
-use Rattle.std.proofs.lemmas.List.{drop-drop, drop_all}
+use Rattle.std.proofs.Common.{◌≡◌, ℕ, true, false, ◌+◌, ◌/◌, ◌%◌, ◌<◌, ◌≤◌, inl, inr, List, [], ◌∷◌, ◌++◌, length, get_or, drop}
+use Rattle.std.proofs.Common.{refl, sym, ap, subst, ◌∙◌, arith, length-drop}
+use Rattle.std.proofs.lemmas.Bool.{lt-ltb, le-ltb}
+use Rattle.std.proofs.lemmas.List.{drop-drop}
 use Rattle.wtf8.specs.Unicode.{IsCodePoint, units_of, units}
-use Rattle.wtf8.specs.Form.{bytes, encoding, IsWellFormed}
+use Rattle.wtf8.specs.Form.{encoding, IsWellFormed}
 use Rattle.wtf8.specs.Units.{Unread, unread_units}
 use Rattle.wtf8.specs.UnitSteps.{is_inside, trail_by, held_in, behind_held, unread_after}
 use Rattle.wtf8.proofs.lemmas.Encoding.{row_of, one, two, three, four, Begins, first-encoding}
@@ -141,15 +141,3 @@ steps_trail v at h next l g two_on =
 pub ended : (w : List ℕ) (h : IsWellFormed (behind_held w)) → length w ≡ 0 → (held_in w ≡ []) × (h.points ≡ [])
 ended [] h e = (refl, no_points h refl)
 ended (a ∷ w) h e = absurd (omega arith)
-
--- a held trail is two bytes
-pub length-held : (w : List ℕ) (h : IsWellFormed (behind_held w)) → length w ≡ 2 * length (held_in w) + length (bytes h.points)
-length-held [] h = omega (arith, ap length h.encoded)
-length-held (a ∷ []) h = omega (arith, ap length h.encoded)
-length-held (a ∷ b ∷ w) h = elim (cases_lt a 0x80) [
-  | inl l ↦ let n = not_held (a ∷ b ∷ w) (below a l) in omega (arith, ap length n.0, ap length n.1, ap length h.encoded)
-  | inr l ↦ elim (cases_lt a 0xC0) [
-    | inl g ↦ let n = held_at (a ∷ b ∷ w) (omega arith) (inside a l g) in omega (arith, ap length n.0, ap length n.1, ap length h.encoded)
-    | inr g ↦ let n = not_held (a ∷ b ∷ w) (above a g) in omega (arith, ap length n.0, ap length n.1, ap length h.encoded)
-  ]
-]

@@ -126,7 +126,8 @@ taken v at h p behind long read =
     let b = f.begins in
     let n = length (encoding b.point) in
     let was = read b.point b.rest b.in_range b.encoded in
-    let back : drop behind v ≡ b.rest = ap (λ k. drop k v) was.1 ∙ (sym (drop-drop n at v) ∙ (ap (drop n) b.encoded ∙ drop_at (encoding b.point) b.rest n refl)) in
+    let back : drop behind v ≡ b.rest =
+    ap (λ k. drop k v) was.1 ∙ (sym (drop-drop n at v) ∙ (ap (drop n) b.encoded ∙ drop_at (encoding b.point) b.rest n refl)) in
     record {
       within = omega (arith, was.1, ap length b.encoded, length-append (encoding b.point) b.rest, length-drop at v);
       rest = record { points = f.rest; clean = f.clean; encoded = f.encoded ∙ sym back };

@@ -1,5 +1,5 @@
 -- The branch knows its row of the table by the first byte.
-use Rattle.std.proofs.Common.{◌≡◌, ℕ, ◌+◌, ◌-◌, ◌*◌, ◌/◌, ◌≤◌, List, get_or, arith, subst, sym}
+use Rattle.std.proofs.Common.{◌≤◌, get_or, arith, subst, sym}
 use Rattle.wtf8.proofs.lemmas.FirstBytes.{front_of, LeadRead, lead_read}
 use Rattle.wtf8.proofs.encoding.read_lead.Goals as goal
 

@@ -1,6 +1,5 @@
 use Rattle.std.proofs.Common.{◌≡◌, ◌+◌, ◌≤◌, ◌<◌, ◌∙◌, sym, length, ap, drop, get_or, arith}
 use Rattle.std.proofs.lemmas.List.{get_or-drop}
-use Rattle.wtf8.specs.Units.{Unread}
 use Rattle.wtf8.proofs.lemmas.HeldTrails.{inside, is_whole, held_at}
 use Rattle.wtf8.proofs.iters.IllFormedUtf16CodeUnits.held_units.Goals as goal
 

@@ -1,4 +1,4 @@
-use Rattle.std.proofs.Common.{refl, arith}
+use Rattle.std.proofs.Common.{arith}
 use Rattle.wtf8.proofs.lemmas.HeldTrails.{starts, not_held}
 use Rattle.wtf8.proofs.lemmas.Readings.{moved, same_points}
 use Rattle.wtf8.proofs.iters.IllFormedUtf16CodeUnits.new.Goals as goal

@@ -1,10 +1,22 @@
-use Rattle.std.proofs.Common.{length, ap, drop, arith, length-drop}
-use Rattle.wtf8.specs.Form.{bytes}
-use Rattle.wtf8.specs.Units.{Unread}
-use Rattle.wtf8.specs.Unicode.{units}
-use Rattle.wtf8.proofs.lemmas.HeldTrails.{length-held}
+use Rattle.std.proofs.Common.{◌≡◌, ℕ, ◌+◌, ◌*◌, inl, inr, List, [], ◌∷◌, length, ap, drop, arith, length-drop}
+use Rattle.std.proofs.lemmas.Bool.{cases_lt}
+use Rattle.wtf8.specs.Form.{bytes, IsWellFormed}
+use Rattle.wtf8.specs.UnitSteps.{held_in, behind_held}
+use Rattle.wtf8.proofs.lemmas.HeldTrails.{inside, below, above, not_held, held_at}
 use Rattle.wtf8.proofs.lemmas.Units.{units_bounds}
 use Rattle.wtf8.proofs.iters.IllFormedUtf16CodeUnits.unread_bytes.Goals as goal
+
+-- a held trail is two bytes
+length-held : (w : List ℕ) (h : IsWellFormed (behind_held w)) → length w ≡ 2 * length (held_in w) + length (bytes h.points)
+length-held [] h = omega (arith, ap length h.encoded)
+length-held (a ∷ []) h = omega (arith, ap length h.encoded)
+length-held (a ∷ b ∷ w) h = elim (cases_lt a 0x80) [
+  | inl l ↦ let n = not_held (a ∷ b ∷ w) (below a l) in omega (arith, ap length n.0, ap length n.1, ap length h.encoded)
+  | inr l ↦ elim (cases_lt a 0xC0) [
+    | inl g ↦ let n = held_at (a ∷ b ∷ w) (omega arith) (inside a l g) in omega (arith, ap length n.0, ap length n.1, ap length h.encoded)
+    | inr g ↦ let n = not_held (a ∷ b ∷ w) (above a g) in omega (arith, ap length n.0, ap length n.1, ap length h.encoded)
+  ]
+]
 
 pub overflow_sub-result-2 : goal.overflow_sub-result-2
 overflow_sub-result-2 c =
