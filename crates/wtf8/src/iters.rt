@@ -172,21 +172,25 @@ impl<'a> IllFormedUtf16CodeUnits<'a> {
         }
         if 0xC0 <= first {
             if first < 0xE0 {
+                let behind = at + 2;
                 let unit = encoding::read_two(rest) as u16;
-                self.at = at + 2;
+                self.at = behind;
                 return Some(unit);
             }
             if first < 0xF0 {
+                let behind = at + 3;
                 let unit = encoding::read_three(rest) as u16;
-                self.at = at + 3;
+                self.at = behind;
                 return Some(unit);
             }
+            let behind = at + 2;
             let lead = encoding::read_lead(rest);
-            self.at = at + 2;
+            self.at = behind;
             return Some(lead);
         }
+        let behind = at + 2;
         let trail = encoding::read_trail(rest);
-        self.at = at + 2;
+        self.at = behind;
         Some(trail)
     }
 
