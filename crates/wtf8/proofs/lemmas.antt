@@ -17,6 +17,7 @@ pub mod FirstUnits
 pub mod FormLaws
 pub mod Forms
 pub mod Gains
+pub mod HeldTrails
 pub mod HexLanes
 pub mod InitialTrail
 pub mod ListOrder

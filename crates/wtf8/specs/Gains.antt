@@ -10,6 +10,10 @@ pub record BeginsWithPoint (w : List ℕ) : Type 0 where
   pub in_range : IsCodePoint point
   pub encoded : w ≡ encoding point ++ rest
 
+-- What bytes begin with was read as a code point of so many bytes: no other one begins there.
+abbrev pub IsReadAs : List ℕ → ℕ → ℕ → Type 0
+IsReadAs w p n = (q : ℕ) (rest : List ℕ) → IsCodePoint q → w ≡ encoding q ++ rest → (p ≡ q) × (n ≡ length (encoding q))
+
 -- Bytes gained these units: new bytes are the form of the units of the old ones with these behind them (WTF-8, "Concatenating").
 abbrev pub GainsUnits : List ℕ → List ℕ → List ℕ → Type 0
 GainsUnits old new v = (u : List ℕ) → IsForm old u → IsForm new (u ++ v)

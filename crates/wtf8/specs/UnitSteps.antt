@@ -1,11 +1,27 @@
 -- For private functions: what an iterator of units holds back, and what a step leaves of it.
-use Rattle.std.specs.Prelude.{ℕ, List, [], ◌∷◌, drop, nat_eq, if◌then◌else◌}
+use Rattle.std.specs.Prelude.{ℕ, Bool, false, ◌+◌, ◌*◌, ◌%◌, List, [], ◌∷◌, drop, nat_lt, if◌then◌else◌}
 use Rattle.wtf8.specs.Unicode.{units_of}
 use Rattle.wtf8.specs.Units.{Unread}
 
--- A held trail as a list of units: none where the number is 0, which is no trail.
-abbrev pub held_trail : ℕ → List ℕ
-held_trail t = if nat_eq t 0 then [] else t ∷ []
+-- Whether a byte is one behind the first of a code point's encoding: from 80 to BF.
+abbrev pub is_inside : ℕ → Bool
+is_inside b = if nat_lt b 0x80 then false else nat_lt b 0xC0
+
+-- The trail of a supplementary code point by the last two bytes of its encoding: four bits and six.
+abbrev pub trail_by : ℕ → ℕ → ℕ
+trail_by a b = 0xDC00 + a % 16 * 64 + b % 64
+
+-- The trail that bytes begin with, where they begin inside a code point, behind its lead: none where a code point begins.
+abbrev pub held_in : List ℕ → List ℕ
+held_in [] = []
+held_in (a ∷ []) = []
+held_in (a ∷ b ∷ w) = if is_inside a then trail_by a b ∷ [] else []
+
+-- The bytes behind the trail that bytes begin with: all of them where a code point begins.
+abbrev pub behind_held : List ℕ → List ℕ
+behind_held [] = []
+behind_held (a ∷ []) = a ∷ []
+behind_held (a ∷ b ∷ w) = if is_inside a then w else a ∷ b ∷ w
 
 -- What is left of a held part and unread code points behind their first unit: a held unit goes first, and behind the first unit of a code point its second one
 -- is held.

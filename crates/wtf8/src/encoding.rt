@@ -1,9 +1,11 @@
 // The encoding of one code point: written at the end of bytes, and read from their front.
-ghost use Rattle.std.specs.Prelude.{◌≡◌, ℕ, List, ◌++◌, ◌+◌, ◌%◌, ◌<◌, ◌≤◌, ◌↔◌, ◌⊎◌, IsTrue, length, OnOk, OnErr, IsOk, vec_len, vec_capacity};
+ghost use Rattle.std.specs.Prelude.{◌≡◌, ◌++◌, ◌+◌, ◌-◌, ◌/◌, ◌%◌, ◌^◌, ◌<◌, ◌≤◌, ◌↔◌, ◌⊎◌};
+ghost use Rattle.std.specs.Prelude.{ℕ, List, IsTrue, length, slice_index, OnOk, OnErr, IsOk, vec_len, vec_capacity};
 ghost use Rattle.wtf8.specs.CodePoint.{number};
 ghost use Rattle.wtf8.specs.Form.{encoding};
-ghost use Rattle.wtf8.specs.Gains.{BeginsWithPoint};
+ghost use Rattle.wtf8.specs.Gains.{BeginsWithPoint, IsReadAs};
 ghost use Rattle.wtf8.specs.Unicode.{IsCodePoint};
+ghost use Rattle.wtf8.specs.UnitSteps.{trail_by};
 
 use crate::code_point::CodePoint;
 use std::alloc::{AllocError, Allocator};
@@ -103,31 +105,90 @@ pub(crate) fn low_bits(byte: u8) -> u32
     u32::from(byte - 0x80)
 }
 
-/// The number of the code point at the front of the bytes, and how many bytes it takes.
-fn read_number(bytes: &[u8]) -> (u32, usize)
-    requires { BeginsWithPoint bytes.now }
-    ensures { (p : ℕ) (rest : List ℕ) → IsCodePoint p → bytes.now ≡ encoding p ++ rest → (result.0 ≡ p) × (result.1 ≡ length (encoding p)) }
+/// The number of a code point of two bytes at the front of the bytes.
+#[inline(always)]
+pub(crate) fn read_two(bytes: &[u8]) -> u32
+    requires front { BeginsWithPoint bytes.now }
+    requires least { 0x80 ≤ slice_index bytes.now 0 }
+    requires most { slice_index bytes.now 0 < 0xE0 }
+    ensures read { IsReadAs bytes.now result 2 }
+    ensures one_unit { result < 0x10000 }
 {
-    let first = u32::from(bytes[0]);
+    (u32::from(bytes[0]) - 0xC0) * 64 + low_bits(bytes[1])
+}
+
+/// The number of a code point of three bytes at the front of the bytes.
+#[inline(always)]
+pub(crate) fn read_three(bytes: &[u8]) -> u32
+    requires front { BeginsWithPoint bytes.now }
+    requires least { 0xE0 ≤ slice_index bytes.now 0 }
+    requires most { slice_index bytes.now 0 < 0xF0 }
+    ensures read { IsReadAs bytes.now result 3 }
+    ensures one_unit { result < 0x10000 }
+{
+    let high = (u32::from(bytes[0]) - 0xE0) * 64 + low_bits(bytes[1]);
+    high * 64 + low_bits(bytes[2])
+}
+
+/// The number of a supplementary code point at the front of the bytes.
+#[inline(always)]
+fn read_four(bytes: &[u8]) -> u32
+    requires front { BeginsWithPoint bytes.now }
+    requires least { 0xF0 ≤ slice_index bytes.now 0 }
+    ensures { IsReadAs bytes.now result 4 }
+{
+    let high = (u32::from(bytes[0]) - 0xF0) * 64 + low_bits(bytes[1]);
+    let middle = high * 64 + low_bits(bytes[2]);
+    middle * 64 + low_bits(bytes[3])
+}
+
+/// The lead of the supplementary code point at the front of the bytes.
+#[inline(always)]
+pub(crate) fn read_lead(bytes: &[u8]) -> u16
+    requires front { BeginsWithPoint bytes.now }
+    requires least { 0xF0 ≤ slice_index bytes.now 0 }
+    ensures { (p : ℕ) (rest : List ℕ) → IsCodePoint p → bytes.now ≡ encoding p ++ rest → result ≡ 0xD800 + (p - 0x10000) / 0x400 }
+{
+    let high = (u32::from(bytes[0]) - 0xF0) * 64 + low_bits(bytes[1]);
+    // The number less 0x10000 has 0x40 less above its low ten bits.
+    (0xD800 - 0x40 + high * 4 + low_bits(bytes[2]) / 16) as u16
+}
+
+/// The trail of the supplementary code point whose last two bytes stand at the front.
+#[inline(always)]
+pub(crate) fn read_trail(bytes: &[u8]) -> u16
+    requires { 1 < length bytes.now }
+    ensures { result ≡ trail_by (slice_index bytes.now 0) (slice_index bytes.now 1) }
+{
+    (0xDC00 + u32::from(bytes[0] % 16) * 64 + u32::from(bytes[1] % 64)) as u16
+}
+
+/// The number of the code point at the front of the bytes, which stand at a position, and the position behind it.
+#[inline(always)]
+fn read_number(bytes: &[u8], at: usize) -> (u32, usize)
+    requires front { BeginsWithPoint bytes.now }
+    requires within { at + length bytes.now < 2 ^ 64 }
+    ensures { (p : ℕ) (rest : List ℕ) → IsCodePoint p → bytes.now ≡ encoding p ++ rest → (result.0 ≡ p) × (result.1 ≡ at + length (encoding p)) }
+{
+    let first = bytes[0];
     if first < 0x80 {
-        (first, 1)
+        (u32::from(first), at + 1)
     } else if first < 0xE0 {
-        ((first - 0xC0) * 64 + low_bits(bytes[1]), 2)
+        (read_two(bytes), at + 2)
     } else if first < 0xF0 {
-        let high = (first - 0xE0) * 64 + low_bits(bytes[1]);
-        (high * 64 + low_bits(bytes[2]), 3)
+        (read_three(bytes), at + 3)
     } else {
-        let high = (first - 0xF0) * 64 + low_bits(bytes[1]);
-        let middle = high * 64 + low_bits(bytes[2]);
-        (middle * 64 + low_bits(bytes[3]), 4)
+        (read_four(bytes), at + 4)
     }
 }
 
-/// The code point at the front of the bytes, and how many bytes it takes.
-pub(crate) fn read(bytes: &[u8]) -> (CodePoint, usize)
-    requires { BeginsWithPoint bytes.now }
-    ensures { (p : ℕ) (rest : List ℕ) → IsCodePoint p → bytes.now ≡ encoding p ++ rest → (number result.0 ≡ p) × (result.1 ≡ length (encoding p)) }
+/// The code point at the front of the bytes, which stand at a position, and the position behind it.
+#[inline(always)]
+pub(crate) fn read(bytes: &[u8], at: usize) -> (CodePoint, usize)
+    requires front { BeginsWithPoint bytes.now }
+    requires within { at + length bytes.now < 2 ^ 64 }
+    ensures { (p : ℕ) (rest : List ℕ) → IsCodePoint p → bytes.now ≡ encoding p ++ rest → (number result.0 ≡ p) × (result.1 ≡ at + length (encoding p)) }
 {
-    let (value, width) = read_number(bytes);
-    (CodePoint::from_u32_unchecked(value), width)
+    let (value, behind) = read_number(bytes, at);
+    (CodePoint::from_u32_unchecked(value), behind)
 }

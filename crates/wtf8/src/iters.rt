@@ -1,5 +1,11 @@
 // Iterators over code points and over code units.
+ghost use Rattle.std.specs.Prelude.{◌≤◌, length, drop};
+ghost use Rattle.wtf8.specs.Form.{IsWellFormed};
+ghost use Rattle.wtf8.specs.OneForm.{IsWellFormed-prop};
+ghost use Rattle.wtf8.specs.UnitSteps.{behind_held};
+
 use crate::code_point::CodePoint;
+use crate::encoding;
 use crate::view::Wtf8;
 use std::alloc::AllocError;
 use std::marker::Model;
@@ -10,7 +16,13 @@ use std::marker::Model;
 /// Contracts see it as the list of the code points that are left.
 #[derive(Drop)]
 pub struct Wtf8CodePoints<'a> {
-    rest: Wtf8<'a>,
+    bytes: &'a [u8],
+
+    /// Where the next code point begins, or the end.
+    at: usize,
+
+    ghost within: { at ≤ length bytes.now },
+    ghost well_formed: { IsWellFormed (drop at bytes.now) } by { IsWellFormed-prop (drop at bytes.now) },
 }
 
 impl<'a> Model for Wtf8CodePoints<'a> {
@@ -18,17 +30,36 @@ impl<'a> Model for Wtf8CodePoints<'a> {
 
     ghost Value = { List ℕ };
 
-    ghost view = { λ s. s.rest.well_formed.points };
+    ghost view = { λ s. s.well_formed.points };
 }
 
 impl<'a> Wtf8CodePoints<'a> {
     ghost use Rattle.std.specs.Prelude.{◌≡◌};
+    ghost use Rattle.std.specs.Iterator.{YieldsFirstBy};
+    ghost use Rattle.wtf8.specs.CodePoint.{number};
     ghost use Rattle.wtf8.specs.View.{view_points};
 
     pub(crate) fn new(view: Wtf8<'a>) -> Wtf8CodePoints<'a>
         ensures { result ≡ view_points view.entry }
     {
-        Wtf8CodePoints { rest: view }
+        Wtf8CodePoints {
+            bytes: view.bytes,
+            at: 0,
+        }
+    }
+
+    /// The next code point, or `None` at the end.
+    #[inline(always)]
+    fn give_next(&mut self) -> Option<CodePoint>
+        ensures { YieldsFirstBy number (λ points. points) self.old result self.new }
+    {
+        if self.at == self.bytes.len() {
+            return None;
+        }
+        let (_, rest) = self.bytes.split_at(self.at);
+        let (code_point, behind) = encoding::read(rest, self.at);
+        self.at = behind;
+        Some(code_point)
     }
 }
 
@@ -46,11 +77,7 @@ impl<'a> Iterator for Wtf8CodePoints<'a> {
     ghost remaining = { item_count (λ points. points) };
 
     fn next(&mut self) -> Option<CodePoint> {
-        let Some((code_point, rest)) = self.rest.split_first() else {
-            return None;
-        };
-        self.rest = rest;
-        Some(code_point)
+        self.give_next()
     }
 
     /// A quarter of the bytes left, rounded up, and their number: a code point has one to four.
@@ -60,7 +87,7 @@ impl<'a> Iterator for Wtf8CodePoints<'a> {
         ensures value { result ≡ points_hint self.now }
         ensures holds { IsTrueHint result (length self.now) }
     {
-        let bytes = self.rest.len();
+        let bytes = self.bytes.len() - self.at;
         (bytes.div_ceil(4), Some(bytes))
     }
 }
@@ -73,7 +100,10 @@ impl<'a> Clone for Wtf8CodePoints<'a> {
     ghost is_infallible = { λ _. ⊤ };
 
     fn clone(&self) -> Result<Wtf8CodePoints<'a>, AllocError> {
-        Ok(Wtf8CodePoints { rest: self.rest })
+        Ok(Wtf8CodePoints {
+            bytes: self.bytes,
+            at: self.at,
+        })
     }
 }
 
@@ -83,24 +113,31 @@ impl<'a> Clone for Wtf8CodePoints<'a> {
 /// Contracts see it as the units that are held back, none or one trail surrogate, and the code points that are left.
 #[derive(Drop)]
 pub struct IllFormedUtf16CodeUnits<'a> {
-    code_points: Wtf8CodePoints<'a>,
+    bytes: &'a [u8],
 
-    /// The trail that is held back, or 0, which is no trail, where none is.
-    trail: u16,
+    /// Where the next unit is read: at a code point, at the end, or, where its lead was given, at the last two bytes of
+    /// a supplementary code point, which tell its trail.
+    at: usize,
+
+    ghost within: { at ≤ length bytes.now },
+    ghost behind: { IsWellFormed (behind_held (drop at bytes.now)) } by { IsWellFormed-prop (behind_held (drop at bytes.now)) },
 }
 
 impl<'a> Model for IllFormedUtf16CodeUnits<'a> {
+    ghost use Rattle.std.specs.Prelude.{drop};
     ghost use Rattle.wtf8.specs.Units.{Unread};
-    ghost use Rattle.wtf8.specs.UnitSteps.{held_trail};
+    ghost use Rattle.wtf8.specs.UnitSteps.{held_in};
 
     ghost Value = { Unread };
 
-    ghost view = { λ s. record { held = held_trail s.trail; points = s.code_points } };
+    ghost view = { λ s. record { held = held_in (drop s.at s.bytes.now); points = s.behind.points } };
 }
 
 impl<'a> IllFormedUtf16CodeUnits<'a> {
-    ghost use Rattle.std.specs.Prelude.{◌≡◌, []};
+    ghost use Rattle.std.specs.Prelude.{◌≡◌, ◌*◌, [], length};
     ghost use Rattle.std.specs.Iterator.{YieldsFirst};
+    ghost use Rattle.wtf8.specs.Form.{bytes};
+    ghost use Rattle.wtf8.specs.Unicode.{units};
     ghost use Rattle.wtf8.specs.Units.{unread_units};
     ghost use Rattle.wtf8.specs.UnitSteps.{unread_after};
     ghost use Rattle.wtf8.specs.View.{view_points};
@@ -110,8 +147,8 @@ impl<'a> IllFormedUtf16CodeUnits<'a> {
         ensures points { result.points ≡ view_points view.entry }
     {
         IllFormedUtf16CodeUnits {
-            code_points: Wtf8CodePoints::new(view),
-            trail: 0,
+            bytes: view.bytes,
+            at: 0,
         }
     }
 
@@ -122,18 +159,62 @@ impl<'a> IllFormedUtf16CodeUnits<'a> {
         ensures first { YieldsFirst unread_units self.old result self.new }
         ensures left { self.new ≡ unread_after self.old }
     {
-        let trail = self.trail;
-        if trail != 0 {
-            self.trail = 0;
-            return Some(trail);
+        let at = self.at;
+        if at == self.bytes.len() {
+            return None;
         }
-        let code_point = self.code_points.next()?.to_u32();
-        if code_point < 0x10000 {
-            return Some(code_point as u16);
+        let (_, rest) = self.bytes.split_at(at);
+        let first = rest[0];
+        // The position is moved in each branch: one step for all of them, by a width, is slower.
+        if first < 0x80 {
+            self.at = at + 1;
+            return Some(u16::from(first));
         }
-        let offset = code_point - 0x10000;
-        self.trail = (0xDC00 + offset % 0x400) as u16;
-        Some((0xD800 + offset / 0x400) as u16)
+        if 0xC0 <= first {
+            if first < 0xE0 {
+                let behind = at + 2;
+                let unit = encoding::read_two(rest) as u16;
+                self.at = behind;
+                return Some(unit);
+            }
+            if first < 0xF0 {
+                let behind = at + 3;
+                let unit = encoding::read_three(rest) as u16;
+                self.at = behind;
+                return Some(unit);
+            }
+            let behind = at + 2;
+            let lead = encoding::read_lead(rest);
+            self.at = behind;
+            return Some(lead);
+        }
+        let behind = at + 2;
+        let trail = encoding::read_trail(rest);
+        self.at = behind;
+        Some(trail)
+    }
+
+    /// How many bytes the code points have that are left.
+    fn unread_bytes(&self) -> usize
+        ensures value { result ≡ length (bytes self.now.points) }
+        ensures at_least_units { length (units self.now.points) ≤ result }
+        ensures at_most_three_times { result ≤ 3 * length (units self.now.points) }
+    {
+        self.bytes.len() - self.at - 2 * self.held_units()
+    }
+
+    /// How many units are held back.
+    fn held_units(&self) -> usize
+        ensures value { result ≡ length self.now.held }
+        ensures at_most_one { result ≤ 1 }
+    {
+        if self.at == self.bytes.len() {
+            return 0;
+        }
+        match self.bytes[self.at] {
+            0x80..=0xBF => 1,
+            _ => 0,
+        }
     }
 }
 
@@ -162,8 +243,8 @@ impl<'a> Iterator for IllFormedUtf16CodeUnits<'a> {
         ensures value { result ≡ units_hint self.now }
         ensures holds { IsTrueHint result (length (unread_units self.now)) }
     {
-        let bytes = self.code_points.rest.len();
-        let held = usize::from(self.trail != 0);
+        let bytes = self.unread_bytes();
+        let held = self.held_units();
         let most = match bytes.checked_mul(2) {
             Some(twice) => twice.checked_add(held),
             None => None,
@@ -181,8 +262,8 @@ impl<'a> Clone for IllFormedUtf16CodeUnits<'a> {
 
     fn clone(&self) -> Result<IllFormedUtf16CodeUnits<'a>, AllocError> {
         Ok(IllFormedUtf16CodeUnits {
-            code_points: self.code_points.clone()?,
-            trail: self.trail,
+            bytes: self.bytes,
+            at: self.at,
         })
     }
 }

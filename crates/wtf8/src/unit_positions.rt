@@ -1,5 +1,5 @@
 // Positions counted in 16-bit units.
-ghost use Rattle.std.specs.Prelude.{◌≡◌, ◌++◌, ◌+◌, ◌-◌, ◌/◌, ◌%◌, ◌<◌, ◌≤◌, length, take, drop, slice_get, IfSome, IfNone};
+ghost use Rattle.std.specs.Prelude.{◌≡◌, ◌++◌, ◌+◌, ◌-◌, ◌/◌, ◌%◌, ◌^◌, ◌<◌, ◌≤◌, length, take, drop, slice_get, IfSome, IfNone};
 ghost use Rattle.std.specs.Option.{option_to_list};
 ghost use Rattle.wtf8.specs.Form.{encoding};
 ghost use Rattle.wtf8.specs.Unicode.{IsLead};
@@ -87,6 +87,34 @@ fn find_unit(bytes: &[u8], unit: usize) -> Place
     find_unit_from(bytes, unit, Place { at, units_before })
 }
 
+/// How many units begin among the bytes, of which those before a place are counted.
+fn count_units_from(bytes: &[u8], from: Place) -> usize
+    requires within { from.at ≤ length bytes.now }
+    requires counted { from.units_before ≡ all_units_begun (take from.at bytes.now) }
+    requires fits { all_units_begun bytes.now < 2 ^ 64 }
+    ensures { result ≡ all_units_begun bytes.now }
+{
+    let mut units = from.units_before;
+    for at in from.at..bytes.len() {
+        units += units_begun_by(bytes[at]);
+    }
+    units
+}
+
+/// How many units begin among the bytes.
+fn count_units(bytes: &[u8]) -> usize
+    requires { all_units_begun bytes.now < 2 ^ 64 }
+    ensures { result ≡ all_units_begun bytes.now }
+{
+    let mut at = 0;
+    let mut units_before = 0;
+    while LANES <= bytes.len() - at {
+        units_before += units_begun_in_block(u8x32::from_slice(&bytes[at..]));
+        at += LANES;
+    }
+    count_units_from(bytes, Place { at, units_before })
+}
+
 /// Where a number of units ends in a string: a position in bytes, and the supplementary code point that begins there
 /// where the last of the units is its lead.
 #[derive(Clone, Copy)]
@@ -158,7 +186,8 @@ impl<'a> Wtf8<'a> {
         ensures { result ≡ length (view_units self.now) }
     {
         // There are no more units than bytes.
-        find_unit(self.bytes, self.bytes.len()).units_before
+        prove!(self.len() <= usize::MAX);
+        count_units(self.bytes)
     }
 
     /// The 16-bit unit of a number, counted from 0, or `None` where there are no more than so many.

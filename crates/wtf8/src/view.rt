@@ -235,12 +235,7 @@ impl<'a> Wtf8<'a> {
         if self.bytes.is_empty() {
             return None;
         }
-        let (code_point, width) = encoding::read(self.bytes);
-        // A step by a constant is faster, and most code points have one byte.
-        if width == 1 {
-            let (_, rest) = self.bytes.split_at(1);
-            return Some((code_point, Wtf8 { bytes: rest }));
-        }
+        let (code_point, width) = encoding::read(self.bytes, 0);
         let (_, rest) = self.bytes.split_at(width);
         Some((code_point, Wtf8 { bytes: rest }))
     }

@@ -1,6 +1,6 @@
 -- What the first bytes of an encoding say of the code point.
-use Rattle.wtf8.proofs.Common.{◌≡◌, ℕ, ◌+◌, ◌-◌, ◌*◌, ◌/◌, ◌<◌, ◌≤◌, List, ◌++◌, length, get_or, refl, sym, arith, subst, IsCodePoint, encoding}
-use Rattle.wtf8.proofs.Common.{BeginsWithPoint}
+use Rattle.wtf8.proofs.Common.{◌≡◌, ℕ, ◌+◌, ◌-◌, ◌*◌, ◌/◌, ◌<◌, ◌≤◌, List, ◌++◌, length, get_or, refl, sym, ap, arith, subst, IsCodePoint}
+use Rattle.wtf8.proofs.Common.{encoding, BeginsWithPoint}
 use Rattle.std.proofs.Math.Nat.{div-div-eq-div-mul}
 use Rattle.wtf8.proofs.lemmas.Encoding.{row_of, one, two, three, four}
 
@@ -30,3 +30,26 @@ front-encoding p r range =
 
 pub front_of : {w : List ℕ} (b : BeginsWithPoint w) → Front w b.point (length (encoding b.point))
 front_of {w} b = subst (λ (v : List ℕ). Front v b.point (length (encoding b.point))) (sym b.encoded) (front-encoding b.point b.rest b.in_range)
+
+-- an encoding of at most three bytes is of one unit
+pub one_unit : (p : ℕ) → length (encoding p) ≤ 3 → p < 0x10000
+one_unit p h =
+    elim (row_of p) [
+      | one l e ↦ omega arith
+      | two _ l e ↦ omega arith
+      | three _ l e ↦ l
+      | four l e ↦ absurd (omega (arith, ap length e))
+    ]
+
+-- the lead of a supplementary code point by its first three bytes
+abbrev pub LeadRead : List ℕ → ℕ → Type 0
+LeadRead w p = 0xD7C0 + ((get_or w 0 0 - 0xF0) * 64 + (get_or w 1 0 - 0x80)) * 4 + (get_or w 2 0 - 0x80) / 16 ≡ 0xD800 + (p - 0x10000) / 0x400
+
+pub lead_read : (p : ℕ) (r : List ℕ) → 0xF0 ≤ get_or (encoding p ++ r) 0 0 → LeadRead (encoding p ++ r) p
+lead_read p r g =
+    elim (row_of p) [
+      | one l e ↦ absurd (omega (arith, rw e at g))
+      | two _ l e ↦ absurd (omega (arith, rw e at g))
+      | three _ l e ↦ absurd (omega (arith, rw e at g))
+      | four l e ↦ rw e (omega arith)
+    ]

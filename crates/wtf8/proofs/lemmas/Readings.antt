@@ -1,7 +1,9 @@
 -- Each list of units has one reading at most and one form at most, and bytes determine code points and units.
-use Rattle.wtf8.proofs.Common.{◌≡◌, ℕ, ◌<◌, ◌≤◌, inl, inr, List, [], ◌∷◌, ◌++◌, length, get_or, drop, refl, sym, ap, ◌∙◌, arith, length-append, cases_lt}
-use Rattle.wtf8.proofs.Common.{drop_all, drop_at, bytes-injective, IsCodePoint, IsTrail, units, IsClean, Reads, bytes, encoding, IsWellFormed, IsForm}
-use Rattle.wtf8.proofs.Common.{BeginsWithPoint}
+use Rattle.wtf8.proofs.Common.{◌≡◌, ℕ, ◌+◌, ◌<◌, ◌≤◌, inl, inr, List, [], ◌∷◌, ◌++◌, length, get_or, drop, refl, sym, ap, ◌∙◌, arith, length-append}
+use Rattle.wtf8.proofs.Common.{cases_lt, drop_all, drop_at, bytes-injective, IsCodePoint, IsTrail, units, IsClean, Reads, bytes, encoding, IsWellFormed}
+use Rattle.wtf8.proofs.Common.{IsForm, BeginsWithPoint}
+use Rattle.std.proofs.Common.{length-drop}
+use Rattle.std.proofs.lemmas.List.{drop-drop}
 use Rattle.wtf8.proofs.lemmas.Clean.{clean-first, clean-rest}
 use Rattle.wtf8.proofs.lemmas.Units.{lead_of, trail_of, units-cons_one, units-cons_two}
 
@@ -104,21 +106,24 @@ first_by (p ∷ c) w x e n = record {
 pub first_of : {w : List ℕ} (h : IsWellFormed w) → 0 < length w → FirstOf h.points w
 first_of {w} h n = first_by h.points w h.clean h.encoded n
 
--- a string without the code point that was read at its front
-pub record Taken (w : List ℕ) (h : IsWellFormed w) (p n : ℕ) : Type 0 where
-  pub within : n ≤ length w
-  pub rest : IsWellFormed (drop n w)
+-- bytes from a position on without the code point that was read there
+pub record Taken (v : List ℕ) (at : ℕ) (h : IsWellFormed (drop at v)) (p behind : ℕ) : Type 0 where
+  pub within : behind ≤ length v
+  pub rest : IsWellFormed (drop behind v)
   pub joined : h.points ≡ p ∷ rest.points
 
-pub taken : {w : List ℕ} (h : IsWellFormed w) (p n : ℕ) → 0 < length w
-    → ((q : ℕ) (r : List ℕ) → IsCodePoint q → w ≡ encoding q ++ r → (p ≡ q) × (n ≡ length (encoding q))) → Taken w h p n
-taken {w} h p n long read =
-    let f = first_of h long in
+pub taken : (v : List ℕ) (at : ℕ) (h : IsWellFormed (drop at v)) (p behind : ℕ) → at < length v
+    → ((q : ℕ) (r : List ℕ) → IsCodePoint q → drop at v ≡ encoding q ++ r → (p ≡ q) × (behind ≡ at + length (encoding q))) → Taken v at h p behind
+taken v at h p behind long read =
+    let f = first_of h (omega (arith, length-drop at v)) in
     let b = f.begins in
+    let n = length (encoding b.point) in
     let was = read b.point b.rest b.in_range b.encoded in
+    let back : drop behind v ≡ b.rest =
+    ap (λ k. drop k v) was.1 ∙ (sym (drop-drop n at v) ∙ (ap (drop n) b.encoded ∙ drop_at (encoding b.point) b.rest n refl)) in
     record {
-      within = omega (arith, was.1, ap length b.encoded, length-append (encoding b.point) b.rest);
-      rest = record { points = f.rest; clean = f.clean; encoded = f.encoded ∙ sym (ap (drop n) b.encoded ∙ drop_at (encoding b.point) b.rest n (sym was.1)) };
+      within = omega (arith, was.1, ap length b.encoded, length-append (encoding b.point) b.rest, length-drop at v);
+      rest = record { points = f.rest; clean = f.clean; encoded = f.encoded ∙ sym back };
       joined = f.points ∙ ap (λ q. q ∷ f.rest) (sym was.0);
     }
 

@@ -1,7 +1,7 @@
 -- The code points about a place among bytes, and what they say of a number of units.
-use Rattle.wtf8.proofs.Common.{◌≡◌, ◌+◌, ℕ, ◌<◌, ◌≤◌, inl, inr, List, [], ◌∷◌, length, refl, sym, ap, ◌∙◌, arith, length-append, ◌⊎◌, None, Some, subst}
+use Rattle.wtf8.proofs.Common.{◌≡◌, ℕ, ◌<◌, ◌≤◌, inl, inr, List, [], ◌∷◌, ◌++◌, length, sym, ap, ◌∙◌, arith, length-append, None, Some, subst}
 use Rattle.wtf8.proofs.Common.{cases_lt, units, IsWellFormed, IsPlaceOfUnit, CutsUnits}
-use Rattle.wtf8.proofs.lemmas.Units.{units_one, units_two, units-append, units_bounds}
+use Rattle.wtf8.proofs.lemmas.Units.{units_one, units_two, units-append}
 use Rattle.wtf8.proofs.lemmas.UnitPositions.{PointsAbout, points_about}
 
 pub about : {w : List ℕ} (h : IsWellFormed w) (n place before : ℕ) → IsPlaceOfUnit w n place before → PointsAbout h.points n place before
@@ -32,16 +32,3 @@ cut_inside {c} {n} {place} {before} x p rest m e =
       front_len = x.front_len;
       counted = record { rest = rest; first = e; supplementary = large; inside = omega (arith, more, ap length (units_two p large), m, least, same) };
     }
-
-first_or_none : (c : List ℕ) → (c ≡ []) ⊎ ((p : ℕ) × (rest : List ℕ) × (c ≡ p ∷ rest))
-first_or_none [] = inl refl
-first_or_none (p ∷ rest) = inr (p, rest, refl)
-
--- all units are counted where more are asked for than there are bytes
-pub all_counted : {w : List ℕ} (h : IsWellFormed w) (place before : ℕ) → PointsAbout h.points (length w) place before → before ≡ length (units h.points)
-all_counted h place before x = elim (first_or_none x.back) [
-  | inl e ↦ omega (arith, units_counted x, ap (λ b. length (units b)) e)
-  | inr s ↦
-      let long = simp length-append at (ap (λ b. length (units b)) s.2) in
-      absurd (omega (arith, x.holds s.0 s.1 s.2, units_counted x, long, (units_bounds h.points).at_least, ap length h.encoded))
-]

@@ -1,8 +1,14 @@
-use Rattle.wtf8.proofs.lemmas.UnitPlaces.{about, all_counted}
+use Rattle.std.proofs.Common.{◌∙◌, sym, ap, arith}
+use Rattle.wtf8.specs.UnitCounts.{all_units_begun}
+use Rattle.wtf8.proofs.lemmas.UnitPositions.{begun_bytes}
 use Rattle.wtf8.proofs.view.Wtf8.unit_len.Goals as goal
 
 pub returns : goal.returns
 returns c =
     let h = c.args.self.now.well_formed in
-    let place = c.find_unit.result in
-    all_counted h place.at place.units_before (about h _ place.at place.units_before c.find_unit.ensures)
+    c.count_units.ensures ∙ (ap all_units_begun (sym h.encoded) ∙ begun_bytes h.points)
+
+pub count_units-requires : goal.count_units-requires
+count_units-requires c =
+    let h = c.args.self.now.well_formed in
+    omega (arith, ap all_units_begun h.encoded, begun_bytes h.points, c.len.ensures.at_least_units)
