@@ -72,7 +72,7 @@ pub extern "C" fn compare_exports_time(
     }
 }
 
-// Writes some bytes at the front where they fit, and answers how many there are.
+/// Writes some bytes at the front where they fit, and answers how many there are.
 fn write_front(bytes: &[u8], out: &mut [u8]) -> i64
     ensures len { result ≡ pos (length bytes.now) }
     ensures out { out.new ≡ with_front bytes.now out.old }

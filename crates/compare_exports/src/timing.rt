@@ -89,7 +89,7 @@ impl Bench {
         }
     }
 
-    // The sum of what is answered on each round's string and another one, which wraps round.
+    /// The sum of what is answered on each round's string and another one, which wraps round.
     fn sum<F: Fn(&Counted, &Counted) -> Result<u64, AllocError>>(
         &self,
         answer: F,
@@ -108,7 +108,7 @@ impl Bench {
         &self.strings[round as usize % STRINGS]
     }
 
-    // The length of a string of all code points, pushed one by one.
+    /// The length of a string of all code points, pushed one by one.
     fn push(&self) -> Result<u64, AllocError> {
         let mut string = Wtf8Buf::new(self.alloc);
         for point in &self.points {
@@ -117,8 +117,8 @@ impl Bench {
         Ok(string.len() as u64)
     }
 
-    // The sum of the lengths of empty strings that are extended by the code points of each round's string. The loop stands
-    // here since the same one over a closure takes an instruction more for each code point.
+    /// The sum of the lengths of empty strings that are extended by the code points of each round's string. The loop stands
+    /// here since the same one over a closure takes an instruction more for each code point.
     fn extend(&self) -> Result<u64, AllocError> {
         let mut sum = 0u64;
         for round in 0..self.rounds {
@@ -129,7 +129,7 @@ impl Bench {
         Ok(sum)
     }
 
-    // The length of the last string that was pushed to, up to 64 times each.
+    /// The length of the last string that was pushed to, up to 64 times each.
     fn push_strings(&self) -> Result<u64, AllocError> {
         let mut string = Wtf8Buf::new(self.alloc);
         for round in 0..self.rounds {
@@ -142,7 +142,7 @@ impl Bench {
     }
 }
 
-// How many units a view has, by a list of them.
+/// How many units a view has, by a list of them.
 fn collected_units(alloc: Global, view: Wtf8<'_>) -> Result<u64, AllocError> {
     let units: Vec<u16> = view.to_ill_formed_utf16().collect(alloc)?;
     Ok(units.len() as u64)

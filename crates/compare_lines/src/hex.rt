@@ -30,7 +30,7 @@ pub fn byte_of(high: u8, low: u8) -> Option<u8>
     Some(16 * digit_of(high)? + digit_of(low)?)
 }
 
-// The number that a hexadecimal digit stands for, or `None` for any other byte.
+/// The number that a hexadecimal digit stands for, or `None` for any other byte.
 fn digit_of(byte: u8) -> Option<u8>
     ensures { SomeIff result (digit_value byte < 16) (digit_value byte) }
 {

@@ -28,7 +28,7 @@ pub fn answer_lines<R: Input + Print + Eprint, F: Fn(Global, &str) -> Result<Str
     }
 }
 
-// Prints the answer to each line, up to the end of the input or to the first fault.
+/// Prints the answer to each line, up to the end of the input or to the first fault.
 fn print_answers<R: Input + Print, F: Fn(Global, &str) -> Result<String, Fault>>(
     rt: &R,
     alloc: Global,

@@ -13,7 +13,7 @@ fn main(rt: HostRuntime) -> ExitCode {
     answer_lines(&rt, rt.alloc(), run_line)
 }
 
-// The transcript of the script that a line spells.
+/// The transcript of the script that a line spells.
 fn run_line(alloc: Global, line: &str) -> Result<String, Fault>
     ensures ok { OnOk result ((script : List ℕ) × Spells line.now script) }
     ensures not_hexadecimal { IsErrOf result Fault.NotHexadecimal → ¬ IsHex line.now }

@@ -51,7 +51,7 @@ impl Machine {
         Ok(write_units(answers, &self.first)?)
     }
 
-    // The calls that leave both texts as they are.
+    /// The calls that leave both texts as they are.
     fn look(&self, call: usize, words: &mut Words<'_>, answers: &mut String) -> Result<(), Fault> {
         let (alloc, text) = (self.alloc, &self.first);
         match call {
@@ -78,7 +78,7 @@ impl Machine {
     }
 }
 
-// Writes how two texts compare: their order, both ways of `is_less`, and whether they are equal.
+/// Writes how two texts compare: their order, both ways of `is_less`, and whether they are equal.
 fn write_comparisons(
     answers: &mut String,
     first: &UnitText<Global>,
@@ -91,7 +91,7 @@ fn write_comparisons(
     write!(answers, " {order:?} {is_below} {is_above} {is_equal}")
 }
 
-// At how many places a text can be cut and is found whole again.
+/// At how many places a text can be cut and is found whole again.
 fn whole_cuts(alloc: Global, text: &UnitText<Global>) -> Result<u64, AllocError> {
     let mut whole = 0u64;
     for place in 0..=text.unit_len() {
@@ -102,7 +102,7 @@ fn whole_cuts(alloc: Global, text: &UnitText<Global>) -> Result<u64, AllocError>
     Ok(whole)
 }
 
-// Writes the units of a text behind a space, with a full stop behind each.
+/// Writes the units of a text behind a space, with a full stop behind each.
 fn write_units(answers: &mut String, text: &UnitText<Global>) -> Result<(), AllocError> {
     write!(answers, " ")?;
     for unit in text.as_wtf8().to_ill_formed_utf16() {
@@ -111,7 +111,7 @@ fn write_units(answers: &mut String, text: &UnitText<Global>) -> Result<(), Allo
     Ok(())
 }
 
-// Writes a unit behind a space.
+/// Writes a unit behind a space.
 fn write_unit(answers: &mut String, unit: Option<u16>) -> Result<(), AllocError> {
     match unit {
         Some(unit) => write!(answers, " {unit:04X}"),

@@ -14,7 +14,7 @@ fn main(rt: HostRuntime) -> ExitCode {
     answer_lines(&rt, rt.alloc(), run_line)
 }
 
-// What the calls of a line answer, with a space before each.
+/// What the calls of a line answer, with a space before each.
 fn run_line(alloc: Global, line: &str) -> Result<String, Fault> {
     let numbers = read_words(alloc, line)?.ok_or(Fault::NotHexadecimal)?;
     let mut words = Words {

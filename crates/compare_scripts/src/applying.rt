@@ -57,8 +57,8 @@ impl Machine {
         Ok(copy)
     }
 
-    // The building calls of a list: a byte with their number, and each of them. A number that is no code point gives no
-    // call.
+    /// The building calls of a list: a byte with their number, and each of them. A number that is no code point gives no
+    /// call.
     fn read_calls<'s: 'c, 'c>(
         &'c self,
         tape: &mut Tape<'s>,
@@ -75,7 +75,7 @@ impl Machine {
         Ok(calls)
     }
 
-    // A building call: a byte that names it, and its operand.
+    /// A building call: a byte that names it, and its operand.
     fn read_call<'s: 'c, 'c>(
         &'c self,
         reader: &mut Reader<'s>,

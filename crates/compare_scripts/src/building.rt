@@ -127,7 +127,7 @@ impl Machine {
         Ok(())
     }
 
-    // A string, and a position for `slice_from` or `slice_to` or else a range: that part of it.
+    /// A string, and a position for `slice_from` or `slice_to` or else a range: that part of it.
     fn read_part(&self, opcode: u8, reader: &mut Reader<'_>) -> Result<Wtf8<'_>, Stop> {
         let at = reader.register()?;
         if let 16 | 36 = opcode {
@@ -145,7 +145,7 @@ impl Machine {
     }
 }
 
-// The string of some code points whose iterator gives a hint of its own.
+/// The string of some code points whose iterator gives a hint of its own.
 fn from_hinted(tape: &mut Tape<'_>) -> Result<Wtf8Buf<Global>, Stop> {
     let low = tape.reader.number()?;
     let points = tape.reader.points(tape.alloc)?;
@@ -153,7 +153,7 @@ fn from_hinted(tape: &mut Tape<'_>) -> Result<Wtf8Buf<Global>, Stop> {
     Ok(Wtf8Buf::from_iter(tape.alloc, Hinted { points, low })?)
 }
 
-// The code points of a string behind so many.
+/// The code points of a string behind so many.
 fn points_behind(string: &Wtf8Buf<Global>, count: usize) -> Wtf8CodePoints<'_> {
     let mut points = string.as_wtf8().code_points();
     for _ in 0..count {

@@ -69,7 +69,7 @@ impl Machine {
     }
 }
 
-// How two views compare by their units, and the second with the first.
+/// How two views compare by their units, and the second with the first.
 fn write_orders_of_units(
     tape: &mut Tape<'_>,
     own: &Wtf8<'_>,
@@ -98,7 +98,7 @@ pub fn look_at_operands(opcode: u8, tape: &mut Tape<'_>) -> Result<(), Stop> {
     Ok(())
 }
 
-// `ascii_byte_at`: the byte.
+/// `ascii_byte_at`: the byte.
 fn write_ascii_byte(tape: &mut Tape<'_>, view: Wtf8<'_>) -> Result<(), Stop> {
     let position = tape.reader.number()?;
     if view.len() <= position {
@@ -108,7 +108,7 @@ fn write_ascii_byte(tape: &mut Tape<'_>, view: Wtf8<'_>) -> Result<(), Stop> {
     Ok(writeln!(tape.transcript, "byte {byte:02X}")?)
 }
 
-// `is_code_point_boundary` of each index up to the length: those that are boundaries.
+/// `is_code_point_boundary` of each index up to the length: those that are boundaries.
 fn write_boundaries(tape: &mut Tape<'_>, view: Wtf8<'_>) -> Result<(), AllocError> {
     write!(tape.transcript, "boundaries")?;
     for index in 0..=view.len() {
@@ -119,7 +119,7 @@ fn write_boundaries(tape: &mut Tape<'_>, view: Wtf8<'_>) -> Result<(), AllocErro
     tape.write_line("")
 }
 
-// `as_str`: the bytes of the text, or that there is none.
+/// `as_str`: the bytes of the text, or that there is none.
 fn write_as_text(tape: &mut Tape<'_>, view: Wtf8<'_>) -> Result<(), AllocError> {
     match view.as_str() {
         Some(text) => tape.write_text("text", text),
@@ -127,7 +127,7 @@ fn write_as_text(tape: &mut Tape<'_>, view: Wtf8<'_>) -> Result<(), AllocError> 
     }
 }
 
-// `to_string_lossy`: whether the text is borrowed or owned, and its bytes.
+/// `to_string_lossy`: whether the text is borrowed or owned, and its bytes.
 fn write_lossy_text(tape: &mut Tape<'_>, view: Wtf8<'_>) -> Result<(), AllocError> {
     let text = view.to_string_lossy(tape.alloc)?;
     let word = match &text {
@@ -137,7 +137,7 @@ fn write_lossy_text(tape: &mut Tape<'_>, view: Wtf8<'_>) -> Result<(), AllocErro
     tape.write_text(word, text.as_str())
 }
 
-// The bytes of a view's debug text, as it is and under a width and flags.
+/// The bytes of a view's debug text, as it is and under a width and flags.
 fn write_debug_texts(tape: &mut Tape<'_>, view: Wtf8<'_>) -> Result<(), AllocError> {
     let text = format!(in tape.alloc; "{view:?}")?;
     let wide_text = format!(in tape.alloc; "{view:#12?}")?;
@@ -145,7 +145,7 @@ fn write_debug_texts(tape: &mut Tape<'_>, view: Wtf8<'_>) -> Result<(), AllocErr
     tape.write_text("wide", wide_text.as_str())
 }
 
-// `unit_len`, and `unit_at` of each number up to that one.
+/// `unit_len`, and `unit_at` of each number up to that one.
 fn write_units_by_number(tape: &mut Tape<'_>, view: Wtf8<'_>) -> Result<(), AllocError> {
     let len = view.unit_len();
     write!(tape.transcript, "{len} units")?;
@@ -155,7 +155,7 @@ fn write_units_by_number(tape: &mut Tape<'_>, view: Wtf8<'_>) -> Result<(), Allo
     tape.write_line("")
 }
 
-// `slice_units`: the trail, the bytes and the lead.
+/// `slice_units`: the trail, the bytes and the lead.
 fn write_unit_slice(tape: &mut Tape<'_>, view: Wtf8<'_>) -> Result<(), Stop> {
     let begin = tape.reader.number()?;
     let end = tape.reader.number()?;
@@ -171,7 +171,7 @@ fn write_unit_slice(tape: &mut Tape<'_>, view: Wtf8<'_>) -> Result<(), Stop> {
     Ok(tape.write_line("")?)
 }
 
-// The calls of `CodePoint` on a value: its number, texts, characters and hash input.
+/// The calls of `CodePoint` on a value: its number, texts, characters and hash input.
 fn write_point(tape: &mut Tape<'_>) -> Result<(), Stop> {
     let point = tape.reader.point()?;
     let number = point.to_u32();
@@ -195,7 +195,7 @@ fn write_point(tape: &mut Tape<'_>) -> Result<(), Stop> {
     Ok(write_hash_input(tape, &point)?)
 }
 
-// All that can be asked of a slice, inside its string.
+/// All that can be asked of a slice, inside its string.
 fn write_answers(tape: &mut Tape<'_>, part: Wtf8<'_>) -> Result<(), Stop> {
     write!(tape.transcript, "view")?;
     tape.write_view(part)?;

@@ -147,7 +147,7 @@ impl<'a> Reader<'a> {
         Ok(*first)
     }
 
-    // A code unit of two bytes.
+    /// A code unit of two bytes.
     fn unit(&mut self) -> Result<u16, Stop>
         ensures ok { IfOk result (λ unit. self.old ≡ to_le_bytes w16 unit ++ self.new) }
         ensures err { IfErr result (λ stop. (stop ≡ Stop.Malformed) × (length self.old < 2)) }

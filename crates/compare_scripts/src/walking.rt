@@ -34,7 +34,7 @@ pub fn write_steps<T: Shown, I: Iterator<Item = T> + Clone>(
     Ok(tape.write_line("")?)
 }
 
-// Writes how many items are collected, and each.
+/// Writes how many items are collected, and each.
 fn write_collected<T: Shown, I: Iterator<Item = T>>(
     tape: &mut Tape<'_>,
     items: I,

@@ -73,7 +73,7 @@ mod tests {
     use std::alloc::Global;
     use std::test::Fail;
 
-    // Two requests: one for the first block, and one for the block that it grows to.
+    /// Two requests: one for the first block, and one for the block that it grows to.
     fn grown<A: Allocator>(alloc: A) -> Result<Vec<u8, A>, AllocError> {
         let mut bytes = Vec::with_capacity(alloc, 1)?;
         bytes.push(1)?;

@@ -14,7 +14,7 @@ use crate::word;
 use std::alloc::{AllocError, Allocator};
 use wtf8::{Build, CodePoint, Stopped, Wtf8, Wtf8Buf};
 
-// How many code points wait together at most.
+/// How many code points wait together at most.
 const POINTS: usize = 64;
 
 /// What the answers to lines are worked out in, one line after another: room for some code points that wait to be pushed
@@ -53,7 +53,7 @@ impl<A: Allocator + Copy> Workspace<A> {
         self.push_words_answer(line, out)
     }
 
-    // Appends the answer to a line by its words. It stands by itself, so that an empty line costs little.
+    /// Appends the answer to a line by its words. It stands by itself, so that an empty line costs little.
     #[inline(never)]
     fn push_words_answer(&mut self, line: &[u8], out: &mut Vec<u8, A>) -> Result<(), AllocError>
         ensures { OnOk result ((answer : List ℕ) × IsAnswer line.now answer × (out.new.items ≡ out.old.items ++ answer)) }
@@ -64,8 +64,8 @@ impl<A: Allocator + Copy> Workspace<A> {
         push_dump_with_note(self.alloc, self.string.as_wtf8(), refused, out)
     }
 
-    // Makes the string that of the calls that the words of a line stand for, built from the empty one, and answers how
-    // many truncations were refused, or `None` where some word stands for no call.
+    /// Makes the string that of the calls that the words of a line stand for, built from the empty one, and answers how
+    /// many truncations were refused, or `None` where some word stands for no call.
     fn build(&mut self, line: &[u8]) -> Result<Option<usize>, AllocError>
         ensures { IfOk result (λ built. MatchOption built
             (Any IsNoCall (words line.now))
@@ -90,8 +90,8 @@ impl<A: Allocator + Copy> Workspace<A> {
         Ok(Some(refused))
     }
 
-    // Does a call behind the pushes that wait, or lets it wait where it is a push too and they are not too many, and answers
-    // how many truncations were refused.
+    /// Does a call behind the pushes that wait, or lets it wait where it is a push too and they are not too many, and answers
+    /// how many truncations were refused.
     fn add_call(&mut self, call: Build<'static>) -> Result<usize, AllocError>
         ensures { IfOk result (λ refused. (applied : List Build) × (pushes self.old.points.items ++ call.entry ∷ [] ≡ applied ++ pushes self.new.points.items)
             × Run self.old.string.units applied self.new.string.units refused × (refused ≤ length applied)) }
@@ -106,7 +106,7 @@ impl<A: Allocator + Copy> Workspace<A> {
         Ok(refused)
     }
 
-    // Does the pushes that wait and a call behind them, forgets them, and answers how many truncations were refused.
+    /// Does the pushes that wait and a call behind them, forgets them, and answers how many truncations were refused.
     fn apply_calls(&mut self, call: Build<'static>) -> Result<usize, AllocError>
         ensures run { IfOk result (λ refused. Run self.old.string.units (pushes self.old.points.items ++ call.entry ∷ []) self.new.string.units refused) }
         ensures none { OnOk result (self.new.points.items ≡ []) }
@@ -118,7 +118,7 @@ impl<A: Allocator + Copy> Workspace<A> {
         Ok(refused)
     }
 
-    // Does the pushes that wait.
+    /// Does the pushes that wait.
     fn push_points(&mut self) -> Result<(), AllocError>
         ensures { OnOk result (Run self.old.string.units (pushes self.old.points.items) self.new.string.units 0) }
     {
@@ -129,7 +129,7 @@ impl<A: Allocator + Copy> Workspace<A> {
     }
 }
 
-// Pushes code points and does a call behind them.
+/// Pushes code points and does a call behind them.
 fn apply_behind<A: Allocator>(
     string: &mut Wtf8Buf<A>,
     points: &[CodePoint],
@@ -143,7 +143,7 @@ fn apply_behind<A: Allocator>(
     Ok(refused)
 }
 
-// Pushes code points.
+/// Pushes code points.
 fn extend<A: Allocator>(string: &mut Wtf8Buf<A>, points: &[CodePoint]) -> Result<(), Stopped>
     ensures { OnOk result (Run string.old.units (pushes points.now) string.new.units 0) }
 {
@@ -152,8 +152,8 @@ fn extend<A: Allocator>(string: &mut Wtf8Buf<A>, points: &[CodePoint]) -> Result
     Ok(())
 }
 
-// Lets the code points of words of four digits wait behind the others, as long as such a word comes next and they are not
-// too many.
+/// Lets the code points of words of four digits wait behind the others, as long as such a word comes next and they are not
+/// too many.
 #[inline(always)]
 fn add_short_words<A: Allocator>(
     words: &mut Words<'_>,
@@ -179,7 +179,7 @@ pub fn dump_line<A: Allocator + Copy>(alloc: A, line: &[u8]) -> Result<Vec<u8, A
     Ok(answer)
 }
 
-// Appends the bytes of a string in hexadecimal, and behind them how many truncations were refused where some were.
+/// Appends the bytes of a string in hexadecimal, and behind them how many truncations were refused where some were.
 fn push_dump_with_note<A: Allocator>(
     alloc: A,
     view: Wtf8<'_>,

@@ -10,10 +10,10 @@ use crate::word;
 use std::simd::prelude::*;
 use wtf8::CodePoint;
 
-// How many bytes are searched for a newline together.
+/// How many bytes are searched for a newline together.
 const LANES: usize = 32;
 
-// How many bytes of a word are searched for a space together: most words are so long.
+/// How many bytes of a word are searched for a space together: most words are so long.
 const SHORT_LANES: usize = 4;
 
 /// The lines of an input, in order, each without its newline. What follows the last newline is a line too if it is not
@@ -102,7 +102,7 @@ impl<'a> Iterator for Words<'a> {
     }
 }
 
-// The first line of some bytes and the bytes after its newline.
+/// The first line of some bytes and the bytes after its newline.
 #[inline(always)]
 fn split_first_line(bytes: &[u8]) -> (&[u8], &[u8])
     requires { 0 < length bytes.now }
@@ -116,8 +116,8 @@ fn split_first_line(bytes: &[u8]) -> (&[u8], &[u8])
     (line, after.unwrap_or(&[]))
 }
 
-// The code point of the first word of some bytes where that has four hexadecimal digits, and the bytes after its space
-// where there is one.
+/// The code point of the first word of some bytes where that has four hexadecimal digits, and the bytes after its space
+/// where there is one.
 #[inline(always)]
 fn split_short_point(bytes: &[u8]) -> Option<(CodePoint, Option<&[u8]>)>
     ensures { IfSome result (λ x. IsNextPoint (slice_split (λ byte. byte == 32) bytes.now) x.0
@@ -138,7 +138,7 @@ fn split_short_point(bytes: &[u8]) -> Option<(CodePoint, Option<&[u8]>)>
     Some((point, Some(after)))
 }
 
-// The bytes before the first separator, and those after it where there is one. None stands before `from`.
+/// The bytes before the first separator, and those after it where there is one. None stands before `from`.
 fn split_first_part(bytes: &[u8], separator: u8, from: usize) -> (&[u8], Option<&[u8]>)
     requires within { from ≤ length bytes.now }
     requires none_before { All (λ byte. (byte == separator) ≡ false) (take from bytes.now) }
@@ -156,7 +156,7 @@ fn split_first_part(bytes: &[u8], separator: u8, from: usize) -> (&[u8], Option<
     (bytes, None)
 }
 
-// How many bytes at the front hold no separator: those of a short block, or none.
+/// How many bytes at the front hold no separator: those of a short block, or none.
 #[inline(always)]
 fn skip_short_block(bytes: &[u8], separator: u8) -> usize
     ensures within { result ≤ length bytes.now }
@@ -172,7 +172,7 @@ fn skip_short_block(bytes: &[u8], separator: u8) -> usize
     SHORT_LANES
 }
 
-// How many bytes at the front hold no separator, as far as blocks of so many bytes tell.
+/// How many bytes at the front hold no separator, as far as blocks of so many bytes tell.
 fn skip_blocks(bytes: &[u8], separator: u8) -> usize
     ensures within { result ≤ length bytes.now }
     ensures none { All (λ byte. (byte == separator) ≡ false) (take result bytes.now) }

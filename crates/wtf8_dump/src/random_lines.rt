@@ -3,12 +3,12 @@ use crate::line::dump_line;
 use std::alloc::{AllocError, Global};
 use std::test::Fail;
 
-// Code points of each length in bytes, and surrogates that pair and that do not.
+/// Code points of each length in bytes, and surrogates that pair and that do not.
 const POINTS: [u32; 12] = [
     0x61, 0x7F, 0xE9, 0x7FF, 0x800, 0xD7FF, 0xE000, 0xD83D, 0xD83D, 0xDCA9, 0xDCA9, 0x1F4A9,
 ];
 
-// Numbers that look random, by a shift register.
+/// Numbers that look random, by a shift register.
 #[derive(Drop)]
 struct Random {
     state: u64,
@@ -22,13 +22,13 @@ impl Random {
         self.state
     }
 
-    // A point of the list.
+    /// A point of the list.
     fn point(&mut self) -> u32 {
         POINTS[(self.next() % 12) as usize]
     }
 }
 
-// The units of a string, and how many truncations and cuts were refused.
+/// The units of a string, and how many truncations and cuts were refused.
 #[derive(Drop)]
 struct Model {
     units: Vec<u16>,
@@ -47,7 +47,7 @@ impl Model {
         Ok(())
     }
 
-    // Keeps the units of the points before a position in bytes, if it is one between two points.
+    /// Keeps the units of the points before a position in bytes, if it is one between two points.
     fn truncate(&mut self, position: usize) {
         let mut bytes = 0usize;
         let mut units = 0usize;
@@ -77,7 +77,7 @@ impl Model {
         }
     }
 
-    // The bytes in hexadecimal, a space behind each, and behind them how many truncations and cuts were refused.
+    /// The bytes in hexadecimal, a space behind each, and behind them how many truncations and cuts were refused.
     fn answer(&self, alloc: Global) -> Result<String, AllocError> {
         let mut text = String::new(alloc);
         for item in char::decode_utf16(self.units.iter().copied()) {
@@ -104,7 +104,7 @@ impl Model {
     }
 }
 
-// One word more, and what it does to the model.
+/// One word more, and what it does to the model.
 fn add_word(
     alloc: Global,
     random: &mut Random,

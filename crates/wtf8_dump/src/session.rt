@@ -45,7 +45,7 @@ pub fn run<A: Allocator + Copy, R: Read, W: Write>(
     write_output(writer, out.as_slice())
 }
 
-// All that a reader has left.
+/// All that a reader has left.
 fn read_input<A: Allocator + Copy, R: Read>(alloc: A, reader: &mut R) -> Result<Vec<u8, A>, Fault>
     ensures input { IfOk result (λ input. IsInput (R.remaining reader.old) input.items) }
     ensures end { OnOk result (IsAtEnd (R.remaining reader.new)) }
@@ -66,7 +66,7 @@ fn read_input<A: Allocator + Copy, R: Read>(alloc: A, reader: &mut R) -> Result<
     }
 }
 
-// The answers to the lines of an input, each with a newline after it.
+/// The answers to the lines of an input, each with a newline after it.
 fn dump<A: Allocator + Copy>(alloc: A, input: &[u8]) -> Result<Vec<u8, A>, AllocError>
     ensures { IfOk result (λ out. IsDump input.now out.items) }
 {
@@ -79,7 +79,7 @@ fn dump<A: Allocator + Copy>(alloc: A, input: &[u8]) -> Result<Vec<u8, A>, Alloc
     Ok(out)
 }
 
-// Writes some bytes and flushes the writer. After an error a beginning of the bytes was written.
+/// Writes some bytes and flushes the writer. After an error a beginning of the bytes was written.
 fn write_output<W: Write>(writer: &mut W, out: &[u8]) -> Result<(), Fault>
     ensures whole { OnOk result (Appends (W.contents writer.old) (W.contents writer.new) out.now) }
     ensures beginning { OnErr result ((n : ℕ)

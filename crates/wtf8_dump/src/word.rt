@@ -11,7 +11,7 @@ const HEXADECIMAL: u32 = 16;
 
 const DECIMAL: u32 = 10;
 
-// The value of each byte as a digit: 0 to 9, then 10 to 35 for the letters of either case, and 36 for any other byte.
+/// The value of each byte as a digit: 0 to 9, then 10 to 35 for the letters of either case, and 36 for any other byte.
 const VALUES: [u8; 256] = [
     36, 36, 36, 36, 36, 36, 36, 36, 36, 36, 36, 36, 36, 36, 36, 36, 36, 36, 36, 36, 36, 36, 36, 36,
     36, 36, 36, 36, 36, 36, 36, 36, 36, 36, 36, 36, 36, 36, 36, 36, 36, 36, 36, 36, 36, 36, 36, 36,
@@ -43,7 +43,7 @@ pub fn read_call(word: &[u8]) -> Option<Build<'static>>
     Some(Build::Push(point))
 }
 
-// The code point that a word stands for, if it does.
+/// The code point that a word stands for, if it does.
 fn read_point(word: &[u8]) -> Option<CodePoint>
     ensures { option_map number result ≡ point_of word.now }
 {
@@ -62,7 +62,7 @@ pub(crate) fn read_short_point(word: &[u8]) -> Option<CodePoint>
     CodePoint::from_u32(read_four_digits(word)?)
 }
 
-// The number that a word of four hexadecimal digits spells. All four are looked up before any is tested.
+/// The number that a word of four hexadecimal digits spells. All four are looked up before any is tested.
 #[inline(always)]
 fn read_four_digits(word: &[u8]) -> Option<u32>
     ensures number { IfSome result (λ n. bounded_number 16 4 6 word.now ≡ Some n) }
@@ -79,7 +79,7 @@ fn read_four_digits(word: &[u8]) -> Option<u32>
     None
 }
 
-// The value of a byte as a digit or a letter of either case, and 36 for any other byte.
+/// The value of a byte as a digit or a letter of either case, and 36 for any other byte.
 #[inline(always)]
 fn value_of(byte: u8) -> u32
     ensures { result ≡ digit_value byte }
@@ -87,7 +87,7 @@ fn value_of(byte: u8) -> u32
     u32::from(VALUES[usize::from(byte)])
 }
 
-// The number that 1 to 9 decimal digits behind a mark spell, or `None` for any other word.
+/// The number that 1 to 9 decimal digits behind a mark spell, or `None` for any other word.
 fn read_number_behind(word: &[u8], mark: u8) -> Option<u32>
     ensures { result ≡ number_behind mark word.now }
 {
@@ -98,7 +98,7 @@ fn read_number_behind(word: &[u8], mark: u8) -> Option<u32>
     read_bounded_number(digits, DECIMAL, 1, 9)
 }
 
-// The number that a word of at least `least` and at most `most` digits spells in a base, or `None` for any other word.
+/// The number that a word of at least `least` and at most `most` digits spells in a base, or `None` for any other word.
 fn read_bounded_number(word: &[u8], base: u32, least: usize, most: usize) -> Option<u32>
     requires least_base { 2 ≤ base }
     requires greatest_base { base ≤ 36 }
@@ -111,7 +111,7 @@ fn read_bounded_number(word: &[u8], base: u32, least: usize, most: usize) -> Opt
     read_number(word, base)
 }
 
-// The number that a word spells in a base, or `None` where a byte is no digit of that base.
+/// The number that a word spells in a base, or `None` where a byte is no digit of that base.
 fn read_number(word: &[u8], base: u32) -> Option<u32>
     requires least { 2 ≤ base }
     requires greatest { base ≤ 36 }
