@@ -1,33 +1,40 @@
 -- The names of std and of specs/ that proofs cite in many places, passed on from one place. Declares nothing.
-pub use Rattle.std.proofs.Common.{ap, ◌++◌, ◌∙◌, arith, drop, inl, inr, sym, ◌≡◌, ◌+◌, ◌-◌, ◌/◌, ◌%◌, ◌<◌, ℕ, List, [], ◌∷◌, refl, length}
-pub use Rattle.std.proofs.Common.{length-append, true, lit≤, lit<, get_or, Bool, false, cond, Some, subst, append_assoc, ◌≤◌, take, Result, Ok, Err}
-pub use Rattle.std.proofs.Common.{OnOk, OnErr, ◌≢◌, ◌↔◌, IsTrue, ◌*◌, zero, suc, None, ◌⊎◌, ◌&&◌, leb, not, w8, map, ltb, replicate}
-pub use Rattle.std.proofs.Common.{Option, IfSome, rules, vec_len, vec_capacity, length-take}
+pub use Rattle.std.proofs.Common.{ap, ◌++◌, ◌∙◌, arith, drop, inl, inr, sym, ◌≡◌, ◌+◌, ◌-◌, ◌/◌, ◌%◌, ◌<◌, ℕ, List, [], ◌∷◌, refl, length, length-append, true}
+pub use Rattle.std.proofs.Common.{lit≤, lit<, get_or, Bool, false, cond, Some, subst, append_assoc, ◌≤◌, take, Result, Ok, Err, OnOk, OnErr, ◌≢◌, ◌↔◌, IsTrue}
+pub use Rattle.std.proofs.Common.{◌*◌, zero, suc, None, ◌⊎◌, ◌&&◌, leb, not, w8, map, ltb, replicate, Option, IfSome, rules, vec_len, vec_capacity, length-take}
+pub use Rattle.std.proofs.Common.{length-drop, take-add, nat_eq, ◌^◌, eqb, ◌||◌, bit_or, Fits, MatchResult, bit_and, is_ok}
+pub use Rattle.std.proofs.Math.Utf8.{scalar_cases}
 pub use Rattle.std.proofs.Output.{has_written_styled_nil}
-pub use Rattle.std.proofs.lemmas.Bool.{cases_order, cases_Bool, cases_lt, le-leb, lt-leb, false≢true, lt-ltb, le-ltb, leb-true, and_parts}
+pub use Rattle.std.proofs.lemmas.Bool.{cases_order, cases_Bool, cases_lt, le-leb, lt-leb, false≢true, lt-ltb, le-ltb, leb-true, and_parts, both_ways, and_from}
+pub use Rattle.std.proofs.lemmas.Bool.{eq-eqb, eqb-true, not-false}
 pub use Rattle.std.proofs.lemmas.Bool.Decides.{nat_tests}
 pub use Rattle.std.proofs.lemmas.List.{take-append-drop, map-append, append-nil, take_at, drop_at, get_or-append_right, drop_all, get_or-append-add, take_all}
-pub use Rattle.std.proofs.lemmas.List.{same_from_push, append_cancel_left}
+pub use Rattle.std.proofs.lemmas.List.{same_from_push, append_cancel_left, drop-drop}
 pub use Rattle.std.proofs.lemmas.List.Concat.{flat_map-append}
 pub use Rattle.std.proofs.lemmas.List.Elements.{All-drop, All-same, All-cons, All-head, All-nil, All-tail}
 pub use Rattle.std.proofs.lemmas.Result.{on_ok_weaker}
-pub use Rattle.std.proofs.lemmas.Simd.{Each1-weaker, length-chunk, pick_l_whole}
+pub use Rattle.std.proofs.lemmas.Simd.{Each1-weaker, length-chunk, pick_l_whole, length-zip2, mask_l-mod, tops_compared, get_or-zip2, get_or-chunk}
 pub use Rattle.std.proofs.lemmas.Str.{scalars-chars}
-pub use Rattle.std.specs.Cmp.Lexicographic.{slice_cmp}
+pub use Rattle.std.specs.Char.{IsScalar}
+pub use Rattle.std.specs.Cmp.Lexicographic.{slice_cmp, pointwise, bytes_decides}
 pub use Rattle.std.specs.Fmt.{IsFlush}
+pub use Rattle.std.specs.Iterator.{Drains}
+pub use Rattle.std.specs.Iterator.Adapters.{peekable_steps, peekable_peeked, copied_steps}
 pub use Rattle.std.specs.List.{All, slice_get, flat_map}
 pub use Rattle.std.specs.Option.{option_cmp}
 pub use Rattle.std.specs.Ordering.{nat_cmp, MatchOrdering, ordering_then}
+pub use Rattle.std.specs.Slice.Iter.{iter_rest, iter_steps}
 pub use Rattle.std.specs.Str.{IsUtf8, chars}
 pub use Rattle.std.specs.declared.cmp.Ordering.{Ordering}
 pub use Rattle.std.specs.declared.cmp.Ordering.TheVariants.{Greater, Less, Equal}
-pub use lib.Lanes.{zip2, Each1}
+pub use lib.Lanes.{zip2, Each1, chunk, mask_l, top, sel_l}
 pub use lib.Utf8.{scalars, scalar}
 pub use Rattle.wtf8.specs.Appending.{KeepsContents, AppendsUnits}
 pub use Rattle.wtf8.specs.Building.{Step, Run, Append, IsNoTruncation, FindRoom}
 pub use Rattle.wtf8.specs.CodePoint.{number, numbers}
 pub use Rattle.wtf8.specs.Concatenation.{MeetsAsPair, is_pair, glue}
 pub use Rattle.wtf8.specs.Debug.{shown}
+pub use Rattle.wtf8.specs.Decoding.{point_of, points_of, units_left, decode_steps, ReadsAll}
 pub use Rattle.wtf8.specs.Differences.{IsFirstDifference, PairBegins}
 pub use Rattle.wtf8.specs.Form.{bytes, encoding, IsClean, Reads, IsWellFormed, IsForm}
 pub use Rattle.wtf8.specs.Gains.{GainsUnits, FitsUnits, BeginsWithPoint}
@@ -36,13 +43,14 @@ pub use Rattle.wtf8.specs.OneForm.{bytes-injective, bytes_are_encodes, encoding_
 pub use Rattle.wtf8.specs.Order.{Before}
 pub use Rattle.wtf8.specs.Position.{IsBoundary, IsFront, IsBack}
 pub use Rattle.wtf8.specs.SpacedHex.{spaced}
-pub use Rattle.wtf8.specs.SurrogateSearch.{SurrogateAt, IsFirst, IsLeast}
+pub use Rattle.wtf8.specs.SurrogateSearch.{SurrogateAt, IsFirst, IsLeast, NoneBefore}
 pub use Rattle.wtf8.specs.Surrogates.{AreScalar, replaced, lossy}
 pub use Rattle.wtf8.specs.Unicode.{units_of, units, IsSurrogate, IsLead, IsTrail, pair, IsCodePoint, IsUnit}
-pub use Rattle.wtf8.specs.UnitCounts.{IsPlaceOfUnit, CutsUnits}
-pub use Rattle.wtf8.specs.UnitParts.{IsKnownForm, DividesNoPair, AreAscii, IsBlock}
+pub use Rattle.wtf8.specs.UnitCounts.{IsPlaceOfUnit, CutsUnits, units_begun, all_units_begun}
+pub use Rattle.wtf8.specs.UnitParts.{IsKnownForm, DividesNoPair, AreAscii, IsBlock, AreTwoByteUnits, AreThreeByteUnits}
+pub use Rattle.wtf8.specs.UnitSteps.{held_in, behind_held, trail_by, unread_after}
 pub use Rattle.wtf8.specs.UnitString.{UnitString}
-pub use Rattle.wtf8.specs.Units.{unread_units}
+pub use Rattle.wtf8.specs.Units.{unread_units, Unread}
 pub use Rattle.wtf8.specs.View.{view_units, view_form}
 pub use Rattle.wtf8.specs.declared.build.Build.{Build}
 pub use Rattle.wtf8.specs.declared.build.Build.TheVariants.{Reserve, Truncate, TruncateUnits}

@@ -1,10 +1,6 @@
 -- Blocks of units as bytes: the rows of two and of three bytes that are written, and the bytes of the units.
-use Rattle.std.proofs.Common.{◌≡◌, ℕ, ◌+◌, ◌/◌, ◌%◌, ◌<◌, ◌≤◌, List, [], ◌∷◌, ◌++◌, length, take, drop, refl, sym, ap, ◌∙◌, arith}
-use Rattle.std.specs.List.{flat_map}
-use Rattle.std.proofs.lemmas.Simd.{Each1-weaker}
-use Rattle.wtf8.specs.Form.{bytes, encoding}
-use Rattle.wtf8.specs.Unicode.{IsSurrogate}
-use Rattle.wtf8.specs.UnitParts.{AreTwoByteUnits, AreThreeByteUnits, IsBlock}
+use Rattle.wtf8.proofs.Common.{◌≡◌, ℕ, ◌+◌, ◌/◌, ◌%◌, ◌<◌, ◌≤◌, List, [], ◌∷◌, ◌++◌, length, take, drop, refl, sym, ap, ◌∙◌, arith, flat_map, Each1-weaker}
+use Rattle.wtf8.proofs.Common.{bytes, encoding, IsSurrogate, AreTwoByteUnits, AreThreeByteUnits, IsBlock}
 use Rattle.wtf8.proofs.lemmas.Encoding.{encoding_two, encoding_three, third_row}
 
 -- the two bytes that a unit from 80 to 7FF has

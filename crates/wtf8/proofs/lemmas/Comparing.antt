@@ -1,12 +1,6 @@
 -- What a comparison of the bytes of two strings says of their code points and units.
-use Rattle.std.proofs.Common.{◌≡◌, ◌↔◌, ℕ, List, Bool, IsTrue, nat_eq, sym, ap, ◌∙◌}
-use Rattle.std.specs.declared.cmp.Ordering.{Ordering}
-use Rattle.std.specs.Ordering.{nat_cmp, MatchOrdering}
-use Rattle.std.specs.Cmp.Lexicographic.{slice_cmp, pointwise, bytes_decides}
-use Rattle.wtf8.specs.Unicode.{units}
-use Rattle.wtf8.specs.Form.{Reads, bytes, IsWellFormed, IsForm}
-use Rattle.wtf8.specs.OneForm.{bytes-injective}
-use Rattle.wtf8.specs.Order.{Before}
+use Rattle.wtf8.proofs.Common.{◌≡◌, ◌↔◌, ℕ, List, Bool, IsTrue, nat_eq, sym, ap, ◌∙◌, Ordering, nat_cmp, MatchOrdering, slice_cmp, pointwise, bytes_decides}
+use Rattle.wtf8.proofs.Common.{units, Reads, bytes, IsWellFormed, IsForm, bytes-injective, Before}
 use Rattle.wtf8.proofs.lemmas.ByteOrder.{cmp-bytes}
 use Rattle.wtf8.proofs.lemmas.ListOrder.{ordered}
 use Rattle.wtf8.proofs.lemmas.Readings.{same_reading}

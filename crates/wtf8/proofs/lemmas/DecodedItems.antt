@@ -1,21 +1,13 @@
 -- The items of a decoder one by one: what was appended of them.
-use Rattle.std.proofs.Common.{◌≡◌, inl, inr, ℕ, List, [], ◌∷◌, ◌++◌, Result, Ok, Err, MatchResult, IsTrue, is_ok, sym, ap, ◌∙◌, subst, arith, append_assoc}
+use Rattle.wtf8.proofs.Common.{◌≡◌, inl, inr, ℕ, List, [], ◌∷◌, ◌++◌, Result, Ok, Err, MatchResult, IsTrue, is_ok, sym, ap, ◌∙◌, subst, arith, append_assoc}
+use Rattle.wtf8.proofs.Common.{IsScalar, Drains, copied_steps, iter_rest, iter_steps, scalar_cases, false≢true, map-append, point_of, points_of, encoding}
+use Rattle.wtf8.proofs.Common.{bytes, IsSurrogate, AreScalar}
 use Rattle.std.proofs.Common.{map-id}
-use Rattle.std.specs.Char.{IsScalar}
 use Rattle.std.specs.declared.iter.Copied.{Copied}
 use Rattle.std.specs.declared.slice.Iter.{Iter}
-use Rattle.std.specs.Iterator.{Drains}
-use Rattle.std.specs.Iterator.Adapters.{copied_source, copied_steps}
-use Rattle.std.specs.Slice.Iter.{iter_rest, iter_steps}
-use Rattle.std.proofs.Math.Utf8.{scalar_cases}
-use Rattle.std.proofs.lemmas.Bool.{false≢true}
+use Rattle.std.specs.Iterator.Adapters.{copied_source}
 use Rattle.std.proofs.lemmas.Iterator.{YieldsList-from_slice, items_from_drains}
 use Rattle.std.proofs.lemmas.Iterator.Consumers.{YieldsList-from_copied}
-use Rattle.std.proofs.lemmas.List.{map-append}
-use Rattle.wtf8.specs.Decoding.{point_of, points_of}
-use Rattle.wtf8.specs.Form.{encoding, bytes}
-use Rattle.wtf8.specs.Unicode.{IsSurrogate}
-use Rattle.wtf8.specs.Surrogates.{AreScalar}
 use Rattle.wtf8.proofs.lemmas.Encoding.{bytes-pushed}
 use Rattle.wtf8.proofs.lemmas.Scalars.{scalar-append}
 
@@ -42,5 +34,4 @@ item_appended was w new items x p before here same =
 
 -- what a slice's units give is the slice
 pub slice_units : (s : Copied (Iter ℕ)) (u v : List ℕ) → iter_rest (copied_source s) ≡ v → Drains (copied_steps iter_steps) s u → u ≡ v
-slice_units s u v e d =
-    sym (map-id u) ∙ items_from_drains u (d.1.0, d.1.1, λ _. (d.0, d.1.2)) (YieldsList-from_copied (YieldsList-from_slice v e))
+slice_units s u v e d = sym (map-id u) ∙ items_from_drains u (d.1.0, d.1.1, λ _. (d.0, d.1.2)) (YieldsList-from_copied (YieldsList-from_slice v e))

@@ -1,16 +1,14 @@
 -- The items that a decoder gives are a reading of the units of its iterator.
-use Rattle.std.proofs.Common.{◌≡◌, ◌<◌, inl, inr, ℕ, List, [], ◌∷◌, ◌++◌, Option, None, Some, Result, Ok, Err, MatchOption, MatchResult, refl, sym, ap, ◌∙◌}
-use Rattle.std.proofs.Common.{subst, arith}
+use Rattle.wtf8.proofs.Common.{◌≡◌, ◌<◌, inl, inr, ℕ, List, [], ◌∷◌, ◌++◌, Option, None, Some, Result, Ok, Err, MatchResult, refl, sym, ap, ◌∙◌, subst, arith}
+use Rattle.wtf8.proofs.Common.{IsScalar, Drains, peekable_steps, peekable_peeked, scalar_cases, point_of, points_of, units_left, decode_steps, ReadsAll}
+use Rattle.wtf8.proofs.Common.{IsClean, IsCodePoint, IsLead, IsTrail, IsSurrogate, units_of, units, pair}
+use Rattle.std.proofs.Common.{MatchOption}
 use Rattle.std.specs.Prelude.{IfSome, IsSomeAnd}
-use Rattle.std.specs.Char.{IsScalar}
 use Rattle.std.specs.declared.iter.Ahead.{Ahead}
-use Rattle.std.specs.Iterator.{Yields, Drains}
-use Rattle.std.specs.Iterator.Adapters.{peekable_steps, peekable_source, peekable_peeked, PeeksNext}
-use Rattle.std.proofs.Math.Utf8.{scalar_cases}
+use Rattle.std.specs.Iterator.{Yields}
+use Rattle.std.specs.Iterator.Adapters.{peekable_source, PeeksNext}
 use Rattle.wtf8.specs.declared.decode.DecodeUtf16.{DecodeUtf16}
-use Rattle.wtf8.specs.Decoding.{point_of, points_of, units_left, DecodesItem, decode_steps, ReadsAll}
-use Rattle.wtf8.specs.Form.{IsClean}
-use Rattle.wtf8.specs.Unicode.{IsCodePoint, IsLead, IsTrail, IsSurrogate, units_of, units, pair}
+use Rattle.wtf8.specs.Decoding.{DecodesItem}
 use Rattle.wtf8.proofs.lemmas.Units.{units_one, units_pair}
 
 module _ {S A : Type 0} (steps : S → Option A → S → Type 0) where
@@ -46,11 +44,7 @@ module _ {S : Type 0} (steps : S → Option ℕ → S → Type 0) where
   drains_source : (s : Ahead S ℕ) (xs : List ℕ) → peekable_peeked s ≡ None → Drains (peekable_steps steps) s xs → Drains steps (peekable_source s) xs
   drains_source s [] e d = (
     peekable_source d.0,
-    (
-      peekable_source s,
-      refl,
-      bare_call s d.0 None e (subst (λ k. peekable_steps steps k None d.0) (sym d.1.1) d.1.2),
-    ),
+    (peekable_source s, refl, bare_call s d.0 None e (subst (λ k. peekable_steps steps k None d.0) (sym d.1.1) d.1.2)),
   )
   drains_source s (x ∷ xs) e d =
       let next = d.1.1.0 in

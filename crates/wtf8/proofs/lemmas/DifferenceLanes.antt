@@ -1,11 +1,8 @@
 -- Bytes compared in lanes: what the mask of a block says of its bytes.
-use Rattle.std.proofs.Common.{◌≡◌, ◌↔◌, ℕ, ◌+◌, ◌-◌, ◌*◌, ◌%◌, ◌^◌, ◌≤◌, eqb, Bool, IsTrue, cond, not, ◌&&◌, inl, inr, w8, refl, sym, ap, ◌∙◌, subst, arith}
-use Rattle.std.proofs.Common.{List, [], ◌∷◌, ◌++◌, map, length, nat_eq, take, drop, take-add}
-use Rattle.std.proofs.lemmas.Bool.{cases_Bool, both_ways, and_parts, and_from, eq-eqb, eqb-true}
-use Rattle.std.proofs.lemmas.List.{drop-drop, drop-take, take-take, take_all}
-use Rattle.std.proofs.lemmas.Simd.{length-zip2, mask_l-mod, tops_compared}
-use Rattle.std.specs.Cmp.Lexicographic.{pointwise, bytes_decides}
-use lib.Lanes.{zip2, mask_l, top}
+use Rattle.wtf8.proofs.Common.{◌≡◌, ◌↔◌, ℕ, ◌+◌, ◌-◌, ◌*◌, ◌%◌, ◌^◌, ◌≤◌, eqb, Bool, IsTrue, cond, not, ◌&&◌, inl, inr, w8, refl, sym, ap, ◌∙◌, subst, arith}
+use Rattle.wtf8.proofs.Common.{List, [], ◌∷◌, ◌++◌, map, length, nat_eq, take, drop, take-add, cases_Bool, both_ways, and_parts, and_from, eq-eqb, eqb-true}
+use Rattle.wtf8.proofs.Common.{drop-drop, take_all, length-zip2, mask_l-mod, tops_compared, pointwise, bytes_decides, zip2, mask_l, top}
+use Rattle.std.proofs.lemmas.List.{drop-take, take-take}
 
 abbrev unlike : ℕ → ℕ → Bool
 unlike x y = not (eqb x y)
@@ -102,10 +99,7 @@ more_same w v at n e f = reach w v at at n (omega arith) (omega arith) e f
 pub decided : (b : Bool) (w v : List ℕ) → IsTrue b ↔ (w ≡ v) → b ≡ pointwise nat_eq w v
 decided b w v h = elim (cases_Bool b) [
   | inl t ↦ t ∙ sym ((bytes_decides w v).1 (h.0 t))
-  | inr f ↦ elim (cases_Bool (pointwise nat_eq w v)) [
-    | inl t ↦ absurd (both_ways b f (h.1 ((bytes_decides w v).0 t)))
-    | inr g ↦ f ∙ sym g
-  ]
+  | inr f ↦ elim (cases_Bool (pointwise nat_eq w v)) [ inl t ↦ absurd (both_ways b f (h.1 ((bytes_decides w v).0 t))) | inr g ↦ f ∙ sym g ]
 ]
 
 -- the first bytes of lists that have no more are the lists

@@ -1,12 +1,8 @@
 -- The encoding of code points: its bytes in each row of the table, its length, and which bytes begin one.
-use Rattle.std.proofs.Common.{◌≡◌, ℕ, zero, suc, ◌+◌, ◌/◌, ◌%◌, ◌<◌, ◌≤◌, ◌⊎◌, inl, inr, List, [], ◌∷◌, ◌++◌, length, get_or, refl, sym, ap, ◌∙◌, arith}
-use Rattle.std.proofs.lemmas.Bool.{lt-ltb, le-ltb, cases_lt}
-use Rattle.std.proofs.lemmas.List.{append-nil}
-use Rattle.std.proofs.lemmas.List.Concat.{flat_map-append}
+use Rattle.wtf8.proofs.Common.{◌≡◌, ℕ, zero, suc, ◌+◌, ◌/◌, ◌%◌, ◌<◌, ◌≤◌, ◌⊎◌, inl, inr, List, [], ◌∷◌, ◌++◌, length, get_or, refl, sym, ap, ◌∙◌, arith}
+use Rattle.wtf8.proofs.Common.{lt-ltb, le-ltb, cases_lt, append-nil, flat_map-append, IsSurrogate, bytes, encoding_is_encode}
 use Rattle.std.proofs.lemmas.Str.{encode_same}
-use Rattle.wtf8.specs.Unicode.{IsSurrogate}
-use Rattle.wtf8.specs.Form.{encoding, bytes}
-use Rattle.wtf8.specs.OneForm.{encoding_is_encode}
+use Rattle.wtf8.specs.Form.{encoding}
 
 abbrev second_row : ℕ → List ℕ
 second_row p = (0xC0 + p / 64) ∷ (0x80 + p % 64) ∷ []
@@ -41,30 +37,25 @@ pub data Row (p : ℕ) : Type 0 where
   four : 0x10000 ≤ p → encoding p ≡ fourth_row p → Row p
 
 pub row_of : (p : ℕ) → Row p
-row_of p =
-    elim (cases_lt p 0x80) [
-      | inl h ↦ one h (encoding_one p h)
-      | inr l ↦ elim (cases_lt p 0x800) [
-        | inl h ↦ two l h (encoding_two p l h)
-        | inr m ↦ elim (cases_lt p 0x10000) [
-          | inl h ↦ three m h (encoding_three p m h)
-          | inr n ↦ four n (encoding_four p n)
-        ]
-      ]
-    ]
+row_of p = elim (cases_lt p 0x80) [
+  | inl h ↦ one h (encoding_one p h)
+  | inr l ↦ elim (cases_lt p 0x800) [
+    | inl h ↦ two l h (encoding_two p l h)
+    | inr m ↦ elim (cases_lt p 0x10000) [ inl h ↦ three m h (encoding_three p m h) | inr n ↦ four n (encoding_four p n) ]
+  ]
+]
 
 -- the first byte is below 80 or at least C0
 pub record Begins (b : ℕ) : Type 0 where
   pub start : (b < 0x80) ⊎ (0xC0 ≤ b)
 
 pub first-encoding : (p : ℕ) (r : List ℕ) → Begins (get_or (encoding p ++ r) 0 0)
-first-encoding p r =
-    elim (row_of p) [
-      | one h e ↦ rw e (record { start = inl h })
-      | two l h e ↦ rw e (record { start = inr (omega arith) })
-      | three l h e ↦ rw e (record { start = inr (omega arith) })
-      | four l e ↦ rw e (record { start = inr (omega arith) })
-    ]
+first-encoding p r = elim (row_of p) [
+  | one h e ↦ rw e (record { start = inl h })
+  | two l h e ↦ rw e (record { start = inr (omega arith) })
+  | three l h e ↦ rw e (record { start = inr (omega arith) })
+  | four l e ↦ rw e (record { start = inr (omega arith) })
+]
 
 -- each byte is from 80 to BF
 abbrev AreInside : List ℕ → Type 0
@@ -79,24 +70,22 @@ inside_at (x ∷ xs) r (suc k) t h = inside_at xs r k t.2 (omega arith)
 -- the bytes behind the first are from 80 to BF
 pub inside-encoding : (p k : ℕ) (r : List ℕ) → suc k < length (encoding p)
     → (0x80 ≤ get_or (encoding p ++ r) (suc k) 0) × (get_or (encoding p ++ r) (suc k) 0 < 0xC0)
-inside-encoding p k r l =
-    elim (row_of p) [
-      | one h e ↦ absurd (omega (arith, ap length e))
-      | two _ h e ↦ let m = rw e at l in rw e (inside_at ((0x80 + p % 64) ∷ []) r k (omega arith, omega arith, tt) (omega arith))
-      | three _ h e ↦ let m = rw e at l in rw e (inside_at ((0x80 + p / 64 % 64) ∷ (0x80 + p % 64) ∷ []) r k
-          (omega arith, omega arith, (omega arith, omega arith, tt)) (omega arith))
-      | four _ e ↦ let m = rw e at l in rw e (inside_at ((0x80 + p / 4096 % 64) ∷ (0x80 + p / 64 % 64) ∷ (0x80 + p % 64) ∷ []) r k
-          (omega arith, omega arith, (omega arith, omega arith, (omega arith, omega arith, tt))) (omega arith))
-    ]
+inside-encoding p k r l = elim (row_of p) [
+  | one h e ↦ absurd (omega (arith, ap length e))
+  | two _ h e ↦ let m = rw e at l in rw e (inside_at ((0x80 + p % 64) ∷ []) r k (omega arith, omega arith, tt) (omega arith))
+  | three _ h e ↦ let m = rw e at l in rw e (inside_at ((0x80 + p / 64 % 64) ∷ (0x80 + p % 64) ∷ []) r k
+      (omega arith, omega arith, (omega arith, omega arith, tt)) (omega arith))
+  | four _ e ↦ let m = rw e at l in rw e (inside_at ((0x80 + p / 4096 % 64) ∷ (0x80 + p / 64 % 64) ∷ (0x80 + p % 64) ∷ []) r k
+      (omega arith, omega arith, (omega arith, omega arith, (omega arith, omega arith, tt))) (omega arith))
+]
 
 pub length-encoding_bounds : (p : ℕ) → (1 ≤ length (encoding p)) × (length (encoding p) ≤ 4)
-length-encoding_bounds p =
-    elim (row_of p) [
-      | one h e ↦ rw e (omega arith, omega arith)
-      | two l h e ↦ rw e (omega arith, omega arith)
-      | three l h e ↦ rw e (omega arith, omega arith)
-      | four l e ↦ rw e (omega arith, omega arith)
-    ]
+length-encoding_bounds p = elim (row_of p) [
+  | one h e ↦ rw e (omega arith, omega arith)
+  | two l h e ↦ rw e (omega arith, omega arith)
+  | three l h e ↦ rw e (omega arith, omega arith)
+  | four l e ↦ rw e (omega arith, omega arith)
+]
 
 pub length-surrogate : (p : ℕ) → IsSurrogate p → length (encoding p) ≡ 3
 length-surrogate p s = ap length (encoding_three p (omega arith) (omega arith))

@@ -33,23 +33,16 @@ front_of {w} b = subst (λ (v : List ℕ). Front v b.point (length (encoding b.p
 
 -- an encoding of at most three bytes is of one unit
 pub one_unit : (p : ℕ) → length (encoding p) ≤ 3 → p < 0x10000
-one_unit p h =
-    elim (row_of p) [
-      | one l e ↦ omega arith
-      | two _ l e ↦ omega arith
-      | three _ l e ↦ l
-      | four l e ↦ absurd (omega (arith, ap length e))
-    ]
+one_unit p h = elim (row_of p) [ one l e ↦ omega arith | two _ l e ↦ omega arith | three _ l e ↦ l | four l e ↦ absurd (omega (arith, ap length e)) ]
 
 -- the lead of a supplementary code point by its first three bytes
 abbrev pub LeadRead : List ℕ → ℕ → Type 0
 LeadRead w p = 0xD7C0 + ((get_or w 0 0 - 0xF0) * 64 + (get_or w 1 0 - 0x80)) * 4 + (get_or w 2 0 - 0x80) / 16 ≡ 0xD800 + (p - 0x10000) / 0x400
 
 pub lead_read : (p : ℕ) (r : List ℕ) → 0xF0 ≤ get_or (encoding p ++ r) 0 0 → LeadRead (encoding p ++ r) p
-lead_read p r g =
-    elim (row_of p) [
-      | one l e ↦ absurd (omega (arith, rw e at g))
-      | two _ l e ↦ absurd (omega (arith, rw e at g))
-      | three _ l e ↦ absurd (omega (arith, rw e at g))
-      | four l e ↦ rw e (omega arith)
-    ]
+lead_read p r g = elim (row_of p) [
+  | one l e ↦ absurd (omega (arith, rw e at g))
+  | two _ l e ↦ absurd (omega (arith, rw e at g))
+  | three _ l e ↦ absurd (omega (arith, rw e at g))
+  | four l e ↦ rw e (omega arith)
+]

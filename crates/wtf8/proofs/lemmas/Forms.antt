@@ -1,8 +1,7 @@
 -- The form of the units of two lists, one behind the other: its bytes and its length.
 use Rattle.wtf8.proofs.Common.{◌≡◌, ℕ, ◌+◌, ◌-◌, ◌≤◌, inl, inr, List, [], ◌∷◌, ◌++◌, length, take, drop, refl, sym, ap, ◌∙◌, subst, arith, append_assoc}
 use Rattle.wtf8.proofs.Common.{length-append, cases_lt, take_at, drop_at, same_from_push, IsLead, IsTrail, units, units_of, pair, IsClean, Reads, bytes}
-use Rattle.wtf8.proofs.Common.{encoding, IsForm, MeetsAsPair, glue}
-use Rattle.std.proofs.Common.{length-drop}
+use Rattle.wtf8.proofs.Common.{encoding, IsForm, MeetsAsPair, glue, length-drop}
 use Rattle.std.proofs.lemmas.List.{length-take-le}
 use Rattle.wtf8.proofs.lemmas.Concatenation.{glue_meeting, glue_apart, reads-glue}
 use Rattle.wtf8.proofs.lemmas.Encoding.{encoding_four, length-surrogate, bytes-append, bytes-pushed}

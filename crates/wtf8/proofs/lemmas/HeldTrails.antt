@@ -1,12 +1,8 @@
 -- Bytes that begin with a held trail or with a code point, and what one unit leaves of them.
-use Rattle.std.proofs.Common.{◌≡◌, ℕ, true, false, ◌+◌, ◌/◌, ◌%◌, ◌<◌, ◌≤◌, inl, inr, List, [], ◌∷◌, ◌++◌, length, get_or, drop}
-use Rattle.std.proofs.Common.{refl, sym, ap, subst, ◌∙◌, arith, length-drop}
-use Rattle.std.proofs.lemmas.Bool.{lt-ltb, le-ltb}
-use Rattle.std.proofs.lemmas.List.{drop-drop}
-use Rattle.wtf8.specs.Unicode.{IsCodePoint, units_of, units}
-use Rattle.wtf8.specs.Form.{encoding, IsWellFormed}
-use Rattle.wtf8.specs.Units.{Unread, unread_units}
-use Rattle.wtf8.specs.UnitSteps.{is_inside, trail_by, held_in, behind_held, unread_after}
+use Rattle.wtf8.proofs.Common.{◌≡◌, ℕ, true, false, ◌+◌, ◌/◌, ◌%◌, ◌<◌, ◌≤◌, inl, inr, List, [], ◌∷◌, ◌++◌, length, get_or, drop, refl, sym, ap, subst, ◌∙◌}
+use Rattle.wtf8.proofs.Common.{arith, length-drop, lt-ltb, le-ltb, drop-drop, IsCodePoint, units_of, units, encoding, IsWellFormed, Unread, unread_units}
+use Rattle.wtf8.proofs.Common.{trail_by, held_in, behind_held, unread_after}
+use Rattle.wtf8.specs.UnitSteps.{is_inside}
 use Rattle.wtf8.proofs.lemmas.Encoding.{row_of, one, two, three, four, Begins, first-encoding}
 use Rattle.wtf8.proofs.lemmas.Readings.{first_of, no_points, taken, moved}
 use Rattle.wtf8.proofs.lemmas.Units.{lead_of, trail_of, units_one, units_two}

@@ -1,8 +1,6 @@
 -- The surrogate that begins a string, in its first three bytes.
-use Rattle.std.proofs.Common.{◌≡◌, ℕ, ◌+◌, ◌/◌, ◌%◌, ◌<◌, ◌≤◌, List, ◌∷◌, ◌++◌, length, get_or, sym, ap, ◌∙◌, subst, arith}
-use Rattle.wtf8.specs.Form.{bytes, IsWellFormed}
-use Rattle.wtf8.specs.SurrogateSearch.{SurrogateAt}
-use Rattle.wtf8.specs.Unicode.{IsSurrogate}
+use Rattle.wtf8.proofs.Common.{◌≡◌, ℕ, ◌+◌, ◌/◌, ◌%◌, ◌<◌, ◌≤◌, List, ◌∷◌, ◌++◌, length, get_or, sym, ap, ◌∙◌, subst, arith, bytes, IsWellFormed, SurrogateAt}
+use Rattle.wtf8.proofs.Common.{IsSurrogate}
 use Rattle.wtf8.proofs.lemmas.Encoding.{third_row, encoding_three}
 use Rattle.wtf8.proofs.lemmas.FinalLead.{no_bytes}
 use Rattle.wtf8.proofs.lemmas.Surrogates.{surrogate_in}

@@ -1,9 +1,7 @@
 -- Each list of units has one reading at most and one form at most, and bytes determine code points and units.
-use Rattle.wtf8.proofs.Common.{◌≡◌, ℕ, ◌+◌, ◌<◌, ◌≤◌, inl, inr, List, [], ◌∷◌, ◌++◌, length, get_or, drop, refl, sym, ap, ◌∙◌, arith, length-append}
-use Rattle.wtf8.proofs.Common.{cases_lt, drop_all, drop_at, bytes-injective, IsCodePoint, IsTrail, units, IsClean, Reads, bytes, encoding, IsWellFormed}
-use Rattle.wtf8.proofs.Common.{IsForm, BeginsWithPoint}
-use Rattle.std.proofs.Common.{length-drop}
-use Rattle.std.proofs.lemmas.List.{drop-drop}
+use Rattle.wtf8.proofs.Common.{◌≡◌, ℕ, ◌+◌, ◌<◌, ◌≤◌, inl, inr, List, [], ◌∷◌, ◌++◌, length, get_or, drop, refl, sym, ap, ◌∙◌, arith, length-append, cases_lt}
+use Rattle.wtf8.proofs.Common.{drop_all, drop_at, bytes-injective, IsCodePoint, IsTrail, units, IsClean, Reads, bytes, encoding, IsWellFormed, IsForm}
+use Rattle.wtf8.proofs.Common.{BeginsWithPoint, length-drop, drop-drop}
 use Rattle.wtf8.proofs.lemmas.Clean.{clean-first, clean-rest}
 use Rattle.wtf8.proofs.lemmas.Units.{lead_of, trail_of, units-cons_one, units-cons_two}
 

@@ -1,24 +1,17 @@
 -- Whether bytes hold a surrogate, by the lanes of vectors: what the greater lanes of two vectors, or chosen ones, still show.
-use Rattle.std.proofs.Common.{◌≡◌, ℕ, zero, suc, ◌+◌, ◌-◌, ◌%◌, ◌^◌, ◌<◌, ◌≤◌, eqb, ltb, leb, Bool, true, false, IsTrue, cond, List, [], ◌∷◌, map, length}
-use Rattle.std.proofs.Common.{get_or, replicate, w8, inl, inr, sym, ap, ◌∙◌, arith}
-use Rattle.std.proofs.lemmas.Bool.{cases_lt, lt-ltb, le-ltb, le-leb, eq-eqb, eqb-true}
+use Rattle.wtf8.proofs.Common.{◌≡◌, ℕ, zero, suc, ◌+◌, ◌-◌, ◌%◌, ◌^◌, ◌<◌, ◌≤◌, eqb, ltb, leb, Bool, true, false, IsTrue, cond, List, [], ◌∷◌, map, length}
+use Rattle.wtf8.proofs.Common.{get_or, replicate, w8, inl, inr, sym, ap, ◌∙◌, arith, cases_lt, lt-ltb, le-ltb, le-leb, eq-eqb, eqb-true, length-zip2}
+use Rattle.wtf8.proofs.Common.{get_or-zip2, length-chunk, get_or-chunk, mask_l-mod, tops_compared, chunk, sel_l, zip2, mask_l, top, SurrogateAt}
 use Rattle.std.proofs.lemmas.List.{get_or-replicate, length-replicate}
-use Rattle.std.proofs.lemmas.Simd.{length-zip2, get_or-zip2, length-sel_l, get_or-sel_l, length-chunk, get_or-chunk, mask_l-mod, tops_compared}
-use lib.Lanes.{chunk, sel_l, zip2, mask_l, top}
-use Rattle.wtf8.specs.SurrogateSearch.{SurrogateAt, HasLane, ShowsSurrogate}
+use Rattle.std.proofs.lemmas.Simd.{length-sel_l, get_or-sel_l}
+use Rattle.wtf8.specs.SurrogateSearch.{HasLane, ShowsSurrogate}
 use Rattle.wtf8.proofs.lemmas.SurrogateLanes.{lane}
 
 least_own : (x y : ℕ) → x ≤ cond (ltb x y) y x
-least_own x y = elim (cases_lt x y) [
-  | inl h ↦ rw (lt-ltb x y h) (omega arith)
-  | inr h ↦ rw (le-ltb x y h) (omega arith)
-]
+least_own x y = elim (cases_lt x y) [ inl h ↦ rw (lt-ltb x y h) (omega arith) | inr h ↦ rw (le-ltb x y h) (omega arith) ]
 
 least_other : (x y : ℕ) → y ≤ cond (ltb x y) y x
-least_other x y = elim (cases_lt x y) [
-  | inl h ↦ rw (lt-ltb x y h) (omega arith)
-  | inr h ↦ rw (le-ltb x y h) (omega arith)
-]
+least_other x y = elim (cases_lt x y) [ inl h ↦ rw (lt-ltb x y h) (omega arith) | inr h ↦ rw (le-ltb x y h) (omega arith) ]
 
 -- the greater lanes of two vectors
 abbrev pub greater : List ℕ → List ℕ → List ℕ
@@ -69,8 +62,7 @@ module _ (n : ℕ) (xs ys : List ℕ) (p : length xs ≡ n) (q : length ys ≡ n
   test_is : (k : ℕ) → k < n → get_or xs k 0 ≡ 0xED → get_or tests k false ≡ true
   unfolding tests
   test_is k l e =
-      get_or-zip2 eqb xs (replicate n 0xED) k 0 0 false (omega (arith, p, l)) (omega (arith, rest, l))
-      ∙ eq-eqb _ _ (e ∙ sym (get_or-replicate n k 0xED 0 l))
+      get_or-zip2 eqb xs (replicate n 0xED) k 0 0 false (omega (arith, p, l)) (omega (arith, rest, l)) ∙ eq-eqb _ _ (e ∙ sym (get_or-replicate n k 0xED 0 l))
 
   pub has_chosen : (k least : ℕ) → k < n → get_or xs k 0 ≡ 0xED → least ≤ get_or ys k 0 → HasLane least (chosen n xs ys)
   has_chosen k least l e h =
@@ -99,8 +91,7 @@ module _ (n : ℕ) (w : List ℕ) (i : ℕ) where
   shown_by_seconds room j l u s =
       let behind : i + 1 + (j - i) ≡ j + 1 = omega (arith, l) in
       has_chosen n (chunk i n w) (chunk (i + 1) n w) (length-chunk i n w (omega arith)) (length-chunk (i + 1) n w (omega arith)) (j - i) 0xA0
-      (omega arith) (first_is j l u s)
-      (omega (arith, get_or-chunk (i + 1) n w (j - i) 0 (omega arith), ap (λ m. get_or w m 0) behind, s.second))
+      (omega arith) (first_is j l u s) (omega (arith, get_or-chunk (i + 1) n w (j - i) 0 (omega arith), ap (λ m. get_or w m 0) behind, s.second))
 
 -- an empty mask of the lanes that are no less than a number
 none_high : (n least : ℕ) (xs : List ℕ) → length xs ≡ n → mask_l (zip2 leb (replicate n least) xs) ≡ 0 → (k : ℕ) → k < length xs → least ≤ get_or xs k 0 → ⊥

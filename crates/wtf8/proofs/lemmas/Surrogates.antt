@@ -1,16 +1,8 @@
 -- Surrogates in bytes against surrogates among code points.
-use Rattle.std.proofs.Common.{◌≡◌, ◌≤◌, ◌<◌, ◌+◌, ℕ, List, [], ◌∷◌, ◌++◌, length, get_or, refl, ap, ◌∙◌, sym, subst, arith, append_assoc, length-append, true}
-use Rattle.std.proofs.Common.{inl, inr, Option, Some, None}
-use Rattle.std.proofs.lemmas.Bool.Decides.{nat_tests}
-use Rattle.std.proofs.lemmas.Bool.{cases_lt, lt-ltb, le-ltb}
-use Rattle.std.proofs.lemmas.List.{append-nil, get_or-append-add}
-use Rattle.std.specs.Str.{IsUtf8}
-use lib.Utf8.{scalar, scalars, low_scalar}
-use Rattle.wtf8.specs.Unicode.{IsCodePoint, IsSurrogate}
-use Rattle.wtf8.specs.Form.{encoding, bytes, IsClean, IsWellFormed}
-use Rattle.wtf8.specs.OneForm.{bytes_are_encodes}
-use Rattle.wtf8.specs.Surrogates.{AreScalar}
-use Rattle.wtf8.specs.SurrogateSearch.{SurrogateAt, IsLeast, IsFirst}
+use Rattle.wtf8.proofs.Common.{◌≡◌, ◌≤◌, ◌<◌, ◌+◌, ℕ, List, [], ◌∷◌, ◌++◌, length, get_or, refl, ap, ◌∙◌, sym, subst, arith, append_assoc, length-append, true}
+use Rattle.wtf8.proofs.Common.{inl, inr, Option, Some, None, nat_tests, cases_lt, lt-ltb, le-ltb, append-nil, get_or-append-add, IsUtf8, scalar, scalars}
+use Rattle.wtf8.proofs.Common.{IsCodePoint, IsSurrogate, encoding, bytes, IsClean, IsWellFormed, bytes_are_encodes, AreScalar, SurrogateAt, IsLeast, IsFirst}
+use lib.Utf8.{low_scalar}
 use Rattle.wtf8.proofs.lemmas.Clean.{clean-first, clean-rest}
 use Rattle.wtf8.proofs.lemmas.Encoding.{encoding_three, length-encoding_bounds, row_of, one, two, three, four, bytes-append}
 use Rattle.wtf8.proofs.lemmas.Splits.{split_at}
@@ -39,16 +31,15 @@ pub record SurrogateIn (c : List ℕ) (i : ℕ) : Type 0 where
 
 first_surrogate_in : (b : List ℕ) → 1 < length (bytes b) → get_or (bytes b) 0 0 ≡ 0xED → 0xA0 ≤ get_or (bytes b) 1 0 → SurrogateIn b 0
 first_surrogate_in [] n e s = absurd (omega arith)
-first_surrogate_in (p ∷ b) n e s =
-    elim (row_of p) [
-      | one h r ↦ absurd (omega (arith, rw r at e))
-      | two l h r ↦ absurd (omega (arith, rw r at e))
-      | three l h r ↦
-          let high = rw r at e in
-          let low = rw r at s in
-          record { front = []; point = p; back = b; joined = refl; front_len = refl; surrogate = (omega arith, omega arith) }
-      | four l r ↦ absurd (omega (arith, rw r at e))
-    ]
+first_surrogate_in (p ∷ b) n e s = elim (row_of p) [
+  | one h r ↦ absurd (omega (arith, rw r at e))
+  | two l h r ↦ absurd (omega (arith, rw r at e))
+  | three l h r ↦
+      let high = rw r at e in
+      let low = rw r at s in
+      record { front = []; point = p; back = b; joined = refl; front_len = refl; surrogate = (omega arith, omega arith) }
+  | four l r ↦ absurd (omega (arith, rw r at e))
+]
 
 pub surrogate_in : (c : List ℕ) (i : ℕ) → SurrogateAt (bytes c) i → SurrogateIn c i
 surrogate_in c i s =
@@ -79,14 +70,13 @@ none_from_scalar c i s at =
 
 -- code points that are scalar values are the characters of a text
 pub scalar_true : (p : ℕ) → IsCodePoint p → ¬ (IsSurrogate p) → scalar p ≡ true
-scalar_true p r n =
-    elim (cases_lt p 0xD800) [
-      | inl h ↦ low_scalar p h
-      | inr h ↦ elim (cases_lt p 0xE000) [
-        | inl k ↦ absurd (n (h, omega arith))
-        | inr k ↦ rw (le-ltb p 0xD800 h, lt-ltb p 0x110000 (omega arith)) (grind (arith, nat_tests))
-      ]
-    ]
+scalar_true p r n = elim (cases_lt p 0xD800) [
+  | inl h ↦ low_scalar p h
+  | inr h ↦ elim (cases_lt p 0xE000) [
+    | inl k ↦ absurd (n (h, omega arith))
+    | inr k ↦ rw (le-ltb p 0xD800 h, lt-ltb p 0x110000 (omega arith)) (grind (arith, nat_tests))
+  ]
+]
 
 pub scalars_true : (c : List ℕ) → IsClean c → AreScalar c → scalars c ≡ true
 scalars_true [] x s = refl

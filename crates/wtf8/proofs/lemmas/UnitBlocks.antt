@@ -1,10 +1,8 @@
 -- Blocks of units in lanes: what the mask of a block says of its units.
-use Rattle.std.proofs.Common.{◌≡◌, ℕ, zero, suc, ◌%◌, ◌^◌, ◌≤◌, leb, ltb, Bool, true, false, cond, ◌&&◌, ◌||◌, List, [], ◌∷◌, map, length}
-use Rattle.std.proofs.Common.{replicate, bit_and, bit_or, Fits, w16, refl, sym, ap, ◌∙◌, arith, inl, inr}
-use Rattle.std.proofs.lemmas.Bool.{cases_lt, le-leb, lt-leb, lt-ltb, le-ltb}
-use Rattle.std.proofs.lemmas.Simd.{mask_l-mod}
-use lib.Lanes.{Each1, zip2, mask_l, top}
-use Rattle.wtf8.specs.UnitParts.{AreAscii, AreTwoByteUnits, AreThreeByteUnits}
+use Rattle.wtf8.proofs.Common.{◌≡◌, ℕ, zero, suc, ◌%◌, ◌^◌, ◌≤◌, leb, ltb, Bool, true, false, cond, ◌&&◌, ◌||◌, List, [], ◌∷◌, map, length, replicate, bit_and}
+use Rattle.wtf8.proofs.Common.{bit_or, Fits, refl, sym, ap, ◌∙◌, arith, inl, inr, cases_lt, le-leb, lt-leb, lt-ltb, le-ltb, mask_l-mod, Each1, zip2, mask_l}
+use Rattle.wtf8.proofs.Common.{top, AreAscii, AreTwoByteUnits, AreThreeByteUnits}
+use Rattle.std.proofs.Common.{w16}
 
 -- a lane of a comparison of units
 abbrev wide : Bool → ℕ

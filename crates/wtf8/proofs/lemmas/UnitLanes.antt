@@ -1,11 +1,10 @@
 -- Units counted in lanes: what a block's lanes add up to.
-use Rattle.std.proofs.Common.{◌≡◌, ℕ, zero, suc, ◌+◌, ◌<◌, ◌≤◌, ltb, leb, Bool, true, false, cond, ◌||◌, List, [], ◌∷◌, map, length, replicate, bit_or, Fits}
-use Rattle.std.proofs.Common.{w8, refl, sym, ap, ◌∙◌, arith, inl, inr}
-use Rattle.std.proofs.lemmas.Bool.{cases_lt, lt-ltb, le-ltb, le-leb, lt-leb}
+use Rattle.wtf8.proofs.Common.{◌≡◌, ℕ, zero, suc, ◌+◌, ◌<◌, ◌≤◌, ltb, leb, Bool, true, false, cond, ◌||◌, List, [], ◌∷◌, map, length, replicate, bit_or, Fits}
+use Rattle.wtf8.proofs.Common.{w8, refl, sym, ap, ◌∙◌, arith, inl, inr, cases_lt, lt-ltb, le-ltb, le-leb, lt-leb, Each1, sel_l, top, zip2, all_units_begun}
 use Rattle.std.proofs.lemmas.Simd.{Each2-of, fold-sum, sum_bound, sum_fits}
 use Rattle.std.proofs.lemmas.List.Sums.{sum_by-cons}
-use lib.Lanes.{Each1, Each2, Steps, fold_l, sel_l, sum_l, top, zip2}
-use Rattle.wtf8.specs.UnitCounts.{units_begun, all_units_begun}
+use lib.Lanes.{Each2, Steps, fold_l, sum_l}
+use Rattle.wtf8.specs.UnitCounts.{units_begun}
 use Rattle.wtf8.proofs.lemmas.SurrogateLanes.{lane}
 
 pub begun_low : (b : ℕ) → b < 0x80 → units_begun b ≡ 1
@@ -29,10 +28,7 @@ begun_most b = elim (cases_lt b 0x80) [
   | inl h ↦ omega (arith, begun_low b h)
   | inr k ↦ elim (cases_lt b 0xC0) [
     | inl h ↦ omega (arith, begun_inside b k h)
-    | inr l ↦ elim (cases_lt b 0xF0) [
-      | inl h ↦ omega (arith, begun_one b l h)
-      | inr h ↦ omega (arith, begun_two b h)
-    ]
+    | inr l ↦ elim (cases_lt b 0xF0) [ inl h ↦ omega (arith, begun_one b l h) | inr h ↦ omega (arith, begun_two b h) ]
   ]
 ]
 

@@ -1,13 +1,8 @@
 -- Positions counted in units: places among bytes, and the code points that are there.
-use Rattle.std.proofs.Common.{◌≡◌, ℕ, ◌+◌, ◌-◌, ◌/◌, ◌%◌, ◌<◌, ◌≤◌, inl, inr, List, [], ◌∷◌, ◌++◌, length, take, drop, get_or, refl, sym, ap, ◌∙◌, arith}
-use Rattle.std.proofs.Common.{length-append, take-add}
-use Rattle.std.proofs.lemmas.Bool.{cases_lt}
-use Rattle.std.proofs.lemmas.List.{take_at, drop_at, get_or-append_right}
+use Rattle.wtf8.proofs.Common.{◌≡◌, ℕ, ◌+◌, ◌-◌, ◌/◌, ◌%◌, ◌<◌, ◌≤◌, inl, inr, List, [], ◌∷◌, ◌++◌, length, take, drop, get_or, refl, sym, ap, ◌∙◌, arith}
+use Rattle.wtf8.proofs.Common.{length-append, take-add, cases_lt, take_at, drop_at, get_or-append_right, chunk, units, units_of, encoding, bytes, units_begun}
+use Rattle.wtf8.proofs.Common.{all_units_begun, IsPlaceOfUnit}
 use Rattle.std.proofs.lemmas.List.Sums.{sum_by-append, sum_by_more}
-use lib.Lanes.{chunk}
-use Rattle.wtf8.specs.Unicode.{units, units_of}
-use Rattle.wtf8.specs.Form.{encoding, bytes}
-use Rattle.wtf8.specs.UnitCounts.{units_begun, all_units_begun, IsPlaceOfUnit}
 use Rattle.wtf8.proofs.lemmas.Encoding.{Begins, row_of, one, two, three, four, length-encoding_bounds, bytes-append}
 use Rattle.wtf8.proofs.lemmas.Splits.{split_at}
 use Rattle.wtf8.proofs.lemmas.UnitLanes.{begun_low, begun_inside, begun_one, begun_two}
@@ -54,17 +49,13 @@ begun_first p r = elim (row_of p) [
 
 pub begun_bytes : (c : List ℕ) → all_units_begun (bytes c) ≡ length (units c)
 begun_bytes [] = refl
-begun_bytes (p ∷ c) =
-    omega (arith, sum_by-append units_begun (encoding p) (bytes c), begun_encoding p, begun_bytes c, length-append (units_of p) (units c))
+begun_bytes (p ∷ c) = omega (arith, sum_by-append units_begun (encoding p) (bytes c), begun_encoding p, begun_bytes c, length-append (units_of p) (units c))
 
 -- a byte that begins units begins a code point
 begins_units : (b : ℕ) → 0 < units_begun b → Begins b
 begins_units b h = elim (cases_lt b 0x80) [
   | inl l ↦ record { start = inl l }
-  | inr l ↦ elim (cases_lt b 0xC0) [
-    | inl k ↦ absurd (omega (arith, begun_inside b l k))
-    | inr k ↦ record { start = inr k }
-  ]
+  | inr l ↦ elim (cases_lt b 0xC0) [ inl k ↦ absurd (omega (arith, begun_inside b l k)) | inr k ↦ record { start = inr k } ]
 ]
 
 -- the code points about a place

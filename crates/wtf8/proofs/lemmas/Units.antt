@@ -1,10 +1,7 @@
 -- The units of code points: one below 10000 and two from there on.
-use Rattle.std.proofs.Common.{◌≡◌, ℕ, ◌+◌, ◌-◌, ◌*◌, ◌/◌, ◌%◌, ◌<◌, ◌≤◌, inl, inr, List, [], ◌∷◌, ◌++◌, length, refl, ap, ◌∙◌, arith, length-append}
-use Rattle.std.proofs.lemmas.Bool.{lt-ltb, le-ltb, cases_lt}
-use Rattle.std.proofs.lemmas.List.{append-nil}
-use Rattle.std.proofs.lemmas.List.Concat.{flat_map-append}
-use Rattle.wtf8.specs.Unicode.{IsLead, IsTrail, units_of, units, pair}
-use Rattle.wtf8.specs.Form.{encoding, bytes}
+use Rattle.wtf8.proofs.Common.{◌≡◌, ℕ, ◌+◌, ◌-◌, ◌*◌, ◌/◌, ◌%◌, ◌<◌, ◌≤◌, inl, inr, List, [], ◌∷◌, ◌++◌, length, refl, ap, ◌∙◌, arith, length-append, lt-ltb}
+use Rattle.wtf8.proofs.Common.{le-ltb, cases_lt, append-nil, flat_map-append, IsLead, IsTrail, units, pair, encoding, bytes}
+use Rattle.wtf8.specs.Unicode.{units_of}
 use Rattle.wtf8.proofs.lemmas.Encoding.{row_of, one, two, three, four, length-encoding_bounds}
 
 pub units_one : (p : ℕ) → p < 0x10000 → units_of p ≡ p ∷ []
@@ -23,8 +20,7 @@ unfolding units_of
 units_two p h = rw (le-ltb p 0x10000 h) refl
 
 pub units_pair : (l t : ℕ) → IsLead l → IsTrail t → units_of (pair l t) ≡ l ∷ t ∷ []
-units_pair l t h k =
-    units_two (pair l t) (omega arith) ∙ (ap (λ a. a ∷ trail_of (pair l t) ∷ []) (omega arith) ∙ ap (λ b. l ∷ b ∷ []) (omega arith))
+units_pair l t h k = units_two (pair l t) (omega arith) ∙ (ap (λ a. a ∷ trail_of (pair l t) ∷ []) (omega arith) ∙ ap (λ b. l ∷ b ∷ []) (omega arith))
 
 pub units-cons_one : (p : ℕ) (c : List ℕ) → p < 0x10000 → units (p ∷ c) ≡ p ∷ units c
 units-cons_one p c h = ap (λ u. u ++ units c) (units_one p h)
@@ -44,13 +40,12 @@ pub record Bounds (u w : ℕ) : Type 0 where
   pub at_most : w ≤ 3 * u
 
 bounds_of : (p : ℕ) → Bounds (length (units_of p)) (length (encoding p))
-bounds_of p =
-    elim (row_of p) [
-      | one h e ↦ rw (e, units_one p (omega arith)) (record { at_least = omega arith; at_most = omega arith })
-      | two _ h e ↦ rw (e, units_one p (omega arith)) (record { at_least = omega arith; at_most = omega arith })
-      | three _ h e ↦ rw (e, units_one p h) (record { at_least = omega arith; at_most = omega arith })
-      | four l e ↦ rw (e, units_two p l) (record { at_least = omega arith; at_most = omega arith })
-    ]
+bounds_of p = elim (row_of p) [
+  | one h e ↦ rw (e, units_one p (omega arith)) (record { at_least = omega arith; at_most = omega arith })
+  | two _ h e ↦ rw (e, units_one p (omega arith)) (record { at_least = omega arith; at_most = omega arith })
+  | three _ h e ↦ rw (e, units_one p h) (record { at_least = omega arith; at_most = omega arith })
+  | four l e ↦ rw (e, units_two p l) (record { at_least = omega arith; at_most = omega arith })
+]
 
 pub units_bounds : (c : List ℕ) → Bounds (length (units c)) (length (bytes c))
 units_bounds [] = record { at_least = omega arith; at_most = omega arith }

@@ -1,11 +1,5 @@
-use Rattle.std.proofs.Common.{ap, refl, sym, subst, ◌∙◌}
+use Rattle.wtf8.proofs.Common.{ap, refl, sym, subst, ◌∙◌, Drains, copied_steps, iter_rest, iter_steps, point_of, points_of, decode_steps, bytes, units}
 use Rattle.std.specs.Result.{is_ok}
-use Rattle.std.specs.Iterator.{Drains}
-use Rattle.std.specs.Iterator.Adapters.{copied_steps}
-use Rattle.std.specs.Slice.Iter.{iter_rest, iter_steps}
-use Rattle.wtf8.specs.Decoding.{point_of, points_of, decode_steps}
-use Rattle.wtf8.specs.Form.{bytes}
-use Rattle.wtf8.specs.Unicode.{units}
 use Rattle.wtf8.proofs.lemmas.DecodedItems.{item_appended, scalar_item, scalars_more, slice_units}
 use Rattle.wtf8.proofs.decode.append_units.Goals as goal
 

@@ -1,5 +1,4 @@
-use Rattle.std.proofs.Common.{subst}
-use Rattle.wtf8.specs.Decoding.{ReadsAll}
+use Rattle.wtf8.proofs.Common.{subst, ReadsAll}
 use Rattle.wtf8.proofs.lemmas.Decoding.{reads_all}
 use Rattle.wtf8.proofs.decode.decode_utf16.Goals as goal
 

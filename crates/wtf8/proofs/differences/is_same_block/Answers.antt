@@ -1,5 +1,4 @@
-use Rattle.std.proofs.Common.{take, drop}
-use Rattle.std.proofs.lemmas.Simd.{length-chunk}
+use Rattle.wtf8.proofs.Common.{take, drop, length-chunk}
 use Rattle.wtf8.proofs.lemmas.DifferenceLanes.{same_lanes}
 use Rattle.wtf8.proofs.differences.is_same_block.Goals as goal
 

@@ -1,5 +1,4 @@
-use Rattle.std.proofs.Common.{◌≤◌, ◌⊎◌, inl, inr, length, ◌∙◌, arith}
-use Rattle.std.proofs.lemmas.Bool.{cases_lt}
+use Rattle.wtf8.proofs.Common.{◌≤◌, ◌⊎◌, inl, inr, length, ◌∙◌, arith, cases_lt}
 use Rattle.wtf8.proofs.lemmas.UnitOrder.{lengths_decide}
 use Rattle.wtf8.proofs.differences.order.Goals as goal
 

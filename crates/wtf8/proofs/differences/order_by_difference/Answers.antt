@@ -1,6 +1,4 @@
-use Rattle.std.proofs.Common.{◌∙◌, ap}
-use Rattle.std.specs.Option.{option_cmp}
-use Rattle.std.specs.Ordering.{nat_cmp}
+use Rattle.wtf8.proofs.Common.{◌∙◌, ap, option_cmp, nat_cmp}
 use Rattle.wtf8.proofs.lemmas.UnitOrder.{order_there}
 use Rattle.wtf8.proofs.differences.order_by_difference.Goals as goal
 

@@ -1,5 +1,4 @@
-use Rattle.std.proofs.Common.{ℕ, ◌≤◌, ◌<◌, ◌-◌, length}
-use Rattle.wtf8.specs.SurrogateSearch.{SurrogateAt}
+use Rattle.wtf8.proofs.Common.{ℕ, ◌≤◌, ◌<◌, ◌-◌, length, SurrogateAt}
 use Rattle.wtf8.proofs.search.first_surrogate_in_blocks.Given as goal
 
 -- none so far

@@ -1,5 +1,4 @@
-use Rattle.std.proofs.Common.{ℕ, ◌≤◌, ◌<◌}
-use Rattle.wtf8.specs.SurrogateSearch.{SurrogateAt}
+use Rattle.wtf8.proofs.Common.{ℕ, ◌≤◌, ◌<◌, SurrogateAt}
 use Rattle.wtf8.proofs.search.first_surrogate_one_by_one.Given as goal
 
 -- none so far

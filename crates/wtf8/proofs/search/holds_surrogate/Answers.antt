@@ -1,6 +1,4 @@
-use Rattle.std.proofs.Common.{◌+◌, arith, take, drop}
-use Rattle.std.proofs.lemmas.Bool.{eqb-true, not-false}
-use Rattle.std.proofs.lemmas.Simd.{length-chunk}
+use Rattle.wtf8.proofs.Common.{◌+◌, arith, take, drop, eqb-true, not-false, length-chunk}
 use Rattle.wtf8.proofs.lemmas.SurrogateLanes.{no_lane, no_surrogate}
 use Rattle.wtf8.proofs.search.holds_surrogate.Goals as goal
 

@@ -1,5 +1,4 @@
-use Rattle.std.proofs.Common.{◌+◌, sym, subst}
-use Rattle.wtf8.specs.SurrogateSearch.{IsFirst, IsLeast, SurrogateAt}
+use Rattle.wtf8.proofs.Common.{◌+◌, sym, subst, IsFirst, IsLeast, SurrogateAt}
 use Rattle.wtf8.proofs.lemmas.Replacement.{Replacing, replacing_step, replacing_end}
 use Rattle.wtf8.proofs.lemmas.Surrogates.{none_found}
 use Rattle.wtf8.proofs.search.replace_surrogates.Goals as goal

@@ -1,5 +1,4 @@
-use Rattle.std.proofs.Common.{◌-◌, length}
-use Rattle.wtf8.specs.Form.{IsWellFormed}
+use Rattle.wtf8.proofs.Common.{◌-◌, length, IsWellFormed}
 use Rattle.wtf8.proofs.lemmas.Replacement.{Replacing}
 use Rattle.wtf8.proofs.search.replace_surrogates.Given as goal
 

@@ -1,5 +1,4 @@
-use Rattle.std.proofs.Common.{◌≤◌, ◌-◌, length}
-use Rattle.wtf8.specs.SurrogateSearch.{NoneBefore}
+use Rattle.wtf8.proofs.Common.{◌≤◌, ◌-◌, length, NoneBefore}
 use Rattle.wtf8.proofs.surrogate_presence.skip_without_first_byte.Given as goal
 
 abbrev pub invariant-loop-at : goal.invariant-loop-at

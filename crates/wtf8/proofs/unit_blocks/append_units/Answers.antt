@@ -1,5 +1,4 @@
-use Rattle.std.proofs.Common.{take, ◌+◌, ◌-◌, ◌&&◌, arith, refl}
-use Rattle.std.proofs.lemmas.Bool.{and_parts}
+use Rattle.wtf8.proofs.Common.{take, ◌+◌, ◌-◌, ◌&&◌, arith, refl, and_parts}
 use Rattle.wtf8.proofs.lemmas.Meeting.{nothing_ends}
 use Rattle.wtf8.proofs.lemmas.UnitParts.{block_apart, block_form, nothing_read, part_read, all_read}
 use Rattle.wtf8.proofs.unit_blocks.append_units.Goals as goal

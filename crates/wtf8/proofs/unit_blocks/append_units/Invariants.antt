@@ -1,5 +1,4 @@
-use Rattle.std.proofs.Common.{◌≤◌, ◌-◌, length, take}
-use Rattle.wtf8.specs.UnitParts.{IsKnownForm, DividesNoPair}
+use Rattle.wtf8.proofs.Common.{◌≤◌, ◌-◌, length, take, IsKnownForm, DividesNoPair}
 use Rattle.wtf8.proofs.unit_blocks.append_units.Given as goal
 
 -- the bytes are the form of the units so far, and no pair is divided behind these

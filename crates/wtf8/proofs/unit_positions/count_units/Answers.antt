@@ -1,6 +1,5 @@
-use Rattle.std.proofs.Common.{arith, ◌+◌}
+use Rattle.wtf8.proofs.Common.{arith, ◌+◌, units_begun}
 use Rattle.std.proofs.lemmas.List.Sums.{sum_by-take-le}
-use Rattle.wtf8.specs.UnitCounts.{units_begun}
 use Rattle.wtf8.proofs.lemmas.UnitPositions.{begun_more}
 use Rattle.wtf8.proofs.unit_positions.count_units.Goals as goal
 

@@ -1,5 +1,4 @@
-use Rattle.std.proofs.Common.{◌≡◌, take}
-use Rattle.wtf8.specs.UnitCounts.{all_units_begun}
+use Rattle.wtf8.proofs.Common.{◌≡◌, take, all_units_begun}
 use Rattle.wtf8.proofs.unit_positions.count_units_from.Given as goal
 
 -- the units so far are counted

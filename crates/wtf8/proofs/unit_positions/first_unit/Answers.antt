@@ -1,6 +1,4 @@
-use Rattle.std.proofs.Common.{◌∷◌, Some, ap, sym, ◌∙◌}
-use Rattle.std.specs.List.{slice_get}
-use Rattle.wtf8.specs.Unicode.{units}
+use Rattle.wtf8.proofs.Common.{◌∷◌, Some, ap, sym, ◌∙◌, slice_get, units}
 use Rattle.wtf8.proofs.lemmas.Units.{units-cons_one, units-cons_two}
 use Rattle.wtf8.proofs.unit_positions.first_unit.Goals as goal
 

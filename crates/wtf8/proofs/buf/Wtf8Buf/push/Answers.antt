@@ -1,7 +1,4 @@
-use Rattle.std.proofs.Common.{ap, arith}
-use Rattle.std.proofs.lemmas.Bool.{false≢true}
-use Rattle.wtf8.specs.CodePoint.{number}
-use Rattle.wtf8.specs.UnitString.{UnitString}
+use Rattle.wtf8.proofs.Common.{ap, arith, false≢true, number, UnitString}
 use Rattle.wtf8.proofs.lemmas.Gains.{gained_or_kept, gained_units, kept_contents}
 use Rattle.wtf8.proofs.lemmas.Scalars.{known_point}
 use Rattle.wtf8.proofs.buf.Wtf8Buf.push.Goals as goal

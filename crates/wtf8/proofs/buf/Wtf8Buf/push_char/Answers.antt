@@ -1,9 +1,7 @@
-use Rattle.wtf8.specs.UnitString.{UnitString}
-use Rattle.std.proofs.Common.{ap, subst, OnOk}
+use Rattle.wtf8.proofs.Common.{UnitString, ap, subst, OnOk, GainsUnits}
 use Rattle.wtf8.proofs.lemmas.Gains.{gained_units, kept_contents}
 use Rattle.wtf8.proofs.lemmas.Scalars.{known_point}
 use Rattle.wtf8.proofs.lemmas.Texts.{scalar_facts}
-use Rattle.wtf8.specs.Gains.{GainsUnits}
 use Rattle.wtf8.proofs.lemmas.Units.{units_one}
 use Rattle.wtf8.proofs.buf.Wtf8Buf.push_char.Goals as goal
 

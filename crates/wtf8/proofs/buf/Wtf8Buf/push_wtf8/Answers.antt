@@ -1,14 +1,10 @@
-use Rattle.wtf8.specs.UnitString.{UnitString}
-use Rattle.std.proofs.Common.{ap, arith, length, refl, sym, subst, ◌∙◌, IsTrue}
-use Rattle.std.proofs.lemmas.Bool.{false≢true}
+use Rattle.wtf8.proofs.Common.{UnitString, ap, arith, length, refl, sym, subst, ◌∙◌, IsTrue, false≢true, units, view_units, view_form}
 use Rattle.wtf8.proofs.lemmas.Gains.{gained_units, kept_contents, added_length}
 use Rattle.wtf8.proofs.lemmas.Scalars.{known_gained, scalar_apart, scalar_moved, scalar_unless_held}
-use Rattle.wtf8.specs.Unicode.{units}
 use Rattle.wtf8.proofs.lemmas.Appending.{grows_at_most, nothing_appended, fits_left}
 use Rattle.wtf8.proofs.lemmas.Readings.{no_points}
-use Rattle.wtf8.specs.View.{view_units, view_form}
-use Rattle.wtf8.proofs.buf.Wtf8Buf.push_wtf8.Goals as goal
 use Rattle.wtf8.proofs.buf.Wtf8Buf.push_wtf8.Goals.{then-is_apart, else-is_apart}
+use Rattle.wtf8.proofs.buf.Wtf8Buf.push_wtf8.Goals as goal
 
 pub push_view-requires-clause-apart : goal.push_view-requires-clause-apart
 push_view-requires-clause-apart g c t h = scalar_apart (scalar_moved c.self.inside.well_formed h refl (c.self.inside.known_scalar t))

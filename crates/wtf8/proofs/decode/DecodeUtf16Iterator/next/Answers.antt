@@ -1,7 +1,5 @@
-use Rattle.std.proofs.Common.{◌<◌, rules, refl, inl, inr, sym, subst, arith, Some, true≢false}
-use Rattle.std.specs.Iterator.Adapters.{peekable_steps, peekable_peeked}
-use Rattle.wtf8.specs.Decoding.{units_left}
-use Rattle.wtf8.specs.Unicode.{IsTrail}
+use Rattle.wtf8.proofs.Common.{◌<◌, rules, refl, inl, inr, sym, subst, arith, Some, peekable_steps, peekable_peeked, units_left, IsTrail}
+use Rattle.std.proofs.Common.{true≢false}
 use Rattle.wtf8.proofs.lemmas.Decoding.{takes_one, takes_two, held_apart}
 use Rattle.wtf8.proofs.decode.DecodeUtf16Iterator.next.Goals as goal
 

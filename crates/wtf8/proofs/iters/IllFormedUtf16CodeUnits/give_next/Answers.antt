@@ -1,9 +1,6 @@
-use Rattle.std.proofs.Common.{◌≡◌, ℕ, ◌+◌, ◌<◌, ◌≤◌, ◌∙◌, List, [], ◌∷◌, ◌++◌, length, get_or, drop, arith, ap, sym, subst, refl, length-drop}
-use Rattle.wtf8.specs.Form.{encoding, IsWellFormed}
-use Rattle.wtf8.specs.Gains.{BeginsWithPoint, IsReadAs}
-use Rattle.wtf8.specs.Unicode.{IsCodePoint, units}
-use Rattle.wtf8.specs.Units.{Unread, unread_units}
-use Rattle.wtf8.specs.UnitSteps.{trail_by, held_in, behind_held, unread_after}
+use Rattle.wtf8.proofs.Common.{◌≡◌, ℕ, ◌+◌, ◌<◌, ◌≤◌, ◌∙◌, List, [], ◌∷◌, ◌++◌, length, get_or, drop, arith, ap, sym, subst, refl, length-drop, encoding}
+use Rattle.wtf8.proofs.Common.{IsWellFormed, BeginsWithPoint, IsCodePoint, units, Unread, unread_units, trail_by, held_in, behind_held, unread_after}
+use Rattle.wtf8.specs.Gains.{IsReadAs}
 use Rattle.wtf8.proofs.lemmas.FirstBytes.{front_of}
 use Rattle.wtf8.proofs.lemmas.HeldTrails.{below, above, not_held, is_whole, unread_at, Steps, steps_one, steps_lead, steps_trail, ended}
 use Rattle.wtf8.proofs.lemmas.Readings.{first_of, moved, same_points}
@@ -102,8 +99,7 @@ read_two-unit-requires-clause-front c =
 pub invariant_of-self-inside-then-first-lt224 : goal.invariant_of-self-inside-then-first-lt224
 invariant_of-self-inside-then-first-lt224 c =
     let s = c.self.inside in
-    let t = few_bytes s.bytes.now s.at s.behind c.read_two-unit.result 2 c.split_at.ensures.back
-    (omega (arith, s.within, c.if-at-self.false))
+    let t = few_bytes s.bytes.now s.at s.behind c.read_two-unit.result 2 c.split_at.ensures.back (omega (arith, s.within, c.if-at-self.false))
     c.if-first-ge192.true c.read_two-unit.ensures.one_unit c.read_two-unit.ensures.read in (t.within, (t.behind, tt))
 
 pub returns-then-first-lt224-clause-first : goal.returns-then-first-lt224-clause-first
@@ -127,8 +123,7 @@ read_three-unit-requires-clause-front c =
 pub invariant_of-self-inside-then-first-lt240 : goal.invariant_of-self-inside-then-first-lt240
 invariant_of-self-inside-then-first-lt240 c =
     let s = c.self.inside in
-    let t = few_bytes s.bytes.now s.at s.behind c.read_three-unit.result 3 c.split_at.ensures.back
-    (omega (arith, s.within, c.if-at-self.false))
+    let t = few_bytes s.bytes.now s.at s.behind c.read_three-unit.result 3 c.split_at.ensures.back (omega (arith, s.within, c.if-at-self.false))
     c.if-first-ge192.true c.read_three-unit.ensures.one_unit c.read_three-unit.ensures.read in (t.within, (t.behind, tt))
 
 pub returns-then-first-lt240-clause-first : goal.returns-then-first-lt240-clause-first

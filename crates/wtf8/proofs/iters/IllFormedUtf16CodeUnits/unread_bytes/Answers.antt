@@ -1,7 +1,5 @@
-use Rattle.std.proofs.Common.{◌≡◌, ℕ, ◌+◌, ◌*◌, inl, inr, List, [], ◌∷◌, length, ap, drop, arith, length-drop}
-use Rattle.std.proofs.lemmas.Bool.{cases_lt}
-use Rattle.wtf8.specs.Form.{bytes, IsWellFormed}
-use Rattle.wtf8.specs.UnitSteps.{held_in, behind_held}
+use Rattle.wtf8.proofs.Common.{◌≡◌, ℕ, ◌+◌, ◌*◌, inl, inr, List, [], ◌∷◌, length, ap, drop, arith, length-drop, cases_lt, bytes, IsWellFormed, held_in}
+use Rattle.wtf8.proofs.Common.{behind_held}
 use Rattle.wtf8.proofs.lemmas.HeldTrails.{inside, below, above, not_held, held_at}
 use Rattle.wtf8.proofs.lemmas.Units.{units_bounds}
 use Rattle.wtf8.proofs.iters.IllFormedUtf16CodeUnits.unread_bytes.Goals as goal

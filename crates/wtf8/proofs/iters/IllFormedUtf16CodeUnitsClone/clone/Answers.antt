@@ -1,6 +1,4 @@
-use Rattle.std.proofs.Common.{List, ℕ, ◌∙◌, ap, drop, refl}
-use Rattle.wtf8.specs.Units.{Unread}
-use Rattle.wtf8.specs.UnitSteps.{held_in}
+use Rattle.wtf8.proofs.Common.{List, ℕ, ◌∙◌, ap, drop, refl, Unread, held_in}
 use Rattle.wtf8.proofs.lemmas.Readings.{same_points}
 use Rattle.wtf8.proofs.iters.IllFormedUtf16CodeUnitsClone.clone.Goals as goal
 

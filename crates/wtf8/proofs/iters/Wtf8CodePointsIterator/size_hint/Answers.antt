@@ -20,6 +20,5 @@ returns-clause-holds c =
     let b = points_bounds s.points in
     record {
       lower = omega (arith, ap length s.encoded, ap length c.self.view_is, c.div_ceil.ensures, length-drop c.self.inside.at c.self.inside.bytes.now);
-      upper =
-          omega (arith, ap length s.encoded, ap length c.self.view_is, length-drop c.self.inside.at c.self.inside.bytes.now);
+      upper = omega (arith, ap length s.encoded, ap length c.self.view_is, length-drop c.self.inside.at c.self.inside.bytes.now);
     }

@@ -1,6 +1,4 @@
-use Rattle.std.proofs.Common.{◌∷◌, arith, ap, sym, ◌∙◌, ◌≡◌, List, ℕ}
-use Rattle.wtf8.specs.Form.{bytes, IsWellFormed}
-use Rattle.wtf8.specs.Unicode.{IsTrail}
+use Rattle.wtf8.proofs.Common.{◌∷◌, arith, ap, sym, ◌∙◌, ◌≡◌, List, ℕ, bytes, IsWellFormed, IsTrail}
 use Rattle.wtf8.proofs.lemmas.InitialTrail.{BeginsWithSurrogate, begins_with_surrogate, first_surrogate}
 use Rattle.wtf8.proofs.view.Wtf8.initial_trail_surrogate.Goals as goal
 

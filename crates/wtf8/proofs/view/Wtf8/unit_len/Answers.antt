@@ -1,5 +1,4 @@
-use Rattle.std.proofs.Common.{◌∙◌, sym, ap, arith}
-use Rattle.wtf8.specs.UnitCounts.{all_units_begun}
+use Rattle.wtf8.proofs.Common.{◌∙◌, sym, ap, arith, all_units_begun}
 use Rattle.wtf8.proofs.lemmas.UnitPositions.{begun_bytes}
 use Rattle.wtf8.proofs.view.Wtf8.unit_len.Goals as goal
 
