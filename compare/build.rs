@@ -13,6 +13,7 @@ fn main() {
     } else {
         link_library();
     }
+    println!("cargo:rustc-check-cfg=cfg(further)");
     // The standard library's own WTF-8 is there for compilers that allow features.
     println!("cargo:rustc-check-cfg=cfg(std_wtf8)");
     println!("cargo:rerun-if-env-changed=RUSTC_BOOTSTRAP");

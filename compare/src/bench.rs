@@ -187,8 +187,8 @@ fn timed<T>(run: impl FnOnce() -> T) -> (f64, T) {
     (start.elapsed().as_nanos() as f64, answer)
 }
 
-/// Prints the table of two files of rows, those of the two cargo profiles. A row's baseline is the smaller of the crate's
-/// two minima.
+/// Prints the table of some files of rows, those of the two cargo profiles with the code in two places. A row's numbers are
+/// the least in all of them.
 pub fn table(files: &[&str]) -> bool {
     let texts: Vec<String> = files.iter().map(|file| rows_of_file(file)).collect();
     say!("| Call | Input | proved, ns | crate, ns | ratio | standard library, ns |");
