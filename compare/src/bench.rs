@@ -129,14 +129,14 @@ fn time(number: u32, name: String, input: &Input) -> Option<Row> {
     let mut random = Random::new(u64::from(number));
     let mut least = [f64::INFINITY; 4];
     for _ in 0..TURNS {
-        // Where strings lie decides as much as what is done with them, so each turn makes all of them elsewhere.
+        // Where strings lie may decide as much as what is done with them, so each turn makes all of them elsewhere, and
+        // each side's when no other side's are there.
         let _elsewhere = black_box(vec![0u8; random.between(1, 8192) as usize]);
-        let original = original::Bench::new(&input.units);
-        #[cfg(std_wtf8)]
-        let standard = standard::Bench::new(&input.units);
-        let (made, _) = timed(|| ours::time(0, &input.units, rounds));
+        let (made, _) = timed(|| ours::time(number, &input.units, 0));
         let (with_making, answer) = timed(|| ours::time(number, &input.units, rounds));
+        let original = original::Bench::new(&input.units);
         let (crate_time, crate_answer) = timed(|| original.run(number, rounds));
+        drop(original);
         if crate_answer.is_some_and(|crate_answer| crate_answer != answer) {
             say!("DIFFERENT ANSWERS in {name}: {answer} and {crate_answer:?}");
             return None;
@@ -148,6 +148,7 @@ fn time(number: u32, name: String, input: &Input) -> Option<Row> {
         }
         #[cfg(std_wtf8)]
         {
+            let standard = standard::Bench::new(&input.units);
             let (standard_time, standard_answer) = timed(|| standard.run(number, rounds));
             if standard_answer.is_some_and(|standard_answer| standard_answer != answer) {
                 say!("DIFFERENT ANSWERS in {name}: {answer} and {standard_answer:?}");
@@ -167,7 +168,7 @@ fn time(number: u32, name: String, input: &Input) -> Option<Row> {
 }
 
 /// The number of rounds with which the crate, or where it lacks the call the proved library, takes long enough.
-fn rounds_of_a_turn(number: u32, input: &Input, original: &original::Bench<'_>) -> u32 {
+fn rounds_of_a_turn(number: u32, input: &Input, original: &original::Bench) -> u32 {
     let mut rounds = 16;
     loop {
         let (time, _) = timed(|| {

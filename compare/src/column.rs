@@ -15,20 +15,22 @@ macro_rules! column {
             use super::{black_box, hex_dump, STRINGS};
             use $path::{CodePoint, Wtf8Buf};
 
-            pub struct Bench<'a> {
-                units: &'a [u16],
+            pub struct Bench {
+                units: Vec<u16>,
                 strings: [Wtf8Buf; STRINGS],
                 points: Vec<CodePoint>,
             }
 
-            impl<'a> Bench<'a> {
-                pub fn new(units: &'a [u16]) -> Bench<'a> {
+            impl Bench {
+                /// Equal strings of some units, and what else the loops work on, made in the same order as the proved
+                /// library's, so that they lie alike.
+                pub fn new(units: &[u16]) -> Bench {
                     let string = Wtf8Buf::$from_units(units);
                     let points = string.code_points().collect();
-                    let strings = std::array::from_fn(|_| string.clone());
+                    let [second, third, fourth] = std::array::from_fn(|_| string.clone());
                     Bench {
-                        units,
-                        strings,
+                        units: units.to_vec(),
+                        strings: [string, second, third, fourth],
                         points,
                     }
                 }
@@ -41,7 +43,7 @@ macro_rules! column {
                 pub fn run(&self, number: u32, rounds: u32) -> Option<u64> {
                     match number {
                         1 => Some(sum(rounds, |_| {
-                            Wtf8Buf::$from_units(black_box(self.units)).len() as u64
+                            Wtf8Buf::$from_units(black_box(&self.units)).len() as u64
                         })),
                         2 => Some(sum(rounds, |round| {
                             let units: Vec<u16> = self.string_at(round).$units().collect();

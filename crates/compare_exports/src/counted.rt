@@ -5,7 +5,7 @@ use std::alloc::{AllocError, Global};
 use unit_text::UnitText;
 use wtf8::{Wtf8, Wtf8Buf};
 
-/// A string, a text of the same units, and where its middle is and its middle half begins and ends, in units.
+/// A string, a text, and where the middle of the text is and its middle half begins and ends, in units.
 #[derive(Drop)]
 pub struct Counted {
     pub string: Wtf8Buf<Global>,
@@ -19,9 +19,9 @@ pub struct Counted {
 }
 
 impl Counted {
-    /// A string of these units, with a text of them.
+    /// A string with a text of some units, no more than the string has.
     pub fn new(alloc: Global, string: Wtf8Buf<Global>, units: &[u16]) -> Result<Counted, AllocError>
-        requires { string.units ≡ units.now }
+        requires { length units.now ≤ length string.units }
     {
         let begin = units.len() / 4;
         Ok(Counted {
@@ -48,7 +48,7 @@ impl Counted {
         self.text.slice_units(alloc, self.begin, self.end)
     }
 
-    /// The first half of the string.
+    /// As much of the string as the first half of the text has units.
     pub fn first_half(&self) -> Result<Wtf8Buf<Global>, AllocError> {
         let mut string = self.string.clone()?;
         string.truncate_units(self.middle);

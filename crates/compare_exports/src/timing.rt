@@ -1,7 +1,7 @@
 //! Calls in loops, for timings.
 //!
 //! Each round takes another one of some equal strings, so that a compiler cannot answer one round by the round before.
-ghost use Rattle.std.specs.Prelude.{◌≤◌};
+ghost use Rattle.std.specs.Prelude.{◌<◌, ◌≤◌, length};
 
 use crate::counted::Counted;
 use std::alloc::{AllocError, Global};
@@ -9,6 +9,9 @@ use wtf8::{CodePoint, Wtf8, Wtf8Buf};
 
 /// How many equal strings a loop goes round.
 pub const STRINGS: usize = 4;
+
+/// The number of the first loop that counts in units.
+const FIRST_COUNTED: u32 = 15;
 
 /// The number of the last loop.
 pub const LAST: u32 = 19;
@@ -24,18 +27,24 @@ pub struct Bench {
 }
 
 impl Bench {
-    /// Equal strings of some units, and the loops' number of rounds.
-    pub fn new(alloc: Global, units: &[u16], rounds: u32) -> Result<Bench, AllocError> {
+    /// Equal strings of some units for the loop of a number, and the loop's number of rounds.
+    pub fn new(
+        alloc: Global,
+        number: u32,
+        units: &[u16],
+        rounds: u32,
+    ) -> Result<Bench, AllocError> {
         let string = Wtf8Buf::from_ill_formed_utf16(alloc, units)?;
         let points = string.as_wtf8().code_points().collect(alloc)?;
         let second = string.clone()?;
         let third = string.clone()?;
         let fourth = string.clone()?;
+        let counted = counted_units(number, units);
         let strings = [
-            Counted::new(alloc, string, units)?,
-            Counted::new(alloc, second, units)?,
-            Counted::new(alloc, third, units)?,
-            Counted::new(alloc, fourth, units)?,
+            Counted::new(alloc, string, counted)?,
+            Counted::new(alloc, second, counted)?,
+            Counted::new(alloc, third, counted)?,
+            Counted::new(alloc, fourth, counted)?,
         ];
         Ok(Bench {
             alloc,
@@ -46,13 +55,12 @@ impl Bench {
         })
     }
 
-    /// Runs the loop of a number, and answers a sum over what its calls answered. 0 calls nothing: it costs what is made
-    /// before the loops.
+    /// Runs the loop of a number, and answers a sum over what its calls answered.
     pub fn run(&self, number: u32) -> Result<u64, AllocError>
-        requires { number ≤ 19 }
+        requires least { 0 < number }
+        requires most { number ≤ 19 }
     {
         match number {
-            0 => Ok(0),
             1 => self.sum(|_, _| Ok(
                 Wtf8Buf::from_ill_formed_utf16(self.alloc, self.units.as_slice())?.len() as u64,
             )),
@@ -140,6 +148,17 @@ impl Bench {
         }
         Ok(string.len() as u64)
     }
+}
+
+/// The units that the loop of a number counts in. Where it counts in none the strings stand alone, so that they lie in
+/// memory as those of a library without such calls.
+fn counted_units(number: u32, units: &[u16]) -> &[u16]
+    ensures { length result.now ≤ length units.now }
+{
+    if number < FIRST_COUNTED {
+        return &units[..0];
+    }
+    units
 }
 
 /// How many units a view has, by a list of them.
