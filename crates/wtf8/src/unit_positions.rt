@@ -13,11 +13,14 @@ use crate::view::Wtf8;
 use std::alloc::Allocator;
 use std::simd::prelude::*;
 
-/// How many bytes are counted together where many are left.
+/// How many bytes are counted together where a place among many is looked for.
+const MANY: usize = 64;
+
+/// How many bytes are counted together.
 const LANES: usize = 32;
 
-/// How many bytes are counted together behind these.
-const HALF: usize = 16;
+/// How many bytes are counted together where a place among few is looked for.
+const FEW: usize = 16;
 
 /// A place among bytes, and how many units begin before it.
 #[derive(Clone, Copy)]
@@ -118,13 +121,14 @@ fn behind_blocks(bytes: &[u8], unit: usize) -> Place
         at: 0,
         units_before: 0,
     };
-    if bytes.len() < HALF {
+    if bytes.len() < FEW {
         return place;
     }
-    while let Some(behind) = behind_block::<LANES>(bytes, unit, place) {
+    while let Some(behind) = behind_block::<MANY>(bytes, unit, place) {
         place = behind;
     }
-    behind_block::<HALF>(bytes, unit, place).unwrap_or(place)
+    let place = behind_block::<LANES>(bytes, unit, place).unwrap_or(place);
+    behind_block::<FEW>(bytes, unit, place).unwrap_or(place)
 }
 
 /// The place of the code point that holds a unit, or the end, where the bytes have no such unit.

@@ -24,7 +24,8 @@ loop-at-preserved c =
       | then-byte-lt128+else-units_before-unit b ↦
           let one = begun_low (get_or w c.loop-at.at 0) b.if-byte-lt128.true in
           (omega (arith, more, one, c.loop-at.invariant.0, b.units_before-is), omega (arith, c.loop-at.invariant.1, b.if-units_before-unit.false, b.units_before-is))
-      | else-byte-lt128+else-unit-units_before b ↦
-          (omega (arith, more, b.units_begun_by-more.ensures, c.loop-at.invariant.0, b.units_before-is),
-          omega (arith, c.loop-at.invariant.1, b.if-unit-units_before.false, b.units_before-is))
+      | else-byte-lt128+else-unit-units_before b ↦ (
+        omega (arith, more, b.units_begun_by-more.ensures, c.loop-at.invariant.0, b.units_before-is),
+        omega (arith, c.loop-at.invariant.1, b.if-unit-units_before.false, b.units_before-is),
+      )
     ]
