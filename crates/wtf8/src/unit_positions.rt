@@ -13,8 +13,14 @@ use crate::view::Wtf8;
 use std::alloc::Allocator;
 use std::simd::prelude::*;
 
+/// How many bytes are counted together where a place among many is looked for.
+const MANY: usize = 64;
+
 /// How many bytes are counted together.
 const LANES: usize = 32;
+
+/// How many bytes are counted together where a place among few is looked for.
+const FEW: usize = 16;
 
 /// A place among bytes, and how many units begin before it.
 #[derive(Clone, Copy)]
@@ -35,15 +41,16 @@ fn units_begun_by(byte: u8) -> usize
     }
 }
 
-/// The same for a block of bytes together.
+/// The same for a block of `N` bytes together.
 #[inline(always)]
-fn units_begun_in_block(bytes: u8x32) -> usize
-    ensures { result ≡ all_units_begun bytes }
+fn units_begun_in_block<const N: usize>(bytes: Simd<u8, N>) -> usize
+    requires { N ≤ 64 }
+    ensures { result ≡ all_units_begun bytes.entry }
 {
-    let zero = u8x32::splat(0);
-    let one = u8x32::splat(1);
-    let begins = bytes.simd_lt(u8x32::splat(0x80)) | bytes.simd_ge(u8x32::splat(0xC0));
-    let pairs = bytes.simd_ge(u8x32::splat(0xF0));
+    let zero = Simd::<u8, N>::splat(0);
+    let one = Simd::<u8, N>::splat(1);
+    let begins = bytes.simd_lt(Simd::splat(0x80)) | bytes.simd_ge(Simd::splat(0xC0));
+    let pairs = bytes.simd_ge(Simd::splat(0xF0));
     let counts = begins.select(one, zero).strict_add(pairs.select(one, zero));
     usize::from(counts.strict_reduce_sum())
 }
@@ -58,11 +65,19 @@ fn find_unit_from(bytes: &[u8], unit: usize, from: Place) -> Place
 {
     let mut units_before = from.units_before;
     for at in from.at..bytes.len() {
-        let more = units_begun_by(bytes[at]);
-        if unit - units_before < more {
-            return Place { at, units_before };
+        let byte = bytes[at];
+        if byte < 0x80 {
+            if units_before == unit {
+                return Place { at, units_before };
+            }
+            units_before += 1;
+        } else {
+            let more = units_begun_by(byte);
+            if unit - units_before < more {
+                return Place { at, units_before };
+            }
+            units_before += more;
         }
-        units_before += more;
     }
     Place {
         at: bytes.len(),
@@ -70,21 +85,57 @@ fn find_unit_from(bytes: &[u8], unit: usize, from: Place) -> Place
     }
 }
 
+/// The place behind the `N` bytes from a place on, where there are so many and the unit is behind them too.
+#[inline(always)]
+fn behind_block<const N: usize>(bytes: &[u8], unit: usize, from: Place) -> Option<Place>
+    requires lanes { (0 < N) × (N ≤ 64) }
+    requires within { from.at ≤ length bytes.now }
+    requires counted { from.units_before ≡ all_units_begun (take from.at bytes.now) }
+    requires not_beyond { from.units_before ≤ unit }
+    ensures within { IfSome result (λ place. place.at ≤ length bytes.now) }
+    ensures counted { IfSome result (λ place. place.units_before ≡ all_units_begun (take place.at bytes.now)) }
+    ensures not_beyond { IfSome result (λ place. place.units_before ≤ unit) }
+    ensures further { IfSome result (λ place. from.at < place.at) }
+{
+    if bytes.len() - from.at < N {
+        return None;
+    }
+    let more = units_begun_in_block(Simd::<u8, N>::from_slice(&bytes[from.at..]));
+    if unit - from.units_before < more {
+        return None;
+    }
+    Some(Place {
+        at: from.at + N,
+        units_before: from.units_before + more,
+    })
+}
+
+/// The place behind all blocks that the unit is behind too.
+#[inline(always)]
+fn behind_blocks(bytes: &[u8], unit: usize) -> Place
+    ensures within { result.at ≤ length bytes.now }
+    ensures counted { result.units_before ≡ all_units_begun (take result.at bytes.now) }
+    ensures not_beyond { result.units_before ≤ unit }
+{
+    let mut place = Place {
+        at: 0,
+        units_before: 0,
+    };
+    if bytes.len() < FEW {
+        return place;
+    }
+    while let Some(behind) = behind_block::<MANY>(bytes, unit, place) {
+        place = behind;
+    }
+    let place = behind_block::<LANES>(bytes, unit, place).unwrap_or(place);
+    behind_block::<FEW>(bytes, unit, place).unwrap_or(place)
+}
+
 /// The place of the code point that holds a unit, or the end, where the bytes have no such unit.
 fn find_unit(bytes: &[u8], unit: usize) -> Place
     ensures { IsPlaceOfUnit bytes.now unit result.at result.units_before }
 {
-    let mut at = 0;
-    let mut units_before = 0;
-    while LANES <= bytes.len() - at {
-        let more = units_begun_in_block(u8x32::from_slice(&bytes[at..]));
-        if unit - units_before < more {
-            break;
-        }
-        units_before += more;
-        at += LANES;
-    }
-    find_unit_from(bytes, unit, Place { at, units_before })
+    find_unit_from(bytes, unit, behind_blocks(bytes, unit))
 }
 
 /// How many units begin among the bytes, of which those before a place are counted.
@@ -109,7 +160,7 @@ fn count_units(bytes: &[u8]) -> usize
     let mut at = 0;
     let mut units_before = 0;
     while LANES <= bytes.len() - at {
-        units_before += units_begun_in_block(u8x32::from_slice(&bytes[at..]));
+        units_before += units_begun_in_block(Simd::<u8, LANES>::from_slice(&bytes[at..]));
         at += LANES;
     }
     count_units_from(bytes, Place { at, units_before })

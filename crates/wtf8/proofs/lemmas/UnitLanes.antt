@@ -100,12 +100,12 @@ sum_same [] = refl
 sum_same (x ∷ xs) = ap (λ n. units_begun x + n) (sum_same xs) ∙ sym (sum_by-cons units_begun x xs)
 
 -- so does the sum of all lanes
-pub sum_fits_byte : (xs : List ℕ) → length xs ≡ 32 → Steps (λ s x. Fits w8 (s + x)) (λ s x. s + x) 0 (counts 32 xs)
-sum_fits_byte xs e =
+pub sum_fits_byte : (n : ℕ) (xs : List ℕ) → n ≤ 64 → length xs ≡ n → Steps (λ s x. Fits w8 (s + x)) (λ s x. s + x) 0 (counts n xs)
+sum_fits_byte n xs h e =
     let bound = sum_bound 2 (map units_begun xs) (at_most_two xs) in
-    rw (counts_are 32 xs e) (sum_fits w8 0 (map units_begun xs) (omega (arith, length_same xs)))
+    rw (counts_are n xs e) (sum_fits w8 0 (map units_begun xs) (omega (arith, length_same xs)))
 
-pub sum_is : (xs : List ℕ) → length xs ≡ 32 → fold_l (λ s x. s + x) 0 (counts 32 xs) ≡ all_units_begun xs
-sum_is xs e =
+pub sum_is : (n : ℕ) (xs : List ℕ) → length xs ≡ n → fold_l (λ s x. s + x) 0 (counts n xs) ≡ all_units_begun xs
+sum_is n xs e =
     let added : fold_l (λ s x. s + x) 0 (map units_begun xs) ≡ all_units_begun xs = omega (arith, fold-sum 0 (map units_begun xs), sum_same xs) in
-    ap (fold_l (λ s x. s + x) 0) (counts_are 32 xs e) ∙ added
+    ap (fold_l (λ s x. s + x) 0) (counts_are n xs e) ∙ added
