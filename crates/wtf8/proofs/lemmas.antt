@@ -24,6 +24,7 @@ pub mod ListOrder
 pub mod Lists
 pub mod Lossy
 pub mod Meeting
+pub mod PairedUnits
 pub mod PositionLaws
 pub mod Positions
 pub mod Readings
@@ -43,6 +44,7 @@ pub mod UnitCuts
 pub mod UnitLanes
 pub mod UnitOrder
 pub mod UnitParts
+pub mod UnitPieces
 pub mod UnitPlaces
 pub mod UnitPositions
 pub mod UnitRows

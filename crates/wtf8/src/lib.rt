@@ -15,6 +15,7 @@ mod display_text;
 mod encoding;
 mod iters;
 pub mod laws;
+mod mixed_blocks;
 mod search;
 mod surrogate_presence;
 mod surrogates;

@@ -1,9 +1,10 @@
 // Code units turned into bytes: sixteen of ASCII, or eight of two or of three bytes together, any others one after another.
-ghost use Rattle.std.specs.Prelude.{◌≡◌, List, [], ◌<◌, ◌≤◌, length, take, IfOk, IfSome, IsOk, IsTrue};
+ghost use Rattle.std.specs.Prelude.{◌≡◌, List, [], ◌-◌, ◌<◌, ◌≤◌, length, take, drop, IfOk, IfSome, IsOk, IsTrue};
 ghost use Rattle.wtf8.specs.Form.{bytes as bytes_of};
-ghost use Rattle.wtf8.specs.UnitParts.{IsKnownForm, DividesNoPair, AreAscii, AreTwoByteUnits, AreThreeByteUnits, IsBlock};
+ghost use Rattle.wtf8.specs.UnitParts.{AppendsForm, IsKnownForm, DividesNoPair, AreAscii, AreTwoByteUnits, AreThreeByteUnits, IsBlock};
 
-use crate::decode;
+use crate::surrogates::{FIRST_LEAD, FIRST_TRAIL, LAST_TRAIL};
+use crate::{decode, mixed_blocks};
 use std::alloc::{AllocError, Allocator};
 use std::simd::prelude::*;
 
@@ -169,11 +170,35 @@ fn end_of_part(v: &[u16], at: usize) -> usize
     if v.len() - at <= PART {
         return v.len();
     }
+    // Behind a trail that is alone a block may begin again.
+    if FIRST_TRAIL <= v[at] && v[at] <= LAST_TRAIL && v[at + 1] < FIRST_LEAD {
+        return at + 1;
+    }
     let end = at + PART;
     match v[end - 1] {
         0xD800..=0xDBFF => end - 1,
         _ => end,
     }
+}
+
+/// Appends the bytes of some units from a place on, sixteen together where that can be, and answers where they end and
+/// whether no surrogate is alone among them.
+#[inline(always)]
+fn append_part<A: Allocator>(
+    bytes: &mut Vec<u8, A>,
+    v: &[u16],
+    at: usize,
+) -> Result<(usize, bool), AllocError>
+    requires { at < length v.now }
+    ensures { IfOk result (λ part. (at < part.0) × (part.0 ≤ length v.now) × DividesNoPair v.now part.0
+        × AppendsForm bytes.old.items bytes.new.items (take (part.0 - at) (drop at v.now)) part.1) }
+{
+    if let Some(taken) = mixed_blocks::append_block(bytes, v, at)? {
+        return Ok((at + taken, true));
+    }
+    let end = end_of_part(v, at);
+    let is_scalar = decode::append_units(bytes, &v[at..end])?;
+    Ok((end, is_scalar))
 }
 
 /// Appends the string of the units to a buffer without bytes, and answers whether it has no lone surrogate.
@@ -203,8 +228,7 @@ pub(crate) fn append_units<A: Allocator>(
             at += HALF;
             continue;
         }
-        let end = end_of_part(v, at);
-        let is_part_scalar = decode::append_units(bytes, &v[at..end])?;
+        let (end, is_part_scalar) = append_part(bytes, v, at)?;
         is_scalar &= is_part_scalar;
         at = end;
     }

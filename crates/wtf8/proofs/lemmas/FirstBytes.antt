@@ -1,5 +1,5 @@
 -- What the first bytes of an encoding say of the code point.
-use Rattle.wtf8.proofs.Common.{◌≡◌, ℕ, ◌+◌, ◌-◌, ◌*◌, ◌/◌, ◌<◌, ◌≤◌, List, ◌++◌, length, get_or, refl, sym, ap, arith, subst, IsCodePoint}
+use Rattle.wtf8.proofs.Common.{◌≡◌, ℕ, ◌+◌, ◌-◌, ◌*◌, ◌/◌, ◌<◌, ◌≤◌, List, ◌++◌, length, get_or, sym, ap, arith, subst, IsCodePoint}
 use Rattle.wtf8.proofs.Common.{encoding, BeginsWithPoint}
 use Rattle.std.proofs.Math.Nat.{div-div-eq-div-mul}
 use Rattle.wtf8.proofs.lemmas.Encoding.{row_of, one, two, three, four}

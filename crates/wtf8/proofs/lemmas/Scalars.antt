@@ -1,5 +1,5 @@
 -- Code points that are scalar values, parts of them, and scalar values behind them.
-use Rattle.wtf8.proofs.Common.{◌≡◌, ℕ, List, [], ◌∷◌, ◌++◌, Bool, true, not, IsTrue, None, Result, Ok, Err, OnOk, OnErr, ap, ◌∙◌, sym, subst, refl, false}
+use Rattle.wtf8.proofs.Common.{◌≡◌, ℕ, List, [], ◌∷◌, ◌++◌, Bool, true, not, IsTrue, None, Result, Ok, Err, OnOk, OnErr, sym, subst, refl, false}
 use Rattle.wtf8.proofs.Common.{arith, false≢true, append-nil, chars, IsUtf8, scalars-chars, scalars, IsCodePoint, IsSurrogate, units, units_of, MeetsAsPair}
 use Rattle.wtf8.proofs.Common.{IsClean, IsWellFormed, GainsUnits, bytes-injective, AreScalar, IsFirst, SurrogateAt}
 use Rattle.wtf8.proofs.lemmas.Clean.{clean-append}

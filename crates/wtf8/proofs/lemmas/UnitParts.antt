@@ -4,6 +4,7 @@ use Rattle.wtf8.proofs.Common.{length-append, get_or-append-add, take-append-dro
 use Rattle.wtf8.proofs.Common.{bytes-injective, AreScalar, IsSurrogate, units, IsKnownForm, DividesNoPair, AreAscii, IsBlock}
 use Rattle.std.proofs.lemmas.Simd.{Each1-get_or}
 use Rattle.std.proofs.Math.Seq.{get_or-append_seam, take-add}
+use Rattle.wtf8.specs.Unicode.{IsLead}
 use Rattle.wtf8.specs.UnitParts.{AreScalarUnits}
 use Rattle.wtf8.proofs.lemmas.Encoding.{encoding_one, bytes-append}
 use Rattle.wtf8.proofs.lemmas.Forms.{form_apart}
@@ -56,13 +57,18 @@ last_is u w f l k n e =
     let long : length u + k ≡ length f = omega (arith, n, ap length e, length-append u w, length-append f (l ∷ [])) in
     cc (get_or-append-add u w k 0, e, long, get_or-append_seam f l [] 0)
 
+pub last_apart : (u : List ℕ) (at k : ℕ) → at + (k + 1) ≤ length u → ¬ (IsLead (get_or (take (k + 1) (drop at u)) k 0)) → DividesNoPair u (at + (k + 1))
+last_apart u at k within n m =
+    let part = take (k + 1) (drop at u) in
+    let last = last_is (take at u) part m.front m.lead k (length-chunk at (k + 1) u within) (sym (take-add at (k + 1) u) ∙ m.ends) in
+    n (omega (arith, last, m.is_lead), omega (arith, last, m.is_lead))
+
 pub block_apart : {u w : List ℕ} (at k : ℕ) → IsBlock u at (k + 1) w → DividesNoPair u (at + (k + 1))
-block_apart {u} {w} at k b m =
+block_apart {u} {w} at k b =
     let part = take (k + 1) (drop at u) in
     let long : length part ≡ k + 1 = length-chunk at (k + 1) u b.within in
-    let last = last_is (take at u) part m.front m.lead k long (sym (take-add at (k + 1) u) ∙ m.ends) in
     let apart = Each1-get_or (λ n. (n < 0x10000) × ¬ (IsSurrogate n)) part k 0 (omega (arith, long)) b.scalars in
-    apart.1 (omega (arith, last, m.is_lead), omega (arith, last, m.is_lead))
+    last_apart u at k b.within (λ l. apart.1 (l.0, omega (arith, l.1)))
 
 -- where a part meets what is before it, all that is behind does
 meets_longer : (a b : List ℕ) (n : ℕ) → MeetsAsPair a (take n b) → MeetsAsPair a b
@@ -70,7 +76,7 @@ meets_longer a b n m =
     meets_by m.front (m.rest ++ drop n b) m.lead m.trail m.is_lead m.is_trail m.ends (sym (take-append-drop n b) ∙ ap (λ c. c ++ drop n b) m.begins)
 
 -- the form of a part behind the form of all before it
-known_behind : (w v a b : List ℕ) (known more both : Bool) → IsKnownForm w a known → IsKnownForm v b more → ¬ (MeetsAsPair a b)
+pub known_behind : (w v a b : List ℕ) (known more both : Bool) → IsKnownForm w a known → IsKnownForm v b more → ¬ (MeetsAsPair a b)
     → (IsTrue both → IsTrue known × IsTrue more) → IsKnownForm (w ++ v) (a ++ b) both
 known_behind w v a b known more both x y n flags =
     let whole = form_apart w v a b x.form y.form n in

@@ -1,5 +1,5 @@
 -- The code points about a place among bytes, and what they say of a number of units.
-use Rattle.wtf8.proofs.Common.{◌≡◌, ◌+◌, ℕ, ◌<◌, ◌≤◌, inl, inr, List, [], ◌∷◌, ◌++◌, length, sym, ap, ◌∙◌, arith, length-append, None, Some, subst}
+use Rattle.wtf8.proofs.Common.{◌≡◌, ◌+◌, ℕ, ◌<◌, ◌≤◌, inl, inr, List, [], ◌∷◌, length, sym, ap, ◌∙◌, arith, length-append, None, Some, subst}
 use Rattle.wtf8.proofs.Common.{cases_lt, units, IsWellFormed, IsPlaceOfUnit, CutsUnits}
 use Rattle.wtf8.proofs.lemmas.Units.{units_one, units_two, units-append}
 use Rattle.wtf8.proofs.lemmas.UnitPositions.{PointsAbout, points_about}

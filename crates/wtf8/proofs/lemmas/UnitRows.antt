@@ -1,5 +1,5 @@
 -- Where code points part in one row of the table, the order of their bytes is the order of their units.
-use Rattle.wtf8.proofs.Common.{◌≡◌, ◌≢◌, ◌↔◌, ℕ, zero, suc, ◌+◌, ◌/◌, ◌%◌, ◌<◌, inl, inr, List, [], ◌∷◌, ◌++◌, drop, get_or, refl, sym, ap, ◌∙◌, arith}
+use Rattle.wtf8.proofs.Common.{◌≡◌, ◌≢◌, ◌↔◌, ℕ, zero, suc, ◌<◌, inl, inr, List, [], ◌∷◌, ◌++◌, drop, get_or, refl, sym, ap, ◌∙◌, arith}
 use Rattle.wtf8.proofs.Common.{cases_lt, slice_cmp, nat_cmp, units, units_of, encoding, bytes, Before, IsFirstDifference, PairBegins, cases_order}
 use Rattle.wtf8.proofs.lemmas.Encoding.{row_of, one, two, three, four}
 use Rattle.wtf8.proofs.lemmas.ListOrder.{less_of, greater_of, cmp_behind, before_two}

@@ -44,14 +44,15 @@ loop-at-preserved-in-Some-two_byte_block g c =
 pub loop-at-preserved : goal.loop-at-preserved
 loop-at-preserved g c =
     let known = c.loop-at.is_scalar in
-    let more = c.in_ok-is_part_scalar.is_part_scalar in
-    let end = c.end_of_part-end.result in
-    let read = c.in_ok-is_part_scalar.ensures.ok in (
-      c.end_of_part-end.ensures.within,
-      part_read c.args.v.now c.loop-at.bytes.items read.appended c.append_units.new.bytes.items c.loop-at.at
+    let more = c.in_ok-end.is_part_scalar in
+    let end = c.in_ok-end.end in
+    let part = c.in_ok-end.ensures in
+    let read = part.3 in (
+      part.1,
+      part_read c.args.v.now c.loop-at.bytes.items read.appended c.append_part.new.bytes.items c.loop-at.at
           (end - c.loop-at.at) end known more (known && more) c.loop-at.invariant.1 read.part c.loop-at.invariant.2 (and_parts known more) read.behind
-          (let l = c.end_of_part-end.ensures.order in omega arith),
-      c.end_of_part-end.ensures.apart,
+          (omega (arith, part.0)),
+      part.2,
     )
 
 pub returns-clause-ok : goal.returns-clause-ok

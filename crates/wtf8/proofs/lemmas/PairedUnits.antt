@@ -1,0 +1,132 @@
+-- Units that are paired are read as scalar values, and what they add one after another are the bytes of these.
+use Rattle.wtf8.proofs.Common.{◌≡◌, ℕ, zero, suc, ◌+◌, ◌-◌, ◌*◌, ◌/◌, ◌%◌, ◌<◌, ◌≤◌, true, List, [], ◌∷◌, ◌++◌, length, take, drop, get_or, refl, sym, ap, ◌∙◌, subst, arith}
+use Rattle.wtf8.proofs.Common.{cases_lt, inl, inr, append-nil, append_assoc, IsSurrogate, encoding, IsKnownForm, DividesNoPair}
+use Rattle.std.specs.Prelude.{⊤, ◌↔◌}
+use Rattle.std.proofs.Math.Seq.{take-suc}
+use Rattle.std.proofs.lemmas.List.{get_or-take}
+use Rattle.wtf8.proofs.lemmas.Encoding.{encoding_one, encoding_two, encoding_three, encoding_four}
+use Rattle.wtf8.proofs.lemmas.Meeting.{no_trail}
+use Rattle.wtf8.proofs.lemmas.UnitParts.{known_behind, nothing_read, last_apart}
+use Rattle.wtf8.proofs.lemmas.UnitPieces.{piece_one, piece_two, piece_low, piece_lead, piece_trail, piece_high}
+use Rattle.wtf8.proofs.lemmas.Units.{units_one, units_pair}
+use Rattle.wtf8.specs.Unicode.{IsLead, IsTrail, pair}
+use Rattle.wtf8.specs.UnitPieces.{piece, pieces, unit_before, ArePaired}
+
+-- what no surrogate adds is its encoding
+own_bytes : (b x : ℕ) → x < 0x10000 → ¬ (IsSurrogate x) → encoding x ≡ piece b x
+own_bytes b x h n = elim (cases_lt x 0x80) [
+  | inl l ↦ encoding_one x l ∙ sym (piece_one b x l)
+  | inr k ↦ elim (cases_lt x 0x800) [
+    | inl l ↦ encoding_two x k l ∙ sym (piece_two b x k l)
+    | inr m ↦ elim (cases_lt x 0xD800) [
+      | inl l ↦ encoding_three x m h ∙ sym (piece_low b x m l)
+      | inr r ↦ elim (cases_lt x 0xE000) [ inl l ↦ absurd (n (r, omega (arith, l))) | inr l ↦ encoding_three x m h ∙ sym (piece_high b x l) ]
+    ]
+  ]
+]
+
+own_form : (b x : ℕ) → x < 0x10000 → ¬ (IsSurrogate x) → IsKnownForm (piece b x) (x ∷ []) true
+own_form b x h n = record {
+  form = record {
+    points = x ∷ [];
+    reads = record { clean = omega (arith, h); same_units = append-nil _ ∙ units_one x h };
+    encoded = append-nil (encoding x) ∙ own_bytes b x h n;
+  };
+  scalar = λ _. (n, tt);
+}
+
+-- what a lead and its trail add is the encoding of what they stand for
+pair_bytes : (b l t : ℕ) → IsLead l → IsTrail t → encoding (pair l t) ≡ piece b l ++ piece l t
+pair_bytes b l t k m =
+    let first : 0xF0 + pair l t / 262144 ≡ 0xF0 + (l - 0xD7C0) / 256 = omega (arith, k, m) in
+    let second : 0x80 + pair l t / 4096 % 64 ≡ 0x80 + (l - 0xD7C0) / 4 % 64 = omega (arith, k, m) in
+    let third : 0x80 + pair l t / 64 % 64 ≡ 0x80 + l % 4 * 16 + t / 64 % 16 = omega (arith, k, m) in
+    let fourth : 0x80 + pair l t % 64 ≡ 0x80 + t % 64 = omega (arith, k, m) in
+    encoding_four (pair l t) (omega (arith, k, m)) ∙ (λ i. first i ∷ second i ∷ third i ∷ fourth i ∷ [])
+    ∙ sym (λ i. piece_lead b l k.0 (omega (arith, k.1)) i ++ piece_trail l t m.0 (omega (arith, m.1)) i)
+
+pair_form : (b l t : ℕ) → IsLead l → IsTrail t → IsKnownForm (piece b l ++ piece l t) (l ∷ t ∷ []) true
+pair_form b l t k m = record {
+  form = record {
+    points = pair l t ∷ [];
+    reads = record { clean = omega (arith, k, m); same_units = append-nil _ ∙ units_pair l t k m };
+    encoded = append-nil (encoding (pair l t)) ∙ pair_bytes b l t k m;
+  };
+  scalar = λ _. ((λ s. omega (arith, k, m, s.1)), tt);
+}
+
+-- where a lead is the last of n units it is held back, and the units before it are read
+abbrev LeadHeld : ℕ → List ℕ → Type 0
+LeadHeld zero u = ⊤
+LeadHeld (suc m) u = IsLead (get_or u m 0) → IsKnownForm (pieces m u) (take m u) true
+
+abbrev ReadSoFar : ℕ → List ℕ → Type 0
+ReadSoFar n u = (¬ (IsLead (unit_before u n)) → IsKnownForm (pieces n u) (take n u) true) × LeadHeld n u
+
+-- a unit that is no surrogate behind units that are read
+more_own : (k : ℕ) (u : List ℕ) → k < length u → get_or u k 0 < 0x10000 → ¬ (IsSurrogate (get_or u k 0)) → IsKnownForm (pieces k u) (take k u) true
+    → IsKnownForm (pieces (suc k) u) (take (suc k) u) true
+more_own k u l h n known =
+    let x = get_or u k 0 in
+    let apart = no_trail x [] (λ t. n (omega (arith, t.0), t.1)) in
+    subst (λ v. IsKnownForm (pieces (suc k) u) v true) (sym (take-suc u k 0 l))
+    (known_behind (pieces k u) (piece (unit_before u k) x) (take k u) (x ∷ []) true true true known (own_form (unit_before u k) x h n) apart (λ t. (t, t)))
+
+-- a trail behind the lead that was held back
+more_pair : (m : ℕ) (u : List ℕ) → suc m < length u → IsLead (get_or u m 0) → IsTrail (get_or u (suc m) 0) → IsKnownForm (pieces m u) (take m u) true
+    → IsKnownForm (pieces (suc (suc m)) u) (take (suc (suc m)) u) true
+more_pair m u l k t known =
+    let lead = get_or u m 0 in
+    let trail = get_or u (suc m) 0 in
+    let front = piece (unit_before u m) lead in
+    let apart = no_trail lead (trail ∷ []) (λ s. omega (arith, k.1, s.0)) in
+    let both = known_behind (pieces m u) (front ++ piece lead trail) (take m u) (lead ∷ trail ∷ []) true true true known
+    (pair_form (unit_before u m) lead trail k t) apart (λ s. (s, s)) in
+    let units_so : take (suc (suc m)) u ≡ take m u ++ (lead ∷ trail ∷ []) =
+    take-suc u (suc m) 0 l ∙ ap (λ v. v ++ trail ∷ []) (take-suc u m 0 (omega (arith, l))) ∙ append_assoc (take m u) (lead ∷ []) (trail ∷ []) in
+    subst (λ w. IsKnownForm w (take (suc (suc m)) u) true) (sym (append_assoc (pieces m u) front (piece lead trail)))
+    (subst (λ v. IsKnownForm (pieces m u ++ (front ++ piece lead trail)) v true) (sym units_so) both)
+
+-- the unit before is no lead where the next is no trail
+apart_before : (u : List ℕ) (k : ℕ) → IsTrail (get_or u k 0) ↔ IsLead (unit_before u k) → ¬ (IsTrail (get_or u k 0)) → ¬ (IsLead (unit_before u k))
+apart_before u k p n l = n (p.1 l)
+
+trail_read : (k : ℕ) (u : List ℕ) → k < length u → IsTrail (get_or u k 0) → IsLead (unit_before u k) → LeadHeld k u
+    → IsKnownForm (pieces (suc k) u) (take (suc k) u) true
+trail_read zero u l t b held = absurd (omega (arith, b.0))
+trail_read (suc m) u l t b held = more_pair m u l b t (held b)
+
+next_read : (k : ℕ) (u : List ℕ) → k < length u → get_or u k 0 < 0x10000 → IsTrail (get_or u k 0) ↔ IsLead (unit_before u k) → ReadSoFar k u → ReadSoFar (suc k) u
+next_read k u l h p r =
+    let x = get_or u k 0 in
+    elim (cases_lt x 0xD800) [
+      | inl a ↦ ((λ _. more_own k u l h (λ s. omega (arith, a, s.0)) (r.0 (apart_before u k p (λ t. omega (arith, a, t.0))))), λ s. absurd (omega (arith, a, s.0)))
+      | inr a ↦ elim (cases_lt x 0xDC00) [
+        | inl b ↦ ((λ n. absurd (n (a, omega (arith, b)))), λ _. r.0 (apart_before u k p (λ t. omega (arith, b, t.0))))
+        | inr b ↦ elim (cases_lt x 0xE000) [
+          | inl c ↦ ((λ _. trail_read k u l (b, omega (arith, c)) (p.0 (b, omega (arith, c))) r.1), λ s. absurd (omega (arith, b, s.1)))
+          | inr c ↦ ((λ _. more_own k u l h (λ s. omega (arith, c, s.1)) (r.0 (apart_before u k p (λ t. omega (arith, c, t.1))))), λ s. absurd (omega (arith, c, s.1)))
+        ]
+      ]
+    ]
+
+so_far : (n : ℕ) (u : List ℕ) → n ≤ length u → ((i : ℕ) → i < n → get_or u i 0 < 0x10000) → ArePaired u n → ReadSoFar n u
+so_far zero u l h p = ((λ _. nothing_read true refl), tt)
+so_far (suc k) u l h p =
+    next_read k u (omega (arith, l)) (h k (omega arith)) (p k (omega arith))
+    (so_far k u (omega (arith, l)) (λ i j. h i (omega (arith, j))) (λ i j. p i (omega (arith, j))))
+
+-- paired units whose last one is no lead are read, and their pieces are their bytes
+pub paired_form : (n : ℕ) (u : List ℕ) → n ≤ length u → ((i : ℕ) → i < n → get_or u i 0 < 0x10000) → ArePaired u n → ¬ (IsLead (unit_before u n))
+    → IsKnownForm (pieces n u) (take n u) true
+paired_form n u l h p apart = (so_far n u l h p).0 apart
+
+-- no pair is divided behind the first n of sixteen units whose last one is no lead
+pub taken_apart : (v : List ℕ) (at n : ℕ) → 0 < n → n ≤ 16 → at + 16 ≤ length v → ¬ (IsLead (unit_before (take 16 (drop at v)) n)) → DividesNoPair v (at + n)
+taken_apart v at zero few many within apart = absurd (omega (arith, few))
+taken_apart v at (suc k) few many within apart =
+    let next : k + 1 ≡ suc k = omega arith in
+    let long = get_or-take 16 (drop at v) k 0 (omega (arith, many)) in
+    let short = get_or-take (k + 1) (drop at v) k 0 (omega arith) in
+    subst (λ j. DividesNoPair v (at + j)) next
+    (last_apart v at k (omega (arith, within, many)) (λ l. apart (omega (arith, long, short, l.0), omega (arith, long, short, l.1))))

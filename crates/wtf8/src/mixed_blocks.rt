@@ -1,0 +1,166 @@
+// Code units of all kinds side by side turned into bytes, sixteen together where no surrogate is alone among them.
+ghost use Rattle.std.specs.Prelude.{◌≡◌, ℕ, true, ◌+◌, ◌<◌, ◌≤◌, length, take, drop, slice_index_or, IfOk, IfSome, IfNone};
+ghost use Rattle.wtf8.specs.Unicode.{IsLead};
+ghost use Rattle.wtf8.specs.UnitParts.{AppendsForm, DividesNoPair, IsKnownForm};
+ghost use Rattle.wtf8.specs.UnitPieces.{piece, spelled, unit_before, IsSpelled, ArePaired, all_spelled};
+
+use crate::surrogates::{FIRST_LEAD, FIRST_TRAIL, LAST_LEAD, LAST_TRAIL};
+use std::alloc::{AllocError, Allocator};
+use std::simd::prelude::*;
+
+/// How many units are turned into bytes together.
+const LANES: usize = 16;
+
+/// Room for their bytes, of which there are three each at most, and for what is written behind these.
+const ROOM: usize = 64;
+
+/// How many surrogates of either kind there are.
+const OF_A_KIND: u16 = 0x400;
+
+/// With how many leads among them units are read one after another: where nearly all make pairs, that is faster.
+const MANY_LEADS: u32 = 6;
+
+/// The bytes that a unit adds behind another one, of which a trail needs to know: the first two as one number, and behind
+/// them the third one and how many there are. All kinds are worked out before one is chosen, so that units of different
+/// kinds can be worked out together.
+#[inline(always)]
+fn spell(unit: u16, before: u16) -> (u16, u16)
+    ensures same { spelled result.0 result.1 ≡ piece before unit }
+    ensures small { result.1 < 0x400 }
+{
+    let low = unit % 64 * 256;
+    let sixes = unit / 64;
+    let two = 0x80C0 + sixes % 32 + low;
+    let high = unit % OF_A_KIND + 64;
+    let lead = 0x80F0 + high / 256 + high / 4 % 64 * 256;
+    let trail = 0x8080 + before % 4 * 16 + sixes % 16 + low;
+    let three = 0x80E0 + unit / 4096 + sixes % 64 * 256;
+    let third = 0x0380 + unit % 64;
+    if unit < 0x80 {
+        return (unit, 0x0100);
+    }
+    if unit < 0x800 {
+        return (two, 0x0200);
+    }
+    if unit / OF_A_KIND == FIRST_LEAD / OF_A_KIND {
+        return (lead, 0x0200);
+    }
+    if unit / OF_A_KIND == FIRST_TRAIL / OF_A_KIND {
+        return (trail, 0x0200);
+    }
+    (three, third)
+}
+
+/// What each of sixteen units adds, as two rows of numbers, and how many of them are a trail behind no lead, or stand
+/// behind a lead and are no trail.
+#[inline(always)]
+fn spell_all(units: &[u16; LANES], fronts: &mut [u16; LANES], backs: &mut [u16; LANES]) -> u16
+    ensures spelled { (i : ℕ) → i < 16 → IsSpelled units.now fronts.new backs.new i }
+    ensures paired { result ≡ 0 → ArePaired units.now 16 }
+{
+    let mut alone = 0;
+    let mut before = 0;
+    for at in 0..LANES {
+        let unit = units[at];
+        let (front, back) = spell(unit, before);
+        fronts[at] = front;
+        backs[at] = back;
+        let is_trail = unit / OF_A_KIND == FIRST_TRAIL / OF_A_KIND;
+        let is_behind_lead = before / OF_A_KIND == FIRST_LEAD / OF_A_KIND;
+        if is_trail != is_behind_lead {
+            alone += 1;
+        }
+        before = unit;
+    }
+    alone
+}
+
+/// Writes what the first `N` numbers of two rows spell to the front of a block, and answers how many bytes these are.
+#[inline(always)]
+fn pack<const N: usize>(
+    fronts: &[u16; LANES],
+    backs: &[u16; LANES],
+    block: &mut [u8; ROOM],
+) -> usize
+    requires most { N ≤ 16 }
+    requires small { (i : ℕ) → i < 16 → slice_index_or backs.now i 0 < 0x400 }
+    ensures within { result ≤ 48 }
+    ensures bytes { take result block.new ≡ all_spelled N fronts.now backs.now }
+{
+    let mut len = 0;
+    for at in 0..N {
+        let front = fronts[at];
+        let back = backs[at];
+        block[len] = (front % 256) as u8;
+        block[len + 1] = (front / 256) as u8;
+        block[len + 2] = (back % 256) as u8;
+        len += usize::from(back / 256);
+    }
+    len
+}
+
+/// How many of sixteen units are turned into bytes together, all of them or all but a lead at the end, and how many bytes
+/// of the block are then theirs; or `None` where a surrogate is alone among them.
+#[inline(always)]
+fn write_block(units: &[u16; LANES], block: &mut [u8; ROOM]) -> Option<(usize, usize)>
+    ensures some { IfSome result (λ written. (0 < written.0) × (written.0 ≤ 16) × (written.1 ≤ 48)
+        × ¬ (IsLead (unit_before units.now written.0)) × IsKnownForm (take written.1 block.new) (take written.0 units.now) true) }
+{
+    let mut fronts = [0; LANES];
+    let mut backs = [0; LANES];
+    if spell_all(units, &mut fronts, &mut backs) != 0 {
+        return None;
+    }
+    if units[LANES - 1] / OF_A_KIND == FIRST_LEAD / OF_A_KIND {
+        let len = pack::<15>(&fronts, &backs, block);
+        return Some((15, len));
+    }
+    let len = pack::<16>(&fronts, &backs, block);
+    Some((16, len))
+}
+
+/// Whether sixteen units are worth a block: each trail stands behind a lead and not nearly all of them make pairs. What is
+/// answered decides how long it takes, and nothing else.
+#[inline(always)]
+fn is_worth_a_block(units: u16x16) -> bool {
+    let leads = are_from_to(units, FIRST_LEAD, LAST_LEAD);
+    let trails = are_from_to(units, FIRST_TRAIL, LAST_TRAIL);
+    leads * 2 % 0x10000 == trails && leads.count_ones() < MANY_LEADS
+}
+
+/// A bit for each of sixteen units that lies between two others.
+#[inline(always)]
+fn are_from_to(units: u16x16, least: u16, greatest: u16) -> u64
+    ensures { result < 0x10000 }
+{
+    let from_least = units.simd_ge(u16x16::splat(least));
+    (from_least & units.simd_le(u16x16::splat(greatest))).to_bitmask() % 0x10000
+}
+
+/// Appends the bytes of the sixteen units from a place on, or of all but a lead at their end, and answers how many units
+/// these are. Where there are not so many, or a surrogate is alone among them, it appends nothing.
+#[inline(always)]
+pub(crate) fn append_block<A: Allocator>(
+    bytes: &mut Vec<u8, A>,
+    v: &[u16],
+    at: usize,
+) -> Result<Option<usize>, AllocError>
+    requires { at ≤ length v.now }
+    ensures some { IfOk result (λ taken. IfSome taken (λ n. (0 < n) × (at + n ≤ length v.now) × DividesNoPair v.now (at + n)
+        × AppendsForm bytes.old.items bytes.new.items (take n (drop at v.now)) true)) }
+    ensures none { IfOk result (λ taken. IfNone taken (bytes.new.items ≡ bytes.old.items)) }
+{
+    if v.len() - at < LANES {
+        return Ok(None);
+    }
+    let units = u16x16::from_slice(&v[at..]);
+    if !is_worth_a_block(units) {
+        return Ok(None);
+    }
+    let mut block = [0; ROOM];
+    let Some((taken, len)) = write_block(&units.to_array(), &mut block) else {
+        return Ok(None);
+    };
+    bytes.extend_from_slice(&block[..len])?;
+    Ok(Some(taken))
+}
