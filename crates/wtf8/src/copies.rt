@@ -1,8 +1,11 @@
 // Copies of bytes: those of a few by their first and their last block.
-ghost use Rattle.std.specs.Prelude.{◌≡◌, [], ◌++◌, ◌+◌, ◌*◌, ◌≤◌, length, take, drop, IfOk, IsOk, vec_capacity};
+ghost use Rattle.std.specs.Prelude.{◌≡◌, [], ◌++◌, ◌+◌, ◌*◌, ◌<◌, ◌≤◌, length, take, drop, IfOk, IsOk, vec_capacity};
 
 use std::alloc::{AllocError, Allocator};
 use std::simd::prelude::*;
+
+/// How many bytes the call that takes any number copies as fast.
+const MANY: usize = 32;
 
 /// A copy of bytes. Of none it asks for no memory.
 #[inline(always)]
@@ -11,18 +14,33 @@ pub(crate) fn copied<A: Allocator>(alloc: A, bytes: &[u8]) -> Result<Vec<u8, A>,
     ensures empty { bytes.now ≡ [] → IsOk result }
 {
     let mut copy = Vec::with_capacity(alloc, bytes.len())?;
-    match bytes.len() {
-        4..=7 => push_ends::<4, A>(&mut copy, bytes),
-        8..=15 => push_ends::<8, A>(&mut copy, bytes),
-        16..=31 => push_ends::<16, A>(&mut copy, bytes),
-        32..=63 => push_ends::<32, A>(&mut copy, bytes),
-        _ => copy.extend_from_slice(bytes)?,
+    if bytes.len() < MANY {
+        push_few(&mut copy, bytes);
+    } else {
+        copy.extend_from_slice(bytes)?;
     }
     Ok(copy)
 }
 
-/// Appends bytes, for which there is room, by the first `N` and the last `N`, which are all and may overlap. To a vector
-/// that nothing else sees these are two stores.
+/// Appends fewer than 32 bytes, for which there is room.
+#[inline(always)]
+fn push_few<A: Allocator>(bytes: &mut Vec<u8, A>, other: &[u8])
+    requires few { length other.now < 32 }
+    requires room { length bytes.old.items + length other.now ≤ vec_capacity bytes.old }
+    ensures { bytes.new.items ≡ bytes.old.items ++ other.now }
+{
+    match other.len() {
+        0 => {}
+        1 => push_ends::<1, A>(bytes, other),
+        2..=3 => push_ends::<2, A>(bytes, other),
+        4..=7 => push_ends::<4, A>(bytes, other),
+        8..=15 => push_ends::<8, A>(bytes, other),
+        _ => push_ends::<16, A>(bytes, other),
+    }
+}
+
+/// The same by the first `N` bytes and the last `N`, which are all and may overlap. To a vector that nothing else sees
+/// these are two stores.
 #[inline(always)]
 fn push_ends<const N: usize, A: Allocator>(bytes: &mut Vec<u8, A>, other: &[u8])
     requires lanes { N ≤ 64 }
