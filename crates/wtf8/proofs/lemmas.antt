@@ -5,6 +5,7 @@ pub mod ByteOrder
 pub mod Clean
 pub mod Comparing
 pub mod Concatenation
+pub mod Copies
 pub mod DebugTexts
 pub mod DecodedItems
 pub mod Decoding

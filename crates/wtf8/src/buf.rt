@@ -15,7 +15,7 @@ ghost use Rattle.wtf8.specs.View.{view_points, view_units};
 
 use crate::code_point::CodePoint;
 use crate::view::Wtf8;
-use crate::{concat, search, surrogate_presence, surrogates, unit_blocks, unit_positions};
+use crate::{concat, copies, search, surrogate_presence, surrogates, unit_blocks, unit_positions};
 use std::alloc::{AllocError, Allocator};
 use std::marker::Model;
 
@@ -122,8 +122,7 @@ impl<A: Allocator> Wtf8Buf<A> {
         ensures scalar { IfOk result (λ b. AreScalar b.form.points) }
         ensures empty { value.now ≡ [] → IsOk result }
     {
-        let mut bytes = Vec::with_capacity(alloc, value.len())?;
-        bytes.extend_from_slice(value.as_bytes())?;
+        let bytes = copies::copied(alloc, value.as_bytes())?;
         Ok(from_well_formed(bytes, true))
     }
 
@@ -151,6 +150,7 @@ impl<A: Allocator> Wtf8Buf<A> {
     }
 
     /// An equal string with an allocator of its own, cloned from this one's.
+    #[inline(always)]
     pub fn clone(&self) -> Result<Wtf8Buf<A>, AllocError>
     where
         A: Clone,
@@ -158,7 +158,7 @@ impl<A: Allocator> Wtf8Buf<A> {
         ensures bytes { IfOk result (λ b. b.bytes ≡ self.now.bytes) }
     {
         let alloc = self.bytes.allocator().clone()?;
-        let bytes = Vec::from_slice(alloc, self.bytes.as_slice())?;
+        let bytes = copies::copied(alloc, self.bytes.as_slice())?;
         Ok(from_well_formed(bytes, self.is_known_utf8))
     }
 
@@ -411,6 +411,10 @@ impl<A: Allocator> Wtf8Buf<A> {
         if self.is_known_utf8 {
             return None;
         }
+        // What was cut out of another string may begin with a trail.
+        if search::begins_with_surrogate(&self.bytes) {
+            return Some(0);
+        }
         search::first_surrogate(&self.bytes, 0)
     }
 }
@@ -655,6 +659,19 @@ mod tests {
         for other in [emptied, cut] {
             assert_eq!(rt; other, plain);
             assert_eq!(rt; hash_of(&other), hash_of(&plain));
+        }
+        Ok(())
+    }
+
+    #[test]
+    fn copies_of_every_length_are_what_was_pushed(rt: HostRuntime) -> Result<(), AllocError> {
+        let mut string = Wtf8Buf::new(rt.alloc());
+        for length in 0..131 {
+            assert_eq!(rt; string.clone()?, string, "a clone of {length} bytes");
+            let mut appended = Wtf8Buf::new(rt.alloc());
+            appended.push_wtf8(string.as_wtf8())?;
+            assert_eq!(rt; appended, string, "{length} bytes appended");
+            string.push(CodePoint::from_u32_unchecked(0x21 + length % 94))?;
         }
         Ok(())
     }

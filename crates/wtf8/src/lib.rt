@@ -7,6 +7,7 @@ mod code_point;
 mod collect;
 mod comparisons;
 mod concat;
+mod copies;
 mod debug_text;
 mod decode;
 mod differences;

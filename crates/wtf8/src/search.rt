@@ -1,5 +1,5 @@
 // The search for surrogates in bytes, and their replacement.
-ghost use Rattle.std.specs.Prelude.{◌≡◌, ◌∷◌, ◌++◌, ◌+◌, ◌*◌, ◌<◌, ◌≤◌, length, take, drop, false, None};
+ghost use Rattle.std.specs.Prelude.{◌≡◌, ◌∷◌, ◌++◌, ◌+◌, ◌*◌, ◌<◌, ◌≤◌, length, take, drop, false, None, IsTrue};
 ghost use Rattle.wtf8.specs.Form.{IsWellFormed, bytes as bytes_of};
 ghost use Rattle.wtf8.specs.SurrogateSearch.{IsFirst, IsFirstBelow, IsSurrogateLane, SurrogateAt};
 ghost use Rattle.wtf8.specs.Surrogates.{lossy};
@@ -12,6 +12,14 @@ const REPLACEMENT: [u8; 3] = [0xEF, 0xBF, 0xBD];
 
 /// How many places the search looks at together where so many are left.
 const LANES: usize = 64;
+
+/// Whether the first two bytes begin a surrogate.
+#[inline(always)]
+pub(crate) fn begins_with_surrogate(bytes: &[u8]) -> bool
+    ensures { IsTrue result → SurrogateAt bytes.now 0 }
+{
+    2 <= bytes.len() && bytes[0] == 0xED && 0xA0 <= bytes[1]
+}
 
 /// The place of the first surrogate that begins at `from` or behind it, in any bytes.
 #[inline(always)]

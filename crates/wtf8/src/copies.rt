@@ -1,0 +1,78 @@
+// Copies of bytes: those of a few by their first and their last block.
+ghost use Rattle.std.specs.Prelude.{◌≡◌, [], ◌++◌, ◌+◌, ◌*◌, ◌<◌, ◌≤◌, length, take, drop, IfOk, IsOk, vec_capacity};
+
+use std::alloc::{AllocError, Allocator};
+use std::simd::prelude::*;
+
+/// How many bytes the call that takes any number copies as fast.
+const MANY: usize = 32;
+
+/// A copy of bytes. Of none it asks for no memory.
+#[inline(always)]
+pub(crate) fn copied<A: Allocator>(alloc: A, bytes: &[u8]) -> Result<Vec<u8, A>, AllocError>
+    ensures items { IfOk result (λ v. v.items ≡ bytes.now) }
+    ensures empty { bytes.now ≡ [] → IsOk result }
+{
+    let mut copy = Vec::with_capacity(alloc, bytes.len())?;
+    if bytes.len() < MANY {
+        push_few(&mut copy, bytes);
+    } else {
+        copy.extend_from_slice(bytes)?;
+    }
+    Ok(copy)
+}
+
+/// Appends fewer than 32 bytes, for which there is room.
+#[inline(always)]
+fn push_few<A: Allocator>(bytes: &mut Vec<u8, A>, other: &[u8])
+    requires few { length other.now < 32 }
+    requires room { length bytes.old.items + length other.now ≤ vec_capacity bytes.old }
+    ensures { bytes.new.items ≡ bytes.old.items ++ other.now }
+{
+    match other.len() {
+        0 => {}
+        1 => push_ends::<1, A>(bytes, other),
+        2..=3 => push_ends::<2, A>(bytes, other),
+        4..=7 => push_ends::<4, A>(bytes, other),
+        8..=15 => push_ends::<8, A>(bytes, other),
+        _ => push_ends::<16, A>(bytes, other),
+    }
+}
+
+/// The same by the first `N` bytes and the last `N`, which are all and may overlap. To a vector that nothing else sees
+/// these are two stores.
+#[inline(always)]
+fn push_ends<const N: usize, A: Allocator>(bytes: &mut Vec<u8, A>, other: &[u8])
+    requires lanes { N ≤ 64 }
+    requires all { (N ≤ length other.now) × (length other.now ≤ 2 * N) }
+    requires room { length bytes.old.items + length other.now ≤ vec_capacity bytes.old }
+    ensures { bytes.new.items ≡ bytes.old.items ++ other.now }
+{
+    let last = other.len() - N;
+    let end = bytes.len() + last;
+    push_block(bytes, block::<N>(other, 0));
+    bytes.truncate(end);
+    push_block(bytes, block::<N>(other, last));
+}
+
+/// The `N` bytes from a place on.
+#[inline(always)]
+fn block<const N: usize>(bytes: &[u8], at: usize) -> [u8; N]
+    requires lanes { N ≤ 64 }
+    requires room { at + N ≤ length bytes.now }
+    ensures { result ≡ take N (drop at bytes.now) }
+{
+    Simd::<u8, N>::from_slice(&bytes[at..]).to_array()
+}
+
+/// Appends a block, for which there is room.
+#[inline(always)]
+fn push_block<const N: usize, A: Allocator>(bytes: &mut Vec<u8, A>, block: [u8; N])
+    requires { length bytes.old.items + N ≤ vec_capacity bytes.old }
+    ensures items { bytes.new.items ≡ bytes.old.items ++ block.entry }
+    ensures capacity { vec_capacity bytes.new ≡ vec_capacity bytes.old }
+{
+    for at in 0..N {
+        bytes.push_reserved(block[at]);
+    }
+}
