@@ -10,7 +10,7 @@ use crate::parts::Lines;
 use std::alloc::{AllocError, Allocator};
 use std::io::{Read, Write};
 
-const PIECE: usize = 16384;
+const PIECE: usize = 4096;
 
 /// Reads the reader to its end, computes the answer to each line, and then writes the answers, each with a newline
 /// after it, and flushes the writer.
