@@ -1,4 +1,5 @@
 pub mod Appending
+pub mod AsciiGains
 pub mod AsciiPositions
 pub mod BlockBytes
 pub mod ByteOrder

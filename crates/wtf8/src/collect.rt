@@ -1,15 +1,61 @@
 // Code points collected into a string.
-ghost use Rattle.std.specs.Prelude.{◌≡◌, ℕ, List, [], ◌++◌, ◌≤◌, length, take, IfOk, OnOk, OnErr, IsOk};
+ghost use Rattle.std.specs.Prelude.{◌≡◌, ℕ, List, [], ◌++◌, ◌+◌, ◌≤◌, length, take, IfOk, IfSome, OnOk, OnErr, IsOk, IsTrue};
 ghost use Rattle.std.specs.Iterator.{Drains, ExtendsWithItems, IsFinite};
 ghost use Rattle.wtf8.specs.CodePoint.{numbers};
 ghost use Rattle.wtf8.specs.Appending.{AppendsPoints, HasRoomFor};
 ghost use Rattle.wtf8.specs.Form.{IsForm};
 ghost use Rattle.wtf8.specs.Unicode.{units};
+ghost use Rattle.wtf8.specs.UnitParts.{AreAscii};
 ghost use Rattle.wtf8.specs.declared.code_point.CodePoint.{CodePoint};
 
 use crate::buf::Wtf8Buf;
 use crate::code_point::CodePoint;
 use std::alloc::{AllocError, Allocator};
+use std::simd::prelude::*;
+
+/// How many code points are looked at together.
+const LANES: usize = 16;
+
+/// The numbers of the first sixteen code points, if there are so many.
+#[inline(always)]
+fn first_numbers(points: &[CodePoint]) -> Option<[u32; LANES]>
+    ensures long { IfSome result (λ _. 16 ≤ length points.now) }
+    ensures same { IfSome result (λ values. values ≡ numbers (take 16 points.now)) }
+{
+    let front = points.first_chunk::<LANES>()?;
+    Some(front.map(|point| point.to_u32()))
+}
+
+/// Whether all numbers of a block are below 0x80.
+#[inline(always)]
+fn are_ascii(numbers: u32x16) -> bool
+    ensures { IsTrue result → AreAscii numbers }
+{
+    numbers.simd_ge(u32x16::splat(0x80)).to_bitmask() == 0
+}
+
+/// The numbers of a block below 0x80 as bytes.
+#[inline(always)]
+fn narrowed(numbers: u32x16) -> [u8; LANES]
+    requires { AreAscii numbers }
+    ensures { result ≡ numbers }
+{
+    numbers.cast::<u8>().to_array()
+}
+
+/// The bytes of the first sixteen code points, if there are so many and all of them are ASCII.
+#[inline(always)]
+fn ascii_block(points: &[CodePoint]) -> Option<[u8; LANES]>
+    ensures long { IfSome result (λ _. 16 ≤ length points.now) }
+    ensures same { IfSome result (λ block. block ≡ numbers (take 16 points.now)) }
+    ensures ascii { IfSome result (λ block. AreAscii block) }
+{
+    let numbers = u32x16::from_array(first_numbers(points)?);
+    if are_ascii(numbers) {
+        return Some(narrowed(numbers));
+    }
+    None
+}
 
 impl<A: Allocator> Wtf8Buf<A> {
     /// Appends code points in the order in which they come; a trail surrogate joins a lead before it. Room for as many
@@ -55,6 +101,36 @@ impl<A: Allocator> Wtf8Buf<A> {
         ensures capacity { self.old.capacity ≤ self.new.capacity }
     {
         self.reserve(points.len())?;
+        let count = self.push_ascii_front(points);
+        let (_, rest) = points.split_at(count);
+        self.push_each(rest)
+    }
+
+    /// Appends the code points at the front of a slice that are ASCII, as far as blocks of sixteen tell, and answers how
+    /// many. There is room for them.
+    #[inline(always)]
+    fn push_ascii_front(&mut self, points: &[CodePoint]) -> usize
+        requires { length self.old.bytes + length points.now ≤ self.old.capacity }
+        ensures within { result ≤ length points.now }
+        ensures appended { AppendsPoints self.old (take result points.now) self.new }
+        ensures capacity { self.old.capacity ≤ self.new.capacity }
+    {
+        let mut at = 0;
+        while let Some(block) = ascii_block(&points[at..]) {
+            self.push_ascii(&block);
+            at += LANES;
+        }
+        at
+    }
+
+    /// Appends the code points of a slice, one after another.
+    fn push_each(&mut self, points: &[CodePoint]) -> Result<(), AllocError>
+        ensures ok { OnOk result (AppendsPoints self.old points.now self.new) }
+        ensures err { OnErr result ((n : ℕ) × AppendsPoints self.old (take n points.now) self.new) }
+        ensures room { HasRoomFor self.old (units (numbers points.now)) → IsOk result }
+        ensures empty { points.now ≡ [] → IsOk result }
+        ensures capacity { self.old.capacity ≤ self.new.capacity }
+    {
         for code_point in points {
             self.push(*code_point)?;
         }

@@ -37,17 +37,13 @@ const SPACED_MIDDLE: [usize; LANES] = [2, 3, 16, 4, 5, 16, 6, 7, 16, 8, 9, 16, 1
 const SPACED_BACK: [usize; LANES] = [5, 16, 6, 7, 16, 8, 9, 16, 10, 11, 16, 12, 13, 16, 14, 15];
 
 /// The upper-case digit of a number below 16.
-#[tactic(auto, unfolding(crate::specs::Hex::digit))]
+#[inline(always)]
 pub(crate) fn upper_digit(value: u8) -> char
     requires { value < 16 }
     ensures digit { result ≡ digit value }
     ensures ascii { result < 128 }
 {
-    if value < 10 {
-        (b'0' + value) as char
-    } else {
-        (b'A' - 10 + value) as char
-    }
+    DIGITS[usize::from(value)] as char
 }
 
 /// The digits of numbers below 16.

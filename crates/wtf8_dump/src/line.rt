@@ -161,6 +161,7 @@ fn add_short_words<A: Allocator>(
 ) -> Result<(), AllocError>
     ensures { OnOk result (TakesCalls (words_left words.old) (pushes points.old.items) (words_left words.new) (pushes points.new.items)) }
 {
+    words.add_spaced(points);
     while points.len() < POINTS {
         let Some(point) = words.next_short_point() else {
             return Ok(());

@@ -4,9 +4,10 @@ ghost use Rattle.std.specs.List.{All, slice_split};
 ghost use Rattle.std.specs.Option.{option_map_or};
 ghost use Rattle.std.specs.Iterator.{YieldsFirstRef, item_count};
 ghost use Rattle.wtf8_dump.specs.Lines.{lines, words};
-ghost use Rattle.wtf8_dump.specs.Reading.{IsNextPoint};
+ghost use Rattle.wtf8_dump.specs.Reading.{IsNextPoint, TakesCalls, pushes};
 
 use crate::word;
+use std::alloc::Allocator;
 use std::simd::prelude::*;
 use wtf8::CodePoint;
 
@@ -83,6 +84,17 @@ impl<'a> Words<'a> {
         self.rest = after;
         Some(point)
     }
+
+    /// Lets the code points of the next words wait behind the others, as long as each has four hexadecimal digits and a
+    /// space behind it and there is room.
+    #[inline(always)]
+    pub(crate) fn add_spaced<A: Allocator>(&mut self, points: &mut Vec<CodePoint, A>)
+        ensures { TakesCalls (words_left self.old) (pushes points.old.items) (words_left self.new) (pushes points.new.items) }
+    {
+        if let Some(rest) = self.rest {
+            self.rest = Some(add_spaced_points(rest, points));
+        }
+    }
 }
 
 impl<'a> Iterator for Words<'a> {
@@ -123,19 +135,50 @@ fn split_short_point(bytes: &[u8]) -> Option<(CodePoint, Option<&[u8]>)>
     ensures { IfSome result (λ x. IsNextPoint (slice_split (λ byte. byte == 32) bytes.now) x.0
         (option_map_or (λ rest. slice_split (λ byte. byte == 32) rest.now) x.1 [])) }
 {
-    if bytes.len() < SHORT_LANES {
+    if bytes.len() == SHORT_LANES {
+        let point = word::read_short_point(bytes)?;
+        return Some((point, None));
+    }
+    let Some((point, after)) = split_spaced_point(bytes) else {
+        return None;
+    };
+    Some((point, Some(after)))
+}
+
+/// The code point of the first word of some bytes where that has four hexadecimal digits and a space behind it, and the
+/// bytes after the space.
+#[inline(always)]
+fn split_spaced_point(bytes: &[u8]) -> Option<(CodePoint, &[u8])>
+    ensures { IfSome result (λ x. IsNextPoint (slice_split (λ byte. byte == 32) bytes.now) x.0 (slice_split (λ byte. byte == 32) x.1.now)) }
+{
+    if bytes.len() <= SHORT_LANES {
         return None;
     }
     let (word, behind) = bytes.split_at(SHORT_LANES);
-    let point = word::read_short_point(word)?;
-    if behind.is_empty() {
-        return Some((point, None));
-    }
     if behind[0] != b' ' {
         return None;
     }
+    let point = word::read_short_point(word)?;
     let (_, after) = behind.split_at(1);
-    Some((point, Some(after)))
+    Some((point, after))
+}
+
+/// Lets the code points of the first words of some bytes wait behind the others, as long as each has four hexadecimal
+/// digits and a space behind it and there is room, and answers the bytes that are left.
+#[inline(always)]
+fn add_spaced_points<'a, A: Allocator>(bytes: &'a [u8], points: &mut Vec<CodePoint, A>) -> &'a [u8]
+    ensures { TakesCalls (slice_split (λ byte. byte == 32) bytes.now) (pushes points.old.items)
+        (slice_split (λ byte. byte == 32) result.now) (pushes points.new.items) }
+{
+    let mut rest = bytes;
+    while points.len() < points.capacity() {
+        let Some((point, after)) = split_spaced_point(rest) else {
+            break;
+        };
+        points.push_reserved(point);
+        rest = after;
+    }
+    rest
 }
 
 /// The bytes before the first separator, and those after it where there is one. None stands before `from`.

@@ -24,7 +24,7 @@ counted : map digit (range_with_len 0 16) ≡ table
 unfolding digit
 counted = refl
 
-digit_at : (n : ℕ) → n < 16 → get_or table n 0 ≡ digit n
+pub digit_at : (n : ℕ) → n < 16 → get_or table n 0 ≡ digit n
 digit_at n h = ap (λ t. get_or t n 0) (sym counted) ∙ get_or-map-range_with_len digit 0 16 n n 0 h (omega arith)
 
 -- a look-up gives the digits

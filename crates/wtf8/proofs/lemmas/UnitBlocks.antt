@@ -12,14 +12,23 @@ set : (b : Bool) → top 15 (wide b) ≡ b
 set true = refl
 set false = refl
 
-abbrev high : ℕ → List ℕ → List Bool
-high n xs = map (top 15) (zip2 (λ a b. wide (leb a b)) (replicate n 0x80) xs)
+-- a lane of a comparison of numbers of 32 bits
+abbrev wider : Bool → ℕ
+wider b = cond b 0xFFFFFFFF 0
 
-high_are : (n : ℕ) (xs : List ℕ) → length xs ≡ n → high n xs ≡ map (λ x. leb 0x80 x) xs
-high_are zero [] e = refl
-high_are (suc n) [] e = refl
-high_are zero (x ∷ xs) e = absurd (omega arith)
-high_are (suc n) (x ∷ xs) e = λ i. set (leb 0x80 x) i ∷ high_are n xs (omega arith) i
+set_wider : (b : Bool) → top 31 (wider b) ≡ b
+set_wider true = refl
+set_wider false = refl
+
+abbrev high : (Bool → ℕ) → ℕ → ℕ → List ℕ → List Bool
+high lane last n xs = map (top last) (zip2 (λ a b. lane (leb a b)) (replicate n 0x80) xs)
+
+high_are : (lane : Bool → ℕ) (last : ℕ) → ((b : Bool) → top last (lane b) ≡ b) → (n : ℕ) (xs : List ℕ) → length xs ≡ n
+    → high lane last n xs ≡ map (λ x. leb 0x80 x) xs
+high_are lane last s zero [] e = refl
+high_are lane last s (suc n) [] e = refl
+high_are lane last s zero (x ∷ xs) e = absurd (omega arith)
+high_are lane last s (suc n) (x ∷ xs) e = λ i. s (leb 0x80 x) i ∷ high_are lane last s n xs (omega arith) i
 
 length_same : (p : ℕ → Bool) (xs : List ℕ) → length (map p xs) ≡ length xs
 length_same p [] = refl
@@ -35,9 +44,17 @@ all_low (x ∷ xs) e = elim (cases_lt x 0x80) [
   | inr h ↦ absurd (omega (arith, rw (le-leb 0x80 x h) at e))
 ]
 
+none_high : (lane : Bool → ℕ) (last : ℕ) → ((b : Bool) → top last (lane b) ≡ b) → (xs : List ℕ) → length xs ≡ 16
+    → mask_l (high lane last 16 xs) % 2 ^ 64 ≡ 0 → AreAscii xs
+none_high lane last s xs l e = all_low xs (none_set (λ x. leb 0x80 x) xs (omega arith) (ap (λ ms. mask_l ms % 2 ^ 64) (sym (high_are lane last s 16 xs l)) ∙ e))
+
 -- where no lane is set all units are below 80
-pub none_high : (xs : List ℕ) → length xs ≡ 16 → mask_l (high 16 xs) % 2 ^ 64 ≡ 0 → AreAscii xs
-none_high xs l e = all_low xs (none_set (λ x. leb 0x80 x) xs (omega arith) (ap (λ ms. mask_l ms % 2 ^ 64) (sym (high_are 16 xs l)) ∙ e))
+pub no_high_unit : (xs : List ℕ) → length xs ≡ 16 → mask_l (high wide 15 16 xs) % 2 ^ 64 ≡ 0 → AreAscii xs
+no_high_unit = none_high wide 15 set
+
+-- and so are all numbers
+pub no_high_number : (xs : List ℕ) → length xs ≡ 16 → mask_l (high wider 31 16 xs) % 2 ^ 64 ≡ 0 → AreAscii xs
+no_high_number = none_high wider 31 set_wider
 
 -- a lane is set by a unit that does not take two bytes
 either_set : (a b : Bool) → top 15 (bit_or (wide a) (wide b)) ≡ a || b

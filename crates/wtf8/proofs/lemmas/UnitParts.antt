@@ -1,7 +1,7 @@
 -- Units turned into bytes part by part: where parts meet, and the form of all that was read.
 use Rattle.wtf8.proofs.Common.{◌≡◌, ℕ, ◌+◌, ◌<◌, ◌≤◌, Bool, IsTrue, List, [], ◌∷◌, ◌++◌, length, take, drop, get_or, refl, sym, ap, ◌∙◌, subst, arith}
 use Rattle.wtf8.proofs.Common.{length-append, get_or-append-add, take-append-drop, take_all, Each1-weaker, length-chunk, MeetsAsPair, IsClean, bytes}
-use Rattle.wtf8.proofs.Common.{bytes-injective, AreScalar, IsSurrogate, units, IsKnownForm, DividesNoPair, AreAscii, IsBlock}
+use Rattle.wtf8.proofs.Common.{bytes-injective, AreScalar, IsSurrogate, units, IsKnownForm, DividesNoPair, AreAscii, IsBlock, true}
 use Rattle.std.proofs.lemmas.Simd.{Each1-get_or}
 use Rattle.std.proofs.Math.Seq.{get_or-append_seam, take-add}
 use Rattle.wtf8.specs.Unicode.{IsLead}
@@ -40,11 +40,27 @@ ascii_bytes : (u : List ℕ) → AreAscii u → bytes u ≡ u
 ascii_bytes [] h = refl
 ascii_bytes (p ∷ u) h = ap (λ w. w ++ bytes u) (encoding_one p h.0) ∙ ap (λ v. p ∷ v) (ascii_bytes u h.1)
 
+ascii_scalars : (u : List ℕ) → AreAscii u → AreScalarUnits u
+ascii_scalars u h = Each1-weaker (λ n. n < 0x80) (λ n. (n < 0x10000) × ¬ (IsSurrogate n)) (λ n l. (omega (arith, l), λ s. omega (arith, l, s.0))) u h
+
+pub ascii_own_units : (u : List ℕ) → AreAscii u → units u ≡ u
+ascii_own_units u h = scalar_units u (ascii_scalars u h)
+
+-- ASCII is its own form
+pub ascii_form : (u : List ℕ) → AreAscii u → IsKnownForm u u true
+ascii_form u h = record {
+  form = record {
+    points = u;
+    reads = record { clean = scalar_clean u (ascii_scalars u h); same_units = scalar_units u (ascii_scalars u h) };
+    encoded = ascii_bytes u h;
+  };
+  scalar = λ _. are_scalar u (ascii_scalars u h);
+}
+
 pub ascii_block : (u w : List ℕ) (at : ℕ) → at + 16 ≤ length u → AreAscii (take 16 (drop at u)) → w ≡ take 16 (drop at u) → IsBlock u at 16 w
 ascii_block u w at within h e = record {
   within = within;
-  scalars = Each1-weaker (λ n. n < 0x80) (λ n. (n < 0x10000) × ¬ (IsSurrogate n)) (λ n l. (omega (arith, l), λ s. omega (arith, l, s.0)))
-      (take 16 (drop at u)) h;
+  scalars = ascii_scalars (take 16 (drop at u)) h;
   encoded = e ∙ sym (ascii_bytes (take 16 (drop at u)) h);
 }
 

@@ -1,10 +1,10 @@
 use Rattle.wtf8_dump.specs.Parts.{words_left}
 use Rattle.wtf8_dump.specs.Reading.{pushes}
-use Rattle.wtf8_dump.proofs.Waiting.{takes_none, takes_more, one_more_push}
+use Rattle.wtf8_dump.proofs.Waiting.{takes_more, one_more_push}
 use Rattle.wtf8_dump.proofs.line.add_short_words.Goals as goal
 
 pub loop-words-init : goal.loop-words-init
-loop-words-init g c = takes_none (words_left c.args.words.now) (pushes c.args.points.now.items)
+loop-words-init g c = c.add_spaced.ensures
 
 pub loop-words-preserved : goal.loop-words-preserved
 loop-words-preserved g c =
