@@ -122,10 +122,16 @@ pub fn run_loop(column: &str, row: &str, rounds: &str) -> bool {
     true
 }
 
-/// Times a row, or answers `None` where the sides' answers differ.
+/// Times a row, or answers `None` where the sides' answers differ. Each side has rounds of its own, so that a turn of each
+/// takes as long.
 fn time(number: u32, name: String, input: &Input) -> Option<Row> {
-    let rounds = rounds_of_a_turn(number, input, &original::Bench::new(&input.units));
-    let items = f64::from(rounds) * input.units.len() as f64;
+    let rounds = rounds_of_a_turn(|rounds| {
+        black_box(original::Bench::new(&input.units).run(number, rounds));
+    });
+    let own_rounds = rounds_of_a_turn(|rounds| {
+        black_box(ours::time(number, &input.units, rounds));
+    });
+    let answer = ours::time(number, &input.units, rounds);
     let mut random = Random::new(u64::from(number));
     let mut least = [f64::INFINITY; 4];
     for _ in 0..TURNS {
@@ -133,7 +139,7 @@ fn time(number: u32, name: String, input: &Input) -> Option<Row> {
         // each side's when no other side's are there.
         let _elsewhere = black_box(vec![0u8; random.between(1, 8192) as usize]);
         let (made, _) = timed(|| ours::time(number, &input.units, 0));
-        let (with_making, answer) = timed(|| ours::time(number, &input.units, rounds));
+        let (with_making, _) = timed(|| ours::time(number, &input.units, own_rounds));
         let original = original::Bench::new(&input.units);
         let (crate_time, crate_answer) = timed(|| original.run(number, rounds));
         drop(original);
@@ -159,22 +165,20 @@ fn time(number: u32, name: String, input: &Input) -> Option<Row> {
             }
         }
     }
+    let items = |rounds: u32| f64::from(rounds) * input.units.len() as f64;
     Some(Row {
         name,
-        ours: (least[1] - least[0]).max(0.0) / items,
-        original: least[2] / items,
-        standard: least[3] / items,
+        ours: (least[1] - least[0]).max(0.0) / items(own_rounds),
+        original: least[2] / items(rounds),
+        standard: least[3] / items(rounds),
     })
 }
 
-/// The number of rounds with which the crate, or where it lacks the call the proved library, takes long enough.
-fn rounds_of_a_turn(number: u32, input: &Input, original: &original::Bench) -> u32 {
+/// A number of rounds with which a loop takes long enough.
+fn rounds_of_a_turn(run: impl Fn(u32)) -> u32 {
     let mut rounds = 16;
     loop {
-        let (time, _) = timed(|| {
-            let answer = original.run(number, rounds);
-            answer.unwrap_or_else(|| ours::time(number, &input.units, rounds))
-        });
+        let (time, ()) = timed(|| run(rounds));
         if time >= TURN || rounds >= 1 << 24 {
             return rounds;
         }

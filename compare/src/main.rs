@@ -32,7 +32,12 @@ use console::fail;
 // What stands behind this in the program stands 16 bytes further: where the code of a loop lies decides much of its time,
 // so timings are taken in both places.
 #[cfg(further)]
-std::arch::global_asm!(".section .text.further,\"axR\"", ".balign 32", ".skip 16", ".text");
+std::arch::global_asm!(
+    ".section .text.further,\"axR\"",
+    ".balign 32",
+    ".skip 16",
+    ".text"
+);
 
 const USAGE: &str = "usage: compare differ [--seed S] [--cases N] [--every-point]
        compare record FOLDER [--seed S] [--cases N]

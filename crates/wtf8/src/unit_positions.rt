@@ -117,13 +117,26 @@ fn behind_blocks(bytes: &[u8], unit: usize) -> Place
     ensures counted { result.units_before ≡ all_units_begun (take result.at bytes.now) }
     ensures not_beyond { result.units_before ≤ unit }
 {
+    if bytes.len() < FEW {
+        return Place {
+            at: 0,
+            units_before: 0,
+        };
+    }
+    behind_blocks_of_many(bytes, unit)
+}
+
+/// The same. It stands by itself, so that a short string costs little.
+#[inline(never)]
+fn behind_blocks_of_many(bytes: &[u8], unit: usize) -> Place
+    ensures within { result.at ≤ length bytes.now }
+    ensures counted { result.units_before ≡ all_units_begun (take result.at bytes.now) }
+    ensures not_beyond { result.units_before ≤ unit }
+{
     let mut place = Place {
         at: 0,
         units_before: 0,
     };
-    if bytes.len() < FEW {
-        return place;
-    }
     while let Some(behind) = behind_block::<MANY>(bytes, unit, place) {
         place = behind;
     }

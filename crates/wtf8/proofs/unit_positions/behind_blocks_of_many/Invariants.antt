@@ -1,5 +1,5 @@
 use Rattle.wtf8.proofs.Common.{◌≡◌, ◌≤◌, ◌-◌, length, take, all_units_begun}
-use Rattle.wtf8.proofs.unit_positions.behind_blocks.Given as goal
+use Rattle.wtf8.proofs.unit_positions.behind_blocks_of_many.Given as goal
 
 -- the units so far are counted, and they are no more than those asked for
 abbrev pub invariant-loop-behind : goal.invariant-loop-behind
