@@ -4,7 +4,7 @@ ghost use Rattle.wtf8.specs.Unicode.{IsLead};
 ghost use Rattle.wtf8.specs.UnitParts.{AppendsForm, DividesNoPair, IsKnownForm};
 ghost use Rattle.wtf8.specs.UnitPieces.{piece, spelled, unit_before, IsSpelled, ArePaired, all_spelled};
 
-use crate::surrogates::{FIRST_LEAD, FIRST_TRAIL, LAST_LEAD, LAST_TRAIL};
+use crate::surrogates::{FIRST_LEAD, FIRST_TRAIL};
 use std::alloc::{AllocError, Allocator};
 use std::simd::prelude::*;
 
@@ -123,18 +123,10 @@ fn write_block(units: &[u16; LANES], block: &mut [u8; ROOM]) -> Option<(usize, u
 /// answered decides how long it takes, and nothing else.
 #[inline(always)]
 fn is_worth_a_block(units: u16x16) -> bool {
-    let leads = are_from_to(units, FIRST_LEAD, LAST_LEAD);
-    let trails = are_from_to(units, FIRST_TRAIL, LAST_TRAIL);
-    leads * 2 % 0x10000 == trails && leads.count_ones() < MANY_LEADS
-}
-
-/// A bit for each of sixteen units that lies between two others.
-#[inline(always)]
-fn are_from_to(units: u16x16, least: u16, greatest: u16) -> u64
-    ensures { result < 0x10000 }
-{
-    let from_least = units.simd_ge(u16x16::splat(least));
-    (from_least & units.simd_le(u16x16::splat(greatest))).to_bitmask() % 0x10000
+    let kinds = units & u16x16::splat(0xFC00);
+    let leads = kinds.simd_eq(u16x16::splat(FIRST_LEAD)).to_bitmask();
+    let trails = kinds.simd_eq(u16x16::splat(FIRST_TRAIL)).to_bitmask();
+    leads << 1 & 0xFFFF == trails && leads.count_ones() < MANY_LEADS
 }
 
 /// Appends the bytes of the sixteen units from a place on, or of all but a lead at their end, and answers how many units
@@ -150,15 +142,14 @@ pub(crate) fn append_block<A: Allocator>(
         × AppendsForm bytes.old.items bytes.new.items (take n (drop at v.now)) true)) }
     ensures none { IfOk result (λ taken. IfNone taken (bytes.new.items ≡ bytes.old.items)) }
 {
-    if v.len() - at < LANES {
+    let Some(units) = v[at..].first_chunk::<LANES>() else {
         return Ok(None);
-    }
-    let units = u16x16::from_slice(&v[at..]);
-    if !is_worth_a_block(units) {
+    };
+    if !is_worth_a_block(u16x16::from_array(*units)) {
         return Ok(None);
     }
     let mut block = [0; ROOM];
-    let Some((taken, len)) = write_block(&units.to_array(), &mut block) else {
+    let Some((taken, len)) = write_block(units, &mut block) else {
         return Ok(None);
     };
     bytes.extend_from_slice(&block[..len])?;
