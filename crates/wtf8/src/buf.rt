@@ -317,8 +317,8 @@ impl<A: Allocator> Wtf8Buf<A> {
     {
         // Where no surrogate is held, none at the end meets another.
         let is_apart = self.is_known_utf8;
-        if is_apart {
-            self.is_known_utf8 = !surrogate_presence::holds_surrogate(other.bytes);
+        if is_apart && surrogate_presence::holds_surrogate(other.bytes) {
+            self.is_known_utf8 = false;
         }
         concat::push_view(&mut self.bytes, other, is_apart)
     }

@@ -1,11 +1,11 @@
 -- Code points that are scalar values, parts of them, and scalar values behind them.
-use Rattle.wtf8.proofs.Common.{◌≡◌, ℕ, List, [], ◌∷◌, ◌++◌, Bool, true, not, IsTrue, None, Result, Ok, Err, OnOk, OnErr, sym, subst, refl, false}
-use Rattle.wtf8.proofs.Common.{arith, false≢true, append-nil, chars, IsUtf8, scalars-chars, scalars, IsCodePoint, IsSurrogate, units, units_of, MeetsAsPair}
-use Rattle.wtf8.proofs.Common.{IsClean, IsWellFormed, GainsUnits, bytes-injective, AreScalar, IsFirst, SurrogateAt}
+use Rattle.wtf8.proofs.Common.{◌≡◌, ℕ, List, [], ◌∷◌, ◌++◌, Bool, true, IsTrue, Result, Ok, Err, OnOk, OnErr, sym, subst}
+use Rattle.wtf8.proofs.Common.{arith, append-nil, chars, IsUtf8, scalars-chars, scalars, IsCodePoint, IsSurrogate, units, units_of, MeetsAsPair}
+use Rattle.wtf8.proofs.Common.{IsClean, IsWellFormed, GainsUnits, bytes-injective, AreScalar}
 use Rattle.wtf8.proofs.lemmas.Clean.{clean-append}
 use Rattle.wtf8.proofs.lemmas.Gains.{gained_or_kept}
 use Rattle.wtf8.proofs.lemmas.Readings.{form_of, same_reading, same_points}
-use Rattle.wtf8.proofs.lemmas.Surrogates.{scalar-middle, scalar_if_none}
+use Rattle.wtf8.proofs.lemmas.Surrogates.{scalar-middle}
 use Rattle.wtf8.proofs.lemmas.Texts.{scalar_facts, scalars-parts}
 use Rattle.wtf8.proofs.lemmas.Units.{units-append}
 
@@ -33,12 +33,6 @@ scalar_apart s m = scalar-middle m.front m.lead [] (subst AreScalar m.ends s) (o
 
 pub scalar_behind : {c d : List ℕ} → AreScalar d → ¬ (MeetsAsPair c d)
 scalar_behind s m = (subst AreScalar m.begins s).0 (omega (arith, m.is_trail), omega (arith, m.is_trail))
-
--- what the search says that found none
-pub scalar_unless_held : (held : Bool) {w : List ℕ} (h : IsWellFormed w) → (held ≡ false → IsFirst (SurrogateAt w) 0 None) → IsTrue (not held)
-    → AreScalar h.points
-scalar_unless_held true h f t = absurd (false≢true t)
-scalar_unless_held false h f t = scalar_if_none h (f refl)
 
 -- equal bytes have equal code points
 pub scalar_moved : {v w : List ℕ} (h : IsWellFormed v) (k : IsWellFormed w) → w ≡ v → AreScalar h.points → AreScalar k.points

@@ -1,9 +1,10 @@
 use Rattle.wtf8.proofs.Common.{UnitString, ap, arith, length, refl, sym, subst, ◌∙◌, IsTrue, false≢true, units, view_units, view_form}
 use Rattle.wtf8.proofs.lemmas.Gains.{gained_units, kept_contents, added_length}
-use Rattle.wtf8.proofs.lemmas.Scalars.{known_gained, scalar_apart, scalar_moved, scalar_unless_held}
+use Rattle.wtf8.proofs.lemmas.Scalars.{known_gained, scalar_apart, scalar_moved}
+use Rattle.wtf8.proofs.lemmas.Surrogates.{scalar_if_none}
 use Rattle.wtf8.proofs.lemmas.Appending.{grows_at_most, nothing_appended, fits_left}
 use Rattle.wtf8.proofs.lemmas.Readings.{no_points}
-use Rattle.wtf8.proofs.buf.Wtf8Buf.push_wtf8.Goals.{then-is_apart, else-is_apart}
+use Rattle.wtf8.proofs.buf.Wtf8Buf.push_wtf8.Goals.{then-is_apart+then-holds_surrogate, else-is_apart, else-is_apart-via-then-is_apart+else-holds_surrogate, else-is_apart-via-else-is_apart}
 use Rattle.wtf8.proofs.buf.Wtf8Buf.push_wtf8.Goals as goal
 
 pub push_view-requires-clause-apart : goal.push_view-requires-clause-apart
@@ -14,10 +15,12 @@ invariant_of-self-inside g c =
     let other = c.args.other.well_formed in
     known_gained c.push_view.result other.points (units other.points) _ c.self.inside.well_formed refl other.clean (
     λ known. elim c.if-is_apart.branch [
-      | then-is_apart w ↦
-          let none = subst (λ s. IsTrue s.1.1.0) w.self-inside-is known in
-          (c.self.inside.known_scalar w.if-is_apart.true, scalar_unless_held w.holds_surrogate.result other w.holds_surrogate.ensures none)
-      | else-is_apart w ↦ absurd (false≢true (sym w.if-is_apart.false ∙ subst (λ s. IsTrue s.1.1.0) w.self-inside-is known))
+      | then-is_apart+then-holds_surrogate w ↦ absurd (false≢true (subst (λ s. IsTrue s.1.1.0) w.self-inside-is known))
+      | else-is_apart w ↦ elim w.else-is_apart.branch [
+        | else-is_apart-via-then-is_apart+else-holds_surrogate b ↦
+          (c.self.inside.known_scalar b.if-is_apart.true, scalar_if_none other (b.holds_surrogate.ensures b.if-holds_surrogate.false))
+        | else-is_apart-via-else-is_apart b ↦ absurd (false≢true (sym b.if-is_apart.false ∙ subst (λ s. IsTrue s.1.1.0) w.self-inside-is known))
+      ]
     ]
     ) c.push_view.ensures.ok c.push_view.ensures.err
 
