@@ -243,7 +243,7 @@ fn greatest<const N: usize>(own: Simd<u8, N>, others: Simd<u8, N>) -> Simd<u8, N
 
 /// Whether all lanes are below a number.
 #[inline(always)]
-fn is_below<const N: usize>(lanes: Simd<u8, N>, least: u8) -> bool
+pub(crate) fn is_below<const N: usize>(lanes: Simd<u8, N>, least: u8) -> bool
     requires { N ≤ 64 }
     ensures { IsTrue result → ¬ (HasLane least lanes.entry) }
 {

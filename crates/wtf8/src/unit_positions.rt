@@ -1,5 +1,5 @@
 // Positions counted in 16-bit units.
-ghost use Rattle.std.specs.Prelude.{◌≡◌, ◌++◌, ◌+◌, ◌-◌, ◌/◌, ◌%◌, ◌^◌, ◌<◌, ◌≤◌, length, take, drop, slice_get, IfSome, IfNone};
+ghost use Rattle.std.specs.Prelude.{◌≡◌, ◌++◌, ◌+◌, ◌-◌, ◌/◌, ◌%◌, ◌^◌, ◌<◌, ◌≤◌, length, take, drop, slice_get, Some, IfSome, IfNone};
 ghost use Rattle.std.specs.Option.{option_to_list};
 ghost use Rattle.wtf8.specs.Form.{encoding};
 ghost use Rattle.wtf8.specs.Unicode.{IsLead};
@@ -8,6 +8,7 @@ ghost use Rattle.wtf8.specs.UnitPosition.{units_of_slice};
 ghost use Rattle.wtf8.specs.View.{view_points, view_units};
 
 use crate::encoding;
+use crate::surrogate_presence::is_below;
 use crate::surrogates::{lead_of, trail_of};
 use crate::view::Wtf8;
 use std::alloc::Allocator;
@@ -233,6 +234,44 @@ fn first_unit(view: Wtf8<'_>) -> Option<u16>
     Some(lead_of(value) as u16)
 }
 
+/// The unit of a number, by a cut. It stands by itself, so that what is ASCII costs little.
+#[inline(never)]
+fn unit_by_cut(view: Wtf8<'_>, index: usize) -> Option<u16>
+    ensures { result ≡ slice_get (view_units view.entry) index }
+{
+    let cut = cut(view, index)?;
+    match cut.divided {
+        None => first_unit(view.slice_from(cut.position)),
+        Some(value) => Some(trail_of(value) as u16),
+    }
+}
+
+/// The unit of a number, if the string begins with a block of ASCII that holds it.
+#[inline(always)]
+fn unit_in_ascii_front(view: Wtf8<'_>, index: usize) -> Option<u16>
+    ensures { IfSome result (λ unit. slice_get (view_units view.entry) index ≡ Some unit) }
+{
+    match view.bytes.len() {
+        0..=3 => None,
+        4..=7 => ascii_unit::<4>(view, index),
+        8..=15 => ascii_unit::<8>(view, index),
+        _ => ascii_unit::<FEW>(view, index),
+    }
+}
+
+/// The unit of a number below `N`, if the first `N` bytes are all ASCII.
+#[inline(always)]
+fn ascii_unit<const N: usize>(view: Wtf8<'_>, index: usize) -> Option<u16>
+    requires lanes { N ≤ 64 }
+    requires room { N ≤ length view.bytes.now }
+    ensures { IfSome result (λ unit. slice_get (view_units view.entry) index ≡ Some unit) }
+{
+    if index < N && is_below(Simd::<u8, N>::from_slice(view.bytes), 0x80) {
+        return Some(u16::from(view.bytes[index]));
+    }
+    None
+}
+
 /// What lies between two numbers of units: code points, and at either end the half of a pair that is divided there.
 #[derive(Clone, Copy)]
 pub struct UnitSlice<'a> {
@@ -258,11 +297,10 @@ impl<'a> Wtf8<'a> {
     pub fn unit_at(&self, index: usize) -> Option<u16>
         ensures { result ≡ slice_get (view_units self.now) index }
     {
-        let cut = cut(*self, index)?;
-        match cut.divided {
-            None => first_unit(self.slice_from(cut.position)),
-            Some(value) => Some(trail_of(value) as u16),
+        if let Some(unit) = unit_in_ascii_front(*self, index) {
+            return Some(unit);
         }
+        unit_by_cut(*self, index)
     }
 
     /// The units from one number to before another. Where either divides a pair, the pair's half stands beside the

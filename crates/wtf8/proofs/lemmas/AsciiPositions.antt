@@ -1,7 +1,8 @@
 -- Proofs of the laws of bytes below 80: each is a code point and a unit by itself.
 use Rattle.wtf8.proofs.Common.{◌≡◌, ◌≢◌, ◌<◌, ◌+◌, ◌-◌, ◌/◌, ◌%◌, ℕ, inl, List, [], ◌∷◌, ◌++◌, length, get_or, refl, ap, ◌∙◌, sym, subst, arith, append_assoc}
 use Rattle.wtf8.proofs.Common.{length-append, append-nil, append_cancel_left, drop_at, All-cons, All-drop, All-head, All-nil, All, units, encoding, bytes}
-use Rattle.wtf8.proofs.Common.{Reads, IsForm, IsFront, IsBack}
+use Rattle.wtf8.proofs.Common.{Reads, IsForm, IsFront, IsBack, slice_get, Some, zero, suc, ◌≤◌, inr, cases_lt, chunk, length-chunk, get_or-chunk}
+use Rattle.wtf8.specs.SurrogateSearch.{HasLane}
 use Rattle.std.proofs.lemmas.List.{append_cancel_right}
 use Rattle.wtf8.specs.PositionLaws.{AsciiStandsAlone, AsciiIsOneUnit, AsciiIsNoOtherUnit}
 use Rattle.wtf8.proofs.lemmas.Encoding.{bytes-pushed, row_of, one, two, three, four}
@@ -9,7 +10,7 @@ use Rattle.wtf8.proofs.lemmas.PositionLaws.{front_and_back}
 use Rattle.wtf8.proofs.lemmas.Positions.{cut_at, front_boundary, boundary_from_byte}
 use Rattle.wtf8.proofs.lemmas.Readings.{well_formed_of}
 use Rattle.wtf8.proofs.lemmas.Splits.{first_behind}
-use Rattle.wtf8.proofs.lemmas.Units.{units-append, units_one, units_two}
+use Rattle.wtf8.proofs.lemmas.Units.{units-append, units_one, units_two, units-cons_one}
 
 -- a byte below 80 as a code point and a unit, with what is in front of it and behind it
 record Stands (u : List ℕ) (k b : ℕ) : Type 0 where
@@ -95,3 +96,25 @@ none_of_points (p ∷ c) b l h =
 pub ascii_no_other_unit : AsciiIsNoOtherUnit
 ascii_no_other_unit w u b form l h =
     subst (All (λ x. x ≢ b)) form.reads.same_units (none_of_points form.points b l (subst (All (λ x. x ≢ b)) (sym form.encoded) h))
+
+-- behind ASCII alone each byte is a unit
+pub ascii_unit : (c : List ℕ) (k : ℕ) → ((j : ℕ) → j < k + 1 → get_or (bytes c) j 0 < 0x80) → k < length (bytes c) → slice_get (units c) k ≡ Some (get_or (bytes c) k 0)
+ascii_unit [] k low long = absurd (omega (arith, long))
+ascii_unit (p ∷ c) zero low long =
+    let own = own_byte p (bytes c) (low 0 (omega arith)) in
+    ap (λ u. slice_get u 0) (units-cons_one p c (omega (arith, own.1))) ∙ ap (λ e. Some (get_or (e ++ bytes c) 0 0)) (sym own.0)
+ascii_unit (p ∷ c) (suc k) low long =
+    let own = own_byte p (bytes c) (low 0 (omega arith)) in
+    let whole : bytes (p ∷ c) ≡ p ∷ bytes c = ap (λ e. e ++ bytes c) own.0 in
+    let behind = ascii_unit c k (λ j l. omega (arith, low (suc j) (omega (arith, l)), ap (λ w. get_or w (suc j) 0) whole)) (omega (arith, long, ap length whole)) in
+    ap (λ u. slice_get u (suc k)) (units-cons_one p c (omega (arith, own.1))) ∙ (behind ∙ ap (λ w. Some (get_or w (suc k) 0)) (sym whole))
+
+-- the bytes of a block that has no lane from 80 on are below
+pub below_lanes : (n : ℕ) (w : List ℕ) → n ≤ length w → ¬ (HasLane 0x80 (chunk 0 n w)) → (j : ℕ) → j < n → get_or w j 0 < 0x80
+below_lanes n w room none j l =
+    let start : 0 + j ≡ j = omega arith in
+    let lane = get_or-chunk 0 n w j 0 l ∙ ap (λ i. get_or w i 0) start in
+    elim (cases_lt (get_or w j 0) 0x80) [
+      | inl low ↦ low
+      | inr high ↦ absurd (none (j, (omega (arith, length-chunk 0 n w (omega (arith, room)), l), omega (arith, lane, high))))
+    ]
