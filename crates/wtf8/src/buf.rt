@@ -225,6 +225,7 @@ impl<A: Allocator> Wtf8Buf<A> {
             0..=0x7F => concat::push_apart(&mut self.bytes, code_point),
             0x80..=0x7FF => concat::push_apart(&mut self.bytes, code_point),
             0x800..=0xD7FF => concat::push_apart(&mut self.bytes, code_point),
+            0x10000.. => concat::push_apart(&mut self.bytes, code_point),
             0xD800..=0xDFFF => {
                 self.is_known_utf8 = false;
                 concat::push_surrogate(&mut self.bytes, code_point)

@@ -50,7 +50,7 @@ pub(crate) fn four_bytes(value: u32) -> [u8; 4]
     ensures { result ≡ encoding value }
 {
     [
-        (0xF0 + value / 262144) as u8,
+        (0xF0 + value / 262144 % 8) as u8,
         six_bits(value / 4096),
         six_bits(value / 64),
         six_bits(value),

@@ -47,8 +47,23 @@ returns-in-2048-to-55295-clause-ok g c =
 pub returns-in-2048-to-55295-clause-kept : goal.returns-in-2048-to-55295-clause-kept
 returns-in-2048-to-55295-clause-kept g c = kept_contents c.push_apart-in-2048-to-55295.result _ _ _ c.self.view_is c.push_apart-in-2048-to-55295.ensures.err
 
-pub invariant_of-self-inside-in_default : goal.invariant_of-self-inside-in_default
-invariant_of-self-inside-in_default g c =
+pub invariant_of-self-inside-in-65536-to-4294967295 : goal.invariant_of-self-inside-in-65536-to-4294967295
+invariant_of-self-inside-in-65536-to-4294967295 g c =
+    let own = c.self.inside in
+    let call = c.push_apart-in-65536-to-4294967295 in
+    known_point call.result (number c.args.code_point) own.is_known_utf8 own.well_formed c.args.code_point.in_range (λ s. omega (arith, s.0, s.1))
+    own.known_scalar call.ensures.ok call.ensures.err
+
+pub returns-in-65536-to-4294967295-clause-ok : goal.returns-in-65536-to-4294967295-clause-ok
+returns-in-65536-to-4294967295-clause-ok g c =
+    gained_units c.push_apart-in-65536-to-4294967295.result _ c.self.inside.well_formed c.self-in-65536-to-4294967295-1.given.0
+    (ap (λ (t : UnitString). t.units) c.self.view_is) c.push_apart-in-65536-to-4294967295.ensures.ok
+
+pub returns-in-65536-to-4294967295-clause-kept : goal.returns-in-65536-to-4294967295-clause-kept
+returns-in-65536-to-4294967295-clause-kept g c = kept_contents c.push_apart-in-65536-to-4294967295.result _ _ _ c.self.view_is c.push_apart-in-65536-to-4294967295.ensures.err
+
+pub invariant_of-self-inside-then-this-lt65536 : goal.invariant_of-self-inside-then-this-lt65536
+invariant_of-self-inside-then-this-lt65536 g c =
     let own = c.self.inside in
     let call = c.push_apart-in_default in
     known_point call.result (number c.args.code_point) own.is_known_utf8 own.well_formed c.args.code_point.in_range (λ s. omega (arith, s.0, s.1))
@@ -56,7 +71,7 @@ invariant_of-self-inside-in_default g c =
 
 pub returns-in_default-clause-ok : goal.returns-in_default-clause-ok
 returns-in_default-clause-ok g c =
-    gained_units c.push_apart-in_default.result _ c.self.inside.well_formed c.self-in_default-1.given.0
+    gained_units c.push_apart-in_default.result _ c.self.inside.well_formed c.self-then-this-lt65536-1.given.0
     (ap (λ (t : UnitString). t.units) c.self.view_is) c.push_apart-in_default.ensures.ok
 
 pub returns-in_default-clause-kept : goal.returns-in_default-clause-kept
