@@ -13,8 +13,7 @@ returns-clause-some g c =
     let at = c.args.at in
     let block = take c.in-Some-write_block.len c.write_block.new.block in
     let enough : 16 ≤ length v - at = omega (arith, c.in-Some.ensures.cases.enough, length-take (length v - at) (drop at v), length-drop at v) in
-    let units : c.in-Some.units.now ≡ take 16 (drop at v) = c.in-Some.ensures.cases.same ∙ take-take 16 (length v - at) (drop at v) enough in
-    (
+    let units : c.in-Some.units.now ≡ take 16 (drop at v) = c.in-Some.ensures.cases.same ∙ take-take 16 (length v - at) (drop at v) enough in (
       written.0,
       omega (arith, written.1, enough, c.requires),
       taken_apart v at taken written.0 written.1 (omega (arith, enough, c.requires)) (subst (λ u. ¬ (IsLead (unit_before u taken))) units written.3),

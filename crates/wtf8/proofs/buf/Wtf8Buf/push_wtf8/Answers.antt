@@ -18,7 +18,7 @@ invariant_of-self-inside g c =
       | then-is_apart+then-holds_surrogate w ↦ absurd (false≢true (subst (λ s. IsTrue s.1.1.0) w.self-inside-is known))
       | else-is_apart w ↦ elim w.else-is_apart.branch [
         | else-is_apart-via-then-is_apart+else-holds_surrogate b ↦
-          (c.self.inside.known_scalar b.if-is_apart.true, scalar_if_none other (b.holds_surrogate.ensures b.if-holds_surrogate.false))
+            (c.self.inside.known_scalar b.if-is_apart.true, scalar_if_none other (b.holds_surrogate.ensures b.if-holds_surrogate.false))
         | else-is_apart-via-else-is_apart b ↦ absurd (false≢true (sym b.if-is_apart.false ∙ subst (λ s. IsTrue s.1.1.0) w.self-inside-is known))
       ]
     ]
