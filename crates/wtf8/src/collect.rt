@@ -1,5 +1,5 @@
 // Code points collected into a string.
-ghost use Rattle.std.specs.Prelude.{◌≡◌, ℕ, List, [], ◌++◌, ◌+◌, ◌≤◌, length, take, IfOk, IfSome, OnOk, OnErr, IsOk, IsTrue};
+ghost use Rattle.std.specs.Prelude.{◌≡◌, ℕ, List, [], ◌++◌, ◌+◌, ◌≤◌, length, take, IfOk, IfSome, OnOk, OnErr, IsOk};
 ghost use Rattle.std.specs.Iterator.{Drains, ExtendsWithItems, IsFinite};
 ghost use Rattle.wtf8.specs.CodePoint.{numbers};
 ghost use Rattle.wtf8.specs.Appending.{AppendsPoints, HasRoomFor};
@@ -10,6 +10,7 @@ ghost use Rattle.wtf8.specs.declared.code_point.CodePoint.{CodePoint};
 
 use crate::buf::Wtf8Buf;
 use crate::code_point::CodePoint;
+use crate::unit_blocks;
 use std::alloc::{AllocError, Allocator};
 use std::simd::prelude::*;
 
@@ -26,23 +27,6 @@ fn first_numbers(points: &[CodePoint]) -> Option<[u32; LANES]>
     Some(front.map(|point| point.to_u32()))
 }
 
-/// Whether all numbers of a block are below 0x80.
-#[inline(always)]
-fn are_ascii(numbers: u32x16) -> bool
-    ensures { IsTrue result → AreAscii numbers }
-{
-    numbers.simd_ge(u32x16::splat(0x80)).to_bitmask() == 0
-}
-
-/// The numbers of a block below 0x80 as bytes.
-#[inline(always)]
-fn narrowed(numbers: u32x16) -> [u8; LANES]
-    requires { AreAscii numbers }
-    ensures { result ≡ numbers }
-{
-    numbers.cast::<u8>().to_array()
-}
-
 /// The bytes of the first sixteen code points, if there are so many and all of them are ASCII.
 #[inline(always)]
 fn ascii_block(points: &[CodePoint]) -> Option<[u8; LANES]>
@@ -50,11 +34,7 @@ fn ascii_block(points: &[CodePoint]) -> Option<[u8; LANES]>
     ensures same { IfSome result (λ block. block ≡ numbers (take 16 points.now)) }
     ensures ascii { IfSome result (λ block. AreAscii block) }
 {
-    let numbers = u32x16::from_array(first_numbers(points)?);
-    if are_ascii(numbers) {
-        return Some(narrowed(numbers));
-    }
-    None
+    unit_blocks::ascii_bytes(u32x16::from_array(first_numbers(points)?))
 }
 
 impl<A: Allocator> Wtf8Buf<A> {

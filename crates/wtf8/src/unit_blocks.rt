@@ -29,21 +29,32 @@ const IN_THREES: [usize; 32] = [
 /// How many units are read one after another before a block is looked at again.
 const PART: usize = 32;
 
-/// Whether all units of a block are below 0x80.
+/// Whether all of sixteen numbers are below 0x80.
 #[inline(always)]
-fn is_ascii(units: u16x16) -> bool
-    ensures { IsTrue result → AreAscii units }
+fn are_ascii(numbers: u32x16) -> bool
+    ensures { IsTrue result → AreAscii numbers }
 {
-    units.simd_ge(u16x16::splat(0x80)).to_bitmask() == 0
+    numbers.simd_ge(u32x16::splat(0x80)).to_bitmask() == 0
 }
 
-/// The units of a block below 0x80 as bytes.
+/// Sixteen numbers below 0x80 as bytes.
 #[inline(always)]
-fn narrowed(units: u16x16) -> [u8; LANES]
-    requires { AreAscii units }
-    ensures { result ≡ units }
+fn narrowed(numbers: u32x16) -> [u8; LANES]
+    requires { AreAscii numbers }
+    ensures { result ≡ numbers }
 {
-    units.cast::<u8>().to_array()
+    numbers.cast::<u8>().to_array()
+}
+
+/// Sixteen numbers as bytes, if all of them are below 0x80.
+#[inline(always)]
+pub(crate) fn ascii_bytes(numbers: u32x16) -> Option<[u8; LANES]>
+    ensures { IfSome result (λ block. AreAscii block × (block ≡ numbers)) }
+{
+    if are_ascii(numbers) {
+        return Some(narrowed(numbers));
+    }
+    None
 }
 
 /// The bytes of the sixteen units from a place on, where there are so many and all of them are ASCII.
@@ -55,11 +66,7 @@ fn ascii_block(v: &[u16], at: usize) -> Option<[u8; LANES]>
     if v.len() - at < LANES {
         return None;
     }
-    let units = u16x16::from_slice(&v[at..]);
-    if is_ascii(units) {
-        return Some(narrowed(units));
-    }
-    None
+    ascii_bytes(u16x16::from_slice(&v[at..]).cast())
 }
 
 /// Whether all of eight units take two bytes.

@@ -4,7 +4,7 @@ use Rattle.wtf8.proofs.Common.{take_at, drop_at, units, encoding, bytes, IsClean
 use Rattle.wtf8.specs.Position.{Splits, IsMiddle}
 use Rattle.wtf8.proofs.lemmas.Clean.{clean-front, clean-back}
 use Rattle.wtf8.proofs.lemmas.Encoding.{Begins, length-encoding_bounds, bytes-append}
-use Rattle.wtf8.proofs.lemmas.Readings.{form_of, reads_same, same_heads, same_points, same_reading, well_formed_of}
+use Rattle.wtf8.proofs.lemmas.Readings.{reads_same, same_heads, same_points, same_reading, well_formed_of}
 use Rattle.wtf8.proofs.lemmas.Splits.{split_at, begins_behind}
 
 -- what is before a position and what is behind it is read as it is in the whole
@@ -104,10 +104,6 @@ begun (p ∷ f) b (q ∷ g) d e n =
     let h = same_heads p q (f ++ b) (g ++ d) e in
     let r = begun f b g d h.1 (omega (arith, length-append (encoding p) (bytes f), length-append (encoding q) (bytes g), ap (λ k. length (encoding k)) h.0)) in
     record { more = r.more; joined = ap (λ k. k ∷ g) (sym h.0) ∙ ap (λ v. p ∷ v) r.joined }
-
--- the front's reading is the front
-front_points : {w v : List ℕ} (h : IsWellFormed w) (k : ℕ) (p : IsWellFormed v) (f : IsFront (units h.points) k (units p.points)) → p.points ≡ f.front
-front_points h k p f = reads_same (form_of p).reads (front_reads f)
 
 -- the back of a front is the middle
 pub middle_of : {w v : List ℕ} (h : IsWellFormed w) (begin end : ℕ) (p : IsWellFormed v) {u : List ℕ} → IsFront (units h.points) end (units p.points)

@@ -1,5 +1,5 @@
 -- Surrogates replaced by U+FFFD: the lossy list, and bytes in which it is written over them one by one.
-use Rattle.wtf8.proofs.Common.{◌≡◌, ◌≤◌, ◌+◌, ℕ, List, [], ◌∷◌, ◌++◌, length, take, drop, refl, ap, ◌∙◌, sym, subst, arith, append_assoc, length-append, lit≤}
+use Rattle.wtf8.proofs.Common.{◌≡◌, ◌≤◌, ◌+◌, ℕ, List, [], ◌∷◌, ◌++◌, length, take, drop, ap, ◌∙◌, sym, subst, arith, append_assoc, length-append, lit≤}
 use Rattle.wtf8.proofs.Common.{lit<, append_cancel_left, take_at, drop_at, IsUtf8, IsSurrogate, encoding, bytes, IsClean, IsWellFormed, AreScalar}
 use Rattle.wtf8.proofs.Common.{lossy, SurrogateAt, IsLeast}
 use Rattle.wtf8.proofs.lemmas.Clean.{clean-front, clean-rest, clean-back}
@@ -15,9 +15,6 @@ pub record Replacing (c w : List ℕ) (from : ℕ) : Type 0 where
   pub joined : c ≡ done ++ rest
   pub so_far : w ≡ bytes (lossy done ++ rest)
   pub place : length (bytes (lossy done)) ≡ from
-
-pub replacing_start : {w : List ℕ} (h : IsWellFormed w) → Replacing h.points w 0
-replacing_start h = record { done = []; rest = h.points; joined = refl; so_far = sym h.encoded; place = refl }
 
 pub replacing_end : (c w : List ℕ) (from : ℕ) → Replacing c w from → ((j : ℕ) → from ≤ j → ¬ (SurrogateAt w j)) → w ≡ bytes (lossy c)
 replacing_end c w from r none =

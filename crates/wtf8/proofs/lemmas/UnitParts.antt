@@ -57,12 +57,10 @@ ascii_form u h = record {
   scalar = λ _. are_scalar u (ascii_scalars u h);
 }
 
-pub ascii_block : (u w : List ℕ) (at : ℕ) → at + 16 ≤ length u → AreAscii (take 16 (drop at u)) → w ≡ take 16 (drop at u) → IsBlock u at 16 w
-ascii_block u w at within h e = record {
-  within = within;
-  scalars = ascii_scalars (take 16 (drop at u)) h;
-  encoded = e ∙ sym (ascii_bytes (take 16 (drop at u)) h);
-}
+pub ascii_block : (u w : List ℕ) (at : ℕ) → at + 16 ≤ length u → AreAscii w → w ≡ take 16 (drop at u) → IsBlock u at 16 w
+ascii_block u w at within h e =
+    let ascii = subst AreAscii e h in
+    record { within = within; scalars = ascii_scalars (take 16 (drop at u)) ascii; encoded = e ∙ sym (ascii_bytes (take 16 (drop at u)) ascii) }
 
 pub nothing_read : {w : List ℕ} (known : Bool) → w ≡ [] → IsKnownForm w [] known
 nothing_read known e = record { form = record { points = []; reads = record { clean = tt; same_units = refl }; encoded = sym e }; scalar = λ _. tt }

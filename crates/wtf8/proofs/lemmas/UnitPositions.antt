@@ -1,6 +1,6 @@
 -- Positions counted in units: places among bytes, and the code points that are there.
 use Rattle.wtf8.proofs.Common.{◌≡◌, ℕ, ◌+◌, ◌-◌, ◌/◌, ◌%◌, ◌<◌, ◌≤◌, inl, inr, List, [], ◌∷◌, ◌++◌, length, take, drop, get_or, refl, sym, ap, ◌∙◌, arith}
-use Rattle.wtf8.proofs.Common.{length-append, take-add, cases_lt, take_at, drop_at, get_or-append_right, chunk, units, units_of, encoding, bytes, units_begun}
+use Rattle.wtf8.proofs.Common.{length-append, take-add, cases_lt, take_at, get_or-append_right, chunk, units, units_of, encoding, bytes, units_begun}
 use Rattle.wtf8.proofs.Common.{all_units_begun, IsPlaceOfUnit}
 use Rattle.std.proofs.lemmas.List.Sums.{sum_by-append, sum_by_more}
 use Rattle.wtf8.proofs.lemmas.Encoding.{Begins, row_of, one, two, three, four, length-encoding_bounds, bytes-append}
@@ -64,8 +64,6 @@ pub record PointsAbout (c : List ℕ) (n place before : ℕ) : Type 0 where
   pub back : List ℕ
   pub joined : c ≡ front ++ back
   pub front_len : length (bytes front) ≡ place
-  pub before_place : take place (bytes c) ≡ bytes front
-  pub from_place : drop place (bytes c) ≡ bytes back
   pub counted : length (units front) ≡ before
   pub not_beyond : before ≤ n
   pub holds : (p : ℕ) (rest : List ℕ) → back ≡ p ∷ rest → n < before + length (units_of p)
@@ -83,8 +81,6 @@ points_about c n place before h =
       back = cut.back;
       joined = cut.joined;
       front_len = cut.front_len;
-      before_place = front;
-      from_place = ap (drop place) whole ∙ drop_at (bytes cut.front) (bytes cut.back) place cut.front_len;
       counted = sym (begun_bytes cut.front) ∙ (ap all_units_begun (sym front) ∙ sym h.counted);
       not_beyond = h.not_beyond;
       holds = λ p rest e.

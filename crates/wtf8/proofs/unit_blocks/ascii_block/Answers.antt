@@ -1,6 +1,8 @@
-use Rattle.std.proofs.Common.{arith}
+use Rattle.std.proofs.Common.{arith, ◌∙◌}
+use Rattle.std.proofs.lemmas.List.{map-id}
+use Rattle.std.proofs.lemmas.Option.{IfSome_then}
 use Rattle.wtf8.proofs.lemmas.UnitParts.{ascii_block}
 use Rattle.wtf8.proofs.unit_blocks.ascii_block.Goals as goal
 
-pub returns-then-is_ascii : goal.returns-then-is_ascii
-returns-then-is_ascii c = ascii_block c.args.v.now c.narrowed.result c.args.at (omega arith) (c.is_ascii.ensures c.if-is_ascii.true) c.narrowed.ensures
+pub returns : goal.returns
+returns c = IfSome_then c.ascii_bytes.result c.ascii_bytes.ensures (λ w h. ascii_block c.args.v.now w c.args.at (omega arith) h.0 (h.1 ∙ map-id _))
