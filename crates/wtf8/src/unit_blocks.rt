@@ -1,5 +1,5 @@
 // Code units turned into bytes: sixteen of ASCII, or eight of two or of three bytes together, any others one after another.
-ghost use Rattle.std.specs.Prelude.{◌≡◌, List, [], ◌-◌, ◌<◌, ◌≤◌, length, take, drop, IfOk, IfSome, IsOk, IsTrue};
+ghost use Rattle.std.specs.Prelude.{◌≡◌, List, [], ◌+◌, ◌-◌, ◌<◌, ◌≤◌, length, take, drop, IfOk, IfSome, IsOk, IsTrue};
 ghost use Rattle.wtf8.specs.Form.{bytes as bytes_of};
 ghost use Rattle.wtf8.specs.UnitParts.{AppendsForm, IsKnownForm, DividesNoPair, AreAscii, AreTwoByteUnits, AreThreeByteUnits, IsBlock};
 
@@ -28,6 +28,20 @@ const IN_THREES: [usize; 32] = [
 
 /// How many units are read one after another before a block is looked at again.
 const PART: usize = 32;
+
+/// The `N` units from a place on, where there are so many.
+#[inline(always)]
+fn units_from<const N: usize>(v: &[u16], at: usize) -> Option<[u16; N]>
+    requires lanes { N ≤ 64 }
+    requires within { at ≤ length v.now }
+    ensures within { IfSome result (λ _. at + N ≤ length v.now) }
+    ensures same { IfSome result (λ units. units ≡ take N (drop at v.now)) }
+{
+    if v.len() - at < N {
+        return None;
+    }
+    Some(Simd::<u16, N>::from_slice(&v[at..]).to_array())
+}
 
 /// Whether all of sixteen numbers are below 0x80.
 #[inline(always)]
@@ -63,10 +77,7 @@ fn ascii_block(v: &[u16], at: usize) -> Option<[u8; LANES]>
     requires { at ≤ length v.now }
     ensures { IfSome result (λ block. IsBlock v.now at LANES block) }
 {
-    if v.len() - at < LANES {
-        return None;
-    }
-    ascii_bytes(u16x16::from_slice(&v[at..]).cast())
+    ascii_bytes(u16x16::from_array(units_from(v, at)?).cast())
 }
 
 /// Whether all of eight units take two bytes.
@@ -104,12 +115,9 @@ fn two_byte_block(v: &[u16], at: usize) -> Option<[u8; 16]>
     requires { at ≤ length v.now }
     ensures { IfSome result (λ block. IsBlock v.now at HALF block) }
 {
-    if v.len() - at < HALF {
-        return None;
-    }
-    let units = u16x8::from_slice(&v[at..]);
-    if take_two_bytes(units) {
-        return Some(two_bytes_each(units.to_array()));
+    let units = units_from(v, at)?;
+    if take_two_bytes(u16x8::from_array(units)) {
+        return Some(two_bytes_each(units));
     }
     None
 }
@@ -156,12 +164,9 @@ fn three_byte_block(v: &[u16], at: usize) -> Option<[u8; 32]>
     requires { at ≤ length v.now }
     ensures { IfSome result (λ block. IsBlock v.now at HALF (take 24 block)) }
 {
-    if v.len() - at < HALF {
-        return None;
-    }
-    let units = u16x8::from_slice(&v[at..]);
-    if take_three_bytes(units) {
-        return Some(three_bytes_each(units.to_array()));
+    let units = units_from(v, at)?;
+    if take_three_bytes(u16x8::from_array(units)) {
+        return Some(three_bytes_each(units));
     }
     None
 }

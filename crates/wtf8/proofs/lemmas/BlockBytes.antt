@@ -1,6 +1,6 @@
 -- Blocks of units as bytes: the rows of two and of three bytes that are written, and the bytes of the units.
-use Rattle.wtf8.proofs.Common.{◌≡◌, ℕ, ◌+◌, ◌/◌, ◌%◌, ◌<◌, ◌≤◌, List, [], ◌∷◌, ◌++◌, length, take, drop, refl, sym, ap, ◌∙◌, arith, flat_map, Each1-weaker}
-use Rattle.wtf8.proofs.Common.{bytes, encoding, IsSurrogate, AreTwoByteUnits, AreThreeByteUnits, IsBlock}
+use Rattle.wtf8.proofs.Common.{◌≡◌, ℕ, ◌+◌, ◌/◌, ◌%◌, List, [], ◌∷◌, ◌++◌, refl, sym, ap, ◌∙◌, arith, flat_map}
+use Rattle.wtf8.proofs.Common.{bytes, encoding, AreTwoByteUnits, AreThreeByteUnits}
 use Rattle.wtf8.proofs.lemmas.Encoding.{encoding_two, encoding_three, third_row}
 
 -- the two bytes that a unit from 80 to 7FF has
@@ -17,14 +17,6 @@ two_byte_rows (x ∷ xs) h =
 pub by_two_byte_rows : {w : List ℕ} (xs : List ℕ) → AreTwoByteUnits xs → w ≡ flat_map two_byte_row xs → w ≡ bytes xs
 by_two_byte_rows xs h e = e ∙ two_byte_rows xs h
 
-pub two_byte_block : (u w : List ℕ) (at : ℕ) → at + 8 ≤ length u → AreTwoByteUnits (take 8 (drop at u)) → w ≡ bytes (take 8 (drop at u)) → IsBlock u at 8 w
-two_byte_block u w at within h e = record {
-  within = within;
-  scalars = Each1-weaker (λ n. (0x80 ≤ n) × (n < 0x800)) (λ n. (n < 0x10000) × ¬ (IsSurrogate n)) (λ n k. (omega (arith, k.1), λ s. omega (arith, k.1, s.0)))
-      (take 8 (drop at u)) h;
-  encoded = e;
-}
-
 -- their rows are their encodings
 third_rows : (xs : List ℕ) → AreThreeByteUnits xs → flat_map third_row xs ≡ bytes xs
 third_rows [] h = refl
@@ -32,11 +24,3 @@ third_rows (x ∷ xs) h = ap (λ w. w ++ flat_map third_row xs) (sym (encoding_t
 
 pub by_rows : {w : List ℕ} (xs : List ℕ) → AreThreeByteUnits xs → w ≡ flat_map third_row xs → w ≡ bytes xs
 by_rows xs h e = e ∙ third_rows xs h
-
-pub three_byte_block : (u w : List ℕ) (at : ℕ) → at + 8 ≤ length u → AreThreeByteUnits (take 8 (drop at u)) → w ≡ bytes (take 8 (drop at u)) → IsBlock u at 8 w
-three_byte_block u w at within h e = record {
-  within = within;
-  scalars = Each1-weaker (λ n. (0x800 ≤ n) × (n < 0x10000) × ¬ (IsSurrogate n)) (λ n. (n < 0x10000) × ¬ (IsSurrogate n)) (λ n k. (k.1, k.2))
-      (take 8 (drop at u)) h;
-  encoded = e;
-}
