@@ -5,7 +5,7 @@ use std::alloc::{AllocError, Allocator};
 use std::simd::prelude::*;
 
 /// How many bytes the call that takes any number copies as fast.
-const MANY: usize = 64;
+const MANY: usize = 32;
 
 /// A copy of bytes. Of none it asks for no memory.
 #[inline(always)]
@@ -22,26 +22,20 @@ pub(crate) fn copied<A: Allocator>(alloc: A, bytes: &[u8]) -> Result<Vec<u8, A>,
     Ok(copy)
 }
 
-/// Appends fewer than 64 bytes, for which there is room.
+/// Appends fewer than 32 bytes, for which there is room.
 #[inline(always)]
 fn push_few<A: Allocator>(bytes: &mut Vec<u8, A>, other: &[u8])
-    requires few { length other.now < 64 }
+    requires few { length other.now < 32 }
     requires room { length bytes.old.items + length other.now ≤ vec_capacity bytes.old }
     ensures { bytes.new.items ≡ bytes.old.items ++ other.now }
 {
-    let len = other.len();
-    if 32 <= len {
-        push_ends::<32, A>(bytes, other);
-    } else if 16 <= len {
-        push_ends::<16, A>(bytes, other);
-    } else if 8 <= len {
-        push_ends::<8, A>(bytes, other);
-    } else if 4 <= len {
-        push_ends::<4, A>(bytes, other);
-    } else if 2 <= len {
-        push_ends::<2, A>(bytes, other);
-    } else if len == 1 {
-        push_ends::<1, A>(bytes, other);
+    match other.len() {
+        0 => {}
+        1 => push_ends::<1, A>(bytes, other),
+        2..=3 => push_ends::<2, A>(bytes, other),
+        4..=7 => push_ends::<4, A>(bytes, other),
+        8..=15 => push_ends::<8, A>(bytes, other),
+        _ => push_ends::<16, A>(bytes, other),
     }
 }
 
