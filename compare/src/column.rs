@@ -124,6 +124,7 @@ macro_rules! column {
                     black_box(Wtf8Buf::$from_units(&units)).len() as u64
                 }
 
+                #[inline(never)]
                 fn push(&self) -> u64 {
                     let mut string = Wtf8Buf::new();
                     for point in black_box(&self.points) {
@@ -132,6 +133,7 @@ macro_rules! column {
                     black_box(string).len() as u64
                 }
 
+                #[inline(never)]
                 fn push_string(&self, rounds: u32) -> u64 {
                     let mut string = Wtf8Buf::new();
                     for round in 0..rounds {
@@ -144,6 +146,8 @@ macro_rules! column {
                 }
             }
 
+            /// Each loop is a function of its own, so that where its code lies does not depend on the other loops.
+            #[inline(never)]
             fn sum(rounds: u32, answer: impl Fn(u32) -> u64) -> u64 {
                 (0..rounds).fold(0, |sum, round| sum.wrapping_add(answer(round)))
             }

@@ -97,7 +97,9 @@ impl Bench {
         }
     }
 
-    /// The sum of what is answered on each round's string and another one, which wraps round.
+    /// The sum of what is answered on each round's string and another one, which wraps round. Each loop is a function of its
+    /// own, so that where its code lies does not depend on the other loops.
+    #[inline(never)]
     fn sum<F: Fn(&Counted, &Counted) -> Result<u64, AllocError>>(
         &self,
         answer: F,
@@ -117,6 +119,7 @@ impl Bench {
     }
 
     /// The length of a string of all code points, pushed one by one.
+    #[inline(never)]
     fn push(&self) -> Result<u64, AllocError> {
         let mut string = Wtf8Buf::new(self.alloc);
         for point in &self.points {
@@ -127,6 +130,7 @@ impl Bench {
 
     /// The sum of the lengths of empty strings that are extended by the code points of each round's string. The loop stands
     /// here since the same one over a closure takes an instruction more for each code point.
+    #[inline(never)]
     fn extend(&self) -> Result<u64, AllocError> {
         let mut sum = 0u64;
         for round in 0..self.rounds {
@@ -138,6 +142,7 @@ impl Bench {
     }
 
     /// The length of the last string that was pushed to, up to 64 times each.
+    #[inline(never)]
     fn push_strings(&self) -> Result<u64, AllocError> {
         let mut string = Wtf8Buf::new(self.alloc);
         for round in 0..self.rounds {

@@ -425,11 +425,7 @@ impl<A: Allocator> Wtf8Buf<A> {
         if self.is_known_utf8 {
             return None;
         }
-        // What was cut out of another string may begin with a trail.
-        if search::begins_with_surrogate(&self.bytes) {
-            return Some(0);
-        }
-        search::first_surrogate(&self.bytes, 0)
+        surrogate_presence::first_surrogate(&self.bytes)
     }
 }
 

@@ -14,8 +14,8 @@ use crate::view::Wtf8;
 use crate::{encoding, surrogates};
 use std::alloc::{AllocError, Allocator};
 
-/// Makes of the lead surrogate that ends the bytes and of a trail the code point that they stand for: its fourth byte
-/// is appended, then the lead's three bytes are overwritten. After a refusal the bytes are as before.
+/// Makes of the lead surrogate that ends the bytes and of a trail the code point that they stand for: room for its fourth
+/// byte is found, then the lead's three bytes are overwritten. After a refusal the bytes are as before.
 fn join<A: Allocator>(bytes: &mut Vec<u8, A>, lead: u32, trail: u32) -> Result<(), AllocError>
     requires lead { IsLead lead }
     requires trail { IsTrail trail }
@@ -27,8 +27,9 @@ fn join<A: Allocator>(bytes: &mut Vec<u8, A>, lead: u32, trail: u32) -> Result<(
 {
     let joined = encoding::four_bytes(surrogates::joined(lead, trail));
     let start = bytes.len() - 3;
-    bytes.push(joined[3])?;
+    bytes.reserve(1)?;
     bytes[start..start + 3].copy_from_slice(&joined[..3]);
+    bytes.push_reserved(joined[3]);
     Ok(())
 }
 

@@ -29,13 +29,19 @@ fn push_few<A: Allocator>(bytes: &mut Vec<u8, A>, other: &[u8])
     requires room { length bytes.old.items + length other.now ≤ vec_capacity bytes.old }
     ensures { bytes.new.items ≡ bytes.old.items ++ other.now }
 {
-    match other.len() {
-        0 => {}
-        1 => push_ends::<1, A>(bytes, other),
-        2..=3 => push_ends::<2, A>(bytes, other),
-        4..=7 => push_ends::<4, A>(bytes, other),
-        8..=15 => push_ends::<8, A>(bytes, other),
-        _ => push_ends::<16, A>(bytes, other),
+    let count = other.len();
+    if 8 <= count {
+        if 16 <= count {
+            push_ends::<16, A>(bytes, other)
+        } else {
+            push_ends::<8, A>(bytes, other)
+        }
+    } else if 4 <= count {
+        push_ends::<4, A>(bytes, other)
+    } else if 2 <= count {
+        push_ends::<2, A>(bytes, other)
+    } else if count == 1 {
+        push_ends::<1, A>(bytes, other)
     }
 }
 

@@ -28,18 +28,45 @@ pub(crate) fn holds_surrogate(bytes: &[u8]) -> bool
     holds_surrogate_in_many(bytes)
 }
 
+/// The place of the first surrogate. What was cut out of another string may begin with a trail; of other short bytes it
+/// is asked first whether any can begin one.
+#[inline(always)]
+pub(crate) fn first_surrogate(bytes: &[u8]) -> Option<usize>
+    ensures { IsFirst (SurrogateAt bytes.now) 0 result }
+{
+    if search::begins_with_surrogate(bytes) {
+        return Some(0);
+    }
+    if is_short_and_below(bytes) {
+        return None;
+    }
+    first_surrogate_in_many(bytes)
+}
+
+/// The same, however many.
+#[inline(never)]
+fn first_surrogate_in_many(bytes: &[u8]) -> Option<usize>
+    ensures { IsFirst (SurrogateAt bytes.now) 0 result }
+{
+    search::first_surrogate(bytes, 0)
+}
+
 /// Whether there are 4 to 64 bytes, none of which can begin a surrogate.
 #[inline(always)]
 fn is_short_and_below(bytes: &[u8]) -> bool
     ensures { IsTrue result → IsFirst (SurrogateAt bytes.now) 0 None }
 {
-    match bytes.len() {
-        4..=7 => are_ends_below::<4>(bytes),
-        8..=16 => are_ends_below::<8>(bytes),
-        17..=32 => are_ends_below::<16>(bytes),
-        33..=64 => are_ends_below::<32>(bytes),
-        _ => false,
+    let count = bytes.len();
+    if count <= 16 {
+        if count < 8 {
+            return 4 <= count && are_ends_below::<4>(bytes);
+        }
+        return are_ends_below::<8>(bytes);
     }
+    if count <= 32 {
+        return are_ends_below::<16>(bytes);
+    }
+    count <= 64 && are_ends_below::<32>(bytes)
 }
 
 /// The same, where the first `N` bytes and the last `N` are all.

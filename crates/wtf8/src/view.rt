@@ -14,7 +14,7 @@ ghost use Rattle.wtf8.specs.Units.{unread_units};
 
 use crate::code_point::CodePoint;
 use crate::iters::{IllFormedUtf16CodeUnits, Wtf8CodePoints};
-use crate::{digits, encoding, search};
+use crate::{digits, encoding, search, surrogate_presence};
 use std::alloc::{AllocError, Allocator};
 use std::borrow::CowStr;
 
@@ -179,12 +179,13 @@ impl<'a> Wtf8<'a> {
     }
 
     /// The same bytes as text, or `None` exactly where the string holds a surrogate. It asks for no memory.
+    #[inline(always)]
     pub fn as_str(&self) -> Option<&'a str>
         ensures some { IsSome result ↔ AreScalar (view_points self.now) }
         ensures units { IsSome result ↔ ((c : List ℕ) → Reads c (view_units self.now) → AreScalar c) }
         ensures bytes { IfSome result (λ t. t.now ≡ self.now.bytes.now) }
     {
-        match search::first_surrogate(self.bytes, 0) {
+        match surrogate_presence::first_surrogate(self.bytes) {
             None => Some(unsafe { str::from_utf8_unchecked(self.bytes) }),
             Some(_) => None,
         }
