@@ -16,7 +16,9 @@ ghost use Rattle.wtf8.specs.View.{view_points, view_units};
 
 use crate::code_point::CodePoint;
 use crate::view::Wtf8;
-use crate::{concat, copies, search, surrogate_presence, surrogates, unit_blocks, unit_positions};
+use crate::{
+    concat, copies, encoding, search, surrogate_presence, surrogates, unit_blocks, unit_positions,
+};
 use std::alloc::{AllocError, Allocator};
 use std::marker::Model;
 
@@ -172,7 +174,7 @@ impl<A: Allocator> Wtf8Buf<A> {
         ensures room { length self.old.bytes + additional ≤ self.old.capacity → IsOk result }
         ensures capacity { self.old.capacity ≤ self.new.capacity }
     {
-        self.bytes.reserve(additional)
+        encoding::reserve(&mut self.bytes, additional)
     }
 
     /// How many bytes fit without a growth: at least the length.
@@ -220,17 +222,19 @@ impl<A: Allocator> Wtf8Buf<A> {
         ensures room { HasRoomFor self.old (units_of (number code_point)) → IsOk result }
         ensures capacity { self.old.capacity ≤ self.new.capacity }
     {
+        // The length is looked up before the row is chosen, so that a loop can keep it in a register.
+        let spare = encoding::spare_room(&self.bytes);
         // Each row has an append of its own, in which the compiler knows how many bytes are written.
         match code_point.to_u32() {
-            0..=0x7F => concat::push_apart(&mut self.bytes, code_point),
-            0x80..=0x7FF => concat::push_apart(&mut self.bytes, code_point),
-            0x800..=0xD7FF => concat::push_apart(&mut self.bytes, code_point),
-            0x10000.. => concat::push_apart(&mut self.bytes, code_point),
+            0..=0x7F => concat::push_apart(&mut self.bytes, spare, code_point),
+            0x80..=0x7FF => concat::push_apart(&mut self.bytes, spare, code_point),
+            0x800..=0xD7FF => concat::push_apart(&mut self.bytes, spare, code_point),
+            0x10000.. => concat::push_apart(&mut self.bytes, spare, code_point),
             0xD800..=0xDFFF => {
                 self.is_known_utf8 = false;
                 concat::push_surrogate(&mut self.bytes, code_point)
             }
-            _ => concat::push_apart(&mut self.bytes, code_point),
+            _ => concat::push_apart(&mut self.bytes, spare, code_point),
         }
     }
 

@@ -48,12 +48,14 @@ fn joining_lead(view: Wtf8<'_>, code_point: CodePoint) -> Option<u32>
     }
 }
 
-/// Appends a code point that joins nothing: it is no trail surrogate, or no lead ends the bytes.
+/// Appends a code point that joins nothing: it is no trail surrogate, or no lead ends the bytes. It is told the spare room.
 #[inline(always)]
 pub(crate) fn push_apart<A: Allocator>(
     bytes: &mut Vec<u8, A>,
+    spare: usize,
     code_point: CodePoint,
 ) -> Result<(), AllocError>
+    requires spare { vec_len bytes.old + spare ≡ vec_capacity bytes.old }
     requires well_formed { IsWellFormed bytes.old.items }
     requires apart { (h : IsWellFormed bytes.old.items) → ¬ (MeetsAsPair h.points (number code_point ∷ [])) }
     ensures ok { OnOk result (GainsUnits bytes.old.items bytes.new.items (units_of (number code_point))) }
@@ -61,7 +63,7 @@ pub(crate) fn push_apart<A: Allocator>(
     ensures room { FitsUnits bytes.old.items (units_of (number code_point)) (vec_capacity bytes.old) → IsOk result }
     ensures capacity { vec_capacity bytes.old ≤ vec_capacity bytes.new }
 {
-    encoding::append(bytes, code_point)
+    encoding::append_into(bytes, spare, code_point)
 }
 
 /// Appends a surrogate to well-formed bytes, a trail behind a lead as the code point that the two stand for.
@@ -79,7 +81,10 @@ pub(crate) fn push_surrogate<A: Allocator>(
     let view = Wtf8::from_well_formed(bytes.as_slice());
     match joining_lead(view, code_point) {
         Some(lead) => join(bytes, lead, code_point.to_u32()),
-        None => push_apart(bytes, code_point),
+        None => {
+            let spare = encoding::spare_room(bytes);
+            push_apart(bytes, spare, code_point)
+        }
     }
 }
 
@@ -166,7 +171,8 @@ pub(crate) fn push_scalar<A: Allocator>(bytes: &mut Vec<u8, A>, c: char) -> Resu
     ensures room { FitsUnits bytes.old.items (units_of c) (vec_capacity bytes.old) → IsOk result }
     ensures capacity { vec_capacity bytes.old ≤ vec_capacity bytes.new }
 {
-    push_apart(bytes, CodePoint::from_u32_unchecked(u32::from(c)))
+    let spare = encoding::spare_room(bytes);
+    push_apart(bytes, spare, CodePoint::from_u32_unchecked(u32::from(c)))
 }
 
 /// Appends a text, none of whose characters joins anything.

@@ -57,9 +57,51 @@ pub(crate) fn four_bytes(value: u32) -> [u8; 4]
     ]
 }
 
+/// How many bytes there is room for behind those that are there.
+#[inline(always)]
+pub(crate) fn spare_room<A: Allocator>(bytes: &Vec<u8, A>) -> usize
+    ensures { vec_len bytes.now + result ≡ vec_capacity bytes.now }
+{
+    bytes.capacity() - bytes.len()
+}
+
+/// Finds room for some bytes, which are as before. Their number is compared behind that, so that the compiler knows it in a
+/// loop that follows, and keeps it in a register.
+#[inline(always)]
+pub(crate) fn reserve<A: Allocator>(bytes: &mut Vec<u8, A>, count: usize) -> Result<(), AllocError>
+    ensures items { bytes.new.items ≡ bytes.old.items }
+    ensures ok { OnOk result (vec_len bytes.new + count ≤ vec_capacity bytes.new) }
+    ensures room { vec_len bytes.old + count ≤ vec_capacity bytes.old → IsOk result }
+    ensures capacity { vec_capacity bytes.old ≤ vec_capacity bytes.new }
+{
+    let len = bytes.len();
+    bytes.reserve(count)?;
+    bytes.truncate(len);
+    Ok(())
+}
+
+/// Finds room for some bytes where the spare room is not enough. The bytes are as before.
+#[inline(always)]
+fn find_room<A: Allocator>(
+    bytes: &mut Vec<u8, A>,
+    spare: usize,
+    count: usize,
+) -> Result<(), AllocError>
+    requires { vec_len bytes.old + spare ≡ vec_capacity bytes.old }
+    ensures items { bytes.new.items ≡ bytes.old.items }
+    ensures len { vec_len bytes.new ≡ vec_len bytes.old }
+    ensures ok { OnOk result (vec_len bytes.new + count ≤ vec_capacity bytes.new) }
+    ensures room { vec_len bytes.old + count ≤ vec_capacity bytes.old → IsOk result }
+    ensures capacity { vec_capacity bytes.old ≤ vec_capacity bytes.new }
+{
+    if count <= spare {
+        return Ok(());
+    }
+    bytes.reserve(count)
+}
+
 /// Appends the encoding of a code point, whatever stands before it. After a refusal the bytes are as before.
 #[inline(always)]
-#[tactic(auto, using(crate::proofs::lemmas::Encoding::encoding_one))]
 pub(crate) fn append<A: Allocator>(
     bytes: &mut Vec<u8, A>,
     code_point: CodePoint,
@@ -69,18 +111,36 @@ pub(crate) fn append<A: Allocator>(
     ensures room { vec_len bytes.old + length (encoding (number code_point)) ≤ vec_capacity bytes.old → IsOk result }
     ensures capacity { vec_capacity bytes.old ≤ vec_capacity bytes.new }
 {
+    let spare = spare_room(bytes);
+    append_into(bytes, spare, code_point)
+}
+
+/// The same where the spare room is known.
+#[inline(always)]
+#[tactic(auto, using(crate::proofs::lemmas::Encoding::encoding_one))]
+pub(crate) fn append_into<A: Allocator>(
+    bytes: &mut Vec<u8, A>,
+    spare: usize,
+    code_point: CodePoint,
+) -> Result<(), AllocError>
+    requires { vec_len bytes.old + spare ≡ vec_capacity bytes.old }
+    ensures ok { OnOk result (bytes.new.items ≡ bytes.old.items ++ encoding (number code_point)) }
+    ensures err { OnErr result (bytes.new.items ≡ bytes.old.items) }
+    ensures room { vec_len bytes.old + length (encoding (number code_point)) ≤ vec_capacity bytes.old → IsOk result }
+    ensures capacity { vec_capacity bytes.old ≤ vec_capacity bytes.new }
+{
     let value = code_point.to_u32();
     if value < 0x80 {
-        bytes.reserve(1)?;
+        find_room(bytes, spare, 1)?;
         bytes.push_reserved(value as u8);
     } else if value < 0x800 {
         let [first, second] = two_bytes(value);
-        bytes.reserve(2)?;
+        find_room(bytes, spare, 2)?;
         bytes.push_reserved(first);
         bytes.push_reserved(second);
     } else if value < 0x10000 {
         let [first, second, third] = three_bytes(value);
-        bytes.reserve(3)?;
+        find_room(bytes, spare, 3)?;
         bytes.push_reserved(first);
         bytes.push_reserved(second);
         bytes.push_reserved(third);
