@@ -1,14 +1,12 @@
 -- What units add one after another: the rows of a piece, and the two numbers that spell it.
 use Rattle.wtf8.proofs.Common.{◌≡◌, ℕ, zero, suc, ◌+◌, ◌-◌, ◌*◌, ◌/◌, ◌%◌, ◌<◌, ◌≤◌, List, [], ◌∷◌, ◌++◌, length, take, get_or, map, replicate, zip2, Each1, Fits, refl, sym, ap, ◌∙◌, arith}
-use Rattle.wtf8.proofs.Common.{lt-ltb, le-ltb, subst, cases_lt, inl, inr, ◌↔◌, Bool, true, false, not, eqb, eqb-true, eq-eqb, false≢true}
-use mathlib.Core.Bool.{beq}
-use Rattle.wtf8.specs.Unicode.{IsLead, IsTrail}
+use Rattle.wtf8.proofs.Common.{lt-ltb, le-ltb, subst, cases_lt, inl, inr}
 use Rattle.std.proofs.Math.ListN.{set}
 use Rattle.std.specs.Int.{w16, w32, to_le_bytes}
 use lib.Lanes.{Each2}
 use Rattle.std.proofs.Math.Seq.{take-append-add}
 use Rattle.std.proofs.lemmas.List.{length-take-le, take-append-le, get_or-set_same, get_or-set_other}
-use Rattle.wtf8.specs.UnitPieces.{piece, pieces, spelled, all_spelled, unit_before, IsSpelled, ArePaired, AreJoined}
+use Rattle.wtf8.specs.UnitPieces.{piece, pieces, spelled, all_spelled, unit_before, IsSpelled, AreJoined}
 
 pub piece_one : (b x : ℕ) → x < 0x80 → piece b x ≡ x ∷ []
 unfolding piece
@@ -127,26 +125,3 @@ same_pieces u fronts backs numbers (suc n) m j h =
 pub joined_small : (u fronts backs numbers : List ℕ) → AreJoined fronts backs numbers → ((i : ℕ) → i < 16 → IsSpelled u fronts backs i)
     → (i : ℕ) → i < 16 → get_or numbers i 0 < 0x4000000
 joined_small u fronts backs numbers j h i l = omega (arith, (j i l).1, (h i l).small)
-
--- one more unit that is a trail exactly where it stands behind a lead
-pub next_paired : (u : List ℕ) (n : ℕ) → ArePaired u n → IsTrail (get_or u n 0) ↔ IsLead (unit_before u n) → ArePaired u (n + 1)
-next_paired u n h p i l = elim (cases_lt i n) [
-  | inl k ↦ h i k
-  | inr k ↦
-      let here : n ≡ i = omega (arith, l, k) in
-      subst (λ j. IsTrail (get_or u j 0) ↔ IsLead (unit_before u j)) here p
-]
-
-agree : (a b : Bool) → not (beq a b) ≡ false → a ≡ b
-agree true true e = refl
-agree false false e = refl
-agree true false e = absurd (false≢true (sym e))
-agree false true e = absurd (false≢true (sym e))
-
--- two tests that agree: whether a unit is a trail, and whether the one before it is a lead
-pub tests_agree : (unit before : ℕ) → not (beq (eqb (unit / 1024) 55) (eqb (before / 1024) 54)) ≡ false → IsTrail unit ↔ IsLead before
-tests_agree unit before e =
-    let same = agree (eqb (unit / 1024) 55) (eqb (before / 1024) 54) e in (
-      (λ t. (let is = eqb-true (before / 1024) 54 (sym same ∙ eq-eqb (unit / 1024) 55 (omega (arith, t))) in (omega (arith, is), omega (arith, is)))),
-      (λ l. (let is = eqb-true (unit / 1024) 55 (same ∙ eq-eqb (before / 1024) 54 (omega (arith, l))) in (omega (arith, is), omega (arith, is)))),
-    )
