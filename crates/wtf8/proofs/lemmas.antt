@@ -26,6 +26,7 @@ pub mod ListOrder
 pub mod Lists
 pub mod Lossy
 pub mod Meeting
+pub mod PairedMasks
 pub mod PairedUnits
 pub mod PositionLaws
 pub mod Positions

@@ -33,10 +33,15 @@ abbrev pub pieces : ℕ → List ℕ → List ℕ
 pieces zero u = []
 pieces (suc n) u = pieces n u ++ piece (unit_before u n) (unit_of_number u n)
 
--- What the first n numbers of two lists spell.
-abbrev pub all_spelled : ℕ → List ℕ → List ℕ → List ℕ
-all_spelled zero fronts backs = []
-all_spelled (suc n) fronts backs = all_spelled n fronts backs ++ spelled (slice_index_or fronts n 0) (slice_index_or backs n 0)
+-- Each of sixteen numbers holds those of two lists, the second one's above the first one's.
+abbrev pub AreJoined : List ℕ → List ℕ → List ℕ → Type 0
+AreJoined fronts backs numbers = (i : ℕ) → i < 16
+    → (slice_index_or numbers i 0 % 0x10000 ≡ slice_index_or fronts i 0) × (slice_index_or numbers i 0 / 0x10000 ≡ slice_index_or backs i 0)
+
+-- What the first n numbers of a list spell, each by the two that it holds.
+abbrev pub all_spelled : ℕ → List ℕ → List ℕ
+all_spelled zero numbers = []
+all_spelled (suc n) numbers = all_spelled n numbers ++ spelled (slice_index_or numbers n 0 % 0x10000) (slice_index_or numbers n 0 / 0x10000)
 
 -- Each trail among the first n units stands behind a lead, and no lead of them before another unit of them (Unicode 3.8, "Surrogates").
 abbrev pub ArePaired : List ℕ → ℕ → Type 0

@@ -1,8 +1,8 @@
 // Code units of all kinds side by side turned into bytes, sixteen together where no surrogate is alone among them.
-ghost use Rattle.std.specs.Prelude.{◌≡◌, ℕ, true, ◌+◌, ◌<◌, ◌≤◌, length, take, drop, slice_index_or, IfOk, IfSome, IfNone};
+ghost use Rattle.std.specs.Prelude.{◌≡◌, ℕ, true, ◌+◌, ◌/◌, ◌%◌, ◌<◌, ◌≤◌, ◌++◌, length, take, drop, slice_index_or, IfOk, IfSome, IfNone, IsTrue};
 ghost use Rattle.wtf8.specs.Unicode.{IsLead};
 ghost use Rattle.wtf8.specs.UnitParts.{AppendsForm, DividesNoPair, IsKnownForm};
-ghost use Rattle.wtf8.specs.UnitPieces.{piece, spelled, unit_before, IsSpelled, ArePaired, all_spelled};
+ghost use Rattle.wtf8.specs.UnitPieces.{piece, spelled, unit_before, IsSpelled, ArePaired, AreJoined, all_spelled};
 
 use crate::surrogates::{FIRST_LEAD, FIRST_TRAIL};
 use std::alloc::{AllocError, Allocator};
@@ -51,82 +51,93 @@ fn spell(unit: u16, before: u16) -> (u16, u16)
     (three, third)
 }
 
-/// What each of sixteen units adds, as two rows of numbers, and how many of them are a trail behind no lead, or stand
-/// behind a lead and are no trail.
+/// What each of sixteen units adds, as two rows of numbers.
 #[inline(always)]
-fn spell_all(units: &[u16; LANES], fronts: &mut [u16; LANES], backs: &mut [u16; LANES]) -> u16
-    ensures spelled { (i : ℕ) → i < 16 → IsSpelled units.now fronts.new backs.new i }
-    ensures paired { result ≡ 0 → ArePaired units.now 16 }
+fn spell_all(units: &[u16; LANES], fronts: &mut [u16; LANES], backs: &mut [u16; LANES])
+    ensures { (i : ℕ) → i < 16 → IsSpelled units.now fronts.new backs.new i }
 {
-    let mut alone = 0;
     let mut before = 0;
     for at in 0..LANES {
         let unit = units[at];
         let (front, back) = spell(unit, before);
         fronts[at] = front;
         backs[at] = back;
-        let is_trail = unit / OF_A_KIND == FIRST_TRAIL / OF_A_KIND;
-        let is_behind_lead = before / OF_A_KIND == FIRST_LEAD / OF_A_KIND;
-        if is_trail != is_behind_lead {
-            alone += 1;
-        }
         before = unit;
     }
-    alone
 }
 
-/// Writes what the first `N` numbers of two rows spell to the front of a block, and answers how many bytes these are.
+/// Two rows of numbers as one, with the second row's numbers above the first row's.
 #[inline(always)]
-fn pack<const N: usize>(
-    fronts: &[u16; LANES],
-    backs: &[u16; LANES],
-    block: &mut [u8; ROOM],
-) -> usize
-    requires most { N ≤ 16 }
-    requires small { (i : ℕ) → i < 16 → slice_index_or backs.now i 0 < 0x400 }
-    ensures within { result ≤ 48 }
-    ensures bytes { take result block.new ≡ all_spelled N fronts.now backs.now }
+fn joined(fronts: u16x16, backs: u16x16) -> [u32; LANES]
+    ensures { AreJoined fronts backs result }
+{
+    let above = backs.cast::<u32>().strict_mul(u32x16::splat(0x1_0000));
+    fronts.cast::<u32>().strict_add(above).to_array()
+}
+
+/// Writes what a number spells behind the first bytes of a block, with one byte more, and answers where it ends.
+#[inline(always)]
+fn put(number: u32, block: &mut [u8; ROOM], len: usize) -> usize
+    requires small { number < 0x4000000 }
+    requires room { len ≤ 60 }
+    ensures order { (len ≤ result) × (result ≤ len + 3) }
+    ensures kept { take len block.new ≡ take len block.old }
+    ensures bytes { take result block.new ≡ take len block.old ++ spelled (number % 0x10000) (number / 0x10000) }
+{
+    block[len..len + 4].copy_from_slice(&number.to_le_bytes());
+    len + (number / 0x100_0000) as usize
+}
+
+/// Writes what the first fifteen of sixteen numbers spell to the front of a block, and answers how many bytes these are.
+#[inline(always)]
+fn pack(numbers: &[u32; LANES], block: &mut [u8; ROOM]) -> usize
+    requires { (i : ℕ) → i < 16 → slice_index_or numbers.now i 0 < 0x4000000 }
+    ensures within { result ≤ 45 }
+    ensures bytes { take result block.new ≡ all_spelled 15 numbers.now }
 {
     let mut len = 0;
-    for at in 0..N {
-        let front = fronts[at];
-        let back = backs[at];
-        block[len] = (front % 256) as u8;
-        block[len + 1] = (front / 256) as u8;
-        block[len + 2] = (back % 256) as u8;
-        len += usize::from(back / 256);
+    for at in 0..LANES - 1 {
+        len = put(numbers[at], block, len);
     }
     len
 }
 
 /// How many of sixteen units are turned into bytes together, all of them or all but a lead at the end, and how many bytes
-/// of the block are then theirs; or `None` where a surrogate is alone among them.
+/// of the block are then theirs.
 #[inline(always)]
-fn write_block(units: &[u16; LANES], block: &mut [u8; ROOM]) -> Option<(usize, usize)>
-    ensures some { IfSome result (λ written. (0 < written.0) × (written.0 ≤ 16) × (written.1 ≤ 48)
-        × ¬ (IsLead (unit_before units.now written.0)) × IsKnownForm (take written.1 block.new) (take written.0 units.now) true) }
+fn write_block(units: &[u16; LANES], block: &mut [u8; ROOM]) -> (usize, usize)
+    requires { ArePaired units.now 16 }
+    ensures taken { (0 < result.0) × (result.0 ≤ 16) }
+    ensures within { result.1 ≤ 48 }
+    ensures apart { ¬ (IsLead (unit_before units.now result.0)) }
+    ensures form { IsKnownForm (take result.1 block.new) (take result.0 units.now) true }
 {
     let mut fronts = [0; LANES];
     let mut backs = [0; LANES];
-    if spell_all(units, &mut fronts, &mut backs) != 0 {
-        return None;
-    }
+    spell_all(units, &mut fronts, &mut backs);
+    let numbers = joined(u16x16::from_array(fronts), u16x16::from_array(backs));
+    let most = pack(&numbers, block);
+    let all = put(numbers[LANES - 1], block, most);
     if units[LANES - 1] / OF_A_KIND == FIRST_LEAD / OF_A_KIND {
-        let len = pack::<15>(&fronts, &backs, block);
-        return Some((15, len));
+        return (15, most);
     }
-    let len = pack::<16>(&fronts, &backs, block);
-    Some((16, len))
+    (16, all)
 }
 
-/// Whether sixteen units are worth a block: each trail stands behind a lead and not nearly all of them make pairs. What is
-/// answered decides how long it takes, and nothing else.
+/// Whether sixteen units are worth a block: each trail stands behind a lead, no lead before another unit, and not nearly
+/// all of them make pairs.
 #[inline(always)]
-fn is_worth_a_block(units: u16x16) -> bool {
-    let kinds = units & u16x16::splat(0xFC00);
-    let leads = kinds.simd_eq(u16x16::splat(FIRST_LEAD)).to_bitmask();
-    let trails = kinds.simd_eq(u16x16::splat(FIRST_TRAIL)).to_bitmask();
-    leads << 1 & 0xFFFF == trails && leads.count_ones() < MANY_LEADS
+fn is_worth_a_block(units: u16x16) -> bool
+    ensures { IsTrue result → ArePaired units 16 }
+{
+    let kinds = units / u16x16::splat(OF_A_KIND);
+    let leads = kinds
+        .simd_eq(u16x16::splat(FIRST_LEAD / OF_A_KIND))
+        .to_bitmask();
+    let trails = kinds
+        .simd_eq(u16x16::splat(FIRST_TRAIL / OF_A_KIND))
+        .to_bitmask();
+    leads.count_ones() < MANY_LEADS && leads % 0x8000 * 2 == trails
 }
 
 /// Appends the bytes of the sixteen units from a place on, or of all but a lead at their end, and answers how many units
@@ -149,9 +160,7 @@ pub(crate) fn append_block<A: Allocator>(
         return Ok(None);
     }
     let mut block = [0; ROOM];
-    let Some((taken, len)) = write_block(units, &mut block) else {
-        return Ok(None);
-    };
+    let (taken, len) = write_block(units, &mut block);
     bytes.extend_from_slice(&block[..len])?;
     Ok(Some(taken))
 }

@@ -1,13 +1,12 @@
 -- What units add one after another: the rows of a piece, and the two numbers that spell it.
-use Rattle.wtf8.proofs.Common.{◌≡◌, ℕ, zero, suc, ◌+◌, ◌-◌, ◌*◌, ◌/◌, ◌%◌, ◌<◌, ◌≤◌, List, [], ◌∷◌, ◌++◌, length, take, drop, get_or, refl, sym, ap, ◌∙◌, arith}
-use Rattle.wtf8.proofs.Common.{lt-ltb, le-ltb, append_assoc, take-append-drop, subst, cases_lt, inl, inr, ◌↔◌, Bool, true, false, not, eqb, eqb-true, eq-eqb, false≢true}
-use mathlib.Core.Bool.{beq}
-use Rattle.wtf8.specs.Unicode.{IsLead, IsTrail}
+use Rattle.wtf8.proofs.Common.{◌≡◌, ℕ, zero, suc, ◌+◌, ◌-◌, ◌*◌, ◌/◌, ◌%◌, ◌<◌, ◌≤◌, List, [], ◌∷◌, ◌++◌, length, take, get_or, map, replicate, zip2, Each1, Fits, refl, sym, ap, ◌∙◌, arith}
+use Rattle.wtf8.proofs.Common.{lt-ltb, le-ltb, subst, cases_lt, inl, inr}
 use Rattle.std.proofs.Math.ListN.{set}
+use Rattle.std.specs.Int.{w16, w32, to_le_bytes}
+use lib.Lanes.{Each2}
 use Rattle.std.proofs.Math.Seq.{take-append-add}
-use Rattle.std.proofs.lemmas.Grind.{take-set_at}
-use Rattle.std.proofs.lemmas.List.{length-set, length-take-le, take-append-le, get_or-set_same, get_or-set_other}
-use Rattle.wtf8.specs.UnitPieces.{piece, pieces, spelled, all_spelled, unit_before, IsSpelled, ArePaired}
+use Rattle.std.proofs.lemmas.List.{length-take-le, take-append-le, get_or-set_same, get_or-set_other}
+use Rattle.wtf8.specs.UnitPieces.{piece, pieces, spelled, all_spelled, unit_before, IsSpelled, AreJoined}
 
 pub piece_one : (b x : ℕ) → x < 0x80 → piece b x ≡ x ∷ []
 unfolding piece
@@ -46,32 +45,26 @@ spelled_three x h =
     let three : (0x380 + x % 64) / 256 ≡ 3 = omega (arith, h) in
     rw three (same_three (omega (arith, h)) (omega (arith, h)) (omega (arith, h)))
 
--- three bytes that are written one by one behind the first n, of which l are kept
-pub wrote_three : (block : List ℕ) (n l a b c : ℕ) → n + 3 ≤ length block → l ≤ 3
-    → take (n + l) (set (set (set block n a) (n + 1) b) (n + 2) c) ≡ take n block ++ take l (a ∷ b ∷ c ∷ [])
-wrote_three block n l a b c room h =
-    let first = set block n a in
-    let second = set first (n + 1) b in
-    let third = set second (n + 2) c in
-    let row = a ∷ b ∷ c ∷ [] in
-    let front : length (take n block) ≡ n = length-take-le n block (omega (arith, room)) in
-    let one : take (n + 1) first ≡ take n block ++ a ∷ [] = take-set_at block n (n + 1) a refl (omega (arith, room)) in
-    let two : take (n + 2) second ≡ take (n + 1) first ++ b ∷ [] =
-    take-set_at first (n + 1) (n + 2) b (omega arith) (omega (arith, room, length-set block n a)) in
-    let three : take (n + 3) third ≡ take (n + 2) second ++ c ∷ [] =
-    take-set_at second (n + 2) (n + 3) c (omega arith) (omega (arith, room, length-set block n a, length-set first (n + 1) b)) in
-    let all : take (n + 3) third ≡ take n block ++ row = simp (three, two, one, append_assoc) in
-    let parted : third ≡ take n block ++ (row ++ drop (n + 3) third) =
-    sym (take-append-drop (n + 3) third) ∙ ap (λ v. v ++ drop (n + 3) third) all ∙ append_assoc (take n block) row (drop (n + 3) third) in
-    let kept : take (n + l) (take n block ++ (row ++ drop (n + 3) third)) ≡ take n block ++ take l (row ++ drop (n + 3) third) =
-    ap (λ k. take (k + l) (take n block ++ (row ++ drop (n + 3) third))) (sym front) ∙ take-append-add (take n block) (row ++ drop (n + 3) third) l in
-    ap (λ v. take (n + l) v) parted ∙ kept ∙ ap (λ v. take n block ++ v) (take-append-le l row (drop (n + 3) third) h)
+-- four bytes that are written behind the first n of a block, of which l are kept
+pub wrote_part : (block row rest : List ℕ) (n l : ℕ) → n ≤ length block → l ≤ length row → take (n + l) (take n block ++ (row ++ rest)) ≡ take n block ++ take l row
+wrote_part block row rest n l room h =
+    let front : length (take n block) ≡ n = length-take-le n block room in
+    ap (λ k. take (k + l) (take n block ++ (row ++ rest))) (sym front) ∙ take-append-add (take n block) (row ++ rest) l ∙ ap (λ v. take n block ++ v) (take-append-le l row rest h)
+
+-- the kept ones of a number's four bytes are what its two halves spell
+pub kept_bytes : (p : ℕ) → p < 0x4000000 → take (p / 0x1000000) (to_le_bytes w32 p) ≡ spelled (p % 0x10000) (p / 0x10000)
+kept_bytes p h =
+    let few : p / 0x1000000 ≡ p / 0x10000 / 256 = omega arith in
+    let first : p % 256 ≡ p % 0x10000 % 256 = omega arith in
+    let second : p / 256 % 256 ≡ p % 0x10000 / 256 = omega arith in
+    let third : p / 65536 % 256 ≡ p / 0x10000 % 256 = omega arith in
+    take-append-le (p / 0x1000000) (p % 256 ∷ p / 256 % 256 ∷ p / 65536 % 256 ∷ []) (p / 16777216 % 256 ∷ []) (omega (arith, h)) ∙ (λ i. take (few i) (first i ∷ second i ∷ third i ∷ []))
 
 -- one place more
-pub more_spelled : (n : ℕ) (fronts backs : List ℕ) → all_spelled (n + 1) fronts backs ≡ all_spelled n fronts backs ++ spelled (get_or fronts n 0) (get_or backs n 0)
-more_spelled n fronts backs =
+pub more_spelled : (n : ℕ) (numbers : List ℕ) → all_spelled (n + 1) numbers ≡ all_spelled n numbers ++ spelled (get_or numbers n 0 % 0x10000) (get_or numbers n 0 / 0x10000)
+more_spelled n numbers =
     let next : n + 1 ≡ suc n = omega arith in
-    ap (λ k. all_spelled k fronts backs) next
+    ap (λ k. all_spelled k numbers) next
 
 pub before_next : (u : List ℕ) (n : ℕ) → get_or u n 0 ≡ unit_before u (n + 1)
 before_next u n =
@@ -96,32 +89,39 @@ next_spelled u fronts backs n front back f b so_far e small i h = elim (cases_lt
       (record { same = ap (λ x. spelled x (get_or (set backs n back) n 0)) fronts_so ∙ ap (λ x. spelled front x) backs_so ∙ e; small = omega (arith, backs_so, small) })
 ]
 
+-- two lists of lanes that are joined lane by lane
+pub above_fit : (n : ℕ) (bs : List ℕ) → Each1 (Fits w16) bs → Each2 (λ a b. Fits w32 (a * b)) (map (λ x. x) bs) (replicate n 0x10000)
+above_fit n [] f = tt
+above_fit zero (b ∷ bs) f = tt
+above_fit (suc n) (b ∷ bs) f = (record { fits = omega (arith, f.0.fits) }, above_fit n bs f.1)
+
+pub joined_fit : (n : ℕ) (fs bs : List ℕ) → Each1 (Fits w16) fs → Each1 (Fits w16) bs
+    → Each2 (λ a b. Fits w32 (a + b)) (map (λ x. x) fs) (zip2 (λ a b. a * b) (map (λ x. x) bs) (replicate n 0x10000))
+joined_fit n [] bs f g = tt
+joined_fit n (a ∷ fs) [] f g = tt
+joined_fit zero (a ∷ fs) (b ∷ bs) f g = tt
+joined_fit (suc n) (a ∷ fs) (b ∷ bs) f g = (record { fits = omega (arith, f.0.fits, g.0.fits) }, joined_fit n fs bs f.1 g.1)
+
+pub joined_at : (n : ℕ) (fs bs : List ℕ) → length fs ≡ n → length bs ≡ n → Each1 (Fits w16) fs → (i : ℕ) → i < n
+    → let joined = get_or (zip2 (λ a b. a + b) (map (λ x. x) fs) (zip2 (λ a b. a * b) (map (λ x. x) bs) (replicate n 0x10000))) i 0 in
+    (joined % 0x10000 ≡ get_or fs i 0) × (joined / 0x10000 ≡ get_or bs i 0)
+joined_at zero fs bs e f h i l = absurd (omega (arith, l))
+joined_at (suc n) [] bs e f h i l = absurd (omega (arith, e))
+joined_at (suc n) (a ∷ fs) [] e f h i l = absurd (omega (arith, f))
+joined_at (suc n) (a ∷ fs) (b ∷ bs) e f h zero l = (omega (arith, h.0.fits), omega (arith, h.0.fits))
+joined_at (suc n) (a ∷ fs) (b ∷ bs) e f h (suc i) l = joined_at n fs bs (omega (arith, e)) (omega (arith, f)) h.1 i (omega (arith, l))
+
 -- where all places spell what their units add, all together do
-pub same_pieces : (u fronts backs : List ℕ) (n : ℕ) → ((i : ℕ) → i < n → IsSpelled u fronts backs i) → all_spelled n fronts backs ≡ pieces n u
-same_pieces u fronts backs zero h = refl
-same_pieces u fronts backs (suc n) h =
-    let front = same_pieces u fronts backs n (λ i l. h i (omega (arith, l))) in
-    λ k. front k ++ (h n (omega arith)).same k
+pub same_pieces : (u fronts backs numbers : List ℕ) (n : ℕ) → n ≤ 16 → AreJoined fronts backs numbers → ((i : ℕ) → i < 16 → IsSpelled u fronts backs i)
+    → all_spelled n numbers ≡ pieces n u
+same_pieces u fronts backs numbers zero m j h = refl
+same_pieces u fronts backs numbers (suc n) m j h =
+    let earlier = same_pieces u fronts backs numbers n (omega (arith, m)) j h in
+    let halves = j n (omega (arith, m)) in
+    let own = (λ k. spelled (halves.0 k) (halves.1 k)) ∙ (h n (omega (arith, m))).same in
+    λ k. earlier k ++ own k
 
--- one more unit that is a trail exactly where it stands behind a lead
-pub next_paired : (u : List ℕ) (n : ℕ) → ArePaired u n → IsTrail (get_or u n 0) ↔ IsLead (unit_before u n) → ArePaired u (n + 1)
-next_paired u n h p i l = elim (cases_lt i n) [
-  | inl k ↦ h i k
-  | inr k ↦
-      let here : n ≡ i = omega (arith, l, k) in
-      subst (λ j. IsTrail (get_or u j 0) ↔ IsLead (unit_before u j)) here p
-]
-
-agree : (a b : Bool) → not (beq a b) ≡ false → a ≡ b
-agree true true e = refl
-agree false false e = refl
-agree true false e = absurd (false≢true (sym e))
-agree false true e = absurd (false≢true (sym e))
-
--- two tests that agree: whether a unit is a trail, and whether the one before it is a lead
-pub tests_agree : (unit before : ℕ) → not (beq (eqb (unit / 1024) 55) (eqb (before / 1024) 54)) ≡ false → IsTrail unit ↔ IsLead before
-tests_agree unit before e =
-    let same = agree (eqb (unit / 1024) 55) (eqb (before / 1024) 54) e in (
-      (λ t. (let is = eqb-true (before / 1024) 54 (sym same ∙ eq-eqb (unit / 1024) 55 (omega (arith, t))) in (omega (arith, is), omega (arith, is)))),
-      (λ l. (let is = eqb-true (unit / 1024) 55 (same ∙ eq-eqb (before / 1024) 54 (omega (arith, l))) in (omega (arith, is), omega (arith, is)))),
-    )
+-- joined numbers are small where those above are
+pub joined_small : (u fronts backs numbers : List ℕ) → AreJoined fronts backs numbers → ((i : ℕ) → i < 16 → IsSpelled u fronts backs i)
+    → (i : ℕ) → i < 16 → get_or numbers i 0 < 0x4000000
+joined_small u fronts backs numbers j h i l = omega (arith, (j i l).1, (h i l).small)

@@ -7,15 +7,15 @@ use Rattle.wtf8.specs.UnitPieces.{unit_before}
 
 pub returns-clause-some : goal.returns-clause-some
 returns-clause-some g c =
-    let written = c.in-Some-write_block.ensures.some in
-    let taken = c.in-Some-write_block.taken in
+    let written = c.write_block-taken.ensures in
+    let taken = c.write_block-taken.result.0 in
     let v = c.args.v.now in
     let at = c.args.at in
-    let block = take c.in-Some-write_block.len c.write_block.new.block in
+    let block = take c.write_block-taken.result.1 c.write_block-taken.new.block in
     let enough : 16 ≤ length v - at = omega (arith, c.in-Some.ensures.cases.enough, length-take (length v - at) (drop at v), length-drop at v) in
     let units : c.in-Some.units.now ≡ take 16 (drop at v) = c.in-Some.ensures.cases.same ∙ take-take 16 (length v - at) (drop at v) enough in (
-      written.0,
-      omega (arith, written.1, enough, c.requires),
-      taken_apart v at taken written.0 written.1 (omega (arith, enough, c.requires)) (subst (λ u. ¬ (IsLead (unit_before u taken))) units written.3),
-      record { appended = block; behind = c.in_ok-extend_from_slice.ensures.items; part = subst (λ u. IsKnownForm block u true) (ap (take taken) units ∙ take-take taken 16 (drop at v) written.1) written.4 },
+      written.taken.0,
+      omega (arith, written.taken.1, enough, c.requires),
+      taken_apart v at taken written.taken.0 written.taken.1 (omega (arith, enough, c.requires)) (subst (λ u. ¬ (IsLead (unit_before u taken))) units written.apart),
+      record { appended = block; behind = c.in_ok-extend_from_slice.ensures.items; part = subst (λ u. IsKnownForm block u true) (ap (take taken) units ∙ take-take taken 16 (drop at v) written.taken.1) written.form },
     )

@@ -4,4 +4,4 @@ use Rattle.wtf8.proofs.mixed_blocks.pack.Given as goal
 
 -- the block begins with what the numbers so far spell, three bytes each at most
 abbrev pub invariant-loop-at : goal.invariant-loop-at
-invariant-loop-at g l = (l.len ≤ l.at * 3) × (take l.len l.block ≡ all_spelled l.at l.fronts l.backs)
+invariant-loop-at l = (l.len ≤ l.at * 3) × (take l.len l.block ≡ all_spelled l.at l.numbers)

@@ -1,9 +1,7 @@
-use Rattle.wtf8.proofs.Common.{◌∙◌, ◌↔◌, ap, arith, subst, get_or}
+use Rattle.wtf8.proofs.Common.{◌∙◌, ap, arith, get_or}
 use Rattle.std.proofs.lemmas.List.{length-set}
-use Rattle.wtf8.proofs.lemmas.UnitPieces.{before_next, next_spelled, next_paired, tests_agree}
-use Rattle.wtf8.specs.Unicode.{IsLead, IsTrail}
+use Rattle.wtf8.proofs.lemmas.UnitPieces.{before_next, next_spelled}
 use Rattle.wtf8.specs.UnitPieces.{piece}
-use Rattle.wtf8.proofs.mixed_blocks.spell_all.Goals.{then-is_trail-is_behind_lead, else-is_trail-is_behind_lead}
 use Rattle.wtf8.proofs.mixed_blocks.spell_all.Goals as goal
 
 pub loop-at-preserved : goal.loop-at-preserved
@@ -17,12 +15,4 @@ loop-at-preserved c =
       before_next units at,
       length-set c.loop-at.fronts at c.spell-front.result.0 ∙ so_far.2,
       length-set c.loop-at.backs at c.spell-front.result.1 ∙ so_far.3,
-      elim c.if-is_trail-is_behind_lead.branch [
-        | then-is_trail-is_behind_lead w ↦ omega (arith, w.alone-is, so_far.4)
-        | else-is_trail-is_behind_lead w ↦ omega (arith, w.alone-is, so_far.4)
-      ],
-      λ none. elim c.if-is_trail-is_behind_lead.branch [
-        | then-is_trail-is_behind_lead w ↦ absurd (omega (arith, w.alone-is, none))
-        | else-is_trail-is_behind_lead w ↦ next_paired units at (so_far.5 (omega (arith, w.alone-is, none))) (subst (λ b. IsTrail (get_or units at 0) ↔ IsLead b) so_far.1 (tests_agree (get_or units at 0) c.loop-at.before w.if-is_trail-is_behind_lead.false))
-      ],
     )
