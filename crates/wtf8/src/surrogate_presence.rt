@@ -1,4 +1,5 @@
-// Whether bytes hold a surrogate, asked of many places together: no place is made of the answer.
+// Whether bytes hold a surrogate, asked of many places together, of which no place is made; and the first surrogate, where the
+// front or short bytes may tell before the search.
 ghost use Rattle.std.specs.Prelude.{◌≡◌, ℕ, ◌+◌, ◌*◌, ◌<◌, ◌≤◌, length, false, None, IsTrue};
 ghost use Rattle.wtf8.specs.SurrogateSearch.{HasLane, IsFirst, NoneBefore, ShowsSurrogate, SurrogateAt};
 
