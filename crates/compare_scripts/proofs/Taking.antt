@@ -5,7 +5,7 @@ use Rattle.std.proofs.lemmas.Bool.Decides.{nat_tests}
 use Rattle.std.proofs.lemmas.List.{flat_map_more, map-append}
 use Rattle.std.proofs.lemmas.List.Elements.{filter-append}
 use Rattle.wtf8.specs.CodePoint.{number}
-use Rattle.wtf8.specs.declared.code_point.CodePoint.{CodePoint}
+use Rattle.wtf8.specs.declared.numbers.code_point.CodePoint.{CodePoint}
 use Rattle.compare_scripts.specs.Operand.{code_points}
 
 -- one more piece between the pieces so far and the rest

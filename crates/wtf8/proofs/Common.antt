@@ -52,6 +52,6 @@ pub use Rattle.wtf8.specs.UnitSteps.{held_in, behind_held, trail_by, unread_afte
 pub use Rattle.wtf8.specs.UnitString.{UnitString}
 pub use Rattle.wtf8.specs.Units.{unread_units, Unread}
 pub use Rattle.wtf8.specs.View.{view_units, view_form}
-pub use Rattle.wtf8.specs.declared.build.Build.{Build}
-pub use Rattle.wtf8.specs.declared.build.Build.TheVariants.{Reserve, Truncate, TruncateUnits}
-pub use Rattle.wtf8.specs.declared.view.Wtf8.{Wtf8}
+pub use Rattle.wtf8.specs.declared.strings.build.Build.{Build}
+pub use Rattle.wtf8.specs.declared.strings.build.Build.TheVariants.{Reserve, Truncate, TruncateUnits}
+pub use Rattle.wtf8.specs.declared.strings.view.Wtf8.{Wtf8}

@@ -6,8 +6,8 @@ use Rattle.wtf8.specs.Form.{IsForm}
 use Rattle.wtf8.specs.CodePoint.{numbers}
 use Rattle.wtf8.specs.Concatenation.{MeetsAsPair}
 use Rattle.wtf8.specs.View.{view_units}
-use Rattle.wtf8.specs.declared.view.Wtf8.{Wtf8}
-use Rattle.wtf8.specs.declared.code_point.CodePoint.{CodePoint}
+use Rattle.wtf8.specs.declared.strings.view.Wtf8.{Wtf8}
+use Rattle.wtf8.specs.declared.numbers.code_point.CodePoint.{CodePoint}
 
 -- The new string has the old units and these behind them (WTF-8, "Concatenating").
 abbrev pub AppendsUnits : UnitString → List ℕ → UnitString → Type 0

@@ -1,5 +1,6 @@
 -- Lists of building calls: what each call does to the units of a string, and what a list of them does.
 use Rattle.std.specs.Prelude.{◌≡◌, ℕ, ◌+◌, ◌⊎◌, List, [], ◌∷◌, ◌++◌, take, slice_get, Option, Some, None, ⊤}
+use Rattle.std.specs.List.{All}
 use Rattle.std.specs.Str.{chars}
 use Rattle.wtf8.specs.Unicode.{units_of, units}
 use Rattle.wtf8.specs.CodePoint.{number, numbers}
@@ -7,8 +8,8 @@ use Rattle.wtf8.specs.View.{view_units}
 use Rattle.wtf8.specs.Appending.{FitWithin}
 use Rattle.wtf8.specs.Position.{IsBoundary, IsFront}
 use Rattle.wtf8.specs.UnitPosition.{TruncatesUnits}
-use Rattle.wtf8.specs.declared.build.Build.{Build}
-use Rattle.wtf8.specs.declared.build.Build.TheVariants.{Push, PushChar, PushStr, PushWtf8, Extend, Reserve, Truncate, TruncateUnits}
+use Rattle.wtf8.specs.declared.strings.build.Build.{Build}
+use Rattle.wtf8.specs.declared.strings.build.Build.TheVariants.{Push, PushChar, PushStr, PushWtf8, Extend, Reserve, Truncate, TruncateUnits}
 
 -- A truncation at a boundary keeps the units of the code points before it; any other is refused, which r counts as 1, and changes nothing.
 abbrev pub Truncates : List ℕ → ℕ → List ℕ → ℕ → Type 0
@@ -87,6 +88,12 @@ pub record FindsRoom (u : List ℕ) (call : Build) (v : List ℕ) (capacity : �
 abbrev pub FindRoom : List ℕ → List Build → List ℕ → ℕ → Type 0
 FindRoom u [] v capacity = v ≡ u
 FindRoom u (call ∷ calls) v capacity = (mid : List ℕ) × FindsRoom u call mid capacity × FindRoom mid calls v capacity
+
+-- Where a call asks for room and no call behind it truncates, the form of the units that the calls before it lead to, with as many more bytes as it asks for, is
+-- within the capacity.
+abbrev pub LeavesReserved : List ℕ → List Build → ℕ → Type 0
+LeavesReserved u calls capacity = (front back : List Build) (n : ℕ) (v : List ℕ) (r : ℕ) → calls ≡ front ++ Reserve n ∷ back → All IsNoTruncation back
+    → Run u front v r → FitWithin v n capacity
 
 -- The calls lead from the units to exactly one list, with exactly one count of refused truncations.
 pub record RunsOnce (u : List ℕ) (calls : List Build) : Type 0 where

@@ -4,7 +4,7 @@ use Rattle.std.specs.Char.{IsScalar}
 use Rattle.std.specs.declared.iter.Ahead.{Ahead}
 use Rattle.std.specs.Iterator.{Yields, Drains}
 use Rattle.std.specs.Iterator.Adapters.{peekable_steps, peekable_peeked, PeeksNext}
-use Rattle.wtf8.specs.declared.decode.DecodeUtf16.{DecodeUtf16}
+use Rattle.wtf8.specs.declared.units_in.decode.DecodeUtf16.{DecodeUtf16}
 use Rattle.wtf8.specs.Form.{IsClean}
 use Rattle.wtf8.specs.Unicode.{IsLead, IsTrail, IsSurrogate, units_of, units}
 

@@ -11,7 +11,7 @@ use Rattle.wtf8.specs.Order.{Before}
 use Rattle.wtf8.specs.Surrogates.{AreScalar, lossy}
 use Rattle.wtf8.specs.UnitString.{UnitString}
 use Rattle.wtf8.specs.View.{view_units}
-use Rattle.wtf8.specs.declared.view.Wtf8.{Wtf8}
+use Rattle.wtf8.specs.declared.strings.view.Wtf8.{Wtf8}
 
 -- Two buffers have equal bytes exactly where they have equal units.
 abbrev pub EqualBuffersHaveEqualUnits : Type 0

@@ -1,10 +1,10 @@
 -- For private functions: units that are turned into bytes part by part.
 use Rattle.std.specs.Prelude.{◌≡◌, ℕ, ◌+◌, ◌<◌, ◌≤◌, Bool, IsTrue, List, ◌++◌, length, take, drop}
 use lib.Lanes.{Each1}
-use Rattle.wtf8.specs.Concatenation.{MeetsAsPair}
 use Rattle.wtf8.specs.Form.{IsForm, bytes}
 use Rattle.wtf8.specs.Surrogates.{AreScalar}
 use Rattle.wtf8.specs.Unicode.{IsSurrogate}
+use Rattle.wtf8.specs.UnitPosition.{DividesPair}
 
 -- Bytes are the form of these units, and where the flag is set no surrogate is alone in them (Unicode 3.9, "Unicode scalar value").
 pub record IsKnownForm (w u : List ℕ) (known : Bool) : Type 0 where
@@ -19,7 +19,7 @@ pub record AppendsForm (old new u : List ℕ) (known : Bool) : Type 0 where
 
 -- No lead and trail stand on the two sides of this place (Unicode 3.8, "Surrogates").
 abbrev pub DividesNoPair : List ℕ → ℕ → Type 0
-DividesNoPair u n = ¬ (MeetsAsPair (take n u) (drop n u))
+DividesNoPair u n = ¬ (DividesPair u n)
 
 -- Each of the units is below 80: its own code point, and its own byte (Unicode 3.9, "UTF-8", Table 3-6).
 abbrev pub AreAscii : List ℕ → Type 0

@@ -1,12 +1,17 @@
 -- Parts of a string, cut at numbers of 16-bit units.
-use Rattle.std.specs.Prelude.{◌≡◌, ℕ, ◌<◌, ◌≤◌, ◌⊎◌, List, ◌++◌, length, take}
+use Rattle.std.specs.Prelude.{◌≡◌, ℕ, ◌<◌, ◌≤◌, ◌⊎◌, List, ◌++◌, length, take, drop}
 use Rattle.std.specs.Option.{option_to_list}
+use Rattle.wtf8.specs.Concatenation.{MeetsAsPair}
 use Rattle.wtf8.specs.View.{view_units}
-use Rattle.wtf8.specs.declared.unit_positions.UnitSlice.{UnitSlice}
+use Rattle.wtf8.specs.declared.strings.unit_positions.UnitSlice.{UnitSlice}
 
 -- The units that a slice by units has: the trail of a pair that its begin divides, those of the whole code points, and the lead of a pair that its end divides.
 abbrev pub units_of_slice : UnitSlice → List ℕ
 units_of_slice s = option_to_list s.trail ++ (view_units s.whole ++ option_to_list s.lead)
+
+-- A number of units divides a pair where the last of them is a lead and a trail stands behind it (Unicode 3.8, "Surrogates").
+abbrev pub DividesPair : List ℕ → ℕ → Type 0
+DividesPair u n = MeetsAsPair (take n u) (drop n u)
 
 -- A truncation at a number of units keeps the first so many; where there are fewer it is refused, which r counts as 1, and changes nothing.
 abbrev pub TruncatesUnits : List ℕ → ℕ → List ℕ → ℕ → Type 0

@@ -2,7 +2,7 @@
 use Rattle.std.specs.Prelude.{ℕ, List, refl}
 use Rattle.wtf8.specs.Unicode.{units}
 use Rattle.wtf8.specs.Form.{IsForm}
-use Rattle.wtf8.specs.declared.view.Wtf8.{Wtf8}
+use Rattle.wtf8.specs.declared.strings.view.Wtf8.{Wtf8}
 
 -- The code points that a view's bytes encode.
 abbrev pub view_points : Wtf8 → List ℕ

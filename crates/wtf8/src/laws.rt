@@ -57,7 +57,7 @@ ghost use Rattle.wtf8.specs.StringLaws.{
 ghost use Rattle.wtf8.specs.Building.{CallsRunOnce, RunsAddUp};
 ghost use Rattle.wtf8.specs.View.{view_units};
 
-use crate::view::Wtf8;
+use crate::strings::view::Wtf8;
 
 /// Each list of 16-bit units has exactly one reading as code points of which no two would join, and only such lists
 /// have one.

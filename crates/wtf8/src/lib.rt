@@ -1,33 +1,17 @@
 //! WTF-8 strings: text that holds any 16-bit units.
 #![tactic(auto)]
 
-mod buf;
-mod build;
-mod code_point;
-mod collect;
-mod comparisons;
-mod concat;
-mod copies;
-mod debug_text;
-mod decode;
-mod differences;
-mod digits;
-mod display_text;
-mod encoding;
-mod iters;
+mod comparing;
+mod lanes;
 pub mod laws;
-mod mixed_blocks;
-mod search;
-mod surrogate_presence;
-mod surrogates;
-mod unit_blocks;
-mod unit_order;
-mod unit_positions;
-mod view;
+mod numbers;
+mod strings;
+mod texts;
+mod units_in;
 
-pub use buf::Wtf8Buf;
-pub use build::{Build, Stopped};
-pub use code_point::CodePoint;
-pub use iters::{IllFormedUtf16CodeUnits, Wtf8CodePoints};
-pub use unit_positions::UnitSlice;
-pub use view::Wtf8;
+pub use numbers::code_point::CodePoint;
+pub use strings::buf::Wtf8Buf;
+pub use strings::build::{Build, Stopped};
+pub use strings::iters::{IllFormedUtf16CodeUnits, Wtf8CodePoints};
+pub use strings::unit_positions::UnitSlice;
+pub use strings::view::Wtf8;

@@ -6,8 +6,8 @@ use Rattle.std.proofs.Math.Seq.{get_or-append_seam}
 use Rattle.std.proofs.lemmas.List.Sums.{count_by-le-length}
 use Rattle.std.proofs.lemmas.List.Splits.{length-slice_split}
 use Rattle.wtf8.specs.Building.{Step, Run}
-use Rattle.wtf8.specs.declared.build.Build.{Build}
-use Rattle.wtf8.specs.declared.build.Build.TheVariants.{Push, PushChar, PushStr, PushWtf8, Extend, Reserve, Truncate, TruncateUnits}
+use Rattle.wtf8.specs.declared.strings.build.Build.{Build}
+use Rattle.wtf8.specs.declared.strings.build.Build.TheVariants.{Push, PushChar, PushStr, PushWtf8, Extend, Reserve, Truncate, TruncateUnits}
 use Rattle.wtf8_dump.specs.Lines.{words}
 use Rattle.wtf8_dump.specs.Reading.{TakesCalls}
 use Rattle.wtf8_dump.specs.Word.{IsCall, IsNoCall}

@@ -6,9 +6,9 @@ use Rattle.wtf8.proofs.lemmas.RunLaws.{runs_add}
 use Rattle.wtf8.specs.Building.{Run}
 use Rattle.wtf8.specs.CodePoint.{number, numbers}
 use Rattle.wtf8.specs.Unicode.{units_of, units}
-use Rattle.wtf8.specs.declared.build.Build.{Build}
-use Rattle.wtf8.specs.declared.build.Build.TheVariants.{Push, Extend}
-use Rattle.wtf8.specs.declared.code_point.CodePoint.{CodePoint}
+use Rattle.wtf8.specs.declared.strings.build.Build.{Build}
+use Rattle.wtf8.specs.declared.strings.build.Build.TheVariants.{Push, Extend}
+use Rattle.wtf8.specs.declared.numbers.code_point.CodePoint.{CodePoint}
 use Rattle.wtf8_dump.proofs.Answering.{AllZip-one_more}
 use Rattle.wtf8_dump.specs.Reading.{IsNextPoint, TakesCalls, pushes}
 use Rattle.wtf8_dump.specs.Word.{IsCall}

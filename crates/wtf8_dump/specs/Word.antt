@@ -4,8 +4,8 @@ use Rattle.std.specs.List.{list_all}
 use Rattle.std.specs.Char.{is_digit}
 use Rattle.std.specs.Str.Parse.{digits_value}
 use Rattle.wtf8.specs.CodePoint.{number}
-use Rattle.wtf8.specs.declared.build.Build.{Build}
-use Rattle.wtf8.specs.declared.build.Build.TheVariants.{Push, Truncate, TruncateUnits}
+use Rattle.wtf8.specs.declared.strings.build.Build.{Build}
+use Rattle.wtf8.specs.declared.strings.build.Build.TheVariants.{Push, Truncate, TruncateUnits}
 
 -- The number that a word spells in a base, where each of its bytes is a digit of that base, of either case.
 abbrev pub number_in : ℕ → List ℕ → Option ℕ

@@ -5,7 +5,7 @@ use Rattle.wtf8.proofs.lemmas.Scalars.{known_gained, scalar_behind}
 use Rattle.wtf8.proofs.lemmas.Room.{units-points}
 use Rattle.wtf8.proofs.lemmas.UnitParts.{ascii_form, ascii_own_units}
 use Rattle.std.proofs.Math.Seq.{take-add}
-use Rattle.wtf8.specs.declared.code_point.CodePoint.{CodePoint}
+use Rattle.wtf8.specs.declared.numbers.code_point.CodePoint.{CodePoint}
 
 ascii_gains : {w new : List ℕ} (v : List ℕ) (h : IsWellFormed w) → AreAscii v → new ≡ w ++ v → GainsUnits w new v
 ascii_gains {w} v h a e =

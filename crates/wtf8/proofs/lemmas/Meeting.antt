@@ -39,7 +39,7 @@ no_lead f p n m = n (subst IsLead (sym (same_from_push f m.front p m.lead m.ends
 pub no_trail : {c : List ℕ} (p : ℕ) (r : List ℕ) → ¬ (IsTrail p) → ¬ (MeetsAsPair c (p ∷ r))
 no_trail p r n m = n (subst IsTrail (sym (ap (λ w. get_or w 0 0) m.begins)) m.is_trail)
 
-meeting_numbers : (p q : ℕ) (d : List ℕ) → MeetsAsPair (p ∷ []) (q ∷ d) → is_pair p q ≡ true
+pub meeting_numbers : (p q : ℕ) (d : List ℕ) → MeetsAsPair (p ∷ []) (q ∷ d) → is_pair p q ≡ true
 meeting_numbers p q d m =
     let last = (same_from_push [] m.front p m.lead m.ends).1 in
     pair_true p q (subst IsLead (sym last) m.is_lead) (subst IsTrail (sym (ap (λ w. get_or w 0 0) m.begins)) m.is_trail)
@@ -48,7 +48,7 @@ without_first : (p q : ℕ) (c f : List ℕ) (l : ℕ) → p ∷ q ∷ c ≡ f +
 without_first p q c [] l e = absurd (omega (arith, ap length e))
 without_first p q c (x ∷ f) l e = (f, ap (drop 1) e)
 
-meets_before : (p q : ℕ) (c d : List ℕ) → MeetsAsPair (p ∷ q ∷ c) d → MeetsAsPair (q ∷ c) d
+pub meets_before : (p q : ℕ) (c d : List ℕ) → MeetsAsPair (p ∷ q ∷ c) d → MeetsAsPair (q ∷ c) d
 meets_before p q c d m =
     let s = without_first p q c m.front m.lead m.ends in meets_by s.0 m.rest m.lead m.trail m.is_lead m.is_trail s.1 m.begins
 

@@ -5,7 +5,7 @@ use Rattle.wtf8.proofs.Common.{Truncate, TruncateUnits, number, numbers, glue, I
 use Rattle.std.proofs.lemmas.List.{length-map}
 use Rattle.std.proofs.lemmas.List.Elements.{All-take}
 use Rattle.wtf8.specs.Building.{FindsRoom}
-use Rattle.wtf8.specs.declared.code_point.CodePoint.{CodePoint}
+use Rattle.wtf8.specs.declared.numbers.code_point.CodePoint.{CodePoint}
 use Rattle.wtf8.proofs.lemmas.Encoding.{length-surrogate}
 use Rattle.wtf8.proofs.lemmas.FormLaws.{one_form, units_read}
 use Rattle.wtf8.proofs.lemmas.Forms.{meeting_bytes, bytes_paired, bytes_apart, length-paired_bytes, form-glue}

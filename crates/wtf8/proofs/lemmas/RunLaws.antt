@@ -1,9 +1,12 @@
 -- A list of building calls has exactly one outcome and one count of refused truncations.
 use Rattle.wtf8.proofs.Common.{◌≡◌, ◌+◌, ◌⊎◌, inl, inr, ℕ, List, [], ◌∷◌, ◌++◌, length, get_or, refl, sym, subst, arith, cases_lt, All-nil, All-cons, All-head}
-use Rattle.wtf8.proofs.Common.{All-tail, All, IsUnit, units, IsForm, IsWellFormed, IsBoundary, IsFront, Step, Run, Build, Truncate, TruncateUnits}
-use Rattle.wtf8.specs.Building.{RunsOnce, RunsAddUp}
+use Rattle.wtf8.proofs.Common.{All-tail, All, IsUnit, units, IsForm, IsWellFormed, IsBoundary, IsFront, Step, Run, Build, Reserve, Truncate, TruncateUnits, IsNoTruncation, Some, ◌∙◌, ◌≤◌}
+use Rattle.std.proofs.lemmas.List.Elements.{All-pop, All-same}
+use Rattle.wtf8.specs.Appending.{FitWithin}
+use Rattle.wtf8.specs.Building.{RunsOnce, RunsAddUp, LeavesReserved}
 use Rattle.wtf8.proofs.lemmas.Encoding.{Begins}
 use Rattle.wtf8.proofs.lemmas.FormLaws.{one_form, units_read}
+use Rattle.wtf8.proofs.lemmas.Lists.{at_last, before, parted_more}
 use Rattle.wtf8.proofs.lemmas.Positions.{same_front, front_boundary, cut_at, boundary_from_byte, byte_from_boundary}
 use Rattle.wtf8.proofs.lemmas.Readings.{well_formed_of}
 
@@ -88,3 +91,17 @@ run_once u (call ∷ calls) =
           let ends = rest.no_other v r.2 (subst (λ m. Run m calls v r.2) same.0 r.4) in
           (ends.0, omega (arith, r.5, same.1, ends.1));
     }
+
+-- one call more: the room that it asks for is there, and that of the calls before it is kept where it does not truncate
+pub reserved_more : {u now : List ℕ} {calls : List Build} {call : Build} {capacity larger : ℕ} (n : ℕ) → LeavesReserved u calls capacity → Run u calls now n
+    → (IsNoTruncation call → capacity ≤ larger) → ((m : ℕ) → call ≡ Reserve m → FitWithin now m larger) → LeavesReserved u (calls ++ call ∷ []) larger
+reserved_more {u} {now} {calls} {call} {capacity} {larger} n f ran grows here front back m v r e none run = elim (parted_more calls call front (Reserve m) back e) [
+  | at_last same one ↦
+      let once = run_once u calls in
+      let outcome = (once.no_other now n ran).0 ∙ sym (once.no_other v r (subst (λ c. Run u c v r) (sym same) run)).0 in
+      subst (λ w. FitWithin w m larger) outcome (here m one)
+  | before rest same behind ↦
+      let all = All-pop IsNoTruncation (rest ++ call ∷ []) rest (Some call) refl (All-same IsNoTruncation (rest ++ call ∷ []) back (sym behind) none) in
+      let found = f front rest m v r same all.0 run in
+      record { whole = found.whole; form = found.form; within = omega (arith, found.within, grows all.1) }
+]

@@ -1,11 +1,17 @@
 -- What a string has before and behind a number of its units.
 use Rattle.wtf8.proofs.Common.{◌≡◌, ℕ, zero, suc, ◌+◌, ◌≤◌, List, [], ◌∷◌, ◌++◌, length, take, drop, None, Some, refl, sym, ap, ◌∙◌, subst, arith}
 use Rattle.wtf8.proofs.Common.{length-append, append_assoc, take_at, drop_at, slice_get, IsCodePoint, units, IsClean, bytes, encoding, IsWellFormed, IsFront}
-use Rattle.wtf8.proofs.Common.{CutsUnits}
+use Rattle.wtf8.proofs.Common.{CutsUnits, ◌<◌, ◌+◌, ◌↔◌, inl, inr, Option, get_or, cases_lt, same_from_push, take-append-drop, length-drop, IsClean, Reads}
 use Rattle.wtf8.specs.UnitCounts.{Divides}
-use Rattle.wtf8.proofs.lemmas.Clean.{clean-first, clean-front, clean-back, clean-append}
+use Rattle.std.proofs.Common.{drop-cons, length-take-le}
+use Rattle.std.proofs.lemmas.List.{take-append-le, drop-append-le}
+use Rattle.std.specs.Option.{option_to_list}
+use Rattle.std.specs.Prelude.{IsSome}
+use Rattle.wtf8.specs.UnitPosition.{DividesPair}
+use Rattle.wtf8.proofs.lemmas.Clean.{clean-first, clean-front, clean-back, clean-append, clean-apart}
+use Rattle.wtf8.proofs.lemmas.Forms.{points_meet}
 use Rattle.wtf8.proofs.lemmas.Encoding.{encoding_four, bytes-append, bytes-pushed}
-use Rattle.wtf8.proofs.lemmas.Meeting.{no_trail}
+use Rattle.wtf8.proofs.lemmas.Meeting.{no_trail, meets_by}
 use Rattle.wtf8.proofs.lemmas.Positions.{cut_by}
 use Rattle.wtf8.proofs.lemmas.Units.{lead_of, trail_of, units_one, units_two, units-append, units-pushed}
 
@@ -98,3 +104,55 @@ front_at h x = record {
   splits = record { reads = record { clean = subst IsClean x.joined h.clean; same_units = ap units (sym x.joined) }; front_len = x.front_len };
   same_units = sym (undivided x).kept;
 }
+
+-- a pair is divided exactly where the cut says so
+pub divides_none : {c : List ℕ} {n k : ℕ} → IsClean c → CutsUnits c n k None → ¬ (DividesPair (units c) n)
+divides_none {c} {n} clean x m =
+    let all : IsClean (x.front ++ x.back) = subst IsClean x.joined clean in
+    let before : Reads x.front (take n (units c)) = record { clean = clean-front x.front x.back all; same_units = sym (undivided x).kept } in
+    let behind : Reads x.back (drop n (units c)) = record { clean = clean-back x.front x.back all; same_units = sym (undivided x).behind } in
+    clean-apart x.front x.back all (points_meet before behind m)
+
+pub divides_some : {c : List ℕ} {n k p : ℕ} {front rest : List ℕ} → IsClean c → Divided c n k p front rest → DividesPair (units c) n
+divides_some {c} {n} {k} {p} {front} {rest} clean d =
+    let range = in_range clean d in
+    meets_by (units front) (units rest) (lead_of p) (trail_of p) (omega (arith, range, d.large), omega (arith, range, d.large)) (omega (arith, range), omega (arith, range))
+    d.kept d.behind
+
+-- a beginning of units divides the pairs that lie in it; where a lead is cut off behind it, its end divides none
+grown : (v r : List ℕ) (n : ℕ) → DividesPair v n → DividesPair (v ++ r) n
+grown v r n m =
+    let within : n ≤ length v = omega (arith, ap length m.begins, length-drop n v) in
+    meets_by m.front (m.rest ++ r) m.lead m.trail m.is_lead m.is_trail (take-append-le n v r within ∙ m.ends) (drop-append-le n v r within ∙ ap (λ w. w ++ r) m.begins)
+
+cut_back : (v r : List ℕ) (n : ℕ) → n < length v → DividesPair (v ++ r) n → DividesPair v n
+cut_back v r n h m =
+    let first = drop-cons v n 0 h in
+    let whole : get_or v n 0 ∷ (drop (suc n) v ++ r) ≡ m.trail ∷ m.rest = ap (λ w. w ++ r) (sym first) ∙ (sym (drop-append-le n v r (omega arith)) ∙ m.begins) in
+    let here : get_or v n 0 ≡ m.trail = ap (λ w. get_or w 0 0) whole in
+    meets_by m.front (drop (suc n) v) m.lead m.trail m.is_lead m.is_trail (sym (take-append-le n v r (omega arith)) ∙ m.ends) (first ∙ ap (λ x. x ∷ drop (suc n) v) here)
+
+no_lead_there : (u v : List ℕ) (l end : ℕ) → v ++ l ∷ [] ≡ take end u → DividesPair u end → ¬ (DividesPair u (length v))
+no_lead_there u v l end e d m =
+    let last : l ≡ d.lead = (same_from_push v d.front l d.lead (e ∙ d.ends)).1 in
+    let whole : u ≡ v ++ l ∷ drop end u = sym (take-append-drop end u) ∙ (ap (λ w. w ++ drop end u) (sym e) ∙ append_assoc v (l ∷ []) (drop end u)) in
+    let here : l ≡ m.trail = ap (λ w. get_or w 0 0) (sym (drop_at v (l ∷ drop end u) (length v) refl) ∙ (ap (drop (length v)) (sym whole) ∙ m.begins)) in
+    omega (arith, last, here, d.is_lead, m.is_trail)
+
+pub divides_in_front : (u v : List ℕ) (half : Option ℕ) (n end : ℕ) → n < end → end ≤ length u → v ++ option_to_list half ≡ take end u
+    → (IsSome half ↔ DividesPair u end) → DividesPair v n ↔ DividesPair u n
+divides_in_front u v half n end h in_u e d =
+    let rest = option_to_list half ++ drop end u in
+    let whole : v ++ rest ≡ u = sym (append_assoc v (option_to_list half) (drop end u)) ∙ (ap (λ w. w ++ drop end u) e ∙ take-append-drop end u) in (
+      λ m. subst (λ w. DividesPair w n) whole (grown v rest n m),
+      λ m. elim (cases_lt n (length v)) [
+        | inl k ↦ cut_back v rest n k (subst (λ w. DividesPair w n) (sym whole) m)
+        | inr k ↦ behind half e d k m
+      ],
+    )
+  where
+    behind : (half : Option ℕ) → v ++ option_to_list half ≡ take end u → (IsSome half ↔ DividesPair u end) → length v ≤ n → DividesPair u n → DividesPair v n
+    behind None e d k m = absurd (omega (arith, h, k, in_u, length-take-le end u in_u, ap length e, length-append v []))
+    behind (Some l) e d k m =
+        let same : n ≡ length v = omega (arith, h, k, length-take-le end u in_u, ap length e, length-append v (l ∷ [])) in
+        absurd (no_lead_there u v l end e (d.0 refl) (subst (DividesPair u) same m))

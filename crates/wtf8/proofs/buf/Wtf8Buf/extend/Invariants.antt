@@ -1,7 +1,0 @@
-use Rattle.std.proofs.Common.{◌≤◌}
-use Rattle.wtf8.specs.Appending.{AppendsPoints}
-use Rattle.wtf8.proofs.buf.Wtf8Buf.extend.Given as goal
-
--- the items so far are appended, and the capacity is no smaller
-abbrev pub invariant-loop-code_point : goal.invariant-loop-code_point
-invariant-loop-code_point g l = AppendsPoints l.fn.self l.yielded l.self × (l.fn.self.capacity ≤ l.self.capacity)

@@ -1,6 +1,0 @@
-use Rattle.std.proofs.Common.{refl}
-use Rattle.wtf8.proofs.lemmas.Readings.{same_points}
-use Rattle.wtf8.proofs.iters.Wtf8CodePoints.new.Goals as goal
-
-pub returns : goal.returns
-returns c = same_points c.result-2-1.given.1.0 c.args.view.well_formed refl

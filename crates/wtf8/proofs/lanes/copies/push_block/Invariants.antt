@@ -1,0 +1,9 @@
+use Rattle.std.proofs.Common.{◌≡◌, ◌++◌, take, vec_capacity}
+use Rattle.wtf8.proofs.lanes.copies.push_block.Given as goal
+
+-- the lanes so far are appended
+abbrev pub invariant-loop-at : goal.invariant-loop-at
+invariant-loop-at g l = record {
+  items : l.bytes.items ≡ l.initial.bytes.items ++ take l.at l.block;
+  capacity : vec_capacity l.bytes ≡ vec_capacity l.initial.bytes;
+}

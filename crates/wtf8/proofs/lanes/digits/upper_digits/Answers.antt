@@ -1,0 +1,10 @@
+use Rattle.std.proofs.Common.{refl, arith, w8}
+use Rattle.std.proofs.lemmas.Simd.{SwzOk-from_below}
+use Rattle.wtf8.proofs.lemmas.HexLanes.{looked_up}
+use Rattle.wtf8.proofs.lanes.digits.upper_digits.Goals as goal
+
+pub swizzle : goal.swizzle
+swizzle c = SwzOk-from_below w8 16 1 16 0 c.args.values refl (omega arith) c.requires
+
+pub returns : goal.returns
+returns c = looked_up 0 c.args.values (omega arith) c.requires

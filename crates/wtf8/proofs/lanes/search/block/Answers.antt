@@ -1,0 +1,8 @@
+use Rattle.wtf8.proofs.lemmas.SurrogateLanes.{no_lane, least_lane}
+use Rattle.wtf8.proofs.lanes.search.block.Goals as goal
+
+pub returns-then-mask-eq0 : goal.returns-then-mask-eq0
+returns-then-mask-eq0 g c = no_lane g.row.N c.requires c.args.firsts c.args.seconds c.fits-firsts.0 c.fits-seconds.0 c.if-mask-eq0.true
+
+pub returns : goal.returns
+returns g c = least_lane g.row.N c.requires c.args.firsts c.args.seconds c.fits-firsts.0 c.fits-seconds.0 c.if-mask-eq0.false

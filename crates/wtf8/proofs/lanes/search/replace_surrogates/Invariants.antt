@@ -1,0 +1,10 @@
+use Rattle.wtf8.proofs.Common.{◌-◌, length, IsWellFormed}
+use Rattle.wtf8.proofs.lemmas.Replacement.{Replacing}
+use Rattle.wtf8.proofs.lanes.search.replace_surrogates.Given as goal
+
+-- for the reading of the bytes as they were: done up to `from`
+abbrev pub invariant-loop-found : goal.invariant-loop-found
+invariant-loop-found g l = (h : IsWellFormed l.fn.bytes.items) → Replacing h.points l.bytes.items l.from
+
+abbrev pub decreases-loop-found : goal.decreases-loop-found
+decreases-loop-found g l = length l.bytes.items - l.from

@@ -1,0 +1,5 @@
+use Rattle.wtf8.proofs.lemmas.SurrogatePresence.{shown_by_seconds}
+use Rattle.wtf8.proofs.lanes.surrogate_presence.seconds.Goals as goal
+
+pub returns : goal.returns
+returns c = shown_by_seconds 16 c.args.bytes.now c.args.at c.requires

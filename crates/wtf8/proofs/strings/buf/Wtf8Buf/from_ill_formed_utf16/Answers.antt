@@ -1,0 +1,18 @@
+use Rattle.std.proofs.Common.{◌∙◌, refl}
+use Rattle.wtf8.proofs.lemmas.Readings.{well_formed_of, same_form}
+use Rattle.wtf8.proofs.lemmas.Scalars.{scalar_moved}
+use Rattle.wtf8.proofs.strings.buf.Wtf8Buf.from_ill_formed_utf16.Goals as goal
+
+pub from_well_formed-requires-clause-scalar : goal.from_well_formed-requires-clause-scalar
+from_well_formed-requires-clause-scalar g c known h =
+    let read = c.in_ok-is_known_utf8.ensures.ok in
+    scalar_moved (well_formed_of read.form) h refl (read.scalar known)
+
+pub returns-clause-units : goal.returns-clause-units
+returns-clause-units g c =
+    let form = c.in_ok-is_known_utf8.ensures.ok.form in
+    c.from_well_formed.ensures.units (well_formed_of form) ∙ form.reads.same_units
+
+pub returns-clause-form : goal.returns-clause-form
+returns-clause-form g c w form =
+    c.from_well_formed.ensures.bytes ∙ same_form c.append_units.new.bytes.items w c.args.v.now c.in_ok-is_known_utf8.ensures.ok.form form

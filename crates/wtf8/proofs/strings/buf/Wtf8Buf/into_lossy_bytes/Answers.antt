@@ -1,0 +1,13 @@
+use Rattle.wtf8.proofs.Common.{ap, sym, ◌∙◌, bytes, lossy, UnitString}
+use Rattle.wtf8.proofs.lemmas.Lossy.{lossy-scalar}
+use Rattle.wtf8.proofs.strings.buf.Wtf8Buf.into_lossy_bytes.Goals as goal
+
+pub returns-then-not-is_known_utf8 : goal.returns-then-not-is_known_utf8
+returns-then-not-is_known_utf8 g c =
+    c.replace_surrogates.ensures c.self.inside.well_formed ∙ ap (λ (t : UnitString). bytes (lossy t.form.points)) c.self.view_is
+
+pub returns-else-not-is_known_utf8 : goal.returns-else-not-is_known_utf8
+returns-else-not-is_known_utf8 g c =
+    let h = c.self.inside.well_formed in
+    let scalar = c.self.inside.known_scalar c.if-not-is_known_utf8.false in
+    sym h.encoded ∙ (ap bytes (sym (lossy-scalar h.points scalar)) ∙ ap (λ (t : UnitString). bytes (lossy t.form.points)) c.self.view_is)

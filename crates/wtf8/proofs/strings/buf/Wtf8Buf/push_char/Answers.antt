@@ -1,0 +1,27 @@
+use Rattle.wtf8.proofs.Common.{UnitString, ap, subst, OnOk, GainsUnits}
+use Rattle.wtf8.proofs.lemmas.Gains.{gained_units, kept_contents}
+use Rattle.wtf8.proofs.lemmas.Scalars.{known_point}
+use Rattle.wtf8.proofs.lemmas.Texts.{scalar_facts}
+use Rattle.wtf8.proofs.lemmas.Units.{units_one}
+use Rattle.wtf8.proofs.strings.buf.Wtf8Buf.push_char.Goals as goal
+
+pub invariant_of-self-inside : goal.invariant_of-self-inside
+invariant_of-self-inside g c =
+    let f = scalar_facts c.args.c c.ranges.c.0 in
+    let own = c.self.inside in
+    let call = c.push_scalar in
+    known_point call.result c.args.c own.is_known_utf8 own.well_formed f.range f.apart own.known_scalar call.ensures.ok call.ensures.err
+
+pub returns-clause-ok : goal.returns-clause-ok
+returns-clause-ok g c =
+    gained_units c.push_scalar.result _ c.self.inside.well_formed c.self-1.given.0 (ap (λ (t : UnitString). t.units) c.self.view_is) c.push_scalar.ensures.ok
+
+pub returns-clause-kept : goal.returns-clause-kept
+returns-clause-kept g c = kept_contents c.push_scalar.result _ _ _ c.self.view_is c.push_scalar.ensures.err
+
+pub returns-clause-one : goal.returns-clause-one
+returns-clause-one g c low =
+    let old = c.self.inside.bytes.items in
+    let new = c.push_scalar.new.bytes.items in
+    let gains = subst (λ u. OnOk c.push_scalar.result (GainsUnits old new u)) (units_one c.args.c low) c.push_scalar.ensures.ok in
+    gained_units c.push_scalar.result _ c.self.inside.well_formed c.self-1.given.0 (ap (λ (t : UnitString). t.units) c.self.view_is) gains

@@ -1,0 +1,9 @@
+use Rattle.wtf8.proofs.Common.{◌∙◌, ◌∷◌, [], sym, subst, AreScalar}
+use Rattle.wtf8.proofs.lemmas.Scalars.{scalar_behind}
+use Rattle.wtf8.proofs.lemmas.Texts.{scalar_facts}
+use Rattle.wtf8.proofs.strings.concat.push_scalar.Goals as goal
+
+pub push_apart-requires-clause-apart : goal.push_apart-requires-clause-apart
+push_apart-requires-clause-apart g c h =
+    let same = sym (c.from_u32_unchecked.ensures ∙ c.from.ensures) in
+    scalar_behind (subst (λ p. AreScalar (p ∷ [])) same ((scalar_facts c.args.c c.ranges.c.0).apart, tt))

@@ -1,0 +1,40 @@
+use Rattle.wtf8.proofs.Common.{◌≡◌, ◌++◌, ◌∷◌, [], ◌∙◌, List, ℕ, refl, sym, arith, on_ok_weaker, IsLead, IsTrail}
+use Rattle.wtf8.proofs.lemmas.Gains.{Joined, joined, fits_length}
+use Rattle.wtf8.proofs.lemmas.Meeting.{meets_same}
+use Rattle.wtf8.proofs.lemmas.Readings.{same_points}
+use Rattle.wtf8.proofs.strings.concat.push_surrogate.Given.{Over}
+use Rattle.wtf8.proofs.strings.concat.push_surrogate.Goals.{After-from_well_formed-view}
+use Rattle.wtf8.proofs.strings.concat.push_surrogate.Goals as goal
+
+-- the lead that ends the view of the bytes ends these
+joined_here : (g : Over) (c : After-from_well_formed-view g) (l t : ℕ) → IsLead l → IsTrail t
+    → (f : List ℕ) × (c.from_well_formed-view.result.well_formed.points ≡ f ++ l ∷ []) → Joined c.args.bytes.now.items l t
+joined_here g c l t lead trail last =
+    let view = c.from_well_formed-view in
+    let same = same_points c.requires view.result.well_formed (sym (view.ensures.bytes ∙ c.as_slice.ensures.value)) in
+    joined c.requires last.0 l t lead trail (same ∙ last.1)
+
+pub from_well_formed-view-requires : goal.from_well_formed-view-requires
+from_well_formed-view-requires g c = rw c.as_slice.ensures.value c.requires
+
+pub join-requires-clause-three : goal.join-requires-clause-three
+join-requires-clause-three g c =
+    let met = c.in-Some.ensures in
+    (joined_here g (goal.at.join-requires-clause-three g c).After-from_well_formed-view _ _ met.lead met.trail met.last).three
+
+pub returns-in-Some-clause-ok : goal.returns-in-Some-clause-ok
+returns-in-Some-clause-ok g c =
+    let met = c.in-Some.ensures in
+    let x = joined_here g (goal.at.returns-in-Some-clause-ok g c).After-from_well_formed-view _ _ met.lead met.trail met.last in
+    on_ok_weaker c.join.result (λ e. rw e (rw c.to_u32.ensures.value x.gains)) c.join.ensures.ok
+
+pub returns-in-Some-clause-room : goal.returns-in-Some-clause-room
+returns-in-Some-clause-room g c fit =
+    let met = c.in-Some.ensures in
+    let x = joined_here g (goal.at.returns-in-Some-clause-room g c).After-from_well_formed-view _ _ met.lead met.trail met.last in
+    c.join.ensures.room (omega (arith, fits_length x.gains fit, x.longer))
+
+pub push_apart-requires-clause-apart : goal.push_apart-requires-clause-apart
+push_apart-requires-clause-apart g c h m =
+    let view = c.from_well_formed-view in
+    c.in-None.ensures.none (meets_same m (same_points view.result.well_formed h (view.ensures.bytes ∙ c.as_slice.ensures.value)) refl)

@@ -1,0 +1,15 @@
+use Rattle.std.proofs.Common.{◌≡◌, ◌+◌, ◌≤◌, ◌<◌, ◌∙◌, sym, length, ap, drop, get_or, arith}
+use Rattle.std.proofs.lemmas.List.{get_or-drop}
+use Rattle.wtf8.proofs.lemmas.HeldTrails.{inside, is_whole, held_at}
+use Rattle.wtf8.proofs.strings.iters.IllFormedUtf16CodeUnits.held_units.Goals as goal
+
+pub returns-in-128-to-191-clause-value : goal.returns-in-128-to-191-clause-value
+returns-in-128-to-191-clause-value c =
+    let s = c.self.inside in
+    let none_on : s.at + 0 ≡ s.at = omega arith in
+    let first = get_or-drop s.at s.bytes.now 0 0 ∙ ap (λ k. get_or s.bytes.now k 0) none_on in
+    let least : 0x80 ≤ get_or (drop s.at s.bytes.now) 0 0 = omega (arith, first, c.in-128-to-191) in
+    let most : get_or (drop s.at s.bytes.now) 0 0 < 0xC0 = omega (arith, first, c.in-128-to-191) in
+    let two = is_whole (drop s.at s.bytes.now) s.behind least most in
+    let held = held_at (drop s.at s.bytes.now) two (inside (get_or (drop s.at s.bytes.now) 0 0) least most) in
+    sym (ap (λ u. length u.held) (sym c.self.view_is) ∙ ap length held.0)

@@ -1,0 +1,7 @@
+use Rattle.std.proofs.Common.{arith}
+use Rattle.wtf8.proofs.lemmas.UnitPositions.{begun_more}
+use Rattle.wtf8.proofs.strings.unit_positions.behind_block.Goals as goal
+
+pub returns-clause-counted : goal.returns-clause-counted
+returns-clause-counted g c =
+    omega (arith, begun_more c.args.bytes.now c.args.from.at g.row.N, c.requires.counted, c.units_begun_in_block-more.ensures)

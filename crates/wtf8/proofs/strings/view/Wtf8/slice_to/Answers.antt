@@ -1,0 +1,19 @@
+use Rattle.wtf8.proofs.Common.{◌∙◌, ap, sym, rules, units, view_units, IsFront}
+use Rattle.wtf8.proofs.lemmas.Positions.{cut_at}
+use Rattle.wtf8.proofs.lemmas.Readings.{moved}
+use Rattle.wtf8.proofs.lemmas.PositionLaws.{front_and_back}
+use Rattle.wtf8.proofs.strings.view.Wtf8.slice_to.Goals as goal
+
+pub split_at-requires : goal.split_at-requires
+split_at-requires c = (cut_at c.args.self.now.well_formed c.args.end c.requires).within
+
+pub from_well_formed-requires : goal.from_well_formed-requires
+from_well_formed-requires c = moved (cut_at c.args.self.now.well_formed c.args.end c.requires).before c.split_at.ensures.front
+
+pub returns : goal.returns
+returns c =
+    let cut = cut_at c.args.self.now.well_formed c.args.end c.requires in
+    let points = c.from_well_formed.ensures.points (moved cut.before c.split_at.ensures.front) ∙ cut.before_points in
+    let part : IsFront (view_units c.args.self.now) c.args.end (view_units c.from_well_formed.result) =
+    record { front = cut.front; back = cut.back; splits = cut.splits; same_units = ap units (sym points) } in
+    record { units = part; bytes = search rules; whole = λ back h. front_and_back (view_units c.args.self.now) _ back c.args.end part h }

@@ -1,0 +1,29 @@
+use Rattle.wtf8.proofs.Common.{◌∙◌, ap, sym, subst, IsUtf8, bytes}
+use Rattle.wtf8.proofs.lemmas.Lossy.{lossy-scalar}
+use Rattle.wtf8.proofs.lemmas.Readings.{moved, same_points}
+use Rattle.wtf8.proofs.lemmas.Replacement.{parted}
+use Rattle.wtf8.proofs.lemmas.Surrogates.{scalar_if_none, utf8_if_none}
+use Rattle.wtf8.proofs.strings.view.Wtf8.split_at_surrogate.Goals as goal
+
+pub from_utf8_unchecked-requires : goal.from_utf8_unchecked-requires
+from_utf8_unchecked-requires c = utf8_if_none c.args.self.well_formed c.in_default.ensures
+
+pub returns-in_default-clause-none : goal.returns-in_default-clause-none
+returns-in_default-clause-none c =
+    let h = c.args.self.well_formed in
+    ap bytes (lossy-scalar h.points (scalar_if_none h c.in_default.ensures)) ∙ (h.encoded ∙ sym c.from_utf8_unchecked.ensures)
+
+pub split_at-requires-2 : goal.split_at-requires-2
+split_at-requires-2 c = (parted c.args.self.well_formed c.in-Some.place c.in-Some.ensures).within
+
+pub from_utf8_unchecked-text-requires : goal.from_utf8_unchecked-text-requires
+from_utf8_unchecked-text-requires c = subst IsUtf8 (sym c.split_at.ensures.front) (parted c.args.self.well_formed c.in-Some.place c.in-Some.ensures).text
+
+pub invariant_of-result : goal.invariant_of-result
+invariant_of-result c = record { well_formed = moved (parted c.args.self.well_formed c.in-Some.place c.in-Some.ensures).rest c.split_at-2.ensures.back }
+
+pub returns-clause-some : goal.returns-clause-some
+returns-clause-some c =
+    let parts = parted c.args.self.well_formed c.in-Some.place c.in-Some.ensures in
+    let text = c.from_utf8_unchecked-text.ensures ∙ c.split_at.ensures.front in
+    parts.lossy_parts ∙ simp (text, same_points c.result-1.given.0 parts.rest c.split_at-2.ensures.back)

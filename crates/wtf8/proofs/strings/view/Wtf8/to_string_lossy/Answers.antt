@@ -1,0 +1,27 @@
+use Rattle.wtf8.proofs.Common.{ap, sym, ◌∙◌, subst, refl, IsUtf8, bytes, length}
+use Rattle.wtf8.proofs.lemmas.Lossy.{utf8_lossy_points, lossy-scalar, length-lossy}
+use Rattle.wtf8.proofs.lemmas.Readings.{moved}
+use Rattle.wtf8.proofs.strings.view.Wtf8.to_string_lossy.Goals as goal
+
+pub returns-in-Some-clause-text : goal.returns-in-Some-clause-text
+returns-in-Some-clause-text g c =
+    let h = c.args.self.now.well_formed in
+    c.in-Some.ensures.bytes ∙ (sym h.encoded ∙ ap bytes (sym (lossy-scalar h.points (c.in-Some.ensures.some.0 refl))))
+
+pub from_utf8_unchecked-requires : goal.from_utf8_unchecked-requires
+from_utf8_unchecked-requires g c =
+    let h = c.args.self.now.well_formed in
+    subst IsUtf8 (sym (c.replace_surrogates.ensures (moved h c.in_ok-bytes.ensures.items))) (utf8_lossy_points h.points h.clean)
+
+pub returns-clause-text : goal.returns-clause-text
+returns-clause-text g c =
+    ap (λ v. v.items) c.from_utf8_unchecked.ensures.value ∙ c.replace_surrogates.ensures (moved c.args.self.now.well_formed c.in_ok-bytes.ensures.items)
+
+pub returns-in-Some-clause-len : goal.returns-in-Some-clause-len
+returns-in-Some-clause-len g c = ap length c.in-Some.ensures.bytes
+
+pub returns-clause-len : goal.returns-clause-len
+returns-clause-len g c =
+    let h = c.args.self.now.well_formed in
+    ap (λ v. length v.items) c.from_utf8_unchecked.ensures.value
+    ∙ (ap length (c.replace_surrogates.ensures (moved h c.in_ok-bytes.ensures.items)) ∙ (length-lossy h.points ∙ ap length h.encoded))

@@ -1,6 +1,0 @@
-use Rattle.std.proofs.lemmas.Bool.{eqb-true}
-use Rattle.wtf8.proofs.lemmas.UnitBlocks.{none_high}
-use Rattle.wtf8.proofs.unit_blocks.are_ascii.Goals as goal
-
-pub returns : goal.returns
-returns c t = none_high c.args.numbers c.fits-numbers.0 c.fits-numbers.1 (eqb-true _ 0 t)

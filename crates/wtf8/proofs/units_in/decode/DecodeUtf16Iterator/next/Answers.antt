@@ -1,0 +1,57 @@
+use Rattle.wtf8.proofs.Common.{◌<◌, rules, refl, inl, inr, sym, subst, arith, Some, peekable_steps, peekable_peeked, units_left, IsTrail}
+use Rattle.std.proofs.Common.{true≢false}
+use Rattle.wtf8.proofs.lemmas.Decoding.{takes_one, takes_two, held_apart}
+use Rattle.wtf8.proofs.units_in.decode.DecodeUtf16Iterator.next.Goals as goal
+
+pub returns-in-Some-clause-steps : goal.returns-in-Some-clause-steps
+returns-in-Some-clause-steps g c =
+    let told = c.in-Some.ensures.cases in
+    let steps = g.I.Iterator.next_gives in
+    let unit = c.in_ok-unit.unit in
+    let trail = c.in-Some.trail in
+    let second : peekable_steps steps c.next.new.self (Some trail) c.next_if.new.self = (told.2.1, rw told.2.0 at told.1) in
+    record {
+      kind = search rules;
+      behind = c.next_if.new.self;
+      taken = takes_two steps (units_left c.args.self.now) c.next.new.self c.next_if.new.self unit trail c.joined.result c.joined.ensures (search rules)
+          (search rules) c.in_ok-unit.ensures.steps second;
+      held = inl refl;
+      lone = λ lead. absurd (omega (arith, c.joined.ensures, lead));
+    }
+
+pub returns-in-None-clause-steps : goal.returns-in-None-clause-steps
+returns-in-None-clause-steps g c =
+    let told = c.in-None.ensures.cases in
+    let unit = c.in_ok-unit.unit in
+    record {
+      kind = (omega arith, omega arith);
+      behind = c.next.new.self;
+      taken = takes_one g.I.Iterator.next_gives (units_left c.args.self.now) c.next.new.self unit unit refl (omega arith) c.in_ok-unit.ensures.steps;
+      held = inr (told.0, told.1, told.2);
+      lone = λ _. held_apart (peekable_peeked c.next_if.new.self) told.0 _ told.2 c.in-None.ensures.refused
+          (λ u failed trail. true≢false (sym (failed.1.1 (subst IsTrail (sym failed.2) trail))));
+    }
+
+pub returns-in-56320-to-57343-clause-steps : goal.returns-in-56320-to-57343-clause-steps
+returns-in-56320-to-57343-clause-steps g c =
+    let unit = c.in_ok-unit.unit in
+    record {
+      kind = (omega arith, omega arith);
+      behind = c.next.new.self;
+      taken = takes_one g.I.Iterator.next_gives (units_left c.args.self.now) c.next.new.self unit unit refl (omega arith) c.in_ok-unit.ensures.steps;
+      held = inl refl;
+      lone = λ lead. absurd (omega (arith, lead));
+    }
+
+pub returns-in_default-clause-steps : goal.returns-in_default-clause-steps
+returns-in_default-clause-steps g c =
+    let unit = c.in_ok-unit.unit in
+    let range : unit < 0x10000 = search rules in
+    record {
+      kind = search rules;
+      behind = c.next.new.self;
+      taken =
+          takes_one g.I.Iterator.next_gives (units_left c.args.self.now) c.next.new.self unit c.single.result c.single.ensures range c.in_ok-unit.ensures.steps;
+      held = inl refl;
+      lone = λ lead. absurd (search rules);
+    }

@@ -1,0 +1,10 @@
+use Rattle.std.proofs.Common.{◌∙◌}
+use Rattle.std.proofs.lemmas.List.{map-id}
+use Rattle.std.proofs.lemmas.Option.{IfSome_then}
+use Rattle.wtf8.proofs.lemmas.UnitParts.{ascii_block}
+use Rattle.wtf8.proofs.units_in.unit_blocks.ascii_block.Goals as goal
+
+pub returns : goal.returns
+returns c =
+    let units = c.in_ok-units_from.ensures in
+    IfSome_then c.ascii_bytes.result c.ascii_bytes.ensures (λ w h. ascii_block c.args.v.now w c.args.at units.within h.0 (h.1 ∙ map-id _ ∙ units.same))

@@ -1,8 +1,0 @@
-use Rattle.std.proofs.Common.{length, ap, arith}
-use Rattle.wtf8.proofs.lemmas.Units.{points_bounds}
-use Rattle.wtf8.proofs.view.Wtf8.code_points.Goals as goal
-
-pub returns-clause-fits : goal.returns-clause-fits
-returns-clause-fits c =
-    let s = c.args.self.now.well_formed in
-    let b = points_bounds s.points in omega (arith, ap length s.encoded, ap length c.new.ensures)

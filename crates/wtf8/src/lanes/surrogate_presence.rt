@@ -1,0 +1,331 @@
+// Whether bytes hold a surrogate, asked of many places together, of which no place is made; and the first surrogate, where the
+// front or short bytes may tell before the search.
+ghost use Rattle.std.specs.Prelude.{◌≡◌, ℕ, ◌+◌, ◌*◌, ◌<◌, ◌≤◌, length, false, None, IsTrue};
+ghost use Rattle.wtf8.specs.SurrogateSearch.{HasLane, IsFirst, NoneBefore, ShowsSurrogate, SurrogateAt};
+
+use crate::lanes::search;
+use std::simd::prelude::*;
+
+/// How many places one vector shows.
+const LANES: usize = 16;
+
+/// How many places one turn looks at.
+const TURN: usize = 8 * LANES;
+
+/// The least byte that can begin a surrogate. Only characters from U+D000 on have a byte that is as great.
+const FIRST_BYTE: u8 = 0xED;
+
+/// The least byte that can stand behind it in a surrogate.
+const SECOND_BYTE: u8 = 0xA0;
+
+/// Whether a surrogate begins anywhere in the bytes.
+#[inline(always)]
+pub(crate) fn holds_surrogate(bytes: &[u8]) -> bool
+    ensures { result ≡ false → IsFirst (SurrogateAt bytes.now) 0 None }
+{
+    if is_short_and_below(bytes) {
+        return false;
+    }
+    holds_surrogate_in_many(bytes)
+}
+
+/// The place of the first surrogate. What was cut out of another string may begin with a trail; of other short bytes it
+/// is asked first whether any can begin one.
+#[inline(always)]
+pub(crate) fn first_surrogate(bytes: &[u8]) -> Option<usize>
+    ensures { IsFirst (SurrogateAt bytes.now) 0 result }
+{
+    if search::begins_with_surrogate(bytes) {
+        return Some(0);
+    }
+    if is_short_and_below(bytes) {
+        return None;
+    }
+    first_surrogate_in_many(bytes)
+}
+
+/// The same, however many.
+#[inline(never)]
+fn first_surrogate_in_many(bytes: &[u8]) -> Option<usize>
+    ensures { IsFirst (SurrogateAt bytes.now) 0 result }
+{
+    search::first_surrogate(bytes, 0)
+}
+
+/// Whether there are 4 to 64 bytes, none of which can begin a surrogate.
+#[inline(always)]
+fn is_short_and_below(bytes: &[u8]) -> bool
+    ensures { IsTrue result → IsFirst (SurrogateAt bytes.now) 0 None }
+{
+    let count = bytes.len();
+    if count <= 16 {
+        if count < 8 {
+            return 4 <= count && are_ends_below::<4>(bytes);
+        }
+        return are_ends_below::<8>(bytes);
+    }
+    if count <= 32 {
+        return are_ends_below::<16>(bytes);
+    }
+    count <= 64 && are_ends_below::<32>(bytes)
+}
+
+/// The same, where the first `N` bytes and the last `N` are all.
+#[inline(always)]
+fn are_ends_below<const N: usize>(bytes: &[u8]) -> bool
+    requires lanes { N ≤ 64 }
+    requires room { N ≤ length bytes.now }
+    requires all { length bytes.now ≤ 2 * N }
+    ensures { IsTrue result → IsFirst (SurrogateAt bytes.now) 0 None }
+{
+    let front = firsts::<N>(bytes, 0);
+    let back = firsts::<N>(bytes, bytes.len() - N);
+    is_below(greatest(front, back), FIRST_BYTE)
+}
+
+/// Whether a surrogate begins anywhere in the bytes, however many.
+#[inline(never)]
+fn holds_surrogate_in_many(bytes: &[u8]) -> bool
+    ensures { result ≡ false → IsFirst (SurrogateAt bytes.now) 0 None }
+{
+    if bytes.len() <= TURN {
+        return search::first_surrogate(bytes, 0).is_some();
+    }
+    let at = skip_below(bytes);
+    let at = skip_without_first_byte(bytes, at);
+    holds_surrogate_from(bytes, at)
+}
+
+/// A place before which no byte can begin a surrogate, two turns at a time.
+#[inline(always)]
+fn skip_below(bytes: &[u8]) -> usize
+    ensures within { result ≤ length bytes.now }
+    ensures none { NoneBefore bytes.now result }
+{
+    let mut at = 0;
+    while 2 * TURN <= bytes.len() - at {
+        if !are_two_turns_below(bytes, at) {
+            break;
+        }
+        at += 2 * TURN;
+    }
+    at
+}
+
+/// A place before which no surrogate begins, from another such place on: no byte between them is the first of one.
+#[inline(always)]
+fn skip_without_first_byte(bytes: &[u8], from: usize) -> usize
+    requires within { from ≤ length bytes.now }
+    requires none { NoneBefore bytes.now from }
+    ensures within { result ≤ length bytes.now }
+    ensures none { NoneBefore bytes.now result }
+{
+    let mut at = from;
+    while TURN <= bytes.len() - at {
+        if !lacks_first_byte(bytes, at) {
+            break;
+        }
+        at += TURN;
+    }
+    at
+}
+
+/// Whether a surrogate begins anywhere, where none does before a place.
+#[inline(always)]
+fn holds_surrogate_from(bytes: &[u8], from: usize) -> bool
+    requires long { 128 < length bytes.now }
+    requires within { from ≤ length bytes.now }
+    requires none { NoneBefore bytes.now from }
+    ensures { result ≡ false → IsFirst (SurrogateAt bytes.now) 0 None }
+{
+    let mut at = from;
+    while TURN < bytes.len() - at {
+        if !lacks_surrogate(bytes, at) {
+            return true;
+        }
+        at += TURN;
+    }
+    !lacks_surrogate(bytes, bytes.len() - TURN - 1)
+}
+
+/// Whether no byte of two turns can begin a surrogate.
+#[inline(always)]
+fn are_two_turns_below(bytes: &[u8], at: usize) -> bool
+    requires { at + 256 ≤ length bytes.now }
+    ensures { IsTrue result → NoneBefore bytes.now at → NoneBefore bytes.now (at + 256) }
+{
+    let places = greatest(firsts_of_turn(bytes, at), firsts_of_turn(bytes, at + 128));
+    is_below(places, FIRST_BYTE)
+}
+
+/// Whether no byte of a turn is the first of a surrogate.
+#[inline(always)]
+fn lacks_first_byte(bytes: &[u8], at: usize) -> bool
+    requires { at + 128 ≤ length bytes.now }
+    ensures { IsTrue result → NoneBefore bytes.now at → NoneBefore bytes.now (at + 128) }
+{
+    let places = greatest(
+        first_bytes_of_block(bytes, at),
+        first_bytes_of_block(bytes, at + 64),
+    );
+    is_below(places, FIRST_BYTE)
+}
+
+/// Whether no surrogate begins in a turn.
+#[inline(always)]
+fn lacks_surrogate(bytes: &[u8], at: usize) -> bool
+    requires { at + 128 < length bytes.now }
+    ensures { IsTrue result → NoneBefore bytes.now at → NoneBefore bytes.now (at + 128) }
+{
+    let seconds = greatest(
+        seconds_of_block(bytes, at),
+        seconds_of_block(bytes, at + 64),
+    );
+    is_below(seconds, SECOND_BYTE)
+}
+
+/// The greatest bytes of a turn.
+#[inline(always)]
+fn firsts_of_turn(bytes: &[u8], at: usize) -> u8x16
+    requires { at + 128 ≤ length bytes.now }
+    ensures { ShowsSurrogate bytes.now at (at + 128) 0xED result }
+{
+    greatest(firsts_of_block(bytes, at), firsts_of_block(bytes, at + 64))
+}
+
+/// The greatest bytes of a block of 64.
+#[inline(always)]
+fn firsts_of_block(bytes: &[u8], at: usize) -> u8x16
+    requires { at + 64 ≤ length bytes.now }
+    ensures { ShowsSurrogate bytes.now at (at + 64) 0xED result }
+{
+    let front = greatest(firsts(bytes, at), firsts(bytes, at + 16));
+    let back = greatest(firsts(bytes, at + 32), firsts(bytes, at + 48));
+    greatest(front, back)
+}
+
+/// All ones in some lane where a byte of a block of 64 is the first of a surrogate.
+#[inline(always)]
+fn first_bytes_of_block(bytes: &[u8], at: usize) -> u8x16
+    requires { at + 64 ≤ length bytes.now }
+    ensures { ShowsSurrogate bytes.now at (at + 64) 0xED result }
+{
+    let front = greatest(first_bytes(bytes, at), first_bytes(bytes, at + 16));
+    let back = greatest(first_bytes(bytes, at + 32), first_bytes(bytes, at + 48));
+    greatest(front, back)
+}
+
+/// The greatest bytes that stand behind the first byte of a surrogate in a block of 64.
+#[inline(always)]
+fn seconds_of_block(bytes: &[u8], at: usize) -> u8x16
+    requires { at + 64 < length bytes.now }
+    ensures { ShowsSurrogate bytes.now at (at + 64) 0xA0 result }
+{
+    let front = greatest(seconds(bytes, at), seconds(bytes, at + 16));
+    let back = greatest(seconds(bytes, at + 32), seconds(bytes, at + 48));
+    greatest(front, back)
+}
+
+/// The `N` bytes from a place on.
+#[inline(always)]
+fn firsts<const N: usize>(bytes: &[u8], at: usize) -> Simd<u8, N>
+    requires { at + N ≤ length bytes.now }
+    ensures { ShowsSurrogate bytes.now at (at + N) 0xED result }
+{
+    Simd::<u8, N>::from_slice(&bytes[at..])
+}
+
+/// All ones where one of 16 bytes is the first of a surrogate, else 0.
+#[inline(always)]
+fn first_bytes(bytes: &[u8], at: usize) -> u8x16
+    requires { at + 16 ≤ length bytes.now }
+    ensures { ShowsSurrogate bytes.now at (at + 16) 0xED result }
+{
+    let firsts = u8x16::from_slice(&bytes[at..]);
+    firsts
+        .simd_eq(u8x16::splat(FIRST_BYTE))
+        .select(u8x16::splat(0xFF), u8x16::splat(0))
+}
+
+/// The byte behind each of 16 where that is the first of a surrogate, else 0.
+#[inline(always)]
+fn seconds(bytes: &[u8], at: usize) -> u8x16
+    requires { at + 16 < length bytes.now }
+    ensures { ShowsSurrogate bytes.now at (at + 16) 0xA0 result }
+{
+    let firsts = u8x16::from_slice(&bytes[at..]);
+    let seconds = u8x16::from_slice(&bytes[at + 1..]);
+    firsts
+        .simd_eq(u8x16::splat(FIRST_BYTE))
+        .select(seconds, u8x16::splat(0))
+}
+
+/// The greater of two vectors' lanes.
+#[inline(always)]
+fn greatest<const N: usize>(own: Simd<u8, N>, others: Simd<u8, N>) -> Simd<u8, N>
+    ensures own { (least : ℕ) → HasLane least own.entry → HasLane least result }
+    ensures others { (least : ℕ) → HasLane least others.entry → HasLane least result }
+{
+    own.simd_max(others)
+}
+
+/// Whether all lanes are below a number.
+#[inline(always)]
+pub(crate) fn is_below<const N: usize>(lanes: Simd<u8, N>, least: u8) -> bool
+    requires { N ≤ 64 }
+    ensures { IsTrue result → ¬ (HasLane least lanes.entry) }
+{
+    lanes.simd_ge(Simd::splat(least)).to_bitmask() == 0
+}
+
+#[cfg(test)]
+mod tests {
+    use super::*;
+    use std::alloc::AllocError;
+
+    /// The byte at a place of letters that are divided by the first two bytes of a surrogate.
+    fn byte_at(place: usize, lead: usize) -> u8 {
+        if place == lead {
+            return 0xED;
+        }
+        if lead < place && place - lead == 1 {
+            return 0xA0;
+        }
+        0x61
+    }
+
+    #[test]
+    fn the_answer_is_that_of_the_search(rt: HostRuntime) -> Result<(), AllocError> {
+        for lead in 0..300 {
+            let mut bytes = Vec::new(rt.alloc());
+            for place in 0..300 {
+                bytes.push(byte_at(place, lead))?;
+                assert_eq!(rt;
+                    holds_surrogate(&bytes),
+                    search::first_surrogate(&bytes, 0).is_some(),
+                    "{lead} of {place}"
+                );
+            }
+        }
+        Ok(())
+    }
+
+    /// Characters that have bytes from ED on, but are no surrogates.
+    const PIECES: [&[u8]; 3] = [
+        &[0xED, 0x9F, 0xBF],
+        &[0xEF, 0xBF, 0xBD],
+        &[0xF0, 0x9F, 0x98, 0x80],
+    ];
+
+    #[test]
+    fn other_characters_hold_none(rt: HostRuntime) -> Result<(), AllocError> {
+        for piece in &PIECES {
+            let mut bytes = Vec::new(rt.alloc());
+            for copies in 0..200 {
+                assert_eq!(rt; holds_surrogate(&bytes), false, "{copies} copies");
+                bytes.extend_from_slice(piece)?;
+            }
+        }
+        Ok(())
+    }
+}

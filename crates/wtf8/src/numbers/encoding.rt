@@ -1,0 +1,254 @@
+// The encoding of one code point: written at the end of bytes, and read from their front.
+ghost use Rattle.std.specs.Prelude.{◌≡◌, ◌++◌, ◌+◌, ◌-◌, ◌/◌, ◌%◌, ◌^◌, ◌<◌, ◌≤◌, ◌↔◌, ◌⊎◌};
+ghost use Rattle.std.specs.Prelude.{ℕ, List, IsTrue, length, slice_index, OnOk, OnErr, IsOk, vec_len, vec_capacity};
+ghost use Rattle.wtf8.specs.CodePoint.{number};
+ghost use Rattle.wtf8.specs.Form.{encoding};
+ghost use Rattle.wtf8.specs.Gains.{BeginsWithPoint, IsReadAs};
+ghost use Rattle.wtf8.specs.Unicode.{IsCodePoint};
+ghost use Rattle.wtf8.specs.UnitSteps.{trail_by};
+
+use crate::numbers::code_point::CodePoint;
+use std::alloc::{AllocError, Allocator};
+
+/// The byte of the last six bits of a number, as each byte behind a first one is.
+#[inline(always)]
+fn six_bits(value: u32) -> u8
+    ensures { result ≡ 0x80 + value % 64 }
+{
+    (0x80 + value % 64) as u8
+}
+
+/// The two bytes of a code point from 0x80 to 0x7FF.
+#[tactic(auto, using(crate::proofs::lemmas::Encoding::encoding_two))]
+fn two_bytes(value: u32) -> [u8; 2]
+    requires low { 0x80 ≤ value }
+    requires high { value < 0x800 }
+    ensures { result ≡ encoding value }
+{
+    [(0xC0 + value / 64) as u8, six_bits(value)]
+}
+
+/// The three bytes of a code point from 0x800 to 0xFFFF, a surrogate like any other.
+#[tactic(auto, using(crate::proofs::lemmas::Encoding::encoding_three))]
+pub(crate) fn three_bytes(value: u32) -> [u8; 3]
+    requires low { 0x800 ≤ value }
+    requires high { value < 0x10000 }
+    ensures { result ≡ encoding value }
+{
+    [
+        (0xE0 + value / 4096) as u8,
+        six_bits(value / 64),
+        six_bits(value),
+    ]
+}
+
+/// The four bytes of a supplementary code point.
+#[tactic(auto, using(crate::proofs::lemmas::Encoding::encoding_four))]
+pub(crate) fn four_bytes(value: u32) -> [u8; 4]
+    requires low { 0x10000 ≤ value }
+    requires high { IsCodePoint value }
+    ensures { result ≡ encoding value }
+{
+    [
+        (0xF0 + value / 262144 % 8) as u8,
+        six_bits(value / 4096),
+        six_bits(value / 64),
+        six_bits(value),
+    ]
+}
+
+/// How many bytes there is room for behind those that are there.
+#[inline(always)]
+pub(crate) fn spare_room<A: Allocator>(bytes: &Vec<u8, A>) -> usize
+    ensures { vec_len bytes.now + result ≡ vec_capacity bytes.now }
+{
+    bytes.capacity() - bytes.len()
+}
+
+/// Finds room for some bytes, which are as before. Their number is compared behind that, so that the compiler knows it in a
+/// loop that follows, and keeps it in a register.
+#[inline(always)]
+pub(crate) fn reserve<A: Allocator>(bytes: &mut Vec<u8, A>, count: usize) -> Result<(), AllocError>
+    ensures items { bytes.new.items ≡ bytes.old.items }
+    ensures ok { OnOk result (vec_len bytes.new + count ≤ vec_capacity bytes.new) }
+    ensures room { vec_len bytes.old + count ≤ vec_capacity bytes.old → IsOk result }
+    ensures capacity { vec_capacity bytes.old ≤ vec_capacity bytes.new }
+{
+    let len = bytes.len();
+    bytes.reserve(count)?;
+    bytes.truncate(len);
+    Ok(())
+}
+
+/// Finds room for some bytes where the spare room is not enough. The bytes are as before.
+#[inline(always)]
+fn find_room<A: Allocator>(
+    bytes: &mut Vec<u8, A>,
+    spare: usize,
+    count: usize,
+) -> Result<(), AllocError>
+    requires { vec_len bytes.old + spare ≡ vec_capacity bytes.old }
+    ensures items { bytes.new.items ≡ bytes.old.items }
+    ensures len { vec_len bytes.new ≡ vec_len bytes.old }
+    ensures ok { OnOk result (vec_len bytes.new + count ≤ vec_capacity bytes.new) }
+    ensures room { vec_len bytes.old + count ≤ vec_capacity bytes.old → IsOk result }
+    ensures capacity { vec_capacity bytes.old ≤ vec_capacity bytes.new }
+{
+    if count <= spare {
+        return Ok(());
+    }
+    bytes.reserve(count)
+}
+
+/// Appends the encoding of a code point, whatever stands before it. After a refusal the bytes are as before.
+#[inline(always)]
+pub(crate) fn append<A: Allocator>(
+    bytes: &mut Vec<u8, A>,
+    code_point: CodePoint,
+) -> Result<(), AllocError>
+    ensures ok { OnOk result (bytes.new.items ≡ bytes.old.items ++ encoding (number code_point)) }
+    ensures err { OnErr result (bytes.new.items ≡ bytes.old.items) }
+    ensures room { vec_len bytes.old + length (encoding (number code_point)) ≤ vec_capacity bytes.old → IsOk result }
+    ensures capacity { vec_capacity bytes.old ≤ vec_capacity bytes.new }
+{
+    let spare = spare_room(bytes);
+    append_into(bytes, spare, code_point)
+}
+
+/// The same where the spare room is known.
+#[inline(always)]
+#[tactic(auto, using(crate::proofs::lemmas::Encoding::encoding_one))]
+pub(crate) fn append_into<A: Allocator>(
+    bytes: &mut Vec<u8, A>,
+    spare: usize,
+    code_point: CodePoint,
+) -> Result<(), AllocError>
+    requires { vec_len bytes.old + spare ≡ vec_capacity bytes.old }
+    ensures ok { OnOk result (bytes.new.items ≡ bytes.old.items ++ encoding (number code_point)) }
+    ensures err { OnErr result (bytes.new.items ≡ bytes.old.items) }
+    ensures room { vec_len bytes.old + length (encoding (number code_point)) ≤ vec_capacity bytes.old → IsOk result }
+    ensures capacity { vec_capacity bytes.old ≤ vec_capacity bytes.new }
+{
+    let value = code_point.to_u32();
+    if value < 0x80 {
+        find_room(bytes, spare, 1)?;
+        bytes.push_reserved(value as u8);
+    } else if value < 0x800 {
+        let [first, second] = two_bytes(value);
+        find_room(bytes, spare, 2)?;
+        bytes.push_reserved(first);
+        bytes.push_reserved(second);
+    } else if value < 0x10000 {
+        let [first, second, third] = three_bytes(value);
+        find_room(bytes, spare, 3)?;
+        bytes.push_reserved(first);
+        bytes.push_reserved(second);
+        bytes.push_reserved(third);
+    } else {
+        bytes.extend_from_slice(&four_bytes(value))?;
+    }
+    Ok(())
+}
+
+/// Whether a byte is the first one of a code point's encoding: the others are from 0x80 to 0xBF.
+pub(crate) fn begins_code_point(byte: u8) -> bool
+    ensures { IsTrue result ↔ ((byte < 0x80) ⊎ (0xC0 ≤ byte)) }
+{
+    byte < 0x80 || 0xC0 <= byte
+}
+
+/// The low six bits of a byte behind the first one.
+pub(crate) fn low_bits(byte: u8) -> u32
+    requires inside { 0x80 ≤ byte }
+    ensures { result + 0x80 ≡ byte }
+{
+    u32::from(byte - 0x80)
+}
+
+/// The number of a code point of two bytes at the front of the bytes.
+#[inline(always)]
+pub(crate) fn read_two(bytes: &[u8]) -> u32
+    requires front { BeginsWithPoint bytes.now }
+    requires least { 0x80 ≤ slice_index bytes.now 0 }
+    requires most { slice_index bytes.now 0 < 0xE0 }
+    ensures read { IsReadAs bytes.now result 2 }
+    ensures one_unit { result < 0x10000 }
+{
+    (u32::from(bytes[0]) - 0xC0) * 64 + low_bits(bytes[1])
+}
+
+/// The number of a code point of three bytes at the front of the bytes.
+#[inline(always)]
+pub(crate) fn read_three(bytes: &[u8]) -> u32
+    requires front { BeginsWithPoint bytes.now }
+    requires least { 0xE0 ≤ slice_index bytes.now 0 }
+    requires most { slice_index bytes.now 0 < 0xF0 }
+    ensures read { IsReadAs bytes.now result 3 }
+    ensures one_unit { result < 0x10000 }
+{
+    let high = (u32::from(bytes[0]) - 0xE0) * 64 + low_bits(bytes[1]);
+    high * 64 + low_bits(bytes[2])
+}
+
+/// The number of a supplementary code point at the front of the bytes.
+#[inline(always)]
+fn read_four(bytes: &[u8]) -> u32
+    requires front { BeginsWithPoint bytes.now }
+    requires least { 0xF0 ≤ slice_index bytes.now 0 }
+    ensures { IsReadAs bytes.now result 4 }
+{
+    let high = (u32::from(bytes[0]) - 0xF0) * 64 + low_bits(bytes[1]);
+    let middle = high * 64 + low_bits(bytes[2]);
+    middle * 64 + low_bits(bytes[3])
+}
+
+/// The lead of the supplementary code point at the front of the bytes.
+#[inline(always)]
+pub(crate) fn read_lead(bytes: &[u8]) -> u16
+    requires front { BeginsWithPoint bytes.now }
+    requires least { 0xF0 ≤ slice_index bytes.now 0 }
+    ensures { (p : ℕ) (rest : List ℕ) → IsCodePoint p → bytes.now ≡ encoding p ++ rest → result ≡ 0xD800 + (p - 0x10000) / 0x400 }
+{
+    let high = (u32::from(bytes[0]) - 0xF0) * 64 + low_bits(bytes[1]);
+    // The number less 0x10000 has 0x40 less above its low ten bits.
+    (0xD800 - 0x40 + high * 4 + low_bits(bytes[2]) / 16) as u16
+}
+
+/// The trail of the supplementary code point whose last two bytes stand at the front.
+#[inline(always)]
+pub(crate) fn read_trail(bytes: &[u8]) -> u16
+    requires { 1 < length bytes.now }
+    ensures { result ≡ trail_by (slice_index bytes.now 0) (slice_index bytes.now 1) }
+{
+    (0xDC00 + u32::from(bytes[0] % 16) * 64 + u32::from(bytes[1] % 64)) as u16
+}
+
+/// The number of the code point at the front of the bytes, which stand at a position, and the position behind it.
+#[inline(always)]
+fn read_number(bytes: &[u8], at: usize) -> (u32, usize)
+    requires front { BeginsWithPoint bytes.now }
+    requires within { at + length bytes.now < 2 ^ 64 }
+    ensures { (p : ℕ) (rest : List ℕ) → IsCodePoint p → bytes.now ≡ encoding p ++ rest → (result.0 ≡ p) × (result.1 ≡ at + length (encoding p)) }
+{
+    let first = bytes[0];
+    if first < 0x80 {
+        (u32::from(first), at + 1)
+    } else if first < 0xE0 {
+        (read_two(bytes), at + 2)
+    } else if first < 0xF0 {
+        (read_three(bytes), at + 3)
+    } else {
+        (read_four(bytes), at + 4)
+    }
+}
+
+/// The code point at the front of the bytes, which stand at a position, and the position behind it.
+#[inline(always)]
+pub(crate) fn read(bytes: &[u8], at: usize) -> (CodePoint, usize)
+    requires front { BeginsWithPoint bytes.now }
+    requires within { at + length bytes.now < 2 ^ 64 }
+    ensures { (p : ℕ) (rest : List ℕ) → IsCodePoint p → bytes.now ≡ encoding p ++ rest → (number result.0 ≡ p) × (result.1 ≡ at + length (encoding p)) }
+{
+    let (value, behind) = read_number(bytes, at);
+    (CodePoint::from_u32_unchecked(value), behind)
+}

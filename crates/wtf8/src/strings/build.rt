@@ -1,0 +1,134 @@
+// Lists of building calls, applied in order.
+ghost use Rattle.std.specs.List.{All};
+ghost use Rattle.std.specs.Prelude.{◌≡◌, ℕ, List, [], Some, ◌+◌, ◌≤◌, length, take, IfOk, OnOk, OnErr, IfErr, IsOk, IfSome, if◌then◌else◌};
+ghost use Rattle.wtf8.specs.Appending.{AppendsUnits, HasRoomFor, Outgrows};
+
+use crate::numbers::code_point::CodePoint;
+use crate::strings::buf::Wtf8Buf;
+use crate::strings::view::Wtf8;
+use std::alloc::{AllocError, Allocator};
+
+/// A building call on a string, for lists of them.
+#[derive(Clone, Copy)]
+pub enum Build<'b> {
+    /// `push` of a code point.
+    Push(CodePoint),
+    /// `push_char` of a character.
+    PushChar(char),
+    /// `push_str` of a text.
+    PushStr(&'b str),
+    /// `push_wtf8` of a string.
+    PushWtf8(Wtf8<'b>),
+    /// `extend` by the code points of a slice.
+    Extend(&'b [CodePoint]),
+    /// `reserve` of room for so many more bytes.
+    Reserve(usize),
+    /// `truncate` at a position in bytes, refused at no code point boundary.
+    Truncate(usize),
+    /// `truncate_units` at a number of units, refused where there are fewer.
+    TruncateUnits(usize),
+}
+
+/// A list of calls was stopped: one of them was refused for want of memory.
+#[derive(Clone, Copy, PartialEq, Eq, Debug)]
+pub struct Stopped {
+    /// How many calls ran before the refused one, which is the number of that one counted from 0.
+    pub done: usize,
+}
+
+impl<A: Allocator> Wtf8Buf<A> {
+    ghost use Rattle.wtf8.specs.Building.{Step, Run, LeavesRefused, StopsAt, appended, Append, IsNoExtension, IsNoTruncation, FindsRoom, FindRoom, LeavesReserved};
+    ghost use Rattle.wtf8.specs.declared.strings.build.Build.TheVariants.{Reserve, Truncate};
+
+    /// Does the call of that name. It answers true, or false for a truncation at no boundary or at more units than there
+    /// are, which changes nothing. After a refusal for want of memory the string is as that call leaves it: as before, or with some beginning of an
+    /// extension's points. A truncation is never refused so.
+    pub fn apply(&mut self, call: Build<'_>) -> Result<bool, AllocError>
+        ensures step { IfOk result (λ kept. Step self.old.units call.entry self.new.units (if kept then 0 else 1)) }
+        ensures refused { OnErr result (LeavesRefused self.old.units call.entry self.new.units) }
+        ensures bytes_kept { OnErr result (IsNoExtension call.entry → self.new.bytes ≡ self.old.bytes) }
+        ensures reserved { (n : ℕ) → call.entry ≡ Reserve n → OnOk result (length self.new.bytes + n ≤ self.new.capacity) }
+
+        // A push or an extension whose bytes fit is never refused, nor is an empty one, nor is room that is there.
+        ensures room { IfSome (appended call.entry) (λ v. HasRoomFor self.old v → IsOk result) }
+        ensures empty { appended call.entry ≡ Some [] → IsOk result }
+        ensures reserve_room { (n : ℕ) → call.entry ≡ Reserve n → length self.old.bytes + n ≤ self.old.capacity → IsOk result }
+        ensures found { (v : List ℕ) → FindsRoom self.old.units call.entry v self.old.capacity → IsOk result }
+        ensures capacity { IsNoTruncation call.entry → self.old.capacity ≤ self.new.capacity }
+    {
+        match call {
+            Build::Push(code_point) => self.push(code_point)?,
+            Build::PushChar(c) => self.push_char(c)?,
+            Build::PushStr(text) => self.push_str(text)?,
+            Build::PushWtf8(view) => self.push_wtf8(view)?,
+            Build::Extend(points) => self.extend_from_points(points)?,
+            Build::Reserve(additional) => self.reserve(additional)?,
+            Build::Truncate(position) => return Ok(self.try_truncate(position)),
+            Build::TruncateUnits(n) => return Ok(self.try_truncate_units(n)),
+        }
+        Ok(true)
+    }
+
+    /// Applies the calls in order, and answers how many truncations were refused: each of those changes nothing, and the
+    /// calls behind it are applied all the same.
+    ///
+    /// Where a call is refused for want of memory, the calls before it were applied, it is no truncation, and the string
+    /// is what they leave, followed, where it is an extension, by some beginning of its points.
+    ///
+    /// ```
+    /// use std::alloc::Global;
+    /// use wtf8::{Build, Stopped, Wtf8Buf};
+    ///
+    /// /// Makes the string "a💩". Its last call would cut inside a code point: it is refused and counted, so `Ok(1)`.
+    /// fn rebuild(text: &mut Wtf8Buf<Global>) -> Result<usize, Stopped> {
+    ///     // Where there is no memory for the push: `Err`, `done` is 1, and `text` is empty.
+    ///     text.apply_all(&[
+    ///         Build::Truncate(0),
+    ///         Build::PushStr("a💩"),
+    ///         Build::Truncate(2),
+    ///     ])
+    /// }
+    /// ```
+    pub fn apply_all(&mut self, calls: &[Build<'_>]) -> Result<usize, Stopped>
+        // The whole list leads from the units before to the units after; the bytes are their one form, as always.
+        ensures run { IfOk result (λ n. Run self.old.units calls.now self.new.units n) }
+        ensures stopped { IfErr result (λ s. StopsAt self.old.units calls.now s.done self.new.units) }
+
+        // Pushes and extensions alone append their pieces' units. They are never refused where these fit altogether, and
+        // room that was too small for what is appended up to a refused call is why it was refused.
+        ensures appends { IfOk result (λ _. (v : List ℕ) → Append calls.now v → AppendsUnits self.old v self.new) }
+        ensures room { (v : List ℕ) → Append calls.now v → HasRoomFor self.old v → IsOk result }
+        ensures outgrown { IfErr result (λ s. (v : List ℕ) → Append (take (s.done + 1) calls.now) v → Outgrows self.old v) }
+        ensures capacity { (v : List ℕ) → Append calls.now v → self.old.capacity ≤ self.new.capacity }
+
+        // With calls of `reserve` among them: never refused where each finds room at its place, and where the list was
+        // stopped, one of the calls up to the refused one does not find it. What a
+        // `reserve` asks for is there at the end, unless a truncation came behind it.
+        ensures found { (v : List ℕ) → FindRoom self.old.units calls.now v self.old.capacity → IsOk result }
+        ensures missed { IfErr result (λ s. (v : List ℕ) → ¬ (FindRoom self.old.units (take (s.done + 1) calls.now) v self.old.capacity)) }
+        ensures no_smaller { All IsNoTruncation calls.now → self.old.capacity ≤ self.new.capacity }
+        ensures reserved { OnOk result (LeavesReserved self.old.units calls.now self.new.capacity) }
+    {
+        let mut refused = 0;
+        for (done, call) in calls.iter().enumerate() {
+            let Ok(kept) = self.apply(*call) else {
+                return Err(Stopped { done });
+            };
+            if !kept {
+                refused += 1;
+            }
+        }
+        Ok(refused)
+    }
+
+    /// Truncates where the position is a code point boundary, and answers whether it is one.
+    fn try_truncate(&mut self, position: usize) -> bool
+        ensures { Step self.old.units (Truncate position) self.new.units (if result then 0 else 1) }
+    {
+        if !self.as_wtf8().is_code_point_boundary(position) {
+            return false;
+        }
+        self.truncate(position);
+        true
+    }
+}

@@ -1,0 +1,188 @@
+// Concatenation of well-formed bytes: what is appended at their end, a lead and a trail that meet as one code point.
+ghost use Rattle.std.specs.Prelude.{◌≡◌, ℕ, List, [], ◌∷◌, ◌++◌, ◌+◌, ◌-◌, ◌≤◌, ◌<◌, length, take, drop, OnOk, OnErr, IsOk, OnSome, IfSome, IfNone, vec_len};
+ghost use Rattle.std.specs.Prelude.{vec_capacity, IsTrue};
+ghost use Rattle.std.specs.Str.{chars};
+ghost use Rattle.wtf8.specs.CodePoint.{number};
+ghost use Rattle.wtf8.specs.Concatenation.{MeetsAsPair};
+ghost use Rattle.wtf8.specs.Form.{IsWellFormed, encoding};
+ghost use Rattle.wtf8.specs.Gains.{GainsUnits, FitsUnits};
+ghost use Rattle.wtf8.specs.Unicode.{units, units_of, pair, IsLead, IsTrail};
+ghost use Rattle.wtf8.specs.View.{view_points, view_units};
+
+use crate::numbers::code_point::CodePoint;
+use crate::numbers::{encoding, surrogates};
+use crate::strings::view::Wtf8;
+use std::alloc::{AllocError, Allocator};
+
+/// Makes of the lead surrogate that ends the bytes and of a trail the code point that they stand for: room for its fourth
+/// byte is found, then the lead's three bytes are overwritten. After a refusal the bytes are as before.
+fn join<A: Allocator>(bytes: &mut Vec<u8, A>, lead: u32, trail: u32) -> Result<(), AllocError>
+    requires lead { IsLead lead }
+    requires trail { IsTrail trail }
+    requires three { 3 ≤ length bytes.old.items }
+    ensures ok { OnOk result (bytes.new.items ≡ take (length bytes.old.items - 3) bytes.old.items ++ encoding (pair lead trail)) }
+    ensures err { OnErr result (bytes.new.items ≡ bytes.old.items) }
+    ensures room { vec_len bytes.old + 1 ≤ vec_capacity bytes.old → IsOk result }
+    ensures capacity { vec_capacity bytes.old ≤ vec_capacity bytes.new }
+{
+    let joined = encoding::four_bytes(surrogates::joined(lead, trail));
+    let start = bytes.len() - 3;
+    bytes.reserve(1)?;
+    bytes[start..start + 3].copy_from_slice(&joined[..3]);
+    bytes.push_reserved(joined[3]);
+    Ok(())
+}
+
+/// The lead surrogate that ends the string and that the code point would join: there is one only if the code point is a
+/// trail surrogate.
+fn joining_lead(view: Wtf8<'_>, code_point: CodePoint) -> Option<u32>
+    ensures trail { OnSome result (IsTrail (number code_point)) }
+    ensures lead { IfSome result (λ l. IsLead l) }
+    ensures last { IfSome result (λ l. (f : List ℕ) × (view_points view.entry ≡ f ++ l ∷ [])) }
+    ensures none { IfNone result (¬ (MeetsAsPair (view_points view.entry) (number code_point ∷ []))) }
+{
+    if surrogates::is_trail(code_point.to_u32()) {
+        view.final_lead_surrogate()
+    } else {
+        None
+    }
+}
+
+/// Appends a code point that joins nothing: it is no trail surrogate, or no lead ends the bytes. It is told the spare room.
+#[inline(always)]
+pub(crate) fn push_apart<A: Allocator>(
+    bytes: &mut Vec<u8, A>,
+    spare: usize,
+    code_point: CodePoint,
+) -> Result<(), AllocError>
+    requires spare { vec_len bytes.old + spare ≡ vec_capacity bytes.old }
+    requires well_formed { IsWellFormed bytes.old.items }
+    requires apart { (h : IsWellFormed bytes.old.items) → ¬ (MeetsAsPair h.points (number code_point ∷ [])) }
+    ensures ok { OnOk result (GainsUnits bytes.old.items bytes.new.items (units_of (number code_point))) }
+    ensures err { OnErr result (bytes.new.items ≡ bytes.old.items) }
+    ensures room { FitsUnits bytes.old.items (units_of (number code_point)) (vec_capacity bytes.old) → IsOk result }
+    ensures capacity { vec_capacity bytes.old ≤ vec_capacity bytes.new }
+{
+    encoding::append_into(bytes, spare, code_point)
+}
+
+/// Appends a surrogate to well-formed bytes, a trail behind a lead as the code point that the two stand for.
+#[inline(always)]
+pub(crate) fn push_surrogate<A: Allocator>(
+    bytes: &mut Vec<u8, A>,
+    code_point: CodePoint,
+) -> Result<(), AllocError>
+    requires { IsWellFormed bytes.old.items }
+    ensures ok { OnOk result (GainsUnits bytes.old.items bytes.new.items (units_of (number code_point))) }
+    ensures err { OnErr result (bytes.new.items ≡ bytes.old.items) }
+    ensures room { FitsUnits bytes.old.items (units_of (number code_point)) (vec_capacity bytes.old) → IsOk result }
+    ensures capacity { vec_capacity bytes.old ≤ vec_capacity bytes.new }
+{
+    let view = Wtf8::from_well_formed(bytes.as_slice());
+    match joining_lead(view, code_point) {
+        Some(lead) => join(bytes, lead, code_point.to_u32()),
+        None => {
+            let spare = encoding::spare_room(bytes);
+            push_apart(bytes, spare, code_point)
+        }
+    }
+}
+
+/// Appends bytes as they are. After a refusal the bytes are as before.
+fn append_bytes<A: Allocator>(bytes: &mut Vec<u8, A>, other: &[u8]) -> Result<(), AllocError>
+    ensures ok { OnOk result (bytes.new.items ≡ bytes.old.items ++ other.now) }
+    ensures err { OnErr result (bytes.new.items ≡ bytes.old.items) }
+    ensures room { length bytes.old.items + length other.now ≤ vec_capacity bytes.old → IsOk result }
+    ensures capacity { vec_capacity bytes.old ≤ vec_capacity bytes.new }
+{
+    bytes.extend_from_slice(other)
+}
+
+/// The lead surrogate that ends the first string and the trail surrogate that begins the second, where both are there.
+/// Neither is looked for where it is known that they are not.
+#[inline(always)]
+fn meeting_pair(front: Wtf8<'_>, back: Wtf8<'_>, is_apart: bool) -> Option<(u32, u32)>
+    requires { IsTrue is_apart → ¬ (MeetsAsPair (view_points front) (view_points back)) }
+    ensures pair { IfSome result (λ p. IsLead p.0 × IsTrail p.1) }
+    ensures last { IfSome result (λ p. (f : List ℕ) × (view_points front.entry ≡ f ++ p.0 ∷ [])) }
+    ensures first { IfSome result (λ p. (r : List ℕ) × (view_points back.entry ≡ p.1 ∷ r)) }
+    ensures none { IfNone result (¬ (MeetsAsPair (view_points front.entry) (view_points back.entry))) }
+{
+    if is_apart {
+        return None;
+    }
+    let trail = back.initial_trail_surrogate()?;
+    let lead = front.final_lead_surrogate()?;
+    Some((lead, trail))
+}
+
+/// Appends bytes whose first three are a trail surrogate, which the lead surrogate at the end joins. Room for all that
+/// is added is found first; after a refusal the bytes are as before.
+#[inline(never)]
+fn join_bytes<A: Allocator>(
+    bytes: &mut Vec<u8, A>,
+    lead: u32,
+    trail: u32,
+    other: &[u8],
+) -> Result<(), AllocError>
+    requires lead { IsLead lead }
+    requires trail { IsTrail trail }
+    requires three { 3 ≤ length bytes.old.items }
+    requires other_three { 3 ≤ length other.now }
+    ensures ok { OnOk result (bytes.new.items ≡ (take (length bytes.old.items - 3) bytes.old.items ++ encoding (pair lead trail)) ++ drop 3 other.now) }
+    ensures err { OnErr result (bytes.new.items ≡ bytes.old.items) }
+    ensures room { (length bytes.old.items + length other.now) - 2 ≤ vec_capacity bytes.old → IsOk result }
+    ensures capacity { vec_capacity bytes.old ≤ vec_capacity bytes.new }
+{
+    let (_, rest) = other.split_at(3);
+    bytes.reserve(rest.len() + 1)?;
+    join(bytes, lead, trail)?;
+    append_bytes(bytes, rest)
+}
+
+/// Appends a view, a trail surrogate at its front and a lead at the end as the code point that the two stand for. It is
+/// told where it is known that these are not both there.
+#[inline(always)]
+pub(crate) fn push_view<A: Allocator>(
+    bytes: &mut Vec<u8, A>,
+    other: Wtf8<'_>,
+    is_apart: bool,
+) -> Result<(), AllocError>
+    requires well_formed { IsWellFormed bytes.old.items }
+    requires apart { IsTrue is_apart → (h : IsWellFormed bytes.old.items) → ¬ (MeetsAsPair h.points (view_points other)) }
+    ensures ok { OnOk result (GainsUnits bytes.old.items bytes.new.items (view_units other.entry)) }
+    ensures err { OnErr result (bytes.new.items ≡ bytes.old.items) }
+    ensures room { FitsUnits bytes.old.items (view_units other.entry) (vec_capacity bytes.old) → IsOk result }
+    ensures capacity { vec_capacity bytes.old ≤ vec_capacity bytes.new }
+{
+    let view = Wtf8::from_well_formed(bytes.as_slice());
+    match meeting_pair(view, other, is_apart) {
+        Some((lead, trail)) => join_bytes(bytes, lead, trail, other.bytes),
+        None => append_bytes(bytes, other.bytes),
+    }
+}
+
+/// Appends a character, which joins nothing.
+#[inline(always)]
+pub(crate) fn push_scalar<A: Allocator>(bytes: &mut Vec<u8, A>, c: char) -> Result<(), AllocError>
+    requires { IsWellFormed bytes.old.items }
+    ensures ok { OnOk result (GainsUnits bytes.old.items bytes.new.items (units_of c)) }
+    ensures err { OnErr result (bytes.new.items ≡ bytes.old.items) }
+    ensures room { FitsUnits bytes.old.items (units_of c) (vec_capacity bytes.old) → IsOk result }
+    ensures capacity { vec_capacity bytes.old ≤ vec_capacity bytes.new }
+{
+    let spare = encoding::spare_room(bytes);
+    push_apart(bytes, spare, CodePoint::from_u32_unchecked(u32::from(c)))
+}
+
+/// Appends a text, none of whose characters joins anything.
+pub(crate) fn push_text<A: Allocator>(bytes: &mut Vec<u8, A>, other: &str) -> Result<(), AllocError>
+    requires { IsWellFormed bytes.old.items }
+    ensures ok { OnOk result (GainsUnits bytes.old.items bytes.new.items (units (chars other.now))) }
+    ensures err { OnErr result (bytes.new.items ≡ bytes.old.items) }
+    ensures room { FitsUnits bytes.old.items (units (chars other.now)) (vec_capacity bytes.old) → IsOk result }
+    ensures empty { other.now ≡ [] → IsOk result }
+    ensures capacity { vec_capacity bytes.old ≤ vec_capacity bytes.new }
+{
+    append_bytes(bytes, other.as_bytes())
+}

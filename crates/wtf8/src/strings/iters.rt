@@ -1,0 +1,275 @@
+// Iterators over code points and over code units.
+ghost use Rattle.std.specs.Prelude.{◌≤◌, length, drop};
+ghost use Rattle.wtf8.specs.Form.{IsWellFormed};
+ghost use Rattle.wtf8.specs.OneForm.{IsWellFormed-prop};
+ghost use Rattle.wtf8.specs.UnitSteps.{behind_held};
+
+use crate::numbers::code_point::CodePoint;
+use crate::numbers::encoding;
+use crate::strings::view::Wtf8;
+use std::alloc::AllocError;
+use std::marker::Model;
+
+/// The code points of a string, in order. It ends, and answers `None` again afterwards; a clone goes on with the same
+/// items and asks for no memory.
+///
+/// Contracts see it as the list of the code points that are left.
+#[derive(Drop)]
+pub struct Wtf8CodePoints<'a> {
+    bytes: &'a [u8],
+
+    /// Where the next code point begins, or the end.
+    at: usize,
+
+    ghost within: { at ≤ length bytes.now },
+    ghost well_formed: { IsWellFormed (drop at bytes.now) } by { IsWellFormed-prop (drop at bytes.now) },
+}
+
+impl<'a> Model for Wtf8CodePoints<'a> {
+    ghost use Rattle.std.specs.Prelude.{List, ℕ};
+
+    ghost Value = { List ℕ };
+
+    ghost view = { λ s. s.well_formed.points };
+}
+
+impl<'a> Wtf8CodePoints<'a> {
+    ghost use Rattle.std.specs.Prelude.{◌≡◌};
+    ghost use Rattle.std.specs.Iterator.{YieldsFirstBy};
+    ghost use Rattle.wtf8.specs.CodePoint.{number};
+    ghost use Rattle.wtf8.specs.View.{view_points};
+
+    pub(crate) fn new(view: Wtf8<'a>) -> Wtf8CodePoints<'a>
+        ensures { result ≡ view_points view.entry }
+    {
+        Wtf8CodePoints {
+            bytes: view.bytes,
+            at: 0,
+        }
+    }
+
+    /// The next code point, or `None` at the end.
+    #[inline(always)]
+    fn give_next(&mut self) -> Option<CodePoint>
+        ensures { YieldsFirstBy number (λ points. points) self.old result self.new }
+    {
+        if self.at == self.bytes.len() {
+            return None;
+        }
+        let (_, rest) = self.bytes.split_at(self.at);
+        let (code_point, behind) = encoding::read(rest, self.at);
+        self.at = behind;
+        Some(code_point)
+    }
+}
+
+impl<'a> Iterator for Wtf8CodePoints<'a> {
+    type Item = CodePoint;
+
+    ghost use Rattle.std.specs.Prelude.{◌≡◌, length, IfSome};
+    ghost use Rattle.std.specs.Iterator.{YieldsFirstBy, item_count, at_most, UpTo};
+    ghost use Rattle.std.specs.Iterator.SizeHint.{IsWithinCount};
+    ghost use Rattle.wtf8.specs.CodePoint.{number};
+    ghost use Rattle.wtf8.specs.Hints.{points_hint, IsTrueHint};
+
+    ghost next_gives = { YieldsFirstBy number (λ points. points) };
+
+    ghost remaining = { item_count (λ points. points) };
+
+    fn next(&mut self) -> Option<CodePoint> {
+        self.give_next()
+    }
+
+    /// A quarter of the bytes left, rounded up, and their number: a code point has one to four.
+    fn size_hint(&self) -> (usize, Option<usize>)
+        ensures lower { IsWithinCount result.0 (at_most (length self.now)) }
+        ensures upper { IfSome result.1 (UpTo (at_most (length self.now))) }
+        ensures value { result ≡ points_hint self.now }
+        ensures holds { IsTrueHint result (length self.now) }
+    {
+        let bytes = self.bytes.len() - self.at;
+        (bytes.div_ceil(4), Some(bytes))
+    }
+}
+
+impl<'a> Clone for Wtf8CodePoints<'a> {
+    ghost use Rattle.std.specs.Prelude.{◌≡◌, ⊤};
+
+    ghost is_clone = { λ s t. t ≡ s };
+
+    ghost is_infallible = { λ _. ⊤ };
+
+    fn clone(&self) -> Result<Wtf8CodePoints<'a>, AllocError> {
+        Ok(Wtf8CodePoints {
+            bytes: self.bytes,
+            at: self.at,
+        })
+    }
+}
+
+/// The 16-bit code units of a string, in order: what it was made of, whether they pair or not. It ends, and answers
+/// `None` again afterwards; a clone goes on with the same items and asks for no memory.
+///
+/// Contracts see it as the units that are held back, none or one trail surrogate, and the code points that are left.
+#[derive(Drop)]
+pub struct IllFormedUtf16CodeUnits<'a> {
+    bytes: &'a [u8],
+
+    /// Where the next unit is read: at a code point, at the end, or, where its lead was given, at the last two bytes of
+    /// a supplementary code point, which tell its trail.
+    at: usize,
+
+    ghost within: { at ≤ length bytes.now },
+    ghost behind: { IsWellFormed (behind_held (drop at bytes.now)) } by { IsWellFormed-prop (behind_held (drop at bytes.now)) },
+}
+
+impl<'a> Model for IllFormedUtf16CodeUnits<'a> {
+    ghost use Rattle.std.specs.Prelude.{drop};
+    ghost use Rattle.wtf8.specs.Units.{Unread};
+    ghost use Rattle.wtf8.specs.UnitSteps.{held_in};
+
+    ghost Value = { Unread };
+
+    ghost view = { λ s. record { held = held_in (drop s.at s.bytes.now); points = s.behind.points } };
+}
+
+impl<'a> IllFormedUtf16CodeUnits<'a> {
+    ghost use Rattle.std.specs.Prelude.{◌≡◌, ◌*◌, [], length};
+    ghost use Rattle.std.specs.Iterator.{YieldsFirst};
+    ghost use Rattle.wtf8.specs.Form.{bytes};
+    ghost use Rattle.wtf8.specs.Unicode.{units};
+    ghost use Rattle.wtf8.specs.Units.{unread_units};
+    ghost use Rattle.wtf8.specs.UnitSteps.{unread_after};
+    ghost use Rattle.wtf8.specs.View.{view_points};
+
+    pub(crate) fn new(view: Wtf8<'a>) -> IllFormedUtf16CodeUnits<'a>
+        ensures held { result.held ≡ [] }
+        ensures points { result.points ≡ view_points view.entry }
+    {
+        IllFormedUtf16CodeUnits {
+            bytes: view.bytes,
+            at: 0,
+        }
+    }
+
+    /// The unit that is held back, where there is one, else the first unit of the next code point, whose second one is
+    /// then held back.
+    #[inline(always)]
+    fn give_unit(&mut self) -> Option<u16>
+        ensures first { YieldsFirst unread_units self.old result self.new }
+        ensures left { self.new ≡ unread_after self.old }
+    {
+        let at = self.at;
+        if at == self.bytes.len() {
+            return None;
+        }
+        let (_, rest) = self.bytes.split_at(at);
+        let first = rest[0];
+        // The position is moved in each branch: one step for all of them, by a width, is slower.
+        if first < 0x80 {
+            self.at = at + 1;
+            return Some(u16::from(first));
+        }
+        if 0xC0 <= first {
+            if first < 0xE0 {
+                let behind = at + 2;
+                let unit = encoding::read_two(rest) as u16;
+                self.at = behind;
+                return Some(unit);
+            }
+            if first < 0xF0 {
+                let behind = at + 3;
+                let unit = encoding::read_three(rest) as u16;
+                self.at = behind;
+                return Some(unit);
+            }
+            let behind = at + 2;
+            let lead = encoding::read_lead(rest);
+            self.at = behind;
+            return Some(lead);
+        }
+        let behind = at + 2;
+        let trail = encoding::read_trail(rest);
+        self.at = behind;
+        Some(trail)
+    }
+
+    /// How many bytes the code points have that are left.
+    fn unread_bytes(&self) -> usize
+        ensures value { result ≡ length (bytes self.now.points) }
+        ensures at_least_units { length (units self.now.points) ≤ result }
+        ensures at_most_three_times { result ≤ 3 * length (units self.now.points) }
+    {
+        self.bytes.len() - self.at - 2 * self.held_units()
+    }
+
+    /// How many units are held back.
+    fn held_units(&self) -> usize
+        ensures value { result ≡ length self.now.held }
+        ensures at_most_one { result ≤ 1 }
+    {
+        if self.at == self.bytes.len() {
+            return 0;
+        }
+        match self.bytes[self.at] {
+            0x80..=0xBF => 1,
+            _ => 0,
+        }
+    }
+}
+
+impl<'a> Iterator for IllFormedUtf16CodeUnits<'a> {
+    type Item = u16;
+
+    ghost use Rattle.std.specs.Prelude.{◌≡◌, length, IfSome, ⊤};
+    ghost use Rattle.std.specs.Iterator.{YieldsFirst, item_count, at_most, MakesProgress, UpTo};
+    ghost use Rattle.std.specs.Iterator.SizeHint.{IsWithinCount};
+    ghost use Rattle.wtf8.specs.Hints.{units_hint, IsTrueHint};
+    ghost use Rattle.wtf8.specs.Units.{unread_units};
+    ghost use Rattle.wtf8.specs.UnitSteps.{unread_after};
+
+    ghost next_gives = { YieldsFirst unread_units };
+
+    ghost remaining = { item_count unread_units };
+
+    /// The next unit, or `None` at the end. Behind the lead of a pair its trail is held back; else nothing is.
+    fn next(&mut self) -> Option<u16>
+        ensures steps { YieldsFirst unread_units self.old result self.new }
+        ensures goes { MakesProgress (λ _. ⊤) (item_count unread_units) self.old result self.new }
+        ensures left { self.new ≡ unread_after self.old }
+    {
+        self.give_unit()
+    }
+
+    /// A quarter of the bytes left, rounded up, and the held unit; and twice their number and the held unit, `None`
+    /// where that is above the greatest `usize`.
+    fn size_hint(&self) -> (usize, Option<usize>)
+        ensures lower { IsWithinCount result.0 (at_most (length (unread_units self.now))) }
+        ensures upper { IfSome result.1 (UpTo (at_most (length (unread_units self.now)))) }
+        ensures value { result ≡ units_hint self.now }
+        ensures holds { IsTrueHint result (length (unread_units self.now)) }
+    {
+        let bytes = self.unread_bytes();
+        let held = self.held_units();
+        let most = match bytes.checked_mul(2) {
+            Some(twice) => twice.checked_add(held),
+            None => None,
+        };
+        (bytes.div_ceil(4) + held, most)
+    }
+}
+
+impl<'a> Clone for IllFormedUtf16CodeUnits<'a> {
+    ghost use Rattle.std.specs.Prelude.{◌≡◌, ⊤};
+
+    ghost is_clone = { λ s t. t ≡ s };
+
+    ghost is_infallible = { λ _. ⊤ };
+
+    fn clone(&self) -> Result<IllFormedUtf16CodeUnits<'a>, AllocError> {
+        Ok(IllFormedUtf16CodeUnits {
+            bytes: self.bytes,
+            at: self.at,
+        })
+    }
+}

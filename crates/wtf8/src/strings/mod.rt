@@ -1,0 +1,8 @@
+// Strings: borrowed and owned, their iterators, and what is appended, built, collected and cut.
+pub(crate) mod buf;
+pub(crate) mod build;
+pub(crate) mod collect;
+pub(crate) mod concat;
+pub(crate) mod iters;
+pub(crate) mod unit_positions;
+pub(crate) mod view;

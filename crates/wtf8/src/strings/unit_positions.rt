@@ -1,0 +1,362 @@
+// Positions counted in 16-bit units.
+ghost use Rattle.std.specs.Prelude.{◌≡◌, ◌++◌, ◌+◌, ◌-◌, ◌/◌, ◌%◌, ◌^◌, ◌<◌, ◌≤◌, length, take, drop, slice_get, Some, IfSome, IfNone, IsSome, ◌↔◌};
+ghost use Rattle.std.specs.Option.{option_to_list};
+ghost use Rattle.wtf8.specs.Form.{encoding};
+ghost use Rattle.wtf8.specs.Unicode.{IsLead};
+ghost use Rattle.wtf8.specs.UnitCounts.{units_begun, all_units_begun, IsPlaceOfUnit, CutsUnits};
+ghost use Rattle.wtf8.specs.UnitPosition.{units_of_slice, DividesPair};
+ghost use Rattle.wtf8.specs.View.{view_points, view_units};
+
+use crate::lanes::surrogate_presence::is_below;
+use crate::numbers::encoding;
+use crate::numbers::surrogates::{lead_of, trail_of};
+use crate::strings::view::Wtf8;
+use std::alloc::Allocator;
+use std::simd::prelude::*;
+
+/// How many bytes are counted together where a place among many is looked for.
+const MANY: usize = 64;
+
+/// How many bytes are counted together.
+const LANES: usize = 32;
+
+/// How many bytes are counted together where a place among few is looked for.
+const FEW: usize = 16;
+
+/// A place among bytes, and how many units begin before it.
+#[derive(Clone, Copy)]
+struct Place {
+    at: usize,
+    units_before: usize,
+}
+
+/// How many units the code point has whose bytes begin with this one; 0 where none begins with it.
+fn units_begun_by(byte: u8) -> usize
+    ensures { result ≡ units_begun byte }
+{
+    match byte {
+        0x00..=0x7F => 1,
+        0x80..=0xBF => 0,
+        0xC0..=0xEF => 1,
+        0xF0..=0xFF => 2,
+    }
+}
+
+/// The same for a block of `N` bytes together.
+#[inline(always)]
+fn units_begun_in_block<const N: usize>(bytes: Simd<u8, N>) -> usize
+    requires { N ≤ 64 }
+    ensures { result ≡ all_units_begun bytes.entry }
+{
+    let zero = Simd::<u8, N>::splat(0);
+    let one = Simd::<u8, N>::splat(1);
+    let begins = bytes.simd_lt(Simd::splat(0x80)) | bytes.simd_ge(Simd::splat(0xC0));
+    let pairs = bytes.simd_ge(Simd::splat(0xF0));
+    let counts = begins.select(one, zero).strict_add(pairs.select(one, zero));
+    usize::from(counts.strict_reduce_sum())
+}
+
+/// The place of the code point that holds a unit, in the bytes from a place on that has no more units before it; or the
+/// end, where the bytes have no such unit.
+fn find_unit_from(bytes: &[u8], unit: usize, from: Place) -> Place
+    requires within { from.at ≤ length bytes.now }
+    requires counted { from.units_before ≡ all_units_begun (take from.at bytes.now) }
+    requires not_beyond { from.units_before ≤ unit }
+    ensures { IsPlaceOfUnit bytes.now unit result.at result.units_before }
+{
+    let mut units_before = from.units_before;
+    for at in from.at..bytes.len() {
+        let byte = bytes[at];
+        if byte < 0x80 {
+            if units_before == unit {
+                return Place { at, units_before };
+            }
+            units_before += 1;
+        } else {
+            let more = units_begun_by(byte);
+            if unit - units_before < more {
+                return Place { at, units_before };
+            }
+            units_before += more;
+        }
+    }
+    Place {
+        at: bytes.len(),
+        units_before,
+    }
+}
+
+/// The place behind the `N` bytes from a place on, where there are so many and the unit is behind them too.
+#[inline(always)]
+fn behind_block<const N: usize>(bytes: &[u8], unit: usize, from: Place) -> Option<Place>
+    requires lanes { (0 < N) × (N ≤ 64) }
+    requires within { from.at ≤ length bytes.now }
+    requires counted { from.units_before ≡ all_units_begun (take from.at bytes.now) }
+    requires not_beyond { from.units_before ≤ unit }
+    ensures within { IfSome result (λ place. place.at ≤ length bytes.now) }
+    ensures counted { IfSome result (λ place. place.units_before ≡ all_units_begun (take place.at bytes.now)) }
+    ensures not_beyond { IfSome result (λ place. place.units_before ≤ unit) }
+    ensures further { IfSome result (λ place. from.at < place.at) }
+{
+    if bytes.len() - from.at < N {
+        return None;
+    }
+    let more = units_begun_in_block(Simd::<u8, N>::from_slice(&bytes[from.at..]));
+    if unit - from.units_before < more {
+        return None;
+    }
+    Some(Place {
+        at: from.at + N,
+        units_before: from.units_before + more,
+    })
+}
+
+/// The place behind all blocks that the unit is behind too.
+#[inline(always)]
+fn behind_blocks(bytes: &[u8], unit: usize) -> Place
+    ensures within { result.at ≤ length bytes.now }
+    ensures counted { result.units_before ≡ all_units_begun (take result.at bytes.now) }
+    ensures not_beyond { result.units_before ≤ unit }
+{
+    if bytes.len() < FEW {
+        return Place {
+            at: 0,
+            units_before: 0,
+        };
+    }
+    behind_blocks_of_many(bytes, unit)
+}
+
+/// The same. It stands by itself, so that a short string costs little.
+#[inline(never)]
+fn behind_blocks_of_many(bytes: &[u8], unit: usize) -> Place
+    ensures within { result.at ≤ length bytes.now }
+    ensures counted { result.units_before ≡ all_units_begun (take result.at bytes.now) }
+    ensures not_beyond { result.units_before ≤ unit }
+{
+    let mut place = Place {
+        at: 0,
+        units_before: 0,
+    };
+    while let Some(behind) = behind_block::<MANY>(bytes, unit, place) {
+        place = behind;
+    }
+    let place = behind_block::<LANES>(bytes, unit, place).unwrap_or(place);
+    behind_block::<FEW>(bytes, unit, place).unwrap_or(place)
+}
+
+/// The place of the code point that holds a unit, or the end, where the bytes have no such unit.
+fn find_unit(bytes: &[u8], unit: usize) -> Place
+    ensures { IsPlaceOfUnit bytes.now unit result.at result.units_before }
+{
+    find_unit_from(bytes, unit, behind_blocks(bytes, unit))
+}
+
+/// How many units begin among the bytes, of which those before a place are counted.
+fn count_units_from(bytes: &[u8], from: Place) -> usize
+    requires within { from.at ≤ length bytes.now }
+    requires counted { from.units_before ≡ all_units_begun (take from.at bytes.now) }
+    requires fits { all_units_begun bytes.now < 2 ^ 64 }
+    ensures { result ≡ all_units_begun bytes.now }
+{
+    let mut units = from.units_before;
+    for at in from.at..bytes.len() {
+        units += units_begun_by(bytes[at]);
+    }
+    units
+}
+
+/// How many units begin among the bytes.
+fn count_units(bytes: &[u8]) -> usize
+    requires { all_units_begun bytes.now < 2 ^ 64 }
+    ensures { result ≡ all_units_begun bytes.now }
+{
+    let mut at = 0;
+    let mut units_before = 0;
+    while LANES <= bytes.len() - at {
+        units_before += units_begun_in_block(Simd::<u8, LANES>::from_slice(&bytes[at..]));
+        at += LANES;
+    }
+    count_units_from(bytes, Place { at, units_before })
+}
+
+/// Where a number of units ends in a string: a position in bytes, and the supplementary code point that begins there
+/// where the last of the units is its lead.
+#[derive(Clone, Copy)]
+pub(crate) struct UnitCut {
+    pub(crate) position: usize,
+    pub(crate) divided: Option<u32>,
+}
+
+/// Where the first `n` units of a string end, or `None` where it has fewer.
+#[inline(always)]
+pub(crate) fn cut(view: Wtf8<'_>, n: usize) -> Option<UnitCut>
+    ensures some { IfSome result (λ cut. CutsUnits (view_points view.entry) n cut.position cut.divided) }
+    ensures none { IfNone result (length (view_units view.entry) < n) }
+{
+    let place = find_unit(view.bytes, n);
+    if place.units_before == n {
+        return Some(UnitCut {
+            position: place.at,
+            divided: None,
+        });
+    }
+    let Some((code_point, _)) = view.slice_from(place.at).split_first() else {
+        return None;
+    };
+    Some(UnitCut {
+        position: place.at,
+        divided: Some(code_point.to_u32()),
+    })
+}
+
+/// Keeps the bytes before a place, and writes the bytes of a lead surrogate over the three behind it.
+pub(crate) fn keep_lead<A: Allocator>(bytes: &mut Vec<u8, A>, at: usize, lead: u32)
+    requires lead { IsLead lead }
+    requires within { at + 3 ≤ length bytes.old.items }
+    ensures { bytes.new.items ≡ take at bytes.old.items ++ encoding lead }
+{
+    bytes.truncate(at + 3);
+    bytes[at..at + 3].copy_from_slice(&encoding::three_bytes(lead));
+}
+
+/// The first unit of a string, or `None` where it is empty.
+fn first_unit(view: Wtf8<'_>) -> Option<u16>
+    ensures { result ≡ slice_get (view_units view.entry) 0 }
+{
+    let Some((code_point, _)) = view.split_first() else {
+        return None;
+    };
+    let value = code_point.to_u32();
+    if value < 0x10000 {
+        return Some(value as u16);
+    }
+    Some(lead_of(value) as u16)
+}
+
+/// The unit of a number, by a cut. It stands by itself, so that what is ASCII costs little.
+#[inline(never)]
+fn unit_by_cut(view: Wtf8<'_>, index: usize) -> Option<u16>
+    ensures { result ≡ slice_get (view_units view.entry) index }
+{
+    let cut = cut(view, index)?;
+    match cut.divided {
+        None => first_unit(view.slice_from(cut.position)),
+        Some(value) => Some(trail_of(value) as u16),
+    }
+}
+
+/// The unit of a number, if the string begins with a block of ASCII that holds it.
+#[inline(always)]
+fn unit_in_ascii_front(view: Wtf8<'_>, index: usize) -> Option<u16>
+    ensures { IfSome result (λ unit. slice_get (view_units view.entry) index ≡ Some unit) }
+{
+    match view.bytes.len() {
+        0..=3 => None,
+        4..=7 => ascii_unit::<4>(view, index),
+        8..=15 => ascii_unit::<8>(view, index),
+        _ => ascii_unit::<FEW>(view, index),
+    }
+}
+
+/// The unit of a number below `N`, if the first `N` bytes are all ASCII.
+#[inline(always)]
+fn ascii_unit<const N: usize>(view: Wtf8<'_>, index: usize) -> Option<u16>
+    requires lanes { N ≤ 64 }
+    requires room { N ≤ length view.bytes.now }
+    ensures { IfSome result (λ unit. slice_get (view_units view.entry) index ≡ Some unit) }
+{
+    if index < N && is_below(Simd::<u8, N>::from_slice(view.bytes), 0x80) {
+        return Some(u16::from(view.bytes[index]));
+    }
+    None
+}
+
+/// What lies between two numbers of units: code points, and at either end the half of a pair that is divided there.
+#[derive(Clone, Copy)]
+pub struct UnitSlice<'a> {
+    /// The trail surrogate of a pair that the begin divides.
+    pub trail: Option<u16>,
+    /// The code points that lie between them as a whole.
+    pub whole: Wtf8<'a>,
+    /// The lead surrogate of a pair that the end divides.
+    pub lead: Option<u16>,
+}
+
+impl<'a> Wtf8<'a> {
+    /// The number of 16-bit units.
+    pub fn unit_len(&self) -> usize
+        ensures { result ≡ length (view_units self.now) }
+    {
+        // There are no more units than bytes.
+        prove!(self.len() <= usize::MAX);
+        count_units(self.bytes)
+    }
+
+    /// The 16-bit unit of a number, counted from 0, or `None` where there are no more than so many.
+    pub fn unit_at(&self, index: usize) -> Option<u16>
+        ensures { result ≡ slice_get (view_units self.now) index }
+    {
+        if let Some(unit) = unit_in_ascii_front(*self, index) {
+            return Some(unit);
+        }
+        unit_by_cut(*self, index)
+    }
+
+    /// The units from one number to before another. Where either divides a pair, the pair's half stands beside the
+    /// code points. All of it is a part of the same string and may outlive this view.
+    pub fn slice_units(&self, begin: usize, end: usize) -> UnitSlice<'a>
+        requires order { begin ≤ end }
+        requires within { end ≤ length (view_units self.now) }
+        ensures units { units_of_slice result ≡ drop begin (take end (view_units self.now)) }
+
+        // A half stands beside the code points where an end divides a pair, and only there.
+        ensures trail { begin < end → IsSome result.trail ↔ DividesPair (view_units self.now) begin }
+        ensures lead { begin < end → IsSome result.lead ↔ DividesPair (view_units self.now) end }
+    {
+        if begin == end {
+            return UnitSlice {
+                trail: None,
+                whole: Wtf8::from_str(""),
+                lead: None,
+            };
+        }
+        let (front, lead) = self.first_units(end);
+        let (trail, whole) = front.units_behind(begin);
+        UnitSlice { trail, whole, lead }
+    }
+
+    /// The code points of the first `n` units, and the lead of a pair that `n` divides.
+    fn first_units(self, n: usize) -> (Wtf8<'a>, Option<u16>)
+        requires { n ≤ length (view_units self) }
+        ensures units { view_units result.0 ++ option_to_list result.1 ≡ take n (view_units self.entry) }
+        ensures lead { IsSome result.1 ↔ DividesPair (view_units self.entry) n }
+    {
+        let Some(cut) = cut(self, n) else {
+            return (self, None);
+        };
+        let front = self.slice_to(cut.position);
+        match cut.divided {
+            None => (front, None),
+            Some(value) => (front, Some(lead_of(value) as u16)),
+        }
+    }
+
+    /// The trail of a pair that `n` divides, and the code points of the units behind the first `n`.
+    fn units_behind(self, n: usize) -> (Option<u16>, Wtf8<'a>)
+        requires { n ≤ length (view_units self) }
+        ensures units { option_to_list result.0 ++ view_units result.1 ≡ drop n (view_units self.entry) }
+        ensures trail { IsSome result.0 ↔ DividesPair (view_units self.entry) n }
+    {
+        let Some(cut) = cut(self, n) else {
+            return (None, self);
+        };
+        match cut.divided {
+            None => (None, self.slice_from(cut.position)),
+            Some(value) => (
+                Some(trail_of(value) as u16),
+                self.slice_from(cut.position + 4),
+            ),
+        }
+    }
+}

@@ -1,0 +1,288 @@
+// Borrowed strings.
+ghost use Rattle.std.specs.Prelude.{◌≡◌, ℕ, List, [], ◌∷◌, ◌++◌, ◌+◌, ◌*◌, ◌^◌, ◌<◌, ◌≤◌, ◌↔◌, length, take, drop, slice_index};
+ghost use Rattle.std.specs.Prelude.{IsTrue, IsSome, IfSome, IfNone, IfOk, OnOk, OnErr, IsOk, vec_len, vec_capacity};
+ghost use Rattle.std.specs.Cow.{cow_str_bytes, IsBorrowedStr};
+ghost use Rattle.std.specs.Str.{chars};
+ghost use Rattle.std.specs.String.{string_bytes};
+ghost use Rattle.wtf8.specs.Form.{bytes, IsWellFormed, Reads};
+ghost use Rattle.wtf8.specs.Hex.{hex};
+ghost use Rattle.wtf8.specs.OneForm.{IsWellFormed-prop};
+ghost use Rattle.wtf8.specs.Position.{IsBoundary, IsFront, IsBack, IsMiddle};
+ghost use Rattle.wtf8.specs.Surrogates.{AreScalar, lossy};
+ghost use Rattle.wtf8.specs.Unicode.{IsLead, IsTrail};
+ghost use Rattle.wtf8.specs.Units.{unread_units};
+
+use crate::lanes::{digits, search, surrogate_presence};
+use crate::numbers::code_point::CodePoint;
+use crate::numbers::encoding;
+use crate::strings::iters::{IllFormedUtf16CodeUnits, Wtf8CodePoints};
+use std::alloc::{AllocError, Allocator};
+use std::borrow::CowStr;
+
+/// A borrowed string: a view of well-formed WTF-8 bytes that live for `'a`.
+///
+/// Its units are those of the code points that the bytes encode. The fields are public so that contracts of other
+/// crates can name the bytes and their code points: code makes a view by a buffer's `as_wtf8`.
+///
+/// ```
+/// use std::alloc::{AllocError, Global};
+/// use std::borrow::CowStr;
+/// use wtf8::Wtf8;
+///
+/// /// The lossy text before a position, or `None` where that is no code point boundary.
+/// fn text_before<'a>(
+///     alloc: Global,
+///     name: Wtf8<'a>,
+///     end: usize,
+/// ) -> Result<Option<CowStr<'a, Global>>, AllocError> {
+///     if !name.is_code_point_boundary(end) {
+///         return Ok(None);
+///     }
+///     // Only a text that has to be copied can be refused. The view and its bytes are never changed.
+///     let text = name.slice_to(end).to_string_lossy(alloc)?;
+///     Ok(Some(text))
+/// }
+/// ```
+#[derive(Clone, Copy)]
+pub struct Wtf8<'a> {
+    pub bytes: &'a [u8],
+    pub ghost well_formed: { IsWellFormed bytes.now } by { IsWellFormed-prop bytes.now },
+}
+
+impl<'a> Wtf8<'a> {
+    ghost use Rattle.wtf8.specs.CodePoint.{number};
+    ghost use Rattle.wtf8.specs.View.{view_points, view_units};
+
+    /// A view of a text's bytes: the string of its characters.
+    pub fn from_str(value: &'a str) -> Wtf8<'a>
+        ensures bytes { result.bytes.now ≡ value.now }
+        ensures points { view_points result ≡ chars value.now }
+        ensures scalar { AreScalar (view_points result) }
+    {
+        Wtf8::from_well_formed(value.as_bytes())
+    }
+
+    /// A view of bytes that are known to be well-formed.
+    pub(crate) fn from_well_formed(bytes: &'a [u8]) -> Wtf8<'a>
+        requires { IsWellFormed bytes.now }
+        ensures bytes { result.bytes.now ≡ bytes.now }
+        ensures points { (h : IsWellFormed bytes.now) → view_points result ≡ h.points }
+    {
+        Wtf8 { bytes }
+    }
+
+    /// The number of bytes: at least the number of units, and at most three times that.
+    pub fn len(&self) -> usize
+        ensures bytes { result ≡ length self.now.bytes.now }
+        ensures at_least_units { length (view_units self.now) ≤ result }
+        ensures at_most_three_times { result ≤ 3 * length (view_units self.now) }
+    {
+        self.bytes.len()
+    }
+
+    /// Whether the string has no units, and so no bytes.
+    pub fn is_empty(&self) -> bool
+        ensures units { IsTrue result ↔ view_units self.now ≡ [] }
+        ensures bytes { IsTrue result ↔ self.now.bytes.now ≡ [] }
+    {
+        self.bytes.is_empty()
+    }
+
+    /// The code points of the string, in order.
+    pub fn code_points(&self) -> Wtf8CodePoints<'a>
+        ensures points { result ≡ view_points self.now }
+        ensures fits { length result < 2 ^ 64 }
+    {
+        prove!(self.len() <= usize::MAX);
+        Wtf8CodePoints::new(*self)
+    }
+
+    /// The 16-bit units of the string, in order: those that it was made of, whether they pair or not.
+    pub fn to_ill_formed_utf16(&self) -> IllFormedUtf16CodeUnits<'a>
+        ensures units { unread_units result ≡ view_units self.now }
+        ensures held { result.held ≡ [] }
+        ensures points { result.points ≡ view_points self.now }
+        ensures fits { length (unread_units result) < 2 ^ 64 }
+    {
+        prove!(self.len() <= usize::MAX);
+        IllFormedUtf16CodeUnits::new(*self)
+    }
+
+    /// Whether a code point begins at the index, or the string ends there. It looks at one byte: an index beyond the
+    /// length is no boundary.
+    pub fn is_code_point_boundary(&self, index: usize) -> bool
+        ensures { IsTrue result ↔ IsBoundary (view_units self.now) index }
+    {
+        if index < self.bytes.len() {
+            encoding::begins_code_point(self.bytes[index])
+        } else {
+            index == self.bytes.len()
+        }
+    }
+
+    /// The code points between two positions, which `is_code_point_boundary` tests. The result is a part of the same
+    /// bytes and may outlive this view.
+    pub fn slice(&self, begin: usize, end: usize) -> Wtf8<'a>
+        requires order { begin ≤ end }
+        requires begin_boundary { IsBoundary (view_units self.now) begin }
+        requires end_boundary { IsBoundary (view_units self.now) end }
+        ensures units { IsMiddle (view_units self.now) begin end (view_units result) }
+        ensures bytes { result.bytes.now ≡ drop begin (take end self.now.bytes.now) }
+    {
+        self.slice_to(end).slice_from(begin)
+    }
+
+    /// The code points from a position on, which `is_code_point_boundary` tests. The result is a part of the same bytes
+    /// and may outlive this view.
+    pub fn slice_from(&self, begin: usize) -> Wtf8<'a>
+        requires { IsBoundary (view_units self.now) begin }
+        ensures units { IsBack (view_units self.now) begin (view_units result) }
+        ensures bytes { result.bytes.now ≡ drop begin self.now.bytes.now }
+
+        // Behind the units of the code points before the position these are the whole.
+        ensures whole { (front : List ℕ) → IsFront (view_units self.now) begin front → front ++ view_units result ≡ view_units self.now }
+    {
+        let (_, rest) = self.bytes.split_at(begin);
+        Wtf8::from_well_formed(rest)
+    }
+
+    /// The code points before a position, which `is_code_point_boundary` tests. The result is a part of the same bytes
+    /// and may outlive this view.
+    pub fn slice_to(&self, end: usize) -> Wtf8<'a>
+        requires { IsBoundary (view_units self.now) end }
+        ensures units { IsFront (view_units self.now) end (view_units result) }
+        ensures bytes { result.bytes.now ≡ take end self.now.bytes.now }
+
+        // With the units of the code points from the position on behind them these are the whole.
+        ensures whole { (back : List ℕ) → IsBack (view_units self.now) end back → view_units result ++ back ≡ view_units self.now }
+    {
+        let (front, _) = self.bytes.split_at(end);
+        Wtf8::from_well_formed(front)
+    }
+
+    /// The byte at a position below the length, if it is below 0x80, else 0xFF. The position may be inside a code
+    /// point; where the answer is below 0x80 it is a code point and a unit by itself.
+    pub fn ascii_byte_at(&self, position: usize) -> u8
+        requires { position < length self.now.bytes.now }
+        ensures ascii { slice_index self.now.bytes.now position < 0x80 → result ≡ slice_index self.now.bytes.now position }
+        ensures other { 0x80 ≤ slice_index self.now.bytes.now position → result ≡ 0xFF }
+
+        // Both sides of an ASCII byte are code point boundaries, and it is the unit between what is before and behind it.
+        ensures before { result < 0x80 → IsBoundary (view_units self.now) position }
+        ensures behind { result < 0x80 → IsBoundary (view_units self.now) (position + 1) }
+        ensures unit { (front back : List ℕ) → result < 0x80 → IsFront (view_units self.now) position front →
+            IsBack (view_units self.now) (position + 1) back → view_units self.now ≡ front ++ result ∷ back }
+    {
+        match self.bytes[position] {
+            byte @ 0x00..=0x7F => byte,
+            _ => 0xFF,
+        }
+    }
+
+    /// The same bytes as text, or `None` exactly where the string holds a surrogate. It asks for no memory.
+    #[inline(always)]
+    pub fn as_str(&self) -> Option<&'a str>
+        ensures some { IsSome result ↔ AreScalar (view_points self.now) }
+        ensures units { IsSome result ↔ ((c : List ℕ) → Reads c (view_units self.now) → AreScalar c) }
+        ensures bytes { IfSome result (λ t. t.now ≡ self.now.bytes.now) }
+    {
+        match surrogate_presence::first_surrogate(self.bytes) {
+            None => Some(unsafe { str::from_utf8_unchecked(self.bytes) }),
+            Some(_) => None,
+        }
+    }
+
+    /// The string as a text of the same length, with U+FFFD in the place of each surrogate. Where it holds none the text
+    /// is borrowed, which asks for no memory and is never refused; else it is a copy.
+    pub fn to_string_lossy<A: Allocator + Drop>(
+        &self,
+        alloc: A,
+    ) -> Result<CowStr<'a, A>, AllocError>
+        ensures text { IfOk result (λ t. cow_str_bytes t ≡ bytes (lossy (view_points self.now))) }
+        ensures len { IfOk result (λ t. length (cow_str_bytes t) ≡ length self.now.bytes.now) }
+        ensures borrowed { IfOk result (λ t. IsBorrowedStr t ↔ AreScalar (view_points self.now)) }
+        ensures granted { AreScalar (view_points self.now) → IsOk result }
+    {
+        if let Some(text) = self.as_str() {
+            return Ok(CowStr::Borrowed(text));
+        }
+        let mut bytes = Vec::from_slice(alloc, self.bytes)?;
+        search::replace_surrogates(&mut bytes);
+        Ok(CowStr::Owned(unsafe { String::from_utf8_unchecked(bytes) }))
+    }
+
+    /// The bytes as two upper-case hexadecimal digits each, with one space between: a text for diagnosis. The empty
+    /// string has the empty text, which asks for no memory.
+    pub fn hex_dump<A: Allocator>(&self, alloc: A) -> Result<String<A>, AllocError>
+        ensures ok { IfOk result (λ t. string_bytes t ≡ hex self.now.bytes.now) }
+        ensures empty { self.now.bytes.now ≡ [] → IsOk result }
+    {
+        digits::hex_text(alloc, self.bytes)
+    }
+
+    /// Appends to a text what `hex_dump` gives. It first finds room for three bytes a byte, and asks for none where that
+    /// room is there; after a refusal the text is as before.
+    pub fn append_hex_dump<A: Allocator>(&self, text: &mut Vec<u8, A>) -> Result<(), AllocError>
+        ensures ok { OnOk result (text.new.items ≡ text.old.items ++ hex self.now.bytes.now) }
+        ensures kept { OnErr result (text.new.items ≡ text.old.items) }
+        ensures room { vec_len text.old + 3 * length self.now.bytes.now ≤ vec_capacity text.old → IsOk result }
+    {
+        digits::push_hex(text, self.bytes)
+    }
+
+    /// The first code point and the view behind it, or `None` where the string is empty.
+    pub(crate) fn split_first(self) -> Option<(CodePoint, Wtf8<'a>)>
+        ensures none { IfNone result (view_points self.entry ≡ []) }
+        ensures some { IfSome result (λ x. view_points self.entry ≡ number x.0 ∷ view_points x.1) }
+    {
+        if self.bytes.is_empty() {
+            return None;
+        }
+        let (code_point, width) = encoding::read(self.bytes, 0);
+        let (_, rest) = self.bytes.split_at(width);
+        Some((code_point, Wtf8 { bytes: rest }))
+    }
+
+    /// The text before the first surrogate and the view behind it, or the whole text where there is none.
+    pub(crate) fn split_at_surrogate(self) -> (&'a str, Option<Wtf8<'a>>)
+        ensures none { IfNone result.1 (bytes (lossy (view_points self.entry)) ≡ result.0.now) }
+        ensures some { IfSome result.1 (λ rest. bytes (lossy (view_points self.entry)) ≡ result.0.now ++ bytes (0xFFFD ∷ lossy (view_points rest))) }
+        ensures shorter { IfSome result.1 (λ rest. length rest.bytes.now < length self.entry.bytes.now) }
+    {
+        let Some(place) = search::first_surrogate(self.bytes, 0) else {
+            return (unsafe { str::from_utf8_unchecked(self.bytes) }, None);
+        };
+        let (front, _) = self.bytes.split_at(place);
+        let (_, behind) = self.bytes.split_at(place + 3);
+        let text = unsafe { str::from_utf8_unchecked(front) };
+        (text, Some(Wtf8 { bytes: behind }))
+    }
+
+    /// The number of the lead surrogate that ends the string, if one does.
+    pub(crate) fn final_lead_surrogate(&self) -> Option<u32>
+        ensures lead { IfSome result (λ l. IsLead l) }
+        ensures last { IfSome result (λ l. (f : List ℕ) × (view_points self.now ≡ f ++ l ∷ [])) }
+        ensures none { IfNone result ((f : List ℕ) (l : ℕ) → IsLead l → view_points self.now ≡ f ++ l ∷ [] → ⊥) }
+    {
+        match self.bytes {
+            [.., 0xED, second @ 0xA0..=0xAF, third] => {
+                Some(0xD000 + encoding::low_bits(*second) * 64 + encoding::low_bits(*third))
+            }
+            _ => None,
+        }
+    }
+
+    /// The number of the trail surrogate that begins the string, if one does.
+    pub(crate) fn initial_trail_surrogate(self) -> Option<u32>
+        ensures trail { IfSome result (λ t. IsTrail t) }
+        ensures first { IfSome result (λ t. (r : List ℕ) × (view_points self.entry ≡ t ∷ r)) }
+        ensures none { IfNone result ((t : ℕ) (r : List ℕ) → IsTrail t → view_points self.entry ≡ t ∷ r → ⊥) }
+    {
+        match self.bytes {
+            [0xED, second @ 0xB0..=0xBF, third, ..] => {
+                Some(0xD000 + encoding::low_bits(*second) * 64 + encoding::low_bits(*third))
+            }
+            _ => None,
+        }
+    }
+}

@@ -1,0 +1,102 @@
+// What debug texts are made of. Each function writes whatever width and flags its formatter has.
+ghost use Rattle.std.specs.Prelude.{◌≡◌, ◌<◌, Some, [], ◌∷◌};
+ghost use Rattle.std.specs.Fmt.{DisplaysOnOk, WritesStyledOnOk};
+ghost use Rattle.std.specs.List.{flat_map};
+ghost use Rattle.wtf8.specs.CodePoint.{number};
+ghost use Rattle.wtf8.specs.Debug.{last_four, upper, shown, debug};
+ghost use Rattle.wtf8.specs.View.{view_points};
+ghost use Rattle.wtf8.specs.Hex.{digit};
+ghost use Rattle.wtf8.specs.Unicode.{IsCodePoint};
+
+use crate::lanes::digits;
+use crate::numbers::code_point::CodePoint;
+use crate::strings::buf::Wtf8Buf;
+use crate::strings::view::Wtf8;
+use std::alloc::Allocator;
+use std::fmt;
+
+/// Writes one digit.
+fn write_digit<W: fmt::Write>(value: u32, f: &mut fmt::Formatter<W>) -> fmt::Result
+    requires { value < 16 }
+    ensures { WritesStyledOnOk W.write_str_gives f.old result (digit value ∷ []) f.new }
+{
+    f.write_char(digits::upper_digit(value as u8))
+}
+
+/// Writes the last four digits of a number.
+fn write_last_four<W: fmt::Write>(value: u32, f: &mut fmt::Formatter<W>) -> fmt::Result
+    ensures { WritesStyledOnOk W.write_str_gives f.old result (last_four value) f.new }
+{
+    write_digit(value / 0x1000 % 16, f)?;
+    write_digit(value / 0x100 % 16, f)?;
+    write_digit(value / 0x10 % 16, f)?;
+    write_digit(value % 16, f)
+}
+
+/// Writes the number of a code point in upper-case hexadecimal, at least four digits.
+pub(crate) fn write_upper<W: fmt::Write>(value: u32, f: &mut fmt::Formatter<W>) -> fmt::Result
+    requires { IsCodePoint value }
+    ensures { WritesStyledOnOk W.write_str_gives f.old result (upper value) f.new }
+{
+    if value >= 0x100000 {
+        write_digit(value / 0x100000, f)?;
+        write_digit(value / 0x10000 % 16, f)?;
+    } else if value >= 0x10000 {
+        write_digit(value / 0x10000, f)?;
+    }
+    write_last_four(value, f)
+}
+
+/// Writes what stands for a code point in the debug text of a string.
+fn write_point<W: fmt::Write>(code_point: CodePoint, f: &mut fmt::Formatter<W>) -> fmt::Result
+    ensures { WritesStyledOnOk W.write_str_gives f.old result (shown (number code_point)) f.new }
+{
+    match code_point.to_char() {
+        Some(scalar) => f.write_char(scalar),
+        None => {
+            f.write_str("\\u{")?;
+            write_upper(code_point.to_u32(), f)?;
+            f.write_str("}")
+        }
+    }
+}
+
+/// Writes what stands for each code point of a string.
+fn write_points<W: fmt::Write>(text: Wtf8<'_>, f: &mut fmt::Formatter<W>) -> fmt::Result
+    ensures { WritesStyledOnOk W.write_str_gives f.old result (flat_map shown (view_points text.entry)) f.new }
+{
+    let mut rest = text;
+    while let Some((code_point, behind)) = rest.split_first() {
+        write_point(code_point, f)?;
+        rest = behind;
+    }
+    Ok(())
+}
+
+/// A double quote, the code points and a double quote. A scalar value stands as itself; a surrogate stands as its four
+/// upper-case digits between `\u{` and `}`. Nothing else is escaped, and a width and flags that stand outside are
+/// ignored.
+impl<'a> fmt::Debug for Wtf8<'a> {
+    ghost debug_output = { λ text. Some (debug (view_points text)) };
+
+    fn fmt<W: fmt::Write>(&self, f: &mut fmt::Formatter<W>) -> fmt::Result
+        ensures writes { DisplaysOnOk W.write_str_gives f.old result (Some (debug (view_points self.now))) f.new }
+        ensures styled { WritesStyledOnOk W.write_str_gives f.old result (debug (view_points self.now)) f.new }
+    {
+        f.write_str("\"")?;
+        write_points(*self, f)?;
+        f.write_str("\"")
+    }
+}
+
+/// The debug text of the view.
+impl<A: Allocator> fmt::Debug for Wtf8Buf<A> {
+    ghost debug_output = { λ text. Some (debug text.form.points) };
+
+    fn fmt<W: fmt::Write>(&self, f: &mut fmt::Formatter<W>) -> fmt::Result
+        ensures writes { DisplaysOnOk W.write_str_gives f.old result (Some (debug self.now.form.points)) f.new }
+        ensures styled { WritesStyledOnOk W.write_str_gives f.old result (debug self.now.form.points) f.new }
+    {
+        self.as_wtf8().fmt(f)
+    }
+}

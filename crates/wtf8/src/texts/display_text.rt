@@ -1,0 +1,56 @@
+// The texts that strings are displayed as.
+ghost use Rattle.std.specs.Prelude.{Some};
+ghost use Rattle.std.specs.Fmt.{WritesStyledOnOk, styled_text};
+ghost use Rattle.wtf8.specs.Display.{displayed};
+ghost use Rattle.wtf8.specs.Form.{bytes};
+ghost use Rattle.wtf8.specs.Surrogates.{lossy};
+ghost use Rattle.wtf8.specs.View.{view_points};
+
+use crate::strings::buf::Wtf8Buf;
+use crate::strings::view::Wtf8;
+use std::alloc::Allocator;
+use std::fmt;
+
+/// Writes the lossy text in parts: each text up to a surrogate, and U+FFFD for that surrogate. It writes whatever width
+/// and flags the formatter has.
+fn write_lossy<W: fmt::Write>(view: Wtf8<'_>, f: &mut fmt::Formatter<W>) -> fmt::Result
+    ensures { WritesStyledOnOk W.write_str_gives f.old result (bytes (lossy (view_points view.entry))) f.new }
+{
+    let mut rest = view;
+    loop {
+        let (part, behind) = rest.split_at_surrogate();
+        f.write_str(part)?;
+        let Some(next) = behind else {
+            return Ok(());
+        };
+        f.write_str("\u{FFFD}")?;
+        rest = next;
+    }
+}
+
+/// The lossy text: U+FFFD in the place of each surrogate. A string that holds no surrogate is written as any text, with
+/// the width, the fill and the precision that stand outside; of one that holds a surrogate they are ignored. It asks for
+/// no memory. An error of the formatter's sink ends it and is its answer.
+impl<'a> fmt::Display for Wtf8<'a> {
+    ghost output = { λ view. Some (bytes (lossy (view_points view))) };
+
+    ghost styled_output = { λ view spec. Some (displayed (view_points view) (styled_text spec view.bytes.now)) };
+
+    fn fmt<W: fmt::Write>(&self, f: &mut fmt::Formatter<W>) -> fmt::Result {
+        match self.as_str() {
+            Some(text) => f.pad(text),
+            None => write_lossy(*self, f),
+        }
+    }
+}
+
+/// The lossy text of the view.
+impl<A: Allocator> fmt::Display for Wtf8Buf<A> {
+    ghost output = { λ string. Some (bytes (lossy string.form.points)) };
+
+    ghost styled_output = { λ string spec. Some (displayed string.form.points (styled_text spec string.bytes)) };
+
+    fn fmt<W: fmt::Write>(&self, f: &mut fmt::Formatter<W>) -> fmt::Result {
+        fmt::Display::fmt(&self.as_wtf8(), f)
+    }
+}

@@ -1,0 +1,168 @@
+// Code units read as characters and lone surrogates.
+ghost use Rattle.std.specs.Prelude.{◌≡◌, ◌↔◌, ℕ, List, Result, None, IsTrue, IfOk};
+ghost use Rattle.std.specs.Iterator.{count_map, Drains};
+ghost use Rattle.std.specs.Iterator.Adapters.{peekable_can, peekable_source, peekable_peeked, items_left_with_peeked};
+ghost use Rattle.wtf8.specs.CodePoint.{number};
+ghost use Rattle.wtf8.specs.Decoding.{units_left, decode_steps, ReadsAll};
+ghost use Rattle.wtf8.specs.Unicode.{IsLead, IsTrail, IsSurrogate, pair};
+ghost use Rattle.wtf8.specs.UnitParts.{AppendsForm};
+
+use crate::numbers::code_point::CodePoint;
+use crate::numbers::encoding;
+use crate::numbers::surrogates::{self, FIRST_LEAD, FIRST_TRAIL, LAST_LEAD, LAST_TRAIL};
+use std::alloc::{AllocError, Allocator};
+use std::iter::Ahead;
+
+/// The characters and the lone surrogates that the units of an iterator stand for, in order.
+///
+/// A lead and the trail directly behind it are one character, and so is a unit that is no surrogate. Any other surrogate
+/// is an `Err` of that unit.
+pub(crate) fn decode_utf16<I: Iterator<Item = u16>>(iter: I) -> DecodeUtf16<I>
+    ensures source { peekable_source (units_left result) ≡ iter }
+    ensures peeked { peekable_peeked (units_left result) ≡ None }
+
+    // Whatever the iterator gives up to its end, the items are a reading of it.
+    ensures reads { (items : List (Result ℕ ℕ)) → Drains (decode_steps I.next_gives) result items → ReadsAll I.next_gives iter items }
+{
+    DecodeUtf16 {
+        units: iter.peekable(),
+    }
+}
+
+/// An iterator over the characters and the lone surrogates of an iterator of units, made by `decode_utf16`.
+///
+/// It holds back the unit behind a lone lead until the next call.
+#[derive(Drop)]
+pub(crate) struct DecodeUtf16<I> {
+    units: Ahead<I, u16>,
+}
+
+/// Whether a unit is a trail surrogate.
+fn is_trail(unit: &u16) -> bool
+    ensures { IsTrue result ↔ IsTrail unit.now }
+{
+    surrogates::is_trail(u32::from(*unit))
+}
+
+/// The character of a unit that is no surrogate.
+fn single(unit: u16) -> char
+    requires { ¬ (IsSurrogate unit) }
+    ensures { result ≡ unit }
+{
+    unsafe { char::from_u32_unchecked(u32::from(unit)) }
+}
+
+/// The supplementary character of a lead and a trail.
+fn joined(lead: u16, trail: u16) -> char
+    requires lead { IsLead lead }
+    requires trail { IsTrail trail }
+    ensures { result ≡ pair lead trail }
+{
+    let value = surrogates::joined(u32::from(lead), u32::from(trail));
+    unsafe { char::from_u32_unchecked(value) }
+}
+
+impl<I: Iterator<Item = u16>> Iterator for DecodeUtf16<I> {
+    type Item = Result<char, u16>;
+
+    ghost can_next = { λ s. peekable_can I.can_next (units_left s) };
+
+    ghost next_gives = { decode_steps I.next_gives };
+
+    ghost remaining = { λ s. count_map (items_left_with_peeked (peekable_peeked (units_left s))) (I.remaining (peekable_source (units_left s))) };
+
+    fn next(&mut self) -> Option<Result<char, u16>> {
+        let unit = self.units.next()?;
+        match unit {
+            FIRST_LEAD..=LAST_LEAD => match self.units.next_if(is_trail) {
+                Some(trail) => Some(Ok(joined(unit, trail))),
+                None => Some(Err(unit)),
+            },
+            FIRST_TRAIL..=LAST_TRAIL => Some(Err(unit)),
+            _ => Some(Ok(single(unit))),
+        }
+    }
+
+    fn size_hint(&self) -> (usize, Option<usize>) {
+        let (low, high) = self.units.size_hint();
+        (low / 2, high)
+    }
+}
+
+/// Appends the string of some units to bytes, and answers whether it has no lone surrogate. Each code point is appended
+/// as it is: no two of those that are read make a pair.
+#[inline(always)]
+pub(crate) fn append_units<A: Allocator>(
+    bytes: &mut Vec<u8, A>,
+    v: &[u16],
+) -> Result<bool, AllocError>
+    ensures ok { IfOk result (λ known. AppendsForm bytes.old.items bytes.new.items v.now known) }
+{
+    let mut is_scalar = true;
+    for item in decode_utf16(v.iter().copied()) {
+        match item {
+            Ok(character) => encoding::append(bytes, CodePoint::from_char(character))?,
+            Err(surrogate) => {
+                is_scalar = false;
+                let point = CodePoint::from_u32_unchecked(u32::from(surrogate));
+                encoding::append(bytes, point)?;
+            }
+        }
+    }
+    Ok(is_scalar)
+}
+
+#[cfg(test)]
+mod tests {
+    use super::*;
+
+    /// A decoder of units, after one call of `next` where that gave a lone surrogate, or at its start.
+    struct Moment {
+        units: &'static [u16],
+        lone: Option<u16>,
+        left: usize,
+        hint: (usize, Option<usize>),
+    }
+
+    const MOMENTS: [Moment; 3] = [
+        Moment {
+            units: &[0xD83D, 0x0061],
+            lone: Some(0xD83D),
+            left: 1,
+            hint: (0, Some(1)),
+        },
+        Moment {
+            units: &[0xD83D, 0xD83D, 0xDCA9],
+            lone: Some(0xD83D),
+            left: 1,
+            hint: (1, Some(2)),
+        },
+        Moment {
+            units: &[0x0061],
+            lone: None,
+            left: 1,
+            hint: (0, Some(1)),
+        },
+    ];
+
+    #[test]
+    fn hints_count_the_held_unit(rt: HostRuntime) {
+        for moment in &MOMENTS {
+            let mut items = decode_utf16(moment.units.iter().copied());
+            if let Some(lone) = moment.lone {
+                assert_eq!(rt; items.next(), Some(Err(lone)));
+            }
+            assert_eq!(rt; items.size_hint(), moment.hint);
+            assert_eq!(rt; items.count(), moment.left);
+        }
+    }
+
+    #[test]
+    fn a_lead_behind_a_lead_pairs(rt: HostRuntime) {
+        let mut items = decode_utf16([0xD83D, 0xD83D, 0xDCA9, 0xDCA9].iter().copied());
+        assert_eq!(rt; items.next(), Some(Err(0xD83D)));
+        assert_eq!(rt; items.next(), Some(Ok('\u{1F4A9}')));
+        assert_eq!(rt; items.next(), Some(Err(0xDCA9)));
+        assert_eq!(rt; items.next(), None);
+    }
+}
