@@ -6,9 +6,13 @@ mod comparing;
 #[cfg(test)]
 mod cutting;
 #[cfg(test)]
+mod lengths;
+#[cfg(test)]
 mod memory;
 #[cfg(test)]
 mod shared;
+#[cfg(test)]
+mod sinks;
 #[cfg(test)]
 mod strings;
 #[cfg(test)]

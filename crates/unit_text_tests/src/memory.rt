@@ -1,5 +1,5 @@
-// Refused memory.
-use refusing::Refusing;
+// Refused memory, and how much is asked for.
+use refusing::{REFUSALS, Refusal, Refusing};
 use std::alloc::Global;
 use std::test::Fail;
 use unit_text::UnitText;
@@ -16,6 +16,7 @@ fn no_units_ask_for_no_memory(rt: HostRuntime) -> Result<(), Fail> {
     let empty = UnitText::from_units(&heap, &[])?;
     expect_dump(rt.alloc(), empty.as_wtf8(), "")?;
     let slice = empty.slice_units(&heap, 0, 0)?;
+    assert_eq!(rt; heap.requests(), 0);
     expect_dump(rt.alloc(), slice.as_wtf8(), "")
 }
 
@@ -26,6 +27,7 @@ fn the_empty_text_asks_for_no_memory(rt: HostRuntime) -> Result<(), Fail> {
     heap.grant(0);
     let empty = UnitText::from_units(&heap, &[])?;
     lead.concat(&empty)?;
+    assert_eq!(rt; heap.requests(), 0);
     expect_dump(rt.alloc(), lead.as_wtf8(), "ED A0 BD")
 }
 
@@ -35,42 +37,84 @@ fn an_empty_slice_asks_for_no_memory(rt: HostRuntime) -> Result<(), Fail> {
     let text = UnitText::from_units(&heap, &[0xD83D, 0xDCA9])?;
     heap.grant(0);
     let slice = text.slice_units(&heap, 1, 1)?;
+    assert_eq!(rt; heap.requests(), 0);
     expect_dump(rt.alloc(), slice.as_wtf8(), "")?;
     expect_dump(rt.alloc(), text.as_wtf8(), "F0 9F 92 A9")
 }
 
-/// One of the calls that make a text, and whether memory was granted.
-fn makes<'a>(heap: Lent<'a>, text: &UnitText<Lent<'a>>, way: u32) -> bool {
-    let len = text.unit_len();
-    match way {
-        0 => UnitText::from_units(heap, &WIDE).is_ok(),
-        1 => text.slice_units(heap, 0, len).is_ok(),
-        _ => text.slice_units(heap, len / 2, len).is_ok(),
+/// The units between two places of a text of these units, how many requests it makes to find them, and for how many bytes
+/// altogether. A growth is to eight bytes at least, to twice the room or to what is wanted, whichever is more.
+const SLICES: [(&[u16], usize, usize, u64, usize); 7] = [
+    (&WIDE, 0, 6, 1, 18),
+    (&WIDE, 3, 6, 1, 9),
+    (&WIDE, 2, 3, 1, 8),
+    (&WIDE, 3, 3, 0, 0),
+    (&[0xD83D, 0xDCA9], 1, 2, 1, 8),
+    (&[0xD83D, 0xDCA9, 0xD83D, 0xDCA9], 1, 3, 1, 8),
+    (
+        &[
+            0xD83D, 0xDCA9, 0xD83D, 0xDCA9, 0xD83D, 0xDCA9, 0xD83D, 0xDCA9,
+        ],
+        1,
+        7,
+        2,
+        8 + 16,
+    ),
+];
+
+/// Whether the units between two places were found, where some requests are granted and those behind them refused for good
+/// or the next one alone.
+fn is_sliced(
+    heap: Lent<'_>,
+    units: &[u16],
+    begin: usize,
+    end: usize,
+    granted: (u64, Refusal),
+) -> Result<bool, Fail> {
+    heap.grant(9);
+    let text = UnitText::from_units(heap, units)?;
+    if begin > end || end > text.unit_len() {
+        return Err(Fail::new("no such places"));
     }
+    let (grants, refusal) = granted;
+    heap.refuse_after(grants, refusal);
+    let is_sliced = text.slice_units(heap, begin, end).is_ok();
+    Ok(is_sliced)
 }
 
 #[test]
-fn each_request_of_a_call_that_makes_may_be_refused(rt: HostRuntime) -> Result<(), Fail> {
+fn a_slice_asks_for_what_it_needs(rt: HostRuntime) -> Result<(), Fail> {
     let heap = Refusing::new(rt.alloc(), 9);
-    let text = UnitText::from_units(&heap, &WIDE)?;
-    for way in 0..3 {
-        let mut refused = 0u64;
-        for granted in 0..9 {
-            heap.grant(granted);
-            if !makes(&heap, &text, way) {
-                refused = refused.wrapping_add(1);
-                assert_eq!(rt; heap.grants_left(), 0, "call {way}");
-            }
-            expect_dump(
-                rt.alloc(),
-                text.as_wtf8(),
-                "EE 80 80 EE 80 80 EE 80 80 EE 80 80 EE 80 80 EE 80 80",
-            )?;
-        }
-        assert!(rt;
-            1 <= refused && refused < 9,
-            "call {way} was refused {refused} times"
+    for (units, begin, end, requests, bytes) in SLICES {
+        assert!(rt; is_sliced(&heap, units, begin, end, (9, Refusal::Once))?);
+        assert_eq!(rt;
+            heap.requests(),
+            requests,
+            "{units:?} from {begin} to {end}"
         );
+        assert_eq!(rt; heap.bytes(), bytes, "{units:?} from {begin} to {end}");
+        for refusal in REFUSALS {
+            for granted in 0..requests {
+                assert!(rt; !is_sliced(&heap, units, begin, end, (granted, refusal))?);
+                assert_eq!(rt; heap.requests(), granted.wrapping_add(1), "to {end}");
+            }
+        }
+    }
+    Ok(())
+}
+
+#[test]
+fn a_text_of_units_asks_for_what_it_needs(rt: HostRuntime) -> Result<(), Fail> {
+    let heap = Refusing::new(rt.alloc(), 9);
+    assert!(rt; UnitText::from_units(&heap, &WIDE).is_ok());
+    assert_eq!(rt; heap.requests(), 3);
+    assert_eq!(rt; heap.bytes(), 6 + 12 + 24);
+    for refusal in REFUSALS {
+        for granted in 0..3 {
+            heap.refuse_after(granted, refusal);
+            assert!(rt; UnitText::from_units(&heap, &WIDE).is_err());
+            assert_eq!(rt; heap.requests(), granted.wrapping_add(1));
+        }
     }
     Ok(())
 }
@@ -90,14 +134,14 @@ fn expect_front<'a>(
 }
 
 /// Appends a hundred trails to a text that ends with a lead, where so many requests are granted, and answers whether they
-/// were enough. Fails unless a refusal leaves the text as before.
-fn is_grown(alloc: Global, granted: u64) -> Result<bool, Fail> {
+/// were enough. Fails unless a refusal leaves the text as before, and one request asks for the bytes that are needed.
+fn is_grown(alloc: Global, granted: u64, refusal: Refusal) -> Result<bool, Fail> {
     let heap = Refusing::new(alloc, 9);
     let mut text = UnitText::from_units(&heap, &[0x0061, 0xD83D])?;
     let behind = UnitText::from_units(&heap, &[0xDCA9; 100])?;
-    heap.grant(granted);
+    heap.refuse_after(granted, refusal);
     let is_grown = text.concat(&behind).is_ok();
-    let left = heap.grants_left();
+    let (requests, bytes) = (heap.requests(), heap.bytes());
     heap.grant(9);
     if is_grown {
         expect_front(alloc, &heap, &text, "61 F0 9F 92 A9")?;
@@ -105,8 +149,8 @@ fn is_grown(alloc: Global, granted: u64) -> Result<bool, Fail> {
         expect_dump(alloc, text.as_wtf8(), "61 ED A0 BD")?;
     }
     let len = if is_grown { 102 } else { 2 };
-    if text.unit_len() != len || behind.unit_len() != 100 || !is_grown && left != 0 {
-        return Err(Fail::new("another length, or a grant is left"));
+    if text.unit_len() != len || behind.unit_len() != 100 || requests != 1 || bytes != 302 {
+        return Err(Fail::new("another length, or not one request for all bytes"));
     }
     Ok(is_grown)
 }
@@ -114,11 +158,10 @@ fn is_grown(alloc: Global, granted: u64) -> Result<bool, Fail> {
 #[test]
 fn a_refused_text_is_not_appended(rt: HostRuntime) -> Result<(), Fail> {
     for (granted, is_granted) in [(0, false), (1, true), (9, true)] {
-        assert_eq!(rt;
-            is_grown(rt.alloc(), granted)?,
-            is_granted,
-            "with {granted} granted"
-        );
+        for refusal in REFUSALS {
+            let is_grown = is_grown(rt.alloc(), granted, refusal)?;
+            assert_eq!(rt; is_grown, is_granted, "with {granted} granted");
+        }
     }
     Ok(())
 }

@@ -1,8 +1,8 @@
 // Calls that grow a string: how many requests each makes, and what it leaves where one of them is refused.
-use refusing::Refusing;
+use refusing::{REFUSALS, Refusal, Refusing};
 use std::alloc::{AllocError, Global};
 use std::test::Fail;
-use wtf8::{Build, Wtf8Buf};
+use wtf8::{Build, CodePoint, Wtf8Buf};
 use wtf8_examples::{TEXT, expect_dump, joined, point_of_unit, points_of_units};
 
 type Lent<'a> = &'a Refusing<Global>;
@@ -11,6 +11,7 @@ type Lent<'a> = &'a Refusing<Global>;
 #[derive(Clone, Copy)]
 enum Piece {
     Push(u16),
+    PushPoint(char),
     PushChar(char),
     PushStr(&'static str),
     PushWtf8(&'static [u16]),
@@ -24,77 +25,116 @@ struct Row {
     piece: Piece,
     /// The bytes after the call was granted all its requests.
     granted: &'static str,
+    /// For how many bytes these are altogether.
+    asked: usize,
     /// The bytes after so many of its requests were granted, and the next refused: as many as it makes.
     refused: &'static [&'static str],
 }
 
 const FULL: &str = "61 ED A0 BD";
 
-const ROWS: [Row; 13] = [
+const ROWS: [Row; 17] = [
     Row {
         piece: Piece::Push(0x0061),
         granted: "61 ED A0 BD 61",
+        asked: 8,
         refused: &[FULL],
     },
     Row {
         piece: Piece::Push(0xDCA9),
         granted: "61 F0 9F 92 A9",
+        asked: 8,
         refused: &[FULL],
     },
     Row {
         piece: Piece::Push(0xD83D),
         granted: "61 ED A0 BD ED A0 BD",
+        asked: 8,
+        refused: &[FULL],
+    },
+    Row {
+        piece: Piece::PushPoint('a'),
+        granted: "61 ED A0 BD 61",
+        asked: 8,
+        refused: &[FULL],
+    },
+    Row {
+        piece: Piece::PushPoint('é'),
+        granted: "61 ED A0 BD C3 A9",
+        asked: 8,
+        refused: &[FULL],
+    },
+    Row {
+        piece: Piece::PushPoint('あ'),
+        granted: "61 ED A0 BD E3 81 82",
+        asked: 8,
+        refused: &[FULL],
+    },
+    Row {
+        piece: Piece::PushPoint('💩'),
+        granted: "61 ED A0 BD F0 9F 92 A9",
+        asked: 8,
         refused: &[FULL],
     },
     Row {
         piece: Piece::PushChar('💩'),
         granted: "61 ED A0 BD F0 9F 92 A9",
+        asked: 8,
         refused: &[FULL],
     },
     Row {
         piece: Piece::PushStr(TEXT),
         granted: "61 ED A0 BD 61 C3 A9 20 F0 9F 92 A9",
+        asked: 12,
         refused: &[FULL],
     },
     Row {
         piece: Piece::PushStr(""),
         granted: FULL,
+        asked: 0,
         refused: &[],
     },
     Row {
         piece: Piece::PushWtf8(&[0x0061, 0x0062]),
         granted: "61 ED A0 BD 61 62",
+        asked: 8,
         refused: &[FULL],
     },
     Row {
         piece: Piece::PushWtf8(&[0xDCA9, 0xDCA9, 0x0062]),
         granted: "61 F0 9F 92 A9 ED B2 A9 62",
+        asked: 9,
         refused: &[FULL],
     },
     Row {
         piece: Piece::PushWtf8(&[]),
         granted: FULL,
+        asked: 0,
         refused: &[],
     },
     Row {
         piece: Piece::Extend(&[0xDCA9, 0x0062]),
         granted: "61 F0 9F 92 A9 62",
+        asked: 8,
         refused: &[FULL],
     },
     // Room for three bytes makes eight of four, which holds the first point, but not the second.
     Row {
         piece: Piece::Extend(&[0x0800, 0x0800, 0x0800]),
         granted: "61 ED A0 BD E0 A0 80 E0 A0 80 E0 A0 80",
+        asked: 24,
         refused: &[FULL, "61 ED A0 BD E0 A0 80"],
     },
     Row {
         piece: Piece::Reserve(1000),
         granted: FULL,
+        asked: 1004,
         refused: &[FULL],
     },
     Row {
         piece: Piece::Reserve(0),
         granted: FULL,
+        asked: 0,
         refused: &[],
     },
 ];
@@ -112,6 +152,7 @@ fn full(heap: Lent<'_>) -> Result<Wtf8Buf<Lent<'_>>, AllocError> {
 fn call_named(alloc: Global, text: &mut Wtf8Buf<Lent<'_>>, piece: Piece) -> Result<(), AllocError> {
     match piece {
         Piece::Push(unit) => text.push(point_of_unit(unit)),
+        Piece::PushPoint(c) => text.push(CodePoint::from_char(c)),
         Piece::PushChar(c) => text.push_char(c),
         Piece::PushStr(piece) => text.push_str(piece),
         Piece::PushWtf8(units) => text.push_wtf8(joined(alloc, units)?.as_wtf8()),
@@ -128,6 +169,7 @@ fn apply_named(
 ) -> Result<bool, AllocError> {
     match piece {
         Piece::Push(unit) => text.apply(Build::Push(point_of_unit(unit))),
+        Piece::PushPoint(c) => text.apply(Build::Push(CodePoint::from_char(c))),
         Piece::PushChar(c) => text.apply(Build::PushChar(c)),
         Piece::PushStr(piece) => text.apply(Build::PushStr(piece)),
         Piece::PushWtf8(units) => {
@@ -142,43 +184,64 @@ fn apply_named(
     }
 }
 
-/// Makes the call where so many requests are granted. Fails unless it is done or not, leaves so many of the grants, and
-/// the string holds these bytes.
+/// Makes the call where so many requests are granted, and those behind them refused for good or the next one alone. Fails
+/// unless it is done or not, makes so many requests, and the string holds these bytes. It answers how many bytes the
+/// requests ask for.
 fn expect_outcome(
     alloc: Global,
     piece: Piece,
     is_applied: bool,
-    grants: u64,
+    granted: (u64, Refusal),
     wanted: (bool, u64, &str),
-) -> Result<(), Fail> {
+) -> Result<usize, Fail> {
     let heap = Refusing::new(alloc, 0);
     let mut text = full(&heap)?;
-    heap.grant(grants);
+    let (grants, refusal) = granted;
+    heap.refuse_after(grants, refusal);
     let is_done = if is_applied {
         apply_named(alloc, &mut text, piece) == Ok(true)
     } else {
         call_named(alloc, &mut text, piece).is_ok()
     };
-    let (is_done_wanted, left, dump) = wanted;
-    if is_done != is_done_wanted || heap.grants_left() != left {
-        return Err(Fail::new(format_args!("at {dump} with {grants} granted")));
+    let (is_done_wanted, requests, dump) = wanted;
+    if is_done != is_done_wanted || heap.requests() != requests {
+        return Err(Fail::new(format_args!("at {dump} with {grants} granted, then {refusal:?}")));
     }
-    expect_dump(alloc, text.as_wtf8(), dump)
+    expect_dump(alloc, text.as_wtf8(), dump)?;
+    Ok(heap.bytes())
 }
 
 #[test]
 fn a_growing_call_makes_its_requests_and_no_other(rt: HostRuntime) -> Result<(), Fail> {
     for row in &ROWS {
-        let left = 9u64.wrapping_sub(row.refused.len() as u64);
+        let requests = row.refused.len() as u64;
         for is_applied in [false, true] {
-            expect_outcome(
+            let asked = expect_outcome(
                 rt.alloc(),
                 row.piece,
                 is_applied,
-                9,
-                (true, left, row.granted),
+                (9, Refusal::ForGood),
+                (true, requests, row.granted),
             )?;
+            assert_eq!(rt; asked, row.asked, "{}", row.granted);
         }
+    }
+    Ok(())
+}
+
+/// Fails unless the call ends at each request that is refused, and leaves what it tells.
+fn expect_kept(alloc: Global, row: &Row, is_applied: bool, refusal: Refusal) -> Result<(), Fail> {
+    let mut granted = 0u64;
+    for dump in row.refused {
+        let made = granted.wrapping_add(1);
+        expect_outcome(
+            alloc,
+            row.piece,
+            is_applied,
+            (granted, refusal),
+            (false, made, dump),
+        )?;
+        granted = made;
     }
     Ok(())
 }
@@ -186,15 +249,9 @@ fn a_growing_call_makes_its_requests_and_no_other(rt: HostRuntime) -> Result<(),
 #[test]
 fn a_refused_request_leaves_what_was_there(rt: HostRuntime) -> Result<(), Fail> {
     for row in &ROWS {
-        for (granted, dump) in row.refused.iter().enumerate() {
+        for refusal in REFUSALS {
             for is_applied in [false, true] {
-                expect_outcome(
-                    rt.alloc(),
-                    row.piece,
-                    is_applied,
-                    granted as u64,
-                    (false, 0, dump),
-                )?;
+                expect_kept(rt.alloc(), row, is_applied, refusal)?;
             }
         }
     }

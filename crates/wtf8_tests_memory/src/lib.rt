@@ -6,6 +6,8 @@ mod asking_for_none;
 #[cfg(test)]
 mod growing;
 #[cfg(test)]
+mod lengths;
+#[cfg(test)]
 mod lists;
 #[cfg(test)]
 mod making;

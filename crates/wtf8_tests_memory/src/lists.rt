@@ -1,5 +1,5 @@
 // Lists of building calls that are stopped by want of memory.
-use refusing::Refusing;
+use refusing::{REFUSALS, Refusal, Refusing};
 use std::alloc::{AllocError, Global};
 use std::test::Fail;
 use wtf8::{Build, CodePoint, Stopped, Wtf8Buf};
@@ -77,17 +77,24 @@ const STOPS: [Stop; 4] = [
 ];
 
 /// Whether the list is stopped there, with what the calls before it leave and the points of the extension that were taken.
-fn is_stopped_at(alloc: Global, calls: &[Build<'_>], stop: &Stop) -> Result<bool, Fail> {
-    let heap = Refusing::new(alloc, stop.granted);
+fn is_stopped_at(
+    alloc: Global,
+    calls: &[Build<'_>],
+    stop: &Stop,
+    refusal: Refusal,
+) -> Result<bool, Fail> {
+    let heap = Refusing::new(alloc, 0);
+    heap.refuse_after(stop.granted, refusal);
     let mut text = Wtf8Buf::new(&heap);
     let answer = text.apply_all(calls);
+    let is_last = heap.requests() == stop.granted.wrapping_add(1);
     let mut before = folded(alloc, calls.get(..stop.done).ok_or("calls")?)?;
     if let Some(Build::Extend(points)) = calls.get(stop.done) {
         before.extend(points.iter().copied().take(stop.taken))?;
     }
     expect_dump(alloc, before.as_wtf8(), stop.dump)?;
     expect_dump(alloc, text.as_wtf8(), stop.dump)?;
-    Ok(answer == Err(Stopped { done: stop.done }))
+    Ok(is_last && answer == Err(Stopped { done: stop.done }))
 }
 
 #[test]
@@ -110,11 +117,11 @@ fn a_list_of_every_call_stops_at_each_request(rt: HostRuntime) -> Result<(), Fai
         Build::Push(point_of_unit(0x61)),
     ];
     for stop in &STOPS {
-        let granted = stop.granted;
-        assert!(rt;
-            is_stopped_at(rt.alloc(), &calls, stop)?,
-            "with {granted} granted"
-        );
+        for refusal in REFUSALS {
+            let granted = stop.granted;
+            let is_stopped = is_stopped_at(rt.alloc(), &calls, stop, refusal)?;
+            assert!(rt; is_stopped, "with {granted} granted");
+        }
     }
     let heap = Refusing::new(rt.alloc(), 9);
     let mut text = Wtf8Buf::new(&heap);
@@ -136,8 +143,13 @@ fn a_list_stops_at_the_refused_push(rt: HostRuntime) -> Result<(), Fail> {
         Build::Push(point_of_unit(0xDCA9)),
         Build::Push(point_of_unit(0x61)),
     ];
-    assert_eq!(rt; text.apply_all(&calls), Err(Stopped { done: 1 }));
-    expect_dump(rt.alloc(), text.as_wtf8(), "61 ED A0 BD")
+    for refusal in REFUSALS {
+        heap.refuse_after(0, refusal);
+        assert_eq!(rt; text.apply_all(&calls), Err(Stopped { done: 1 }));
+        assert_eq!(rt; heap.requests(), 1);
+        expect_dump(rt.alloc(), text.as_wtf8(), "61 ED A0 BD")?;
+    }
+    Ok(())
 }
 
 #[test]

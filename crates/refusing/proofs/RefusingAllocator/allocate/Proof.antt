@@ -30,10 +30,10 @@ use denote.Triple.Statement.{Contract, Triple}
 use denote.Triple.Table.{entered, cited}
 use denote.Triple.Walked.{Stays, stay_dropped, walk_of, ends_at, walked, Goes-dropped, walk_Meets}
 use types.Kit.{‵, raw, ◌⊛◌, some, later, given, prop, at_ret, Sq, learn, ◌$◌, ◌∵◌, !, qed, move, keep, use0, use1, use2, split, join, pick, fsplit, fjoin}
-use types.Kit.{feq_i, feq_l, check, show, suffices, await, updating, now as at_once, done}
+use types.Kit.{feq_i, feq_l, flt_i, check, show, suffices, await, updating, now as at_once, done}
 use types.ByLocal.{alloc_all, pass_all, free_all, look_at, get, through, sets, lands_as, env}
 use denote.RawPtr.{block_ptr}
-use denote.Builtin.{u64, usize, bool}
+use denote.Builtin.{usize, bool}
 use denote.Triple.Call.{calls_at}
 use Rattle.std.proofs.alloc.Calls.{Al, α, seen, Answer, answer_val, Answer-typed, Answer-Ok, Answer-err, takes_key, Takes, at_takes, Answered, Takes-goes}
 use Rattle.std.proofs.alloc.Calls.{Takes-gives, answers}
@@ -42,6 +42,7 @@ use Rattle.refusing.proofs.use_grant.Met as grant_met
 use Rattle.std.proofs.VecSteps.Shapes.{after}
 use Rattle.std.specs.contracts.cell.Cell as cell
 use Rattle.refusing.specs.contracts.use_grant as grant
+use Rattle.refusing.specs.contracts.Ledger as ledger
 use Rattle.refusing.specs.contracts.Refusing as wrapper
 use Rattle.refusing.proofs.Wrapper.{args, self}
 use Rattle.refusing.specs.contracts.RefusingAllocator.allocate as F
@@ -49,32 +50,32 @@ use Rattle.refusing.specs.contracts.RefusingAllocator.allocate.Key as key
 use Rattle.refusing.proofs.RefusingAllocator.allocate.Statement as stated
 use Rattle.refusing.proofs.RefusingAllocator.allocate.Code as code
 
-abbrev Grants : RattleType
-Grants = cell.the_row u64
+abbrev Page : RattleType
+Page = cell.the_row ledger.the_row
 
--- `use_grant` at a call: what it is handed, a `&` to the cell and a token of its lifetime, and what a caller has of it
+-- `use_grant` at a call: what it is handed, a `&` to the cell, a token of its lifetime and a number, and what a caller has of it
 module _ {M : Type 1} {𝓤 : Ura M} (𝓛 : Logic 𝓤) (at_mem : Memory → SProp 𝓤) (run : Routine → Fun 𝓤) where
   abbrev Uses : Contract 𝓤
   Uses = triple_of 𝓛 grant.signature (grant.spec 𝓛 at_mem run)
 
-  abbrev at_uses : Lft → Share → ℕ × ℕ → Uses.Ghost
-  at_uses κ q c = (((κ, tt), (q, tt), tt, (record { ref_ptr = c; now = record { value = tt } }, tt), (vptr c.0 c.1 ∷ [], tt)), tt)
+  abbrev at_uses : Lft → Share → ℕ × ℕ → ℕ → Uses.Ghost
+  at_uses κ q c n = (((κ, tt), (q, tt), tt, (record { ref_ptr = c; now = record { value = tt } }, (n, tt)), (vptr c.0 c.1 ∷ [], (vint w64 n ∷ [], tt))), tt)
 
-module _ {M : Type 1} {𝓤 : Ura M} (𝓛 : Logic 𝓤) (at_mem : Memory → SProp 𝓤) (run : Routine → Fun 𝓤) (κ : Lft) (q : Share) (c : ℕ × ℕ) where
+module _ {M : Type 1} {𝓤 : Ura M} (𝓛 : Logic 𝓤) (at_mem : Memory → SProp 𝓤) (run : Routine → Fun 𝓤) (κ : Lft) (q : Share) (c : ℕ × ℕ) (n : ℕ) where
   open 𝓛 use {H, A}
 
-  Uses-goes : ent 𝓤 (sep 𝓤 (sem 𝓛 (hidden_shr Grants κ (record { value = tt }) c.0 c.1)) (A.lft κ q)) ((Uses 𝓛 at_mem run).pre (at_uses 𝓛 at_mem run κ q c))
-  Uses-goes =
-      qed 𝓛 (‵ (hidden_shr Grants κ (record { value = tt }) c.0 c.1) ∷ ‵ (flft κ q) ∷ []) ∵ feq_i ! (List Val) (vptr c.0 c.1 ∷ [])
-      (vptr c.0 c.1 ∷ []) refl $ fjoin ! $
-      nothing ! $ move ! (1 ∷ []) $ fjoin ! $ nothing ! $ move ! (2 ∷ []) $ join ! $ join ! $ nothing ! $ move ! (1 ∷ []) $ done !
+  Uses-goes : n < 2 ^ 64 → ent 𝓤 (sep 𝓤 (sem 𝓛 (hidden_shr Page κ (record { value = tt }) c.0 c.1)) (A.lft κ q)) ((Uses 𝓛 at_mem run).pre (at_uses 𝓛 at_mem run κ q c n))
+  Uses-goes fits =
+      qed 𝓛 (‵ (hidden_shr Page κ (record { value = tt }) c.0 c.1) ∷ ‵ (flft κ q) ∷ []) ∵ nothing ! $ flt_i ! n (2 ^ 64) fits $
+      feq_i ! (List Val) (vint w64 n ∷ []) (vint w64 n ∷ []) refl $ fjoin ! $ fjoin ! $ move ! (1 ∷ []) $
+      feq_i ! (List Val) (vptr c.0 c.1 ∷ []) (vptr c.0 c.1 ∷ []) refl $ fjoin ! $ fjoin ! $ nothing ! $ move ! (2 ∷ []) $ join ! $ join ! $ nothing ! $ move ! (1 ∷ []) $ done !
 
-  Uses-gives : (v : Val) → ent 𝓤 ((Uses 𝓛 at_mem run).post (at_uses 𝓛 at_mem run κ q c) v) (H.⇛ (ex 𝓤 (λ (y : Bool). guard 𝓤 (v ≡ vbool y) (A.lft κ q))))
+  Uses-gives : (v : Val) → ent 𝓤 ((Uses 𝓛 at_mem run).post (at_uses 𝓛 at_mem run κ q c n) v) (H.⇛ (ex 𝓤 (λ (y : Bool). guard 𝓤 (v ≡ vbool y) (A.lft κ q))))
   Uses-gives v =
-      qed 𝓛 (raw ((Uses 𝓛 at_mem run).post (at_uses 𝓛 at_mem run κ q c) v) ∷ []) ∵ updating ! $
+      qed 𝓛 (raw ((Uses 𝓛 at_mem run).post (at_uses 𝓛 at_mem run κ q c n) v) ∷ []) ∵ updating ! $
       use1 𝓛
       (later (some (λ (y : Bool). ((‵ (flft κ q) ⊛ ‵ ftrue) ⊛ ‵ (bool.own_val y (v ∷ []))) ⊛ some
-      (λ (ws : Unit {0} × Unit {0}). ‵ (fsep ftrue ftrue) ⊛ ‵ ftrue)))) (id⊢ 𝓤 _) $ await ! tt $ pick ! (λ y.
+      (λ (ws : Unit {0} × (Unit {0} × Unit {0})). ‵ (fsep ftrue (fsep ftrue ftrue)) ⊛ ‵ ftrue)))) (id⊢ 𝓤 _) $ await ! tt $ pick ! (λ y.
       split ! $ split ! $ move ! (1 ∷ []) $ feq_l ! (λ e. split ! $ at_once ! $ show ! (λ (y : Bool). guard 𝓤 (v ≡ vbool y) (A.lft κ q)) y $ check !
       (ap only e) $ keep ! (0 ∷ []) $ done !))
 
@@ -125,9 +126,9 @@ module _ (Z : Al) {M : Type 1} {𝓤 : Ura M} (𝓛 : Logic 𝓤) (at_mem : Memo
         (id⊢ 𝓤 _) $ move ! (1 ∷ []) $ fsplit ! $ keep ! (0 ∷ 6 ∷ 2 ∷ 7 ∷ []) $
         enter ! 𝓣.C 𝓣.Λ (here Z) vs _ $ alloc_all ! (λ l. pass_all ! refl ((tt, tt), ((tt, record { fits = fn }), ((tt, record { fits = fa }), tt))) $
         sets ! (addr ! (through ! refl (fld ! refl (stop !)))) refl (tt, tt) $
-        use2 𝓛 (raw ((Uses 𝓛 at_mem run).pre (at_uses 𝓛 at_mem run κ₁ q₁ c))) (Uses-goes 𝓛 at_mem run κ₁ q₁ c) $
-        calls_at ! (fm_of 𝓤 H 𝓛.laws 𝓣) (Uses 𝓛 at_mem run) gr (at_uses 𝓛 at_mem run κ₁ q₁ c) (and_then ! (get ! refl) (no_more !)) (λ u.
-        use1 𝓛 (later (some (λ (y : Bool). given (u ≡ vbool y) (‵ (flft κ₁ q₁))))) (Uses-gives 𝓛 at_mem run κ₁ q₁ c u) $ await ! tt $ pick !
+        use2 𝓛 (raw ((Uses 𝓛 at_mem run).pre (at_uses 𝓛 at_mem run κ₁ q₁ c n))) (Uses-goes 𝓛 at_mem run κ₁ q₁ c n fn) $
+        calls_at ! (fm_of 𝓤 H 𝓛.laws 𝓣) (Uses 𝓛 at_mem run) gr (at_uses 𝓛 at_mem run κ₁ q₁ c n) (and_then ! (get ! refl) (and_then ! (get ! refl) (no_more !))) (λ u.
+        use1 𝓛 (later (some (λ (y : Bool). given (u ≡ vbool y) (‵ (flft κ₁ q₁))))) (Uses-gives 𝓛 at_mem run κ₁ q₁ c n u) $ await ! tt $ pick !
         (λ granted. learn ! (λ eu. lands_as ! eu refl (tt, tt) $ move ! (1 ∷ []) $
         sets ! (un ! (get ! refl) tt) refl (tt, tt) $ first ! $ branches ! (get ! refl)
         (λ _. sets ! (agg ! (no_more !)) refl (tt, tt) $ sets ! (agg ! (and_then ! (lit ! tt) (and_then ! (get ! refl) (no_more !)))) refl

@@ -1,0 +1,90 @@
+// Debug texts through a sink that refuses a write.
+use std::alloc::{AllocError, Global};
+use std::fmt;
+use std::fmt::Write;
+use std::test::Fail;
+use unit_text::UnitText;
+
+/// Takes what is written, but for one write, which it refuses; then it goes on.
+#[derive(Drop)]
+struct Sink {
+    taken: String,
+    writes: u32,
+    refused: u32,
+}
+
+impl Write for Sink {
+    fn write_str(&mut self, s: &str) -> fmt::Result {
+        self.writes = self.writes.wrapping_add(1);
+        if self.writes == self.refused {
+            return Err(fmt::Error);
+        }
+        self.taken.write_str(s)
+    }
+}
+
+/// Writes a debug text, with a sign and a width outside or without. Fails unless it ends at the refused write, where one is
+/// refused, and is whole where none is. It answers how many writes the sink saw.
+fn writes_of(
+    alloc: Global,
+    text: &UnitText<Global>,
+    is_styled: bool,
+    refused: u32,
+    expected: &str,
+) -> Result<u32, Fail> {
+    let taken = String::new(alloc);
+    let mut sink = Sink {
+        taken,
+        writes: 0,
+        refused,
+    };
+    let is_ok = if is_styled {
+        write!(sink, "{text:+3000?}").is_ok()
+    } else {
+        write!(sink, "{text:?}").is_ok()
+    };
+    if is_ok != (sink.writes < refused) || is_ok != (sink.taken.as_str() == expected) {
+        return Err(Fail::new("the answer is not the sink's"));
+    }
+    if !expected.starts_with(sink.taken.as_str()) || (!is_ok && sink.writes != refused) {
+        return Err(Fail::new("it went on after the refused write"));
+    }
+    Ok(sink.writes)
+}
+
+/// Fails unless each write of a debug text, refused in turn, ends it.
+fn expect_ends(alloc: Global, units: &[u16], expected: &str) -> Result<(), Fail> {
+    let text = UnitText::from_units(alloc, units)?;
+    for is_styled in [false, true] {
+        let writes = writes_of(alloc, &text, is_styled, u32::MAX, expected)?;
+        for refused in 1..=writes {
+            writes_of(alloc, &text, is_styled, refused, expected)?;
+        }
+    }
+    Ok(())
+}
+
+/// Units of a text of more than a thousand bytes, and its debug text.
+fn long_text(alloc: Global) -> Result<(Vec<u16>, String), AllocError> {
+    let mut units = Vec::new(alloc);
+    let mut expected = String::from_str(alloc, "\"")?;
+    for _ in 0..150 {
+        units.extend_from_slice(&[0x0061, 0xDEAD, 0x3042])?;
+        expected.push_str("a\\u{DEAD}\u{3042}")?;
+    }
+    expected.push_str("\"")?;
+    Ok((units, expected))
+}
+
+#[test]
+fn a_debug_text_ends_at_a_refused_write(rt: HostRuntime) -> Result<(), Fail> {
+    expect_ends(rt.alloc(), &[], "\"\"")?;
+    expect_ends(rt.alloc(), &[0xD83D, 0xDCA9], "\"\u{1F4A9}\"")?;
+    expect_ends(
+        rt.alloc(),
+        &[0x0007, 0xDEAD, 0x0007],
+        "\"\u{7}\\u{DEAD}\u{7}\"",
+    )?;
+    let (units, expected) = long_text(rt.alloc())?;
+    expect_ends(rt.alloc(), &units, &expected)
+}
