@@ -221,23 +221,18 @@ impl<'a> IllFormedUtf16CodeUnits<'a> {
 impl<'a> Iterator for IllFormedUtf16CodeUnits<'a> {
     type Item = u16;
 
-    ghost use Rattle.std.specs.Prelude.{◌≡◌, length, IfSome, ⊤};
-    ghost use Rattle.std.specs.Iterator.{YieldsFirst, item_count, at_most, MakesProgress, UpTo};
+    ghost use Rattle.std.specs.Prelude.{◌≡◌, length, IfSome};
+    ghost use Rattle.std.specs.Iterator.{YieldsFirst, item_count, at_most, UpTo};
     ghost use Rattle.std.specs.Iterator.SizeHint.{IsWithinCount};
     ghost use Rattle.wtf8.specs.Hints.{units_hint, IsTrueHint};
     ghost use Rattle.wtf8.specs.Units.{unread_units};
-    ghost use Rattle.wtf8.specs.UnitSteps.{unread_after};
 
     ghost next_gives = { YieldsFirst unread_units };
 
     ghost remaining = { item_count unread_units };
 
     /// The next unit, or `None` at the end. Behind the lead of a pair its trail is held back; else nothing is.
-    fn next(&mut self) -> Option<u16>
-        ensures steps { YieldsFirst unread_units self.old result self.new }
-        ensures goes { MakesProgress (λ _. ⊤) (item_count unread_units) self.old result self.new }
-        ensures left { self.new ≡ unread_after self.old }
-    {
+    fn next(&mut self) -> Option<u16> {
         self.give_unit()
     }
 
