@@ -11,7 +11,7 @@ use Rattle.wtf8.specs.declared.strings.build.Build.TheVariants.{Push, PushChar, 
 use Rattle.wtf8_dump.specs.Lines.{words}
 use Rattle.wtf8_dump.specs.Reading.{TakesCalls}
 use Rattle.wtf8_dump.specs.Word.{IsCall, IsNoCall}
-use Rattle.wtf8.proofs.lemmas.RunLaws.{runs_add}
+use Rattle.wtf8.proofs.lemmas.laws.Laws.{runs_add}
 use Rattle.wtf8_dump.proofs.Answering.{AllZip-one_more}
 
 -- one call refuses at most one

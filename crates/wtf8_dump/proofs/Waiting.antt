@@ -2,7 +2,7 @@
 use Rattle.std.proofs.Common.{◌≡◌, ◌≤◌, ◌+◌, ℕ, List, [], ◌∷◌, ◌++◌, length, refl, sym, ap, ◌∙◌, subst, arith, length-append, append_assoc, append-nil}
 use Rattle.std.proofs.lemmas.List.{map-append}
 use Rattle.std.specs.Borrow.{Bor}
-use Rattle.wtf8.proofs.lemmas.RunLaws.{runs_add}
+use Rattle.wtf8.proofs.lemmas.laws.Laws.{runs_add}
 use Rattle.wtf8.specs.Building.{Run}
 use Rattle.wtf8.specs.CodePoint.{number, numbers}
 use Rattle.wtf8.specs.Unicode.{units_of, units}

@@ -19,7 +19,7 @@ fn six_bits(value: u32) -> u8
 }
 
 /// The two bytes of a code point from 0x80 to 0x7FF.
-#[tactic(auto, using(crate::proofs::lemmas::Encoding::encoding_two))]
+#[tactic(auto, using(crate::proofs::lemmas::numbers::Encoding::encoding_two))]
 fn two_bytes(value: u32) -> [u8; 2]
     requires low { 0x80 ≤ value }
     requires high { value < 0x800 }
@@ -29,7 +29,7 @@ fn two_bytes(value: u32) -> [u8; 2]
 }
 
 /// The three bytes of a code point from 0x800 to 0xFFFF, a surrogate like any other.
-#[tactic(auto, using(crate::proofs::lemmas::Encoding::encoding_three))]
+#[tactic(auto, using(crate::proofs::lemmas::numbers::Encoding::encoding_three))]
 pub(crate) fn three_bytes(value: u32) -> [u8; 3]
     requires low { 0x800 ≤ value }
     requires high { value < 0x10000 }
@@ -43,7 +43,7 @@ pub(crate) fn three_bytes(value: u32) -> [u8; 3]
 }
 
 /// The four bytes of a supplementary code point.
-#[tactic(auto, using(crate::proofs::lemmas::Encoding::encoding_four))]
+#[tactic(auto, using(crate::proofs::lemmas::numbers::Encoding::encoding_four))]
 pub(crate) fn four_bytes(value: u32) -> [u8; 4]
     requires low { 0x10000 ≤ value }
     requires high { IsCodePoint value }
@@ -117,7 +117,7 @@ pub(crate) fn append<A: Allocator>(
 
 /// The same where the spare room is known.
 #[inline(always)]
-#[tactic(auto, using(crate::proofs::lemmas::Encoding::encoding_one))]
+#[tactic(auto, using(crate::proofs::lemmas::numbers::Encoding::encoding_one))]
 pub(crate) fn append_into<A: Allocator>(
     bytes: &mut Vec<u8, A>,
     spare: usize,

@@ -1,6 +1,5 @@
 use Rattle.wtf8.proofs.Common.{ap, bytes, bytes-injective}
-use Rattle.wtf8.proofs.lemmas.ByteOrder.{before_bytes, cmp-bytes}
-use Rattle.wtf8.proofs.lemmas.ListOrder.{order_of}
+use Rattle.wtf8.proofs.lemmas.comparing.Order.{before_bytes, cmp-bytes, order_of}
 use Rattle.wtf8.proofs.laws.law_byte_order.Goals as goal
 
 pub returns : goal.returns

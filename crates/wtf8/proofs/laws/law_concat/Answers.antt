@@ -1,5 +1,4 @@
-use Rattle.wtf8.proofs.lemmas.Concatenation.{glue_meeting, glue_apart, reads-glue}
-use Rattle.wtf8.proofs.lemmas.Forms.{form-glue, form_paired, form_apart}
+use Rattle.wtf8.proofs.lemmas.strings.Concatenation.{glue_meeting, glue_apart, reads-glue, form-glue, form_paired, form_apart}
 use Rattle.wtf8.proofs.laws.law_concat.Goals as goal
 
 pub returns : goal.returns

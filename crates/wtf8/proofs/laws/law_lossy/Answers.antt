@@ -1,4 +1,4 @@
-use Rattle.wtf8.proofs.lemmas.StringLaws.{scalars_stay}
+use Rattle.wtf8.proofs.lemmas.laws.Laws.{scalars_stay}
 use Rattle.wtf8.proofs.laws.law_lossy.Goals as goal
 
 pub returns : goal.returns

@@ -1,4 +1,4 @@
-use Rattle.wtf8.proofs.lemmas.FormLaws.{one_reading, units_read}
+use Rattle.wtf8.proofs.lemmas.strings.Concatenation.{one_reading, units_read}
 use Rattle.wtf8.proofs.laws.law_one_reading.Goals as goal
 
 pub returns : goal.returns

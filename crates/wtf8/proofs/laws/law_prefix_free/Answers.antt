@@ -1,5 +1,5 @@
-use Rattle.wtf8.proofs.lemmas.Encoding.{encoding_same}
-use Rattle.wtf8.proofs.lemmas.FormLaws.{none_begins_another}
+use Rattle.wtf8.proofs.lemmas.numbers.Encoding.{encoding_same}
+use Rattle.wtf8.proofs.lemmas.strings.Concatenation.{none_begins_another}
 use Rattle.wtf8.proofs.laws.law_prefix_free.Goals as goal
 
 pub returns : goal.returns

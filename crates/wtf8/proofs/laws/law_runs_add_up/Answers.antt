@@ -1,4 +1,4 @@
-use Rattle.wtf8.proofs.lemmas.RunLaws.{runs_add}
+use Rattle.wtf8.proofs.lemmas.laws.Laws.{runs_add}
 use Rattle.wtf8.proofs.laws.law_runs_add_up.Goals as goal
 
 pub returns : goal.returns

@@ -1,4 +1,4 @@
-use Rattle.wtf8.proofs.lemmas.StringLaws.{texts_scalar}
+use Rattle.wtf8.proofs.lemmas.laws.Laws.{texts_scalar}
 use Rattle.wtf8.proofs.laws.law_texts.Goals as goal
 
 pub returns : goal.returns

@@ -1,4 +1,4 @@
-use Rattle.wtf8.proofs.lemmas.DifferenceLanes.{ends_same}
+use Rattle.wtf8.proofs.lemmas.lanes.Differences.{ends_same}
 use Rattle.wtf8.proofs.lanes.differences.are_ends_same.Goals as goal
 
 pub returns : goal.returns

@@ -1,5 +1,5 @@
 use Rattle.std.proofs.Common.{arith}
-use Rattle.wtf8.proofs.lemmas.DifferenceLanes.{decided, whole_same}
+use Rattle.wtf8.proofs.lemmas.lanes.Differences.{decided, whole_same}
 use Rattle.wtf8.proofs.lanes.differences.equal.Goals as goal
 
 pub returns-then-own-le-TURN : goal.returns-then-own-le-TURN

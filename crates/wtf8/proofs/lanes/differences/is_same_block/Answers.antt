@@ -1,5 +1,5 @@
 use Rattle.wtf8.proofs.Common.{take, drop, length-chunk}
-use Rattle.wtf8.proofs.lemmas.DifferenceLanes.{same_lanes}
+use Rattle.wtf8.proofs.lemmas.lanes.Differences.{same_lanes}
 use Rattle.wtf8.proofs.lanes.differences.is_same_block.Goals as goal
 
 pub returns : goal.returns

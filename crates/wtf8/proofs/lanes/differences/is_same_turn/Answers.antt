@@ -1,4 +1,4 @@
-use Rattle.wtf8.proofs.lemmas.DifferenceLanes.{turn_same}
+use Rattle.wtf8.proofs.lemmas.lanes.Differences.{turn_same}
 use Rattle.wtf8.proofs.lanes.differences.is_same_turn.Goals as goal
 
 pub returns : goal.returns

@@ -1,5 +1,5 @@
 use Rattle.wtf8.proofs.Common.{◌≤◌, ◌⊎◌, inl, inr, length, ◌∙◌, arith, cases_lt}
-use Rattle.wtf8.proofs.lemmas.UnitOrder.{lengths_decide}
+use Rattle.wtf8.proofs.lemmas.comparing.Order.{lengths_decide}
 use Rattle.wtf8.proofs.lanes.differences.order.Goals as goal
 
 pub returns-then-is_same_front : goal.returns-then-is_same_front

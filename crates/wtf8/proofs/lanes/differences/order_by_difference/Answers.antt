@@ -1,5 +1,5 @@
 use Rattle.wtf8.proofs.Common.{◌∙◌, ap, option_cmp, nat_cmp}
-use Rattle.wtf8.proofs.lemmas.UnitOrder.{order_there}
+use Rattle.wtf8.proofs.lemmas.comparing.Order.{order_there}
 use Rattle.wtf8.proofs.lanes.differences.order_by_difference.Goals as goal
 
 pub returns : goal.returns

@@ -1,5 +1,5 @@
 use Rattle.std.proofs.Common.{arith}
-use Rattle.wtf8.proofs.lemmas.DifferenceLanes.{more_same}
+use Rattle.wtf8.proofs.lemmas.lanes.Differences.{more_same}
 use Rattle.wtf8.proofs.lanes.differences.skip_same.Goals as goal
 
 pub loop-at-preserved : goal.loop-at-preserved

@@ -1,6 +1,6 @@
 use Rattle.wtf8.proofs.Common.{sym, subst, rules, IsUtf8, hex, ◌≡◌}
 use Rattle.std.proofs.lemmas.Str.{IsUtf8-from_ascii}
-use Rattle.wtf8.proofs.lemmas.HexLanes.{hex_ascii}
+use Rattle.wtf8.proofs.lemmas.lanes.Digits.{hex_ascii}
 use Rattle.wtf8.proofs.lanes.digits.hex_text.Goals as goal
 
 pub from_utf8_unchecked-requires : goal.from_utf8_unchecked-requires

@@ -1,4 +1,4 @@
-use Rattle.wtf8.proofs.lemmas.HexLanes.{highs_below, lows_below, block_text}
+use Rattle.wtf8.proofs.lemmas.lanes.Digits.{highs_below, lows_below, block_text}
 use Rattle.wtf8.proofs.lanes.digits.spaced_block.Goals as goal
 
 pub upper_digits-high-requires : goal.upper_digits-high-requires

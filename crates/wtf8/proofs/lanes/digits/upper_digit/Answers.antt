@@ -1,5 +1,5 @@
 use Rattle.std.proofs.Common.{ap, ◌∙◌, get_or}
-use Rattle.wtf8.proofs.lemmas.HexLanes.{table, digit_at}
+use Rattle.wtf8.proofs.lemmas.lanes.Digits.{table, digit_at}
 use Rattle.wtf8.proofs.lanes.digits.upper_digit.Goals as goal
 
 pub returns-clause-digit : goal.returns-clause-digit

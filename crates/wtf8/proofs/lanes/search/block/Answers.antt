@@ -1,4 +1,4 @@
-use Rattle.wtf8.proofs.lemmas.SurrogateLanes.{no_lane, least_lane}
+use Rattle.wtf8.proofs.lemmas.lanes.Surrogates.{no_lane, least_lane}
 use Rattle.wtf8.proofs.lanes.search.block.Goals as goal
 
 pub returns-then-mask-eq0 : goal.returns-then-mask-eq0

@@ -1,4 +1,4 @@
-use Rattle.wtf8.proofs.lemmas.SurrogateLanes.{no_surrogate, least_surrogate}
+use Rattle.wtf8.proofs.lemmas.lanes.Surrogates.{no_surrogate, least_surrogate}
 use Rattle.wtf8.proofs.lanes.search.first_in_block.Goals as goal
 
 pub returns-in-Some : goal.returns-in-Some

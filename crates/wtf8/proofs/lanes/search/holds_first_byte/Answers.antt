@@ -1,5 +1,5 @@
 use Rattle.std.proofs.lemmas.Bool.{eqb-true, not-false}
-use Rattle.wtf8.proofs.lemmas.SurrogateLanes.{no_first_byte}
+use Rattle.wtf8.proofs.lemmas.lanes.Surrogates.{no_first_byte}
 use Rattle.wtf8.proofs.lanes.search.holds_first_byte.Goals as goal
 
 pub returns : goal.returns

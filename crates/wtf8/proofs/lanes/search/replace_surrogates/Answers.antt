@@ -1,6 +1,5 @@
 use Rattle.wtf8.proofs.Common.{◌+◌, sym, subst, IsFirst, IsLeast, SurrogateAt}
-use Rattle.wtf8.proofs.lemmas.Replacement.{Replacing, replacing_step, replacing_end}
-use Rattle.wtf8.proofs.lemmas.Surrogates.{none_found}
+use Rattle.wtf8.proofs.lemmas.strings.Surrogates.{Replacing, replacing_step, replacing_end, none_found}
 use Rattle.wtf8.proofs.lanes.search.replace_surrogates.Goals as goal
 
 pub write_replacement-requires : goal.write_replacement-requires

@@ -1,5 +1,5 @@
 use Rattle.wtf8.proofs.Common.{◌-◌, length, IsWellFormed}
-use Rattle.wtf8.proofs.lemmas.Replacement.{Replacing}
+use Rattle.wtf8.proofs.lemmas.strings.Surrogates.{Replacing}
 use Rattle.wtf8.proofs.lanes.search.replace_surrogates.Given as goal
 
 -- for the reading of the bytes as they were: done up to `from`

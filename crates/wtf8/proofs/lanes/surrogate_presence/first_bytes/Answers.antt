@@ -1,4 +1,4 @@
-use Rattle.wtf8.proofs.lemmas.SurrogatePresence.{shown_by_marks}
+use Rattle.wtf8.proofs.lemmas.lanes.Surrogates.{shown_by_marks}
 use Rattle.wtf8.proofs.lanes.surrogate_presence.first_bytes.Goals as goal
 
 pub returns : goal.returns

@@ -1,4 +1,4 @@
-use Rattle.wtf8.proofs.lemmas.SurrogatePresence.{shown_by_firsts}
+use Rattle.wtf8.proofs.lemmas.lanes.Surrogates.{shown_by_firsts}
 use Rattle.wtf8.proofs.lanes.surrogate_presence.firsts.Goals as goal
 
 pub returns : goal.returns

@@ -1,5 +1,5 @@
 use Rattle.std.proofs.Common.{◌∙◌, sym}
-use Rattle.wtf8.proofs.lemmas.SurrogatePresence.{keeps_own, keeps_other}
+use Rattle.wtf8.proofs.lemmas.lanes.Surrogates.{keeps_own, keeps_other}
 use Rattle.wtf8.proofs.lanes.surrogate_presence.greatest.Goals as goal
 
 pub returns-clause-own : goal.returns-clause-own

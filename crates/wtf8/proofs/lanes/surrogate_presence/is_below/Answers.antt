@@ -1,4 +1,4 @@
-use Rattle.wtf8.proofs.lemmas.SurrogatePresence.{none_at_least}
+use Rattle.wtf8.proofs.lemmas.lanes.Surrogates.{none_at_least}
 use Rattle.wtf8.proofs.lanes.surrogate_presence.is_below.Goals as goal
 
 pub returns : goal.returns

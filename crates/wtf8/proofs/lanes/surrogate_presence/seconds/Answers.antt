@@ -1,4 +1,4 @@
-use Rattle.wtf8.proofs.lemmas.SurrogatePresence.{shown_by_seconds}
+use Rattle.wtf8.proofs.lemmas.lanes.Surrogates.{shown_by_seconds}
 use Rattle.wtf8.proofs.lanes.surrogate_presence.seconds.Goals as goal
 
 pub returns : goal.returns

@@ -1,6 +1,6 @@
 -- The branch knows its row of the table by the first byte.
 use Rattle.std.proofs.Common.{◌≤◌, get_or, arith, subst, sym}
-use Rattle.wtf8.proofs.lemmas.FirstBytes.{front_of, LeadRead, lead_read}
+use Rattle.wtf8.proofs.lemmas.numbers.Encoding.{front_of, LeadRead, lead_read}
 use Rattle.wtf8.proofs.numbers.encoding.read_lead.Goals as goal
 
 pub bounds-bytes-0 : goal.bounds-bytes-0

@@ -1,6 +1,6 @@
 -- The branch knows its row of the table by the first byte.
 use Rattle.std.proofs.Common.{arith}
-use Rattle.wtf8.proofs.lemmas.FirstBytes.{front_of, one_unit}
+use Rattle.wtf8.proofs.lemmas.numbers.Encoding.{front_of, one_unit}
 use Rattle.wtf8.proofs.numbers.encoding.read_two.Goals as goal
 
 pub bounds-bytes-0 : goal.bounds-bytes-0

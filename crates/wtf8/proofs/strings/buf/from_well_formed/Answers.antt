@@ -1,5 +1,5 @@
 use Rattle.wtf8.proofs.Common.{ap, refl, units}
-use Rattle.wtf8.proofs.lemmas.Readings.{same_points}
+use Rattle.wtf8.proofs.lemmas.numbers.Readings.{same_points}
 use Rattle.wtf8.proofs.strings.buf.from_well_formed.Goals as goal
 
 pub invariant_of-result : goal.invariant_of-result

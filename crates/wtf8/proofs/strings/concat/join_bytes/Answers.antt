@@ -1,6 +1,6 @@
 use Rattle.std.proofs.Common.{arith, ap, ◌∙◌, length, ◌≡◌, ◌+◌}
-use Rattle.wtf8.proofs.lemmas.Forms.{length-joined}
-use Rattle.wtf8.proofs.lemmas.Gains.{no_err}
+use Rattle.wtf8.proofs.lemmas.strings.Concatenation.{length-joined}
+use Rattle.wtf8.proofs.lemmas.strings.Gains.{no_err}
 use Rattle.wtf8.proofs.strings.concat.join_bytes.Goals as goal
 
 pub returns-clause-err : goal.returns-clause-err

@@ -1,5 +1,5 @@
 use Rattle.wtf8.proofs.Common.{arith, length-append, on_ok_weaker, number, encoding}
-use Rattle.wtf8.proofs.lemmas.Gains.{gains_point, fits_length}
+use Rattle.wtf8.proofs.lemmas.strings.Gains.{gains_point, fits_length}
 use Rattle.wtf8.proofs.strings.concat.push_apart.Goals as goal
 
 pub returns-clause-ok : goal.returns-clause-ok

@@ -1,6 +1,5 @@
 use Rattle.wtf8.proofs.Common.{◌∙◌, ◌∷◌, [], sym, subst, AreScalar}
-use Rattle.wtf8.proofs.lemmas.Scalars.{scalar_behind}
-use Rattle.wtf8.proofs.lemmas.Texts.{scalar_facts}
+use Rattle.wtf8.proofs.lemmas.strings.Gains.{scalar_behind, scalar_facts}
 use Rattle.wtf8.proofs.strings.concat.push_scalar.Goals as goal
 
 pub push_apart-requires-clause-apart : goal.push_apart-requires-clause-apart

@@ -1,7 +1,6 @@
 use Rattle.wtf8.proofs.Common.{◌≡◌, ◌++◌, ◌∷◌, [], ◌∙◌, List, ℕ, refl, sym, arith, on_ok_weaker, IsLead, IsTrail}
-use Rattle.wtf8.proofs.lemmas.Gains.{Joined, joined, fits_length}
-use Rattle.wtf8.proofs.lemmas.Meeting.{meets_same}
-use Rattle.wtf8.proofs.lemmas.Readings.{same_points}
+use Rattle.wtf8.proofs.lemmas.strings.Gains.{Joined, joined, fits_length}
+use Rattle.wtf8.proofs.lemmas.numbers.Readings.{meets_same, same_points}
 use Rattle.wtf8.proofs.strings.concat.push_surrogate.Given.{Over}
 use Rattle.wtf8.proofs.strings.concat.push_surrogate.Goals.{After-from_well_formed-view}
 use Rattle.wtf8.proofs.strings.concat.push_surrogate.Goals as goal

@@ -1,7 +1,5 @@
 use Rattle.wtf8.proofs.Common.{arith, length-append, on_ok_weaker}
-use Rattle.wtf8.proofs.lemmas.Gains.{gains_behind, fits_length}
-use Rattle.wtf8.proofs.lemmas.Scalars.{scalar_behind, scalar_text}
-use Rattle.wtf8.proofs.lemmas.Texts.{well_formed_text}
+use Rattle.wtf8.proofs.lemmas.strings.Gains.{gains_behind, fits_length, scalar_behind, scalar_text, well_formed_text}
 use Rattle.wtf8.proofs.strings.concat.push_text.Goals as goal
 
 pub returns-clause-ok : goal.returns-clause-ok

@@ -1,8 +1,7 @@
 use Rattle.wtf8.proofs.Common.{◌≡◌, ◌∙◌, ◌++◌, ◌∷◌, [], List, ℕ, refl, sym, arith, length-append, on_ok_weaker, MeetsAsPair, IsLead, IsTrail}
-use Rattle.wtf8.proofs.lemmas.Forms.{meeting_bytes, length-paired_bytes}
-use Rattle.wtf8.proofs.lemmas.Gains.{gains_meeting, gains_behind, fits_length}
-use Rattle.wtf8.proofs.lemmas.Meeting.{meets_by, meets_same}
-use Rattle.wtf8.proofs.lemmas.Readings.{same_points}
+use Rattle.wtf8.proofs.lemmas.strings.Concatenation.{meeting_bytes, length-paired_bytes}
+use Rattle.wtf8.proofs.lemmas.strings.Gains.{gains_meeting, gains_behind, fits_length}
+use Rattle.wtf8.proofs.lemmas.numbers.Readings.{meets_by, meets_same, same_points}
 use Rattle.wtf8.proofs.strings.concat.push_view.Given.{Over}
 use Rattle.wtf8.proofs.strings.concat.push_view.Goals.{After-from_well_formed-view}
 use Rattle.wtf8.proofs.strings.concat.push_view.Goals as goal

@@ -1,5 +1,5 @@
 use Rattle.std.proofs.Common.{arith}
-use Rattle.wtf8.proofs.lemmas.UnitPositions.{begun_more}
+use Rattle.wtf8.proofs.lemmas.strings.Positions.{begun_more}
 use Rattle.wtf8.proofs.strings.unit_positions.behind_block.Goals as goal
 
 pub returns-clause-counted : goal.returns-clause-counted

@@ -1,6 +1,6 @@
 use Rattle.wtf8.proofs.Common.{arith, ◌+◌, units_begun}
 use Rattle.std.proofs.lemmas.List.Sums.{sum_by-take-le}
-use Rattle.wtf8.proofs.lemmas.UnitPositions.{begun_more}
+use Rattle.wtf8.proofs.lemmas.strings.Positions.{begun_more}
 use Rattle.wtf8.proofs.strings.unit_positions.count_units.Goals as goal
 
 pub loop-at-preserved : goal.loop-at-preserved

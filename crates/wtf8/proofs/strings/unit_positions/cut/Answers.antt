@@ -1,7 +1,40 @@
+use Rattle.wtf8.proofs.Common.{◌≡◌, ◌+◌, ℕ, ◌<◌, ◌≤◌, inl, inr, List, [], ◌∷◌, length, sym, ap, ◌∙◌, arith, length-append, None, Some, subst, cases_lt, units}
+use Rattle.wtf8.proofs.Common.{IsWellFormed, IsPlaceOfUnit, CutsUnits}
 use Rattle.std.proofs.Common.{◌∙◌, sym}
-use Rattle.wtf8.proofs.lemmas.Positions.{boundary_of, points_behind}
-use Rattle.wtf8.proofs.lemmas.UnitPlaces.{about, cut_at_place, too_few, cut_inside}
+use Rattle.wtf8.proofs.lemmas.numbers.Readings.{units_one, units_two, units-append}
+use Rattle.wtf8.proofs.lemmas.strings.Positions.{PointsAbout, points_about, boundary_of, points_behind}
 use Rattle.wtf8.proofs.strings.unit_positions.cut.Goals as goal
+
+-- The code points about a place among bytes, and what they say of a number of units.
+
+about : {w : List ℕ} (h : IsWellFormed w) (n place before : ℕ) → IsPlaceOfUnit w n place before → PointsAbout h.points n place before
+about h n place before x = points_about h.points n place before (subst (λ v. IsPlaceOfUnit v n place before) (sym h.encoded) x)
+
+-- the units of all are those before the place and those behind it
+units_counted : {c : List ℕ} {n place before : ℕ} (x : PointsAbout c n place before) → length (units c) ≡ before + length (units x.back)
+units_counted x = simp (x.joined, units-append, length-append, x.counted)
+
+-- what the code points about a place say of the number
+cut_at_place : {c : List ℕ} {n place before : ℕ} → PointsAbout c n place before → before ≡ n → CutsUnits c n place None
+cut_at_place x e = record { front = x.front; back = x.back; joined = x.joined; front_len = x.front_len; counted = x.counted ∙ e }
+
+too_few : {c : List ℕ} {n place before : ℕ} (x : PointsAbout c n place before) → ¬ (before ≡ n) → x.back ≡ [] → length (units c) < n
+too_few x m e = omega (arith, units_counted x, ap (λ b. length (units b)) e, x.not_beyond, m)
+
+cut_inside : {c : List ℕ} {n place before : ℕ} (x : PointsAbout c n place before) (p : ℕ) (rest : List ℕ) → ¬ (before ≡ n) → x.back ≡ p ∷ rest
+    → CutsUnits c n place (Some p)
+cut_inside {c} {n} {place} {before} x p rest m e =
+    let more = x.holds p rest e in
+    let least : before ≤ n = x.not_beyond in
+    let same : length (units x.front) ≡ before = x.counted in
+    let large : 0x10000 ≤ p = elim (cases_lt p 0x10000) [ inl h ↦ absurd (omega (arith, more, ap length (units_one p h), m, least)) | inr h ↦ h ] in
+    record {
+      front = x.front;
+      back = x.back;
+      joined = x.joined;
+      front_len = x.front_len;
+      counted = record { rest = rest; first = e; supplementary = large; inside = omega (arith, more, ap length (units_two p large), m, least, same) };
+    }
 
 pub returns-then-place-n-clause-some : goal.returns-then-place-n-clause-some
 returns-then-place-n-clause-some c =

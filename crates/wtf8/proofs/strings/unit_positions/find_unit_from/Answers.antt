@@ -1,6 +1,6 @@
 use Rattle.wtf8.proofs.Common.{arith, get_or, units_begun}
 use Rattle.std.proofs.lemmas.List.Sums.{sum_by_more}
-use Rattle.wtf8.proofs.lemmas.UnitLanes.{begun_low}
+use Rattle.wtf8.proofs.lemmas.lanes.Surrogates.{begun_low}
 use Rattle.wtf8.proofs.strings.unit_positions.find_unit_from.Goals as goal
 use Rattle.wtf8.proofs.strings.unit_positions.find_unit_from.Goals.{then-byte-lt128+else-units_before-unit, else-byte-lt128+else-unit-units_before}
 

@@ -1,6 +1,6 @@
 use Rattle.wtf8.proofs.Common.{◌∙◌, Some, ap, sym, subst, slice_get, units, CutsUnits}
-use Rattle.wtf8.proofs.lemmas.Positions.{points_behind}
-use Rattle.wtf8.proofs.lemmas.UnitCuts.{undivided, divided}
+use Rattle.wtf8.proofs.lemmas.strings.Positions.{points_behind}
+use Rattle.wtf8.proofs.lemmas.strings.UnitCuts.{undivided, divided}
 use Rattle.wtf8.proofs.strings.unit_positions.unit_by_cut.Goals as goal
 
 pub returns-in-None : goal.returns-in-None

@@ -1,5 +1,5 @@
 use Rattle.std.proofs.Common.{sym, arith}
-use Rattle.wtf8.proofs.lemmas.UnitLanes.{begun_low, begun_inside, begun_one, begun_two}
+use Rattle.wtf8.proofs.lemmas.lanes.Surrogates.{begun_low, begun_inside, begun_one, begun_two}
 use Rattle.wtf8.proofs.strings.unit_positions.units_begun_by.Goals as goal
 
 pub returns-in-0-to-127 : goal.returns-in-0-to-127

@@ -1,5 +1,5 @@
 use Rattle.std.proofs.Common.{◌∙◌}
-use Rattle.wtf8.proofs.lemmas.UnitLanes.{begins, pairs, lanes_fit, sum_fits_byte, sum_is}
+use Rattle.wtf8.proofs.lemmas.lanes.Surrogates.{begins, pairs, lanes_fit, sum_fits_byte, sum_is}
 use Rattle.wtf8.proofs.strings.unit_positions.units_begun_in_block.Goals as goal
 
 pub overflow_add-counts : goal.overflow_add-counts

@@ -1,5 +1,5 @@
 use Rattle.wtf8.proofs.Common.{refl, number}
-use Rattle.wtf8.proofs.lemmas.DebugTexts.{then_written, written_as, shown_scalar, shown_surrogate}
+use Rattle.wtf8.proofs.lemmas.texts.DebugTexts.{then_written, written_as, shown_scalar, shown_surrogate}
 use Rattle.wtf8.proofs.texts.debug_text.write_point.Goals as goal
 
 pub returns-in-Some : goal.returns-in-Some

@@ -1,5 +1,5 @@
 use Rattle.wtf8.proofs.Common.{refl, ap, length, arith, flat_map, shown}
-use Rattle.wtf8.proofs.lemmas.DebugTexts.{begun, continued, ended}
+use Rattle.wtf8.proofs.lemmas.texts.DebugTexts.{begun, continued, ended}
 use Rattle.wtf8.proofs.texts.debug_text.write_points.Goals as goal
 
 pub loop-code_point-init : goal.loop-code_point-init

@@ -1,5 +1,5 @@
 use Rattle.wtf8.proofs.Common.{length, IsFlush, flat_map, shown}
-use Rattle.wtf8.proofs.lemmas.DebugTexts.{Continues}
+use Rattle.wtf8.proofs.lemmas.texts.DebugTexts.{Continues}
 use Rattle.wtf8.proofs.texts.debug_text.write_points.Given as goal
 
 abbrev pub invariant-loop-code_point : goal.invariant-loop-code_point

@@ -1,5 +1,5 @@
 use Rattle.wtf8.proofs.Common.{length, IsFlush, bytes, lossy}
-use Rattle.wtf8.proofs.lemmas.DebugTexts.{Continues}
+use Rattle.wtf8.proofs.lemmas.texts.DebugTexts.{Continues}
 use Rattle.wtf8.proofs.texts.display_text.write_lossy.Given as goal
 
 abbrev pub invariant-loop-next : goal.invariant-loop-next

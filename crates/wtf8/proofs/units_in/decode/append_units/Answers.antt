@@ -1,7 +1,43 @@
-use Rattle.wtf8.proofs.Common.{ap, refl, sym, subst, ◌∙◌, Drains, copied_steps, iter_rest, iter_steps, point_of, points_of, decode_steps, bytes, units}
+use Rattle.wtf8.proofs.Common.{◌≡◌, inl, inr, ℕ, List, [], ◌∷◌, ◌++◌, Result, Ok, Err, MatchResult, IsTrue, is_ok, sym, ap, ◌∙◌, subst, arith, append_assoc}
+use Rattle.wtf8.proofs.Common.{IsScalar, Drains, copied_steps, iter_rest, iter_steps, scalar_cases, false≢true, map-append, point_of, points_of, encoding, bytes}
+use Rattle.wtf8.proofs.Common.{IsSurrogate, AreScalar, refl, decode_steps, units}
+use Rattle.std.proofs.Common.{map-id}
+use Rattle.std.proofs.lemmas.Iterator.{YieldsList-from_slice, items_from_drains}
+use Rattle.std.proofs.lemmas.Iterator.Consumers.{YieldsList-from_copied}
+use Rattle.std.specs.Iterator.Adapters.{copied_source}
 use Rattle.std.specs.Result.{is_ok}
-use Rattle.wtf8.proofs.lemmas.DecodedItems.{item_appended, scalar_item, scalars_more, slice_units}
+use Rattle.std.specs.declared.iter.Copied.{Copied}
+use Rattle.std.specs.declared.slice.Iter.{Iter}
+use Rattle.wtf8.proofs.lemmas.numbers.Encoding.{bytes-pushed}
+use Rattle.wtf8.proofs.lemmas.strings.Gains.{scalar-append}
 use Rattle.wtf8.proofs.units_in.decode.append_units.Goals as goal
+
+-- The items of a decoder one by one: what was appended of them.
+
+-- the bytes of the code points of items where one more came
+bytes_more : (items : List (Result ℕ ℕ)) (x : Result ℕ ℕ) → bytes (points_of (items ++ x ∷ [])) ≡ bytes (points_of items) ++ encoding (point_of x)
+bytes_more items x = ap bytes (map-append point_of items (x ∷ [])) ∙ bytes-pushed (points_of items) (point_of x)
+
+-- an item that is no lone surrogate is a scalar value
+scalar_item : (x : Result ℕ ℕ) → MatchResult x IsScalar IsSurrogate → IsTrue (is_ok x) → ¬ (IsSurrogate (point_of x))
+scalar_item (Ok c) kind t s = elim (scalar_cases c kind) [ inl l ↦ omega (arith, s.0, l) | inr r ↦ omega (arith, s.1, r) ]
+scalar_item (Err u) kind t s = absurd (false≢true t)
+
+scalars_more : (items : List (Result ℕ ℕ)) (x : Result ℕ ℕ) → AreScalar (points_of items) → ¬ (IsSurrogate (point_of x))
+    → AreScalar (points_of (items ++ x ∷ []))
+scalars_more items x before here = subst AreScalar (sym (map-append point_of items (x ∷ [])))
+    (scalar-append (points_of items) (point_of x ∷ []) before (here, tt))
+
+-- what was appended of items where one more came
+item_appended : (was w new : List ℕ) (items : List (Result ℕ ℕ)) (x : Result ℕ ℕ) (p : ℕ) → w ≡ was ++ bytes (points_of items) → new ≡ w ++ encoding p
+    → p ≡ point_of x → new ≡ was ++ bytes (points_of (items ++ x ∷ []))
+item_appended was w new items x p before here same =
+    here ∙ (ap (λ v. v ++ encoding p) before ∙ (append_assoc was (bytes (points_of items)) (encoding p)
+    ∙ ap (λ v. was ++ v) (ap (λ n. bytes (points_of items) ++ encoding n) same ∙ sym (bytes_more items x))))
+
+-- what a slice's units give is the slice
+slice_units : (s : Copied (Iter ℕ)) (u v : List ℕ) → iter_rest (copied_source s) ≡ v → Drains (copied_steps iter_steps) s u → u ≡ v
+slice_units s u v e d = sym (map-id u) ∙ items_from_drains u (d.1.0, d.1.1, λ _. (d.0, d.1.2)) (YieldsList-from_copied (YieldsList-from_slice v e))
 
 pub loop-item-preserved-in-Continue-1 : goal.loop-item-preserved-in-Continue-1
 loop-item-preserved-in-Continue-1 g c =

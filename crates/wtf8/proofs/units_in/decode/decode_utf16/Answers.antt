@@ -1,5 +1,5 @@
 use Rattle.wtf8.proofs.Common.{subst, ReadsAll}
-use Rattle.wtf8.proofs.lemmas.Decoding.{reads_all}
+use Rattle.wtf8.proofs.lemmas.units_in.Decoding.{reads_all}
 use Rattle.wtf8.proofs.units_in.decode.decode_utf16.Goals as goal
 
 pub returns-clause-reads : goal.returns-clause-reads

@@ -1,4 +1,4 @@
-use Rattle.wtf8.proofs.lemmas.UnitPieces.{above_fit, joined_fit, joined_at}
+use Rattle.wtf8.proofs.lemmas.units_in.Pieces.{above_fit, joined_fit, joined_at}
 use Rattle.wtf8.proofs.units_in.mixed_blocks.joined.Goals as goal
 
 pub overflow_mul-above : goal.overflow_mul-above

@@ -1,6 +1,6 @@
 use Rattle.wtf8.proofs.Common.{◌+◌, ◌-◌, ◌/◌, ◌∙◌, ap, arith, take, ◌++◌}
 use Rattle.std.proofs.lemmas.Slice.{take-put_mid_below}
-use Rattle.wtf8.proofs.lemmas.UnitPieces.{wrote_part, kept_bytes}
+use Rattle.wtf8.proofs.lemmas.units_in.Pieces.{wrote_part, kept_bytes}
 use Rattle.wtf8.proofs.units_in.mixed_blocks.put.Goals as goal
 
 pub returns-clause-kept : goal.returns-clause-kept

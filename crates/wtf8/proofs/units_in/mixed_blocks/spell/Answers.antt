@@ -1,5 +1,5 @@
 use Rattle.wtf8.proofs.Common.{arith, [], ◌∷◌, ◌∙◌, sym, ap, cases_lt, inl, inr}
-use Rattle.wtf8.proofs.lemmas.UnitPieces.{piece_one, piece_two, piece_low, piece_lead, piece_trail, piece_high, same_two, spelled_three}
+use Rattle.wtf8.proofs.lemmas.units_in.Pieces.{piece_one, piece_two, piece_low, piece_lead, piece_trail, piece_high, same_two, spelled_three}
 use Rattle.wtf8.proofs.units_in.mixed_blocks.spell.Goals as goal
 
 pub returns-then-unit-lt128-clause-same : goal.returns-then-unit-lt128-clause-same

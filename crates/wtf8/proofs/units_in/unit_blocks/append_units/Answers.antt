@@ -1,6 +1,6 @@
 use Rattle.wtf8.proofs.Common.{take, ◌+◌, ◌-◌, ◌&&◌, arith, refl, and_parts}
-use Rattle.wtf8.proofs.lemmas.Meeting.{nothing_ends}
-use Rattle.wtf8.proofs.lemmas.UnitParts.{block_apart, block_form, nothing_read, part_read, all_read}
+use Rattle.wtf8.proofs.lemmas.numbers.Readings.{nothing_ends}
+use Rattle.wtf8.proofs.lemmas.units_in.Blocks.{block_apart, block_form, nothing_read, part_read, all_read}
 use Rattle.wtf8.proofs.units_in.unit_blocks.append_units.Goals as goal
 
 pub loop-at-init : goal.loop-at-init

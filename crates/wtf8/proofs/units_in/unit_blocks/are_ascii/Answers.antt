@@ -1,5 +1,5 @@
 use Rattle.std.proofs.lemmas.Bool.{eqb-true}
-use Rattle.wtf8.proofs.lemmas.UnitBlocks.{none_high}
+use Rattle.wtf8.proofs.lemmas.units_in.Blocks.{none_high}
 use Rattle.wtf8.proofs.units_in.unit_blocks.are_ascii.Goals as goal
 
 pub returns : goal.returns

@@ -1,5 +1,5 @@
 use Rattle.std.proofs.lemmas.Bool.{eqb-true}
-use Rattle.wtf8.proofs.lemmas.UnitBlocks.{none_other}
+use Rattle.wtf8.proofs.lemmas.units_in.Blocks.{none_other}
 use Rattle.wtf8.proofs.units_in.unit_blocks.take_three_bytes.Goals as goal
 
 pub returns : goal.returns

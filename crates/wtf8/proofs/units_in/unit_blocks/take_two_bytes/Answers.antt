@@ -1,5 +1,5 @@
 use Rattle.std.proofs.lemmas.Bool.{eqb-true}
-use Rattle.wtf8.proofs.lemmas.UnitBlocks.{none_no_two}
+use Rattle.wtf8.proofs.lemmas.units_in.Blocks.{none_no_two}
 use Rattle.wtf8.proofs.units_in.unit_blocks.take_two_bytes.Goals as goal
 
 pub returns : goal.returns

@@ -1,6 +1,6 @@
 use Rattle.std.proofs.Common.{ap, arith, flat_map}
 use Rattle.std.proofs.lemmas.Simd.{pick_l_whole}
-use Rattle.wtf8.proofs.lemmas.BlockBytes.{two_byte_row, by_two_byte_rows}
+use Rattle.wtf8.proofs.lemmas.units_in.Blocks.{two_byte_row, by_two_byte_rows}
 use Rattle.wtf8.proofs.units_in.unit_blocks.two_bytes_each.Goals as goal
 
 pub returns : goal.returns

@@ -1,5 +1,5 @@
 use Rattle.std.proofs.Common.{rules}
-use Rattle.wtf8.proofs.lemmas.Comparing.{equal_points}
+use Rattle.wtf8.proofs.lemmas.comparing.Order.{equal_points}
 use Rattle.wtf8.proofs.comparing.comparisons.Wtf8BufPartialEq.eq.Goals as goal
 
 pub returns-clause-bytes : goal.returns-clause-bytes

@@ -1,5 +1,5 @@
 use Rattle.std.proofs.Common.{◌∙◌, rules}
-use Rattle.wtf8.proofs.lemmas.Comparing.{cmp_points, points_order}
+use Rattle.wtf8.proofs.lemmas.comparing.Order.{cmp_points, points_order}
 use Rattle.wtf8.proofs.comparing.comparisons.Wtf8Ord.cmp.Goals as goal
 
 pub returns-clause-bytes : goal.returns-clause-bytes

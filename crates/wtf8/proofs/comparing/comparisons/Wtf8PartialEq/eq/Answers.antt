@@ -1,5 +1,5 @@
 use Rattle.std.proofs.Common.{refl, rules}
-use Rattle.wtf8.proofs.lemmas.Comparing.{equal_points, equal_units}
+use Rattle.wtf8.proofs.lemmas.comparing.Order.{equal_points, equal_units}
 use Rattle.wtf8.proofs.comparing.comparisons.Wtf8PartialEq.eq.Goals as goal
 
 pub returns-clause-bytes : goal.returns-clause-bytes

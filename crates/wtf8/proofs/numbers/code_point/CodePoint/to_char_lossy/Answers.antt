@@ -1,6 +1,6 @@
 use Rattle.wtf8.proofs.Common.{◌≡◌, ◌↔◌, ℕ, Option, None, Some, IfSome, refl, sym, ◌∙◌, false≢true, number, replaced, IsSurrogate}
 use Rattle.std.specs.Option.{IsNone, unwrap_or}
-use Rattle.wtf8.proofs.lemmas.Lossy.{replaced_surrogate, replaced_scalar}
+use Rattle.wtf8.proofs.lemmas.strings.Surrogates.{replaced_surrogate, replaced_scalar}
 use Rattle.wtf8.proofs.numbers.code_point.CodePoint.to_char_lossy.Goals as goal
 
 lossy_value : (r : Option ℕ) (n : ℕ) → IsNone r ↔ IsSurrogate n → IfSome r (λ c. c ≡ n) → unwrap_or r 0xFFFD ≡ replaced n

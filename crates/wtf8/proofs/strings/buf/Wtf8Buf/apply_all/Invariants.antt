@@ -1,6 +1,6 @@
 use Rattle.wtf8.proofs.Common.{◌≤◌, List, ℕ, take, All, AppendsUnits, Run, Append, IsNoTruncation}
 use Rattle.wtf8.specs.Building.{LeavesReserved}
-use Rattle.wtf8.proofs.lemmas.Room.{Found}
+use Rattle.wtf8.proofs.lemmas.strings.Gains.{Found}
 use Rattle.wtf8.proofs.strings.buf.Wtf8Buf.apply_all.Given as goal
 
 -- the calls so far ran; where they are pushes and extensions, their units are appended; room that was asked for is there as long as no call behind it

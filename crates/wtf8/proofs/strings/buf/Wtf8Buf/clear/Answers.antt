@@ -1,5 +1,5 @@
 use Rattle.wtf8.proofs.Common.{ap, units}
-use Rattle.wtf8.proofs.lemmas.Readings.{empty_at, empty_form, same_points}
+use Rattle.wtf8.proofs.lemmas.numbers.Readings.{empty_at, empty_form, same_points}
 use Rattle.wtf8.proofs.strings.buf.Wtf8Buf.clear.Goals as goal
 
 pub invariant_of-self-inside : goal.invariant_of-self-inside

@@ -1,6 +1,6 @@
 use Rattle.wtf8.proofs.Common.{ap, ◌∙◌, UnitString}
-use Rattle.wtf8.proofs.lemmas.Readings.{moved}
-use Rattle.wtf8.proofs.lemmas.Scalars.{scalar_moved}
+use Rattle.wtf8.proofs.lemmas.numbers.Readings.{moved}
+use Rattle.wtf8.proofs.lemmas.strings.Gains.{scalar_moved}
 use Rattle.wtf8.proofs.strings.buf.Wtf8Buf.clone.Goals as goal
 
 pub from_well_formed-requires-clause-scalar : goal.from_well_formed-requires-clause-scalar

@@ -1,5 +1,5 @@
 use Rattle.wtf8.proofs.Common.{ap, subst, ◌∙◌, SurrogateAt, UnitString}
-use Rattle.wtf8.proofs.lemmas.Surrogates.{none_from_scalar}
+use Rattle.wtf8.proofs.lemmas.strings.Surrogates.{none_from_scalar}
 use Rattle.wtf8.proofs.strings.buf.Wtf8Buf.first_surrogate.Goals as goal
 
 pub returns-then-self : goal.returns-then-self

@@ -1,6 +1,6 @@
 use Rattle.std.proofs.Common.{◌∙◌, refl}
-use Rattle.wtf8.proofs.lemmas.Readings.{well_formed_of, same_form}
-use Rattle.wtf8.proofs.lemmas.Scalars.{scalar_moved}
+use Rattle.wtf8.proofs.lemmas.numbers.Readings.{well_formed_of, same_form}
+use Rattle.wtf8.proofs.lemmas.strings.Gains.{scalar_moved}
 use Rattle.wtf8.proofs.strings.buf.Wtf8Buf.from_ill_formed_utf16.Goals as goal
 
 pub from_well_formed-requires-clause-scalar : goal.from_well_formed-requires-clause-scalar

@@ -1,7 +1,6 @@
 use Rattle.std.proofs.Common.{refl, ◌∙◌}
-use Rattle.wtf8.proofs.lemmas.Readings.{well_formed_of}
-use Rattle.wtf8.proofs.lemmas.Scalars.{scalar_moved, scalar_text}
-use Rattle.wtf8.proofs.lemmas.Texts.{text_at}
+use Rattle.wtf8.proofs.lemmas.numbers.Readings.{well_formed_of}
+use Rattle.wtf8.proofs.lemmas.strings.Gains.{scalar_moved, scalar_text, text_at}
 use Rattle.wtf8.proofs.strings.buf.Wtf8Buf.from_str.Goals as goal
 
 pub from_well_formed-requires-clause-well_formed : goal.from_well_formed-requires-clause-well_formed

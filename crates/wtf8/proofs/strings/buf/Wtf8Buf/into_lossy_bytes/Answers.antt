@@ -1,5 +1,5 @@
 use Rattle.wtf8.proofs.Common.{ap, sym, ◌∙◌, bytes, lossy, UnitString}
-use Rattle.wtf8.proofs.lemmas.Lossy.{lossy-scalar}
+use Rattle.wtf8.proofs.lemmas.strings.Surrogates.{lossy-scalar}
 use Rattle.wtf8.proofs.strings.buf.Wtf8Buf.into_lossy_bytes.Goals as goal
 
 pub returns-then-not-is_known_utf8 : goal.returns-then-not-is_known_utf8

@@ -1,5 +1,5 @@
 use Rattle.wtf8.proofs.Common.{ap, sym, ◌∙◌, subst, length, IsUtf8}
-use Rattle.wtf8.proofs.lemmas.Lossy.{utf8_lossy_points, length-lossy}
+use Rattle.wtf8.proofs.lemmas.strings.Surrogates.{utf8_lossy_points, length-lossy}
 use Rattle.wtf8.proofs.strings.buf.Wtf8Buf.into_string_lossy.Goals as goal
 
 pub from_utf8_unchecked-requires : goal.from_utf8_unchecked-requires

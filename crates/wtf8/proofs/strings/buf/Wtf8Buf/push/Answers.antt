@@ -1,6 +1,5 @@
 use Rattle.wtf8.proofs.Common.{ap, arith, false≢true, number, UnitString}
-use Rattle.wtf8.proofs.lemmas.Gains.{gained_or_kept, gained_units, kept_contents}
-use Rattle.wtf8.proofs.lemmas.Scalars.{known_point}
+use Rattle.wtf8.proofs.lemmas.strings.Gains.{gained_or_kept, gained_units, kept_contents, known_point}
 use Rattle.wtf8.proofs.strings.buf.Wtf8Buf.push.Goals as goal
 
 pub invariant_of-self-inside : goal.invariant_of-self-inside

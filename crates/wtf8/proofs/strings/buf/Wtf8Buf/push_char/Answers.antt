@@ -1,8 +1,6 @@
 use Rattle.wtf8.proofs.Common.{UnitString, ap, subst, OnOk, GainsUnits}
-use Rattle.wtf8.proofs.lemmas.Gains.{gained_units, kept_contents}
-use Rattle.wtf8.proofs.lemmas.Scalars.{known_point}
-use Rattle.wtf8.proofs.lemmas.Texts.{scalar_facts}
-use Rattle.wtf8.proofs.lemmas.Units.{units_one}
+use Rattle.wtf8.proofs.lemmas.strings.Gains.{gained_units, kept_contents, known_point, scalar_facts}
+use Rattle.wtf8.proofs.lemmas.numbers.Readings.{units_one}
 use Rattle.wtf8.proofs.strings.buf.Wtf8Buf.push_char.Goals as goal
 
 pub invariant_of-self-inside : goal.invariant_of-self-inside

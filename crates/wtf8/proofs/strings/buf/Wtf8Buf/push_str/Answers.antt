@@ -1,9 +1,7 @@
 use Rattle.wtf8.proofs.Common.{UnitString, ap, arith, length, refl, units}
-use Rattle.wtf8.proofs.lemmas.Gains.{gained_units, kept_contents}
-use Rattle.wtf8.proofs.lemmas.Scalars.{known_gained, scalar_text}
-use Rattle.wtf8.proofs.lemmas.Texts.{well_formed_text}
-use Rattle.wtf8.proofs.lemmas.Appending.{grows_at_most, nothing_appended, fits_left}
-use Rattle.wtf8.proofs.lemmas.Readings.{form_of, no_points}
+use Rattle.wtf8.proofs.lemmas.strings.Gains.{gained_units, kept_contents, known_gained, scalar_text, well_formed_text}
+use Rattle.wtf8.proofs.lemmas.laws.Laws.{grows_at_most, nothing_appended, fits_left}
+use Rattle.wtf8.proofs.lemmas.numbers.Readings.{form_of, no_points}
 use Rattle.wtf8.proofs.strings.buf.Wtf8Buf.push_str.Goals as goal
 
 pub invariant_of-self-inside : goal.invariant_of-self-inside

@@ -1,9 +1,8 @@
 use Rattle.wtf8.proofs.Common.{UnitString, ap, arith, length, refl, sym, subst, ◌∙◌, IsTrue, false≢true, units, view_units, view_form}
-use Rattle.wtf8.proofs.lemmas.Gains.{gained_units, kept_contents, added_length}
-use Rattle.wtf8.proofs.lemmas.Scalars.{known_gained, scalar_apart, scalar_moved}
-use Rattle.wtf8.proofs.lemmas.Surrogates.{scalar_if_none}
-use Rattle.wtf8.proofs.lemmas.Appending.{grows_at_most, nothing_appended, fits_left}
-use Rattle.wtf8.proofs.lemmas.Readings.{no_points}
+use Rattle.wtf8.proofs.lemmas.strings.Gains.{gained_units, kept_contents, added_length, known_gained, scalar_apart, scalar_moved}
+use Rattle.wtf8.proofs.lemmas.strings.Surrogates.{scalar_if_none}
+use Rattle.wtf8.proofs.lemmas.laws.Laws.{grows_at_most, nothing_appended, fits_left}
+use Rattle.wtf8.proofs.lemmas.numbers.Readings.{no_points}
 use Rattle.wtf8.proofs.strings.buf.Wtf8Buf.push_wtf8.Goals.{then-is_apart+then-holds_surrogate, else-is_apart, else-is_apart-via-then-is_apart+else-holds_surrogate, else-is_apart-via-else-is_apart}
 use Rattle.wtf8.proofs.strings.buf.Wtf8Buf.push_wtf8.Goals as goal
 

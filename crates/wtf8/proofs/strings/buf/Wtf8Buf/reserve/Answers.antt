@@ -1,5 +1,5 @@
 use Rattle.wtf8.proofs.Common.{ap, ◌∙◌, UnitString, units}
-use Rattle.wtf8.proofs.lemmas.Readings.{moved, same_points}
+use Rattle.wtf8.proofs.lemmas.numbers.Readings.{moved, same_points}
 use Rattle.wtf8.proofs.strings.buf.Wtf8Buf.reserve.Goals as goal
 
 pub invariant_of-self-inside : goal.invariant_of-self-inside

@@ -1,7 +1,7 @@
 use Rattle.wtf8.proofs.Common.{◌∙◌, ap, sym, subst, arith, length, length-take, IsTrue, UnitString, units, IsBoundary, IsFront, IsWellFormed, AreScalar}
-use Rattle.wtf8.proofs.lemmas.Positions.{cut_at}
-use Rattle.wtf8.proofs.lemmas.Readings.{moved, same_points, no_points}
-use Rattle.wtf8.proofs.lemmas.Scalars.{scalar-front}
+use Rattle.wtf8.proofs.lemmas.strings.Positions.{cut_at}
+use Rattle.wtf8.proofs.lemmas.numbers.Readings.{moved, same_points, no_points}
+use Rattle.wtf8.proofs.lemmas.strings.Gains.{scalar-front}
 use Rattle.wtf8.proofs.strings.buf.Wtf8Buf.truncate.Goals as goal
 use Rattle.wtf8.proofs.strings.buf.Wtf8Buf.truncate.Goals.{then-new_len-eq0, else-new_len-eq0}
 

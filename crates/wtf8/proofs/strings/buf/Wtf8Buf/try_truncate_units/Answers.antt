@@ -1,7 +1,7 @@
 use Rattle.wtf8.proofs.Common.{◌∙◌, ap, subst, arith, inl, refl, length, take, false≢true, IsFront, UnitString, units, CutsUnits}
-use Rattle.wtf8.proofs.lemmas.Positions.{same_front}
-use Rattle.wtf8.proofs.lemmas.Readings.{moved, same_points}
-use Rattle.wtf8.proofs.lemmas.UnitCuts.{undivided, divided, in_range, front_at, lead_kept, lead_kept_units}
+use Rattle.wtf8.proofs.lemmas.strings.Positions.{same_front}
+use Rattle.wtf8.proofs.lemmas.numbers.Readings.{moved, same_points}
+use Rattle.wtf8.proofs.lemmas.strings.UnitCuts.{undivided, divided, in_range, front_at, lead_kept, lead_kept_units}
 use Rattle.wtf8.proofs.strings.buf.Wtf8Buf.try_truncate_units.Goals as goal
 
 pub keep_lead-requires-clause-lead : goal.keep_lead-requires-clause-lead

@@ -1,5 +1,5 @@
-use Rattle.wtf8.proofs.lemmas.Readings.{empty_at, empty_form}
-use Rattle.wtf8.proofs.lemmas.Scalars.{scalar_moved}
+use Rattle.wtf8.proofs.lemmas.numbers.Readings.{empty_at, empty_form}
+use Rattle.wtf8.proofs.lemmas.strings.Gains.{scalar_moved}
 use Rattle.wtf8.proofs.strings.buf.Wtf8Buf.with_capacity.Goals as goal
 
 pub from_well_formed-requires-clause-scalar : goal.from_well_formed-requires-clause-scalar

@@ -1,10 +1,9 @@
 use Rattle.wtf8.proofs.Common.{◌≡◌, ℕ, ◌+◌, ◌<◌, ◌≤◌, ◌∙◌, List, [], ◌∷◌, ◌++◌, length, get_or, drop, arith, ap, sym, subst, refl, length-drop, encoding}
 use Rattle.wtf8.proofs.Common.{IsWellFormed, BeginsWithPoint, IsCodePoint, units, Unread, unread_units, trail_by, held_in, behind_held, unread_after}
 use Rattle.wtf8.specs.Gains.{IsReadAs}
-use Rattle.wtf8.proofs.lemmas.FirstBytes.{front_of}
-use Rattle.wtf8.proofs.lemmas.HeldTrails.{below, above, not_held, is_whole, unread_at, Steps, steps_one, steps_lead, steps_trail, ended}
-use Rattle.wtf8.proofs.lemmas.Readings.{first_of, moved, same_points}
-use Rattle.wtf8.proofs.lemmas.Units.{lead_of}
+use Rattle.wtf8.proofs.lemmas.numbers.Encoding.{front_of}
+use Rattle.wtf8.proofs.lemmas.strings.UnitCuts.{below, above, not_held, is_whole, unread_at, Steps, steps_one, steps_lead, steps_trail, ended}
+use Rattle.wtf8.proofs.lemmas.numbers.Readings.{first_of, moved, same_points, lead_of}
 use Rattle.wtf8.proofs.strings.iters.IllFormedUtf16CodeUnits.give_unit.Goals as goal
 
 abbrev held_with : List ℕ → List ℕ → Unread

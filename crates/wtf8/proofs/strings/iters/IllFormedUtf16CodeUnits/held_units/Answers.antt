@@ -1,6 +1,6 @@
 use Rattle.std.proofs.Common.{◌≡◌, ◌+◌, ◌≤◌, ◌<◌, ◌∙◌, sym, length, ap, drop, get_or, arith}
 use Rattle.std.proofs.lemmas.List.{get_or-drop}
-use Rattle.wtf8.proofs.lemmas.HeldTrails.{inside, is_whole, held_at}
+use Rattle.wtf8.proofs.lemmas.strings.UnitCuts.{inside, is_whole, held_at}
 use Rattle.wtf8.proofs.strings.iters.IllFormedUtf16CodeUnits.held_units.Goals as goal
 
 pub returns-in-128-to-191-clause-value : goal.returns-in-128-to-191-clause-value

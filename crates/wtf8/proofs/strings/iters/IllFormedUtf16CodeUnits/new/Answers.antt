@@ -1,6 +1,6 @@
 use Rattle.std.proofs.Common.{arith}
-use Rattle.wtf8.proofs.lemmas.HeldTrails.{starts, not_held}
-use Rattle.wtf8.proofs.lemmas.Readings.{moved, same_points}
+use Rattle.wtf8.proofs.lemmas.strings.UnitCuts.{starts, not_held}
+use Rattle.wtf8.proofs.lemmas.numbers.Readings.{moved, same_points}
 use Rattle.wtf8.proofs.strings.iters.IllFormedUtf16CodeUnits.new.Goals as goal
 
 pub invariant_of-result : goal.invariant_of-result

@@ -1,7 +1,7 @@
 use Rattle.wtf8.proofs.Common.{◌≡◌, ℕ, ◌+◌, ◌*◌, inl, inr, List, [], ◌∷◌, length, ap, drop, arith, length-drop, cases_lt, bytes, IsWellFormed, held_in}
 use Rattle.wtf8.proofs.Common.{behind_held}
-use Rattle.wtf8.proofs.lemmas.HeldTrails.{inside, below, above, not_held, held_at}
-use Rattle.wtf8.proofs.lemmas.Units.{units_bounds}
+use Rattle.wtf8.proofs.lemmas.strings.UnitCuts.{inside, below, above, not_held, held_at}
+use Rattle.wtf8.proofs.lemmas.numbers.Readings.{units_bounds}
 use Rattle.wtf8.proofs.strings.iters.IllFormedUtf16CodeUnits.unread_bytes.Goals as goal
 
 -- a held trail is two bytes

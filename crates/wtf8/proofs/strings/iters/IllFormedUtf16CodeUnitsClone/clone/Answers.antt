@@ -1,5 +1,5 @@
 use Rattle.wtf8.proofs.Common.{List, ℕ, ◌∙◌, ap, drop, refl, Unread, held_in}
-use Rattle.wtf8.proofs.lemmas.Readings.{same_points}
+use Rattle.wtf8.proofs.lemmas.numbers.Readings.{same_points}
 use Rattle.wtf8.proofs.strings.iters.IllFormedUtf16CodeUnitsClone.clone.Goals as goal
 
 abbrev held_with : List ℕ → List ℕ → Unread

@@ -1,5 +1,5 @@
 use Rattle.wtf8.proofs.Common.{◌∙◌, ◌∷◌, arith, ap, sym, refl, length-drop, number}
-use Rattle.wtf8.proofs.lemmas.Readings.{no_points, first_of, taken, same_points}
+use Rattle.wtf8.proofs.lemmas.numbers.Readings.{no_points, first_of, taken, same_points}
 use Rattle.wtf8.proofs.strings.iters.Wtf8CodePoints.give_next.Goals as goal
 
 pub returns-then-self : goal.returns-then-self

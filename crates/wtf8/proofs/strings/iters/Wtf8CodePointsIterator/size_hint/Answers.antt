@@ -1,5 +1,5 @@
 use Rattle.std.proofs.Common.{arith, ap, length, length-drop}
-use Rattle.wtf8.proofs.lemmas.Units.{points_bounds}
+use Rattle.wtf8.proofs.lemmas.numbers.Readings.{points_bounds}
 use Rattle.wtf8.proofs.strings.iters.Wtf8CodePointsIterator.size_hint.Goals as goal
 
 pub returns-clause-lower : goal.returns-clause-lower

@@ -1,7 +1,6 @@
 use Rattle.wtf8.proofs.Common.{◌∙◌}
-use Rattle.wtf8.proofs.lemmas.ListOrder.{ordered}
-use Rattle.wtf8.proofs.lemmas.Positions.{boundary_of}
-use Rattle.wtf8.proofs.lemmas.UnitOrder.{Parting, both_or_neither, parts_there, bytes_order, rests_order}
+use Rattle.wtf8.proofs.lemmas.comparing.Order.{ordered, Parting, both_or_neither, parts_there, bytes_order, rests_order}
+use Rattle.wtf8.proofs.lemmas.strings.Positions.{boundary_of}
 use Rattle.wtf8.proofs.strings.view.Wtf8.cmp_units.Goals.{Else-pair_begins}
 use Rattle.wtf8.proofs.strings.view.Wtf8.cmp_units.Goals as goal
 

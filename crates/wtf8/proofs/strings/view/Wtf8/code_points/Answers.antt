@@ -1,5 +1,5 @@
 use Rattle.std.proofs.Common.{length, ap, arith}
-use Rattle.wtf8.proofs.lemmas.Units.{points_bounds}
+use Rattle.wtf8.proofs.lemmas.numbers.Readings.{points_bounds}
 use Rattle.wtf8.proofs.strings.view.Wtf8.code_points.Goals as goal
 
 pub returns-clause-fits : goal.returns-clause-fits

@@ -1,5 +1,5 @@
 use Rattle.wtf8.proofs.Common.{◌++◌, ◌∷◌, [], arith, ap, sym, ◌∙◌, ◌≡◌, List, ℕ, bytes, IsWellFormed, IsLead}
-use Rattle.wtf8.proofs.lemmas.FinalLead.{EndsInSurrogate, ends_in_surrogate, last_surrogate}
+use Rattle.wtf8.proofs.lemmas.strings.Surrogates.{EndsInSurrogate, ends_in_surrogate, last_surrogate}
 use Rattle.wtf8.proofs.strings.view.Wtf8.final_lead_surrogate.Goals as goal
 
 ends_in_lead : {w : List ℕ} (h : IsWellFormed w) (f : List ℕ) (l : ℕ) → IsLead l → h.points ≡ f ++ l ∷ [] → EndsInSurrogate w l

@@ -1,6 +1,6 @@
 use Rattle.wtf8.proofs.Common.{false≢true, refl, ◌∙◌, ap, sym, subst, arith, append-nil, units, CutsUnits}
-use Rattle.wtf8.proofs.lemmas.Positions.{points_before}
-use Rattle.wtf8.proofs.lemmas.UnitCuts.{undivided, divided, in_range, divides_none, divides_some}
+use Rattle.wtf8.proofs.lemmas.strings.Positions.{points_before}
+use Rattle.wtf8.proofs.lemmas.strings.UnitCuts.{undivided, divided, in_range, divides_none, divides_some}
 use Rattle.wtf8.proofs.strings.view.Wtf8.first_units.Goals as goal
 
 pub overflow_cast-result : goal.overflow_cast-result

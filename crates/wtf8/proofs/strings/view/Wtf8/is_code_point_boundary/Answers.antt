@@ -1,6 +1,6 @@
 use Rattle.std.proofs.Common.{arith, ℕ, ◌≤◌, ◌≡◌, ◌==◌, true, length}
 use Rattle.std.proofs.lemmas.Bool.Decides.{nat_tests}
-use Rattle.wtf8.proofs.lemmas.Positions.{cut_at, boundary_from_byte, byte_from_boundary}
+use Rattle.wtf8.proofs.lemmas.strings.Positions.{cut_at, boundary_from_byte, byte_from_boundary}
 use Rattle.wtf8.proofs.strings.view.Wtf8.is_code_point_boundary.Goals as goal
 
 pub returns-then-index-self : goal.returns-then-index-self

@@ -1,6 +1,5 @@
 use Rattle.wtf8.proofs.Common.{ap, arith, length, nat_tests, units}
-use Rattle.wtf8.proofs.lemmas.Readings.{no_points}
-use Rattle.wtf8.proofs.lemmas.Units.{units_bounds}
+use Rattle.wtf8.proofs.lemmas.numbers.Readings.{no_points, units_bounds}
 use Rattle.wtf8.proofs.strings.view.Wtf8.is_empty.Goals as goal
 
 pub returns-clause-units : goal.returns-clause-units

@@ -1,5 +1,5 @@
 use Rattle.std.proofs.Common.{arith, rules, length, ap}
-use Rattle.wtf8.proofs.lemmas.Units.{units_bounds}
+use Rattle.wtf8.proofs.lemmas.numbers.Readings.{units_bounds}
 use Rattle.wtf8.proofs.strings.view.Wtf8.len.Goals as goal
 
 pub returns : goal.returns

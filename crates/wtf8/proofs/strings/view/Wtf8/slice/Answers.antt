@@ -1,5 +1,5 @@
-use Rattle.wtf8.proofs.lemmas.PositionLaws.{whole_in_front}
-use Rattle.wtf8.proofs.lemmas.Positions.{middle_of}
+use Rattle.wtf8.proofs.lemmas.laws.Laws.{whole_in_front}
+use Rattle.wtf8.proofs.lemmas.strings.Positions.{middle_of}
 use Rattle.wtf8.proofs.strings.view.Wtf8.slice.Goals as goal
 
 pub slice_from-requires : goal.slice_from-requires

@@ -1,6 +1,6 @@
 use Rattle.wtf8.proofs.Common.{◌∙◌, [], ◌++◌, ap, sym, length, take, arith, length-take, drop_all, units}
-use Rattle.wtf8.proofs.lemmas.Readings.{no_points}
-use Rattle.wtf8.proofs.lemmas.UnitCuts.{divides_in_front}
+use Rattle.wtf8.proofs.lemmas.numbers.Readings.{no_points}
+use Rattle.wtf8.proofs.lemmas.strings.UnitCuts.{divides_in_front}
 use Rattle.wtf8.proofs.strings.view.Wtf8.slice_units.Goals as goal
 
 pub returns-then-begin-end-clause-units : goal.returns-then-begin-end-clause-units

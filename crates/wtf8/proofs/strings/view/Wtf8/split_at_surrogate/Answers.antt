@@ -1,8 +1,6 @@
 use Rattle.wtf8.proofs.Common.{◌∙◌, ap, sym, subst, IsUtf8, bytes}
-use Rattle.wtf8.proofs.lemmas.Lossy.{lossy-scalar}
-use Rattle.wtf8.proofs.lemmas.Readings.{moved, same_points}
-use Rattle.wtf8.proofs.lemmas.Replacement.{parted}
-use Rattle.wtf8.proofs.lemmas.Surrogates.{scalar_if_none, utf8_if_none}
+use Rattle.wtf8.proofs.lemmas.strings.Surrogates.{lossy-scalar, parted, scalar_if_none, utf8_if_none}
+use Rattle.wtf8.proofs.lemmas.numbers.Readings.{moved, same_points}
 use Rattle.wtf8.proofs.strings.view.Wtf8.split_at_surrogate.Goals as goal
 
 pub from_utf8_unchecked-requires : goal.from_utf8_unchecked-requires

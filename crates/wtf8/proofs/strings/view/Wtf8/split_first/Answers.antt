@@ -1,5 +1,5 @@
 use Rattle.wtf8.proofs.Common.{◌∙◌, ◌∷◌, arith, ap, sym, nat_tests, number}
-use Rattle.wtf8.proofs.lemmas.Readings.{no_points, first_of, taken, same_points}
+use Rattle.wtf8.proofs.lemmas.numbers.Readings.{no_points, first_of, taken, same_points}
 use Rattle.wtf8.proofs.strings.view.Wtf8.split_first.Goals as goal
 
 pub returns-then-is_empty-clause-none : goal.returns-then-is_empty-clause-none

@@ -1,5 +1,5 @@
 use Rattle.wtf8.proofs.Common.{◌∙◌, sym, ap, arith, all_units_begun}
-use Rattle.wtf8.proofs.lemmas.UnitPositions.{begun_bytes}
+use Rattle.wtf8.proofs.lemmas.strings.Positions.{begun_bytes}
 use Rattle.wtf8.proofs.strings.view.Wtf8.unit_len.Goals as goal
 
 pub returns : goal.returns

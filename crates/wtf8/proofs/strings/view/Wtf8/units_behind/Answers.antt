@@ -1,6 +1,6 @@
 use Rattle.wtf8.proofs.Common.{false≢true, refl, ◌∙◌, ◌+◌, [], ◌∷◌, ◌++◌, ap, sym, subst, units, CutsUnits}
-use Rattle.wtf8.proofs.lemmas.Positions.{boundary_of, points_behind}
-use Rattle.wtf8.proofs.lemmas.UnitCuts.{undivided, divided, divides_none, divides_some}
+use Rattle.wtf8.proofs.lemmas.strings.Positions.{boundary_of, points_behind}
+use Rattle.wtf8.proofs.lemmas.strings.UnitCuts.{undivided, divided, divides_none, divides_some}
 use Rattle.wtf8.proofs.strings.view.Wtf8.units_behind.Goals as goal
 
 pub slice_from-requires-in-Some-divided : goal.slice_from-requires-in-Some-divided

@@ -1,4 +1,4 @@
-use Rattle.wtf8.proofs.lemmas.Comparing.{form_points}
+use Rattle.wtf8.proofs.lemmas.comparing.Order.{form_points}
 use Rattle.wtf8.proofs.texts.debug_text.Wtf8BufDebug.fmt.Goals as goal
 
 pub returns : goal.returns

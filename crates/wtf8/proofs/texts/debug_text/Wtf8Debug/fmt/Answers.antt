@@ -1,5 +1,5 @@
 use Rattle.std.proofs.Common.{refl}
-use Rattle.wtf8.proofs.lemmas.DebugTexts.{then_written}
+use Rattle.wtf8.proofs.lemmas.texts.DebugTexts.{then_written}
 use Rattle.wtf8.proofs.texts.debug_text.Wtf8Debug.fmt.Goals as goal
 
 pub returns-clause-styled : goal.returns-clause-styled

@@ -1,7 +1,17 @@
-use Rattle.wtf8.proofs.Common.{ap, refl, false≢true, bytes}
-use Rattle.wtf8.proofs.lemmas.DisplayedTexts.{displayed_text, displayed_lossy}
-use Rattle.wtf8.proofs.lemmas.Lossy.{lossy-scalar}
+use Rattle.wtf8.proofs.Common.{◌≡◌, ℕ, List, refl, scalars, bytes, IsClean, AreScalar, lossy, ap, false≢true}
+use Rattle.std.proofs.lemmas.Bool.{false_from_ne_true}
+use Rattle.wtf8.specs.Display.{displayed}
+use Rattle.wtf8.proofs.lemmas.strings.Gains.{scalar-characters}
+use Rattle.wtf8.proofs.lemmas.strings.Surrogates.{scalars_true, lossy-scalar}
 use Rattle.wtf8.proofs.texts.display_text.Wtf8Display.fmt.Goals as goal
+
+-- What is displayed of scalar values, and of code points of which one is a surrogate.
+
+displayed_text : (c styled : List ℕ) → IsClean c → AreScalar c → displayed c styled ≡ styled
+displayed_text c styled x s = rw (scalars_true c x s) refl
+
+displayed_lossy : (c styled : List ℕ) → ¬ (AreScalar c) → displayed c styled ≡ bytes (lossy c)
+displayed_lossy c styled n = rw (false_from_ne_true (scalars c) (λ e. n (scalar-characters c e))) refl
 
 pub returns-in-Some-clause-writes : goal.returns-in-Some-clause-writes
 returns-in-Some-clause-writes g c =

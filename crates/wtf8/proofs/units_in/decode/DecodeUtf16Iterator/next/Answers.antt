@@ -1,6 +1,6 @@
 use Rattle.wtf8.proofs.Common.{◌<◌, rules, refl, inl, inr, sym, subst, arith, Some, peekable_steps, peekable_peeked, units_left, IsTrail}
 use Rattle.std.proofs.Common.{true≢false}
-use Rattle.wtf8.proofs.lemmas.Decoding.{takes_one, takes_two, held_apart}
+use Rattle.wtf8.proofs.lemmas.units_in.Decoding.{takes_one, takes_two, held_apart}
 use Rattle.wtf8.proofs.units_in.decode.DecodeUtf16Iterator.next.Goals as goal
 
 pub returns-in-Some-clause-steps : goal.returns-in-Some-clause-steps

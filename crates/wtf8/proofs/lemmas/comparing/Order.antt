@@ -1,0 +1,364 @@
+-- The orders of code points, bytes and units, and what the first difference of two strings says of them.
+use Rattle.wtf8.proofs.Common.{◌≡◌, ℕ, ◌<◌, ◌≤◌, inl, inr, List, [], ◌∷◌, ◌++◌, refl, sym, ap, ◌∙◌, arith, subst, Ordering, Less, Equal, Greater, nat_cmp}
+use Rattle.wtf8.proofs.Common.{ordering_then, MatchOrdering, slice_cmp, cases_lt, nat_tests, Before, cases_order, ◌+◌, ◌/◌, ◌%◌, ◌↔◌, encoding, bytes, Bool, IsTrue}
+use Rattle.wtf8.proofs.Common.{nat_eq, pointwise, bytes_decides, units, Reads, IsWellFormed, IsForm, bytes-injective, ◌≢◌, zero, suc, drop, get_or, units_of}
+use Rattle.wtf8.proofs.Common.{IsFirstDifference, PairBegins, true, false, ◌⊎◌, length, take, length-append, append_assoc, false≢true, take-append-drop, slice_get}
+use Rattle.wtf8.proofs.Common.{option_cmp}
+use Rattle.std.proofs.lemmas.Bool.{true≢false}
+use Rattle.std.proofs.lemmas.Cmp.{nat_list_cmp_total}
+use Rattle.std.specs.Bool.{beq}
+use Rattle.std.specs.Ordering.{ordering_reverse}
+use Rattle.wtf8.proofs.lemmas.numbers.Encoding.{row_of, one, two, three, four, encoding_same, length-encoding_bounds}
+use Rattle.wtf8.proofs.lemmas.numbers.Readings.{same_reading, lead_of, trail_of, units-cons_one, units-cons_two, units-append}
+use Rattle.wtf8.proofs.lemmas.strings.Positions.{cut_at, boundary_from_byte, points_behind}
+
+-- The order of lists of numbers, and comparing them one by one.
+
+pub cmp_less : (x y : ℕ) → x < y → nat_cmp x y ≡ Less
+cmp_less x y h = grind (arith, nat_tests)
+
+pub cmp_same : (x : ℕ) → nat_cmp x x ≡ Equal
+cmp_same x = grind (arith, nat_tests)
+
+-- what comes before compares as less
+pub less_of : (c d : List ℕ) → Before c d → slice_cmp nat_cmp c d ≡ Less
+less_of [] [] h = absurd h
+less_of [] (y ∷ ys) h = refl
+less_of (x ∷ xs) [] h = absurd h
+less_of (x ∷ xs) (y ∷ ys) h = elim h [
+  | inl l ↦ ap (λ o. ordering_then o (slice_cmp nat_cmp xs ys)) (cmp_less x y l)
+  | inr e ↦ rw (← e.0, cmp_same x) (less_of xs ys e.1)
+]
+
+pub greater_of : (c d : List ℕ) → Before d c → slice_cmp nat_cmp c d ≡ Greater
+greater_of c d h = nat_list_cmp_total.antisymm c d ∙ ap ordering_reverse (less_of d c h)
+
+-- a common front doesn't count
+pub cmp_behind : (f c d : List ℕ) → slice_cmp nat_cmp (f ++ c) (f ++ d) ≡ slice_cmp nat_cmp c d
+cmp_behind [] c d = refl
+cmp_behind (x ∷ f) c d = ap (λ o. ordering_then o (slice_cmp nat_cmp (f ++ c) (f ++ d))) (cmp_same x) ∙ cmp_behind f c d
+
+-- the first numbers decide, or the rest does
+pub before_cons : (x y : ℕ) (xs ys : List ℕ) → x ≤ y → (x ≡ y → Before xs ys) → Before (x ∷ xs) (y ∷ ys)
+before_cons x y xs ys h rest = elim (cases_lt x y) [
+  | inl l ↦ inl l
+  | inr m ↦ let same : x ≡ y = omega arith in inr (same, rest same)
+]
+
+pub before_two : (a b x y : ℕ) (r s : List ℕ) → a ≤ x → (a ≡ x → b < y) → Before (a ∷ b ∷ r) (x ∷ y ∷ s)
+before_two a b x y r s h k = before_cons a x (b ∷ r) (y ∷ s) h (λ e. inl (k e))
+
+pub before_three : (a b c x y z : ℕ) (r s : List ℕ) → a ≤ x → (a ≡ x → b ≤ y) → (a ≡ x → b ≡ y → c < z) → Before (a ∷ b ∷ c ∷ r) (x ∷ y ∷ z ∷ s)
+before_three a b c x y z r s h k l = before_cons a x (b ∷ c ∷ r) (y ∷ z ∷ s) h (λ e. before_two b c y z r s (k e) (l e))
+
+pub before_four : (a b c d x y z w : ℕ) (r s : List ℕ) → a ≤ x → (a ≡ x → b ≤ y) → (a ≡ x → b ≡ y → c ≤ z) → (a ≡ x → b ≡ y → c ≡ z → d < w)
+    → Before (a ∷ b ∷ c ∷ d ∷ r) (x ∷ y ∷ z ∷ w ∷ s)
+before_four a b c d x y z w r s h k l m = before_cons a x (b ∷ c ∷ d ∷ r) (y ∷ z ∷ w ∷ s) h (λ e. before_three b c d y z w r s (k e) (l e) (m e))
+
+with_first : (x y : ℕ) (xs ys : List ℕ) → x ≡ y → (o : Ordering) → MatchOrdering o (Before xs ys) (xs ≡ ys) (Before ys xs)
+    → MatchOrdering o (Before (x ∷ xs) (y ∷ ys)) (x ∷ xs ≡ y ∷ ys) (Before (y ∷ ys) (x ∷ xs))
+with_first x y xs ys e Less h = inr (e, h)
+with_first x y xs ys e Equal h = ap (λ z. z ∷ xs) e ∙ ap (λ zs. y ∷ zs) h
+with_first x y xs ys e Greater h = inr (sym e, h)
+
+-- a comparison says which list comes before the other
+pub order_of : (c d : List ℕ) → MatchOrdering (slice_cmp nat_cmp c d) (Before c d) (c ≡ d) (Before d c)
+order_of [] [] = refl
+order_of [] (y ∷ ys) = tt
+order_of (x ∷ xs) [] = tt
+order_of (x ∷ xs) (y ∷ ys) =
+    let P : Ordering → Type 0 = λ o. MatchOrdering o (Before (x ∷ xs) (y ∷ ys)) (x ∷ xs ≡ y ∷ ys) (Before (y ∷ ys) (x ∷ xs)) in
+    elim (cases_order x y) [
+      | inl same ↦
+          let first : nat_cmp x y ≡ Equal = ap (nat_cmp x) (sym same) ∙ cmp_same x in
+          subst P (ap (λ o. ordering_then o (slice_cmp nat_cmp xs ys)) (sym first)) (with_first x y xs ys same (slice_cmp nat_cmp xs ys) (order_of xs ys))
+      | inr (inl l) ↦ subst P (sym (less_of (x ∷ xs) (y ∷ ys) (inl l))) (inl l)
+      | inr (inr l) ↦ subst P (sym (greater_of (x ∷ xs) (y ∷ ys) (inl l))) (inl l)
+    ]
+
+-- what an answer by a comparison says
+pub ordered : (o : Ordering) (c d : List ℕ) → o ≡ slice_cmp nat_cmp c d → MatchOrdering o (Before c d) (c ≡ d) (Before d c)
+ordered o c d e =
+    let P : Ordering → Type 0 = λ p. MatchOrdering p (Before c d) (c ≡ d) (Before d c) in
+    subst P (sym e) (order_of c d)
+
+pub before_of : (c d : List ℕ) → slice_cmp nat_cmp c d ≡ Less → Before c d
+before_of c d e = ordered Less c d (sym e)
+
+-- The order of encodings byte by byte is the order of their code points.
+
+-- the encoding of a smaller code point comes first, whatever is behind it
+before_encoding : (p q : ℕ) (r s : List ℕ) → p < q → Before (encoding p ++ r) (encoding q ++ s)
+before_encoding p q r s l = elim (row_of p) [
+  | one h e ↦ elim (row_of q) [
+    | one k f ↦ rw (e, f) (inl l)
+    | two k _ f ↦ rw (e, f) (inl (omega arith))
+    | three k _ f ↦ rw (e, f) (inl (omega arith))
+    | four k f ↦ rw (e, f) (inl (omega arith))
+  ]
+  | two m h e ↦ elim (row_of q) [
+    | one k f ↦ absurd (omega arith)
+    | two k _ f ↦ rw (e, f) (before_two (0xC0 + p / 64) (0x80 + p % 64) (0xC0 + q / 64) (0x80 + q % 64) r s (omega arith) (λ a. omega arith))
+    | three k _ f ↦ rw (e, f) (inl (omega arith))
+    | four k f ↦ rw (e, f) (inl (omega arith))
+  ]
+  | three m h e ↦ elim (row_of q) [
+    | one k f ↦ absurd (omega arith)
+    | two _ k f ↦ absurd (omega arith)
+    | three k _ f ↦ rw (e, f) (before_three (0xE0 + p / 4096) (0x80 + p / 64 % 64) (0x80 + p % 64) (0xE0 + q / 4096) (0x80 + q / 64 % 64)
+        (0x80 + q % 64) r s (omega arith) (λ a. omega arith) (λ a b. omega arith))
+    | four k f ↦ rw (e, f) (inl (omega arith))
+  ]
+  | four m e ↦ elim (row_of q) [
+    | one k f ↦ absurd (omega arith)
+    | two _ k f ↦ absurd (omega arith)
+    | three _ k f ↦ absurd (omega arith)
+    | four k f ↦ rw (e, f) (before_four (0xF0 + p / 262144) (0x80 + p / 4096 % 64) (0x80 + p / 64 % 64) (0x80 + p % 64) (0xF0 + q / 262144)
+        (0x80 + q / 4096 % 64) (0x80 + q / 64 % 64) (0x80 + q % 64) r s (omega arith) (λ a. omega arith) (λ a b. omega arith) (λ a b c. omega arith))
+  ]
+]
+
+empty_before : (q : ℕ) (s : List ℕ) → Before [] (encoding q ++ s)
+empty_before q s = elim (row_of q) [ one _ f ↦ rw f tt | two _ _ f ↦ rw f tt | three _ _ f ↦ rw f tt | four _ f ↦ rw f tt ]
+
+-- the order of bytes is that of code points
+pub cmp-bytes : (c d : List ℕ) → slice_cmp nat_cmp (bytes c) (bytes d) ≡ slice_cmp nat_cmp c d
+cmp-bytes [] [] = refl
+cmp-bytes [] (q ∷ d) = less_of [] (bytes (q ∷ d)) (empty_before q (bytes d))
+cmp-bytes (p ∷ c) [] = greater_of (bytes (p ∷ c)) [] (empty_before p (bytes c))
+cmp-bytes (p ∷ c) (q ∷ d) = elim (cases_order p q) [
+  | inl same ↦ rw (← same) (cmp_behind (encoding p) (bytes c) (bytes d) ∙ cmp-bytes c d ∙ sym (cmp_behind (p ∷ []) c d))
+  | inr (inl l) ↦ less_of (bytes (p ∷ c)) (bytes (q ∷ d)) (before_encoding p q (bytes c) (bytes d) l) ∙ sym (less_of (p ∷ c) (q ∷ d) (inl l))
+  | inr (inr l) ↦ greater_of (bytes (p ∷ c)) (bytes (q ∷ d)) (before_encoding q p (bytes d) (bytes c) l) ∙ sym (greater_of (p ∷ c) (q ∷ d) (inl l))
+]
+
+-- encodings stand before one another as their code points do
+pub before_bytes : (c d : List ℕ) → Before (bytes c) (bytes d) ↔ Before c d
+before_bytes c d =
+    (λ h. before_of c d (sym (cmp-bytes c d) ∙ less_of (bytes c) (bytes d) h), λ h. before_of (bytes c) (bytes d) (cmp-bytes c d ∙ less_of c d h))
+
+-- What a comparison of the bytes of two strings says of their code points and units.
+
+-- a form has the code points of well-formed bytes that are its own
+pub form_points : {w v u : List ℕ} (h : IsWellFormed w) (f : IsForm v u) → w ≡ v → h.points ≡ f.points
+form_points h f e = bytes-injective h.points f.points (h.encoded ∙ (e ∙ sym f.encoded))
+
+-- strings are equal where their code points are, and where their units are
+pub equal_points : (r : Bool) (c d : List ℕ) {w v : List ℕ} → bytes c ≡ w → bytes d ≡ v → r ≡ pointwise nat_eq w v → IsTrue r ↔ (c ≡ d)
+equal_points r c d {w} {v} e f h =
+    (λ t. bytes-injective c d (e ∙ ((bytes_decides w v).0 (sym h ∙ t) ∙ sym f)), λ s. h ∙ (bytes_decides w v).1 (sym e ∙ (ap bytes s ∙ f)))
+
+pub equal_units : (r : Bool) {c d u t w v : List ℕ} → Reads c u → Reads d t → bytes c ≡ w → bytes d ≡ v → r ≡ pointwise nat_eq w v → IsTrue r ↔ (u ≡ t)
+equal_units r {c} {d} {u} {t} x y e f h =
+    let points = equal_points r c d e f h in
+    (λ s. sym x.same_units ∙ (ap units (points.0 s) ∙ y.same_units), λ s. points.1 (same_reading c d x.clean y.clean (x.same_units ∙ (s ∙ sym y.same_units))))
+
+-- strings are in the order of their code points
+pub cmp_points : (c d : List ℕ) {w v : List ℕ} → bytes c ≡ w → bytes d ≡ v → slice_cmp nat_cmp w v ≡ slice_cmp nat_cmp c d
+cmp_points c d {w} {v} e f = ap (λ x. slice_cmp nat_cmp x v) (sym e) ∙ (ap (slice_cmp nat_cmp (bytes c)) (sym f) ∙ cmp-bytes c d)
+
+-- a comparison says which string's code points come before the other's
+pub points_order : (r : Ordering) (c d : List ℕ) {w v : List ℕ} → bytes c ≡ w → bytes d ≡ v → r ≡ slice_cmp nat_cmp w v
+    → MatchOrdering r (Before c d) (c ≡ d) (Before d c)
+points_order r c d e f h = ordered r c d (h ∙ cmp_points c d e f)
+
+-- Where code points part in one row of the table, the order of their bytes is the order of their units.
+
+-- both numbers or neither is below a bound
+abbrev pub BothBelow : ℕ → ℕ → ℕ → Type 0
+BothBelow n x y = (x < n) ↔ (y < n)
+
+-- code points of one unit, or of two, are in the order of their units
+before_units : (p q : ℕ) (c d : List ℕ) → p < q → BothBelow 0x10000 p q → Before (units (p ∷ c)) (units (q ∷ d))
+before_units p q c d l both = elim (cases_lt p 0x10000) [
+  | inl h ↦ rw (units-cons_one p c h, units-cons_one q d (both.0 h)) (inl l)
+  | inr h ↦ rw (units-cons_two p c h, units-cons_two q d (omega arith))
+      (before_two (lead_of p) (trail_of p) (lead_of q) (trail_of q) (units c) (units d) (omega arith) (λ e. omega arith))
+]
+
+-- where lists differ first, both numbers or neither is below F0
+abbrev pub PartInOneRow : List ℕ → List ℕ → Type 0
+PartInOneRow [] v = Unit {0}
+PartInOneRow (x ∷ w) [] = Unit {0}
+PartInOneRow (x ∷ w) (y ∷ v) = (x ≡ y → PartInOneRow w v) × (x ≢ y → BothBelow 0xF0 x y)
+
+behind : (f w v : List ℕ) → PartInOneRow (f ++ w) (f ++ v) → PartInOneRow w v
+behind [] w v h = h
+behind (x ∷ f) w v h = behind f w v (h.0 refl)
+
+-- the first byte of a code point says how many units it has
+record FirstByte (p : ℕ) (r : List ℕ) : Type 0 where
+  byte : ℕ
+  rest : List ℕ
+  encoded : encoding p ++ r ≡ byte ∷ rest
+  row : (p < 0x10000) ↔ (byte < 0xF0)
+
+first_byte : (p : ℕ) (r : List ℕ) → FirstByte p r
+first_byte p r = elim (row_of p) [
+  | one h e ↦ record { byte = _; rest = _; encoded = ap (λ v. v ++ r) e; row = (λ _. omega arith, λ _. omega arith) }
+  | two l h e ↦ record { byte = _; rest = _; encoded = ap (λ v. v ++ r) e; row = (λ _. omega arith, λ _. omega arith) }
+  | three l h e ↦ record { byte = _; rest = _; encoded = ap (λ v. v ++ r) e; row = (λ _. omega arith, λ _. omega arith) }
+  | four l e ↦ record { byte = _; rest = _; encoded = ap (λ v. v ++ r) e; row = (λ m. absurd (omega arith), λ m. absurd (omega arith)) }
+]
+
+same_row : (p q : ℕ) (r s : List ℕ) → PartInOneRow (encoding p ++ r) (encoding q ++ s) → BothBelow 0x10000 p q
+same_row p q r s h =
+    let x = first_byte p r in
+    let y = first_byte q s in
+    let parts : PartInOneRow (x.byte ∷ x.rest) (y.byte ∷ y.rest) = rw (x.encoded, y.encoded) at h in
+    let both : BothBelow 0xF0 x.byte y.byte = elim (cases_order x.byte y.byte) [
+      | inl e ↦ (λ k. omega arith, λ k. omega arith)
+      | inr n ↦ parts.1 (λ e. omega (arith, n))
+    ] in
+    (λ k. y.row.1 (both.0 (x.row.0 k)), λ k. x.row.1 (both.1 (y.row.0 k)))
+
+nothing_before : (q : ℕ) (d : List ℕ) → Before [] (units (q ∷ d))
+nothing_before q d = elim (cases_lt q 0x10000) [ inl h ↦ rw (units-cons_one q d h) tt | inr h ↦ rw (units-cons_two q d h) tt ]
+
+-- then the order of the code points is that of the units
+pub points_as_units : (c d : List ℕ) → PartInOneRow (bytes c) (bytes d) → slice_cmp nat_cmp c d ≡ slice_cmp nat_cmp (units c) (units d)
+points_as_units [] [] h = refl
+points_as_units [] (q ∷ d) h = sym (less_of [] (units (q ∷ d)) (nothing_before q d))
+points_as_units (p ∷ c) [] h = sym (greater_of (units (p ∷ c)) [] (nothing_before p c))
+points_as_units (p ∷ c) (q ∷ d) h =
+    let row = same_row p q (bytes c) (bytes d) h in
+    elim (cases_order q p) [
+      | inl same ↦
+          let rest = points_as_units c d (behind (encoding p) (bytes c) (bytes d) (rw same at h)) in
+          rw same (cmp_behind (p ∷ []) c d ∙ rest ∙ sym (cmp_behind (units_of p) (units c) (units d)))
+      | inr (inl l) ↦ greater_of (p ∷ c) (q ∷ d) (inl l) ∙ sym (greater_of (units (p ∷ c)) (units (q ∷ d)) (before_units q p d c l (row.1, row.0)))
+      | inr (inr l) ↦ less_of (p ∷ c) (q ∷ d) (inl l) ∙ sym (less_of (units (p ∷ c)) (units (q ∷ d)) (before_units p q c d l row))
+    ]
+
+-- behind the first numbers of both lists
+pub difference_behind : (x y : ℕ) (w v : List ℕ) (n : ℕ) → IsFirstDifference (x ∷ w) (y ∷ v) (suc n) → IsFirstDifference w v n
+difference_behind x y w v n d = record {
+  within_first = omega (arith, d.within_first);
+  within_second = omega (arith, d.within_second);
+  same_before = ap (drop 1) d.same_before;
+  differ_there = λ a b. d.differ_there (omega arith) (omega arith);
+}
+
+pair_behind : (x : ℕ) (w : List ℕ) (n : ℕ) → PairBegins (x ∷ w) (suc n) ↔ PairBegins w n
+pair_behind x w n = (λ h. (omega (arith, h.0), h.1), λ h. (omega (arith, h.0), h.1))
+
+pub parts_at : (w v : List ℕ) (at : ℕ) → IsFirstDifference w v at → PairBegins w at ↔ PairBegins v at → PartInOneRow w v
+parts_at [] v at d both = tt
+parts_at (x ∷ w) [] at d both = tt
+parts_at (x ∷ w) (y ∷ v) zero d both = (
+  λ e. absurd (d.differ_there (omega arith) (omega arith) e),
+  λ n. (
+    λ h. elim (cases_lt y 0xF0) [ inl m ↦ m | inr m ↦ let back = both.1 (omega arith, m) in absurd (omega (arith, back.1)) ],
+    λ h. elim (cases_lt x 0xF0) [ inl m ↦ m | inr m ↦ let there = both.0 (omega arith, m) in absurd (omega (arith, there.1)) ],
+  ),
+)
+parts_at (x ∷ w) (y ∷ v) (suc n) d both =
+    let own = pair_behind x w n in
+    let others = pair_behind y v n in (
+      λ e. parts_at w v n (difference_behind x y w v n d) (λ h. others.0 (both.0 (own.1 h)), λ h. own.0 (both.1 (others.1 h))),
+      λ e. absurd (e (ap (λ u. get_or u 0 0) d.same_before)),
+    )
+
+-- The order of units: the bytes where two strings first differ, and the strings behind the place where they part.
+
+cmp_greater : (x y : ℕ) → y < x → nat_cmp x y ≡ Greater
+cmp_greater x y h = grind (arith, nat_tests)
+
+-- the numbers there, or the ends, are in the order of the lists
+pub order_there : (w v : List ℕ) (at : ℕ) → IsFirstDifference w v at → option_cmp nat_cmp (slice_get w at) (slice_get v at) ≡ slice_cmp nat_cmp w v
+order_there [] [] at d = refl
+order_there [] (y ∷ v) zero d = refl
+order_there [] (y ∷ v) (suc n) d = absurd (omega (arith, d.within_first))
+order_there (x ∷ w) [] zero d = refl
+order_there (x ∷ w) [] (suc n) d = absurd (omega (arith, d.within_second))
+order_there (x ∷ w) (y ∷ v) zero d = elim (cases_order x y) [
+  | inl e ↦ absurd (d.differ_there (omega arith) (omega arith) e)
+  | inr (inl l) ↦ cmp_less x y l ∙ sym (less_of (x ∷ w) (y ∷ v) (inl l))
+  | inr (inr l) ↦ cmp_greater x y l ∙ sym (greater_of (x ∷ w) (y ∷ v) (inl l))
+]
+order_there (x ∷ w) (y ∷ v) (suc n) d =
+    let same : y ≡ x = sym (ap (λ u. get_or u 0 0) d.same_before) in
+    order_there w v n (difference_behind x y w v n d) ∙ rw same (sym (cmp_behind (x ∷ []) w v))
+
+cmp_behind_both : (a b : ℕ) → nat_cmp (suc a) (suc b) ≡ nat_cmp a b
+cmp_behind_both a b = grind (arith, nat_tests)
+
+-- where the shorter list begins the longer one the lengths are in the order of the lists
+pub lengths_decide : (w v : List ℕ) (n : ℕ) → length w ≤ n ⊎ length v ≤ n → n ≤ length w → n ≤ length v → take n w ≡ take n v
+    → nat_cmp (length w) (length v) ≡ slice_cmp nat_cmp w v
+lengths_decide [] [] n end h k e = refl
+lengths_decide [] (y ∷ v) n end h k e = cmp_less 0 (length (y ∷ v)) (omega arith)
+lengths_decide (x ∷ w) [] n end h k e = cmp_greater (length (x ∷ w)) 0 (omega arith)
+lengths_decide (x ∷ w) (y ∷ v) zero end h k e = absurd (omega (arith, end))
+lengths_decide (x ∷ w) (y ∷ v) (suc n) end h k e =
+    let same : y ≡ x = sym (ap (λ u. get_or u 0 0) e) in
+    let shorter : length w ≤ n ⊎ length v ≤ n = elim end [ inl l ↦ inl (omega (arith, l)) | inr l ↦ inr (omega (arith, l)) ] in
+    rw same (cmp_behind_both (length w) (length v) ∙ lengths_decide w v n shorter (omega arith) (omega arith) (ap (drop 1) e) ∙ sym (cmp_behind (x ∷ []) w v))
+
+-- code points whose bytes begin with those of a front have that front
+record Continues (front d rest : List ℕ) : Type 0 where
+  points : List ℕ
+  joined : d ≡ front ++ points
+  encoded : bytes points ≡ rest
+
+continues : (front d rest : List ℕ) → bytes d ≡ bytes front ++ rest → Continues front d rest
+continues [] d rest e = record { points = d; joined = refl; encoded = e }
+continues (p ∷ front) [] rest e = absurd (omega (arith, simp length-append at (ap length e), length-encoding_bounds p))
+continues (p ∷ front) (q ∷ d) rest e =
+    let heads = encoding_same q p (bytes d) (bytes front ++ rest) (e ∙ append_assoc (encoding p) (bytes front) rest) in
+    let more = continues front d rest heads.1 in
+    record { points = more.points; joined = ap (λ k. k ∷ d) heads.0 ∙ ap (λ c. p ∷ c) more.joined; encoded = more.encoded }
+
+-- two strings that are equal up to a boundary of the one: what they share, and what each has behind it
+pub record Parting (c d : List ℕ) (at : ℕ) : Type 0 where
+  pub front : List ℕ
+  pub own : List ℕ
+  pub others : List ℕ
+  pub own_joined : c ≡ front ++ own
+  pub others_joined : d ≡ front ++ others
+  pub front_len : length (bytes front) ≡ at
+
+parting : {w v : List ℕ} (h : IsWellFormed w) (k : IsWellFormed v) (at : ℕ) → take at w ≡ take at v → PairBegins w at → Parting h.points k.points at
+parting {w} {v} h k at same pair =
+    let cut = cut_at h at (boundary_from_byte h at (omega (arith, pair.0)) (λ _. record { start = inr (omega (arith, pair.1)) })) in
+    let front : bytes cut.front ≡ take at v = ap bytes (sym cut.before_points) ∙ (cut.before.encoded ∙ same) in
+    let more = continues cut.front k.points (drop at v) (k.encoded ∙ (sym (take-append-drop at v) ∙ ap (λ f. f ++ drop at v) (sym front))) in
+    record { front = cut.front; own = cut.back; others = more.points; own_joined = cut.points; others_joined = more.joined; front_len = cut.splits.front_len }
+
+turned : {c d : List ℕ} {at : ℕ} → Parting c d at → Parting d c at
+turned p = record { front = p.front; own = p.others; others = p.own; own_joined = p.others_joined; others_joined = p.own_joined; front_len = p.front_len }
+
+-- the rests of both are in the order of the whole strings
+pub rests_order : {w v x y : List ℕ} (h : IsWellFormed w) (k : IsWellFormed v) (at : ℕ) → Parting h.points k.points at
+    → (i : IsWellFormed x) (j : IsWellFormed y) → x ≡ drop at w → y ≡ drop at v
+    → slice_cmp nat_cmp (units i.points) (units j.points) ≡ slice_cmp nat_cmp (units h.points) (units k.points)
+rests_order h k at p i j e f =
+    let own : units h.points ≡ units p.front ++ units i.points =
+    cc (p.own_joined, units-append p.front p.own, points_behind h i p.front p.own at p.own_joined p.front_len e) in
+    let others : units k.points ≡ units p.front ++ units j.points =
+    cc (p.others_joined, units-append p.front p.others, points_behind k j p.front p.others at p.others_joined p.front_len f) in
+    cc (own, others, cmp_behind (units p.front) (units i.points) (units j.points))
+
+pub both_or_neither : {P Q : Type 0} (a b : Bool) → IsTrue a ↔ P → IsTrue b ↔ Q → beq a b ≡ true → P ↔ Q
+both_or_neither true true p q e = (λ _. q.0 refl, λ _. p.0 refl)
+both_or_neither true false p q e = absurd (false≢true e)
+both_or_neither false true p q e = absurd (false≢true e)
+both_or_neither false false p q e = (λ h. absurd (false≢true (p.1 h)), λ h. absurd (false≢true (q.1 h)))
+
+one_of_both : {P Q : Type 0} (a b : Bool) → IsTrue a ↔ P → IsTrue b ↔ Q → beq a b ≡ false → P ⊎ Q
+one_of_both true b p q e = inl (p.0 refl)
+one_of_both false true p q e = inr (q.0 refl)
+one_of_both false false p q e = absurd (true≢false e)
+
+-- where a code point of two units begins in one of both strings they part
+pub parts_there : {w v : List ℕ} (h : IsWellFormed w) (k : IsWellFormed v) (at : ℕ) → IsFirstDifference w v at → (a b : Bool) → IsTrue a ↔ PairBegins w at
+    → IsTrue b ↔ PairBegins v at → beq a b ≡ false → Parting h.points k.points at
+parts_there h k at d a b p q e = elim (one_of_both a b p q e) [ inl l ↦ parting h k at d.same_before l | inr l ↦ turned (parting k h at (sym d.same_before) l) ]
+
+-- and elsewhere the bytes there are in the order of the units
+pub bytes_order : {w v : List ℕ} (h : IsWellFormed w) (k : IsWellFormed v) (at : ℕ) → IsFirstDifference w v at → PairBegins w at ↔ PairBegins v at
+    → option_cmp nat_cmp (slice_get w at) (slice_get v at) ≡ slice_cmp nat_cmp (units h.points) (units k.points)
+bytes_order {w} {v} h k at d both =
+    let rows : PartInOneRow (bytes h.points) (bytes k.points) =
+    subst (λ x. PartInOneRow x (bytes k.points)) (sym h.encoded) (subst (PartInOneRow w) (sym k.encoded) (parts_at w v at d both)) in
+    order_there w v at d ∙ (cmp_points h.points k.points h.encoded k.encoded ∙ points_as_units h.points k.points rows)

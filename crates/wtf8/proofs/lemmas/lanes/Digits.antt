@@ -1,0 +1,105 @@
+-- Hexadecimal digits in lanes.
+use Rattle.wtf8.proofs.Common.{◌≡◌, ℕ, zero, suc, ◌+◌, ◌*◌, ◌/◌, ◌%◌, ◌<◌, ◌≤◌, false, cond, leb, ltb, inl, inr, List, [], ◌∷◌, ◌++◌, map, length, get_or, take}
+use Rattle.wtf8.proofs.Common.{drop, replicate, refl, sym, ap, ◌∙◌, subst, arith, w8, append_assoc, flat_map-append, lt-leb, cases_Bool, pick_l_whole, Each1, zip2}
+use Rattle.wtf8.proofs.Common.{hex_of, hex, spaced}
+use Rattle.std.proofs.Common.{flat_map, take-append-drop}
+use Rattle.std.proofs.Math.Seq.{take-add}
+use Rattle.std.proofs.lemmas.List.FromFn.{get_or-map-range_with_len}
+use Rattle.std.proofs.lemmas.Nat.{and_mask}
+use Rattle.std.proofs.lemmas.Simd.{swz_l, zip2_splat}
+use Rattle.std.proofs.lemmas.Str.{IsAscii-append}
+use Rattle.std.specs.List.{range_with_len}
+use Rattle.std.specs.Str.{IsAscii}
+use borrow.Rule.Simd.Lanes.{act2}
+use borrow.Table.Row.{s_int}
+use mir.Syntax.{shr, unsigned, bit_and as bit_and_op}
+use mir.Val.{Fits}
+use Rattle.wtf8.specs.Hex.{digit}
+
+-- the digits at their values
+abbrev pub table : List ℕ
+table = 48 ∷ 49 ∷ 50 ∷ 51 ∷ 52 ∷ 53 ∷ 54 ∷ 55 ∷ 56 ∷ 57 ∷ 65 ∷ 66 ∷ 67 ∷ 68 ∷ 69 ∷ 70 ∷ []
+
+counted : map digit (range_with_len 0 16) ≡ table
+unfolding digit
+counted = refl
+
+pub digit_at : (n : ℕ) → n < 16 → get_or table n 0 ≡ digit n
+digit_at n h = ap (λ t. get_or t n 0) (sym counted) ∙ get_or-map-range_with_len digit 0 16 n n 0 h (omega arith)
+
+-- a look-up gives the digits
+pub looked_up : (i : ℕ) (values : List ℕ) → i + length values ≤ 16 → Each1 (λ v. v < 16) values → swz_l w8 16 table i values ≡ map digit values
+looked_up i [] p h = refl
+looked_up i (v ∷ values) p h =
+    let kept : leb 128 v ≡ false = lt-leb 128 v (omega (arith, h.0)) in
+    let here : 16 * (i / 16) + v ≡ v = omega arith in
+    let one : cond (leb 128 v) zero (get_or table (16 * (i / 16) + v) zero) ≡ digit v = rw kept (ap (λ n. get_or table n 0) here ∙ digit_at v h.0) in
+    λ j. one j ∷ looked_up (suc i) values (omega arith) h.1 j
+
+high : (bytes : List ℕ) → length bytes ≡ 16 → zip2 (act2 (shr unsigned) (s_int w8) (s_int w8) (s_int w8)) bytes (replicate 16 4) ≡ map (λ b. b / 16) bytes
+high bytes p = zip2_splat (act2 (shr unsigned) (s_int w8) (s_int w8) (s_int w8)) bytes 16 4 p
+
+low : (bytes : List ℕ) → length bytes ≡ 16 → zip2 (act2 bit_and_op (s_int w8) (s_int w8) (s_int w8)) bytes (replicate 16 15) ≡ map (λ b. b % 16) bytes
+low bytes p = zip2_splat (act2 bit_and_op (s_int w8) (s_int w8) (s_int w8)) bytes 16 15 p ∙ (λ i. map (λ b. and_mask b 4 i) bytes)
+
+high_below : (bytes : List ℕ) → Each1 (Fits w8) bytes → Each1 (λ v. v < 16) (map (λ b. b / 16) bytes)
+high_below [] h = tt
+high_below (b ∷ bytes) h = (omega (arith, h.0.fits), high_below bytes h.1)
+
+low_below : (bytes : List ℕ) → Each1 (λ v. v < 16) (map (λ b. b % 16) bytes)
+low_below [] = tt
+low_below (b ∷ bytes) = (omega arith, low_below bytes)
+
+-- a space, a digit of the first vector and one of the second, for each lane
+abbrev placed : List ℕ → List ℕ
+placed digits = flat_map (λ k. 32 ∷ get_or digits k 0 ∷ get_or digits (16 + k) 0 ∷ []) (range_with_len 0 16)
+
+abbrev highs : List ℕ → List ℕ
+highs bytes = zip2 (act2 (shr unsigned) (s_int w8) (s_int w8) (s_int w8)) bytes (replicate 16 4)
+
+abbrev lows : List ℕ → List ℕ
+lows bytes = zip2 (act2 bit_and_op (s_int w8) (s_int w8) (s_int w8)) bytes (replicate 16 15)
+
+pub highs_below : (bytes : List ℕ) → length bytes ≡ 16 → Each1 (Fits w8) bytes → Each1 (λ v. v < 16) (highs bytes)
+highs_below bytes p h = subst (Each1 (λ v. v < 16)) (sym (high bytes p)) (high_below bytes h)
+
+pub lows_below : (bytes : List ℕ) → length bytes ≡ 16 → Each1 (λ v. v < 16) (lows bytes)
+lows_below bytes p = subst (Each1 (λ v. v < 16)) (sym (low bytes p)) (low_below bytes)
+
+woven : (bytes : List ℕ) → length bytes ≡ 16 → placed (map digit (map (λ b. b / 16) bytes) ++ map digit (map (λ b. b % 16) bytes)) ≡ flat_map spaced bytes
+woven bytes p = subst (λ bs. placed (map digit (map (λ b. b / 16) bs) ++ map digit (map (λ b. b % 16) bs)) ≡ flat_map spaced bs)
+    (pick_l_whole 0 bytes 16 p) refl
+
+-- the digits of the halves, put in their places, are those of the bytes
+pub block_text : (bytes first second : List ℕ) → length bytes ≡ 16 → first ≡ map digit (highs bytes) → second ≡ map digit (lows bytes)
+    → placed (first ++ second) ≡ flat_map spaced bytes
+block_text bytes first second p f s = rw (f, s, high bytes p, low bytes p) (woven bytes p)
+
+-- some bytes more behind those so far
+pub more_spaced : (text start bytes : List ℕ) (at n : ℕ) → text ≡ start ++ flat_map spaced (take at bytes)
+    → text ++ flat_map spaced (take n (drop at bytes)) ≡ start ++ flat_map spaced (take (at + n) bytes)
+more_spaced text start bytes at n e = simp (e, append_assoc, take-add at n bytes, flat_map-append)
+
+-- and the rest of them
+pub all_spaced : (text start bytes : List ℕ) (at : ℕ) → text ≡ start ++ flat_map spaced (take at bytes)
+    → text ++ flat_map spaced (drop at bytes) ≡ start ++ flat_map spaced bytes
+all_spaced text start bytes at e = simp (e, append_assoc, ← flat_map-append, take-append-drop)
+
+digit_ascii : (n : ℕ) → n < 16 → digit n < 128
+unfolding digit
+digit_ascii n h = elim (cases_Bool (ltb n 10)) [ inl less ↦ rw less (omega arith) | inr more ↦ rw more (omega arith) ]
+
+spaced_ascii : (b : ℕ) → b < 256 → IsAscii (spaced b)
+spaced_ascii b h zero = omega arith
+spaced_ascii b h (suc zero) = digit_ascii (b / 16) (omega arith)
+spaced_ascii b h (suc (suc zero)) = digit_ascii (b % 16) (omega arith)
+spaced_ascii b h (suc (suc (suc i))) = omega arith
+
+all_ascii : (bytes : List ℕ) → ((i : ℕ) → Fits w8 (get_or bytes i 0)) → IsAscii (flat_map spaced bytes)
+all_ascii [] h = λ i. omega arith
+all_ascii (b ∷ bytes) h = IsAscii-append (spaced b) _ (spaced_ascii b (h 0).fits) (all_ascii bytes (λ i. h (suc i)))
+
+-- hexadecimal text is ASCII
+pub hex_ascii : (bytes : List ℕ) → ((i : ℕ) → Fits w8 (get_or bytes i 0)) → IsAscii (hex bytes)
+hex_ascii [] h = λ i. omega arith
+hex_ascii (b ∷ bytes) h = IsAscii-append (hex_of b) _ (λ i. spaced_ascii b (h 0).fits (suc i)) (all_ascii bytes (λ i. h (suc i)))

@@ -1,0 +1,357 @@
+-- Lanes that show where surrogates stand, whether one stands there, and how many units begin.
+use Rattle.wtf8.proofs.Common.{◌≡◌, ℕ, zero, suc, ◌+◌, ◌-◌, ◌%◌, ◌^◌, ◌<◌, ◌≤◌, eqb, ltb, leb, Bool, true, false, IsTrue, cond, List, [], ◌∷◌, map, length, get_or}
+use Rattle.wtf8.proofs.Common.{replicate, w8, inl, inr, sym, ap, ◌∙◌, arith, cases_lt, lt-ltb, le-ltb, le-leb, eq-eqb, eqb-true, length-zip2, get_or-zip2}
+use Rattle.wtf8.proofs.Common.{length-chunk, get_or-chunk, mask_l-mod, tops_compared, chunk, sel_l, zip2, mask_l, top, SurrogateAt, ◌||◌, bit_or, Fits, refl, lt-leb}
+use Rattle.wtf8.proofs.Common.{Each1, all_units_begun}
+use Rattle.std.proofs.Common.{◌≡◌, ℕ, zero, suc, ◌+◌, ◌-◌, ◌%◌, ◌^◌, ◌<◌, ◌≤◌, eqb, leb, Bool, true, false, cond, not, ◌&&◌, List, [], ◌∷◌, map, length, get_or}
+use Rattle.std.proofs.Common.{replicate, bit_and, None, Some, w8, refl, sym, ap, ◌∙◌, subst, arith}
+use Rattle.std.proofs.lemmas.Bool.{and_parts, and_from, both_ways, not-true, not-false, leb-true, le-leb, eq-eqb, eqb-true}
+use Rattle.std.proofs.lemmas.List.{get_or-replicate, length-replicate}
+use Rattle.std.proofs.lemmas.List.Sums.{prefix_len_passes, prefix_len_stops, sum_by-cons}
+use Rattle.std.proofs.lemmas.Simd.{length-zip2, get_or-zip2, length-chunk, get_or-chunk, mask_l-mod, leading_from_mask_l, trailing_mask_l, bitmask_splat}
+use Rattle.std.proofs.lemmas.Simd.{none_from_empty_mask, length-sel_l, get_or-sel_l, Each2-of, fold-sum, sum_bound, sum_fits}
+use Rattle.std.specs.List.{prefix_len}
+use lib.Count.{count_trailing_zeros}
+use lib.Lanes.{chunk, zip2, mask_l, top, Each2, Steps, fold_l, sum_l}
+use Rattle.wtf8.specs.SurrogateSearch.{SurrogateAt, IsSurrogateLane, IsFirstBelow, HasLane, ShowsSurrogate}
+use Rattle.wtf8.specs.UnitCounts.{units_begun}
+
+-- The search in lanes: from the mask of two vectors to the first lane that has a surrogate's two bytes.
+
+-- a lane of a comparison
+abbrev pub lane : Bool → ℕ
+lane b = cond b 255 0
+
+-- the lanes in which one vector holds ED and the other a byte from A0 on
+abbrev pub compared : ℕ → List ℕ → List ℕ → List ℕ
+compared n xs ys = zip2 bit_and (zip2 (λ a b. lane (eqb a b)) xs (replicate n 0xED)) (zip2 (λ a b. lane (leb a b)) (replicate n 0xA0) ys)
+
+abbrev pub mask : ℕ → List ℕ → List ℕ → ℕ
+mask n xs ys = mask_l (map (top 7) (compared n xs ys)) % 2 ^ 64
+
+abbrev test : ℕ → ℕ → Bool
+test x y = eqb x 0xED && leb 0xA0 y
+
+both : (a b : Bool) → top 7 (bit_and (lane a) (lane b)) ≡ a && b
+both true true = refl
+both true false = refl
+both false true = refl
+both false false = refl
+
+tops : (n : ℕ) (xs ys : List ℕ) → length xs ≡ n → length ys ≡ n → map (top 7) (compared n xs ys) ≡ zip2 test xs ys
+tops n [] ys p q = refl
+tops n (x ∷ xs) [] p q = absurd (omega arith)
+tops zero (x ∷ xs) (y ∷ ys) p q = absurd (omega arith)
+tops (suc n) (x ∷ xs) (y ∷ ys) p q = λ i. both (eqb x 0xED) (leb 0xA0 y) i ∷ tops n xs ys (omega arith) (omega arith) i
+
+-- how many tests fail before the first that holds
+abbrev failing : List Bool → ℕ
+failing bs = prefix_len (λ b. not b) bs
+
+itself : (bs : List Bool) → map (λ b. b) bs ≡ bs
+itself [] = refl
+itself (b ∷ bs) = ap (λ rest. b ∷ rest) (itself bs)
+
+some_hold : (bs : List Bool) → 0 < mask_l bs → failing bs < length bs
+some_hold [] h = absurd (omega arith)
+some_hold (true ∷ bs) h = omega arith
+some_hold (false ∷ bs) h = omega (arith, some_hold bs (omega arith))
+
+told : (x y : ℕ) → test x y ≡ true → (x ≡ 0xED) × (0xA0 ≤ y)
+told x y e =
+    let parts = and_parts _ _ e in
+    (eqb-true x 0xED parts.0, leb-true 0xA0 y parts.1)
+
+tells : (x y : ℕ) → (x ≡ 0xED) × (0xA0 ≤ y) → test x y ≡ true
+tells x y h = and_from _ _ (eq-eqb x 0xED h.0) (le-leb 0xA0 y h.1)
+
+module _ (n : ℕ) (few : n ≤ 64) (xs ys : List ℕ) (p : length xs ≡ n) (q : length ys ≡ n) where
+  abbrev lanes : List Bool
+  lanes = zip2 test xs ys
+
+  long : length lanes ≡ n
+  long = length-zip2 test xs ys (p ∙ sym q) ∙ p
+
+  same : mask n xs ys ≡ mask_l lanes
+  same = ap (λ m. mask_l m % 2 ^ 64) (tops n xs ys p q) ∙ mask_l-mod lanes 64 (omega (arith, long, few))
+
+  tests : mask n xs ys ≡ mask_l (map (λ b. b) lanes)
+  tests = same ∙ ap mask_l (sym (itself lanes))
+
+  at : (j : ℕ) → j < n → get_or lanes j false ≡ test (get_or xs j 0) (get_or ys j 0)
+  at j l = get_or-zip2 test xs ys j 0 0 false (omega arith) (omega arith)
+
+  before : (j : ℕ) → j < n → j < failing lanes → ¬ (IsSurrogateLane xs ys j)
+  before j l h s = both_ways _ (not-true _ (prefix_len_passes (λ b. not b) lanes j false h)) (at j l ∙ tells _ _ s)
+
+  pub no_lane : mask n xs ys ≡ 0 → IsFirstBelow (IsSurrogateLane xs ys) 0 n None
+  no_lane e j _ l = before j l (omega (arith, l, long, leading_from_mask_l (λ b. b) lanes (sym tests ∙ e)))
+
+  pub least_lane : ¬ (mask n xs ys ≡ 0) → IsFirstBelow (IsSurrogateLane xs ys) 0 n (Some (count_trailing_zeros 64 (mask n xs ys)))
+  least_lane e =
+      let some : 0 < mask_l lanes = omega (arith, same, e) in
+      let within : failing lanes < length lanes = some_hold lanes some in
+      let inside : failing lanes < n = omega (arith, within, long) in
+      let counted = trailing_mask_l (λ b. b) 64 lanes (omega (arith, long, few)) (omega (arith, sym same ∙ tests, some)) in
+      let first : count_trailing_zeros 64 (mask n xs ys) ≡ failing lanes = ap (count_trailing_zeros 64) tests ∙ counted in
+      subst (λ k. IsFirstBelow (IsSurrogateLane xs ys) 0 n (Some k)) (sym first) (
+        record {
+          not_before = omega arith;
+          here = told _ _ (sym (at (failing lanes) inside) ∙ not-false _ (prefix_len_stops (λ b. not b) lanes false within));
+          none_between = λ j _ l. before j (omega (arith, l, inside)) l;
+        },
+        inside,
+      )
+
+-- the lanes of the n bytes from a place on and of those one further are the places of surrogates
+module _ (n : ℕ) (w : List ℕ) (i : ℕ) (room : i + n < length w) where
+  first_is : (k : ℕ) → k < n → get_or (chunk i n w) k 0 ≡ get_or w (i + k) 0
+  first_is k l = get_or-chunk i n w k 0 l
+
+  second_is : (k : ℕ) → k < n → get_or (chunk (i + 1) n w) k 0 ≡ get_or w (i + k + 1) 0
+  second_is k l = get_or-chunk (i + 1) n w k 0 l ∙ ap (λ m. get_or w m 0) (omega arith)
+
+  to_lane : (k : ℕ) → k < n → SurrogateAt w (i + k) → IsSurrogateLane (chunk i n w) (chunk (i + 1) n w) k
+  to_lane k l s = (first_is k l ∙ s.first, omega (arith, second_is k l, s.second))
+
+  from_lane : (k : ℕ) → k < n → IsSurrogateLane (chunk i n w) (chunk (i + 1) n w) k → SurrogateAt w (i + k)
+  from_lane k l s = record { within = omega arith; first = sym (first_is k l) ∙ s.0; second = omega (arith, second_is k l, s.1) }
+
+  -- none in the lanes leaves none in the block
+  pub no_surrogate : IsFirstBelow (IsSurrogateLane (chunk i n w) (chunk (i + 1) n w)) 0 n None → IsFirstBelow (SurrogateAt w) i (i + n) None
+  no_surrogate clear j l u s = clear (j - i) (omega arith) (omega arith) (to_lane (j - i) (omega arith) (subst (SurrogateAt w) (omega arith) s))
+
+  pub least_surrogate : (k : ℕ) → IsFirstBelow (IsSurrogateLane (chunk i n w) (chunk (i + 1) n w)) 0 n (Some k)
+      → IsFirstBelow (SurrogateAt w) i (i + n) (Some (i + k))
+  least_surrogate k found =
+      let least = found.0 in
+      let within = found.1 in (
+        record {
+          not_before = omega arith;
+          here = from_lane k within least.here;
+          none_between = λ j l u s. least.none_between (j - i) (omega arith) (omega arith)
+              (to_lane (j - i) (omega arith) (subst (SurrogateAt w) (omega arith) s));
+        },
+        omega arith,
+      )
+
+-- ED in no lane
+abbrev leads : ℕ → List ℕ → ℕ
+leads n xs = mask_l (map (top 7) (zip2 (λ a b. lane (eqb a b)) xs (replicate n 0xED))) % 2 ^ 64
+
+-- where ED stands in no lane no surrogate begins in the block
+pub no_first_byte : (w : List ℕ) (i : ℕ) → i + 64 < length w → leads 64 (chunk i 64 w) ≡ 0 → IsFirstBelow (SurrogateAt w) i (i + 64) None
+no_first_byte w i room e j l u s =
+    let long = length-chunk i 64 w (omega arith) in
+    let empty = sym (bitmask_splat w8 eqb (chunk i 64 w) 64 0xED long (omega arith)) ∙ e in
+    let clear = none_from_empty_mask (λ x. eqb x 0xED) w i 64 0 (omega arith) empty j l u in
+    both_ways _ clear (eq-eqb _ 0xED s.first)
+
+-- Whether bytes hold a surrogate, by the lanes of vectors: what the greater lanes of two vectors, or chosen ones, still show.
+
+least_own : (x y : ℕ) → x ≤ cond (ltb x y) y x
+least_own x y = elim (cases_lt x y) [ inl h ↦ rw (lt-ltb x y h) (omega arith) | inr h ↦ rw (le-ltb x y h) (omega arith) ]
+
+least_other : (x y : ℕ) → y ≤ cond (ltb x y) y x
+least_other x y = elim (cases_lt x y) [ inl h ↦ rw (lt-ltb x y h) (omega arith) | inr h ↦ rw (le-ltb x y h) (omega arith) ]
+
+-- the greater lanes of two vectors
+abbrev pub greater : List ℕ → List ℕ → List ℕ
+greater xs ys = sel_l (map (top 7) (zip2 (λ a b. lane (ltb a b)) xs ys)) ys xs
+
+module _ (xs ys : List ℕ) (p : length xs ≡ length ys) where
+  is_choice : greater xs ys ≡ sel_l (zip2 ltb xs ys) ys xs
+  is_choice = ap (λ ms. sel_l ms ys xs) (tops_compared w8 ltb xs ys)
+
+  choices_long : length (zip2 ltb xs ys) ≡ length xs
+  choices_long = length-zip2 ltb xs ys p
+
+  greater_length : length (greater xs ys) ≡ length xs
+  greater_length = ap length is_choice ∙ (length-sel_l (zip2 ltb xs ys) ys xs (choices_long ∙ p) choices_long ∙ choices_long)
+
+  greater_lane : (k : ℕ) → k < length xs → get_or (greater xs ys) k 0 ≡ cond (ltb (get_or xs k 0) (get_or ys k 0)) (get_or ys k 0) (get_or xs k 0)
+  greater_lane k l =
+      ap (λ zs. get_or zs k 0) is_choice ∙ (get_or-sel_l (zip2 ltb xs ys) ys xs k 0 (omega (arith, choices_long, l)) (omega (arith, p, l)) l
+      ∙ ap (λ b. cond b (get_or ys k 0) (get_or xs k 0)) (get_or-zip2 ltb xs ys k 0 0 false l (omega (arith, p, l))))
+
+  pub keeps_own : (least : ℕ) → HasLane least xs → HasLane least (greater xs ys)
+  keeps_own least h = (h.0, (omega (arith, h.1.0, greater_length), omega (arith, h.1.1, greater_lane h.0 h.1.0, least_own (get_or xs h.0 0) (get_or ys h.0 0))))
+
+  pub keeps_other : (least : ℕ) → HasLane least ys → HasLane least (greater xs ys)
+  keeps_other least h =
+      let within : h.0 < length xs = omega (arith, h.1.0, p) in
+      (h.0, (omega (arith, within, greater_length), omega (arith, h.1.1, greater_lane h.0 within, least_other (get_or xs h.0 0) (get_or ys h.0 0))))
+
+-- the lanes of one vector where another holds ED, else 0
+abbrev pub chosen : ℕ → List ℕ → List ℕ → List ℕ
+chosen n xs ys = sel_l (map (top 7) (zip2 (λ a b. lane (eqb a b)) xs (replicate n 0xED))) ys (replicate n 0)
+
+module _ (n : ℕ) (xs ys : List ℕ) (p : length xs ≡ n) (q : length ys ≡ n) where
+  firsts : List Bool
+  firsts = zip2 eqb xs (replicate n 0xED)
+
+  rest : length {A = ℕ} (replicate n 0xED) ≡ n
+  rest = length-replicate n 0xED
+
+  firsts_long : length firsts ≡ n
+  unfolding firsts
+  firsts_long = length-zip2 eqb xs (replicate n 0xED) (p ∙ sym rest) ∙ p
+
+  chosen_are : chosen n xs ys ≡ sel_l firsts ys (replicate n 0)
+  unfolding firsts
+  chosen_are = ap (λ ms. sel_l ms ys (replicate n 0)) (tops_compared w8 eqb xs (replicate n 0xED))
+
+  first_holds : (k : ℕ) → k < n → get_or xs k 0 ≡ 0xED → get_or firsts k false ≡ true
+  unfolding firsts
+  first_holds k l e =
+      get_or-zip2 eqb xs (replicate n 0xED) k 0 0 false (omega (arith, p, l)) (omega (arith, rest, l)) ∙ eq-eqb _ _ (e ∙ sym (get_or-replicate n k 0xED 0 l))
+
+  pub has_chosen : (k least : ℕ) → k < n → get_or xs k 0 ≡ 0xED → least ≤ get_or ys k 0 → HasLane least (chosen n xs ys)
+  has_chosen k least l e h =
+      let zeros : length {A = ℕ} (replicate n 0) ≡ n = length-replicate n 0 in
+      let chosen_long : length (chosen n xs ys) ≡ n = ap length chosen_are
+      ∙ (length-sel_l firsts ys (replicate n 0) (firsts_long ∙ sym q) (firsts_long ∙ sym zeros) ∙ firsts_long) in
+      let here : get_or (chosen n xs ys) k 0 ≡ get_or ys k 0 = ap (λ zs. get_or zs k 0) chosen_are
+      ∙ (get_or-sel_l firsts ys (replicate n 0) k 0 (omega (arith, firsts_long, l)) (omega (arith, q, l)) (omega (arith, zeros, l))
+      ∙ ap (λ b. cond b (get_or ys k 0) (get_or (replicate n 0) k 0)) (first_holds k l e)) in
+      (k, (omega (arith, chosen_long, l), omega (arith, here, h)))
+
+-- vectors of the bytes from a place on
+module _ (n : ℕ) (w : List ℕ) (i : ℕ) where
+  holds_first : (j : ℕ) → i ≤ j → j < i + n → SurrogateAt w j → get_or (chunk i n w) (j - i) 0 ≡ 0xED
+  holds_first j l u s = get_or-chunk i n w (j - i) 0 (omega arith) ∙ (ap (λ m. get_or w m 0) (omega arith) ∙ s.first)
+
+  pub shown_by_firsts : i + n ≤ length w → ShowsSurrogate w i (i + n) 0xED (chunk i n w)
+  shown_by_firsts room j l u s = (j - i, (omega (arith, length-chunk i n w room, l, u), omega (arith, holds_first j l u s)))
+
+  pub shown_by_marks : i + n ≤ length w → ShowsSurrogate w i (i + n) 0xED (chosen n (chunk i n w) (replicate n 0xFF))
+  shown_by_marks room j l u s =
+      has_chosen n (chunk i n w) (replicate n 0xFF) (length-chunk i n w room) (length-replicate n 0xFF) (j - i) 0xED (omega arith) (holds_first j l u s)
+      (omega (arith, get_or-replicate {A = ℕ} n (j - i) 0xFF 0 (omega arith)))
+
+  pub shown_by_seconds : i + n < length w → ShowsSurrogate w i (i + n) 0xA0 (chosen n (chunk i n w) (chunk (i + 1) n w))
+  shown_by_seconds room j l u s =
+      let behind : i + 1 + (j - i) ≡ j + 1 = omega (arith, l) in
+      has_chosen n (chunk i n w) (chunk (i + 1) n w) (length-chunk i n w (omega arith)) (length-chunk (i + 1) n w (omega arith)) (j - i) 0xA0
+      (omega arith) (holds_first j l u s) (omega (arith, get_or-chunk (i + 1) n w (j - i) 0 (omega arith), ap (λ m. get_or w m 0) behind, s.second))
+
+-- an empty mask of the lanes that are no less than a number
+none_high : (n least : ℕ) (xs : List ℕ) → length xs ≡ n → mask_l (zip2 leb (replicate n least) xs) ≡ 0 → (k : ℕ) → k < length xs → least ≤ get_or xs k 0 → ⊥
+none_high n least [] p e k l h = absurd (omega arith)
+none_high zero least (x ∷ xs) p e k l h = absurd (omega arith)
+none_high (suc n) least (x ∷ xs) p e zero l h = absurd (omega (arith, rw (le-leb least x h) at e))
+none_high (suc n) least (x ∷ xs) p e (suc k) l h = none_high n least xs (omega arith) (omega (arith, e)) k (omega arith) h
+
+pub none_at_least : (n least : ℕ) (xs : List ℕ) → n ≤ 64 → length xs ≡ n
+    → IsTrue (eqb (mask_l (map (top 7) (zip2 (λ a b. lane (leb a b)) (replicate n least) xs)) % 2 ^ 64) 0) → ¬ (HasLane least xs)
+none_at_least n least xs few p t h =
+    let rest = length-replicate n least in
+    let long : length (zip2 leb (replicate n least) xs) ≡ n = length-zip2 leb (replicate n least) xs (rest ∙ sym p) ∙ rest in
+    let told = ap (λ ms. mask_l ms % 2 ^ 64) (tops_compared w8 leb (replicate n least) xs)
+    ∙ mask_l-mod (zip2 leb (replicate n least) xs) 64 (omega (arith, long, few)) in
+    none_high n least xs p (sym told ∙ eqb-true _ 0 t) h.0 h.1.0 h.1.1
+
+-- Units counted in lanes: what a block's lanes add up to.
+
+pub begun_low : (b : ℕ) → b < 0x80 → units_begun b ≡ 1
+unfolding units_begun
+begun_low b h = rw (lt-ltb b 0x80 h) refl
+
+pub begun_inside : (b : ℕ) → 0x80 ≤ b → b < 0xC0 → units_begun b ≡ 0
+unfolding units_begun
+begun_inside b l h = rw (le-ltb b 0x80 l, lt-ltb b 0xC0 h) refl
+
+pub begun_one : (b : ℕ) → 0xC0 ≤ b → b < 0xF0 → units_begun b ≡ 1
+unfolding units_begun
+begun_one b l h = rw (le-ltb b 0x80 (omega arith), le-ltb b 0xC0 l, lt-ltb b 0xF0 h) refl
+
+pub begun_two : (b : ℕ) → 0xF0 ≤ b → units_begun b ≡ 2
+unfolding units_begun
+begun_two b l = rw (le-ltb b 0x80 (omega arith), le-ltb b 0xC0 (omega arith), le-ltb b 0xF0 l) refl
+
+pub begun_most : (b : ℕ) → units_begun b ≤ 2
+begun_most b = elim (cases_lt b 0x80) [
+  | inl h ↦ omega (arith, begun_low b h)
+  | inr k ↦ elim (cases_lt b 0xC0) [
+    | inl h ↦ omega (arith, begun_inside b k h)
+    | inr l ↦ elim (cases_lt b 0xF0) [ inl h ↦ omega (arith, begun_one b l h) | inr h ↦ omega (arith, begun_two b h) ]
+  ]
+]
+
+-- the lanes where a code point begins, and where one of four bytes does
+abbrev pub begins : ℕ → List ℕ → List Bool
+begins n xs = map (top 7) (zip2 bit_or (zip2 (λ a b. lane (ltb a b)) xs (replicate n 0x80)) (zip2 (λ a b. lane (leb a b)) (replicate n 0xC0) xs))
+
+abbrev pub pairs : ℕ → List ℕ → List Bool
+pairs n xs = map (top 7) (zip2 (λ a b. lane (leb a b)) (replicate n 0xF0) xs)
+
+-- 1 where a lane is set
+abbrev pub ones : ℕ → List Bool → List ℕ
+ones n ms = sel_l ms (replicate n 1) (replicate n 0)
+
+abbrev pub counts : ℕ → List ℕ → List ℕ
+counts n xs = zip2 (λ a b. a + b) (ones n (begins n xs)) (ones n (pairs n xs))
+
+either : (a b : Bool) → top 7 (bit_or (lane a) (lane b)) ≡ a || b
+either true true = refl
+either true false = refl
+either false true = refl
+either false false = refl
+
+alone : (a : Bool) → top 7 (lane a) ≡ a
+alone true = refl
+alone false = refl
+
+lane_count : (x : ℕ) → cond (ltb x 0x80 || leb 0xC0 x) 1 0 + cond (leb 0xF0 x) 1 0 ≡ units_begun x
+lane_count x = elim (cases_lt x 0x80) [
+  | inl h ↦ rw (lt-ltb x 0x80 h, lt-leb 0xF0 x (omega arith), begun_low x h) refl
+  | inr k ↦ elim (cases_lt x 0xC0) [
+    | inl h ↦ rw (le-ltb x 0x80 k, lt-leb 0xC0 x h, lt-leb 0xF0 x (omega arith), begun_inside x k h) refl
+    | inr l ↦ elim (cases_lt x 0xF0) [
+      | inl h ↦ rw (le-ltb x 0x80 k, le-leb 0xC0 x l, lt-leb 0xF0 x h, begun_one x l h) refl
+      | inr h ↦ rw (le-ltb x 0x80 k, le-leb 0xC0 x l, le-leb 0xF0 x h, begun_two x h) refl
+    ]
+  ]
+]
+
+lane_counts : (x : ℕ) → cond (top 7 (bit_or (lane (ltb x 0x80)) (lane (leb 0xC0 x)))) 1 0 + cond (top 7 (lane (leb 0xF0 x))) 1 0 ≡ units_begun x
+lane_counts x = rw (either (ltb x 0x80) (leb 0xC0 x), alone (leb 0xF0 x)) (lane_count x)
+
+pub counts_are : (n : ℕ) (xs : List ℕ) → length xs ≡ n → counts n xs ≡ map units_begun xs
+counts_are n [] e = refl
+counts_are zero (x ∷ xs) e = absurd (omega arith)
+counts_are (suc n) (x ∷ xs) e = λ i. lane_counts x i ∷ counts_are n xs (omega arith) i
+
+small : (n : ℕ) (ms : List Bool) → Each1 (λ a. a ≤ 1) (ones n ms)
+small n [] = tt
+small zero (m ∷ ms) = tt
+small (suc n) (true ∷ ms) = (omega arith, small n ms)
+small (suc n) (false ∷ ms) = (omega arith, small n ms)
+
+-- the sums of lanes fit a byte
+pub lanes_fit : (n : ℕ) (ms ks : List Bool) → Each2 (λ a b. Fits w8 (a + b)) (ones n ms) (ones n ks)
+lanes_fit n ms ks =
+    Each2-of (λ a. a ≤ 1) (λ b. b ≤ 1) (λ a b. Fits w8 (a + b)) (λ a b h k. record { fits = omega arith }) (ones n ms) (ones n ks) (small n ms) (small n ks)
+
+at_most_two : (xs : List ℕ) → Each1 (λ a. a ≤ 2) (map units_begun xs)
+at_most_two [] = tt
+at_most_two (x ∷ xs) = (begun_most x, at_most_two xs)
+
+length_same : (xs : List ℕ) → length (map units_begun xs) ≡ length xs
+length_same [] = refl
+length_same (x ∷ xs) = ap (λ n. suc n) (length_same xs)
+
+sum_same : (xs : List ℕ) → sum_l (map units_begun xs) ≡ all_units_begun xs
+sum_same [] = refl
+sum_same (x ∷ xs) = ap (λ n. units_begun x + n) (sum_same xs) ∙ sym (sum_by-cons units_begun x xs)
+
+-- so does the sum of all lanes
+pub sum_fits_byte : (n : ℕ) (xs : List ℕ) → n ≤ 64 → length xs ≡ n → Steps (λ s x. Fits w8 (s + x)) (λ s x. s + x) 0 (counts n xs)
+sum_fits_byte n xs h e =
+    let bound = sum_bound 2 (map units_begun xs) (at_most_two xs) in
+    rw (counts_are n xs e) (sum_fits w8 0 (map units_begun xs) (omega (arith, length_same xs)))
+
+pub sum_is : (n : ℕ) (xs : List ℕ) → length xs ≡ n → fold_l (λ s x. s + x) 0 (counts n xs) ≡ all_units_begun xs
+sum_is n xs e =
+    let added : fold_l (λ s x. s + x) 0 (map units_begun xs) ≡ all_units_begun xs = omega (arith, fold-sum 0 (map units_begun xs), sum_same xs) in
+    ap (fold_l (λ s x. s + x) 0) (counts_are n xs e) ∙ added

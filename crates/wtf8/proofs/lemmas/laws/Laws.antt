@@ -1,0 +1,377 @@
+-- The laws of positions, ASCII bytes, strings, and lists of building calls.
+use Rattle.wtf8.proofs.Common.{ℕ, List, [], ◌++◌, length, refl, ap, ◌∙◌, sym, subst, arith, append_assoc, length-append, append-nil, append_cancel_left, units}
+use Rattle.wtf8.proofs.Common.{bytes, Reads, IsForm, IsBoundary, ◌≡◌, ◌≢◌, ◌<◌, ◌+◌, ◌-◌, ◌/◌, ◌%◌, inl, ◌∷◌, get_or, drop_at, All-cons, All-drop, All-head, All-nil}
+use Rattle.wtf8.proofs.Common.{All, encoding, IsFront, IsBack, slice_get, Some, zero, suc, ◌≤◌, inr, cases_lt, chunk, length-chunk, get_or-chunk, ◌↔◌, glue}
+use Rattle.wtf8.proofs.Common.{AreScalar, view_units, view_form, Wtf8, Result, Ok, Err, OnOk, OnErr, AppendsUnits, KeepsContents, GainsUnits, FitsUnits, UnitString}
+use Rattle.wtf8.proofs.Common.{◌⊎◌, All-tail, IsUnit, IsWellFormed, Step, Run, Build, Reserve, Truncate, TruncateUnits, IsNoTruncation}
+use Rattle.std.proofs.Common.{slice_index}
+use Rattle.std.proofs.lemmas.List.{append_cancel_right}
+use Rattle.std.proofs.lemmas.List.Elements.{All-from_get_or, All-pop, All-same}
+use Rattle.wtf8.specs.Appending.{FitWithin}
+use Rattle.wtf8.specs.Building.{RunsOnce, RunsAddUp, LeavesReserved}
+use Rattle.wtf8.specs.Laws.{FrontAndBackAreWhole}
+use Rattle.wtf8.specs.PositionLaws.{StartIsBoundary, EndIsBoundary, NoneIsBeyondEnd, FrontBoundariesAreOfWhole, WholeBoundariesAreOfFront, WholeBoundariesAreOfBack}
+use Rattle.wtf8.specs.PositionLaws.{BackBoundariesAreOfWhole, BeginningsAreNoLonger, BothAreNoLonger, ListsHaveLengths, AsciiStandsAlone, AsciiIsOneUnit}
+use Rattle.wtf8.specs.PositionLaws.{AsciiIsNoOtherUnit}
+use Rattle.wtf8.specs.StringLaws.{EqualBuffersHaveEqualUnits, EqualBufferAndViewHaveEqualUnits, EqualViewsHaveEqualUnits, StringsAreJoined, StringsArePaired}
+use Rattle.wtf8.specs.StringLaws.{TextsAreScalar, RoomLeftIsFound, ScalarsStay, FormsAreOfBuffers, FormsAreOfViews, WhatFitsIsFound}
+use Rattle.wtf8.specs.SurrogateSearch.{HasLane}
+use Rattle.wtf8.proofs.lemmas.numbers.Encoding.{bytes-append, bytes-pushed, row_of, one, two, three, four, Begins}
+use Rattle.wtf8.proofs.lemmas.numbers.Readings.{well_formed_of, reads_same, same_form, units-append, units_bounds, points_bounds, units_one, units_two}
+use Rattle.wtf8.proofs.lemmas.numbers.Readings.{units-cons_one, same_reading}
+use Rattle.wtf8.proofs.lemmas.strings.Concatenation.{equal_forms, form-glue, form_paired, form_apart, one_form, units_read, at_last, before, parted_more}
+use Rattle.wtf8.proofs.lemmas.strings.Gains.{beginning, both_length, scalar_text}
+use Rattle.wtf8.proofs.lemmas.strings.Positions.{Cut, cut_at, begun, same_front, front_reads, back_reads, front_boundary, boundary_from_byte, first_behind}
+use Rattle.wtf8.proofs.lemmas.strings.Positions.{byte_from_boundary}
+use Rattle.wtf8.proofs.lemmas.strings.Surrogates.{lossy-scalar}
+
+-- Proofs of the laws of positions and lengths.
+
+pub start_is_boundary : StartIsBoundary
+start_is_boundary w u f = record { front = []; back = f.points; splits = record { reads = f.reads; front_len = refl } }
+
+pub end_is_boundary : EndIsBoundary
+end_is_boundary w u f = record {
+  front = f.points;
+  back = [];
+  splits = record { reads = subst (λ c. Reads c u) (sym (append-nil f.points)) f.reads; front_len = ap length f.encoded };
+}
+
+-- a boundary of units as one of the form's own reading
+own_boundary : {w u : List ℕ} (f : IsForm w u) (k : ℕ) → IsBoundary u k → Cut w (well_formed_of f) k
+own_boundary f k b = cut_at (well_formed_of f) k (subst (λ v. IsBoundary v k) (sym f.reads.same_units) b)
+
+pub none_is_beyond : NoneIsBeyondEnd
+none_is_beyond w u k f b = (own_boundary f k b).within
+
+pub front_in_whole : FrontBoundariesAreOfWhole
+front_in_whole u v k m x b =
+    let whole = ap (λ c. c ++ x.back) (reads_same (front_reads x) b.splits.reads) ∙ append_assoc b.front b.back x.back in
+    record { front = b.front; back = b.back ++ x.back; splits = record { reads = subst (λ c. Reads c u) whole x.splits.reads; front_len = b.splits.front_len } }
+
+pub whole_in_front : WholeBoundariesAreOfFront
+whole_in_front u v k m x h b =
+    let more = begun b.front b.back x.front x.back (reads_same b.splits.reads x.splits.reads) (omega (arith, b.splits.front_len, x.splits.front_len)) in
+    let reads = subst (λ c. Reads c v) more.joined (front_reads x) in
+    record { front = b.front; back = more.more; splits = record { reads = reads; front_len = b.splits.front_len } }
+
+pub whole_in_back : WholeBoundariesAreOfBack
+whole_in_back u v k m x b =
+    let whole = reads_same x.splits.reads b.splits.reads in
+    let more = begun x.front x.back b.front b.back whole (omega (arith, b.splits.front_len, x.splits.front_len)) in
+    let behind = append_cancel_left x.front x.back (more.more ++ b.back) (whole ∙ ap (λ f. f ++ b.back) more.joined ∙ append_assoc x.front more.more b.back) in
+    let long = simp (bytes-append, length-append) at (ap (λ c. length (bytes c)) more.joined) in
+    record {
+      front = more.more;
+      back = b.back;
+      splits = record { reads = subst (λ c. Reads c v) behind (back_reads x); front_len = omega (arith, b.splits.front_len, x.splits.front_len, long) };
+    }
+
+pub back_in_whole : BackBoundariesAreOfWhole
+back_in_whole u v k m x b =
+    let whole = ap (λ c. x.front ++ c) (reads_same (back_reads x) b.splits.reads) ∙ sym (append_assoc x.front b.front b.back) in
+    let long = ap length (bytes-append x.front b.front) ∙ length-append (bytes x.front) (bytes b.front) in
+    record {
+      front = x.front ++ b.front;
+      back = b.back;
+      splits = record { reads = subst (λ c. Reads c u) whole x.splits.reads; front_len = omega (arith, long, x.splits.front_len, b.splits.front_len) };
+    }
+
+-- the units before a boundary and those from it on are the whole
+pub front_and_back : FrontAndBackAreWhole
+front_and_back u a b k x y =
+    let front = same_front u k a (units y.front) x (record { front = y.front; back = y.back; splits = y.splits; same_units = refl }) in
+    ap (λ v. v ++ b) front ∙ (ap (λ v. units y.front ++ v) (sym y.same_units) ∙ (sym (units-append y.front y.back) ∙ y.splits.reads.same_units))
+
+pub beginnings : BeginningsAreNoLonger
+beginnings w x u v f g =
+    let b = beginning u v x g in omega (arith, b.within, ap length (same_form b.whole w u b.form f))
+
+pub both_no_longer : BothAreNoLonger
+both_no_longer w v x a b f g h = (both_length f g h).most
+
+pub lengths : ListsHaveLengths
+lengths c =
+    let u = units_bounds c in
+    let p = points_bounds c in
+    record { points = p.units_least; units_least = u.at_least; units_most = u.at_most; bytes_most = p.at_most }
+
+-- Proofs of the laws of bytes below 80: each is a code point and a unit by itself.
+
+-- a byte below 80 as a code point and a unit, with what is in front of it and behind it
+record Stands (u : List ℕ) (k b : ℕ) : Type 0 where
+  front : List ℕ
+  back : List ℕ
+  from_it : IsBack u k (b ∷ back)
+  to_it : IsFront u (k + 1) (front ++ b ∷ [])
+  whole : front ++ b ∷ back ≡ u
+
+-- a code point whose first byte is below 80 is that number
+own_byte : (p : ℕ) (r : List ℕ) → get_or (encoding p ++ r) 0 0 < 0x80 → (encoding p ≡ p ∷ []) × (p < 0x80)
+own_byte p r h = elim (row_of p) [
+  | one l e ↦ (e, l)
+  | two l _ e ↦ absurd (omega (arith, rw e at h))
+  | three l _ e ↦ absurd (omega (arith, rw e at h))
+  | four l e ↦ absurd (omega (arith, rw e at h))
+]
+
+stands : (front back u : List ℕ) → Reads (front ++ back) u → length (bytes front) < length (bytes (front ++ back))
+    → get_or (bytes (front ++ back)) (length (bytes front)) 0 < 0x80 → Stands u (length (bytes front)) (get_or (bytes (front ++ back)) (length (bytes front)) 0)
+stands front [] u r h low = absurd (omega (arith, ap (λ c. length (bytes c)) (append-nil front)))
+stands front (p ∷ b) u r h low =
+    let at : get_or (bytes (front ++ p ∷ b)) (length (bytes front)) 0 ≡ get_or (encoding p ++ bytes b) 0 0 = first_behind front p b in
+    let own = own_byte p (bytes b) (omega (arith, at)) in
+    let here : get_or (bytes (front ++ p ∷ b)) (length (bytes front)) 0 ≡ p = at ∙ ap (λ e. get_or (e ++ bytes b) 0 0) own.0 in
+    let unit = units_one p (omega (arith, own.1)) in
+    subst (λ x. Stands u (length (bytes front)) x) (sym here) (record {
+      front = units front;
+      back = units b;
+      from_it = record { front = front; back = p ∷ b; splits = record { reads = r; front_len = refl }; same_units = ap (λ v. v ++ units b) unit };
+      to_it = record {
+        front = front ++ p ∷ [];
+        back = b;
+        splits = record { reads = rw append_assoc r; front_len = simp (bytes-pushed, length-append, own.0) };
+        same_units = units-append front (p ∷ []) ∙ ap (λ v. units front ++ (v ++ [])) unit;
+      };
+      whole = ap (λ v. units front ++ (v ++ units b)) (sym unit) ∙ (sym (units-append front (p ∷ b)) ∙ r.same_units);
+    })
+
+ascii_stands : {w u : List ℕ} (form : IsForm w u) (k : ℕ) → k < length w → get_or w k 0 < 0x80 → Stands u k (get_or w k 0)
+ascii_stands {w} {u} form k h low =
+    let own = well_formed_of form in
+    let c = cut_at own k (boundary_from_byte own k (omega arith) (λ _. record { start = inl low })) in
+    let whole : bytes (c.front ++ c.back) ≡ w = ap bytes (sym c.points) ∙ form.encoded in
+    let len = c.splits.front_len in
+    let reads : Reads (c.front ++ c.back) u = subst (λ d. Reads d u) c.points form.reads in
+    let byte : get_or (bytes (c.front ++ c.back)) (length (bytes c.front)) 0 ≡ get_or w k 0 = cc (whole, len) in
+    let x = stands c.front c.back u reads (omega (arith, len, ap length whole)) (omega (arith, byte)) in
+    subst (λ n. Stands u n (get_or w k 0)) len (subst (λ b. Stands u (length (bytes c.front)) b) byte x)
+
+pub ascii_alone : AsciiStandsAlone
+ascii_alone w u k form h low =
+    let s = ascii_stands form k h low in
+    let from = s.from_it in (record { front = from.front; back = from.back; splits = from.splits }, front_boundary s.to_it)
+
+pub ascii_one_unit : AsciiIsOneUnit
+ascii_one_unit w u f g k form h low front back =
+    let s = ascii_stands form k h low in
+    let same_front = append_cancel_right f s.front (get_or w k 0 ∷ s.back) (front_and_back u f _ k front s.from_it ∙ sym s.whole) in
+    let same_back = append_cancel_left (s.front ++ get_or w k 0 ∷ []) g s.back
+    (front_and_back u _ g (k + 1) s.to_it back ∙ (sym s.whole ∙ sym (append_assoc s.front (get_or w k 0 ∷ []) s.back))) in
+    sym s.whole ∙ (ap (λ v. v ++ get_or w k 0 ∷ s.back) (sym same_front) ∙ ap (λ v. f ++ get_or w k 0 ∷ v) (sym same_back))
+
+-- a number below 80 that is none of the bytes is none of the units of the code points
+none_of_points : (c : List ℕ) (b : ℕ) → b < 0x80 → All (λ x. x ≢ b) (bytes c) → All (λ x. x ≢ b) (units c)
+none_of_points [] b l h = All-nil (λ x. x ≢ b)
+none_of_points (p ∷ c) b l h =
+    let P : ℕ → Type 0 = λ x. x ≢ b in
+    let rest : All P (bytes c) = subst (All P) (drop_at (encoding p) (bytes c) (length (encoding p)) refl)
+    (All-drop P (length (encoding p)) (encoding p ++ bytes c) h) in
+    let behind = none_of_points c b l rest in
+    elim (row_of p) [
+      | one m e ↦ rw (units_one p (omega arith)) (All-cons P p (units c) (All-head P p (bytes c) (rw e at h)) behind)
+      | two m n e ↦ rw (units_one p (omega arith)) (All-cons P p (units c) (λ (q : p ≡ b). omega (arith, q)) behind)
+      | three m n e ↦ rw (units_one p (omega arith)) (All-cons P p (units c) (λ (q : p ≡ b). omega (arith, q)) behind)
+      | four m e ↦
+          let lead = 0xD800 + (p - 0x10000) / 0x400 in
+          let trail = 0xDC00 + (p - 0x10000) % 0x400 in
+          rw (units_two p m) (All-cons P lead (trail ∷ units c) (λ (q : lead ≡ b). omega (arith, q))
+          (All-cons P trail (units c) (λ (q : trail ≡ b). omega (arith, q)) behind))
+    ]
+
+pub ascii_no_other_unit : AsciiIsNoOtherUnit
+ascii_no_other_unit w u b form l h =
+    subst (All (λ x. x ≢ b)) form.reads.same_units (none_of_points form.points b l (subst (All (λ x. x ≢ b)) (sym form.encoded) h))
+
+-- behind ASCII alone each byte is a unit
+pub ascii_unit : (c : List ℕ) (k : ℕ) → ((j : ℕ) → j < k + 1 → get_or (bytes c) j 0 < 0x80) → k < length (bytes c) → slice_get (units c) k ≡ Some (get_or (bytes c) k 0)
+ascii_unit [] k low long = absurd (omega (arith, long))
+ascii_unit (p ∷ c) zero low long =
+    let own = own_byte p (bytes c) (low 0 (omega arith)) in
+    ap (λ u. slice_get u 0) (units-cons_one p c (omega (arith, own.1))) ∙ ap (λ e. Some (get_or (e ++ bytes c) 0 0)) (sym own.0)
+ascii_unit (p ∷ c) (suc k) low long =
+    let own = own_byte p (bytes c) (low 0 (omega arith)) in
+    let whole : bytes (p ∷ c) ≡ p ∷ bytes c = ap (λ e. e ++ bytes c) own.0 in
+    let behind = ascii_unit c k (λ j l. omega (arith, low (suc j) (omega (arith, l)), ap (λ w. get_or w (suc j) 0) whole)) (omega (arith, long, ap length whole)) in
+    ap (λ u. slice_get u (suc k)) (units-cons_one p c (omega (arith, own.1))) ∙ (behind ∙ ap (λ w. Some (get_or w (suc k) 0)) (sym whole))
+
+-- the bytes of a block that has no lane from 80 on are below
+pub below_lanes : (n : ℕ) (w : List ℕ) → n ≤ length w → ¬ (HasLane 0x80 (chunk 0 n w)) → (j : ℕ) → j < n → get_or w j 0 < 0x80
+below_lanes n w room none j l =
+    let start : 0 + j ≡ j = omega arith in
+    let lane = get_or-chunk 0 n w j 0 l ∙ ap (λ i. get_or w i 0) start in
+    elim (cases_lt (get_or w j 0) 0x80) [
+      | inl low ↦ low
+      | inr high ↦ absurd (none (j, (omega (arith, length-chunk 0 n w (omega (arith, room)), l), omega (arith, lane, high))))
+    ]
+
+-- Proofs of the laws of strings as contracts see them.
+
+pub equal_buffers : EqualBuffersHaveEqualUnits
+equal_buffers s t = equal_forms s.bytes t.bytes s.units t.units s.form t.form
+
+pub equal_buffer_and_view : EqualBufferAndViewHaveEqualUnits
+equal_buffer_and_view s t = equal_forms s.bytes t.bytes.now s.units (view_units t) s.form (view_form t)
+
+pub equal_views : EqualViewsHaveEqualUnits
+equal_views s t = equal_forms s.bytes.now t.bytes.now (view_units s) (view_units t) (view_form s) (view_form t)
+
+pub strings_joined : StringsAreJoined
+strings_joined s t both e n =
+    same_form both.bytes (s.bytes ++ t.bytes) both.units both.form (subst (IsForm (s.bytes ++ t.bytes)) (sym e)
+    (form_apart s.bytes t.bytes s.units t.units s.form t.form n))
+
+pub strings_paired : StringsArePaired
+strings_paired s t both e m =
+    same_form both.bytes _ both.units both.form (subst (IsForm _) (sym e) (form_paired s.bytes t.bytes s.units t.units s.form t.form m))
+
+pub texts_scalar : TextsAreScalar
+texts_scalar w u = scalar_text u
+
+pub room_left : RoomLeftIsFound
+room_left s w v f h =
+    let whole = bytes (glue s.form.points f.points) in
+    let form : IsForm whole (s.units ++ v) = form-glue s.bytes w s.units v s.form f in
+    record { whole = whole; form = form; within = omega (arith, both_no_longer s.bytes w whole s.units v s.form f form) }
+
+pub scalars_stay : ScalarsStay
+scalars_stay = lossy-scalar
+
+pub forms_of_buffers : FormsAreOfBuffers
+forms_of_buffers s w u form e = same_form s.bytes w u (subst (IsForm s.bytes) e s.form) form
+
+pub forms_of_views : FormsAreOfViews
+forms_of_views t w u form e = same_form t.bytes.now w u (subst (IsForm t.bytes.now) e (view_form t)) form
+
+pub what_fits : WhatFitsIsFound
+what_fits s v n fit h = room_left s fit.whole v fit.form (omega (arith, fit.within, h))
+
+-- a reading is of scalar values exactly where each reading of its units is
+pub scalar_in_each_reading : (c u : List ℕ) → Reads c u → AreScalar c ↔ ((d : List ℕ) → Reads d u → AreScalar d)
+scalar_in_each_reading c u r = (λ s d x. subst AreScalar (same_reading c d r.clean x.clean (r.same_units ∙ sym x.same_units)) s, λ h. h c r)
+
+-- a number below 80 that is none of a view's bytes is none of its units
+pub no_ascii_unit : (t : Wtf8) (b : ℕ) → b < 0x80 → ((j : ℕ) → j < length t.bytes.now → slice_index t.bytes.now j ≢ b) → All (λ x. x ≢ b) (view_units t)
+no_ascii_unit t b l h = ascii_no_other_unit t.bytes.now (view_units t) b (view_form t) l (All-from_get_or (λ x. x ≢ b) t.bytes.now 0 (λ i m e. h i m e))
+
+-- What an appending call says in bytes, by what it says in units.
+
+module _ {T E : Type 0} where
+  -- the length grows by that of the form of what is appended at most
+  pub grows_at_most : (r : Result T E) (was : UnitString) {old : List ℕ} (new w v : List ℕ) → old ≡ was.bytes → IsForm w v →
+      OnOk r (GainsUnits old new v) → OnOk r (length new ≤ length was.bytes + length w)
+  grows_at_most (Ok _) was new w v e form ok =
+      both_no_longer was.bytes w new was.units v was.form form (ok was.units (subst (λ b. IsForm b was.units) (sym e) was.form))
+  grows_at_most (Err _) was new w v e form ok = tt
+
+  -- no units appended, or a refusal, leave the contents
+  pub nothing_appended : (r : Result T E) (old new : UnitString) (v : List ℕ) → v ≡ [] →
+      OnOk r (AppendsUnits old v new) → OnErr r (KeepsContents old new) → KeepsContents old new
+  nothing_appended (Ok _) old new v e ok err =
+      let same = ok ∙ (ap (λ x. old.units ++ x) e ∙ append-nil old.units) in record { units = same; bytes = (equal_buffers new old).1 same }
+  nothing_appended (Err _) old new v e ok err = err
+
+-- units fit whose form is no longer than the room that is left
+pub fits_left : (was : UnitString) {old : List ℕ} (w v : List ℕ) (n : ℕ) → old ≡ was.bytes → IsForm w v → length was.bytes + length w ≤ n → FitsUnits old v n
+fits_left was w v n e form h =
+    let room = room_left (record { units = was.units; bytes = was.bytes; form = was.form; capacity = n; fits = omega arith }) w v form h in
+    let before = subst (λ b. IsForm b was.units) (sym e) was.form in
+    record { units = was.units; whole = room.whole; before = before; after = room.form; within = omega (arith, room.within) }
+
+-- A list of building calls has exactly one outcome and one count of refused truncations.
+
+-- a list has units alone or not
+units_or_not : (u : List ℕ) → All IsUnit u ⊎ (All IsUnit u → ⊥)
+units_or_not [] = inl (All-nil IsUnit)
+units_or_not (x ∷ u) = elim (cases_lt x 0x10000) [
+  | inl h ↦ elim (units_or_not u) [ inl s ↦ inl (All-cons IsUnit x u (omega arith) s) | inr n ↦ inr (λ s. n (All-tail IsUnit x u s)) ]
+  | inr h ↦ inr (λ s. omega (arith, All-head IsUnit x u s))
+]
+
+begins_or_not : (b : ℕ) → Begins b ⊎ (Begins b → ⊥)
+begins_or_not b = elim (cases_lt b 0x80) [
+  | inl h ↦ inl (record { start = inl h })
+  | inr h ↦ elim (cases_lt b 0xC0) [ inl k ↦ inr (λ s. omega (arith, s.start)) | inr k ↦ inl (record { start = inr k }) ]
+]
+
+-- a position is a boundary of the form or not
+cut_or_not : {w : List ℕ} (h : IsWellFormed w) (k : ℕ) → IsBoundary (units h.points) k ⊎ (IsBoundary (units h.points) k → ⊥)
+cut_or_not {w} h k = elim (cases_lt k (length w)) [
+  | inl l ↦ elim (begins_or_not (get_or w k 0)) [
+    | inl s ↦ inl (boundary_from_byte h k (omega arith) (λ _. s))
+    | inr n ↦ inr (λ b. n (byte_from_boundary h k b l))
+  ]
+  | inr l ↦ elim (cases_lt (length w) k) [
+    | inl m ↦ inr (λ b. omega (arith, (cut_at h k b).within))
+    | inr m ↦ inl (boundary_from_byte h k m (λ x. absurd (omega arith)))
+  ]
+]
+
+boundary_of_form : {w u : List ℕ} (f : IsForm w u) (k : ℕ) → IsBoundary u k ⊎ (IsBoundary u k → ⊥)
+boundary_of_form f k = elim (cut_or_not (well_formed_of f) k) [
+  | inl b ↦ inl (subst (λ v. IsBoundary v k) f.reads.same_units b)
+  | inr n ↦ inr (λ b. n (subst (λ v. IsBoundary v k) (sym f.reads.same_units) b))
+]
+
+boundary_or_not : (u : List ℕ) (k : ℕ) → IsBoundary u k ⊎ (IsBoundary u k → ⊥)
+boundary_or_not u k = elim (units_or_not u) [
+  | inl s ↦ boundary_of_form (one_form u s).has k
+  | inr n ↦ inr (λ b. n (units_read (b.front ++ b.back) u b.splits.reads))
+]
+
+-- one outcome of one call
+record StepsOnce (u : List ℕ) (call : Build) : Type 0 where
+  outcome : List ℕ
+  count : ℕ
+  goes : Step u call outcome count
+  no_other : (v : List ℕ) (r : ℕ) → Step u call v r → (v ≡ outcome) × (r ≡ count)
+
+step_once : (u : List ℕ) (call : Build) → StepsOnce u call
+step_once u (Truncate k) = elim (boundary_or_not u k) [
+  | inl b ↦
+      let f : IsFront u k (units b.front) = record { front = b.front; back = b.back; splits = b.splits; same_units = refl } in
+      record { outcome = _; count = _; goes = inl (f, refl); no_other = λ v r s. elim s [ inl x ↦ (same_front u k v _ x.0 f, x.1) | inr n ↦ absurd (n.0 b) ] }
+  | inr n ↦
+      record { outcome = _; count = _; goes = inr (n, refl, refl); no_other = λ v r s. elim s [ inl x ↦ absurd (n (front_boundary x.0)) | inr m ↦ (m.1, m.2) ] }
+]
+step_once u (TruncateUnits n) = elim (cases_lt (length u) n) [
+  | inl h ↦
+      record { outcome = _; count = _; goes = inr (h, refl, refl); no_other = λ v r s. elim s [ inl x ↦ absurd (omega (arith, x.0, h)) | inr x ↦ (x.1, x.2) ] }
+  | inr h ↦
+      record { outcome = _; count = _; goes = inl (h, refl, refl); no_other = λ v r s. elim s [ inl x ↦ (x.1, x.2) | inr x ↦ absurd (omega (arith, x.0, h)) ] }
+]
+step_once u call = record { outcome = _; count = _; goes = (refl, refl); no_other = λ v r s. s }
+
+-- one run behind another
+pub runs_add : RunsAddUp
+runs_add u mid v [] back m n x y = subst (λ k. Run u back v k) (let same : n ≡ m + n = omega (arith, x.1) in same) (subst (λ w. Run w back v n) x.0 y)
+runs_add u mid v (call ∷ front) back m n x y = (x.0, x.1, x.2 + n, x.3, runs_add x.0 mid v front back x.2 n x.4 y, omega (arith, x.5))
+
+pub run_once : (u : List ℕ) (calls : List Build) → RunsOnce u calls
+run_once u [] = record { outcome = u; count = 0; goes = (refl, refl); no_other = λ v n r. r }
+run_once u (call ∷ calls) =
+    let first = step_once u call in
+    let rest = run_once first.outcome calls in
+    record {
+      outcome = rest.outcome;
+      count = first.count + rest.count;
+      goes = (first.outcome, first.count, rest.count, first.goes, rest.goes, refl);
+      no_other = λ v n r.
+          let same = first.no_other r.0 r.1 r.3 in
+          let ends = rest.no_other v r.2 (subst (λ m. Run m calls v r.2) same.0 r.4) in
+          (ends.0, omega (arith, r.5, same.1, ends.1));
+    }
+
+-- one call more: the room that it asks for is there, and that of the calls before it is kept where it does not truncate
+pub reserved_more : {u now : List ℕ} {calls : List Build} {call : Build} {capacity larger : ℕ} (n : ℕ) → LeavesReserved u calls capacity → Run u calls now n
+    → (IsNoTruncation call → capacity ≤ larger) → ((m : ℕ) → call ≡ Reserve m → FitWithin now m larger) → LeavesReserved u (calls ++ call ∷ []) larger
+reserved_more {u} {now} {calls} {call} {capacity} {larger} n f ran grows here front back m v r e none run = elim (parted_more calls call front (Reserve m) back e) [
+  | at_last same last ↦
+      let once = run_once u calls in
+      let outcome = (once.no_other now n ran).0 ∙ sym (once.no_other v r (subst (λ c. Run u c v r) (sym same) run)).0 in
+      subst (λ w. FitWithin w m larger) outcome (here m last)
+  | before rest same behind ↦
+      let all = All-pop IsNoTruncation (rest ++ call ∷ []) rest (Some call) refl (All-same IsNoTruncation (rest ++ call ∷ []) back (sym behind) none) in
+      let found = f front rest m v r same all.0 run in
+      record { whole = found.whole; form = found.form; within = omega (arith, found.within, grows all.1) }
+]

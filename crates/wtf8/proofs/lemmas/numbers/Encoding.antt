@@ -1,0 +1,151 @@
+-- The bytes of a code point, of a list of code points, and what a first byte says.
+use Rattle.wtf8.proofs.Common.{◌≡◌, ℕ, zero, suc, ◌+◌, ◌/◌, ◌%◌, ◌<◌, ◌≤◌, ◌⊎◌, inl, inr, List, [], ◌∷◌, ◌++◌, length, get_or, refl, sym, ap, ◌∙◌, arith, lt-ltb}
+use Rattle.wtf8.proofs.Common.{le-ltb, cases_lt, append-nil, flat_map-append, IsSurrogate, bytes, encoding_is_encode, ◌-◌, ◌*◌, subst, IsCodePoint, encoding}
+use Rattle.wtf8.proofs.Common.{BeginsWithPoint}
+use Rattle.std.proofs.Math.Nat.{div-div-eq-div-mul}
+use Rattle.std.proofs.lemmas.Str.{encode_same}
+use Rattle.wtf8.specs.Form.{encoding}
+
+-- The encoding of code points: its bytes in each row of the table, its length, and which bytes begin one.
+
+abbrev second_row : ℕ → List ℕ
+second_row p = (0xC0 + p / 64) ∷ (0x80 + p % 64) ∷ []
+
+abbrev pub third_row : ℕ → List ℕ
+third_row p = (0xE0 + p / 4096) ∷ (0x80 + p / 64 % 64) ∷ (0x80 + p % 64) ∷ []
+
+abbrev fourth_row : ℕ → List ℕ
+fourth_row p = (0xF0 + p / 262144) ∷ (0x80 + p / 4096 % 64) ∷ (0x80 + p / 64 % 64) ∷ (0x80 + p % 64) ∷ []
+
+pub encoding_one : (p : ℕ) → p < 0x80 → encoding p ≡ p ∷ []
+unfolding encoding
+encoding_one p h = rw (lt-ltb p 0x80 h) refl
+
+pub encoding_two : (p : ℕ) → 0x80 ≤ p → p < 0x800 → encoding p ≡ second_row p
+unfolding encoding
+encoding_two p l h = rw (le-ltb p 0x80 l, lt-ltb p 0x800 h) refl
+
+pub encoding_three : (p : ℕ) → 0x800 ≤ p → p < 0x10000 → encoding p ≡ third_row p
+unfolding encoding
+encoding_three p l h = rw (le-ltb p 0x80 (omega arith), le-ltb p 0x800 l, lt-ltb p 0x10000 h) refl
+
+pub encoding_four : (p : ℕ) → 0x10000 ≤ p → encoding p ≡ fourth_row p
+unfolding encoding
+encoding_four p l = rw (le-ltb p 0x80 (omega arith), le-ltb p 0x800 (omega arith), le-ltb p 0x10000 l) refl
+
+-- which row of the table a code point is in
+pub data Row (p : ℕ) : Type 0 where
+  one : p < 0x80 → encoding p ≡ p ∷ [] → Row p
+  two : 0x80 ≤ p → p < 0x800 → encoding p ≡ second_row p → Row p
+  three : 0x800 ≤ p → p < 0x10000 → encoding p ≡ third_row p → Row p
+  four : 0x10000 ≤ p → encoding p ≡ fourth_row p → Row p
+
+pub row_of : (p : ℕ) → Row p
+row_of p = elim (cases_lt p 0x80) [
+  | inl h ↦ one h (encoding_one p h)
+  | inr l ↦ elim (cases_lt p 0x800) [
+    | inl h ↦ two l h (encoding_two p l h)
+    | inr m ↦ elim (cases_lt p 0x10000) [ inl h ↦ three m h (encoding_three p m h) | inr n ↦ four n (encoding_four p n) ]
+  ]
+]
+
+-- the first byte is below 80 or at least C0
+pub record Begins (b : ℕ) : Type 0 where
+  pub start : (b < 0x80) ⊎ (0xC0 ≤ b)
+
+pub first-encoding : (p : ℕ) (r : List ℕ) → Begins (get_or (encoding p ++ r) 0 0)
+first-encoding p r = elim (row_of p) [
+  | one h e ↦ rw e (record { start = inl h })
+  | two l h e ↦ rw e (record { start = inr (omega arith) })
+  | three l h e ↦ rw e (record { start = inr (omega arith) })
+  | four l e ↦ rw e (record { start = inr (omega arith) })
+]
+
+-- each byte is from 80 to BF
+abbrev AreInside : List ℕ → Type 0
+AreInside [] = Unit {0}
+AreInside (x ∷ xs) = (0x80 ≤ x) × (x < 0xC0) × AreInside xs
+
+inside_at : (xs r : List ℕ) (k : ℕ) → AreInside xs → k < length xs → (0x80 ≤ get_or (xs ++ r) k 0) × (get_or (xs ++ r) k 0 < 0xC0)
+inside_at [] r k t h = absurd (omega arith)
+inside_at (x ∷ xs) r zero t h = (t.0, t.1)
+inside_at (x ∷ xs) r (suc k) t h = inside_at xs r k t.2 (omega arith)
+
+-- the bytes behind the first are from 80 to BF
+pub inside-encoding : (p k : ℕ) (r : List ℕ) → suc k < length (encoding p)
+    → (0x80 ≤ get_or (encoding p ++ r) (suc k) 0) × (get_or (encoding p ++ r) (suc k) 0 < 0xC0)
+inside-encoding p k r l = elim (row_of p) [
+  | one h e ↦ absurd (omega (arith, ap length e))
+  | two _ h e ↦ let m = rw e at l in rw e (inside_at ((0x80 + p % 64) ∷ []) r k (omega arith, omega arith, tt) (omega arith))
+  | three _ h e ↦ let m = rw e at l in rw e (inside_at ((0x80 + p / 64 % 64) ∷ (0x80 + p % 64) ∷ []) r k
+      (omega arith, omega arith, (omega arith, omega arith, tt)) (omega arith))
+  | four _ e ↦ let m = rw e at l in rw e (inside_at ((0x80 + p / 4096 % 64) ∷ (0x80 + p / 64 % 64) ∷ (0x80 + p % 64) ∷ []) r k
+      (omega arith, omega arith, (omega arith, omega arith, (omega arith, omega arith, tt))) (omega arith))
+]
+
+pub length-encoding_bounds : (p : ℕ) → (1 ≤ length (encoding p)) × (length (encoding p) ≤ 4)
+length-encoding_bounds p = elim (row_of p) [
+  | one h e ↦ rw e (omega arith, omega arith)
+  | two l h e ↦ rw e (omega arith, omega arith)
+  | three l h e ↦ rw e (omega arith, omega arith)
+  | four l e ↦ rw e (omega arith, omega arith)
+]
+
+pub length-surrogate : (p : ℕ) → IsSurrogate p → length (encoding p) ≡ 3
+length-surrogate p s = ap length (encoding_three p (omega arith) (omega arith))
+
+-- the bytes of a list, and of one with a code point more
+pub bytes-append : (c d : List ℕ) → bytes (c ++ d) ≡ bytes c ++ bytes d
+bytes-append c d = flat_map-append encoding c d
+
+pub bytes-pushed : (c : List ℕ) (p : ℕ) → bytes (c ++ p ∷ []) ≡ bytes c ++ encoding p
+bytes-pushed c p = bytes-append c (p ∷ []) ∙ ap (λ w. bytes c ++ w) (append-nil (encoding p))
+
+-- no encoding begins another
+pub encoding_same : (p q : ℕ) (r s : List ℕ) → encoding p ++ r ≡ encoding q ++ s → (p ≡ q) × (r ≡ s)
+encoding_same p q r s e = encode_same p q r s (ap (λ x. x ++ r) (sym (encoding_is_encode p)) ∙ (e ∙ ap (λ x. x ++ s) (encoding_is_encode q)))
+
+-- What the first bytes of an encoding say of the code point.
+
+-- what the first bytes of a code point's encoding say of it
+pub record Front (w : List ℕ) (p n : ℕ) : Type 0 where
+  pub nonempty : 0 < length w
+  pub one : get_or w 0 0 < 0x80 → (p ≡ get_or w 0 0) × (n ≡ 1)
+  pub two : 0x80 ≤ get_or w 0 0 → get_or w 0 0 < 0xE0 → (0xC0 ≤ get_or w 0 0) × (1 < length w) × (0x80 ≤ get_or w 1 0)
+      × (p ≡ (get_or w 0 0 - 0xC0) * 64 + (get_or w 1 0 - 0x80)) × (n ≡ 2)
+  pub three : 0xE0 ≤ get_or w 0 0 → get_or w 0 0 < 0xF0 → (2 < length w) × (0x80 ≤ get_or w 1 0) × (0x80 ≤ get_or w 2 0)
+      × (p ≡ ((get_or w 0 0 - 0xE0) * 64 + (get_or w 1 0 - 0x80)) * 64 + (get_or w 2 0 - 0x80)) × (n ≡ 3)
+  pub four : 0xF0 ≤ get_or w 0 0 → (3 < length w) × (0x80 ≤ get_or w 1 0) × (0x80 ≤ get_or w 2 0) × (0x80 ≤ get_or w 3 0)
+      × (p ≡ (((get_or w 0 0 - 0xF0) * 64 + (get_or w 1 0 - 0x80)) * 64 + (get_or w 2 0 - 0x80)) * 64 + (get_or w 3 0 - 0x80)) × (n ≡ 4)
+
+sixty_fours : (p : ℕ) → (p / 64 / 64 ≡ p / 4096) × (p / 4096 / 64 ≡ p / 262144)
+sixty_fours p = (div-div-eq-div-mul p 64 64, div-div-eq-div-mul p 4096 64)
+
+pub front-encoding : (p : ℕ) (r : List ℕ) → IsCodePoint p → Front (encoding p ++ r) p (length (encoding p))
+front-encoding p r range =
+    let d = sixty_fours p in
+    elim (row_of p) [
+      | one h e ↦ rw e (record { nonempty = omega arith; one = grind arith; two = grind arith; three = grind arith; four = grind arith })
+      | two l h e ↦ rw e (record { nonempty = omega arith; one = grind arith; two = grind arith; three = grind arith; four = grind arith })
+      | three l h e ↦ rw e (record { nonempty = omega arith; one = grind arith; two = grind arith; three = grind arith; four = grind arith })
+      | four l e ↦ rw e (record { nonempty = omega arith; one = grind arith; two = grind arith; three = grind arith; four = grind arith })
+    ]
+
+pub front_of : {w : List ℕ} (b : BeginsWithPoint w) → Front w b.point (length (encoding b.point))
+front_of {w} b = subst (λ (v : List ℕ). Front v b.point (length (encoding b.point))) (sym b.encoded) (front-encoding b.point b.rest b.in_range)
+
+-- an encoding of at most three bytes is of one unit
+pub one_unit : (p : ℕ) → length (encoding p) ≤ 3 → p < 0x10000
+one_unit p h = elim (row_of p) [ one l e ↦ omega arith | two _ l e ↦ omega arith | three _ l e ↦ l | four l e ↦ absurd (omega (arith, ap length e)) ]
+
+-- the lead of a supplementary code point by its first three bytes
+abbrev pub LeadRead : List ℕ → ℕ → Type 0
+LeadRead w p = 0xD7C0 + ((get_or w 0 0 - 0xF0) * 64 + (get_or w 1 0 - 0x80)) * 4 + (get_or w 2 0 - 0x80) / 16 ≡ 0xD800 + (p - 0x10000) / 0x400
+
+pub lead_read : (p : ℕ) (r : List ℕ) → 0xF0 ≤ get_or (encoding p ++ r) 0 0 → LeadRead (encoding p ++ r) p
+lead_read p r g = elim (row_of p) [
+  | one l e ↦ absurd (omega (arith, rw e at g))
+  | two _ l e ↦ absurd (omega (arith, rw e at g))
+  | three _ l e ↦ absurd (omega (arith, rw e at g))
+  | four l e ↦ rw e (omega arith)
+]

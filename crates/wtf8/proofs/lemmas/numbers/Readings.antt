@@ -1,0 +1,305 @@
+-- Code points and their units, leads that meet trails, and the one list of code points that reads given units.
+use Rattle.wtf8.proofs.Common.{◌≡◌, ℕ, ◌⊎◌, inl, inr, List, [], ◌∷◌, ◌++◌, drop, get_or, length, true, ◌&&◌, leb, refl, sym, ap, ◌∙◌, subst, arith, length-append}
+use Rattle.wtf8.proofs.Common.{leb-true, le-leb, and_parts, cases_Bool, false≢true, same_from_push, IsLead, IsTrail, MeetsAsPair, ◌+◌, ◌-◌, ◌*◌, ◌/◌, ◌%◌, ◌<◌, ◌≤◌}
+use Rattle.wtf8.proofs.Common.{lt-ltb, le-ltb, cases_lt, append-nil, flat_map-append, units, pair, encoding, bytes, IsCodePoint, IsClean, drop_all, drop_at}
+use Rattle.wtf8.proofs.Common.{bytes-injective, Reads, IsWellFormed, IsForm, BeginsWithPoint, length-drop, drop-drop}
+use Rattle.wtf8.specs.Concatenation.{is_pair}
+use Rattle.wtf8.specs.Unicode.{units_of}
+use Rattle.wtf8.proofs.lemmas.numbers.Encoding.{row_of, one, two, three, four, length-encoding_bounds}
+
+-- Where a lead ends one list and a trail begins another, and where they do not meet so.
+
+pub pair_true : (l t : ℕ) → IsLead l → IsTrail t → is_pair l t ≡ true
+unfolding is_pair
+pair_true l t h k = rw (le-leb 0xD800 l h.0, le-leb l 0xDBFF h.1, le-leb 0xDC00 t k.0, le-leb t 0xDFFF k.1) refl
+
+pub true_pair : (l t : ℕ) → is_pair l t ≡ true → IsLead l × IsTrail t
+unfolding is_pair
+true_pair l t e =
+    let both = and_parts (leb 0xD800 l && leb l 0xDBFF) (leb 0xDC00 t && leb t 0xDFFF) e in
+    let lead = and_parts (leb 0xD800 l) (leb l 0xDBFF) both.0 in
+    let trail = and_parts (leb 0xDC00 t) (leb t 0xDFFF) both.1 in
+    ((leb-true 0xD800 l lead.0, leb-true l 0xDBFF lead.1), (leb-true 0xDC00 t trail.0, leb-true t 0xDFFF trail.1))
+
+-- lists that are known to end and to begin so
+abbrev pub meets_by : {c d : List ℕ} (f r : List ℕ) (l t : ℕ) → IsLead l → IsTrail t → c ≡ f ++ l ∷ [] → d ≡ t ∷ r → MeetsAsPair c d
+meets_by f r l t h k e g = record { front = f; lead = l; trail = t; rest = r; is_lead = h; is_trail = k; ends = e; begins = g }
+
+-- lists that equal two that meet
+abbrev pub meets_same : {a b c d : List ℕ} → MeetsAsPair a b → c ≡ a → d ≡ b → MeetsAsPair c d
+meets_same m e g = meets_by m.front m.rest m.lead m.trail m.is_lead m.is_trail (e ∙ m.ends) (g ∙ m.begins)
+
+pub meets_behind : (p : ℕ) {c d : List ℕ} → MeetsAsPair c d → MeetsAsPair (p ∷ c) d
+meets_behind p m = meets_by (p ∷ m.front) m.rest m.lead m.trail m.is_lead m.is_trail (ap (λ e. p ∷ e) m.ends) m.begins
+
+-- nothing meets an empty list, nor a list that ends in no lead or begins with no trail
+pub nothing_ends : {d : List ℕ} → ¬ (MeetsAsPair [] d)
+nothing_ends m = omega (arith, ap length m.ends, length-append m.front (m.lead ∷ []))
+
+pub nothing_begins : {c : List ℕ} → ¬ (MeetsAsPair c [])
+nothing_begins m = omega (arith, ap length m.begins)
+
+pub no_lead : (f : List ℕ) (p : ℕ) {d : List ℕ} → ¬ (IsLead p) → ¬ (MeetsAsPair (f ++ p ∷ []) d)
+no_lead f p n m = n (subst IsLead (sym (same_from_push f m.front p m.lead m.ends).1) m.is_lead)
+
+pub no_trail : {c : List ℕ} (p : ℕ) (r : List ℕ) → ¬ (IsTrail p) → ¬ (MeetsAsPair c (p ∷ r))
+no_trail p r n m = n (subst IsTrail (sym (ap (λ w. get_or w 0 0) m.begins)) m.is_trail)
+
+pub meeting_numbers : (p q : ℕ) (d : List ℕ) → MeetsAsPair (p ∷ []) (q ∷ d) → is_pair p q ≡ true
+meeting_numbers p q d m =
+    let last = (same_from_push [] m.front p m.lead m.ends).1 in
+    pair_true p q (subst IsLead (sym last) m.is_lead) (subst IsTrail (sym (ap (λ w. get_or w 0 0) m.begins)) m.is_trail)
+
+without_first : (p q : ℕ) (c f : List ℕ) (l : ℕ) → p ∷ q ∷ c ≡ f ++ l ∷ [] → (g : List ℕ) × (q ∷ c ≡ g ++ l ∷ [])
+without_first p q c [] l e = absurd (omega (arith, ap length e))
+without_first p q c (x ∷ f) l e = (f, ap (drop 1) e)
+
+pub meets_before : (p q : ℕ) (c d : List ℕ) → MeetsAsPair (p ∷ q ∷ c) d → MeetsAsPair (q ∷ c) d
+meets_before p q c d m =
+    let s = without_first p q c m.front m.lead m.ends in meets_by s.0 m.rest m.lead m.trail m.is_lead m.is_trail s.1 m.begins
+
+-- two lists meet as a pair, or they do not
+pub meets_or_apart : (c d : List ℕ) → MeetsAsPair c d ⊎ ¬ (MeetsAsPair c d)
+meets_or_apart [] d = inr nothing_ends
+meets_or_apart (p ∷ []) [] = inr nothing_begins
+meets_or_apart (p ∷ []) (q ∷ d) = elim (cases_Bool (is_pair p q)) [
+  | inl e ↦ let h = true_pair p q e in inl (meets_by [] d p q h.0 h.1 refl refl)
+  | inr e ↦ inr (λ m. false≢true (sym e ∙ meeting_numbers p q d m))
+]
+meets_or_apart (p ∷ q ∷ c) d = elim (meets_or_apart (q ∷ c) d) [ inl m ↦ inl (meets_behind p m) | inr n ↦ inr (λ m. n (meets_before p q c d m)) ]
+
+-- The units of code points: one below 10000 and two from there on.
+
+pub units_one : (p : ℕ) → p < 0x10000 → units_of p ≡ p ∷ []
+unfolding units_of
+units_one p h = rw (lt-ltb p 0x10000 h) refl
+
+-- the two units of a supplementary code point
+abbrev pub lead_of : ℕ → ℕ
+lead_of p = 0xD800 + (p - 0x10000) / 0x400
+
+abbrev pub trail_of : ℕ → ℕ
+trail_of p = 0xDC00 + (p - 0x10000) % 0x400
+
+pub units_two : (p : ℕ) → 0x10000 ≤ p → units_of p ≡ lead_of p ∷ trail_of p ∷ []
+unfolding units_of
+units_two p h = rw (le-ltb p 0x10000 h) refl
+
+pub units_pair : (l t : ℕ) → IsLead l → IsTrail t → units_of (pair l t) ≡ l ∷ t ∷ []
+units_pair l t h k = units_two (pair l t) (omega arith) ∙ (ap (λ a. a ∷ trail_of (pair l t) ∷ []) (omega arith) ∙ ap (λ b. l ∷ b ∷ []) (omega arith))
+
+pub units-cons_one : (p : ℕ) (c : List ℕ) → p < 0x10000 → units (p ∷ c) ≡ p ∷ units c
+units-cons_one p c h = ap (λ u. u ++ units c) (units_one p h)
+
+pub units-cons_two : (p : ℕ) (c : List ℕ) → 0x10000 ≤ p → units (p ∷ c) ≡ lead_of p ∷ trail_of p ∷ units c
+units-cons_two p c h = ap (λ u. u ++ units c) (units_two p h)
+
+pub units-append : (c d : List ℕ) → units (c ++ d) ≡ units c ++ units d
+units-append c d = flat_map-append units_of c d
+
+pub units-pushed : (c : List ℕ) (p : ℕ) → units (c ++ p ∷ []) ≡ units c ++ units_of p
+units-pushed c p = units-append c (p ∷ []) ∙ ap (λ u. units c ++ u) (append-nil (units_of p))
+
+-- the number of units against the number of bytes
+pub record Bounds (u w : ℕ) : Type 0 where
+  pub at_least : u ≤ w
+  pub at_most : w ≤ 3 * u
+
+bounds_of : (p : ℕ) → Bounds (length (units_of p)) (length (encoding p))
+bounds_of p = elim (row_of p) [
+  | one h e ↦ rw (e, units_one p (omega arith)) (record { at_least = omega arith; at_most = omega arith })
+  | two _ h e ↦ rw (e, units_one p (omega arith)) (record { at_least = omega arith; at_most = omega arith })
+  | three _ h e ↦ rw (e, units_one p h) (record { at_least = omega arith; at_most = omega arith })
+  | four l e ↦ rw (e, units_two p l) (record { at_least = omega arith; at_most = omega arith })
+]
+
+pub units_bounds : (c : List ℕ) → Bounds (length (units c)) (length (bytes c))
+units_bounds [] = record { at_least = omega arith; at_most = omega arith }
+units_bounds (p ∷ c) =
+    let b = bounds_of p in
+    let r = units_bounds c in
+    rw (length-append (units_of p) (units c), length-append (encoding p) (bytes c)) (record { at_least = omega arith; at_most = omega arith })
+
+-- code points against bytes and units: one to four bytes each, and one or two units
+pub record PointBounds (n w u : ℕ) : Type 0 where
+  pub at_least : n ≤ w
+  pub at_most : w ≤ 4 * n
+  pub units_least : n ≤ u
+  pub units_most : u ≤ w
+
+one_or_two : (p : ℕ) → (1 ≤ length (units_of p)) × (length (units_of p) ≤ length (encoding p))
+one_or_two p = elim (cases_lt p 0x10000) [
+  | inl h ↦ (omega (arith, ap length (units_one p h)), (bounds_of p).at_least)
+  | inr h ↦ (omega (arith, ap length (units_two p h)), (bounds_of p).at_least)
+]
+
+pub points_bounds : (c : List ℕ) → PointBounds (length c) (length (bytes c)) (length (units c))
+points_bounds [] = record { at_least = omega arith; at_most = omega arith; units_least = omega arith; units_most = omega arith }
+points_bounds (p ∷ c) =
+    let r = points_bounds c in
+    let e = length-encoding_bounds p in
+    let u = one_or_two p in
+    rw (length-append (units_of p) (units c), length-append (encoding p) (bytes c))
+    (record { at_least = omega arith; at_most = omega arith; units_least = omega arith; units_most = omega arith })
+
+-- Clean lists of code points, cut and joined.
+
+pub clean-first : (p : ℕ) (c : List ℕ) → IsClean (p ∷ c) → IsCodePoint p
+clean-first p [] x = x
+clean-first p (q ∷ c) x = x.0
+
+pub clean-rest : (p : ℕ) (c : List ℕ) → IsClean (p ∷ c) → IsClean c
+clean-rest p [] x = tt
+clean-rest p (q ∷ c) x = x.2
+
+pub clean-front : (c d : List ℕ) → IsClean (c ++ d) → IsClean c
+clean-front [] d x = tt
+clean-front (p ∷ []) [] x = x
+clean-front (p ∷ []) (q ∷ d) x = x.0
+clean-front (p ∷ q ∷ c) d x = (x.0, x.1, clean-front (q ∷ c) d x.2)
+
+pub clean-back : (c d : List ℕ) → IsClean (c ++ d) → IsClean d
+clean-back [] d x = x
+clean-back (p ∷ c) d x = clean-back c d (clean-rest p (c ++ d) x)
+
+pub clean-append : (c d : List ℕ) → IsClean c → IsClean d → ¬ (MeetsAsPair c d) → IsClean (c ++ d)
+clean-append [] d x y n = y
+clean-append (p ∷ []) [] x y n = x
+clean-append (p ∷ []) (q ∷ d) x y n = (x, λ h. n (meets_by [] d p q h.0 h.1 refl refl), y)
+clean-append (p ∷ q ∷ c) d x y n = (x.0, x.1, clean-append (q ∷ c) d x.2 y (λ m. n (meets_behind p m)))
+
+-- no lead and trail meet where a clean list is divided
+pub clean-apart : (c d : List ℕ) → IsClean (c ++ d) → ¬ (MeetsAsPair c d)
+clean-apart [] d x m = nothing_ends m
+clean-apart (p ∷ []) [] x m = nothing_begins m
+clean-apart (p ∷ []) (q ∷ d) x m = x.1 (true_pair p q (meeting_numbers p q d m))
+clean-apart (p ∷ q ∷ c) d x m = clean-apart (q ∷ c) d x.2 (meets_before p q c d m)
+
+-- Each list of units has one reading at most and one form at most, and bytes determine code points and units.
+
+pub same_heads : (p q : ℕ) (r s : List ℕ) → p ∷ r ≡ q ∷ s → (p ≡ q) × (r ≡ s)
+same_heads p q r s e = (ap (λ w. get_or w 0 0) e, ap (drop 1) e)
+
+units_nonempty : (p : ℕ) (c : List ℕ) → 0 < length (units (p ∷ c))
+units_nonempty p c =
+    elim (cases_lt p 0x10000) [ inl h ↦ omega (arith, ap length (units-cons_one p c h)) | inr h ↦ omega (arith, ap length (units-cons_two p c h)) ]
+
+-- where a trail is the first unit it is the first code point
+pub trail_first : (p : ℕ) (c : List ℕ) (t : ℕ) (r : List ℕ) → IsClean (p ∷ c) → units (p ∷ c) ≡ t ∷ r → IsTrail t → p ≡ t
+trail_first p c t r x e h = elim (cases_lt p 0x10000) [
+  | inl l ↦ (same_heads p t (units c) r (sym (units-cons_one p c l) ∙ e)).0
+  | inr l ↦
+      let range = clean-first p c x in
+      let same = (same_heads (lead_of p) t (trail_of p ∷ units c) r (sym (units-cons_two p c l) ∙ e)).0 in
+      absurd (omega arith)
+]
+
+-- a code point of one unit and one of two never begin readings of the same units
+apart : (p q : ℕ) (c d : List ℕ) → IsClean (p ∷ c) → IsClean (q ∷ d) → p < 0x10000 → 0x10000 ≤ q → units (p ∷ c) ≡ units (q ∷ d) → ⊥
+apart p q [] d x y l h e = omega (arith, ap length (sym (units-cons_one p [] l) ∙ (e ∙ units-cons_two q d h)))
+apart p q (s ∷ c) d x y l h e =
+    let range = clean-first q d y in
+    let heads = same_heads p (lead_of q) (units (s ∷ c)) (trail_of q ∷ units d) (sym (units-cons_one p (s ∷ c) l) ∙ (e ∙ units-cons_two q d h)) in
+    let first = trail_first s c (trail_of q) (units d) x.2 heads.1 (omega arith, omega arith) in
+    x.1 ((omega (arith, heads.0), omega (arith, heads.0)), (omega (arith, first), omega (arith, first)))
+
+pub same_reading : (c d : List ℕ) → IsClean c → IsClean d → units c ≡ units d → c ≡ d
+same_reading [] [] x y e = refl
+same_reading [] (q ∷ d) x y e = absurd (omega (arith, ap length e, units_nonempty q d))
+same_reading (p ∷ c) [] x y e = absurd (omega (arith, ap length e, units_nonempty p c))
+same_reading (p ∷ c) (q ∷ d) x y e = elim (cases_lt p 0x10000) [
+  | inl h ↦ elim (cases_lt q 0x10000) [
+    | inl k ↦
+        let parts = same_heads p q (units c) (units d) (sym (units-cons_one p c h) ∙ (e ∙ units-cons_one q d k)) in
+        ap (λ n. n ∷ c) parts.0 ∙ ap (λ r. q ∷ r) (same_reading c d (clean-rest p c x) (clean-rest q d y) parts.1)
+    | inr k ↦ absurd (apart p q c d x y h k e)
+  ]
+  | inr h ↦ elim (cases_lt q 0x10000) [
+    | inl k ↦ absurd (apart q p d c y x k h (sym e))
+    | inr k ↦
+        let leads = same_heads (lead_of p) (lead_of q) (trail_of p ∷ units c) (trail_of q ∷ units d)
+        (sym (units-cons_two p c h) ∙ (e ∙ units-cons_two q d k)) in
+        let trails = same_heads (trail_of p) (trail_of q) (units c) (units d) leads.1 in
+        let same : p ≡ q = omega (arith, leads.0, trails.0) in
+        ap (λ n. n ∷ c) same ∙ ap (λ r. q ∷ r) (same_reading c d (clean-rest p c x) (clean-rest q d y) trails.1)
+  ]
+]
+
+pub reads_same : {c d u : List ℕ} → Reads c u → Reads d u → c ≡ d
+reads_same {c} {d} x y = same_reading c d x.clean y.clean (x.same_units ∙ sym y.same_units)
+
+-- equal units have equal forms
+pub same_form : (w v u : List ℕ) → IsForm w u → IsForm v u → w ≡ v
+same_form w v u x y = sym x.encoded ∙ ap bytes (reads_same x.reads y.reads) ∙ y.encoded
+
+-- well-formed bytes are the form of the units of their code points
+abbrev pub form_of : {w : List ℕ} (h : IsWellFormed w) → IsForm w (units h.points)
+form_of h = record { points = h.points; reads = record { clean = h.clean; same_units = refl }; encoded = h.encoded }
+
+abbrev pub well_formed_of : {w u : List ℕ} → IsForm w u → IsWellFormed w
+well_formed_of f = record { points = f.points; clean = f.reads.clean; encoded = f.encoded }
+
+-- bytes are the form of one list of units at most
+pub units_from_form : (w a b : List ℕ) → IsForm w a → IsForm w b → a ≡ b
+units_from_form w a b x y = sym x.reads.same_units ∙ (ap units (bytes-injective x.points y.points (x.encoded ∙ sym y.encoded)) ∙ y.reads.same_units)
+
+-- what is well-formed has one reading
+pub same_points : {w v : List ℕ} (x : IsWellFormed w) (y : IsWellFormed v) → w ≡ v → x.points ≡ y.points
+same_points x y e = bytes-injective x.points y.points (x.encoded ∙ (e ∙ sym y.encoded))
+
+-- no bytes are the form of no units
+abbrev pub empty_form : IsWellFormed []
+empty_form = record { points = []; clean = tt; encoded = refl }
+
+-- a string of no bytes has no code points
+pub no_points : {w : List ℕ} (h : IsWellFormed w) → length w ≡ 0 → h.points ≡ []
+no_points h e = same_points h empty_form (drop_all 0 _ (omega arith))
+
+-- the first code point of a string, and what is behind it
+pub record FirstOf (c w : List ℕ) : Type 0 where
+  pub begins : BeginsWithPoint w
+  pub rest : List ℕ
+  pub points : c ≡ begins.point ∷ rest
+  pub clean : IsClean rest
+  pub encoded : bytes rest ≡ begins.rest
+
+first_by : (c w : List ℕ) → IsClean c → bytes c ≡ w → 0 < length w → FirstOf c w
+first_by [] w x e n = absurd (omega (arith, ap length e))
+first_by (p ∷ c) w x e n = record {
+  begins = record { point = p; rest = bytes c; in_range = clean-first p c x; encoded = sym e };
+  rest = c;
+  points = refl;
+  clean = clean-rest p c x;
+  encoded = refl;
+}
+
+pub first_of : {w : List ℕ} (h : IsWellFormed w) → 0 < length w → FirstOf h.points w
+first_of {w} h n = first_by h.points w h.clean h.encoded n
+
+-- bytes from a position on without the code point that was read there
+pub record Taken (v : List ℕ) (at : ℕ) (h : IsWellFormed (drop at v)) (p behind : ℕ) : Type 0 where
+  pub within : behind ≤ length v
+  pub rest : IsWellFormed (drop behind v)
+  pub joined : h.points ≡ p ∷ rest.points
+
+pub taken : (v : List ℕ) (at : ℕ) (h : IsWellFormed (drop at v)) (p behind : ℕ) → at < length v
+    → ((q : ℕ) (r : List ℕ) → IsCodePoint q → drop at v ≡ encoding q ++ r → (p ≡ q) × (behind ≡ at + length (encoding q))) → Taken v at h p behind
+taken v at h p behind long read =
+    let f = first_of h (omega (arith, length-drop at v)) in
+    let b = f.begins in
+    let n = length (encoding b.point) in
+    let was = read b.point b.rest b.in_range b.encoded in
+    let back : drop behind v ≡ b.rest =
+    ap (λ k. drop k v) was.1 ∙ (sym (drop-drop n at v) ∙ (ap (drop n) b.encoded ∙ drop_at (encoding b.point) b.rest n refl)) in
+    record {
+      within = omega (arith, was.1, ap length b.encoded, length-append (encoding b.point) b.rest, length-drop at v);
+      rest = record { points = f.rest; clean = f.clean; encoded = f.encoded ∙ sym back };
+      joined = f.points ∙ ap (λ q. q ∷ f.rest) (sym was.0);
+    }
+
+-- bytes that equal well-formed ones have their code points
+abbrev pub empty_at : {w : List ℕ} → w ≡ [] → IsWellFormed w
+empty_at e = record { points = []; clean = tt; encoded = sym e }
+
+abbrev pub moved : {v w : List ℕ} → IsWellFormed v → w ≡ v → IsWellFormed w
+moved h e = record { points = h.points; clean = h.clean; encoded = h.encoded ∙ sym e }

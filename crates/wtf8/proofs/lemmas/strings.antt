@@ -1,0 +1,5 @@
+pub mod Concatenation
+pub mod Gains
+pub mod Positions
+pub mod Surrogates
+pub mod UnitCuts

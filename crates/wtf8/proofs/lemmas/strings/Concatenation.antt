@@ -1,0 +1,257 @@
+-- Strings put together: the form of what is appended to a form, with a pair joined where they meet.
+use Rattle.wtf8.proofs.Common.{◌≡◌, ℕ, inl, inr, List, [], ◌∷◌, ◌++◌, refl, sym, ap, ◌∙◌, subst, arith, append_assoc, cases_Bool, append-nil, IsLead, IsTrail, units}
+use Rattle.wtf8.proofs.Common.{units_of, pair, IsClean, Reads, MeetsAsPair, is_pair, glue, ◌+◌, ◌-◌, ◌≤◌, length, take, drop, length-append, cases_lt, take_at}
+use Rattle.wtf8.proofs.Common.{drop_at, same_from_push, bytes, encoding, IsForm, length-drop, All, All-nil, All-cons, All-head, All-tail, All-same, IsUnit}
+use Rattle.wtf8.proofs.Common.{IsCodePoint}
+use Rattle.std.proofs.Common.{◌≡◌, ℕ, ◌+◌, ◌<◌, List, [], ◌∷◌, ◌++◌, length, take, drop, get_or, refl, sym, ap, ◌∙◌, arith, length-append}
+use Rattle.std.proofs.lemmas.List.{drop_more, take_more, take-append-drop, length-take-le}
+use Rattle.std.proofs.lemmas.List.Elements.{All-append}
+use Rattle.wtf8.specs.Laws.{UnitsHaveOneReading, ReadingsAreOfUnits, UnitsHaveOneForm, FormsAreOfOneList, EqualFormsHaveEqualUnits, NoEncodingBeginsAnother}
+use Rattle.wtf8.proofs.lemmas.numbers.Encoding.{encoding_four, length-surrogate, bytes-append, bytes-pushed, encoding_same}
+use Rattle.wtf8.proofs.lemmas.numbers.Readings.{clean-append, clean-front, clean-rest, pair_true, true_pair, meets_by, meets_behind, meets_or_apart, nothing_begins}
+use Rattle.wtf8.proofs.lemmas.numbers.Readings.{no_lead, no_trail, same_reading, units_one, units_pair, same_form, trail_first, lead_of, trail_of, units_two}
+use Rattle.wtf8.proofs.lemmas.numbers.Readings.{units-pushed, clean-first, form_of, units_from_form}
+
+-- Lists of any kind: their last item, and an item at an index.
+
+-- a list is empty or has a last
+pub data Last (c : List ℕ) : Type 0 where
+  empty : c ≡ [] → Last c
+  ends : (f : List ℕ) (l : ℕ) → c ≡ f ++ l ∷ [] → Last c
+
+pub last_of : (c : List ℕ) → Last c
+last_of [] = empty refl
+last_of (p ∷ c) = elim (last_of c) [ empty e ↦ ends [] p (ap (λ d. p ∷ d) e) | ends f l e ↦ ends (p ∷ f) l (ap (λ d. p ∷ d) e) ]
+
+module _ {X : Type 0} where
+  -- a list with one item more is parted at that item or before it
+  pub data PartedMore (xs : List X) (x : X) (front : List X) (y : X) (back : List X) : Type 0 where
+    at_last : xs ≡ front → x ≡ y → PartedMore xs x front y back
+    before : (rest : List X) → xs ≡ front ++ y ∷ rest → back ≡ rest ++ x ∷ [] → PartedMore xs x front y back
+
+  pub parted_more : (xs : List X) (x : X) (front : List X) (y : X) (back : List X) → xs ++ x ∷ [] ≡ front ++ y ∷ back → PartedMore xs x front y back
+  parted_more [] x [] y back e = at_last refl (ap (λ l. get_or l 0 x) e)
+  parted_more [] x (f ∷ front) y back e = absurd (omega (arith, ap length e, length-append front (y ∷ back)))
+  parted_more (z ∷ xs) x [] y back e = before xs (ap (λ h. h ∷ xs) (ap (λ l. get_or l 0 z) e)) (sym (ap (drop 1) e))
+  parted_more (z ∷ xs) x (f ∷ front) y back e =
+      let same : z ≡ f = ap (λ l. get_or l 0 z) e in
+      elim (parted_more xs x front y back (ap (drop 1) e)) [
+        | at_last s o ↦ at_last (cc (s, same)) o
+        | before rest s b ↦ before rest (cc (s, same)) b
+      ]
+
+  -- a list before an item, the item and what is behind it
+  pub item_at : (xs : List X) (i : ℕ) (x : X) → i < length xs → x ≡ get_or xs i x → take i xs ++ x ∷ drop (i + 1) xs ≡ xs
+  item_at xs i x h e = ap (λ y. take i xs ++ y ∷ drop (i + 1) xs) e ∙ (ap (λ d. take i xs ++ d) (sym (drop_more xs i x h)) ∙ take-append-drop i xs)
+
+  pub items_more : (xs : List X) (i : ℕ) (x : X) → i < length xs → x ≡ get_or xs i x → take (i + 1) xs ≡ take i xs ++ x ∷ []
+  items_more xs i x h e = take_more xs i x h ∙ ap (λ y. take i xs ++ y ∷ []) (sym e)
+
+-- Lists of code points glued: what they are, that they stay clean, and that they have the units of both.
+
+-- the two that meet become one
+glue-pair : (f : List ℕ) (l t : ℕ) (r : List ℕ) → IsLead l → IsTrail t → glue (f ++ l ∷ []) (t ∷ r) ≡ f ++ pair l t ∷ r
+glue-pair [] l t r h k = rw (pair_true l t h k) refl
+glue-pair (p ∷ []) l t r h k = ap (λ e. p ∷ e) (glue-pair [] l t r h k)
+glue-pair (p ∷ q ∷ f) l t r h k = ap (λ e. p ∷ e) (glue-pair (q ∷ f) l t r h k)
+
+pub glue_meeting : (c d : List ℕ) (m : MeetsAsPair c d) → glue c d ≡ m.front ++ pair m.lead m.trail ∷ m.rest
+glue_meeting c d m = ap (λ x. glue x d) m.ends ∙ (ap (glue (m.front ++ m.lead ∷ [])) m.begins ∙ glue-pair m.front m.lead m.trail m.rest m.is_lead m.is_trail)
+
+-- where no two meet one list stands behind the other
+pub glue_apart : (c d : List ℕ) → ¬ (MeetsAsPair c d) → glue c d ≡ c ++ d
+glue_apart [] d n = refl
+glue_apart (p ∷ []) [] n = refl
+glue_apart (p ∷ []) (q ∷ d) n = elim (cases_Bool (is_pair p q)) [
+  | inl e ↦ let h = true_pair p q e in absurd (n (meets_by [] d p q h.0 h.1 refl refl))
+  | inr e ↦ rw e refl
+]
+glue_apart (p ∷ q ∷ c) d n = ap (λ e. p ∷ e) (glue_apart (q ∷ c) d (λ m. n (meets_behind p m)))
+
+clean-paired : (f : List ℕ) (l t : ℕ) (r : List ℕ) → IsClean (f ++ l ∷ []) → IsClean (t ∷ r) → IsLead l → IsTrail t → IsClean (f ++ pair l t ∷ r)
+clean-paired f l t r x y h k =
+    let behind = clean-append (pair l t ∷ []) r (omega arith) (clean-rest t r y) (no_lead [] (pair l t) (λ p. omega (arith, p.1))) in
+    clean-append f (pair l t ∷ r) (clean-front f (l ∷ []) x) behind (no_trail (pair l t) r (λ p. omega (arith, p.1)))
+
+clean-glue : (c d : List ℕ) → IsClean c → IsClean d → IsClean (glue c d)
+clean-glue c d x y = elim (meets_or_apart c d) [
+  | inl m ↦ subst IsClean (sym (glue_meeting c d m)) (clean-paired m.front m.lead m.trail m.rest (subst IsClean m.ends x)
+      (subst IsClean m.begins y) m.is_lead m.is_trail)
+  | inr n ↦ subst IsClean (sym (glue_apart c d n)) (clean-append c d x y n)
+]
+
+units-paired : (p q : ℕ) (d : List ℕ) → IsLead p → IsTrail q → units (pair p q ∷ d) ≡ units (p ∷ []) ++ units (q ∷ d)
+units-paired p q d h k = simp (units_pair p q h k, units_one p (omega arith), units_one q (omega arith))
+
+units-glue : (c d : List ℕ) → units (glue c d) ≡ units c ++ units d
+units-glue [] d = refl
+units-glue (p ∷ []) [] = sym (append-nil (units (p ∷ [])))
+units-glue (p ∷ []) (q ∷ d) = elim (cases_Bool (is_pair p q)) [
+  | inl e ↦ let h = true_pair p q e in rw e (units-paired p q d h.0 h.1)
+  | inr e ↦ rw e (ap (λ u. u ++ units (q ∷ d)) (sym (append-nil (units_of p))))
+]
+units-glue (p ∷ q ∷ c) d = ap (λ u. units_of p ++ u) (units-glue (q ∷ c) d) ∙ sym (append_assoc (units_of p) (units (q ∷ c)) (units d))
+
+-- two readings glued read the units of both
+pub reads-glue : (c d a b : List ℕ) → Reads c a → Reads d b → Reads (glue c d) (a ++ b)
+reads-glue c d a b x y = record { clean = clean-glue c d x.clean y.clean; same_units = cc (units-glue c d) }
+
+pub glue-nil : (c : List ℕ) → glue c [] ≡ c
+glue-nil c = glue_apart c [] nothing_begins ∙ append-nil c
+
+-- gluing is associative: both ways read the same units
+pub glue_assoc : (c d e : List ℕ) → IsClean c → IsClean d → IsClean e → glue (glue c d) e ≡ glue c (glue d e)
+glue_assoc c d e x y z =
+    let right = clean-glue c (glue d e) x (clean-glue d e y z) in
+    same_reading (glue (glue c d) e) (glue c (glue d e)) (clean-glue (glue c d) e (clean-glue c d x y) z) right (simp (units-glue, append_assoc))
+
+-- The form of the units of two lists, one behind the other: its bytes and its length.
+
+-- bytes without the lead at their end, the four bytes of the pair, and bytes without the trail at their beginning
+abbrev pub paired_bytes : List ℕ → ℕ → ℕ → List ℕ → List ℕ
+paired_bytes w l t v = (take (length w - 3) w ++ encoding (pair l t)) ++ drop 3 v
+
+-- the bytes of two lists that meet: those before the lead, and those behind the trail
+pub record MeetingBytes (w v front rest : List ℕ) : Type 0 where
+  pub three : 3 ≤ length w
+  pub three_behind : 3 ≤ length v
+  pub before : take (length w - 3) w ≡ bytes front
+  pub behind : drop 3 v ≡ bytes rest
+
+pub meeting_bytes : {w v c d : List ℕ} (m : MeetsAsPair c d) → bytes c ≡ w → bytes d ≡ v → MeetingBytes w v m.front m.rest
+meeting_bytes {w} {v} m e g =
+    let front : w ≡ bytes m.front ++ encoding m.lead = sym e ∙ (ap bytes m.ends ∙ bytes-pushed m.front m.lead) in
+    let back : v ≡ encoding m.trail ++ bytes m.rest = sym g ∙ ap bytes m.begins in
+    let lead : length (encoding m.lead) ≡ 3 = length-surrogate m.lead (omega (arith, m.is_lead), omega (arith, m.is_lead)) in
+    let trail : length (encoding m.trail) ≡ 3 = length-surrogate m.trail (omega (arith, m.is_trail), omega (arith, m.is_trail)) in
+    let long : length w ≡ length (bytes m.front) + 3 = cc (ap length front, length-append (bytes m.front) (encoding m.lead)) in
+    record {
+      three = omega (arith, long);
+      three_behind = omega (arith, ap length back, length-append (encoding m.trail) (bytes m.rest), trail);
+      before = ap (take (length w - 3)) front ∙ take_at (bytes m.front) (encoding m.lead) (length w - 3) (omega (arith, long));
+      behind = ap (drop 3) back ∙ drop_at (encoding m.trail) (bytes m.rest) 3 trail;
+    }
+
+-- the bytes of two lists glued
+pub bytes_paired : {w v : List ℕ} (c d : List ℕ) (m : MeetsAsPair c d) → bytes c ≡ w → bytes d ≡ v → bytes (glue c d) ≡ paired_bytes w m.lead m.trail v
+bytes_paired {w} {v} c d m e g =
+    let s = meeting_bytes m e g in simp (glue_meeting c d m, bytes-append, s.before, s.behind, append_assoc)
+
+pub bytes_apart : {w v : List ℕ} (c d : List ℕ) → ¬ (MeetsAsPair c d) → bytes c ≡ w → bytes d ≡ v → bytes (glue c d) ≡ w ++ v
+bytes_apart {w} {v} c d n e g = simp (glue_apart c d n, bytes-append, e, g)
+
+-- a pair has one byte more than its lead, and two less than both
+pub length-joined : (w : List ℕ) (l t : ℕ) → IsLead l → IsTrail t → 3 ≤ length w → length (take (length w - 3) w ++ encoding (pair l t)) ≡ length w + 1
+length-joined w l t lead trail n =
+    length-append (take (length w - 3) w) (encoding (pair l t))
+    ∙ omega (arith, length-take-le (length w - 3) w (omega arith), ap length (encoding_four (pair l t) (omega arith)))
+
+pub length-paired_bytes : (w v : List ℕ) (l t : ℕ) → IsLead l → IsTrail t → 3 ≤ length w → 3 ≤ length v
+    → length (paired_bytes w l t v) + 2 ≡ length w + length v
+length-paired_bytes w v l t lead trail m n =
+    omega (arith, length-append (take (length w - 3) w ++ encoding (pair l t)) (drop 3 v), length-joined w l t lead trail m, length-drop 3 v)
+
+pub form-glue : (w v a b : List ℕ) (x : IsForm w a) (y : IsForm v b) → IsForm (bytes (glue x.points y.points)) (a ++ b)
+form-glue w v a b x y = record { points = glue x.points y.points; reads = reads-glue x.points y.points a b x.reads y.reads; encoded = refl }
+
+-- the form of both, where their code points meet, and where they do not
+pub form_meeting : {w v a b : List ℕ} (x : IsForm w a) (y : IsForm v b) (m : MeetsAsPair x.points y.points) → IsForm (paired_bytes w m.lead m.trail v) (a ++ b)
+form_meeting {w} {v} {a} {b} x y m = subst (λ z. IsForm z (a ++ b)) (bytes_paired x.points y.points m x.encoded y.encoded) (form-glue w v a b x y)
+
+pub form_behind : {w v a b : List ℕ} (x : IsForm w a) (y : IsForm v b) → ¬ (MeetsAsPair x.points y.points) → IsForm (w ++ v) (a ++ b)
+form_behind {w} {v} {a} {b} x y n = subst (λ z. IsForm z (a ++ b)) (bytes_apart x.points y.points n x.encoded y.encoded) (form-glue w v a b x y)
+
+-- where a lead is the last unit it is the last code point
+pub lead_last : (c g : List ℕ) (l : ℕ) → IsLead l → units c ≡ g ++ l ∷ [] → (f : List ℕ) × (c ≡ f ++ l ∷ [])
+lead_last c g l h e = elim (last_of c) [
+  | empty z ↦ absurd (omega (arith, ap (λ d. length (units d)) z, ap length e, length-append g (l ∷ [])))
+  | ends f p z ↦
+      let whole : units f ++ units_of p ≡ g ++ l ∷ [] = cc (units-pushed f p) in
+      elim (cases_lt p 0x10000) [
+        | inl s ↦ (f, z ∙ ap (λ n. f ++ n ∷ []) (same_from_push (units f) g p l (ap (λ u. units f ++ u) (sym (units_one p s)) ∙ whole)).1)
+        | inr s ↦
+            let two : (units f ++ lead_of p ∷ []) ++ trail_of p ∷ [] ≡ g ++ l ∷ [] = rw (append_assoc, ← units_two p s) whole in
+            absurd (omega (arith, (same_from_push (units f ++ lead_of p ∷ []) g (trail_of p) l two).1, h.1))
+      ]
+]
+
+-- where a trail is the first unit it is the first code point
+pub trail_begins : (d r : List ℕ) (t : ℕ) → IsClean d → IsTrail t → units d ≡ t ∷ r → (s : List ℕ) × (d ≡ t ∷ s)
+trail_begins [] r t x h e = absurd (omega (arith, ap length e))
+trail_begins (p ∷ d) r t x h e = (d, ap (λ n. n ∷ d) (trail_first p d t r x e h))
+
+-- the code points meet where their units do, in the same lead and trail
+abbrev pub points_meet : {c d a b : List ℕ} → Reads c a → Reads d b → MeetsAsPair a b → MeetsAsPair c d
+points_meet {c} {d} x y m =
+    let before = lead_last c m.front m.lead m.is_lead (x.same_units ∙ m.ends) in
+    let behind = trail_begins d m.rest m.trail y.clean m.is_trail (y.same_units ∙ m.begins) in
+    meets_by before.0 behind.0 m.lead m.trail m.is_lead m.is_trail before.1 behind.1
+
+pub units_meet : {c d a b : List ℕ} → Reads c a → Reads d b → MeetsAsPair c d → MeetsAsPair a b
+units_meet x y m =
+    let ends = ap units m.ends ∙ (units-pushed m.front m.lead ∙ ap (λ u. units m.front ++ u) (units_one m.lead (omega (arith, m.is_lead)))) in
+    let begins = ap units m.begins ∙ ap (λ u. u ++ units m.rest) (units_one m.trail (omega (arith, m.is_trail))) in
+    meets_by (units m.front) (units m.rest) m.lead m.trail m.is_lead m.is_trail (sym x.same_units ∙ ends) (sym y.same_units ∙ begins)
+
+-- the same where their units meet, and where they do not
+pub form_paired : (w v a b : List ℕ) → IsForm w a → IsForm v b → (m : MeetsAsPair a b) → IsForm (paired_bytes w m.lead m.trail v) (a ++ b)
+form_paired w v a b x y m = form_meeting x y (points_meet x.reads y.reads m)
+
+pub form_apart : (w v a b : List ℕ) → IsForm w a → IsForm v b → ¬ (MeetsAsPair a b) → IsForm (w ++ v) (a ++ b)
+form_apart w v a b x y n = form_behind x y (λ m. n (units_meet x.reads y.reads m))
+
+-- how long the form of both is
+pub length_paired : (w v z a b : List ℕ) → IsForm w a → IsForm v b → IsForm z (a ++ b) → MeetsAsPair a b → length z + 2 ≡ length w + length v
+length_paired w v z a b x y f m =
+    let s = meeting_bytes (points_meet x.reads y.reads m) x.encoded y.encoded in
+    let same = same_form z (paired_bytes w m.lead m.trail v) (a ++ b) f (form_paired w v a b x y m) in
+    ap (λ e. length e + 2) same ∙ length-paired_bytes w v m.lead m.trail m.is_lead m.is_trail s.three s.three_behind
+
+pub length_apart : (w v z a b : List ℕ) → IsForm w a → IsForm v b → IsForm z (a ++ b) → ¬ (MeetsAsPair a b) → length z ≡ length w + length v
+length_apart w v z a b x y f n = ap length (same_form z (w ++ v) (a ++ b) f (form_apart w v a b x y n)) ∙ length-append w v
+
+-- Proofs of the laws of readings and forms: which there are, and that there is one of each.
+
+-- a unit alone is the code point of its number
+reads_one : (n : ℕ) → IsUnit n → Reads (n ∷ []) (n ∷ [])
+reads_one n h = record { clean = omega arith; same_units = append-nil (units_of n) ∙ units_one n (omega arith) }
+
+-- the reading of a list of units: the first unit glued in front of the reading of the others
+reading : (u : List ℕ) → All IsUnit u → (c : List ℕ) × Reads c u
+reading [] h = ([], record { clean = tt; same_units = refl })
+reading (n ∷ u) h =
+    let rest = reading u (All-tail IsUnit n u h) in
+    (glue (n ∷ []) rest.0, reads-glue (n ∷ []) rest.0 (n ∷ []) u (reads_one n (All-head IsUnit n u h)) rest.1)
+
+pub one_reading : UnitsHaveOneReading
+one_reading u h =
+    let r = reading u h in
+    record { one = r.0; has = r.1; no_other = λ c x. same_reading c r.0 x.clean r.1.clean (x.same_units ∙ sym r.1.same_units) }
+
+units_in_range : (p : ℕ) → IsCodePoint p → All IsUnit (units_of p)
+units_in_range p h = elim (cases_lt p 0x10000) [
+  | inl l ↦ rw (units_one p l) (All-cons IsUnit p [] (omega arith) (All-nil IsUnit))
+  | inr l ↦ rw (units_two p l) (All-cons IsUnit (lead_of p) (trail_of p ∷ []) (omega arith) (All-cons IsUnit (trail_of p) [] (omega arith) (All-nil IsUnit)))
+]
+
+all_units : (c : List ℕ) → IsClean c → All IsUnit (units c)
+all_units [] x = All-nil IsUnit
+all_units (p ∷ c) x = All-append IsUnit (units_of p) (units c) (units_in_range p (clean-first p c x)) (all_units c (clean-rest p c x))
+
+pub units_read : ReadingsAreOfUnits
+units_read c u x = All-same IsUnit u (units c) (sym x.same_units) (all_units c x.clean)
+
+pub one_form : UnitsHaveOneForm
+one_form u h =
+    let r = reading u h in
+    let form : IsForm (bytes r.0) u = record { points = r.0; reads = r.1; encoded = refl } in
+    record { one = bytes r.0; has = form; no_other = λ w x. same_form w (bytes r.0) u x form }
+
+pub form_of_one : FormsAreOfOneList
+form_of_one w h = record { one = units h.points; has = form_of h; no_other = λ u x. units_from_form w u (units h.points) x (form_of h) }
+
+pub equal_forms : EqualFormsHaveEqualUnits
+equal_forms w v a b x y = (λ e. units_from_form v a b (subst (λ z. IsForm z a) e x) y, λ e. same_form w v b (subst (IsForm w) e x) y)
+
+pub none_begins_another : NoEncodingBeginsAnother
+none_begins_another p q r h k e = (encoding_same p q r [] (sym e ∙ sym (append-nil (encoding q)))).0

@@ -1,0 +1,283 @@
+-- What an appending call adds, where no surrogate is added, and how much room it needs.
+use Rattle.wtf8.proofs.Common.{◌≡◌, ◌+◌, ◌-◌, ◌≤◌, List, [], ◌∷◌, ℕ, ◌++◌, length, take, drop, Result, Ok, Err, OnOk, OnErr, refl, ap, ◌∙◌, sym, subst, arith}
+use Rattle.wtf8.proofs.Common.{false≢true, append-nil, drop_all, units, units_of, pair, IsLead, IsTrail, IsCodePoint, UnitString, KeepsContents, MeetsAsPair}
+use Rattle.wtf8.proofs.Common.{encoding, IsWellFormed, IsForm, GainsUnits, FitsUnits, view_units, view_form, Wtf8, inl, inr, true, chars, IsUtf8, scalars-chars}
+use Rattle.wtf8.proofs.Common.{and_parts, scalar, scalars, IsSurrogate, IsClean, bytes_are_encodes, Bool, IsTrue, bytes-injective, AreScalar, append_assoc}
+use Rattle.wtf8.proofs.Common.{length-append, All, map-append, take_at, drop_at, All-drop, All-same, Step, FindRoom, Build, Truncate, TruncateUnits, number, numbers}
+use Rattle.wtf8.proofs.Common.{glue, IsUnit, bytes}
+use Rattle.std.proofs.Common.{IsOk}
+use Rattle.std.proofs.lemmas.List.{length-map}
+use Rattle.std.proofs.lemmas.List.Elements.{All-take}
+use Rattle.std.proofs.lemmas.Str.{encodes-chars}
+use lib.Utf8.{scalar_cases}
+use Rattle.wtf8.specs.Appending.{AddsLength}
+use Rattle.wtf8.specs.Building.{FindsRoom}
+use Rattle.wtf8.specs.declared.numbers.code_point.CodePoint.{CodePoint}
+use Rattle.wtf8.proofs.lemmas.numbers.Encoding.{length-surrogate}
+use Rattle.wtf8.proofs.lemmas.numbers.Readings.{meets_by, form_of, well_formed_of, same_form, units_from_form, moved, clean-append, same_reading, same_points}
+use Rattle.wtf8.proofs.lemmas.numbers.Readings.{units-append, meets_or_apart, units_one, units_bounds, points_bounds}
+use Rattle.wtf8.proofs.lemmas.strings.Concatenation.{paired_bytes, meeting_bytes, form_meeting, form_behind, length-joined, length_paired, length_apart, one_form}
+use Rattle.wtf8.proofs.lemmas.strings.Concatenation.{units_read, bytes_paired, bytes_apart, length-paired_bytes, form-glue}
+use Rattle.wtf8.proofs.lemmas.strings.Surrogates.{scalar-middle}
+
+-- What a call that appends to bytes, or is refused, leaves of the string that holds them.
+
+-- strings of equal bytes have equal contents
+pub contents_of : (new old : UnitString) → new.bytes ≡ old.bytes → KeepsContents old new
+contents_of new old e = record { units = units_from_form new.bytes new.units old.units new.form (subst (λ w. IsForm w old.units) (sym e) old.form); bytes = e }
+
+module _ {T E : Type 0} where
+  -- what succeeded left nothing to say of a refusal
+  pub no_err : (P : Type 0) (r : Result T E) → IsOk r → OnErr r P
+  no_err P (Ok _) ok = tt
+  no_err P (Err _) ok = absurd (false≢true ok)
+
+  pub gained_or_kept : (r : Result T E) (v : List ℕ) {old new : List ℕ} → IsWellFormed old → OnOk r (GainsUnits old new v) → OnErr r (new ≡ old)
+      → IsWellFormed new
+  gained_or_kept (Ok _) v h ok err = well_formed_of (ok (units h.points) (form_of h))
+  gained_or_kept (Err _) v h ok err = subst IsWellFormed (sym err) h
+
+  pub gained_units : (r : Result T E) (v : List ℕ) {old new u : List ℕ} (h : IsWellFormed old) (k : IsWellFormed new) → units h.points ≡ u
+      → OnOk r (GainsUnits old new v) → OnOk r (units k.points ≡ u ++ v)
+  gained_units (Ok _) v {old} {new} h k e ok = units_from_form new (units k.points) _ (form_of k) (ok _ (form_of h)) ∙ ap (λ x. x ++ v) e
+  gained_units (Err _) v h k e ok = tt
+
+  -- a refusal that left the bytes left the string
+  pub kept_contents : (r : Result T E) (was old new : UnitString) → was ≡ old → OnErr r (new.bytes ≡ was.bytes) → OnErr r (KeepsContents old new)
+  kept_contents (Ok _) was old new e err = tt
+  kept_contents (Err _) was old new e err = contents_of new old (err ∙ ap (λ (s : UnitString). s.bytes) e)
+
+  -- how long the string is that a view was appended to
+  pub added_length : (r : Result T E) (was old new : UnitString) (other : Wtf8) → was ≡ old → OnOk r (GainsUnits was.bytes new.bytes (view_units other))
+      → OnOk r (AddsLength old other new)
+  added_length (Ok _) was old new other e gains =
+      let gained = gains old.units (subst (λ b. IsForm b old.units) (sym (ap (λ (s : UnitString). s.bytes) e)) old.form) in
+      record {
+        pair = length_paired old.bytes other.bytes.now new.bytes old.units (view_units other) old.form (view_form other) gained;
+        apart = length_apart old.bytes other.bytes.now new.bytes old.units (view_units other) old.form (view_form other) gained;
+      }
+  added_length (Err _) was old new other e gains = tt
+
+-- where the units fit, the bytes that gained them are within the capacity
+pub fits_length : {old new v : List ℕ} {n : ℕ} → GainsUnits old new v → FitsUnits old v n → length new ≤ n
+fits_length {old} {new} {v} gains fit = omega (arith, fit.within, ap length (same_form new fit.whole (fit.units ++ v) (gains fit.units fit.before) fit.after))
+
+-- the form of the units of the old bytes and of others says what was gained
+gains_by : {w new : List ℕ} (v : List ℕ) (h : IsWellFormed w) → IsForm new (units h.points ++ v) → GainsUnits w new v
+gains_by {w} {new} v h f u x = subst (λ a. IsForm new (a ++ v)) (units_from_form w (units h.points) u (form_of h) x) f
+
+-- well-formed bytes whose first trail joined the lead at the end, and others that came behind
+pub gains_meeting : {w v : List ℕ} (h : IsWellFormed w) (k : IsWellFormed v) (m : MeetsAsPair h.points k.points)
+    → GainsUnits w (paired_bytes w m.lead m.trail v) (units k.points)
+gains_meeting h k m = gains_by (units k.points) h (form_meeting (form_of h) (form_of k) m)
+
+pub gains_behind : {w v : List ℕ} (h : IsWellFormed w) (k : IsWellFormed v) → ¬ (MeetsAsPair h.points k.points) → GainsUnits w (w ++ v) (units k.points)
+gains_behind h k n = gains_by (units k.points) h (form_behind (form_of h) (form_of k) n)
+
+-- the bytes of one code point
+abbrev one_point : (p : ℕ) → IsCodePoint p → IsWellFormed (encoding p)
+one_point p range = record { points = p ∷ []; clean = range; encoded = append-nil (encoding p) }
+
+-- one code point that came behind
+pub gains_point : {w : List ℕ} (h : IsWellFormed w) (p : ℕ) → IsCodePoint p → ¬ (MeetsAsPair h.points (p ∷ [])) → GainsUnits w (w ++ encoding p) (units_of p)
+gains_point {w} h p range n = subst (GainsUnits w (w ++ encoding p)) (append-nil (units_of p)) (gains_behind h (one_point p range) n)
+
+-- what the bytes gain whose last code point is a lead, where a trail joins it
+pub record Joined (w : List ℕ) (l t : ℕ) : Type 0 where
+  pub three : 3 ≤ length w
+  pub gains : GainsUnits w (take (length w - 3) w ++ encoding (pair l t)) (units_of t)
+  pub longer : length (take (length w - 3) w ++ encoding (pair l t)) ≡ length w + 1
+
+pub joined : {w : List ℕ} (h : IsWellFormed w) (f : List ℕ) (l t : ℕ) → IsLead l → IsTrail t → h.points ≡ f ++ l ∷ [] → Joined w l t
+joined {w} h f l t lead trail e =
+    let k = one_point t (omega arith) in
+    let m : MeetsAsPair h.points (t ∷ []) = meets_by f [] l t lead trail e refl in
+    let three = (meeting_bytes m h.encoded k.encoded).three in
+    let pair_bytes = take (length w - 3) w ++ encoding (pair l t) in
+    let nothing : drop 3 (encoding t) ≡ [] = drop_all 3 (encoding t) (omega (arith, length-surrogate t (omega arith, omega arith))) in
+    let whole : pair_bytes ++ drop 3 (encoding t) ≡ pair_bytes = ap (λ r. pair_bytes ++ r) nothing ∙ append-nil pair_bytes in
+    let gains = subst (GainsUnits w pair_bytes) (append-nil (units_of t)) (subst (λ x. GainsUnits w x (units (t ∷ []))) whole (gains_meeting h k m)) in
+    record { three = three; gains = gains; longer = length-joined w l t lead trail three }
+
+-- A text's bytes are well-formed, and its characters are their code points.
+
+-- a scalar value is a code point and no surrogate
+pub record ScalarFacts (c : ℕ) : Type 0 where
+  pub range : IsCodePoint c
+  pub apart : ¬ (IsSurrogate c)
+
+pub scalar_facts : (c : ℕ) → scalar c ≡ true → ScalarFacts c
+scalar_facts c e = elim (scalar_cases c e) [
+  | inl l ↦ record { range = omega arith; apart = λ s. omega arith }
+  | inr h ↦ record { range = omega arith; apart = λ s. omega arith }
+]
+
+pub scalars-parts : (c : ℕ) (cs : List ℕ) → scalars (c ∷ cs) ≡ true → (scalar c ≡ true) × (scalars cs ≡ true)
+scalars-parts c cs e = and_parts (scalar c) (scalars cs) e
+
+pub clean-scalars : (cs : List ℕ) → scalars cs ≡ true → IsClean cs
+clean-scalars [] e = tt
+clean-scalars (c ∷ []) e = (scalar_facts c (scalars-parts c [] e).0).range
+clean-scalars (c ∷ d ∷ cs) e =
+    let p = scalars-parts c (d ∷ cs) e in
+    let f = scalar_facts c p.0 in
+    (f.range, (λ h. f.apart (omega (arith, h.0), omega (arith, h.0))), clean-scalars (d ∷ cs) p.1)
+
+-- a text's bytes as those of its characters
+abbrev pub well_formed_text : (w : List ℕ) → IsUtf8 w → IsWellFormed w
+well_formed_text w u = record {
+  points = chars w;
+  clean = clean-scalars (chars w) (scalars-chars w u);
+  encoded = bytes_are_encodes (chars w) ∙ encodes-chars w u;
+}
+
+abbrev pub text_at : {v w : List ℕ} → IsUtf8 v → w ≡ v → IsWellFormed w
+text_at {v} u e = moved (well_formed_text v u) e
+
+-- Code points that are scalar values, parts of them, and scalar values behind them.
+
+pub scalar-front : (c d : List ℕ) → AreScalar (c ++ d) → AreScalar c
+scalar-front [] d s = tt
+scalar-front (p ∷ c) d s = (s.0, scalar-front c d s.1)
+
+pub scalar-append : (c d : List ℕ) → AreScalar c → AreScalar d → AreScalar (c ++ d)
+scalar-append [] d s t = t
+scalar-append (p ∷ c) d s t = (s.0, scalar-append c d s.1 t)
+
+-- the characters of a text are scalar values
+pub scalar-characters : (c : List ℕ) → scalars c ≡ true → AreScalar c
+scalar-characters [] e = tt
+scalar-characters (p ∷ c) e =
+    let parts = scalars-parts p c e in
+    ((scalar_facts p parts.0).apart, scalar-characters c parts.1)
+
+pub scalar_text : {w : List ℕ} → IsUtf8 w → AreScalar (chars w)
+scalar_text {w} u = scalar-characters (chars w) (scalars-chars w u)
+
+-- scalar values end in no lead and begin with no trail
+pub scalar_apart : {c d : List ℕ} → AreScalar c → ¬ (MeetsAsPair c d)
+scalar_apart s m = scalar-middle m.front m.lead [] (subst AreScalar m.ends s) (omega (arith, m.is_lead), omega (arith, m.is_lead))
+
+pub scalar_behind : {c d : List ℕ} → AreScalar d → ¬ (MeetsAsPair c d)
+scalar_behind s m = (subst AreScalar m.begins s).0 (omega (arith, m.is_trail), omega (arith, m.is_trail))
+
+-- equal bytes have equal code points
+pub scalar_moved : {v w : List ℕ} (h : IsWellFormed v) (k : IsWellFormed w) → w ≡ v → AreScalar h.points → AreScalar k.points
+scalar_moved h k e s = subst AreScalar (sym (same_points k h e)) s
+
+module _ {T E : Type 0} where
+  -- scalar values behind scalar values are appended as they are, or the string is as before
+  pub scalar_gained : (r : Result T E) (c v : List ℕ) {old new : List ℕ} (h : IsWellFormed old) (k : IsWellFormed new) → v ≡ units c → IsClean c → AreScalar c
+      → AreScalar h.points → OnOk r (GainsUnits old new v) → OnErr r (new ≡ old) → AreScalar k.points
+  scalar_gained (Ok _) c v h k e x s t ok err =
+      let f = ok (units h.points) (form_of h) in
+      let whole : units k.points ≡ units (h.points ++ c) = cc (bytes-injective k.points f.points (cc), units-append h.points c) in
+      let same : k.points ≡ h.points ++ c = same_reading k.points (h.points ++ c) k.clean (clean-append h.points c h.clean x (scalar_apart t)) whole in
+      subst AreScalar (sym same) (scalar-append h.points c t s)
+  scalar_gained (Err _) c v h k e x s t ok err = scalar_moved h k err t
+
+  -- what a buffer holds behind a call that appends to it: well-formed bytes, without surrogates where the flag says so
+  pub known_gained : (r : Result T E) (c v : List ℕ) (known : Bool) {old new : List ℕ} (h : IsWellFormed old) → v ≡ units c → IsClean c
+      → (IsTrue known → AreScalar h.points × AreScalar c)
+      → OnOk r (GainsUnits old new v) → OnErr r (new ≡ old) → (k : IsWellFormed new) × ((IsTrue known → AreScalar k.points) × Unit {0})
+  known_gained r c v known h e x s ok err =
+      let now = gained_or_kept r v h ok err in
+      (now, (λ t. scalar_gained r c v h now e x (s t).1 (s t).0 ok err, tt))
+
+  pub known_point : (r : Result T E) (p : ℕ) (known : Bool) {old new : List ℕ} (h : IsWellFormed old) → IsCodePoint p → ¬ (IsSurrogate p)
+      → (IsTrue known → AreScalar h.points)
+      → OnOk r (GainsUnits old new (units_of p)) → OnErr r (new ≡ old) → (k : IsWellFormed new) × ((IsTrue known → AreScalar k.points) × Unit {0})
+  known_point r p known h range apart s ok err = known_gained r (p ∷ []) (units_of p) known h (sym (append-nil (units_of p))) range
+      (λ t. (s t, (apart, tt))) ok err
+
+-- Room: how long the forms of parts and of wholes are, and the room that calls find, one after another.
+
+-- between the bytes of the first with a byte for each unit of the second, and the bytes of both
+pub record GluedLength (c d : List ℕ) : Type 0 where
+  pub least : length (bytes c) + length (units d) ≤ length (bytes (glue c d))
+  pub most : length (bytes (glue c d)) ≤ length (bytes c) + length (bytes d)
+
+glued_length : (c d : List ℕ) → GluedLength c d
+glued_length c d = elim (meets_or_apart c d) [
+  | inl m ↦
+      let s = meeting_bytes m refl refl in
+      let both = ap length (bytes_paired c d m refl refl) in
+      let paired = length-paired_bytes (bytes c) (bytes d) m.lead m.trail m.is_lead m.is_trail s.three s.three_behind in
+      let three = length-surrogate m.trail (omega (arith, m.is_trail), omega (arith, m.is_trail)) in
+      let back : length (bytes d) ≡ 3 + length (bytes m.rest) = simp (m.begins, length-append, three) in
+      let own : length (units d) ≡ 1 + length (units m.rest) = simp (m.begins, length-append, units_one m.trail (omega (arith, m.is_trail))) in
+      let rest = (units_bounds m.rest).at_least in
+      record { least = omega (arith, both, paired, back, own, rest); most = omega (arith, both, paired) }
+  | inr n ↦
+      let both = ap length (bytes_apart c d n refl refl) ∙ length-append (bytes c) (bytes d) in
+      record { least = omega (arith, both, (units_bounds d).at_least); most = omega (arith, both) }
+]
+
+-- the form of both is as long as those of the parts let it be
+pub record BothLength (w v z b : List ℕ) : Type 0 where
+  pub least : length w + length b ≤ length z
+  pub most : length z ≤ length w + length v
+
+pub both_length : {w v z a b : List ℕ} → IsForm w a → IsForm v b → IsForm z (a ++ b) → BothLength w v z b
+both_length {w} {v} {z} {a} {b} x y f =
+    let n = glued_length x.points y.points in
+    let whole = ap length (same_form z (bytes (glue x.points y.points)) (a ++ b) f (form-glue w v a b x y)) in
+    let front = ap length x.encoded in
+    record { least = omega (arith, n.least, whole, front, ap length y.reads.same_units); most = omega (arith, n.most, whole, front, ap length y.encoded) }
+
+-- where all units have a form, so has each part of them, and that of the first part is no longer
+pub record Beginning (u w : List ℕ) : Type 0 where
+  pub whole : List ℕ
+  pub form : IsForm whole u
+  pub within : length whole ≤ length w
+
+all_front : (a b : List ℕ) → All IsUnit (a ++ b) → All IsUnit a
+all_front a b h = All-same IsUnit a (take (length a) (a ++ b)) (sym (take_at a b (length a) refl)) (All-take IsUnit (length a) (a ++ b) h)
+
+all_back : (a b : List ℕ) → All IsUnit (a ++ b) → All IsUnit b
+all_back a b h = All-same IsUnit b (drop (length a) (a ++ b)) (sym (drop_at a b (length a) refl)) (All-drop IsUnit (length a) (a ++ b) h)
+
+pub beginning : (a b w : List ℕ) → IsForm w (a ++ b) → Beginning a w
+beginning a b w f =
+    let all = units_read f.points (a ++ b) f.reads in
+    let front = one_form a (all_front a b all) in
+    record { whole = front.one; form = front.has; within = omega (arith, (both_length front.has (one_form b (all_back a b all)).has f).least) }
+
+-- the form with all of some code points is longer by a byte or more for each
+pub extended_length : (ps : List CodePoint) (w u y : List ℕ) → IsForm w u → IsForm y (u ++ units (numbers ps)) → length w + length ps ≤ length y
+extended_length ps w u y h k =
+    let v = units (numbers ps) in
+    let back = one_form v (all_back u v (units_read k.points (u ++ v) k.reads)) in
+    omega (arith, (both_length h back.has k).least, (points_bounds (numbers ps)).units_least, length-map ps number)
+
+pub units-points : (ps qs : List CodePoint) → units (numbers (ps ++ qs)) ≡ units (numbers ps) ++ units (numbers qs)
+units-points ps qs = ap units (map-append number ps qs) ∙ units-append (numbers ps) (numbers qs)
+
+-- a call that finds room leads where it is said to
+pub found_step : (u : List ℕ) (call : Build) (v w : List ℕ) (n r : ℕ) → FindsRoom u call v n → Step u call w r → w ≡ v
+found_step u (Truncate k) v w n r f s = absurd f.no_truncation
+found_step u (TruncateUnits k) v w n r f s = absurd f.no_truncation
+found_step u call v w n r f s = s.0 ∙ sym f.step.0
+
+-- what finds room in a capacity finds it in a greater one
+pub wider : {u v : List ℕ} {call : Build} {m n : ℕ} → FindsRoom u call v m → m ≤ n → FindsRoom u call v n
+wider f h = record {
+  no_truncation = f.no_truncation;
+  step = f.step;
+  fits = record { whole = f.fits.whole; form = f.fits.form; within = omega (arith, f.fits.within, h) };
+}
+
+-- after some calls, whose capacity at their start was `capacity`: what finds room with calls behind those finds it there, and the capacity is no smaller
+pub record Found (u : List ℕ) (calls : List Build) (now : List ℕ) (capacity grown : ℕ) : Type 0 where
+  pub rest : (more : List Build) (v : List ℕ) → FindRoom u (calls ++ more) v capacity → FindRoom now more v capacity
+  pub grows : (more : List Build) (v : List ℕ) → FindRoom u (calls ++ more) v capacity → capacity ≤ grown
+
+pub found_more : {u now new : List ℕ} {calls : List Build} {call : Build} {capacity grown larger : ℕ} (r : ℕ) → Found u calls now capacity grown
+    → Step now call new r → ((v : List ℕ) → FindsRoom now call v capacity → grown ≤ larger) → Found u (calls ++ call ∷ []) new capacity larger
+found_more {u} {now} {new} {calls} {call} {capacity} {grown} {larger} r f s h = record {
+  rest = λ more v x. let here = f.rest (call ∷ more) v (rw append_assoc at x) in
+      subst (λ m. FindRoom m more v capacity) (sym (found_step now call here.0 new capacity r here.1 s)) here.2;
+  grows = λ more v x.
+      let here = f.rest (call ∷ more) v (rw append_assoc at x) in
+      omega (arith, f.grows (call ∷ more) v (rw append_assoc at x), h here.0 here.1);
+}

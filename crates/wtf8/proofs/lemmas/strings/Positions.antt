@@ -1,0 +1,258 @@
+-- Where the bytes of code points may be cut, and how many units stand before a cut.
+use Rattle.wtf8.proofs.Common.{◌≡◌, ◌-◌, ◌≤◌, ◌<◌, ℕ, zero, suc, inl, inr, List, [], ◌∷◌, ◌++◌, length, get_or, refl, ap, ◌∙◌, sym, subst, arith, length-append}
+use Rattle.wtf8.proofs.Common.{cases_lt, append-nil, get_or-append_right, encoding, bytes, take, drop, append_assoc, take_at, drop_at, units, IsClean, Reads}
+use Rattle.wtf8.proofs.Common.{IsWellFormed, IsForm, IsBoundary, IsFront, IsBack, ◌+◌, ◌/◌, ◌%◌, take-add, chunk, units_of, units_begun, all_units_begun}
+use Rattle.wtf8.proofs.Common.{IsPlaceOfUnit}
+use Rattle.std.proofs.lemmas.List.Sums.{sum_by-append, sum_by_more}
+use Rattle.wtf8.specs.Position.{Splits, IsMiddle}
+use Rattle.wtf8.proofs.lemmas.lanes.Surrogates.{begun_low, begun_inside, begun_one, begun_two}
+use Rattle.wtf8.proofs.lemmas.numbers.Encoding.{Begins, first-encoding, inside-encoding, length-encoding_bounds, bytes-append, row_of, one, two, three, four}
+use Rattle.wtf8.proofs.lemmas.numbers.Readings.{clean-front, clean-back, reads_same, same_heads, same_points, same_reading, well_formed_of, units_one, units_two}
+
+-- Where the bytes of a list of code points may be cut.
+
+-- a list of code points as a front whose bytes are so many, and what follows
+pub record Split (c : List ℕ) (k : ℕ) : Type 0 where
+  pub front : List ℕ
+  pub back : List ℕ
+  pub joined : c ≡ front ++ back
+  pub front_len : length (bytes front) ≡ k
+
+split_behind : (p : ℕ) {c : List ℕ} {k : ℕ} → length (encoding p) ≤ k → Split c (k - length (encoding p)) → Split (p ∷ c) k
+split_behind p h s =
+    let whole = length-append (encoding p) (bytes s.front) in
+    record { front = p ∷ s.front; back = s.back; joined = ap (λ r. p ∷ r) s.joined; front_len = omega (arith, h, s.front_len, whole) }
+
+-- bytes may be cut at their end, and where a code point begins
+pub split_at : (c : List ℕ) (k : ℕ) → k ≤ length (bytes c) → (k < length (bytes c) → Begins (get_or (bytes c) k 0)) → Split c k
+split_at c zero h s = record { front = []; back = c; joined = refl; front_len = refl }
+split_at [] (suc k) h s = absurd (omega arith)
+split_at (p ∷ c) (suc k) h s =
+    let n = length-encoding_bounds p in
+    let whole = length-append (encoding p) (bytes c) in
+    elim (cases_lt (suc k) (length (encoding p))) [
+      | inl l ↦ let inside = inside-encoding p k (bytes c) l in absurd (omega (arith, (s (omega arith)).start))
+      | inr l ↦
+          let at = get_or-append_right (encoding p) (bytes c) (length (encoding p)) (suc k) 0 refl l in
+          split_behind p l (split_at c (suc k - length (encoding p)) (omega arith) (λ m. subst Begins at (s (omega arith))))
+    ]
+
+-- the byte behind the bytes of a front is the first of the next code point
+pub first_behind : (front : List ℕ) (p : ℕ) (b : List ℕ) → get_or (bytes (front ++ p ∷ b)) (length (bytes front)) 0 ≡ get_or (encoding p ++ bytes b) 0 0
+first_behind front p b =
+    let n = length (bytes front) in
+    let start : n - n ≡ 0 = omega arith in
+    ap (λ w. get_or w n 0) (bytes-append front (p ∷ b)) ∙ (get_or-append_right (bytes front) (encoding p ++ bytes b) n n 0 refl (omega arith)
+    ∙ ap (λ k. get_or (encoding p ++ bytes b) k 0) start)
+
+pub begins_behind : (f b : List ℕ) → length (bytes f) < length (bytes (f ++ b)) → Begins (get_or (bytes (f ++ b)) (length (bytes f)) 0)
+begins_behind f [] h = absurd (omega (arith, ap (λ c. length (bytes c)) (append-nil f)))
+begins_behind f (p ∷ b) h = subst Begins (sym (first_behind f p b)) (first-encoding p (bytes b))
+
+-- Where a string may be cut, and what the parts are.
+
+-- what is before a position and what is behind it is read as it is in the whole
+pub front_reads : {u v : List ℕ} {k : ℕ} (f : IsFront u k v) → Reads f.front v
+front_reads f = record { clean = clean-front f.front f.back f.splits.reads.clean; same_units = f.same_units }
+
+pub back_reads : {u v : List ℕ} {k : ℕ} (b : IsBack u k v) → Reads b.back v
+back_reads b = record { clean = clean-back b.front b.back b.splits.reads.clean; same_units = b.same_units }
+
+pub front_boundary : {u v : List ℕ} {k : ℕ} → IsFront u k v → IsBoundary u k
+front_boundary f = record { front = f.front; back = f.back; splits = f.splits }
+
+-- a front and a back of the code points, and the bytes before and behind the place where they meet
+pub record Cut (w : List ℕ) (h : IsWellFormed w) (k : ℕ) : Type 0 where
+  pub front : List ℕ
+  pub back : List ℕ
+  pub points : h.points ≡ front ++ back
+  pub within : k ≤ length w
+  pub splits : Splits (units h.points) k front back
+  pub before : IsWellFormed (take k w)
+  pub before_points : before.points ≡ front
+  pub behind : IsWellFormed (drop k w)
+  pub behind_points : behind.points ≡ back
+
+abbrev pub cut_by : {w : List ℕ} (h : IsWellFormed w) (front back : List ℕ) (k : ℕ) → h.points ≡ front ++ back → length (bytes front) ≡ k → Cut w h k
+cut_by {w} h front back k e n =
+    let whole : w ≡ bytes front ++ bytes back = sym h.encoded ∙ (ap bytes e ∙ bytes-append front back) in
+    let clean : IsClean (front ++ back) = subst IsClean e h.clean in
+    record {
+      front = front;
+      back = back;
+      points = e;
+      within = omega (arith, n, ap length whole, length-append (bytes front) (bytes back));
+      splits = record { reads = record { clean = clean; same_units = ap units (sym e) }; front_len = n };
+      before = record { points = front; clean = clean-front front back clean; encoded = sym (ap (take k) whole ∙ take_at (bytes front) (bytes back) k n) };
+      before_points = refl;
+      behind = record { points = back; clean = clean-back front back clean; encoded = sym (ap (drop k) whole ∙ drop_at (bytes front) (bytes back) k n) };
+      behind_points = refl;
+    }
+
+pub cut_at : {w : List ℕ} (h : IsWellFormed w) (k : ℕ) → IsBoundary (units h.points) k → Cut w h k
+cut_at h k b =
+    let reads = b.splits.reads in
+    cut_by h b.front b.back k (same_reading h.points (b.front ++ b.back) h.clean reads.clean (sym reads.same_units)) b.splits.front_len
+
+pub boundary_of : {w : List ℕ} (h : IsWellFormed w) (front back : List ℕ) (k : ℕ) → h.points ≡ front ++ back → length (bytes front) ≡ k
+    → IsBoundary (units h.points) k
+boundary_of h front back k e n = record { front = front; back = back; splits = (cut_by h front back k e n).splits }
+
+pub points_before : {w v : List ℕ} (h : IsWellFormed w) (p : IsWellFormed v) (front back : List ℕ) (k : ℕ) → h.points ≡ front ++ back → length (bytes front) ≡ k
+    → v ≡ take k w → p.points ≡ front
+points_before h p front back k e n d = same_points p (cut_by h front back k e n).before d
+
+pub points_behind : {w v : List ℕ} (h : IsWellFormed w) (p : IsWellFormed v) (front back : List ℕ) (k : ℕ) → h.points ≡ front ++ back → length (bytes front) ≡ k
+    → v ≡ drop k w → p.points ≡ back
+points_behind h p front back k e n d = same_points p (cut_by h front back k e n).behind d
+
+-- the bytes before a position are the form of the units of the code points before it
+pub front_form : {w u : List ℕ} (h : IsForm w u) (k : ℕ) (v : List ℕ) → IsFront u k v → IsForm (take k w) v
+front_form h k v f =
+    let before = (cut_by (well_formed_of h) f.front f.back k (reads_same h.reads f.splits.reads) f.splits.front_len).before in
+    record { points = f.front; reads = record { clean = before.clean; same_units = f.same_units }; encoded = before.encoded }
+
+-- what the test of one byte says
+pub boundary_from_byte : {w : List ℕ} (h : IsWellFormed w) (k : ℕ) → k ≤ length w → (k < length w → Begins (get_or w k 0)) → IsBoundary (units h.points) k
+boundary_from_byte {w} h k within start =
+    let cut = split_at h.points k (omega (arith, ap length h.encoded))
+    (λ m. subst (λ v. Begins (get_or v k 0)) (sym h.encoded) (start (omega (arith, ap length h.encoded)))) in
+    boundary_of h cut.front cut.back k cut.joined cut.front_len
+
+pub byte_from_boundary : {w : List ℕ} (h : IsWellFormed w) (k : ℕ) → IsBoundary (units h.points) k → k < length w → Begins (get_or w k 0)
+byte_from_boundary {w} h k b m =
+    let c = cut_at h k b in
+    let whole : bytes (c.front ++ c.back) ≡ w = ap bytes (sym c.points) ∙ h.encoded in
+    subst (λ v. Begins (get_or v k 0)) whole (subst (λ n. Begins (get_or (bytes (c.front ++ c.back)) n 0)) c.splits.front_len
+    (begins_behind c.front c.back (omega (arith, c.splits.front_len, ap length whole))))
+
+-- the units before a position are the same in each splitting
+pub same_front : (u : List ℕ) (k : ℕ) (v w : List ℕ) → IsFront u k v → IsFront u k w → v ≡ w
+same_front u k v w x y =
+    let own = x.splits in
+    let other = y.splits in
+    let whole = reads_same own.reads other.reads in
+    let h : IsWellFormed (bytes (x.front ++ x.back)) = record { points = x.front ++ x.back; clean = own.reads.clean; encoded = refl } in
+    let front = points_before h (cut_by h x.front x.back k refl own.front_len).before y.front y.back k whole other.front_len refl in
+    sym x.same_units ∙ (ap units front ∙ y.same_units)
+
+-- of two fronts of one list the one with fewer bytes begins the other
+pub record Begun (f g : List ℕ) : Type 0 where
+  pub more : List ℕ
+  pub joined : g ≡ f ++ more
+
+pub begun : (f b g d : List ℕ) → f ++ b ≡ g ++ d → length (bytes f) ≤ length (bytes g) → Begun f g
+begun [] b g d e n = record { more = g; joined = refl }
+begun (p ∷ f) b [] d e n = absurd (omega (arith, length-encoding_bounds p, length-append (encoding p) (bytes f)))
+begun (p ∷ f) b (q ∷ g) d e n =
+    let h = same_heads p q (f ++ b) (g ++ d) e in
+    let r = begun f b g d h.1 (omega (arith, length-append (encoding p) (bytes f), length-append (encoding q) (bytes g), ap (λ k. length (encoding k)) h.0)) in
+    record { more = r.more; joined = ap (λ k. k ∷ g) (sym h.0) ∙ ap (λ v. p ∷ v) r.joined }
+
+-- the back of a front is the middle
+pub middle_of : {w v : List ℕ} (h : IsWellFormed w) (begin end : ℕ) (p : IsWellFormed v) {u : List ℕ} → IsFront (units h.points) end (units p.points)
+    → IsBack (units p.points) begin u → IsMiddle (units h.points) begin end u
+middle_of h begin end p f b =
+    let parts : b.front ++ b.back ≡ f.front = reads_same b.splits.reads (front_reads f) in
+    record {
+      front = b.front;
+      middle = b.back;
+      back = f.back;
+      begins = record { reads = rw (← append_assoc, parts) f.splits.reads; front_len = b.splits.front_len };
+      ends = record { reads = rw parts f.splits.reads; front_len = rw parts f.splits.front_len };
+      same_units = b.same_units;
+    }
+
+-- Positions counted in units: places among bytes, and the code points that are there.
+
+-- a block more
+pub begun_more : (w : List ℕ) (i n : ℕ) → all_units_begun (take (i + n) w) ≡ all_units_begun (take i w) + all_units_begun (chunk i n w)
+begun_more w i n = ap all_units_begun (take-add i n w) ∙ sum_by-append units_begun (take i w) (take n (drop i w))
+
+-- the bytes of a code point begin its units, and its first byte all of them
+pub begun_encoding : (p : ℕ) → all_units_begun (encoding p) ≡ length (units_of p)
+begun_encoding p = elim (row_of p) [
+  | one h e ↦ rw (e, units_one p (omega arith), begun_low p h) refl
+  | two l h e ↦ rw (
+    e,
+    units_one p (omega arith),
+    begun_one (0xC0 + p / 64) (omega arith) (omega arith),
+    begun_inside (0x80 + p % 64) (omega arith) (omega arith),
+  ) refl
+  | three l h e ↦ rw (
+    e,
+    units_one p h,
+    begun_one (0xE0 + p / 4096) (omega arith) (omega arith),
+    begun_inside (0x80 + p / 64 % 64) (omega arith) (omega arith),
+    begun_inside (0x80 + p % 64) (omega arith) (omega arith),
+  ) refl
+  | four l e ↦ rw (
+    e,
+    units_two p l,
+    begun_two (0xF0 + p / 262144) (omega arith),
+    begun_inside (0x80 + p / 4096 % 64) (omega arith) (omega arith),
+    begun_inside (0x80 + p / 64 % 64) (omega arith) (omega arith),
+    begun_inside (0x80 + p % 64) (omega arith) (omega arith),
+  ) refl
+]
+
+begun_first : (p : ℕ) (r : List ℕ) → units_begun (get_or (encoding p ++ r) 0 0) ≡ length (units_of p)
+begun_first p r = elim (row_of p) [
+  | one h e ↦ rw (e, units_one p (omega arith)) (begun_low p h)
+  | two l h e ↦ rw (e, units_one p (omega arith)) (begun_one (0xC0 + p / 64) (omega arith) (omega arith))
+  | three l h e ↦ rw (e, units_one p h) (begun_one (0xE0 + p / 4096) (omega arith) (omega arith))
+  | four l e ↦ rw (e, units_two p l) (begun_two (0xF0 + p / 262144) (omega arith))
+]
+
+pub begun_bytes : (c : List ℕ) → all_units_begun (bytes c) ≡ length (units c)
+begun_bytes [] = refl
+begun_bytes (p ∷ c) = omega (arith, sum_by-append units_begun (encoding p) (bytes c), begun_encoding p, begun_bytes c, length-append (units_of p) (units c))
+
+-- a byte that begins units begins a code point
+begins_units : (b : ℕ) → 0 < units_begun b → Begins b
+begins_units b h = elim (cases_lt b 0x80) [
+  | inl l ↦ record { start = inl l }
+  | inr l ↦ elim (cases_lt b 0xC0) [ inl k ↦ absurd (omega (arith, begun_inside b l k)) | inr k ↦ record { start = inr k } ]
+]
+
+-- the code points about a place
+pub record PointsAbout (c : List ℕ) (n place before : ℕ) : Type 0 where
+  pub front : List ℕ
+  pub back : List ℕ
+  pub joined : c ≡ front ++ back
+  pub front_len : length (bytes front) ≡ place
+  pub counted : length (units front) ≡ before
+  pub not_beyond : before ≤ n
+  pub holds : (p : ℕ) (rest : List ℕ) → back ≡ p ∷ rest → n < before + length (units_of p)
+
+pub points_about : (c : List ℕ) (n place before : ℕ) → IsPlaceOfUnit (bytes c) n place before → PointsAbout c n place before
+points_about c n place before h =
+    let w = bytes c in
+    let next : place < length (bytes c) → n < before + units_begun (get_or (bytes c) place 0) =
+    λ m. omega (arith, h.reaches m, h.counted, sum_by_more units_begun (bytes c) place 0 m) in
+    let cut = split_at c place h.within (λ m. begins_units (get_or (bytes c) place 0) (omega (arith, next m, h.not_beyond))) in
+    let whole : bytes c ≡ bytes cut.front ++ bytes cut.back = ap bytes cut.joined ∙ bytes-append cut.front cut.back in
+    let front : take place (bytes c) ≡ bytes cut.front = ap (take place) whole ∙ take_at (bytes cut.front) (bytes cut.back) place cut.front_len in
+    record {
+      front = cut.front;
+      back = cut.back;
+      joined = cut.joined;
+      front_len = cut.front_len;
+      counted = sym (begun_bytes cut.front) ∙ (ap all_units_begun (sym front) ∙ sym h.counted);
+      not_beyond = h.not_beyond;
+      holds = λ p rest e.
+          let back : bytes cut.back ≡ encoding p ++ bytes rest = ap bytes e in
+          let long : place < length (bytes c) = omega (
+            arith,
+            cut.front_len,
+            ap length whole,
+            length-append (bytes cut.front) (bytes cut.back),
+            ap length back,
+            length-append (encoding p) (bytes rest),
+            length-encoding_bounds p,
+          ) in
+          let here : get_or (bytes c) place 0 ≡ get_or (encoding p ++ bytes rest) 0 0 =
+          ap (λ v. get_or v place 0) whole ∙ (get_or-append_right (bytes cut.front) (bytes cut.back) place place 0 cut.front_len (omega arith)
+          ∙ (ap (λ k. get_or (bytes cut.back) k 0) (let zero_there : place - place ≡ 0 = omega arith in zero_there) ∙ ap (λ v. get_or v 0 0) back)) in
+          omega (arith, next long, ap units_begun here, begun_first p (bytes rest));
+    }

@@ -1,0 +1,313 @@
+-- Where a string holds surrogates, the lead at its end, and the text with each of them replaced.
+use Rattle.wtf8.proofs.Common.{◌≡◌, ◌≤◌, ◌<◌, ◌+◌, ℕ, List, [], ◌∷◌, ◌++◌, length, get_or, refl, ap, ◌∙◌, sym, subst, arith, append_assoc, length-append, true, inl}
+use Rattle.wtf8.proofs.Common.{inr, Option, Some, None, nat_tests, cases_lt, lt-ltb, le-ltb, append-nil, get_or-append-add, IsUtf8, scalar, scalars, IsCodePoint}
+use Rattle.wtf8.proofs.Common.{IsSurrogate, encoding, bytes, IsClean, IsWellFormed, bytes_are_encodes, AreScalar, SurrogateAt, IsLeast, IsFirst, ◌-◌, ◌/◌, ◌%◌, lit≤}
+use Rattle.wtf8.proofs.Common.{lit<, le-leb, lt-leb, map-append, lossy, take, drop, append_cancel_left, take_at, drop_at}
+use lib.Utf8.{low_scalar}
+use Rattle.wtf8.specs.Surrogates.{replaced}
+use Rattle.wtf8.proofs.lemmas.numbers.Encoding.{encoding_three, length-encoding_bounds, row_of, one, two, three, four, bytes-append, third_row, length-surrogate}
+use Rattle.wtf8.proofs.lemmas.numbers.Encoding.{bytes-pushed}
+use Rattle.wtf8.proofs.lemmas.numbers.Readings.{clean-first, clean-rest, clean-front, clean-back}
+use Rattle.wtf8.proofs.lemmas.strings.Positions.{split_at, begun}
+
+-- Surrogates in bytes against surrogates among code points.
+
+-- the bytes of a surrogate are ED and from A0 on
+pub surrogate_at : (f : List ℕ) (p : ℕ) (b : List ℕ) → IsSurrogate p → SurrogateAt (bytes (f ++ p ∷ b)) (length (bytes f))
+surrogate_at f p b s =
+    let row = encoding_three p (omega arith) (omega arith) in
+    let whole : bytes (f ++ p ∷ b) ≡ bytes f ++ (encoding p ++ bytes b) = bytes-append f (p ∷ b) in
+    let at : (k : ℕ) → get_or (bytes (f ++ p ∷ b)) (length (bytes f) + k) 0 ≡ get_or (encoding p ++ bytes b) k 0 =
+    λ k. ap (λ w. get_or w (length (bytes f) + k) 0) whole ∙ get_or-append-add (bytes f) (encoding p ++ bytes b) k 0 in
+    record {
+      within = omega (arith, ap length whole, length-append (bytes f) (encoding p ++ bytes b), length-append (encoding p) (bytes b), ap length row);
+      first = ap (λ k. get_or (bytes (f ++ p ∷ b)) k 0) (omega arith) ∙ (at 0 ∙ (ap (λ w. get_or (w ++ bytes b) 0 0) row ∙ omega arith));
+      second = omega (arith, at 1, ap (λ w. get_or (w ++ bytes b) 1 0) row);
+    }
+
+-- a place of ED and a byte from A0 on is that of a surrogate
+pub record SurrogateIn (c : List ℕ) (i : ℕ) : Type 0 where
+  pub front : List ℕ
+  pub point : ℕ
+  pub back : List ℕ
+  pub joined : c ≡ front ++ point ∷ back
+  pub front_len : length (bytes front) ≡ i
+  pub surrogate : IsSurrogate point
+
+first_surrogate_in : (b : List ℕ) → 1 < length (bytes b) → get_or (bytes b) 0 0 ≡ 0xED → 0xA0 ≤ get_or (bytes b) 1 0 → SurrogateIn b 0
+first_surrogate_in [] n e s = absurd (omega arith)
+first_surrogate_in (p ∷ b) n e s = elim (row_of p) [
+  | one h r ↦ absurd (omega (arith, rw r at e))
+  | two l h r ↦ absurd (omega (arith, rw r at e))
+  | three l h r ↦
+      let high = rw r at e in
+      let low = rw r at s in
+      record { front = []; point = p; back = b; joined = refl; front_len = refl; surrogate = (omega arith, omega arith) }
+  | four l r ↦ absurd (omega (arith, rw r at e))
+]
+
+pub surrogate_in : (c : List ℕ) (i : ℕ) → SurrogateAt (bytes c) i → SurrogateIn c i
+surrogate_in c i s =
+    let cut = split_at c i (omega (arith, s.within)) (λ _. record { start = inr (omega (arith, s.first)) }) in
+    let whole : bytes c ≡ bytes cut.front ++ bytes cut.back = ap bytes cut.joined ∙ bytes-append cut.front cut.back in
+    let at : (k : ℕ) → get_or (bytes c) (i + k) 0 ≡ get_or (bytes cut.back) k 0 = λ k. ap (λ w. get_or w (i + k) 0) whole
+    ∙ (ap (λ n. get_or (bytes cut.front ++ bytes cut.back) (n + k) 0) (sym cut.front_len) ∙ get_or-append-add (bytes cut.front) (bytes cut.back) k 0) in
+    let zero_there : i + 0 ≡ i = omega arith in
+    let f = first_surrogate_in cut.back (omega (arith, s.within, cut.front_len, ap length whole, length-append (bytes cut.front) (bytes cut.back)))
+    (sym (at 0) ∙ (ap (λ n. get_or (bytes c) n 0) zero_there ∙ s.first)) (omega (arith, at 1, s.second)) in
+    record {
+      front = cut.front ++ f.front;
+      point = f.point;
+      back = f.back;
+      joined = cut.joined ∙ (ap (λ b. cut.front ++ b) f.joined ∙ sym (append_assoc cut.front f.front (f.point ∷ f.back)));
+      front_len = omega (arith, ap length (bytes-append cut.front f.front), length-append (bytes cut.front) (bytes f.front), cut.front_len, f.front_len);
+      surrogate = f.surrogate;
+    }
+
+pub scalar-middle : (f : List ℕ) (p : ℕ) (b : List ℕ) → AreScalar (f ++ p ∷ b) → ¬ (IsSurrogate p)
+scalar-middle [] p b s = s.0
+scalar-middle (q ∷ f) p b s = scalar-middle f p b s.1
+
+pub none_from_scalar : (c : List ℕ) (i : ℕ) → AreScalar c → ¬ (SurrogateAt (bytes c) i)
+none_from_scalar c i s at =
+    let p = surrogate_in c i at in
+    scalar-middle p.front p.point p.back (subst AreScalar p.joined s) p.surrogate
+
+-- code points that are scalar values are the characters of a text
+pub scalar_true : (p : ℕ) → IsCodePoint p → ¬ (IsSurrogate p) → scalar p ≡ true
+scalar_true p r n = elim (cases_lt p 0xD800) [
+  | inl h ↦ low_scalar p h
+  | inr h ↦ elim (cases_lt p 0xE000) [
+    | inl k ↦ absurd (n (h, omega arith))
+    | inr k ↦ rw (le-ltb p 0xD800 h, lt-ltb p 0x110000 (omega arith)) (grind (arith, nat_tests))
+  ]
+]
+
+pub scalars_true : (c : List ℕ) → IsClean c → AreScalar c → scalars c ≡ true
+scalars_true [] x s = refl
+scalars_true (p ∷ c) x s = rw (scalar_true p (clean-first p c x) s.0) (scalars_true c (clean-rest p c x) s.1)
+
+pub utf8_of : (c : List ℕ) → IsClean c → AreScalar c → IsUtf8 (bytes c)
+utf8_of c x s = (c, (scalars_true c x s, sym (bytes_are_encodes c)))
+
+-- where no surrogate begins among the bytes of c, it is scalar values
+pub scalar_between : (f c b : List ℕ) → ((j : ℕ) → length (bytes f) ≤ j → j < length (bytes (f ++ c)) → ¬ (SurrogateAt (bytes ((f ++ c) ++ b)) j)) → AreScalar c
+scalar_between f [] b none = tt
+scalar_between f (p ∷ c) b none =
+    let at : (f ++ p ∷ c) ++ b ≡ f ++ p ∷ (c ++ b) = append_assoc f (p ∷ c) b in
+    let within : length (bytes f) < length (bytes (f ++ p ∷ c)) = omega (
+      arith,
+      ap length (bytes-append f (p ∷ c)),
+      length-append (bytes f) (bytes (p ∷ c)),
+      length-append (encoding p) (bytes c),
+      length-encoding_bounds p,
+    ) in
+    let more : (f ++ p ∷ []) ++ c ≡ f ++ p ∷ c = append_assoc f (p ∷ []) c in (
+      λ s. none (length (bytes f)) (omega arith) within (subst (λ d. SurrogateAt (bytes d) (length (bytes f))) (sym at) (surrogate_at f p (c ++ b) s)),
+      scalar_between (f ++ p ∷ []) c b (λ j l u. subst (λ d. ¬ (SurrogateAt (bytes (d ++ b)) j)) (sym more)
+          (none j (omega (arith, l, ap length (bytes-append f (p ∷ [])), length-append (bytes f) (bytes (p ∷ []))))
+          (omega (arith, u, ap (λ d. length (bytes d)) more)))),
+    )
+
+-- the same where none begins behind them either
+pub scalar_from_none : (f c : List ℕ) → ((j : ℕ) → length (bytes f) ≤ j → ¬ (SurrogateAt (bytes (f ++ c)) j)) → AreScalar c
+scalar_from_none f c none = scalar_between f c [] (λ j l _ s. none j l (subst (λ d. SurrogateAt (bytes d) j) (append-nil (f ++ c)) s))
+
+-- an answer that is not `Some` says that there is none
+pub none_found : (w : List ℕ) (from : ℕ) (r : Option ℕ) → IsFirst (SurrogateAt w) from r → ((i : ℕ) → r ≡ Some i → ⊥) → (j : ℕ) → from ≤ j → ¬ (SurrogateAt w j)
+none_found w from None f n = f
+none_found w from (Some i) f n = absurd (n i refl)
+
+-- what the search from the start says of the code points
+pub scalar_if_none : {w : List ℕ} (h : IsWellFormed w) → ((j : ℕ) → 0 ≤ j → ¬ (SurrogateAt w j)) → AreScalar h.points
+scalar_if_none h none = scalar_from_none [] h.points (λ j l. subst (λ v. ¬ (SurrogateAt v j)) (sym h.encoded) (none j l))
+
+pub not_scalar_if_some : {w : List ℕ} (h : IsWellFormed w) (i : ℕ) → IsLeast (SurrogateAt w) 0 i → ¬ (AreScalar h.points)
+not_scalar_if_some h i least s = none_from_scalar h.points i s (subst (λ v. SurrogateAt v i) (sym h.encoded) least.here)
+
+pub utf8_if_none : {w : List ℕ} (h : IsWellFormed w) → ((j : ℕ) → 0 ≤ j → ¬ (SurrogateAt w j)) → IsUtf8 w
+utf8_if_none h none = subst IsUtf8 h.encoded (utf8_of h.points h.clean (scalar_if_none h none))
+
+-- The surrogate that ends a string, in its last three bytes.
+
+-- bytes that end in those of a surrogate
+pub record EndsInSurrogate (w : List ℕ) (p : ℕ) : Type 0 where
+  pub enough : 3 ≤ length w
+  pub first : get_or w (length w - 3) 0 ≡ 0xED
+  pub second : get_or w (length w - 2) 0 ≡ 0x80 + p / 64 % 64
+  pub third : get_or w (length w - 1) 0 ≡ 0x80 + p % 64
+
+pub ends_in_surrogate : (w f : List ℕ) (p : ℕ) → IsSurrogate p → bytes (f ++ p ∷ []) ≡ w → EndsInSurrogate w p
+ends_in_surrogate w f p s e =
+    let row = third_row p in
+    let whole : w ≡ bytes f ++ row = sym e ∙ (bytes-pushed f p ∙ ap (λ v. bytes f ++ v) (encoding_three p (omega arith) (omega arith))) in
+    let long : length w ≡ length (bytes f) + 3 = ap length whole ∙ length-append (bytes f) row in
+    let at : (k m : ℕ) → length (bytes f) + k ≡ m → get_or w m 0 ≡ get_or row k 0 = λ k m q. cc (get_or-append-add (bytes f) row k 0) in
+    record {
+      enough = omega arith;
+      first = at 0 (length w - 3) (omega arith) ∙ omega arith;
+      second = at 1 (length w - 2) (omega arith);
+      third = at 2 (length w - 1) (omega arith);
+    }
+
+pub no_bytes : (c : List ℕ) → length (bytes c) ≡ 0 → c ≡ []
+no_bytes [] e = refl
+no_bytes (p ∷ c) e = absurd (omega (arith, length-encoding_bounds p, length-append (encoding p) (bytes c)))
+
+-- the last code point where the third byte from the end is ED and the next at least A0
+pub record LastSurrogate (c w : List ℕ) : Type 0 where
+  pub front : List ℕ
+  pub point : ℕ
+  pub joined : c ≡ front ++ point ∷ []
+  pub surrogate : IsSurrogate point
+  pub ends : EndsInSurrogate w point
+
+pub last_surrogate : {w : List ℕ} (h : IsWellFormed w) → 3 ≤ length w → get_or w (length w - 3) 0 ≡ 0xED → 0xA0 ≤ get_or w (length w - 2) 0
+    → LastSurrogate h.points w
+last_surrogate {w} h len first second =
+    let i = length w - 3 in
+    let next : get_or w (i + 1) 0 ≡ get_or w (length w - 2) 0 = ap (λ k. get_or w k 0) (omega arith) in
+    let at : SurrogateAt w i = record { within = omega arith; first = first; second = omega (arith, next, second) } in
+    let p = surrogate_in h.points i (subst (λ v. SurrogateAt v i) (sym h.encoded) at) in
+    let whole : bytes p.front ++ (encoding p.point ++ bytes p.back) ≡ w = cc (bytes-append p.front (p.point ∷ p.back)) in
+    let long = simp length-append at (ap length whole) in
+    let none = no_bytes p.back (omega (arith, len, p.front_len, long, length-surrogate p.point p.surrogate)) in
+    let joined : h.points ≡ p.front ++ p.point ∷ [] = p.joined ∙ ap (λ b. p.front ++ p.point ∷ b) none in
+    let ends = ends_in_surrogate w p.front p.point p.surrogate (ap bytes (sym joined) ∙ h.encoded) in
+    record { front = p.front; point = p.point; joined = joined; surrogate = p.surrogate; ends = ends }
+
+-- The list with U+FFFD in the place of each surrogate.
+
+-- a code point is a surrogate, which is replaced, or a scalar value, which stays
+pub data Kind (p : ℕ) : Type 0 where
+  surrogate : IsSurrogate p → replaced p ≡ 0xFFFD → Kind p
+  scalar_value : ¬ (IsSurrogate p) → replaced p ≡ p → Kind p
+
+pub kind_of : (p : ℕ) → Kind p
+unfolding replaced
+kind_of p = elim (cases_lt p 0xD800) [
+  | inl h ↦ scalar_value (λ s. omega arith) (rw (lt-leb 0xD800 p h) refl)
+  | inr h ↦ elim (cases_lt p 0xE000) [
+    | inl k ↦ surrogate (h, omega arith) (rw (le-leb 0xD800 p h, le-leb p 0xDFFF (omega arith)) refl)
+    | inr k ↦ scalar_value (λ s. omega arith) (rw (le-leb 0xD800 p h, lt-leb p 0xDFFF (omega arith)) refl)
+  ]
+]
+
+pub lossy-append : (c d : List ℕ) → lossy (c ++ d) ≡ lossy c ++ lossy d
+lossy-append c d = map-append replaced c d
+
+pub lossy-scalar : (c : List ℕ) → AreScalar c → lossy c ≡ c
+lossy-scalar [] s = refl
+lossy-scalar (p ∷ c) s = elim (kind_of p) [ surrogate k e ↦ absurd (s.0 k) | scalar_value n e ↦ rw (e, lossy-scalar c s.1) refl ]
+
+-- it is as long: a surrogate has three bytes too
+pub length-lossy : (c : List ℕ) → length (bytes (lossy c)) ≡ length (bytes c)
+length-lossy [] = refl
+length-lossy (p ∷ c) =
+    let r = length-lossy c in
+    let whole = length-append (encoding (replaced p)) (bytes (lossy c)) in
+    let here = length-append (encoding p) (bytes c) in
+    elim (kind_of p) [
+      | surrogate k e ↦ omega (arith, ap (λ q. length (encoding q)) e, ap length (encoding_three 0xFFFD (lit≤ tt) (lit< tt)), length-surrogate p k)
+      | scalar_value n e ↦ omega (arith, ap (λ q. length (encoding q)) e)
+    ]
+
+pub scalars-lossy : (c : List ℕ) → IsClean c → scalars (lossy c) ≡ true
+scalars-lossy [] x = refl
+scalars-lossy (p ∷ c) x = elim (kind_of p) [
+  | surrogate k e ↦ rw e (scalars-lossy c (clean-rest p c x))
+  | scalar_value n e ↦ rw (e, scalar_true p (clean-first p c x) n) (scalars-lossy c (clean-rest p c x))
+]
+
+-- the bytes of the list with surrogates replaced are text
+pub utf8_lossy_points : (c : List ℕ) → IsClean c → IsUtf8 (bytes (lossy c))
+utf8_lossy_points c x = (lossy c, (scalars-lossy c x, sym (bytes_are_encodes (lossy c))))
+
+pub replaced_surrogate : (p : ℕ) → IsSurrogate p → replaced p ≡ 0xFFFD
+replaced_surrogate p s = elim (kind_of p) [ surrogate k e ↦ e | scalar_value n e ↦ absurd (n s) ]
+
+pub replaced_scalar : (p : ℕ) → ¬ (IsSurrogate p) → replaced p ≡ p
+replaced_scalar p n = elim (kind_of p) [ surrogate k e ↦ absurd (n k) | scalar_value m e ↦ e ]
+
+-- Surrogates replaced by U+FFFD: the lossy list, and bytes in which it is written over them one by one.
+
+-- While surrogates are replaced from the front on: some code points are done, their bytes end at `from`, and the others stand behind them as they were.
+pub record Replacing (c w : List ℕ) (from : ℕ) : Type 0 where
+  pub done : List ℕ
+  pub rest : List ℕ
+  pub joined : c ≡ done ++ rest
+  pub so_far : w ≡ bytes (lossy done ++ rest)
+  pub place : length (bytes (lossy done)) ≡ from
+
+pub replacing_end : (c w : List ℕ) (from : ℕ) → Replacing c w from → ((j : ℕ) → from ≤ j → ¬ (SurrogateAt w j)) → w ≡ bytes (lossy c)
+replacing_end c w from r none =
+    let plain = scalar_from_none (lossy r.done) r.rest (λ j l. subst (λ v. ¬ (SurrogateAt v j)) r.so_far (none j (omega (arith, l, r.place)))) in
+    cc (lossy-scalar r.rest plain, lossy-append r.done r.rest)
+
+-- a string about a surrogate, in bytes
+pub record Around (w : List ℕ) (front : List ℕ) (found : ℕ) (back : List ℕ) : Type 0 where
+  pub before : take found w ≡ bytes front
+  pub behind : drop (found + 3) w ≡ bytes back
+  pub within : found + 3 ≤ length w
+
+pub around : (w front : List ℕ) (p : ℕ) (back : List ℕ) (found : ℕ) → w ≡ bytes (front ++ p ∷ back) → length (bytes front) ≡ found → IsSurrogate p
+    → Around w front found back
+around w front p back found e n s =
+    let three = length-surrogate p s in
+    let whole : w ≡ bytes front ++ (encoding p ++ bytes back) = e ∙ bytes-append front (p ∷ back) in
+    let other : w ≡ (bytes front ++ encoding p) ++ bytes back = whole ∙ sym (append_assoc (bytes front) (encoding p) (bytes back)) in
+    record {
+      before = ap (take found) whole ∙ take_at (bytes front) (encoding p ++ bytes back) found n;
+      behind = ap (drop (found + 3)) other ∙ drop_at (bytes front ++ encoding p) (bytes back) (found + 3)
+          (omega (arith, n, three, length-append (bytes front) (encoding p)));
+      within = omega (arith, n, three, ap length whole, length-append (bytes front) (encoding p ++ bytes back), length-append (encoding p) (bytes back));
+    }
+
+pub record Replaced (c w : List ℕ) (found : ℕ) : Type 0 where
+  pub within : found + 3 ≤ length w
+  pub next : Replacing c (take found w ++ (0xEF ∷ 0xBF ∷ 0xBD ∷ drop (found + 3) w)) (found + 3)
+
+pub replacing_step : (c w : List ℕ) (from found : ℕ) → Replacing c w from → IsLeast (SurrogateAt w) from found → Replaced c w found
+replacing_step c w from found r least =
+    let p = surrogate_in (lossy r.done ++ r.rest) found (subst (λ v. SurrogateAt v found) r.so_far least.here) in
+    let b = begun (lossy r.done) r.rest p.front (p.point ∷ p.back) p.joined (omega (arith, r.place, p.front_len, least.not_before)) in
+    let a = around w p.front p.point p.back found (r.so_far ∙ ap bytes p.joined) p.front_len p.surrogate in
+    let rest : r.rest ≡ b.more ++ p.point ∷ p.back = append_cancel_left (lossy r.done) _ _ (p.joined ∙ simp (b.joined, append_assoc)) in
+    let plain : AreScalar b.more = scalar_between (lossy r.done) b.more (p.point ∷ p.back)
+    (λ j l u s. least.none_between j (omega (arith, r.place)) (omega (arith, p.front_len, ap (λ d. length (bytes d)) b.joined))
+    (subst (λ v. SurrogateAt v j) (sym (r.so_far ∙ ap bytes (p.joined ∙ ap (λ d. d ++ p.point ∷ p.back) b.joined))) s)) in
+    let done : lossy ((r.done ++ b.more) ++ p.point ∷ []) ≡ p.front ++ 0xFFFD ∷ [] =
+    simp (lossy-append, lossy-scalar b.more plain, ← b.joined, replaced_surrogate p.point p.surrogate) in
+    let sign : encoding 0xFFFD ≡ 0xEF ∷ 0xBF ∷ 0xBD ∷ [] = encoding_three 0xFFFD (lit≤ tt) (lit< tt) in
+    record {
+      within = a.within;
+      next = record {
+        done = (r.done ++ b.more) ++ p.point ∷ [];
+        rest = p.back;
+        joined = r.joined ∙ simp (rest, append_assoc);
+        so_far = rw (a.before, a.behind, done, append_assoc p.front (0xFFFD ∷ []) p.back, bytes-append p.front (0xFFFD ∷ p.back), sign);
+        place = simp (done, bytes-append, length-append, sign, p.front_len);
+      };
+    }
+
+-- a string about its first surrogate: a text, the surrogate and what is behind it
+pub record Parted (w : List ℕ) (h : IsWellFormed w) (found : ℕ) : Type 0 where
+  pub within : found + 3 ≤ length w
+  pub text : IsUtf8 (take found w)
+  pub rest : IsWellFormed (drop (found + 3) w)
+  pub lossy_parts : bytes (lossy h.points) ≡ take found w ++ bytes (0xFFFD ∷ lossy rest.points)
+
+pub parted : {w : List ℕ} (h : IsWellFormed w) (found : ℕ) → IsLeast (SurrogateAt w) 0 found → Parted w h found
+parted {w} h found least =
+    let p = surrogate_in h.points found (subst (λ v. SurrogateAt v found) (sym h.encoded) least.here) in
+    let whole : w ≡ bytes (p.front ++ p.point ∷ p.back) = sym h.encoded ∙ ap bytes p.joined in
+    let a = around w p.front p.point p.back found whole p.front_len p.surrogate in
+    let clean : IsClean (p.front ++ p.point ∷ p.back) = subst IsClean p.joined h.clean in
+    let plain : AreScalar p.front = scalar_between [] p.front (p.point ∷ p.back)
+    (λ j l u s. least.none_between j l (omega (arith, p.front_len)) (subst (λ v. SurrogateAt v j) (sym whole) s)) in
+    record {
+      within = a.within;
+      text = subst IsUtf8 (sym a.before) (utf8_of p.front (clean-front p.front (p.point ∷ p.back) clean) plain);
+      rest = record { points = p.back; clean = clean-rest p.point p.back (clean-back p.front (p.point ∷ p.back) clean); encoded = sym a.behind };
+      lossy_parts = simp (p.joined, lossy-append, bytes-append, lossy-scalar p.front plain, replaced_surrogate p.point p.surrogate, a.before);
+    }

@@ -1,0 +1,294 @@
+-- A string cut at a number of units, also inside a pair, and what an iterator holds of a pair.
+use Rattle.wtf8.proofs.Common.{◌≡◌, ℕ, zero, suc, ◌+◌, ◌≤◌, List, [], ◌∷◌, ◌++◌, length, take, drop, None, Some, refl, sym, ap, ◌∙◌, subst, arith, length-append}
+use Rattle.wtf8.proofs.Common.{append_assoc, take_at, drop_at, slice_get, IsCodePoint, units, IsClean, bytes, encoding, IsWellFormed, IsFront, CutsUnits, ◌<◌, ◌↔◌}
+use Rattle.wtf8.proofs.Common.{inl, inr, Option, get_or, cases_lt, same_from_push, take-append-drop, length-drop, Reads, true, false, ◌/◌, ◌%◌, lt-ltb, le-ltb}
+use Rattle.wtf8.proofs.Common.{drop-drop, units_of, Unread, unread_units, trail_by, held_in, behind_held, unread_after}
+use Rattle.std.proofs.Common.{drop-cons, length-take-le}
+use Rattle.std.proofs.lemmas.List.{take-append-le, drop-append-le}
+use Rattle.std.specs.Option.{option_to_list}
+use Rattle.std.specs.Prelude.{IsSome}
+use Rattle.wtf8.specs.UnitCounts.{Divides}
+use Rattle.wtf8.specs.UnitPosition.{DividesPair}
+use Rattle.wtf8.specs.UnitSteps.{is_inside}
+use Rattle.wtf8.proofs.lemmas.numbers.Encoding.{encoding_four, bytes-append, bytes-pushed, row_of, one, two, three, four, Begins, first-encoding}
+use Rattle.wtf8.proofs.lemmas.numbers.Readings.{clean-first, clean-front, clean-back, clean-append, clean-apart, no_trail, meets_by, lead_of, trail_of, units_one}
+use Rattle.wtf8.proofs.lemmas.numbers.Readings.{units_two, units-append, units-pushed, first_of, no_points, taken, moved}
+use Rattle.wtf8.proofs.lemmas.strings.Concatenation.{points_meet}
+use Rattle.wtf8.proofs.lemmas.strings.Positions.{cut_by}
+
+-- What a string has before and behind a number of its units.
+
+-- no pair is divided
+pub record Undivided (c : List ℕ) (n : ℕ) (front back : List ℕ) : Type 0 where
+  pub within : n ≤ length (units c)
+  pub kept : take n (units c) ≡ units front
+  pub behind : drop n (units c) ≡ units back
+  pub here : slice_get (units c) n ≡ slice_get (units back) 0
+
+get_behind : (a b : List ℕ) (n : ℕ) → length a ≡ n → slice_get (a ++ b) n ≡ slice_get b 0
+get_behind [] b zero e = refl
+get_behind [] b (suc n) e = absurd (omega arith)
+get_behind (x ∷ a) b zero e = absurd (omega arith)
+get_behind (x ∷ a) b (suc n) e = get_behind a b n (omega arith)
+
+pub undivided : {c : List ℕ} {n k : ℕ} (x : CutsUnits c n k None) → Undivided c n x.front x.back
+undivided {c} {n} x =
+    let whole : units c ≡ units x.front ++ units x.back = ap units x.joined ∙ units-append x.front x.back in
+    record {
+      within = omega (arith, ap length whole, length-append (units x.front) (units x.back), x.counted);
+      kept = ap (take n) whole ∙ take_at (units x.front) (units x.back) n x.counted;
+      behind = ap (drop n) whole ∙ drop_at (units x.front) (units x.back) n x.counted;
+      here = ap (λ u. slice_get u n) whole ∙ get_behind (units x.front) (units x.back) n x.counted;
+    }
+
+-- the pair of p is divided
+pub record Divided (c : List ℕ) (n k p : ℕ) (front rest : List ℕ) : Type 0 where
+  pub joined : c ≡ front ++ p ∷ rest
+  pub large : 0x10000 ≤ p
+  pub within : n ≤ length (units c)
+  pub kept : take n (units c) ≡ units front ++ lead_of p ∷ []
+  pub behind : drop n (units c) ≡ trail_of p ∷ units rest
+  pub here : slice_get (units c) n ≡ Some (trail_of p)
+  pub front_len : length (bytes front) ≡ k
+  pub pushed : c ≡ (front ++ p ∷ []) ++ rest
+  pub pushed_len : length (bytes (front ++ p ∷ [])) ≡ k + 4
+  pub long : k + 4 ≤ length (bytes c)
+
+pub divided : {c : List ℕ} {n k p : ℕ} (x : CutsUnits c n k (Some p)) → Divided c n k p x.front x.counted.rest
+divided {c} {n} {k} {p} x =
+    let d : Divides x.front x.back n p = x.counted in
+    let joined : c ≡ x.front ++ p ∷ d.rest = x.joined ∙ ap (λ b. x.front ++ b) d.first in
+    let whole : units c ≡ (units x.front ++ lead_of p ∷ []) ++ (trail_of p ∷ units d.rest) =
+    simp (joined, units-append, units_two p d.supplementary, append_assoc) in
+    let long : length (units x.front ++ lead_of p ∷ []) ≡ n = omega (arith, length-append (units x.front) (lead_of p ∷ []), d.inside) in
+    let pushed : c ≡ (x.front ++ p ∷ []) ++ d.rest = joined ∙ sym (append_assoc x.front (p ∷ []) d.rest) in
+    let pushed_len : length (bytes (x.front ++ p ∷ [])) ≡ k + 4 =
+    simp (bytes-pushed, length-append, encoding_four p d.supplementary, x.front_len) in
+    let all_len = ap (λ v. length (bytes v)) pushed ∙ ap length (bytes-append (x.front ++ p ∷ []) d.rest) in
+    record {
+      joined = joined;
+      large = d.supplementary;
+      within = omega (arith, ap length whole, length-append (units x.front ++ lead_of p ∷ []) (trail_of p ∷ units d.rest), long);
+      kept = ap (take n) whole ∙ take_at (units x.front ++ lead_of p ∷ []) (trail_of p ∷ units d.rest) n long;
+      behind = ap (drop n) whole ∙ drop_at (units x.front ++ lead_of p ∷ []) (trail_of p ∷ units d.rest) n long;
+      here = ap (λ u. slice_get u n) whole ∙ get_behind (units x.front ++ lead_of p ∷ []) (trail_of p ∷ units d.rest) n long;
+      front_len = x.front_len;
+      pushed = pushed;
+      pushed_len = pushed_len;
+      long = omega (arith, pushed_len, all_len, length-append (bytes (x.front ++ p ∷ [])) (bytes d.rest));
+    }
+
+pub in_range : {c : List ℕ} {n k p : ℕ} {front rest : List ℕ} → IsClean c → Divided c n k p front rest → IsCodePoint p
+in_range {c} {n} {k} {p} {front} {rest} clean d = clean-first p rest (clean-back front (p ∷ rest) (subst IsClean d.joined clean))
+
+-- the bytes before the pair and those of its lead
+abbrev pub lead_kept : {w : List ℕ} (h : IsWellFormed w) {n k p : ℕ} {front rest : List ℕ} → Divided h.points n k p front rest
+    → IsWellFormed (take k w ++ encoding (lead_of p))
+lead_kept {w} h {n} {k} {p} {front} {rest} d =
+    let range = in_range h.clean d in
+    let clean : IsClean (front ++ p ∷ rest) = subst IsClean d.joined h.clean in
+    record {
+      points = front ++ lead_of p ∷ [];
+      clean = clean-append front (lead_of p ∷ []) (clean-front front (p ∷ rest) clean) (omega (arith, range, d.large))
+          (no_trail (lead_of p) [] (λ t. omega (arith, range, d.large, t.0)));
+      encoded = bytes-pushed front (lead_of p) ∙ ap (λ v. v ++ encoding (lead_of p)) (cut_by h front (p ∷ rest) k d.joined d.front_len).before.encoded;
+    }
+
+pub lead_kept_units : {c : List ℕ} {n k p : ℕ} {front rest : List ℕ} → IsClean c → Divided c n k p front rest
+    → units (front ++ lead_of p ∷ []) ≡ take n (units c)
+lead_kept_units {c} {n} {k} {p} {front} {rest} clean d =
+    cc (units-pushed front (lead_of p), units_one (lead_of p) (omega (arith, in_range clean d, d.large)), d.kept)
+
+-- the code points before an undivided pair are the front of its position
+pub front_at : {w : List ℕ} (h : IsWellFormed w) {n k : ℕ} (x : CutsUnits h.points n k None) → IsFront (units h.points) k (take n (units h.points))
+front_at h x = record {
+  front = x.front;
+  back = x.back;
+  splits = record { reads = record { clean = subst IsClean x.joined h.clean; same_units = ap units (sym x.joined) }; front_len = x.front_len };
+  same_units = sym (undivided x).kept;
+}
+
+-- a pair is divided exactly where the cut says so
+pub divides_none : {c : List ℕ} {n k : ℕ} → IsClean c → CutsUnits c n k None → ¬ (DividesPair (units c) n)
+divides_none {c} {n} clean x m =
+    let all : IsClean (x.front ++ x.back) = subst IsClean x.joined clean in
+    let before : Reads x.front (take n (units c)) = record { clean = clean-front x.front x.back all; same_units = sym (undivided x).kept } in
+    let behind : Reads x.back (drop n (units c)) = record { clean = clean-back x.front x.back all; same_units = sym (undivided x).behind } in
+    clean-apart x.front x.back all (points_meet before behind m)
+
+pub divides_some : {c : List ℕ} {n k p : ℕ} {front rest : List ℕ} → IsClean c → Divided c n k p front rest → DividesPair (units c) n
+divides_some {c} {n} {k} {p} {front} {rest} clean d =
+    let range = in_range clean d in
+    meets_by (units front) (units rest) (lead_of p) (trail_of p) (omega (arith, range, d.large), omega (arith, range, d.large)) (omega (arith, range), omega (arith, range))
+    d.kept d.behind
+
+-- a beginning of units divides the pairs that lie in it; where a lead is cut off behind it, its end divides none
+grown : (v r : List ℕ) (n : ℕ) → DividesPair v n → DividesPair (v ++ r) n
+grown v r n m =
+    let within : n ≤ length v = omega (arith, ap length m.begins, length-drop n v) in
+    meets_by m.front (m.rest ++ r) m.lead m.trail m.is_lead m.is_trail (take-append-le n v r within ∙ m.ends) (drop-append-le n v r within ∙ ap (λ w. w ++ r) m.begins)
+
+cut_back : (v r : List ℕ) (n : ℕ) → n < length v → DividesPair (v ++ r) n → DividesPair v n
+cut_back v r n h m =
+    let first = drop-cons v n 0 h in
+    let whole : get_or v n 0 ∷ (drop (suc n) v ++ r) ≡ m.trail ∷ m.rest = ap (λ w. w ++ r) (sym first) ∙ (sym (drop-append-le n v r (omega arith)) ∙ m.begins) in
+    let here : get_or v n 0 ≡ m.trail = ap (λ w. get_or w 0 0) whole in
+    meets_by m.front (drop (suc n) v) m.lead m.trail m.is_lead m.is_trail (sym (take-append-le n v r (omega arith)) ∙ m.ends) (first ∙ ap (λ x. x ∷ drop (suc n) v) here)
+
+no_lead_there : (u v : List ℕ) (l end : ℕ) → v ++ l ∷ [] ≡ take end u → DividesPair u end → ¬ (DividesPair u (length v))
+no_lead_there u v l end e d m =
+    let last : l ≡ d.lead = (same_from_push v d.front l d.lead (e ∙ d.ends)).1 in
+    let whole : u ≡ v ++ l ∷ drop end u = sym (take-append-drop end u) ∙ (ap (λ w. w ++ drop end u) (sym e) ∙ append_assoc v (l ∷ []) (drop end u)) in
+    let here : l ≡ m.trail = ap (λ w. get_or w 0 0) (sym (drop_at v (l ∷ drop end u) (length v) refl) ∙ (ap (drop (length v)) (sym whole) ∙ m.begins)) in
+    omega (arith, last, here, d.is_lead, m.is_trail)
+
+pub divides_in_front : (u v : List ℕ) (half : Option ℕ) (n end : ℕ) → n < end → end ≤ length u → v ++ option_to_list half ≡ take end u
+    → (IsSome half ↔ DividesPair u end) → DividesPair v n ↔ DividesPair u n
+divides_in_front u v half n end h in_u e d =
+    let rest = option_to_list half ++ drop end u in
+    let whole : v ++ rest ≡ u = sym (append_assoc v (option_to_list half) (drop end u)) ∙ (ap (λ w. w ++ drop end u) e ∙ take-append-drop end u) in (
+      λ m. subst (λ w. DividesPair w n) whole (grown v rest n m),
+      λ m. elim (cases_lt n (length v)) [
+        | inl k ↦ cut_back v rest n k (subst (λ w. DividesPair w n) (sym whole) m)
+        | inr k ↦ behind half e d k m
+      ],
+    )
+  where
+    behind : (half : Option ℕ) → v ++ option_to_list half ≡ take end u → (IsSome half ↔ DividesPair u end) → length v ≤ n → DividesPair u n → DividesPair v n
+    behind None e d k m = absurd (omega (arith, h, k, in_u, length-take-le end u in_u, ap length e, length-append v []))
+    behind (Some l) e d k m =
+        let same : n ≡ length v = omega (arith, h, k, length-take-le end u in_u, ap length e, length-append v (l ∷ [])) in
+        absurd (no_lead_there u v l end e (d.0 refl) (subst (DividesPair u) same m))
+
+-- Bytes that begin with a held trail or with a code point, and what one unit leaves of them.
+
+pub inside : (b : ℕ) → 0x80 ≤ b → b < 0xC0 → is_inside b ≡ true
+inside b l h = rw (le-ltb b 0x80 l, lt-ltb b 0xC0 h) refl
+
+pub below : (b : ℕ) → b < 0x80 → is_inside b ≡ false
+below b h = rw (lt-ltb b 0x80 h) refl
+
+pub above : (b : ℕ) → 0xC0 ≤ b → is_inside b ≡ false
+above b l = rw (le-ltb b 0x80 (omega arith), le-ltb b 0xC0 l) refl
+
+-- well-formed bytes begin a code point, and so no trail
+start_of : {w : List ℕ} → IsWellFormed w → 0 < length w → Begins (get_or w 0 0)
+start_of h n = let b = (first_of h n).begins in subst Begins (sym (ap (λ v. get_or v 0 0) b.encoded)) (first-encoding b.point b.rest)
+
+pub starts : {w : List ℕ} → IsWellFormed w → is_inside (get_or w 0 0) ≡ false
+starts {w = []} h = refl
+starts {w = a ∷ r} h = elim ((start_of h (omega arith)).start) [ inl l ↦ below a l | inr g ↦ above a g ]
+
+-- bytes that begin a code point are their own rest, and hold nothing
+pub not_held : (w : List ℕ) → is_inside (get_or w 0 0) ≡ false → (held_in w ≡ []) × (behind_held w ≡ w)
+not_held [] e = (refl, refl)
+not_held (a ∷ []) e = (refl, refl)
+not_held (a ∷ b ∷ w) e = (rw e refl, rw e refl)
+
+-- bytes that begin with a trail hold both of its bytes
+pub is_whole : (w : List ℕ) → IsWellFormed (behind_held w) → 0x80 ≤ get_or w 0 0 → get_or w 0 0 < 0xC0 → 1 < length w
+is_whole [] h l g = absurd (omega arith)
+is_whole (a ∷ []) h l g = absurd (elim ((start_of h (omega arith)).start) [ inl m ↦ omega arith | inr m ↦ omega arith ])
+is_whole (a ∷ b ∷ w) h l g = omega arith
+
+pub held_at : (w : List ℕ) → 1 < length w → is_inside (get_or w 0 0) ≡ true
+    → (held_in w ≡ trail_by (get_or w 0 0) (get_or w 1 0) ∷ []) × (behind_held w ≡ drop 2 w)
+held_at [] h e = absurd (omega arith)
+held_at (a ∷ []) h e = absurd (omega arith)
+held_at (a ∷ b ∷ w) h e = (rw e refl, rw e refl)
+
+-- what is unread from a position on
+abbrev pub unread_at : (v : List ℕ) (at : ℕ) → IsWellFormed (behind_held (drop at v)) → Unread
+unread_at v at h = record { held = held_in (drop at v); points = h.points }
+
+-- a step by a unit: where it leads, and what is unread before and behind it
+pub record Steps (v : List ℕ) (at : ℕ) (h : IsWellFormed (behind_held (drop at v))) (unit next : ℕ) : Type 0 where
+  pub within : next ≤ length v
+  pub behind : IsWellFormed (behind_held (drop next v))
+  pub first : unread_units (unread_at v at h) ≡ unit ∷ unread_units (unread_at v next behind)
+  pub left : unread_at v next behind ≡ unread_after (unread_at v at h)
+
+-- behind the first unit of a code point the others are held
+first_on : (old new points more : List ℕ) (p unit : ℕ) → old ≡ [] → points ≡ p ∷ more → units_of p ≡ unit ∷ new
+    → old ++ units points ≡ unit ∷ (new ++ units more)
+first_on old new points more p unit e f g = rw (e, f) (ap (λ u. u ++ units more) g)
+
+left_on : (old new points more : List ℕ) (p unit : ℕ) → old ≡ [] → points ≡ p ∷ more → units_of p ≡ unit ∷ new
+    → record { held = new; points = more } ≡ unread_after (record { held = old; points = points })
+left_on old new points more p unit e f g = rw (e, f) (ap (λ t. record { held = t; points = more }) (sym (ap (drop 1) g)))
+
+-- a code point of one unit
+pub steps_one : (v : List ℕ) (at : ℕ) (h : IsWellFormed (behind_held (drop at v))) (p next : ℕ) → at < length v
+    → is_inside (get_or (drop at v) 0 0) ≡ false → p < 0x10000
+    → ((q : ℕ) (r : List ℕ) → IsCodePoint q → drop at v ≡ encoding q ++ r → (p ≡ q) × (next ≡ at + length (encoding q))) → Steps v at h p next
+steps_one v at h p next long e small read =
+    let n = not_held (drop at v) e in
+    let t = taken v at (moved h (sym n.1)) p next long read in
+    let m = not_held (drop next v) (starts t.rest) in
+    let all : units_of p ≡ p ∷ held_in (drop next v) = units_one p small ∙ ap (λ k. p ∷ k) (sym m.0) in
+    record {
+      within = t.within;
+      behind = moved t.rest m.1;
+      first = first_on _ _ h.points t.rest.points p p n.0 t.joined all;
+      left = left_on _ _ h.points t.rest.points p p n.0 t.joined all;
+    }
+
+-- the lead of a supplementary code point
+pub steps_lead : (v : List ℕ) (at : ℕ) (h : IsWellFormed (behind_held (drop at v))) (unit next : ℕ) → at < length v
+    → 0xF0 ≤ get_or (drop at v) 0 0 → next ≡ at + 2
+    → ((p : ℕ) (r : List ℕ) → IsCodePoint p → drop at v ≡ encoding p ++ r → unit ≡ lead_of p) → Steps v at h unit next
+steps_lead v at h unit next long g two_on read =
+    let n = not_held (drop at v) (above (get_or (drop at v) 0 0) (omega arith)) in
+    let f = first_of (moved h (sym n.1)) (omega (arith, length-drop at v)) in
+    let b = f.begins in
+    let p = b.point in
+    let begin : get_or (drop at v) 0 0 ≡ get_or (encoding p ++ b.rest) 0 0 = ap (λ w. get_or w 0 0) b.encoded in
+    elim (row_of p) [
+      | one l e ↦ absurd (omega (arith, rw e at begin))
+      | two _ l e ↦ absurd (omega (arith, rw e at begin))
+      | three _ l e ↦ absurd (omega (arith, rw e at begin))
+      | four l e ↦
+          let c = 0x80 + p / 64 % 64 in
+          let d = 0x80 + p % 64 in
+          let whole = b.encoded ∙ ap (λ x. x ++ b.rest) e in
+          let rest : drop next v ≡ c ∷ d ∷ b.rest = ap (λ k. drop k v) two_on ∙ (sym (drop-drop 2 at v) ∙ ap (drop 2) whole) in
+          let k = held_at (c ∷ d ∷ b.rest) (omega arith) (inside c (omega arith) (omega arith)) in
+          let trail : trail_by c d ≡ trail_of p = omega arith in
+          let held : held_in (drop next v) ≡ trail_of p ∷ [] = ap held_in rest ∙ (k.0 ∙ ap (λ t. t ∷ []) trail) in
+          let all : units_of p ≡ unit ∷ held_in (drop next v) =
+          units_two p l ∙ (ap (λ a. a ∷ trail_of p ∷ []) (sym (read p b.rest b.in_range b.encoded)) ∙ ap (λ t. unit ∷ t) (sym held)) in
+          record {
+            within = omega (arith, two_on, ap length whole, length-drop at v);
+            behind = record { points = f.rest; clean = f.clean; encoded = f.encoded ∙ sym (ap behind_held rest ∙ k.1) };
+            first = first_on _ _ h.points f.rest p unit n.0 f.points all;
+            left = left_on _ _ h.points f.rest p unit n.0 f.points all;
+          }
+    ]
+
+first_held : (old new points : List ℕ) (t : ℕ) → old ≡ t ∷ [] → new ≡ [] → old ++ units points ≡ t ∷ (new ++ units points)
+first_held old new points t e f = rw (e, f) refl
+
+left_held : (old new points : List ℕ) (t : ℕ) → old ≡ t ∷ [] → new ≡ []
+    → record { held = new; points = points } ≡ unread_after (record { held = old; points = points })
+left_held old new points t e f = rw (e, f) refl
+
+-- a trail whose lead was given
+pub steps_trail : (v : List ℕ) (at : ℕ) (h : IsWellFormed (behind_held (drop at v))) (next : ℕ) → 0x80 ≤ get_or (drop at v) 0 0
+    → get_or (drop at v) 0 0 < 0xC0 → next ≡ at + 2 → Steps v at h (trail_by (get_or (drop at v) 0 0) (get_or (drop at v) 1 0)) next
+steps_trail v at h next l g two_on =
+    let whole = is_whole (drop at v) h l g in
+    let n = held_at (drop at v) whole (inside (get_or (drop at v) 0 0) l g) in
+    let rest : drop next v ≡ drop 2 (drop at v) = ap (λ k. drop k v) two_on ∙ sym (drop-drop 2 at v) in
+    let b = moved h (rest ∙ sym n.1) in
+    let m = not_held (drop next v) (starts b) in
+    record {
+      within = omega (arith, two_on, whole, length-drop at v);
+      behind = moved b m.1;
+      first = first_held _ _ h.points _ n.0 m.0;
+      left = left_held _ _ h.points _ n.0 m.0;
+    }
+
+-- at the end nothing is left
+pub ended : (w : List ℕ) (h : IsWellFormed (behind_held w)) → length w ≡ 0 → (held_in w ≡ []) × (h.points ≡ [])
+ended [] h e = (refl, no_points h refl)
+ended (a ∷ w) h e = absurd (omega arith)

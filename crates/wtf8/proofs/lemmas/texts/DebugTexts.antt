@@ -1,0 +1,65 @@
+-- Debug texts: writes one after the other, and the digits of a number.
+use Rattle.wtf8.proofs.Common.{◌≡◌, ℕ, ◌/◌, ◌%◌, ◌<◌, ◌≤◌, List, [], ◌∷◌, ◌++◌, inl, inr, refl, sym, ap, ◌∙◌, subst, arith, lt-ltb, le-ltb, lt-leb, le-leb, cases_lt}
+use Rattle.wtf8.proofs.Common.{IsFlush, has_written_styled_nil, encoding, digit, encoding_is_encode, IsSurrogate}
+use Rattle.std.proofs.Common.{codes}
+use Rattle.std.proofs.Output.{writes_in_calls_append}
+use Rattle.std.specs.Fmt.{HasWrittenStyled}
+use Rattle.std.specs.declared.fmt.Formatter.{Formatter}
+use lib.Utf8.{encode}
+use Rattle.wtf8.specs.Debug.{last_four, upper, shown}
+
+-- g has written the front of a text that f began: once it has written the rest, the whole is written
+pub record Continues {W : Type 0} (took : W → List ℕ → W → Type 0) (f : Formatter W) (whole : List ℕ) (g : Formatter W) (rest : List ℕ) : Type 0 where
+  pub flush : IsFlush g
+  pub ends : (h : Formatter W) → HasWrittenStyled took g rest h → HasWrittenStyled took f whole h
+
+module _ {W : Type 0} {took : W → List ℕ → W → Type 0} where
+  -- two writes in a row
+  pub then_written : {f g h : Formatter W} {a b : List ℕ} → HasWrittenStyled took f a g → HasWrittenStyled took g b h → HasWrittenStyled took f (a ++ b) h
+  then_written p q = record { wrote = writes_in_calls_append _ _ _ _ _ _ p.wrote q.wrote; spec = q.spec ∙ p.spec; flush = q.flush }
+
+  -- the same write, with its text in another form
+  pub written_as : {f g : Formatter W} {a b : List ℕ} → a ≡ b → HasWrittenStyled took f a g → HasWrittenStyled took f b g
+  written_as {f} {g} e = subst (λ (t : List ℕ). HasWrittenStyled took f t g) e
+
+  -- the same write, with the formatter under another name
+  pub written_to : {f g h : Formatter W} {a : List ℕ} → h ≡ g → HasWrittenStyled took f a g → HasWrittenStyled took f a h
+  written_to {f} {g} {h} {a} e = subst (HasWrittenStyled took f a) (sym e)
+
+  pub begun : {f : Formatter W} (whole : List ℕ) → IsFlush f → Continues took f whole f whole
+  begun whole flush = record { flush = flush; ends = λ h w. w }
+
+  pub continued : {f g h : Formatter W} {whole rest a b : List ℕ} → Continues took f whole g rest → HasWrittenStyled took g a h → rest ≡ a ++ b
+      → Continues took f whole h b
+  continued c w e = record { flush = w.flush; ends = λ h v. c.ends h (written_as (sym e) (then_written w v)) }
+
+  pub ended : {f g : Formatter W} {whole rest : List ℕ} → Continues took f whole g rest → rest ≡ [] → HasWrittenStyled took f whole g
+  ended {f} {g} c e = c.ends g (written_as (sym e) (has_written_styled_nil took g c.flush))
+
+-- the digits of a code point by their number
+pub upper_four : (n : ℕ) → n < 0x10000 → upper n ≡ last_four n
+unfolding upper
+upper_four n h = rw (lt-ltb n 0x10000 h) refl
+
+pub upper_five : (n : ℕ) → 0x10000 ≤ n → n < 0x100000 → upper n ≡ digit (n / 0x10000) ∷ last_four n
+unfolding upper
+upper_five n l h = rw (le-ltb n 0x10000 l, lt-ltb n 0x100000 h) refl
+
+pub upper_six : (n : ℕ) → 0x100000 ≤ n → upper n ≡ digit (n / 0x100000) ∷ digit (n / 0x10000 % 16) ∷ last_four n
+unfolding upper
+upper_six n l = rw (le-ltb n 0x10000 (omega arith), le-ltb n 0x100000 l) refl
+
+-- what stands for a surrogate, and for any other code point
+pub shown_surrogate : (n p : ℕ) → IsSurrogate p → n ≡ p → codes "\\u{" ++ (upper n ++ codes "}") ≡ shown p
+unfolding shown
+shown_surrogate n p h e = rw (e, le-leb 0xD800 p h.0, le-leb p 0xDFFF h.1) refl
+
+shown_itself : (p : ℕ) → ¬ IsSurrogate p → shown p ≡ encoding p
+unfolding shown
+shown_itself p h = elim (cases_lt p 0xD800) [
+  | inl l ↦ rw (lt-leb 0xD800 p l) refl
+  | inr l ↦ elim (cases_lt 0xDFFF p) [ inl m ↦ rw (le-leb 0xD800 p l, lt-leb p 0xDFFF m) refl | inr m ↦ absurd (h (l, m)) ]
+]
+
+pub shown_scalar : (c p : ℕ) → ¬ IsSurrogate p → c ≡ p → encode c ≡ shown p
+shown_scalar c p h e = ap encode e ∙ (sym (encoding_is_encode p) ∙ sym (shown_itself p h))

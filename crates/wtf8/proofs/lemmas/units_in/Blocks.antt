@@ -1,0 +1,263 @@
+-- Blocks of units of one kind: their lanes, their bytes, and what they add to a string.
+use Rattle.wtf8.proofs.Common.{◌≡◌, ℕ, zero, suc, ◌%◌, ◌^◌, ◌<◌, ◌≤◌, leb, ltb, Bool, true, false, cond, ◌&&◌, ◌||◌, List, [], ◌∷◌, map, length, replicate, bit_and}
+use Rattle.wtf8.proofs.Common.{bit_or, Fits, refl, sym, ap, ◌∙◌, arith, inl, inr, cases_Bool, mask_l-mod, tops_compared, Each1, zip2, mask_l, top, AreAscii}
+use Rattle.wtf8.proofs.Common.{AreTwoByteUnits, AreThreeByteUnits, IsSurrogate, ◌+◌, ◌/◌, ◌++◌, flat_map, bytes, encoding, IsTrue, take, drop, get_or, subst}
+use Rattle.wtf8.proofs.Common.{length-append, get_or-append-add, take-append-drop, take_all, Each1-weaker, length-chunk, MeetsAsPair, IsClean, bytes-injective}
+use Rattle.wtf8.proofs.Common.{AreScalar, units, IsKnownForm, DividesNoPair, IsBlock, numbers, append_assoc, Ok, IsWellFormed, GainsUnits}
+use Rattle.std.proofs.Common.{w16, w32}
+use Rattle.std.proofs.Math.Seq.{get_or-append_seam, take-add}
+use Rattle.std.proofs.lemmas.Bool.{leb-false, ltb-false, or_parts, and_cases}
+use Rattle.std.proofs.lemmas.List.{length-map}
+use Rattle.std.proofs.lemmas.Simd.{zip2_splat_left, Each1-get_or}
+use Rattle.wtf8.specs.Unicode.{IsLead}
+use Rattle.wtf8.specs.UnitParts.{AreScalarUnits}
+use Rattle.wtf8.specs.declared.numbers.code_point.CodePoint.{CodePoint}
+use Rattle.wtf8.proofs.lemmas.numbers.Encoding.{encoding_two, encoding_three, third_row, encoding_one, bytes-append}
+use Rattle.wtf8.proofs.lemmas.numbers.Readings.{meets_by, units-cons_one}
+use Rattle.wtf8.proofs.lemmas.strings.Concatenation.{form_apart}
+use Rattle.wtf8.proofs.lemmas.strings.Gains.{scalar-append, gains_behind, gained_units, known_gained, scalar_behind, units-points}
+
+-- Blocks of numbers in lanes: what the mask of a block says of them.
+
+-- a lane of a comparison of units
+abbrev wide : Bool → ℕ
+wide b = cond b 0xFFFF 0
+
+-- where no lane is set each lane is as it must be
+each_unset : (p : ℕ → Bool) (P Q : ℕ → Type 0) → ((x : ℕ) → P x → p x ≡ false → Q x) → (xs : List ℕ) → Each1 P xs → mask_l (map p xs) ≡ 0 → Each1 Q xs
+each_unset p P Q h [] f e = tt
+each_unset p P Q h (x ∷ xs) f e = elim (cases_Bool (p x)) [
+  | inl t ↦ absurd (omega (arith, rw t at e))
+  | inr u ↦ (h x f.0 u, each_unset p P Q h xs f.1 (omega (arith, rw u at e)))
+]
+
+none_set : (p : ℕ → Bool) (P Q : ℕ → Type 0) → ((x : ℕ) → P x → p x ≡ false → Q x) → (xs : List ℕ) {ms : List Bool} → length xs ≤ 64 → Each1 P xs
+    → ms ≡ map p xs → mask_l ms % 2 ^ 64 ≡ 0 → Each1 Q xs
+none_set p P Q h xs few f same e =
+    let whole = mask_l-mod (map p xs) 64 (omega (arith, few, length-map xs p)) in
+    each_unset p P Q h xs f (sym whole ∙ ap (λ ms. mask_l ms % 2 ^ 64) (sym same) ∙ e)
+
+-- where no lane is set all numbers are below 80
+pub none_high : (xs : List ℕ) → length xs ≡ 16 → Each1 (Fits w32) xs
+    → mask_l (map (top 31) (zip2 (λ a b. cond (leb a b) 0xFFFFFFFF 0) (replicate 16 0x80) xs)) % 2 ^ 64 ≡ 0 → AreAscii xs
+none_high xs l f = none_set (leb 0x80) (Fits w32) (λ n. n < 0x80) (λ x _ u. leb-false 0x80 x u) xs (omega arith) f
+    (tops_compared w32 leb (replicate 16 0x80) xs ∙ zip2_splat_left leb 0x80 16 xs l)
+
+-- a lane is set by a unit that does not take two bytes
+either_set : (a b : Bool) → top 15 (bit_or (wide a) (wide b)) ≡ a || b
+either_set true true = refl
+either_set true false = refl
+either_set false true = refl
+either_set false false = refl
+
+abbrev no_two : ℕ → Bool
+no_two x = ltb x 0x80 || leb 0x800 x
+
+abbrev no_twos : ℕ → List ℕ → List Bool
+no_twos n xs = map (top 15) (zip2 bit_or (zip2 (λ a b. wide (ltb a b)) xs (replicate n 0x80)) (zip2 (λ a b. wide (leb a b)) (replicate n 0x800) xs))
+
+no_twos_are : (n : ℕ) (xs : List ℕ) → length xs ≡ n → no_twos n xs ≡ map no_two xs
+no_twos_are zero [] e = refl
+no_twos_are (suc n) [] e = refl
+no_twos_are zero (x ∷ xs) e = absurd (omega arith)
+no_twos_are (suc n) (x ∷ xs) e = λ i. either_set (ltb x 0x80) (leb 0x800 x) i ∷ no_twos_are n xs (omega arith) i
+
+-- where no lane is set all units take two bytes
+pub none_no_two : (xs : List ℕ) → length xs ≡ 8 → Each1 (Fits w16) xs → mask_l (no_twos 8 xs) % 2 ^ 64 ≡ 0 → AreTwoByteUnits xs
+none_no_two xs l f = none_set no_two (Fits w16) (λ n. (0x80 ≤ n) × (n < 0x800)) two xs (omega arith) f (no_twos_are 8 xs l)
+  where
+    two : (x : ℕ) → Fits w16 x → no_two x ≡ false → (0x80 ≤ x) × (x < 0x800)
+    two x _ u = let parts = or_parts _ _ u in (ltb-false x 0x80 parts.0, leb-false 0x800 x parts.1)
+
+-- a lane is set by a unit below 800, and by a surrogate
+other_set : (a b c : Bool) → top 15 (bit_or (wide a) (bit_and (wide b) (wide c))) ≡ a || (b && c)
+other_set true true true = refl
+other_set true true false = refl
+other_set true false true = refl
+other_set true false false = refl
+other_set false true true = refl
+other_set false true false = refl
+other_set false false true = refl
+other_set false false false = refl
+
+abbrev other : ℕ → Bool
+other x = ltb x 0x800 || (leb 0xD800 x && leb x 0xDFFF)
+
+abbrev others : ℕ → List ℕ → List Bool
+others n xs = map (top 15) (zip2 bit_or (zip2 (λ a b. wide (ltb a b)) xs (replicate n 0x800))
+    (zip2 bit_and (zip2 (λ a b. wide (leb a b)) (replicate n 0xD800) xs) (zip2 (λ a b. wide (leb a b)) xs (replicate n 0xDFFF))))
+
+others_are : (n : ℕ) (xs : List ℕ) → length xs ≡ n → others n xs ≡ map other xs
+others_are zero [] e = refl
+others_are (suc n) [] e = refl
+others_are zero (x ∷ xs) e = absurd (omega arith)
+others_are (suc n) (x ∷ xs) e = λ i. other_set (ltb x 0x800) (leb 0xD800 x) (leb x 0xDFFF) i ∷ others_are n xs (omega arith) i
+
+-- where no lane is set all units take three bytes
+pub none_other : (xs : List ℕ) → length xs ≡ 8 → Each1 (Fits w16) xs → mask_l (others 8 xs) % 2 ^ 64 ≡ 0 → AreThreeByteUnits xs
+none_other xs l f = none_set other (Fits w16) (λ n. (0x800 ≤ n) × (n < 0x10000) × ¬ (IsSurrogate n)) three xs (omega arith) f (others_are 8 xs l)
+  where
+    three : (x : ℕ) → Fits w16 x → other x ≡ false → (0x800 ≤ x) × (x < 0x10000) × ¬ (IsSurrogate x)
+    three x f u =
+        let parts = or_parts _ _ u in (
+          ltb-false x 0x800 parts.0,
+          f.fits,
+          λ s. elim (and_cases _ _ parts.1) [
+            | inl l ↦ omega (arith, s.0, leb-false 0xD800 x l)
+            | inr h ↦ omega (arith, s.1, leb-false x 0xDFFF h)
+          ],
+        )
+
+-- Blocks of units as bytes: the rows of two and of three bytes that are written, and the bytes of the units.
+
+-- the two bytes that a unit from 80 to 7FF has
+abbrev pub two_byte_row : ℕ → List ℕ
+two_byte_row p = (0xC0 + p / 64 % 32) ∷ (0x80 + p % 64) ∷ []
+
+two_byte_rows : (xs : List ℕ) → AreTwoByteUnits xs → flat_map two_byte_row xs ≡ bytes xs
+two_byte_rows [] h = refl
+two_byte_rows (x ∷ xs) h =
+    let small : x / 64 % 32 ≡ x / 64 = omega (arith, h.0.1) in
+    let row : two_byte_row x ≡ encoding x = ap (λ n. (0xC0 + n) ∷ (0x80 + x % 64) ∷ []) small ∙ sym (encoding_two x h.0.0 h.0.1) in
+    ap (λ w. w ++ flat_map two_byte_row xs) row ∙ ap (λ w. encoding x ++ w) (two_byte_rows xs h.1)
+
+pub by_two_byte_rows : {w : List ℕ} (xs : List ℕ) → AreTwoByteUnits xs → w ≡ flat_map two_byte_row xs → w ≡ bytes xs
+by_two_byte_rows xs h e = e ∙ two_byte_rows xs h
+
+-- their rows are their encodings
+third_rows : (xs : List ℕ) → AreThreeByteUnits xs → flat_map third_row xs ≡ bytes xs
+third_rows [] h = refl
+third_rows (x ∷ xs) h = ap (λ w. w ++ flat_map third_row xs) (sym (encoding_three x h.0.0 h.0.1)) ∙ ap (λ w. encoding x ++ w) (third_rows xs h.1)
+
+pub by_rows : {w : List ℕ} (xs : List ℕ) → AreThreeByteUnits xs → w ≡ flat_map third_row xs → w ≡ bytes xs
+by_rows xs h e = e ∙ third_rows xs h
+
+-- Units turned into bytes part by part: where parts meet, and the form of all that was read.
+
+-- units that are no surrogates are their own code points
+scalar_clean : (u : List ℕ) → AreScalarUnits u → IsClean u
+scalar_clean [] h = tt
+scalar_clean (p ∷ []) h = omega (arith, h.0.0)
+scalar_clean (p ∷ q ∷ u) h = (omega (arith, h.0.0), λ pair. h.0.1 (pair.0.0, omega (arith, pair.0.1)), scalar_clean (q ∷ u) h.1)
+
+scalar_units : (u : List ℕ) → AreScalarUnits u → units u ≡ u
+scalar_units [] h = refl
+scalar_units (p ∷ u) h = units-cons_one p u h.0.0 ∙ ap (λ v. p ∷ v) (scalar_units u h.1)
+
+are_scalar : (u : List ℕ) → AreScalarUnits u → AreScalar u
+are_scalar [] h = tt
+are_scalar (p ∷ u) h = (h.0.1, are_scalar u h.1)
+
+pub block_form : {u w : List ℕ} {at n : ℕ} (known : Bool) → IsBlock u at n w → IsKnownForm w (take n (drop at u)) known
+block_form {u} {w} {at} {n} known b = record {
+  form = record {
+    points = take n (drop at u);
+    reads = record { clean = scalar_clean (take n (drop at u)) b.scalars; same_units = scalar_units (take n (drop at u)) b.scalars };
+    encoded = sym b.encoded;
+  };
+  scalar = λ _. are_scalar (take n (drop at u)) b.scalars;
+}
+
+ascii_bytes : (u : List ℕ) → AreAscii u → bytes u ≡ u
+ascii_bytes [] h = refl
+ascii_bytes (p ∷ u) h = ap (λ w. w ++ bytes u) (encoding_one p h.0) ∙ ap (λ v. p ∷ v) (ascii_bytes u h.1)
+
+ascii_scalars : (u : List ℕ) → AreAscii u → AreScalarUnits u
+ascii_scalars u h = Each1-weaker (λ n. n < 0x80) (λ n. (n < 0x10000) × ¬ (IsSurrogate n)) (λ n l. (omega (arith, l), λ s. omega (arith, l, s.0))) u h
+
+pub ascii_own_units : (u : List ℕ) → AreAscii u → units u ≡ u
+ascii_own_units u h = scalar_units u (ascii_scalars u h)
+
+-- ASCII is its own form
+pub ascii_form : (u : List ℕ) → AreAscii u → IsKnownForm u u true
+ascii_form u h = record {
+  form = record {
+    points = u;
+    reads = record { clean = scalar_clean u (ascii_scalars u h); same_units = scalar_units u (ascii_scalars u h) };
+    encoded = ascii_bytes u h;
+  };
+  scalar = λ _. are_scalar u (ascii_scalars u h);
+}
+
+pub ascii_block : (u w : List ℕ) (at : ℕ) → at + 16 ≤ length u → AreAscii w → w ≡ take 16 (drop at u) → IsBlock u at 16 w
+ascii_block u w at within h e =
+    let ascii = subst AreAscii e h in
+    record { within = within; scalars = ascii_scalars (take 16 (drop at u)) ascii; encoded = e ∙ sym (ascii_bytes (take 16 (drop at u)) ascii) }
+
+pub nothing_read : {w : List ℕ} (known : Bool) → w ≡ [] → IsKnownForm w [] known
+nothing_read known e = record { form = record { points = []; reads = record { clean = tt; same_units = refl }; encoded = sym e }; scalar = λ _. tt }
+
+-- no pair is divided behind units that are no surrogates
+last_is : (u w f : List ℕ) (l k : ℕ) → length w ≡ k + 1 → u ++ w ≡ f ++ l ∷ [] → get_or w k 0 ≡ l
+last_is u w f l k n e =
+    let long : length u + k ≡ length f = omega (arith, n, ap length e, length-append u w, length-append f (l ∷ [])) in
+    cc (get_or-append-add u w k 0, e, long, get_or-append_seam f l [] 0)
+
+pub last_apart : (u : List ℕ) (at k : ℕ) → at + (k + 1) ≤ length u → ¬ (IsLead (get_or (take (k + 1) (drop at u)) k 0)) → DividesNoPair u (at + (k + 1))
+last_apart u at k within n m =
+    let part = take (k + 1) (drop at u) in
+    let last = last_is (take at u) part m.front m.lead k (length-chunk at (k + 1) u within) (sym (take-add at (k + 1) u) ∙ m.ends) in
+    n (omega (arith, last, m.is_lead), omega (arith, last, m.is_lead))
+
+pub block_apart : {u w : List ℕ} (at k : ℕ) → IsBlock u at (k + 1) w → DividesNoPair u (at + (k + 1))
+block_apart {u} {w} at k b =
+    let part = take (k + 1) (drop at u) in
+    let long : length part ≡ k + 1 = length-chunk at (k + 1) u b.within in
+    let apart = Each1-get_or (λ n. (n < 0x10000) × ¬ (IsSurrogate n)) part k 0 (omega (arith, long)) b.scalars in
+    last_apart u at k b.within (λ l. apart.1 (l.0, omega (arith, l.1)))
+
+-- where a part meets what is before it, all that is behind does
+meets_longer : (a b : List ℕ) (n : ℕ) → MeetsAsPair a (take n b) → MeetsAsPair a b
+meets_longer a b n m =
+    meets_by m.front (m.rest ++ drop n b) m.lead m.trail m.is_lead m.is_trail m.ends (sym (take-append-drop n b) ∙ ap (λ c. c ++ drop n b) m.begins)
+
+-- the form of a part behind the form of all before it
+pub known_behind : (w v a b : List ℕ) (known more both : Bool) → IsKnownForm w a known → IsKnownForm v b more → ¬ (MeetsAsPair a b)
+    → (IsTrue both → IsTrue known × IsTrue more) → IsKnownForm (w ++ v) (a ++ b) both
+known_behind w v a b known more both x y n flags =
+    let whole = form_apart w v a b x.form y.form n in
+    let encoded : bytes (x.form.points ++ y.form.points) ≡ w ++ v = simp (bytes-append, x.form.encoded, y.form.encoded) in
+    let same : x.form.points ++ y.form.points ≡ whole.points = bytes-injective (x.form.points ++ y.form.points) whole.points (encoded ∙ sym whole.encoded) in
+    record { form = whole; scalar = λ t. subst AreScalar same (scalar-append x.form.points y.form.points (x.scalar (flags t).0) (y.scalar (flags t).1)) }
+
+pub part_read : (u w v new : List ℕ) (at n next : ℕ) (known more both : Bool) → IsKnownForm w (take at u) known → IsKnownForm v (take n (drop at u)) more
+    → DividesNoPair u at → (IsTrue both → IsTrue known × IsTrue more) → new ≡ w ++ v → next ≡ at + n → IsKnownForm new (take next u) both
+part_read u w v new at n next known more both x y apart flags e f =
+    let whole = known_behind w v (take at u) (take n (drop at u)) known more both x y (λ m. apart (meets_longer (take at u) (drop at u) n m)) flags in
+    subst (λ z. IsKnownForm z (take next u) both) (sym e) (subst (λ z. IsKnownForm (w ++ v) z both) (sym (ap (λ k. take k u) f ∙ take-add at n u)) whole)
+
+pub all_read : {w u : List ℕ} (at : ℕ) (known : Bool) → IsKnownForm w (take at u) known → length u ≤ at → IsKnownForm w u known
+all_read {w} {u} at known x h = subst (λ v. IsKnownForm w v known) (take_all at u h) x
+
+-- ASCII bytes behind well-formed bytes: the units that these gain, and what a buffer knows of them.
+
+ascii_gains : {w new : List ℕ} (v : List ℕ) (h : IsWellFormed w) → AreAscii v → new ≡ w ++ v → GainsUnits w new v
+ascii_gains {w} v h a e =
+    let f = ascii_form v a in
+    let k : IsWellFormed v = record { points = f.form.points; clean = f.form.reads.clean; encoded = f.form.encoded } in
+    subst (λ n. GainsUnits w n v) (sym e) (subst (GainsUnits w (w ++ v)) f.form.reads.same_units (gains_behind h k (scalar_behind (f.scalar refl))))
+
+pub ascii_units : {w new u : List ℕ} (v : List ℕ) (h : IsWellFormed w) (k : IsWellFormed new) → AreAscii v → new ≡ w ++ v → units h.points ≡ u → units k.points ≡ u ++ v
+ascii_units v h k a e s = gained_units {T = Unit {0}} {E = Unit {0}} (Ok tt) v h k s (ascii_gains v h a e)
+
+pub ascii_known : {w new : List ℕ} (v : List ℕ) (known : Bool) (h : IsWellFormed w) → AreAscii v → new ≡ w ++ v → (IsTrue known → AreScalar h.points)
+    → (k : IsWellFormed new) × ((IsTrue known → AreScalar k.points) × Unit {0})
+ascii_known v known h a e s =
+    let f = ascii_form v a in
+    known_gained {T = Unit {0}} {E = Unit {0}} (Ok tt) f.form.points v known h (sym f.form.reads.same_units) f.form.reads.clean (λ t. (s t, f.scalar refl))
+    (ascii_gains v h a e) tt
+
+-- some more of the points behind those so far
+pub points_more : (ps : List CodePoint) (at n : ℕ) (u : List ℕ) {now new : List ℕ} → now ≡ u ++ units (numbers (take at ps))
+    → new ≡ now ++ units (numbers (take n (drop at ps))) → new ≡ u ++ units (numbers (take (at + n) ps))
+points_more ps at n u s e =
+    let front = units (numbers (take at ps)) in
+    let back = units (numbers (take n (drop at ps))) in
+    let both : units (numbers (take (at + n) ps)) ≡ front ++ back =
+    ap (λ d. units (numbers d)) (take-add at n ps) ∙ units-points (take at ps) (take n (drop at ps)) in
+    e ∙ ap (λ v. v ++ back) s ∙ append_assoc u front back ∙ ap (λ v. u ++ v) (sym both)
+
+-- a block of them that are ASCII
+pub ascii_more : (ps : List CodePoint) (at : ℕ) (u block : List ℕ) {now new : List ℕ} → now ≡ u ++ units (numbers (take at ps))
+    → block ≡ numbers (take 16 (drop at ps)) → AreAscii block → new ≡ now ++ block → new ≡ u ++ units (numbers (take (at + 16) ps))
+ascii_more ps at u block {now} s b a e = points_more ps at 16 u s (e ∙ ap (λ v. now ++ v) (sym (ap units (sym b) ∙ ascii_own_units block a)))

@@ -1,0 +1,116 @@
+-- The items that a decoder gives are a reading of the units of its iterator.
+use Rattle.wtf8.proofs.Common.{◌≡◌, ◌<◌, inl, inr, ℕ, List, [], ◌∷◌, ◌++◌, Option, None, Some, Result, Ok, Err, MatchResult, refl, sym, ap, ◌∙◌, subst, arith}
+use Rattle.wtf8.proofs.Common.{IsScalar, Drains, peekable_steps, peekable_peeked, scalar_cases, point_of, points_of, units_left, decode_steps, ReadsAll, IsClean}
+use Rattle.wtf8.proofs.Common.{IsCodePoint, IsLead, IsTrail, IsSurrogate, units_of, units, pair}
+use Rattle.std.proofs.Common.{MatchOption}
+use Rattle.std.specs.Iterator.{Yields}
+use Rattle.std.specs.Iterator.Adapters.{peekable_source, PeeksNext}
+use Rattle.std.specs.Prelude.{IfSome, IsSomeAnd}
+use Rattle.std.specs.declared.iter.Ahead.{Ahead}
+use Rattle.wtf8.specs.Decoding.{DecodesItem}
+use Rattle.wtf8.specs.declared.units_in.decode.DecodeUtf16.{DecodeUtf16}
+use Rattle.wtf8.proofs.lemmas.numbers.Readings.{units_one, units_pair}
+
+module _ {S A : Type 0} (steps : S → Option A → S → Type 0) where
+  -- what comes from t comes from s, where each call from t may be one from s
+  drains_on : (s t : S) (xs : List A) → ((r : Option A) (u : S) → steps t r u → steps s r u) → Drains steps t xs → Drains steps s xs
+  drains_on s t [] on d = (d.0, (s, refl, on None d.0 (subst (λ k. steps k None d.0) (sym d.1.1) d.1.2)))
+  drains_on s t (x ∷ xs) on d = (d.0, (d.1.0, (d.1.1.0, on (Some x) d.1.1.0 d.1.1.1, d.1.1.2), d.1.2))
+
+  drains-append : (s t : S) (xs ys : List A) → Yields steps s xs t → Drains steps t ys → Drains steps s (xs ++ ys)
+  drains-append s t [] ys y d = subst (λ k. Drains steps k ys) (sym y) d
+  drains-append s t (x ∷ xs) ys y d =
+      let r = drains-append y.0 t xs ys y.2 d in
+      (r.0, (r.1.0, (y.0, y.1, r.1.1), r.1.2))
+
+module _ {S : Type 0} (steps : S → Option ℕ → S → Type 0) where
+  answer_of : (p : Option (Option ℕ)) (a b c : S) (r o : Option ℕ) → MatchOption p (steps a o b) (λ k. (o ≡ k) × (b ≡ a)) → r ≡ o → c ≡ b
+      → MatchOption p (steps a r c) (λ k. (r ≡ k) × (c ≡ a))
+  answer_of None a b c r o h e f = subst (λ k. steps a k c) (sym e) (subst (λ k. steps a o k) (sym f) h)
+  answer_of (Some k) a b c r o h e f = (e ∙ h.0, f ∙ h.1)
+
+  -- a call behind a peek gives what it would have given before
+  peeked_call : (s t u : Ahead S ℕ) (r : Option ℕ) → PeeksNext steps s t → peekable_steps steps t r u → peekable_steps steps s r u
+  peeked_call s t u r h k =
+      let same = subst (λ p. MatchOption p (steps (peekable_source t) r (peekable_source u))
+      (λ o. (r ≡ o) × (peekable_source u ≡ peekable_source t))) h.2 k.1 in
+      (k.0, answer_of (peekable_peeked s) (peekable_source s) (peekable_source t) (peekable_source u) r h.0 h.1 same.0 same.1)
+
+  bare_call : (s t : Ahead S ℕ) (r : Option ℕ) → peekable_peeked s ≡ None → peekable_steps steps s r t → steps (peekable_source s) r (peekable_source t)
+  bare_call s t r e k = subst (λ p. MatchOption p (steps (peekable_source s) r (peekable_source t))
+      (λ o. (r ≡ o) × (peekable_source t ≡ peekable_source s))) e k.1
+
+  -- where nothing is peeked the units come from the source
+  drains_source : (s : Ahead S ℕ) (xs : List ℕ) → peekable_peeked s ≡ None → Drains (peekable_steps steps) s xs → Drains steps (peekable_source s) xs
+  drains_source s [] e d = (
+    peekable_source d.0,
+    (peekable_source s, refl, bare_call s d.0 None e (subst (λ k. peekable_steps steps k None d.0) (sym d.1.1) d.1.2)),
+  )
+  drains_source s (x ∷ xs) e d =
+      let next = d.1.1.0 in
+      let r = drains_source next xs d.1.1.1.0 (d.0, (d.1.0, d.1.1.2, d.1.2)) in
+      (r.0, (r.1.0, (peekable_source next, bare_call s next (Some x) e d.1.1.1, r.1.1), r.1.2))
+
+  no_trail : (p : Option (Option ℕ)) (a b : Type 0) (q : ℕ) → IsSomeAnd p (λ o. IfSome o (λ u. ¬ (IsTrail u))) → MatchOption p a (λ o. (Some q ≡ o) × b)
+      → ¬ (IsTrail q)
+  no_trail None a b q h e = absurd h
+  no_trail (Some o) a b q h e = subst (λ k. IfSome k (λ u. ¬ (IsTrail u))) (sym e.0) h
+
+  item_range : (x : Result ℕ ℕ) → MatchResult x IsScalar IsSurrogate → IsCodePoint (point_of x)
+  item_range (Ok c) h = elim (scalar_cases c h) [ inl l ↦ omega arith | inr r ↦ omega (arith, r) ]
+  item_range (Err u) h = omega (arith, h)
+
+  clean_first : (p : ℕ) (c : List ℕ) → IsCodePoint p → IsClean c → ((q : ℕ) (d : List ℕ) → c ≡ q ∷ d → ¬ (IsLead p × IsTrail q)) → IsClean (p ∷ c)
+  clean_first p [] range clean apart = range
+  clean_first p (q ∷ c) range clean apart = (range, apart q c refl, clean)
+
+  -- no trail comes first where the unit that is held back is none
+  lone_lead : (s : Ahead S ℕ) (q : ℕ) (d : List ℕ) → IsSomeAnd (peekable_peeked s) (λ o. IfSome o (λ u. ¬ (IsTrail u)))
+      → Drains (peekable_steps steps) s (units (q ∷ d)) → ¬ (IsTrail q)
+  lone_lead s q d lone drains trail =
+      let front : units (q ∷ d) ≡ q ∷ units d = ap (λ u. u ++ units d) (units_one q (omega (arith, trail))) in
+      let first = subst (λ u. Drains (peekable_steps steps) s u) front drains in
+      no_trail (peekable_peeked s) _ _ q lone first.1.1.1.1 trail
+
+  pub record ReadsLeft (s : Ahead S ℕ) (items : List (Result ℕ ℕ)) : Type 0 where
+    pub clean : IsClean (points_of items)
+    pub all_units : Drains (peekable_steps steps) s (units (points_of items))
+
+  reads_left : (items : List (Result ℕ ℕ)) (s : DecodeUtf16 S) → Drains (decode_steps steps) s items → ReadsLeft (units_left s) items
+  reads_left [] s d = record { clean = tt; all_units = (units_left d.0, (units_left d.1.0, ap units_left d.1.1, d.1.2)) }
+  reads_left (x ∷ items) s d =
+      let next = d.1.1.0 in
+      let item : DecodesItem steps (units_left s) x (units_left next) = d.1.1.1 in
+      let rest = reads_left items next (d.0, (d.1.0, d.1.1.2, d.1.2)) in
+      let behind : Drains (peekable_steps steps) item.behind (units (points_of items)) = elim item.held [
+        | inl e ↦ subst (λ k. Drains (peekable_steps steps) k (units (points_of items))) e rest.all_units
+        | inr h ↦ drains_on (peekable_steps steps) item.behind (units_left next) (units (points_of items))
+            (λ r u. peeked_call item.behind (units_left next) u r h) rest.all_units
+      ] in
+      record {
+        clean = clean_first (point_of x) (points_of items) (item_range x item.kind) rest.clean (λ q c e pair. lone_lead (units_left next) q c (item.lone pair.0)
+            (subst (λ v. Drains (peekable_steps steps) (units_left next) (units v)) e rest.all_units) pair.1);
+        all_units = drains-append (peekable_steps steps) (units_left s) item.behind (units_of (point_of x)) (units (points_of items)) item.taken behind;
+      }
+
+  pub reads_all : (items : List (Result ℕ ℕ)) (s : DecodeUtf16 S) → peekable_peeked (units_left s) ≡ None → Drains (decode_steps steps) s items
+      → ReadsAll steps (peekable_source (units_left s)) items
+  reads_all items s e d =
+      let r = reads_left items s d in
+      record { clean = r.clean; all_units = drains_source (units_left s) (units (points_of items)) e r.all_units }
+
+  -- the units of one item came
+  pub takes_one : (s t : Ahead S ℕ) (u p : ℕ) → p ≡ u → u < 0x10000 → peekable_steps steps s (Some u) t → Yields (peekable_steps steps) s (units_of p) t
+  takes_one s t u p e h k = subst (λ us. Yields (peekable_steps steps) s us t) (sym (ap units_of e ∙ units_one u h)) (t, k, refl)
+
+  pub takes_two : (s m t : Ahead S ℕ) (l u p : ℕ) → p ≡ pair l u → IsLead l → IsTrail u → peekable_steps steps s (Some l) m → peekable_steps steps m (Some u) t
+      → Yields (peekable_steps steps) s (units_of p) t
+  takes_two s m t l u p e lead trail h k = subst (λ us. Yields (peekable_steps steps) s us t) (sym (ap units_of e ∙ units_pair l u lead trail))
+      (m, h, (t, k, refl))
+
+-- what is held back is no trail where a test of it failed
+pub held_apart : (p : Option (Option ℕ)) (o : Option ℕ) (Failed : ℕ → Type 0) → p ≡ Some o → IfSome p (λ o. IfSome o Failed)
+    → ((u : ℕ) → Failed u → ¬ (IsTrail u)) → IsSomeAnd p (λ o. IfSome o (λ u. ¬ (IsTrail u)))
+held_apart None o Failed e h apart = absurd cc
+held_apart (Some None) o Failed e h apart = tt
+held_apart (Some (Some u)) o Failed e h apart = apart u h
