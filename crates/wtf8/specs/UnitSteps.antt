@@ -1,7 +1,8 @@
 -- For private functions: what an iterator of units holds back, and what a step leaves of it.
-use Rattle.std.specs.Prelude.{ℕ, Bool, false, ◌+◌, ◌*◌, ◌%◌, List, [], ◌∷◌, drop, nat_lt, if◌then◌else◌}
+use Rattle.std.specs.Prelude.{◌≡◌, ℕ, Bool, false, ◌+◌, ◌*◌, ◌%◌, ◌≤◌, List, [], ◌∷◌, drop, length, nat_lt, if◌then◌else◌}
+use Rattle.wtf8.specs.Form.{IsWellFormed}
 use Rattle.wtf8.specs.Unicode.{units_of}
-use Rattle.wtf8.specs.Units.{Unread}
+use Rattle.wtf8.specs.Units.{Unread, unread_units}
 
 -- Whether a byte is one behind the first of a code point's encoding: from 80 to BF.
 abbrev pub is_inside : ℕ → Bool
@@ -33,3 +34,14 @@ left_after [] (p ∷ c) = record { held = drop 1 (units_of p); points = c }
 -- What is left behind the first unit.
 abbrev pub unread_after : Unread → Unread
 unread_after s = left_after s.held s.points
+
+-- What is unread from a position on: the trail that begins there, if any, and the code points behind it.
+abbrev pub unread_at : (v : List ℕ) (at : ℕ) → IsWellFormed (behind_held (drop at v)) → Unread
+unread_at v at h = record { held = held_in (drop at v); points = h.points }
+
+-- A step from a position to the next reads the first unread unit and leaves what is behind it.
+pub record StepsUnit (v : List ℕ) (at : ℕ) (h : IsWellFormed (behind_held (drop at v))) (unit next : ℕ) : Type 0 where
+  pub within : next ≤ length v
+  pub behind : IsWellFormed (behind_held (drop next v))
+  pub first : unread_units (unread_at v at h) ≡ unit ∷ unread_units (unread_at v next behind)
+  pub left : unread_at v next behind ≡ unread_after (unread_at v at h)

@@ -223,20 +223,7 @@ impl<A: Allocator> Wtf8Buf<A> {
         ensures room { HasRoomFor self.old (units_of (number code_point)) → IsOk result }
         ensures capacity { self.old.capacity ≤ self.new.capacity }
     {
-        // The length is looked up before the row is chosen, so that a loop can keep it in a register.
-        let spare = encoding::spare_room(&self.bytes);
-        // Each row has an append of its own, in which the compiler knows how many bytes are written.
-        match code_point.to_u32() {
-            0..=0x7F => concat::push_apart(&mut self.bytes, spare, code_point),
-            0x80..=0x7FF => concat::push_apart(&mut self.bytes, spare, code_point),
-            0x800..=0xD7FF => concat::push_apart(&mut self.bytes, spare, code_point),
-            0x10000.. => concat::push_apart(&mut self.bytes, spare, code_point),
-            0xD800..=0xDFFF => {
-                self.is_known_utf8 = false;
-                concat::push_surrogate(&mut self.bytes, code_point)
-            }
-            _ => concat::push_apart(&mut self.bytes, spare, code_point),
-        }
+        concat::push_point(&mut self.bytes, &mut self.is_known_utf8, code_point)
     }
 
     /// Appends a character. After a refusal the string is as before.

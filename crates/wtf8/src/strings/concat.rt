@@ -6,7 +6,7 @@ ghost use Rattle.wtf8.specs.CodePoint.{number};
 ghost use Rattle.wtf8.specs.Concatenation.{MeetsAsPair};
 ghost use Rattle.wtf8.specs.Form.{IsWellFormed, encoding};
 ghost use Rattle.wtf8.specs.Gains.{GainsUnits, FitsUnits};
-ghost use Rattle.wtf8.specs.Unicode.{units, units_of, pair, IsLead, IsTrail};
+ghost use Rattle.wtf8.specs.Unicode.{units, units_of, pair, IsSurrogate, IsLead, IsTrail};
 ghost use Rattle.wtf8.specs.View.{view_points, view_units};
 
 use crate::numbers::code_point::CodePoint;
@@ -85,6 +85,38 @@ pub(crate) fn push_surrogate<A: Allocator>(
             let spare = encoding::spare_room(bytes);
             push_apart(bytes, spare, code_point)
         }
+    }
+}
+
+/// Appends a code point, a trail surrogate behind a lead as the code point that the two stand for, and takes back at a
+/// surrogate that none is known to be held.
+#[inline(always)]
+pub(crate) fn push_point<A: Allocator>(
+    bytes: &mut Vec<u8, A>,
+    is_known_utf8: &mut bool,
+    code_point: CodePoint,
+) -> Result<(), AllocError>
+    requires { IsWellFormed bytes.old.items }
+    ensures ok { OnOk result (GainsUnits bytes.old.items bytes.new.items (units_of (number code_point))) }
+    ensures err { OnErr result (bytes.new.items ≡ bytes.old.items) }
+    ensures room { FitsUnits bytes.old.items (units_of (number code_point)) (vec_capacity bytes.old) → IsOk result }
+    ensures capacity { vec_capacity bytes.old ≤ vec_capacity bytes.new }
+    ensures known { IsTrue is_known_utf8.new → IsTrue is_known_utf8.old }
+    ensures scalar { IsTrue is_known_utf8.new → ¬ (IsSurrogate (number code_point)) }
+{
+    // The length is looked up before the row is chosen, so that a loop can keep it in a register.
+    let spare = encoding::spare_room(bytes);
+    // Each row has an append of its own, in which the compiler knows how many bytes are written.
+    match code_point.to_u32() {
+        0..=0x7F => push_apart(bytes, spare, code_point),
+        0x80..=0x7FF => push_apart(bytes, spare, code_point),
+        0x800..=0xD7FF => push_apart(bytes, spare, code_point),
+        0x10000.. => push_apart(bytes, spare, code_point),
+        0xD800..=0xDFFF => {
+            *is_known_utf8 = false;
+            push_surrogate(bytes, code_point)
+        }
+        _ => push_apart(bytes, spare, code_point),
     }
 }
 

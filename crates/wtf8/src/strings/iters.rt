@@ -1,8 +1,8 @@
 // Iterators over code points and over code units.
-ghost use Rattle.std.specs.Prelude.{◌≤◌, length, drop};
+ghost use Rattle.std.specs.Prelude.{◌≤◌, ◌<◌, length, drop};
 ghost use Rattle.wtf8.specs.Form.{IsWellFormed};
 ghost use Rattle.wtf8.specs.OneForm.{IsWellFormed-prop};
-ghost use Rattle.wtf8.specs.UnitSteps.{behind_held};
+ghost use Rattle.wtf8.specs.UnitSteps.{behind_held, StepsUnit};
 
 use crate::numbers::code_point::CodePoint;
 use crate::numbers::encoding;
@@ -107,6 +107,42 @@ impl<'a> Clone for Wtf8CodePoints<'a> {
     }
 }
 
+/// Reads the unit at a position, a trail by the last two bytes of its code point, else the first unit of the code point
+/// that begins there. The position moves behind what was read.
+#[inline(always)]
+fn read_unit(bytes: &[u8], position: &mut usize) -> u16
+    requires inside { position.old < length bytes.now }
+    requires behind { IsWellFormed (behind_held (drop position.old bytes.now)) }
+    ensures { (h : IsWellFormed (behind_held (drop position.old bytes.now))) → StepsUnit bytes.now position.old h result position.new }
+{
+    let at = *position;
+    let (_, rest) = bytes.split_at(at);
+    let first = rest[0];
+    // The position is moved in each branch: one step for all of them, by a width, is slower.
+    if first < 0x80 {
+        *position = at + 1;
+        return u16::from(first);
+    }
+    if 0xC0 <= first {
+        if first < 0xE0 {
+            let unit = encoding::read_two(rest) as u16;
+            *position = at + 2;
+            return unit;
+        }
+        if first < 0xF0 {
+            let unit = encoding::read_three(rest) as u16;
+            *position = at + 3;
+            return unit;
+        }
+        let lead = encoding::read_lead(rest);
+        *position = at + 2;
+        return lead;
+    }
+    let trail = encoding::read_trail(rest);
+    *position = at + 2;
+    trail
+}
+
 /// The 16-bit code units of a string, in order: what it was made of, whether they pair or not. It ends, and answers
 /// `None` again afterwards; a clone goes on with the same items and asks for no memory.
 ///
@@ -159,39 +195,10 @@ impl<'a> IllFormedUtf16CodeUnits<'a> {
         ensures first { YieldsFirst unread_units self.old result self.new }
         ensures left { self.new ≡ unread_after self.old }
     {
-        let at = self.at;
-        if at == self.bytes.len() {
+        if self.at == self.bytes.len() {
             return None;
         }
-        let (_, rest) = self.bytes.split_at(at);
-        let first = rest[0];
-        // The position is moved in each branch: one step for all of them, by a width, is slower.
-        if first < 0x80 {
-            self.at = at + 1;
-            return Some(u16::from(first));
-        }
-        if 0xC0 <= first {
-            if first < 0xE0 {
-                let behind = at + 2;
-                let unit = encoding::read_two(rest) as u16;
-                self.at = behind;
-                return Some(unit);
-            }
-            if first < 0xF0 {
-                let behind = at + 3;
-                let unit = encoding::read_three(rest) as u16;
-                self.at = behind;
-                return Some(unit);
-            }
-            let behind = at + 2;
-            let lead = encoding::read_lead(rest);
-            self.at = behind;
-            return Some(lead);
-        }
-        let behind = at + 2;
-        let trail = encoding::read_trail(rest);
-        self.at = behind;
-        Some(trail)
+        Some(read_unit(self.bytes, &mut self.at))
     }
 
     /// How many bytes the code points have that are left.

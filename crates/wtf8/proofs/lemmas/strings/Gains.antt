@@ -184,11 +184,11 @@ module _ {T E : Type 0} where
       let now = gained_or_kept r v h ok err in
       (now, (λ t. scalar_gained r c v h now e x (s t).1 (s t).0 ok err, tt))
 
-  pub known_point : (r : Result T E) (p : ℕ) (known : Bool) {old new : List ℕ} (h : IsWellFormed old) → IsCodePoint p → ¬ (IsSurrogate p)
+  pub known_point : (r : Result T E) (p : ℕ) (known : Bool) {old new : List ℕ} (h : IsWellFormed old) → IsCodePoint p → (IsTrue known → ¬ (IsSurrogate p))
       → (IsTrue known → AreScalar h.points)
       → OnOk r (GainsUnits old new (units_of p)) → OnErr r (new ≡ old) → (k : IsWellFormed new) × ((IsTrue known → AreScalar k.points) × Unit {0})
   known_point r p known h range apart s ok err = known_gained r (p ∷ []) (units_of p) known h (sym (append-nil (units_of p))) range
-      (λ t. (s t, (apart, tt))) ok err
+      (λ t. (s t, (apart t, tt))) ok err
 
 -- Room: how long the forms of parts and of wholes are, and the room that calls find, one after another.
 

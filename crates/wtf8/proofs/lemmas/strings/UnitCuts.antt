@@ -7,6 +7,7 @@ use Rattle.std.proofs.Common.{drop-cons, length-take-le}
 use Rattle.std.proofs.lemmas.List.{take-append-le, drop-append-le}
 use Rattle.std.specs.Option.{option_to_list}
 use Rattle.std.specs.Prelude.{IsSome}
+use Rattle.wtf8.specs.UnitSteps.{unread_at, StepsUnit}
 use Rattle.wtf8.specs.UnitCounts.{Divides}
 use Rattle.wtf8.specs.UnitPosition.{DividesPair}
 use Rattle.wtf8.specs.UnitSteps.{is_inside}
@@ -197,17 +198,6 @@ held_at [] h e = absurd (omega arith)
 held_at (a ∷ []) h e = absurd (omega arith)
 held_at (a ∷ b ∷ w) h e = (rw e refl, rw e refl)
 
--- what is unread from a position on
-abbrev pub unread_at : (v : List ℕ) (at : ℕ) → IsWellFormed (behind_held (drop at v)) → Unread
-unread_at v at h = record { held = held_in (drop at v); points = h.points }
-
--- a step by a unit: where it leads, and what is unread before and behind it
-pub record Steps (v : List ℕ) (at : ℕ) (h : IsWellFormed (behind_held (drop at v))) (unit next : ℕ) : Type 0 where
-  pub within : next ≤ length v
-  pub behind : IsWellFormed (behind_held (drop next v))
-  pub first : unread_units (unread_at v at h) ≡ unit ∷ unread_units (unread_at v next behind)
-  pub left : unread_at v next behind ≡ unread_after (unread_at v at h)
-
 -- behind the first unit of a code point the others are held
 first_on : (old new points more : List ℕ) (p unit : ℕ) → old ≡ [] → points ≡ p ∷ more → units_of p ≡ unit ∷ new
     → old ++ units points ≡ unit ∷ (new ++ units more)
@@ -220,7 +210,7 @@ left_on old new points more p unit e f g = rw (e, f) (ap (λ t. record { held = 
 -- a code point of one unit
 pub steps_one : (v : List ℕ) (at : ℕ) (h : IsWellFormed (behind_held (drop at v))) (p next : ℕ) → at < length v
     → is_inside (get_or (drop at v) 0 0) ≡ false → p < 0x10000
-    → ((q : ℕ) (r : List ℕ) → IsCodePoint q → drop at v ≡ encoding q ++ r → (p ≡ q) × (next ≡ at + length (encoding q))) → Steps v at h p next
+    → ((q : ℕ) (r : List ℕ) → IsCodePoint q → drop at v ≡ encoding q ++ r → (p ≡ q) × (next ≡ at + length (encoding q))) → StepsUnit v at h p next
 steps_one v at h p next long e small read =
     let n = not_held (drop at v) e in
     let t = taken v at (moved h (sym n.1)) p next long read in
@@ -236,7 +226,7 @@ steps_one v at h p next long e small read =
 -- the lead of a supplementary code point
 pub steps_lead : (v : List ℕ) (at : ℕ) (h : IsWellFormed (behind_held (drop at v))) (unit next : ℕ) → at < length v
     → 0xF0 ≤ get_or (drop at v) 0 0 → next ≡ at + 2
-    → ((p : ℕ) (r : List ℕ) → IsCodePoint p → drop at v ≡ encoding p ++ r → unit ≡ lead_of p) → Steps v at h unit next
+    → ((p : ℕ) (r : List ℕ) → IsCodePoint p → drop at v ≡ encoding p ++ r → unit ≡ lead_of p) → StepsUnit v at h unit next
 steps_lead v at h unit next long g two_on read =
     let n = not_held (drop at v) (above (get_or (drop at v) 0 0) (omega arith)) in
     let f = first_of (moved h (sym n.1)) (omega (arith, length-drop at v)) in
@@ -274,7 +264,7 @@ left_held old new points t e f = rw (e, f) refl
 
 -- a trail whose lead was given
 pub steps_trail : (v : List ℕ) (at : ℕ) (h : IsWellFormed (behind_held (drop at v))) (next : ℕ) → 0x80 ≤ get_or (drop at v) 0 0
-    → get_or (drop at v) 0 0 < 0xC0 → next ≡ at + 2 → Steps v at h (trail_by (get_or (drop at v) 0 0) (get_or (drop at v) 1 0)) next
+    → get_or (drop at v) 0 0 < 0xC0 → next ≡ at + 2 → StepsUnit v at h (trail_by (get_or (drop at v) 0 0) (get_or (drop at v) 1 0)) next
 steps_trail v at h next l g two_on =
     let whole = is_whole (drop at v) h l g in
     let n = held_at (drop at v) whole (inside (get_or (drop at v) 0 0) l g) in

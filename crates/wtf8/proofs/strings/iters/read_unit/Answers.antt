@@ -1,0 +1,84 @@
+use Rattle.wtf8.proofs.Common.{◌≡◌, ℕ, ◌+◌, ◌<◌, ◌≤◌, ◌∙◌, List, [], ◌∷◌, ◌++◌, length, get_or, drop, arith, ap, sym, subst, refl, length-drop, encoding}
+use Rattle.wtf8.proofs.Common.{IsWellFormed, BeginsWithPoint, IsCodePoint, units, Unread, unread_units, trail_by, held_in, behind_held, unread_after}
+use Rattle.wtf8.specs.Gains.{IsReadAs}
+use Rattle.wtf8.proofs.lemmas.numbers.Encoding.{front_of}
+use Rattle.wtf8.specs.UnitSteps.{StepsUnit}
+use Rattle.wtf8.proofs.lemmas.strings.UnitCuts.{below, above, not_held, is_whole, steps_one, steps_lead, steps_trail}
+use Rattle.wtf8.proofs.lemmas.numbers.Readings.{first_of, moved, same_points, lead_of}
+use Rattle.wtf8.proofs.strings.iters.read_unit.Goals as goal
+
+-- a code point of one byte
+one_byte : {w : List ℕ} → (v : List ℕ) (at : ℕ) (h : IsWellFormed (behind_held (drop at v))) (unit : ℕ) → w ≡ drop at v → at < length v → unit ≡ get_or w 0 0
+    → get_or w 0 0 < 0x80 → StepsUnit v at h unit (at + 1)
+one_byte v at h unit same long u low =
+    let first = ap (λ x. get_or x 0 0) same in
+    steps_one v at h unit (at + 1) long (below (get_or (drop at v) 0 0) (omega (arith, first))) (omega arith) (λ q r i e.
+    let f = front_of (record { point = q; rest = r; in_range = i; encoded = e }) in (omega (arith, first), omega (arith, first)))
+
+-- a code point of two or three bytes
+few_bytes : {w : List ℕ} → (v : List ℕ) (at : ℕ) (h : IsWellFormed (behind_held (drop at v))) (p n : ℕ) → w ≡ drop at v → at < length v → 0xC0 ≤ get_or w 0 0
+    → p < 0x10000 → IsReadAs w p n → StepsUnit v at h p (at + n)
+few_bytes v at h p n same long high small read =
+    let first = ap (λ x. get_or x 0 0) same in
+    steps_one v at h p (at + n) long (above (get_or (drop at v) 0 0) (omega (arith, first))) small (λ q r i e.
+    let t = read q r i (same ∙ e) in (t.0, omega (arith, t.1)))
+
+-- the lead of four bytes
+four_bytes : {w : List ℕ} → (v : List ℕ) (at : ℕ) (h : IsWellFormed (behind_held (drop at v))) (unit : ℕ) → w ≡ drop at v → at < length v → 0xF0 ≤ get_or w 0 0
+    → ((p : ℕ) (r : List ℕ) → IsCodePoint p → w ≡ encoding p ++ r → unit ≡ lead_of p) → StepsUnit v at h unit (at + 2)
+four_bytes v at h unit same long high read =
+    steps_lead v at h unit (at + 2) long (omega (arith, ap (λ x. get_or x 0 0) same)) refl (λ q r i e. read q r i (same ∙ e))
+
+-- a code point begins
+begun : {w : List ℕ} → (v : List ℕ) (at : ℕ) → IsWellFormed (behind_held (drop at v)) → w ≡ drop at v → at < length v → 0xC0 ≤ get_or w 0 0 → BeginsWithPoint w
+begun v at h same long high =
+    let n = not_held (drop at v) (above (get_or (drop at v) 0 0) (omega (arith, ap (λ x. get_or x 0 0) same))) in
+    subst BeginsWithPoint (sym same) (first_of (moved h (sym n.1)) (omega (arith, length-drop at v))).begins
+
+-- the two bytes of a trail
+whole : {w : List ℕ} → (v : List ℕ) (at : ℕ) → IsWellFormed (behind_held (drop at v)) → w ≡ drop at v → 0x80 ≤ get_or w 0 0 → get_or w 0 0 < 0xC0 → 1 < length w
+whole v at h same least most =
+    let first = ap (λ x. get_or x 0 0) same in
+    omega (arith, ap length same, is_whole (drop at v) h (omega (arith, first)) (omega (arith, first)))
+
+trail_bytes : {w : List ℕ} → (v : List ℕ) (at : ℕ) (h : IsWellFormed (behind_held (drop at v))) (unit : ℕ) → w ≡ drop at v → 0x80 ≤ get_or w 0 0
+    → get_or w 0 0 < 0xC0 → unit ≡ trail_by (get_or w 0 0) (get_or w 1 0) → StepsUnit v at h unit (at + 2)
+trail_bytes v at h unit same least most u =
+    let first = ap (λ x. get_or x 0 0) same in
+    let t = steps_trail v at h (at + 2) (omega (arith, first)) (omega (arith, first)) refl in
+    subst (λ n. StepsUnit v at h n (at + 2)) (sym (u ∙ ap (λ x. trail_by (get_or x 0 0) (get_or x 1 0)) same)) t
+
+pub returns-then-first-lt128 : goal.returns-then-first-lt128
+returns-then-first-lt128 c h = one_byte c.args.bytes.now c.args.position.now h c.from.result c.split_at.ensures.back c.requires.inside c.from.ensures c.if-first-lt128.true
+
+pub read_two-unit-requires-clause-front : goal.read_two-unit-requires-clause-front
+read_two-unit-requires-clause-front c =
+    begun c.args.bytes.now c.args.position.now c.requires.behind c.split_at.ensures.back c.requires.inside c.if-first-ge192.true
+
+pub returns-then-first-lt224 : goal.returns-then-first-lt224
+returns-then-first-lt224 c h = few_bytes c.args.bytes.now c.args.position.now h c.read_two-unit.result 2 c.split_at.ensures.back c.requires.inside
+    c.if-first-ge192.true c.read_two-unit.ensures.one_unit c.read_two-unit.ensures.read
+
+pub read_three-unit-requires-clause-front : goal.read_three-unit-requires-clause-front
+read_three-unit-requires-clause-front c =
+    begun c.args.bytes.now c.args.position.now c.requires.behind c.split_at.ensures.back c.requires.inside c.if-first-ge192.true
+
+pub returns-then-first-lt240 : goal.returns-then-first-lt240
+returns-then-first-lt240 c h = few_bytes c.args.bytes.now c.args.position.now h c.read_three-unit.result 3 c.split_at.ensures.back c.requires.inside
+    c.if-first-ge192.true c.read_three-unit.ensures.one_unit c.read_three-unit.ensures.read
+
+pub read_lead-lead-requires-clause-front : goal.read_lead-lead-requires-clause-front
+read_lead-lead-requires-clause-front c =
+    begun c.args.bytes.now c.args.position.now c.requires.behind c.split_at.ensures.back c.requires.inside c.if-first-ge192.true
+
+pub returns-then-first-ge192 : goal.returns-then-first-ge192
+returns-then-first-ge192 c h = four_bytes c.args.bytes.now c.args.position.now h c.read_lead-lead.result c.split_at.ensures.back c.requires.inside
+    (omega (arith, c.if-first-lt240.false)) c.read_lead-lead.ensures
+
+pub read_trail-trail-requires : goal.read_trail-trail-requires
+read_trail-trail-requires c = whole c.args.bytes.now c.args.position.now c.requires.behind c.split_at.ensures.back
+    (omega (arith, c.if-first-lt128.false)) (omega (arith, c.if-first-ge192.false))
+
+pub returns : goal.returns
+returns c h = trail_bytes c.args.bytes.now c.args.position.now h c.read_trail-trail.result c.split_at.ensures.back
+    (omega (arith, c.if-first-lt128.false)) (omega (arith, c.if-first-ge192.false)) c.read_trail-trail.ensures
