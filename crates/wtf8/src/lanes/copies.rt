@@ -56,14 +56,14 @@ fn push_ends<const N: usize, A: Allocator>(bytes: &mut Vec<u8, A>, other: &[u8])
 {
     let last = other.len() - N;
     let end = bytes.len() + last;
-    push_block(bytes, block::<N>(other, 0));
+    push_block(bytes, block_at::<N>(other, 0));
     bytes.truncate(end);
-    push_block(bytes, block::<N>(other, last));
+    push_block(bytes, block_at::<N>(other, last));
 }
 
 /// The `N` bytes from a place on.
 #[inline(always)]
-fn block<const N: usize>(bytes: &[u8], at: usize) -> [u8; N]
+fn block_at<const N: usize>(bytes: &[u8], at: usize) -> [u8; N]
     requires lanes { N ≤ 64 }
     requires room { at + N ≤ length bytes.now }
     ensures { result ≡ take N (drop at bytes.now) }

@@ -78,7 +78,7 @@ fn spaced_block(bytes: u8x16) -> [u8; BLOCK]
 
 /// Appends the digits of 16 bytes with a space before each byte. There is room for them.
 #[inline(always)]
-fn push_block<A: Allocator>(text: &mut Vec<u8, A>, bytes: u8x16)
+fn push_spaced_block<A: Allocator>(text: &mut Vec<u8, A>, bytes: u8x16)
     requires { vec_len text.old + 48 ≤ vec_capacity text.old }
     ensures items { text.new.items ≡ text.old.items ++ flat_map spaced bytes }
     ensures len { vec_len text.new ≡ vec_len text.old + 48 }
@@ -125,7 +125,7 @@ pub(crate) fn push_hex<A: Allocator>(text: &mut Vec<u8, A>, bytes: &[u8]) -> Res
     push_byte(text, *first);
     let mut at = 0;
     while LANES <= rest.len() - at {
-        push_block(text, u8x16::from_slice(&rest[at..]));
+        push_spaced_block(text, u8x16::from_slice(&rest[at..]));
         at += LANES;
     }
     push_spaced(text, &rest[at..]);

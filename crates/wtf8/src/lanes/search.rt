@@ -23,7 +23,7 @@ pub(crate) fn begins_with_surrogate(bytes: &[u8]) -> bool
 
 /// The place of the first surrogate that begins at `from` or behind it, in any bytes.
 #[inline(always)]
-pub(crate) fn first_surrogate(bytes: &[u8], from: usize) -> Option<usize>
+pub(crate) fn next_surrogate(bytes: &[u8], from: usize) -> Option<usize>
     ensures { IsFirst (SurrogateAt bytes.now) from result }
 {
     let left = bytes.len().saturating_sub(from);
@@ -43,7 +43,7 @@ fn first_surrogate_in_blocks(bytes: &[u8], from: usize) -> Option<usize>
 {
     let mut at = from;
     while LANES < bytes.len().saturating_sub(at) {
-        if holds_first_byte(bytes, at) && holds_surrogate(bytes, at) {
+        if holds_first_byte(bytes, at) && holds_surrogate_in_block(bytes, at) {
             if let Some(found) = first_in_full_block(bytes, at) {
                 return Some(found);
             }
@@ -111,7 +111,7 @@ fn holds_first_byte(bytes: &[u8], at: usize) -> bool
 
 /// Whether a surrogate begins in a block. It takes longer, but no place is made of its answer.
 #[inline(always)]
-fn holds_surrogate(bytes: &[u8], at: usize) -> bool
+fn holds_surrogate_in_block(bytes: &[u8], at: usize) -> bool
     requires { at + 64 < length bytes.now }
     ensures { result ≡ false → IsFirstBelow (SurrogateAt bytes.now) at (at + 64) None }
 {
@@ -139,7 +139,7 @@ fn first_in_block<const N: usize>(bytes: &[u8], at: usize) -> Option<usize>
 {
     let firsts = Simd::<u8, N>::from_slice(&bytes[at..]);
     let seconds = Simd::<u8, N>::from_slice(&bytes[at + 1..]);
-    match block(firsts, seconds) {
+    match lane_of_surrogate(firsts, seconds) {
         Some(lane) => Some(at + lane),
         None => None,
     }
@@ -147,7 +147,7 @@ fn first_in_block<const N: usize>(bytes: &[u8], at: usize) -> Option<usize>
 
 /// The first lane of a block in which the two vectors hold the first and the second byte of a surrogate.
 #[inline(always)]
-fn block<const N: usize>(firsts: Simd<u8, N>, seconds: Simd<u8, N>) -> Option<usize>
+fn lane_of_surrogate<const N: usize>(firsts: Simd<u8, N>, seconds: Simd<u8, N>) -> Option<usize>
     requires { N ≤ 64 }
     ensures { IsFirstBelow (IsSurrogateLane firsts.entry seconds.entry) 0 N result }
 {
@@ -187,7 +187,7 @@ pub(crate) fn replace_surrogates<A: Allocator>(bytes: &mut Vec<u8, A>)
     ensures { (h : IsWellFormed bytes.old.items) → bytes.new.items ≡ bytes_of (lossy h.points) }
 {
     let mut from = 0;
-    while let Some(found) = first_surrogate(bytes, from) {
+    while let Some(found) = next_surrogate(bytes, from) {
         write_replacement(bytes, found);
         from = found + 3;
     }
@@ -272,7 +272,7 @@ mod tests {
             }
             bytes.extend_from_slice(row.end)?;
             for (from, found) in row.searches {
-                assert_eq!(rt; first_surrogate(&bytes, *from), *found, "from {from}");
+                assert_eq!(rt; next_surrogate(&bytes, *from), *found, "from {from}");
             }
         }
         Ok(())
@@ -297,7 +297,7 @@ mod tests {
                 bytes[lead + 1] = 0xA0;
                 let part = &bytes[..length];
                 assert_eq!(rt;
-                    first_surrogate(part, 0),
+                    next_surrogate(part, 0),
                     first_in_turn(part),
                     "{lead} of {length}"
                 );

@@ -49,7 +49,7 @@ pub(crate) fn first_surrogate(bytes: &[u8]) -> Option<usize>
 fn first_surrogate_in_many(bytes: &[u8]) -> Option<usize>
     ensures { IsFirst (SurrogateAt bytes.now) 0 result }
 {
-    search::first_surrogate(bytes, 0)
+    search::next_surrogate(bytes, 0)
 }
 
 /// Whether there are 4 to 64 bytes, none of which can begin a surrogate.
@@ -89,7 +89,7 @@ fn holds_surrogate_in_many(bytes: &[u8]) -> bool
     ensures { result ≡ false → IsFirst (SurrogateAt bytes.now) 0 None }
 {
     if bytes.len() <= TURN {
-        return search::first_surrogate(bytes, 0).is_some();
+        return search::next_surrogate(bytes, 0).is_some();
     }
     let at = skip_below(bytes);
     let at = skip_without_first_byte(bytes, at);
@@ -302,7 +302,7 @@ mod tests {
                 bytes.push(byte_at(place, lead))?;
                 assert_eq!(rt;
                     holds_surrogate(&bytes),
-                    search::first_surrogate(&bytes, 0).is_some(),
+                    search::next_surrogate(&bytes, 0).is_some(),
                     "{lead} of {place}"
                 );
             }

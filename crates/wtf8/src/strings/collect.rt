@@ -29,7 +29,7 @@ fn first_numbers(points: &[CodePoint]) -> Option<[u32; LANES]>
 
 /// The bytes of the first sixteen code points, if there are so many and all of them are ASCII.
 #[inline(always)]
-fn ascii_block(points: &[CodePoint]) -> Option<[u8; LANES]>
+fn ascii_points(points: &[CodePoint]) -> Option<[u8; LANES]>
     ensures long { IfSome result (λ _. 16 ≤ length points.now) }
     ensures same { IfSome result (λ block. block ≡ numbers (take 16 points.now)) }
     ensures ascii { IfSome result (λ block. AreAscii block) }
@@ -96,7 +96,7 @@ impl<A: Allocator> Wtf8Buf<A> {
         ensures capacity { self.old.capacity ≤ self.new.capacity }
     {
         let mut at = 0;
-        while let Some(block) = ascii_block(&points[at..]) {
+        while let Some(block) = ascii_points(&points[at..]) {
             self.push_ascii(&block);
             at += LANES;
         }

@@ -249,7 +249,7 @@ impl<'a> Wtf8<'a> {
         ensures some { IfSome result.1 (λ rest. bytes (lossy (view_points self.entry)) ≡ result.0.now ++ bytes (0xFFFD ∷ lossy (view_points rest))) }
         ensures shorter { IfSome result.1 (λ rest. length rest.bytes.now < length self.entry.bytes.now) }
     {
-        let Some(place) = search::first_surrogate(self.bytes, 0) else {
+        let Some(place) = search::next_surrogate(self.bytes, 0) else {
             return (unsafe { str::from_utf8_unchecked(self.bytes) }, None);
         };
         let (front, _) = self.bytes.split_at(place);

@@ -38,7 +38,7 @@ pub(crate) struct DecodeUtf16<I> {
 }
 
 /// Whether a unit is a trail surrogate.
-fn is_trail(unit: &u16) -> bool
+fn is_trail_unit(unit: &u16) -> bool
     ensures { IsTrue result ↔ IsTrail unit.now }
 {
     surrogates::is_trail(u32::from(*unit))
@@ -53,7 +53,7 @@ fn single(unit: u16) -> char
 }
 
 /// The supplementary character of a lead and a trail.
-fn joined(lead: u16, trail: u16) -> char
+fn paired(lead: u16, trail: u16) -> char
     requires lead { IsLead lead }
     requires trail { IsTrail trail }
     ensures { result ≡ pair lead trail }
@@ -74,8 +74,8 @@ impl<I: Iterator<Item = u16>> Iterator for DecodeUtf16<I> {
     fn next(&mut self) -> Option<Result<char, u16>> {
         let unit = self.units.next()?;
         match unit {
-            FIRST_LEAD..=LAST_LEAD => match self.units.next_if(is_trail) {
-                Some(trail) => Some(Ok(joined(unit, trail))),
+            FIRST_LEAD..=LAST_LEAD => match self.units.next_if(is_trail_unit) {
+                Some(trail) => Some(Ok(paired(unit, trail))),
                 None => Some(Err(unit)),
             },
             FIRST_TRAIL..=LAST_TRAIL => Some(Err(unit)),
@@ -92,7 +92,7 @@ impl<I: Iterator<Item = u16>> Iterator for DecodeUtf16<I> {
 /// Appends the string of some units to bytes, and answers whether it has no lone surrogate. Each code point is appended
 /// as it is: no two of those that are read make a pair.
 #[inline(always)]
-pub(crate) fn append_units<A: Allocator>(
+pub(crate) fn append_one_by_one<A: Allocator>(
     bytes: &mut Vec<u8, A>,
     v: &[u16],
 ) -> Result<bool, AllocError>

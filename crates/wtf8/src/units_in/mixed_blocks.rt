@@ -68,7 +68,7 @@ fn spell_all(units: &[u16; LANES], fronts: &mut [u16; LANES], backs: &mut [u16; 
 
 /// Two rows of numbers as one, with the second row's numbers above the first row's.
 #[inline(always)]
-fn joined(fronts: u16x16, backs: u16x16) -> [u32; LANES]
+fn joined_lanes(fronts: u16x16, backs: u16x16) -> [u32; LANES]
     ensures { AreJoined fronts backs result }
 {
     let above = backs.cast::<u32>().strict_mul(u32x16::splat(0x1_0000));
@@ -115,7 +115,7 @@ fn write_block(units: &[u16; LANES], block: &mut [u8; ROOM]) -> (usize, usize)
     let mut fronts = [0; LANES];
     let mut backs = [0; LANES];
     spell_all(units, &mut fronts, &mut backs);
-    let numbers = joined(u16x16::from_array(fronts), u16x16::from_array(backs));
+    let numbers = joined_lanes(u16x16::from_array(fronts), u16x16::from_array(backs));
     let most = pack(&numbers, block);
     let all = put(numbers[LANES - 1], block, most);
     if units[LANES - 1] / OF_A_KIND == FIRST_LEAD / OF_A_KIND {

@@ -73,7 +73,7 @@ pub(crate) fn ascii_bytes(numbers: u32x16) -> Option<[u8; LANES]>
 
 /// The bytes of the sixteen units from a place on, where there are so many and all of them are ASCII.
 #[inline(always)]
-fn ascii_block(v: &[u16], at: usize) -> Option<[u8; LANES]>
+fn ascii_units(v: &[u16], at: usize) -> Option<[u8; LANES]>
     requires { at ≤ length v.now }
     ensures { IfSome result (λ block. IsBlock v.now at LANES block) }
 {
@@ -209,7 +209,7 @@ fn append_part<A: Allocator>(
         return Ok((at + taken, true));
     }
     let end = end_of_part(v, at);
-    let is_scalar = decode::append_units(bytes, &v[at..end])?;
+    let is_scalar = decode::append_one_by_one(bytes, &v[at..end])?;
     Ok((end, is_scalar))
 }
 
@@ -225,7 +225,7 @@ pub(crate) fn append_units<A: Allocator>(
     let mut at = 0;
     let mut is_scalar = true;
     while at < v.len() {
-        if let Some(block) = ascii_block(v, at) {
+        if let Some(block) = ascii_units(v, at) {
             bytes.extend_from_slice(&block)?;
             at += LANES;
             continue;

@@ -6,7 +6,7 @@ use Rattle.wtf8.proofs.lanes.digits.push_hex.Goals as goal
 pub loop-at-preserved : goal.loop-at-preserved
 loop-at-preserved g c = record {
   within = omega arith;
-  written = c.push_block.ensures.items ∙ more_spaced _ _ c.in-Some.rest.now c.loop-at.at 16 c.loop-at.invariant.written;
+  written = c.push_spaced_block.ensures.items ∙ more_spaced _ _ c.in-Some.rest.now c.loop-at.at 16 c.loop-at.invariant.written;
   room = omega arith;
 }
 

@@ -13,10 +13,10 @@ returns-in-Some-clause-steps g c =
     record {
       kind = search rules;
       behind = c.next_if.new.self;
-      taken = takes_two steps (units_left c.args.self.now) c.next.new.self c.next_if.new.self unit trail c.joined.result c.joined.ensures (search rules)
+      taken = takes_two steps (units_left c.args.self.now) c.next.new.self c.next_if.new.self unit trail c.paired.result c.paired.ensures (search rules)
           (search rules) c.in_ok-unit.ensures.steps second;
       held = inl refl;
-      lone = λ lead. absurd (omega (arith, c.joined.ensures, lead));
+      lone = λ lead. absurd (omega (arith, c.paired.ensures, lead));
     }
 
 pub returns-in-None-clause-steps : goal.returns-in-None-clause-steps

@@ -2,7 +2,7 @@ use Rattle.std.proofs.Common.{◌∙◌}
 use Rattle.std.proofs.lemmas.List.{map-id}
 use Rattle.std.proofs.lemmas.Option.{IfSome_then}
 use Rattle.wtf8.proofs.lemmas.units_in.Blocks.{ascii_block}
-use Rattle.wtf8.proofs.units_in.unit_blocks.ascii_block.Goals as goal
+use Rattle.wtf8.proofs.units_in.unit_blocks.ascii_units.Goals as goal
 
 pub returns : goal.returns
 returns c =

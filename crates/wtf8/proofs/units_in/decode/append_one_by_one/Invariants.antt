@@ -1,5 +1,5 @@
 use Rattle.wtf8.proofs.Common.{◌≡◌, ◌++◌, IsTrue, points_of, bytes, AreScalar}
-use Rattle.wtf8.proofs.units_in.decode.append_units.Given as goal
+use Rattle.wtf8.proofs.units_in.decode.append_one_by_one.Given as goal
 
 abbrev pub invariant-loop-item : goal.invariant-loop-item
 invariant-loop-item g l = record {

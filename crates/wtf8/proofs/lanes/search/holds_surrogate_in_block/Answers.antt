@@ -1,6 +1,6 @@
 use Rattle.wtf8.proofs.Common.{◌+◌, arith, take, drop, eqb-true, not-false, length-chunk}
 use Rattle.wtf8.proofs.lemmas.lanes.Surrogates.{no_lane, no_surrogate}
-use Rattle.wtf8.proofs.lanes.search.holds_surrogate.Goals as goal
+use Rattle.wtf8.proofs.lanes.search.holds_surrogate_in_block.Goals as goal
 
 pub returns : goal.returns
 returns c e =

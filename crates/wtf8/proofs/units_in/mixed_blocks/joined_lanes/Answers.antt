@@ -1,5 +1,5 @@
 use Rattle.wtf8.proofs.lemmas.units_in.Pieces.{above_fit, joined_fit, joined_at}
-use Rattle.wtf8.proofs.units_in.mixed_blocks.joined.Goals as goal
+use Rattle.wtf8.proofs.units_in.mixed_blocks.joined_lanes.Goals as goal
 
 pub overflow_mul-above : goal.overflow_mul-above
 overflow_mul-above c = above_fit 16 c.args.backs c.fits-backs.1

@@ -10,7 +10,7 @@ use Rattle.std.specs.declared.iter.Copied.{Copied}
 use Rattle.std.specs.declared.slice.Iter.{Iter}
 use Rattle.wtf8.proofs.lemmas.numbers.Encoding.{bytes-pushed}
 use Rattle.wtf8.proofs.lemmas.strings.Gains.{scalar-append}
-use Rattle.wtf8.proofs.units_in.decode.append_units.Goals as goal
+use Rattle.wtf8.proofs.units_in.decode.append_one_by_one.Goals as goal
 
 -- The items of a decoder one by one: what was appended of them.
 
