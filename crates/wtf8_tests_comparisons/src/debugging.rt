@@ -1,6 +1,6 @@
 // Debug texts: of strings and code points, whatever width and flags stand outside, and through a sink that refuses a write.
+use crate::sinks::{Sink, long_text};
 use std::alloc::Global;
-use std::fmt;
 use std::fmt::{Debug, Write};
 use std::test::Fail;
 use wtf8::{CodePoint, Wtf8};
@@ -19,11 +19,12 @@ fn shows<T: Debug>(alloc: Global, value: &T, expected: &str) -> Result<bool, Fai
 }
 
 /// Code points of strings, and the strings' debug texts.
-const STRINGS: [(&[u32], &str); 7] = [
+const STRINGS: [(&[u32], &str); 8] = [
     (&[], "\"\""),
     (&[0x61, 0x22, 0x62], "\"a\"b\""),
     (&[0x61, 0xE9, 0x20, 0x1F4A9, 0xD800], "\"aé 💩\\u{D800}\""),
     (&[0xD800], "\"\\u{D800}\""),
+    (&[0x07, 0xDEAD, 0x07], "\"\u{7}\\u{DEAD}\u{7}\""),
     (&[0xABCD, 0xDABC], "\"\u{ABCD}\\u{DABC}\""),
     (&[0x0A, 0x5C, 0x27, 0x00], "\"\n\\'\0\""),
     (
@@ -43,13 +44,15 @@ fn debug_texts_show_surrogates_by_number(rt: HostRuntime) -> Result<(), Fail> {
     Ok(())
 }
 
-const POINTS: [(u32, &str); 10] = [
+const POINTS: [(u32, &str); 12] = [
     (0, "U+0000"),
+    (0x07, "U+0007"),
     (0x61, "U+0061"),
     (0xFFF, "U+0FFF"),
     (0x1000, "U+1000"),
     (0xABCD, "U+ABCD"),
     (0xD800, "U+D800"),
+    (0xDEAD, "U+DEAD"),
     (0xFFFF, "U+FFFF"),
     (0x10000, "U+10000"),
     (0x1F4A9, "U+1F4A9"),
@@ -65,68 +68,62 @@ fn a_debug_text_has_the_number_in_hexadecimal(rt: HostRuntime) -> Result<(), Fai
     Ok(())
 }
 
-/// Takes what is written, but for one write, which it refuses.
-#[derive(Drop)]
-struct Sink {
-    taken: String,
-    writes: u32,
-    refused: u32,
-}
-
-impl Write for Sink {
-    fn write_str(&mut self, s: &str) -> fmt::Result {
-        self.writes = self.writes.wrapping_add(1);
-        if self.writes == self.refused {
-            return Err(fmt::Error);
-        }
-        self.taken.write_str(s)
-    }
-}
-
-/// Whether a debug text that is written to a sink ends at the refused write, where one is refused, and is whole where none
-/// is. It answers how many writes the sink saw.
+/// Writes a debug text to a sink that refuses a write, with a sign and a width outside or without, and fails unless it ends
+/// there. It answers how many writes the sink saw.
 fn writes_of<T: Debug>(
     alloc: Global,
     value: &T,
+    is_styled: bool,
     refused: u32,
     expected: &str,
 ) -> Result<u32, Fail> {
-    let taken = String::new(alloc);
-    let mut sink = Sink {
-        taken,
-        writes: 0,
-        refused,
+    let mut sink = Sink::new(alloc, refused);
+    let is_ok = if is_styled {
+        write!(sink, "{value:+3000?}").is_ok()
+    } else {
+        write!(sink, "{value:?}").is_ok()
     };
-    let is_ok = write!(sink, "{value:?}").is_ok();
-    if is_ok != (sink.writes < refused) || is_ok != (sink.taken.as_str() == expected) {
-        return Err(Fail::new("the answer is not the sink's"));
-    }
-    if !expected.starts_with(sink.taken.as_str()) || (!is_ok && sink.writes != refused) {
-        return Err(Fail::new("it went on after the refused write"));
-    }
-    Ok(sink.writes)
+    sink.expect_end(is_ok, expected)
 }
 
 /// Fails unless each write of a debug text, refused in turn, ends it.
 fn expect_ends<T: Debug>(alloc: Global, value: &T, expected: &str) -> Result<(), Fail> {
-    let writes = writes_of(alloc, value, u32::MAX, expected)?;
-    for refused in 1..writes {
-        writes_of(alloc, value, refused, expected)?;
+    for is_styled in [false, true] {
+        let writes = writes_of(alloc, value, is_styled, u32::MAX, expected)?;
+        for refused in 1..=writes {
+            writes_of(alloc, value, is_styled, refused, expected)?;
+        }
     }
-    writes_of(alloc, value, writes, expected)?;
     Ok(())
+}
+
+/// The same for a string of these code points, and for its view.
+fn expect_string_ends(alloc: Global, numbers: &[u32], expected: &str) -> Result<(), Fail> {
+    let text = pushed(alloc, numbers)?;
+    expect_ends(alloc, &text, expected)?;
+    expect_ends(alloc, &text.as_wtf8(), expected)
 }
 
 #[test]
 fn a_debug_text_ends_at_a_refused_write(rt: HostRuntime) -> Result<(), Fail> {
     for (numbers, expected) in STRINGS {
-        let text = pushed(rt.alloc(), numbers)?;
-        expect_ends(rt.alloc(), &text, expected)?;
-        expect_ends(rt.alloc(), &text.as_wtf8(), expected)?;
+        expect_string_ends(rt.alloc(), numbers, expected)?;
     }
     for (number, expected) in POINTS {
         let point = CodePoint::from_u32(number).ok_or("a code point")?;
         expect_ends(rt.alloc(), &point, expected)?;
+    }
+    Ok(())
+}
+
+#[test]
+fn a_long_debug_text_ends_at_a_refused_write(rt: HostRuntime) -> Result<(), Fail> {
+    for (number, shown) in [(0xDEAD, "\\u{DEAD}"), (0x07, "\u{7}")] {
+        let (numbers, text) = long_text(rt.alloc(), 160, number, shown)?;
+        let mut expected = String::from_str(rt.alloc(), "\"")?;
+        expected.push_str(&text)?;
+        expected.push('"')?;
+        expect_string_ends(rt.alloc(), &numbers, &expected)?;
     }
     Ok(())
 }

@@ -1,31 +1,36 @@
 // What strings are displayed as: with a width, a fill and a precision, and through a sink that refuses a write.
+use crate::sinks::{Sink, long_text};
 use std::alloc::Global;
 use std::fmt;
 use std::fmt::{Display, Write};
 use std::test::Fail;
 use wtf8_examples::pushed;
 
-/// Code points of strings, and what is displayed of them by `{}`, `{:>8}`, `{:*^8.1}` and `{:*<6.2}`. Each text is that
-/// of the Rust library's own type of such strings.
-const STYLED: [(&[u32], [&str; 4]); 6] = [
-    (&[], ["", "        ", "********", "******"]),
+/// Code points of strings, and what is displayed of them by `{}`, `{:>8}`, `{:*^8.1}`, `{:*<6.2}` and `{:+4}`. Each text is
+/// that of the Rust library's own type of such strings.
+const STYLED: [(&[u32], [&str; 5]); 6] = [
+    (&[], ["", "        ", "********", "******", "    "]),
     (
         &[0x61, 0x62, 0x63],
-        ["abc", "     abc", "***a****", "ab****"],
+        ["abc", "     abc", "***a****", "ab****", "abc "],
     ),
-    (&[0xD83D, 0xDCA9], ["💩", "       💩", "***💩****", "💩*****"]),
-    (&[0xD83D], ["\u{FFFD}"; 4]),
-    (&[0x61, 0xD83D, 0x62], ["a\u{FFFD}b"; 4]),
-    (&[0xDCA9, 0xD83D], ["\u{FFFD}\u{FFFD}"; 4]),
+    (
+        &[0xD83D, 0xDCA9],
+        ["💩", "       💩", "***💩****", "💩*****", "💩   "],
+    ),
+    (&[0xD83D], ["\u{FFFD}"; 5]),
+    (&[0x61, 0xD83D, 0x62], ["a\u{FFFD}b"; 5]),
+    (&[0xDCA9, 0xD83D], ["\u{FFFD}\u{FFFD}"; 5]),
 ];
 
 /// Whether a value is displayed so.
-fn shows<T: Display>(alloc: Global, value: &T, expected: [&str; 4]) -> Result<bool, Fail> {
+fn shows<T: Display>(alloc: Global, value: &T, expected: [&str; 5]) -> Result<bool, Fail> {
     Ok(
         format!(in alloc; "{value}")?.as_str() == expected[0]
             && format!(in alloc; "{value:>8}")?.as_str() == expected[1]
             && format!(in alloc; "{value:*^8.1}")?.as_str() == expected[2]
-            && format!(in alloc; "{value:*<6.2}")?.as_str() == expected[3],
+            && format!(in alloc; "{value:*<6.2}")?.as_str() == expected[3]
+            && format!(in alloc; "{value:+4}")?.as_str() == expected[4],
     )
 }
 
@@ -39,16 +44,17 @@ fn a_text_is_filled_and_a_lossy_text_is_not(rt: HostRuntime) -> Result<(), Fail>
     Ok(())
 }
 
-/// Takes so many writes, each with a bar behind it, and refuses the next.
+/// Takes so many writes, each with a bar behind it, and refuses the next one; then it goes on.
 #[derive(Drop)]
-struct Sink {
+struct Parts {
     taken: String,
     left: usize,
 }
 
-impl Write for Sink {
+impl Write for Parts {
     fn write_str(&mut self, s: &str) -> fmt::Result {
         if self.left == 0 {
+            self.left = usize::MAX;
             return Err(fmt::Error);
         }
         self.left -= 1;
@@ -57,11 +63,11 @@ impl Write for Sink {
     }
 }
 
-/// Whether a sink that takes so many writes takes these parts of a value and no more, and the call fails where there are
-/// fewer writes than parts.
+/// Whether a sink that refuses the write after so many takes the parts of a value before it and no more, and the call fails
+/// where there are more parts.
 fn takes<T: Display>(alloc: Global, value: &T, left: usize, parts: &[&str]) -> Result<bool, Fail> {
     let taken = String::new(alloc);
-    let mut sink = Sink { taken, left };
+    let mut sink = Parts { taken, left };
     let is_ok = write!(sink, "{value}").is_ok();
     let mut expected = String::new(alloc);
     for part in parts.iter().take(left) {
@@ -96,4 +102,54 @@ fn a_lossy_text_is_written_in_parts(rt: HostRuntime) -> Result<(), Fail> {
         }
     }
     Ok(())
+}
+
+/// Writes what is displayed of a value by the style of that number to a sink that refuses a write, and fails unless it ends
+/// there. It answers how many writes the sink saw.
+fn writes_of<T: Display>(
+    alloc: Global,
+    value: &T,
+    style: usize,
+    refused: u32,
+    expected: &str,
+) -> Result<u32, Fail> {
+    let mut sink = Sink::new(alloc, refused);
+    let is_ok = match style {
+        0 => write!(sink, "{value}").is_ok(),
+        1 => write!(sink, "{value:>8}").is_ok(),
+        2 => write!(sink, "{value:*^8.1}").is_ok(),
+        3 => write!(sink, "{value:*<6.2}").is_ok(),
+        _ => write!(sink, "{value:+4}").is_ok(),
+    };
+    sink.expect_end(is_ok, expected)
+}
+
+/// Fails unless each write of a value in each style, refused in turn, ends it.
+fn expect_ends<T: Display>(alloc: Global, value: &T, expected: [&str; 5]) -> Result<(), Fail> {
+    for (style, expected) in expected.iter().enumerate() {
+        let writes = writes_of(alloc, value, style, u32::MAX, expected)?;
+        for refused in 1..=writes {
+            writes_of(alloc, value, style, refused, expected)?;
+        }
+    }
+    Ok(())
+}
+
+/// The same for a string of these code points, and for its view.
+fn expect_string_ends(alloc: Global, numbers: &[u32], expected: [&str; 5]) -> Result<(), Fail> {
+    let text = pushed(alloc, numbers)?;
+    expect_ends(alloc, &text, expected)?;
+    expect_ends(alloc, &text.as_wtf8(), expected)
+}
+
+#[test]
+fn a_text_ends_at_a_refused_write(rt: HostRuntime) -> Result<(), Fail> {
+    for (numbers, expected) in STYLED {
+        expect_string_ends(rt.alloc(), numbers, expected)?;
+    }
+    let (numbers, text) = long_text(rt.alloc(), 160, 0xDEAD, "\u{FFFD}")?;
+    expect_string_ends(rt.alloc(), &numbers, [text.as_str(); 5])?;
+    let (numbers, text) = long_text(rt.alloc(), 160, 0x1F4A9, "💩")?;
+    let text = text.as_str();
+    expect_string_ends(rt.alloc(), &numbers, [text, text, "***a****", "a💩****", text])
 }

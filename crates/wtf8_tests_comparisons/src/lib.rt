@@ -9,3 +9,5 @@ mod displaying;
 mod hashing;
 #[cfg(test)]
 mod ordering;
+#[cfg(test)]
+mod sinks;
