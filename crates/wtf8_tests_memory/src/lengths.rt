@@ -154,34 +154,141 @@ fn is_done(heap: Lent<'_>, call: Call, sample: &Sample<'_>) -> bool {
     }
 }
 
-/// What a vector without room asks for where it finds room for so many bytes.
-fn first_room(count: usize) -> usize {
-    if count == 0 { 0 } else { count.max(8) }
+/// What a string asks for, worked out by itself: how many bytes it has and has room for, how many requests were made and
+/// for how many bytes. A growth is to eight bytes at least, to twice the room or to what is wanted, whichever is more.
+#[derive(Clone, Copy)]
+struct Room {
+    len: usize,
+    capacity: usize,
+    requests: u64,
+    bytes: usize,
 }
 
-/// How many bytes a call asks for, where it finds all its room at once.
-fn bytes_of(call: Call, sample: &Sample<'_>) -> Option<usize> {
-    let view = sample.text.as_wtf8();
-    let (len, text_len) = (view.len(), view.as_str().unwrap_or("").len());
-    let is_ascii = len == sample.units.len();
-    match call {
-        Call::WithCapacity => Some(sample.units.len()),
-        Call::FromStr => Some(text_len),
-        Call::FromUnits if is_ascii => Some(len),
-        Call::FromIter | Call::Extend | Call::ApplyExtend if is_ascii => Some(first_room(len)),
-        Call::Clone => Some(len),
-        Call::Reserve => Some(first_room(sample.units.len())),
-        Call::PushStr => Some(first_room(text_len)),
-        Call::PushWtf8 => Some(first_room(len)),
-        Call::ToStringLossy => Some(if view.as_str().is_some() { 0 } else { len }),
-        Call::HexDump => Some(len.saturating_mul(3)),
-        Call::AppendHexDump => Some(first_room(len.saturating_mul(3))),
-        _ => None,
+const NO_ROOM: Room = Room {
+    len: 0,
+    capacity: 0,
+    requests: 0,
+    bytes: 0,
+};
+
+impl Room {
+    /// Finds room for so many bytes more.
+    fn reserve(&mut self, additional: usize) {
+        let wanted = self.len.saturating_add(additional);
+        if wanted <= self.capacity {
+            return;
+        }
+        self.capacity = self.capacity.saturating_mul(2).max(wanted).max(8);
+        self.requests = self.requests.wrapping_add(1);
+        self.bytes = self.bytes.wrapping_add(self.capacity);
+    }
+
+    /// Appends so many bytes at once.
+    fn append(&mut self, count: usize) {
+        self.reserve(count);
+        self.len = self.len.wrapping_add(count);
+    }
+
+    /// Appends units one after another behind a unit. A trail behind a lead adds one byte to the lead's three.
+    fn push_each(&mut self, before: u16, units: &[u16]) {
+        let mut last = before;
+        for unit in units {
+            self.append(match *unit {
+                0..=0x7F => 1,
+                0x80..=0x7FF => 2,
+                0xDC00..=0xDFFF if 0xD800 <= last && last <= 0xDBFF => 1,
+                _ => 3,
+            });
+            last = *unit;
+        }
     }
 }
 
-/// Fails unless the call is done where all is granted, with one request for the bytes that it tells, or none. It answers how
-/// many requests the call makes.
+/// The room of a string that takes the sample behind so many bytes, which end with a lead or with nothing.
+fn room_behind(len: usize, sample: &Sample<'_>) -> Room {
+    let mut room = NO_ROOM;
+    room.append(len);
+    let begins_with_trail = match sample.units.first() {
+        Some(unit) => 0xDC00 <= *unit && *unit <= 0xDFFF,
+        None => false,
+    };
+    let is_joined = 0 < len && begins_with_trail;
+    let count = sample.text.as_wtf8().len();
+    room.append(if is_joined { count.saturating_sub(2) } else { count });
+    room
+}
+
+/// The room of a string that finds room for as many bytes as there are units, and then takes them one after another.
+fn room_extended(mut room: Room, sample: &Sample<'_>) -> Room {
+    let before = if room.len == 0 {
+        None
+    } else {
+        sample.units.last()
+    };
+    room.reserve(sample.units.len());
+    room.push_each(before.copied().unwrap_or(0), &sample.units);
+    room
+}
+
+/// The room of a string that takes the units one after another.
+fn room_pushed(sample: &Sample<'_>) -> Room {
+    let mut room = NO_ROOM;
+    room.push_each(0, &sample.units);
+    room
+}
+
+/// The room of so many bytes that are asked for at once, or of none.
+fn room_of(count: usize) -> Room {
+    Room {
+        len: count,
+        capacity: count,
+        requests: u64::from(0 < count),
+        bytes: count,
+    }
+}
+
+/// The room of so many bytes that are appended to nothing.
+fn room_appended(count: usize) -> Room {
+    let mut room = NO_ROOM;
+    room.append(count);
+    room
+}
+
+/// What a call asks for, where that does not depend on how units are taken in blocks.
+fn room_after(call: Call, sample: &Sample<'_>) -> Option<Room> {
+    let view = sample.text.as_wtf8();
+    let (len, text) = (view.len(), view.as_str());
+    let text_len = text.unwrap_or("").len();
+    let count = sample.units.len();
+    match call {
+        Call::WithCapacity => Some(room_of(count)),
+        Call::FromStr => Some(room_of(text_len)),
+        Call::FromUnits if len == count => Some(room_of(len)),
+        Call::FromUnits => None,
+        Call::FromIter | Call::Extend | Call::ApplyExtend => Some(room_extended(NO_ROOM, sample)),
+        Call::Clone => Some(room_of(len)),
+        Call::Reserve => Some(room_appended(count)),
+        Call::PushEach => Some(room_pushed(sample)),
+        Call::PushStr => Some(room_appended(text_len)),
+        Call::PushWtf8 => Some(room_appended(len)),
+        Call::JoinWtf8 => Some(room_behind(3, sample)),
+        Call::ApplyAll => Some(room_extended(room_behind(0, sample), sample)),
+        Call::ToStringLossy => Some(room_of(if text.is_some() { 0 } else { len })),
+        Call::HexDump => Some(room_of(len.saturating_mul(3))),
+        Call::AppendHexDump => Some(room_appended(len.saturating_mul(3))),
+    }
+}
+
+/// Whether a string of units asked for no more than it may: at first for as many bytes as there are units, and then for two
+/// growths at most, the first to three bytes a unit at most.
+fn is_within(sample: &Sample<'_>, requests: u64, bytes: usize) -> bool {
+    let count = sample.units.len();
+    let first = count.saturating_mul(3).max(8);
+    requests <= 3 && bytes <= count.saturating_add(first).saturating_add(first.saturating_mul(2))
+}
+
+/// Fails unless the call is done where all is granted, with the requests that it needs and for the bytes that it needs. It
+/// answers how many requests the call makes.
 fn expect_granted(heap: Lent<'_>, call: Call, sample: &Sample<'_>) -> Result<u64, Fail> {
     heap.grant(u64::MAX);
     let length = sample.units.len();
@@ -189,10 +296,12 @@ fn expect_granted(heap: Lent<'_>, call: Call, sample: &Sample<'_>) -> Result<u64
         return Err(Fail::new(format_args!("{call:?} refused at {length}")));
     }
     let (requests, bytes) = (heap.requests(), heap.bytes());
-    if let Some(wanted) = bytes_of(call, sample) {
-        if bytes != wanted || requests != u64::from(0 < wanted) {
-            return Err(Fail::new(format_args!("{call:?} asked for {bytes} bytes at {length}")));
-        }
+    let is_as_needed = match room_after(call, sample) {
+        Some(room) => bytes == room.bytes && requests == room.requests,
+        None => is_within(sample, requests, bytes),
+    };
+    if !is_as_needed {
+        return Err(Fail::new(format_args!("{call:?} asked for {bytes} bytes at {length}")));
     }
     Ok(requests)
 }
