@@ -1,17 +1,18 @@
-// Iterators whose lower hint is false.
-use refusing::Refusing;
+// Iterators whose lower hint is false, or whose upper hint is far above it.
+use refusing::{REFUSALS, Refusing};
 use std::cell::Cell;
 use std::test::Fail;
 use wtf8::{CodePoint, Wtf8Buf};
 use wtf8_examples::{expect_dump, expect_units, point_of_unit, pushed};
 
-/// A code point again and again, with a lower hint of the test's choice, which may be false. It counts the items that were
-/// taken.
+/// A code point again and again, with hints of the test's choice, of which the lower one may be false. It counts the items
+/// that were taken.
 #[derive(Drop)]
 struct Hinted<'a> {
     point: CodePoint,
     left: u32,
     hint: usize,
+    upper: Option<usize>,
     taken: &'a Cell<u32>,
 }
 
@@ -33,7 +34,7 @@ impl<'a> Iterator for Hinted<'a> {
     }
 
     fn size_hint(&self) -> (usize, Option<usize>) {
-        (self.hint, None)
+        (self.hint, self.upper)
     }
 }
 
@@ -44,6 +45,7 @@ fn trails(left: u32, hint: usize, taken: &Cell<u32>) -> Hinted<'_> {
         point,
         left,
         hint,
+        upper: None,
         taken,
     }
 }
@@ -69,14 +71,54 @@ fn a_lower_hint_may_be_false(rt: HostRuntime) -> Result<(), Fail> {
 #[test]
 fn room_for_the_lower_hint_is_found_first(rt: HostRuntime) -> Result<(), Fail> {
     let taken = Cell::new(0);
-    let heap = Refusing::new(rt.alloc(), 1);
-    let mut text = Wtf8Buf::new(&heap);
-    text.extend(trails(0, 50, &taken))?;
-    assert!(rt; text.capacity() >= 50);
-    assert_eq!(rt; heap.grants_left(), 0);
-    assert!(rt; text.extend(trails(1, 51, &taken)).is_err());
-    assert_eq!(rt; taken.get(), 0);
-    expect_dump(rt.alloc(), text.as_wtf8(), "")
+    let heap = Refusing::new(rt.alloc(), 0);
+    for refusal in REFUSALS {
+        heap.refuse_after(1, refusal);
+        let mut text = Wtf8Buf::new(&heap);
+        text.extend(trails(0, 50, &taken))?;
+        assert!(rt; text.capacity() >= 50);
+        assert_eq!(rt; heap.requests(), 1);
+        assert!(rt; text.extend(trails(1, 51, &taken)).is_err());
+        assert_eq!(rt; heap.requests(), 2);
+        assert_eq!(rt; taken.get(), 0);
+        expect_dump(rt.alloc(), text.as_wtf8(), "")?;
+    }
+    Ok(())
+}
+
+/// So many times U+DCA9, with that lower hint and an upper one, how many requests they make, and for how many bytes
+/// altogether: room for the lower hint, and then twice as much each time.
+const UPPER: [(u32, usize, usize, u64, usize); 6] = [
+    (0, 0, 1000, 0, 0),
+    (1, 0, 1000, 1, 8),
+    (1, 1, 1000, 1, 8),
+    (10, 10, 100_000, 3, 10 + 20 + 40),
+    (10, 9, usize::MAX, 3, 9 + 18 + 36),
+    (10, 100, usize::MAX, 1, 100),
+];
+
+#[test]
+fn no_room_is_found_for_the_upper_hint(rt: HostRuntime) -> Result<(), Fail> {
+    let taken = Cell::new(0);
+    let heap = Refusing::new(rt.alloc(), 0);
+    for (left, hint, upper, requests, bytes) in UPPER {
+        for is_extended in [false, true] {
+            let mut points = trails(left, hint, &taken);
+            points.upper = Some(upper);
+            heap.grant(99);
+            let mut text = Wtf8Buf::new(&heap);
+            if is_extended {
+                text.extend(points)?;
+            } else {
+                text = Wtf8Buf::from_iter(&heap, points)?;
+            }
+            assert_eq!(rt; taken.take(), left, "{left} below {upper}");
+            assert_eq!(rt; text.len(), left as usize * 3, "{left} below {upper}");
+            assert_eq!(rt; heap.requests(), requests, "{left} below {upper}");
+            assert_eq!(rt; heap.bytes(), bytes, "{left} below {upper}");
+        }
+    }
+    Ok(())
 }
 
 #[test]

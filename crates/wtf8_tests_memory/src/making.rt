@@ -124,15 +124,27 @@ fn a_making_call_answers_each_refusal(rt: HostRuntime) -> Result<(), Fail> {
     Ok(())
 }
 
+/// Fails unless a clone of a string with more room than it needs asks once for its bytes alone, or not at all where it has
+/// none.
+fn expect_cloned(alloc: Global, letters: usize) -> Result<(), Fail> {
+    let heap = Refusing::new(alloc, 1);
+    let mut text = Wtf8Buf::with_capacity(&heap, 200)?;
+    for _ in 0..letters {
+        text.push_char('a')?;
+    }
+    let requests = u64::from(0 < letters);
+    heap.grant(9);
+    let capacity = text.clone()?.capacity();
+    if capacity != letters || heap.requests() != requests || heap.bytes() != letters {
+        return Err(Fail::new(format_args!("a clone of {letters} letters")));
+    }
+    expect_refused(&heap, &text, Making::Clone, &[], &[], requests)
+}
+
 #[test]
 fn a_clone_has_no_room_to_spare(rt: HostRuntime) -> Result<(), Fail> {
-    let heap = Refusing::new(rt.alloc(), 9);
-    let mut text = Wtf8Buf::with_capacity(&heap, 100)?;
-    heap.grant(9);
-    assert!(rt; text.clone()?.is_empty());
-    assert_eq!(rt; heap.requests(), 0);
-    text.push_char('a')?;
-    assert_eq!(rt; text.clone()?.capacity(), 1);
-    assert_eq!(rt; heap.requests(), 1);
+    for letters in [0, 1, 31, 32, 33, 64, 100, 199, 200] {
+        expect_cloned(rt.alloc(), letters)?;
+    }
     Ok(())
 }

@@ -1,18 +1,24 @@
 // Cuts at every number of units.
 use crate::callers::cut_at_units_and_joined;
 use crate::strings::{LISTS, long_list};
-use refusing::Refusing;
+use refusing::{REFUSALS, Refusal, Refusing};
 use std::alloc::Global;
 use std::test::Fail;
 use wtf8::{Build, Wtf8Buf};
 use wtf8_examples::{JOINING, expect_dump, expect_units};
 
-/// Cuts the string of some units at a number of them, with every request for memory refused, by the call itself or by the
-/// call that answers whether there are so many.
-fn expect_cut(alloc: Global, units: &[u16], n: usize, is_applied: bool) -> Result<(), Fail> {
+/// Cuts the string of some units at a number of them, with every request for memory refused or the first one alone, by the
+/// call itself or by the call that answers whether there are so many. Fails unless it makes no request.
+fn expect_cut(
+    alloc: Global,
+    units: &[u16],
+    n: usize,
+    is_applied: bool,
+    refusal: Refusal,
+) -> Result<(), Fail> {
     let heap = Refusing::new(alloc, 1_000);
     let mut text = Wtf8Buf::from_ill_formed_utf16(&heap, units)?;
-    heap.grant(0);
+    heap.refuse_after(0, refusal);
     let is_within = n <= units.len();
     if is_applied {
         if text.apply(Build::TruncateUnits(n)) != Ok(is_within) {
@@ -20,6 +26,9 @@ fn expect_cut(alloc: Global, units: &[u16], n: usize, is_applied: bool) -> Resul
         }
     } else if n <= text.as_wtf8().unit_len() {
         text.truncate_units(n);
+    }
+    if heap.requests() != 0 {
+        return Err(Fail::new(format_args!("a request at {n}")));
     }
     expect_units(alloc, text.as_wtf8(), &units[..n.min(units.len())])
 }
@@ -39,8 +48,10 @@ fn expect_whole(alloc: Global, units: &[u16], n: usize) -> Result<(), Fail> {
 /// Cuts the string of some units at each number of them and at two more, and puts it together again.
 fn cut_everywhere(alloc: Global, units: &[u16]) -> Result<(), Fail> {
     for n in 0..units.len().saturating_add(3) {
-        expect_cut(alloc, units, n, true)?;
-        expect_cut(alloc, units, n, false)?;
+        for refusal in REFUSALS {
+            expect_cut(alloc, units, n, true, refusal)?;
+            expect_cut(alloc, units, n, false, refusal)?;
+        }
         if n <= units.len() {
             expect_whole(alloc, units, n)?;
         }

@@ -495,7 +495,7 @@ mod tests {
     /// A building call on it.
     #[derive(Clone, Copy, Debug)]
     enum Call {
-        Push(u16),
+        Push(u32),
         PushChar(char),
         PushStr(&'static str),
         PushWtf8(&'static [u16]),
@@ -511,10 +511,10 @@ mod tests {
         call: Call,
     ) -> Result<bool, AllocError> {
         match call {
-            Call::Push(unit) => {
-                let point = CodePoint::from_u32_unchecked(u32::from(unit));
-                string.apply(Build::Push(point))
-            }
+            Call::Push(number) => match CodePoint::from_u32(number) {
+                Some(point) => string.apply(Build::Push(point)),
+                None => Ok(false),
+            },
             Call::PushChar(c) => string.apply(Build::PushChar(c)),
             Call::PushStr(text) => string.apply(Build::PushStr(text)),
             Call::PushWtf8(units) => {
@@ -544,7 +544,7 @@ mod tests {
     }
 
     /// A making, the calls after it, and whether the string is then known to hold no surrogate.
-    const FLAGS: [(Start, &[Call], bool); 27] = [
+    const FLAGS: [(Start, &[Call], bool); 36] = [
         (Start::New, &[], true),
         (Start::WithCapacity, &[], true),
         (Start::FromString, &[], true),
@@ -553,7 +553,28 @@ mod tests {
         (Start::FromUnits(&[0x61, 0xD83D, 0xDCA9]), &[], true),
         (Start::FromUnits(&[0x61, 0xD83D]), &[], false),
         (Start::FromUnits(&[0xDCA9, 0x61]), &[], false),
+        (Start::FromUnits(&[0x61; 16]), &[], true),
+        (Start::FromUnits(&[0xE9; 8]), &[], true),
+        (Start::FromUnits(&[0x3042; 8]), &[], true),
+        (
+            Start::FromUnits(&[
+                0x3042, 0x3042, 0x3042, 0x3042, 0x3042, 0x3042, 0x3042, 0x3042, 0xD83D,
+            ]),
+            &[],
+            false,
+        ),
+        (
+            Start::FromUnits(&[
+                0x61, 0xE9, 0x3042, 0xD83D, 0xDCA9, 0x61, 0xE9, 0x3042, 0x61, 0xE9, 0x3042, 0x61,
+                0xE9, 0x3042, 0x61, 0xE9,
+            ]),
+            &[],
+            true,
+        ),
         (Start::FromStr, &[Call::Push(0x61)], true),
+        (Start::FromStr, &[Call::Push(0xE9)], true),
+        (Start::FromStr, &[Call::Push(0x3042)], true),
+        (Start::FromStr, &[Call::Push(0x1F4A9)], true),
         (Start::FromStr, &[Call::Push(0xE000)], true),
         (Start::FromStr, &[Call::Push(0xD83D)], false),
         (Start::FromStr, &[Call::Push(0xDCA9)], false),
@@ -565,6 +586,11 @@ mod tests {
         (
             Start::FromStr,
             &[Call::Push(0xD83D), Call::Push(0x61)],
+            false,
+        ),
+        (
+            Start::FromStr,
+            &[Call::Push(0xD83D), Call::Push(0x1F4A9)],
             false,
         ),
         (Start::FromStr, &[Call::PushChar('\u{1F4A9}')], true),

@@ -124,7 +124,7 @@ mod tests {
         hint: (usize, Option<usize>),
     }
 
-    const MOMENTS: [Moment; 3] = [
+    const MOMENTS: [Moment; 5] = [
         Moment {
             units: &[0xD83D, 0x0061],
             lone: Some(0xD83D),
@@ -142,6 +142,18 @@ mod tests {
             lone: None,
             left: 1,
             hint: (0, Some(1)),
+        },
+        Moment {
+            units: &[0x0061, 0xD83D, 0xDCA9, 0x0062],
+            lone: None,
+            left: 3,
+            hint: (2, Some(4)),
+        },
+        Moment {
+            units: &[0xD83D, 0x0061, 0x0062, 0x0063, 0x0064],
+            lone: Some(0xD83D),
+            left: 4,
+            hint: (2, Some(4)),
         },
     ];
 
