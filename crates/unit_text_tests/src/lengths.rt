@@ -37,27 +37,76 @@ fn text_of<'a>(
     UnitText::from_units(heap, &units)
 }
 
-/// Fails unless the units between two places are found by three requests at most, or by none where there are no units, for
-/// at most so many bytes.
+/// What a text asks for, worked out by itself: how many bytes it has and has room for, how many requests were made and for
+/// how many bytes. A growth is to eight bytes at least, to twice the room or to what is wanted, whichever is more.
+#[derive(Clone, Copy)]
+struct Room {
+    len: usize,
+    capacity: usize,
+    requests: u64,
+    bytes: usize,
+}
+
+impl Room {
+    /// Appends so many bytes at once.
+    fn append(&mut self, count: usize) {
+        self.len = self.len.wrapping_add(count);
+        if self.len <= self.capacity {
+            return;
+        }
+        self.capacity = self.capacity.saturating_mul(2).max(self.len).max(8);
+        self.requests = self.requests.wrapping_add(1);
+        self.bytes = self.bytes.wrapping_add(self.capacity);
+    }
+}
+
+/// How many bytes the half of a pair has that a place divides, or none.
+fn half_at(kind: &[u16; 8], length: usize, place: usize) -> usize {
+    if place == 0 || length <= place {
+        return 0;
+    }
+    let before = kind[(place - 1) % 8];
+    let behind = kind[place % 8];
+    let is_divided = before == 0xD83D && behind == 0xDCA9;
+    if is_divided { 3 } else { 0 }
+}
+
+/// What the units between two places ask for: room for the half of a pair, for what is whole and for another half.
+fn room_between(kind: &[u16; 8], length: usize, begin: usize, end: usize, len: usize) -> Room {
+    let mut room = Room {
+        len: 0,
+        capacity: 0,
+        requests: 0,
+        bytes: 0,
+    };
+    if begin == end {
+        return room;
+    }
+    let front = half_at(kind, length, begin);
+    let back = half_at(kind, length, end);
+    room.append(front);
+    room.append(len.saturating_sub(front).saturating_sub(back));
+    room.append(back);
+    room
+}
+
+/// Fails unless the units between two places are found by the requests that they need, for the bytes that they need.
 fn expect_slice<'a>(
     heap: Lent<'a>,
     text: &UnitText<Lent<'a>>,
+    kind: &[u16; 8],
     begin: usize,
     end: usize,
 ) -> Result<(), Fail> {
     heap.grant(u64::MAX);
-    if begin > end || end > text.unit_len() {
+    let length = text.unit_len();
+    if begin > end || end > length {
         return Err(Fail::new("no such places"));
     }
     let slice = text.slice_units(heap, begin, end)?;
     let len = slice.as_wtf8().len();
-    // The halves of pairs at both ends may each make the room grow.
-    let most = if len == 0 {
-        0
-    } else {
-        len.max(8).saturating_add(2 * len)
-    };
-    if heap.requests() > 3 || heap.bytes() > most {
+    let room = room_between(kind, length, begin, end, len);
+    if heap.requests() != room.requests || heap.bytes() != room.bytes {
         return Err(Fail::new(format_args!("from {begin} to {end}")));
     }
     Ok(())
@@ -79,11 +128,11 @@ fn expect_twice<'a>(heap: Lent<'a>, text: &UnitText<Lent<'a>>) -> Result<(), Fai
 fn expect_done(alloc: Global, kind: &[u16; 8], length: usize) -> Result<(), Fail> {
     let heap = Refusing::new(alloc, 0);
     let text = text_of(alloc, &heap, kind, length)?;
-    expect_slice(&heap, &text, 0, length)?;
-    expect_slice(&heap, &text, length / 2, length)?;
-    expect_slice(&heap, &text, length.min(1), length)?;
-    expect_slice(&heap, &text, 0, length.saturating_sub(1))?;
-    expect_slice(&heap, &text, length / 2, length / 2)?;
+    expect_slice(&heap, &text, kind, 0, length)?;
+    expect_slice(&heap, &text, kind, length / 2, length)?;
+    expect_slice(&heap, &text, kind, length.min(1), length)?;
+    expect_slice(&heap, &text, kind, 0, length.saturating_sub(1))?;
+    expect_slice(&heap, &text, kind, length / 2, length / 2)?;
     expect_twice(&heap, &text)
 }
 

@@ -3,6 +3,8 @@ use refusing::{REFUSALS, Refusal, Refusing};
 use std::alloc::Global;
 use std::test::Fail;
 use unit_text::UnitText;
+use unit_text_uses::cuts::cut_and_joined;
+use unit_text_uses::strings::{char_at, substring};
 use wtf8_examples::expect_dump;
 
 type Lent<'a> = &'a Refusing<Global>;
@@ -161,6 +163,61 @@ fn a_refused_text_is_not_appended(rt: HostRuntime) -> Result<(), Fail> {
         for refusal in REFUSALS {
             let is_grown = is_grown(rt.alloc(), granted, refusal)?;
             assert_eq!(rt; is_grown, is_granted, "with {granted} granted");
+        }
+    }
+    Ok(())
+}
+
+/// A call of the uses that makes a text.
+#[derive(Clone, Copy, Debug)]
+enum Use {
+    CharAt,
+    Substring,
+    CutAndJoined,
+}
+
+/// Makes the call on "a💩b" at a place, and answers whether memory was granted.
+fn is_used(heap: Lent<'_>, call: Use, place: usize) -> Result<bool, Fail> {
+    let text = UnitText::from_units(heap, &[0x0061, 0xD83D, 0xDCA9, 0x0062])?;
+    if heap.requests() != 2 || text.unit_len() < place {
+        return Err(Fail::new("no such place"));
+    }
+    let is_used = match call {
+        Use::CharAt => char_at(heap, &text, place).is_ok(),
+        Use::Substring => substring(heap, &text, place, 0).is_ok(),
+        Use::CutAndJoined => cut_and_joined(heap, heap, &text, place).is_ok(),
+    };
+    Ok(is_used)
+}
+
+/// Calls of the uses at a place, how many requests each makes behind the two of the text, and for how many bytes altogether.
+/// Where a half is cut off, it and what is whole fit in eight bytes.
+const USES: [(Use, usize, u64, usize); 8] = [
+    (Use::CharAt, 0, 1, 8),
+    (Use::CharAt, 1, 1, 8),
+    (Use::CharAt, 4, 0, 0),
+    (Use::Substring, 0, 0, 0),
+    (Use::Substring, 2, 1, 8),
+    (Use::CutAndJoined, 0, 2, 8 + 8),
+    (Use::CutAndJoined, 2, 2, 8 + 8),
+    (Use::CutAndJoined, 4, 1, 8),
+];
+
+#[test]
+fn uses_ask_for_what_they_need(rt: HostRuntime) -> Result<(), Fail> {
+    // The text has room for four bytes at first, and then for eight.
+    let heap = Refusing::new(rt.alloc(), 0);
+    for (call, place, requests, bytes) in USES {
+        heap.grant(99);
+        assert!(rt; is_used(&heap, call, place)?, "{call:?} at {place}");
+        assert_eq!(rt; heap.requests(), requests.wrapping_add(2), "{call:?} at {place}");
+        assert_eq!(rt; heap.bytes(), bytes.wrapping_add(4 + 8), "{call:?} at {place}");
+        for refusal in REFUSALS {
+            for granted in 2..requests.wrapping_add(2) {
+                heap.refuse_after(granted, refusal);
+                assert!(rt; !is_used(&heap, call, place)?, "{call:?} at {place}");
+                assert_eq!(rt; heap.requests(), granted.wrapping_add(1));
+            }
         }
     }
     Ok(())

@@ -3,7 +3,7 @@ use crate::fakes::{Failing, FailingReader, FailingWriter, expect_answer};
 use crate::fault::Fault;
 use crate::line::dump_line;
 use crate::session::run;
-use refusing::Refusing;
+use refusing::{REFUSALS, Refusal, Refusing};
 use std::alloc::Global;
 use std::io::ErrorKind;
 use std::test::Fail;
@@ -33,35 +33,35 @@ fn hostile_lines_have_their_answers(rt: HostRuntime) -> Result<(), Fail> {
     Ok(())
 }
 
-/// Lines with their answers, and how many requests each makes: for the code points that wait, which are kept four at first
-/// and then twice as many each time; for the string, of eight bytes at first; for the dump, all at once; and two for a
-/// count, one for its text and one for what is behind the dump.
-const REQUESTS: [(&str, &str, u64); 6] = [
-    ("", "", 0),
-    ("0061", "61", 3),
-    ("D83D DCA9", "F0 9F 92 A9", 3),
-    ("-1", "!1", 2),
-    ("0061 00E9 0020 D83D DCA9", "61 C3 A9 20 F0 9F 92 A9", 4),
-    ("?", "?", 1),
+/// Lines with their answers, how many requests each makes, and for how many bytes altogether: for the code points that wait,
+/// of four bytes each, which are kept four at first and then twice as many each time; for the string, of eight bytes at
+/// first; for the dump, all at once; and two for a count, one for its text and one for what is behind the dump.
+const REQUESTS: [(&str, &str, u64, usize); 6] = [
+    ("", "", 0, 0),
+    ("0061", "61", 3, 16 + 8 + 8),
+    ("D83D DCA9", "F0 9F 92 A9", 3, 16 + 8 + 12),
+    ("-1", "!1", 2, 8 + 8),
+    ("0061 00E9 0020 D83D DCA9", "61 C3 A9 20 F0 9F 92 A9", 4, 16 + 32 + 8 + 24),
+    ("?", "?", 1, 8),
 ];
 
 #[test]
 fn a_line_answers_each_refusal(rt: HostRuntime) -> Result<(), Fail> {
     let heap = Refusing::new(rt.alloc(), 0);
-    for (line, want, requests) in REQUESTS {
-        for granted in 0..requests {
-            heap.grant(granted);
-            let is_refused = dump_line(&heap, line.as_bytes()).is_err();
-            assert!(rt; is_refused, "at {line:?} with {granted} granted");
+    for (line, want, requests, bytes) in REQUESTS {
+        for refusal in REFUSALS {
+            for granted in 0..requests {
+                heap.refuse_after(granted, refusal);
+                let is_refused = dump_line(&heap, line.as_bytes()).is_err();
+                assert!(rt; is_refused, "at {line:?} with {granted} granted");
+                assert_eq!(rt; heap.requests(), granted.wrapping_add(1), "at {line:?}");
+            }
         }
         heap.grant(99);
         let answer = dump_line(&heap, line.as_bytes())?;
         assert_eq!(rt; answer.as_slice(), want.as_bytes(), "at {line:?}");
-        assert_eq!(rt;
-            heap.grants_left().wrapping_add(requests),
-            99,
-            "at {line:?}"
-        );
+        assert_eq!(rt; heap.requests(), requests, "at {line:?}");
+        assert_eq!(rt; heap.bytes(), bytes, "at {line:?}");
     }
     Ok(())
 }
@@ -84,38 +84,74 @@ fn calls_are_applied_a_few_at_a_time(rt: HostRuntime) -> Result<(), Fail> {
     Ok(())
 }
 
-/// A run on one line, with so many requests granted: its answer, what it wrote, and how many of the grants are left.
+/// Fails unless a run on a line of so many letters, and then an empty one, writes the answers by few calls for memory.
+fn expect_letters(alloc: Global, letters: usize) -> Result<(), Fail> {
+    let mut input = Vec::new(alloc);
+    let mut want = Vec::new(alloc);
+    for at in 0..letters {
+        input.extend_from_slice(if at == 0 { b"0061" } else { b" 0061" })?;
+        want.extend_from_slice(if at == 0 { b"61" } else { b" 61" })?;
+    }
+    input.extend_from_slice(b"\n\n")?;
+    want.extend_from_slice(b"\n\n")?;
+    let heap = Refusing::new(alloc, u64::MAX);
+    let mut out = Vec::new(alloc);
+    let answer = run(&heap, &mut input.as_slice(), &mut out);
+    // The points that wait grow five times at most, the string and the answers by what is wanted or twice.
+    if answer.is_err() || out != want || heap.requests() > 30 {
+        return Err(Fail::new(format_args!("{letters} letters")));
+    }
+    Ok(())
+}
+
+#[test]
+fn each_length_has_its_answer(rt: HostRuntime) -> Result<(), Fail> {
+    for letters in 0..=300 {
+        expect_letters(rt.alloc(), letters)?;
+    }
+    for letters in [1000, 5000, 20_000] {
+        expect_letters(rt.alloc(), letters)?;
+    }
+    Ok(())
+}
+
+/// A run on one line, with so many requests granted, and those behind them refused for good or the next one alone: its
+/// answer, what it wrote, and how many requests it made.
 fn run_granted(
     alloc: Global,
     input: &str,
     granted: u64,
+    refusal: Refusal,
 ) -> Result<(Result<(), Fault>, Vec<u8>, u64), Fail> {
-    let heap = Refusing::new(alloc, granted);
+    let heap = Refusing::new(alloc, 0);
+    heap.refuse_after(granted, refusal);
     let mut rest = input.as_bytes();
     let mut out = Vec::new(alloc);
     let answer = run(&heap, &mut rest, &mut out);
-    Ok((answer, out, heap.grants_left()))
+    Ok((answer, out, heap.requests()))
 }
 
 #[test]
 fn a_run_answers_each_refusal(rt: HostRuntime) -> Result<(), Fail> {
     // One for the input, one for the code points that wait, one for the string, and one for the answers: 12 bytes, of which
     // a newline is the last.
-    for granted in 0..4 {
-        let (answer, out, left) = run_granted(rt.alloc(), "D83D DCA9\n", granted)?;
-        assert_eq!(rt; answer, Err(Fault::Memory), "with {granted} granted");
-        assert!(rt; out.is_empty(), "with {granted} granted");
-        assert_eq!(rt; left, 0, "with {granted} granted");
+    for refusal in REFUSALS {
+        for granted in 0..4 {
+            let (answer, out, requests) = run_granted(rt.alloc(), "D83D DCA9\n", granted, refusal)?;
+            assert_eq!(rt; answer, Err(Fault::Memory), "with {granted} granted");
+            assert!(rt; out.is_empty(), "with {granted} granted");
+            assert_eq!(rt; requests, granted.wrapping_add(1));
+        }
+        let (answer, out, requests) = run_granted(rt.alloc(), "D83D DCA9\n", 9, refusal)?;
+        assert_eq!(rt; answer, Ok(()));
+        assert_eq!(rt; out.as_slice(), b"F0 9F 92 A9\n".as_slice());
+        assert_eq!(rt; requests, 4);
     }
-    let (answer, out, left) = run_granted(rt.alloc(), "D83D DCA9\n", 9)?;
-    assert_eq!(rt; answer, Ok(()));
-    assert_eq!(rt; out.as_slice(), b"F0 9F 92 A9\n".as_slice());
-    assert_eq!(rt; left, 5);
     Ok(())
 }
 
-/// A run on these bytes, where the reader fails at that call and so many requests for memory are granted: its answer,
-/// whether it wrote nothing, and how often it called the reader.
+/// A run on these bytes, where the reader fails at that call and the request for memory after so many is refused: its
+/// answer, whether it wrote nothing, and how often it called the reader.
 fn run_from(
     alloc: Global,
     given: &[u8],
@@ -123,7 +159,8 @@ fn run_from(
     failing: u32,
     granted: u64,
 ) -> (Result<(), Fault>, bool, u32) {
-    let heap = Refusing::new(alloc, granted);
+    let heap = Refusing::new(alloc, 0);
+    heap.refuse_after(granted, Refusal::Once);
     let mut reader = FailingReader {
         rest: given,
         error,
@@ -167,12 +204,12 @@ fn a_reader_that_fails_once_is_not_asked_again(rt: HostRuntime) {
 
 #[test]
 fn want_of_memory_is_told_from_a_failed_read(rt: HostRuntime) {
-    for (failing, granted, fault) in [
-        (1, 0, Fault::Read),
-        (2, 0, Fault::Memory),
-        (2, 1, Fault::Read),
+    for (failing, granted, fault, read) in [
+        (1, 0, Fault::Read, 1),
+        (2, 0, Fault::Memory, 1),
+        (2, 1, Fault::Read, 2),
     ] {
-        let (answer, is_empty, _) = run_from(
+        let (answer, is_empty, calls) = run_from(
             rt.alloc(),
             b"0061\n",
             ErrorKind::Other,
@@ -185,6 +222,7 @@ fn want_of_memory_is_told_from_a_failed_read(rt: HostRuntime) {
             "at call {failing} with {granted} granted"
         );
         assert!(rt; is_empty);
+        assert_eq!(rt; calls, read, "at call {failing}");
     }
 }
 

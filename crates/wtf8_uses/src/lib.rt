@@ -9,6 +9,8 @@ pub mod maps;
 pub mod reading;
 #[cfg(test)]
 mod reading_tests;
+#[cfg(test)]
+mod refusal_tests;
 pub mod refusals;
 pub mod round_trips;
 pub mod sorting;
