@@ -147,9 +147,21 @@ fn a_text_ends_at_a_refused_write(rt: HostRuntime) -> Result<(), Fail> {
     for (numbers, expected) in STYLED {
         expect_string_ends(rt.alloc(), numbers, expected)?;
     }
-    let (numbers, text) = long_text(rt.alloc(), 160, 0xDEAD, "\u{FFFD}")?;
-    expect_string_ends(rt.alloc(), &numbers, [text.as_str(); 5])?;
+    Ok(())
+}
+
+#[test]
+fn a_long_text_ends_at_a_refused_write(rt: HostRuntime) -> Result<(), Fail> {
     let (numbers, text) = long_text(rt.alloc(), 160, 0x1F4A9, "💩")?;
-    let text = text.as_str();
-    expect_string_ends(rt.alloc(), &numbers, [text, text, "***a****", "a💩****", text])
+    let whole = text.as_str();
+    let expected = [whole, whole, "***a****", "a💩****", whole];
+    expect_string_ends(rt.alloc(), &numbers, expected)
+}
+
+#[test]
+fn a_long_lossy_text_ends_at_a_refused_write(rt: HostRuntime) -> Result<(), Fail> {
+    let (numbers, text) = long_text(rt.alloc(), 160, 0xDEAD, "\u{FFFD}")?;
+    let whole = text.as_str();
+    let expected = [whole, whole, whole, whole, whole];
+    expect_string_ends(rt.alloc(), &numbers, expected)
 }

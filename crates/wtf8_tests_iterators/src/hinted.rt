@@ -34,7 +34,12 @@ impl<'a> Iterator for Hinted<'a> {
     }
 
     fn size_hint(&self) -> (usize, Option<usize>) {
-        (self.hint, self.upper)
+        // An upper hint is true: the items that are left are no more.
+        let most = self.hint.checked_add(self.left as usize);
+        match (most, self.upper) {
+            (Some(most), Some(upper)) => (self.hint, Some(most.max(upper))),
+            _ => (self.hint, None),
+        }
     }
 }
 
