@@ -5,8 +5,8 @@ use std::alloc::{AllocError, Global};
 use std::fmt::Write;
 use std::mem;
 use unit_text::UnitText;
-use unit_text_uses::cuts::is_whole_again;
-use unit_text_uses::strings::{char_at, char_code_at, is_less, starts_with, substring};
+use wtf8_uses::cuts::is_whole_again;
+use wtf8_uses::strings::{char_at, char_code_at, is_less, starts_with, substring};
 
 /// The two texts that a script works on.
 #[derive(Drop)]

@@ -5,7 +5,7 @@ use std::collections::HashMap;
 use std::test::Fail;
 use unit_text::UnitText;
 use wtf8::Wtf8;
-use wtf8_examples::JOINING;
+use wtf8_tests::examples::JOINING;
 
 /// Two texts, how their units compare, and how their views do.
 const COMPARED: [(&[u16], &[u16], Ordering, Ordering); 8] = [

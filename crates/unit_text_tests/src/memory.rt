@@ -3,9 +3,9 @@ use refusing::{REFUSALS, Refusal, Refusing};
 use std::alloc::Global;
 use std::test::Fail;
 use unit_text::UnitText;
-use unit_text_uses::cuts::cut_and_joined;
-use unit_text_uses::strings::{char_at, substring};
-use wtf8_examples::expect_dump;
+use wtf8_uses::cuts::cut_and_joined;
+use wtf8_uses::strings::{char_at, substring};
+use wtf8_tests::examples::expect_dump;
 
 type Lent<'a> = &'a Refusing<Global>;
 

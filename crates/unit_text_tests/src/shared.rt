@@ -2,7 +2,7 @@
 use std::alloc::{Allocator, Global};
 use std::test::Fail;
 use unit_text::UnitText;
-use wtf8_examples::expect_dump;
+use wtf8_tests::examples::expect_dump;
 
 /// Whether the text has these units, one by one, and none behind them.
 fn has_units<A: Allocator>(text: &UnitText<A>, units: &[u16]) -> bool {

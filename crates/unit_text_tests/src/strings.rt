@@ -2,7 +2,7 @@
 use std::alloc::{AllocError, Global};
 use std::test::Fail;
 use unit_text::UnitText;
-use unit_text_uses::strings::{char_at, char_code_at, is_less, starts_with, substring};
+use wtf8_uses::strings::{char_at, char_code_at, is_less, starts_with, substring};
 
 /// "a💩b", with a lead behind it.
 const UNITS: [u16; 5] = [0x0061, 0xD83D, 0xDCA9, 0x0062, 0xD83D];

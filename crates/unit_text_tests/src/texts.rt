@@ -3,7 +3,7 @@ use crate::shared::expect_text;
 use std::alloc::{AllocError, Global};
 use std::test::Fail;
 use unit_text::UnitText;
-use wtf8_examples::{JOINING, expect_dump};
+use wtf8_tests::examples::{JOINING, expect_dump};
 
 /// Fails unless the text of these units has them, one by one, and these bytes.
 fn expect_made(alloc: Global, units: &[u16], dump: &str) -> Result<(), Fail> {

@@ -2,7 +2,7 @@
 use std::alloc::{AllocError, Global};
 use std::test::Fail;
 use wtf8::{Wtf8, Wtf8Buf};
-use wtf8_examples::{JOINING, TEXT, TEXT_DUMP, expect_dump, expect_units, pushed};
+use crate::examples::{JOINING, TEXT, TEXT_DUMP, expect_dump, expect_units, pushed};
 
 #[test]
 fn texts_keep_their_bytes(rt: HostRuntime) -> Result<(), Fail> {

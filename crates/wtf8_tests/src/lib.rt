@@ -1,14 +1,43 @@
-//! Tests of the public calls of `wtf8`.
+//! Tests of the public calls of `wtf8`, callers that count positions in 16-bit units, proved from its public contracts,
+//! and what the tests of several crates share.
 #![tactic(auto)]
 
 #[cfg(test)]
+mod asking_for_none;
+pub mod callers;
+#[cfg(test)]
 mod calls;
+#[cfg(test)]
+mod clones;
+#[cfg(test)]
+mod collecting;
 #[cfg(test)]
 mod constructors;
 #[cfg(test)]
+mod debugging;
+#[cfg(test)]
+mod displaying;
+pub mod examples;
+#[cfg(test)]
+mod growing;
+#[cfg(test)]
+mod hashing;
+#[cfg(test)]
 mod hexadecimal;
 #[cfg(test)]
+mod hinted;
+#[cfg(test)]
+mod hints;
+#[cfg(test)]
 mod laws;
+#[cfg(test)]
+mod lengths;
+#[cfg(test)]
+mod lists;
+#[cfg(test)]
+mod making;
+#[cfg(test)]
+mod ordering;
 #[cfg(test)]
 mod points;
 #[cfg(test)]
@@ -16,4 +45,14 @@ mod positions;
 #[cfg(test)]
 mod pushes;
 #[cfg(test)]
+mod sinks;
+#[cfg(test)]
 mod texts;
+#[cfg(test)]
+mod unit_cuts;
+#[cfg(test)]
+mod unit_lists;
+#[cfg(test)]
+mod unit_order;
+#[cfg(test)]
+mod unit_slices;

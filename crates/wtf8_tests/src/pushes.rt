@@ -2,7 +2,7 @@
 use std::alloc::Global;
 use std::test::Fail;
 use wtf8::{CodePoint, Wtf8, Wtf8Buf};
-use wtf8_examples::{
+use crate::examples::{
     EDGES, JOINING, TEXT, TEXT_DUMP, TEXT_ROW, expect_dump, expect_numbers, expect_units, joined,
     pushed,
 };

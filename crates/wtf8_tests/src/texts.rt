@@ -3,7 +3,7 @@ use std::alloc::{Allocator, Global};
 use std::borrow::CowStr;
 use std::test::Fail;
 use wtf8::{Wtf8, Wtf8Buf};
-use wtf8_examples::{TEXT, expect_dump, pushed};
+use crate::examples::{TEXT, expect_dump, pushed};
 
 /// Fails unless the string is this text.
 fn expect_text<A: Allocator + Drop>(string: Wtf8Buf<A>, text: &str) -> Result<(), Fail> {

@@ -1,1 +1,2 @@
+pub mod BeforeLemmas
 pub mod Numbering

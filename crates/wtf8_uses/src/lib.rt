@@ -2,6 +2,7 @@
 #![tactic(auto)]
 
 pub mod appending;
+pub mod cuts;
 pub mod file_names;
 pub mod interner;
 pub mod joining;
@@ -14,6 +15,7 @@ mod refusal_tests;
 pub mod refusals;
 pub mod round_trips;
 pub mod sorting;
+pub mod strings;
 pub mod table;
 #[cfg(test)]
 mod tests;

@@ -4,7 +4,7 @@ use refusing::{REFUSALS, Refusal, Refusing};
 use std::alloc::{AllocError, Global};
 use std::test::Fail;
 use wtf8::{Build, CodePoint, Wtf8, Wtf8Buf};
-use wtf8_examples::expect_dump;
+use wtf8_tests::examples::expect_dump;
 
 type Lent<'a> = &'a Refusing<Global>;
 

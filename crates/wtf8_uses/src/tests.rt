@@ -12,7 +12,7 @@ use std::hash::{BuildHasherDefault, FoldHasher};
 use std::test::Fail;
 use unit_text::UnitText;
 use wtf8::{Build, CodePoint, Stopped, Wtf8, Wtf8Buf};
-use wtf8_examples::expect_dump;
+use wtf8_tests::examples::expect_dump;
 
 /// U+1F4A9 as two units, and its bytes.
 const LEAD: u16 = 0xD83D;

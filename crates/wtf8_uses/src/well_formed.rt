@@ -1,5 +1,5 @@
 //! `isWellFormed` of ECMAScript's strings, over texts that are counted in units. More calls of these strings are in the
-//! crate `unit_text_uses`.
+//! module `strings`.
 ghost use Rattle.std.specs.Prelude.{◌↔◌, ℕ, List, IsTrue};
 ghost use Rattle.wtf8.specs.Form.{Reads};
 ghost use Rattle.wtf8.specs.Surrogates.{AreScalar};

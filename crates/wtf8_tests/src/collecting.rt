@@ -1,0 +1,71 @@
+// Strings that iterators of code points build.
+use std::alloc::{AllocError, Global};
+use std::test::Fail;
+use wtf8::{CodePoint, Wtf8, Wtf8Buf};
+use crate::examples::{
+    JOINING, TEXT, TEXT_DUMP, expect_dump, expect_units, joined, point_of_unit, points_of_units,
+    pushed,
+};
+
+#[test]
+fn collected_code_points_join(rt: HostRuntime) -> Result<(), Fail> {
+    for (units, _, dump) in JOINING {
+        let text = Wtf8Buf::from_iter(rt.alloc(), points_of_units(rt.alloc(), units)?)?;
+        expect_dump(rt.alloc(), text.as_wtf8(), dump)?;
+        expect_units(rt.alloc(), text.as_wtf8(), units)?;
+    }
+    Ok(())
+}
+
+/// The string of some code points, extended by the others from a place on.
+fn extended(alloc: Global, points: &[CodePoint], at: usize) -> Result<Wtf8Buf<Global>, AllocError> {
+    let mut text = Wtf8Buf::from_iter(alloc, points.iter().copied().take(at))?;
+    text.extend(points.iter().copied().skip(at))?;
+    Ok(text)
+}
+
+#[test]
+fn a_string_is_extended_from_each_place(rt: HostRuntime) -> Result<(), Fail> {
+    for (units, _, dump) in JOINING {
+        let points = points_of_units(rt.alloc(), units)?;
+        for at in 0..units.len() + 1 {
+            let text = extended(rt.alloc(), &points, at)?;
+            expect_dump(rt.alloc(), text.as_wtf8(), dump)?;
+        }
+    }
+    Ok(())
+}
+
+#[test]
+fn code_points_of_a_string_give_it_again(rt: HostRuntime) -> Result<(), Fail> {
+    for (units, _, dump) in JOINING {
+        let text = joined(rt.alloc(), units)?;
+        let again = Wtf8Buf::from_iter(rt.alloc(), text.as_wtf8().code_points())?;
+        expect_dump(rt.alloc(), again.as_wtf8(), dump)?;
+    }
+    let again = Wtf8Buf::from_iter(rt.alloc(), Wtf8::from_str(TEXT).code_points())?;
+    expect_dump(rt.alloc(), again.as_wtf8(), TEXT_DUMP)
+}
+
+#[test]
+fn an_array_is_taken(rt: HostRuntime) -> Result<(), Fail> {
+    let lead = [point_of_unit(0x61), point_of_unit(0xD83D)];
+    let mut text = Wtf8Buf::from_iter(rt.alloc(), lead)?;
+    text.extend([point_of_unit(0xDCA9), point_of_unit(0x62)])?;
+    expect_dump(rt.alloc(), text.as_wtf8(), "61 F0 9F 92 A9 62")
+}
+
+#[test]
+fn characters_are_taken_as_code_points(rt: HostRuntime) -> Result<(), Fail> {
+    let points = TEXT.chars().map(CodePoint::from_char);
+    let text = Wtf8Buf::from_iter(rt.alloc(), points)?;
+    expect_dump(rt.alloc(), text.as_wtf8(), TEXT_DUMP)
+}
+
+#[test]
+fn an_option_is_taken(rt: HostRuntime) -> Result<(), Fail> {
+    let mut text = pushed(rt.alloc(), &[0xD83D])?;
+    text.extend(None)?;
+    text.extend(Some(point_of_unit(0xDCA9)))?;
+    expect_dump(rt.alloc(), text.as_wtf8(), "F0 9F 92 A9")
+}

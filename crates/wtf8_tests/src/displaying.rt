@@ -1,0 +1,167 @@
+// What strings are displayed as: with a width, a fill and a precision, and through a sink that refuses a write.
+use crate::sinks::{Sink, long_text};
+use std::alloc::Global;
+use std::fmt;
+use std::fmt::{Display, Write};
+use std::test::Fail;
+use crate::examples::pushed;
+
+/// Code points of strings, and what is displayed of them by `{}`, `{:>8}`, `{:*^8.1}`, `{:*<6.2}` and `{:+4}`. Each text is
+/// that of the Rust library's own type of such strings.
+const STYLED: [(&[u32], [&str; 5]); 6] = [
+    (&[], ["", "        ", "********", "******", "    "]),
+    (
+        &[0x61, 0x62, 0x63],
+        ["abc", "     abc", "***a****", "ab****", "abc "],
+    ),
+    (
+        &[0xD83D, 0xDCA9],
+        ["💩", "       💩", "***💩****", "💩*****", "💩   "],
+    ),
+    (&[0xD83D], ["\u{FFFD}"; 5]),
+    (&[0x61, 0xD83D, 0x62], ["a\u{FFFD}b"; 5]),
+    (&[0xDCA9, 0xD83D], ["\u{FFFD}\u{FFFD}"; 5]),
+];
+
+/// Whether a value is displayed so.
+fn shows<T: Display>(alloc: Global, value: &T, expected: [&str; 5]) -> Result<bool, Fail> {
+    Ok(
+        format!(in alloc; "{value}")?.as_str() == expected[0]
+            && format!(in alloc; "{value:>8}")?.as_str() == expected[1]
+            && format!(in alloc; "{value:*^8.1}")?.as_str() == expected[2]
+            && format!(in alloc; "{value:*<6.2}")?.as_str() == expected[3]
+            && format!(in alloc; "{value:+4}")?.as_str() == expected[4],
+    )
+}
+
+#[test]
+fn a_text_is_filled_and_a_lossy_text_is_not(rt: HostRuntime) -> Result<(), Fail> {
+    for (numbers, expected) in STYLED {
+        let text = pushed(rt.alloc(), numbers)?;
+        assert!(rt; shows(rt.alloc(), &text, expected)?, "{text:?}");
+        assert!(rt; shows(rt.alloc(), &text.as_wtf8(), expected)?, "{text:?}");
+    }
+    Ok(())
+}
+
+/// Takes so many writes, each with a bar behind it, and refuses the next one; then it goes on.
+#[derive(Drop)]
+struct Parts {
+    taken: String,
+    left: usize,
+}
+
+impl Write for Parts {
+    fn write_str(&mut self, s: &str) -> fmt::Result {
+        if self.left == 0 {
+            self.left = usize::MAX;
+            return Err(fmt::Error);
+        }
+        self.left -= 1;
+        self.taken.write_str(s)?;
+        self.taken.write_str("|")
+    }
+}
+
+/// Whether a sink that refuses the write after so many takes the parts of a value before it and no more, and the call fails
+/// where there are more parts.
+fn takes<T: Display>(alloc: Global, value: &T, left: usize, parts: &[&str]) -> Result<bool, Fail> {
+    let taken = String::new(alloc);
+    let mut sink = Parts { taken, left };
+    let is_ok = write!(sink, "{value}").is_ok();
+    let mut expected = String::new(alloc);
+    for part in parts.iter().take(left) {
+        expected.push_str(part)?;
+        expected.push_str("|")?;
+    }
+    Ok(sink.taken == expected && is_ok == (parts.len() <= left))
+}
+
+/// Code points of strings, and the parts in which the Rust library's own type displays them.
+const PARTS: [(&[u32], &[&str]); 5] = [
+    (&[0x61, 0x62], &["ab"]),
+    (&[0xD83D, 0xDCA9], &["💩"]),
+    (&[0xD83D], &["", "\u{FFFD}", ""]),
+    (&[0x61, 0xD83D, 0x62], &["a", "\u{FFFD}", "b"]),
+    (
+        &[0x61, 0xDCA9, 0xD83D, 0x62],
+        &["a", "\u{FFFD}", "", "\u{FFFD}", "b"],
+    ),
+];
+
+#[test]
+fn a_lossy_text_is_written_in_parts(rt: HostRuntime) -> Result<(), Fail> {
+    for (numbers, parts) in PARTS {
+        let text = pushed(rt.alloc(), numbers)?;
+        for left in 0..parts.len() + 2 {
+            assert!(rt; takes(rt.alloc(), &text, left, parts)?, "{text:?}");
+            assert!(rt;
+                takes(rt.alloc(), &text.as_wtf8(), left, parts)?,
+                "{text:?}"
+            );
+        }
+    }
+    Ok(())
+}
+
+/// Writes what is displayed of a value by the style of that number to a sink that refuses a write, and fails unless it ends
+/// there. It answers how many writes the sink saw.
+fn writes_of<T: Display>(
+    alloc: Global,
+    value: &T,
+    style: usize,
+    refused: u32,
+    expected: &str,
+) -> Result<u32, Fail> {
+    let mut sink = Sink::new(alloc, refused);
+    let is_ok = match style {
+        0 => write!(sink, "{value}").is_ok(),
+        1 => write!(sink, "{value:>8}").is_ok(),
+        2 => write!(sink, "{value:*^8.1}").is_ok(),
+        3 => write!(sink, "{value:*<6.2}").is_ok(),
+        _ => write!(sink, "{value:+4}").is_ok(),
+    };
+    sink.expect_end(is_ok, expected)
+}
+
+/// Fails unless each write of a value in each style, refused in turn, ends it.
+fn expect_ends<T: Display>(alloc: Global, value: &T, expected: [&str; 5]) -> Result<(), Fail> {
+    for (style, expected) in expected.iter().enumerate() {
+        let writes = writes_of(alloc, value, style, u32::MAX, expected)?;
+        for refused in 1..=writes {
+            writes_of(alloc, value, style, refused, expected)?;
+        }
+    }
+    Ok(())
+}
+
+/// The same for a string of these code points, and for its view.
+fn expect_string_ends(alloc: Global, numbers: &[u32], expected: [&str; 5]) -> Result<(), Fail> {
+    let text = pushed(alloc, numbers)?;
+    expect_ends(alloc, &text, expected)?;
+    expect_ends(alloc, &text.as_wtf8(), expected)
+}
+
+#[test]
+fn a_text_ends_at_a_refused_write(rt: HostRuntime) -> Result<(), Fail> {
+    for (numbers, expected) in STYLED {
+        expect_string_ends(rt.alloc(), numbers, expected)?;
+    }
+    Ok(())
+}
+
+#[test]
+fn a_long_text_ends_at_a_refused_write(rt: HostRuntime) -> Result<(), Fail> {
+    let (numbers, text) = long_text(rt.alloc(), 160, 0x1F4A9, "💩")?;
+    let whole = text.as_str();
+    let expected = [whole, whole, "***a****", "a💩****", whole];
+    expect_string_ends(rt.alloc(), &numbers, expected)
+}
+
+#[test]
+fn a_long_lossy_text_ends_at_a_refused_write(rt: HostRuntime) -> Result<(), Fail> {
+    let (numbers, text) = long_text(rt.alloc(), 160, 0xDEAD, "\u{FFFD}")?;
+    let whole = text.as_str();
+    let expected = [whole, whole, whole, whole, whole];
+    expect_string_ends(rt.alloc(), &numbers, expected)
+}

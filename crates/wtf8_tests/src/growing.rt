@@ -1,0 +1,285 @@
+// Calls that grow a string: how many requests each makes, and what it leaves where one of them is refused.
+use refusing::{REFUSALS, Refusal, Refusing};
+use std::alloc::{AllocError, Global};
+use std::test::Fail;
+use wtf8::{Build, CodePoint, Wtf8Buf};
+use crate::examples::{TEXT, expect_dump, joined, point_of_unit, points_of_units};
+
+type Lent<'a> = &'a Refusing<Global>;
+
+/// What is appended to a string, by the call of that name, or the room that is reserved in it.
+#[derive(Clone, Copy)]
+enum Piece {
+    Push(u16),
+    PushPoint(char),
+    PushChar(char),
+    PushStr(&'static str),
+    PushWtf8(&'static [u16]),
+    Extend(&'static [u16]),
+    Reserve(usize),
+}
+
+/// A call on a string with four bytes of room, all taken by "a" and D83D. A growth is to twice the room or to what is
+/// wanted, whichever is more, so each request that is made is one that the table tells.
+struct Row {
+    piece: Piece,
+    /// The bytes after the call was granted all its requests.
+    granted: &'static str,
+    /// For how many bytes these are altogether.
+    asked: usize,
+    /// The bytes after so many of its requests were granted, and the next refused: as many as it makes.
+    refused: &'static [&'static str],
+}
+
+const FULL: &str = "61 ED A0 BD";
+
+const ROWS: [Row; 17] = [
+    Row {
+        piece: Piece::Push(0x0061),
+        granted: "61 ED A0 BD 61",
+        asked: 8,
+        refused: &[FULL],
+    },
+    Row {
+        piece: Piece::Push(0xDCA9),
+        granted: "61 F0 9F 92 A9",
+        asked: 8,
+        refused: &[FULL],
+    },
+    Row {
+        piece: Piece::Push(0xD83D),
+        granted: "61 ED A0 BD ED A0 BD",
+        asked: 8,
+        refused: &[FULL],
+    },
+    Row {
+        piece: Piece::PushPoint('a'),
+        granted: "61 ED A0 BD 61",
+        asked: 8,
+        refused: &[FULL],
+    },
+    Row {
+        piece: Piece::PushPoint('é'),
+        granted: "61 ED A0 BD C3 A9",
+        asked: 8,
+        refused: &[FULL],
+    },
+    Row {
+        piece: Piece::PushPoint('あ'),
+        granted: "61 ED A0 BD E3 81 82",
+        asked: 8,
+        refused: &[FULL],
+    },
+    Row {
+        piece: Piece::PushPoint('💩'),
+        granted: "61 ED A0 BD F0 9F 92 A9",
+        asked: 8,
+        refused: &[FULL],
+    },
+    Row {
+        piece: Piece::PushChar('💩'),
+        granted: "61 ED A0 BD F0 9F 92 A9",
+        asked: 8,
+        refused: &[FULL],
+    },
+    Row {
+        piece: Piece::PushStr(TEXT),
+        granted: "61 ED A0 BD 61 C3 A9 20 F0 9F 92 A9",
+        asked: 12,
+        refused: &[FULL],
+    },
+    Row {
+        piece: Piece::PushStr(""),
+        granted: FULL,
+        asked: 0,
+        refused: &[],
+    },
+    Row {
+        piece: Piece::PushWtf8(&[0x0061, 0x0062]),
+        granted: "61 ED A0 BD 61 62",
+        asked: 8,
+        refused: &[FULL],
+    },
+    Row {
+        piece: Piece::PushWtf8(&[0xDCA9, 0xDCA9, 0x0062]),
+        granted: "61 F0 9F 92 A9 ED B2 A9 62",
+        asked: 9,
+        refused: &[FULL],
+    },
+    Row {
+        piece: Piece::PushWtf8(&[]),
+        granted: FULL,
+        asked: 0,
+        refused: &[],
+    },
+    Row {
+        piece: Piece::Extend(&[0xDCA9, 0x0062]),
+        granted: "61 F0 9F 92 A9 62",
+        asked: 8,
+        refused: &[FULL],
+    },
+    // Room for three bytes makes eight of four, which holds the first point, but not the second.
+    Row {
+        piece: Piece::Extend(&[0x0800, 0x0800, 0x0800]),
+        granted: "61 ED A0 BD E0 A0 80 E0 A0 80 E0 A0 80",
+        asked: 24,
+        refused: &[FULL, "61 ED A0 BD E0 A0 80"],
+    },
+    Row {
+        piece: Piece::Reserve(1000),
+        granted: FULL,
+        asked: 1004,
+        refused: &[FULL],
+    },
+    Row {
+        piece: Piece::Reserve(0),
+        granted: FULL,
+        asked: 0,
+        refused: &[],
+    },
+];
+
+/// The string that each row begins with.
+fn full(heap: Lent<'_>) -> Result<Wtf8Buf<Lent<'_>>, AllocError> {
+    heap.grant(1);
+    let mut text = Wtf8Buf::with_capacity(heap, 4)?;
+    text.push_char('a')?;
+    text.push(point_of_unit(0xD83D))?;
+    Ok(text)
+}
+
+/// Makes the call of that name.
+fn call_named(alloc: Global, text: &mut Wtf8Buf<Lent<'_>>, piece: Piece) -> Result<(), AllocError> {
+    match piece {
+        Piece::Push(unit) => text.push(point_of_unit(unit)),
+        Piece::PushPoint(c) => text.push(CodePoint::from_char(c)),
+        Piece::PushChar(c) => text.push_char(c),
+        Piece::PushStr(piece) => text.push_str(piece),
+        Piece::PushWtf8(units) => text.push_wtf8(joined(alloc, units)?.as_wtf8()),
+        Piece::Extend(units) => text.extend(points_of_units(alloc, units)?),
+        Piece::Reserve(additional) => text.reserve(additional),
+    }
+}
+
+/// Makes the call through `apply`, which answers that it was done.
+fn apply_named(
+    alloc: Global,
+    text: &mut Wtf8Buf<Lent<'_>>,
+    piece: Piece,
+) -> Result<bool, AllocError> {
+    match piece {
+        Piece::Push(unit) => text.apply(Build::Push(point_of_unit(unit))),
+        Piece::PushPoint(c) => text.apply(Build::Push(CodePoint::from_char(c))),
+        Piece::PushChar(c) => text.apply(Build::PushChar(c)),
+        Piece::PushStr(piece) => text.apply(Build::PushStr(piece)),
+        Piece::PushWtf8(units) => {
+            let other = joined(alloc, units)?;
+            text.apply(Build::PushWtf8(other.as_wtf8()))
+        }
+        Piece::Extend(units) => {
+            let points = points_of_units(alloc, units)?;
+            text.apply(Build::Extend(&points))
+        }
+        Piece::Reserve(additional) => text.apply(Build::Reserve(additional)),
+    }
+}
+
+/// Makes the call where so many requests are granted, and those behind them refused for good or the next one alone. Fails
+/// unless it is done or not, makes so many requests, and the string holds these bytes. It answers how many bytes the
+/// requests ask for.
+fn expect_outcome(
+    alloc: Global,
+    piece: Piece,
+    is_applied: bool,
+    granted: (u64, Refusal),
+    wanted: (bool, u64, &str),
+) -> Result<usize, Fail> {
+    let heap = Refusing::new(alloc, 0);
+    let mut text = full(&heap)?;
+    let (grants, refusal) = granted;
+    heap.refuse_after(grants, refusal);
+    let is_done = if is_applied {
+        apply_named(alloc, &mut text, piece) == Ok(true)
+    } else {
+        call_named(alloc, &mut text, piece).is_ok()
+    };
+    let (is_done_wanted, requests, dump) = wanted;
+    if is_done != is_done_wanted || heap.requests() != requests {
+        return Err(Fail::new(format_args!("at {dump} with {grants} granted, then {refusal:?}")));
+    }
+    expect_dump(alloc, text.as_wtf8(), dump)?;
+    Ok(heap.bytes())
+}
+
+#[test]
+fn a_growing_call_makes_its_requests_and_no_other(rt: HostRuntime) -> Result<(), Fail> {
+    for row in &ROWS {
+        let requests = row.refused.len() as u64;
+        for is_applied in [false, true] {
+            let asked = expect_outcome(
+                rt.alloc(),
+                row.piece,
+                is_applied,
+                (9, Refusal::ForGood),
+                (true, requests, row.granted),
+            )?;
+            assert_eq!(rt; asked, row.asked, "{}", row.granted);
+        }
+    }
+    Ok(())
+}
+
+/// Fails unless the call ends at each request that is refused, and leaves what it tells.
+fn expect_kept(alloc: Global, row: &Row, is_applied: bool, refusal: Refusal) -> Result<(), Fail> {
+    let mut granted = 0u64;
+    for dump in row.refused {
+        let made = granted.wrapping_add(1);
+        expect_outcome(
+            alloc,
+            row.piece,
+            is_applied,
+            (granted, refusal),
+            (false, made, dump),
+        )?;
+        granted = made;
+    }
+    Ok(())
+}
+
+#[test]
+fn a_refused_request_leaves_what_was_there(rt: HostRuntime) -> Result<(), Fail> {
+    for row in &ROWS {
+        for refusal in REFUSALS {
+            for is_applied in [false, true] {
+                expect_kept(rt.alloc(), row, is_applied, refusal)?;
+            }
+        }
+    }
+    Ok(())
+}
+
+#[test]
+fn reserved_room_is_there(rt: HostRuntime) -> Result<(), Fail> {
+    let heap = Refusing::new(rt.alloc(), 0);
+    for is_applied in [false, true] {
+        let mut text = full(&heap)?;
+        heap.grant(1);
+        if is_applied {
+            assert!(rt; text.apply(Build::Reserve(1000))?);
+        } else {
+            text.reserve(1000)?;
+        }
+        assert!(rt; text.capacity() >= 1004, "applied: {is_applied}");
+    }
+    Ok(())
+}
+
+#[test]
+fn room_that_no_memory_has_is_refused(rt: HostRuntime) -> Result<(), Fail> {
+    assert!(rt; Wtf8Buf::with_capacity(rt.alloc(), usize::MAX).is_err());
+    let mut text = Wtf8Buf::from_str(rt.alloc(), "a")?;
+    assert!(rt; text.reserve(usize::MAX).is_err());
+    expect_dump(rt.alloc(), text.as_wtf8(), "61")?;
+    assert!(rt; text.apply(Build::Reserve(usize::MAX)).is_err());
+    expect_dump(rt.alloc(), text.as_wtf8(), "61")
+}

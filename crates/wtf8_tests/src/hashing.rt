@@ -1,0 +1,67 @@
+// What values feed a hasher.
+use std::alloc::Global;
+use std::cell::RefCell;
+use std::hash::{Hash, Hasher};
+use std::test::Fail;
+use wtf8::CodePoint;
+use crate::examples::{EDGES, pushed};
+
+/// A hasher that writes down what it is fed: for each write its length, and its bytes.
+#[derive(Drop)]
+struct Recorder<'a> {
+    fed: &'a RefCell<Vec<u8>>,
+}
+
+impl<'a> Hasher for Recorder<'a> {
+    // What is in the cell is no part of the hasher's state.
+    ghost write = { λ state _. state };
+
+    ghost finish = { λ _. 0 };
+
+    fn finish(&self) -> u64 {
+        0
+    }
+
+    fn write(&mut self, bytes: &[u8]) {
+        if let Ok(mut fed) = self.fed.try_borrow_mut() {
+            let _ = fed.push(u8::try_from(bytes.len()).unwrap_or(u8::MAX));
+            let _ = fed.extend_from_slice(bytes);
+        }
+    }
+}
+
+/// What a value feeds a hasher: for each write its length, and its bytes.
+fn fed_by<T: Hash>(alloc: Global, value: &T) -> Vec<u8> {
+    let fed = RefCell::new(Vec::new(alloc));
+    value.hash(&mut Recorder { fed: &fed });
+    fed.into_inner()
+}
+
+/// Code points of strings, and what the strings feed a hasher: their bytes, and then an end.
+const STRINGS: [(&[u32], &[u8]); 4] = [
+    (&[], &[0, 1, 0xFE]),
+    (&[0x61], &[1, 0x61, 1, 0xFE]),
+    (&[0xD83D, 0xDCA9], &[4, 0xF0, 0x9F, 0x92, 0xA9, 1, 0xFE]),
+    (&[0xD800], &[3, 0xED, 0xA0, 0x80, 1, 0xFE]),
+];
+
+#[test]
+fn a_hasher_is_fed_the_bytes_and_an_end(rt: HostRuntime) -> Result<(), Fail> {
+    for (numbers, expected) in STRINGS {
+        let text = pushed(rt.alloc(), numbers)?;
+        assert_eq!(rt; fed_by(rt.alloc(), &text).as_slice(), expected);
+        assert_eq!(rt; fed_by(rt.alloc(), &text.as_wtf8()).as_slice(), expected);
+    }
+    Ok(())
+}
+
+#[test]
+fn a_code_point_feeds_what_its_number_feeds(rt: HostRuntime) -> Result<(), Fail> {
+    for (number, _, _) in EDGES {
+        let point = CodePoint::from_u32(number).ok_or("a code point")?;
+        let expected = fed_by(rt.alloc(), &number);
+        assert_eq!(rt; expected.len(), 5);
+        assert_eq!(rt; fed_by(rt.alloc(), &point), expected, "{number}");
+    }
+    Ok(())
+}

@@ -1,0 +1,371 @@
+// Calls that ask for memory, on strings of each length: each is done where all its requests are granted, asks for the bytes
+// that it tells, and answers each request that is refused.
+use refusing::{REFUSALS, Refusing};
+use std::alloc::{AllocError, Global};
+use std::test::Fail;
+use wtf8::{Build, CodePoint, Wtf8Buf};
+use crate::examples::{point_of_unit, points_of_units};
+
+type Lent<'a> = &'a Refusing<Global>;
+
+/// Eight units, which come again and again in a string: of one kind alone, or mixed, with no lone surrogate and with some.
+const KINDS: [[u16; 8]; 8] = [
+    [0x0061; 8],
+    [0x00E9; 8],
+    [0x3042; 8],
+    [0xD83D; 8],
+    [0xDCA9; 8],
+    [
+        0xD83D, 0xDCA9, 0xD83D, 0xDCA9, 0xD83D, 0xDCA9, 0xD83D, 0xDCA9,
+    ],
+    [
+        0x0061, 0x00E9, 0x3042, 0xD83D, 0xDCA9, 0x07FF, 0xE000, 0x0020,
+    ],
+    [
+        0x0061, 0x00E9, 0x3042, 0xD83D, 0xDCA9, 0xDCA9, 0x0020, 0xD83D,
+    ],
+];
+
+/// Lengths beyond those that are tried one by one.
+const LONG: [usize; 4] = [1000, 5000, 20_000, 70_000];
+
+/// A string with more room than it needs, and the units and the code points that it is made of.
+#[derive(Drop)]
+struct Sample<'a> {
+    units: Vec<u16>,
+    points: Vec<CodePoint>,
+    text: Wtf8Buf<Lent<'a>>,
+}
+
+/// The string of so many units of a kind.
+fn sample_of<'a>(
+    alloc: Global,
+    heap: Lent<'a>,
+    kind: &[u16; 8],
+    length: usize,
+) -> Result<Sample<'a>, AllocError> {
+    let mut units = Vec::new(alloc);
+    for at in 0..length {
+        units.push(kind[at % 8])?;
+    }
+    let points = points_of_units(alloc, &units)?;
+    heap.grant(u64::MAX);
+    let mut text = Wtf8Buf::from_ill_formed_utf16(heap, &units)?;
+    text.reserve(64)?;
+    Ok(Sample {
+        units,
+        points,
+        text,
+    })
+}
+
+/// A call that asks for memory.
+#[derive(Clone, Copy, Debug)]
+enum Call {
+    WithCapacity,
+    FromStr,
+    FromUnits,
+    FromIter,
+    Clone,
+    Reserve,
+    PushEach,
+    PushStr,
+    PushWtf8,
+    JoinWtf8,
+    Extend,
+    ApplyExtend,
+    ApplyAll,
+    ToStringLossy,
+    HexDump,
+    AppendHexDump,
+}
+
+const CALLS: [Call; 16] = [
+    Call::WithCapacity,
+    Call::FromStr,
+    Call::FromUnits,
+    Call::FromIter,
+    Call::Clone,
+    Call::Reserve,
+    Call::PushEach,
+    Call::PushStr,
+    Call::PushWtf8,
+    Call::JoinWtf8,
+    Call::Extend,
+    Call::ApplyExtend,
+    Call::ApplyAll,
+    Call::ToStringLossy,
+    Call::HexDump,
+    Call::AppendHexDump,
+];
+
+/// Pushes code points one after another.
+fn push_each(text: &mut Wtf8Buf<Lent<'_>>, points: &[CodePoint]) -> Result<(), AllocError> {
+    for point in points {
+        text.push(*point)?;
+    }
+    Ok(())
+}
+
+/// Appends the sample behind a lead surrogate.
+fn join(text: &mut Wtf8Buf<Lent<'_>>, sample: &Sample<'_>) -> Result<(), AllocError> {
+    text.push(point_of_unit(0xD83D))?;
+    text.push_wtf8(sample.text.as_wtf8())
+}
+
+/// Whether a list of calls that appends the sample twice is applied.
+fn is_applied(text: &mut Wtf8Buf<Lent<'_>>, sample: &Sample<'_>) -> bool {
+    let calls = [
+        Build::PushWtf8(sample.text.as_wtf8()),
+        Build::Extend(&sample.points),
+    ];
+    text.apply_all(&calls).is_ok()
+}
+
+/// Whether the call on an empty string is done.
+fn appends(heap: Lent<'_>, call: Call, sample: &Sample<'_>) -> bool {
+    let mut text = Wtf8Buf::new(heap);
+    let view = sample.text.as_wtf8();
+    match call {
+        Call::Reserve => text.reserve(sample.units.len()).is_ok(),
+        Call::PushEach => push_each(&mut text, &sample.points).is_ok(),
+        Call::PushStr => text.push_str(view.as_str().unwrap_or("")).is_ok(),
+        Call::PushWtf8 => text.push_wtf8(view).is_ok(),
+        Call::JoinWtf8 => join(&mut text, sample).is_ok(),
+        Call::Extend => text.extend(sample.points.iter().copied()).is_ok(),
+        Call::ApplyExtend => text.apply(Build::Extend(&sample.points)).is_ok(),
+        _ => is_applied(&mut text, sample),
+    }
+}
+
+/// Whether the call is done.
+fn is_done(heap: Lent<'_>, call: Call, sample: &Sample<'_>) -> bool {
+    let view = sample.text.as_wtf8();
+    match call {
+        Call::WithCapacity => Wtf8Buf::with_capacity(heap, sample.units.len()).is_ok(),
+        Call::FromStr => Wtf8Buf::from_str(heap, view.as_str().unwrap_or("")).is_ok(),
+        Call::FromUnits => Wtf8Buf::from_ill_formed_utf16(heap, &sample.units).is_ok(),
+        Call::FromIter => Wtf8Buf::from_iter(heap, sample.points.iter().copied()).is_ok(),
+        Call::Clone => sample.text.clone().is_ok(),
+        Call::ToStringLossy => view.to_string_lossy(heap).is_ok(),
+        Call::HexDump => view.hex_dump(heap).is_ok(),
+        Call::AppendHexDump => view.append_hex_dump(&mut Vec::new(heap)).is_ok(),
+        _ => appends(heap, call, sample),
+    }
+}
+
+/// What a string asks for, worked out by itself: how many bytes it has and has room for, how many requests were made and
+/// for how many bytes. A growth is to eight bytes at least, to twice the room or to what is wanted, whichever is more.
+#[derive(Clone, Copy)]
+struct Room {
+    len: usize,
+    capacity: usize,
+    requests: u64,
+    bytes: usize,
+}
+
+const NO_ROOM: Room = Room {
+    len: 0,
+    capacity: 0,
+    requests: 0,
+    bytes: 0,
+};
+
+impl Room {
+    /// Finds room for so many bytes more.
+    fn reserve(&mut self, additional: usize) {
+        let wanted = self.len.saturating_add(additional);
+        if wanted <= self.capacity {
+            return;
+        }
+        self.capacity = self.capacity.saturating_mul(2).max(wanted).max(8);
+        self.requests = self.requests.wrapping_add(1);
+        self.bytes = self.bytes.wrapping_add(self.capacity);
+    }
+
+    /// Appends so many bytes at once.
+    fn append(&mut self, count: usize) {
+        self.reserve(count);
+        self.len = self.len.wrapping_add(count);
+    }
+
+    /// Appends units one after another behind a unit. A trail behind a lead adds one byte to the lead's three.
+    fn push_each(&mut self, before: u16, units: &[u16]) {
+        let mut last = before;
+        for unit in units {
+            self.append(match *unit {
+                0..=0x7F => 1,
+                0x80..=0x7FF => 2,
+                0xDC00..=0xDFFF if 0xD800 <= last && last <= 0xDBFF => 1,
+                _ => 3,
+            });
+            last = *unit;
+        }
+    }
+}
+
+/// The room of a string that takes the sample behind so many bytes, which end with a lead or with nothing.
+fn room_behind(len: usize, sample: &Sample<'_>) -> Room {
+    let mut room = NO_ROOM;
+    room.append(len);
+    let begins_with_trail = match sample.units.first() {
+        Some(unit) => 0xDC00 <= *unit && *unit <= 0xDFFF,
+        None => false,
+    };
+    let is_joined = 0 < len && begins_with_trail;
+    let count = sample.text.as_wtf8().len();
+    room.append(if is_joined { count.saturating_sub(2) } else { count });
+    room
+}
+
+/// The room of a string that finds room for as many bytes as there are units, and then takes them one after another.
+fn room_extended(mut room: Room, sample: &Sample<'_>) -> Room {
+    let before = if room.len == 0 {
+        None
+    } else {
+        sample.units.last()
+    };
+    room.reserve(sample.units.len());
+    room.push_each(before.copied().unwrap_or(0), &sample.units);
+    room
+}
+
+/// The room of a string that takes the units one after another.
+fn room_pushed(sample: &Sample<'_>) -> Room {
+    let mut room = NO_ROOM;
+    room.push_each(0, &sample.units);
+    room
+}
+
+/// The room of so many bytes that are asked for at once, or of none.
+fn room_of(count: usize) -> Room {
+    Room {
+        len: count,
+        capacity: count,
+        requests: u64::from(0 < count),
+        bytes: count,
+    }
+}
+
+/// The room of so many bytes that are appended to nothing.
+fn room_appended(count: usize) -> Room {
+    let mut room = NO_ROOM;
+    room.append(count);
+    room
+}
+
+/// What a call asks for, where that does not depend on how units are taken in blocks.
+fn room_after(call: Call, sample: &Sample<'_>) -> Option<Room> {
+    let view = sample.text.as_wtf8();
+    let (len, text) = (view.len(), view.as_str());
+    let text_len = text.unwrap_or("").len();
+    let count = sample.units.len();
+    match call {
+        Call::WithCapacity => Some(room_of(count)),
+        Call::FromStr => Some(room_of(text_len)),
+        Call::FromUnits if len == count => Some(room_of(len)),
+        Call::FromUnits => None,
+        Call::FromIter | Call::Extend | Call::ApplyExtend => Some(room_extended(NO_ROOM, sample)),
+        Call::Clone => Some(room_of(len)),
+        Call::Reserve => Some(room_appended(count)),
+        Call::PushEach => Some(room_pushed(sample)),
+        Call::PushStr => Some(room_appended(text_len)),
+        Call::PushWtf8 => Some(room_appended(len)),
+        Call::JoinWtf8 => Some(room_behind(3, sample)),
+        Call::ApplyAll => Some(room_extended(room_behind(0, sample), sample)),
+        Call::ToStringLossy => Some(room_of(if text.is_some() { 0 } else { len })),
+        Call::HexDump => Some(room_of(len.saturating_mul(3))),
+        Call::AppendHexDump => Some(room_appended(len.saturating_mul(3))),
+    }
+}
+
+/// Whether a string of units asked for no more than it may: at first for as many bytes as there are units, and then for two
+/// growths at most, the first to three bytes a unit at most.
+fn is_within(sample: &Sample<'_>, requests: u64, bytes: usize) -> bool {
+    let count = sample.units.len();
+    let first = count.saturating_mul(3).max(8);
+    requests <= 3 && bytes <= count.saturating_add(first).saturating_add(first.saturating_mul(2))
+}
+
+/// Fails unless the call is done where all is granted, with the requests that it needs and for the bytes that it needs. It
+/// answers how many requests the call makes.
+fn expect_granted(heap: Lent<'_>, call: Call, sample: &Sample<'_>) -> Result<u64, Fail> {
+    heap.grant(u64::MAX);
+    let length = sample.units.len();
+    if !is_done(heap, call, sample) {
+        return Err(Fail::new(format_args!("{call:?} refused at {length}")));
+    }
+    let (requests, bytes) = (heap.requests(), heap.bytes());
+    let is_as_needed = match room_after(call, sample) {
+        Some(room) => bytes == room.bytes && requests == room.requests,
+        None => is_within(sample, requests, bytes),
+    };
+    if !is_as_needed {
+        return Err(Fail::new(format_args!("{call:?} asked for {bytes} bytes at {length}")));
+    }
+    Ok(requests)
+}
+
+/// Fails unless each request of the call that is refused, for good or alone, is the call's last one, and its answer.
+fn expect_refused(
+    heap: Lent<'_>,
+    call: Call,
+    sample: &Sample<'_>,
+    requests: u64,
+) -> Result<(), Fail> {
+    for refusal in REFUSALS {
+        for granted in 0..requests {
+            heap.refuse_after(granted, refusal);
+            let is_done = is_done(heap, call, sample);
+            if is_done || heap.requests() != granted.wrapping_add(1) {
+                let length = sample.units.len();
+                return Err(Fail::new(format_args!("{call:?} at {length} with {granted} granted")));
+            }
+        }
+    }
+    Ok(())
+}
+
+/// Fails unless each call is done on a string of so many units of a kind.
+fn expect_done(alloc: Global, kind: &[u16; 8], length: usize) -> Result<(), Fail> {
+    let heap = Refusing::new(alloc, 0);
+    let sample = sample_of(alloc, &heap, kind, length)?;
+    for call in CALLS {
+        expect_granted(&heap, call, &sample)?;
+    }
+    Ok(())
+}
+
+#[test]
+fn each_call_is_done_at_each_length(rt: HostRuntime) -> Result<(), Fail> {
+    for kind in &KINDS {
+        for length in 0..=300 {
+            expect_done(rt.alloc(), kind, length)?;
+        }
+        for length in LONG {
+            expect_done(rt.alloc(), kind, length)?;
+        }
+    }
+    Ok(())
+}
+
+/// Fails unless each call answers each refusal on a string of so many units of a kind.
+fn expect_answers(alloc: Global, kind: &[u16; 8], length: usize) -> Result<(), Fail> {
+    let heap = Refusing::new(alloc, 0);
+    let sample = sample_of(alloc, &heap, kind, length)?;
+    for call in CALLS {
+        let requests = expect_granted(&heap, call, &sample)?;
+        expect_refused(&heap, call, &sample, requests)?;
+    }
+    Ok(())
+}
+
+#[test]
+fn each_call_answers_each_refusal(rt: HostRuntime) -> Result<(), Fail> {
+    for kind in &KINDS {
+        for length in [0, 1, 2, 3, 8, 15, 16, 17, 31, 32, 33, 64, 100, 300, 1000] {
+            expect_answers(rt.alloc(), kind, length)?;
+        }
+    }
+    Ok(())
+}

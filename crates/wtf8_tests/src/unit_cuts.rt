@@ -1,0 +1,97 @@
+// Cuts at every number of units.
+use crate::callers::cut_at_units_and_joined;
+use crate::unit_lists::{LISTS, long_list};
+use refusing::{REFUSALS, Refusal, Refusing};
+use std::alloc::Global;
+use std::test::Fail;
+use wtf8::{Build, Wtf8Buf};
+use crate::examples::{JOINING, expect_dump, expect_units};
+
+/// Cuts the string of some units at a number of them, with every request for memory refused or the first one alone, by the
+/// call itself or by the call that answers whether there are so many. Fails unless it makes no request.
+fn expect_cut(
+    alloc: Global,
+    units: &[u16],
+    n: usize,
+    is_applied: bool,
+    refusal: Refusal,
+) -> Result<(), Fail> {
+    let heap = Refusing::new(alloc, 1_000);
+    let mut text = Wtf8Buf::from_ill_formed_utf16(&heap, units)?;
+    heap.refuse_after(0, refusal);
+    let is_within = n <= units.len();
+    if is_applied {
+        if text.apply(Build::TruncateUnits(n)) != Ok(is_within) {
+            return Err(Fail::new(format_args!("a cut at {n}")));
+        }
+    } else if n <= text.as_wtf8().unit_len() {
+        text.truncate_units(n);
+    }
+    if heap.requests() != 0 {
+        return Err(Fail::new(format_args!("a request at {n}")));
+    }
+    expect_units(alloc, text.as_wtf8(), &units[..n.min(units.len())])
+}
+
+/// Fails unless the string of some units that is cut at a number of them and put together again is the whole.
+fn expect_whole(alloc: Global, units: &[u16], n: usize) -> Result<(), Fail> {
+    let whole = Wtf8Buf::from_ill_formed_utf16(alloc, units)?;
+    if n <= whole.as_wtf8().unit_len() {
+        let joined = cut_at_units_and_joined(alloc, whole.as_wtf8(), n)?;
+        if joined == whole {
+            return Ok(());
+        }
+    }
+    Err(Fail::new(format_args!("not the whole, cut at {n}")))
+}
+
+/// Cuts the string of some units at each number of them and at two more, and puts it together again.
+fn cut_everywhere(alloc: Global, units: &[u16]) -> Result<(), Fail> {
+    for n in 0..units.len().saturating_add(3) {
+        for refusal in REFUSALS {
+            expect_cut(alloc, units, n, true, refusal)?;
+            expect_cut(alloc, units, n, false, refusal)?;
+        }
+        if n <= units.len() {
+            expect_whole(alloc, units, n)?;
+        }
+    }
+    Ok(())
+}
+
+#[test]
+fn cuts_keep_the_first_units_without_memory(rt: HostRuntime) -> Result<(), Fail> {
+    for (units, _, dump) in JOINING {
+        let text = Wtf8Buf::from_ill_formed_utf16(rt.alloc(), units)?;
+        expect_dump(rt.alloc(), text.as_wtf8(), dump)?;
+        cut_everywhere(rt.alloc(), units)?;
+    }
+    for units in LISTS {
+        cut_everywhere(rt.alloc(), units)?;
+    }
+    Ok(())
+}
+
+#[test]
+fn cuts_are_right_about_the_blocks(rt: HostRuntime) -> Result<(), Fail> {
+    for letters in 20..36 {
+        let units = long_list(rt.alloc(), letters)?;
+        cut_everywhere(rt.alloc(), units.as_slice())?;
+    }
+    Ok(())
+}
+
+#[test]
+fn refused_cuts_are_counted(rt: HostRuntime) -> Result<(), Fail> {
+    let mut text = Wtf8Buf::from_str(rt.alloc(), "a💩")?;
+    let calls = [
+        Build::TruncateUnits(4),
+        Build::TruncateUnits(2),
+        Build::TruncateUnits(3),
+        Build::Truncate(3),
+        Build::PushStr("b"),
+        Build::TruncateUnits(usize::MAX),
+    ];
+    assert_eq!(rt; text.apply_all(&calls), Ok(4));
+    expect_units(rt.alloc(), text.as_wtf8(), &[0x61, 0xD83D, 0x62])
+}

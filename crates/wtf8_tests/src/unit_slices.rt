@@ -1,0 +1,83 @@
+// Units by their numbers, and slices between two of them.
+use crate::callers::push_slice;
+use crate::unit_lists::{LISTS, long_list};
+use std::alloc::Global;
+use std::test::Fail;
+use wtf8::{Wtf8, Wtf8Buf};
+use crate::examples::{JOINING, expect_dump, expect_units};
+
+/// Whether the units of a string by their numbers are those of the list, and none stands behind them.
+fn has_units(text: Wtf8<'_>, units: &[u16]) -> bool {
+    for n in 0..units.len().saturating_add(3) {
+        if text.unit_at(n) != units.get(n).copied() {
+            return false;
+        }
+    }
+    text.unit_len() == units.len()
+}
+
+/// Fails unless the slice between two numbers of units, which are in order, is that of the list.
+fn expect_slice(
+    alloc: Global,
+    text: Wtf8<'_>,
+    units: &[u16],
+    begin: usize,
+    end: usize,
+) -> Result<(), Fail> {
+    if end < begin || text.unit_len() < end || units.len() < end {
+        return Err(Fail::new(format_args!("no slice from {begin} to {end}")));
+    }
+    let mut part = Wtf8Buf::new(alloc);
+    push_slice(&mut part, text.slice_units(begin, end))?;
+    expect_units(alloc, part.as_wtf8(), &units[begin..end])
+}
+
+/// Fails unless the units of a string by their numbers are those of the list, and each slice is that of the list.
+fn expect_list(alloc: Global, units: &[u16]) -> Result<(), Fail> {
+    let text = Wtf8Buf::from_ill_formed_utf16(alloc, units)?;
+    if !has_units(text.as_wtf8(), units) {
+        return Err(Fail::new(format_args!("not the units {units:?}")));
+    }
+    for end in 0..units.len() {
+        for begin in 0..end {
+            expect_slice(alloc, text.as_wtf8(), units, begin, end)?;
+        }
+    }
+    Ok(())
+}
+
+#[test]
+fn units_are_those_of_the_list(rt: HostRuntime) -> Result<(), Fail> {
+    for (units, _, _) in JOINING {
+        expect_list(rt.alloc(), units)?;
+    }
+    for units in LISTS {
+        expect_list(rt.alloc(), units)?;
+    }
+    for letters in 24..34 {
+        expect_list(rt.alloc(), long_list(rt.alloc(), letters)?.as_slice())?;
+    }
+    Ok(())
+}
+
+#[test]
+fn halves_of_divided_pairs_stand_beside_the_rest(rt: HostRuntime) -> Result<(), Fail> {
+    let text = Wtf8::from_str("💩a💩");
+    for (begin, end, trail, dump, lead) in [
+        (0, 5, None, "F0 9F 92 A9 61 F0 9F 92 A9", None),
+        (1, 5, Some(0xDCA9), "61 F0 9F 92 A9", None),
+        (0, 4, None, "F0 9F 92 A9 61", Some(0xD83D)),
+        (1, 4, Some(0xDCA9), "61", Some(0xD83D)),
+        (1, 2, Some(0xDCA9), "", None),
+        (0, 1, None, "", Some(0xD83D)),
+        (1, 1, None, "", None),
+        (4, 5, Some(0xDCA9), "", None),
+    ] {
+        assert!(rt; begin <= end && end <= text.unit_len());
+        let slice = text.slice_units(begin, end);
+        assert_eq!(rt; slice.trail, trail, "{begin} to {end}");
+        expect_dump(rt.alloc(), slice.whole, dump)?;
+        assert_eq!(rt; slice.lead, lead, "{begin} to {end}");
+    }
+    Ok(())
+}
