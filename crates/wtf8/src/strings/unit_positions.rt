@@ -188,12 +188,16 @@ pub(crate) struct UnitCut {
     pub(crate) divided: Option<u32>,
 }
 
-/// Where the first `n` units of a string end, or `None` where it has fewer.
+/// Where the first `n` units of a string end, or `None` where it has fewer. No unit is counted where `n` is beyond the
+/// number of bytes, which is at least that of the units.
 #[inline(always)]
 pub(crate) fn cut(view: Wtf8<'_>, n: usize) -> Option<UnitCut>
     ensures some { IfSome result (λ cut. CutsUnits (view_points view.entry) n cut.position cut.divided) }
     ensures none { IfNone result (length (view_units view.entry) < n) }
 {
+    if view.bytes.len() < n {
+        return None;
+    }
     let place = find_unit(view.bytes, n);
     if place.units_before == n {
         return Some(UnitCut {
