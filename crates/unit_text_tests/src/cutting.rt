@@ -3,8 +3,8 @@ use crate::shared::{expect_text, expect_units};
 use std::alloc::Global;
 use std::test::Fail;
 use unit_text::UnitText;
-use wtf8_uses::cuts::{cut_and_joined, is_whole_again};
 use wtf8_tests::examples::JOINING;
+use wtf8_uses::cuts::{cut_and_joined, is_whole_again};
 
 /// Fails unless the two parts of a text have its units before a place and from it on, and make the whole together.
 fn expect_parts(alloc: Global, units: &[u16], dump: &str, place: usize) -> Result<(), Fail> {

@@ -3,9 +3,9 @@ use refusing::{REFUSALS, Refusal, Refusing};
 use std::alloc::Global;
 use std::test::Fail;
 use unit_text::UnitText;
+use wtf8_tests::examples::expect_dump;
 use wtf8_uses::cuts::cut_and_joined;
 use wtf8_uses::strings::{char_at, substring};
-use wtf8_tests::examples::expect_dump;
 
 type Lent<'a> = &'a Refusing<Global>;
 
@@ -210,8 +210,16 @@ fn uses_ask_for_what_they_need(rt: HostRuntime) -> Result<(), Fail> {
     for (call, place, requests, bytes) in USES {
         heap.grant(99);
         assert!(rt; is_used(&heap, call, place)?, "{call:?} at {place}");
-        assert_eq!(rt; heap.requests(), requests.wrapping_add(2), "{call:?} at {place}");
-        assert_eq!(rt; heap.bytes(), bytes.wrapping_add(4 + 8), "{call:?} at {place}");
+        assert_eq!(rt;
+            heap.requests(),
+            requests.wrapping_add(2),
+            "{call:?} at {place}"
+        );
+        assert_eq!(rt;
+            heap.bytes(),
+            bytes.wrapping_add(4 + 8),
+            "{call:?} at {place}"
+        );
         for refusal in REFUSALS {
             for granted in 2..requests.wrapping_add(2) {
                 heap.refuse_after(granted, refusal);

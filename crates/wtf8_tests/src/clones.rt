@@ -1,9 +1,9 @@
 // Clones of the iterators, made before each item and after the end, against what is left by the table: the items, and the
 // hints at each moment.
+use crate::examples::{JOINING, TEXT, TEXT_ROW, joined};
 use std::alloc::{AllocError, Global};
 use std::test::Fail;
 use wtf8::{IllFormedUtf16CodeUnits, Wtf8, Wtf8CodePoints};
-use crate::examples::{JOINING, TEXT, TEXT_ROW, joined};
 
 /// How many bytes the code points of these numbers have.
 fn bytes_of(numbers: &[u32]) -> usize {

@@ -1,11 +1,11 @@
 // Strings that iterators of code points build.
-use std::alloc::{AllocError, Global};
-use std::test::Fail;
-use wtf8::{CodePoint, Wtf8, Wtf8Buf};
 use crate::examples::{
     JOINING, TEXT, TEXT_DUMP, expect_dump, expect_units, joined, point_of_unit, points_of_units,
     pushed,
 };
+use std::alloc::{AllocError, Global};
+use std::test::Fail;
+use wtf8::{CodePoint, Wtf8, Wtf8Buf};
 
 #[test]
 fn collected_code_points_join(rt: HostRuntime) -> Result<(), Fail> {

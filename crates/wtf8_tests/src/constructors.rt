@@ -1,8 +1,8 @@
 // Strings that are made of texts and of units.
+use crate::examples::{JOINING, TEXT, TEXT_DUMP, expect_dump, expect_units, pushed};
 use std::alloc::{AllocError, Global};
 use std::test::Fail;
 use wtf8::{Wtf8, Wtf8Buf};
-use crate::examples::{JOINING, TEXT, TEXT_DUMP, expect_dump, expect_units, pushed};
 
 #[test]
 fn texts_keep_their_bytes(rt: HostRuntime) -> Result<(), Fail> {

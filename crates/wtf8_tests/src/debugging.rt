@@ -1,10 +1,10 @@
 // Debug texts: of strings and code points, whatever width and flags stand outside, and through a sink that refuses a write.
+use crate::examples::pushed;
 use crate::sinks::{Sink, long_text};
 use std::alloc::Global;
 use std::fmt::{Debug, Write};
 use std::test::Fail;
 use wtf8::{CodePoint, Wtf8};
-use crate::examples::pushed;
 
 /// Whether the debug text is this one, with each width and flag outside.
 fn shows<T: Debug>(alloc: Global, value: &T, expected: &str) -> Result<bool, Fail> {

@@ -1,10 +1,10 @@
 // What strings are displayed as: with a width, a fill and a precision, and through a sink that refuses a write.
+use crate::examples::pushed;
 use crate::sinks::{Sink, long_text};
 use std::alloc::Global;
 use std::fmt;
 use std::fmt::{Display, Write};
 use std::test::Fail;
-use crate::examples::pushed;
 
 /// Code points of strings, and what is displayed of them by `{}`, `{:>8}`, `{:*^8.1}`, `{:*<6.2}` and `{:+4}`. Each text is
 /// that of the Rust library's own type of such strings.

@@ -1,10 +1,10 @@
 // What values feed a hasher.
+use crate::examples::{EDGES, pushed};
 use std::alloc::Global;
 use std::cell::RefCell;
 use std::hash::{Hash, Hasher};
 use std::test::Fail;
 use wtf8::CodePoint;
-use crate::examples::{EDGES, pushed};
 
 /// A hasher that writes down what it is fed: for each write its length, and its bytes.
 #[derive(Drop)]

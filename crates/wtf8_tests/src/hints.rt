@@ -1,8 +1,8 @@
 // The items of the iterators and their hints, by worked examples.
+use crate::examples::{TEXT, expect_numbers, expect_units, point_of_unit, pushed};
 use std::alloc::{AllocError, Global};
 use std::test::Fail;
 use wtf8::{IllFormedUtf16CodeUnits, Wtf8, Wtf8Buf, Wtf8CodePoints};
-use crate::examples::{TEXT, expect_numbers, expect_units, point_of_unit, pushed};
 
 /// A lower and an upper hint, and the item that came after it.
 type Step<T> = (usize, Option<usize>, Option<T>);

@@ -1,10 +1,10 @@
 // Calls that ask for memory, on strings of each length: each is done where all its requests are granted, asks for the bytes
 // that it tells, and answers each request that is refused.
+use crate::examples::{point_of_unit, points_of_units};
 use refusing::{REFUSALS, Refusing};
 use std::alloc::{AllocError, Global};
 use std::test::Fail;
 use wtf8::{Build, CodePoint, Wtf8Buf};
-use crate::examples::{point_of_unit, points_of_units};
 
 type Lent<'a> = &'a Refusing<Global>;
 
@@ -214,7 +214,11 @@ fn room_behind(len: usize, sample: &Sample<'_>) -> Room {
     };
     let is_joined = 0 < len && begins_with_trail;
     let count = sample.text.as_wtf8().len();
-    room.append(if is_joined { count.saturating_sub(2) } else { count });
+    room.append(if is_joined {
+        count.saturating_sub(2)
+    } else {
+        count
+    });
     room
 }
 
@@ -284,7 +288,11 @@ fn room_after(call: Call, sample: &Sample<'_>) -> Option<Room> {
 fn is_within(sample: &Sample<'_>, requests: u64, bytes: usize) -> bool {
     let count = sample.units.len();
     let first = count.saturating_mul(3).max(8);
-    requests <= 3 && bytes <= count.saturating_add(first).saturating_add(first.saturating_mul(2))
+    requests <= 3
+        && bytes
+            <= count
+                .saturating_add(first)
+                .saturating_add(first.saturating_mul(2))
 }
 
 /// Fails unless the call is done where all is granted, with the requests that it needs and for the bytes that it needs. It

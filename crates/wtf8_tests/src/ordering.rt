@@ -1,10 +1,10 @@
 // Equality and order, in sorts and in maps.
+use crate::examples::{EDGES, pushed};
 use std::alloc::{AllocError, Global};
 use std::cmp::Ordering;
 use std::collections::{BTreeMap, HashMap};
 use std::test::Fail;
 use wtf8::{CodePoint, Wtf8, Wtf8Buf};
-use crate::examples::{EDGES, pushed};
 
 /// The code points of strings, in the order of the strings.
 const IN_ORDER: [&[u32]; 14] = [

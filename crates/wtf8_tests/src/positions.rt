@@ -1,8 +1,8 @@
 // Positions in a string, and what is cut at them.
+use crate::examples::{JOINING, TEXT, TEXT_ROW, expect_dump, joined, pushed};
 use std::alloc::{AllocError, Allocator, Global};
 use std::test::Fail;
 use wtf8::{CodePoint, Wtf8, Wtf8Buf};
-use crate::examples::{JOINING, TEXT, TEXT_ROW, expect_dump, joined, pushed};
 
 /// What stands before a position, if it is a boundary.
 fn cut_to(text: Wtf8<'_>, end: usize) -> Option<Wtf8<'_>> {

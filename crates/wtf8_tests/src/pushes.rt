@@ -1,11 +1,11 @@
 // Strings that pushes build.
-use std::alloc::Global;
-use std::test::Fail;
-use wtf8::{CodePoint, Wtf8, Wtf8Buf};
 use crate::examples::{
     EDGES, JOINING, TEXT, TEXT_DUMP, TEXT_ROW, expect_dump, expect_numbers, expect_units, joined,
     pushed,
 };
+use std::alloc::Global;
+use std::test::Fail;
+use wtf8::{CodePoint, Wtf8, Wtf8Buf};
 
 #[test]
 fn a_pushed_code_point_has_its_bytes_and_units(rt: HostRuntime) -> Result<(), Fail> {

@@ -1,9 +1,9 @@
 // Strings as UTF-8.
+use crate::examples::{TEXT, expect_dump, pushed};
 use std::alloc::{Allocator, Global};
 use std::borrow::CowStr;
 use std::test::Fail;
 use wtf8::{Wtf8, Wtf8Buf};
-use crate::examples::{TEXT, expect_dump, pushed};
 
 /// Fails unless the string is this text.
 fn expect_text<A: Allocator + Drop>(string: Wtf8Buf<A>, text: &str) -> Result<(), Fail> {

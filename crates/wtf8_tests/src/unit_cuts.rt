@@ -1,11 +1,11 @@
 // Cuts at every number of units.
 use crate::callers::cut_at_units_and_joined;
+use crate::examples::{JOINING, expect_dump, expect_units};
 use crate::unit_lists::{LISTS, long_list};
 use refusing::{REFUSALS, Refusal, Refusing};
 use std::alloc::Global;
 use std::test::Fail;
 use wtf8::{Build, Wtf8Buf};
-use crate::examples::{JOINING, expect_dump, expect_units};
 
 /// Cuts the string of some units at a number of them, with every request for memory refused or the first one alone, by the
 /// call itself or by the call that answers whether there are so many. Fails unless it makes no request.

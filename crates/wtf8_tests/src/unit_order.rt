@@ -1,10 +1,10 @@
 // The order of units.
+use crate::examples::JOINING;
 use crate::unit_lists::{LISTS, long_list};
 use std::alloc::Global;
 use std::cmp::Ordering;
 use std::test::Fail;
 use wtf8::Wtf8Buf;
-use crate::examples::JOINING;
 
 /// Two lists of units, the order of these, and that of their code points.
 struct Row {

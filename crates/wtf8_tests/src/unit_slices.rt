@@ -1,10 +1,10 @@
 // Units by their numbers, and slices between two of them.
 use crate::callers::push_slice;
+use crate::examples::{JOINING, expect_dump, expect_units};
 use crate::unit_lists::{LISTS, long_list};
 use std::alloc::Global;
 use std::test::Fail;
 use wtf8::{Wtf8, Wtf8Buf};
-use crate::examples::{JOINING, expect_dump, expect_units};
 
 /// Whether the units of a string by their numbers are those of the list, and none stands behind them.
 fn has_units(text: Wtf8<'_>, units: &[u16]) -> bool {

@@ -115,7 +115,12 @@ fn an_error_is_handed_on(rt: HostRuntime) -> Result<(), Fail> {
         (io::Error::from_raw_os_error(5), Some(5)),
         (io::Error::from_raw_os_error(32), Some(32)),
     ] {
-        for (failing, calls, left) in [(6, 1, "61 62 63"), (5, 2, "half unit"), (2, 5, "63"), (0, 7, "")] {
+        for (failing, calls, left) in [
+            (6, 1, "61 62 63"),
+            (5, 2, "half unit"),
+            (2, 5, "63"),
+            (0, 7, ""),
+        ] {
             let mut reader = Pieces {
                 rest: b"\x61\x00\x62\x00\x63\x00",
                 most: 1,
@@ -166,7 +171,12 @@ fn read_granted(
 const GRANTED: [(&[u8], &str, u64, usize); 4] = [
     (b"", "", 0, 0),
     (b"\x61\x00\x62\x00", "61 62", 3, 6 + 2 + 8),
-    (b"\x61\x00\x62\x00\x63\x00\x64\x00", "61 62 63 64", 5, 6 + 2 + 8 + 6 + 2),
+    (
+        b"\x61\x00\x62\x00\x63\x00\x64\x00",
+        "61 62 63 64",
+        5,
+        6 + 2 + 8 + 6 + 2,
+    ),
     (b"\x3D\xD8\xA9\xDC", "F0 9F 92 A9", 4, 6 + 2 + 8 + 8),
 ];
 
@@ -179,7 +189,14 @@ fn each_refusal_is_want_of_memory(rt: HostRuntime) -> Result<(), Fail> {
                 assert_eq!(rt; found.as_str(), "memory", "with {granted} granted");
                 assert_eq!(rt; made, granted.wrapping_add(1), "with {granted} granted");
                 // The first piece makes three requests, a pair four, and nothing is read after the refused one.
-                assert_eq!(rt; calls, if granted < 3 || given.len() == 4 { 1 } else { 2 });
+                assert_eq!(rt;
+                    calls,
+                    if granted < 3 || given.len() == 4 {
+                        1
+                    } else {
+                        2
+                    }
+                );
             }
             let (found, made, asked, calls) = read_granted(rt.alloc(), given, 99, refusal)?;
             assert_eq!(rt; found.as_str(), want);

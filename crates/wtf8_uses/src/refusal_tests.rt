@@ -37,9 +37,21 @@ fn is_done(text: &mut Wtf8Buf<Lent<'_>>, call: Use, trail: Wtf8<'_>) -> bool {
 
 /// What a use leaves where so many requests are granted: whether it is done, how many requests it makes, and the bytes.
 const LEFT: [(Use, u64, bool, u64, &str); 11] = [
-    (Use::PushBoth, 9, true, 1, "61 F0 9F 92 A9 62 63 64 65 66 67 68"),
+    (
+        Use::PushBoth,
+        9,
+        true,
+        1,
+        "61 F0 9F 92 A9 62 63 64 65 66 67 68",
+    ),
     (Use::PushBoth, 0, false, 1, "61 ED A0 BD"),
-    (Use::PushApart, 9, true, 2, "61 F0 9F 92 A9 62 63 64 65 66 67 68"),
+    (
+        Use::PushApart,
+        9,
+        true,
+        2,
+        "61 F0 9F 92 A9 62 63 64 65 66 67 68",
+    ),
     (Use::PushApart, 1, false, 2, "61 F0 9F 92 A9"),
     (Use::PushApart, 0, false, 1, "61 ED A0 BD"),
     (Use::PushList, 9, true, 1, "61 F0 9F 92 A9 62"),
