@@ -19,6 +19,7 @@ mod model;
 mod original;
 mod ours;
 mod pairs;
+mod picture;
 mod random;
 mod record;
 mod script;
@@ -43,6 +44,7 @@ const USAGE: &str = "usage: compare differ [--seed S] [--cases N] [--every-point
        compare record FOLDER [--seed S] [--cases N]
        compare bench FILE [FILTER]
        compare table FILE..
+       compare picture TABLE FILE
        compare rows [FILTER]
        compare loop proved|crate ROW ROUNDS";
 
@@ -69,6 +71,7 @@ fn main() -> ExitCode {
         ["bench", file] => bench::run("", Path::new(file)),
         ["bench", file, filter] => bench::run(filter, Path::new(file)),
         ["table", ref files @ ..] if !files.is_empty() => bench::table(files),
+        ["picture", table, file] => picture::run(Path::new(table), Path::new(file)),
         ["rows"] => bench::rows(""),
         ["rows", filter] => bench::rows(filter),
         ["loop", side, row, rounds] => bench::run_loop(side, row, rounds),

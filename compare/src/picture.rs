@@ -1,0 +1,209 @@
+//! The table of timings as a picture: a bar for each call and input, beside a line where the crate is.
+
+use std::fmt::Write;
+use std::fs;
+use std::path::Path;
+
+use crate::console::fail;
+
+/// The width of the calls' names, of the bar and its number for one input, and of the whole's edge.
+const NAMES: f64 = 196.0;
+const CELL: f64 = 92.0;
+const EDGE: f64 = 12.0;
+
+/// The height of the inputs' names, of one call, and of a bar.
+const HEAD: f64 = 64.0;
+const LINE: f64 = 24.0;
+const BAR: f64 = 13.0;
+
+/// The length of a bar where both sides take as long.
+const ONE: f64 = 24.0;
+
+/// Colours for a light and for a dark page, each on a ground of its own.
+const STYLE: &str = "\
+text { font: 12px sans-serif; fill: #24292f }
+.ground { fill: #ffffff }
+.faster { fill: #4c8fd6 }
+.slower { fill: #d9822b }
+.line { stroke: #24292f; stroke-width: 1 }
+.rule { stroke: #d0d7de; stroke-width: 1 }
+@media (prefers-color-scheme: dark) {
+text { fill: #e6edf3 }
+.ground { fill: #0d1117 }
+.line { stroke: #e6edf3 }
+.rule { stroke: #30363d }
+}
+";
+
+/// One row of the table: how long the proved library takes where the crate takes 1.
+struct Timing<'a> {
+    call: &'a str,
+    input: &'a str,
+    ratio: f64,
+}
+
+/// Writes the picture of a table's ratios.
+pub fn run(table: &Path, file: &Path) -> bool {
+    let text = match fs::read_to_string(table) {
+        Ok(text) => text,
+        Err(error) => fail(&format!("{}: {error}", table.display())),
+    };
+    let timings: Vec<Timing> = text.lines().filter_map(timing_of).collect();
+    if timings.is_empty() {
+        fail(&format!("{}: no row of timings", table.display()));
+    }
+    if let Err(error) = fs::write(file, drawn(&timings)) {
+        fail(&format!("{}: {error}", file.display()));
+    }
+    true
+}
+
+/// The row on a line of the table: call, input, both times and their ratio. Any other line is none.
+fn timing_of(line: &str) -> Option<Timing<'_>> {
+    let cells: Vec<&str> = line.split('|').map(str::trim).collect();
+    match cells[..] {
+        [_, call, input, _, _, ratio, ..] => Some(Timing {
+            call,
+            input,
+            ratio: ratio.parse().ok()?,
+        }),
+        _ => None,
+    }
+}
+
+/// The picture: calls from top to bottom, inputs from left to right, in the table's order.
+fn drawn(timings: &[Timing]) -> String {
+    let calls = names(timings.iter().map(|timing| timing.call));
+    let inputs = names(timings.iter().map(|timing| timing.input));
+    let width = 2.0 * EDGE + NAMES + CELL * inputs.len() as f64;
+    let bottom = HEAD + LINE * calls.len() as f64;
+    let mut picture = opened(width, bottom + EDGE);
+    for (place, input) in inputs.iter().enumerate() {
+        draw_input(&mut picture, left_of(place), bottom, input);
+    }
+    for (place, call) in calls.iter().enumerate() {
+        draw_call(&mut picture, top_of(place), width, call);
+    }
+    for timing in timings {
+        let left = left_of(place_of(&inputs, timing.input));
+        let top = top_of(place_of(&calls, timing.call));
+        draw_bar(&mut picture, left, top, timing.ratio);
+    }
+    picture.push_str("</svg>\n");
+    picture
+}
+
+/// Each name once, in the order in which it first comes.
+fn names<'a>(all: impl Iterator<Item = &'a str>) -> Vec<&'a str> {
+    let mut names = Vec::new();
+    for name in all {
+        if !names.contains(&name) {
+            names.push(name);
+        }
+    }
+    names
+}
+
+fn place_of(names: &[&str], name: &str) -> usize {
+    names.iter().position(|other| *other == name).unwrap_or(0)
+}
+
+fn left_of(place: usize) -> f64 {
+    EDGE + NAMES + CELL * place as f64
+}
+
+fn top_of(place: usize) -> f64 {
+    HEAD + LINE * place as f64
+}
+
+fn opened(width: f64, height: f64) -> String {
+    format!(
+        "<svg xmlns=\"http://www.w3.org/2000/svg\" viewBox=\"0 0 {width} {height}\" \
+         width=\"{width}\" height=\"{height}\" role=\"img\">\n\
+         <title>Time of the proved library where the crate's is 1.00, by call and input</title>\n\
+         <style>\n{STYLE}</style>\n\
+         <rect class=\"ground\" width=\"{width}\" height=\"{height}\"/>\n\
+         <text x=\"{EDGE}\" y=\"22\">Time, the crate's is 1.00 (line)</text>\n\
+         <rect class=\"faster\" x=\"{EDGE}\" y=\"32\" width=\"10\" height=\"10\"/>\n\
+         <text x=\"28\" y=\"41\">not slower</text>\n\
+         <rect class=\"slower\" x=\"100\" y=\"32\" width=\"10\" height=\"10\"/>\n\
+         <text x=\"116\" y=\"41\">slower</text>\n"
+    )
+}
+
+/// The name of an input, on two lines where it is long, and the line where the crate is.
+fn draw_input(picture: &mut String, left: f64, bottom: f64, name: &str) {
+    let (first, second) = halves(name);
+    let at = left + ONE;
+    draw(
+        picture,
+        format_args!("<text x=\"{left}\" y=\"22\">{}</text>", escaped(first)),
+    );
+    draw(
+        picture,
+        format_args!("<text x=\"{left}\" y=\"38\">{}</text>", escaped(second)),
+    );
+    draw(
+        picture,
+        format_args!(
+            "<line class=\"line\" x1=\"{at}\" x2=\"{at}\" y1=\"{}\" y2=\"{bottom}\"/>",
+            HEAD - 8.0
+        ),
+    );
+}
+
+/// A name in two at a comma, or at its first space where it is longer than a cell is wide.
+fn halves(name: &str) -> (&str, &str) {
+    if let Some(halves) = name.split_once(", ") {
+        return halves;
+    }
+    match name.split_once(' ') {
+        Some(halves) if name.len() > 12 => halves,
+        _ => (name, ""),
+    }
+}
+
+fn draw_call(picture: &mut String, top: f64, width: f64, name: &str) {
+    draw(
+        picture,
+        format_args!(
+            "<line class=\"rule\" x1=\"{EDGE}\" x2=\"{}\" y1=\"{top}\" y2=\"{top}\"/>",
+            width - EDGE
+        ),
+    );
+    let middle = top + LINE - 8.0;
+    draw(
+        picture,
+        format_args!("<text x=\"{EDGE}\" y=\"{middle}\">{}</text>", escaped(name)),
+    );
+}
+
+/// A bar and its number, drawn over the line where the crate is.
+fn draw_bar(picture: &mut String, left: f64, top: f64, ratio: f64) {
+    let class = if ratio > 1.0 { "slower" } else { "faster" };
+    let bar = top + (LINE - BAR) / 2.0;
+    let end = left + CELL - 10.0;
+    draw(
+        picture,
+        format_args!(
+            "<rect class=\"{class}\" x=\"{left}\" y=\"{bar}\" width=\"{:.1}\" height=\"{BAR}\"/>",
+            ratio * ONE
+        ),
+    );
+    draw(
+        picture,
+        format_args!(
+            "<text x=\"{end}\" y=\"{}\" text-anchor=\"end\">{ratio:.2}</text>",
+            top + LINE - 8.0
+        ),
+    );
+}
+
+fn draw(picture: &mut String, element: std::fmt::Arguments<'_>) {
+    // Writing to a string never fails.
+    let _ = writeln!(picture, "{element}");
+}
+
+fn escaped(text: &str) -> String {
+    text.replace('&', "&amp;").replace('<', "&lt;")
+}
