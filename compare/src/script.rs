@@ -2,16 +2,28 @@
 
 use std::fmt;
 
-/// What an operand is.
+/// What an operand is. Numbers have their lowest byte first.
 #[derive(Clone, Copy, PartialEq)]
 pub enum Kind {
+    /// One of the four strings: a byte from 0 to 3.
     Register,
+    /// A position, capacity or count: two bytes.
     Number,
+    /// A number that may be a code point's: four bytes.
     Value,
+    /// A length in one byte, and UTF-8.
     Text,
+    /// Their number in one byte, and two bytes each.
     Units,
+    /// Their number in one byte, and four bytes each; numbers that are no code point are left out.
     Points,
+    /// Their number in one byte, and a byte each: 0 asks the iterator for an item, 1 for its hint, 2 empties a clone of it,
+    /// 3 goes on with a clone, 4 asks for the item behind the next (`nth`), 5 a clone for its `last` item, 6 a clone behind
+    /// a `skip` of two for an item, 7 collects a clone.
     Steps,
+    /// Their number in one byte, and each of them: 0 `Push` value, 1 `PushChar` value, 2 `PushStr` text, 3 `PushWtf8`
+    /// string, 4 `Extend` by so many (number) of the points that stand before, 5 `Reserve` number, 6 `Truncate` number,
+    /// 7 `TruncateUnits` number.
     Builds,
 }
 
