@@ -1,7 +1,7 @@
 // Scripts of calls on texts that are counted in units, and what the engine's own strings answer to them.
 //     node units.js random SEED CASES FOLDER   random scripts
-//     node units.js lists FOLDER               all lists of at most three units out of nine, cut and compared
-//     node units.js fixed FOLDER               some hundred of both, which the gate replays
+//     node units.js lists FOLDER               all lists of at most three units out of nine, and long texts, cut and compared
+//     node units.js fixed FOLDER               the long texts and some hundred of the others, which the gate replays
 // Each writes the scripts to FOLDER/stdin, one a line, and the answers to FOLDER/stdout.
 'use strict';
 const fs = require('fs');
@@ -63,7 +63,7 @@ const CALLS = {
       let whole = 0;
       for (let at = 0; at <= first.length; at++) {
         const cut = first.slice(0, at) + first.slice(at);
-        if (cut === first && unitsOf(cut) === unitsOf(first)) whole += 1;
+        if (cut === first) whole += 1;
       }
       return String(whole);
     },
@@ -106,32 +106,76 @@ function randomUnit(below) {
   }
 }
 
+// A list of units, one in eight of them long.
 function randomUnits(below) {
-  const units = [];
-  const length = below(8) === 0 ? below(40) : below(6);
-  for (let i = 0; i < length; i++) units.push(randomUnit(below));
-  return units;
+  const length = below(8) === 0 ? below(301) : below(8);
+  return Array.from({ length }, () => randomUnit(below));
+}
+
+// A unit that is not that one.
+const anotherUnit = (unit, below) => (unit + 1 + below(0xFFFF)) & 0xFFFF;
+
+// A list with one unit changed, more often than not one of the last eight.
+function changed(units, below) {
+  if (units.length === 0) return units;
+  const near = below(3) === 0 ? units.length : Math.min(units.length, 8);
+  const at = units.length - 1 - below(near);
+  return units.with(at, anotherUnit(units[at], below));
+}
+
+// A second list for a first: the same, with one unit changed, shorter, longer, or a piece of it from that place on, which may
+// be changed too; or any other.
+function neighbour(units, at, below) {
+  const piece = units.slice(at, at + 1 + below(units.length + 1));
+  switch (below(8)) {
+    case 0: return units;
+    case 1: case 2: return changed(units, below);
+    case 3: return units.slice(0, Math.max(0, units.length - 1 - below(8)));
+    case 4: return [...units, ...randomUnits(below).slice(0, 1 + below(3))];
+    case 5: return piece;
+    case 6: return changed(piece, below);
+    default: return randomUnits(below);
+  }
+}
+
+const listOf = (text) => Array.from({ length: text.length }, (_, at) => text.charCodeAt(at));
+
+// One random call or some that belong together, for the strings that stand.
+function randomCalls({ first }, below) {
+  const at = () => (below(40) === 0 ? below(0x10000) : below(first.length + 3));
+  const place = at();
+  switch (below(14)) {
+    case 0: return [['set', ...randomUnits(below)]];
+    case 1: return [['swap']];
+    case 2: return [['length']];
+    case 3: return [['unitAt', place]];
+    case 4: return [['slice', ...[place, at()].sort((one, other) => one - other)]];
+    case 5: return [['slice', place, at()]];
+    case 6: return [['substring', place, at()]];
+    case 7: return [['charAt', place]];
+    case 8: return [['startsWith', place]];
+    case 9: return first.length > 600 ? [['length']] : [['concat'], ['compare']];
+    case 10: return [['compare'], ['swap'], ['compare']];
+    case 11: return first.length > 60 ? [['length']] : [['cutEverywhere']];
+    default: {
+      const others = neighbour(listOf(first), place, below);
+      return [['swap'], ['set', ...others], ['swap'], ['compare'], ['startsWith', place], ['swap'], ['compare'], ['swap']];
+    }
+  }
 }
 
 function randomScript(below) {
-  const at = () => (below(20) === 0 ? below(0x10000) : below(9));
-  const calls = [['set', ...randomUnits(below)], ['swap'], ['set', ...randomUnits(below)]];
-  const more = 1 + below(12);
-  for (let i = 0; i < more; i++) {
-    switch (below(13)) {
-      case 0: calls.push(['set', ...randomUnits(below)]); break;
-      case 1: calls.push(['swap']); break;
-      case 2: calls.push(['length']); break;
-      case 3: calls.push(['unitAt', at()]); break;
-      case 4: calls.push(['slice', at(), at()]); break;
-      case 5: calls.push(['substring', at(), at()]); break;
-      case 6: calls.push(['charAt', at()]); break;
-      case 7: calls.push(['startsWith', at()]); break;
-      case 8: case 9: calls.push(['concat']); break;
-      case 10: case 11: calls.push(['compare']); break;
-      default: calls.push(['cutEverywhere']);
+  const state = { first: '', second: '' };
+  const calls = [];
+  const add = (more) => {
+    for (const [name, ...operands] of more) {
+      if (['set', 'swap', 'slice', 'concat'].includes(name)) CALLS[name].run(state, ...operands);
     }
-  }
+    calls.push(...more);
+  };
+  add([['set', ...randomUnits(below)], ['swap'], ['set', ...randomUnits(below)]]);
+  const more = 1 + below(12);
+  for (let i = 0; i < more; i++) add(randomCalls(state, below));
   return calls;
 }
 
@@ -178,22 +222,87 @@ function randomScripts(seed, cases) {
   return Array.from({ length: cases }, () => randomScript(below));
 }
 
+// Texts of one kind: units that repeat, of one, two and three bytes, pairs, and all of these with lone surrogates.
+const KINDS = [[0x61, 0x62, 0x63], [0xE9, 0x7FF, 0x80], [0x800, 0xD7FF, 0xE000], [0xD83D, 0xDCA9], [...NINE, 0xD83D, 0xDCA9]];
+const textOfKind = (kind, length) => Array.from({ length }, (_, at) => kind[at % kind.length]);
+
+// The places at both ends, and around those where a block may begin.
+function placesOf(length) {
+  const places = [0, 1, ...[8, 16, 32, 64, 128, 256].flatMap((edge) => [edge - 1, edge, edge + 1]), length - 2, length - 1];
+  return [...new Set(places.filter((at) => 0 <= at && at < length))];
+}
+
+// Every look at a long text: its units one by one, and pieces that begin or end at each of its places. It is also the second
+// text, so that it stands again behind a slice to nothing and a concatenation.
+function longScript(units) {
+  const last = units.length - 1;
+  const again = [['slice', 0, 0], ['concat']];
+  const calls = [['set', ...units], ['swap'], ...again, ['length'], ['compare']];
+  for (let at = 0; at <= units.length + 1; at++) calls.push(['unitAt', at], ['charAt', at]);
+  for (const at of placesOf(units.length)) {
+    calls.push(['substring', at + 3, at], ['substring', last + 3, Math.max(at, last - 9)]);
+    calls.push(['slice', at, Math.min(at + 3, last + 1)], ...again);
+  }
+  if (units.length < 100) calls.push(['cutEverywhere'], ['concat'], ['length'], ['unitAt', 2 * last], ['slice', last, last + 2]);
+  return calls;
+}
+
+// A long text and its neighbours at some of its places: one unit changed, what stands before, what goes on behind, and the
+// piece from there on.
+function neighbourScript(units, places) {
+  const calls = [['set', ...units], ['swap']];
+  for (const at of places) {
+    calls.push(['set', ...units.with(at, units[at] ^ 1)], ['compare'], ['set', ...units.slice(0, at)], ['compare'], ['swap'], ['compare']);
+    for (const piece of [units.slice(at), units.slice(at).with(-1, units.at(-1) ^ 1)]) {
+      calls.push(['swap'], ['set', ...piece], ['swap'], ['startsWith', at], ['startsWith', at + 1]);
+    }
+    calls.push(['swap']);
+  }
+  calls.push(['set', ...units, 0x61], ['compare'], ['swap'], ['compare'], ['concat'], ['length'], ['compare']);
+  return calls;
+}
+
+function longScripts() {
+  return KINDS.flatMap((kind) => [
+    ...[9, 17, 33, 66].map((length) => longScript(textOfKind(kind, length))),
+    ...[10, 34].map((length) => neighbourScript(textOfKind(kind, length), placesOf(length))),
+  ]).concat([0, 4].flatMap((kind) => [
+    ...[130, 300].map((length) => longScript(textOfKind(KINDS[kind], length))),
+    neighbourScript(textOfKind(KINDS[kind], 300), [32, 64, 128, 256, 298, 299]),
+  ]));
+}
+
 function fixedScripts() {
-  const lists = listScripts().filter((_, at) => at % 61 === 0);
-  return [...lists, ...randomScripts(1, 200)];
+  const lists = listScripts().filter((_, at) => at % 97 === 0);
+  return [...lists, ...longScripts(), ...randomScripts(1, 100)];
 }
 
 function write(scripts, folder) {
-  fs.writeFileSync(path.join(folder, 'stdin'), scripts.map((calls) => lineOf(calls) + '\n').join(''));
-  fs.writeFileSync(path.join(folder, 'stdout'), scripts.map((calls) => answersOf(calls) + '\n').join(''));
+  for (const [name, textOfScript] of [['stdin', lineOf], ['stdout', answersOf]]) {
+    const file = fs.openSync(path.join(folder, name), 'w');
+    for (const calls of scripts) fs.writeSync(file, textOfScript(calls) + '\n');
+    fs.closeSync(file);
+  }
   console.error(`${scripts.length} scripts, ${scripts.reduce((sum, calls) => sum + calls.length, 0)} calls`);
 }
 
-const [way, ...words] = process.argv.slice(2);
-if (way === 'random') write(randomScripts(Number(words[0]), Number(words[1])), words[2]);
-else if (way === 'lists') write(listScripts(), words[0]);
-else if (way === 'fixed') write(fixedScripts(), words[0]);
-else {
-  console.error('random SEED CASES FOLDER, lists FOLDER, or fixed FOLDER');
+function stop(why) {
+  console.error(`units.js: ${why}`);
   process.exit(2);
 }
+
+// The whole number that a word spells, at least this one.
+function numberOf(word, least) {
+  if (!/^[0-9]{1,9}$/.test(word) || Number(word) < least) stop(`${word} is no whole number from ${least} on`);
+  return Number(word);
+}
+
+const WAYS = {
+  random: { words: 2, scripts: (seed, cases) => randomScripts(numberOf(seed, 0), numberOf(cases, 1)) },
+  lists: { words: 0, scripts: () => [...listScripts(), ...longScripts()] },
+  fixed: { words: 0, scripts: fixedScripts },
+};
+const [way, ...words] = process.argv.slice(2);
+if (!Object.hasOwn(WAYS, way) || words.length !== WAYS[way].words + 1) stop('random SEED CASES FOLDER, lists FOLDER, or fixed FOLDER');
+const folder = words.pop();
+write(WAYS[way].scripts(...words), folder);
