@@ -1,12 +1,12 @@
 //! The lists of scripts that are gone through one by one, by their names.
 
 use crate::script::Call;
-use crate::{building, generate, long, pairs};
+use crate::{blocks, building, generate, long, pairs};
 
 /// A name, and what makes the scripts of that list.
 pub type List = (&'static str, fn() -> Vec<Vec<Call>>);
 
-pub const LISTS: [List; 14] = [
+pub const LISTS: [List; 20] = [
     ("code points at edges", generate::edge_calls),
     ("pairs", pairs::pairs),
     ("up to four units", up_to_four_units),
@@ -21,6 +21,15 @@ pub const LISTS: [List; 14] = [
     ("one unit changed", long::changed_at_each_place),
     ("one unit of another kind", long::another_kind_at_each_place),
     ("longest strings", long::longest),
+    ("texts of each length", blocks::texts_of_each_length),
+    (
+        "one unit changed about blocks",
+        blocks::changed_at_each_place,
+    ),
+    ("one surrogate about blocks", blocks::one_surrogate),
+    ("debug texts about blocks", blocks::debug_texts),
+    ("positions about blocks", blocks::positions),
+    ("far positions", blocks::far),
 ];
 
 fn up_to_four_units() -> Vec<Vec<Call>> {

@@ -5,7 +5,7 @@ use crate::script::{Call, Operand};
 
 /// The units that long strings are made of, over and over: a string of each class, one whose bytes begin as a surrogate's
 /// do, one of pairs, and one of all classes.
-const BASES: [&[u16]; 7] = [
+pub const BASES: [&[u16]; 7] = [
     &[0x61],
     &[0xE9],
     &[0x20AC],
@@ -50,7 +50,7 @@ fn string_of(base: &[u16], len: usize) -> Vec<u16> {
 
 /// The string of some units in a register, by pieces where they are too many for one call. The string in register 3 is
 /// lost.
-fn string_in(register: u8, units: &[u16]) -> Vec<Call> {
+pub fn string_in(register: u8, units: &[u16]) -> Vec<Call> {
     let mut pieces = units.chunks(MOST_UNITS);
     let mut calls = vec![from_units(register, pieces.next().unwrap_or_default())];
     for piece in pieces {
@@ -60,12 +60,12 @@ fn string_in(register: u8, units: &[u16]) -> Vec<Call> {
     calls
 }
 
-fn on(register: u8, names: &[&str]) -> Vec<Call> {
+pub fn on(register: u8, names: &[&str]) -> Vec<Call> {
     let call = |name: &&str| Call::new(name, vec![Operand::Register(register)]);
     names.iter().map(call).collect()
 }
 
-fn changed(units: &[u16], changes: &[(usize, u16)]) -> Vec<u16> {
+pub fn changed(units: &[u16], changes: &[(usize, u16)]) -> Vec<u16> {
     let mut units = units.to_vec();
     for (place, unit) in changes {
         units[*place] = *unit;
@@ -84,7 +84,7 @@ pub fn changed_at_each_place() -> Vec<Vec<Call>> {
     scripts
 }
 
-fn changed_at(units: &[u16], places: impl IntoIterator<Item = usize>) -> Vec<Call> {
+pub fn changed_at(units: &[u16], places: impl IntoIterator<Item = usize>) -> Vec<Call> {
     let mut calls = string_in(0, units);
     for place in places {
         for other in [0x62, 0xDFFF] {
@@ -150,7 +150,7 @@ pub fn one_surrogate() -> Vec<Vec<Call>> {
     scripts
 }
 
-fn with_surrogate_at(units: &[u16], places: impl IntoIterator<Item = usize>) -> Vec<Call> {
+pub fn with_surrogate_at(units: &[u16], places: impl IntoIterator<Item = usize>) -> Vec<Call> {
     let mut calls = texts_of(units);
     for place in places {
         for surrogate in [0xD800, 0xDFFF] {

@@ -6,6 +6,7 @@
 extern crate alloc;
 
 mod bench;
+mod blocks;
 mod building;
 mod column;
 mod console;

@@ -1,0 +1,151 @@
+//! Lists of scripts on strings whose number of bytes is about that of a block of a search or a copy, or of several, and on
+//! strings of up to 65,000 bytes.
+
+use crate::generate::{from_units, registers};
+use crate::long::{byte_len, changed, changed_at, on, string_in, with_surrogate_at, BASES};
+use crate::script::{Call, Operand};
+
+/// Numbers of bytes about the ends of blocks.
+const ABOUT_BLOCKS: [usize; 9] = [127, 128, 129, 255, 256, 257, 511, 512, 513];
+
+/// The most bytes of a text that one call takes.
+const MOST_BYTES: usize = 255;
+
+/// A string of so many bytes: the points of a base over and over, and letters behind them where none of them fits.
+fn units_of_bytes(base: &[u16], bytes: usize) -> Vec<u16> {
+    let mut points =
+        char::decode_utf16(base.iter().copied().cycle()).map(|point| point.unwrap_or('a'));
+    let (mut text, mut left) = (String::new(), bytes);
+    while left > 0 {
+        let point = points.next().filter(|point| point.len_utf8() <= left);
+        let point = point.unwrap_or('a');
+        left -= point.len_utf8();
+        text.push(point);
+    }
+    text.encode_utf16().collect()
+}
+
+/// What a list makes of a string's units.
+type Script = fn(&[u16]) -> Vec<Call>;
+
+/// A script for each base and each number of bytes about the ends of blocks.
+fn about_blocks(script: Script) -> Vec<Vec<Call>> {
+    let lens = |base: &'static [u16]| ABOUT_BLOCKS.map(|bytes| units_of_bytes(base, bytes));
+    let strings = BASES.into_iter().flat_map(lens);
+    strings.map(|units| script(&units)).collect()
+}
+
+/// One unit changed at each place, compared both ways.
+pub fn changed_at_each_place() -> Vec<Vec<Call>> {
+    about_blocks(|units| changed_at(units, 0..units.len()))
+}
+
+/// One lone surrogate at each place, and none: texts, hash and lossy texts.
+pub fn one_surrogate() -> Vec<Vec<Call>> {
+    about_blocks(|units| with_surrogate_at(units, 0..units.len()))
+}
+
+/// One lone surrogate at each place, and none: the debug text.
+pub fn debug_texts() -> Vec<Vec<Call>> {
+    about_blocks(|units| {
+        let mut calls = Vec::new();
+        for place in 0..units.len() {
+            calls.extend(string_in(0, &changed(units, &[(place, 0xDBFF)])));
+            calls.extend(on(0, &["debug"]));
+        }
+        calls
+    })
+}
+
+/// A string cut at each byte, off its boundaries and beyond its end too, and all that answers by a position.
+pub fn positions() -> Vec<Vec<Call>> {
+    about_blocks(|units| {
+        let mut calls = string_in(0, units);
+        calls.extend(on(0, &["boundaries"]));
+        for position in 0..=usize::from(byte_len(units)) + 1 {
+            calls.extend(at_position(position));
+        }
+        calls
+    })
+}
+
+/// Each call that takes a position, on the string in register 0.
+fn at_position(position: usize) -> Vec<Call> {
+    let place = || Operand::Number(position as u16);
+    let (zero, one) = (|| Operand::Register(0), || Operand::Register(1));
+    vec![
+        registers("clone", 1, 0),
+        Call::new("truncate", vec![one(), place()]),
+        Call::new("slice_from", vec![one(), zero(), place()]),
+        Call::new("slice_to", vec![one(), zero(), place()]),
+        Call::new("ascii_byte_at", vec![zero(), place()]),
+    ]
+}
+
+/// Texts of each number of bytes that a call takes, each pushed onto an empty string, onto a letter and onto a lead, and made
+/// a string in each other way.
+pub fn texts_of_each_length() -> Vec<Vec<Call>> {
+    let mut scripts = Vec::new();
+    for base in [BASES[0], BASES[1], BASES[3], BASES[5]] {
+        scripts.extend((0..=MOST_BYTES).map(|bytes| text_calls(&units_of_bytes(base, bytes))));
+    }
+    scripts
+}
+
+fn text_calls(units: &[u16]) -> Vec<Call> {
+    let text = || Operand::Text(String::from_utf16_lossy(units));
+    let mut calls = vec![Call::new("Wtf8::from_str", vec![text()])];
+    for name in ["from_str", "from_string"] {
+        calls.push(Call::new(name, vec![Operand::Register(0), text()]));
+    }
+    for front in [&[][..], &[0x61], &[0xD83D]] {
+        calls.push(from_units(1, front));
+        calls.push(Call::new("push_str", vec![Operand::Register(1), text()]));
+        calls.push(from_units(2, front));
+        calls.push(registers("push_wtf8", 2, 0));
+        calls.push(registers("comparisons", 1, 2));
+        calls.extend(on(1, &["as_str", "hash"]));
+    }
+    calls.push(registers("clone", 2, 0));
+    calls.extend(on(2, &["into_string"]));
+    calls
+}
+
+/// Strings of 65,000 bytes and a few less, cut and looked at far from their begin.
+pub fn far() -> Vec<Vec<Call>> {
+    let mut scripts = Vec::new();
+    for base in BASES {
+        for far in [8191, 16_384, 32_767, 49_153, 60_001, 64_999] {
+            let mut calls = string_of_far_bytes(&units_of_bytes(base, 250));
+            calls.extend(on(0, &["boundaries"]));
+            for position in far - 1..=far + 2 {
+                calls.extend(at_position(position));
+            }
+            calls.extend(on(0, &["to_string_lossy", "hash"]));
+            calls.push(registers("clone", 1, 0));
+            calls.push(Call::new(
+                "push",
+                vec![Operand::Register(1), Operand::Value(0xDC00)],
+            ));
+            calls.push(registers("comparisons", 0, 1));
+            calls.push(registers("cmp_units", 1, 0));
+            scripts.push(calls);
+        }
+    }
+    scripts
+}
+
+/// The string of 260 times some units of 250 bytes, in register 0.
+fn string_of_far_bytes(units: &[u16]) -> Vec<Call> {
+    let mut calls = vec![from_units(0, units), from_units(2, units)];
+    for doubled in 0..8 {
+        // 256 times by doubling, and four times more behind it.
+        if doubled == 2 {
+            calls.push(registers("clone", 2, 0));
+        }
+        calls.push(registers("clone", 1, 0));
+        calls.push(registers("push_wtf8", 0, 1));
+    }
+    calls.push(registers("push_wtf8", 0, 2));
+    calls
+}
