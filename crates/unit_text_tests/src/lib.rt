@@ -1,4 +1,4 @@
-// Tests of the public calls of `unit_text` and of its uses.
+// Tests of the public calls of `unit_text` and of the uses of both libraries.
 #![tactic(auto)]
 
 #[cfg(test)]
@@ -10,6 +10,8 @@ mod lengths;
 #[cfg(test)]
 mod memory;
 #[cfg(test)]
+mod reading;
+#[cfg(test)]
 mod shared;
 #[cfg(test)]
 mod sinks;
@@ -17,3 +19,7 @@ mod sinks;
 mod strings;
 #[cfg(test)]
 mod texts;
+#[cfg(test)]
+mod uses;
+#[cfg(test)]
+mod uses_refused;

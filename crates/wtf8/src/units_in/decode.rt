@@ -1,10 +1,11 @@
-// Code units read as characters and lone surrogates.
+// Code units read as code points.
 ghost use Rattle.std.specs.Prelude.{◌≡◌, ◌↔◌, ℕ, List, Result, None, IsTrue, IfOk};
 ghost use Rattle.std.specs.Iterator.{count_map, Drains};
 ghost use Rattle.std.specs.Iterator.Adapters.{peekable_can, peekable_source, peekable_peeked, items_left_with_peeked};
 ghost use Rattle.wtf8.specs.CodePoint.{number};
+ghost use Rattle.wtf8.specs.declared.numbers.code_point.CodePoint.{CodePoint};
 ghost use Rattle.wtf8.specs.Decoding.{units_left, decode_steps, ReadsAll};
-ghost use Rattle.wtf8.specs.Unicode.{IsLead, IsTrail, IsSurrogate, pair};
+ghost use Rattle.wtf8.specs.Unicode.{IsLead, IsTrail, pair};
 ghost use Rattle.wtf8.specs.UnitParts.{AppendsForm};
 
 use crate::numbers::code_point::CodePoint;
@@ -13,16 +14,15 @@ use crate::numbers::surrogates::{self, FIRST_LEAD, FIRST_TRAIL, LAST_LEAD, LAST_
 use std::alloc::{AllocError, Allocator};
 use std::iter::Ahead;
 
-/// The characters and the lone surrogates that the units of an iterator stand for, in order.
+/// The code points that the units of an iterator stand for, in order: a scalar value is `Ok`, a lone surrogate `Err`.
 ///
-/// A lead and the trail directly behind it are one character, and so is a unit that is no surrogate. Any other surrogate
-/// is an `Err` of that unit.
+/// A lead and the trail directly behind it are one scalar value, and so is a unit that is no surrogate.
 pub(crate) fn decode_utf16<I: Iterator<Item = u16>>(iter: I) -> DecodeUtf16<I>
     ensures source { peekable_source (units_left result) ≡ iter }
     ensures peeked { peekable_peeked (units_left result) ≡ None }
 
     // Whatever the iterator gives up to its end, the items are a reading of it.
-    ensures reads { (items : List (Result ℕ ℕ)) → Drains (decode_steps I.next_gives) result items → ReadsAll I.next_gives iter items }
+    ensures reads { (items : List (Result CodePoint CodePoint)) → Drains (decode_steps I.next_gives) result items → ReadsAll I.next_gives iter items }
 {
     DecodeUtf16 {
         units: iter.peekable(),
@@ -44,26 +44,24 @@ fn is_trail_unit(unit: &u16) -> bool
     surrogates::is_trail(u32::from(*unit))
 }
 
-/// The character of a unit that is no surrogate.
-fn single(unit: u16) -> char
-    requires { ¬ (IsSurrogate unit) }
-    ensures { result ≡ unit }
+/// The code point of a unit by itself.
+fn single(unit: u16) -> CodePoint
+    ensures { number result ≡ unit }
 {
-    unsafe { char::from_u32_unchecked(u32::from(unit)) }
+    CodePoint::from_u32_unchecked(u32::from(unit))
 }
 
-/// The supplementary character of a lead and a trail.
-fn paired(lead: u16, trail: u16) -> char
+/// The supplementary code point of a lead and a trail.
+fn paired(lead: u16, trail: u16) -> CodePoint
     requires lead { IsLead lead }
     requires trail { IsTrail trail }
-    ensures { result ≡ pair lead trail }
+    ensures { number result ≡ pair lead trail }
 {
-    let value = surrogates::joined(u32::from(lead), u32::from(trail));
-    unsafe { char::from_u32_unchecked(value) }
+    CodePoint::from_u32_unchecked(surrogates::joined(u32::from(lead), u32::from(trail)))
 }
 
 impl<I: Iterator<Item = u16>> Iterator for DecodeUtf16<I> {
-    type Item = Result<char, u16>;
+    type Item = Result<CodePoint, CodePoint>;
 
     ghost can_next = { λ s. peekable_can I.can_next (units_left s) };
 
@@ -71,14 +69,14 @@ impl<I: Iterator<Item = u16>> Iterator for DecodeUtf16<I> {
 
     ghost remaining = { λ s. count_map (items_left_with_peeked (peekable_peeked (units_left s))) (I.remaining (peekable_source (units_left s))) };
 
-    fn next(&mut self) -> Option<Result<char, u16>> {
+    fn next(&mut self) -> Option<Result<CodePoint, CodePoint>> {
         let unit = self.units.next()?;
         match unit {
             FIRST_LEAD..=LAST_LEAD => match self.units.next_if(is_trail_unit) {
                 Some(trail) => Some(Ok(paired(unit, trail))),
-                None => Some(Err(unit)),
+                None => Some(Err(single(unit))),
             },
-            FIRST_TRAIL..=LAST_TRAIL => Some(Err(unit)),
+            FIRST_TRAIL..=LAST_TRAIL => Some(Err(single(unit))),
             _ => Some(Ok(single(unit))),
         }
     }
@@ -101,11 +99,10 @@ pub(crate) fn append_one_by_one<A: Allocator>(
     let mut is_scalar = true;
     for item in decode_utf16(v.iter().copied()) {
         match item {
-            Ok(character) => encoding::append(bytes, CodePoint::from_char(character))?,
+            Ok(scalar_value) => encoding::append(bytes, scalar_value)?,
             Err(surrogate) => {
                 is_scalar = false;
-                let point = CodePoint::from_u32_unchecked(u32::from(surrogate));
-                encoding::append(bytes, point)?;
+                encoding::append(bytes, surrogate)?;
             }
         }
     }
@@ -162,7 +159,7 @@ mod tests {
         for moment in &MOMENTS {
             let mut items = decode_utf16(moment.units.iter().copied());
             if let Some(lone) = moment.lone {
-                assert_eq!(rt; items.next(), Some(Err(lone)));
+                assert_eq!(rt; items.next(), Some(Err(single(lone))));
             }
             assert_eq!(rt; items.size_hint(), moment.hint);
             assert_eq!(rt; items.count(), moment.left);
@@ -172,9 +169,9 @@ mod tests {
     #[test]
     fn a_lead_behind_a_lead_pairs(rt: HostRuntime) {
         let mut items = decode_utf16([0xD83D, 0xD83D, 0xDCA9, 0xDCA9].iter().copied());
-        assert_eq!(rt; items.next(), Some(Err(0xD83D)));
-        assert_eq!(rt; items.next(), Some(Ok('\u{1F4A9}')));
-        assert_eq!(rt; items.next(), Some(Err(0xDCA9)));
+        assert_eq!(rt; items.next(), Some(Err(single(0xD83D))));
+        assert_eq!(rt; items.next(), Some(Ok(CodePoint::from_char('\u{1F4A9}'))));
+        assert_eq!(rt; items.next(), Some(Err(single(0xDCA9))));
         assert_eq!(rt; items.next(), None);
     }
 }

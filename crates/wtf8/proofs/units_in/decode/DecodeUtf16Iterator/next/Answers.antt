@@ -1,4 +1,4 @@
-use Rattle.wtf8.proofs.Common.{◌<◌, rules, refl, inl, inr, sym, subst, arith, Some, peekable_steps, peekable_peeked, units_left, IsTrail}
+use Rattle.wtf8.proofs.Common.{◌<◌, rules, refl, inl, inr, sym, subst, arith, Some, peekable_steps, peekable_peeked, units_left, number, IsTrail}
 use Rattle.std.proofs.Common.{true≢false}
 use Rattle.wtf8.proofs.lemmas.units_in.Decoding.{takes_one, takes_two, held_apart}
 use Rattle.wtf8.proofs.units_in.decode.DecodeUtf16Iterator.next.Goals as goal
@@ -11,9 +11,9 @@ returns-in-Some-clause-steps g c =
     let trail = c.in-Some.trail in
     let second : peekable_steps steps c.next.new.self (Some trail) c.next_if.new.self = (told.2.1, rw told.2.0 at told.1) in
     record {
-      kind = search rules;
+      kind = λ s. omega (arith, c.paired.ensures, s);
       behind = c.next_if.new.self;
-      taken = takes_two steps (units_left c.args.self.now) c.next.new.self c.next_if.new.self unit trail c.paired.result c.paired.ensures (search rules)
+      taken = takes_two steps (units_left c.args.self.now) c.next.new.self c.next_if.new.self unit trail (number c.paired.result) c.paired.ensures (search rules)
           (search rules) c.in_ok-unit.ensures.steps second;
       held = inl refl;
       lone = λ lead. absurd (omega (arith, c.paired.ensures, lead));
@@ -24,9 +24,9 @@ returns-in-None-clause-steps g c =
     let told = c.in-None.ensures.cases in
     let unit = c.in_ok-unit.unit in
     record {
-      kind = (omega arith, omega arith);
+      kind = (omega (arith, c.single.ensures), omega (arith, c.single.ensures));
       behind = c.next.new.self;
-      taken = takes_one g.I.Iterator.next_gives (units_left c.args.self.now) c.next.new.self unit unit refl (omega arith) c.in_ok-unit.ensures.steps;
+      taken = takes_one g.I.Iterator.next_gives (units_left c.args.self.now) c.next.new.self unit (number c.single.result) c.single.ensures (omega arith) c.in_ok-unit.ensures.steps;
       held = inr (told.0, told.1, told.2);
       lone = λ _. held_apart (peekable_peeked c.next_if.new.self) told.0 _ told.2 c.in-None.ensures.refused
           (λ u failed trail. true≢false (sym (failed.1.1 (subst IsTrail (sym failed.2) trail))));
@@ -36,11 +36,11 @@ pub returns-in-56320-to-57343-clause-steps : goal.returns-in-56320-to-57343-clau
 returns-in-56320-to-57343-clause-steps g c =
     let unit = c.in_ok-unit.unit in
     record {
-      kind = (omega arith, omega arith);
+      kind = (omega (arith, c.single-in-56320-to-57343.ensures), omega (arith, c.single-in-56320-to-57343.ensures));
       behind = c.next.new.self;
-      taken = takes_one g.I.Iterator.next_gives (units_left c.args.self.now) c.next.new.self unit unit refl (omega arith) c.in_ok-unit.ensures.steps;
+      taken = takes_one g.I.Iterator.next_gives (units_left c.args.self.now) c.next.new.self unit (number c.single-in-56320-to-57343.result) c.single-in-56320-to-57343.ensures (omega arith) c.in_ok-unit.ensures.steps;
       held = inl refl;
-      lone = λ lead. absurd (omega (arith, lead));
+      lone = λ lead. absurd (omega (arith, c.single-in-56320-to-57343.ensures, lead));
     }
 
 pub returns-in_default-clause-steps : goal.returns-in_default-clause-steps
@@ -48,10 +48,10 @@ returns-in_default-clause-steps g c =
     let unit = c.in_ok-unit.unit in
     let range : unit < 0x10000 = search rules in
     record {
-      kind = search rules;
+      kind = λ s. search (c.single-in_default.ensures, s, rules);
       behind = c.next.new.self;
       taken =
-          takes_one g.I.Iterator.next_gives (units_left c.args.self.now) c.next.new.self unit c.single.result c.single.ensures range c.in_ok-unit.ensures.steps;
+          takes_one g.I.Iterator.next_gives (units_left c.args.self.now) c.next.new.self unit (number c.single-in_default.result) c.single-in_default.ensures range c.in_ok-unit.ensures.steps;
       held = inl refl;
       lone = λ lead. absurd (search rules);
     }

@@ -1,5 +1,5 @@
 // What the uses leave where memory is refused, and that they are done at each length where it is granted.
-use crate::{appending, file_names, joining, refusals};
+use wtf8_uses::{appending, file_names, joining, refusals};
 use refusing::{REFUSALS, Refusal, Refusing};
 use std::alloc::{AllocError, Global};
 use std::test::Fail;

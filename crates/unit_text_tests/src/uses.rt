@@ -2,8 +2,8 @@
 ghost use Rattle.std.specs.Prelude.{IfOk};
 ghost use Rattle.wtf8_uses.specs.Sorted.{AreInPointOrder};
 
-use crate::interner::Interner;
-use crate::{
+use wtf8_uses::interner::Interner;
+use wtf8_uses::{
     appending, file_names, joining, maps, refusals, round_trips, sorting, table, units, well_formed,
 };
 use std::alloc::{AllocError, Global};

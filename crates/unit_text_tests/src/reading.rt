@@ -1,5 +1,5 @@
 // Readers that give their bytes in pieces, are interrupted, or fail. Expected values are of Python's codecs, or plain text.
-use crate::reading::{ReadError, read_utf16};
+use wtf8_uses::reading::{ReadError, read_utf16};
 use refusing::{REFUSALS, Refusal, Refusing};
 use std::alloc::{AllocError, Allocator, Global};
 use std::io;
