@@ -73,12 +73,12 @@ fn block_at<const N: usize>(bytes: &[u8], at: usize) -> [u8; N]
 
 /// Appends a block, for which there is room.
 #[inline(always)]
-fn push_block<const N: usize, A: Allocator>(bytes: &mut Vec<u8, A>, block: [u8; N])
-    requires { length bytes.old.items + N ≤ vec_capacity bytes.old }
-    ensures items { bytes.new.items ≡ bytes.old.items ++ block.entry }
-    ensures capacity { vec_capacity bytes.new ≡ vec_capacity bytes.old }
+pub(crate) fn push_block<T: Copy, const N: usize, A: Allocator>(items: &mut Vec<T, A>, block: [T; N])
+    requires { length items.old.items + N ≤ vec_capacity items.old }
+    ensures items { items.new.items ≡ items.old.items ++ block }
+    ensures capacity { vec_capacity items.new ≡ vec_capacity items.old }
 {
     for at in 0..N {
-        bytes.push_reserved(block[at]);
+        items.push_reserved(block[at]);
     }
 }

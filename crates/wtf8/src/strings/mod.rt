@@ -5,4 +5,5 @@ pub(crate) mod collect;
 pub(crate) mod concat;
 pub(crate) mod iters;
 pub(crate) mod unit_positions;
+pub(crate) mod units_out;
 pub(crate) mod view;

@@ -4,6 +4,6 @@ use Rattle.wtf8.proofs.lanes.copies.push_block.Given as goal
 -- the lanes so far are appended
 abbrev pub invariant-loop-at : goal.invariant-loop-at
 invariant-loop-at g l = record {
-  items : l.bytes.items ≡ l.initial.bytes.items ++ take l.at l.block;
-  capacity : vec_capacity l.bytes ≡ vec_capacity l.initial.bytes;
+  items : l.items.items ≡ l.initial.items.items ++ take l.at l.block;
+  capacity : vec_capacity l.items ≡ vec_capacity l.initial.items;
 }
