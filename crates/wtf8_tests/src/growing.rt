@@ -283,3 +283,23 @@ fn room_that_no_memory_has_is_refused(rt: HostRuntime) -> Result<(), Fail> {
     assert!(rt; text.apply(Build::Reserve(usize::MAX)).is_err());
     expect_dump(rt.alloc(), text.as_wtf8(), "61")
 }
+
+#[test]
+fn spare_room_is_given_back(rt: HostRuntime) -> Result<(), Fail> {
+    let heap = Refusing::new(rt.alloc(), u64::MAX);
+    let mut text = Wtf8Buf::with_capacity(&heap, 100)?;
+    text.push_wtf8(joined(rt.alloc(), &[0x0061, 0xD83D])?.as_wtf8())?;
+    // Where the smaller block is refused all stays, then the capacity is the length, and of nothing nothing is left.
+    for (granted, capacity) in [(0, 100), (1, 4), (1, 4)] {
+        heap.grant(granted);
+        text.shrink_to_fit();
+        assert_eq!(rt; text.capacity(), capacity, "{granted} granted");
+        expect_dump(rt.alloc(), text.as_wtf8(), FULL)?;
+    }
+    text.clear();
+    heap.grant(0);
+    text.shrink_to_fit();
+    assert_eq!(rt; text.capacity(), 0);
+    assert!(rt; text.is_empty());
+    Ok(())
+}

@@ -78,9 +78,10 @@ enum Call {
     ToStringLossy,
     HexDump,
     AppendHexDump,
+    AppendUnits,
 }
 
-const CALLS: [Call; 16] = [
+const CALLS: [Call; 17] = [
     Call::WithCapacity,
     Call::FromStr,
     Call::FromUnits,
@@ -97,6 +98,7 @@ const CALLS: [Call; 16] = [
     Call::ToStringLossy,
     Call::HexDump,
     Call::AppendHexDump,
+    Call::AppendUnits,
 ];
 
 /// Pushes code points one after another.
@@ -150,6 +152,7 @@ fn is_done(heap: Lent<'_>, call: Call, sample: &Sample<'_>) -> bool {
         Call::ToStringLossy => view.to_string_lossy(heap).is_ok(),
         Call::HexDump => view.hex_dump(heap).is_ok(),
         Call::AppendHexDump => view.append_hex_dump(&mut Vec::new(heap)).is_ok(),
+        Call::AppendUnits => view.append_units(&mut Vec::new(heap)).is_ok(),
         _ => appends(heap, call, sample),
     }
 }
@@ -280,6 +283,7 @@ fn room_after(call: Call, sample: &Sample<'_>) -> Option<Room> {
         Call::ToStringLossy => Some(room_of(if text.is_some() { 0 } else { len })),
         Call::HexDump => Some(room_of(len.saturating_mul(3))),
         Call::AppendHexDump => Some(room_appended(len.saturating_mul(3))),
+        Call::AppendUnits => Some(room_appended(count.saturating_mul(2))),
     }
 }
 

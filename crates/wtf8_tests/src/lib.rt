@@ -56,3 +56,5 @@ mod unit_lists;
 mod unit_order;
 #[cfg(test)]
 mod unit_slices;
+#[cfg(test)]
+mod units_out;

@@ -178,6 +178,17 @@ impl<A: Allocator> Wtf8Buf<A> {
         encoding::reserve(&mut self.bytes, additional)
     }
 
+    /// Gives the spare room back, all of it where the allocator has a block of the string's length, and always where the
+    /// string is empty. Where that is refused the capacity stays as it is. The string is as before in either case.
+    pub fn shrink_to_fit(&mut self)
+        ensures units { self.new.units ≡ self.old.units }
+        ensures bytes { self.new.bytes ≡ self.old.bytes }
+        ensures capacity { self.new.capacity ≤ self.old.capacity }
+        ensures empty { self.old.bytes ≡ [] → self.new.capacity ≡ 0 }
+    {
+        self.bytes.shrink_to_fit();
+    }
+
     /// How many bytes fit without a growth: at least the length.
     pub fn capacity(&self) -> usize
         ensures value { result ≡ self.now.capacity }

@@ -1,0 +1,66 @@
+// The units of a string appended to a vector: all of them behind those that are there, wherever a block of ASCII ends.
+use refusing::Refusing;
+use std::alloc::Global;
+use std::test::Fail;
+use wtf8::Wtf8Buf;
+
+/// Units that stand in the vector before.
+const BEFORE: [u16; 2] = [0xDC00, 0x0061];
+
+/// Units of each kind, which take the place of a letter.
+const OTHERS: [&[u16]; 6] = [
+    &[0x00E9],
+    &[0x20AC],
+    &[0xD83D],
+    &[0xDCA9],
+    &[0xD83D, 0xDCA9],
+    &[0xD7FF, 0xE000, 0xDBFF, 0xDFFF, 0x007F, 0x0080, 0x0000],
+];
+
+/// Fails unless the units come back behind those that are there: where the call finds room, where there is just room for
+/// them and no memory, and not at all where there is neither.
+fn expect_units_back(alloc: Global, units: &[u16]) -> Result<(), Fail> {
+    let text = Wtf8Buf::from_ill_formed_utf16(alloc, units)?;
+    let mut whole = Vec::from_slice(alloc, &BEFORE)?;
+    whole.extend_from_slice(units)?;
+    let heap = Refusing::new(alloc, u64::MAX);
+    let mut grown = Vec::from_slice(&heap, &BEFORE)?;
+    text.as_wtf8().append_units(&mut grown)?;
+    let mut room = Vec::with_capacity(&heap, whole.len())?;
+    room.extend_from_slice(&BEFORE)?;
+    let mut full = Vec::from_slice(&heap, &BEFORE)?;
+    heap.grant(0);
+    text.as_wtf8().append_units(&mut room)?;
+    let is_refused = text.as_wtf8().append_units(&mut full).is_err();
+    let is_as_before = full.as_slice() == BEFORE.as_slice();
+    let is_same = grown.as_slice() == whole.as_slice() && room.as_slice() == whole.as_slice();
+    if !is_same || !is_as_before || is_refused == units.is_empty() {
+        return Err(Fail::new(format_args!("{units:04X?}")));
+    }
+    Ok(())
+}
+
+/// Fails unless the units of so many letters come back, with each other kind in the place of each of them.
+fn expect_changed_back(alloc: Global, length: usize) -> Result<(), Fail> {
+    for place in 0..length {
+        for other in &OTHERS {
+            let mut units = Vec::new(alloc);
+            units.resize(place, 0x0061)?;
+            units.extend_from_slice(other)?;
+            units.resize(length.max(units.len()), 0x007A)?;
+            expect_units_back(alloc, &units)?;
+        }
+    }
+    Ok(())
+}
+
+#[test]
+fn all_units_are_appended(rt: HostRuntime) -> Result<(), Fail> {
+    for length in 0..=50 {
+        let mut letters = Vec::new(rt.alloc());
+        letters.resize(length, 0x0061)?;
+        expect_units_back(rt.alloc(), &letters)?;
+        expect_changed_back(rt.alloc(), length)?;
+    }
+    Ok(())
+}
