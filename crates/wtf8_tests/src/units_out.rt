@@ -35,7 +35,7 @@ fn expect_units_back(alloc: Global, units: &[u16]) -> Result<(), Fail> {
     let is_as_before = full.as_slice() == BEFORE.as_slice();
     let is_same = grown.as_slice() == whole.as_slice() && room.as_slice() == whole.as_slice();
     if !is_same || !is_as_before || is_refused == units.is_empty() {
-        return Err(Fail::new(format_args!("{units:04X?}")));
+        return Err(Fail::new(format_args!("{units:?}")));
     }
     Ok(())
 }
