@@ -1,3 +1,4 @@
+pub mod AsciiFronts
 pub mod Differences
 pub mod Digits
 pub mod Surrogates

@@ -1,9 +1,10 @@
-// Code units turned into bytes: sixteen of ASCII, or eight of two or of three bytes together, any others one after another.
-ghost use Rattle.std.specs.Prelude.{◌≡◌, List, [], ◌+◌, ◌-◌, ◌<◌, ◌≤◌, length, take, drop, IfOk, IfSome, IsOk, IsTrue};
+// Code units turned into bytes: sixteen of ASCII, or eight of two or of three bytes together, the ASCII units before another
+// one together, any others one after another.
+ghost use Rattle.std.specs.Prelude.{◌≡◌, List, [], ◌+◌, ◌++◌, ◌-◌, ◌%◌, ◌<◌, ◌≤◌, length, map, take, drop, IfOk, IfSome, IfNone, IsOk, IsTrue};
 ghost use Rattle.wtf8.specs.Form.{bytes as bytes_of};
 ghost use Rattle.wtf8.specs.UnitParts.{AppendsForm, IsKnownForm, DividesNoPair, AreAscii, AreTwoByteUnits, AreThreeByteUnits, IsBlock};
 
-use crate::numbers::surrogates::{FIRST_LEAD, FIRST_TRAIL, LAST_TRAIL};
+use crate::numbers::surrogates::{FIRST_LEAD, FIRST_TRAIL, LAST_LEAD, LAST_TRAIL};
 use crate::units_in::{decode, mixed_blocks};
 use std::alloc::{AllocError, Allocator};
 use std::simd::prelude::*;
@@ -25,6 +26,9 @@ const IN_THREES: [usize; 32] = [
     0, 8, 16, 1, 9, 17, 2, 10, 18, 3, 11, 19, 4, 12, 20, 5, 13, 21, 6, 14, 22, 7, 15, 23, 0, 0, 0,
     0, 0, 0, 0, 0,
 ];
+
+/// From how many on the ASCII units at the front of a block are taken together.
+const FRONT: usize = 4;
 
 /// How many units are read one after another before a block is looked at again.
 const PART: usize = 32;
@@ -193,6 +197,94 @@ fn end_of_part(v: &[u16], at: usize) -> usize
     }
 }
 
+/// How many of sixteen units come before the first that is not ASCII.
+#[inline(always)]
+fn count_ascii(units: u16x16) -> usize
+    ensures within { result ≤ 16 }
+    ensures ascii { AreAscii (take result units) }
+{
+    let others = units.simd_ge(Simd::splat(0x80)).to_bitmask();
+    if others == 0 {
+        return LANES;
+    }
+    others.trailing_zeros() as usize
+}
+
+/// The low bytes of sixteen units.
+#[inline(always)]
+fn low_bytes(units: u16x16) -> [u8; LANES]
+    ensures { result ≡ map (λ unit. unit % 256) units }
+{
+    (units % u16x16::splat(0x100)).cast::<u8>().to_array()
+}
+
+/// Appends the bytes of the ASCII units at the front of the sixteen from a place on, where there are so many units, and
+/// answers how many: none where fewer than four are ASCII at the front, or all of them.
+#[inline(always)]
+fn append_ascii_front<A: Allocator>(
+    bytes: &mut Vec<u8, A>,
+    v: &[u16],
+    at: usize,
+) -> Result<usize, AllocError>
+    requires { at < length v.now }
+    ensures within { IfOk result (λ count. at + count < length v.now) }
+    ensures ascii { IfOk result (λ count. AreAscii (take count (drop at v.now))) }
+    ensures items { IfOk result (λ count. bytes.new.items ≡ bytes.old.items ++ take count (drop at v.now)) }
+{
+    let Some(units) = units_from(v, at) else {
+        return Ok(0);
+    };
+    let units = u16x16::from_array(units);
+    let count = count_ascii(units);
+    if count < FRONT || count == LANES {
+        return Ok(0);
+    }
+    let end = bytes.len() + count;
+    bytes.extend_from_slice(&low_bytes(units))?;
+    bytes.truncate(end);
+    Ok(count)
+}
+
+/// Where the code point ends that begins at a place.
+#[inline(always)]
+fn end_of_point(v: &[u16], at: usize) -> usize
+    requires { at < length v.now }
+    ensures order { at < result }
+    ensures within { result ≤ length v.now }
+    ensures apart { DividesNoPair v.now result }
+{
+    if let FIRST_LEAD..=LAST_LEAD = v[at] {
+        if 1 < v.len() - at {
+            if let FIRST_TRAIL..=LAST_TRAIL = v[at + 1] {
+                return at + 2;
+            }
+        }
+    }
+    at + 1
+}
+
+/// Appends the bytes of the ASCII units from a place on and of the code point behind them, where there are four such units
+/// or more before another one, and answers where it ends and whether it is a scalar value.
+#[inline(always)]
+fn append_front<A: Allocator>(
+    bytes: &mut Vec<u8, A>,
+    v: &[u16],
+    at: usize,
+) -> Result<Option<(usize, bool)>, AllocError>
+    requires { at < length v.now }
+    ensures none { IfOk result (λ part. IfNone part (bytes.new.items ≡ bytes.old.items)) }
+    ensures some { IfOk result (λ part. IfSome part (λ part. (at < part.0) × (part.0 ≤ length v.now) × DividesNoPair v.now part.0
+        × AppendsForm bytes.old.items bytes.new.items (take (part.0 - at) (drop at v.now)) part.1)) }
+{
+    let count = append_ascii_front(bytes, v, at)?;
+    if count == 0 {
+        return Ok(None);
+    }
+    let end = end_of_point(v, at + count);
+    let is_scalar = decode::append_one_by_one(bytes, &v[at + count..end])?;
+    Ok(Some((end, is_scalar)))
+}
+
 /// Appends the bytes of some units from a place on, sixteen together where that can be, and answers where they end and
 /// whether no surrogate is alone among them.
 #[inline(always)]
@@ -205,6 +297,9 @@ fn append_part<A: Allocator>(
     ensures { IfOk result (λ part. (at < part.0) × (part.0 ≤ length v.now) × DividesNoPair v.now part.0
         × AppendsForm bytes.old.items bytes.new.items (take (part.0 - at) (drop at v.now)) part.1) }
 {
+    if let Some(part) = append_front(bytes, v, at)? {
+        return Ok(part);
+    }
     if let Some(taken) = mixed_blocks::append_block(bytes, v, at)? {
         return Ok((at + taken, true));
     }

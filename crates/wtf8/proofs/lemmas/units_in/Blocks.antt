@@ -1,8 +1,8 @@
 -- Blocks of units of one kind: their lanes, their bytes, and what they add to a string.
-use Rattle.wtf8.proofs.Common.{◌≡◌, ℕ, zero, suc, ◌%◌, ◌^◌, ◌<◌, ◌≤◌, leb, ltb, Bool, true, false, cond, ◌&&◌, ◌||◌, List, [], ◌∷◌, map, length, replicate, bit_and}
+use Rattle.wtf8.proofs.Common.{◌≡◌, ℕ, zero, suc, ◌-◌, ◌%◌, ◌^◌, ◌<◌, ◌≤◌, leb, ltb, Bool, true, false, cond, ◌&&◌, ◌||◌, List, [], ◌∷◌, map, length, replicate, bit_and}
 use Rattle.wtf8.proofs.Common.{bit_or, Fits, refl, sym, ap, ◌∙◌, arith, inl, inr, cases_Bool, mask_l-mod, tops_compared, Each1, zip2, mask_l, top, AreAscii}
 use Rattle.wtf8.proofs.Common.{AreTwoByteUnits, AreThreeByteUnits, IsSurrogate, ◌+◌, ◌/◌, ◌++◌, flat_map, bytes, encoding, IsTrue, take, drop, get_or, subst}
-use Rattle.wtf8.proofs.Common.{length-append, get_or-append-add, take-append-drop, take_all, Each1-weaker, length-chunk, MeetsAsPair, IsClean, bytes-injective}
+use Rattle.wtf8.proofs.Common.{length-append, get_or-append-add, take-append-drop, take_all, Each1-weaker, length-chunk, MeetsAsPair, IsClean, bytes-injective, drop-drop}
 use Rattle.wtf8.proofs.Common.{AreScalar, units, IsKnownForm, DividesNoPair, IsBlock, numbers, append_assoc, Ok, IsWellFormed, GainsUnits}
 use Rattle.std.proofs.Common.{w16, w32}
 use Rattle.std.proofs.Math.Seq.{get_or-append_seam, take-add}
@@ -10,7 +10,7 @@ use Rattle.std.proofs.lemmas.Bool.{leb-false, ltb-false, or_parts, and_cases}
 use Rattle.std.proofs.lemmas.List.{length-map}
 use Rattle.std.proofs.lemmas.Simd.{zip2_splat_left, Each1-get_or}
 use Rattle.wtf8.specs.Unicode.{IsLead}
-use Rattle.wtf8.specs.UnitParts.{AreScalarUnits}
+use Rattle.wtf8.specs.UnitParts.{AreScalarUnits, AppendsForm}
 use Rattle.wtf8.specs.declared.numbers.code_point.CodePoint.{CodePoint}
 use Rattle.wtf8.proofs.lemmas.numbers.Encoding.{encoding_two, encoding_three, third_row, encoding_one, bytes-append}
 use Rattle.wtf8.proofs.lemmas.numbers.Readings.{meets_by, units-cons_one}
@@ -225,6 +225,30 @@ pub part_read : (u w v new : List ℕ) (at n next : ℕ) (known more both : Bool
 part_read u w v new at n next known more both x y apart flags e f =
     let whole = known_behind w v (take at u) (take n (drop at u)) known more both x y (λ m. apart (meets_longer (take at u) (drop at u) n m)) flags in
     subst (λ z. IsKnownForm z (take next u) both) (sym e) (subst (λ z. IsKnownForm (w ++ v) z both) (sym (ap (λ k. take k u) f ∙ take-add at n u)) whole)
+
+-- the ASCII before a part, and the part
+ascii_meets : (a b : List ℕ) → AreAscii a → ¬ (MeetsAsPair a b)
+ascii_meets a b h m =
+    let last : get_or a (length m.front) 0 ≡ m.lead = ap (λ w. get_or w (length m.front) 0) m.ends ∙ get_or-append_seam m.front m.lead [] 0 in
+    let inside : length m.front < length a = omega (arith, ap length m.ends, length-append m.front (m.lead ∷ [])) in
+    omega (arith, last, m.is_lead, Each1-get_or (λ n. n < 0x80) a (length m.front) 0 inside h)
+
+pub front_and_part : (u was now new : List ℕ) (at count end : ℕ) (known : Bool) → AreAscii (take count (drop at u)) → at + count ≤ end
+    → now ≡ was ++ take count (drop at u) → AppendsForm now new (take (end - (at + count)) (drop (at + count) u)) known
+    → AppendsForm was new (take (end - at) (drop at u)) known
+front_and_part u was now new at count end known h le e part =
+    let a = take count (drop at u) in
+    let n = end - (at + count) in
+    let b = take n (drop (at + count) u) in
+    let both : end - at ≡ count + n = omega (arith, le) in
+    let whole : take (end - at) (drop at u) ≡ a ++ b =
+    ap (λ k. take k (drop at u)) both ∙ (take-add count n (drop at u) ∙ ap (λ w. a ++ take n w) (drop-drop count at u)) in
+    let joined = known_behind a part.appended a b true known known (ascii_form a h) part.part (ascii_meets a b h) (λ t. (refl, t)) in
+    record {
+      appended = a ++ part.appended;
+      behind = part.behind ∙ (ap (λ w. w ++ part.appended) e ∙ append_assoc was a part.appended);
+      part = subst (λ v. IsKnownForm (a ++ part.appended) v known) (sym whole) joined;
+    }
 
 pub all_read : {w u : List ℕ} (at : ℕ) (known : Bool) → IsKnownForm w (take at u) known → length u ≤ at → IsKnownForm w u known
 all_read {w} {u} at known x h = subst (λ v. IsKnownForm w v known) (take_all at u h) x

@@ -1,0 +1,68 @@
+-- The lanes of ASCII at the front of a block.
+use Rattle.wtf8.proofs.Common.{◌≡◌, ℕ, zero, suc, ◌-◌, ◌%◌, ◌^◌, ◌<◌, ◌≤◌, leb, not, cond, List, [], ◌∷◌, map, length, take, get_or, replicate, refl, sym, ap}
+use Rattle.wtf8.proofs.Common.{◌∙◌, arith, subst, Each1, mask_l-mod, tops_compared, zip2, mask_l, top, AreAscii, length-take}
+use Rattle.std.proofs.lemmas.Bool.{leb-false, not-true}
+use Rattle.std.proofs.lemmas.List.{length-map, get_or-take}
+use Rattle.std.proofs.lemmas.List.Sums.{prefix_len_passes, prefix_len-le-length}
+use lib.Lanes.{Each2}
+use Rattle.std.proofs.lemmas.Simd.{zip2_splat_left, Each1-from_get_or, leading_from_mask_l, trailing_mask_l}
+use mir.Syntax.{Width}
+use mir.Val.{bits, hbits}
+use Rattle.std.specs.Int.Count.{count_trailing_zeros}
+use Rattle.std.specs.List.{prefix_len}
+
+-- the mask of the lanes that are not ASCII
+abbrev others : Width → List ℕ → ℕ
+others w xs = mask_l (map (top (hbits w)) (zip2 (λ a b. cond (leb a b) (2 ^ bits w - 1) 0) (replicate 16 0x80) xs)) % 2 ^ 64
+
+module _ (w : Width) (xs : List ℕ) (long : length xs ≡ 16) where
+  same : others w xs ≡ mask_l (map (leb 0x80) xs)
+  same = ap (λ ms. mask_l ms % 2 ^ 64) (tops_compared w leb (replicate 16 0x80) xs ∙ zip2_splat_left leb 0x80 16 xs long)
+      ∙ mask_l-mod (map (leb 0x80) xs) 64 (omega (arith, length-map xs (leb 0x80), long))
+
+  abbrev front : ℕ
+  front = prefix_len (λ x. not (leb 0x80 x)) xs
+
+  low : (k : ℕ) → k ≤ front → AreAscii (take k xs)
+  low k le = Each1-from_get_or (λ n. n < 0x80) (take k xs) 0 (λ i lt.
+      let inside : i < k = omega (arith, lt, length-take k xs) in
+      let passes = prefix_len_passes (λ x. not (leb 0x80 x)) xs i 0 (omega (arith, inside, le)) in
+      subst (λ n. n < 0x80) (sym (get_or-take k xs i 0 inside)) (leb-false 0x80 (get_or xs i 0) (not-true _ passes)))
+
+  pub all_ascii : others w xs ≡ 0 → AreAscii (take 16 xs)
+  all_ascii e = low 16 (omega (arith, long, leading_from_mask_l (leb 0x80) xs (sym same ∙ e)))
+
+  counted : ¬ (others w xs ≡ 0) → count_trailing_zeros 64 (others w xs) ≡ front
+  counted e = ap (count_trailing_zeros 64) same ∙ trailing_mask_l (leb 0x80) 64 xs (omega (arith, long)) (omega (arith, same, e))
+
+  pub within : ¬ (others w xs ≡ 0) → count_trailing_zeros 64 (others w xs) ≤ 16
+  within e = omega (arith, counted e, prefix_len-le-length (λ x. not (leb 0x80 x)) xs, long)
+
+  pub front_ascii : ¬ (others w xs ≡ 0) → AreAscii (take (count_trailing_zeros 64 (others w xs)) xs)
+  front_ascii e = low (count_trailing_zeros 64 (others w xs)) (omega (arith, counted e))
+
+-- lanes against one number in all lanes
+pub each2_splat : (P : ℕ → ℕ → Type 0) (y : ℕ) → ((x : ℕ) → P x y) → (n : ℕ) (xs : List ℕ) → length xs ≡ n → Each2 P xs (replicate n y)
+each2_splat P y h zero [] e = tt
+each2_splat P y h (suc n) [] e = absurd (omega arith)
+each2_splat P y h zero (x ∷ xs) e = absurd (omega arith)
+each2_splat P y h (suc n) (x ∷ xs) e = (h x, each2_splat P y h n xs (omega arith))
+
+pub each1_splat : (P : ℕ → Type 0) (f : ℕ → ℕ → ℕ) (y : ℕ) → ((x : ℕ) → P (f x y)) → (n : ℕ) (xs : List ℕ) → length xs ≡ n → Each1 P (zip2 f xs (replicate n y))
+each1_splat P f y h zero [] e = tt
+each1_splat P f y h (suc n) [] e = tt
+each1_splat P f y h zero (x ∷ xs) e = absurd (omega arith)
+each1_splat P f y h (suc n) (x ∷ xs) e = (h x, each1_splat P f y h n xs (omega arith))
+
+pub map_splat : (g : ℕ → ℕ) (f : ℕ → ℕ → ℕ) (k : ℕ → ℕ) (y : ℕ) → ((x : ℕ) → g (f x y) ≡ k x) → (n : ℕ) (xs : List ℕ) → length xs ≡ n
+    → map g (zip2 f xs (replicate n y)) ≡ map k xs
+map_splat g f k y h zero [] e = refl
+map_splat g f k y h (suc n) [] e = refl
+map_splat g f k y h zero (x ∷ xs) e = absurd (omega arith)
+map_splat g f k y h (suc n) (x ∷ xs) e = λ i. h x i ∷ map_splat g f k y h n xs (omega arith) i
+
+-- the low bytes of ASCII are the numbers themselves
+pub low_ascii : (k : ℕ) (xs : List ℕ) → AreAscii (take k xs) → take k (map (λ n. n % 256) xs) ≡ take k xs
+low_ascii zero xs h = refl
+low_ascii (suc k) [] h = refl
+low_ascii (suc k) (x ∷ xs) h = let same : x % 256 ≡ x = omega (arith, h.0) in λ i. same i ∷ low_ascii k xs h.1 i
