@@ -2,11 +2,7 @@
 //! and what the tests of several crates share.
 #![tactic(auto)]
 
-#[cfg(test)]
-mod asking_for_none;
 pub mod callers;
-#[cfg(test)]
-mod calls;
 #[cfg(test)]
 mod clones;
 #[cfg(test)]
@@ -19,23 +15,13 @@ mod debugging;
 mod displaying;
 pub mod examples;
 #[cfg(test)]
-mod growing;
-#[cfg(test)]
 mod hashing;
 #[cfg(test)]
 mod hexadecimal;
 #[cfg(test)]
-mod hinted;
-#[cfg(test)]
 mod hints;
 #[cfg(test)]
 mod laws;
-#[cfg(test)]
-mod lengths;
-#[cfg(test)]
-mod lists;
-#[cfg(test)]
-mod making;
 #[cfg(test)]
 mod ordering;
 #[cfg(test)]

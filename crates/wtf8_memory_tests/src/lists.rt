@@ -1,5 +1,5 @@
 // Lists of building calls that are stopped by want of memory.
-use crate::examples::{expect_dump, point_of_unit, pushed};
+use wtf8_tests::examples::{expect_dump, point_of_unit, pushed};
 use refusing::{REFUSALS, Refusal, Refusing};
 use std::alloc::{AllocError, Global};
 use std::test::Fail;

@@ -1,6 +1,6 @@
 // Calls that ask for no memory, not even by a request whose refusal they ignore: nine requests are granted before them, and
 // all nine are left after them.
-use crate::examples::{TEXT, TEXT_DUMP, expect_dump, point_of_unit, pushed};
+use wtf8_tests::examples::{TEXT, TEXT_DUMP, expect_dump, point_of_unit, pushed};
 use refusing::Refusing;
 use std::alloc::{AllocError, Global};
 use std::borrow::CowStr;

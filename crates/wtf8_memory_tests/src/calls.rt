@@ -1,5 +1,5 @@
 // Lists of building calls.
-use crate::examples::{JOINING, expect_dump, expect_units, joined, point_of_unit, points_of_units};
+use wtf8_tests::examples::{JOINING, expect_dump, expect_units, joined, point_of_unit, points_of_units};
 use std::alloc::Global;
 use std::test::Fail;
 use wtf8::{Build, Wtf8Buf};

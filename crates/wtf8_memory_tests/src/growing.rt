@@ -1,5 +1,5 @@
 // Calls that grow a string: how many requests each makes, and what it leaves where one of them is refused.
-use crate::examples::{TEXT, expect_dump, joined, point_of_unit, points_of_units};
+use wtf8_tests::examples::{TEXT, expect_dump, joined, point_of_unit, points_of_units};
 use refusing::{REFUSALS, Refusal, Refusing};
 use std::alloc::{AllocError, Global};
 use std::test::Fail;

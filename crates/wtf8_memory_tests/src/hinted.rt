@@ -1,5 +1,5 @@
 // Iterators whose lower hint is false, or whose upper hint is far above it.
-use crate::examples::{expect_dump, expect_units, point_of_unit, pushed};
+use wtf8_tests::examples::{expect_dump, expect_units, point_of_unit, pushed};
 use refusing::{REFUSALS, Refusing};
 use std::cell::Cell;
 use std::test::Fail;
