@@ -22,10 +22,10 @@ pub(crate) fn copied<A: Allocator>(alloc: A, bytes: &[u8]) -> Result<Vec<u8, A>,
     Ok(copy)
 }
 
-/// Appends fewer than 32 bytes, for which there is room.
+/// Appends fewer than `MANY` bytes, for which there is room.
 #[inline(always)]
 fn push_few<A: Allocator>(bytes: &mut Vec<u8, A>, other: &[u8])
-    requires few { length other.now < 32 }
+    requires few { length other.now < MANY }
     requires room { length bytes.old.items + length other.now ≤ vec_capacity bytes.old }
     ensures { bytes.new.items ≡ bytes.old.items ++ other.now }
 {
@@ -49,7 +49,7 @@ fn push_few<A: Allocator>(bytes: &mut Vec<u8, A>, other: &[u8])
 /// these are two stores.
 #[inline(always)]
 fn push_ends<const N: usize, A: Allocator>(bytes: &mut Vec<u8, A>, other: &[u8])
-    requires lanes { N ≤ 64 }
+    requires lanes { N ≤ u64.BITS }
     requires all { (N ≤ length other.now) × (length other.now ≤ 2 * N) }
     requires room { length bytes.old.items + length other.now ≤ vec_capacity bytes.old }
     ensures { bytes.new.items ≡ bytes.old.items ++ other.now }
@@ -64,7 +64,7 @@ fn push_ends<const N: usize, A: Allocator>(bytes: &mut Vec<u8, A>, other: &[u8])
 /// The `N` bytes from a place on.
 #[inline(always)]
 fn block_at<const N: usize>(bytes: &[u8], at: usize) -> [u8; N]
-    requires lanes { N ≤ 64 }
+    requires lanes { N ≤ u64.BITS }
     requires room { at + N ≤ length bytes.now }
     ensures { result ≡ take N (drop at bytes.now) }
 {

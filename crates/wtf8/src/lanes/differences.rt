@@ -4,14 +4,9 @@ ghost use Rattle.std.specs.Ordering.{nat_cmp};
 ghost use Rattle.std.specs.Prelude.{◌≡◌, ◌↔◌, ◌+◌, ◌*◌, ◌<◌, ◌≤◌, length, take, drop, slice_get, nat_eq, IsTrue};
 ghost use Rattle.wtf8.specs.Differences.{IsFirstDifference};
 
+use crate::lanes::{BLOCK, TURN, VECTOR};
 use std::cmp::Ordering;
 use std::simd::prelude::*;
-
-/// How many bytes are compared together.
-const LANES: usize = 64;
-
-/// How many bytes are compared in one turn, where so many are left.
-const TURN: usize = 2 * LANES;
 
 /// The byte at a place, or `None` at or past the end.
 pub(crate) fn byte_at(bytes: &[u8], at: usize) -> Option<u8>
@@ -37,7 +32,7 @@ pub(crate) fn equal(own: &[u8], others: &[u8]) -> bool
 /// Whether more bytes than one turn compares are the same in two lists of the same length.
 #[inline(never)]
 fn is_same_in_blocks(own: &[u8], others: &[u8]) -> bool
-    requires long { 128 ≤ length own.now }
+    requires long { TURN ≤ length own.now }
     requires both { length own.now ≡ length others.now }
     ensures { IsTrue result ↔ (own.now ≡ others.now) }
 {
@@ -134,7 +129,7 @@ fn first_difference_from(own: &[u8], others: &[u8], from: usize) -> usize
 /// A place up to which two lists are the same, found by blocks of `N` bytes from another such place on.
 #[inline(always)]
 fn skip_same<const N: usize>(own: &[u8], others: &[u8], from: usize) -> usize
-    requires lanes { (0 < N) × (N ≤ 64) }
+    requires lanes { (0 < N) × (N ≤ u64.BITS) }
     requires within_first { from ≤ length own.now }
     requires within_second { from ≤ length others.now }
     requires same { take from own.now ≡ take from others.now }
@@ -157,12 +152,12 @@ fn skip_same<const N: usize>(own: &[u8], others: &[u8], from: usize) -> usize
 /// Whether the first `len` bytes, which one turn compares, are the same in two lists.
 #[inline(always)]
 fn is_same_front(own: &[u8], others: &[u8], len: usize) -> bool
-    requires short { len ≤ 128 }
+    requires short { len ≤ TURN }
     requires within_first { len ≤ length own.now }
     requires within_second { len ≤ length others.now }
     ensures { IsTrue result ↔ (take len own.now ≡ take len others.now) }
 {
-    if len <= 16 {
+    if len <= VECTOR {
         return is_same_short(own, others, len);
     }
     if len <= 32 {
@@ -174,10 +169,10 @@ fn is_same_front(own: &[u8], others: &[u8], len: usize) -> bool
     are_ends_same::<64>(own, others, len)
 }
 
-/// The same for up to 16 bytes.
+/// The same for no more bytes than a vector holds.
 #[inline(always)]
 fn is_same_short(own: &[u8], others: &[u8], len: usize) -> bool
-    requires short { len ≤ 16 }
+    requires short { len ≤ VECTOR }
     requires within_first { len ≤ length own.now }
     requires within_second { len ≤ length others.now }
     ensures { IsTrue result ↔ (take len own.now ≡ take len others.now) }
@@ -199,7 +194,7 @@ fn is_same_short(own: &[u8], others: &[u8], len: usize) -> bool
 /// Whether the first `len` bytes are the same in two lists, by the first and the last `N` of them, which are all.
 #[inline(always)]
 fn are_ends_same<const N: usize>(own: &[u8], others: &[u8], len: usize) -> bool
-    requires lanes { N ≤ 64 }
+    requires lanes { N ≤ u64.BITS }
     requires room { N ≤ len }
     requires all { len ≤ 2 * N }
     requires within_first { len ≤ length own.now }
@@ -212,17 +207,17 @@ fn are_ends_same<const N: usize>(own: &[u8], others: &[u8], len: usize) -> bool
 /// Whether the bytes that one turn compares are the same in two lists from a place on.
 #[inline(always)]
 fn is_same_turn(own: &[u8], others: &[u8], at: usize) -> bool
-    requires within_first { at + 128 ≤ length own.now }
-    requires within_second { at + 128 ≤ length others.now }
-    ensures { IsTrue result ↔ (take 128 (drop at own.now) ≡ take 128 (drop at others.now)) }
+    requires within_first { at + TURN ≤ length own.now }
+    requires within_second { at + TURN ≤ length others.now }
+    ensures { IsTrue result ↔ (take TURN (drop at own.now) ≡ take TURN (drop at others.now)) }
 {
-    is_same_block::<LANES>(own, others, at) & is_same_block::<LANES>(own, others, at + LANES)
+    is_same_block::<BLOCK>(own, others, at) & is_same_block::<BLOCK>(own, others, at + BLOCK)
 }
 
 /// Whether the `N` bytes from a place on are the same in two lists.
 #[inline(always)]
 fn is_same_block<const N: usize>(own: &[u8], others: &[u8], at: usize) -> bool
-    requires lanes { N ≤ 64 }
+    requires lanes { N ≤ u64.BITS }
     requires within_first { at + N ≤ length own.now }
     requires within_second { at + N ≤ length others.now }
     ensures { IsTrue result ↔ (take N (drop at own.now) ≡ take N (drop at others.now)) }

@@ -6,35 +6,33 @@ ghost use Rattle.std.specs.String.{string_bytes};
 ghost use Rattle.wtf8.specs.Hex.{digit, hex_of, hex};
 ghost use Rattle.wtf8.specs.SpacedHex.{spaced};
 
+use crate::lanes::VECTOR;
 use std::alloc::{AllocError, Allocator};
 use std::simd::prelude::*;
 
-/// How many bytes are written together.
-const LANES: usize = 16;
-
-/// How many places the digits of so many bytes take, with a space before each byte.
-const BLOCK: usize = 48;
+/// How many places the digits of a vector of bytes take, with a space before each byte.
+const SPACED: usize = 3 * VECTOR;
 
 /// The upper-case digits at their values.
-const DIGITS: [u8; LANES] = *b"0123456789ABCDEF";
+const DIGITS: [u8; VECTOR] = *b"0123456789ABCDEF";
 
 /// The places of the first eight lanes of two vectors, in turn.
-const FRONT: [usize; LANES] = [0, 16, 1, 17, 2, 18, 3, 19, 4, 20, 5, 21, 6, 22, 7, 23];
+const FRONT: [usize; VECTOR] = [0, 16, 1, 17, 2, 18, 3, 19, 4, 20, 5, 21, 6, 22, 7, 23];
 
 /// The same of eight lanes in the middle.
-const MIDDLE: [usize; LANES] = [4, 20, 5, 21, 6, 22, 7, 23, 8, 24, 9, 25, 10, 26, 11, 27];
+const MIDDLE: [usize; VECTOR] = [4, 20, 5, 21, 6, 22, 7, 23, 8, 24, 9, 25, 10, 26, 11, 27];
 
 /// The same of the last eight lanes.
-const BACK: [usize; LANES] = [8, 24, 9, 25, 10, 26, 11, 27, 12, 28, 13, 29, 14, 30, 15, 31];
+const BACK: [usize; VECTOR] = [8, 24, 9, 25, 10, 26, 11, 27, 12, 28, 13, 29, 14, 30, 15, 31];
 
 /// The first sixteen places of a text that has a space before each pair of the front's lanes.
-const SPACED_FRONT: [usize; LANES] = [16, 0, 1, 16, 2, 3, 16, 4, 5, 16, 6, 7, 16, 8, 9, 16];
+const SPACED_FRONT: [usize; VECTOR] = [16, 0, 1, 16, 2, 3, 16, 4, 5, 16, 6, 7, 16, 8, 9, 16];
 
 /// The next sixteen, of the middle's lanes.
-const SPACED_MIDDLE: [usize; LANES] = [2, 3, 16, 4, 5, 16, 6, 7, 16, 8, 9, 16, 10, 11, 16, 12];
+const SPACED_MIDDLE: [usize; VECTOR] = [2, 3, 16, 4, 5, 16, 6, 7, 16, 8, 9, 16, 10, 11, 16, 12];
 
 /// The last sixteen, of the back's lanes.
-const SPACED_BACK: [usize; LANES] = [5, 16, 6, 7, 16, 8, 9, 16, 10, 11, 16, 12, 13, 16, 14, 15];
+const SPACED_BACK: [usize; VECTOR] = [5, 16, 6, 7, 16, 8, 9, 16, 10, 11, 16, 12, 13, 16, 14, 15];
 
 /// The upper-case digit of a number below 16.
 #[inline(always)]
@@ -55,9 +53,9 @@ fn upper_digits(values: u8x16) -> u8x16
     u8x16::from_array(DIGITS).swizzle_dyn(values)
 }
 
-/// A space and two digits for each of 16 bytes.
+/// A space and two digits for each byte of a vector.
 #[inline(always)]
-fn spaced_block(bytes: u8x16) -> [u8; BLOCK]
+fn spaced_block(bytes: u8x16) -> [u8; SPACED]
     ensures { result ≡ flat_map spaced bytes }
 {
     let high = upper_digits(bytes >> u8x16::splat(4));
@@ -66,22 +64,22 @@ fn spaced_block(bytes: u8x16) -> [u8; BLOCK]
     let front: u8x16 = high.shuffle(low, FRONT);
     let middle: u8x16 = high.shuffle(low, MIDDLE);
     let back: u8x16 = high.shuffle(low, BACK);
-    let mut text = [0; BLOCK];
+    let mut text = [0; SPACED];
     front.shuffle(spaces, SPACED_FRONT).copy_to_slice(&mut text);
     middle
         .shuffle(spaces, SPACED_MIDDLE)
-        .copy_to_slice(&mut text[LANES..]);
+        .copy_to_slice(&mut text[VECTOR..]);
     back.shuffle(spaces, SPACED_BACK)
-        .copy_to_slice(&mut text[2 * LANES..]);
+        .copy_to_slice(&mut text[2 * VECTOR..]);
     text
 }
 
-/// Appends the digits of 16 bytes with a space before each byte. There is room for them.
+/// Appends the digits of a vector of bytes with a space before each byte. There is room for them.
 #[inline(always)]
 fn push_spaced_block<A: Allocator>(text: &mut Vec<u8, A>, bytes: u8x16)
-    requires { vec_len text.old + 48 ≤ vec_capacity text.old }
+    requires { vec_len text.old + SPACED ≤ vec_capacity text.old }
     ensures items { text.new.items ≡ text.old.items ++ flat_map spaced bytes }
-    ensures len { vec_len text.new ≡ vec_len text.old + 48 }
+    ensures len { vec_len text.new ≡ vec_len text.old + SPACED }
     ensures capacity { vec_capacity text.old ≤ vec_capacity text.new }
 {
     let block = spaced_block(bytes);
@@ -124,9 +122,9 @@ pub(crate) fn push_hex<A: Allocator>(text: &mut Vec<u8, A>, bytes: &[u8]) -> Res
     };
     push_byte(text, *first);
     let mut at = 0;
-    while LANES <= rest.len() - at {
+    while VECTOR <= rest.len() - at {
         push_spaced_block(text, u8x16::from_slice(&rest[at..]));
-        at += LANES;
+        at += VECTOR;
     }
     push_spaced(text, &rest[at..]);
     Ok(())

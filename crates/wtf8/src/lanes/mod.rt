@@ -4,3 +4,12 @@ pub(crate) mod differences;
 pub(crate) mod digits;
 pub(crate) mod search;
 pub(crate) mod surrogate_presence;
+
+/// How many bytes one of the processor's vectors holds.
+pub(crate) const VECTOR: usize = 16;
+
+/// How many bytes are looked at together where so many are left.
+pub(crate) const BLOCK: usize = 4 * VECTOR;
+
+/// How many bytes are looked at in one turn of a loop over many.
+pub(crate) const TURN: usize = 2 * BLOCK;

@@ -4,14 +4,12 @@ ghost use Rattle.wtf8.specs.Form.{IsWellFormed, bytes as bytes_of};
 ghost use Rattle.wtf8.specs.SurrogateSearch.{IsFirst, IsFirstBelow, IsSurrogateLane, SurrogateAt};
 ghost use Rattle.wtf8.specs.Surrogates.{lossy};
 
+use crate::lanes::{BLOCK, VECTOR};
 use std::alloc::Allocator;
 use std::simd::prelude::*;
 
 /// The bytes of U+FFFD, the replacement character: as many as any surrogate has.
 const REPLACEMENT: [u8; 3] = [0xEF, 0xBF, 0xBD];
-
-/// How many places the search looks at together where so many are left.
-const LANES: usize = 64;
 
 /// Whether the first two bytes begin a surrogate.
 #[inline(always)]
@@ -27,10 +25,10 @@ pub(crate) fn next_surrogate(bytes: &[u8], from: usize) -> Option<usize>
     ensures { IsFirst (SurrogateAt bytes.now) from result }
 {
     let left = bytes.len().saturating_sub(from);
-    if left <= 16 {
+    if left <= VECTOR {
         return first_surrogate_in_few(bytes, from);
     }
-    if left <= LANES {
+    if left <= BLOCK {
         return first_surrogate_in_rest(bytes, from);
     }
     first_surrogate_in_blocks(bytes, from)
@@ -42,13 +40,13 @@ fn first_surrogate_in_blocks(bytes: &[u8], from: usize) -> Option<usize>
     ensures { IsFirst (SurrogateAt bytes.now) from result }
 {
     let mut at = from;
-    while LANES < bytes.len().saturating_sub(at) {
+    while BLOCK < bytes.len().saturating_sub(at) {
         if holds_first_byte(bytes, at) && holds_surrogate_in_block(bytes, at) {
             if let Some(found) = first_in_full_block(bytes, at) {
                 return Some(found);
             }
         }
-        at += LANES;
+        at += BLOCK;
     }
     first_surrogate_in_rest(bytes, at)
 }
@@ -56,7 +54,7 @@ fn first_surrogate_in_blocks(bytes: &[u8], from: usize) -> Option<usize>
 /// The same for the bytes behind all blocks, in two smaller blocks, which may overlap.
 #[inline(always)]
 fn first_surrogate_in_rest(bytes: &[u8], from: usize) -> Option<usize>
-    requires { length bytes.now ≤ from + 64 }
+    requires { length bytes.now ≤ from + BLOCK }
     ensures { IsFirst (SurrogateAt bytes.now) from result }
 {
     let left = bytes.len().saturating_sub(from);
@@ -69,10 +67,10 @@ fn first_surrogate_in_rest(bytes: &[u8], from: usize) -> Option<usize>
     first_surrogate_in_few(bytes, from)
 }
 
-/// The same for up to 16 bytes.
+/// The same for no more bytes than a vector holds.
 #[inline(always)]
 fn first_surrogate_in_few(bytes: &[u8], from: usize) -> Option<usize>
-    requires { length bytes.now ≤ from + 16 }
+    requires { length bytes.now ≤ from + VECTOR }
     ensures { IsFirst (SurrogateAt bytes.now) from result }
 {
     let left = bytes.len().saturating_sub(from);
@@ -88,7 +86,7 @@ fn first_surrogate_in_few(bytes: &[u8], from: usize) -> Option<usize>
 /// The same, where the `N` places from `from` on and the last `N` places are all.
 #[inline(always)]
 fn first_in_two_blocks<const N: usize>(bytes: &[u8], from: usize) -> Option<usize>
-    requires lanes { N ≤ 64 }
+    requires lanes { N ≤ u64.BITS }
     requires room { from + N < length bytes.now }
     requires all { length bytes.now ≤ from + 2 * N + 1 }
     ensures { IsFirst (SurrogateAt bytes.now) from result }
@@ -102,21 +100,21 @@ fn first_in_two_blocks<const N: usize>(bytes: &[u8], from: usize) -> Option<usiz
 /// Whether the first byte of a surrogate may stand in a block.
 #[inline(always)]
 fn holds_first_byte(bytes: &[u8], at: usize) -> bool
-    requires { at + 64 < length bytes.now }
-    ensures { result ≡ false → IsFirstBelow (SurrogateAt bytes.now) at (at + 64) None }
+    requires { at + BLOCK < length bytes.now }
+    ensures { result ≡ false → IsFirstBelow (SurrogateAt bytes.now) at (at + BLOCK) None }
 {
-    let firsts = Simd::<u8, LANES>::from_slice(&bytes[at..]);
+    let firsts = Simd::<u8, BLOCK>::from_slice(&bytes[at..]);
     firsts.simd_eq(Simd::splat(0xED)).to_bitmask() != 0
 }
 
 /// Whether a surrogate begins in a block. It takes longer, but no place is made of its answer.
 #[inline(always)]
 fn holds_surrogate_in_block(bytes: &[u8], at: usize) -> bool
-    requires { at + 64 < length bytes.now }
-    ensures { result ≡ false → IsFirstBelow (SurrogateAt bytes.now) at (at + 64) None }
+    requires { at + BLOCK < length bytes.now }
+    ensures { result ≡ false → IsFirstBelow (SurrogateAt bytes.now) at (at + BLOCK) None }
 {
-    let firsts = Simd::<u8, LANES>::from_slice(&bytes[at..]);
-    let seconds = Simd::<u8, LANES>::from_slice(&bytes[at + 1..]);
+    let firsts = Simd::<u8, BLOCK>::from_slice(&bytes[at..]);
+    let seconds = Simd::<u8, BLOCK>::from_slice(&bytes[at + 1..]);
     let both = firsts.simd_eq(Simd::splat(0xED)) & seconds.simd_ge(Simd::splat(0xA0));
     both.to_bitmask() != 0
 }
@@ -124,16 +122,16 @@ fn holds_surrogate_in_block(bytes: &[u8], at: usize) -> bool
 /// The place of the first surrogate that begins in a block.
 #[inline(never)]
 fn first_in_full_block(bytes: &[u8], at: usize) -> Option<usize>
-    requires { at + 64 < length bytes.now }
-    ensures { IsFirstBelow (SurrogateAt bytes.now) at (at + 64) result }
+    requires { at + BLOCK < length bytes.now }
+    ensures { IsFirstBelow (SurrogateAt bytes.now) at (at + BLOCK) result }
 {
-    first_in_block::<LANES>(bytes, at)
+    first_in_block::<BLOCK>(bytes, at)
 }
 
 /// The place of the first surrogate that begins at one of `N` places.
 #[inline(always)]
 fn first_in_block<const N: usize>(bytes: &[u8], at: usize) -> Option<usize>
-    requires lanes { N ≤ 64 }
+    requires lanes { N ≤ u64.BITS }
     requires room { at + N < length bytes.now }
     ensures { IsFirstBelow (SurrogateAt bytes.now) at (at + N) result }
 {
@@ -148,7 +146,7 @@ fn first_in_block<const N: usize>(bytes: &[u8], at: usize) -> Option<usize>
 /// The first lane of a block in which the two vectors hold the first and the second byte of a surrogate.
 #[inline(always)]
 fn lane_of_surrogate<const N: usize>(firsts: Simd<u8, N>, seconds: Simd<u8, N>) -> Option<usize>
-    requires { N ≤ 64 }
+    requires { N ≤ u64.BITS }
     ensures { IsFirstBelow (IsSurrogateLane firsts.entry seconds.entry) 0 N result }
 {
     let leads = firsts.simd_eq(Simd::splat(0xED));

@@ -3,14 +3,8 @@
 ghost use Rattle.std.specs.Prelude.{◌≡◌, ℕ, ◌+◌, ◌*◌, ◌<◌, ◌≤◌, length, false, None, IsTrue};
 ghost use Rattle.wtf8.specs.SurrogateSearch.{HasLane, IsFirst, NoneBefore, ShowsSurrogate, SurrogateAt};
 
-use crate::lanes::search;
+use crate::lanes::{BLOCK, TURN, VECTOR, search};
 use std::simd::prelude::*;
-
-/// How many places one vector shows.
-const LANES: usize = 16;
-
-/// How many places one turn looks at.
-const TURN: usize = 8 * LANES;
 
 /// The least byte that can begin a surrogate. Only characters from U+D000 on have a byte that is as great.
 const FIRST_BYTE: u8 = 0xED;
@@ -73,7 +67,7 @@ fn is_short_and_below(bytes: &[u8]) -> bool
 /// The same, where the first `N` bytes and the last `N` are all.
 #[inline(always)]
 fn are_ends_below<const N: usize>(bytes: &[u8]) -> bool
-    requires lanes { N ≤ 64 }
+    requires lanes { N ≤ u64.BITS }
     requires room { N ≤ length bytes.now }
     requires all { length bytes.now ≤ 2 * N }
     ensures { IsTrue result → IsFirst (SurrogateAt bytes.now) 0 None }
@@ -133,7 +127,7 @@ fn skip_without_first_byte(bytes: &[u8], from: usize) -> usize
 /// Whether a surrogate begins anywhere, where none does before a place.
 #[inline(always)]
 fn holds_surrogate_from(bytes: &[u8], from: usize) -> bool
-    requires long { 128 < length bytes.now }
+    requires long { TURN < length bytes.now }
     requires within { from ≤ length bytes.now }
     requires none { NoneBefore bytes.now from }
     ensures { result ≡ false → IsFirst (SurrogateAt bytes.now) 0 None }
@@ -151,22 +145,22 @@ fn holds_surrogate_from(bytes: &[u8], from: usize) -> bool
 /// Whether no byte of two turns can begin a surrogate.
 #[inline(always)]
 fn are_two_turns_below(bytes: &[u8], at: usize) -> bool
-    requires { at + 256 ≤ length bytes.now }
-    ensures { IsTrue result → NoneBefore bytes.now at → NoneBefore bytes.now (at + 256) }
+    requires { at + 2 * TURN ≤ length bytes.now }
+    ensures { IsTrue result → NoneBefore bytes.now at → NoneBefore bytes.now (at + 2 * TURN) }
 {
-    let places = greatest(firsts_of_turn(bytes, at), firsts_of_turn(bytes, at + 128));
+    let places = greatest(firsts_of_turn(bytes, at), firsts_of_turn(bytes, at + TURN));
     is_below(places, FIRST_BYTE)
 }
 
 /// Whether no byte of a turn is the first of a surrogate.
 #[inline(always)]
 fn lacks_first_byte(bytes: &[u8], at: usize) -> bool
-    requires { at + 128 ≤ length bytes.now }
-    ensures { IsTrue result → NoneBefore bytes.now at → NoneBefore bytes.now (at + 128) }
+    requires { at + TURN ≤ length bytes.now }
+    ensures { IsTrue result → NoneBefore bytes.now at → NoneBefore bytes.now (at + TURN) }
 {
     let places = greatest(
         first_bytes_of_block(bytes, at),
-        first_bytes_of_block(bytes, at + 64),
+        first_bytes_of_block(bytes, at + BLOCK),
     );
     is_below(places, FIRST_BYTE)
 }
@@ -174,12 +168,12 @@ fn lacks_first_byte(bytes: &[u8], at: usize) -> bool
 /// Whether no surrogate begins in a turn.
 #[inline(always)]
 fn lacks_surrogate(bytes: &[u8], at: usize) -> bool
-    requires { at + 128 < length bytes.now }
-    ensures { IsTrue result → NoneBefore bytes.now at → NoneBefore bytes.now (at + 128) }
+    requires { at + TURN < length bytes.now }
+    ensures { IsTrue result → NoneBefore bytes.now at → NoneBefore bytes.now (at + TURN) }
 {
     let seconds = greatest(
         seconds_of_block(bytes, at),
-        seconds_of_block(bytes, at + 64),
+        seconds_of_block(bytes, at + BLOCK),
     );
     is_below(seconds, SECOND_BYTE)
 }
@@ -187,42 +181,54 @@ fn lacks_surrogate(bytes: &[u8], at: usize) -> bool
 /// The greatest bytes of a turn.
 #[inline(always)]
 fn firsts_of_turn(bytes: &[u8], at: usize) -> u8x16
-    requires { at + 128 ≤ length bytes.now }
-    ensures { ShowsSurrogate bytes.now at (at + 128) 0xED result }
+    requires { at + TURN ≤ length bytes.now }
+    ensures { ShowsSurrogate bytes.now at (at + TURN) 0xED result }
 {
-    greatest(firsts_of_block(bytes, at), firsts_of_block(bytes, at + 64))
+    greatest(
+        firsts_of_block(bytes, at),
+        firsts_of_block(bytes, at + BLOCK),
+    )
 }
 
-/// The greatest bytes of a block of 64.
+/// The greatest bytes of a block.
 #[inline(always)]
 fn firsts_of_block(bytes: &[u8], at: usize) -> u8x16
-    requires { at + 64 ≤ length bytes.now }
-    ensures { ShowsSurrogate bytes.now at (at + 64) 0xED result }
+    requires { at + BLOCK ≤ length bytes.now }
+    ensures { ShowsSurrogate bytes.now at (at + BLOCK) 0xED result }
 {
-    let front = greatest(firsts(bytes, at), firsts(bytes, at + 16));
-    let back = greatest(firsts(bytes, at + 32), firsts(bytes, at + 48));
+    let front = greatest(firsts(bytes, at), firsts(bytes, at + VECTOR));
+    let back = greatest(
+        firsts(bytes, at + 2 * VECTOR),
+        firsts(bytes, at + 3 * VECTOR),
+    );
     greatest(front, back)
 }
 
-/// All ones in some lane where a byte of a block of 64 is the first of a surrogate.
+/// All ones in some lane where a byte of a block is the first of a surrogate.
 #[inline(always)]
 fn first_bytes_of_block(bytes: &[u8], at: usize) -> u8x16
-    requires { at + 64 ≤ length bytes.now }
-    ensures { ShowsSurrogate bytes.now at (at + 64) 0xED result }
+    requires { at + BLOCK ≤ length bytes.now }
+    ensures { ShowsSurrogate bytes.now at (at + BLOCK) 0xED result }
 {
-    let front = greatest(first_bytes(bytes, at), first_bytes(bytes, at + 16));
-    let back = greatest(first_bytes(bytes, at + 32), first_bytes(bytes, at + 48));
+    let front = greatest(first_bytes(bytes, at), first_bytes(bytes, at + VECTOR));
+    let back = greatest(
+        first_bytes(bytes, at + 2 * VECTOR),
+        first_bytes(bytes, at + 3 * VECTOR),
+    );
     greatest(front, back)
 }
 
-/// The greatest bytes that stand behind the first byte of a surrogate in a block of 64.
+/// The greatest bytes that stand behind the first byte of a surrogate in a block.
 #[inline(always)]
 fn seconds_of_block(bytes: &[u8], at: usize) -> u8x16
-    requires { at + 64 < length bytes.now }
-    ensures { ShowsSurrogate bytes.now at (at + 64) 0xA0 result }
+    requires { at + BLOCK < length bytes.now }
+    ensures { ShowsSurrogate bytes.now at (at + BLOCK) 0xA0 result }
 {
-    let front = greatest(seconds(bytes, at), seconds(bytes, at + 16));
-    let back = greatest(seconds(bytes, at + 32), seconds(bytes, at + 48));
+    let front = greatest(seconds(bytes, at), seconds(bytes, at + VECTOR));
+    let back = greatest(
+        seconds(bytes, at + 2 * VECTOR),
+        seconds(bytes, at + 3 * VECTOR),
+    );
     greatest(front, back)
 }
 
@@ -235,11 +241,11 @@ fn firsts<const N: usize>(bytes: &[u8], at: usize) -> Simd<u8, N>
     Simd::<u8, N>::from_slice(&bytes[at..])
 }
 
-/// All ones where one of 16 bytes is the first of a surrogate, else 0.
+/// All ones where one of a vector of bytes is the first of a surrogate, else 0.
 #[inline(always)]
 fn first_bytes(bytes: &[u8], at: usize) -> u8x16
-    requires { at + 16 ≤ length bytes.now }
-    ensures { ShowsSurrogate bytes.now at (at + 16) 0xED result }
+    requires { at + VECTOR ≤ length bytes.now }
+    ensures { ShowsSurrogate bytes.now at (at + VECTOR) 0xED result }
 {
     let firsts = u8x16::from_slice(&bytes[at..]);
     firsts
@@ -247,11 +253,11 @@ fn first_bytes(bytes: &[u8], at: usize) -> u8x16
         .select(u8x16::splat(0xFF), u8x16::splat(0))
 }
 
-/// The byte behind each of 16 where that is the first of a surrogate, else 0.
+/// The byte behind each of a vector of bytes where that is the first of a surrogate, else 0.
 #[inline(always)]
 fn seconds(bytes: &[u8], at: usize) -> u8x16
-    requires { at + 16 < length bytes.now }
-    ensures { ShowsSurrogate bytes.now at (at + 16) 0xA0 result }
+    requires { at + VECTOR < length bytes.now }
+    ensures { ShowsSurrogate bytes.now at (at + VECTOR) 0xA0 result }
 {
     let firsts = u8x16::from_slice(&bytes[at..]);
     let seconds = u8x16::from_slice(&bytes[at + 1..]);
@@ -272,7 +278,7 @@ fn greatest<const N: usize>(own: Simd<u8, N>, others: Simd<u8, N>) -> Simd<u8, N
 /// Whether all lanes are below a number.
 #[inline(always)]
 pub(crate) fn is_below<const N: usize>(lanes: Simd<u8, N>, least: u8) -> bool
-    requires { N ≤ 64 }
+    requires { N ≤ u64.BITS }
     ensures { IsTrue result → ¬ (HasLane least lanes.entry) }
 {
     lanes.simd_ge(Simd::splat(least)).to_bitmask() == 0

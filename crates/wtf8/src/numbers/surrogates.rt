@@ -21,7 +21,10 @@ const LEADS_FROM: u32 = FIRST_LEAD as u32;
 const TRAILS_FROM: u32 = FIRST_TRAIL as u32;
 
 /// How many surrogates of either kind there are.
-const OF_A_KIND: u32 = 0x400;
+pub(crate) const OF_A_KIND: u16 = 0x400;
+
+/// The same among code points.
+const PER_KIND: u32 = OF_A_KIND as u32;
 
 /// The first supplementary code point.
 const FIRST_SUPPLEMENTARY: u32 = 0x10000;
@@ -41,7 +44,7 @@ pub(crate) fn joined(lead: u32, trail: u32) -> u32
     requires trail { IsTrail trail }
     ensures { result ≡ pair lead trail }
 {
-    FIRST_SUPPLEMENTARY + (lead - LEADS_FROM) * OF_A_KIND + (trail - TRAILS_FROM)
+    FIRST_SUPPLEMENTARY + (lead - LEADS_FROM) * PER_KIND + (trail - TRAILS_FROM)
 }
 
 /// The lead of the pair that a supplementary code point is.
@@ -49,7 +52,7 @@ pub(crate) fn lead_of(value: u32) -> u32
     requires supplementary { 0x10000 ≤ value }
     ensures { result ≡ 0xD800 + (value - 0x10000) / 0x400 }
 {
-    LEADS_FROM + (value - FIRST_SUPPLEMENTARY) / OF_A_KIND
+    LEADS_FROM + (value - FIRST_SUPPLEMENTARY) / PER_KIND
 }
 
 /// The trail of the pair that a supplementary code point is.
@@ -57,5 +60,5 @@ pub(crate) fn trail_of(value: u32) -> u32
     requires supplementary { 0x10000 ≤ value }
     ensures { result ≡ 0xDC00 + (value - 0x10000) % 0x400 }
 {
-    TRAILS_FROM + (value - FIRST_SUPPLEMENTARY) % OF_A_KIND
+    TRAILS_FROM + (value - FIRST_SUPPLEMENTARY) % PER_KIND
 }

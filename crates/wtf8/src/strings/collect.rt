@@ -10,28 +10,25 @@ ghost use Rattle.wtf8.specs.declared.numbers.code_point.CodePoint.{CodePoint};
 
 use crate::numbers::code_point::CodePoint;
 use crate::strings::buf::Wtf8Buf;
-use crate::units_in::unit_blocks;
+use crate::units_in::{NUMBERS, unit_blocks};
 use std::alloc::{AllocError, Allocator};
 use std::simd::prelude::*;
 
-/// How many code points are looked at together.
-const LANES: usize = 16;
-
 /// The numbers of the first sixteen code points, if there are so many.
 #[inline(always)]
-fn first_numbers(points: &[CodePoint]) -> Option<[u32; LANES]>
-    ensures long { IfSome result (λ _. 16 ≤ length points.now) }
-    ensures same { IfSome result (λ values. values ≡ numbers (take 16 points.now)) }
+fn first_numbers(points: &[CodePoint]) -> Option<[u32; NUMBERS]>
+    ensures long { IfSome result (λ _. NUMBERS ≤ length points.now) }
+    ensures same { IfSome result (λ values. values ≡ numbers (take NUMBERS points.now)) }
 {
-    let front = points.first_chunk::<LANES>()?;
+    let front = points.first_chunk::<NUMBERS>()?;
     Some(front.map(|point| point.to_u32()))
 }
 
 /// The bytes of the first sixteen code points, if there are so many and all of them are ASCII.
 #[inline(always)]
-fn ascii_points(points: &[CodePoint]) -> Option<[u8; LANES]>
-    ensures long { IfSome result (λ _. 16 ≤ length points.now) }
-    ensures same { IfSome result (λ block. block ≡ numbers (take 16 points.now)) }
+fn ascii_points(points: &[CodePoint]) -> Option<[u8; NUMBERS]>
+    ensures long { IfSome result (λ _. NUMBERS ≤ length points.now) }
+    ensures same { IfSome result (λ block. block ≡ numbers (take NUMBERS points.now)) }
     ensures ascii { IfSome result (λ block. AreAscii block) }
 {
     unit_blocks::ascii_bytes(u32x16::from_array(first_numbers(points)?))
@@ -98,7 +95,7 @@ impl<A: Allocator> Wtf8Buf<A> {
         let mut at = 0;
         while let Some(block) = ascii_points(&points[at..]) {
             self.push_ascii(&block);
-            at += LANES;
+            at += NUMBERS;
         }
         at
     }

@@ -8,20 +8,15 @@ ghost use Rattle.wtf8.specs.UnitPosition.{units_of_slice, DividesPair};
 ghost use Rattle.wtf8.specs.View.{view_points, view_units};
 
 use crate::lanes::surrogate_presence::is_below;
+use crate::lanes::{BLOCK, VECTOR};
 use crate::numbers::encoding;
 use crate::numbers::surrogates::{lead_of, trail_of};
 use crate::strings::view::Wtf8;
 use std::alloc::Allocator;
 use std::simd::prelude::*;
 
-/// How many bytes are counted together where a place among many is looked for.
-const MANY: usize = 64;
-
-/// How many bytes are counted together.
-const LANES: usize = 32;
-
-/// How many bytes are counted together where a place among few is looked for.
-const FEW: usize = 16;
+/// How many bytes are counted together where all are.
+const HALF_BLOCK: usize = BLOCK / 2;
 
 /// A place among bytes, and how many units begin before it.
 #[derive(Clone, Copy)]
@@ -45,7 +40,7 @@ fn units_begun_by(byte: u8) -> usize
 /// The same for a block of `N` bytes together.
 #[inline(always)]
 fn units_begun_in_block<const N: usize>(bytes: Simd<u8, N>) -> usize
-    requires { N ≤ 64 }
+    requires { N ≤ u64.BITS }
     ensures { result ≡ all_units_begun bytes.entry }
 {
     let zero = Simd::<u8, N>::splat(0);
@@ -89,7 +84,7 @@ fn find_unit_from(bytes: &[u8], unit: usize, from: Place) -> Place
 /// The place behind the `N` bytes from a place on, where there are so many and the unit is behind them too.
 #[inline(always)]
 fn behind_block<const N: usize>(bytes: &[u8], unit: usize, from: Place) -> Option<Place>
-    requires lanes { (0 < N) × (N ≤ 64) }
+    requires lanes { (0 < N) × (N ≤ u64.BITS) }
     requires within { from.at ≤ length bytes.now }
     requires counted { from.units_before ≡ all_units_begun (take from.at bytes.now) }
     requires not_beyond { from.units_before ≤ unit }
@@ -118,7 +113,7 @@ fn behind_blocks(bytes: &[u8], unit: usize) -> Place
     ensures counted { result.units_before ≡ all_units_begun (take result.at bytes.now) }
     ensures not_beyond { result.units_before ≤ unit }
 {
-    if bytes.len() < FEW {
+    if bytes.len() < VECTOR {
         return Place {
             at: 0,
             units_before: 0,
@@ -138,11 +133,11 @@ fn behind_blocks_of_many(bytes: &[u8], unit: usize) -> Place
         at: 0,
         units_before: 0,
     };
-    while let Some(behind) = behind_block::<MANY>(bytes, unit, place) {
+    while let Some(behind) = behind_block::<BLOCK>(bytes, unit, place) {
         place = behind;
     }
-    let place = behind_block::<LANES>(bytes, unit, place).unwrap_or(place);
-    behind_block::<FEW>(bytes, unit, place).unwrap_or(place)
+    let place = behind_block::<HALF_BLOCK>(bytes, unit, place).unwrap_or(place);
+    behind_block::<VECTOR>(bytes, unit, place).unwrap_or(place)
 }
 
 /// The place of the code point that holds a unit, or the end, where the bytes have no such unit.
@@ -173,9 +168,9 @@ fn count_units(bytes: &[u8]) -> usize
 {
     let mut at = 0;
     let mut units_before = 0;
-    while LANES <= bytes.len() - at {
-        units_before += units_begun_in_block(Simd::<u8, LANES>::from_slice(&bytes[at..]));
-        at += LANES;
+    while HALF_BLOCK <= bytes.len() - at {
+        units_before += units_begun_in_block(Simd::<u8, HALF_BLOCK>::from_slice(&bytes[at..]));
+        at += HALF_BLOCK;
     }
     count_units_from(bytes, Place { at, units_before })
 }
@@ -259,14 +254,14 @@ fn unit_in_ascii_front(view: Wtf8<'_>, index: usize) -> Option<u16>
         0..=3 => None,
         4..=7 => ascii_unit::<4>(view, index),
         8..=15 => ascii_unit::<8>(view, index),
-        _ => ascii_unit::<FEW>(view, index),
+        _ => ascii_unit::<VECTOR>(view, index),
     }
 }
 
 /// The unit of a number below `N`, if the first `N` bytes are all ASCII.
 #[inline(always)]
 fn ascii_unit<const N: usize>(view: Wtf8<'_>, index: usize) -> Option<u16>
-    requires lanes { N ≤ 64 }
+    requires lanes { N ≤ u64.BITS }
     requires room { N ≤ length view.bytes.now }
     ensures { IfSome result (λ unit. slice_get (view_units view.entry) index ≡ Some unit) }
 {

@@ -5,32 +5,29 @@ ghost use Rattle.wtf8.specs.UnitParts.{AreAscii};
 ghost use Rattle.wtf8.specs.Unicode.{units_of};
 ghost use Rattle.wtf8.specs.View.{view_units};
 
-use crate::lanes::copies;
+use crate::lanes::{VECTOR, copies};
 use crate::numbers::code_point::CodePoint;
 use crate::numbers::surrogates::{lead_of, trail_of};
 use crate::strings::view::Wtf8;
 use std::alloc::{AllocError, Allocator};
 use std::simd::prelude::*;
 
-/// How many bytes are looked at together.
-const BLOCK: usize = 16;
-
 /// How many of the first bytes of a block are ASCII.
 #[inline(always)]
 fn count_ascii(block: u8x16) -> usize
-    ensures within { result ≤ 16 }
+    ensures within { result ≤ VECTOR }
     ensures ascii { AreAscii (take result block) }
 {
     let others = block.simd_ge(Simd::splat(0x80)).to_bitmask();
     if others == 0 {
-        return BLOCK;
+        return VECTOR;
     }
     others.trailing_zeros() as usize
 }
 
 /// Sixteen bytes as units.
 #[inline(always)]
-fn widened(block: u8x16) -> [u16; BLOCK]
+fn widened(block: u8x16) -> [u16; VECTOR]
     ensures { result ≡ block }
 {
     block.cast::<u16>().to_array()
@@ -46,7 +43,7 @@ fn append_ascii_front<B: Allocator>(units: &mut Vec<u16, B>, bytes: &[u8]) -> us
     ensures capacity { vec_capacity units.new ≡ vec_capacity units.old }
 {
     let len = units.len();
-    if bytes.len() < BLOCK || units.capacity() - len < BLOCK {
+    if bytes.len() < VECTOR || units.capacity() - len < VECTOR {
         return 0;
     }
     let block = u8x16::from_slice(bytes);
@@ -99,7 +96,7 @@ fn append_front<'a, B: Allocator>(units: &mut Vec<u16, B>, view: Wtf8<'a>) -> Op
 {
     let count = append_ascii_front(units, view.bytes);
     let behind = view.behind_ascii(count);
-    if count == BLOCK {
+    if count == VECTOR {
         return Some(behind);
     }
     append_point(units, behind)

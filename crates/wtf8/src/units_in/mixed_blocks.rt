@@ -1,21 +1,16 @@
 // Code units of all kinds side by side turned into bytes, sixteen together where no surrogate is alone among them.
-ghost use Rattle.std.specs.Prelude.{◌≡◌, ℕ, true, ◌+◌, ◌/◌, ◌%◌, ◌<◌, ◌≤◌, ◌++◌, length, take, drop, slice_index_or, IfOk, IfSome, IfNone, IsTrue};
+ghost use Rattle.std.specs.Prelude.{◌≡◌, ℕ, true, ◌+◌, ◌-◌, ◌*◌, ◌/◌, ◌%◌, ◌<◌, ◌≤◌, ◌++◌, length, take, drop, slice_index_or, IfOk, IfSome, IfNone, IsTrue};
 ghost use Rattle.wtf8.specs.Unicode.{IsLead};
 ghost use Rattle.wtf8.specs.UnitParts.{AppendsForm, DividesNoPair, IsKnownForm};
 ghost use Rattle.wtf8.specs.UnitPieces.{piece, spelled, unit_before, IsSpelled, ArePaired, AreJoined, all_spelled};
 
-use crate::numbers::surrogates::{FIRST_LEAD, FIRST_TRAIL};
+use crate::numbers::surrogates::{FIRST_LEAD, FIRST_TRAIL, OF_A_KIND};
+use crate::units_in::NUMBERS;
 use std::alloc::{AllocError, Allocator};
 use std::simd::prelude::*;
 
-/// How many units are turned into bytes together.
-const LANES: usize = 16;
-
 /// Room for their bytes, of which there are three each at most, and for what is written behind these.
 const ROOM: usize = 64;
-
-/// How many surrogates of either kind there are.
-const OF_A_KIND: u16 = 0x400;
 
 /// With how many leads among them units are read one after another: where nearly all make pairs, that is faster.
 const MANY_LEADS: u32 = 6;
@@ -53,11 +48,11 @@ fn spell(unit: u16, before: u16) -> (u16, u16)
 
 /// What each of sixteen units adds, as two rows of numbers.
 #[inline(always)]
-fn spell_all(units: &[u16; LANES], fronts: &mut [u16; LANES], backs: &mut [u16; LANES])
-    ensures { (i : ℕ) → i < 16 → IsSpelled units.now fronts.new backs.new i }
+fn spell_all(units: &[u16; NUMBERS], fronts: &mut [u16; NUMBERS], backs: &mut [u16; NUMBERS])
+    ensures { (i : ℕ) → i < NUMBERS → IsSpelled units.now fronts.new backs.new i }
 {
     let mut before = 0;
-    for at in 0..LANES {
+    for at in 0..NUMBERS {
         let unit = units[at];
         let (front, back) = spell(unit, before);
         fronts[at] = front;
@@ -68,7 +63,7 @@ fn spell_all(units: &[u16; LANES], fronts: &mut [u16; LANES], backs: &mut [u16; 
 
 /// Two rows of numbers as one, with the second row's numbers above the first row's.
 #[inline(always)]
-fn joined_lanes(fronts: u16x16, backs: u16x16) -> [u32; LANES]
+fn joined_lanes(fronts: u16x16, backs: u16x16) -> [u32; NUMBERS]
     ensures { AreJoined fronts backs result }
 {
     let above = backs.cast::<u32>().strict_mul(u32x16::splat(0x1_0000));
@@ -79,7 +74,7 @@ fn joined_lanes(fronts: u16x16, backs: u16x16) -> [u32; LANES]
 #[inline(always)]
 fn put(number: u32, block: &mut [u8; ROOM], len: usize) -> usize
     requires small { number < 0x4000000 }
-    requires room { len ≤ 60 }
+    requires room { len ≤ ROOM - 4 }
     ensures order { (len ≤ result) × (result ≤ len + 3) }
     ensures kept { take len block.new ≡ take len block.old }
     ensures bytes { take result block.new ≡ take len block.old ++ spelled (number % 0x10000) (number / 0x10000) }
@@ -90,13 +85,13 @@ fn put(number: u32, block: &mut [u8; ROOM], len: usize) -> usize
 
 /// Writes what the first fifteen of sixteen numbers spell to the front of a block, and answers how many bytes these are.
 #[inline(always)]
-fn pack(numbers: &[u32; LANES], block: &mut [u8; ROOM]) -> usize
-    requires { (i : ℕ) → i < 16 → slice_index_or numbers.now i 0 < 0x4000000 }
-    ensures within { result ≤ 45 }
-    ensures bytes { take result block.new ≡ all_spelled 15 numbers.now }
+fn pack(numbers: &[u32; NUMBERS], block: &mut [u8; ROOM]) -> usize
+    requires { (i : ℕ) → i < NUMBERS → slice_index_or numbers.now i 0 < 0x4000000 }
+    ensures within { result ≤ 3 * (NUMBERS - 1) }
+    ensures bytes { take result block.new ≡ all_spelled (NUMBERS - 1) numbers.now }
 {
     let mut len = 0;
-    for at in 0..LANES - 1 {
+    for at in 0..NUMBERS - 1 {
         len = put(numbers[at], block, len);
     }
     len
@@ -105,30 +100,30 @@ fn pack(numbers: &[u32; LANES], block: &mut [u8; ROOM]) -> usize
 /// How many of sixteen units are turned into bytes together, all of them or all but a lead at the end, and how many bytes
 /// of the block are then theirs.
 #[inline(always)]
-fn write_block(units: &[u16; LANES], block: &mut [u8; ROOM]) -> (usize, usize)
-    requires { ArePaired units.now 16 }
-    ensures taken { (0 < result.0) × (result.0 ≤ 16) }
-    ensures within { result.1 ≤ 48 }
+fn write_block(units: &[u16; NUMBERS], block: &mut [u8; ROOM]) -> (usize, usize)
+    requires { ArePaired units.now NUMBERS }
+    ensures taken { (0 < result.0) × (result.0 ≤ NUMBERS) }
+    ensures within { result.1 ≤ 3 * NUMBERS }
     ensures apart { ¬ (IsLead (unit_before units.now result.0)) }
     ensures form { IsKnownForm (take result.1 block.new) (take result.0 units.now) true }
 {
-    let mut fronts = [0; LANES];
-    let mut backs = [0; LANES];
+    let mut fronts = [0; NUMBERS];
+    let mut backs = [0; NUMBERS];
     spell_all(units, &mut fronts, &mut backs);
     let numbers = joined_lanes(u16x16::from_array(fronts), u16x16::from_array(backs));
     let most = pack(&numbers, block);
-    let all = put(numbers[LANES - 1], block, most);
-    if units[LANES - 1] / OF_A_KIND == FIRST_LEAD / OF_A_KIND {
-        return (15, most);
+    let all = put(numbers[NUMBERS - 1], block, most);
+    if units[NUMBERS - 1] / OF_A_KIND == FIRST_LEAD / OF_A_KIND {
+        return (NUMBERS - 1, most);
     }
-    (16, all)
+    (NUMBERS, all)
 }
 
 /// Whether sixteen units are worth a block: each trail stands behind a lead, no lead before another unit, and not nearly
 /// all of them make pairs.
 #[inline(always)]
 fn is_worth_a_block(units: u16x16) -> bool
-    ensures { IsTrue result → ArePaired units 16 }
+    ensures { IsTrue result → ArePaired units NUMBERS }
 {
     let kinds = units / u16x16::splat(OF_A_KIND);
     let leads = kinds
@@ -153,7 +148,7 @@ pub(crate) fn append_block<A: Allocator>(
         × AppendsForm bytes.old.items bytes.new.items (take n (drop at v.now)) true)) }
     ensures none { IfOk result (λ taken. IfNone taken (bytes.new.items ≡ bytes.old.items)) }
 {
-    let Some(units) = v[at..].first_chunk::<LANES>() else {
+    let Some(units) = v[at..].first_chunk::<NUMBERS>() else {
         return Ok(None);
     };
     if !is_worth_a_block(u16x16::from_array(*units)) {

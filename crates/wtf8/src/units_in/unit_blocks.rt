@@ -1,19 +1,16 @@
 // Code units turned into bytes: sixteen of ASCII, or eight of two or of three bytes together, the ASCII units before another
 // one together, any others one after another.
-ghost use Rattle.std.specs.Prelude.{◌≡◌, List, [], ◌+◌, ◌++◌, ◌-◌, ◌%◌, ◌<◌, ◌≤◌, length, map, take, drop, IfOk, IfSome, IfNone, IsOk, IsTrue};
+ghost use Rattle.std.specs.Prelude.{◌≡◌, List, [], ◌+◌, ◌++◌, ◌-◌, ◌*◌, ◌%◌, ◌<◌, ◌≤◌, length, map, take, drop, IfOk, IfSome, IfNone, IsOk, IsTrue};
 ghost use Rattle.wtf8.specs.Form.{bytes as bytes_of};
 ghost use Rattle.wtf8.specs.UnitParts.{AppendsForm, IsKnownForm, DividesNoPair, AreAscii, AreTwoByteUnits, AreThreeByteUnits, IsBlock};
 
 use crate::numbers::surrogates::{FIRST_LEAD, FIRST_TRAIL, LAST_LEAD, LAST_TRAIL};
-use crate::units_in::{decode, mixed_blocks};
+use crate::units_in::{NUMBERS, decode, mixed_blocks};
 use std::alloc::{AllocError, Allocator};
 use std::simd::prelude::*;
 
-/// How many units are looked at together.
-const LANES: usize = 16;
-
 /// How many units of two or of three bytes are written together.
-const HALF: usize = 8;
+const HALF: usize = NUMBERS / 2;
 
 /// The first and the second bytes of eight units in turn.
 const IN_TWOS: [usize; 16] = [0, 8, 1, 9, 2, 10, 3, 11, 4, 12, 5, 13, 6, 14, 7, 15];
@@ -36,7 +33,7 @@ const PART: usize = 32;
 /// The `N` units from a place on, where there are so many.
 #[inline(always)]
 fn units_from<const N: usize>(v: &[u16], at: usize) -> Option<[u16; N]>
-    requires lanes { N ≤ 64 }
+    requires lanes { N ≤ u64.BITS }
     requires within { at ≤ length v.now }
     ensures within { IfSome result (λ _. at + N ≤ length v.now) }
     ensures same { IfSome result (λ units. units ≡ take N (drop at v.now)) }
@@ -57,7 +54,7 @@ fn are_ascii(numbers: u32x16) -> bool
 
 /// Sixteen numbers below 0x80 as bytes.
 #[inline(always)]
-fn narrowed(numbers: u32x16) -> [u8; LANES]
+fn narrowed(numbers: u32x16) -> [u8; NUMBERS]
     requires { AreAscii numbers }
     ensures { result ≡ numbers }
 {
@@ -66,7 +63,7 @@ fn narrowed(numbers: u32x16) -> [u8; LANES]
 
 /// Sixteen numbers as bytes, if all of them are below 0x80.
 #[inline(always)]
-pub(crate) fn ascii_bytes(numbers: u32x16) -> Option<[u8; LANES]>
+pub(crate) fn ascii_bytes(numbers: u32x16) -> Option<[u8; NUMBERS]>
     ensures { IfSome result (λ block. AreAscii block × (block ≡ numbers)) }
 {
     if are_ascii(numbers) {
@@ -77,9 +74,9 @@ pub(crate) fn ascii_bytes(numbers: u32x16) -> Option<[u8; LANES]>
 
 /// The bytes of the sixteen units from a place on, where there are so many and all of them are ASCII.
 #[inline(always)]
-fn ascii_units(v: &[u16], at: usize) -> Option<[u8; LANES]>
+fn ascii_units(v: &[u16], at: usize) -> Option<[u8; NUMBERS]>
     requires { at ≤ length v.now }
-    ensures { IfSome result (λ block. IsBlock v.now at LANES block) }
+    ensures { IfSome result (λ block. IsBlock v.now at NUMBERS block) }
 {
     ascii_bytes(u16x16::from_array(units_from(v, at)?).cast())
 }
@@ -141,7 +138,7 @@ fn take_three_bytes(units: u16x8) -> bool
 #[inline(always)]
 fn three_bytes_each(units: [u16; 8]) -> [u8; 32]
     requires { AreThreeByteUnits units }
-    ensures { take 24 result ≡ bytes_of units }
+    ensures { take (3 * HALF) result ≡ bytes_of units }
 {
     let [a, b, c, d, e, f, g, h] = units;
     let units = u16x8::from_array([a, b, c, d, e, f, g, h]);
@@ -166,7 +163,7 @@ fn three_bytes_each(units: [u16; 8]) -> [u8; 32]
 #[inline(always)]
 fn three_byte_block(v: &[u16], at: usize) -> Option<[u8; 32]>
     requires { at ≤ length v.now }
-    ensures { IfSome result (λ block. IsBlock v.now at HALF (take 24 block)) }
+    ensures { IfSome result (λ block. IsBlock v.now at HALF (take (3 * HALF) block)) }
 {
     let units = units_from(v, at)?;
     if take_three_bytes(u16x8::from_array(units)) {
@@ -200,19 +197,19 @@ fn end_of_part(v: &[u16], at: usize) -> usize
 /// How many of sixteen units come before the first that is not ASCII.
 #[inline(always)]
 fn count_ascii(units: u16x16) -> usize
-    ensures within { result ≤ 16 }
+    ensures within { result ≤ NUMBERS }
     ensures ascii { AreAscii (take result units) }
 {
     let others = units.simd_ge(Simd::splat(0x80)).to_bitmask();
     if others == 0 {
-        return LANES;
+        return NUMBERS;
     }
     others.trailing_zeros() as usize
 }
 
 /// The low bytes of sixteen units.
 #[inline(always)]
-fn low_bytes(units: u16x16) -> [u8; LANES]
+fn low_bytes(units: u16x16) -> [u8; NUMBERS]
     ensures { result ≡ map (λ unit. unit % 256) units }
 {
     (units % u16x16::splat(0x100)).cast::<u8>().to_array()
@@ -236,7 +233,7 @@ fn append_ascii_front<A: Allocator>(
     };
     let units = u16x16::from_array(units);
     let count = count_ascii(units);
-    if count < FRONT || count == LANES {
+    if count < FRONT || count == NUMBERS {
         return Ok(0);
     }
     let end = bytes.len() + count;
@@ -322,7 +319,7 @@ pub(crate) fn append_units<A: Allocator>(
     while at < v.len() {
         if let Some(block) = ascii_units(v, at) {
             bytes.extend_from_slice(&block)?;
-            at += LANES;
+            at += NUMBERS;
             continue;
         }
         if let Some(block) = three_byte_block(v, at) {
