@@ -1,3 +1,4 @@
 pub mod Differences
 pub mod Digits
+pub mod Scan
 pub mod Surrogates
