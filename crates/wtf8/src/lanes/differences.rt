@@ -1,12 +1,73 @@
 // Whether bytes are the same, and where they first differ, in blocks.
 ghost use Rattle.std.specs.Cmp.Lexicographic.{pointwise, slice_cmp};
 ghost use Rattle.std.specs.Ordering.{nat_cmp};
-ghost use Rattle.std.specs.Prelude.{◌≡◌, ◌↔◌, ◌+◌, ◌*◌, ◌<◌, ◌≤◌, length, take, drop, slice_get, nat_eq, IsTrue};
-ghost use Rattle.wtf8.specs.Differences.{IsFirstDifference};
+ghost use Rattle.std.specs.Prelude.{◌≡◌, ◌≤◌, min, length, slice_get, nat_eq, ⊤};
+ghost use Rattle.wtf8.specs.Differences.{DifferAt, IsFirstDifference};
+ghost use Rattle.wtf8.specs.Scan.{Nowhere, Tells};
 
-use crate::lanes::{BLOCK, TURN, VECTOR};
+use crate::lanes::scan::{self, Block, Ends, Places, Turn};
+use crate::lanes::{BLOCK, TURN};
 use std::cmp::Ordering;
 use std::simd::prelude::*;
+
+/// Two lists of bytes, at whose places differences are looked for.
+#[derive(Drop)]
+struct Pair<'a> {
+    own: &'a [u8],
+    others: &'a [u8],
+}
+
+impl<'a> Places for Pair<'a> {
+    ghost limit = { λ s. min (length s.own.now) (length s.others.now) };
+
+    ghost hit = { λ s. DifferAt s.own.now s.others.now };
+
+    ghost exact = { λ _. ⊤ };
+
+    #[inline(always)]
+    fn is_hit(&self, at: usize) -> bool {
+        let (own, others) = (self.own, self.others);
+        own[at] != others[at]
+    }
+}
+
+impl<'a, const N: usize> Block<N> for Pair<'a> {
+    #[inline(always)]
+    fn marks(&self, at: usize) -> u64 {
+        let (own, others) = (self.own, self.others);
+        Simd::<u8, N>::from_slice(&own[at..])
+            .simd_ne(Simd::from_slice(&others[at..]))
+            .to_bitmask()
+    }
+}
+
+impl<'a, const N: usize> Ends<N> for Pair<'a> {
+    #[inline(always)]
+    fn are_clear(&self, from: usize, end: usize) -> bool {
+        scan::are_blocks_clear::<N, Pair<'a>>(self, from, end)
+    }
+}
+
+impl<'a> Turn<TURN> for Pair<'a> {
+    #[inline(always)]
+    fn is_clear(&self, at: usize) -> bool {
+        scan::are_blocks_clear::<BLOCK, Pair<'a>>(self, at, at + TURN)
+    }
+}
+
+impl<'a> Turn<32> for Pair<'a> {
+    #[inline(always)]
+    fn is_clear(&self, at: usize) -> bool {
+        scan::is_block_clear::<32, Pair<'a>>(self, at)
+    }
+}
+
+impl<'a> Turn<8> for Pair<'a> {
+    #[inline(always)]
+    fn is_clear(&self, at: usize) -> bool {
+        scan::is_block_clear::<8, Pair<'a>>(self, at)
+    }
+}
 
 /// The byte at a place, or `None` at or past the end.
 pub(crate) fn byte_at(bytes: &[u8], at: usize) -> Option<u8>
@@ -24,27 +85,19 @@ pub(crate) fn equal(own: &[u8], others: &[u8]) -> bool
         return false;
     }
     if own.len() <= TURN {
-        return is_same_front(own, others, own.len());
+        return scan::is_turn_clear(&Pair { own, others }, own.len());
     }
-    is_same_in_blocks(own, others)
+    is_same_in_turns(own, others)
 }
 
 /// Whether more bytes than one turn compares are the same in two lists of the same length.
 #[inline(never)]
-fn is_same_in_blocks(own: &[u8], others: &[u8]) -> bool
+fn is_same_in_turns(own: &[u8], others: &[u8]) -> bool
     requires long { TURN ≤ length own.now }
     requires both { length own.now ≡ length others.now }
-    ensures { IsTrue result ↔ (own.now ≡ others.now) }
+    ensures { Tells ⊤ (DifferAt own.now others.now) 0 (length own.now) result }
 {
-    let len = own.len();
-    let mut at = 0;
-    while TURN <= len - at {
-        if !is_same_turn(own, others, at) {
-            return false;
-        }
-        at += TURN;
-    }
-    is_same_turn(own, others, len - TURN)
+    scan::are_turns_clear::<TURN, Pair<'_>>(&Pair { own, others }, 0, own.len())
 }
 
 /// The order of two lists of bytes: the first ones that differ decide, and a beginning stands before the longer list.
@@ -57,7 +110,7 @@ pub(crate) fn order(own: &[u8], others: &[u8]) -> Ordering
     if 0 < len && own[0] != others[0] {
         return own[0].cmp(&others[0]);
     }
-    if len <= TURN && is_same_front(own, others, len) {
+    if len <= TURN && scan::is_turn_clear(&Pair { own, others }, len) {
         return own.len().cmp(&others.len());
     }
     order_by_difference(own, others)
@@ -68,7 +121,7 @@ pub(crate) fn order(own: &[u8], others: &[u8]) -> Ordering
 fn order_by_difference(own: &[u8], others: &[u8]) -> Ordering
     ensures { result ≡ slice_cmp nat_cmp own.now others.now }
 {
-    let at = first_difference_in_blocks(own, others);
+    let at = first_difference_in_turns(own, others);
     byte_at(own, at).cmp(&byte_at(others, at))
 }
 
@@ -83,146 +136,34 @@ pub(crate) fn first_difference(own: &[u8], others: &[u8]) -> usize
         return 0;
     }
     if TURN < len {
-        return first_difference_in_blocks(own, others);
+        return first_difference_in_turns(own, others);
     }
-    if is_same_front(own, others, len) {
+    if scan::is_turn_clear(&Pair { own, others }, len) {
         return len;
     }
     first_difference_from(own, others, 0)
 }
 
-/// The same, in blocks as far as these are the same.
+/// The same, in turns as far as these are the same.
 #[inline(never)]
-fn first_difference_in_blocks(own: &[u8], others: &[u8]) -> usize
+fn first_difference_in_turns(own: &[u8], others: &[u8]) -> usize
     ensures { IsFirstDifference own.now others.now result }
 {
     let len = own.len().min(others.len());
-    let mut at = 0;
-    while TURN <= len - at {
-        if !is_same_turn(own, others, at) {
-            break;
-        }
-        at += TURN;
-    }
+    let at = scan::skip::<TURN, Pair<'_>>(&Pair { own, others }, 0, len);
     first_difference_from(own, others, at)
 }
 
 /// The same for lists that are the same up to a place, in smaller blocks and then one byte at a time.
 #[inline(never)]
 fn first_difference_from(own: &[u8], others: &[u8], from: usize) -> usize
-    requires within_first { from ≤ length own.now }
-    requires within_second { from ≤ length others.now }
-    requires same { take from own.now ≡ take from others.now }
+    requires within { from ≤ min (length own.now) (length others.now) }
+    requires same { Nowhere (DifferAt own.now others.now) 0 from }
     ensures { IsFirstDifference own.now others.now result }
 {
-    let at = skip_same::<32>(own, others, from);
-    let at = skip_same::<8>(own, others, at);
+    let pair = Pair { own, others };
     let len = own.len().min(others.len());
-    for place in at..len {
-        if own[place] != others[place] {
-            return place;
-        }
-    }
-    len
-}
-
-/// A place up to which two lists are the same, found by blocks of `N` bytes from another such place on.
-#[inline(always)]
-fn skip_same<const N: usize>(own: &[u8], others: &[u8], from: usize) -> usize
-    requires lanes { (0 < N) × (N ≤ u64.BITS) }
-    requires within_first { from ≤ length own.now }
-    requires within_second { from ≤ length others.now }
-    requires same { take from own.now ≡ take from others.now }
-    ensures not_before { from ≤ result }
-    ensures within_first { result ≤ length own.now }
-    ensures within_second { result ≤ length others.now }
-    ensures same { take result own.now ≡ take result others.now }
-{
-    let len = own.len().min(others.len());
-    let mut at = from;
-    while N <= len - at {
-        if !is_same_block::<N>(own, others, at) {
-            break;
-        }
-        at += N;
-    }
-    at
-}
-
-/// Whether the first `len` bytes, which one turn compares, are the same in two lists.
-#[inline(always)]
-fn is_same_front(own: &[u8], others: &[u8], len: usize) -> bool
-    requires short { len ≤ TURN }
-    requires within_first { len ≤ length own.now }
-    requires within_second { len ≤ length others.now }
-    ensures { IsTrue result ↔ (take len own.now ≡ take len others.now) }
-{
-    if len <= VECTOR {
-        return is_same_short(own, others, len);
-    }
-    if len <= 32 {
-        return are_ends_same::<16>(own, others, len);
-    }
-    if len <= 64 {
-        return are_ends_same::<32>(own, others, len);
-    }
-    are_ends_same::<64>(own, others, len)
-}
-
-/// The same for no more bytes than a vector holds.
-#[inline(always)]
-fn is_same_short(own: &[u8], others: &[u8], len: usize) -> bool
-    requires short { len ≤ VECTOR }
-    requires within_first { len ≤ length own.now }
-    requires within_second { len ≤ length others.now }
-    ensures { IsTrue result ↔ (take len own.now ≡ take len others.now) }
-{
-    if 8 <= len {
-        return are_ends_same::<8>(own, others, len);
-    }
-    if 4 <= len {
-        return are_ends_same::<4>(own, others, len);
-    }
-    for at in 0..len {
-        if own[at] != others[at] {
-            return false;
-        }
-    }
-    true
-}
-
-/// Whether the first `len` bytes are the same in two lists, by the first and the last `N` of them, which are all.
-#[inline(always)]
-fn are_ends_same<const N: usize>(own: &[u8], others: &[u8], len: usize) -> bool
-    requires lanes { N ≤ u64.BITS }
-    requires room { N ≤ len }
-    requires all { len ≤ 2 * N }
-    requires within_first { len ≤ length own.now }
-    requires within_second { len ≤ length others.now }
-    ensures { IsTrue result ↔ (take len own.now ≡ take len others.now) }
-{
-    is_same_block::<N>(own, others, 0) & is_same_block::<N>(own, others, len - N)
-}
-
-/// Whether the bytes that one turn compares are the same in two lists from a place on.
-#[inline(always)]
-fn is_same_turn(own: &[u8], others: &[u8], at: usize) -> bool
-    requires within_first { at + TURN ≤ length own.now }
-    requires within_second { at + TURN ≤ length others.now }
-    ensures { IsTrue result ↔ (take TURN (drop at own.now) ≡ take TURN (drop at others.now)) }
-{
-    is_same_block::<BLOCK>(own, others, at) & is_same_block::<BLOCK>(own, others, at + BLOCK)
-}
-
-/// Whether the `N` bytes from a place on are the same in two lists.
-#[inline(always)]
-fn is_same_block<const N: usize>(own: &[u8], others: &[u8], at: usize) -> bool
-    requires lanes { N ≤ u64.BITS }
-    requires within_first { at + N ≤ length own.now }
-    requires within_second { at + N ≤ length others.now }
-    ensures { IsTrue result ↔ (take N (drop at own.now) ≡ take N (drop at others.now)) }
-{
-    let own = Simd::<u8, N>::from_slice(&own[at..]);
-    let others = Simd::<u8, N>::from_slice(&others[at..]);
-    own.simd_ne(others).to_bitmask() == 0
+    let at = scan::skip::<32, Pair<'_>>(&pair, from, len);
+    let at = scan::skip::<8, Pair<'_>>(&pair, at, len);
+    scan::first_one_by_one(&pair, at, len).unwrap_or(len)
 }

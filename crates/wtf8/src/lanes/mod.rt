@@ -2,6 +2,7 @@
 pub(crate) mod copies;
 pub(crate) mod differences;
 pub(crate) mod digits;
+pub(crate) mod scan;
 pub(crate) mod search;
 pub(crate) mod surrogate_presence;
 

@@ -1,9 +1,11 @@
 // The search for surrogates in bytes, and their replacement.
-ghost use Rattle.std.specs.Prelude.{◌≡◌, ◌∷◌, ◌++◌, ◌+◌, ◌*◌, ◌<◌, ◌≤◌, length, take, drop, false, None, IsTrue};
+ghost use Rattle.std.specs.Prelude.{◌≡◌, ◌∷◌, ◌++◌, ◌+◌, ◌-◌, ◌<◌, ◌≤◌, length, take, drop, false, ⊤, IsTrue};
 ghost use Rattle.wtf8.specs.Form.{IsWellFormed, bytes as bytes_of};
-ghost use Rattle.wtf8.specs.SurrogateSearch.{IsFirst, IsFirstBelow, IsSurrogateLane, SurrogateAt};
+ghost use Rattle.wtf8.specs.Scan.{IsFirst, IsFirstBelow, Nowhere};
+ghost use Rattle.wtf8.specs.SurrogateSearch.{SurrogateAt};
 ghost use Rattle.wtf8.specs.Surrogates.{lossy};
 
+use crate::lanes::scan::{self, Block, Places, Turn};
 use crate::lanes::{BLOCK, VECTOR};
 use std::alloc::Allocator;
 use std::simd::prelude::*;
@@ -19,17 +21,65 @@ pub(crate) fn begins_with_surrogate(bytes: &[u8]) -> bool
     2 <= bytes.len() && bytes[0] == 0xED && 0xA0 <= bytes[1]
 }
 
+/// The places where a surrogate can begin: all but the last.
+#[derive(Drop)]
+pub(crate) struct Surrogates<'a> {
+    pub(crate) bytes: &'a [u8],
+}
+
+impl<'a> Places for Surrogates<'a> {
+    ghost limit = { λ s. length s.bytes.now - 1 };
+
+    ghost hit = { λ s. SurrogateAt s.bytes.now };
+
+    ghost exact = { λ _. ⊤ };
+
+    #[inline(always)]
+    fn is_hit(&self, at: usize) -> bool {
+        let bytes = self.bytes;
+        bytes[at] == 0xED && 0xA0 <= bytes[at + 1]
+    }
+}
+
+impl<'a, const N: usize> Block<N> for Surrogates<'a> {
+    #[inline(always)]
+    fn marks(&self, at: usize) -> u64 {
+        let bytes = self.bytes;
+        let firsts = Simd::<u8, N>::from_slice(&bytes[at..]);
+        let seconds = Simd::<u8, N>::from_slice(&bytes[at + 1..]);
+        (firsts.simd_eq(Simd::splat(0xED)) & seconds.simd_ge(Simd::splat(0xA0))).to_bitmask()
+    }
+}
+
+impl<'a> Turn<BLOCK> for Surrogates<'a> {
+    #[inline(always)]
+    fn is_clear(&self, at: usize) -> bool {
+        !holds_first_byte(self.bytes, at) || scan::is_block_clear::<BLOCK, Surrogates<'a>>(self, at)
+    }
+}
+
+/// Whether the first byte of a surrogate may stand in a block.
+#[inline(always)]
+fn holds_first_byte(bytes: &[u8], at: usize) -> bool
+    requires { at + BLOCK < length bytes.now }
+    ensures { result ≡ false → Nowhere (SurrogateAt bytes.now) at (at + BLOCK) }
+{
+    let firsts = Simd::<u8, BLOCK>::from_slice(&bytes[at..]);
+    firsts.simd_eq(Simd::splat(0xED)).to_bitmask() != 0
+}
+
 /// The place of the first surrogate that begins at `from` or behind it, in any bytes.
 #[inline(always)]
 pub(crate) fn next_surrogate(bytes: &[u8], from: usize) -> Option<usize>
     ensures { IsFirst (SurrogateAt bytes.now) from result }
 {
-    let left = bytes.len().saturating_sub(from);
-    if left <= VECTOR {
-        return first_surrogate_in_few(bytes, from);
+    let places = bytes.len().saturating_sub(1);
+    let left = places.saturating_sub(from);
+    if left < VECTOR {
+        return scan::first_in_few(&Surrogates { bytes }, from, places);
     }
-    if left <= BLOCK {
-        return first_surrogate_in_rest(bytes, from);
+    if left < BLOCK {
+        return scan::first_in_rest(&Surrogates { bytes }, from, places);
     }
     first_surrogate_in_blocks(bytes, from)
 }
@@ -37,138 +87,25 @@ pub(crate) fn next_surrogate(bytes: &[u8], from: usize) -> Option<usize>
 /// The same, in blocks as far as these have none.
 #[inline(never)]
 fn first_surrogate_in_blocks(bytes: &[u8], from: usize) -> Option<usize>
+    requires { from + BLOCK < length bytes.now }
     ensures { IsFirst (SurrogateAt bytes.now) from result }
 {
-    let mut at = from;
-    while BLOCK < bytes.len().saturating_sub(at) {
-        if holds_first_byte(bytes, at) && holds_surrogate_in_block(bytes, at) {
-            if let Some(found) = first_in_full_block(bytes, at) {
-                return Some(found);
-            }
-        }
-        at += BLOCK;
+    let surrogates = Surrogates { bytes };
+    let places = bytes.len() - 1;
+    let at = scan::skip::<BLOCK, Surrogates<'_>>(&surrogates, from, places);
+    if BLOCK <= places - at {
+        return first_in_full_block(bytes, at);
     }
-    first_surrogate_in_rest(bytes, at)
+    scan::first_in_rest(&surrogates, at, places)
 }
 
-/// The same for the bytes behind all blocks, in two smaller blocks, which may overlap.
-#[inline(always)]
-fn first_surrogate_in_rest(bytes: &[u8], from: usize) -> Option<usize>
-    requires { length bytes.now ≤ from + BLOCK }
-    ensures { IsFirst (SurrogateAt bytes.now) from result }
-{
-    let left = bytes.len().saturating_sub(from);
-    if 32 < left {
-        return first_in_two_blocks::<32>(bytes, from);
-    }
-    if 16 < left {
-        return first_in_two_blocks::<16>(bytes, from);
-    }
-    first_surrogate_in_few(bytes, from)
-}
-
-/// The same for no more bytes than a vector holds.
-#[inline(always)]
-fn first_surrogate_in_few(bytes: &[u8], from: usize) -> Option<usize>
-    requires { length bytes.now ≤ from + VECTOR }
-    ensures { IsFirst (SurrogateAt bytes.now) from result }
-{
-    let left = bytes.len().saturating_sub(from);
-    if 8 < left {
-        return first_in_two_blocks::<8>(bytes, from);
-    }
-    if 4 < left {
-        return first_in_two_blocks::<4>(bytes, from);
-    }
-    first_surrogate_one_by_one(bytes, from)
-}
-
-/// The same, where the `N` places from `from` on and the last `N` places are all.
-#[inline(always)]
-fn first_in_two_blocks<const N: usize>(bytes: &[u8], from: usize) -> Option<usize>
-    requires lanes { N ≤ u64.BITS }
-    requires room { from + N < length bytes.now }
-    requires all { length bytes.now ≤ from + 2 * N + 1 }
-    ensures { IsFirst (SurrogateAt bytes.now) from result }
-{
-    if let Some(found) = first_in_block::<N>(bytes, from) {
-        return Some(found);
-    }
-    first_in_block::<N>(bytes, bytes.len() - N - 1)
-}
-
-/// Whether the first byte of a surrogate may stand in a block.
-#[inline(always)]
-fn holds_first_byte(bytes: &[u8], at: usize) -> bool
-    requires { at + BLOCK < length bytes.now }
-    ensures { result ≡ false → IsFirstBelow (SurrogateAt bytes.now) at (at + BLOCK) None }
-{
-    let firsts = Simd::<u8, BLOCK>::from_slice(&bytes[at..]);
-    firsts.simd_eq(Simd::splat(0xED)).to_bitmask() != 0
-}
-
-/// Whether a surrogate begins in a block. It takes longer, but no place is made of its answer.
-#[inline(always)]
-fn holds_surrogate_in_block(bytes: &[u8], at: usize) -> bool
-    requires { at + BLOCK < length bytes.now }
-    ensures { result ≡ false → IsFirstBelow (SurrogateAt bytes.now) at (at + BLOCK) None }
-{
-    let firsts = Simd::<u8, BLOCK>::from_slice(&bytes[at..]);
-    let seconds = Simd::<u8, BLOCK>::from_slice(&bytes[at + 1..]);
-    let both = firsts.simd_eq(Simd::splat(0xED)) & seconds.simd_ge(Simd::splat(0xA0));
-    both.to_bitmask() != 0
-}
-
-/// The place of the first surrogate that begins in a block.
+/// The place of the first surrogate that begins in a block. It stands by itself, so that no mask of it is made in a loop.
 #[inline(never)]
 fn first_in_full_block(bytes: &[u8], at: usize) -> Option<usize>
     requires { at + BLOCK < length bytes.now }
     ensures { IsFirstBelow (SurrogateAt bytes.now) at (at + BLOCK) result }
 {
-    first_in_block::<BLOCK>(bytes, at)
-}
-
-/// The place of the first surrogate that begins at one of `N` places.
-#[inline(always)]
-fn first_in_block<const N: usize>(bytes: &[u8], at: usize) -> Option<usize>
-    requires lanes { N ≤ u64.BITS }
-    requires room { at + N < length bytes.now }
-    ensures { IsFirstBelow (SurrogateAt bytes.now) at (at + N) result }
-{
-    let firsts = Simd::<u8, N>::from_slice(&bytes[at..]);
-    let seconds = Simd::<u8, N>::from_slice(&bytes[at + 1..]);
-    match lane_of_surrogate(firsts, seconds) {
-        Some(lane) => Some(at + lane),
-        None => None,
-    }
-}
-
-/// The first lane of a block in which the two vectors hold the first and the second byte of a surrogate.
-#[inline(always)]
-fn lane_of_surrogate<const N: usize>(firsts: Simd<u8, N>, seconds: Simd<u8, N>) -> Option<usize>
-    requires { N ≤ u64.BITS }
-    ensures { IsFirstBelow (IsSurrogateLane firsts.entry seconds.entry) 0 N result }
-{
-    let leads = firsts.simd_eq(Simd::splat(0xED));
-    let both = leads & seconds.simd_ge(Simd::splat(0xA0));
-    let mask = both.to_bitmask();
-    if mask == 0 {
-        return None;
-    }
-    Some(mask.trailing_zeros() as usize)
-}
-
-/// The same search, one place at a time.
-#[inline(always)]
-fn first_surrogate_one_by_one(bytes: &[u8], from: usize) -> Option<usize>
-    ensures { IsFirst (SurrogateAt bytes.now) from result }
-{
-    for index in from..bytes.len().saturating_sub(1) {
-        if bytes[index] == 0xED && 0xA0 <= bytes[index + 1] {
-            return Some(index);
-        }
-    }
-    None
+    scan::first_in_block::<BLOCK, Surrogates<'_>>(&Surrogates { bytes }, at)
 }
 
 /// Writes the replacement character over the three bytes from a place on.

@@ -1,10 +1,15 @@
 // Whether bytes hold a surrogate, asked of many places together, of which no place is made; and the first surrogate, where the
 // front or short bytes may tell before the search.
-ghost use Rattle.std.specs.Prelude.{◌≡◌, ℕ, ◌+◌, ◌*◌, ◌<◌, ◌≤◌, length, false, None, IsTrue};
-ghost use Rattle.wtf8.specs.SurrogateSearch.{HasLane, IsFirst, NoneBefore, ShowsSurrogate, SurrogateAt};
+ghost use Rattle.std.specs.Prelude.{◌≡◌, ℕ, ◌+◌, ◌-◌, ◌<◌, ◌≤◌, length, false, None, IsTrue};
+ghost use Rattle.wtf8.specs.Scan.{IsFirst};
+ghost use Rattle.wtf8.specs.SurrogateSearch.{HasLane, ShowsSurrogate, SurrogateAt};
 
+use crate::lanes::scan::{self, Ends, Places, Turn};
 use crate::lanes::{BLOCK, TURN, VECTOR, search};
 use std::simd::prelude::*;
+
+/// How many places are looked at together where all bytes may be below a surrogate's.
+const TURNS: usize = 2 * TURN;
 
 /// The least byte that can begin a surrogate. Only characters from U+D000 on have a byte that is as great.
 const FIRST_BYTE: u8 = 0xED;
@@ -46,35 +51,20 @@ fn first_surrogate_in_many(bytes: &[u8]) -> Option<usize>
     search::next_surrogate(bytes, 0)
 }
 
-/// Whether there are 4 to 64 bytes, none of which can begin a surrogate.
+/// Whether there are no more bytes than a block's, none of which can begin a surrogate.
 #[inline(always)]
 fn is_short_and_below(bytes: &[u8]) -> bool
     ensures { IsTrue result → IsFirst (SurrogateAt bytes.now) 0 None }
 {
+    let places = OneByte { bytes };
     let count = bytes.len();
-    if count <= 16 {
-        if count < 8 {
-            return 4 <= count && are_ends_below::<4>(bytes);
-        }
-        return are_ends_below::<8>(bytes);
+    if count <= VECTOR {
+        return scan::is_vector_clear(&places, count);
     }
     if count <= 32 {
-        return are_ends_below::<16>(bytes);
+        return scan::are_ends_clear::<16, OneByte<'_>>(&places, count);
     }
-    count <= 64 && are_ends_below::<32>(bytes)
-}
-
-/// The same, where the first `N` bytes and the last `N` are all.
-#[inline(always)]
-fn are_ends_below<const N: usize>(bytes: &[u8]) -> bool
-    requires lanes { N ≤ u64.BITS }
-    requires room { N ≤ length bytes.now }
-    requires all { length bytes.now ≤ 2 * N }
-    ensures { IsTrue result → IsFirst (SurrogateAt bytes.now) 0 None }
-{
-    let front = firsts::<N>(bytes, 0);
-    let back = firsts::<N>(bytes, bytes.len() - N);
-    is_below(greatest(front, back), FIRST_BYTE)
+    count <= BLOCK && scan::are_ends_clear::<32, OneByte<'_>>(&places, count)
 }
 
 /// Whether a surrogate begins anywhere in the bytes, however many.
@@ -82,100 +72,96 @@ fn are_ends_below<const N: usize>(bytes: &[u8]) -> bool
 fn holds_surrogate_in_many(bytes: &[u8]) -> bool
     ensures { result ≡ false → IsFirst (SurrogateAt bytes.now) 0 None }
 {
-    if bytes.len() <= TURN {
+    let len = bytes.len();
+    if len <= TURN {
         return search::next_surrogate(bytes, 0).is_some();
     }
-    let at = skip_below(bytes);
-    let at = skip_without_first_byte(bytes, at);
-    holds_surrogate_from(bytes, at)
+    let places = OneByte { bytes };
+    let at = scan::skip::<TURNS, OneByte<'_>>(&places, 0, len);
+    let at = scan::skip::<TURN, OneByte<'_>>(&places, at, len).min(len - 1);
+    !scan::are_turns_clear::<TURN, TwoBytes<'_>>(&TwoBytes { bytes }, at, len - 1)
 }
 
-/// A place before which no byte can begin a surrogate, two turns at a time.
-#[inline(always)]
-fn skip_below(bytes: &[u8]) -> usize
-    ensures within { result ≤ length bytes.now }
-    ensures none { NoneBefore bytes.now result }
-{
-    let mut at = 0;
-    while 2 * TURN <= bytes.len() - at {
-        if !are_two_turns_below(bytes, at) {
-            break;
-        }
-        at += 2 * TURN;
+/// The places where one byte says whether a surrogate may begin.
+#[derive(Drop)]
+struct OneByte<'a> {
+    bytes: &'a [u8],
+}
+
+impl<'a> Places for OneByte<'a> {
+    ghost limit = { λ s. length s.bytes.now };
+
+    ghost hit = { λ s. SurrogateAt s.bytes.now };
+
+    ghost exact = { λ _. ⊥ };
+
+    #[inline(always)]
+    fn is_hit(&self, at: usize) -> bool {
+        let bytes = self.bytes;
+        FIRST_BYTE <= bytes[at]
     }
-    at
 }
 
-/// A place before which no surrogate begins, from another such place on: no byte between them is the first of one.
-#[inline(always)]
-fn skip_without_first_byte(bytes: &[u8], from: usize) -> usize
-    requires within { from ≤ length bytes.now }
-    requires none { NoneBefore bytes.now from }
-    ensures within { result ≤ length bytes.now }
-    ensures none { NoneBefore bytes.now result }
-{
-    let mut at = from;
-    while TURN <= bytes.len() - at {
-        if !lacks_first_byte(bytes, at) {
-            break;
-        }
-        at += TURN;
+impl<'a, const N: usize> Ends<N> for OneByte<'a> {
+    #[inline(always)]
+    fn are_clear(&self, from: usize, end: usize) -> bool {
+        let front = firsts::<N>(self.bytes, from);
+        let back = firsts::<N>(self.bytes, end - N);
+        is_below(greatest(front, back), FIRST_BYTE)
     }
-    at
 }
 
-/// Whether a surrogate begins anywhere, where none does before a place.
-#[inline(always)]
-fn holds_surrogate_from(bytes: &[u8], from: usize) -> bool
-    requires long { TURN < length bytes.now }
-    requires within { from ≤ length bytes.now }
-    requires none { NoneBefore bytes.now from }
-    ensures { result ≡ false → IsFirst (SurrogateAt bytes.now) 0 None }
-{
-    let mut at = from;
-    while TURN < bytes.len() - at {
-        if !lacks_surrogate(bytes, at) {
-            return true;
-        }
-        at += TURN;
+/// No byte of two turns can begin a surrogate.
+impl<'a> Turn<TURNS> for OneByte<'a> {
+    #[inline(always)]
+    fn is_clear(&self, at: usize) -> bool {
+        let bytes = self.bytes;
+        is_below(
+            greatest(firsts_of_turn(bytes, at), firsts_of_turn(bytes, at + TURN)),
+            FIRST_BYTE,
+        )
     }
-    !lacks_surrogate(bytes, bytes.len() - TURN - 1)
 }
 
-/// Whether no byte of two turns can begin a surrogate.
-#[inline(always)]
-fn are_two_turns_below(bytes: &[u8], at: usize) -> bool
-    requires { at + 2 * TURN ≤ length bytes.now }
-    ensures { IsTrue result → NoneBefore bytes.now at → NoneBefore bytes.now (at + 2 * TURN) }
-{
-    let places = greatest(firsts_of_turn(bytes, at), firsts_of_turn(bytes, at + TURN));
-    is_below(places, FIRST_BYTE)
+/// No byte of a turn is the first of a surrogate.
+impl<'a> Turn<TURN> for OneByte<'a> {
+    #[inline(always)]
+    fn is_clear(&self, at: usize) -> bool {
+        let bytes = self.bytes;
+        let front = first_bytes_of_block(bytes, at);
+        let back = first_bytes_of_block(bytes, at + BLOCK);
+        is_below(greatest(front, back), FIRST_BYTE)
+    }
 }
 
-/// Whether no byte of a turn is the first of a surrogate.
-#[inline(always)]
-fn lacks_first_byte(bytes: &[u8], at: usize) -> bool
-    requires { at + TURN ≤ length bytes.now }
-    ensures { IsTrue result → NoneBefore bytes.now at → NoneBefore bytes.now (at + TURN) }
-{
-    let places = greatest(
-        first_bytes_of_block(bytes, at),
-        first_bytes_of_block(bytes, at + BLOCK),
-    );
-    is_below(places, FIRST_BYTE)
+/// The places where two bytes say whether a surrogate begins.
+#[derive(Drop)]
+struct TwoBytes<'a> {
+    bytes: &'a [u8],
 }
 
-/// Whether no surrogate begins in a turn.
-#[inline(always)]
-fn lacks_surrogate(bytes: &[u8], at: usize) -> bool
-    requires { at + TURN < length bytes.now }
-    ensures { IsTrue result → NoneBefore bytes.now at → NoneBefore bytes.now (at + TURN) }
-{
-    let seconds = greatest(
-        seconds_of_block(bytes, at),
-        seconds_of_block(bytes, at + BLOCK),
-    );
-    is_below(seconds, SECOND_BYTE)
+impl<'a> Places for TwoBytes<'a> {
+    ghost limit = { λ s. length s.bytes.now - 1 };
+
+    ghost hit = { λ s. SurrogateAt s.bytes.now };
+
+    ghost exact = { λ _. ⊥ };
+
+    #[inline(always)]
+    fn is_hit(&self, at: usize) -> bool {
+        let bytes = self.bytes;
+        bytes[at] == FIRST_BYTE && SECOND_BYTE <= bytes[at + 1]
+    }
+}
+
+impl<'a> Turn<TURN> for TwoBytes<'a> {
+    #[inline(always)]
+    fn is_clear(&self, at: usize) -> bool {
+        let bytes = self.bytes;
+        let front = seconds_of_block(bytes, at);
+        let back = seconds_of_block(bytes, at + BLOCK);
+        is_below(greatest(front, back), SECOND_BYTE)
+    }
 }
 
 /// The greatest bytes of a turn.

@@ -1,22 +1,22 @@
 -- Lanes that show where surrogates stand, whether one stands there, and how many units begin.
-use Rattle.wtf8.proofs.Common.{◌≡◌, ℕ, zero, suc, ◌+◌, ◌-◌, ◌%◌, ◌^◌, ◌<◌, ◌≤◌, eqb, ltb, leb, Bool, true, false, IsTrue, cond, List, [], ◌∷◌, map, length, get_or}
+use Rattle.wtf8.proofs.Common.{◌≡◌, ◌↔◌, ℕ, zero, suc, ◌+◌, ◌-◌, ◌%◌, ◌^◌, ◌<◌, ◌≤◌, eqb, ltb, leb, Bool, true, false, IsTrue, cond, List, [], ◌∷◌, map, length, get_or}
 use Rattle.wtf8.proofs.Common.{replicate, w8, inl, inr, sym, ap, ◌∙◌, arith, cases_lt, lt-ltb, le-ltb, le-leb, eq-eqb, eqb-true, length-zip2, get_or-zip2}
 use Rattle.wtf8.proofs.Common.{length-chunk, get_or-chunk, mask_l-mod, tops_compared, chunk, sel_l, zip2, mask_l, top, SurrogateAt, ◌||◌, bit_or, Fits, refl, lt-leb}
 use Rattle.wtf8.proofs.Common.{Each1, all_units_begun}
-use Rattle.std.proofs.Common.{◌≡◌, ℕ, zero, suc, ◌+◌, ◌-◌, ◌%◌, ◌^◌, ◌<◌, ◌≤◌, eqb, leb, Bool, true, false, cond, not, ◌&&◌, List, [], ◌∷◌, map, length, get_or}
-use Rattle.std.proofs.Common.{replicate, bit_and, None, Some, w8, refl, sym, ap, ◌∙◌, subst, arith}
-use Rattle.std.proofs.lemmas.Bool.{and_parts, and_from, both_ways, not-true, not-false, leb-true, le-leb, eq-eqb, eqb-true}
+use Rattle.std.proofs.Common.{◌≡◌, ℕ, zero, suc, ◌+◌, ◌-◌, ◌%◌, ◌^◌, ◌<◌, ◌≤◌, eqb, leb, Bool, true, false, cond, ◌&&◌, List, [], ◌∷◌, map, length, get_or}
+use Rattle.std.proofs.Common.{replicate, bit_and, w8, refl, sym, ap, ◌∙◌, subst, arith}
+use Rattle.std.proofs.lemmas.Bool.{and_parts, and_from, both_ways, leb-true, le-leb, eq-eqb, eqb-true}
 use Rattle.std.proofs.lemmas.List.{get_or-replicate, length-replicate}
-use Rattle.std.proofs.lemmas.List.Sums.{prefix_len_passes, prefix_len_stops, sum_by-cons}
-use Rattle.std.proofs.lemmas.Simd.{length-zip2, get_or-zip2, length-chunk, get_or-chunk, mask_l-mod, leading_from_mask_l, trailing_mask_l, bitmask_splat}
+use Rattle.std.proofs.lemmas.List.Sums.{sum_by-cons}
+use Rattle.std.proofs.lemmas.Simd.{length-zip2, get_or-zip2, length-chunk, get_or-chunk, mask_l-mod, bitmask_splat}
 use Rattle.std.proofs.lemmas.Simd.{none_from_empty_mask, length-sel_l, get_or-sel_l, Each2-of, fold-sum, sum_bound, sum_fits}
-use Rattle.std.specs.List.{prefix_len}
-use lib.Count.{count_trailing_zeros}
 use lib.Lanes.{chunk, zip2, mask_l, top, Each2, Steps, fold_l, sum_l}
-use Rattle.wtf8.specs.SurrogateSearch.{SurrogateAt, IsSurrogateLane, IsFirstBelow, HasLane, ShowsSurrogate}
+use Rattle.wtf8.proofs.lemmas.lanes.Scan.{compared_marks}
+use Rattle.wtf8.specs.Scan.{Marks, Nowhere, Tells}
+use Rattle.wtf8.specs.SurrogateSearch.{SurrogateAt, HasLane, ShowsSurrogate}
 use Rattle.wtf8.specs.UnitCounts.{units_begun}
 
--- The search in lanes: from the mask of two vectors to the first lane that has a surrogate's two bytes.
+-- The search in lanes: the mask of two vectors.
 
 -- a lane of a comparison
 abbrev pub lane : Bool → ℕ
@@ -25,9 +25,6 @@ lane b = cond b 255 0
 -- the lanes in which one vector holds ED and the other a byte from A0 on
 abbrev pub compared : ℕ → List ℕ → List ℕ → List ℕ
 compared n xs ys = zip2 bit_and (zip2 (λ a b. lane (eqb a b)) xs (replicate n 0xED)) (zip2 (λ a b. lane (leb a b)) (replicate n 0xA0) ys)
-
-abbrev pub mask : ℕ → List ℕ → List ℕ → ℕ
-mask n xs ys = mask_l (map (top 7) (compared n xs ys)) % 2 ^ 64
 
 abbrev test : ℕ → ℕ → Bool
 test x y = eqb x 0xED && leb 0xA0 y
@@ -44,103 +41,34 @@ tops n (x ∷ xs) [] p q = absurd (omega arith)
 tops zero (x ∷ xs) (y ∷ ys) p q = absurd (omega arith)
 tops (suc n) (x ∷ xs) (y ∷ ys) p q = λ i. both (eqb x 0xED) (leb 0xA0 y) i ∷ tops n xs ys (omega arith) (omega arith) i
 
--- how many tests fail before the first that holds
-abbrev failing : List Bool → ℕ
-failing bs = prefix_len (λ b. not b) bs
+-- of the n bytes from a place on and those of one further it shows the surrogates
+pub surrogate_marks : (n : ℕ) (w : List ℕ) (i : ℕ) → n ≤ 64 → i + n < length w
+    → Marks (SurrogateAt w) i n (mask_l (map (top 7) (compared n (chunk i n w) (chunk (i + 1) n w))) % 2 ^ 64)
+surrogate_marks n w i few room =
+    let long = length-chunk i n w (omega arith) in
+    let behind = length-chunk (i + 1) n w (omega arith) in
+    subst (λ ms. Marks (SurrogateAt w) i n (mask_l ms % 2 ^ 64)) (sym (tops n (chunk i n w) (chunk (i + 1) n w) long behind))
+    (compared_marks test (SurrogateAt w) i n (chunk i n w) (chunk (i + 1) n w) long behind few says)
+  where
+    second_is : (k : ℕ) → k < n → get_or (chunk (i + 1) n w) k 0 ≡ get_or w (i + k + 1) 0
+    second_is k l = get_or-chunk (i + 1) n w k 0 l ∙ ap (λ m. get_or w m 0) (omega arith)
 
-itself : (bs : List Bool) → map (λ b. b) bs ≡ bs
-itself [] = refl
-itself (b ∷ bs) = ap (λ rest. b ∷ rest) (itself bs)
-
-some_hold : (bs : List Bool) → 0 < mask_l bs → failing bs < length bs
-some_hold [] h = absurd (omega arith)
-some_hold (true ∷ bs) h = omega arith
-some_hold (false ∷ bs) h = omega (arith, some_hold bs (omega arith))
-
-told : (x y : ℕ) → test x y ≡ true → (x ≡ 0xED) × (0xA0 ≤ y)
-told x y e =
-    let parts = and_parts _ _ e in
-    (eqb-true x 0xED parts.0, leb-true 0xA0 y parts.1)
-
-tells : (x y : ℕ) → (x ≡ 0xED) × (0xA0 ≤ y) → test x y ≡ true
-tells x y h = and_from _ _ (eq-eqb x 0xED h.0) (le-leb 0xA0 y h.1)
-
-module _ (n : ℕ) (few : n ≤ 64) (xs ys : List ℕ) (p : length xs ≡ n) (q : length ys ≡ n) where
-  abbrev lanes : List Bool
-  lanes = zip2 test xs ys
-
-  long : length lanes ≡ n
-  long = length-zip2 test xs ys (p ∙ sym q) ∙ p
-
-  same : mask n xs ys ≡ mask_l lanes
-  same = ap (λ m. mask_l m % 2 ^ 64) (tops n xs ys p q) ∙ mask_l-mod lanes 64 (omega (arith, long, few))
-
-  tests : mask n xs ys ≡ mask_l (map (λ b. b) lanes)
-  tests = same ∙ ap mask_l (sym (itself lanes))
-
-  at : (j : ℕ) → j < n → get_or lanes j false ≡ test (get_or xs j 0) (get_or ys j 0)
-  at j l = get_or-zip2 test xs ys j 0 0 false (omega arith) (omega arith)
-
-  before : (j : ℕ) → j < n → j < failing lanes → ¬ (IsSurrogateLane xs ys j)
-  before j l h s = both_ways _ (not-true _ (prefix_len_passes (λ b. not b) lanes j false h)) (at j l ∙ tells _ _ s)
-
-  pub no_lane : mask n xs ys ≡ 0 → IsFirstBelow (IsSurrogateLane xs ys) 0 n None
-  no_lane e j _ l = before j l (omega (arith, l, long, leading_from_mask_l (λ b. b) lanes (sym tests ∙ e)))
-
-  pub least_lane : ¬ (mask n xs ys ≡ 0) → IsFirstBelow (IsSurrogateLane xs ys) 0 n (Some (count_trailing_zeros 64 (mask n xs ys)))
-  least_lane e =
-      let some : 0 < mask_l lanes = omega (arith, same, e) in
-      let within : failing lanes < length lanes = some_hold lanes some in
-      let inside : failing lanes < n = omega (arith, within, long) in
-      let counted = trailing_mask_l (λ b. b) 64 lanes (omega (arith, long, few)) (omega (arith, sym same ∙ tests, some)) in
-      let first : count_trailing_zeros 64 (mask n xs ys) ≡ failing lanes = ap (count_trailing_zeros 64) tests ∙ counted in
-      subst (λ k. IsFirstBelow (IsSurrogateLane xs ys) 0 n (Some k)) (sym first) (
-        record {
-          not_before = omega arith;
-          here = told _ _ (sym (at (failing lanes) inside) ∙ not-false _ (prefix_len_stops (λ b. not b) lanes false within));
-          none_between = λ j _ l. before j (omega (arith, l, inside)) l;
-        },
-        inside,
-      )
-
--- the lanes of the n bytes from a place on and of those one further are the places of surrogates
-module _ (n : ℕ) (w : List ℕ) (i : ℕ) (room : i + n < length w) where
-  first_is : (k : ℕ) → k < n → get_or (chunk i n w) k 0 ≡ get_or w (i + k) 0
-  first_is k l = get_or-chunk i n w k 0 l
-
-  second_is : (k : ℕ) → k < n → get_or (chunk (i + 1) n w) k 0 ≡ get_or w (i + k + 1) 0
-  second_is k l = get_or-chunk (i + 1) n w k 0 l ∙ ap (λ m. get_or w m 0) (omega arith)
-
-  to_lane : (k : ℕ) → k < n → SurrogateAt w (i + k) → IsSurrogateLane (chunk i n w) (chunk (i + 1) n w) k
-  to_lane k l s = (first_is k l ∙ s.first, omega (arith, second_is k l, s.second))
-
-  from_lane : (k : ℕ) → k < n → IsSurrogateLane (chunk i n w) (chunk (i + 1) n w) k → SurrogateAt w (i + k)
-  from_lane k l s = record { within = omega arith; first = sym (first_is k l) ∙ s.0; second = omega (arith, second_is k l, s.1) }
-
-  -- none in the lanes leaves none in the block
-  pub no_surrogate : IsFirstBelow (IsSurrogateLane (chunk i n w) (chunk (i + 1) n w)) 0 n None → IsFirstBelow (SurrogateAt w) i (i + n) None
-  no_surrogate clear j l u s = clear (j - i) (omega arith) (omega arith) (to_lane (j - i) (omega arith) (subst (SurrogateAt w) (omega arith) s))
-
-  pub least_surrogate : (k : ℕ) → IsFirstBelow (IsSurrogateLane (chunk i n w) (chunk (i + 1) n w)) 0 n (Some k)
-      → IsFirstBelow (SurrogateAt w) i (i + n) (Some (i + k))
-  least_surrogate k found =
-      let least = found.0 in
-      let within = found.1 in (
-        record {
-          not_before = omega arith;
-          here = from_lane k within least.here;
-          none_between = λ j l u s. least.none_between (j - i) (omega arith) (omega arith)
-              (to_lane (j - i) (omega arith) (subst (SurrogateAt w) (omega arith) s));
-        },
-        omega arith,
-      )
+    says : (k : ℕ) → k < n → IsTrue (test (get_or (chunk i n w) k 0) (get_or (chunk (i + 1) n w) k 0)) ↔ SurrogateAt w (i + k)
+    says k l =
+        let first_is = get_or-chunk i n w k 0 l in (
+          λ e.
+              let parts = and_parts _ _ e in
+              let least = leb-true 0xA0 _ parts.1 in
+              record { within = omega arith; first = sym first_is ∙ eqb-true _ 0xED parts.0; second = omega (arith, second_is k l, least) },
+          λ s. and_from _ _ (eq-eqb _ 0xED (first_is ∙ s.first)) (le-leb 0xA0 _ (omega (arith, second_is k l, s.second))),
+        )
 
 -- ED in no lane
 abbrev leads : ℕ → List ℕ → ℕ
 leads n xs = mask_l (map (top 7) (zip2 (λ a b. lane (eqb a b)) xs (replicate n 0xED))) % 2 ^ 64
 
 -- where ED stands in no lane no surrogate begins in the block
-pub no_first_byte : (w : List ℕ) (i : ℕ) → i + 64 < length w → leads 64 (chunk i 64 w) ≡ 0 → IsFirstBelow (SurrogateAt w) i (i + 64) None
+pub no_first_byte : (w : List ℕ) (i : ℕ) → i + 64 < length w → leads 64 (chunk i 64 w) ≡ 0 → Nowhere (SurrogateAt w) i (i + 64)
 no_first_byte w i room e j l u s =
     let long = length-chunk i 64 w (omega arith) in
     let empty = sym (bitmask_splat w8 eqb (chunk i 64 w) 64 0xED long (omega arith)) ∙ e in
@@ -250,6 +178,16 @@ none_at_least n least xs few p t h =
     let told = ap (λ ms. mask_l ms % 2 ^ 64) (tops_compared w8 leb (replicate n least) xs)
     ∙ mask_l-mod (zip2 leb (replicate n least) xs) 64 (omega (arith, long, few)) in
     none_high n least xs p (sym told ∙ eqb-true _ 0 t) h.0 h.1.0 h.1.1
+
+-- places at each end of some are clear of surrogates where a vector that shows either's is below the number
+pub none_shown : (w : List ℕ) (from m k stop end least : ℕ) (front back all : List ℕ) → (k ≤ m) × (end ≤ stop) → ShowsSurrogate w from m least front
+    → ShowsSurrogate w k stop least back → ((n : ℕ) → HasLane n front → HasLane n all) → ((n : ℕ) → HasLane n back → HasLane n all)
+    → (b : Bool) → (IsTrue b → ¬ (HasLane least all)) → Tells ⊥ (SurrogateAt w) from end b
+none_shown w from m k stop end least front back all l s t own other true h = λ j low high at. elim (cases_lt j m) [
+  | inl x ↦ h refl (own least (s j low x at))
+  | inr x ↦ h refl (other least (t j (omega (arith, l.0)) (omega (arith, l.1)) at))
+]
+none_shown w from m k stop end least front back all l s t own other false h = λ e _. e
 
 -- Units counted in lanes: what a block's lanes add up to.
 

@@ -2,12 +2,12 @@
 use Rattle.wtf8.proofs.Common.{◌≡◌, ℕ, zero, suc, ◌+◌, ◌≤◌, List, [], ◌∷◌, ◌++◌, length, take, drop, None, Some, refl, sym, ap, ◌∙◌, subst, arith, length-append}
 use Rattle.wtf8.proofs.Common.{append_assoc, take_at, drop_at, slice_get, IsCodePoint, units, IsClean, bytes, encoding, IsWellFormed, IsFront, CutsUnits, ◌<◌, ◌↔◌}
 use Rattle.wtf8.proofs.Common.{inl, inr, Option, get_or, cases_lt, same_from_push, take-append-drop, length-drop, Reads, true, false, ◌/◌, ◌%◌, lt-ltb, le-ltb}
-use Rattle.wtf8.proofs.Common.{drop-drop, units_of, Unread, unread_units, trail_by, held_in, behind_held, unread_after}
+use Rattle.wtf8.proofs.Common.{drop-drop, units_of, trail_by, held_in, behind_held, unread_after}
 use Rattle.std.proofs.Common.{drop-cons, length-take-le}
 use Rattle.std.proofs.lemmas.List.{take-append-le, drop-append-le}
 use Rattle.std.specs.Option.{option_to_list}
 use Rattle.std.specs.Prelude.{IsSome}
-use Rattle.wtf8.specs.UnitSteps.{unread_at, StepsUnit}
+use Rattle.wtf8.specs.UnitSteps.{StepsUnit}
 use Rattle.wtf8.specs.UnitCounts.{Divides}
 use Rattle.wtf8.specs.UnitPosition.{DividesPair}
 use Rattle.wtf8.specs.UnitSteps.{is_inside}

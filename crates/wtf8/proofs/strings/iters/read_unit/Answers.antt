@@ -1,10 +1,10 @@
-use Rattle.wtf8.proofs.Common.{◌≡◌, ℕ, ◌+◌, ◌<◌, ◌≤◌, ◌∙◌, List, [], ◌∷◌, ◌++◌, length, get_or, drop, arith, ap, sym, subst, refl, length-drop, encoding}
-use Rattle.wtf8.proofs.Common.{IsWellFormed, BeginsWithPoint, IsCodePoint, units, Unread, unread_units, trail_by, held_in, behind_held, unread_after}
+use Rattle.wtf8.proofs.Common.{◌≡◌, ℕ, ◌+◌, ◌<◌, ◌≤◌, ◌∙◌, List, ◌++◌, length, get_or, drop, arith, ap, sym, subst, refl, length-drop, encoding}
+use Rattle.wtf8.proofs.Common.{IsWellFormed, BeginsWithPoint, IsCodePoint, trail_by, behind_held}
 use Rattle.wtf8.specs.Gains.{IsReadAs}
 use Rattle.wtf8.proofs.lemmas.numbers.Encoding.{front_of}
 use Rattle.wtf8.specs.UnitSteps.{StepsUnit}
 use Rattle.wtf8.proofs.lemmas.strings.UnitCuts.{below, above, not_held, is_whole, steps_one, steps_lead, steps_trail}
-use Rattle.wtf8.proofs.lemmas.numbers.Readings.{first_of, moved, same_points, lead_of}
+use Rattle.wtf8.proofs.lemmas.numbers.Readings.{first_of, moved, lead_of}
 use Rattle.wtf8.proofs.strings.iters.read_unit.Goals as goal
 
 -- a code point of one byte
