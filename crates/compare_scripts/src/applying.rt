@@ -2,7 +2,7 @@
 use crate::machine::Machine;
 use crate::reader::{Reader, Register};
 use crate::stop::Stop;
-use crate::tape::{Shown, Tape};
+use crate::tape::Tape;
 use refusing::Refusing;
 use std::alloc::{AllocError, Global};
 use std::fmt::Write;
@@ -47,11 +47,7 @@ impl Machine {
             Ok(refused) => writeln!(tape.transcript, "all, {refused} refused")?,
             Err(Stopped { done }) => writeln!(tape.transcript, "stopped at {done}")?,
         }
-        write!(tape.transcript, "units")?;
-        for unit in string.as_wtf8().to_ill_formed_utf16() {
-            unit.show(&mut tape.transcript)?;
-        }
-        tape.write_line("")?;
+        tape.write_units(string.as_wtf8())?;
         let mut copy = Wtf8Buf::new(tape.alloc);
         copy.push_wtf8(string.as_wtf8())?;
         Ok(copy)
