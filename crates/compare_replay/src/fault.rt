@@ -2,7 +2,7 @@
 use std::alloc::AllocError;
 
 /// Why answers stopped before the end of the input.
-#[derive(Clone, Copy, PartialEq, Eq, Debug)]
+#[derive(Clone, Copy)]
 pub enum Fault {
     /// A read answered an error.
     Read,
