@@ -14,10 +14,10 @@ const NINE = [0x0061, 0x00E9, 0xD7FF, 0xD800, 0xDBFF, 0xDC00, 0xDFFF, 0xE000, 0x
 const hex = (number, digits) => number.toString(16).toUpperCase().padStart(digits, '0');
 const textOf = (units) => units.map((unit) => String.fromCharCode(unit)).join('');
 
-// The units of a string, each behind a space.
+// The units of a string.
 function unitsOf(text) {
-  let units = 'units';
-  for (let i = 0; i < text.length; i++) units += ' ' + hex(text.charCodeAt(i), 4);
+  let units = 'units:';
+  for (let i = 0; i < text.length; i++) units += hex(text.charCodeAt(i), 4);
   return units;
 }
 
@@ -28,7 +28,7 @@ const CALLS = {
     opcode: 65,
     run: (state) => {
       [state.first, state.second] = [state.second, state.first];
-      return unitsOf(state.first);
+      return 'swapped';
     },
   },
   length: { opcode: 68, run: (state) => `length ${state.first.length}` },

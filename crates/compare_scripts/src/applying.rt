@@ -2,7 +2,7 @@
 use crate::machine::Machine;
 use crate::reader::{Reader, Register};
 use crate::stop::Stop;
-use crate::tape::Tape;
+use crate::tape::{Shown, Tape};
 use refusing::Refusing;
 use std::alloc::{AllocError, Global};
 use std::fmt::Write;
@@ -47,7 +47,11 @@ impl Machine {
             Ok(refused) => writeln!(tape.transcript, "all, {refused} refused")?,
             Err(Stopped { done }) => writeln!(tape.transcript, "stopped at {done}")?,
         }
-        tape.write_units(string.as_wtf8())?;
+        write!(tape.transcript, "units")?;
+        for unit in string.as_wtf8().to_ill_formed_utf16() {
+            unit.show(&mut tape.transcript)?;
+        }
+        tape.write_line("")?;
         let mut copy = Wtf8Buf::new(tape.alloc);
         copy.push_wtf8(string.as_wtf8())?;
         Ok(copy)

@@ -42,15 +42,6 @@ impl<'s> Tape<'s> {
         writeln!(self.transcript, " {}: {dump}", view.len())
     }
 
-    /// Writes the units of a view, each behind a space, to the end of the line.
-    pub fn write_units(&mut self, view: Wtf8<'_>) -> Result<(), AllocError> {
-        write!(self.transcript, "units")?;
-        for unit in view.to_ill_formed_utf16() {
-            unit.show(&mut self.transcript)?;
-        }
-        self.write_line("")
-    }
-
     /// Writes an item behind a space, or a word where there is none.
     pub fn write_item<T: Shown>(&mut self, item: Option<T>, none: &str) -> Result<(), AllocError> {
         match item {

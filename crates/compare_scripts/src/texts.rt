@@ -29,7 +29,7 @@ impl Texts {
     }
 
     /// Does the call of an opcode, whose operands come next in the script, and writes what it answers. A call that
-    /// changes the first text answers its units afterwards.
+    /// makes or changes the first text answers its units afterwards.
     ///
     /// | Opcode | Operands | Call |
     /// |---|---|---|
@@ -50,7 +50,10 @@ impl Texts {
                 let units = tape.reader.units(tape.alloc, count)?;
                 self.first = UnitText::from_units(tape.alloc, units.as_slice())?;
             }
-            65 => mem::swap(&mut self.first, &mut self.second),
+            65 => {
+                mem::swap(&mut self.first, &mut self.second);
+                return Ok(tape.write_line("swapped")?);
+            }
             66 => {
                 let begin = tape.reader.number()?;
                 let end = tape.reader.number()?;
@@ -62,7 +65,7 @@ impl Texts {
             67 => self.first.concat(&self.second)?,
             _ => return self.look(opcode, tape),
         }
-        Ok(tape.write_units(self.first.as_wtf8())?)
+        Ok(write_units(tape, &self.first)?)
     }
 
     /// The calls that leave both texts as they are.
@@ -80,11 +83,11 @@ impl Texts {
             70 => {
                 let first = tape.reader.number()?;
                 let between = substring(tape.alloc, text, first, tape.reader.number()?)?;
-                tape.write_units(between.as_wtf8())?;
+                write_units(tape, &between)?;
             }
             71 => {
                 let unit = char_at(tape.alloc, text, tape.reader.number()?)?;
-                tape.write_units(unit.as_wtf8())?;
+                write_units(tape, &unit)?;
             }
             72 => {
                 let is_there = starts_with(text, &self.second, tape.reader.number()?);
@@ -112,6 +115,15 @@ impl Texts {
             "order {order} lt {is_below} gt {is_above} eq {is_equal}"
         )
     }
+}
+
+/// Writes the units of a text, to the end of the line.
+fn write_units(tape: &mut Tape<'_>, text: &UnitText<Global>) -> Result<(), AllocError> {
+    write!(tape.transcript, "units:")?;
+    for unit in text.as_wtf8().to_ill_formed_utf16() {
+        write!(tape.transcript, "{unit:04X}")?;
+    }
+    tape.write_line("")
 }
 
 /// At how many places a text can be cut and is found whole again.
