@@ -27,10 +27,9 @@ macro_rules! column {
                 pub fn new(units: &[u16]) -> Bench {
                     let string = Wtf8Buf::$from_units(units);
                     let points = string.code_points().collect();
-                    let [second, third, fourth] = std::array::from_fn(|_| string.clone());
                     Bench {
+                        strings: std::array::from_fn(|_| string.clone()),
                         units: units.to_vec(),
-                        strings: [string, second, third, fourth],
                         points,
                     }
                 }

@@ -1,6 +1,7 @@
 //! The fixed list of the crate's answers.
 
 use std::fs;
+use std::io::ErrorKind;
 use std::path::Path;
 
 use crate::original;
@@ -8,8 +9,11 @@ use crate::random::Random;
 use crate::script::{encode, Call};
 use crate::{building, generate, long, pairs, say};
 
+/// The first opcode of texts that are counted in units. In the order of texts only lines that begin with one stand behind it.
+const OF_TEXTS: &str = "40";
+
 /// Writes scripts in hexadecimal, one a line, to `stdin` in a folder, and the original crate's transcripts, with an
-/// empty line behind each, to `stdout` there.
+/// empty line behind each, to `stdout` there. The scripts of texts that `units/run` wrote stay behind them.
 pub fn run(folder: &Path, seed: u64, cases: u64) -> std::io::Result<()> {
     let mut scripts = chosen();
     let mut random = Random::new(seed);
@@ -23,8 +27,9 @@ pub fn run(folder: &Path, seed: u64, cases: u64) -> std::io::Result<()> {
         transcripts.push_str(&original::run(&bytes).transcript);
         transcripts.push('\n');
     }
-    fs::write(folder.join("stdin"), &lines)?;
-    fs::write(folder.join("stdout"), &transcripts)?;
+    let (texts, answers) = scripts_of_texts(folder)?;
+    fs::write(folder.join("stdin"), lines.clone() + &texts)?;
+    fs::write(folder.join("stdout"), transcripts.clone() + &answers)?;
     say!(
         "{} scripts, {} bytes; transcripts, {} bytes",
         scripts.len(),
@@ -32,6 +37,19 @@ pub fn run(folder: &Path, seed: u64, cases: u64) -> std::io::Result<()> {
         transcripts.len()
     );
     Ok(())
+}
+
+/// The scripts of a folder from the first of texts on, and their answers.
+fn scripts_of_texts(folder: &Path) -> std::io::Result<(String, String)> {
+    let read = |name: &str| match fs::read_to_string(folder.join(name)) {
+        Err(error) if error.kind() == ErrorKind::NotFound => Ok(String::new()),
+        read => read,
+    };
+    let (lines, transcripts) = (read("stdin")?, read("stdout")?);
+    let others = lines.lines().take_while(|line| *line < OF_TEXTS).count();
+    let texts = lines.split_inclusive('\n').skip(others).collect();
+    let answers = transcripts.split_inclusive("\n\n").skip(others).collect();
+    Ok((texts, answers))
 }
 
 /// Some scripts of each of the lists, the short ones whole.

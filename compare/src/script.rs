@@ -29,7 +29,8 @@ pub enum Kind {
 
 use Kind::{Builds, Number, Points, Register, Steps, Text, Units, Value};
 
-/// The calls by opcode, with the kinds of their operands.
+/// The calls of strings by opcode, with the kinds of their operands. The opcodes from 64 on are calls of texts that are
+/// counted in units, which `units/units.js` makes.
 pub const CALLS: [(&str, &[Kind]); 44] = [
     ("new", &[Register]),
     ("with_capacity", &[Register, Number]),

@@ -1,89 +1,94 @@
 // Scripts of calls on texts that are counted in units, and what the engine's own strings answer to them.
 //     node units.js random SEED CASES FOLDER   random scripts
 //     node units.js lists FOLDER               all lists of at most three units out of nine, and long texts, cut and compared
-//     node units.js fixed FOLDER               the long texts and some hundred of the others, which the gate replays
-// Each writes the scripts to FOLDER/stdin, one a line, and the answers to FOLDER/stdout.
+//     node units.js fixed FOLDER               the long texts and some hundred of the others, which the gate replays: they stand
+//                                              behind the scripts of strings that FOLDER has, in the place of those that stood there
+// Each writes the scripts to FOLDER/stdin, one a line in hexadecimal, and to FOLDER/stdout the answers, one a line, with an empty
+// line behind each script's. crates/compare_scripts/src/texts.rt has the calls by their opcodes.
 'use strict';
 const fs = require('fs');
 const path = require('path');
 
 const NINE = [0x0061, 0x00E9, 0xD7FF, 0xD800, 0xDBFF, 0xDC00, 0xDFFF, 0xE000, 0xFFFF];
 
-const hex = (number) => number.toString(16).toUpperCase().padStart(4, '0');
+const hex = (number, digits) => number.toString(16).toUpperCase().padStart(digits, '0');
 const textOf = (units) => units.map((unit) => String.fromCharCode(unit)).join('');
 
-// The units of a string, each with a full stop behind it.
+// The units of a string.
 function unitsOf(text) {
-  let units = '';
-  for (let i = 0; i < text.length; i++) units += hex(text.charCodeAt(i)) + '.';
+  let units = 'units:';
+  for (let i = 0; i < text.length; i++) units += hex(text.charCodeAt(i), 4);
   return units;
 }
 
-// The calls, by their names: their number in a script, and what they answer over the two strings of a state.
+// The calls, by their names: their opcode, and what they answer over the two strings of a state.
 const CALLS = {
-  set: { number: 0, run: (state, ...units) => unitsOf((state.first = textOf(units))) },
+  set: { opcode: 64, run: (state, ...units) => unitsOf((state.first = textOf(units))) },
   swap: {
-    number: 1,
+    opcode: 65,
     run: (state) => {
       [state.first, state.second] = [state.second, state.first];
-      return unitsOf(state.first);
+      return 'swapped';
     },
   },
-  length: { number: 2, run: (state) => String(state.first.length) },
+  length: { opcode: 68, run: (state) => `length ${state.first.length}` },
   unitAt: {
-    number: 3,
+    opcode: 69,
     run: (state, at) => {
       const code = state.first.charCodeAt(at);
       const unit = state.first[at];
-      const byCode = Number.isNaN(code) ? 'none' : hex(code);
-      return byCode + ' ' + (unit === undefined ? 'none' : unitsOf(unit).slice(0, 4));
+      const byCode = Number.isNaN(code) ? '-' : hex(code, 4);
+      return `unit ${unit === undefined ? '-' : hex(unit.charCodeAt(0), 4)} ${byCode}`;
     },
   },
   slice: {
-    number: 4,
+    opcode: 66,
     run: (state, begin, end) => {
-      if (end < begin || state.first.length < end) return 'none';
+      if (end < begin || state.first.length < end) return 'refused';
       return unitsOf((state.first = state.first.slice(begin, end)));
     },
   },
-  substring: { number: 5, run: (state, first, second) => unitsOf(state.first.substring(first, second)) },
-  charAt: { number: 6, run: (state, at) => unitsOf(state.first.charAt(at)) },
-  startsWith: { number: 7, run: (state, at) => String(state.first.startsWith(state.second, at)) },
-  concat: { number: 8, run: (state) => unitsOf((state.first += state.second)) },
+  substring: { opcode: 70, run: (state, first, second) => unitsOf(state.first.substring(first, second)) },
+  charAt: { opcode: 71, run: (state, at) => unitsOf(state.first.charAt(at)) },
+  startsWith: { opcode: 72, run: (state, at) => `starts ${state.first.startsWith(state.second, at)}` },
+  concat: { opcode: 67, run: (state) => unitsOf((state.first += state.second)) },
   compare: {
-    number: 9,
+    opcode: 73,
     run: ({ first, second }) => {
-      const order = first < second ? 'Less' : first > second ? 'Greater' : 'Equal';
-      return `${order} ${first < second} ${second < first} ${first === second}`;
+      const order = first < second ? 'less' : first > second ? 'greater' : 'equal';
+      return `order ${order} lt ${first < second} gt ${second < first} eq ${first === second}`;
     },
   },
   cutEverywhere: {
-    number: 10,
+    opcode: 74,
     run: ({ first }) => {
       let whole = 0;
       for (let at = 0; at <= first.length; at++) {
         const cut = first.slice(0, at) + first.slice(at);
         if (cut === first) whole += 1;
       }
-      return String(whole);
+      return `whole ${whole}`;
     },
   },
 };
 
-// A script as a line: each call's number and its operands, units behind their number.
+// A number of two bytes in hexadecimal, the lowest first.
+const bytesOf = (number) => hex(number & 0xFF, 2) + hex(number >> 8, 2);
+
+// A script as a line: each call's opcode and its operands, units behind their number.
 function lineOf(calls) {
   let line = '';
   for (const [name, ...operands] of calls) {
-    const words = name === 'set' ? [0, operands.length, ...operands] : [CALLS[name].number, ...operands];
-    for (const word of words) line += hex(word) + ' ';
+    const numbers = name === 'set' ? [operands.length, ...operands] : operands;
+    line += hex(CALLS[name].opcode, 2) + numbers.map(bytesOf).join('');
   }
-  return line;
+  return line + '\n';
 }
 
-// What a script's calls answer, with a space before each.
+// What a script's calls answer, a line each, and an empty line.
 function answersOf(calls) {
   const state = { first: '', second: '' };
-  return calls.map(([name, ...operands]) => ' ' + CALLS[name].run(state, ...operands)).join('');
+  return calls.map(([name, ...operands]) => CALLS[name].run(state, ...operands) + '\n').join('') + '\n';
 }
 
 // Numbers that follow from a seed alone.
@@ -277,13 +282,24 @@ function fixedScripts() {
   return [...lists, ...longScripts(), ...randomScripts(1, 100)];
 }
 
-function write(scripts, folder) {
-  for (const [name, textOfScript] of [['stdin', lineOf], ['stdout', answersOf]]) {
+// Writes the scripts and the answers behind those that are given.
+function write(scripts, folder, linesBefore = '', answersBefore = '') {
+  for (const [name, before, textOfScript] of [['stdin', linesBefore, lineOf], ['stdout', answersBefore, answersOf]]) {
     const file = fs.openSync(path.join(folder, name), 'w');
-    for (const calls of scripts) fs.writeSync(file, textOfScript(calls) + '\n');
+    fs.writeSync(file, before);
+    for (const calls of scripts) fs.writeSync(file, textOfScript(calls));
     fs.closeSync(file);
   }
   console.error(`${scripts.length} scripts, ${scripts.reduce((sum, calls) => sum + calls.length, 0)} calls`);
+}
+
+// The scripts of strings that a folder has, and their transcripts: those before the first whose first call is one of texts.
+function stringScripts(folder) {
+  const lines = fs.readFileSync(path.join(folder, 'stdin'), 'utf8').split(/(?<=\n)/);
+  const transcripts = fs.readFileSync(path.join(folder, 'stdout'), 'utf8').split(/(?<=\n\n)/);
+  const first = lines.findIndex((line) => parseInt(line.slice(0, 2), 16) >= CALLS.set.opcode);
+  const count = first < 0 ? lines.length : first;
+  return [lines.slice(0, count).join(''), transcripts.slice(0, count).join('')];
 }
 
 function stop(why) {
@@ -305,4 +321,4 @@ const WAYS = {
 const [way, ...words] = process.argv.slice(2);
 if (!Object.hasOwn(WAYS, way) || words.length !== WAYS[way].words + 1) stop('random SEED CASES FOLDER, lists FOLDER, or fixed FOLDER');
 const folder = words.pop();
-write(WAYS[way].scripts(...words), folder);
+write(WAYS[way].scripts(...words), folder, ...(way === 'fixed' ? stringScripts(folder) : []));

@@ -19,17 +19,21 @@ pub struct Counted {
 }
 
 impl Counted {
-    /// A string with a text of some units, no more than the string has.
-    pub fn new(alloc: Global, string: Wtf8Buf<Global>, units: &[u16]) -> Result<Counted, AllocError>
-        requires { length units.now ≤ length string.units }
-    {
-        let begin = units.len() / 4;
+    /// A string with a text of some units, and places in as many units as both have.
+    pub fn new(
+        alloc: Global,
+        string: Wtf8Buf<Global>,
+        units: &[u16],
+    ) -> Result<Counted, AllocError> {
+        let text = UnitText::from_units(alloc, units)?;
+        let len = text.unit_len().min(string.as_wtf8().unit_len());
+        let begin = len / 4;
         Ok(Counted {
             string,
-            text: UnitText::from_units(alloc, units)?,
-            middle: units.len() / 2,
+            text,
+            middle: len / 2,
             begin,
-            end: units.len() - begin,
+            end: len - begin,
         })
     }
 

@@ -1,10 +1,11 @@
 //! Calls in loops, for timings.
 //!
 //! Each round takes another one of some equal strings, so that a compiler cannot answer one round by the round before.
-ghost use Rattle.std.specs.Prelude.{◌<◌, ◌≤◌, length};
+ghost use Rattle.std.specs.Prelude.{◌<◌, ◌≤◌};
 
 use crate::counted::Counted;
 use std::alloc::{AllocError, Global};
+use std::array;
 use wtf8::{CodePoint, Wtf8, Wtf8Buf};
 
 /// How many equal strings a loop goes round.
@@ -36,16 +37,8 @@ impl Bench {
     ) -> Result<Bench, AllocError> {
         let string = Wtf8Buf::from_ill_formed_utf16(alloc, units)?;
         let points = string.as_wtf8().code_points().collect(alloc)?;
-        let second = string.clone()?;
-        let third = string.clone()?;
-        let fourth = string.clone()?;
         let counted = counted_units(number, units);
-        let strings = [
-            Counted::new(alloc, string, counted)?,
-            Counted::new(alloc, second, counted)?,
-            Counted::new(alloc, third, counted)?,
-            Counted::new(alloc, fourth, counted)?,
-        ];
+        let strings = array::try_from_fn(|_| Counted::new(alloc, string.clone()?, counted))?;
         Ok(Bench {
             alloc,
             units: Vec::from_slice(alloc, units)?,
@@ -157,9 +150,7 @@ impl Bench {
 
 /// The units that the loop of a number counts in. Where it counts in none the strings stand alone, so that they lie in
 /// memory as those of a library without such calls.
-fn counted_units(number: u32, units: &[u16]) -> &[u16]
-    ensures { length result.now ≤ length units.now }
-{
+fn counted_units(number: u32, units: &[u16]) -> &[u16] {
     if number < FIRST_COUNTED {
         return &units[..0];
     }

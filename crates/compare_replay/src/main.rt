@@ -1,24 +1,38 @@
 //! Reads scripts, one a line in hexadecimal, and prints their transcripts with an empty line behind each.
 #![tactic(auto)]
 
-ghost use Rattle.std.specs.Prelude.{◌≢◌, ℕ, List, OnOk, IfErr, IsErrOf};
-ghost use Rattle.compare_lines.specs.Hex.{IsHex, Spells};
+mod fault;
+mod hex;
 
-use compare_lines::{Fault, answer_lines, read_hex};
 use compare_scripts::run_script;
+use fault::Fault;
+use hex::read_hex;
 use std::alloc::Global;
+use std::io::ErrorKind;
 use std::process::ExitCode;
 
+/// Answers up to the end of the input or to the first fault, of which the standard error and the status say what it was.
 fn main(rt: HostRuntime) -> ExitCode {
-    answer_lines(&rt, rt.alloc(), run_line)
+    match print_transcripts(&rt, rt.alloc()) {
+        Ok(()) => ExitCode::SUCCESS,
+        Err(fault) => {
+            let _ = rt.eprintln(fault.text());
+            ExitCode::from(fault.status())
+        }
+    }
 }
 
-/// The transcript of the script that a line spells.
-fn run_line(alloc: Global, line: &str) -> Result<String, Fault>
-    ensures ok { OnOk result ((script : List ℕ) × Spells line.now script) }
-    ensures not_hexadecimal { IsErrOf result Fault.NotHexadecimal → ¬ IsHex line.now }
-    ensures fault { IfErr result (λ fault. (fault ≢ Fault.Read) × (fault ≢ Fault.Write)) }
-{
-    let script = read_hex(alloc, line)?.ok_or(Fault::NotHexadecimal)?;
-    run_script(alloc, script.as_slice())?.ok_or(Fault::Malformed)
+/// Prints the transcript of each line's script.
+fn print_transcripts<R: Input + Print>(rt: &R, alloc: Global) -> Result<(), Fault> {
+    for line in rt.lines(alloc) {
+        let line = match line {
+            Ok(line) => line,
+            Err(error) if error.kind() == ErrorKind::OutOfMemory => return Err(Fault::Memory),
+            Err(_) => return Err(Fault::Read),
+        };
+        let script = read_hex(alloc, line.as_str())?;
+        let transcript = run_script(alloc, script.as_slice())?.ok_or(Fault::Malformed)?;
+        println!(rt; "{transcript}").or(Err(Fault::Write))?;
+    }
+    Ok(())
 }

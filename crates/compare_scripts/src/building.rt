@@ -28,7 +28,11 @@ impl Machine {
             }
             2 => Wtf8Buf::from_string(String::from_str(alloc, tape.reader.text()?)?),
             3 => Wtf8Buf::from_str(alloc, tape.reader.text()?)?,
-            4 => Wtf8Buf::from_ill_formed_utf16(alloc, tape.reader.units(alloc)?.as_slice())?,
+            4 => {
+                let count = usize::from(tape.reader.byte()?);
+                let units = tape.reader.units(alloc, count)?;
+                Wtf8Buf::from_ill_formed_utf16(alloc, units.as_slice())?
+            }
             5 => Wtf8Buf::from_iter(alloc, tape.reader.points(alloc)?)?,
             6 => {
                 let other = self.string(tape.reader.register()?);

@@ -4,15 +4,12 @@ use crate::machine::Machine;
 use crate::reader::Register;
 use crate::recorder::write_hash_input;
 use crate::stop::Stop;
-use crate::tape::Tape;
+use crate::tape::{NONE, Tape};
 use crate::walking::{drain, write_steps};
 use std::alloc::AllocError;
 use std::borrow::CowStr;
 use std::fmt::Write;
 use wtf8::{CodePoint, UnitSlice, Wtf8};
-
-/// The word for a unit that is not there.
-const NONE: &str = "-";
 
 impl Machine {
     /// The calls that look at a string: writes what they answer.

@@ -3,15 +3,17 @@ use crate::looking::look_at_operands;
 use crate::reader::{Reader, Register, STRINGS};
 use crate::stop::Stop;
 use crate::tape::Tape;
+use crate::texts::{FIRST_OF_TEXTS, Texts};
 use std::alloc::{AllocError, Global};
 use std::array;
 use wtf8::{Wtf8, Wtf8Buf};
 
-/// The transcript of a script: what each of its calls answers, and for one that changes a string its length and bytes
-/// afterwards. A script that ends inside a call, or with a byte or a text that stands for nothing, has none.
+/// The transcript of a script: what each of its calls answers, and for one that changes a string its length and bytes, or
+/// a text its units, afterwards. A script that ends inside a call, or with a byte or a text that stands for nothing, has none.
 pub fn run_script(alloc: Global, script: &[u8]) -> Result<Option<String>, AllocError> {
     let mut machine = Machine {
         strings: array::from_fn(|_| Wtf8Buf::new(alloc)),
+        texts: Texts::new(alloc)?,
     };
     let mut tape = Tape {
         alloc,
@@ -34,15 +36,19 @@ pub fn run_script(alloc: Global, script: &[u8]) -> Result<Option<String>, AllocE
     Ok(Some(tape.transcript))
 }
 
-/// The strings that a script works on, by their registers.
+/// What a script works on: strings, by their registers, and texts that are counted in units.
 #[derive(Drop)]
 pub struct Machine {
     pub strings: [Wtf8Buf<Global>; STRINGS],
+    texts: Texts,
 }
 
 impl Machine {
     /// Does the call of an opcode, whose operands come next in the script, and writes what it answers.
     fn run(&mut self, opcode: u8, tape: &mut Tape<'_>) -> Result<(), Stop> {
+        if FIRST_OF_TEXTS <= opcode {
+            return self.texts.run(opcode, tape);
+        }
         if let 30..=32 = opcode {
             return look_at_operands(opcode, tape);
         }

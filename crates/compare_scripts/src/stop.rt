@@ -2,7 +2,7 @@
 use std::alloc::AllocError;
 
 /// Why a call is not done.
-#[derive(Clone, Copy, PartialEq, Eq, Debug)]
+#[derive(Clone, Copy)]
 pub enum Stop {
     /// A position or a range is refused.
     Refused,

@@ -1,12 +1,11 @@
 // What a script is read from and its transcript written to.
-ghost use Rattle.std.specs.Prelude.{◌≡◌, [], ◌∷◌, ◌++◌, OnOk};
-ghost use Rattle.std.specs.String.{string_bytes};
-ghost use Rattle.wtf8.specs.Hex.{hex};
-
 use crate::reader::{Reader, Register};
 use std::alloc::{AllocError, Global};
 use std::fmt::Write;
 use wtf8::{CodePoint, Wtf8, Wtf8Buf};
+
+/// The word for a unit that is not there.
+pub const NONE: &str = "-";
 
 /// A script that runs: what is left of it, and its transcript so far.
 #[derive(Drop)]
@@ -21,16 +20,12 @@ pub struct Tape<'s> {
 
 impl<'s> Tape<'s> {
     /// Writes a line.
-    pub fn write_line(&mut self, line: &str) -> Result<(), AllocError>
-        ensures { OnOk result (string_bytes self.new.transcript ≡ string_bytes self.old.transcript ++ (line.now ++ 10 ∷ [])) }
-    {
+    pub fn write_line(&mut self, line: &str) -> Result<(), AllocError> {
         writeln!(self.transcript, "{line}")
     }
 
     /// Writes a line with a word and the bytes of a text in hexadecimal.
-    pub fn write_text(&mut self, word: &str, text: &str) -> Result<(), AllocError>
-        ensures { OnOk result (string_bytes self.new.transcript ≡ string_bytes self.old.transcript ++ (word.now ++ 58 ∷ 32 ∷ (hex text.now ++ 10 ∷ []))) }
-    {
+    pub fn write_text(&mut self, word: &str, text: &str) -> Result<(), AllocError> {
         let dump = Wtf8::from_str(text).hex_dump(self.alloc)?;
         writeln!(self.transcript, "{word}: {dump}")
     }

@@ -10,7 +10,7 @@ use std::fmt::Write;
 const END: &str = "end";
 
 /// Writes what each of the script's next steps answers at an iterator, and then all that is left, to the end of the line.
-/// The iterator may be asked at every moment, behind its end too. `compare/README.md` has the steps.
+/// The iterator may be asked at every moment, behind its end too. `Kind` in `compare/src/script.rs` has the steps.
 pub fn write_steps<T: Shown, I: Iterator<Item = T> + Clone>(
     tape: &mut Tape<'_>,
     mut items: I,

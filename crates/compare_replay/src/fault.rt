@@ -1,11 +1,8 @@
 // Why answers stopped.
-ghost use Rattle.std.specs.Prelude.{◌≡◌};
-ghost use Rattle.compare_lines.specs.declared.fault.Fault.TheVariants.{Memory};
-
 use std::alloc::AllocError;
 
 /// Why answers stopped before the end of the input.
-#[derive(Clone, Copy, PartialEq, Eq, Debug)]
+#[derive(Clone, Copy)]
 pub enum Fault {
     /// A read answered an error.
     Read,
@@ -20,12 +17,8 @@ pub enum Fault {
 }
 
 impl Fault {
-    ghost use Rattle.compare_lines.specs.Fault.{status_of, text_of};
-
     /// The exit status that the program ends with: 1 for a failed read or write, 2 for want of memory, 3 for a bad line.
-    pub fn status(&self) -> u8
-        ensures { result ≡ status_of self.now }
-    {
+    pub fn status(self) -> u8 {
         match self {
             Fault::Read | Fault::Write => 1,
             Fault::Memory => 2,
@@ -34,9 +27,7 @@ impl Fault {
     }
 
     /// The text that the program prints, in lower-case words with no newline.
-    pub fn text(&self) -> &'static str
-        ensures { result.now ≡ text_of self.now }
-    {
+    pub fn text(self) -> &'static str {
         match self {
             Fault::Read => "read failed",
             Fault::Write => "write failed",
@@ -48,8 +39,6 @@ impl Fault {
 }
 
 impl From<AllocError> for Fault {
-    ghost from_gives = { λ _ fault. fault ≡ Memory };
-
     fn from(_: AllocError) -> Fault {
         Fault::Memory
     }
