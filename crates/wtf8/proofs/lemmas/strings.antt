@@ -3,3 +3,4 @@ pub mod Gains
 pub mod Positions
 pub mod Surrogates
 pub mod UnitCuts
+pub mod UnitMarks
