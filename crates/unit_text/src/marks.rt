@@ -12,12 +12,6 @@ use wtf8::{UnitMark, UnitSlice, Wtf8, Wtf8Buf, laws};
 /// How many units are between one mark and the next. A text of no more has none.
 const SPACING: usize = 128;
 
-/// The mark of every text.
-const START: UnitMark = UnitMark {
-    position: 0,
-    units: 0,
-};
-
 /// A mark at or before a number of units: where the text has as many bytes as units the position itself, else the last one
 /// that is kept, or the start.
 fn mark_before<A: Allocator>(
@@ -39,17 +33,16 @@ fn mark_before<A: Allocator>(
             units,
         };
     }
-    let Some(marks) = marks else {
-        return START;
-    };
-    let number = marks.len().min(units / SPACING);
-    if 0 < number {
-        let mark = marks[number - 1];
-        if mark.units <= units {
-            return mark;
+    if let Some(marks) = marks {
+        let number = marks.len().min(units / SPACING);
+        if 0 < number {
+            let mark = marks[number - 1];
+            if mark.units <= units {
+                return mark;
+            }
         }
     }
-    START
+    text.as_wtf8().start_mark()
 }
 
 /// A view of the text's end in which a number of units is near the front, and that number there.
@@ -138,9 +131,8 @@ fn last_or_start<A: Allocator>(text: &Wtf8Buf<A>, marks: &[UnitMark]) -> UnitMar
     requires { All (IsKept text.now.bytes text.now.units) marks.now }
     ensures { IsMark text.now.bytes text.now.units result.position result.units }
 {
-    laws::law_marks();
     if marks.is_empty() {
-        return START;
+        return text.as_wtf8().start_mark();
     }
     marks[marks.len() - 1]
 }

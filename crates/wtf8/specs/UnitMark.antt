@@ -22,10 +22,6 @@ IsMarkOf view mark = IsMark view.bytes.now (view_units view) mark.position mark.
 abbrev pub IsUndivided : List ℕ → ℕ → ℕ → Type 0
 IsUndivided u n m = (m ≡ n) ⊎ ((m + 1 ≡ n) × DividesPair u n)
 
--- The start of a string is a mark.
-abbrev pub StartIsMark : Type 0
-StartIsMark = (w u : List ℕ) → IsForm w u → IsMark w u 0 0
-
 -- Where a string has as many bytes as units, each position is a mark of as many units.
 abbrev pub EqualCountsAreMarks : Type 0
 EqualCountsAreMarks = (w u : List ℕ) (k : ℕ) → IsForm w u → length w ≡ length u → k ≤ length w → IsMark w u k k

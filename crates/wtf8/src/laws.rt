@@ -55,7 +55,7 @@ ghost use Rattle.wtf8.specs.StringLaws.{
   WhatFitsIsFound,
 };
 ghost use Rattle.wtf8.specs.Building.{CallsRunOnce, RunsAddUp};
-ghost use Rattle.wtf8.specs.UnitMark.{StartIsMark, EqualCountsAreMarks, MarksStay};
+ghost use Rattle.wtf8.specs.UnitMark.{EqualCountsAreMarks, MarksStay};
 ghost use Rattle.wtf8.specs.View.{view_units};
 
 use crate::strings::view::Wtf8;
@@ -140,10 +140,9 @@ pub fn law_positions()
     ensures back_in_whole { BackBoundariesAreOfWhole }
 {}
 
-/// Marks of strings: the start is one, each position is one where a string has as many bytes as units, and a mark before
-/// the last unit stays one where units are appended, also where a lead surrogate and a trail surrogate meet.
+/// Marks of strings: each position is one where a string has as many bytes as units, and a mark before the last unit stays
+/// one where units are appended, also where a lead surrogate and a trail surrogate meet.
 pub fn law_marks()
-    ensures start { StartIsMark }
     ensures equal { EqualCountsAreMarks }
     ensures kept { MarksStay }
 {}

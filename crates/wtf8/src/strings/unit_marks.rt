@@ -9,7 +9,7 @@ use crate::strings::view::Wtf8;
 /// A place in a string: a position in bytes, and how many units are before it. It is a mark of a string where the bytes
 /// before the position are the form of so many units and the bytes behind it that of the others, so it divides no pair.
 ///
-/// The mark 0, 0 is one of every string; others are found by `Wtf8::mark_at`.
+/// `Wtf8::start_mark` is the first, and others are found by `Wtf8::mark_at`.
 #[derive(Clone, Copy)]
 pub struct UnitMark {
     /// How many bytes are before it.
@@ -19,6 +19,17 @@ pub struct UnitMark {
 }
 
 impl<'a> Wtf8<'a> {
+    /// The mark at the start, before all units.
+    pub fn start_mark(&self) -> UnitMark
+        ensures mark { IsMarkOf self.now result }
+        ensures start { (result.position ≡ 0) × (result.units ≡ 0) }
+    {
+        UnitMark {
+            position: 0,
+            units: 0,
+        }
+    }
+
     /// The view behind a mark, which has the units behind it. It is a part of the same bytes and may outlive this view.
     pub fn behind_mark(&self, mark: UnitMark) -> Wtf8<'a>
         requires { IsMarkOf self.now mark }

@@ -3,7 +3,7 @@ use Rattle.wtf8.proofs.Common.{◌≡◌, ◌+◌, ◌<◌, ◌≤◌, ◌/◌, 
 use Rattle.wtf8.proofs.Common.{length-append, append_assoc, take_at, drop_at, take-append-drop, bytes-injective, units_of, encoding}
 use Rattle.wtf8.proofs.Common.{units, bytes, IsWellFormed, IsForm, CutsUnits, glue}
 use Rattle.std.proofs.Common.{length-take-le}
-use Rattle.wtf8.specs.UnitMark.{IsMark, StartIsMark, EqualCountsAreMarks, MarksStay}
+use Rattle.wtf8.specs.UnitMark.{IsMark, EqualCountsAreMarks, MarksStay}
 use Rattle.wtf8.proofs.lemmas.numbers.Encoding.{bytes-append, row_of, one, two, three, four}
 use Rattle.wtf8.proofs.lemmas.numbers.Readings.{units-append, units_bounds, units_one, units_two, well_formed_of, same_form}
 use Rattle.wtf8.proofs.lemmas.strings.Concatenation.{reads-glue, one_form, units_read}
@@ -67,7 +67,7 @@ bytes_by x front = omega (arith, ap length (bytes-append x.front front), length-
 units_by : {c : List ℕ} {k n : ℕ} (x : Parts c k n) (front : List ℕ) → length (units (x.front ++ front)) ≡ n + length (units front)
 units_by x front = omega (arith, ap length (units-append x.front front), length-append (units x.front) (units front), x.counted)
 
-pub cut_whole : {c d : List ℕ} {k n at : ℕ} (x : Parts c k n) → d ≡ x.back → (i m : ℕ) → n + i ≡ m → CutsUnits d i at None → CutsUnits c m (k + at) None
+pub cut_whole : {c d : List ℕ} {k n place : ℕ} (x : Parts c k n) → d ≡ x.back → (i m : ℕ) → n + i ≡ m → CutsUnits d i place None → CutsUnits c m (k + place) None
 cut_whole x e i m s y = record {
   front = x.front ++ y.front;
   back = y.back;
@@ -76,8 +76,8 @@ cut_whole x e i m s y = record {
   counted = omega (arith, units_by x y.front, y.counted, s);
 }
 
-pub cut_inside_whole : {c d : List ℕ} {k n at p : ℕ} (x : Parts c k n) → d ≡ x.back → (i m : ℕ) → n + i ≡ m → CutsUnits d i at (Some p)
-    → CutsUnits c m (k + at) (Some p)
+pub cut_inside_whole : {c d : List ℕ} {k n place p : ℕ} (x : Parts c k n) → d ≡ x.back → (i m : ℕ) → n + i ≡ m → CutsUnits d i place (Some p)
+    → CutsUnits c m (k + place) (Some p)
 cut_inside_whole x e i m s y = record {
   front = x.front ++ y.front;
   back = y.back;
@@ -99,9 +99,6 @@ pub mark_before_cut : {w : List ℕ} (h : IsWellFormed w) {k n p : ℕ} (m : ℕ
 mark_before_cut h {k} m e x = mark_by h x.front x.back k m x.joined x.front_len (omega (arith, x.counted.inside, e))
 
 -- The laws of marks.
-
-pub start_is_mark : StartIsMark
-start_is_mark w u f = mark_of f [] f.points 0 0 refl refl refl
 
 -- code points of as many bytes as units are of one each
 one_each : (c : List ℕ) (k : ℕ) → length (bytes c) ≡ length (units c) → k ≤ length (bytes c) → Parts c k k
