@@ -1,6 +1,6 @@
 use Rattle.wtf8.proofs.Common.{refl, []}
 use Rattle.wtf8.proofs.lemmas.strings.UnitMarks.{mark_by}
-use Rattle.wtf8.proofs.strings.unit_marks.Wtf8.start_mark.Goals as goal
+use Rattle.wtf8.proofs.strings.view.Wtf8.start_mark.Goals as goal
 
 pub returns-clause-mark : goal.returns-clause-mark
 returns-clause-mark c =

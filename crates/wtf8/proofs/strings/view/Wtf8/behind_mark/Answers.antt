@@ -1,6 +1,6 @@
 use Rattle.wtf8.proofs.Common.{◌∙◌, ap, units}
 use Rattle.wtf8.proofs.lemmas.numbers.Readings.{moved, well_formed_of}
-use Rattle.wtf8.proofs.strings.unit_marks.Wtf8.behind_mark.Goals as goal
+use Rattle.wtf8.proofs.strings.view.Wtf8.behind_mark.Goals as goal
 
 pub split_at-requires : goal.split_at-requires
 split_at-requires c = c.requires.position_within
