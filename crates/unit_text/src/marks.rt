@@ -120,9 +120,24 @@ pub(crate) fn add_marks<A: Allocator>(
             return;
         }
         last = view.mark_at(last, units);
-        if marks.push(last).is_err() {
+        let Ok(()) = marks.push(last) else {
             return;
-        }
+        };
+    }
+}
+
+/// The same, where marks are kept.
+pub(crate) fn add_to_kept<A: Allocator>(
+    text: &Wtf8Buf<A>,
+    count: usize,
+    marks: &mut Option<Vec<UnitMark, A>>,
+)
+    requires counted { count ≡ length text.now.units }
+    requires marks { IfSome marks.old (λ kept. All (IsKept text.now.bytes text.now.units) kept.items) }
+    ensures marks { IfSome marks.new (λ kept. All (IsKept text.now.bytes text.now.units) kept.items) }
+{
+    if let Some(marks) = marks {
+        add_marks(text, count, marks);
     }
 }
 

@@ -109,9 +109,7 @@ impl<A: Allocator> UnitText<A> {
         laws::law_marks();
         prove!(self.text.len() <= usize::MAX);
         self.count += other.count;
-        if let Some(marks) = &mut self.marks {
-            marks::add_marks(&self.text, self.count, marks);
-        }
+        marks::add_to_kept(&self.text, self.count, &mut self.marks);
         Ok(())
     }
 
