@@ -81,18 +81,16 @@ pub(crate) fn units_from<'a, A: Allocator>(
 }
 
 /// The marks of a text, as far as there is memory for them.
-pub(crate) fn marks_of<A: Allocator>(
-    alloc: A,
-    text: &Wtf8Buf<A>,
-    count: usize,
-) -> Vec<UnitMark, A>
+pub(crate) fn marks_of<A: Allocator>(alloc: A, text: &Wtf8Buf<A>, count: usize) -> Vec<UnitMark, A>
     requires counted { count ≡ length text.now.units }
     ensures marks { All (IsKept text.now.bytes text.now.units) result.items }
 {
     let mut marks = Vec::new(alloc);
     if text.len() != count {
         // Where there is no memory for all of them at once there may be some for a few.
-        let _is_found = marks.reserve_exact(count.saturating_sub(1) / SPACING).is_ok();
+        let _is_found = marks
+            .reserve_exact(count.saturating_sub(1) / SPACING)
+            .is_ok();
     }
     add_marks(text, count, &mut marks);
     marks
@@ -100,11 +98,7 @@ pub(crate) fn marks_of<A: Allocator>(
 
 /// Adds the marks that are missing behind those that are there, as far as there is memory for them. A text with as many
 /// bytes as units needs none.
-pub(crate) fn add_marks<A: Allocator>(
-    text: &Wtf8Buf<A>,
-    count: usize,
-    marks: &mut Vec<UnitMark, A>,
-)
+pub(crate) fn add_marks<A: Allocator>(text: &Wtf8Buf<A>, count: usize, marks: &mut Vec<UnitMark, A>)
     requires counted { count ≡ length text.now.units }
     requires marks { All (IsKept text.now.bytes text.now.units) marks.old.items }
     ensures marks { All (IsKept text.now.bytes text.now.units) marks.new.items }

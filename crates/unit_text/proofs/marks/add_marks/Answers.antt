@@ -1,7 +1,6 @@
-use Rattle.std.proofs.Common.{◌≡◌, ◌+◌, ◌*◌, ◌/◌, ◌-◌, ◌<◌, ◌≤◌, List, length, sym, subst, arith}
+use Rattle.std.proofs.Common.{◌+◌, ◌*◌, ◌<◌, length, subst, arith}
 use Rattle.std.proofs.lemmas.List.Elements.{All-push, All-same}
 use Rattle.wtf8.specs.UnitMark.{IsMark, IsUndivided}
-use Rattle.wtf8.specs.View.{view_units}
 use Rattle.unit_text.specs.Marks.{IsKept}
 use Rattle.unit_text.proofs.MarkLemmas.{kept_mark}
 use Rattle.unit_text.proofs.marks.add_marks.Goals as goal

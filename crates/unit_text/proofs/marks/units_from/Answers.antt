@@ -1,4 +1,4 @@
-use Rattle.std.proofs.Common.{◌≡◌, ◌+◌, ◌≤◌, ◌∙◌, length, arith}
+use Rattle.std.proofs.Common.{◌∙◌, arith}
 use Rattle.wtf8.specs.View.{view_units}
 use Rattle.unit_text.proofs.MarkLemmas.{same_units, as_many}
 use Rattle.unit_text.proofs.marks.units_from.Goals as goal

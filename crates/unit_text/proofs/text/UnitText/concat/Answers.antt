@@ -1,4 +1,3 @@
-use Rattle.std.proofs.Common.{◌≡◌, ◌+◌, ◌∙◌, ◌++◌, List, length, length-append, ap, arith}
 use Rattle.wtf8.specs.View.{view_units}
 use Rattle.unit_text.proofs.MarkLemmas.{if_kept}
 use Rattle.unit_text.proofs.text.UnitText.concat.Goals as goal

@@ -1,4 +1,4 @@
-use Rattle.wtf8.proofs.Common.{◌≡◌, ◌+◌, ◌-◌, inr, sym, subst, arith, CutsUnits, None, Some}
+use Rattle.wtf8.proofs.Common.{◌-◌, inr, subst, arith, CutsUnits}
 use Rattle.wtf8.proofs.lemmas.strings.Positions.{points_behind}
 use Rattle.wtf8.proofs.lemmas.strings.UnitCuts.{divided, divides_some}
 use Rattle.wtf8.proofs.lemmas.strings.UnitMarks.{parts, cut_whole, cut_inside_whole, mark_at_cut, mark_before_cut}
