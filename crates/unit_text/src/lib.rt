@@ -3,6 +3,7 @@
 
 mod comparisons;
 mod debug_text;
+mod marks;
 mod text;
 
 pub use text::UnitText;

@@ -4,20 +4,25 @@ ghost use Rattle.std.specs.Cmp.Lexicographic.{slice_cmp};
 ghost use Rattle.std.specs.Option.{option_to_list};
 ghost use Rattle.std.specs.Ordering.{MatchOrdering, nat_cmp};
 ghost use Rattle.wtf8.specs.Order.{Before};
+ghost use Rattle.wtf8.specs.UnitPosition.{units_of_slice};
 ghost use Rattle.wtf8.specs.View.{view_units};
 
+use crate::marks;
 use std::alloc::{AllocError, Allocator};
 use std::cmp::Ordering;
 use std::marker::Model;
-use wtf8::{CodePoint, Wtf8, Wtf8Buf};
+use wtf8::{CodePoint, UnitMark, UnitSlice, Wtf8, Wtf8Buf, laws};
 
 /// A text that is counted, cut and compared by its 16-bit units, as ECMAScript counts a string. It may hold any units,
-/// and is kept as WTF-8.
+/// and is kept as WTF-8, with its number of units. `mark_units` gives it marks, by which a unit is found at once wherever
+/// it is; a text with as many bytes as units needs none.
 ///
 /// Contracts see it as the list of its units.
 #[derive(Drop)]
 pub struct UnitText<A: Allocator> {
     pub(crate) text: Wtf8Buf<A>,
+    count: usize,
+    marks: Option<Vec<UnitMark, A>>,
 }
 
 impl<A: Allocator> Model for UnitText<A> {
@@ -26,6 +31,12 @@ impl<A: Allocator> Model for UnitText<A> {
     ghost Value = { List ℕ };
 
     ghost view = { λ t. t.text.units };
+
+    ghost use Rattle.std.specs.List.{All};
+    ghost use Rattle.std.specs.Prelude.{◌≡◌, length, IfSome};
+    ghost use Rattle.unit_text.specs.Marks.{IsKept};
+
+    ghost invariant = { λ t. (t.count ≡ length t.text.units) × IfSome t.marks (λ marks. All (IsKept t.text.bytes t.text.units) marks.items) };
 }
 
 impl<A: Allocator> UnitText<A> {
@@ -35,14 +46,27 @@ impl<A: Allocator> UnitText<A> {
         ensures empty { units.now ≡ [] → IsOk result }
     {
         let text = Wtf8Buf::from_ill_formed_utf16(alloc, units)?;
-        Ok(UnitText { text })
+        Ok(UnitText {
+            text,
+            count: units.len(),
+            marks: None,
+        })
+    }
+
+    /// Keeps marks of the text, with an allocator for them, so that `unit_at` and `slice_units` no longer count from the
+    /// front; from then on `concat` keeps those of what it appends. Where there is no memory for a mark it is left out, and
+    /// the text is slower there. It asks for none where the text is short or has as many bytes as units.
+    pub fn mark_units(&mut self, alloc: A)
+        ensures { self.new ≡ self.old }
+    {
+        self.marks = Some(marks::marks_of(alloc, &self.text, self.count));
     }
 
     /// The number of units.
     pub fn unit_len(&self) -> usize
         ensures { result ≡ length self.now }
     {
-        self.as_wtf8().unit_len()
+        self.count
     }
 
     /// The unit at a position, or `None` exactly where the position is at or past the number of units.
@@ -50,7 +74,11 @@ impl<A: Allocator> UnitText<A> {
         ensures unit { result ≡ slice_get self.now i }
         ensures none { IsNone result ↔ (length self.now ≤ i) }
     {
-        self.as_wtf8().unit_at(i)
+        if self.count <= i {
+            return None;
+        }
+        let (view, at) = marks::near(&self.text, self.count, &self.marks, i);
+        view.unit_at(at)
     }
 
     /// The units from a position to before another, as a text with the allocator that is given. Where a pair is cut its
@@ -61,12 +89,14 @@ impl<A: Allocator> UnitText<A> {
         ensures ok { IfOk result (λ t. t ≡ drop begin (take end self.now)) }
         ensures empty { begin ≡ end → IsOk result }
     {
-        let slice = self.as_wtf8().slice_units(begin, end);
-        let mut text = Wtf8Buf::new(alloc);
-        push_unit(&mut text, slice.trail)?;
-        text.push_wtf8(slice.whole)?;
-        push_unit(&mut text, slice.lead)?;
-        Ok(UnitText { text })
+        let count = end - begin;
+        let slice = marks::units_from(&self.text, self.count, &self.marks, begin, count);
+        let text = copied(alloc, slice)?;
+        Ok(UnitText {
+            text,
+            count,
+            marks: None,
+        })
     }
 
     /// Appends another text's units. After a refusal the text is as before; the empty text is never refused.
@@ -75,7 +105,12 @@ impl<A: Allocator> UnitText<A> {
         ensures err { OnErr result (self.new ≡ self.old) }
         ensures empty { other.now ≡ [] → IsOk result }
     {
-        self.text.push_wtf8(other.as_wtf8())
+        self.text.push_wtf8(other.as_wtf8())?;
+        laws::law_marks();
+        prove!(self.text.len() <= usize::MAX);
+        self.count += other.count;
+        marks::add_to_kept(&self.text, self.count, &mut self.marks);
+        Ok(())
     }
 
     /// The order of the units, as ECMAScript compares strings: the first units that differ decide, and a beginning
@@ -93,6 +128,18 @@ impl<A: Allocator> UnitText<A> {
     {
         self.text.as_wtf8()
     }
+}
+
+/// A text of what lies between two numbers of units. It asks for no memory where that is nothing.
+fn copied<A: Allocator>(alloc: A, slice: UnitSlice<'_>) -> Result<Wtf8Buf<A>, AllocError>
+    ensures ok { IfOk result (λ text. text.units ≡ units_of_slice slice.entry) }
+    ensures empty { units_of_slice slice.entry ≡ [] → IsOk result }
+{
+    let mut text = Wtf8Buf::new(alloc);
+    push_unit(&mut text, slice.trail)?;
+    text.push_wtf8(slice.whole)?;
+    push_unit(&mut text, slice.lead)?;
+    Ok(text)
 }
 
 /// Appends a unit, if there is one.

@@ -8,6 +8,8 @@ mod cutting;
 #[cfg(test)]
 mod lengths;
 #[cfg(test)]
+mod marks;
+#[cfg(test)]
 mod memory;
 #[cfg(test)]
 mod reading;

@@ -55,6 +55,7 @@ ghost use Rattle.wtf8.specs.StringLaws.{
   WhatFitsIsFound,
 };
 ghost use Rattle.wtf8.specs.Building.{CallsRunOnce, RunsAddUp};
+ghost use Rattle.wtf8.specs.UnitMark.{EqualCountsAreMarks, MarksStay};
 ghost use Rattle.wtf8.specs.View.{view_units};
 
 use crate::strings::view::Wtf8;
@@ -137,6 +138,13 @@ pub fn law_positions()
     ensures whole_in_front { WholeBoundariesAreOfFront }
     ensures whole_in_back { WholeBoundariesAreOfBack }
     ensures back_in_whole { BackBoundariesAreOfWhole }
+{}
+
+/// Marks of strings: each position is one where a string has as many bytes as units, and a mark before the last unit stays
+/// one where units are appended, also where a lead surrogate and a trail surrogate meet.
+pub fn law_marks()
+    ensures equal { EqualCountsAreMarks }
+    ensures kept { MarksStay }
 {}
 
 /// How long forms are: a beginning is no longer than the whole, and two lists together are no longer than both of them.

@@ -13,5 +13,6 @@ pub use numbers::code_point::CodePoint;
 pub use strings::buf::Wtf8Buf;
 pub use strings::build::{Build, Stopped};
 pub use strings::iters::{IllFormedUtf16CodeUnits, Wtf8CodePoints};
+pub use strings::unit_marks::UnitMark;
 pub use strings::unit_positions::UnitSlice;
 pub use strings::view::Wtf8;

@@ -3,4 +3,5 @@ pub mod Gains
 pub mod Positions
 pub mod Surrogates
 pub mod UnitCuts
+pub mod UnitMarks
 pub mod UnitsOut

@@ -234,7 +234,7 @@ pub record Beginning (u w : List ℕ) : Type 0 where
 all_front : (a b : List ℕ) → All IsUnit (a ++ b) → All IsUnit a
 all_front a b h = All-same IsUnit a (take (length a) (a ++ b)) (sym (take_at a b (length a) refl)) (All-take IsUnit (length a) (a ++ b) h)
 
-all_back : (a b : List ℕ) → All IsUnit (a ++ b) → All IsUnit b
+pub all_back : (a b : List ℕ) → All IsUnit (a ++ b) → All IsUnit b
 all_back a b h = All-same IsUnit b (drop (length a) (a ++ b)) (sym (drop_at a b (length a) refl)) (All-drop IsUnit (length a) (a ++ b) h)
 
 pub beginning : (a b w : List ℕ) → IsForm w (a ++ b) → Beginning a w

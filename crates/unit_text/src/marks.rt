@@ -1,0 +1,147 @@
+// The marks of a text, by which its units are found without counting from its front.
+ghost use Rattle.std.specs.List.{All};
+ghost use Rattle.std.specs.Prelude.{◌≡◌, ◌+◌, ◌≤◌, length, take, drop, IfSome};
+ghost use Rattle.unit_text.specs.Marks.{IsKept};
+ghost use Rattle.wtf8.specs.UnitMark.{IsMark};
+ghost use Rattle.wtf8.specs.UnitPosition.{units_of_slice};
+ghost use Rattle.wtf8.specs.View.{view_units};
+
+use std::alloc::Allocator;
+use wtf8::{UnitMark, UnitSlice, Wtf8, Wtf8Buf, laws};
+
+/// How many units are between one mark and the next. A text of no more has none.
+const SPACING: usize = 128;
+
+/// A mark at or before a number of units: where the text has as many bytes as units the position itself, else the last one
+/// that is kept, or the start.
+fn mark_before<A: Allocator>(
+    text: &Wtf8Buf<A>,
+    count: usize,
+    marks: &Option<Vec<UnitMark, A>>,
+    units: usize,
+) -> UnitMark
+    requires counted { count ≡ length text.now.units }
+    requires marks { IfSome marks.now (λ kept. All (IsKept text.now.bytes text.now.units) kept.items) }
+    requires within { units ≤ count }
+    ensures mark { IsMark text.now.bytes text.now.units result.position result.units }
+    ensures before { result.units ≤ units }
+{
+    laws::law_marks();
+    if text.len() == count {
+        return UnitMark {
+            position: units,
+            units,
+        };
+    }
+    if let Some(marks) = marks {
+        let number = marks.len().min(units / SPACING);
+        if 0 < number {
+            let mark = marks[number - 1];
+            if mark.units <= units {
+                return mark;
+            }
+        }
+    }
+    text.as_wtf8().start_mark()
+}
+
+/// A view of the text's end in which a number of units is near the front, and that number there.
+pub(crate) fn near<'a, A: Allocator>(
+    text: &'a Wtf8Buf<A>,
+    count: usize,
+    marks: &Option<Vec<UnitMark, A>>,
+    units: usize,
+) -> (Wtf8<'a>, usize)
+    requires counted { count ≡ length text.now.units }
+    requires marks { IfSome marks.now (λ kept. All (IsKept text.now.bytes text.now.units) kept.items) }
+    requires within { units ≤ count }
+    ensures units { drop result.1 (view_units result.0) ≡ drop units text.now.units }
+    ensures within { result.1 ≤ length (view_units result.0) }
+{
+    let mark = mark_before(text, count, marks, units);
+    (text.as_wtf8().behind_mark(mark), units - mark.units)
+}
+
+/// So many units from a number on.
+pub(crate) fn units_from<'a, A: Allocator>(
+    text: &'a Wtf8Buf<A>,
+    count: usize,
+    marks: &Option<Vec<UnitMark, A>>,
+    begin: usize,
+    many: usize,
+) -> UnitSlice<'a>
+    requires counted { count ≡ length text.now.units }
+    requires marks { IfSome marks.now (λ kept. All (IsKept text.now.bytes text.now.units) kept.items) }
+    requires within { begin + many ≤ count }
+    ensures { units_of_slice result ≡ take many (drop begin text.now.units) }
+{
+    let (rest, at) = near(text, count, marks, begin);
+    prove!(rest.len() <= usize::MAX);
+    rest.slice_units(at, at + many)
+}
+
+/// The marks of a text, as far as there is memory for them.
+pub(crate) fn marks_of<A: Allocator>(alloc: A, text: &Wtf8Buf<A>, count: usize) -> Vec<UnitMark, A>
+    requires counted { count ≡ length text.now.units }
+    ensures marks { All (IsKept text.now.bytes text.now.units) result.items }
+{
+    let mut marks = Vec::new(alloc);
+    if text.len() != count {
+        // Where there is no memory for all of them at once there may be some for a few.
+        let _is_found = marks
+            .reserve_exact(count.saturating_sub(1) / SPACING)
+            .is_ok();
+    }
+    add_marks(text, count, &mut marks);
+    marks
+}
+
+/// Adds the marks that are missing behind those that are there, as far as there is memory for them. A text with as many
+/// bytes as units needs none.
+pub(crate) fn add_marks<A: Allocator>(text: &Wtf8Buf<A>, count: usize, marks: &mut Vec<UnitMark, A>)
+    requires counted { count ≡ length text.now.units }
+    requires marks { All (IsKept text.now.bytes text.now.units) marks.old.items }
+    ensures marks { All (IsKept text.now.bytes text.now.units) marks.new.items }
+{
+    if text.len() == count {
+        return;
+    }
+    let view = text.as_wtf8();
+    let mut last = last_or_start(text, marks.as_slice());
+    for number in marks.len()..count.saturating_sub(1) / SPACING {
+        let units = (number + 1) * SPACING;
+        if units < last.units {
+            return;
+        }
+        last = view.mark_at(last, units);
+        let Ok(()) = marks.push(last) else {
+            return;
+        };
+    }
+}
+
+/// The same, where marks are kept.
+pub(crate) fn add_to_kept<A: Allocator>(
+    text: &Wtf8Buf<A>,
+    count: usize,
+    marks: &mut Option<Vec<UnitMark, A>>,
+)
+    requires counted { count ≡ length text.now.units }
+    requires marks { IfSome marks.old (λ kept. All (IsKept text.now.bytes text.now.units) kept.items) }
+    ensures marks { IfSome marks.new (λ kept. All (IsKept text.now.bytes text.now.units) kept.items) }
+{
+    if let Some(marks) = marks {
+        add_marks(text, count, marks);
+    }
+}
+
+/// The last of the marks, or the start where there are none.
+fn last_or_start<A: Allocator>(text: &Wtf8Buf<A>, marks: &[UnitMark]) -> UnitMark
+    requires { All (IsKept text.now.bytes text.now.units) marks.now }
+    ensures { IsMark text.now.bytes text.now.units result.position result.units }
+{
+    if marks.is_empty() {
+        return text.as_wtf8().start_mark();
+    }
+    marks[marks.len() - 1]
+}

@@ -1,0 +1,65 @@
+// Places in a string where a known number of units ends, from which other units are found.
+ghost use Rattle.std.specs.Prelude.{◌≡◌, ◌≤◌, length, drop};
+ghost use Rattle.wtf8.specs.UnitMark.{IsMarkOf, IsUndivided};
+ghost use Rattle.wtf8.specs.View.{view_units};
+
+use crate::strings::unit_positions::cut;
+use crate::strings::view::Wtf8;
+
+/// A place in a string: a position in bytes, and how many units are before it. It is a mark of a string where the bytes
+/// before the position are the form of so many units and the bytes behind it that of the others, so it divides no pair.
+///
+/// `Wtf8::start_mark` is the first, and others are found by `Wtf8::mark_at`.
+#[derive(Clone, Copy)]
+pub struct UnitMark {
+    /// How many bytes are before it.
+    pub position: usize,
+    /// How many units are before it.
+    pub units: usize,
+}
+
+impl<'a> Wtf8<'a> {
+    /// The mark at the start, before all units.
+    pub fn start_mark(&self) -> UnitMark
+        ensures mark { IsMarkOf self.now result }
+        ensures start { (result.position ≡ 0) × (result.units ≡ 0) }
+    {
+        UnitMark {
+            position: 0,
+            units: 0,
+        }
+    }
+
+    /// The view behind a mark, which has the units behind it. It is a part of the same bytes and may outlive this view.
+    pub fn behind_mark(&self, mark: UnitMark) -> Wtf8<'a>
+        requires { IsMarkOf self.now mark }
+        ensures units { view_units result ≡ drop mark.units (view_units self.now) }
+        ensures bytes { result.bytes.now ≡ drop mark.position self.now.bytes.now }
+    {
+        let (_, rest) = self.bytes.split_at(mark.position);
+        Wtf8::from_well_formed(rest)
+    }
+
+    /// The mark of a number of units, or of one less where the number divides a pair. It is looked for from another mark
+    /// on, at no more units, and takes time for the units between the two alone.
+    pub fn mark_at(&self, from: UnitMark, units: usize) -> UnitMark
+        requires mark { IsMarkOf self.now from }
+        requires order { from.units ≤ units }
+        requires within { units ≤ length (view_units self.now) }
+        ensures mark { IsMarkOf self.now result }
+        ensures last { IsUndivided (view_units self.now) units result.units }
+    {
+        let Some(cut) = cut(self.behind_mark(from), units - from.units) else {
+            return from;
+        };
+        prove!(self.len() <= usize::MAX);
+        let position = from.position + cut.position;
+        match cut.divided {
+            None => UnitMark { position, units },
+            Some(_) => UnitMark {
+                position,
+                units: units - 1,
+            },
+        }
+    }
+}
