@@ -1,7 +1,7 @@
 -- The items that a decoder gives are a reading of the units of its iterator.
-use Rattle.wtf8.proofs.Common.{◌≡◌, ◌<◌, inl, inr, ℕ, List, [], ◌∷◌, ◌++◌, Option, None, Some, Result, Ok, Err, MatchResult, refl, sym, ap, ◌∙◌, subst, arith}
+use Rattle.wtf8.proofs.Common.{◌≡◌, ◌<◌, inl, inr, ℕ, List, [], ◌∷◌, ◌++◌, Option, None, Some, Result, Ok, Err, refl, sym, ap, ◌∙◌, subst, arith}
 use Rattle.wtf8.proofs.Common.{Drains, peekable_steps, peekable_peeked, point_of, points_of, units_left, decode_steps, ReadsAll, IsClean}
-use Rattle.wtf8.proofs.Common.{IsCodePoint, IsLead, IsTrail, IsSurrogate, units_of, units, pair}
+use Rattle.wtf8.proofs.Common.{IsCodePoint, IsLead, IsTrail, units_of, units, pair}
 use Rattle.std.proofs.Common.{MatchOption}
 use Rattle.std.specs.Iterator.{Yields}
 use Rattle.std.specs.Iterator.Adapters.{peekable_source, PeeksNext}
