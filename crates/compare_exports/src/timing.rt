@@ -91,11 +91,7 @@ impl Bench {
 
     /// What a loop's call answers on a string and another one, as a number.
     #[inline(always)]
-    fn answer<const LOOP: u32>(
-        &self,
-        own: &Counted,
-        other: &Counted,
-    ) -> Result<u64, AllocError> {
+    fn answer<const LOOP: u32>(&self, own: &Counted, other: &Counted) -> Result<u64, AllocError> {
         let answer = match LOOP {
             1 => Wtf8Buf::from_ill_formed_utf16(self.alloc, self.units.as_slice())?.len() as u64,
             2 => collected_units(self.alloc, own.view())?,
