@@ -54,57 +54,74 @@ impl Bench {
         requires most { number ≤ 19 }
     {
         match number {
-            1 => self.sum(|_, _| Ok(
-                Wtf8Buf::from_ill_formed_utf16(self.alloc, self.units.as_slice())?.len() as u64,
-            )),
-            2 => self.sum(|own, _| collected_units(self.alloc, own.view())),
-            3 => self.sum(|own, _| {
-                let units = own.view().to_ill_formed_utf16();
-                Ok(units.fold(0u64, |sum, unit| sum.wrapping_add(u64::from(unit))))
-            }),
-            4 => self.sum(|own, _| {
-                let points = own.view().code_points();
-                Ok(points.fold(
-                    0u64,
-                    |sum, point| sum.wrapping_add(u64::from(point.to_u32())),
-                ))
-            }),
-            5 => self.sum(|own, _| Ok(own.view().as_str().is_some() as u64)),
-            6 => self.sum(|own, _| Ok(
-                own.view().to_string_lossy(self.alloc)?.as_str().len() as u64,
-            )),
-            7 => self.sum(|own, _| Ok(own.string.clone()?.into_string().is_ok() as u64)),
-            8 => self.sum(|_, _| self.push()),
+            1 => self.sum::<1>(),
+            2 => self.sum::<2>(),
+            3 => self.sum::<3>(),
+            4 => self.sum::<4>(),
+            5 => self.sum::<5>(),
+            6 => self.sum::<6>(),
+            7 => self.sum::<7>(),
+            8 => self.sum::<8>(),
             9 => self.extend(),
             10 => self.push_strings(),
-            11 => self.sum(|own, other| Ok((own.string == other.string) as u64)),
-            12 => self.sum(|own, other| Ok(own.string.cmp(&other.string).is_eq() as u64)),
-            13 => self.sum(|own, _| Ok(own.string.clone()?.len() as u64)),
-            14 => self.sum(|own, _| Ok(own.view().hex_dump(self.alloc)?.len() as u64)),
-            15 => self.sum(|own, _| Ok(own.text.unit_len() as u64)),
-            16 => self.sum(|own, _| Ok(u64::from(own.middle_unit()))),
-            17 => self.sum(|own, _| Ok(own.middle_half(self.alloc)?.as_wtf8().len() as u64)),
-            18 => self.sum(|own, other| Ok(own.text.cmp_units(&other.text).is_eq() as u64)),
-            19 => self.sum(|own, _| Ok(own.first_half()?.len() as u64)),
+            11 => self.sum::<11>(),
+            12 => self.sum::<12>(),
+            13 => self.sum::<13>(),
+            14 => self.sum::<14>(),
+            15 => self.sum::<15>(),
+            16 => self.sum::<16>(),
+            17 => self.sum::<17>(),
+            18 => self.sum::<18>(),
+            19 => self.sum::<19>(),
             _ => unreachable!(),
         }
     }
 
-    /// The sum of what is answered on each round's string and another one, which wraps round. Each loop is a function of its
-    /// own, so that where its code lies does not depend on the other loops.
+    /// The sum of what a loop's call answers on each round's string and another one, which wraps round. Each loop is a
+    /// function of its own, so that where its code lies does not depend on the other loops.
     #[inline(never)]
-    fn sum<F: Fn(&Counted, &Counted) -> Result<u64, AllocError>>(
-        &self,
-        answer: F,
-    ) -> Result<u64, AllocError>
-        requires { F.IsAlwaysCallable answer }
-    {
+    fn sum<const LOOP: u32>(&self) -> Result<u64, AllocError> {
         let mut sum = 0u64;
         for round in 0..self.rounds {
             let other = self.string_at(round / STRINGS as u32 + 1);
-            sum = sum.wrapping_add(answer(self.string_at(round), other)?);
+            sum = sum.wrapping_add(self.answer::<LOOP>(self.string_at(round), other)?);
         }
         Ok(sum)
+    }
+
+    /// What a loop's call answers on a string and another one, as a number.
+    #[inline(always)]
+    fn answer<const LOOP: u32>(&self, own: &Counted, other: &Counted) -> Result<u64, AllocError> {
+        let answer = match LOOP {
+            1 => Wtf8Buf::from_ill_formed_utf16(self.alloc, self.units.as_slice())?.len() as u64,
+            2 => collected_units(self.alloc, own.view())?,
+            3 => {
+                let units = own.view().to_ill_formed_utf16();
+                units.fold(0u64, |sum, unit| sum.wrapping_add(u64::from(unit)))
+            }
+            4 => {
+                let points = own.view().code_points();
+                points.fold(
+                    0u64,
+                    |sum, point| sum.wrapping_add(u64::from(point.to_u32())),
+                )
+            }
+            5 => own.view().as_str().is_some() as u64,
+            6 => own.view().to_string_lossy(self.alloc)?.as_str().len() as u64,
+            7 => own.string.clone()?.into_string().is_ok() as u64,
+            8 => self.push()?,
+            11 => (own.string == other.string) as u64,
+            12 => own.string.cmp(&other.string).is_eq() as u64,
+            13 => own.string.clone()?.len() as u64,
+            14 => own.view().hex_dump(self.alloc)?.len() as u64,
+            15 => own.text.unit_len() as u64,
+            16 => u64::from(own.middle_unit()),
+            17 => own.middle_half(self.alloc)?.as_wtf8().len() as u64,
+            18 => own.text.cmp_units(&other.text).is_eq() as u64,
+            19 => own.first_half()?.len() as u64,
+            _ => 0,
+        };
+        Ok(answer)
     }
 
     fn string_at(&self, round: u32) -> &Counted {
