@@ -1,11 +1,11 @@
 // Readers that give their bytes in pieces, are interrupted, or fail. Expected values are of Python's codecs, or plain text.
-use wtf8_uses::reading::{ReadError, read_utf16};
 use refusing::{REFUSALS, Refusal, Refusing};
 use std::alloc::{AllocError, Allocator, Global};
 use std::io;
 use std::io::{ErrorKind, Read};
 use std::test::Fail;
 use wtf8::Wtf8Buf;
+use wtf8_uses::reading::{ReadError, read_utf16};
 
 /// Gives at most `most` bytes a read, and fails once before the last `failing` of them; then it would go on.
 #[derive(Drop)]

@@ -2,10 +2,6 @@
 ghost use Rattle.std.specs.Prelude.{IfOk};
 ghost use Rattle.wtf8_uses.specs.Sorted.{AreInPointOrder};
 
-use wtf8_uses::interner::Interner;
-use wtf8_uses::{
-    appending, file_names, joining, maps, refusals, round_trips, sorting, table, units, well_formed,
-};
 use std::alloc::{AllocError, Global};
 use std::collections::HashMap;
 use std::hash::{BuildHasherDefault, FoldHasher};
@@ -13,6 +9,10 @@ use std::test::Fail;
 use unit_text::UnitText;
 use wtf8::{Build, CodePoint, Stopped, Wtf8, Wtf8Buf};
 use wtf8_tests::examples::expect_dump;
+use wtf8_uses::interner::Interner;
+use wtf8_uses::{
+    appending, file_names, joining, maps, refusals, round_trips, sorting, table, units, well_formed,
+};
 
 /// U+1F4A9 as two units, and its bytes.
 const LEAD: u16 = 0xD83D;

@@ -1,10 +1,10 @@
 // What the uses leave where memory is refused, and that they are done at each length where it is granted.
-use wtf8_uses::{appending, file_names, joining, refusals};
 use refusing::{REFUSALS, Refusal, Refusing};
 use std::alloc::{AllocError, Global};
 use std::test::Fail;
 use wtf8::{Build, CodePoint, Wtf8, Wtf8Buf};
 use wtf8_tests::examples::expect_dump;
+use wtf8_uses::{appending, file_names, joining, refusals};
 
 type Lent<'a> = &'a Refusing<Global>;
 

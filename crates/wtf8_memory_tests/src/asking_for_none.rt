@@ -1,11 +1,11 @@
 // Calls that ask for no memory, not even by a request whose refusal they ignore: nine requests are granted before them, and
 // all nine are left after them.
-use wtf8_tests::examples::{TEXT, TEXT_DUMP, expect_dump, point_of_unit, pushed};
 use refusing::Refusing;
 use std::alloc::{AllocError, Global};
 use std::borrow::CowStr;
 use std::test::Fail;
 use wtf8::{Build, Wtf8, Wtf8Buf};
+use wtf8_tests::examples::{TEXT, TEXT_DUMP, expect_dump, point_of_unit, pushed};
 
 type Lent<'a> = &'a Refusing<Global>;
 

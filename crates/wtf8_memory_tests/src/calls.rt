@@ -1,8 +1,10 @@
 // Lists of building calls.
-use wtf8_tests::examples::{JOINING, expect_dump, expect_units, joined, point_of_unit, points_of_units};
 use std::alloc::Global;
 use std::test::Fail;
 use wtf8::{Build, Wtf8Buf};
+use wtf8_tests::examples::{
+    JOINING, expect_dump, expect_units, joined, point_of_unit, points_of_units,
+};
 
 /// Fails unless a list of calls, so many of them refused truncations, builds a string of these bytes.
 fn expect_list(alloc: Global, calls: &[Build<'_>], refused: usize, dump: &str) -> Result<(), Fail> {

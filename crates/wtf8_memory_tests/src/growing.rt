@@ -1,9 +1,9 @@
 // Calls that grow a string: how many requests each makes, and what it leaves where one of them is refused.
-use wtf8_tests::examples::{TEXT, expect_dump, joined, point_of_unit, points_of_units};
 use refusing::{REFUSALS, Refusal, Refusing};
 use std::alloc::{AllocError, Global};
 use std::test::Fail;
 use wtf8::{Build, CodePoint, Wtf8Buf};
+use wtf8_tests::examples::{TEXT, expect_dump, joined, point_of_unit, points_of_units};
 
 type Lent<'a> = &'a Refusing<Global>;
 

@@ -1,9 +1,9 @@
 // Iterators whose lower hint is false, or whose upper hint is far above it.
-use wtf8_tests::examples::{expect_dump, expect_units, point_of_unit, pushed};
 use refusing::{REFUSALS, Refusing};
 use std::cell::Cell;
 use std::test::Fail;
 use wtf8::{CodePoint, Wtf8Buf};
+use wtf8_tests::examples::{expect_dump, expect_units, point_of_unit, pushed};
 
 /// A code point again and again, with hints of the test's choice, of which the lower one may be false. It counts the items
 /// that were taken.

@@ -1,10 +1,10 @@
 // Calls that ask for memory, on strings of each length: each is done where all its requests are granted, asks for the bytes
 // that it tells, and answers each request that is refused.
-use wtf8_tests::examples::{point_of_unit, points_of_units};
 use refusing::{REFUSALS, Refusing};
 use std::alloc::{AllocError, Global};
 use std::test::Fail;
 use wtf8::{Build, CodePoint, Wtf8Buf};
+use wtf8_tests::examples::{point_of_unit, points_of_units};
 
 type Lent<'a> = &'a Refusing<Global>;
 

@@ -1,9 +1,9 @@
 // Lists of building calls that are stopped by want of memory.
-use wtf8_tests::examples::{expect_dump, point_of_unit, pushed};
 use refusing::{REFUSALS, Refusal, Refusing};
 use std::alloc::{AllocError, Global};
 use std::test::Fail;
 use wtf8::{Build, CodePoint, Stopped, Wtf8Buf};
+use wtf8_tests::examples::{expect_dump, point_of_unit, pushed};
 
 /// Does a call by its name, a truncation where the position is a boundary or where there are so many units.
 fn call_named(text: &mut Wtf8Buf<Global>, call: Build<'_>) -> Result<(), AllocError> {

@@ -1,10 +1,10 @@
 // Calls that make a string or a text: how many requests each makes, and that it answers want of memory where one of them
 // is refused.
-use wtf8_tests::examples::{expect_dump, joined, points_of_units};
 use refusing::{REFUSALS, Refusing};
 use std::alloc::{AllocError, Global};
 use std::test::Fail;
 use wtf8::{CodePoint, Wtf8Buf};
+use wtf8_tests::examples::{expect_dump, joined, points_of_units};
 
 type Lent<'a> = &'a Refusing<Global>;
 

@@ -73,7 +73,10 @@ fn block_at<const N: usize>(bytes: &[u8], at: usize) -> [u8; N]
 
 /// Appends a block, for which there is room.
 #[inline(always)]
-pub(crate) fn push_block<T: Copy, const N: usize, A: Allocator>(items: &mut Vec<T, A>, block: [T; N])
+pub(crate) fn push_block<T: Copy, const N: usize, A: Allocator>(
+    items: &mut Vec<T, A>,
+    block: [T; N],
+)
     requires { length items.old.items + N ≤ vec_capacity items.old }
     ensures items { items.new.items ≡ items.old.items ++ block }
     ensures capacity { vec_capacity items.new ≡ vec_capacity items.old }
