@@ -51,7 +51,7 @@ fn first_surrogate_in_many(bytes: &[u8]) -> Option<usize>
     search::next_surrogate(bytes, 0)
 }
 
-/// Whether there are no more bytes than a block's, none of which can begin a surrogate.
+/// Whether there are 4 bytes or more, up to a block, none of which can begin a surrogate.
 #[inline(always)]
 fn is_short_and_below(bytes: &[u8]) -> bool
     ensures { IsTrue result → IsFirst (SurrogateAt bytes.now) 0 None }
@@ -59,7 +59,10 @@ fn is_short_and_below(bytes: &[u8]) -> bool
     let places = OneByte { bytes };
     let count = bytes.len();
     if count <= VECTOR {
-        return scan::is_vector_clear(&places, count);
+        if count < 8 {
+            return 4 <= count && scan::are_ends_clear::<4, OneByte<'_>>(&places, count);
+        }
+        return scan::are_ends_clear::<8, OneByte<'_>>(&places, count);
     }
     if count <= 32 {
         return scan::are_ends_clear::<16, OneByte<'_>>(&places, count);
