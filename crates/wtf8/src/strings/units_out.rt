@@ -1,9 +1,9 @@
 // The units of a string, appended to a vector of units.
-ghost use Rattle.std.specs.Prelude.{◌≡◌, ◌++◌, ◌+◌, ◌<◌, ◌≤◌, length, take, drop, IfSome, IfNone, IsOk, OnOk, OnErr, vec_len, vec_capacity};
+ghost use Rattle.std.specs.Prelude.{◌≡◌, ◌∷◌, ◌++◌, ◌+◌, ◌<◌, ◌≤◌, length, take, drop, IfSome, IfNone, IsOk, OnOk, OnErr, vec_len, vec_capacity};
 ghost use Rattle.wtf8.specs.CodePoint.{number};
 ghost use Rattle.wtf8.specs.UnitParts.{AreAscii};
 ghost use Rattle.wtf8.specs.Unicode.{units_of};
-ghost use Rattle.wtf8.specs.View.{view_units};
+ghost use Rattle.wtf8.specs.View.{view_points, view_units};
 
 use crate::lanes::{VECTOR, copies};
 use crate::numbers::code_point::CodePoint;
@@ -43,7 +43,7 @@ fn append_ascii_front<B: Allocator>(units: &mut Vec<u16, B>, bytes: &[u8]) -> us
     ensures capacity { vec_capacity units.new ≡ vec_capacity units.old }
 {
     let len = units.len();
-    if bytes.len() < VECTOR || units.capacity() - len < VECTOR {
+    if bytes.len() < VECTOR || 0x80 <= bytes[0] || units.capacity() - len < VECTOR {
         return 0;
     }
     let block = u8x16::from_slice(bytes);
@@ -84,7 +84,34 @@ fn append_point<'a, B: Allocator>(units: &mut Vec<u16, B>, view: Wtf8<'a>) -> Op
     Some(rest)
 }
 
-/// Appends the units at the front, those of a block of ASCII or those before a code point and of that one, for which there
+/// The first code point and the view behind it, where it is not ASCII.
+#[inline(always)]
+fn split_first_other(view: Wtf8<'_>) -> Option<(CodePoint, Wtf8<'_>)>
+    ensures points { IfSome result (λ x. view_points view.entry ≡ number x.0 ∷ view_points x.1) }
+{
+    match view.bytes {
+        [0x80..=0xFF, ..] => view.split_first(),
+        _ => None,
+    }
+}
+
+/// Appends the units of the code points before the next ASCII, for which there is room, and answers the view behind them.
+#[inline(always)]
+fn append_others<'a, B: Allocator>(units: &mut Vec<u16, B>, view: Wtf8<'a>) -> Wtf8<'a>
+    requires { vec_len units.old + length (view_units view) ≤ vec_capacity units.old }
+    ensures units { units.new.items ++ view_units result ≡ units.old.items ++ view_units view.entry }
+    ensures no_longer { length result.bytes.now ≤ length view.entry.bytes.now }
+    ensures capacity { vec_capacity units.new ≡ vec_capacity units.old }
+{
+    let mut rest = view;
+    while let Some((code_point, behind)) = split_first_other(rest) {
+        push_units(units, code_point);
+        rest = behind;
+    }
+    rest
+}
+
+/// Appends the units at the front, those of a block of ASCII or those before other code points and of these, for which there
 /// is room, and answers the view behind them, or `None` where the string is done.
 #[inline(always)]
 fn append_front<'a, B: Allocator>(units: &mut Vec<u16, B>, view: Wtf8<'a>) -> Option<Wtf8<'a>>
@@ -99,7 +126,8 @@ fn append_front<'a, B: Allocator>(units: &mut Vec<u16, B>, view: Wtf8<'a>) -> Op
     if count == VECTOR {
         return Some(behind);
     }
-    append_point(units, behind)
+    let rest = append_point(units, behind)?;
+    Some(append_others(units, rest))
 }
 
 impl<'a> Wtf8<'a> {

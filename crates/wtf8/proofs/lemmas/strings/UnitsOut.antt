@@ -1,7 +1,8 @@
 -- The string behind bytes of ASCII.
 use Rattle.wtf8.proofs.Common.{◌≡◌, ℕ, zero, suc, ◌<◌, ◌≤◌, List, [], ◌∷◌, ◌++◌, length, take, drop, get_or, refl, sym, ap, ◌∙◌, arith, AreAscii, IsWellFormed, units}
-use Rattle.wtf8.proofs.Common.{encoding}
-use Rattle.wtf8.proofs.lemmas.numbers.Encoding.{row_of, one, two, three, four}
+use Rattle.wtf8.proofs.Common.{encoding, bytes, length-append, Wtf8}
+use Rattle.wtf8.specs.View.{view_points}
+use Rattle.wtf8.proofs.lemmas.numbers.Encoding.{row_of, one, two, three, four, length-encoding_bounds}
 use Rattle.wtf8.proofs.lemmas.numbers.Readings.{first_of, units-cons_one}
 
 -- a first byte of ASCII is a code point
@@ -30,3 +31,9 @@ behind_ascii (suc k) (b ∷ v) h le low =
       whole = ap units f.points ∙ (units-cons_one f.begins.point f.rest (omega (arith, low.0, first.0))
           ∙ (ap (λ n. n ∷ units f.rest) first.0 ∙ ap (λ u. b ∷ u) behind.whole));
     }
+
+-- a string is longer than what is behind its first code point
+pub behind_first : (v r : Wtf8) (p : ℕ) → view_points v ≡ p ∷ view_points r → length r.bytes.now < length v.bytes.now
+behind_first v r p e =
+    let whole = sym v.well_formed.encoded ∙ ap bytes e in
+    omega (arith, ap length whole, length-append (encoding p) (bytes r.well_formed.points), ap length r.well_formed.encoded, length-encoding_bounds p)
