@@ -260,6 +260,18 @@ fn end_of_point(v: &[u16], at: usize) -> usize
     at + 1
 }
 
+/// Whether the four units from a place on are ASCII, where there are so many.
+#[inline(always)]
+fn begins_with_ascii(v: &[u16], at: usize) -> bool
+    requires { at < length v.now }
+{
+    FRONT <= v.len() - at
+        && v[at] < 0x80
+        && v[at + 1] < 0x80
+        && v[at + 2] < 0x80
+        && v[at + 3] < 0x80
+}
+
 /// Appends the bytes of the ASCII units from a place on and of the code point behind them, where there are four such units
 /// or more before another one, and answers where it ends and whether it is a scalar value.
 #[inline(always)]
@@ -294,8 +306,10 @@ fn append_part<A: Allocator>(
     ensures { IfOk result (λ part. (at < part.0) × (part.0 ≤ length v.now) × DividesNoPair v.now part.0
         × AppendsForm bytes.old.items bytes.new.items (take (part.0 - at) (drop at v.now)) part.1) }
 {
-    if let Some(part) = append_front(bytes, v, at)? {
-        return Ok(part);
+    if begins_with_ascii(v, at) {
+        if let Some(part) = append_front(bytes, v, at)? {
+            return Ok(part);
+        }
     }
     if let Some(taken) = mixed_blocks::append_block(bytes, v, at)? {
         return Ok((at + taken, true));
