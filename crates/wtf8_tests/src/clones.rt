@@ -3,7 +3,7 @@
 use crate::examples::{JOINING, TEXT, TEXT_ROW, joined};
 use std::alloc::{AllocError, Global};
 use std::test::Fail;
-use wtf8::{IllFormedUtf16CodeUnits, Wtf8, Wtf8CodePoints};
+use wtf8::{CodePoint, IllFormedUtf16CodeUnits, Wtf8, Wtf8Buf, Wtf8CodePoints};
 
 /// How many bytes the code points of these numbers have.
 fn bytes_of(numbers: &[u32]) -> usize {
@@ -161,5 +161,18 @@ fn clones_go_on_at_each_moment(rt: HostRuntime) -> Result<(), Fail> {
     let (units, numbers, _) = TEXT_ROW;
     assert!(rt; is_iterated(rt.alloc(), Wtf8::from_str(TEXT), units, numbers)?);
     assert!(rt; is_iterated(rt.alloc(), Wtf8::from_str(""), &[], &[])?);
+    Ok(())
+}
+
+#[test]
+fn copies_of_every_length_are_what_was_pushed(rt: HostRuntime) -> Result<(), AllocError> {
+    let mut string = Wtf8Buf::new(rt.alloc());
+    for length in 0..131 {
+        assert_eq!(rt; string.clone()?, string, "a clone of {length} bytes");
+        let mut appended = Wtf8Buf::new(rt.alloc());
+        appended.push_wtf8(string.as_wtf8())?;
+        assert_eq!(rt; appended, string, "{length} bytes appended");
+        string.push(CodePoint::from_u32_unchecked(0x21 + length % 94))?;
+    }
     Ok(())
 }

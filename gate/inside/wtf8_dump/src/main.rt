@@ -1,0 +1,6 @@
+#[cfg(test)]
+mod fakes;
+#[cfg(test)]
+mod hostile;
+#[cfg(test)]
+mod tests;
