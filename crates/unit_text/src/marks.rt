@@ -45,7 +45,9 @@ fn mark_before<A: Allocator>(
     text.as_wtf8().start_mark()
 }
 
-/// A view of the text's end in which a number of units is near the front, and that number there.
+/// A view of the text's end in which a number of units is near the front, and that number there. A text that is too short
+/// for marks is looked at as it is.
+#[inline]
 pub(crate) fn near<'a, A: Allocator>(
     text: &'a Wtf8Buf<A>,
     count: usize,
@@ -58,6 +60,9 @@ pub(crate) fn near<'a, A: Allocator>(
     ensures units { drop result.1 (view_units result.0) ≡ drop units text.now.units }
     ensures within { result.1 ≤ length (view_units result.0) }
 {
+    if count <= SPACING {
+        return (text.as_wtf8(), units);
+    }
     let mark = mark_before(text, count, marks, units);
     (text.as_wtf8().behind_mark(mark), units - mark.units)
 }
