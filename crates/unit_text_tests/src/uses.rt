@@ -11,7 +11,8 @@ use wtf8::{Build, CodePoint, Stopped, Wtf8, Wtf8Buf};
 use wtf8_tests::examples::expect_dump;
 use wtf8_uses::interner::Interner;
 use wtf8_uses::{
-    appending, file_names, joining, maps, refusals, round_trips, sorting, table, units, well_formed,
+    appending, file_names, joining, maps, points, refusals, round_trips, sorting, table, units,
+    well_formed,
 };
 
 /// U+1F4A9 as two units, and its bytes.
@@ -40,6 +41,29 @@ fn a_pair_is_appended_by_its_halves(rt: HostRuntime) -> Result<(), Fail> {
     assert!(rt; text.as_wtf8().is_code_point_boundary(1));
     let whole = appending::cut_and_joined(rt.alloc(), text.as_wtf8(), 1)?;
     expect_dump(rt.alloc(), whole.as_wtf8(), "61 F0 9F 92 A9")
+}
+
+#[test]
+fn what_is_behind_a_place_is_whole(rt: HostRuntime) -> Result<(), Fail> {
+    expect_dump(
+        rt.alloc(),
+        appending::behind_place(Wtf8::from_str("é/💩"), 2),
+        PAIR_DUMP,
+    )
+}
+
+#[test]
+fn the_same_calls_leave_equal_strings(rt: HostRuntime) -> Result<(), Stopped> {
+    let mut string = Wtf8Buf::new(rt.alloc());
+    let mut other = Wtf8Buf::new(rt.alloc());
+    let calls = [
+        Build::PushStr("é/"),
+        Build::Truncate(1),
+        Build::TruncateUnits(1),
+    ];
+    assert!(rt; appending::apply_alike(&mut string, &mut other, &calls)?);
+    assert_eq!(rt; string.as_wtf8().as_str(), Some("é"));
+    Ok(())
 }
 
 #[test]
@@ -148,6 +172,21 @@ fn a_path_has_a_folder_and_a_name(rt: HostRuntime) -> Result<(), Fail> {
 }
 
 #[test]
+fn a_name_is_pushed_and_found_in_its_folder(rt: HostRuntime) -> Result<(), Fail> {
+    let lead = Wtf8Buf::from_ill_formed_utf16(rt.alloc(), &[LEAD])?;
+    let trail = Wtf8Buf::from_ill_formed_utf16(rt.alloc(), &[TRAIL])?;
+    let mut path = lead.clone()?;
+    file_names::push_name(&mut path, trail.as_wtf8())?;
+    expect_dump(rt.alloc(), path.as_wtf8(), "ED A0 BD 5C ED B2 A9")?;
+    let same = file_names::join_bytes(rt.alloc(), lead.as_wtf8(), trail.as_wtf8())?;
+    assert!(rt; path == same);
+    assert!(rt; file_names::is_in_folder(path.as_wtf8(), lead.as_wtf8()));
+    assert!(rt; !file_names::is_in_folder(lead.as_wtf8(), lead.as_wtf8()));
+    assert!(rt; !file_names::is_in_folder(path.as_wtf8(), trail.as_wtf8()));
+    Ok(())
+}
+
+#[test]
 fn a_name_has_a_stem_and_an_extension(rt: HostRuntime) -> Result<(), Fail> {
     let name = Wtf8Buf::from_ill_formed_utf16(rt.alloc(), &PATH[5..])?;
     let parts = file_names::stem_and_extension(name.as_wtf8());
@@ -187,6 +226,10 @@ fn room_is_found_once(rt: HostRuntime) -> Result<(), Fail> {
     refusals::push_list(&mut string, &[Build::PushChar('a'), Build::PushStr("b")], 2)?;
     expect_dump(rt.alloc(), string.as_wtf8(), "F0 9F 92 A9 C3 A9 61 62")?;
     assert!(rt; refusals::is_kept_by_a_refusal(&mut string, CodePoint::from_char('c'))?);
+    let mut both = Wtf8Buf::from_ill_formed_utf16(rt.alloc(), &[LEAD])?;
+    let second = CodePoint::from_u32(u32::from(TRAIL)).ok_or("a code point")?;
+    refusals::push_two_points(&mut both, CodePoint::from_char('é'), second)?;
+    expect_dump(rt.alloc(), both.as_wtf8(), "ED A0 BD C3 A9 ED B2 A9")?;
     Ok(())
 }
 
@@ -205,6 +248,24 @@ fn units_are_counted(rt: HostRuntime) {
     assert_eq!(rt; units::nth_unit(text, 1), Some(LEAD));
     assert_eq!(rt; units::nth_unit(text, 2), Some(TRAIL));
     assert_eq!(rt; units::nth_unit(text, 3), None);
+    assert_eq!(rt; units::next_unit(text, 0), Some(LEAD));
+    assert_eq!(rt; units::next_unit(text, 2), None);
+}
+
+#[test]
+fn a_string_is_copied_by_its_code_points(rt: HostRuntime) -> Result<(), Fail> {
+    let text = Wtf8Buf::from_ill_formed_utf16(rt.alloc(), &[TRAIL, LEAD, TRAIL, 0x0041, LEAD])?;
+    let whole = "ED B2 A9 F0 9F 92 A9 41 ED A0 BD";
+    let copy = points::copy_by_points(rt.alloc(), text.as_wtf8())?;
+    expect_dump(rt.alloc(), copy.as_wtf8(), whole)?;
+    let collected = points::collect_points(rt.alloc(), text.as_wtf8())?;
+    expect_dump(rt.alloc(), collected.as_wtf8(), whole)?;
+    let mut front = points::first_points(rt.alloc(), text.as_wtf8(), 2)?;
+    expect_dump(rt.alloc(), front.as_wtf8(), "ED B2 A9 F0 9F 92 A9")?;
+    let back = points::points_behind(rt.alloc(), text.as_wtf8(), 2)?;
+    expect_dump(rt.alloc(), back.as_wtf8(), "41 ED A0 BD")?;
+    points::push_points(&mut front, back.as_wtf8())?;
+    expect_dump(rt.alloc(), front.as_wtf8(), whole)
 }
 
 #[test]
@@ -220,5 +281,8 @@ fn lone_surrogates_are_not_well_formed(rt: HostRuntime) -> Result<(), Fail> {
         let text = UnitText::from_units(rt.alloc(), list)?;
         assert_eq!(rt; well_formed::is_well_formed(&text), expected, "{list:?}");
     }
+    let broken = Wtf8Buf::from_ill_formed_utf16(rt.alloc(), &[0x0061, TRAIL, LEAD, TRAIL])?;
+    let mended = well_formed::to_well_formed(rt.alloc(), broken.as_wtf8())?;
+    assert_eq!(rt; mended.as_str(), "a\u{FFFD}💩");
     Ok(())
 }

@@ -5,7 +5,7 @@ use Rattle.std.specs.Ordering.{nat_cmp, MatchOrdering}
 use Rattle.std.specs.Str.{chars, IsUtf8}
 use Rattle.wtf8.specs.Unicode.{pair}
 use Rattle.wtf8.specs.Appending.{FitWithin, HasRoomFor}
-use Rattle.wtf8.specs.Form.{encoding, bytes, IsForm}
+use Rattle.wtf8.specs.Form.{encoding, bytes, IsClean, IsForm}
 use Rattle.wtf8.specs.Concatenation.{MeetsAsPair}
 use Rattle.wtf8.specs.Order.{Before}
 use Rattle.wtf8.specs.Surrogates.{AreScalar, lossy}
@@ -65,3 +65,7 @@ FormsAreOfViews = (t : Wtf8) (w u : List ℕ) → IsForm w u → view_units t �
 -- A string has room for units that fit within the room that is left.
 abbrev pub WhatFitsIsFound : Type 0
 WhatFitsIsFound = (s : UnitString) (v : List ℕ) (n : ℕ) → FitWithin v 0 n → length s.bytes + n ≤ s.capacity → HasRoomFor s v
+
+-- Code points that are scalar values are the characters of their bytes.
+abbrev pub CharactersComeBack : Type 0
+CharactersComeBack = (c : List ℕ) → IsClean c → AreScalar c → chars (bytes c) ≡ c

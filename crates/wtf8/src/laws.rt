@@ -1,6 +1,7 @@
 // Laws of the encoding: nothing runs here, the contracts are theorems about the definitions.
 ghost use Rattle.std.specs.List.{All};
-ghost use Rattle.std.specs.Prelude.{◌≡◌, ◌≢◌, ◌<◌, ℕ, length, slice_index, ◌↔◌};
+ghost use Rattle.std.specs.Prelude.{◌≡◌, ◌≢◌, ◌<◌, ◌≤◌, ◌+◌, ◌*◌, ◌^◌, ℕ, List, ◌∷◌, ◌++◌, length, take, slice_index, ◌↔◌};
+ghost use Rattle.std.specs.Str.{chars};
 ghost use Rattle.wtf8.specs.Laws.{
   UnitsHaveOneReading,
   ReadingsAreOfUnits,
@@ -53,11 +54,26 @@ ghost use Rattle.wtf8.specs.StringLaws.{
   FormsAreOfBuffers,
   FormsAreOfViews,
   WhatFitsIsFound,
+  CharactersComeBack,
 };
-ghost use Rattle.wtf8.specs.Building.{CallsRunOnce, RunsAddUp};
+ghost use Rattle.wtf8.specs.Building.{CallsRunOnce, RunsAddUp, Run};
+ghost use Rattle.wtf8.specs.CodePoint.{number};
+ghost use Rattle.wtf8.specs.Form.{Reads, bytes, encoding};
+ghost use Rattle.wtf8.specs.PointLaws.{
+  DrainedPointsAreLeft,
+  DrainedPointsAreTaken,
+  DrainedPointsAreBehind,
+  CollectedPointsAreLeft,
+  CollectedPointsAreTaken,
+  CollectedPointsAreBehind,
+};
+ghost use Rattle.wtf8.specs.Position.{IsBoundary, IsBack};
+ghost use Rattle.wtf8.specs.Surrogates.{AreScalar, lossy};
 ghost use Rattle.wtf8.specs.UnitMark.{EqualCountsAreMarks, MarksStay};
-ghost use Rattle.wtf8.specs.View.{view_units};
+ghost use Rattle.wtf8.specs.View.{view_points, view_units};
 
+use crate::numbers::code_point::CodePoint;
+use crate::strings::build::Build;
 use crate::strings::view::Wtf8;
 
 /// Each list of 16-bit units has exactly one reading as code points of which no two would join, and only such lists
@@ -184,6 +200,97 @@ pub fn law_equal_views(first: Wtf8<'_>, second: Wtf8<'_>)
 pub fn law_no_ascii(view: Wtf8<'_>, byte: u8)
     requires { byte < 0x80 }
     ensures { ((j : ℕ) → j < length view.entry.bytes.now → slice_index view.entry.bytes.now j ≢ byte) → All (λ x. x ≢ byte) (view_units view.entry) }
+{}
+
+/// Code point boundaries of this view: its start, its end, and both sides of each byte below 0x80. A caller calls it with
+/// the view, and has nothing to cite.
+pub fn law_boundaries(view: Wtf8<'_>)
+    ensures start { IsBoundary (view_units view.entry) 0 }
+    ensures end { IsBoundary (view_units view.entry) (length view.entry.bytes.now) }
+    ensures before { (k : ℕ) → k < length view.entry.bytes.now → slice_index view.entry.bytes.now k < 0x80 → IsBoundary (view_units view.entry) k }
+    ensures behind { (k : ℕ) → k < length view.entry.bytes.now → slice_index view.entry.bytes.now k < 0x80 → IsBoundary (view_units view.entry) (k + 1) }
+{}
+
+/// The code points of this view are the one reading of its units. A caller calls it with the view, and has nothing to
+/// cite.
+pub fn law_view_reading(view: Wtf8<'_>)
+    ensures reads { Reads (view_points view.entry) (view_units view.entry) }
+    ensures one { (c : List ℕ) → Reads c (view_units view.entry) → c ≡ view_points view.entry }
+{}
+
+/// How many code points, units and bytes this view has, each of them fewer than 2⁶⁴. A caller calls it with the view, and
+/// has nothing to cite.
+pub fn law_view_lengths(view: Wtf8<'_>)
+    ensures points { length (view_points view.entry) ≤ length (view_units view.entry) }
+    ensures units { length (view_units view.entry) ≤ length view.entry.bytes.now }
+    ensures bytes { length view.entry.bytes.now ≤ 3 * length (view_units view.entry) }
+    ensures fits { length view.entry.bytes.now < 2 ^ 64 }
+    ensures units_fit { length (view_units view.entry) < 2 ^ 64 }
+{
+    prove!(view.len() <= usize::MAX);
+}
+
+/// How many bytes the encoding of this code point has. A caller calls it with the code point, and has nothing to cite.
+pub fn law_encoding_length(code_point: CodePoint)
+    ensures one { number code_point < 0x80 → length (encoding (number code_point)) ≡ 1 }
+    ensures two { 0x80 ≤ number code_point → number code_point < 0x800 → length (encoding (number code_point)) ≡ 2 }
+    ensures three { 0x800 ≤ number code_point → number code_point < 0x10000 → length (encoding (number code_point)) ≡ 3 }
+    ensures four { 0x10000 ≤ number code_point → length (encoding (number code_point)) ≡ 4 }
+    ensures at_least_one { 1 ≤ length (encoding (number code_point)) }
+    ensures at_most_four { length (encoding (number code_point)) ≤ 4 }
+{}
+
+/// A view has the units of two others with an ASCII unit between them exactly where it has their bytes with that byte
+/// between them. A caller calls it with the three views and the number, and has nothing to cite.
+pub fn law_parted_by_ascii(whole: Wtf8<'_>, front: Wtf8<'_>, mark: u8, back: Wtf8<'_>)
+    requires { mark < 0x80 }
+    ensures { (whole.entry.bytes.now ≡ front.entry.bytes.now ++ mark ∷ back.entry.bytes.now) ↔ (view_units whole.entry ≡ view_units front.entry ++ mark ∷ view_units back.entry) }
+{}
+
+/// Where the units of a view begin with those of another and an ASCII unit, its bytes begin with the bytes of that other
+/// and that byte, and behind it are the other units. A caller calls it with the two views and the number, and has nothing
+/// to cite.
+pub fn law_begins_by_ascii(whole: Wtf8<'_>, front: Wtf8<'_>, mark: u8)
+    requires { mark < 0x80 }
+    ensures inside { (rest : List ℕ) → view_units whole.entry ≡ view_units front.entry ++ mark ∷ rest → length front.entry.bytes.now < length whole.entry.bytes.now }
+    ensures front { (rest : List ℕ) → view_units whole.entry ≡ view_units front.entry ++ mark ∷ rest → take (length front.entry.bytes.now) whole.entry.bytes.now ≡ front.entry.bytes.now }
+    ensures mark { (rest : List ℕ) → view_units whole.entry ≡ view_units front.entry ++ mark ∷ rest → slice_index whole.entry.bytes.now (length front.entry.bytes.now) ≡ mark }
+    ensures behind { (rest : List ℕ) → view_units whole.entry ≡ view_units front.entry ++ mark ∷ rest → IsBack (view_units whole.entry) (length front.entry.bytes.now + 1) rest }
+{}
+
+/// The characters that the bytes of this view spell are its code points where it holds no surrogate, and those of its
+/// lossy text are its code points made lossy. A caller calls it with the view, and has nothing to cite.
+pub fn law_view_characters(view: Wtf8<'_>)
+    ensures text { AreScalar (view_points view.entry) → chars view.entry.bytes.now ≡ view_points view.entry }
+    ensures lossy_text { chars (bytes (lossy (view_points view.entry))) ≡ lossy (view_points view.entry) }
+{}
+
+/// Code points that are scalar values come back where they are encoded and the bytes are read as a text.
+pub fn law_characters()
+    ensures { CharactersComeBack }
+{}
+
+/// From the same units this list of calls leads to the same units, with the same count of refused truncations. A caller
+/// calls it with the list.
+pub fn law_same_run(calls: &[Build<'_>])
+    ensures units { (u v w : List ℕ) (m n : ℕ) → Run u calls.now v m → Run u calls.now w n → v ≡ w }
+    ensures refused { (u v w : List ℕ) (m n : ℕ) → Run u calls.now v m → Run u calls.now w n → m ≡ n }
+{}
+
+/// What an iterator over code points gave until it answered `None` is what it had left, and of a part of it, by `take` or
+/// `skip`, that part.
+pub fn law_drained_points()
+    ensures all { DrainedPointsAreLeft }
+    ensures first { DrainedPointsAreTaken }
+    ensures rest { DrainedPointsAreBehind }
+{}
+
+/// What a collection was made of by `collect` of an iterator over code points is what that had left, and of a part of it,
+/// by `take` or `skip`, that part.
+pub fn law_collected_points()
+    ensures all { CollectedPointsAreLeft }
+    ensures first { CollectedPointsAreTaken }
+    ensures rest { CollectedPointsAreBehind }
 {}
 
 /// The bytes of a string that has the units of two others, one behind the other, by the bytes of these.

@@ -1,10 +1,10 @@
 //! What appending leaves: the whole of what was cut, both of two strings, and what was there.
-ghost use Rattle.std.specs.Prelude.{◌≡◌, ◌++◌, IfOk, OnOk};
-ghost use Rattle.wtf8.specs.Position.{IsBoundary};
+ghost use Rattle.std.specs.Prelude.{◌≡◌, ◌<◌, ◌+◌, ◌++◌, length, slice_index, IfOk, IsTrue, OnOk};
+ghost use Rattle.wtf8.specs.Position.{IsBoundary, IsMiddle};
 ghost use Rattle.wtf8.specs.View.{view_units};
 
 use std::alloc::{AllocError, Allocator};
-use wtf8::{Wtf8, Wtf8Buf};
+use wtf8::{Build, Stopped, Wtf8, Wtf8Buf, laws};
 
 /// A copy of a string that is cut at a code point boundary and joined again: it has the same units.
 pub fn cut_and_joined<A: Allocator>(
@@ -31,6 +31,31 @@ pub fn push_both<A: Allocator>(
 {
     text.push_wtf8(front)?;
     text.push_wtf8(back)
+}
+
+/// Whether the same list of calls leaves equal strings of equal ones: it does, where there was memory for it.
+pub fn apply_alike<A: Allocator>(
+    string: &mut Wtf8Buf<A>,
+    other: &mut Wtf8Buf<A>,
+    calls: &[Build<'_>],
+) -> Result<bool, Stopped>
+    requires { string.old.units ≡ other.old.units }
+    ensures { IfOk result (λ same. IsTrue same) }
+{
+    laws::law_same_run(calls);
+    string.apply_all(calls)?;
+    other.apply_all(calls)?;
+    Ok(*string == *other)
+}
+
+/// What is behind the byte at a place, which is ASCII: no code point is divided there.
+pub fn behind_place<'a>(text: Wtf8<'a>, place: usize) -> Wtf8<'a>
+    requires inside { place < length text.bytes.now }
+    requires ascii { slice_index text.bytes.now place < 0x80 }
+    ensures { IsMiddle (view_units text.entry) (place + 1) (length text.entry.bytes.now) (view_units result) }
+{
+    laws::law_boundaries(text);
+    text.slice(place + 1, text.len())
 }
 
 /// The empty string appended changes nothing.

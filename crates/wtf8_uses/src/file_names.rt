@@ -1,12 +1,13 @@
 //! File names of Windows: 16-bit units that nobody checked.
-ghost use Rattle.std.specs.Prelude.{◌≡◌, ◌<◌, ◌∷◌, ◌++◌, IfOk, IfSome, IfNone};
+ghost use Rattle.std.specs.Prelude.{◌≡◌, ◌↔◌, ℕ, List, ◌<◌, ◌∷◌, ◌++◌, IfOk, IfSome, IfNone, IsTrue, OnOk, OnErr};
 ghost use Rattle.std.specs.Cow.{cow_str_bytes};
+ghost use Rattle.wtf8.specs.Appending.{AppendsUnits, KeepsContents};
 ghost use Rattle.wtf8.specs.Form.{bytes};
 ghost use Rattle.wtf8.specs.Surrogates.{lossy};
 ghost use Rattle.wtf8.specs.View.{view_points, view_units};
 ghost use Rattle.wtf8_uses.specs.FileName.{IsCutAtLast, IsMark, HasNoMark};
 
-use std::alloc::{AllocError, Global};
+use std::alloc::{AllocError, Allocator, Global};
 use std::borrow::CowStr;
 use wtf8::{Wtf8, Wtf8Buf, laws};
 
@@ -37,6 +38,46 @@ pub fn join(alloc: Global, folder: Wtf8<'_>, name: Wtf8<'_>) -> Result<Wtf8Buf<G
     ensures { IfOk result (λ path. path.units ≡ view_units folder.entry ++ 0x5C ∷ view_units name.entry) }
 {
     with_mark(alloc, folder, '\\', name)
+}
+
+/// A folder and a name with `\` between them, in bytes: nothing joins across an ASCII character.
+pub fn join_bytes(
+    alloc: Global,
+    folder: Wtf8<'_>,
+    name: Wtf8<'_>,
+) -> Result<Wtf8Buf<Global>, AllocError>
+    ensures { IfOk result (λ path. path.bytes ≡ folder.entry.bytes.now ++ 0x5C ∷ name.entry.bytes.now) }
+{
+    let path = join(alloc, folder, name)?;
+    laws::law_parted_by_ascii(path.as_wtf8(), folder, b'\\', name);
+    Ok(path)
+}
+
+/// Appends `\` and a name to a path, or nothing of them: room for both is found first, and then no push is refused.
+pub fn push_name<A: Allocator>(path: &mut Wtf8Buf<A>, name: Wtf8<'_>) -> Result<(), AllocError>
+    ensures ok { OnOk result (AppendsUnits path.old (0x5C ∷ view_units name.entry) path.new) }
+    ensures kept { OnErr result (KeepsContents path.old path.new) }
+{
+    let Some(more) = name.len().checked_add(1) else {
+        return Err(AllocError);
+    };
+    path.reserve(more)?;
+    path.push_char('\\')?;
+    path.push_wtf8(name)
+}
+
+/// Whether a path is in a folder: its units are those of the folder, `\`, and others. No unit is copied.
+pub fn is_in_folder(path: Wtf8<'_>, folder: Wtf8<'_>) -> bool
+    ensures { IsTrue result ↔ ((rest : List ℕ) × (view_units path.entry ≡ view_units folder.entry ++ 0x5C ∷ rest)) }
+{
+    laws::law_begins_by_ascii(path, folder, b'\\');
+    let end = folder.len();
+    if path.len() <= end || path.ascii_byte_at(end) != b'\\' {
+        return false;
+    }
+    let front = path.slice_to(end);
+    laws::law_equal_views(front, folder);
+    front == folder
 }
 
 /// A stem and an extension with `.` between them.

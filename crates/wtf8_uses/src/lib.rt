@@ -7,6 +7,7 @@ pub mod file_names;
 pub mod interner;
 pub mod joining;
 pub mod maps;
+pub mod points;
 pub mod reading;
 pub mod refusals;
 pub mod round_trips;

@@ -2,6 +2,8 @@
 ghost use Rattle.std.specs.Prelude.{◌≡◌, ℕ, List, ◌++◌, IfOk, OnOk, OnErr, IsTrue};
 ghost use Rattle.wtf8.specs.Appending.{AppendsUnits, FitWithin, KeepsContents};
 ghost use Rattle.wtf8.specs.Building.{Append};
+ghost use Rattle.wtf8.specs.CodePoint.{number};
+ghost use Rattle.wtf8.specs.Unicode.{units_of};
 ghost use Rattle.wtf8.specs.View.{view_units};
 
 use std::alloc::{AllocError, Allocator};
@@ -37,6 +39,22 @@ pub fn push_both<A: Allocator>(
     string.reserve(both)?;
     string.push_wtf8(front)?;
     string.push_wtf8(back)
+}
+
+/// Appends two code points, or none of them: room for eight bytes is found first, and then no push is refused.
+pub fn push_two_points<A: Allocator>(
+    string: &mut Wtf8Buf<A>,
+    first: CodePoint,
+    second: CodePoint,
+) -> Result<(), AllocError>
+    ensures ok { OnOk result (AppendsUnits string.old (units_of (number first) ++ units_of (number second)) string.new) }
+    ensures kept { OnErr result (KeepsContents string.old string.new) }
+{
+    laws::law_encoding_length(first);
+    laws::law_encoding_length(second);
+    string.reserve(8)?;
+    string.push(first)?;
+    string.push(second)
 }
 
 /// Appends what a list of pushes and extensions appends, or nothing of it, where that is at most so many bytes: room for

@@ -1,8 +1,8 @@
 //! A string as a list of units.
-ghost use Rattle.std.specs.Prelude.{◌≡◌, length, slice_get};
+ghost use Rattle.std.specs.Prelude.{◌≡◌, ◌<◌, ◌+◌, length, slice_get};
 ghost use Rattle.wtf8.specs.View.{view_units};
 
-use wtf8::Wtf8;
+use wtf8::{Wtf8, laws};
 
 /// The unit at a place, counted from 0, by the iterator; `None` where there are no more than so many. `Wtf8::unit_at`
 /// answers the same and skips whole blocks of bytes.
@@ -10,6 +10,15 @@ pub fn nth_unit(text: Wtf8<'_>, place: usize) -> Option<u16>
     ensures { result ≡ slice_get (view_units text.entry) place }
 {
     text.to_ill_formed_utf16().nth(place)
+}
+
+/// The unit behind a place that is below the number of units; `None` behind the last one.
+pub fn next_unit(text: Wtf8<'_>, place: usize) -> Option<u16>
+    requires { place < length (view_units text) }
+    ensures { result ≡ slice_get (view_units text.entry) (place + 1) }
+{
+    laws::law_view_lengths(text);
+    text.unit_at(place + 1)
 }
 
 /// The number of units, by the iterator. `Wtf8::unit_len` answers the same and skips whole blocks of bytes.

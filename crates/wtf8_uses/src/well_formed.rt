@@ -1,15 +1,30 @@
-//! `isWellFormed` of ECMAScript's strings, over texts that are counted in units. More calls of these strings are in the
+//! `isWellFormed` and `toWellFormed` of ECMAScript's strings, over texts that are counted in units. More calls of these strings are in the
 //! module `strings`.
-ghost use Rattle.std.specs.Prelude.{◌↔◌, ℕ, List, IsTrue};
+ghost use Rattle.std.specs.Prelude.{◌≡◌, ◌↔◌, ℕ, List, IfOk, IsTrue};
+ghost use Rattle.std.specs.Cow.{cow_str_bytes};
+ghost use Rattle.std.specs.Str.{chars};
 ghost use Rattle.wtf8.specs.Form.{Reads};
-ghost use Rattle.wtf8.specs.Surrogates.{AreScalar};
+ghost use Rattle.wtf8.specs.Surrogates.{AreScalar, lossy};
+ghost use Rattle.wtf8.specs.View.{view_units};
 
-use std::alloc::Allocator;
+use std::alloc::{AllocError, Allocator, Global};
+use std::borrow::CowStr;
 use unit_text::UnitText;
+use wtf8::{Wtf8, laws};
 
 /// Whether each surrogate of a text is in a pair: the code points that its units stand for are scalar values.
 pub fn is_well_formed<A: Allocator>(text: &UnitText<A>) -> bool
     ensures { IsTrue result ↔ ((c : List ℕ) → Reads c text.now → AreScalar c) }
 {
     text.as_wtf8().as_str().is_some()
+}
+
+/// `toWellFormed`: the text whose characters are the code points that the units stand for, with U+FFFD for each surrogate
+/// in no pair.
+pub fn to_well_formed<'a>(alloc: Global, text: Wtf8<'a>) -> Result<CowStr<'a, Global>, AllocError>
+    ensures { IfOk result (λ t. (c : List ℕ) → Reads c (view_units text.entry) → chars (cow_str_bytes t) ≡ lossy c) }
+{
+    laws::law_view_reading(text);
+    laws::law_view_characters(text);
+    text.to_string_lossy(alloc)
 }

@@ -1,10 +1,10 @@
 // Owned strings.
-ghost use Rattle.std.specs.Prelude.{◌≡◌, ℕ, List, [], ◌∷◌, ◌+◌, ◌*◌, ◌<◌, ◌≤◌, length, take, IsTrue, OnOk, OnErr, IsOk, IfOk, IfErr, ◌↔◌, vec_capacity, if◌then◌else◌};
+ghost use Rattle.std.specs.Prelude.{◌≡◌, ℕ, List, [], ◌∷◌, ◌++◌, ◌+◌, ◌*◌, ◌<◌, ◌≤◌, length, take, IsTrue, OnOk, OnErr, IsOk, IfOk, IfErr, ◌↔◌, vec_capacity, if◌then◌else◌};
 ghost use Rattle.std.specs.Str.{chars};
 ghost use Rattle.std.specs.String.{string_bytes};
 ghost use Rattle.wtf8.specs.Appending.{AppendsUnits, KeepsContents, HasRoomFor, AddsLength};
 ghost use Rattle.wtf8.specs.CodePoint.{number};
-ghost use Rattle.wtf8.specs.Form.{IsWellFormed, IsForm, Reads, bytes};
+ghost use Rattle.wtf8.specs.Form.{IsWellFormed, IsForm, Reads, bytes, encoding};
 ghost use Rattle.wtf8.specs.OneForm.{IsWellFormed-prop, KnownScalar-prop};
 ghost use Rattle.wtf8.specs.Position.{IsBoundary, IsFront};
 ghost use Rattle.wtf8.specs.Surrogates.{AreScalar, lossy};
@@ -234,6 +234,10 @@ impl<A: Allocator> Wtf8Buf<A> {
         // A push whose bytes fit is never refused, and the capacity never shrinks.
         ensures room { HasRoomFor self.old (units_of (number code_point)) → IsOk result }
         ensures capacity { self.old.capacity ≤ self.new.capacity }
+
+        // In bytes: the length grows by the code point's own bytes at most, for which there is room enough.
+        ensures at_most { OnOk result (length self.new.bytes ≤ length self.old.bytes + length (encoding (number code_point))) }
+        ensures room_left { length self.old.bytes + length (encoding (number code_point)) ≤ self.old.capacity → IsOk result }
     {
         concat::push_point(&mut self.bytes, &mut self.is_known_utf8, code_point)
     }
@@ -250,6 +254,15 @@ impl<A: Allocator> Wtf8Buf<A> {
         // A push whose bytes fit is never refused, and the capacity never shrinks.
         ensures room { HasRoomFor self.old (units_of c) → IsOk result }
         ensures capacity { self.old.capacity ≤ self.new.capacity }
+
+        // In bytes: the character's own bytes come behind those that were there, and room for these is room enough.
+        ensures bytes { OnOk result (self.new.bytes ≡ self.old.bytes ++ encoding c) }
+        ensures at_most { OnOk result (length self.new.bytes ≤ length self.old.bytes + length (encoding c)) }
+        ensures room_left { length self.old.bytes + length (encoding c) ≤ self.old.capacity → IsOk result }
+
+        // An ASCII character is one byte.
+        ensures ascii_length { c < 0x80 → OnOk result (length self.new.bytes ≡ length self.old.bytes + 1) }
+        ensures ascii_room { c < 0x80 → length self.old.bytes + 1 ≤ self.old.capacity → IsOk result }
     {
         concat::push_scalar(&mut self.bytes, c)
     }

@@ -78,6 +78,10 @@ gains_behind h k n = gains_by (units k.points) h (form_behind (form_of h) (form_
 abbrev one_point : (p : ℕ) → IsCodePoint p → IsWellFormed (encoding p)
 one_point p range = record { points = p ∷ []; clean = range; encoded = append-nil (encoding p) }
 
+-- they are the form of its units
+abbrev pub point_form : (p : ℕ) → IsCodePoint p → IsForm (encoding p) (units_of p)
+point_form p range = record { points = p ∷ []; reads = record { clean = range; same_units = append-nil (units_of p) }; encoded = append-nil (encoding p) }
+
 -- one code point that came behind
 pub gains_point : {w : List ℕ} (h : IsWellFormed w) (p : ℕ) → IsCodePoint p → ¬ (MeetsAsPair h.points (p ∷ [])) → GainsUnits w (w ++ encoding p) (units_of p)
 gains_point {w} h p range n = subst (GainsUnits w (w ++ encoding p)) (append-nil (units_of p)) (gains_behind h (one_point p range) n)

@@ -1,0 +1,140 @@
+-- The laws that are called by value: of the views that a caller has at hand.
+use Rattle.wtf8.proofs.Common.{◌≡◌, ◌<◌, ◌+◌, ℕ, List, [], ◌∷◌, ◌++◌, ◌∙◌, ◌↔◌, refl, ap, sym, subst, arith, get_or, length, length-append, take, take_at, append_assoc}
+use Rattle.wtf8.proofs.Common.{units, bytes, Reads, IsForm, IsBack, Wtf8, view_units, view_form, AreScalar, lossy, chars, bytes_are_encodes}
+use Rattle.wtf8.proofs.Common.{All, IsUnit, number, numbers, Drains, Option, Run, Build}
+use Rattle.wtf8.specs.declared.numbers.code_point.CodePoint.{CodePoint}
+use Rattle.std.proofs.Common.{slice_index}
+use Rattle.std.proofs.lemmas.Iterator.{YieldsList, items_from_drains, YieldsList-from_take}
+use Rattle.std.proofs.lemmas.Iterator.Adapters.{YieldsList-from_skip}
+use Rattle.std.proofs.lemmas.Iterator.Consumers.{YieldsList-from_first}
+use Rattle.std.proofs.lemmas.Str.{chars-encodes}
+use Rattle.std.proofs.Math.Seq.{get_or-append_seam}
+use Rattle.std.specs.Iterator.Adapters.{take_source, take_count, skip_source, skip_count}
+use Rattle.wtf8.specs.PointLaws.{DrainedPointsAreLeft, DrainedPointsAreTaken, DrainedPointsAreBehind}
+use Rattle.wtf8.specs.PointLaws.{CollectedPointsAreLeft, CollectedPointsAreTaken, CollectedPointsAreBehind}
+use Rattle.wtf8.specs.StringLaws.{CharactersComeBack}
+use Rattle.wtf8.specs.View.{view_points}
+use Rattle.wtf8.proofs.lemmas.numbers.Encoding.{encoding_one, bytes-append, bytes-pushed}
+use Rattle.wtf8.proofs.lemmas.numbers.Readings.{clean-append, no_lead, no_trail, same_reading, units_one, units-append}
+use Rattle.wtf8.proofs.lemmas.strings.Concatenation.{equal_forms, one_form, units_read}
+use Rattle.wtf8.proofs.lemmas.strings.Gains.{all_back}
+use Rattle.wtf8.proofs.lemmas.strings.Surrogates.{scalars_true, scalars-lossy}
+use Rattle.wtf8.proofs.lemmas.laws.Laws.{run_once}
+
+-- the code points of a view are the one reading of its units
+pub view_reads : (t : Wtf8) → Reads (view_points t) (view_units t)
+view_reads t = record { clean = t.well_formed.clean; same_units = refl }
+
+pub one_view_reading : (t : Wtf8) (c : List ℕ) → Reads c (view_units t) → c ≡ view_points t
+one_view_reading t c r = same_reading c (view_points t) r.clean t.well_formed.clean r.same_units
+
+-- An ASCII unit between two lists of units.
+
+-- a number below 80 in front of a form
+abbrev ascii_form : {x v : List ℕ} (b : ℕ) → b < 0x80 → IsForm x v → IsForm (b ∷ x) (b ∷ v)
+ascii_form b l g = record {
+  points = b ∷ g.points;
+  reads = record {
+    clean = clean-append (b ∷ []) g.points (omega arith) g.reads.clean (no_lead [] b (λ p. omega (arith, p.0, l)));
+    same_units = ap (λ u. u ++ units g.points) (units_one b (omega arith)) ∙ ap (λ u. b ∷ u) g.reads.same_units;
+  };
+  encoded = ap (λ w. w ++ bytes g.points) (encoding_one b l) ∙ ap (λ w. b ∷ w) g.encoded;
+}
+
+-- and between two of them
+ascii_between : {w u x v : List ℕ} (b : ℕ) → b < 0x80 → (f : IsForm w u) (g : IsForm x v) → Reads (f.points ++ b ∷ g.points) (u ++ b ∷ v)
+ascii_between {u = u} b l f g =
+    let behind = (ascii_form b l g).reads in
+    record {
+      clean = clean-append f.points (b ∷ g.points) f.reads.clean behind.clean (no_trail b g.points (λ t. omega (arith, t.0, l)));
+      same_units = units-append f.points (b ∷ g.points) ∙ (ap (λ a. a ++ units (b ∷ g.points)) f.reads.same_units ∙ ap (λ a. u ++ a) behind.same_units);
+    }
+
+ascii_between_form : {w u x v : List ℕ} (b : ℕ) → b < 0x80 → IsForm w u → IsForm x v → IsForm (w ++ b ∷ x) (u ++ b ∷ v)
+ascii_between_form {w} b l f g = record {
+  points = f.points ++ b ∷ g.points;
+  reads = ascii_between b l f g;
+  encoded = bytes-append f.points (b ∷ g.points) ∙ (ap (λ a. a ++ bytes (b ∷ g.points)) f.encoded ∙ ap (λ a. w ++ a) (ascii_form b l g).encoded);
+}
+
+-- a view has the units of two others with an ASCII unit between them exactly where it has their bytes so
+pub parted_by_ascii : (whole front back : Wtf8) (b : ℕ) → b < 0x80
+    → (whole.bytes.now ≡ front.bytes.now ++ b ∷ back.bytes.now) ↔ (view_units whole ≡ view_units front ++ b ∷ view_units back)
+parted_by_ascii whole front back b l =
+    equal_forms whole.bytes.now _ (view_units whole) _ (view_form whole) (ascii_between_form b l (view_form front) (view_form back))
+
+-- what a view has whose units begin with those of another and an ASCII unit
+pub record BeginsByAscii (whole front : Wtf8) (b : ℕ) (rest : List ℕ) : Type 0 where
+  pub inside : length front.bytes.now < length whole.bytes.now
+  pub front_bytes : take (length front.bytes.now) whole.bytes.now ≡ front.bytes.now
+  pub mark : slice_index whole.bytes.now (length front.bytes.now) ≡ b
+  pub behind : IsBack (view_units whole) (length front.bytes.now + 1) rest
+
+pub begins_by_ascii : (whole front : Wtf8) (b : ℕ) (rest : List ℕ) → b < 0x80 → view_units whole ≡ view_units front ++ b ∷ rest → BeginsByAscii whole front b rest
+begins_by_ascii whole front b rest l e =
+    let w = front.bytes.now in
+    let f = view_form front in
+    let all = units_read (view_points whole) (view_units front ++ b ∷ rest) (subst (Reads (view_points whole)) e (view_reads whole)) in
+    let back = one_form rest (all_back (view_units front ++ b ∷ []) rest (subst (All IsUnit) (sym (append_assoc (view_units front) (b ∷ []) rest)) all)) in
+    let same : whole.bytes.now ≡ w ++ b ∷ back.one =
+    (equal_forms whole.bytes.now (w ++ b ∷ back.one) (view_units whole) (view_units front ++ b ∷ rest) (view_form whole) (ascii_between_form b l f back.has)).1 e in
+    let reads = subst (Reads (view_points front ++ b ∷ back.has.points)) (sym e) (ascii_between b l f back.has) in
+    record {
+      inside = omega (arith, ap length same, length-append w (b ∷ back.one));
+      front_bytes = ap (take (length w)) same ∙ take_at w (b ∷ back.one) (length w) refl;
+      mark = ap (λ v. get_or v (length w) 0) same ∙ get_or-append_seam w b back.one 0;
+      behind = record {
+        front = view_points front ++ b ∷ [];
+        back = back.has.points;
+        splits = record {
+          reads = subst (λ c. Reads c (view_units whole)) (sym (append_assoc (view_points front) (b ∷ []) back.has.points)) reads;
+          front_len = ap length (bytes-pushed (view_points front) b) ∙ simp (length-append, encoding_one b l, front.well_formed.encoded);
+        };
+        same_units = back.has.reads.same_units;
+      };
+    }
+
+-- Characters: scalar values made bytes, and the bytes read as a text again.
+
+pub characters_again : CharactersComeBack
+characters_again c h s = ap chars (bytes_are_encodes c) ∙ chars-encodes c (scalars_true c h s)
+
+pub view_characters : (t : Wtf8) → AreScalar (view_points t) → chars t.bytes.now ≡ view_points t
+view_characters t s = ap chars (sym t.well_formed.encoded) ∙ characters_again (view_points t) t.well_formed.clean s
+
+pub lossy_characters : (t : Wtf8) → chars (bytes (lossy (view_points t))) ≡ lossy (view_points t)
+lossy_characters t =
+    ap chars (bytes_are_encodes (lossy (view_points t))) ∙ chars-encodes (lossy (view_points t)) (scalars-lossy (view_points t) t.well_formed.clean)
+
+-- two runs of the same calls
+pub same_run : (u v w : List ℕ) (calls : List Build) (m n : ℕ) → Run u calls v m → Run u calls w n → (v ≡ w) × (m ≡ n)
+same_run u v w calls m n x y =
+    let once = run_once u calls in
+    let first = once.no_other v m x in
+    let second = once.no_other w n y in (first.0 ∙ sym second.0, first.1 ∙ sym second.1)
+
+-- What iterators over code points gave until they answered `None`.
+
+module _ {S : Type 0} {steps : S → Option CodePoint → S → Type 0} {s : S} {all : List ℕ} where
+  abbrev drained : (points : List CodePoint) → Drains steps s points → YieldsList steps number s all → numbers points ≡ all
+  drained points d e = items_from_drains points (d.1.0, d.1.1, λ _. (d.0, d.1.2)) e
+
+pub drained_points : DrainedPointsAreLeft
+drained_points left points d = drained points d (YieldsList-from_first number (λ c. c) left refl)
+
+pub taken_points : DrainedPointsAreTaken
+taken_points s points d = drained points d (YieldsList-from_take (take_count s) (YieldsList-from_first number (λ c. c) (take_source s) refl) refl)
+
+pub skipped_points : DrainedPointsAreBehind
+skipped_points s points d = drained points d (YieldsList-from_skip (skip_count s) (YieldsList-from_first number (λ c. c) (skip_source s) refl) refl)
+
+pub collected_points : CollectedPointsAreLeft
+collected_points left points d = items_from_drains points d (YieldsList-from_first number (λ c. c) left refl)
+
+pub collected_front : CollectedPointsAreTaken
+collected_front s points d =
+    items_from_drains points d (YieldsList-from_take (take_count s) (YieldsList-from_first number (λ c. c) (take_source s) refl) refl)
+
+pub collected_back : CollectedPointsAreBehind
+collected_back s points d =
+    items_from_drains points d (YieldsList-from_skip (skip_count s) (YieldsList-from_first number (λ c. c) (skip_source s) refl) refl)

@@ -1,0 +1,56 @@
+//! Strings by their code points.
+ghost use Rattle.std.specs.Prelude.{◌≡◌, ◌++◌, take, drop, IfOk, OnOk};
+ghost use Rattle.wtf8.specs.Unicode.{units};
+ghost use Rattle.wtf8.specs.View.{view_points, view_units};
+
+use std::alloc::{AllocError, Allocator};
+use wtf8::{Wtf8, Wtf8Buf, laws};
+
+/// A copy of a string by its code points: it has the same units.
+pub fn copy_by_points<A: Allocator>(alloc: A, text: Wtf8<'_>) -> Result<Wtf8Buf<A>, AllocError>
+    ensures { IfOk result (λ copy. copy.units ≡ view_units text.entry) }
+{
+    laws::law_drained_points();
+    Wtf8Buf::from_iter(alloc, text.code_points())
+}
+
+/// The same by `collect`.
+pub fn collect_points<A: Allocator>(alloc: A, text: Wtf8<'_>) -> Result<Wtf8Buf<A>, AllocError>
+    ensures { IfOk result (λ copy. copy.units ≡ view_units text.entry) }
+{
+    laws::law_collected_points();
+    text.code_points().collect(alloc)
+}
+
+/// The code points of a string appended, one after another: as if the string had been appended.
+pub fn push_points<A: Allocator>(string: &mut Wtf8Buf<A>, text: Wtf8<'_>) -> Result<(), AllocError>
+    ensures { OnOk result (string.new.units ≡ string.old.units ++ view_units text.entry) }
+{
+    laws::law_drained_points();
+    string.extend(text.code_points())?;
+    Ok(())
+}
+
+/// The string of the first so many code points of another, or of all where there are fewer.
+pub fn first_points<A: Allocator>(
+    alloc: A,
+    text: Wtf8<'_>,
+    count: usize,
+) -> Result<Wtf8Buf<A>, AllocError>
+    ensures { IfOk result (λ front. front.units ≡ units (take count (view_points text.entry))) }
+{
+    laws::law_drained_points();
+    Wtf8Buf::from_iter(alloc, text.code_points().take(count))
+}
+
+/// The string of the code points of another behind the first so many.
+pub fn points_behind<A: Allocator>(
+    alloc: A,
+    text: Wtf8<'_>,
+    count: usize,
+) -> Result<Wtf8Buf<A>, AllocError>
+    ensures { IfOk result (λ back. back.units ≡ units (drop count (view_points text.entry))) }
+{
+    laws::law_drained_points();
+    Wtf8Buf::from_iter(alloc, text.code_points().skip(count))
+}
