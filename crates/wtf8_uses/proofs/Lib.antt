@@ -1,2 +1,3 @@
 pub mod BeforeLemmas
 pub mod Numbering
+pub mod RepeatLemmas
