@@ -1,3 +1,4 @@
 pub mod BeforeLemmas
 pub mod Numbering
 pub mod RepeatLemmas
+pub mod SplitLemmas

@@ -1,5 +1,6 @@
 //! Calls of ECMAScript's strings that look for one text in another (ECMAScript, "String.prototype").
-ghost use Rattle.std.specs.Prelude.{◌≡◌, ◌+◌, ◌≤◌, ◌++◌, ℕ, length, take, drop, min, IfSome, IfNone, IfOk};
+ghost use Rattle.std.specs.List.{join_with_byte, slice_split};
+ghost use Rattle.std.specs.Prelude.{All, map, ◌==◌, ◌≢◌, ◌≡◌, ◌+◌, ◌≤◌, ◌++◌, ℕ, length, take, drop, min, IfSome, IfNone, IfOk};
 ghost use Rattle.wtf8_uses.specs.EngineString.{IsFirstPlace, StandsAt};
 
 use crate::strings::starts_with;
@@ -45,4 +46,37 @@ pub fn replace<A: Allocator + Copy>(
     let back = text.slice_units(alloc, place + search.unit_len(), len)?;
     whole.concat(&back)?;
     Ok(whole)
+}
+
+/// `split` at a unit: the pieces before, between and behind the units that are it. There is one piece more than such
+/// units, so an empty text has one piece, which is empty.
+#[tactic(auto, using(crate::proofs::SplitLemmas::join_pieces, crate::proofs::SplitLemmas::pieces_apart))]
+pub fn split<A: Allocator + Copy>(
+    alloc: A,
+    text: &UnitText<A>,
+    separator: u16,
+) -> Result<Vec<UnitText<A>, A>, AllocError>
+    ensures pieces { IfOk result (λ v. v.items ≡ slice_split (λ u. u == separator) text.now) }
+    ensures joined { IfOk result (λ v. join_with_byte separator v.items ≡ text.now) }
+    ensures apart { IfOk result (λ v. All (λ piece. All (λ u. u ≢ separator) piece) v.items) }
+{
+    let mut units = Vec::new(alloc);
+    text.as_wtf8().append_units(&mut units)?;
+    let parts = parts_of(alloc, units.as_slice(), separator)?;
+    let mut pieces = Vec::with_capacity(alloc, parts.len())?;
+    for part in &parts {
+        pieces.push(UnitText::from_units(alloc, part)?)?;
+    }
+    Ok(pieces)
+}
+
+/// The parts of a list of units before, between and behind those that are a certain one.
+fn parts_of<A: Allocator>(
+    alloc: A,
+    units: &[u16],
+    separator: u16,
+) -> Result<Vec<&[u16], A>, AllocError>
+    ensures { IfOk result (λ v. map (λ part. part.now) v.items ≡ slice_split (λ u. u == separator) units.now) }
+{
+    units.split(|unit| *unit == separator).collect(alloc)
 }
