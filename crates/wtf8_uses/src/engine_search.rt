@@ -50,7 +50,6 @@ pub fn replace<A: Allocator + Copy>(
 
 /// `split` at a unit: the pieces before, between and behind the units that are it. There is one piece more than such
 /// units, so an empty text has one piece, which is empty.
-#[tactic(auto, using(crate::proofs::SplitLemmas::join_pieces, crate::proofs::SplitLemmas::pieces_apart))]
 pub fn split<A: Allocator + Copy>(
     alloc: A,
     text: &UnitText<A>,
@@ -62,12 +61,34 @@ pub fn split<A: Allocator + Copy>(
 {
     let mut units = Vec::new(alloc);
     text.as_wtf8().append_units(&mut units)?;
-    let parts = parts_of(alloc, units.as_slice(), separator)?;
-    let mut pieces = Vec::with_capacity(alloc, parts.len())?;
-    for part in &parts {
-        pieces.push(UnitText::from_units(alloc, part)?)?;
-    }
+    let pieces = pieces_of(alloc, units.as_slice(), separator)?;
     Ok(pieces)
+}
+
+/// The texts of the parts of a list of units.
+fn pieces_of<A: Allocator + Copy>(
+    alloc: A,
+    units: &[u16],
+    separator: u16,
+) -> Result<Vec<UnitText<A>, A>, AllocError>
+    ensures { IfOk result (λ v. v.items ≡ slice_split (λ u. u == separator) units.now) }
+{
+    let parts = parts_of(alloc, units, separator)?;
+    texts_of(alloc, parts.as_slice())
+}
+
+/// The texts of lists of units.
+fn texts_of<A: Allocator + Copy>(
+    alloc: A,
+    parts: &[&[u16]],
+) -> Result<Vec<UnitText<A>, A>, AllocError>
+    ensures { IfOk result (λ v. v.items ≡ map (λ part. part.now) parts.now) }
+{
+    let mut texts = Vec::with_capacity(alloc, parts.len())?;
+    for part in parts {
+        texts.push(UnitText::from_units(alloc, part)?)?;
+    }
+    Ok(texts)
 }
 
 /// The parts of a list of units before, between and behind those that are a certain one.
