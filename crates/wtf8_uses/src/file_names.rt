@@ -1,10 +1,11 @@
 //! File names of Windows: 16-bit units that nobody checked.
-ghost use Rattle.std.specs.Prelude.{◌≡◌, ◌<◌, ◌∷◌, ◌++◌, IfOk, IfSome, IfNone};
+ghost use Rattle.std.specs.List.{All};
+ghost use Rattle.std.specs.Prelude.{◌≡◌, ◌≢◌, ◌<◌, ◌≤◌, ◌∷◌, ◌++◌, length, take, slice_index, IfOk, IfSome, IfNone};
 ghost use Rattle.std.specs.Cow.{cow_str_bytes};
 ghost use Rattle.wtf8.specs.Form.{bytes};
 ghost use Rattle.wtf8.specs.Surrogates.{lossy};
 ghost use Rattle.wtf8.specs.View.{view_points, view_units};
-ghost use Rattle.wtf8_uses.specs.FileName.{IsCutAtLast, IsMark, HasNoMark};
+ghost use Rattle.wtf8_uses.specs.FileName.{IsBeforeZero, IsCutAtLast, IsMark, HasNoMark};
 
 use std::alloc::{AllocError, Global};
 use std::borrow::CowStr;
@@ -55,6 +56,29 @@ pub fn shown<'a>(alloc: Global, name: Wtf8<'a>) -> Result<CowStr<'a, Global>, Al
     ensures { IfOk result (λ text. cow_str_bytes text ≡ bytes (lossy (view_points name.entry))) }
 {
     name.to_string_lossy(alloc)
+}
+
+/// The name that units have which a system call gave: those before the first 0, which ends it, or all where there is none.
+/// An empty name asks for no memory, and a refusal leaves nothing.
+pub fn before_zero(alloc: Global, units: &[u16]) -> Result<Wtf8Buf<Global>, AllocError>
+    ensures { IfOk result (λ name. IsBeforeZero units.now name.units) }
+{
+    let end = first_zero(units);
+    Wtf8Buf::from_ill_formed_utf16(alloc, &units[..end])
+}
+
+/// The place of the first 0, or the length where there is none.
+fn first_zero(units: &[u16]) -> usize
+    ensures within { result ≤ length units.now }
+    ensures before { All (λ u. u ≢ 0) (take result units.now) }
+    ensures zero { result < length units.now → slice_index units.now result ≡ 0 }
+{
+    for (place, unit) in units.iter().enumerate() {
+        if *unit == 0 {
+            return place;
+        }
+    }
+    units.len()
 }
 
 /// Two strings and a character between them.
