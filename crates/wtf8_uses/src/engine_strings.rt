@@ -2,7 +2,7 @@
 //! another are in the module `engine_search`.
 ghost use Rattle.std.specs.List.{repeat};
 ghost use Rattle.std.specs.Option.{option_map};
-ghost use Rattle.std.specs.Prelude.{◌≡◌, ◌↔◌, ◌+◌, ◌-◌, ◌<◌, ◌≤◌, ◌++◌, ℕ, pos, negsuc, length, take, slice_get, slice_index, IsTrue, IsNone, IfOk, IsOk};
+ghost use Rattle.std.specs.Prelude.{◌≡◌, ◌↔◌, ◌+◌, ◌-◌, ◌<◌, ◌≤◌, ◌++◌, [], ℕ, pos, negsuc, length, take, slice_get, slice_index, IsTrue, IsNone, IfOk, IsOk};
 ghost use Rattle.wtf8.specs.CodePoint.{number};
 ghost use Rattle.wtf8_uses.specs.EngineString.{point_at, point_with, IsMadeWellFormed, IsSpace, IsTrimmed};
 
@@ -58,6 +58,7 @@ pub fn repeat<A: Allocator>(
 ) -> Result<UnitText<A>, AllocError>
     ensures ok { IfOk result (λ t. t ≡ repeat count text.now) }
     ensures none { count ≡ 0 → IsOk result }
+    ensures empty { text.now ≡ [] → IsOk result }
 {
     let mut whole = UnitText::from_units(alloc, &[])?;
     for _ in 0..count {
@@ -66,7 +67,8 @@ pub fn repeat<A: Allocator>(
     Ok(whole)
 }
 
-/// `toWellFormed`: the text with U+FFFD in the place of each surrogate that is in no pair. A refusal leaves nothing.
+/// `toWellFormed`: the text with U+FFFD in the place of each surrogate that is in no pair. It wants memory for the new text
+/// and its units, and where one surrogate is alone for the bytes too; after a refusal nothing is left of them.
 pub fn to_well_formed<A: Allocator + Copy + Drop>(
     alloc: A,
     text: &UnitText<A>,
@@ -114,8 +116,8 @@ fn filling<A: Allocator + Copy>(
     Ok(units)
 }
 
-/// `trim`, of the spaces below 0x80 alone: the text without those at its ends. It asks for no memory where nothing is
-/// left.
+/// `trim`, of the spaces below 0x80 alone: the text without those at its ends. It wants memory for what is left
+/// alone.
 pub fn trim_ascii<A: Allocator>(alloc: A, text: &UnitText<A>) -> Result<UnitText<A>, AllocError>
     ensures { IfOk result (λ t. IsTrimmed text.now t) }
 {
