@@ -6,6 +6,8 @@ mod comparing;
 #[cfg(test)]
 mod cutting;
 #[cfg(test)]
+mod engine_strings;
+#[cfg(test)]
 mod lengths;
 #[cfg(test)]
 mod marks;

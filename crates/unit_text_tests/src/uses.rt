@@ -202,6 +202,43 @@ fn a_name_has_a_stem_and_an_extension(rt: HostRuntime) -> Result<(), Fail> {
 }
 
 #[test]
+fn a_path_has_components(rt: HostRuntime) -> Result<(), Fail> {
+    let path = Wtf8Buf::from_ill_formed_utf16(rt.alloc(), &PATH)?;
+    let parts = file_names::components(rt.alloc(), path.as_wtf8())?;
+    let dumps = ["43 3A", "61", "62 ED B2 A9 2E 74 61 72 2E 67 7A"];
+    assert_eq!(rt; parts.len(), dumps.len());
+    for (part, dump) in parts.iter().zip(dumps) {
+        expect_dump(rt.alloc(), *part, dump)?;
+    }
+    let folder = file_names::parent(path.as_wtf8()).ok_or("a folder")?;
+    expect_dump(rt.alloc(), folder, "43 3A 5C 61")?;
+    assert_eq!(rt;
+        file_names::components(rt.alloc(), Wtf8::from_str("/"))?.len(),
+        2
+    );
+    assert_eq!(rt;
+        file_names::components(rt.alloc(), Wtf8::from_str(""))?.len(),
+        1
+    );
+    Ok(())
+}
+
+#[test]
+fn a_name_ends_at_a_zero(rt: HostRuntime) -> Result<(), Fail> {
+    let rows: [(&[u16], &str); 4] = [
+        (&[0x0061, TRAIL, 0, 0x0062, 0], "61 ED B2 A9"),
+        (&[0, 0x0061], ""),
+        (&[], ""),
+        (&[LEAD], "ED A0 BD"),
+    ];
+    for (units, dump) in rows {
+        let name = file_names::before_zero(rt.alloc(), units)?;
+        expect_dump(rt.alloc(), name.as_wtf8(), dump)?;
+    }
+    Ok(())
+}
+
+#[test]
 fn a_number_stays(rt: HostRuntime) -> Result<(), Fail> {
     let mut interner = Interner::new(rt.alloc());
     let first = Wtf8Buf::from_ill_formed_utf16(rt.alloc(), &[LEAD])?;
@@ -282,7 +319,7 @@ fn lone_surrogates_are_not_well_formed(rt: HostRuntime) -> Result<(), Fail> {
         assert_eq!(rt; well_formed::is_well_formed(&text), expected, "{list:?}");
     }
     let broken = Wtf8Buf::from_ill_formed_utf16(rt.alloc(), &[0x0061, TRAIL, LEAD, TRAIL])?;
-    let mended = well_formed::to_well_formed(rt.alloc(), broken.as_wtf8())?;
+    let mended = well_formed::well_formed_text(rt.alloc(), broken.as_wtf8())?;
     assert_eq!(rt; mended.as_str(), "a\u{FFFD}💩");
     Ok(())
 }

@@ -1,2 +1,5 @@
 pub mod BeforeLemmas
 pub mod Numbering
+pub mod PartLemmas
+pub mod RepeatLemmas
+pub mod SplitLemmas

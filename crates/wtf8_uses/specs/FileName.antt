@@ -1,5 +1,5 @@
 -- Names in paths: what a cut at the last of two marks says.
-use Rattle.std.specs.Prelude.{◌≡◌, ◌≢◌, ℕ, ◌⊎◌, List, ◌∷◌, ◌++◌}
+use Rattle.std.specs.Prelude.{◌≡◌, ◌≢◌, ◌==◌, ◌||◌, ℕ, Bool, ◌<◌, ◌⊎◌, List, ◌∷◌, ◌++◌, length, take, slice_index}
 use Rattle.std.specs.List.{All}
 
 -- A number is one of two marks.
@@ -17,3 +17,14 @@ pub record IsCutAtLast (a b : ℕ) (u front back : List ℕ) : Type 0 where
   pub is_mark : IsMark a b mark
   pub joined : u ≡ front ++ mark ∷ back
   pub none : HasNoMark a b back
+
+-- Units are those of a list before its first 0, or all of them where it has none.
+pub record IsBeforeZero (u v : List ℕ) : Type 0 where
+  pub place : ℕ
+  pub front : v ≡ take place u
+  pub none : All (λ x. x ≢ 0) v
+  pub zero : place < length u → slice_index u place ≡ 0
+
+-- A unit is one that separates the components of a path, `/` or `\`.
+abbrev pub is_separator : ℕ → Bool
+is_separator unit = unit == 0x2F || unit == 0x5C

@@ -1,11 +1,12 @@
 //! File names of Windows: 16-bit units that nobody checked.
-ghost use Rattle.std.specs.Prelude.{◌≡◌, ◌↔◌, ℕ, List, ◌<◌, ◌∷◌, ◌++◌, IfOk, IfSome, IfNone, IsTrue, OnOk, OnErr};
+ghost use Rattle.std.specs.List.{All, slice_split};
+ghost use Rattle.std.specs.Prelude.{◌≡◌, ◌≢◌, ◌↔◌, ◌<◌, ◌≤◌, ◌∷◌, ◌++◌, ℕ, List, length, map, take, slice_index, IfOk, IfSome, IfNone, IsTrue, OnOk, OnErr};
 ghost use Rattle.std.specs.Cow.{cow_str_bytes};
 ghost use Rattle.wtf8.specs.Appending.{AppendsUnits, KeepsContents};
 ghost use Rattle.wtf8.specs.Form.{bytes};
 ghost use Rattle.wtf8.specs.Surrogates.{lossy};
 ghost use Rattle.wtf8.specs.View.{view_points, view_units};
-ghost use Rattle.wtf8_uses.specs.FileName.{IsCutAtLast, IsMark, HasNoMark};
+ghost use Rattle.wtf8_uses.specs.FileName.{IsBeforeZero, IsCutAtLast, IsMark, HasNoMark, is_separator};
 
 use std::alloc::{AllocError, Allocator, Global};
 use std::borrow::CowStr;
@@ -98,6 +99,53 @@ pub fn shown<'a>(alloc: Global, name: Wtf8<'a>) -> Result<CowStr<'a, Global>, Al
     name.to_string_lossy(alloc)
 }
 
+/// What a path is in: all before its last `/` or `\`; `None` where it has neither. No unit is copied.
+pub fn parent<'a>(path: Wtf8<'a>) -> Option<Wtf8<'a>>
+    ensures some { IfSome result (λ x. (name : List ℕ) × IsCutAtLast 0x2F 0x5C (view_units path.entry) (view_units x) name) }
+    ensures none { IfNone result (HasNoMark 0x2F 0x5C (view_units path.entry)) }
+{
+    let (folder, _) = folder_and_name(path)?;
+    Some(folder)
+}
+
+/// The components of a path: the parts before, between and behind its `/` and `\`, in order, also those that are empty. No
+/// unit is copied; a refusal leaves nothing.
+pub fn components<'a>(alloc: Global, path: Wtf8<'a>) -> Result<Vec<Wtf8<'a>>, AllocError>
+    ensures { IfOk result (λ parts. map view_units parts.items ≡ slice_split is_separator (view_units path.entry)) }
+{
+    let mut parts = Vec::new(alloc);
+    let mut rest = path;
+    while let Some((part, _, behind)) = cut_at_first(rest, b'/', b'\\') {
+        parts.push(part)?;
+        rest = behind;
+    }
+    parts.push(rest)?;
+    Ok(parts)
+}
+
+/// The name that units have which a system call gave: those before the first 0, which ends it, or all where there is none.
+/// An empty name asks for no memory, and a refusal leaves nothing.
+pub fn before_zero(alloc: Global, units: &[u16]) -> Result<Wtf8Buf<Global>, AllocError>
+    ensures { IfOk result (λ name. IsBeforeZero units.now name.units) }
+{
+    let end = first_zero(units);
+    Wtf8Buf::from_ill_formed_utf16(alloc, &units[..end])
+}
+
+/// The place of the first 0, or the length where there is none.
+fn first_zero(units: &[u16]) -> usize
+    ensures within { result ≤ length units.now }
+    ensures before { All (λ u. u ≢ 0) (take result units.now) }
+    ensures zero { result < length units.now → slice_index units.now result ≡ 0 }
+{
+    for (place, unit) in units.iter().enumerate() {
+        if *unit == 0 {
+            return place;
+        }
+    }
+    units.len()
+}
+
 /// Two strings and a character between them.
 fn with_mark(
     alloc: Global,
@@ -131,6 +179,29 @@ fn cut_at_last<'a>(text: Wtf8<'a>, mark: u8, other: u8) -> Option<(Wtf8<'a>, u8,
             laws::law_no_ascii(back, mark);
             laws::law_no_ascii(back, other);
             return Some((text.slice_to(place), byte, back));
+        }
+    }
+    laws::law_no_ascii(text, mark);
+    laws::law_no_ascii(text, other);
+    None
+}
+
+/// What is before the first of two ASCII marks, that mark, and what is behind it; `None` where neither is there.
+fn cut_at_first<'a>(text: Wtf8<'a>, mark: u8, other: u8) -> Option<(Wtf8<'a>, u8, Wtf8<'a>)>
+    requires mark { mark < 0x80 }
+    requires other { other < 0x80 }
+    ensures mark { IfSome result (λ x. IsMark mark other x.1) }
+    ensures joined { IfSome result (λ x. view_units text.entry ≡ view_units x.0 ++ x.1 ∷ view_units x.2) }
+    ensures before { IfSome result (λ x. HasNoMark mark other (view_units x.0)) }
+    ensures none { IfNone result (HasNoMark mark other (view_units text.entry)) }
+{
+    for place in 0..text.len() {
+        let byte = text.ascii_byte_at(place);
+        if byte == mark || byte == other {
+            let front = text.slice_to(place);
+            laws::law_no_ascii(front, mark);
+            laws::law_no_ascii(front, other);
+            return Some((front, byte, text.slice_from(place + 1)));
         }
     }
     laws::law_no_ascii(text, mark);

@@ -3,6 +3,8 @@
 
 pub mod appending;
 pub mod cuts;
+pub mod engine_search;
+pub mod engine_strings;
 pub mod file_names;
 pub mod interner;
 pub mod joining;

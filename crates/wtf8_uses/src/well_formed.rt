@@ -1,5 +1,5 @@
-//! `isWellFormed` and `toWellFormed` of ECMAScript's strings, over texts that are counted in units. More calls of these strings are in the
-//! module `strings`.
+//! `isWellFormed` of ECMAScript's strings, over texts that are counted in units, and the text of a string. More calls of these
+//! strings are in the modules `strings` and `engine_strings`.
 ghost use Rattle.std.specs.Prelude.{◌≡◌, ◌↔◌, ℕ, List, IfOk, IsTrue};
 ghost use Rattle.std.specs.Cow.{cow_str_bytes};
 ghost use Rattle.std.specs.Str.{chars};
@@ -19,9 +19,9 @@ pub fn is_well_formed<A: Allocator>(text: &UnitText<A>) -> bool
     text.as_wtf8().as_str().is_some()
 }
 
-/// `toWellFormed`: the text whose characters are the code points that the units stand for, with U+FFFD for each surrogate
+/// The text whose characters are the code points that the units stand for, with U+FFFD for each surrogate
 /// in no pair.
-pub fn to_well_formed<'a>(alloc: Global, text: Wtf8<'a>) -> Result<CowStr<'a, Global>, AllocError>
+pub fn well_formed_text<'a>(alloc: Global, text: Wtf8<'a>) -> Result<CowStr<'a, Global>, AllocError>
     ensures { IfOk result (λ t. (c : List ℕ) → Reads c (view_units text.entry) → chars (cow_str_bytes t) ≡ lossy c) }
 {
     laws::law_view_reading(text);

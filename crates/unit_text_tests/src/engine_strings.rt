@@ -1,0 +1,245 @@
+// More calls of ECMAScript's strings. The expected answers are those of an engine.
+use crate::shared::expect_units;
+use std::alloc::{AllocError, Global};
+use std::test::Fail;
+use unit_text::UnitText;
+use wtf8_uses::engine_search::{index_of, replace, split};
+use wtf8_uses::engine_strings::{at, code_point_at, pad_start, repeat, to_well_formed, trim_ascii};
+
+/// "a💩b", with a lead behind it.
+const UNITS: [u16; 5] = [0x0061, 0xD83D, 0xDCA9, 0x0062, 0xD83D];
+
+fn text_of(alloc: Global, units: &[u16]) -> Result<UnitText<Global>, AllocError> {
+    UnitText::from_units(alloc, units)
+}
+
+/// A position, which may count from the end, and the unit there.
+const UNIT_AT: [(isize, Option<u16>); 10] = [
+    (0, Some(0x0061)),
+    (1, Some(0xD83D)),
+    (4, Some(0xD83D)),
+    (5, None),
+    (isize::MAX, None),
+    (-1, Some(0xD83D)),
+    (-2, Some(0x0062)),
+    (-5, Some(0x0061)),
+    (-6, None),
+    (isize::MIN, None),
+];
+
+#[test]
+fn a_unit_from_either_end(rt: HostRuntime) -> Result<(), Fail> {
+    let text = text_of(rt.alloc(), &UNITS)?;
+    for (position, unit) in UNIT_AT {
+        assert_eq!(rt; at(&text, position), unit, "at {position}");
+    }
+    Ok(())
+}
+
+/// Units, a position, and the number of the code point that begins there.
+const POINT_AT: [(&[u16], usize, Option<u32>); 9] = [
+    (&UNITS, 0, Some(0x0061)),
+    (&UNITS, 1, Some(0x1F4A9)),
+    (&UNITS, 2, Some(0xDCA9)),
+    (&UNITS, 4, Some(0xD83D)),
+    (&UNITS, 5, None),
+    (&UNITS, usize::MAX, None),
+    (&[0xDBFF, 0xDFFF], 0, Some(0x10FFFF)),
+    (&[0xD800, 0xDC00], 0, Some(0x10000)),
+    (&[0xDC00, 0xD800], 0, Some(0xDC00)),
+];
+
+#[test]
+fn a_code_point_at_a_position(rt: HostRuntime) -> Result<(), Fail> {
+    for (units, position, point) in POINT_AT {
+        let text = text_of(rt.alloc(), units)?;
+        let found = code_point_at(&text, position).map(|found| found.to_u32());
+        assert_eq!(rt; found, point, "{units:?} at {position}");
+    }
+    Ok(())
+}
+
+/// Units, how many times, and the units then.
+const REPEATED: [(&[u16], usize, &[u16]); 4] = [
+    (&[0xDCA9, 0xD83D], 0, &[]),
+    (
+        &[0xDCA9, 0xD83D],
+        3,
+        &[0xDCA9, 0xD83D, 0xDCA9, 0xD83D, 0xDCA9, 0xD83D],
+    ),
+    (&[], 4, &[]),
+    (&[0x0061], 2, &[0x0061, 0x0061]),
+];
+
+#[test]
+fn units_again_and_again(rt: HostRuntime) -> Result<(), Fail> {
+    for (units, count, want) in REPEATED {
+        let text = text_of(rt.alloc(), units)?;
+        expect_units(&repeat(rt.alloc(), &text, count)?, want)?;
+    }
+    Ok(())
+}
+
+/// Units, and those with U+FFFD for each surrogate that is in no pair.
+const WELL_FORMED: [(&[u16], &[u16]); 4] = [
+    (&[0x0061, 0xD83D], &[0x0061, 0xFFFD]),
+    (
+        &[0xDCA9, 0xD83D, 0xDCA9, 0xD83D],
+        &[0xFFFD, 0xD83D, 0xDCA9, 0xFFFD],
+    ),
+    (&[], &[]),
+    (&[0xD83D, 0xDCA9, 0xFFFD], &[0xD83D, 0xDCA9, 0xFFFD]),
+];
+
+#[test]
+fn lone_surrogates_are_replaced(rt: HostRuntime) -> Result<(), Fail> {
+    for (units, want) in WELL_FORMED {
+        let text = text_of(rt.alloc(), units)?;
+        expect_units(&to_well_formed(rt.alloc(), &text)?, want)?;
+    }
+    Ok(())
+}
+
+/// Units, and those without the spaces at both ends.
+const TRIMMED: [(&[u16], &[u16]); 6] = [
+    (&[], &[]),
+    (&[0x0020, 0x0009], &[]),
+    (
+        &[0x0020, 0x000D, 0x0061, 0x0020, 0xDCA9, 0x000A, 0x000B],
+        &[0x0061, 0x0020, 0xDCA9],
+    ),
+    (&[0x000C, 0xD83D], &[0xD83D]),
+    (&[0x0008, 0x0020], &[0x0008]),
+    (&[0x000E, 0x001F, 0x0020], &[0x000E, 0x001F]),
+];
+
+#[test]
+fn spaces_at_the_ends_are_dropped(rt: HostRuntime) -> Result<(), Fail> {
+    for (units, want) in TRIMMED {
+        let text = text_of(rt.alloc(), units)?;
+        expect_units(&trim_ascii(rt.alloc(), &text)?, want)?;
+    }
+    Ok(())
+}
+
+/// Units, a width, the units of a filler, and the units then.
+const PADDED: [(&[u16], usize, &[u16], &[u16]); 6] = [
+    (
+        &[0x0061],
+        4,
+        &[0xDCA9, 0xD83D],
+        &[0xDCA9, 0xD83D, 0xDCA9, 0x0061],
+    ),
+    (
+        &[0x0061],
+        5,
+        &[0xDCA9, 0xD83D],
+        &[0xDCA9, 0xD83D, 0xDCA9, 0xD83D, 0x0061],
+    ),
+    (&[0x0061, 0x0062], 2, &[0x0020], &[0x0061, 0x0062]),
+    (&[0x0061], 0, &[0x0020], &[0x0061]),
+    (&[0x0061], 3, &[], &[0x0061]),
+    (&[], 2, &[0x0078], &[0x0078, 0x0078]),
+];
+
+#[test]
+fn a_text_is_filled_up_in_front(rt: HostRuntime) -> Result<(), Fail> {
+    for (units, width, filler, want) in PADDED {
+        let text = text_of(rt.alloc(), units)?;
+        let filler = text_of(rt.alloc(), filler)?;
+        expect_units(&pad_start(rt.alloc(), &text, width, &filler)?, want)?;
+    }
+    Ok(())
+}
+
+/// Units that are looked for from a position on, and the first place where they stand.
+const PLACES: [(&[u16], usize, Option<usize>); 13] = [
+    (&[], 0, Some(0)),
+    (&[], 2, Some(2)),
+    (&[], 9, Some(5)),
+    (&[], usize::MAX, Some(5)),
+    (&[0xD83D], 0, Some(1)),
+    (&[0xD83D], 2, Some(4)),
+    (&[0xDCA9, 0x0062], 0, Some(2)),
+    (&[0x0062], 4, None),
+    (&[0x0061], 9, None),
+    (&[0x0063], 0, None),
+    (&UNITS, 0, Some(0)),
+    (&UNITS, 1, None),
+    (&[0x0061, 0xD83D, 0xDCA9, 0x0062, 0xD83D, 0x0061], 0, None),
+];
+
+#[test]
+fn the_first_place_of_units(rt: HostRuntime) -> Result<(), Fail> {
+    let text = text_of(rt.alloc(), &UNITS)?;
+    for (units, position, place) in PLACES {
+        let search = text_of(rt.alloc(), units)?;
+        assert_eq!(rt;
+            index_of(&text, &search, position),
+            place,
+            "{units:?} from {position}"
+        );
+    }
+    Ok(())
+}
+
+/// Units, those that are looked for, those in their place, and the units then.
+const REPLACED: [(&[u16], &[u16], &[u16], &[u16]); 5] = [
+    (
+        &[0x0061, 0x0062, 0x0061, 0x0062],
+        &[0x0062],
+        &[0xD83D],
+        &[0x0061, 0xD83D, 0x0061, 0x0062],
+    ),
+    (
+        &UNITS,
+        &[0xDCA9],
+        &[0x0024, 0x0026],
+        &[0x0061, 0xD83D, 0x0024, 0x0026, 0x0062, 0xD83D],
+    ),
+    (
+        &UNITS,
+        &[],
+        &[0x0078],
+        &[0x0078, 0x0061, 0xD83D, 0xDCA9, 0x0062, 0xD83D],
+    ),
+    (&UNITS, &[0x0063], &[0x0078], &UNITS),
+    (&[0x0061, 0x0061, 0x0061], &[0x0061, 0x0061], &[], &[0x0061]),
+];
+
+#[test]
+fn the_first_units_are_replaced(rt: HostRuntime) -> Result<(), Fail> {
+    for (units, search, other, want) in REPLACED {
+        let text = text_of(rt.alloc(), units)?;
+        let search = text_of(rt.alloc(), search)?;
+        let other = text_of(rt.alloc(), other)?;
+        expect_units(&replace(rt.alloc(), &text, &search, &other)?, want)?;
+    }
+    Ok(())
+}
+
+/// Units, the unit at which they are cut, and the pieces.
+const PIECES: [(&[u16], u16, &[&[u16]]); 5] = [
+    (&[], 0x002C, &[&[]]),
+    (
+        &[0x0061, 0x002C, 0x002C, 0x0062],
+        0x002C,
+        &[&[0x0061], &[], &[0x0062]],
+    ),
+    (&[0x002C], 0x002C, &[&[], &[]]),
+    (&UNITS, 0xD83D, &[&[0x0061], &[0xDCA9, 0x0062], &[]]),
+    (&UNITS, 0x0063, &[&UNITS]),
+];
+
+#[test]
+fn a_text_is_cut_at_a_unit(rt: HostRuntime) -> Result<(), Fail> {
+    for (units, separator, want) in PIECES {
+        let text = text_of(rt.alloc(), units)?;
+        let pieces = split(rt.alloc(), &text, separator)?;
+        assert_eq!(rt; pieces.len(), want.len());
+        for (piece, units) in pieces.iter().zip(want) {
+            expect_units(piece, units)?;
+        }
+    }
+    Ok(())
+}

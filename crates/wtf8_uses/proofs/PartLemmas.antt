@@ -1,0 +1,31 @@
+-- The components of paths.
+use Rattle.std.proofs.Common.{◌≡◌, ℕ, inl, inr, List, [], ◌∷◌, ◌++◌, map, sym, ap, ◌∙◌, append_assoc, arith}
+use Rattle.std.proofs.lemmas.Bool.Decides.{nat_tests}
+use Rattle.std.proofs.lemmas.List.{map-append}
+use Rattle.std.proofs.lemmas.List.Splits.{slice_split_at, slice_split_none}
+use Rattle.std.specs.List.{slice_split}
+use Rattle.wtf8_uses.specs.FileName.{IsMark, HasNoMark, is_separator}
+
+first_part : (u front back : List ℕ) (m : ℕ) → u ≡ front ++ m ∷ back → IsMark 0x2F 0x5C m → HasNoMark 0x2F 0x5C front
+    → slice_split is_separator u ≡ front ∷ slice_split is_separator back
+first_part u front back m e mark none =
+    rw e (slice_split_at is_separator front m back (λ k d h. grind (arith, nat_tests, none.first k d h, none.second k d h))
+    (elim mark [ inl l ↦ grind (arith, nat_tests, l) | inr r ↦ grind (arith, nat_tests, r) ]))
+
+one_part : (u : List ℕ) → HasNoMark 0x2F 0x5C u → slice_split is_separator u ≡ u ∷ []
+one_part u none = slice_split_none is_separator u (λ k d h. grind (arith, nat_tests, none.first k d h, none.second k d h))
+
+-- parts and those of a rest are a list, and another part is added
+module _ {X : Type 0} (f : X → List ℕ) (old new : List X) (part : X) (u : List ℕ) (whole : List (List ℕ)) (added : new ≡ old ++ part ∷ [])
+    (are : map f old ++ slice_split is_separator u ≡ whole) where
+  -- the part before the first separator of the rest
+  pub moved : (back : List ℕ) (m : ℕ) → u ≡ f part ++ m ∷ back → IsMark 0x2F 0x5C m → HasNoMark 0x2F 0x5C (f part)
+      → map f new ++ slice_split is_separator back ≡ whole
+  moved back m e mark none =
+      rw (added, map-append f old (part ∷ []), append_assoc (map f old) (f part ∷ []) (slice_split is_separator back))
+      (ap (λ ys. map f old ++ ys) (sym (first_part u (f part) back m e mark none)) ∙ are)
+
+  -- the rest, which has no separator
+  pub ended : u ≡ f part → HasNoMark 0x2F 0x5C u → map f new ≡ whole
+  ended e none =
+      rw (added, map-append f old (part ∷ [])) (ap (λ ys. map f old ++ ys) (sym (one_part u none ∙ ap (λ y. y ∷ []) e)) ∙ are)

@@ -1,0 +1,31 @@
+-- The parts of a list that is cut at a number.
+use Rattle.std.proofs.Common.{◌≡◌, ◌≢◌, ℕ, suc, Bool, true, false, cond, eqb, List, [], ◌∷◌, refl, sym, subst, arith}
+use Rattle.std.proofs.lemmas.Bool.Decides.{nat_tests}
+use Rattle.std.proofs.lemmas.List.Elements.{All-nil, All-cons}
+use Rattle.std.proofs.lemmas.List.Splits.{join_with_byte-slice_split}
+use Rattle.std.specs.List.{All, join_with_byte, onto_first, slice_split}
+
+-- the parts with that number between them are the list
+pub join_pieces : (c : ℕ) (u : List ℕ) {parts : List (List ℕ)} → parts ≡ slice_split (λ x. eqb x c) u → join_with_byte c parts ≡ u
+join_pieces c u e = rw e (join_with_byte-slice_split c u)
+
+module _ (c : ℕ) where
+  abbrev pub Lacks : List ℕ → Type 0
+  Lacks part = All (λ x. x ≢ c) part
+
+  put : (x : ℕ) (parts : List (List ℕ)) → x ≢ c → All Lacks parts → All Lacks (onto_first x parts)
+  put x [] h k = All-cons Lacks (x ∷ []) [] (All-cons (λ y. y ≢ c) x [] h (All-nil _)) (All-nil _)
+  put x (part ∷ parts) h k =
+      All-cons Lacks (x ∷ part) parts (All-cons (λ y. y ≢ c) x part h (k 0 [] (omega arith))) (λ j d m. k (suc j) d (omega arith))
+
+  step : (x : ℕ) (parts : List (List ℕ)) (b : Bool) → eqb x c ≡ b → All Lacks parts → All Lacks (cond b ([] ∷ parts) (onto_first x parts))
+  step x parts true e k = All-cons Lacks [] parts (All-nil _) k
+  step x parts false e k = put x parts (λ h. grind (arith, nat_tests, e, h)) k
+
+  apart : (u : List ℕ) → All Lacks (slice_split (λ x. eqb x c) u)
+  apart [] = All-cons Lacks [] [] (All-nil _) (All-nil _)
+  apart (x ∷ u) = step x (slice_split (λ y. eqb y c) u) (eqb x c) refl (apart u)
+
+  -- no part holds the number
+  pub pieces_apart : (u : List ℕ) {parts : List (List ℕ)} → parts ≡ slice_split (λ x. eqb x c) u → All Lacks parts
+  pieces_apart u e = subst (All Lacks) (sym e) (apart u)

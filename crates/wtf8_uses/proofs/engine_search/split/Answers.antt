@@ -1,0 +1,11 @@
+use Rattle.std.proofs.Common.{◌≡◌, ◌∙◌, rules}
+use Rattle.wtf8_uses.proofs.SplitLemmas.{join_pieces, pieces_apart}
+use Rattle.wtf8_uses.proofs.engine_search.split.Goals as goal
+
+pub returns-clause-joined : goal.returns-clause-joined
+returns-clause-joined g c =
+    let units : c.as_slice.result.now ≡ c.args.text.now = search rules in
+    join_pieces c.args.separator _ c.in_ok-pieces.ensures ∙ units
+
+pub returns-clause-apart : goal.returns-clause-apart
+returns-clause-apart g c = pieces_apart c.args.separator _ c.in_ok-pieces.ensures

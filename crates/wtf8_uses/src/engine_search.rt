@@ -1,0 +1,103 @@
+//! Calls of ECMAScript's strings that look for one text in another (ECMAScript, "String.prototype").
+ghost use Rattle.std.specs.List.{join_with_byte, slice_split};
+ghost use Rattle.std.specs.Prelude.{All, map, ◌==◌, ◌≢◌, ◌≡◌, ◌+◌, ◌≤◌, ◌++◌, ℕ, length, take, drop, min, IfSome, IfNone, IfOk};
+ghost use Rattle.wtf8_uses.specs.EngineString.{IsFirstPlace, StandsAt};
+
+use crate::strings::starts_with;
+use std::alloc::{AllocError, Allocator};
+use unit_text::UnitText;
+
+/// `indexOf`: the first place at or behind a position where another text's units stand, and `None`, for the -1 of the
+/// language, where there is none. A position beyond the end is the end, where the empty text stands.
+pub fn index_of<A: Allocator, B: Allocator>(
+    text: &UnitText<A>,
+    search: &UnitText<B>,
+    position: usize,
+) -> Option<usize>
+    ensures some { IfSome result (λ k. IsFirstPlace text.now search.now (min position (length text.now)) k) }
+    ensures none { IfNone result ((k : ℕ) → min position (length text.now) ≤ k → ¬ (StandsAt text.now search.now k)) }
+{
+    let last = text.unit_len().checked_sub(search.unit_len())?;
+    for place in position.min(text.unit_len())..=last {
+        if starts_with(text, search, place) {
+            return Some(place);
+        }
+    }
+    None
+}
+
+/// `replace` of a text by another one: the other one stands in the place of the first units that are those of the text
+/// that is looked for, `$` in it for itself. Where they stand nowhere it is a copy.
+pub fn replace<A: Allocator + Copy>(
+    alloc: A,
+    text: &UnitText<A>,
+    search: &UnitText<A>,
+    other: &UnitText<A>,
+) -> Result<UnitText<A>, AllocError>
+    ensures found { IfOk result (λ t. (k : ℕ) → IsFirstPlace text.now search.now 0 k → t ≡ take k text.now ++ (other.now ++ drop (k + length search.now) text.now)) }
+    ensures none { IfOk result (λ t. ((k : ℕ) → ¬ (StandsAt text.now search.now k)) → t ≡ text.now) }
+{
+    let len = text.unit_len();
+    let Some(place) = index_of(text, search, 0) else {
+        return text.slice_units(alloc, 0, len);
+    };
+    let mut whole = text.slice_units(alloc, 0, place)?;
+    whole.concat(other)?;
+    let back = text.slice_units(alloc, place + search.unit_len(), len)?;
+    whole.concat(&back)?;
+    Ok(whole)
+}
+
+/// `split` at a unit: the pieces before, between and behind the units that are it. There is one piece more than such
+/// units, so an empty text has one piece, which is empty.
+pub fn split<A: Allocator + Copy>(
+    alloc: A,
+    text: &UnitText<A>,
+    separator: u16,
+) -> Result<Vec<UnitText<A>, A>, AllocError>
+    ensures pieces { IfOk result (λ v. v.items ≡ slice_split (λ u. u == separator) text.now) }
+    ensures joined { IfOk result (λ v. join_with_byte separator v.items ≡ text.now) }
+    ensures apart { IfOk result (λ v. All (λ piece. All (λ u. u ≢ separator) piece) v.items) }
+{
+    let mut units = Vec::new(alloc);
+    text.as_wtf8().append_units(&mut units)?;
+    let pieces = pieces_of(alloc, units.as_slice(), separator)?;
+    Ok(pieces)
+}
+
+/// The texts of the parts of a list of units.
+fn pieces_of<A: Allocator + Copy>(
+    alloc: A,
+    units: &[u16],
+    separator: u16,
+) -> Result<Vec<UnitText<A>, A>, AllocError>
+    ensures { IfOk result (λ v. v.items ≡ slice_split (λ u. u == separator) units.now) }
+{
+    let parts = parts_of(alloc, units, separator)?;
+    texts_of(alloc, parts.as_slice())
+}
+
+/// The texts of lists of units.
+fn texts_of<A: Allocator + Copy>(
+    alloc: A,
+    parts: &[&[u16]],
+) -> Result<Vec<UnitText<A>, A>, AllocError>
+    ensures { IfOk result (λ v. v.items ≡ map (λ part. part.now) parts.now) }
+{
+    let mut texts = Vec::with_capacity(alloc, parts.len())?;
+    for part in parts {
+        texts.push(UnitText::from_units(alloc, part)?)?;
+    }
+    Ok(texts)
+}
+
+/// The parts of a list of units before, between and behind those that are a certain one.
+fn parts_of<A: Allocator>(
+    alloc: A,
+    units: &[u16],
+    separator: u16,
+) -> Result<Vec<&[u16], A>, AllocError>
+    ensures { IfOk result (λ v. map (λ part. part.now) v.items ≡ slice_split (λ u. u == separator) units.now) }
+{
+    units.split(|unit| *unit == separator).collect(alloc)
+}
