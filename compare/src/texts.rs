@@ -247,13 +247,14 @@ fn memory(input: &Input) -> String {
     )
 }
 
-/// A time in three digits or so.
+/// A time in two digits or so, in nanoseconds unless it says another unit.
 fn shown(time: Option<f64>) -> String {
     match time {
         None => "-".to_owned(),
-        Some(time) if time < 10.0 => format!("{time:.2}"),
-        Some(time) if time < 100.0 => format!("{time:.1}"),
-        Some(time) => format!("{time:.0}"),
+        Some(time) if time < 1.0 => format!("{time:.2}"),
+        Some(time) if time < 10.0 => format!("{time:.1}"),
+        Some(time) if time < 10_000.0 => format!("{time:.0}"),
+        Some(time) => format!("{:.0} µs", time / 1e3),
     }
 }
 

@@ -339,7 +339,7 @@ function grownScript(piece, count, isMarked) {
   const calls = [['set', ...piece], ['swap'], ['set']];
   if (isMarked) calls.push(['mark']);
   for (let end = piece.length; end <= count * piece.length; end += piece.length) {
-    calls.push(['concat'], ['unitAt', end - 1], ['unitAt', end], ['substring', end - piece.length - 1, end - 1]);
+    calls.push(['concat'], ['unitAt', end - 1], ['unitAt', end], ['substring', Math.max(0, end - piece.length - 1), end - 1]);
   }
   return [...calls, ...looksAbout(count * piece.length)];
 }
@@ -390,7 +390,8 @@ function marksScripts(seed, cases) {
 
 function fixedScripts() {
   const lists = listScripts().filter((_, at) => at % 97 === 0);
-  return [...lists, ...longScripts(), ...markedScripts([300], [129]), ...randomScripts(1, 100)];
+  const marked = markedScripts([300], [129]).filter((_, at) => at % 4 === 2);
+  return [...lists, ...longScripts(), ...marked, ...randomScripts(1, 100)];
 }
 
 // Writes the scripts and the answers behind those that are given.
