@@ -11,6 +11,9 @@ pub struct Input {
 /// How many units the long inputs have.
 const LONG: usize = 4096;
 
+/// The names of the inputs of texts that are counted in units.
+pub const NAMES_OF_TEXTS: [&str; 3] = ["ASCII", "CJK", "mixed"];
+
 /// All inputs, in the order of the table.
 pub fn all() -> Vec<Input> {
     let mut inputs = vec![
@@ -40,6 +43,20 @@ pub fn all() -> Vec<Input> {
     }
     inputs.push(joining());
     inputs
+}
+
+/// The inputs of texts that are counted in units, of so many units, in the order of their names.
+pub fn texts(length: usize) -> [Input; 3] {
+    let made = [
+        units(length, |random| random.between(0x20, 0x7E)),
+        units(length, |random| random.between(0x4E00, 0x9FFF)),
+        units(length, mixed),
+    ];
+    let mut names = NAMES_OF_TEXTS.iter();
+    made.map(|units| Input {
+        name: names.next().unwrap_or(&""),
+        units,
+    })
 }
 
 fn mixed(random: &mut Random) -> u32 {

@@ -25,6 +25,7 @@ mod random;
 mod record;
 mod script;
 mod shrink;
+mod texts;
 
 use std::path::Path;
 use std::process::ExitCode;
@@ -47,6 +48,7 @@ const USAGE: &str = "usage: compare differ [--seed S] [--cases N] [--every-point
        compare table FILE..
        compare picture TABLE FILE
        compare rows [FILTER]
+       compare texts [FILTER]
        compare loop proved|crate ROW ROUNDS";
 
 fn main() -> ExitCode {
@@ -73,6 +75,8 @@ fn main() -> ExitCode {
         ["bench", file, filter] => bench::run(filter, Path::new(file)),
         ["table", ref files @ ..] if !files.is_empty() => bench::table(files),
         ["picture", table, file] => picture::run(Path::new(table), Path::new(file)),
+        ["texts"] => texts::run(""),
+        ["texts", filter] => texts::run(filter),
         ["rows"] => bench::rows(""),
         ["rows", filter] => bench::rows(filter),
         ["loop", side, row, rounds] => bench::run_loop(side, row, rounds),

@@ -6,6 +6,6 @@ mod library;
 mod program;
 
 #[cfg(not(by_program))]
-pub use library::{run, time};
+pub use library::{run, texts, time};
 #[cfg(by_program)]
-pub use program::{run, time};
+pub use program::{run, texts, time};

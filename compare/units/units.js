@@ -1,6 +1,8 @@
 // Scripts of calls on texts that are counted in units, and what the engine's own strings answer to them.
 //     node units.js random SEED CASES FOLDER   random scripts
 //     node units.js lists FOLDER               all lists of at most three units out of nine, and long texts, cut and compared
+//     node units.js marks SEED CASES FOLDER    texts of some thousand units with marks and without, looked at about each mark, and as
+//                                              many random scripts of such texts
 //     node units.js fixed FOLDER               the long texts and some hundred of the others, which the gate replays: they stand
 //                                              behind the scripts of strings that FOLDER has, in the place of those that stood there
 // Each writes the scripts to FOLDER/stdin, one a line in hexadecimal, and to FOLDER/stdout the answers, one a line, with an empty
@@ -70,6 +72,7 @@ const CALLS = {
       return `whole ${whole}`;
     },
   },
+  mark: { opcode: 75, run: ({ first }) => unitsOf(first) },
 };
 
 // A number of two bytes in hexadecimal, the lowest first.
@@ -169,19 +172,24 @@ function randomCalls({ first }, below) {
   }
 }
 
-function randomScript(below) {
+// A script of some calls, and so often more of them, which depend on the strings that stand.
+function scriptOf(first, more, callsOn, below) {
   const state = { first: '', second: '' };
   const calls = [];
-  const add = (more) => {
-    for (const [name, ...operands] of more) {
+  const add = (added) => {
+    for (const [name, ...operands] of added) {
       if (['set', 'swap', 'slice', 'concat'].includes(name)) CALLS[name].run(state, ...operands);
     }
-    calls.push(...more);
+    calls.push(...added);
   };
-  add([['set', ...randomUnits(below)], ['swap'], ['set', ...randomUnits(below)]]);
-  const more = 1 + below(12);
-  for (let i = 0; i < more; i++) add(randomCalls(state, below));
+  add(first);
+  for (let i = 0; i < more; i++) add(callsOn(state, below));
   return calls;
+}
+
+function randomScript(below) {
+  const first = [['set', ...randomUnits(below)], ['swap'], ['set', ...randomUnits(below)]];
+  return scriptOf(first, 1 + below(12), randomCalls, below);
 }
 
 // All lists of at most so many units out of the nine.
@@ -277,9 +285,113 @@ function longScripts() {
   ]));
 }
 
+// How many units are between one mark and the next.
+const SPACING = 128;
+
+// The units of a long text, by its kind, one or a pair at a time. Among pairs a unit stands here and there, so that a mark may
+// divide a pair.
+const KINDS_OF_MARKED = [
+  (below) => [0x20 + below(0x5F)],
+  (below) => [0x80 + below(0x780)],
+  (below) => [0x4E00 + below(0x5200)],
+  (below) => (below(50) === 0 ? [0x4E00] : [0xD800 + below(0x400), 0xDC00 + below(0x400)]),
+  (below) => [0xD800 + below(0x800)],
+  (below) => (below(30) === 0 ? [0xE9] : [0x61]),
+  (below) => KINDS_OF_MARKED[below(6)](below),
+];
+
+// So many units of a kind; a pair at the end may be cut.
+function unitsOfKind(kind, length, below) {
+  const units = [];
+  while (units.length < length) units.push(...kind(below));
+  return units.slice(0, length);
+}
+
+const anyUnits = (length, below) => unitsOfKind(KINDS_OF_MARKED[below(KINDS_OF_MARKED.length)], length, below);
+
+// A place in a text or a little behind it, more often than not about a multiple of the marks' distance.
+function placeAbout(length, below) {
+  if (below(3) === 0) return below(length + 3);
+  return Math.max(0, SPACING * below(Math.ceil(length / SPACING) + 1) + below(5) - 2);
+}
+
+// The units about each multiple of the marks' distance, and pieces from there and up to there.
+function looksAbout(length) {
+  const calls = [];
+  for (let edge = 0; edge <= length + 2; edge += SPACING) {
+    for (let at = Math.max(0, edge - 2); at <= edge + 2; at++) {
+      calls.push(['unitAt', at], ['substring', at, at + 3], ['substring', at, Math.max(0, at - SPACING - 1)]);
+    }
+  }
+  return calls;
+}
+
+// A text looked at without marks and with them, appended to one with marks, and cut between two marks.
+function markedScript(units) {
+  const looks = looksAbout(units.length);
+  const calls = [['set', ...units], ...looks, ['mark'], ...looks, ['swap'], ['set', ...units], ['swap'], ['concat']];
+  calls.push(...looksAbout(2 * units.length), ['slice', SPACING - 1, units.length + SPACING + 1], ...looks, ['mark'], ...looks);
+  return calls;
+}
+
+// A text that grows by the same piece, with marks from the start or without, looked at where each piece ends.
+function grownScript(piece, count, isMarked) {
+  const calls = [['set', ...piece], ['swap'], ['set']];
+  if (isMarked) calls.push(['mark']);
+  for (let end = piece.length; end <= count * piece.length; end += piece.length) {
+    calls.push(['concat'], ['unitAt', end - 1], ['unitAt', end], ['substring', Math.max(0, end - piece.length - 1), end - 1]);
+  }
+  return [...calls, ...looksAbout(count * piece.length)];
+}
+
+// A piece that begins with a trail and ends with a lead, so that it joins what stands before it and what follows.
+const joining = (units) => units.with(0, 0xDCA9).with(-1, 0xD83D);
+
+function markedScripts(lengths, pieces) {
+  const below = randomBelow(1);
+  const scripts = KINDS_OF_MARKED.flatMap((kind) => lengths.map((length) => markedScript(unitsOfKind(kind, length, below))));
+  for (const length of pieces) {
+    const piece = anyUnits(length, below);
+    const count = Math.ceil(1200 / length);
+    for (const isMarked of [false, true]) scripts.push(grownScript(piece, count, isMarked), grownScript(joining(piece), count, isMarked));
+  }
+  return scripts;
+}
+
+// One random call or some that belong together, for long texts that stand.
+function randomMarkedCalls({ first, second }, below) {
+  const place = placeAbout(first.length, below);
+  switch (below(16)) {
+    case 0: return [['mark']];
+    case 1: return [['swap']];
+    case 2: return first.length + second.length > 6000 ? [['length']] : [['concat'], ['length']];
+    case 3: case 4: {
+      const piece = anyUnits(1 + below(2 * SPACING), below);
+      return [['swap'], ['set', ...(below(2) === 0 ? piece : joining(piece))], ['swap'], ['concat'], ['unitAt', first.length]];
+    }
+    case 5: return [['slice', ...[below(SPACING), placeAbout(first.length, below)].sort((one, other) => one - other)]];
+    case 6: case 7: case 8: return [['substring', place, place + below(2 * SPACING)]];
+    case 9: return [['substring', placeAbout(first.length, below), place]];
+    case 10: return [['charAt', place]];
+    default: return [['unitAt', place]];
+  }
+}
+
+function randomMarkedScript(below) {
+  const units = anyUnits(300 + below(4701), below);
+  return scriptOf([['set', ...units], ...(below(3) === 0 ? [] : [['mark']])], 20 + below(60), randomMarkedCalls, below);
+}
+
+function marksScripts(seed, cases) {
+  const below = randomBelow(seed);
+  const scripts = markedScripts([300, 1000, 5000], [1, 2, 63, 64, 127, 128, 129, 255, 256, 257, 300]);
+  return [...scripts, ...Array.from({ length: cases }, () => randomMarkedScript(below))];
+}
+
 function fixedScripts() {
   const lists = listScripts().filter((_, at) => at % 97 === 0);
-  return [...lists, ...longScripts(), ...randomScripts(1, 100)];
+  const marked = markedScripts([300], [129]).filter((_, at) => at % 4 === 2);
+  return [...lists, ...longScripts(), ...marked, ...randomScripts(1, 100)];
 }
 
 // Writes the scripts and the answers behind those that are given.
@@ -315,10 +427,13 @@ function numberOf(word, least) {
 
 const WAYS = {
   random: { words: 2, scripts: (seed, cases) => randomScripts(numberOf(seed, 0), numberOf(cases, 1)) },
+  marks: { words: 2, scripts: (seed, cases) => marksScripts(numberOf(seed, 0), numberOf(cases, 1)) },
   lists: { words: 0, scripts: () => [...listScripts(), ...longScripts()] },
   fixed: { words: 0, scripts: fixedScripts },
 };
 const [way, ...words] = process.argv.slice(2);
-if (!Object.hasOwn(WAYS, way) || words.length !== WAYS[way].words + 1) stop('random SEED CASES FOLDER, lists FOLDER, or fixed FOLDER');
+if (!Object.hasOwn(WAYS, way) || words.length !== WAYS[way].words + 1) {
+  stop('random SEED CASES FOLDER, marks SEED CASES FOLDER, lists FOLDER, or fixed FOLDER');
+};
 const folder = words.pop();
 write(WAYS[way].scripts(...words), folder, ...(way === 'fixed' ? stringScripts(folder) : []));

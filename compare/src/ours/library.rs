@@ -18,6 +18,15 @@ extern "C" {
         rounds: u32,
         sum: *mut u64,
     ) -> i64;
+    fn compare_exports_texts(
+        number: u32,
+        units: *const u16,
+        units_len: usize,
+        places: *const u32,
+        places_len: usize,
+        rounds: u32,
+        sum: *mut u64,
+    ) -> i64;
 }
 
 thread_local! {
@@ -49,5 +58,27 @@ pub fn time(number: u32, units: &[u16], rounds: u32) -> u64 {
     match status {
         0 => sum,
         _ => fail(&format!("the proved library's loop {number} gave {status}")),
+    }
+}
+
+/// Runs a loop of the proved library over a text, and answers its sum.
+pub fn texts(number: u32, units: &[u16], places: &[u32], rounds: u32) -> u64 {
+    let mut sum = 0;
+    let status = unsafe {
+        compare_exports_texts(
+            number,
+            units.as_ptr(),
+            units.len(),
+            places.as_ptr(),
+            places.len(),
+            rounds,
+            &mut sum,
+        )
+    };
+    match status {
+        0 => sum,
+        _ => fail(&format!(
+            "the proved library's loop {number} over a text gave {status}"
+        )),
     }
 }

@@ -42,6 +42,11 @@ pub fn time(_number: u32, _units: &[u16], _rounds: u32) -> u64 {
     fail("the timed loops want the library: leave out COMPARE_PROGRAM")
 }
 
+/// So are the loops over texts.
+pub fn texts(_number: u32, _units: &[u16], _places: &[u32], _rounds: u32) -> u64 {
+    fail("the timed loops want the library: leave out COMPARE_PROGRAM")
+}
+
 impl Program {
     fn started() -> Program {
         let Some(path) = std::env::var_os("COMPARE_PROGRAM") else {

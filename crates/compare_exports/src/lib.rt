@@ -5,10 +5,12 @@ ghost use Rattle.std.specs.Prelude.{◌≡◌, ◌<◌, ◌≤◌, ◌<ℤ◌, �
 ghost use Rattle.compare_exports.specs.Front.{with_front};
 
 mod counted;
+mod texts;
 mod timing;
 
 use compare_scripts::run_script;
 use std::alloc::Global;
+use texts::{LAST as LAST_OF_TEXTS, TextBench};
 use timing::{Bench, LAST};
 
 /// The script ends inside a call, or a byte or a text in it stands for nothing.
@@ -64,6 +66,44 @@ pub extern "C" fn compare_exports_time(
         return NO_LOOP;
     }
     match Bench::new(alloc, number, units, rounds).and_then(|bench| bench.run(number)) {
+        Ok(answer) => {
+            *sum = answer;
+            0
+        }
+        Err(_) => MEMORY,
+    }
+}
+
+/// Makes a text and a string of some units, runs the loop of a number, 1 to 12, over the places in them for so many rounds,
+/// and writes to `sum` a sum over what its calls answered, which wraps round at 2^64. With no rounds it makes both alone.
+///
+/// | Loop | Call |
+/// |---|---|
+/// | 1, 2 | the unit at each place, of the text with its marks and of the string's view |
+/// | 3, 4 | ten units from each place on, as a text and as a part of the view |
+/// | 5, 6, 7 | the units made into a text, into one with marks, and into a string |
+/// | 8, 9, 10 | each unit appended by itself, as a text to a text without marks and with them, and to a string |
+/// | 11, 12 | how many bytes the string has asked for, and how many the marks ask for, whatever the rounds are |
+///
+/// It answers 0, or a number below 0 where `sum` is left as it was: -1 where the number has no loop, -2 for want of
+/// memory.
+#[unsafe(no_mangle)]
+pub extern "C" fn compare_exports_texts(
+    alloc: Global,
+    number: u32,
+    units: &[u16],
+    places: &[u32],
+    rounds: u32,
+    sum: &mut u64,
+) -> i64
+    ensures code { (result ≡ pos 0) ⊎ ((result ≡ NO_LOOP) ⊎ (result ≡ MEMORY)) }
+    ensures kept { result <ℤ pos 0 → sum.new ≡ sum.old }
+    ensures no_loop { (result ≡ NO_LOOP) ↔ ((number ≡ 0) ⊎ (12 < number)) }
+{
+    if number == 0 || LAST_OF_TEXTS < number {
+        return NO_LOOP;
+    }
+    match TextBench::new(alloc, units, places, rounds).and_then(|bench| bench.run(number)) {
         Ok(answer) => {
             *sum = answer;
             0

@@ -43,6 +43,7 @@ impl Texts {
     /// | 72 | a number | whether the second text stands at a position |
     /// | 73 | | the order of the texts, each way of `is_less`, and whether they are equal |
     /// | 74 | | at how many places the text can be cut and is found whole again |
+    /// | 75 | | the first text keeps its marks from now on |
     pub fn run(&mut self, opcode: u8, tape: &mut Tape<'_>) -> Result<(), Stop> {
         match opcode {
             64 => {
@@ -63,6 +64,7 @@ impl Texts {
                 self.first = self.first.slice_units(tape.alloc, begin, end)?;
             }
             67 => self.first.concat(&self.second)?,
+            75 => self.first.mark_units(tape.alloc),
             _ => return self.look(opcode, tape),
         }
         Ok(write_units(tape, &self.first)?)

@@ -1,0 +1,289 @@
+//! Timings of texts that are counted in units, beside views and buffers, and beside arrays of units.
+
+use std::hint::black_box;
+use std::time::{Duration, Instant};
+
+use crate::inputs::{self, Input};
+use crate::ours;
+use crate::random::Random;
+use crate::say;
+
+/// How many units the texts have.
+const LENGTHS: [usize; 3] = [40, 1_000, 1_000_000];
+
+/// How many places in random order a round looks at, at least.
+const LEAST_PLACES: usize = 1_000;
+
+/// How many places a round looks at where each is counted from the front of a long text, at most.
+const MOST_COUNTED: usize = 200;
+
+/// How many units a slice has.
+const SLICE: usize = 10;
+
+/// How long one turn takes at least.
+const TURN: Duration = Duration::from_millis(4);
+
+/// How long the turns of a number take together, unless the least count of them takes longer.
+const BUDGET: Duration = Duration::from_millis(600);
+
+/// How many turns there are at least.
+const LEAST_TURNS: usize = 5;
+
+/// The loops of the proved library that give its memory: a buffer's, and that of a text's marks.
+const MEMORY_OF_BUFFER: u32 = 11;
+const MEMORY_OF_MARKS: u32 = 12;
+
+/// In which order a loop looks at places. The others go through all units.
+#[derive(Clone, Copy, PartialEq)]
+enum Order {
+    Ascending,
+    Random,
+}
+
+/// A loop over an array of units: what one round answers for some places.
+type ArrayLoop = fn(&[u16], &[u32]) -> u64;
+
+/// The row of a call: its loop over texts, that over views or buffers and that over arrays.
+struct Call {
+    name: &'static str,
+    order: Option<Order>,
+    text: u32,
+    string: Option<u32>,
+    array: Option<ArrayLoop>,
+    /// Whether the array's answer is the text's.
+    is_compared: bool,
+}
+
+const CALLS: [Call; 7] = [
+    Call {
+        name: "unit_at, in order",
+        order: Some(Order::Ascending),
+        text: 1,
+        string: Some(2),
+        array: Some(units_at),
+        is_compared: true,
+    },
+    Call {
+        name: "unit_at, at random",
+        order: Some(Order::Random),
+        text: 1,
+        string: Some(2),
+        array: Some(units_at),
+        is_compared: true,
+    },
+    Call {
+        name: "slice_units of 10, at random",
+        order: Some(Order::Random),
+        text: 3,
+        string: Some(4),
+        array: Some(slices),
+        is_compared: false,
+    },
+    Call {
+        name: "from_units",
+        order: None,
+        text: 5,
+        string: Some(7),
+        array: Some(copied),
+        is_compared: false,
+    },
+    Call {
+        name: "from_units, mark_units",
+        order: None,
+        text: 6,
+        string: None,
+        array: None,
+        is_compared: false,
+    },
+    Call {
+        name: "a unit appended",
+        order: None,
+        text: 8,
+        string: Some(10),
+        array: Some(pushed),
+        is_compared: false,
+    },
+    Call {
+        name: "a unit appended, with marks",
+        order: None,
+        text: 9,
+        string: None,
+        array: None,
+        is_compared: false,
+    },
+];
+
+/// Times the calls whose names have the filter in them, and prints their table: nanoseconds a call or a unit, of texts with
+/// marks, of views and buffers, and of arrays of units.
+pub fn run(filter: &str) -> bool {
+    let header = inputs::NAMES_OF_TEXTS.join(" | ");
+    say!("| text / view / array, ns | Units | {header} |\n|---|---|---|---|---|");
+    for call in CALLS.iter().filter(|call| call.name.contains(filter)) {
+        for length in LENGTHS {
+            let cells = inputs::texts(length).map(|input| cell(call, &input));
+            if cells.iter().any(Option::is_none) {
+                return false;
+            }
+            let cells = cells.map(Option::unwrap_or_default).join(" | ");
+            say!("| {} | {length} | {cells} |", call.name);
+        }
+    }
+    for length in LENGTHS {
+        let cells = inputs::texts(length)
+            .map(|input| memory(&input))
+            .join(" | ");
+        say!("| bytes a unit | {length} | {cells} |");
+    }
+    true
+}
+
+/// The times of a call on an input, or `None` where the sides' answers differ.
+fn cell(call: &Call, input: &Input) -> Option<String> {
+    let units = &input.units;
+    let places = places(call.order, units.len());
+    let few = counted_from_front(&places, units.len());
+    if !agree(call, input, &few) {
+        return None;
+    }
+    let items = |places: &[u32]| call.order.map_or(units.len(), |_| places.len());
+    let proved = |number: u32, places: &[u32]| {
+        time(items(places), |rounds| {
+            ours::texts(number, units, places, rounds)
+        })
+    };
+    let text = proved(call.text, &places);
+    let string = call.string.map(|number| proved(number, &few));
+    let array = call.array.map(|array| {
+        time(items(&places), |rounds| {
+            let round = |_| array(black_box(units), black_box(&places));
+            (0..rounds).map(round).fold(0, u64::wrapping_add)
+        })
+    });
+    let numbers = [Some(text), string, array].map(shown);
+    Some(numbers.join(" / "))
+}
+
+/// Whether all sides answer the same at some places, or says where they do not.
+fn agree(call: &Call, input: &Input, places: &[u32]) -> bool {
+    let proved = |number| ours::texts(number, &input.units, places, 1);
+    let text = proved(call.text);
+    let string = call.string.map_or(text, proved);
+    let array = match call.array {
+        Some(array) if call.is_compared => array(&input.units, places),
+        _ => text,
+    };
+    let is_same = text == string && text == array;
+    if !is_same {
+        say!(
+            "DIFFERENT ANSWERS in {}, {}: {text}, {string}, {array}",
+            call.name,
+            input.name
+        );
+    }
+    is_same
+}
+
+/// The places that a round looks at.
+fn places(order: Option<Order>, len: usize) -> Vec<u32> {
+    let mut random = Random::new(len as u64);
+    match order {
+        Some(Order::Ascending) => (0..len as u32).collect(),
+        Some(Order::Random) => {
+            let place = |_| random.below(len as u64) as u32;
+            (0..len.max(LEAST_PLACES)).map(place).collect()
+        }
+        None => Vec::new(),
+    }
+}
+
+/// Some of the places, spread over all of them, where the text is long.
+fn counted_from_front(places: &[u32], len: usize) -> Vec<u32> {
+    let step = match len > LEAST_PLACES {
+        true => (places.len() / MOST_COUNTED).max(1),
+        false => 1,
+    };
+    places.iter().copied().step_by(step).collect()
+}
+
+/// The least time of a loop for an item, in nanoseconds, without the time that it takes for no rounds.
+fn time(items: usize, run: impl Fn(u32) -> u64) -> f64 {
+    let rounds = rounds_of_a_turn(&run);
+    let mut random = Random::new(items as u64);
+    let begin = Instant::now();
+    let (mut whole, mut made) = (Duration::MAX, Duration::MAX);
+    let mut turns = 0;
+    while turns < LEAST_TURNS || begin.elapsed() < BUDGET {
+        // Where things lie may decide as much as what is done with them.
+        let _elsewhere = black_box(vec![0u8; random.between(1, 8192) as usize]);
+        made = made.min(timed(&run, 0));
+        whole = whole.min(timed(&run, rounds));
+        turns += 1;
+    }
+    whole.saturating_sub(made).as_nanos() as f64 / (f64::from(rounds) * items as f64)
+}
+
+/// A number of rounds with which a loop takes long enough.
+fn rounds_of_a_turn(run: impl Fn(u32) -> u64) -> u32 {
+    let mut rounds = 1;
+    while timed(&run, rounds) < timed(&run, 0) + TURN && rounds < 1 << 24 {
+        rounds *= 2;
+    }
+    rounds
+}
+
+fn timed(run: impl Fn(u32) -> u64, rounds: u32) -> Duration {
+    let start = Instant::now();
+    black_box(run(rounds));
+    start.elapsed()
+}
+
+/// How many bytes a unit takes: of a text without its marks and of these, of a buffer, and of an array.
+fn memory(input: &Input) -> String {
+    let [buffer, marks] = [MEMORY_OF_BUFFER, MEMORY_OF_MARKS]
+        .map(|number| ours::texts(number, &input.units, &[], 0) as f64 / input.units.len() as f64);
+    format!(
+        "{buffer:.2} + {marks:.3} / {buffer:.2} / {:.2}",
+        size_of::<u16>() as f64
+    )
+}
+
+/// A time in two digits or so, in nanoseconds unless it says another unit.
+fn shown(time: Option<f64>) -> String {
+    match time {
+        None => "-".to_owned(),
+        Some(time) if time < 1.0 => format!("{time:.2}"),
+        Some(time) if time < 10.0 => format!("{time:.1}"),
+        Some(time) if time < 10_000.0 => format!("{time:.0}"),
+        Some(time) => format!("{:.0} µs", time / 1e3),
+    }
+}
+
+#[inline(never)]
+fn units_at(units: &[u16], places: &[u32]) -> u64 {
+    let unit = |place: &u32| units.get(*place as usize).copied().map_or(0, u64::from);
+    places.iter().map(unit).sum()
+}
+
+#[inline(never)]
+fn slices(units: &[u16], places: &[u32]) -> u64 {
+    let slice = |place: &u32| {
+        let begin = (*place as usize).min(units.len().saturating_sub(SLICE));
+        let end = units.len().min(begin + SLICE);
+        black_box(units[begin..end].to_vec()).len() as u64
+    };
+    places.iter().map(slice).sum()
+}
+
+#[inline(never)]
+fn copied(units: &[u16], _: &[u32]) -> u64 {
+    black_box(units.to_vec()).len() as u64
+}
+
+#[inline(never)]
+fn pushed(units: &[u16], _: &[u32]) -> u64 {
+    let mut array = Vec::new();
+    for unit in units {
+        array.push(*black_box(unit));
+    }
+    black_box(array).len() as u64
+}

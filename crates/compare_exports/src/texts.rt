@@ -1,0 +1,205 @@
+// Calls of texts that are counted in units, in loops, and the same calls of views and buffers.
+ghost use Rattle.std.specs.Prelude.{◌≡◌, ◌<◌, ◌≤◌, length};
+
+use refusing::{Refusal, Refusing};
+use std::alloc::{AllocError, Global};
+use unit_text::UnitText;
+use wtf8::{CodePoint, UnitSlice, Wtf8Buf};
+
+/// The number of the last loop.
+pub const LAST: u32 = 12;
+
+/// How many units a slice has.
+const SLICE: usize = 10;
+
+/// How many bytes a unit takes that a slice divides from its pair.
+const DIVIDED: u64 = 3;
+
+/// What the loops work on.
+#[derive(Drop)]
+pub struct TextBench<'a> {
+    alloc: Global,
+    units: &'a [u16],
+    places: &'a [u32],
+    rounds: u32,
+    text: UnitText<Global>,
+    string: Wtf8Buf<Global>,
+    len: usize,
+    ghost counted: { len ≡ length string.units },
+}
+
+impl<'a> TextBench<'a> {
+    /// A text of some units, with its marks, and a string of them, and the places that each round looks at.
+    pub fn new(
+        alloc: Global,
+        units: &'a [u16],
+        places: &'a [u32],
+        rounds: u32,
+    ) -> Result<TextBench<'a>, AllocError> {
+        let mut text = UnitText::from_units(alloc, units)?;
+        text.mark_units(alloc);
+        let string = Wtf8Buf::from_ill_formed_utf16(alloc, units)?;
+        let len = string.as_wtf8().unit_len();
+        Ok(TextBench {
+            alloc,
+            units,
+            places,
+            rounds,
+            text,
+            string,
+            len,
+        })
+    }
+
+    /// Runs the loop of a number, and answers a sum over what its calls answered.
+    pub fn run(&self, number: u32) -> Result<u64, AllocError>
+        requires least { 0 < number }
+        requires most { number ≤ 12 }
+    {
+        match number {
+            1 => self.at_places::<1>(),
+            2 => self.at_places::<2>(),
+            3 => self.at_places::<3>(),
+            4 => self.at_places::<4>(),
+            5 => self.whole::<5>(),
+            6 => self.whole::<6>(),
+            7 => self.whole::<7>(),
+            8 => self.whole::<8>(),
+            9 => self.whole::<9>(),
+            10 => self.whole::<10>(),
+            11 => Ok(self.string.capacity() as u64),
+            12 => self.bytes_of_marks(),
+            _ => unreachable!(),
+        }
+    }
+
+    /// The sum of what a loop's call answers at each place, in each round, which wraps round.
+    #[inline(never)]
+    fn at_places<const LOOP: u32>(&self) -> Result<u64, AllocError> {
+        let mut sum = 0u64;
+        for _ in 0..self.rounds {
+            sum = sum.wrapping_add(self.round_of_places::<LOOP>()?);
+        }
+        Ok(sum)
+    }
+
+    /// The same for one round.
+    #[inline(always)]
+    fn round_of_places<const LOOP: u32>(&self) -> Result<u64, AllocError> {
+        let mut sum = 0u64;
+        for place in self.places {
+            sum = sum.wrapping_add(self.answer_at::<LOOP>(*place as usize)?);
+        }
+        Ok(sum)
+    }
+
+    /// What a loop's call answers at a place, as a number.
+    #[inline(always)]
+    fn answer_at<const LOOP: u32>(&self, place: usize) -> Result<u64, AllocError> {
+        let answer = match LOOP {
+            1 => u64::from(self.text.unit_at(place).unwrap_or(0)),
+            2 => u64::from(self.string.as_wtf8().unit_at(place).unwrap_or(0)),
+            3 => self.slice_of_text(place)?.as_wtf8().len() as u64,
+            4 => len_of_slice(self.slice_of_view(place)),
+            _ => 0,
+        };
+        Ok(answer)
+    }
+
+    /// Ten units of the text from a place on, or the last ten.
+    #[inline(always)]
+    fn slice_of_text(&self, place: usize) -> Result<UnitText<Global>, AllocError> {
+        let (begin, end) = ends_of_slice(place, self.text.unit_len());
+        self.text.slice_units(self.alloc, begin, end)
+    }
+
+    /// The same units of the string, as parts of it.
+    #[inline(always)]
+    fn slice_of_view(&self, place: usize) -> UnitSlice<'_> {
+        let (begin, end) = ends_of_slice(place, self.len);
+        self.string.as_wtf8().slice_units(begin, end)
+    }
+
+    /// The sum of how long what a loop's call makes of all units is, in each round, which wraps round.
+    #[inline(never)]
+    fn whole<const LOOP: u32>(&self) -> Result<u64, AllocError> {
+        let mut sum = 0u64;
+        for _ in 0..self.rounds {
+            sum = sum.wrapping_add(self.len_of_whole::<LOOP>()? as u64);
+        }
+        Ok(sum)
+    }
+
+    /// How many bytes what a loop's call makes of all units has.
+    #[inline(always)]
+    fn len_of_whole<const LOOP: u32>(&self) -> Result<usize, AllocError> {
+        let (alloc, units) = (self.alloc, self.units);
+        let len = match LOOP {
+            5 => UnitText::from_units(alloc, units)?.as_wtf8().len(),
+            6 => marked(alloc, units)?.as_wtf8().len(),
+            7 => Wtf8Buf::from_ill_formed_utf16(alloc, units)?.len(),
+            8 => appended(UnitText::from_units(alloc, &[])?, alloc, units)?
+                .as_wtf8()
+                .len(),
+            9 => appended(marked(alloc, &[])?, alloc, units)?.as_wtf8().len(),
+            10 => pushed(alloc, units)?.len(),
+            _ => 0,
+        };
+        Ok(len)
+    }
+
+    /// How many bytes the marks of a text of the units ask for.
+    fn bytes_of_marks(&self) -> Result<u64, AllocError> {
+        let heap = Refusing::new(self.alloc, u64::MAX);
+        let mut text = UnitText::from_units(&heap, self.units)?;
+        heap.refuse_after(u64::MAX, Refusal::ForGood);
+        text.mark_units(&heap);
+        Ok(heap.bytes() as u64)
+    }
+}
+
+/// Where ten units from a place on begin and end in so many, or the last ten.
+#[inline(always)]
+fn ends_of_slice(place: usize, len: usize) -> (usize, usize)
+    ensures order { result.0 ≤ result.1 }
+    ensures within { result.1 ≤ len }
+{
+    let begin = place.min(len.saturating_sub(SLICE));
+    (begin, len.min(begin.saturating_add(SLICE)))
+}
+
+/// A text of some units, with its marks.
+fn marked(alloc: Global, units: &[u16]) -> Result<UnitText<Global>, AllocError> {
+    let mut text = UnitText::from_units(alloc, units)?;
+    text.mark_units(alloc);
+    Ok(text)
+}
+
+/// A text with units behind it, each of which is appended by itself.
+fn appended(
+    text: UnitText<Global>,
+    alloc: Global,
+    units: &[u16],
+) -> Result<UnitText<Global>, AllocError> {
+    let mut text = text;
+    for unit in units {
+        text.concat(&UnitText::from_units(alloc, &[*unit])?)?;
+    }
+    Ok(text)
+}
+
+/// A string of units, each of which is pushed by itself.
+fn pushed(alloc: Global, units: &[u16]) -> Result<Wtf8Buf<Global>, AllocError> {
+    let mut string = Wtf8Buf::new(alloc);
+    for unit in units {
+        string.push(CodePoint::from_u32_unchecked(u32::from(*unit)))?;
+    }
+    Ok(string)
+}
+
+/// How many bytes a slice has as a text.
+#[inline(always)]
+fn len_of_slice(slice: UnitSlice<'_>) -> u64 {
+    let divided = u64::from(slice.trail.is_some()) + u64::from(slice.lead.is_some());
+    slice.whole.len() as u64 + DIVIDED * divided
+}
