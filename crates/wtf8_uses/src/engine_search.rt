@@ -8,7 +8,8 @@ use std::alloc::{AllocError, Allocator};
 use unit_text::UnitText;
 
 /// `indexOf`: the first place at or behind a position where another text's units stand, and `None`, for the -1 of the
-/// language, where there is none. A position beyond the end is the end, where the empty text stands.
+/// language, where there is none. A position beyond the end is the end, where the empty text stands. It reads the units
+/// before each place anew, so it is for short texts.
 pub fn index_of<A: Allocator, B: Allocator>(
     text: &UnitText<A>,
     search: &UnitText<B>,
