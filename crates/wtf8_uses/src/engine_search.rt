@@ -1,4 +1,5 @@
-//! Calls of ECMAScript's strings that look for one text in another (ECMAScript, "String.prototype").
+//! Calls of ECMAScript's strings that look for one text in another (ECMAScript, "String.prototype"). Texts are only read: a
+//! call that makes some takes an allocator, and after a refusal all is as it was.
 ghost use Rattle.std.specs.List.{join_with_byte, slice_split};
 ghost use Rattle.std.specs.Prelude.{All, map, ◌==◌, ◌≢◌, ◌≡◌, ◌+◌, ◌≤◌, ◌++◌, ℕ, length, take, drop, min, IfSome, IfNone, IfOk};
 ghost use Rattle.wtf8_uses.specs.EngineString.{IsFirstPlace, StandsAt};
