@@ -1,4 +1,5 @@
-//! Calls of ECMAScript's strings that look for one text in another (ECMAScript, "String.prototype").
+//! Calls of ECMAScript's strings that look for one text in another (ECMAScript, "String.prototype"). Texts are only read: a
+//! call that makes some takes an allocator, and after a refusal all is as it was.
 ghost use Rattle.std.specs.List.{join_with_byte, slice_split};
 ghost use Rattle.std.specs.Prelude.{All, map, ◌==◌, ◌≢◌, ◌≡◌, ◌+◌, ◌≤◌, ◌++◌, ℕ, length, take, drop, min, IfSome, IfNone, IfOk};
 ghost use Rattle.wtf8_uses.specs.EngineString.{IsFirstPlace, StandsAt};
@@ -8,7 +9,8 @@ use std::alloc::{AllocError, Allocator};
 use unit_text::UnitText;
 
 /// `indexOf`: the first place at or behind a position where another text's units stand, and `None`, for the -1 of the
-/// language, where there is none. A position beyond the end is the end, where the empty text stands.
+/// language, where there is none. A position beyond the end is the end, where the empty text stands. It reads the units
+/// before each place anew, so it is for short texts.
 pub fn index_of<A: Allocator, B: Allocator>(
     text: &UnitText<A>,
     search: &UnitText<B>,

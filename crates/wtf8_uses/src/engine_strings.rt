@@ -1,5 +1,7 @@
 //! More calls of ECMAScript's strings, each of one text (ECMAScript, "String.prototype"). Those that look for one text in
 //! another are in the module `engine_search`.
+//!
+//! Texts are only read: a call that makes one takes an allocator, and after a refusal all is as it was.
 ghost use Rattle.std.specs.List.{repeat};
 ghost use Rattle.std.specs.Option.{option_map};
 ghost use Rattle.std.specs.Prelude.{◌≡◌, ◌↔◌, ◌+◌, ◌-◌, ◌<◌, ◌≤◌, ◌++◌, [], ℕ, pos, negsuc, length, take, slice_get, slice_index, IsTrue, IsNone, IfOk, IsOk};
