@@ -16,7 +16,7 @@ use crate::random::Random;
 use crate::say;
 
 /// The loops by number, as the proved library's exports know them.
-const LOOPS: [(u32, &str); 19] = [
+const LOOPS: [(u32, &str); 20] = [
     (1, "from_ill_formed_utf16"),
     (2, "to_ill_formed_utf16, collected"),
     (3, "to_ill_formed_utf16, summed"),
@@ -36,6 +36,7 @@ const LOOPS: [(u32, &str); 19] = [
     (17, "slice_units, middle half"),
     (18, "cmp_units"),
     (19, "clone and truncate_units"),
+    (20, "append_units"),
 ];
 
 /// How often a column is timed.

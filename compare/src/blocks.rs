@@ -116,8 +116,8 @@ pub fn far() -> Vec<Vec<Call>> {
     let mut scripts = Vec::new();
     for base in BASES {
         for far in [8191, 16_384, 32_767, 49_153, 60_001, 64_999] {
+            // Each position by itself: the crate tells what is no boundary by a panic that writes the whole string.
             let mut calls = string_of_far_bytes(&units_of_bytes(base, 250));
-            calls.extend(on(0, &["boundaries"]));
             for position in far - 1..=far + 2 {
                 calls.extend(at_position(position));
             }

@@ -44,7 +44,7 @@ macro_rules! column {
                         1 => Some(sum(rounds, |_| {
                             Wtf8Buf::$from_units(black_box(&self.units)).len() as u64
                         })),
-                        2 => Some(sum(rounds, |round| {
+                        2 | 20 => Some(sum(rounds, |round| {
                             let units: Vec<u16> = self.string_at(round).$units().collect();
                             black_box(units).len() as u64
                         })),

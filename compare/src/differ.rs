@@ -4,6 +4,7 @@ use crate::console::progress;
 use crate::generate;
 use crate::lists::LISTS;
 use crate::random::Random;
+use crate::original::Answers;
 use crate::script::{encode, Call};
 use crate::{model, original, ours, say, shrink};
 
@@ -14,6 +15,9 @@ const REFUSALS: [&str; 5] = [
     "slice_to",
     "ascii_byte_at",
 ];
+
+/// How many scripts are given to both sides together.
+const BATCH: usize = 1000;
 
 /// What was run, and the known differences that were seen.
 #[derive(Default)]
@@ -58,34 +62,52 @@ pub fn run(seed: u64, cases: u64, every_point: bool) -> bool {
     true
 }
 
+/// What the crate answers to scripts, and the proved library's transcripts, as many as there are.
+fn answers_of(batch: &[Vec<Call>]) -> (Vec<Answers>, Vec<String>) {
+    let scripts: Vec<Vec<u8>> = batch.iter().map(|script| encode(script)).collect();
+    std::thread::scope(|scope| {
+        let crates = scope.spawn(|| scripts.iter().map(|script| original::run(script)).collect());
+        let transcripts = ours::run_all(&scripts);
+        match crates.join() {
+            Ok(answers) => (answers, transcripts),
+            Err(panic) => std::panic::resume_unwind(panic),
+        }
+    })
+}
+
 fn differs(script: &[Call]) -> bool {
     let bytes = encode(script);
     ours::run(&bytes) != original::run(&bytes).transcript
 }
 
 impl Tally {
-    /// Whether the two sides agree on a list of scripts.
-    fn agrees_on(&mut self, name: &str, scripts: impl Iterator<Item = Vec<Call>>) -> bool {
-        for (done, script) in scripts.enumerate() {
-            if done % 10_000 == 0 {
-                progress(&format!("{name}: {done} scripts "));
+    /// Whether the two sides agree on a list of scripts, which are run many at a time, side by side.
+    fn agrees_on(&mut self, name: &str, mut scripts: impl Iterator<Item = Vec<Call>>) -> bool {
+        for turn in 0.. {
+            let batch: Vec<Vec<Call>> = scripts.by_ref().take(BATCH).collect();
+            if batch.is_empty() {
+                return true;
             }
-            if !self.agrees(&script) {
-                say!("\nDIFFERENT ANSWERS at script {} of: {name}", done + 1);
-                say!("(script {} of all)", self.scripts + 1);
-                show_difference(&script);
-                return false;
+            if turn % 10 == 0 {
+                progress(&format!("{name}: {} scripts ", turn * BATCH));
+            }
+            let (answers, transcripts) = answers_of(&batch);
+            for (number, (script, answers)) in batch.iter().zip(answers).enumerate() {
+                if transcripts.get(number) != Some(&answers.transcript) {
+                    let done = turn * BATCH + number;
+                    say!("\nDIFFERENT ANSWERS at script {} of: {name}", done + 1);
+                    say!("(script {} of all)", self.scripts + 1);
+                    show_difference(script);
+                    return false;
+                }
+                self.count(script, answers);
             }
         }
         true
     }
 
-    fn agrees(&mut self, script: &[Call]) -> bool {
-        let bytes = encode(script);
-        let answers = original::run(&bytes);
-        if ours::run(&bytes) != answers.transcript {
-            return false;
-        }
+    /// Counts a script on which the two sides agree.
+    fn count(&mut self, script: &[Call], answers: Answers) {
         self.scripts += 1;
         self.calls += script.len() as u64;
         self.refusals += answers.panicked.len() as u64;
@@ -102,7 +124,6 @@ impl Tally {
                 self.refusal_examples.push((name, script.to_vec()));
             }
         }
-        true
     }
 
     fn report(&self) {

@@ -11,6 +11,9 @@ pub struct Input {
 /// How many units the long inputs have.
 const LONG: usize = 4096;
 
+/// How many units the inputs have that are like texts of people: more than a processor learns by heart.
+const TEXT: usize = 1 << 16;
+
 /// The names of the inputs of texts that are counted in units.
 pub const NAMES_OF_TEXTS: [&str; 3] = ["ASCII", "CJK", "mixed"];
 
@@ -42,7 +45,43 @@ pub fn all() -> Vec<Input> {
         });
     }
     inputs.push(joining());
+    inputs.extend(texts_of_people());
     inputs
+}
+
+/// Texts as people have them: none is of one kind, and none repeats.
+fn texts_of_people() -> [Input; 5] {
+    let letter = |random: &mut Random| match random.below(6) {
+        0 => 0x20,
+        _ => random.between(0x61, 0x7A),
+    };
+    [
+        // One in twelve an accented letter.
+        text("French", |random| match random.below(12) {
+            0 => random.pick(&[0xE0, 0xE7, 0xE8, 0xE9, 0xE9, 0xE9, 0xEA, 0xF4]),
+            _ => letter(random),
+        }),
+        // One in sixty a typographic quotation mark or dash.
+        text("English", |random| match random.below(60) {
+            0 => random.pick(&[0x2013, 0x2018, 0x2019, 0x201C, 0x201D]),
+            _ => letter(random),
+        }),
+        text("emoji", |random| match random.below(15) {
+            0 => random.between(0x1F300, 0x1F64F),
+            _ => letter(random),
+        }),
+        text("Russian", |random| match random.below(7) {
+            0 => 0x20,
+            _ => random.between(0x430, 0x44F),
+        }),
+        // Kana, kanji and their full stops, one in twenty an ASCII digit.
+        text("Japanese", |random| match random.below(20) {
+            0 => random.between(0x30, 0x39),
+            1 => random.pick(&[0x3001, 0x3002]),
+            2..=12 => random.between(0x3041, 0x30FE),
+            _ => random.between(0x4E00, 0x9FA5),
+        }),
+    ]
 }
 
 /// The inputs of texts that are counted in units, of so many units, in the order of their names.
@@ -76,6 +115,13 @@ fn joining() -> Input {
     Input {
         name: "40 units, ends that join",
         units,
+    }
+}
+
+fn text(name: &'static str, point: impl Fn(&mut Random) -> u32) -> Input {
+    Input {
+        name,
+        units: units(TEXT, point),
     }
 }
 

@@ -7,6 +7,9 @@ use crate::random::Random;
 use crate::script::{encode, Build, Call, Kind, Operand, UNBOUNDED};
 use crate::{ours, say};
 
+/// How many lists are given to the library together.
+const BATCH: u64 = 1000;
+
 /// A list of building calls, and what it works on.
 struct Case {
     start: Vec<u16>,
@@ -30,26 +33,23 @@ struct Answer {
 pub fn run(seed: u64, cases: u64) -> bool {
     let mut random = Random::new(seed ^ 0x5EED);
     let (mut stopped, mut refused) = (0, 0);
-    for done in 0..cases {
-        if done % 10_000 == 0 {
-            progress(&format!("lists of building calls: {done} of {cases} "));
-        }
-        let case = Case::new(&mut random);
-        let transcript = ours::run(&encode(&case.script()));
-        let answer = Answer::read(&transcript);
-        if let Err(why) = answer
-            .as_ref()
-            .map_or(Err("it is none".to_owned()), |answer| case.check(answer))
-        {
-            say!("\nNOT AS THE MODEL SAYS at list {}: {why}", done + 1);
-            case.script().iter().for_each(|call| say!("    {call}"));
-            say!("the proved library:\n{transcript}");
-            return false;
-        }
-        match answer.map(|answer| answer.outcome) {
-            Some(Err(_)) => stopped += 1,
-            Some(Ok(count)) => refused += u64::from(count > 0),
-            None => {}
+    for done in 0..cases.div_ceil(BATCH) {
+        let count = BATCH.min(cases - done * BATCH);
+        progress(&format!("lists of building calls: {} of {cases} ", done * BATCH));
+        let batch: Vec<Case> = (0..count).map(|_| Case::new(&mut random)).collect();
+        let scripts: Vec<Vec<u8>> = batch.iter().map(|case| encode(&case.script())).collect();
+        let transcripts = ours::run_all(&scripts);
+        for (number, (case, transcript)) in (1..).zip(batch.iter().zip(&transcripts)) {
+            match case.outcome_in(transcript) {
+                Ok(Err(_)) => stopped += 1,
+                Ok(Ok(count)) => refused += u64::from(count > 0),
+                Err(why) => {
+                    say!("\nNOT AS THE MODEL SAYS at list {}: {why}", done * BATCH + number);
+                    case.script().iter().for_each(|call| say!("    {call}"));
+                    say!("the proved library:\n{transcript}");
+                    return false;
+                }
+            }
         }
     }
     say!("{cases} random lists of building calls: as the model says; {stopped} were stopped, in {refused} others truncations were refused");
@@ -101,6 +101,13 @@ impl Case {
         ];
         calls.push(Call::new("apply_all", operands));
         calls
+    }
+
+    /// The outcome in a transcript, or why it is not the model's.
+    fn outcome_in(&self, transcript: &str) -> Result<Result<usize, usize>, String> {
+        let answer = Answer::read(transcript).ok_or("it is none")?;
+        self.check(&answer)?;
+        Ok(answer.outcome)
     }
 
     /// Why the answer is not the model's, if it is not.

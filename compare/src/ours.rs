@@ -6,6 +6,6 @@ mod library;
 mod program;
 
 #[cfg(not(by_program))]
-pub use library::{run, texts, time};
+pub use library::{run, run_all, texts, time};
 #[cfg(by_program)]
-pub use program::{run, texts, time};
+pub use program::{run, run_all, texts, time};

@@ -50,6 +50,11 @@ pub fn run(script: &[u8]) -> String {
     })
 }
 
+/// The proved library's transcripts of scripts, in their order.
+pub fn run_all(scripts: &[Vec<u8>]) -> Vec<String> {
+    scripts.iter().map(|script| run(script)).collect()
+}
+
 /// Runs a timed loop of the proved library, and answers its sum.
 pub fn time(number: u32, units: &[u16], rounds: u32) -> u64 {
     let mut sum = 0;

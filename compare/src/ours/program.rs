@@ -20,17 +20,24 @@ struct Program {
 
 /// The proved library's transcript of a script, or what the program ended with in the place of one.
 pub fn run(script: &[u8]) -> String {
+    run_all(&[script.to_vec()]).concat()
+}
+
+/// The proved library's transcripts of scripts, in their order. Where the program ends at one, what it ended with stands in
+/// its place, and those behind it are left out.
+pub fn run_all(scripts: &[Vec<u8>]) -> Vec<String> {
     PROGRAM.with_borrow_mut(|kept| {
         let program = kept.get_or_insert_with(Program::started);
-        match program.transcript(script) {
-            Ok(Some(transcript)) => transcript,
-            Ok(None) => {
+        match program.transcripts(scripts) {
+            Ok(transcripts) if transcripts.len() == scripts.len() => transcripts,
+            Ok(mut transcripts) => {
                 let ended = program.child.wait();
                 *kept = None;
-                ended.map_or_else(
+                transcripts.push(ended.map_or_else(
                     |error| format!("NO TRANSCRIPT, {error}\n"),
                     |status| format!("NO TRANSCRIPT, {status}\n"),
-                )
+                ));
+                transcripts
             }
             Err(error) => fail(&format!("the program that runs scripts: {error}")),
         }
@@ -61,30 +68,59 @@ impl Program {
             Ok(Some((scripts, out, child))) => Program {
                 child,
                 scripts,
-                transcripts: BufReader::new(out),
+                transcripts: BufReader::with_capacity(1 << 16, out),
             },
             Ok(None) => fail("the program that runs scripts has no standard input or output"),
             Err(error) => fail(&format!("{}: {error}", path.to_string_lossy())),
         }
     }
 
-    /// The transcript, or none where the program ended before it was whole.
-    fn transcript(&mut self, script: &[u8]) -> std::io::Result<Option<String>> {
-        let mut line: String = script.iter().map(|byte| format!("{byte:02X}")).collect();
-        line.push('\n');
-        if self.scripts.write_all(line.as_bytes()).is_err() {
+    /// The transcripts, as many as there are before the program ends. It is given all scripts while it answers, so that
+    /// neither side waits for the other at each of them.
+    fn transcripts(&mut self, scripts: &[Vec<u8>]) -> std::io::Result<Vec<String>> {
+        let Program {
+            scripts: input,
+            transcripts: output,
+            ..
+        } = self;
+        let lines: String = scripts.iter().map(|script| line_of(script)).collect();
+        std::thread::scope(|scope| {
+            // A program that has ended takes no more; its end is seen where its transcripts are read.
+            scope.spawn(|| input.write_all(lines.as_bytes()));
+            let mut transcripts = Vec::with_capacity(scripts.len());
+            while transcripts.len() < scripts.len() {
+                let Some(transcript) = transcript_from(output)? else {
+                    break;
+                };
+                transcripts.push(transcript);
+            }
+            Ok(transcripts)
+        })
+    }
+}
+
+/// A script as a line in hexadecimal.
+fn line_of(script: &[u8]) -> String {
+    const DIGITS: &[u8; 16] = b"0123456789ABCDEF";
+    let digit = |number: u8| char::from(DIGITS[usize::from(number)]);
+    script
+        .iter()
+        .flat_map(|byte| [digit(byte / 16), digit(byte % 16)])
+        .chain(['\n'])
+        .collect()
+}
+
+/// The next transcript, or none where the program ended before it was whole.
+fn transcript_from(output: &mut impl BufRead) -> std::io::Result<Option<String>> {
+    let mut transcript = Vec::new();
+    loop {
+        let before = transcript.len();
+        if output.read_until(b'\n', &mut transcript)? == 0 {
             return Ok(None);
         }
-        let mut transcript = Vec::new();
-        loop {
-            let before = transcript.len();
-            if self.transcripts.read_until(b'\n', &mut transcript)? == 0 {
-                return Ok(None);
-            }
-            if transcript[before..] == *b"\n" {
-                transcript.truncate(before);
-                return Ok(Some(String::from_utf8_lossy(&transcript).into_owned()));
-            }
+        if transcript[before..] == *b"\n" {
+            transcript.truncate(before);
+            return Ok(Some(String::from_utf8_lossy(&transcript).into_owned()));
         }
     }
 }

@@ -45,7 +45,7 @@ pub extern "C" fn compare_exports_run(alloc: Global, script: &[u8], out: &mut [u
     }
 }
 
-/// Makes equal strings of some units, runs the loop of a number, 1 to 19, over them for so many rounds, and writes to
+/// Makes equal strings of some units, runs the loop of a number, 1 to 20, over them for so many rounds, and writes to
 /// `sum` a sum over what its calls answered, which wraps round at 2^64. With no rounds it makes the strings alone.
 ///
 /// It answers 0, or a number below 0 where `sum` is left as it was: -1 where the number has no loop, -2 for want of
@@ -60,7 +60,7 @@ pub extern "C" fn compare_exports_time(
 ) -> i64
     ensures code { (result ≡ pos 0) ⊎ ((result ≡ NO_LOOP) ⊎ (result ≡ MEMORY)) }
     ensures kept { result <ℤ pos 0 → sum.new ≡ sum.old }
-    ensures no_loop { (result ≡ NO_LOOP) ↔ ((number ≡ 0) ⊎ (19 < number)) }
+    ensures no_loop { (result ≡ NO_LOOP) ↔ ((number ≡ 0) ⊎ (20 < number)) }
 {
     if number == 0 || LAST < number {
         return NO_LOOP;

@@ -15,7 +15,7 @@ pub const STRINGS: usize = 4;
 const FIRST_COUNTED: u32 = 15;
 
 /// The number of the last loop.
-pub const LAST: u32 = 19;
+pub const LAST: u32 = 20;
 
 /// What the loops work on.
 #[derive(Drop)]
@@ -51,7 +51,7 @@ impl Bench {
     /// Runs the loop of a number, and answers a sum over what its calls answered.
     pub fn run(&self, number: u32) -> Result<u64, AllocError>
         requires least { 0 < number }
-        requires most { number ≤ 19 }
+        requires most { number ≤ 20 }
     {
         match number {
             1 => self.sum::<1>(),
@@ -73,6 +73,7 @@ impl Bench {
             17 => self.sum::<17>(),
             18 => self.sum::<18>(),
             19 => self.sum::<19>(),
+            20 => self.sum::<20>(),
             _ => unreachable!(),
         }
     }
@@ -119,6 +120,7 @@ impl Bench {
             17 => own.middle_half(self.alloc)?.as_wtf8().len() as u64,
             18 => own.text.cmp_units(&other.text).is_eq() as u64,
             19 => own.first_half()?.len() as u64,
+            20 => appended_units(self.alloc, own.view())?,
             _ => 0,
         };
         Ok(answer)
@@ -172,6 +174,13 @@ fn counted_units(number: u32, units: &[u16]) -> &[u16] {
         return &units[..0];
     }
     units
+}
+
+/// How many units a view has, by those that it appends to none.
+fn appended_units(alloc: Global, view: Wtf8<'_>) -> Result<u64, AllocError> {
+    let mut units = Vec::new(alloc);
+    view.append_units(&mut units)?;
+    Ok(units.len() as u64)
 }
 
 /// How many units a view has, by a list of them.

@@ -8,12 +8,12 @@ use compare_scripts::run_script;
 use fault::Fault;
 use hex::read_hex;
 use std::alloc::Global;
-use std::io::ErrorKind;
+use std::io::{BufRead, BufReader, ErrorKind, Stdin};
 use std::process::ExitCode;
 
 /// Answers up to the end of the input or to the first fault, of which the standard error and the status say what it was.
 fn main(rt: HostRuntime) -> ExitCode {
-    match print_transcripts(&rt, rt.alloc()) {
+    match print_transcripts(&rt, rt.stdin(), rt.alloc()) {
         Ok(()) => ExitCode::SUCCESS,
         Err(fault) => {
             let _ = rt.eprintln(fault.text());
@@ -22,9 +22,10 @@ fn main(rt: HostRuntime) -> ExitCode {
     }
 }
 
-/// Prints the transcript of each line's script.
-fn print_transcripts<R: Input + Print>(rt: &R, alloc: Global) -> Result<(), Fault> {
-    for line in rt.lines(alloc) {
+/// Prints the transcript of each line's script. Input that comes through a pipe is read by the piece, and not by the byte.
+fn print_transcripts<R: Print>(rt: &R, input: Stdin, alloc: Global) -> Result<(), Fault> {
+    let input = BufReader::new(alloc, input).or(Err(Fault::Memory))?;
+    for line in input.lines(alloc) {
         let line = match line {
             Ok(line) => line,
             Err(error) if error.kind() == ErrorKind::OutOfMemory => return Err(Fault::Memory),
