@@ -1,13 +1,12 @@
 -- For types: that bytes are well-formed, and that they are a form of units, has one proof at most: encodings determine their code points.
-use Rattle.std.specs.Prelude.{◌≡◌, ℕ, Bool, IsTrue, List, [], ◌∷◌, ◌++◌, refl}
+use Rattle.std.specs.Prelude.{◌≡◌, ◌<◌, ℕ, List, [], ◌∷◌, ◌++◌, length, refl}
 use Rattle.std.specs.Coded.{×_prop, →_prop, Unit-prop, le_prop, Coded-set, coded_list, coded_ℕ}
 use Rattle.std.proofs.Common.{ap, sym, ◌∙◌}
 use Rattle.std.proofs.lemmas.Str.{encodes_same}
-use mathlib.Core.HLevel.{Σ_prop_path, ⊥_prop, ×₃_prop}
+use mathlib.Core.HLevel.{Σ_prop_path, Π_prop, ⊥_prop, ×₃_prop}
 use lib.Utf8.{encode, encodes}
-use Rattle.wtf8.specs.Unicode.{units}
 use Rattle.wtf8.specs.Form.{IsClean, encoding, bytes, IsWellFormed, IsForm}
-use Rattle.wtf8.specs.Surrogates.{AreScalar}
+use Rattle.wtf8.specs.Unicode.{units, IsSurrogate}
 
 -- the library's table of UTF-8 is the same at every number
 pub encoding_is_encode : (p : ℕ) → encoding p ≡ encode p
@@ -59,10 +58,10 @@ IsForm-prop w u x y =
     λ c. ×_prop (×_prop (IsClean-prop c) (list_set (units c) u)) (list_set (bytes c) w) in
     ap form (Σ_prop_path same {u = form_parts x} {v = form_parts y} (bytes-injective x.points y.points (x.encoded ∙ sym y.encoded)))
 
-AreScalar-prop : (c : List ℕ) → IsProp (AreScalar c)
-AreScalar-prop [] = Unit-prop
-AreScalar-prop (p ∷ c) = ×_prop (→_prop ⊥_prop) (AreScalar-prop c)
+-- No code point that begins before a place among its string's bytes is a surrogate.
+abbrev pub AreScalarTo : ℕ → List ℕ → Type 0
+AreScalarTo end c = (f : List ℕ) (p : ℕ) (b : List ℕ) → c ≡ f ++ p ∷ b → length (bytes f) < end → ¬ (IsSurrogate p)
 
--- that no surrogate is held where a flag says so has one proof at most
-pub KnownScalar-prop : (known : Bool) (c : List ℕ) → IsProp (IsTrue known → AreScalar c)
-KnownScalar-prop known c = →_prop (AreScalar-prop c)
+-- that has one proof at most
+pub AreScalarTo-prop : (end : ℕ) (c : List ℕ) → IsProp (AreScalarTo end c)
+AreScalarTo-prop end c = Π_prop λ f. Π_prop λ p. Π_prop λ b. Π_prop λ _. Π_prop λ _. Π_prop λ _. ⊥_prop

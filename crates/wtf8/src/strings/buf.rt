@@ -5,7 +5,7 @@ ghost use Rattle.std.specs.String.{string_bytes};
 ghost use Rattle.wtf8.specs.Appending.{AppendsUnits, KeepsContents, HasRoomFor, AddsLength};
 ghost use Rattle.wtf8.specs.CodePoint.{number};
 ghost use Rattle.wtf8.specs.Form.{IsWellFormed, IsForm, Reads, bytes, encoding};
-ghost use Rattle.wtf8.specs.OneForm.{IsWellFormed-prop, KnownScalar-prop};
+ghost use Rattle.wtf8.specs.OneForm.{IsWellFormed-prop, AreScalarTo, AreScalarTo-prop};
 ghost use Rattle.wtf8.specs.Position.{IsBoundary, IsFront};
 ghost use Rattle.wtf8.specs.Surrogates.{AreScalar, lossy};
 ghost use Rattle.wtf8.specs.Scan.{IsFirst};
@@ -27,8 +27,8 @@ use std::marker::Model;
 /// An owned string of well-formed WTF-8 that can grow.
 ///
 /// Contracts see it as its units, its bytes, the fact that the bytes are the well-formed form of these units, and its
-/// capacity. They do not see a flag that saves `into_string` and `into_string_lossy` their search, and equality, order,
-/// hash, display and debug text do not look at it.
+/// capacity. They do not see how much of it is known to hold no surrogate, which saves `into_string` and
+/// `into_string_lossy` their search, and equality, order, hash, display and debug text do not look at it.
 ///
 /// ```
 /// use std::alloc::{AllocError, Global};
@@ -49,10 +49,11 @@ use std::marker::Model;
 pub struct Wtf8Buf<A: Allocator> {
     bytes: Vec<u8, A>,
 
-    /// Whether it is known that no surrogate is held. Where it is not, there may be one or none.
-    is_known_utf8: bool,
+    /// Before this place it is known that no surrogate begins; at or behind it there may be one or none. It is the
+    /// greatest number where none is held, so that what is appended and holds none leaves it as it is.
+    scalar_end: usize,
     ghost well_formed: { IsWellFormed bytes.items } by { IsWellFormed-prop bytes.items },
-    ghost known_scalar: { IsTrue is_known_utf8 → AreScalar well_formed.points } by { KnownScalar-prop is_known_utf8 well_formed.points },
+    ghost scalar_front: { AreScalarTo scalar_end well_formed.points } by { AreScalarTo-prop scalar_end well_formed.points },
 }
 
 impl<A: Allocator> Model for Wtf8Buf<A> {
@@ -78,7 +79,28 @@ impl<A: Allocator> Model for Wtf8Buf<A> {
     } };
 }
 
-/// A string of bytes that are known to be well-formed, and that are known to hold no surrogate where the flag says so.
+/// The place before which no surrogate begins in a string that may be known to hold none at all.
+fn end_of_scalars(are_all: bool) -> usize
+    ensures { (c : List ℕ) → (IsTrue are_all → AreScalar c) → AreScalarTo result c }
+{
+    if are_all {
+        return usize::MAX;
+    }
+    0
+}
+
+/// A string of bytes that are known to be well-formed, and in which no surrogate begins before a place.
+fn with_scalar_front<A: Allocator>(bytes: Vec<u8, A>, scalar_end: usize) -> Wtf8Buf<A>
+    requires well_formed { IsWellFormed bytes.items }
+    requires scalar { (h : IsWellFormed bytes.items) → AreScalarTo scalar_end h.points }
+    ensures bytes { result.bytes ≡ bytes.items }
+    ensures units { (h : IsWellFormed bytes.items) → result.units ≡ units h.points }
+    ensures capacity { result.capacity ≡ vec_capacity bytes }
+{
+    Wtf8Buf { bytes, scalar_end }
+}
+
+/// A string of bytes that are known to be well-formed, and to hold no surrogate where that is said.
 fn from_well_formed<A: Allocator>(bytes: Vec<u8, A>, is_known_utf8: bool) -> Wtf8Buf<A>
     requires well_formed { IsWellFormed bytes.items }
     requires scalar { IsTrue is_known_utf8 → (h : IsWellFormed bytes.items) → AreScalar h.points }
@@ -86,10 +108,30 @@ fn from_well_formed<A: Allocator>(bytes: Vec<u8, A>, is_known_utf8: bool) -> Wtf
     ensures units { (h : IsWellFormed bytes.items) → result.units ≡ units h.points }
     ensures capacity { result.capacity ≡ vec_capacity bytes }
 {
-    Wtf8Buf {
-        bytes,
-        is_known_utf8,
+    with_scalar_front(bytes, end_of_scalars(is_known_utf8))
+}
+
+/// The place before which no surrogate begins once a view is appended to so many bytes.
+#[inline(always)]
+fn scalar_end_with(scalar_end: usize, len: usize, other: Wtf8<'_>) -> usize
+    ensures order { result ≤ scalar_end }
+    ensures scalar { len < result → AreScalar (view_points other.entry) }
+{
+    if other.is_empty() {
+        return scalar_end;
     }
+    scalar_end.min(len)
+}
+
+/// The place before which no surrogate begins once so many bytes at the front are kept.
+#[inline(always)]
+fn scalar_end_of_front(scalar_end: usize, len: usize) -> usize
+    ensures { (c : List ℕ) → length (bytes c) ≡ len → AreScalarTo scalar_end c → AreScalarTo result c }
+{
+    if len <= scalar_end {
+        return usize::MAX;
+    }
+    scalar_end
 }
 
 impl<A: Allocator> Wtf8Buf<A> {
@@ -164,7 +206,7 @@ impl<A: Allocator> Wtf8Buf<A> {
     {
         let alloc = self.bytes.allocator().clone()?;
         let bytes = copies::copied(alloc, self.bytes.as_slice())?;
-        Ok(from_well_formed(bytes, self.is_known_utf8))
+        Ok(with_scalar_front(bytes, self.scalar_end))
     }
 
     /// Finds room for at least `additional` more bytes, and asks for none where that room is there. The string is as
@@ -239,7 +281,7 @@ impl<A: Allocator> Wtf8Buf<A> {
         ensures at_most { OnOk result (length self.new.bytes ≤ length self.old.bytes + length (encoding (number code_point))) }
         ensures room_left { length self.old.bytes + length (encoding (number code_point)) ≤ self.old.capacity → IsOk result }
     {
-        concat::push_point(&mut self.bytes, &mut self.is_known_utf8, code_point)
+        concat::push_point(&mut self.bytes, &mut self.scalar_end, code_point)
     }
 
     /// Appends a character. After a refusal the string is as before.
@@ -334,10 +376,8 @@ impl<A: Allocator> Wtf8Buf<A> {
         ensures nothing { other.entry.bytes.now ≡ [] → KeepsContents self.old self.new }
     {
         // Where no surrogate is held, none at the end meets another.
-        let is_apart = self.is_known_utf8;
-        if is_apart && surrogate_presence::holds_surrogate(other.bytes) {
-            self.is_known_utf8 = false;
-        }
+        let is_apart = self.is_known_utf8();
+        self.scalar_end = scalar_end_with(self.scalar_end, self.bytes.len(), other);
         concat::push_view(&mut self.bytes, other, is_apart)
     }
 
@@ -347,9 +387,7 @@ impl<A: Allocator> Wtf8Buf<A> {
         ensures units { IsFront self.old.units new_len self.new.units }
         ensures bytes { self.new.bytes ≡ take new_len self.old.bytes }
     {
-        if new_len == 0 {
-            self.is_known_utf8 = true;
-        }
+        self.scalar_end = scalar_end_of_front(self.scalar_end, new_len);
         self.bytes.truncate(new_len)
     }
 
@@ -359,7 +397,7 @@ impl<A: Allocator> Wtf8Buf<A> {
         ensures bytes { self.new.bytes ≡ [] }
         ensures capacity { self.new.capacity ≡ self.old.capacity }
     {
-        self.is_known_utf8 = true;
+        self.scalar_end = usize::MAX;
         self.bytes.clear()
     }
 
@@ -386,7 +424,7 @@ impl<A: Allocator> Wtf8Buf<A> {
         match cut.divided {
             None => self.truncate(cut.position),
             Some(value) => {
-                self.is_known_utf8 = false;
+                self.scalar_end = self.scalar_end.min(cut.position);
                 let lead = surrogates::lead_of(value);
                 unit_positions::keep_lead(&mut self.bytes, cut.position, lead);
             }
@@ -425,23 +463,33 @@ impl<A: Allocator> Wtf8Buf<A> {
     fn into_lossy_bytes(self) -> Vec<u8, A>
         ensures { result.items ≡ bytes (lossy self.form.points) }
     {
-        let Wtf8Buf {
-            mut bytes,
-            is_known_utf8,
-        } = self;
+        let is_known_utf8 = self.is_known_utf8();
+        let Wtf8Buf { mut bytes, .. } = self;
         if !is_known_utf8 {
             search::replace_surrogates(&mut bytes);
         }
         bytes
     }
 
-    /// The place of the first surrogate. It makes no search where it is known that there is none.
+    /// Whether it is known that no surrogate is held.
+    #[inline(always)]
+    fn is_known_utf8(&self) -> bool
+        ensures { IsTrue result → AreScalar self.now.form.points }
+    {
+        self.bytes.len() <= self.scalar_end
+    }
+
+    /// The place of the first surrogate. It makes no search where it is known that there is none, and else none in the
+    /// front that is known to hold none.
     fn first_surrogate(&self) -> Option<usize>
         ensures { IsFirst (SurrogateAt self.now.bytes) 0 result }
     {
-        if self.is_known_utf8 {
+        if self.is_known_utf8() {
             return None;
         }
-        surrogate_presence::first_surrogate(&self.bytes)
+        match self.scalar_end {
+            0 => surrogate_presence::first_surrogate(&self.bytes),
+            from => search::next_surrogate(&self.bytes, from),
+        }
     }
 }

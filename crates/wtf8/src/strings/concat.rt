@@ -88,12 +88,12 @@ pub(crate) fn push_surrogate<A: Allocator>(
     }
 }
 
-/// Appends a code point, a trail surrogate behind a lead as the code point that the two stand for, and takes back at a
-/// surrogate that none is known to be held.
+/// Appends a code point, a trail surrogate behind a lead as the code point that the two stand for. At a surrogate the place
+/// before which none is known to begin goes back to the end of the bytes as they were.
 #[inline(always)]
 pub(crate) fn push_point<A: Allocator>(
     bytes: &mut Vec<u8, A>,
-    is_known_utf8: &mut bool,
+    scalar_end: &mut usize,
     code_point: CodePoint,
 ) -> Result<(), AllocError>
     requires { IsWellFormed bytes.old.items }
@@ -101,8 +101,8 @@ pub(crate) fn push_point<A: Allocator>(
     ensures err { OnErr result (bytes.new.items ≡ bytes.old.items) }
     ensures room { FitsUnits bytes.old.items (units_of (number code_point)) (vec_capacity bytes.old) → IsOk result }
     ensures capacity { vec_capacity bytes.old ≤ vec_capacity bytes.new }
-    ensures known { IsTrue is_known_utf8.new → IsTrue is_known_utf8.old }
-    ensures scalar { IsTrue is_known_utf8.new → ¬ (IsSurrogate (number code_point)) }
+    ensures known { scalar_end.new ≤ scalar_end.old }
+    ensures scalar { length bytes.old.items < scalar_end.new → ¬ (IsSurrogate (number code_point)) }
 {
     // The length is looked up before the row is chosen, so that a loop can keep it in a register.
     let spare = encoding::spare_room(bytes);
@@ -113,7 +113,7 @@ pub(crate) fn push_point<A: Allocator>(
         0x800..=0xD7FF => push_apart(bytes, spare, code_point),
         0x10000.. => push_apart(bytes, spare, code_point),
         0xD800..=0xDFFF => {
-            *is_known_utf8 = false;
+            *scalar_end = (*scalar_end).min(bytes.len());
             push_surrogate(bytes, code_point)
         }
         _ => push_apart(bytes, spare, code_point),

@@ -6,7 +6,7 @@ use Rattle.wtf8.proofs.Common.{Each1, all_units_begun}
 use Rattle.std.proofs.Common.{◌≡◌, ℕ, zero, suc, ◌+◌, ◌-◌, ◌%◌, ◌^◌, ◌<◌, ◌≤◌, eqb, leb, Bool, true, false, cond, ◌&&◌, List, [], ◌∷◌, map, length, get_or}
 use Rattle.std.proofs.Common.{replicate, bit_and, w8, refl, sym, ap, ◌∙◌, subst, arith}
 use Rattle.std.proofs.lemmas.Bool.{and_parts, and_from, both_ways, leb-true, le-leb, eq-eqb, eqb-true}
-use Rattle.std.proofs.lemmas.List.{get_or-replicate, length-replicate}
+use Rattle.std.proofs.lemmas.List.{length-replicate}
 use Rattle.std.proofs.lemmas.List.Sums.{sum_by-cons}
 use Rattle.std.proofs.lemmas.Simd.{length-zip2, get_or-zip2, length-chunk, get_or-chunk, mask_l-mod, bitmask_splat}
 use Rattle.std.proofs.lemmas.Simd.{none_from_empty_mask, length-sel_l, get_or-sel_l, Each2-of, fold-sum, sum_bound, sum_fits}
@@ -75,7 +75,7 @@ no_first_byte w i room e j l u s =
     let clear = none_from_empty_mask (λ x. eqb x 0xED) w i 64 0 (omega arith) empty j l u in
     both_ways _ clear (eq-eqb _ 0xED s.first)
 
--- Whether bytes hold a surrogate, by the lanes of vectors: what the greater lanes of two vectors, or chosen ones, still show.
+-- Whether bytes hold a surrogate, by the lanes of vectors: what the greater lanes of two vectors still show.
 
 least_own : (x y : ℕ) → x ≤ cond (ltb x y) y x
 least_own x y = elim (cases_lt x y) [ inl h ↦ rw (lt-ltb x y h) (omega arith) | inr h ↦ rw (le-ltb x y h) (omega arith) ]
@@ -110,40 +110,6 @@ module _ (xs ys : List ℕ) (p : length xs ≡ length ys) where
       let within : h.0 < length xs = omega (arith, h.1.0, p) in
       (h.0, (omega (arith, within, greater_length), omega (arith, h.1.1, greater_lane h.0 within, least_other (get_or xs h.0 0) (get_or ys h.0 0))))
 
--- the lanes of one vector where another holds ED, else 0
-abbrev pub chosen : ℕ → List ℕ → List ℕ → List ℕ
-chosen n xs ys = sel_l (map (top 7) (zip2 (λ a b. lane (eqb a b)) xs (replicate n 0xED))) ys (replicate n 0)
-
-module _ (n : ℕ) (xs ys : List ℕ) (p : length xs ≡ n) (q : length ys ≡ n) where
-  firsts : List Bool
-  firsts = zip2 eqb xs (replicate n 0xED)
-
-  rest : length {A = ℕ} (replicate n 0xED) ≡ n
-  rest = length-replicate n 0xED
-
-  firsts_long : length firsts ≡ n
-  unfolding firsts
-  firsts_long = length-zip2 eqb xs (replicate n 0xED) (p ∙ sym rest) ∙ p
-
-  chosen_are : chosen n xs ys ≡ sel_l firsts ys (replicate n 0)
-  unfolding firsts
-  chosen_are = ap (λ ms. sel_l ms ys (replicate n 0)) (tops_compared w8 eqb xs (replicate n 0xED))
-
-  first_holds : (k : ℕ) → k < n → get_or xs k 0 ≡ 0xED → get_or firsts k false ≡ true
-  unfolding firsts
-  first_holds k l e =
-      get_or-zip2 eqb xs (replicate n 0xED) k 0 0 false (omega (arith, p, l)) (omega (arith, rest, l)) ∙ eq-eqb _ _ (e ∙ sym (get_or-replicate n k 0xED 0 l))
-
-  pub has_chosen : (k least : ℕ) → k < n → get_or xs k 0 ≡ 0xED → least ≤ get_or ys k 0 → HasLane least (chosen n xs ys)
-  has_chosen k least l e h =
-      let zeros : length {A = ℕ} (replicate n 0) ≡ n = length-replicate n 0 in
-      let chosen_long : length (chosen n xs ys) ≡ n = ap length chosen_are
-      ∙ (length-sel_l firsts ys (replicate n 0) (firsts_long ∙ sym q) (firsts_long ∙ sym zeros) ∙ firsts_long) in
-      let here : get_or (chosen n xs ys) k 0 ≡ get_or ys k 0 = ap (λ zs. get_or zs k 0) chosen_are
-      ∙ (get_or-sel_l firsts ys (replicate n 0) k 0 (omega (arith, firsts_long, l)) (omega (arith, q, l)) (omega (arith, zeros, l))
-      ∙ ap (λ b. cond b (get_or ys k 0) (get_or (replicate n 0) k 0)) (first_holds k l e)) in
-      (k, (omega (arith, chosen_long, l), omega (arith, here, h)))
-
 -- vectors of the bytes from a place on
 module _ (n : ℕ) (w : List ℕ) (i : ℕ) where
   holds_first : (j : ℕ) → i ≤ j → j < i + n → SurrogateAt w j → get_or (chunk i n w) (j - i) 0 ≡ 0xED
@@ -151,17 +117,6 @@ module _ (n : ℕ) (w : List ℕ) (i : ℕ) where
 
   pub shown_by_firsts : i + n ≤ length w → ShowsSurrogate w i (i + n) 0xED (chunk i n w)
   shown_by_firsts room j l u s = (j - i, (omega (arith, length-chunk i n w room, l, u), omega (arith, holds_first j l u s)))
-
-  pub shown_by_marks : i + n ≤ length w → ShowsSurrogate w i (i + n) 0xED (chosen n (chunk i n w) (replicate n 0xFF))
-  shown_by_marks room j l u s =
-      has_chosen n (chunk i n w) (replicate n 0xFF) (length-chunk i n w room) (length-replicate n 0xFF) (j - i) 0xED (omega arith) (holds_first j l u s)
-      (omega (arith, get_or-replicate {A = ℕ} n (j - i) 0xFF 0 (omega arith)))
-
-  pub shown_by_seconds : i + n < length w → ShowsSurrogate w i (i + n) 0xA0 (chosen n (chunk i n w) (chunk (i + 1) n w))
-  shown_by_seconds room j l u s =
-      let behind : i + 1 + (j - i) ≡ j + 1 = omega (arith, l) in
-      has_chosen n (chunk i n w) (chunk (i + 1) n w) (length-chunk i n w (omega arith)) (length-chunk (i + 1) n w (omega arith)) (j - i) 0xA0
-      (omega arith) (holds_first j l u s) (omega (arith, get_or-chunk (i + 1) n w (j - i) 0 (omega arith), ap (λ m. get_or w m 0) behind, s.second))
 
 -- an empty mask of the lanes that are no less than a number
 none_high : (n least : ℕ) (xs : List ℕ) → length xs ≡ n → mask_l (zip2 leb (replicate n least) xs) ≡ 0 → (k : ℕ) → k < length xs → least ≤ get_or xs k 0 → ⊥

@@ -73,7 +73,7 @@ clean-paired f l t r x y h k =
     let behind = clean-append (pair l t ∷ []) r (omega arith) (clean-rest t r y) (no_lead [] (pair l t) (λ p. omega (arith, p.1))) in
     clean-append f (pair l t ∷ r) (clean-front f (l ∷ []) x) behind (no_trail (pair l t) r (λ p. omega (arith, p.1)))
 
-clean-glue : (c d : List ℕ) → IsClean c → IsClean d → IsClean (glue c d)
+pub clean-glue : (c d : List ℕ) → IsClean c → IsClean d → IsClean (glue c d)
 clean-glue c d x y = elim (meets_or_apart c d) [
   | inl m ↦ subst IsClean (sym (glue_meeting c d m)) (clean-paired m.front m.lead m.trail m.rest (subst IsClean m.ends x)
       (subst IsClean m.begins y) m.is_lead m.is_trail)
@@ -83,7 +83,7 @@ clean-glue c d x y = elim (meets_or_apart c d) [
 units-paired : (p q : ℕ) (d : List ℕ) → IsLead p → IsTrail q → units (pair p q ∷ d) ≡ units (p ∷ []) ++ units (q ∷ d)
 units-paired p q d h k = simp (units_pair p q h k, units_one p (omega arith), units_one q (omega arith))
 
-units-glue : (c d : List ℕ) → units (glue c d) ≡ units c ++ units d
+pub units-glue : (c d : List ℕ) → units (glue c d) ≡ units c ++ units d
 units-glue [] d = refl
 units-glue (p ∷ []) [] = sym (append-nil (units (p ∷ [])))
 units-glue (p ∷ []) (q ∷ d) = elim (cases_Bool (is_pair p q)) [

@@ -2,9 +2,9 @@
 use Rattle.wtf8.proofs.Common.{◌≡◌, ◌+◌, ◌-◌, ◌≤◌, List, [], ◌∷◌, ℕ, ◌++◌, length, take, drop, Result, Ok, Err, OnOk, OnErr, refl, ap, ◌∙◌, sym, subst, arith}
 use Rattle.wtf8.proofs.Common.{false≢true, append-nil, drop_all, units, units_of, pair, IsLead, IsTrail, IsCodePoint, UnitString, KeepsContents, MeetsAsPair}
 use Rattle.wtf8.proofs.Common.{encoding, IsWellFormed, IsForm, GainsUnits, FitsUnits, view_units, view_form, Wtf8, inl, inr, true, chars, IsUtf8, scalars-chars}
-use Rattle.wtf8.proofs.Common.{and_parts, scalar, scalars, IsSurrogate, IsClean, bytes_are_encodes, Bool, IsTrue, bytes-injective, AreScalar, append_assoc}
+use Rattle.wtf8.proofs.Common.{and_parts, scalar, scalars, IsSurrogate, IsClean, bytes_are_encodes, bytes-injective, AreScalar, append_assoc}
 use Rattle.wtf8.proofs.Common.{length-append, All, map-append, take_at, drop_at, All-drop, All-same, Step, FindRoom, Build, Truncate, TruncateUnits, number, numbers}
-use Rattle.wtf8.proofs.Common.{glue, IsUnit, bytes}
+use Rattle.wtf8.proofs.Common.{glue, IsUnit, bytes, ◌<◌, cases_lt, append_cancel_left, SurrogateAt}
 use Rattle.std.proofs.Common.{IsOk}
 use Rattle.std.proofs.lemmas.List.{length-map}
 use Rattle.std.proofs.lemmas.List.Elements.{All-take}
@@ -13,12 +13,14 @@ use lib.Utf8.{scalar_cases}
 use Rattle.wtf8.specs.Appending.{AddsLength}
 use Rattle.wtf8.specs.Building.{FindsRoom}
 use Rattle.wtf8.specs.declared.numbers.code_point.CodePoint.{CodePoint}
-use Rattle.wtf8.proofs.lemmas.numbers.Encoding.{length-surrogate}
-use Rattle.wtf8.proofs.lemmas.numbers.Readings.{meets_by, form_of, well_formed_of, same_form, units_from_form, moved, clean-append, same_reading, same_points}
-use Rattle.wtf8.proofs.lemmas.numbers.Readings.{units-append, meets_or_apart, units_one, units_bounds, points_bounds}
+use Rattle.wtf8.proofs.lemmas.numbers.Encoding.{length-surrogate, length-encoding_bounds, bytes-append, bytes-pushed, encoding_four}
+use Rattle.wtf8.proofs.lemmas.numbers.Readings.{meets_by, form_of, well_formed_of, same_form, units_from_form, moved, same_reading, same_points}
+use Rattle.wtf8.proofs.lemmas.numbers.Readings.{units-append, same_heads, meets_or_apart, units_one, units_bounds, points_bounds}
 use Rattle.wtf8.proofs.lemmas.strings.Concatenation.{paired_bytes, meeting_bytes, form_meeting, form_behind, length-joined, length_paired, length_apart, one_form}
-use Rattle.wtf8.proofs.lemmas.strings.Concatenation.{units_read, bytes_paired, bytes_apart, length-paired_bytes, form-glue}
-use Rattle.wtf8.proofs.lemmas.strings.Surrogates.{scalar-middle}
+use Rattle.wtf8.proofs.lemmas.strings.Concatenation.{clean-glue, units-glue, glue_meeting, glue_apart, units_read, bytes_paired, bytes_apart, length-paired_bytes, form-glue}
+use Rattle.wtf8.proofs.lemmas.strings.Surrogates.{scalar-middle, surrogate_in}
+use Rattle.wtf8.proofs.lemmas.strings.Positions.{begun}
+use Rattle.wtf8.specs.OneForm.{AreScalarTo}
 
 -- What a call that appends to bytes, or is refused, leaves of the string that holds them.
 
@@ -169,30 +171,99 @@ scalar_behind s m = (subst AreScalar m.begins s).0 (omega (arith, m.is_trail), o
 pub scalar_moved : {v w : List ℕ} (h : IsWellFormed v) (k : IsWellFormed w) → w ≡ v → AreScalar h.points → AreScalar k.points
 scalar_moved h k e s = subst AreScalar (sym (same_points k h e)) s
 
+pub scalar_each : (c : List ℕ) → ((f : List ℕ) (p : ℕ) (b : List ℕ) → c ≡ f ++ p ∷ b → ¬ (IsSurrogate p)) → AreScalar c
+scalar_each [] n = tt
+scalar_each (p ∷ c) n = (n [] p c refl, scalar_each c (λ f q b e. n (p ∷ f) q b (ap (λ d. p ∷ d) e)))
+
+-- Code points of which none that begins before a place is a surrogate.
+
+pub scalar_all : (c : List ℕ) (k : ℕ) → AreScalar c → AreScalarTo k c
+scalar_all c k s f p b e _ = scalar-middle f p b (subst AreScalar e s)
+
+pub all_scalar : (c : List ℕ) (k : ℕ) → AreScalarTo k c → length (bytes c) ≤ k → AreScalar c
+all_scalar c k s n = scalar_each c (λ f p b e. s f p b e (omega (
+  arith,
+  n,
+  ap (λ d. length (bytes d)) e,
+  ap length (bytes-append f (p ∷ b)),
+  length-append (bytes f) (bytes (p ∷ b)),
+  length-append (encoding p) (bytes b),
+  length-encoding_bounds p,
+)))
+
+pub scalar_to-front : (k n : ℕ) (c d : List ℕ) → AreScalarTo k (c ++ d) → n ≤ k → AreScalarTo n c
+scalar_to-front k n c d s l f p b e m = s f p (b ++ d) (ap (λ x. x ++ d) e ∙ append_assoc f (p ∷ b) d) (omega (arith, l, m))
+
+scalar_before : (k : ℕ) (f more b d : List ℕ) (p : ℕ) → AreScalarTo k (f ++ more) → f ++ p ∷ b ≡ (f ++ more) ++ d → length (bytes f) < length (bytes (f ++ more))
+    → length (bytes f) < k → ¬ (IsSurrogate p)
+scalar_before k f [] b d p s e h l = absurd (omega (arith, h, ap (λ x. length (bytes x)) (append-nil f)))
+scalar_before k f (q ∷ more) b d p s e h l =
+    let same = same_heads p q b (more ++ d) (append_cancel_left f _ _ (e ∙ append_assoc f (q ∷ more) d)) in
+    s f p more (ap (λ x. f ++ x ∷ more) (sym same.0)) l
+
+pub scalar_to-append : (k : ℕ) (c d : List ℕ) → AreScalarTo k c → (length (bytes c) < k → AreScalar d) → AreScalarTo k (c ++ d)
+scalar_to-append k c d s t f p b e l = elim (cases_lt (length (bytes f)) (length (bytes c))) [
+  | inl h ↦
+      let r = begun f (p ∷ b) c d (sym e) (omega (arith, h)) in
+      scalar_before k f r.more b d p (subst (AreScalarTo k) r.joined s) (sym e ∙ ap (λ x. x ++ d) r.joined)
+      (omega (arith, h, ap (λ x. length (bytes x)) r.joined)) l
+  | inr h ↦
+      let r = begun c d f (p ∷ b) e h in
+      let rest : d ≡ r.more ++ p ∷ b = append_cancel_left c _ _ (e ∙ (ap (λ x. x ++ p ∷ b) r.joined ∙ append_assoc c r.more (p ∷ b))) in
+      scalar-middle r.more p b (subst AreScalar rest (t (omega (arith, h, l))))
+]
+
+scalar_to-paired : (k n : ℕ) (f : List ℕ) (l t : ℕ) (r : List ℕ) → IsLead l → IsTrail t → AreScalarTo k (f ++ l ∷ []) → n ≤ k
+    → n ≤ length (bytes (f ++ l ∷ [])) → AreScalarTo n (f ++ pair l t ∷ r)
+scalar_to-paired k n f l t r lead trail s m u =
+    let front = scalar_to-append n f (pair l t ∷ []) (scalar_to-front k n f (l ∷ []) s m) (λ _. ((λ x. omega (arith, x.1)), tt)) in
+    let long = ap length (bytes-pushed f (pair l t)) ∙ length-append (bytes f) (encoding (pair l t)) in
+    let was = ap length (bytes-pushed f l) ∙ length-append (bytes f) (encoding l) in
+    let four = ap length (encoding_four (pair l t) (omega arith)) in
+    subst (AreScalarTo n) (append_assoc f (pair l t ∷ []) r)
+    (scalar_to-append n (f ++ pair l t ∷ []) r front (λ x. absurd (omega (arith, x, u, long, was, four, length-surrogate l (omega arith, omega arith)))))
+
+pub scalar_to-glue : (k n : ℕ) (c d : List ℕ) → AreScalarTo k c → n ≤ k → (length (bytes c) < n → AreScalar d) → AreScalarTo n (glue c d)
+scalar_to-glue k n c d s l t = elim (meets_or_apart c d) [
+  | inl m ↦
+      let within : n ≤ length (bytes c) = elim (cases_lt (length (bytes c)) n) [ inl h ↦ absurd (scalar_behind (t h) m) | inr h ↦ h ] in
+      subst (AreScalarTo n) (sym (glue_meeting c d m)) (scalar_to-paired k n m.front m.lead m.trail m.rest m.is_lead m.is_trail
+      (subst (AreScalarTo k) m.ends s) l (omega (arith, within, ap (λ x. length (bytes x)) m.ends)))
+  | inr a ↦ subst (AreScalarTo n) (sym (glue_apart c d a)) (scalar_to-append n c d (λ f p b e m. s f p b e (omega (arith, l, m))) t)
+]
+
+-- a front of the code points with another one behind it, which begins at the place or behind it
+pub scalar_to-cut : (k n : ℕ) (f b : List ℕ) (q : ℕ) {c : List ℕ} → AreScalarTo k c → c ≡ f ++ b → n ≤ k → n ≤ length (bytes f) → AreScalarTo n (f ++ q ∷ [])
+scalar_to-cut k n f b q s e l m = scalar_to-append n f (q ∷ []) (scalar_to-front k n f b (subst (AreScalarTo k) e s) l) (λ x. absurd (omega (arith, x, m)))
+
+pub scalar_to-moved : {v w : List ℕ} (k : ℕ) (h : IsWellFormed v) (x : IsWellFormed w) → w ≡ v → AreScalarTo k h.points → AreScalarTo k x.points
+scalar_to-moved k h x e s = subst (AreScalarTo k) (sym (same_points x h e)) s
+
+-- no surrogate begins there among the bytes
+pub none_before : {w : List ℕ} (k : ℕ) (h : IsWellFormed w) (i : ℕ) → AreScalarTo k h.points → i < k → ¬ (SurrogateAt w i)
+none_before k h i s l at =
+    let p = surrogate_in h.points i (subst (λ v. SurrogateAt v i) (sym h.encoded) at) in
+    s p.front p.point p.back p.joined (omega (arith, l, p.front_len)) p.surrogate
+
 module _ {T E : Type 0} where
-  -- scalar values behind scalar values are appended as they are, or the string is as before
-  pub scalar_gained : (r : Result T E) (c v : List ℕ) {old new : List ℕ} (h : IsWellFormed old) (k : IsWellFormed new) → v ≡ units c → IsClean c → AreScalar c
-      → AreScalar h.points → OnOk r (GainsUnits old new v) → OnErr r (new ≡ old) → AreScalar k.points
-  scalar_gained (Ok _) c v h k e x s t ok err =
+  -- what a buffer holds behind a call that appends to it: well-formed bytes, with no surrogate before the place that is told
+  pub known_gained : (r : Result T E) (c v : List ℕ) (k n : ℕ) {old new : List ℕ} (h : IsWellFormed old) → v ≡ units c → IsClean c
+      → AreScalarTo k h.points → n ≤ k → (length old < n → AreScalar c)
+      → OnOk r (GainsUnits old new v) → OnErr r (new ≡ old) → (x : IsWellFormed new) × (AreScalarTo n x.points × Unit {0})
+  known_gained (Ok _) c v k n {old} {new} h e x s l t ok err =
+      let now = gained_or_kept {T = Unit {0}} {E = Unit {0}} (Ok tt) v h ok tt in
       let f = ok (units h.points) (form_of h) in
-      let whole : units k.points ≡ units (h.points ++ c) = cc (bytes-injective k.points f.points (cc), units-append h.points c) in
-      let same : k.points ≡ h.points ++ c = same_reading k.points (h.points ++ c) k.clean (clean-append h.points c h.clean x (scalar_apart t)) whole in
-      subst AreScalar (sym same) (scalar-append h.points c t s)
-  scalar_gained (Err _) c v h k e x s t ok err = scalar_moved h k err t
+      let whole : units now.points ≡ units (glue h.points c) = cc (bytes-injective now.points f.points (cc), units-glue h.points c) in
+      let same : now.points ≡ glue h.points c = same_reading now.points (glue h.points c) now.clean (clean-glue h.points c h.clean x) whole in
+      (now, (subst (AreScalarTo n) (sym same) (scalar_to-glue k n h.points c s l (λ m. t (omega (arith, m, ap length h.encoded)))), tt))
+  known_gained (Err _) c v k n h e x s l t ok err =
+      let now = moved h err in
+      (now, ((λ f p b g m. s f p b g (omega (arith, l, m))), tt))
 
-  -- what a buffer holds behind a call that appends to it: well-formed bytes, without surrogates where the flag says so
-  pub known_gained : (r : Result T E) (c v : List ℕ) (known : Bool) {old new : List ℕ} (h : IsWellFormed old) → v ≡ units c → IsClean c
-      → (IsTrue known → AreScalar h.points × AreScalar c)
-      → OnOk r (GainsUnits old new v) → OnErr r (new ≡ old) → (k : IsWellFormed new) × ((IsTrue known → AreScalar k.points) × Unit {0})
-  known_gained r c v known h e x s ok err =
-      let now = gained_or_kept r v h ok err in
-      (now, (λ t. scalar_gained r c v h now e x (s t).1 (s t).0 ok err, tt))
-
-  pub known_point : (r : Result T E) (p : ℕ) (known : Bool) {old new : List ℕ} (h : IsWellFormed old) → IsCodePoint p → (IsTrue known → ¬ (IsSurrogate p))
-      → (IsTrue known → AreScalar h.points)
-      → OnOk r (GainsUnits old new (units_of p)) → OnErr r (new ≡ old) → (k : IsWellFormed new) × ((IsTrue known → AreScalar k.points) × Unit {0})
-  known_point r p known h range apart s ok err = known_gained r (p ∷ []) (units_of p) known h (sym (append-nil (units_of p))) range
-      (λ t. (s t, (apart t, tt))) ok err
+  pub known_point : (r : Result T E) (p : ℕ) (k n : ℕ) {old new : List ℕ} (h : IsWellFormed old) → IsCodePoint p → AreScalarTo k h.points → n ≤ k
+      → (length old < n → ¬ (IsSurrogate p))
+      → OnOk r (GainsUnits old new (units_of p)) → OnErr r (new ≡ old) → (x : IsWellFormed new) × (AreScalarTo n x.points × Unit {0})
+  known_point r p k n h range s l t ok err = known_gained r (p ∷ []) (units_of p) k n h (sym (append-nil (units_of p))) range s l (λ m. (t m, tt)) ok err
 
 -- Room: how long the forms of parts and of wholes are, and the room that calls find, one after another.
 

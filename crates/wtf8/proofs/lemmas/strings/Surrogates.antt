@@ -118,6 +118,15 @@ pub none_found : (w : List ℕ) (from : ℕ) (r : Option ℕ) → IsFirst (Surro
 none_found w from None f n = f
 none_found w from (Some i) f n = absurd (n i refl)
 
+-- the first place from a start on is the first of all where there is none before the start
+pub first_further : (P : ℕ → Type 0) (from : ℕ) (r : Option ℕ) → ((i : ℕ) → i < from → ¬ (P i)) → IsFirst P from r → IsFirst P 0 r
+first_further P from None before f = λ j _. elim (cases_lt j from) [ inl h ↦ before j h | inr h ↦ f j h ]
+first_further P from (Some i) before f = record {
+  not_before = omega arith;
+  here = f.here;
+  none_between = λ j _ u. elim (cases_lt j from) [ inl h ↦ before j h | inr h ↦ f.none_between j h u ];
+}
+
 -- what the search from the start says of the code points
 pub scalar_if_none : {w : List ℕ} (h : IsWellFormed w) → ((j : ℕ) → 0 ≤ j → ¬ (SurrogateAt w j)) → AreScalar h.points
 scalar_if_none h none = scalar_from_none [] h.points (λ j l. subst (λ v. ¬ (SurrogateAt v j)) (sym h.encoded) (none j l))

@@ -15,6 +15,7 @@ use Rattle.wtf8.specs.declared.numbers.code_point.CodePoint.{CodePoint}
 use Rattle.wtf8.proofs.lemmas.numbers.Encoding.{encoding_two, encoding_three, third_row, encoding_one, bytes-append}
 use Rattle.wtf8.proofs.lemmas.numbers.Readings.{meets_by, units-cons_one}
 use Rattle.wtf8.proofs.lemmas.strings.Concatenation.{form_apart}
+use Rattle.wtf8.specs.OneForm.{AreScalarTo}
 use Rattle.wtf8.proofs.lemmas.strings.Gains.{scalar-append, gains_behind, gained_units, known_gained, scalar_behind, units-points}
 
 -- Blocks of numbers in lanes: what the mask of a block says of them.
@@ -264,12 +265,12 @@ ascii_gains {w} v h a e =
 pub ascii_units : {w new u : List ℕ} (v : List ℕ) (h : IsWellFormed w) (k : IsWellFormed new) → AreAscii v → new ≡ w ++ v → units h.points ≡ u → units k.points ≡ u ++ v
 ascii_units v h k a e s = gained_units {T = Unit {0}} {E = Unit {0}} (Ok tt) v h k s (ascii_gains v h a e)
 
-pub ascii_known : {w new : List ℕ} (v : List ℕ) (known : Bool) (h : IsWellFormed w) → AreAscii v → new ≡ w ++ v → (IsTrue known → AreScalar h.points)
-    → (k : IsWellFormed new) × ((IsTrue known → AreScalar k.points) × Unit {0})
-ascii_known v known h a e s =
+pub ascii_known : {w new : List ℕ} (v : List ℕ) (end : ℕ) (h : IsWellFormed w) → AreAscii v → new ≡ w ++ v → AreScalarTo end h.points
+    → (k : IsWellFormed new) × (AreScalarTo end k.points × Unit {0})
+ascii_known v end h a e s =
     let f = ascii_form v a in
-    known_gained {T = Unit {0}} {E = Unit {0}} (Ok tt) f.form.points v known h (sym f.form.reads.same_units) f.form.reads.clean (λ t. (s t, f.scalar refl))
-    (ascii_gains v h a e) tt
+    known_gained {T = Unit {0}} {E = Unit {0}} (Ok tt) f.form.points v end end h (sym f.form.reads.same_units) f.form.reads.clean s (omega arith)
+    (λ _. f.scalar refl) (ascii_gains v h a e) tt
 
 -- some more of the points behind those so far
 pub points_more : (ps : List CodePoint) (at n : ℕ) (u : List ℕ) {now new : List ℕ} → now ≡ u ++ units (numbers (take at ps))

@@ -1,9 +1,4 @@
-use Rattle.wtf8.proofs.Common.{ap, refl, units}
-use Rattle.wtf8.proofs.lemmas.numbers.Readings.{same_points}
 use Rattle.wtf8.proofs.strings.buf.from_well_formed.Goals as goal
 
-pub invariant_of-result : goal.invariant_of-result
-invariant_of-result g c = (c.requires.well_formed, (λ known. c.requires.scalar known c.requires.well_formed, tt))
-
-pub returns-clause-units : goal.returns-clause-units
-returns-clause-units g c h = ap units (same_points c.result-1.given.0 h refl)
+pub with_scalar_front-requires-clause-scalar : goal.with_scalar_front-requires-clause-scalar
+with_scalar_front-requires-clause-scalar g c h = c.end_of_scalars.ensures h.points (λ t. c.requires.scalar t h)

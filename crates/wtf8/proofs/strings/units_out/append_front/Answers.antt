@@ -1,4 +1,4 @@
-use Rattle.wtf8.proofs.Common.{◌++◌, ap, arith, length, length-append, take, view_units}
+use Rattle.wtf8.proofs.Common.{ap, arith, length, length-append, take, view_units}
 use Rattle.wtf8.proofs.strings.units_out.append_front.Goals as goal
 
 pub append_others-requires : goal.append_others-requires

@@ -1,8 +1,17 @@
-use Rattle.wtf8.proofs.Common.{ap, subst, ◌∙◌, SurrogateAt, UnitString}
-use Rattle.wtf8.proofs.lemmas.strings.Surrogates.{none_from_scalar}
+use Rattle.wtf8.proofs.Common.{UnitString, ap, subst, ◌∙◌, IsFirst, SurrogateAt}
+use Rattle.wtf8.proofs.lemmas.strings.Gains.{none_before}
+use Rattle.wtf8.proofs.lemmas.strings.Surrogates.{first_further, none_from_scalar}
 use Rattle.wtf8.proofs.strings.buf.Wtf8Buf.first_surrogate.Goals as goal
 
-pub returns-then-self : goal.returns-then-self
-returns-then-self g c i _ =
-    let same = c.self.inside.well_formed.encoded ∙ ap (λ (t : UnitString). t.bytes) c.self.view_is in
-    subst (λ w. ¬ (SurrogateAt w i)) same (none_from_scalar c.self.inside.well_formed.points i (c.self.inside.known_scalar c.if-self.true))
+pub returns-then-is_known_utf8 : goal.returns-then-is_known_utf8
+returns-then-is_known_utf8 g c i _ =
+    let form = c.args.self.now.form in
+    subst (λ w. ¬ (SurrogateAt w i)) form.encoded (none_from_scalar form.points i (c.is_known_utf8.ensures c.if-is_known_utf8.true))
+
+pub returns-in_default : goal.returns-in_default
+returns-in_default g c =
+    let own = c.self.inside in
+    let same = c.deref-in_default.ensures.value in
+    subst (λ w. IsFirst (SurrogateAt w) 0 c.next_surrogate.result) (same ∙ ap (λ (t : UnitString). t.bytes) c.self.view_is)
+    (first_further (SurrogateAt c.deref-in_default.result.now) own.scalar_end c.next_surrogate.result
+    (λ i l at. none_before own.scalar_end own.well_formed i own.scalar_front l (subst (λ w. SurrogateAt w i) same at)) c.next_surrogate.ensures)

@@ -8,6 +8,6 @@ returns-then-not-is_known_utf8 g c =
 
 pub returns-else-not-is_known_utf8 : goal.returns-else-not-is_known_utf8
 returns-else-not-is_known_utf8 g c =
-    let h = c.self.inside.well_formed in
-    let scalar = c.self.inside.known_scalar c.if-not-is_known_utf8.false in
-    sym h.encoded ∙ (ap bytes (sym (lossy-scalar h.points scalar)) ∙ ap (λ (t : UnitString). bytes (lossy t.form.points)) c.self.view_is)
+    let form = c.args.self.form in
+    let scalar = c.is_known_utf8-is_known_utf8.ensures c.if-not-is_known_utf8.false in
+    ap (λ (t : UnitString). t.bytes) c.self.view_is ∙ (sym form.encoded ∙ ap bytes (sym (lossy-scalar form.points scalar)))

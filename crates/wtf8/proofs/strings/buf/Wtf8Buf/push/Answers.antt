@@ -7,8 +7,8 @@ pub invariant_of-self-inside : goal.invariant_of-self-inside
 invariant_of-self-inside g c =
     let own = c.self.inside in
     let call = c.push_point in
-    known_point call.result (number c.args.code_point) _ own.well_formed c.args.code_point.in_range call.ensures.scalar
-    (λ t. own.known_scalar (call.ensures.known t)) call.ensures.ok call.ensures.err
+    known_point call.result (number c.args.code_point) own.scalar_end _ own.well_formed c.args.code_point.in_range own.scalar_front call.ensures.known
+    call.ensures.scalar call.ensures.ok call.ensures.err
 
 pub returns-clause-ok : goal.returns-clause-ok
 returns-clause-ok g c = gained_units c.push_point.result _ c.self.inside.well_formed c.self-1.given.0 (ap (λ (t : UnitString). t.units) c.self.view_is) c.push_point.ensures.ok

@@ -12,7 +12,7 @@ appended g c = rw (granted g c) at c.extend_from_slice.ensures.items
 
 pub invariant_of-self-inside : goal.invariant_of-self-inside
 invariant_of-self-inside g c =
-    ascii_known c.args.block.now c.self.inside.is_known_utf8 c.self.inside.well_formed c.requires.ascii (appended g c) c.self.inside.known_scalar
+    ascii_known c.args.block.now c.self.inside.scalar_end c.self.inside.well_formed c.requires.ascii (appended g c) c.self.inside.scalar_front
 
 pub returns-clause-units : goal.returns-clause-units
 returns-clause-units g c =

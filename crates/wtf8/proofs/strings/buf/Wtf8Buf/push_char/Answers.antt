@@ -10,7 +10,7 @@ invariant_of-self-inside g c =
     let f = scalar_facts c.args.c c.ranges.c.0 in
     let own = c.self.inside in
     let call = c.push_scalar in
-    known_point call.result c.args.c own.is_known_utf8 own.well_formed f.range (λ _. f.apart) own.known_scalar call.ensures.ok call.ensures.err
+    known_point call.result c.args.c own.scalar_end own.scalar_end own.well_formed f.range own.scalar_front (omega arith) (λ _. f.apart) call.ensures.ok call.ensures.err
 
 pub returns-clause-ok : goal.returns-clause-ok
 returns-clause-ok g c =

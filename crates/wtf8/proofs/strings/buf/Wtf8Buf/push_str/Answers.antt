@@ -7,8 +7,8 @@ use Rattle.wtf8.proofs.strings.buf.Wtf8Buf.push_str.Goals as goal
 pub invariant_of-self-inside : goal.invariant_of-self-inside
 invariant_of-self-inside g c =
     let other = well_formed_text c.args.other.now c.utf8.other in
-    known_gained c.push_text.result other.points (units other.points) c.self.inside.is_known_utf8 c.self.inside.well_formed refl other.clean
-    (λ known. (c.self.inside.known_scalar known, scalar_text c.utf8.other)) c.push_text.ensures.ok c.push_text.ensures.err
+    known_gained c.push_text.result other.points (units other.points) c.self.inside.scalar_end c.self.inside.scalar_end c.self.inside.well_formed refl other.clean
+    c.self.inside.scalar_front (omega arith) (λ _. scalar_text c.utf8.other) c.push_text.ensures.ok c.push_text.ensures.err
 
 pub returns-clause-ok : goal.returns-clause-ok
 returns-clause-ok g c =

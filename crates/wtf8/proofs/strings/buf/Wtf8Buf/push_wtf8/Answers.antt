@@ -1,27 +1,20 @@
-use Rattle.wtf8.proofs.Common.{UnitString, ap, arith, length, refl, sym, subst, ◌∙◌, IsTrue, false≢true, units, view_units, view_form}
+use Rattle.wtf8.proofs.Common.{UnitString, ap, arith, length, refl, units, view_units, view_form}
 use Rattle.wtf8.proofs.lemmas.strings.Gains.{gained_units, kept_contents, added_length, known_gained, scalar_apart, scalar_moved}
-use Rattle.wtf8.proofs.lemmas.strings.Surrogates.{scalar_if_none}
 use Rattle.wtf8.proofs.lemmas.laws.Laws.{grows_at_most, nothing_appended, fits_left}
-use Rattle.wtf8.proofs.lemmas.numbers.Readings.{no_points}
-use Rattle.wtf8.proofs.strings.buf.Wtf8Buf.push_wtf8.Goals.{then-is_apart+then-holds_surrogate, else-is_apart, else-is_apart-via-then-is_apart+else-holds_surrogate, else-is_apart-via-else-is_apart}
+use Rattle.wtf8.proofs.lemmas.numbers.Readings.{no_points, well_formed_of}
 use Rattle.wtf8.proofs.strings.buf.Wtf8Buf.push_wtf8.Goals as goal
 
 pub push_view-requires-clause-apart : goal.push_view-requires-clause-apart
-push_view-requires-clause-apart g c t h = scalar_apart (scalar_moved c.self.inside.well_formed h refl (c.self.inside.known_scalar t))
+push_view-requires-clause-apart g c t h =
+    scalar_apart (scalar_moved (well_formed_of c.args.self.now.form) h (ap (λ (t : UnitString). t.bytes) c.self.view_is) (c.is_known_utf8-is_apart.ensures t))
 
 pub invariant_of-self-inside : goal.invariant_of-self-inside
 invariant_of-self-inside g c =
     let other = c.args.other.well_formed in
-    known_gained c.push_view.result other.points (units other.points) _ c.self.inside.well_formed refl other.clean (
-    λ known. elim c.if-is_apart.branch [
-      | then-is_apart+then-holds_surrogate w ↦ absurd (false≢true (subst (λ s. IsTrue s.1.1.0) w.self-inside-is known))
-      | else-is_apart w ↦ elim w.else-is_apart.branch [
-        | else-is_apart-via-then-is_apart+else-holds_surrogate b ↦
-            (c.self.inside.known_scalar b.if-is_apart.true, scalar_if_none other (b.holds_surrogate.ensures b.if-holds_surrogate.false))
-        | else-is_apart-via-else-is_apart b ↦ absurd (false≢true (sym b.if-is_apart.false ∙ subst (λ s. IsTrue s.1.1.0) w.self-inside-is known))
-      ]
-    ]
-    ) c.push_view.ensures.ok c.push_view.ensures.err
+    let own = c.self.inside in
+    let end = c.scalar_end_with-self-inside.ensures in
+    known_gained c.push_view.result other.points (units other.points) own.scalar_end _ own.well_formed refl other.clean own.scalar_front
+    end.order (λ m. end.scalar (omega (arith, m))) c.push_view.ensures.ok c.push_view.ensures.err
 
 pub returns-clause-ok : goal.returns-clause-ok
 returns-clause-ok g c =

@@ -1,6 +1,7 @@
-use Rattle.wtf8.proofs.Common.{◌∙◌, ap, subst, arith, inl, refl, length, take, false≢true, IsFront, UnitString, units, CutsUnits}
+use Rattle.wtf8.proofs.Common.{◌∙◌, ap, subst, arith, inl, refl, length, take, IsFront, UnitString, units, CutsUnits}
 use Rattle.wtf8.proofs.lemmas.strings.Positions.{same_front}
 use Rattle.wtf8.proofs.lemmas.numbers.Readings.{moved, same_points}
+use Rattle.wtf8.proofs.lemmas.strings.Gains.{scalar_to-cut, scalar_to-moved}
 use Rattle.wtf8.proofs.lemmas.strings.UnitCuts.{undivided, divided, in_range, front_at, lead_kept, lead_kept_units}
 use Rattle.wtf8.proofs.strings.buf.Wtf8Buf.try_truncate_units.Goals as goal
 
@@ -21,7 +22,15 @@ pub invariant_of-self-inside : goal.invariant_of-self-inside
 invariant_of-self-inside g c =
     let h = c.as_wtf8.result.well_formed in
     let x = subst (CutsUnits h.points c.args.n c.in-Some.cut.position) c.in-Some-divided.is c.in-Some.ensures.some in
-    (moved (lead_kept h (divided x)) (cc (ap (λ (t : UnitString). t.bytes) c.self.view_is)), (λ known. absurd (false≢true known), tt))
+    let own = c.self.inside in
+    let scalar = scalar_to-moved own.scalar_end own.well_formed h (cc (ap (λ (t : UnitString). t.bytes) c.self.view_is)) own.scalar_front in (
+      moved (lead_kept h (divided x)) (cc (ap (λ (t : UnitString). t.bytes) c.self.view_is)),
+      (
+        scalar_to-cut own.scalar_end c.min-self-inside.result x.front _ _ scalar (divided x).joined (omega (arith, c.min-self-inside.ensures))
+            (omega (arith, (divided x).front_len, c.min-self-inside.ensures)),
+        tt,
+      ),
+    )
 
 pub returns-in-None : goal.returns-in-None
 returns-in-None g c =
