@@ -40,14 +40,14 @@ fn expect_units_back(alloc: Global, units: &[u16]) -> Result<(), Fail> {
     Ok(())
 }
 
-/// Fails unless the units of so many letters come back, with each other kind in the place of each of them.
-fn expect_changed_back(alloc: Global, length: usize) -> Result<(), Fail> {
+/// Fails unless so many equal units come back, with each other kind in the place of each of them.
+fn expect_changed_back(alloc: Global, unit: u16, length: usize) -> Result<(), Fail> {
     for place in 0..length {
         for other in &OTHERS {
             let mut units = Vec::new(alloc);
-            units.resize(place, 0x0061)?;
+            units.resize(place, unit)?;
             units.extend_from_slice(other)?;
-            units.resize(length.max(units.len()), 0x007A)?;
+            units.resize(length.max(units.len()), unit)?;
             expect_units_back(alloc, &units)?;
         }
     }
@@ -60,7 +60,17 @@ fn all_units_are_appended(rt: HostRuntime) -> Result<(), Fail> {
         let mut letters = Vec::new(rt.alloc());
         letters.resize(length, 0x0061)?;
         expect_units_back(rt.alloc(), &letters)?;
-        expect_changed_back(rt.alloc(), length)?;
+        expect_changed_back(rt.alloc(), 0x0061, length)?;
+    }
+    Ok(())
+}
+
+#[test]
+fn blocks_of_other_units_are_appended(rt: HostRuntime) -> Result<(), Fail> {
+    for length in 0..=26 {
+        for unit in [0x0080, 0x07FF, 0x0800, 0xFFFF, 0xD7FF, 0xD800, 0xDFFF] {
+            expect_changed_back(rt.alloc(), unit, length)?;
+        }
     }
     Ok(())
 }
