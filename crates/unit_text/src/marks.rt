@@ -102,7 +102,8 @@ pub(crate) fn marks_of<A: Allocator>(alloc: A, text: &Wtf8Buf<A>, count: usize) 
 }
 
 /// Adds the marks that are missing behind those that are there, as far as there is memory for them. A text with as many
-/// bytes as units needs none.
+/// bytes as units needs none. It stands by itself, so that a text with no marks costs little.
+#[inline(never)]
 pub(crate) fn add_marks<A: Allocator>(text: &Wtf8Buf<A>, count: usize, marks: &mut Vec<UnitMark, A>)
     requires counted { count ≡ length text.now.units }
     requires marks { All (IsKept text.now.bytes text.now.units) marks.old.items }
@@ -126,6 +127,7 @@ pub(crate) fn add_marks<A: Allocator>(text: &Wtf8Buf<A>, count: usize, marks: &m
 }
 
 /// The same, where marks are kept.
+#[inline(always)]
 pub(crate) fn add_to_kept<A: Allocator>(
     text: &Wtf8Buf<A>,
     count: usize,

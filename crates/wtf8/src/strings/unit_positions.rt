@@ -67,7 +67,7 @@ fn find_unit_from(bytes: &[u8], unit: usize, from: Place) -> Place
                 return Place { at, units_before };
             }
             units_before += 1;
-        } else {
+        } else if 0xC0 <= byte {
             let more = units_begun_by(byte);
             if unit - units_before < more {
                 return Place { at, units_before };
