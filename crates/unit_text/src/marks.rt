@@ -46,7 +46,7 @@ fn mark_before<A: Allocator>(
 }
 
 /// A view of the text's end in which a number of units is near the front, and that number there. A text that is too short
-/// for marks is looked at as it is.
+/// for marks is looked at as it is, unless it has as many bytes as units.
 #[inline]
 pub(crate) fn near<'a, A: Allocator>(
     text: &'a Wtf8Buf<A>,
@@ -60,7 +60,7 @@ pub(crate) fn near<'a, A: Allocator>(
     ensures units { drop result.1 (view_units result.0) ≡ drop units text.now.units }
     ensures within { result.1 ≤ length (view_units result.0) }
 {
-    if count <= SPACING {
+    if count <= SPACING && text.len() != count {
         return (text.as_wtf8(), units);
     }
     let mark = mark_before(text, count, marks, units);
