@@ -46,7 +46,7 @@ fn mark_before<A: Allocator>(
 }
 
 /// A view of the text's end in which a number of units is near the front, and that number there. A text that is too short
-/// for marks is looked at as it is.
+/// for marks is looked at as it is, unless it has as many bytes as units.
 #[inline]
 pub(crate) fn near<'a, A: Allocator>(
     text: &'a Wtf8Buf<A>,
@@ -60,7 +60,7 @@ pub(crate) fn near<'a, A: Allocator>(
     ensures units { drop result.1 (view_units result.0) ≡ drop units text.now.units }
     ensures within { result.1 ≤ length (view_units result.0) }
 {
-    if count <= SPACING {
+    if count <= SPACING && text.len() != count {
         return (text.as_wtf8(), units);
     }
     let mark = mark_before(text, count, marks, units);
@@ -102,7 +102,8 @@ pub(crate) fn marks_of<A: Allocator>(alloc: A, text: &Wtf8Buf<A>, count: usize) 
 }
 
 /// Adds the marks that are missing behind those that are there, as far as there is memory for them. A text with as many
-/// bytes as units needs none.
+/// bytes as units needs none. It stands by itself, so that a text with no marks costs little.
+#[inline(never)]
 pub(crate) fn add_marks<A: Allocator>(text: &Wtf8Buf<A>, count: usize, marks: &mut Vec<UnitMark, A>)
     requires counted { count ≡ length text.now.units }
     requires marks { All (IsKept text.now.bytes text.now.units) marks.old.items }
@@ -126,6 +127,7 @@ pub(crate) fn add_marks<A: Allocator>(text: &Wtf8Buf<A>, count: usize, marks: &m
 }
 
 /// The same, where marks are kept.
+#[inline(always)]
 pub(crate) fn add_to_kept<A: Allocator>(
     text: &Wtf8Buf<A>,
     count: usize,

@@ -18,6 +18,9 @@ use std::simd::prelude::*;
 /// How many bytes are counted together where all are.
 const HALF_BLOCK: usize = BLOCK / 2;
 
+/// How many bytes are counted together last of all.
+const HALF_VECTOR: usize = VECTOR / 2;
+
 /// A place among bytes, and how many units begin before it.
 #[derive(Clone, Copy)]
 struct Place {
@@ -67,7 +70,7 @@ fn find_unit_from(bytes: &[u8], unit: usize, from: Place) -> Place
                 return Place { at, units_before };
             }
             units_before += 1;
-        } else {
+        } else if 0xC0 <= byte {
             let more = units_begun_by(byte);
             if unit - units_before < more {
                 return Place { at, units_before };
@@ -137,7 +140,8 @@ fn behind_blocks_of_many(bytes: &[u8], unit: usize) -> Place
         place = behind;
     }
     let place = behind_block::<HALF_BLOCK>(bytes, unit, place).unwrap_or(place);
-    behind_block::<VECTOR>(bytes, unit, place).unwrap_or(place)
+    let place = behind_block::<VECTOR>(bytes, unit, place).unwrap_or(place);
+    behind_block::<HALF_VECTOR>(bytes, unit, place).unwrap_or(place)
 }
 
 /// The place of the code point that holds a unit, or the end, where the bytes have no such unit.

@@ -1,8 +1,9 @@
 use Rattle.wtf8.proofs.Common.{arith, get_or, units_begun}
 use Rattle.std.proofs.lemmas.List.Sums.{sum_by_more}
-use Rattle.wtf8.proofs.lemmas.lanes.Surrogates.{begun_low}
+use Rattle.wtf8.proofs.lemmas.lanes.Surrogates.{begun_low, begun_inside}
 use Rattle.wtf8.proofs.strings.unit_positions.find_unit_from.Goals as goal
-use Rattle.wtf8.proofs.strings.unit_positions.find_unit_from.Goals.{then-byte-lt128+else-units_before-unit, else-byte-lt128+else-unit-units_before}
+use Rattle.wtf8.proofs.strings.unit_positions.find_unit_from.Goals.{then-byte-lt128+else-units_before-unit, else-byte-lt128+then-byte-ge192+else-unit-units_before}
+use Rattle.wtf8.proofs.strings.unit_positions.find_unit_from.Goals.{else-byte-lt128+else-byte-ge192}
 
 pub returns-then-units_before-unit : goal.returns-then-units_before-unit
 returns-then-units_before-unit c =
@@ -24,8 +25,11 @@ loop-at-preserved c =
       | then-byte-lt128+else-units_before-unit b ↦
           let one = begun_low (get_or w c.loop-at.at 0) b.if-byte-lt128.true in
           (omega (arith, more, one, c.loop-at.invariant.0, b.units_before-is), omega (arith, c.loop-at.invariant.1, b.if-units_before-unit.false, b.units_before-is))
-      | else-byte-lt128+else-unit-units_before b ↦ (
+      | else-byte-lt128+then-byte-ge192+else-unit-units_before b ↦ (
         omega (arith, more, b.units_begun_by-more.ensures, c.loop-at.invariant.0, b.units_before-is),
         omega (arith, c.loop-at.invariant.1, b.if-unit-units_before.false, b.units_before-is),
       )
+      | else-byte-lt128+else-byte-ge192 b ↦
+          let none = begun_inside (get_or w c.loop-at.at 0) b.if-byte-lt128.false (omega (arith, b.if-byte-ge192.false)) in
+          (omega (arith, more, none, c.loop-at.invariant.0, b.units_before-is), omega (arith, c.loop-at.invariant.1, b.units_before-is))
     ]
