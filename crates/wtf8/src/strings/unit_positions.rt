@@ -275,6 +275,18 @@ fn ascii_unit<const N: usize>(view: Wtf8<'_>, index: usize) -> Option<u16>
     None
 }
 
+/// How many units a half of a pair is, if there is one.
+#[inline(always)]
+fn count_of(half: Option<u16>) -> usize
+    ensures count { result ≡ length (option_to_list half) }
+    ensures most { result ≤ 1 }
+{
+    match half {
+        Some(_) => 1,
+        None => 0,
+    }
+}
+
 /// What lies between two numbers of units: code points, and at either end the half of a pair that is divided there.
 #[derive(Clone, Copy)]
 pub struct UnitSlice<'a> {
@@ -324,8 +336,8 @@ impl<'a> Wtf8<'a> {
                 lead: None,
             };
         }
-        let (front, lead) = self.first_units(end);
-        let (trail, whole) = front.units_behind(begin);
+        let (trail, rest) = self.units_behind(begin);
+        let (whole, lead) = rest.first_units(end - begin - count_of(trail));
         UnitSlice { trail, whole, lead }
     }
 

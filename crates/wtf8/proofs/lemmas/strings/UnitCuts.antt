@@ -1,10 +1,9 @@
 -- A string cut at a number of units, also inside a pair, and what an iterator holds of a pair.
 use Rattle.wtf8.proofs.Common.{◌≡◌, ℕ, zero, suc, ◌+◌, ◌≤◌, List, [], ◌∷◌, ◌++◌, length, take, drop, None, Some, refl, sym, ap, ◌∙◌, subst, arith, length-append}
 use Rattle.wtf8.proofs.Common.{append_assoc, take_at, drop_at, slice_get, IsCodePoint, units, IsClean, bytes, encoding, IsWellFormed, IsFront, CutsUnits, ◌<◌, ◌↔◌}
-use Rattle.wtf8.proofs.Common.{inl, inr, Option, get_or, cases_lt, same_from_push, take-append-drop, length-drop, Reads, true, false, ◌/◌, ◌%◌, lt-ltb, le-ltb}
-use Rattle.wtf8.proofs.Common.{drop-drop, units_of, trail_by, held_in, behind_held, unread_after}
-use Rattle.std.proofs.Common.{drop-cons, length-take-le}
-use Rattle.std.proofs.lemmas.List.{take-append-le, drop-append-le}
+use Rattle.wtf8.proofs.Common.{inl, inr, Option, get_or, same_from_push, take-append-drop, length-drop, Reads, true, false, ◌/◌, ◌%◌, lt-ltb, le-ltb}
+use Rattle.wtf8.proofs.Common.{drop-drop, take-add, append-nil, IsLead, units_of, trail_by, held_in, behind_held, unread_after}
+use Rattle.std.proofs.Common.{length-take-le}
 use Rattle.std.specs.Option.{option_to_list}
 use Rattle.std.specs.Prelude.{IsSome}
 use Rattle.wtf8.specs.UnitSteps.{StepsUnit}
@@ -14,7 +13,7 @@ use Rattle.wtf8.specs.UnitSteps.{is_inside}
 use Rattle.wtf8.proofs.lemmas.numbers.Encoding.{encoding_four, bytes-append, bytes-pushed, row_of, one, two, three, four, Begins, first-encoding}
 use Rattle.wtf8.proofs.lemmas.numbers.Readings.{clean-first, clean-front, clean-back, clean-append, clean-apart, no_trail, meets_by, lead_of, trail_of, units_one}
 use Rattle.wtf8.proofs.lemmas.numbers.Readings.{units_two, units-append, units-pushed, first_of, no_points, taken, moved}
-use Rattle.wtf8.proofs.lemmas.strings.Concatenation.{points_meet}
+use Rattle.wtf8.proofs.lemmas.strings.Concatenation.{points_meet, last_of, empty, ends}
 use Rattle.wtf8.proofs.lemmas.strings.Positions.{cut_by}
 
 -- What a string has before and behind a number of its units.
@@ -123,43 +122,44 @@ divides_some {c} {n} {k} {p} {front} {rest} clean d =
     meets_by (units front) (units rest) (lead_of p) (trail_of p) (omega (arith, range, d.large), omega (arith, range, d.large)) (omega (arith, range), omega (arith, range))
     d.kept d.behind
 
--- a beginning of units divides the pairs that lie in it; where a lead is cut off behind it, its end divides none
-grown : (v r : List ℕ) (n : ℕ) → DividesPair v n → DividesPair (v ++ r) n
-grown v r n m =
-    let within : n ≤ length v = omega (arith, ap length m.begins, length-drop n v) in
-    meets_by m.front (m.rest ++ r) m.lead m.trail m.is_lead m.is_trail (take-append-le n v r within ∙ m.ends) (drop-append-le n v r within ∙ ap (λ w. w ++ r) m.begins)
+-- the first units behind others
+pub take_behind : (f r : List ℕ) (n : ℕ) → take (length f + n) (f ++ r) ≡ f ++ take n r
+take_behind f r n =
+    take-add (length f) n (f ++ r)
+    ∙ (ap (λ x. x ++ take n (drop (length f) (f ++ r))) (take_at f r (length f) refl) ∙ ap (λ x. f ++ take n x) (drop_at f r (length f) refl))
 
-cut_back : (v r : List ℕ) (n : ℕ) → n < length v → DividesPair (v ++ r) n → DividesPair v n
-cut_back v r n h m =
-    let first = drop-cons v n 0 h in
-    let whole : get_or v n 0 ∷ (drop (suc n) v ++ r) ≡ m.trail ∷ m.rest = ap (λ w. w ++ r) (sym first) ∙ (sym (drop-append-le n v r (omega arith)) ∙ m.begins) in
-    let here : get_or v n 0 ≡ m.trail = ap (λ w. get_or w 0 0) whole in
-    meets_by m.front (drop (suc n) v) m.lead m.trail m.is_lead m.is_trail (sym (take-append-le n v r (omega arith)) ∙ m.ends) (first ∙ ap (λ x. x ∷ drop (suc n) v) here)
-
-no_lead_there : (u v : List ℕ) (l end : ℕ) → v ++ l ∷ [] ≡ take end u → DividesPair u end → ¬ (DividesPair u (length v))
-no_lead_there u v l end e d m =
-    let last : l ≡ d.lead = (same_from_push v d.front l d.lead (e ∙ d.ends)).1 in
-    let whole : u ≡ v ++ l ∷ drop end u = sym (take-append-drop end u) ∙ (ap (λ w. w ++ drop end u) (sym e) ∙ append_assoc v (l ∷ []) (drop end u)) in
-    let here : l ≡ m.trail = ap (λ w. get_or w 0 0) (sym (drop_at v (l ∷ drop end u) (length v) refl) ∙ (ap (drop (length v)) (sym whole) ∙ m.begins)) in
-    omega (arith, last, here, d.is_lead, m.is_trail)
-
-pub divides_in_front : (u v : List ℕ) (half : Option ℕ) (n end : ℕ) → n < end → end ≤ length u → v ++ option_to_list half ≡ take end u
-    → (IsSome half ↔ DividesPair u end) → DividesPair v n ↔ DividesPair u n
-divides_in_front u v half n end h in_u e d =
-    let rest = option_to_list half ++ drop end u in
-    let whole : v ++ rest ≡ u = sym (append_assoc v (option_to_list half) (drop end u)) ∙ (ap (λ w. w ++ drop end u) e ∙ take-append-drop end u) in (
-      λ m. subst (λ w. DividesPair w n) whole (grown v rest n m),
-      λ m. elim (cases_lt n (length v)) [
-        | inl k ↦ cut_back v rest n k (subst (λ w. DividesPair w n) (sym whole) m)
-        | inr k ↦ behind half e d k m
+-- units behind others divide the pairs that the whole divides there, where the others end in no lead that a trail would meet
+divides_whole : (f r : List ℕ) (n : ℕ) → (take n r ≡ [] → (g : List ℕ) (l : ℕ) → f ≡ g ++ l ∷ [] → ¬ (IsLead l)) → DividesPair r n ↔ DividesPair (f ++ r) (length f + n)
+divides_whole f r n apart =
+    let front = take_behind f r n in
+    let back : drop (length f + n) (f ++ r) ≡ drop n r = sym (drop-drop n (length f) (f ++ r)) ∙ ap (drop n) (drop_at f r (length f) refl) in (
+      λ m. meets_by (f ++ m.front) m.rest m.lead m.trail m.is_lead m.is_trail
+          (front ∙ (ap (λ x. f ++ x) m.ends ∙ sym (append_assoc f m.front (m.lead ∷ [])))) (back ∙ m.begins),
+      λ m. elim (last_of (take n r)) [
+        | empty e ↦ absurd (apart e m.front m.lead (sym (append-nil f) ∙ (ap (λ x. f ++ x) (sym e) ∙ (sym front ∙ m.ends))) m.is_lead)
+        | ends g l e ↦
+            let same = (same_from_push (f ++ g) m.front l m.lead (append_assoc f g (l ∷ []) ∙ (ap (λ x. f ++ x) (sym e) ∙ (sym front ∙ m.ends)))).1 in
+            meets_by g m.rest m.lead m.trail m.is_lead m.is_trail (e ∙ ap (λ x. g ++ x ∷ []) same) (sym back ∙ m.begins)
       ],
     )
+
+-- the units behind the first so many, of which a cut-off trail stands by itself
+pub divides_behind : (u r : List ℕ) (half : Option ℕ) (begin n : ℕ) → begin ≤ length u → option_to_list half ++ r ≡ drop begin u → (IsSome half ↔ DividesPair u begin)
+    → 0 < length (option_to_list half) + n → n ≤ length r → DividesPair r n ↔ DividesPair u (begin + (length (option_to_list half) + n))
+divides_behind u r half begin n in_u e d more in_r =
+    let f = take begin u ++ option_to_list half in
+    let whole : f ++ r ≡ u = append_assoc (take begin u) (option_to_list half) r ∙ (ap (λ x. take begin u ++ x) e ∙ take-append-drop begin u) in
+    let long : length f + n ≡ begin + (length (option_to_list half) + n) =
+    omega (arith, length-append (take begin u) (option_to_list half), length-take-le begin u in_u) in
+    subst (λ k. DividesPair r n ↔ DividesPair u k) long (subst (λ w. DividesPair r n ↔ DividesPair w (length f + n)) whole (divides_whole f r n (apart half e d more)))
   where
-    behind : (half : Option ℕ) → v ++ option_to_list half ≡ take end u → (IsSome half ↔ DividesPair u end) → length v ≤ n → DividesPair u n → DividesPair v n
-    behind None e d k m = absurd (omega (arith, h, k, in_u, length-take-le end u in_u, ap length e, length-append v []))
-    behind (Some l) e d k m =
-        let same : n ≡ length v = omega (arith, h, k, length-take-le end u in_u, ap length e, length-append v (l ∷ [])) in
-        absurd (no_lead_there u v l end e (d.0 refl) (subst (DividesPair u) same m))
+    apart : (half : Option ℕ) → option_to_list half ++ r ≡ drop begin u → (IsSome half ↔ DividesPair u begin) → 0 < length (option_to_list half) + n
+        → take n r ≡ [] → (g : List ℕ) (l : ℕ) → take begin u ++ option_to_list half ≡ g ++ l ∷ [] → ¬ (IsLead l)
+    apart None e d more none g l q lead = absurd (omega (arith, more, ap length none, length-take-le n r in_r))
+    apart (Some t) e d more none g l q lead =
+        let m = d.0 refl in
+        let first : t ≡ m.trail = ap (λ w. get_or w 0 0) (e ∙ m.begins) in
+        omega (arith, first, (same_from_push (take begin u) g t l q).1, lead, m.is_trail)
 
 -- Bytes that begin with a held trail or with a code point, and what one unit leaves of them.
 
