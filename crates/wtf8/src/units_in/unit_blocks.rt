@@ -260,12 +260,12 @@ fn end_of_point(v: &[u16], at: usize) -> usize
     at + 1
 }
 
-/// Whether the four units from a place on are ASCII, where there are so many.
+/// Whether the four units from a place on are ASCII, where there are as many as a block has.
 #[inline(always)]
 fn begins_with_ascii(v: &[u16], at: usize) -> bool
     requires { at < length v.now }
 {
-    FRONT <= v.len() - at
+    NUMBERS <= v.len() - at
         && v[at] < 0x80
         && v[at + 1] < 0x80
         && v[at + 2] < 0x80
