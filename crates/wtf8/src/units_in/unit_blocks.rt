@@ -24,9 +24,6 @@ const IN_THREES: [usize; 32] = [
     0, 0, 0, 0, 0,
 ];
 
-/// How many ASCII units are written together behind a block of them.
-const WIDE: usize = 2 * NUMBERS;
-
 /// From how many on the ASCII units at the front of a block are taken together.
 const FRONT: usize = 4;
 
@@ -47,29 +44,27 @@ fn units_from<const N: usize>(v: &[u16], at: usize) -> Option<[u16; N]>
     Some(Simd::<u16, N>::from_slice(&v[at..]).to_array())
 }
 
-/// Whether all of `N` numbers are below 0x80.
+/// Whether all of sixteen numbers are below 0x80.
 #[inline(always)]
-fn are_ascii<const N: usize>(numbers: Simd<u32, N>) -> bool
-    requires { N ≤ u64.BITS }
-    ensures { IsTrue result → AreAscii numbers.entry }
+fn are_ascii(numbers: u32x16) -> bool
+    ensures { IsTrue result → AreAscii numbers }
 {
-    numbers.simd_ge(Simd::<u32, N>::splat(0x80)).to_bitmask() == 0
+    numbers.simd_ge(u32x16::splat(0x80)).to_bitmask() == 0
 }
 
-/// `N` numbers below 0x80 as bytes.
+/// Sixteen numbers below 0x80 as bytes.
 #[inline(always)]
-fn narrowed<const N: usize>(numbers: Simd<u32, N>) -> [u8; N]
+fn narrowed(numbers: u32x16) -> [u8; NUMBERS]
     requires { AreAscii numbers }
-    ensures { result ≡ numbers.entry }
+    ensures { result ≡ numbers }
 {
     numbers.cast::<u8>().to_array()
 }
 
-/// `N` numbers as bytes, if all of them are below 0x80.
+/// Sixteen numbers as bytes, if all of them are below 0x80.
 #[inline(always)]
-pub(crate) fn ascii_bytes<const N: usize>(numbers: Simd<u32, N>) -> Option<[u8; N]>
-    requires { N ≤ u64.BITS }
-    ensures { IfSome result (λ block. AreAscii block × (block ≡ numbers.entry)) }
+pub(crate) fn ascii_bytes(numbers: u32x16) -> Option<[u8; NUMBERS]>
+    ensures { IfSome result (λ block. AreAscii block × (block ≡ numbers)) }
 {
     if are_ascii(numbers) {
         return Some(narrowed(numbers));
@@ -77,37 +72,13 @@ pub(crate) fn ascii_bytes<const N: usize>(numbers: Simd<u32, N>) -> Option<[u8; 
     None
 }
 
-/// The bytes of the `N` units from a place on, where there are so many and all of them are ASCII.
+/// The bytes of the sixteen units from a place on, where there are so many and all of them are ASCII.
 #[inline(always)]
-fn ascii_units<const N: usize>(v: &[u16], at: usize) -> Option<[u8; N]>
-    requires lanes { N ≤ u64.BITS }
-    requires within { at ≤ length v.now }
-    ensures block { IfSome result (λ block. IsBlock v.now at N block) }
-    ensures ascii { IfSome result (λ block. AreAscii (take N (drop at v.now))) }
-    ensures same { IfSome result (λ block. block ≡ take N (drop at v.now)) }
-{
-    ascii_bytes(Simd::<u16, N>::from_array(units_from(v, at)?).cast())
-}
-
-/// Appends the bytes of the ASCII units from a place on, twice sixteen together as often as that can be, and answers where
-/// they end. It stands by itself, so that the loop over other units keeps its registers.
-#[inline(never)]
-fn append_ascii<A: Allocator>(
-    bytes: &mut Vec<u8, A>,
-    v: &[u16],
-    at: usize,
-) -> Result<usize, AllocError>
+fn ascii_units(v: &[u16], at: usize) -> Option<[u8; NUMBERS]>
     requires { at ≤ length v.now }
-    ensures order { IfOk result (λ end. (at ≤ end) × (end ≤ length v.now)) }
-    ensures ascii { IfOk result (λ end. AreAscii (take (end - at) (drop at v.now))) }
-    ensures items { IfOk result (λ end. bytes.new.items ≡ bytes.old.items ++ take (end - at) (drop at v.now)) }
+    ensures { IfSome result (λ block. IsBlock v.now at NUMBERS block) }
 {
-    let mut end = at;
-    while let Some(block) = ascii_units::<WIDE>(v, end) {
-        bytes.extend_from_slice(&block)?;
-        end += WIDE;
-    }
-    Ok(end)
+    ascii_bytes(u16x16::from_array(units_from(v, at)?).cast())
 }
 
 /// Whether all of eight units take two bytes.
@@ -360,9 +331,9 @@ pub(crate) fn append_units<A: Allocator>(
     let mut at = 0;
     let mut is_scalar = true;
     while at < v.len() {
-        if let Some(block) = ascii_units::<NUMBERS>(v, at) {
+        if let Some(block) = ascii_units(v, at) {
             bytes.extend_from_slice(&block)?;
-            at = append_ascii(bytes, v, at + NUMBERS)?;
+            at += NUMBERS;
             continue;
         }
         if let Some(block) = three_byte_block(v, at) {

@@ -39,10 +39,10 @@ none_set p P Q h xs few f same e =
     each_unset p P Q h xs f (sym whole ∙ ap (λ ms. mask_l ms % 2 ^ 64) (sym same) ∙ e)
 
 -- where no lane is set all numbers are below 80
-pub none_high : (n : ℕ) (xs : List ℕ) → n ≤ 64 → length xs ≡ n → Each1 (Fits w32) xs
-    → mask_l (map (top 31) (zip2 (λ a b. cond (leb a b) 0xFFFFFFFF 0) (replicate n 0x80) xs)) % 2 ^ 64 ≡ 0 → AreAscii xs
-none_high n xs few l f = none_set (leb 0x80) (Fits w32) (λ n. n < 0x80) (λ x _ u. leb-false 0x80 x u) xs (omega (arith, few, l)) f
-    (tops_compared w32 leb (replicate n 0x80) xs ∙ zip2_splat_left leb 0x80 n xs l)
+pub none_high : (xs : List ℕ) → length xs ≡ 16 → Each1 (Fits w32) xs
+    → mask_l (map (top 31) (zip2 (λ a b. cond (leb a b) 0xFFFFFFFF 0) (replicate 16 0x80) xs)) % 2 ^ 64 ≡ 0 → AreAscii xs
+none_high xs l f = none_set (leb 0x80) (Fits w32) (λ n. n < 0x80) (λ x _ u. leb-false 0x80 x u) xs (omega arith) f
+    (tops_compared w32 leb (replicate 16 0x80) xs ∙ zip2_splat_left leb 0x80 16 xs l)
 
 -- a lane is set by a unit that does not take two bytes
 either_set : (a b : Bool) → top 15 (bit_or (wide a) (wide b)) ≡ a || b
@@ -180,10 +180,10 @@ ascii_form u h = record {
   scalar = λ _. are_scalar u (ascii_scalars u h);
 }
 
-pub ascii_block : (u w : List ℕ) (at n : ℕ) → at + n ≤ length u → AreAscii w → w ≡ take n (drop at u) → IsBlock u at n w
-ascii_block u w at n within h e =
+pub ascii_block : (u w : List ℕ) (at : ℕ) → at + 16 ≤ length u → AreAscii w → w ≡ take 16 (drop at u) → IsBlock u at 16 w
+ascii_block u w at within h e =
     let ascii = subst AreAscii e h in
-    record { within = within; scalars = ascii_scalars (take n (drop at u)) ascii; encoded = e ∙ sym (ascii_bytes (take n (drop at u)) ascii) }
+    record { within = within; scalars = ascii_scalars (take 16 (drop at u)) ascii; encoded = e ∙ sym (ascii_bytes (take 16 (drop at u)) ascii) }
 
 pub nothing_read : {w : List ℕ} (known : Bool) → w ≡ [] → IsKnownForm w [] known
 nothing_read known e = record { form = record { points = []; reads = record { clean = tt; same_units = refl }; encoded = sym e }; scalar = λ _. tt }
@@ -206,26 +206,6 @@ block_apart {u} {w} at k b =
     let long : length part ≡ k + 1 = length-chunk at (k + 1) u b.within in
     let apart = Each1-get_or (λ n. (n < 0x10000) × ¬ (IsSurrogate n)) part k 0 (omega (arith, long)) b.scalars in
     last_apart u at k b.within (λ l. apart.1 (l.0, omega (arith, l.1)))
-
--- ASCII units behind one another, and their bytes
-pub chunk_more : (u : List ℕ) (at end more : ℕ) → at ≤ end → take (end + more - at) (drop at u) ≡ take (end - at) (drop at u) ++ take more (drop end u)
-chunk_more u at end more le =
-    let both : end + more - at ≡ (end - at) + more = omega (arith, le) in
-    let behind : at + (end - at) ≡ end = omega (arith, le) in
-    ap (λ k. take k (drop at u)) both ∙ (take-add (end - at) more (drop at u)
-    ∙ ap (λ w. take (end - at) (drop at u) ++ take more w) (drop-drop (end - at) at u ∙ ap (λ k. drop k u) behind))
-
-pub ascii-append : (a b : List ℕ) → AreAscii a → AreAscii b → AreAscii (a ++ b)
-ascii-append [] b h k = k
-ascii-append (x ∷ a) b h k = (h.0, ascii-append a b h.1 k)
-
-pub ascii_apart : (u : List ℕ) (at n : ℕ) → at + n ≤ length u → AreAscii (take n (drop at u)) → DividesNoPair u at → DividesNoPair u (at + n)
-ascii_apart u at zero within h apart = subst (DividesNoPair u) (omega arith) apart
-ascii_apart u at (suc k) within h apart =
-    let part = take (k + 1) (drop at u) in
-    let n : suc k ≡ k + 1 = omega arith in
-    let low = Each1-get_or (λ n. n < 0x80) part k 0 (omega (arith, length-chunk at (k + 1) u (omega (arith, within)))) (subst (λ m. AreAscii (take m (drop at u))) n h) in
-    subst (λ m. DividesNoPair u (at + m)) (sym n) (last_apart u at k (omega (arith, within)) (λ l. omega (arith, low, l.0)))
 
 -- where a part meets what is before it, all that is behind does
 meets_longer : (a b : List ℕ) (n : ℕ) → MeetsAsPair a (take n b) → MeetsAsPair a b

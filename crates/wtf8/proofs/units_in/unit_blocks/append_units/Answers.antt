@@ -1,6 +1,6 @@
-use Rattle.wtf8.proofs.Common.{◌≡◌, take, drop, true, ◌+◌, ◌-◌, ◌&&◌, arith, refl, sym, subst, and_parts, DividesNoPair}
+use Rattle.wtf8.proofs.Common.{take, ◌+◌, ◌-◌, ◌&&◌, arith, refl, and_parts}
 use Rattle.wtf8.proofs.lemmas.numbers.Readings.{nothing_ends}
-use Rattle.wtf8.proofs.lemmas.units_in.Blocks.{ascii_apart, ascii_form, block_apart, block_form, nothing_read, part_read, all_read}
+use Rattle.wtf8.proofs.lemmas.units_in.Blocks.{block_apart, block_form, nothing_read, part_read, all_read}
 use Rattle.wtf8.proofs.units_in.unit_blocks.append_units.Goals as goal
 
 pub loop-at-init : goal.loop-at-init
@@ -9,20 +9,12 @@ loop-at-init g c = (omega arith, nothing_read _ c.requires, nothing_ends)
 pub loop-at-preserved-in-Some : goal.loop-at-preserved-in-Some
 loop-at-preserved-in-Some g c =
     let known = c.loop-at.is_scalar in
-    let u = c.args.v.now in
-    let at = c.loop-at.at in
-    let b = c.in-Some.ensures.block in
-    let block = part_read u c.loop-at.bytes.items c.in-Some.block c.extend_from_slice.new.self.items at 16 (at + 16) known known known
-    c.loop-at.invariant.1 (block_form known b) c.loop-at.invariant.2 (λ t. (t, t)) c.in_ok-extend_from_slice.ensures.items refl in
-    let apart = block_apart at 15 b in
-    let more = c.in_ok-at.ensures in
-    let n = c.in_ok-at.at - (at + 16) in
-    let part = take n (drop (at + 16) u) in
-    let end : c.in_ok-at.at ≡ at + 16 + n = omega (arith, more.order.0) in (
-      more.order.1,
-      part_read u c.extend_from_slice.new.self.items part c.append_ascii.new.bytes.items (at + 16) n c.in_ok-at.at known true known block
-          (ascii_form part more.ascii) apart (λ t. (t, refl)) more.items end,
-      subst (DividesNoPair u) (sym end) (ascii_apart u (at + 16) n (omega (arith, end, more.order.1)) more.ascii apart),
+    let b = c.in-Some.ensures in (
+      b.within,
+      part_read c.args.v.now c.loop-at.bytes.items c.in-Some.block c.extend_from_slice.new.self.items c.loop-at.at 16
+          (c.loop-at.at + 16) known known known c.loop-at.invariant.1 (block_form known b) c.loop-at.invariant.2
+          (λ t. (t, t)) c.in_ok-extend_from_slice.ensures.items refl,
+      block_apart c.loop-at.at 15 b,
     )
 
 pub loop-at-preserved-in-Some-three_byte_block : goal.loop-at-preserved-in-Some-three_byte_block

@@ -3,4 +3,4 @@ use Rattle.wtf8.proofs.lemmas.units_in.Blocks.{none_high}
 use Rattle.wtf8.proofs.units_in.unit_blocks.are_ascii.Goals as goal
 
 pub returns : goal.returns
-returns g c t = none_high g.row.N c.args.numbers c.requires c.fits-numbers.0 c.fits-numbers.1 (eqb-true _ 0 t)
+returns c t = none_high c.args.numbers c.fits-numbers.0 c.fits-numbers.1 (eqb-true _ 0 t)
