@@ -12,6 +12,9 @@ use wtf8::{UnitMark, UnitSlice, Wtf8, Wtf8Buf, laws};
 /// How many units are between one mark and the next. A text of no more has none.
 const SPACING: usize = 128;
 
+/// How many units at the front of a short text are found at once without a mark.
+const FRONT: usize = 8;
+
 /// A mark at or before a number of units: where the text has as many bytes as units the position itself, else the last one
 /// that is kept, or the start.
 fn mark_before<A: Allocator>(
@@ -46,7 +49,7 @@ fn mark_before<A: Allocator>(
 }
 
 /// A view of the text's end in which a number of units is near the front, and that number there. A text that is too short
-/// for marks is looked at as it is, unless it has as many bytes as units.
+/// for marks is looked at as it is, unless it has as many bytes as units and the number is not at its front already.
 #[inline]
 pub(crate) fn near<'a, A: Allocator>(
     text: &'a Wtf8Buf<A>,
@@ -60,7 +63,7 @@ pub(crate) fn near<'a, A: Allocator>(
     ensures units { drop result.1 (view_units result.0) ≡ drop units text.now.units }
     ensures within { result.1 ≤ length (view_units result.0) }
 {
-    if count <= SPACING && text.len() != count {
+    if count <= SPACING && (units < FRONT || text.len() != count) {
         return (text.as_wtf8(), units);
     }
     let mark = mark_before(text, count, marks, units);
