@@ -223,6 +223,55 @@ fn a_path_has_components(rt: HostRuntime) -> Result<(), Fail> {
     Ok(())
 }
 
+/// A folder and a name; the path of them, its suffix without the dot, and whether that path is relative to another one: what
+/// CPython's `PureWindowsPath` answers by `/`, `suffix` and `is_relative_to`.
+const WINDOWS_PATHS: [(&str, &str, &str, Option<&str>, &str, bool); 10] = [
+    (
+        "C:\\a",
+        "b.tar.gz",
+        "C:\\a\\b.tar.gz",
+        Some("gz"),
+        "C:/a",
+        true,
+    ),
+    ("C:\\", "b", "C:\\b", None, "C:\\c", false),
+    ("a\\", "b.c d", "a\\b.c d", Some("c d"), "a", true),
+    ("a", "bc", "a\\bc", None, "a/b", false),
+    (
+        "\\\\server\\share",
+        "..a",
+        "\\\\server\\share\\..a",
+        Some("a"),
+        "\\\\server\\share\\..a",
+        true,
+    ),
+    ("💩", "é.💩", "💩\\é.💩", Some("💩"), "💩/é", false),
+    ("a\\b", "c", "a\\b\\c", None, "a\\b\\c\\d", false),
+    ("a\\b", "c", "a\\b\\c", None, "b", false),
+    ("a\\b\\", "c.d", "a\\b\\c.d", Some("d"), "a/b/c.d", true),
+    (
+        "C:\\Program Files",
+        "x",
+        "C:\\Program Files\\x",
+        None,
+        "C:/Program Files",
+        true,
+    ),
+];
+
+#[test]
+fn paths_are_those_of_windows(rt: HostRuntime) -> Result<(), Fail> {
+    for (folder, name, whole, extension, front, is_relative) in WINDOWS_PATHS {
+        let path = file_names::join_once(rt.alloc(), Wtf8::from_str(folder), Wtf8::from_str(name))?;
+        assert_eq!(rt; path.as_wtf8().as_str(), Some(whole));
+        let found = file_names::extension(Wtf8::from_str(name));
+        assert_eq!(rt; found.and_then(|text| text.as_str()), extension);
+        let is_front = file_names::begins_with(path.as_wtf8(), Wtf8::from_str(front));
+        assert_eq!(rt; is_front, is_relative);
+    }
+    Ok(())
+}
+
 #[test]
 fn a_name_ends_at_a_zero(rt: HostRuntime) -> Result<(), Fail> {
     let rows: [(&[u16], &str); 4] = [
@@ -242,15 +291,29 @@ fn a_name_ends_at_a_zero(rt: HostRuntime) -> Result<(), Fail> {
 fn a_number_stays(rt: HostRuntime) -> Result<(), Fail> {
     let mut interner = Interner::new(rt.alloc());
     let first = Wtf8Buf::from_ill_formed_utf16(rt.alloc(), &[LEAD])?;
-    assert_eq!(rt; interner.number(first.clone()?)?, 0);
-    assert_eq!(rt; interner.number(Wtf8Buf::new(rt.alloc()))?, 1);
-    assert_eq!(rt; interner.number(first)?, 0);
+    assert_eq!(rt; interner.number(first.as_wtf8())?, 0);
+    assert_eq!(rt; interner.number(Wtf8::from_str(""))?, 1);
+    assert_eq!(rt; interner.number(first.as_wtf8())?, 0);
+    assert_eq!(rt; interner.len(), 2);
     for (number, dump) in [(0, Some("ED A0 BD")), (1, Some("")), (2, None)] {
         match (interner.string(number), dump) {
             (Some(string), Some(dump)) => expect_dump(rt.alloc(), string, dump)?,
             (found, dump) => assert_eq!(rt; found.is_some(), dump.is_some()),
         }
     }
+    Ok(())
+}
+
+#[test]
+fn strings_of_one_hash_have_their_own_numbers(rt: HostRuntime) -> Result<(), Fail> {
+    let mut interner = Interner::new(rt.alloc());
+    let names = ["Aa", "BB", "AaAa", "AaBB", "BBAa", "BBBB", "C#", ""];
+    for _ in 0..2 {
+        for (number, name) in names.iter().enumerate() {
+            assert_eq!(rt; interner.number(Wtf8::from_str(name))?, number);
+        }
+    }
+    assert_eq!(rt; interner.len(), names.len());
     Ok(())
 }
 
@@ -301,7 +364,10 @@ fn a_string_is_copied_by_its_code_points(rt: HostRuntime) -> Result<(), Fail> {
     expect_dump(rt.alloc(), front.as_wtf8(), "ED B2 A9 F0 9F 92 A9")?;
     let back = points::points_behind(rt.alloc(), text.as_wtf8(), 2)?;
     expect_dump(rt.alloc(), back.as_wtf8(), "41 ED A0 BD")?;
+    assert_eq!(rt; points::common_points(text.as_wtf8(), front.as_wtf8()), 2);
+    assert_eq!(rt; points::common_points(text.as_wtf8(), back.as_wtf8()), 0);
     points::push_points(&mut front, back.as_wtf8())?;
+    assert_eq!(rt; points::common_points(front.as_wtf8(), text.as_wtf8()), 4);
     expect_dump(rt.alloc(), front.as_wtf8(), whole)
 }
 

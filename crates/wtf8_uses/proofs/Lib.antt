@@ -1,4 +1,5 @@
 pub mod BeforeLemmas
+pub mod FrontLemmas
 pub mod Numbering
 pub mod PartLemmas
 pub mod RepeatLemmas

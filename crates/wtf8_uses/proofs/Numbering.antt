@@ -1,55 +1,132 @@
--- A string that is given the next number.
-use Rattle.std.proofs.Common.{◌≡◌, ℕ, zero, suc, ◌⊎◌, inl, inr, Bool, true, false, cond, List, [], ◌∷◌, ◌++◌, length, slice_get, Some, ◌↔◌, refl, sym, ap}
-use Rattle.std.proofs.Common.{subst, ◌∙◌, arith}
-use Rattle.std.proofs.lemmas.Bool.{false≢true}
+-- A list that is given the next number.
+use Rattle.std.proofs.Common.{◌≡◌, ℕ, zero, suc, ◌+◌, ◌<◌, ◌≤◌, ◌↔◌, ◌⊎◌, inl, inr, Bool, true, false, cond, eqb, List, [], ◌∷◌, ◌++◌, length, slice_get, slice_index_or, Some, refl, sym}
+use Rattle.std.proofs.Common.{ap, subst, ◌∙◌, arith}
+use Rattle.std.proofs.lemmas.Bool.Decides.{nat_tests}
 use Rattle.std.proofs.lemmas.Grind.{common_steps}
-use Rattle.std.proofs.lemmas.List.{length-map, map-append}
-use Rattle.std.proofs.lemmas.Option.{gets}
-use Rattle.std.proofs.lemmas.Slice.Eq.{bytes_eq-Decides}
+use Rattle.std.proofs.lemmas.List.{length-append, map-append}
+use Rattle.std.proofs.lemmas.Option.{same_Some, slice_get-get_or, slice_get_read, slice_get_within}
 use Rattle.std.specs.HashMap.{HashMap, get}
-use Rattle.wtf8.specs.StringLaws.{EqualBuffersHaveEqualUnits}
+use Rattle.std.specs.Prelude.{unwrap_or, nat_eq}
 use Rattle.wtf8.specs.UnitString.{UnitString}
-use Rattle.wtf8_uses.specs.Numbered.{AreNumbered, same_bytes, units_of_strings}
+use Rattle.wtf8_uses.specs.Numbered.{AreNumbered, IsEnd, hash_of, units_of_strings}
 
-module _ {X : Type 0} where
-  stays : (xs : List X) (x : X) (k : ℕ) (y : X) → slice_get xs k ≡ Some y → slice_get (xs ++ x ∷ []) k ≡ Some y
-  stays xs x k y e = grind (arith, common_steps, gets, e)
+old_or_last : {X : Type 0} (xs : List X) (x : X) (k : ℕ) (y : X) → slice_get (xs ++ x ∷ []) k ≡ Some y
+    → (slice_get xs k ≡ Some y) ⊎ ((k ≡ length xs) × (y ≡ x))
+old_or_last [] x zero y e = inr (refl, cc e)
+old_or_last [] x (suc k) y e = grind (arith, common_steps, e)
+old_or_last (z ∷ xs) x zero y e = inl e
+old_or_last (z ∷ xs) x (suc k) y e = elim (old_or_last xs x k y e) [ inl l ↦ inl l | inr r ↦ inr (ap suc r.0, r.1) ]
 
-  last : (xs : List X) (x : X) → slice_get (xs ++ x ∷ []) (length xs) ≡ Some x
-  last xs x = grind (arith, common_steps, gets)
+lt_of_apart : {j k : ℕ} → j ≤ k → (j ≡ k → ⊥) → j < k
+lt_of_apart {j} {k} le apart = grind (arith, le, apart)
 
-  old_or_last : (xs : List X) (x : X) (k : ℕ) (y : X) → slice_get (xs ++ x ∷ []) k ≡ Some y → (slice_get xs k ≡ Some y) ⊎ ((k ≡ length xs) × (y ≡ x))
-  old_or_last [] x zero y e = inr (refl, cc e)
-  old_or_last [] x (suc k) y e = grind (arith, common_steps, e)
-  old_or_last (z ∷ xs) x zero y e = inl e
-  old_or_last (z ∷ xs) x (suc k) y e = elim (old_or_last xs x k y e) [ inl l ↦ inl l | inr r ↦ inr (ap suc r.0, r.1) ]
+same_at : (us : List (List ℕ)) (k : ℕ) (u v : List ℕ) → slice_get us k ≡ Some u → slice_get us k ≡ Some v → u ≡ v
+same_at us k u v a b = cc
 
-module _ {S : Type 0} (m n : HashMap UnitString ℕ S) (strings : List UnitString) (key copy : UnitString) (equal : EqualBuffersHaveEqualUnits)
-    (old : AreNumbered m strings) (none : (k : ℕ) → slice_get (units_of_strings strings) k ≡ Some key.units → ⊥) (same : copy.units ≡ key.units)
-    (put : (s : UnitString) → get same_bytes n s ≡ cond (same_bytes key s) (Some (length strings)) (get same_bytes m s)) where
-  numbered_at : (s : UnitString) (k : ℕ) (b : Bool) → same_bytes key s ≡ b
-      → (get same_bytes n s ≡ Some k) ↔ (slice_get (units_of_strings strings ++ copy.units ∷ []) k ≡ Some s.units)
-  numbered_at s k true t =
-      let us = units_of_strings strings in
-      let len : length us ≡ length strings = length-map strings (λ x. x.units) in
-      let units : key.units ≡ s.units = (equal key s).0 ((bytes_eq-Decides key.bytes s.bytes).0 t) in
-      let got : get same_bytes n s ≡ Some (length strings) = put s ∙ ap (λ b. cond b (Some (length strings)) (get same_bytes m s)) t in (
-        λ h. let place : length us ≡ k = cc (len, got, h) in subst (λ j. slice_get (us ++ copy.units ∷ []) j ≡ Some s.units) place
-            (last us copy.units ∙ ap Some (same ∙ units)),
-        λ h. elim (old_or_last us copy.units k s.units h) [
-          | inl e ↦ absurd (none k (e ∙ ap Some (sym units)))
-          | inr e ↦ got ∙ ap Some (sym (e.0 ∙ len))
-        ],
-      )
-  numbered_at s k false t =
-      let us = units_of_strings strings in
-      let apart : s.units ≡ copy.units → ⊥ = λ e. false≢true (sym t ∙ (bytes_eq-Decides key.bytes s.bytes).1 ((equal key s).1 (sym (e ∙ same)))) in
-      let got : get same_bytes n s ≡ get same_bytes m s = put s ∙ ap (λ b. cond b (Some (length strings)) (get same_bytes m s)) t in (
-        λ h. stays us copy.units k s.units ((old s k).0 (sym got ∙ h)),
-        λ h. elim (old_or_last us copy.units k s.units h) [ inl e ↦ got ∙ (old s k).1 e | inr e ↦ absurd (apart e.1) ],
-      )
+-- Where a list stands among others it does before an end, and the one right before the end has its hash.
+pub record IsReached (lists : List (List ℕ)) (v : List ℕ) (end : ℕ) : Type 0 where
+  pub within : end ≤ length lists
+  pub before : (k : ℕ) → slice_get lists k ≡ Some v → k < end
+  pub last : (k : ℕ) (u : List ℕ) → k + 1 ≡ end → slice_get lists k ≡ Some u → hash_of u ≡ hash_of v
 
-  pub added : AreNumbered n (strings ++ copy ∷ [])
-  added s k =
-      subst (λ v. (get same_bytes n s ≡ Some k) ↔ (slice_get v k ≡ Some s.units)) (sym (map-append (λ x. x.units) strings (copy ∷ [])))
-      (numbered_at s k (same_bytes key s) refl)
+module _ {S : Type 0} {m : HashMap ℕ ℕ S} {befores : List ℕ} {us : List (List ℕ)} (old : AreNumbered m befores us) (v : List ℕ) where
+  -- the end of all lists of its hash
+  pub first_end : (h : ℕ) → h ≡ hash_of v → IsReached us v (unwrap_or (get nat_eq m h) 0)
+  first_end h e = let o = subst (λ q. IsEnd us q (length us) (unwrap_or (get nat_eq m h) 0)) e (old.ends_are h) in record {
+    within = o.within;
+    before = λ k at. o.before k v (slice_get_within us k v at) at refl;
+    last = o.last;
+  }
+
+-- the end before a list that is another one
+pub next_end : (us : List (List ℕ)) (u v : List ℕ) (k end e : ℕ) → k + 1 ≡ end → IsReached us v end → slice_get us k ≡ Some u → (u ≡ v → ⊥)
+    → IsEnd us (hash_of u) k e → IsReached us v e
+next_end us u v k end e is r at apart o =
+    let hash = r.last k u is at in record {
+      within = omega (arith, o.within, r.within, is);
+      before = λ j there. o.before j v (lt_of_apart (omega (arith, r.before j there, is)) (λ same. apart (same_at us k u v at (subst (λ i. slice_get us i ≡ Some v) same there)))) there (sym hash);
+      last = λ j w e there. o.last j w e there ∙ hash;
+    }
+
+-- the list of a number and the end before it
+pub end_before : {S : Type 0} {m : HashMap ℕ ℕ S} {befores : List ℕ} {us : List (List ℕ)} → AreNumbered m befores us → (k e : ℕ) → k < length us
+    → e ≡ slice_index_or befores k e → (u : List ℕ) × (slice_get us k ≡ Some u) × IsEnd us (hash_of u) k e
+end_before {befores = befores} {us = us} old k e within is =
+    let at = slice_get-get_or us k [] within in
+    (slice_index_or us k [], at, old.befores_are k e _ at (slice_get_read befores (length us) k e (sym old.lengths) within is))
+
+-- a list has one number
+pub one_number : {S : Type 0} {m : HashMap ℕ ℕ S} {befores : List ℕ} {us : List (List ℕ)} → AreNumbered m befores us → (k : ℕ) (v : List ℕ)
+    → slice_get us k ≡ Some v → (n : ℕ) → (Some k ≡ Some n) ↔ (slice_get us n ≡ Some v)
+one_number {us = us} old k v at n = (λ e. subst (λ j. slice_get us j ≡ Some v) (same_Some k n e) at, λ there. ap Some (old.distinct k n v at there))
+
+module _ (us : List (List ℕ)) (v : List ℕ) where
+  abbrev more : List (List ℕ)
+  more = us ++ v ∷ []
+
+  len : length more ≡ length us + 1
+  len = length-append us (v ∷ [])
+
+  -- an end within the old lists stays one
+  stays : (h limit end : ℕ) → limit ≤ length us → IsEnd us h limit end → IsEnd more h limit end
+  stays h limit end l o = record {
+    within = o.within;
+    before = λ k u below at same. elim (old_or_last us v k u at) [ inl a ↦ o.before k u below a same | inr b ↦ absurd (omega (arith, b.0, below, l)) ];
+    last = λ k u is at. elim (old_or_last us v k u at) [ inl a ↦ o.last k u is a | inr b ↦ absurd (omega (arith, b.0, is, o.within, l)) ];
+  }
+
+  -- the end of all lists of another hash stays the same
+  other : (h end : ℕ) → (hash_of v ≡ h → ⊥) → IsEnd us h (length us) end → IsEnd more h (length more) end
+  other h end apart o = let s = stays h (length us) end (omega arith) o in record {
+    within = omega (arith, o.within, len);
+    before = λ k u below at same. elim (old_or_last us v k u at) [
+      | inl a ↦ o.before k u (slice_get_within us k u a) a same
+      | inr b ↦ absurd (apart (ap hash_of (sym b.1) ∙ same))
+    ];
+    last = s.last;
+  }
+
+  -- the new list is the last of its hash
+  newest : IsEnd more (hash_of v) (length more) (length us + 1)
+  newest = record {
+    within = omega (arith, len);
+    before = λ k u below at same. omega (arith, below, len);
+    last = λ k u is at. elim (old_or_last us v k u at) [
+      | inl a ↦ absurd (omega (arith, slice_get_within us k u a, is))
+      | inr b ↦ ap hash_of b.1
+    ];
+  }
+
+  module _ {S : Type 0} (m n : HashMap ℕ ℕ S) (befores : List ℕ) (h : ℕ) (is_hash : h ≡ hash_of v) (old : AreNumbered m befores us)
+      (none : (k : ℕ) → slice_get us k ≡ Some v → ⊥) (put : (q : ℕ) → get nat_eq n q ≡ cond (eqb h q) (Some (length us + 1)) (get nat_eq m q)) where
+    end_at : (q : ℕ) (b : Bool) → eqb h q ≡ b → IsEnd more q (length more) (unwrap_or (cond b (Some (length us + 1)) (get nat_eq m q)) 0)
+    end_at q true t = let e : hash_of v ≡ q = grind (arith, nat_tests, is_hash, t) in subst (λ x. IsEnd more x (length more) (length us + 1)) e newest
+    end_at q false t = other q _ (λ e. grind (arith, nat_tests, is_hash, t, e)) (old.ends_are q)
+
+    pub added : AreNumbered n (befores ++ unwrap_or (get nat_eq m h) 0 ∷ []) more
+    added = record {
+      distinct = λ j k u a b. elim (old_or_last us v j u a) [
+        | inl x ↦ elim (old_or_last us v k u b) [ inl y ↦ old.distinct j k u x y | inr y ↦ absurd (none j (x ∙ ap Some y.1)) ]
+        | inr x ↦ elim (old_or_last us v k u b) [ inl y ↦ absurd (none k (y ∙ ap Some x.1)) | inr y ↦ x.0 ∙ sym y.0 ]
+      ];
+      lengths = omega (arith, old.lengths, len, length-append befores (unwrap_or (get nat_eq m h) 0 ∷ []));
+      ends_are = λ q. subst (λ o. IsEnd more q (length more) (unwrap_or o 0)) (sym (put q)) (end_at q (eqb h q) refl);
+      befores_are = λ k e u a b. elim (old_or_last us v k u a) [
+        | inl x ↦ elim (old_or_last befores _ k e b) [
+          | inl y ↦ let w = slice_get_within us k u x in stays (hash_of u) k e (omega (arith, w)) (old.befores_are k e u x y)
+          | inr y ↦ absurd (omega (arith, slice_get_within us k u x, y.0, old.lengths))
+        ]
+        | inr x ↦ elim (old_or_last befores _ k e b) [
+          | inl y ↦ absurd (omega (arith, slice_get_within befores k e y, x.0, old.lengths))
+          | inr y ↦ let here = stays (hash_of v) (length us) _ (omega arith) (subst (λ q. IsEnd us q (length us) (unwrap_or (get nat_eq m h) 0)) is_hash (old.ends_are h))
+              in subst (λ q. IsEnd more (hash_of q) k e) (sym x.1) (subst (λ q. IsEnd more (hash_of v) q e) (sym x.0)
+              (subst (IsEnd more (hash_of v) (length us)) (sym y.1) here))
+        ]
+      ];
+    }
+
+-- the units of strings of which one was pushed
+pub units_pushed : (old mid new : List UnitString) (s : UnitString) {us : List (List ℕ)} {v : List ℕ} → new ≡ mid ++ s ∷ [] → mid ≡ old
+    → units_of_strings old ≡ us → s.units ≡ v → units_of_strings new ≡ us ++ v ∷ []
+units_pushed old mid new s {us} e f g h =
+    ap units_of_strings (e ∙ ap (λ z. z ++ s ∷ []) f) ∙ (map-append (λ x. x.units) old (s ∷ []) ∙ (ap (λ z. z ++ s.units ∷ []) g ∙ ap (λ w. us ++ w ∷ []) h))

@@ -1,19 +1,41 @@
 -- The components of paths.
-use Rattle.std.proofs.Common.{◌≡◌, ℕ, inl, inr, List, [], ◌∷◌, ◌++◌, map, sym, ap, ◌∙◌, append_assoc, arith}
+use Rattle.std.proofs.Common.{◌≡◌, ◌↔◌, ℕ, inl, inr, List, [], ◌∷◌, ◌++◌, length, map, sym, ap, ◌∙◌, append_assoc, arith}
 use Rattle.std.proofs.lemmas.Bool.Decides.{nat_tests}
-use Rattle.std.proofs.lemmas.List.{map-append}
-use Rattle.std.proofs.lemmas.List.Splits.{slice_split_at, slice_split_none}
+use Rattle.std.proofs.lemmas.List.{length-append, map-append}
+use Rattle.std.proofs.lemmas.List.Splits.{length-slice_split, slice_split_at, slice_split_none}
 use Rattle.std.specs.List.{slice_split}
-use Rattle.wtf8_uses.specs.FileName.{IsMark, HasNoMark, is_separator}
+use Rattle.wtf8_uses.specs.FileName.{BeginsWith, IsMark, HasNoMark, is_separator}
 
-first_part : (u front back : List ℕ) (m : ℕ) → u ≡ front ++ m ∷ back → IsMark 0x2F 0x5C m → HasNoMark 0x2F 0x5C front
+-- the first part is before the first separator
+pub first_part : (u front back : List ℕ) (m : ℕ) → u ≡ front ++ m ∷ back → IsMark 0x2F 0x5C m → HasNoMark 0x2F 0x5C front
     → slice_split is_separator u ≡ front ∷ slice_split is_separator back
 first_part u front back m e mark none =
     rw e (slice_split_at is_separator front m back (λ k d h. grind (arith, nat_tests, none.first k d h, none.second k d h))
     (elim mark [ inl l ↦ grind (arith, nat_tests, l) | inr r ↦ grind (arith, nat_tests, r) ]))
 
-one_part : (u : List ℕ) → HasNoMark 0x2F 0x5C u → slice_split is_separator u ≡ u ∷ []
+-- without a separator there is one part
+pub one_part : (u : List ℕ) → HasNoMark 0x2F 0x5C u → slice_split is_separator u ≡ u ∷ []
 one_part u none = slice_split_none is_separator u (λ k d h. grind (arith, nat_tests, none.first k d h, none.second k d h))
+
+-- lists with the same first part begin with one another where what is behind it does
+pub begin_alike : (x y : List ℕ) (xs ys us vs : List (List ℕ)) → us ≡ x ∷ xs → vs ≡ y ∷ ys → x ≡ y → BeginsWith us vs ↔ BeginsWith xs ys
+begin_alike x y xs ys us vs e f same = (
+  λ b. record { rest = b.rest; joined = cc (b.joined, e, f) },
+  λ b. record { rest = b.rest; joined = cc (b.joined, e, f, same) },
+)
+
+-- parts begin with the first one of them
+pub begin_with_first : (x y : List ℕ) (xs us vs : List (List ℕ)) → us ≡ x ∷ xs → vs ≡ y ∷ [] → x ≡ y → BeginsWith us vs
+begin_with_first x y xs us vs e f same = record { rest = xs; joined = cc (e, f, same) }
+
+-- the first part of both is the same where one begins with the other
+pub first_alike : (x y : List ℕ) (xs ys us vs : List (List ℕ)) → us ≡ x ∷ xs → vs ≡ y ∷ ys → BeginsWith us vs → x ≡ y
+first_alike x y xs ys us vs e f b = cc (b.joined, e, f)
+
+-- one part does not begin with more than one
+pub no_more : (x y : List ℕ) (u : List ℕ) (us vs : List (List ℕ)) → us ≡ x ∷ [] → vs ≡ y ∷ slice_split is_separator u → ¬ (BeginsWith us vs)
+no_more x y u us vs e f b =
+    omega (arith, simp length-append at (ap length (sym e ∙ (b.joined ∙ ap (λ z. z ++ b.rest) f))), length-slice_split is_separator u)
 
 -- parts and those of a rest are a list, and another part is added
 module _ {X : Type 0} (f : X → List ℕ) (old new : List X) (part : X) (u : List ℕ) (whole : List (List ℕ)) (added : new ≡ old ++ part ∷ [])

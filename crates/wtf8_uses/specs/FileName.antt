@@ -1,5 +1,5 @@
 -- Names in paths: what a cut at the last of two marks says.
-use Rattle.std.specs.Prelude.{◌≡◌, ◌≢◌, ◌==◌, ◌||◌, ℕ, Bool, ◌<◌, ◌⊎◌, List, ◌∷◌, ◌++◌, length, take, slice_index}
+use Rattle.std.specs.Prelude.{◌≡◌, ◌≢◌, ◌==◌, ◌||◌, ℕ, Bool, ◌+◌, ◌<◌, ◌⊎◌, List, ◌∷◌, ◌++◌, length, take, slice_index}
 use Rattle.std.specs.List.{All}
 
 -- A number is one of two marks.
@@ -17,6 +17,17 @@ pub record IsCutAtLast (a b : ℕ) (u front back : List ℕ) : Type 0 where
   pub is_mark : IsMark a b mark
   pub joined : u ≡ front ++ mark ∷ back
   pub none : HasNoMark a b back
+
+-- The last of the numbers is one of two marks.
+pub record EndsWithMark (a b : ℕ) (u : List ℕ) : Type 0 where
+  pub place : ℕ
+  pub is_last : place + 1 ≡ length u
+  pub is_mark : IsMark a b (slice_index u place)
+
+-- The parts of one list are first those of another one, in order.
+pub record BeginsWith (parts front : List (List ℕ)) : Type 0 where
+  pub rest : List (List ℕ)
+  pub joined : parts ≡ front ++ rest
 
 -- Units are those of a list before its first 0, or all of them where it has none.
 pub record IsBeforeZero (u v : List ℕ) : Type 0 where

@@ -1,3 +1,4 @@
+pub mod CommonFront
 pub mod EngineString
 pub mod FileName
 pub mod LittleEndian

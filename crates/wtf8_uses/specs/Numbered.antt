@@ -1,24 +1,30 @@
 -- Strings by their numbers.
-use Rattle.std.specs.Prelude.{◌≡◌, ℕ, Bool, List, map, slice_get, Some, ◌↔◌, nat_eq}
+use Rattle.std.specs.Prelude.{◌≡◌, ℕ, ◌+◌, ◌*◌, ◌%◌, ◌^◌, ◌<◌, ◌≤◌, List, [], ◌∷◌, length, map, slice_get, Some, unwrap_or, nat_eq}
 use Rattle.std.specs.HashMap.{HashMap, get}
-use Rattle.std.specs.Ordering.{on}
-use Rattle.std.specs.Cmp.Lexicographic.{pointwise}
-use Rattle.std.specs.Coded.{Coded-set, coded_list, coded_ℕ, coded_option}
-use mathlib.Core.HLevel.{Π_prop}
-use mathlib.Core.Logic.{↔_prop}
 use Rattle.wtf8.specs.UnitString.{UnitString}
-
--- Strings are one key where their bytes are equal.
-abbrev pub same_bytes : UnitString → UnitString → Bool
-same_bytes = on (λ s. s.bytes) (pointwise nat_eq)
 
 -- The units of each string of a list.
 abbrev pub units_of_strings : List UnitString → List (List ℕ)
 units_of_strings strings = map (λ s. s.units) strings
 
--- A map has a number for a string exactly where a list of strings has its units at that place.
-abbrev pub AreNumbered : {S : Type 0} → HashMap UnitString ℕ S → List UnitString → Type 0
-AreNumbered numbers strings = (s : UnitString) (n : ℕ) → (get same_bytes numbers s ≡ Some n) ↔ (slice_get (units_of_strings strings) n ≡ Some s.units)
+-- A hash with units taken in behind it (Java, "String.hashCode").
+abbrev pub hash_with : ℕ → List ℕ → ℕ
+hash_with h [] = h
+hash_with h (unit ∷ units) = hash_with ((h * 31 % 2 ^ 32 + unit) % 2 ^ 32) units
 
-pub AreNumbered-prop : {S : Type 0} (numbers : HashMap UnitString ℕ S) (strings : List UnitString) → IsProp (AreNumbered numbers strings)
-AreNumbered-prop numbers strings = Π_prop (λ s. Π_prop (λ n. ↔_prop (Coded-set (coded_option coded_ℕ) _ _) (Coded-set (coded_option (coded_list coded_ℕ)) _ _)))
+-- The hash of units (Java, "String.hashCode").
+unfoldable pub hash_of : List ℕ → ℕ
+hash_of units = hash_with 0 units
+
+-- Of the lists before a limit those with a hash are all before an end, and the one right before the end has it.
+pub record IsEnd (lists : List (List ℕ)) (hash limit end : ℕ) : Type 0 where
+  pub within : end ≤ limit
+  pub before : (k : ℕ) (u : List ℕ) → k < limit → slice_get lists k ≡ Some u → hash_of u ≡ hash → k < end
+  pub last : (k : ℕ) (u : List ℕ) → k + 1 ≡ end → slice_get lists k ≡ Some u → hash_of u ≡ hash
+
+-- No two lists are equal, and of each hash the end of all lists is told, and before each list the end of those with its hash.
+pub record AreNumbered {S : Type 0} (ends : HashMap ℕ ℕ S) (befores : List ℕ) (lists : List (List ℕ)) : Type 0 where
+  pub distinct : (j k : ℕ) (u : List ℕ) → slice_get lists j ≡ Some u → slice_get lists k ≡ Some u → j ≡ k
+  pub lengths : length befores ≡ length lists
+  pub ends_are : (h : ℕ) → IsEnd lists h (length lists) (unwrap_or (get nat_eq ends h) 0)
+  pub befores_are : (k e : ℕ) (u : List ℕ) → slice_get lists k ≡ Some u → slice_get befores k ≡ Some e → IsEnd lists (hash_of u) k e

@@ -1,12 +1,12 @@
 //! File names of Windows: 16-bit units that nobody checked.
 ghost use Rattle.std.specs.List.{All, slice_split};
-ghost use Rattle.std.specs.Prelude.{◌≡◌, ◌≢◌, ◌↔◌, ◌<◌, ◌≤◌, ◌∷◌, ◌++◌, ℕ, List, length, map, take, slice_index, IfOk, IfSome, IfNone, IsTrue, OnOk, OnErr};
+ghost use Rattle.std.specs.Prelude.{◌≡◌, ◌≢◌, ◌↔◌, ◌<◌, ◌≤◌, [], ◌∷◌, ◌++◌, ℕ, List, length, map, take, slice_index, IfOk, IfSome, IfNone, IsTrue, OnOk, OnErr};
 ghost use Rattle.std.specs.Cow.{cow_str_bytes};
 ghost use Rattle.wtf8.specs.Appending.{AppendsUnits, KeepsContents};
 ghost use Rattle.wtf8.specs.Form.{bytes};
 ghost use Rattle.wtf8.specs.Surrogates.{lossy};
 ghost use Rattle.wtf8.specs.View.{view_points, view_units};
-ghost use Rattle.wtf8_uses.specs.FileName.{IsBeforeZero, IsCutAtLast, IsMark, HasNoMark, is_separator};
+ghost use Rattle.wtf8_uses.specs.FileName.{BeginsWith, EndsWithMark, IsBeforeZero, IsCutAtLast, IsMark, HasNoMark, is_separator};
 
 use std::alloc::{AllocError, Allocator, Global};
 use std::borrow::CowStr;
@@ -99,6 +99,67 @@ pub fn shown<'a>(alloc: Global, name: Wtf8<'a>) -> Result<CowStr<'a, Global>, Al
     name.to_string_lossy(alloc)
 }
 
+/// The extension of a name: what is behind its last `.`; `None` where it has none. No unit is copied.
+pub fn extension<'a>(name: Wtf8<'a>) -> Option<Wtf8<'a>>
+    ensures some { IfSome result (λ x. (stem : List ℕ) × IsCutAtLast 0x2E 0x2E (view_units name.entry) stem (view_units x)) }
+    ensures none { IfNone result (HasNoMark 0x2E 0x2E (view_units name.entry)) }
+{
+    let (_, extension) = stem_and_extension(name)?;
+    Some(extension)
+}
+
+/// A folder and a name with one separator between them: `\`, or that with which the folder ends.
+pub fn join_once(
+    alloc: Global,
+    folder: Wtf8<'_>,
+    name: Wtf8<'_>,
+) -> Result<Wtf8Buf<Global>, AllocError>
+    ensures there { EndsWithMark 0x2F 0x5C (view_units folder.entry) → IfOk result (λ path. path.units ≡ view_units folder.entry ++ view_units name.entry) }
+    ensures put { ¬ (EndsWithMark 0x2F 0x5C (view_units folder.entry)) → IfOk result (λ path. path.units ≡ view_units folder.entry ++ 0x5C ∷ view_units name.entry) }
+{
+    if !ends_with_separator(folder) {
+        return join(alloc, folder, name);
+    }
+    let mut path = Wtf8Buf::new(alloc);
+    path.push_wtf8(folder)?;
+    path.push_wtf8(name)?;
+    Ok(path)
+}
+
+/// Whether a path ends with `/` or `\`.
+pub fn ends_with_separator(path: Wtf8<'_>) -> bool
+    ensures { IsTrue result ↔ EndsWithMark 0x2F 0x5C (view_units path.entry) }
+{
+    match cut_at_last(path, b'/', b'\\') {
+        Some((_, _, behind)) => behind.is_empty(),
+        None => false,
+    }
+}
+
+/// Whether the components of a path are first those of another one, as `components` has them. No unit is copied.
+pub fn begins_with(path: Wtf8<'_>, front: Wtf8<'_>) -> bool
+    ensures { IsTrue result ↔ BeginsWith (slice_split is_separator (view_units path.entry)) (slice_split is_separator (view_units front.entry)) }
+{
+    let mut rest = path;
+    let mut front_rest = front;
+    loop {
+        let (part, behind) = first_component(rest);
+        let (front_part, front_behind) = first_component(front_rest);
+        laws::law_equal_views(part, front_part);
+        if part != front_part {
+            return false;
+        }
+        let Some(front_next) = front_behind else {
+            return true;
+        };
+        let Some(next) = behind else {
+            return false;
+        };
+        rest = next;
+        front_rest = front_next;
+    }
+}
+
 /// What a path is in: all before its last `/` or `\`; `None` where it has neither. No unit is copied.
 pub fn parent<'a>(path: Wtf8<'a>) -> Option<Wtf8<'a>>
     ensures some { IfSome result (λ x. (name : List ℕ) × IsCutAtLast 0x2F 0x5C (view_units path.entry) (view_units x) name) }
@@ -161,6 +222,19 @@ fn with_mark(
     whole.push_char(mark)?;
     whole.push_wtf8(back)?;
     Ok(whole)
+}
+
+/// The first component of a path, and what is behind the separator that follows it, if one does.
+fn first_component<'a>(path: Wtf8<'a>) -> (Wtf8<'a>, Option<Wtf8<'a>>)
+    ensures first { (others : List (List ℕ)) × (slice_split is_separator (view_units path.entry) ≡ view_units result.0 ∷ others) }
+    ensures more { IfSome result.1 (λ rest. slice_split is_separator (view_units path.entry) ≡ view_units result.0 ∷ slice_split is_separator (view_units rest)) }
+    ensures shorter { IfSome result.1 (λ rest. length (view_units rest) < length (view_units path.entry)) }
+    ensures last { IfNone result.1 (slice_split is_separator (view_units path.entry) ≡ view_units result.0 ∷ []) }
+{
+    match cut_at_first(path, b'/', b'\\') {
+        Some((part, _, behind)) => (part, Some(behind)),
+        None => (path, None),
+    }
 }
 
 /// What is before the last of two ASCII marks, that mark, and what is behind it; `None` where neither is there.

@@ -1,21 +1,28 @@
 //! An interner: a number for each string.
-ghost use Rattle.std.specs.Prelude.{◌≡◌, ℕ, List, [], ◌∷◌, ◌++◌, Some, None, Ok, slice_get, length, ◌↔◌, IsNone, IfSome, IfOk, OnOk, OnErr};
+ghost use Rattle.std.specs.Prelude.{◌≡◌, ◌<◌, ◌≤◌, ℕ, List, [], ◌∷◌, ◌++◌, Some, None, Ok, slice_get, length, ◌↔◌, IsNone, IfSome, IfOk, OnOk, OnErr};
 ghost use Rattle.wtf8.specs.View.{view_units};
-ghost use Rattle.wtf8_uses.specs.Numbered.{AreNumbered, AreNumbered-prop};
+ghost use Rattle.wtf8_uses.specs.Numbered.{AreNumbered, IsEnd, hash_of, units_of_strings};
 
 use std::alloc::{AllocError, Global};
 use std::collections::HashMap;
 use std::marker::Model;
 use wtf8::{Wtf8, Wtf8Buf, laws};
 
-/// Strings by their numbers, which count from 0. Equal strings have one number, and a number's string never changes.
+/// Strings by their numbers, which count from 0. Equal strings have one number, and a number's string never changes. Each
+/// string is kept once.
 ///
 /// Contracts see it as the list of the strings' units.
 #[derive(Drop)]
 pub struct Interner {
+    alloc: Global,
     strings: Vec<Wtf8Buf<Global>>,
-    numbers: HashMap<Wtf8Buf<Global>, usize>,
-    ghost numbered: { AreNumbered numbers strings.items } by { AreNumbered-prop numbers strings.items },
+
+    /// For each hash the number behind that of its last string.
+    ends: HashMap<u32, usize>,
+
+    /// For each string the number behind that of the last one before it with its hash, or 0.
+    befores: Vec<usize>,
+    ghost numbered: { AreNumbered ends befores.items (units_of_strings strings.items) },
 }
 
 impl Model for Interner {
@@ -33,22 +40,32 @@ impl Interner {
         ensures { result ≡ [] }
     {
         Interner {
+            alloc,
             strings: Vec::new(alloc),
-            numbers: HashMap::new(alloc),
+            ends: HashMap::new(alloc),
+            befores: Vec::new(alloc),
         }
     }
 
-    /// The number of a string, which is given the next number where it has none. A string that has one is never
-    /// refused. After a refusal all is as before.
-    pub fn number(&mut self, string: Wtf8Buf<Global>) -> Result<usize, AllocError>
-        ensures has { IfOk result (λ n. slice_get self.new n ≡ Some string.units) }
-        ensures known { (n : ℕ) → slice_get self.old n ≡ Some string.units → (result ≡ Ok n) × (self.new ≡ self.old) }
+    /// How many strings have a number.
+    pub fn len(&self) -> usize
+        ensures { result ≡ length self.now }
+    {
+        self.strings.len()
+    }
+
+    /// The number of a string, which is given the next number where it has none. A string that has one wants no memory
+    /// and is never refused. After a refusal all is as before.
+    pub fn number(&mut self, string: Wtf8<'_>) -> Result<usize, AllocError>
+        ensures has { IfOk result (λ n. slice_get self.new n ≡ Some (view_units string.entry)) }
+        ensures known { (n : ℕ) → slice_get self.old n ≡ Some (view_units string.entry) → (result ≡ Ok n) × (self.new ≡ self.old) }
         ensures kept { (n : ℕ) (u : List ℕ) → slice_get self.old n ≡ Some u → slice_get self.new n ≡ Some u }
         ensures refused { OnErr result (self.new ≡ self.old) }
     {
-        match self.find(&string) {
+        let hash = hash_of(string);
+        match self.find(string, hash) {
             Some(number) => Ok(number),
-            None => self.add(string),
+            None => self.add(string, hash),
         }
     }
 
@@ -63,26 +80,70 @@ impl Interner {
         }
     }
 
-    /// The number of a string that has one.
-    fn find(&self, string: &Wtf8Buf<Global>) -> Option<usize>
-        ensures { (n : ℕ) → (result ≡ Some n) ↔ (slice_get self.now n ≡ Some string.now.units) }
+    /// The number of a string of a hash that has one.
+    fn find(&self, string: Wtf8<'_>, hash: u32) -> Option<usize>
+        requires { hash ≡ hash_of (view_units string) }
+        ensures { (n : ℕ) → (result ≡ Some n) ↔ (slice_get self.now n ≡ Some (view_units string.entry)) }
     {
-        self.numbers.get(string).copied()
+        let mut end = self.ends.get(&hash).copied().unwrap_or(0);
+        while end != 0 {
+            let number = end - 1;
+            let found = self.at(number);
+            laws::law_equal_views(found, string);
+            if found == string {
+                return Some(number);
+            }
+            end = self.before(number);
+        }
+        None
     }
 
-    /// Gives the next number to a string that has none.
-    fn add(&mut self, string: Wtf8Buf<Global>) -> Result<usize, AllocError>
-        requires { (n : ℕ) → slice_get self.old n ≡ Some string.units → ⊥ }
+    /// The string of a number that one has.
+    fn at(&self, number: usize) -> Wtf8<'_>
+        requires { number < length self.now }
+        ensures { slice_get self.now number ≡ Some (view_units result) }
+    {
+        self.strings[number].as_wtf8()
+    }
+
+    /// The number behind that of the last string before one with its hash, or 0.
+    fn before(&self, number: usize) -> usize
+        requires { number < length self.now }
+        ensures { (u : List ℕ) × (slice_get self.now number ≡ Some u) × IsEnd self.now (hash_of u) number result }
+    {
+        self.befores[number]
+    }
+
+    /// Gives the next number to a string of a hash that has none.
+    fn add(&mut self, string: Wtf8<'_>, hash: u32) -> Result<usize, AllocError>
+        requires hash { hash ≡ hash_of (view_units string) }
+        requires new { (n : ℕ) → slice_get self.old n ≡ Some (view_units string) → ⊥ }
         ensures number { IfOk result (λ n. n ≡ length self.old) }
-        ensures added { OnOk result (self.new ≡ self.old ++ string.units ∷ []) }
+        ensures added { OnOk result (self.new ≡ self.old ++ view_units string.entry ∷ []) }
         ensures refused { OnErr result (self.new ≡ self.old) }
     {
-        laws::law_equal_strings();
-        let number = self.strings.len();
-        let copy = string.clone()?;
+        let mut copy = Wtf8Buf::new(self.alloc);
+        copy.push_wtf8(string)?;
         self.strings.reserve(1)?;
-        self.numbers.insert(string, number)?;
+        self.befores.reserve(1)?;
+        let number = self.strings.len();
+        let before = self.ends.get(&hash).copied().unwrap_or(0);
+        self.ends.insert(hash, number + 1)?;
         self.strings.push_reserved(copy);
+        self.befores.push_reserved(before);
         Ok(number)
     }
+}
+
+/// The hash of a string's units, as Java has it: of each unit in turn, 31 times the hash before it and the unit, in 32 bits.
+#[tactic(auto, unfolding(crate::specs::Numbered::hash_of))]
+fn hash_of(string: Wtf8<'_>) -> u32
+    ensures { result ≡ hash_of (view_units string.entry) }
+{
+    let mut units = string.to_ill_formed_utf16();
+    let mut hash: u32 = 0;
+    while let Some(unit) = units.next() {
+        hash = hash.wrapping_mul(31).wrapping_add(u32::from(unit));
+    }
+    hash
 }

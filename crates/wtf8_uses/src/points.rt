@@ -2,6 +2,7 @@
 ghost use Rattle.std.specs.Prelude.{◌≡◌, ◌++◌, take, drop, IfOk, OnOk};
 ghost use Rattle.wtf8.specs.Unicode.{units};
 ghost use Rattle.wtf8.specs.View.{view_points, view_units};
+ghost use Rattle.wtf8_uses.specs.CommonFront.{IsCommonFront};
 
 use std::alloc::{AllocError, Allocator};
 use wtf8::{Wtf8, Wtf8Buf, laws};
@@ -53,4 +54,23 @@ pub fn points_behind<A: Allocator>(
 {
     laws::law_drained_points();
     Wtf8Buf::from_iter(alloc, text.code_points().skip(count))
+}
+
+/// How many code points are the same at the front of two strings: up to where they differ or one of them ends.
+pub fn common_points(text: Wtf8<'_>, other: Wtf8<'_>) -> usize
+    ensures { IsCommonFront (view_points text.entry) (view_points other.entry) result }
+{
+    let mut points = text.code_points();
+    let mut others = other.code_points();
+    let mut count = 0;
+    while let Some(point) = points.next() {
+        let Some(second) = others.next() else {
+            return count;
+        };
+        if point != second {
+            return count;
+        }
+        count += 1;
+    }
+    count
 }

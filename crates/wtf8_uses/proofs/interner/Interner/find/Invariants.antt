@@ -1,0 +1,11 @@
+use Rattle.wtf8.specs.View.{view_units}
+use Rattle.wtf8_uses.proofs.Numbering.{IsReached}
+use Rattle.wtf8_uses.proofs.interner.Interner.find.Given as goal
+
+-- the string stands before the end, if anywhere
+abbrev pub invariant-loop-end : goal.invariant-loop-end
+invariant-loop-end l = IsReached l.self (view_units l.string) l.end
+
+-- the end comes nearer
+abbrev pub decreases-loop-end : goal.decreases-loop-end
+decreases-loop-end l = l.end
