@@ -50,7 +50,7 @@ fn mark_before<A: Allocator>(
 
 /// A view of the text's end in which a number of units is near the front, and that number there. A text that is too short
 /// for marks is looked at as it is, unless it has as many bytes as units and the number is not at its front already.
-#[inline]
+#[inline(always)]
 pub(crate) fn near<'a, A: Allocator>(
     text: &'a Wtf8Buf<A>,
     count: usize,
@@ -66,6 +66,23 @@ pub(crate) fn near<'a, A: Allocator>(
     if count <= SPACING && (units < FRONT || text.len() != count) {
         return (text.as_wtf8(), units);
     }
+    near_by_mark(text, count, marks, units)
+}
+
+/// The same from a mark on. It stands by itself, so that what is near the front costs little.
+#[inline(never)]
+fn near_by_mark<'a, A: Allocator>(
+    text: &'a Wtf8Buf<A>,
+    count: usize,
+    marks: &Option<Vec<UnitMark, A>>,
+    units: usize,
+) -> (Wtf8<'a>, usize)
+    requires counted { count ≡ length text.now.units }
+    requires marks { IfSome marks.now (λ kept. All (IsKept text.now.bytes text.now.units) kept.items) }
+    requires within { units ≤ count }
+    ensures units { drop result.1 (view_units result.0) ≡ drop units text.now.units }
+    ensures within { result.1 ≤ length (view_units result.0) }
+{
     let mark = mark_before(text, count, marks, units);
     (text.as_wtf8().behind_mark(mark), units - mark.units)
 }
