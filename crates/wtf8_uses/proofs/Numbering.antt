@@ -29,15 +29,6 @@ pub record IsReached (lists : List (List ℕ)) (v : List ℕ) (end : ℕ) : Type
   pub before : (k : ℕ) → slice_get lists k ≡ Some v → k < end
   pub last : (k : ℕ) (u : List ℕ) → k + 1 ≡ end → slice_get lists k ≡ Some u → hash_of u ≡ hash_of v
 
-module _ {S : Type 0} {m : HashMap ℕ ℕ S} {befores : List ℕ} {us : List (List ℕ)} (old : AreNumbered m befores us) (v : List ℕ) where
-  -- the end of all lists of its hash
-  pub first_end : (h : ℕ) → h ≡ hash_of v → IsReached us v (unwrap_or (get nat_eq m h) 0)
-  first_end h e = let o = subst (λ q. IsEnd us q (length us) (unwrap_or (get nat_eq m h) 0)) e (old.ends_are h) in record {
-    within = o.within;
-    before = λ k at. o.before k v (slice_get_within us k v at) at refl;
-    last = o.last;
-  }
-
 -- the end before a list that is another one
 pub next_end : (us : List (List ℕ)) (u v : List ℕ) (k end e : ℕ) → k + 1 ≡ end → IsReached us v end → slice_get us k ≡ Some u → (u ≡ v → ⊥)
     → IsEnd us (hash_of u) k e → IsReached us v e

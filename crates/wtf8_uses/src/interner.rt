@@ -59,6 +59,7 @@ impl Interner {
     pub fn number(&mut self, string: Wtf8<'_>) -> Result<usize, AllocError>
         ensures has { IfOk result (λ n. slice_get self.new n ≡ Some (view_units string.entry)) }
         ensures known { (n : ℕ) → slice_get self.old n ≡ Some (view_units string.entry) → (result ≡ Ok n) × (self.new ≡ self.old) }
+        ensures next { ((n : ℕ) → slice_get self.old n ≡ Some (view_units string.entry) → ⊥) → OnOk result (self.new ≡ self.old ++ view_units string.entry ∷ []) }
         ensures kept { (n : ℕ) (u : List ℕ) → slice_get self.old n ≡ Some u → slice_get self.new n ≡ Some u }
         ensures refused { OnErr result (self.new ≡ self.old) }
     {
