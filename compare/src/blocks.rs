@@ -82,6 +82,52 @@ fn at_position(position: usize) -> Vec<Call> {
     ]
 }
 
+/// Units of one kind with two others among them, at each two places of 36 units: made of units, and their units appended
+/// behind none to two others.
+pub fn of_mixed_kinds() -> Vec<Vec<Call>> {
+    let mut scripts = Vec::new();
+    for base in [0x61, 0xE9, 0x20AC, 0xD800, 0xDC00] {
+        for (one, other) in OTHERS {
+            for place in 0..36 {
+                let both = |behind| {
+                    let mut units = vec![base; 36];
+                    units[place] = one;
+                    units[behind] = other;
+                    made_and_appended(&units, &ABOUT_UNITS[..behind % 3])
+                };
+                scripts.push((place..36).flat_map(both).collect());
+            }
+        }
+    }
+    scripts
+}
+
+/// Two units of other kinds, each kind with itself and with the next, so that some stand for a pair where they meet.
+const OTHERS: [(u16, u16); 10] = [
+    (0x7F, 0x7F),
+    (0x7F, 0x80),
+    (0x7FF, 0x7FF),
+    (0x7FF, 0x800),
+    (0xFFFF, 0xFFFF),
+    (0xFFFF, 0xD83D),
+    (0xD83D, 0xD83D),
+    (0xD83D, 0xDCA9),
+    (0xDCA9, 0xDCA9),
+    (0xDCA9, 0x00),
+];
+
+/// Units that stand before those that are appended.
+const ABOUT_UNITS: [u16; 2] = [0xDFFF, 0xD800];
+
+/// A string made of units, all of which are appended behind some others.
+fn made_and_appended(units: &[u16], before: &[u16]) -> [Call; 2] {
+    let before = Operand::Units(before.to_vec());
+    [
+        from_units(0, units),
+        Call::new("append_units", vec![Operand::Register(0), before]),
+    ]
+}
+
 /// Texts of each number of bytes that a call takes, each pushed onto an empty string, onto a letter and onto a lead, and made
 /// a string in each other way.
 pub fn texts_of_each_length() -> Vec<Vec<Call>> {

@@ -44,6 +44,17 @@ pub const ALPHABET: [u16; 9] = [
     0x41, 0xE9, 0x20AC, 0xD7FF, 0xD800, 0xDBFF, 0xDC00, 0xDFFF, 0xE000,
 ];
 
+/// The least and the greatest code point of each kind: one, two and three bytes, a lead and a trail alone, a pair.
+const KINDS: [(u32, u32); 7] = [
+    (0x00, 0x7F),
+    (0x80, 0x7FF),
+    (0x800, 0xD7FF),
+    (0xE000, 0xFFFF),
+    (0xD800, 0xDBFF),
+    (0xDC00, 0xDFFF),
+    (0x10000, 0x10FFFF),
+];
+
 /// A script of up to twenty calls.
 pub fn script(random: &mut Random) -> Vec<Call> {
     let count = random.between(1, 20);
@@ -97,7 +108,10 @@ pub fn operand(random: &mut Random, kind: Kind) -> Operand {
         }
         Kind::Units => {
             let count = length(random, 255);
-            Operand::Units((0..count).map(|_| unit(random)).collect())
+            match random.below(4) {
+                0 => Operand::Units(runs(random, count as usize)),
+                _ => Operand::Units((0..count).map(|_| unit(random)).collect()),
+            }
         }
         Kind::Points => {
             let count = length(random, 255);
@@ -154,6 +168,24 @@ fn unit(random: &mut Random) -> u16 {
         5..=7 => random.between(0xDC00, 0xDFFF) as u16,
         _ => value(random) as u16,
     }
+}
+
+/// So many units by runs of one kind, as texts have them: the blocks in which units are read and written begin and end
+/// anywhere in a run.
+fn runs(random: &mut Random, count: usize) -> Vec<u16> {
+    let mut units = Vec::new();
+    while units.len() < count {
+        let (least, most) = random.pick(&KINDS);
+        for _ in 0..random.between(1, 20) {
+            let point = random.between(least, most);
+            match char::from_u32(point) {
+                Some(c) => units.extend_from_slice(c.encode_utf16(&mut [0; 2])),
+                None => units.push(point as u16),
+            }
+        }
+    }
+    units.truncate(count);
+    units
 }
 
 /// All lists of up to `most` units of the alphabet.

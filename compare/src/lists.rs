@@ -6,7 +6,7 @@ use crate::{blocks, building, generate, long, pairs};
 /// A name, and what makes the scripts of that list.
 pub type List = (&'static str, fn() -> Vec<Vec<Call>>);
 
-pub const LISTS: [List; 20] = [
+pub const LISTS: [List; 21] = [
     ("code points at edges", generate::edge_calls),
     ("pairs", pairs::pairs),
     ("up to four units", up_to_four_units),
@@ -20,6 +20,7 @@ pub const LISTS: [List; 20] = [
     ("two surrogates", long::two_surrogates),
     ("one unit changed", long::changed_at_each_place),
     ("one unit of another kind", long::another_kind_at_each_place),
+    ("mixed blocks", blocks::of_mixed_kinds),
     ("longest strings", long::longest),
     ("texts of each length", blocks::texts_of_each_length),
     (

@@ -31,7 +31,7 @@ use Kind::{Builds, Number, Points, Register, Steps, Text, Units, Value};
 
 /// The calls of strings by opcode, with the kinds of their operands. The opcodes from 64 on are calls of texts that are
 /// counted in units, which `units/units.js` makes.
-pub const CALLS: [(&str, &[Kind]); 44] = [
+pub const CALLS: [(&str, &[Kind]); 46] = [
     ("new", &[Register]),
     ("with_capacity", &[Register, Number]),
     ("from_string", &[Register, Text]),
@@ -79,6 +79,8 @@ pub const CALLS: [(&str, &[Kind]); 44] = [
     ("units by number", &[Register]),
     ("slice_units", &[Register, Number, Number]),
     ("cmp_units", &[Register, Register]),
+    ("append_units", &[Register, Units]),
+    ("shrink_to_fit", &[Register]),
 ];
 
 /// The number of grants that stands for as many as are asked for.

@@ -15,6 +15,9 @@ impl Machine {
             41 => self.units_by_number(reader),
             42 => self.slice_units(reader),
             43 => self.compare_units(reader),
+            44 => self.append_units(reader),
+            // The crate has no such call, and it changes no string.
+            45 => self.show(reader.register()),
             _ => unreachable!("the generator knows no opcode {opcode}"),
         }
     }
@@ -39,6 +42,15 @@ impl Machine {
             .collect();
         let line = [&[format!("{} units", units.len())], &units[..]].concat();
         self.line(&format!("{} -", line.join(" ")));
+    }
+
+    fn append_units(&mut self, reader: &mut Reader<'_>) {
+        let register = reader.register();
+        let mut units = reader.units();
+        units.extend(self.strings[register].to_ill_formed_utf16());
+        let mut line = vec!["appended".to_owned()];
+        line.extend(units.into_iter().map(unit_text));
+        self.line(&line.join(" "));
     }
 
     /// The crate compares code points: its own units are walked.

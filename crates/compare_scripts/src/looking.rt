@@ -46,6 +46,7 @@ impl Machine {
             }
             41 => write_units_by_number(tape, view)?,
             42 => write_unit_slice(tape, view)?,
+            44 => write_appended_units(tape, view)?,
             _ => {
                 let other = self.view(tape.reader.register()?);
                 write_orders_of_units(tape, &view, &other)?;
@@ -165,6 +166,18 @@ fn write_unit_slice(tape: &mut Tape<'_>, view: Wtf8<'_>) -> Result<(), Stop> {
     let dump = whole.hex_dump(tape.alloc)?;
     write!(tape.transcript, " ({dump})")?;
     tape.write_item(lead, NONE)?;
+    Ok(tape.write_line("")?)
+}
+
+/// `append_units` behind some units: all of them.
+fn write_appended_units(tape: &mut Tape<'_>, view: Wtf8<'_>) -> Result<(), Stop> {
+    let count = usize::from(tape.reader.byte()?);
+    let mut units = tape.reader.units(tape.alloc, count)?;
+    view.append_units(&mut units)?;
+    write!(tape.transcript, "appended")?;
+    for unit in units.as_slice() {
+        tape.write_item(Some(*unit), NONE)?;
+    }
     Ok(tape.write_line("")?)
 }
 

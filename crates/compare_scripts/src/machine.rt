@@ -57,9 +57,10 @@ impl Machine {
             8..=14 | 37 => self.append(opcode, at, tape)?,
             15 | 33 => self.cut(opcode, at, tape)?,
             19 | 20 => self.turn(opcode, at, tape)?,
-            21..=29 | 41..=43 => return self.look(opcode, at, tape),
+            21..=29 | 41..=44 => return self.look(opcode, at, tape),
             34 | 35 => return self.look_inside(opcode, at, tape),
             39 => return self.apply_each(at, tape),
+            45 => self.strings[at.index].shrink_to_fit(),
             _ => self.strings[at.index] = self.make(opcode, at, tape)?,
         }
         Ok(tape.write_string(at, self.view(at))?)
