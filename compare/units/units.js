@@ -1,6 +1,6 @@
 // Scripts of calls on texts that are counted in units, and what the engine's own strings answer to them.
 //     node units.js random SEED CASES FOLDER   random scripts
-//     node units.js lists FOLDER               all lists of at most three units out of nine, and long texts, cut and compared
+//     node units.js lists FOLDER               all lists of at most three units out of nine, and long texts, by all calls
 //     node units.js marks SEED CASES FOLDER    texts of some thousand units with marks and without, looked at about each mark, and as
 //                                              many random scripts of such texts
 //     node units.js fixed FOLDER               the long texts and some hundred of the others, which the gate replays: they stand
@@ -13,15 +13,22 @@ const path = require('path');
 
 const NINE = [0x0061, 0x00E9, 0xD7FF, 0xD800, 0xDBFF, 0xDC00, 0xDFFF, 0xE000, 0xFFFF];
 
+// The spaces and ends of lines below 0x80, and nine units that are some of them or near them.
+const SPACES = [0x20, 0x09, 0x0A, 0x0B, 0x0C, 0x0D];
+const ABOUT_SPACES = [0x08, 0x09, 0x0D, 0x0E, 0x20, 0x21, 0xA0, 0x0120, 0xD800];
+
 const hex = (number, digits) => number.toString(16).toUpperCase().padStart(digits, '0');
 const textOf = (units) => units.map((unit) => String.fromCharCode(unit)).join('');
 
-// The units of a string.
+// The length and the units of a string.
 function unitsOf(text) {
-  let units = 'units:';
+  let units = `${text.length} units:`;
   for (let i = 0; i < text.length; i++) units += hex(text.charCodeAt(i), 4);
   return units;
 }
+
+// A unit as a transcript shows it, from a string of that unit.
+const shown = (unit) => (unit === undefined ? '-' : hex(unit.charCodeAt(0), 4));
 
 // The calls, by their names: their opcode, and what they answer over the two strings of a state.
 const CALLS = {
@@ -38,9 +45,7 @@ const CALLS = {
     opcode: 69,
     run: (state, at) => {
       const code = state.first.charCodeAt(at);
-      const unit = state.first[at];
-      const byCode = Number.isNaN(code) ? '-' : hex(code, 4);
-      return `unit ${unit === undefined ? '-' : hex(unit.charCodeAt(0), 4)} ${byCode}`;
+      return `unit ${shown(state.first[at])} ${Number.isNaN(code) ? '-' : hex(code, 4)}`;
     },
   },
   slice: {
@@ -73,7 +78,42 @@ const CALLS = {
     },
   },
   mark: { opcode: 75, run: ({ first }) => unitsOf(first) },
+  indexOf: {
+    opcode: 76,
+    run: ({ first, second }, from) => {
+      const at = first.indexOf(second, from);
+      return `index ${at < 0 ? '-' : at}`;
+    },
+  },
+  at: { opcode: 77, run: ({ first }, at) => `at ${shown(first.at(at))} ${shown(first.at(-at))}` },
+  codePointAt: {
+    opcode: 78,
+    run: ({ first }, at) => {
+      const point = first.codePointAt(at);
+      return `point ${point === undefined ? '-' : `U+${hex(point, 4)}`}`;
+    },
+  },
+  isWellFormed: { opcode: 79, run: ({ first }) => `well formed ${first.isWellFormed()}` },
+  split: {
+    opcode: 80,
+    run: ({ first }, unit) => {
+      const pieces = first.split(String.fromCharCode(unit));
+      return [`${pieces.length} pieces`, ...pieces.map(unitsOf)].join('\n');
+    },
+  },
+  padStart: { opcode: 81, run: (state, width) => unitsOf((state.first = state.first.padStart(width, state.second))) },
+  repeat: { opcode: 82, run: (state, count) => unitsOf((state.first = state.first.repeat(count))) },
+  trim: { opcode: 83, run: (state) => unitsOf((state.first = state.first.replace(/^[\t-\r ]+|[\t-\r ]+$/g, ''))) },
+  replace: {
+    opcode: 84,
+    run: (state, ...units) => unitsOf((state.first = state.first.replace(state.second, () => textOf(units)))),
+  },
+  toWellFormed: { opcode: 85, run: (state) => unitsOf((state.first = state.first.toWellFormed())) },
 };
+
+// The calls whose operands are units, and those that change a string.
+const OF_UNITS = ['set', 'replace'];
+const CHANGING = [...OF_UNITS, 'swap', 'slice', 'concat', 'padStart', 'repeat', 'trim', 'toWellFormed'];
 
 // A number of two bytes in hexadecimal, the lowest first.
 const bytesOf = (number) => hex(number & 0xFF, 2) + hex(number >> 8, 2);
@@ -82,7 +122,7 @@ const bytesOf = (number) => hex(number & 0xFF, 2) + hex(number >> 8, 2);
 function lineOf(calls) {
   let line = '';
   for (const [name, ...operands] of calls) {
-    const numbers = name === 'set' ? [operands.length, ...operands] : operands;
+    const numbers = OF_UNITS.includes(name) ? [operands.length, ...operands] : operands;
     line += hex(CALLS[name].opcode, 2) + numbers.map(bytesOf).join('');
   }
   return line + '\n';
@@ -148,11 +188,46 @@ function neighbour(units, at, below) {
 
 const listOf = (text) => Array.from({ length: text.length }, (_, at) => text.charCodeAt(at));
 
+// Units to put in the place of others. One in three lists would have a meaning to `replace` if it were not from a function.
+function randomReplacement(below) {
+  if (below(3) === 0) return [0x24, 0x24 + below(14)];
+  return randomUnits(below).slice(0, 4);
+}
+
+// Units with spaces before and behind them.
+function spaced(units, below) {
+  const spaces = () => Array.from({ length: below(4) }, () => SPACES[below(SPACES.length)]);
+  return [...spaces(), ...units, ...spaces()];
+}
+
+// Random calls that look for a piece of a string in it.
+function searchCalls(first, place, below) {
+  const piece = listOf(first.slice(place, place + 1 + below(4)));
+  const calls = [['swap'], ['set', ...(below(4) === 0 ? changed(piece, below) : piece)], ['swap']];
+  calls.push(['indexOf', Math.max(0, place - below(12))], ['indexOf', place], ['indexOf', place + 1]);
+  return below(2) === 0 ? calls : [...calls, ['replace', ...randomReplacement(below)]];
+}
+
+// One random call or some that belong together of those that make another string of the first, or look at the whole of it.
+function randomMakingCalls(first, place, below) {
+  const unit = below(3) === 0 || first === '' ? randomUnit(below) : first.charCodeAt(below(first.length));
+  switch (below(7)) {
+    case 0: return [['isWellFormed'], ['toWellFormed'], ['isWellFormed']];
+    case 1: return [['split', unit]];
+    case 2: return [['padStart', Math.max(0, first.length + below(12) - 3)]];
+    case 3: return [['repeat', first.length > 200 ? 1 + below(2) : below(4)]];
+    case 4: return [['set', ...spaced(listOf(first), below)], ['trim']];
+    case 5: return [['padStart', first.length + below(300)]];
+    default: return searchCalls(first, place, below);
+  }
+}
+
 // One random call or some that belong together, for the strings that stand.
 function randomCalls({ first }, below) {
   const at = () => (below(40) === 0 ? below(0x10000) : below(first.length + 3));
   const place = at();
-  switch (below(14)) {
+  if (first.length < 900 && below(3) === 0) return randomMakingCalls(first, place, below);
+  switch (below(17)) {
     case 0: return [['set', ...randomUnits(below)]];
     case 1: return [['swap']];
     case 2: return [['length']];
@@ -165,6 +240,9 @@ function randomCalls({ first }, below) {
     case 9: return first.length > 600 ? [['length']] : [['concat'], ['compare']];
     case 10: return [['compare'], ['swap'], ['compare']];
     case 11: return first.length > 60 ? [['length']] : [['cutEverywhere']];
+    case 12: return first.length > 900 ? [['length']] : [['indexOf', place]];
+    case 13: return [['at', place]];
+    case 14: return [['codePointAt', place]];
     default: {
       const others = neighbour(listOf(first), place, below);
       return [['swap'], ['set', ...others], ['swap'], ['compare'], ['startsWith', place], ['swap'], ['compare'], ['swap']];
@@ -178,7 +256,7 @@ function scriptOf(first, more, callsOn, below) {
   const calls = [];
   const add = (added) => {
     for (const [name, ...operands] of added) {
-      if (['set', 'swap', 'slice', 'concat'].includes(name)) CALLS[name].run(state, ...operands);
+      if (CHANGING.includes(name)) CALLS[name].run(state, ...operands);
     }
     calls.push(...added);
   };
@@ -192,22 +270,30 @@ function randomScript(below) {
   return scriptOf(first, 1 + below(12), randomCalls, below);
 }
 
-// All lists of at most so many units out of the nine.
-function listsOf(most) {
+// All lists of at most so many units out of some.
+function listsOf(some, most) {
   let longest = [[]];
   const all = [[]];
   for (let length = 1; length <= most; length++) {
-    longest = longest.flatMap((list) => NINE.map((unit) => [...list, unit]));
+    longest = longest.flatMap((list) => some.map((unit) => [...list, unit]));
     all.push(...longest);
   }
   return all;
 }
 
+// The calls that look at the whole of a string, and those that make one of it, each on the string anew by other calls.
+function makingCalls(units, anew) {
+  const calls = [['isWellFormed'], ...[...new Set([0x61, ...units.slice(0, 3)])].map((unit) => ['split', unit])];
+  const making = [['repeat', 0], ['repeat', 2], ['repeat', 3], ['trim'], ['toWellFormed'], ['replace'], ['replace', 0x24, 0x26]];
+  for (const more of [0, 1, 2, 5]) making.push(['padStart', units.length + more]);
+  return [...calls, ...making.flatMap((call) => [call, ...anew])];
+}
+
 // Every call on a list, at every place in it and behind its end.
 function listScript(units) {
-  const calls = [['set', ...units], ['length'], ['cutEverywhere']];
+  const calls = [['set', ...units], ['length'], ['cutEverywhere'], ...makingCalls(units, [['set', ...units]])];
   for (let at = 0; at <= units.length + 1; at++) {
-    calls.push(['unitAt', at], ['charAt', at]);
+    calls.push(['unitAt', at], ['charAt', at], ['at', at], ['codePointAt', at]);
     for (let other = 0; other <= units.length + 1; other++) {
       calls.push(['substring', at, other], ['slice', at, other], ['set', ...units]);
     }
@@ -218,16 +304,21 @@ function listScript(units) {
 // Two lists compared, sought in one another at every place, and appended.
 function pairScript(units, others) {
   const calls = [['set', ...others], ['swap'], ['set', ...units], ['compare']];
-  for (let at = 0; at <= units.length + 1; at++) calls.push(['startsWith', at]);
-  calls.push(['concat'], ['length'], ['compare'], ['cutEverywhere']);
+  for (let at = 0; at <= units.length + 1; at++) calls.push(['startsWith', at], ['indexOf', at]);
+  calls.push(...makingCalls(units, [['set', ...units]]));
+  calls.push(['concat'], ['length'], ['compare'], ['cutEverywhere'], ['indexOf', 0], ['replace', 0x24, 0x60]);
   return calls;
 }
 
+// A list trimmed, and trimmed with a space before it and the end of a line behind it.
+const trimScript = (units) => [['set', ...units], ['trim'], ['set', 0x20, ...units, 0x0A], ['trim']];
+
 function listScripts() {
-  const short = listsOf(2);
-  const scripts = listsOf(3).map(listScript);
+  const short = listsOf(NINE, 2);
+  const scripts = listsOf(NINE, 3).map(listScript);
   for (const units of short) for (const others of short) scripts.push(pairScript(units, others));
-  return scripts;
+  const ends = Array.from({ length: 0x180 }, (_, unit) => trimScript([unit, 0x61, unit]));
+  return [...scripts, ...listsOf(ABOUT_SPACES, 3).map(trimScript), ends.flat()];
 }
 
 function randomScripts(seed, cases) {
@@ -252,8 +343,9 @@ function longScript(units) {
   const again = [['slice', 0, 0], ['concat']];
   const calls = [['set', ...units], ['swap'], ...again, ['length'], ['compare']];
   for (let at = 0; at <= units.length + 1; at++) calls.push(['unitAt', at], ['charAt', at]);
+  if (units.length < 40) calls.push(...makingCalls(units, again));
   for (const at of placesOf(units.length)) {
-    calls.push(['substring', at + 3, at], ['substring', last + 3, Math.max(at, last - 9)]);
+    calls.push(['substring', at + 3, at], ['substring', last + 3, Math.max(at, last - 9)], ['at', at], ['codePointAt', at]);
     calls.push(['slice', at, Math.min(at + 3, last + 1)], ...again);
   }
   if (units.length < 100) calls.push(['cutEverywhere'], ['concat'], ['length'], ['unitAt', 2 * last], ['slice', last, last + 2]);
@@ -267,7 +359,7 @@ function neighbourScript(units, places) {
   for (const at of places) {
     calls.push(['set', ...units.with(at, units[at] ^ 1)], ['compare'], ['set', ...units.slice(0, at)], ['compare'], ['swap'], ['compare']);
     for (const piece of [units.slice(at), units.slice(at).with(-1, units.at(-1) ^ 1)]) {
-      calls.push(['swap'], ['set', ...piece], ['swap'], ['startsWith', at], ['startsWith', at + 1]);
+      calls.push(['swap'], ['set', ...piece], ['swap'], ['startsWith', at], ['startsWith', at + 1], ['indexOf', Math.max(0, at - 9)]);
     }
     calls.push(['swap']);
   }
@@ -321,6 +413,7 @@ function looksAbout(length) {
   for (let edge = 0; edge <= length + 2; edge += SPACING) {
     for (let at = Math.max(0, edge - 2); at <= edge + 2; at++) {
       calls.push(['unitAt', at], ['substring', at, at + 3], ['substring', at, Math.max(0, at - SPACING - 1)]);
+      calls.push(['at', at], ['codePointAt', at]);
     }
   }
   return calls;
@@ -344,6 +437,18 @@ function grownScript(piece, count, isMarked) {
   return [...calls, ...looksAbout(count * piece.length)];
 }
 
+// Each call that makes a text, of one with marks and with marks in what it is made from, looked at with its own marks.
+function madeScript(units, isMarked) {
+  const marks = isMarked ? [['mark']] : [];
+  const piece = units.slice(SPACING, 2 * SPACING + 1);
+  const making = [['toWellFormed'], ['trim'], ['replace', ...units], ['repeat', 2], ['padStart', units.length + SPACING + 1]];
+  const calls = [['set', ...piece], ...marks, ['swap']];
+  for (const call of making) {
+    calls.push(['set', ...units], ...marks, ['isWellFormed'], ['indexOf', 0], ['split', units[2]], call, ['length'], ...looksAbout(units.length));
+  }
+  return calls;
+}
+
 // A piece that begins with a trail and ends with a lead, so that it joins what stands before it and what follows.
 const joining = (units) => units.with(0, 0xDCA9).with(-1, 0xD83D);
 
@@ -355,13 +460,14 @@ function markedScripts(lengths, pieces) {
     const count = Math.ceil(1200 / length);
     for (const isMarked of [false, true]) scripts.push(grownScript(piece, count, isMarked), grownScript(joining(piece), count, isMarked));
   }
+  for (const kind of KINDS_OF_MARKED) scripts.push(...[false, true].map((isMarked) => madeScript(unitsOfKind(kind, 300, below), isMarked)));
   return scripts;
 }
 
 // One random call or some that belong together, for long texts that stand.
 function randomMarkedCalls({ first, second }, below) {
   const place = placeAbout(first.length, below);
-  switch (below(16)) {
+  switch (below(24)) {
     case 0: return [['mark']];
     case 1: return [['swap']];
     case 2: return first.length + second.length > 6000 ? [['length']] : [['concat'], ['length']];
@@ -373,6 +479,9 @@ function randomMarkedCalls({ first, second }, below) {
     case 6: case 7: case 8: return [['substring', place, place + below(2 * SPACING)]];
     case 9: return [['substring', placeAbout(first.length, below), place]];
     case 10: return [['charAt', place]];
+    case 11: return [['at', place]];
+    case 12: return [['codePointAt', place]];
+    case 13: case 14: return first.length > 6000 ? [['length']] : randomMakingCalls(first, below(2) === 0 ? place : below(SPACING), below);
     default: return [['unitAt', place]];
   }
 }

@@ -8,6 +8,7 @@
 mod applying;
 mod building;
 mod comparing;
+mod engine;
 mod hinted;
 mod looking;
 mod machine;

@@ -102,7 +102,7 @@ impl<'a> Reader<'a> {
     }
 
     /// A code unit of two bytes.
-    fn unit(&mut self) -> Result<u16, Stop> {
+    pub fn unit(&mut self) -> Result<u16, Stop> {
         let ([low, high], rest) = self.rest.split_first_chunk::<2>().ok_or(Stop::Malformed)?;
         self.rest = rest;
         Ok(u16::from_le_bytes([*low, *high]))

@@ -1,7 +1,9 @@
 // What a script is read from and its transcript written to.
 use crate::reader::{Reader, Register};
+use crate::stop::Stop;
 use std::alloc::{AllocError, Global};
 use std::fmt::Write;
+use unit_text::UnitText;
 use wtf8::{CodePoint, Wtf8, Wtf8Buf};
 
 /// The word for a unit that is not there.
@@ -19,6 +21,13 @@ pub struct Tape<'s> {
 }
 
 impl<'s> Tape<'s> {
+    /// A text that is counted in units: a number, and so many units.
+    pub fn read_units(&mut self) -> Result<UnitText<Global>, Stop> {
+        let count = self.reader.number()?;
+        let units = self.reader.units(self.alloc, count)?;
+        Ok(UnitText::from_units(self.alloc, units.as_slice())?)
+    }
+
     /// Writes a line.
     pub fn write_line(&mut self, line: &str) -> Result<(), AllocError> {
         writeln!(self.transcript, "{line}")
@@ -40,6 +49,15 @@ impl<'s> Tape<'s> {
     pub fn write_view(&mut self, view: Wtf8<'_>) -> Result<(), AllocError> {
         let dump = view.hex_dump(self.alloc)?;
         writeln!(self.transcript, " {}: {dump}", view.len())
+    }
+
+    /// Writes the length and the units of a text, to the end of the line.
+    pub fn write_units(&mut self, text: &UnitText<Global>) -> Result<(), AllocError> {
+        write!(self.transcript, "{} units:", text.unit_len())?;
+        for unit in text.as_wtf8().to_ill_formed_utf16() {
+            write!(self.transcript, "{unit:04X}")?;
+        }
+        self.write_line("")
     }
 
     /// Writes an item behind a space, or a word where there is none.
@@ -71,6 +89,12 @@ pub trait Shown: Copy {
 impl Shown for CodePoint {
     fn show(self, transcript: &mut String) -> Result<(), AllocError> {
         write!(transcript, " {self:?}")
+    }
+}
+
+impl Shown for usize {
+    fn show(self, transcript: &mut String) -> Result<(), AllocError> {
+        write!(transcript, " {self}")
     }
 }
 

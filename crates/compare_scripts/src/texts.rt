@@ -1,5 +1,6 @@
 // The calls of texts that are counted in units.
 use crate::comparing::name_of;
+use crate::engine::{answer, made};
 use crate::stop::Stop;
 use crate::tape::{NONE, Tape};
 use std::alloc::{AllocError, Global};
@@ -44,13 +45,17 @@ impl Texts {
     /// | 73 | | the order of the texts, each way of `is_less`, and whether they are equal |
     /// | 74 | | at how many places the text can be cut and is found whole again |
     /// | 75 | | the first text keeps its marks from now on |
+    /// | 76 | a number | `index_of` the second text, from a position |
+    /// | 77, 78 | a number | `at` a position and so far before the end, `code_point_at` |
+    /// | 79 | | `is_well_formed` |
+    /// | 80 | a unit | `split` at it: the pieces, each on a line |
+    /// | 81 | a number | the first text is padded to a width by the second (`pad_start`) |
+    /// | 82, 83 | a number, none | the first text is repeated; it is trimmed (`trim_ascii`) |
+    /// | 84 | a number, and so many units | in the first text `replace` of the second by the units |
+    /// | 85 | | the first text is made well-formed (`to_well_formed`) |
     pub fn run(&mut self, opcode: u8, tape: &mut Tape<'_>) -> Result<(), Stop> {
         match opcode {
-            64 => {
-                let count = tape.reader.number()?;
-                let units = tape.reader.units(tape.alloc, count)?;
-                self.first = UnitText::from_units(tape.alloc, units.as_slice())?;
-            }
+            64 => self.first = tape.read_units()?,
             65 => {
                 mem::swap(&mut self.first, &mut self.second);
                 return Ok(tape.write_line("swapped")?);
@@ -65,9 +70,10 @@ impl Texts {
             }
             67 => self.first.concat(&self.second)?,
             75 => self.first.mark_units(tape.alloc),
+            81..=85 => self.first = made(opcode, tape, &self.first, &self.second)?,
             _ => return self.look(opcode, tape),
         }
-        Ok(write_units(tape, &self.first)?)
+        Ok(tape.write_units(&self.first)?)
     }
 
     /// The calls that leave both texts as they are.
@@ -85,11 +91,11 @@ impl Texts {
             70 => {
                 let first = tape.reader.number()?;
                 let between = substring(tape.alloc, text, first, tape.reader.number()?)?;
-                write_units(tape, &between)?;
+                tape.write_units(&between)?;
             }
             71 => {
                 let unit = char_at(tape.alloc, text, tape.reader.number()?)?;
-                write_units(tape, &unit)?;
+                tape.write_units(&unit)?;
             }
             72 => {
                 let is_there = starts_with(text, &self.second, tape.reader.number()?);
@@ -100,6 +106,7 @@ impl Texts {
                 let whole = whole_cuts(tape.alloc, text)?;
                 writeln!(tape.transcript, "whole {whole}")?;
             }
+            76..=80 => return answer(opcode, tape, text, &self.second),
             _ => return Err(Stop::Malformed),
         }
         Ok(())
@@ -117,15 +124,6 @@ impl Texts {
             "order {order} lt {is_below} gt {is_above} eq {is_equal}"
         )
     }
-}
-
-/// Writes the units of a text, to the end of the line.
-fn write_units(tape: &mut Tape<'_>, text: &UnitText<Global>) -> Result<(), AllocError> {
-    write!(tape.transcript, "units:")?;
-    for unit in text.as_wtf8().to_ill_formed_utf16() {
-        write!(tape.transcript, "{unit:04X}")?;
-    }
-    tape.write_line("")
 }
 
 /// At how many places a text can be cut and is found whole again.

@@ -29,6 +29,10 @@ pub record IsReached (lists : List (List ℕ)) (v : List ℕ) (end : ℕ) : Type
   pub before : (k : ℕ) → slice_get lists k ≡ Some v → k < end
   pub last : (k : ℕ) (u : List ℕ) → k + 1 ≡ end → slice_get lists k ≡ Some u → hash_of u ≡ hash_of v
 
+-- lists are numbered by other words for them
+pub seen : {S : Type 0} {m : HashMap ℕ ℕ S} {b c : List ℕ} {us vs : List (List ℕ)} → AreNumbered m b us → b ≡ c → us ≡ vs → AreNumbered m c vs
+seen {m = m} {c = c} {us = us} old e f = subst (AreNumbered m c) f (subst (λ x. AreNumbered m x us) e old)
+
 -- the end before a list that is another one
 pub next_end : (us : List (List ℕ)) (u v : List ℕ) (k end e : ℕ) → k + 1 ≡ end → IsReached us v end → slice_get us k ≡ Some u → (u ≡ v → ⊥)
     → IsEnd us (hash_of u) k e → IsReached us v e

@@ -1,10 +1,25 @@
 -- The components of paths.
-use Rattle.std.proofs.Common.{◌≡◌, ◌↔◌, ℕ, inl, inr, List, [], ◌∷◌, ◌++◌, length, map, sym, ap, ◌∙◌, append_assoc, arith}
+use Rattle.std.proofs.Common.{◌≡◌, ◌↔◌, ℕ, inl, inr, true, false, IsTrue, List, [], ◌∷◌, ◌++◌, length, map, refl, sym, ap, ◌∙◌, append_assoc, arith}
+use Rattle.std.proofs.lemmas.Bool.{false≢true}
 use Rattle.std.proofs.lemmas.Bool.Decides.{nat_tests}
 use Rattle.std.proofs.lemmas.List.{length-append, map-append}
 use Rattle.std.proofs.lemmas.List.Splits.{length-slice_split, slice_split_at, slice_split_none}
 use Rattle.std.specs.List.{slice_split}
+use Rattle.wtf8.specs.View.{view_units}
+use Rattle.wtf8.specs.declared.strings.view.Wtf8.{Wtf8}
 use Rattle.wtf8_uses.specs.FileName.{BeginsWith, IsMark, HasNoMark, is_separator}
+
+-- the components of a path
+abbrev pub parts : Wtf8 → List (List ℕ)
+parts path = slice_split is_separator (view_units path)
+
+-- yes is right where what decides it holds
+pub yes_by : {P Q : Type 0} → P ↔ Q → Q → IsTrue true ↔ P
+yes_by e q = (λ _. e.1 q, λ _. refl)
+
+-- no is right where what decides it does not hold
+pub no_by : {P Q : Type 0} → P ↔ Q → ¬ Q → IsTrue false ↔ P
+no_by e none = (λ t. absurd (false≢true t), λ p. absurd (none (e.0 p)))
 
 -- the first part is before the first separator
 pub first_part : (u front back : List ℕ) (m : ℕ) → u ≡ front ++ m ∷ back → IsMark 0x2F 0x5C m → HasNoMark 0x2F 0x5C front

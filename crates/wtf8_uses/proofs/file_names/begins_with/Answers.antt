@@ -1,24 +1,18 @@
 use Rattle.std.specs.Prelude.{⊤}
-use Rattle.std.proofs.Common.{◌≡◌, refl, rules}
-use Rattle.std.proofs.lemmas.Bool.{false≢true}
+use Rattle.std.proofs.Common.{◌≡◌, rules}
 use Rattle.std.proofs.lemmas.Option.{MatchOption-at_none, MatchOption-at_some}
 use Rattle.wtf8.specs.View.{view_units}
-use Rattle.wtf8_uses.proofs.PartLemmas.{begin_with_first, no_more}
+use Rattle.wtf8_uses.proofs.PartLemmas.{begin_with_first, no_by, no_more, yes_by}
 use Rattle.wtf8_uses.proofs.file_names.begins_with.Goals as goal
 
 pub returns-in_default : goal.returns-in_default
 returns-in_default c =
-    let first = c.first_component.ensures.first in
     let last = MatchOption-at_none _ (λ _. ⊤) c.in_default.is c.first_component-in-loop-behind.ensures.last in
-    let same : view_units c.first_component.result.0 ≡ view_units c.first_component-in-loop-behind.result.0 = search rules in (
-      λ _. c.loop-behind.invariant.1 (begin_with_first _ _ first.0 _ _ first.1 last same),
-      λ _. refl,
-    )
+    let same : view_units c.first_component.result.0 ≡ view_units c.first_component-in-loop-behind.result.0 = search rules in
+    yes_by c.loop-behind.invariant (begin_with_first _ _ c.first_component.ensures.first.0 _ _ c.first_component.ensures.first.1 last same)
 
 pub returns-in_default-behind : goal.returns-in_default-behind
 returns-in_default-behind c =
     let last = MatchOption-at_none _ (λ _. ⊤) c.in_default-behind.is c.first_component.ensures.last in
-    let more = MatchOption-at_some ⊤ _ _ c.in-Some.is c.first_component-in-loop-behind.ensures.more in (
-      λ e. absurd (false≢true e),
-      λ b. absurd (no_more _ _ (view_units c.in-Some.front_next) _ _ last more (c.loop-behind.invariant.0 b)),
-    )
+    let more = MatchOption-at_some ⊤ _ _ c.in-Some.is c.first_component-in-loop-behind.ensures.more in
+    no_by c.loop-behind.invariant (no_more _ _ (view_units c.in-Some.front_next) _ _ last more)

@@ -1,9 +1,6 @@
-use Rattle.std.proofs.Common.{subst}
-use Rattle.wtf8_uses.specs.Numbered.{AreNumbered}
-use Rattle.wtf8_uses.proofs.Numbering.{end_before}
+use Rattle.std.proofs.Common.{refl}
+use Rattle.wtf8_uses.proofs.Numbering.{end_before, seen}
 use Rattle.wtf8_uses.proofs.interner.Interner.before.Goals as goal
 
 pub returns : goal.returns
-returns c =
-    let i = c.self.inside in
-    end_before (subst (AreNumbered i.ends i.befores.items) c.self.view_is i.numbered) c.args.number c.index.result.now c.requires c.index.ensures
+returns c = end_before (seen c.self.inside.numbered refl c.self.view_is) c.args.number c.index.result.now c.requires c.index.ensures

@@ -1,15 +1,13 @@
-use Rattle.std.proofs.Common.{◌-◌, Some, arith, ap, sym, subst, ◌∙◌}
+use Rattle.std.proofs.Common.{◌-◌, Some, arith, refl, ap, sym, ◌∙◌}
 use Rattle.std.proofs.lemmas.Bool.{false≢true}
 use Rattle.std.proofs.lemmas.Option.{same_Some}
 use Rattle.wtf8.specs.View.{view_units}
-use Rattle.wtf8_uses.specs.Numbered.{AreNumbered}
-use Rattle.wtf8_uses.proofs.Numbering.{next_end, one_number}
+use Rattle.wtf8_uses.proofs.Numbering.{next_end, one_number, seen}
 use Rattle.wtf8_uses.proofs.interner.Interner.find.Goals as goal
 
 pub returns-then-eq : goal.returns-then-eq
 returns-then-eq c =
-    let i = c.self.inside in
-    one_number (subst (AreNumbered i.ends i.befores.items) c.self.view_is i.numbered) (c.loop-end.end - 1) (view_units c.args.string)
+    one_number (seen c.self.inside.numbered refl c.self.view_is) (c.loop-end.end - 1) (view_units c.args.string)
     (c.at-found.ensures ∙ ap Some (c.eq.ensures.units.0 c.if-eq.true))
 
 pub loop-end-smaller : goal.loop-end-smaller
