@@ -1,13 +1,12 @@
 //! Calls of ECMAScript's strings that look for one text in another (ECMAScript, "String.prototype"). Texts are only read: a
 //! call that makes some takes an allocator, and after a refusal all is as it was.
 ghost use Rattle.std.specs.List.{join_with_byte, slice_split};
-ghost use Rattle.std.specs.Prelude.{All, map, ◌==◌, ◌≢◌, ◌≡◌, ◌+◌, ◌≤◌, ◌↔◌, ◌++◌, ℕ, length, take, drop, min, IfSome, IfNone, IfOk, IsTrue};
-ghost use Rattle.wtf8.specs.Units.{unread_units};
+ghost use Rattle.std.specs.Prelude.{All, map, ◌==◌, ◌≢◌, ◌≡◌, ◌+◌, ◌≤◌, ◌++◌, ℕ, length, take, drop, min, IfSome, IfNone, IfOk};
 ghost use Rattle.wtf8_uses.specs.EngineString.{IsFirstPlace, StandsAt};
 
+use crate::strings::{stand_next, units_from};
 use std::alloc::{AllocError, Allocator};
 use unit_text::UnitText;
-use wtf8::IllFormedUtf16CodeUnits;
 
 /// `indexOf`: the first place at or behind a position where another text's units stand, and `None`, for the -1 of the
 /// language, where there is none. A position beyond the end is the end, where the empty text stands. It goes along the text
@@ -30,29 +29,6 @@ pub fn index_of<A: Allocator, B: Allocator>(
         units.next();
     }
     None
-}
-
-/// The units from a place on.
-fn units_from<A: Allocator>(text: &UnitText<A>, begin: usize) -> IllFormedUtf16CodeUnits<'_>
-    ensures { unread_units result ≡ drop begin text.now }
-{
-    let mut units = text.as_wtf8().to_ill_formed_utf16();
-    for _ in 0..begin {
-        units.next();
-    }
-    units
-}
-
-/// Whether a text's units are the next ones.
-fn stand_next<B: Allocator>(units: &IllFormedUtf16CodeUnits<'_>, search: &UnitText<B>) -> bool
-    ensures { IsTrue result ↔ (take (length search.now) (unread_units units.now) ≡ search.now) }
-{
-    let searched = search.as_wtf8().to_ill_formed_utf16();
-    let Ok(units) = units.clone() else {
-        return false;
-    };
-    let found = units.take(search.unit_len());
-    found.cmp(searched).is_eq()
 }
 
 /// `replace` of a text by another one: the other one stands in the place of the first units that are those of the text

@@ -1,6 +1,6 @@
 use Rattle.std.proofs.Common.{◌≡◌, drop}
 use Rattle.wtf8.specs.Units.{unread_units}
-use Rattle.wtf8_uses.proofs.engine_search.units_from.Given as goal
+use Rattle.wtf8_uses.proofs.strings.units_from.Given as goal
 
 -- the units from here on are left
 abbrev pub invariant-loop : goal.invariant-loop

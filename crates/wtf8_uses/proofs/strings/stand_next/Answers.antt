@@ -6,7 +6,7 @@ use Rattle.std.proofs.lemmas.Map.Text.{is_eq-slice_cmp}
 use Rattle.std.proofs.lemmas.Slice.Eq.{bytes_eq-Decides}
 use Rattle.std.specs.Ordering.{nat_cmp, is_eq}
 use Rattle.wtf8.specs.Units.{unread_units}
-use Rattle.wtf8_uses.proofs.engine_search.stand_next.Goals as goal
+use Rattle.wtf8_uses.proofs.strings.stand_next.Goals as goal
 
 pub returns : goal.returns
 returns g c =
