@@ -17,7 +17,7 @@ old_or_last [] x (suc k) y e = grind (arith, common_steps, e)
 old_or_last (z ∷ xs) x zero y e = inl e
 old_or_last (z ∷ xs) x (suc k) y e = elim (old_or_last xs x k y e) [ inl l ↦ inl l | inr r ↦ inr (ap suc r.0, r.1) ]
 
-lt_of_apart : {j k : ℕ} → j ≤ k → (j ≡ k → ⊥) → j < k
+pub lt_of_apart : {j k : ℕ} → j ≤ k → (j ≡ k → ⊥) → j < k
 lt_of_apart {j} {k} le apart = grind (arith, le, apart)
 
 same_at : (us : List (List ℕ)) (k : ℕ) (u v : List ℕ) → slice_get us k ≡ Some u → slice_get us k ≡ Some v → u ≡ v

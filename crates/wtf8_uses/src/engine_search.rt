@@ -4,13 +4,13 @@ ghost use Rattle.std.specs.List.{join_with_byte, slice_split};
 ghost use Rattle.std.specs.Prelude.{All, map, ◌==◌, ◌≢◌, ◌≡◌, ◌+◌, ◌≤◌, ◌++◌, ℕ, length, take, drop, min, IfSome, IfNone, IfOk};
 ghost use Rattle.wtf8_uses.specs.EngineString.{IsFirstPlace, StandsAt};
 
-use crate::strings::starts_with;
+use crate::strings::{stand_next, units_from};
 use std::alloc::{AllocError, Allocator};
 use unit_text::UnitText;
 
 /// `indexOf`: the first place at or behind a position where another text's units stand, and `None`, for the -1 of the
-/// language, where there is none. A position beyond the end is the end, where the empty text stands. It reads the units
-/// before each place anew, so it is for short texts.
+/// language, where there is none. A position beyond the end is the end, where the empty text stands. It goes along the text
+/// once, and reads at each place as many units as are alike there.
 pub fn index_of<A: Allocator, B: Allocator>(
     text: &UnitText<A>,
     search: &UnitText<B>,
@@ -20,10 +20,13 @@ pub fn index_of<A: Allocator, B: Allocator>(
     ensures none { IfNone result ((k : ℕ) → min position (length text.now) ≤ k → ¬ (StandsAt text.now search.now k)) }
 {
     let last = text.unit_len().checked_sub(search.unit_len())?;
-    for place in position.min(text.unit_len())..=last {
-        if starts_with(text, search, place) {
+    let begin = position.min(text.unit_len());
+    let mut units = units_from(text, begin);
+    for place in begin..=last {
+        if stand_next(&units, search) {
             return Some(place);
         }
+        units.next();
     }
     None
 }

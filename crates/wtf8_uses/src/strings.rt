@@ -1,10 +1,12 @@
 //! Calls of ECMAScript's strings, whose positions count units (ECMAScript, "String.prototype").
 ghost use Rattle.std.specs.Prelude.{◌≡◌, ◌↔◌, ◌≤◌, length, take, drop, slice_get, min, max, IfOk, IsOk, IsTrue};
 ghost use Rattle.wtf8.specs.Order.{Before};
+ghost use Rattle.wtf8.specs.Units.{unread_units};
 
 use std::alloc::{AllocError, Allocator};
 use std::cmp::Ordering;
 use unit_text::UnitText;
+use wtf8::IllFormedUtf16CodeUnits;
 
 /// `charAt`: the text of the one unit at a position. It is empty where there is none, which asks for no memory.
 pub fn char_at<A: Allocator>(
@@ -53,9 +55,35 @@ pub fn starts_with<A: Allocator, B: Allocator>(
 ) -> bool
     ensures { IsTrue result ↔ (take (length search.now) (drop position text.now) ≡ search.now) }
 {
-    let units = text.as_wtf8().to_ill_formed_utf16();
+    stand_next(&units_from(text, position.min(text.unit_len())), search)
+}
+
+/// The units from a place on.
+pub(crate) fn units_from<A: Allocator>(
+    text: &UnitText<A>,
+    begin: usize,
+) -> IllFormedUtf16CodeUnits<'_>
+    ensures { unread_units result ≡ drop begin text.now }
+{
+    let mut units = text.as_wtf8().to_ill_formed_utf16();
+    for _ in 0..begin {
+        units.next();
+    }
+    units
+}
+
+/// Whether a text's units are the next ones.
+pub(crate) fn stand_next<B: Allocator>(
+    units: &IllFormedUtf16CodeUnits<'_>,
+    search: &UnitText<B>,
+) -> bool
+    ensures { IsTrue result ↔ (take (length search.now) (unread_units units.now) ≡ search.now) }
+{
     let searched = search.as_wtf8().to_ill_formed_utf16();
-    let found = units.skip(position).take(search.unit_len());
+    let Ok(units) = units.clone() else {
+        return false;
+    };
+    let found = units.take(search.unit_len());
     found.cmp(searched).is_eq()
 }
 

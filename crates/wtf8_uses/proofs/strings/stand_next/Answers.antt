@@ -1,23 +1,20 @@
-use Rattle.std.proofs.Common.{◌≡◌, Decides, length, take, drop, refl, sym, ap, subst, ◌∙◌}
+use Rattle.std.proofs.Common.{◌≡◌, Decides, length, take, refl, sym, ap, subst, ◌∙◌}
 use Rattle.std.proofs.lemmas.Iterator.{YieldsList-from_take}
-use Rattle.std.proofs.lemmas.Iterator.Adapters.{YieldsList-from_skip}
 use Rattle.std.proofs.lemmas.Iterator.Consumers.{YieldsList-at, YieldsList-from_first}
 use Rattle.std.proofs.lemmas.Iterator.Search.{cmp_from_yields_List}
 use Rattle.std.proofs.lemmas.Map.Text.{is_eq-slice_cmp}
 use Rattle.std.proofs.lemmas.Slice.Eq.{bytes_eq-Decides}
 use Rattle.std.specs.Ordering.{nat_cmp, is_eq}
 use Rattle.wtf8.specs.Units.{unread_units}
-use Rattle.wtf8_uses.proofs.strings.starts_with.Goals as goal
+use Rattle.wtf8_uses.proofs.strings.stand_next.Goals as goal
 
 pub returns : goal.returns
 returns g c =
-    let text = c.args.text.now in
     let search = c.args.search.now in
-    let found = take (length search) (drop c.args.position text) in
-    let units = YieldsList-from_first (λ x. x) unread_units text (c.to_ill_formed_utf16-units.ensures.units ∙ c.as_wtf8.ensures) in
-    let behind = YieldsList-from_skip c.args.position (YieldsList-at c.skip.ensures.source units) c.skip.ensures.count in
-    let front = YieldsList-from_take (length search) (YieldsList-at c.take-found.ensures.source behind) (c.take-found.ensures.count ∙ c.unit_len.ensures) in
-    let searched = c.to_ill_formed_utf16-searched.ensures.units ∙ c.as_wtf8-2.ensures in
+    let found = take (length search) (unread_units c.args.units.now) in
+    let units = YieldsList-from_first (λ x. x) unread_units (unread_units c.args.units.now) (ap unread_units c.in-Ok.ensures.cases) in
+    let front = YieldsList-from_take (length search) (YieldsList-at c.take-found.ensures.source units) (c.take-found.ensures.count ∙ c.unit_len.ensures) in
+    let searched = c.to_ill_formed_utf16-searched.ensures.units ∙ c.as_wtf8.ensures in
     let compared = cmp_from_yields_List (λ x y. y ≡ x) _ nat_cmp c.cmp.result c.cmp.ensures.ran front
     (λ it e. YieldsList-from_first (λ x. x) unread_units search (ap unread_units e ∙ searched)) (λ x y. refl) in
     let same = c.is_eq.ensures ∙ (ap is_eq compared ∙ is_eq-slice_cmp found search) in

@@ -1,0 +1,21 @@
+use Rattle.std.proofs.Common.{◌≡◌, length, take, min, subst, sym, ◌∙◌, rules}
+use Rattle.std.proofs.lemmas.Bool.{false≢true}
+use Rattle.wtf8.specs.Units.{unread_units}
+use Rattle.wtf8_uses.specs.EngineString.{StandsAt}
+use Rattle.wtf8_uses.proofs.PlaceLemmas.{next_place, none_more}
+use Rattle.wtf8_uses.proofs.engine_search.index_of.Goals as goal
+
+pub returns-then-stand_next-clause-some : goal.returns-then-stand_next-clause-some
+returns-then-stand_next-clause-some g c =
+    let i = c.loop-place.invariant in
+    let there = subst (λ z. take (length c.args.search.now) z ≡ c.args.search.now) i.0 (c.stand_next.ensures.0 c.if-stand_next.true) in
+    record { behind = search rules; stands = record { within = search rules; there = there }; no_earlier = i.1 }
+
+pub loop-place-preserved : goal.loop-place-preserved
+loop-place-preserved g c =
+    let i = c.loop-place.invariant in (
+      next_place unread_units _ _ _ c.loop-place.place c.args.text.now c.next.ensures.steps i.0,
+      none_more (StandsAt c.args.text.now c.args.search.now) (min c.args.position (length c.args.text.now)) c.loop-place.place i.1
+          (λ s. false≢true (sym c.if-stand_next.false
+          ∙ c.stand_next.ensures.1 (subst (λ z. take (length c.args.search.now) z ≡ c.args.search.now) (sym i.0) s.there))),
+    )
