@@ -1,10 +1,9 @@
 // Code units turned into bytes by the kind of the first: ASCII units sixteen together and those before another one, eight of
 // two or of three bytes together, any others in mixed blocks or one after another.
-ghost use Rattle.std.specs.Prelude.{◌≡◌, List, [], ◌+◌, ◌++◌, ◌-◌, ◌*◌, ◌%◌, ◌<◌, ◌≤◌, length, map, take, drop, IfOk, IfSome, IfNone, IsOk, IsTrue, vec_capacity};
+ghost use Rattle.std.specs.Prelude.{◌≡◌, List, [], ◌+◌, ◌++◌, ◌-◌, ◌*◌, ◌%◌, ◌<◌, ◌≤◌, length, map, take, drop, IfOk, IfSome, IfNone, IsOk, IsTrue, OnOk};
 ghost use Rattle.wtf8.specs.Form.{bytes as bytes_of};
 ghost use Rattle.wtf8.specs.UnitParts.{AppendsAscii, AppendsPart, IsKnownForm, DividesNoPair, AreAscii, AreTwoByteUnits, AreThreeByteUnits, IsBlock};
 
-use crate::lanes::copies;
 use crate::numbers::encoding;
 use crate::numbers::surrogates::{FIRST_LEAD, FIRST_TRAIL, LAST_TRAIL};
 use crate::units_in::{NUMBERS, decode, mixed_blocks};
@@ -214,37 +213,42 @@ fn low_bytes(units: u16x16) -> [u8; NUMBERS]
     (units % u16x16::splat(0x100)).cast::<u8>().to_array()
 }
 
-/// Appends the ASCII units at the front of sixteen, where there is room for all.
+/// Appends the ASCII units at the front of sixteen.
 #[inline(always)]
-fn push_front<A: Allocator>(bytes: &mut Vec<u8, A>, units: u16x16, count: usize)
+fn append_cut<A: Allocator>(
+    bytes: &mut Vec<u8, A>,
+    units: u16x16,
+    count: usize,
+) -> Result<(), AllocError>
     requires within { count ≤ NUMBERS }
     requires ascii { AreAscii (take count units) }
-    requires room { length bytes.old.items + NUMBERS ≤ vec_capacity bytes.old }
-    ensures items { bytes.new.items ≡ bytes.old.items ++ take count units }
-    ensures capacity { vec_capacity bytes.new ≡ vec_capacity bytes.old }
+    ensures { OnOk result (bytes.new.items ≡ bytes.old.items ++ take count units) }
 {
     let end = bytes.len() + count;
-    copies::push_block(bytes, low_bytes(units));
+    bytes.extend_from_slice(&low_bytes(units))?;
     bytes.truncate(end);
+    Ok(())
 }
 
-/// Appends the blocks of sixteen ASCII units from a place on, for which there is room, and answers where they end.
+/// Appends the blocks of sixteen ASCII units from a place on, and answers where they end.
 #[inline(always)]
-fn push_ascii_blocks<A: Allocator>(bytes: &mut Vec<u8, A>, v: &[u16], at: usize) -> usize
-    requires within { at ≤ length v.now }
-    requires room { length bytes.old.items + (length v.now - at) ≤ vec_capacity bytes.old }
-    ensures { AppendsAscii bytes.old.items bytes.new.items v.now at result }
+fn append_ascii_blocks<A: Allocator>(
+    bytes: &mut Vec<u8, A>,
+    v: &[u16],
+    at: usize,
+) -> Result<usize, AllocError>
+    requires { at ≤ length v.now }
+    ensures { IfOk result (λ end. AppendsAscii bytes.old.items bytes.new.items v.now at end) }
 {
     let mut end = at;
     while let Some(block) = ascii_units(v, end) {
-        copies::push_block(bytes, block);
+        bytes.extend_from_slice(&block)?;
         end += NUMBERS;
     }
-    end
+    Ok(end)
 }
 
-/// Appends the ASCII units from a place on, as far as blocks of sixteen tell, and answers where they end. Room is found for
-/// as many bytes as units are left, which take no fewer.
+/// Appends the ASCII units from a place on, as far as blocks of sixteen tell, and answers where they end.
 #[inline(always)]
 fn append_ascii<A: Allocator>(
     bytes: &mut Vec<u8, A>,
@@ -259,12 +263,12 @@ fn append_ascii<A: Allocator>(
     };
     let units = u16x16::from_array(units);
     let count = count_ascii(units);
-    encoding::reserve(bytes, v.len() - at)?;
-    push_front(bytes, units, count);
+    append_cut(bytes, units, count)?;
     if count < NUMBERS {
         return Ok(at + count);
     }
-    Ok(push_ascii_blocks(bytes, v, at + NUMBERS))
+    let end = append_ascii_blocks(bytes, v, at + NUMBERS)?;
+    Ok(end)
 }
 
 /// Appends the bytes of the code point at a place, and answers where it ends and whether it is a scalar value.

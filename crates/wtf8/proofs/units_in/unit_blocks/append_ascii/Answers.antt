@@ -1,4 +1,4 @@
-use Rattle.wtf8.proofs.Common.{◌+◌, ◌++◌, ◌∙◌, ap, arith, drop, subst, take}
+use Rattle.wtf8.proofs.Common.{◌≡◌, ◌+◌, ◌∙◌, ap, arith, drop, subst, take}
 use Rattle.std.proofs.lemmas.List.{take-take}
 use Rattle.wtf8.specs.UnitParts.{AppendsAscii}
 use Rattle.wtf8.proofs.lemmas.units_in.Blocks.{ascii_appended, ascii_joined}
@@ -9,18 +9,17 @@ returns-then-count-lt-NUMBERS g c =
     let n = c.count_ascii-count.result in
     let counted = c.count_ascii-count.ensures in
     let units = c.in-Some.ensures in
-    let part = take n c.in-Some.units in
     ascii_appended c.args.at n (omega (arith, units.within, counted.within)) counted.ascii (ap (take n) units.same ∙ take-take n 16 (drop c.args.at c.args.v.now) counted.within)
-    (c.push_front.ensures.items ∙ ap (λ w. w ++ part) c.in_ok-reserve.ensures.items)
+    c.in_ok-append_cut.ensures
 
 pub returns : goal.returns
 returns g c =
     let n = c.count_ascii-count.result in
     let counted = c.count_ascii-count.ensures in
     let units = c.in-Some.ensures in
-    let part = take n c.in-Some.units in
     let at = c.args.at in
-    let first = ascii_appended at n (omega (arith, units.within, counted.within)) counted.ascii (ap (take n) units.same ∙ take-take n 16 (drop at c.args.v.now) counted.within)
-    (c.push_front.ensures.items ∙ ap (λ w. w ++ part) c.in_ok-reserve.ensures.items) in
-    ascii_joined (subst (λ k. AppendsAscii c.args.bytes.now.items c.push_front.new.bytes.items c.args.v.now at (at + k)) (omega (arith, counted.within, c.if-count-lt-NUMBERS.false)) first)
-    c.push_ascii_blocks.ensures
+    let same = ap (take n) units.same ∙ take-take n 16 (drop at c.args.v.now) counted.within in
+    let first = ascii_appended at n (omega (arith, units.within, counted.within)) counted.ascii same c.in_ok-append_cut.ensures in
+    let sixteen : n ≡ 16 = omega (arith, counted.within, c.if-count-lt-NUMBERS.false) in
+    let block = subst (λ k. AppendsAscii c.args.bytes.now.items c.append_cut.new.bytes.items c.args.v.now at (at + k)) sixteen first in
+    ascii_joined block c.in_ok-end.ensures
