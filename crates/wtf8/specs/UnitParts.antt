@@ -1,5 +1,5 @@
 -- For private functions: units that are turned into bytes part by part.
-use Rattle.std.specs.Prelude.{◌≡◌, ℕ, ◌+◌, ◌<◌, ◌≤◌, Bool, IsTrue, List, ◌++◌, length, take, drop}
+use Rattle.std.specs.Prelude.{◌≡◌, ℕ, ◌+◌, ◌-◌, ◌<◌, ◌≤◌, Bool, IsTrue, List, ◌++◌, length, take, drop}
 use lib.Lanes.{Each1}
 use Rattle.wtf8.specs.Form.{IsForm, bytes}
 use Rattle.wtf8.specs.Surrogates.{AreScalar}
@@ -24,6 +24,20 @@ DividesNoPair u n = ¬ (DividesPair u n)
 -- Each of the units is below 80: its own code point, and its own byte (Unicode 3.9, "UTF-8", Table 3-6).
 abbrev pub AreAscii : List ℕ → Type 0
 AreAscii u = Each1 (λ n. n < 0x80) u
+
+-- The new bytes are the old ones with the units between two places behind them, each of which is ASCII.
+pub record AppendsAscii (old new u : List ℕ) (at end : ℕ) : Type 0 where
+  pub order : at ≤ end
+  pub within : end ≤ length u
+  pub ascii : AreAscii (take (end - at) (drop at u))
+  pub behind : new ≡ old ++ take (end - at) (drop at u)
+
+-- The new bytes are the old ones with the form of the units between two places behind them, and no pair is divided at the second.
+pub record AppendsPart (old new u : List ℕ) (at end : ℕ) (known : Bool) : Type 0 where
+  pub order : at < end
+  pub within : end ≤ length u
+  pub apart : DividesNoPair u end
+  pub form : AppendsForm old new (take (end - at) (drop at u)) known
 
 -- Each of the units is a scalar value of its own number (Unicode 3.9, "Unicode scalar value").
 abbrev pub AreScalarUnits : List ℕ → Type 0

@@ -1,12 +1,13 @@
 // Code units read as code points.
-ghost use Rattle.std.specs.Prelude.{◌≡◌, ◌↔◌, ℕ, List, Result, None, IsTrue, IfOk};
+ghost use Rattle.std.specs.Prelude.{◌≡◌, ◌↔◌, ℕ, ◌-◌, ◌<◌, ◌≤◌, List, [], ◌∷◌, length, take, drop, Result, None, IsTrue, IfOk};
 ghost use Rattle.std.specs.Iterator.{count_map, Drains};
 ghost use Rattle.std.specs.Iterator.Adapters.{peekable_can, peekable_source, peekable_peeked, items_left_with_peeked};
 ghost use Rattle.wtf8.specs.CodePoint.{number};
 ghost use Rattle.wtf8.specs.declared.numbers.code_point.CodePoint.{CodePoint};
 ghost use Rattle.wtf8.specs.Decoding.{units_left, decode_steps, ReadsAll};
-ghost use Rattle.wtf8.specs.Unicode.{IsLead, IsTrail, pair};
-ghost use Rattle.wtf8.specs.UnitParts.{AppendsForm};
+ghost use Rattle.wtf8.specs.Form.{Reads};
+ghost use Rattle.wtf8.specs.Unicode.{IsLead, IsTrail, IsSurrogate, pair};
+ghost use Rattle.wtf8.specs.UnitParts.{AppendsForm, DividesNoPair};
 
 use crate::numbers::code_point::CodePoint;
 use crate::numbers::encoding;
@@ -84,6 +85,32 @@ impl<I: Iterator<Item = u16>> Iterator for DecodeUtf16<I> {
     fn size_hint(&self) -> (usize, Option<usize>) {
         let (low, high) = self.units.size_hint();
         (low / 2, high)
+    }
+}
+
+/// The code point at a place of some units, where it ends, and whether it is a scalar value.
+#[inline(always)]
+pub(crate) fn read_point(v: &[u16], at: usize) -> (CodePoint, usize, bool)
+    requires { at < length v.now }
+    ensures order { at < result.1 }
+    ensures within { result.1 ≤ length v.now }
+    ensures apart { DividesNoPair v.now result.1 }
+    ensures reads { Reads (number result.0 ∷ []) (take (result.1 - at) (drop at v.now)) }
+    ensures scalar { IsTrue result.2 → ¬ (IsSurrogate (number result.0)) }
+{
+    let unit = v[at];
+    match unit {
+        FIRST_LEAD..=LAST_LEAD => {
+            if 1 < v.len() - at {
+                let behind = v[at + 1];
+                if let FIRST_TRAIL..=LAST_TRAIL = behind {
+                    return (paired(unit, behind), at + 2, true);
+                }
+            }
+            (single(unit), at + 1, false)
+        }
+        FIRST_TRAIL..=LAST_TRAIL => (single(unit), at + 1, false),
+        _ => (single(unit), at + 1, true),
     }
 }
 

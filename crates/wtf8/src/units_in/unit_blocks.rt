@@ -1,10 +1,11 @@
-// Code units turned into bytes: sixteen of ASCII, or eight of two or of three bytes together, the ASCII units before another
-// one together, any others one after another.
-ghost use Rattle.std.specs.Prelude.{◌≡◌, List, [], ◌+◌, ◌++◌, ◌-◌, ◌*◌, ◌%◌, ◌<◌, ◌≤◌, length, map, take, drop, IfOk, IfSome, IfNone, IsOk, IsTrue};
+// Code units turned into bytes by the kind of the first: ASCII units sixteen together and those before another one, eight of
+// two or of three bytes together, any others in mixed blocks or one after another.
+ghost use Rattle.std.specs.Prelude.{◌≡◌, List, [], ◌+◌, ◌++◌, ◌-◌, ◌*◌, ◌%◌, ◌<◌, ◌≤◌, length, map, take, drop, IfOk, IfSome, IfNone, IsOk, IsTrue, OnOk};
 ghost use Rattle.wtf8.specs.Form.{bytes as bytes_of};
-ghost use Rattle.wtf8.specs.UnitParts.{AppendsForm, IsKnownForm, DividesNoPair, AreAscii, AreTwoByteUnits, AreThreeByteUnits, IsBlock};
+ghost use Rattle.wtf8.specs.UnitParts.{AppendsAscii, AppendsPart, IsKnownForm, DividesNoPair, AreAscii, AreTwoByteUnits, AreThreeByteUnits, IsBlock};
 
-use crate::numbers::surrogates::{FIRST_LEAD, FIRST_TRAIL, LAST_LEAD, LAST_TRAIL};
+use crate::numbers::encoding;
+use crate::numbers::surrogates::{FIRST_LEAD, FIRST_TRAIL, LAST_TRAIL};
 use crate::units_in::{NUMBERS, decode, mixed_blocks};
 use std::alloc::{AllocError, Allocator};
 use std::simd::prelude::*;
@@ -23,9 +24,6 @@ const IN_THREES: [usize; 32] = [
     0, 8, 16, 1, 9, 17, 2, 10, 18, 3, 11, 19, 4, 12, 20, 5, 13, 21, 6, 14, 22, 7, 15, 23, 0, 0, 0,
     0, 0, 0, 0, 0,
 ];
-
-/// From how many on the ASCII units at the front of a block are taken together.
-const FRONT: usize = 4;
 
 /// How many units are read one after another before a block is looked at again.
 const PART: usize = 32;
@@ -76,7 +74,7 @@ pub(crate) fn ascii_bytes(numbers: u32x16) -> Option<[u8; NUMBERS]>
 #[inline(always)]
 fn ascii_units(v: &[u16], at: usize) -> Option<[u8; NUMBERS]>
     requires { at ≤ length v.now }
-    ensures { IfSome result (λ block. IsBlock v.now at NUMBERS block) }
+    ensures { IfSome result (λ block. AreAscii block × (at + NUMBERS ≤ length v.now) × (block ≡ take NUMBERS (drop at v.now))) }
 {
     ascii_bytes(u16x16::from_array(units_from(v, at)?).cast())
 }
@@ -215,65 +213,81 @@ fn low_bytes(units: u16x16) -> [u8; NUMBERS]
     (units % u16x16::splat(0x100)).cast::<u8>().to_array()
 }
 
-/// Appends the bytes of the ASCII units at the front of the sixteen from a place on, where there are so many units, and
-/// answers how many: none where fewer than four are ASCII at the front, or all of them.
+/// Appends the ASCII units at the front of sixteen.
 #[inline(always)]
-fn append_ascii_front<A: Allocator>(
+fn append_cut<A: Allocator>(
+    bytes: &mut Vec<u8, A>,
+    units: u16x16,
+    count: usize,
+) -> Result<(), AllocError>
+    requires within { count ≤ NUMBERS }
+    requires ascii { AreAscii (take count units) }
+    ensures { OnOk result (bytes.new.items ≡ bytes.old.items ++ take count units) }
+{
+    let end = bytes.len() + count;
+    bytes.extend_from_slice(&low_bytes(units))?;
+    bytes.truncate(end);
+    Ok(())
+}
+
+/// Appends the blocks of sixteen ASCII units from a place on, and answers where they end.
+#[inline(always)]
+fn append_ascii_blocks<A: Allocator>(
     bytes: &mut Vec<u8, A>,
     v: &[u16],
     at: usize,
 ) -> Result<usize, AllocError>
-    requires { at < length v.now }
-    ensures within { IfOk result (λ count. at + count < length v.now) }
-    ensures ascii { IfOk result (λ count. AreAscii (take count (drop at v.now))) }
-    ensures items { IfOk result (λ count. bytes.new.items ≡ bytes.old.items ++ take count (drop at v.now)) }
+    requires { at ≤ length v.now }
+    ensures { IfOk result (λ end. AppendsAscii bytes.old.items bytes.new.items v.now at end) }
+{
+    let mut end = at;
+    while let Some(block) = ascii_units(v, end) {
+        bytes.extend_from_slice(&block)?;
+        end += NUMBERS;
+    }
+    Ok(end)
+}
+
+/// Appends the ASCII units from a place on, as far as blocks of sixteen tell, and answers where they end.
+#[inline(always)]
+fn append_ascii<A: Allocator>(
+    bytes: &mut Vec<u8, A>,
+    v: &[u16],
+    at: usize,
+) -> Result<usize, AllocError>
+    requires { at ≤ length v.now }
+    ensures { IfOk result (λ end. AppendsAscii bytes.old.items bytes.new.items v.now at end) }
 {
     let Some(units) = units_from(v, at) else {
-        return Ok(0);
+        return Ok(at);
     };
     let units = u16x16::from_array(units);
     let count = count_ascii(units);
-    if count < FRONT || count == NUMBERS {
-        return Ok(0);
+    append_cut(bytes, units, count)?;
+    if count < NUMBERS {
+        return Ok(at + count);
     }
-    let end = bytes.len() + count;
-    bytes.extend_from_slice(&low_bytes(units))?;
-    bytes.truncate(end);
-    Ok(count)
+    let end = append_ascii_blocks(bytes, v, at + NUMBERS)?;
+    Ok(end)
 }
 
-/// Where the code point ends that begins at a place.
+/// Appends the bytes of the code point at a place, and answers where it ends and whether it is a scalar value.
 #[inline(always)]
-fn end_of_point(v: &[u16], at: usize) -> usize
+fn append_point<A: Allocator>(
+    bytes: &mut Vec<u8, A>,
+    v: &[u16],
+    at: usize,
+) -> Result<(usize, bool), AllocError>
     requires { at < length v.now }
-    ensures order { at < result }
-    ensures within { result ≤ length v.now }
-    ensures apart { DividesNoPair v.now result }
+    ensures { IfOk result (λ part. AppendsPart bytes.old.items bytes.new.items v.now at part.0 part.1) }
 {
-    if let FIRST_LEAD..=LAST_LEAD = v[at] {
-        if 1 < v.len() - at {
-            if let FIRST_TRAIL..=LAST_TRAIL = v[at + 1] {
-                return at + 2;
-            }
-        }
-    }
-    at + 1
+    let (code_point, end, is_scalar) = decode::read_point(v, at);
+    encoding::append(bytes, code_point)?;
+    Ok((end, is_scalar))
 }
 
-/// Whether the four units from a place on are ASCII, where there are as many as a block has.
-#[inline(always)]
-fn begins_with_ascii(v: &[u16], at: usize) -> bool
-    requires { at < length v.now }
-{
-    NUMBERS <= v.len() - at
-        && v[at] < 0x80
-        && v[at + 1] < 0x80
-        && v[at + 2] < 0x80
-        && v[at + 3] < 0x80
-}
-
-/// Appends the bytes of the ASCII units from a place on and of the code point behind them, where there are four such units
-/// or more before another one, and answers where it ends and whether it is a scalar value.
+/// Appends the bytes of the ASCII units from a place on, as far as blocks of sixteen tell, and of the code point behind them
+/// where that is not ASCII, and answers where these end and whether no surrogate is alone among them.
 #[inline(always)]
 fn append_front<A: Allocator>(
     bytes: &mut Vec<u8, A>,
@@ -282,20 +296,40 @@ fn append_front<A: Allocator>(
 ) -> Result<Option<(usize, bool)>, AllocError>
     requires { at < length v.now }
     ensures none { IfOk result (λ part. IfNone part (bytes.new.items ≡ bytes.old.items)) }
-    ensures some { IfOk result (λ part. IfSome part (λ part. (at < part.0) × (part.0 ≤ length v.now) × DividesNoPair v.now part.0
-        × AppendsForm bytes.old.items bytes.new.items (take (part.0 - at) (drop at v.now)) part.1)) }
+    ensures some { IfOk result (λ part. IfSome part (λ part. AppendsPart bytes.old.items bytes.new.items v.now at part.0 part.1)) }
 {
-    let count = append_ascii_front(bytes, v, at)?;
-    if count == 0 {
+    let front = append_ascii(bytes, v, at)?;
+    if front == at {
         return Ok(None);
     }
-    let end = end_of_point(v, at + count);
-    let is_scalar = decode::append_one_by_one(bytes, &v[at + count..end])?;
+    if front == v.len() || v[front] < 0x80 {
+        return Ok(Some((front, true)));
+    }
+    let (end, is_scalar) = append_point(bytes, v, front)?;
     Ok(Some((end, is_scalar)))
 }
 
 /// Appends the bytes of some units from a place on, sixteen together where that can be, and answers where they end and
 /// whether no surrogate is alone among them.
+#[inline(always)]
+fn append_mixed<A: Allocator>(
+    bytes: &mut Vec<u8, A>,
+    v: &[u16],
+    at: usize,
+) -> Result<(usize, bool), AllocError>
+    requires { at < length v.now }
+    ensures { IfOk result (λ part. AppendsPart bytes.old.items bytes.new.items v.now at part.0 part.1) }
+{
+    if let Some(taken) = mixed_blocks::append_block(bytes, v, at)? {
+        return Ok((at + taken, true));
+    }
+    let end = end_of_part(v, at);
+    let is_scalar = decode::append_one_by_one(bytes, &v[at..end])?;
+    Ok((end, is_scalar))
+}
+
+/// Appends the bytes of some units from a place on, as many together as the kind of the first lets hope for, and answers
+/// where they end and whether no surrogate is alone among them.
 #[inline(always)]
 fn append_part<A: Allocator>(
     bytes: &mut Vec<u8, A>,
@@ -303,20 +337,23 @@ fn append_part<A: Allocator>(
     at: usize,
 ) -> Result<(usize, bool), AllocError>
     requires { at < length v.now }
-    ensures { IfOk result (λ part. (at < part.0) × (part.0 ≤ length v.now) × DividesNoPair v.now part.0
-        × AppendsForm bytes.old.items bytes.new.items (take (part.0 - at) (drop at v.now)) part.1) }
+    ensures { IfOk result (λ part. AppendsPart bytes.old.items bytes.new.items v.now at part.0 part.1) }
 {
-    if begins_with_ascii(v, at) {
+    let unit = v[at];
+    if unit < 0x80 {
         if let Some(part) = append_front(bytes, v, at)? {
             return Ok(part);
         }
+    } else if unit < 0x800 {
+        if let Some(block) = two_byte_block(v, at) {
+            bytes.extend_from_slice(&block)?;
+            return Ok((at + HALF, true));
+        }
+    } else if let Some(block) = three_byte_block(v, at) {
+        bytes.extend_from_slice(&block[..3 * HALF])?;
+        return Ok((at + HALF, true));
     }
-    if let Some(taken) = mixed_blocks::append_block(bytes, v, at)? {
-        return Ok((at + taken, true));
-    }
-    let end = end_of_part(v, at);
-    let is_scalar = decode::append_one_by_one(bytes, &v[at..end])?;
-    Ok((end, is_scalar))
+    append_mixed(bytes, v, at)
 }
 
 /// Appends the string of the units to a buffer without bytes, and answers whether it has no lone surrogate.
@@ -331,21 +368,6 @@ pub(crate) fn append_units<A: Allocator>(
     let mut at = 0;
     let mut is_scalar = true;
     while at < v.len() {
-        if let Some(block) = ascii_units(v, at) {
-            bytes.extend_from_slice(&block)?;
-            at += NUMBERS;
-            continue;
-        }
-        if let Some(block) = three_byte_block(v, at) {
-            bytes.extend_from_slice(&block[..3 * HALF])?;
-            at += HALF;
-            continue;
-        }
-        if let Some(block) = two_byte_block(v, at) {
-            bytes.extend_from_slice(&block)?;
-            at += HALF;
-            continue;
-        }
         let (end, is_part_scalar) = append_part(bytes, v, at)?;
         is_scalar &= is_part_scalar;
         at = end;

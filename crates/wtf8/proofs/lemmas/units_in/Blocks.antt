@@ -10,7 +10,7 @@ use Rattle.std.proofs.lemmas.Bool.{leb-false, ltb-false, or_parts, and_cases}
 use Rattle.std.proofs.lemmas.List.{length-map}
 use Rattle.std.proofs.lemmas.Simd.{zip2_splat_left, Each1-get_or}
 use Rattle.wtf8.specs.Unicode.{IsLead}
-use Rattle.wtf8.specs.UnitParts.{AreScalarUnits, AppendsForm}
+use Rattle.wtf8.specs.UnitParts.{AreScalarUnits, AppendsForm, AppendsAscii, AppendsPart}
 use Rattle.wtf8.specs.declared.numbers.code_point.CodePoint.{CodePoint}
 use Rattle.wtf8.proofs.lemmas.numbers.Encoding.{encoding_two, encoding_three, third_row, encoding_one, bytes-append}
 use Rattle.wtf8.proofs.lemmas.numbers.Readings.{meets_by, units-cons_one}
@@ -149,7 +149,7 @@ are_scalar : (u : List ℕ) → AreScalarUnits u → AreScalar u
 are_scalar [] h = tt
 are_scalar (p ∷ u) h = (h.0.1, are_scalar u h.1)
 
-pub block_form : {u w : List ℕ} {at n : ℕ} (known : Bool) → IsBlock u at n w → IsKnownForm w (take n (drop at u)) known
+block_form : {u w : List ℕ} {at n : ℕ} (known : Bool) → IsBlock u at n w → IsKnownForm w (take n (drop at u)) known
 block_form {u} {w} {at} {n} known b = record {
   form = record {
     points = take n (drop at u);
@@ -180,11 +180,6 @@ ascii_form u h = record {
   scalar = λ _. are_scalar u (ascii_scalars u h);
 }
 
-pub ascii_block : (u w : List ℕ) (at : ℕ) → at + 16 ≤ length u → AreAscii w → w ≡ take 16 (drop at u) → IsBlock u at 16 w
-ascii_block u w at within h e =
-    let ascii = subst AreAscii e h in
-    record { within = within; scalars = ascii_scalars (take 16 (drop at u)) ascii; encoded = e ∙ sym (ascii_bytes (take 16 (drop at u)) ascii) }
-
 pub nothing_read : {w : List ℕ} (known : Bool) → w ≡ [] → IsKnownForm w [] known
 nothing_read known e = record { form = record { points = []; reads = record { clean = tt; same_units = refl }; encoded = sym e }; scalar = λ _. tt }
 
@@ -200,12 +195,19 @@ last_apart u at k within n m =
     let last = last_is (take at u) part m.front m.lead k (length-chunk at (k + 1) u within) (sym (take-add at (k + 1) u) ∙ m.ends) in
     n (omega (arith, last, m.is_lead), omega (arith, last, m.is_lead))
 
-pub block_apart : {u w : List ℕ} (at k : ℕ) → IsBlock u at (k + 1) w → DividesNoPair u (at + (k + 1))
-block_apart {u} {w} at k b =
+-- a block of units of one kind is a part
+pub block_part : {was new u w : List ℕ} (at k : ℕ) → IsBlock u at (k + 1) w → new ≡ was ++ w → AppendsPart was new u at (at + (k + 1)) true
+block_part {was} {new} {u} {w} at k b e =
     let part = take (k + 1) (drop at u) in
     let long : length part ≡ k + 1 = length-chunk at (k + 1) u b.within in
-    let apart = Each1-get_or (λ n. (n < 0x10000) × ¬ (IsSurrogate n)) part k 0 (omega (arith, long)) b.scalars in
-    last_apart u at k b.within (λ l. apart.1 (l.0, omega (arith, l.1)))
+    let last = Each1-get_or (λ n. (n < 0x10000) × ¬ (IsSurrogate n)) part k 0 (omega (arith, long)) b.scalars in
+    let count : k + 1 ≡ at + (k + 1) - at = omega arith in
+    record {
+      order = omega arith;
+      within = b.within;
+      apart = last_apart u at k b.within (λ l. last.1 (l.0, omega (arith, l.1)));
+      form = subst (λ n. AppendsForm was new (take n (drop at u)) true) count (record { appended = w; behind = e; part = block_form true b });
+    }
 
 -- where a part meets what is before it, all that is behind does
 meets_longer : (a b : List ℕ) (n : ℕ) → MeetsAsPair a (take n b) → MeetsAsPair a b
@@ -234,21 +236,69 @@ ascii_meets a b h m =
     let inside : length m.front < length a = omega (arith, ap length m.ends, length-append m.front (m.lead ∷ [])) in
     omega (arith, last, m.is_lead, Each1-get_or (λ n. n < 0x80) a (length m.front) 0 inside h)
 
-pub front_and_part : (u was now new : List ℕ) (at count end : ℕ) (known : Bool) → AreAscii (take count (drop at u)) → at + count ≤ end
-    → now ≡ was ++ take count (drop at u) → AppendsForm now new (take (end - (at + count)) (drop (at + count) u)) known
-    → AppendsForm was new (take (end - at) (drop at u)) known
-front_and_part u was now new at count end known h le e part =
-    let a = take count (drop at u) in
-    let n = end - (at + count) in
-    let b = take n (drop (at + count) u) in
-    let both : end - at ≡ count + n = omega (arith, le) in
-    let whole : take (end - at) (drop at u) ≡ a ++ b =
-    ap (λ k. take k (drop at u)) both ∙ (take-add count n (drop at u) ∙ ap (λ w. a ++ take n w) (drop-drop count at u)) in
-    let joined = known_behind a part.appended a b true known known (ascii_form a h) part.part (ascii_meets a b h) (λ t. (refl, t)) in
+-- some ASCII units, and more behind them
+between : (u : List ℕ) {at mid end : ℕ} → at ≤ mid → mid ≤ end → take (end - at) (drop at u) ≡ take (mid - at) (drop at u) ++ take (end - mid) (drop mid u)
+between u {at} {mid} {end} l m =
+    let both : end - at ≡ (mid - at) + (end - mid) = omega (arith, l, m) in
+    let here : at + (mid - at) ≡ mid = omega (arith, l) in
+    let front = take (mid - at) (drop at u) in
+    ap (λ k. take k (drop at u)) both ∙ (take-add (mid - at) (end - mid) (drop at u)
+    ∙ ap (λ w. front ++ take (end - mid) w) (drop-drop (mid - at) at u ∙ ap (λ k. drop k u) here))
+
+pub ascii_appended : {was new u part : List ℕ} (at n : ℕ) → at + n ≤ length u → AreAscii part → part ≡ take n (drop at u) → new ≡ was ++ part
+    → AppendsAscii was new u at (at + n)
+ascii_appended {was} {new} {u} {part} at n l h same e =
+    let count : n ≡ at + n - at = omega arith in
+    let whole : part ≡ take (at + n - at) (drop at u) = same ∙ ap (λ k. take k (drop at u)) count in
+    record { order = omega arith; within = l; ascii = subst AreAscii whole h; behind = e ∙ ap (λ w. was ++ w) whole }
+
+each_both : (P : ℕ → Type 0) (xs ys : List ℕ) → Each1 P xs → Each1 P ys → Each1 P (xs ++ ys)
+each_both P [] ys h k = k
+each_both P (x ∷ xs) ys h k = (h.0, each_both P xs ys h.1 k)
+
+pub ascii_joined : {was now new u : List ℕ} {at mid end : ℕ} → AppendsAscii was now u at mid → AppendsAscii now new u mid end → AppendsAscii was new u at end
+ascii_joined {was} {now} {new} {u} {at} {mid} {end} a b =
+    let front = take (mid - at) (drop at u) in
+    let back = take (end - mid) (drop mid u) in
+    let whole = between u a.order b.order in
     record {
-      appended = a ++ part.appended;
-      behind = part.behind ∙ (ap (λ w. w ++ part.appended) e ∙ append_assoc was a part.appended);
-      part = subst (λ v. IsKnownForm (a ++ part.appended) v known) (sym whole) joined;
+      order = omega (arith, a.order, b.order);
+      within = b.within;
+      ascii = subst AreAscii (sym whole) (each_both (λ n. n < 0x80) front back a.ascii b.ascii);
+      behind = b.behind ∙ (ap (λ w. w ++ back) a.behind ∙ (append_assoc was front back ∙ ap (λ w. was ++ w) (sym whole)));
+    }
+
+pub ascii_part : {was new u : List ℕ} {at end : ℕ} → AppendsAscii was new u at end → at < end → AppendsPart was new u at end true
+ascii_part {was} {new} {u} {at} {end} a l =
+    let k = end - at - 1 in
+    let count : end - at ≡ k + 1 = omega (arith, l) in
+    let here : at + (k + 1) ≡ end = omega (arith, l) in
+    let within : at + (k + 1) ≤ length u = omega (arith, here, a.within) in
+    let ascii = subst (λ n. AreAscii (take n (drop at u))) count a.ascii in
+    let last = Each1-get_or (λ n. n < 0x80) (take (k + 1) (drop at u)) k 0 (omega (arith, length-chunk at (k + 1) u within)) ascii in
+    record {
+      order = l;
+      within = a.within;
+      apart = subst (λ n. DividesNoPair u n) here (last_apart u at k within (λ s. omega (arith, last, s.0)));
+      form = record { appended = take (end - at) (drop at u); behind = a.behind; part = ascii_form (take (end - at) (drop at u)) a.ascii };
+    }
+
+pub front_and_part : {was now new u : List ℕ} {at mid end : ℕ} {known : Bool} → AppendsAscii was now u at mid → AppendsPart now new u mid end known
+    → AppendsPart was new u at end known
+front_and_part {was} {now} {new} {u} {at} {mid} {end} {known} a part =
+    let front = take (mid - at) (drop at u) in
+    let back = take (end - mid) (drop mid u) in
+    let read = part.form in
+    let joined = known_behind front read.appended front back true known known (ascii_form front a.ascii) read.part (ascii_meets front back a.ascii) (λ t. (refl, t)) in
+    record {
+      order = omega (arith, a.order, part.order);
+      within = part.within;
+      apart = part.apart;
+      form = record {
+        appended = front ++ read.appended;
+        behind = read.behind ∙ (ap (λ w. w ++ read.appended) a.behind ∙ append_assoc was front read.appended);
+        part = subst (λ v. IsKnownForm (front ++ read.appended) v known) (sym (between u a.order (omega (arith, part.order)))) joined;
+      };
     }
 
 pub all_read : {w u : List ℕ} (at : ℕ) (known : Bool) → IsKnownForm w (take at u) known → length u ≤ at → IsKnownForm w u known

@@ -1,10 +1,9 @@
 use Rattle.std.proofs.Common.{◌∙◌}
 use Rattle.std.proofs.lemmas.List.{map-id}
 use Rattle.std.proofs.lemmas.Option.{IfSome_then}
-use Rattle.wtf8.proofs.lemmas.units_in.Blocks.{ascii_block}
 use Rattle.wtf8.proofs.units_in.unit_blocks.ascii_units.Goals as goal
 
 pub returns : goal.returns
 returns c =
     let units = c.in_ok-units_from.ensures in
-    IfSome_then c.ascii_bytes.result c.ascii_bytes.ensures (λ w h. ascii_block c.args.v.now w c.args.at units.within h.0 (h.1 ∙ map-id _ ∙ units.same))
+    IfSome_then c.ascii_bytes.result c.ascii_bytes.ensures (λ w h. (h.0, units.within, h.1 ∙ map-id _ ∙ units.same))
