@@ -123,8 +123,8 @@ fn count_two_bytes(firsts: u8x8) -> usize
     ensures within { result ≤ 8 }
     ensures each { Each1 BeginsTwo (take result firsts) }
 {
-    let others = (firsts / u8x8::splat(32)).simd_ne(u8x8::splat(6));
-    let others = others.to_bitmask();
+    let kinds = firsts / u8x8::splat(32);
+    let others = kinds.simd_ne(u8x8::splat(6)).to_bitmask();
     if others == 0 {
         return 8;
     }
@@ -177,8 +177,8 @@ fn count_three_bytes(firsts: u8x8) -> usize
     ensures within { result ≤ 8 }
     ensures each { Each1 BeginsThree (take result firsts) }
 {
-    let others = (firsts / u8x8::splat(16)).simd_ne(u8x8::splat(14));
-    let others = others.to_bitmask();
+    let kinds = firsts / u8x8::splat(16);
+    let others = kinds.simd_ne(u8x8::splat(14)).to_bitmask();
     if others == 0 {
         return 8;
     }

@@ -3,8 +3,8 @@ use Rattle.wtf8.specs.UnitRows.{BeginsTwo}
 use Rattle.wtf8.proofs.lemmas.lanes.AsciiFronts.{each2_splat, all_of_kind, kind_within, front_of_kind}
 use Rattle.wtf8.proofs.strings.units_out.count_two_bytes.Goals as goal
 
-pub nonzero_div-others : goal.nonzero_div-others
-nonzero_div-others c = each2_splat _ 32 (λ x. omega arith) 8 c.args.firsts c.fits-firsts.0
+pub nonzero_div-kinds : goal.nonzero_div-kinds
+nonzero_div-kinds c = each2_splat _ 32 (λ x. omega arith) 8 c.args.firsts c.fits-firsts.0
 
 pub returns-then-others-eq0-clause-each : goal.returns-then-others-eq0-clause-each
 returns-then-others-eq0-clause-each c = all_of_kind 32 6 BeginsTwo (λ x e. (omega (arith, e), omega (arith, e))) c.args.firsts c.fits-firsts.0 c.if-others-eq0.true
