@@ -7,8 +7,9 @@ use wtf8::Wtf8Buf;
 /// Units that stand in the vector before.
 const BEFORE: [u16; 2] = [0xDC00, 0x0061];
 
-/// Units of each kind, which take the place of a letter.
-const OTHERS: [&[u16]; 6] = [
+/// Units of each kind, which take the place of another one.
+const OTHERS: [&[u16]; 7] = [
+    &[0x0061],
     &[0x00E9],
     &[0x20AC],
     &[0xD83D],
@@ -70,6 +71,25 @@ fn blocks_of_other_units_are_appended(rt: HostRuntime) -> Result<(), Fail> {
     for length in 0..=26 {
         for unit in [0x0080, 0x07FF, 0x0800, 0xFFFF, 0xD7FF, 0xD800, 0xDFFF] {
             expect_changed_back(rt.alloc(), unit, length)?;
+        }
+    }
+    Ok(())
+}
+
+#[test]
+fn blocks_of_different_units_are_appended(rt: HostRuntime) -> Result<(), Fail> {
+    for start in [0x0080, 0x07E8, 0x4E00, 0xD7F0, 0xDBF0, 0xFFD8] {
+        for other in &OTHERS {
+            for place in 0..40 {
+                let mut units = Vec::new(rt.alloc());
+                for more in 0..40u16 {
+                    if more == place {
+                        units.extend_from_slice(other)?;
+                    }
+                    units.push(more.wrapping_add(start))?;
+                }
+                expect_units_back(rt.alloc(), &units)?;
+            }
         }
     }
     Ok(())

@@ -1,8 +1,11 @@
 // The units of a string, appended to a vector of units.
 ghost use Rattle.std.specs.Prelude.{◌≡◌, ◌∷◌, ◌++◌, ◌+◌, ◌<◌, ◌≤◌, length, take, drop, IfSome, IfNone, IsOk, OnOk, OnErr, vec_len, vec_capacity};
+ghost use lib.Lanes.{Each1};
 ghost use Rattle.wtf8.specs.CodePoint.{number};
+ghost use Rattle.wtf8.specs.Form.{IsWellFormed};
 ghost use Rattle.wtf8.specs.UnitParts.{AreAscii};
 ghost use Rattle.wtf8.specs.Unicode.{units_of};
+ghost use Rattle.wtf8.specs.UnitRows.{BeginsTwo, BeginsThree, firsts_of, unit_of_two, unit_of_three, units_of_rows};
 ghost use Rattle.wtf8.specs.View.{view_points, view_units};
 
 use crate::lanes::{VECTOR, copies};
@@ -11,6 +14,18 @@ use crate::numbers::surrogates::{lead_of, trail_of};
 use crate::strings::view::Wtf8;
 use std::alloc::{AllocError, Allocator};
 use std::simd::prelude::*;
+
+/// Where the first bytes of eight code points of two bytes stand, and the second ones.
+const FIRST_OF_TWO: [usize; 8] = [0, 2, 4, 6, 8, 10, 12, 14];
+
+const SECOND_OF_TWO: [usize; 8] = [1, 3, 5, 7, 9, 11, 13, 15];
+
+/// Where the first bytes of eight code points of three bytes stand, the second and the third ones.
+const FIRST_OF_THREE: [usize; 8] = [0, 3, 6, 9, 12, 15, 18, 21];
+
+const SECOND_OF_THREE: [usize; 8] = [1, 4, 7, 10, 13, 16, 19, 22];
+
+const THIRD_OF_THREE: [usize; 8] = [2, 5, 8, 11, 14, 17, 20, 23];
 
 /// How many of the first bytes of a block are ASCII.
 #[inline(always)]
@@ -84,37 +99,10 @@ fn append_point<'a, B: Allocator>(units: &mut Vec<u16, B>, view: Wtf8<'a>) -> Op
     Some(rest)
 }
 
-/// The first code point and the view behind it, where it is not ASCII.
+/// Appends the ASCII at the front and, where a block of it ends before the block does, the code point behind it, and answers
+/// the view behind them, or `None` where the string is done.
 #[inline(always)]
-fn split_first_other(view: Wtf8<'_>) -> Option<(CodePoint, Wtf8<'_>)>
-    ensures points { IfSome result (λ x. view_points view.entry ≡ number x.0 ∷ view_points x.1) }
-{
-    match view.bytes {
-        [0x80..=0xFF, ..] => view.split_first(),
-        _ => None,
-    }
-}
-
-/// Appends the units of the code points before the next ASCII, for which there is room, and answers the view behind them.
-#[inline(always)]
-fn append_others<'a, B: Allocator>(units: &mut Vec<u16, B>, view: Wtf8<'a>) -> Wtf8<'a>
-    requires { vec_len units.old + length (view_units view) ≤ vec_capacity units.old }
-    ensures units { units.new.items ++ view_units result ≡ units.old.items ++ view_units view.entry }
-    ensures no_longer { length result.bytes.now ≤ length view.entry.bytes.now }
-    ensures capacity { vec_capacity units.new ≡ vec_capacity units.old }
-{
-    let mut rest = view;
-    while let Some((code_point, behind)) = split_first_other(rest) {
-        push_units(units, code_point);
-        rest = behind;
-    }
-    rest
-}
-
-/// Appends the units at the front, those of a block of ASCII or those before other code points and of these, for which there
-/// is room, and answers the view behind them, or `None` where the string is done.
-#[inline(always)]
-fn append_front<'a, B: Allocator>(units: &mut Vec<u16, B>, view: Wtf8<'a>) -> Option<Wtf8<'a>>
+fn append_ascii<'a, B: Allocator>(units: &mut Vec<u16, B>, view: Wtf8<'a>) -> Option<Wtf8<'a>>
     requires { vec_len units.old + length (view_units view) ≤ vec_capacity units.old }
     ensures none { IfNone result (units.new.items ≡ units.old.items ++ view_units view.entry) }
     ensures some { IfSome result (λ rest. units.new.items ++ view_units rest ≡ units.old.items ++ view_units view.entry) }
@@ -126,8 +114,172 @@ fn append_front<'a, B: Allocator>(units: &mut Vec<u16, B>, view: Wtf8<'a>) -> Op
     if count == VECTOR {
         return Some(behind);
     }
-    let rest = append_point(units, behind)?;
-    Some(append_others(units, rest))
+    append_point(units, behind)
+}
+
+/// How many of eight first bytes stand before one that begins no code point of two bytes.
+#[inline(always)]
+fn count_two_bytes(firsts: u8x8) -> usize
+    ensures within { result ≤ 8 }
+    ensures each { Each1 BeginsTwo (take result firsts) }
+{
+    let kinds = firsts / u8x8::splat(32);
+    let others = kinds.simd_ne(u8x8::splat(6)).to_bitmask();
+    if others == 0 {
+        return 8;
+    }
+    others.trailing_zeros() as usize
+}
+
+/// The first bytes of eight code points of two bytes, and their units.
+#[inline(always)]
+fn read_twos(bytes: [u8; 16]) -> (u8x8, [u16; 8])
+    ensures firsts { result.0 ≡ firsts_of 2 8 bytes }
+    ensures units { result.1 ≡ units_of_rows 2 unit_of_two 8 bytes }
+{
+    let [a, b, c, d, e, f, g, h, i, j, k, l, m, n, o, p] = bytes;
+    let bytes = u8x16::from_array([a, b, c, d, e, f, g, h, i, j, k, l, m, n, o, p]);
+    let first: u8x8 = bytes.shuffle(bytes, FIRST_OF_TWO);
+    let second: u8x8 = bytes.shuffle(bytes, SECOND_OF_TWO);
+    let high = (first % u8x8::splat(32)).cast::<u16>();
+    let low = (second % u8x8::splat(64)).cast::<u16>();
+    let units = high.strict_mul(u16x8::splat(64)).strict_add(low);
+    (first, units.to_array())
+}
+
+/// Appends the code points of two bytes at the front, as far as a block of them tells, where there is room for a block, or
+/// the first code point, and answers the view behind them, or `None` where the string is empty.
+#[inline(always)]
+fn append_two_bytes<'a, B: Allocator>(units: &mut Vec<u16, B>, view: Wtf8<'a>) -> Option<Wtf8<'a>>
+    requires { vec_len units.old + length (view_units view) ≤ vec_capacity units.old }
+    ensures none { IfNone result (units.new.items ≡ units.old.items ++ view_units view.entry) }
+    ensures some { IfSome result (λ rest. units.new.items ++ view_units rest ≡ units.old.items ++ view_units view.entry) }
+    ensures shorter { IfSome result (λ rest. length rest.bytes.now < length view.entry.bytes.now) }
+    ensures capacity { vec_capacity units.new ≡ vec_capacity units.old }
+{
+    let len = units.len();
+    if view.bytes.len() < 16 || units.capacity() - len < 8 {
+        return append_point(units, view);
+    }
+    let (firsts, block) = read_twos(u8x16::from_slice(view.bytes).to_array());
+    let count = count_two_bytes(firsts);
+    if count == 0 {
+        return append_point(units, view);
+    }
+    copies::push_block(units, block);
+    units.truncate(len + count);
+    Some(view.behind(2 * count))
+}
+
+/// How many of eight first bytes stand before one that begins no code point of three bytes.
+#[inline(always)]
+fn count_three_bytes(firsts: u8x8) -> usize
+    ensures within { result ≤ 8 }
+    ensures each { Each1 BeginsThree (take result firsts) }
+{
+    let kinds = firsts / u8x8::splat(16);
+    let others = kinds.simd_ne(u8x8::splat(14)).to_bitmask();
+    if others == 0 {
+        return 8;
+    }
+    others.trailing_zeros() as usize
+}
+
+/// The first bytes of eight code points of three bytes, and their units.
+#[inline(always)]
+fn read_threes(bytes: [u8; 32]) -> (u8x8, [u16; 8])
+    ensures firsts { result.0 ≡ firsts_of 3 8 bytes }
+    ensures units { result.1 ≡ units_of_rows 3 unit_of_three 8 bytes }
+{
+    let [
+        a,
+        b,
+        c,
+        d,
+        e,
+        f,
+        g,
+        h,
+        i,
+        j,
+        k,
+        l,
+        m,
+        n,
+        o,
+        p,
+        q,
+        r,
+        s,
+        t,
+        u,
+        v,
+        w,
+        x,
+        y,
+        z,
+        aa,
+        bb,
+        cc,
+        dd,
+        ee,
+        ff,
+    ] = bytes;
+    let bytes = u8x32::from_array([
+        a, b, c, d, e, f, g, h, i, j, k, l, m, n, o, p, q, r, s, t, u, v, w, x, y, z, aa, bb, cc,
+        dd, ee, ff,
+    ]);
+    let first: u8x8 = bytes.shuffle(bytes, FIRST_OF_THREE);
+    let second: u8x8 = bytes.shuffle(bytes, SECOND_OF_THREE);
+    let third: u8x8 = bytes.shuffle(bytes, THIRD_OF_THREE);
+    let high = (first % u8x8::splat(16)).cast::<u16>();
+    let middle = (second % u8x8::splat(64)).cast::<u16>();
+    let low = (third % u8x8::splat(64)).cast::<u16>();
+    let above = high
+        .strict_mul(u16x8::splat(64))
+        .strict_add(middle)
+        .strict_mul(u16x8::splat(64));
+    (first, above.strict_add(low).to_array())
+}
+
+/// The same for code points of three bytes, surrogates among them.
+#[inline(always)]
+fn append_three_bytes<'a, B: Allocator>(units: &mut Vec<u16, B>, view: Wtf8<'a>) -> Option<Wtf8<'a>>
+    requires { vec_len units.old + length (view_units view) ≤ vec_capacity units.old }
+    ensures none { IfNone result (units.new.items ≡ units.old.items ++ view_units view.entry) }
+    ensures some { IfSome result (λ rest. units.new.items ++ view_units rest ≡ units.old.items ++ view_units view.entry) }
+    ensures shorter { IfSome result (λ rest. length rest.bytes.now < length view.entry.bytes.now) }
+    ensures capacity { vec_capacity units.new ≡ vec_capacity units.old }
+{
+    let len = units.len();
+    if view.bytes.len() < 32 || units.capacity() - len < 8 {
+        return append_point(units, view);
+    }
+    let (firsts, block) = read_threes(u8x32::from_slice(view.bytes).to_array());
+    let count = count_three_bytes(firsts);
+    if count == 0 {
+        return append_point(units, view);
+    }
+    copies::push_block(units, block);
+    units.truncate(len + count);
+    Some(view.behind(3 * count))
+}
+
+/// Appends the units at the front, those of a block of code points that have as many bytes as the first one, or of the first
+/// one, for which there is room, and answers the view behind them, or `None` where the string is done.
+#[inline(always)]
+fn append_front<'a, B: Allocator>(units: &mut Vec<u16, B>, view: Wtf8<'a>) -> Option<Wtf8<'a>>
+    requires { vec_len units.old + length (view_units view) ≤ vec_capacity units.old }
+    ensures none { IfNone result (units.new.items ≡ units.old.items ++ view_units view.entry) }
+    ensures some { IfSome result (λ rest. units.new.items ++ view_units rest ≡ units.old.items ++ view_units view.entry) }
+    ensures shorter { IfSome result (λ rest. length rest.bytes.now < length view.entry.bytes.now) }
+    ensures capacity { vec_capacity units.new ≡ vec_capacity units.old }
+{
+    match view.bytes {
+        [0x80..=0xDF, ..] => append_two_bytes(units, view),
+        [0xE0..=0xEF, ..] => append_three_bytes(units, view),
+        _ => append_ascii(units, view),
+    }
 }
 
 impl<'a> Wtf8<'a> {
@@ -137,6 +289,18 @@ impl<'a> Wtf8<'a> {
         requires within { count ≤ length self.bytes.now }
         requires ascii { AreAscii (take count self.bytes.now) }
         ensures units { view_units self.entry ≡ take count self.entry.bytes.now ++ view_units result }
+        ensures bytes { result.bytes.now ≡ drop count self.entry.bytes.now }
+    {
+        let (_, rest) = self.bytes.split_at(count);
+        Wtf8::from_well_formed(rest)
+    }
+
+    /// The view behind some bytes, which is well-formed.
+    #[inline(always)]
+    fn behind(self, count: usize) -> Wtf8<'a>
+        requires within { count ≤ length self.bytes.now }
+        requires well_formed { IsWellFormed (drop count self.bytes.now) }
+        ensures points { (h : IsWellFormed (drop count self.entry.bytes.now)) → view_points result ≡ h.points }
         ensures bytes { result.bytes.now ≡ drop count self.entry.bytes.now }
     {
         let (_, rest) = self.bytes.split_at(count);

@@ -1,5 +1,5 @@
--- The lanes of ASCII at the front of a block.
-use Rattle.wtf8.proofs.Common.{◌≡◌, ℕ, zero, suc, ◌-◌, ◌%◌, ◌^◌, ◌<◌, ◌≤◌, leb, not, cond, List, [], ◌∷◌, map, length, take, get_or, replicate, refl, sym, ap}
+-- The lanes of one kind at the front of a block.
+use Rattle.wtf8.proofs.Common.{◌≡◌, ℕ, zero, suc, ◌-◌, ◌%◌, ◌^◌, ◌<◌, ◌≤◌, ◌/◌, Bool, false, eqb, eqb-true, cases_Bool, false≢true, inl, inr, leb, not, cond, List, [], ◌∷◌, map, length, take, get_or, replicate, refl, sym, ap}
 use Rattle.wtf8.proofs.Common.{◌∙◌, arith, subst, Each1, mask_l-mod, tops_compared, zip2, mask_l, top, AreAscii, length-take}
 use Rattle.std.proofs.lemmas.Bool.{leb-false, not-true}
 use Rattle.std.proofs.lemmas.List.{length-map, get_or-take}
@@ -11,6 +11,29 @@ use mir.Val.{bits, hbits}
 use Rattle.std.specs.Int.Count.{count_trailing_zeros}
 use Rattle.std.specs.List.{prefix_len}
 
+-- the lanes before the first that a mask shows
+module _ (p : ℕ → Bool) (Q : ℕ → Type 0) (off : (x : ℕ) → p x ≡ false → Q x) (xs : List ℕ) (few : length xs ≤ 64) (m : ℕ) (same : m ≡ mask_l (map p xs)) where
+  abbrev front : ℕ
+  front = prefix_len (λ x. not (p x)) xs
+
+  low : (k : ℕ) → k ≤ front → Each1 Q (take k xs)
+  low k le = Each1-from_get_or Q (take k xs) 0 (λ i lt.
+      let inside : i < k = omega (arith, lt, length-take k xs) in
+      let passes = prefix_len_passes (λ x. not (p x)) xs i 0 (omega (arith, inside, le)) in
+      subst Q (sym (get_or-take k xs i 0 inside)) (off (get_or xs i 0) (not-true _ passes)))
+
+  pub all_off : (k : ℕ) → k ≤ length xs → m ≡ 0 → Each1 Q (take k xs)
+  all_off k le e = low k (omega (arith, le, leading_from_mask_l p xs (sym same ∙ e)))
+
+  counted : ¬ (m ≡ 0) → count_trailing_zeros 64 m ≡ front
+  counted e = ap (count_trailing_zeros 64) same ∙ trailing_mask_l p 64 xs few (omega (arith, same, e))
+
+  pub off_within : ¬ (m ≡ 0) → count_trailing_zeros 64 m ≤ length xs
+  off_within e = omega (arith, counted e, prefix_len-le-length (λ x. not (p x)) xs)
+
+  pub front_off : ¬ (m ≡ 0) → Each1 Q (take (count_trailing_zeros 64 m) xs)
+  front_off e = low (count_trailing_zeros 64 m) (omega (arith, counted e))
+
 -- the mask of the lanes that are not ASCII
 abbrev others : Width → List ℕ → ℕ
 others w xs = mask_l (map (top (hbits w)) (zip2 (λ a b. cond (leb a b) (2 ^ bits w - 1) 0) (replicate 16 0x80) xs)) % 2 ^ 64
@@ -20,26 +43,50 @@ module _ (w : Width) (xs : List ℕ) (long : length xs ≡ 16) where
   same = ap (λ ms. mask_l ms % 2 ^ 64) (tops_compared w leb (replicate 16 0x80) xs ∙ zip2_splat_left leb 0x80 16 xs long)
       ∙ mask_l-mod (map (leb 0x80) xs) 64 (omega (arith, length-map xs (leb 0x80), long))
 
-  abbrev front : ℕ
-  front = prefix_len (λ x. not (leb 0x80 x)) xs
-
-  low : (k : ℕ) → k ≤ front → AreAscii (take k xs)
-  low k le = Each1-from_get_or (λ n. n < 0x80) (take k xs) 0 (λ i lt.
-      let inside : i < k = omega (arith, lt, length-take k xs) in
-      let passes = prefix_len_passes (λ x. not (leb 0x80 x)) xs i 0 (omega (arith, inside, le)) in
-      subst (λ n. n < 0x80) (sym (get_or-take k xs i 0 inside)) (leb-false 0x80 (get_or xs i 0) (not-true _ passes)))
-
   pub all_ascii : others w xs ≡ 0 → AreAscii (take 16 xs)
-  all_ascii e = low 16 (omega (arith, long, leading_from_mask_l (leb 0x80) xs (sym same ∙ e)))
-
-  counted : ¬ (others w xs ≡ 0) → count_trailing_zeros 64 (others w xs) ≡ front
-  counted e = ap (count_trailing_zeros 64) same ∙ trailing_mask_l (leb 0x80) 64 xs (omega (arith, long)) (omega (arith, same, e))
+  all_ascii = all_off (leb 0x80) (λ n. n < 0x80) (leb-false 0x80) xs (omega (arith, long)) (others w xs) same 16 (omega (arith, long))
 
   pub within : ¬ (others w xs ≡ 0) → count_trailing_zeros 64 (others w xs) ≤ 16
-  within e = omega (arith, counted e, prefix_len-le-length (λ x. not (leb 0x80 x)) xs, long)
+  within e = omega (arith, long, off_within (leb 0x80) (λ n. n < 0x80) (leb-false 0x80) xs (omega (arith, long)) (others w xs) same e)
 
   pub front_ascii : ¬ (others w xs ≡ 0) → AreAscii (take (count_trailing_zeros 64 (others w xs)) xs)
-  front_ascii e = low (count_trailing_zeros 64 (others w xs)) (omega (arith, counted e))
+  front_ascii = front_off (leb 0x80) (λ n. n < 0x80) (leb-false 0x80) xs (omega (arith, long)) (others w xs) same
+
+-- a lane is set where the lane, divided by one number, differs from another
+abbrev differs : ℕ → ℕ → ℕ
+differs a b = cond (not (eqb a b)) 255 0
+
+abbrev kinds : ℕ → ℕ → List ℕ → ℕ
+kinds d y xs = mask_l (map (top 7) (zip2 differs (zip2 (λ a b. a / b) xs (replicate 8 d)) (replicate 8 y))) % 2 ^ 64
+
+same_kind : (a y : ℕ) → top 7 (differs a y) ≡ false → a ≡ y
+same_kind a y h = elim (cases_Bool (eqb a y)) [ inl t ↦ eqb-true a y t | inr u ↦ absurd (false≢true (sym h ∙ ap (λ b. top 7 (cond (not b) 255 0)) u)) ]
+
+lanes_divided : (d y n : ℕ) (xs : List ℕ) → length xs ≡ n
+    → map (top 7) (zip2 differs (zip2 (λ a b. a / b) xs (replicate n d)) (replicate n y)) ≡ map (λ x. top 7 (differs (x / d) y)) xs
+lanes_divided d y zero [] e = refl
+lanes_divided d y (suc n) [] e = refl
+lanes_divided d y zero (x ∷ xs) e = absurd (omega arith)
+lanes_divided d y (suc n) (x ∷ xs) e = ap (λ ms. top 7 (differs (x / d) y) ∷ ms) (lanes_divided d y n xs (omega arith))
+
+module _ (d y : ℕ) (Q : ℕ → Type 0) (kind : (x : ℕ) → x / d ≡ y → Q x) (xs : List ℕ) (long : length xs ≡ 8) where
+  abbrev is_other : ℕ → Bool
+  is_other x = top 7 (differs (x / d) y)
+
+  kinds_are : kinds d y xs ≡ mask_l (map is_other xs)
+  kinds_are = ap (λ ms. mask_l ms % 2 ^ 64) (lanes_divided d y 8 xs long) ∙ mask_l-mod (map is_other xs) 64 (omega (arith, length-map xs is_other, long))
+
+  own : (x : ℕ) → is_other x ≡ false → Q x
+  own x h = kind x (same_kind (x / d) y h)
+
+  pub all_of_kind : kinds d y xs ≡ 0 → Each1 Q (take 8 xs)
+  all_of_kind = all_off is_other Q own xs (omega (arith, long)) (kinds d y xs) kinds_are 8 (omega (arith, long))
+
+  pub kind_within : ¬ (kinds d y xs ≡ 0) → count_trailing_zeros 64 (kinds d y xs) ≤ 8
+  kind_within e = omega (arith, long, off_within is_other Q own xs (omega (arith, long)) (kinds d y xs) kinds_are e)
+
+  pub front_of_kind : ¬ (kinds d y xs ≡ 0) → Each1 Q (take (count_trailing_zeros 64 (kinds d y xs)) xs)
+  front_of_kind = front_off is_other Q own xs (omega (arith, long)) (kinds d y xs) kinds_are
 
 -- lanes against one number in all lanes
 pub each2_splat : (P : ℕ → ℕ → Type 0) (y : ℕ) → ((x : ℕ) → P x y) → (n : ℕ) (xs : List ℕ) → length xs ≡ n → Each2 P xs (replicate n y)

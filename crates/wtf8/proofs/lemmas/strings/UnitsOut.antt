@@ -3,7 +3,12 @@ use Rattle.wtf8.proofs.Common.{◌≡◌, ℕ, zero, suc, ◌<◌, ◌≤◌, Li
 use Rattle.wtf8.proofs.Common.{encoding, bytes, length-append, Wtf8}
 use Rattle.wtf8.specs.View.{view_points}
 use Rattle.wtf8.proofs.lemmas.numbers.Encoding.{row_of, one, two, three, four, length-encoding_bounds}
-use Rattle.wtf8.proofs.lemmas.numbers.Readings.{first_of, units-cons_one}
+use Rattle.wtf8.proofs.Common.{◌+◌, ◌*◌, ◌%◌, subst, Each1, drop_at, drop-drop, length-drop, length-take, take-append-drop, append_assoc}
+use Rattle.std.proofs.Math.Seq.{take-append-add}
+use Rattle.std.proofs.lemmas.List.{get_or_append_left, drop-append-le}
+use native.Mathlib.Nat.{mul-suc}
+use Rattle.wtf8.specs.UnitRows.{BeginsTwo, BeginsThree, firsts_of, unit_of_two, unit_of_three, units_of_rows}
+use Rattle.wtf8.proofs.lemmas.numbers.Readings.{first_of, moved, units-cons_one}
 
 -- a first byte of ASCII is a code point
 ascii_first : (b : ℕ) (v : List ℕ) (p : ℕ) (r : List ℕ) → b < 0x80 → b ∷ v ≡ encoding p ++ r → (p ≡ b) × (r ≡ v)
@@ -37,3 +42,97 @@ pub behind_first : (v r : Wtf8) (p : ℕ) → view_points v ≡ p ∷ view_point
 behind_first v r p e =
     let whole = sym v.well_formed.encoded ∙ ap bytes e in
     omega (arith, ap length whole, length-append (encoding p) (bytes r.well_formed.points), ap length r.well_formed.encoded, length-encoding_bounds p)
+
+-- the string behind some bytes with these units
+pub record Behind (w v : List ℕ) (at : ℕ) (h : IsWellFormed w) : Type 0 where
+  pub rest : IsWellFormed (drop at w)
+  pub whole : units h.points ≡ v ++ units rest.points
+
+-- a code point of n bytes and one unit, which is read from its bytes
+pub record Part (n : ℕ) (f : List ℕ → ℕ) (p : ℕ) (r : List ℕ) : Type 0 where
+  pub width : length (encoding p) ≡ n
+  pub read : f (encoding p ++ r) ≡ p
+  pub one_unit : p < 0x10000
+
+-- what a first byte tells of a code point, and that its unit is read from n bytes
+pub record Rows (n : ℕ) (P : ℕ → Type 0) (f : List ℕ → ℕ) : Type 0 where
+  pub some : 0 < n
+  pub part : (p : ℕ) (r : List ℕ) → P (get_or (encoding p ++ r) 0 0) → Part n f p r
+  pub local : (b r : List ℕ) → n ≤ length b → f (b ++ r) ≡ f b
+
+pub two_rows : Rows 2 BeginsTwo unit_of_two
+two_rows = record {
+  some = omega arith;
+  part = part;
+  local = λ b r le. ap (λ x. x % 32 * 64 + get_or (b ++ r) 1 0 % 64) (get_or_append_left b r 0 0 (omega arith))
+      ∙ ap (λ y. get_or b 0 0 % 32 * 64 + y % 64) (get_or_append_left b r 0 1 (omega arith));
+}
+  where
+    part : (p : ℕ) (r : List ℕ) → BeginsTwo (get_or (encoding p ++ r) 0 0) → Part 2 unit_of_two p r
+    part p r h = elim (row_of p) [
+      | one l e ↦ absurd (omega (arith, rw e at h.0))
+      | two _ l e ↦ record { width = ap length e; read = ap (λ w. unit_of_two (w ++ r)) e ∙ omega arith; one_unit = omega arith }
+      | three l _ e ↦ absurd (omega (arith, rw e at h.1))
+      | four l e ↦ absurd (omega (arith, rw e at h.1))
+    ]
+
+pub three_rows : Rows 3 BeginsThree unit_of_three
+three_rows = record {
+  some = omega arith;
+  part = part;
+  local = λ b r le.
+      ap (λ x. (x % 16 * 64 + get_or (b ++ r) 1 0 % 64) * 64 + get_or (b ++ r) 2 0 % 64) (get_or_append_left b r 0 0 (omega arith))
+      ∙ (ap (λ y. (get_or b 0 0 % 16 * 64 + y % 64) * 64 + get_or (b ++ r) 2 0 % 64) (get_or_append_left b r 0 1 (omega arith))
+      ∙ ap (λ z. (get_or b 0 0 % 16 * 64 + get_or b 1 0 % 64) * 64 + z % 64) (get_or_append_left b r 0 2 (omega arith)));
+}
+  where
+    part : (p : ℕ) (r : List ℕ) → BeginsThree (get_or (encoding p ++ r) 0 0) → Part 3 unit_of_three p r
+    part p r h = elim (row_of p) [
+      | one l e ↦ absurd (omega (arith, rw e at h.0))
+      | two _ l e ↦ absurd (omega (arith, rw e at h.0))
+      | three _ l e ↦ record { width = ap length e; read = ap (λ w. unit_of_three (w ++ r)) e ∙ omega arith; one_unit = l }
+      | four l e ↦ absurd (omega (arith, rw e at h.1))
+    ]
+
+-- behind some code points of n bytes each, whose first bytes are so
+pub behind_rows : {P : ℕ → Type 0} (n : ℕ) (f : List ℕ → ℕ) → Rows n P f → (c k at : ℕ) (w b r : List ℕ) (h : IsWellFormed w) → w ≡ b ++ r
+    → n * c ≤ length b → at ≡ n * k → k ≤ c → Each1 P (take k (firsts_of n c b)) → Behind w (take k (units_of_rows n f c b)) at h
+behind_rows n f rows c zero at w b r h e long same le each =
+    let none : at ≡ 0 = omega (arith, same) in
+    record { rest = moved h (ap (λ k. drop k w) none); whole = refl }
+behind_rows n f rows zero (suc k) at w b r h e long same le each = absurd (omega arith)
+behind_rows {P} n f rows (suc c) (suc k) at w b r h e long same le each =
+    let wide : n * suc c ≡ n + n * c = omega (arith, mul-suc n c) in
+    let fits : n ≤ length b = omega (arith, long, wide) in
+    let first = first_of h (omega (arith, ap length e, length-append b r, rows.some, fits)) in
+    let p = first.begins.point in
+    let begins = ap (λ v. get_or v 0 0) (sym e ∙ first.begins.encoded) in
+    let part = rows.part p first.begins.rest (subst P (sym (get_or_append_left b r 0 0 (omega (arith, rows.some, fits))) ∙ begins) each.0) in
+    let value : p ≡ f b = sym part.read ∙ (ap f (sym first.begins.encoded ∙ e) ∙ rows.local b r fits) in
+    let cut : drop n w ≡ first.begins.rest = ap (drop n) first.begins.encoded ∙ drop_at (encoding p) first.begins.rest n part.width in
+    let behind = behind_rows n f rows c k (n * k) (drop n w) (drop n b) r
+    (record { points = first.rest; clean = first.clean; encoded = first.encoded ∙ sym cut }) (ap (drop n) e ∙ drop-append-le n b r fits)
+    (omega (arith, long, wide, length-drop n b)) refl (omega (arith, le)) each.1 in
+    let further : n * suc k ≡ n + n * k = omega (arith, mul-suc n k) in
+    let end : drop at w ≡ drop (n * k) (drop n w) = ap (λ m. drop m w) (same ∙ further) ∙ sym (drop-drop (n * k) n w) in
+    record {
+      rest = moved behind.rest end;
+      whole = ap units first.points ∙ (units-cons_one p first.rest part.one_unit
+          ∙ (ap (λ m. m ∷ units first.rest) value ∙ ap (λ u. f b ∷ u) behind.whole));
+    }
+
+-- the string behind a part of a block of a view's first bytes
+pub behind_block : {P : ℕ → Type 0} (n m : ℕ) (f : List ℕ → ℕ) → Rows n P f → (view : Wtf8) (count at : ℕ) (firsts : List ℕ) → n * 8 ≤ m
+    → m ≤ length view.bytes.now → at ≡ n * count → count ≤ 8 → firsts ≡ firsts_of n 8 (take m view.bytes.now) → Each1 P (take count firsts)
+    → Behind view.bytes.now (take count (units_of_rows n f 8 (take m view.bytes.now))) at view.well_formed
+behind_block {P} n m f rows view count at firsts wide long same le e each =
+    let w = view.bytes.now in
+    behind_rows n f rows 8 count at w (take m w) (drop m w) view.well_formed (sym (take-append-drop m w)) (omega (arith, wide, long, length-take m w)) same le
+    (subst (λ v. Each1 P (take count v)) e each)
+
+-- a block behind what was there, cut, and what is left of the string
+pub block_cut : (old rows block all new rest whole : List ℕ) (len count : ℕ) → all ≡ old ++ block → block ≡ rows → len ≡ length old
+    → new ≡ take (len + count) all → whole ≡ take count rows ++ rest → new ++ rest ≡ old ++ whole
+block_cut old rows block all new rest whole len count e g same cut h =
+    ap (λ u. u ++ rest) (cut ∙ (ap (take (len + count)) (e ∙ ap (λ u. old ++ u) g) ∙ (ap (λ n. take (n + count) (old ++ rows)) same ∙ take-append-add old rows count)))
+    ∙ (append_assoc old (take count rows) rest ∙ ap (λ u. old ++ u) (sym h))

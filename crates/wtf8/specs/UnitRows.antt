@@ -1,0 +1,28 @@
+-- For private functions: code points of equally many bytes, one behind the other, and their units.
+use Rattle.std.specs.Prelude.{ℕ, zero, suc, ◌+◌, ◌*◌, ◌%◌, ◌<◌, ◌≤◌, List, [], ◌∷◌, drop, get_or}
+
+-- A byte that begins a code point of two bytes (Unicode 3.9, "UTF-8", Table 3-6).
+abbrev pub BeginsTwo : ℕ → Type 0
+BeginsTwo b = (0xC0 ≤ b) × (b < 0xE0)
+
+-- A byte that begins a code point of three bytes (Unicode 3.9, "UTF-8", Table 3-6).
+abbrev pub BeginsThree : ℕ → Type 0
+BeginsThree b = (0xE0 ≤ b) × (b < 0xF0)
+
+-- The first bytes of so many parts of n bytes each.
+abbrev pub firsts_of : ℕ → ℕ → List ℕ → List ℕ
+firsts_of n zero w = []
+firsts_of n (suc k) w = get_or w 0 0 ∷ firsts_of n k (drop n w)
+
+-- The unit that bytes of a code point of two bytes hold: the low five and six bits (Unicode 3.9, "UTF-8", Table 3-6).
+abbrev pub unit_of_two : List ℕ → ℕ
+unit_of_two w = get_or w 0 0 % 32 * 64 + get_or w 1 0 % 64
+
+-- The unit that bytes of a code point of three bytes hold: the low four, six and six bits (Unicode 3.9, "UTF-8", Table 3-6).
+abbrev pub unit_of_three : List ℕ → ℕ
+unit_of_three w = (get_or w 0 0 % 16 * 64 + get_or w 1 0 % 64) * 64 + get_or w 2 0 % 64
+
+-- The units of so many parts of n bytes each.
+abbrev pub units_of_rows : ℕ → (List ℕ → ℕ) → ℕ → List ℕ → List ℕ
+units_of_rows n f zero w = []
+units_of_rows n f (suc k) w = f w ∷ units_of_rows n f k (drop n w)
