@@ -18,6 +18,9 @@ use std::simd::prelude::*;
 /// How many bytes are counted together where all are.
 const HALF_BLOCK: usize = BLOCK / 2;
 
+/// How many bytes are counted together last of all.
+const HALF_VECTOR: usize = VECTOR / 2;
+
 /// How many blocks are added lane by lane before they are summed; a lane of each is at most 2.
 const ADDED: usize = 8;
 
@@ -206,15 +209,28 @@ fn count_units(bytes: &[u8]) -> usize
     requires { all_units_begun bytes.now < 2 ^ 64 }
     ensures { result ≡ all_units_begun bytes.now }
 {
-    let Place {
-        mut at,
-        mut units_before,
-    } = behind_added_blocks(bytes);
-    while HALF_BLOCK <= bytes.len() - at {
-        units_before += units_begun_in_block(Simd::<u8, HALF_BLOCK>::from_slice(&bytes[at..]));
-        at += HALF_BLOCK;
+    if bytes.len() < HALF_BLOCK {
+        let start = Place {
+            at: 0,
+            units_before: 0,
+        };
+        return count_units_from(bytes, start);
     }
-    count_units_from(bytes, Place { at, units_before })
+    count_units_of_many(bytes)
+}
+
+/// The same. It stands by itself, so that a short string costs little.
+#[inline(never)]
+fn count_units_of_many(bytes: &[u8]) -> usize
+    requires { all_units_begun bytes.now < 2 ^ 64 }
+    ensures { result ≡ all_units_begun bytes.now }
+{
+    let mut place = behind_added_blocks(bytes);
+    while let Some(behind) = behind_block::<HALF_BLOCK>(bytes, usize::MAX, place) {
+        place = behind;
+    }
+    let place = behind_block::<HALF_VECTOR>(bytes, usize::MAX, place).unwrap_or(place);
+    count_units_from(bytes, place)
 }
 
 /// Where a number of units ends in a string: a position in bytes, and the supplementary code point that begins there

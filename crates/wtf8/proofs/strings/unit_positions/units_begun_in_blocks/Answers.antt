@@ -34,7 +34,7 @@ loop-block-preserved c =
       omega (arith, sums_grow lanes xs same, c.loop-block.invariant.0, more),
       length-zip2 (λ a b. a + b) lanes (map units_begun xs) (same ∙ sym (length_same xs)) ∙ c.loop-block.invariant.1,
       subst (λ n. Each1 (λ a. a ≤ n) (zip2 (λ a b. a + b) lanes (map units_begun xs))) (omega arith)
-      (lanes_grow (c.loop-block.block * 2) lanes xs c.loop-block.invariant.2),
+          (lanes_grow (c.loop-block.block * 2) lanes xs c.loop-block.invariant.2),
     )
 
 most : (n : ℕ) (xs : List ℕ) → n ≤ 8 → Each1 (λ a. a ≤ n * 2) xs → Each1 (λ a. a ≤ 16) xs

@@ -1,9 +1,0 @@
-use Rattle.wtf8.proofs.Common.{◌≡◌, ◌≤◌, ◌-◌, length, take, all_units_begun}
-use Rattle.wtf8.proofs.strings.unit_positions.count_units.Given as goal
-
--- the units so far are counted
-abbrev pub invariant-loop-at : goal.invariant-loop-at
-invariant-loop-at l = (l.at ≤ length l.bytes) × (l.units_before ≡ all_units_begun (take l.at l.bytes))
-
-abbrev pub decreases-loop-at : goal.decreases-loop-at
-decreases-loop-at l = length l.bytes - l.at
