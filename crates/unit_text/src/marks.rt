@@ -1,6 +1,6 @@
 // The marks of a text, by which its units are found without counting from its front.
 ghost use Rattle.std.specs.List.{All};
-ghost use Rattle.std.specs.Prelude.{◌≡◌, ◌+◌, ◌≤◌, length, take, drop, IfSome};
+ghost use Rattle.std.specs.Prelude.{◌≡◌, ◌+◌, ◌≤◌, length, take, drop, slice_get, IfSome};
 ghost use Rattle.unit_text.specs.Marks.{IsKept};
 ghost use Rattle.wtf8.specs.UnitMark.{IsMark};
 ghost use Rattle.wtf8.specs.UnitPosition.{units_of_slice};
@@ -10,7 +10,7 @@ use std::alloc::Allocator;
 use wtf8::{UnitMark, UnitSlice, Wtf8, Wtf8Buf, laws};
 
 /// How many units are between one mark and the next. A text of no more has none.
-const SPACING: usize = 128;
+pub(crate) const SPACING: usize = 128;
 
 /// How many units at the front of a short text are found at once without a mark.
 const FRONT: usize = 8;
@@ -51,7 +51,7 @@ fn mark_before<A: Allocator>(
 /// A view of the text's end in which a number of units is near the front, and that number there. A text that is too short
 /// for marks is looked at as it is, unless it has as many bytes as units and the number is not at its front already.
 #[inline(always)]
-pub(crate) fn near<'a, A: Allocator>(
+fn near<'a, A: Allocator>(
     text: &'a Wtf8Buf<A>,
     count: usize,
     marks: &Option<Vec<UnitMark, A>>,
@@ -66,25 +66,25 @@ pub(crate) fn near<'a, A: Allocator>(
     if count <= SPACING && (units < FRONT || text.len() != count) {
         return (text.as_wtf8(), units);
     }
-    near_by_mark(text, count, marks, units)
-}
-
-/// The same from a mark on. It stands by itself, so that what is near the front costs little.
-#[inline(never)]
-fn near_by_mark<'a, A: Allocator>(
-    text: &'a Wtf8Buf<A>,
-    count: usize,
-    marks: &Option<Vec<UnitMark, A>>,
-    units: usize,
-) -> (Wtf8<'a>, usize)
-    requires counted { count ≡ length text.now.units }
-    requires marks { IfSome marks.now (λ kept. All (IsKept text.now.bytes text.now.units) kept.items) }
-    requires within { units ≤ count }
-    ensures units { drop result.1 (view_units result.0) ≡ drop units text.now.units }
-    ensures within { result.1 ≤ length (view_units result.0) }
-{
     let mark = mark_before(text, count, marks, units);
     (text.as_wtf8().behind_mark(mark), units - mark.units)
+}
+
+/// The unit of a number. It stands by itself, so that a short text costs little.
+#[inline(never)]
+pub(crate) fn unit_at<A: Allocator>(
+    text: &Wtf8Buf<A>,
+    count: usize,
+    marks: &Option<Vec<UnitMark, A>>,
+    number: usize,
+) -> Option<u16>
+    requires counted { count ≡ length text.now.units }
+    requires marks { IfSome marks.now (λ kept. All (IsKept text.now.bytes text.now.units) kept.items) }
+    requires within { number ≤ count }
+    ensures { result ≡ slice_get text.now.units number }
+{
+    let (view, at) = near(text, count, marks, number);
+    view.unit_at(at)
 }
 
 /// So many units from a number on.

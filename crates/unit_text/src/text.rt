@@ -77,8 +77,13 @@ impl<A: Allocator> UnitText<A> {
         if self.count <= i {
             return None;
         }
-        let (view, at) = marks::near(&self.text, self.count, &self.marks, i);
-        view.unit_at(at)
+        if self.text.len() == self.count {
+            return Some(self.text.as_wtf8().ascii_unit_at(i));
+        }
+        if self.count <= marks::SPACING {
+            return self.text.as_wtf8().unit_at(i);
+        }
+        marks::unit_at(&self.text, self.count, &self.marks, i)
     }
 
     /// The units from a position to before another, as a text with the allocator that is given. Where a pair is cut its

@@ -12,8 +12,20 @@ fn has_units(text: Wtf8<'_>, units: &[u16]) -> bool {
         if text.unit_at(n) != units.get(n).copied() {
             return false;
         }
+        if n < units.len() && ascii_unit(text, n).is_some_and(|unit| unit != units[n]) {
+            return false;
+        }
     }
     text.unit_len() == units.len()
+}
+
+/// The unit of a number, where a string has as many bytes as units and more than so many.
+fn ascii_unit(text: Wtf8<'_>, n: usize) -> Option<u16> {
+    if text.len() == text.unit_len() && n < text.len() {
+        Some(text.ascii_unit_at(n))
+    } else {
+        None
+    }
 }
 
 /// Fails unless the slice between two numbers of units, which are in order, is that of the list.

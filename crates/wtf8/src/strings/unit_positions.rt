@@ -1,5 +1,5 @@
 // Positions counted in 16-bit units.
-ghost use Rattle.std.specs.Prelude.{◌≡◌, ◌++◌, ◌+◌, ◌-◌, ◌/◌, ◌%◌, ◌^◌, ◌<◌, ◌≤◌, length, take, drop, slice_get, Some, IfSome, IfNone, IsSome, ◌↔◌};
+ghost use Rattle.std.specs.Prelude.{◌≡◌, ◌++◌, ◌+◌, ◌-◌, ◌*◌, ◌/◌, ◌%◌, ◌^◌, ◌<◌, ◌≤◌, length, map, take, drop, slice_get, Some, IfSome, IfNone, IsSome, ◌↔◌};
 ghost use Rattle.std.specs.Option.{option_to_list};
 ghost use Rattle.wtf8.specs.Form.{encoding};
 ghost use Rattle.wtf8.specs.Unicode.{IsLead};
@@ -21,6 +21,9 @@ const HALF_BLOCK: usize = BLOCK / 2;
 /// How many bytes are counted together last of all.
 const HALF_VECTOR: usize = VECTOR / 2;
 
+/// How many blocks are added lane by lane before they are summed; a lane of each is at most 2.
+const ADDED: usize = 8;
+
 /// A place among bytes, and how many units begin before it.
 #[derive(Clone, Copy)]
 struct Place {
@@ -40,18 +43,39 @@ fn units_begun_by(byte: u8) -> usize
     }
 }
 
+/// The same for each of `N` bytes.
+#[inline(always)]
+fn units_begun_by_each<const N: usize>(bytes: Simd<u8, N>) -> Simd<u8, N>
+    ensures { result ≡ map units_begun bytes.entry }
+{
+    let zero = Simd::<u8, N>::splat(0);
+    let one = Simd::<u8, N>::splat(1);
+    let begins = bytes.simd_lt(Simd::splat(0x80)) | bytes.simd_ge(Simd::splat(0xC0));
+    let pairs = bytes.simd_ge(Simd::splat(0xF0));
+    begins.select(one, zero).strict_add(pairs.select(one, zero))
+}
+
 /// The same for a block of `N` bytes together.
 #[inline(always)]
 fn units_begun_in_block<const N: usize>(bytes: Simd<u8, N>) -> usize
     requires { N ≤ u64.BITS }
     ensures { result ≡ all_units_begun bytes.entry }
 {
-    let zero = Simd::<u8, N>::splat(0);
-    let one = Simd::<u8, N>::splat(1);
-    let begins = bytes.simd_lt(Simd::splat(0x80)) | bytes.simd_ge(Simd::splat(0xC0));
-    let pairs = bytes.simd_ge(Simd::splat(0xF0));
-    let counts = begins.select(one, zero).strict_add(pairs.select(one, zero));
-    usize::from(counts.strict_reduce_sum())
+    usize::from(units_begun_by_each(bytes).strict_reduce_sum())
+}
+
+/// The same for `ADDED` blocks from a place on.
+#[inline(always)]
+fn units_begun_in_blocks(bytes: &[u8], at: usize) -> usize
+    requires { at + ADDED * BLOCK ≤ length bytes.now }
+    ensures { result ≡ all_units_begun (take (ADDED * BLOCK) (drop at bytes.now)) }
+{
+    let mut lanes = Simd::<u8, BLOCK>::splat(0);
+    for block in 0..ADDED {
+        let bytes = Simd::<u8, BLOCK>::from_slice(&bytes[at + block * BLOCK..]);
+        lanes = lanes.strict_add(units_begun_by_each(bytes));
+    }
+    usize::from(lanes.cast::<u16>().strict_reduce_sum())
 }
 
 /// The place of the code point that holds a unit, in the bytes from a place on that has no more units before it; or the
@@ -140,8 +164,7 @@ fn behind_blocks_of_many(bytes: &[u8], unit: usize) -> Place
         place = behind;
     }
     let place = behind_block::<HALF_BLOCK>(bytes, unit, place).unwrap_or(place);
-    let place = behind_block::<VECTOR>(bytes, unit, place).unwrap_or(place);
-    behind_block::<HALF_VECTOR>(bytes, unit, place).unwrap_or(place)
+    behind_block::<VECTOR>(bytes, unit, place).unwrap_or(place)
 }
 
 /// The place of the code point that holds a unit, or the end, where the bytes have no such unit.
@@ -165,18 +188,49 @@ fn count_units_from(bytes: &[u8], from: Place) -> usize
     units
 }
 
+/// The place behind all blocks that are added lane by lane.
+#[inline(always)]
+fn behind_added_blocks(bytes: &[u8]) -> Place
+    requires { all_units_begun bytes.now < 2 ^ 64 }
+    ensures within { result.at ≤ length bytes.now }
+    ensures counted { result.units_before ≡ all_units_begun (take result.at bytes.now) }
+{
+    let mut at = 0;
+    let mut units_before = 0;
+    while ADDED * BLOCK <= bytes.len() - at {
+        units_before += units_begun_in_blocks(bytes, at);
+        at += ADDED * BLOCK;
+    }
+    Place { at, units_before }
+}
+
 /// How many units begin among the bytes.
 fn count_units(bytes: &[u8]) -> usize
     requires { all_units_begun bytes.now < 2 ^ 64 }
     ensures { result ≡ all_units_begun bytes.now }
 {
-    let mut at = 0;
-    let mut units_before = 0;
-    while HALF_BLOCK <= bytes.len() - at {
-        units_before += units_begun_in_block(Simd::<u8, HALF_BLOCK>::from_slice(&bytes[at..]));
-        at += HALF_BLOCK;
+    if bytes.len() < HALF_BLOCK {
+        let start = Place {
+            at: 0,
+            units_before: 0,
+        };
+        return count_units_from(bytes, start);
     }
-    count_units_from(bytes, Place { at, units_before })
+    count_units_of_many(bytes)
+}
+
+/// The same. It stands by itself, so that a short string costs little.
+#[inline(never)]
+fn count_units_of_many(bytes: &[u8]) -> usize
+    requires { all_units_begun bytes.now < 2 ^ 64 }
+    ensures { result ≡ all_units_begun bytes.now }
+{
+    let mut place = behind_added_blocks(bytes);
+    while let Some(behind) = behind_block::<HALF_BLOCK>(bytes, usize::MAX, place) {
+        place = behind;
+    }
+    let place = behind_block::<HALF_VECTOR>(bytes, usize::MAX, place).unwrap_or(place);
+    count_units_from(bytes, place)
 }
 
 /// Where a number of units ends in a string: a position in bytes, and the supplementary code point that begins there
@@ -316,6 +370,15 @@ impl<'a> Wtf8<'a> {
             return Some(unit);
         }
         unit_by_cut(*self, index)
+    }
+
+    /// The unit of a number below that of all units, where the string has as many bytes as units, so that each byte is one.
+    pub fn ascii_unit_at(&self, index: usize) -> u16
+        requires ascii { length self.now.bytes.now ≡ length (view_units self.now) }
+        requires within { index < length (view_units self.now) }
+        ensures { slice_get (view_units self.now) index ≡ Some result }
+    {
+        u16::from(self.bytes[index])
     }
 
     /// The units from one number to before another. Where either divides a pair, the pair's half stands beside the

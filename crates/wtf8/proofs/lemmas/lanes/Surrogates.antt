@@ -4,12 +4,12 @@ use Rattle.wtf8.proofs.Common.{replicate, w8, inl, inr, sym, ap, ◌∙◌, arit
 use Rattle.wtf8.proofs.Common.{length-chunk, get_or-chunk, mask_l-mod, tops_compared, chunk, sel_l, zip2, mask_l, top, SurrogateAt, ◌||◌, bit_or, Fits, refl, lt-leb}
 use Rattle.wtf8.proofs.Common.{Each1, all_units_begun}
 use Rattle.std.proofs.Common.{◌≡◌, ℕ, zero, suc, ◌+◌, ◌-◌, ◌%◌, ◌^◌, ◌<◌, ◌≤◌, eqb, leb, Bool, true, false, cond, ◌&&◌, List, [], ◌∷◌, map, length, get_or}
-use Rattle.std.proofs.Common.{replicate, bit_and, w8, refl, sym, ap, ◌∙◌, subst, arith}
+use Rattle.std.proofs.Common.{replicate, bit_and, w8, w16, refl, sym, ap, ◌∙◌, subst, arith}
 use Rattle.std.proofs.lemmas.Bool.{and_parts, and_from, both_ways, leb-true, le-leb, eq-eqb, eqb-true}
 use Rattle.std.proofs.lemmas.List.{length-replicate}
 use Rattle.std.proofs.lemmas.List.Sums.{sum_by-cons}
 use Rattle.std.proofs.lemmas.Simd.{length-zip2, get_or-zip2, length-chunk, get_or-chunk, mask_l-mod, bitmask_splat}
-use Rattle.std.proofs.lemmas.Simd.{none_from_empty_mask, length-sel_l, get_or-sel_l, Each2-of, fold-sum, sum_bound, sum_fits}
+use Rattle.std.proofs.lemmas.Simd.{none_from_empty_mask, length-sel_l, get_or-sel_l, Each2-of, fold-sum, sum_bound, sum_fits, sum-zip2}
 use lib.Lanes.{chunk, zip2, mask_l, top, Each2, Steps, fold_l, sum_l}
 use Rattle.wtf8.proofs.lemmas.lanes.Scan.{compared_marks}
 use Rattle.wtf8.specs.Scan.{Marks, Nowhere, Tells}
@@ -230,7 +230,7 @@ at_most_two : (xs : List ℕ) → Each1 (λ a. a ≤ 2) (map units_begun xs)
 at_most_two [] = tt
 at_most_two (x ∷ xs) = (begun_most x, at_most_two xs)
 
-length_same : (xs : List ℕ) → length (map units_begun xs) ≡ length xs
+pub length_same : (xs : List ℕ) → length (map units_begun xs) ≡ length xs
 length_same [] = refl
 length_same (x ∷ xs) = ap (λ n. suc n) (length_same xs)
 
@@ -239,12 +239,28 @@ sum_same [] = refl
 sum_same (x ∷ xs) = ap (λ n. units_begun x + n) (sum_same xs) ∙ sym (sum_by-cons units_begun x xs)
 
 -- so does the sum of all lanes
-pub sum_fits_byte : (n : ℕ) (xs : List ℕ) → n ≤ 64 → length xs ≡ n → Steps (λ s x. Fits w8 (s + x)) (λ s x. s + x) 0 (counts n xs)
-sum_fits_byte n xs h e =
+pub sum_fits_byte : (xs : List ℕ) → length xs ≤ 64 → Steps (λ s x. Fits w8 (s + x)) (λ s x. s + x) 0 (map units_begun xs)
+sum_fits_byte xs h =
     let bound = sum_bound 2 (map units_begun xs) (at_most_two xs) in
-    rw (counts_are n xs e) (sum_fits w8 0 (map units_begun xs) (omega (arith, length_same xs)))
+    sum_fits w8 0 (map units_begun xs) (omega (arith, length_same xs))
 
-pub sum_is : (n : ℕ) (xs : List ℕ) → length xs ≡ n → fold_l (λ s x. s + x) 0 (counts n xs) ≡ all_units_begun xs
-sum_is n xs e =
-    let added : fold_l (λ s x. s + x) 0 (map units_begun xs) ≡ all_units_begun xs = omega (arith, fold-sum 0 (map units_begun xs), sum_same xs) in
-    ap (fold_l (λ s x. s + x) 0) (counts_are n xs e) ∙ added
+pub sum_is : (xs : List ℕ) → fold_l (λ s x. s + x) 0 (map units_begun xs) ≡ all_units_begun xs
+sum_is xs = omega (arith, fold-sum 0 (map units_begun xs), sum_same xs)
+
+-- lanes to which the counts of a block are added
+pub lanes_fit_more : (most : ℕ) (lanes xs : List ℕ) → most + 2 ≤ 255 → Each1 (λ a. a ≤ most) lanes
+    → Each2 (λ a b. Fits w8 (a + b)) lanes (map units_begun xs)
+lanes_fit_more most lanes xs few h =
+    Each2-of (λ a. a ≤ most) (λ b. b ≤ 2) (λ a b. Fits w8 (a + b)) (λ a b l m. record { fits = omega arith }) lanes (map units_begun xs) h (at_most_two xs)
+
+pub lanes_grow : (most : ℕ) (lanes xs : List ℕ) → Each1 (λ a. a ≤ most) lanes → Each1 (λ a. a ≤ most + 2) (zip2 (λ a b. a + b) lanes (map units_begun xs))
+lanes_grow most [] xs h = tt
+lanes_grow most (a ∷ lanes) [] h = tt
+lanes_grow most (a ∷ lanes) (x ∷ xs) h = (omega (arith, h.0, begun_most x), lanes_grow most lanes xs h.1)
+
+pub sums_grow : (lanes xs : List ℕ) → length lanes ≡ length xs → sum_l (zip2 (λ a b. a + b) lanes (map units_begun xs)) ≡ sum_l lanes + all_units_begun xs
+sums_grow lanes xs e = omega (arith, sum-zip2 lanes (map units_begun xs) (e ∙ sym (length_same xs)), sum_same xs)
+
+-- the sum of lanes that eight blocks were added to
+pub sum_fits_two_bytes : (lanes : List ℕ) → length lanes ≡ 64 → Each1 (λ a. a ≤ 16) lanes → Steps (λ s x. Fits w16 (s + x)) (λ s x. s + x) 0 lanes
+sum_fits_two_bytes lanes e h = sum_fits w16 0 lanes (omega (arith, sum_bound 16 lanes h, e))

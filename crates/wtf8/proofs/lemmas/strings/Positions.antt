@@ -169,6 +169,12 @@ middle_of h begin end p f b =
 pub begun_more : (w : List ℕ) (i n : ℕ) → all_units_begun (take (i + n) w) ≡ all_units_begun (take i w) + all_units_begun (chunk i n w)
 begun_more w i n = ap all_units_begun (take-add i n w) ∙ sum_by-append units_begun (take i w) (take n (drop i w))
 
+pub blocks_more : (w : List ℕ) (i m n k : ℕ) → m + n ≡ k → all_units_begun (chunk i k w) ≡ all_units_begun (chunk i m w) + all_units_begun (chunk (i + m) n w)
+blocks_more w i m n k e =
+    let ends : i + m + n ≡ i + k = omega (arith, e) in
+    let same = ap (λ j. all_units_begun (take j w)) ends in
+    omega (arith, begun_more w i k, begun_more w i m, begun_more w (i + m) n, same)
+
 -- the bytes of a code point begin its units, and its first byte all of them
 pub begun_encoding : (p : ℕ) → all_units_begun (encoding p) ≡ length (units_of p)
 begun_encoding p = elim (row_of p) [

@@ -131,6 +131,23 @@ equal_counts w u k f e h =
     let x = one_each f.points k same (omega (arith, ap length f.encoded, h)) in
     mark_of f x.front x.back k k x.joined x.front_len x.counted
 
+-- and the units are the bytes
+pub units_are_bytes : (c : List ℕ) → length (bytes c) ≡ length (units c) → units c ≡ bytes c
+units_are_bytes [] e = refl
+units_are_bytes (p ∷ c) e =
+    let bound = (units_bounds c).at_least in
+    let all_bytes = length-append (encoding p) (bytes c) in
+    let all_units = length-append (units_of p) (units c) in
+    elim (row_of p) [
+      | one l r ↦
+          let unit = units_one p (omega arith) in
+          let more = units_are_bytes c (omega (arith, e, all_bytes, all_units, ap length r, ap length unit)) in
+          ap (λ u. u ++ units c) unit ∙ (ap (λ u. p ∷ u) more ∙ sym (ap (λ w. w ++ bytes c) r))
+      | two l g r ↦ absurd (omega (arith, e, all_bytes, all_units, bound, ap length r, ap length (units_one p (omega arith))))
+      | three l g r ↦ absurd (omega (arith, e, all_bytes, all_units, bound, ap length r, ap length (units_one p g)))
+      | four l r ↦ absurd (omega (arith, e, all_bytes, all_units, bound, ap length r, ap length (units_two p l)))
+    ]
+
 -- what is glued behind the last code point leaves those before it
 glue_behind : (f b d : List ℕ) → 0 < length b → glue (f ++ b) d ≡ f ++ glue b d
 glue_behind [] b d h = refl

@@ -1,12 +1,10 @@
-use Rattle.std.proofs.Common.{◌∙◌}
-use Rattle.wtf8.proofs.lemmas.lanes.Surrogates.{begins, pairs, lanes_fit, sum_fits_byte, sum_is}
+use Rattle.std.proofs.Common.{◌∙◌, ◌+◌, ap, arith}
+use Rattle.wtf8.proofs.lemmas.lanes.Surrogates.{sum_fits_byte, sum_is}
 use Rattle.wtf8.proofs.strings.unit_positions.units_begun_in_block.Goals as goal
+use lib.Lanes.{fold_l}
 
-pub overflow_add-counts : goal.overflow_add-counts
-overflow_add-counts g c = lanes_fit g.row.N (begins g.row.N c.args.bytes) (pairs g.row.N c.args.bytes)
-
-pub overflow_add-counts-2 : goal.overflow_add-counts-2
-overflow_add-counts-2 g c = sum_fits_byte g.row.N c.args.bytes c.requires c.fits-bytes.0
+pub overflow_add-units_begun_by_each : goal.overflow_add-units_begun_by_each
+overflow_add-units_begun_by_each g c = rw c.units_begun_by_each.ensures (sum_fits_byte c.args.bytes (omega (arith, c.requires, c.fits-bytes.0)))
 
 pub returns : goal.returns
-returns g c = c.from.ensures ∙ sum_is g.row.N c.args.bytes c.fits-bytes.0
+returns g c = c.from.ensures ∙ (ap (fold_l (λ s x. s + x) 0) c.units_begun_by_each.ensures ∙ sum_is c.args.bytes)

@@ -1,5 +1,5 @@
 use Rattle.wtf8.proofs.Common.{◌≡◌, ◌≤◌, ◌-◌, length, take, all_units_begun}
-use Rattle.wtf8.proofs.strings.unit_positions.count_units.Given as goal
+use Rattle.wtf8.proofs.strings.unit_positions.behind_added_blocks.Given as goal
 
 -- the units so far are counted
 abbrev pub invariant-loop-at : goal.invariant-loop-at
