@@ -194,9 +194,10 @@ function randomReplacement(below) {
   return randomUnits(below).slice(0, 4);
 }
 
-// Units with spaces before and behind them.
+// Units with spaces before and behind them, and seldom what is only near to one.
 function spaced(units, below) {
-  const spaces = () => Array.from({ length: below(4) }, () => SPACES[below(SPACES.length)]);
+  const space = () => (below(6) === 0 ? ABOUT_SPACES[below(ABOUT_SPACES.length)] : SPACES[below(SPACES.length)]);
+  const spaces = () => Array.from({ length: below(4) }, space);
   return [...spaces(), ...units, ...spaces()];
 }
 
@@ -344,6 +345,7 @@ function longScript(units) {
   const calls = [['set', ...units], ['swap'], ...again, ['length'], ['compare']];
   for (let at = 0; at <= units.length + 1; at++) calls.push(['unitAt', at], ['charAt', at]);
   if (units.length < 40) calls.push(...makingCalls(units, again));
+  calls.push(['padStart', 3 * units.length - 1], ...again);
   for (const at of placesOf(units.length)) {
     calls.push(['substring', at + 3, at], ['substring', last + 3, Math.max(at, last - 9)], ['at', at], ['codePointAt', at]);
     calls.push(['slice', at, Math.min(at + 3, last + 1)], ...again);

@@ -7,9 +7,8 @@ use Rattle.wtf8_uses.proofs.engine_search.index_of.Goals as goal
 
 pub returns-then-stand_next-clause-some : goal.returns-then-stand_next-clause-some
 returns-then-stand_next-clause-some g c =
-    let i = c.loop-place.invariant in
-    let there = subst (λ z. take (length c.args.search.now) z ≡ c.args.search.now) i.0 (c.stand_next.ensures.0 c.if-stand_next.true) in
-    record { behind = search rules; stands = record { within = search rules; there = there }; no_earlier = i.1 }
+    let there = subst (λ z. take (length c.args.search.now) z ≡ c.args.search.now) c.loop-place.invariant.0 (c.stand_next.ensures.0 c.if-stand_next.true) in
+    record { behind = search rules; stands = record { within = search rules; there = there }; no_earlier = c.loop-place.invariant.1 }
 
 pub loop-place-preserved : goal.loop-place-preserved
 loop-place-preserved g c =
