@@ -41,6 +41,8 @@ mod unit_lists;
 #[cfg(test)]
 mod unit_order;
 #[cfg(test)]
+mod unit_runs;
+#[cfg(test)]
 mod unit_slices;
 #[cfg(test)]
 mod units_out;

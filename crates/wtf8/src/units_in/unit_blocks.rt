@@ -10,6 +10,9 @@ use crate::units_in::{NUMBERS, decode, mixed_blocks};
 use std::alloc::{AllocError, Allocator};
 use std::simd::prelude::*;
 
+/// How many ASCII units are written together in a run of them.
+const MANY: usize = 2 * NUMBERS;
+
 /// How many units of two or of three bytes are written together.
 const HALF: usize = NUMBERS / 2;
 
@@ -70,13 +73,34 @@ pub(crate) fn ascii_bytes(numbers: u32x16) -> Option<[u8; NUMBERS]>
     None
 }
 
-/// The bytes of the sixteen units from a place on, where there are so many and all of them are ASCII.
+/// Whether all of many units are ASCII.
 #[inline(always)]
-fn ascii_units(v: &[u16], at: usize) -> Option<[u8; NUMBERS]>
-    requires { at ≤ length v.now }
-    ensures { IfSome result (λ block. AreAscii block × (at + NUMBERS ≤ length v.now) × (block ≡ take NUMBERS (drop at v.now))) }
+fn are_ascii_units(units: Simd<u16, MANY>) -> bool
+    ensures { IsTrue result → AreAscii units }
 {
-    ascii_bytes(u16x16::from_array(units_from(v, at)?).cast())
+    units.simd_ge(Simd::splat(0x80)).to_bitmask() == 0
+}
+
+/// Many units below 0x80 as bytes.
+#[inline(always)]
+fn narrowed_units(units: Simd<u16, MANY>) -> [u8; MANY]
+    requires { AreAscii units }
+    ensures { result ≡ units }
+{
+    units.cast::<u8>().to_array()
+}
+
+/// The bytes of many units from a place on, where there are so many and all of them are ASCII.
+#[inline(always)]
+fn ascii_units(v: &[u16], at: usize) -> Option<[u8; MANY]>
+    requires { at ≤ length v.now }
+    ensures { IfSome result (λ block. AreAscii block × (at + MANY ≤ length v.now) × (block ≡ take MANY (drop at v.now))) }
+{
+    let units = Simd::<u16, MANY>::from_array(units_from(v, at)?);
+    if are_ascii_units(units) {
+        return Some(narrowed_units(units));
+    }
+    None
 }
 
 /// Whether all of eight units take two bytes.
@@ -230,7 +254,7 @@ fn append_cut<A: Allocator>(
     Ok(())
 }
 
-/// Appends the blocks of sixteen ASCII units from a place on, and answers where they end.
+/// Appends the blocks of many ASCII units from a place on, and answers where they end.
 #[inline(always)]
 fn append_ascii_blocks<A: Allocator>(
     bytes: &mut Vec<u8, A>,
@@ -243,12 +267,12 @@ fn append_ascii_blocks<A: Allocator>(
     let mut end = at;
     while let Some(block) = ascii_units(v, end) {
         bytes.extend_from_slice(&block)?;
-        end += NUMBERS;
+        end += MANY;
     }
     Ok(end)
 }
 
-/// Appends the ASCII units from a place on, as far as blocks of sixteen tell, and answers where they end.
+/// Appends the ASCII units from a place on, as far as blocks tell, and answers where they end.
 #[inline(always)]
 fn append_ascii<A: Allocator>(
     bytes: &mut Vec<u8, A>,
@@ -286,7 +310,7 @@ fn append_point<A: Allocator>(
     Ok((end, is_scalar))
 }
 
-/// Appends the bytes of the ASCII units from a place on, as far as blocks of sixteen tell, and of the code point behind them
+/// Appends the bytes of the ASCII units from a place on, as far as blocks tell, and of the code point behind them
 /// where that is not ASCII, and answers where these end and whether no surrogate is alone among them.
 #[inline(always)]
 fn append_front<A: Allocator>(

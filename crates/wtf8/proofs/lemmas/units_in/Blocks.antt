@@ -4,7 +4,9 @@ use Rattle.wtf8.proofs.Common.{bit_or, Fits, refl, sym, ap, ◌∙◌, arith, in
 use Rattle.wtf8.proofs.Common.{AreTwoByteUnits, AreThreeByteUnits, IsSurrogate, ◌+◌, ◌/◌, ◌++◌, flat_map, bytes, encoding, IsTrue, take, drop, get_or, subst}
 use Rattle.wtf8.proofs.Common.{length-append, get_or-append-add, take-append-drop, take_all, Each1-weaker, length-chunk, MeetsAsPair, IsClean, bytes-injective, drop-drop}
 use Rattle.wtf8.proofs.Common.{AreScalar, units, IsKnownForm, DividesNoPair, IsBlock, numbers, append_assoc, Ok, IsWellFormed, GainsUnits}
-use Rattle.std.proofs.Common.{w16, w32}
+use Rattle.std.proofs.Common.{w16}
+use mir.Syntax.{Width}
+use mir.Val.{bits, hbits}
 use Rattle.std.proofs.Math.Seq.{get_or-append_seam, take-add}
 use Rattle.std.proofs.lemmas.Bool.{leb-false, ltb-false, or_parts, and_cases}
 use Rattle.std.proofs.lemmas.List.{length-map}
@@ -39,10 +41,10 @@ none_set p P Q h xs few f same e =
     each_unset p P Q h xs f (sym whole ∙ ap (λ ms. mask_l ms % 2 ^ 64) (sym same) ∙ e)
 
 -- where no lane is set all numbers are below 80
-pub none_high : (xs : List ℕ) → length xs ≡ 16 → Each1 (Fits w32) xs
-    → mask_l (map (top 31) (zip2 (λ a b. cond (leb a b) 0xFFFFFFFF 0) (replicate 16 0x80) xs)) % 2 ^ 64 ≡ 0 → AreAscii xs
-none_high xs l f = none_set (leb 0x80) (Fits w32) (λ n. n < 0x80) (λ x _ u. leb-false 0x80 x u) xs (omega arith) f
-    (tops_compared w32 leb (replicate 16 0x80) xs ∙ zip2_splat_left leb 0x80 16 xs l)
+pub none_high : (w : Width) (n : ℕ) (xs : List ℕ) → n ≤ 64 → length xs ≡ n → Each1 (Fits w) xs
+    → mask_l (map (top (hbits w)) (zip2 (λ a b. cond (leb a b) (2 ^ bits w - 1) 0) (replicate n 0x80) xs)) % 2 ^ 64 ≡ 0 → AreAscii xs
+none_high w n xs few l f = none_set (leb 0x80) (Fits w) (λ n. n < 0x80) (λ x _ u. leb-false 0x80 x u) xs (omega (arith, few, l)) f
+    (tops_compared w leb (replicate n 0x80) xs ∙ zip2_splat_left leb 0x80 n xs l)
 
 -- a lane is set by a unit that does not take two bytes
 either_set : (a b : Bool) → top 15 (bit_or (wide a) (wide b)) ≡ a || b

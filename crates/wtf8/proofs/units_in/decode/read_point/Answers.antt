@@ -1,4 +1,4 @@
-use Rattle.wtf8.proofs.Common.{◌<◌, arith, rules, number}
+use Rattle.wtf8.proofs.Common.{arith, rules, number}
 use Rattle.wtf8.proofs.lemmas.units_in.Decoding.{one_read, pair_read}
 use Rattle.wtf8.proofs.units_in.decode.read_point.Goals as goal
 
