@@ -1,4 +1,4 @@
-use Rattle.wtf8.proofs.Common.{◌≡◌, ◌∷◌, ◌++◌, ◌∙◌, [], ap, sym, arith, length, append_assoc, units, view_units, ℕ, List, ◌<◌, IsWellFormed}
+use Rattle.wtf8.proofs.Common.{◌∷◌, ◌++◌, ◌∙◌, [], ap, sym, arith, length, append_assoc, units, view_units, ℕ, List, ◌<◌, IsWellFormed}
 use Rattle.wtf8.specs.Gains.{IsReadAs}
 use Rattle.wtf8.proofs.lemmas.numbers.Readings.{Taken, first_of, taken, units-cons_one}
 use Rattle.wtf8.proofs.strings.units_out.append_two.Goals as goal
