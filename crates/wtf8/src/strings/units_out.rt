@@ -1,5 +1,5 @@
 // The units of a string, appended to a vector of units.
-ghost use Rattle.std.specs.Prelude.{◌≡◌, ◌∷◌, ◌++◌, ◌+◌, ◌<◌, ◌≤◌, length, take, drop, IfSome, IfNone, IsOk, OnOk, OnErr, vec_len, vec_capacity};
+ghost use Rattle.std.specs.Prelude.{◌≡◌, ◌∷◌, ◌++◌, ◌+◌, ◌<◌, ◌≤◌, length, take, drop, slice_index, IfSome, IfNone, IsOk, OnOk, OnErr, vec_len, vec_capacity};
 ghost use lib.Lanes.{Each1};
 ghost use Rattle.wtf8.specs.CodePoint.{number};
 ghost use Rattle.wtf8.specs.Form.{IsWellFormed};
@@ -10,6 +10,7 @@ ghost use Rattle.wtf8.specs.View.{view_points, view_units};
 
 use crate::lanes::{VECTOR, copies};
 use crate::numbers::code_point::CodePoint;
+use crate::numbers::encoding;
 use crate::numbers::surrogates::{lead_of, trail_of};
 use crate::strings::view::Wtf8;
 use std::alloc::{AllocError, Allocator};
@@ -99,8 +100,23 @@ fn append_point<'a, B: Allocator>(units: &mut Vec<u16, B>, view: Wtf8<'a>) -> Op
     Some(rest)
 }
 
-/// Appends the ASCII at the front and, where a block of it ends before the block does, the code point behind it, and answers
-/// the view behind them, or `None` where the string is done.
+/// Appends the unit of the first code point, which has two bytes, and answers the view behind it.
+#[inline(always)]
+fn append_two<'a, B: Allocator>(units: &mut Vec<u16, B>, view: Wtf8<'a>) -> Wtf8<'a>
+    requires room { vec_len units.old + length (view_units view) ≤ vec_capacity units.old }
+    requires long { 1 < length view.bytes.now }
+    requires least { 0x80 ≤ slice_index view.bytes.now 0 }
+    requires most { slice_index view.bytes.now 0 < 0xE0 }
+    ensures units { units.new.items ++ view_units result ≡ units.old.items ++ view_units view.entry }
+    ensures shorter { length result.bytes.now < length view.entry.bytes.now }
+    ensures capacity { vec_capacity units.new ≡ vec_capacity units.old }
+{
+    units.push_reserved(encoding::read_two(view.bytes) as u16);
+    view.behind(2)
+}
+
+/// Appends the ASCII at the front and, where it ends before a block of it does, the code point behind it, unless that begins
+/// a block of its own, and answers the view behind them, or `None` where the string is done.
 #[inline(always)]
 fn append_ascii<'a, B: Allocator>(units: &mut Vec<u16, B>, view: Wtf8<'a>) -> Option<Wtf8<'a>>
     requires { vec_len units.old + length (view_units view) ≤ vec_capacity units.old }
@@ -114,7 +130,11 @@ fn append_ascii<'a, B: Allocator>(units: &mut Vec<u16, B>, view: Wtf8<'a>) -> Op
     if count == VECTOR {
         return Some(behind);
     }
-    append_point(units, behind)
+    match behind.bytes {
+        [0xC0..=0xDF, _, 0x00..=0x7F, ..] => Some(append_two(units, behind)),
+        [0xC0..=0xDF, ..] if 0 < count => Some(behind),
+        _ => append_point(units, behind),
+    }
 }
 
 /// How many of eight first bytes stand before one that begins no code point of two bytes.
