@@ -192,7 +192,7 @@ impl<A: Allocator> Wtf8Buf<A> {
         ensures empty { v.now ≡ [] → IsOk result }
     {
         let mut bytes = Vec::with_capacity(alloc, v.len())?;
-        let is_known_utf8 = unit_blocks::append_units(&mut bytes, v)?;
+        let is_known_utf8 = unit_blocks::append_form(&mut bytes, v)?;
         Ok(from_well_formed(bytes, is_known_utf8))
     }
 

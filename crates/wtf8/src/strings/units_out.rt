@@ -30,7 +30,7 @@ const THIRD_OF_THREE: [usize; 8] = [2, 5, 8, 11, 14, 17, 20, 23];
 
 /// How many of the first bytes of a block are ASCII.
 #[inline(always)]
-fn count_ascii(block: u8x16) -> usize
+fn count_ascii_bytes(block: u8x16) -> usize
     ensures within { result ≤ VECTOR }
     ensures ascii { AreAscii (take result block) }
 {
@@ -52,7 +52,7 @@ fn widened(block: u8x16) -> [u16; VECTOR]
 /// Appends the ASCII bytes at the front, as far as a block of them tells, where there is room for a block, and answers
 /// how many.
 #[inline(always)]
-fn append_ascii_front<B: Allocator>(units: &mut Vec<u16, B>, bytes: &[u8]) -> usize
+fn widen_ascii_front<B: Allocator>(units: &mut Vec<u16, B>, bytes: &[u8]) -> usize
     ensures within { result ≤ length bytes.now }
     ensures ascii { AreAscii (take result bytes.now) }
     ensures items { units.new.items ≡ units.old.items ++ take result bytes.now }
@@ -63,7 +63,7 @@ fn append_ascii_front<B: Allocator>(units: &mut Vec<u16, B>, bytes: &[u8]) -> us
         return 0;
     }
     let block = u8x16::from_slice(bytes);
-    let count = count_ascii(block);
+    let count = count_ascii_bytes(block);
     copies::push_block(units, widened(block));
     units.truncate(len + count);
     count
@@ -88,7 +88,7 @@ fn push_units<B: Allocator>(units: &mut Vec<u16, B>, code_point: CodePoint)
 /// Appends the units of the first code point, for which there is room, and answers the view behind it, or `None` where
 /// the string is empty.
 #[inline(always)]
-fn append_point<'a, B: Allocator>(units: &mut Vec<u16, B>, view: Wtf8<'a>) -> Option<Wtf8<'a>>
+fn widen_point<'a, B: Allocator>(units: &mut Vec<u16, B>, view: Wtf8<'a>) -> Option<Wtf8<'a>>
     requires { vec_len units.old + length (view_units view) ≤ vec_capacity units.old }
     ensures none { IfNone result (units.new.items ≡ units.old.items ++ view_units view.entry) }
     ensures some { IfSome result (λ rest. units.new.items ++ view_units rest ≡ units.old.items ++ view_units view.entry) }
@@ -102,7 +102,7 @@ fn append_point<'a, B: Allocator>(units: &mut Vec<u16, B>, view: Wtf8<'a>) -> Op
 
 /// Appends the unit of the first code point, which has two bytes, and answers the view behind it.
 #[inline(always)]
-fn append_two<'a, B: Allocator>(units: &mut Vec<u16, B>, view: Wtf8<'a>) -> Wtf8<'a>
+fn widen_two<'a, B: Allocator>(units: &mut Vec<u16, B>, view: Wtf8<'a>) -> Wtf8<'a>
     requires room { vec_len units.old + length (view_units view) ≤ vec_capacity units.old }
     requires long { 1 < length view.bytes.now }
     requires least { 0x80 ≤ slice_index view.bytes.now 0 }
@@ -118,22 +118,22 @@ fn append_two<'a, B: Allocator>(units: &mut Vec<u16, B>, view: Wtf8<'a>) -> Wtf8
 /// Appends the ASCII at the front and, where it ends before a block of it does, the code point behind it, unless that begins
 /// a block of its own, and answers the view behind them, or `None` where the string is done.
 #[inline(always)]
-fn append_ascii<'a, B: Allocator>(units: &mut Vec<u16, B>, view: Wtf8<'a>) -> Option<Wtf8<'a>>
+fn widen_ascii<'a, B: Allocator>(units: &mut Vec<u16, B>, view: Wtf8<'a>) -> Option<Wtf8<'a>>
     requires { vec_len units.old + length (view_units view) ≤ vec_capacity units.old }
     ensures none { IfNone result (units.new.items ≡ units.old.items ++ view_units view.entry) }
     ensures some { IfSome result (λ rest. units.new.items ++ view_units rest ≡ units.old.items ++ view_units view.entry) }
     ensures shorter { IfSome result (λ rest. length rest.bytes.now < length view.entry.bytes.now) }
     ensures capacity { vec_capacity units.new ≡ vec_capacity units.old }
 {
-    let count = append_ascii_front(units, view.bytes);
+    let count = widen_ascii_front(units, view.bytes);
     let behind = view.behind_ascii(count);
     if count == VECTOR {
         return Some(behind);
     }
     match behind.bytes {
-        [0xC0..=0xDF, _, 0x00..=0x7F, ..] => Some(append_two(units, behind)),
+        [0xC0..=0xDF, _, 0x00..=0x7F, ..] => Some(widen_two(units, behind)),
         [0xC0..=0xDF, ..] if 0 < count => Some(behind),
-        _ => append_point(units, behind),
+        _ => widen_point(units, behind),
     }
 }
 
@@ -170,7 +170,7 @@ fn read_twos(bytes: [u8; 16]) -> (u8x8, [u16; 8])
 /// Appends the code points of two bytes at the front, as far as a block of them tells, where there is room for a block, or
 /// the first code point, and answers the view behind them, or `None` where the string is empty.
 #[inline(always)]
-fn append_two_bytes<'a, B: Allocator>(units: &mut Vec<u16, B>, view: Wtf8<'a>) -> Option<Wtf8<'a>>
+fn widen_two_bytes<'a, B: Allocator>(units: &mut Vec<u16, B>, view: Wtf8<'a>) -> Option<Wtf8<'a>>
     requires { vec_len units.old + length (view_units view) ≤ vec_capacity units.old }
     ensures none { IfNone result (units.new.items ≡ units.old.items ++ view_units view.entry) }
     ensures some { IfSome result (λ rest. units.new.items ++ view_units rest ≡ units.old.items ++ view_units view.entry) }
@@ -179,12 +179,12 @@ fn append_two_bytes<'a, B: Allocator>(units: &mut Vec<u16, B>, view: Wtf8<'a>) -
 {
     let len = units.len();
     if view.bytes.len() < 16 || units.capacity() - len < 8 {
-        return append_point(units, view);
+        return widen_point(units, view);
     }
     let (firsts, block) = read_twos(u8x16::from_slice(view.bytes).to_array());
     let count = count_two_bytes(firsts);
     if count == 0 {
-        return append_point(units, view);
+        return widen_point(units, view);
     }
     copies::push_block(units, block);
     units.truncate(len + count);
@@ -264,7 +264,7 @@ fn read_threes(bytes: [u8; 32]) -> (u8x8, [u16; 8])
 
 /// The same for code points of three bytes, surrogates among them.
 #[inline(always)]
-fn append_three_bytes<'a, B: Allocator>(units: &mut Vec<u16, B>, view: Wtf8<'a>) -> Option<Wtf8<'a>>
+fn widen_three_bytes<'a, B: Allocator>(units: &mut Vec<u16, B>, view: Wtf8<'a>) -> Option<Wtf8<'a>>
     requires { vec_len units.old + length (view_units view) ≤ vec_capacity units.old }
     ensures none { IfNone result (units.new.items ≡ units.old.items ++ view_units view.entry) }
     ensures some { IfSome result (λ rest. units.new.items ++ view_units rest ≡ units.old.items ++ view_units view.entry) }
@@ -273,22 +273,22 @@ fn append_three_bytes<'a, B: Allocator>(units: &mut Vec<u16, B>, view: Wtf8<'a>)
 {
     let len = units.len();
     if view.bytes.len() < 32 || units.capacity() - len < 8 {
-        return append_point(units, view);
+        return widen_point(units, view);
     }
     let (firsts, block) = read_threes(u8x32::from_slice(view.bytes).to_array());
     let count = count_three_bytes(firsts);
     if count == 0 {
-        return append_point(units, view);
+        return widen_point(units, view);
     }
     copies::push_block(units, block);
     units.truncate(len + count);
     Some(view.behind(3 * count))
 }
 
-/// Appends the units at the front, those of a block of code points that have as many bytes as the first one, or of the first
-/// one, for which there is room, and answers the view behind them, or `None` where the string is done.
+/// Appends the units at the front, those of a block where the first two code points have as many bytes, or of the first one,
+/// for which there is room, and answers the view behind them, or `None` where the string is done.
 #[inline(always)]
-fn append_front<'a, B: Allocator>(units: &mut Vec<u16, B>, view: Wtf8<'a>) -> Option<Wtf8<'a>>
+fn widen_front<'a, B: Allocator>(units: &mut Vec<u16, B>, view: Wtf8<'a>) -> Option<Wtf8<'a>>
     requires { vec_len units.old + length (view_units view) ≤ vec_capacity units.old }
     ensures none { IfNone result (units.new.items ≡ units.old.items ++ view_units view.entry) }
     ensures some { IfSome result (λ rest. units.new.items ++ view_units rest ≡ units.old.items ++ view_units view.entry) }
@@ -296,9 +296,9 @@ fn append_front<'a, B: Allocator>(units: &mut Vec<u16, B>, view: Wtf8<'a>) -> Op
     ensures capacity { vec_capacity units.new ≡ vec_capacity units.old }
 {
     match view.bytes {
-        [0x80..=0xDF, ..] => append_two_bytes(units, view),
-        [0xE0..=0xEF, ..] => append_three_bytes(units, view),
-        _ => append_ascii(units, view),
+        [0xC0..=0xDF, _, 0xC0..=0xDF, ..] => widen_two_bytes(units, view),
+        [0xE0..=0xEF, _, _, 0xE0..=0xEF, ..] => widen_three_bytes(units, view),
+        _ => widen_ascii(units, view),
     }
 }
 
@@ -337,7 +337,7 @@ impl<'a> Wtf8<'a> {
     {
         units.reserve(self.unit_len())?;
         let mut rest = *self;
-        while let Some(behind) = append_front(units, rest) {
+        while let Some(behind) = widen_front(units, rest) {
             rest = behind;
         }
         Ok(())

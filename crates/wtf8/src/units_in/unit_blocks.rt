@@ -381,7 +381,7 @@ fn append_part<A: Allocator>(
 }
 
 /// Appends the string of the units to a buffer without bytes, and answers whether it has no lone surrogate.
-pub(crate) fn append_units<A: Allocator>(
+pub(crate) fn append_form<A: Allocator>(
     bytes: &mut Vec<u8, A>,
     v: &[u16],
 ) -> Result<bool, AllocError>

@@ -15,4 +15,4 @@ returns-clause-units g c =
 
 pub returns-clause-form : goal.returns-clause-form
 returns-clause-form g c w form =
-    c.from_well_formed.ensures.bytes ∙ same_form c.append_units.new.bytes.items w c.args.v.now c.in_ok-is_known_utf8.ensures.ok.form form
+    c.from_well_formed.ensures.bytes ∙ same_form c.append_form.new.bytes.items w c.args.v.now c.in_ok-is_known_utf8.ensures.ok.form form

@@ -1,6 +1,6 @@
 use Rattle.wtf8.proofs.Common.{number}
 use Rattle.wtf8.proofs.lemmas.strings.UnitsOut.{behind_first}
-use Rattle.wtf8.proofs.strings.units_out.append_point.Goals as goal
+use Rattle.wtf8.proofs.strings.units_out.widen_point.Goals as goal
 
 pub returns-clause-shorter : goal.returns-clause-shorter
 returns-clause-shorter g c =

@@ -1,5 +1,5 @@
 use Rattle.wtf8.proofs.Common.{◌≤◌, ◌-◌, length, take, IsKnownForm, DividesNoPair}
-use Rattle.wtf8.proofs.units_in.unit_blocks.append_units.Given as goal
+use Rattle.wtf8.proofs.units_in.unit_blocks.append_form.Given as goal
 
 -- the bytes are the form of the units so far, and no pair is divided behind these
 abbrev pub invariant-loop-at : goal.invariant-loop-at

@@ -1,7 +1,7 @@
 use Rattle.wtf8.proofs.Common.{◌-◌, ◌&&◌, arith, and_parts}
 use Rattle.wtf8.proofs.lemmas.numbers.Readings.{nothing_ends}
 use Rattle.wtf8.proofs.lemmas.units_in.Blocks.{nothing_read, part_read, all_read}
-use Rattle.wtf8.proofs.units_in.unit_blocks.append_units.Goals as goal
+use Rattle.wtf8.proofs.units_in.unit_blocks.append_form.Goals as goal
 
 pub loop-at-init : goal.loop-at-init
 loop-at-init g c = (omega arith, nothing_read _ c.requires, nothing_ends)

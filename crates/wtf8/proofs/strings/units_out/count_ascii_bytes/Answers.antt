@@ -1,6 +1,6 @@
 use Rattle.std.proofs.Common.{w8}
 use Rattle.wtf8.proofs.lemmas.lanes.AsciiFronts.{all_ascii, within, front_ascii}
-use Rattle.wtf8.proofs.strings.units_out.count_ascii.Goals as goal
+use Rattle.wtf8.proofs.strings.units_out.count_ascii_bytes.Goals as goal
 
 pub returns-then-others-eq0-clause-ascii : goal.returns-then-others-eq0-clause-ascii
 returns-then-others-eq0-clause-ascii c = all_ascii w8 c.args.block c.fits-block.0 c.if-others-eq0.true

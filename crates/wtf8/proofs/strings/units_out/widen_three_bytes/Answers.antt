@@ -1,7 +1,7 @@
 use Rattle.wtf8.proofs.Common.{◌*◌, ◌++◌, ◌∙◌, ap, sym, arith, take, units, view_units}
 use Rattle.wtf8.specs.UnitRows.{unit_of_three, units_of_rows}
 use Rattle.wtf8.proofs.lemmas.strings.UnitsOut.{behind_block, block_cut, three_rows}
-use Rattle.wtf8.proofs.strings.units_out.append_three_bytes.Goals as goal
+use Rattle.wtf8.proofs.strings.units_out.widen_three_bytes.Goals as goal
 
 pub behind-requires-clause-well_formed : goal.behind-requires-clause-well_formed
 behind-requires-clause-well_formed g c =

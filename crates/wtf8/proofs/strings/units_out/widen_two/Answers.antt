@@ -1,7 +1,7 @@
 use Rattle.wtf8.proofs.Common.{◌∷◌, ◌++◌, ◌∙◌, [], ap, sym, arith, length, append_assoc, units, view_units, ℕ, List, ◌<◌, IsWellFormed}
 use Rattle.wtf8.specs.Gains.{IsReadAs}
 use Rattle.wtf8.proofs.lemmas.numbers.Readings.{Taken, first_of, taken, units-cons_one}
-use Rattle.wtf8.proofs.strings.units_out.append_two.Goals as goal
+use Rattle.wtf8.proofs.strings.units_out.widen_two.Goals as goal
 
 -- what is behind a code point that was read as one of two bytes
 behind_two : (w : List ℕ) (h : IsWellFormed w) (p : ℕ) → 1 < length w → IsReadAs w p 2 → Taken w 0 h p 2
