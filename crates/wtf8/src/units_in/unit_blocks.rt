@@ -272,9 +272,9 @@ fn append_ascii_blocks<A: Allocator>(
     Ok(end)
 }
 
-/// Appends the ASCII units from a place on, as far as blocks tell, and answers where they end.
+/// Appends the ASCII units at the front of the sixteen from a place on, where there are so many, and answers where they end.
 #[inline(always)]
-fn append_ascii<A: Allocator>(
+fn append_sixteen<A: Allocator>(
     bytes: &mut Vec<u8, A>,
     v: &[u16],
     at: usize,
@@ -288,10 +288,25 @@ fn append_ascii<A: Allocator>(
     let units = u16x16::from_array(units);
     let count = count_ascii(units);
     append_cut(bytes, units, count)?;
-    if count < NUMBERS {
-        return Ok(at + count);
+    Ok(at + count)
+}
+
+/// Appends the ASCII units from a place on, as far as blocks tell, and answers where they end.
+#[inline(always)]
+fn append_ascii<A: Allocator>(
+    bytes: &mut Vec<u8, A>,
+    v: &[u16],
+    at: usize,
+) -> Result<usize, AllocError>
+    requires { at ≤ length v.now }
+    ensures { IfOk result (λ end. AppendsAscii bytes.old.items bytes.new.items v.now at end) }
+{
+    let front = append_sixteen(bytes, v, at)?;
+    if front - at < NUMBERS {
+        return Ok(front);
     }
-    let end = append_ascii_blocks(bytes, v, at + NUMBERS)?;
+    let many = append_ascii_blocks(bytes, v, front)?;
+    let end = append_sixteen(bytes, v, many)?;
     Ok(end)
 }
 
@@ -364,18 +379,18 @@ fn append_part<A: Allocator>(
     ensures { IfOk result (λ part. AppendsPart bytes.old.items bytes.new.items v.now at part.0 part.1) }
 {
     let unit = v[at];
-    if unit < 0x80 {
-        if let Some(part) = append_front(bytes, v, at)? {
-            return Ok(part);
+    if 0x800 <= unit {
+        if let Some(block) = three_byte_block(v, at) {
+            bytes.extend_from_slice(&block[..3 * HALF])?;
+            return Ok((at + HALF, true));
         }
-    } else if unit < 0x800 {
+    } else if 0x80 <= unit {
         if let Some(block) = two_byte_block(v, at) {
             bytes.extend_from_slice(&block)?;
             return Ok((at + HALF, true));
         }
-    } else if let Some(block) = three_byte_block(v, at) {
-        bytes.extend_from_slice(&block[..3 * HALF])?;
-        return Ok((at + HALF, true));
+    } else if let Some(part) = append_front(bytes, v, at)? {
+        return Ok(part);
     }
     append_mixed(bytes, v, at)
 }
