@@ -1,6 +1,6 @@
 // Code units turned into bytes by the kind of the first: ASCII units sixteen together and those before another one, eight of
 // two or of three bytes together, any others in mixed blocks or one after another.
-ghost use Rattle.std.specs.Prelude.{◌≡◌, List, [], ◌+◌, ◌++◌, ◌-◌, ◌*◌, ◌%◌, ◌<◌, ◌≤◌, length, map, take, drop, IfOk, IfSome, IfNone, IsOk, IsTrue, OnOk};
+ghost use Rattle.std.specs.Prelude.{◌≡◌, ℕ, List, [], ◌+◌, ◌++◌, ◌-◌, ◌*◌, ◌%◌, ◌<◌, ◌≤◌, length, map, take, drop, IfOk, IfSome, IfNone, IsOk, IsTrue, OnOk};
 ghost use Rattle.wtf8.specs.Form.{bytes as bytes_of};
 ghost use Rattle.wtf8.specs.UnitParts.{AppendsAscii, AppendsPart, IsKnownForm, DividesNoPair, AreAscii, AreTwoByteUnits, AreThreeByteUnits, IsBlock};
 
@@ -291,6 +291,37 @@ fn append_sixteen<A: Allocator>(
     Ok(at + count)
 }
 
+/// Appends the ASCII units behind others, where they are the last ones and fewer than sixteen, by the last sixteen of all, of
+/// which those before them are appended anew; and answers where they end.
+#[inline(always)]
+fn append_last<A: Allocator>(
+    bytes: &mut Vec<u8, A>,
+    v: &[u16],
+    front: usize,
+    at: usize,
+) -> Result<usize, AllocError>
+    requires within { at ≤ length v.now }
+    requires long { front + NUMBERS ≤ at }
+    requires kept { NUMBERS ≤ length bytes.old.items }
+    ensures { IfOk result (λ end. (start : List ℕ) → AppendsAscii start bytes.old.items v.now front at → AppendsAscii start bytes.new.items v.now front end) }
+{
+    let left = v.len() - at;
+    if left == 0 || NUMBERS <= left {
+        return Ok(at);
+    }
+    let Some(units) = units_from(v, v.len() - NUMBERS) else {
+        return Ok(at);
+    };
+    let units = u16x16::from_array(units);
+    if count_ascii(units) < NUMBERS {
+        return Ok(at);
+    }
+    let kept = bytes.len() - (NUMBERS - left);
+    bytes.truncate(kept);
+    bytes.extend_from_slice(&low_bytes(units))?;
+    Ok(v.len())
+}
+
 /// Appends the ASCII units from a place on, as far as blocks tell, and answers where they end.
 #[inline(always)]
 fn append_ascii<A: Allocator>(
@@ -307,7 +338,8 @@ fn append_ascii<A: Allocator>(
     }
     let many = append_ascii_blocks(bytes, v, front)?;
     let end = append_sixteen(bytes, v, many)?;
-    Ok(end)
+    let last = append_last(bytes, v, at, end)?;
+    Ok(last)
 }
 
 /// Appends the bytes of the code point at a place, and answers where it ends and whether it is a scalar value.
@@ -378,6 +410,10 @@ fn append_part<A: Allocator>(
     requires { at < length v.now }
     ensures { IfOk result (λ part. AppendsPart bytes.old.items bytes.new.items v.now at part.0 part.1) }
 {
+    if v.len() - at < HALF {
+        let is_scalar = decode::append_one_by_one(bytes, &v[at..])?;
+        return Ok((v.len(), is_scalar));
+    }
     let unit = v[at];
     if 0x800 <= unit {
         if let Some(block) = three_byte_block(v, at) {
