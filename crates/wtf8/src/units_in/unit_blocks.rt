@@ -6,7 +6,7 @@ ghost use Rattle.wtf8.specs.UnitParts.{AppendsAscii, AppendsPart, IsKnownForm, D
 
 use crate::numbers::encoding;
 use crate::numbers::surrogates::{FIRST_LEAD, FIRST_TRAIL, LAST_TRAIL};
-use crate::units_in::{NUMBERS, decode, mixed_blocks};
+use crate::units_in::{NUMBERS, decode, low_blocks, mixed_blocks};
 use std::alloc::{AllocError, Allocator};
 use std::simd::prelude::*;
 
@@ -357,6 +357,25 @@ fn append_point<A: Allocator>(
     Ok((end, is_scalar))
 }
 
+/// Appends the ASCII units from a place on, as far as blocks tell, of which there is one at least, and the bytes of the
+/// code point behind them where that is not ASCII, and answers where these end and whether that is a scalar value.
+#[inline(always)]
+fn append_ascii_run<A: Allocator>(
+    bytes: &mut Vec<u8, A>,
+    v: &[u16],
+    at: usize,
+) -> Result<(usize, bool), AllocError>
+    requires { at < length v.now }
+    ensures { IfOk result (λ part. AppendsPart bytes.old.items bytes.new.items v.now at part.0 part.1) }
+{
+    let front = append_ascii(bytes, v, at)?;
+    if front > at && (front == v.len() || v[front] < 0x80) {
+        return Ok((front, true));
+    }
+    let (end, is_scalar) = append_point(bytes, v, front)?;
+    Ok((end, is_scalar))
+}
+
 /// Appends the bytes of the ASCII units from a place on, as far as blocks tell, and of the code point behind them
 /// where that is not ASCII, and answers where these end and whether no surrogate is alone among them.
 #[inline(always)]
@@ -369,15 +388,16 @@ fn append_front<A: Allocator>(
     ensures none { IfOk result (λ part. IfNone part (bytes.new.items ≡ bytes.old.items)) }
     ensures some { IfOk result (λ part. IfSome part (λ part. AppendsPart bytes.old.items bytes.new.items v.now at part.0 part.1)) }
 {
-    let front = append_ascii(bytes, v, at)?;
-    if front == at {
+    let Some(units) = units_from(v, at) else {
         return Ok(None);
+    };
+    let units = u16x16::from_array(units);
+    let count = count_ascii(units);
+    if count == NUMBERS {
+        return Ok(Some(append_ascii_run(bytes, v, at)?));
     }
-    if front == v.len() || v[front] < 0x80 {
-        return Ok(Some((front, true)));
-    }
-    let (end, is_scalar) = append_point(bytes, v, front)?;
-    Ok(Some((end, is_scalar)))
+    append_cut(bytes, units, count)?;
+    Ok(Some(append_point(bytes, v, at + count)?))
 }
 
 /// Appends the bytes of some units from a place on, sixteen together where that can be, and answers where they end and
@@ -424,6 +444,9 @@ fn append_part<A: Allocator>(
         if let Some(block) = two_byte_block(v, at) {
             bytes.extend_from_slice(&block)?;
             return Ok((at + HALF, true));
+        }
+        if let Some(taken) = low_blocks::append_block(bytes, v, at)? {
+            return Ok((at + taken, true));
         }
     } else if let Some(part) = append_front(bytes, v, at)? {
         return Ok(part);

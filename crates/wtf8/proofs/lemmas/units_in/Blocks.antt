@@ -40,11 +40,15 @@ none_set p P Q h xs few f same e =
     let whole = mask_l-mod (map p xs) 64 (omega (arith, few, length-map xs p)) in
     each_unset p P Q h xs f (sym whole ∙ ap (λ ms. mask_l ms % 2 ^ 64) (sym same) ∙ e)
 
--- where no lane is set all numbers are below 80
+-- where no lane is set all numbers are below k
+pub none_from : (w : Width) (k n : ℕ) (xs : List ℕ) → n ≤ 64 → length xs ≡ n → Each1 (Fits w) xs
+    → mask_l (map (top (hbits w)) (zip2 (λ a b. cond (leb a b) (2 ^ bits w - 1) 0) (replicate n k) xs)) % 2 ^ 64 ≡ 0 → Each1 (λ x. x < k) xs
+none_from w k n xs few l f = none_set (leb k) (Fits w) (λ n. n < k) (λ x _ u. leb-false k x u) xs (omega (arith, few, l)) f
+    (tops_compared w leb (replicate n k) xs ∙ zip2_splat_left leb k n xs l)
+
 pub none_high : (w : Width) (n : ℕ) (xs : List ℕ) → n ≤ 64 → length xs ≡ n → Each1 (Fits w) xs
     → mask_l (map (top (hbits w)) (zip2 (λ a b. cond (leb a b) (2 ^ bits w - 1) 0) (replicate n 0x80) xs)) % 2 ^ 64 ≡ 0 → AreAscii xs
-none_high w n xs few l f = none_set (leb 0x80) (Fits w) (λ n. n < 0x80) (λ x _ u. leb-false 0x80 x u) xs (omega (arith, few, l)) f
-    (tops_compared w leb (replicate n 0x80) xs ∙ zip2_splat_left leb 0x80 n xs l)
+none_high w = none_from w 0x80
 
 -- a lane is set by a unit that does not take two bytes
 either_set : (a b : Bool) → top 15 (bit_or (wide a) (wide b)) ≡ a || b
