@@ -419,8 +419,39 @@ fn append_mixed<A: Allocator>(
     Ok((end, is_scalar))
 }
 
-/// Appends the bytes of some units from a place on, as many together as the kind of the first lets hope for, and answers
-/// where they end and whether no surrogate is alone among them.
+/// Appends the bytes of as many units from a place on as the kind of the first lets hope to take together, where that can
+/// be, and answers where they end and whether no surrogate is alone among them.
+#[inline(always)]
+fn append_kind<A: Allocator>(
+    bytes: &mut Vec<u8, A>,
+    v: &[u16],
+    at: usize,
+) -> Result<Option<(usize, bool)>, AllocError>
+    requires { at < length v.now }
+    ensures none { IfOk result (λ part. IfNone part (bytes.new.items ≡ bytes.old.items)) }
+    ensures some { IfOk result (λ part. IfSome part (λ part. AppendsPart bytes.old.items bytes.new.items v.now at part.0 part.1)) }
+{
+    let unit = v[at];
+    if unit < 0x80 {
+        return append_front(bytes, v, at);
+    }
+    if unit < 0x800 {
+        if let Some(block) = two_byte_block(v, at) {
+            bytes.extend_from_slice(&block)?;
+            return Ok(Some((at + HALF, true)));
+        }
+        if let Some(taken) = low_blocks::append_block(bytes, v, at)? {
+            return Ok(Some((at + taken, true)));
+        }
+    } else if let Some(block) = three_byte_block(v, at) {
+        bytes.extend_from_slice(&block[..3 * HALF])?;
+        return Ok(Some((at + HALF, true)));
+    }
+    Ok(None)
+}
+
+/// Appends the bytes of some units from a place on, together where that can be, and answers where they end and whether no
+/// surrogate is alone among them.
 #[inline(always)]
 fn append_part<A: Allocator>(
     bytes: &mut Vec<u8, A>,
@@ -430,25 +461,9 @@ fn append_part<A: Allocator>(
     requires { at < length v.now }
     ensures { IfOk result (λ part. AppendsPart bytes.old.items bytes.new.items v.now at part.0 part.1) }
 {
-    if v.len() - at < HALF {
-        let is_scalar = decode::append_one_by_one(bytes, &v[at..])?;
-        return Ok((v.len(), is_scalar));
-    }
-    let unit = v[at];
-    if 0x800 <= unit {
-        if let Some(block) = three_byte_block(v, at) {
-            bytes.extend_from_slice(&block[..3 * HALF])?;
-            return Ok((at + HALF, true));
-        }
-    } else if 0x80 <= unit {
-        if let Some(block) = two_byte_block(v, at) {
-            bytes.extend_from_slice(&block)?;
-            return Ok((at + HALF, true));
-        }
-        if let Some(taken) = low_blocks::append_block(bytes, v, at)? {
-            return Ok((at + taken, true));
-        }
-    } else if let Some(part) = append_front(bytes, v, at)? {
+    if HALF <= v.len() - at
+        && let Some(part) = append_kind(bytes, v, at)?
+    {
         return Ok(part);
     }
     append_mixed(bytes, v, at)

@@ -21,4 +21,4 @@ returns g c = λ start so_far.
     let cut = c.truncate.ensures.items ∙ ap (λ k. take k c.args.bytes.now.items) kept in
     let place : length u - 16 ≡ c.args.at - again = omega (arith, c.requires.long, c.requires.within, c.if-left-ge-NUMBERS.false) in
     ascii_anew again 16 (omega (arith, c.requires.long)) (omega (arith, place, room)) so_far (subst AreAscii all c.count_ascii.ensures.ascii)
-      (same ∙ ap (λ k. take 16 (drop k u)) place) (c.in_ok-extend_from_slice.ensures.items ∙ (λ i. cut i ++ low i))
+    (same ∙ ap (λ k. take 16 (drop k u)) place) (c.in_ok-extend_from_slice.ensures.items ∙ (λ i. cut i ++ low i))
