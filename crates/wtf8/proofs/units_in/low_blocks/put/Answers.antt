@@ -1,6 +1,5 @@
 use Rattle.wtf8.proofs.Common.{◌∙◌, ◌++◌, ap, arith, take}
 use Rattle.wtf8.proofs.lemmas.units_in.Pieces.{wrote_part}
-use Rattle.wtf8.proofs.lemmas.units_in.LowBlocks.{kept_two}
 use Rattle.wtf8.proofs.units_in.low_blocks.put.Goals as goal
 
 pub returns : goal.returns
