@@ -27,6 +27,10 @@ const ADDED: usize = 8;
 /// How many units begin at least in so many blocks. A unit has no more than three bytes.
 const LEAST_ADDED: usize = ADDED * BLOCK / 3;
 
+/// How many units further a unit is at least where the next `VECTOR` bytes are counted together; half as many where half as
+/// many bytes are.
+const LIKELY: usize = 11;
+
 /// A place among bytes, and how many units begin before it.
 #[derive(Clone, Copy)]
 struct Place {
@@ -136,6 +140,33 @@ fn behind_block<const N: usize>(bytes: &[u8], unit: usize, from: Place) -> Optio
     })
 }
 
+/// The place behind the blocks of `N` bytes from a place on that the unit is behind too, as long as it is so many units
+/// further at least. With fewer it is likely to be in the next block, which is then not worth counting.
+#[inline(always)]
+fn behind_likely_blocks<const N: usize>(
+    bytes: &[u8],
+    unit: usize,
+    least: usize,
+    from: Place,
+) -> Place
+    requires lanes { (0 < N) × (N ≤ u64.BITS) }
+    requires within { from.at ≤ length bytes.now }
+    requires counted { from.units_before ≡ all_units_begun (take from.at bytes.now) }
+    requires not_beyond { from.units_before ≤ unit }
+    ensures within { result.at ≤ length bytes.now }
+    ensures counted { result.units_before ≡ all_units_begun (take result.at bytes.now) }
+    ensures not_beyond { result.units_before ≤ unit }
+{
+    let mut place = from;
+    while least <= unit - place.units_before {
+        let Some(behind) = behind_block::<N>(bytes, unit, place) else {
+            return place;
+        };
+        place = behind;
+    }
+    place
+}
+
 /// The place behind as many of the `N` bytes from a place on as are before the unit, where there are so many bytes and all
 /// are ASCII.
 #[inline(always)]
@@ -204,13 +235,10 @@ fn behind_blocks_of_many(bytes: &[u8], unit: usize) -> Place
     ensures counted { result.units_before ≡ all_units_begun (take result.at bytes.now) }
     ensures not_beyond { result.units_before ≤ unit }
 {
-    let mut place = behind_added_blocks(bytes, unit);
-    while let Some(behind) = behind_block::<BLOCK>(bytes, unit, place) {
-        place = behind;
-    }
-    let place = behind_block::<HALF_BLOCK>(bytes, unit, place).unwrap_or(place);
-    let place = behind_block::<VECTOR>(bytes, unit, place).unwrap_or(place);
-    let place = behind_block::<HALF_VECTOR>(bytes, unit, place).unwrap_or(place);
+    let place = behind_added_blocks(bytes, unit);
+    let place = behind_likely_blocks::<BLOCK>(bytes, unit, BLOCK / 3, place);
+    let place = behind_likely_blocks::<VECTOR>(bytes, unit, LIKELY, place);
+    let place = behind_likely_blocks::<HALF_VECTOR>(bytes, unit, LIKELY / 2, place);
     behind_ascii::<HALF_VECTOR>(bytes, unit, place).unwrap_or(place)
 }
 
