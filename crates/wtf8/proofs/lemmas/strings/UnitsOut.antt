@@ -4,7 +4,6 @@ use Rattle.wtf8.proofs.Common.{encoding, bytes, length-append, units_of, view_un
 use Rattle.wtf8.specs.View.{view_points}
 use Rattle.wtf8.proofs.lemmas.numbers.Encoding.{row_of, one, two, three, four, length-encoding_bounds}
 use Rattle.wtf8.proofs.Common.{◌+◌, ◌*◌, ◌%◌, subst, Each1, drop_at, drop-drop, length-drop, length-take, take-append-drop, append_assoc}
-use Rattle.std.proofs.Math.Seq.{take-append-add}
 use Rattle.std.proofs.lemmas.List.{get_or_append_left, drop-append-le}
 use native.Mathlib.Nat.{mul-suc}
 use Rattle.wtf8.specs.UnitRows.{IsOfKind, BeginsWithUnits, firsts_of, unit_of_two, unit_of_three, units_of_rows}
