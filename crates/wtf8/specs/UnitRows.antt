@@ -1,13 +1,12 @@
 -- For private functions: code points of equally many bytes, one behind the other, and their units.
-use Rattle.std.specs.Prelude.{ℕ, zero, suc, ◌+◌, ◌*◌, ◌%◌, ◌<◌, ◌≤◌, List, [], ◌∷◌, drop, get_or}
+use Rattle.std.specs.Prelude.{◌≡◌, ℕ, zero, suc, ◌+◌, ◌*◌, ◌/◌, ◌%◌, List, [], ◌∷◌, ◌++◌, drop, get_or}
+use Rattle.wtf8.specs.Form.{IsWellFormed}
+use Rattle.wtf8.specs.Unicode.{units}
 
--- A byte that begins a code point of two bytes (Unicode 3.9, "UTF-8", Table 3-6).
-abbrev pub BeginsTwo : ℕ → Type 0
-BeginsTwo b = (0xC0 ≤ b) × (b < 0xE0)
-
--- A byte that begins a code point of three bytes (Unicode 3.9, "UTF-8", Table 3-6).
-abbrev pub BeginsThree : ℕ → Type 0
-BeginsThree b = (0xE0 ≤ b) × (b < 0xF0)
+-- Bytes of a kind are those that a size divides to its number: of the size 32 those of number 6 begin code points of two bytes, and of the size 16 those of
+-- number 14 code points of three bytes (Unicode 3.9, "UTF-8", Table 3-6).
+abbrev pub IsOfKind : ℕ → ℕ → ℕ → Type 0
+IsOfKind size kind b = b / size ≡ kind
 
 -- The first bytes of so many parts of n bytes each.
 abbrev pub firsts_of : ℕ → ℕ → List ℕ → List ℕ
@@ -26,3 +25,7 @@ unit_of_three w = (get_or w 0 0 % 16 * 64 + get_or w 1 0 % 64) * 64 + get_or w 2
 abbrev pub units_of_rows : ℕ → (List ℕ → ℕ) → ℕ → List ℕ → List ℕ
 units_of_rows n f zero w = []
 units_of_rows n f (suc k) w = f w ∷ units_of_rows n f k (drop n w)
+
+-- Bytes of a string begin with these units, and hold the rest of the string from a place on.
+abbrev pub BeginsWithUnits : List ℕ → List ℕ → ℕ → Type 0
+BeginsWithUnits w v at = (h : IsWellFormed w) → (rest : IsWellFormed (drop at w)) × (units h.points ≡ v ++ units rest.points)

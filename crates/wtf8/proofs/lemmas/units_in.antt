@@ -1,3 +1,4 @@
 pub mod Blocks
 pub mod Decoding
+pub mod LowBlocks
 pub mod Pieces

@@ -107,26 +107,40 @@ pub(crate) fn are_turns_clear<const N: usize, S: Turn<N>>(s: &S, from: usize, en
     s.is_clear(end - N)
 }
 
-/// Whether there is no hit at the places of one turn or fewer.
+/// Whether there is no hit at the places of one block or fewer.
 #[inline(always)]
-pub(crate) fn is_turn_clear<S: Ends<4> + Ends<8> + Ends<16> + Ends<32> + Ends<64>>(
+pub(crate) fn is_short_clear<S: Ends<4> + Ends<8> + Ends<16> + Ends<32> + Block<16> + Block<32>>(
     s: &S,
     end: usize,
 ) -> bool
-    requires few { end ≤ TURN }
+    requires few { end ≤ BLOCK }
     requires room { end ≤ S.limit s.now }
     ensures { Tells (S.exact s.now) (S.hit s.now) 0 end result }
 {
     if end <= VECTOR {
         return is_vector_clear(s, end);
     }
+    is_long_clear(s, end)
+}
+
+/// The same of no fewer places than a vector has.
+#[inline(always)]
+pub(crate) fn is_long_clear<S: Ends<16> + Ends<32> + Block<16> + Block<32>>(
+    s: &S,
+    end: usize,
+) -> bool
+    requires many { VECTOR ≤ end }
+    requires few { end ≤ BLOCK }
+    requires room { end ≤ S.limit s.now }
+    ensures { Tells (S.exact s.now) (S.hit s.now) 0 end result }
+{
     if end <= 32 {
         return are_ends_clear::<16, S>(s, end);
     }
-    if end <= BLOCK {
-        return are_ends_clear::<32, S>(s, end);
+    if end <= 48 {
+        return is_block_clear::<32, S>(s, 0) & is_block_clear::<16, S>(s, end - 16);
     }
-    are_ends_clear::<64, S>(s, end)
+    are_ends_clear::<32, S>(s, end)
 }
 
 /// The same of no more places than a vector has.

@@ -24,6 +24,13 @@ const HALF_VECTOR: usize = VECTOR / 2;
 /// How many blocks are added lane by lane before they are summed; a lane of each is at most 2.
 const ADDED: usize = 8;
 
+/// How many units begin at least in so many blocks. A unit has no more than three bytes.
+const LEAST_ADDED: usize = ADDED * BLOCK / 3;
+
+/// How many units further a unit is at least where the next `VECTOR` bytes are counted together; half as many where half as
+/// many bytes are.
+const LIKELY: usize = 11;
+
 /// A place among bytes, and how many units begin before it.
 #[derive(Clone, Copy)]
 struct Place {
@@ -133,6 +140,78 @@ fn behind_block<const N: usize>(bytes: &[u8], unit: usize, from: Place) -> Optio
     })
 }
 
+/// The place behind the blocks of `N` bytes from a place on that the unit is behind too, as long as it is so many units
+/// further at least. With fewer it is likely to be in the next block, which is then not worth counting.
+#[inline(always)]
+fn behind_likely_blocks<const N: usize>(
+    bytes: &[u8],
+    unit: usize,
+    least: usize,
+    from: Place,
+) -> Place
+    requires lanes { (0 < N) × (N ≤ u64.BITS) }
+    requires within { from.at ≤ length bytes.now }
+    requires counted { from.units_before ≡ all_units_begun (take from.at bytes.now) }
+    requires not_beyond { from.units_before ≤ unit }
+    ensures within { result.at ≤ length bytes.now }
+    ensures counted { result.units_before ≡ all_units_begun (take result.at bytes.now) }
+    ensures not_beyond { result.units_before ≤ unit }
+{
+    let mut place = from;
+    while least <= unit - place.units_before {
+        let Some(behind) = behind_block::<N>(bytes, unit, place) else {
+            return place;
+        };
+        place = behind;
+    }
+    place
+}
+
+/// The place behind as many of the `N` bytes from a place on as are before the unit, where there are so many bytes and all
+/// are ASCII.
+#[inline(always)]
+fn behind_ascii<const N: usize>(bytes: &[u8], unit: usize, from: Place) -> Option<Place>
+    requires lanes { N ≤ u64.BITS }
+    requires within { from.at ≤ length bytes.now }
+    requires counted { from.units_before ≡ all_units_begun (take from.at bytes.now) }
+    requires not_beyond { from.units_before ≤ unit }
+    ensures within { IfSome result (λ place. place.at ≤ length bytes.now) }
+    ensures counted { IfSome result (λ place. place.units_before ≡ all_units_begun (take place.at bytes.now)) }
+    ensures not_beyond { IfSome result (λ place. place.units_before ≤ unit) }
+{
+    if bytes.len() - from.at < N {
+        return None;
+    }
+    if !is_below(Simd::<u8, N>::from_slice(&bytes[from.at..]), 0x80) {
+        return None;
+    }
+    let more = (unit - from.units_before).min(N);
+    Some(Place {
+        at: from.at + more,
+        units_before: from.units_before + more,
+    })
+}
+
+/// The place behind all blocks that are added lane by lane and that the unit is behind too.
+#[inline(always)]
+fn behind_added_blocks(bytes: &[u8], unit: usize) -> Place
+    ensures within { result.at ≤ length bytes.now }
+    ensures counted { result.units_before ≡ all_units_begun (take result.at bytes.now) }
+    ensures not_beyond { result.units_before ≤ unit }
+{
+    let mut at = 0;
+    let mut units_before = 0;
+    while ADDED * BLOCK <= bytes.len() - at && LEAST_ADDED <= unit - units_before {
+        let more = units_begun_in_blocks(bytes, at);
+        if unit - units_before < more {
+            return Place { at, units_before };
+        }
+        units_before += more;
+        at += ADDED * BLOCK;
+    }
+    Place { at, units_before }
+}
+
 /// The place behind all blocks that the unit is behind too.
 #[inline(always)]
 fn behind_blocks(bytes: &[u8], unit: usize) -> Place
@@ -156,15 +235,11 @@ fn behind_blocks_of_many(bytes: &[u8], unit: usize) -> Place
     ensures counted { result.units_before ≡ all_units_begun (take result.at bytes.now) }
     ensures not_beyond { result.units_before ≤ unit }
 {
-    let mut place = Place {
-        at: 0,
-        units_before: 0,
-    };
-    while let Some(behind) = behind_block::<BLOCK>(bytes, unit, place) {
-        place = behind;
-    }
-    let place = behind_block::<HALF_BLOCK>(bytes, unit, place).unwrap_or(place);
-    behind_block::<VECTOR>(bytes, unit, place).unwrap_or(place)
+    let place = behind_added_blocks(bytes, unit);
+    let place = behind_likely_blocks::<BLOCK>(bytes, unit, BLOCK / 3, place);
+    let place = behind_likely_blocks::<VECTOR>(bytes, unit, LIKELY, place);
+    let place = behind_likely_blocks::<HALF_VECTOR>(bytes, unit, LIKELY / 2, place);
+    behind_ascii::<HALF_VECTOR>(bytes, unit, place).unwrap_or(place)
 }
 
 /// The place of the code point that holds a unit, or the end, where the bytes have no such unit.
@@ -188,22 +263,6 @@ fn count_units_from(bytes: &[u8], from: Place) -> usize
     units
 }
 
-/// The place behind all blocks that are added lane by lane.
-#[inline(always)]
-fn behind_added_blocks(bytes: &[u8]) -> Place
-    requires { all_units_begun bytes.now < 2 ^ 64 }
-    ensures within { result.at ≤ length bytes.now }
-    ensures counted { result.units_before ≡ all_units_begun (take result.at bytes.now) }
-{
-    let mut at = 0;
-    let mut units_before = 0;
-    while ADDED * BLOCK <= bytes.len() - at {
-        units_before += units_begun_in_blocks(bytes, at);
-        at += ADDED * BLOCK;
-    }
-    Place { at, units_before }
-}
-
 /// How many units begin among the bytes.
 fn count_units(bytes: &[u8]) -> usize
     requires { all_units_begun bytes.now < 2 ^ 64 }
@@ -225,7 +284,7 @@ fn count_units_of_many(bytes: &[u8]) -> usize
     requires { all_units_begun bytes.now < 2 ^ 64 }
     ensures { result ≡ all_units_begun bytes.now }
 {
-    let mut place = behind_added_blocks(bytes);
+    let mut place = behind_added_blocks(bytes, usize::MAX);
     while let Some(behind) = behind_block::<HALF_BLOCK>(bytes, usize::MAX, place) {
         place = behind;
     }

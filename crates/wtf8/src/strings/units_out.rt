@@ -1,14 +1,15 @@
 // The units of a string, appended to a vector of units.
-ghost use Rattle.std.specs.Prelude.{◌≡◌, ◌∷◌, ◌++◌, ◌+◌, ◌<◌, ◌≤◌, length, take, drop, slice_index, IfSome, IfNone, IsOk, OnOk, OnErr, vec_len, vec_capacity};
+ghost use Rattle.std.specs.Prelude.{◌≡◌, ◌++◌, ◌+◌, ◌*◌, ◌<◌, ◌≤◌, length, take, drop, IsOk, OnOk, OnErr, vec_len, vec_capacity};
 ghost use lib.Lanes.{Each1};
 ghost use Rattle.wtf8.specs.CodePoint.{number};
 ghost use Rattle.wtf8.specs.Form.{IsWellFormed};
+ghost use Rattle.wtf8.specs.Gains.{IsReadAs};
 ghost use Rattle.wtf8.specs.UnitParts.{AreAscii};
 ghost use Rattle.wtf8.specs.Unicode.{units_of};
-ghost use Rattle.wtf8.specs.UnitRows.{BeginsTwo, BeginsThree, firsts_of, unit_of_two, unit_of_three, units_of_rows};
+ghost use Rattle.wtf8.specs.UnitRows.{IsOfKind, BeginsWithUnits, firsts_of, unit_of_two, unit_of_three, units_of_rows};
 ghost use Rattle.wtf8.specs.View.{view_points, view_units};
 
-use crate::lanes::{VECTOR, copies};
+use crate::lanes::VECTOR;
 use crate::numbers::code_point::CodePoint;
 use crate::numbers::encoding;
 use crate::numbers::surrogates::{lead_of, trail_of};
@@ -49,23 +50,38 @@ fn widened(block: u8x16) -> [u16; VECTOR]
     block.cast::<u16>().to_array()
 }
 
+/// Appends the first units of a block, for which there is room. They are copied together, by two stores or by one, and those
+/// behind them are cut off again.
+#[inline(always)]
+fn push_front<const N: usize, B: Allocator>(units: &mut Vec<u16, B>, block: [u16; N], count: usize)
+    requires room { vec_len units.old + N ≤ vec_capacity units.old }
+    requires within { count ≤ N }
+    ensures items { units.new.items ≡ units.old.items ++ take count block.entry }
+    ensures capacity { vec_capacity units.old ≤ vec_capacity units.new }
+{
+    let end = units.len() + count;
+    let _ = units.extend_from_slice(&block);
+    units.truncate(end);
+}
+
 /// Appends the ASCII bytes at the front, as far as a block of them tells, where there is room for a block, and answers
 /// how many.
 #[inline(always)]
 fn widen_ascii_front<B: Allocator>(units: &mut Vec<u16, B>, bytes: &[u8]) -> usize
+    requires { 0 < length bytes.now }
     ensures within { result ≤ length bytes.now }
+    ensures most { result ≤ VECTOR }
+    ensures more { result < VECTOR → result < length bytes.now }
     ensures ascii { AreAscii (take result bytes.now) }
     ensures items { units.new.items ≡ units.old.items ++ take result bytes.now }
-    ensures capacity { vec_capacity units.new ≡ vec_capacity units.old }
+    ensures capacity { vec_capacity units.old ≤ vec_capacity units.new }
 {
-    let len = units.len();
-    if bytes.len() < VECTOR || 0x80 <= bytes[0] || units.capacity() - len < VECTOR {
+    if bytes.len() < VECTOR || units.capacity() - units.len() < VECTOR {
         return 0;
     }
     let block = u8x16::from_slice(bytes);
     let count = count_ascii_bytes(block);
-    copies::push_block(units, widened(block));
-    units.truncate(len + count);
+    push_front(units, widened(block), count);
     count
 }
 
@@ -74,7 +90,7 @@ fn widen_ascii_front<B: Allocator>(units: &mut Vec<u16, B>, bytes: &[u8]) -> usi
 fn push_units<B: Allocator>(units: &mut Vec<u16, B>, code_point: CodePoint)
     requires { vec_len units.old + length (units_of (number code_point)) ≤ vec_capacity units.old }
     ensures items { units.new.items ≡ units.old.items ++ units_of (number code_point) }
-    ensures capacity { vec_capacity units.new ≡ vec_capacity units.old }
+    ensures capacity { vec_capacity units.old ≤ vec_capacity units.new }
 {
     let value = code_point.to_u32();
     if value < 0x10000 {
@@ -85,70 +101,103 @@ fn push_units<B: Allocator>(units: &mut Vec<u16, B>, code_point: CodePoint)
     }
 }
 
-/// Appends the units of the first code point, for which there is room, and answers the view behind it, or `None` where
-/// the string is empty.
+/// Appends the unit of the first code point, which has one, and answers the view behind its bytes.
 #[inline(always)]
-fn widen_point<'a, B: Allocator>(units: &mut Vec<u16, B>, view: Wtf8<'a>) -> Option<Wtf8<'a>>
-    requires { vec_len units.old + length (view_units view) ≤ vec_capacity units.old }
-    ensures none { IfNone result (units.new.items ≡ units.old.items ++ view_units view.entry) }
-    ensures some { IfSome result (λ rest. units.new.items ++ view_units rest ≡ units.old.items ++ view_units view.entry) }
-    ensures shorter { IfSome result (λ rest. length rest.bytes.now < length view.entry.bytes.now) }
-    ensures capacity { vec_capacity units.new ≡ vec_capacity units.old }
-{
-    let (code_point, rest) = view.split_first()?;
-    push_units(units, code_point);
-    Some(rest)
-}
-
-/// Appends the unit of the first code point, which has two bytes, and answers the view behind it.
-#[inline(always)]
-fn widen_two<'a, B: Allocator>(units: &mut Vec<u16, B>, view: Wtf8<'a>) -> Wtf8<'a>
+fn widen_unit<'a, B: Allocator>(
+    units: &mut Vec<u16, B>,
+    view: Wtf8<'a>,
+    value: u32,
+    width: usize,
+) -> Wtf8<'a>
     requires room { vec_len units.old + length (view_units view) ≤ vec_capacity units.old }
-    requires long { 1 < length view.bytes.now }
-    requires least { 0x80 ≤ slice_index view.bytes.now 0 }
-    requires most { slice_index view.bytes.now 0 < 0xE0 }
+    requires some { 0 < length view.bytes.now }
+    requires read { IsReadAs view.bytes.now value width }
+    requires one_unit { value < 0x10000 }
     ensures units { units.new.items ++ view_units result ≡ units.old.items ++ view_units view.entry }
     ensures shorter { length result.bytes.now < length view.entry.bytes.now }
-    ensures capacity { vec_capacity units.new ≡ vec_capacity units.old }
+    ensures capacity { vec_capacity units.old ≤ vec_capacity units.new }
 {
-    units.push_reserved(encoding::read_two(view.bytes) as u16);
-    view.behind(2)
+    units.push_reserved(value as u16);
+    view.behind(width)
 }
 
-/// Appends the ASCII at the front and, where it ends before a block of it does, the code point behind it, unless that begins
-/// a block of its own, and answers the view behind them, or `None` where the string is done.
+/// Appends the units of the first code point, for which there is room, and answers the view behind it.
 #[inline(always)]
-fn widen_ascii<'a, B: Allocator>(units: &mut Vec<u16, B>, view: Wtf8<'a>) -> Option<Wtf8<'a>>
-    requires { vec_len units.old + length (view_units view) ≤ vec_capacity units.old }
-    ensures none { IfNone result (units.new.items ≡ units.old.items ++ view_units view.entry) }
-    ensures some { IfSome result (λ rest. units.new.items ++ view_units rest ≡ units.old.items ++ view_units view.entry) }
-    ensures shorter { IfSome result (λ rest. length rest.bytes.now < length view.entry.bytes.now) }
-    ensures capacity { vec_capacity units.new ≡ vec_capacity units.old }
+fn widen_point<'a, B: Allocator>(units: &mut Vec<u16, B>, view: Wtf8<'a>) -> Wtf8<'a>
+    requires room { vec_len units.old + length (view_units view) ≤ vec_capacity units.old }
+    requires some { 0 < length view.bytes.now }
+    ensures units { units.new.items ++ view_units result ≡ units.old.items ++ view_units view.entry }
+    ensures shorter { length result.bytes.now < length view.entry.bytes.now }
+    ensures capacity { vec_capacity units.old ≤ vec_capacity units.new }
+{
+    match view.bytes[0] {
+        0x80..=0xDF => widen_unit(units, view, encoding::read_two(view.bytes), 2),
+        0xE0..=0xEF => widen_unit(units, view, encoding::read_three(view.bytes), 3),
+        _ => {
+            let (code_point, width) = encoding::read(view.bytes, 0);
+            push_units(units, code_point);
+            view.behind(width)
+        }
+    }
+}
+
+/// Appends the ASCII at the front and, where it ends before a block of it does, the code point behind it, and answers the
+/// view behind them.
+#[inline(always)]
+fn widen_ascii<'a, B: Allocator>(units: &mut Vec<u16, B>, view: Wtf8<'a>) -> Wtf8<'a>
+    requires room { vec_len units.old + length (view_units view) ≤ vec_capacity units.old }
+    requires some { 0 < length view.bytes.now }
+    ensures units { units.new.items ++ view_units result ≡ units.old.items ++ view_units view.entry }
+    ensures shorter { length result.bytes.now < length view.entry.bytes.now }
+    ensures capacity { vec_capacity units.old ≤ vec_capacity units.new }
 {
     let count = widen_ascii_front(units, view.bytes);
     let behind = view.behind_ascii(count);
     if count == VECTOR {
-        return Some(behind);
+        return behind;
     }
-    match behind.bytes {
-        [0xC0..=0xDF, _, 0x00..=0x7F, ..] => Some(widen_two(units, behind)),
-        [0xC0..=0xDF, ..] if 0 < count => Some(behind),
-        _ => widen_point(units, behind),
-    }
+    widen_point(units, behind)
 }
 
-/// How many of eight first bytes stand before one that begins no code point of two bytes.
+/// How many of eight bytes stand before the first one of another kind: kinds are as many bytes each, and have numbers.
 #[inline(always)]
-fn count_two_bytes(firsts: u8x8) -> usize
+fn count_of_kind(bytes: u8x8, size: u8, kind: u8) -> usize
+    requires { 0 < size }
     ensures within { result ≤ 8 }
-    ensures each { Each1 BeginsTwo (take result firsts) }
+    ensures each { Each1 (IsOfKind size kind) (take result bytes) }
 {
-    let kinds = firsts / u8x8::splat(32);
-    let others = kinds.simd_ne(u8x8::splat(6)).to_bitmask();
+    let kinds = bytes / u8x8::splat(size);
+    let others = kinds.simd_ne(u8x8::splat(kind)).to_bitmask();
     if others == 0 {
         return 8;
     }
     others.trailing_zeros() as usize
+}
+
+/// Appends the first units of a block, where there are some and there is room for the block, or the units of the first code
+/// point, and answers the view behind them. Each unit of the block is that of so many bytes.
+#[inline(always)]
+fn widen_block<'a, B: Allocator>(
+    units: &mut Vec<u16, B>,
+    view: Wtf8<'a>,
+    block: [u16; 8],
+    count: usize,
+    width: usize,
+) -> Wtf8<'a>
+    requires room { vec_len units.old + length (view_units view) ≤ vec_capacity units.old }
+    requires some { 0 < length view.bytes.now }
+    requires within { (count ≤ 8) × (width * count ≤ length view.bytes.now) }
+    requires wide { count ≤ width * count }
+    requires begins { BeginsWithUnits view.bytes.now (take count block) (width * count) }
+    ensures units { units.new.items ++ view_units result ≡ units.old.items ++ view_units view.entry }
+    ensures shorter { length result.bytes.now < length view.entry.bytes.now }
+    ensures capacity { vec_capacity units.old ≤ vec_capacity units.new }
+{
+    if count == 0 || units.capacity() - units.len() < 8 {
+        return widen_point(units, view);
+    }
+    push_front(units, block, count);
+    view.behind(width * count)
 }
 
 /// The first bytes of eight code points of two bytes, and their units.
@@ -167,42 +216,22 @@ fn read_twos(bytes: [u8; 16]) -> (u8x8, [u16; 8])
     (first, units.to_array())
 }
 
-/// Appends the code points of two bytes at the front, as far as a block of them tells, where there is room for a block, or
-/// the first code point, and answers the view behind them, or `None` where the string is empty.
+/// Appends the code points of two bytes at the front, as far as a block of them tells, or the first code point, and answers
+/// the view behind them.
 #[inline(always)]
-fn widen_two_bytes<'a, B: Allocator>(units: &mut Vec<u16, B>, view: Wtf8<'a>) -> Option<Wtf8<'a>>
-    requires { vec_len units.old + length (view_units view) ≤ vec_capacity units.old }
-    ensures none { IfNone result (units.new.items ≡ units.old.items ++ view_units view.entry) }
-    ensures some { IfSome result (λ rest. units.new.items ++ view_units rest ≡ units.old.items ++ view_units view.entry) }
-    ensures shorter { IfSome result (λ rest. length rest.bytes.now < length view.entry.bytes.now) }
-    ensures capacity { vec_capacity units.new ≡ vec_capacity units.old }
+fn widen_twos<'a, B: Allocator>(units: &mut Vec<u16, B>, view: Wtf8<'a>) -> Wtf8<'a>
+    requires room { vec_len units.old + length (view_units view) ≤ vec_capacity units.old }
+    requires some { 0 < length view.bytes.now }
+    ensures units { units.new.items ++ view_units result ≡ units.old.items ++ view_units view.entry }
+    ensures shorter { length result.bytes.now < length view.entry.bytes.now }
+    ensures capacity { vec_capacity units.old ≤ vec_capacity units.new }
 {
-    let len = units.len();
-    if view.bytes.len() < 16 || units.capacity() - len < 8 {
+    if view.bytes.len() < 16 {
         return widen_point(units, view);
     }
     let (firsts, block) = read_twos(u8x16::from_slice(view.bytes).to_array());
-    let count = count_two_bytes(firsts);
-    if count == 0 {
-        return widen_point(units, view);
-    }
-    copies::push_block(units, block);
-    units.truncate(len + count);
-    Some(view.behind(2 * count))
-}
-
-/// How many of eight first bytes stand before one that begins no code point of three bytes.
-#[inline(always)]
-fn count_three_bytes(firsts: u8x8) -> usize
-    ensures within { result ≤ 8 }
-    ensures each { Each1 BeginsThree (take result firsts) }
-{
-    let kinds = firsts / u8x8::splat(16);
-    let others = kinds.simd_ne(u8x8::splat(14)).to_bitmask();
-    if others == 0 {
-        return 8;
-    }
-    others.trailing_zeros() as usize
+    let count = count_of_kind(firsts, 32, 6);
+    widen_block(units, view, block, count, 2)
 }
 
 /// The first bytes of eight code points of three bytes, and their units.
@@ -264,41 +293,40 @@ fn read_threes(bytes: [u8; 32]) -> (u8x8, [u16; 8])
 
 /// The same for code points of three bytes, surrogates among them.
 #[inline(always)]
-fn widen_three_bytes<'a, B: Allocator>(units: &mut Vec<u16, B>, view: Wtf8<'a>) -> Option<Wtf8<'a>>
-    requires { vec_len units.old + length (view_units view) ≤ vec_capacity units.old }
-    ensures none { IfNone result (units.new.items ≡ units.old.items ++ view_units view.entry) }
-    ensures some { IfSome result (λ rest. units.new.items ++ view_units rest ≡ units.old.items ++ view_units view.entry) }
-    ensures shorter { IfSome result (λ rest. length rest.bytes.now < length view.entry.bytes.now) }
-    ensures capacity { vec_capacity units.new ≡ vec_capacity units.old }
+fn widen_threes<'a, B: Allocator>(units: &mut Vec<u16, B>, view: Wtf8<'a>) -> Wtf8<'a>
+    requires room { vec_len units.old + length (view_units view) ≤ vec_capacity units.old }
+    requires some { 0 < length view.bytes.now }
+    ensures units { units.new.items ++ view_units result ≡ units.old.items ++ view_units view.entry }
+    ensures shorter { length result.bytes.now < length view.entry.bytes.now }
+    ensures capacity { vec_capacity units.old ≤ vec_capacity units.new }
 {
-    let len = units.len();
-    if view.bytes.len() < 32 || units.capacity() - len < 8 {
+    if view.bytes.len() < 32 {
         return widen_point(units, view);
     }
     let (firsts, block) = read_threes(u8x32::from_slice(view.bytes).to_array());
-    let count = count_three_bytes(firsts);
-    if count == 0 {
-        return widen_point(units, view);
-    }
-    copies::push_block(units, block);
-    units.truncate(len + count);
-    Some(view.behind(3 * count))
+    let count = count_of_kind(firsts, 16, 14);
+    widen_block(units, view, block, count, 3)
 }
 
-/// Appends the units at the front, those of a block where the first two code points have as many bytes, or of the first one,
-/// for which there is room, and answers the view behind them, or `None` where the string is done.
+/// Appends the units at the front, for which there is room, and answers the view behind them: those of a block where there
+/// are bytes for one and the first two code points have as many bytes, or of the first one.
 #[inline(always)]
-fn widen_front<'a, B: Allocator>(units: &mut Vec<u16, B>, view: Wtf8<'a>) -> Option<Wtf8<'a>>
-    requires { vec_len units.old + length (view_units view) ≤ vec_capacity units.old }
-    ensures none { IfNone result (units.new.items ≡ units.old.items ++ view_units view.entry) }
-    ensures some { IfSome result (λ rest. units.new.items ++ view_units rest ≡ units.old.items ++ view_units view.entry) }
-    ensures shorter { IfSome result (λ rest. length rest.bytes.now < length view.entry.bytes.now) }
-    ensures capacity { vec_capacity units.new ≡ vec_capacity units.old }
+fn widen_front<'a, B: Allocator>(units: &mut Vec<u16, B>, view: Wtf8<'a>) -> Wtf8<'a>
+    requires room { vec_len units.old + length (view_units view) ≤ vec_capacity units.old }
+    requires some { 0 < length view.bytes.now }
+    ensures units { units.new.items ++ view_units result ≡ units.old.items ++ view_units view.entry }
+    ensures shorter { length result.bytes.now < length view.entry.bytes.now }
+    ensures capacity { vec_capacity units.old ≤ vec_capacity units.new }
 {
+    // The length is compared once, before the patterns, which would each compare it.
+    if view.bytes.len() < VECTOR {
+        return widen_point(units, view);
+    }
     match view.bytes {
-        [0xC0..=0xDF, _, 0xC0..=0xDF, ..] => widen_two_bytes(units, view),
-        [0xE0..=0xEF, _, _, 0xE0..=0xEF, ..] => widen_three_bytes(units, view),
-        _ => widen_ascii(units, view),
+        [0x00..=0x7F, 0x00..=0x7F, ..] => widen_ascii(units, view),
+        [0xC0..=0xDF, _, 0xC0..=0xDF, ..] => widen_twos(units, view),
+        [0xE0..=0xEF, _, _, 0xE0..=0xEF, ..] => widen_threes(units, view),
+        _ => widen_point(units, view),
     }
 }
 
@@ -337,8 +365,8 @@ impl<'a> Wtf8<'a> {
     {
         units.reserve(self.unit_len())?;
         let mut rest = *self;
-        while let Some(behind) = widen_front(units, rest) {
-            rest = behind;
+        while !rest.is_empty() {
+            rest = widen_front(units, rest);
         }
         Ok(())
     }

@@ -1,5 +1,6 @@
 // Code units on their way in, as bytes.
 pub(crate) mod decode;
+pub(crate) mod low_blocks;
 pub(crate) mod mixed_blocks;
 pub(crate) mod unit_blocks;
 

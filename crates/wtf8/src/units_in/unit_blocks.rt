@@ -1,12 +1,12 @@
 // Code units turned into bytes by the kind of the first: ASCII units sixteen together and those before another one, eight of
 // two or of three bytes together, any others in mixed blocks or one after another.
-ghost use Rattle.std.specs.Prelude.{◌≡◌, List, [], ◌+◌, ◌++◌, ◌-◌, ◌*◌, ◌%◌, ◌<◌, ◌≤◌, length, map, take, drop, IfOk, IfSome, IfNone, IsOk, IsTrue, OnOk};
+ghost use Rattle.std.specs.Prelude.{◌≡◌, ℕ, List, [], ◌+◌, ◌++◌, ◌-◌, ◌*◌, ◌%◌, ◌<◌, ◌≤◌, length, map, take, drop, IfOk, IfSome, IfNone, IsOk, IsTrue, OnOk};
 ghost use Rattle.wtf8.specs.Form.{bytes as bytes_of};
 ghost use Rattle.wtf8.specs.UnitParts.{AppendsAscii, AppendsPart, IsKnownForm, DividesNoPair, AreAscii, AreTwoByteUnits, AreThreeByteUnits, IsBlock};
 
 use crate::numbers::encoding;
 use crate::numbers::surrogates::{FIRST_LEAD, FIRST_TRAIL, LAST_TRAIL};
-use crate::units_in::{NUMBERS, decode, mixed_blocks};
+use crate::units_in::{NUMBERS, decode, low_blocks, mixed_blocks};
 use std::alloc::{AllocError, Allocator};
 use std::simd::prelude::*;
 
@@ -291,6 +291,37 @@ fn append_sixteen<A: Allocator>(
     Ok(at + count)
 }
 
+/// Appends the ASCII units behind others, where they are the last ones and fewer than sixteen, by the last sixteen of all, of
+/// which those before them are appended anew; and answers where they end.
+#[inline(always)]
+fn append_last<A: Allocator>(
+    bytes: &mut Vec<u8, A>,
+    v: &[u16],
+    front: usize,
+    at: usize,
+) -> Result<usize, AllocError>
+    requires within { at ≤ length v.now }
+    requires long { front + NUMBERS ≤ at }
+    requires kept { NUMBERS ≤ length bytes.old.items }
+    ensures { IfOk result (λ end. (start : List ℕ) → AppendsAscii start bytes.old.items v.now front at → AppendsAscii start bytes.new.items v.now front end) }
+{
+    let left = v.len() - at;
+    if left == 0 || NUMBERS <= left {
+        return Ok(at);
+    }
+    let Some(units) = units_from(v, v.len() - NUMBERS) else {
+        return Ok(at);
+    };
+    let units = u16x16::from_array(units);
+    if count_ascii(units) < NUMBERS {
+        return Ok(at);
+    }
+    let kept = bytes.len() - (NUMBERS - left);
+    bytes.truncate(kept);
+    bytes.extend_from_slice(&low_bytes(units))?;
+    Ok(v.len())
+}
+
 /// Appends the ASCII units from a place on, as far as blocks tell, and answers where they end.
 #[inline(always)]
 fn append_ascii<A: Allocator>(
@@ -307,7 +338,8 @@ fn append_ascii<A: Allocator>(
     }
     let many = append_ascii_blocks(bytes, v, front)?;
     let end = append_sixteen(bytes, v, many)?;
-    Ok(end)
+    let last = append_last(bytes, v, at, end)?;
+    Ok(last)
 }
 
 /// Appends the bytes of the code point at a place, and answers where it ends and whether it is a scalar value.
@@ -325,6 +357,25 @@ fn append_point<A: Allocator>(
     Ok((end, is_scalar))
 }
 
+/// Appends the ASCII units from a place on, as far as blocks tell, of which there is one at least, and the bytes of the
+/// code point behind them where that is not ASCII, and answers where these end and whether that is a scalar value.
+#[inline(always)]
+fn append_ascii_run<A: Allocator>(
+    bytes: &mut Vec<u8, A>,
+    v: &[u16],
+    at: usize,
+) -> Result<(usize, bool), AllocError>
+    requires { at < length v.now }
+    ensures { IfOk result (λ part. AppendsPart bytes.old.items bytes.new.items v.now at part.0 part.1) }
+{
+    let front = append_ascii(bytes, v, at)?;
+    if front > at && (front == v.len() || v[front] < 0x80) {
+        return Ok((front, true));
+    }
+    let (end, is_scalar) = append_point(bytes, v, front)?;
+    Ok((end, is_scalar))
+}
+
 /// Appends the bytes of the ASCII units from a place on, as far as blocks tell, and of the code point behind them
 /// where that is not ASCII, and answers where these end and whether no surrogate is alone among them.
 #[inline(always)]
@@ -337,15 +388,16 @@ fn append_front<A: Allocator>(
     ensures none { IfOk result (λ part. IfNone part (bytes.new.items ≡ bytes.old.items)) }
     ensures some { IfOk result (λ part. IfSome part (λ part. AppendsPart bytes.old.items bytes.new.items v.now at part.0 part.1)) }
 {
-    let front = append_ascii(bytes, v, at)?;
-    if front == at {
+    let Some(units) = units_from(v, at) else {
         return Ok(None);
+    };
+    let units = u16x16::from_array(units);
+    let count = count_ascii(units);
+    if count == NUMBERS {
+        return Ok(Some(append_ascii_run(bytes, v, at)?));
     }
-    if front == v.len() || v[front] < 0x80 {
-        return Ok(Some((front, true)));
-    }
-    let (end, is_scalar) = append_point(bytes, v, front)?;
-    Ok(Some((end, is_scalar)))
+    append_cut(bytes, units, count)?;
+    Ok(Some(append_point(bytes, v, at + count)?))
 }
 
 /// Appends the bytes of some units from a place on, sixteen together where that can be, and answers where they end and
@@ -367,8 +419,39 @@ fn append_mixed<A: Allocator>(
     Ok((end, is_scalar))
 }
 
-/// Appends the bytes of some units from a place on, as many together as the kind of the first lets hope for, and answers
-/// where they end and whether no surrogate is alone among them.
+/// Appends the bytes of as many units from a place on as the kind of the first lets hope to take together, where that can
+/// be, and answers where they end and whether no surrogate is alone among them.
+#[inline(always)]
+fn append_kind<A: Allocator>(
+    bytes: &mut Vec<u8, A>,
+    v: &[u16],
+    at: usize,
+) -> Result<Option<(usize, bool)>, AllocError>
+    requires { at < length v.now }
+    ensures none { IfOk result (λ part. IfNone part (bytes.new.items ≡ bytes.old.items)) }
+    ensures some { IfOk result (λ part. IfSome part (λ part. AppendsPart bytes.old.items bytes.new.items v.now at part.0 part.1)) }
+{
+    let unit = v[at];
+    if unit < 0x80 {
+        return append_front(bytes, v, at);
+    }
+    if unit < 0x800 {
+        if let Some(block) = two_byte_block(v, at) {
+            bytes.extend_from_slice(&block)?;
+            return Ok(Some((at + HALF, true)));
+        }
+        if let Some(taken) = low_blocks::append_block(bytes, v, at)? {
+            return Ok(Some((at + taken, true)));
+        }
+    } else if let Some(block) = three_byte_block(v, at) {
+        bytes.extend_from_slice(&block[..3 * HALF])?;
+        return Ok(Some((at + HALF, true)));
+    }
+    Ok(None)
+}
+
+/// Appends the bytes of some units from a place on, together where that can be, and answers where they end and whether no
+/// surrogate is alone among them.
 #[inline(always)]
 fn append_part<A: Allocator>(
     bytes: &mut Vec<u8, A>,
@@ -378,18 +461,9 @@ fn append_part<A: Allocator>(
     requires { at < length v.now }
     ensures { IfOk result (λ part. AppendsPart bytes.old.items bytes.new.items v.now at part.0 part.1) }
 {
-    let unit = v[at];
-    if 0x800 <= unit {
-        if let Some(block) = three_byte_block(v, at) {
-            bytes.extend_from_slice(&block[..3 * HALF])?;
-            return Ok((at + HALF, true));
-        }
-    } else if 0x80 <= unit {
-        if let Some(block) = two_byte_block(v, at) {
-            bytes.extend_from_slice(&block)?;
-            return Ok((at + HALF, true));
-        }
-    } else if let Some(part) = append_front(bytes, v, at)? {
+    if HALF <= v.len() - at
+        && let Some(part) = append_kind(bytes, v, at)?
+    {
         return Ok(part);
     }
     append_mixed(bytes, v, at)

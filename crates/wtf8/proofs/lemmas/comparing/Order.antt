@@ -261,7 +261,7 @@ parts_at (x ∷ w) (y ∷ v) (suc n) d both =
 
 -- The order of units: the bytes where two strings first differ, and the strings behind the place where they part.
 
-cmp_greater : (x y : ℕ) → y < x → nat_cmp x y ≡ Greater
+pub cmp_greater : (x y : ℕ) → y < x → nat_cmp x y ≡ Greater
 cmp_greater x y h = grind (arith, nat_tests)
 
 -- the numbers there, or the ends, are in the order of the lists

@@ -196,13 +196,12 @@ ascii_unit (p ∷ c) (suc k) low long =
     ap (λ u. slice_get u (suc k)) (units-cons_one p c (omega (arith, own.1))) ∙ (behind ∙ ap (λ w. Some (get_or w (suc k) 0)) (sym whole))
 
 -- the bytes of a block that has no lane from 80 on are below
-pub below_lanes : (n : ℕ) (w : List ℕ) → n ≤ length w → ¬ (HasLane 0x80 (chunk 0 n w)) → (j : ℕ) → j < n → get_or w j 0 < 0x80
-below_lanes n w room none j l =
-    let start : 0 + j ≡ j = omega arith in
-    let lane = get_or-chunk 0 n w j 0 l ∙ ap (λ i. get_or w i 0) start in
-    elim (cases_lt (get_or w j 0) 0x80) [
+pub below_lanes : (n i : ℕ) (w : List ℕ) → i + n ≤ length w → ¬ (HasLane 0x80 (chunk i n w)) → (j : ℕ) → j < n → get_or w (i + j) 0 < 0x80
+below_lanes n i w room none j l =
+    let lane = get_or-chunk i n w j 0 l in
+    elim (cases_lt (get_or w (i + j) 0) 0x80) [
       | inl low ↦ low
-      | inr high ↦ absurd (none (j, (omega (arith, length-chunk 0 n w (omega (arith, room)), l), omega (arith, lane, high))))
+      | inr high ↦ absurd (none (j, (omega (arith, length-chunk i n w room, l), omega (arith, lane, high))))
     ]
 
 -- Proofs of the laws of strings as contracts see them.

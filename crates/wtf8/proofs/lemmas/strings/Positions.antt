@@ -169,6 +169,19 @@ middle_of h begin end p f b =
 pub begun_more : (w : List ℕ) (i n : ℕ) → all_units_begun (take (i + n) w) ≡ all_units_begun (take i w) + all_units_begun (chunk i n w)
 begun_more w i n = ap all_units_begun (take-add i n w) ∙ sum_by-append units_begun (take i w) (take n (drop i w))
 
+-- bytes of ASCII begin as many units
+pub begun_ascii : (w : List ℕ) (i n : ℕ) → i + n ≤ length w → ((j : ℕ) → j < n → get_or w (i + j) 0 < 0x80)
+    → all_units_begun (take (i + n) w) ≡ all_units_begun (take i w) + n
+begun_ascii w i zero room low = omega (arith, ap (λ k. all_units_begun (take k w)) (start i))
+  where
+    start : (i : ℕ) → i + 0 ≡ i
+    start i = omega arith
+begun_ascii w i (suc n) room low =
+    let last : i + suc n ≡ i + n + 1 = omega arith in
+    let more = sum_by_more units_begun w (i + n) 0 (omega (arith, room)) in
+    let one = begun_low (get_or w (i + n) 0) (low n (omega arith)) in
+    omega (arith, ap (λ k. all_units_begun (take k w)) last, more, one, begun_ascii w i n (omega (arith, room)) (λ j l. low j (omega (arith, l))))
+
 pub blocks_more : (w : List ℕ) (i m n k : ℕ) → m + n ≡ k → all_units_begun (chunk i k w) ≡ all_units_begun (chunk i m w) + all_units_begun (chunk (i + m) n w)
 blocks_more w i m n k e =
     let ends : i + m + n ≡ i + k = omega (arith, e) in

@@ -1,14 +1,14 @@
 -- The string behind bytes of ASCII.
 use Rattle.wtf8.proofs.Common.{◌≡◌, ℕ, zero, suc, ◌<◌, ◌≤◌, List, [], ◌∷◌, ◌++◌, length, take, drop, get_or, refl, sym, ap, ◌∙◌, arith, AreAscii, IsWellFormed, units}
-use Rattle.wtf8.proofs.Common.{encoding, bytes, length-append, Wtf8}
+use Rattle.wtf8.proofs.Common.{encoding, bytes, length-append, units_of, view_units, Wtf8}
 use Rattle.wtf8.specs.View.{view_points}
 use Rattle.wtf8.proofs.lemmas.numbers.Encoding.{row_of, one, two, three, four, length-encoding_bounds}
 use Rattle.wtf8.proofs.Common.{◌+◌, ◌*◌, ◌%◌, subst, Each1, drop_at, drop-drop, length-drop, length-take, take-append-drop, append_assoc}
-use Rattle.std.proofs.Math.Seq.{take-append-add}
 use Rattle.std.proofs.lemmas.List.{get_or_append_left, drop-append-le}
 use native.Mathlib.Nat.{mul-suc}
-use Rattle.wtf8.specs.UnitRows.{BeginsTwo, BeginsThree, firsts_of, unit_of_two, unit_of_three, units_of_rows}
-use Rattle.wtf8.proofs.lemmas.numbers.Readings.{first_of, moved, units-cons_one}
+use Rattle.wtf8.specs.UnitRows.{IsOfKind, BeginsWithUnits, firsts_of, unit_of_two, unit_of_three, units_of_rows}
+use Rattle.wtf8.proofs.lemmas.numbers.Readings.{Taken, first_of, moved, taken, units-cons_one}
+use Rattle.wtf8.specs.Gains.{IsReadAs}
 
 -- a first byte of ASCII is a code point
 ascii_first : (b : ℕ) (v : List ℕ) (p : ℕ) (r : List ℕ) → b < 0x80 → b ∷ v ≡ encoding p ++ r → (p ≡ b) × (r ≡ v)
@@ -60,7 +60,7 @@ pub record Rows (n : ℕ) (P : ℕ → Type 0) (f : List ℕ → ℕ) : Type 0 w
   pub part : (p : ℕ) (r : List ℕ) → P (get_or (encoding p ++ r) 0 0) → Part n f p r
   pub local : (b r : List ℕ) → n ≤ length b → f (b ++ r) ≡ f b
 
-pub two_rows : Rows 2 BeginsTwo unit_of_two
+pub two_rows : Rows 2 (IsOfKind 32 6) unit_of_two
 two_rows = record {
   some = omega arith;
   part = part;
@@ -68,15 +68,15 @@ two_rows = record {
       ∙ ap (λ y. get_or b 0 0 % 32 * 64 + y % 64) (get_or_append_left b r 0 1 (omega arith));
 }
   where
-    part : (p : ℕ) (r : List ℕ) → BeginsTwo (get_or (encoding p ++ r) 0 0) → Part 2 unit_of_two p r
+    part : (p : ℕ) (r : List ℕ) → IsOfKind 32 6 (get_or (encoding p ++ r) 0 0) → Part 2 unit_of_two p r
     part p r h = elim (row_of p) [
-      | one l e ↦ absurd (omega (arith, rw e at h.0))
+      | one l e ↦ absurd (omega (arith, rw e at h))
       | two _ l e ↦ record { width = ap length e; read = ap (λ w. unit_of_two (w ++ r)) e ∙ omega arith; one_unit = omega arith }
-      | three l _ e ↦ absurd (omega (arith, rw e at h.1))
-      | four l e ↦ absurd (omega (arith, rw e at h.1))
+      | three l _ e ↦ absurd (omega (arith, rw e at h))
+      | four l e ↦ absurd (omega (arith, rw e at h))
     ]
 
-pub three_rows : Rows 3 BeginsThree unit_of_three
+pub three_rows : Rows 3 (IsOfKind 16 14) unit_of_three
 three_rows = record {
   some = omega arith;
   part = part;
@@ -86,12 +86,12 @@ three_rows = record {
       ∙ ap (λ z. (get_or b 0 0 % 16 * 64 + get_or b 1 0 % 64) * 64 + z % 64) (get_or_append_left b r 0 2 (omega arith)));
 }
   where
-    part : (p : ℕ) (r : List ℕ) → BeginsThree (get_or (encoding p ++ r) 0 0) → Part 3 unit_of_three p r
+    part : (p : ℕ) (r : List ℕ) → IsOfKind 16 14 (get_or (encoding p ++ r) 0 0) → Part 3 unit_of_three p r
     part p r h = elim (row_of p) [
-      | one l e ↦ absurd (omega (arith, rw e at h.0))
-      | two _ l e ↦ absurd (omega (arith, rw e at h.0))
+      | one l e ↦ absurd (omega (arith, rw e at h))
+      | two _ l e ↦ absurd (omega (arith, rw e at h))
       | three _ l e ↦ record { width = ap length e; read = ap (λ w. unit_of_three (w ++ r)) e ∙ omega arith; one_unit = l }
-      | four l e ↦ absurd (omega (arith, rw e at h.1))
+      | four l e ↦ absurd (omega (arith, rw e at h))
     ]
 
 -- behind some code points of n bytes each, whose first bytes are so
@@ -121,18 +121,19 @@ behind_rows {P} n f rows (suc c) (suc k) at w b r h e long same le each =
           ∙ (ap (λ m. m ∷ units first.rest) value ∙ ap (λ u. f b ∷ u) behind.whole));
     }
 
--- the string behind a part of a block of a view's first bytes
-pub behind_block : {P : ℕ → Type 0} (n m : ℕ) (f : List ℕ → ℕ) → Rows n P f → (view : Wtf8) (count at : ℕ) (firsts : List ℕ) → n * 8 ≤ m
-    → m ≤ length view.bytes.now → at ≡ n * count → count ≤ 8 → firsts ≡ firsts_of n 8 (take m view.bytes.now) → Each1 P (take count firsts)
-    → Behind view.bytes.now (take count (units_of_rows n f 8 (take m view.bytes.now))) at view.well_formed
-behind_block {P} n m f rows view count at firsts wide long same le e each =
-    let w = view.bytes.now in
-    behind_rows n f rows 8 count at w (take m w) (drop m w) view.well_formed (sym (take-append-drop m w)) (omega (arith, wide, long, length-take m w)) same le
-    (subst (λ v. Each1 P (take count v)) e each)
+-- a view's bytes begin with the first units of a block of their first parts
+pub begins_with_rows : {P : ℕ → Type 0} (n m : ℕ) (f : List ℕ → ℕ) → Rows n P f → (w : List ℕ) (count : ℕ) (firsts block : List ℕ) → n * 8 ≤ m
+    → m ≤ length w → count ≤ 8 → firsts ≡ firsts_of n 8 (take m w) → block ≡ units_of_rows n f 8 (take m w) → Each1 P (take count firsts)
+    → BeginsWithUnits w (take count block) (n * count)
+begins_with_rows {P} n m f rows w count firsts block wide long le e g each h =
+    let behind = behind_rows n f rows 8 count (n * count) w (take m w) (drop m w) h (sym (take-append-drop m w)) (omega (arith, wide, long, length-take m w)) refl le
+    (subst (λ v. Each1 P (take count v)) e each) in
+    (behind.rest, behind.whole ∙ ap (λ b. take count b ++ units behind.rest.points) (sym g))
 
--- a block behind what was there, cut, and what is left of the string
-pub block_cut : (old rows block all new rest whole : List ℕ) (len count : ℕ) → all ≡ old ++ block → block ≡ rows → len ≡ length old
-    → new ≡ take (len + count) all → whole ≡ take count rows ++ rest → new ++ rest ≡ old ++ whole
-block_cut old rows block all new rest whole len count e g same cut h =
-    ap (λ u. u ++ rest) (cut ∙ (ap (take (len + count)) (e ∙ ap (λ u. old ++ u) g) ∙ (ap (λ n. take (n + count) (old ++ rows)) same ∙ take-append-add old rows count)))
-    ∙ (append_assoc old (take count rows) rest ∙ ap (λ u. old ++ u) (sym h))
+-- what is behind a code point that was read at the front of a view
+pub behind_read : (v : Wtf8) (p n : ℕ) → 0 < length v.bytes.now → IsReadAs v.bytes.now p n → Taken v.bytes.now 0 v.well_formed p n
+behind_read v p n some read = taken v.bytes.now 0 v.well_formed p n some (λ q r i e. let was = read q r i e in (was.0, omega (arith, was.1)))
+
+-- the units of a first code point behind what was there, and what is left of the string
+pub pushed : (v r : Wtf8) (p : ℕ) (old new : List ℕ) → new ≡ old ++ units_of p → view_points v ≡ p ∷ view_points r → new ++ view_units r ≡ old ++ view_units v
+pushed v r p old new e g = ap (λ u. u ++ view_units r) e ∙ (append_assoc old (units_of p) (view_units r) ∙ ap (λ u. old ++ u) (sym (ap units g)))

@@ -7,9 +7,9 @@ use Rattle.wtf8.proofs.Common.{AreScalar, units, IsKnownForm, DividesNoPair, IsB
 use Rattle.std.proofs.Common.{w16}
 use mir.Syntax.{Width}
 use mir.Val.{bits, hbits}
-use Rattle.std.proofs.Math.Seq.{get_or-append_seam, take-add}
+use Rattle.std.proofs.Math.Seq.{get_or-append_seam, take-add, take-append-add}
 use Rattle.std.proofs.lemmas.Bool.{leb-false, ltb-false, or_parts, and_cases}
-use Rattle.std.proofs.lemmas.List.{length-map}
+use Rattle.std.proofs.lemmas.List.{length-map, take-take}
 use Rattle.std.proofs.lemmas.Simd.{zip2_splat_left, Each1-get_or}
 use Rattle.wtf8.specs.Unicode.{IsLead}
 use Rattle.wtf8.specs.UnitParts.{AreScalarUnits, AppendsForm, AppendsAscii, AppendsPart}
@@ -40,11 +40,15 @@ none_set p P Q h xs few f same e =
     let whole = mask_l-mod (map p xs) 64 (omega (arith, few, length-map xs p)) in
     each_unset p P Q h xs f (sym whole ∙ ap (λ ms. mask_l ms % 2 ^ 64) (sym same) ∙ e)
 
--- where no lane is set all numbers are below 80
+-- where no lane is set all numbers are below k
+pub none_from : (w : Width) (k n : ℕ) (xs : List ℕ) → n ≤ 64 → length xs ≡ n → Each1 (Fits w) xs
+    → mask_l (map (top (hbits w)) (zip2 (λ a b. cond (leb a b) (2 ^ bits w - 1) 0) (replicate n k) xs)) % 2 ^ 64 ≡ 0 → Each1 (λ x. x < k) xs
+none_from w k n xs few l f = none_set (leb k) (Fits w) (λ n. n < k) (λ x _ u. leb-false k x u) xs (omega (arith, few, l)) f
+    (tops_compared w leb (replicate n k) xs ∙ zip2_splat_left leb k n xs l)
+
 pub none_high : (w : Width) (n : ℕ) (xs : List ℕ) → n ≤ 64 → length xs ≡ n → Each1 (Fits w) xs
     → mask_l (map (top (hbits w)) (zip2 (λ a b. cond (leb a b) (2 ^ bits w - 1) 0) (replicate n 0x80) xs)) % 2 ^ 64 ≡ 0 → AreAscii xs
-none_high w n xs few l f = none_set (leb 0x80) (Fits w) (λ n. n < 0x80) (λ x _ u. leb-false 0x80 x u) xs (omega (arith, few, l)) f
-    (tops_compared w leb (replicate n 0x80) xs ∙ zip2_splat_left leb 0x80 n xs l)
+none_high w = none_from w 0x80
 
 -- a lane is set by a unit that does not take two bytes
 either_set : (a b : Bool) → top 15 (bit_or (wide a) (wide b)) ≡ a || b
@@ -269,6 +273,32 @@ ascii_joined {was} {now} {new} {u} {at} {mid} {end} a b =
       ascii = subst AreAscii (sym whole) (each_both (λ n. n < 0x80) front back a.ascii b.ascii);
       behind = b.behind ∙ (ap (λ w. w ++ back) a.behind ∙ (append_assoc was front back ∙ ap (λ w. was ++ w) (sym whole)));
     }
+
+each_front : (P : ℕ → Type 0) (k : ℕ) (xs : List ℕ) → Each1 P xs → Each1 P (take k xs)
+each_front P zero xs h = tt
+each_front P (suc k) [] h = tt
+each_front P (suc k) (x ∷ xs) h = (h.0, each_front P k xs h.1)
+
+-- without the last k of them
+ascii_cut : {was now u : List ℕ} {at end : ℕ} (k : ℕ) → k ≤ end - at → AppendsAscii was now u at end → AppendsAscii was (take (length now - k) now) u at (end - k)
+ascii_cut {was} {now} {u} {at} {end} k l a =
+    let n = end - k - at in
+    let all = take (end - at) (drop at u) in
+    let count = length-chunk at (end - at) u (omega (arith, a.order, a.within)) in
+    let size : length now - k ≡ length was + n = omega (arith, l, a.order, ap length a.behind, length-append was all, count) in
+    let front : take n all ≡ take n (drop at u) = take-take n (end - at) (drop at u) (omega arith) in
+    record {
+      order = omega (arith, l, a.order);
+      within = omega (arith, a.within);
+      ascii = subst AreAscii front (each_front (λ n. n < 0x80) n all a.ascii);
+      behind = ap (λ w. take (length now - k) w) a.behind ∙ (ap (λ m. take m (was ++ all)) size ∙ (take-append-add was all n ∙ ap (λ w. was ++ w) front));
+    }
+
+-- the last k of them are appended anew, and the n - k behind them up to the end
+pub ascii_anew : {was now new u part : List ℕ} {at end : ℕ} (k n : ℕ) → k ≤ end - at → end - k + n ≡ length u → AppendsAscii was now u at end → AreAscii part
+    → part ≡ take n (drop (end - k) u) → new ≡ take (length now - k) now ++ part → AppendsAscii was new u at (length u)
+ascii_anew {was} {now} {new} {u} {part} {at} {end} k n l whole a ascii same behind =
+    subst (λ e. AppendsAscii was new u at e) whole (ascii_joined (ascii_cut k l a) (ascii_appended (end - k) n (omega (arith, whole)) ascii same behind))
 
 pub ascii_part : {was new u : List ℕ} {at end : ℕ} → AppendsAscii was new u at end → at < end → AppendsPart was new u at end true
 ascii_part {was} {new} {u} {at} {end} a l =

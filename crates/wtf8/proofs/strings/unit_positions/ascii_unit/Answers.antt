@@ -1,4 +1,4 @@
-use Rattle.wtf8.proofs.Common.{◌∙◌, arith, sym, ap, length, get_or, Some}
+use Rattle.wtf8.proofs.Common.{◌≡◌, ◌+◌, ℕ, ◌∙◌, arith, sym, ap, length, get_or, Some}
 use Rattle.wtf8.proofs.lemmas.laws.Laws.{ascii_unit, below_lanes}
 use Rattle.wtf8.proofs.strings.unit_positions.ascii_unit.Goals as goal
 
@@ -6,7 +6,8 @@ pub returns-then-is_below : goal.returns-then-is_below
 returns-then-is_below g c =
     let w = c.args.view.bytes.now in
     let h = c.args.view.well_formed in
-    let low = below_lanes g.row.N w c.requires.room (c.is_below.ensures c.if-is_below.true) in
-    let unit = ascii_unit h.points c.args.index (λ j l. omega (arith, low j (omega (arith, l, c.if-index.true)), ap (λ v. get_or v j 0) h.encoded))
+    let start : (j : ℕ) → 0 + j ≡ j = λ j. omega arith in
+    let low = below_lanes g.row.N 0 w (omega (arith, c.requires.room)) (c.is_below.ensures c.if-is_below.true) in
+    let unit = ascii_unit h.points c.args.index (λ j l. omega (arith, low j (omega (arith, l, c.if-index.true)), ap (λ i. get_or w i 0) (start j), ap (λ v. get_or v j 0) h.encoded))
     (omega (arith, c.if-index.true, c.requires.room, ap length h.encoded)) in
     unit ∙ (ap (λ v. Some (get_or v c.args.index 0)) h.encoded ∙ ap Some (sym c.from.ensures))

@@ -1,15 +1,8 @@
-use Rattle.wtf8.proofs.Common.{arith, ◌+◌, units_begun}
-use Rattle.std.proofs.lemmas.List.Sums.{sum_by-take-le}
+use Rattle.wtf8.proofs.Common.{arith}
 use Rattle.wtf8.proofs.lemmas.strings.Positions.{begun_more}
 use Rattle.wtf8.proofs.strings.unit_positions.behind_added_blocks.Goals as goal
 
 pub loop-at-preserved : goal.loop-at-preserved
 loop-at-preserved c =
     let more = begun_more c.args.bytes.now c.loop-at.at 512 in
-    (omega arith, omega (arith, more, c.loop-at.invariant.1, c.units_begun_in_blocks-units_before.ensures))
-
-pub overflow_add-units_before : goal.overflow_add-units_before
-overflow_add-units_before c =
-    let more = begun_more c.args.bytes.now c.loop-at.at 512 in
-    let whole = sum_by-take-le units_begun c.args.bytes.now (c.loop-at.at + 512) in
-    omega (arith, more, whole, c.requires, c.loop-at.invariant.1, c.units_begun_in_blocks-units_before.ensures)
+    (omega arith, omega (arith, more, c.loop-at.invariant.1, c.units_begun_in_blocks-more.ensures), omega arith)

@@ -2,12 +2,12 @@ use Rattle.wtf8.proofs.Common.{◌≡◌, ◌++◌, ◌≤◌, length, vec_capac
 use Rattle.wtf8.proofs.strings.view.Wtf8.append_units.Given as goal
 
 -- with the units that are left behind them these are all, and there is room
-abbrev pub invariant-loop-behind : goal.invariant-loop-behind
-invariant-loop-behind g l = record {
+abbrev pub invariant-loop-rest : goal.invariant-loop-rest
+invariant-loop-rest g l = record {
   whole : l.units.items ++ view_units l.rest ≡ l.fn.units.items ++ view_units l.self;
   room : length (l.units.items ++ view_units l.rest) ≤ vec_capacity l.units;
   capacity : vec_capacity l.fn.units ≤ vec_capacity l.units;
 }
 
-abbrev pub decreases-loop-behind : goal.decreases-loop-behind
-decreases-loop-behind g l = length l.rest.bytes.now
+abbrev pub decreases-loop-rest : goal.decreases-loop-rest
+decreases-loop-rest g l = length l.rest.bytes.now
