@@ -1,7 +1,18 @@
 -- For private functions: what bytes begin with, what they gained, and whether it fits.
-use Rattle.std.specs.Prelude.{◌≡◌, ℕ, ◌≤◌, length, List, ◌++◌}
+use Rattle.std.specs.Prelude.{◌≡◌, ℕ, ◌+◌, ◌-◌, ◌*◌, ◌<◌, ◌≤◌, length, List, ◌++◌, slice_index}
 use Rattle.wtf8.specs.Unicode.{IsCodePoint}
 use Rattle.wtf8.specs.Form.{encoding, IsForm}
+
+-- What bytes say of the code point p of n bytes that they begin with, by their first byte: one row of the table each (WTF-8, "Generalized UTF-8").
+pub record FrontSays (w : List ℕ) (p n : ℕ) : Type 0 where
+  pub nonempty : 0 < length w
+  pub one : slice_index w 0 < 0x80 → (p ≡ slice_index w 0) × (n ≡ 1)
+  pub two : 0x80 ≤ slice_index w 0 → slice_index w 0 < 0xE0 → (0xC0 ≤ slice_index w 0) × (1 < length w) × (0x80 ≤ slice_index w 1) × (p < 0x800)
+      × (p ≡ (slice_index w 0 - 0xC0) * 64 + (slice_index w 1 - 0x80)) × (n ≡ 2)
+  pub three : 0xE0 ≤ slice_index w 0 → slice_index w 0 < 0xF0 → (2 < length w) × (0x80 ≤ slice_index w 1) × (0x80 ≤ slice_index w 2) × (p < 0x10000)
+      × (p ≡ ((slice_index w 0 - 0xE0) * 64 + (slice_index w 1 - 0x80)) * 64 + (slice_index w 2 - 0x80)) × (n ≡ 3)
+  pub four : 0xF0 ≤ slice_index w 0 → (3 < length w) × (0x80 ≤ slice_index w 1) × (0x80 ≤ slice_index w 2) × (0x80 ≤ slice_index w 3)
+      × (p ≡ (((slice_index w 0 - 0xF0) * 64 + (slice_index w 1 - 0x80)) * 64 + (slice_index w 2 - 0x80)) * 64 + (slice_index w 3 - 0x80)) × (n ≡ 4)
 
 -- Bytes begin with a code point where they are its encoding and something behind it (WTF-8, "Generalized UTF-8").
 pub record BeginsWithPoint (w : List ℕ) : Type 0 where
@@ -9,10 +20,11 @@ pub record BeginsWithPoint (w : List ℕ) : Type 0 where
   pub rest : List ℕ
   pub in_range : IsCodePoint point
   pub encoded : w ≡ encoding point ++ rest
+  pub says : FrontSays w point (length (encoding point))
 
 -- What bytes begin with was read as a code point of so many bytes: no other one begins there.
 abbrev pub IsReadAs : List ℕ → ℕ → ℕ → Type 0
-IsReadAs w p n = (q : ℕ) (rest : List ℕ) → IsCodePoint q → w ≡ encoding q ++ rest → (p ≡ q) × (n ≡ length (encoding q))
+IsReadAs w p n = (b : BeginsWithPoint w) → (p ≡ b.point) × (n ≡ length (encoding b.point))
 
 -- Bytes gained these units: new bytes are the form of the units of the old ones with these behind them (WTF-8, "Concatenating").
 abbrev pub GainsUnits : List ℕ → List ℕ → List ℕ → Type 0

@@ -207,7 +207,7 @@ fn read_four(bytes: &[u8]) -> u32
 pub(crate) fn read_lead(bytes: &[u8]) -> u16
     requires front { BeginsWithPoint bytes.now }
     requires least { 0xF0 ≤ slice_index bytes.now 0 }
-    ensures { (p : ℕ) (rest : List ℕ) → IsCodePoint p → bytes.now ≡ encoding p ++ rest → result ≡ 0xD800 + (p - 0x10000) / 0x400 }
+    ensures { (b : BeginsWithPoint bytes.now) → result ≡ 0xD800 + (b.point - 0x10000) / 0x400 }
 {
     let high = (u32::from(bytes[0]) - 0xF0) * 64 + low_bits(bytes[1]);
     // The number less 0x10000 has 0x40 less above its low ten bits.
@@ -228,7 +228,7 @@ pub(crate) fn read_trail(bytes: &[u8]) -> u16
 fn read_number(bytes: &[u8], at: usize) -> (u32, usize)
     requires front { BeginsWithPoint bytes.now }
     requires within { at + length bytes.now < 2 ^ 64 }
-    ensures { (p : ℕ) (rest : List ℕ) → IsCodePoint p → bytes.now ≡ encoding p ++ rest → (result.0 ≡ p) × (result.1 ≡ at + length (encoding p)) }
+    ensures { (b : BeginsWithPoint bytes.now) → (result.0 ≡ b.point) × (result.1 ≡ at + length (encoding b.point)) }
 {
     let first = bytes[0];
     if first < 0x80 {
@@ -247,7 +247,7 @@ fn read_number(bytes: &[u8], at: usize) -> (u32, usize)
 pub(crate) fn read(bytes: &[u8], at: usize) -> (CodePoint, usize)
     requires front { BeginsWithPoint bytes.now }
     requires within { at + length bytes.now < 2 ^ 64 }
-    ensures { (p : ℕ) (rest : List ℕ) → IsCodePoint p → bytes.now ≡ encoding p ++ rest → (number result.0 ≡ p) × (result.1 ≡ at + length (encoding p)) }
+    ensures { (b : BeginsWithPoint bytes.now) → (number result.0 ≡ b.point) × (result.1 ≡ at + length (encoding b.point)) }
 {
     let (value, behind) = read_number(bytes, at);
     (CodePoint::from_u32_unchecked(value), behind)

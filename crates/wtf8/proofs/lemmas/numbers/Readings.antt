@@ -5,7 +5,7 @@ use Rattle.wtf8.proofs.Common.{lt-ltb, le-ltb, cases_lt, append-nil, flat_map-ap
 use Rattle.wtf8.proofs.Common.{bytes-injective, Reads, IsWellFormed, IsForm, BeginsWithPoint, length-drop, drop-drop}
 use Rattle.wtf8.specs.Concatenation.{is_pair}
 use Rattle.wtf8.specs.Unicode.{units_of}
-use Rattle.wtf8.proofs.lemmas.numbers.Encoding.{row_of, one, two, three, four, length-encoding_bounds}
+use Rattle.wtf8.proofs.lemmas.numbers.Encoding.{row_of, one, two, three, four, length-encoding_bounds, begins_with}
 
 -- Where a lead ends one list and a trail begins another, and where they do not meet so.
 
@@ -266,7 +266,7 @@ pub record FirstOf (c w : List ℕ) : Type 0 where
 first_by : (c w : List ℕ) → IsClean c → bytes c ≡ w → 0 < length w → FirstOf c w
 first_by [] w x e n = absurd (omega (arith, ap length e))
 first_by (p ∷ c) w x e n = record {
-  begins = record { point = p; rest = bytes c; in_range = clean-first p c x; encoded = sym e };
+  begins = begins_with p (bytes c) w (clean-first p c x) (sym e);
   rest = c;
   points = refl;
   clean = clean-rest p c x;
@@ -283,12 +283,12 @@ pub record Taken (v : List ℕ) (at : ℕ) (h : IsWellFormed (drop at v)) (p beh
   pub joined : h.points ≡ p ∷ rest.points
 
 pub taken : (v : List ℕ) (at : ℕ) (h : IsWellFormed (drop at v)) (p behind : ℕ) → at < length v
-    → ((q : ℕ) (r : List ℕ) → IsCodePoint q → drop at v ≡ encoding q ++ r → (p ≡ q) × (behind ≡ at + length (encoding q))) → Taken v at h p behind
+    → ((b : BeginsWithPoint (drop at v)) → (p ≡ b.point) × (behind ≡ at + length (encoding b.point))) → Taken v at h p behind
 taken v at h p behind long read =
     let f = first_of h (omega (arith, length-drop at v)) in
     let b = f.begins in
     let n = length (encoding b.point) in
-    let was = read b.point b.rest b.in_range b.encoded in
+    let was = read b in
     let back : drop behind v ≡ b.rest =
     ap (λ k. drop k v) was.1 ∙ (sym (drop-drop n at v) ∙ (ap (drop n) b.encoded ∙ drop_at (encoding b.point) b.rest n refl)) in
     record {

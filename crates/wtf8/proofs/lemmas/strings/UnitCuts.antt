@@ -1,5 +1,5 @@
 -- A string cut at a number of units, also inside a pair, and what an iterator holds of a pair.
-use Rattle.wtf8.proofs.Common.{◌≡◌, ℕ, zero, suc, ◌+◌, ◌≤◌, List, [], ◌∷◌, ◌++◌, length, take, drop, None, Some, refl, sym, ap, ◌∙◌, subst, arith, length-append}
+use Rattle.wtf8.proofs.Common.{BeginsWithPoint, ◌≡◌, ℕ, zero, suc, ◌+◌, ◌≤◌, List, [], ◌∷◌, ◌++◌, length, take, drop, None, Some, refl, sym, ap, ◌∙◌, subst, arith, length-append}
 use Rattle.wtf8.proofs.Common.{append_assoc, take_at, drop_at, slice_get, IsCodePoint, units, IsClean, bytes, encoding, IsWellFormed, IsFront, CutsUnits, ◌<◌, ◌↔◌}
 use Rattle.wtf8.proofs.Common.{inl, inr, Option, get_or, same_from_push, take-append-drop, length-drop, Reads, true, false, ◌/◌, ◌%◌, lt-ltb, le-ltb}
 use Rattle.wtf8.proofs.Common.{drop-drop, take-add, append-nil, IsLead, units_of, trail_by, held_in, behind_held, unread_after}
@@ -210,7 +210,7 @@ left_on old new points more p unit e f g = rw (e, f) (ap (λ t. record { held = 
 -- a code point of one unit
 pub steps_one : (v : List ℕ) (at : ℕ) (h : IsWellFormed (behind_held (drop at v))) (p next : ℕ) → at < length v
     → is_inside (get_or (drop at v) 0 0) ≡ false → p < 0x10000
-    → ((q : ℕ) (r : List ℕ) → IsCodePoint q → drop at v ≡ encoding q ++ r → (p ≡ q) × (next ≡ at + length (encoding q))) → StepsUnit v at h p next
+    → ((b : BeginsWithPoint (drop at v)) → (p ≡ b.point) × (next ≡ at + length (encoding b.point))) → StepsUnit v at h p next
 steps_one v at h p next long e small read =
     let n = not_held (drop at v) e in
     let t = taken v at (moved h (sym n.1)) p next long read in
@@ -226,7 +226,7 @@ steps_one v at h p next long e small read =
 -- the lead of a supplementary code point
 pub steps_lead : (v : List ℕ) (at : ℕ) (h : IsWellFormed (behind_held (drop at v))) (unit next : ℕ) → at < length v
     → 0xF0 ≤ get_or (drop at v) 0 0 → next ≡ at + 2
-    → ((p : ℕ) (r : List ℕ) → IsCodePoint p → drop at v ≡ encoding p ++ r → unit ≡ lead_of p) → StepsUnit v at h unit next
+    → ((b : BeginsWithPoint (drop at v)) → unit ≡ lead_of b.point) → StepsUnit v at h unit next
 steps_lead v at h unit next long g two_on read =
     let n = not_held (drop at v) (above (get_or (drop at v) 0 0) (omega arith)) in
     let f = first_of (moved h (sym n.1)) (omega (arith, length-drop at v)) in
@@ -246,7 +246,7 @@ steps_lead v at h unit next long g two_on read =
           let trail : trail_by c d ≡ trail_of p = omega arith in
           let held : held_in (drop next v) ≡ trail_of p ∷ [] = ap held_in rest ∙ (k.0 ∙ ap (λ t. t ∷ []) trail) in
           let all : units_of p ≡ unit ∷ held_in (drop next v) =
-          units_two p l ∙ (ap (λ a. a ∷ trail_of p ∷ []) (sym (read p b.rest b.in_range b.encoded)) ∙ ap (λ t. unit ∷ t) (sym held)) in
+          units_two p l ∙ (ap (λ a. a ∷ trail_of p ∷ []) (sym (read b)) ∙ ap (λ t. unit ∷ t) (sym held)) in
           record {
             within = omega (arith, two_on, ap length whole, length-drop at v);
             behind = record { points = f.rest; clean = f.clean; encoded = f.encoded ∙ sym (ap behind_held rest ∙ k.1) };

@@ -132,7 +132,7 @@ begins_with_rows {P} n m f rows w count firsts block wide long le e g each h =
 
 -- what is behind a code point that was read at the front of a view
 pub behind_read : (v : Wtf8) (p n : ℕ) → 0 < length v.bytes.now → IsReadAs v.bytes.now p n → Taken v.bytes.now 0 v.well_formed p n
-behind_read v p n some read = taken v.bytes.now 0 v.well_formed p n some (λ q r i e. let was = read q r i e in (was.0, omega (arith, was.1)))
+behind_read v p n some read = taken v.bytes.now 0 v.well_formed p n some (λ b. let was = read b in (was.0, omega (arith, was.1)))
 
 -- the units of a first code point behind what was there, and what is left of the string
 pub pushed : (v r : Wtf8) (p : ℕ) (old new : List ℕ) → new ≡ old ++ units_of p → view_points v ≡ p ∷ view_points r → new ++ view_units r ≡ old ++ view_units v

@@ -1,7 +1,7 @@
-use Rattle.wtf8.proofs.Common.{◌≡◌, ℕ, ◌+◌, ◌<◌, ◌≤◌, ◌∙◌, List, ◌++◌, length, get_or, drop, arith, ap, sym, subst, refl, length-drop, encoding}
-use Rattle.wtf8.proofs.Common.{IsWellFormed, BeginsWithPoint, IsCodePoint, trail_by, behind_held}
+use Rattle.wtf8.proofs.Common.{◌≡◌, ℕ, ◌+◌, ◌<◌, ◌≤◌, ◌∙◌, List, length, get_or, drop, arith, ap, sym, subst, refl, length-drop}
+use Rattle.wtf8.proofs.Common.{IsWellFormed, BeginsWithPoint, trail_by, behind_held}
 use Rattle.wtf8.specs.Gains.{IsReadAs}
-use Rattle.wtf8.proofs.lemmas.numbers.Encoding.{front_of}
+use Rattle.wtf8.proofs.lemmas.numbers.Encoding.{begins_moved}
 use Rattle.wtf8.specs.UnitSteps.{StepsUnit}
 use Rattle.wtf8.proofs.lemmas.strings.UnitCuts.{below, above, not_held, is_whole, steps_one, steps_lead, steps_trail}
 use Rattle.wtf8.proofs.lemmas.numbers.Readings.{first_of, moved, lead_of}
@@ -12,22 +12,22 @@ one_byte : {w : List ℕ} → (v : List ℕ) (at : ℕ) (h : IsWellFormed (behin
     → get_or w 0 0 < 0x80 → StepsUnit v at h unit (at + 1)
 one_byte v at h unit same long u low =
     let first = ap (λ x. get_or x 0 0) same in
-    steps_one v at h unit (at + 1) long (below (get_or (drop at v) 0 0) (omega (arith, first))) (omega arith) (λ q r i e.
-    let f = front_of (record { point = q; rest = r; in_range = i; encoded = e }) in (omega (arith, first), omega (arith, first)))
+    steps_one v at h unit (at + 1) long (below (get_or (drop at v) 0 0) (omega (arith, first))) (omega arith) (λ b.
+    let f = b.says in (omega (arith, first), omega (arith, first)))
 
 -- a code point of two or three bytes
 few_bytes : {w : List ℕ} → (v : List ℕ) (at : ℕ) (h : IsWellFormed (behind_held (drop at v))) (p n : ℕ) → w ≡ drop at v → at < length v → 0xC0 ≤ get_or w 0 0
     → p < 0x10000 → IsReadAs w p n → StepsUnit v at h p (at + n)
 few_bytes v at h p n same long high small read =
     let first = ap (λ x. get_or x 0 0) same in
-    steps_one v at h p (at + n) long (above (get_or (drop at v) 0 0) (omega (arith, first))) small (λ q r i e.
-    let t = read q r i (same ∙ e) in (t.0, omega (arith, t.1)))
+    steps_one v at h p (at + n) long (above (get_or (drop at v) 0 0) (omega (arith, first))) small (λ b.
+    let t = read (begins_moved b same) in (t.0, omega (arith, t.1)))
 
 -- the lead of four bytes
 four_bytes : {w : List ℕ} → (v : List ℕ) (at : ℕ) (h : IsWellFormed (behind_held (drop at v))) (unit : ℕ) → w ≡ drop at v → at < length v → 0xF0 ≤ get_or w 0 0
-    → ((p : ℕ) (r : List ℕ) → IsCodePoint p → w ≡ encoding p ++ r → unit ≡ lead_of p) → StepsUnit v at h unit (at + 2)
+    → ((b : BeginsWithPoint w) → unit ≡ lead_of b.point) → StepsUnit v at h unit (at + 2)
 four_bytes v at h unit same long high read =
-    steps_lead v at h unit (at + 2) long (omega (arith, ap (λ x. get_or x 0 0) same)) refl (λ q r i e. read q r i (same ∙ e))
+    steps_lead v at h unit (at + 2) long (omega (arith, ap (λ x. get_or x 0 0) same)) refl (λ b. read (begins_moved b same))
 
 -- a code point begins
 begun : {w : List ℕ} → (v : List ℕ) (at : ℕ) → IsWellFormed (behind_held (drop at v)) → w ≡ drop at v → at < length v → 0xC0 ≤ get_or w 0 0 → BeginsWithPoint w
