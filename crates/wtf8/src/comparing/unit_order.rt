@@ -17,17 +17,12 @@ fn pair_begins(bytes: &[u8], at: usize) -> bool
     at < bytes.len() && 0xF0 <= bytes[at]
 }
 
-/// The order of the units of two strings, one by one. The first ones, which mostly decide, are looked at by themselves.
+/// The order of the units of two strings, one by one.
 #[inline(never)]
 fn cmp_one_by_one(own: Wtf8<'_>, others: Wtf8<'_>) -> Ordering
     ensures { result ≡ slice_cmp nat_cmp (view_units own.entry) (view_units others.entry) }
 {
-    let mut own = own.to_ill_formed_utf16();
-    let mut others = others.to_ill_formed_utf16();
-    match own.next().cmp(&others.next()) {
-        Ordering::Equal => own.cmp(others),
-        order => order,
-    }
+    own.to_ill_formed_utf16().cmp(others.to_ill_formed_utf16())
 }
 
 impl<'a> Wtf8<'a> {

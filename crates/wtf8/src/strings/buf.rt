@@ -286,6 +286,7 @@ impl<A: Allocator> Wtf8Buf<A> {
 
     /// Appends a character. After a refusal the string is as before.
     #[inline(always)]
+    #[tactic(auto, using(crate::proofs::lemmas::numbers::Encoding::encoding_one))]
     pub fn push_char(&mut self, c: char) -> Result<(), AllocError>
         ensures ok { OnOk result (AppendsUnits self.old (units_of c) self.new) }
         ensures kept { OnErr result (KeepsContents self.old self.new) }

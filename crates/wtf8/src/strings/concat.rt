@@ -59,8 +59,10 @@ pub(crate) fn push_apart<A: Allocator>(
     requires well_formed { IsWellFormed bytes.old.items }
     requires apart { (h : IsWellFormed bytes.old.items) → ¬ (MeetsAsPair h.points (number code_point ∷ [])) }
     ensures ok { OnOk result (GainsUnits bytes.old.items bytes.new.items (units_of (number code_point))) }
+    ensures bytes { OnOk result (bytes.new.items ≡ bytes.old.items ++ encoding (number code_point)) }
     ensures err { OnErr result (bytes.new.items ≡ bytes.old.items) }
     ensures room { FitsUnits bytes.old.items (units_of (number code_point)) (vec_capacity bytes.old) → IsOk result }
+    ensures room_left { vec_len bytes.old + length (encoding (number code_point)) ≤ vec_capacity bytes.old → IsOk result }
     ensures capacity { vec_capacity bytes.old ≤ vec_capacity bytes.new }
 {
     encoding::append_into(bytes, spare, code_point)
@@ -199,8 +201,10 @@ pub(crate) fn push_view<A: Allocator>(
 pub(crate) fn push_scalar<A: Allocator>(bytes: &mut Vec<u8, A>, c: char) -> Result<(), AllocError>
     requires { IsWellFormed bytes.old.items }
     ensures ok { OnOk result (GainsUnits bytes.old.items bytes.new.items (units_of c)) }
+    ensures bytes { OnOk result (bytes.new.items ≡ bytes.old.items ++ encoding c) }
     ensures err { OnErr result (bytes.new.items ≡ bytes.old.items) }
     ensures room { FitsUnits bytes.old.items (units_of c) (vec_capacity bytes.old) → IsOk result }
+    ensures room_left { vec_len bytes.old + length (encoding c) ≤ vec_capacity bytes.old → IsOk result }
     ensures capacity { vec_capacity bytes.old ≤ vec_capacity bytes.new }
 {
     let spare = encoding::spare_room(bytes);
@@ -211,8 +215,10 @@ pub(crate) fn push_scalar<A: Allocator>(bytes: &mut Vec<u8, A>, c: char) -> Resu
 pub(crate) fn push_text<A: Allocator>(bytes: &mut Vec<u8, A>, other: &str) -> Result<(), AllocError>
     requires { IsWellFormed bytes.old.items }
     ensures ok { OnOk result (GainsUnits bytes.old.items bytes.new.items (units (chars other.now))) }
+    ensures bytes { OnOk result (bytes.new.items ≡ bytes.old.items ++ other.now) }
     ensures err { OnErr result (bytes.new.items ≡ bytes.old.items) }
     ensures room { FitsUnits bytes.old.items (units (chars other.now)) (vec_capacity bytes.old) → IsOk result }
+    ensures room_left { vec_len bytes.old + length other.now ≤ vec_capacity bytes.old → IsOk result }
     ensures empty { other.now ≡ [] → IsOk result }
     ensures capacity { vec_capacity bytes.old ≤ vec_capacity bytes.new }
 {

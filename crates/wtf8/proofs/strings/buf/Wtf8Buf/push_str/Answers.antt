@@ -1,7 +1,7 @@
 use Rattle.wtf8.proofs.Common.{UnitString, ap, arith, length, refl, units}
 use Rattle.wtf8.proofs.lemmas.strings.Gains.{gained_units, kept_contents, known_gained, scalar_text, well_formed_text}
-use Rattle.wtf8.proofs.lemmas.laws.Laws.{grows_at_most, nothing_appended, fits_left}
-use Rattle.wtf8.proofs.lemmas.numbers.Readings.{form_of, no_points}
+use Rattle.wtf8.proofs.lemmas.laws.Laws.{nothing_appended}
+use Rattle.wtf8.proofs.lemmas.numbers.Readings.{no_points}
 use Rattle.wtf8.proofs.strings.buf.Wtf8Buf.push_str.Goals as goal
 
 pub invariant_of-self-inside : goal.invariant_of-self-inside
@@ -16,17 +16,6 @@ returns-clause-ok g c =
 
 pub returns-clause-kept : goal.returns-clause-kept
 returns-clause-kept g c = kept_contents c.push_text.result _ _ _ c.self.view_is c.push_text.ensures.err
-
-pub returns-clause-at_most : goal.returns-clause-at_most
-returns-clause-at_most g c =
-    let same = ap (λ (t : UnitString). t.bytes) c.self.view_is in
-    grows_at_most c.push_text.result c.args.self.now _ _ _ same (form_of (well_formed_text c.args.other.now c.utf8.other)) c.push_text.ensures.ok
-
-pub returns-clause-room_left : goal.returns-clause-room_left
-returns-clause-room_left g c h =
-    let same = ap (λ (t : UnitString). t.bytes) c.self.view_is in
-    let form = form_of (well_formed_text c.args.other.now c.utf8.other) in
-    c.push_text.ensures.room (fits_left c.args.self.now _ _ _ same form (omega (arith, h, ap (λ (t : UnitString). t.capacity) c.self.view_is)))
 
 pub returns-clause-nothing : goal.returns-clause-nothing
 returns-clause-nothing g c e =
