@@ -263,19 +263,6 @@ module _ {T E : Type 0} where
       both_no_longer was.bytes w new was.units v was.form form (ok was.units (subst (λ b. IsForm b was.units) (sym e) was.form))
   grows_at_most (Err _) was new w v e form ok = tt
 
-  -- the bytes of a scalar value come behind those that were there
-  pub scalar_behind_bytes : (r : Result T E) (was : UnitString) {old : List ℕ} (new : List ℕ) (p : ℕ) → old ≡ was.bytes → ScalarFacts p
-      → OnOk r (GainsUnits old new (units_of p)) → OnOk r (new ≡ was.bytes ++ encoding p)
-  scalar_behind_bytes (Ok _) was new p e f ok =
-      let whole = form_behind was.form (point_form p f.range) (scalar_behind (f.apart, tt)) in
-      same_form new (was.bytes ++ encoding p) (was.units ++ units_of p) (ok was.units (subst (λ b. IsForm b was.units) (sym e) was.form)) whole
-  scalar_behind_bytes (Err _) was new p e f ok = tt
-
-  -- so the length grows by theirs
-  pub grows_by : (r : Result T E) (was new w : List ℕ) (n : ℕ) → length w ≡ n → OnOk r (new ≡ was ++ w) → OnOk r (length new ≡ length was + n)
-  grows_by (Ok _) was new w n long e = ap length e ∙ (length-append was w ∙ ap (λ m. length was + m) long)
-  grows_by (Err _) was new w n long e = tt
-
   -- no units appended, or a refusal, leave the contents
   pub nothing_appended : (r : Result T E) (old new : UnitString) (v : List ℕ) → v ≡ [] →
       OnOk r (AppendsUnits old v new) → OnErr r (KeepsContents old new) → KeepsContents old new

@@ -139,13 +139,6 @@ running_sums ns long h i l =
 
 -- What the numbers and the lengths spell.
 
--- two bytes that are written behind the first n of a block, of which l are kept
-pub kept_two : (front l : ℕ) (rest : List ℕ) → l ≤ 2 → take l ((front % 256 ∷ front / 256 % 256 ∷ []) ++ rest) ≡ low_spelled front l
-kept_two front zero rest h = refl
-kept_two front (suc zero) rest h = refl
-kept_two front (suc (suc zero)) rest h = refl
-kept_two front (suc (suc (suc l))) rest h = absurd (omega (arith, h))
-
 pub more_low_spelled : (n : ℕ) (fronts lens : List ℕ) → all_low_spelled (n + 1) fronts lens ≡ all_low_spelled n fronts lens ++ low_spelled (get_or fronts n 0) (get_or lens n 0)
 more_low_spelled n fronts lens = let next : n + 1 ≡ suc n = omega arith in ap (λ k. all_low_spelled k fronts lens) next
 
