@@ -14,7 +14,7 @@ ghost use Rattle.wtf8.specs.Units.{unread_units};
 
 use crate::lanes::{digits, search, surrogate_presence};
 use crate::numbers::code_point::CodePoint;
-use crate::numbers::{encoding, surrogates};
+use crate::numbers::encoding;
 use crate::strings::iters::{IllFormedUtf16CodeUnits, Wtf8CodePoints};
 use std::alloc::{AllocError, Allocator};
 use std::borrow::CowStr;
@@ -278,13 +278,11 @@ impl<'a> Wtf8<'a> {
         ensures first { IfSome result (λ t. (r : List ℕ) × (view_points self.entry ≡ t ∷ r)) }
         ensures none { IfNone result ((t : ℕ) (r : List ℕ) → IsTrail t → view_points self.entry ≡ t ∷ r → ⊥) }
     {
-        let Some((code_point, _)) = self.split_first() else {
-            return None;
-        };
-        let value = code_point.to_u32();
-        if !surrogates::is_trail(value) {
-            return None;
+        match self.bytes {
+            [0xED, second @ 0xB0..=0xBF, third, ..] => {
+                Some(0xD000 + encoding::low_bits(*second) * 64 + encoding::low_bits(*third))
+            }
+            _ => None,
         }
-        Some(value)
     }
 }

@@ -2,7 +2,7 @@
 use Rattle.wtf8.proofs.Common.{ℕ, List, [], ◌++◌, length, refl, ap, ◌∙◌, sym, subst, arith, append_assoc, length-append, append-nil, append_cancel_left, units}
 use Rattle.wtf8.proofs.Common.{bytes, Reads, IsForm, IsBoundary, ◌≡◌, ◌≢◌, ◌<◌, ◌+◌, ◌-◌, ◌/◌, ◌%◌, inl, ◌∷◌, get_or, drop_at, All-cons, All-drop, All-head, All-nil}
 use Rattle.wtf8.proofs.Common.{All, encoding, IsFront, IsBack, slice_get, Some, zero, suc, ◌≤◌, inr, cases_lt, chunk, length-chunk, get_or-chunk, ◌↔◌, glue}
-use Rattle.wtf8.proofs.Common.{AreScalar, view_units, view_form, Wtf8, Result, Ok, Err, OnOk, OnErr, AppendsUnits, KeepsContents, GainsUnits, FitsUnits, UnitString, units_of}
+use Rattle.wtf8.proofs.Common.{AreScalar, view_units, view_form, Wtf8, Result, Ok, Err, OnOk, OnErr, AppendsUnits, KeepsContents, GainsUnits, FitsUnits, UnitString}
 use Rattle.wtf8.proofs.Common.{◌⊎◌, All-tail, IsUnit, IsWellFormed, Step, Run, Build, Reserve, Truncate, TruncateUnits, IsNoTruncation}
 use Rattle.std.proofs.Common.{slice_index}
 use Rattle.std.proofs.lemmas.List.{append_cancel_right}
@@ -19,8 +19,8 @@ use Rattle.wtf8.specs.SurrogateSearch.{HasLane}
 use Rattle.wtf8.proofs.lemmas.numbers.Encoding.{bytes-append, bytes-pushed, row_of, one, two, three, four, Begins}
 use Rattle.wtf8.proofs.lemmas.numbers.Readings.{well_formed_of, reads_same, same_form, units-append, units_bounds, points_bounds, units_one, units_two}
 use Rattle.wtf8.proofs.lemmas.numbers.Readings.{units-cons_one, same_reading}
-use Rattle.wtf8.proofs.lemmas.strings.Concatenation.{equal_forms, form-glue, form_paired, form_apart, form_behind, one_form, units_read, at_last, before, parted_more}
-use Rattle.wtf8.proofs.lemmas.strings.Gains.{beginning, both_length, scalar_text, point_form, scalar_behind, ScalarFacts}
+use Rattle.wtf8.proofs.lemmas.strings.Concatenation.{equal_forms, form-glue, form_paired, form_apart, one_form, units_read, at_last, before, parted_more}
+use Rattle.wtf8.proofs.lemmas.strings.Gains.{beginning, both_length, scalar_text}
 use Rattle.wtf8.proofs.lemmas.strings.Positions.{Cut, cut_at, begun, same_front, front_reads, back_reads, front_boundary, boundary_from_byte, first_behind}
 use Rattle.wtf8.proofs.lemmas.strings.Positions.{byte_from_boundary}
 use Rattle.wtf8.proofs.lemmas.strings.Surrogates.{lossy-scalar}

@@ -1,0 +1,32 @@
+use Rattle.wtf8.proofs.Common.{◌≡◌, ℕ, ◌∷◌, ◌∙◌, List, length, sym, ap, arith, bytes, encoding, IsWellFormed, IsTrail}
+use Rattle.wtf8.specs.Gains.{FrontSays}
+use Rattle.wtf8.proofs.lemmas.numbers.Encoding.{begins_with}
+use Rattle.wtf8.proofs.lemmas.numbers.Readings.{first_of}
+use Rattle.wtf8.proofs.strings.view.Wtf8.initial_trail_surrogate.Goals as goal
+
+-- what bytes say that begin with a trail
+says_trail : {w : List ℕ} (h : IsWellFormed w) (t : ℕ) (r : List ℕ) → IsTrail t → h.points ≡ t ∷ r → FrontSays w t (length (encoding t))
+says_trail h t r i e = (begins_with t (bytes r) _ (omega arith) (sym h.encoded ∙ ap bytes e)).says
+
+pub low_bits-requires-in-237 : goal.low_bits-requires-in-237
+low_bits-requires-in-237 c = let s = (first_of c.args.self.well_formed (omega arith)).begins.says in omega arith
+
+pub returns-in-237-clause-trail : goal.returns-in-237-clause-trail
+returns-in-237-clause-trail c = let s = (first_of c.args.self.well_formed (omega arith)).begins.says in (omega arith, omega arith)
+
+pub returns-in-237-clause-first : goal.returns-in-237-clause-first
+returns-in-237-clause-first c =
+    let f = first_of c.args.self.well_formed (omega arith) in
+    let s = f.begins.says in (f.rest, f.points ∙ ap (λ q. q ∷ f.rest) (omega arith))
+
+pub returns-in_default-clause-none : goal.returns-in_default-clause-none
+returns-in_default-clause-none c t r i e = let s = says_trail c.args.self.well_formed t r i e in grind arith
+
+pub returns-in_default-2-clause-none : goal.returns-in_default-2-clause-none
+returns-in_default-2-clause-none c t r i e = let s = says_trail c.args.self.well_formed t r i e in omega arith
+
+pub returns-in_default-3-clause-none : goal.returns-in_default-3-clause-none
+returns-in_default-3-clause-none c t r i e = let s = says_trail c.args.self.well_formed t r i e in omega arith
+
+pub returns-in_default-4-clause-none : goal.returns-in_default-4-clause-none
+returns-in_default-4-clause-none c t r i e = let s = says_trail c.args.self.well_formed t r i e in grind arith
