@@ -1,8 +1,5 @@
 -- For private functions: the first place where two lists of bytes differ.
-use Rattle.std.specs.Cmp.Lexicographic.{slice_cmp}
-use Rattle.std.specs.Ordering.{nat_cmp}
-use Rattle.std.specs.declared.cmp.Ordering.{Ordering}
-use Rattle.std.specs.Prelude.{◌≡◌, ◌≢◌, ℕ, ◌<◌, ◌≤◌, List, Option, MatchOption, length, take, slice_index}
+use Rattle.std.specs.Prelude.{◌≡◌, ◌≢◌, ℕ, ◌<◌, ◌≤◌, List, length, take, slice_index}
 
 -- The first place where two lists differ: they are equal up to there, and there the one or the other ends or their numbers differ.
 pub record IsFirstDifference (w v : List ℕ) (place : ℕ) : Type 0 where
@@ -14,10 +11,6 @@ pub record IsFirstDifference (w v : List ℕ) (place : ℕ) : Type 0 where
 -- The numbers of two lists at a place are not the same.
 abbrev pub DifferAt : List ℕ → List ℕ → ℕ → Type 0
 DifferAt w v place = slice_index w place ≢ slice_index v place
-
--- An answer is the order of two lists, or none, where they are the same before an end.
-abbrev pub TellsOrder : List ℕ → List ℕ → ℕ → Option Ordering → Type 0
-TellsOrder w v end r = MatchOption r (take end w ≡ take end v) (λ o. o ≡ slice_cmp nat_cmp w v)
 
 -- A byte from F0 on stands at a place: the first of a code point of two units (Unicode 3.9, "UTF-8", Table 3-6).
 abbrev pub PairBegins : List ℕ → ℕ → Type 0

@@ -3,4 +3,3 @@ pub mod Differences
 pub mod Digits
 pub mod Scan
 pub mod Surrogates
-pub mod Words

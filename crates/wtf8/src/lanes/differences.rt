@@ -2,11 +2,11 @@
 ghost use Rattle.std.specs.Cmp.Lexicographic.{pointwise, slice_cmp};
 ghost use Rattle.std.specs.Ordering.{nat_cmp};
 ghost use Rattle.std.specs.Prelude.{◌≡◌, ◌+◌, ◌<◌, ◌≤◌, min, length, slice_get, nat_eq, take, ⊤};
-ghost use Rattle.wtf8.specs.Differences.{DifferAt, IsFirstDifference, TellsOrder};
+ghost use Rattle.wtf8.specs.Differences.{DifferAt, IsFirstDifference};
 ghost use Rattle.wtf8.specs.Scan.{Nowhere, Tells};
 
 use crate::lanes::scan::{self, Block, Ends, Places, Turn};
-use crate::lanes::{BLOCK, TURN, VECTOR};
+use crate::lanes::{BLOCK, TURN};
 use std::cmp::Ordering;
 use std::simd::prelude::*;
 
@@ -97,128 +97,12 @@ fn is_same_of_many(own: &[u8], others: &[u8]) -> bool
     scan::are_turns_clear::<TURN, Pair<'_>>(&pair, 0, own.len())
 }
 
-/// The order of four bytes and four others, by the numbers that they are, the first byte the most.
-#[inline(always)]
-fn order_of_four(own: Simd<u8, 4>, others: Simd<u8, 4>) -> Ordering
-    ensures { result ≡ slice_cmp nat_cmp own others }
-{
-    u32::from_be_bytes(own.to_array()).cmp(&u32::from_be_bytes(others.to_array()))
-}
-
-/// The order of eight bytes and eight others, likewise.
-#[inline(always)]
-fn order_of_eight(own: Simd<u8, 8>, others: Simd<u8, 8>) -> Ordering
-    ensures { result ≡ slice_cmp nat_cmp own others }
-{
-    u64::from_be_bytes(own.to_array()).cmp(&u64::from_be_bytes(others.to_array()))
-}
-
-/// The order of two lists of bytes that are the same before a place, by four bytes from there on. It is none where these are
-/// the same too.
-#[inline(always)]
-fn order_by_four(own: &[u8], others: &[u8], at: usize) -> Option<Ordering>
-    requires own { at + 4 ≤ length own.now }
-    requires others { at + 4 ≤ length others.now }
-    requires same { take at own.now ≡ take at others.now }
-    ensures { TellsOrder own.now others.now (at + 4) result }
-{
-    match order_of_four(
-        Simd::from_slice(&own[at..]),
-        Simd::from_slice(&others[at..]),
-    ) {
-        Ordering::Equal => None,
-        order => Some(order),
-    }
-}
-
-/// The same by eight bytes.
-#[inline(always)]
-fn order_by_eight(own: &[u8], others: &[u8], at: usize) -> Option<Ordering>
-    requires own { at + 8 ≤ length own.now }
-    requires others { at + 8 ≤ length others.now }
-    requires same { take at own.now ≡ take at others.now }
-    ensures { TellsOrder own.now others.now (at + 8) result }
-{
-    match order_of_eight(
-        Simd::from_slice(&own[at..]),
-        Simd::from_slice(&others[at..]),
-    ) {
-        Ordering::Equal => None,
-        order => Some(order),
-    }
-}
-
 /// The order of two lists of bytes: the first ones that differ decide, and a beginning stands before the longer list.
 #[inline]
 pub(crate) fn order(own: &[u8], others: &[u8]) -> Ordering
     ensures { result ≡ slice_cmp nat_cmp own.now others.now }
 {
-    let len = own.len().min(others.len());
-    if len < 8 {
-        return order_of_few(own, others, len);
-    }
-    // Many lists differ at once.
-    if let Some(order) = order_by_eight(own, others, 0) {
-        return order;
-    }
-    if len <= VECTOR {
-        let order = order_by_eight(own, others, len - 8);
-        return order_by_lengths(own, others, len, order);
-    }
-    if len <= BLOCK && scan::is_long_clear(&Pair { own, others }, len) {
-        return order_by_lengths(own, others, len, None);
-    }
-    order_by_difference(own, others)
-}
-
-/// The same of lists of which the shorter one has fewer than eight bytes.
-#[inline(always)]
-fn order_of_few(own: &[u8], others: &[u8], len: usize) -> Ordering
-    requires few { len < 8 }
-    requires shorter { len ≡ min (length own.now) (length others.now) }
-    ensures { result ≡ slice_cmp nat_cmp own.now others.now }
-{
-    if len < 4 {
-        return order_one_by_one(own, others, len);
-    }
-    if let Some(order) = order_by_four(own, others, 0) {
-        return order;
-    }
-    let order = order_by_four(own, others, len - 4);
-    order_by_lengths(own, others, len, order)
-}
-
-/// The same one by one.
-#[inline(always)]
-fn order_one_by_one(own: &[u8], others: &[u8], len: usize) -> Ordering
-    requires shorter { len ≡ min (length own.now) (length others.now) }
-    ensures { result ≡ slice_cmp nat_cmp own.now others.now }
-{
-    match scan::first_one_by_one(&Pair { own, others }, 0, len) {
-        Some(at) => byte_at(own, at).cmp(&byte_at(others, at)),
-        None => order_by_lengths(own, others, len, None),
-    }
-}
-
-/// The order that is told, or else that of the lengths, where the lists are the same as far as both go.
-#[inline(always)]
-fn order_by_lengths(own: &[u8], others: &[u8], len: usize, told: Option<Ordering>) -> Ordering
-    requires shorter { len ≡ min (length own.now) (length others.now) }
-    requires told { TellsOrder own.now others.now len told }
-    ensures { result ≡ slice_cmp nat_cmp own.now others.now }
-{
-    match told {
-        Some(order) => order,
-        None => own.len().cmp(&others.len()),
-    }
-}
-
-/// The same by the first place where they differ.
-#[inline(never)]
-fn order_by_difference(own: &[u8], others: &[u8]) -> Ordering
-    ensures { result ≡ slice_cmp nat_cmp own.now others.now }
-{
-    let at = first_difference_of_many(own, others);
+    let at = first_difference(own, others);
     byte_at(own, at).cmp(&byte_at(others, at))
 }
 

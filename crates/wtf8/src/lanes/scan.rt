@@ -75,15 +75,13 @@ pub(crate) fn skip<const N: usize, S: Turn<N>>(s: &S, from: usize, end: usize) -
     requires moves { 0 < N }
     requires order { from ≤ end }
     requires room { end ≤ S.limit s.now }
+    requires fits { end + N ≤ usize.MAX }
     ensures order { (from ≤ result) × (result ≤ end) }
     ensures clear { Nowhere (S.hit s.now) from result }
     ensures stopped { result + N ≤ end → S.exact s.now → ¬ (Nowhere (S.hit s.now) result (result + N)) }
 {
     let mut at = from;
-    while N <= end - at {
-        if !s.is_clear(at) {
-            return at;
-        }
+    while at + N <= end && s.is_clear(at) {
         at += N;
     }
     at
@@ -97,11 +95,12 @@ pub(crate) fn are_turns_clear<const N: usize, S: Turn<N>>(s: &S, from: usize, en
     requires long { N ≤ end }
     requires order { from ≤ end }
     requires room { end ≤ S.limit s.now }
+    requires fits { end + N ≤ usize.MAX }
     requires clear { Nowhere (S.hit s.now) 0 from }
     ensures { Tells (S.exact s.now) (S.hit s.now) 0 end result }
 {
     let at = skip::<N, S>(s, from, end);
-    if N <= end - at {
+    if at + N <= end {
         return false;
     }
     s.is_clear(end - N)

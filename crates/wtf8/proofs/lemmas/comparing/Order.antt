@@ -280,21 +280,6 @@ order_there (x ∷ w) (y ∷ v) (suc n) d =
     let same : y ≡ x = sym (ap (λ u. get_or u 0 0) d.same_before) in
     order_there w v n (difference_behind x y w v n d) ∙ rw same (sym (cmp_behind (x ∷ []) w v))
 
-cmp_behind_both : (a b : ℕ) → nat_cmp (suc a) (suc b) ≡ nat_cmp a b
-cmp_behind_both a b = grind (arith, nat_tests)
-
--- where the shorter list begins the longer one the lengths are in the order of the lists
-pub lengths_decide : (w v : List ℕ) (n : ℕ) → length w ≤ n ⊎ length v ≤ n → n ≤ length w → n ≤ length v → take n w ≡ take n v
-    → nat_cmp (length w) (length v) ≡ slice_cmp nat_cmp w v
-lengths_decide [] [] n end h k e = refl
-lengths_decide [] (y ∷ v) n end h k e = cmp_less 0 (length (y ∷ v)) (omega arith)
-lengths_decide (x ∷ w) [] n end h k e = cmp_greater (length (x ∷ w)) 0 (omega arith)
-lengths_decide (x ∷ w) (y ∷ v) zero end h k e = absurd (omega (arith, end))
-lengths_decide (x ∷ w) (y ∷ v) (suc n) end h k e =
-    let same : y ≡ x = sym (ap (λ u. get_or u 0 0) e) in
-    let shorter : length w ≤ n ⊎ length v ≤ n = elim end [ inl l ↦ inl (omega (arith, l)) | inr l ↦ inr (omega (arith, l)) ] in
-    rw same (cmp_behind_both (length w) (length v) ∙ lengths_decide w v n shorter (omega arith) (omega arith) (ap (drop 1) e) ∙ sym (cmp_behind (x ∷ []) w v))
-
 -- code points whose bytes begin with those of a front have that front
 record Continues (front d rest : List ℕ) : Type 0 where
   points : List ℕ

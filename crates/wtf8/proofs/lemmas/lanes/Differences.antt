@@ -5,9 +5,8 @@ use Rattle.wtf8.proofs.Common.{pointwise, bytes_decides, chunk, zip2, mask_l, to
 use Rattle.std.proofs.lemmas.Bool.{not-true}
 use Rattle.wtf8.proofs.lemmas.lanes.Scan.{compared_marks}
 use Rattle.std.specs.Prelude.{⊤}
-use Rattle.std.proofs.lemmas.List.{take-take}
-use Rattle.wtf8.specs.Differences.{DifferAt, IsFirstDifference}
-use Rattle.wtf8.specs.Scan.{IsLeast, Marks, Tells}
+use Rattle.wtf8.specs.Differences.{DifferAt}
+use Rattle.wtf8.specs.Scan.{Marks, Tells}
 
 abbrev unlike : ℕ → ℕ → Bool
 unlike x y = not (eqb x y)
@@ -33,15 +32,6 @@ same_front (suc n) (x ∷ w) (y ∷ v) p q h = elim (cases_Bool (eqb x y)) [
   | inl t ↦ λ i. eqb-true x y t i ∷ same_front n w v (omega arith) (omega arith) (λ j _ l. h (suc j) (omega arith) (omega arith)) i
   | inr f ↦ absurd (h 0 (omega arith) (omega arith) (λ e. both_ways _ f (eq-eqb x y e)))
 ]
-
--- lists that are the same before a place are the same before an earlier one
-pub same_before : (n m : ℕ) (w v : List ℕ) → n ≤ m → take m w ≡ take m v → take n w ≡ take n v
-same_before n m w v l e = sym (take-take n m w l) ∙ (ap (take n) e ∙ take-take n m v l)
-
--- the least place of a difference is the first one
-pub least_differs : (w v : List ℕ) (at : ℕ) → IsLeast (DifferAt w v) 0 at → at ≤ length w → at ≤ length v → IsFirstDifference w v at
-least_differs w v at h p q =
-    record { within_first = p; within_second = q; same_before = same_front at w v p q h.none_between; differ_there = λ _ _. h.here }
 
 -- an answer that is yes exactly where two lists are the same is that of their equality
 pub decided : (b : Bool) (w v : List ℕ) → IsTrue b ↔ (w ≡ v) → b ≡ pointwise nat_eq w v
