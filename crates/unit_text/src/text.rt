@@ -148,6 +148,7 @@ fn copied<A: Allocator>(alloc: A, slice: UnitSlice<'_>) -> Result<Wtf8Buf<A>, Al
 }
 
 /// Appends a unit, if there is one.
+#[inline(always)]
 fn push_unit<A: Allocator>(text: &mut Wtf8Buf<A>, unit: Option<u16>) -> Result<(), AllocError>
     ensures ok { OnOk result (text.new.units ≡ text.old.units ++ option_to_list unit) }
     ensures none { unit ≡ None → IsOk result }

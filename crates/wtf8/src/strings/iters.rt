@@ -125,9 +125,8 @@ fn read_unit(bytes: &[u8], position: &mut usize) -> u16
     }
     if 0xC0 <= first {
         if first < 0xE0 {
-            let unit = encoding::read_two(rest) as u16;
             *position = at + 2;
-            return unit;
+            return encoding::read_two(rest) as u16;
         }
         if first < 0xF0 {
             let unit = encoding::read_three(rest) as u16;

@@ -219,13 +219,16 @@ fn behind_blocks(bytes: &[u8], unit: usize) -> Place
     ensures counted { result.units_before ≡ all_units_begun (take result.at bytes.now) }
     ensures not_beyond { result.units_before ≤ unit }
 {
-    if bytes.len() < VECTOR {
-        return Place {
-            at: 0,
-            units_before: 0,
-        };
+    let start = Place {
+        at: 0,
+        units_before: 0,
+    };
+    match bytes.len() {
+        0..=3 => start,
+        4..=7 => behind_ascii::<4>(bytes, unit, start).unwrap_or(start),
+        8..=15 => behind_ascii::<HALF_VECTOR>(bytes, unit, start).unwrap_or(start),
+        _ => behind_blocks_of_many(bytes, unit),
     }
-    behind_blocks_of_many(bytes, unit)
 }
 
 /// The same. It stands by itself, so that a short string costs little.

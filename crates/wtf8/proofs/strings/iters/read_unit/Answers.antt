@@ -51,13 +51,13 @@ trail_bytes v at h unit same least most u =
 pub returns-then-first-lt128 : goal.returns-then-first-lt128
 returns-then-first-lt128 c h = one_byte c.args.bytes.now c.args.position.now h c.from.result c.split_at.ensures.back c.requires.inside c.from.ensures c.if-first-lt128.true
 
-pub read_two-unit-requires-clause-front : goal.read_two-unit-requires-clause-front
-read_two-unit-requires-clause-front c =
+pub read_two-requires-clause-front : goal.read_two-requires-clause-front
+read_two-requires-clause-front c =
     begun c.args.bytes.now c.args.position.now c.requires.behind c.split_at.ensures.back c.requires.inside c.if-first-ge192.true
 
 pub returns-then-first-lt224 : goal.returns-then-first-lt224
-returns-then-first-lt224 c h = few_bytes c.args.bytes.now c.args.position.now h c.read_two-unit.result 2 c.split_at.ensures.back c.requires.inside
-    c.if-first-ge192.true c.read_two-unit.ensures.one_unit c.read_two-unit.ensures.read
+returns-then-first-lt224 c h = few_bytes c.args.bytes.now c.args.position.now h c.read_two.result 2 c.split_at.ensures.back c.requires.inside
+    c.if-first-ge192.true c.read_two.ensures.one_unit c.read_two.ensures.read
 
 pub read_three-unit-requires-clause-front : goal.read_three-unit-requires-clause-front
 read_three-unit-requires-clause-front c =
