@@ -25,6 +25,12 @@ DividesNoPair u n = ¬ (DividesPair u n)
 abbrev pub AreAscii : List ℕ → Type 0
 AreAscii u = Each1 (λ n. n < 0x80) u
 
+-- The bytes are the form of the units before a place, and no pair is divided there.
+pub record IsReadTo (w u : List ℕ) (at : ℕ) (known : Bool) : Type 0 where
+  pub within : at ≤ length u
+  pub apart : DividesNoPair u at
+  pub form : IsKnownForm w (take at u) known
+
 -- The new bytes are the old ones with the units between two places behind them, each of which is ASCII.
 pub record AppendsAscii (old new u : List ℕ) (at end : ℕ) : Type 0 where
   pub order : at ≤ end

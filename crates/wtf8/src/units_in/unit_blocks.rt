@@ -1,8 +1,8 @@
-// Code units turned into bytes by the kind of the first: ASCII units sixteen together and those before another one, eight of
-// two or of three bytes together, any others in mixed blocks or one after another.
+// Code units turned into bytes by the kind of the first: the ASCII units at the front of 32, 16 or eight together with the
+// code point behind them, eight of two or of three bytes together, any others in mixed blocks or one after another.
 ghost use Rattle.std.specs.Prelude.{◌≡◌, ℕ, List, [], ◌+◌, ◌++◌, ◌-◌, ◌*◌, ◌%◌, ◌<◌, ◌≤◌, length, map, take, drop, IfOk, IfSome, IfNone, IsOk, IsTrue, OnOk};
 ghost use Rattle.wtf8.specs.Form.{bytes as bytes_of};
-ghost use Rattle.wtf8.specs.UnitParts.{AppendsAscii, AppendsPart, IsKnownForm, DividesNoPair, AreAscii, AreTwoByteUnits, AreThreeByteUnits, IsBlock};
+ghost use Rattle.wtf8.specs.UnitParts.{AppendsPart, IsKnownForm, IsReadTo, DividesNoPair, AreAscii, AreTwoByteUnits, AreThreeByteUnits, IsBlock};
 
 use crate::numbers::encoding;
 use crate::numbers::surrogates::{FIRST_LEAD, FIRST_TRAIL, LAST_TRAIL};
@@ -10,7 +10,7 @@ use crate::units_in::{NUMBERS, decode, low_blocks, mixed_blocks};
 use std::alloc::{AllocError, Allocator};
 use std::simd::prelude::*;
 
-/// How many ASCII units are written together in a run of them.
+/// How many units are looked at together for ASCII where there are so many.
 const MANY: usize = 2 * NUMBERS;
 
 /// How many units of two or of three bytes are written together.
@@ -69,36 +69,6 @@ pub(crate) fn ascii_bytes(numbers: u32x16) -> Option<[u8; NUMBERS]>
 {
     if are_ascii(numbers) {
         return Some(narrowed(numbers));
-    }
-    None
-}
-
-/// Whether all of many units are ASCII.
-#[inline(always)]
-fn are_ascii_units(units: Simd<u16, MANY>) -> bool
-    ensures { IsTrue result → AreAscii units }
-{
-    units.simd_ge(Simd::splat(0x80)).to_bitmask() == 0
-}
-
-/// Many units below 0x80 as bytes.
-#[inline(always)]
-fn narrowed_units(units: Simd<u16, MANY>) -> [u8; MANY]
-    requires { AreAscii units }
-    ensures { result ≡ units }
-{
-    units.cast::<u8>().to_array()
-}
-
-/// The bytes of many units from a place on, where there are so many and all of them are ASCII.
-#[inline(always)]
-fn ascii_units(v: &[u16], at: usize) -> Option<[u8; MANY]>
-    requires { at ≤ length v.now }
-    ensures { IfSome result (λ block. AreAscii block × (at + MANY ≤ length v.now) × (block ≡ take MANY (drop at v.now))) }
-{
-    let units = Simd::<u16, MANY>::from_array(units_from(v, at)?);
-    if are_ascii_units(units) {
-        return Some(narrowed_units(units));
     }
     None
 }
@@ -216,130 +186,43 @@ fn end_of_part(v: &[u16], at: usize) -> usize
     }
 }
 
-/// How many of sixteen units come before the first that is not ASCII.
+/// How many of `N` units come before the first that is not ASCII.
 #[inline(always)]
-fn count_ascii(units: u16x16) -> usize
-    ensures within { result ≤ NUMBERS }
-    ensures ascii { AreAscii (take result units) }
+fn count_ascii<const N: usize>(units: Simd<u16, N>) -> usize
+    requires { N ≤ u64.BITS }
+    ensures within { result ≤ N }
+    ensures ascii { AreAscii (take result units.entry) }
 {
     let others = units.simd_ge(Simd::splat(0x80)).to_bitmask();
     if others == 0 {
-        return NUMBERS;
+        return N;
     }
     others.trailing_zeros() as usize
 }
 
-/// The low bytes of sixteen units.
+/// The low bytes of `N` units.
 #[inline(always)]
-fn low_bytes(units: u16x16) -> [u8; NUMBERS]
-    ensures { result ≡ map (λ unit. unit % 256) units }
+fn low_bytes<const N: usize>(units: Simd<u16, N>) -> [u8; N]
+    ensures { result ≡ map (λ unit. unit % 256) units.entry }
 {
-    (units % u16x16::splat(0x100)).cast::<u8>().to_array()
+    (units % Simd::splat(0x100)).cast::<u8>().to_array()
 }
 
-/// Appends the ASCII units at the front of sixteen.
+/// Appends the ASCII units at the front of `N`.
 #[inline(always)]
-fn append_cut<A: Allocator>(
+fn append_cut<const N: usize, A: Allocator>(
     bytes: &mut Vec<u8, A>,
-    units: u16x16,
+    units: Simd<u16, N>,
     count: usize,
 ) -> Result<(), AllocError>
-    requires within { count ≤ NUMBERS }
+    requires within { count ≤ N }
     requires ascii { AreAscii (take count units) }
-    ensures { OnOk result (bytes.new.items ≡ bytes.old.items ++ take count units) }
+    ensures { OnOk result (bytes.new.items ≡ bytes.old.items ++ take count units.entry) }
 {
     let end = bytes.len() + count;
     bytes.extend_from_slice(&low_bytes(units))?;
     bytes.truncate(end);
     Ok(())
-}
-
-/// Appends the blocks of many ASCII units from a place on, and answers where they end.
-#[inline(always)]
-fn append_ascii_blocks<A: Allocator>(
-    bytes: &mut Vec<u8, A>,
-    v: &[u16],
-    at: usize,
-) -> Result<usize, AllocError>
-    requires { at ≤ length v.now }
-    ensures { IfOk result (λ end. AppendsAscii bytes.old.items bytes.new.items v.now at end) }
-{
-    let mut end = at;
-    while let Some(block) = ascii_units(v, end) {
-        bytes.extend_from_slice(&block)?;
-        end += MANY;
-    }
-    Ok(end)
-}
-
-/// Appends the ASCII units at the front of the sixteen from a place on, where there are so many, and answers where they end.
-#[inline(always)]
-fn append_sixteen<A: Allocator>(
-    bytes: &mut Vec<u8, A>,
-    v: &[u16],
-    at: usize,
-) -> Result<usize, AllocError>
-    requires { at ≤ length v.now }
-    ensures { IfOk result (λ end. AppendsAscii bytes.old.items bytes.new.items v.now at end) }
-{
-    let Some(units) = units_from(v, at) else {
-        return Ok(at);
-    };
-    let units = u16x16::from_array(units);
-    let count = count_ascii(units);
-    append_cut(bytes, units, count)?;
-    Ok(at + count)
-}
-
-/// Appends the ASCII units behind others, where they are the last ones and fewer than sixteen, by the last sixteen of all, of
-/// which those before them are appended anew; and answers where they end.
-#[inline(always)]
-fn append_last<A: Allocator>(
-    bytes: &mut Vec<u8, A>,
-    v: &[u16],
-    front: usize,
-    at: usize,
-) -> Result<usize, AllocError>
-    requires within { at ≤ length v.now }
-    requires long { front + NUMBERS ≤ at }
-    requires kept { NUMBERS ≤ length bytes.old.items }
-    ensures { IfOk result (λ end. (start : List ℕ) → AppendsAscii start bytes.old.items v.now front at → AppendsAscii start bytes.new.items v.now front end) }
-{
-    let left = v.len() - at;
-    if left == 0 || NUMBERS <= left {
-        return Ok(at);
-    }
-    let Some(units) = units_from(v, v.len() - NUMBERS) else {
-        return Ok(at);
-    };
-    let units = u16x16::from_array(units);
-    if count_ascii(units) < NUMBERS {
-        return Ok(at);
-    }
-    let kept = bytes.len() - (NUMBERS - left);
-    bytes.truncate(kept);
-    bytes.extend_from_slice(&low_bytes(units))?;
-    Ok(v.len())
-}
-
-/// Appends the ASCII units from a place on, as far as blocks tell, and answers where they end.
-#[inline(always)]
-fn append_ascii<A: Allocator>(
-    bytes: &mut Vec<u8, A>,
-    v: &[u16],
-    at: usize,
-) -> Result<usize, AllocError>
-    requires { at ≤ length v.now }
-    ensures { IfOk result (λ end. AppendsAscii bytes.old.items bytes.new.items v.now at end) }
-{
-    let front = append_sixteen(bytes, v, at)?;
-    if front - at < NUMBERS {
-        return Ok(front);
-    }
-    let many = append_ascii_blocks(bytes, v, front)?;
-    let end = append_sixteen(bytes, v, many)?;
-    let last = append_last(bytes, v, at, end)?;
-    Ok(last)
 }
 
 /// Appends the bytes of the code point at a place, and answers where it ends and whether it is a scalar value.
@@ -357,47 +240,85 @@ fn append_point<A: Allocator>(
     Ok((end, is_scalar))
 }
 
-/// Appends the ASCII units from a place on, as far as blocks tell, of which there is one at least, and the bytes of the
-/// code point behind them where that is not ASCII, and answers where these end and whether that is a scalar value.
+/// Appends the ASCII units at the front of the `N` from a place on, where there are so many, and the bytes of the code
+/// point behind them where not all are ASCII, and answers where these end and whether no surrogate is alone among them.
 #[inline(always)]
-fn append_ascii_run<A: Allocator>(
-    bytes: &mut Vec<u8, A>,
-    v: &[u16],
-    at: usize,
-) -> Result<(usize, bool), AllocError>
-    requires { at < length v.now }
-    ensures { IfOk result (λ part. AppendsPart bytes.old.items bytes.new.items v.now at part.0 part.1) }
-{
-    let front = append_ascii(bytes, v, at)?;
-    if front > at && (front == v.len() || v[front] < 0x80) {
-        return Ok((front, true));
-    }
-    let (end, is_scalar) = append_point(bytes, v, front)?;
-    Ok((end, is_scalar))
-}
-
-/// Appends the bytes of the ASCII units from a place on, as far as blocks tell, and of the code point behind them
-/// where that is not ASCII, and answers where these end and whether no surrogate is alone among them.
-#[inline(always)]
-fn append_front<A: Allocator>(
+fn append_front<const N: usize, A: Allocator>(
     bytes: &mut Vec<u8, A>,
     v: &[u16],
     at: usize,
 ) -> Result<Option<(usize, bool)>, AllocError>
-    requires { at < length v.now }
+    requires lanes { (0 < N) × (N ≤ u64.BITS) }
+    requires within { at ≤ length v.now }
     ensures none { IfOk result (λ part. IfNone part (bytes.new.items ≡ bytes.old.items)) }
     ensures some { IfOk result (λ part. IfSome part (λ part. AppendsPart bytes.old.items bytes.new.items v.now at part.0 part.1)) }
 {
-    let Some(units) = units_from(v, at) else {
+    let Some(units) = units_from::<N>(v, at) else {
         return Ok(None);
     };
-    let units = u16x16::from_array(units);
+    let units = Simd::<u16, N>::from_array(units);
     let count = count_ascii(units);
-    if count == NUMBERS {
-        return Ok(Some(append_ascii_run(bytes, v, at)?));
-    }
     append_cut(bytes, units, count)?;
+    if count == N {
+        return Ok(Some((at + N, true)));
+    }
     Ok(Some(append_point(bytes, v, at + count)?))
+}
+
+/// Appends the front of many units from a place on, where there are so many and the first is ASCII.
+#[inline(always)]
+fn append_many<A: Allocator>(
+    bytes: &mut Vec<u8, A>,
+    v: &[u16],
+    at: usize,
+) -> Result<Option<(usize, bool)>, AllocError>
+    requires { at ≤ length v.now }
+    ensures none { IfOk result (λ part. IfNone part (bytes.new.items ≡ bytes.old.items)) }
+    ensures some { IfOk result (λ part. IfSome part (λ part. AppendsPart bytes.old.items bytes.new.items v.now at part.0 part.1)) }
+{
+    if at == v.len() || 0x80 <= v[at] || v.len() - at < MANY {
+        return Ok(None);
+    }
+    append_front::<MANY, A>(bytes, v, at)
+}
+
+/// Appends the fronts of many units from a place on, one after another, as long as the first of many is ASCII, and
+/// answers where they end and whether no surrogate is alone among all units so far.
+#[inline(always)]
+fn append_fronts<A: Allocator>(
+    bytes: &mut Vec<u8, A>,
+    v: &[u16],
+    at: usize,
+    is_known: bool,
+) -> Result<(usize, bool), AllocError>
+    requires { IsReadTo bytes.old.items v.now at is_known }
+    ensures order { IfOk result (λ part. at ≤ part.0) }
+    ensures read { IfOk result (λ part. IsReadTo bytes.new.items v.now part.0 part.1) }
+{
+    let mut end = at;
+    let mut is_scalar = is_known;
+    while let Some((next, is_part_scalar)) = append_many(bytes, v, end)? {
+        is_scalar &= is_part_scalar;
+        end = next;
+    }
+    Ok((end, is_scalar))
+}
+
+/// Appends the front of sixteen units from a place on or, where there are not so many, of half as many.
+#[inline(always)]
+fn append_few<A: Allocator>(
+    bytes: &mut Vec<u8, A>,
+    v: &[u16],
+    at: usize,
+) -> Result<Option<(usize, bool)>, AllocError>
+    requires { at ≤ length v.now }
+    ensures none { IfOk result (λ part. IfNone part (bytes.new.items ≡ bytes.old.items)) }
+    ensures some { IfOk result (λ part. IfSome part (λ part. AppendsPart bytes.old.items bytes.new.items v.now at part.0 part.1)) }
+{
+    if NUMBERS <= v.len() - at {
+        return append_front::<NUMBERS, A>(bytes, v, at);
+    }
+    append_front::<HALF, A>(bytes, v, at)
 }
 
 /// Appends the bytes of some units from a place on, sixteen together where that can be, and answers where they end and
@@ -433,7 +354,7 @@ fn append_kind<A: Allocator>(
 {
     let unit = v[at];
     if unit < 0x80 {
-        return append_front(bytes, v, at);
+        return append_few(bytes, v, at);
     }
     if unit < 0x800 {
         if let Some(block) = two_byte_block(v, at) {
@@ -481,9 +402,12 @@ pub(crate) fn append_form<A: Allocator>(
     let mut at = 0;
     let mut is_scalar = true;
     while at < v.len() {
-        let (end, is_part_scalar) = append_part(bytes, v, at)?;
-        is_scalar &= is_part_scalar;
-        at = end;
+        (at, is_scalar) = append_fronts(bytes, v, at, is_scalar)?;
+        if at < v.len() {
+            let (end, is_part_scalar) = append_part(bytes, v, at)?;
+            is_scalar &= is_part_scalar;
+            at = end;
+        }
     }
     Ok(is_scalar)
 }

@@ -35,22 +35,22 @@ module _ (p : ℕ → Bool) (Q : ℕ → Type 0) (off : (x : ℕ) → p x ≡ fa
   front_off e = low (count_trailing_zeros 64 m) (omega (arith, counted e))
 
 -- the mask of the lanes that are not ASCII
-abbrev others : Width → List ℕ → ℕ
-others w xs = mask_l (map (top (hbits w)) (zip2 (λ a b. cond (leb a b) (2 ^ bits w - 1) 0) (replicate 16 0x80) xs)) % 2 ^ 64
+abbrev others : Width → ℕ → List ℕ → ℕ
+others w n xs = mask_l (map (top (hbits w)) (zip2 (λ a b. cond (leb a b) (2 ^ bits w - 1) 0) (replicate n 0x80) xs)) % 2 ^ 64
 
-module _ (w : Width) (xs : List ℕ) (long : length xs ≡ 16) where
-  same : others w xs ≡ mask_l (map (leb 0x80) xs)
-  same = ap (λ ms. mask_l ms % 2 ^ 64) (tops_compared w leb (replicate 16 0x80) xs ∙ zip2_splat_left leb 0x80 16 xs long)
-      ∙ mask_l-mod (map (leb 0x80) xs) 64 (omega (arith, length-map xs (leb 0x80), long))
+module _ (w : Width) (n : ℕ) (xs : List ℕ) (few : n ≤ 64) (long : length xs ≡ n) where
+  same : others w n xs ≡ mask_l (map (leb 0x80) xs)
+  same = ap (λ ms. mask_l ms % 2 ^ 64) (tops_compared w leb (replicate n 0x80) xs ∙ zip2_splat_left leb 0x80 n xs long)
+      ∙ mask_l-mod (map (leb 0x80) xs) 64 (omega (arith, length-map xs (leb 0x80), long, few))
 
-  pub all_ascii : others w xs ≡ 0 → AreAscii (take 16 xs)
-  all_ascii = all_off (leb 0x80) (λ n. n < 0x80) (leb-false 0x80) xs (omega (arith, long)) (others w xs) same 16 (omega (arith, long))
+  pub all_ascii : others w n xs ≡ 0 → AreAscii (take n xs)
+  all_ascii = all_off (leb 0x80) (λ n. n < 0x80) (leb-false 0x80) xs (omega (arith, long, few)) (others w n xs) same n (omega (arith, long))
 
-  pub within : ¬ (others w xs ≡ 0) → count_trailing_zeros 64 (others w xs) ≤ 16
-  within e = omega (arith, long, off_within (leb 0x80) (λ n. n < 0x80) (leb-false 0x80) xs (omega (arith, long)) (others w xs) same e)
+  pub within : ¬ (others w n xs ≡ 0) → count_trailing_zeros 64 (others w n xs) ≤ n
+  within e = omega (arith, long, off_within (leb 0x80) (λ n. n < 0x80) (leb-false 0x80) xs (omega (arith, long, few)) (others w n xs) same e)
 
-  pub front_ascii : ¬ (others w xs ≡ 0) → AreAscii (take (count_trailing_zeros 64 (others w xs)) xs)
-  front_ascii = front_off (leb 0x80) (λ n. n < 0x80) (leb-false 0x80) xs (omega (arith, long)) (others w xs) same
+  pub front_ascii : ¬ (others w n xs ≡ 0) → AreAscii (take (count_trailing_zeros 64 (others w n xs)) xs)
+  front_ascii = front_off (leb 0x80) (λ n. n < 0x80) (leb-false 0x80) xs (omega (arith, long, few)) (others w n xs) same
 
 -- a lane is set where the lane, divided by one number, differs from another
 abbrev differs : ℕ → ℕ → ℕ

@@ -1,18 +1,18 @@
 -- Blocks of units of one kind: their lanes, their bytes, and what they add to a string.
 use Rattle.wtf8.proofs.Common.{◌≡◌, ℕ, zero, suc, ◌-◌, ◌%◌, ◌^◌, ◌<◌, ◌≤◌, leb, ltb, Bool, true, false, cond, ◌&&◌, ◌||◌, List, [], ◌∷◌, map, length, replicate, bit_and}
-use Rattle.wtf8.proofs.Common.{bit_or, Fits, refl, sym, ap, ◌∙◌, arith, inl, inr, cases_Bool, mask_l-mod, tops_compared, Each1, zip2, mask_l, top, AreAscii}
+use Rattle.wtf8.proofs.Common.{bit_or, Fits, refl, sym, ap, ◌∙◌, arith, inl, inr, and_parts, cases_Bool, mask_l-mod, tops_compared, Each1, zip2, mask_l, top, AreAscii}
 use Rattle.wtf8.proofs.Common.{AreTwoByteUnits, AreThreeByteUnits, IsSurrogate, ◌+◌, ◌/◌, ◌++◌, flat_map, bytes, encoding, IsTrue, take, drop, get_or, subst}
 use Rattle.wtf8.proofs.Common.{length-append, get_or-append-add, take-append-drop, take_all, Each1-weaker, length-chunk, MeetsAsPair, IsClean, bytes-injective, drop-drop}
 use Rattle.wtf8.proofs.Common.{AreScalar, units, IsKnownForm, DividesNoPair, IsBlock, numbers, append_assoc, Ok, IsWellFormed, GainsUnits}
 use Rattle.std.proofs.Common.{w16}
 use mir.Syntax.{Width}
 use mir.Val.{bits, hbits}
-use Rattle.std.proofs.Math.Seq.{get_or-append_seam, take-add, take-append-add}
+use Rattle.std.proofs.Math.Seq.{get_or-append_seam, take-add}
 use Rattle.std.proofs.lemmas.Bool.{leb-false, ltb-false, or_parts, and_cases}
 use Rattle.std.proofs.lemmas.List.{length-map, take-take}
 use Rattle.std.proofs.lemmas.Simd.{zip2_splat_left, Each1-get_or}
 use Rattle.wtf8.specs.Unicode.{IsLead}
-use Rattle.wtf8.specs.UnitParts.{AreScalarUnits, AppendsForm, AppendsAscii, AppendsPart}
+use Rattle.wtf8.specs.UnitParts.{AreScalarUnits, AppendsForm, AppendsAscii, AppendsPart, IsReadTo}
 use Rattle.wtf8.specs.declared.numbers.code_point.CodePoint.{CodePoint}
 use Rattle.wtf8.proofs.lemmas.numbers.Encoding.{encoding_two, encoding_three, third_row, encoding_one, bytes-append}
 use Rattle.wtf8.proofs.lemmas.numbers.Readings.{meets_by, units-cons_one}
@@ -229,11 +229,19 @@ known_behind w v a b known more both x y n flags =
     let same : x.form.points ++ y.form.points ≡ whole.points = bytes-injective (x.form.points ++ y.form.points) whole.points (encoded ∙ sym whole.encoded) in
     record { form = whole; scalar = λ t. subst AreScalar same (scalar-append x.form.points y.form.points (x.scalar (flags t).0) (y.scalar (flags t).1)) }
 
-pub part_read : (u w v new : List ℕ) (at n next : ℕ) (known more both : Bool) → IsKnownForm w (take at u) known → IsKnownForm v (take n (drop at u)) more
-    → DividesNoPair u at → (IsTrue both → IsTrue known × IsTrue more) → new ≡ w ++ v → next ≡ at + n → IsKnownForm new (take next u) both
-part_read u w v new at n next known more both x y apart flags e f =
-    let whole = known_behind w v (take at u) (take n (drop at u)) known more both x y (λ m. apart (meets_longer (take at u) (drop at u) n m)) flags in
-    subst (λ z. IsKnownForm z (take next u) both) (sym e) (subst (λ z. IsKnownForm (w ++ v) z both) (sym (ap (λ k. take k u) f ∙ take-add at n u)) whole)
+pub part_read : {w new u : List ℕ} {at end : ℕ} {known more : Bool} → IsReadTo w u at known → AppendsPart w new u at end more → IsReadTo new u end (known && more)
+part_read {w} {new} {u} {at} {end} {known} {more} x part =
+    let front = take at u in
+    let back = take (end - at) (drop at u) in
+    let count : end ≡ at + (end - at) = omega (arith, part.order) in
+    let both = ap (λ k. take k u) count ∙ take-add at (end - at) u in
+    let apart : ¬ (MeetsAsPair front back) = λ m. x.apart (meets_longer front (drop at u) (end - at) m) in
+    let whole = known_behind w part.form.appended front back known more (known && more) x.form part.form.part apart (and_parts known more) in
+    record {
+      within = part.within;
+      apart = part.apart;
+      form = subst (λ z. IsKnownForm z (take end u) (known && more)) (sym part.form.behind) (subst (λ z. IsKnownForm (w ++ part.form.appended) z (known && more)) (sym both) whole);
+    }
 
 -- the ASCII before a part, and the part
 ascii_meets : (a b : List ℕ) → AreAscii a → ¬ (MeetsAsPair a b)
@@ -251,54 +259,13 @@ between u {at} {mid} {end} l m =
     ap (λ k. take k (drop at u)) both ∙ (take-add (mid - at) (end - mid) (drop at u)
     ∙ ap (λ w. front ++ take (end - mid) w) (drop-drop (mid - at) at u ∙ ap (λ k. drop k u) here))
 
-pub ascii_appended : {was new u part : List ℕ} (at n : ℕ) → at + n ≤ length u → AreAscii part → part ≡ take n (drop at u) → new ≡ was ++ part
-    → AppendsAscii was new u at (at + n)
-ascii_appended {was} {new} {u} {part} at n l h same e =
-    let count : n ≡ at + n - at = omega arith in
-    let whole : part ≡ take (at + n - at) (drop at u) = same ∙ ap (λ k. take k (drop at u)) count in
-    record { order = omega arith; within = l; ascii = subst AreAscii whole h; behind = e ∙ ap (λ w. was ++ w) whole }
-
-each_both : (P : ℕ → Type 0) (xs ys : List ℕ) → Each1 P xs → Each1 P ys → Each1 P (xs ++ ys)
-each_both P [] ys h k = k
-each_both P (x ∷ xs) ys h k = (h.0, each_both P xs ys h.1 k)
-
-pub ascii_joined : {was now new u : List ℕ} {at mid end : ℕ} → AppendsAscii was now u at mid → AppendsAscii now new u mid end → AppendsAscii was new u at end
-ascii_joined {was} {now} {new} {u} {at} {mid} {end} a b =
-    let front = take (mid - at) (drop at u) in
-    let back = take (end - mid) (drop mid u) in
-    let whole = between u a.order b.order in
-    record {
-      order = omega (arith, a.order, b.order);
-      within = b.within;
-      ascii = subst AreAscii (sym whole) (each_both (λ n. n < 0x80) front back a.ascii b.ascii);
-      behind = b.behind ∙ (ap (λ w. w ++ back) a.behind ∙ (append_assoc was front back ∙ ap (λ w. was ++ w) (sym whole)));
-    }
-
-each_front : (P : ℕ → Type 0) (k : ℕ) (xs : List ℕ) → Each1 P xs → Each1 P (take k xs)
-each_front P zero xs h = tt
-each_front P (suc k) [] h = tt
-each_front P (suc k) (x ∷ xs) h = (h.0, each_front P k xs h.1)
-
--- without the last k of them
-ascii_cut : {was now u : List ℕ} {at end : ℕ} (k : ℕ) → k ≤ end - at → AppendsAscii was now u at end → AppendsAscii was (take (length now - k) now) u at (end - k)
-ascii_cut {was} {now} {u} {at} {end} k l a =
-    let n = end - k - at in
-    let all = take (end - at) (drop at u) in
-    let count = length-chunk at (end - at) u (omega (arith, a.order, a.within)) in
-    let size : length now - k ≡ length was + n = omega (arith, l, a.order, ap length a.behind, length-append was all, count) in
-    let front : take n all ≡ take n (drop at u) = take-take n (end - at) (drop at u) (omega arith) in
-    record {
-      order = omega (arith, l, a.order);
-      within = omega (arith, a.within);
-      ascii = subst AreAscii front (each_front (λ n. n < 0x80) n all a.ascii);
-      behind = ap (λ w. take (length now - k) w) a.behind ∙ (ap (λ m. take m (was ++ all)) size ∙ (take-append-add was all n ∙ ap (λ w. was ++ w) front));
-    }
-
--- the last k of them are appended anew, and the n - k behind them up to the end
-pub ascii_anew : {was now new u part : List ℕ} {at end : ℕ} (k n : ℕ) → k ≤ end - at → end - k + n ≡ length u → AppendsAscii was now u at end → AreAscii part
-    → part ≡ take n (drop (end - k) u) → new ≡ take (length now - k) now ++ part → AppendsAscii was new u at (length u)
-ascii_anew {was} {now} {new} {u} {part} {at} {end} k n l whole a ascii same behind =
-    subst (λ e. AppendsAscii was new u at e) whole (ascii_joined (ascii_cut k l a) (ascii_appended (end - k) n (omega (arith, whole)) ascii same behind))
+-- the first k of some units, which are ASCII
+pub ascii_appended : {was new u part : List ℕ} (at k n : ℕ) → at + n ≤ length u → part ≡ take n (drop at u) → k ≤ n → AreAscii (take k part) → new ≡ was ++ take k part
+    → AppendsAscii was new u at (at + k)
+ascii_appended {was} {new} {u} {part} at k n l same m h e =
+    let count : k ≡ at + k - at = omega arith in
+    let whole : take k part ≡ take (at + k - at) (drop at u) = ap (take k) same ∙ take-take k n (drop at u) m ∙ ap (λ k. take k (drop at u)) count in
+    record { order = omega arith; within = omega (arith, l, m); ascii = subst AreAscii whole h; behind = e ∙ ap (λ w. was ++ w) whole }
 
 pub ascii_part : {was new u : List ℕ} {at end : ℕ} → AppendsAscii was new u at end → at < end → AppendsPart was new u at end true
 ascii_part {was} {new} {u} {at} {end} a l =
@@ -333,8 +300,8 @@ front_and_part {was} {now} {new} {u} {at} {mid} {end} {known} a part =
       };
     }
 
-pub all_read : {w u : List ℕ} (at : ℕ) (known : Bool) → IsKnownForm w (take at u) known → length u ≤ at → IsKnownForm w u known
-all_read {w} {u} at known x h = subst (λ v. IsKnownForm w v known) (take_all at u h) x
+pub all_read : {w u : List ℕ} {at : ℕ} {known : Bool} → IsReadTo w u at known → length u ≤ at → IsKnownForm w u known
+all_read {w} {u} {at} {known} x h = subst (λ v. IsKnownForm w v known) (take_all at u h) x.form
 
 -- ASCII bytes behind well-formed bytes: the units that these gain, and what a buffer knows of them.
 

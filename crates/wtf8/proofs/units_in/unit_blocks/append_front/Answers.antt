@@ -1,12 +1,21 @@
-use Rattle.wtf8.proofs.Common.{◌∙◌, ap, arith, drop, take}
-use Rattle.std.proofs.lemmas.List.{take-take}
-use Rattle.wtf8.proofs.lemmas.units_in.Blocks.{ascii_appended, front_and_part}
+use Rattle.wtf8.proofs.Common.{◌+◌, arith, subst, true}
+use Rattle.wtf8.specs.UnitParts.{AppendsPart}
+use Rattle.wtf8.proofs.lemmas.units_in.Blocks.{ascii_appended, ascii_part, front_and_part}
 use Rattle.wtf8.proofs.units_in.unit_blocks.append_front.Goals as goal
+
+pub returns-then-count-clause-some : goal.returns-then-count-clause-some
+returns-then-count-clause-some g c =
+    let n = c.count_ascii-count.result in
+    let units = c.in-Some.ensures in
+    let counted = c.count_ascii-count.ensures in
+    let at = c.args.at in
+    let front = ascii_appended at n g.row.N units.within units.same counted.within counted.ascii c.in_ok-append_cut.ensures in
+    subst (λ k. AppendsPart c.args.bytes.now.items c.append_cut.new.bytes.items c.args.v.now at (at + k) true) c.if-count.true
+    (ascii_part front (omega (arith, c.requires.lanes.0, c.if-count.true)))
 
 pub returns-clause-some : goal.returns-clause-some
 returns-clause-some g c =
-    let n = c.count_ascii-count.result in
-    let counted = c.count_ascii-count.ensures in
     let units = c.in-Some.ensures in
-    let same = ap (take n) units.same ∙ take-take n 16 (drop c.args.at c.args.v.now) counted.within in
-    front_and_part (ascii_appended c.args.at n (omega (arith, units.within, counted.within)) counted.ascii same c.in_ok-append_cut.ensures) c.in_ok-append_point.ensures
+    let counted = c.count_ascii-count.ensures in
+    let front = ascii_appended c.args.at c.count_ascii-count.result g.row.N units.within units.same counted.within counted.ascii c.in_ok-append_cut.ensures in
+    front_and_part front c.in_ok-append_point.ensures

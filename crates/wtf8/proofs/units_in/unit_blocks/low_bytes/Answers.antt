@@ -3,10 +3,10 @@ use Rattle.wtf8.proofs.lemmas.lanes.AsciiFronts.{each2_splat, each1_splat, map_s
 use Rattle.wtf8.proofs.units_in.unit_blocks.low_bytes.Goals as goal
 
 pub nonzero_rem-result : goal.nonzero_rem-result
-nonzero_rem-result c = each2_splat _ 256 (λ x. omega arith) 16 c.args.units c.fits-units.0
+nonzero_rem-result g c = each2_splat _ 256 (λ x. omega arith) g.row.N c.args.units c.fits-units.0
 
 pub overflow_cast-result : goal.overflow_cast-result
-overflow_cast-result c = each1_splat _ _ 256 (λ x. omega arith) 16 c.args.units c.fits-units.0
+overflow_cast-result g c = each1_splat _ _ 256 (λ x. omega arith) g.row.N c.args.units c.fits-units.0
 
 pub returns : goal.returns
-returns c = map_splat _ _ (λ n. n % 256) 256 (λ x. refl) 16 c.args.units c.fits-units.0
+returns g c = map_splat _ _ (λ n. n % 256) 256 (λ x. refl) g.row.N c.args.units c.fits-units.0
