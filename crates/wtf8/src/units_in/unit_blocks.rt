@@ -282,28 +282,6 @@ fn append_many<A: Allocator>(
     append_front::<MANY, A>(bytes, v, at)
 }
 
-/// Appends the fronts of many units from a place on, one after another, as long as the first of many is ASCII, and
-/// answers where they end and whether no surrogate is alone among all units so far.
-#[inline(always)]
-fn append_fronts<A: Allocator>(
-    bytes: &mut Vec<u8, A>,
-    v: &[u16],
-    at: usize,
-    is_known: bool,
-) -> Result<(usize, bool), AllocError>
-    requires { IsReadTo bytes.old.items v.now at is_known }
-    ensures order { IfOk result (λ part. at ≤ part.0) }
-    ensures read { IfOk result (λ part. IsReadTo bytes.new.items v.now part.0 part.1) }
-{
-    let mut end = at;
-    let mut is_scalar = is_known;
-    while let Some((next, is_part_scalar)) = append_many(bytes, v, end)? {
-        is_scalar &= is_part_scalar;
-        end = next;
-    }
-    Ok((end, is_scalar))
-}
-
 /// Appends the front of sixteen units from a place on or, where there are not so many, of half as many.
 #[inline(always)]
 fn append_few<A: Allocator>(
@@ -319,6 +297,28 @@ fn append_few<A: Allocator>(
         return append_front::<NUMBERS, A>(bytes, v, at);
     }
     append_front::<HALF, A>(bytes, v, at)
+}
+
+/// Appends the fronts of many units from a place on, one after another as long as the first of many is ASCII, or where
+/// there are not so many the front of fewer, and answers where they end and whether no surrogate is alone among them.
+#[inline(always)]
+fn append_fronts<A: Allocator>(
+    bytes: &mut Vec<u8, A>,
+    v: &[u16],
+    at: usize,
+) -> Result<Option<(usize, bool)>, AllocError>
+    requires { at ≤ length v.now }
+    ensures none { IfOk result (λ part. IfNone part (bytes.new.items ≡ bytes.old.items)) }
+    ensures some { IfOk result (λ part. IfSome part (λ part. AppendsPart bytes.old.items bytes.new.items v.now at part.0 part.1)) }
+{
+    let Some((mut end, mut is_scalar)) = append_many(bytes, v, at)? else {
+        return append_few(bytes, v, at);
+    };
+    while let Some((next, is_part_scalar)) = append_many(bytes, v, end)? {
+        is_scalar &= is_part_scalar;
+        end = next;
+    }
+    Ok(Some((end, is_scalar)))
 }
 
 /// Appends the bytes of some units from a place on, sixteen together where that can be, and answers where they end and
@@ -354,7 +354,7 @@ fn append_kind<A: Allocator>(
 {
     let unit = v[at];
     if unit < 0x80 {
-        return append_few(bytes, v, at);
+        return append_fronts(bytes, v, at);
     }
     if unit < 0x800 {
         if let Some(block) = two_byte_block(v, at) {
@@ -402,12 +402,9 @@ pub(crate) fn append_form<A: Allocator>(
     let mut at = 0;
     let mut is_scalar = true;
     while at < v.len() {
-        (at, is_scalar) = append_fronts(bytes, v, at, is_scalar)?;
-        if at < v.len() {
-            let (end, is_part_scalar) = append_part(bytes, v, at)?;
-            is_scalar &= is_part_scalar;
-            at = end;
-        }
+        let (end, is_part_scalar) = append_part(bytes, v, at)?;
+        is_scalar &= is_part_scalar;
+        at = end;
     }
     Ok(is_scalar)
 }

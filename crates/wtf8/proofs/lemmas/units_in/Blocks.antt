@@ -300,6 +300,33 @@ front_and_part {was} {now} {new} {u} {at} {mid} {end} {known} a part =
       };
     }
 
+-- a part and the one behind it
+meets_behind_more : (c : List ℕ) {a b : List ℕ} → MeetsAsPair a b → MeetsAsPair (c ++ a) b
+meets_behind_more c m = meets_by (c ++ m.front) m.rest m.lead m.trail m.is_lead m.is_trail (ap (λ e. c ++ e) m.ends ∙ sym (append_assoc c m.front (m.lead ∷ []))) m.begins
+
+pub parts_joined : {was now new u : List ℕ} {at mid end : ℕ} {known more : Bool} → AppendsPart was now u at mid known → AppendsPart now new u mid end more
+    → AppendsPart was new u at end (known && more)
+parts_joined {was} {now} {new} {u} {at} {mid} {end} {known} {more} a part =
+    let front = take (mid - at) (drop at u) in
+    let back = take (end - mid) (drop mid u) in
+    let count : mid ≡ at + (mid - at) = omega (arith, a.order) in
+    let before : take mid u ≡ take at u ++ front = ap (λ k. take k u) count ∙ take-add at (mid - at) u in
+    let apart : ¬ (MeetsAsPair front back) =
+    λ m. a.apart (subst (λ w. MeetsAsPair w (drop mid u)) (sym before) (meets_behind_more (take at u) (meets_longer front (drop mid u) (end - mid) m))) in
+    let own = a.form in
+    let next = part.form in
+    let joined = known_behind own.appended next.appended front back known more (known && more) own.part next.part apart (and_parts known more) in
+    record {
+      order = omega (arith, a.order, part.order);
+      within = part.within;
+      apart = part.apart;
+      form = record {
+        appended = own.appended ++ next.appended;
+        behind = next.behind ∙ (ap (λ w. w ++ next.appended) own.behind ∙ append_assoc was own.appended next.appended);
+        part = subst (λ v. IsKnownForm (own.appended ++ next.appended) v (known && more)) (sym (between u (omega (arith, a.order)) (omega (arith, part.order)))) joined;
+      };
+    }
+
 pub all_read : {w u : List ℕ} {at : ℕ} {known : Bool} → IsReadTo w u at known → length u ≤ at → IsKnownForm w u known
 all_read {w} {u} {at} {known} x h = subst (λ v. IsKnownForm w v known) (take_all at u h) x.form
 

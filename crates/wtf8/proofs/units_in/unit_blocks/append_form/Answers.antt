@@ -6,8 +6,8 @@ use Rattle.wtf8.proofs.units_in.unit_blocks.append_form.Goals as goal
 pub loop-at-init : goal.loop-at-init
 loop-at-init g c = record { within = omega arith; apart = nothing_ends; form = nothing_read _ c.requires }
 
-pub loop-at-preserved-then-at-v : goal.loop-at-preserved-then-at-v
-loop-at-preserved-then-at-v g c = part_read c.in_ok-at.ensures.read c.in_ok-end.ensures
+pub loop-at-preserved : goal.loop-at-preserved
+loop-at-preserved g c = part_read c.loop-at.invariant c.in_ok-end.ensures
 
 pub returns-clause-ok : goal.returns-clause-ok
 returns-clause-ok g c = all_read c.loop-at.invariant (omega arith)
