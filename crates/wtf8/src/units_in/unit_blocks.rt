@@ -403,7 +403,10 @@ pub(crate) fn append_form<A: Allocator>(
     let mut is_scalar = true;
     while at < v.len() {
         let (end, is_part_scalar) = append_part(bytes, v, at)?;
-        is_scalar &= is_part_scalar;
+        // A part mostly holds no lone surrogate, and the compiler then knows it.
+        if !is_part_scalar {
+            is_scalar = false;
+        }
         at = end;
     }
     Ok(is_scalar)
