@@ -8,7 +8,7 @@ use crate::console::fail;
 
 /// The width of the calls' names, of the bar and its number for one input, and of the whole's edge.
 const NAMES: f64 = 196.0;
-const CELL: f64 = 92.0;
+const CELL: f64 = 100.0;
 const EDGE: f64 = 12.0;
 
 /// The height of the inputs' names, of one call, and of a bar.
@@ -16,8 +16,9 @@ const HEAD: f64 = 64.0;
 const LINE: f64 = 24.0;
 const BAR: f64 = 13.0;
 
-/// The length of a bar where both sides take as long.
+/// The length of a bar where both sides take as long, and of the longest bar, which ends before its number.
 const ONE: f64 = 24.0;
+const LONGEST: f64 = 56.0;
 
 /// Colours for a light and for a dark page, each on a ground of its own.
 const STYLE: &str = "\
@@ -187,7 +188,7 @@ fn draw_bar(picture: &mut String, left: f64, top: f64, ratio: f64) {
         picture,
         format_args!(
             "<rect class=\"{class}\" x=\"{left}\" y=\"{bar}\" width=\"{:.1}\" height=\"{BAR}\"/>",
-            ratio * ONE
+            (ratio * ONE).min(LONGEST)
         ),
     );
     draw(
