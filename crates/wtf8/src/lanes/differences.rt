@@ -77,10 +77,10 @@ pub(crate) fn equal(own: &[u8], others: &[u8]) -> bool
     if own.len() != others.len() {
         return false;
     }
-    if own.len() <= BLOCK {
-        return scan::is_short_clear(&Pair { own, others }, own.len());
+    if scan::is_short_clear(&Pair { own, others }, own.len()) {
+        return true;
     }
-    is_same_of_many(own, others)
+    BLOCK < own.len() && is_same_of_many(own, others)
 }
 
 /// Whether more bytes than a block has are the same in two lists of the same length.
@@ -116,7 +116,7 @@ pub(crate) fn first_difference(own: &[u8], others: &[u8]) -> usize
     if 0 < len && own[0] != others[0] {
         return 0;
     }
-    if len <= BLOCK && scan::is_short_clear(&Pair { own, others }, len) {
+    if scan::is_short_clear(&Pair { own, others }, len) {
         return len;
     }
     first_difference_of_many(own, others)

@@ -75,14 +75,15 @@ pub(crate) fn skip<const N: usize, S: Turn<N>>(s: &S, from: usize, end: usize) -
     requires moves { 0 < N }
     requires order { from ≤ end }
     requires room { end ≤ S.limit s.now }
-    requires fits { end + N ≤ usize.MAX }
     ensures order { (from ≤ result) × (result ≤ end) }
     ensures clear { Nowhere (S.hit s.now) from result }
     ensures stopped { result + N ≤ end → S.exact s.now → ¬ (Nowhere (S.hit s.now) result (result + N)) }
 {
     let mut at = from;
-    while at + N <= end && s.is_clear(at) {
-        at += N;
+    if let Some(last) = end.checked_sub(N) {
+        while at <= last && s.is_clear(at) {
+            at += N;
+        }
     }
     at
 }
@@ -95,51 +96,36 @@ pub(crate) fn are_turns_clear<const N: usize, S: Turn<N>>(s: &S, from: usize, en
     requires long { N ≤ end }
     requires order { from ≤ end }
     requires room { end ≤ S.limit s.now }
-    requires fits { end + N ≤ usize.MAX }
     requires clear { Nowhere (S.hit s.now) 0 from }
     ensures { Tells (S.exact s.now) (S.hit s.now) 0 end result }
 {
     let at = skip::<N, S>(s, from, end);
-    if at + N <= end {
+    if at <= end - N {
         return false;
     }
     s.is_clear(end - N)
 }
 
-/// Whether there is no hit at the places of one block or fewer.
+/// Whether there is no hit before an end. The fewest places are asked about first; of more places than a block has the
+/// answer is no.
 #[inline(always)]
 pub(crate) fn is_short_clear<S: Ends<4> + Ends<8> + Ends<16> + Ends<32> + Block<16> + Block<32>>(
     s: &S,
     end: usize,
 ) -> bool
-    requires few { end ≤ BLOCK }
     requires room { end ≤ S.limit s.now }
-    ensures { Tells (S.exact s.now) (S.hit s.now) 0 end result }
+    ensures { Tells ((end ≤ BLOCK) × S.exact s.now) (S.hit s.now) 0 end result }
 {
     if end <= VECTOR {
         return is_vector_clear(s, end);
     }
-    is_long_clear(s, end)
-}
-
-/// The same of no fewer places than a vector has.
-#[inline(always)]
-pub(crate) fn is_long_clear<S: Ends<16> + Ends<32> + Block<16> + Block<32>>(
-    s: &S,
-    end: usize,
-) -> bool
-    requires many { VECTOR ≤ end }
-    requires few { end ≤ BLOCK }
-    requires room { end ≤ S.limit s.now }
-    ensures { Tells (S.exact s.now) (S.hit s.now) 0 end result }
-{
     if end <= 32 {
         return are_ends_clear::<16, S>(s, end);
     }
     if end <= 48 {
         return is_block_clear::<32, S>(s, 0) & is_block_clear::<16, S>(s, end - 16);
     }
-    are_ends_clear::<32, S>(s, end)
+    end <= BLOCK && are_ends_clear::<32, S>(s, end)
 }
 
 /// The same of no more places than a vector has.

@@ -1,6 +1,6 @@
 // Concatenation of well-formed bytes: what is appended at their end, a lead and a trail that meet as one code point.
 ghost use Rattle.std.specs.Prelude.{◌≡◌, ℕ, List, [], ◌∷◌, ◌++◌, ◌+◌, ◌-◌, ◌≤◌, ◌<◌, length, take, drop, OnOk, OnErr, IsOk, OnSome, IfSome, IfNone, vec_len};
-ghost use Rattle.std.specs.Prelude.{vec_capacity, IsTrue};
+ghost use Rattle.std.specs.Prelude.{vec_capacity, IsTrue, slice_index, ◌%◌};
 ghost use Rattle.std.specs.Str.{chars};
 ghost use Rattle.wtf8.specs.CodePoint.{number};
 ghost use Rattle.wtf8.specs.Concatenation.{MeetsAsPair};
@@ -162,16 +162,19 @@ fn join_bytes<A: Allocator>(
     requires lead { IsLead lead }
     requires trail { IsTrail trail }
     requires three { 3 ≤ length bytes.old.items }
-    requires other_three { 3 ≤ length other.now }
+    requires begins { (3 ≤ length other.now) × (slice_index other.now 2 ≡ 0x80 + trail % 64) }
     ensures ok { OnOk result (bytes.new.items ≡ (take (length bytes.old.items - 3) bytes.old.items ++ encoding (pair lead trail)) ++ drop 3 other.now) }
     ensures err { OnErr result (bytes.new.items ≡ bytes.old.items) }
     ensures room { (length bytes.old.items + length other.now) - 2 ≤ vec_capacity bytes.old → IsOk result }
     ensures capacity { vec_capacity bytes.old ≤ vec_capacity bytes.new }
 {
-    let (_, rest) = other.split_at(3);
-    bytes.reserve(rest.len() + 1)?;
-    join(bytes, lead, trail)?;
-    append_bytes(bytes, rest)
+    let joined = encoding::four_bytes(surrogates::joined(lead, trail));
+    let start = bytes.len() - 3;
+    // The last byte of the code point is the trail's, and is appended with those behind it.
+    let (_, added) = other.split_at(2);
+    bytes.extend_from_slice(added)?;
+    bytes[start..start + 3].copy_from_slice(&joined[..3]);
+    Ok(())
 }
 
 /// Appends a view, a trail surrogate at its front and a lead at the end as the code point that the two stand for. It is

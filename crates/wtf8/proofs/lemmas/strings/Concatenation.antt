@@ -2,12 +2,12 @@
 use Rattle.wtf8.proofs.Common.{◌≡◌, ℕ, inl, inr, List, [], ◌∷◌, ◌++◌, refl, sym, ap, ◌∙◌, subst, arith, append_assoc, cases_Bool, append-nil, IsLead, IsTrail, units}
 use Rattle.wtf8.proofs.Common.{units_of, pair, IsClean, Reads, MeetsAsPair, is_pair, glue, ◌+◌, ◌-◌, ◌≤◌, length, take, drop, length-append, cases_lt, take_at}
 use Rattle.wtf8.proofs.Common.{drop_at, same_from_push, bytes, encoding, IsForm, length-drop, All, All-nil, All-cons, All-head, All-tail, All-same, IsUnit}
-use Rattle.wtf8.proofs.Common.{IsCodePoint}
+use Rattle.wtf8.proofs.Common.{IsCodePoint, ◌%◌}
 use Rattle.std.proofs.Common.{◌≡◌, ℕ, ◌+◌, ◌<◌, List, [], ◌∷◌, ◌++◌, length, take, drop, get_or, refl, sym, ap, ◌∙◌, arith, length-append}
 use Rattle.std.proofs.lemmas.List.{drop_more, take_more, take-append-drop, length-take-le}
 use Rattle.std.proofs.lemmas.List.Elements.{All-append}
 use Rattle.wtf8.specs.Laws.{UnitsHaveOneReading, ReadingsAreOfUnits, UnitsHaveOneForm, FormsAreOfOneList, EqualFormsHaveEqualUnits, NoEncodingBeginsAnother}
-use Rattle.wtf8.proofs.lemmas.numbers.Encoding.{encoding_four, length-surrogate, bytes-append, bytes-pushed, encoding_same}
+use Rattle.wtf8.proofs.lemmas.numbers.Encoding.{encoding_three, encoding_four, length-surrogate, bytes-append, bytes-pushed, encoding_same}
 use Rattle.wtf8.proofs.lemmas.numbers.Readings.{clean-append, clean-front, clean-rest, pair_true, true_pair, meets_by, meets_behind, meets_or_apart, nothing_begins}
 use Rattle.wtf8.proofs.lemmas.numbers.Readings.{no_lead, no_trail, same_reading, units_one, units_pair, same_form, trail_first, lead_of, trail_of, units_two}
 use Rattle.wtf8.proofs.lemmas.numbers.Readings.{units-pushed, clean-first, form_of, units_from_form}
@@ -112,13 +112,14 @@ abbrev pub paired_bytes : List ℕ → ℕ → ℕ → List ℕ → List ℕ
 paired_bytes w l t v = (take (length w - 3) w ++ encoding (pair l t)) ++ drop 3 v
 
 -- the bytes of two lists that meet: those before the lead, and those behind the trail
-pub record MeetingBytes (w v front rest : List ℕ) : Type 0 where
+pub record MeetingBytes (w v front rest : List ℕ) (trail : ℕ) : Type 0 where
   pub three : 3 ≤ length w
   pub three_behind : 3 ≤ length v
   pub before : take (length w - 3) w ≡ bytes front
   pub behind : drop 3 v ≡ bytes rest
+  pub last : get_or v 2 0 ≡ 0x80 + trail % 64
 
-pub meeting_bytes : {w v c d : List ℕ} (m : MeetsAsPair c d) → bytes c ≡ w → bytes d ≡ v → MeetingBytes w v m.front m.rest
+pub meeting_bytes : {w v c d : List ℕ} (m : MeetsAsPair c d) → bytes c ≡ w → bytes d ≡ v → MeetingBytes w v m.front m.rest m.trail
 meeting_bytes {w} {v} m e g =
     let front : w ≡ bytes m.front ++ encoding m.lead = sym e ∙ (ap bytes m.ends ∙ bytes-pushed m.front m.lead) in
     let back : v ≡ encoding m.trail ++ bytes m.rest = sym g ∙ ap bytes m.begins in
@@ -130,6 +131,7 @@ meeting_bytes {w} {v} m e g =
       three_behind = omega (arith, ap length back, length-append (encoding m.trail) (bytes m.rest), trail);
       before = ap (take (length w - 3)) front ∙ take_at (bytes m.front) (encoding m.lead) (length w - 3) (omega (arith, long));
       behind = ap (drop 3) back ∙ drop_at (encoding m.trail) (bytes m.rest) 3 trail;
+      last = ap (λ b. get_or b 2 0) (back ∙ ap (λ e. e ++ bytes m.rest) (encoding_three m.trail (omega arith) (omega arith)));
     }
 
 -- the bytes of two lists glued

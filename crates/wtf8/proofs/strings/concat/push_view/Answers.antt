@@ -28,11 +28,11 @@ join_bytes-requires-clause-three g c =
     let m = paired (seen g (goal.at.join_bytes-requires-clause-three g c).After-from_well_formed-view) met.pair met.last met.first in
     (meeting_bytes m c.requires.well_formed.encoded c.args.other.well_formed.encoded).three
 
-pub join_bytes-requires-clause-other_three : goal.join_bytes-requires-clause-other_three
-join_bytes-requires-clause-other_three g c =
+pub join_bytes-requires-clause-begins : goal.join_bytes-requires-clause-begins
+join_bytes-requires-clause-begins g c =
     let met = c.in-Some.ensures in
-    let m = paired (seen g (goal.at.join_bytes-requires-clause-other_three g c).After-from_well_formed-view) met.pair met.last met.first in
-    (meeting_bytes m c.requires.well_formed.encoded c.args.other.well_formed.encoded).three_behind
+    let m = paired (seen g (goal.at.join_bytes-requires-clause-begins g c).After-from_well_formed-view) met.pair met.last met.first in
+    let s = meeting_bytes m c.requires.well_formed.encoded c.args.other.well_formed.encoded in (s.three_behind, s.last)
 
 pub returns-in-Some-clause-ok : goal.returns-in-Some-clause-ok
 returns-in-Some-clause-ok g c =
