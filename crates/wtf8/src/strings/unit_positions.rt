@@ -276,7 +276,9 @@ fn count_units(bytes: &[u8]) -> usize
             at: 0,
             units_before: 0,
         };
-        return count_units_from(bytes, start);
+        let place = behind_ascii::<HALF_VECTOR>(bytes, usize::MAX, start).unwrap_or(start);
+        let place = behind_ascii::<4>(bytes, usize::MAX, place).unwrap_or(place);
+        return count_units_from(bytes, place);
     }
     count_units_of_many(bytes)
 }

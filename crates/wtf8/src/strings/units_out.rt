@@ -85,6 +85,18 @@ fn widen_ascii_front<B: Allocator>(units: &mut Vec<u16, B>, bytes: &[u8]) -> usi
     count
 }
 
+/// Appends bytes as units, for which there is room.
+#[inline(always)]
+fn push_bytes<B: Allocator>(units: &mut Vec<u16, B>, bytes: &[u8])
+    requires { vec_len units.old + length bytes.now ≤ vec_capacity units.old }
+    ensures items { units.new.items ≡ units.old.items ++ bytes.now }
+    ensures capacity { vec_capacity units.old ≤ vec_capacity units.new }
+{
+    for at in 0..bytes.len() {
+        units.push_reserved(u16::from(bytes[at]));
+    }
+}
+
 /// Appends the units of a code point, for which there is room.
 #[inline(always)]
 fn push_units<B: Allocator>(units: &mut Vec<u16, B>, code_point: CodePoint)
@@ -157,6 +169,24 @@ fn widen_ascii<'a, B: Allocator>(units: &mut Vec<u16, B>, view: Wtf8<'a>) -> Wtf
         return behind;
     }
     widen_point(units, behind)
+}
+
+/// The same again and again, as long as there are bytes for a block and the first of them is ASCII.
+#[inline(always)]
+fn widen_ascii_fronts<'a, B: Allocator>(units: &mut Vec<u16, B>, view: Wtf8<'a>) -> Wtf8<'a>
+    requires room { vec_len units.old + length (view_units view) ≤ vec_capacity units.old }
+    requires some { 0 < length view.bytes.now }
+    ensures units { units.new.items ++ view_units result ≡ units.old.items ++ view_units view.entry }
+    ensures shorter { length result.bytes.now < length view.entry.bytes.now }
+    ensures capacity { vec_capacity units.old ≤ vec_capacity units.new }
+{
+    let mut rest = view;
+    loop {
+        rest = widen_ascii(units, rest);
+        if rest.bytes.len() < VECTOR || 0x80 <= rest.bytes[0] {
+            return rest;
+        }
+    }
 }
 
 /// How many of eight bytes stand before the first one of another kind: kinds are as many bytes each, and have numbers.
@@ -308,6 +338,24 @@ fn widen_threes<'a, B: Allocator>(units: &mut Vec<u16, B>, view: Wtf8<'a>) -> Wt
     widen_block(units, view, block, count, 3)
 }
 
+/// The same again and again, as long as there are bytes for a block and the first code point has three.
+#[inline(always)]
+fn widen_three_fronts<'a, B: Allocator>(units: &mut Vec<u16, B>, view: Wtf8<'a>) -> Wtf8<'a>
+    requires room { vec_len units.old + length (view_units view) ≤ vec_capacity units.old }
+    requires some { 0 < length view.bytes.now }
+    ensures units { units.new.items ++ view_units result ≡ units.old.items ++ view_units view.entry }
+    ensures shorter { length result.bytes.now < length view.entry.bytes.now }
+    ensures capacity { vec_capacity units.old ≤ vec_capacity units.new }
+{
+    let mut rest = view;
+    loop {
+        rest = widen_threes(units, rest);
+        if rest.bytes.len() < 32 || rest.bytes[0] / 16 != 14 {
+            return rest;
+        }
+    }
+}
+
 /// Appends the units at the front, for which there is room, and answers the view behind them: those of a block where there
 /// are bytes for one and the first two code points have as many bytes, or of the first one.
 #[inline(always)]
@@ -323,9 +371,9 @@ fn widen_front<'a, B: Allocator>(units: &mut Vec<u16, B>, view: Wtf8<'a>) -> Wtf
         return widen_point(units, view);
     }
     match view.bytes {
-        [0x00..=0x7F, 0x00..=0x7F, ..] => widen_ascii(units, view),
+        [0x00..=0x7F, 0x00..=0x7F, ..] => widen_ascii_fronts(units, view),
         [0xC0..=0xDF, _, 0xC0..=0xDF, ..] => widen_twos(units, view),
-        [0xE0..=0xEF, _, _, 0xE0..=0xEF, ..] => widen_threes(units, view),
+        [0xE0..=0xEF, _, _, 0xE0..=0xEF, ..] => widen_three_fronts(units, view),
         _ => widen_point(units, view),
     }
 }
@@ -363,7 +411,13 @@ impl<'a> Wtf8<'a> {
         ensures room { vec_len units.old + length (view_units self.now) ≤ vec_capacity units.old → IsOk result }
         ensures capacity { vec_capacity units.old ≤ vec_capacity units.new }
     {
-        units.reserve(self.unit_len())?;
+        let count = self.unit_len();
+        units.reserve(count)?;
+        // Where there are as many units as bytes, each byte is one.
+        if count == self.len() {
+            push_bytes(units, self.bytes);
+            return Ok(());
+        }
         let mut rest = *self;
         while !rest.is_empty() {
             rest = widen_front(units, rest);
