@@ -1,5 +1,5 @@
 // The units of a string, appended to a vector of units.
-ghost use Rattle.std.specs.Prelude.{◌≡◌, ◌++◌, ◌+◌, ◌*◌, ◌<◌, ◌≤◌, length, take, drop, IsOk, OnOk, OnErr, IfSome, IfNone, vec_len, vec_capacity};
+ghost use Rattle.std.specs.Prelude.{◌≡◌, ◌++◌, ◌+◌, ◌*◌, ◌<◌, ◌≤◌, length, take, drop, IsOk, OnOk, OnErr, vec_len, vec_capacity};
 ghost use lib.Lanes.{Each1};
 ghost use Rattle.wtf8.specs.CodePoint.{number};
 ghost use Rattle.wtf8.specs.Form.{IsWellFormed};
@@ -338,28 +338,7 @@ fn widen_threes<'a, B: Allocator>(units: &mut Vec<u16, B>, view: Wtf8<'a>) -> Wt
     widen_block(units, view, block, count, 3)
 }
 
-/// Appends eight code points of three bytes, where these begin the view, and answers the view behind them. The width of all
-/// is a constant, so that the next block need not wait until they are counted.
-#[inline(always)]
-fn widen_eight_threes<'a, B: Allocator>(units: &mut Vec<u16, B>, view: Wtf8<'a>) -> Option<Wtf8<'a>>
-    requires room { vec_len units.old + length (view_units view) ≤ vec_capacity units.old }
-    ensures units { IfSome result (λ rest. units.new.items ++ view_units rest ≡ units.old.items ++ view_units view.entry) }
-    ensures shorter { IfSome result (λ rest. length rest.bytes.now < length view.entry.bytes.now) }
-    ensures none { IfNone result (units.new.items ≡ units.old.items) }
-    ensures capacity { vec_capacity units.old ≤ vec_capacity units.new }
-{
-    if view.bytes.len() < 32 {
-        return None;
-    }
-    let (firsts, block) = read_threes(u8x32::from_slice(view.bytes).to_array());
-    if count_of_kind(firsts, 16, 14) < 8 {
-        return None;
-    }
-    Some(widen_block(units, view, block, 8, 3))
-}
-
-/// Appends the code points of three bytes at the front, eight and eight and as far as a block of them tells, or the first code
-/// point, and answers the view behind them.
+/// The same again and again, as long as there are bytes for a block and the first code point has three.
 #[inline(always)]
 fn widen_three_fronts<'a, B: Allocator>(units: &mut Vec<u16, B>, view: Wtf8<'a>) -> Wtf8<'a>
     requires room { vec_len units.old + length (view_units view) ≤ vec_capacity units.old }
@@ -369,13 +348,12 @@ fn widen_three_fronts<'a, B: Allocator>(units: &mut Vec<u16, B>, view: Wtf8<'a>)
     ensures capacity { vec_capacity units.old ≤ vec_capacity units.new }
 {
     let mut rest = view;
-    while let Some(behind) = widen_eight_threes(units, rest) {
-        rest = behind;
+    loop {
+        rest = widen_threes(units, rest);
+        if rest.bytes.len() < 32 || rest.bytes[0] / 16 != 14 {
+            return rest;
+        }
     }
-    if rest.is_empty() {
-        return rest;
-    }
-    widen_threes(units, rest)
 }
 
 /// Appends the units at the front, for which there is room, and answers the view behind them: those of a block where there
@@ -435,8 +413,8 @@ impl<'a> Wtf8<'a> {
     {
         let count = self.unit_len();
         units.reserve(count)?;
-        // Where there are as many units as bytes, each byte is one.
-        if count == self.len() {
+        // Where there are as many units as bytes, each byte is one. Longer strings are widened in blocks.
+        if count == self.len() && count < VECTOR {
             push_bytes(units, self.bytes);
             return Ok(());
         }
