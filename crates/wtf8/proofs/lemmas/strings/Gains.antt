@@ -1,11 +1,10 @@
 -- What an appending call adds, where no surrogate is added, and how much room it needs.
 use Rattle.wtf8.proofs.Common.{◌≡◌, ◌+◌, ◌-◌, ◌≤◌, List, [], ◌∷◌, ℕ, ◌++◌, length, take, drop, Result, Ok, Err, OnOk, OnErr, refl, ap, ◌∙◌, sym, subst, arith}
-use Rattle.wtf8.proofs.Common.{false≢true, append-nil, drop_all, units, units_of, pair, IsLead, IsTrail, IsCodePoint, UnitString, KeepsContents, MeetsAsPair}
+use Rattle.wtf8.proofs.Common.{append-nil, drop_all, units, units_of, pair, IsLead, IsTrail, IsCodePoint, UnitString, KeepsContents, MeetsAsPair}
 use Rattle.wtf8.proofs.Common.{encoding, IsWellFormed, IsForm, GainsUnits, FitsUnits, view_units, view_form, Wtf8, inl, inr, true, chars, IsUtf8, scalars-chars}
 use Rattle.wtf8.proofs.Common.{and_parts, scalar, scalars, IsSurrogate, IsClean, bytes_are_encodes, bytes-injective, AreScalar, append_assoc}
 use Rattle.wtf8.proofs.Common.{length-append, All, map-append, take_at, drop_at, All-drop, All-same, Step, FindRoom, Build, Truncate, TruncateUnits, number, numbers}
 use Rattle.wtf8.proofs.Common.{glue, IsUnit, bytes, ◌<◌, cases_lt, append_cancel_left, SurrogateAt}
-use Rattle.std.proofs.Common.{IsOk}
 use Rattle.std.proofs.lemmas.List.{length-map}
 use Rattle.std.proofs.lemmas.List.Elements.{All-take}
 use Rattle.std.proofs.lemmas.Str.{encodes-chars}
@@ -29,11 +28,6 @@ pub contents_of : (new old : UnitString) → new.bytes ≡ old.bytes → KeepsCo
 contents_of new old e = record { units = units_from_form new.bytes new.units old.units new.form (subst (λ w. IsForm w old.units) (sym e) old.form); bytes = e }
 
 module _ {T E : Type 0} where
-  -- what succeeded left nothing to say of a refusal
-  pub no_err : (P : Type 0) (r : Result T E) → IsOk r → OnErr r P
-  no_err P (Ok _) ok = tt
-  no_err P (Err _) ok = absurd (false≢true ok)
-
   pub gained_or_kept : (r : Result T E) (v : List ℕ) {old new : List ℕ} → IsWellFormed old → OnOk r (GainsUnits old new v) → OnErr r (new ≡ old)
       → IsWellFormed new
   gained_or_kept (Ok _) v h ok err = well_formed_of (ok (units h.points) (form_of h))
