@@ -1,4 +1,5 @@
 pub mod AsciiFronts
+pub mod Copies
 pub mod Differences
 pub mod Digits
 pub mod Scan

@@ -1,5 +1,5 @@
 // The units of a string, appended to a vector of units.
-ghost use Rattle.std.specs.Prelude.{◌≡◌, ◌++◌, ◌+◌, ◌*◌, ◌<◌, ◌≤◌, length, take, drop, IsOk, OnOk, OnErr, vec_len, vec_capacity};
+ghost use Rattle.std.specs.Prelude.{◌≡◌, ℕ, ◌++◌, ◌+◌, ◌*◌, ◌<◌, ◌≤◌, length, take, drop, IsOk, IsTrue, OnOk, OnErr, false, vec_len, vec_capacity};
 ghost use lib.Lanes.{Each1};
 ghost use Rattle.wtf8.specs.CodePoint.{number};
 ghost use Rattle.wtf8.specs.Form.{IsWellFormed};
@@ -10,6 +10,7 @@ ghost use Rattle.wtf8.specs.UnitRows.{IsOfKind, BeginsWithUnits, firsts_of, unit
 ghost use Rattle.wtf8.specs.View.{view_points, view_units};
 
 use crate::lanes::VECTOR;
+use crate::lanes::copies::push_block;
 use crate::numbers::code_point::CodePoint;
 use crate::numbers::encoding;
 use crate::numbers::surrogates::{lead_of, trail_of};
@@ -29,6 +30,150 @@ const SECOND_OF_THREE: [usize; 8] = [1, 4, 7, 10, 13, 16, 19, 22];
 
 const THIRD_OF_THREE: [usize; 8] = [2, 5, 8, 11, 14, 17, 20, 23];
 
+/// Code points of as many bytes each and of one unit each, of which `N` are read from a block of bytes.
+trait Kind<const N: usize, const WIDTH: usize, const BYTES: usize> {
+    /// The units that the code points of a block have, and how many of these, from the front on, are of the kind.
+    fn read(bytes: &[u8]) -> ([u16; N], usize)
+        requires { BYTES ≤ length bytes.now }
+        ensures within { (result.1 ≤ N) × (result.1 ≤ WIDTH * result.1) × (WIDTH * result.1 ≤ BYTES) }
+        ensures more { result.1 < N → WIDTH * result.1 < BYTES }
+        ensures begins { BeginsWithUnits bytes.now (take result.1 result.0) (WIDTH * result.1) };
+
+    /// Whether a code point of the kind begins with a byte.
+    fn is_first(byte: u8) -> bool;
+}
+
+/// ASCII.
+struct OneByte;
+
+/// Code points of two bytes.
+struct TwoBytes;
+
+/// Code points of three bytes, surrogates among them.
+struct ThreeBytes;
+
+/// The part of a view whose units are not written yet, and the place of the first of them.
+#[derive(Clone, Copy)]
+struct Unwritten<'a> {
+    view: Wtf8<'a>,
+    at: usize,
+}
+
+/// Writes a block of units from a place on.
+#[inline(always)]
+fn put<const N: usize>(units: &mut [u16], at: usize, block: [u16; N])
+    requires room { at + N ≤ length units.old }
+    ensures front { (n : ℕ) → n ≤ N → take (at + n) units.new ≡ take at units.old ++ take n block.entry }
+    ensures len { length units.new ≡ length units.old }
+{
+    units[at..at + N].copy_from_slice(&block);
+}
+
+/// Bytes as units.
+#[inline(always)]
+fn widened<const N: usize>(block: Simd<u8, N>) -> [u16; N]
+    requires lanes { N ≤ u64.BITS }
+    ensures { result ≡ block.entry }
+{
+    block.cast::<u16>().to_array()
+}
+
+/// Appends fewer bytes than a vector has as units, for which there is room.
+#[inline(always)]
+fn push_bytes<B: Allocator>(units: &mut Vec<u16, B>, bytes: &[u8])
+    requires few { length bytes.now < VECTOR }
+    requires room { vec_len units.old + length bytes.now ≤ vec_capacity units.old }
+    ensures items { units.new.items ≡ units.old.items ++ bytes.now }
+    ensures capacity { vec_capacity units.old ≤ vec_capacity units.new }
+{
+    if 8 <= bytes.len() {
+        return push_ends::<8, B>(units, bytes);
+    }
+    if 4 <= bytes.len() {
+        return push_ends::<4, B>(units, bytes);
+    }
+    for at in 0..bytes.len() {
+        units.push_reserved(u16::from(bytes[at]));
+    }
+}
+
+/// The same by the first `N` bytes and the last `N`, which are all and may overlap.
+#[inline(always)]
+fn push_ends<const N: usize, B: Allocator>(units: &mut Vec<u16, B>, bytes: &[u8])
+    requires lanes { N ≤ u64.BITS }
+    requires all { (N ≤ length bytes.now) × (length bytes.now ≤ 2 * N) }
+    requires room { vec_len units.old + length bytes.now ≤ vec_capacity units.old }
+    ensures items { units.new.items ≡ units.old.items ++ bytes.now }
+    ensures capacity { vec_capacity units.old ≤ vec_capacity units.new }
+{
+    let last = bytes.len() - N;
+    let end = units.len() + last;
+    push_block(units, widened(Simd::<u8, N>::from_slice(bytes)));
+    units.truncate(end);
+    push_block(units, widened(Simd::<u8, N>::from_slice(&bytes[last..])));
+}
+
+/// Writes the units of a code point from a place on, and answers the place behind them.
+#[inline(always)]
+fn put_units(units: &mut [u16], at: usize, code_point: CodePoint) -> usize
+    requires { at + length (units_of (number code_point)) ≤ length units.old }
+    ensures units { take result units.new ≡ take at units.old ++ units_of (number code_point) }
+    ensures place { result ≡ at + length (units_of (number code_point)) }
+    ensures len { length units.new ≡ length units.old }
+{
+    let value = code_point.to_u32();
+    if value < 0x10000 {
+        put(units, at, [value as u16]);
+        return at + 1;
+    }
+    put(units, at, [lead_of(value) as u16, trail_of(value) as u16]);
+    at + 2
+}
+
+/// Writes the unit of the first code point, which has one.
+#[inline(always)]
+fn widen_unit<'a>(units: &mut [u16], left: Unwritten<'a>, value: u32, width: usize) -> Unwritten<'a>
+    requires room { left.at + length (view_units left.view) ≤ length units.old }
+    requires some { 0 < length left.view.bytes.now }
+    requires read { IsReadAs left.view.bytes.now value width }
+    requires one_unit { value < 0x10000 }
+    ensures units { take result.at units.new ++ view_units result.view ≡ take left.entry.at units.old ++ view_units left.entry.view }
+    ensures as_many { result.at + length (view_units result.view) ≡ left.entry.at + length (view_units left.entry.view) }
+    ensures len { length units.new ≡ length units.old }
+    ensures shorter { length result.view.bytes.now < length left.entry.view.bytes.now }
+{
+    put(units, left.at, [value as u16]);
+    Unwritten {
+        view: left.view.behind(width),
+        at: left.at + 1,
+    }
+}
+
+/// Writes the units of the first code point.
+#[inline(always)]
+fn widen_point<'a>(units: &mut [u16], left: Unwritten<'a>) -> Unwritten<'a>
+    requires room { left.at + length (view_units left.view) ≤ length units.old }
+    requires some { 0 < length left.view.bytes.now }
+    ensures units { take result.at units.new ++ view_units result.view ≡ take left.entry.at units.old ++ view_units left.entry.view }
+    ensures as_many { result.at + length (view_units result.view) ≡ left.entry.at + length (view_units left.entry.view) }
+    ensures len { length units.new ≡ length units.old }
+    ensures shorter { length result.view.bytes.now < length left.entry.view.bytes.now }
+{
+    let bytes = left.view.bytes;
+    match bytes[0] {
+        0x80..=0xDF => widen_unit(units, left, encoding::read_two(bytes), 2),
+        0xE0..=0xEF => widen_unit(units, left, encoding::read_three(bytes), 3),
+        _ => {
+            let (code_point, width) = encoding::read(bytes, 0);
+            let at = put_units(units, left.at, code_point);
+            Unwritten {
+                view: left.view.behind(width),
+                at,
+            }
+        }
+    }
+}
+
 /// How many of the first bytes of a block are ASCII.
 #[inline(always)]
 fn count_ascii_bytes(block: u8x16) -> usize
@@ -40,153 +185,6 @@ fn count_ascii_bytes(block: u8x16) -> usize
         return VECTOR;
     }
     others.trailing_zeros() as usize
-}
-
-/// Sixteen bytes as units.
-#[inline(always)]
-fn widened(block: u8x16) -> [u16; VECTOR]
-    ensures { result ≡ block }
-{
-    block.cast::<u16>().to_array()
-}
-
-/// Appends the first units of a block, for which there is room. They are copied together, by two stores or by one, and those
-/// behind them are cut off again.
-#[inline(always)]
-fn push_front<const N: usize, B: Allocator>(units: &mut Vec<u16, B>, block: [u16; N], count: usize)
-    requires room { vec_len units.old + N ≤ vec_capacity units.old }
-    requires within { count ≤ N }
-    ensures items { units.new.items ≡ units.old.items ++ take count block.entry }
-    ensures capacity { vec_capacity units.old ≤ vec_capacity units.new }
-{
-    let end = units.len() + count;
-    let _ = units.extend_from_slice(&block);
-    units.truncate(end);
-}
-
-/// Appends the ASCII bytes at the front, as far as a block of them tells, where there is room for a block, and answers
-/// how many.
-#[inline(always)]
-fn widen_ascii_front<B: Allocator>(units: &mut Vec<u16, B>, bytes: &[u8]) -> usize
-    requires { 0 < length bytes.now }
-    ensures within { result ≤ length bytes.now }
-    ensures most { result ≤ VECTOR }
-    ensures more { result < VECTOR → result < length bytes.now }
-    ensures ascii { AreAscii (take result bytes.now) }
-    ensures items { units.new.items ≡ units.old.items ++ take result bytes.now }
-    ensures capacity { vec_capacity units.old ≤ vec_capacity units.new }
-{
-    if bytes.len() < VECTOR || units.capacity() - units.len() < VECTOR {
-        return 0;
-    }
-    let block = u8x16::from_slice(bytes);
-    let count = count_ascii_bytes(block);
-    push_front(units, widened(block), count);
-    count
-}
-
-/// Appends bytes as units, for which there is room.
-#[inline(always)]
-fn push_bytes<B: Allocator>(units: &mut Vec<u16, B>, bytes: &[u8])
-    requires { vec_len units.old + length bytes.now ≤ vec_capacity units.old }
-    ensures items { units.new.items ≡ units.old.items ++ bytes.now }
-    ensures capacity { vec_capacity units.old ≤ vec_capacity units.new }
-{
-    for at in 0..bytes.len() {
-        units.push_reserved(u16::from(bytes[at]));
-    }
-}
-
-/// Appends the units of a code point, for which there is room.
-#[inline(always)]
-fn push_units<B: Allocator>(units: &mut Vec<u16, B>, code_point: CodePoint)
-    requires { vec_len units.old + length (units_of (number code_point)) ≤ vec_capacity units.old }
-    ensures items { units.new.items ≡ units.old.items ++ units_of (number code_point) }
-    ensures capacity { vec_capacity units.old ≤ vec_capacity units.new }
-{
-    let value = code_point.to_u32();
-    if value < 0x10000 {
-        units.push_reserved(value as u16);
-    } else {
-        units.push_reserved(lead_of(value) as u16);
-        units.push_reserved(trail_of(value) as u16);
-    }
-}
-
-/// Appends the unit of the first code point, which has one, and answers the view behind its bytes.
-#[inline(always)]
-fn widen_unit<'a, B: Allocator>(
-    units: &mut Vec<u16, B>,
-    view: Wtf8<'a>,
-    value: u32,
-    width: usize,
-) -> Wtf8<'a>
-    requires room { vec_len units.old + length (view_units view) ≤ vec_capacity units.old }
-    requires some { 0 < length view.bytes.now }
-    requires read { IsReadAs view.bytes.now value width }
-    requires one_unit { value < 0x10000 }
-    ensures units { units.new.items ++ view_units result ≡ units.old.items ++ view_units view.entry }
-    ensures shorter { length result.bytes.now < length view.entry.bytes.now }
-    ensures capacity { vec_capacity units.old ≤ vec_capacity units.new }
-{
-    units.push_reserved(value as u16);
-    view.behind(width)
-}
-
-/// Appends the units of the first code point, for which there is room, and answers the view behind it.
-#[inline(always)]
-fn widen_point<'a, B: Allocator>(units: &mut Vec<u16, B>, view: Wtf8<'a>) -> Wtf8<'a>
-    requires room { vec_len units.old + length (view_units view) ≤ vec_capacity units.old }
-    requires some { 0 < length view.bytes.now }
-    ensures units { units.new.items ++ view_units result ≡ units.old.items ++ view_units view.entry }
-    ensures shorter { length result.bytes.now < length view.entry.bytes.now }
-    ensures capacity { vec_capacity units.old ≤ vec_capacity units.new }
-{
-    match view.bytes[0] {
-        0x80..=0xDF => widen_unit(units, view, encoding::read_two(view.bytes), 2),
-        0xE0..=0xEF => widen_unit(units, view, encoding::read_three(view.bytes), 3),
-        _ => {
-            let (code_point, width) = encoding::read(view.bytes, 0);
-            push_units(units, code_point);
-            view.behind(width)
-        }
-    }
-}
-
-/// Appends the ASCII at the front and, where it ends before a block of it does, the code point behind it, and answers the
-/// view behind them.
-#[inline(always)]
-fn widen_ascii<'a, B: Allocator>(units: &mut Vec<u16, B>, view: Wtf8<'a>) -> Wtf8<'a>
-    requires room { vec_len units.old + length (view_units view) ≤ vec_capacity units.old }
-    requires some { 0 < length view.bytes.now }
-    ensures units { units.new.items ++ view_units result ≡ units.old.items ++ view_units view.entry }
-    ensures shorter { length result.bytes.now < length view.entry.bytes.now }
-    ensures capacity { vec_capacity units.old ≤ vec_capacity units.new }
-{
-    let count = widen_ascii_front(units, view.bytes);
-    let behind = view.behind_ascii(count);
-    if count == VECTOR {
-        return behind;
-    }
-    widen_point(units, behind)
-}
-
-/// The same again and again, as long as there are bytes for a block and the first of them is ASCII.
-#[inline(always)]
-fn widen_ascii_fronts<'a, B: Allocator>(units: &mut Vec<u16, B>, view: Wtf8<'a>) -> Wtf8<'a>
-    requires room { vec_len units.old + length (view_units view) ≤ vec_capacity units.old }
-    requires some { 0 < length view.bytes.now }
-    ensures units { units.new.items ++ view_units result ≡ units.old.items ++ view_units view.entry }
-    ensures shorter { length result.bytes.now < length view.entry.bytes.now }
-    ensures capacity { vec_capacity units.old ≤ vec_capacity units.new }
-{
-    let mut rest = view;
-    loop {
-        rest = widen_ascii(units, rest);
-        if rest.bytes.len() < VECTOR || 0x80 <= rest.bytes[0] {
-            return rest;
-        }
-    }
 }
 
 /// How many of eight bytes stand before the first one of another kind: kinds are as many bytes each, and have numbers.
@@ -204,32 +202,6 @@ fn count_of_kind(bytes: u8x8, size: u8, kind: u8) -> usize
     others.trailing_zeros() as usize
 }
 
-/// Appends the first units of a block, where there are some and there is room for the block, or the units of the first code
-/// point, and answers the view behind them. Each unit of the block is that of so many bytes.
-#[inline(always)]
-fn widen_block<'a, B: Allocator>(
-    units: &mut Vec<u16, B>,
-    view: Wtf8<'a>,
-    block: [u16; 8],
-    count: usize,
-    width: usize,
-) -> Wtf8<'a>
-    requires room { vec_len units.old + length (view_units view) ≤ vec_capacity units.old }
-    requires some { 0 < length view.bytes.now }
-    requires within { (count ≤ 8) × (width * count ≤ length view.bytes.now) }
-    requires wide { count ≤ width * count }
-    requires begins { BeginsWithUnits view.bytes.now (take count block) (width * count) }
-    ensures units { units.new.items ++ view_units result ≡ units.old.items ++ view_units view.entry }
-    ensures shorter { length result.bytes.now < length view.entry.bytes.now }
-    ensures capacity { vec_capacity units.old ≤ vec_capacity units.new }
-{
-    if count == 0 || units.capacity() - units.len() < 8 {
-        return widen_point(units, view);
-    }
-    push_front(units, block, count);
-    view.behind(width * count)
-}
-
 /// The first bytes of eight code points of two bytes, and their units.
 #[inline(always)]
 fn read_twos(bytes: [u8; 16]) -> (u8x8, [u16; 8])
@@ -244,24 +216,6 @@ fn read_twos(bytes: [u8; 16]) -> (u8x8, [u16; 8])
     let low = (second % u8x8::splat(64)).cast::<u16>();
     let units = high.strict_mul(u16x8::splat(64)).strict_add(low);
     (first, units.to_array())
-}
-
-/// Appends the code points of two bytes at the front, as far as a block of them tells, or the first code point, and answers
-/// the view behind them.
-#[inline(always)]
-fn widen_twos<'a, B: Allocator>(units: &mut Vec<u16, B>, view: Wtf8<'a>) -> Wtf8<'a>
-    requires room { vec_len units.old + length (view_units view) ≤ vec_capacity units.old }
-    requires some { 0 < length view.bytes.now }
-    ensures units { units.new.items ++ view_units result ≡ units.old.items ++ view_units view.entry }
-    ensures shorter { length result.bytes.now < length view.entry.bytes.now }
-    ensures capacity { vec_capacity units.old ≤ vec_capacity units.new }
-{
-    if view.bytes.len() < 16 {
-        return widen_point(units, view);
-    }
-    let (firsts, block) = read_twos(u8x16::from_slice(view.bytes).to_array());
-    let count = count_of_kind(firsts, 32, 6);
-    widen_block(units, view, block, count, 2)
 }
 
 /// The first bytes of eight code points of three bytes, and their units.
@@ -321,76 +275,183 @@ fn read_threes(bytes: [u8; 32]) -> (u8x8, [u16; 8])
     (first, above.strict_add(low).to_array())
 }
 
-/// The same for code points of three bytes, surrogates among them.
-#[inline(always)]
-fn widen_threes<'a, B: Allocator>(units: &mut Vec<u16, B>, view: Wtf8<'a>) -> Wtf8<'a>
-    requires room { vec_len units.old + length (view_units view) ≤ vec_capacity units.old }
-    requires some { 0 < length view.bytes.now }
-    ensures units { units.new.items ++ view_units result ≡ units.old.items ++ view_units view.entry }
-    ensures shorter { length result.bytes.now < length view.entry.bytes.now }
-    ensures capacity { vec_capacity units.old ≤ vec_capacity units.new }
-{
-    if view.bytes.len() < 32 {
-        return widen_point(units, view);
+impl Kind<16, 1, 16> for OneByte {
+    #[inline(always)]
+    fn read(bytes: &[u8]) -> ([u16; 16], usize) {
+        let block = u8x16::from_slice(bytes);
+        (widened(block), count_ascii_bytes(block))
     }
-    let (firsts, block) = read_threes(u8x32::from_slice(view.bytes).to_array());
-    let count = count_of_kind(firsts, 16, 14);
-    widen_block(units, view, block, count, 3)
+
+    #[inline(always)]
+    fn is_first(byte: u8) -> bool {
+        byte < 0x80
+    }
 }
 
-/// The same again and again, as long as there are bytes for a block and the first code point has three.
+impl Kind<8, 2, 16> for TwoBytes {
+    #[inline(always)]
+    fn read(bytes: &[u8]) -> ([u16; 8], usize) {
+        let (firsts, units) = read_twos(u8x16::from_slice(bytes).to_array());
+        (units, count_of_kind(firsts, 32, 6))
+    }
+
+    #[inline(always)]
+    fn is_first(byte: u8) -> bool {
+        byte / 32 == 6
+    }
+}
+
+impl Kind<8, 3, 32> for ThreeBytes {
+    #[inline(always)]
+    fn read(bytes: &[u8]) -> ([u16; 8], usize) {
+        let (firsts, units) = read_threes(u8x32::from_slice(bytes).to_array());
+        (units, count_of_kind(firsts, 16, 14))
+    }
+
+    #[inline(always)]
+    fn is_first(byte: u8) -> bool {
+        byte / 16 == 14
+    }
+}
+
+/// Writes a block, whose first units are those of the first bytes.
 #[inline(always)]
-fn widen_three_fronts<'a, B: Allocator>(units: &mut Vec<u16, B>, view: Wtf8<'a>) -> Wtf8<'a>
-    requires room { vec_len units.old + length (view_units view) ≤ vec_capacity units.old }
-    requires some { 0 < length view.bytes.now }
-    ensures units { units.new.items ++ view_units result ≡ units.old.items ++ view_units view.entry }
-    ensures shorter { length result.bytes.now < length view.entry.bytes.now }
-    ensures capacity { vec_capacity units.old ≤ vec_capacity units.new }
+fn widen_units<'a, const N: usize>(
+    units: &mut [u16],
+    left: Unwritten<'a>,
+    block: [u16; N],
+    count: usize,
+    width: usize,
+) -> Unwritten<'a>
+    requires room { left.at + N ≤ length units.old }
+    requires within { (count ≤ N) × (width ≤ length left.view.bytes.now) }
+    requires begins { BeginsWithUnits left.view.bytes.now (take count block) width }
+    ensures units { take result.at units.new ++ view_units result.view ≡ take left.entry.at units.old ++ view_units left.entry.view }
+    ensures as_many { result.at + length (view_units result.view) ≡ left.entry.at + length (view_units left.entry.view) }
+    ensures len { length units.new ≡ length units.old }
+    ensures bytes { result.view.bytes.now ≡ drop width left.entry.view.bytes.now }
 {
-    let mut rest = view;
+    put(units, left.at, block);
+    Unwritten {
+        view: left.view.behind(width),
+        at: left.at + count,
+    }
+}
+
+/// Writes the units of the code points of a kind at the front, as far as a block of them tells, where there are bytes and
+/// room for one, and says whether they fill it. A whole block has a constant width, so that the next one need not wait until
+/// its code points are counted.
+#[inline(always)]
+fn widen_row<'a, const N: usize, const WIDTH: usize, const BYTES: usize, K: Kind<N, WIDTH, BYTES>>(
+    units: &mut [u16],
+    left: Unwritten<'a>,
+) -> (Unwritten<'a>, bool)
+    requires lanes { (0 < N) × (N ≤ u64.BITS) }
+    requires room { left.at + length (view_units left.view) ≤ length units.old }
+    requires some { 0 < length left.view.bytes.now }
+    ensures units { take result.0.at units.new ++ view_units result.0.view ≡ take left.entry.at units.old ++ view_units left.entry.view }
+    ensures as_many { result.0.at + length (view_units result.0.view) ≡ left.entry.at + length (view_units left.entry.view) }
+    ensures len { length units.new ≡ length units.old }
+    ensures whole { IsTrue result.1 → length result.0.view.bytes.now < length left.entry.view.bytes.now }
+    ensures part { result.1 ≡ false → 0 < length result.0.view.bytes.now }
+    ensures not_longer { length result.0.view.bytes.now ≤ length left.entry.view.bytes.now }
+{
+    let bytes = left.view.bytes;
+    if bytes.len() < BYTES || units.len() - left.at < N {
+        return (left, false);
+    }
+    let (block, count) = K::read(bytes);
+    if count == N {
+        return (widen_units(units, left, block, N, WIDTH * N), true);
+    }
+    (widen_units(units, left, block, count, WIDTH * count), false)
+}
+
+/// The same and, where they do not fill a block, those of the code point behind them.
+#[inline(always)]
+fn widen_block<
+    'a,
+    const N: usize,
+    const WIDTH: usize,
+    const BYTES: usize,
+    K: Kind<N, WIDTH, BYTES>,
+>(units: &mut [u16], left: Unwritten<'a>) -> Unwritten<'a>
+    requires lanes { (0 < N) × (N ≤ u64.BITS) }
+    requires room { left.at + length (view_units left.view) ≤ length units.old }
+    requires some { 0 < length left.view.bytes.now }
+    ensures units { take result.at units.new ++ view_units result.view ≡ take left.entry.at units.old ++ view_units left.entry.view }
+    ensures as_many { result.at + length (view_units result.view) ≡ left.entry.at + length (view_units left.entry.view) }
+    ensures len { length units.new ≡ length units.old }
+    ensures shorter { length result.view.bytes.now < length left.entry.view.bytes.now }
+{
+    let (left, is_whole) = widen_row::<N, WIDTH, BYTES, K>(units, left);
+    if is_whole {
+        return left;
+    }
+    widen_point(units, left)
+}
+
+/// The same again and again, as long as there are bytes for a block and the first of them begins a code point of the kind.
+#[inline(always)]
+fn widen_kind<'a, const N: usize, const WIDTH: usize, const BYTES: usize, K: Kind<N, WIDTH, BYTES>>(
+    units: &mut [u16],
+    left: Unwritten<'a>,
+) -> Unwritten<'a>
+    requires lanes { (0 < N) × (N ≤ u64.BITS) }
+    requires room { left.at + length (view_units left.view) ≤ length units.old }
+    requires some { 0 < length left.view.bytes.now }
+    ensures units { take result.at units.new ++ view_units result.view ≡ take left.entry.at units.old ++ view_units left.entry.view }
+    ensures as_many { result.at + length (view_units result.view) ≡ left.entry.at + length (view_units left.entry.view) }
+    ensures len { length units.new ≡ length units.old }
+    ensures shorter { length result.view.bytes.now < length left.entry.view.bytes.now }
+{
+    let mut rest = left;
     loop {
-        rest = widen_threes(units, rest);
-        if rest.bytes.len() < 32 || rest.bytes[0] / 16 != 14 {
+        rest = widen_block::<N, WIDTH, BYTES, K>(units, rest);
+        let bytes = rest.view.bytes;
+        if bytes.len() < BYTES || bytes.is_empty() || !K::is_first(bytes[0]) {
             return rest;
         }
     }
 }
 
-/// Appends the units at the front, for which there is room, and answers the view behind them: those of a block where there
-/// are bytes for one and the first two code points have as many bytes, or of the first one.
+/// Writes the units at the front: those of blocks where there are bytes for one and the first two code points have as many
+/// bytes, or of the first one.
 #[inline(always)]
-fn widen_front<'a, B: Allocator>(units: &mut Vec<u16, B>, view: Wtf8<'a>) -> Wtf8<'a>
-    requires room { vec_len units.old + length (view_units view) ≤ vec_capacity units.old }
-    requires some { 0 < length view.bytes.now }
-    ensures units { units.new.items ++ view_units result ≡ units.old.items ++ view_units view.entry }
-    ensures shorter { length result.bytes.now < length view.entry.bytes.now }
-    ensures capacity { vec_capacity units.old ≤ vec_capacity units.new }
+fn widen_front<'a>(units: &mut [u16], left: Unwritten<'a>) -> Unwritten<'a>
+    requires room { left.at + length (view_units left.view) ≤ length units.old }
+    requires some { 0 < length left.view.bytes.now }
+    ensures units { take result.at units.new ++ view_units result.view ≡ take left.entry.at units.old ++ view_units left.entry.view }
+    ensures as_many { result.at + length (view_units result.view) ≡ left.entry.at + length (view_units left.entry.view) }
+    ensures len { length units.new ≡ length units.old }
+    ensures shorter { length result.view.bytes.now < length left.entry.view.bytes.now }
 {
+    let bytes = left.view.bytes;
     // The length is compared once, before the patterns, which would each compare it.
-    if view.bytes.len() < VECTOR {
-        return widen_point(units, view);
+    if bytes.len() < VECTOR {
+        return widen_point(units, left);
     }
-    match view.bytes {
-        [0x00..=0x7F, 0x00..=0x7F, ..] => widen_ascii_fronts(units, view),
-        [0xC0..=0xDF, _, 0xC0..=0xDF, ..] => widen_twos(units, view),
-        [0xE0..=0xEF, _, _, 0xE0..=0xEF, ..] => widen_three_fronts(units, view),
-        _ => widen_point(units, view),
+    match bytes {
+        [0x00..=0x7F, 0x00..=0x7F, ..] => widen_kind::<16, 1, 16, OneByte>(units, left),
+        [0xC0..=0xDF, _, 0xC0..=0xDF, ..] => widen_kind::<8, 2, 16, TwoBytes>(units, left),
+        [0xE0..=0xEF, _, _, 0xE0..=0xEF, ..] => widen_kind::<8, 3, 32, ThreeBytes>(units, left),
+        _ => widen_point(units, left),
+    }
+}
+
+/// Writes the units of a view from a place to the end.
+#[inline(never)]
+fn widen_all(units: &mut [u16], from: usize, view: Wtf8<'_>)
+    requires room { from + length (view_units view) ≡ length units.old }
+    ensures { units.new ≡ take from units.old ++ view_units view.entry }
+{
+    let mut left = Unwritten { view, at: from };
+    while !left.view.is_empty() {
+        left = widen_front(units, left);
     }
 }
 
 impl<'a> Wtf8<'a> {
-    /// The view behind some bytes of ASCII, which are units by themselves.
-    #[inline(always)]
-    fn behind_ascii(self, count: usize) -> Wtf8<'a>
-        requires within { count ≤ length self.bytes.now }
-        requires ascii { AreAscii (take count self.bytes.now) }
-        ensures units { view_units self.entry ≡ take count self.entry.bytes.now ++ view_units result }
-        ensures bytes { result.bytes.now ≡ drop count self.entry.bytes.now }
-    {
-        let (_, rest) = self.bytes.split_at(count);
-        Wtf8::from_well_formed(rest)
-    }
-
     /// The view behind some bytes, which is well-formed.
     #[inline(always)]
     fn behind(self, count: usize) -> Wtf8<'a>
@@ -412,16 +473,15 @@ impl<'a> Wtf8<'a> {
         ensures capacity { vec_capacity units.old ≤ vec_capacity units.new }
     {
         let count = self.unit_len();
-        units.reserve(count)?;
-        // Where there are as many units as bytes, each byte is one. Longer strings are widened in blocks.
+        // Where there are as many units as bytes, each byte is one.
         if count == self.len() && count < VECTOR {
+            units.reserve(count)?;
             push_bytes(units, self.bytes);
             return Ok(());
         }
-        let mut rest = *self;
-        while !rest.is_empty() {
-            rest = widen_front(units, rest);
-        }
+        let from = units.len();
+        units.resize(from + count, 0)?;
+        widen_all(units, from, *self);
         Ok(())
     }
 }

@@ -3,7 +3,7 @@ ghost use Rattle.std.specs.Prelude.{◌≡◌, ℕ, true, ◌+◌, ◌-◌, ◌*
 ghost use Rattle.wtf8.specs.UnitParts.{AppendsForm, DividesNoPair, IsKnownForm};
 ghost use Rattle.wtf8.specs.UnitPieces.{low_front, low_len, low_spelled, first_sum, all_low_spelled, AreLow};
 
-use crate::units_in::NUMBERS;
+use crate::units_in::{NUMBERS, UnitBlock};
 use std::alloc::{AllocError, Allocator};
 use std::simd::prelude::*;
 
@@ -102,30 +102,28 @@ fn write_block(units: u16x16, block: &mut [u8; ROOM]) -> usize
     pack(&fronts(units), lens(units), block)
 }
 
-/// Appends the bytes of the sixteen units from a place on, where there are so many and all of them are below 0x800, and
-/// answers how many units these are.
-#[inline(always)]
-pub(crate) fn append_block<A: Allocator>(
-    bytes: &mut Vec<u8, A>,
-    v: &[u16],
-    at: usize,
-) -> Result<Option<usize>, AllocError>
-    requires { at ≤ length v.now }
-    ensures some { IfOk result (λ taken. IfSome taken (λ n. (0 < n) × (at + n ≤ length v.now) × DividesNoPair v.now (at + n)
-        × AppendsForm bytes.old.items bytes.new.items (take n (drop at v.now)) true)) }
-    ensures none { IfOk result (λ taken. IfNone taken (bytes.new.items ≡ bytes.old.items)) }
-{
-    let Some(units) = v[at..].first_chunk::<NUMBERS>() else {
-        return Ok(None);
-    };
-    let units = u16x16::from_array(*units);
-    if !are_low(units) {
-        return Ok(None);
+/// Sixteen units below 0x800.
+pub(crate) struct Low;
+
+impl UnitBlock for Low {
+    #[inline(always)]
+    fn append<A: Allocator>(
+        bytes: &mut Vec<u8, A>,
+        v: &[u16],
+        at: usize,
+    ) -> Result<Option<usize>, AllocError> {
+        let Some(units) = v[at..].first_chunk::<NUMBERS>() else {
+            return Ok(None);
+        };
+        let units = u16x16::from_array(*units);
+        if !are_low(units) {
+            return Ok(None);
+        }
+        let mut block = [0; ROOM];
+        let len = write_block(units, &mut block);
+        let end = bytes.len() + len;
+        bytes.extend_from_slice(&block)?;
+        bytes.truncate(end);
+        Ok(Some(NUMBERS))
     }
-    let mut block = [0; ROOM];
-    let len = write_block(units, &mut block);
-    let end = bytes.len() + len;
-    bytes.extend_from_slice(&block)?;
-    bytes.truncate(end);
-    Ok(Some(NUMBERS))
 }

@@ -6,7 +6,9 @@ ghost use Rattle.wtf8.specs.UnitParts.{AppendsPart, IsKnownForm, IsReadTo, Divid
 
 use crate::numbers::encoding;
 use crate::numbers::surrogates::{FIRST_LEAD, FIRST_TRAIL, LAST_TRAIL};
-use crate::units_in::{NUMBERS, decode, low_blocks, mixed_blocks};
+use crate::units_in::low_blocks::Low;
+use crate::units_in::mixed_blocks::Mixed;
+use crate::units_in::{NUMBERS, UnitBlock, decode};
 use std::alloc::{AllocError, Allocator};
 use std::simd::prelude::*;
 
@@ -332,7 +334,7 @@ fn append_mixed<A: Allocator>(
     requires { at < length v.now }
     ensures { IfOk result (λ part. AppendsPart bytes.old.items bytes.new.items v.now at part.0 part.1) }
 {
-    if let Some(taken) = mixed_blocks::append_block(bytes, v, at)? {
+    if let Some(taken) = Mixed::append(bytes, v, at)? {
         return Ok((at + taken, true));
     }
     let end = end_of_part(v, at);
@@ -361,7 +363,7 @@ fn append_kind<A: Allocator>(
             bytes.extend_from_slice(&block)?;
             return Ok(Some((at + HALF, true)));
         }
-        if let Some(taken) = low_blocks::append_block(bytes, v, at)? {
+        if let Some(taken) = Low::append(bytes, v, at)? {
             return Ok(Some((at + taken, true)));
         }
     } else if let Some(block) = three_byte_block(v, at) {

@@ -1,18 +1,6 @@
-use Rattle.wtf8.proofs.Common.{◌≡◌, ℕ, ◌+◌, ◌-◌, ◌*◌, ◌≤◌, List, ◌++◌, length, take, drop, ap, ◌∙◌, arith, append_assoc, length-drop, take_all, take-append-drop}
-use Rattle.std.proofs.Math.Seq.{take-append-add}
-use Rattle.std.proofs.lemmas.List.{take-take}
+use Rattle.wtf8.proofs.Common.{◌∙◌, arith}
+use Rattle.wtf8.proofs.lemmas.lanes.Copies.{ends_appended}
 use Rattle.wtf8.proofs.lanes.copies.push_ends.Goals as goal
-
--- A list appended by its first and its last items, which may overlap.
-
--- the first n items, of which as many are kept as stand before the last n, and then these
-ends_appended : (w v : List ℕ) (n end : ℕ) → end ≡ length w + (length v - n) → n ≤ length v → length v ≤ 2 * n
-    → take end (w ++ take n v) ++ take n (drop (length v - n) v) ≡ w ++ v
-ends_appended w v n end e h k =
-    let m = length v - n in
-    let kept = ap (λ i. take i (w ++ take n v)) e ∙ (take-append-add w (take n v) m ∙ ap (λ xs. w ++ xs) (take-take m n v (omega arith))) in
-    let rest = ap (λ xs. take m v ++ xs) (take_all n (drop m v) (omega (arith, length-drop m v))) ∙ take-append-drop m v in
-    ap (λ xs. xs ++ take n (drop m v)) kept ∙ (append_assoc w (take m v) (take n (drop m v)) ∙ ap (λ xs. w ++ xs) rest)
 
 pub returns : goal.returns
 returns g c =

@@ -1,40 +1,53 @@
-use Rattle.wtf8.proofs.Common.{◌∷◌, ◌∙◌, ap, sym, arith, length, length-append, units, units_of, number}
+use Rattle.wtf8.proofs.Common.{◌∷◌, ◌∙◌, ap, sym, arith, length, length-append, take, units, units_of, number, view_units}
 use Rattle.wtf8.proofs.lemmas.numbers.Readings.{first_of, taken}
 use Rattle.wtf8.proofs.lemmas.strings.UnitsOut.{behind_first, pushed}
 use Rattle.wtf8.proofs.strings.units_out.widen_point.Goals as goal
 
 pub read_two-requires-clause-front : goal.read_two-requires-clause-front
-read_two-requires-clause-front g c = (first_of c.args.view.well_formed c.requires.some).begins
+read_two-requires-clause-front c = (first_of c.args.left.view.well_formed c.requires.some).begins
 
 pub read_three-requires-clause-front : goal.read_three-requires-clause-front
-read_three-requires-clause-front g c = (first_of c.args.view.well_formed c.requires.some).begins
+read_three-requires-clause-front c = (first_of c.args.left.view.well_formed c.requires.some).begins
 
 pub read-width-requires-clause-front : goal.read-width-requires-clause-front
-read-width-requires-clause-front g c = (first_of c.args.view.well_formed c.requires.some).begins
+read-width-requires-clause-front c = (first_of c.args.left.view.well_formed c.requires.some).begins
 
-pub push_units-requires : goal.push_units-requires
-push_units-requires g c =
+pub put_units-at-requires : goal.put_units-at-requires
+put_units-at-requires c =
     let p = number c.read-width.result.0 in
-    let t = taken c.args.view.bytes.now 0 c.args.view.well_formed p c.read-width.result.1 c.requires.some c.read-width.ensures in
+    let view = c.args.left.view in
+    let t = taken view.bytes.now 0 view.well_formed p c.read-width.result.1 c.requires.some c.read-width.ensures in
     omega (arith, c.requires.room, ap length (ap units t.joined), length-append (units_of p) (units t.rest.points))
 
 pub behind-requires-clause-within : goal.behind-requires-clause-within
-behind-requires-clause-within g c =
-    (taken c.args.view.bytes.now 0 c.args.view.well_formed (number c.read-width.result.0) c.read-width.result.1 c.requires.some c.read-width.ensures).within
+behind-requires-clause-within c =
+    let view = c.args.left.view in
+    (taken view.bytes.now 0 view.well_formed (number c.read-width.result.0) c.read-width.result.1 c.requires.some c.read-width.ensures).within
 
 pub behind-requires-clause-well_formed : goal.behind-requires-clause-well_formed
-behind-requires-clause-well_formed g c =
-    (taken c.args.view.bytes.now 0 c.args.view.well_formed (number c.read-width.result.0) c.read-width.result.1 c.requires.some c.read-width.ensures).rest
+behind-requires-clause-well_formed c =
+    let view = c.args.left.view in
+    (taken view.bytes.now 0 view.well_formed (number c.read-width.result.0) c.read-width.result.1 c.requires.some c.read-width.ensures).rest
 
 pub returns-in_default-clause-units : goal.returns-in_default-clause-units
-returns-in_default-clause-units g c =
+returns-in_default-clause-units c =
     let p = number c.read-width.result.0 in
-    let t = taken c.args.view.bytes.now 0 c.args.view.well_formed p c.read-width.result.1 c.requires.some c.read-width.ensures in
-    pushed c.args.view c.behind.result p c.args.units.now.items c.push_units.new.units.items c.push_units.ensures.items
+    let left = c.args.left in
+    let t = taken left.view.bytes.now 0 left.view.well_formed p c.read-width.result.1 c.requires.some c.read-width.ensures in
+    pushed left.view c.behind.result p (take left.at c.args.units.now) (take c.put_units-at.result c.put_units-at.new.units) c.put_units-at.ensures.units
     (t.joined ∙ ap (λ q. p ∷ q) (sym (c.behind.ensures.points t.rest)))
 
-pub returns-in_default-clause-shorter : goal.returns-in_default-clause-shorter
-returns-in_default-clause-shorter g c =
+pub returns-in_default-clause-as_many : goal.returns-in_default-clause-as_many
+returns-in_default-clause-as_many c =
     let p = number c.read-width.result.0 in
-    let t = taken c.args.view.bytes.now 0 c.args.view.well_formed p c.read-width.result.1 c.requires.some c.read-width.ensures in
-    behind_first c.args.view c.behind.result p (t.joined ∙ ap (λ q. p ∷ q) (sym (c.behind.ensures.points t.rest)))
+    let view = c.args.left.view in
+    let t = taken view.bytes.now 0 view.well_formed p c.read-width.result.1 c.requires.some c.read-width.ensures in
+    let joined = t.joined ∙ ap (λ q. p ∷ q) (sym (c.behind.ensures.points t.rest)) in
+    omega (arith, c.put_units-at.ensures.place, ap length (ap units joined), length-append (units_of p) (view_units c.behind.result))
+
+pub returns-in_default-clause-shorter : goal.returns-in_default-clause-shorter
+returns-in_default-clause-shorter c =
+    let p = number c.read-width.result.0 in
+    let view = c.args.left.view in
+    let t = taken view.bytes.now 0 view.well_formed p c.read-width.result.1 c.requires.some c.read-width.ensures in
+    behind_first view c.behind.result p (t.joined ∙ ap (λ q. p ∷ q) (sym (c.behind.ensures.points t.rest)))

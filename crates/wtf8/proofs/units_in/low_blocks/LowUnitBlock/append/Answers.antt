@@ -4,7 +4,7 @@ use Rattle.std.proofs.lemmas.List.{take-take}
 use Rattle.std.proofs.lemmas.Simd.{Each1-get_or}
 use Rattle.wtf8.specs.UnitPieces.{AreLow}
 use Rattle.wtf8.proofs.lemmas.units_in.Blocks.{last_apart}
-use Rattle.wtf8.proofs.units_in.low_blocks.append_block.Goals as goal
+use Rattle.wtf8.proofs.units_in.low_blocks.LowUnitBlock.append.Goals as goal
 
 pub returns-clause-some : goal.returns-clause-some
 returns-clause-some g c =

@@ -1,7 +1,7 @@
 use Rattle.wtf8.proofs.Common.{◌≡◌, ◌-◌, ◌≤◌, ◌∙◌, ap, arith, subst, length, take, drop, true, IsKnownForm, length-drop, length-take}
 use Rattle.std.proofs.lemmas.List.{take-take}
 use Rattle.wtf8.proofs.lemmas.units_in.Pieces.{taken_apart}
-use Rattle.wtf8.proofs.units_in.mixed_blocks.append_block.Goals as goal
+use Rattle.wtf8.proofs.units_in.mixed_blocks.MixedUnitBlock.append.Goals as goal
 use Rattle.wtf8.specs.Unicode.{IsLead}
 use Rattle.wtf8.specs.UnitPieces.{unit_before}
 
