@@ -367,31 +367,8 @@ fn widen_row<'a, const N: usize, const WIDTH: usize, const BYTES: usize, K: Kind
     (widen_units(units, left, block, count, WIDTH * count), false)
 }
 
-/// The same and, where they do not fill a block, those of the code point behind them.
-#[inline(always)]
-fn widen_block<
-    'a,
-    const N: usize,
-    const WIDTH: usize,
-    const BYTES: usize,
-    K: Kind<N, WIDTH, BYTES>,
->(units: &mut [u16], left: Unwritten<'a>) -> Unwritten<'a>
-    requires lanes { (0 < N) × (N ≤ u64.BITS) }
-    requires room { left.at + length (view_units left.view) ≤ length units.old }
-    requires some { 0 < length left.view.bytes.now }
-    ensures units { take result.at units.new ++ view_units result.view ≡ take left.entry.at units.old ++ view_units left.entry.view }
-    ensures as_many { result.at + length (view_units result.view) ≡ left.entry.at + length (view_units left.entry.view) }
-    ensures len { length units.new ≡ length units.old }
-    ensures shorter { length result.view.bytes.now < length left.entry.view.bytes.now }
-{
-    let (left, is_whole) = widen_row::<N, WIDTH, BYTES, K>(units, left);
-    if is_whole {
-        return left;
-    }
-    widen_point(units, left)
-}
-
-/// The same again and again, as long as there are bytes for a block and the first of them begins a code point of the kind.
+/// The same and, where they do not fill a block, those of the code point behind them, again and again, as long as there are
+/// bytes for a block and the first of them begins a code point of the kind.
 #[inline(always)]
 fn widen_kind<'a, const N: usize, const WIDTH: usize, const BYTES: usize, K: Kind<N, WIDTH, BYTES>>(
     units: &mut [u16],
@@ -407,7 +384,12 @@ fn widen_kind<'a, const N: usize, const WIDTH: usize, const BYTES: usize, K: Kin
 {
     let mut rest = left;
     loop {
-        rest = widen_block::<N, WIDTH, BYTES, K>(units, rest);
+        let (behind, is_whole) = widen_row::<N, WIDTH, BYTES, K>(units, rest);
+        rest = if is_whole {
+            behind
+        } else {
+            widen_point(units, behind)
+        };
         let bytes = rest.view.bytes;
         if bytes.len() < BYTES || bytes.is_empty() || !K::is_first(bytes[0]) {
             return rest;

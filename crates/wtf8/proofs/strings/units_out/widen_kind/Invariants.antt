@@ -2,8 +2,8 @@ use Rattle.wtf8.proofs.Common.{◌≡◌, ◌++◌, ◌+◌, ◌<◌, ◌≤◌,
 use Rattle.wtf8.proofs.strings.units_out.widen_kind.Given as goal
 
 -- with the units that are left behind them these are all, and there is room
-abbrev pub invariant-loop-bytes : goal.invariant-loop-bytes
-invariant-loop-bytes g l = record {
+abbrev pub invariant-loop-behind : goal.invariant-loop-behind
+invariant-loop-behind g l = record {
   whole : take l.rest.at l.units ++ view_units l.rest.view ≡ take l.left.at l.fn.units ++ view_units l.left.view;
   as_many : l.rest.at + length (view_units l.rest.view) ≡ l.left.at + length (view_units l.left.view);
   len : length l.units ≡ length l.fn.units;
@@ -11,5 +11,5 @@ invariant-loop-bytes g l = record {
   shorter : length l.rest.view.bytes.now ≤ length l.left.view.bytes.now;
 }
 
-abbrev pub decreases-loop-bytes : goal.decreases-loop-bytes
-decreases-loop-bytes g l = length l.rest.view.bytes.now
+abbrev pub decreases-loop-behind : goal.decreases-loop-behind
+decreases-loop-behind g l = length l.rest.view.bytes.now
