@@ -1,6 +1,4 @@
 mod Answering
-mod Counting
 mod Digits
-mod Four
+mod Reading
 mod Splitting
-mod Waiting

@@ -3,5 +3,4 @@ pub mod Fault
 pub mod Known
 pub mod Lines
 pub mod Parts
-pub mod Reading
 pub mod Word

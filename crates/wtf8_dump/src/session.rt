@@ -6,11 +6,9 @@ ghost use Rattle.wtf8_dump.specs.Known.{IsInput};
 
 use crate::fault::Fault;
 use crate::line::Workspace;
-use crate::parts::Lines;
+use crate::parts::split_first_part;
 use std::alloc::{AllocError, Allocator};
 use std::io::{Read, Write};
-
-const PIECE: usize = 4096;
 
 /// Reads the reader to its end, computes the answer to each line, and then writes the answers, each with a newline
 /// after it, and flushes the writer.
@@ -52,7 +50,7 @@ fn read_input<A: Allocator + Copy, R: Read>(alloc: A, reader: &mut R) -> Result<
     ensures fault { IfErr result (λ fault. fault ≢ Fault.Write) }
 {
     let mut input = Vec::new(alloc);
-    let mut piece = [0; PIECE];
+    let mut piece = [0; 4096];
     loop {
         let Ok(count) = reader.read(&mut piece) else {
             return Err(Fault::Read);
@@ -72,9 +70,12 @@ fn dump<A: Allocator + Copy>(alloc: A, input: &[u8]) -> Result<Vec<u8, A>, Alloc
 {
     let mut out = Vec::new(alloc);
     let mut workspace = Workspace::new(alloc);
-    for line in Lines::new(input) {
+    let mut rest = input;
+    while !rest.is_empty() {
+        let (line, after) = split_first_part(rest, b'\n');
         workspace.push_answer(line, &mut out)?;
         out.push(b'\n')?;
+        rest = after.unwrap_or(&[]);
     }
     Ok(out)
 }

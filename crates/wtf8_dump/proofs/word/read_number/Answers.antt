@@ -6,16 +6,16 @@ pub overflow_mul-number : goal.overflow_mul-number
 overflow_mul-number c =
     omega (
       arith,
-      next_below _ _ _ _ _ _ c.loop-byte-test.true c.from.ensures c.in_ok-digit.ensures.value c.requires.least c.loop-byte.invariant.spelled
-          c.loop-byte.invariant.digits,
+      next_below _ _ _ _ _ _ c.loop-byte-test.true c.from.ensures c.in_ok-digit.ensures.value c.args.most c.requires.least_base (omega arith)
+          c.loop-byte.invariant.spelled c.loop-byte.invariant.digits,
     )
 
 pub overflow_add-number : goal.overflow_add-number
 overflow_add-number c =
     omega (
       arith,
-      next_below _ _ _ _ _ _ c.loop-byte-test.true c.from.ensures c.in_ok-digit.ensures.value c.requires.least c.loop-byte.invariant.spelled
-          c.loop-byte.invariant.digits,
+      next_below _ _ _ _ _ _ c.loop-byte-test.true c.from.ensures c.in_ok-digit.ensures.value c.args.most c.requires.least_base (omega arith)
+          c.loop-byte.invariant.spelled c.loop-byte.invariant.digits,
     )
 
 pub loop-byte-preserved : goal.loop-byte-preserved
