@@ -121,12 +121,13 @@ pub(crate) fn marks_of<A: Allocator>(alloc: A, text: &Wtf8Buf<A>, count: usize) 
 /// many bytes as units.
 #[inline(always)]
 fn wanted<A: Allocator>(text: &Wtf8Buf<A>, count: usize) -> usize
+    requires counted { count ≡ length text.now.units }
     ensures before_last { (n : ℕ) → n < result → (n + 1) * SPACING < count }
 {
     if text.len() == count {
         return 0;
     }
-    count.saturating_sub(1) / SPACING
+    (count - 1) / SPACING
 }
 
 /// Adds the marks that are missing behind those that are there, as far as there is memory for them. It stands by itself, so
