@@ -175,7 +175,7 @@ fn marked(alloc: Global, units: &[u16]) -> Result<UnitText<Global>, AllocError> 
     Ok(text)
 }
 
-/// A text with units behind it, each of which is appended by itself.
+/// A text with units behind it, each of which is pushed by itself.
 fn appended(
     text: UnitText<Global>,
     alloc: Global,

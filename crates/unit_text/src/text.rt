@@ -55,8 +55,8 @@ impl<A: Allocator> UnitText<A> {
     }
 
     /// Keeps marks of the text, with an allocator for them, so that `unit_at` and `slice_units` no longer count from the
-    /// front; from then on `push` and `concat` keep those of what they append. Where there is no memory for a mark it is left out, and
-    /// the text is slower there. It asks for none where the text is short or has as many bytes as units.
+    /// front; from then on `push` and `concat` keep those of what they append. Where there is no memory for a mark it is
+    /// left out, and the text is slower there. It asks for none where the text is short or has as many bytes as units.
     pub fn mark_units(&mut self, alloc: A)
         ensures { self.new ≡ self.old }
     {
