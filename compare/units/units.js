@@ -109,10 +109,17 @@ const CALLS = {
     run: (state, ...units) => unitsOf((state.first = state.first.replace(state.second, () => textOf(units)))),
   },
   toWellFormed: { opcode: 85, run: (state) => unitsOf((state.first = state.first.toWellFormed())) },
+  push: {
+    opcode: 86,
+    run: (state, ...units) => {
+      for (const unit of units) state.first += String.fromCharCode(unit);
+      return unitsOf(state.first);
+    },
+  },
 };
 
 // The calls whose operands are units, and those that change a string.
-const OF_UNITS = ['set', 'replace'];
+const OF_UNITS = ['set', 'replace', 'push'];
 const CHANGING = [...OF_UNITS, 'swap', 'slice', 'concat', 'padStart', 'repeat', 'trim', 'toWellFormed'];
 
 // A number of two bytes in hexadecimal, the lowest first.
@@ -228,7 +235,7 @@ function randomCalls({ first }, below) {
   const at = () => (below(40) === 0 ? below(0x10000) : below(first.length + 3));
   const place = at();
   if (first.length < 900 && below(3) === 0) return randomMakingCalls(first, place, below);
-  switch (below(17)) {
+  switch (below(18)) {
     case 0: return [['set', ...randomUnits(below)]];
     case 1: return [['swap']];
     case 2: return [['length']];
@@ -244,6 +251,7 @@ function randomCalls({ first }, below) {
     case 12: return first.length > 900 ? [['length']] : [['indexOf', place]];
     case 13: return [['at', place]];
     case 14: return [['codePointAt', place]];
+    case 15: return first.length > 600 ? [['length']] : [['push', ...randomUnits(below)], ['compare'], ['unitAt', first.length]];
     default: {
       const others = neighbour(listOf(first), place, below);
       return [['swap'], ['set', ...others], ['swap'], ['compare'], ['startsWith', place], ['swap'], ['compare'], ['swap']];
@@ -302,12 +310,13 @@ function listScript(units) {
   return calls;
 }
 
-// Two lists compared, sought in one another at every place, and appended.
+// Two lists compared, sought in one another at every place, and appended, at once and unit by unit.
 function pairScript(units, others) {
   const calls = [['set', ...others], ['swap'], ['set', ...units], ['compare']];
   for (let at = 0; at <= units.length + 1; at++) calls.push(['startsWith', at], ['indexOf', at]);
   calls.push(...makingCalls(units, [['set', ...units]]));
   calls.push(['concat'], ['length'], ['compare'], ['cutEverywhere'], ['indexOf', 0], ['replace', 0x24, 0x60]);
+  calls.push(['set', ...units], ['push', ...others], ['length'], ['compare'], ['cutEverywhere']);
   return calls;
 }
 
@@ -338,11 +347,11 @@ function placesOf(length) {
 }
 
 // Every look at a long text: its units one by one, and pieces that begin or end at each of its places. It is also the second
-// text, so that it stands again behind a slice to nothing and a concatenation.
+// text, so that it stands again behind a slice to nothing and a concatenation, or where its units are pushed.
 function longScript(units) {
   const last = units.length - 1;
   const again = [['slice', 0, 0], ['concat']];
-  const calls = [['set', ...units], ['swap'], ...again, ['length'], ['compare']];
+  const calls = [['set', ...units], ['swap'], ['push', ...units], ['length'], ['compare'], ...again, ['length'], ['compare']];
   for (let at = 0; at <= units.length + 1; at++) calls.push(['unitAt', at], ['charAt', at]);
   if (units.length < 40) calls.push(...makingCalls(units, again));
   calls.push(['padStart', 3 * units.length - 1], ...again);
@@ -429,12 +438,14 @@ function markedScript(units) {
   return calls;
 }
 
-// A text that grows by the same piece, with marks from the start or without, looked at where each piece ends.
-function grownScript(piece, count, isMarked) {
+// A text that grows by the same piece, at once or unit by unit, with marks from the start or without, looked at where each piece
+// ends.
+function grownScript(way, piece, count, isMarked) {
+  const append = way === 'push' ? ['push', ...piece] : [way];
   const calls = [['set', ...piece], ['swap'], ['set']];
   if (isMarked) calls.push(['mark']);
   for (let end = piece.length; end <= count * piece.length; end += piece.length) {
-    calls.push(['concat'], ['unitAt', end - 1], ['unitAt', end], ['substring', Math.max(0, end - piece.length - 1), end - 1]);
+    calls.push(append, ['unitAt', end - 1], ['unitAt', end], ['substring', Math.max(0, end - piece.length - 1), end - 1]);
   }
   return [...calls, ...looksAbout(count * piece.length)];
 }
@@ -460,7 +471,9 @@ function markedScripts(lengths, pieces) {
   for (const length of pieces) {
     const piece = anyUnits(length, below);
     const count = Math.ceil(1200 / length);
-    for (const isMarked of [false, true]) scripts.push(grownScript(piece, count, isMarked), grownScript(joining(piece), count, isMarked));
+    for (const way of ['concat', 'push']) {
+      for (const isMarked of [false, true]) scripts.push(...[piece, joining(piece)].map((units) => grownScript(way, units, count, isMarked)));
+    }
   }
   for (const kind of KINDS_OF_MARKED) scripts.push(...[false, true].map((isMarked) => madeScript(unitsOfKind(kind, 300, below), isMarked)));
   return scripts;
@@ -474,8 +487,10 @@ function randomMarkedCalls({ first, second }, below) {
     case 1: return [['swap']];
     case 2: return first.length + second.length > 6000 ? [['length']] : [['concat'], ['length']];
     case 3: case 4: {
-      const piece = anyUnits(1 + below(2 * SPACING), below);
-      return [['swap'], ['set', ...(below(2) === 0 ? piece : joining(piece))], ['swap'], ['concat'], ['unitAt', first.length]];
+      const any = anyUnits(1 + below(2 * SPACING), below);
+      const piece = below(2) === 0 ? any : joining(any);
+      const appended = below(2) === 0 ? [['push', ...piece]] : [['swap'], ['set', ...piece], ['swap'], ['concat']];
+      return [...appended, ['unitAt', first.length]];
     }
     case 5: return [['slice', ...[below(SPACING), placeAbout(first.length, below)].sort((one, other) => one - other)]];
     case 6: case 7: case 8: return [['substring', place, place + below(2 * SPACING)]];

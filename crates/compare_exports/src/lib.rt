@@ -82,7 +82,7 @@ pub extern "C" fn compare_exports_time(
 /// | 1, 2 | the unit at each place, of the text with its marks and of the string's view |
 /// | 3, 4 | ten units from each place on, as a text and as a part of the view |
 /// | 5, 6, 7 | the units made into a text, into one with marks, and into a string |
-/// | 8, 9, 10 | each unit appended by itself, as a text to a text without marks and with them, and to a string |
+/// | 8, 9, 10 | each unit pushed by itself, to a text without marks and with them, and to a string |
 /// | 11, 12 | how many bytes the string has asked for, and how many the marks ask for, whatever the rounds are |
 ///
 /// It answers 0, or a number below 0 where `sum` is left as it was: -1 where the number has no loop, -2 for want of

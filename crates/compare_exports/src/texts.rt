@@ -175,7 +175,7 @@ fn marked(alloc: Global, units: &[u16]) -> Result<UnitText<Global>, AllocError> 
     Ok(text)
 }
 
-/// A text with units behind it, each of which is appended by itself.
+/// A text with units behind it, each of which is pushed by itself.
 fn appended(
     text: UnitText<Global>,
     alloc: Global,
@@ -183,7 +183,7 @@ fn appended(
 ) -> Result<UnitText<Global>, AllocError> {
     let mut text = text;
     for unit in units {
-        text.concat(&UnitText::from_units(alloc, &[*unit])?)?;
+        text.push(*unit)?;
     }
     Ok(text)
 }

@@ -53,6 +53,7 @@ impl Texts {
     /// | 82, 83 | a number, none | the first text is repeated; it is trimmed (`trim_ascii`) |
     /// | 84 | a number, and so many units | in the first text `replace` of the second by the units |
     /// | 85 | | the first text is made well-formed (`to_well_formed`) |
+    /// | 86 | a number, and so many units | each unit is pushed to the first text |
     pub fn run(&mut self, opcode: u8, tape: &mut Tape<'_>) -> Result<(), Stop> {
         match opcode {
             64 => self.first = tape.read_units()?,
@@ -71,6 +72,7 @@ impl Texts {
             67 => self.first.concat(&self.second)?,
             75 => self.first.mark_units(tape.alloc),
             81..=85 => self.first = made(opcode, tape, &self.first, &self.second)?,
+            86 => push_units(&mut self.first, tape)?,
             _ => return self.look(opcode, tape),
         }
         Ok(tape.write_units(&self.first)?)
@@ -124,6 +126,15 @@ impl Texts {
             "order {order} lt {is_below} gt {is_above} eq {is_equal}"
         )
     }
+}
+
+/// Pushes each of the units that come next in the script, behind their number.
+fn push_units(text: &mut UnitText<Global>, tape: &mut Tape<'_>) -> Result<(), Stop> {
+    let count = tape.reader.number()?;
+    for _ in 0..count {
+        text.push(tape.reader.unit()?)?;
+    }
+    Ok(())
 }
 
 /// At how many places a text can be cut and is found whole again.

@@ -1,4 +1,5 @@
 // Order, equality, hash and debug texts.
+use crate::shared::text_of_units;
 use std::alloc::Global;
 use std::cmp::Ordering;
 use std::collections::HashMap;
@@ -87,15 +88,6 @@ fn texts_are_equal_where_their_units_are(rt: HostRuntime) -> Result<(), Fail> {
         }
     }
     Ok(())
-}
-
-/// The text of these units, one appended after the other.
-fn text_of_units(alloc: Global, units: &[u16]) -> Result<UnitText<Global>, Fail> {
-    let mut text = UnitText::from_units(alloc, &[])?;
-    for unit in units {
-        text.concat(&UnitText::from_units(alloc, &[*unit])?)?;
-    }
-    Ok(text)
 }
 
 #[test]

@@ -14,6 +14,8 @@ mod marks;
 #[cfg(test)]
 mod memory;
 #[cfg(test)]
+mod pushing;
+#[cfg(test)]
 mod reading;
 #[cfg(test)]
 mod shared;

@@ -4,6 +4,15 @@ use std::test::Fail;
 use unit_text::UnitText;
 use wtf8_tests::examples::expect_dump;
 
+/// The text of these units, one pushed after the other.
+pub fn text_of_units(alloc: Global, units: &[u16]) -> Result<UnitText<Global>, Fail> {
+    let mut text = UnitText::from_units(alloc, &[])?;
+    for unit in units {
+        text.push(*unit)?;
+    }
+    Ok(text)
+}
+
 /// Whether the text has these units, one by one, and none behind them.
 fn has_units<A: Allocator>(text: &UnitText<A>, units: &[u16]) -> bool {
     for i in 0..units.len().saturating_add(1) {

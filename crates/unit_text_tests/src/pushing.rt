@@ -1,0 +1,120 @@
+// Texts that grow by single units, with marks and without, and their requests for memory refused in turn.
+use crate::shared::{expect_text, expect_units, text_of_units};
+use refusing::{Refusal, Refusing};
+use std::alloc::Global;
+use std::test::Fail;
+use unit_text::UnitText;
+use wtf8_tests::examples::expect_dump;
+
+type Lent<'a> = &'a Refusing<Global>;
+
+/// Units that are pushed one by one, and the bytes of their text: on both sides of where a unit takes one byte more, leads and
+/// trails that join, and those that stay alone.
+const PUSHED: [(&[u16], &str); 7] = [
+    (
+        &[0x0000, 0x007F, 0x0080, 0x07FF, 0x0800, 0xFFFF],
+        "00 7F C2 80 DF BF E0 A0 80 EF BF BF",
+    ),
+    (&[0xD7FF, 0xDC00, 0xE000], "ED 9F BF ED B0 80 EE 80 80"),
+    (&[0xD83D, 0xDCA9], "F0 9F 92 A9"),
+    (&[0xD800, 0xDC00, 0xDBFF, 0xDFFF], "F0 90 80 80 F4 8F BF BF"),
+    (
+        &[0xD83D, 0xD83D, 0xDCA9, 0xDCA9],
+        "ED A0 BD F0 9F 92 A9 ED B2 A9",
+    ),
+    (&[0xDCA9, 0xD83D], "ED B2 A9 ED A0 BD"),
+    (&[0xD83D, 0x0061, 0xDCA9], "ED A0 BD 61 ED B2 A9"),
+];
+
+#[test]
+fn a_pushed_trail_joins_a_lead(rt: HostRuntime) -> Result<(), Fail> {
+    for (units, dump) in PUSHED {
+        let text = text_of_units(rt.alloc(), units)?;
+        expect_text(rt.alloc(), &text, units, dump)?;
+    }
+    Ok(())
+}
+
+/// Six units, which come again and again in a text, whether it keeps marks, and how many requests 300 of them make:
+/// for their bytes, whose room is eight and then doubles, and for marks. Where the units begin with a trail, every place of an
+/// even number divides a pair.
+const GROWN: [([u16; 6], bool, u64, u64); 6] = [
+    ([0x0061; 6], true, 7, 0),
+    ([0x3042; 6], false, 8, 0),
+    ([0x3042; 6], true, 8, 1),
+    ([0xDCA9, 0xD83D, 0xDCA9, 0xD83D, 0xDCA9, 0xD83D], true, 8, 1),
+    ([0x00E9, 0xD83D, 0xDCA9, 0x00E9, 0xD83D, 0xDCA9], true, 8, 1),
+    (
+        [0x0061, 0x3042, 0xDCA9, 0xD83D, 0xDCA9, 0xD83D],
+        false,
+        8,
+        0,
+    ),
+];
+
+/// How many units are pushed.
+const LENGTH: usize = 300;
+
+/// The numbers of pushes behind which a text is looked at, about those behind which a mark comes.
+const LOOKED_AT: [usize; 7] = [0, 126, 127, 128, 129, 255, 256];
+
+/// Fails unless a text has these units, one by one, and is as the text that is made of them at once.
+fn expect_made<'a>(
+    alloc: Global,
+    heap: Lent<'a>,
+    text: &UnitText<Lent<'a>>,
+    units: &[u16],
+) -> Result<(), Fail> {
+    expect_units(text, units)?;
+    heap.grant(u64::MAX);
+    let made = UnitText::from_units(heap, units)?;
+    if *text != made {
+        return Err(Fail::new("not equal to the text that is made at once"));
+    }
+    let dump = made.as_wtf8().hex_dump(alloc)?;
+    expect_dump(alloc, text.as_wtf8(), dump.as_str())
+}
+
+/// Pushes units of a kind to an empty text, where so many requests are granted and those behind them refused for good or the
+/// first one alone, and answers how many pushes were refused. Fails unless the text has the units of all others.
+fn expect_grown(
+    alloc: Global,
+    kind: &[u16; 6],
+    is_marked: bool,
+    granted: u64,
+    refusal: Refusal,
+) -> Result<u64, Fail> {
+    let heap = Refusing::new(alloc, 0);
+    let mut text = UnitText::from_units(&heap, &[])?;
+    if is_marked {
+        text.mark_units(&heap);
+    }
+    heap.refuse_after(granted, refusal);
+    let mut units = Vec::new(alloc);
+    for at in 0..LENGTH {
+        let unit = kind[at % 6];
+        if text.push(unit).is_ok() {
+            units.push(unit)?;
+        }
+        if LOOKED_AT.contains(&at) {
+            expect_units(&text, &units)?;
+        }
+    }
+    expect_made(alloc, &heap, &text, &units)?;
+    Ok(LENGTH.saturating_sub(units.len()) as u64)
+}
+
+#[test]
+fn pushed_units_are_found(rt: HostRuntime) -> Result<(), Fail> {
+    for (kind, is_marked, growths, marks) in GROWN {
+        let mut refused = 0u64;
+        for granted in 0..=growths.wrapping_add(marks) {
+            expect_grown(rt.alloc(), &kind, is_marked, granted, Refusal::ForGood)?;
+            let left_out = expect_grown(rt.alloc(), &kind, is_marked, granted, Refusal::Once)?;
+            refused = refused.wrapping_add(left_out);
+        }
+        // A push is refused for each growth, none for a mark, and none where all requests are granted.
+        assert_eq!(rt; refused, growths);
+    }
+    Ok(())
+}
