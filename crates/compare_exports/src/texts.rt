@@ -183,7 +183,7 @@ fn appended(
 ) -> Result<UnitText<Global>, AllocError> {
     let mut text = text;
     for unit in units {
-        text.concat(&UnitText::from_units(alloc, &[*unit])?)?;
+        text.push(*unit)?;
     }
     Ok(text)
 }

@@ -1,6 +1,6 @@
 // The marks of a text, by which its units are found without counting from its front.
 ghost use Rattle.std.specs.List.{All};
-ghost use Rattle.std.specs.Prelude.{◌≡◌, ◌+◌, ◌≤◌, length, take, drop, slice_get, IfSome};
+ghost use Rattle.std.specs.Prelude.{◌≡◌, ◌+◌, ◌*◌, ◌<◌, ◌≤◌, ℕ, length, take, drop, slice_get, IfSome};
 ghost use Rattle.unit_text.specs.Marks.{IsKept};
 ghost use Rattle.wtf8.specs.UnitMark.{IsMark};
 ghost use Rattle.wtf8.specs.UnitPosition.{units_of_slice};
@@ -111,30 +111,36 @@ pub(crate) fn marks_of<A: Allocator>(alloc: A, text: &Wtf8Buf<A>, count: usize) 
     ensures marks { All (IsKept text.now.bytes text.now.units) result.items }
 {
     let mut marks = Vec::new(alloc);
-    if text.len() != count {
-        // Where there is no memory for all of them at once there may be some for a few.
-        let _is_found = marks
-            .reserve_exact(count.saturating_sub(1) / SPACING)
-            .is_ok();
-    }
+    // Where there is no memory for all of them at once there may be some for a few.
+    let _is_found = marks.reserve_exact(wanted(text, count)).is_ok();
     add_marks(text, count, &mut marks);
     marks
 }
 
-/// Adds the marks that are missing behind those that are there, as far as there is memory for them. A text with as many
-/// bytes as units needs none. It stands by itself, so that a text with no marks costs little.
+/// How many marks a text wants: one at each multiple of the spacing that lies before the last unit, and none where it has as
+/// many bytes as units.
+#[inline(always)]
+fn wanted<A: Allocator>(text: &Wtf8Buf<A>, count: usize) -> usize
+    requires counted { count ≡ length text.now.units }
+    ensures before_last { (n : ℕ) → n < result → (n + 1) * SPACING < count }
+{
+    if text.len() == count {
+        return 0;
+    }
+    (count - 1) / SPACING
+}
+
+/// Adds the marks that are missing behind those that are there, as far as there is memory for them. It stands by itself, so
+/// that a text that misses none costs little.
 #[inline(never)]
 pub(crate) fn add_marks<A: Allocator>(text: &Wtf8Buf<A>, count: usize, marks: &mut Vec<UnitMark, A>)
     requires counted { count ≡ length text.now.units }
     requires marks { All (IsKept text.now.bytes text.now.units) marks.old.items }
     ensures marks { All (IsKept text.now.bytes text.now.units) marks.new.items }
 {
-    if text.len() == count {
-        return;
-    }
     let view = text.as_wtf8();
     let mut last = last_or_start(text, marks.as_slice());
-    for number in marks.len()..count.saturating_sub(1) / SPACING {
+    for number in marks.len()..wanted(text, count) {
         let units = (number + 1) * SPACING;
         if units < last.units {
             return;
@@ -146,7 +152,7 @@ pub(crate) fn add_marks<A: Allocator>(text: &Wtf8Buf<A>, count: usize, marks: &m
     }
 }
 
-/// The same, where marks are kept.
+/// Adds the marks that are missing, where marks are kept.
 #[inline(always)]
 pub(crate) fn add_to_kept<A: Allocator>(
     text: &Wtf8Buf<A>,
@@ -158,7 +164,9 @@ pub(crate) fn add_to_kept<A: Allocator>(
     ensures marks { IfSome marks.new (λ kept. All (IsKept text.now.bytes text.now.units) kept.items) }
 {
     if let Some(marks) = marks {
-        add_marks(text, count, marks);
+        if marks.len() < wanted(text, count) {
+            add_marks(text, count, marks);
+        }
     }
 }
 

@@ -1,8 +1,9 @@
 // Texts that are counted in units.
-ghost use Rattle.std.specs.Prelude.{◌≡◌, ◌↔◌, ◌≤◌, [], ◌++◌, length, take, drop, slice_get, None, IsNone, IfOk, IsOk, OnOk, OnErr};
+ghost use Rattle.std.specs.Prelude.{◌≡◌, ◌↔◌, ◌≤◌, [], ◌∷◌, ◌++◌, length, take, drop, slice_get, None, IsNone, IfOk, IsOk, OnOk, OnErr};
 ghost use Rattle.std.specs.Cmp.Lexicographic.{slice_cmp};
 ghost use Rattle.std.specs.Option.{option_to_list};
 ghost use Rattle.std.specs.Ordering.{MatchOrdering, nat_cmp};
+ghost use Rattle.wtf8.specs.Appending.{AppendsUnits, KeepsContents};
 ghost use Rattle.wtf8.specs.Order.{Before};
 ghost use Rattle.wtf8.specs.UnitPosition.{units_of_slice};
 ghost use Rattle.wtf8.specs.View.{view_units};
@@ -54,7 +55,7 @@ impl<A: Allocator> UnitText<A> {
     }
 
     /// Keeps marks of the text, with an allocator for them, so that `unit_at` and `slice_units` no longer count from the
-    /// front; from then on `concat` keeps those of what it appends. Where there is no memory for a mark it is left out, and
+    /// front; from then on `push` and `concat` keep those of what they append. Where there is no memory for a mark it is left out, and
     /// the text is slower there. It asks for none where the text is short or has as many bytes as units.
     pub fn mark_units(&mut self, alloc: A)
         ensures { self.new ≡ self.old }
@@ -104,6 +105,21 @@ impl<A: Allocator> UnitText<A> {
         })
     }
 
+    /// Appends a unit. A trail surrogate behind a lead joins it: the view then has the code point that the two stand for,
+    /// and the text has both units. After a refusal the text is as before.
+    #[inline(always)]
+    pub fn push(&mut self, unit: u16) -> Result<(), AllocError>
+        ensures ok { OnOk result (self.new ≡ self.old ++ unit ∷ []) }
+        ensures err { OnErr result (self.new ≡ self.old) }
+    {
+        push_unit(&mut self.text, unit)?;
+        laws::law_marks();
+        prove!(self.text.len() <= usize::MAX);
+        self.count += 1;
+        marks::add_to_kept(&self.text, self.count, &mut self.marks);
+        Ok(())
+    }
+
     /// Appends another text's units. After a refusal the text is as before; the empty text is never refused.
     pub fn concat(&mut self, other: &UnitText<A>) -> Result<(), AllocError>
         ensures ok { OnOk result (self.new ≡ self.old ++ other.now) }
@@ -141,20 +157,29 @@ fn copied<A: Allocator>(alloc: A, slice: UnitSlice<'_>) -> Result<Wtf8Buf<A>, Al
     ensures empty { units_of_slice slice.entry ≡ [] → IsOk result }
 {
     let mut text = Wtf8Buf::new(alloc);
-    push_unit(&mut text, slice.trail)?;
+    push_half(&mut text, slice.trail)?;
     text.push_wtf8(slice.whole)?;
-    push_unit(&mut text, slice.lead)?;
+    push_half(&mut text, slice.lead)?;
     Ok(text)
 }
 
-/// Appends a unit, if there is one.
+/// Appends the half of a pair, if there is one.
 #[inline(always)]
-fn push_unit<A: Allocator>(text: &mut Wtf8Buf<A>, unit: Option<u16>) -> Result<(), AllocError>
-    ensures ok { OnOk result (text.new.units ≡ text.old.units ++ option_to_list unit) }
-    ensures none { unit ≡ None → IsOk result }
+fn push_half<A: Allocator>(text: &mut Wtf8Buf<A>, half: Option<u16>) -> Result<(), AllocError>
+    ensures ok { OnOk result (text.new.units ≡ text.old.units ++ option_to_list half) }
+    ensures none { half ≡ None → IsOk result }
 {
-    match unit {
-        Some(unit) => text.push(CodePoint::from_u32_unchecked(u32::from(unit))),
+    match half {
+        Some(unit) => push_unit(text, unit),
         None => Ok(()),
     }
+}
+
+/// Appends a unit.
+#[inline(always)]
+fn push_unit<A: Allocator>(text: &mut Wtf8Buf<A>, unit: u16) -> Result<(), AllocError>
+    ensures ok { OnOk result (AppendsUnits text.old (unit ∷ []) text.new) }
+    ensures kept { OnErr result (KeepsContents text.old text.new) }
+{
+    text.push(CodePoint::from_u32_unchecked(u32::from(unit)))
 }

@@ -93,7 +93,7 @@ fn texts_are_equal_where_their_units_are(rt: HostRuntime) -> Result<(), Fail> {
 fn text_of_units(alloc: Global, units: &[u16]) -> Result<UnitText<Global>, Fail> {
     let mut text = UnitText::from_units(alloc, &[])?;
     for unit in units {
-        text.concat(&UnitText::from_units(alloc, &[*unit])?)?;
+        text.push(*unit)?;
     }
     Ok(text)
 }
