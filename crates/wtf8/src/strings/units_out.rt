@@ -6,7 +6,7 @@ ghost use Rattle.wtf8.specs.Form.{IsWellFormed};
 ghost use Rattle.wtf8.specs.Gains.{IsReadAs};
 ghost use Rattle.wtf8.specs.UnitParts.{AreAscii};
 ghost use Rattle.wtf8.specs.Unicode.{units_of};
-ghost use Rattle.wtf8.specs.UnitRows.{IsOfKind, BeginsWithUnits, firsts_of, unit_of_two, unit_of_three, units_of_rows};
+ghost use Rattle.wtf8.specs.UnitRows.{IsOfKind, BeginsWithUnits, firsts_of, unit_of_two, unit_of_three, units_of_rows, Writes};
 ghost use Rattle.wtf8.specs.View.{view_points, view_units};
 
 use crate::lanes::VECTOR;
@@ -132,9 +132,7 @@ fn widen_unit<'a>(units: &mut [u16], left: Unwritten<'a>, value: u32, width: usi
     requires some { 0 < length left.view.bytes.now }
     requires read { IsReadAs left.view.bytes.now value width }
     requires one_unit { value < 0x10000 }
-    ensures units { take result.at units.new ++ view_units result.view ≡ take left.entry.at units.old ++ view_units left.entry.view }
-    ensures as_many { result.at + length (view_units result.view) ≡ left.entry.at + length (view_units left.entry.view) }
-    ensures len { length units.new ≡ length units.old }
+    ensures written { Writes units.old left.entry.at (view_units left.entry.view) units.new result.at (view_units result.view) }
     ensures shorter { length result.view.bytes.now < length left.entry.view.bytes.now }
 {
     put(units, left.at, [value as u16]);
@@ -149,9 +147,7 @@ fn widen_unit<'a>(units: &mut [u16], left: Unwritten<'a>, value: u32, width: usi
 fn widen_point<'a>(units: &mut [u16], left: Unwritten<'a>) -> Unwritten<'a>
     requires room { left.at + length (view_units left.view) ≤ length units.old }
     requires some { 0 < length left.view.bytes.now }
-    ensures units { take result.at units.new ++ view_units result.view ≡ take left.entry.at units.old ++ view_units left.entry.view }
-    ensures as_many { result.at + length (view_units result.view) ≡ left.entry.at + length (view_units left.entry.view) }
-    ensures len { length units.new ≡ length units.old }
+    ensures written { Writes units.old left.entry.at (view_units left.entry.view) units.new result.at (view_units result.view) }
     ensures shorter { length result.view.bytes.now < length left.entry.view.bytes.now }
 {
     let bytes = left.view.bytes;
@@ -282,9 +278,7 @@ fn widen_units<'a, const N: usize>(
     requires room { left.at + N ≤ length units.old }
     requires within { (count ≤ N) × (width ≤ length left.view.bytes.now) }
     requires begins { BeginsWithUnits left.view.bytes.now (take count block) width }
-    ensures units { take result.at units.new ++ view_units result.view ≡ take left.entry.at units.old ++ view_units left.entry.view }
-    ensures as_many { result.at + length (view_units result.view) ≡ left.entry.at + length (view_units left.entry.view) }
-    ensures len { length units.new ≡ length units.old }
+    ensures written { Writes units.old left.entry.at (view_units left.entry.view) units.new result.at (view_units result.view) }
     ensures bytes { result.view.bytes.now ≡ drop width left.entry.view.bytes.now }
 {
     put(units, left.at, block);
@@ -305,9 +299,7 @@ fn widen_row<'a, const N: usize, const WIDTH: usize, const BYTES: usize, K: Kind
     requires lanes { (0 < N) × (N ≤ u64.BITS) }
     requires room { left.at + length (view_units left.view) ≤ length units.old }
     requires some { 0 < length left.view.bytes.now }
-    ensures units { take result.0.at units.new ++ view_units result.0.view ≡ take left.entry.at units.old ++ view_units left.entry.view }
-    ensures as_many { result.0.at + length (view_units result.0.view) ≡ left.entry.at + length (view_units left.entry.view) }
-    ensures len { length units.new ≡ length units.old }
+    ensures written { Writes units.old left.entry.at (view_units left.entry.view) units.new result.0.at (view_units result.0.view) }
     ensures whole { IsTrue result.1 → length result.0.view.bytes.now < length left.entry.view.bytes.now }
     ensures part { result.1 ≡ false → 0 < length result.0.view.bytes.now }
     ensures not_longer { length result.0.view.bytes.now ≤ length left.entry.view.bytes.now }
@@ -333,9 +325,7 @@ fn widen_kind<'a, const N: usize, const WIDTH: usize, const BYTES: usize, K: Kin
     requires lanes { (0 < N) × (N ≤ u64.BITS) }
     requires room { left.at + length (view_units left.view) ≤ length units.old }
     requires some { 0 < length left.view.bytes.now }
-    ensures units { take result.at units.new ++ view_units result.view ≡ take left.entry.at units.old ++ view_units left.entry.view }
-    ensures as_many { result.at + length (view_units result.view) ≡ left.entry.at + length (view_units left.entry.view) }
-    ensures len { length units.new ≡ length units.old }
+    ensures written { Writes units.old left.entry.at (view_units left.entry.view) units.new result.at (view_units result.view) }
     ensures shorter { length result.view.bytes.now < length left.entry.view.bytes.now }
 {
     let mut rest = left;
@@ -359,9 +349,7 @@ fn widen_kind<'a, const N: usize, const WIDTH: usize, const BYTES: usize, K: Kin
 fn widen_front<'a>(units: &mut [u16], left: Unwritten<'a>) -> Unwritten<'a>
     requires room { left.at + length (view_units left.view) ≤ length units.old }
     requires some { 0 < length left.view.bytes.now }
-    ensures units { take result.at units.new ++ view_units result.view ≡ take left.entry.at units.old ++ view_units left.entry.view }
-    ensures as_many { result.at + length (view_units result.view) ≡ left.entry.at + length (view_units left.entry.view) }
-    ensures len { length units.new ≡ length units.old }
+    ensures written { Writes units.old left.entry.at (view_units left.entry.view) units.new result.at (view_units result.view) }
     ensures shorter { length result.view.bytes.now < length left.entry.view.bytes.now }
 {
     let bytes = left.view.bytes;
