@@ -15,8 +15,8 @@ use crate::ours;
 use crate::random::Random;
 use crate::say;
 
-/// The loops by number, as the proved library's exports know them.
-const LOOPS: [(u32, &str); 20] = [
+/// The loops over strings of some units by number, as the proved library's exports know them.
+const LOOPS: [(u32, &str); 21] = [
     (1, "from_ill_formed_utf16"),
     (2, "to_ill_formed_utf16, collected"),
     (3, "to_ill_formed_utf16, summed"),
@@ -37,7 +37,14 @@ const LOOPS: [(u32, &str); 20] = [
     (18, "cmp_units"),
     (19, "clone and truncate_units"),
     (20, "append_units"),
+    (21, "UnitText, push of each unit"),
 ];
+
+/// Those of them that compare two strings.
+const COMPARING: [u32; 3] = [11, 12, 18];
+
+/// The loops over the lines among the units.
+const LOOPS_OF_LINES: [(u32, &str); 2] = [(22, "sort"), (23, "BTreeMap, get of each key")];
 
 /// How often a column is timed.
 const TURNS: usize = 120;
@@ -55,10 +62,27 @@ struct Row {
 
 /// The rows of the table: each with the number of its loop, its name, and its input.
 fn all_rows() -> Vec<(u32, String, Input)> {
-    let of_input = |input: Input| {
-        LOOPS.map(|(number, call)| (number, format!("{call}\t{}", input.name), input.clone()))
-    };
-    inputs::all().into_iter().flat_map(of_input).collect()
+    let mut rows = Vec::new();
+    for input in inputs::all() {
+        rows.extend(LOOPS.map(|(number, call)| row(number, call, &input)));
+    }
+    for (place, input) in inputs::pairs() {
+        let comparing = LOOPS
+            .into_iter()
+            .filter(|(number, _)| COMPARING.contains(number));
+        rows.extend(
+            comparing.map(|(number, call)| {
+                row(number, &format!("{call}, {place} unit differs"), &input)
+            }),
+        );
+    }
+    let lines = inputs::lines();
+    rows.extend(LOOPS_OF_LINES.map(|(number, call)| row(number, call, &lines)));
+    rows
+}
+
+fn row(number: u32, call: &str, input: &Input) -> (u32, String, Input) {
+    (number, format!("{call}\t{}", input.name), input.clone())
 }
 
 /// Times the rows whose name has the filter in it, prints them, and writes them to a file that `table` reads.
@@ -95,11 +119,11 @@ fn write_file(file: &Path, text: &str) {
     }
 }
 
-/// Prints the names of the rows with the filter in them, each with the number of units that its input has.
+/// Prints the names of the rows with the filter in them, each with the number of items that a round of it has.
 pub fn rows(filter: &str) -> bool {
     for (_, name, input) in all_rows() {
         if name.contains(filter) {
-            say!("{name}\t{}", input.units.len());
+            say!("{name}\t{}", input.items);
         }
     }
     true
@@ -115,8 +139,8 @@ pub fn run_loop(column: &str, row: &str, rounds: &str) -> bool {
         fail(&format!("{rounds} is no number of rounds"));
     };
     let sum = match column {
-        "proved" => Some(ours::time(number, &input.units, rounds)),
-        "crate" => original::Bench::new(&input.units).run(number, rounds),
+        "proved" => Some(ours::time(number, &input.units, &input.others, rounds)),
+        "crate" => original::Bench::new(number, &input.units, &input.others).run(number, rounds),
         _ => fail(&format!("no column {column}: proved or crate")),
     };
     say!("{}", sum.unwrap_or_default());
@@ -126,22 +150,23 @@ pub fn run_loop(column: &str, row: &str, rounds: &str) -> bool {
 /// Times a row, or answers `None` where the sides' answers differ. Each side has rounds of its own, so that a turn of each
 /// takes as long.
 fn time(number: u32, name: String, input: &Input) -> Option<Row> {
+    let Input { units, others, .. } = input;
     let rounds = rounds_of_a_turn(|rounds| {
-        black_box(original::Bench::new(&input.units).run(number, rounds));
+        black_box(original::Bench::new(number, units, others).run(number, rounds));
     });
     let own_rounds = rounds_of_a_turn(|rounds| {
-        black_box(ours::time(number, &input.units, rounds));
+        black_box(ours::time(number, units, others, rounds));
     });
-    let answer = ours::time(number, &input.units, rounds);
+    let answer = ours::time(number, units, others, rounds);
     let mut random = Random::new(u64::from(number));
     let mut least = [f64::INFINITY; 4];
     for _ in 0..TURNS {
         // Where strings lie may decide as much as what is done with them, so each turn makes all of them elsewhere, and
         // each side's when no other side's are there.
         let _elsewhere = black_box(vec![0u8; random.between(1, 8192) as usize]);
-        let (made, _) = timed(|| ours::time(number, &input.units, 0));
-        let (with_making, _) = timed(|| ours::time(number, &input.units, own_rounds));
-        let original = original::Bench::new(&input.units);
+        let (made, _) = timed(|| ours::time(number, units, others, 0));
+        let (with_making, _) = timed(|| ours::time(number, units, others, own_rounds));
+        let original = original::Bench::new(number, units, others);
         let (crate_time, crate_answer) = timed(|| original.run(number, rounds));
         drop(original);
         if crate_answer.is_some_and(|crate_answer| crate_answer != answer) {
@@ -155,7 +180,7 @@ fn time(number: u32, name: String, input: &Input) -> Option<Row> {
         }
         #[cfg(std_wtf8)]
         {
-            let standard = standard::Bench::new(&input.units);
+            let standard = standard::Bench::new(number, units, others);
             let (standard_time, standard_answer) = timed(|| standard.run(number, rounds));
             if standard_answer.is_some_and(|standard_answer| standard_answer != answer) {
                 say!("DIFFERENT ANSWERS in {name}: {answer} and {standard_answer:?}");
@@ -166,7 +191,7 @@ fn time(number: u32, name: String, input: &Input) -> Option<Row> {
             }
         }
     }
-    let items = |rounds: u32| f64::from(rounds) * input.units.len() as f64;
+    let items = |rounds: u32| f64::from(rounds) * input.items as f64;
     Some(Row {
         name,
         ours: (least[1] - least[0]).max(0.0) / items(own_rounds),
@@ -193,38 +218,56 @@ fn timed<T>(run: impl FnOnce() -> T) -> (f64, T) {
     (start.elapsed().as_nanos() as f64, answer)
 }
 
-/// Prints the table of some files of rows, those of the two cargo profiles with the code in two places. A row's numbers are
-/// the least in all of them.
+/// Prints the tables of some files of rows, those of the two cargo profiles with the code in two places: the rows above 1.00,
+/// the greatest first, and all rows. A row's numbers are the least in all of the files.
 pub fn table(files: &[&str]) -> bool {
     let texts: Vec<String> = files.iter().map(|file| rows_of_file(file)).collect();
+    let all: Vec<(f64, String)> = texts[0]
+        .lines()
+        .map(|line| table_row(line, &texts))
+        .collect();
+    let mut above: Vec<_> = all.iter().filter(|(ratio, _)| *ratio > 1.0).collect();
+    above.sort_by(|(one, _), (other, _)| other.total_cmp(one));
+    say!("The rows above 1.00:\n");
+    say_table(above.into_iter());
+    say!("\nAll rows:\n");
+    say_table(all.iter());
+    true
+}
+
+fn say_table<'a>(rows: impl Iterator<Item = &'a (f64, String)>) {
     say!("| Call | Input | proved, ns | crate, ns | ratio | standard library, ns |");
     say!("|---|---|---|---|---|---|");
-    for line in texts[0].lines() {
-        let words: Vec<&str> = line.split('\t').collect();
-        let same = texts.iter().flat_map(|text| text.lines());
-        let rows: Vec<Vec<f64>> = same
-            .filter_map(|line| numbers_of(line, &words[..2]))
-            .collect();
-        let least = |column: usize| {
-            rows.iter()
-                .map(|row| row[column])
-                .fold(f64::INFINITY, f64::min)
-        };
-        let (ours, original, standard) = (least(0), least(1), least(2));
-        let ratio = match original.is_finite() {
-            true => format!("{:.2}", ours / original),
-            false => "-".to_owned(),
-        };
-        say!(
-            "| {} | {} | {} | {} | {ratio} | {} |",
-            words[0],
-            words[1],
-            shown(ours),
-            shown(original),
-            shown(standard)
-        );
+    for (_, row) in rows {
+        say!("{row}");
     }
-    true
+}
+
+/// The ratio of a row of files, as it is shown, and its line in the table.
+fn table_row(line: &str, texts: &[String]) -> (f64, String) {
+    let words: Vec<&str> = line.split('\t').collect();
+    let same = texts.iter().flat_map(|text| text.lines());
+    let rows: Vec<Vec<f64>> = same
+        .filter_map(|line| numbers_of(line, &words[..2]))
+        .collect();
+    let least = |column: usize| {
+        let times = rows.iter().map(|row| row[column]);
+        times.fold(f64::INFINITY, f64::min)
+    };
+    let (ours, original, standard) = (least(0), least(1), least(2));
+    let (ratio, shown_ratio) = match original.is_finite() {
+        true => (ours / original, format!("{:.2}", ours / original)),
+        false => (0.0, "-".to_owned()),
+    };
+    let line = format!(
+        "| {} | {} | {} | {} | {shown_ratio} | {} |",
+        words[0],
+        words[1],
+        shown(ours),
+        shown(original),
+        shown(standard)
+    );
+    ((100.0 * ratio).round() / 100.0, line)
 }
 
 /// The text of a file of rows, or the end of the program with one line that says what is wrong with it.

@@ -1,37 +1,56 @@
 //! The timed loops over the original crate, and over the standard library's own WTF-8 where the compiler gives it.
 
+use std::collections::BTreeMap;
 use std::hash::Hash;
 use std::hint::black_box;
 
 use crate::fed::fed_by;
+use crate::inputs::LINE_END;
 
 /// How many equal strings a loop goes round.
 const STRINGS: usize = 4;
+
+/// The number of the first loop over the lines among the units.
+const FIRST_OF_LINES: u32 = 22;
 
 /// Declares a module with the loops over one crate's strings. Its arguments are what the crates name differently.
 macro_rules! column {
     ($module:ident, $path:path, $from_units:ident, $units:ident, $is_text:ident) => {
         pub mod $module {
-            use super::{black_box, hex_dump, STRINGS};
-            use $path::{CodePoint, Wtf8Buf};
+            use super::{black_box, hex_dump, BTreeMap, FIRST_OF_LINES, LINE_END, STRINGS};
+            use $path::{CodePoint, Wtf8, Wtf8Buf};
 
             pub struct Bench {
                 units: Vec<u16>,
                 strings: [Wtf8Buf; STRINGS],
+                others: Option<[Wtf8Buf; STRINGS]>,
+                lines: Vec<Wtf8Buf>,
                 points: Vec<CodePoint>,
             }
 
             impl Bench {
-                /// Equal strings of some units, and what else the loops work on, made in the same order as the proved
-                /// library's, so that they lie alike.
-                pub fn new(units: &[u16]) -> Bench {
+                /// Equal strings of some units for the loop of a number, those of other units that they are compared with,
+                /// if there are any, and what else the loops work on, made in the same order as the proved library's, so
+                /// that they lie alike.
+                pub fn new(number: u32, units: &[u16], others: &[u16]) -> Bench {
                     let string = Wtf8Buf::$from_units(units);
                     let points = string.code_points().collect();
-                    Bench {
+                    let mut bench = Bench {
                         strings: std::array::from_fn(|_| string.clone()),
                         units: units.to_vec(),
+                        others: None,
+                        lines: Vec::new(),
                         points,
+                    };
+                    if !others.is_empty() {
+                        let string = Wtf8Buf::$from_units(others);
+                        bench.others = Some(std::array::from_fn(|_| string.clone()));
                     }
+                    if FIRST_OF_LINES <= number {
+                        let lines = units.split(|unit| *unit == LINE_END);
+                        bench.lines = lines.map(|line| Wtf8Buf::$from_units(line)).collect();
+                    }
+                    bench
                 }
 
                 fn string_at(&self, round: u32) -> &Wtf8Buf {
@@ -79,14 +98,8 @@ macro_rules! column {
                             black_box(string).len() as u64
                         })),
                         10 => Some(self.push_string(rounds)),
-                        11 => Some(sum(rounds, |round| {
-                            let other = round / STRINGS as u32 + 1;
-                            u64::from(self.string_at(round) == self.string_at(other))
-                        })),
-                        12 => Some(sum(rounds, |round| {
-                            let other = round / STRINGS as u32 + 1;
-                            u64::from(self.string_at(round).cmp(self.string_at(other)).is_eq())
-                        })),
+                        11 => Some(self.compare(rounds, |own, other| own == other)),
+                        12 => Some(self.compare(rounds, |own, other| own.cmp(other).is_le())),
                         13 => Some(sum(rounds, |round| {
                             black_box(self.string_at(round).clone()).len() as u64
                         })),
@@ -104,16 +117,26 @@ macro_rules! column {
                             let begin = self.units.len() / 4;
                             self.part(round, begin, self.units.len() - 2 * begin)
                         })),
-                        18 => Some(sum(rounds, |round| {
-                            let other = self.string_at(round / STRINGS as u32 + 1);
-                            let order = self.string_at(round).$units().cmp(other.$units());
-                            u64::from(order.is_eq())
+                        18 => Some(self.compare(rounds, |own, other| {
+                            own.$units().cmp(other.$units()).is_le()
                         })),
                         19 => Some(sum(rounds, |round| {
                             self.part(round, 0, self.units.len() / 2)
                         })),
+                        21 => Some(sum(rounds, |_| self.push_units())),
+                        22 => Some(sum(rounds, |_| self.sort())),
+                        23 => Some(self.look_up(rounds)),
                         _ => None,
                     }
+                }
+
+                /// In how many rounds the round's string and the one that it is compared with are so.
+                fn compare(&self, rounds: u32, are: impl Fn(&Wtf8Buf, &Wtf8Buf) -> bool) -> u64 {
+                    let others = self.others.as_ref().unwrap_or(&self.strings);
+                    sum(rounds, |round| {
+                        let other = &others[(round / STRINGS as u32 + 1) as usize % STRINGS];
+                        u64::from(are(self.string_at(round), black_box(other)))
+                    })
                 }
 
                 /// Makes a string of so many units behind the first ones, and answers its length.
@@ -130,6 +153,35 @@ macro_rules! column {
                         string.push(*point);
                     }
                     black_box(string).len() as u64
+                }
+
+                /// The length of a string of all units, each pushed as a code point.
+                #[inline(never)]
+                fn push_units(&self) -> u64 {
+                    let mut string = Wtf8Buf::new();
+                    for unit in black_box(&self.units) {
+                        string.push(CodePoint::from_u32(u32::from(*unit)).unwrap());
+                    }
+                    black_box(string).len() as u64
+                }
+
+                #[inline(never)]
+                fn sort(&self) -> u64 {
+                    let mut views: Vec<&Wtf8> =
+                        black_box(&self.lines).iter().map(|line| &**line).collect();
+                    views.sort();
+                    black_box(&views)[views.len() / 2].len() as u64
+                }
+
+                #[inline(never)]
+                fn look_up(&self, rounds: u32) -> u64 {
+                    let lines = self.lines.iter().zip(0u64..);
+                    let places: BTreeMap<&Wtf8, u64> =
+                        lines.map(|(line, place)| (&**line, place)).collect();
+                    sum(rounds, |_| {
+                        let found = black_box(&self.lines).iter().map(|line| places[&**line]);
+                        found.fold(0, u64::wrapping_add)
+                    })
                 }
 
                 #[inline(never)]

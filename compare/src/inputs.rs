@@ -4,9 +4,33 @@ use crate::random::Random;
 
 #[derive(Clone)]
 pub struct Input {
-    pub name: &'static str,
+    pub name: String,
     pub units: Vec<u16>,
+    /// The units of the strings that these are compared with; none where they are compared with equal ones.
+    pub others: Vec<u16>,
+    /// How many items a round has: units, or lines.
+    pub items: usize,
 }
+
+impl Input {
+    fn new(name: &str, units: Vec<u16>) -> Input {
+        Input {
+            name: name.to_owned(),
+            items: units.len(),
+            units,
+            others: Vec::new(),
+        }
+    }
+}
+
+/// The unit that ends a line.
+pub const LINE_END: u16 = 0x0A;
+
+/// The name of a short input of one code point of each kind after another.
+const KINDS_THAT_DIFFER: &str = "12 units, kinds that differ";
+
+/// How many lines the list of file names has.
+const LINES: usize = 1000;
 
 /// How many units the long inputs have.
 const LONG: usize = 4096;
@@ -29,6 +53,10 @@ pub fn all() -> Vec<Input> {
             0 => random.between(0x20, 0x7E),
             _ => random.between(0x10000, 0x1FFFF),
         }),
+        long("all planes", |random| match random.below(17) {
+            0 => random.between(0x20, 0xD7FF),
+            plane => (plane as u32) << 16 | random.between(0, 0xFFFF),
+        }),
         long("1% surrogates", |random| match random.below(100) {
             0 => random.between(0xD800, 0xDFFF),
             _ => random.between(0x20, 0x7E),
@@ -39,14 +67,66 @@ pub fn all() -> Vec<Input> {
         }),
     ];
     for (name, length) in [("5 units", 5), ("12 units", 12), ("40 units", 40)] {
-        inputs.push(Input {
-            name,
-            units: units(length, |random| random.between(0x20, 0x7E)),
-        });
+        let units = units(length, |random| random.between(0x20, 0x7E));
+        inputs.push(Input::new(name, units));
     }
+    let kinds = "a\u{E9}\u{4E2D}z\u{1F600}\u{436}\u{65E5}b\u{A3}\u{10FFFF}";
+    inputs.push(Input::new(
+        KINDS_THAT_DIFFER,
+        kinds.encode_utf16().collect(),
+    ));
     inputs.push(joining());
     inputs.extend(texts_of_people());
     inputs
+}
+
+/// The inputs that are compared with strings that differ from them in one unit, each beside the name of its place: the first,
+/// the middle or the last one.
+pub fn pairs() -> Vec<(&'static str, Input)> {
+    let names = [
+        "ASCII",
+        "CJK",
+        "mixed",
+        "5 units",
+        "12 units",
+        "40 units",
+        KINDS_THAT_DIFFER,
+    ];
+    let inputs = all()
+        .into_iter()
+        .filter(|input| names.contains(&input.name.as_str()));
+    inputs.flat_map(differing).collect()
+}
+
+fn differing(input: Input) -> [(&'static str, Input); 3] {
+    let last = input.units.len() - 1;
+    [("first", 0), ("middle", last / 2), ("last", last)].map(|(place, at)| {
+        let mut pair = input.clone();
+        pair.others = input.units.clone();
+        // The unit is of the same kind, and a half of a pair stays one.
+        pair.others[at] ^= 1;
+        (place, pair)
+    })
+}
+
+/// A list of file names, a line each: of a few folders, with numbers and endings, some with letters beyond ASCII.
+pub fn lines() -> Input {
+    let folders = ["src", "docs", "images", "\u{65E5}\u{672C}"];
+    let names = ["report", "IMG_", "notes", "\u{E9}t\u{E9}", "main"];
+    let endings = [".txt", ".png", ".html"];
+    let mut random = Random::new(LINES as u64);
+    let mut lines = Vec::new();
+    for number in 0..LINES {
+        let (folder, name) = (random.pick(&folders), random.pick(&names));
+        lines.push(format!("{folder}/{name}{number}{}", random.pick(&endings)));
+    }
+    Input {
+        items: LINES,
+        ..Input::new(
+            "1,000 file names",
+            lines.join("\n").encode_utf16().collect(),
+        )
+    }
 }
 
 /// Texts as people have them: none is of one kind, and none repeats.
@@ -92,10 +172,7 @@ pub fn texts(length: usize) -> [Input; 3] {
         units(length, mixed),
     ];
     let mut names = NAMES_OF_TEXTS.iter();
-    made.map(|units| Input {
-        name: names.next().unwrap_or(&""),
-        units,
-    })
+    made.map(|units| Input::new(names.next().unwrap_or(&""), units))
 }
 
 fn mixed(random: &mut Random) -> u32 {
@@ -112,24 +189,15 @@ fn joining() -> Input {
     let mut units = units(40, |random| random.between(0x20, 0x7E));
     units[0] = 0xDC00;
     units[39] = 0xD83D;
-    Input {
-        name: "40 units, ends that join",
-        units,
-    }
+    Input::new("40 units, ends that join", units)
 }
 
 fn text(name: &'static str, point: impl Fn(&mut Random) -> u32) -> Input {
-    Input {
-        name,
-        units: units(TEXT, point),
-    }
+    Input::new(name, units(TEXT, point))
 }
 
 fn long(name: &'static str, point: impl Fn(&mut Random) -> u32) -> Input {
-    Input {
-        name,
-        units: units(LONG, point),
-    }
+    Input::new(name, units(LONG, point))
 }
 
 fn units(length: usize, point: impl Fn(&mut Random) -> u32) -> Vec<u16> {

@@ -49,7 +49,9 @@ pub fn run(table: &Path, file: &Path) -> bool {
         Ok(text) => text,
         Err(error) => fail(&format!("{}: {error}", table.display())),
     };
-    let timings: Vec<Timing> = text.lines().filter_map(timing_of).collect();
+    // The rows above 1.00 may stand in a table of their own before that of all rows.
+    let all_rows = text.rsplit("| Call |").next().unwrap_or(&text);
+    let timings: Vec<Timing> = all_rows.lines().filter_map(timing_of).collect();
     if timings.is_empty() {
         fail(&format!("{}: no row of timings", table.display()));
     }

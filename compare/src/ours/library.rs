@@ -15,6 +15,8 @@ extern "C" {
         number: u32,
         units: *const u16,
         units_len: usize,
+        others: *const u16,
+        others_len: usize,
         rounds: u32,
         sum: *mut u64,
     ) -> i64;
@@ -55,11 +57,21 @@ pub fn run_all(scripts: &[Vec<u8>]) -> Vec<String> {
     scripts.iter().map(|script| run(script)).collect()
 }
 
-/// Runs a timed loop of the proved library, and answers its sum.
-pub fn time(number: u32, units: &[u16], rounds: u32) -> u64 {
+/// Runs a timed loop of the proved library over strings of some units and those of others that they are compared with, and
+/// answers its sum.
+pub fn time(number: u32, units: &[u16], others: &[u16], rounds: u32) -> u64 {
     let mut sum = 0;
-    let status =
-        unsafe { compare_exports_time(number, units.as_ptr(), units.len(), rounds, &mut sum) };
+    let status = unsafe {
+        compare_exports_time(
+            number,
+            units.as_ptr(),
+            units.len(),
+            others.as_ptr(),
+            others.len(),
+            rounds,
+            &mut sum,
+        )
+    };
     match status {
         0 => sum,
         _ => fail(&format!("the proved library's loop {number} gave {status}")),

@@ -45,7 +45,7 @@ pub fn run_all(scripts: &[Vec<u8>]) -> Vec<String> {
 }
 
 /// The timed loops are exports of the library alone.
-pub fn time(_number: u32, _units: &[u16], _rounds: u32) -> u64 {
+pub fn time(_number: u32, _units: &[u16], _others: &[u16], _rounds: u32) -> u64 {
     fail("the timed loops want the library: leave out COMPARE_PROGRAM")
 }
 

@@ -45,8 +45,9 @@ pub extern "C" fn compare_exports_run(alloc: Global, script: &[u8], out: &mut [u
     }
 }
 
-/// Makes equal strings of some units, runs the loop of a number, 1 to 20, over them for so many rounds, and writes to
-/// `sum` a sum over what its calls answered, which wraps round at 2^64. With no rounds it makes the strings alone.
+/// Makes equal strings of some units, and of other units those that they are compared with, if there are any, runs the loop
+/// of a number, 1 to 23, over them for so many rounds, and writes to `sum` a sum over what its calls answered, which wraps
+/// round at 2^64. With no rounds it makes the strings alone. Loops 22 and 23 work on the lines among the units.
 ///
 /// It answers 0, or a number below 0 where `sum` is left as it was: -1 where the number has no loop, -2 for want of
 /// memory.
@@ -55,17 +56,18 @@ pub extern "C" fn compare_exports_time(
     alloc: Global,
     number: u32,
     units: &[u16],
+    others: &[u16],
     rounds: u32,
     sum: &mut u64,
 ) -> i64
     ensures code { (result ≡ pos 0) ⊎ ((result ≡ NO_LOOP) ⊎ (result ≡ MEMORY)) }
     ensures kept { result <ℤ pos 0 → sum.new ≡ sum.old }
-    ensures no_loop { (result ≡ NO_LOOP) ↔ ((number ≡ 0) ⊎ (20 < number)) }
+    ensures no_loop { (result ≡ NO_LOOP) ↔ ((number ≡ 0) ⊎ (23 < number)) }
 {
     if number == 0 || LAST < number {
         return NO_LOOP;
     }
-    match Bench::new(alloc, number, units, rounds).and_then(|bench| bench.run(number)) {
+    match Bench::new(alloc, number, units, others, rounds).and_then(|bench| bench.run(number)) {
         Ok(answer) => {
             *sum = answer;
             0

@@ -6,16 +6,26 @@ ghost use Rattle.std.specs.Prelude.{◌<◌, ◌≤◌};
 use crate::counted::Counted;
 use std::alloc::{AllocError, Global};
 use std::array;
+use std::collections::BTreeMap;
+use unit_text::UnitText;
 use wtf8::{CodePoint, Wtf8, Wtf8Buf};
 
 /// How many equal strings a loop goes round.
 pub const STRINGS: usize = 4;
 
-/// The number of the first loop that counts in units.
+/// The numbers of the first loop that counts in units and of the last one.
 const FIRST_COUNTED: u32 = 15;
 
+const LAST_COUNTED: u32 = 20;
+
+/// The number of the first loop over the lines among the units.
+const FIRST_OF_LINES: u32 = 22;
+
 /// The number of the last loop.
-pub const LAST: u32 = 20;
+pub const LAST: u32 = 23;
+
+/// The unit that ends a line.
+const LINE_END: u16 = 0x0A;
 
 /// What the loops work on.
 #[derive(Drop)]
@@ -23,35 +33,49 @@ pub struct Bench {
     alloc: Global,
     units: Vec<u16>,
     strings: [Counted; STRINGS],
+    others: Option<[Counted; STRINGS]>,
+    lines: Vec<Wtf8Buf<Global>>,
     points: Vec<CodePoint>,
     rounds: u32,
 }
 
 impl Bench {
-    /// Equal strings of some units for the loop of a number, and the loop's number of rounds.
+    /// Equal strings of some units for the loop of a number, those of other units that they are compared with, if there are
+    /// any, and the loop's number of rounds.
     pub fn new(
         alloc: Global,
         number: u32,
         units: &[u16],
+        others: &[u16],
         rounds: u32,
     ) -> Result<Bench, AllocError> {
         let string = Wtf8Buf::from_ill_formed_utf16(alloc, units)?;
         let points = string.as_wtf8().code_points().collect(alloc)?;
-        let counted = counted_units(number, units);
-        let strings = array::try_from_fn(|_| Counted::new(alloc, string.clone()?, counted))?;
-        Ok(Bench {
+        let strings = equal_strings(&string, alloc, counted_units(number, units))?;
+        let mut bench = Bench {
             alloc,
             units: Vec::from_slice(alloc, units)?,
             strings,
+            others: None,
+            lines: Vec::new(alloc),
             points,
             rounds,
-        })
+        };
+        if !others.is_empty() {
+            let string = Wtf8Buf::from_ill_formed_utf16(alloc, others)?;
+            let others = equal_strings(&string, alloc, counted_units(number, others))?;
+            bench.others = Some(others);
+        }
+        if FIRST_OF_LINES <= number {
+            bench.lines = lines(alloc, units)?;
+        }
+        Ok(bench)
     }
 
     /// Runs the loop of a number, and answers a sum over what its calls answered.
     pub fn run(&self, number: u32) -> Result<u64, AllocError>
         requires least { 0 < number }
-        requires most { number ≤ 20 }
+        requires most { number ≤ 23 }
     {
         match number {
             1 => self.sum::<1>(),
@@ -74,6 +98,9 @@ impl Bench {
             18 => self.sum::<18>(),
             19 => self.sum::<19>(),
             20 => self.sum::<20>(),
+            21 => self.sum::<21>(),
+            22 => self.sort(),
+            23 => self.look_up(),
             _ => unreachable!(),
         }
     }
@@ -82,9 +109,10 @@ impl Bench {
     /// function of its own, so that where its code lies does not depend on the other loops.
     #[inline(never)]
     fn sum<const LOOP: u32>(&self) -> Result<u64, AllocError> {
+        let others = self.others.as_ref().unwrap_or(&self.strings);
         let mut sum = 0u64;
         for round in 0..self.rounds {
-            let other = self.string_at(round / STRINGS as u32 + 1);
+            let other = &others[(round / STRINGS as u32 + 1) as usize % STRINGS];
             sum = sum.wrapping_add(self.answer::<LOOP>(self.string_at(round), other)?);
         }
         Ok(sum)
@@ -112,15 +140,16 @@ impl Bench {
             7 => own.string.clone()?.into_string().is_ok() as u64,
             8 => self.push()?,
             11 => (own.string == other.string) as u64,
-            12 => own.string.cmp(&other.string).is_eq() as u64,
+            12 => own.string.cmp(&other.string).is_le() as u64,
             13 => own.string.clone()?.len() as u64,
             14 => own.view().hex_dump(self.alloc)?.len() as u64,
             15 => own.text.unit_len() as u64,
             16 => u64::from(own.middle_unit()),
             17 => own.middle_half(self.alloc)?.as_wtf8().len() as u64,
-            18 => own.text.cmp_units(&other.text).is_eq() as u64,
+            18 => own.text.cmp_units(&other.text).is_le() as u64,
             19 => own.first_half()?.len() as u64,
             20 => appended_units(self.alloc, own.view())?,
+            21 => grown_text(self.alloc, self.units.as_slice())?,
             _ => 0,
         };
         Ok(answer)
@@ -153,6 +182,39 @@ impl Bench {
         Ok(sum)
     }
 
+    /// The sum of the lengths of the line that stands in the middle once all are sorted, in each round.
+    #[inline(never)]
+    fn sort(&self) -> Result<u64, AllocError> {
+        let mut sum = 0u64;
+        for _ in 0..self.rounds {
+            let mut views = Vec::with_capacity(self.alloc, self.lines.len())?;
+            for line in &self.lines {
+                views.push(line.as_wtf8())?;
+            }
+            views.sort()?;
+            let middle = views.get(views.len() / 2);
+            sum = sum.wrapping_add(middle.map_or(0, |view| view.len()) as u64);
+        }
+        Ok(sum)
+    }
+
+    /// The sum of the places of all lines, each of which is looked up in a map in each round.
+    #[inline(never)]
+    fn look_up(&self) -> Result<u64, AllocError> {
+        let mut places = BTreeMap::new(self.alloc);
+        for (place, line) in self.lines.iter().enumerate() {
+            places.insert(line.as_wtf8(), place as u64)?;
+        }
+        let mut sum = 0u64;
+        for _ in 0..self.rounds {
+            for line in &self.lines {
+                let place = places.get(&line.as_wtf8()).copied();
+                sum = sum.wrapping_add(place.unwrap_or(0));
+            }
+        }
+        Ok(sum)
+    }
+
     /// The length of the last string that was pushed to, up to 64 times each.
     #[inline(never)]
     fn push_strings(&self) -> Result<u64, AllocError> {
@@ -167,13 +229,41 @@ impl Bench {
     }
 }
 
+/// Equal strings, with texts of the units that a loop counts in.
+fn equal_strings(
+    string: &Wtf8Buf<Global>,
+    alloc: Global,
+    counted: &[u16],
+) -> Result<[Counted; STRINGS], AllocError> {
+    array::try_from_fn(|_| Counted::new(alloc, string.clone()?, counted))
+}
+
 /// The units that the loop of a number counts in. Where it counts in none the strings stand alone, so that they lie in
 /// memory as those of a library without such calls.
 fn counted_units(number: u32, units: &[u16]) -> &[u16] {
-    if number < FIRST_COUNTED {
+    if number < FIRST_COUNTED || LAST_COUNTED < number {
         return &units[..0];
     }
     units
+}
+
+/// The strings of the lines among some units.
+fn lines(alloc: Global, units: &[u16]) -> Result<Vec<Wtf8Buf<Global>>, AllocError> {
+    let mut lines = Vec::new(alloc);
+    for line in units.split(|unit| *unit == LINE_END) {
+        lines.push(Wtf8Buf::from_ill_formed_utf16(alloc, line)?)?;
+    }
+    Ok(lines)
+}
+
+/// How many bytes a text has that is grown by single units.
+#[inline(never)]
+fn grown_text(alloc: Global, units: &[u16]) -> Result<u64, AllocError> {
+    let mut text = UnitText::from_units(alloc, &[])?;
+    for unit in units {
+        text.push(*unit)?;
+    }
+    Ok(text.as_wtf8().len() as u64)
 }
 
 /// How many units a view has, by those that it appends to none.

@@ -1,5 +1,5 @@
 -- For private functions: code points of equally many bytes, one behind the other, and their units.
-use Rattle.std.specs.Prelude.{◌≡◌, ℕ, zero, suc, ◌+◌, ◌*◌, ◌/◌, ◌%◌, List, [], ◌∷◌, ◌++◌, drop, get_or}
+use Rattle.std.specs.Prelude.{◌≡◌, ℕ, zero, suc, ◌+◌, ◌*◌, ◌/◌, ◌%◌, List, [], ◌∷◌, ◌++◌, length, take, drop, get_or}
 use Rattle.wtf8.specs.Form.{IsWellFormed}
 use Rattle.wtf8.specs.Unicode.{units}
 
@@ -29,3 +29,9 @@ units_of_rows n f (suc k) w = f w ∷ units_of_rows n f k (drop n w)
 -- Bytes of a string begin with these units, and hold the rest of the string from a place on.
 abbrev pub BeginsWithUnits : List ℕ → List ℕ → ℕ → Type 0
 BeginsWithUnits w v at = (h : IsWellFormed w) → (rest : IsWellFormed (drop at w)) × (units h.points ≡ v ++ units rest.points)
+
+-- Units that were left are written from a place on: those before a further place, and the rest behind them, are what they were with all that was left.
+pub record Writes (old : List ℕ) (at : ℕ) (left new : List ℕ) (behind : ℕ) (rest : List ℕ) : Type 0 where
+  pub units : take behind new ++ rest ≡ take at old ++ left
+  pub as_many : behind + length rest ≡ at + length left
+  pub len : length new ≡ length old

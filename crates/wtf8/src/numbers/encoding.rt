@@ -145,7 +145,12 @@ pub(crate) fn append_into<A: Allocator>(
         bytes.push_reserved(second);
         bytes.push_reserved(third);
     } else {
-        bytes.extend_from_slice(&four_bytes(value))?;
+        let [first, second, third, fourth] = four_bytes(value);
+        find_room(bytes, spare, 4)?;
+        bytes.push_reserved(first);
+        bytes.push_reserved(second);
+        bytes.push_reserved(third);
+        bytes.push_reserved(fourth);
     }
     Ok(())
 }

@@ -1,5 +1,5 @@
 // Positions counted in 16-bit units.
-ghost use Rattle.std.specs.Prelude.{◌≡◌, ◌++◌, ◌+◌, ◌-◌, ◌*◌, ◌/◌, ◌%◌, ◌^◌, ◌<◌, ◌≤◌, length, map, take, drop, slice_get, Some, IfSome, IfNone, IsSome, ◌↔◌};
+ghost use Rattle.std.specs.Prelude.{◌≡◌, ◌++◌, ◌+◌, ◌-◌, ◌*◌, ◌/◌, ◌%◌, ◌^◌, ◌<◌, ◌≤◌, length, map, take, drop, slice_get, Some, IfSome, IfNone, IsSome, IsTrue, ◌↔◌};
 ghost use Rattle.std.specs.Option.{option_to_list};
 ghost use Rattle.wtf8.specs.Form.{encoding};
 ghost use Rattle.wtf8.specs.Unicode.{IsLead};
@@ -39,15 +39,11 @@ struct Place {
 }
 
 /// How many units the code point has whose bytes begin with this one; 0 where none begins with it.
+#[tactic(auto, unfolding(crate::specs::UnitCounts::units_begun))]
 fn units_begun_by(byte: u8) -> usize
     ensures { result ≡ units_begun byte }
 {
-    match byte {
-        0x00..=0x7F => 1,
-        0x80..=0xBF => 0,
-        0xC0..=0xEF => 1,
-        0xF0..=0xFF => 2,
-    }
+    usize::from(encoding::begins_code_point(byte)) + usize::from(0xF0 <= byte)
 }
 
 /// The same for each of `N` bytes.
@@ -271,30 +267,45 @@ fn count_units(bytes: &[u8]) -> usize
     requires { all_units_begun bytes.now < 2 ^ 64 }
     ensures { result ≡ all_units_begun bytes.now }
 {
-    if bytes.len() < HALF_BLOCK {
-        let start = Place {
-            at: 0,
-            units_before: 0,
-        };
-        let place = behind_ascii::<HALF_VECTOR>(bytes, usize::MAX, start).unwrap_or(start);
-        let place = behind_ascii::<4>(bytes, usize::MAX, place).unwrap_or(place);
-        return count_units_from(bytes, place);
+    let mut place = Place {
+        at: 0,
+        units_before: 0,
+    };
+    if HALF_BLOCK <= bytes.len() {
+        place = behind_all_blocks(bytes);
     }
-    count_units_of_many(bytes)
+    while let Some(behind) = behind_block::<HALF_VECTOR>(bytes, usize::MAX, place) {
+        place = behind;
+    }
+    let place = behind_block::<4>(bytes, usize::MAX, place).unwrap_or(place);
+    count_units_from(bytes, place)
 }
 
-/// The same. It stands by itself, so that a short string costs little.
+/// The place behind all blocks. It stands by itself, so that a short string costs little.
 #[inline(never)]
-fn count_units_of_many(bytes: &[u8]) -> usize
+fn behind_all_blocks(bytes: &[u8]) -> Place
     requires { all_units_begun bytes.now < 2 ^ 64 }
-    ensures { result ≡ all_units_begun bytes.now }
+    ensures within { result.at ≤ length bytes.now }
+    ensures counted { result.units_before ≡ all_units_begun (take result.at bytes.now) }
 {
     let mut place = behind_added_blocks(bytes, usize::MAX);
     while let Some(behind) = behind_block::<HALF_BLOCK>(bytes, usize::MAX, place) {
         place = behind;
     }
-    let place = behind_block::<HALF_VECTOR>(bytes, usize::MAX, place).unwrap_or(place);
-    count_units_from(bytes, place)
+    place
+}
+
+/// Whether a string is ASCII, of whose bytes the first `N` and the last `N` are all and may overlap.
+#[inline(always)]
+pub(crate) fn is_ascii<const N: usize>(view: Wtf8<'_>) -> bool
+    requires lanes { N ≤ u64.BITS }
+    requires all { (N ≤ length view.bytes.now) × (length view.bytes.now ≤ 2 * N) }
+    ensures { IsTrue result → view_units view.entry ≡ view.entry.bytes.now }
+{
+    let bytes = view.bytes;
+    let last = bytes.len() - N;
+    is_below(Simd::<u8, N>::from_slice(bytes), 0x80)
+        && is_below(Simd::<u8, N>::from_slice(&bytes[last..]), 0x80)
 }
 
 /// Where a number of units ends in a string: a position in bytes, and the supplementary code point that begins there
@@ -421,9 +432,11 @@ impl<'a> Wtf8<'a> {
     pub fn unit_len(&self) -> usize
         ensures { result ≡ length (view_units self.now) }
     {
-        // There are no more units than bytes.
-        prove!(self.len() <= usize::MAX);
-        count_units(self.bytes)
+        match self.len() {
+            4..=7 if is_ascii::<4>(*self) => self.len(),
+            8..=15 if is_ascii::<HALF_VECTOR>(*self) => self.len(),
+            _ => count_units(self.bytes),
+        }
     }
 
     /// The 16-bit unit of a number, counted from 0, or `None` where there are no more than so many.

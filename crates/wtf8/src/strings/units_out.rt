@@ -6,7 +6,7 @@ ghost use Rattle.wtf8.specs.Form.{IsWellFormed};
 ghost use Rattle.wtf8.specs.Gains.{IsReadAs};
 ghost use Rattle.wtf8.specs.UnitParts.{AreAscii};
 ghost use Rattle.wtf8.specs.Unicode.{units_of};
-ghost use Rattle.wtf8.specs.UnitRows.{IsOfKind, BeginsWithUnits, firsts_of, unit_of_two, unit_of_three, units_of_rows};
+ghost use Rattle.wtf8.specs.UnitRows.{IsOfKind, BeginsWithUnits, firsts_of, unit_of_two, unit_of_three, units_of_rows, Writes};
 ghost use Rattle.wtf8.specs.View.{view_points, view_units};
 
 use crate::lanes::VECTOR;
@@ -14,6 +14,7 @@ use crate::lanes::copies::push_block;
 use crate::numbers::code_point::CodePoint;
 use crate::numbers::encoding;
 use crate::numbers::surrogates::{lead_of, trail_of};
+use crate::strings::unit_positions::is_ascii;
 use crate::strings::view::Wtf8;
 use std::alloc::{AllocError, Allocator};
 use std::simd::prelude::*;
@@ -29,6 +30,10 @@ const FIRST_OF_THREE: [usize; 8] = [0, 3, 6, 9, 12, 15, 18, 21];
 const SECOND_OF_THREE: [usize; 8] = [1, 4, 7, 10, 13, 16, 19, 22];
 
 const THIRD_OF_THREE: [usize; 8] = [2, 5, 8, 11, 14, 17, 20, 23];
+
+/// The units of a string of fewer bytes are written to a block first, so that they need not be counted before there is
+/// room for them.
+const FEW: usize = 4 * VECTOR;
 
 /// Code points of as many bytes each and of one unit each, of which `N` are read from a block of bytes.
 trait Kind<const N: usize, const WIDTH: usize, const BYTES: usize> {
@@ -62,11 +67,12 @@ struct Unwritten<'a> {
 /// Writes a block of units from a place on.
 #[inline(always)]
 fn put<const N: usize>(units: &mut [u16], at: usize, block: [u16; N])
+    requires lanes { N ≤ u64.BITS }
     requires room { at + N ≤ length units.old }
     ensures front { (n : ℕ) → n ≤ N → take (at + n) units.new ≡ take at units.old ++ take n block.entry }
     ensures len { length units.new ≡ length units.old }
 {
-    units[at..at + N].copy_from_slice(&block);
+    Simd::from_array(block).copy_to_slice(&mut units[at..]);
 }
 
 /// Bytes as units.
@@ -78,39 +84,28 @@ fn widened<const N: usize>(block: Simd<u8, N>) -> [u16; N]
     block.cast::<u16>().to_array()
 }
 
-/// Appends fewer bytes than a vector has as units, for which there is room.
+/// Appends the units of a string of ASCII, of whose bytes the first `N` and the last `N` are all and may overlap.
 #[inline(always)]
-fn push_bytes<B: Allocator>(units: &mut Vec<u16, B>, bytes: &[u8])
-    requires few { length bytes.now < VECTOR }
-    requires room { vec_len units.old + length bytes.now ≤ vec_capacity units.old }
-    ensures items { units.new.items ≡ units.old.items ++ bytes.now }
-    ensures capacity { vec_capacity units.old ≤ vec_capacity units.new }
-{
-    if 8 <= bytes.len() {
-        return push_ends::<8, B>(units, bytes);
-    }
-    if 4 <= bytes.len() {
-        return push_ends::<4, B>(units, bytes);
-    }
-    for at in 0..bytes.len() {
-        units.push_reserved(u16::from(bytes[at]));
-    }
-}
-
-/// The same by the first `N` bytes and the last `N`, which are all and may overlap.
-#[inline(always)]
-fn push_ends<const N: usize, B: Allocator>(units: &mut Vec<u16, B>, bytes: &[u8])
+fn append_ascii<const N: usize, B: Allocator>(
+    units: &mut Vec<u16, B>,
+    view: Wtf8<'_>,
+) -> Result<(), AllocError>
     requires lanes { N ≤ u64.BITS }
-    requires all { (N ≤ length bytes.now) × (length bytes.now ≤ 2 * N) }
-    requires room { vec_len units.old + length bytes.now ≤ vec_capacity units.old }
-    ensures items { units.new.items ≡ units.old.items ++ bytes.now }
+    requires all { (N ≤ length view.bytes.now) × (length view.bytes.now ≤ 2 * N) }
+    requires ascii { view_units view ≡ view.bytes.now }
+    ensures ok { OnOk result (units.new.items ≡ units.old.items ++ view_units view.entry) }
+    ensures kept { OnErr result (units.new.items ≡ units.old.items) }
+    ensures room { vec_len units.old + length (view_units view.entry) ≤ vec_capacity units.old → IsOk result }
     ensures capacity { vec_capacity units.old ≤ vec_capacity units.new }
 {
+    let bytes = view.bytes;
+    units.reserve(bytes.len())?;
     let last = bytes.len() - N;
     let end = units.len() + last;
     push_block(units, widened(Simd::<u8, N>::from_slice(bytes)));
     units.truncate(end);
     push_block(units, widened(Simd::<u8, N>::from_slice(&bytes[last..])));
+    Ok(())
 }
 
 /// Writes the units of a code point from a place on, and answers the place behind them.
@@ -137,9 +132,7 @@ fn widen_unit<'a>(units: &mut [u16], left: Unwritten<'a>, value: u32, width: usi
     requires some { 0 < length left.view.bytes.now }
     requires read { IsReadAs left.view.bytes.now value width }
     requires one_unit { value < 0x10000 }
-    ensures units { take result.at units.new ++ view_units result.view ≡ take left.entry.at units.old ++ view_units left.entry.view }
-    ensures as_many { result.at + length (view_units result.view) ≡ left.entry.at + length (view_units left.entry.view) }
-    ensures len { length units.new ≡ length units.old }
+    ensures written { Writes units.old left.entry.at (view_units left.entry.view) units.new result.at (view_units result.view) }
     ensures shorter { length result.view.bytes.now < length left.entry.view.bytes.now }
 {
     put(units, left.at, [value as u16]);
@@ -154,9 +147,7 @@ fn widen_unit<'a>(units: &mut [u16], left: Unwritten<'a>, value: u32, width: usi
 fn widen_point<'a>(units: &mut [u16], left: Unwritten<'a>) -> Unwritten<'a>
     requires room { left.at + length (view_units left.view) ≤ length units.old }
     requires some { 0 < length left.view.bytes.now }
-    ensures units { take result.at units.new ++ view_units result.view ≡ take left.entry.at units.old ++ view_units left.entry.view }
-    ensures as_many { result.at + length (view_units result.view) ≡ left.entry.at + length (view_units left.entry.view) }
-    ensures len { length units.new ≡ length units.old }
+    ensures written { Writes units.old left.entry.at (view_units left.entry.view) units.new result.at (view_units result.view) }
     ensures shorter { length result.view.bytes.now < length left.entry.view.bytes.now }
 {
     let bytes = left.view.bytes;
@@ -204,12 +195,10 @@ fn count_of_kind(bytes: u8x8, size: u8, kind: u8) -> usize
 
 /// The first bytes of eight code points of two bytes, and their units.
 #[inline(always)]
-fn read_twos(bytes: [u8; 16]) -> (u8x8, [u16; 8])
+fn read_twos(bytes: u8x16) -> (u8x8, [u16; 8])
     ensures firsts { result.0 ≡ firsts_of 2 8 bytes }
     ensures units { result.1 ≡ units_of_rows 2 unit_of_two 8 bytes }
 {
-    let [a, b, c, d, e, f, g, h, i, j, k, l, m, n, o, p] = bytes;
-    let bytes = u8x16::from_array([a, b, c, d, e, f, g, h, i, j, k, l, m, n, o, p]);
     let first: u8x8 = bytes.shuffle(bytes, FIRST_OF_TWO);
     let second: u8x8 = bytes.shuffle(bytes, SECOND_OF_TWO);
     let high = (first % u8x8::splat(32)).cast::<u16>();
@@ -220,48 +209,10 @@ fn read_twos(bytes: [u8; 16]) -> (u8x8, [u16; 8])
 
 /// The first bytes of eight code points of three bytes, and their units.
 #[inline(always)]
-fn read_threes(bytes: [u8; 32]) -> (u8x8, [u16; 8])
+fn read_threes(bytes: u8x32) -> (u8x8, [u16; 8])
     ensures firsts { result.0 ≡ firsts_of 3 8 bytes }
     ensures units { result.1 ≡ units_of_rows 3 unit_of_three 8 bytes }
 {
-    let [
-        a,
-        b,
-        c,
-        d,
-        e,
-        f,
-        g,
-        h,
-        i,
-        j,
-        k,
-        l,
-        m,
-        n,
-        o,
-        p,
-        q,
-        r,
-        s,
-        t,
-        u,
-        v,
-        w,
-        x,
-        y,
-        z,
-        aa,
-        bb,
-        cc,
-        dd,
-        ee,
-        ff,
-    ] = bytes;
-    let bytes = u8x32::from_array([
-        a, b, c, d, e, f, g, h, i, j, k, l, m, n, o, p, q, r, s, t, u, v, w, x, y, z, aa, bb, cc,
-        dd, ee, ff,
-    ]);
     let first: u8x8 = bytes.shuffle(bytes, FIRST_OF_THREE);
     let second: u8x8 = bytes.shuffle(bytes, SECOND_OF_THREE);
     let third: u8x8 = bytes.shuffle(bytes, THIRD_OF_THREE);
@@ -291,7 +242,7 @@ impl Kind<16, 1, 16> for OneByte {
 impl Kind<8, 2, 16> for TwoBytes {
     #[inline(always)]
     fn read(bytes: &[u8]) -> ([u16; 8], usize) {
-        let (firsts, units) = read_twos(u8x16::from_slice(bytes).to_array());
+        let (firsts, units) = read_twos(u8x16::from_slice(bytes));
         (units, count_of_kind(firsts, 32, 6))
     }
 
@@ -304,7 +255,7 @@ impl Kind<8, 2, 16> for TwoBytes {
 impl Kind<8, 3, 32> for ThreeBytes {
     #[inline(always)]
     fn read(bytes: &[u8]) -> ([u16; 8], usize) {
-        let (firsts, units) = read_threes(u8x32::from_slice(bytes).to_array());
+        let (firsts, units) = read_threes(u8x32::from_slice(bytes));
         (units, count_of_kind(firsts, 16, 14))
     }
 
@@ -323,12 +274,11 @@ fn widen_units<'a, const N: usize>(
     count: usize,
     width: usize,
 ) -> Unwritten<'a>
+    requires lanes { N ≤ u64.BITS }
     requires room { left.at + N ≤ length units.old }
     requires within { (count ≤ N) × (width ≤ length left.view.bytes.now) }
     requires begins { BeginsWithUnits left.view.bytes.now (take count block) width }
-    ensures units { take result.at units.new ++ view_units result.view ≡ take left.entry.at units.old ++ view_units left.entry.view }
-    ensures as_many { result.at + length (view_units result.view) ≡ left.entry.at + length (view_units left.entry.view) }
-    ensures len { length units.new ≡ length units.old }
+    ensures written { Writes units.old left.entry.at (view_units left.entry.view) units.new result.at (view_units result.view) }
     ensures bytes { result.view.bytes.now ≡ drop width left.entry.view.bytes.now }
 {
     put(units, left.at, block);
@@ -349,9 +299,7 @@ fn widen_row<'a, const N: usize, const WIDTH: usize, const BYTES: usize, K: Kind
     requires lanes { (0 < N) × (N ≤ u64.BITS) }
     requires room { left.at + length (view_units left.view) ≤ length units.old }
     requires some { 0 < length left.view.bytes.now }
-    ensures units { take result.0.at units.new ++ view_units result.0.view ≡ take left.entry.at units.old ++ view_units left.entry.view }
-    ensures as_many { result.0.at + length (view_units result.0.view) ≡ left.entry.at + length (view_units left.entry.view) }
-    ensures len { length units.new ≡ length units.old }
+    ensures written { Writes units.old left.entry.at (view_units left.entry.view) units.new result.0.at (view_units result.0.view) }
     ensures whole { IsTrue result.1 → length result.0.view.bytes.now < length left.entry.view.bytes.now }
     ensures part { result.1 ≡ false → 0 < length result.0.view.bytes.now }
     ensures not_longer { length result.0.view.bytes.now ≤ length left.entry.view.bytes.now }
@@ -377,9 +325,7 @@ fn widen_kind<'a, const N: usize, const WIDTH: usize, const BYTES: usize, K: Kin
     requires lanes { (0 < N) × (N ≤ u64.BITS) }
     requires room { left.at + length (view_units left.view) ≤ length units.old }
     requires some { 0 < length left.view.bytes.now }
-    ensures units { take result.at units.new ++ view_units result.view ≡ take left.entry.at units.old ++ view_units left.entry.view }
-    ensures as_many { result.at + length (view_units result.view) ≡ left.entry.at + length (view_units left.entry.view) }
-    ensures len { length units.new ≡ length units.old }
+    ensures written { Writes units.old left.entry.at (view_units left.entry.view) units.new result.at (view_units result.view) }
     ensures shorter { length result.view.bytes.now < length left.entry.view.bytes.now }
 {
     let mut rest = left;
@@ -403,9 +349,7 @@ fn widen_kind<'a, const N: usize, const WIDTH: usize, const BYTES: usize, K: Kin
 fn widen_front<'a>(units: &mut [u16], left: Unwritten<'a>) -> Unwritten<'a>
     requires room { left.at + length (view_units left.view) ≤ length units.old }
     requires some { 0 < length left.view.bytes.now }
-    ensures units { take result.at units.new ++ view_units result.view ≡ take left.entry.at units.old ++ view_units left.entry.view }
-    ensures as_many { result.at + length (view_units result.view) ≡ left.entry.at + length (view_units left.entry.view) }
-    ensures len { length units.new ≡ length units.old }
+    ensures written { Writes units.old left.entry.at (view_units left.entry.view) units.new result.at (view_units result.view) }
     ensures shorter { length result.view.bytes.now < length left.entry.view.bytes.now }
 {
     let bytes = left.view.bytes;
@@ -421,16 +365,51 @@ fn widen_front<'a>(units: &mut [u16], left: Unwritten<'a>) -> Unwritten<'a>
     }
 }
 
-/// Writes the units of a view from a place to the end.
+/// Writes the units of a view from a place on, and answers the place behind them.
 #[inline(never)]
-fn widen_all(units: &mut [u16], from: usize, view: Wtf8<'_>)
-    requires room { from + length (view_units view) ≡ length units.old }
-    ensures { units.new ≡ take from units.old ++ view_units view.entry }
+fn widen_all(units: &mut [u16], from: usize, view: Wtf8<'_>) -> usize
+    requires room { from + length (view_units view) ≤ length units.old }
+    ensures units { take result units.new ≡ take from units.old ++ view_units view.entry }
+    ensures place { result ≡ from + length (view_units view.entry) }
+    ensures len { length units.new ≡ length units.old }
 {
     let mut left = Unwritten { view, at: from };
     while !left.view.is_empty() {
         left = widen_front(units, left);
     }
+    left.at
+}
+
+/// Appends the units of a string of fewer than `FEW` bytes.
+#[inline(never)]
+fn append_few<B: Allocator>(units: &mut Vec<u16, B>, view: Wtf8<'_>) -> Result<(), AllocError>
+    requires { length view.bytes.now < FEW }
+    ensures ok { OnOk result (units.new.items ≡ units.old.items ++ view_units view.entry) }
+    ensures kept { OnErr result (units.new.items ≡ units.old.items) }
+    ensures room { vec_len units.old + length (view_units view.entry) ≤ vec_capacity units.old → IsOk result }
+    ensures capacity { vec_capacity units.old ≤ vec_capacity units.new }
+{
+    // There are no more units than bytes.
+    prove!(view.len() <= FEW);
+    let mut block = [0; FEW];
+    let count = widen_all(&mut block, 0, view);
+    units.extend_from_slice(&block[..count])
+}
+
+/// Appends the units of a string, which are counted first.
+#[inline(never)]
+fn append_many<B: Allocator>(units: &mut Vec<u16, B>, view: Wtf8<'_>) -> Result<(), AllocError>
+    ensures ok { OnOk result (units.new.items ≡ units.old.items ++ view_units view.entry) }
+    ensures kept { OnErr result (units.new.items ≡ units.old.items) }
+    ensures room { vec_len units.old + length (view_units view.entry) ≤ vec_capacity units.old → IsOk result }
+    ensures capacity { vec_capacity units.old ≤ vec_capacity units.new }
+{
+    // There are no more units than bytes.
+    prove!(view.len() <= usize::MAX / 2);
+    let from = units.len();
+    units.resize(from + view.unit_len(), 0)?;
+    widen_all(units, from, view);
+    Ok(())
 }
 
 impl<'a> Wtf8<'a> {
@@ -454,16 +433,13 @@ impl<'a> Wtf8<'a> {
         ensures room { vec_len units.old + length (view_units self.now) ≤ vec_capacity units.old → IsOk result }
         ensures capacity { vec_capacity units.old ≤ vec_capacity units.new }
     {
-        let count = self.unit_len();
-        // Where there are as many units as bytes, each byte is one.
-        if count == self.len() && count < VECTOR {
-            units.reserve(count)?;
-            push_bytes(units, self.bytes);
-            return Ok(());
+        match self.len() {
+            1 if is_ascii::<1>(*self) => append_ascii::<1, B>(units, *self),
+            2..=3 if is_ascii::<2>(*self) => append_ascii::<2, B>(units, *self),
+            4..=7 if is_ascii::<4>(*self) => append_ascii::<4, B>(units, *self),
+            8..=15 if is_ascii::<8>(*self) => append_ascii::<8, B>(units, *self),
+            0..FEW => append_few(units, *self),
+            _ => append_many(units, *self),
         }
-        let from = units.len();
-        units.resize(from + count, 0)?;
-        widen_all(units, from, *self);
-        Ok(())
     }
 }

@@ -29,21 +29,17 @@ behind-requires-clause-well_formed c =
     let view = c.args.left.view in
     (taken view.bytes.now 0 view.well_formed (number c.read-width.result.0) c.read-width.result.1 c.requires.some c.read-width.ensures).rest
 
-pub returns-in_default-clause-units : goal.returns-in_default-clause-units
-returns-in_default-clause-units c =
+pub returns-in_default-clause-written : goal.returns-in_default-clause-written
+returns-in_default-clause-written c =
     let p = number c.read-width.result.0 in
     let left = c.args.left in
     let t = taken left.view.bytes.now 0 left.view.well_formed p c.read-width.result.1 c.requires.some c.read-width.ensures in
-    pushed left.view c.behind.result p (take left.at c.args.units.now) (take c.put_units-at.result c.put_units-at.new.units) c.put_units-at.ensures.units
-    (t.joined ∙ ap (λ q. p ∷ q) (sym (c.behind.ensures.points t.rest)))
-
-pub returns-in_default-clause-as_many : goal.returns-in_default-clause-as_many
-returns-in_default-clause-as_many c =
-    let p = number c.read-width.result.0 in
-    let view = c.args.left.view in
-    let t = taken view.bytes.now 0 view.well_formed p c.read-width.result.1 c.requires.some c.read-width.ensures in
     let joined = t.joined ∙ ap (λ q. p ∷ q) (sym (c.behind.ensures.points t.rest)) in
-    omega (arith, c.put_units-at.ensures.place, ap length (ap units joined), length-append (units_of p) (view_units c.behind.result))
+    record {
+      units = pushed left.view c.behind.result p (take left.at c.args.units.now) (take c.put_units-at.result c.put_units-at.new.units) c.put_units-at.ensures.units joined;
+      as_many = omega (arith, c.put_units-at.ensures.place, ap length (ap units joined), length-append (units_of p) (view_units c.behind.result));
+      len = c.put_units-at.ensures.len;
+    }
 
 pub returns-in_default-clause-shorter : goal.returns-in_default-clause-shorter
 returns-in_default-clause-shorter c =

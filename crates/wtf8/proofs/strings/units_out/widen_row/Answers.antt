@@ -8,10 +8,13 @@ widen_units-requires g c =
     let all : c.read-block.result.1 ≡ g.row.N = omega (arith, c.if-count.true) in (
       omega (arith, c.requires.lanes),
       (
-        omega (arith, c.requires.room, c.if-units-left.false),
+        c.requires.lanes.1,
         (
-          (omega arith, omega (arith, read.within.2, ap (λ n. g.row.WIDTH * n) all, c.if-bytes.false)),
-          subst (λ n. BeginsWithUnits c.args.left.view.bytes.now (take n c.read-block.result.0) (g.row.WIDTH * n)) all read.begins,
+          omega (arith, c.requires.room, c.if-units-left.false),
+          (
+            (omega arith, omega (arith, read.within.2, ap (λ n. g.row.WIDTH * n) all, c.if-bytes.false)),
+            subst (λ n. BeginsWithUnits c.args.left.view.bytes.now (take n c.read-block.result.0) (g.row.WIDTH * n)) all read.begins,
+          ),
         ),
       ),
     )

@@ -16,21 +16,18 @@ behind-requires-clause-well_formed c = (behind_read c.args.left.view c.args.valu
 pub behind-requires-clause-within : goal.behind-requires-clause-within
 behind-requires-clause-within c = (behind_read c.args.left.view c.args.value c.args.width c.requires.some c.requires.read).within
 
-pub returns-clause-units : goal.returns-clause-units
-returns-clause-units c =
+pub returns-clause-written : goal.returns-clause-written
+returns-clause-written c =
     let p = c.args.value in
     let left = c.args.left in
     let t = behind_read left.view p c.args.width c.requires.some c.requires.read in
-    pushed left.view c.behind.result p (take left.at c.args.units.now) (take (left.at + 1) c.put.new.units)
-    (c.put.ensures.front 1 (omega arith) ∙ ap (λ u. take left.at c.args.units.now ++ u) (sym (units_one p c.requires.one_unit)))
-    (t.joined ∙ ap (λ q. p ∷ q) (sym (c.behind.ensures.points t.rest)))
-
-pub returns-clause-as_many : goal.returns-clause-as_many
-returns-clause-as_many c =
-    let p = c.args.value in
-    let t = behind_read c.args.left.view p c.args.width c.requires.some c.requires.read in
     let joined = t.joined ∙ ap (λ q. p ∷ q) (sym (c.behind.ensures.points t.rest)) in
-    omega (arith, ap length (ap units joined ∙ units-cons_one p (view_points c.behind.result) c.requires.one_unit))
+    record {
+      units = pushed left.view c.behind.result p (take left.at c.args.units.now) (take (left.at + 1) c.put.new.units)
+          (c.put.ensures.front 1 (omega arith) ∙ ap (λ u. take left.at c.args.units.now ++ u) (sym (units_one p c.requires.one_unit))) joined;
+      as_many = omega (arith, ap length (ap units joined ∙ units-cons_one p (view_points c.behind.result) c.requires.one_unit));
+      len = c.put.ensures.len;
+    }
 
 pub returns-clause-shorter : goal.returns-clause-shorter
 returns-clause-shorter c =

@@ -5,22 +5,21 @@ use Rattle.wtf8.proofs.strings.units_out.widen_units.Goals as goal
 pub behind-requires-clause-well_formed : goal.behind-requires-clause-well_formed
 behind-requires-clause-well_formed g c = (c.requires.begins c.args.left.view.well_formed).0
 
-pub returns-clause-units : goal.returns-clause-units
-returns-clause-units g c =
+pub returns-clause-written : goal.returns-clause-written
+returns-clause-written g c =
     let old = take c.args.left.at c.args.units.now in
     let front = take c.args.count c.args.block in
     let begins = c.requires.begins c.args.left.view.well_formed in
-    ap (λ u. u ++ view_units c.behind.result) (c.put.ensures.front c.args.count c.requires.within.0) ∙ (append_assoc old front (view_units c.behind.result)
-    ∙ (ap (λ q. old ++ (front ++ units q)) (c.behind.ensures.points begins.0) ∙ ap (λ u. old ++ u) (sym begins.1)))
-
-pub returns-clause-as_many : goal.returns-clause-as_many
-returns-clause-as_many g c =
-    let front = take c.args.count c.args.block in
-    let begins = c.requires.begins c.args.left.view.well_formed in
-    omega (
-      arith,
-      ap length begins.1,
-      length-append front (units begins.0.points),
-      ap length (ap units (c.behind.ensures.points begins.0)),
-      length-take-le c.args.count c.args.block (omega (arith, c.requires.within.0)),
-    )
+    let behind = ap units (c.behind.ensures.points begins.0) in
+    record {
+      units = ap (λ u. u ++ view_units c.behind.result) (c.put.ensures.front c.args.count c.requires.within.0) ∙ (append_assoc old front (view_units c.behind.result)
+          ∙ (ap (λ u. old ++ (front ++ u)) behind ∙ ap (λ u. old ++ u) (sym begins.1)));
+      as_many = omega (
+        arith,
+        ap length begins.1,
+        length-append front (units begins.0.points),
+        ap length behind,
+        length-take-le c.args.count c.args.block (omega (arith, c.requires.within.0)),
+      );
+      len = c.put.ensures.len;
+    }

@@ -1,5 +1,5 @@
 use Rattle.wtf8.proofs.Common.{◌≡◌, ◌≤◌, ◌-◌, length, take, all_units_begun}
-use Rattle.wtf8.proofs.strings.unit_positions.count_units_of_many.Given as goal
+use Rattle.wtf8.proofs.strings.unit_positions.behind_all_blocks.Given as goal
 
 -- the units so far are counted
 abbrev pub invariant-loop-behind : goal.invariant-loop-behind
