@@ -3,7 +3,7 @@
 ghost use Rattle.std.specs.Prelude.{◌≡◌, ℕ, ◌+◌, ◌*◌, ◌<◌, ◌≤◌, false, IsTrue};
 ghost use Rattle.wtf8.specs.Scan.{IsFirstBelow, Marks, Nowhere, Tells};
 
-use crate::lanes::{BLOCK, TURN, VECTOR};
+use crate::lanes::{BLOCK, VECTOR};
 
 /// Places below a limit, some of which are hits.
 pub(crate) trait Places {
@@ -58,17 +58,6 @@ pub(crate) fn is_block_clear<const N: usize, S: Block<N>>(s: &S, at: usize) -> b
     s.marks(at) == 0
 }
 
-/// Whether there is no hit at `N` places at each end of no more than twice so many.
-#[inline(always)]
-pub(crate) fn are_blocks_clear<const N: usize, S: Block<N>>(s: &S, from: usize, end: usize) -> bool
-    requires lanes { (0 < N) × (N ≤ u64.BITS) }
-    requires all { (from + N ≤ end) × (end ≤ from + 2 * N) }
-    requires room { end ≤ S.limit s.now }
-    ensures { Tells (S.exact s.now) (S.hit s.now) from end result }
-{
-    is_block_clear::<N, S>(s, from) & is_block_clear::<N, S>(s, end - N)
-}
-
 /// The place behind all turns that are clear, from another place on.
 #[inline(always)]
 pub(crate) fn skip<const N: usize, S: Turn<N>>(s: &S, from: usize, end: usize) -> usize
@@ -88,68 +77,7 @@ pub(crate) fn skip<const N: usize, S: Turn<N>>(s: &S, from: usize, end: usize) -
     at
 }
 
-/// Whether there is no hit before an end, where there is none before a place: in turns, of which the last may begin in the
-/// one before it.
-#[inline(always)]
-pub(crate) fn are_turns_clear<const N: usize, S: Turn<N>>(s: &S, from: usize, end: usize) -> bool
-    requires moves { 0 < N }
-    requires long { N ≤ end }
-    requires order { from ≤ end }
-    requires room { end ≤ S.limit s.now }
-    requires clear { Nowhere (S.hit s.now) 0 from }
-    ensures { Tells (S.exact s.now) (S.hit s.now) 0 end result }
-{
-    let at = skip::<N, S>(s, from, end);
-    if at <= end - N {
-        return false;
-    }
-    s.is_clear(end - N)
-}
-
-/// Whether there is no hit before an end. The fewest places are asked about first; of more places than a block has the
-/// answer is no.
-#[inline(always)]
-pub(crate) fn is_short_clear<S: Ends<4> + Ends<8> + Ends<16> + Ends<32> + Block<16> + Block<32>>(
-    s: &S,
-    end: usize,
-) -> bool
-    requires room { end ≤ S.limit s.now }
-    ensures { Tells ((end ≤ BLOCK) × S.exact s.now) (S.hit s.now) 0 end result }
-{
-    if end <= VECTOR {
-        return is_vector_clear(s, end);
-    }
-    if end <= 32 {
-        return are_ends_clear::<16, S>(s, end);
-    }
-    if end <= 48 {
-        return is_block_clear::<32, S>(s, 0) & is_block_clear::<16, S>(s, end - 16);
-    }
-    end <= BLOCK && are_ends_clear::<32, S>(s, end)
-}
-
-/// The same of no more places than a vector has.
-#[inline(always)]
-pub(crate) fn is_vector_clear<S: Ends<4> + Ends<8>>(s: &S, end: usize) -> bool
-    requires few { end ≤ VECTOR }
-    requires room { end ≤ S.limit s.now }
-    ensures { Tells (S.exact s.now) (S.hit s.now) 0 end result }
-{
-    if 8 <= end {
-        return are_ends_clear::<8, S>(s, end);
-    }
-    if 4 <= end {
-        return are_ends_clear::<4, S>(s, end);
-    }
-    for at in 0..end {
-        if s.is_hit(at) {
-            return false;
-        }
-    }
-    true
-}
-
-/// The same of `N` to twice so many.
+/// Whether there is no hit before an end, of `N` to twice so many places.
 #[inline(always)]
 pub(crate) fn are_ends_clear<const N: usize, S: Ends<N>>(s: &S, end: usize) -> bool
     requires lanes { (0 < N) × (N ≤ u64.BITS) }
