@@ -110,7 +110,12 @@ fn are_many_same(own: &[u8], others: &[u8]) -> bool
     requires both { length own.now ≡ length others.now }
     ensures { Tells ⊤ (DifferAt own.now others.now) 0 (length own.now) result }
 {
-    first_in_many(own, others, own.len()).is_none()
+    let len = own.len();
+    if len <= TURN {
+        return is_block_same::<BLOCK>(own, others, 0)
+            && is_block_same::<BLOCK>(own, others, len - BLOCK);
+    }
+    first_in_many(own, others, len).is_none()
 }
 
 /// The order of two lists of bytes: the first ones that differ decide, and a beginning stands before the longer list.
@@ -138,13 +143,13 @@ fn first_in_both(own: &[u8], others: &[u8]) -> Option<usize>
     ensures { IsFirstBelow (DifferAt own.now others.now) 0 (min (length own.now) (length others.now)) result }
 {
     let end = own.len().min(others.len());
-    if end <= VECTOR {
-        return first_in_few(own, others, end);
+    if BLOCK < end {
+        return first_in_many(own, others, end);
     }
-    if end <= BLOCK {
+    if VECTOR < end {
         return first_in_vectors(own, others, end);
     }
-    first_in_many(own, others, end)
+    first_in_few(own, others, end)
 }
 
 /// The first place before an end where bytes differ, of no more than a vector has.
@@ -216,7 +221,7 @@ fn first_in_many(own: &[u8], others: &[u8], end: usize) -> Option<usize>
         return Some(at);
     }
     if end <= TURN {
-        return first_in_block::<BLOCK>(own, others, end - BLOCK);
+        return first_in_ends::<32>(own, others, end - BLOCK, end);
     }
     let at = skip_turns(own, others, end);
     first_in_blocks(own, others, at, end)
@@ -259,12 +264,12 @@ fn first_in_blocks(own: &[u8], others: &[u8], from: usize, end: usize) -> Option
 {
     let mut at = from;
     while at < end - BLOCK {
-        if !is_block_same::<BLOCK>(own, others, at) {
-            return Some(difference_in::<BLOCK>(own, others, at));
+        if let Some(found) = first_in_ends::<32>(own, others, at, at + BLOCK) {
+            return Some(found);
         }
         at += BLOCK;
     }
-    first_in_block::<BLOCK>(own, others, end - BLOCK)
+    first_in_ends::<32>(own, others, end - BLOCK, end)
 }
 
 /// The first place from another one on and before an end where bytes differ, of `N` to twice so many.
