@@ -42,8 +42,9 @@ fn first_in_block(bytes: &[u8], at: usize) -> Option<usize>
 pub(crate) fn next_surrogate(bytes: &[u8], from: usize) -> Option<usize>
     ensures { IsFirst (SurrogateAt bytes.now) from result }
 {
+    let end = bytes.len().saturating_sub(32);
     let mut at = from;
-    while 32 < bytes.len().saturating_sub(at) {
+    while at < end {
         if let Some(found) = first_in_block(bytes, at) {
             return Some(found);
         }
