@@ -6,7 +6,7 @@ use crate::{blocks, building, generate, long, pairs};
 /// A name, and what makes the scripts of that list.
 pub type List = (&'static str, fn() -> Vec<Vec<Call>>);
 
-pub const LISTS: [List; 21] = [
+pub const LISTS: [List; 22] = [
     ("code points at edges", generate::edge_calls),
     ("pairs", pairs::pairs),
     ("up to four units", up_to_four_units),
@@ -19,6 +19,7 @@ pub const LISTS: [List; 21] = [
     ("one surrogate", long::one_surrogate),
     ("two surrogates", long::two_surrogates),
     ("one unit changed", long::changed_at_each_place),
+    ("strings that part", long::parting_at_each_place),
     ("one unit of another kind", long::another_kind_at_each_place),
     ("mixed blocks", blocks::of_mixed_kinds),
     ("longest strings", long::longest),

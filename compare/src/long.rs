@@ -89,9 +89,41 @@ pub fn changed_at(units: &[u16], places: impl IntoIterator<Item = usize>) -> Vec
     for place in places {
         for other in [0x62, 0xDFFF] {
             calls.extend(string_in(1, &changed(units, &[(place, other)])));
-            calls.push(registers("comparisons", 0, 1));
-            calls.push(registers("comparisons", 1, 0));
-            calls.push(registers("cmp_units", 0, 1));
+            calls.extend(compared_both_ways());
+        }
+    }
+    calls
+}
+
+fn compared_both_ways() -> [Call; 4] {
+    [
+        registers("comparisons", 0, 1),
+        registers("comparisons", 1, 0),
+        registers("cmp_units", 0, 1),
+        registers("cmp_units", 1, 0),
+    ]
+}
+
+/// Strings of 320 units beside ones that part from them at each place up to 300, and strings of 4,110 units beside ones that
+/// part from them about the place 4,096, compared both ways.
+pub fn parting_at_each_place() -> Vec<Vec<Call>> {
+    let parting = |base| {
+        [
+            parting_at(&string_of(base, 320), 0..=300),
+            parting_at(&string_of(base, 4110), 4090..=4102),
+        ]
+    };
+    BASES.into_iter().flat_map(parting).collect()
+}
+
+/// A string beside others that have a lower or a higher unit at a place, or end there.
+fn parting_at(units: &[u16], places: impl IntoIterator<Item = usize>) -> Vec<Call> {
+    let mut calls = string_in(0, units);
+    for place in places {
+        let other = |unit| changed(units, &[(place, unit)]);
+        for other in [other(0x60), other(0xDFFF), units[..place].to_vec()] {
+            calls.extend(string_in(1, &other));
+            calls.extend(compared_both_ways());
         }
     }
     calls

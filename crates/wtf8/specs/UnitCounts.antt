@@ -1,5 +1,5 @@
 -- For private functions: how many units begin among bytes, and where a number of units ends.
-use Rattle.std.specs.Prelude.{◌≡◌, ℕ, ◌+◌, ◌<◌, ◌≤◌, List, ◌∷◌, ◌++◌, length, take, nat_lt, if◌then◌else◌, Option, MatchOption}
+use Rattle.std.specs.Prelude.{◌≡◌, ℕ, ◌+◌, ◌<◌, ◌≤◌, List, ◌∷◌, ◌++◌, length, take, slice_index, nat_lt, if◌then◌else◌, Option, MatchOption}
 use Rattle.std.specs.List.{sum_by}
 use Rattle.wtf8.specs.Unicode.{units}
 use Rattle.wtf8.specs.Form.{bytes}
@@ -11,6 +11,10 @@ units_begun b = if nat_lt b 0x80 then 1 else if nat_lt b 0xC0 then 0 else if nat
 -- How many units the code points have that begin among the bytes.
 abbrev pub all_units_begun : List ℕ → ℕ
 all_units_begun w = sum_by units_begun w
+
+-- Some lane of a vector is no less than a number.
+abbrev pub HasLane : ℕ → List ℕ → Type 0
+HasLane least lanes = (k : ℕ) × ((k < length lanes) × (least ≤ slice_index lanes k))
 
 -- The code point that holds unit n begins at a place, and so many units are before it; or n units or fewer begin among all the bytes, and the place is their
 -- end.

@@ -2,9 +2,7 @@
 pub(crate) mod copies;
 pub(crate) mod differences;
 pub(crate) mod digits;
-pub(crate) mod scan;
 pub(crate) mod search;
-pub(crate) mod surrogate_presence;
 
 /// How many bytes one of the processor's vectors holds.
 pub(crate) const VECTOR: usize = 16;

@@ -1,111 +1,69 @@
 // The search for surrogates in bytes, and their replacement.
-ghost use Rattle.std.specs.Prelude.{◌≡◌, ◌∷◌, ◌++◌, ◌+◌, ◌-◌, ◌<◌, ◌≤◌, length, take, drop, false, ⊤, IsTrue};
+ghost use Rattle.std.specs.Prelude.{◌≡◌, ◌∷◌, ◌++◌, ◌+◌, ◌<◌, ◌≤◌, length, take, drop};
 ghost use Rattle.wtf8.specs.Form.{IsWellFormed, bytes as bytes_of};
 ghost use Rattle.wtf8.specs.Scan.{IsFirst, IsFirstBelow, Nowhere};
-ghost use Rattle.wtf8.specs.SurrogateSearch.{SurrogateAt};
+ghost use Rattle.wtf8.specs.SurrogateSearch.{BeginsInLane, SurrogateAt};
 ghost use Rattle.wtf8.specs.Surrogates.{lossy};
 
-use crate::lanes::scan::{self, Block, Places, Turn};
-use crate::lanes::{BLOCK, VECTOR};
 use std::alloc::Allocator;
 use std::simd::prelude::*;
 
 /// The bytes of U+FFFD, the replacement character: as many as any surrogate has.
 const REPLACEMENT: [u8; 3] = [0xEF, 0xBF, 0xBD];
 
-/// Whether the first two bytes begin a surrogate.
+/// The first lane in which one vector holds ED and another one A0 or more, or `None`.
 #[inline(always)]
-pub(crate) fn begins_with_surrogate(bytes: &[u8]) -> bool
-    ensures { IsTrue result → SurrogateAt bytes.now 0 }
+fn block(firsts: u8x32, seconds: u8x32) -> Option<usize>
+    ensures { IsFirstBelow (BeginsInLane firsts seconds) 0 32 result }
 {
-    2 <= bytes.len() && bytes[0] == 0xED && 0xA0 <= bytes[1]
-}
-
-/// The places where a surrogate can begin: all but the last.
-#[derive(Drop)]
-pub(crate) struct Surrogates<'a> {
-    pub(crate) bytes: &'a [u8],
-}
-
-impl<'a> Places for Surrogates<'a> {
-    ghost limit = { λ s. length s.bytes.now - 1 };
-
-    ghost hit = { λ s. SurrogateAt s.bytes.now };
-
-    ghost exact = { λ _. ⊤ };
-
-    #[inline(always)]
-    fn is_hit(&self, at: usize) -> bool {
-        let bytes = self.bytes;
-        bytes[at] == 0xED && 0xA0 <= bytes[at + 1]
+    let begin = firsts.simd_eq(Simd::splat(0xED)) & seconds.simd_ge(Simd::splat(0xA0));
+    let marks = begin.to_bitmask();
+    if marks == 0 {
+        return None;
     }
+    Some(marks.trailing_zeros() as usize)
 }
 
-impl<'a, const N: usize> Block<N> for Surrogates<'a> {
-    #[inline(always)]
-    fn marks(&self, at: usize) -> u64 {
-        let bytes = self.bytes;
-        let firsts = Simd::<u8, N>::from_slice(&bytes[at..]);
-        let seconds = Simd::<u8, N>::from_slice(&bytes[at + 1..]);
-        (firsts.simd_eq(Simd::splat(0xED)) & seconds.simd_ge(Simd::splat(0xA0))).to_bitmask()
-    }
-}
-
-impl<'a> Turn<BLOCK> for Surrogates<'a> {
-    #[inline(always)]
-    fn is_clear(&self, at: usize) -> bool {
-        !holds_first_byte(self.bytes, at) || scan::is_block_clear::<BLOCK, Surrogates<'a>>(self, at)
-    }
-}
-
-/// Whether the first byte of a surrogate may stand in a block.
+/// The place of the first surrogate that begins at one of 32 places, which are not the last.
 #[inline(always)]
-fn holds_first_byte(bytes: &[u8], at: usize) -> bool
-    requires { at + BLOCK < length bytes.now }
-    ensures { result ≡ false → Nowhere (SurrogateAt bytes.now) at (at + BLOCK) }
+fn first_in_block(bytes: &[u8], at: usize) -> Option<usize>
+    requires { at + 32 < length bytes.now }
+    ensures { IsFirstBelow (SurrogateAt bytes.now) at (at + 32) result }
 {
-    let firsts = Simd::<u8, BLOCK>::from_slice(&bytes[at..]);
-    firsts.simd_eq(Simd::splat(0xED)).to_bitmask() != 0
+    let firsts = Simd::from_slice(&bytes[at..]);
+    let seconds = Simd::from_slice(&bytes[at + 1..]);
+    match block(firsts, seconds) {
+        Some(lane) => Some(at + lane),
+        None => None,
+    }
 }
 
 /// The place of the first surrogate that begins at `from` or behind it, in any bytes.
-#[inline(always)]
 pub(crate) fn next_surrogate(bytes: &[u8], from: usize) -> Option<usize>
     ensures { IsFirst (SurrogateAt bytes.now) from result }
 {
-    let places = bytes.len().saturating_sub(1);
-    let left = places.saturating_sub(from);
-    if left < VECTOR {
-        return scan::first_in_few(&Surrogates { bytes }, from, places);
+    let end = bytes.len().saturating_sub(32);
+    let mut at = from;
+    while at < end {
+        if let Some(found) = first_in_block(bytes, at) {
+            return Some(found);
+        }
+        at += 32;
     }
-    if left < BLOCK {
-        return scan::first_in_rest(&Surrogates { bytes }, from, places);
-    }
-    first_surrogate_in_blocks(bytes, from)
+    first_one_by_one(bytes, at)
 }
 
-/// The same, in blocks as far as these have none.
-#[inline(never)]
-fn first_surrogate_in_blocks(bytes: &[u8], from: usize) -> Option<usize>
-    requires { from + BLOCK < length bytes.now }
+/// The place of the first surrogate, one place after another.
+#[inline(always)]
+fn first_one_by_one(bytes: &[u8], from: usize) -> Option<usize>
     ensures { IsFirst (SurrogateAt bytes.now) from result }
 {
-    let surrogates = Surrogates { bytes };
-    let places = bytes.len() - 1;
-    let at = scan::skip::<BLOCK, Surrogates<'_>>(&surrogates, from, places);
-    if BLOCK <= places - at {
-        return first_in_full_block(bytes, at);
+    for at in from..bytes.len().saturating_sub(1) {
+        if bytes[at] == 0xED && 0xA0 <= bytes[at + 1] {
+            return Some(at);
+        }
     }
-    scan::first_in_rest(&surrogates, at, places)
-}
-
-/// The place of the first surrogate that begins in a block. It stands by itself, so that no mask of it is made in a loop.
-#[inline(never)]
-fn first_in_full_block(bytes: &[u8], at: usize) -> Option<usize>
-    requires { at + BLOCK < length bytes.now }
-    ensures { IsFirstBelow (SurrogateAt bytes.now) at (at + BLOCK) result }
-{
-    scan::first_in_block::<BLOCK, Surrogates<'_>>(&Surrogates { bytes }, at)
+    None
 }
 
 /// Writes the replacement character over the three bytes from a place on.

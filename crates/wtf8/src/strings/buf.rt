@@ -15,7 +15,7 @@ ghost use Rattle.wtf8.specs.UnitParts.{AreAscii};
 ghost use Rattle.wtf8.specs.UnitPosition.{TruncatesUnits};
 ghost use Rattle.wtf8.specs.View.{view_points, view_units};
 
-use crate::lanes::{copies, search, surrogate_presence};
+use crate::lanes::{copies, search};
 use crate::numbers::code_point::CodePoint;
 use crate::numbers::{encoding, surrogates};
 use crate::strings::view::Wtf8;
@@ -488,9 +488,6 @@ impl<A: Allocator> Wtf8Buf<A> {
         if self.is_known_utf8() {
             return None;
         }
-        match self.scalar_end {
-            0 => surrogate_presence::first_surrogate(&self.bytes),
-            from => search::next_surrogate(&self.bytes, from),
-        }
+        search::next_surrogate(&self.bytes, self.scalar_end)
     }
 }

@@ -3,11 +3,10 @@ ghost use Rattle.std.specs.Prelude.{◌≡◌, ◌++◌, ◌+◌, ◌-◌, ◌*�
 ghost use Rattle.std.specs.Option.{option_to_list};
 ghost use Rattle.wtf8.specs.Form.{encoding};
 ghost use Rattle.wtf8.specs.Unicode.{IsLead};
-ghost use Rattle.wtf8.specs.UnitCounts.{units_begun, all_units_begun, IsPlaceOfUnit, CutsUnits};
+ghost use Rattle.wtf8.specs.UnitCounts.{units_begun, all_units_begun, HasLane, IsPlaceOfUnit, CutsUnits};
 ghost use Rattle.wtf8.specs.UnitPosition.{units_of_slice, DividesPair};
 ghost use Rattle.wtf8.specs.View.{view_points, view_units};
 
-use crate::lanes::surrogate_presence::is_below;
 use crate::lanes::{BLOCK, VECTOR};
 use crate::numbers::encoding;
 use crate::numbers::surrogates::{lead_of, trail_of};
@@ -161,6 +160,15 @@ fn behind_likely_blocks<const N: usize>(
         place = behind;
     }
     place
+}
+
+/// Whether all lanes are below a number.
+#[inline(always)]
+fn is_below<const N: usize>(lanes: Simd<u8, N>, least: u8) -> bool
+    requires { N ≤ u64.BITS }
+    ensures { IsTrue result → ¬ (HasLane least lanes.entry) }
+{
+    lanes.simd_ge(Simd::splat(least)).to_bitmask() == 0
 }
 
 /// The place behind as many of the `N` bytes from a place on as are before the unit, where there are so many bytes and all

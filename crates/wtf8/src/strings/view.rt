@@ -12,7 +12,7 @@ ghost use Rattle.wtf8.specs.Surrogates.{AreScalar, lossy};
 ghost use Rattle.wtf8.specs.Unicode.{IsLead, IsTrail};
 ghost use Rattle.wtf8.specs.Units.{unread_units};
 
-use crate::lanes::{digits, search, surrogate_presence};
+use crate::lanes::{digits, search};
 use crate::numbers::code_point::CodePoint;
 use crate::numbers::encoding;
 use crate::strings::iters::{IllFormedUtf16CodeUnits, Wtf8CodePoints};
@@ -186,7 +186,7 @@ impl<'a> Wtf8<'a> {
         ensures units { IsSome result ↔ ((c : List ℕ) → Reads c (view_units self.now) → AreScalar c) }
         ensures bytes { IfSome result (λ t. t.now ≡ self.now.bytes.now) }
     {
-        match surrogate_presence::first_surrogate(self.bytes) {
+        match search::next_surrogate(self.bytes, 0) {
             None => Some(unsafe { str::from_utf8_unchecked(self.bytes) }),
             Some(_) => None,
         }

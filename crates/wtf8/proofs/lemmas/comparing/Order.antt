@@ -3,7 +3,11 @@ use Rattle.wtf8.proofs.Common.{◌≡◌, ℕ, ◌<◌, ◌≤◌, inl, inr, Lis
 use Rattle.wtf8.proofs.Common.{ordering_then, MatchOrdering, slice_cmp, cases_lt, nat_tests, Before, cases_order, ◌+◌, ◌/◌, ◌%◌, ◌↔◌, encoding, bytes, Bool, IsTrue}
 use Rattle.wtf8.proofs.Common.{nat_eq, pointwise, bytes_decides, units, Reads, IsWellFormed, IsForm, bytes-injective, ◌≢◌, zero, suc, drop, get_or, units_of}
 use Rattle.wtf8.proofs.Common.{IsFirstDifference, PairBegins, true, false, ◌⊎◌, length, take, length-append, append_assoc, false≢true, take-append-drop, slice_get}
-use Rattle.wtf8.proofs.Common.{option_cmp}
+use Rattle.wtf8.proofs.Common.{option_cmp, Nowhere, IsLeast}
+use Rattle.std.proofs.Common.{min}
+use Rattle.std.proofs.lemmas.Option.{slice_get-get_or}
+use Rattle.wtf8.specs.Differences.{DifferAt}
+use Rattle.wtf8.proofs.lemmas.lanes.Differences.{same_front}
 use Rattle.std.proofs.lemmas.Bool.{true≢false}
 use Rattle.std.proofs.lemmas.Cmp.{nat_list_cmp_total}
 use Rattle.std.specs.Bool.{beq}
@@ -264,6 +268,10 @@ parts_at (x ∷ w) (y ∷ v) (suc n) d both =
 pub cmp_greater : (x y : ℕ) → y < x → nat_cmp x y ≡ Greater
 cmp_greater x y h = grind (arith, nat_tests)
 
+-- lengths one greater are in the same order
+cmp_longer : (x y : ℕ) → nat_cmp (suc x) (suc y) ≡ nat_cmp x y
+cmp_longer x y = grind (arith, nat_tests)
+
 -- the numbers there, or the ends, are in the order of the lists
 pub order_there : (w v : List ℕ) (at : ℕ) → IsFirstDifference w v at → option_cmp nat_cmp (slice_get w at) (slice_get v at) ≡ slice_cmp nat_cmp w v
 order_there [] [] at d = refl
@@ -279,6 +287,32 @@ order_there (x ∷ w) (y ∷ v) zero d = elim (cases_order x y) [
 order_there (x ∷ w) (y ∷ v) (suc n) d =
     let same : y ≡ x = sym (ap (λ u. get_or u 0 0) d.same_before) in
     order_there w v n (difference_behind x y w v n d) ∙ rw same (sym (cmp_behind (x ∷ []) w v))
+
+-- lists that are equal as far as both go are in the order of their lengths
+pub order_of_lengths : (w v : List ℕ) → Nowhere (DifferAt w v) 0 (min (length w) (length v)) → nat_cmp (length w) (length v) ≡ slice_cmp nat_cmp w v
+order_of_lengths [] [] h = cmp_same 0
+order_of_lengths [] (y ∷ v) h = cmp_less 0 (length (y ∷ v)) (omega arith)
+order_of_lengths (x ∷ w) [] h = cmp_greater (length (x ∷ w)) 0 (omega arith)
+order_of_lengths (x ∷ w) (y ∷ v) h = elim (cases_order x y) [
+  | inl e ↦
+      let rest = order_of_lengths w v (λ j _ l. h (suc j) (omega arith) (omega arith)) in
+      cmp_longer (length w) (length v) ∙ (rest ∙ rw e (sym (cmp_behind (y ∷ []) w v)))
+  | inr n ↦ absurd (h 0 (omega arith) (omega arith) (λ e. omega (arith, n, e)))
+]
+
+-- where lists differ first, the numbers there are in their order
+pub order_at : (w v : List ℕ) (at : ℕ) → IsLeast (DifferAt w v) 0 at × (at < min (length w) (length v))
+    → nat_cmp (get_or w at 0) (get_or v at 0) ≡ slice_cmp nat_cmp w v
+order_at w v at h =
+    let own : at < length w = omega (arith, h.1) in
+    let others : at < length v = omega (arith, h.1) in
+    let d : IsFirstDifference w v at = record {
+      within_first = omega arith;
+      within_second = omega arith;
+      same_before = same_front at w v (omega arith) (omega arith) h.0.none_between;
+      differ_there = λ _ _. h.0.here;
+    } in
+    rw (slice_get-get_or w at 0 own, slice_get-get_or v at 0 others) at (order_there w v at d)
 
 -- code points whose bytes begin with those of a front have that front
 record Continues (front d rest : List ℕ) : Type 0 where

@@ -1,20 +1,21 @@
 -- Lanes that show where surrogates stand, whether one stands there, and how many units begin.
 use Rattle.wtf8.proofs.Common.{◌≡◌, ◌↔◌, ℕ, zero, suc, ◌+◌, ◌-◌, ◌%◌, ◌^◌, ◌<◌, ◌≤◌, eqb, ltb, leb, Bool, true, false, IsTrue, cond, List, [], ◌∷◌, map, length, get_or}
-use Rattle.wtf8.proofs.Common.{replicate, w8, inl, inr, sym, ap, ◌∙◌, arith, cases_lt, lt-ltb, le-ltb, le-leb, eq-eqb, eqb-true, length-zip2, get_or-zip2}
-use Rattle.wtf8.proofs.Common.{length-chunk, get_or-chunk, mask_l-mod, tops_compared, chunk, sel_l, zip2, mask_l, top, SurrogateAt, ◌||◌, bit_or, Fits, refl, lt-leb}
+use Rattle.wtf8.proofs.Common.{replicate, w8, inl, inr, sym, ap, ◌∙◌, arith, cases_lt, lt-ltb, le-ltb, le-leb, eq-eqb, eqb-true, length-zip2}
+use Rattle.wtf8.proofs.Common.{get_or-chunk, mask_l-mod, tops_compared, chunk, sel_l, zip2, mask_l, top, SurrogateAt, ◌||◌, bit_or, Fits, refl, lt-leb}
 use Rattle.wtf8.proofs.Common.{Each1, all_units_begun}
 use Rattle.std.proofs.Common.{◌≡◌, ℕ, zero, suc, ◌+◌, ◌-◌, ◌%◌, ◌^◌, ◌<◌, ◌≤◌, eqb, leb, Bool, true, false, cond, ◌&&◌, List, [], ◌∷◌, map, length, get_or}
 use Rattle.std.proofs.Common.{replicate, bit_and, w8, w16, refl, sym, ap, ◌∙◌, subst, arith}
-use Rattle.std.proofs.lemmas.Bool.{and_parts, and_from, both_ways, leb-true, le-leb, eq-eqb, eqb-true}
+use Rattle.std.proofs.lemmas.Bool.{and_parts, and_from, leb-true, le-leb, eq-eqb, eqb-true}
 use Rattle.std.proofs.lemmas.List.{length-replicate}
 use Rattle.std.proofs.lemmas.List.Sums.{sum_by-cons}
-use Rattle.std.proofs.lemmas.Simd.{length-zip2, get_or-zip2, length-chunk, get_or-chunk, mask_l-mod, bitmask_splat}
-use Rattle.std.proofs.lemmas.Simd.{none_from_empty_mask, length-sel_l, get_or-sel_l, Each2-of, fold-sum, sum_bound, sum_fits, sum-zip2}
+use Rattle.std.proofs.lemmas.Simd.{length-zip2, get_or-chunk, mask_l-mod}
+use Rattle.std.proofs.lemmas.Simd.{Each2-of, fold-sum, sum_bound, sum_fits, sum-zip2}
 use lib.Lanes.{chunk, zip2, mask_l, top, Each2, Steps, fold_l, sum_l}
+use lib.Count.{count_trailing_zeros}
 use Rattle.wtf8.proofs.lemmas.lanes.Scan.{compared_marks}
-use Rattle.wtf8.specs.Scan.{Marks, Nowhere, Tells}
-use Rattle.wtf8.specs.SurrogateSearch.{SurrogateAt, HasLane, ShowsSurrogate}
-use Rattle.wtf8.specs.UnitCounts.{units_begun}
+use Rattle.wtf8.specs.Scan.{IsLeast, Marks, Nowhere}
+use Rattle.wtf8.specs.SurrogateSearch.{BeginsInLane, SurrogateAt}
+use Rattle.wtf8.specs.UnitCounts.{HasLane, units_begun}
 
 -- The search in lanes: the mask of two vectors.
 
@@ -41,82 +42,60 @@ tops n (x ∷ xs) [] p q = absurd (omega arith)
 tops zero (x ∷ xs) (y ∷ ys) p q = absurd (omega arith)
 tops (suc n) (x ∷ xs) (y ∷ ys) p q = λ i. both (eqb x 0xED) (leb 0xA0 y) i ∷ tops n xs ys (omega arith) (omega arith) i
 
--- of the n bytes from a place on and those of one further it shows the surrogates
-pub surrogate_marks : (n : ℕ) (w : List ℕ) (i : ℕ) → n ≤ 64 → i + n < length w
-    → Marks (SurrogateAt w) i n (mask_l (map (top 7) (compared n (chunk i n w) (chunk (i + 1) n w))) % 2 ^ 64)
-surrogate_marks n w i few room =
-    let long = length-chunk i n w (omega arith) in
-    let behind = length-chunk (i + 1) n w (omega arith) in
-    subst (λ ms. Marks (SurrogateAt w) i n (mask_l ms % 2 ^ 64)) (sym (tops n (chunk i n w) (chunk (i + 1) n w) long behind))
-    (compared_marks test (SurrogateAt w) i n (chunk i n w) (chunk (i + 1) n w) long behind few says)
-  where
-    second_is : (k : ℕ) → k < n → get_or (chunk (i + 1) n w) k 0 ≡ get_or w (i + k + 1) 0
-    second_is k l = get_or-chunk (i + 1) n w k 0 l ∙ ap (λ m. get_or w m 0) (omega arith)
+-- the mask of the lanes in which a surrogate begins
+module _ (xs ys : List ℕ) (p : length xs ≡ 32) (q : length ys ≡ 32) where
+  abbrev mask : ℕ
+  mask = mask_l (map (top 7) (compared 32 xs ys)) % 2 ^ 64
 
-    says : (k : ℕ) → k < n → IsTrue (test (get_or (chunk i n w) k 0) (get_or (chunk (i + 1) n w) k 0)) ↔ SurrogateAt w (i + k)
-    says k l =
-        let first_is = get_or-chunk i n w k 0 l in (
-          λ e.
-              let parts = and_parts _ _ e in
-              let least = leb-true 0xA0 _ parts.1 in
-              record { within = omega arith; first = sym first_is ∙ eqb-true _ 0xED parts.0; second = omega (arith, second_is k l, least) },
-          λ s. and_from _ _ (eq-eqb _ 0xED (first_is ∙ s.first)) (le-leb 0xA0 _ (omega (arith, second_is k l, s.second))),
-        )
+  says : (k : ℕ) → k < 32 → IsTrue (test (get_or xs k 0) (get_or ys k 0)) ↔ BeginsInLane xs ys (0 + k)
+  says k l =
+      let same : k ≡ 0 + k = omega arith in
+      subst (λ m. IsTrue (test (get_or xs k 0) (get_or ys k 0)) ↔ BeginsInLane xs ys m) same (
+        λ e. let parts = and_parts _ _ e in (eqb-true _ 0xED parts.0, leb-true 0xA0 _ parts.1),
+        λ h. and_from _ _ (eq-eqb _ 0xED h.0) (le-leb 0xA0 _ h.1),
+      )
 
--- ED in no lane
-abbrev leads : ℕ → List ℕ → ℕ
-leads n xs = mask_l (map (top 7) (zip2 (λ a b. lane (eqb a b)) xs (replicate n 0xED))) % 2 ^ 64
+  begin_marks : Marks (BeginsInLane xs ys) 0 32 mask
+  begin_marks = subst (λ ms. Marks (BeginsInLane xs ys) 0 32 (mask_l ms % 2 ^ 64)) (sym (tops 32 xs ys p q)) (compared_marks test (BeginsInLane xs ys) 0 32 xs ys p q (omega arith) says)
 
--- where ED stands in no lane no surrogate begins in the block
-pub no_first_byte : (w : List ℕ) (i : ℕ) → i + 64 < length w → leads 64 (chunk i 64 w) ≡ 0 → Nowhere (SurrogateAt w) i (i + 64)
-no_first_byte w i room e j l u s =
-    let long = length-chunk i 64 w (omega arith) in
-    let empty = sym (bitmask_splat w8 eqb (chunk i 64 w) 64 0xED long (omega arith)) ∙ e in
-    let clear = none_from_empty_mask (λ x. eqb x 0xED) w i 64 0 (omega arith) empty j l u in
-    both_ways _ clear (eq-eqb _ 0xED s.first)
+  pub none_begins : mask ≡ 0 → Nowhere (BeginsInLane xs ys) 0 32
+  none_begins = begin_marks.none
 
--- Whether bytes hold a surrogate, by the lanes of vectors: what the greater lanes of two vectors still show.
+  pub first_begins : ¬ (mask ≡ 0) → IsLeast (BeginsInLane xs ys) 0 (count_trailing_zeros 64 mask) × (count_trailing_zeros 64 mask < 32)
+  first_begins e =
+      let lowest = begin_marks.lowest (omega (arith, e)) in
+      let same : 0 + count_trailing_zeros 64 mask ≡ count_trailing_zeros 64 mask = omega arith in
+      (subst (IsLeast (BeginsInLane xs ys) 0) same lowest.1, lowest.0)
 
-least_own : (x y : ℕ) → x ≤ cond (ltb x y) y x
-least_own x y = elim (cases_lt x y) [ inl h ↦ rw (lt-ltb x y h) (omega arith) | inr h ↦ rw (le-ltb x y h) (omega arith) ]
+-- vectors of the bytes from a place on and from one further
+module _ (w : List ℕ) (i : ℕ) (room : i + 32 < length w) where
+  abbrev in_lane : ℕ → Type 0
+  in_lane = BeginsInLane (chunk i 32 w) (chunk (i + 1) 32 w)
 
-least_other : (x y : ℕ) → y ≤ cond (ltb x y) y x
-least_other x y = elim (cases_lt x y) [ inl h ↦ rw (lt-ltb x y h) (omega arith) | inr h ↦ rw (le-ltb x y h) (omega arith) ]
+  second_is : (k : ℕ) → k < 32 → get_or (chunk (i + 1) 32 w) k 0 ≡ get_or w (i + k + 1) 0
+  second_is k l = get_or-chunk (i + 1) 32 w k 0 l ∙ ap (λ m. get_or w m 0) (omega arith)
 
--- the greater lanes of two vectors
-abbrev pub greater : List ℕ → List ℕ → List ℕ
-greater xs ys = sel_l (map (top 7) (zip2 (λ a b. lane (ltb a b)) xs ys)) ys xs
+  begins_there : (k : ℕ) → k < 32 → in_lane k → SurrogateAt w (i + k)
+  begins_there k l h = record { within = omega arith; first = sym (get_or-chunk i 32 w k 0 l) ∙ h.0; second = omega (arith, second_is k l, h.1) }
 
-module _ (xs ys : List ℕ) (p : length xs ≡ length ys) where
-  is_choice : greater xs ys ≡ sel_l (zip2 ltb xs ys) ys xs
-  is_choice = ap (λ ms. sel_l ms ys xs) (tops_compared w8 ltb xs ys)
+  pub none_there : (m : ℕ) → m ≤ 32 → Nowhere in_lane 0 m → Nowhere (SurrogateAt w) i (i + m)
+  none_there m few none j low high s =
+      let lane : j - i < 32 = omega arith in
+      let place : i + (j - i) ≡ j = omega arith in
+      none (j - i) (omega arith) (omega arith) (
+        get_or-chunk i 32 w (j - i) 0 lane ∙ (ap (λ n. get_or w n 0) place ∙ s.first),
+        omega (arith, second_is (j - i) lane, ap (λ n. get_or w (n + 1) 0) place, s.second),
+      )
 
-  choices_long : length (zip2 ltb xs ys) ≡ length xs
-  choices_long = length-zip2 ltb xs ys p
-
-  greater_length : length (greater xs ys) ≡ length xs
-  greater_length = ap length is_choice ∙ (length-sel_l (zip2 ltb xs ys) ys xs (choices_long ∙ p) choices_long ∙ choices_long)
-
-  greater_lane : (k : ℕ) → k < length xs → get_or (greater xs ys) k 0 ≡ cond (ltb (get_or xs k 0) (get_or ys k 0)) (get_or ys k 0) (get_or xs k 0)
-  greater_lane k l =
-      ap (λ zs. get_or zs k 0) is_choice ∙ (get_or-sel_l (zip2 ltb xs ys) ys xs k 0 (omega (arith, choices_long, l)) (omega (arith, p, l)) l
-      ∙ ap (λ b. cond b (get_or ys k 0) (get_or xs k 0)) (get_or-zip2 ltb xs ys k 0 0 false l (omega (arith, p, l))))
-
-  pub keeps_own : (least : ℕ) → HasLane least xs → HasLane least (greater xs ys)
-  keeps_own least h = (h.0, (omega (arith, h.1.0, greater_length), omega (arith, h.1.1, greater_lane h.0 h.1.0, least_own (get_or xs h.0 0) (get_or ys h.0 0))))
-
-  pub keeps_other : (least : ℕ) → HasLane least ys → HasLane least (greater xs ys)
-  keeps_other least h =
-      let within : h.0 < length xs = omega (arith, h.1.0, p) in
-      (h.0, (omega (arith, within, greater_length), omega (arith, h.1.1, greater_lane h.0 within, least_other (get_or xs h.0 0) (get_or ys h.0 0))))
-
--- vectors of the bytes from a place on
-module _ (n : ℕ) (w : List ℕ) (i : ℕ) where
-  holds_first : (j : ℕ) → i ≤ j → j < i + n → SurrogateAt w j → get_or (chunk i n w) (j - i) 0 ≡ 0xED
-  holds_first j l u s = get_or-chunk i n w (j - i) 0 (omega arith) ∙ (ap (λ m. get_or w m 0) (omega arith) ∙ s.first)
-
-  pub shown_by_firsts : i + n ≤ length w → ShowsSurrogate w i (i + n) 0xED (chunk i n w)
-  shown_by_firsts room j l u s = (j - i, (omega (arith, length-chunk i n w room, l, u), omega (arith, holds_first j l u s)))
+  pub first_there : (k : ℕ) → IsLeast in_lane 0 k × (k < 32) → IsLeast (SurrogateAt w) i (i + k) × (i + k < i + 32)
+  first_there k h = (
+    record {
+      not_before = omega arith;
+      here = begins_there k h.1 h.0.here;
+      none_between = none_there k (omega (arith, h.1)) h.0.none_between;
+    },
+    omega (arith, h.1),
+  )
 
 -- an empty mask of the lanes that are no less than a number
 none_high : (n least : ℕ) (xs : List ℕ) → length xs ≡ n → mask_l (zip2 leb (replicate n least) xs) ≡ 0 → (k : ℕ) → k < length xs → least ≤ get_or xs k 0 → ⊥
@@ -133,16 +112,6 @@ none_at_least n least xs few p t h =
     let told = ap (λ ms. mask_l ms % 2 ^ 64) (tops_compared w8 leb (replicate n least) xs)
     ∙ mask_l-mod (zip2 leb (replicate n least) xs) 64 (omega (arith, long, few)) in
     none_high n least xs p (sym told ∙ eqb-true _ 0 t) h.0 h.1.0 h.1.1
-
--- places at each end of some are clear of surrogates where a vector that shows either's is below the number
-pub none_shown : (w : List ℕ) (from m k stop end least : ℕ) (front back all : List ℕ) → (k ≤ m) × (end ≤ stop) → ShowsSurrogate w from m least front
-    → ShowsSurrogate w k stop least back → ((n : ℕ) → HasLane n front → HasLane n all) → ((n : ℕ) → HasLane n back → HasLane n all)
-    → (b : Bool) → (IsTrue b → ¬ (HasLane least all)) → Tells ⊥ (SurrogateAt w) from end b
-none_shown w from m k stop end least front back all l s t own other true h = λ j low high at. elim (cases_lt j m) [
-  | inl x ↦ h refl (own least (s j low x at))
-  | inr x ↦ h refl (other least (t j (omega (arith, l.0)) (omega (arith, l.1)) at))
-]
-none_shown w from m k stop end least front back all l s t own other false h = λ e _. e
 
 -- Units counted in lanes: what a block's lanes add up to.
 

@@ -8,10 +8,10 @@ returns-then-is_known_utf8 g c i _ =
     let form = c.args.self.now.form in
     subst (λ w. ¬ (SurrogateAt w i)) form.encoded (none_from_scalar form.points i (c.is_known_utf8.ensures c.if-is_known_utf8.true))
 
-pub returns-in_default : goal.returns-in_default
-returns-in_default g c =
+pub returns : goal.returns
+returns g c =
     let own = c.self.inside in
-    let same = c.deref-in_default.ensures.value in
+    let same = c.deref.ensures.value in
     subst (λ w. IsFirst (SurrogateAt w) 0 c.next_surrogate.result) (same ∙ ap (λ (t : UnitString). t.bytes) c.self.view_is)
-    (first_further (SurrogateAt c.deref-in_default.result.now) own.scalar_end c.next_surrogate.result
+    (first_further (SurrogateAt c.deref.result.now) own.scalar_end c.next_surrogate.result
     (λ i l at. none_before own.scalar_end own.well_formed i own.scalar_front l (subst (λ w. SurrogateAt w i) same at)) c.next_surrogate.ensures)

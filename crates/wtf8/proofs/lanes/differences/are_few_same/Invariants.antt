@@ -1,0 +1,7 @@
+use Rattle.wtf8.proofs.Common.{Nowhere}
+use Rattle.wtf8.specs.Differences.{DifferAt}
+use Rattle.wtf8.proofs.lanes.differences.are_few_same.Given as goal
+
+-- equal so far
+abbrev pub invariant-loop-at : goal.invariant-loop-at
+invariant-loop-at l = Nowhere (DifferAt l.own l.others) 0 l.at

@@ -1,0 +1,10 @@
+use Rattle.wtf8.proofs.Common.{◌≤◌, ◌-◌, Nowhere}
+use Rattle.wtf8.specs.Differences.{DifferAt}
+use Rattle.wtf8.proofs.lanes.differences.skip_turns.Given as goal
+
+-- equal so far
+abbrev pub invariant-loop-at : goal.invariant-loop-at
+invariant-loop-at l = (l.at ≤ l.end) × Nowhere (DifferAt l.own l.others) 0 l.at
+
+abbrev pub decreases-loop-at : goal.decreases-loop-at
+decreases-loop-at l = l.end - l.at
