@@ -4,7 +4,7 @@ use Rattle.wtf8.proofs.lemmas.laws.Laws.{below_lanes}
 use Rattle.wtf8.proofs.lemmas.numbers.Readings.{units_bounds}
 use Rattle.wtf8.proofs.lemmas.strings.UnitMarks.{units_are_bytes}
 use Rattle.wtf8.proofs.lemmas.strings.UnitsOut.{behind_ascii}
-use Rattle.wtf8.specs.SurrogateSearch.{HasLane}
+use Rattle.wtf8.specs.UnitCounts.{HasLane}
 use Rattle.wtf8.proofs.strings.unit_positions.is_ascii.Goals as goal
 
 -- a byte among n that are below
