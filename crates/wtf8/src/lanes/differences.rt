@@ -152,7 +152,7 @@ fn first_in_both(own: &[u8], others: &[u8]) -> Option<usize>
     first_in_few(own, others, end)
 }
 
-/// The first place before an end where bytes differ, of no more than a vector has.
+/// The first place before `end` where bytes differ, for no more bytes than a vector has.
 #[inline(always)]
 fn first_in_few(own: &[u8], others: &[u8], end: usize) -> Option<usize>
     requires few { end ≤ VECTOR }
@@ -190,7 +190,7 @@ fn first_in_words<const N: usize, const M: usize>(
     None
 }
 
-/// The first place before an end where bytes differ, of as many as a vector to a block has: in four vectors at the most.
+/// The first place before `end` where bytes differ, for a vector's bytes to a block's, in at most four vectors.
 #[inline(always)]
 fn first_in_vectors(own: &[u8], others: &[u8], end: usize) -> Option<usize>
     requires all { (VECTOR ≤ end) × (end ≤ BLOCK) }
@@ -209,8 +209,8 @@ fn first_in_vectors(own: &[u8], others: &[u8], end: usize) -> Option<usize>
     first_in_block::<16>(own, others, end - 16)
 }
 
-/// The first place before an end where bytes differ, of more than a block has. Many differ in the first block; the others
-/// are equal in turns.
+/// The first place before `end` where bytes differ, for more bytes than a block has. Many lists differ in the first block; the
+/// others are equal in turns, which are skipped.
 #[inline(always)]
 fn first_in_many(own: &[u8], others: &[u8], end: usize) -> Option<usize>
     requires many { BLOCK < end }
@@ -291,7 +291,7 @@ fn first_in_ends<const N: usize>(
     first_in_block::<N>(own, others, end - N)
 }
 
-/// The first place where `N` bytes differ.
+/// The place of the first difference in `N` bytes, or `None` where they are equal.
 #[inline(always)]
 fn first_in_block<const N: usize>(own: &[u8], others: &[u8], at: usize) -> Option<usize>
     requires lanes { (0 < N) × (N ≤ u64.BITS) }
@@ -304,7 +304,7 @@ fn first_in_block<const N: usize>(own: &[u8], others: &[u8], at: usize) -> Optio
     Some(difference_in::<N>(own, others, at))
 }
 
-/// The first place where `N` bytes differ that are not equal.
+/// The place of the first difference in `N` bytes that are not all equal.
 #[inline(always)]
 fn difference_in<const N: usize>(own: &[u8], others: &[u8], at: usize) -> usize
     requires lanes { (0 < N) × (N ≤ u64.BITS) }
