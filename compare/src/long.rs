@@ -110,7 +110,7 @@ pub fn parting_at_each_place() -> Vec<Vec<Call>> {
     let parting = |base| {
         [
             parting_at(&string_of(base, 320), 0..=300),
-            parting_at(&string_of(base, 4110), 4090..=4102),
+            parting_at(&string_of(base, 4110), 4094..=4098),
         ]
     };
     BASES.into_iter().flat_map(parting).collect()
