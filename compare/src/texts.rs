@@ -96,7 +96,7 @@ const CALLS: [Call; 7] = [
         is_compared: false,
     },
     Call {
-        name: "a unit appended",
+        name: "a unit pushed",
         order: None,
         text: 8,
         string: Some(10),
@@ -104,7 +104,7 @@ const CALLS: [Call; 7] = [
         is_compared: false,
     },
     Call {
-        name: "a unit appended, with marks",
+        name: "a unit pushed, with marks",
         order: None,
         text: 9,
         string: None,
