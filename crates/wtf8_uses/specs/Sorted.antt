@@ -11,6 +11,6 @@ use Rattle.wtf8.specs.declared.strings.view.Wtf8.{Wtf8}
 abbrev pub AreInPointOrder : List UnitString → Type 0
 AreInPointOrder strings = IsSorted (λ s t. slice_cmp nat_cmp s.form.points t.form.points) strings
 
--- The same of views.
+-- No view of the list stands before the one in front of it, by their code points (Unicode 5.17, "Binary Order").
 abbrev pub AreViewsInPointOrder : List Wtf8 → Type 0
 AreViewsInPointOrder views = IsSorted (λ s t. slice_cmp nat_cmp (view_points s) (view_points t)) views

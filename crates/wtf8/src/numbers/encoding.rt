@@ -115,7 +115,7 @@ pub(crate) fn append<A: Allocator>(
     append_into(bytes, spare, code_point)
 }
 
-/// The same where the spare room is known.
+/// Appends the bytes of a code point where the spare room is known.
 #[inline(always)]
 #[tactic(auto, using(crate::proofs::lemmas::numbers::Encoding::encoding_one))]
 pub(crate) fn append_into<A: Allocator>(

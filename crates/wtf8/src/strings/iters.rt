@@ -10,8 +10,8 @@ use crate::strings::view::Wtf8;
 use std::alloc::AllocError;
 use std::marker::Model;
 
-/// The code points of a string, in order. It ends, and answers `None` again afterwards; a clone goes on with the same
-/// items and asks for no memory.
+/// An iterator over the code points of a string, in order. It ends, and answers `None` from then on; a clone goes on
+/// with the same items and does not allocate.
 ///
 /// Contracts see it as the list of the code points that are left.
 #[derive(Drop)]
@@ -80,7 +80,7 @@ impl<'a> Iterator for Wtf8CodePoints<'a> {
         self.give_next()
     }
 
-    /// A quarter of the bytes left, rounded up, and their number: a code point has one to four.
+    /// At least a quarter of the bytes left, rounded up, and at most their number, since a code point has one to four.
     fn size_hint(&self) -> (usize, Option<usize>)
         ensures lower { IsWithinCount result.0 (at_most (length self.now)) }
         ensures upper { IfSome result.1 (UpTo (at_most (length self.now))) }
@@ -142,8 +142,8 @@ fn read_unit(bytes: &[u8], position: &mut usize) -> u16
     trail
 }
 
-/// The 16-bit code units of a string, in order: what it was made of, whether they pair or not. It ends, and answers
-/// `None` again afterwards; a clone goes on with the same items and asks for no memory.
+/// An iterator over the 16-bit code units of a string, in order: those that it was made of, paired or not. It ends, and
+/// answers `None` from then on; a clone goes on with the same items and does not allocate.
 ///
 /// Contracts see it as the units that are held back, none or one trail surrogate, and the code points that are left.
 #[derive(Drop)]

@@ -424,19 +424,19 @@ fn count_of(half: Option<u16>) -> usize
     }
 }
 
-/// What lies between two numbers of units: code points, and at either end the half of a pair that is divided there.
+/// A part cut at code units. Where a cut splits a surrogate pair, the half inside stands beside the whole code points.
 #[derive(Clone, Copy)]
 pub struct UnitSlice<'a> {
-    /// The trail surrogate of a pair that the begin divides.
+    /// The trail surrogate of a pair that the beginning of the part splits.
     pub trail: Option<u16>,
-    /// The code points that lie between them as a whole.
+    /// The whole code points of the part.
     pub whole: Wtf8<'a>,
-    /// The lead surrogate of a pair that the end divides.
+    /// The lead surrogate of a pair that the end of the part splits.
     pub lead: Option<u16>,
 }
 
 impl<'a> Wtf8<'a> {
-    /// The number of 16-bit units.
+    /// The length in 16-bit code units.
     pub fn unit_len(&self) -> usize
         ensures { result ≡ length (view_units self.now) }
     {
@@ -447,7 +447,7 @@ impl<'a> Wtf8<'a> {
         }
     }
 
-    /// The 16-bit unit of a number, counted from 0, or `None` where there are no more than so many.
+    /// The code unit at `index`, or `None` at or past the end.
     pub fn unit_at(&self, index: usize) -> Option<u16>
         ensures { result ≡ slice_get (view_units self.now) index }
     {
@@ -457,7 +457,8 @@ impl<'a> Wtf8<'a> {
         unit_by_cut(*self, index)
     }
 
-    /// The unit of a number below that of all units, where the string has as many bytes as units, so that each byte is one.
+    /// The code unit at `index` of an all-ASCII string: one that has as many bytes as code units. `index` must be below
+    /// the length.
     pub fn ascii_unit_at(&self, index: usize) -> u16
         requires ascii { length self.now.bytes.now ≡ length (view_units self.now) }
         requires within { index < length (view_units self.now) }
@@ -466,8 +467,9 @@ impl<'a> Wtf8<'a> {
         u16::from(self.bytes[index])
     }
 
-    /// The units from one number to before another. Where either divides a pair, the pair's half stands beside the
-    /// code points. All of it is a part of the same string and may outlive this view.
+    /// The part from code unit `begin` to before code unit `end`, which must be in order and at most the number of code
+    /// units. Where an end splits a surrogate pair, the half inside stands beside the code points. Borrows the bytes
+    /// for `'a`, so it may outlive this view.
     pub fn slice_units(&self, begin: usize, end: usize) -> UnitSlice<'a>
         requires order { begin ≤ end }
         requires within { end ≤ length (view_units self.now) }

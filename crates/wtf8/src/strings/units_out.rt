@@ -425,8 +425,8 @@ impl<'a> Wtf8<'a> {
         Wtf8::from_well_formed(rest)
     }
 
-    /// Appends the 16-bit units of the string to those that are there. It first finds room for them, and asks for none where
-    /// that room is there; after a refusal the units are as before.
+    /// Appends the 16-bit code units of the string to a vector. Reserves room for them first, and does not allocate if
+    /// they fit. If memory is refused, the vector is unchanged.
     pub fn append_units<B: Allocator>(&self, units: &mut Vec<u16, B>) -> Result<(), AllocError>
         ensures ok { OnOk result (units.new.items ≡ units.old.items ++ view_units self.now) }
         ensures kept { OnErr result (units.new.items ≡ units.old.items) }
