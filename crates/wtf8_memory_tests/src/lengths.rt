@@ -26,8 +26,12 @@ const KINDS: [[u16; 8]; 8] = [
     ],
 ];
 
-/// Lengths beyond those that are tried one by one.
-const LONG: [usize; 4] = [1000, 5000, 20_000, 70_000];
+/// Lengths beyond those that are tried one by one, about those at which strings of one, two and three bytes a unit have 4,096 and
+/// 65,536 bytes.
+const LONG: [usize; 16] = [
+    1000, 1365, 1366, 2048, 4095, 4096, 4097, 5000, 20_000, 21_845, 21_846, 32_768, 65_535, 65_536,
+    65_537, 70_000,
+];
 
 /// A string with more room than it needs, and the units and the code points that it is made of.
 #[derive(Drop)]
