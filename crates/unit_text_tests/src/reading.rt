@@ -79,7 +79,7 @@ fn pieces_of_any_size_are_one_input(rt: HostRuntime) -> Result<(), Fail> {
 }
 
 #[test]
-fn a_pair_is_cut_by_the_largest_piece(rt: HostRuntime) -> Result<(), Fail> {
+fn a_pair_is_cut_by_the_largest_piece_and_by_single_bytes(rt: HostRuntime) -> Result<(), Fail> {
     let mut bytes = Vec::new(rt.alloc());
     let mut text = String::new(rt.alloc());
     for _ in 0..2047 {
@@ -88,7 +88,7 @@ fn a_pair_is_cut_by_the_largest_piece(rt: HostRuntime) -> Result<(), Fail> {
     }
     bytes.extend_from_slice(b"\x3D\xD8\xA9\xDC\x62\x00")?;
     text.push_str("💩b")?;
-    for most in 4095..4098 {
+    for most in [1, 4095, 4096, 4097] {
         let mut reader = Pieces {
             rest: bytes.as_slice(),
             most,

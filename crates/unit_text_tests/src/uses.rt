@@ -11,8 +11,8 @@ use wtf8::{Build, CodePoint, Stopped, Wtf8, Wtf8Buf};
 use wtf8_tests::examples::expect_dump;
 use wtf8_uses::interner::Interner;
 use wtf8_uses::{
-    appending, file_names, joining, maps, points, refusals, round_trips, sorting, table, units,
-    well_formed,
+    appending, file_names, joining, maps, paths, points, refusals, round_trips, sorting, table,
+    units, well_formed,
 };
 
 /// U+1F4A9 as two units, and its bytes.
@@ -26,6 +26,8 @@ const PAIR_DUMP: &str = "F0 9F 92 A9";
 fn lists_are_joined(rt: HostRuntime) -> Result<(), Fail> {
     let whole = joining::joined(rt.alloc(), &[LEAD], &[TRAIL])?;
     expect_dump(rt.alloc(), whole.as_wtf8(), PAIR_DUMP)?;
+    let path = paths::join(rt.alloc(), &[LEAD], &[TRAIL, 0x61])?;
+    expect_dump(rt.alloc(), path.as_wtf8(), "F0 9F 92 A9 61")?;
     let apart = joining::joined(rt.alloc(), &[TRAIL], &[LEAD])?;
     expect_dump(rt.alloc(), apart.as_wtf8(), "ED B2 A9 ED A0 BD")
 }
@@ -300,6 +302,35 @@ fn a_number_stays(rt: HostRuntime) -> Result<(), Fail> {
             (Some(string), Some(dump)) => expect_dump(rt.alloc(), string, dump)?,
             (found, dump) => assert_eq!(rt; found.is_some(), dump.is_some()),
         }
+    }
+    Ok(())
+}
+
+/// The name of a number below 512, by its lowest eight bits: below 256 one of 256 names that have one hash, else eight digits.
+fn name_of(alloc: Global, number: usize) -> Result<String, AllocError> {
+    let mut name = String::new(alloc);
+    let mut left = number;
+    for _ in 0..8 {
+        name.push_str(match (number < 256, left % 2 == 0) {
+            (true, true) => "Aa",
+            (true, false) => "BB",
+            (false, true) => "0",
+            (false, false) => "1",
+        })?;
+        left /= 2;
+    }
+    Ok(name)
+}
+
+#[test]
+fn three_hundred_strings_keep_their_numbers(rt: HostRuntime) -> Result<(), Fail> {
+    let mut interner = Interner::new(rt.alloc());
+    for _ in 0..2 {
+        for number in 0..300 {
+            let name = name_of(rt.alloc(), number)?;
+            assert_eq!(rt; interner.number(Wtf8::from_str(name.as_str()))?, number);
+        }
+        assert_eq!(rt; interner.len(), 300);
     }
     Ok(())
 }
