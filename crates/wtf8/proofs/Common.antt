@@ -37,7 +37,7 @@ pub use Rattle.wtf8.specs.Debug.{shown}
 pub use Rattle.wtf8.specs.Decoding.{point_of, points_of, units_left, decode_steps, ReadsAll}
 pub use Rattle.wtf8.specs.Differences.{IsFirstDifference, PairBegins}
 pub use Rattle.wtf8.specs.Form.{bytes, encoding, IsClean, Reads, IsWellFormed, IsForm}
-pub use Rattle.wtf8.specs.Gains.{GainsUnits, FitsUnits, BeginsWithPoint}
+pub use Rattle.wtf8.specs.Gains.{GainsUnits, Becomes, Gains, BeginsWithPoint}
 pub use Rattle.wtf8.specs.Hex.{digit, hex_of, hex}
 pub use Rattle.wtf8.specs.OneForm.{bytes-injective, bytes_are_encodes, encoding_is_encode}
 pub use Rattle.wtf8.specs.Order.{Before}
