@@ -3,7 +3,7 @@ ghost use Rattle.std.specs.Prelude.{◌≡◌, ℕ, ◌++◌, ◌+◌, ◌*◌, 
 ghost use lib.Lanes.{Each1};
 ghost use Rattle.wtf8.specs.CodePoint.{number};
 ghost use Rattle.wtf8.specs.Form.{IsWellFormed};
-ghost use Rattle.wtf8.specs.Gains.{IsReadAs};
+ghost use Rattle.wtf8.specs.Gains.{IsReadAs, Becomes};
 ghost use Rattle.wtf8.specs.UnitParts.{AreAscii};
 ghost use Rattle.wtf8.specs.Unicode.{units_of};
 ghost use Rattle.wtf8.specs.UnitRows.{IsOfKind, BeginsWithUnits, firsts_of, unit_of_two, unit_of_three, units_of_rows, Writes};
@@ -93,10 +93,7 @@ fn append_ascii<const N: usize, B: Allocator>(
     requires lanes { N ≤ u64.BITS }
     requires all { (N ≤ length view.bytes.now) × (length view.bytes.now ≤ 2 * N) }
     requires ascii { view_units view ≡ view.bytes.now }
-    ensures ok { OnOk result (units.new.items ≡ units.old.items ++ view_units view.entry) }
-    ensures kept { OnErr result (units.new.items ≡ units.old.items) }
-    ensures room { vec_len units.old + length (view_units view.entry) ≤ vec_capacity units.old → IsOk result }
-    ensures capacity { vec_capacity units.old ≤ vec_capacity units.new }
+    ensures { Becomes units.old (units.old.items ++ view_units view.entry) units.new result }
 {
     let bytes = view.bytes;
     units.reserve(bytes.len())?;
@@ -384,10 +381,7 @@ fn widen_all(units: &mut [u16], from: usize, view: Wtf8<'_>) -> usize
 #[inline(never)]
 fn append_few<B: Allocator>(units: &mut Vec<u16, B>, view: Wtf8<'_>) -> Result<(), AllocError>
     requires { length view.bytes.now < FEW }
-    ensures ok { OnOk result (units.new.items ≡ units.old.items ++ view_units view.entry) }
-    ensures kept { OnErr result (units.new.items ≡ units.old.items) }
-    ensures room { vec_len units.old + length (view_units view.entry) ≤ vec_capacity units.old → IsOk result }
-    ensures capacity { vec_capacity units.old ≤ vec_capacity units.new }
+    ensures { Becomes units.old (units.old.items ++ view_units view.entry) units.new result }
 {
     // There are no more units than bytes.
     prove!(view.len() <= FEW);
@@ -399,10 +393,7 @@ fn append_few<B: Allocator>(units: &mut Vec<u16, B>, view: Wtf8<'_>) -> Result<(
 /// Appends the units of a string, which are counted first.
 #[inline(never)]
 fn append_many<B: Allocator>(units: &mut Vec<u16, B>, view: Wtf8<'_>) -> Result<(), AllocError>
-    ensures ok { OnOk result (units.new.items ≡ units.old.items ++ view_units view.entry) }
-    ensures kept { OnErr result (units.new.items ≡ units.old.items) }
-    ensures room { vec_len units.old + length (view_units view.entry) ≤ vec_capacity units.old → IsOk result }
-    ensures capacity { vec_capacity units.old ≤ vec_capacity units.new }
+    ensures { Becomes units.old (units.old.items ++ view_units view.entry) units.new result }
 {
     // There are no more units than bytes.
     prove!(view.len() <= usize::MAX / 2);
