@@ -43,7 +43,7 @@ pub use Rattle.wtf8.specs.OneForm.{bytes-injective, bytes_are_encodes, encoding_
 pub use Rattle.wtf8.specs.Order.{Before}
 pub use Rattle.wtf8.specs.Position.{IsBoundary, IsFront, IsBack}
 pub use Rattle.wtf8.specs.SpacedHex.{spaced}
-pub use Rattle.wtf8.specs.Scan.{IsFirst, IsLeast, Nowhere}
+pub use Rattle.wtf8.specs.FirstPlace.{IsFirst, IsLeast, Nowhere}
 pub use Rattle.wtf8.specs.SurrogateSearch.{SurrogateAt}
 pub use Rattle.wtf8.specs.Surrogates.{AreScalar, replaced, lossy}
 pub use Rattle.wtf8.specs.Unicode.{units_of, units, IsSurrogate, IsLead, IsTrail, pair, IsCodePoint, IsUnit}

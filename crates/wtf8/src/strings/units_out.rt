@@ -4,13 +4,13 @@ ghost use lib.Lanes.{Each1};
 ghost use Rattle.wtf8.specs.CodePoint.{number};
 ghost use Rattle.wtf8.specs.Form.{IsWellFormed};
 ghost use Rattle.wtf8.specs.Gains.{IsReadAs, Becomes};
-ghost use Rattle.wtf8.specs.UnitParts.{AreAscii};
 ghost use Rattle.wtf8.specs.Unicode.{units_of};
 ghost use Rattle.wtf8.specs.UnitRows.{IsOfKind, BeginsWithUnits, firsts_of, unit_of_two, unit_of_three, units_of_rows, Writes};
 ghost use Rattle.wtf8.specs.View.{view_points, view_units};
 
 use crate::lanes::VECTOR;
 use crate::lanes::copies::push_block;
+use crate::lanes::masks::first_set;
 use crate::numbers::code_point::CodePoint;
 use crate::numbers::encoding;
 use crate::numbers::surrogates::{lead_of, trail_of};
@@ -162,32 +162,16 @@ fn widen_point<'a>(units: &mut [u16], left: Unwritten<'a>) -> Unwritten<'a>
     }
 }
 
-/// How many of the first bytes of a block are ASCII.
+/// How many of `N` bytes stand before the first one of another kind: kinds are as many bytes each, and have numbers.
 #[inline(always)]
-fn count_ascii_bytes(block: u8x16) -> usize
-    ensures within { result ≤ VECTOR }
-    ensures ascii { AreAscii (take result block) }
+fn count_of_kind<const N: usize>(bytes: Simd<u8, N>, size: u8, kind: u8) -> usize
+    requires lanes { N ≤ u64.BITS }
+    requires size { 0 < size }
+    ensures within { result ≤ N }
+    ensures each { Each1 (IsOfKind size kind) (take result bytes.entry) }
 {
-    let others = block.simd_ge(Simd::splat(0x80)).to_bitmask();
-    if others == 0 {
-        return VECTOR;
-    }
-    others.trailing_zeros() as usize
-}
-
-/// How many of eight bytes stand before the first one of another kind: kinds are as many bytes each, and have numbers.
-#[inline(always)]
-fn count_of_kind(bytes: u8x8, size: u8, kind: u8) -> usize
-    requires { 0 < size }
-    ensures within { result ≤ 8 }
-    ensures each { Each1 (IsOfKind size kind) (take result bytes) }
-{
-    let kinds = bytes / u8x8::splat(size);
-    let others = kinds.simd_ne(u8x8::splat(kind)).to_bitmask();
-    if others == 0 {
-        return 8;
-    }
-    others.trailing_zeros() as usize
+    let kinds = bytes / Simd::splat(size);
+    first_set(kinds.simd_ne(Simd::splat(kind)).to_bitmask()).unwrap_or(N)
 }
 
 /// The first bytes of eight code points of two bytes, and their units.
@@ -227,7 +211,7 @@ impl Kind<16, 1, 16> for OneByte {
     #[inline(always)]
     fn read(bytes: &[u8]) -> ([u16; 16], usize) {
         let block = u8x16::from_slice(bytes);
-        (widened(block), count_ascii_bytes(block))
+        (widened(block), count_of_kind(block, 128, 0))
     }
 
     #[inline(always)]

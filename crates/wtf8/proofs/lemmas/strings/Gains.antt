@@ -1,10 +1,10 @@
 -- What an appending call adds, where no surrogate is added, and how much room it needs.
 use Rattle.wtf8.proofs.Common.{◌≡◌, ◌+◌, ◌-◌, ◌≤◌, List, [], ◌∷◌, ℕ, ◌++◌, length, take, drop, Result, Ok, Err, OnOk, OnErr, refl, ap, ◌∙◌, sym, subst, arith}
 use Rattle.wtf8.proofs.Common.{append-nil, drop_all, units, units_of, pair, IsLead, IsTrail, IsCodePoint, UnitString, KeepsContents, MeetsAsPair}
-use Rattle.wtf8.proofs.Common.{encoding, IsWellFormed, IsForm, GainsUnits, Becomes, Gains, view_units, view_form, Wtf8, inl, inr, true, chars, IsUtf8, scalars-chars}
-use Rattle.wtf8.proofs.Common.{and_parts, scalar, scalars, IsSurrogate, IsClean, bytes_are_encodes, bytes-injective, AreScalar, append_assoc}
+use Rattle.wtf8.proofs.Common.{encoding, IsWellFormed, IsForm, GainsUnits, Gains, inl, inr, true, chars, IsUtf8, scalars-chars}
+use Rattle.wtf8.proofs.Common.{and_parts, scalar, scalars, IsSurrogate, IsClean, bytes_are_encodes, AreScalar, append_assoc}
 use Rattle.wtf8.proofs.Common.{length-append, All, map-append, take_at, drop_at, All-drop, All-same, Step, FindRoom, Build, Truncate, TruncateUnits, number, numbers}
-use Rattle.wtf8.proofs.Common.{glue, IsUnit, bytes, ◌<◌, cases_lt, append_cancel_left, SurrogateAt, on_ok_weaker, AppendsUnits, vec_capacity}
+use Rattle.wtf8.proofs.Common.{glue, IsUnit, bytes, ◌<◌, cases_lt, append_cancel_left, SurrogateAt, on_ok_weaker, vec_capacity}
 use Rattle.std.proofs.lemmas.List.{length-map}
 use Rattle.std.proofs.lemmas.List.Elements.{All-take}
 use Rattle.std.proofs.lemmas.Str.{encodes-chars}

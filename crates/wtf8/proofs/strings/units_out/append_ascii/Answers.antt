@@ -1,5 +1,4 @@
 use Rattle.wtf8.proofs.Common.{◌++◌, ◌∙◌, ap, sym, arith, rules}
-use Rattle.std.proofs.lemmas.Grind.{common_steps}
 use Rattle.wtf8.proofs.lemmas.lanes.Copies.{ends_appended}
 use Rattle.wtf8.proofs.strings.units_out.append_ascii.Goals as goal
 
