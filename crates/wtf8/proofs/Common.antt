@@ -47,7 +47,7 @@ pub use Rattle.wtf8.specs.FirstPlace.{IsFirst, IsLeast, Nowhere}
 pub use Rattle.wtf8.specs.SurrogateSearch.{SurrogateAt}
 pub use Rattle.wtf8.specs.Surrogates.{AreScalar, replaced, lossy}
 pub use Rattle.wtf8.specs.Unicode.{units_of, units, IsSurrogate, IsLead, IsTrail, pair, IsCodePoint, IsUnit}
-pub use Rattle.wtf8.specs.UnitCounts.{IsPlaceOfUnit, CutsUnits, units_begun, all_units_begun}
+pub use Rattle.wtf8.specs.UnitCounts.{IsCounted, IsPlaceOfUnit, CutsUnits, units_begun, all_units_begun}
 pub use Rattle.wtf8.specs.UnitParts.{IsKnownForm, DividesNoPair, AreAscii, IsBlock, AreTwoByteUnits, AreThreeByteUnits}
 pub use Rattle.wtf8.specs.UnitSteps.{held_in, behind_held, trail_by, unread_after}
 pub use Rattle.wtf8.specs.UnitString.{UnitString}
