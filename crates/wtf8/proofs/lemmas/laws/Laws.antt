@@ -11,13 +11,13 @@ use Rattle.wtf8.specs.Appending.{FitWithin, AddsLength}
 use Rattle.wtf8.specs.Building.{RunsOnce, RunsAddUp, LeavesReserved}
 use Rattle.wtf8.specs.Laws.{FrontAndBackAreWhole}
 use Rattle.wtf8.specs.PositionLaws.{StartIsBoundary, EndIsBoundary, NoneIsBeyondEnd, FrontBoundariesAreOfWhole, WholeBoundariesAreOfFront, WholeBoundariesAreOfBack}
-use Rattle.wtf8.specs.PositionLaws.{BackBoundariesAreOfWhole, BeginningsAreNoLonger, BothAreNoLonger, ListsHaveLengths, AsciiStandsAlone, AsciiIsOneUnit}
+use Rattle.wtf8.specs.PositionLaws.{BackBoundariesAreOfWhole, BeginningsAreNoLonger, BothAreNoLonger, AsciiStandsAlone, AsciiIsOneUnit}
 use Rattle.wtf8.specs.PositionLaws.{AsciiIsNoOtherUnit}
 use Rattle.wtf8.specs.StringLaws.{EqualBuffersHaveEqualUnits, EqualBufferAndViewHaveEqualUnits, EqualViewsHaveEqualUnits, StringsAreJoined, StringsArePaired}
 use Rattle.wtf8.specs.StringLaws.{TextsAreScalar, RoomLeftIsFound, ScalarsStay, FormsAreOfBuffers, FormsAreOfViews, WhatFitsIsFound}
 use Rattle.wtf8.specs.UnitCounts.{HasLane}
 use Rattle.wtf8.proofs.lemmas.numbers.Encoding.{bytes-append, bytes-pushed, row_of, one, two, three, four, Begins}
-use Rattle.wtf8.proofs.lemmas.numbers.Readings.{well_formed_of, reads_same, same_form, units-append, units_bounds, points_bounds, units_one, units_two}
+use Rattle.wtf8.proofs.lemmas.numbers.Readings.{well_formed_of, reads_same, same_form, units-append, units_one, units_two}
 use Rattle.wtf8.proofs.lemmas.numbers.Readings.{units-cons_one, same_reading}
 use Rattle.wtf8.proofs.lemmas.strings.Concatenation.{equal_forms, form-glue, form_paired, form_apart, length_paired, length_apart, one_form, units_read, at_last, before, parted_more}
 use Rattle.wtf8.proofs.lemmas.strings.Gains.{beginning, both_length, scalar_text}
@@ -89,12 +89,6 @@ beginnings w x u v f g =
 
 pub both_no_longer : BothAreNoLonger
 both_no_longer w v x a b f g h = (both_length f g h).most
-
-pub lengths : ListsHaveLengths
-lengths c =
-    let u = units_bounds c in
-    let p = points_bounds c in
-    record { points = p.units_least; units_least = u.at_least; units_most = u.at_most; bytes_most = p.at_most }
 
 -- Proofs of the laws of bytes below 80: each is a code point and a unit by itself.
 

@@ -15,9 +15,9 @@ use Rattle.std.specs.declared.vec.Vec.{Vec}
 use Rattle.wtf8.specs.Appending.{HasRoomFor}
 use Rattle.wtf8.specs.Building.{FindsRoom}
 use Rattle.wtf8.specs.declared.numbers.code_point.CodePoint.{CodePoint}
-use Rattle.wtf8.proofs.lemmas.numbers.Encoding.{length-surrogate, length-encoding_bounds, bytes-append, bytes-pushed, encoding_four}
+use Rattle.wtf8.proofs.lemmas.numbers.Encoding.{length-surrogate, length-encoding_bounds, length-behind, encoding_four}
 use Rattle.wtf8.proofs.lemmas.numbers.Readings.{meets_by, form_of, well_formed_of, same_form, units_from_form, moved, same_reading, same_points}
-use Rattle.wtf8.proofs.lemmas.numbers.Readings.{units-append, same_heads, meets_or_apart, units_one, units_bounds, points_bounds}
+use Rattle.wtf8.proofs.lemmas.numbers.Readings.{units-append, same_heads, meets_or_apart, units_one, lengths}
 use Rattle.wtf8.proofs.lemmas.strings.Concatenation.{paired_bytes, meeting_bytes, form_meeting, form_behind, length-joined, one_form}
 use Rattle.wtf8.proofs.lemmas.strings.Concatenation.{clean-glue, units-glue, glue_meeting, glue_apart, units_read, bytes_paired, bytes_apart, length-paired_bytes, form-glue}
 use Rattle.wtf8.proofs.lemmas.strings.Surrogates.{scalar-middle, surrogate_in}
@@ -166,15 +166,7 @@ pub scalar_all : (c : List ℕ) (k : ℕ) → AreScalar c → AreScalarTo k c
 scalar_all c k s f p b e _ = scalar-middle f p b (subst AreScalar e s)
 
 pub all_scalar : (c : List ℕ) (k : ℕ) → AreScalarTo k c → length (bytes c) ≤ k → AreScalar c
-all_scalar c k s n = scalar_each c (λ f p b e. s f p b e (omega (
-  arith,
-  n,
-  ap (λ d. length (bytes d)) e,
-  ap length (bytes-append f (p ∷ b)),
-  length-append (bytes f) (bytes (p ∷ b)),
-  length-append (encoding p) (bytes b),
-  length-encoding_bounds p,
-)))
+all_scalar c k s n = scalar_each c (λ f p b e. s f p b e (omega (arith, n, ap (λ d. length (bytes d)) e, length-behind f p b, length-encoding_bounds p)))
 
 pub scalar_to-front : (k n : ℕ) (c d : List ℕ) → AreScalarTo k (c ++ d) → n ≤ k → AreScalarTo n c
 scalar_to-front k n c d s l f p b e m = s f p (b ++ d) (ap (λ x. x ++ d) e ∙ append_assoc f (p ∷ b) d) (omega (arith, l, m))
@@ -202,8 +194,8 @@ scalar_to-paired : (k n : ℕ) (f : List ℕ) (l t : ℕ) (r : List ℕ) → IsL
     → n ≤ length (bytes (f ++ l ∷ [])) → AreScalarTo n (f ++ pair l t ∷ r)
 scalar_to-paired k n f l t r lead trail s m u =
     let front = scalar_to-append n f (pair l t ∷ []) (scalar_to-front k n f (l ∷ []) s m) (λ _. ((λ x. omega (arith, x.1)), tt)) in
-    let long = ap length (bytes-pushed f (pair l t)) ∙ length-append (bytes f) (encoding (pair l t)) in
-    let was = ap length (bytes-pushed f l) ∙ length-append (bytes f) (encoding l) in
+    let long = length-behind f (pair l t) [] in
+    let was = length-behind f l [] in
     let four = ap length (encoding_four (pair l t) (omega arith)) in
     subst (AreScalarTo n) (append_assoc f (pair l t ∷ []) r)
     (scalar_to-append n (f ++ pair l t ∷ []) r front (λ x. absurd (omega (arith, x, u, long, was, four, length-surrogate l (omega arith, omega arith)))))
@@ -268,11 +260,11 @@ glued_length c d = elim (meets_or_apart c d) [
       let three = length-surrogate m.trail (omega (arith, m.is_trail), omega (arith, m.is_trail)) in
       let back : length (bytes d) ≡ 3 + length (bytes m.rest) = simp (m.begins, length-append, three) in
       let own : length (units d) ≡ 1 + length (units m.rest) = simp (m.begins, length-append, units_one m.trail (omega (arith, m.is_trail))) in
-      let rest = (units_bounds m.rest).at_least in
+      let rest = (lengths m.rest).units_least in
       record { least = omega (arith, both, paired, back, own, rest); most = omega (arith, both, paired) }
   | inr n ↦
       let both = ap length (bytes_apart c d n refl refl) ∙ length-append (bytes c) (bytes d) in
-      record { least = omega (arith, both, (units_bounds d).at_least); most = omega (arith, both) }
+      record { least = omega (arith, both, (lengths d).units_least); most = omega (arith, both) }
 ]
 
 -- the form of both is as long as those of the parts let it be
@@ -310,7 +302,7 @@ pub extended_length : (ps : List CodePoint) (w u y : List ℕ) → IsForm w u �
 extended_length ps w u y h k =
     let v = units (numbers ps) in
     let back = one_form v (all_back u v (units_read k.points (u ++ v) k.reads)) in
-    omega (arith, (both_length h back.has k).least, (points_bounds (numbers ps)).units_least, length-map ps number)
+    omega (arith, (both_length h back.has k).least, (lengths (numbers ps)).points, length-map ps number)
 
 pub units-points : (ps qs : List CodePoint) → units (numbers (ps ++ qs)) ≡ units (numbers ps) ++ units (numbers qs)
 units-points ps qs = ap units (map-append number ps qs) ∙ units-append (numbers ps) (numbers qs)

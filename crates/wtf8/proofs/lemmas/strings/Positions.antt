@@ -7,7 +7,7 @@ use Rattle.std.proofs.lemmas.List.Sums.{sum_by-append, sum_by_more}
 use Rattle.wtf8.specs.Position.{Splits, IsMiddle}
 use Rattle.wtf8.specs.declared.strings.unit_positions.Place.{Place}
 use Rattle.wtf8.proofs.lemmas.lanes.Surrogates.{begun_low, begun_inside, begun_one, begun_two}
-use Rattle.wtf8.proofs.lemmas.numbers.Encoding.{Begins, first-encoding, inside-encoding, length-encoding_bounds, bytes-append, row_of, one, two, three, four}
+use Rattle.wtf8.proofs.lemmas.numbers.Encoding.{Begins, first-encoding, inside-encoding, length-encoding_bounds, length-behind, bytes-append, row_of, one, two, three, four}
 use Rattle.wtf8.proofs.lemmas.numbers.Readings.{clean-front, clean-back, reads_same, same_heads, same_points, same_reading, well_formed_of, units_one, units_two}
 
 -- Where the bytes of a list of code points may be cut.
@@ -261,18 +261,9 @@ points_about c n s h =
       };
       not_beyond = was.not_beyond;
       holds = λ p rest e.
-          let back : bytes cut.back ≡ encoding p ++ bytes rest = ap bytes e in
-          let long : place < length (bytes c) = omega (
-            arith,
-            cut.front_len,
-            ap length whole,
-            length-append (bytes cut.front) (bytes cut.back),
-            ap length back,
-            length-append (encoding p) (bytes rest),
-            length-encoding_bounds p,
-          ) in
+          let joined : c ≡ cut.front ++ p ∷ rest = cut.joined ∙ ap (λ b. cut.front ++ b) e in
+          let long : place < length (bytes c) = omega (arith, cut.front_len, ap (λ d. length (bytes d)) joined, length-behind cut.front p rest, length-encoding_bounds p) in
           let here : get_or (bytes c) place 0 ≡ get_or (encoding p ++ bytes rest) 0 0 =
-          ap (λ v. get_or v place 0) whole ∙ (get_or-append_right (bytes cut.front) (bytes cut.back) place place 0 cut.front_len (omega arith)
-          ∙ (ap (λ k. get_or (bytes cut.back) k 0) (let zero_there : place - place ≡ 0 = omega arith in zero_there) ∙ ap (λ v. get_or v 0 0) back)) in
+          ap (λ d. get_or (bytes d) place 0) joined ∙ (ap (λ k. get_or (bytes (cut.front ++ p ∷ rest)) k 0) (sym cut.front_len) ∙ first_behind cut.front p rest) in
           omega (arith, next long, ap units_begun here, begun_first p (bytes rest));
     }

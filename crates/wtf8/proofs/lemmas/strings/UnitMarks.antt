@@ -1,14 +1,16 @@
 -- Marks: places in a string where a number of units ends.
 use Rattle.wtf8.proofs.Common.{◌≡◌, ◌+◌, ◌<◌, ◌≤◌, ℕ, zero, suc, List, [], ◌∷◌, ◌++◌, length, take, None, Some, refl, sym, ap, ◌∙◌, subst, arith}
 use Rattle.wtf8.proofs.Common.{length-append, append_assoc, take-append-drop, bytes-injective, units_of, encoding}
-use Rattle.wtf8.proofs.Common.{units, bytes, IsWellFormed, IsForm, CutsUnits, glue}
+use Rattle.wtf8.proofs.Common.{units, bytes, IsWellFormed, IsForm, CutsUnits, glue, Option, ◌-◌, drop}
 use Rattle.std.proofs.Common.{length-take-le}
+use Rattle.std.specs.Prelude.{MatchOption}
+use Rattle.wtf8.specs.UnitCounts.{Divides}
 use Rattle.wtf8.specs.UnitMark.{IsMark, EqualCountsAreMarks, MarksStay}
 use Rattle.wtf8.proofs.lemmas.numbers.Encoding.{bytes-append, row_of, one, two, three, four}
-use Rattle.wtf8.proofs.lemmas.numbers.Readings.{units-append, units_bounds, units_one, units_two, well_formed_of, same_form}
+use Rattle.wtf8.proofs.lemmas.numbers.Readings.{units-append, lengths, units_one, units_two, well_formed_of, same_form}
 use Rattle.wtf8.proofs.lemmas.strings.Concatenation.{reads-glue, one_form, units_read}
 use Rattle.wtf8.proofs.lemmas.strings.Gains.{all_back}
-use Rattle.wtf8.proofs.lemmas.strings.Positions.{cut_by}
+use Rattle.wtf8.proofs.lemmas.strings.Positions.{cut_by, points_behind}
 use Rattle.wtf8.proofs.lemmas.strings.UnitCuts.{undivided}
 
 -- a cut at a number of units is its mark
@@ -51,29 +53,23 @@ bytes_by x front = omega (arith, ap length (bytes-append x.front front), length-
 units_by : {c : List ℕ} {k n : ℕ} (x : CutsUnits c n k None) (front : List ℕ) → length (units (x.front ++ front)) ≡ n + length (units front)
 units_by x front = omega (arith, ap length (units-append x.front front), length-append (units x.front) (units front), x.counted)
 
-pub cut_whole : {c d : List ℕ} {k n place : ℕ} (x : CutsUnits c n k None) → d ≡ x.back → (i m : ℕ) → n + i ≡ m → CutsUnits d i place None → CutsUnits c m (k + place) None
-cut_whole x e i m s y = record {
-  front = x.front ++ y.front;
-  back = y.back;
-  joined = whole_by x y.front y.back e y.joined;
-  front_len = omega (arith, bytes_by x y.front, y.front_len);
-  counted = omega (arith, units_by x y.front, y.counted, s);
-}
+counted_by : {c : List ℕ} {k n : ℕ} (x : CutsUnits c n k None) (front back : List ℕ) (i m : ℕ) → n + i ≡ m → (half : Option ℕ)
+    → MatchOption half (length (units front) ≡ i) (Divides front back i) → MatchOption half (length (units (x.front ++ front)) ≡ m) (Divides (x.front ++ front) back m)
+counted_by x front back i m s None e = omega (arith, units_by x front, e, s)
+counted_by x front back i m s (Some p) d =
+    record { rest = d.rest; first = d.first; supplementary = d.supplementary; inside = omega (arith, units_by x front, d.inside, s) }
 
-pub cut_inside_whole : {c d : List ℕ} {k n place p : ℕ} (x : CutsUnits c n k None) → d ≡ x.back → (i m : ℕ) → n + i ≡ m → CutsUnits d i place (Some p)
-    → CutsUnits c m (k + place) (Some p)
-cut_inside_whole x e i m s y = record {
-  front = x.front ++ y.front;
-  back = y.back;
-  joined = whole_by x y.front y.back e y.joined;
-  front_len = omega (arith, bytes_by x y.front, y.front_len);
-  counted = record {
-    rest = y.counted.rest;
-    first = y.counted.first;
-    supplementary = y.counted.supplementary;
-    inside = omega (arith, units_by x y.front, y.counted.inside, s);
-  };
-}
+pub cut_from_mark : {w v u : List ℕ} (h : IsWellFormed w) (rest : IsWellFormed v) {k n place : ℕ} (m : ℕ) (half : Option ℕ) → IsMark w u k n → v ≡ drop k w → n ≤ m
+    → CutsUnits rest.points (m - n) place half → CutsUnits h.points m (k + place) half
+cut_from_mark h rest {k} {n} {place} m half mark e l y =
+    let x = cut_of h mark in
+    record {
+      front = x.front ++ y.front;
+      back = y.back;
+      joined = whole_by x y.front y.back (points_behind h rest x.front x.back k x.joined x.front_len e) y.joined;
+      front_len = omega (arith, bytes_by x y.front, y.front_len);
+      counted = counted_by x y.front y.back (m - n) m (omega (arith, l)) half y.counted;
+    }
 
 -- a cut inside a pair is the mark of one unit less
 pub mark_before_cut : {w : List ℕ} (h : IsWellFormed w) {k n p : ℕ} (m : ℕ) → m + 1 ≡ n → CutsUnits h.points n k (Some p) → IsMark w (units h.points) k m
@@ -87,7 +83,7 @@ one_each : (c : List ℕ) (k : ℕ) → length (bytes c) ≡ length (units c) �
 one_each c zero e h = record { front = []; back = c; joined = refl; front_len = refl; counted = refl }
 one_each [] (suc k) e h = absurd (omega arith)
 one_each (p ∷ c) (suc k) e h =
-    let bound = (units_bounds c).at_least in
+    let bound = (lengths c).units_least in
     let all_bytes = length-append (encoding p) (bytes c) in
     let all_units = length-append (units_of p) (units c) in
     elim (row_of p) [
@@ -117,7 +113,7 @@ equal_counts w u k f e h =
 pub units_are_bytes : (c : List ℕ) → length (bytes c) ≡ length (units c) → units c ≡ bytes c
 units_are_bytes [] e = refl
 units_are_bytes (p ∷ c) e =
-    let bound = (units_bounds c).at_least in
+    let bound = (lengths c).units_least in
     let all_bytes = length-append (encoding p) (bytes c) in
     let all_units = length-append (units_of p) (units c) in
     elim (row_of p) [

@@ -1,7 +1,7 @@
 use Rattle.wtf8.proofs.Common.{◌≡◌, ◌+◌, ℕ, ◌<◌, ◌≤◌, inl, inr, List, [], ◌∷◌, length, sym, ap, ◌∙◌, arith, length-append, None, Some, subst, cases_lt, units}
 use Rattle.wtf8.proofs.Common.{IsWellFormed, IsPlaceOfUnit, CutsUnits}
 use Rattle.std.proofs.Common.{◌∙◌, sym}
-use Rattle.wtf8.proofs.lemmas.numbers.Readings.{units_one, units_two, units-append, units_bounds}
+use Rattle.wtf8.proofs.lemmas.numbers.Readings.{units_one, units_two, units-append, lengths}
 use Rattle.wtf8.proofs.lemmas.strings.Positions.{PointsAbout, points_about, boundary_of, points_behind}
 use Rattle.wtf8.specs.declared.strings.unit_positions.Place.{Place}
 use Rattle.wtf8.proofs.strings.unit_positions.cut.Goals as goal
@@ -40,7 +40,7 @@ cut_inside {c} {n} {place} x p rest m e =
 pub returns-then-view-n-clause-none : goal.returns-then-view-n-clause-none
 returns-then-view-n-clause-none c =
     let own = c.args.view.well_formed in
-    omega (arith, (units_bounds own.points).at_least, ap length own.encoded, c.if-view-n.true)
+    omega (arith, (lengths own.points).units_least, ap length own.encoded, c.if-view-n.true)
 
 pub returns-then-place-n-clause-some : goal.returns-then-place-n-clause-some
 returns-then-place-n-clause-some c =
