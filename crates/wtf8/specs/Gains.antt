@@ -1,5 +1,6 @@
 -- For private functions: what bytes begin with, what they gained, and whether it fits.
-use Rattle.std.specs.Prelude.{◌≡◌, ℕ, ◌+◌, ◌-◌, ◌*◌, ◌<◌, ◌≤◌, length, List, ◌++◌, slice_index}
+use Rattle.std.specs.Prelude.{◌≡◌, ℕ, ◌+◌, ◌-◌, ◌*◌, ◌<◌, ◌≤◌, length, List, ◌++◌, slice_index, Result, OnOk, OnErr, IsOk, vec_capacity}
+use Rattle.std.specs.declared.vec.Vec.{Vec}
 use Rattle.wtf8.specs.Unicode.{IsCodePoint}
 use Rattle.wtf8.specs.Form.{encoding, IsForm}
 
@@ -31,10 +32,16 @@ IsReadAs w p n = (b : BeginsWithPoint w) → (p ≡ b.point) × (n ≡ length (e
 abbrev pub GainsUnits : List ℕ → List ℕ → List ℕ → Type 0
 GainsUnits old new v = (u : List ℕ) → IsForm old u → IsForm new (u ++ v)
 
--- Some bytes of at most this length are the form of the units of these bytes with v behind them.
-pub record FitsUnits (old v : List ℕ) (capacity : ℕ) : Type 0 where
-  pub units : List ℕ
-  pub whole : List ℕ
-  pub before : IsForm old units
-  pub after : IsForm whole (units ++ v)
-  pub within : length whole ≤ capacity
+module _ {T E Z : Type 0} where
+  -- A call that may be refused for want of memory leaves these numbers in a vector, or what was there; it is not refused where they fit, and gives no room back.
+  pub record Becomes (old : Vec ℕ Z) (whole : List ℕ) (new : Vec ℕ Z) (r : Result T E) : Type 0 where
+    pub ok : OnOk r (new.items ≡ whole)
+    pub err : OnErr r (new.items ≡ old.items)
+    pub room : length whole ≤ vec_capacity old → IsOk r
+    pub capacity : vec_capacity old ≤ vec_capacity new
+
+  -- Such a call leaves bytes that gained these units.
+  pub record Gains (old : Vec ℕ Z) (v : List ℕ) (new : Vec ℕ Z) (r : Result T E) : Type 0 where
+    pub whole : List ℕ
+    pub gained : GainsUnits old.items whole v
+    pub becomes : Becomes old whole new r

@@ -3,6 +3,7 @@ use Rattle.std.specs.Prelude.{◌≡◌, ℕ, ◌+◌, ◌<◌, ◌≤◌, List,
 use Rattle.std.specs.List.{sum_by}
 use Rattle.wtf8.specs.Unicode.{units}
 use Rattle.wtf8.specs.Form.{bytes}
+use Rattle.wtf8.specs.declared.strings.unit_positions.Place.{Place}
 
 -- How many units the code point has whose bytes begin with this one; a byte from 80 to BF begins none (Unicode 3.9, "UTF-8", Table 3-6).
 unfoldable pub units_begun : ℕ → ℕ
@@ -16,13 +17,17 @@ all_units_begun w = sum_by units_begun w
 abbrev pub HasLane : ℕ → List ℕ → Type 0
 HasLane least lanes = (k : ℕ) × ((k < length lanes) × (least ≤ slice_index lanes k))
 
+-- A place among bytes, with how many units begin before it: no more than n.
+pub record IsCounted (w : List ℕ) (n : ℕ) (place : Place) : Type 0 where
+  pub within : place.at ≤ length w
+  pub counted : place.units_before ≡ all_units_begun (take place.at w)
+  pub not_beyond : place.units_before ≤ n
+
 -- The code point that holds unit n begins at a place, and so many units are before it; or n units or fewer begin among all the bytes, and the place is their
 -- end.
-pub record IsPlaceOfUnit (w : List ℕ) (n place before : ℕ) : Type 0 where
-  pub within : place ≤ length w
-  pub counted : before ≡ all_units_begun (take place w)
-  pub not_beyond : before ≤ n
-  pub reaches : place < length w → n < all_units_begun (take (place + 1) w)
+pub record IsPlaceOfUnit (w : List ℕ) (n : ℕ) (place : Place) : Type 0 where
+  pub before : IsCounted w n place
+  pub reaches : place.at < length w → n < all_units_begun (take (place.at + 1) w)
 
 -- The code point p stands first in a list, it has two units, and n counts the first of them behind those of the front.
 pub record Divides (front back : List ℕ) (n p : ℕ) : Type 0 where

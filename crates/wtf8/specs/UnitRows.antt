@@ -3,8 +3,8 @@ use Rattle.std.specs.Prelude.{◌≡◌, ℕ, zero, suc, ◌+◌, ◌*◌, ◌/�
 use Rattle.wtf8.specs.Form.{IsWellFormed}
 use Rattle.wtf8.specs.Unicode.{units}
 
--- Bytes of a kind are those that a size divides to its number: of the size 32 those of number 6 begin code points of two bytes, and of the size 16 those of
--- number 14 code points of three bytes (Unicode 3.9, "UTF-8", Table 3-6).
+-- Bytes of a kind are those that a size divides to its number: of the size 128 those of number 0 are ASCII, of the size 32 those of number 6 begin code points of
+-- two bytes, and of the size 16 those of number 14 code points of three bytes (Unicode 3.9, "UTF-8", Table 3-6).
 abbrev pub IsOfKind : ℕ → ℕ → ℕ → Type 0
 IsOfKind size kind b = b / size ≡ kind
 
@@ -12,6 +12,10 @@ IsOfKind size kind b = b / size ≡ kind
 abbrev pub firsts_of : ℕ → ℕ → List ℕ → List ℕ
 firsts_of n zero w = []
 firsts_of n (suc k) w = get_or w 0 0 ∷ firsts_of n k (drop n w)
+
+-- The unit that the byte of a code point of one byte holds (Unicode 3.9, "UTF-8", Table 3-6).
+abbrev pub unit_of_one : List ℕ → ℕ
+unit_of_one w = get_or w 0 0
 
 -- The unit that bytes of a code point of two bytes hold: the low five and six bits (Unicode 3.9, "UTF-8", Table 3-6).
 abbrev pub unit_of_two : List ℕ → ℕ

@@ -1,14 +1,13 @@
 -- The items that a decoder gives are a reading of the units of its iterator.
 use Rattle.wtf8.proofs.Common.{◌≡◌, zero, suc, ◌+◌, ◌-◌, ◌<◌, length, take, drop, get_or, append-nil, Reads, inl, inr, ℕ, List, [], ◌∷◌, ◌++◌, Option, None, Some, Result, Ok, Err, refl, sym, ap, ◌∙◌, subst, arith}
 use Rattle.wtf8.proofs.Common.{Drains, peekable_steps, peekable_peeked, point_of, points_of, units_left, decode_steps, ReadsAll, IsClean}
-use Rattle.wtf8.proofs.Common.{IsCodePoint, IsLead, IsTrail, units_of, units, pair}
+use Rattle.wtf8.proofs.Common.{IsCodePoint, IsLead, IsTrail, IsSurrogate, MatchResult, units_of, units, pair}
 use Rattle.std.proofs.Common.{MatchOption}
 use Rattle.std.specs.Iterator.{Yields}
 use Rattle.std.specs.Iterator.Adapters.{peekable_source, PeeksNext}
 use Rattle.std.specs.Prelude.{IfSome, IsSomeAnd}
 use Rattle.std.specs.declared.iter.Ahead.{Ahead}
 use Rattle.wtf8.specs.Decoding.{DecodesItem}
-use Rattle.wtf8.specs.declared.numbers.code_point.CodePoint.{CodePoint}
 use Rattle.wtf8.specs.declared.units_in.decode.DecodeUtf16.{DecodeUtf16}
 use Rattle.wtf8.proofs.lemmas.numbers.Readings.{units_one, units_pair}
 
@@ -57,9 +56,9 @@ module _ {S : Type 0} (steps : S → Option ℕ → S → Type 0) where
   no_trail None a b q h e = absurd h
   no_trail (Some o) a b q h e = subst (λ k. IfSome k (λ u. ¬ (IsTrail u))) (sym e.0) h
 
-  item_range : (x : Result CodePoint CodePoint) → IsCodePoint (point_of x)
-  item_range (Ok p) = p.in_range
-  item_range (Err p) = p.in_range
+  item_range : (x : Result ℕ ℕ) → MatchResult x (λ c. IsCodePoint c × ¬ (IsSurrogate c)) IsSurrogate → IsCodePoint (point_of x)
+  item_range (Ok c) kind = kind.0
+  item_range (Err u) kind = omega (arith, kind)
 
   clean_first : (p : ℕ) (c : List ℕ) → IsCodePoint p → IsClean c → ((q : ℕ) (d : List ℕ) → c ≡ q ∷ d → ¬ (IsLead p × IsTrail q)) → IsClean (p ∷ c)
   clean_first p [] range clean apart = range
@@ -73,11 +72,11 @@ module _ {S : Type 0} (steps : S → Option ℕ → S → Type 0) where
       let first = subst (λ u. Drains (peekable_steps steps) s u) front drains in
       no_trail (peekable_peeked s) _ _ q lone first.1.1.1.1 trail
 
-  pub record ReadsLeft (s : Ahead S ℕ) (items : List (Result CodePoint CodePoint)) : Type 0 where
+  pub record ReadsLeft (s : Ahead S ℕ) (items : List (Result ℕ ℕ)) : Type 0 where
     pub clean : IsClean (points_of items)
     pub all_units : Drains (peekable_steps steps) s (units (points_of items))
 
-  reads_left : (items : List (Result CodePoint CodePoint)) (s : DecodeUtf16 S) → Drains (decode_steps steps) s items → ReadsLeft (units_left s) items
+  reads_left : (items : List (Result ℕ ℕ)) (s : DecodeUtf16 S) → Drains (decode_steps steps) s items → ReadsLeft (units_left s) items
   reads_left [] s d = record { clean = tt; all_units = (units_left d.0, (units_left d.1.0, ap units_left d.1.1, d.1.2)) }
   reads_left (x ∷ items) s d =
       let next = d.1.1.0 in
@@ -89,12 +88,12 @@ module _ {S : Type 0} (steps : S → Option ℕ → S → Type 0) where
             (λ r u. peeked_call item.behind (units_left next) u r h) rest.all_units
       ] in
       record {
-        clean = clean_first (point_of x) (points_of items) (item_range x) rest.clean (λ q c e pair. lone_lead (units_left next) q c (item.lone pair.0)
+        clean = clean_first (point_of x) (points_of items) (item_range x item.kind) rest.clean (λ q c e pair. lone_lead (units_left next) q c (item.lone pair.0)
             (subst (λ v. Drains (peekable_steps steps) (units_left next) (units v)) e rest.all_units) pair.1);
         all_units = drains-append (peekable_steps steps) (units_left s) item.behind (units_of (point_of x)) (units (points_of items)) item.taken behind;
       }
 
-  pub reads_all : (items : List (Result CodePoint CodePoint)) (s : DecodeUtf16 S) → peekable_peeked (units_left s) ≡ None → Drains (decode_steps steps) s items
+  pub reads_all : (items : List (Result ℕ ℕ)) (s : DecodeUtf16 S) → peekable_peeked (units_left s) ≡ None → Drains (decode_steps steps) s items
       → ReadsAll steps (peekable_source (units_left s)) items
   reads_all items s e d =
       let r = reads_left items s d in

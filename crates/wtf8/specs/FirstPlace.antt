@@ -1,6 +1,6 @@
--- For private functions: places that are looked through, many of them together.
-use Rattle.std.specs.Int.{w64, trailing_zeros}
-use Rattle.std.specs.Prelude.{◌≡◌, ℕ, ◌+◌, ◌<◌, ◌≤◌, Bool, MatchBool, Option, MatchOption}
+-- For private functions: the first place with a property, and the first lane of a mask that is set.
+use lib.Lanes.{mask_l}
+use Rattle.std.specs.Prelude.{◌≡◌, ℕ, ◌%◌, ◌^◌, ◌<◌, ◌≤◌, Bool, false, List, length, get_or, IsTrue, Option, MatchOption}
 
 -- No place from a start on and below an end has a property.
 abbrev pub Nowhere : (ℕ → Type 0) → ℕ → ℕ → Type 0
@@ -20,11 +20,10 @@ IsFirst P from r = MatchOption r ((j : ℕ) → from ≤ j → ¬ (P j)) (IsLeas
 abbrev pub IsFirstBelow : (ℕ → Type 0) → ℕ → ℕ → Option ℕ → Type 0
 IsFirstBelow P from end r = MatchOption r (Nowhere P from end) (λ i. IsLeast P from i × (i < end))
 
--- An answer says whether places from a start on and below an end are clear of a property. A no is right where the test is exact.
-abbrev pub Tells : Type 0 → (ℕ → Type 0) → ℕ → ℕ → Bool → Type 0
-Tells exact P from end clear = MatchBool clear (Nowhere P from end) (exact → ¬ (Nowhere P from end))
+-- A lane of a mask is set.
+abbrev pub IsSet : List Bool → ℕ → Type 0
+IsSet lanes k = IsTrue (get_or lanes k false)
 
--- The lowest bit of a mask is that of the first of n places with a property, from a start on.
-pub record Marks (P : ℕ → Type 0) (from n mask : ℕ) : Type 0 where
-  pub none : mask ≡ 0 → Nowhere P from (from + n)
-  pub lowest : 0 < mask → (trailing_zeros w64 mask < n) × IsLeast P from (from + trailing_zeros w64 mask)
+-- An answer is the first lane of a mask that is set, whose bits are those of up to 64 lanes, or that there is none.
+abbrev pub IsFirstSet : ℕ → Option ℕ → Type 0
+IsFirstSet bits r = (n : ℕ) (lanes : List Bool) → n ≤ 64 → length lanes ≡ n → bits ≡ mask_l lanes % 2 ^ 64 → IsFirstBelow (IsSet lanes) 0 n r
