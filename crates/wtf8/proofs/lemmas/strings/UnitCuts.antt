@@ -2,8 +2,9 @@
 use Rattle.wtf8.proofs.Common.{BeginsWithPoint, ◌≡◌, ℕ, zero, suc, ◌+◌, ◌≤◌, List, [], ◌∷◌, ◌++◌, length, take, drop, None, Some, refl, sym, ap, ◌∙◌, subst, arith, length-append}
 use Rattle.wtf8.proofs.Common.{append_assoc, take_at, drop_at, slice_get, IsCodePoint, units, IsClean, bytes, encoding, IsWellFormed, IsFront, CutsUnits, ◌<◌, ◌↔◌}
 use Rattle.wtf8.proofs.Common.{inl, inr, Option, get_or, same_from_push, take-append-drop, length-drop, Reads, true, false, ◌/◌, ◌%◌, lt-ltb, le-ltb}
-use Rattle.wtf8.proofs.Common.{drop-drop, take-add, append-nil, IsLead, units_of, trail_by, held_in, behind_held, unread_after}
+use Rattle.wtf8.proofs.Common.{drop-drop, append-nil, IsLead, units_of, trail_by, held_in, behind_held, unread_after}
 use Rattle.std.proofs.Common.{length-take-le}
+use Rattle.std.proofs.Math.Seq.{take-append-add, drop-append-add}
 use Rattle.std.specs.Option.{option_to_list}
 use Rattle.std.specs.Prelude.{IsSome}
 use Rattle.wtf8.specs.UnitSteps.{StepsUnit}
@@ -122,17 +123,11 @@ divides_some {c} {n} {k} {p} {front} {rest} clean d =
     meets_by (units front) (units rest) (lead_of p) (trail_of p) (omega (arith, range, d.large), omega (arith, range, d.large)) (omega (arith, range), omega (arith, range))
     d.kept d.behind
 
--- the first units behind others
-pub take_behind : (f r : List ℕ) (n : ℕ) → take (length f + n) (f ++ r) ≡ f ++ take n r
-take_behind f r n =
-    take-add (length f) n (f ++ r)
-    ∙ (ap (λ x. x ++ take n (drop (length f) (f ++ r))) (take_at f r (length f) refl) ∙ ap (λ x. f ++ take n x) (drop_at f r (length f) refl))
-
 -- units behind others divide the pairs that the whole divides there, where the others end in no lead that a trail would meet
 divides_whole : (f r : List ℕ) (n : ℕ) → (take n r ≡ [] → (g : List ℕ) (l : ℕ) → f ≡ g ++ l ∷ [] → ¬ (IsLead l)) → DividesPair r n ↔ DividesPair (f ++ r) (length f + n)
 divides_whole f r n apart =
-    let front = take_behind f r n in
-    let back : drop (length f + n) (f ++ r) ≡ drop n r = sym (drop-drop n (length f) (f ++ r)) ∙ ap (drop n) (drop_at f r (length f) refl) in (
+    let front = take-append-add f r n in
+    let back = drop-append-add f r n in (
       λ m. meets_by (f ++ m.front) m.rest m.lead m.trail m.is_lead m.is_trail
           (front ∙ (ap (λ x. f ++ x) m.ends ∙ sym (append_assoc f m.front (m.lead ∷ [])))) (back ∙ m.begins),
       λ m. elim (last_of (take n r)) [

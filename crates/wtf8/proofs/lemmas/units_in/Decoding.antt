@@ -1,8 +1,9 @@
 -- The items that a decoder gives are a reading of the units of its iterator.
-use Rattle.wtf8.proofs.Common.{◌≡◌, zero, suc, ◌+◌, ◌-◌, ◌<◌, length, take, drop, get_or, append-nil, Reads, inl, inr, ℕ, List, [], ◌∷◌, ◌++◌, Option, None, Some, Result, Ok, Err, refl, sym, ap, ◌∙◌, subst, arith}
+use Rattle.wtf8.proofs.Common.{◌≡◌, ◌+◌, ◌-◌, ◌<◌, length, take, drop, get_or, append-nil, Reads, inl, inr, ℕ, List, [], ◌∷◌, ◌++◌, Option, None, Some, Result, Ok, Err, refl, sym, ap, ◌∙◌, subst, arith}
 use Rattle.wtf8.proofs.Common.{Drains, peekable_steps, peekable_peeked, point_of, points_of, units_left, decode_steps, ReadsAll, IsClean}
 use Rattle.wtf8.proofs.Common.{IsCodePoint, IsLead, IsTrail, IsSurrogate, MatchResult, units_of, units, pair}
 use Rattle.std.proofs.Common.{MatchOption}
+use Rattle.std.proofs.lemmas.List.{drop_more}
 use Rattle.std.specs.Iterator.{Yields}
 use Rattle.std.specs.Iterator.Adapters.{peekable_source, PeeksNext}
 use Rattle.std.specs.Prelude.{IfSome, IsSomeAnd}
@@ -116,18 +117,11 @@ held_apart (Some None) o Failed e h apart = tt
 held_apart (Some (Some u)) o Failed e h apart = apart u h
 
 -- the units of one code point at a place
-first_unit : (v : List ℕ) (at : ℕ) → at < length v → drop at v ≡ get_or v at 0 ∷ drop (at + 1) v
-first_unit [] at h = absurd (omega (arith, h))
-first_unit (x ∷ v) zero h = refl
-first_unit (x ∷ v) (suc at) h =
-    let next : suc (at + 1) ≡ suc at + 1 = omega arith in
-    first_unit v at (omega (arith, h)) ∙ ap (λ k. get_or v at 0 ∷ drop k (x ∷ v)) next
-
 pub one_read : (v : List ℕ) (at p : ℕ) → at < length v → p ≡ get_or v at 0 → p < 0x10000 → Reads (p ∷ []) (take (at + 1 - at) (drop at v))
 one_read v at p l e h =
     let count : at + 1 - at ≡ 1 = omega arith in
     let whole : take (at + 1 - at) (drop at v) ≡ p ∷ [] =
-    ap (λ k. take k (drop at v)) count ∙ (ap (take 1) (first_unit v at l) ∙ ap (λ n. n ∷ []) (sym e)) in
+    ap (λ k. take k (drop at v)) count ∙ (ap (take 1) (drop_more v at 0 l) ∙ ap (λ n. n ∷ []) (sym e)) in
     record { clean = omega (arith, h); same_units = append-nil _ ∙ (units_one p h ∙ sym whole) }
 
 pub pair_read : (v : List ℕ) (at p : ℕ) → at + 1 < length v → IsLead (get_or v at 0) → IsTrail (get_or v (at + 1) 0)
@@ -136,6 +130,6 @@ pair_read v at p l k m e =
     let lead = get_or v at 0 in
     let trail = get_or v (at + 1) 0 in
     let count : at + 2 - at ≡ 2 = omega arith in
-    let both : drop at v ≡ lead ∷ trail ∷ drop (at + 1 + 1) v = first_unit v at (omega (arith, l)) ∙ ap (λ w. lead ∷ w) (first_unit v (at + 1) l) in
+    let both : drop at v ≡ lead ∷ trail ∷ drop (at + 1 + 1) v = drop_more v at 0 (omega (arith, l)) ∙ ap (λ w. lead ∷ w) (drop_more v (at + 1) 0 l) in
     let whole : take (at + 2 - at) (drop at v) ≡ lead ∷ trail ∷ [] = ap (λ n. take n (drop at v)) count ∙ ap (take 2) both in
     record { clean = omega (arith, e, k, m); same_units = append-nil _ ∙ (ap units_of e ∙ (units_pair lead trail k m ∙ sym whole)) }
