@@ -1,5 +1,5 @@
 //! Strings by their code points.
-ghost use Rattle.std.specs.Prelude.{◌≡◌, ◌++◌, take, drop, IfOk, OnOk};
+ghost use Rattle.std.specs.Prelude.{◌≡◌, ◌++◌, count_by, nat_lt, take, drop, IfOk, OnOk};
 ghost use Rattle.wtf8.specs.Unicode.{units};
 ghost use Rattle.wtf8.specs.View.{view_points, view_units};
 ghost use Rattle.wtf8_uses.specs.CommonFront.{IsCommonFront};
@@ -71,6 +71,19 @@ pub fn common_points(text: Wtf8<'_>, other: Wtf8<'_>) -> usize
             return count;
         }
         count += 1;
+    }
+    count
+}
+
+/// How many code points of a string are supplementary, which are two units each.
+pub fn supplementary_count(text: Wtf8<'_>) -> usize
+    ensures { result ≡ count_by (λ p. nat_lt 0xFFFF p) (view_points text.entry) }
+{
+    let mut count = 0;
+    for point in text.code_points() {
+        if 0xFFFF < point.to_u32() {
+            count += 1;
+        }
     }
     count
 }
