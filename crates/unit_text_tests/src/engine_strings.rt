@@ -3,7 +3,7 @@ use crate::shared::expect_units;
 use std::alloc::{AllocError, Global};
 use std::test::Fail;
 use unit_text::UnitText;
-use wtf8_uses::engine_search::{index_of, replace, split};
+use wtf8_uses::engine_search::{index_of, last_index_of, replace, split};
 use wtf8_uses::engine_strings::{at, code_point_at, pad_start, repeat, to_well_formed, trim_ascii};
 
 /// "a💩b", with a lead behind it.
@@ -178,6 +178,34 @@ fn the_first_place_of_units(rt: HostRuntime) -> Result<(), Fail> {
             index_of(&text, &search, position),
             place,
             "{units:?} from {position}"
+        );
+    }
+    Ok(())
+}
+
+/// Units that are looked for up to a position, and the last place where they stand.
+const LAST_PLACES: [(&[u16], usize, Option<usize>); 10] = [
+    (&[], 9, Some(5)),
+    (&[], 2, Some(2)),
+    (&[0xD83D], usize::MAX, Some(4)),
+    (&[0xD83D], 3, Some(1)),
+    (&[0xD83D], 0, None),
+    (&[0xDCA9, 0x0062], 9, Some(2)),
+    (&[0x0061], 9, Some(0)),
+    (&[0x0063], 9, None),
+    (&UNITS, 9, Some(0)),
+    (&[0x0061, 0xD83D, 0xDCA9, 0x0062, 0xD83D, 0x0061], 9, None),
+];
+
+#[test]
+fn the_last_place_of_units(rt: HostRuntime) -> Result<(), Fail> {
+    let text = text_of(rt.alloc(), &UNITS)?;
+    for (units, position, place) in LAST_PLACES {
+        let search = text_of(rt.alloc(), units)?;
+        assert_eq!(rt;
+            last_index_of(&text, &search, position),
+            place,
+            "{units:?} up to {position}"
         );
     }
     Ok(())

@@ -2,7 +2,7 @@
 use std::alloc::{AllocError, Global};
 use std::test::Fail;
 use unit_text::UnitText;
-use wtf8_uses::strings::{char_at, char_code_at, is_less, starts_with, substring};
+use wtf8_uses::strings::{char_at, char_code_at, ends_with, is_less, starts_with, substring};
 
 /// "a💩b", with a lead behind it.
 const UNITS: [u16; 5] = [0x0061, 0xD83D, 0xDCA9, 0x0062, 0xD83D];
@@ -76,6 +76,34 @@ fn units_that_stand_at_a_position(rt: HostRuntime) -> Result<(), Fail> {
             starts_with(&text, &search, position),
             stands,
             "{search:?} at {position}"
+        );
+    }
+    Ok(())
+}
+
+/// Units, a position, and whether the text before it ends with these units.
+const ENDS: [(&[u16], usize, bool); 10] = [
+    (&[], 9, true),
+    (&[], 2, true),
+    (&[0xD83D], usize::MAX, true),
+    (&[0xD83D], 2, true),
+    (&[0xD83D], 3, false),
+    (&[0x0062, 0xD83D], 5, true),
+    (&[0x0061, 0xD83D], 2, true),
+    (&[0x0061], 0, false),
+    (&[0x0061, 0xD83D, 0xDCA9, 0x0062, 0xD83D], 9, true),
+    (&[0x0061, 0xD83D, 0xDCA9, 0x0062, 0xD83D, 0x0061], 9, false),
+];
+
+#[test]
+fn units_at_the_end(rt: HostRuntime) -> Result<(), Fail> {
+    let text = text_of(rt.alloc(), &UNITS)?;
+    for (units, position, ends) in ENDS {
+        let search = text_of(rt.alloc(), units)?;
+        assert_eq!(rt;
+            ends_with(&text, &search, position),
+            ends,
+            "{search:?} before {position}"
         );
     }
     Ok(())

@@ -9,7 +9,10 @@ use std::test::Fail;
 use unit_text::UnitText;
 use wtf8::{Build, CodePoint, Stopped, Wtf8, Wtf8Buf};
 use wtf8_tests::examples::expect_dump;
+use wtf8_uses::ascii_case::eq_ignore_ascii_case;
+use wtf8_uses::environment::{Variable, environment_block};
 use wtf8_uses::interner::Interner;
+use wtf8_uses::json::json_text;
 use wtf8_uses::{
     appending, file_names, joining, maps, paths, points, refusals, round_trips, sorting, table,
     units, well_formed,
@@ -138,6 +141,24 @@ fn strings_are_sorted_and_found(rt: HostRuntime) -> Result<(), Fail> {
     assert_eq!(rt; table::place_of(strings.as_slice(), &there), Ok(1));
     let absent = Wtf8Buf::from_ill_formed_utf16(rt.alloc(), &[0xF000])?;
     assert_eq!(rt; table::place_of(strings.as_slice(), &absent), Err(1));
+    let slice = strings.as_slice();
+    assert_eq!(rt; table::place_of_view(slice, there.as_wtf8()), Ok(1));
+    assert_eq!(rt; table::place_of_view(slice, Wtf8::from_str("a")), Err(0));
+    Ok(())
+}
+
+#[test]
+fn repeated_strings_are_dropped(rt: HostRuntime) -> Result<(), Fail> {
+    let mut strings = Vec::new(rt.alloc());
+    for text in ["b", "b", "a", "", "", "", "b"] {
+        strings.push(Wtf8Buf::from_str(rt.alloc(), text)?)?;
+    }
+    sorting::drop_repeated(&mut strings);
+    let left = ["b", "a", "", "b"];
+    assert_eq!(rt; strings.len(), left.len());
+    for (string, text) in strings.iter().zip(left) {
+        assert_eq!(rt; string.as_wtf8().as_str(), Some(text));
+    }
     Ok(())
 }
 
@@ -397,6 +418,8 @@ fn a_string_is_copied_by_its_code_points(rt: HostRuntime) -> Result<(), Fail> {
     expect_dump(rt.alloc(), back.as_wtf8(), "41 ED A0 BD")?;
     assert_eq!(rt; points::common_points(text.as_wtf8(), front.as_wtf8()), 2);
     assert_eq!(rt; points::common_points(text.as_wtf8(), back.as_wtf8()), 0);
+    assert_eq!(rt; points::supplementary_count(text.as_wtf8()), 1);
+    assert_eq!(rt; points::supplementary_count(back.as_wtf8()), 0);
     points::push_points(&mut front, back.as_wtf8())?;
     assert_eq!(rt; points::common_points(front.as_wtf8(), text.as_wtf8()), 4);
     expect_dump(rt.alloc(), front.as_wtf8(), whole)
@@ -418,5 +441,73 @@ fn lone_surrogates_are_not_well_formed(rt: HostRuntime) -> Result<(), Fail> {
     let broken = Wtf8Buf::from_ill_formed_utf16(rt.alloc(), &[0x0061, TRAIL, LEAD, TRAIL])?;
     let mended = well_formed::well_formed_text(rt.alloc(), broken.as_wtf8())?;
     assert_eq!(rt; mended.as_str(), "a\u{FFFD}💩");
+    Ok(())
+}
+
+/// Units, and the JSON text of them: what an engine's `JSON.stringify` answers.
+const JSON: [(&[u16], &str); 6] = [
+    (&[], "\"\""),
+    (
+        &[0x0061, 0x0022, 0x0062, 0x005C, 0x0063, 0x002F],
+        "\"a\\\"b\\\\c/\"",
+    ),
+    (
+        &[
+            0x0000, 0x0007, 0x0008, 0x0009, 0x000A, 0x000B, 0x000C, 0x000D, 0x001F, 0x0020, 0x007F,
+        ],
+        "\"\\u0000\\u0007\\b\\t\\n\\u000b\\f\\r\\u001f \u{7F}\"",
+    ),
+    (&[LEAD, TRAIL], "\"💩\""),
+    (&[TRAIL, LEAD], "\"\\udca9\\ud83d\""),
+    (
+        &[0x0061, 0xD800, 0x00E9, 0xDFFF, 0x2028],
+        "\"a\\ud800é\\udfff\u{2028}\"",
+    ),
+];
+
+#[test]
+fn json_texts_are_those_of_an_engine(rt: HostRuntime) -> Result<(), Fail> {
+    for (units, text) in JSON {
+        let string = Wtf8Buf::from_ill_formed_utf16(rt.alloc(), units)?;
+        let json = json_text(rt.alloc(), string.as_wtf8())?;
+        assert_eq!(rt; json.as_str(), text);
+    }
+    Ok(())
+}
+
+#[test]
+fn an_environment_is_one_block(rt: HostRuntime) -> Result<(), Fail> {
+    let value = Wtf8Buf::from_ill_formed_utf16(rt.alloc(), &[LEAD, 0x003D])?;
+    let variables = [
+        Variable {
+            name: Wtf8::from_str("a"),
+            value: value.as_wtf8(),
+        },
+        Variable {
+            name: Wtf8::from_str("=C:"),
+            value: Wtf8::from_str(""),
+        },
+    ];
+    let block = environment_block(rt.alloc(), &variables)?;
+    let expected: [u16; 11] = [
+        0x0061, 0x003D, LEAD, 0x003D, 0, 0x003D, 0x0043, 0x003A, 0x003D, 0, 0,
+    ];
+    assert_eq!(rt; block.as_slice(), expected.as_slice());
+    let empty = environment_block(rt.alloc(), &[])?;
+    assert_eq!(rt; empty.as_slice(), [0].as_slice());
+    Ok(())
+}
+
+#[test]
+fn ascii_letters_are_equal_in_both_cases(rt: HostRuntime) -> Result<(), Fail> {
+    let lead = Wtf8Buf::from_ill_formed_utf16(rt.alloc(), &[0x0041, LEAD])?;
+    let same = Wtf8Buf::from_ill_formed_utf16(rt.alloc(), &[0x0061, LEAD])?;
+    assert!(rt; eq_ignore_ascii_case(lead.as_wtf8(), same.as_wtf8()));
+    assert!(rt; !eq_ignore_ascii_case(lead.as_wtf8(), Wtf8::from_str("a")));
+    assert!(rt; eq_ignore_ascii_case(Wtf8::from_str("aZé[@"), Wtf8::from_str("Azé[@")));
+    assert!(rt; !eq_ignore_ascii_case(Wtf8::from_str("é"), Wtf8::from_str("É")));
+    assert!(rt; !eq_ignore_ascii_case(Wtf8::from_str("@"), Wtf8::from_str("`")));
+    assert!(rt; !eq_ignore_ascii_case(Wtf8::from_str("["), Wtf8::from_str("{")));
+    assert!(rt; eq_ignore_ascii_case(Wtf8::from_str(""), Wtf8::from_str("")));
     Ok(())
 }

@@ -2,12 +2,15 @@
 #![tactic(auto)]
 
 pub mod appending;
+pub mod ascii_case;
 pub mod cuts;
 pub mod engine_search;
 pub mod engine_strings;
+pub mod environment;
 pub mod file_names;
 pub mod interner;
 pub mod joining;
+pub mod json;
 pub mod maps;
 pub mod paths;
 pub mod points;
