@@ -6,7 +6,7 @@ use Rattle.wtf8.proofs.lemmas.numbers.Encoding.{row_of, one, two, three, four, l
 use Rattle.wtf8.proofs.Common.{◌+◌, ◌*◌, ◌%◌, subst, Each1, drop_at, drop-drop, length-drop, length-take, take-append-drop, append_assoc}
 use Rattle.std.proofs.lemmas.List.{get_or_append_left, drop-append-le}
 use native.Mathlib.Nat.{mul-suc}
-use Rattle.wtf8.specs.UnitRows.{IsOfKind, BeginsWithUnits, firsts_of, unit_of_one, unit_of_two, unit_of_three, units_of_rows}
+use Rattle.wtf8.specs.UnitRows.{IsOfKind, BeginsWithUnits, firsts_of, unit_of_two, unit_of_three, units_of_rows}
 use Rattle.wtf8.proofs.lemmas.numbers.Readings.{Taken, first_of, moved, taken, units-cons_one}
 use Rattle.wtf8.specs.Gains.{IsReadAs}
 
@@ -32,6 +32,9 @@ pub record Rows (n : ℕ) (P : ℕ → Type 0) (f : List ℕ → ℕ) : Type 0 w
   pub some : 0 < n
   pub part : (p : ℕ) (r : List ℕ) → P (get_or (encoding p ++ r) 0 0) → Part n f p r
   pub local : (b r : List ℕ) → n ≤ length b → f (b ++ r) ≡ f b
+
+abbrev pub unit_of_one : List ℕ → ℕ
+unit_of_one w = get_or w 0 0
 
 pub one_rows : Rows 1 (IsOfKind 128 0) unit_of_one
 one_rows = record { some = omega arith; part = part; local = λ b r le. get_or_append_left b r 0 0 (omega arith) }
