@@ -255,9 +255,9 @@ steps_lead v at h unit next long g two_on read =
           units_two p l ∙ (ap (λ a. a ∷ trail_of p ∷ []) (sym (read b)) ∙ ap (λ t. unit ∷ t) (sym held)) in
           record {
             within = omega (arith, two_on, ap length whole, length-drop at v);
-            behind = record { points = f.rest; clean = f.clean; encoded = f.encoded ∙ sym (ap behind_held rest ∙ k.1) };
-            first = first_on _ _ h.points f.rest p unit n.0 f.points all;
-            left = left_on _ _ h.points f.rest p unit n.0 f.points all;
+            behind = moved f.behind (ap behind_held rest ∙ k.1);
+            first = first_on _ _ h.points f.behind.points p unit n.0 f.points all;
+            left = left_on _ _ h.points f.behind.points p unit n.0 f.points all;
           }
     ]
 

@@ -98,14 +98,14 @@ behind_rows {P} n f rows (suc c) (suc k) at w b r h e long same le each =
     let value : p ≡ f b = sym part.read ∙ (ap f (sym first.begins.encoded ∙ e) ∙ rows.local b r fits) in
     let cut : drop n w ≡ first.begins.rest = ap (drop n) first.begins.encoded ∙ drop_at (encoding p) first.begins.rest n part.width in
     let behind = behind_rows n f rows c k (n * k) (drop n w) (drop n b) r
-    (record { points = first.rest; clean = first.clean; encoded = first.encoded ∙ sym cut }) (ap (drop n) e ∙ drop-append-le n b r fits)
+    (moved first.behind cut) (ap (drop n) e ∙ drop-append-le n b r fits)
     (omega (arith, long, wide, length-drop n b)) refl (omega (arith, le)) each.1 in
     let further : n * suc k ≡ n + n * k = omega (arith, mul-suc n k) in
     let end : drop at w ≡ drop (n * k) (drop n w) = ap (λ m. drop m w) (same ∙ further) ∙ sym (drop-drop (n * k) n w) in
     record {
       rest = moved behind.rest end;
-      whole = ap units first.points ∙ (units-cons_one p first.rest part.one_unit
-          ∙ (ap (λ m. m ∷ units first.rest) value ∙ ap (λ u. f b ∷ u) behind.whole));
+      whole = ap units first.points ∙ (units-cons_one p first.behind.points part.one_unit
+          ∙ (ap (λ m. m ∷ units first.behind.points) value ∙ ap (λ u. f b ∷ u) behind.whole));
     }
 
 -- bytes are the first ones, and the units, of parts of one byte each
