@@ -13,10 +13,6 @@ abbrev pub firsts_of : ℕ → ℕ → List ℕ → List ℕ
 firsts_of n zero w = []
 firsts_of n (suc k) w = get_or w 0 0 ∷ firsts_of n k (drop n w)
 
--- The unit that the byte of a code point of one byte holds (Unicode 3.9, "UTF-8", Table 3-6).
-abbrev pub unit_of_one : List ℕ → ℕ
-unit_of_one w = get_or w 0 0
-
 -- The unit that bytes of a code point of two bytes hold: the low five and six bits (Unicode 3.9, "UTF-8", Table 3-6).
 abbrev pub unit_of_two : List ℕ → ℕ
 unit_of_two w = get_or w 0 0 % 32 * 64 + get_or w 1 0 % 64

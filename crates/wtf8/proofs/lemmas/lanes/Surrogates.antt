@@ -6,7 +6,7 @@ use Rattle.wtf8.proofs.Common.{Each1, all_units_begun, Option, get_or-zip2}
 use Rattle.std.proofs.Common.{◌≡◌, ℕ, zero, suc, ◌+◌, ◌%◌, ◌^◌, ◌<◌, ◌≤◌, eqb, leb, Bool, true, false, cond, ◌&&◌, List, [], ◌∷◌, map, length, get_or}
 use Rattle.std.proofs.Common.{replicate, bit_and, w8, w16, refl, sym, ap, ◌∙◌, subst, arith}
 use Rattle.std.proofs.lemmas.Bool.{and_parts, and_from, leb-true, le-leb, eq-eqb, eqb-true}
-use Rattle.std.proofs.lemmas.List.{length-replicate}
+use Rattle.std.proofs.lemmas.List.{length-map, length-replicate}
 use Rattle.std.proofs.lemmas.List.Sums.{sum_by-cons}
 use Rattle.std.proofs.lemmas.Simd.{length-zip2, get_or-chunk, mask_l-mod}
 use Rattle.std.proofs.lemmas.Simd.{Each2-of, fold-sum, sum_bound, sum_fits, sum-zip2}
@@ -166,10 +166,6 @@ at_most_two : (xs : List ℕ) → Each1 (λ a. a ≤ 2) (map units_begun xs)
 at_most_two [] = tt
 at_most_two (x ∷ xs) = (begun_most x, at_most_two xs)
 
-pub length_same : (xs : List ℕ) → length (map units_begun xs) ≡ length xs
-length_same [] = refl
-length_same (x ∷ xs) = ap (λ n. suc n) (length_same xs)
-
 sum_same : (xs : List ℕ) → sum_l (map units_begun xs) ≡ all_units_begun xs
 sum_same [] = refl
 sum_same (x ∷ xs) = ap (λ n. units_begun x + n) (sum_same xs) ∙ sym (sum_by-cons units_begun x xs)
@@ -178,7 +174,7 @@ sum_same (x ∷ xs) = ap (λ n. units_begun x + n) (sum_same xs) ∙ sym (sum_by
 pub sum_fits_byte : (xs : List ℕ) → length xs ≤ 64 → Steps (λ s x. Fits w8 (s + x)) (λ s x. s + x) 0 (map units_begun xs)
 sum_fits_byte xs h =
     let bound = sum_bound 2 (map units_begun xs) (at_most_two xs) in
-    sum_fits w8 0 (map units_begun xs) (omega (arith, length_same xs))
+    sum_fits w8 0 (map units_begun xs) (omega (arith, length-map xs units_begun))
 
 pub sum_is : (xs : List ℕ) → fold_l (λ s x. s + x) 0 (map units_begun xs) ≡ all_units_begun xs
 sum_is xs = omega (arith, fold-sum 0 (map units_begun xs), sum_same xs)
@@ -195,7 +191,7 @@ lanes_grow most (a ∷ lanes) [] h = tt
 lanes_grow most (a ∷ lanes) (x ∷ xs) h = (omega (arith, h.0, begun_most x), lanes_grow most lanes xs h.1)
 
 pub sums_grow : (lanes xs : List ℕ) → length lanes ≡ length xs → sum_l (zip2 (λ a b. a + b) lanes (map units_begun xs)) ≡ sum_l lanes + all_units_begun xs
-sums_grow lanes xs e = omega (arith, sum-zip2 lanes (map units_begun xs) (e ∙ sym (length_same xs)), sum_same xs)
+sums_grow lanes xs e = omega (arith, sum-zip2 lanes (map units_begun xs) (e ∙ sym (length-map xs units_begun)), sum_same xs)
 
 -- the sum of lanes that eight blocks were added to
 pub sum_fits_two_bytes : (lanes : List ℕ) → length lanes ≡ 64 → Each1 (λ a. a ≤ 16) lanes → Steps (λ s x. Fits w16 (s + x)) (λ s x. s + x) 0 lanes

@@ -232,22 +232,25 @@ no_bytes (p ∷ c) e = absurd (omega (arith, length-encoding_bounds p, length-ap
 pub no_points : {w : List ℕ} (h : IsWellFormed w) → length w ≡ 0 → h.points ≡ []
 no_points h e = no_bytes h.points (ap length h.encoded ∙ e)
 
+-- bytes that equal well-formed ones have their code points
+abbrev pub empty_at : {w : List ℕ} → w ≡ [] → IsWellFormed w
+empty_at e = record { points = []; clean = tt; encoded = sym e }
+
+abbrev pub moved : {v w : List ℕ} → IsWellFormed v → w ≡ v → IsWellFormed w
+moved h e = record { points = h.points; clean = h.clean; encoded = h.encoded ∙ sym e }
+
 -- the first code point of a string, and what is behind it
 pub record FirstOf (c w : List ℕ) : Type 0 where
   pub begins : BeginsWithPoint w
-  pub rest : List ℕ
-  pub points : c ≡ begins.point ∷ rest
-  pub clean : IsClean rest
-  pub encoded : bytes rest ≡ begins.rest
+  pub behind : IsWellFormed begins.rest
+  pub points : c ≡ begins.point ∷ behind.points
 
 first_by : (c w : List ℕ) → IsClean c → bytes c ≡ w → 0 < length w → FirstOf c w
 first_by [] w x e n = absurd (omega (arith, ap length e))
 first_by (p ∷ c) w x e n = record {
   begins = begins_with p (bytes c) w (clean-first p c x) (sym e);
-  rest = c;
+  behind = record { points = c; clean = clean-rest p c x; encoded = refl };
   points = refl;
-  clean = clean-rest p c x;
-  encoded = refl;
 }
 
 pub first_of : {w : List ℕ} (h : IsWellFormed w) → 0 < length w → FirstOf h.points w
@@ -270,13 +273,6 @@ taken v at h p behind long read =
     ap (λ k. drop k v) was.1 ∙ (sym (drop-drop n at v) ∙ (ap (drop n) b.encoded ∙ drop_at (encoding b.point) b.rest n refl)) in
     record {
       within = omega (arith, was.1, ap length b.encoded, length-append (encoding b.point) b.rest, length-drop at v);
-      rest = record { points = f.rest; clean = f.clean; encoded = f.encoded ∙ sym back };
-      joined = f.points ∙ ap (λ q. q ∷ f.rest) (sym was.0);
+      rest = moved f.behind back;
+      joined = f.points ∙ ap (λ q. q ∷ f.behind.points) (sym was.0);
     }
-
--- bytes that equal well-formed ones have their code points
-abbrev pub empty_at : {w : List ℕ} → w ≡ [] → IsWellFormed w
-empty_at e = record { points = []; clean = tt; encoded = sym e }
-
-abbrev pub moved : {v w : List ℕ} → IsWellFormed v → w ≡ v → IsWellFormed w
-moved h e = record { points = h.points; clean = h.clean; encoded = h.encoded ∙ sym e }

@@ -18,7 +18,7 @@ use Rattle.wtf8.specs.declared.numbers.code_point.CodePoint.{CodePoint}
 use Rattle.wtf8.proofs.lemmas.numbers.Encoding.{length-surrogate, length-encoding_bounds, length-behind, encoding_four}
 use Rattle.wtf8.proofs.lemmas.numbers.Readings.{meets_by, form_of, well_formed_of, same_form, units_from_form, moved, same_reading, same_points}
 use Rattle.wtf8.proofs.lemmas.numbers.Readings.{units-append, same_heads, meets_or_apart, units_one, lengths}
-use Rattle.wtf8.proofs.lemmas.strings.Concatenation.{paired_bytes, meeting_bytes, form_meeting, form_behind, length-joined, one_form}
+use Rattle.wtf8.proofs.lemmas.strings.Concatenation.{paired_bytes, meeting_bytes, form_meeting, form_behind, one_form}
 use Rattle.wtf8.proofs.lemmas.strings.Concatenation.{clean-glue, units-glue, glue_meeting, glue_apart, units_read, bytes_paired, bytes_apart, length-paired_bytes, form-glue}
 use Rattle.wtf8.proofs.lemmas.strings.Surrogates.{scalar-middle, surrogate_in}
 use Rattle.wtf8.proofs.lemmas.strings.Positions.{begun}
@@ -77,7 +77,6 @@ gains_point {w} h p range n = subst (GainsUnits w (w ++ encoding p)) (append-nil
 pub record Joined (w : List ℕ) (l t : ℕ) : Type 0 where
   pub three : 3 ≤ length w
   pub gains : GainsUnits w (take (length w - 3) w ++ encoding (pair l t)) (units_of t)
-  pub longer : length (take (length w - 3) w ++ encoding (pair l t)) ≡ length w + 1
 
 pub joined : {w : List ℕ} (h : IsWellFormed w) (f : List ℕ) (l t : ℕ) → IsLead l → IsTrail t → h.points ≡ f ++ l ∷ [] → Joined w l t
 joined {w} h f l t lead trail e =
@@ -88,7 +87,7 @@ joined {w} h f l t lead trail e =
     let nothing : drop 3 (encoding t) ≡ [] = drop_all 3 (encoding t) (omega (arith, length-surrogate t (omega arith, omega arith))) in
     let whole : pair_bytes ++ drop 3 (encoding t) ≡ pair_bytes = ap (λ r. pair_bytes ++ r) nothing ∙ append-nil pair_bytes in
     let gains = subst (GainsUnits w pair_bytes) (append-nil (units_of t)) (subst (λ x. GainsUnits w x (units (t ∷ []))) whole (gains_meeting h k m)) in
-    record { three = three; gains = gains; longer = length-joined w l t lead trail three }
+    record { three = three; gains = gains }
 
 -- A text's bytes are well-formed, and its characters are their code points.
 

@@ -15,14 +15,14 @@ use Rattle.wtf8.proofs.lemmas.strings.UnitCuts.{undivided}
 
 -- a cut at a number of units is its mark
 pub mark_at_cut : {w : List ℕ} (h : IsWellFormed w) {k n : ℕ} → CutsUnits h.points n k None → IsMark w (units h.points) k n
-mark_at_cut {w} h {k} {n} x =
+mark_at_cut h {k} at =
+    let x = undivided refl at in
     let cut = cut_by h x.front x.back k x.joined x.front_len in
-    let whole = undivided x in
     record {
       position_within = cut.within;
-      units_within = whole.within;
-      before = record { points = x.front; reads = record { clean = cut.before.clean; same_units = sym whole.kept }; encoded = cut.before.encoded };
-      behind = record { points = x.back; reads = record { clean = cut.behind.clean; same_units = sym whole.behind }; encoded = cut.behind.encoded };
+      units_within = x.within;
+      before = record { points = x.front; reads = record { clean = cut.before.clean; same_units = sym x.kept }; encoded = cut.before.encoded };
+      behind = record { points = x.back; reads = record { clean = cut.behind.clean; same_units = sym x.behind }; encoded = cut.behind.encoded };
     }
 
 mark_of : {w u : List ℕ} (f : IsForm w u) {k n : ℕ} → CutsUnits f.points n k None → IsMark w u k n

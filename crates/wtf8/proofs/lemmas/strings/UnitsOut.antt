@@ -6,7 +6,7 @@ use Rattle.wtf8.proofs.lemmas.numbers.Encoding.{row_of, one, two, three, four, l
 use Rattle.wtf8.proofs.Common.{◌+◌, ◌*◌, ◌%◌, subst, Each1, drop_at, drop-drop, length-drop, length-take, take-append-drop, append_assoc}
 use Rattle.std.proofs.lemmas.List.{get_or_append_left, drop-append-le}
 use native.Mathlib.Nat.{mul-suc}
-use Rattle.wtf8.specs.UnitRows.{IsOfKind, BeginsWithUnits, firsts_of, unit_of_one, unit_of_two, unit_of_three, units_of_rows}
+use Rattle.wtf8.specs.UnitRows.{IsOfKind, BeginsWithUnits, firsts_of, unit_of_two, unit_of_three, units_of_rows}
 use Rattle.wtf8.proofs.lemmas.numbers.Readings.{Taken, first_of, moved, taken, units-cons_one}
 use Rattle.wtf8.specs.Gains.{IsReadAs}
 
@@ -32,6 +32,9 @@ pub record Rows (n : ℕ) (P : ℕ → Type 0) (f : List ℕ → ℕ) : Type 0 w
   pub some : 0 < n
   pub part : (p : ℕ) (r : List ℕ) → P (get_or (encoding p ++ r) 0 0) → Part n f p r
   pub local : (b r : List ℕ) → n ≤ length b → f (b ++ r) ≡ f b
+
+abbrev pub unit_of_one : List ℕ → ℕ
+unit_of_one w = get_or w 0 0
 
 pub one_rows : Rows 1 (IsOfKind 128 0) unit_of_one
 one_rows = record { some = omega arith; part = part; local = λ b r le. get_or_append_left b r 0 0 (omega arith) }
@@ -95,14 +98,14 @@ behind_rows {P} n f rows (suc c) (suc k) at w b r h e long same le each =
     let value : p ≡ f b = sym part.read ∙ (ap f (sym first.begins.encoded ∙ e) ∙ rows.local b r fits) in
     let cut : drop n w ≡ first.begins.rest = ap (drop n) first.begins.encoded ∙ drop_at (encoding p) first.begins.rest n part.width in
     let behind = behind_rows n f rows c k (n * k) (drop n w) (drop n b) r
-    (record { points = first.rest; clean = first.clean; encoded = first.encoded ∙ sym cut }) (ap (drop n) e ∙ drop-append-le n b r fits)
+    (moved first.behind cut) (ap (drop n) e ∙ drop-append-le n b r fits)
     (omega (arith, long, wide, length-drop n b)) refl (omega (arith, le)) each.1 in
     let further : n * suc k ≡ n + n * k = omega (arith, mul-suc n k) in
     let end : drop at w ≡ drop (n * k) (drop n w) = ap (λ m. drop m w) (same ∙ further) ∙ sym (drop-drop (n * k) n w) in
     record {
       rest = moved behind.rest end;
-      whole = ap units first.points ∙ (units-cons_one p first.rest part.one_unit
-          ∙ (ap (λ m. m ∷ units first.rest) value ∙ ap (λ u. f b ∷ u) behind.whole));
+      whole = ap units first.points ∙ (units-cons_one p first.behind.points part.one_unit
+          ∙ (ap (λ m. m ∷ units first.behind.points) value ∙ ap (λ u. f b ∷ u) behind.whole));
     }
 
 -- bytes are the first ones, and the units, of parts of one byte each

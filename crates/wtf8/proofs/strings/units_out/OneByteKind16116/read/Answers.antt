@@ -1,6 +1,5 @@
 use Rattle.wtf8.proofs.Common.{◌≡◌, ◌∙◌, arith, length, take, length-take}
-use Rattle.wtf8.specs.UnitRows.{unit_of_one}
-use Rattle.wtf8.proofs.lemmas.strings.UnitsOut.{begins_with_rows, one_rows, firsts_of_one, units_of_one}
+use Rattle.wtf8.proofs.lemmas.strings.UnitsOut.{begins_with_rows, unit_of_one, one_rows, firsts_of_one, units_of_one}
 use Rattle.wtf8.proofs.strings.units_out.OneByteKind16116.read.Goals as goal
 
 pub returns-clause-begins : goal.returns-clause-begins
