@@ -8,11 +8,11 @@ ghost use Rattle.wtf8.specs.Order.{Before};
 ghost use Rattle.wtf8.specs.UnitPosition.{units_of_slice};
 ghost use Rattle.wtf8.specs.View.{view_units};
 
-use crate::marks;
+use crate::marks::{self, Marks};
 use std::alloc::{AllocError, Allocator};
 use std::cmp::Ordering;
 use std::marker::Model;
-use wtf8::{CodePoint, UnitMark, UnitSlice, Wtf8, Wtf8Buf, laws};
+use wtf8::{CodePoint, UnitSlice, Wtf8, Wtf8Buf, laws};
 
 /// A text that is counted, cut and compared by its 16-bit units, as ECMAScript counts a string. It may hold any units,
 /// and is kept as WTF-8, with its number of units. `mark_units` gives it marks, by which a unit is found at once wherever
@@ -23,7 +23,7 @@ use wtf8::{CodePoint, UnitMark, UnitSlice, Wtf8, Wtf8Buf, laws};
 pub struct UnitText<A: Allocator> {
     pub(crate) text: Wtf8Buf<A>,
     count: usize,
-    marks: Option<Vec<UnitMark, A>>,
+    marks: Option<Marks<A>>,
 }
 
 impl<A: Allocator> Model for UnitText<A> {
@@ -33,11 +33,10 @@ impl<A: Allocator> Model for UnitText<A> {
 
     ghost view = { λ t. t.text.units };
 
-    ghost use Rattle.std.specs.List.{All};
     ghost use Rattle.std.specs.Prelude.{◌≡◌, length, IfSome};
-    ghost use Rattle.unit_text.specs.Marks.{IsKept};
+    ghost use Rattle.unit_text.specs.Marks.{AreMarks};
 
-    ghost invariant = { λ t. (t.count ≡ length t.text.units) × IfSome t.marks (λ marks. All (IsKept t.text.bytes t.text.units) marks.items) };
+    ghost invariant = { λ t. (t.count ≡ length t.text.units) × IfSome t.marks (λ m. AreMarks t.text.bytes t.text.units m.kept.items m.is_refused) };
 }
 
 impl<A: Allocator> UnitText<A> {
