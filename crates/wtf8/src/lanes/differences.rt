@@ -2,8 +2,8 @@
 ghost use Rattle.std.specs.Cmp.Lexicographic.{pointwise, slice_cmp};
 ghost use Rattle.std.specs.Ordering.{nat_cmp};
 ghost use Rattle.std.specs.Prelude.{◌≡◌, ◌+◌, ◌*◌, ◌<◌, ◌≤◌, min, length, slice_get, nat_eq, ⊤};
-ghost use Rattle.wtf8.specs.Differences.{DifferAt, IsFirstDifference, Tells};
-ghost use Rattle.wtf8.specs.FirstPlace.{IsFirstBelow, Nowhere};
+ghost use Rattle.wtf8.specs.private.Differences.{DifferAt, IsFirstDifference, Tells};
+ghost use Rattle.wtf8.specs.private.FirstPlace.{IsFirstBelow, Nowhere};
 
 use crate::lanes::masks::first_set;
 use crate::lanes::{BLOCK, TURN, VECTOR};

@@ -4,7 +4,7 @@ ghost use Rattle.std.specs.Prelude.{◌≡◌, [], ◌++◌, ◌+◌, ◌*◌, �
 ghost use Rattle.std.specs.Simd.Lanes.{Each1};
 ghost use Rattle.std.specs.String.{string_bytes};
 ghost use Rattle.wtf8.specs.Hex.{digit, hex_of, hex};
-ghost use Rattle.wtf8.specs.SpacedHex.{spaced};
+ghost use Rattle.wtf8.specs.private.SpacedHex.{spaced};
 
 use crate::lanes::VECTOR;
 use std::alloc::{AllocError, Allocator};

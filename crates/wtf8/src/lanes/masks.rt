@@ -1,5 +1,5 @@
 // Masks of comparisons in lanes.
-ghost use Rattle.wtf8.specs.FirstPlace.{IsFirstSet};
+ghost use Rattle.wtf8.specs.private.FirstPlace.{IsFirstSet};
 
 /// The first lane of a mask that is set, by the bits of its lanes, or `None` where none is.
 #[inline(always)]

@@ -1,8 +1,8 @@
 // The search for surrogates in bytes, and their replacement.
 ghost use Rattle.std.specs.Prelude.{◌≡◌, ◌∷◌, ◌++◌, ◌+◌, ◌<◌, ◌≤◌, length, take, drop};
 ghost use Rattle.wtf8.specs.Form.{IsWellFormed, bytes as bytes_of};
-ghost use Rattle.wtf8.specs.FirstPlace.{IsFirst, IsFirstBelow, Nowhere};
-ghost use Rattle.wtf8.specs.SurrogateSearch.{BeginsInLane, SurrogateAt};
+ghost use Rattle.wtf8.specs.private.FirstPlace.{IsFirst, IsFirstBelow, Nowhere};
+ghost use Rattle.wtf8.specs.private.SurrogateSearch.{BeginsInLane, SurrogateAt};
 ghost use Rattle.wtf8.specs.Surrogates.{lossy};
 
 use crate::lanes::masks::first_set;

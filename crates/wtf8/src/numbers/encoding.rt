@@ -3,9 +3,9 @@ ghost use Rattle.std.specs.Prelude.{◌≡◌, ◌++◌, ◌+◌, ◌-◌, ◌/�
 ghost use Rattle.std.specs.Prelude.{ℕ, List, IsTrue, length, slice_index, OnOk, IsOk, vec_len, vec_capacity};
 ghost use Rattle.wtf8.specs.CodePoint.{number};
 ghost use Rattle.wtf8.specs.Form.{encoding};
-ghost use Rattle.wtf8.specs.Gains.{BeginsWithPoint, IsReadAs, Becomes};
+ghost use Rattle.wtf8.specs.private.Gains.{BeginsWithPoint, IsReadAs, Becomes};
 ghost use Rattle.wtf8.specs.Unicode.{IsCodePoint};
-ghost use Rattle.wtf8.specs.UnitSteps.{trail_by};
+ghost use Rattle.wtf8.specs.private.UnitSteps.{trail_by};
 
 use crate::numbers::code_point::CodePoint;
 use std::alloc::{AllocError, Allocator};

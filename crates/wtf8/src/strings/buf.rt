@@ -8,10 +8,10 @@ ghost use Rattle.wtf8.specs.Form.{IsWellFormed, IsForm, Reads, bytes, encoding};
 ghost use Rattle.wtf8.specs.OneForm.{IsWellFormed-prop, AreScalarTo, AreScalarTo-prop};
 ghost use Rattle.wtf8.specs.Position.{IsBoundary, IsFront};
 ghost use Rattle.wtf8.specs.Surrogates.{AreScalar, lossy};
-ghost use Rattle.wtf8.specs.FirstPlace.{IsFirst};
-ghost use Rattle.wtf8.specs.SurrogateSearch.{SurrogateAt};
+ghost use Rattle.wtf8.specs.private.FirstPlace.{IsFirst};
+ghost use Rattle.wtf8.specs.private.SurrogateSearch.{SurrogateAt};
 ghost use Rattle.wtf8.specs.Unicode.{units, units_of};
-ghost use Rattle.wtf8.specs.UnitParts.{AreAscii};
+ghost use Rattle.wtf8.specs.private.UnitParts.{AreAscii};
 ghost use Rattle.wtf8.specs.UnitPosition.{TruncatesUnits};
 ghost use Rattle.wtf8.specs.View.{view_points, view_units};
 

@@ -5,7 +5,7 @@ ghost use Rattle.wtf8.specs.CodePoint.{numbers};
 ghost use Rattle.wtf8.specs.Appending.{AppendsPoints, HasRoomFor};
 ghost use Rattle.wtf8.specs.Form.{IsForm};
 ghost use Rattle.wtf8.specs.Unicode.{units};
-ghost use Rattle.wtf8.specs.UnitParts.{AreAscii};
+ghost use Rattle.wtf8.specs.private.UnitParts.{AreAscii};
 ghost use Rattle.wtf8.specs.declared.numbers.code_point.CodePoint.{CodePoint};
 
 use crate::numbers::code_point::CodePoint;

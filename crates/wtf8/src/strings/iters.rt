@@ -2,7 +2,7 @@
 ghost use Rattle.std.specs.Prelude.{◌≤◌, ◌<◌, length, drop};
 ghost use Rattle.wtf8.specs.Form.{IsWellFormed};
 ghost use Rattle.wtf8.specs.OneForm.{IsWellFormed-prop};
-ghost use Rattle.wtf8.specs.UnitSteps.{behind_held, StepsUnit};
+ghost use Rattle.wtf8.specs.private.UnitSteps.{behind_held, StepsUnit};
 
 use crate::numbers::code_point::CodePoint;
 use crate::numbers::encoding;
@@ -161,7 +161,7 @@ pub struct IllFormedUtf16CodeUnits<'a> {
 impl<'a> Model for IllFormedUtf16CodeUnits<'a> {
     ghost use Rattle.std.specs.Prelude.{drop};
     ghost use Rattle.wtf8.specs.Units.{Unread};
-    ghost use Rattle.wtf8.specs.UnitSteps.{held_in};
+    ghost use Rattle.wtf8.specs.private.UnitSteps.{held_in};
 
     ghost Value = { Unread };
 
@@ -174,7 +174,7 @@ impl<'a> IllFormedUtf16CodeUnits<'a> {
     ghost use Rattle.wtf8.specs.Form.{bytes};
     ghost use Rattle.wtf8.specs.Unicode.{units};
     ghost use Rattle.wtf8.specs.Units.{unread_units};
-    ghost use Rattle.wtf8.specs.UnitSteps.{unread_after};
+    ghost use Rattle.wtf8.specs.private.UnitSteps.{unread_after};
     ghost use Rattle.wtf8.specs.View.{view_points};
 
     pub(crate) fn new(view: Wtf8<'a>) -> IllFormedUtf16CodeUnits<'a>

@@ -3,7 +3,7 @@ ghost use Rattle.std.specs.Prelude.{◌≡◌, ◌++◌, ◌+◌, ◌-◌, ◌*�
 ghost use Rattle.std.specs.Option.{option_to_list};
 ghost use Rattle.wtf8.specs.Form.{encoding};
 ghost use Rattle.wtf8.specs.Unicode.{IsLead};
-ghost use Rattle.wtf8.specs.UnitCounts.{units_begun, all_units_begun, HasLane, IsCounted, IsPlaceOfUnit, CutsUnits};
+ghost use Rattle.wtf8.specs.private.UnitCounts.{units_begun, all_units_begun, HasLane, IsCounted, IsPlaceOfUnit, CutsUnits};
 ghost use Rattle.wtf8.specs.UnitPosition.{units_of_slice, DividesPair};
 ghost use Rattle.wtf8.specs.View.{view_points, view_units};
 
@@ -38,7 +38,7 @@ struct Place {
 }
 
 /// How many units the code point has whose bytes begin with this one; 0 where none begins with it.
-#[tactic(auto, unfolding(crate::specs::UnitCounts::units_begun))]
+#[tactic(auto, unfolding(crate::specs::private::UnitCounts::units_begun))]
 fn units_begun_by(byte: u8) -> usize
     ensures { result ≡ units_begun byte }
 {

@@ -3,9 +3,9 @@ ghost use Rattle.std.specs.Prelude.{◌≡◌, ℕ, ◌++◌, ◌+◌, ◌*◌, 
 ghost use lib.Lanes.{Each1};
 ghost use Rattle.wtf8.specs.CodePoint.{number};
 ghost use Rattle.wtf8.specs.Form.{IsWellFormed};
-ghost use Rattle.wtf8.specs.Gains.{IsReadAs, Becomes};
+ghost use Rattle.wtf8.specs.private.Gains.{IsReadAs, Becomes};
 ghost use Rattle.wtf8.specs.Unicode.{units_of};
-ghost use Rattle.wtf8.specs.UnitRows.{IsOfKind, BeginsWithUnits, firsts_of, unit_of_two, unit_of_three, units_of_rows, Writes};
+ghost use Rattle.wtf8.specs.private.UnitRows.{IsOfKind, BeginsWithUnits, firsts_of, unit_of_two, unit_of_three, units_of_rows, Writes};
 ghost use Rattle.wtf8.specs.View.{view_points, view_units};
 
 use crate::lanes::VECTOR;

@@ -3,10 +3,10 @@ ghost use Rattle.std.specs.Prelude.{◌≡◌, ◌↔◌, ℕ, ◌-◌, ◌<◌,
 ghost use Rattle.std.specs.Iterator.{count_map, Drains};
 ghost use Rattle.std.specs.Iterator.Adapters.{peekable_can, peekable_source, peekable_peeked, items_left_with_peeked};
 ghost use Rattle.wtf8.specs.CodePoint.{number};
-ghost use Rattle.wtf8.specs.Decoding.{point_of, units_left, decode_steps, ReadsAll};
+ghost use Rattle.wtf8.specs.private.Decoding.{point_of, units_left, decode_steps, ReadsAll};
 ghost use Rattle.wtf8.specs.Form.{Reads};
 ghost use Rattle.wtf8.specs.Unicode.{IsCodePoint, IsLead, IsTrail, IsSurrogate, pair};
-ghost use Rattle.wtf8.specs.UnitParts.{AppendsForm, DividesNoPair};
+ghost use Rattle.wtf8.specs.private.UnitParts.{AppendsForm, DividesNoPair};
 
 use crate::numbers::code_point::CodePoint;
 use crate::numbers::encoding;

@@ -1,7 +1,7 @@
 // Code units below 0x800 turned into bytes, sixteen together: each takes one byte or two.
 ghost use Rattle.std.specs.Prelude.{◌≡◌, ℕ, true, ◌+◌, ◌-◌, ◌*◌, ◌/◌, ◌%◌, ◌<◌, ◌≤◌, ◌++◌, length, map, take, drop, slice_index_or, IfOk, IfSome, IfNone, IsTrue};
-ghost use Rattle.wtf8.specs.UnitParts.{AppendsForm, DividesNoPair, IsKnownForm};
-ghost use Rattle.wtf8.specs.UnitPieces.{low_front, low_len, low_spelled, first_sum, all_low_spelled, AreLow};
+ghost use Rattle.wtf8.specs.private.UnitParts.{AppendsForm, DividesNoPair, IsKnownForm};
+ghost use Rattle.wtf8.specs.private.UnitPieces.{low_front, low_len, low_spelled, first_sum, all_low_spelled, AreLow};
 
 use crate::units_in::{NUMBERS, UnitBlock};
 use std::alloc::{AllocError, Allocator};

@@ -1,8 +1,8 @@
 // Code units of all kinds side by side turned into bytes, sixteen together where no surrogate is alone among them.
 ghost use Rattle.std.specs.Prelude.{◌≡◌, ℕ, true, ◌+◌, ◌-◌, ◌*◌, ◌/◌, ◌%◌, ◌<◌, ◌≤◌, ◌++◌, length, take, drop, slice_index_or, IfOk, IfSome, IfNone, IsTrue};
 ghost use Rattle.wtf8.specs.Unicode.{IsLead};
-ghost use Rattle.wtf8.specs.UnitParts.{AppendsForm, DividesNoPair, IsKnownForm};
-ghost use Rattle.wtf8.specs.UnitPieces.{piece, spelled, unit_before, IsSpelled, ArePaired, AreJoined, all_spelled};
+ghost use Rattle.wtf8.specs.private.UnitParts.{AppendsForm, DividesNoPair, IsKnownForm};
+ghost use Rattle.wtf8.specs.private.UnitPieces.{piece, spelled, unit_before, IsSpelled, ArePaired, AreJoined, all_spelled};
 
 use crate::numbers::surrogates::{FIRST_LEAD, FIRST_TRAIL, OF_A_KIND};
 use crate::units_in::{NUMBERS, UnitBlock};

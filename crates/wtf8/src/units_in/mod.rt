@@ -1,6 +1,6 @@
 // Code units on their way in, as bytes.
 ghost use Rattle.std.specs.Prelude.{◌≡◌, ◌+◌, ◌<◌, ◌≤◌, length, take, drop, true, IfOk, IfSome, IfNone};
-ghost use Rattle.wtf8.specs.UnitParts.{AppendsForm, DividesNoPair};
+ghost use Rattle.wtf8.specs.private.UnitParts.{AppendsForm, DividesNoPair};
 
 pub(crate) mod decode;
 pub(crate) mod low_blocks;

@@ -2,7 +2,7 @@
 // code point behind them, eight of two or of three bytes together, any others in mixed blocks or one after another.
 ghost use Rattle.std.specs.Prelude.{◌≡◌, ℕ, List, [], ◌+◌, ◌++◌, ◌-◌, ◌*◌, ◌%◌, ◌<◌, ◌≤◌, length, map, take, drop, IfOk, IfSome, IfNone, IsOk, IsTrue, OnOk};
 ghost use Rattle.wtf8.specs.Form.{bytes as bytes_of};
-ghost use Rattle.wtf8.specs.UnitParts.{AppendsPart, IsKnownForm, IsReadTo, DividesNoPair, AreAscii, AreTwoByteUnits, AreThreeByteUnits, IsBlock};
+ghost use Rattle.wtf8.specs.private.UnitParts.{AppendsPart, IsKnownForm, IsReadTo, DividesNoPair, AreAscii, AreTwoByteUnits, AreThreeByteUnits, IsBlock};
 
 use crate::numbers::encoding;
 use crate::numbers::surrogates::{FIRST_LEAD, FIRST_TRAIL, LAST_TRAIL};

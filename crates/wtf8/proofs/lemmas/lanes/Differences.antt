@@ -4,8 +4,8 @@ use Rattle.wtf8.proofs.Common.{[], ◌∷◌, ◌∙◌, map, length, get_or, na
 use Rattle.wtf8.proofs.Common.{pointwise, bytes_decides, chunk, zip2, top, Nowhere}
 use Rattle.std.proofs.lemmas.Bool.{not-true}
 use Rattle.std.specs.Prelude.{⊤}
-use Rattle.wtf8.specs.Differences.{DifferAt, Tells}
-use Rattle.wtf8.specs.FirstPlace.{IsFirstBelow, IsFirstSet, IsSet}
+use Rattle.wtf8.specs.private.Differences.{DifferAt, Tells}
+use Rattle.wtf8.specs.private.FirstPlace.{IsFirstBelow, IsFirstSet, IsSet}
 
 abbrev unlike : ℕ → ℕ → Bool
 unlike x y = not (eqb x y)

@@ -9,8 +9,8 @@ use Rattle.std.proofs.lemmas.Simd.{leading_from_mask_l, trailing_mask_l}
 use Rattle.std.specs.List.{prefix_len}
 use Rattle.std.specs.Option.{unwrap_or}
 use lib.Count.{count_trailing_zeros}
-use Rattle.wtf8.specs.FirstPlace.{IsFirstBelow, IsFirstSet, IsSet}
-use Rattle.wtf8.specs.UnitRows.{IsOfKind}
+use Rattle.wtf8.specs.private.FirstPlace.{IsFirstBelow, IsFirstSet, IsSet}
+use Rattle.wtf8.specs.private.UnitRows.{IsOfKind}
 
 -- where some bit is set, so is some lane
 some_set : (bs : List Bool) → 0 < mask_l bs → prefix_len (λ b. not b) bs < length bs

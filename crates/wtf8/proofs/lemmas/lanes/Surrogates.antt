@@ -12,9 +12,9 @@ use Rattle.std.proofs.lemmas.Simd.{length-zip2, get_or-chunk, mask_l-mod}
 use Rattle.std.proofs.lemmas.Simd.{Each2-of, fold-sum, sum_bound, sum_fits, sum-zip2}
 use lib.Lanes.{chunk, zip2, mask_l, top, Each2, Steps, fold_l, sum_l}
 use Rattle.wtf8.proofs.lemmas.lanes.Masks.{same_first}
-use Rattle.wtf8.specs.FirstPlace.{IsFirstBelow, IsFirstSet, IsSet}
-use Rattle.wtf8.specs.SurrogateSearch.{BeginsInLane, SurrogateAt}
-use Rattle.wtf8.specs.UnitCounts.{HasLane, units_begun}
+use Rattle.wtf8.specs.private.FirstPlace.{IsFirstBelow, IsFirstSet, IsSet}
+use Rattle.wtf8.specs.private.SurrogateSearch.{BeginsInLane, SurrogateAt}
+use Rattle.wtf8.specs.private.UnitCounts.{HasLane, units_begun}
 
 -- The search in lanes: the mask of two vectors.
 

@@ -15,7 +15,7 @@ use Rattle.wtf8.specs.PositionLaws.{BackBoundariesAreOfWhole, BeginningsAreNoLon
 use Rattle.wtf8.specs.PositionLaws.{AsciiIsNoOtherUnit}
 use Rattle.wtf8.specs.StringLaws.{EqualBuffersHaveEqualUnits, EqualBufferAndViewHaveEqualUnits, EqualViewsHaveEqualUnits, StringsAreJoined, StringsArePaired}
 use Rattle.wtf8.specs.StringLaws.{TextsAreScalar, RoomLeftIsFound, ScalarsStay, FormsAreOfBuffers, FormsAreOfViews, WhatFitsIsFound}
-use Rattle.wtf8.specs.UnitCounts.{HasLane}
+use Rattle.wtf8.specs.private.UnitCounts.{HasLane}
 use Rattle.wtf8.proofs.lemmas.numbers.Encoding.{bytes-append, bytes-pushed, row_of, one, two, three, four, Begins}
 use Rattle.wtf8.proofs.lemmas.numbers.Readings.{well_formed_of, reads_same, same_form, units-append, units_one, units_two}
 use Rattle.wtf8.proofs.lemmas.numbers.Readings.{units-cons_one, same_reading}

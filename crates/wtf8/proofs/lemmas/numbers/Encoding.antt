@@ -5,7 +5,7 @@ use Rattle.wtf8.proofs.Common.{BeginsWithPoint}
 use Rattle.std.proofs.Math.Nat.{div-div-eq-div-mul}
 use Rattle.std.proofs.lemmas.Str.{encode_same}
 use Rattle.wtf8.specs.Form.{encoding}
-use Rattle.wtf8.specs.Gains.{FrontSays}
+use Rattle.wtf8.specs.private.Gains.{FrontSays}
 
 -- The encoding of code points: its bytes in each row of the table, its length, and which bytes begin one.
 

@@ -7,10 +7,10 @@ use Rattle.std.proofs.Common.{length-take-le}
 use Rattle.std.proofs.Math.Seq.{take-append-add, drop-append-add}
 use Rattle.std.specs.Option.{option_to_list}
 use Rattle.std.specs.Prelude.{IsSome}
-use Rattle.wtf8.specs.UnitSteps.{StepsUnit}
-use Rattle.wtf8.specs.UnitCounts.{Divides}
+use Rattle.wtf8.specs.private.UnitSteps.{StepsUnit}
+use Rattle.wtf8.specs.private.UnitCounts.{Divides}
 use Rattle.wtf8.specs.UnitPosition.{DividesPair}
-use Rattle.wtf8.specs.UnitSteps.{is_inside}
+use Rattle.wtf8.specs.private.UnitSteps.{is_inside}
 use Rattle.wtf8.proofs.lemmas.numbers.Encoding.{encoding_four, bytes-append, bytes-pushed, row_of, one, two, three, four, Begins, first-encoding}
 use Rattle.wtf8.proofs.lemmas.numbers.Readings.{clean-first, clean-front, clean-back, clean-append, clean-apart, no_trail, meets_by, lead_of, trail_of, units_one}
 use Rattle.wtf8.proofs.lemmas.numbers.Readings.{units_two, units-append, units-pushed, first_of, no_points, taken, moved}

@@ -4,7 +4,7 @@ use Rattle.wtf8.proofs.Common.{length-append, append_assoc, take-append-drop, by
 use Rattle.wtf8.proofs.Common.{units, bytes, IsWellFormed, IsForm, CutsUnits, glue, Option, ◌-◌, drop}
 use Rattle.std.proofs.Common.{length-take-le}
 use Rattle.std.specs.Prelude.{MatchOption}
-use Rattle.wtf8.specs.UnitCounts.{Divides}
+use Rattle.wtf8.specs.private.UnitCounts.{Divides}
 use Rattle.wtf8.specs.UnitMark.{IsMark, EqualCountsAreMarks, MarksStay}
 use Rattle.wtf8.proofs.lemmas.numbers.Encoding.{bytes-append, row_of, one, two, three, four}
 use Rattle.wtf8.proofs.lemmas.numbers.Readings.{units-append, lengths, units_one, units_two, well_formed_of, same_form}

@@ -6,9 +6,9 @@ use Rattle.wtf8.proofs.lemmas.numbers.Encoding.{row_of, one, two, three, four, l
 use Rattle.wtf8.proofs.Common.{◌+◌, ◌*◌, ◌%◌, subst, Each1, drop_at, drop-drop, length-drop, length-take, take-append-drop, append_assoc}
 use Rattle.std.proofs.lemmas.List.{get_or_append_left, drop-append-le}
 use native.Mathlib.Nat.{mul-suc}
-use Rattle.wtf8.specs.UnitRows.{IsOfKind, BeginsWithUnits, firsts_of, unit_of_two, unit_of_three, units_of_rows}
+use Rattle.wtf8.specs.private.UnitRows.{IsOfKind, BeginsWithUnits, firsts_of, unit_of_two, unit_of_three, units_of_rows}
 use Rattle.wtf8.proofs.lemmas.numbers.Readings.{Taken, first_of, moved, taken, units-cons_one}
-use Rattle.wtf8.specs.Gains.{IsReadAs}
+use Rattle.wtf8.specs.private.Gains.{IsReadAs}
 
 -- a string is longer than what is behind its first code point
 pub behind_first : (v r : Wtf8) (p : ℕ) → view_points v ≡ p ∷ view_points r → length r.bytes.now < length v.bytes.now

@@ -12,7 +12,7 @@ use Rattle.std.proofs.lemmas.Bool.{leb-false, ltb-false, or_parts, and_cases}
 use Rattle.std.proofs.lemmas.List.{length-map, take-take}
 use Rattle.std.proofs.lemmas.Simd.{zip2_splat_left, Each1-get_or}
 use Rattle.wtf8.specs.Unicode.{IsLead}
-use Rattle.wtf8.specs.UnitParts.{AreScalarUnits, AppendsForm, AppendsAscii, AppendsPart, IsReadTo}
+use Rattle.wtf8.specs.private.UnitParts.{AreScalarUnits, AppendsForm, AppendsAscii, AppendsPart, IsReadTo}
 use Rattle.wtf8.specs.declared.numbers.code_point.CodePoint.{CodePoint}
 use Rattle.wtf8.proofs.lemmas.numbers.Encoding.{encoding_two, encoding_three, third_row, encoding_one, bytes-append}
 use Rattle.wtf8.proofs.lemmas.numbers.Readings.{meets_by, units-cons_one}

@@ -8,7 +8,7 @@ use Rattle.std.specs.Iterator.{Yields}
 use Rattle.std.specs.Iterator.Adapters.{peekable_source, PeeksNext}
 use Rattle.std.specs.Prelude.{IfSome, IsSomeAnd}
 use Rattle.std.specs.declared.iter.Ahead.{Ahead}
-use Rattle.wtf8.specs.Decoding.{DecodesItem}
+use Rattle.wtf8.specs.private.Decoding.{DecodesItem}
 use Rattle.wtf8.specs.declared.units_in.decode.DecodeUtf16.{DecodeUtf16}
 use Rattle.wtf8.proofs.lemmas.numbers.Readings.{units_one, units_pair}
 

@@ -4,7 +4,7 @@ use Rattle.wtf8.proofs.Common.{refl, sym, ap, ◌∙◌, arith, lt-ltb, le-ltb, 
 use Rattle.std.proofs.lemmas.List.{get_or-map, get_or-append_right, get_or_append_left, length-map}
 use Rattle.std.proofs.lemmas.Simd.{get_or-zip2, length-zip2, Each1-get_or}
 use lib.Lanes.{pick_l, sel_l}
-use Rattle.wtf8.specs.UnitPieces.{piece, pieces, unit_before, AreLow, low_front, low_len, low_spelled, all_low_spelled, first_sum}
+use Rattle.wtf8.specs.private.UnitPieces.{piece, pieces, unit_before, AreLow, low_front, low_len, low_spelled, all_low_spelled, first_sum}
 use Rattle.wtf8.specs.Unicode.{IsLead, IsTrail}
 use Rattle.std.specs.Prelude.{◌↔◌}
 use Rattle.wtf8.proofs.lemmas.units_in.Pieces.{piece_one, piece_two, same_two, paired_form}

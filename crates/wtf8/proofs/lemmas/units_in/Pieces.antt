@@ -9,7 +9,7 @@ use Rattle.std.specs.Int.{w16, w32, to_le_bytes}
 use Rattle.std.specs.Prelude.{⊤, ◌↔◌}
 use lib.Lanes.{Each2}
 use Rattle.wtf8.specs.Unicode.{IsLead, IsTrail, pair}
-use Rattle.wtf8.specs.UnitPieces.{piece, pieces, spelled, all_spelled, unit_before, IsSpelled, AreJoined, ArePaired}
+use Rattle.wtf8.specs.private.UnitPieces.{piece, pieces, spelled, all_spelled, unit_before, IsSpelled, AreJoined, ArePaired}
 use Rattle.wtf8.proofs.lemmas.numbers.Encoding.{encoding_one, encoding_two, encoding_three, encoding_four}
 use Rattle.wtf8.proofs.lemmas.numbers.Readings.{no_trail, units_one, units_pair}
 use Rattle.wtf8.proofs.lemmas.units_in.Blocks.{known_behind, nothing_read, last_apart}

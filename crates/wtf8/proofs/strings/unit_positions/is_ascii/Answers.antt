@@ -3,7 +3,7 @@ use Rattle.std.proofs.lemmas.Simd.{Each1-from_get_or}
 use Rattle.wtf8.proofs.lemmas.laws.Laws.{below_lanes}
 use Rattle.wtf8.proofs.lemmas.numbers.Readings.{units_from_form}
 use Rattle.wtf8.proofs.lemmas.units_in.Blocks.{ascii_form}
-use Rattle.wtf8.specs.UnitCounts.{HasLane}
+use Rattle.wtf8.specs.private.UnitCounts.{HasLane}
 use Rattle.wtf8.proofs.strings.unit_positions.is_ascii.Goals as goal
 
 -- a byte among n that are below

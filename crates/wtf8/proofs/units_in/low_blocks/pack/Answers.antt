@@ -1,6 +1,6 @@
 use Rattle.wtf8.proofs.Common.{◌∙◌, ◌+◌, ◌++◌, ap, sym, arith, get_or, take}
 use Rattle.wtf8.proofs.lemmas.units_in.LowBlocks.{more_low_spelled, more_sum}
-use Rattle.wtf8.specs.UnitPieces.{low_spelled}
+use Rattle.wtf8.specs.private.UnitPieces.{low_spelled}
 use Rattle.wtf8.proofs.units_in.low_blocks.pack.Goals as goal
 
 pub loop-at-preserved : goal.loop-at-preserved

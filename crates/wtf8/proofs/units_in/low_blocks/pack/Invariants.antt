@@ -1,5 +1,5 @@
 use Rattle.wtf8.proofs.Common.{◌≡◌, ◌*◌, ◌≤◌, take}
-use Rattle.wtf8.specs.UnitPieces.{all_low_spelled, first_sum}
+use Rattle.wtf8.specs.private.UnitPieces.{all_low_spelled, first_sum}
 use Rattle.wtf8.proofs.units_in.low_blocks.pack.Given as goal
 
 -- the block begins with what the numbers so far spell, two bytes each at most

@@ -1,6 +1,6 @@
 use Rattle.wtf8.proofs.Common.{◌∙◌, sym, arith, subst, get_or, true, ◌≤◌, IsKnownForm}
 use Rattle.wtf8.proofs.lemmas.units_in.LowBlocks.{few, low_form}
-use Rattle.wtf8.specs.UnitPieces.{all_low_spelled}
+use Rattle.wtf8.specs.private.UnitPieces.{all_low_spelled}
 use Rattle.wtf8.proofs.units_in.low_blocks.write_block.Goals as goal
 
 pub pack-requires : goal.pack-requires

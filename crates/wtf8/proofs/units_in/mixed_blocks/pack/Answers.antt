@@ -1,6 +1,6 @@
 use Rattle.wtf8.proofs.Common.{◌/◌, ◌%◌, ◌∙◌, sym, arith, ◌++◌, get_or}
 use Rattle.wtf8.proofs.lemmas.units_in.Pieces.{more_spelled}
-use Rattle.wtf8.specs.UnitPieces.{spelled}
+use Rattle.wtf8.specs.private.UnitPieces.{spelled}
 use Rattle.wtf8.proofs.units_in.mixed_blocks.pack.Goals as goal
 
 pub loop-at-preserved : goal.loop-at-preserved

@@ -1,5 +1,5 @@
 use Rattle.wtf8.proofs.Common.{◌≡◌, ◌*◌, ◌≤◌, take}
-use Rattle.wtf8.specs.UnitPieces.{all_spelled}
+use Rattle.wtf8.specs.private.UnitPieces.{all_spelled}
 use Rattle.wtf8.proofs.units_in.mixed_blocks.pack.Given as goal
 
 -- the block begins with what the numbers so far spell, three bytes each at most

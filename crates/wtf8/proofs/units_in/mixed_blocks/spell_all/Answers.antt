@@ -1,7 +1,7 @@
 use Rattle.wtf8.proofs.Common.{◌∙◌, ap, arith, get_or}
 use Rattle.std.proofs.lemmas.List.{length-set}
 use Rattle.wtf8.proofs.lemmas.units_in.Pieces.{before_next, next_spelled}
-use Rattle.wtf8.specs.UnitPieces.{piece}
+use Rattle.wtf8.specs.private.UnitPieces.{piece}
 use Rattle.wtf8.proofs.units_in.mixed_blocks.spell_all.Goals as goal
 
 pub loop-at-preserved : goal.loop-at-preserved

@@ -1,5 +1,5 @@
 use Rattle.wtf8.proofs.Common.{◌≡◌, ℕ, ◌<◌, length}
-use Rattle.wtf8.specs.UnitPieces.{IsSpelled, unit_before}
+use Rattle.wtf8.specs.private.UnitPieces.{IsSpelled, unit_before}
 use Rattle.wtf8.proofs.units_in.mixed_blocks.spell_all.Given as goal
 
 -- the numbers so far spell what their units add, and the unit before the next one is known

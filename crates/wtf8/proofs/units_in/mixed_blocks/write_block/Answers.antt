@@ -1,7 +1,7 @@
 use Rattle.wtf8.proofs.Common.{◌/◌, ◌%◌, ◌∙◌, ap, sym, arith, subst, take, ◌++◌, get_or, true, IsKnownForm}
 use Rattle.wtf8.proofs.lemmas.units_in.Pieces.{paired_form, same_pieces, joined_small}
 use Rattle.wtf8.specs.Unicode.{IsLead}
-use Rattle.wtf8.specs.UnitPieces.{spelled}
+use Rattle.wtf8.specs.private.UnitPieces.{spelled}
 use Rattle.wtf8.proofs.units_in.mixed_blocks.write_block.Goals as goal
 
 pub pack-most-requires : goal.pack-most-requires

@@ -2,7 +2,7 @@ use Rattle.wtf8.proofs.Common.{◌≡◌, ◌-◌, ◌+◌, ◌≤◌, ◌<◌, 
 use Rattle.std.proofs.Math.Seq.{take-append-add}
 use Rattle.std.proofs.lemmas.List.{take-take}
 use Rattle.std.proofs.lemmas.Simd.{Each1-get_or}
-use Rattle.wtf8.specs.UnitPieces.{AreLow}
+use Rattle.wtf8.specs.private.UnitPieces.{AreLow}
 use Rattle.wtf8.proofs.lemmas.units_in.Blocks.{last_apart}
 use Rattle.wtf8.proofs.units_in.low_blocks.LowUnitBlock.append.Goals as goal
 

@@ -3,7 +3,7 @@ use Rattle.std.proofs.lemmas.List.{take-take}
 use Rattle.wtf8.proofs.lemmas.units_in.Pieces.{taken_apart}
 use Rattle.wtf8.proofs.units_in.mixed_blocks.MixedUnitBlock.append.Goals as goal
 use Rattle.wtf8.specs.Unicode.{IsLead}
-use Rattle.wtf8.specs.UnitPieces.{unit_before}
+use Rattle.wtf8.specs.private.UnitPieces.{unit_before}
 
 pub returns-clause-some : goal.returns-clause-some
 returns-clause-some g c =

@@ -1,4 +1,4 @@
--- For private functions: where a surrogate begins in bytes, and in the lanes of two vectors.
+-- Where a surrogate begins in bytes, and in the lanes of two vectors.
 use Rattle.std.specs.Prelude.{◌≡◌, ℕ, ◌+◌, ◌<◌, ◌≤◌, List, length, slice_index}
 
 -- A surrogate's bytes begin at i: there is ED and behind it a byte of at least A0 (WTF-8, "Surrogate byte sequence").

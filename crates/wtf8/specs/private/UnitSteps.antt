@@ -1,4 +1,4 @@
--- For private functions: what an iterator of units holds back, and what a step leaves of it.
+-- What an iterator of units holds back, and what a step leaves of it.
 use Rattle.std.specs.Prelude.{◌≡◌, ℕ, Bool, false, ◌+◌, ◌*◌, ◌%◌, ◌≤◌, List, [], ◌∷◌, drop, length, nat_lt, if◌then◌else◌}
 use Rattle.wtf8.specs.Form.{IsWellFormed}
 use Rattle.wtf8.specs.Unicode.{units_of}

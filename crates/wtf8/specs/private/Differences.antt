@@ -1,6 +1,6 @@
--- For private functions: the first place where two lists of bytes differ.
+-- The first place where two lists of bytes differ.
 use Rattle.std.specs.Prelude.{◌≡◌, ◌≢◌, ℕ, ◌<◌, ◌≤◌, Bool, MatchBool, List, length, take, slice_index}
-use Rattle.wtf8.specs.FirstPlace.{Nowhere}
+use Rattle.wtf8.specs.private.FirstPlace.{Nowhere}
 
 -- The first place where two lists differ: they are equal up to there, and there the one or the other ends or their numbers differ.
 pub record IsFirstDifference (w v : List ℕ) (place : ℕ) : Type 0 where

@@ -1,4 +1,4 @@
--- For private functions: how many units begin among bytes, and where a number of units ends.
+-- How many units begin among bytes, and where a number of units ends.
 use Rattle.std.specs.Prelude.{◌≡◌, ℕ, ◌+◌, ◌<◌, ◌≤◌, List, ◌∷◌, ◌++◌, length, take, slice_index, nat_lt, if◌then◌else◌, Option, MatchOption}
 use Rattle.std.specs.List.{sum_by}
 use Rattle.wtf8.specs.Unicode.{units}

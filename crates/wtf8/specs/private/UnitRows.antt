@@ -1,4 +1,4 @@
--- For private functions: code points of equally many bytes, one behind the other, and their units.
+-- Code points of equally many bytes, one behind the other, and their units.
 use Rattle.std.specs.Prelude.{◌≡◌, ℕ, zero, suc, ◌+◌, ◌*◌, ◌/◌, ◌%◌, List, [], ◌∷◌, ◌++◌, length, take, drop, get_or}
 use Rattle.wtf8.specs.Form.{IsWellFormed}
 use Rattle.wtf8.specs.Unicode.{units}

@@ -1,4 +1,4 @@
--- For private functions: units that are turned into bytes part by part.
+-- Units that are turned into bytes part by part.
 use Rattle.std.specs.Prelude.{◌≡◌, ℕ, ◌+◌, ◌-◌, ◌<◌, ◌≤◌, Bool, IsTrue, List, ◌++◌, length, take, drop}
 use lib.Lanes.{Each1}
 use Rattle.wtf8.specs.Form.{IsForm, bytes}

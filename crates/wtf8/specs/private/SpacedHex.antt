@@ -1,4 +1,4 @@
--- For private functions: hexadecimal text with a space before each byte.
+-- Hexadecimal text with a space before each byte.
 use Rattle.std.specs.Prelude.{ℕ, List, ◌∷◌}
 use Rattle.wtf8.specs.Hex.{hex_of}
 

@@ -1,4 +1,4 @@
--- For private functions: the first place with a property, and the first lane of a mask that is set.
+-- The first place with a property, and the first lane of a mask that is set.
 use lib.Lanes.{mask_l}
 use Rattle.std.specs.Prelude.{◌≡◌, ℕ, ◌%◌, ◌^◌, ◌<◌, ◌≤◌, Bool, false, List, length, get_or, IsTrue, Option, MatchOption}
 

@@ -1,4 +1,4 @@
--- For private functions: what bytes begin with, what they gained, and whether it fits.
+-- What bytes begin with, what they gained, and whether it fits.
 use Rattle.std.specs.Prelude.{◌≡◌, ℕ, ◌+◌, ◌-◌, ◌*◌, ◌<◌, ◌≤◌, length, List, ◌++◌, slice_index, Result, OnOk, OnErr, IsOk, vec_capacity}
 use Rattle.std.specs.declared.vec.Vec.{Vec}
 use Rattle.wtf8.specs.Unicode.{IsCodePoint}

@@ -1,4 +1,4 @@
--- For private functions: what a decoder reads from an iterator of code units: the code points of its items.
+-- What a decoder reads from an iterator of code units: the code points of its items.
 use Rattle.std.specs.Prelude.{◌≡◌, ℕ, List, map, Option, None, Result, Ok, Err, ◌⊎◌, MatchOption, MatchResult, IfSome, IsSomeAnd}
 use Rattle.std.specs.declared.iter.Ahead.{Ahead}
 use Rattle.std.specs.Iterator.{Yields, Drains}

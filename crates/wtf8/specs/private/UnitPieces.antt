@@ -1,4 +1,4 @@
--- For private functions: the bytes that units add one after another, each known by the unit and the one before it.
+-- The bytes that units add one after another, each known by the unit and the one before it.
 use Rattle.std.specs.Prelude.{◌≡◌, ℕ, zero, suc, ◌+◌, ◌-◌, ◌*◌, ◌/◌, ◌%◌, ◌<◌, ◌↔◌, List, [], ◌∷◌, ◌++◌, take, nat_lt, if◌then◌else◌, slice_index_or}
 use lib.Lanes.{Each1}
 use Rattle.wtf8.specs.Unicode.{IsLead, IsTrail}
