@@ -8,7 +8,9 @@ use wtf8::Wtf8;
 /// A variable of an environment.
 #[derive(Clone, Copy)]
 pub struct Variable<'a> {
+    /// What stands before the `=`.
     pub name: Wtf8<'a>,
+    /// What stands behind it.
     pub value: Wtf8<'a>,
 }
 
