@@ -1,5 +1,5 @@
 // What values feed a hasher.
-use crate::examples::{EDGES, pushed};
+use crate::examples::{edges, pushed};
 use std::alloc::Global;
 use std::cell::RefCell;
 use std::hash::{Hash, Hasher};
@@ -57,7 +57,7 @@ fn a_hasher_is_fed_the_bytes_and_an_end(rt: HostRuntime) -> Result<(), Fail> {
 
 #[test]
 fn a_code_point_feeds_what_its_number_feeds(rt: HostRuntime) -> Result<(), Fail> {
-    for (number, _, _) in EDGES {
+    for (number, _, _) in edges() {
         let point = CodePoint::from_u32(number).ok_or("a code point")?;
         let expected = fed_by(rt.alloc(), &number);
         assert_eq!(rt; expected.len(), 5);

@@ -1,5 +1,5 @@
 // Equality and order, in sorts and in maps.
-use crate::examples::{EDGES, pushed};
+use crate::examples::{edges, pushed};
 use std::alloc::{AllocError, Global};
 use std::cmp::Ordering;
 use std::collections::{BTreeMap, HashMap};
@@ -67,8 +67,8 @@ fn strings_have_the_order_of_their_code_points(rt: HostRuntime) -> Result<(), Fa
 
 #[test]
 fn code_points_have_the_order_of_their_numbers(rt: HostRuntime) -> Result<(), Fail> {
-    for (left, _, _) in EDGES {
-        for (right, _, _) in EDGES {
+    for (left, _, _) in edges() {
+        for (right, _, _) in edges() {
             let first = CodePoint::from_u32(left).ok_or("a code point")?;
             let second = CodePoint::from_u32(right).ok_or("a code point")?;
             assert!(rt;

@@ -1,5 +1,5 @@
 // Positions in a string, and what is cut at them.
-use crate::examples::{JOINING, TEXT, TEXT_ROW, expect_dump, joined, pushed};
+use crate::examples::{TEXT, TEXT_ROW, expect_dump, joined, joining, pushed};
 use std::alloc::{AllocError, Allocator, Global};
 use std::test::Fail;
 use wtf8::{CodePoint, Wtf8, Wtf8Buf};
@@ -78,7 +78,7 @@ fn has_boundaries(text: Wtf8<'_>, sums: &[usize]) -> bool {
 
 #[test]
 fn code_points_begin_at_the_boundaries(rt: HostRuntime) -> Result<(), Fail> {
-    for (units, numbers, dump) in JOINING {
+    for (units, numbers, dump) in joining() {
         let text = joined(rt.alloc(), units)?;
         let sums = sums_of(rt.alloc(), numbers)?;
         assert!(rt; has_boundaries(text.as_wtf8(), &sums), "{dump}");
@@ -131,7 +131,7 @@ fn parts_make(alloc: Global, text: Wtf8<'_>) -> Result<(bool, usize), AllocError
 
 #[test]
 fn the_parts_at_each_boundary_make_the_whole(rt: HostRuntime) -> Result<(), Fail> {
-    for (units, numbers, dump) in JOINING {
+    for (units, numbers, dump) in joining() {
         let text = joined(rt.alloc(), units)?;
         let made = parts_make(rt.alloc(), text.as_wtf8())?;
         assert_eq!(rt; made, (true, numbers.len() + 1), "{dump}");

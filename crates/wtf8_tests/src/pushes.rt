@@ -1,15 +1,12 @@
 // Strings that pushes build.
-use crate::examples::{
-    EDGES, JOINING, TEXT, TEXT_DUMP, TEXT_ROW, expect_dump, expect_numbers, expect_units, joined,
-    pushed,
-};
+use crate::examples::{TEXT, TEXT_DUMP, TEXT_ROW, edges, expect_dump, expect_numbers, expect_units, joined, joining, pushed};
 use std::alloc::Global;
 use std::test::Fail;
 use wtf8::{CodePoint, Wtf8, Wtf8Buf};
 
 #[test]
 fn a_pushed_code_point_has_its_bytes_and_units(rt: HostRuntime) -> Result<(), Fail> {
-    for (number, dump, units) in EDGES {
+    for (number, dump, units) in edges() {
         let text = pushed(rt.alloc(), &[number])?;
         expect_dump(rt.alloc(), text.as_wtf8(), dump)?;
         expect_units(rt.alloc(), text.as_wtf8(), units)?;
@@ -19,7 +16,7 @@ fn a_pushed_code_point_has_its_bytes_and_units(rt: HostRuntime) -> Result<(), Fa
 
 #[test]
 fn a_trail_joins_a_lead_that_is_pushed_before_it(rt: HostRuntime) -> Result<(), Fail> {
-    for (units, numbers, dump) in JOINING {
+    for (units, numbers, dump) in joining() {
         let text = joined(rt.alloc(), units)?;
         expect_dump(rt.alloc(), text.as_wtf8(), dump)?;
         expect_units(rt.alloc(), text.as_wtf8(), units)?;
@@ -41,7 +38,7 @@ fn appended(alloc: Global, units: &[u16]) -> Result<Wtf8Buf<Global>, Fail> {
 
 #[test]
 fn a_view_joins_the_lead_before_it(rt: HostRuntime) -> Result<(), Fail> {
-    for (units, _, dump) in JOINING {
+    for (units, _, dump) in joining() {
         let text = appended(rt.alloc(), units)?;
         expect_dump(rt.alloc(), text.as_wtf8(), dump)?;
         expect_units(rt.alloc(), text.as_wtf8(), units)?;
@@ -79,7 +76,7 @@ fn expect_built(alloc: Global, units: &[u16], dump: &str) -> Result<(), Fail> {
 
 #[test]
 fn pieces_cut_at_any_units_build_the_whole(rt: HostRuntime) -> Result<(), Fail> {
-    for (units, _, dump) in JOINING {
+    for (units, _, dump) in joining() {
         expect_built(rt.alloc(), units, dump)?;
     }
     let (units, _, dump) = TEXT_ROW;

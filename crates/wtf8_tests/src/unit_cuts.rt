@@ -1,6 +1,6 @@
 // Cuts at every number of units.
 use crate::callers::cut_at_units_and_joined;
-use crate::examples::{JOINING, expect_dump, expect_units};
+use crate::examples::{expect_dump, expect_units, joining};
 use crate::unit_lists::{LISTS, long_list};
 use refusing::{REFUSALS, Refusal, Refusing};
 use std::alloc::Global;
@@ -61,7 +61,7 @@ fn cut_everywhere(alloc: Global, units: &[u16]) -> Result<(), Fail> {
 
 #[test]
 fn cuts_keep_the_first_units_without_memory(rt: HostRuntime) -> Result<(), Fail> {
-    for (units, _, dump) in JOINING {
+    for (units, _, dump) in joining() {
         let text = Wtf8Buf::from_ill_formed_utf16(rt.alloc(), units)?;
         expect_dump(rt.alloc(), text.as_wtf8(), dump)?;
         cut_everywhere(rt.alloc(), units)?;

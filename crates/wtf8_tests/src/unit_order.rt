@@ -1,5 +1,5 @@
 // The order of units.
-use crate::examples::JOINING;
+use crate::examples::joining;
 use crate::unit_lists::{LISTS, long_list};
 use std::alloc::Global;
 use std::cmp::Ordering;
@@ -131,7 +131,7 @@ fn strings_are_ordered_as_their_lists(rt: HostRuntime) -> Result<(), Fail> {
         for others in LISTS {
             compare_lists(rt.alloc(), own, others)?;
         }
-        for (others, _, _) in JOINING {
+        for (others, _, _) in joining() {
             compare_lists(rt.alloc(), own, others)?;
             compare_lists(rt.alloc(), others, own)?;
         }
