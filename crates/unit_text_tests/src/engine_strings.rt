@@ -84,12 +84,7 @@ fn repeated_rows() -> [(&'static [u16], usize, &'static [u16]); 4] {
 }
 
 /// Fails unless units are repeated so.
-fn expect_repeated(
-    alloc: Global,
-    units: &[u16],
-    count: usize,
-    want: &[u16],
-) -> Result<(), Fail> {
+fn expect_repeated(alloc: Global, units: &[u16], count: usize, want: &[u16]) -> Result<(), Fail> {
     let text = text_of(alloc, units)?;
     expect_units(&repeat(alloc, &text, count)?, want)
 }
@@ -242,7 +237,12 @@ fn the_first_place_of_units(rt: HostRuntime) -> Result<(), Fail> {
 }
 
 /// Units, those that are looked for, those in their place, and the units then.
-fn replaced_rows() -> [(&'static [u16], &'static [u16], &'static [u16], &'static [u16]); 5] {
+fn replaced_rows() -> [(
+    &'static [u16],
+    &'static [u16],
+    &'static [u16],
+    &'static [u16],
+); 5] {
     [
         (
             &[0x0061, 0x0062, 0x0061, 0x0062],

@@ -59,8 +59,14 @@ fn rows() -> [(&'static [u8], &'static str); 6] {
     ]
 }
 
-/// Fails unless this is read, in pieces of so many bytes.
-fn expect_read(alloc: Global, bytes: &[u8], most: usize, want: &str) -> Result<(), Fail> {
+/// Fails unless this is read, in pieces of so many bytes and by so many calls.
+fn expect_read(
+    alloc: Global,
+    bytes: &[u8],
+    most: usize,
+    calls: usize,
+    want: &str,
+) -> Result<(), Fail> {
     let mut reader = Pieces {
         rest: bytes,
         most,
@@ -69,8 +75,6 @@ fn expect_read(alloc: Global, bytes: &[u8], most: usize, want: &str) -> Result<(
         calls: 0,
     };
     let found = told(alloc, read_utf16(alloc, &mut reader))?;
-    // Each piece, the interruption and the end.
-    let calls = bytes.len().div_ceil(most).wrapping_add(2);
     if found.as_str() != want || reader.calls as usize != calls {
         return Err(Fail::new(format_args!("{most} at a time")));
     }
@@ -81,7 +85,9 @@ fn expect_read(alloc: Global, bytes: &[u8], most: usize, want: &str) -> Result<(
 fn pieces_of_any_size_are_one_input(rt: HostRuntime) -> Result<(), Fail> {
     for (bytes, want) in rows() {
         for most in 1..8 {
-            expect_read(rt.alloc(), bytes, most, want)?;
+            // Each piece, the interruption and the end.
+            let calls = bytes.len().div_ceil(most).wrapping_add(2);
+            expect_read(rt.alloc(), bytes, most, calls, want)?;
         }
     }
     Ok(())
@@ -119,7 +125,10 @@ fn is_text_read(alloc: Global, bytes: &[u8], most: usize, text: &str) -> bool {
 fn a_pair_is_cut_by_the_largest_piece(rt: HostRuntime) -> Result<(), Fail> {
     let (bytes, text) = letters_and_pair(rt.alloc(), 2047)?;
     for most in 4095..4098 {
-        assert!(rt; is_text_read(rt.alloc(), &bytes, most, &text), "{most} at a time");
+        assert!(rt;
+            is_text_read(rt.alloc(), &bytes, most, &text),
+            "{most} at a time"
+        );
     }
     Ok(())
 }
@@ -237,12 +246,7 @@ fn granted_rows() -> [Granted; 4] {
 }
 
 /// Fails unless the request behind so many that are granted is the last one, and its refusal is want of memory.
-fn expect_refused(
-    alloc: Global,
-    given: &[u8],
-    granted: u64,
-    refusal: Refusal,
-) -> Result<(), Fail> {
+fn expect_refused(alloc: Global, given: &[u8], granted: u64, refusal: Refusal) -> Result<(), Fail> {
     let (found, made, _, calls) = read_granted(alloc, given, granted, refusal)?;
     // The first piece makes three requests, a pair four, and nothing is read after the refused one.
     let is_first = granted < 3 || given.len() == 4;

@@ -55,7 +55,10 @@ fn units_between_two_positions(rt: HostRuntime) -> Result<(), Fail> {
     let text = text_of(rt.alloc(), &UNITS)?;
     for (first, second, units) in between() {
         let found = substring(rt.alloc(), &text, first, second)?;
-        assert!(rt; is_text(rt.alloc(), &found, units)?, "from {first} to {second}");
+        assert!(rt;
+            is_text(rt.alloc(), &found, units)?,
+            "from {first} to {second}"
+        );
     }
     Ok(())
 }
