@@ -2,7 +2,9 @@
 use std::alloc::Global;
 use std::test::Fail;
 use wtf8::{Build, Wtf8Buf};
-use wtf8_tests::examples::{expect_dump, expect_units, joined, joining, point_of_unit, points_of_units};
+use wtf8_tests::examples::{
+    expect_dump, expect_units, joined, joining, point_of_unit, points_of_units,
+};
 
 /// Fails unless a list of calls, so many of them refused truncations, builds a string of these bytes.
 fn expect_list(alloc: Global, calls: &[Build<'_>], refused: usize, dump: &str) -> Result<(), Fail> {

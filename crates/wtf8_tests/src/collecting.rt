@@ -1,5 +1,8 @@
 // Strings that iterators of code points build.
-use crate::examples::{TEXT, TEXT_DUMP, expect_dump, expect_units, joined, joining, point_of_unit, points_of_units, pushed};
+use crate::examples::{
+    TEXT, TEXT_DUMP, expect_dump, expect_units, joined, joining, point_of_unit, points_of_units,
+    pushed,
+};
 use std::alloc::{AllocError, Global};
 use std::test::Fail;
 use wtf8::{CodePoint, Wtf8, Wtf8Buf};
@@ -25,7 +28,7 @@ fn extended(alloc: Global, points: &[CodePoint], at: usize) -> Result<Wtf8Buf<Gl
 fn a_string_is_extended_from_each_place(rt: HostRuntime) -> Result<(), Fail> {
     for (units, _, dump) in joining() {
         let points = points_of_units(rt.alloc(), units)?;
-        for at in 0..units.len() + 1 {
+        for at in 0..units.len().saturating_add(1) {
             let text = extended(rt.alloc(), &points, at)?;
             expect_dump(rt.alloc(), text.as_wtf8(), dump)?;
         }

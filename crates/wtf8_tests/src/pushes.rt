@@ -1,5 +1,8 @@
 // Strings that pushes build.
-use crate::examples::{TEXT, TEXT_DUMP, TEXT_ROW, edges, expect_dump, expect_numbers, expect_units, joined, joining, pushed};
+use crate::examples::{
+    TEXT, TEXT_DUMP, TEXT_ROW, edges, expect_dump, expect_numbers, expect_units, joined, joining,
+    pushed,
+};
 use std::alloc::Global;
 use std::test::Fail;
 use wtf8::{CodePoint, Wtf8, Wtf8Buf};
@@ -84,19 +87,21 @@ fn pieces_cut_at_any_units_build_the_whole(rt: HostRuntime) -> Result<(), Fail> 
 }
 
 /// The units of a string, those of a view that is appended, and the bytes and their number.
-const GLUED: [(&[u16], &[u16], &str, usize); 7] = [
-    (&[0x61, 0xD83D], &[0xDCA9, 0x62], "61 F0 9F 92 A9 62", 6),
-    (&[0xD83D], &[0xDCA9, 0xDCA9], "F0 9F 92 A9 ED B2 A9", 7),
-    (&[], &[0xDCA9], "ED B2 A9", 3),
-    (&[0xD83D], &[], "ED A0 BD", 3),
-    (&[0xD83D], &[0xD83D, 0xDCA9], "ED A0 BD F0 9F 92 A9", 7),
-    (&[0xDCA9], &[0xDCA9], "ED B2 A9 ED B2 A9", 6),
-    (&[0xD83D, 0x61], &[0xDCA9], "ED A0 BD 61 ED B2 A9", 7),
-];
+fn glued() -> [(&'static [u16], &'static [u16], &'static str, usize); 7] {
+    [
+        (&[0x61, 0xD83D], &[0xDCA9, 0x62], "61 F0 9F 92 A9 62", 6),
+        (&[0xD83D], &[0xDCA9, 0xDCA9], "F0 9F 92 A9 ED B2 A9", 7),
+        (&[], &[0xDCA9], "ED B2 A9", 3),
+        (&[0xD83D], &[], "ED A0 BD", 3),
+        (&[0xD83D], &[0xD83D, 0xDCA9], "ED A0 BD F0 9F 92 A9", 7),
+        (&[0xDCA9], &[0xDCA9], "ED B2 A9 ED B2 A9", 6),
+        (&[0xD83D, 0x61], &[0xDCA9], "ED A0 BD 61 ED B2 A9", 7),
+    ]
+}
 
 #[test]
 fn appended_views_have_the_units_of_both(rt: HostRuntime) -> Result<(), Fail> {
-    for (front, back, dump, length) in GLUED {
+    for (front, back, dump, length) in glued() {
         let mut text = joined(rt.alloc(), front)?;
         text.push_wtf8(joined(rt.alloc(), back)?.as_wtf8())?;
         expect_dump(rt.alloc(), text.as_wtf8(), dump)?;
@@ -125,7 +130,7 @@ fn expect_cleared(alloc: Global, front: &[u16], back: &[u16]) -> Result<(), Fail
 
 #[test]
 fn a_cleared_string_is_empty_and_begins_anew(rt: HostRuntime) -> Result<(), Fail> {
-    for (front, back, _, _) in GLUED {
+    for (front, back, _, _) in glued() {
         expect_cleared(rt.alloc(), front, back)?;
     }
     Ok(())
