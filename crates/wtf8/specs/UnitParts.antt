@@ -49,14 +49,6 @@ pub record AppendsPart (old new u : List ℕ) (at end : ℕ) (known : Bool) : Ty
 abbrev pub AreScalarUnits : List ℕ → Type 0
 AreScalarUnits u = Each1 (λ n. (n < 0x10000) × ¬ (IsSurrogate n)) u
 
--- Each of the units takes two bytes (Unicode 3.9, "UTF-8", Table 3-6).
-abbrev pub AreTwoByteUnits : List ℕ → Type 0
-AreTwoByteUnits u = Each1 (λ n. (0x80 ≤ n) × (n < 0x800)) u
-
--- Each of the units takes three bytes, and none is a surrogate (Unicode 3.9, "UTF-8", Table 3-6).
-abbrev pub AreThreeByteUnits : List ℕ → Type 0
-AreThreeByteUnits u = Each1 (λ n. (0x800 ≤ n) × (n < 0x10000) × ¬ (IsSurrogate n)) u
-
 -- Bytes are those of n units from a place on, none of which is a surrogate.
 pub record IsBlock (u : List ℕ) (at n : ℕ) (w : List ℕ) : Type 0 where
   pub within : at + n ≤ length u

@@ -47,28 +47,3 @@ all_spelled (suc n) numbers = all_spelled n numbers ++ spelled (slice_index_or n
 -- Each trail among the first n units stands behind a lead, and no lead of them before another unit of them (Unicode 3.8, "Surrogates").
 abbrev pub ArePaired : List ℕ → ℕ → Type 0
 ArePaired u n = (i : ℕ) → i < n → IsTrail (unit_of_number u i) ↔ IsLead (unit_before u i)
-
--- Each of the units is below 800: it takes one byte or two (Unicode 3.9, "UTF-8", Table 3-6).
-abbrev pub AreLow : List ℕ → Type 0
-AreLow u = Each1 (λ n. n < 0x800) u
-
--- The bytes of such a unit as one number, the first byte lowest, and how many there are.
-abbrev pub low_front : ℕ → ℕ
-low_front unit = if nat_lt unit 0x80 then unit else 0x80C0 + unit / 64 + unit % 64 * 256
-
-abbrev pub low_len : ℕ → ℕ
-low_len unit = if nat_lt unit 0x80 then 1 else 2
-
--- Up to two bytes by a number and how many there are.
-abbrev pub low_spelled : ℕ → ℕ → List ℕ
-low_spelled front len = take len (front % 256 ∷ front / 256 % 256 ∷ [])
-
--- What the first n numbers of a list spell by their lengths.
-abbrev pub all_low_spelled : ℕ → List ℕ → List ℕ → List ℕ
-all_low_spelled zero fronts lens = []
-all_low_spelled (suc n) fronts lens = all_low_spelled n fronts lens ++ low_spelled (slice_index_or fronts n 0) (slice_index_or lens n 0)
-
--- The sum of the first n numbers of a list.
-abbrev pub first_sum : ℕ → List ℕ → ℕ
-first_sum zero numbers = 0
-first_sum (suc n) numbers = first_sum n numbers + slice_index_or numbers n 0

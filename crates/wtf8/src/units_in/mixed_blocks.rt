@@ -5,7 +5,7 @@ ghost use Rattle.wtf8.specs.UnitParts.{AppendsForm, DividesNoPair, IsKnownForm};
 ghost use Rattle.wtf8.specs.UnitPieces.{piece, spelled, unit_before, IsSpelled, ArePaired, AreJoined, all_spelled};
 
 use crate::numbers::surrogates::{FIRST_LEAD, FIRST_TRAIL, OF_A_KIND};
-use crate::units_in::{NUMBERS, UnitBlock};
+use crate::units_in::NUMBERS;
 use std::alloc::{AllocError, Allocator};
 use std::simd::prelude::*;
 
@@ -135,25 +135,27 @@ fn is_worth_a_block(units: u16x16) -> bool
     leads.count_ones() < MANY_LEADS && leads % 0x8000 * 2 == trails
 }
 
-/// Sixteen units of which no surrogate is alone.
-pub(crate) struct Mixed;
-
-impl UnitBlock for Mixed {
-    #[inline(always)]
-    fn append<A: Allocator>(
-        bytes: &mut Vec<u8, A>,
-        v: &[u16],
-        at: usize,
-    ) -> Result<Option<usize>, AllocError> {
-        let Some(units) = v[at..].first_chunk::<NUMBERS>() else {
-            return Ok(None);
-        };
-        if !is_worth_a_block(u16x16::from_array(*units)) {
-            return Ok(None);
-        }
-        let mut block = [0; ROOM];
-        let (taken, len) = write_block(units, &mut block);
-        bytes.extend_from_slice(&block[..len])?;
-        Ok(Some(taken))
+/// Appends the bytes of the sixteen units from a place on, or of all but a lead at their end, where there are so many and they
+/// are worth a block, and answers how many units these are.
+#[inline(always)]
+pub(crate) fn append<A: Allocator>(
+    bytes: &mut Vec<u8, A>,
+    v: &[u16],
+    at: usize,
+) -> Result<Option<usize>, AllocError>
+    requires { at ≤ length v.now }
+    ensures some { IfOk result (λ taken. IfSome taken (λ n. (0 < n) × (at + n ≤ length v.now) × DividesNoPair v.now (at + n)
+        × AppendsForm bytes.old.items bytes.new.items (take n (drop at v.now)) true)) }
+    ensures none { IfOk result (λ taken. IfNone taken (bytes.new.items ≡ bytes.old.items)) }
+{
+    let Some(units) = v[at..].first_chunk::<NUMBERS>() else {
+        return Ok(None);
+    };
+    if !is_worth_a_block(u16x16::from_array(*units)) {
+        return Ok(None);
     }
+    let mut block = [0; ROOM];
+    let (taken, len) = write_block(units, &mut block);
+    bytes.extend_from_slice(&block[..len])?;
+    Ok(Some(taken))
 }

@@ -1,34 +1,19 @@
 // Code units turned into bytes by the kind of the first: the ASCII units at the front of 32, 16 or eight together with the
-// code point behind them, eight of two or of three bytes together, any others in mixed blocks or one after another.
+// code point behind them, eight without a surrogate together, any others in mixed blocks or one after another.
 ghost use Rattle.std.specs.Prelude.{◌≡◌, ℕ, List, [], ◌+◌, ◌++◌, ◌-◌, ◌*◌, ◌%◌, ◌<◌, ◌≤◌, length, map, take, drop, IfOk, IfSome, IfNone, IsOk, IsTrue, OnOk};
-ghost use Rattle.wtf8.specs.Form.{bytes as bytes_of};
-ghost use Rattle.wtf8.specs.UnitParts.{AppendsPart, IsKnownForm, IsReadTo, DividesNoPair, AreAscii, AreTwoByteUnits, AreThreeByteUnits, IsBlock};
+ghost use Rattle.wtf8.specs.UnitParts.{AppendsPart, IsKnownForm, IsReadTo, DividesNoPair, AreAscii};
 
 use crate::numbers::encoding;
 use crate::numbers::surrogates::{FIRST_LEAD, FIRST_TRAIL, LAST_TRAIL};
-use crate::units_in::low_blocks::Low;
-use crate::units_in::mixed_blocks::Mixed;
-use crate::units_in::{NUMBERS, UnitBlock, decode};
+use crate::units_in::{NUMBERS, decode, mixed_blocks, scalar_blocks};
 use std::alloc::{AllocError, Allocator};
 use std::simd::prelude::*;
 
 /// How many units are looked at together for ASCII where there are so many.
 const MANY: usize = 2 * NUMBERS;
 
-/// How many units of two or of three bytes are written together.
+/// The fewest units that are looked at together.
 const HALF: usize = NUMBERS / 2;
-
-/// The first and the second bytes of eight units in turn.
-const IN_TWOS: [usize; 16] = [0, 8, 1, 9, 2, 10, 3, 11, 4, 12, 5, 13, 6, 14, 7, 15];
-
-/// The lanes of one vector and then those of another.
-const FRONT_AND_BACK: [usize; 16] = [0, 1, 2, 3, 4, 5, 6, 7, 8, 9, 10, 11, 12, 13, 14, 15];
-
-/// The first, the second and the third bytes of eight units in turn; the last eight lanes are not used.
-const IN_THREES: [usize; 32] = [
-    0, 8, 16, 1, 9, 17, 2, 10, 18, 3, 11, 19, 4, 12, 20, 5, 13, 21, 6, 14, 22, 7, 15, 23, 0, 0, 0,
-    0, 0, 0, 0, 0,
-];
 
 /// How many units are read one after another before a block is looked at again.
 const PART: usize = 32;
@@ -71,97 +56,6 @@ pub(crate) fn ascii_bytes(numbers: u32x16) -> Option<[u8; NUMBERS]>
 {
     if are_ascii(numbers) {
         return Some(narrowed(numbers));
-    }
-    None
-}
-
-/// Whether all of eight units take two bytes.
-#[inline(always)]
-fn take_two_bytes(units: u16x8) -> bool
-    ensures { IsTrue result → AreTwoByteUnits units }
-{
-    let low = units.simd_lt(u16x8::splat(0x80));
-    let high = units.simd_ge(u16x8::splat(0x800));
-    (low | high).to_bitmask() == 0
-}
-
-/// The bytes of eight units that take two each.
-#[inline(always)]
-fn two_bytes_each(units: [u16; 8]) -> [u8; 16]
-    requires { AreTwoByteUnits units }
-    ensures { result ≡ bytes_of units }
-{
-    let [a, b, c, d, e, f, g, h] = units;
-    let units = u16x8::from_array([a, b, c, d, e, f, g, h]);
-    let six_bits = u16x8::splat(64);
-    let high = units / six_bits % u16x8::splat(32);
-    let low = units % six_bits;
-    let first = u16x8::splat(0xC0).strict_add(high).cast::<u8>();
-    let second = u16x8::splat(0x80).strict_add(low).cast::<u8>();
-    let bytes: u8x16 = first.shuffle(second, IN_TWOS);
-    let mut block = [0; 16];
-    bytes.copy_to_slice(&mut block);
-    block
-}
-
-/// The bytes of the eight units from a place on, where there are so many and all of them take two bytes.
-#[inline(always)]
-fn two_byte_block(v: &[u16], at: usize) -> Option<[u8; 16]>
-    requires { at ≤ length v.now }
-    ensures { IfSome result (λ block. IsBlock v.now at HALF block) }
-{
-    let units = units_from(v, at)?;
-    if take_two_bytes(u16x8::from_array(units)) {
-        return Some(two_bytes_each(units));
-    }
-    None
-}
-
-/// Whether all of eight units take three bytes and none is a surrogate.
-#[inline(always)]
-fn take_three_bytes(units: u16x8) -> bool
-    ensures { IsTrue result → AreThreeByteUnits units }
-{
-    let low = units.simd_lt(u16x8::splat(0x800));
-    let leads_on = units.simd_ge(u16x8::splat(0xD800));
-    let surrogates = leads_on & units.simd_le(u16x8::splat(0xDFFF));
-    (low | surrogates).to_bitmask() == 0
-}
-
-/// The bytes of eight units that take three each, and eight more bytes behind these.
-#[inline(always)]
-fn three_bytes_each(units: [u16; 8]) -> [u8; 32]
-    requires { AreThreeByteUnits units }
-    ensures { take (3 * HALF) result ≡ bytes_of units }
-{
-    let [a, b, c, d, e, f, g, h] = units;
-    let units = u16x8::from_array([a, b, c, d, e, f, g, h]);
-    let six_bits = u16x8::splat(64);
-    let inside = u16x8::splat(0x80);
-    let high = units / u16x8::splat(4096);
-    let middle = units / six_bits % six_bits;
-    let low = units % six_bits;
-    let first = u16x8::splat(0xE0).strict_add(high).cast::<u8>();
-    let second = inside.strict_add(middle).cast::<u8>();
-    let third = inside.strict_add(low).cast::<u8>();
-    let front: u8x16 = first.shuffle(second, FRONT_AND_BACK);
-    let back: u8x16 = third.shuffle(third, FRONT_AND_BACK);
-    let bytes: u8x32 = front.shuffle(back, IN_THREES);
-    let mut block = [0; 32];
-    bytes.copy_to_slice(&mut block);
-    block
-}
-
-/// The bytes of the eight units from a place on, where there are so many and all of them take three bytes, with eight
-/// more behind these.
-#[inline(always)]
-fn three_byte_block(v: &[u16], at: usize) -> Option<[u8; 32]>
-    requires { at ≤ length v.now }
-    ensures { IfSome result (λ block. IsBlock v.now at HALF (take (3 * HALF) block)) }
-{
-    let units = units_from(v, at)?;
-    if take_three_bytes(u16x8::from_array(units)) {
-        return Some(three_bytes_each(units));
     }
     None
 }
@@ -334,43 +228,12 @@ fn append_mixed<A: Allocator>(
     requires { at < length v.now }
     ensures { IfOk result (λ part. AppendsPart bytes.old.items bytes.new.items v.now at part.0 part.1) }
 {
-    if let Some(taken) = Mixed::append(bytes, v, at)? {
+    if let Some(taken) = mixed_blocks::append(bytes, v, at)? {
         return Ok((at + taken, true));
     }
     let end = end_of_part(v, at);
     let is_scalar = decode::append_one_by_one(bytes, &v[at..end])?;
     Ok((end, is_scalar))
-}
-
-/// Appends the bytes of as many units from a place on as the kind of the first lets hope to take together, where that can
-/// be, and answers where they end and whether no surrogate is alone among them.
-#[inline(always)]
-fn append_kind<A: Allocator>(
-    bytes: &mut Vec<u8, A>,
-    v: &[u16],
-    at: usize,
-) -> Result<Option<(usize, bool)>, AllocError>
-    requires { at < length v.now }
-    ensures none { IfOk result (λ part. IfNone part (bytes.new.items ≡ bytes.old.items)) }
-    ensures some { IfOk result (λ part. IfSome part (λ part. AppendsPart bytes.old.items bytes.new.items v.now at part.0 part.1)) }
-{
-    let unit = v[at];
-    if unit < 0x80 {
-        return append_fronts(bytes, v, at);
-    }
-    if unit < 0x800 {
-        if let Some(block) = two_byte_block(v, at) {
-            bytes.extend_from_slice(&block)?;
-            return Ok(Some((at + HALF, true)));
-        }
-        if let Some(taken) = Low::append(bytes, v, at)? {
-            return Ok(Some((at + taken, true)));
-        }
-    } else if let Some(block) = three_byte_block(v, at) {
-        bytes.extend_from_slice(&block[..3 * HALF])?;
-        return Ok(Some((at + HALF, true)));
-    }
-    Ok(None)
 }
 
 /// Appends the bytes of some units from a place on, together where that can be, and answers where they end and whether no
@@ -384,12 +247,21 @@ fn append_part<A: Allocator>(
     requires { at < length v.now }
     ensures { IfOk result (λ part. AppendsPart bytes.old.items bytes.new.items v.now at part.0 part.1) }
 {
-    if HALF <= v.len() - at
-        && let Some(part) = append_kind(bytes, v, at)?
-    {
-        return Ok(part);
+    if v.len() - at < HALF {
+        return append_mixed(bytes, v, at);
     }
-    append_mixed(bytes, v, at)
+    let part = if v[at] < 0x80 {
+        append_fronts(bytes, v, at)?
+    } else if v[at + 1] < 0x80 {
+        // Behind a front of ASCII mostly more of it comes.
+        Some(append_point(bytes, v, at)?)
+    } else {
+        scalar_blocks::append(bytes, v, at)?
+    };
+    match part {
+        Some(part) => Ok(part),
+        None => append_mixed(bytes, v, at),
+    }
 }
 
 /// Appends the string of the units to a buffer without bytes, and answers whether it has no lone surrogate.

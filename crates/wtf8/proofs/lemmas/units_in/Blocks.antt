@@ -1,7 +1,7 @@
 -- Blocks of units of one kind: their lanes, their bytes, and what they add to a string.
 use Rattle.wtf8.proofs.Common.{◌≡◌, ℕ, zero, suc, ◌-◌, ◌%◌, ◌^◌, ◌<◌, ◌≤◌, leb, ltb, Bool, true, false, cond, ◌&&◌, ◌||◌, List, [], ◌∷◌, map, length, replicate, bit_and}
 use Rattle.wtf8.proofs.Common.{bit_or, Fits, refl, sym, ap, ◌∙◌, arith, inl, inr, and_parts, cases_Bool, mask_l-mod, tops_compared, Each1, zip2, mask_l, top, AreAscii}
-use Rattle.wtf8.proofs.Common.{AreTwoByteUnits, AreThreeByteUnits, IsSurrogate, ◌+◌, ◌/◌, ◌++◌, flat_map, bytes, encoding, IsTrue, take, drop, get_or, subst}
+use Rattle.wtf8.proofs.Common.{IsSurrogate, ◌+◌, ◌/◌, ◌++◌, flat_map, bytes, encoding, IsTrue, take, drop, get_or, subst}
 use Rattle.wtf8.proofs.Common.{length-append, get_or-append-add, take-append-drop, take_all, Each1-weaker, length-chunk, MeetsAsPair, IsClean, bytes-injective, drop-drop}
 use Rattle.wtf8.proofs.Common.{AreScalar, units, IsKnownForm, DividesNoPair, IsBlock, numbers, append_assoc, Ok, IsWellFormed, GainsUnits}
 use Rattle.std.proofs.Common.{w16}
@@ -50,94 +50,31 @@ pub none_high : (w : Width) (n : ℕ) (xs : List ℕ) → n ≤ 64 → length xs
     → mask_l (map (top (hbits w)) (zip2 (λ a b. cond (leb a b) (2 ^ bits w - 1) 0) (replicate n 0x80) xs)) % 2 ^ 64 ≡ 0 → AreAscii xs
 none_high w = none_from w 0x80
 
--- a lane is set by a unit that does not take two bytes
-either_set : (a b : Bool) → top 15 (bit_or (wide a) (wide b)) ≡ a || b
-either_set true true = refl
-either_set true false = refl
-either_set false true = refl
-either_set false false = refl
+-- a lane is set by a surrogate
+both_set : (a b : Bool) → top 15 (bit_and (wide a) (wide b)) ≡ a && b
+both_set true true = refl
+both_set true false = refl
+both_set false true = refl
+both_set false false = refl
 
-abbrev no_two : ℕ → Bool
-no_two x = ltb x 0x80 || leb 0x800 x
+abbrev surrogate : ℕ → Bool
+surrogate x = leb 0xD800 x && leb x 0xDFFF
 
-abbrev no_twos : ℕ → List ℕ → List Bool
-no_twos n xs = map (top 15) (zip2 bit_or (zip2 (λ a b. wide (ltb a b)) xs (replicate n 0x80)) (zip2 (λ a b. wide (leb a b)) (replicate n 0x800) xs))
+abbrev surrogates : ℕ → List ℕ → List Bool
+surrogates n xs = map (top 15) (zip2 bit_and (zip2 (λ a b. wide (leb a b)) (replicate n 0xD800) xs) (zip2 (λ a b. wide (leb a b)) xs (replicate n 0xDFFF)))
 
-no_twos_are : (n : ℕ) (xs : List ℕ) → length xs ≡ n → no_twos n xs ≡ map no_two xs
-no_twos_are zero [] e = refl
-no_twos_are (suc n) [] e = refl
-no_twos_are zero (x ∷ xs) e = absurd (omega arith)
-no_twos_are (suc n) (x ∷ xs) e = λ i. either_set (ltb x 0x80) (leb 0x800 x) i ∷ no_twos_are n xs (omega arith) i
+surrogates_are : (n : ℕ) (xs : List ℕ) → length xs ≡ n → surrogates n xs ≡ map surrogate xs
+surrogates_are zero [] e = refl
+surrogates_are (suc n) [] e = refl
+surrogates_are zero (x ∷ xs) e = absurd (omega arith)
+surrogates_are (suc n) (x ∷ xs) e = λ i. both_set (leb 0xD800 x) (leb x 0xDFFF) i ∷ surrogates_are n xs (omega arith) i
 
--- where no lane is set all units take two bytes
-pub none_no_two : (xs : List ℕ) → length xs ≡ 8 → Each1 (Fits w16) xs → mask_l (no_twos 8 xs) % 2 ^ 64 ≡ 0 → AreTwoByteUnits xs
-none_no_two xs l f = none_set no_two (Fits w16) (λ n. (0x80 ≤ n) × (n < 0x800)) two xs (omega arith) f (no_twos_are 8 xs l)
+-- where no lane is set no unit is a surrogate
+pub none_surrogate : (xs : List ℕ) → length xs ≡ 8 → Each1 (Fits w16) xs → mask_l (surrogates 8 xs) % 2 ^ 64 ≡ 0 → AreScalarUnits xs
+none_surrogate xs l f = none_set surrogate (Fits w16) (λ n. (n < 0x10000) × ¬ (IsSurrogate n)) own xs (omega arith) f (surrogates_are 8 xs l)
   where
-    two : (x : ℕ) → Fits w16 x → no_two x ≡ false → (0x80 ≤ x) × (x < 0x800)
-    two x _ u = let parts = or_parts _ _ u in (ltb-false x 0x80 parts.0, leb-false 0x800 x parts.1)
-
--- a lane is set by a unit below 800, and by a surrogate
-other_set : (a b c : Bool) → top 15 (bit_or (wide a) (bit_and (wide b) (wide c))) ≡ a || (b && c)
-other_set true true true = refl
-other_set true true false = refl
-other_set true false true = refl
-other_set true false false = refl
-other_set false true true = refl
-other_set false true false = refl
-other_set false false true = refl
-other_set false false false = refl
-
-abbrev other : ℕ → Bool
-other x = ltb x 0x800 || (leb 0xD800 x && leb x 0xDFFF)
-
-abbrev others : ℕ → List ℕ → List Bool
-others n xs = map (top 15) (zip2 bit_or (zip2 (λ a b. wide (ltb a b)) xs (replicate n 0x800))
-    (zip2 bit_and (zip2 (λ a b. wide (leb a b)) (replicate n 0xD800) xs) (zip2 (λ a b. wide (leb a b)) xs (replicate n 0xDFFF))))
-
-others_are : (n : ℕ) (xs : List ℕ) → length xs ≡ n → others n xs ≡ map other xs
-others_are zero [] e = refl
-others_are (suc n) [] e = refl
-others_are zero (x ∷ xs) e = absurd (omega arith)
-others_are (suc n) (x ∷ xs) e = λ i. other_set (ltb x 0x800) (leb 0xD800 x) (leb x 0xDFFF) i ∷ others_are n xs (omega arith) i
-
--- where no lane is set all units take three bytes
-pub none_other : (xs : List ℕ) → length xs ≡ 8 → Each1 (Fits w16) xs → mask_l (others 8 xs) % 2 ^ 64 ≡ 0 → AreThreeByteUnits xs
-none_other xs l f = none_set other (Fits w16) (λ n. (0x800 ≤ n) × (n < 0x10000) × ¬ (IsSurrogate n)) three xs (omega arith) f (others_are 8 xs l)
-  where
-    three : (x : ℕ) → Fits w16 x → other x ≡ false → (0x800 ≤ x) × (x < 0x10000) × ¬ (IsSurrogate x)
-    three x f u =
-        let parts = or_parts _ _ u in (
-          ltb-false x 0x800 parts.0,
-          f.fits,
-          λ s. elim (and_cases _ _ parts.1) [
-            | inl l ↦ omega (arith, s.0, leb-false 0xD800 x l)
-            | inr h ↦ omega (arith, s.1, leb-false x 0xDFFF h)
-          ],
-        )
-
--- Blocks of units as bytes: the rows of two and of three bytes that are written, and the bytes of the units.
-
--- the two bytes that a unit from 80 to 7FF has
-abbrev pub two_byte_row : ℕ → List ℕ
-two_byte_row p = (0xC0 + p / 64 % 32) ∷ (0x80 + p % 64) ∷ []
-
-two_byte_rows : (xs : List ℕ) → AreTwoByteUnits xs → flat_map two_byte_row xs ≡ bytes xs
-two_byte_rows [] h = refl
-two_byte_rows (x ∷ xs) h =
-    let small : x / 64 % 32 ≡ x / 64 = omega (arith, h.0.1) in
-    let row : two_byte_row x ≡ encoding x = ap (λ n. (0xC0 + n) ∷ (0x80 + x % 64) ∷ []) small ∙ sym (encoding_two x h.0.0 h.0.1) in
-    ap (λ w. w ++ flat_map two_byte_row xs) row ∙ ap (λ w. encoding x ++ w) (two_byte_rows xs h.1)
-
-pub by_two_byte_rows : {w : List ℕ} (xs : List ℕ) → AreTwoByteUnits xs → w ≡ flat_map two_byte_row xs → w ≡ bytes xs
-by_two_byte_rows xs h e = e ∙ two_byte_rows xs h
-
--- their rows are their encodings
-third_rows : (xs : List ℕ) → AreThreeByteUnits xs → flat_map third_row xs ≡ bytes xs
-third_rows [] h = refl
-third_rows (x ∷ xs) h = ap (λ w. w ++ flat_map third_row xs) (sym (encoding_three x h.0.0 h.0.1)) ∙ ap (λ w. encoding x ++ w) (third_rows xs h.1)
-
-pub by_rows : {w : List ℕ} (xs : List ℕ) → AreThreeByteUnits xs → w ≡ flat_map third_row xs → w ≡ bytes xs
-by_rows xs h e = e ∙ third_rows xs h
+    own : (x : ℕ) → Fits w16 x → surrogate x ≡ false → (x < 0x10000) × ¬ (IsSurrogate x)
+    own x f u = (f.fits, λ s. elim (and_cases _ _ u) [ inl l ↦ omega (arith, s.0, leb-false 0xD800 x l) | inr h ↦ omega (arith, s.1, leb-false x 0xDFFF h) ])
 
 -- Units turned into bytes part by part: where parts meet, and the form of all that was read.
 
@@ -201,18 +138,21 @@ last_apart u at k within n m =
     let last = last_is (take at u) part m.front m.lead k (length-chunk at (k + 1) u within) (sym (take-add at (k + 1) u) ∙ m.ends) in
     n (omega (arith, last, m.is_lead), omega (arith, last, m.is_lead))
 
--- a block of units of one kind is a part
-pub block_part : {was new u w : List ℕ} (at k : ℕ) → IsBlock u at (k + 1) w → new ≡ was ++ w → AppendsPart was new u at (at + (k + 1)) true
-block_part {was} {new} {u} {w} at k b e =
+-- a block of units is a part
+pub block_part : {was new u w : List ℕ} {at end : ℕ} → at < end → IsBlock u at (end - at) w → new ≡ was ++ w → AppendsPart was new u at end true
+block_part {was} {new} {u} {w} {at} {end} l b e =
+    let k = end - at - 1 in
+    let count : end - at ≡ k + 1 = omega (arith, l) in
+    let here : at + (k + 1) ≡ end = omega (arith, l) in
+    let within : at + (k + 1) ≤ length u = omega (arith, l, b.within) in
     let part = take (k + 1) (drop at u) in
-    let long : length part ≡ k + 1 = length-chunk at (k + 1) u b.within in
-    let last = Each1-get_or (λ n. (n < 0x10000) × ¬ (IsSurrogate n)) part k 0 (omega (arith, long)) b.scalars in
-    let count : k + 1 ≡ at + (k + 1) - at = omega arith in
+    let scalars = subst (λ n. AreScalarUnits (take n (drop at u))) count b.scalars in
+    let last = Each1-get_or (λ n. (n < 0x10000) × ¬ (IsSurrogate n)) part k 0 (omega (arith, length-chunk at (k + 1) u within)) scalars in
     record {
-      order = omega arith;
-      within = b.within;
-      apart = last_apart u at k b.within (λ l. last.1 (l.0, omega (arith, l.1)));
-      form = subst (λ n. AppendsForm was new (take n (drop at u)) true) count (record { appended = w; behind = e; part = block_form true b });
+      order = l;
+      within = omega (arith, l, b.within);
+      apart = subst (λ n. DividesNoPair u n) here (last_apart u at k within (λ s. last.1 (s.0, omega (arith, s.1))));
+      form = record { appended = w; behind = e; part = block_form true b };
     }
 
 -- where a part meets what is before it, all that is behind does
@@ -259,6 +199,23 @@ between u {at} {mid} {end} l m =
     ap (λ k. take k (drop at u)) both ∙ (take-add (mid - at) (end - mid) (drop at u)
     ∙ ap (λ w. front ++ take (end - mid) w) (drop-drop (mid - at) at u ∙ ap (λ k. drop k u) here))
 
+-- a block of units and eight more of them
+scalars_behind : (u v : List ℕ) → AreScalarUnits u → AreScalarUnits v → AreScalarUnits (u ++ v)
+scalars_behind [] v g h = h
+scalars_behind (x ∷ u) v g h = (g.0, scalars_behind u v g.1 h)
+
+pub block_more : {u w part : List ℕ} {at mid : ℕ} → at ≤ mid → mid + 8 ≤ length u → IsBlock u at (mid - at) w → part ≡ take 8 (drop mid u) → AreScalarUnits part
+    → IsBlock u at (mid + 8 - at) (w ++ bytes part)
+block_more {u} {w} {part} {at} {mid} l h b same scalar =
+    let front = take (mid - at) (drop at u) in
+    let eight : mid + 8 - mid ≡ 8 = omega arith in
+    let both : take (mid + 8 - at) (drop at u) ≡ front ++ part = between u l (omega arith) ∙ ap (λ k. front ++ take k (drop mid u)) eight ∙ ap (λ p. front ++ p) (sym same) in
+    record {
+      within = omega (arith, l, h);
+      scalars = subst AreScalarUnits (sym both) (scalars_behind front part b.scalars scalar);
+      encoded = ap (λ v. v ++ bytes part) b.encoded ∙ sym (bytes-append front part) ∙ ap bytes (sym both);
+    }
+
 -- the first k of some units, which are ASCII
 pub ascii_appended : {was new u part : List ℕ} (at k n : ℕ) → at + n ≤ length u → part ≡ take n (drop at u) → k ≤ n → AreAscii (take k part) → new ≡ was ++ take k part
     → AppendsAscii was new u at (at + k)
@@ -268,19 +225,9 @@ ascii_appended {was} {new} {u} {part} at k n l same m h e =
     record { order = omega arith; within = omega (arith, l, m); ascii = subst AreAscii whole h; behind = e ∙ ap (λ w. was ++ w) whole }
 
 pub ascii_part : {was new u : List ℕ} {at end : ℕ} → AppendsAscii was new u at end → at < end → AppendsPart was new u at end true
-ascii_part {was} {new} {u} {at} {end} a l =
-    let k = end - at - 1 in
-    let count : end - at ≡ k + 1 = omega (arith, l) in
-    let here : at + (k + 1) ≡ end = omega (arith, l) in
-    let within : at + (k + 1) ≤ length u = omega (arith, here, a.within) in
-    let ascii = subst (λ n. AreAscii (take n (drop at u))) count a.ascii in
-    let last = Each1-get_or (λ n. n < 0x80) (take (k + 1) (drop at u)) k 0 (omega (arith, length-chunk at (k + 1) u within)) ascii in
-    record {
-      order = l;
-      within = a.within;
-      apart = subst (λ n. DividesNoPair u n) here (last_apart u at k within (λ s. omega (arith, last, s.0)));
-      form = record { appended = take (end - at) (drop at u); behind = a.behind; part = ascii_form (take (end - at) (drop at u)) a.ascii };
-    }
+ascii_part {u = u} {at = at} {end = end} a l =
+    let part = take (end - at) (drop at u) in
+    block_part l (record { within = omega (arith, l, a.within); scalars = ascii_scalars part a.ascii; encoded = sym (ascii_bytes part a.ascii) }) a.behind
 
 pub front_and_part : {was now new u : List ℕ} {at mid end : ℕ} {known : Bool} → AppendsAscii was now u at mid → AppendsPart now new u mid end known
     → AppendsPart was new u at end known
