@@ -48,9 +48,3 @@ pub record AppendsPart (old new u : List ℕ) (at end : ℕ) (known : Bool) : Ty
 -- Each of the units is a scalar value of its own number (Unicode 3.9, "Unicode scalar value").
 abbrev pub AreScalarUnits : List ℕ → Type 0
 AreScalarUnits u = Each1 (λ n. (n < 0x10000) × ¬ (IsSurrogate n)) u
-
--- Bytes are those of n units from a place on, none of which is a surrogate.
-pub record IsBlock (u : List ℕ) (at n : ℕ) (w : List ℕ) : Type 0 where
-  pub within : at + n ≤ length u
-  pub scalars : AreScalarUnits (take n (drop at u))
-  pub encoded : w ≡ bytes (take n (drop at u))

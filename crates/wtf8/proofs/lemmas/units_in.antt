@@ -2,4 +2,4 @@ pub mod Blocks
 pub mod Decoding
 pub mod Pieces
 pub mod Rows
-pub mod ScalarBlocks
+pub mod MixedBlocks

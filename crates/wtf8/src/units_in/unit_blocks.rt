@@ -1,11 +1,11 @@
 // Code units turned into bytes by the kind of the first: the ASCII units at the front of 32, 16 or eight together with the
-// code point behind them, eight without a surrogate together, any others in mixed blocks or one after another.
+// code point behind them, any others in mixed blocks or one after another.
 ghost use Rattle.std.specs.Prelude.{◌≡◌, ℕ, List, [], ◌+◌, ◌++◌, ◌-◌, ◌*◌, ◌%◌, ◌<◌, ◌≤◌, length, map, take, drop, IfOk, IfSome, IfNone, IsOk, IsTrue, OnOk};
 ghost use Rattle.wtf8.specs.UnitParts.{AppendsPart, IsKnownForm, IsReadTo, DividesNoPair, AreAscii};
 
 use crate::numbers::encoding;
 use crate::numbers::surrogates::{FIRST_LEAD, FIRST_TRAIL, LAST_TRAIL};
-use crate::units_in::{NUMBERS, decode, mixed_blocks, scalar_blocks};
+use crate::units_in::{NUMBERS, decode, mixed_blocks};
 use std::alloc::{AllocError, Allocator};
 use std::simd::prelude::*;
 
@@ -217,10 +217,10 @@ fn append_fronts<A: Allocator>(
     Ok(Some((end, is_scalar)))
 }
 
-/// Appends the bytes of some units from a place on, sixteen together where that can be, and answers where they end and
-/// whether no surrogate is alone among them.
+/// Appends the bytes of some units from a place on one after another, and answers where they end and whether no surrogate is
+/// alone among them.
 #[inline(always)]
-fn append_mixed<A: Allocator>(
+fn append_singly<A: Allocator>(
     bytes: &mut Vec<u8, A>,
     v: &[u16],
     at: usize,
@@ -228,9 +228,6 @@ fn append_mixed<A: Allocator>(
     requires { at < length v.now }
     ensures { IfOk result (λ part. AppendsPart bytes.old.items bytes.new.items v.now at part.0 part.1) }
 {
-    if let Some(taken) = mixed_blocks::append(bytes, v, at)? {
-        return Ok((at + taken, true));
-    }
     let end = end_of_part(v, at);
     let is_scalar = decode::append_one_by_one(bytes, &v[at..end])?;
     Ok((end, is_scalar))
@@ -248,7 +245,7 @@ fn append_part<A: Allocator>(
     ensures { IfOk result (λ part. AppendsPart bytes.old.items bytes.new.items v.now at part.0 part.1) }
 {
     if v.len() - at < HALF {
-        return append_mixed(bytes, v, at);
+        return append_singly(bytes, v, at);
     }
     let part = if v[at] < 0x80 {
         append_fronts(bytes, v, at)?
@@ -256,11 +253,11 @@ fn append_part<A: Allocator>(
         // Behind a front of ASCII mostly more of it comes.
         Some(append_point(bytes, v, at)?)
     } else {
-        scalar_blocks::append(bytes, v, at)?
+        mixed_blocks::append(bytes, v, at)?
     };
     match part {
         Some(part) => Ok(part),
-        None => append_mixed(bytes, v, at),
+        None => append_singly(bytes, v, at),
     }
 }
 

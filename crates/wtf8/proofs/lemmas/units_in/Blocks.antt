@@ -3,7 +3,7 @@ use Rattle.wtf8.proofs.Common.{◌≡◌, ℕ, zero, suc, ◌-◌, ◌%◌, ◌^
 use Rattle.wtf8.proofs.Common.{bit_or, Fits, refl, sym, ap, ◌∙◌, arith, inl, inr, and_parts, cases_Bool, mask_l-mod, tops_compared, Each1, zip2, mask_l, top, AreAscii}
 use Rattle.wtf8.proofs.Common.{IsSurrogate, ◌+◌, ◌/◌, ◌++◌, flat_map, bytes, encoding, IsTrue, take, drop, get_or, subst}
 use Rattle.wtf8.proofs.Common.{length-append, get_or-append-add, take-append-drop, take_all, Each1-weaker, length-chunk, MeetsAsPair, IsClean, bytes-injective, drop-drop}
-use Rattle.wtf8.proofs.Common.{AreScalar, units, IsKnownForm, DividesNoPair, IsBlock, numbers, append_assoc, Ok, IsWellFormed, GainsUnits}
+use Rattle.wtf8.proofs.Common.{AreScalar, units, IsKnownForm, DividesNoPair, numbers, append_assoc, Ok, IsWellFormed, GainsUnits}
 use Rattle.std.proofs.Common.{w16}
 use mir.Syntax.{Width}
 use mir.Val.{bits, hbits}
@@ -92,16 +92,6 @@ are_scalar : (u : List ℕ) → AreScalarUnits u → AreScalar u
 are_scalar [] h = tt
 are_scalar (p ∷ u) h = (h.0.1, are_scalar u h.1)
 
-block_form : {u w : List ℕ} {at n : ℕ} (known : Bool) → IsBlock u at n w → IsKnownForm w (take n (drop at u)) known
-block_form {u} {w} {at} {n} known b = record {
-  form = record {
-    points = take n (drop at u);
-    reads = record { clean = scalar_clean (take n (drop at u)) b.scalars; same_units = scalar_units (take n (drop at u)) b.scalars };
-    encoded = sym b.encoded;
-  };
-  scalar = λ _. are_scalar (take n (drop at u)) b.scalars;
-}
-
 ascii_bytes : (u : List ℕ) → AreAscii u → bytes u ≡ u
 ascii_bytes [] h = refl
 ascii_bytes (p ∷ u) h = ap (λ w. w ++ bytes u) (encoding_one p h.0) ∙ ap (λ v. p ∷ v) (ascii_bytes u h.1)
@@ -137,23 +127,6 @@ last_apart u at k within n m =
     let part = take (k + 1) (drop at u) in
     let last = last_is (take at u) part m.front m.lead k (length-chunk at (k + 1) u within) (sym (take-add at (k + 1) u) ∙ m.ends) in
     n (omega (arith, last, m.is_lead), omega (arith, last, m.is_lead))
-
--- a block of units is a part
-pub block_part : {was new u w : List ℕ} {at end : ℕ} → at < end → IsBlock u at (end - at) w → new ≡ was ++ w → AppendsPart was new u at end true
-block_part {was} {new} {u} {w} {at} {end} l b e =
-    let k = end - at - 1 in
-    let count : end - at ≡ k + 1 = omega (arith, l) in
-    let here : at + (k + 1) ≡ end = omega (arith, l) in
-    let within : at + (k + 1) ≤ length u = omega (arith, l, b.within) in
-    let part = take (k + 1) (drop at u) in
-    let scalars = subst (λ n. AreScalarUnits (take n (drop at u))) count b.scalars in
-    let last = Each1-get_or (λ n. (n < 0x10000) × ¬ (IsSurrogate n)) part k 0 (omega (arith, length-chunk at (k + 1) u within)) scalars in
-    record {
-      order = l;
-      within = omega (arith, l, b.within);
-      apart = subst (λ n. DividesNoPair u n) here (last_apart u at k within (λ s. last.1 (s.0, omega (arith, s.1))));
-      form = record { appended = w; behind = e; part = block_form true b };
-    }
 
 -- where a part meets what is before it, all that is behind does
 meets_longer : (a b : List ℕ) (n : ℕ) → MeetsAsPair a (take n b) → MeetsAsPair a b
@@ -199,23 +172,6 @@ between u {at} {mid} {end} l m =
     ap (λ k. take k (drop at u)) both ∙ (take-add (mid - at) (end - mid) (drop at u)
     ∙ ap (λ w. front ++ take (end - mid) w) (drop-drop (mid - at) at u ∙ ap (λ k. drop k u) here))
 
--- a block of units and eight more of them
-scalars_behind : (u v : List ℕ) → AreScalarUnits u → AreScalarUnits v → AreScalarUnits (u ++ v)
-scalars_behind [] v g h = h
-scalars_behind (x ∷ u) v g h = (g.0, scalars_behind u v g.1 h)
-
-pub block_more : {u w part : List ℕ} {at mid : ℕ} → at ≤ mid → mid + 8 ≤ length u → IsBlock u at (mid - at) w → part ≡ take 8 (drop mid u) → AreScalarUnits part
-    → IsBlock u at (mid + 8 - at) (w ++ bytes part)
-block_more {u} {w} {part} {at} {mid} l h b same scalar =
-    let front = take (mid - at) (drop at u) in
-    let eight : mid + 8 - mid ≡ 8 = omega arith in
-    let both : take (mid + 8 - at) (drop at u) ≡ front ++ part = between u l (omega arith) ∙ ap (λ k. front ++ take k (drop mid u)) eight ∙ ap (λ p. front ++ p) (sym same) in
-    record {
-      within = omega (arith, l, h);
-      scalars = subst AreScalarUnits (sym both) (scalars_behind front part b.scalars scalar);
-      encoded = ap (λ v. v ++ bytes part) b.encoded ∙ sym (bytes-append front part) ∙ ap bytes (sym both);
-    }
-
 -- the first k of some units, which are ASCII
 pub ascii_appended : {was new u part : List ℕ} (at k n : ℕ) → at + n ≤ length u → part ≡ take n (drop at u) → k ≤ n → AreAscii (take k part) → new ≡ was ++ take k part
     → AppendsAscii was new u at (at + k)
@@ -225,9 +181,19 @@ ascii_appended {was} {new} {u} {part} at k n l same m h e =
     record { order = omega arith; within = omega (arith, l, m); ascii = subst AreAscii whole h; behind = e ∙ ap (λ w. was ++ w) whole }
 
 pub ascii_part : {was new u : List ℕ} {at end : ℕ} → AppendsAscii was new u at end → at < end → AppendsPart was new u at end true
-ascii_part {u = u} {at = at} {end = end} a l =
-    let part = take (end - at) (drop at u) in
-    block_part l (record { within = omega (arith, l, a.within); scalars = ascii_scalars part a.ascii; encoded = sym (ascii_bytes part a.ascii) }) a.behind
+ascii_part {was} {new} {u} {at} {end} a l =
+    let k = end - at - 1 in
+    let count : end - at ≡ k + 1 = omega (arith, l) in
+    let here : at + (k + 1) ≡ end = omega (arith, l) in
+    let within : at + (k + 1) ≤ length u = omega (arith, here, a.within) in
+    let ascii = subst (λ n. AreAscii (take n (drop at u))) count a.ascii in
+    let last = Each1-get_or (λ n. n < 0x80) (take (k + 1) (drop at u)) k 0 (omega (arith, length-chunk at (k + 1) u within)) ascii in
+    record {
+      order = l;
+      within = a.within;
+      apart = subst (λ n. DividesNoPair u n) here (last_apart u at k within (λ s. omega (arith, last, s.0)));
+      form = record { appended = take (end - at) (drop at u); behind = a.behind; part = ascii_form (take (end - at) (drop at u)) a.ascii };
+    }
 
 pub front_and_part : {was now new u : List ℕ} {at mid end : ℕ} {known : Bool} → AppendsAscii was now u at mid → AppendsPart now new u mid end known
     → AppendsPart was new u at end known

@@ -1,0 +1,24 @@
+use Rattle.wtf8.proofs.Common.{◌≡◌, ◌/◌, ◌%◌, ◌++◌, ◌∙◌, ◌∷◌, ap, arith, take, drop, length-drop, append_assoc, length-take, length-chunk}
+use Rattle.wtf8.specs.UnitPieces.{lengths_number, joined_pieces}
+use Rattle.wtf8.proofs.lemmas.units_in.MixedBlocks.{lengths_below, joined_halves}
+use Rattle.wtf8.proofs.units_in.mixed_blocks.put_eight.Goals as goal
+
+pub put-requires-clause-number : goal.put-requires-clause-number
+put-requires-clause-number c = omega (arith, c.lanes-numbers.ensures.lengths, lengths_below (take 4 c.args.units), lengths_below (drop 4 c.args.units))
+
+pub returns-clause-bytes : goal.returns-clause-bytes
+returns-clause-bytes c =
+    let units = c.args.units in
+    let long = c.fits-units.0 in
+    let front = take 4 units in
+    let back = drop 4 units in
+    let numbers = c.lanes-numbers.result.2 in
+    let first : numbers % 256 ≡ lengths_number front = omega (arith, c.lanes-numbers.ensures.lengths, lengths_below front) in
+    let second : numbers / 256 ≡ lengths_number back = omega (arith, c.lanes-numbers.ensures.lengths, lengths_below front) in
+    let kept = take c.args.len c.args.block.now in
+    let before = 0 ∷ take 3 units in
+    let middle = take 4 (drop 3 units) in
+    c.put.ensures.bytes middle back (length-chunk 3 4 units (omega (arith, long))) (omega (arith, long, length-drop 4 units)) c.lanes-numbers.ensures.back second
+    ∙ ap (λ w. w ++ joined_pieces middle back) (c.put-middle.ensures.bytes before front (omega (arith, long, length-take 3 units)) (omega (arith, long, length-take 4 units)) c.lanes-numbers.ensures.front first)
+    ∙ append_assoc kept (joined_pieces before front) (joined_pieces middle back)
+    ∙ ap (λ w. kept ++ w) (joined_halves units long)
