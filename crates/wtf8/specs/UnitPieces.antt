@@ -39,6 +39,12 @@ byte_count n =
 abbrev pub long_mark : ℕ → ℕ
 long_mark n = byte_count n / 3 * 0x80
 
+-- The second and the last bytes of units one behind the other, and marks for those of three.
+pub record AreBehind (u seconds lasts longs : List ℕ) : Type 0 where
+  pub second : seconds ≡ zip2 second_byte (0 ∷ u) u
+  pub last : lasts ≡ map last_byte u
+  pub long : longs ≡ map long_mark u
+
 -- What a unit adds behind another one.
 abbrev pub piece : ℕ → ℕ → List ℕ
 piece before n = drop (3 - byte_count n) (first_byte n ∷ second_byte before n ∷ last_byte n ∷ [])

@@ -4,7 +4,7 @@ ghost use Rattle.std.specs.Prelude.{◌≡◌, ℕ, List, [], ◌∷◌, true, �
 ghost use lib.Lanes.{zip2};
 ghost use Rattle.wtf8.specs.Unicode.{IsLead};
 ghost use Rattle.wtf8.specs.UnitParts.{AppendsPart, AreScalarUnits, IsKnownForm};
-ghost use Rattle.wtf8.specs.UnitPieces.{first_byte, own_second_byte, second_byte, own_last_byte, last_byte, long_mark, byte_lanes, lengths_number, joined_pieces, pieces, unit_before, ArePaired};
+ghost use Rattle.wtf8.specs.UnitPieces.{first_byte, own_second_byte, second_byte, own_last_byte, last_byte, long_mark, byte_lanes, lengths_number, AreBehind, joined_pieces, pieces, unit_before, ArePaired};
 
 use crate::numbers::surrogates::{FIRST_LEAD, FIRST_TRAIL, OF_A_KIND};
 use crate::units_in::rows;
@@ -40,9 +40,10 @@ const BY_ONE: [usize; 8] = [8, 0, 1, 2, 3, 4, 5, 6];
 fn are_scalar(units: u16x8) -> bool
     ensures { IsTrue result → AreScalarUnits units }
 {
-    let leads_on = units.simd_ge(u16x8::splat(0xD800));
-    let trails_down = units.simd_le(u16x8::splat(0xDFFF));
-    (leads_on & trails_down).to_bitmask() == 0
+    (units / u16x8::splat(2 * OF_A_KIND))
+        .simd_eq(u16x8::splat(FIRST_LEAD / (2 * OF_A_KIND)))
+        .to_bitmask()
+        == 0
 }
 
 /// Whether each trail among eight units stands behind a lead, and no lead before another unit.
@@ -142,30 +143,38 @@ fn long_marks(units: u16x8) -> u16x8
         .select(u16x8::splat(0), marks(units, 0x800))
 }
 
-/// The second and the last of three bytes of each of eight units, and marks for those that take three. Units without a
-/// surrogate among them are worked out by less.
+/// What is behind the first of three bytes of each of eight units: the second bytes, the last ones, and marks for the units that
+/// take three.
+type Behind = (u16x8, u16x8, u16x8);
+
+/// What is behind the first bytes of eight units without a surrogate.
 #[inline(always)]
-fn behind_first(units: u16x8) -> (u16x8, u16x8, u16x8)
-    ensures seconds { result.0 ≡ zip2 second_byte (0 ∷ units) units }
-    ensures lasts { result.1 ≡ map last_byte units }
-    ensures marks { result.2 ≡ map long_mark units }
+fn own_behind(units: u16x8) -> Behind
+    requires { AreScalarUnits units }
+    ensures { AreBehind units result.0 result.1 result.2 }
 {
-    if are_scalar(units) {
-        let seconds = own_second_bytes(units);
-        return (seconds, own_last_bytes(units), marks(units, 0x800));
-    }
+    let seconds = own_second_bytes(units);
+    (seconds, own_last_bytes(units), marks(units, 0x800))
+}
+
+/// What is behind the first bytes of eight units of any kinds.
+#[inline(always)]
+fn behind(units: u16x8) -> Behind
+    ensures { AreBehind units result.0 result.1 result.2 }
+{
     (second_bytes(units), last_bytes(units), long_marks(units))
 }
 
 /// The bytes of the first four of eight units in lanes, those of the other four, and their lengths as a number: those of the
 /// first four below 256, and above it those of the others.
 #[inline(always)]
-fn lanes(units: u16x8) -> (u8x16, u8x16, u64)
+fn lanes(units: u16x8, behind: Behind) -> (u8x16, u8x16, u64)
+    requires { AreBehind units behind.0 behind.1 behind.2 }
     ensures front { take 12 result.0 ≡ byte_lanes (0 ∷ take 3 units) (take 4 units) }
     ensures back { take 12 result.1 ≡ byte_lanes (take 4 (drop 3 units)) (drop 4 units) }
     ensures lengths { result.2 ≡ lengths_number (take 4 units) + 256 * lengths_number (drop 4 units) }
 {
-    let (second, last, long) = behind_first(units);
+    let (second, last, long) = behind;
     let front: u8x16 = first_bytes(units).shuffle(second.cast::<u8>(), BY_FOUR);
     let last = last.cast::<u8>();
     let back: u8x16 = last.shuffle(last, BOTH_WAYS);
@@ -200,19 +209,20 @@ fn put(lanes: u8x16, number: usize, block: &mut [u8; ROOM], len: usize) -> usize
 
 /// Writes what eight units add behind the first bytes of a block, and answers where it ends.
 #[inline(always)]
-fn put_eight(units: u16x8, block: &mut [u8; ROOM], len: usize) -> usize
-    requires { len ≤ ROOM - SPARE }
+fn put_eight(units: u16x8, behind: Behind, block: &mut [u8; ROOM], len: usize) -> usize
+    requires room { len ≤ ROOM - SPARE }
+    requires behind { AreBehind units behind.0 behind.1 behind.2 }
     ensures order { (len ≤ result) × (result ≤ len + 24) }
     ensures bytes { take result block.new ≡ take len block.old ++ pieces EIGHT units }
 {
-    let (front, back, numbers) = lanes(units);
+    let (front, back, numbers) = lanes(units, behind);
     let numbers = numbers as usize;
     let middle = put(front, numbers % 256, block, len);
     put(back, numbers / 256, block, middle)
 }
 
 /// Writes the bytes of eight units, or of all but a lead at their end, behind the first bytes of a block, and answers how many
-/// units these are and where the bytes end.
+/// units these are and where the bytes end. Units without a surrogate are written by less.
 #[inline(always)]
 fn write_block(units: &[u16; EIGHT], block: &mut [u8; ROOM], len: usize) -> (usize, usize)
     requires room { len ≤ ROOM - SPARE }
@@ -223,7 +233,11 @@ fn write_block(units: &[u16; EIGHT], block: &mut [u8; ROOM], len: usize) -> (usi
     ensures bytes { take result.1 block.new ≡ take len block.old ++ pieces result.0 units.now }
     ensures form { IsKnownForm (pieces result.0 units.now) (take result.0 units.now) true }
 {
-    let all = put_eight(u16x8::from_array(*units), block, len);
+    let lanes = u16x8::from_array(*units);
+    if are_scalar(lanes) {
+        return (EIGHT, put_eight(lanes, own_behind(lanes), block, len));
+    }
+    let all = put_eight(lanes, behind(lanes), block, len);
     if units[EIGHT - 1] / OF_A_KIND == FIRST_LEAD / OF_A_KIND {
         return (EIGHT - 1, all - 2);
     }

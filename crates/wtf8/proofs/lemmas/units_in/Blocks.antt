@@ -1,5 +1,5 @@
 -- Blocks of units of one kind: their lanes, their bytes, and what they add to a string.
-use Rattle.wtf8.proofs.Common.{◌≡◌, ℕ, zero, suc, ◌-◌, ◌%◌, ◌^◌, ◌<◌, ◌≤◌, leb, ltb, Bool, true, false, cond, ◌&&◌, ◌||◌, List, [], ◌∷◌, map, length, replicate, bit_and}
+use Rattle.wtf8.proofs.Common.{◌≡◌, ℕ, zero, suc, ◌-◌, ◌%◌, ◌^◌, ◌<◌, ◌≤◌, leb, eqb, Bool, true, false, cond, ◌&&◌, ◌||◌, List, [], ◌∷◌, map, length, replicate, bit_and}
 use Rattle.wtf8.proofs.Common.{bit_or, Fits, refl, sym, ap, ◌∙◌, arith, inl, inr, and_parts, cases_Bool, mask_l-mod, tops_compared, Each1, zip2, mask_l, top, AreAscii}
 use Rattle.wtf8.proofs.Common.{IsSurrogate, ◌+◌, ◌/◌, ◌++◌, flat_map, bytes, encoding, IsTrue, take, drop, get_or, subst}
 use Rattle.wtf8.proofs.Common.{length-append, get_or-append-add, take-append-drop, take_all, Each1-weaker, length-chunk, MeetsAsPair, IsClean, bytes-injective, drop-drop}
@@ -8,7 +8,7 @@ use Rattle.std.proofs.Common.{w16}
 use mir.Syntax.{Width}
 use mir.Val.{bits, hbits}
 use Rattle.std.proofs.Math.Seq.{get_or-append_seam, take-add}
-use Rattle.std.proofs.lemmas.Bool.{leb-false, ltb-false, or_parts, and_cases}
+use Rattle.std.proofs.lemmas.Bool.{leb-false, eqb-false}
 use Rattle.std.proofs.lemmas.List.{length-map, take-take}
 use Rattle.std.proofs.lemmas.Simd.{zip2_splat_left, Each1-get_or}
 use Rattle.wtf8.specs.Unicode.{IsLead}
@@ -51,30 +51,25 @@ pub none_high : (w : Width) (n : ℕ) (xs : List ℕ) → n ≤ 64 → length xs
 none_high w = none_from w 0x80
 
 -- a lane is set by a surrogate
-both_set : (a b : Bool) → top 15 (bit_and (wide a) (wide b)) ≡ a && b
-both_set true true = refl
-both_set true false = refl
-both_set false true = refl
-both_set false false = refl
-
-abbrev surrogate : ℕ → Bool
-surrogate x = leb 0xD800 x && leb x 0xDFFF
+set_by : (t : Bool) → top 15 (wide t) ≡ t
+set_by true = refl
+set_by false = refl
 
 abbrev surrogates : ℕ → List ℕ → List Bool
-surrogates n xs = map (top 15) (zip2 bit_and (zip2 (λ a b. wide (leb a b)) (replicate n 0xD800) xs) (zip2 (λ a b. wide (leb a b)) xs (replicate n 0xDFFF)))
+surrogates n xs = map (top 15) (zip2 (λ a b. wide (eqb a b)) (zip2 (λ a b. a / b) xs (replicate n 2048)) (replicate n 27))
 
-surrogates_are : (n : ℕ) (xs : List ℕ) → length xs ≡ n → surrogates n xs ≡ map surrogate xs
+surrogates_are : (n : ℕ) (xs : List ℕ) → length xs ≡ n → surrogates n xs ≡ map (λ x. eqb (x / 2048) 27) xs
 surrogates_are zero [] e = refl
 surrogates_are (suc n) [] e = refl
 surrogates_are zero (x ∷ xs) e = absurd (omega arith)
-surrogates_are (suc n) (x ∷ xs) e = λ i. both_set (leb 0xD800 x) (leb x 0xDFFF) i ∷ surrogates_are n xs (omega arith) i
+surrogates_are (suc n) (x ∷ xs) e = λ i. set_by (eqb (x / 2048) 27) i ∷ surrogates_are n xs (omega arith) i
 
 -- where no lane is set no unit is a surrogate
 pub none_surrogate : (xs : List ℕ) → length xs ≡ 8 → Each1 (Fits w16) xs → mask_l (surrogates 8 xs) % 2 ^ 64 ≡ 0 → AreScalarUnits xs
-none_surrogate xs l f = none_set surrogate (Fits w16) (λ n. (n < 0x10000) × ¬ (IsSurrogate n)) own xs (omega arith) f (surrogates_are 8 xs l)
+none_surrogate xs l f = none_set (λ x. eqb (x / 2048) 27) (Fits w16) (λ n. (n < 0x10000) × ¬ (IsSurrogate n)) own xs (omega (arith, l)) f (surrogates_are 8 xs l)
   where
-    own : (x : ℕ) → Fits w16 x → surrogate x ≡ false → (x < 0x10000) × ¬ (IsSurrogate x)
-    own x f u = (f.fits, λ s. elim (and_cases _ _ u) [ inl l ↦ omega (arith, s.0, leb-false 0xD800 x l) | inr h ↦ omega (arith, s.1, leb-false x 0xDFFF h) ])
+    own : (x : ℕ) → Fits w16 x → eqb (x / 2048) 27 ≡ false → (x < 0x10000) × ¬ (IsSurrogate x)
+    own x f u = (f.fits, λ s. eqb-false (x / 2048) 27 u (omega (arith, s.0, s.1)))
 
 -- Units turned into bytes part by part: where parts meet, and the form of all that was read.
 

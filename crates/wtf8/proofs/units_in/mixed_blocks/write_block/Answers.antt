@@ -1,5 +1,6 @@
 use Rattle.wtf8.proofs.Common.{◌≡◌, ◌<◌, ◌∙◌, arith, take, get_or, true}
-use Rattle.wtf8.specs.Unicode.{IsLead}
+use Rattle.std.proofs.lemmas.Simd.{Each1-get_or}
+use Rattle.wtf8.specs.Unicode.{IsLead, IsSurrogate}
 use Rattle.wtf8.proofs.lemmas.units_in.Pieces.{paired_form, lead_dropped}
 use Rattle.wtf8.proofs.units_in.mixed_blocks.write_block.Goals as goal
 
@@ -25,3 +26,9 @@ pub returns-clause-form : goal.returns-clause-form
 returns-clause-form c =
     let apart : ¬ (IsLead (get_or c.args.units.now 7 0)) = λ l. omega (arith, c.if-units.false, l.0, l.1) in
     paired_form 8 c.args.units.now (omega (arith, c.told-units)) (λ i h. c.fits-units i) c.requires.paired apart
+
+pub returns-then-are_scalar-clause-form : goal.returns-then-are_scalar-clause-form
+returns-then-are_scalar-clause-form c =
+    let units = c.args.units.now in
+    let last = Each1-get_or (λ n. (n < 0x10000) × ¬ (IsSurrogate n)) units 7 0 (omega (arith, c.told-units)) (c.are_scalar.ensures c.if-are_scalar.true) in
+    paired_form 8 units (omega (arith, c.told-units)) (λ i h. c.fits-units i) c.requires.paired (λ l. last.1 (l.0, omega (arith, l.1)))
