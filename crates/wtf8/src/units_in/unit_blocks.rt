@@ -249,7 +249,7 @@ fn append_part<A: Allocator>(
     }
     let part = if v[at] < 0x80 {
         append_fronts(bytes, v, at)?
-    } else if v[at + 1] < 0x80 {
+    } else if v[at + 1] < 0x80 || v[at + 2] < 0x80 {
         // Behind a front of ASCII mostly more of it comes.
         Some(append_point(bytes, v, at)?)
     } else {

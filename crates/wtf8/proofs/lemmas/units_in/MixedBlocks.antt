@@ -1,5 +1,5 @@
 -- Blocks of units of mixed kinds: three bytes of each in lanes, and those of them that a row of places picks.
-use Rattle.wtf8.proofs.Common.{◌≡◌, ℕ, zero, suc, ◌+◌, ◌-◌, ◌*◌, ◌/◌, ◌%◌, ◌^◌, ◌<◌, ◌≤◌, List, [], ◌∷◌, ◌++◌, length, take, drop, get_or, map, replicate, zip2, Each1, cond, ltb, leb, eqb, top, Bool, true, false}
+use Rattle.wtf8.proofs.Common.{◌≡◌, ℕ, suc, ◌+◌, ◌-◌, ◌*◌, ◌/◌, ◌%◌, ◌^◌, ◌<◌, ◌≤◌, List, [], ◌∷◌, ◌++◌, length, take, drop, get_or, map, replicate, zip2, Each1, cond, ltb, leb, eqb, top, Bool, true, false}
 use Rattle.wtf8.proofs.Common.{refl, sym, ap, ◌∙◌, arith, lt-ltb, le-ltb, subst, cases_lt, cases_Bool, inl, inr, Fits, append-nil, append_assoc, map-append, rules, mask_l-mod, eq-eqb, eqb-true, pick_l_whole, IsSurrogate}
 use lib.Lanes.{sel_l, pick_l, mask_l}
 use Rattle.std.specs.Int.{w8, w16}

@@ -1,6 +1,6 @@
 -- The rows of places, each of them looked at: what a row picks, and how many bytes these are.
-use Rattle.wtf8.proofs.Common.{◌≡◌, ℕ, zero, suc, ◌+◌, ◌-◌, ◌<◌, ◌≤◌, ◌&&◌, false≢true, List, [], ◌∷◌, ◌++◌, length, take, get_or, Each1, ltb, eqb, Bool, true, false}
-use Rattle.wtf8.proofs.Common.{refl, sym, ap, ◌∙◌, arith, subst, cases_lt, inl, inr, and_parts, eqb-true}
+use Rattle.wtf8.proofs.Common.{◌≡◌, ℕ, zero, suc, ◌+◌, ◌<◌, ◌&&◌, false≢true, List, [], ◌∷◌, ◌++◌, length, take, get_or, Each1, ltb, eqb, Bool, true, false}
+use Rattle.wtf8.proofs.Common.{refl, ap, ◌∙◌, arith, subst, cases_lt, inl, inr, and_parts, eqb-true}
 use Rattle.std.proofs.lemmas.Bool.{ltb-true}
 use Rattle.std.specs.Int.RustNames.{count_ones}
 use Rattle.wtf8.specs.UnitPieces.{row_number, places, IsLength, IsRow, IsCounted}

@@ -1,4 +1,4 @@
-use Rattle.wtf8.proofs.Common.{◌≡◌, ℕ, ◌+◌, ◌++◌, ◌∙◌, ap, arith, refl, take, drop, get_or, w8}
+use Rattle.wtf8.proofs.Common.{ℕ, ◌+◌, ◌++◌, ◌∙◌, ap, arith, refl, take, drop, get_or, w8}
 use Rattle.std.proofs.lemmas.Simd.{SwzOk-from_below, length-swz_l, swz_l}
 use Rattle.wtf8.specs.UnitPieces.{byte_count}
 use Rattle.wtf8.proofs.lemmas.units_in.Pieces.{wrote_part}

@@ -1,4 +1,4 @@
-use Rattle.wtf8.proofs.Common.{◌≡◌, ◌<◌, ◌∙◌, arith, take, get_or, true}
+use Rattle.wtf8.proofs.Common.{◌<◌, arith, take, get_or}
 use Rattle.std.proofs.lemmas.Simd.{Each1-get_or}
 use Rattle.wtf8.specs.Unicode.{IsLead, IsSurrogate}
 use Rattle.wtf8.proofs.lemmas.units_in.Pieces.{paired_form, lead_dropped}

@@ -1,4 +1,4 @@
-use Rattle.wtf8.proofs.Common.{◌≡◌, ◌+◌, ◌-◌, ◌<◌, [], ◌∙◌, ap, arith, subst, sym, take, drop, true, cases_lt, inl, inr, IsKnownForm}
+use Rattle.wtf8.proofs.Common.{◌≡◌, ◌+◌, ◌-◌, [], ◌∙◌, ap, arith, subst, take, drop, true, cases_lt, inl, inr, IsKnownForm}
 use Rattle.std.proofs.lemmas.List.{take-take}
 use Rattle.wtf8.specs.Unicode.{IsLead}
 use Rattle.wtf8.specs.UnitParts.{AppendsForm, AppendsPart}
