@@ -181,7 +181,11 @@ fn lanes(units: u16x8, behind: Behind) -> (u8x16, u8x16, u64)
     let above_one = marks(units, 0x80).cast::<u8>();
     let lengths: u8x16 = above_one.shuffle(long.cast::<u8>(), BY_FOUR);
     let number = lengths.simd_ge(u8x16::splat(0x80)).to_bitmask();
-    (front.shuffle(back, FRONTS), front.shuffle(back, BACKS), number)
+    (
+        front.shuffle(back, FRONTS),
+        front.shuffle(back, BACKS),
+        number,
+    )
 }
 
 /// Writes sixteen bytes behind the first bytes of a block.
