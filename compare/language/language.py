@@ -112,7 +112,26 @@ def listed_lines():
             for near in (-2, -1, 0, 1):
                 lines += [line + b" -%d DC00" % (width * length + near)] if 0 <= width * length + near else []
                 lines += [line + b" /%d DC00" % (units + near)] if 0 <= units + near else []
+    # Many refused cuts, and answers of about 30,000 and 70,000 bytes.
+    lines += [b"0041" + word * count for word in (b" -9", b" /9") for count in (99, 100, 255, 256, 300, 1000)]
+    lines += [b" ".join([b"%04X" % point] * count) for point in (0x41, 0x20AC, 0xD800) for count in (9999, 10001, 23334)]
     return lines
+
+
+def line_of_length(length):
+    """A line of so many bytes, ten at least: words of four digits, of which the first few have five."""
+    words = (length + 1) // 5
+    more = length - (5 * words - 1)
+    return b" ".join([(b"0" if at < more else b"") + b"0041" for at in range(words)])
+
+
+def compare_about(program, edge):
+    """Lines whose newline stands about this byte of the input, with another line behind them."""
+    for length in range(edge - 4, edge + 4):
+        lines = [line_of_length(length), b"D83D DCA9"]
+        if len(lines[0]) != length:
+            sys.exit(f"no line of {length} bytes")
+        compare(f"the program at a newline behind {length} bytes", lines, [answer(line) for line in lines], output([program], lines))
 
 
 def output(command, lines):
@@ -147,6 +166,8 @@ def main():
     if not all(kinds):
         sys.exit(f"the lines leave out a kind: {kinds} refused, with a note, long")
     compare("the program", lines, wanted, output([options.program], lines))
+    for edge in (4096, 8192, 65536):
+        compare_about(options.program, edge)
     models = "CPython's codecs"
     if shutil.which("node"):
         compare("the engine's model", lines, wanted, output(["node", os.path.join(HERE, "model.js")], lines))

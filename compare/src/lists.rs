@@ -1,12 +1,12 @@
 //! The lists of scripts that are gone through one by one, by their names.
 
 use crate::script::Call;
-use crate::{blocks, building, generate, long, pairs};
+use crate::{blocks, building, generate, long, pairs, pushed};
 
 /// A name, and what makes the scripts of that list.
 pub type List = (&'static str, fn() -> Vec<Vec<Call>>);
 
-pub const LISTS: [List; 22] = [
+pub const LISTS: [List; 24] = [
     ("code points at edges", generate::edge_calls),
     ("pairs", pairs::pairs),
     ("up to four units", up_to_four_units),
@@ -32,6 +32,8 @@ pub const LISTS: [List; 22] = [
     ("debug texts about blocks", blocks::debug_texts),
     ("positions about blocks", blocks::positions),
     ("far positions", blocks::far),
+    ("pushed behind each length", pushed::behind_each_length),
+    ("six thousand units", pushed::far),
 ];
 
 fn up_to_four_units() -> Vec<Vec<Call>> {

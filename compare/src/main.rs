@@ -21,6 +21,7 @@ mod original;
 mod ours;
 mod pairs;
 mod picture;
+mod pushed;
 mod random;
 mod record;
 mod script;

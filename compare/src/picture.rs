@@ -8,7 +8,7 @@ use crate::console::fail;
 
 /// The width of the calls' names, of the bar and its number for one input, and of the whole's edge.
 const NAMES: f64 = 196.0;
-const CELL: f64 = 100.0;
+const CELL: f64 = 110.0;
 const EDGE: f64 = 12.0;
 
 /// The height of the inputs' names, of one call, and of a bar.
@@ -16,9 +16,11 @@ const HEAD: f64 = 64.0;
 const LINE: f64 = 24.0;
 const BAR: f64 = 13.0;
 
-/// The length of a bar where both sides take as long, and of the longest bar, which ends before its number.
+/// The length of a bar where both sides take as long, and of the longest bar, and how far behind it its number stands, which
+/// is nearer than the next input's bar.
 const ONE: f64 = 24.0;
-const LONGEST: f64 = 56.0;
+const LONGEST: f64 = 52.0;
+const GAP: f64 = 4.0;
 
 /// Colours for a light and for a dark page, each on a ground of its own.
 const STYLE: &str = "\
@@ -181,22 +183,23 @@ fn draw_call(picture: &mut String, top: f64, width: f64, name: &str) {
     );
 }
 
-/// A bar and its number, drawn over the line where the crate is.
+/// A bar, drawn over the line where the crate is, and its number directly behind both.
 fn draw_bar(picture: &mut String, left: f64, top: f64, ratio: f64) {
     let class = if ratio > 1.0 { "slower" } else { "faster" };
     let bar = top + (LINE - BAR) / 2.0;
-    let end = left + CELL - 10.0;
+    let length = (ratio * ONE).min(LONGEST);
+    let behind = left + length.max(ONE) + GAP;
     draw(
         picture,
         format_args!(
             "<rect class=\"{class}\" x=\"{left}\" y=\"{bar}\" width=\"{:.1}\" height=\"{BAR}\"/>",
-            (ratio * ONE).min(LONGEST)
+            length
         ),
     );
     draw(
         picture,
         format_args!(
-            "<text x=\"{end}\" y=\"{}\" text-anchor=\"end\">{ratio:.2}</text>",
+            "<text x=\"{behind:.1}\" y=\"{}\">{ratio:.2}</text>",
             top + LINE - 8.0
         ),
     );

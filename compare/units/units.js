@@ -204,7 +204,7 @@ function randomReplacement(below) {
 // Units with spaces before and behind them, and seldom what is only near to one.
 function spaced(units, below) {
   const space = () => (below(6) === 0 ? ABOUT_SPACES[below(ABOUT_SPACES.length)] : SPACES[below(SPACES.length)]);
-  const spaces = () => Array.from({ length: below(4) }, space);
+  const spaces = () => Array.from({ length: below(6) === 0 ? below(40) : below(5) }, space);
   return [...spaces(), ...units, ...spaces()];
 }
 
@@ -223,7 +223,7 @@ function randomMakingCalls(first, place, below) {
     case 0: return [['isWellFormed'], ['toWellFormed'], ['isWellFormed']];
     case 1: return [['split', unit]];
     case 2: return [['padStart', Math.max(0, first.length + below(12) - 3)]];
-    case 3: return [['repeat', first.length > 200 ? 1 + below(2) : below(4)]];
+    case 3: return [['repeat', first.length > 200 ? 1 + below(2) : first.length > 12 ? below(6) : below(60)]];
     case 4: return [['set', ...spaced(listOf(first), below)], ['trim']];
     case 5: return [['padStart', first.length + below(300)]];
     default: return searchCalls(first, place, below);
@@ -247,7 +247,7 @@ function randomCalls({ first }, below) {
     case 8: return [['startsWith', place]];
     case 9: return first.length > 600 ? [['length']] : [['concat'], ['compare']];
     case 10: return [['compare'], ['swap'], ['compare']];
-    case 11: return first.length > 60 ? [['length']] : [['cutEverywhere']];
+    case 11: return first.length > 300 ? [['length']] : [['cutEverywhere']];
     case 12: return first.length > 900 ? [['length']] : [['indexOf', place]];
     case 13: return [['at', place]];
     case 14: return [['codePointAt', place]];
@@ -433,7 +433,7 @@ function looksAbout(length) {
 // A text looked at without marks and with them, appended to one with marks, and cut between two marks.
 function markedScript(units) {
   const looks = looksAbout(units.length);
-  const calls = [['set', ...units], ...looks, ['mark'], ...looks, ['swap'], ['set', ...units], ['swap'], ['concat']];
+  const calls = [['set', ...units], ...looks, ['mark'], ...looks, ['swap'], ['set', ...units], ['compare'], ['swap'], ['compare'], ['concat'], ['compare']];
   calls.push(...looksAbout(2 * units.length), ['slice', SPACING - 1, units.length + SPACING + 1], ...looks, ['mark'], ...looks);
   return calls;
 }
@@ -482,7 +482,7 @@ function markedScripts(lengths, pieces) {
 // One random call or some that belong together, for long texts that stand.
 function randomMarkedCalls({ first, second }, below) {
   const place = placeAbout(first.length, below);
-  switch (below(24)) {
+  switch (below(27)) {
     case 0: return [['mark']];
     case 1: return [['swap']];
     case 2: return first.length + second.length > 6000 ? [['length']] : [['concat'], ['length']];
@@ -499,6 +499,11 @@ function randomMarkedCalls({ first, second }, below) {
     case 11: return [['at', place]];
     case 12: return [['codePointAt', place]];
     case 13: case 14: return first.length > 6000 ? [['length']] : randomMakingCalls(first, below(2) === 0 ? place : below(SPACING), below);
+    case 15: return [['compare'], ['swap'], ['compare'], ['swap']];
+    case 16: case 17: {
+      const other = first.length === 0 ? [] : changed(listOf(first), below);
+      return [['swap'], ['set', ...other], ...(below(2) === 0 ? [['mark']] : []), ['swap'], ['compare']];
+    }
     default: return [['unitAt', place]];
   }
 }
@@ -508,10 +513,22 @@ function randomMarkedScript(below) {
   return scriptOf([['set', ...units], ...(below(3) === 0 ? [] : [['mark']])], 20 + below(60), randomMarkedCalls, below);
 }
 
+// A text of more units than two bytes count, looked at about the last places that they name, from both ends, without marks and
+// with them, beside an equal one and one that differs in its last unit.
+function hugeScript(kind, below) {
+  const piece = unitsOfKind(kind, 1000, below);
+  const looks = [0, 127, 128, 32767, 65407, 65408, 65534, 65535].flatMap((at) => [['unitAt', at], ['at', at], ['codePointAt', at]]);
+  const pieces = [['substring', 65530, 65535], ['startsWith', 64999], ['indexOf', 64999]];
+  const calls = [['set', ...piece], ['repeat', 70], ['length'], ...looks, ['mark'], ...looks, ['swap'], ['set', ...piece]];
+  calls.push(['swap'], ...pieces, ['swap'], ['repeat', 70], ['compare'], ['push', 0x61], ['compare'], ['swap'], ['compare']);
+  return [...calls, ['concat'], ['length'], ...looks];
+}
+
 function marksScripts(seed, cases) {
   const below = randomBelow(seed);
   const scripts = markedScripts([300, 1000, 5000], [1, 2, 63, 64, 127, 128, 129, 255, 256, 257, 300]);
-  return [...scripts, ...Array.from({ length: cases }, () => randomMarkedScript(below))];
+  const huge = KINDS_OF_MARKED.map((kind) => hugeScript(kind, below));
+  return [...scripts, ...huge, ...Array.from({ length: cases }, () => randomMarkedScript(below))];
 }
 
 function fixedScripts() {

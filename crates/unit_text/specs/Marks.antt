@@ -1,9 +1,28 @@
 -- The marks that a text keeps.
-use Rattle.std.specs.Prelude.{ℕ, ◌<◌, List, length}
+use Rattle.std.specs.Prelude.{◌≡◌, ◌≢◌, ℕ, ◌+◌, ◌*◌, ◌<◌, ◌≤◌, Bool, false, List, length, slice_index_or}
 use Rattle.wtf8.specs.UnitMark.{IsMark}
 use Rattle.wtf8.specs.declared.strings.unit_marks.UnitMark.{UnitMark}
 
--- A mark of some bytes and their units that lies before the last unit, so that it stays one where units are appended.
-pub record IsKept (w u : List ℕ) (mark : UnitMark) : Type 0 where
+-- How many units are between one mark and the next.
+abbrev pub spacing : ℕ
+spacing = 128
+
+-- A mark of some bytes and their units, of so many units or of one less, that lies before the last unit, so that it stays one where units are appended.
+pub record IsKept (w u : List ℕ) (n : ℕ) (mark : UnitMark) : Type 0 where
   pub is_mark : IsMark w u mark.position mark.units
+  pub at_most : mark.units ≤ n
+  pub at_least : n ≤ mark.units + 1
   pub before_last : mark.units < length u
+
+-- Marks are kept from the front on, one at each multiple of the spacing.
+abbrev pub AreKept : List ℕ → List ℕ → List UnitMark → Type 0
+AreKept w u marks = (k : ℕ) (d : UnitMark) → k < length marks → IsKept w u ((k + 1) * spacing) (slice_index_or marks k d)
+
+-- There are as many marks as multiples of the spacing before the last unit, unless there are as many bytes as units, where none is wanted.
+abbrev pub AreAll : List ℕ → List ℕ → ℕ → Type 0
+AreAll w u count = (length w ≢ length u) → (n : ℕ) → n * spacing < length u → n ≤ count
+
+-- Marks are kept, and where memory was refused for none of them they are all.
+pub record AreMarks (w u : List ℕ) (marks : List UnitMark) (is_refused : Bool) : Type 0 where
+  pub kept : AreKept w u marks
+  pub all : is_refused ≡ false → AreAll w u (length marks)

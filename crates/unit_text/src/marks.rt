@@ -1,7 +1,6 @@
 // The marks of a text, by which its units are found without counting from its front.
-ghost use Rattle.std.specs.List.{All};
-ghost use Rattle.std.specs.Prelude.{◌≡◌, ◌+◌, ◌*◌, ◌<◌, ◌≤◌, ℕ, length, take, drop, slice_get, IfSome};
-ghost use Rattle.unit_text.specs.Marks.{IsKept};
+ghost use Rattle.std.specs.Prelude.{◌≡◌, ◌≢◌, ◌+◌, ◌*◌, ◌<◌, ◌≤◌, ℕ, false, length, take, drop, slice_get, IfSome};
+ghost use Rattle.unit_text.specs.Marks.{AreAll, AreKept, AreMarks};
 ghost use Rattle.wtf8.specs.UnitMark.{IsMark};
 ghost use Rattle.wtf8.specs.UnitPosition.{units_of_slice};
 ghost use Rattle.wtf8.specs.View.{view_units};
@@ -15,19 +14,27 @@ pub(crate) const SPACING: usize = 128;
 /// How many units at the front of a short text are found at once without a mark.
 const FRONT: usize = 8;
 
+/// The marks of a text, from its front on, and whether memory was refused for those that are missing.
+#[derive(Drop)]
+pub(crate) struct Marks<A: Allocator> {
+    pub(crate) kept: Vec<UnitMark, A>,
+    pub(crate) is_refused: bool,
+}
+
 /// A mark at or before a number of units: where the text has as many bytes as units the position itself, else the last one
 /// that is kept, or the start.
 fn mark_before<A: Allocator>(
     text: &Wtf8Buf<A>,
     count: usize,
-    marks: &Option<Vec<UnitMark, A>>,
+    marks: &Option<Marks<A>>,
     units: usize,
 ) -> UnitMark
     requires counted { count ≡ length text.now.units }
-    requires marks { IfSome marks.now (λ kept. All (IsKept text.now.bytes text.now.units) kept.items) }
+    requires marks { IfSome marks.now (λ m. AreMarks text.now.bytes text.now.units m.kept.items m.is_refused) }
     requires within { units ≤ count }
     ensures mark { IsMark text.now.bytes text.now.units result.position result.units }
     ensures before { result.units ≤ units }
+    ensures close { IfSome marks.now (λ m. m.is_refused ≡ false → units ≤ result.units + SPACING + 1) }
 {
     laws::law_marks();
     if text.len() == count {
@@ -36,16 +43,26 @@ fn mark_before<A: Allocator>(
             units,
         };
     }
-    if let Some(marks) = marks {
-        let number = marks.len().min(units / SPACING);
-        if 0 < number {
-            let mark = marks[number - 1];
-            if mark.units <= units {
-                return mark;
-            }
-        }
+    match marks {
+        Some(marks) => kept_before(text, marks, units),
+        None => text.as_wtf8().start_mark(),
     }
-    text.as_wtf8().start_mark()
+}
+
+/// The last of the marks that are kept at or before a number of units, or the start.
+fn kept_before<A: Allocator>(text: &Wtf8Buf<A>, marks: &Marks<A>, units: usize) -> UnitMark
+    requires marks { AreMarks text.now.bytes text.now.units marks.now.kept.items marks.now.is_refused }
+    requires apart { length text.now.bytes ≢ length text.now.units }
+    requires within { units ≤ length text.now.units }
+    ensures mark { IsMark text.now.bytes text.now.units result.position result.units }
+    ensures before { result.units ≤ units }
+    ensures close { marks.now.is_refused ≡ false → units ≤ result.units + SPACING + 1 }
+{
+    let number = marks.kept.len().min(units / SPACING);
+    if number == 0 {
+        return text.as_wtf8().start_mark();
+    }
+    marks.kept[number - 1]
 }
 
 /// A view of the text's end in which a number of units is near the front, and that number there. A text that is too short
@@ -54,14 +71,15 @@ fn mark_before<A: Allocator>(
 fn near<'a, A: Allocator>(
     text: &'a Wtf8Buf<A>,
     count: usize,
-    marks: &Option<Vec<UnitMark, A>>,
+    marks: &Option<Marks<A>>,
     units: usize,
 ) -> (Wtf8<'a>, usize)
     requires counted { count ≡ length text.now.units }
-    requires marks { IfSome marks.now (λ kept. All (IsKept text.now.bytes text.now.units) kept.items) }
+    requires marks { IfSome marks.now (λ m. AreMarks text.now.bytes text.now.units m.kept.items m.is_refused) }
     requires within { units ≤ count }
     ensures units { drop result.1 (view_units result.0) ≡ drop units text.now.units }
     ensures within { result.1 ≤ length (view_units result.0) }
+    ensures close { IfSome marks.now (λ m. m.is_refused ≡ false → result.1 ≤ SPACING + 1) }
 {
     if count <= SPACING && (units < FRONT || text.len() != count) {
         return (text.as_wtf8(), units);
@@ -75,11 +93,11 @@ fn near<'a, A: Allocator>(
 pub(crate) fn unit_at<A: Allocator>(
     text: &Wtf8Buf<A>,
     count: usize,
-    marks: &Option<Vec<UnitMark, A>>,
+    marks: &Option<Marks<A>>,
     number: usize,
 ) -> Option<u16>
     requires counted { count ≡ length text.now.units }
-    requires marks { IfSome marks.now (λ kept. All (IsKept text.now.bytes text.now.units) kept.items) }
+    requires marks { IfSome marks.now (λ m. AreMarks text.now.bytes text.now.units m.kept.items m.is_refused) }
     requires within { number ≤ count }
     ensures { result ≡ slice_get text.now.units number }
 {
@@ -91,12 +109,12 @@ pub(crate) fn unit_at<A: Allocator>(
 pub(crate) fn units_from<'a, A: Allocator>(
     text: &'a Wtf8Buf<A>,
     count: usize,
-    marks: &Option<Vec<UnitMark, A>>,
+    marks: &Option<Marks<A>>,
     begin: usize,
     many: usize,
 ) -> UnitSlice<'a>
     requires counted { count ≡ length text.now.units }
-    requires marks { IfSome marks.now (λ kept. All (IsKept text.now.bytes text.now.units) kept.items) }
+    requires marks { IfSome marks.now (λ m. AreMarks text.now.bytes text.now.units m.kept.items m.is_refused) }
     requires within { begin + many ≤ count }
     ensures { units_of_slice result ≡ take many (drop begin text.now.units) }
 {
@@ -106,15 +124,15 @@ pub(crate) fn units_from<'a, A: Allocator>(
 }
 
 /// The marks of a text, as far as there is memory for them.
-pub(crate) fn marks_of<A: Allocator>(alloc: A, text: &Wtf8Buf<A>, count: usize) -> Vec<UnitMark, A>
+pub(crate) fn marks_of<A: Allocator>(alloc: A, text: &Wtf8Buf<A>, count: usize) -> Marks<A>
     requires counted { count ≡ length text.now.units }
-    ensures marks { All (IsKept text.now.bytes text.now.units) result.items }
+    ensures { AreMarks text.now.bytes text.now.units result.kept.items result.is_refused }
 {
-    let mut marks = Vec::new(alloc);
+    let mut kept = Vec::new(alloc);
     // Where there is no memory for all of them at once there may be some for a few.
-    let _is_found = marks.reserve_exact(wanted(text, count)).is_ok();
-    add_marks(text, count, &mut marks);
-    marks
+    let _is_found = kept.reserve_exact(wanted(text, count)).is_ok();
+    let is_refused = add_marks(text, count, &mut kept);
+    Marks { kept, is_refused }
 }
 
 /// How many marks a text wants: one at each multiple of the spacing that lies before the last unit, and none where it has as
@@ -123,6 +141,7 @@ pub(crate) fn marks_of<A: Allocator>(alloc: A, text: &Wtf8Buf<A>, count: usize) 
 fn wanted<A: Allocator>(text: &Wtf8Buf<A>, count: usize) -> usize
     requires counted { count ≡ length text.now.units }
     ensures before_last { (n : ℕ) → n < result → (n + 1) * SPACING < count }
+    ensures all { AreAll text.now.bytes text.now.units result }
 {
     if text.len() == count {
         return 0;
@@ -130,26 +149,27 @@ fn wanted<A: Allocator>(text: &Wtf8Buf<A>, count: usize) -> usize
     (count - 1) / SPACING
 }
 
-/// Adds the marks that are missing behind those that are there, as far as there is memory for them. It stands by itself, so
-/// that a text that misses none costs little.
+/// Adds the marks that are missing behind those that are there, as far as there is memory for them, and answers whether it
+/// was refused for one. It stands by itself, so that a text that misses none costs little.
 #[inline(never)]
-pub(crate) fn add_marks<A: Allocator>(text: &Wtf8Buf<A>, count: usize, marks: &mut Vec<UnitMark, A>)
+pub(crate) fn add_marks<A: Allocator>(
+    text: &Wtf8Buf<A>,
+    count: usize,
+    marks: &mut Vec<UnitMark, A>,
+) -> bool
     requires counted { count ≡ length text.now.units }
-    requires marks { All (IsKept text.now.bytes text.now.units) marks.old.items }
-    ensures marks { All (IsKept text.now.bytes text.now.units) marks.new.items }
+    requires marks { AreKept text.now.bytes text.now.units marks.old.items }
+    ensures { AreMarks text.now.bytes text.now.units marks.new.items result }
 {
     let view = text.as_wtf8();
     let mut last = last_or_start(text, marks.as_slice());
     for number in marks.len()..wanted(text, count) {
-        let units = (number + 1) * SPACING;
-        if units < last.units {
-            return;
-        }
-        last = view.mark_at(last, units);
+        last = view.mark_at(last, (number + 1) * SPACING);
         let Ok(()) = marks.push(last) else {
-            return;
+            return true;
         };
     }
+    false
 }
 
 /// Adds the marks that are missing, where marks are kept.
@@ -157,23 +177,24 @@ pub(crate) fn add_marks<A: Allocator>(text: &Wtf8Buf<A>, count: usize, marks: &m
 pub(crate) fn add_to_kept<A: Allocator>(
     text: &Wtf8Buf<A>,
     count: usize,
-    marks: &mut Option<Vec<UnitMark, A>>,
+    marks: &mut Option<Marks<A>>,
 )
     requires counted { count ≡ length text.now.units }
-    requires marks { IfSome marks.old (λ kept. All (IsKept text.now.bytes text.now.units) kept.items) }
-    ensures marks { IfSome marks.new (λ kept. All (IsKept text.now.bytes text.now.units) kept.items) }
+    requires marks { IfSome marks.old (λ m. AreKept text.now.bytes text.now.units m.kept.items) }
+    ensures { IfSome marks.new (λ m. AreMarks text.now.bytes text.now.units m.kept.items m.is_refused) }
 {
     if let Some(marks) = marks {
-        if marks.len() < wanted(text, count) {
-            add_marks(text, count, marks);
+        if marks.kept.len() < wanted(text, count) {
+            marks.is_refused = add_marks(text, count, &mut marks.kept);
         }
     }
 }
 
 /// The last of the marks, or the start where there are none.
 fn last_or_start<A: Allocator>(text: &Wtf8Buf<A>, marks: &[UnitMark]) -> UnitMark
-    requires { All (IsKept text.now.bytes text.now.units) marks.now }
-    ensures { IsMark text.now.bytes text.now.units result.position result.units }
+    requires { AreKept text.now.bytes text.now.units marks.now }
+    ensures mark { IsMark text.now.bytes text.now.units result.position result.units }
+    ensures before { result.units ≤ length marks.now * SPACING }
 {
     if marks.is_empty() {
         return text.as_wtf8().start_mark();

@@ -8,11 +8,11 @@ ghost use Rattle.wtf8.specs.Order.{Before};
 ghost use Rattle.wtf8.specs.UnitPosition.{units_of_slice};
 ghost use Rattle.wtf8.specs.View.{view_units};
 
-use crate::marks;
+use crate::marks::{self, Marks};
 use std::alloc::{AllocError, Allocator};
 use std::cmp::Ordering;
 use std::marker::Model;
-use wtf8::{CodePoint, UnitMark, UnitSlice, Wtf8, Wtf8Buf, laws};
+use wtf8::{CodePoint, UnitSlice, Wtf8, Wtf8Buf, laws};
 
 /// A text that is counted, cut and compared by its 16-bit units, as ECMAScript counts a string. It may hold any units,
 /// and is kept as WTF-8, with its number of units. `mark_units` gives it marks, by which a unit is found at once wherever
@@ -23,7 +23,7 @@ use wtf8::{CodePoint, UnitMark, UnitSlice, Wtf8, Wtf8Buf, laws};
 pub struct UnitText<A: Allocator> {
     pub(crate) text: Wtf8Buf<A>,
     count: usize,
-    marks: Option<Vec<UnitMark, A>>,
+    marks: Option<Marks<A>>,
 }
 
 impl<A: Allocator> Model for UnitText<A> {
@@ -33,15 +33,14 @@ impl<A: Allocator> Model for UnitText<A> {
 
     ghost view = { λ t. t.text.units };
 
-    ghost use Rattle.std.specs.List.{All};
     ghost use Rattle.std.specs.Prelude.{◌≡◌, length, IfSome};
-    ghost use Rattle.unit_text.specs.Marks.{IsKept};
+    ghost use Rattle.unit_text.specs.Marks.{AreMarks};
 
-    ghost invariant = { λ t. (t.count ≡ length t.text.units) × IfSome t.marks (λ marks. All (IsKept t.text.bytes t.text.units) marks.items) };
+    ghost invariant = { λ t. (t.count ≡ length t.text.units) × IfSome t.marks (λ m. AreMarks t.text.bytes t.text.units m.kept.items m.is_refused) };
 }
 
 impl<A: Allocator> UnitText<A> {
-    /// The text of these units, whether they pair or not. It asks for no memory where there are none.
+    /// Makes the text of these code units, paired or not. Does not allocate if there are none.
     pub fn from_units(alloc: A, units: &[u16]) -> Result<UnitText<A>, AllocError>
         ensures ok { IfOk result (λ t. t ≡ units.now) }
         ensures empty { units.now ≡ [] → IsOk result }
@@ -54,23 +53,23 @@ impl<A: Allocator> UnitText<A> {
         })
     }
 
-    /// Keeps marks of the text, with an allocator for them, so that `unit_at` and `slice_units` no longer count from the
-    /// front; from then on `push` and `concat` keep those of what they append. Where there is no memory for a mark it is
-    /// left out, and the text is slower there. It asks for none where the text is short or has as many bytes as units.
+    /// Keeps marks of the text, with an allocator for them, so that `unit_at` and `slice_units` need not count from the
+    /// front; from then on `push` and `concat` keep marks of what they append. A mark that is refused memory is left
+    /// out, and the text is slower there. A short text, or one with as many bytes as code units, needs none.
     pub fn mark_units(&mut self, alloc: A)
         ensures { self.new ≡ self.old }
     {
         self.marks = Some(marks::marks_of(alloc, &self.text, self.count));
     }
 
-    /// The number of units.
+    /// The length in code units.
     pub fn unit_len(&self) -> usize
         ensures { result ≡ length self.now }
     {
         self.count
     }
 
-    /// The unit at a position, or `None` exactly where the position is at or past the number of units.
+    /// The code unit at index `i`, or `None` at or past the end.
     pub fn unit_at(&self, i: usize) -> Option<u16>
         ensures unit { result ≡ slice_get self.now i }
         ensures none { IsNone result ↔ (length self.now ≤ i) }
@@ -87,8 +86,9 @@ impl<A: Allocator> UnitText<A> {
         marks::unit_at(&self.text, self.count, &self.marks, i)
     }
 
-    /// The units from a position to before another, as a text with the allocator that is given. Where a pair is cut its
-    /// half stays by itself. It asks for no memory where there are none.
+    /// Copies the code units from `begin` to before `end`, which must be in order and at most the length, with the
+    /// given allocator. Where an end splits a surrogate pair, the half inside stands alone. Does not allocate if there
+    /// are none.
     pub fn slice_units(&self, alloc: A, begin: usize, end: usize) -> Result<UnitText<A>, AllocError>
         requires order { begin ≤ end }
         requires within { end ≤ length self.now }
@@ -105,8 +105,8 @@ impl<A: Allocator> UnitText<A> {
         })
     }
 
-    /// Appends a unit. A trail surrogate behind a lead joins it: the view then has the code point that the two stand for,
-    /// and the text has both units. After a refusal the text is as before.
+    /// Appends a code unit. A trail surrogate behind a lead joins it: the view then has the one code point that the two
+    /// stand for, and the text has both units. If memory is refused, the text is unchanged.
     #[inline(always)]
     pub fn push(&mut self, unit: u16) -> Result<(), AllocError>
         ensures ok { OnOk result (self.new ≡ self.old ++ unit ∷ []) }
@@ -120,7 +120,7 @@ impl<A: Allocator> UnitText<A> {
         Ok(())
     }
 
-    /// Appends another text's units. After a refusal the text is as before; the empty text is never refused.
+    /// Appends another text's code units. If memory is refused, the text is unchanged; an empty text is never refused.
     pub fn concat(&mut self, other: &UnitText<A>) -> Result<(), AllocError>
         ensures ok { OnOk result (self.new ≡ self.old ++ other.now) }
         ensures err { OnErr result (self.new ≡ self.old) }
@@ -134,8 +134,8 @@ impl<A: Allocator> UnitText<A> {
         Ok(())
     }
 
-    /// The order of the units, as ECMAScript compares strings: the first units that differ decide, and a beginning
-    /// stands before the longer text. It is not the order of the view, which is that of code points.
+    /// Compares by code units, as ECMAScript compares strings: the first units that differ decide, and a prefix comes
+    /// before the longer text. `cmp` of the views compares by code points instead.
     pub fn cmp_units(&self, other: &UnitText<A>) -> Ordering
         ensures value { result ≡ slice_cmp nat_cmp self.now other.now }
         ensures order { MatchOrdering result (Before self.now other.now) (self.now ≡ other.now) (Before other.now self.now) }

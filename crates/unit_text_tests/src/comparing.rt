@@ -1,49 +1,51 @@
 // Order, equality, hash and debug texts.
 use crate::shared::text_of_units;
-use std::alloc::Global;
+use std::alloc::{AllocError, Global};
 use std::cmp::Ordering;
 use std::collections::HashMap;
 use std::test::Fail;
 use unit_text::UnitText;
 use wtf8::Wtf8;
-use wtf8_tests::examples::JOINING;
+use wtf8_tests::examples::joining;
 
 /// Two texts, how their units compare, and how their views do.
-const COMPARED: [(&[u16], &[u16], Ordering, Ordering); 8] = [
-    (
-        &[0xE000],
-        &[0xD800, 0xDC00],
-        Ordering::Greater,
-        Ordering::Less,
-    ),
-    (&[0xD83D], &[0xD83D, 0xDCA9], Ordering::Less, Ordering::Less),
-    (
-        &[0xFFFF],
-        &[0xD800, 0xDC00],
-        Ordering::Greater,
-        Ordering::Less,
-    ),
-    (&[], &[], Ordering::Equal, Ordering::Equal),
-    (&[], &[0x0000], Ordering::Less, Ordering::Less),
-    (
-        &[0x0061, 0x0062],
-        &[0x0061, 0x0063],
-        Ordering::Less,
-        Ordering::Less,
-    ),
-    (
-        &[0xD83D, 0xDCA9],
-        &[0xD83D, 0xDCA9],
-        Ordering::Equal,
-        Ordering::Equal,
-    ),
-    (
-        &[0xD800, 0x0061],
-        &[0xD800, 0xDC00],
-        Ordering::Less,
-        Ordering::Less,
-    ),
-];
+fn compared() -> [(&'static [u16], &'static [u16], Ordering, Ordering); 8] {
+    [
+        (
+            &[0xE000],
+            &[0xD800, 0xDC00],
+            Ordering::Greater,
+            Ordering::Less,
+        ),
+        (&[0xD83D], &[0xD83D, 0xDCA9], Ordering::Less, Ordering::Less),
+        (
+            &[0xFFFF],
+            &[0xD800, 0xDC00],
+            Ordering::Greater,
+            Ordering::Less,
+        ),
+        (&[], &[], Ordering::Equal, Ordering::Equal),
+        (&[], &[0x0000], Ordering::Less, Ordering::Less),
+        (
+            &[0x0061, 0x0062],
+            &[0x0061, 0x0063],
+            Ordering::Less,
+            Ordering::Less,
+        ),
+        (
+            &[0xD83D, 0xDCA9],
+            &[0xD83D, 0xDCA9],
+            Ordering::Equal,
+            Ordering::Equal,
+        ),
+        (
+            &[0xD800, 0x0061],
+            &[0xD800, 0xDC00],
+            Ordering::Less,
+            Ordering::Less,
+        ),
+    ]
+}
 
 /// Whether two texts and their views are ordered so, and are equal only where their units are.
 fn are_ordered(
@@ -65,7 +67,7 @@ fn are_ordered(
 
 #[test]
 fn units_are_compared(rt: HostRuntime) -> Result<(), Fail> {
-    for (left, right, order, view_order) in COMPARED {
+    for (left, right, order, view_order) in compared() {
         let is_right = are_ordered(rt.alloc(), left, right, order, view_order)?;
         assert!(rt; is_right, "{left:?} and {right:?}");
     }
@@ -81,8 +83,8 @@ fn are_equal(alloc: Global, units: &[u16], others: &[u16]) -> Result<bool, Fail>
 
 #[test]
 fn texts_are_equal_where_their_units_are(rt: HostRuntime) -> Result<(), Fail> {
-    for (left, (units, _, _)) in JOINING.iter().enumerate() {
-        for (right, (others, _, _)) in JOINING.iter().enumerate() {
+    for (left, (units, _, _)) in joining().iter().enumerate() {
+        for (right, (others, _, _)) in joining().iter().enumerate() {
             let is_equal = are_equal(rt.alloc(), units, others)?;
             assert_eq!(rt; is_equal, left == right, "{units:?} and {others:?}");
         }
@@ -90,18 +92,42 @@ fn texts_are_equal_where_their_units_are(rt: HostRuntime) -> Result<(), Fail> {
     Ok(())
 }
 
+/// The places of texts in the table.
+fn places(alloc: Global) -> Result<HashMap<UnitText<Global>, usize>, AllocError> {
+    let mut places = HashMap::new(alloc);
+    for (place, (units, _, _)) in joining().iter().enumerate() {
+        places.insert(UnitText::from_units(alloc, units)?, place)?;
+    }
+    Ok(places)
+}
+
+/// The place of the text of these units.
+fn place_of(
+    alloc: Global,
+    places: &HashMap<UnitText<Global>, usize>,
+    units: &[u16],
+) -> Result<Option<usize>, Fail> {
+    let key = text_of_units(alloc, units)?;
+    Ok(places.get(&key).copied())
+}
+
 #[test]
 fn texts_are_found_in_a_map(rt: HostRuntime) -> Result<(), Fail> {
-    let mut places = HashMap::new(rt.alloc());
-    for (place, (units, _, _)) in JOINING.iter().enumerate() {
-        places.insert(UnitText::from_units(rt.alloc(), units)?, place)?;
-    }
-    assert_eq!(rt; places.len(), JOINING.len());
-    for (place, (units, _, _)) in JOINING.iter().enumerate() {
-        let key = text_of_units(rt.alloc(), units)?;
-        assert_eq!(rt; places.get(&key).copied(), Some(place), "{key:?}");
+    let places = places(rt.alloc())?;
+    assert_eq!(rt; places.len(), joining().len());
+    for (place, (units, _, _)) in joining().iter().enumerate() {
+        let found = place_of(rt.alloc(), &places, units)?;
+        assert_eq!(rt; found, Some(place), "{units:?}");
     }
     Ok(())
+}
+
+/// Whether a text was written, and is this one.
+fn is_written(written: Result<String, AllocError>, text: &str) -> bool {
+    match written {
+        Ok(found) => found.as_str() == text,
+        Err(_) => false,
+    }
 }
 
 #[test]
@@ -109,13 +135,10 @@ fn the_debug_text_is_that_of_the_view(rt: HostRuntime) -> Result<(), Fail> {
     let units = [0x0061, 0x00E9, 0x0020, 0xD83D, 0xDCA9, 0xD800];
     let text = UnitText::from_units(rt.alloc(), &units)?;
     let view = text.as_wtf8();
-    for found in [
-        format!(in rt.alloc(); "{text:?}")?,
-        format!(in rt.alloc(); "{text:20?}")?,
-        format!(in rt.alloc(); "{view:?}")?,
-    ] {
-        assert_eq!(rt; found.as_str(), "\"aé 💩\\u{D800}\"");
-    }
+    let shown = "\"aé 💩\\u{D800}\"";
+    assert!(rt; is_written(format!(in rt.alloc(); "{text:?}"), shown));
+    assert!(rt; is_written(format!(in rt.alloc(); "{text:20?}"), shown));
+    assert!(rt; is_written(format!(in rt.alloc(); "{view:?}"), shown));
     let letter = UnitText::from_units(rt.alloc(), &[0x0061])?;
     assert!(rt; letter.as_wtf8() == Wtf8::from_str("a"));
     Ok(())

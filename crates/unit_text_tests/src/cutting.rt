@@ -1,80 +1,148 @@
 // Texts that are cut at every place.
-use crate::shared::{expect_text, expect_units};
+use crate::shared::{expect_text, expect_units, slice_of};
 use std::alloc::Global;
 use std::test::Fail;
 use unit_text::UnitText;
-use wtf8_tests::examples::JOINING;
+use wtf8_tests::examples::joining;
 use wtf8_uses::cuts::{cut_and_joined, is_whole_again};
 
-/// Fails unless the two parts of a text have its units before a place and from it on, and make the whole together.
-fn expect_parts(alloc: Global, units: &[u16], dump: &str, place: usize) -> Result<(), Fail> {
-    let text = UnitText::from_units(alloc, units)?;
-    let len = text.unit_len();
-    if place > len || place > units.len() {
+/// Fails unless the units of a text between two places are these.
+fn expect_slice(
+    alloc: Global,
+    text: &UnitText<Global>,
+    begin: usize,
+    end: usize,
+    units: &[u16],
+) -> Result<(), Fail> {
+    let slice = slice_of(alloc, text, begin, end)?;
+    expect_units(&slice, units)
+}
+
+/// Fails unless the two parts of a text have its units before a place and from it on.
+fn expect_parts(
+    alloc: Global,
+    text: &UnitText<Global>,
+    units: &[u16],
+    place: usize,
+) -> Result<(), Fail> {
+    if place > units.len() {
         return Err(Fail::new("no such place"));
     }
     let (before, behind) = units.split_at(place);
-    let mut front = text.slice_units(alloc, 0, place)?;
-    expect_units(&front, before)?;
-    let back = text.slice_units(alloc, place, len)?;
-    expect_units(&back, behind)?;
+    expect_slice(alloc, text, 0, place, before)?;
+    expect_slice(alloc, text, place, text.unit_len(), behind)
+}
+
+/// Appends the units of a text from a place on to another one.
+fn append_rest(
+    alloc: Global,
+    front: &mut UnitText<Global>,
+    text: &UnitText<Global>,
+    place: usize,
+) -> Result<(), Fail> {
+    let back = slice_of(alloc, text, place, text.unit_len())?;
     front.concat(&back)?;
-    expect_text(alloc, &front, units, dump)?;
-    if front != text {
-        return Err(Fail::new(format_args!("cut at {place}")));
+    Ok(())
+}
+
+/// The two parts of a text, put together again.
+fn parts_joined(
+    alloc: Global,
+    text: &UnitText<Global>,
+    place: usize,
+) -> Result<UnitText<Global>, Fail> {
+    let mut front = slice_of(alloc, text, 0, place)?;
+    append_rest(alloc, &mut front, text, place)?;
+    Ok(front)
+}
+
+/// Fails unless a text that was put together is another one, and has its units and bytes.
+fn expect_same(
+    alloc: Global,
+    whole: &UnitText<Global>,
+    text: &UnitText<Global>,
+    units: &[u16],
+    dump: &str,
+) -> Result<(), Fail> {
+    if whole != text {
+        return Err(Fail::new("not equal to the whole"));
     }
+    expect_text(alloc, whole, units, dump)
+}
+
+/// Fails unless the two parts of a text have its units before a place and from it on, and make the whole together.
+fn expect_cut(alloc: Global, units: &[u16], dump: &str, place: usize) -> Result<(), Fail> {
+    let text = UnitText::from_units(alloc, units)?;
+    expect_parts(alloc, &text, units, place)?;
+    expect_same(
+        alloc,
+        &parts_joined(alloc, &text, place)?,
+        &text,
+        units,
+        dump,
+    )?;
     expect_text(alloc, &text, units, dump)
 }
 
 #[test]
 fn a_text_cut_anywhere_is_found_whole_again(rt: HostRuntime) -> Result<(), Fail> {
-    for (units, _, dump) in JOINING {
-        for place in 0..=units.len() {
-            expect_parts(rt.alloc(), units, dump, place)?;
+    for (units, _, dump) in joining() {
+        for place in 0..units.len().saturating_add(1) {
+            expect_cut(rt.alloc(), units, dump, place)?;
         }
     }
-    expect_parts(rt.alloc(), &[0x0061, 0xD83D, 0xDCA9], "61 F0 9F 92 A9", 2)
+    expect_cut(rt.alloc(), &[0x0061, 0xD83D, 0xDCA9], "61 F0 9F 92 A9", 2)
 }
 
 /// Fails unless the callers that cut a text at a place and join it again find the whole.
-fn expect_whole(alloc: Global, units: &[u16], dump: &str, place: usize) -> Result<(), Fail> {
-    let text = UnitText::from_units(alloc, units)?;
+fn expect_whole(
+    alloc: Global,
+    text: &UnitText<Global>,
+    units: &[u16],
+    dump: &str,
+    place: usize,
+) -> Result<(), Fail> {
     if place > text.unit_len() {
         return Err(Fail::new("no such place"));
     }
-    let whole = cut_and_joined(alloc, alloc, &text, place)?;
-    expect_text(alloc, &whole, units, dump)?;
-    if !is_whole_again(alloc, alloc, &text, place)? {
-        return Err(Fail::new(format_args!("cut at {place}")));
+    if !is_whole_again(alloc, alloc, text, place)? {
+        return Err(Fail::new("not the whole"));
+    }
+    let whole = cut_and_joined(alloc, alloc, text, place)?;
+    expect_text(alloc, &whole, units, dump)
+}
+
+/// Fails unless they find the whole of the text of these units, cut anywhere.
+fn expect_whole_anywhere(alloc: Global, units: &[u16], dump: &str) -> Result<(), Fail> {
+    let text = UnitText::from_units(alloc, units)?;
+    for place in 0..=units.len() {
+        expect_whole(alloc, &text, units, dump, place)?;
     }
     Ok(())
 }
 
 #[test]
 fn callers_find_the_whole_again(rt: HostRuntime) -> Result<(), Fail> {
-    for (units, _, dump) in JOINING {
-        for place in 0..=units.len() {
-            expect_whole(rt.alloc(), units, dump, place)?;
-        }
+    for (units, _, dump) in joining() {
+        expect_whole_anywhere(rt.alloc(), units, dump)?;
     }
     Ok(())
 }
 
 /// Fails unless the units of a text between two places are those of the list.
 fn expect_middle(alloc: Global, units: &[u16], begin: usize, end: usize) -> Result<(), Fail> {
-    let text = UnitText::from_units(alloc, units)?;
-    if begin > end || end > text.unit_len() || end > units.len() {
+    if begin > end || end > units.len() {
         return Err(Fail::new("no such places"));
     }
-    let part = text.slice_units(alloc, begin, end)?;
-    expect_units(&part, &units[begin..end])
+    let text = UnitText::from_units(alloc, units)?;
+    expect_slice(alloc, &text, begin, end, &units[begin..end])
 }
 
 #[test]
 fn every_middle_has_its_units(rt: HostRuntime) -> Result<(), Fail> {
-    for (units, _, _) in JOINING {
-        for end in 0..=units.len() {
-            for begin in 0..=end {
+    for (units, _, _) in joining() {
+        for end in 0..units.len().saturating_add(1) {
+            for begin in 0..end.saturating_add(1) {
                 expect_middle(rt.alloc(), units, begin, end)?;
             }
         }

@@ -22,6 +22,13 @@ const KINDS: [[u16; 8]; 5] = [
 /// Lengths beyond those that are tried one by one.
 const LONG: [usize; 4] = [1000, 5000, 20_000, 70_000];
 
+/// A unit and lengths at which strings of it have about 4,096 bytes and about 65,536.
+const ABOUT_POWERS: [(u16, &[usize]); 3] = [
+    (0x0061, &[4095, 4096, 4097, 65_535, 65_536, 65_537]),
+    (0x00E9, &[2047, 2048, 2049, 32_767, 32_768, 32_769]),
+    (0x3042, &[1365, 1366, 21_845, 21_846]),
+];
+
 /// The text of so many units of a kind.
 fn text_of<'a>(
     alloc: Global,
@@ -144,6 +151,16 @@ fn each_call_is_done_at_each_length(rt: HostRuntime) -> Result<(), Fail> {
         }
         for length in LONG {
             expect_done(rt.alloc(), kind, length)?;
+        }
+    }
+    Ok(())
+}
+
+#[test]
+fn each_call_is_done_about_powers_of_two(rt: HostRuntime) -> Result<(), Fail> {
+    for (unit, lengths) in ABOUT_POWERS {
+        for length in lengths {
+            expect_done(rt.alloc(), &[unit; 8], *length)?;
         }
     }
     Ok(())

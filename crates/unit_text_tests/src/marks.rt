@@ -42,29 +42,72 @@ fn units_of(
     Ok(units)
 }
 
+/// Fails unless the units of a text between two places, if there are such places, are those of the list.
+fn expect_between<'a>(
+    heap: Lent<'a>,
+    text: &UnitText<Lent<'a>>,
+    units: &[u16],
+    begin: usize,
+    end: usize,
+) -> Result<(), Fail> {
+    if begin <= end && end <= text.unit_len() && end <= units.len() {
+        let part = text.slice_units(heap, begin, end)?;
+        expect_units(&part, &units[begin..end])?;
+    }
+    Ok(())
+}
+
 /// Fails unless the text has these units, and so has what is between two places.
 fn expect_found<'a>(heap: Lent<'a>, text: &UnitText<Lent<'a>>, units: &[u16]) -> Result<(), Fail> {
     expect_units(text, units)?;
     heap.grant(u64::MAX);
     for end in PLACES {
         for begin in PLACES {
-            if begin <= end && end <= text.unit_len() && end <= units.len() {
-                let part = text.slice_units(heap, begin, end)?;
-                expect_units(&part, &units[begin..end])?;
-            }
+            expect_between(heap, text, units, begin, end)?;
         }
     }
     Ok(())
 }
 
-/// Fails unless a text of so many units is found with marks as it is without them.
+/// Fails unless the text of these units is found with marks as it is without them.
+fn expect_marks(heap: Lent<'_>, units: &[u16]) -> Result<(), Fail> {
+    let mut text = UnitText::from_units(heap, units)?;
+    expect_found(heap, &text, units)?;
+    text.mark_units(heap);
+    expect_found(heap, &text, units)
+}
+
+/// The same for a text of so many units of a kind.
 fn expect_marked(alloc: Global, kind: &[u16; 6], first: usize, length: usize) -> Result<(), Fail> {
     let heap = Refusing::new(alloc, u64::MAX);
     let units = units_of(alloc, kind, first, length)?;
-    let mut text = UnitText::from_units(&heap, &units)?;
-    expect_found(&heap, &text, &units)?;
-    text.mark_units(&heap);
-    expect_found(&heap, &text, &units)
+    expect_marks(&heap, &units)
+}
+
+/// Appends so many units of a kind, from its unit of a number on.
+fn append<'a>(
+    alloc: Global,
+    heap: Lent<'a>,
+    text: &mut UnitText<Lent<'a>>,
+    kind: &[u16; 6],
+    first: usize,
+    length: usize,
+) -> Result<(), AllocError> {
+    let units = units_of(alloc, kind, first, length)?;
+    let piece = UnitText::from_units(heap, &units)?;
+    text.concat(&piece)
+}
+
+/// Fails unless a text is found as so many units of a kind.
+fn expect_kind<'a>(
+    alloc: Global,
+    heap: Lent<'a>,
+    text: &UnitText<Lent<'a>>,
+    kind: &[u16; 6],
+    length: usize,
+) -> Result<(), Fail> {
+    let units = units_of(alloc, kind, 0, length)?;
+    expect_found(heap, text, &units)
 }
 
 /// Fails unless a text that grows by so many units at a time, with marks from the start, has all of them.
@@ -75,13 +118,11 @@ fn expect_grown(alloc: Global, kind: &[u16; 6], piece: usize) -> Result<(), Fail
     let mut grown = 0usize;
     for _ in 0..600 {
         if grown < 600 {
-            let units = units_of(alloc, kind, grown, piece)?;
-            text.concat(&UnitText::from_units(&heap, &units)?)?;
+            append(alloc, &heap, &mut text, kind, grown, piece)?;
             grown = grown.wrapping_add(piece);
         }
     }
-    let units = units_of(alloc, kind, 0, grown)?;
-    expect_found(&heap, &text, &units)
+    expect_kind(alloc, &heap, &text, kind, grown)
 }
 
 #[test]
@@ -107,18 +148,57 @@ const REQUESTS: [([u16; 6], usize, u64); 5] = [
     ([0x3042; 6], 600, 1),
 ];
 
+/// How many requests the marks of a text of so many units make.
+fn requests_of_marks(
+    alloc: Global,
+    heap: Lent<'_>,
+    kind: &[u16; 6],
+    length: usize,
+) -> Result<u64, AllocError> {
+    let units = units_of(alloc, kind, 0, length)?;
+    heap.grant(u64::MAX);
+    let mut text = UnitText::from_units(heap, &units)?;
+    heap.grant(u64::MAX);
+    text.mark_units(heap);
+    Ok(heap.requests())
+}
+
 #[test]
 fn marks_ask_for_what_they_need(rt: HostRuntime) -> Result<(), Fail> {
     let heap = Refusing::new(rt.alloc(), u64::MAX);
     for (kind, length, requests) in REQUESTS {
-        let units = units_of(rt.alloc(), &kind, 0, length)?;
-        heap.grant(u64::MAX);
-        let mut text = UnitText::from_units(&heap, &units)?;
-        heap.grant(u64::MAX);
-        text.mark_units(&heap);
-        assert_eq!(rt; heap.requests(), requests, "{length} units");
+        let made = requests_of_marks(rt.alloc(), &heap, &kind, length)?;
+        assert_eq!(rt; made, requests, "{length} units");
     }
     Ok(())
+}
+
+/// Appends a text ten times, where it may be refused, and answers how often it was appended.
+fn times_appended<'a>(text: &mut UnitText<Lent<'a>>, piece: &UnitText<Lent<'a>>) -> usize {
+    let mut times = 0usize;
+    for _ in 0..10 {
+        if text.concat(piece).is_ok() {
+            times = times.wrapping_add(1);
+        }
+    }
+    times
+}
+
+/// Grows a text with marks by sixty units of a kind at a time, where some requests are granted and those behind them refused
+/// for good or the next one alone, and answers how many units it has then.
+fn grow<'a>(
+    heap: Lent<'a>,
+    text: &mut UnitText<Lent<'a>>,
+    units: &[u16],
+    granted: u64,
+    refusal: Refusal,
+) -> Result<usize, AllocError> {
+    let piece = UnitText::from_units(heap, units)?;
+    heap.refuse_after(granted, refusal);
+    text.mark_units(heap);
+    let times = times_appended(text, &piece);
+    text.mark_units(heap);
+    Ok(times.wrapping_mul(60))
 }
 
 /// Fails unless a text with marks, which grows where some requests are granted and those behind them refused for good or the
@@ -126,17 +206,9 @@ fn marks_ask_for_what_they_need(rt: HostRuntime) -> Result<(), Fail> {
 fn expect_left(alloc: Global, kind: &[u16; 6], granted: u64, refusal: Refusal) -> Result<(), Fail> {
     let heap = Refusing::new(alloc, u64::MAX);
     let mut text = UnitText::from_units(&heap, &[])?;
-    let piece = UnitText::from_units(&heap, &units_of(alloc, kind, 0, 60)?)?;
-    heap.refuse_after(granted, refusal);
-    text.mark_units(&heap);
-    let mut grown = 0usize;
-    for _ in 0..10 {
-        if text.concat(&piece).is_ok() {
-            grown = grown.wrapping_add(60);
-        }
-    }
-    text.mark_units(&heap);
-    expect_found(&heap, &text, &units_of(alloc, kind, 0, grown)?)
+    let units = units_of(alloc, kind, 0, 60)?;
+    let grown = grow(&heap, &mut text, &units, granted, refusal)?;
+    expect_kind(alloc, &heap, &text, kind, grown)
 }
 
 #[test]

@@ -1,6 +1,7 @@
 // Refused memory, and how much is asked for.
+use crate::shared::slice_of;
 use refusing::{REFUSALS, Refusal, Refusing};
-use std::alloc::Global;
+use std::alloc::{AllocError, Global};
 use std::test::Fail;
 use unit_text::UnitText;
 use wtf8_tests::examples::expect_dump;
@@ -12,57 +13,84 @@ type Lent<'a> = &'a Refusing<Global>;
 /// Units of three bytes each, so that a text of them grows more than once.
 const WIDE: [u16; 6] = [0xE000; 6];
 
+/// Fails unless no request was made, and a text has these bytes.
+fn expect_unasked<'a>(
+    alloc: Global,
+    heap: Lent<'a>,
+    text: &UnitText<Lent<'a>>,
+    dump: &str,
+) -> Result<(), Fail> {
+    if heap.requests() != 0 {
+        return Err(Fail::new("a request"));
+    }
+    expect_dump(alloc, text.as_wtf8(), dump)
+}
+
+/// Fails unless a text of no units and a slice of it are made by no request.
+fn expect_empty(alloc: Global, heap: Lent<'_>) -> Result<(), Fail> {
+    let empty = UnitText::from_units(heap, &[])?;
+    expect_unasked(alloc, heap, &empty, "")?;
+    expect_unasked(alloc, heap, &slice_of(heap, &empty, 0, 0)?, "")
+}
+
 #[test]
 fn no_units_ask_for_no_memory(rt: HostRuntime) -> Result<(), Fail> {
     let heap = Refusing::new(rt.alloc(), 0);
-    let empty = UnitText::from_units(&heap, &[])?;
-    expect_dump(rt.alloc(), empty.as_wtf8(), "")?;
-    let slice = empty.slice_units(&heap, 0, 0)?;
-    assert_eq!(rt; heap.requests(), 0);
-    expect_dump(rt.alloc(), slice.as_wtf8(), "")
+    expect_empty(rt.alloc(), &heap)
+}
+
+/// A lead, to which the empty text is appended where no request is granted.
+fn lead_and_nothing(heap: Lent<'_>) -> Result<UnitText<Lent<'_>>, AllocError> {
+    let mut lead = UnitText::from_units(heap, &[0xD83D])?;
+    heap.grant(0);
+    lead.concat(&UnitText::from_units(heap, &[])?)?;
+    Ok(lead)
 }
 
 #[test]
 fn the_empty_text_asks_for_no_memory(rt: HostRuntime) -> Result<(), Fail> {
     let heap = Refusing::new(rt.alloc(), 9);
-    let mut lead = UnitText::from_units(&heap, &[0xD83D])?;
+    expect_unasked(rt.alloc(), &heap, &lead_and_nothing(&heap)?, "ED A0 BD")
+}
+
+/// Fails unless an empty slice inside a pair is made by no request, and the pair stays.
+fn expect_sliced_pair(alloc: Global, heap: Lent<'_>) -> Result<(), Fail> {
+    let text = UnitText::from_units(heap, &[0xD83D, 0xDCA9])?;
     heap.grant(0);
-    let empty = UnitText::from_units(&heap, &[])?;
-    lead.concat(&empty)?;
-    assert_eq!(rt; heap.requests(), 0);
-    expect_dump(rt.alloc(), lead.as_wtf8(), "ED A0 BD")
+    expect_unasked(alloc, heap, &slice_of(heap, &text, 1, 1)?, "")?;
+    expect_dump(alloc, text.as_wtf8(), "F0 9F 92 A9")
 }
 
 #[test]
 fn an_empty_slice_asks_for_no_memory(rt: HostRuntime) -> Result<(), Fail> {
     let heap = Refusing::new(rt.alloc(), 9);
-    let text = UnitText::from_units(&heap, &[0xD83D, 0xDCA9])?;
-    heap.grant(0);
-    let slice = text.slice_units(&heap, 1, 1)?;
-    assert_eq!(rt; heap.requests(), 0);
-    expect_dump(rt.alloc(), slice.as_wtf8(), "")?;
-    expect_dump(rt.alloc(), text.as_wtf8(), "F0 9F 92 A9")
+    expect_sliced_pair(rt.alloc(), &heap)
 }
 
 /// The units between two places of a text of these units, how many requests it makes to find them, and for how many bytes
 /// altogether. A growth is to eight bytes at least, to twice the room or to what is wanted, whichever is more.
-const SLICES: [(&[u16], usize, usize, u64, usize); 7] = [
-    (&WIDE, 0, 6, 1, 18),
-    (&WIDE, 3, 6, 1, 9),
-    (&WIDE, 2, 3, 1, 8),
-    (&WIDE, 3, 3, 0, 0),
-    (&[0xD83D, 0xDCA9], 1, 2, 1, 8),
-    (&[0xD83D, 0xDCA9, 0xD83D, 0xDCA9], 1, 3, 1, 8),
-    (
-        &[
-            0xD83D, 0xDCA9, 0xD83D, 0xDCA9, 0xD83D, 0xDCA9, 0xD83D, 0xDCA9,
-        ],
-        1,
-        7,
-        2,
-        8 + 16,
-    ),
-];
+type Slice = (&'static [u16], usize, usize, u64, usize);
+
+/// A slice of a text whose growths are seen, and slices that cut pairs.
+fn slices() -> [Slice; 7] {
+    [
+        (&WIDE, 0, 6, 1, 18),
+        (&WIDE, 3, 6, 1, 9),
+        (&WIDE, 2, 3, 1, 8),
+        (&WIDE, 3, 3, 0, 0),
+        (&[0xD83D, 0xDCA9], 1, 2, 1, 8),
+        (&[0xD83D, 0xDCA9, 0xD83D, 0xDCA9], 1, 3, 1, 8),
+        (
+            &[
+                0xD83D, 0xDCA9, 0xD83D, 0xDCA9, 0xD83D, 0xDCA9, 0xD83D, 0xDCA9,
+            ],
+            1,
+            7,
+            2,
+            8 + 16,
+        ),
+    ]
+}
 
 /// Whether the units between two places were found, where some requests are granted and those behind them refused for good
 /// or the next one alone.
@@ -84,22 +112,35 @@ fn is_sliced(
     Ok(is_sliced)
 }
 
+/// Fails unless a slice that is granted all its requests is found by those of the row, for the bytes of the row.
+fn expect_sliced(heap: Lent<'_>, row: Slice) -> Result<(), Fail> {
+    let (units, begin, end, requests, bytes) = row;
+    let is_sliced = is_sliced(heap, units, begin, end, (9, Refusal::Once))?;
+    if !is_sliced || heap.requests() != requests || heap.bytes() != bytes {
+        return Err(Fail::new(format_args!("{units:?} from {begin} to {end}")));
+    }
+    Ok(())
+}
+
+/// Fails unless each request of a slice that is refused is its last one.
+fn expect_unsliced(heap: Lent<'_>, row: Slice, refusal: Refusal) -> Result<(), Fail> {
+    let (units, begin, end, requests, _) = row;
+    for granted in 0..requests {
+        let is_sliced = is_sliced(heap, units, begin, end, (granted, refusal))?;
+        if is_sliced || heap.requests() != granted.wrapping_add(1) {
+            return Err(Fail::new(format_args!("from {begin} to {end}")));
+        }
+    }
+    Ok(())
+}
+
 #[test]
 fn a_slice_asks_for_what_it_needs(rt: HostRuntime) -> Result<(), Fail> {
     let heap = Refusing::new(rt.alloc(), 9);
-    for (units, begin, end, requests, bytes) in SLICES {
-        assert!(rt; is_sliced(&heap, units, begin, end, (9, Refusal::Once))?);
-        assert_eq!(rt;
-            heap.requests(),
-            requests,
-            "{units:?} from {begin} to {end}"
-        );
-        assert_eq!(rt; heap.bytes(), bytes, "{units:?} from {begin} to {end}");
+    for row in slices() {
+        expect_sliced(&heap, row)?;
         for refusal in REFUSALS {
-            for granted in 0..requests {
-                assert!(rt; !is_sliced(&heap, units, begin, end, (granted, refusal))?);
-                assert_eq!(rt; heap.requests(), granted.wrapping_add(1), "to {end}");
-            }
+            expect_unsliced(&heap, row, refusal)?;
         }
     }
     Ok(())
@@ -121,39 +162,49 @@ fn a_text_of_units_asks_for_what_it_needs(rt: HostRuntime) -> Result<(), Fail> {
     Ok(())
 }
 
-/// Fails unless the first three units of a text have these bytes.
-fn expect_front<'a>(
+/// Appends a hundred trails to a text, where so many requests are granted, and answers whether they were enough. Fails unless
+/// one request asks for the bytes that are needed.
+fn is_appended<'a>(
+    heap: Lent<'a>,
+    text: &mut UnitText<Lent<'a>>,
+    granted: u64,
+    refusal: Refusal,
+) -> Result<bool, Fail> {
+    let behind = UnitText::from_units(heap, &[0xDCA9; 100])?;
+    heap.refuse_after(granted, refusal);
+    let is_appended = text.concat(&behind).is_ok();
+    if behind.unit_len() != 100 || heap.requests() != 1 || heap.bytes() != 302 {
+        return Err(Fail::new("another length, or not one request for all bytes"));
+    }
+    Ok(is_appended)
+}
+
+/// Fails unless a text that was appended to has the units of both, and another one is as before.
+fn expect_grown<'a>(
     alloc: Global,
     heap: Lent<'a>,
     text: &UnitText<Lent<'a>>,
-    dump: &str,
+    is_grown: bool,
 ) -> Result<(), Fail> {
-    if text.unit_len() < 3 {
-        return Err(Fail::new("fewer units"));
+    let len = if is_grown { 102 } else { 2 };
+    if text.unit_len() != len {
+        return Err(Fail::new("another length"));
     }
-    let front = text.slice_units(heap, 0, 3)?;
-    expect_dump(alloc, front.as_wtf8(), dump)
+    if !is_grown {
+        return expect_dump(alloc, text.as_wtf8(), "61 ED A0 BD");
+    }
+    heap.grant(9);
+    let front = slice_of(heap, text, 0, 3)?;
+    expect_dump(alloc, front.as_wtf8(), "61 F0 9F 92 A9")
 }
 
 /// Appends a hundred trails to a text that ends with a lead, where so many requests are granted, and answers whether they
-/// were enough. Fails unless a refusal leaves the text as before, and one request asks for the bytes that are needed.
+/// were enough. Fails unless a refusal leaves the text as before.
 fn is_grown(alloc: Global, granted: u64, refusal: Refusal) -> Result<bool, Fail> {
     let heap = Refusing::new(alloc, 9);
     let mut text = UnitText::from_units(&heap, &[0x0061, 0xD83D])?;
-    let behind = UnitText::from_units(&heap, &[0xDCA9; 100])?;
-    heap.refuse_after(granted, refusal);
-    let is_grown = text.concat(&behind).is_ok();
-    let (requests, bytes) = (heap.requests(), heap.bytes());
-    heap.grant(9);
-    if is_grown {
-        expect_front(alloc, &heap, &text, "61 F0 9F 92 A9")?;
-    } else {
-        expect_dump(alloc, text.as_wtf8(), "61 ED A0 BD")?;
-    }
-    let len = if is_grown { 102 } else { 2 };
-    if text.unit_len() != len || behind.unit_len() != 100 || requests != 1 || bytes != 302 {
-        return Err(Fail::new("another length, or not one request for all bytes"));
-    }
+    let is_grown = is_appended(&heap, &mut text, granted, refusal)?;
+    expect_grown(alloc, &heap, &text, is_grown)?;
     Ok(is_grown)
 }
 
@@ -203,29 +254,41 @@ const USES: [(Use, usize, u64, usize); 8] = [
     (Use::CutAndJoined, 4, 1, 8),
 ];
 
+/// Fails unless a call that is granted all its requests makes those of the row, for the bytes of the row.
+fn expect_used(heap: Lent<'_>, row: (Use, usize, u64, usize)) -> Result<(), Fail> {
+    let (call, place, requests, bytes) = row;
+    heap.grant(99);
+    // The text has room for four bytes at first, and then for eight.
+    let made = (requests.wrapping_add(2), bytes.wrapping_add(4 + 8));
+    if !is_used(heap, call, place)? || (heap.requests(), heap.bytes()) != made {
+        return Err(Fail::new(format_args!("{call:?} at {place}")));
+    }
+    Ok(())
+}
+
+/// Fails unless each request of a call that is refused is its last one.
+fn expect_unused(
+    heap: Lent<'_>,
+    row: (Use, usize, u64, usize),
+    refusal: Refusal,
+) -> Result<(), Fail> {
+    let (call, place, requests, _) = row;
+    for granted in 2..requests.wrapping_add(2) {
+        heap.refuse_after(granted, refusal);
+        if is_used(heap, call, place)? || heap.requests() != granted.wrapping_add(1) {
+            return Err(Fail::new(format_args!("{call:?} at {place}")));
+        }
+    }
+    Ok(())
+}
+
 #[test]
 fn uses_ask_for_what_they_need(rt: HostRuntime) -> Result<(), Fail> {
-    // The text has room for four bytes at first, and then for eight.
     let heap = Refusing::new(rt.alloc(), 0);
-    for (call, place, requests, bytes) in USES {
-        heap.grant(99);
-        assert!(rt; is_used(&heap, call, place)?, "{call:?} at {place}");
-        assert_eq!(rt;
-            heap.requests(),
-            requests.wrapping_add(2),
-            "{call:?} at {place}"
-        );
-        assert_eq!(rt;
-            heap.bytes(),
-            bytes.wrapping_add(4 + 8),
-            "{call:?} at {place}"
-        );
+    for row in USES {
+        expect_used(&heap, row)?;
         for refusal in REFUSALS {
-            for granted in 2..requests.wrapping_add(2) {
-                heap.refuse_after(granted, refusal);
-                assert!(rt; !is_used(&heap, call, place)?, "{call:?} at {place}");
-                assert_eq!(rt; heap.requests(), granted.wrapping_add(1));
-            }
+            expect_unused(&heap, row, refusal)?;
         }
     }
     Ok(())

@@ -8,29 +8,38 @@ use wtf8_tests::examples::expect_dump;
 
 type Lent<'a> = &'a Refusing<Global>;
 
+type Text<'a> = UnitText<Lent<'a>>;
+
 /// Units that are pushed one by one, and the bytes of their text: on both sides of where a unit takes one byte more, leads and
 /// trails that join, and those that stay alone.
-const PUSHED: [(&[u16], &str); 7] = [
-    (
-        &[0x0000, 0x007F, 0x0080, 0x07FF, 0x0800, 0xFFFF],
-        "00 7F C2 80 DF BF E0 A0 80 EF BF BF",
-    ),
-    (&[0xD7FF, 0xDC00, 0xE000], "ED 9F BF ED B0 80 EE 80 80"),
-    (&[0xD83D, 0xDCA9], "F0 9F 92 A9"),
-    (&[0xD800, 0xDC00, 0xDBFF, 0xDFFF], "F0 90 80 80 F4 8F BF BF"),
-    (
-        &[0xD83D, 0xD83D, 0xDCA9, 0xDCA9],
-        "ED A0 BD F0 9F 92 A9 ED B2 A9",
-    ),
-    (&[0xDCA9, 0xD83D], "ED B2 A9 ED A0 BD"),
-    (&[0xD83D, 0x0061, 0xDCA9], "ED A0 BD 61 ED B2 A9"),
-];
+fn pushed_rows() -> [(&'static [u16], &'static str); 7] {
+    [
+        (
+            &[0x0000, 0x007F, 0x0080, 0x07FF, 0x0800, 0xFFFF],
+            "00 7F C2 80 DF BF E0 A0 80 EF BF BF",
+        ),
+        (&[0xD7FF, 0xDC00, 0xE000], "ED 9F BF ED B0 80 EE 80 80"),
+        (&[0xD83D, 0xDCA9], "F0 9F 92 A9"),
+        (&[0xD800, 0xDC00, 0xDBFF, 0xDFFF], "F0 90 80 80 F4 8F BF BF"),
+        (
+            &[0xD83D, 0xD83D, 0xDCA9, 0xDCA9],
+            "ED A0 BD F0 9F 92 A9 ED B2 A9",
+        ),
+        (&[0xDCA9, 0xD83D], "ED B2 A9 ED A0 BD"),
+        (&[0xD83D, 0x0061, 0xDCA9], "ED A0 BD 61 ED B2 A9"),
+    ]
+}
+
+/// Fails unless pushes of units build the text of them with these bytes.
+fn expect_pushed(alloc: Global, units: &[u16], dump: &str) -> Result<(), Fail> {
+    let text = text_of_units(alloc, units)?;
+    expect_text(alloc, &text, units, dump)
+}
 
 #[test]
 fn a_pushed_trail_joins_a_lead(rt: HostRuntime) -> Result<(), Fail> {
-    for (units, dump) in PUSHED {
-        let text = text_of_units(rt.alloc(), units)?;
-        expect_text(rt.alloc(), &text, units, dump)?;
+    for (units, dump) in pushed_rows() {
+        expect_pushed(rt.alloc(), units, dump)?;
     }
     Ok(())
 }
@@ -58,6 +67,15 @@ const LENGTH: usize = 300;
 /// The numbers of pushes behind which a text is looked at, about those behind which a mark comes.
 const LOOKED_AT: [usize; 7] = [0, 126, 127, 128, 129, 255, 256];
 
+/// Fails unless a text is equal to another one, and has its bytes.
+fn expect_same<'a>(alloc: Global, text: &Text<'a>, other: &Text<'a>) -> Result<(), Fail> {
+    if *text != *other {
+        return Err(Fail::new("not equal to the text that is made at once"));
+    }
+    let dump = other.as_wtf8().hex_dump(alloc)?;
+    expect_dump(alloc, text.as_wtf8(), dump.as_str())
+}
+
 /// Fails unless a text has these units, one by one, and is as the text that is made of them at once.
 fn expect_made<'a>(
     alloc: Global,
@@ -68,11 +86,22 @@ fn expect_made<'a>(
     expect_units(text, units)?;
     heap.grant(u64::MAX);
     let made = UnitText::from_units(heap, units)?;
-    if *text != made {
-        return Err(Fail::new("not equal to the text that is made at once"));
+    expect_same(alloc, text, &made)
+}
+
+/// Pushes units of a kind to a text, and answers those that were not refused. Fails unless the text has them.
+fn pushed(alloc: Global, text: &mut Text<'_>, kind: &[u16; 6]) -> Result<Vec<u16>, Fail> {
+    let mut units = Vec::new(alloc);
+    for at in 0..LENGTH {
+        let unit = kind[at % 6];
+        if text.push(unit).is_ok() {
+            units.push(unit)?;
+        }
+        if LOOKED_AT.contains(&at) {
+            expect_units(text, &units)?;
+        }
     }
-    let dump = made.as_wtf8().hex_dump(alloc)?;
-    expect_dump(alloc, text.as_wtf8(), dump.as_str())
+    Ok(units)
 }
 
 /// Pushes units of a kind to an empty text, where so many requests are granted and those behind them refused for good or the
@@ -90,16 +119,7 @@ fn expect_grown(
         text.mark_units(&heap);
     }
     heap.refuse_after(granted, refusal);
-    let mut units = Vec::new(alloc);
-    for at in 0..LENGTH {
-        let unit = kind[at % 6];
-        if text.push(unit).is_ok() {
-            units.push(unit)?;
-        }
-        if LOOKED_AT.contains(&at) {
-            expect_units(&text, &units)?;
-        }
-    }
+    let units = pushed(alloc, &mut text, kind)?;
     expect_made(alloc, &heap, &text, &units)?;
     Ok(LENGTH.saturating_sub(units.len()) as u64)
 }

@@ -48,97 +48,158 @@ fn told<A: Allocator>(
 }
 
 /// Bytes and what is read of them.
-const ROWS: [(&[u8], &str); 6] = [
-    (b"", ""),
-    (b"\x61\x00\x3D\xD8\xA9\xDC", "61 F0 9F 92 A9"),
-    (b"\xA9\xDC\x3D\xD8", "ED B2 A9 ED A0 BD"),
-    (b"\xFF\xFE\x61\x00", "EF BB BF 61"),
-    (b"\x61", "half unit"),
-    (b"\x61\x00\x3D", "half unit"),
-];
+fn rows() -> [(&'static [u8], &'static str); 6] {
+    [
+        (b"", ""),
+        (b"\x61\x00\x3D\xD8\xA9\xDC", "61 F0 9F 92 A9"),
+        (b"\xA9\xDC\x3D\xD8", "ED B2 A9 ED A0 BD"),
+        (b"\xFF\xFE\x61\x00", "EF BB BF 61"),
+        (b"\x61", "half unit"),
+        (b"\x61\x00\x3D", "half unit"),
+    ]
+}
 
-#[test]
-fn pieces_of_any_size_are_one_input(rt: HostRuntime) -> Result<(), Fail> {
-    for (bytes, want) in ROWS {
-        for most in 1..8 {
-            let mut reader = Pieces {
-                rest: bytes,
-                most,
-                failing: 2,
-                error: Some(io::Error::from(ErrorKind::Interrupted)),
-                calls: 0,
-            };
-            let found = told(rt.alloc(), read_utf16(rt.alloc(), &mut reader))?;
-            assert_eq!(rt; found.as_str(), want, "{most} at a time");
-            // Each piece, the interruption and the end.
-            let calls = bytes.len().div_ceil(most).wrapping_add(2);
-            assert_eq!(rt; reader.calls as usize, calls, "{most} at a time");
-        }
+/// Fails unless this is read, in pieces of so many bytes and by so many calls.
+fn expect_read(
+    alloc: Global,
+    bytes: &[u8],
+    most: usize,
+    calls: usize,
+    want: &str,
+) -> Result<(), Fail> {
+    let mut reader = Pieces {
+        rest: bytes,
+        most,
+        failing: 2,
+        error: Some(io::Error::from(ErrorKind::Interrupted)),
+        calls: 0,
+    };
+    let found = told(alloc, read_utf16(alloc, &mut reader))?;
+    if found.as_str() != want || reader.calls as usize != calls {
+        return Err(Fail::new(format_args!("{most} at a time")));
     }
     Ok(())
 }
 
 #[test]
-fn a_pair_is_cut_by_the_largest_piece(rt: HostRuntime) -> Result<(), Fail> {
-    let mut bytes = Vec::new(rt.alloc());
-    let mut text = String::new(rt.alloc());
-    for _ in 0..2047 {
+fn pieces_of_any_size_are_one_input(rt: HostRuntime) -> Result<(), Fail> {
+    for (bytes, want) in rows() {
+        for most in 1..8 {
+            // Each piece, the interruption and the end.
+            let calls = bytes.len().div_ceil(most).wrapping_add(2);
+            expect_read(rt.alloc(), bytes, most, calls, want)?;
+        }
+    }
+    Ok(())
+}
+
+/// So many letters, a pair and "b", and that text.
+fn letters_and_pair(alloc: Global, letters: u32) -> Result<(Vec<u8>, String), AllocError> {
+    let mut bytes = Vec::new(alloc);
+    let mut text = String::new(alloc);
+    for _ in 0..letters {
         bytes.extend_from_slice(b"\x61\x00")?;
         text.push('a')?;
     }
     bytes.extend_from_slice(b"\x3D\xD8\xA9\xDC\x62\x00")?;
     text.push_str("💩b")?;
-    for most in 4095..4098 {
-        let mut reader = Pieces {
-            rest: bytes.as_slice(),
-            most,
-            failing: 0,
-            error: None,
-            calls: 0,
-        };
-        match read_utf16(rt.alloc(), &mut reader) {
-            Ok(string) => assert_eq!(rt; string.as_wtf8().as_str(), Some(text.as_str())),
-            Err(_) => assert!(rt; false, "{most} at a time"),
-        }
+    Ok((bytes, text))
+}
+
+/// Whether this text is read, in pieces of so many bytes.
+fn is_text_read(alloc: Global, bytes: &[u8], most: usize, text: &str) -> bool {
+    let mut reader = Pieces {
+        rest: bytes,
+        most,
+        failing: 0,
+        error: None,
+        calls: 0,
+    };
+    match read_utf16(alloc, &mut reader) {
+        Ok(string) => string.as_wtf8().as_str() == Some(text),
+        Err(_) => false,
+    }
+}
+
+#[test]
+fn a_pair_is_cut_by_the_largest_piece_and_by_single_bytes(rt: HostRuntime) -> Result<(), Fail> {
+    let (bytes, text) = letters_and_pair(rt.alloc(), 2047)?;
+    for most in [1, 4095, 4096, 4097] {
+        assert!(rt;
+            is_text_read(rt.alloc(), &bytes, most, &text),
+            "{most} at a time"
+        );
     }
     Ok(())
 }
 
+/// Whether a reader's error is handed on, with this number of the system.
+fn is_handed_on(
+    alloc: Global,
+    reader: &mut Pieces<'_>,
+    error: io::Error,
+    number: Option<i32>,
+) -> bool {
+    match read_utf16(alloc, reader) {
+        Err(ReadError::Read(found)) => {
+            found.kind() == error.kind() && found.raw_os_error() == number
+        }
+        _ => false,
+    }
+}
+
+/// Fails unless an error is handed on where so many bytes are not read yet, after so many calls, and these are left.
+fn expect_handed_on(
+    alloc: Global,
+    error: io::Error,
+    number: Option<i32>,
+    row: (usize, u32, &str),
+) -> Result<(), Fail> {
+    let (failing, calls, left) = row;
+    let mut reader = Pieces {
+        rest: b"\x61\x00\x62\x00\x63\x00",
+        most: 1,
+        failing,
+        error: Some(error),
+        calls: 0,
+    };
+    let is_handed_on = is_handed_on(alloc, &mut reader, error, number);
+    // What was not read is still there, and nothing was read after the error.
+    if !is_handed_on || reader.calls != calls {
+        return Err(Fail::new("the reader's error"));
+    }
+    let found = told(alloc, read_utf16(alloc, &mut reader))?;
+    if found.as_str() != left {
+        return Err(Fail::new(format_args!("not {left}")));
+    }
+    Ok(())
+}
+
+/// How many bytes are not read where the reader fails, how often it is called, and what is left.
+const FAILING: [(usize, u32, &str); 4] = [
+    (6, 1, "61 62 63"),
+    (5, 2, "half unit"),
+    (2, 5, "63"),
+    (0, 7, ""),
+];
+
 #[test]
 fn an_error_is_handed_on(rt: HostRuntime) -> Result<(), Fail> {
-    for (error, number) in [
-        (io::Error::from(ErrorKind::BrokenPipe), None),
-        (io::Error::from(ErrorKind::WouldBlock), None),
-        (io::Error::from(ErrorKind::UnexpectedEof), None),
-        (io::Error::from(ErrorKind::Other), None),
-        (io::Error::from(ErrorKind::TimedOut), None),
-        (io::Error::from_raw_os_error(5), Some(5)),
-        (io::Error::from_raw_os_error(32), Some(32)),
+    for kind in [
+        ErrorKind::BrokenPipe,
+        ErrorKind::WouldBlock,
+        ErrorKind::UnexpectedEof,
+        ErrorKind::Other,
+        ErrorKind::TimedOut,
     ] {
-        for (failing, calls, left) in [
-            (6, 1, "61 62 63"),
-            (5, 2, "half unit"),
-            (2, 5, "63"),
-            (0, 7, ""),
-        ] {
-            let mut reader = Pieces {
-                rest: b"\x61\x00\x62\x00\x63\x00",
-                most: 1,
-                failing,
-                error: Some(error),
-                calls: 0,
-            };
-            match read_utf16(rt.alloc(), &mut reader) {
-                Err(ReadError::Read(found)) => {
-                    assert_eq!(rt; found.kind(), error.kind());
-                    assert_eq!(rt; found.raw_os_error(), number);
-                }
-                _ => assert!(rt; false, "the reader's error"),
-            }
-            // What was not read is still there, and nothing was read after the error.
-            assert_eq!(rt; reader.calls, calls);
-            let found = told(rt.alloc(), read_utf16(rt.alloc(), &mut reader))?;
-            assert_eq!(rt; found.as_str(), left);
+        for row in FAILING {
+            expect_handed_on(rt.alloc(), io::Error::from(kind), None, row)?;
+        }
+    }
+    for number in [5, 32] {
+        let error = io::Error::from_raw_os_error(number);
+        for row in FAILING {
+            expect_handed_on(rt.alloc(), error, Some(number), row)?;
         }
     }
     Ok(())
@@ -165,46 +226,70 @@ fn read_granted(
     Ok((found, heap.requests(), heap.bytes(), reader.calls))
 }
 
+type Granted = (&'static [u8], &'static str, u64, usize);
+
 /// Bytes, what is read of them, the requests that this makes and their bytes.
 /// A piece of four bytes wants room for three units and then for the bytes of its string, and the whole grows to eight bytes
 /// or to twice as many.
-const GRANTED: [(&[u8], &str, u64, usize); 4] = [
-    (b"", "", 0, 0),
-    (b"\x61\x00\x62\x00", "61 62", 3, 6 + 2 + 8),
-    (
-        b"\x61\x00\x62\x00\x63\x00\x64\x00",
-        "61 62 63 64",
-        5,
-        6 + 2 + 8 + 6 + 2,
-    ),
-    (b"\x3D\xD8\xA9\xDC", "F0 9F 92 A9", 4, 6 + 2 + 8 + 8),
-];
+fn granted_rows() -> [Granted; 4] {
+    [
+        (b"", "", 0, 0),
+        (b"\x61\x00\x62\x00", "61 62", 3, 6 + 2 + 8),
+        (
+            b"\x61\x00\x62\x00\x63\x00\x64\x00",
+            "61 62 63 64",
+            5,
+            6 + 2 + 8 + 6 + 2,
+        ),
+        (b"\x3D\xD8\xA9\xDC", "F0 9F 92 A9", 4, 6 + 2 + 8 + 8),
+    ]
+}
+
+/// Fails unless the request behind so many that are granted is the last one, and its refusal is want of memory.
+fn expect_refused(alloc: Global, given: &[u8], granted: u64, refusal: Refusal) -> Result<(), Fail> {
+    let (found, made, _, calls) = read_granted(alloc, given, granted, refusal)?;
+    // The first piece makes three requests, a pair four, and nothing is read after the refused one.
+    let is_first = granted < 3 || given.len() == 4;
+    let wanted = if is_first { 1 } else { 2 };
+    let is_last = made == granted.wrapping_add(1) && calls == wanted;
+    if found.as_str() != "memory" || !is_last {
+        return Err(Fail::new(format_args!("with {granted} granted")));
+    }
+    Ok(())
+}
+
+/// Fails unless a row is read where all is granted, by its requests.
+fn expect_granted(alloc: Global, row: Granted, refusal: Refusal) -> Result<(), Fail> {
+    let (given, want, requests, bytes) = row;
+    let (found, made, asked, calls) = read_granted(alloc, given, 99, refusal)?;
+    let is_asked = (made, asked) == (requests, bytes);
+    let is_called = calls as usize == (given.len() / 4).wrapping_add(1);
+    if found.as_str() != want || !is_asked || !is_called {
+        return Err(Fail::new(want));
+    }
+    Ok(())
+}
 
 #[test]
 fn each_refusal_is_want_of_memory(rt: HostRuntime) -> Result<(), Fail> {
-    for (given, want, requests, bytes) in GRANTED {
+    for row in granted_rows() {
         for refusal in REFUSALS {
+            let (given, _, requests, _) = row;
             for granted in 0..requests {
-                let (found, made, _, calls) = read_granted(rt.alloc(), given, granted, refusal)?;
-                assert_eq!(rt; found.as_str(), "memory", "with {granted} granted");
-                assert_eq!(rt; made, granted.wrapping_add(1), "with {granted} granted");
-                // The first piece makes three requests, a pair four, and nothing is read after the refused one.
-                assert_eq!(rt;
-                    calls,
-                    if granted < 3 || given.len() == 4 {
-                        1
-                    } else {
-                        2
-                    }
-                );
+                expect_refused(rt.alloc(), given, granted, refusal)?;
             }
-            let (found, made, asked, calls) = read_granted(rt.alloc(), given, 99, refusal)?;
-            assert_eq!(rt; found.as_str(), want);
-            assert_eq!(rt; (made, asked), (requests, bytes), "{want}");
-            assert_eq!(rt; calls as usize, (given.len() / 4).wrapping_add(1));
+            expect_granted(rt.alloc(), row, refusal)?;
         }
     }
     Ok(())
+}
+
+/// Whether this text is read of bytes.
+fn is_read(alloc: Global, mut bytes: &[u8], text: &str) -> bool {
+    match read_utf16(alloc, &mut bytes) {
+        Ok(string) => string.as_wtf8().as_str() == Some(text),
+        Err(_) => false,
+    }
 }
 
 #[test]
@@ -212,10 +297,7 @@ fn each_length_is_read(rt: HostRuntime) -> Result<(), Fail> {
     let mut bytes = Vec::new(rt.alloc());
     let mut text = String::new(rt.alloc());
     for length in 0..=300 {
-        match read_utf16(rt.alloc(), &mut bytes.as_slice()) {
-            Ok(string) => assert_eq!(rt; string.as_wtf8().as_str(), Some(text.as_str())),
-            Err(_) => assert!(rt; false, "{length} units"),
-        }
+        assert!(rt; is_read(rt.alloc(), &bytes, &text), "{length} units");
         bytes.extend_from_slice(b"\x61\x00")?;
         text.push('a')?;
     }

@@ -13,6 +13,20 @@ pub fn text_of_units(alloc: Global, units: &[u16]) -> Result<UnitText<Global>, F
     Ok(text)
 }
 
+/// The units of a text between two places. Fails where there are no such places.
+pub fn slice_of<A: Allocator + Drop>(
+    alloc: A,
+    text: &UnitText<A>,
+    begin: usize,
+    end: usize,
+) -> Result<UnitText<A>, Fail> {
+    if begin > end || end > text.unit_len() {
+        return Err(Fail::new("no such places"));
+    }
+    let slice = text.slice_units(alloc, begin, end)?;
+    Ok(slice)
+}
+
 /// Whether the text has these units, one by one, and none behind them.
 fn has_units<A: Allocator>(text: &UnitText<A>, units: &[u16]) -> bool {
     for i in 0..units.len().saturating_add(1) {

@@ -1,9 +1,9 @@
 // Lengths, units and slices of texts, and texts appended.
-use crate::shared::expect_text;
+use crate::shared::{expect_text, slice_of};
 use std::alloc::{AllocError, Global};
 use std::test::Fail;
 use unit_text::UnitText;
-use wtf8_tests::examples::{JOINING, expect_dump};
+use wtf8_tests::examples::{expect_dump, joining};
 
 /// Fails unless the text of these units has them, one by one, and these bytes.
 fn expect_made(alloc: Global, units: &[u16], dump: &str) -> Result<(), Fail> {
@@ -14,7 +14,7 @@ fn expect_made(alloc: Global, units: &[u16], dump: &str) -> Result<(), Fail> {
 #[test]
 fn units_are_kept(rt: HostRuntime) -> Result<(), Fail> {
     expect_made(rt.alloc(), &[], "")?;
-    for (units, _, dump) in JOINING {
+    for (units, _, dump) in joining() {
         expect_made(rt.alloc(), units, dump)?;
     }
     Ok(())
@@ -34,10 +34,7 @@ const PARTS: [(usize, usize, &str); 4] = [
 /// Fails unless the units of the pair between two positions have these bytes.
 fn expect_part(alloc: Global, begin: usize, end: usize, dump: &str) -> Result<(), Fail> {
     let text = UnitText::from_units(alloc, &PAIR)?;
-    if begin > end || end > text.unit_len() {
-        return Err(Fail::new("no such positions"));
-    }
-    let part = text.slice_units(alloc, begin, end)?;
+    let part = slice_of(alloc, &text, begin, end)?;
     expect_dump(alloc, part.as_wtf8(), dump)
 }
 
@@ -58,29 +55,43 @@ fn appended(alloc: Global, front: &[u16], back: &[u16]) -> Result<UnitText<Globa
 }
 
 /// Two lists of units, and the units and bytes of the text of both.
-const APPENDED: [(&[u16], &[u16], &[u16], &str); 3] = [
-    (
-        &[0x0061, 0xD83D],
-        &[0xDCA9],
-        &[0x0061, 0xD83D, 0xDCA9],
-        "61 F0 9F 92 A9",
-    ),
-    (&[0xD83D], &[0xDCA9], &[0xD83D, 0xDCA9], "F0 9F 92 A9"),
-    (
-        &[0xDCA9, 0x0061, 0xD83D],
-        &[0xDCA9, 0x0061, 0xD83D],
-        &[0xDCA9, 0x0061, 0xD83D, 0xDCA9, 0x0061, 0xD83D],
-        "ED B2 A9 61 F0 9F 92 A9 61 ED A0 BD",
-    ),
-];
+fn appended_rows() -> [(&'static [u16], &'static [u16], &'static [u16], &'static str); 3] {
+    [
+        (
+            &[0x0061, 0xD83D],
+            &[0xDCA9],
+            &[0x0061, 0xD83D, 0xDCA9],
+            "61 F0 9F 92 A9",
+        ),
+        (&[0xD83D], &[0xDCA9], &[0xD83D, 0xDCA9], "F0 9F 92 A9"),
+        (
+            &[0xDCA9, 0x0061, 0xD83D],
+            &[0xDCA9, 0x0061, 0xD83D],
+            &[0xDCA9, 0x0061, 0xD83D, 0xDCA9, 0x0061, 0xD83D],
+            "ED B2 A9 61 F0 9F 92 A9 61 ED A0 BD",
+        ),
+    ]
+}
+
+/// Fails unless a text is that of these units, and has these bytes.
+fn expect_same(
+    alloc: Global,
+    text: &UnitText<Global>,
+    units: &[u16],
+    dump: &str,
+) -> Result<(), Fail> {
+    let same = UnitText::from_units(alloc, units)?;
+    if *text != same {
+        return Err(Fail::new("not the text of these units"));
+    }
+    expect_text(alloc, text, units, dump)
+}
 
 #[test]
 fn a_trail_joins_a_lead(rt: HostRuntime) -> Result<(), Fail> {
-    for (front, back, units, dump) in APPENDED {
+    for (front, back, units, dump) in appended_rows() {
         let text = appended(rt.alloc(), front, back)?;
-        expect_text(rt.alloc(), &text, units, dump)?;
-        let same = UnitText::from_units(rt.alloc(), units)?;
-        assert!(rt; text == same, "{dump}");
+        expect_same(rt.alloc(), &text, units, dump)?;
     }
     Ok(())
 }

@@ -9,10 +9,13 @@ use std::test::Fail;
 use unit_text::UnitText;
 use wtf8::{Build, CodePoint, Stopped, Wtf8, Wtf8Buf};
 use wtf8_tests::examples::expect_dump;
+use wtf8_uses::ascii_case::eq_ignore_ascii_case;
+use wtf8_uses::environment::{Variable, environment_block};
 use wtf8_uses::interner::Interner;
+use wtf8_uses::json::json_text;
 use wtf8_uses::{
-    appending, file_names, joining, maps, points, refusals, round_trips, sorting, table, units,
-    well_formed,
+    appending, file_names, joining, maps, paths, points, refusals, round_trips, sorting, table,
+    units, well_formed,
 };
 
 /// U+1F4A9 as two units, and its bytes.
@@ -22,25 +25,47 @@ const TRAIL: u16 = 0xDCA9;
 
 const PAIR_DUMP: &str = "F0 9F 92 A9";
 
+/// The string of these units.
+fn string_of(alloc: Global, units: &[u16]) -> Result<Wtf8Buf<Global>, AllocError> {
+    Wtf8Buf::from_ill_formed_utf16(alloc, units)
+}
+
+/// Fails unless a string was made, and has these bytes.
+fn expect_made(
+    alloc: Global,
+    made: Result<Wtf8Buf<Global>, AllocError>,
+    dump: &str,
+) -> Result<(), Fail> {
+    let string = made?;
+    expect_dump(alloc, string.as_wtf8(), dump)
+}
+
 #[test]
 fn lists_are_joined(rt: HostRuntime) -> Result<(), Fail> {
-    let whole = joining::joined(rt.alloc(), &[LEAD], &[TRAIL])?;
-    expect_dump(rt.alloc(), whole.as_wtf8(), PAIR_DUMP)?;
-    let apart = joining::joined(rt.alloc(), &[TRAIL], &[LEAD])?;
-    expect_dump(rt.alloc(), apart.as_wtf8(), "ED B2 A9 ED A0 BD")
+    let whole = joining::joined(rt.alloc(), &[LEAD], &[TRAIL]);
+    expect_made(rt.alloc(), whole, PAIR_DUMP)?;
+    let path = paths::join(rt.alloc(), &[LEAD], &[TRAIL, 0x61]);
+    expect_made(rt.alloc(), path, "F0 9F 92 A9 61")?;
+    let apart = joining::joined(rt.alloc(), &[TRAIL], &[LEAD]);
+    expect_made(rt.alloc(), apart, "ED B2 A9 ED A0 BD")
+}
+
+/// Appends the halves of the pair, and then nothing.
+fn append_halves(alloc: Global, text: &mut Wtf8Buf<Global>) -> Result<(), AllocError> {
+    let lead = string_of(alloc, &[LEAD])?;
+    let trail = string_of(alloc, &[TRAIL])?;
+    appending::push_both(text, lead.as_wtf8(), trail.as_wtf8())?;
+    appending::push_nothing(text)
 }
 
 #[test]
 fn a_pair_is_appended_by_its_halves(rt: HostRuntime) -> Result<(), Fail> {
-    let lead = Wtf8Buf::from_ill_formed_utf16(rt.alloc(), &[LEAD])?;
-    let trail = Wtf8Buf::from_ill_formed_utf16(rt.alloc(), &[TRAIL])?;
     let mut text = Wtf8Buf::from_str(rt.alloc(), "a")?;
-    appending::push_both(&mut text, lead.as_wtf8(), trail.as_wtf8())?;
-    appending::push_nothing(&mut text)?;
+    append_halves(rt.alloc(), &mut text)?;
     expect_dump(rt.alloc(), text.as_wtf8(), "61 F0 9F 92 A9")?;
     assert!(rt; text.as_wtf8().is_code_point_boundary(1));
-    let whole = appending::cut_and_joined(rt.alloc(), text.as_wtf8(), 1)?;
-    expect_dump(rt.alloc(), whole.as_wtf8(), "61 F0 9F 92 A9")
+    let whole = appending::cut_and_joined(rt.alloc(), text.as_wtf8(), 1);
+    expect_made(rt.alloc(), whole, "61 F0 9F 92 A9")
 }
 
 #[test]
@@ -75,19 +100,33 @@ fn a_path_is_cut_and_joined(rt: HostRuntime) -> Result<(), Fail> {
     Ok(())
 }
 
+/// Whether these units come back.
+fn come_back(alloc: Global, list: &[u16]) -> Result<bool, AllocError> {
+    let again = round_trips::units_again(alloc, list)?;
+    Ok(again.as_slice() == list)
+}
+
+/// Whether a text of its own comes back.
+fn comes_back(alloc: Global, text: &str) -> Result<bool, AllocError> {
+    let owned = String::from_str(alloc, text)?;
+    match round_trips::owned_text_again(owned) {
+        Ok(again) => Ok(again.as_str() == text),
+        Err(_) => Ok(false),
+    }
+}
+
+/// Whether the lossy text of these units, made twice, is this one.
+fn is_lossy(alloc: Global, list: &[u16], text: &str) -> Result<bool, AllocError> {
+    let broken = string_of(alloc, list)?;
+    Ok(round_trips::lossy_twice(broken).as_str() == text)
+}
+
 #[test]
 fn units_and_texts_come_back(rt: HostRuntime) -> Result<(), Fail> {
-    let list = [TRAIL, LEAD, TRAIL, 0x0041, LEAD];
-    let again = round_trips::units_again(rt.alloc(), &list)?;
-    assert_eq!(rt; again.as_slice(), list.as_slice());
+    assert!(rt; come_back(rt.alloc(), &[TRAIL, LEAD, TRAIL, 0x0041, LEAD])?);
     assert_eq!(rt; round_trips::text_again("aé 💩"), Some("aé 💩"));
-    let text = String::from_str(rt.alloc(), "aé 💩")?;
-    match round_trips::owned_text_again(text) {
-        Ok(text) => assert_eq!(rt; text.as_str(), "aé 💩"),
-        Err(_) => assert!(rt; false, "a text is text"),
-    }
-    let broken = Wtf8Buf::from_ill_formed_utf16(rt.alloc(), &[0x0041, LEAD])?;
-    assert_eq!(rt; round_trips::lossy_twice(broken).as_str(), "A\u{FFFD}");
+    assert!(rt; comes_back(rt.alloc(), "aé 💩")?);
+    assert!(rt; is_lossy(rt.alloc(), &[0x0041, LEAD], "A\u{FFFD}")?);
     Ok(())
 }
 
@@ -101,17 +140,32 @@ fn behind_and_before(alloc: Global) -> Result<(Wtf8Buf<Global>, Wtf8Buf<Global>)
     Ok((behind, before))
 }
 
+/// Two views, sorted.
+fn sorted_views<'a>(
+    alloc: Global,
+    first: Wtf8<'a>,
+    second: Wtf8<'a>,
+) -> Result<Vec<Wtf8<'a>>, AllocError> {
+    let mut views = Vec::new(alloc);
+    views.push(first)?;
+    views.push(second)?;
+    sorting::sort_views(&mut views)?;
+    Ok(views)
+}
+
+/// Fails unless these views are in order.
+fn expect_views(alloc: Global, views: &[Wtf8<'_>]) -> Result<(), Fail> {
+    for (view, dump) in views.iter().zip(IN_ORDER) {
+        expect_dump(alloc, *view, dump)?;
+    }
+    Ok(())
+}
+
 #[test]
 fn views_are_sorted(rt: HostRuntime) -> Result<(), Fail> {
     let (behind, before) = behind_and_before(rt.alloc())?;
-    let mut views = Vec::new(rt.alloc());
-    views.push(behind.as_wtf8())?;
-    views.push(before.as_wtf8())?;
-    sorting::sort_views(&mut views)?;
-    for (view, dump) in views.iter().zip(IN_ORDER) {
-        expect_dump(rt.alloc(), *view, dump)?;
-    }
-    Ok(())
+    let views = sorted_views(rt.alloc(), behind.as_wtf8(), before.as_wtf8())?;
+    expect_views(rt.alloc(), &views)
 }
 
 /// The two strings, sorted.
@@ -126,16 +180,53 @@ fn sorted(alloc: Global) -> Result<Vec<Wtf8Buf<Global>>, AllocError>
     Ok(strings)
 }
 
+/// Fails unless these strings are in order.
+fn expect_strings(alloc: Global, strings: &[Wtf8Buf<Global>]) -> Result<(), Fail> {
+    for (string, dump) in strings.iter().zip(IN_ORDER) {
+        expect_dump(alloc, string.as_wtf8(), dump)?;
+    }
+    Ok(())
+}
+
+/// The place of the string of these units in a table, or the place where it would stand.
+fn place_of(
+    alloc: Global,
+    table: &[Wtf8Buf<Global>],
+    units: &[u16],
+) -> Result<Result<usize, usize>, AllocError>
+    requires { AreInPointOrder table.now }
+{
+    let string = string_of(alloc, units)?;
+    Ok(table::place_of(table, &string))
+}
+
 #[test]
 fn strings_are_sorted_and_found(rt: HostRuntime) -> Result<(), Fail> {
     let strings = sorted(rt.alloc())?;
-    for (string, dump) in strings.iter().zip(IN_ORDER) {
-        expect_dump(rt.alloc(), string.as_wtf8(), dump)?;
+    expect_strings(rt.alloc(), &strings)?;
+    let there = place_of(rt.alloc(), strings.as_slice(), &[0xD800, 0xDC00])?;
+    assert_eq!(rt; there, Ok(1));
+    let absent = place_of(rt.alloc(), strings.as_slice(), &[0xF000])?;
+    assert_eq!(rt; absent, Err(1));
+    let there = string_of(rt.alloc(), &[0xD800, 0xDC00])?;
+    let slice = strings.as_slice();
+    assert_eq!(rt; table::place_of_view(slice, there.as_wtf8()), Ok(1));
+    assert_eq!(rt; table::place_of_view(slice, Wtf8::from_str("a")), Err(0));
+    Ok(())
+}
+
+#[test]
+fn repeated_strings_are_dropped(rt: HostRuntime) -> Result<(), Fail> {
+    let mut strings = Vec::new(rt.alloc());
+    for text in ["b", "b", "a", "", "", "", "b"] {
+        strings.push(Wtf8Buf::from_str(rt.alloc(), text)?)?;
     }
-    let there = Wtf8Buf::from_ill_formed_utf16(rt.alloc(), &[0xD800, 0xDC00])?;
-    assert_eq!(rt; table::place_of(strings.as_slice(), &there), Ok(1));
-    let absent = Wtf8Buf::from_ill_formed_utf16(rt.alloc(), &[0xF000])?;
-    assert_eq!(rt; table::place_of(strings.as_slice(), &absent), Err(1));
+    sorting::drop_repeated(&mut strings);
+    let left = ["b", "a", "", "b"];
+    assert_eq!(rt; strings.len(), left.len());
+    for (string, text) in strings.iter().zip(left) {
+        assert_eq!(rt; string.as_wtf8().as_str(), Some(text));
+    }
     Ok(())
 }
 
@@ -155,119 +246,192 @@ const PATH: [u16; 14] = [
     0x43, 0x3A, 0x5C, 0x61, 0x2F, 0x62, TRAIL, 0x2E, 0x74, 0x61, 0x72, 0x2E, 0x67, 0x7A,
 ];
 
-#[test]
-fn a_path_has_a_folder_and_a_name(rt: HostRuntime) -> Result<(), Fail> {
-    let path = Wtf8Buf::from_ill_formed_utf16(rt.alloc(), &PATH)?;
-    let parts = file_names::folder_and_name(path.as_wtf8());
+/// Fails unless a path has this folder and this name.
+fn expect_folder_and_name(
+    alloc: Global,
+    path: Wtf8<'_>,
+    folder_dump: &str,
+    name_dump: &str,
+) -> Result<(), Fail> {
+    let parts = file_names::folder_and_name(path);
     let (folder, name) = parts.ok_or("a folder")?;
-    expect_dump(rt.alloc(), folder, "43 3A 5C 61")?;
-    expect_dump(rt.alloc(), name, "62 ED B2 A9 2E 74 61 72 2E 67 7A")?;
-    assert!(rt; file_names::folder_and_name(name).is_none());
-    let joined = file_names::join(rt.alloc(), folder, name)?;
-    expect_dump(
-        rt.alloc(),
-        joined.as_wtf8(),
+    expect_dump(alloc, folder, folder_dump)?;
+    expect_dump(alloc, name, name_dump)?;
+    if file_names::folder_and_name(name).is_some() {
+        return Err(Fail::new("a name in a folder"));
+    }
+    expect_made(
+        alloc,
+        file_names::join(alloc, folder, name),
         "43 3A 5C 61 5C 62 ED B2 A9 2E 74 61 72 2E 67 7A",
     )
 }
 
 #[test]
+fn a_path_has_a_folder_and_a_name(rt: HostRuntime) -> Result<(), Fail> {
+    let path = string_of(rt.alloc(), &PATH)?;
+    expect_folder_and_name(
+        rt.alloc(),
+        path.as_wtf8(),
+        "43 3A 5C 61",
+        "62 ED B2 A9 2E 74 61 72 2E 67 7A",
+    )
+}
+
+/// A folder, to which a name is pushed.
+fn path_of(folder: &Wtf8Buf<Global>, name: Wtf8<'_>) -> Result<Wtf8Buf<Global>, AllocError> {
+    let mut path = folder.clone()?;
+    file_names::push_name(&mut path, name)?;
+    Ok(path)
+}
+
+/// Whether a path is that of a folder and a name, and in this folder alone.
+fn is_path_of(
+    alloc: Global,
+    path: &Wtf8Buf<Global>,
+    folder: Wtf8<'_>,
+    name: Wtf8<'_>,
+) -> Result<bool, AllocError> {
+    let same = file_names::join_bytes(alloc, folder, name)?;
+    let is_in_folder = file_names::is_in_folder(path.as_wtf8(), folder);
+    let is_in_itself = file_names::is_in_folder(folder, folder);
+    let is_in_name = file_names::is_in_folder(path.as_wtf8(), name);
+    Ok(*path == same && is_in_folder && !is_in_itself && !is_in_name)
+}
+
+#[test]
 fn a_name_is_pushed_and_found_in_its_folder(rt: HostRuntime) -> Result<(), Fail> {
-    let lead = Wtf8Buf::from_ill_formed_utf16(rt.alloc(), &[LEAD])?;
-    let trail = Wtf8Buf::from_ill_formed_utf16(rt.alloc(), &[TRAIL])?;
-    let mut path = lead.clone()?;
-    file_names::push_name(&mut path, trail.as_wtf8())?;
+    let lead = string_of(rt.alloc(), &[LEAD])?;
+    let trail = string_of(rt.alloc(), &[TRAIL])?;
+    let path = path_of(&lead, trail.as_wtf8())?;
     expect_dump(rt.alloc(), path.as_wtf8(), "ED A0 BD 5C ED B2 A9")?;
-    let same = file_names::join_bytes(rt.alloc(), lead.as_wtf8(), trail.as_wtf8())?;
-    assert!(rt; path == same);
-    assert!(rt; file_names::is_in_folder(path.as_wtf8(), lead.as_wtf8()));
-    assert!(rt; !file_names::is_in_folder(lead.as_wtf8(), lead.as_wtf8()));
-    assert!(rt; !file_names::is_in_folder(path.as_wtf8(), trail.as_wtf8()));
+    assert!(rt; is_path_of(rt.alloc(), &path, lead.as_wtf8(), trail.as_wtf8())?);
+    Ok(())
+}
+
+/// Fails unless a name has a stem and an extension of these bytes, which make it again.
+fn expect_stem(alloc: Global, name: Wtf8<'_>) -> Result<(), Fail> {
+    let parts = file_names::stem_and_extension(name);
+    let (stem, extension) = parts.ok_or("an extension")?;
+    expect_dump(alloc, stem, "62 ED B2 A9 2E 74 61 72")?;
+    expect_dump(alloc, extension, "67 7A")?;
+    if file_names::stem_and_extension(extension).is_some() {
+        return Err(Fail::new("an extension in an extension"));
+    }
+    let again = file_names::with_extension(alloc, stem, extension)?;
+    if again.as_wtf8() != name {
+        return Err(Fail::new("another name"));
+    }
     Ok(())
 }
 
 #[test]
 fn a_name_has_a_stem_and_an_extension(rt: HostRuntime) -> Result<(), Fail> {
-    let name = Wtf8Buf::from_ill_formed_utf16(rt.alloc(), &PATH[5..])?;
-    let parts = file_names::stem_and_extension(name.as_wtf8());
-    let (stem, extension) = parts.ok_or("an extension")?;
-    expect_dump(rt.alloc(), stem, "62 ED B2 A9 2E 74 61 72")?;
-    expect_dump(rt.alloc(), extension, "67 7A")?;
-    assert!(rt; file_names::stem_and_extension(extension).is_none());
-    let again = file_names::with_extension(rt.alloc(), stem, extension)?;
-    assert!(rt; again == name);
+    let name = string_of(rt.alloc(), &PATH[5..])?;
+    expect_stem(rt.alloc(), name.as_wtf8())?;
     let shown = file_names::shown(rt.alloc(), name.as_wtf8())?;
     assert_eq!(rt; shown.as_str(), "b\u{FFFD}.tar.gz");
     Ok(())
 }
 
+/// Fails unless these are the components of the path.
+fn expect_components(alloc: Global, parts: &[Wtf8<'_>]) -> Result<(), Fail> {
+    let dumps = ["43 3A", "61", "62 ED B2 A9 2E 74 61 72 2E 67 7A"];
+    if parts.len() != dumps.len() {
+        return Err(Fail::new("another number of components"));
+    }
+    for (part, dump) in parts.iter().zip(dumps) {
+        expect_dump(alloc, *part, dump)?;
+    }
+    Ok(())
+}
+
+/// How many components a path has.
+fn component_count(alloc: Global, path: Wtf8<'_>) -> Result<usize, AllocError> {
+    let parts = file_names::components(alloc, path)?;
+    Ok(parts.len())
+}
+
 #[test]
 fn a_path_has_components(rt: HostRuntime) -> Result<(), Fail> {
-    let path = Wtf8Buf::from_ill_formed_utf16(rt.alloc(), &PATH)?;
+    let path = string_of(rt.alloc(), &PATH)?;
     let parts = file_names::components(rt.alloc(), path.as_wtf8())?;
-    let dumps = ["43 3A", "61", "62 ED B2 A9 2E 74 61 72 2E 67 7A"];
-    assert_eq!(rt; parts.len(), dumps.len());
-    for (part, dump) in parts.iter().zip(dumps) {
-        expect_dump(rt.alloc(), *part, dump)?;
-    }
+    expect_components(rt.alloc(), &parts)?;
     let folder = file_names::parent(path.as_wtf8()).ok_or("a folder")?;
-    expect_dump(rt.alloc(), folder, "43 3A 5C 61")?;
-    assert_eq!(rt;
-        file_names::components(rt.alloc(), Wtf8::from_str("/"))?.len(),
-        2
-    );
-    assert_eq!(rt;
-        file_names::components(rt.alloc(), Wtf8::from_str(""))?.len(),
-        1
-    );
+    expect_dump(rt.alloc(), folder, "43 3A 5C 61")
+}
+
+#[test]
+fn a_path_has_one_component_more_than_separators(rt: HostRuntime) -> Result<(), Fail> {
+    for (path, count) in [("/", 2), ("", 1)] {
+        let found = component_count(rt.alloc(), Wtf8::from_str(path))?;
+        assert_eq!(rt; found, count, "{path}");
+    }
     Ok(())
 }
 
 /// A folder and a name; the path of them, its suffix without the dot, and whether that path is relative to another one: what
 /// CPython's `PureWindowsPath` answers by `/`, `suffix` and `is_relative_to`.
-const WINDOWS_PATHS: [(&str, &str, &str, Option<&str>, &str, bool); 10] = [
-    (
-        "C:\\a",
-        "b.tar.gz",
-        "C:\\a\\b.tar.gz",
-        Some("gz"),
-        "C:/a",
-        true,
-    ),
-    ("C:\\", "b", "C:\\b", None, "C:\\c", false),
-    ("a\\", "b.c d", "a\\b.c d", Some("c d"), "a", true),
-    ("a", "bc", "a\\bc", None, "a/b", false),
-    (
-        "\\\\server\\share",
-        "..a",
-        "\\\\server\\share\\..a",
-        Some("a"),
-        "\\\\server\\share\\..a",
-        true,
-    ),
-    ("💩", "é.💩", "💩\\é.💩", Some("💩"), "💩/é", false),
-    ("a\\b", "c", "a\\b\\c", None, "a\\b\\c\\d", false),
-    ("a\\b", "c", "a\\b\\c", None, "b", false),
-    ("a\\b\\", "c.d", "a\\b\\c.d", Some("d"), "a/b/c.d", true),
-    (
-        "C:\\Program Files",
-        "x",
-        "C:\\Program Files\\x",
-        None,
-        "C:/Program Files",
-        true,
-    ),
-];
+type WindowsPath = (
+    &'static str,
+    &'static str,
+    &'static str,
+    Option<&'static str>,
+    &'static str,
+    bool,
+);
+
+fn windows_paths() -> [WindowsPath; 10] {
+    [
+        (
+            "C:\\a",
+            "b.tar.gz",
+            "C:\\a\\b.tar.gz",
+            Some("gz"),
+            "C:/a",
+            true,
+        ),
+        ("C:\\", "b", "C:\\b", None, "C:\\c", false),
+        ("a\\", "b.c d", "a\\b.c d", Some("c d"), "a", true),
+        ("a", "bc", "a\\bc", None, "a/b", false),
+        (
+            "\\\\server\\share",
+            "..a",
+            "\\\\server\\share\\..a",
+            Some("a"),
+            "\\\\server\\share\\..a",
+            true,
+        ),
+        ("💩", "é.💩", "💩\\é.💩", Some("💩"), "💩/é", false),
+        ("a\\b", "c", "a\\b\\c", None, "a\\b\\c\\d", false),
+        ("a\\b", "c", "a\\b\\c", None, "b", false),
+        ("a\\b\\", "c.d", "a\\b\\c.d", Some("d"), "a/b/c.d", true),
+        (
+            "C:\\Program Files",
+            "x",
+            "C:\\Program Files\\x",
+            None,
+            "C:/Program Files",
+            true,
+        ),
+    ]
+}
+
+/// Whether the path of a folder and a name is that of the row, with its suffix, and relative to another path or not.
+fn is_windows_path(alloc: Global, row: WindowsPath) -> Result<bool, AllocError> {
+    let (folder, name, whole, extension, front, is_relative) = row;
+    let path = file_names::join_once(alloc, Wtf8::from_str(folder), Wtf8::from_str(name))?;
+    let found = file_names::extension(Wtf8::from_str(name));
+    let is_extension = found.and_then(|text| text.as_str()) == extension;
+    let is_front = file_names::begins_with(path.as_wtf8(), Wtf8::from_str(front));
+    Ok(path.as_wtf8().as_str() == Some(whole) && is_extension && is_front == is_relative)
+}
 
 #[test]
 fn paths_are_those_of_windows(rt: HostRuntime) -> Result<(), Fail> {
-    for (folder, name, whole, extension, front, is_relative) in WINDOWS_PATHS {
-        let path = file_names::join_once(rt.alloc(), Wtf8::from_str(folder), Wtf8::from_str(name))?;
-        assert_eq!(rt; path.as_wtf8().as_str(), Some(whole));
-        let found = file_names::extension(Wtf8::from_str(name));
-        assert_eq!(rt; found.and_then(|text| text.as_str()), extension);
-        let is_front = file_names::begins_with(path.as_wtf8(), Wtf8::from_str(front));
-        assert_eq!(rt; is_front, is_relative);
+    for row in windows_paths() {
+        let (_, _, whole, _, _, _) = row;
+        assert!(rt; is_windows_path(rt.alloc(), row)?, "{whole}");
     }
     Ok(())
 }
@@ -287,19 +451,64 @@ fn a_name_ends_at_a_zero(rt: HostRuntime) -> Result<(), Fail> {
     Ok(())
 }
 
+/// Whether the strings have these numbers, the first one again and again.
+fn are_numbered(interner: &mut Interner, first: Wtf8<'_>) -> Result<bool, AllocError> {
+    let number = interner.number(first)?;
+    let other = interner.number(Wtf8::from_str(""))?;
+    let again = interner.number(first)?;
+    Ok(number == 0 && other == 1 && again == 0 && interner.len() == 2)
+}
+
+/// Fails unless the string of a number has these bytes, or there is none.
+fn expect_string(
+    alloc: Global,
+    interner: &Interner,
+    number: usize,
+    dump: Option<&str>,
+) -> Result<(), Fail> {
+    match (interner.string(number), dump) {
+        (Some(string), Some(dump)) => expect_dump(alloc, string, dump),
+        (None, None) => Ok(()),
+        _ => Err(Fail::new("a string of no number, or none")),
+    }
+}
+
 #[test]
 fn a_number_stays(rt: HostRuntime) -> Result<(), Fail> {
     let mut interner = Interner::new(rt.alloc());
-    let first = Wtf8Buf::from_ill_formed_utf16(rt.alloc(), &[LEAD])?;
-    assert_eq!(rt; interner.number(first.as_wtf8())?, 0);
-    assert_eq!(rt; interner.number(Wtf8::from_str(""))?, 1);
-    assert_eq!(rt; interner.number(first.as_wtf8())?, 0);
-    assert_eq!(rt; interner.len(), 2);
+    let first = string_of(rt.alloc(), &[LEAD])?;
+    assert!(rt; are_numbered(&mut interner, first.as_wtf8())?);
     for (number, dump) in [(0, Some("ED A0 BD")), (1, Some("")), (2, None)] {
-        match (interner.string(number), dump) {
-            (Some(string), Some(dump)) => expect_dump(rt.alloc(), string, dump)?,
-            (found, dump) => assert_eq!(rt; found.is_some(), dump.is_some()),
+        expect_string(rt.alloc(), &interner, number, dump)?;
+    }
+    Ok(())
+}
+
+/// The name of a number below 512, by its lowest eight bits: below 256 one of 256 names that have one hash, else eight digits.
+fn name_of(alloc: Global, number: usize) -> Result<String, AllocError> {
+    let mut name = String::new(alloc);
+    let mut left = number;
+    for _ in 0..8 {
+        name.push_str(match (number < 256, left % 2 == 0) {
+            (true, true) => "Aa",
+            (true, false) => "BB",
+            (false, true) => "0",
+            (false, false) => "1",
+        })?;
+        left /= 2;
+    }
+    Ok(name)
+}
+
+#[test]
+fn three_hundred_strings_keep_their_numbers(rt: HostRuntime) -> Result<(), Fail> {
+    let mut interner = Interner::new(rt.alloc());
+    for _ in 0..2 {
+        for number in 0..300 {
+            let name = name_of(rt.alloc(), number)?;
+            assert_eq!(rt; interner.number(Wtf8::from_str(name.as_str()))?, number);
         }
+        assert_eq!(rt; interner.len(), 300);
     }
     Ok(())
 }
@@ -317,20 +526,30 @@ fn strings_of_one_hash_have_their_own_numbers(rt: HostRuntime) -> Result<(), Fai
     Ok(())
 }
 
-#[test]
-fn room_is_found_once(rt: HostRuntime) -> Result<(), Fail> {
-    let mut string = Wtf8Buf::from_ill_formed_utf16(rt.alloc(), &[LEAD])?;
-    let trail = Wtf8Buf::from_ill_formed_utf16(rt.alloc(), &[TRAIL])?;
-    refusals::push_both(&mut string, trail.as_wtf8(), Wtf8::from_str("é"))?;
-    expect_dump(rt.alloc(), string.as_wtf8(), "F0 9F 92 A9 C3 A9")?;
-    refusals::push_list(&mut string, &[Build::PushChar('a'), Build::PushStr("b")], 2)?;
-    expect_dump(rt.alloc(), string.as_wtf8(), "F0 9F 92 A9 C3 A9 61 62")?;
-    assert!(rt; refusals::is_kept_by_a_refusal(&mut string, CodePoint::from_char('c'))?);
-    let mut both = Wtf8Buf::from_ill_formed_utf16(rt.alloc(), &[LEAD])?;
+/// Pushes a trail and "é" to a string, and then a list.
+fn push_all(alloc: Global, string: &mut Wtf8Buf<Global>) -> Result<(), Fail> {
+    let trail = string_of(alloc, &[TRAIL])?;
+    refusals::push_both(string, trail.as_wtf8(), Wtf8::from_str("é"))?;
+    expect_dump(alloc, string.as_wtf8(), "F0 9F 92 A9 C3 A9")?;
+    refusals::push_list(string, &[Build::PushChar('a'), Build::PushStr("b")], 2)?;
+    expect_dump(alloc, string.as_wtf8(), "F0 9F 92 A9 C3 A9 61 62")
+}
+
+/// A lead, to which "é" and a trail are pushed.
+fn with_two_points(alloc: Global) -> Result<Wtf8Buf<Global>, Fail> {
+    let mut both = string_of(alloc, &[LEAD])?;
     let second = CodePoint::from_u32(u32::from(TRAIL)).ok_or("a code point")?;
     refusals::push_two_points(&mut both, CodePoint::from_char('é'), second)?;
-    expect_dump(rt.alloc(), both.as_wtf8(), "ED A0 BD C3 A9 ED B2 A9")?;
-    Ok(())
+    Ok(both)
+}
+
+#[test]
+fn room_is_found_once(rt: HostRuntime) -> Result<(), Fail> {
+    let mut string = string_of(rt.alloc(), &[LEAD])?;
+    push_all(rt.alloc(), &mut string)?;
+    assert!(rt; refusals::is_kept_by_a_refusal(&mut string, CodePoint::from_char('c'))?);
+    let both = with_two_points(rt.alloc())?;
+    expect_dump(rt.alloc(), both.as_wtf8(), "ED A0 BD C3 A9 ED B2 A9")
 }
 
 #[test]
@@ -352,23 +571,54 @@ fn units_are_counted(rt: HostRuntime) {
     assert_eq!(rt; units::next_unit(text, 2), None);
 }
 
+const WHOLE: &str = "ED B2 A9 F0 9F 92 A9 41 ED A0 BD";
+
+/// Fails unless the copies of a text by its code points have these bytes.
+fn expect_copies(alloc: Global, text: Wtf8<'_>) -> Result<(), Fail> {
+    expect_made(alloc, points::copy_by_points(alloc, text), WHOLE)?;
+    expect_made(alloc, points::collect_points(alloc, text), WHOLE)
+}
+
+/// Fails unless a text has two code points in common with its front, none with its back, and all with both.
+fn expect_common(
+    alloc: Global,
+    text: Wtf8<'_>,
+    front: &mut Wtf8Buf<Global>,
+    back: Wtf8<'_>,
+) -> Result<(), Fail> {
+    let with_front = points::common_points(text, front.as_wtf8());
+    let with_back = points::common_points(text, back);
+    points::push_points(front, back)?;
+    let with_both = points::common_points(front.as_wtf8(), text);
+    if (with_front, with_back, with_both) != (2, 0, 4) {
+        return Err(Fail::new("other code points in common"));
+    }
+    expect_dump(alloc, front.as_wtf8(), WHOLE)
+}
+
+/// Fails unless the first two code points of a text and those behind them make it again.
+fn expect_halves(alloc: Global, text: Wtf8<'_>) -> Result<(), Fail> {
+    let mut front = points::first_points(alloc, text, 2)?;
+    expect_dump(alloc, front.as_wtf8(), "ED B2 A9 F0 9F 92 A9")?;
+    let back = points::points_behind(alloc, text, 2)?;
+    expect_dump(alloc, back.as_wtf8(), "41 ED A0 BD")?;
+    expect_common(alloc, text, &mut front, back.as_wtf8())
+}
+
 #[test]
 fn a_string_is_copied_by_its_code_points(rt: HostRuntime) -> Result<(), Fail> {
-    let text = Wtf8Buf::from_ill_formed_utf16(rt.alloc(), &[TRAIL, LEAD, TRAIL, 0x0041, LEAD])?;
-    let whole = "ED B2 A9 F0 9F 92 A9 41 ED A0 BD";
-    let copy = points::copy_by_points(rt.alloc(), text.as_wtf8())?;
-    expect_dump(rt.alloc(), copy.as_wtf8(), whole)?;
-    let collected = points::collect_points(rt.alloc(), text.as_wtf8())?;
-    expect_dump(rt.alloc(), collected.as_wtf8(), whole)?;
-    let mut front = points::first_points(rt.alloc(), text.as_wtf8(), 2)?;
-    expect_dump(rt.alloc(), front.as_wtf8(), "ED B2 A9 F0 9F 92 A9")?;
-    let back = points::points_behind(rt.alloc(), text.as_wtf8(), 2)?;
-    expect_dump(rt.alloc(), back.as_wtf8(), "41 ED A0 BD")?;
-    assert_eq!(rt; points::common_points(text.as_wtf8(), front.as_wtf8()), 2);
-    assert_eq!(rt; points::common_points(text.as_wtf8(), back.as_wtf8()), 0);
-    points::push_points(&mut front, back.as_wtf8())?;
-    assert_eq!(rt; points::common_points(front.as_wtf8(), text.as_wtf8()), 4);
-    expect_dump(rt.alloc(), front.as_wtf8(), whole)
+    let text = string_of(rt.alloc(), &[TRAIL, LEAD, TRAIL, 0x0041, LEAD])?;
+    expect_copies(rt.alloc(), text.as_wtf8())?;
+    assert_eq!(rt; points::supplementary_count(text.as_wtf8()), 1);
+    let back = string_of(rt.alloc(), &[0x0041, LEAD])?;
+    assert_eq!(rt; points::supplementary_count(back.as_wtf8()), 0);
+    expect_halves(rt.alloc(), text.as_wtf8())
+}
+
+/// Whether the text of these units is well-formed.
+fn is_well_formed(alloc: Global, list: &[u16]) -> Result<bool, AllocError> {
+    let text = UnitText::from_units(alloc, list)?;
+    Ok(well_formed::is_well_formed(&text))
 }
 
 #[test]
@@ -381,11 +631,84 @@ fn lone_surrogates_are_not_well_formed(rt: HostRuntime) -> Result<(), Fail> {
         (&[0xFFFD, 0xE000], true),
     ];
     for (list, expected) in rows {
-        let text = UnitText::from_units(rt.alloc(), list)?;
-        assert_eq!(rt; well_formed::is_well_formed(&text), expected, "{list:?}");
+        let is_well = is_well_formed(rt.alloc(), list)?;
+        assert_eq!(rt; is_well, expected, "{list:?}");
     }
-    let broken = Wtf8Buf::from_ill_formed_utf16(rt.alloc(), &[0x0061, TRAIL, LEAD, TRAIL])?;
+    Ok(())
+}
+
+#[test]
+fn lone_surrogates_are_mended(rt: HostRuntime) -> Result<(), Fail> {
+    let broken = string_of(rt.alloc(), &[0x0061, TRAIL, LEAD, TRAIL])?;
     let mended = well_formed::well_formed_text(rt.alloc(), broken.as_wtf8())?;
     assert_eq!(rt; mended.as_str(), "a\u{FFFD}💩");
+    Ok(())
+}
+
+/// Units, and the JSON text of them: what an engine's `JSON.stringify` answers.
+const JSON: [(&[u16], &str); 6] = [
+    (&[], "\"\""),
+    (
+        &[0x0061, 0x0022, 0x0062, 0x005C, 0x0063, 0x002F],
+        "\"a\\\"b\\\\c/\"",
+    ),
+    (
+        &[
+            0x0000, 0x0007, 0x0008, 0x0009, 0x000A, 0x000B, 0x000C, 0x000D, 0x001F, 0x0020, 0x007F,
+        ],
+        "\"\\u0000\\u0007\\b\\t\\n\\u000b\\f\\r\\u001f \u{7F}\"",
+    ),
+    (&[LEAD, TRAIL], "\"💩\""),
+    (&[TRAIL, LEAD], "\"\\udca9\\ud83d\""),
+    (
+        &[0x0061, 0xD800, 0x00E9, 0xDFFF, 0x2028],
+        "\"a\\ud800é\\udfff\u{2028}\"",
+    ),
+];
+
+#[test]
+fn json_texts_are_those_of_an_engine(rt: HostRuntime) -> Result<(), Fail> {
+    for (units, text) in JSON {
+        let string = Wtf8Buf::from_ill_formed_utf16(rt.alloc(), units)?;
+        let json = json_text(rt.alloc(), string.as_wtf8())?;
+        assert_eq!(rt; json.as_str(), text);
+    }
+    Ok(())
+}
+
+#[test]
+fn an_environment_is_one_block(rt: HostRuntime) -> Result<(), Fail> {
+    let value = Wtf8Buf::from_ill_formed_utf16(rt.alloc(), &[LEAD, 0x003D])?;
+    let variables = [
+        Variable {
+            name: Wtf8::from_str("a"),
+            value: value.as_wtf8(),
+        },
+        Variable {
+            name: Wtf8::from_str("=C:"),
+            value: Wtf8::from_str(""),
+        },
+    ];
+    let block = environment_block(rt.alloc(), &variables)?;
+    let expected: [u16; 11] = [
+        0x0061, 0x003D, LEAD, 0x003D, 0, 0x003D, 0x0043, 0x003A, 0x003D, 0, 0,
+    ];
+    assert_eq!(rt; block.as_slice(), expected.as_slice());
+    let empty = environment_block(rt.alloc(), &[])?;
+    assert_eq!(rt; empty.as_slice(), [0].as_slice());
+    Ok(())
+}
+
+#[test]
+fn ascii_letters_are_equal_in_both_cases(rt: HostRuntime) -> Result<(), Fail> {
+    let lead = Wtf8Buf::from_ill_formed_utf16(rt.alloc(), &[0x0041, LEAD])?;
+    let same = Wtf8Buf::from_ill_formed_utf16(rt.alloc(), &[0x0061, LEAD])?;
+    assert!(rt; eq_ignore_ascii_case(lead.as_wtf8(), same.as_wtf8()));
+    assert!(rt; !eq_ignore_ascii_case(lead.as_wtf8(), Wtf8::from_str("a")));
+    assert!(rt; eq_ignore_ascii_case(Wtf8::from_str("aZé[@"), Wtf8::from_str("Azé[@")));
+    assert!(rt; !eq_ignore_ascii_case(Wtf8::from_str("é"), Wtf8::from_str("É")));
+    assert!(rt; !eq_ignore_ascii_case(Wtf8::from_str("@"), Wtf8::from_str("`")));
+    assert!(rt; !eq_ignore_ascii_case(Wtf8::from_str("["), Wtf8::from_str("{")));
+    assert!(rt; eq_ignore_ascii_case(Wtf8::from_str(""), Wtf8::from_str("")));
     Ok(())
 }

@@ -62,23 +62,41 @@ const LEFT: [(Use, u64, bool, u64, &str); 11] = [
     (Use::KeptByARefusal, 0, false, 1, "61 ED A0 BD"),
 ];
 
-/// Fails unless a use leaves what the row tells.
-fn expect_left(
-    alloc: Global,
-    row: (Use, u64, bool, u64, &str),
-    refusal: Refusal,
-) -> Result<(), Fail> {
-    let (call, granted, is_done_wanted, requests, dump) = row;
-    let heap = Refusing::new(alloc, 1);
-    let mut text = Wtf8Buf::with_capacity(&heap, 4)?;
+/// What stands in the table of what uses leave.
+type Left = (Use, u64, bool, u64, &'static str);
+
+/// The string that each row begins with.
+fn full(heap: Lent<'_>) -> Result<Wtf8Buf<Lent<'_>>, AllocError> {
+    let mut text = Wtf8Buf::with_capacity(heap, 4)?;
     text.push_char('a')?;
     text.push(CodePoint::from_u32_unchecked(0xD83D))?;
+    Ok(text)
+}
+
+/// Fails unless a use is done or not, with as many requests as the row tells.
+fn expect_requests<'a>(
+    alloc: Global,
+    heap: Lent<'a>,
+    text: &mut Wtf8Buf<Lent<'a>>,
+    row: Left,
+    refusal: Refusal,
+) -> Result<(), Fail> {
+    let (call, granted, is_done_wanted, requests, _) = row;
     let trail = Wtf8Buf::from_ill_formed_utf16(alloc, &[0xDCA9])?;
     heap.refuse_after(granted, refusal);
-    let is_done = is_done(&mut text, call, trail.as_wtf8());
+    let is_done = is_done(text, call, trail.as_wtf8());
     if is_done != is_done_wanted || heap.requests() != requests {
         return Err(Fail::new(format_args!("{call:?} with {granted} granted")));
     }
+    Ok(())
+}
+
+/// Fails unless a use leaves what the row tells.
+fn expect_left(alloc: Global, row: Left, refusal: Refusal) -> Result<(), Fail> {
+    let heap = Refusing::new(alloc, 1);
+    let mut text = full(&heap)?;
+    expect_requests(alloc, &heap, &mut text, row, refusal)?;
+    let (_, _, _, _, dump) = row;
     expect_dump(alloc, text.as_wtf8(), dump)
 }
 
@@ -117,17 +135,29 @@ fn a_copy_that_is_cut_answers_each_refusal(rt: HostRuntime) -> Result<(), Fail> 
     Ok(())
 }
 
+/// Fails unless a string was made, and has so many bytes.
+fn expect_len(made: Result<Wtf8Buf<Global>, AllocError>, len: usize) -> Result<(), Fail> {
+    if made?.len() != len {
+        return Err(Fail::new(format_args!("not {len} bytes")));
+    }
+    Ok(())
+}
+
+/// Whether a folder comes back where it is cut and joined, and is shown in as many bytes as it has.
+fn is_kept(alloc: Global, folder: Wtf8<'_>) -> Result<bool, AllocError> {
+    let again = joining::cut_at_slash_and_joined(alloc, folder)?;
+    let shown = file_names::shown(alloc, folder)?;
+    Ok(again.as_wtf8() == folder && shown.as_str().len() == folder.len())
+}
+
 /// Fails unless a path of a folder of so many letters and a name is joined.
 fn expect_paths(alloc: Global, folder: Wtf8<'_>) -> Result<(), Fail> {
     let name = Wtf8::from_str("name");
-    let path = file_names::join(alloc, folder, name)?;
-    let file = file_names::with_extension(alloc, folder, name)?;
-    let again = joining::cut_at_slash_and_joined(alloc, folder)?;
-    let shown = file_names::shown(alloc, folder)?;
-    let len = folder.len();
-    let is_joined = path.len() == len.saturating_add(5) && file.len() == len.saturating_add(5);
-    if !is_joined || again.as_wtf8() != folder || shown.as_str().len() != len {
-        return Err(Fail::new(format_args!("a folder of {len} bytes")));
+    let len = folder.len().saturating_add(5);
+    expect_len(file_names::join(alloc, folder, name), len)?;
+    expect_len(file_names::with_extension(alloc, folder, name), len)?;
+    if !is_kept(alloc, folder)? {
+        return Err(Fail::new(format_args!("a path of {len} bytes")));
     }
     Ok(())
 }

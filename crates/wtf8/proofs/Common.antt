@@ -34,22 +34,22 @@ pub use Rattle.wtf8.specs.Building.{Step, Run, Append, IsNoTruncation, FindRoom}
 pub use Rattle.wtf8.specs.CodePoint.{number, numbers}
 pub use Rattle.wtf8.specs.Concatenation.{MeetsAsPair, is_pair, glue}
 pub use Rattle.wtf8.specs.Debug.{shown}
-pub use Rattle.wtf8.specs.Decoding.{point_of, points_of, units_left, decode_steps, ReadsAll}
-pub use Rattle.wtf8.specs.Differences.{IsFirstDifference, PairBegins}
+pub use Rattle.wtf8.specs.private.Decoding.{point_of, points_of, units_left, decode_steps, ReadsAll}
+pub use Rattle.wtf8.specs.private.Differences.{IsFirstDifference, PairBegins}
 pub use Rattle.wtf8.specs.Form.{bytes, encoding, IsClean, Reads, IsWellFormed, IsForm}
-pub use Rattle.wtf8.specs.Gains.{GainsUnits, FitsUnits, BeginsWithPoint}
+pub use Rattle.wtf8.specs.private.Gains.{GainsUnits, Becomes, Gains, BeginsWithPoint}
 pub use Rattle.wtf8.specs.Hex.{digit, hex_of, hex}
 pub use Rattle.wtf8.specs.OneForm.{bytes-injective, bytes_are_encodes, encoding_is_encode}
 pub use Rattle.wtf8.specs.Order.{Before}
 pub use Rattle.wtf8.specs.Position.{IsBoundary, IsFront, IsBack}
-pub use Rattle.wtf8.specs.SpacedHex.{spaced}
-pub use Rattle.wtf8.specs.Scan.{IsFirst, IsLeast, Nowhere}
-pub use Rattle.wtf8.specs.SurrogateSearch.{SurrogateAt}
+pub use Rattle.wtf8.specs.private.SpacedHex.{spaced}
+pub use Rattle.wtf8.specs.private.FirstPlace.{IsFirst, IsLeast, Nowhere}
+pub use Rattle.wtf8.specs.private.SurrogateSearch.{SurrogateAt}
 pub use Rattle.wtf8.specs.Surrogates.{AreScalar, replaced, lossy}
 pub use Rattle.wtf8.specs.Unicode.{units_of, units, IsSurrogate, IsLead, IsTrail, pair, IsCodePoint, IsUnit}
-pub use Rattle.wtf8.specs.UnitCounts.{IsPlaceOfUnit, CutsUnits, units_begun, all_units_begun}
-pub use Rattle.wtf8.specs.UnitParts.{IsKnownForm, DividesNoPair, AreAscii}
-pub use Rattle.wtf8.specs.UnitSteps.{held_in, behind_held, trail_by, unread_after}
+pub use Rattle.wtf8.specs.private.UnitCounts.{IsCounted, IsPlaceOfUnit, CutsUnits, units_begun, all_units_begun}
+pub use Rattle.wtf8.specs.private.UnitParts.{IsKnownForm, DividesNoPair, AreAscii}
+pub use Rattle.wtf8.specs.private.UnitSteps.{held_in, behind_held, trail_by, unread_after}
 pub use Rattle.wtf8.specs.UnitString.{UnitString}
 pub use Rattle.wtf8.specs.Units.{unread_units, Unread}
 pub use Rattle.wtf8.specs.View.{view_units, view_form}

@@ -23,7 +23,7 @@ DrainedPointsAreTaken = (s : Take (List ℕ)) (points : List CodePoint) → Drai
 abbrev pub DrainedPointsAreBehind : Type 0
 DrainedPointsAreBehind = (s : Skip (List ℕ)) (points : List CodePoint) → Drains (skip_steps StepsPoint) s points → numbers points ≡ drop (skip_count s) (skip_source s)
 
--- The same of what a whole collection was made of: it is what the iterator had left.
+-- What a whole collection was made of is what the iterator had left.
 abbrev pub CollectedPointsAreLeft : Type 0
 CollectedPointsAreLeft = (left : List ℕ) (points : List CodePoint) → DrainsIf StepsPoint ⊤ left points → numbers points ≡ left
 

@@ -14,7 +14,7 @@ pub record IsMark (w u : List ℕ) (k n : ℕ) : Type 0 where
   pub before : IsForm (take k w) (take n u)
   pub behind : IsForm (drop k w) (drop n u)
 
--- The same of a view.
+-- A position and a number of units are a mark of a view where they are one of its bytes and units.
 abbrev pub IsMarkOf : Wtf8 → UnitMark → Type 0
 IsMarkOf view mark = IsMark view.bytes.now (view_units view) mark.position mark.units
 

@@ -2,71 +2,13 @@
 ghost use Rattle.std.specs.List.{All};
 ghost use Rattle.std.specs.Prelude.{◌≡◌, ◌≢◌, ◌<◌, ◌≤◌, ◌+◌, ◌*◌, ◌^◌, ℕ, List, ◌∷◌, ◌++◌, length, take, slice_index, ◌↔◌};
 ghost use Rattle.std.specs.Str.{chars};
-ghost use Rattle.wtf8.specs.Laws.{
-  UnitsHaveOneReading,
-  ReadingsAreOfUnits,
-  UnitsHaveOneForm,
-  FormsAreOfOneList,
-  EqualFormsHaveEqualUnits,
-  NoEncodingBeginsAnother,
-  BytesBeginWithOnePoint,
-  EqualBytesAreOfEqualPoints,
-  ByteOrderIsPointOrder,
-  GlueMakesPair,
-  GlueKeepsOthers,
-  GlueReadsBoth,
-  GlueFormsBoth,
-  PairFormsBoth,
-  OthersFormBoth,
-  GlueIsAssociative,
-  EmptyFrontIsNeutral,
-  EmptyBackIsNeutral,
-  FrontAndBackAreWhole,
-  FirstUnitsAndRestAreWhole,
-};
-ghost use Rattle.wtf8.specs.PositionLaws.{
-  StartIsBoundary,
-  EndIsBoundary,
-  NoneIsBeyondEnd,
-  AsciiStandsAlone,
-  AsciiIsOneUnit,
-  AsciiIsNoOtherUnit,
-  FrontBoundariesAreOfWhole,
-  WholeBoundariesAreOfFront,
-  WholeBoundariesAreOfBack,
-  BackBoundariesAreOfWhole,
-  BeginningsAreNoLonger,
-  BothAreNoLonger,
-  PointsHaveOneToFourBytes,
-  ListsHaveLengths,
-};
-ghost use Rattle.wtf8.specs.StringLaws.{
-  EqualBuffersHaveEqualUnits,
-  EqualBufferAndViewHaveEqualUnits,
-  EqualViewsHaveEqualUnits,
-  StringsAreJoined,
-  StringsArePaired,
-  BytesCompareAsPoints,
-  ComparisonIsOrder,
-  TextsAreScalar,
-  RoomLeftIsFound,
-  ScalarsStay,
-  FormsAreOfBuffers,
-  FormsAreOfViews,
-  WhatFitsIsFound,
-  CharactersComeBack,
-};
+ghost use Rattle.wtf8.specs.Laws.{UnitsHaveOneReading, ReadingsAreOfUnits, UnitsHaveOneForm, FormsAreOfOneList, EqualFormsHaveEqualUnits, NoEncodingBeginsAnother, BytesBeginWithOnePoint, EqualBytesAreOfEqualPoints, ByteOrderIsPointOrder, GlueMakesPair, GlueKeepsOthers, GlueReadsBoth, GlueFormsBoth, PairFormsBoth, OthersFormBoth, GlueIsAssociative, EmptyFrontIsNeutral, EmptyBackIsNeutral, FrontAndBackAreWhole, FirstUnitsAndRestAreWhole};
+ghost use Rattle.wtf8.specs.PositionLaws.{StartIsBoundary, EndIsBoundary, NoneIsBeyondEnd, AsciiStandsAlone, AsciiIsOneUnit, AsciiIsNoOtherUnit, FrontBoundariesAreOfWhole, WholeBoundariesAreOfFront, WholeBoundariesAreOfBack, BackBoundariesAreOfWhole, BeginningsAreNoLonger, BothAreNoLonger, PointsHaveOneToFourBytes, ListsHaveLengths};
+ghost use Rattle.wtf8.specs.StringLaws.{EqualBuffersHaveEqualUnits, EqualBufferAndViewHaveEqualUnits, EqualViewsHaveEqualUnits, StringsAreJoined, StringsArePaired, BytesCompareAsPoints, ComparisonIsOrder, TextsAreScalar, RoomLeftIsFound, ScalarsStay, FormsAreOfBuffers, FormsAreOfViews, WhatFitsIsFound, CharactersComeBack};
 ghost use Rattle.wtf8.specs.Building.{CallsRunOnce, RunsAddUp, Run};
 ghost use Rattle.wtf8.specs.CodePoint.{number};
 ghost use Rattle.wtf8.specs.Form.{Reads, bytes, encoding};
-ghost use Rattle.wtf8.specs.PointLaws.{
-  DrainedPointsAreLeft,
-  DrainedPointsAreTaken,
-  DrainedPointsAreBehind,
-  CollectedPointsAreLeft,
-  CollectedPointsAreTaken,
-  CollectedPointsAreBehind,
-};
+ghost use Rattle.wtf8.specs.PointLaws.{DrainedPointsAreLeft, DrainedPointsAreTaken, DrainedPointsAreBehind, CollectedPointsAreLeft, CollectedPointsAreTaken, CollectedPointsAreBehind};
 ghost use Rattle.wtf8.specs.Position.{IsBoundary, IsBack};
 ghost use Rattle.wtf8.specs.Surrogates.{AreScalar, lossy};
 ghost use Rattle.wtf8.specs.UnitMark.{EqualCountsAreMarks, MarksStay};

@@ -3,7 +3,7 @@ use std::alloc::Global;
 use std::test::Fail;
 use wtf8::{Build, Wtf8Buf};
 use wtf8_tests::examples::{
-    JOINING, expect_dump, expect_units, joined, point_of_unit, points_of_units,
+    expect_dump, expect_units, joined, joining, point_of_unit, points_of_units,
 };
 
 /// Fails unless a list of calls, so many of them refused truncations, builds a string of these bytes.
@@ -36,7 +36,7 @@ fn expect_built(alloc: Global, units: &[u16], dump: &str) -> Result<(), Fail> {
 
 #[test]
 fn a_push_for_each_code_point_builds_the_string(rt: HostRuntime) -> Result<(), Fail> {
-    for (units, _, dump) in JOINING {
+    for (units, _, dump) in joining() {
         expect_built(rt.alloc(), units, dump)?;
     }
     Ok(())

@@ -303,3 +303,16 @@ fn spare_room_is_given_back(rt: HostRuntime) -> Result<(), Fail> {
     assert!(rt; text.is_empty());
     Ok(())
 }
+
+#[test]
+fn spare_room_is_given_back_at_each_length(rt: HostRuntime) -> Result<(), Fail> {
+    for length in 0..=70 {
+        let mut text = Wtf8Buf::with_capacity(rt.alloc(), 100)?;
+        for _ in 0..length {
+            text.push_char('a')?;
+        }
+        text.shrink_to_fit();
+        assert_eq!(rt; text.capacity(), length);
+    }
+    Ok(())
+}

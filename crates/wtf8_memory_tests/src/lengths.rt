@@ -29,6 +29,13 @@ const KINDS: [[u16; 8]; 8] = [
 /// Lengths beyond those that are tried one by one.
 const LONG: [usize; 4] = [1000, 5000, 20_000, 70_000];
 
+/// A unit and lengths at which strings of it have about 4,096 bytes and about 65,536.
+const ABOUT_POWERS: [(u16, &[usize]); 3] = [
+    (0x0061, &[4095, 4096, 4097, 65_535, 65_536, 65_537]),
+    (0x00E9, &[2047, 2048, 2049, 32_767, 32_768, 32_769]),
+    (0x3042, &[1365, 1366, 21_845, 21_846]),
+];
+
 /// A string with more room than it needs, and the units and the code points that it is made of.
 #[derive(Drop)]
 struct Sample<'a> {
@@ -79,9 +86,10 @@ enum Call {
     HexDump,
     AppendHexDump,
     AppendUnits,
+    AppendUnitsTwice,
 }
 
-const CALLS: [Call; 17] = [
+const CALLS: [Call; 18] = [
     Call::WithCapacity,
     Call::FromStr,
     Call::FromUnits,
@@ -99,6 +107,7 @@ const CALLS: [Call; 17] = [
     Call::HexDump,
     Call::AppendHexDump,
     Call::AppendUnits,
+    Call::AppendUnitsTwice,
 ];
 
 /// Pushes code points one after another.
@@ -140,6 +149,12 @@ fn appends(heap: Lent<'_>, call: Call, sample: &Sample<'_>) -> bool {
     }
 }
 
+/// Appends the sample's units to a list, and once more behind them.
+fn append_twice(units: &mut Vec<u16, Lent<'_>>, sample: &Sample<'_>) -> Result<(), AllocError> {
+    sample.text.as_wtf8().append_units(units)?;
+    sample.text.as_wtf8().append_units(units)
+}
+
 /// Whether the call is done.
 fn is_done(heap: Lent<'_>, call: Call, sample: &Sample<'_>) -> bool {
     let view = sample.text.as_wtf8();
@@ -153,6 +168,7 @@ fn is_done(heap: Lent<'_>, call: Call, sample: &Sample<'_>) -> bool {
         Call::HexDump => view.hex_dump(heap).is_ok(),
         Call::AppendHexDump => view.append_hex_dump(&mut Vec::new(heap)).is_ok(),
         Call::AppendUnits => view.append_units(&mut Vec::new(heap)).is_ok(),
+        Call::AppendUnitsTwice => append_twice(&mut Vec::new(heap), sample).is_ok(),
         _ => appends(heap, call, sample),
     }
 }
@@ -261,6 +277,13 @@ fn room_appended(count: usize) -> Room {
     room
 }
 
+/// The room of so many bytes that are appended to nothing, and of as many behind them.
+fn room_appended_twice(count: usize) -> Room {
+    let mut room = room_appended(count);
+    room.append(count);
+    room
+}
+
 /// What a call asks for, where that does not depend on how units are taken in blocks.
 fn room_after(call: Call, sample: &Sample<'_>) -> Option<Room> {
     let view = sample.text.as_wtf8();
@@ -284,6 +307,7 @@ fn room_after(call: Call, sample: &Sample<'_>) -> Option<Room> {
         Call::HexDump => Some(room_of(len.saturating_mul(3))),
         Call::AppendHexDump => Some(room_appended(len.saturating_mul(3))),
         Call::AppendUnits => Some(room_appended(count.saturating_mul(2))),
+        Call::AppendUnitsTwice => Some(room_appended_twice(count.saturating_mul(2))),
     }
 }
 
@@ -356,6 +380,16 @@ fn each_call_is_done_at_each_length(rt: HostRuntime) -> Result<(), Fail> {
         }
         for length in LONG {
             expect_done(rt.alloc(), kind, length)?;
+        }
+    }
+    Ok(())
+}
+
+#[test]
+fn each_call_is_done_about_powers_of_two(rt: HostRuntime) -> Result<(), Fail> {
+    for (unit, lengths) in ABOUT_POWERS {
+        for length in lengths {
+            expect_done(rt.alloc(), &[unit; 8], *length)?;
         }
     }
     Ok(())

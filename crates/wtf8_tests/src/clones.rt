@@ -1,6 +1,6 @@
 // Clones of the iterators, made before each item and after the end, against what is left by the table: the items, and the
 // hints at each moment.
-use crate::examples::{JOINING, TEXT, TEXT_ROW, joined};
+use crate::examples::{TEXT, TEXT_ROW, joined, joining};
 use std::alloc::{AllocError, Global};
 use std::test::Fail;
 use wtf8::{CodePoint, IllFormedUtf16CodeUnits, Wtf8, Wtf8Buf, Wtf8CodePoints};
@@ -153,7 +153,7 @@ fn is_iterated(
 
 #[test]
 fn clones_go_on_at_each_moment(rt: HostRuntime) -> Result<(), Fail> {
-    for (units, numbers, dump) in JOINING {
+    for (units, numbers, dump) in joining() {
         let text = joined(rt.alloc(), units)?;
         let is_well = is_iterated(rt.alloc(), text.as_wtf8(), units, numbers)?;
         assert!(rt; is_well, "the string {dump}");

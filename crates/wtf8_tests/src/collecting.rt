@@ -1,6 +1,6 @@
 // Strings that iterators of code points build.
 use crate::examples::{
-    JOINING, TEXT, TEXT_DUMP, expect_dump, expect_units, joined, point_of_unit, points_of_units,
+    TEXT, TEXT_DUMP, expect_dump, expect_units, joined, joining, point_of_unit, points_of_units,
     pushed,
 };
 use std::alloc::{AllocError, Global};
@@ -9,7 +9,7 @@ use wtf8::{CodePoint, Wtf8, Wtf8Buf};
 
 #[test]
 fn collected_code_points_join(rt: HostRuntime) -> Result<(), Fail> {
-    for (units, _, dump) in JOINING {
+    for (units, _, dump) in joining() {
         let text = Wtf8Buf::from_iter(rt.alloc(), points_of_units(rt.alloc(), units)?)?;
         expect_dump(rt.alloc(), text.as_wtf8(), dump)?;
         expect_units(rt.alloc(), text.as_wtf8(), units)?;
@@ -26,9 +26,9 @@ fn extended(alloc: Global, points: &[CodePoint], at: usize) -> Result<Wtf8Buf<Gl
 
 #[test]
 fn a_string_is_extended_from_each_place(rt: HostRuntime) -> Result<(), Fail> {
-    for (units, _, dump) in JOINING {
+    for (units, _, dump) in joining() {
         let points = points_of_units(rt.alloc(), units)?;
-        for at in 0..units.len() + 1 {
+        for at in 0..units.len().saturating_add(1) {
             let text = extended(rt.alloc(), &points, at)?;
             expect_dump(rt.alloc(), text.as_wtf8(), dump)?;
         }
@@ -38,7 +38,7 @@ fn a_string_is_extended_from_each_place(rt: HostRuntime) -> Result<(), Fail> {
 
 #[test]
 fn code_points_of_a_string_give_it_again(rt: HostRuntime) -> Result<(), Fail> {
-    for (units, _, dump) in JOINING {
+    for (units, _, dump) in joining() {
         let text = joined(rt.alloc(), units)?;
         let again = Wtf8Buf::from_iter(rt.alloc(), text.as_wtf8().code_points())?;
         expect_dump(rt.alloc(), again.as_wtf8(), dump)?;

@@ -1,5 +1,5 @@
 // Strings that are made of texts and of units.
-use crate::examples::{JOINING, TEXT, TEXT_DUMP, expect_dump, expect_units, pushed};
+use crate::examples::{TEXT, TEXT_DUMP, expect_dump, expect_units, joining, pushed};
 use std::alloc::{AllocError, Global};
 use std::test::Fail;
 use wtf8::{Wtf8, Wtf8Buf};
@@ -62,7 +62,7 @@ fn units_come_back_from_a_string_of_them(rt: HostRuntime) -> Result<(), Fail> {
     for (units, dump) in cases {
         expect_made(rt.alloc(), units, dump)?;
     }
-    for (units, _, dump) in JOINING {
+    for (units, _, dump) in joining() {
         expect_made(rt.alloc(), units, dump)?;
     }
     Ok(())

@@ -1,45 +1,45 @@
 // What strings are displayed as: with a width, a fill and a precision, and through a sink that refuses a write.
 use crate::examples::pushed;
-use crate::sinks::{Sink, long_text};
-use std::alloc::Global;
+use crate::sinks::{Sink, is_written, long_text};
+use std::alloc::{AllocError, Global};
 use std::fmt;
 use std::fmt::{Display, Write};
 use std::test::Fail;
 
 /// Code points of strings, and what is displayed of them by `{}`, `{:>8}`, `{:*^8.1}`, `{:*<6.2}` and `{:+4}`. Each text is
 /// that of the Rust library's own type of such strings.
-const STYLED: [(&[u32], [&str; 5]); 6] = [
-    (&[], ["", "        ", "********", "******", "    "]),
-    (
-        &[0x61, 0x62, 0x63],
-        ["abc", "     abc", "***a****", "ab****", "abc "],
-    ),
-    (
-        &[0xD83D, 0xDCA9],
-        ["💩", "       💩", "***💩****", "💩*****", "💩   "],
-    ),
-    (&[0xD83D], ["\u{FFFD}"; 5]),
-    (&[0x61, 0xD83D, 0x62], ["a\u{FFFD}b"; 5]),
-    (&[0xDCA9, 0xD83D], ["\u{FFFD}\u{FFFD}"; 5]),
-];
+fn styled() -> [(&'static [u32], [&'static str; 5]); 6] {
+    [
+        (&[], ["", "        ", "********", "******", "    "]),
+        (
+            &[0x61, 0x62, 0x63],
+            ["abc", "     abc", "***a****", "ab****", "abc "],
+        ),
+        (
+            &[0xD83D, 0xDCA9],
+            ["💩", "       💩", "***💩****", "💩*****", "💩   "],
+        ),
+        (&[0xD83D], ["\u{FFFD}"; 5]),
+        (&[0x61, 0xD83D, 0x62], ["a\u{FFFD}b"; 5]),
+        (&[0xDCA9, 0xD83D], ["\u{FFFD}\u{FFFD}"; 5]),
+    ]
+}
 
 /// Whether a value is displayed so.
-fn shows<T: Display>(alloc: Global, value: &T, expected: [&str; 5]) -> Result<bool, Fail> {
-    Ok(
-        format!(in alloc; "{value}")?.as_str() == expected[0]
-            && format!(in alloc; "{value:>8}")?.as_str() == expected[1]
-            && format!(in alloc; "{value:*^8.1}")?.as_str() == expected[2]
-            && format!(in alloc; "{value:*<6.2}")?.as_str() == expected[3]
-            && format!(in alloc; "{value:+4}")?.as_str() == expected[4],
-    )
+fn shows<T: Display>(alloc: Global, value: &T, expected: [&str; 5]) -> bool {
+    is_written(format!(in alloc; "{value}"), expected[0])
+        && is_written(format!(in alloc; "{value:>8}"), expected[1])
+        && is_written(format!(in alloc; "{value:*^8.1}"), expected[2])
+        && is_written(format!(in alloc; "{value:*<6.2}"), expected[3])
+        && is_written(format!(in alloc; "{value:+4}"), expected[4])
 }
 
 #[test]
 fn a_text_is_filled_and_a_lossy_text_is_not(rt: HostRuntime) -> Result<(), Fail> {
-    for (numbers, expected) in STYLED {
+    for (numbers, expected) in styled() {
         let text = pushed(rt.alloc(), numbers)?;
-        assert!(rt; shows(rt.alloc(), &text, expected)?, "{text:?}");
-        assert!(rt; shows(rt.alloc(), &text.as_wtf8(), expected)?, "{text:?}");
+        assert!(rt; shows(rt.alloc(), &text, expected), "{numbers:?}");
+        assert!(rt; shows(rt.alloc(), &text.as_wtf8(), expected), "{numbers:?}");
     }
     Ok(())
 }
@@ -63,41 +63,49 @@ impl Write for Parts {
     }
 }
 
+/// So many parts, each with a bar behind it.
+fn with_bars(alloc: Global, parts: &[&str], left: usize) -> Result<String, AllocError> {
+    let mut text = String::new(alloc);
+    for part in parts.iter().take(left) {
+        text.push_str(part)?;
+        text.push_str("|")?;
+    }
+    Ok(text)
+}
+
 /// Whether a sink that refuses the write after so many takes the parts of a value before it and no more, and the call fails
 /// where there are more parts.
 fn takes<T: Display>(alloc: Global, value: &T, left: usize, parts: &[&str]) -> Result<bool, Fail> {
     let taken = String::new(alloc);
     let mut sink = Parts { taken, left };
     let is_ok = write!(sink, "{value}").is_ok();
-    let mut expected = String::new(alloc);
-    for part in parts.iter().take(left) {
-        expected.push_str(part)?;
-        expected.push_str("|")?;
-    }
+    let expected = with_bars(alloc, parts, left)?;
     Ok(sink.taken == expected && is_ok == (parts.len() <= left))
 }
 
 /// Code points of strings, and the parts in which the Rust library's own type displays them.
-const PARTS: [(&[u32], &[&str]); 5] = [
-    (&[0x61, 0x62], &["ab"]),
-    (&[0xD83D, 0xDCA9], &["💩"]),
-    (&[0xD83D], &["", "\u{FFFD}", ""]),
-    (&[0x61, 0xD83D, 0x62], &["a", "\u{FFFD}", "b"]),
-    (
-        &[0x61, 0xDCA9, 0xD83D, 0x62],
-        &["a", "\u{FFFD}", "", "\u{FFFD}", "b"],
-    ),
-];
+fn parts_rows() -> [(&'static [u32], &'static [&'static str]); 5] {
+    [
+        (&[0x61, 0x62], &["ab"]),
+        (&[0xD83D, 0xDCA9], &["💩"]),
+        (&[0xD83D], &["", "\u{FFFD}", ""]),
+        (&[0x61, 0xD83D, 0x62], &["a", "\u{FFFD}", "b"]),
+        (
+            &[0x61, 0xDCA9, 0xD83D, 0x62],
+            &["a", "\u{FFFD}", "", "\u{FFFD}", "b"],
+        ),
+    ]
+}
 
 #[test]
 fn a_lossy_text_is_written_in_parts(rt: HostRuntime) -> Result<(), Fail> {
-    for (numbers, parts) in PARTS {
+    for (numbers, parts) in parts_rows() {
         let text = pushed(rt.alloc(), numbers)?;
-        for left in 0..parts.len() + 2 {
-            assert!(rt; takes(rt.alloc(), &text, left, parts)?, "{text:?}");
+        for left in 0..parts.len().saturating_add(2) {
+            assert!(rt; takes(rt.alloc(), &text, left, parts)?, "{numbers:?}");
             assert!(rt;
                 takes(rt.alloc(), &text.as_wtf8(), left, parts)?,
-                "{text:?}"
+                "{numbers:?}"
             );
         }
     }
@@ -144,7 +152,7 @@ fn expect_string_ends(alloc: Global, numbers: &[u32], expected: [&str; 5]) -> Re
 
 #[test]
 fn a_text_ends_at_a_refused_write(rt: HostRuntime) -> Result<(), Fail> {
-    for (numbers, expected) in STYLED {
+    for (numbers, expected) in styled() {
         expect_string_ends(rt.alloc(), numbers, expected)?;
     }
     Ok(())

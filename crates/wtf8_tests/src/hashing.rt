@@ -1,5 +1,5 @@
 // What values feed a hasher.
-use crate::examples::{EDGES, pushed};
+use crate::examples::{edges, pushed};
 use std::alloc::Global;
 use std::cell::RefCell;
 use std::hash::{Hash, Hasher};
@@ -38,16 +38,18 @@ fn fed_by<T: Hash>(alloc: Global, value: &T) -> Vec<u8> {
 }
 
 /// Code points of strings, and what the strings feed a hasher: their bytes, and then an end.
-const STRINGS: [(&[u32], &[u8]); 4] = [
-    (&[], &[0, 1, 0xFE]),
-    (&[0x61], &[1, 0x61, 1, 0xFE]),
-    (&[0xD83D, 0xDCA9], &[4, 0xF0, 0x9F, 0x92, 0xA9, 1, 0xFE]),
-    (&[0xD800], &[3, 0xED, 0xA0, 0x80, 1, 0xFE]),
-];
+fn strings() -> [(&'static [u32], &'static [u8]); 4] {
+    [
+        (&[], &[0, 1, 0xFE]),
+        (&[0x61], &[1, 0x61, 1, 0xFE]),
+        (&[0xD83D, 0xDCA9], &[4, 0xF0, 0x9F, 0x92, 0xA9, 1, 0xFE]),
+        (&[0xD800], &[3, 0xED, 0xA0, 0x80, 1, 0xFE]),
+    ]
+}
 
 #[test]
 fn a_hasher_is_fed_the_bytes_and_an_end(rt: HostRuntime) -> Result<(), Fail> {
-    for (numbers, expected) in STRINGS {
+    for (numbers, expected) in strings() {
         let text = pushed(rt.alloc(), numbers)?;
         assert_eq!(rt; fed_by(rt.alloc(), &text).as_slice(), expected);
         assert_eq!(rt; fed_by(rt.alloc(), &text.as_wtf8()).as_slice(), expected);
@@ -57,7 +59,7 @@ fn a_hasher_is_fed_the_bytes_and_an_end(rt: HostRuntime) -> Result<(), Fail> {
 
 #[test]
 fn a_code_point_feeds_what_its_number_feeds(rt: HostRuntime) -> Result<(), Fail> {
-    for (number, _, _) in EDGES {
+    for (number, _, _) in edges() {
         let point = CodePoint::from_u32(number).ok_or("a code point")?;
         let expected = fed_by(rt.alloc(), &number);
         assert_eq!(rt; expected.len(), 5);

@@ -39,43 +39,45 @@ fn point_steps(
     Ok(steps)
 }
 
-const UNIT_STEPS: [(&[u32], &[Step<u16>]); 4] = [
-    (
-        &[0x61, 0xE9, 0x20, 0x1F4A9],
-        &[
-            (2, Some(16), Some(0x61)),
-            (2, Some(14), Some(0xE9)),
-            (2, Some(10), Some(0x20)),
-            (1, Some(8), Some(0xD83D)),
-            (1, Some(1), Some(0xDCA9)),
-            (0, Some(0), None),
-            (0, Some(0), None),
-        ],
-    ),
-    (
-        &[0x10000],
-        &[
-            (1, Some(8), Some(0xD800)),
-            (1, Some(1), Some(0xDC00)),
-            (0, Some(0), None),
-            (0, Some(0), None),
-        ],
-    ),
-    (
-        &[0x1F4A9, 0x61],
-        &[
-            (2, Some(10), Some(0xD83D)),
-            (2, Some(3), Some(0xDCA9)),
-            (1, Some(2), Some(0x61)),
-            (0, Some(0), None),
-        ],
-    ),
-    (&[], &[(0, Some(0), None), (0, Some(0), None)]),
-];
+fn unit_rows() -> [(&'static [u32], &'static [Step<u16>]); 4] {
+    [
+        (
+            &[0x61, 0xE9, 0x20, 0x1F4A9],
+            &[
+                (2, Some(16), Some(0x61)),
+                (2, Some(14), Some(0xE9)),
+                (2, Some(10), Some(0x20)),
+                (1, Some(8), Some(0xD83D)),
+                (1, Some(1), Some(0xDCA9)),
+                (0, Some(0), None),
+                (0, Some(0), None),
+            ],
+        ),
+        (
+            &[0x10000],
+            &[
+                (1, Some(8), Some(0xD800)),
+                (1, Some(1), Some(0xDC00)),
+                (0, Some(0), None),
+                (0, Some(0), None),
+            ],
+        ),
+        (
+            &[0x1F4A9, 0x61],
+            &[
+                (2, Some(10), Some(0xD83D)),
+                (2, Some(3), Some(0xDCA9)),
+                (1, Some(2), Some(0x61)),
+                (0, Some(0), None),
+            ],
+        ),
+        (&[], &[(0, Some(0), None), (0, Some(0), None)]),
+    ]
+}
 
 #[test]
 fn units_come_with_hints_at_each_moment(rt: HostRuntime) -> Result<(), Fail> {
-    for (numbers, expected) in UNIT_STEPS {
+    for (numbers, expected) in unit_rows() {
         let text = pushed(rt.alloc(), numbers)?;
         let mut units = text.as_wtf8().to_ill_formed_utf16();
         let steps = unit_steps(rt.alloc(), &mut units, expected.len())?;
@@ -84,28 +86,30 @@ fn units_come_with_hints_at_each_moment(rt: HostRuntime) -> Result<(), Fail> {
     Ok(())
 }
 
-const POINT_STEPS: [(&[u32], &[Step<u32>]); 3] = [
-    (
-        &[0x61, 0xE9, 0x20, 0x1F4A9],
-        &[
-            (2, Some(8), Some(0x61)),
-            (2, Some(7), Some(0xE9)),
-            (2, Some(5), Some(0x20)),
-            (1, Some(4), Some(0x1F4A9)),
-            (0, Some(0), None),
-            (0, Some(0), None),
-        ],
-    ),
-    (
-        &[0x1F4A9],
-        &[(1, Some(4), Some(0x1F4A9)), (0, Some(0), None)],
-    ),
-    (&[], &[(0, Some(0), None), (0, Some(0), None)]),
-];
+fn point_rows() -> [(&'static [u32], &'static [Step<u32>]); 3] {
+    [
+        (
+            &[0x61, 0xE9, 0x20, 0x1F4A9],
+            &[
+                (2, Some(8), Some(0x61)),
+                (2, Some(7), Some(0xE9)),
+                (2, Some(5), Some(0x20)),
+                (1, Some(4), Some(0x1F4A9)),
+                (0, Some(0), None),
+                (0, Some(0), None),
+            ],
+        ),
+        (
+            &[0x1F4A9],
+            &[(1, Some(4), Some(0x1F4A9)), (0, Some(0), None)],
+        ),
+        (&[], &[(0, Some(0), None), (0, Some(0), None)]),
+    ]
+}
 
 #[test]
 fn code_points_come_with_hints_at_each_moment(rt: HostRuntime) -> Result<(), Fail> {
-    for (numbers, expected) in POINT_STEPS {
+    for (numbers, expected) in point_rows() {
         let text = pushed(rt.alloc(), numbers)?;
         let mut points = text.as_wtf8().code_points();
         let steps = point_steps(rt.alloc(), &mut points, expected.len())?;

@@ -1,5 +1,5 @@
 // Equality and order, in sorts and in maps.
-use crate::examples::{EDGES, pushed};
+use crate::examples::{edges, pushed};
 use std::alloc::{AllocError, Global};
 use std::cmp::Ordering;
 use std::collections::{BTreeMap, HashMap};
@@ -7,28 +7,40 @@ use std::test::Fail;
 use wtf8::{CodePoint, Wtf8, Wtf8Buf};
 
 /// The code points of strings, in the order of the strings.
-const IN_ORDER: [&[u32]; 14] = [
-    &[],
-    &[0x0000],
-    &[0x0061],
-    &[0x0061, 0x0000],
-    &[0x007F],
-    &[0x0080],
-    &[0xD7FF],
-    &[0xD800],
-    &[0xD83D],
-    &[0xDFFF],
-    &[0xE000],
-    &[0xFFFF],
-    &[0x10000],
-    &[0xD83D, 0xDCA9],
-];
+fn table() -> [&'static [u32]; 14] {
+    [
+        &[],
+        &[0x0000],
+        &[0x0061],
+        &[0x0061, 0x0000],
+        &[0x007F],
+        &[0x0080],
+        &[0xD7FF],
+        &[0xD800],
+        &[0xD83D],
+        &[0xDFFF],
+        &[0xE000],
+        &[0xFFFF],
+        &[0x10000],
+        &[0xD83D, 0xDCA9],
+    ]
+}
 
-/// The strings of the table, the first one, then each fifth one behind the one before, round and round.
+/// The rows of the table, the first one, then each fifth one behind the one before, round and round.
+fn shuffled_table() -> [&'static [u32]; 14] {
+    let rows = table();
+    let mut shuffled = rows;
+    for (step, row) in shuffled.iter_mut().enumerate() {
+        *row = rows[step.wrapping_mul(5) % 14];
+    }
+    shuffled
+}
+
+/// The strings of these rows.
 fn shuffled(alloc: Global) -> Result<Vec<Wtf8Buf<Global>>, Fail> {
     let mut strings = Vec::new(alloc);
-    for step in 0..IN_ORDER.len() {
-        strings.push(pushed(alloc, IN_ORDER[step * 5 % IN_ORDER.len()])?)?;
+    for numbers in shuffled_table() {
+        strings.push(pushed(alloc, numbers)?)?;
     }
     Ok(strings)
 }
@@ -36,7 +48,7 @@ fn shuffled(alloc: Global) -> Result<Vec<Wtf8Buf<Global>>, Fail> {
 /// The strings of the table, in its order.
 fn in_order(alloc: Global) -> Result<Vec<Wtf8Buf<Global>>, Fail> {
     let mut strings = Vec::new(alloc);
-    for numbers in IN_ORDER {
+    for numbers in table() {
         strings.push(pushed(alloc, numbers)?)?;
     }
     Ok(strings)
@@ -47,8 +59,17 @@ fn compare_so<T: Ord>(left: &T, right: &T, order: Ordering) -> bool {
     left.cmp(right) == order
         && left.partial_cmp(right) == Some(order)
         && (left == right) == (order == Ordering::Equal)
-        && (left < right) == (order == Ordering::Less)
-        && (left <= right) == (order != Ordering::Greater)
+        && are_less_so(left, right, order)
+}
+
+/// Whether one value is less than another one, or not above it, by this order.
+fn are_less_so<T: Ord>(left: &T, right: &T, order: Ordering) -> bool {
+    (left < right) == (order == Ordering::Less) && (left <= right) == (order != Ordering::Greater)
+}
+
+/// Whether two strings compare so, and so do their views.
+fn strings_compare_so(left: &Wtf8Buf<Global>, right: &Wtf8Buf<Global>, order: Ordering) -> bool {
+    compare_so(left, right, order) && compare_so(&left.as_wtf8(), &right.as_wtf8(), order)
 }
 
 #[test]
@@ -57,27 +78,30 @@ fn strings_have_the_order_of_their_code_points(rt: HostRuntime) -> Result<(), Fa
     for (left, first) in strings.iter().enumerate() {
         for (right, second) in strings.iter().enumerate() {
             let order = left.cmp(&right);
-            assert!(rt; compare_so(first, second, order), "{left} and {right}");
-            let (first, second) = (first.as_wtf8(), second.as_wtf8());
-            assert!(rt; compare_so(&first, &second, order), "{left} and {right}");
-        }
-    }
-    Ok(())
-}
-
-#[test]
-fn code_points_have_the_order_of_their_numbers(rt: HostRuntime) -> Result<(), Fail> {
-    for (left, _, _) in EDGES {
-        for (right, _, _) in EDGES {
-            let first = CodePoint::from_u32(left).ok_or("a code point")?;
-            let second = CodePoint::from_u32(right).ok_or("a code point")?;
             assert!(rt;
-                compare_so(&first, &second, left.cmp(&right)),
+                strings_compare_so(first, second, order),
                 "{left} and {right}"
             );
         }
     }
     Ok(())
+}
+
+/// Whether the code points of two numbers compare as these.
+fn compare_as_numbers(left: u32, right: u32) -> bool {
+    match (CodePoint::from_u32(left), CodePoint::from_u32(right)) {
+        (Some(first), Some(second)) => compare_so(&first, &second, left.cmp(&right)),
+        _ => false,
+    }
+}
+
+#[test]
+fn code_points_have_the_order_of_their_numbers(rt: HostRuntime) {
+    for (left, _, _) in edges() {
+        for (right, _, _) in edges() {
+            assert!(rt; compare_as_numbers(left, right), "{left} and {right}");
+        }
+    }
 }
 
 #[test]
@@ -111,37 +135,70 @@ fn views_are_sorted(rt: HostRuntime) -> Result<(), Fail> {
     Ok(())
 }
 
-#[test]
-fn strings_are_found_in_an_ordered_map(rt: HostRuntime) -> Result<(), Fail> {
-    let mut map = BTreeMap::new(rt.alloc());
-    for (place, string) in shuffled(rt.alloc())?.into_iter().enumerate() {
+type Ordered = BTreeMap<Wtf8Buf<Global>, usize>;
+
+/// The places of the shuffled strings, in an ordered map.
+fn ordered(alloc: Global) -> Result<Ordered, Fail> {
+    let mut map = BTreeMap::new(alloc);
+    for (place, string) in shuffled(alloc)?.into_iter().enumerate() {
         map.insert(string, place)?;
     }
-    let expected = in_order(rt.alloc())?;
-    assert_eq!(rt; map.len(), expected.len());
+    Ok(map)
+}
+
+/// Whether the keys of an ordered map are those of the table, in its order.
+fn has_keys_in_order(alloc: Global, map: &Ordered) -> Result<bool, Fail> {
+    let expected = in_order(alloc)?;
     for (found, string) in map.keys().zip(&expected) {
-        assert!(rt; found == string, "{string:?}");
+        if found != string {
+            return Ok(false);
+        }
     }
-    for (place, string) in shuffled(rt.alloc())?.iter().enumerate() {
-        assert!(rt; map.get(string) == Some(&place), "{string:?}");
+    Ok(map.len() == expected.len())
+}
+
+/// The place of the string of these code points in an ordered map.
+fn ordered_place(alloc: Global, map: &Ordered, numbers: &[u32]) -> Result<Option<usize>, Fail> {
+    let string = pushed(alloc, numbers)?;
+    Ok(map.get(&string).copied())
+}
+
+#[test]
+fn strings_are_found_in_an_ordered_map(rt: HostRuntime) -> Result<(), Fail> {
+    let map = ordered(rt.alloc())?;
+    assert!(rt; has_keys_in_order(rt.alloc(), &map)?);
+    for (place, numbers) in shuffled_table().iter().enumerate() {
+        assert_eq!(rt; ordered_place(rt.alloc(), &map, numbers)?, Some(place));
     }
-    let absent = pushed(rt.alloc(), &[0xDCA9, 0xD83D])?;
-    assert!(rt; map.get(&absent).is_none());
+    assert_eq!(rt; ordered_place(rt.alloc(), &map, &[0xDCA9, 0xD83D])?, None);
     Ok(())
+}
+
+type Hashed = HashMap<Wtf8Buf<Global>, usize>;
+
+/// The places of the shuffled strings, in a map by hash.
+fn hashed(alloc: Global) -> Result<Hashed, Fail> {
+    let mut map = HashMap::new(alloc);
+    for (place, string) in shuffled(alloc)?.into_iter().enumerate() {
+        map.insert(string, place)?;
+    }
+    Ok(map)
+}
+
+/// The place of the string of these code points in a map by hash.
+fn hashed_place(alloc: Global, map: &Hashed, numbers: &[u32]) -> Result<Option<usize>, Fail> {
+    let string = pushed(alloc, numbers)?;
+    Ok(map.get(&string).copied())
 }
 
 #[test]
 fn strings_are_found_in_a_hashed_map(rt: HostRuntime) -> Result<(), Fail> {
-    let mut map = HashMap::new(rt.alloc());
-    for (place, string) in shuffled(rt.alloc())?.into_iter().enumerate() {
-        map.insert(string, place)?;
+    let map = hashed(rt.alloc())?;
+    assert_eq!(rt; map.len(), table().len());
+    for (place, numbers) in shuffled_table().iter().enumerate() {
+        assert_eq!(rt; hashed_place(rt.alloc(), &map, numbers)?, Some(place));
     }
-    assert_eq!(rt; map.len(), IN_ORDER.len());
-    for (place, string) in shuffled(rt.alloc())?.iter().enumerate() {
-        assert!(rt; map.get(string) == Some(&place), "{string:?}");
-    }
-    let absent = pushed(rt.alloc(), &[0xDCA9, 0xD83D])?;
-    assert!(rt; map.get(&absent).is_none());
+    assert_eq!(rt; hashed_place(rt.alloc(), &map, &[0xDCA9, 0xD83D])?, None);
     Ok(())
 }
 

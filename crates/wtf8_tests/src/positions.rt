@@ -1,5 +1,5 @@
 // Positions in a string, and what is cut at them.
-use crate::examples::{JOINING, TEXT, TEXT_ROW, expect_dump, joined, pushed};
+use crate::examples::{TEXT, TEXT_ROW, expect_dump, joined, joining, pushed};
 use std::alloc::{AllocError, Allocator, Global};
 use std::test::Fail;
 use wtf8::{CodePoint, Wtf8, Wtf8Buf};
@@ -78,7 +78,7 @@ fn has_boundaries(text: Wtf8<'_>, sums: &[usize]) -> bool {
 
 #[test]
 fn code_points_begin_at_the_boundaries(rt: HostRuntime) -> Result<(), Fail> {
-    for (units, numbers, dump) in JOINING {
+    for (units, numbers, dump) in joining() {
         let text = joined(rt.alloc(), units)?;
         let sums = sums_of(rt.alloc(), numbers)?;
         assert!(rt; has_boundaries(text.as_wtf8(), &sums), "{dump}");
@@ -131,18 +131,25 @@ fn parts_make(alloc: Global, text: Wtf8<'_>) -> Result<(bool, usize), AllocError
 
 #[test]
 fn the_parts_at_each_boundary_make_the_whole(rt: HostRuntime) -> Result<(), Fail> {
-    for (units, numbers, dump) in JOINING {
+    for (units, numbers, dump) in joining() {
         let text = joined(rt.alloc(), units)?;
         let made = parts_make(rt.alloc(), text.as_wtf8())?;
-        assert_eq!(rt; made, (true, numbers.len() + 1), "{dump}");
+        assert_eq!(rt; made, (true, numbers.len().saturating_add(1)), "{dump}");
     }
     assert_eq!(rt; parts_make(rt.alloc(), Wtf8::from_str(TEXT))?, (true, 5));
     Ok(())
 }
 
+/// Fails unless there is a part, and it has these bytes.
+fn expect_part(alloc: Global, part: Option<Wtf8<'_>>, dump: &str) -> Result<(), Fail> {
+    match part {
+        Some(part) => expect_dump(alloc, part, dump),
+        None => Err(Fail::new("no boundaries")),
+    }
+}
+
 #[test]
 fn slices_hold_what_stands_between(rt: HostRuntime) -> Result<(), Fail> {
-    let text = Wtf8::from_str(TEXT);
     for (begin, end, dump) in [
         (0, 0, ""),
         (1, 4, "C3 A9 20"),
@@ -150,22 +157,28 @@ fn slices_hold_what_stands_between(rt: HostRuntime) -> Result<(), Fail> {
         (0, 8, "61 C3 A9 20 F0 9F 92 A9"),
         (8, 8, ""),
     ] {
-        let found = cut_out(text, begin, end).ok_or("boundaries")?;
-        expect_dump(rt.alloc(), found, dump)?;
+        let found = cut_out(Wtf8::from_str(TEXT), begin, end);
+        expect_part(rt.alloc(), found, dump)?;
     }
+    let alone = pushed(rt.alloc(), &[0xD83D, 0x20, 0xDCA9])?;
+    expect_part(rt.alloc(), cut_out(alone.as_wtf8(), 3, 4), "20")
+}
+
+#[test]
+fn slices_hold_what_stands_on_one_side(rt: HostRuntime) -> Result<(), Fail> {
     for (begin, dump) in [
         (0, "61 C3 A9 20 F0 9F 92 A9"),
         (1, "C3 A9 20 F0 9F 92 A9"),
         (8, ""),
     ] {
-        expect_dump(rt.alloc(), cut_from(text, begin).ok_or("a boundary")?, dump)?;
+        let found = cut_from(Wtf8::from_str(TEXT), begin);
+        expect_part(rt.alloc(), found, dump)?;
     }
     for (end, dump) in [(0, ""), (4, "61 C3 A9 20"), (8, "61 C3 A9 20 F0 9F 92 A9")] {
-        expect_dump(rt.alloc(), cut_to(text, end).ok_or("a boundary")?, dump)?;
+        let found = cut_to(Wtf8::from_str(TEXT), end);
+        expect_part(rt.alloc(), found, dump)?;
     }
-    let alone = pushed(rt.alloc(), &[0xD83D, 0x20, 0xDCA9])?;
-    let middle = cut_out(alone.as_wtf8(), 3, 4).ok_or("boundaries")?;
-    expect_dump(rt.alloc(), middle, "20")
+    Ok(())
 }
 
 #[test]

@@ -1,6 +1,6 @@
 // Strings that pushes build.
 use crate::examples::{
-    EDGES, JOINING, TEXT, TEXT_DUMP, TEXT_ROW, expect_dump, expect_numbers, expect_units, joined,
+    TEXT, TEXT_DUMP, TEXT_ROW, edges, expect_dump, expect_numbers, expect_units, joined, joining,
     pushed,
 };
 use std::alloc::Global;
@@ -9,7 +9,7 @@ use wtf8::{CodePoint, Wtf8, Wtf8Buf};
 
 #[test]
 fn a_pushed_code_point_has_its_bytes_and_units(rt: HostRuntime) -> Result<(), Fail> {
-    for (number, dump, units) in EDGES {
+    for (number, dump, units) in edges() {
         let text = pushed(rt.alloc(), &[number])?;
         expect_dump(rt.alloc(), text.as_wtf8(), dump)?;
         expect_units(rt.alloc(), text.as_wtf8(), units)?;
@@ -19,7 +19,7 @@ fn a_pushed_code_point_has_its_bytes_and_units(rt: HostRuntime) -> Result<(), Fa
 
 #[test]
 fn a_trail_joins_a_lead_that_is_pushed_before_it(rt: HostRuntime) -> Result<(), Fail> {
-    for (units, numbers, dump) in JOINING {
+    for (units, numbers, dump) in joining() {
         let text = joined(rt.alloc(), units)?;
         expect_dump(rt.alloc(), text.as_wtf8(), dump)?;
         expect_units(rt.alloc(), text.as_wtf8(), units)?;
@@ -41,7 +41,7 @@ fn appended(alloc: Global, units: &[u16]) -> Result<Wtf8Buf<Global>, Fail> {
 
 #[test]
 fn a_view_joins_the_lead_before_it(rt: HostRuntime) -> Result<(), Fail> {
-    for (units, _, dump) in JOINING {
+    for (units, _, dump) in joining() {
         let text = appended(rt.alloc(), units)?;
         expect_dump(rt.alloc(), text.as_wtf8(), dump)?;
         expect_units(rt.alloc(), text.as_wtf8(), units)?;
@@ -79,7 +79,7 @@ fn expect_built(alloc: Global, units: &[u16], dump: &str) -> Result<(), Fail> {
 
 #[test]
 fn pieces_cut_at_any_units_build_the_whole(rt: HostRuntime) -> Result<(), Fail> {
-    for (units, _, dump) in JOINING {
+    for (units, _, dump) in joining() {
         expect_built(rt.alloc(), units, dump)?;
     }
     let (units, _, dump) = TEXT_ROW;
@@ -87,19 +87,21 @@ fn pieces_cut_at_any_units_build_the_whole(rt: HostRuntime) -> Result<(), Fail> 
 }
 
 /// The units of a string, those of a view that is appended, and the bytes and their number.
-const GLUED: [(&[u16], &[u16], &str, usize); 7] = [
-    (&[0x61, 0xD83D], &[0xDCA9, 0x62], "61 F0 9F 92 A9 62", 6),
-    (&[0xD83D], &[0xDCA9, 0xDCA9], "F0 9F 92 A9 ED B2 A9", 7),
-    (&[], &[0xDCA9], "ED B2 A9", 3),
-    (&[0xD83D], &[], "ED A0 BD", 3),
-    (&[0xD83D], &[0xD83D, 0xDCA9], "ED A0 BD F0 9F 92 A9", 7),
-    (&[0xDCA9], &[0xDCA9], "ED B2 A9 ED B2 A9", 6),
-    (&[0xD83D, 0x61], &[0xDCA9], "ED A0 BD 61 ED B2 A9", 7),
-];
+fn glued() -> [(&'static [u16], &'static [u16], &'static str, usize); 7] {
+    [
+        (&[0x61, 0xD83D], &[0xDCA9, 0x62], "61 F0 9F 92 A9 62", 6),
+        (&[0xD83D], &[0xDCA9, 0xDCA9], "F0 9F 92 A9 ED B2 A9", 7),
+        (&[], &[0xDCA9], "ED B2 A9", 3),
+        (&[0xD83D], &[], "ED A0 BD", 3),
+        (&[0xD83D], &[0xD83D, 0xDCA9], "ED A0 BD F0 9F 92 A9", 7),
+        (&[0xDCA9], &[0xDCA9], "ED B2 A9 ED B2 A9", 6),
+        (&[0xD83D, 0x61], &[0xDCA9], "ED A0 BD 61 ED B2 A9", 7),
+    ]
+}
 
 #[test]
 fn appended_views_have_the_units_of_both(rt: HostRuntime) -> Result<(), Fail> {
-    for (front, back, dump, length) in GLUED {
+    for (front, back, dump, length) in glued() {
         let mut text = joined(rt.alloc(), front)?;
         text.push_wtf8(joined(rt.alloc(), back)?.as_wtf8())?;
         expect_dump(rt.alloc(), text.as_wtf8(), dump)?;
@@ -128,7 +130,7 @@ fn expect_cleared(alloc: Global, front: &[u16], back: &[u16]) -> Result<(), Fail
 
 #[test]
 fn a_cleared_string_is_empty_and_begins_anew(rt: HostRuntime) -> Result<(), Fail> {
-    for (front, back, _, _) in GLUED {
+    for (front, back, _, _) in glued() {
         expect_cleared(rt.alloc(), front, back)?;
     }
     Ok(())

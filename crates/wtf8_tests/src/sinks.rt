@@ -45,6 +45,14 @@ impl Write for Sink {
     }
 }
 
+/// Whether a text was written, and is this one.
+pub fn is_written(written: Result<String, AllocError>, text: &str) -> bool {
+    match written {
+        Ok(found) => found.as_str() == text,
+        Err(_) => false,
+    }
+}
+
 /// So many times "a", a code point and U+3042, as numbers of code points and as a text, in which another text stands for
 /// the code point.
 pub fn long_text(

@@ -40,17 +40,19 @@ fn a_long_string_of_hangul_is_a_text(rt: HostRuntime) -> Result<(), Fail> {
 }
 
 /// Code points of strings that hold a surrogate, and their bytes.
-const NO_TEXTS: [(&[u32], &str); 5] = [
-    (&[0xD800], "ED A0 80"),
-    (&[0xDC00], "ED B0 80"),
-    (&[0xDFFF, 0x61], "ED BF BF 61"),
-    (&[0xD83D, 0x20, 0xDCA9], "ED A0 BD 20 ED B2 A9"),
-    (&[0xD55C, 0xDBFF], "ED 95 9C ED AF BF"),
-];
+fn no_texts() -> [(&'static [u32], &'static str); 5] {
+    [
+        (&[0xD800], "ED A0 80"),
+        (&[0xDC00], "ED B0 80"),
+        (&[0xDFFF, 0x61], "ED BF BF 61"),
+        (&[0xD83D, 0x20, 0xDCA9], "ED A0 BD 20 ED B2 A9"),
+        (&[0xD55C, 0xDBFF], "ED 95 9C ED AF BF"),
+    ]
+}
 
 #[test]
 fn a_string_with_a_surrogate_is_no_text(rt: HostRuntime) -> Result<(), Fail> {
-    for (numbers, dump) in NO_TEXTS {
+    for (numbers, dump) in no_texts() {
         let string = pushed(rt.alloc(), numbers)?;
         assert_eq!(rt; string.as_wtf8().as_str(), None, "{dump}");
         let copy = string.clone()?;
@@ -64,15 +66,17 @@ fn a_string_with_a_surrogate_is_no_text(rt: HostRuntime) -> Result<(), Fail> {
 }
 
 /// Code points of strings, their lossy texts, and whether those are borrowed.
-const LOSSY: [(&[u32], &str, bool); 7] = [
-    (&[], "", true),
-    (&[0x61, 0xE9, 0x20, 0x1F4A9], TEXT, true),
-    (&[0x61, 0xE9, 0x20, 0x1F4A9, 0xD800], "aé 💩\u{FFFD}", false),
-    (&[0xD83D, 0x20, 0xDCA9], "\u{FFFD} \u{FFFD}", false),
-    (&[0xD83D, 0xDCA9], "💩", true),
-    (&[0xD800, 0xD800, 0xD55C], "\u{FFFD}\u{FFFD}\u{D55C}", false),
-    (&[0xDC00], "\u{FFFD}", false),
-];
+fn lossy_rows() -> [(&'static [u32], &'static str, bool); 7] {
+    [
+        (&[], "", true),
+        (&[0x61, 0xE9, 0x20, 0x1F4A9], TEXT, true),
+        (&[0x61, 0xE9, 0x20, 0x1F4A9, 0xD800], "aé 💩\u{FFFD}", false),
+        (&[0xD83D, 0x20, 0xDCA9], "\u{FFFD} \u{FFFD}", false),
+        (&[0xD83D, 0xDCA9], "💩", true),
+        (&[0xD800, 0xD800, 0xD55C], "\u{FFFD}\u{FFFD}\u{D55C}", false),
+        (&[0xDC00], "\u{FFFD}", false),
+    ]
+}
 
 /// Whether both lossy texts of a string are this one, and whether that of the view is borrowed.
 fn lossy_texts(alloc: Global, numbers: &[u32], text: &str) -> Result<(bool, bool), Fail> {
@@ -87,7 +91,7 @@ fn lossy_texts(alloc: Global, numbers: &[u32], text: &str) -> Result<(bool, bool
 
 #[test]
 fn a_lossy_text_has_replacements(rt: HostRuntime) -> Result<(), Fail> {
-    for (numbers, text, is_borrowed) in LOSSY {
+    for (numbers, text, is_borrowed) in lossy_rows() {
         let found = lossy_texts(rt.alloc(), numbers, text)?;
         assert_eq!(rt; found, (true, is_borrowed), "{text}");
     }

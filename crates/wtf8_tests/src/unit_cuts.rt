@@ -1,11 +1,25 @@
 // Cuts at every number of units.
 use crate::callers::cut_at_units_and_joined;
-use crate::examples::{JOINING, expect_dump, expect_units};
-use crate::unit_lists::{LISTS, long_list};
+use crate::examples::{expect_dump, expect_units, joining};
+use crate::unit_lists::{lists, long_list};
 use refusing::{REFUSALS, Refusal, Refusing};
 use std::alloc::Global;
 use std::test::Fail;
 use wtf8::{Build, Wtf8Buf};
+
+type Lent<'a> = &'a Refusing<Global>;
+
+/// Cuts a string at a number of units, by the call itself or by the call that answers whether there are so many, and answers
+/// whether it says so.
+fn cut(text: &mut Wtf8Buf<Lent<'_>>, n: usize, is_applied: bool, is_within: bool) -> bool {
+    if is_applied {
+        return text.apply(Build::TruncateUnits(n)) == Ok(is_within);
+    }
+    if n <= text.as_wtf8().unit_len() {
+        text.truncate_units(n);
+    }
+    true
+}
 
 /// Cuts the string of some units at a number of them, with every request for memory refused or the first one alone, by the
 /// call itself or by the call that answers whether there are so many. Fails unless it makes no request.
@@ -19,16 +33,9 @@ fn expect_cut(
     let heap = Refusing::new(alloc, 1_000);
     let mut text = Wtf8Buf::from_ill_formed_utf16(&heap, units)?;
     heap.refuse_after(0, refusal);
-    let is_within = n <= units.len();
-    if is_applied {
-        if text.apply(Build::TruncateUnits(n)) != Ok(is_within) {
-            return Err(Fail::new(format_args!("a cut at {n}")));
-        }
-    } else if n <= text.as_wtf8().unit_len() {
-        text.truncate_units(n);
-    }
-    if heap.requests() != 0 {
-        return Err(Fail::new(format_args!("a request at {n}")));
+    let is_answered = cut(&mut text, n, is_applied, n <= units.len());
+    if !is_answered || heap.requests() != 0 {
+        return Err(Fail::new(format_args!("a cut at {n}")));
     }
     expect_units(alloc, text.as_wtf8(), &units[..n.min(units.len())])
 }
@@ -61,12 +68,12 @@ fn cut_everywhere(alloc: Global, units: &[u16]) -> Result<(), Fail> {
 
 #[test]
 fn cuts_keep_the_first_units_without_memory(rt: HostRuntime) -> Result<(), Fail> {
-    for (units, _, dump) in JOINING {
+    for (units, _, dump) in joining() {
         let text = Wtf8Buf::from_ill_formed_utf16(rt.alloc(), units)?;
         expect_dump(rt.alloc(), text.as_wtf8(), dump)?;
         cut_everywhere(rt.alloc(), units)?;
     }
-    for units in LISTS {
+    for units in lists() {
         cut_everywhere(rt.alloc(), units)?;
     }
     Ok(())

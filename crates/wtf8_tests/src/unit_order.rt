@@ -1,12 +1,13 @@
 // The order of units.
-use crate::examples::JOINING;
-use crate::unit_lists::{LISTS, long_list};
+use crate::examples::joining;
+use crate::unit_lists::{lists, long_list};
 use std::alloc::Global;
 use std::cmp::Ordering;
 use std::test::Fail;
 use wtf8::Wtf8Buf;
 
 /// Two lists of units, the order of these, and that of their code points.
+#[derive(Clone, Copy)]
 struct Row {
     own: &'static [u16],
     others: &'static [u16],
@@ -15,84 +16,86 @@ struct Row {
 }
 
 /// The orders are those of `<` on strings of a JavaScript engine and of the strings of Python.
-const ROWS: [Row; 12] = [
-    Row {
-        own: &[0xE000],
-        others: &[0xD800, 0xDC00],
-        units: Ordering::Greater,
-        points: Ordering::Less,
-    },
-    Row {
-        own: &[0xFFFF],
-        others: &[0xD800, 0xDC00],
-        units: Ordering::Greater,
-        points: Ordering::Less,
-    },
-    Row {
-        own: &[0xD83D],
-        others: &[0xD83D, 0xDCA9],
-        units: Ordering::Less,
-        points: Ordering::Less,
-    },
-    Row {
-        own: &[0xD83E],
-        others: &[0xD83D, 0xDCA9],
-        units: Ordering::Greater,
-        points: Ordering::Less,
-    },
-    Row {
-        own: &[0xD83D, 0xE000],
-        others: &[0xD83D, 0xDCA9],
-        units: Ordering::Greater,
-        points: Ordering::Less,
-    },
-    Row {
-        own: &[0xD83D, 0xD83D, 0xDCA9],
-        others: &[0xD83D, 0xDCA9],
-        units: Ordering::Less,
-        points: Ordering::Less,
-    },
-    Row {
-        own: &[0xDC00],
-        others: &[0xDBFF, 0xDFFF],
-        units: Ordering::Greater,
-        points: Ordering::Less,
-    },
-    Row {
-        own: &[0xD7FF],
-        others: &[0xD800, 0xDC00],
-        units: Ordering::Less,
-        points: Ordering::Less,
-    },
-    Row {
-        own: &[0x61, 0xD83D, 0xDCA8],
-        others: &[0x61, 0xD83D, 0xDCA9],
-        units: Ordering::Less,
-        points: Ordering::Less,
-    },
-    Row {
-        own: &[0xD83D, 0xDCA9],
-        others: &[],
-        units: Ordering::Greater,
-        points: Ordering::Greater,
-    },
-    Row {
-        own: &[0x61],
-        others: &[0x61, 0xD83D, 0xDCA9],
-        units: Ordering::Less,
-        points: Ordering::Less,
-    },
-    Row {
-        own: &[],
-        others: &[],
-        units: Ordering::Equal,
-        points: Ordering::Equal,
-    },
-];
+fn rows() -> [Row; 12] {
+    [
+        Row {
+            own: &[0xE000],
+            others: &[0xD800, 0xDC00],
+            units: Ordering::Greater,
+            points: Ordering::Less,
+        },
+        Row {
+            own: &[0xFFFF],
+            others: &[0xD800, 0xDC00],
+            units: Ordering::Greater,
+            points: Ordering::Less,
+        },
+        Row {
+            own: &[0xD83D],
+            others: &[0xD83D, 0xDCA9],
+            units: Ordering::Less,
+            points: Ordering::Less,
+        },
+        Row {
+            own: &[0xD83E],
+            others: &[0xD83D, 0xDCA9],
+            units: Ordering::Greater,
+            points: Ordering::Less,
+        },
+        Row {
+            own: &[0xD83D, 0xE000],
+            others: &[0xD83D, 0xDCA9],
+            units: Ordering::Greater,
+            points: Ordering::Less,
+        },
+        Row {
+            own: &[0xD83D, 0xD83D, 0xDCA9],
+            others: &[0xD83D, 0xDCA9],
+            units: Ordering::Less,
+            points: Ordering::Less,
+        },
+        Row {
+            own: &[0xDC00],
+            others: &[0xDBFF, 0xDFFF],
+            units: Ordering::Greater,
+            points: Ordering::Less,
+        },
+        Row {
+            own: &[0xD7FF],
+            others: &[0xD800, 0xDC00],
+            units: Ordering::Less,
+            points: Ordering::Less,
+        },
+        Row {
+            own: &[0x61, 0xD83D, 0xDCA8],
+            others: &[0x61, 0xD83D, 0xDCA9],
+            units: Ordering::Less,
+            points: Ordering::Less,
+        },
+        Row {
+            own: &[0xD83D, 0xDCA9],
+            others: &[],
+            units: Ordering::Greater,
+            points: Ordering::Greater,
+        },
+        Row {
+            own: &[0x61],
+            others: &[0x61, 0xD83D, 0xDCA9],
+            units: Ordering::Less,
+            points: Ordering::Less,
+        },
+        Row {
+            own: &[],
+            others: &[],
+            units: Ordering::Equal,
+            points: Ordering::Equal,
+        },
+    ]
+}
 
 #[test]
 fn units_above_surrogates_are_behind_pairs(rt: HostRuntime) -> Result<(), Fail> {
-    for row in &ROWS {
+    for row in rows() {
         let own = Wtf8Buf::from_ill_formed_utf16(rt.alloc(), row.own)?;
         let others = Wtf8Buf::from_ill_formed_utf16(rt.alloc(), row.others)?;
         let (own, others) = (own.as_wtf8(), others.as_wtf8());
@@ -127,11 +130,11 @@ fn compare_changed(alloc: Global, list: &[u16], unit: u16) -> Result<(), Fail> {
 
 #[test]
 fn strings_are_ordered_as_their_lists(rt: HostRuntime) -> Result<(), Fail> {
-    for own in LISTS {
-        for others in LISTS {
+    for own in lists() {
+        for others in lists() {
             compare_lists(rt.alloc(), own, others)?;
         }
-        for (others, _, _) in JOINING {
+        for (others, _, _) in joining() {
             compare_lists(rt.alloc(), own, others)?;
             compare_lists(rt.alloc(), others, own)?;
         }

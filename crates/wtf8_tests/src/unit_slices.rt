@@ -1,7 +1,7 @@
 // Units by their numbers, and slices between two of them.
 use crate::callers::push_slice;
-use crate::examples::{JOINING, expect_dump, expect_units};
-use crate::unit_lists::{LISTS, long_list};
+use crate::examples::{expect_dump, expect_units, joining};
+use crate::unit_lists::{lists, long_list};
 use std::alloc::Global;
 use std::test::Fail;
 use wtf8::{Wtf8, Wtf8Buf};
@@ -60,10 +60,10 @@ fn expect_list(alloc: Global, units: &[u16]) -> Result<(), Fail> {
 
 #[test]
 fn units_are_those_of_the_list(rt: HostRuntime) -> Result<(), Fail> {
-    for (units, _, _) in JOINING {
+    for (units, _, _) in joining() {
         expect_list(rt.alloc(), units)?;
     }
-    for units in LISTS {
+    for units in lists() {
         expect_list(rt.alloc(), units)?;
     }
     for letters in 24..34 {

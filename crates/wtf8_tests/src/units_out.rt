@@ -1,8 +1,8 @@
 // The units of a string appended to a vector: all of them behind those that are there, wherever a block of ASCII ends.
 use refusing::Refusing;
-use std::alloc::Global;
+use std::alloc::{AllocError, Global};
 use std::test::Fail;
-use wtf8::Wtf8Buf;
+use wtf8::{Wtf8, Wtf8Buf};
 
 /// Units that stand in the vector before.
 const BEFORE: [u16; 2] = [0xDC00, 0x0061];
@@ -18,24 +18,54 @@ const OTHERS: [&[u16]; 7] = [
     &[0xD7FF, 0xE000, 0xDBFF, 0xDFFF, 0x007F, 0x0080, 0x0000],
 ];
 
-/// Fails unless the units come back behind those that are there: where the call finds room, where there is just room for
-/// them and no memory, and not at all where there is neither.
+type Lent<'a> = &'a Refusing<Global>;
+
+/// The units behind those that are there, where the call finds room.
+fn appended<'a>(heap: Lent<'a>, text: Wtf8<'_>) -> Result<Vec<u16, Lent<'a>>, AllocError> {
+    heap.grant(u64::MAX);
+    let mut grown = Vec::from_slice(heap, &BEFORE)?;
+    text.append_units(&mut grown)?;
+    Ok(grown)
+}
+
+/// The same where there is just room for so many units, and no memory.
+fn appended_in_room<'a>(
+    heap: Lent<'a>,
+    text: Wtf8<'_>,
+    count: usize,
+) -> Result<Vec<u16, Lent<'a>>, AllocError> {
+    heap.grant(u64::MAX);
+    let mut room = Vec::with_capacity(heap, count)?;
+    room.extend_from_slice(&BEFORE)?;
+    heap.grant(0);
+    text.append_units(&mut room)?;
+    Ok(room)
+}
+
+/// Whether the call leaves what is there where there is neither, and is refused unless there are no units.
+fn is_refused(heap: Lent<'_>, text: Wtf8<'_>) -> Result<bool, AllocError> {
+    heap.grant(u64::MAX);
+    let mut full = Vec::from_slice(heap, &BEFORE)?;
+    heap.grant(0);
+    let is_refused = text.append_units(&mut full).is_err();
+    Ok(full.as_slice() == BEFORE.as_slice() && is_refused != text.is_empty())
+}
+
+/// Whether the units come back behind those that are there: where the call finds room, where there is just room for them and
+/// no memory, and not at all where there is neither.
+fn come_back(heap: Lent<'_>, text: Wtf8<'_>, whole: &[u16]) -> Result<bool, AllocError> {
+    let is_appended = appended(heap, text)?.as_slice() == whole;
+    let is_in_room = appended_in_room(heap, text, whole.len())?.as_slice() == whole;
+    Ok(is_appended && is_in_room && is_refused(heap, text)?)
+}
+
+/// Fails unless the units come back so.
 fn expect_units_back(alloc: Global, units: &[u16]) -> Result<(), Fail> {
     let text = Wtf8Buf::from_ill_formed_utf16(alloc, units)?;
     let mut whole = Vec::from_slice(alloc, &BEFORE)?;
     whole.extend_from_slice(units)?;
     let heap = Refusing::new(alloc, u64::MAX);
-    let mut grown = Vec::from_slice(&heap, &BEFORE)?;
-    text.as_wtf8().append_units(&mut grown)?;
-    let mut room = Vec::with_capacity(&heap, whole.len())?;
-    room.extend_from_slice(&BEFORE)?;
-    let mut full = Vec::from_slice(&heap, &BEFORE)?;
-    heap.grant(0);
-    text.as_wtf8().append_units(&mut room)?;
-    let is_refused = text.as_wtf8().append_units(&mut full).is_err();
-    let is_as_before = full.as_slice() == BEFORE.as_slice();
-    let is_same = grown.as_slice() == whole.as_slice() && room.as_slice() == whole.as_slice();
-    if !is_same || !is_as_before || is_refused == units.is_empty() {
+    if !come_back(&heap, text.as_wtf8(), &whole)? {
         return Err(Fail::new(format_args!("{units:?}")));
     }
     Ok(())

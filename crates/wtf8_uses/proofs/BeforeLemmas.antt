@@ -1,10 +1,12 @@
 -- Of two lists of numbers at most one stands before the other, and only where they differ.
 use Rattle.std.proofs.Common.{◌≡◌, ◌↔◌, ℕ, inl, inr, List, [], ◌∷◌, IsTrue, refl, subst, arith}
 use Rattle.std.proofs.lemmas.Bool.{false≢true}
-use Rattle.std.specs.Ordering.{MatchOrdering, is_lt}
+use Rattle.std.specs.Cmp.Lexicographic.{slice_cmp}
+use Rattle.std.specs.Ordering.{MatchOrdering, is_lt, nat_cmp}
 use Rattle.std.specs.declared.cmp.Ordering.{Ordering}
 use Rattle.std.specs.declared.cmp.Ordering.TheVariants.{Less, Equal, Greater}
 use Rattle.wtf8.specs.Order.{Before}
+use Rattle.wtf8.specs.StringLaws.{ComparisonIsOrder}
 
 before_one : (c d : List ℕ) → Before c d → Before d c → ⊥
 before_one [] [] h k = h
@@ -22,3 +24,7 @@ less_exactly Less c d h = (λ _. h, λ _. refl)
 less_exactly Equal c d h =
     (λ e. absurd (false≢true e), λ k. absurd (before_one d d (subst (λ z. Before z d) h k) (subst (λ z. Before z d) h k)))
 less_exactly Greater c d h = (λ e. absurd (false≢true e), λ k. absurd (before_one c d k h))
+
+-- what a comparison answers says which list stands before the other
+pub ordered : ComparisonIsOrder → (c d : List ℕ) (r : Ordering) → slice_cmp nat_cmp c d ≡ r → MatchOrdering r (Before c d) (c ≡ d) (Before d c)
+ordered law c d r e = subst (λ s. MatchOrdering s (Before c d) (c ≡ d) (Before d c)) e (law c d)

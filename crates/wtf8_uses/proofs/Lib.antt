@@ -1,6 +1,8 @@
 pub mod BeforeLemmas
 pub mod FrontLemmas
+pub mod JsonLemmas
 pub mod Numbering
+pub mod OnceLemmas
 pub mod PartLemmas
 pub mod PlaceLemmas
 pub mod RepeatLemmas

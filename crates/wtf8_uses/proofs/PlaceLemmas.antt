@@ -1,6 +1,8 @@
 -- Places along a list.
-use Rattle.std.proofs.Common.{◌≡◌, ℕ, ◌+◌, ◌<◌, ◌≤◌, List, Option, None, Some, drop, sym, ap, subst, ◌∙◌, arith}
-use Rattle.std.proofs.lemmas.List.{drop-drop}
+use Rattle.std.proofs.Common.{◌≡◌, ℕ, ◌+◌, ◌<◌, ◌≤◌, ◌↔◌, IsTrue, false, List, ◌++◌, Option, None, Some, MatchOption, length, length-append, take, drop, min, sym, ap, subst, ◌∙◌, arith}
+use Rattle.std.proofs.lemmas.Bool.{false≢true}
+use Rattle.std.proofs.Math.Seq.{drop-append_seam}
+use Rattle.std.proofs.lemmas.List.{drop-drop, drop-take, length-take, take-append-drop, take_min}
 use Rattle.std.specs.Iterator.{YieldsFirst}
 use Rattle.wtf8_uses.proofs.Numbering.{lt_of_apart}
 
@@ -15,3 +17,29 @@ pub none_more : (P : ℕ → Type 0) (begin place : ℕ) → ((k : ℕ) → begi
     → k < place + 1 → ¬ (P k)
 none_more P begin place none here k from below there =
     none k from (lt_of_apart (omega (arith, below)) (λ same. here (subst P same there))) there
+
+-- the last place so far where something holds, if there is one
+abbrev pub LastSoFar : (ℕ → Type 0) → ℕ → Option ℕ → Type 0
+LastSoFar P end found = MatchOption found ((k : ℕ) → k < end → ¬ (P k)) (λ f. (f < end) × P f × ((k : ℕ) → f < k → k < end → ¬ (P k)))
+
+-- at one place more it is that place or the one before
+pub last_kept : (P : ℕ → Type 0) (end : ℕ) (found : Option ℕ) → LastSoFar P end found → ¬ (P end) → LastSoFar P (end + 1) found
+last_kept P end None none here = λ k below. none_more P 0 end (λ j _ l. none j l) here k (omega arith) below
+last_kept P end (Some f) i here = (omega (arith, i.0), i.1, λ k behind below. none_more P (f + 1) end (λ j l m. i.2 j (omega arith) m) here k (omega arith) below)
+
+pub last_here : (P : ℕ → Type 0) (end : ℕ) → P end → LastSoFar P (end + 1) (Some end)
+last_here P end here = (omega arith, here, λ k behind below. absurd (omega arith))
+
+-- a list ends with another one exactly where that stands at its end
+module _ (n : ℕ) (u s : List ℕ) where
+  pub ends_there : (begin : ℕ) → begin + length s ≡ min n (length u) → (take (length s) (drop begin u) ≡ s) ↔ ((front : List ℕ) × (take n u ≡ front ++ s))
+  ends_there begin e =
+      let whole = take-append-drop begin (take n u) in
+      let end = ap (drop begin) (sym (take_min n u)) ∙ (ap (λ m. drop begin (take m u)) (sym e) ∙ drop-take begin (length s) u) in (
+        λ there. (take begin (take n u), sym whole ∙ ap (λ z. take begin (take n u) ++ z) (end ∙ there)),
+        λ p. let same : begin ≡ length p.0 = omega (arith, e, ap length p.1, length-append p.0 s, length-take n u) in
+            sym end ∙ (ap (drop begin) p.1 ∙ (ap (λ b. drop b (p.0 ++ s)) same ∙ drop-append_seam p.0 s)),
+      )
+
+  pub ends_nowhere : min n (length u) < length s → IsTrue false ↔ ((front : List ℕ) × (take n u ≡ front ++ s))
+  ends_nowhere h = (λ t. absurd (false≢true t), λ p. absurd (omega (arith, h, ap length p.1, length-append p.0 s, length-take n u)))

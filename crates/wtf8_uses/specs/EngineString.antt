@@ -26,6 +26,12 @@ pub record IsFirstPlace (u s : List ℕ) (position k : ℕ) : Type 0 where
   pub stands : StandsAt u s k
   pub no_earlier : (j : ℕ) → position ≤ j → j < k → ¬ (StandsAt u s j)
 
+-- A place is the last one at or before a position where a list's numbers stand in another one (ECMAScript, "StringLastIndexOf").
+pub record IsLastPlace (u s : List ℕ) (position k : ℕ) : Type 0 where
+  pub before : k ≤ position
+  pub stands : StandsAt u s k
+  pub no_later : (j : ℕ) → k < j → j ≤ position → ¬ (StandsAt u s j)
+
 -- Each surrogate of a list that is in no pair has U+FFFD in its place (ECMAScript, "String.prototype.toWellFormed").
 pub record IsMadeWellFormed (u v : List ℕ) : Type 0 where
   pub points : List ℕ
@@ -40,6 +46,7 @@ IsSpace unit = (unit ≡ 0x20) ⊎ ((0x09 ≤ unit) × (unit ≤ 0x0D))
 pub record IsTrimmed (u v : List ℕ) : Type 0 where
   pub begin : ℕ
   pub end : ℕ
+  pub within : end ≤ length u
   pub between : v ≡ drop begin (take end u)
   pub before : (k : ℕ) → k < begin → IsSpace (slice_index u k)
   pub behind : (k : ℕ) → end ≤ k → k < length u → IsSpace (slice_index u k)

@@ -1,6 +1,6 @@
 -- Lists of strings in the order of their code points.
 use Rattle.std.specs.Prelude.{List}
-use Rattle.std.specs.List.Sorted.{IsSorted}
+use Rattle.std.specs.List.Sorted.{IsSorted, IsStrictlySortedBy}
 use Rattle.std.specs.Cmp.Lexicographic.{slice_cmp}
 use Rattle.std.specs.Ordering.{nat_cmp}
 use Rattle.wtf8.specs.UnitString.{UnitString}
@@ -11,6 +11,10 @@ use Rattle.wtf8.specs.declared.strings.view.Wtf8.{Wtf8}
 abbrev pub AreInPointOrder : List UnitString → Type 0
 AreInPointOrder strings = IsSorted (λ s t. slice_cmp nat_cmp s.form.points t.form.points) strings
 
--- The same of views.
+-- Each string of the list stands before all that are behind it, by their code points (Unicode 5.17, "Binary Order").
+abbrev pub AreInStrictPointOrder : List UnitString → Type 0
+AreInStrictPointOrder strings = IsStrictlySortedBy (λ s t. slice_cmp nat_cmp s.form.points t.form.points) strings
+
+-- No view of the list stands before the one in front of it, by their code points (Unicode 5.17, "Binary Order").
 abbrev pub AreViewsInPointOrder : List Wtf8 → Type 0
 AreViewsInPointOrder views = IsSorted (λ s t. slice_cmp nat_cmp (view_points s) (view_points t)) views

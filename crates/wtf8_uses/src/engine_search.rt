@@ -2,7 +2,7 @@
 //! call that makes some takes an allocator, and after a refusal all is as it was.
 ghost use Rattle.std.specs.List.{join_with_byte, slice_split};
 ghost use Rattle.std.specs.Prelude.{All, map, ◌==◌, ◌≢◌, ◌≡◌, ◌+◌, ◌≤◌, ◌++◌, ℕ, length, take, drop, min, IfSome, IfNone, IfOk};
-ghost use Rattle.wtf8_uses.specs.EngineString.{IsFirstPlace, StandsAt};
+ghost use Rattle.wtf8_uses.specs.EngineString.{IsFirstPlace, IsLastPlace, StandsAt};
 
 use crate::strings::{stand_next, units_from};
 use std::alloc::{AllocError, Allocator};
@@ -29,6 +29,28 @@ pub fn index_of<A: Allocator, B: Allocator>(
         units.next();
     }
     None
+}
+
+/// `lastIndexOf`: the last place at or before a position where another text's units stand, and `None`, for the -1 of the
+/// language, where there is none. It goes along the text once, from its front.
+pub fn last_index_of<A: Allocator, B: Allocator>(
+    text: &UnitText<A>,
+    search: &UnitText<B>,
+    position: usize,
+) -> Option<usize>
+    ensures some { IfSome result (λ k. IsLastPlace text.now search.now position k) }
+    ensures none { IfNone result ((k : ℕ) → k ≤ position → ¬ (StandsAt text.now search.now k)) }
+{
+    let last = text.unit_len().checked_sub(search.unit_len())?;
+    let mut units = units_from(text, 0);
+    let mut found = None;
+    for place in 0..=last.min(position) {
+        if stand_next(&units, search) {
+            found = Some(place);
+        }
+        units.next();
+    }
+    found
 }
 
 /// `replace` of a text by another one: the other one stands in the place of the first units that are those of the text

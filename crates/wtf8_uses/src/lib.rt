@@ -2,13 +2,17 @@
 #![tactic(auto)]
 
 pub mod appending;
+pub mod ascii_case;
 pub mod cuts;
 pub mod engine_search;
 pub mod engine_strings;
+pub mod environment;
 pub mod file_names;
 pub mod interner;
 pub mod joining;
+pub mod json;
 pub mod maps;
+pub mod paths;
 pub mod points;
 pub mod reading;
 pub mod refusals;

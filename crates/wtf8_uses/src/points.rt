@@ -1,5 +1,5 @@
 //! Strings by their code points.
-ghost use Rattle.std.specs.Prelude.{◌≡◌, ◌++◌, take, drop, IfOk, OnOk};
+ghost use Rattle.std.specs.Prelude.{◌≡◌, ◌++◌, count_by, nat_lt, take, drop, IfOk, OnOk};
 ghost use Rattle.wtf8.specs.Unicode.{units};
 ghost use Rattle.wtf8.specs.View.{view_points, view_units};
 ghost use Rattle.wtf8_uses.specs.CommonFront.{IsCommonFront};
@@ -15,7 +15,7 @@ pub fn copy_by_points<A: Allocator>(alloc: A, text: Wtf8<'_>) -> Result<Wtf8Buf<
     Wtf8Buf::from_iter(alloc, text.code_points())
 }
 
-/// The same by `collect`.
+/// A copy of a string by its code points, made by `collect`: it has the same units.
 pub fn collect_points<A: Allocator>(alloc: A, text: Wtf8<'_>) -> Result<Wtf8Buf<A>, AllocError>
     ensures { IfOk result (λ copy. copy.units ≡ view_units text.entry) }
 {
@@ -71,6 +71,19 @@ pub fn common_points(text: Wtf8<'_>, other: Wtf8<'_>) -> usize
             return count;
         }
         count += 1;
+    }
+    count
+}
+
+/// How many code points of a string are supplementary, which are two units each.
+pub fn supplementary_count(text: Wtf8<'_>) -> usize
+    ensures { result ≡ count_by (λ p. nat_lt 0xFFFF p) (view_points text.entry) }
+{
+    let mut count = 0;
+    for point in text.code_points() {
+        if 0xFFFF < point.to_u32() {
+            count += 1;
+        }
     }
     count
 }

@@ -1,7 +1,10 @@
 //! Strings in code point order.
-ghost use Rattle.std.specs.Prelude.{OnOk};
+ghost use Rattle.std.specs.Cmp.Lexicographic.{pointwise};
+ghost use Rattle.std.specs.List.{dedup};
 ghost use Rattle.std.specs.List.Sorted.{IsPermutation};
-ghost use Rattle.wtf8_uses.specs.Sorted.{AreInPointOrder, AreViewsInPointOrder};
+ghost use Rattle.std.specs.Prelude.{◌≡◌, nat_eq, OnOk};
+ghost use Rattle.wtf8_uses.specs.Numbered.{units_of_strings};
+ghost use Rattle.wtf8_uses.specs.Sorted.{AreInPointOrder, AreInStrictPointOrder, AreViewsInPointOrder};
 
 use std::alloc::{AllocError, Allocator};
 use wtf8::{Wtf8, Wtf8Buf, laws};
@@ -24,4 +27,14 @@ pub fn sort_views<'a, A: Allocator>(views: &mut Vec<Wtf8<'a>, A>) -> Result<(), 
 {
     laws::law_byte_order();
     views.sort()
+}
+
+/// Drops each string that is equal to the one before it: of a sorted list each string is left once.
+pub fn drop_repeated<A: Allocator, B: Allocator>(strings: &mut Vec<Wtf8Buf<B>, A>)
+    ensures once { units_of_strings strings.new.items ≡ dedup (pointwise nat_eq) (units_of_strings strings.old.items) }
+    ensures sorted { AreInPointOrder strings.old.items → AreInStrictPointOrder strings.new.items }
+{
+    laws::law_byte_order();
+    laws::law_equal_strings();
+    strings.dedup();
 }

@@ -1,5 +1,5 @@
 //! Calls of ECMAScript's strings, whose positions count units (ECMAScript, "String.prototype").
-ghost use Rattle.std.specs.Prelude.{◌≡◌, ◌↔◌, ◌≤◌, length, take, drop, slice_get, min, max, IfOk, IsOk, IsTrue};
+ghost use Rattle.std.specs.Prelude.{◌≡◌, ◌↔◌, ◌≤◌, ◌++◌, ℕ, List, length, take, drop, slice_get, min, max, IfOk, IsOk, IsTrue};
 ghost use Rattle.wtf8.specs.Order.{Before};
 ghost use Rattle.wtf8.specs.Units.{unread_units};
 
@@ -56,6 +56,21 @@ pub fn starts_with<A: Allocator, B: Allocator>(
     ensures { IsTrue result ↔ (take (length search.now) (drop position text.now) ≡ search.now) }
 {
     stand_next(&units_from(text, position.min(text.unit_len())), search)
+}
+
+/// `endsWith`: whether the units before a position end with those of another text. A position beyond the end is the end.
+pub fn ends_with<A: Allocator, B: Allocator>(
+    text: &UnitText<A>,
+    search: &UnitText<B>,
+    position: usize,
+) -> bool
+    ensures { IsTrue result ↔ ((front : List ℕ) × (take position text.now ≡ front ++ search.now)) }
+{
+    let end = position.min(text.unit_len());
+    match end.checked_sub(search.unit_len()) {
+        Some(begin) => starts_with(text, search, begin),
+        None => false,
+    }
 }
 
 /// The units from a place on.

@@ -1,12 +1,16 @@
 //! A table of strings that is sorted by code points, and the search in it.
 ghost use Rattle.std.specs.Prelude.{◌≡◌, IfOk, IfErr};
+ghost use Rattle.std.specs.Cmp.Lexicographic.{slice_cmp};
 ghost use Rattle.std.specs.List.{HoldsAt};
 ghost use Rattle.std.specs.List.Sorted.{IsPartitionPoint};
+ghost use Rattle.std.specs.Ordering.{nat_cmp};
 ghost use Rattle.wtf8.specs.Order.{Before};
+ghost use Rattle.wtf8.specs.View.{view_points, view_units};
 ghost use Rattle.wtf8_uses.specs.Sorted.{AreInPointOrder};
 
 use std::alloc::Allocator;
-use wtf8::{Wtf8Buf, laws};
+use std::cmp::Ordering;
+use wtf8::{Wtf8, Wtf8Buf, laws};
 
 /// The place of a string in a table that `sort_strings` sorted. Where it is not there, the answer is the place where it
 /// may be put in: the strings before that place stand before it, and it stands before those from there on.
@@ -15,10 +19,26 @@ pub fn place_of<A: Allocator>(table: &[Wtf8Buf<A>], string: &Wtf8Buf<A>) -> Resu
     ensures found { IfOk result (HoldsAt (λ s. s.units ≡ string.now.units) table.now) }
     ensures absent { IfErr result (IsPartitionPoint (λ s. Before s.form.points string.now.form.points) (λ s. Before string.now.form.points s.form.points) table.now) }
 {
+    place_of_view(table, string.as_wtf8())
+}
+
+/// The place of a view's string in a table that `sort_strings` sorted, as `place_of` answers it. No copy of the view is made.
+pub fn place_of_view<A: Allocator>(table: &[Wtf8Buf<A>], view: Wtf8<'_>) -> Result<usize, usize>
+    requires { AreInPointOrder table.now }
+    ensures found { IfOk result (HoldsAt (λ s. s.units ≡ view_units view.entry) table.now) }
+    ensures absent { IfErr result (IsPartitionPoint (λ s. Before s.form.points (view_points view.entry)) (λ s. Before (view_points view.entry) s.form.points) table.now) }
+{
     laws::law_byte_order();
-    laws::law_equal_strings();
-    match table.binary_search(string) {
+    match table.binary_search_by(|string| order(string, view)) {
         Ok(place) => Ok(place),
         Err(place) => Err(place),
     }
+}
+
+/// Whether a string stands before or behind a view.
+fn order<A: Allocator>(string: &Wtf8Buf<A>, view: Wtf8<'_>) -> Ordering
+    ensures { result ≡ slice_cmp nat_cmp string.now.form.points (view_points view.entry) }
+{
+    laws::law_byte_order();
+    string.as_wtf8().cmp(&view)
 }

@@ -2,5 +2,5 @@ pub mod AsciiFronts
 pub mod Copies
 pub mod Differences
 pub mod Digits
-pub mod Scan
+pub mod Masks
 pub mod Surrogates

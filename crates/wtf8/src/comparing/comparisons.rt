@@ -16,7 +16,7 @@ use std::alloc::Allocator;
 use std::cmp::Ordering;
 use std::hash::{Hash, Hasher};
 
-/// Strings are equal where their bytes are, which is where their units are.
+/// Strings are equal if their bytes are, which is exactly if their code units are.
 impl<'a> PartialEq for Wtf8<'a> {
     ghost eq = { on (λ view. view.bytes.now) (pointwise nat_eq) };
 
@@ -45,8 +45,8 @@ impl<'a> PartialOrd for Wtf8<'a> {
     ghost laws = { partial_order_from_own_ties (Prim.search (comparing, rules)) (Prim.search (comparing, rules)) };
 }
 
-/// The order of the bytes one by one, a beginning before the longer string. It is the order of the code points, not
-/// that of the units.
+/// Compares byte by byte, a prefix before the longer string. This is the order of code points, not that of code units
+/// (`cmp_units`).
 impl<'a> Ord for Wtf8<'a> {
     ghost cmp = { on (λ view. view.bytes.now) (slice_cmp nat_cmp) };
 
@@ -66,7 +66,7 @@ impl<'a> Ord for Wtf8<'a> {
     ghost matches_eq = { Prim.search (comparing, rules) };
 }
 
-/// A hasher is fed the bytes and then the byte 0xFE, which stands in no string.
+/// Feeds a hasher the bytes and then the byte 0xFE, which no string holds.
 impl<'a> Hash for Wtf8<'a> {
     ghost hash_input = { λ view. view.bytes.now ∷ fed.u8 254 };
 
@@ -78,7 +78,7 @@ impl<'a> Hash for Wtf8<'a> {
     ghost respects_eq = { Prim.search (hashing, rules) };
 }
 
-/// A buffer is equal to another where their views are.
+/// Buffers are equal if their bytes are, which is exactly if their code units are.
 impl<A: Allocator> PartialEq for Wtf8Buf<A> {
     ghost eq = { on (λ string. string.bytes) (pointwise nat_eq) };
 
@@ -107,7 +107,7 @@ impl<A: Allocator> PartialOrd for Wtf8Buf<A> {
     ghost laws = { partial_order_from_own_ties (Prim.search (comparing, rules)) (Prim.search (comparing, rules)) };
 }
 
-/// The order of the views.
+/// Compares byte by byte, which is the order of code points.
 impl<A: Allocator> Ord for Wtf8Buf<A> {
     ghost cmp = { on (λ string. string.bytes) (slice_cmp nat_cmp) };
 
@@ -127,7 +127,7 @@ impl<A: Allocator> Ord for Wtf8Buf<A> {
     ghost matches_eq = { Prim.search (comparing, rules) };
 }
 
-/// A hasher is fed what the view feeds it.
+/// Feeds a hasher what the view feeds it, so that a buffer and a view hash alike.
 impl<A: Allocator> Hash for Wtf8Buf<A> {
     ghost hash_input = { λ string. string.bytes ∷ fed.u8 254 };
 

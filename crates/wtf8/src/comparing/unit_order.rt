@@ -2,7 +2,7 @@
 ghost use Rattle.std.specs.Cmp.Lexicographic.{slice_cmp};
 ghost use Rattle.std.specs.Ordering.{MatchOrdering, nat_cmp};
 ghost use Rattle.std.specs.Prelude.{◌≡◌, ◌↔◌, IsTrue};
-ghost use Rattle.wtf8.specs.Differences.{PairBegins};
+ghost use Rattle.wtf8.specs.private.Differences.{PairBegins};
 ghost use Rattle.wtf8.specs.Order.{Before};
 ghost use Rattle.wtf8.specs.View.{view_units};
 
@@ -26,8 +26,8 @@ fn cmp_one_by_one(own: Wtf8<'_>, others: Wtf8<'_>) -> Ordering
 }
 
 impl<'a> Wtf8<'a> {
-    /// The order of the 16-bit units, as ECMAScript compares strings: the first units that differ decide, and a
-    /// beginning stands before the longer string. It is not the order of `cmp`, which is that of code points.
+    /// Compares by 16-bit code units, as ECMAScript compares strings: the first units that differ decide, and a prefix
+    /// comes before the longer string. `cmp` compares by code points instead.
     pub fn cmp_units(&self, other: &Wtf8<'_>) -> Ordering
         ensures value { result ≡ slice_cmp nat_cmp (view_units self.now) (view_units other.now) }
         ensures order { let own = view_units self.now in let others = view_units other.now in

@@ -45,8 +45,8 @@ fn push_few<A: Allocator>(bytes: &mut Vec<u8, A>, other: &[u8])
     }
 }
 
-/// The same by the first `N` bytes and the last `N`, which are all and may overlap. To a vector that nothing else sees
-/// these are two stores.
+/// Appends bytes by the first `N` of them and the last `N`, which are all and may overlap. To a vector that nothing else
+/// sees these are two stores.
 #[inline(always)]
 fn push_ends<const N: usize, A: Allocator>(bytes: &mut Vec<u8, A>, other: &[u8])
     requires lanes { N ≤ u64.BITS }

@@ -2,9 +2,10 @@
 ghost use Rattle.std.specs.Cmp.Lexicographic.{pointwise, slice_cmp};
 ghost use Rattle.std.specs.Ordering.{nat_cmp};
 ghost use Rattle.std.specs.Prelude.{◌≡◌, ◌+◌, ◌*◌, ◌<◌, ◌≤◌, min, length, slice_get, nat_eq, ⊤};
-ghost use Rattle.wtf8.specs.Differences.{DifferAt, IsFirstDifference};
-ghost use Rattle.wtf8.specs.Scan.{IsFirstBelow, IsLeast, Marks, Nowhere, Tells};
+ghost use Rattle.wtf8.specs.private.Differences.{DifferAt, IsFirstDifference, Tells};
+ghost use Rattle.wtf8.specs.private.FirstPlace.{IsFirstBelow, Nowhere};
 
+use crate::lanes::masks::first_set;
 use crate::lanes::{BLOCK, TURN, VECTOR};
 use std::cmp::Ordering;
 use std::simd::prelude::*;
@@ -16,16 +17,18 @@ pub(crate) fn byte_at(bytes: &[u8], at: usize) -> Option<u8>
     bytes.get(at).copied()
 }
 
-/// A number whose lowest bit is that of the first difference of `N` bytes.
+/// The place of the first difference in `N` bytes, or `None` where they are equal.
 #[inline(always)]
-fn marks<const N: usize>(own: &[u8], others: &[u8], at: usize) -> u64
+fn first_in_block<const N: usize>(own: &[u8], others: &[u8], at: usize) -> Option<usize>
     requires lanes { (0 < N) × (N ≤ u64.BITS) }
     requires room { (at + N ≤ length own.now) × (at + N ≤ length others.now) }
-    ensures { Marks (DifferAt own.now others.now) at N result }
+    ensures { IsFirstBelow (DifferAt own.now others.now) at (at + N) result }
 {
-    Simd::<u8, N>::from_slice(&own[at..])
-        .simd_ne(Simd::from_slice(&others[at..]))
-        .to_bitmask()
+    let unlike = Simd::<u8, N>::from_slice(&own[at..]).simd_ne(Simd::from_slice(&others[at..]));
+    match first_set(unlike.to_bitmask()) {
+        Some(lane) => Some(at + lane),
+        None => None,
+    }
 }
 
 /// Whether `N` bytes are equal.
@@ -35,7 +38,7 @@ fn is_block_same<const N: usize>(own: &[u8], others: &[u8], at: usize) -> bool
     requires room { (at + N ≤ length own.now) × (at + N ≤ length others.now) }
     ensures { Tells ⊤ (DifferAt own.now others.now) at (at + N) result }
 {
-    marks::<N>(own, others, at) == 0
+    first_in_block::<N>(own, others, at).is_none()
 }
 
 /// Whether lists of `N` to twice so many bytes are equal.
@@ -197,14 +200,18 @@ fn first_in_vectors(own: &[u8], others: &[u8], end: usize) -> Option<usize>
     requires room { (end ≤ length own.now) × (end ≤ length others.now) }
     ensures { IsFirstBelow (DifferAt own.now others.now) 0 end result }
 {
-    if !is_block_same::<16>(own, others, 0) {
-        return Some(difference_in::<16>(own, others, 0));
+    if let Some(at) = first_in_block::<16>(own, others, 0) {
+        return Some(at);
     }
-    if 32 < end && !is_block_same::<16>(own, others, 16) {
-        return Some(difference_in::<16>(own, others, 16));
+    if 32 < end
+        && let Some(at) = first_in_block::<16>(own, others, 16)
+    {
+        return Some(at);
     }
-    if 48 < end && !is_block_same::<16>(own, others, 32) {
-        return Some(difference_in::<16>(own, others, 32));
+    if 48 < end
+        && let Some(at) = first_in_block::<16>(own, others, 32)
+    {
+        return Some(at);
     }
     first_in_block::<16>(own, others, end - 16)
 }
@@ -285,35 +292,10 @@ fn first_in_ends<const N: usize>(
     requires room { (end ≤ length own.now) × (end ≤ length others.now) }
     ensures { IsFirstBelow (DifferAt own.now others.now) from end result }
 {
-    if !is_block_same::<N>(own, others, from) {
-        return Some(difference_in::<N>(own, others, from));
+    if let Some(at) = first_in_block::<N>(own, others, from) {
+        return Some(at);
     }
     first_in_block::<N>(own, others, end - N)
-}
-
-/// The place of the first difference in `N` bytes, or `None` where they are equal.
-#[inline(always)]
-fn first_in_block<const N: usize>(own: &[u8], others: &[u8], at: usize) -> Option<usize>
-    requires lanes { (0 < N) × (N ≤ u64.BITS) }
-    requires room { (at + N ≤ length own.now) × (at + N ≤ length others.now) }
-    ensures { IsFirstBelow (DifferAt own.now others.now) at (at + N) result }
-{
-    if is_block_same::<N>(own, others, at) {
-        return None;
-    }
-    Some(difference_in::<N>(own, others, at))
-}
-
-/// The place of the first difference in `N` bytes that are not all equal.
-#[inline(always)]
-fn difference_in<const N: usize>(own: &[u8], others: &[u8], at: usize) -> usize
-    requires lanes { (0 < N) × (N ≤ u64.BITS) }
-    requires room { (at + N ≤ length own.now) × (at + N ≤ length others.now) }
-    requires some { ¬ (Nowhere (DifferAt own.now others.now) at (at + N)) }
-    ensures least { IsLeast (DifferAt own.now others.now) at result }
-    ensures within { result < at + N }
-{
-    at + marks::<N>(own, others, at).trailing_zeros() as usize
 }
 
 /// The first place before an end where bytes differ, one after another.

@@ -4,7 +4,7 @@ ghost use Rattle.std.specs.Prelude.{◌≡◌, [], ◌++◌, ◌+◌, ◌*◌, �
 ghost use Rattle.std.specs.Simd.Lanes.{Each1};
 ghost use Rattle.std.specs.String.{string_bytes};
 ghost use Rattle.wtf8.specs.Hex.{digit, hex_of, hex};
-ghost use Rattle.wtf8.specs.SpacedHex.{spaced};
+ghost use Rattle.wtf8.specs.private.SpacedHex.{spaced};
 
 use crate::lanes::VECTOR;
 use std::alloc::{AllocError, Allocator};
@@ -19,10 +19,10 @@ const DIGITS: [u8; VECTOR] = *b"0123456789ABCDEF";
 /// The places of the first eight lanes of two vectors, in turn.
 const FRONT: [usize; VECTOR] = [0, 16, 1, 17, 2, 18, 3, 19, 4, 20, 5, 21, 6, 22, 7, 23];
 
-/// The same of eight lanes in the middle.
+/// The two digits of each of eight lanes in the middle, high and low in turn.
 const MIDDLE: [usize; VECTOR] = [4, 20, 5, 21, 6, 22, 7, 23, 8, 24, 9, 25, 10, 26, 11, 27];
 
-/// The same of the last eight lanes.
+/// The two digits of each of the last eight lanes, high and low in turn.
 const BACK: [usize; VECTOR] = [8, 24, 9, 25, 10, 26, 11, 27, 12, 28, 13, 29, 14, 30, 15, 31];
 
 /// The first sixteen places of a text that has a space before each pair of the front's lanes.

@@ -2,6 +2,7 @@
 pub(crate) mod copies;
 pub(crate) mod differences;
 pub(crate) mod digits;
+pub(crate) mod masks;
 pub(crate) mod search;
 
 /// How many bytes one of the processor's vectors holds.

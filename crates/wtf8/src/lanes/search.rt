@@ -1,10 +1,11 @@
 // The search for surrogates in bytes, and their replacement.
 ghost use Rattle.std.specs.Prelude.{◌≡◌, ◌∷◌, ◌++◌, ◌+◌, ◌<◌, ◌≤◌, length, take, drop};
 ghost use Rattle.wtf8.specs.Form.{IsWellFormed, bytes as bytes_of};
-ghost use Rattle.wtf8.specs.Scan.{IsFirst, IsFirstBelow, Nowhere};
-ghost use Rattle.wtf8.specs.SurrogateSearch.{BeginsInLane, SurrogateAt};
+ghost use Rattle.wtf8.specs.private.FirstPlace.{IsFirst, IsFirstBelow, Nowhere};
+ghost use Rattle.wtf8.specs.private.SurrogateSearch.{BeginsInLane, SurrogateAt};
 ghost use Rattle.wtf8.specs.Surrogates.{lossy};
 
+use crate::lanes::masks::first_set;
 use std::alloc::Allocator;
 use std::simd::prelude::*;
 
@@ -17,11 +18,7 @@ fn block(firsts: u8x32, seconds: u8x32) -> Option<usize>
     ensures { IsFirstBelow (BeginsInLane firsts seconds) 0 32 result }
 {
     let begin = firsts.simd_eq(Simd::splat(0xED)) & seconds.simd_ge(Simd::splat(0xA0));
-    let marks = begin.to_bitmask();
-    if marks == 0 {
-        return None;
-    }
-    Some(marks.trailing_zeros() as usize)
+    first_set(begin.to_bitmask())
 }
 
 /// The place of the first surrogate that begins at one of 32 places, which are not the last.

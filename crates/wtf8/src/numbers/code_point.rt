@@ -8,7 +8,7 @@ ghost use Rattle.wtf8.specs.Unicode.{IsCodePoint, IsSurrogate};
 use crate::texts::debug_text;
 use std::fmt;
 
-/// A Unicode code point: a number from 0 to 0x10FFFF.
+/// A Unicode code point: a number from 0 to 0x10FFFF, surrogates included.
 ///
 /// A `char` is a scalar value, a code point that is no surrogate (0xD800 to 0xDFFF). Equality, order and what a hasher
 /// is fed are those of the number, a `u32`.
@@ -21,7 +21,7 @@ pub struct CodePoint {
 impl CodePoint {
     ghost use Rattle.wtf8.specs.CodePoint.{number};
 
-    /// The code point of this number, or `None` exactly where the number is above 0x10FFFF.
+    /// The code point with this number, or `None` if it is above 0x10FFFF.
     pub fn from_u32(value: u32) -> Option<CodePoint>
         ensures some { IsSome result ↔ IsCodePoint value }
         ensures number { IfSome result (λ p. number p ≡ value) }
@@ -33,7 +33,7 @@ impl CodePoint {
         }
     }
 
-    /// The code point of this number, which the caller knows to be at most 0x10FFFF.
+    /// The code point with this number, which must be at most 0x10FFFF.
     pub fn from_u32_unchecked(value: u32) -> CodePoint
         requires { IsCodePoint value }
         ensures { number result ≡ value }
@@ -41,7 +41,7 @@ impl CodePoint {
         CodePoint { value }
     }
 
-    /// The code point of a character. Every character has one.
+    /// The code point of a `char`.
     pub fn from_char(value: char) -> CodePoint
         ensures { number result ≡ value }
     {
@@ -58,7 +58,7 @@ impl CodePoint {
         self.value
     }
 
-    /// The character of this number, or `None` exactly where the code point is a surrogate.
+    /// The `char` with this number, or `None` for a surrogate.
     pub fn to_char(&self) -> Option<char>
         ensures none { IsNone result ↔ IsSurrogate (number self.now) }
         ensures some { IfSome result (λ c. c ≡ number self.now) }
@@ -66,7 +66,7 @@ impl CodePoint {
         char::from_u32(self.value)
     }
 
-    /// The character of this number, or U+FFFD, the replacement character, for a surrogate.
+    /// The `char` with this number, or U+FFFD, the replacement character, for a surrogate.
     pub fn to_char_lossy(&self) -> char
         ensures scalar { ¬ IsSurrogate (number self.now) → result ≡ number self.now }
         ensures surrogate { IsSurrogate (number self.now) → result ≡ 0xFFFD }
@@ -76,8 +76,8 @@ impl CodePoint {
     }
 }
 
-/// `U+` and the number in upper-case hexadecimal, with zeros in front only to reach four digits. A width and flags that
-/// stand outside are ignored.
+/// Writes `U+` and the number in upper-case hexadecimal, with at least four digits. The formatter's width and flags are
+/// ignored.
 impl fmt::Debug for CodePoint {
     ghost use Rattle.wtf8.specs.CodePoint.{number};
 

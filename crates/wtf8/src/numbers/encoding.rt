@@ -1,11 +1,11 @@
 // The encoding of one code point: written at the end of bytes, and read from their front.
 ghost use Rattle.std.specs.Prelude.{◌≡◌, ◌++◌, ◌+◌, ◌-◌, ◌/◌, ◌%◌, ◌^◌, ◌<◌, ◌≤◌, ◌↔◌, ◌⊎◌};
-ghost use Rattle.std.specs.Prelude.{ℕ, List, IsTrue, length, slice_index, OnOk, OnErr, IsOk, vec_len, vec_capacity};
+ghost use Rattle.std.specs.Prelude.{ℕ, List, IsTrue, length, slice_index, OnOk, IsOk, vec_len, vec_capacity};
 ghost use Rattle.wtf8.specs.CodePoint.{number};
 ghost use Rattle.wtf8.specs.Form.{encoding};
-ghost use Rattle.wtf8.specs.Gains.{BeginsWithPoint, IsReadAs};
+ghost use Rattle.wtf8.specs.private.Gains.{BeginsWithPoint, IsReadAs, Becomes};
 ghost use Rattle.wtf8.specs.Unicode.{IsCodePoint};
-ghost use Rattle.wtf8.specs.UnitSteps.{trail_by};
+ghost use Rattle.wtf8.specs.private.UnitSteps.{trail_by};
 
 use crate::numbers::code_point::CodePoint;
 use std::alloc::{AllocError, Allocator};
@@ -106,16 +106,13 @@ pub(crate) fn append<A: Allocator>(
     bytes: &mut Vec<u8, A>,
     code_point: CodePoint,
 ) -> Result<(), AllocError>
-    ensures ok { OnOk result (bytes.new.items ≡ bytes.old.items ++ encoding (number code_point)) }
-    ensures err { OnErr result (bytes.new.items ≡ bytes.old.items) }
-    ensures room { vec_len bytes.old + length (encoding (number code_point)) ≤ vec_capacity bytes.old → IsOk result }
-    ensures capacity { vec_capacity bytes.old ≤ vec_capacity bytes.new }
+    ensures { Becomes bytes.old (bytes.old.items ++ encoding (number code_point)) bytes.new result }
 {
     let spare = spare_room(bytes);
     append_into(bytes, spare, code_point)
 }
 
-/// The same where the spare room is known.
+/// Appends the bytes of a code point where the spare room is known.
 #[inline(always)]
 #[tactic(auto, using(crate::proofs::lemmas::numbers::Encoding::encoding_one))]
 pub(crate) fn append_into<A: Allocator>(
@@ -124,10 +121,7 @@ pub(crate) fn append_into<A: Allocator>(
     code_point: CodePoint,
 ) -> Result<(), AllocError>
     requires { vec_len bytes.old + spare ≡ vec_capacity bytes.old }
-    ensures ok { OnOk result (bytes.new.items ≡ bytes.old.items ++ encoding (number code_point)) }
-    ensures err { OnErr result (bytes.new.items ≡ bytes.old.items) }
-    ensures room { vec_len bytes.old + length (encoding (number code_point)) ≤ vec_capacity bytes.old → IsOk result }
-    ensures capacity { vec_capacity bytes.old ≤ vec_capacity bytes.new }
+    ensures { Becomes bytes.old (bytes.old.items ++ encoding (number code_point)) bytes.new result }
 {
     let value = code_point.to_u32();
     if value < 0x80 {

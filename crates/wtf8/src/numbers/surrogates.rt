@@ -23,7 +23,7 @@ const TRAILS_FROM: u32 = FIRST_TRAIL as u32;
 /// How many surrogates of either kind there are.
 pub(crate) const OF_A_KIND: u16 = 0x400;
 
-/// The same among code points.
+/// How many code points are surrogates of either kind.
 const PER_KIND: u32 = OF_A_KIND as u32;
 
 /// The first supplementary code point.

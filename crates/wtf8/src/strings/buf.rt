@@ -8,10 +8,10 @@ ghost use Rattle.wtf8.specs.Form.{IsWellFormed, IsForm, Reads, bytes, encoding};
 ghost use Rattle.wtf8.specs.OneForm.{IsWellFormed-prop, AreScalarTo, AreScalarTo-prop};
 ghost use Rattle.wtf8.specs.Position.{IsBoundary, IsFront};
 ghost use Rattle.wtf8.specs.Surrogates.{AreScalar, lossy};
-ghost use Rattle.wtf8.specs.Scan.{IsFirst};
-ghost use Rattle.wtf8.specs.SurrogateSearch.{SurrogateAt};
+ghost use Rattle.wtf8.specs.private.FirstPlace.{IsFirst};
+ghost use Rattle.wtf8.specs.private.SurrogateSearch.{SurrogateAt};
 ghost use Rattle.wtf8.specs.Unicode.{units, units_of};
-ghost use Rattle.wtf8.specs.UnitParts.{AreAscii};
+ghost use Rattle.wtf8.specs.private.UnitParts.{AreAscii};
 ghost use Rattle.wtf8.specs.UnitPosition.{TruncatesUnits};
 ghost use Rattle.wtf8.specs.View.{view_points, view_units};
 
@@ -135,7 +135,7 @@ fn scalar_end_of_front(scalar_end: usize, len: usize) -> usize
 }
 
 impl<A: Allocator> Wtf8Buf<A> {
-    /// An empty string. It asks for no memory.
+    /// Makes an empty string. Does not allocate.
     pub fn new(alloc: A) -> Wtf8Buf<A>
         ensures units { result.units ≡ [] }
         ensures bytes { result.bytes ≡ [] }
@@ -143,7 +143,7 @@ impl<A: Allocator> Wtf8Buf<A> {
         from_well_formed(Vec::new(alloc), true)
     }
 
-    /// An empty string with room for at least `n` bytes. It asks for no memory where `n` is 0.
+    /// Makes an empty string with room for at least `n` bytes. Does not allocate if `n` is 0.
     pub fn with_capacity(alloc: A, n: usize) -> Result<Wtf8Buf<A>, AllocError>
         ensures units { IfOk result (λ b. b.units ≡ []) }
         ensures bytes { IfOk result (λ b. b.bytes ≡ []) }
@@ -153,7 +153,7 @@ impl<A: Allocator> Wtf8Buf<A> {
         Ok(from_well_formed(Vec::with_capacity(alloc, n)?, true))
     }
 
-    /// The string of a text's characters. It keeps the text's own bytes and asks for no memory.
+    /// Converts from a `String`, whose bytes it keeps. Does not allocate.
     pub fn from_string(string: String<A>) -> Wtf8Buf<A>
         ensures units { result.units ≡ units (chars (string_bytes string)) }
         ensures bytes { result.bytes ≡ string_bytes string }
@@ -162,7 +162,7 @@ impl<A: Allocator> Wtf8Buf<A> {
         from_well_formed(string.into_bytes(), true)
     }
 
-    /// The string of a text's characters: a copy of its bytes. The empty text asks for no memory.
+    /// Copies a `&str`. An empty one does not allocate.
     pub fn from_str(alloc: A, value: &str) -> Result<Wtf8Buf<A>, AllocError>
         ensures units { IfOk result (λ b. b.units ≡ units (chars value.now)) }
         ensures bytes { IfOk result (λ b. b.bytes ≡ value.now) }
@@ -173,8 +173,8 @@ impl<A: Allocator> Wtf8Buf<A> {
         Ok(from_well_formed(bytes, true))
     }
 
-    /// The string whose units are `v`, whether they pair or not. It first asks for as many bytes as there are units, and
-    /// for none where `v` is empty.
+    /// Makes the string with the code units `v`, paired or not. Reserves a byte for each unit first, and does not
+    /// allocate if `v` is empty.
     ///
     /// ```
     /// use std::alloc::{AllocError, Global};
@@ -196,7 +196,7 @@ impl<A: Allocator> Wtf8Buf<A> {
         Ok(from_well_formed(bytes, is_known_utf8))
     }
 
-    /// An equal string with an allocator of its own, cloned from this one's.
+    /// Copies the string, with a clone of its allocator.
     #[inline(always)]
     pub fn clone(&self) -> Result<Wtf8Buf<A>, AllocError>
     where
@@ -209,8 +209,8 @@ impl<A: Allocator> Wtf8Buf<A> {
         Ok(with_scalar_front(bytes, self.scalar_end))
     }
 
-    /// Finds room for at least `additional` more bytes, and asks for none where that room is there. The string is as
-    /// before in either case.
+    /// Reserves room for at least `additional` more bytes, and does not allocate if it is there. The string is
+    /// unchanged either way.
     pub fn reserve(&mut self, additional: usize) -> Result<(), AllocError>
         ensures ok { OnOk result (length self.new.bytes + additional ≤ self.new.capacity) }
         ensures units { self.new.units ≡ self.old.units }
@@ -221,8 +221,8 @@ impl<A: Allocator> Wtf8Buf<A> {
         encoding::reserve(&mut self.bytes, additional)
     }
 
-    /// Gives the spare room back, all of it where the allocator has a block of the string's length, and always where the
-    /// string is empty. Where that is refused the capacity stays as it is. The string is as before in either case.
+    /// Releases spare capacity if the allocator agrees, else keeps it. An empty string releases all of it. The string
+    /// is unchanged either way.
     pub fn shrink_to_fit(&mut self)
         ensures units { self.new.units ≡ self.old.units }
         ensures bytes { self.new.bytes ≡ self.old.bytes }
@@ -232,7 +232,7 @@ impl<A: Allocator> Wtf8Buf<A> {
         self.bytes.shrink_to_fit();
     }
 
-    /// How many bytes fit without a growth: at least the length.
+    /// How many bytes fit before the string has to grow: at least the length.
     pub fn capacity(&self) -> usize
         ensures value { result ≡ self.now.capacity }
         ensures at_least_length { length self.now.bytes ≤ result }
@@ -240,7 +240,7 @@ impl<A: Allocator> Wtf8Buf<A> {
         self.bytes.capacity()
     }
 
-    /// The number of bytes: at least the number of units, and at most three times that.
+    /// The length in bytes: at least the number of code units, and at most three times that.
     pub fn len(&self) -> usize
         ensures bytes { result ≡ length self.now.bytes }
         ensures at_least_units { length self.now.units ≤ result }
@@ -249,7 +249,7 @@ impl<A: Allocator> Wtf8Buf<A> {
         self.as_wtf8().len()
     }
 
-    /// Whether the string has no units, and so no bytes.
+    /// Whether the string is empty.
     pub fn is_empty(&self) -> bool
         ensures units { IsTrue result ↔ self.now.units ≡ [] }
         ensures bytes { IsTrue result ↔ self.now.bytes ≡ [] }
@@ -266,8 +266,8 @@ impl<A: Allocator> Wtf8Buf<A> {
         Wtf8::from_well_formed(self.bytes.as_slice())
     }
 
-    /// Appends a code point. A trail surrogate behind a lead joins it: the two become the code point that they stand
-    /// for, which adds one byte. After a refusal the string is as before.
+    /// Appends a code point. A trail surrogate behind a lead joins it: the two become the one code point of four bytes
+    /// that they stand for, which adds one byte. If memory is refused, the string is unchanged.
     #[inline(always)]
     pub fn push(&mut self, code_point: CodePoint) -> Result<(), AllocError>
         ensures ok { OnOk result (AppendsUnits self.old (units_of (number code_point)) self.new) }
@@ -284,7 +284,7 @@ impl<A: Allocator> Wtf8Buf<A> {
         concat::push_point(&mut self.bytes, &mut self.scalar_end, code_point)
     }
 
-    /// Appends a character. After a refusal the string is as before.
+    /// Appends a character. If memory is refused, the string is unchanged.
     #[inline(always)]
     #[tactic(auto, using(crate::proofs::lemmas::numbers::Encoding::encoding_one))]
     pub fn push_char(&mut self, c: char) -> Result<(), AllocError>
@@ -310,7 +310,7 @@ impl<A: Allocator> Wtf8Buf<A> {
         concat::push_scalar(&mut self.bytes, c)
     }
 
-    /// Appends a text. After a refusal the string is as before.
+    /// Appends a `&str`. If memory is refused, the string is unchanged.
     pub fn push_str(&mut self, other: &str) -> Result<(), AllocError>
         ensures ok { OnOk result (AppendsUnits self.old (units (chars other.now)) self.new) }
         ensures kept { OnErr result (KeepsContents self.old self.new) }
@@ -340,8 +340,9 @@ impl<A: Allocator> Wtf8Buf<A> {
         let _ = self.bytes.extend_from_slice(block);
     }
 
-    /// Appends another string. A trail surrogate at its front joins a lead at the end: the two become the code point
-    /// that they stand for, and the length grows by the other's length less 2. After a refusal the string is as before.
+    /// Appends another string. A trail surrogate at its front joins a lead at the end: the two become the one code
+    /// point that they stand for, and the length grows by the other's length less 2. If memory is refused, the string
+    /// is unchanged.
     ///
     /// ```
     /// use std::alloc::Global;
@@ -382,7 +383,8 @@ impl<A: Allocator> Wtf8Buf<A> {
         concat::push_view(&mut self.bytes, other, is_apart)
     }
 
-    /// Keeps the code points before a position, which `is_code_point_boundary` of the view tests.
+    /// Shortens the string to `new_len` bytes, which must be a code point boundary (`is_code_point_boundary` of the
+    /// view).
     pub fn truncate(&mut self, new_len: usize)
         requires { IsBoundary self.old.units new_len }
         ensures units { IsFront self.old.units new_len self.new.units }
@@ -392,7 +394,7 @@ impl<A: Allocator> Wtf8Buf<A> {
         self.bytes.truncate(new_len)
     }
 
-    /// Leaves no units, and the capacity as it was. It asks for no memory.
+    /// Empties the string and keeps its capacity. Does not allocate.
     pub fn clear(&mut self)
         ensures units { self.new.units ≡ [] }
         ensures bytes { self.new.bytes ≡ [] }
@@ -402,8 +404,8 @@ impl<A: Allocator> Wtf8Buf<A> {
         self.bytes.clear()
     }
 
-    /// Keeps the first `n` units. Where `n` divides a pair its lead stays alone: three bytes in the place of four. It
-    /// asks for no memory.
+    /// Shortens the string to `n` code units, which must be at most the number of code units. Where that splits a
+    /// surrogate pair its lead stays alone: three bytes in place of four. Does not allocate.
     pub fn truncate_units(&mut self, n: usize)
         requires { n ≤ length self.old.units }
         ensures units { self.new.units ≡ take n self.old.units }
@@ -433,8 +435,7 @@ impl<A: Allocator> Wtf8Buf<A> {
         true
     }
 
-    /// The same bytes as a text, not copied, or the buffer as it was exactly where it holds a surrogate. It asks for no
-    /// memory.
+    /// Converts to a `String` without copying; returns the buffer unchanged if it holds a surrogate. Does not allocate.
     pub fn into_string(self) -> Result<String<A>, Wtf8Buf<A>>
         ensures ok { IsOk result ↔ AreScalar self.form.points }
         ensures units { IsOk result ↔ ((c : List ℕ) → Reads c self.units → AreScalar c) }
@@ -450,8 +451,8 @@ impl<A: Allocator> Wtf8Buf<A> {
         }
     }
 
-    /// The string as a text of the same length, with U+FFFD written over each surrogate in place. It asks for no
-    /// memory.
+    /// Converts to a `String` with U+FFFD written over each surrogate in place, so that the length in bytes stays the
+    /// same. Does not allocate.
     pub fn into_string_lossy(self) -> String<A>
         ensures text { string_bytes result ≡ bytes (lossy self.form.points) }
         ensures len { length (string_bytes result) ≡ length self.bytes }

@@ -8,31 +8,31 @@ use crate::strings::buf::Wtf8Buf;
 use crate::strings::view::Wtf8;
 use std::alloc::{AllocError, Allocator};
 
-/// A building call on a string, for lists of them.
+/// A building call on a string, as a value, so that lists of them can be applied.
 #[derive(Clone, Copy)]
 pub enum Build<'b> {
-    /// `push` of a code point.
+    /// `push` a code point.
     Push(CodePoint),
-    /// `push_char` of a character.
+    /// `push_char` a character.
     PushChar(char),
-    /// `push_str` of a text.
+    /// `push_str` a text.
     PushStr(&'b str),
-    /// `push_wtf8` of a string.
+    /// `push_wtf8` a string.
     PushWtf8(Wtf8<'b>),
     /// `extend` by the code points of a slice.
     Extend(&'b [CodePoint]),
-    /// `reserve` of room for so many more bytes.
+    /// `reserve` room for this many more bytes.
     Reserve(usize),
-    /// `truncate` at a position in bytes, refused at no code point boundary.
+    /// `truncate` to this many bytes; refused if that is no code point boundary.
     Truncate(usize),
-    /// `truncate_units` at a number of units, refused where there are fewer.
+    /// `truncate_units` to this many code units; refused if there are fewer.
     TruncateUnits(usize),
 }
 
-/// A list of calls was stopped: one of them was refused for want of memory.
+/// The error of `apply_all`: a call was refused memory, and the list stopped there.
 #[derive(Clone, Copy, PartialEq, Eq, Debug)]
 pub struct Stopped {
-    /// How many calls ran before the refused one, which is the number of that one counted from 0.
+    /// The number of calls that were applied, which is the index of the refused one.
     pub done: usize,
 }
 
@@ -40,9 +40,9 @@ impl<A: Allocator> Wtf8Buf<A> {
     ghost use Rattle.wtf8.specs.Building.{Step, Run, LeavesRefused, StopsAt, appended, Append, IsNoExtension, IsNoTruncation, FindsRoom, FindRoom, LeavesReserved};
     ghost use Rattle.wtf8.specs.declared.strings.build.Build.TheVariants.{Reserve, Truncate};
 
-    /// Does the call of that name. It answers true, or false for a truncation at no boundary or at more units than there
-    /// are, which changes nothing. After a refusal for want of memory the string is as that call leaves it: as before, or with some beginning of an
-    /// extension's points. A truncation is never refused so.
+    /// Applies one call. `Ok(false)` means that a truncation was refused, at no code point boundary or past the last
+    /// code unit; it changes nothing. If memory is refused, the string is as that call leaves it: unchanged, or with
+    /// the first points of an extension appended. A truncation needs no memory.
     pub fn apply(&mut self, call: Build<'_>) -> Result<bool, AllocError>
         ensures step { IfOk result (λ kept. Step self.old.units call.entry self.new.units (if kept then 0 else 1)) }
         ensures refused { OnErr result (LeavesRefused self.old.units call.entry self.new.units) }
@@ -69,11 +69,11 @@ impl<A: Allocator> Wtf8Buf<A> {
         Ok(true)
     }
 
-    /// Applies the calls in order, and answers how many truncations were refused: each of those changes nothing, and the
-    /// calls behind it are applied all the same.
+    /// Applies calls in order, and returns how many truncations were refused; those change nothing, and the list goes
+    /// on.
     ///
-    /// Where a call is refused for want of memory, the calls before it were applied, it is no truncation, and the string
-    /// is what they leave, followed, where it is an extension, by some beginning of its points.
+    /// If a call is refused memory, `Stopped` says which: the calls before it were applied, and if it was an extension,
+    /// its first points may be appended too.
     ///
     /// ```
     /// use std::alloc::Global;

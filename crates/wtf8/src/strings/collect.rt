@@ -5,7 +5,7 @@ ghost use Rattle.wtf8.specs.CodePoint.{numbers};
 ghost use Rattle.wtf8.specs.Appending.{AppendsPoints, HasRoomFor};
 ghost use Rattle.wtf8.specs.Form.{IsForm};
 ghost use Rattle.wtf8.specs.Unicode.{units};
-ghost use Rattle.wtf8.specs.UnitParts.{AreAscii};
+ghost use Rattle.wtf8.specs.private.UnitParts.{AreAscii};
 ghost use Rattle.wtf8.specs.declared.numbers.code_point.CodePoint.{CodePoint};
 
 use crate::numbers::code_point::CodePoint;
@@ -35,9 +35,9 @@ fn ascii_points(points: &[CodePoint]) -> Option<[u8; NUMBERS]>
 }
 
 impl<A: Allocator> Wtf8Buf<A> {
-    /// Appends code points in the order in which they come; a trail surrogate joins a lead before it. Room for as many
-    /// bytes as the iterator's lower hint is found first: where that is refused no item was taken. After another
-    /// refusal the string holds the old units and those of some beginning of the items.
+    /// Appends code points in order; a trail surrogate joins a lead before it. Reserves as many bytes as the iterator's
+    /// lower size hint first: if that is refused, no item was taken. If memory is refused later, the string holds its
+    /// old code units and those of the first items.
     pub fn extend<I: IntoIterator<Item = CodePoint>>(
         &mut self,
         iterable: I,
@@ -55,8 +55,7 @@ impl<A: Allocator> Wtf8Buf<A> {
         Ok(())
     }
 
-    /// The string of the code points in the order in which they come: `extend` on the empty string. After a refusal
-    /// there is no string.
+    /// Makes a string of code points in order, as `extend` of an empty one.
     pub fn from_iter<I: IntoIterator<Item = CodePoint>>(
         alloc: A,
         iterable: I,
@@ -115,7 +114,7 @@ impl<A: Allocator> Wtf8Buf<A> {
     }
 }
 
-/// `from_iter`, so that `collect` of an iterator makes a string.
+/// Makes a string of code points, so that `collect` of an iterator can.
 impl<A: Allocator> FromIterator<CodePoint> for Wtf8Buf<A> {
     type Alloc = A;
 
@@ -129,7 +128,7 @@ impl<A: Allocator> FromIterator<CodePoint> for Wtf8Buf<A> {
     }
 }
 
-/// `extend`, so that code over any collection takes a string.
+/// Extends a string by code points, so that code over any collection can.
 impl<A: Allocator> Extend<CodePoint> for Wtf8Buf<A> {
     ghost extend_gives = { AppendsPoints };
 

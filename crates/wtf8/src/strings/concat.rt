@@ -5,7 +5,7 @@ ghost use Rattle.std.specs.Str.{chars};
 ghost use Rattle.wtf8.specs.CodePoint.{number};
 ghost use Rattle.wtf8.specs.Concatenation.{MeetsAsPair};
 ghost use Rattle.wtf8.specs.Form.{IsWellFormed, encoding};
-ghost use Rattle.wtf8.specs.Gains.{GainsUnits, FitsUnits};
+ghost use Rattle.wtf8.specs.private.Gains.{GainsUnits, Becomes, Gains};
 ghost use Rattle.wtf8.specs.Unicode.{units, units_of, pair, IsSurrogate, IsLead, IsTrail};
 ghost use Rattle.wtf8.specs.View.{view_points, view_units};
 
@@ -20,10 +20,7 @@ fn join<A: Allocator>(bytes: &mut Vec<u8, A>, lead: u32, trail: u32) -> Result<(
     requires lead { IsLead lead }
     requires trail { IsTrail trail }
     requires three { 3 ≤ length bytes.old.items }
-    ensures ok { OnOk result (bytes.new.items ≡ take (length bytes.old.items - 3) bytes.old.items ++ encoding (pair lead trail)) }
-    ensures err { OnErr result (bytes.new.items ≡ bytes.old.items) }
-    ensures room { vec_len bytes.old + 1 ≤ vec_capacity bytes.old → IsOk result }
-    ensures capacity { vec_capacity bytes.old ≤ vec_capacity bytes.new }
+    ensures { Becomes bytes.old (take (length bytes.old.items - 3) bytes.old.items ++ encoding (pair lead trail)) bytes.new result }
 {
     let joined = encoding::four_bytes(surrogates::joined(lead, trail));
     let start = bytes.len() - 3;
@@ -58,12 +55,8 @@ pub(crate) fn push_apart<A: Allocator>(
     requires spare { vec_len bytes.old + spare ≡ vec_capacity bytes.old }
     requires well_formed { IsWellFormed bytes.old.items }
     requires apart { (h : IsWellFormed bytes.old.items) → ¬ (MeetsAsPair h.points (number code_point ∷ [])) }
-    ensures ok { OnOk result (GainsUnits bytes.old.items bytes.new.items (units_of (number code_point))) }
-    ensures bytes { OnOk result (bytes.new.items ≡ bytes.old.items ++ encoding (number code_point)) }
-    ensures err { OnErr result (bytes.new.items ≡ bytes.old.items) }
-    ensures room { FitsUnits bytes.old.items (units_of (number code_point)) (vec_capacity bytes.old) → IsOk result }
-    ensures room_left { vec_len bytes.old + length (encoding (number code_point)) ≤ vec_capacity bytes.old → IsOk result }
-    ensures capacity { vec_capacity bytes.old ≤ vec_capacity bytes.new }
+    ensures units { GainsUnits bytes.old.items (bytes.old.items ++ encoding (number code_point)) (units_of (number code_point)) }
+    ensures bytes { Becomes bytes.old (bytes.old.items ++ encoding (number code_point)) bytes.new result }
 {
     encoding::append_into(bytes, spare, code_point)
 }
@@ -75,10 +68,7 @@ pub(crate) fn push_surrogate<A: Allocator>(
     code_point: CodePoint,
 ) -> Result<(), AllocError>
     requires { IsWellFormed bytes.old.items }
-    ensures ok { OnOk result (GainsUnits bytes.old.items bytes.new.items (units_of (number code_point))) }
-    ensures err { OnErr result (bytes.new.items ≡ bytes.old.items) }
-    ensures room { FitsUnits bytes.old.items (units_of (number code_point)) (vec_capacity bytes.old) → IsOk result }
-    ensures capacity { vec_capacity bytes.old ≤ vec_capacity bytes.new }
+    ensures { Gains bytes.old (units_of (number code_point)) bytes.new result }
 {
     let view = Wtf8::from_well_formed(bytes.as_slice());
     match joining_lead(view, code_point) {
@@ -99,10 +89,7 @@ pub(crate) fn push_point<A: Allocator>(
     code_point: CodePoint,
 ) -> Result<(), AllocError>
     requires { IsWellFormed bytes.old.items }
-    ensures ok { OnOk result (GainsUnits bytes.old.items bytes.new.items (units_of (number code_point))) }
-    ensures err { OnErr result (bytes.new.items ≡ bytes.old.items) }
-    ensures room { FitsUnits bytes.old.items (units_of (number code_point)) (vec_capacity bytes.old) → IsOk result }
-    ensures capacity { vec_capacity bytes.old ≤ vec_capacity bytes.new }
+    ensures gains { Gains bytes.old (units_of (number code_point)) bytes.new result }
     ensures known { scalar_end.new ≤ scalar_end.old }
     ensures scalar { length bytes.old.items < scalar_end.new → ¬ (IsSurrogate (number code_point)) }
 {
@@ -124,10 +111,7 @@ pub(crate) fn push_point<A: Allocator>(
 
 /// Appends bytes as they are. After a refusal the bytes are as before.
 fn append_bytes<A: Allocator>(bytes: &mut Vec<u8, A>, other: &[u8]) -> Result<(), AllocError>
-    ensures ok { OnOk result (bytes.new.items ≡ bytes.old.items ++ other.now) }
-    ensures err { OnErr result (bytes.new.items ≡ bytes.old.items) }
-    ensures room { length bytes.old.items + length other.now ≤ vec_capacity bytes.old → IsOk result }
-    ensures capacity { vec_capacity bytes.old ≤ vec_capacity bytes.new }
+    ensures { Becomes bytes.old (bytes.old.items ++ other.now) bytes.new result }
 {
     bytes.extend_from_slice(other)
 }
@@ -163,10 +147,7 @@ fn join_bytes<A: Allocator>(
     requires trail { IsTrail trail }
     requires three { 3 ≤ length bytes.old.items }
     requires begins { (3 ≤ length other.now) × (slice_index other.now 2 ≡ 0x80 + trail % 64) }
-    ensures ok { OnOk result (bytes.new.items ≡ (take (length bytes.old.items - 3) bytes.old.items ++ encoding (pair lead trail)) ++ drop 3 other.now) }
-    ensures err { OnErr result (bytes.new.items ≡ bytes.old.items) }
-    ensures room { (length bytes.old.items + length other.now) - 2 ≤ vec_capacity bytes.old → IsOk result }
-    ensures capacity { vec_capacity bytes.old ≤ vec_capacity bytes.new }
+    ensures { Becomes bytes.old ((take (length bytes.old.items - 3) bytes.old.items ++ encoding (pair lead trail)) ++ drop 3 other.now) bytes.new result }
 {
     let joined = encoding::four_bytes(surrogates::joined(lead, trail));
     let start = bytes.len() - 3;
@@ -187,10 +168,7 @@ pub(crate) fn push_view<A: Allocator>(
 ) -> Result<(), AllocError>
     requires well_formed { IsWellFormed bytes.old.items }
     requires apart { IsTrue is_apart → (h : IsWellFormed bytes.old.items) → ¬ (MeetsAsPair h.points (view_points other)) }
-    ensures ok { OnOk result (GainsUnits bytes.old.items bytes.new.items (view_units other.entry)) }
-    ensures err { OnErr result (bytes.new.items ≡ bytes.old.items) }
-    ensures room { FitsUnits bytes.old.items (view_units other.entry) (vec_capacity bytes.old) → IsOk result }
-    ensures capacity { vec_capacity bytes.old ≤ vec_capacity bytes.new }
+    ensures { Gains bytes.old (view_units other.entry) bytes.new result }
 {
     let view = Wtf8::from_well_formed(bytes.as_slice());
     match meeting_pair(view, other, is_apart) {
@@ -203,12 +181,8 @@ pub(crate) fn push_view<A: Allocator>(
 #[inline(always)]
 pub(crate) fn push_scalar<A: Allocator>(bytes: &mut Vec<u8, A>, c: char) -> Result<(), AllocError>
     requires { IsWellFormed bytes.old.items }
-    ensures ok { OnOk result (GainsUnits bytes.old.items bytes.new.items (units_of c)) }
-    ensures bytes { OnOk result (bytes.new.items ≡ bytes.old.items ++ encoding c) }
-    ensures err { OnErr result (bytes.new.items ≡ bytes.old.items) }
-    ensures room { FitsUnits bytes.old.items (units_of c) (vec_capacity bytes.old) → IsOk result }
-    ensures room_left { vec_len bytes.old + length (encoding c) ≤ vec_capacity bytes.old → IsOk result }
-    ensures capacity { vec_capacity bytes.old ≤ vec_capacity bytes.new }
+    ensures units { GainsUnits bytes.old.items (bytes.old.items ++ encoding c) (units_of c) }
+    ensures bytes { Becomes bytes.old (bytes.old.items ++ encoding c) bytes.new result }
 {
     let spare = encoding::spare_room(bytes);
     push_apart(bytes, spare, CodePoint::from_u32_unchecked(u32::from(c)))
@@ -217,13 +191,9 @@ pub(crate) fn push_scalar<A: Allocator>(bytes: &mut Vec<u8, A>, c: char) -> Resu
 /// Appends a text, none of whose characters joins anything.
 pub(crate) fn push_text<A: Allocator>(bytes: &mut Vec<u8, A>, other: &str) -> Result<(), AllocError>
     requires { IsWellFormed bytes.old.items }
-    ensures ok { OnOk result (GainsUnits bytes.old.items bytes.new.items (units (chars other.now))) }
-    ensures bytes { OnOk result (bytes.new.items ≡ bytes.old.items ++ other.now) }
-    ensures err { OnErr result (bytes.new.items ≡ bytes.old.items) }
-    ensures room { FitsUnits bytes.old.items (units (chars other.now)) (vec_capacity bytes.old) → IsOk result }
-    ensures room_left { vec_len bytes.old + length other.now ≤ vec_capacity bytes.old → IsOk result }
+    ensures units { GainsUnits bytes.old.items (bytes.old.items ++ other.now) (units (chars other.now)) }
+    ensures bytes { Becomes bytes.old (bytes.old.items ++ other.now) bytes.new result }
     ensures empty { other.now ≡ [] → IsOk result }
-    ensures capacity { vec_capacity bytes.old ≤ vec_capacity bytes.new }
 {
     append_bytes(bytes, other.as_bytes())
 }

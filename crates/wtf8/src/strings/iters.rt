@@ -2,7 +2,7 @@
 ghost use Rattle.std.specs.Prelude.{◌≤◌, ◌<◌, length, drop};
 ghost use Rattle.wtf8.specs.Form.{IsWellFormed};
 ghost use Rattle.wtf8.specs.OneForm.{IsWellFormed-prop};
-ghost use Rattle.wtf8.specs.UnitSteps.{behind_held, StepsUnit};
+ghost use Rattle.wtf8.specs.private.UnitSteps.{behind_held, StepsUnit};
 
 use crate::numbers::code_point::CodePoint;
 use crate::numbers::encoding;
@@ -10,8 +10,8 @@ use crate::strings::view::Wtf8;
 use std::alloc::AllocError;
 use std::marker::Model;
 
-/// The code points of a string, in order. It ends, and answers `None` again afterwards; a clone goes on with the same
-/// items and asks for no memory.
+/// An iterator over the code points of a string, in order. It ends, and answers `None` from then on; a clone goes on
+/// with the same items and does not allocate.
 ///
 /// Contracts see it as the list of the code points that are left.
 #[derive(Drop)]
@@ -80,7 +80,7 @@ impl<'a> Iterator for Wtf8CodePoints<'a> {
         self.give_next()
     }
 
-    /// A quarter of the bytes left, rounded up, and their number: a code point has one to four.
+    /// At least a quarter of the bytes left, rounded up, and at most their number, since a code point has one to four.
     fn size_hint(&self) -> (usize, Option<usize>)
         ensures lower { IsWithinCount result.0 (at_most (length self.now)) }
         ensures upper { IfSome result.1 (UpTo (at_most (length self.now))) }
@@ -142,8 +142,8 @@ fn read_unit(bytes: &[u8], position: &mut usize) -> u16
     trail
 }
 
-/// The 16-bit code units of a string, in order: what it was made of, whether they pair or not. It ends, and answers
-/// `None` again afterwards; a clone goes on with the same items and asks for no memory.
+/// An iterator over the 16-bit code units of a string, in order: those that it was made of, paired or not. It ends, and
+/// answers `None` from then on; a clone goes on with the same items and does not allocate.
 ///
 /// Contracts see it as the units that are held back, none or one trail surrogate, and the code points that are left.
 #[derive(Drop)]
@@ -161,7 +161,7 @@ pub struct IllFormedUtf16CodeUnits<'a> {
 impl<'a> Model for IllFormedUtf16CodeUnits<'a> {
     ghost use Rattle.std.specs.Prelude.{drop};
     ghost use Rattle.wtf8.specs.Units.{Unread};
-    ghost use Rattle.wtf8.specs.UnitSteps.{held_in};
+    ghost use Rattle.wtf8.specs.private.UnitSteps.{held_in};
 
     ghost Value = { Unread };
 
@@ -174,7 +174,7 @@ impl<'a> IllFormedUtf16CodeUnits<'a> {
     ghost use Rattle.wtf8.specs.Form.{bytes};
     ghost use Rattle.wtf8.specs.Unicode.{units};
     ghost use Rattle.wtf8.specs.Units.{unread_units};
-    ghost use Rattle.wtf8.specs.UnitSteps.{unread_after};
+    ghost use Rattle.wtf8.specs.private.UnitSteps.{unread_after};
     ghost use Rattle.wtf8.specs.View.{view_points};
 
     pub(crate) fn new(view: Wtf8<'a>) -> IllFormedUtf16CodeUnits<'a>

@@ -12,14 +12,14 @@ use crate::strings::view::Wtf8;
 /// `Wtf8::start_mark` is the first, and others are found by `Wtf8::mark_at`.
 #[derive(Clone, Copy)]
 pub struct UnitMark {
-    /// How many bytes are before it.
+    /// The position in bytes.
     pub position: usize,
-    /// How many units are before it.
+    /// The number of code units before the position.
     pub units: usize,
 }
 
 impl<'a> Wtf8<'a> {
-    /// The mark at the start, before all units.
+    /// The mark at the start of the string.
     pub fn start_mark(&self) -> UnitMark
         ensures mark { IsMarkOf self.now result }
         ensures start { (result.position ≡ 0) × (result.units ≡ 0) }
@@ -30,7 +30,7 @@ impl<'a> Wtf8<'a> {
         }
     }
 
-    /// The view behind a mark, which has the units behind it. It is a part of the same bytes and may outlive this view.
+    /// The part behind a mark of this string. Borrows the bytes for `'a`, so it may outlive this view.
     pub fn behind_mark(&self, mark: UnitMark) -> Wtf8<'a>
         requires { IsMarkOf self.now mark }
         ensures units { view_units result ≡ drop mark.units (view_units self.now) }
@@ -40,8 +40,8 @@ impl<'a> Wtf8<'a> {
         Wtf8::from_well_formed(rest)
     }
 
-    /// The mark of a number of units, or of one less where the number divides a pair. It is looked for from another mark
-    /// on, at no more units, and takes time for the units between the two alone.
+    /// The mark at code unit `units`, or one unit earlier if that splits a pair. `from` must be a mark of this string
+    /// at no more units; only the distance from there takes time.
     pub fn mark_at(&self, from: UnitMark, units: usize) -> UnitMark
         requires mark { IsMarkOf self.now from }
         requires order { from.units ≤ units }

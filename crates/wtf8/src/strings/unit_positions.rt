@@ -3,7 +3,7 @@ ghost use Rattle.std.specs.Prelude.{◌≡◌, ◌++◌, ◌+◌, ◌-◌, ◌*�
 ghost use Rattle.std.specs.Option.{option_to_list};
 ghost use Rattle.wtf8.specs.Form.{encoding};
 ghost use Rattle.wtf8.specs.Unicode.{IsLead};
-ghost use Rattle.wtf8.specs.UnitCounts.{units_begun, all_units_begun, HasLane, IsPlaceOfUnit, CutsUnits};
+ghost use Rattle.wtf8.specs.private.UnitCounts.{units_begun, all_units_begun, HasLane, IsCounted, IsPlaceOfUnit, CutsUnits};
 ghost use Rattle.wtf8.specs.UnitPosition.{units_of_slice, DividesPair};
 ghost use Rattle.wtf8.specs.View.{view_points, view_units};
 
@@ -38,7 +38,7 @@ struct Place {
 }
 
 /// How many units the code point has whose bytes begin with this one; 0 where none begins with it.
-#[tactic(auto, unfolding(crate::specs::UnitCounts::units_begun))]
+#[tactic(auto, unfolding(crate::specs::private::UnitCounts::units_begun))]
 fn units_begun_by(byte: u8) -> usize
     ensures { result ≡ units_begun byte }
 {
@@ -83,10 +83,8 @@ fn units_begun_in_blocks(bytes: &[u8], at: usize) -> usize
 /// The place of the code point that holds a unit, in the bytes from a place on that has no more units before it; or the
 /// end, where the bytes have no such unit.
 fn find_unit_from(bytes: &[u8], unit: usize, from: Place) -> Place
-    requires within { from.at ≤ length bytes.now }
-    requires counted { from.units_before ≡ all_units_begun (take from.at bytes.now) }
-    requires not_beyond { from.units_before ≤ unit }
-    ensures { IsPlaceOfUnit bytes.now unit result.at result.units_before }
+    requires { IsCounted bytes.now unit from }
+    ensures { IsPlaceOfUnit bytes.now unit result }
 {
     let mut units_before = from.units_before;
     for at in from.at..bytes.len() {
@@ -114,12 +112,8 @@ fn find_unit_from(bytes: &[u8], unit: usize, from: Place) -> Place
 #[inline(always)]
 fn behind_block<const N: usize>(bytes: &[u8], unit: usize, from: Place) -> Option<Place>
     requires lanes { (0 < N) × (N ≤ u64.BITS) }
-    requires within { from.at ≤ length bytes.now }
-    requires counted { from.units_before ≡ all_units_begun (take from.at bytes.now) }
-    requires not_beyond { from.units_before ≤ unit }
-    ensures within { IfSome result (λ place. place.at ≤ length bytes.now) }
-    ensures counted { IfSome result (λ place. place.units_before ≡ all_units_begun (take place.at bytes.now)) }
-    ensures not_beyond { IfSome result (λ place. place.units_before ≤ unit) }
+    requires counted { IsCounted bytes.now unit from }
+    ensures counted { IfSome result (λ place. IsCounted bytes.now unit place) }
     ensures further { IfSome result (λ place. from.at < place.at) }
 {
     if bytes.len() - from.at < N {
@@ -145,12 +139,8 @@ fn behind_likely_blocks<const N: usize>(
     from: Place,
 ) -> Place
     requires lanes { (0 < N) × (N ≤ u64.BITS) }
-    requires within { from.at ≤ length bytes.now }
-    requires counted { from.units_before ≡ all_units_begun (take from.at bytes.now) }
-    requires not_beyond { from.units_before ≤ unit }
-    ensures within { result.at ≤ length bytes.now }
-    ensures counted { result.units_before ≡ all_units_begun (take result.at bytes.now) }
-    ensures not_beyond { result.units_before ≤ unit }
+    requires counted { IsCounted bytes.now unit from }
+    ensures { IsCounted bytes.now unit result }
 {
     let mut place = from;
     while least <= unit - place.units_before {
@@ -176,12 +166,8 @@ fn is_below<const N: usize>(lanes: Simd<u8, N>, least: u8) -> bool
 #[inline(always)]
 fn behind_ascii<const N: usize>(bytes: &[u8], unit: usize, from: Place) -> Option<Place>
     requires lanes { N ≤ u64.BITS }
-    requires within { from.at ≤ length bytes.now }
-    requires counted { from.units_before ≡ all_units_begun (take from.at bytes.now) }
-    requires not_beyond { from.units_before ≤ unit }
-    ensures within { IfSome result (λ place. place.at ≤ length bytes.now) }
-    ensures counted { IfSome result (λ place. place.units_before ≡ all_units_begun (take place.at bytes.now)) }
-    ensures not_beyond { IfSome result (λ place. place.units_before ≤ unit) }
+    requires counted { IsCounted bytes.now unit from }
+    ensures { IfSome result (λ place. IsCounted bytes.now unit place) }
 {
     if bytes.len() - from.at < N {
         return None;
@@ -199,9 +185,7 @@ fn behind_ascii<const N: usize>(bytes: &[u8], unit: usize, from: Place) -> Optio
 /// The place behind all blocks that are added lane by lane and that the unit is behind too.
 #[inline(always)]
 fn behind_added_blocks(bytes: &[u8], unit: usize) -> Place
-    ensures within { result.at ≤ length bytes.now }
-    ensures counted { result.units_before ≡ all_units_begun (take result.at bytes.now) }
-    ensures not_beyond { result.units_before ≤ unit }
+    ensures { IsCounted bytes.now unit result }
 {
     let mut at = 0;
     let mut units_before = 0;
@@ -219,9 +203,7 @@ fn behind_added_blocks(bytes: &[u8], unit: usize) -> Place
 /// The place behind all blocks that the unit is behind too.
 #[inline(always)]
 fn behind_blocks(bytes: &[u8], unit: usize) -> Place
-    ensures within { result.at ≤ length bytes.now }
-    ensures counted { result.units_before ≡ all_units_begun (take result.at bytes.now) }
-    ensures not_beyond { result.units_before ≤ unit }
+    ensures { IsCounted bytes.now unit result }
 {
     let start = Place {
         at: 0,
@@ -238,9 +220,7 @@ fn behind_blocks(bytes: &[u8], unit: usize) -> Place
 /// The same. It stands by itself, so that a short string costs little.
 #[inline(never)]
 fn behind_blocks_of_many(bytes: &[u8], unit: usize) -> Place
-    ensures within { result.at ≤ length bytes.now }
-    ensures counted { result.units_before ≡ all_units_begun (take result.at bytes.now) }
-    ensures not_beyond { result.units_before ≤ unit }
+    ensures { IsCounted bytes.now unit result }
 {
     let place = behind_added_blocks(bytes, unit);
     let place = behind_likely_blocks::<BLOCK>(bytes, unit, BLOCK / 3, place);
@@ -251,15 +231,14 @@ fn behind_blocks_of_many(bytes: &[u8], unit: usize) -> Place
 
 /// The place of the code point that holds a unit, or the end, where the bytes have no such unit.
 fn find_unit(bytes: &[u8], unit: usize) -> Place
-    ensures { IsPlaceOfUnit bytes.now unit result.at result.units_before }
+    ensures { IsPlaceOfUnit bytes.now unit result }
 {
     find_unit_from(bytes, unit, behind_blocks(bytes, unit))
 }
 
 /// How many units begin among the bytes, of which those before a place are counted.
 fn count_units_from(bytes: &[u8], from: Place) -> usize
-    requires within { from.at ≤ length bytes.now }
-    requires counted { from.units_before ≡ all_units_begun (take from.at bytes.now) }
+    requires counted { IsCounted bytes.now usize.MAX from }
     requires fits { all_units_begun bytes.now < 2 ^ 64 }
     ensures { result ≡ all_units_begun bytes.now }
 {
@@ -293,8 +272,7 @@ fn count_units(bytes: &[u8]) -> usize
 #[inline(never)]
 fn behind_all_blocks(bytes: &[u8]) -> Place
     requires { all_units_begun bytes.now < 2 ^ 64 }
-    ensures within { result.at ≤ length bytes.now }
-    ensures counted { result.units_before ≡ all_units_begun (take result.at bytes.now) }
+    ensures { IsCounted bytes.now usize.MAX result }
 {
     let mut place = behind_added_blocks(bytes, usize::MAX);
     while let Some(behind) = behind_block::<HALF_BLOCK>(bytes, usize::MAX, place) {
@@ -424,19 +402,19 @@ fn count_of(half: Option<u16>) -> usize
     }
 }
 
-/// What lies between two numbers of units: code points, and at either end the half of a pair that is divided there.
+/// A part cut at code units. Where a cut splits a surrogate pair, the half inside stands beside the whole code points.
 #[derive(Clone, Copy)]
 pub struct UnitSlice<'a> {
-    /// The trail surrogate of a pair that the begin divides.
+    /// The trail surrogate of a pair that the beginning of the part splits.
     pub trail: Option<u16>,
-    /// The code points that lie between them as a whole.
+    /// The whole code points of the part.
     pub whole: Wtf8<'a>,
-    /// The lead surrogate of a pair that the end divides.
+    /// The lead surrogate of a pair that the end of the part splits.
     pub lead: Option<u16>,
 }
 
 impl<'a> Wtf8<'a> {
-    /// The number of 16-bit units.
+    /// The length in 16-bit code units.
     pub fn unit_len(&self) -> usize
         ensures { result ≡ length (view_units self.now) }
     {
@@ -447,7 +425,7 @@ impl<'a> Wtf8<'a> {
         }
     }
 
-    /// The 16-bit unit of a number, counted from 0, or `None` where there are no more than so many.
+    /// The code unit at `index`, or `None` at or past the end.
     pub fn unit_at(&self, index: usize) -> Option<u16>
         ensures { result ≡ slice_get (view_units self.now) index }
     {
@@ -457,7 +435,8 @@ impl<'a> Wtf8<'a> {
         unit_by_cut(*self, index)
     }
 
-    /// The unit of a number below that of all units, where the string has as many bytes as units, so that each byte is one.
+    /// The code unit at `index` of an all-ASCII string: one that has as many bytes as code units. `index` must be below
+    /// the length.
     pub fn ascii_unit_at(&self, index: usize) -> u16
         requires ascii { length self.now.bytes.now ≡ length (view_units self.now) }
         requires within { index < length (view_units self.now) }
@@ -466,8 +445,9 @@ impl<'a> Wtf8<'a> {
         u16::from(self.bytes[index])
     }
 
-    /// The units from one number to before another. Where either divides a pair, the pair's half stands beside the
-    /// code points. All of it is a part of the same string and may outlive this view.
+    /// The part from code unit `begin` to before code unit `end`, which must be in order and at most the number of code
+    /// units. Where an end splits a surrogate pair, the half inside stands beside the code points. Borrows the bytes
+    /// for `'a`, so it may outlive this view.
     pub fn slice_units(&self, begin: usize, end: usize) -> UnitSlice<'a>
         requires order { begin ≤ end }
         requires within { end ≤ length (view_units self.now) }

@@ -3,14 +3,14 @@ ghost use Rattle.std.specs.Prelude.{◌≡◌, ℕ, ◌++◌, ◌+◌, ◌*◌, 
 ghost use lib.Lanes.{Each1};
 ghost use Rattle.wtf8.specs.CodePoint.{number};
 ghost use Rattle.wtf8.specs.Form.{IsWellFormed};
-ghost use Rattle.wtf8.specs.Gains.{IsReadAs};
-ghost use Rattle.wtf8.specs.UnitParts.{AreAscii};
+ghost use Rattle.wtf8.specs.private.Gains.{IsReadAs, Becomes};
 ghost use Rattle.wtf8.specs.Unicode.{units_of};
-ghost use Rattle.wtf8.specs.UnitRows.{IsOfKind, BeginsWithUnits, firsts_of, unit_of_two, unit_of_three, units_of_rows, Writes};
+ghost use Rattle.wtf8.specs.private.UnitRows.{IsOfKind, BeginsWithUnits, firsts_of, unit_of_two, unit_of_three, units_of_rows, Writes};
 ghost use Rattle.wtf8.specs.View.{view_points, view_units};
 
 use crate::lanes::VECTOR;
 use crate::lanes::copies::push_block;
+use crate::lanes::masks::first_set;
 use crate::numbers::code_point::CodePoint;
 use crate::numbers::encoding;
 use crate::numbers::surrogates::{lead_of, trail_of};
@@ -93,10 +93,7 @@ fn append_ascii<const N: usize, B: Allocator>(
     requires lanes { N ≤ u64.BITS }
     requires all { (N ≤ length view.bytes.now) × (length view.bytes.now ≤ 2 * N) }
     requires ascii { view_units view ≡ view.bytes.now }
-    ensures ok { OnOk result (units.new.items ≡ units.old.items ++ view_units view.entry) }
-    ensures kept { OnErr result (units.new.items ≡ units.old.items) }
-    ensures room { vec_len units.old + length (view_units view.entry) ≤ vec_capacity units.old → IsOk result }
-    ensures capacity { vec_capacity units.old ≤ vec_capacity units.new }
+    ensures { Becomes units.old (units.old.items ++ view_units view.entry) units.new result }
 {
     let bytes = view.bytes;
     units.reserve(bytes.len())?;
@@ -165,32 +162,16 @@ fn widen_point<'a>(units: &mut [u16], left: Unwritten<'a>) -> Unwritten<'a>
     }
 }
 
-/// How many of the first bytes of a block are ASCII.
+/// How many of `N` bytes stand before the first one of another kind: kinds are as many bytes each, and have numbers.
 #[inline(always)]
-fn count_ascii_bytes(block: u8x16) -> usize
-    ensures within { result ≤ VECTOR }
-    ensures ascii { AreAscii (take result block) }
+fn count_of_kind<const N: usize>(bytes: Simd<u8, N>, size: u8, kind: u8) -> usize
+    requires lanes { N ≤ u64.BITS }
+    requires size { 0 < size }
+    ensures within { result ≤ N }
+    ensures each { Each1 (IsOfKind size kind) (take result bytes.entry) }
 {
-    let others = block.simd_ge(Simd::splat(0x80)).to_bitmask();
-    if others == 0 {
-        return VECTOR;
-    }
-    others.trailing_zeros() as usize
-}
-
-/// How many of eight bytes stand before the first one of another kind: kinds are as many bytes each, and have numbers.
-#[inline(always)]
-fn count_of_kind(bytes: u8x8, size: u8, kind: u8) -> usize
-    requires { 0 < size }
-    ensures within { result ≤ 8 }
-    ensures each { Each1 (IsOfKind size kind) (take result bytes) }
-{
-    let kinds = bytes / u8x8::splat(size);
-    let others = kinds.simd_ne(u8x8::splat(kind)).to_bitmask();
-    if others == 0 {
-        return 8;
-    }
-    others.trailing_zeros() as usize
+    let kinds = bytes / Simd::splat(size);
+    first_set(kinds.simd_ne(Simd::splat(kind)).to_bitmask()).unwrap_or(N)
 }
 
 /// The first bytes of eight code points of two bytes, and their units.
@@ -230,7 +211,7 @@ impl Kind<16, 1, 16> for OneByte {
     #[inline(always)]
     fn read(bytes: &[u8]) -> ([u16; 16], usize) {
         let block = u8x16::from_slice(bytes);
-        (widened(block), count_ascii_bytes(block))
+        (widened(block), count_of_kind(block, 128, 0))
     }
 
     #[inline(always)]
@@ -384,10 +365,7 @@ fn widen_all(units: &mut [u16], from: usize, view: Wtf8<'_>) -> usize
 #[inline(never)]
 fn append_few<B: Allocator>(units: &mut Vec<u16, B>, view: Wtf8<'_>) -> Result<(), AllocError>
     requires { length view.bytes.now < FEW }
-    ensures ok { OnOk result (units.new.items ≡ units.old.items ++ view_units view.entry) }
-    ensures kept { OnErr result (units.new.items ≡ units.old.items) }
-    ensures room { vec_len units.old + length (view_units view.entry) ≤ vec_capacity units.old → IsOk result }
-    ensures capacity { vec_capacity units.old ≤ vec_capacity units.new }
+    ensures { Becomes units.old (units.old.items ++ view_units view.entry) units.new result }
 {
     // There are no more units than bytes.
     prove!(view.len() <= FEW);
@@ -399,10 +377,7 @@ fn append_few<B: Allocator>(units: &mut Vec<u16, B>, view: Wtf8<'_>) -> Result<(
 /// Appends the units of a string, which are counted first.
 #[inline(never)]
 fn append_many<B: Allocator>(units: &mut Vec<u16, B>, view: Wtf8<'_>) -> Result<(), AllocError>
-    ensures ok { OnOk result (units.new.items ≡ units.old.items ++ view_units view.entry) }
-    ensures kept { OnErr result (units.new.items ≡ units.old.items) }
-    ensures room { vec_len units.old + length (view_units view.entry) ≤ vec_capacity units.old → IsOk result }
-    ensures capacity { vec_capacity units.old ≤ vec_capacity units.new }
+    ensures { Becomes units.old (units.old.items ++ view_units view.entry) units.new result }
 {
     // There are no more units than bytes.
     prove!(view.len() <= usize::MAX / 2);
@@ -425,8 +400,8 @@ impl<'a> Wtf8<'a> {
         Wtf8::from_well_formed(rest)
     }
 
-    /// Appends the 16-bit units of the string to those that are there. It first finds room for them, and asks for none where
-    /// that room is there; after a refusal the units are as before.
+    /// Appends the 16-bit code units of the string to a vector. Reserves room for them first, and does not allocate if
+    /// they fit. If memory is refused, the vector is unchanged.
     pub fn append_units<B: Allocator>(&self, units: &mut Vec<u16, B>) -> Result<(), AllocError>
         ensures ok { OnOk result (units.new.items ≡ units.old.items ++ view_units self.now) }
         ensures kept { OnErr result (units.new.items ≡ units.old.items) }

@@ -53,7 +53,7 @@ impl<'a> Wtf8<'a> {
     ghost use Rattle.wtf8.specs.CodePoint.{number};
     ghost use Rattle.wtf8.specs.View.{view_points, view_units};
 
-    /// A view of a text's bytes: the string of its characters.
+    /// Views a `&str` as a string of its characters. Does not copy.
     pub fn from_str(value: &'a str) -> Wtf8<'a>
         ensures bytes { result.bytes.now ≡ value.now }
         ensures points { view_points result ≡ chars value.now }
@@ -71,7 +71,7 @@ impl<'a> Wtf8<'a> {
         Wtf8 { bytes }
     }
 
-    /// The number of bytes: at least the number of units, and at most three times that.
+    /// The length in bytes: at least the number of code units, and at most three times that.
     pub fn len(&self) -> usize
         ensures bytes { result ≡ length self.now.bytes.now }
         ensures at_least_units { length (view_units self.now) ≤ result }
@@ -80,7 +80,7 @@ impl<'a> Wtf8<'a> {
         self.bytes.len()
     }
 
-    /// Whether the string has no units, and so no bytes.
+    /// Whether the string is empty.
     pub fn is_empty(&self) -> bool
         ensures units { IsTrue result ↔ view_units self.now ≡ [] }
         ensures bytes { IsTrue result ↔ self.now.bytes.now ≡ [] }
@@ -88,7 +88,7 @@ impl<'a> Wtf8<'a> {
         self.bytes.is_empty()
     }
 
-    /// The code points of the string, in order.
+    /// Iterates over the code points, in order.
     pub fn code_points(&self) -> Wtf8CodePoints<'a>
         ensures points { result ≡ view_points self.now }
         ensures fits { length result < 2 ^ 64 }
@@ -97,7 +97,7 @@ impl<'a> Wtf8<'a> {
         Wtf8CodePoints::new(*self)
     }
 
-    /// The 16-bit units of the string, in order: those that it was made of, whether they pair or not.
+    /// Iterates over the 16-bit code units, in order: those that the string was made of, paired or not.
     pub fn to_ill_formed_utf16(&self) -> IllFormedUtf16CodeUnits<'a>
         ensures units { unread_units result ≡ view_units self.now }
         ensures held { result.held ≡ [] }
@@ -108,8 +108,8 @@ impl<'a> Wtf8<'a> {
         IllFormedUtf16CodeUnits::new(*self)
     }
 
-    /// Whether a code point begins at the index, or the string ends there. It looks at one byte: an index beyond the
-    /// length is no boundary.
+    /// Whether `index` is a code point boundary: where a code point begins, or the end. An index past the end is none.
+    /// Looks at one byte.
     pub fn is_code_point_boundary(&self, index: usize) -> bool
         ensures { IsTrue result ↔ IsBoundary (view_units self.now) index }
     {
@@ -120,8 +120,8 @@ impl<'a> Wtf8<'a> {
         }
     }
 
-    /// The code points between two positions, which `is_code_point_boundary` tests. The result is a part of the same
-    /// bytes and may outlive this view.
+    /// The part from `begin` to `end`, which must be code point boundaries (`is_code_point_boundary`). Borrows the
+    /// bytes for `'a`, so it may outlive this view.
     pub fn slice(&self, begin: usize, end: usize) -> Wtf8<'a>
         requires order { begin ≤ end }
         requires begin_boundary { IsBoundary (view_units self.now) begin }
@@ -132,8 +132,8 @@ impl<'a> Wtf8<'a> {
         self.slice_to(end).slice_from(begin)
     }
 
-    /// The code points from a position on, which `is_code_point_boundary` tests. The result is a part of the same bytes
-    /// and may outlive this view.
+    /// The part from `begin` on, which must be a code point boundary (`is_code_point_boundary`). Borrows the bytes for
+    /// `'a`, so it may outlive this view.
     pub fn slice_from(&self, begin: usize) -> Wtf8<'a>
         requires { IsBoundary (view_units self.now) begin }
         ensures units { IsBack (view_units self.now) begin (view_units result) }
@@ -146,8 +146,8 @@ impl<'a> Wtf8<'a> {
         Wtf8::from_well_formed(rest)
     }
 
-    /// The code points before a position, which `is_code_point_boundary` tests. The result is a part of the same bytes
-    /// and may outlive this view.
+    /// The part before `end`, which must be a code point boundary (`is_code_point_boundary`). Borrows the bytes for
+    /// `'a`, so it may outlive this view.
     pub fn slice_to(&self, end: usize) -> Wtf8<'a>
         requires { IsBoundary (view_units self.now) end }
         ensures units { IsFront (view_units self.now) end (view_units result) }
@@ -160,8 +160,8 @@ impl<'a> Wtf8<'a> {
         Wtf8::from_well_formed(front)
     }
 
-    /// The byte at a position below the length, if it is below 0x80, else 0xFF. The position may be inside a code
-    /// point; where the answer is below 0x80 it is a code point and a unit by itself.
+    /// The ASCII byte at `position`, which must be below the length, or 0xFF for any other byte. An ASCII byte is a code
+    /// point and a code unit by itself, wherever it stands.
     pub fn ascii_byte_at(&self, position: usize) -> u8
         requires { position < length self.now.bytes.now }
         ensures ascii { slice_index self.now.bytes.now position < 0x80 → result ≡ slice_index self.now.bytes.now position }
@@ -179,7 +179,7 @@ impl<'a> Wtf8<'a> {
         }
     }
 
-    /// The same bytes as text, or `None` exactly where the string holds a surrogate. It asks for no memory.
+    /// The string as a `&str`, or `None` if it holds a surrogate. Does not copy.
     #[inline(always)]
     pub fn as_str(&self) -> Option<&'a str>
         ensures some { IsSome result ↔ AreScalar (view_points self.now) }
@@ -192,8 +192,8 @@ impl<'a> Wtf8<'a> {
         }
     }
 
-    /// The string as a text of the same length, with U+FFFD in the place of each surrogate. Where it holds none the text
-    /// is borrowed, which asks for no memory and is never refused; else it is a copy.
+    /// The string as text, with U+FFFD in place of each surrogate; its length in bytes stays the same. Borrowed, and
+    /// never refused, if there is no surrogate; else a copy.
     pub fn to_string_lossy<A: Allocator + Drop>(
         &self,
         alloc: A,
@@ -211,8 +211,8 @@ impl<'a> Wtf8<'a> {
         Ok(CowStr::Owned(unsafe { String::from_utf8_unchecked(bytes) }))
     }
 
-    /// The bytes as two upper-case hexadecimal digits each, with one space between: a text for diagnosis. The empty
-    /// string has the empty text, which asks for no memory.
+    /// The bytes as hexadecimal text for diagnosis: two upper-case digits each, separated by spaces. An empty string
+    /// does not allocate.
     pub fn hex_dump<A: Allocator>(&self, alloc: A) -> Result<String<A>, AllocError>
         ensures ok { IfOk result (λ t. string_bytes t ≡ hex self.now.bytes.now) }
         ensures empty { self.now.bytes.now ≡ [] → IsOk result }
@@ -220,8 +220,8 @@ impl<'a> Wtf8<'a> {
         digits::hex_text(alloc, self.bytes)
     }
 
-    /// Appends to a text what `hex_dump` gives. It first finds room for three bytes a byte, and asks for none where that
-    /// room is there; after a refusal the text is as before.
+    /// Appends the text of `hex_dump` to a vector of bytes. Reserves three bytes for each byte of the string, and does
+    /// not allocate if they fit. If memory is refused, the vector is unchanged.
     pub fn append_hex_dump<A: Allocator>(&self, text: &mut Vec<u8, A>) -> Result<(), AllocError>
         ensures ok { OnOk result (text.new.items ≡ text.old.items ++ hex self.now.bytes.now) }
         ensures kept { OnErr result (text.new.items ≡ text.old.items) }

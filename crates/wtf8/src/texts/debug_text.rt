@@ -73,9 +73,8 @@ fn write_points<W: fmt::Write>(text: Wtf8<'_>, f: &mut fmt::Formatter<W>) -> fmt
     Ok(())
 }
 
-/// A double quote, the code points and a double quote. A scalar value stands as itself; a surrogate stands as its four
-/// upper-case digits between `\u{` and `}`. Nothing else is escaped, and a width and flags that stand outside are
-/// ignored.
+/// Writes the code points between double quotes: a scalar value as itself, a surrogate as `\u{`, its four upper-case
+/// hexadecimal digits and `}`. Nothing else is escaped. The formatter's width and flags are ignored.
 impl<'a> fmt::Debug for Wtf8<'a> {
     ghost debug_output = { λ text. Some (debug (view_points text)) };
 
@@ -89,7 +88,7 @@ impl<'a> fmt::Debug for Wtf8<'a> {
     }
 }
 
-/// The debug text of the view.
+/// Writes the debug text of the view.
 impl<A: Allocator> fmt::Debug for Wtf8Buf<A> {
     ghost debug_output = { λ text. Some (debug text.form.points) };
 

@@ -28,9 +28,8 @@ fn write_lossy<W: fmt::Write>(view: Wtf8<'_>, f: &mut fmt::Formatter<W>) -> fmt:
     }
 }
 
-/// The lossy text: U+FFFD in the place of each surrogate. A string that holds no surrogate is written as any text, with
-/// the width, the fill and the precision that stand outside; of one that holds a surrogate they are ignored. It asks for
-/// no memory. An error of the formatter's sink ends it and is its answer.
+/// Writes the text with U+FFFD in place of each surrogate. Width, fill and precision apply if the string holds no
+/// surrogate, and are ignored otherwise. Does not allocate; an error of the sink ends it and is its answer.
 impl<'a> fmt::Display for Wtf8<'a> {
     ghost output = { λ view. Some (bytes (lossy (view_points view))) };
 
@@ -44,7 +43,7 @@ impl<'a> fmt::Display for Wtf8<'a> {
     }
 }
 
-/// The lossy text of the view.
+/// Writes what the view is displayed as.
 impl<A: Allocator> fmt::Display for Wtf8Buf<A> {
     ghost output = { λ string. Some (bytes (lossy string.form.points)) };
 

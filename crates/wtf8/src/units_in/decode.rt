@@ -1,13 +1,12 @@
 // Code units read as code points.
-ghost use Rattle.std.specs.Prelude.{◌≡◌, ◌↔◌, ℕ, ◌-◌, ◌<◌, ◌≤◌, List, [], ◌∷◌, length, take, drop, Result, None, IsTrue, IfOk};
+ghost use Rattle.std.specs.Prelude.{◌≡◌, ◌↔◌, ℕ, ◌-◌, ◌<◌, ◌≤◌, List, [], ◌∷◌, length, take, drop, Result, None, IsTrue, IfOk, MatchResult};
 ghost use Rattle.std.specs.Iterator.{count_map, Drains};
 ghost use Rattle.std.specs.Iterator.Adapters.{peekable_can, peekable_source, peekable_peeked, items_left_with_peeked};
 ghost use Rattle.wtf8.specs.CodePoint.{number};
-ghost use Rattle.wtf8.specs.declared.numbers.code_point.CodePoint.{CodePoint};
-ghost use Rattle.wtf8.specs.Decoding.{units_left, decode_steps, ReadsAll};
+ghost use Rattle.wtf8.specs.private.Decoding.{point_of, units_left, decode_steps, ReadsAll};
 ghost use Rattle.wtf8.specs.Form.{Reads};
-ghost use Rattle.wtf8.specs.Unicode.{IsLead, IsTrail, IsSurrogate, pair};
-ghost use Rattle.wtf8.specs.UnitParts.{AppendsForm, DividesNoPair};
+ghost use Rattle.wtf8.specs.Unicode.{IsCodePoint, IsLead, IsTrail, IsSurrogate, pair};
+ghost use Rattle.wtf8.specs.private.UnitParts.{AppendsForm, DividesNoPair};
 
 use crate::numbers::code_point::CodePoint;
 use crate::numbers::encoding;
@@ -15,15 +14,15 @@ use crate::numbers::surrogates::{self, FIRST_LEAD, FIRST_TRAIL, LAST_LEAD, LAST_
 use std::alloc::{AllocError, Allocator};
 use std::iter::Ahead;
 
-/// The code points that the units of an iterator stand for, in order: a scalar value is `Ok`, a lone surrogate `Err`.
+/// The characters that the units of an iterator stand for, in order, as `Ok`, and its lone surrogates as `Err`.
 ///
-/// A lead and the trail directly behind it are one scalar value, and so is a unit that is no surrogate.
+/// A lead and the trail directly behind it are one character, and so is a unit that is no surrogate.
 pub(crate) fn decode_utf16<I: Iterator<Item = u16>>(iter: I) -> DecodeUtf16<I>
     ensures source { peekable_source (units_left result) ≡ iter }
     ensures peeked { peekable_peeked (units_left result) ≡ None }
 
     // Whatever the iterator gives up to its end, the items are a reading of it.
-    ensures reads { (items : List (Result CodePoint CodePoint)) → Drains (decode_steps I.next_gives) result items → ReadsAll I.next_gives iter items }
+    ensures reads { (items : List (Result ℕ ℕ)) → Drains (decode_steps I.next_gives) result items → ReadsAll I.next_gives iter items }
 {
     DecodeUtf16 {
         units: iter.peekable(),
@@ -45,24 +44,33 @@ fn is_trail_unit(unit: &u16) -> bool
     surrogates::is_trail(u32::from(*unit))
 }
 
-/// The code point of a unit by itself.
-fn single(unit: u16) -> CodePoint
-    ensures { number result ≡ unit }
+/// The code point of a lone surrogate.
+fn lone(surrogate: u16) -> CodePoint
+    ensures { number result ≡ surrogate }
 {
-    CodePoint::from_u32_unchecked(u32::from(unit))
+    CodePoint::from_u32_unchecked(u32::from(surrogate))
 }
 
-/// The supplementary code point of a lead and a trail.
-fn paired(lead: u16, trail: u16) -> CodePoint
+/// The character of a unit that joins no other, or the unit where it is a surrogate.
+#[inline(always)]
+fn alone(unit: u16) -> Result<char, u16>
+    ensures kind { MatchResult result (λ c. IsCodePoint c × ¬ (IsSurrogate c)) IsSurrogate }
+    ensures point { point_of result ≡ unit }
+{
+    char::from_u32(u32::from(unit)).ok_or(unit)
+}
+
+/// The supplementary character of a lead and a trail.
+fn paired(lead: u16, trail: u16) -> char
     requires lead { IsLead lead }
     requires trail { IsTrail trail }
-    ensures { number result ≡ pair lead trail }
+    ensures { result ≡ pair lead trail }
 {
-    CodePoint::from_u32_unchecked(surrogates::joined(u32::from(lead), u32::from(trail)))
+    unsafe { char::from_u32_unchecked(surrogates::joined(u32::from(lead), u32::from(trail))) }
 }
 
 impl<I: Iterator<Item = u16>> Iterator for DecodeUtf16<I> {
-    type Item = Result<CodePoint, CodePoint>;
+    type Item = Result<char, u16>;
 
     ghost can_next = { λ s. peekable_can I.can_next (units_left s) };
 
@@ -70,15 +78,14 @@ impl<I: Iterator<Item = u16>> Iterator for DecodeUtf16<I> {
 
     ghost remaining = { λ s. count_map (items_left_with_peeked (peekable_peeked (units_left s))) (I.remaining (peekable_source (units_left s))) };
 
-    fn next(&mut self) -> Option<Result<CodePoint, CodePoint>> {
+    fn next(&mut self) -> Option<Result<char, u16>> {
         let unit = self.units.next()?;
         match unit {
             FIRST_LEAD..=LAST_LEAD => match self.units.next_if(is_trail_unit) {
                 Some(trail) => Some(Ok(paired(unit, trail))),
-                None => Some(Err(single(unit))),
+                None => Some(Err(unit)),
             },
-            FIRST_TRAIL..=LAST_TRAIL => Some(Err(single(unit))),
-            _ => Some(Ok(single(unit))),
+            _ => Some(alone(unit)),
         }
     }
 
@@ -99,18 +106,18 @@ pub(crate) fn read_point(v: &[u16], at: usize) -> (CodePoint, usize, bool)
     ensures scalar { IsTrue result.2 → ¬ (IsSurrogate (number result.0)) }
 {
     let unit = v[at];
-    match unit {
-        FIRST_LEAD..=LAST_LEAD => {
-            if 1 < v.len() - at {
-                let behind = v[at + 1];
-                if let FIRST_TRAIL..=LAST_TRAIL = behind {
-                    return (paired(unit, behind), at + 2, true);
-                }
+    if let FIRST_LEAD..=LAST_LEAD = unit {
+        if 1 < v.len() - at {
+            let behind = v[at + 1];
+            if let FIRST_TRAIL..=LAST_TRAIL = behind {
+                return (CodePoint::from_char(paired(unit, behind)), at + 2, true);
             }
-            (single(unit), at + 1, false)
         }
-        FIRST_TRAIL..=LAST_TRAIL => (single(unit), at + 1, false),
-        _ => (single(unit), at + 1, true),
+        return (lone(unit), at + 1, false);
+    }
+    match alone(unit) {
+        Ok(character) => (CodePoint::from_char(character), at + 1, true),
+        Err(surrogate) => (lone(surrogate), at + 1, false),
     }
 }
 
@@ -126,10 +133,10 @@ pub(crate) fn append_one_by_one<A: Allocator>(
     let mut is_scalar = true;
     for item in decode_utf16(v.iter().copied()) {
         match item {
-            Ok(scalar_value) => encoding::append(bytes, scalar_value)?,
+            Ok(character) => encoding::append(bytes, CodePoint::from_char(character))?,
             Err(surrogate) => {
                 is_scalar = false;
-                encoding::append(bytes, surrogate)?;
+                encoding::append(bytes, lone(surrogate))?;
             }
         }
     }

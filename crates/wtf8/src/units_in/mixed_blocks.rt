@@ -3,8 +3,8 @@
 ghost use Rattle.std.specs.Prelude.{◌≡◌, ℕ, List, [], ◌∷◌, true, ◌+◌, ◌-◌, ◌*◌, ◌%◌, ◌/◌, ◌<◌, ◌≤◌, ◌++◌, length, map, take, drop, IfOk, IfSome, IfNone, IsTrue, nat_lt, if◌then◌else◌};
 ghost use lib.Lanes.{zip2};
 ghost use Rattle.wtf8.specs.Unicode.{IsLead};
-ghost use Rattle.wtf8.specs.UnitParts.{AppendsPart, AreScalarUnits, IsKnownForm};
-ghost use Rattle.wtf8.specs.UnitPieces.{first_byte, own_second_byte, second_byte, own_last_byte, last_byte, long_mark, byte_lanes, lengths_number, AreBehind, joined_pieces, pieces, unit_before, ArePaired};
+ghost use Rattle.wtf8.specs.private.UnitParts.{AppendsPart, AreScalarUnits, IsKnownForm};
+ghost use Rattle.wtf8.specs.private.UnitPieces.{first_byte, own_second_byte, second_byte, own_last_byte, last_byte, long_mark, byte_lanes, lengths_number, AreBehind, joined_pieces, pieces, unit_before, ArePaired};
 
 use crate::numbers::surrogates::{FIRST_LEAD, FIRST_TRAIL, OF_A_KIND};
 use crate::units_in::rows;

@@ -1,6 +1,6 @@
 // Which bytes of four units stay: for each four lengths the places of the bytes that are written.
 ghost use Rattle.std.specs.Prelude.{◌<◌, ◌≤◌};
-ghost use Rattle.wtf8.specs.UnitPieces.{IsRow, IsCounted};
+ghost use Rattle.wtf8.specs.private.UnitPieces.{IsRow, IsCounted};
 ghost use lib.Lanes.{Each1};
 
 use std::simd::prelude::*;

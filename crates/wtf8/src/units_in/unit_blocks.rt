@@ -1,7 +1,7 @@
 // Code units turned into bytes by the kind of the first: the ASCII units at the front of 32, 16 or eight together with the
 // code point behind them, any others in mixed blocks or one after another.
 ghost use Rattle.std.specs.Prelude.{◌≡◌, ℕ, List, [], ◌+◌, ◌++◌, ◌-◌, ◌*◌, ◌%◌, ◌<◌, ◌≤◌, length, map, take, drop, IfOk, IfSome, IfNone, IsOk, IsTrue, OnOk};
-ghost use Rattle.wtf8.specs.UnitParts.{AppendsPart, IsKnownForm, IsReadTo, DividesNoPair, AreAscii};
+ghost use Rattle.wtf8.specs.private.UnitParts.{AppendsPart, IsKnownForm, IsReadTo, DividesNoPair, AreAscii};
 
 use crate::numbers::encoding;
 use crate::numbers::surrogates::{FIRST_LEAD, FIRST_TRAIL, LAST_TRAIL};

@@ -7,4 +7,4 @@ mod tables;
 
 pub use building::{joined, point_of_unit, points_of_units, pushed};
 pub use comparing::{expect_dump, expect_numbers, expect_units};
-pub use tables::{EDGES, JOINING, TEXT, TEXT_DUMP, TEXT_ROW};
+pub use tables::{TEXT, TEXT_DUMP, TEXT_ROW, edges, joining};

@@ -1,8 +1,7 @@
-use Rattle.std.proofs.Common.{◌+◌, ◌*◌, ◌<◌, length, subst, arith}
-use Rattle.std.proofs.lemmas.List.Elements.{All-push, All-same}
+use Rattle.std.proofs.Common.{◌+◌, ◌*◌, ◌<◌, [], ◌∷◌, length, length-append, ap, sym, subst, arith}
 use Rattle.wtf8.specs.UnitMark.{IsMark, IsUndivided}
-use Rattle.unit_text.specs.Marks.{IsKept}
-use Rattle.unit_text.proofs.MarkLemmas.{kept_mark}
+use Rattle.unit_text.specs.Marks.{AreKept}
+use Rattle.unit_text.proofs.MarkLemmas.{kept_mark, one_more}
 use Rattle.unit_text.proofs.marks.add_marks.Goals as goal
 
 pub loop-number-preserved : goal.loop-number-preserved
@@ -10,11 +9,23 @@ loop-number-preserved g c =
     let text = c.args.text.now in
     let mark = c.mark_at-last.result in
     let n = (c.loop-number.number + 1) * 128 in
-    let same = c.loop-number.invariant in
-    let is_mark = subst (λ w. IsMark w text.units mark.position mark.units) same.0
-    (subst (λ u. IsMark c.as_wtf8-view.result.bytes.now u mark.position mark.units) same.1 c.mark_at-last.ensures.mark) in
-    let last = subst (λ u. IsUndivided u n mark.units) same.1 c.mark_at-last.ensures.last in
+    let i = c.loop-number.invariant in
+    let is_mark = subst (λ w. IsMark w text.units mark.position mark.units) i.bytes
+    (subst (λ u. IsMark c.as_wtf8-view.result.bytes.now u mark.position mark.units) i.units c.mark_at-last.ensures.mark) in
+    let last = subst (λ u. IsUndivided u n mark.units) i.units c.mark_at-last.ensures.last in
     let before : n < length text.units = omega (arith, c.wanted-number-end.ensures.before_last c.loop-number.number c.loop-number-test.true, c.requires.counted) in
     let kept = kept_mark text.bytes text.units mark n is_mark last before in
-    let all = All-push (IsKept text.bytes text.units) c.loop-number.marks.items mark same.2 kept in
-    (same.0, same.1, All-same (IsKept text.bytes text.units) c.push.new.self.items _ c.in-Ok.ensures.items all, c.mark_at-last.ensures.mark)
+    let all = one_more text.bytes text.units c.loop-number.marks.items mark c.loop-number.number i.counted i.kept kept in
+    record {
+      bytes = i.bytes;
+      units = i.units;
+      counted = omega (arith, i.counted, ap length c.in-Ok.ensures.items, length-append c.loop-number.marks.items (mark ∷ []));
+      kept = subst (AreKept text.bytes text.units) (sym c.in-Ok.ensures.items) all;
+      is_mark = c.mark_at-last.ensures.mark;
+      before = kept.at_most;
+    }
+
+pub returns : goal.returns
+returns g c =
+    let i = c.loop-number.invariant in
+    record { kept = i.kept; all = λ granted apart n h. let enough = c.wanted-number-end.ensures.all apart n h in omega (arith, enough, i.counted) }

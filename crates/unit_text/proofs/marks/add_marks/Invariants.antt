@@ -1,11 +1,16 @@
-use Rattle.std.proofs.Common.{◌≡◌}
-use Rattle.std.specs.List.{All}
+use Rattle.std.proofs.Common.{◌≡◌, ◌*◌, ◌≤◌, length}
 use Rattle.wtf8.specs.UnitMark.{IsMarkOf}
 use Rattle.wtf8.specs.View.{view_units}
-use Rattle.unit_text.specs.Marks.{IsKept}
+use Rattle.unit_text.specs.Marks.{AreKept}
 use Rattle.unit_text.proofs.marks.add_marks.Given as goal
 
--- the marks so far are kept, and the last place is a mark
+-- the marks so far are kept, and the last place is a mark at or before that of the last of them
 abbrev pub invariant-loop-number : goal.invariant-loop-number
-invariant-loop-number g l = (l.view.bytes.now ≡ l.text.bytes) × (view_units l.view ≡ l.text.units) × All (IsKept l.text.bytes l.text.units) l.marks.items
-    × IsMarkOf l.view l.last
+invariant-loop-number g l = record {
+  bytes : l.view.bytes.now ≡ l.text.bytes;
+  units : view_units l.view ≡ l.text.units;
+  counted : length l.marks.items ≡ l.number;
+  kept : AreKept l.text.bytes l.text.units l.marks.items;
+  is_mark : IsMarkOf l.view l.last;
+  before : l.last.units ≤ l.number * 128;
+}

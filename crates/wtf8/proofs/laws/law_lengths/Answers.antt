@@ -1,5 +1,5 @@
 use Rattle.wtf8.proofs.lemmas.numbers.Encoding.{length-encoding_bounds}
-use Rattle.wtf8.proofs.lemmas.laws.Laws.{lengths}
+use Rattle.wtf8.proofs.lemmas.numbers.Readings.{lengths}
 use Rattle.wtf8.proofs.laws.law_lengths.Goals as goal
 
 pub returns : goal.returns

@@ -6,7 +6,7 @@ use Rattle.wtf8.proofs.Common.{IsFirstDifference, PairBegins, true, false, ◌�
 use Rattle.wtf8.proofs.Common.{option_cmp, Nowhere, IsLeast}
 use Rattle.std.proofs.Common.{min}
 use Rattle.std.proofs.lemmas.Option.{slice_get-get_or}
-use Rattle.wtf8.specs.Differences.{DifferAt}
+use Rattle.wtf8.specs.private.Differences.{DifferAt}
 use Rattle.wtf8.proofs.lemmas.lanes.Differences.{same_front}
 use Rattle.std.proofs.lemmas.Bool.{true≢false}
 use Rattle.std.proofs.lemmas.Cmp.{nat_list_cmp_total}

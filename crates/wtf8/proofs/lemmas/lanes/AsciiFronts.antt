@@ -1,5 +1,5 @@
 -- The lanes of one kind at the front of a block.
-use Rattle.wtf8.proofs.Common.{◌≡◌, ℕ, zero, suc, ◌-◌, ◌%◌, ◌^◌, ◌<◌, ◌≤◌, ◌/◌, Bool, false, eqb, eqb-true, cases_Bool, false≢true, inl, inr, leb, not, cond, List, [], ◌∷◌, map, length, take, get_or, replicate, refl, sym, ap}
+use Rattle.wtf8.proofs.Common.{◌≡◌, ℕ, zero, suc, ◌-◌, ◌%◌, ◌^◌, ◌<◌, ◌≤◌, Bool, false, leb, not, cond, List, [], ◌∷◌, map, length, take, get_or, replicate, refl, sym, ap}
 use Rattle.wtf8.proofs.Common.{◌∙◌, arith, subst, Each1, mask_l-mod, tops_compared, zip2, mask_l, top, AreAscii, length-take}
 use Rattle.std.proofs.lemmas.Bool.{leb-false, not-true}
 use Rattle.std.proofs.lemmas.List.{length-map, get_or-take}
@@ -51,42 +51,6 @@ module _ (w : Width) (n : ℕ) (xs : List ℕ) (few : n ≤ 64) (long : length x
 
   pub front_ascii : ¬ (others w n xs ≡ 0) → AreAscii (take (count_trailing_zeros 64 (others w n xs)) xs)
   front_ascii = front_off (leb 0x80) (λ n. n < 0x80) (leb-false 0x80) xs (omega (arith, long, few)) (others w n xs) same
-
--- a lane is set where the lane, divided by one number, differs from another
-abbrev differs : ℕ → ℕ → ℕ
-differs a b = cond (not (eqb a b)) 255 0
-
-abbrev kinds : ℕ → ℕ → List ℕ → ℕ
-kinds d y xs = mask_l (map (top 7) (zip2 differs (zip2 (λ a b. a / b) xs (replicate 8 d)) (replicate 8 y))) % 2 ^ 64
-
-same_kind : (a y : ℕ) → top 7 (differs a y) ≡ false → a ≡ y
-same_kind a y h = elim (cases_Bool (eqb a y)) [ inl t ↦ eqb-true a y t | inr u ↦ absurd (false≢true (sym h ∙ ap (λ b. top 7 (cond (not b) 255 0)) u)) ]
-
-lanes_divided : (d y n : ℕ) (xs : List ℕ) → length xs ≡ n
-    → map (top 7) (zip2 differs (zip2 (λ a b. a / b) xs (replicate n d)) (replicate n y)) ≡ map (λ x. top 7 (differs (x / d) y)) xs
-lanes_divided d y zero [] e = refl
-lanes_divided d y (suc n) [] e = refl
-lanes_divided d y zero (x ∷ xs) e = absurd (omega arith)
-lanes_divided d y (suc n) (x ∷ xs) e = ap (λ ms. top 7 (differs (x / d) y) ∷ ms) (lanes_divided d y n xs (omega arith))
-
-module _ (d y : ℕ) (Q : ℕ → Type 0) (kind : (x : ℕ) → x / d ≡ y → Q x) (xs : List ℕ) (long : length xs ≡ 8) where
-  abbrev is_other : ℕ → Bool
-  is_other x = top 7 (differs (x / d) y)
-
-  kinds_are : kinds d y xs ≡ mask_l (map is_other xs)
-  kinds_are = ap (λ ms. mask_l ms % 2 ^ 64) (lanes_divided d y 8 xs long) ∙ mask_l-mod (map is_other xs) 64 (omega (arith, length-map xs is_other, long))
-
-  own : (x : ℕ) → is_other x ≡ false → Q x
-  own x h = kind x (same_kind (x / d) y h)
-
-  pub all_of_kind : kinds d y xs ≡ 0 → Each1 Q (take 8 xs)
-  all_of_kind = all_off is_other Q own xs (omega (arith, long)) (kinds d y xs) kinds_are 8 (omega (arith, long))
-
-  pub kind_within : ¬ (kinds d y xs ≡ 0) → count_trailing_zeros 64 (kinds d y xs) ≤ 8
-  kind_within e = omega (arith, long, off_within is_other Q own xs (omega (arith, long)) (kinds d y xs) kinds_are e)
-
-  pub front_of_kind : ¬ (kinds d y xs ≡ 0) → Each1 Q (take (count_trailing_zeros 64 (kinds d y xs)) xs)
-  front_of_kind = front_off is_other Q own xs (omega (arith, long)) (kinds d y xs) kinds_are
 
 -- lanes against one number in all lanes
 pub each2_splat : (P : ℕ → ℕ → Type 0) (y : ℕ) → ((x : ℕ) → P x y) → (n : ℕ) (xs : List ℕ) → length xs ≡ n → Each2 P xs (replicate n y)

@@ -1,21 +1,20 @@
 -- Lanes that show where surrogates stand, whether one stands there, and how many units begin.
-use Rattle.wtf8.proofs.Common.{◌≡◌, ◌↔◌, ℕ, zero, suc, ◌+◌, ◌-◌, ◌%◌, ◌^◌, ◌<◌, ◌≤◌, eqb, ltb, leb, Bool, true, false, IsTrue, cond, List, [], ◌∷◌, map, length, get_or}
+use Rattle.wtf8.proofs.Common.{◌≡◌, ◌↔◌, ℕ, zero, suc, ◌+◌, ◌%◌, ◌^◌, ◌<◌, ◌≤◌, eqb, ltb, leb, Bool, true, false, IsTrue, cond, List, [], ◌∷◌, map, length, get_or}
 use Rattle.wtf8.proofs.Common.{replicate, w8, inl, inr, sym, ap, ◌∙◌, arith, cases_lt, lt-ltb, le-ltb, le-leb, eq-eqb, eqb-true, length-zip2}
 use Rattle.wtf8.proofs.Common.{get_or-chunk, mask_l-mod, tops_compared, chunk, sel_l, zip2, mask_l, top, SurrogateAt, ◌||◌, bit_or, Fits, refl, lt-leb}
-use Rattle.wtf8.proofs.Common.{Each1, all_units_begun}
-use Rattle.std.proofs.Common.{◌≡◌, ℕ, zero, suc, ◌+◌, ◌-◌, ◌%◌, ◌^◌, ◌<◌, ◌≤◌, eqb, leb, Bool, true, false, cond, ◌&&◌, List, [], ◌∷◌, map, length, get_or}
+use Rattle.wtf8.proofs.Common.{Each1, all_units_begun, Option, get_or-zip2}
+use Rattle.std.proofs.Common.{◌≡◌, ℕ, zero, suc, ◌+◌, ◌%◌, ◌^◌, ◌<◌, ◌≤◌, eqb, leb, Bool, true, false, cond, ◌&&◌, List, [], ◌∷◌, map, length, get_or}
 use Rattle.std.proofs.Common.{replicate, bit_and, w8, w16, refl, sym, ap, ◌∙◌, subst, arith}
 use Rattle.std.proofs.lemmas.Bool.{and_parts, and_from, leb-true, le-leb, eq-eqb, eqb-true}
-use Rattle.std.proofs.lemmas.List.{length-replicate}
+use Rattle.std.proofs.lemmas.List.{length-map, length-replicate}
 use Rattle.std.proofs.lemmas.List.Sums.{sum_by-cons}
 use Rattle.std.proofs.lemmas.Simd.{length-zip2, get_or-chunk, mask_l-mod}
 use Rattle.std.proofs.lemmas.Simd.{Each2-of, fold-sum, sum_bound, sum_fits, sum-zip2}
 use lib.Lanes.{chunk, zip2, mask_l, top, Each2, Steps, fold_l, sum_l}
-use lib.Count.{count_trailing_zeros}
-use Rattle.wtf8.proofs.lemmas.lanes.Scan.{compared_marks}
-use Rattle.wtf8.specs.Scan.{IsLeast, Marks, Nowhere}
-use Rattle.wtf8.specs.SurrogateSearch.{BeginsInLane, SurrogateAt}
-use Rattle.wtf8.specs.UnitCounts.{HasLane, units_begun}
+use Rattle.wtf8.proofs.lemmas.lanes.Masks.{same_first}
+use Rattle.wtf8.specs.private.FirstPlace.{IsFirstBelow, IsFirstSet, IsSet}
+use Rattle.wtf8.specs.private.SurrogateSearch.{BeginsInLane, SurrogateAt}
+use Rattle.wtf8.specs.private.UnitCounts.{HasLane, units_begun}
 
 -- The search in lanes: the mask of two vectors.
 
@@ -42,60 +41,28 @@ tops n (x ∷ xs) [] p q = absurd (omega arith)
 tops zero (x ∷ xs) (y ∷ ys) p q = absurd (omega arith)
 tops (suc n) (x ∷ xs) (y ∷ ys) p q = λ i. both (eqb x 0xED) (leb 0xA0 y) i ∷ tops n xs ys (omega arith) (omega arith) i
 
--- the mask of the lanes in which a surrogate begins
-module _ (xs ys : List ℕ) (p : length xs ≡ 32) (q : length ys ≡ 32) where
-  abbrev mask : ℕ
-  mask = mask_l (map (top 7) (compared 32 xs ys)) % 2 ^ 64
+begins_in_lane : (n : ℕ) (xs ys : List ℕ) → length xs ≡ n → length ys ≡ n → (k : ℕ) → k < n → IsSet (zip2 test xs ys) k ↔ BeginsInLane xs ys k
+begins_in_lane n xs ys p q k l =
+    subst (λ b. IsTrue b ↔ BeginsInLane xs ys k) (sym (get_or-zip2 test xs ys k 0 0 false (omega (arith, p, l)) (omega (arith, q, l)))) (
+      λ e. let parts = and_parts _ _ e in (eqb-true _ 0xED parts.0, leb-true 0xA0 _ parts.1),
+      λ h. and_from _ _ (eq-eqb _ 0xED h.0) (le-leb 0xA0 _ h.1),
+    )
 
-  says : (k : ℕ) → k < 32 → IsTrue (test (get_or xs k 0) (get_or ys k 0)) ↔ BeginsInLane xs ys (0 + k)
-  says k l =
-      let same : k ≡ 0 + k = omega arith in
-      subst (λ m. IsTrue (test (get_or xs k 0) (get_or ys k 0)) ↔ BeginsInLane xs ys m) same (
-        λ e. let parts = and_parts _ _ e in (eqb-true _ 0xED parts.0, leb-true 0xA0 _ parts.1),
-        λ h. and_from _ _ (eq-eqb _ 0xED h.0) (le-leb 0xA0 _ h.1),
-      )
-
-  begin_marks : Marks (BeginsInLane xs ys) 0 32 mask
-  begin_marks = subst (λ ms. Marks (BeginsInLane xs ys) 0 32 (mask_l ms % 2 ^ 64)) (sym (tops 32 xs ys p q)) (compared_marks test (BeginsInLane xs ys) 0 32 xs ys p q (omega arith) says)
-
-  pub none_begins : mask ≡ 0 → Nowhere (BeginsInLane xs ys) 0 32
-  none_begins = begin_marks.none
-
-  pub first_begins : ¬ (mask ≡ 0) → IsLeast (BeginsInLane xs ys) 0 (count_trailing_zeros 64 mask) × (count_trailing_zeros 64 mask < 32)
-  first_begins e =
-      let lowest = begin_marks.lowest (omega (arith, e)) in
-      let same : 0 + count_trailing_zeros 64 mask ≡ count_trailing_zeros 64 mask = omega arith in
-      (subst (IsLeast (BeginsInLane xs ys) 0) same lowest.1, lowest.0)
+-- the first lane in which a surrogate begins
+pub first_begins : (xs ys : List ℕ) → length xs ≡ 32 → length ys ≡ 32 → (r : Option ℕ)
+    → IsFirstSet (mask_l (map (top 7) (compared 32 xs ys)) % 2 ^ 64) r → IsFirstBelow (BeginsInLane xs ys) 0 32 r
+first_begins xs ys p q r first =
+    same_first _ _ 32 (begins_in_lane 32 xs ys p q) r
+    (first 32 (zip2 test xs ys) (omega arith) (length-zip2 test xs ys (p ∙ sym q) ∙ p) (ap (λ ms. mask_l ms % 2 ^ 64) (tops 32 xs ys p q)))
 
 -- vectors of the bytes from a place on and from one further
-module _ (w : List ℕ) (i : ℕ) (room : i + 32 < length w) where
-  abbrev in_lane : ℕ → Type 0
-  in_lane = BeginsInLane (chunk i 32 w) (chunk (i + 1) 32 w)
-
-  second_is : (k : ℕ) → k < 32 → get_or (chunk (i + 1) 32 w) k 0 ≡ get_or w (i + k + 1) 0
-  second_is k l = get_or-chunk (i + 1) 32 w k 0 l ∙ ap (λ m. get_or w m 0) (omega arith)
-
-  begins_there : (k : ℕ) → k < 32 → in_lane k → SurrogateAt w (i + k)
-  begins_there k l h = record { within = omega arith; first = sym (get_or-chunk i 32 w k 0 l) ∙ h.0; second = omega (arith, second_is k l, h.1) }
-
-  pub none_there : (m : ℕ) → m ≤ 32 → Nowhere in_lane 0 m → Nowhere (SurrogateAt w) i (i + m)
-  none_there m few none j low high s =
-      let lane : j - i < 32 = omega arith in
-      let place : i + (j - i) ≡ j = omega arith in
-      none (j - i) (omega arith) (omega arith) (
-        get_or-chunk i 32 w (j - i) 0 lane ∙ (ap (λ n. get_or w n 0) place ∙ s.first),
-        omega (arith, second_is (j - i) lane, ap (λ n. get_or w (n + 1) 0) place, s.second),
-      )
-
-  pub first_there : (k : ℕ) → IsLeast in_lane 0 k × (k < 32) → IsLeast (SurrogateAt w) i (i + k) × (i + k < i + 32)
-  first_there k h = (
-    record {
-      not_before = omega arith;
-      here = begins_there k h.1 h.0.here;
-      none_between = none_there k (omega (arith, h.1)) h.0.none_between;
-    },
-    omega (arith, h.1),
-  )
+pub begins_there : (w : List ℕ) (i : ℕ) → i + 32 < length w → (k : ℕ) → k < 32 → BeginsInLane (chunk i 32 w) (chunk (i + 1) 32 w) k ↔ SurrogateAt w (i + k)
+begins_there w i room k l =
+    let first : get_or (chunk i 32 w) k 0 ≡ get_or w (i + k) 0 = get_or-chunk i 32 w k 0 l in
+    let second : get_or (chunk (i + 1) 32 w) k 0 ≡ get_or w (i + k + 1) 0 = get_or-chunk (i + 1) 32 w k 0 l ∙ ap (λ m. get_or w m 0) (omega arith) in (
+      λ h. record { within = omega arith; first = sym first ∙ h.0; second = omega (arith, second, h.1) },
+      λ s. (first ∙ s.first, omega (arith, second, s.second)),
+    )
 
 -- an empty mask of the lanes that are no less than a number
 none_high : (n least : ℕ) (xs : List ℕ) → length xs ≡ n → mask_l (zip2 leb (replicate n least) xs) ≡ 0 → (k : ℕ) → k < length xs → least ≤ get_or xs k 0 → ⊥
@@ -199,10 +166,6 @@ at_most_two : (xs : List ℕ) → Each1 (λ a. a ≤ 2) (map units_begun xs)
 at_most_two [] = tt
 at_most_two (x ∷ xs) = (begun_most x, at_most_two xs)
 
-pub length_same : (xs : List ℕ) → length (map units_begun xs) ≡ length xs
-length_same [] = refl
-length_same (x ∷ xs) = ap (λ n. suc n) (length_same xs)
-
 sum_same : (xs : List ℕ) → sum_l (map units_begun xs) ≡ all_units_begun xs
 sum_same [] = refl
 sum_same (x ∷ xs) = ap (λ n. units_begun x + n) (sum_same xs) ∙ sym (sum_by-cons units_begun x xs)
@@ -211,7 +174,7 @@ sum_same (x ∷ xs) = ap (λ n. units_begun x + n) (sum_same xs) ∙ sym (sum_by
 pub sum_fits_byte : (xs : List ℕ) → length xs ≤ 64 → Steps (λ s x. Fits w8 (s + x)) (λ s x. s + x) 0 (map units_begun xs)
 sum_fits_byte xs h =
     let bound = sum_bound 2 (map units_begun xs) (at_most_two xs) in
-    sum_fits w8 0 (map units_begun xs) (omega (arith, length_same xs))
+    sum_fits w8 0 (map units_begun xs) (omega (arith, length-map xs units_begun))
 
 pub sum_is : (xs : List ℕ) → fold_l (λ s x. s + x) 0 (map units_begun xs) ≡ all_units_begun xs
 sum_is xs = omega (arith, fold-sum 0 (map units_begun xs), sum_same xs)
@@ -228,7 +191,7 @@ lanes_grow most (a ∷ lanes) [] h = tt
 lanes_grow most (a ∷ lanes) (x ∷ xs) h = (omega (arith, h.0, begun_most x), lanes_grow most lanes xs h.1)
 
 pub sums_grow : (lanes xs : List ℕ) → length lanes ≡ length xs → sum_l (zip2 (λ a b. a + b) lanes (map units_begun xs)) ≡ sum_l lanes + all_units_begun xs
-sums_grow lanes xs e = omega (arith, sum-zip2 lanes (map units_begun xs) (e ∙ sym (length_same xs)), sum_same xs)
+sums_grow lanes xs e = omega (arith, sum-zip2 lanes (map units_begun xs) (e ∙ sym (length-map xs units_begun)), sum_same xs)
 
 -- the sum of lanes that eight blocks were added to
 pub sum_fits_two_bytes : (lanes : List ℕ) → length lanes ≡ 64 → Each1 (λ a. a ≤ 16) lanes → Steps (λ s x. Fits w16 (s + x)) (λ s x. s + x) 0 lanes

@@ -2,24 +2,24 @@
 use Rattle.wtf8.proofs.Common.{ℕ, List, [], ◌++◌, length, refl, ap, ◌∙◌, sym, subst, arith, append_assoc, length-append, append-nil, append_cancel_left, units}
 use Rattle.wtf8.proofs.Common.{bytes, Reads, IsForm, IsBoundary, ◌≡◌, ◌≢◌, ◌<◌, ◌+◌, ◌-◌, ◌/◌, ◌%◌, inl, ◌∷◌, get_or, drop_at, All-cons, All-drop, All-head, All-nil}
 use Rattle.wtf8.proofs.Common.{All, encoding, IsFront, IsBack, slice_get, Some, zero, suc, ◌≤◌, inr, cases_lt, chunk, length-chunk, get_or-chunk, ◌↔◌, glue}
-use Rattle.wtf8.proofs.Common.{AreScalar, view_units, view_form, Wtf8, Result, Ok, Err, OnOk, OnErr, AppendsUnits, KeepsContents, GainsUnits, FitsUnits, UnitString}
+use Rattle.wtf8.proofs.Common.{AreScalar, view_units, view_form, Wtf8, Result, Ok, Err, OnOk, OnErr, AppendsUnits, KeepsContents, UnitString, on_ok_weaker}
 use Rattle.wtf8.proofs.Common.{◌⊎◌, All-tail, IsUnit, IsWellFormed, Step, Run, Build, Reserve, Truncate, TruncateUnits, IsNoTruncation}
 use Rattle.std.proofs.Common.{slice_index}
 use Rattle.std.proofs.lemmas.List.{append_cancel_right}
 use Rattle.std.proofs.lemmas.List.Elements.{All-from_get_or, All-pop, All-same}
-use Rattle.wtf8.specs.Appending.{FitWithin}
+use Rattle.wtf8.specs.Appending.{FitWithin, AddsLength}
 use Rattle.wtf8.specs.Building.{RunsOnce, RunsAddUp, LeavesReserved}
 use Rattle.wtf8.specs.Laws.{FrontAndBackAreWhole}
 use Rattle.wtf8.specs.PositionLaws.{StartIsBoundary, EndIsBoundary, NoneIsBeyondEnd, FrontBoundariesAreOfWhole, WholeBoundariesAreOfFront, WholeBoundariesAreOfBack}
-use Rattle.wtf8.specs.PositionLaws.{BackBoundariesAreOfWhole, BeginningsAreNoLonger, BothAreNoLonger, ListsHaveLengths, AsciiStandsAlone, AsciiIsOneUnit}
+use Rattle.wtf8.specs.PositionLaws.{BackBoundariesAreOfWhole, BeginningsAreNoLonger, BothAreNoLonger, AsciiStandsAlone, AsciiIsOneUnit}
 use Rattle.wtf8.specs.PositionLaws.{AsciiIsNoOtherUnit}
 use Rattle.wtf8.specs.StringLaws.{EqualBuffersHaveEqualUnits, EqualBufferAndViewHaveEqualUnits, EqualViewsHaveEqualUnits, StringsAreJoined, StringsArePaired}
 use Rattle.wtf8.specs.StringLaws.{TextsAreScalar, RoomLeftIsFound, ScalarsStay, FormsAreOfBuffers, FormsAreOfViews, WhatFitsIsFound}
-use Rattle.wtf8.specs.UnitCounts.{HasLane}
+use Rattle.wtf8.specs.private.UnitCounts.{HasLane}
 use Rattle.wtf8.proofs.lemmas.numbers.Encoding.{bytes-append, bytes-pushed, row_of, one, two, three, four, Begins}
-use Rattle.wtf8.proofs.lemmas.numbers.Readings.{well_formed_of, reads_same, same_form, units-append, units_bounds, points_bounds, units_one, units_two}
+use Rattle.wtf8.proofs.lemmas.numbers.Readings.{well_formed_of, reads_same, same_form, units-append, units_one, units_two}
 use Rattle.wtf8.proofs.lemmas.numbers.Readings.{units-cons_one, same_reading}
-use Rattle.wtf8.proofs.lemmas.strings.Concatenation.{equal_forms, form-glue, form_paired, form_apart, one_form, units_read, at_last, before, parted_more}
+use Rattle.wtf8.proofs.lemmas.strings.Concatenation.{equal_forms, form-glue, form_paired, form_apart, length_paired, length_apart, one_form, units_read, at_last, before, parted_more}
 use Rattle.wtf8.proofs.lemmas.strings.Gains.{beginning, both_length, scalar_text}
 use Rattle.wtf8.proofs.lemmas.strings.Positions.{Cut, cut_at, begun, same_front, front_reads, back_reads, front_boundary, boundary_from_byte, first_behind}
 use Rattle.wtf8.proofs.lemmas.strings.Positions.{byte_from_boundary}
@@ -89,12 +89,6 @@ beginnings w x u v f g =
 
 pub both_no_longer : BothAreNoLonger
 both_no_longer w v x a b f g h = (both_length f g h).most
-
-pub lengths : ListsHaveLengths
-lengths c =
-    let u = units_bounds c in
-    let p = points_bounds c in
-    record { points = p.units_least; units_least = u.at_least; units_most = u.at_most; bytes_most = p.at_most }
 
 -- Proofs of the laws of bytes below 80: each is a code point and a unit by itself.
 
@@ -257,11 +251,20 @@ no_ascii_unit t b l h = ascii_no_other_unit t.bytes.now (view_units t) b (view_f
 
 module _ {T E : Type 0} where
   -- the length grows by that of the form of what is appended at most
-  pub grows_at_most : (r : Result T E) (was : UnitString) {old : List ℕ} (new w v : List ℕ) → old ≡ was.bytes → IsForm w v →
-      OnOk r (GainsUnits old new v) → OnOk r (length new ≤ length was.bytes + length w)
-  grows_at_most (Ok _) was new w v e form ok =
-      both_no_longer was.bytes w new was.units v was.form form (ok was.units (subst (λ b. IsForm b was.units) (sym e) was.form))
-  grows_at_most (Err _) was new w v e form ok = tt
+  pub grows_at_most : (r : Result T E) (old : UnitString) {new u : List ℕ} (w v : List ℕ) → IsForm new u → IsForm w v → OnOk r (u ≡ old.units ++ v)
+      → OnOk r (length new ≤ length old.bytes + length w)
+  grows_at_most r old {new} w v form more ok =
+      on_ok_weaker r (λ e. both_no_longer old.bytes w new old.units v old.form more (subst (IsForm new) e form)) ok
+
+  -- and where a view is appended, by how much
+  pub added_length : (r : Result T E) (old new : UnitString) (other : Wtf8) → OnOk r (AppendsUnits old (view_units other) new) → OnOk r (AddsLength old other new)
+  added_length r old new other ok =
+      on_ok_weaker r (λ e.
+      let both = subst (IsForm new.bytes) e new.form in
+      record {
+        pair = length_paired old.bytes other.bytes.now new.bytes old.units (view_units other) old.form (view_form other) both;
+        apart = length_apart old.bytes other.bytes.now new.bytes old.units (view_units other) old.form (view_form other) both;
+      }) ok
 
   -- no units appended, or a refusal, leave the contents
   pub nothing_appended : (r : Result T E) (old new : UnitString) (v : List ℕ) → v ≡ [] →
@@ -269,13 +272,6 @@ module _ {T E : Type 0} where
   nothing_appended (Ok _) old new v e ok err =
       let same = ok ∙ (ap (λ x. old.units ++ x) e ∙ append-nil old.units) in record { units = same; bytes = (equal_buffers new old).1 same }
   nothing_appended (Err _) old new v e ok err = err
-
--- units fit whose form is no longer than the room that is left
-pub fits_left : (was : UnitString) {old : List ℕ} (w v : List ℕ) (n : ℕ) → old ≡ was.bytes → IsForm w v → length was.bytes + length w ≤ n → FitsUnits old v n
-fits_left was w v n e form h =
-    let room = room_left (record { units = was.units; bytes = was.bytes; form = was.form; capacity = n; fits = omega arith }) w v form h in
-    let before = subst (λ b. IsForm b was.units) (sym e) was.form in
-    record { units = was.units; whole = room.whole; before = before; after = room.form; within = omega (arith, room.within) }
 
 -- A list of building calls has exactly one outcome and one count of refused truncations.
 

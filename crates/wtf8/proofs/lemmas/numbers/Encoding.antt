@@ -1,11 +1,11 @@
 -- The bytes of a code point, of a list of code points, and what a first byte says.
-use Rattle.wtf8.proofs.Common.{◌≡◌, ℕ, zero, suc, ◌+◌, ◌/◌, ◌%◌, ◌<◌, ◌≤◌, ◌⊎◌, inl, inr, List, [], ◌∷◌, ◌++◌, length, get_or, refl, sym, ap, ◌∙◌, arith, lt-ltb}
+use Rattle.wtf8.proofs.Common.{◌≡◌, ℕ, zero, suc, ◌+◌, ◌/◌, ◌%◌, ◌<◌, ◌≤◌, ◌⊎◌, inl, inr, List, [], ◌∷◌, ◌++◌, length, get_or, refl, sym, ap, ◌∙◌, arith, lt-ltb, length-append}
 use Rattle.wtf8.proofs.Common.{le-ltb, cases_lt, append-nil, flat_map-append, IsSurrogate, bytes, encoding_is_encode, ◌-◌, ◌*◌, subst, IsCodePoint, encoding}
 use Rattle.wtf8.proofs.Common.{BeginsWithPoint}
 use Rattle.std.proofs.Math.Nat.{div-div-eq-div-mul}
 use Rattle.std.proofs.lemmas.Str.{encode_same}
 use Rattle.wtf8.specs.Form.{encoding}
-use Rattle.wtf8.specs.Gains.{FrontSays}
+use Rattle.wtf8.specs.private.Gains.{FrontSays}
 
 -- The encoding of code points: its bytes in each row of the table, its length, and which bytes begin one.
 
@@ -98,6 +98,10 @@ length-surrogate p s = ap length (encoding_three p (omega arith) (omega arith))
 -- the bytes of a list, and of one with a code point more
 pub bytes-append : (c d : List ℕ) → bytes (c ++ d) ≡ bytes c ++ bytes d
 bytes-append c d = flat_map-append encoding c d
+
+pub length-behind : (front : List ℕ) (p : ℕ) (back : List ℕ)
+    → length (bytes (front ++ p ∷ back)) ≡ length (bytes front) + (length (encoding p) + length (bytes back))
+length-behind front p back = simp (bytes-append, length-append)
 
 pub bytes-pushed : (c : List ℕ) (p : ℕ) → bytes (c ++ p ∷ []) ≡ bytes c ++ encoding p
 bytes-pushed c p = bytes-append c (p ∷ []) ∙ ap (λ w. bytes c ++ w) (append-nil (encoding p))

@@ -1,9 +1,10 @@
 -- Code points and their units, leads that meet trails, and the one list of code points that reads given units.
 use Rattle.wtf8.proofs.Common.{◌≡◌, ℕ, ◌⊎◌, inl, inr, List, [], ◌∷◌, ◌++◌, drop, get_or, length, true, ◌&&◌, leb, refl, sym, ap, ◌∙◌, subst, arith, length-append}
 use Rattle.wtf8.proofs.Common.{leb-true, le-leb, and_parts, cases_Bool, false≢true, same_from_push, IsLead, IsTrail, MeetsAsPair, ◌+◌, ◌-◌, ◌*◌, ◌/◌, ◌%◌, ◌<◌, ◌≤◌}
-use Rattle.wtf8.proofs.Common.{lt-ltb, le-ltb, cases_lt, append-nil, flat_map-append, units, pair, encoding, bytes, IsCodePoint, IsClean, drop_all, drop_at}
+use Rattle.wtf8.proofs.Common.{lt-ltb, le-ltb, cases_lt, append-nil, flat_map-append, units, pair, encoding, bytes, IsCodePoint, IsClean, drop_at}
 use Rattle.wtf8.proofs.Common.{bytes-injective, Reads, IsWellFormed, IsForm, BeginsWithPoint, length-drop, drop-drop}
 use Rattle.wtf8.specs.Concatenation.{is_pair}
+use Rattle.wtf8.specs.PositionLaws.{ListsHaveLengths}
 use Rattle.wtf8.specs.Unicode.{units_of}
 use Rattle.wtf8.proofs.lemmas.numbers.Encoding.{row_of, one, two, three, four, length-encoding_bounds, begins_with}
 
@@ -100,47 +101,23 @@ units-append c d = flat_map-append units_of c d
 pub units-pushed : (c : List ℕ) (p : ℕ) → units (c ++ p ∷ []) ≡ units c ++ units_of p
 units-pushed c p = units-append c (p ∷ []) ∙ ap (λ u. units c ++ u) (append-nil (units_of p))
 
--- the number of units against the number of bytes
-pub record Bounds (u w : ℕ) : Type 0 where
-  pub at_least : u ≤ w
-  pub at_most : w ≤ 3 * u
-
-bounds_of : (p : ℕ) → Bounds (length (units_of p)) (length (encoding p))
-bounds_of p = elim (row_of p) [
-  | one h e ↦ rw (e, units_one p (omega arith)) (record { at_least = omega arith; at_most = omega arith })
-  | two _ h e ↦ rw (e, units_one p (omega arith)) (record { at_least = omega arith; at_most = omega arith })
-  | three _ h e ↦ rw (e, units_one p h) (record { at_least = omega arith; at_most = omega arith })
-  | four l e ↦ rw (e, units_two p l) (record { at_least = omega arith; at_most = omega arith })
+-- the numbers of code points, units and bytes against one another
+lengths_of_one : (p : ℕ) → (1 ≤ length (units_of p)) × (length (units_of p) ≤ length (encoding p)) × (length (encoding p) ≤ 3 * length (units_of p)) × (length (encoding p) ≤ 4)
+lengths_of_one p = elim (row_of p) [
+  | one h e ↦ rw (e, units_one p (omega arith)) (omega arith)
+  | two _ h e ↦ rw (e, units_one p (omega arith)) (omega arith)
+  | three _ h e ↦ rw (e, units_one p h) (omega arith)
+  | four l e ↦ rw (e, units_two p l) (omega arith)
 ]
 
-pub units_bounds : (c : List ℕ) → Bounds (length (units c)) (length (bytes c))
-units_bounds [] = record { at_least = omega arith; at_most = omega arith }
-units_bounds (p ∷ c) =
-    let b = bounds_of p in
-    let r = units_bounds c in
-    rw (length-append (units_of p) (units c), length-append (encoding p) (bytes c)) (record { at_least = omega arith; at_most = omega arith })
-
--- code points against bytes and units: one to four bytes each, and one or two units
-pub record PointBounds (n w u : ℕ) : Type 0 where
-  pub at_least : n ≤ w
-  pub at_most : w ≤ 4 * n
-  pub units_least : n ≤ u
-  pub units_most : u ≤ w
-
-one_or_two : (p : ℕ) → (1 ≤ length (units_of p)) × (length (units_of p) ≤ length (encoding p))
-one_or_two p = elim (cases_lt p 0x10000) [
-  | inl h ↦ (omega (arith, ap length (units_one p h)), (bounds_of p).at_least)
-  | inr h ↦ (omega (arith, ap length (units_two p h)), (bounds_of p).at_least)
-]
-
-pub points_bounds : (c : List ℕ) → PointBounds (length c) (length (bytes c)) (length (units c))
-points_bounds [] = record { at_least = omega arith; at_most = omega arith; units_least = omega arith; units_most = omega arith }
-points_bounds (p ∷ c) =
-    let r = points_bounds c in
-    let e = length-encoding_bounds p in
-    let u = one_or_two p in
-    rw (length-append (units_of p) (units c), length-append (encoding p) (bytes c))
-    (record { at_least = omega arith; at_most = omega arith; units_least = omega arith; units_most = omega arith })
+pub lengths : ListsHaveLengths
+lengths [] = record { points = omega arith; units_least = omega arith; units_most = omega arith; bytes_most = omega arith }
+lengths (p ∷ c) =
+    let here = lengths_of_one p in
+    let rest = lengths c in
+    let more = length-append (units_of p) (units c) in
+    let bytes_more = length-append (encoding p) (bytes c) in
+    record { points = omega arith; units_least = omega arith; units_most = omega arith; bytes_most = omega arith }
 
 -- Clean lists of code points, cut and joined.
 
@@ -247,30 +224,33 @@ units_from_form w a b x y = sym x.reads.same_units ∙ (ap units (bytes-injectiv
 pub same_points : {w v : List ℕ} (x : IsWellFormed w) (y : IsWellFormed v) → w ≡ v → x.points ≡ y.points
 same_points x y e = bytes-injective x.points y.points (x.encoded ∙ (e ∙ sym y.encoded))
 
--- no bytes are the form of no units
-abbrev pub empty_form : IsWellFormed []
-empty_form = record { points = []; clean = tt; encoded = refl }
+-- no bytes are those of no code points
+pub no_bytes : (c : List ℕ) → length (bytes c) ≡ 0 → c ≡ []
+no_bytes [] e = refl
+no_bytes (p ∷ c) e = absurd (omega (arith, length-encoding_bounds p, length-append (encoding p) (bytes c)))
 
--- a string of no bytes has no code points
 pub no_points : {w : List ℕ} (h : IsWellFormed w) → length w ≡ 0 → h.points ≡ []
-no_points h e = same_points h empty_form (drop_all 0 _ (omega arith))
+no_points h e = no_bytes h.points (ap length h.encoded ∙ e)
+
+-- bytes that equal well-formed ones have their code points
+abbrev pub empty_at : {w : List ℕ} → w ≡ [] → IsWellFormed w
+empty_at e = record { points = []; clean = tt; encoded = sym e }
+
+abbrev pub moved : {v w : List ℕ} → IsWellFormed v → w ≡ v → IsWellFormed w
+moved h e = record { points = h.points; clean = h.clean; encoded = h.encoded ∙ sym e }
 
 -- the first code point of a string, and what is behind it
 pub record FirstOf (c w : List ℕ) : Type 0 where
   pub begins : BeginsWithPoint w
-  pub rest : List ℕ
-  pub points : c ≡ begins.point ∷ rest
-  pub clean : IsClean rest
-  pub encoded : bytes rest ≡ begins.rest
+  pub behind : IsWellFormed begins.rest
+  pub points : c ≡ begins.point ∷ behind.points
 
 first_by : (c w : List ℕ) → IsClean c → bytes c ≡ w → 0 < length w → FirstOf c w
 first_by [] w x e n = absurd (omega (arith, ap length e))
 first_by (p ∷ c) w x e n = record {
   begins = begins_with p (bytes c) w (clean-first p c x) (sym e);
-  rest = c;
+  behind = record { points = c; clean = clean-rest p c x; encoded = refl };
   points = refl;
-  clean = clean-rest p c x;
-  encoded = refl;
 }
 
 pub first_of : {w : List ℕ} (h : IsWellFormed w) → 0 < length w → FirstOf h.points w
@@ -293,13 +273,6 @@ taken v at h p behind long read =
     ap (λ k. drop k v) was.1 ∙ (sym (drop-drop n at v) ∙ (ap (drop n) b.encoded ∙ drop_at (encoding b.point) b.rest n refl)) in
     record {
       within = omega (arith, was.1, ap length b.encoded, length-append (encoding b.point) b.rest, length-drop at v);
-      rest = record { points = f.rest; clean = f.clean; encoded = f.encoded ∙ sym back };
-      joined = f.points ∙ ap (λ q. q ∷ f.rest) (sym was.0);
+      rest = moved f.behind back;
+      joined = f.points ∙ ap (λ q. q ∷ f.behind.points) (sym was.0);
     }
-
--- bytes that equal well-formed ones have their code points
-abbrev pub empty_at : {w : List ℕ} → w ≡ [] → IsWellFormed w
-empty_at e = record { points = []; clean = tt; encoded = sym e }
-
-abbrev pub moved : {v w : List ℕ} → IsWellFormed v → w ≡ v → IsWellFormed w
-moved h e = record { points = h.points; clean = h.clean; encoded = h.encoded ∙ sym e }

@@ -143,7 +143,7 @@ pub bytes_apart : {w v : List ℕ} (c d : List ℕ) → ¬ (MeetsAsPair c d) →
 bytes_apart {w} {v} c d n e g = simp (glue_apart c d n, bytes-append, e, g)
 
 -- a pair has one byte more than its lead, and two less than both
-pub length-joined : (w : List ℕ) (l t : ℕ) → IsLead l → IsTrail t → 3 ≤ length w → length (take (length w - 3) w ++ encoding (pair l t)) ≡ length w + 1
+length-joined : (w : List ℕ) (l t : ℕ) → IsLead l → IsTrail t → 3 ≤ length w → length (take (length w - 3) w ++ encoding (pair l t)) ≡ length w + 1
 length-joined w l t lead trail n =
     length-append (take (length w - 3) w) (encoding (pair l t))
     ∙ omega (arith, length-take-le (length w - 3) w (omega arith), ap length (encoding_four (pair l t) (omega arith)))

@@ -1,21 +1,24 @@
 -- What an appending call adds, where no surrogate is added, and how much room it needs.
 use Rattle.wtf8.proofs.Common.{◌≡◌, ◌+◌, ◌-◌, ◌≤◌, List, [], ◌∷◌, ℕ, ◌++◌, length, take, drop, Result, Ok, Err, OnOk, OnErr, refl, ap, ◌∙◌, sym, subst, arith}
 use Rattle.wtf8.proofs.Common.{append-nil, drop_all, units, units_of, pair, IsLead, IsTrail, IsCodePoint, UnitString, KeepsContents, MeetsAsPair}
-use Rattle.wtf8.proofs.Common.{encoding, IsWellFormed, IsForm, GainsUnits, FitsUnits, view_units, view_form, Wtf8, inl, inr, true, chars, IsUtf8, scalars-chars}
-use Rattle.wtf8.proofs.Common.{and_parts, scalar, scalars, IsSurrogate, IsClean, bytes_are_encodes, bytes-injective, AreScalar, append_assoc}
+use Rattle.wtf8.proofs.Common.{encoding, IsWellFormed, IsForm, GainsUnits, Gains, inl, inr, true, chars, IsUtf8, scalars-chars}
+use Rattle.wtf8.proofs.Common.{and_parts, scalar, scalars, IsSurrogate, IsClean, bytes_are_encodes, AreScalar, append_assoc}
 use Rattle.wtf8.proofs.Common.{length-append, All, map-append, take_at, drop_at, All-drop, All-same, Step, FindRoom, Build, Truncate, TruncateUnits, number, numbers}
-use Rattle.wtf8.proofs.Common.{glue, IsUnit, bytes, ◌<◌, cases_lt, append_cancel_left, SurrogateAt}
+use Rattle.wtf8.proofs.Common.{glue, IsUnit, bytes, ◌<◌, cases_lt, append_cancel_left, SurrogateAt, on_ok_weaker, vec_capacity}
 use Rattle.std.proofs.lemmas.List.{length-map}
 use Rattle.std.proofs.lemmas.List.Elements.{All-take}
 use Rattle.std.proofs.lemmas.Str.{encodes-chars}
 use lib.Utf8.{scalar_cases}
-use Rattle.wtf8.specs.Appending.{AddsLength}
+use Rattle.std.proofs.lemmas.Result.{on_err_weaker}
+use Rattle.std.specs.Prelude.{IsOk}
+use Rattle.std.specs.declared.vec.Vec.{Vec}
+use Rattle.wtf8.specs.Appending.{HasRoomFor}
 use Rattle.wtf8.specs.Building.{FindsRoom}
 use Rattle.wtf8.specs.declared.numbers.code_point.CodePoint.{CodePoint}
-use Rattle.wtf8.proofs.lemmas.numbers.Encoding.{length-surrogate, length-encoding_bounds, bytes-append, bytes-pushed, encoding_four}
+use Rattle.wtf8.proofs.lemmas.numbers.Encoding.{length-surrogate, length-encoding_bounds, length-behind, encoding_four}
 use Rattle.wtf8.proofs.lemmas.numbers.Readings.{meets_by, form_of, well_formed_of, same_form, units_from_form, moved, same_reading, same_points}
-use Rattle.wtf8.proofs.lemmas.numbers.Readings.{units-append, same_heads, meets_or_apart, units_one, units_bounds, points_bounds}
-use Rattle.wtf8.proofs.lemmas.strings.Concatenation.{paired_bytes, meeting_bytes, form_meeting, form_behind, length-joined, length_paired, length_apart, one_form}
+use Rattle.wtf8.proofs.lemmas.numbers.Readings.{units-append, same_heads, meets_or_apart, units_one, lengths}
+use Rattle.wtf8.proofs.lemmas.strings.Concatenation.{paired_bytes, meeting_bytes, form_meeting, form_behind, one_form}
 use Rattle.wtf8.proofs.lemmas.strings.Concatenation.{clean-glue, units-glue, glue_meeting, glue_apart, units_read, bytes_paired, bytes_apart, length-paired_bytes, form-glue}
 use Rattle.wtf8.proofs.lemmas.strings.Surrogates.{scalar-middle, surrogate_in}
 use Rattle.wtf8.proofs.lemmas.strings.Positions.{begun}
@@ -27,36 +30,24 @@ use Rattle.wtf8.specs.OneForm.{AreScalarTo}
 pub contents_of : (new old : UnitString) → new.bytes ≡ old.bytes → KeepsContents old new
 contents_of new old e = record { units = units_from_form new.bytes new.units old.units new.form (subst (λ w. IsForm w old.units) (sym e) old.form); bytes = e }
 
-module _ {T E : Type 0} where
-  pub gained_or_kept : (r : Result T E) (v : List ℕ) {old new : List ℕ} → IsWellFormed old → OnOk r (GainsUnits old new v) → OnErr r (new ≡ old)
-      → IsWellFormed new
-  gained_or_kept (Ok _) v h ok err = well_formed_of (ok (units h.points) (form_of h))
-  gained_or_kept (Err _) v h ok err = subst IsWellFormed (sym err) h
+-- bytes that gained units are well-formed, and their units are the old ones and these
+pub gained_units : {old new u v : List ℕ} (h : IsWellFormed old) (k : IsWellFormed new) → units h.points ≡ u → GainsUnits old new v → units k.points ≡ u ++ v
+gained_units {new} {v} h k e gained = units_from_form new (units k.points) _ (form_of k) (gained _ (form_of h)) ∙ ap (λ x. x ++ v) e
 
-  pub gained_units : (r : Result T E) (v : List ℕ) {old new u : List ℕ} (h : IsWellFormed old) (k : IsWellFormed new) → units h.points ≡ u
-      → OnOk r (GainsUnits old new v) → OnOk r (units k.points ≡ u ++ v)
-  gained_units (Ok _) v {old} {new} h k e ok = units_from_form new (units k.points) _ (form_of k) (ok _ (form_of h)) ∙ ap (λ x. x ++ v) e
-  gained_units (Err _) v h k e ok = tt
+module _ {T E Z : Type 0} {b n : Vec ℕ Z} {v : List ℕ} {r : Result T E} where
+  -- a string whose bytes a call gave units, as `was` and `old` see it before the call
+  pub units_appended : (was old : UnitString) (k : IsWellFormed n.items) → was ≡ old → was.bytes ≡ b.items → Gains b v n r → OnOk r (units k.points ≡ old.units ++ v)
+  units_appended was old k s e g =
+      let before = subst (λ w. IsForm w old.units) (sym (ap (λ (t : UnitString). t.bytes) s) ∙ e) old.form in
+      on_ok_weaker r (λ h. units_from_form n.items (units k.points) _ (form_of k) (rw h (g.gained old.units before))) g.becomes.ok
 
-  -- a refusal that left the bytes left the string
-  pub kept_contents : (r : Result T E) (was old new : UnitString) → was ≡ old → OnErr r (new.bytes ≡ was.bytes) → OnErr r (KeepsContents old new)
-  kept_contents (Ok _) was old new e err = tt
-  kept_contents (Err _) was old new e err = contents_of new old (err ∙ ap (λ (s : UnitString). s.bytes) e)
+  pub kept_contents : (was old new : UnitString) → was ≡ old → was.bytes ≡ b.items → new.bytes ≡ n.items → Gains b v n r → OnErr r (KeepsContents old new)
+  kept_contents was old new s e f g = on_err_weaker r (λ h. contents_of new old (f ∙ (h ∙ (sym e ∙ ap (λ (t : UnitString). t.bytes) s)))) g.becomes.err
 
-  -- how long the string is that a view was appended to
-  pub added_length : (r : Result T E) (was old new : UnitString) (other : Wtf8) → was ≡ old → OnOk r (GainsUnits was.bytes new.bytes (view_units other))
-      → OnOk r (AddsLength old other new)
-  added_length (Ok _) was old new other e gains =
-      let gained = gains old.units (subst (λ b. IsForm b old.units) (sym (ap (λ (s : UnitString). s.bytes) e)) old.form) in
-      record {
-        pair = length_paired old.bytes other.bytes.now new.bytes old.units (view_units other) old.form (view_form other) gained;
-        apart = length_apart old.bytes other.bytes.now new.bytes old.units (view_units other) old.form (view_form other) gained;
-      }
-  added_length (Err _) was old new other e gains = tt
-
--- where the units fit, the bytes that gained them are within the capacity
-pub fits_length : {old new v : List ℕ} {n : ℕ} → GainsUnits old new v → FitsUnits old v n → length new ≤ n
-fits_length {old} {new} {v} gains fit = omega (arith, fit.within, ap length (same_form new fit.whole (fit.units ++ v) (gains fit.units fit.before) fit.after))
+  pub room_found : (was old : UnitString) → was ≡ old → was.bytes ≡ b.items → was.capacity ≡ vec_capacity b → Gains b v n r → HasRoomFor old v → IsOk r
+  room_found was old s e c g fit =
+      let before = subst (λ w. IsForm w old.units) (sym (ap (λ (t : UnitString). t.bytes) s) ∙ e) old.form in
+      g.becomes.room (omega (arith, fit.within, ap length (same_form g.whole fit.whole (old.units ++ v) (g.gained old.units before) fit.form), c, ap (λ (t : UnitString). t.capacity) s))
 
 -- the form of the units of the old bytes and of others says what was gained
 gains_by : {w new : List ℕ} (v : List ℕ) (h : IsWellFormed w) → IsForm new (units h.points ++ v) → GainsUnits w new v
@@ -86,7 +77,6 @@ gains_point {w} h p range n = subst (GainsUnits w (w ++ encoding p)) (append-nil
 pub record Joined (w : List ℕ) (l t : ℕ) : Type 0 where
   pub three : 3 ≤ length w
   pub gains : GainsUnits w (take (length w - 3) w ++ encoding (pair l t)) (units_of t)
-  pub longer : length (take (length w - 3) w ++ encoding (pair l t)) ≡ length w + 1
 
 pub joined : {w : List ℕ} (h : IsWellFormed w) (f : List ℕ) (l t : ℕ) → IsLead l → IsTrail t → h.points ≡ f ++ l ∷ [] → Joined w l t
 joined {w} h f l t lead trail e =
@@ -97,7 +87,7 @@ joined {w} h f l t lead trail e =
     let nothing : drop 3 (encoding t) ≡ [] = drop_all 3 (encoding t) (omega (arith, length-surrogate t (omega arith, omega arith))) in
     let whole : pair_bytes ++ drop 3 (encoding t) ≡ pair_bytes = ap (λ r. pair_bytes ++ r) nothing ∙ append-nil pair_bytes in
     let gains = subst (GainsUnits w pair_bytes) (append-nil (units_of t)) (subst (λ x. GainsUnits w x (units (t ∷ []))) whole (gains_meeting h k m)) in
-    record { three = three; gains = gains; longer = length-joined w l t lead trail three }
+    record { three = three; gains = gains }
 
 -- A text's bytes are well-formed, and its characters are their code points.
 
@@ -175,15 +165,7 @@ pub scalar_all : (c : List ℕ) (k : ℕ) → AreScalar c → AreScalarTo k c
 scalar_all c k s f p b e _ = scalar-middle f p b (subst AreScalar e s)
 
 pub all_scalar : (c : List ℕ) (k : ℕ) → AreScalarTo k c → length (bytes c) ≤ k → AreScalar c
-all_scalar c k s n = scalar_each c (λ f p b e. s f p b e (omega (
-  arith,
-  n,
-  ap (λ d. length (bytes d)) e,
-  ap length (bytes-append f (p ∷ b)),
-  length-append (bytes f) (bytes (p ∷ b)),
-  length-append (encoding p) (bytes b),
-  length-encoding_bounds p,
-)))
+all_scalar c k s n = scalar_each c (λ f p b e. s f p b e (omega (arith, n, ap (λ d. length (bytes d)) e, length-behind f p b, length-encoding_bounds p)))
 
 pub scalar_to-front : (k n : ℕ) (c d : List ℕ) → AreScalarTo k (c ++ d) → n ≤ k → AreScalarTo n c
 scalar_to-front k n c d s l f p b e m = s f p (b ++ d) (ap (λ x. x ++ d) e ∙ append_assoc f (p ∷ b) d) (omega (arith, l, m))
@@ -211,8 +193,8 @@ scalar_to-paired : (k n : ℕ) (f : List ℕ) (l t : ℕ) (r : List ℕ) → IsL
     → n ≤ length (bytes (f ++ l ∷ [])) → AreScalarTo n (f ++ pair l t ∷ r)
 scalar_to-paired k n f l t r lead trail s m u =
     let front = scalar_to-append n f (pair l t ∷ []) (scalar_to-front k n f (l ∷ []) s m) (λ _. ((λ x. omega (arith, x.1)), tt)) in
-    let long = ap length (bytes-pushed f (pair l t)) ∙ length-append (bytes f) (encoding (pair l t)) in
-    let was = ap length (bytes-pushed f l) ∙ length-append (bytes f) (encoding l) in
+    let long = length-behind f (pair l t) [] in
+    let was = length-behind f l [] in
     let four = ap length (encoding_four (pair l t) (omega arith)) in
     subst (AreScalarTo n) (append_assoc f (pair l t ∷ []) r)
     (scalar_to-append n (f ++ pair l t ∷ []) r front (λ x. absurd (omega (arith, x, u, long, was, four, length-surrogate l (omega arith, omega arith)))))
@@ -239,25 +221,27 @@ none_before k h i s l at =
     let p = surrogate_in h.points i (subst (λ v. SurrogateAt v i) (sym h.encoded) at) in
     s p.front p.point p.back p.joined (omega (arith, l, p.front_len)) p.surrogate
 
-module _ {T E : Type 0} where
-  -- what a buffer holds behind a call that appends to it: well-formed bytes, with no surrogate before the place that is told
-  pub known_gained : (r : Result T E) (c v : List ℕ) (k n : ℕ) {old new : List ℕ} (h : IsWellFormed old) → v ≡ units c → IsClean c
-      → AreScalarTo k h.points → n ≤ k → (length old < n → AreScalar c)
-      → OnOk r (GainsUnits old new v) → OnErr r (new ≡ old) → (x : IsWellFormed new) × (AreScalarTo n x.points × Unit {0})
-  known_gained (Ok _) c v k n {old} {new} h e x s l t ok err =
-      let now = gained_or_kept {T = Unit {0}} {E = Unit {0}} (Ok tt) v h ok tt in
-      let f = ok (units h.points) (form_of h) in
-      let whole : units now.points ≡ units (glue h.points c) = cc (bytes-injective now.points f.points (cc), units-glue h.points c) in
-      let same : now.points ≡ glue h.points c = same_reading now.points (glue h.points c) now.clean (clean-glue h.points c h.clean x) whole in
-      (now, (subst (AreScalarTo n) (sym same) (scalar_to-glue k n h.points c s l (λ m. t (omega (arith, m, ap length h.encoded)))), tt))
-  known_gained (Err _) c v k n h e x s l t ok err =
-      let now = moved h err in
-      (now, ((λ f p b g m. s f p b g (omega (arith, l, m))), tt))
+-- what a buffer holds whose bytes gained units: well-formed bytes, with no surrogate before the place that is told
+pub known_behind_gain : (c v : List ℕ) (k n : ℕ) {old new : List ℕ} (h : IsWellFormed old) → v ≡ units c → IsClean c → AreScalarTo k h.points → n ≤ k
+    → (length old < n → AreScalar c) → GainsUnits old new v → (x : IsWellFormed new) × (AreScalarTo n x.points × Unit {0})
+known_behind_gain c v k n h e x s l t gained =
+    let f = gained (units h.points) (form_of h) in
+    let now = well_formed_of f in
+    let whole : units now.points ≡ units (glue h.points c) = cc (f.reads.same_units, units-glue h.points c) in
+    let same : now.points ≡ glue h.points c = same_reading now.points (glue h.points c) now.clean (clean-glue h.points c h.clean x) whole in
+    (now, (subst (AreScalarTo n) (sym same) (scalar_to-glue k n h.points c s l (λ m. t (omega (arith, m, ap length h.encoded)))), tt))
 
-  pub known_point : (r : Result T E) (p : ℕ) (k n : ℕ) {old new : List ℕ} (h : IsWellFormed old) → IsCodePoint p → AreScalarTo k h.points → n ≤ k
-      → (length old < n → ¬ (IsSurrogate p))
-      → OnOk r (GainsUnits old new (units_of p)) → OnErr r (new ≡ old) → (x : IsWellFormed new) × (AreScalarTo n x.points × Unit {0})
-  known_point r p k n h range s l t ok err = known_gained r (p ∷ []) (units_of p) k n h (sym (append-nil (units_of p))) range s l (λ m. (t m, tt)) ok err
+module _ {T E Z : Type 0} {b m : Vec ℕ Z} {v : List ℕ} where
+  -- the same behind a call that may be refused
+  pub known_gained : (r : Result T E) (c : List ℕ) (k n : ℕ) (h : IsWellFormed b.items) → v ≡ units c → IsClean c → AreScalarTo k h.points → n ≤ k
+      → (length b.items < n → AreScalar c) → Gains b v m r → (x : IsWellFormed m.items) × (AreScalarTo n x.points × Unit {0})
+  known_gained (Ok _) c k n h e x s l t g = known_behind_gain c v k n h e x s l t (rw g.becomes.ok g.gained)
+  known_gained (Err _) c k n h e x s l t g = (moved h g.becomes.err, ((λ f p b g m. s f p b g (omega (arith, l, m))), tt))
+
+module _ {T E Z : Type 0} {b m : Vec ℕ Z} where
+  pub known_point : (r : Result T E) (p : ℕ) (k n : ℕ) (h : IsWellFormed b.items) → IsCodePoint p → AreScalarTo k h.points → n ≤ k
+      → (length b.items < n → ¬ (IsSurrogate p)) → Gains b (units_of p) m r → (x : IsWellFormed m.items) × (AreScalarTo n x.points × Unit {0})
+  known_point r p k n h range s l t g = known_gained r (p ∷ []) k n h (sym (append-nil (units_of p))) range s l (λ m. (t m, tt)) g
 
 -- Room: how long the forms of parts and of wholes are, and the room that calls find, one after another.
 
@@ -275,11 +259,11 @@ glued_length c d = elim (meets_or_apart c d) [
       let three = length-surrogate m.trail (omega (arith, m.is_trail), omega (arith, m.is_trail)) in
       let back : length (bytes d) ≡ 3 + length (bytes m.rest) = simp (m.begins, length-append, three) in
       let own : length (units d) ≡ 1 + length (units m.rest) = simp (m.begins, length-append, units_one m.trail (omega (arith, m.is_trail))) in
-      let rest = (units_bounds m.rest).at_least in
+      let rest = (lengths m.rest).units_least in
       record { least = omega (arith, both, paired, back, own, rest); most = omega (arith, both, paired) }
   | inr n ↦
       let both = ap length (bytes_apart c d n refl refl) ∙ length-append (bytes c) (bytes d) in
-      record { least = omega (arith, both, (units_bounds d).at_least); most = omega (arith, both) }
+      record { least = omega (arith, both, (lengths d).units_least); most = omega (arith, both) }
 ]
 
 -- the form of both is as long as those of the parts let it be
@@ -317,7 +301,7 @@ pub extended_length : (ps : List CodePoint) (w u y : List ℕ) → IsForm w u �
 extended_length ps w u y h k =
     let v = units (numbers ps) in
     let back = one_form v (all_back u v (units_read k.points (u ++ v) k.reads)) in
-    omega (arith, (both_length h back.has k).least, (points_bounds (numbers ps)).units_least, length-map ps number)
+    omega (arith, (both_length h back.has k).least, (lengths (numbers ps)).points, length-map ps number)
 
 pub units-points : (ps qs : List CodePoint) → units (numbers (ps ++ qs)) ≡ units (numbers ps) ++ units (numbers qs)
 units-points ps qs = ap units (map-append number ps qs) ∙ units-append (numbers ps) (numbers qs)

@@ -2,11 +2,12 @@
 use Rattle.wtf8.proofs.Common.{◌≡◌, ◌-◌, ◌≤◌, ◌<◌, ℕ, zero, suc, inl, inr, List, [], ◌∷◌, ◌++◌, length, get_or, refl, ap, ◌∙◌, sym, subst, arith, length-append}
 use Rattle.wtf8.proofs.Common.{cases_lt, append-nil, get_or-append_right, encoding, bytes, take, drop, append_assoc, take_at, drop_at, units, IsClean, Reads}
 use Rattle.wtf8.proofs.Common.{IsWellFormed, IsForm, IsBoundary, IsFront, IsBack, ◌+◌, ◌/◌, ◌%◌, take-add, chunk, units_of, units_begun, all_units_begun}
-use Rattle.wtf8.proofs.Common.{IsPlaceOfUnit}
+use Rattle.wtf8.proofs.Common.{IsPlaceOfUnit, CutsUnits, None}
 use Rattle.std.proofs.lemmas.List.Sums.{sum_by-append, sum_by_more}
 use Rattle.wtf8.specs.Position.{Splits, IsMiddle}
+use Rattle.wtf8.specs.declared.strings.unit_positions.Place.{Place}
 use Rattle.wtf8.proofs.lemmas.lanes.Surrogates.{begun_low, begun_inside, begun_one, begun_two}
-use Rattle.wtf8.proofs.lemmas.numbers.Encoding.{Begins, first-encoding, inside-encoding, length-encoding_bounds, bytes-append, row_of, one, two, three, four}
+use Rattle.wtf8.proofs.lemmas.numbers.Encoding.{Begins, first-encoding, inside-encoding, length-encoding_bounds, length-behind, bytes-append, row_of, one, two, three, four}
 use Rattle.wtf8.proofs.lemmas.numbers.Readings.{clean-front, clean-back, reads_same, same_heads, same_points, same_reading, well_formed_of, units_one, units_two}
 
 -- Where the bytes of a list of code points may be cut.
@@ -235,43 +236,34 @@ begins_units b h = elim (cases_lt b 0x80) [
 ]
 
 -- the code points about a place
-pub record PointsAbout (c : List ℕ) (n place before : ℕ) : Type 0 where
-  pub front : List ℕ
-  pub back : List ℕ
-  pub joined : c ≡ front ++ back
-  pub front_len : length (bytes front) ≡ place
-  pub counted : length (units front) ≡ before
-  pub not_beyond : before ≤ n
-  pub holds : (p : ℕ) (rest : List ℕ) → back ≡ p ∷ rest → n < before + length (units_of p)
+pub record PointsAbout (c : List ℕ) (n : ℕ) (place : Place) : Type 0 where
+  pub cut : CutsUnits c place.units_before place.at None
+  pub not_beyond : place.units_before ≤ n
+  pub holds : (p : ℕ) (rest : List ℕ) → cut.back ≡ p ∷ rest → n < place.units_before + length (units_of p)
 
-pub points_about : (c : List ℕ) (n place before : ℕ) → IsPlaceOfUnit (bytes c) n place before → PointsAbout c n place before
-points_about c n place before h =
-    let w = bytes c in
+pub points_about : (c : List ℕ) (n : ℕ) (s : Place) → IsPlaceOfUnit (bytes c) n s → PointsAbout c n s
+points_about c n s h =
+    let place = s.at in
+    let before = s.units_before in
+    let was = h.before in
     let next : place < length (bytes c) → n < before + units_begun (get_or (bytes c) place 0) =
-    λ m. omega (arith, h.reaches m, h.counted, sum_by_more units_begun (bytes c) place 0 m) in
-    let cut = split_at c place h.within (λ m. begins_units (get_or (bytes c) place 0) (omega (arith, next m, h.not_beyond))) in
+    λ m. omega (arith, h.reaches m, was.counted, sum_by_more units_begun (bytes c) place 0 m) in
+    let cut = split_at c place was.within (λ m. begins_units (get_or (bytes c) place 0) (omega (arith, next m, was.not_beyond))) in
     let whole : bytes c ≡ bytes cut.front ++ bytes cut.back = ap bytes cut.joined ∙ bytes-append cut.front cut.back in
     let front : take place (bytes c) ≡ bytes cut.front = ap (take place) whole ∙ take_at (bytes cut.front) (bytes cut.back) place cut.front_len in
     record {
-      front = cut.front;
-      back = cut.back;
-      joined = cut.joined;
-      front_len = cut.front_len;
-      counted = sym (begun_bytes cut.front) ∙ (ap all_units_begun (sym front) ∙ sym h.counted);
-      not_beyond = h.not_beyond;
+      cut = record {
+        front = cut.front;
+        back = cut.back;
+        joined = cut.joined;
+        front_len = cut.front_len;
+        counted = sym (begun_bytes cut.front) ∙ (ap all_units_begun (sym front) ∙ sym was.counted);
+      };
+      not_beyond = was.not_beyond;
       holds = λ p rest e.
-          let back : bytes cut.back ≡ encoding p ++ bytes rest = ap bytes e in
-          let long : place < length (bytes c) = omega (
-            arith,
-            cut.front_len,
-            ap length whole,
-            length-append (bytes cut.front) (bytes cut.back),
-            ap length back,
-            length-append (encoding p) (bytes rest),
-            length-encoding_bounds p,
-          ) in
+          let joined : c ≡ cut.front ++ p ∷ rest = cut.joined ∙ ap (λ b. cut.front ++ b) e in
+          let long : place < length (bytes c) = omega (arith, cut.front_len, ap (λ d. length (bytes d)) joined, length-behind cut.front p rest, length-encoding_bounds p) in
           let here : get_or (bytes c) place 0 ≡ get_or (encoding p ++ bytes rest) 0 0 =
-          ap (λ v. get_or v place 0) whole ∙ (get_or-append_right (bytes cut.front) (bytes cut.back) place place 0 cut.front_len (omega arith)
-          ∙ (ap (λ k. get_or (bytes cut.back) k 0) (let zero_there : place - place ≡ 0 = omega arith in zero_there) ∙ ap (λ v. get_or v 0 0) back)) in
+          ap (λ d. get_or (bytes d) place 0) joined ∙ (ap (λ k. get_or (bytes (cut.front ++ p ∷ rest)) k 0) (sym cut.front_len) ∙ first_behind cut.front p rest) in
           omega (arith, next long, ap units_begun here, begun_first p (bytes rest));
     }

@@ -5,9 +5,9 @@ use Rattle.wtf8.proofs.Common.{IsSurrogate, encoding, bytes, IsClean, IsWellForm
 use Rattle.wtf8.proofs.Common.{lit<, le-leb, lt-leb, map-append, lossy, take, drop, append_cancel_left, take_at, drop_at}
 use lib.Utf8.{low_scalar}
 use Rattle.wtf8.specs.Surrogates.{replaced}
-use Rattle.wtf8.proofs.lemmas.numbers.Encoding.{encoding_three, length-encoding_bounds, row_of, one, two, three, four, bytes-append, third_row, length-surrogate}
+use Rattle.wtf8.proofs.lemmas.numbers.Encoding.{length-behind, encoding_three, length-encoding_bounds, row_of, one, two, three, four, bytes-append, third_row, length-surrogate}
 use Rattle.wtf8.proofs.lemmas.numbers.Encoding.{bytes-pushed}
-use Rattle.wtf8.proofs.lemmas.numbers.Readings.{clean-first, clean-rest, clean-front, clean-back}
+use Rattle.wtf8.proofs.lemmas.numbers.Readings.{no_bytes, clean-first, clean-rest, clean-front, clean-back}
 use Rattle.wtf8.proofs.lemmas.strings.Positions.{split_at, begun}
 
 -- Surrogates in bytes against surrogates among code points.
@@ -95,18 +95,11 @@ pub scalar_between : (f c b : List ℕ) → ((j : ℕ) → length (bytes f) ≤ 
 scalar_between f [] b none = tt
 scalar_between f (p ∷ c) b none =
     let at : (f ++ p ∷ c) ++ b ≡ f ++ p ∷ (c ++ b) = append_assoc f (p ∷ c) b in
-    let within : length (bytes f) < length (bytes (f ++ p ∷ c)) = omega (
-      arith,
-      ap length (bytes-append f (p ∷ c)),
-      length-append (bytes f) (bytes (p ∷ c)),
-      length-append (encoding p) (bytes c),
-      length-encoding_bounds p,
-    ) in
+    let within : length (bytes f) < length (bytes (f ++ p ∷ c)) = omega (arith, length-behind f p c, length-encoding_bounds p) in
     let more : (f ++ p ∷ []) ++ c ≡ f ++ p ∷ c = append_assoc f (p ∷ []) c in (
       λ s. none (length (bytes f)) (omega arith) within (subst (λ d. SurrogateAt (bytes d) (length (bytes f))) (sym at) (surrogate_at f p (c ++ b) s)),
       scalar_between (f ++ p ∷ []) c b (λ j l u. subst (λ d. ¬ (SurrogateAt (bytes (d ++ b)) j)) (sym more)
-          (none j (omega (arith, l, ap length (bytes-append f (p ∷ [])), length-append (bytes f) (bytes (p ∷ []))))
-          (omega (arith, u, ap (λ d. length (bytes d)) more)))),
+          (none j (omega (arith, l, length-behind f p [])) (omega (arith, u, ap (λ d. length (bytes d)) more)))),
     )
 
 -- the same where none begins behind them either
@@ -158,10 +151,6 @@ ends_in_surrogate w f p s e =
       second = at 1 (length w - 2) (omega arith);
       third = at 2 (length w - 1) (omega arith);
     }
-
-pub no_bytes : (c : List ℕ) → length (bytes c) ≡ 0 → c ≡ []
-no_bytes [] e = refl
-no_bytes (p ∷ c) e = absurd (omega (arith, length-encoding_bounds p, length-append (encoding p) (bytes c)))
 
 -- the last code point where the third byte from the end is ED and the next at least A0
 pub record LastSurrogate (c w : List ℕ) : Type 0 where

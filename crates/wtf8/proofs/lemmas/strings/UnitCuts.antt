@@ -2,14 +2,15 @@
 use Rattle.wtf8.proofs.Common.{BeginsWithPoint, ◌≡◌, ℕ, zero, suc, ◌+◌, ◌≤◌, List, [], ◌∷◌, ◌++◌, length, take, drop, None, Some, refl, sym, ap, ◌∙◌, subst, arith, length-append}
 use Rattle.wtf8.proofs.Common.{append_assoc, take_at, drop_at, slice_get, IsCodePoint, units, IsClean, bytes, encoding, IsWellFormed, IsFront, CutsUnits, ◌<◌, ◌↔◌}
 use Rattle.wtf8.proofs.Common.{inl, inr, Option, get_or, same_from_push, take-append-drop, length-drop, Reads, true, false, ◌/◌, ◌%◌, lt-ltb, le-ltb}
-use Rattle.wtf8.proofs.Common.{drop-drop, take-add, append-nil, IsLead, units_of, trail_by, held_in, behind_held, unread_after}
+use Rattle.wtf8.proofs.Common.{drop-drop, append-nil, IsLead, units_of, trail_by, held_in, behind_held, unread_after}
 use Rattle.std.proofs.Common.{length-take-le}
+use Rattle.std.proofs.Math.Seq.{take-append-add, drop-append-add}
 use Rattle.std.specs.Option.{option_to_list}
 use Rattle.std.specs.Prelude.{IsSome}
-use Rattle.wtf8.specs.UnitSteps.{StepsUnit}
-use Rattle.wtf8.specs.UnitCounts.{Divides}
+use Rattle.wtf8.specs.private.UnitSteps.{StepsUnit}
+use Rattle.wtf8.specs.private.UnitCounts.{Divides}
 use Rattle.wtf8.specs.UnitPosition.{DividesPair}
-use Rattle.wtf8.specs.UnitSteps.{is_inside}
+use Rattle.wtf8.specs.private.UnitSteps.{is_inside}
 use Rattle.wtf8.proofs.lemmas.numbers.Encoding.{encoding_four, bytes-append, bytes-pushed, row_of, one, two, three, four, Begins, first-encoding}
 use Rattle.wtf8.proofs.lemmas.numbers.Readings.{clean-first, clean-front, clean-back, clean-append, clean-apart, no_trail, meets_by, lead_of, trail_of, units_one}
 use Rattle.wtf8.proofs.lemmas.numbers.Readings.{units_two, units-append, units-pushed, first_of, no_points, taken, moved}
@@ -19,7 +20,11 @@ use Rattle.wtf8.proofs.lemmas.strings.Positions.{cut_by}
 -- What a string has before and behind a number of its units.
 
 -- no pair is divided
-pub record Undivided (c : List ℕ) (n : ℕ) (front back : List ℕ) : Type 0 where
+pub record Undivided (c : List ℕ) (n k : ℕ) : Type 0 where
+  pub front : List ℕ
+  pub back : List ℕ
+  pub joined : c ≡ front ++ back
+  pub front_len : length (bytes front) ≡ k
   pub within : n ≤ length (units c)
   pub kept : take n (units c) ≡ units front
   pub behind : drop n (units c) ≡ units back
@@ -31,10 +36,15 @@ get_behind [] b (suc n) e = absurd (omega arith)
 get_behind (x ∷ a) b zero e = absurd (omega arith)
 get_behind (x ∷ a) b (suc n) e = get_behind a b n (omega arith)
 
-pub undivided : {c : List ℕ} {n k : ℕ} (x : CutsUnits c n k None) → Undivided c n x.front x.back
-undivided {c} {n} x =
+pub undivided : {c : List ℕ} {n k : ℕ} {half : Option ℕ} → half ≡ None → CutsUnits c n k half → Undivided c n k
+undivided {c} {n} {k} e cut =
+    let x = subst (CutsUnits c n k) e cut in
     let whole : units c ≡ units x.front ++ units x.back = ap units x.joined ∙ units-append x.front x.back in
     record {
+      front = x.front;
+      back = x.back;
+      joined = x.joined;
+      front_len = x.front_len;
       within = omega (arith, ap length whole, length-append (units x.front) (units x.back), x.counted);
       kept = ap (take n) whole ∙ take_at (units x.front) (units x.back) n x.counted;
       behind = ap (drop n) whole ∙ drop_at (units x.front) (units x.back) n x.counted;
@@ -42,7 +52,9 @@ undivided {c} {n} x =
     }
 
 -- the pair of p is divided
-pub record Divided (c : List ℕ) (n k p : ℕ) (front rest : List ℕ) : Type 0 where
+pub record Divided (c : List ℕ) (n k p : ℕ) : Type 0 where
+  pub front : List ℕ
+  pub rest : List ℕ
   pub joined : c ≡ front ++ p ∷ rest
   pub large : 0x10000 ≤ p
   pub within : n ≤ length (units c)
@@ -54,8 +66,9 @@ pub record Divided (c : List ℕ) (n k p : ℕ) (front rest : List ℕ) : Type 0
   pub pushed_len : length (bytes (front ++ p ∷ [])) ≡ k + 4
   pub long : k + 4 ≤ length (bytes c)
 
-pub divided : {c : List ℕ} {n k p : ℕ} (x : CutsUnits c n k (Some p)) → Divided c n k p x.front x.counted.rest
-divided {c} {n} {k} {p} x =
+pub divided : {c : List ℕ} {n k p : ℕ} {half : Option ℕ} → half ≡ Some p → CutsUnits c n k half → Divided c n k p
+divided {c} {n} {k} {p} e cut =
+    let x = subst (CutsUnits c n k) e cut in
     let d : Divides x.front x.back n p = x.counted in
     let joined : c ≡ x.front ++ p ∷ d.rest = x.joined ∙ ap (λ b. x.front ++ b) d.first in
     let whole : units c ≡ (units x.front ++ lead_of p ∷ []) ++ (trail_of p ∷ units d.rest) =
@@ -66,6 +79,8 @@ divided {c} {n} {k} {p} x =
     simp (bytes-pushed, length-append, encoding_four p d.supplementary, x.front_len) in
     let all_len = ap (λ v. length (bytes v)) pushed ∙ ap length (bytes-append (x.front ++ p ∷ []) d.rest) in
     record {
+      front = x.front;
+      rest = d.rest;
       joined = joined;
       large = d.supplementary;
       within = omega (arith, ap length whole, length-append (units x.front ++ lead_of p ∷ []) (trail_of p ∷ units d.rest), long);
@@ -78,61 +93,52 @@ divided {c} {n} {k} {p} x =
       long = omega (arith, pushed_len, all_len, length-append (bytes (x.front ++ p ∷ [])) (bytes d.rest));
     }
 
-pub in_range : {c : List ℕ} {n k p : ℕ} {front rest : List ℕ} → IsClean c → Divided c n k p front rest → IsCodePoint p
-in_range {c} {n} {k} {p} {front} {rest} clean d = clean-first p rest (clean-back front (p ∷ rest) (subst IsClean d.joined clean))
+pub in_range : {c : List ℕ} {n k p : ℕ} → IsClean c → Divided c n k p → IsCodePoint p
+in_range {p} clean d = clean-first p d.rest (clean-back d.front (p ∷ d.rest) (subst IsClean d.joined clean))
 
 -- the bytes before the pair and those of its lead
-abbrev pub lead_kept : {w : List ℕ} (h : IsWellFormed w) {n k p : ℕ} {front rest : List ℕ} → Divided h.points n k p front rest
-    → IsWellFormed (take k w ++ encoding (lead_of p))
-lead_kept {w} h {n} {k} {p} {front} {rest} d =
+abbrev pub lead_kept : {w : List ℕ} (h : IsWellFormed w) {n k p : ℕ} → Divided h.points n k p → IsWellFormed (take k w ++ encoding (lead_of p))
+lead_kept {w} h {n} {k} {p} d =
     let range = in_range h.clean d in
-    let clean : IsClean (front ++ p ∷ rest) = subst IsClean d.joined h.clean in
+    let clean : IsClean (d.front ++ p ∷ d.rest) = subst IsClean d.joined h.clean in
     record {
-      points = front ++ lead_of p ∷ [];
-      clean = clean-append front (lead_of p ∷ []) (clean-front front (p ∷ rest) clean) (omega (arith, range, d.large))
+      points = d.front ++ lead_of p ∷ [];
+      clean = clean-append d.front (lead_of p ∷ []) (clean-front d.front (p ∷ d.rest) clean) (omega (arith, range, d.large))
           (no_trail (lead_of p) [] (λ t. omega (arith, range, d.large, t.0)));
-      encoded = bytes-pushed front (lead_of p) ∙ ap (λ v. v ++ encoding (lead_of p)) (cut_by h front (p ∷ rest) k d.joined d.front_len).before.encoded;
+      encoded = bytes-pushed d.front (lead_of p) ∙ ap (λ v. v ++ encoding (lead_of p)) (cut_by h d.front (p ∷ d.rest) k d.joined d.front_len).before.encoded;
     }
 
-pub lead_kept_units : {c : List ℕ} {n k p : ℕ} {front rest : List ℕ} → IsClean c → Divided c n k p front rest
-    → units (front ++ lead_of p ∷ []) ≡ take n (units c)
-lead_kept_units {c} {n} {k} {p} {front} {rest} clean d =
-    cc (units-pushed front (lead_of p), units_one (lead_of p) (omega (arith, in_range clean d, d.large)), d.kept)
+pub lead_kept_units : {c : List ℕ} {n k p : ℕ} → IsClean c → (d : Divided c n k p) → units (d.front ++ lead_of p ∷ []) ≡ take n (units c)
+lead_kept_units {p} clean d = cc (units-pushed d.front (lead_of p), units_one (lead_of p) (omega (arith, in_range clean d, d.large)), d.kept)
 
 -- the code points before an undivided pair are the front of its position
-pub front_at : {w : List ℕ} (h : IsWellFormed w) {n k : ℕ} (x : CutsUnits h.points n k None) → IsFront (units h.points) k (take n (units h.points))
+pub front_at : {w : List ℕ} (h : IsWellFormed w) {n k : ℕ} → Undivided h.points n k → IsFront (units h.points) k (take n (units h.points))
 front_at h x = record {
   front = x.front;
   back = x.back;
   splits = record { reads = record { clean = subst IsClean x.joined h.clean; same_units = ap units (sym x.joined) }; front_len = x.front_len };
-  same_units = sym (undivided x).kept;
+  same_units = sym x.kept;
 }
 
 -- a pair is divided exactly where the cut says so
-pub divides_none : {c : List ℕ} {n k : ℕ} → IsClean c → CutsUnits c n k None → ¬ (DividesPair (units c) n)
+pub divides_none : {c : List ℕ} {n k : ℕ} → IsClean c → Undivided c n k → ¬ (DividesPair (units c) n)
 divides_none {c} {n} clean x m =
     let all : IsClean (x.front ++ x.back) = subst IsClean x.joined clean in
-    let before : Reads x.front (take n (units c)) = record { clean = clean-front x.front x.back all; same_units = sym (undivided x).kept } in
-    let behind : Reads x.back (drop n (units c)) = record { clean = clean-back x.front x.back all; same_units = sym (undivided x).behind } in
+    let before : Reads x.front (take n (units c)) = record { clean = clean-front x.front x.back all; same_units = sym x.kept } in
+    let behind : Reads x.back (drop n (units c)) = record { clean = clean-back x.front x.back all; same_units = sym x.behind } in
     clean-apart x.front x.back all (points_meet before behind m)
 
-pub divides_some : {c : List ℕ} {n k p : ℕ} {front rest : List ℕ} → IsClean c → Divided c n k p front rest → DividesPair (units c) n
-divides_some {c} {n} {k} {p} {front} {rest} clean d =
+pub divides_some : {c : List ℕ} {n k p : ℕ} → IsClean c → Divided c n k p → DividesPair (units c) n
+divides_some {p} clean d =
     let range = in_range clean d in
-    meets_by (units front) (units rest) (lead_of p) (trail_of p) (omega (arith, range, d.large), omega (arith, range, d.large)) (omega (arith, range), omega (arith, range))
+    meets_by (units d.front) (units d.rest) (lead_of p) (trail_of p) (omega (arith, range, d.large), omega (arith, range, d.large)) (omega (arith, range), omega (arith, range))
     d.kept d.behind
-
--- the first units behind others
-pub take_behind : (f r : List ℕ) (n : ℕ) → take (length f + n) (f ++ r) ≡ f ++ take n r
-take_behind f r n =
-    take-add (length f) n (f ++ r)
-    ∙ (ap (λ x. x ++ take n (drop (length f) (f ++ r))) (take_at f r (length f) refl) ∙ ap (λ x. f ++ take n x) (drop_at f r (length f) refl))
 
 -- units behind others divide the pairs that the whole divides there, where the others end in no lead that a trail would meet
 divides_whole : (f r : List ℕ) (n : ℕ) → (take n r ≡ [] → (g : List ℕ) (l : ℕ) → f ≡ g ++ l ∷ [] → ¬ (IsLead l)) → DividesPair r n ↔ DividesPair (f ++ r) (length f + n)
 divides_whole f r n apart =
-    let front = take_behind f r n in
-    let back : drop (length f + n) (f ++ r) ≡ drop n r = sym (drop-drop n (length f) (f ++ r)) ∙ ap (drop n) (drop_at f r (length f) refl) in (
+    let front = take-append-add f r n in
+    let back = drop-append-add f r n in (
       λ m. meets_by (f ++ m.front) m.rest m.lead m.trail m.is_lead m.is_trail
           (front ∙ (ap (λ x. f ++ x) m.ends ∙ sym (append_assoc f m.front (m.lead ∷ [])))) (back ∙ m.begins),
       λ m. elim (last_of (take n r)) [
@@ -249,9 +255,9 @@ steps_lead v at h unit next long g two_on read =
           units_two p l ∙ (ap (λ a. a ∷ trail_of p ∷ []) (sym (read b)) ∙ ap (λ t. unit ∷ t) (sym held)) in
           record {
             within = omega (arith, two_on, ap length whole, length-drop at v);
-            behind = record { points = f.rest; clean = f.clean; encoded = f.encoded ∙ sym (ap behind_held rest ∙ k.1) };
-            first = first_on _ _ h.points f.rest p unit n.0 f.points all;
-            left = left_on _ _ h.points f.rest p unit n.0 f.points all;
+            behind = moved f.behind (ap behind_held rest ∙ k.1);
+            first = first_on _ _ h.points f.behind.points p unit n.0 f.points all;
+            left = left_on _ _ h.points f.behind.points p unit n.0 f.points all;
           }
     ]
 

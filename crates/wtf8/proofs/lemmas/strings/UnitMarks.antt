@@ -1,50 +1,36 @@
 -- Marks: places in a string where a number of units ends.
-use Rattle.wtf8.proofs.Common.{◌≡◌, ◌+◌, ◌<◌, ◌≤◌, ℕ, zero, suc, List, [], ◌∷◌, ◌++◌, length, take, drop, None, Some, refl, sym, ap, ◌∙◌, subst, arith}
-use Rattle.wtf8.proofs.Common.{length-append, append_assoc, take_at, drop_at, take-append-drop, bytes-injective, units_of, encoding}
-use Rattle.wtf8.proofs.Common.{units, bytes, IsWellFormed, IsForm, CutsUnits, glue}
+use Rattle.wtf8.proofs.Common.{◌≡◌, ◌+◌, ◌<◌, ◌≤◌, ℕ, zero, suc, List, [], ◌∷◌, ◌++◌, length, take, None, Some, refl, sym, ap, ◌∙◌, subst, arith}
+use Rattle.wtf8.proofs.Common.{length-append, append_assoc, take-append-drop, bytes-injective, units_of, encoding}
+use Rattle.wtf8.proofs.Common.{units, bytes, IsWellFormed, IsForm, CutsUnits, glue, Option, ◌-◌, drop}
 use Rattle.std.proofs.Common.{length-take-le}
+use Rattle.std.specs.Prelude.{MatchOption}
+use Rattle.wtf8.specs.private.UnitCounts.{Divides}
 use Rattle.wtf8.specs.UnitMark.{IsMark, EqualCountsAreMarks, MarksStay}
 use Rattle.wtf8.proofs.lemmas.numbers.Encoding.{bytes-append, row_of, one, two, three, four}
-use Rattle.wtf8.proofs.lemmas.numbers.Readings.{units-append, units_bounds, units_one, units_two, well_formed_of, same_form}
+use Rattle.wtf8.proofs.lemmas.numbers.Readings.{units-append, lengths, units_one, units_two, well_formed_of, same_form}
 use Rattle.wtf8.proofs.lemmas.strings.Concatenation.{reads-glue, one_form, units_read}
 use Rattle.wtf8.proofs.lemmas.strings.Gains.{all_back}
-use Rattle.wtf8.proofs.lemmas.strings.Positions.{cut_by}
+use Rattle.wtf8.proofs.lemmas.strings.Positions.{cut_by, points_behind}
+use Rattle.wtf8.proofs.lemmas.strings.UnitCuts.{undivided}
 
--- a front and a back of the code points make a mark
-pub mark_by : {w : List ℕ} (h : IsWellFormed w) (front back : List ℕ) (k n : ℕ) → h.points ≡ front ++ back → length (bytes front) ≡ k
-    → length (units front) ≡ n → IsMark w (units h.points) k n
-mark_by {w} h front back k n e m c =
-    let cut = cut_by h front back k e m in
-    let whole : units h.points ≡ units front ++ units back = ap units e ∙ units-append front back in
+-- a cut at a number of units is its mark
+pub mark_at_cut : {w : List ℕ} (h : IsWellFormed w) {k n : ℕ} → CutsUnits h.points n k None → IsMark w (units h.points) k n
+mark_at_cut h {k} at =
+    let x = undivided refl at in
+    let cut = cut_by h x.front x.back k x.joined x.front_len in
     record {
       position_within = cut.within;
-      units_within = omega (arith, ap length whole, length-append (units front) (units back), c);
-      before = record {
-        points = front;
-        reads = record { clean = cut.before.clean; same_units = sym (ap (take n) whole ∙ take_at (units front) (units back) n c) };
-        encoded = cut.before.encoded;
-      };
-      behind = record {
-        points = back;
-        reads = record { clean = cut.behind.clean; same_units = sym (ap (drop n) whole ∙ drop_at (units front) (units back) n c) };
-        encoded = cut.behind.encoded;
-      };
+      units_within = x.within;
+      before = record { points = x.front; reads = record { clean = cut.before.clean; same_units = sym x.kept }; encoded = cut.before.encoded };
+      behind = record { points = x.back; reads = record { clean = cut.behind.clean; same_units = sym x.behind }; encoded = cut.behind.encoded };
     }
 
-pub mark_of : {w u : List ℕ} (f : IsForm w u) (front back : List ℕ) (k n : ℕ) → f.points ≡ front ++ back → length (bytes front) ≡ k
-    → length (units front) ≡ n → IsMark w u k n
-mark_of {w} f front back k n e m c = subst (λ v. IsMark w v k n) f.reads.same_units (mark_by (well_formed_of f) front back k n e m c)
+mark_of : {w u : List ℕ} (f : IsForm w u) {k n : ℕ} → CutsUnits f.points n k None → IsMark w u k n
+mark_of {w} f {k} {n} x = subst (λ v. IsMark w v k n) f.reads.same_units (mark_at_cut (well_formed_of f) x)
 
--- and a mark has them, since bytes determine code points
-pub record Parts (c : List ℕ) (k n : ℕ) : Type 0 where
-  pub front : List ℕ
-  pub back : List ℕ
-  pub joined : c ≡ front ++ back
-  pub front_len : length (bytes front) ≡ k
-  pub counted : length (units front) ≡ n
-
-pub parts : {w u : List ℕ} (h : IsWellFormed w) {k n : ℕ} → IsMark w u k n → Parts h.points k n
-parts {w} {u} h {k} {n} m =
+-- and a mark is one, since bytes determine code points
+pub cut_of : {w u : List ℕ} (h : IsWellFormed w) {k n : ℕ} → IsMark w u k n → CutsUnits h.points n k None
+cut_of {w} {u} h {k} {n} m =
     let front = m.before.points in
     let back = m.behind.points in
     let whole : bytes (front ++ back) ≡ w =
@@ -58,54 +44,46 @@ parts {w} {u} h {k} {n} m =
     }
 
 -- a cut of what is behind a mark is one of the whole
-whole_by : {c d : List ℕ} {k n : ℕ} (x : Parts c k n) (front back : List ℕ) → d ≡ x.back → d ≡ front ++ back → c ≡ (x.front ++ front) ++ back
+whole_by : {c d : List ℕ} {k n : ℕ} (x : CutsUnits c n k None) (front back : List ℕ) → d ≡ x.back → d ≡ front ++ back → c ≡ (x.front ++ front) ++ back
 whole_by x front back e f = x.joined ∙ (ap (λ b. x.front ++ b) (sym e ∙ f) ∙ sym (append_assoc x.front front back))
 
-bytes_by : {c : List ℕ} {k n : ℕ} (x : Parts c k n) (front : List ℕ) → length (bytes (x.front ++ front)) ≡ k + length (bytes front)
+bytes_by : {c : List ℕ} {k n : ℕ} (x : CutsUnits c n k None) (front : List ℕ) → length (bytes (x.front ++ front)) ≡ k + length (bytes front)
 bytes_by x front = omega (arith, ap length (bytes-append x.front front), length-append (bytes x.front) (bytes front), x.front_len)
 
-units_by : {c : List ℕ} {k n : ℕ} (x : Parts c k n) (front : List ℕ) → length (units (x.front ++ front)) ≡ n + length (units front)
+units_by : {c : List ℕ} {k n : ℕ} (x : CutsUnits c n k None) (front : List ℕ) → length (units (x.front ++ front)) ≡ n + length (units front)
 units_by x front = omega (arith, ap length (units-append x.front front), length-append (units x.front) (units front), x.counted)
 
-pub cut_whole : {c d : List ℕ} {k n place : ℕ} (x : Parts c k n) → d ≡ x.back → (i m : ℕ) → n + i ≡ m → CutsUnits d i place None → CutsUnits c m (k + place) None
-cut_whole x e i m s y = record {
-  front = x.front ++ y.front;
-  back = y.back;
-  joined = whole_by x y.front y.back e y.joined;
-  front_len = omega (arith, bytes_by x y.front, y.front_len);
-  counted = omega (arith, units_by x y.front, y.counted, s);
-}
+counted_by : {c : List ℕ} {k n : ℕ} (x : CutsUnits c n k None) (front back : List ℕ) (i m : ℕ) → n + i ≡ m → (half : Option ℕ)
+    → MatchOption half (length (units front) ≡ i) (Divides front back i) → MatchOption half (length (units (x.front ++ front)) ≡ m) (Divides (x.front ++ front) back m)
+counted_by x front back i m s None e = omega (arith, units_by x front, e, s)
+counted_by x front back i m s (Some p) d =
+    record { rest = d.rest; first = d.first; supplementary = d.supplementary; inside = omega (arith, units_by x front, d.inside, s) }
 
-pub cut_inside_whole : {c d : List ℕ} {k n place p : ℕ} (x : Parts c k n) → d ≡ x.back → (i m : ℕ) → n + i ≡ m → CutsUnits d i place (Some p)
-    → CutsUnits c m (k + place) (Some p)
-cut_inside_whole x e i m s y = record {
-  front = x.front ++ y.front;
-  back = y.back;
-  joined = whole_by x y.front y.back e y.joined;
-  front_len = omega (arith, bytes_by x y.front, y.front_len);
-  counted = record {
-    rest = y.counted.rest;
-    first = y.counted.first;
-    supplementary = y.counted.supplementary;
-    inside = omega (arith, units_by x y.front, y.counted.inside, s);
-  };
-}
+pub cut_from_mark : {w v u : List ℕ} (h : IsWellFormed w) (rest : IsWellFormed v) {k n place : ℕ} (m : ℕ) (half : Option ℕ) → IsMark w u k n → v ≡ drop k w → n ≤ m
+    → CutsUnits rest.points (m - n) place half → CutsUnits h.points m (k + place) half
+cut_from_mark h rest {k} {n} {place} m half mark e l y =
+    let x = cut_of h mark in
+    record {
+      front = x.front ++ y.front;
+      back = y.back;
+      joined = whole_by x y.front y.back (points_behind h rest x.front x.back k x.joined x.front_len e) y.joined;
+      front_len = omega (arith, bytes_by x y.front, y.front_len);
+      counted = counted_by x y.front y.back (m - n) m (omega (arith, l)) half y.counted;
+    }
 
--- a cut at a number of units is its mark, or that of one less where a pair is divided
-pub mark_at_cut : {w : List ℕ} (h : IsWellFormed w) {k n : ℕ} → CutsUnits h.points n k None → IsMark w (units h.points) k n
-mark_at_cut h {k} {n} x = mark_by h x.front x.back k n x.joined x.front_len x.counted
-
+-- a cut inside a pair is the mark of one unit less
 pub mark_before_cut : {w : List ℕ} (h : IsWellFormed w) {k n p : ℕ} (m : ℕ) → m + 1 ≡ n → CutsUnits h.points n k (Some p) → IsMark w (units h.points) k m
-mark_before_cut h {k} m e x = mark_by h x.front x.back k m x.joined x.front_len (omega (arith, x.counted.inside, e))
+mark_before_cut h {k} m e x =
+    mark_at_cut h (record { front = x.front; back = x.back; joined = x.joined; front_len = x.front_len; counted = omega (arith, x.counted.inside, e) })
 
 -- The laws of marks.
 
 -- code points of as many bytes as units are of one each
-one_each : (c : List ℕ) (k : ℕ) → length (bytes c) ≡ length (units c) → k ≤ length (bytes c) → Parts c k k
+one_each : (c : List ℕ) (k : ℕ) → length (bytes c) ≡ length (units c) → k ≤ length (bytes c) → CutsUnits c k k None
 one_each c zero e h = record { front = []; back = c; joined = refl; front_len = refl; counted = refl }
 one_each [] (suc k) e h = absurd (omega arith)
 one_each (p ∷ c) (suc k) e h =
-    let bound = (units_bounds c).at_least in
+    let bound = (lengths c).units_least in
     let all_bytes = length-append (encoding p) (bytes c) in
     let all_units = length-append (units_of p) (units c) in
     elim (row_of p) [
@@ -129,13 +107,13 @@ pub equal_counts : EqualCountsAreMarks
 equal_counts w u k f e h =
     let same : length (bytes f.points) ≡ length (units f.points) = ap length f.encoded ∙ (e ∙ sym (ap length f.reads.same_units)) in
     let x = one_each f.points k same (omega (arith, ap length f.encoded, h)) in
-    mark_of f x.front x.back k k x.joined x.front_len x.counted
+    mark_of f x
 
 -- and the units are the bytes
 pub units_are_bytes : (c : List ℕ) → length (bytes c) ≡ length (units c) → units c ≡ bytes c
 units_are_bytes [] e = refl
 units_are_bytes (p ∷ c) e =
-    let bound = (units_bounds c).at_least in
+    let bound = (lengths c).units_least in
     let all_bytes = length-append (encoding p) (bytes c) in
     let all_units = length-append (units_of p) (units c) in
     elim (row_of p) [
@@ -161,7 +139,7 @@ some_behind (p ∷ b) h = omega arith
 
 pub marks_stay : MarksStay
 marks_stay w x u v k n f g l m =
-    let own = parts (well_formed_of f) m in
+    let own = cut_of (well_formed_of f) m in
     let more = one_form v (all_back u v (units_read g.points (u ++ v) g.reads)) in
     let both : IsForm (bytes (glue f.points more.has.points)) (u ++ v) = record {
       points = glue f.points more.has.points;
@@ -174,4 +152,4 @@ marks_stay w x u v k n f g l m =
     some_behind own.back (omega (arith, units_len, length-append (units own.front) (units own.back), own.counted, ap length f.reads.same_units, l)) in
     let joined : glue f.points more.has.points ≡ own.front ++ glue own.back more.has.points =
     ap (λ c. glue c more.has.points) own.joined ∙ glue_behind own.front own.back more.has.points some in
-    subst (λ z. IsMark z (u ++ v) k n) (sym same) (mark_of both own.front (glue own.back more.has.points) k n joined own.front_len own.counted)
+    subst (λ z. IsMark z (u ++ v) k n) (sym same) (mark_of both (record { front = own.front; back = glue own.back more.has.points; joined = joined; front_len = own.front_len; counted = own.counted }))

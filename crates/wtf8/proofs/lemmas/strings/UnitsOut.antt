@@ -1,41 +1,14 @@
--- The string behind bytes of ASCII.
-use Rattle.wtf8.proofs.Common.{◌≡◌, ℕ, zero, suc, ◌<◌, ◌≤◌, List, [], ◌∷◌, ◌++◌, length, take, drop, get_or, refl, sym, ap, ◌∙◌, arith, AreAscii, IsWellFormed, units}
+-- The string behind code points of as many bytes each.
+use Rattle.wtf8.proofs.Common.{◌≡◌, ℕ, zero, suc, ◌<◌, ◌≤◌, List, [], ◌∷◌, ◌++◌, length, take, drop, get_or, refl, sym, ap, ◌∙◌, arith, IsWellFormed, units}
 use Rattle.wtf8.proofs.Common.{encoding, bytes, length-append, units_of, view_units, Wtf8}
 use Rattle.wtf8.specs.View.{view_points}
 use Rattle.wtf8.proofs.lemmas.numbers.Encoding.{row_of, one, two, three, four, length-encoding_bounds}
 use Rattle.wtf8.proofs.Common.{◌+◌, ◌*◌, ◌%◌, subst, Each1, drop_at, drop-drop, length-drop, length-take, take-append-drop, append_assoc}
 use Rattle.std.proofs.lemmas.List.{get_or_append_left, drop-append-le}
 use native.Mathlib.Nat.{mul-suc}
-use Rattle.wtf8.specs.UnitRows.{IsOfKind, BeginsWithUnits, firsts_of, unit_of_two, unit_of_three, units_of_rows}
+use Rattle.wtf8.specs.private.UnitRows.{IsOfKind, BeginsWithUnits, firsts_of, unit_of_two, unit_of_three, units_of_rows}
 use Rattle.wtf8.proofs.lemmas.numbers.Readings.{Taken, first_of, moved, taken, units-cons_one}
-use Rattle.wtf8.specs.Gains.{IsReadAs}
-
--- a first byte of ASCII is a code point
-ascii_first : (b : ℕ) (v : List ℕ) (p : ℕ) (r : List ℕ) → b < 0x80 → b ∷ v ≡ encoding p ++ r → (p ≡ b) × (r ≡ v)
-ascii_first b v p r low e = elim (row_of p) [
-  | one h k ↦ let s = e ∙ ap (λ w. w ++ r) k in (ap (λ w. get_or w 0 0) (sym s), ap (drop 1) (sym s))
-  | two l h k ↦ absurd (omega (arith, low, ap (λ w. get_or w 0 0) (e ∙ ap (λ w. w ++ r) k)))
-  | three l h k ↦ absurd (omega (arith, low, ap (λ w. get_or w 0 0) (e ∙ ap (λ w. w ++ r) k)))
-  | four l k ↦ absurd (omega (arith, low, ap (λ w. get_or w 0 0) (e ∙ ap (λ w. w ++ r) k)))
-]
-
--- the string behind some bytes of ASCII, which are units by themselves
-pub record BehindAscii (w : List ℕ) (k : ℕ) (h : IsWellFormed w) : Type 0 where
-  pub rest : IsWellFormed (drop k w)
-  pub whole : units h.points ≡ take k w ++ units rest.points
-
-pub behind_ascii : (k : ℕ) (w : List ℕ) (h : IsWellFormed w) → k ≤ length w → AreAscii (take k w) → BehindAscii w k h
-behind_ascii zero w h le low = record { rest = h; whole = refl }
-behind_ascii (suc k) [] h le low = absurd (omega arith)
-behind_ascii (suc k) (b ∷ v) h le low =
-    let f = first_of h (omega arith) in
-    let first = ascii_first b v f.begins.point f.begins.rest low.0 f.begins.encoded in
-    let behind = behind_ascii k v (record { points = f.rest; clean = f.clean; encoded = f.encoded ∙ first.1 }) (omega (arith, le)) low.1 in
-    record {
-      rest = behind.rest;
-      whole = ap units f.points ∙ (units-cons_one f.begins.point f.rest (omega (arith, low.0, first.0))
-          ∙ (ap (λ n. n ∷ units f.rest) first.0 ∙ ap (λ u. b ∷ u) behind.whole));
-    }
+use Rattle.wtf8.specs.private.Gains.{IsReadAs}
 
 -- a string is longer than what is behind its first code point
 pub behind_first : (v r : Wtf8) (p : ℕ) → view_points v ≡ p ∷ view_points r → length r.bytes.now < length v.bytes.now
@@ -59,6 +32,20 @@ pub record Rows (n : ℕ) (P : ℕ → Type 0) (f : List ℕ → ℕ) : Type 0 w
   pub some : 0 < n
   pub part : (p : ℕ) (r : List ℕ) → P (get_or (encoding p ++ r) 0 0) → Part n f p r
   pub local : (b r : List ℕ) → n ≤ length b → f (b ++ r) ≡ f b
+
+abbrev pub unit_of_one : List ℕ → ℕ
+unit_of_one w = get_or w 0 0
+
+pub one_rows : Rows 1 (IsOfKind 128 0) unit_of_one
+one_rows = record { some = omega arith; part = part; local = λ b r le. get_or_append_left b r 0 0 (omega arith) }
+  where
+    part : (p : ℕ) (r : List ℕ) → IsOfKind 128 0 (get_or (encoding p ++ r) 0 0) → Part 1 unit_of_one p r
+    part p r h = elim (row_of p) [
+      | one l e ↦ record { width = ap length e; read = ap (λ w. unit_of_one (w ++ r)) e; one_unit = omega arith }
+      | two l _ e ↦ absurd (omega (arith, rw e at h))
+      | three l _ e ↦ absurd (omega (arith, rw e at h))
+      | four l e ↦ absurd (omega (arith, rw e at h))
+    ]
 
 pub two_rows : Rows 2 (IsOfKind 32 6) unit_of_two
 two_rows = record {
@@ -111,22 +98,35 @@ behind_rows {P} n f rows (suc c) (suc k) at w b r h e long same le each =
     let value : p ≡ f b = sym part.read ∙ (ap f (sym first.begins.encoded ∙ e) ∙ rows.local b r fits) in
     let cut : drop n w ≡ first.begins.rest = ap (drop n) first.begins.encoded ∙ drop_at (encoding p) first.begins.rest n part.width in
     let behind = behind_rows n f rows c k (n * k) (drop n w) (drop n b) r
-    (record { points = first.rest; clean = first.clean; encoded = first.encoded ∙ sym cut }) (ap (drop n) e ∙ drop-append-le n b r fits)
+    (moved first.behind cut) (ap (drop n) e ∙ drop-append-le n b r fits)
     (omega (arith, long, wide, length-drop n b)) refl (omega (arith, le)) each.1 in
     let further : n * suc k ≡ n + n * k = omega (arith, mul-suc n k) in
     let end : drop at w ≡ drop (n * k) (drop n w) = ap (λ m. drop m w) (same ∙ further) ∙ sym (drop-drop (n * k) n w) in
     record {
       rest = moved behind.rest end;
-      whole = ap units first.points ∙ (units-cons_one p first.rest part.one_unit
-          ∙ (ap (λ m. m ∷ units first.rest) value ∙ ap (λ u. f b ∷ u) behind.whole));
+      whole = ap units first.points ∙ (units-cons_one p first.behind.points part.one_unit
+          ∙ (ap (λ m. m ∷ units first.behind.points) value ∙ ap (λ u. f b ∷ u) behind.whole));
     }
 
+-- bytes are the first ones, and the units, of parts of one byte each
+pub firsts_of_one : (k : ℕ) (w : List ℕ) → length w ≡ k → w ≡ firsts_of 1 k w
+firsts_of_one zero [] e = refl
+firsts_of_one zero (b ∷ w) e = absurd (omega arith)
+firsts_of_one (suc k) [] e = absurd (omega arith)
+firsts_of_one (suc k) (b ∷ w) e = ap (λ v. b ∷ v) (firsts_of_one k w (omega arith))
+
+pub units_of_one : (k : ℕ) (w : List ℕ) → length w ≡ k → w ≡ units_of_rows 1 unit_of_one k w
+units_of_one zero [] e = refl
+units_of_one zero (b ∷ w) e = absurd (omega arith)
+units_of_one (suc k) [] e = absurd (omega arith)
+units_of_one (suc k) (b ∷ w) e = ap (λ v. b ∷ v) (units_of_one k w (omega arith))
+
 -- a view's bytes begin with the first units of a block of their first parts
-pub begins_with_rows : {P : ℕ → Type 0} (n m : ℕ) (f : List ℕ → ℕ) → Rows n P f → (w : List ℕ) (count : ℕ) (firsts block : List ℕ) → n * 8 ≤ m
-    → m ≤ length w → count ≤ 8 → firsts ≡ firsts_of n 8 (take m w) → block ≡ units_of_rows n f 8 (take m w) → Each1 P (take count firsts)
+pub begins_with_rows : {P : ℕ → Type 0} (n c m : ℕ) (f : List ℕ → ℕ) → Rows n P f → (w : List ℕ) (count : ℕ) (firsts block : List ℕ) → n * c ≤ m
+    → m ≤ length w → count ≤ c → firsts ≡ firsts_of n c (take m w) → block ≡ units_of_rows n f c (take m w) → Each1 P (take count firsts)
     → BeginsWithUnits w (take count block) (n * count)
-begins_with_rows {P} n m f rows w count firsts block wide long le e g each h =
-    let behind = behind_rows n f rows 8 count (n * count) w (take m w) (drop m w) h (sym (take-append-drop m w)) (omega (arith, wide, long, length-take m w)) refl le
+begins_with_rows {P} n c m f rows w count firsts block wide long le e g each h =
+    let behind = behind_rows n f rows c count (n * count) w (take m w) (drop m w) h (sym (take-append-drop m w)) (omega (arith, wide, long, length-take m w)) refl le
     (subst (λ v. Each1 P (take count v)) e each) in
     (behind.rest, behind.whole ∙ ap (λ b. take count b ++ units behind.rest.points) (sym g))
 

@@ -3,7 +3,7 @@ use Rattle.wtf8.proofs.Common.{◌≡◌, ℕ, zero, suc, ◌-◌, ◌%◌, ◌^
 use Rattle.wtf8.proofs.Common.{Fits, refl, sym, ap, ◌∙◌, arith, inl, inr, and_parts, cases_Bool, mask_l-mod, tops_compared, Each1, zip2, mask_l, top, AreAscii}
 use Rattle.wtf8.proofs.Common.{IsSurrogate, ◌+◌, ◌/◌, ◌++◌, bytes, IsTrue, take, drop, get_or, subst}
 use Rattle.wtf8.proofs.Common.{length-append, get_or-append-add, take-append-drop, take_all, Each1-weaker, length-chunk, MeetsAsPair, IsClean, bytes-injective, drop-drop}
-use Rattle.wtf8.proofs.Common.{AreScalar, units, IsKnownForm, DividesNoPair, numbers, append_assoc, Ok, IsWellFormed, GainsUnits}
+use Rattle.wtf8.proofs.Common.{AreScalar, units, IsKnownForm, DividesNoPair, numbers, append_assoc, IsWellFormed, GainsUnits}
 use Rattle.std.proofs.Common.{w16}
 use mir.Syntax.{Width}
 use mir.Val.{bits, hbits}
@@ -12,13 +12,13 @@ use Rattle.std.proofs.lemmas.Bool.{leb-false, eqb-false}
 use Rattle.std.proofs.lemmas.List.{length-map, take-take}
 use Rattle.std.proofs.lemmas.Simd.{zip2_splat_left, Each1-get_or}
 use Rattle.wtf8.specs.Unicode.{IsLead}
-use Rattle.wtf8.specs.UnitParts.{AreScalarUnits, AppendsAscii, AppendsPart, IsReadTo}
+use Rattle.wtf8.specs.private.UnitParts.{AreScalarUnits, AppendsAscii, AppendsPart, IsReadTo}
 use Rattle.wtf8.specs.declared.numbers.code_point.CodePoint.{CodePoint}
 use Rattle.wtf8.proofs.lemmas.numbers.Encoding.{encoding_one, bytes-append}
 use Rattle.wtf8.proofs.lemmas.numbers.Readings.{meets_by, units-cons_one}
 use Rattle.wtf8.proofs.lemmas.strings.Concatenation.{form_apart}
 use Rattle.wtf8.specs.OneForm.{AreScalarTo}
-use Rattle.wtf8.proofs.lemmas.strings.Gains.{scalar-append, gains_behind, gained_units, known_gained, scalar_behind, units-points}
+use Rattle.wtf8.proofs.lemmas.strings.Gains.{scalar-append, gains_behind, gained_units, known_behind_gain, scalar_behind, units-points}
 
 -- Blocks of numbers in lanes: what the mask of a block says of them.
 
@@ -247,14 +247,13 @@ ascii_gains {w} v h a e =
     subst (λ n. GainsUnits w n v) (sym e) (subst (GainsUnits w (w ++ v)) f.form.reads.same_units (gains_behind h k (scalar_behind (f.scalar refl))))
 
 pub ascii_units : {w new u : List ℕ} (v : List ℕ) (h : IsWellFormed w) (k : IsWellFormed new) → AreAscii v → new ≡ w ++ v → units h.points ≡ u → units k.points ≡ u ++ v
-ascii_units v h k a e s = gained_units {T = Unit {0}} {E = Unit {0}} (Ok tt) v h k s (ascii_gains v h a e)
+ascii_units v h k a e s = gained_units h k s (ascii_gains v h a e)
 
 pub ascii_known : {w new : List ℕ} (v : List ℕ) (end : ℕ) (h : IsWellFormed w) → AreAscii v → new ≡ w ++ v → AreScalarTo end h.points
     → (k : IsWellFormed new) × (AreScalarTo end k.points × Unit {0})
 ascii_known v end h a e s =
     let f = ascii_form v a in
-    known_gained {T = Unit {0}} {E = Unit {0}} (Ok tt) f.form.points v end end h (sym f.form.reads.same_units) f.form.reads.clean s (omega arith)
-    (λ _. f.scalar refl) (ascii_gains v h a e) tt
+    known_behind_gain f.form.points v end end h (sym f.form.reads.same_units) f.form.reads.clean s (omega arith) (λ _. f.scalar refl) (ascii_gains v h a e)
 
 -- some more of the points behind those so far
 pub points_more : (ps : List CodePoint) (at n : ℕ) (u : List ℕ) {now new : List ℕ} → now ≡ u ++ units (numbers (take at ps))

@@ -1,14 +1,14 @@
 -- The items that a decoder gives are a reading of the units of its iterator.
-use Rattle.wtf8.proofs.Common.{◌≡◌, zero, suc, ◌+◌, ◌-◌, ◌<◌, length, take, drop, get_or, append-nil, Reads, inl, inr, ℕ, List, [], ◌∷◌, ◌++◌, Option, None, Some, Result, Ok, Err, refl, sym, ap, ◌∙◌, subst, arith}
+use Rattle.wtf8.proofs.Common.{◌≡◌, ◌+◌, ◌-◌, ◌<◌, length, take, drop, get_or, append-nil, Reads, inl, inr, ℕ, List, [], ◌∷◌, ◌++◌, Option, None, Some, Result, Ok, Err, refl, sym, ap, ◌∙◌, subst, arith}
 use Rattle.wtf8.proofs.Common.{Drains, peekable_steps, peekable_peeked, point_of, points_of, units_left, decode_steps, ReadsAll, IsClean}
-use Rattle.wtf8.proofs.Common.{IsCodePoint, IsLead, IsTrail, units_of, units, pair}
+use Rattle.wtf8.proofs.Common.{IsCodePoint, IsLead, IsTrail, IsSurrogate, MatchResult, units_of, units, pair}
 use Rattle.std.proofs.Common.{MatchOption}
+use Rattle.std.proofs.lemmas.List.{drop_more}
 use Rattle.std.specs.Iterator.{Yields}
 use Rattle.std.specs.Iterator.Adapters.{peekable_source, PeeksNext}
 use Rattle.std.specs.Prelude.{IfSome, IsSomeAnd}
 use Rattle.std.specs.declared.iter.Ahead.{Ahead}
-use Rattle.wtf8.specs.Decoding.{DecodesItem}
-use Rattle.wtf8.specs.declared.numbers.code_point.CodePoint.{CodePoint}
+use Rattle.wtf8.specs.private.Decoding.{DecodesItem}
 use Rattle.wtf8.specs.declared.units_in.decode.DecodeUtf16.{DecodeUtf16}
 use Rattle.wtf8.proofs.lemmas.numbers.Readings.{units_one, units_pair}
 
@@ -57,9 +57,9 @@ module _ {S : Type 0} (steps : S → Option ℕ → S → Type 0) where
   no_trail None a b q h e = absurd h
   no_trail (Some o) a b q h e = subst (λ k. IfSome k (λ u. ¬ (IsTrail u))) (sym e.0) h
 
-  item_range : (x : Result CodePoint CodePoint) → IsCodePoint (point_of x)
-  item_range (Ok p) = p.in_range
-  item_range (Err p) = p.in_range
+  item_range : (x : Result ℕ ℕ) → MatchResult x (λ c. IsCodePoint c × ¬ (IsSurrogate c)) IsSurrogate → IsCodePoint (point_of x)
+  item_range (Ok c) kind = kind.0
+  item_range (Err u) kind = omega (arith, kind)
 
   clean_first : (p : ℕ) (c : List ℕ) → IsCodePoint p → IsClean c → ((q : ℕ) (d : List ℕ) → c ≡ q ∷ d → ¬ (IsLead p × IsTrail q)) → IsClean (p ∷ c)
   clean_first p [] range clean apart = range
@@ -73,11 +73,11 @@ module _ {S : Type 0} (steps : S → Option ℕ → S → Type 0) where
       let first = subst (λ u. Drains (peekable_steps steps) s u) front drains in
       no_trail (peekable_peeked s) _ _ q lone first.1.1.1.1 trail
 
-  pub record ReadsLeft (s : Ahead S ℕ) (items : List (Result CodePoint CodePoint)) : Type 0 where
+  pub record ReadsLeft (s : Ahead S ℕ) (items : List (Result ℕ ℕ)) : Type 0 where
     pub clean : IsClean (points_of items)
     pub all_units : Drains (peekable_steps steps) s (units (points_of items))
 
-  reads_left : (items : List (Result CodePoint CodePoint)) (s : DecodeUtf16 S) → Drains (decode_steps steps) s items → ReadsLeft (units_left s) items
+  reads_left : (items : List (Result ℕ ℕ)) (s : DecodeUtf16 S) → Drains (decode_steps steps) s items → ReadsLeft (units_left s) items
   reads_left [] s d = record { clean = tt; all_units = (units_left d.0, (units_left d.1.0, ap units_left d.1.1, d.1.2)) }
   reads_left (x ∷ items) s d =
       let next = d.1.1.0 in
@@ -89,12 +89,12 @@ module _ {S : Type 0} (steps : S → Option ℕ → S → Type 0) where
             (λ r u. peeked_call item.behind (units_left next) u r h) rest.all_units
       ] in
       record {
-        clean = clean_first (point_of x) (points_of items) (item_range x) rest.clean (λ q c e pair. lone_lead (units_left next) q c (item.lone pair.0)
+        clean = clean_first (point_of x) (points_of items) (item_range x item.kind) rest.clean (λ q c e pair. lone_lead (units_left next) q c (item.lone pair.0)
             (subst (λ v. Drains (peekable_steps steps) (units_left next) (units v)) e rest.all_units) pair.1);
         all_units = drains-append (peekable_steps steps) (units_left s) item.behind (units_of (point_of x)) (units (points_of items)) item.taken behind;
       }
 
-  pub reads_all : (items : List (Result CodePoint CodePoint)) (s : DecodeUtf16 S) → peekable_peeked (units_left s) ≡ None → Drains (decode_steps steps) s items
+  pub reads_all : (items : List (Result ℕ ℕ)) (s : DecodeUtf16 S) → peekable_peeked (units_left s) ≡ None → Drains (decode_steps steps) s items
       → ReadsAll steps (peekable_source (units_left s)) items
   reads_all items s e d =
       let r = reads_left items s d in
@@ -117,18 +117,11 @@ held_apart (Some None) o Failed e h apart = tt
 held_apart (Some (Some u)) o Failed e h apart = apart u h
 
 -- the units of one code point at a place
-first_unit : (v : List ℕ) (at : ℕ) → at < length v → drop at v ≡ get_or v at 0 ∷ drop (at + 1) v
-first_unit [] at h = absurd (omega (arith, h))
-first_unit (x ∷ v) zero h = refl
-first_unit (x ∷ v) (suc at) h =
-    let next : suc (at + 1) ≡ suc at + 1 = omega arith in
-    first_unit v at (omega (arith, h)) ∙ ap (λ k. get_or v at 0 ∷ drop k (x ∷ v)) next
-
 pub one_read : (v : List ℕ) (at p : ℕ) → at < length v → p ≡ get_or v at 0 → p < 0x10000 → Reads (p ∷ []) (take (at + 1 - at) (drop at v))
 one_read v at p l e h =
     let count : at + 1 - at ≡ 1 = omega arith in
     let whole : take (at + 1 - at) (drop at v) ≡ p ∷ [] =
-    ap (λ k. take k (drop at v)) count ∙ (ap (take 1) (first_unit v at l) ∙ ap (λ n. n ∷ []) (sym e)) in
+    ap (λ k. take k (drop at v)) count ∙ (ap (take 1) (drop_more v at 0 l) ∙ ap (λ n. n ∷ []) (sym e)) in
     record { clean = omega (arith, h); same_units = append-nil _ ∙ (units_one p h ∙ sym whole) }
 
 pub pair_read : (v : List ℕ) (at p : ℕ) → at + 1 < length v → IsLead (get_or v at 0) → IsTrail (get_or v (at + 1) 0)
@@ -137,6 +130,6 @@ pair_read v at p l k m e =
     let lead = get_or v at 0 in
     let trail = get_or v (at + 1) 0 in
     let count : at + 2 - at ≡ 2 = omega arith in
-    let both : drop at v ≡ lead ∷ trail ∷ drop (at + 1 + 1) v = first_unit v at (omega (arith, l)) ∙ ap (λ w. lead ∷ w) (first_unit v (at + 1) l) in
+    let both : drop at v ≡ lead ∷ trail ∷ drop (at + 1 + 1) v = drop_more v at 0 (omega (arith, l)) ∙ ap (λ w. lead ∷ w) (drop_more v (at + 1) 0 l) in
     let whole : take (at + 2 - at) (drop at v) ≡ lead ∷ trail ∷ [] = ap (λ n. take n (drop at v)) count ∙ ap (take 2) both in
     record { clean = omega (arith, e, k, m); same_units = append-nil _ ∙ (ap units_of e ∙ (units_pair lead trail k m ∙ sym whole)) }

@@ -6,9 +6,9 @@ use Rattle.std.specs.Int.{w8, w16}
 use Rattle.std.specs.Prelude.{nat_lt, if◌then◌else◌}
 use Rattle.std.proofs.lemmas.List.{take-map, drop-map, get_or-take}
 use Rattle.std.proofs.lemmas.Simd.{swz_l, get_or-swz_l_below}
-use Rattle.wtf8.specs.UnitParts.{AreScalarUnits}
-use Rattle.wtf8.specs.UnitPieces.{first_byte, own_second_byte, second_byte, own_last_byte, last_byte, byte_count, long_mark, byte_lanes, row_number, lengths_number, places, IsLength}
-use Rattle.wtf8.specs.UnitPieces.{piece, pieces, joined_pieces}
+use Rattle.wtf8.specs.private.UnitParts.{AreScalarUnits}
+use Rattle.wtf8.specs.private.UnitPieces.{first_byte, own_second_byte, second_byte, own_last_byte, last_byte, byte_count, long_mark, byte_lanes, row_number, lengths_number, places, IsLength}
+use Rattle.wtf8.specs.private.UnitPieces.{piece, pieces, joined_pieces}
 
 -- Eight lanes written out, and each by a fact of it alone.
 

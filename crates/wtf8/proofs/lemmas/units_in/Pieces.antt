@@ -6,7 +6,7 @@ use Rattle.std.proofs.Math.Seq.{take-append-add, take-suc, take-append_seam}
 use Rattle.std.proofs.lemmas.List.{length-take-le, take-append-le, get_or-take, take-take}
 use Rattle.std.specs.Prelude.{⊤, ◌↔◌}
 use Rattle.wtf8.specs.Unicode.{IsLead, IsTrail, pair}
-use Rattle.wtf8.specs.UnitPieces.{piece, pieces, unit_before, ArePaired}
+use Rattle.wtf8.specs.private.UnitPieces.{piece, pieces, unit_before, ArePaired}
 use Rattle.wtf8.proofs.lemmas.numbers.Encoding.{encoding_one, encoding_two, encoding_three, encoding_four, third_row}
 use Rattle.wtf8.proofs.lemmas.numbers.Readings.{no_trail, units_one, units_pair}
 use Rattle.wtf8.proofs.lemmas.units_in.Blocks.{known_behind, nothing_read, last_apart}

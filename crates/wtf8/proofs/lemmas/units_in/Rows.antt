@@ -3,7 +3,7 @@ use Rattle.wtf8.proofs.Common.{◌≡◌, ℕ, zero, suc, ◌+◌, ◌<◌, ◌&
 use Rattle.wtf8.proofs.Common.{refl, ap, ◌∙◌, arith, subst, cases_lt, inl, inr, and_parts, eqb-true}
 use Rattle.std.proofs.lemmas.Bool.{ltb-true}
 use Rattle.std.specs.Int.RustNames.{count_ones}
-use Rattle.wtf8.specs.UnitPieces.{row_number, places, IsLength, IsRow, IsCounted}
+use Rattle.wtf8.specs.private.UnitPieces.{row_number, places, IsLength, IsRow, IsCounted}
 use Rattle.wtf8.specs.declared.units_in.rows.TheConstants.{ROWS}
 
 -- a test of each length, and one of each four

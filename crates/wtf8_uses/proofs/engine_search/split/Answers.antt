@@ -1,6 +1,12 @@
-use Rattle.std.proofs.Common.{◌≡◌, ◌∙◌, rules}
+use Rattle.std.proofs.Common.{◌≡◌, ◌==◌, ap, ◌∙◌, rules}
+use Rattle.std.specs.List.{slice_split}
 use Rattle.wtf8_uses.proofs.SplitLemmas.{join_pieces, pieces_apart}
 use Rattle.wtf8_uses.proofs.engine_search.split.Goals as goal
+
+pub returns-clause-pieces : goal.returns-clause-pieces
+returns-clause-pieces g c =
+    let units : c.as_slice.result.now ≡ c.args.text.now = search rules in
+    c.in_ok-pieces.ensures ∙ ap (slice_split (λ u. u == c.args.separator)) units
 
 pub returns-clause-joined : goal.returns-clause-joined
 returns-clause-joined g c =

@@ -1,6 +1,6 @@
-use Rattle.wtf8.proofs.Common.{arith}
+use Rattle.wtf8.proofs.Common.{arith, rules}
 use Rattle.std.proofs.lemmas.Grind.{common_steps}
 use Rattle.wtf8.proofs.strings.concat.join.Goals as goal
 
-pub returns-clause-ok : goal.returns-clause-ok
-returns-clause-ok g c = grind (arith, common_steps)
+pub returns : goal.returns
+returns g c = record { ok = grind (arith, common_steps); err = search rules; room = search rules; capacity = search rules }

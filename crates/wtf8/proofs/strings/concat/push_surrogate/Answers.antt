@@ -1,5 +1,5 @@
-use Rattle.wtf8.proofs.Common.{◌≡◌, ◌++◌, ◌∷◌, [], ◌∙◌, List, ℕ, refl, sym, arith, on_ok_weaker, IsLead, IsTrail}
-use Rattle.wtf8.proofs.lemmas.strings.Gains.{Joined, joined, fits_length}
+use Rattle.wtf8.proofs.Common.{◌≡◌, ◌++◌, ◌∷◌, [], ◌∙◌, List, ℕ, refl, sym, IsLead, IsTrail}
+use Rattle.wtf8.proofs.lemmas.strings.Gains.{Joined, joined}
 use Rattle.wtf8.proofs.lemmas.numbers.Readings.{meets_same, same_points}
 use Rattle.wtf8.proofs.strings.concat.push_surrogate.Given.{Over}
 use Rattle.wtf8.proofs.strings.concat.push_surrogate.Goals.{After-from_well_formed-view}
@@ -21,17 +21,11 @@ join-requires-clause-three g c =
     let met = c.in-Some.ensures in
     (joined_here g (goal.at.join-requires-clause-three g c).After-from_well_formed-view _ _ met.lead met.trail met.last).three
 
-pub returns-in-Some-clause-ok : goal.returns-in-Some-clause-ok
-returns-in-Some-clause-ok g c =
+pub returns-in-Some : goal.returns-in-Some
+returns-in-Some g c =
     let met = c.in-Some.ensures in
-    let x = joined_here g (goal.at.returns-in-Some-clause-ok g c).After-from_well_formed-view _ _ met.lead met.trail met.last in
-    on_ok_weaker c.join.result (λ e. rw e (rw c.to_u32.ensures.value x.gains)) c.join.ensures.ok
-
-pub returns-in-Some-clause-room : goal.returns-in-Some-clause-room
-returns-in-Some-clause-room g c fit =
-    let met = c.in-Some.ensures in
-    let x = joined_here g (goal.at.returns-in-Some-clause-room g c).After-from_well_formed-view _ _ met.lead met.trail met.last in
-    c.join.ensures.room (omega (arith, fits_length x.gains fit, x.longer))
+    let x = joined_here g (goal.at.returns-in-Some g c).After-from_well_formed-view _ _ met.lead met.trail met.last in
+    record { whole = _; gained = rw c.to_u32.ensures.value x.gains; becomes = c.join.ensures }
 
 pub push_apart-requires-clause-apart : goal.push_apart-requires-clause-apart
 push_apart-requires-clause-apart g c h m =

@@ -1,6 +1,6 @@
-use Rattle.wtf8.proofs.Common.{◌≡◌, ◌∙◌, ◌++◌, ◌∷◌, [], List, ℕ, refl, sym, arith, length-append, on_ok_weaker, MeetsAsPair, IsLead, IsTrail}
-use Rattle.wtf8.proofs.lemmas.strings.Concatenation.{meeting_bytes, length-paired_bytes}
-use Rattle.wtf8.proofs.lemmas.strings.Gains.{gains_meeting, gains_behind, fits_length}
+use Rattle.wtf8.proofs.Common.{◌≡◌, ◌∙◌, ◌++◌, ◌∷◌, [], List, ℕ, refl, sym, MeetsAsPair, IsLead, IsTrail}
+use Rattle.wtf8.proofs.lemmas.strings.Concatenation.{meeting_bytes}
+use Rattle.wtf8.proofs.lemmas.strings.Gains.{gains_meeting, gains_behind}
 use Rattle.wtf8.proofs.lemmas.numbers.Readings.{meets_by, meets_same, same_points}
 use Rattle.wtf8.proofs.strings.concat.push_view.Given.{Over}
 use Rattle.wtf8.proofs.strings.concat.push_view.Goals.{After-from_well_formed-view}
@@ -34,30 +34,14 @@ join_bytes-requires-clause-begins g c =
     let m = paired (seen g (goal.at.join_bytes-requires-clause-begins g c).After-from_well_formed-view) met.pair met.last met.first in
     let s = meeting_bytes m c.requires.well_formed.encoded c.args.other.well_formed.encoded in (s.three_behind, s.last)
 
-pub returns-in-Some-clause-ok : goal.returns-in-Some-clause-ok
-returns-in-Some-clause-ok g c =
+pub returns-in-Some : goal.returns-in-Some
+returns-in-Some g c =
     let met = c.in-Some.ensures in
-    let m = paired (seen g (goal.at.returns-in-Some-clause-ok g c).After-from_well_formed-view) met.pair met.last met.first in
-    on_ok_weaker c.join_bytes.result (λ e. rw e (gains_meeting c.requires.well_formed c.args.other.well_formed m)) c.join_bytes.ensures.ok
+    let m = paired (seen g (goal.at.returns-in-Some g c).After-from_well_formed-view) met.pair met.last met.first in
+    record { whole = _; gained = gains_meeting c.requires.well_formed c.args.other.well_formed m; becomes = c.join_bytes.ensures }
 
-pub returns-in-Some-clause-room : goal.returns-in-Some-clause-room
-returns-in-Some-clause-room g c fit =
-    let met = c.in-Some.ensures in
-    let own = c.requires.well_formed in
-    let other = c.args.other.well_formed in
-    let m = paired (seen g (goal.at.returns-in-Some-clause-room g c).After-from_well_formed-view) met.pair met.last met.first in
-    let s = meeting_bytes m own.encoded other.encoded in
-    let shorter = length-paired_bytes c.args.bytes.now.items c.args.other.bytes.now m.lead m.trail m.is_lead m.is_trail s.three s.three_behind in
-    c.join_bytes.ensures.room (omega (arith, fits_length (gains_meeting own other m) fit, shorter))
-
-pub returns-in-None-clause-ok : goal.returns-in-None-clause-ok
-returns-in-None-clause-ok g c =
-    let same = seen g (goal.at.returns-in-None-clause-ok g c).After-from_well_formed-view in
+pub returns-in-None : goal.returns-in-None
+returns-in-None g c =
+    let same = seen g (goal.at.returns-in-None g c).After-from_well_formed-view in
     let gains = gains_behind c.requires.well_formed c.args.other.well_formed (λ m. c.in-None.ensures.none (meets_same m same refl)) in
-    on_ok_weaker c.append_bytes.result (λ e. rw e gains) c.append_bytes.ensures.ok
-
-pub returns-in-None-clause-room : goal.returns-in-None-clause-room
-returns-in-None-clause-room g c fit =
-    let same = seen g (goal.at.returns-in-None-clause-room g c).After-from_well_formed-view in
-    let gains = gains_behind c.requires.well_formed c.args.other.well_formed (λ m. c.in-None.ensures.none (meets_same m same refl)) in
-    c.append_bytes.ensures.room (omega (arith, fits_length gains fit, length-append c.args.bytes.now.items c.args.other.bytes.now))
+    record { whole = _; gained = gains; becomes = c.append_bytes.ensures }

@@ -3,11 +3,11 @@ use Rattle.wtf8.proofs.lemmas.laws.Laws.{below_lanes}
 use Rattle.wtf8.proofs.lemmas.strings.Positions.{begun_ascii}
 use Rattle.wtf8.proofs.strings.unit_positions.behind_ascii.Goals as goal
 
-pub returns-clause-counted : goal.returns-clause-counted
-returns-clause-counted g c =
+pub returns : goal.returns
+returns g c =
     let w = c.args.bytes.now in
     let from = c.args.from.at in
-    let low = below_lanes g.row.N from w (omega (arith, c.requires.within, c.if-bytes-from.false)) (c.is_below.ensures c.if-not-is_below.false) in
-    let all = begun_ascii w from c.min-more.result (omega (arith, c.requires.within, c.if-bytes-from.false, c.min-more.ensures))
+    let low = below_lanes g.row.N from w (omega (arith, c.requires.counted.within, c.if-bytes-from.false)) (c.is_below.ensures c.if-not-is_below.false) in
+    let all = begun_ascii w from c.min-more.result (omega (arith, c.requires.counted.within, c.if-bytes-from.false, c.min-more.ensures))
     (λ j l. low j (omega (arith, l, c.min-more.ensures))) in
-    omega (arith, all, c.requires.counted)
+    record { within = omega arith; counted = omega (arith, all, c.requires.counted.counted); not_beyond = omega arith }

@@ -4,4 +4,5 @@ use Rattle.wtf8.proofs.strings.unit_positions.behind_block.Goals as goal
 
 pub returns-clause-counted : goal.returns-clause-counted
 returns-clause-counted g c =
-    omega (arith, begun_more c.args.bytes.now c.args.from.at g.row.N, c.requires.counted, c.units_begun_in_block-more.ensures)
+    let more = begun_more c.args.bytes.now c.args.from.at g.row.N in
+    record { within = omega arith; counted = omega (arith, more, c.requires.counted.counted, c.units_begun_in_block-more.ensures); not_beyond = omega arith }

@@ -11,9 +11,7 @@ returns-then-units_before-unit c =
     let more = sum_by_more units_begun w c.loop-at.at 0 c.loop-at-test.true in
     let one = begun_low (get_or w c.loop-at.at 0) c.if-byte-lt128.true in
     record {
-      within = omega (arith, c.loop-at-test.true);
-      counted = c.loop-at.invariant.0;
-      not_beyond = c.loop-at.invariant.1;
+      before = record { within = omega (arith, c.loop-at-test.true); counted = c.loop-at.invariant.0; not_beyond = c.loop-at.invariant.1 };
       reaches = λ m. omega (arith, more, one, c.loop-at.invariant.0, c.if-units_before-unit.true);
     }
 

@@ -1,10 +1,9 @@
-use Rattle.wtf8.proofs.Common.{◌≡◌, ℕ, ◌+◌, ◌-◌, ◌*◌, ◌<◌, ◌≤◌, List, ap, sym, ◌∙◌, subst, inl, inr, arith, length, length-append, take_all, get_or, chunk, cases_lt, units, AreAscii, IsWellFormed}
+use Rattle.wtf8.proofs.Common.{◌≡◌, ℕ, ◌+◌, ◌-◌, ◌*◌, ◌<◌, ◌≤◌, List, subst, inl, inr, arith, length, get_or, chunk, cases_lt, AreAscii, view_units, view_form}
 use Rattle.std.proofs.lemmas.Simd.{Each1-from_get_or}
 use Rattle.wtf8.proofs.lemmas.laws.Laws.{below_lanes}
-use Rattle.wtf8.proofs.lemmas.numbers.Readings.{units_bounds}
-use Rattle.wtf8.proofs.lemmas.strings.UnitMarks.{units_are_bytes}
-use Rattle.wtf8.proofs.lemmas.strings.UnitsOut.{behind_ascii}
-use Rattle.wtf8.specs.UnitCounts.{HasLane}
+use Rattle.wtf8.proofs.lemmas.numbers.Readings.{units_from_form}
+use Rattle.wtf8.proofs.lemmas.units_in.Blocks.{ascii_form}
+use Rattle.wtf8.specs.private.UnitCounts.{HasLane}
 use Rattle.wtf8.proofs.strings.unit_positions.is_ascii.Goals as goal
 
 -- a byte among n that are below
@@ -20,16 +19,9 @@ ascii_ends w n some all front back = Each1-from_get_or (λ b. b < 0x80) w 0 (λ 
   | inr last ↦ below_at w n (length w - n) (omega (arith, some)) back i (omega (arith, some, all, last)) (omega (arith, some, l))
 ])
 
--- a string of ASCII has its bytes as units
-ascii_units : (w : List ℕ) (h : IsWellFormed w) → AreAscii w → units h.points ≡ w
-ascii_units w h low =
-    let whole = take_all (length w) w (omega arith) in
-    let b = behind_ascii (length w) w h (omega arith) (subst AreAscii (sym whole) low) in
-    let long = ap length b.whole ∙ (length-append _ (units b.rest.points) ∙ ap (λ v. length v + length (units b.rest.points)) whole) in
-    units_are_bytes h.points (omega (arith, ap length h.encoded, long, (units_bounds h.points).at_least)) ∙ h.encoded
-
 pub returns-then-is_below : goal.returns-then-is_below
 returns-then-is_below g c = λ t.
     let view = c.args.view in
-    ascii_units view.bytes.now view.well_formed
-    (ascii_ends view.bytes.now g.row.N c.requires.all.0 c.requires.all.1 (c.is_below.ensures c.if-is_below.true) (c.is_below-then-is_below.ensures t))
+    let w = view.bytes.now in
+    let low = ascii_ends w g.row.N c.requires.all.0 c.requires.all.1 (c.is_below.ensures c.if-is_below.true) (c.is_below-then-is_below.ensures t) in
+    units_from_form w (view_units view) w (view_form view) (ascii_form w low).form

@@ -1,4 +1,4 @@
-use Rattle.wtf8.proofs.Common.{◌∙◌, Some, ap, sym, subst, slice_get, units, CutsUnits}
+use Rattle.wtf8.proofs.Common.{◌∙◌, Some, ap, sym, slice_get, units}
 use Rattle.wtf8.proofs.lemmas.strings.Positions.{points_behind}
 use Rattle.wtf8.proofs.lemmas.strings.UnitCuts.{undivided, divided}
 use Rattle.wtf8.proofs.strings.unit_positions.unit_by_cut.Goals as goal
@@ -6,12 +6,11 @@ use Rattle.wtf8.proofs.strings.unit_positions.unit_by_cut.Goals as goal
 pub returns-in-None : goal.returns-in-None
 returns-in-None c =
     let h = c.args.view.well_formed in
-    let k = c.in_ok-cut.cut.position in
-    let x = subst (CutsUnits h.points c.args.index k) c.in-None.is c.in_ok-cut.ensures.some in
-    let back = points_behind h c.slice_from.result.well_formed x.front x.back k x.joined x.front_len c.slice_from.ensures.bytes in
-    c.first_unit.ensures ∙ (ap (λ d. slice_get (units d) 0) back ∙ sym (undivided x).here)
+    let x = undivided c.in-None.is c.in_ok-cut.ensures.some in
+    let back = points_behind h c.slice_from.result.well_formed x.front x.back _ x.joined x.front_len c.slice_from.ensures.bytes in
+    c.first_unit.ensures ∙ (ap (λ d. slice_get (units d) 0) back ∙ sym x.here)
 
 pub returns-in-Some : goal.returns-in-Some
 returns-in-Some c =
-    let x = subst (CutsUnits c.args.view.well_formed.points c.args.index c.in_ok-cut.cut.position) c.in-Some.is c.in_ok-cut.ensures.some in
-    ap Some c.trail_of.ensures ∙ sym (divided x).here
+    let x = divided c.in-Some.is c.in_ok-cut.ensures.some in
+    ap Some c.trail_of.ensures ∙ sym x.here

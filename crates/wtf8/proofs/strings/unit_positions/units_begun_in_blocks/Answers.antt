@@ -1,15 +1,11 @@
-use Rattle.std.proofs.Common.{◌≡◌, ℕ, ◌+◌, ◌*◌, ◌≤◌, List, [], ◌∷◌, map, length, Fits, w8, w16, refl, ap, sym, ◌∙◌, subst, arith}
-use Rattle.std.proofs.lemmas.Simd.{length-chunk, length-zip2, fold-sum}
+use Rattle.std.proofs.Common.{◌≡◌, ℕ, ◌+◌, ◌*◌, ◌≤◌, List, map, length, Fits, w8, w16, ap, sym, ◌∙◌, subst, arith}
+use Rattle.std.proofs.lemmas.List.{length-map, map-id}
+use Rattle.std.proofs.lemmas.Simd.{Each1-weaker, length-chunk, length-zip2, fold-sum}
 use lib.Lanes.{chunk, zip2, Each1, Each2, Steps, fold_l, sum_l}
 use Rattle.wtf8.proofs.Common.{all_units_begun, units_begun}
-use Rattle.wtf8.proofs.lemmas.lanes.Surrogates.{lanes_fit_more, lanes_grow, sums_grow, sum_fits_two_bytes, length_same}
+use Rattle.wtf8.proofs.lemmas.lanes.Surrogates.{lanes_fit_more, lanes_grow, sums_grow, sum_fits_two_bytes}
 use Rattle.wtf8.proofs.lemmas.strings.Positions.{blocks_more}
 use Rattle.wtf8.proofs.strings.unit_positions.units_begun_in_blocks.Goals as goal
-
--- lanes that are made wider hold the same numbers
-widened : (xs : List ℕ) → map (λ x. x) xs ≡ xs
-widened [] = refl
-widened (x ∷ xs) = ap (λ ys. x ∷ ys) (widened xs)
 
 pub overflow_add-lanes : goal.overflow_add-lanes
 overflow_add-lanes c =
@@ -32,27 +28,24 @@ loop-block-preserved c =
     × (length (zip2 (λ a b. a + b) lanes v) ≡ 64) × Each1 (λ a. a ≤ (c.loop-block.block + 1) * 2) (zip2 (λ a b. a + b) lanes v))
     (sym c.units_begun_by_each-lanes.ensures) (
       omega (arith, sums_grow lanes xs same, c.loop-block.invariant.0, more),
-      length-zip2 (λ a b. a + b) lanes (map units_begun xs) (same ∙ sym (length_same xs)) ∙ c.loop-block.invariant.1,
+      length-zip2 (λ a b. a + b) lanes (map units_begun xs) (same ∙ sym (length-map xs units_begun)) ∙ c.loop-block.invariant.1,
       subst (λ n. Each1 (λ a. a ≤ n) (zip2 (λ a b. a + b) lanes (map units_begun xs))) (omega arith)
           (lanes_grow (c.loop-block.block * 2) lanes xs c.loop-block.invariant.2),
     )
 
 most : (n : ℕ) (xs : List ℕ) → n ≤ 8 → Each1 (λ a. a ≤ n * 2) xs → Each1 (λ a. a ≤ 16) xs
-most n [] h each = tt
-most n (x ∷ xs) h each = (omega (arith, h, each.0), most n xs h each.1)
-
-fits : (xs : List ℕ) → Each1 (λ a. a ≤ 16) xs → Each1 (Fits w16) xs
-fits [] each = tt
-fits (x ∷ xs) each = (record { fits = omega (arith, each.0) }, fits xs each.1)
+most n xs h = Each1-weaker (λ a. a ≤ n * 2) (λ a. a ≤ 16) (λ a l. omega (arith, h, l)) xs
 
 pub overflow_cast-lanes : goal.overflow_cast-lanes
-overflow_cast-lanes c = fits c.loop-block.lanes (most c.loop-block.block c.loop-block.lanes (omega (arith, c.loop-block.auto.block-end)) c.loop-block.invariant.2)
+overflow_cast-lanes c =
+    Each1-weaker (λ a. a ≤ 16) (Fits w16) (λ a l. record { fits = omega (arith, l) }) c.loop-block.lanes
+    (most c.loop-block.block c.loop-block.lanes (omega (arith, c.loop-block.auto.block-end)) c.loop-block.invariant.2)
 
 pub overflow_add-lanes-2 : goal.overflow_add-lanes-2
 overflow_add-lanes-2 c =
     let lanes = c.loop-block.lanes in
     let each = most c.loop-block.block lanes (omega (arith, c.loop-block.auto.block-end)) c.loop-block.invariant.2 in
-    subst (Steps (λ s x. Fits w16 (s + x)) (λ s x. s + x) 0) (sym (widened lanes)) (sum_fits_two_bytes lanes c.loop-block.invariant.1 each)
+    subst (Steps (λ s x. Fits w16 (s + x)) (λ s x. s + x) 0) (sym (map-id lanes)) (sum_fits_two_bytes lanes c.loop-block.invariant.1 each)
 
 pub returns : goal.returns
 returns c =
@@ -60,5 +53,5 @@ returns c =
     let w = c.args.bytes.now in
     let all : c.loop-block.block * 64 ≡ 512 = omega (arith, c.loop-block.auto.block-end, c.loop-block-test.false) in
     let whole = ap (λ k. all_units_begun (chunk c.args.at k w)) all in
-    let summed = ap (fold_l (λ s x. s + x) 0) (widened lanes) in
+    let summed = ap (fold_l (λ s x. s + x) 0) (map-id lanes) in
     c.from.ensures ∙ (summed ∙ omega (arith, fold-sum 0 lanes, c.loop-block.invariant.0, whole))

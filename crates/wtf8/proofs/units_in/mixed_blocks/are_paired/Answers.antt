@@ -5,7 +5,7 @@ use Rattle.std.proofs.lemmas.List.{length-map, get_or-map}
 use Rattle.std.proofs.lemmas.Simd.{map-map, zip2_splat, bitmask_splat, Each2-splat, Each1-all}
 use Rattle.std.specs.Int.{w16}
 use Rattle.wtf8.specs.Unicode.{IsLead, IsTrail}
-use Rattle.wtf8.specs.UnitPieces.{unit_before, ArePaired}
+use Rattle.wtf8.specs.private.UnitPieces.{unit_before, ArePaired}
 use Rattle.wtf8.proofs.units_in.mixed_blocks.are_paired.Goals as goal
 
 -- The masks of a block's leads and trails: where one is the other, moved by a lane, the units are paired.

@@ -1,6 +1,6 @@
 use Rattle.wtf8.proofs.Common.{ℕ, ◌+◌, ◌++◌, ◌∙◌, ap, arith, refl, take, drop, get_or, w8}
 use Rattle.std.proofs.lemmas.Simd.{SwzOk-from_below, length-swz_l, swz_l}
-use Rattle.wtf8.specs.UnitPieces.{byte_count}
+use Rattle.wtf8.specs.private.UnitPieces.{byte_count}
 use Rattle.wtf8.proofs.lemmas.units_in.Pieces.{wrote_part}
 use Rattle.wtf8.proofs.lemmas.units_in.MixedBlocks.{picked, length_of}
 use Rattle.wtf8.proofs.units_in.mixed_blocks.put.Goals as goal

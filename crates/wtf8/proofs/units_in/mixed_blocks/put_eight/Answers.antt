@@ -1,5 +1,5 @@
 use Rattle.wtf8.proofs.Common.{◌≡◌, ◌/◌, ◌%◌, ◌++◌, ◌∙◌, ◌∷◌, ap, arith, take, drop, length-drop, append_assoc, length-take, length-chunk}
-use Rattle.wtf8.specs.UnitPieces.{lengths_number, joined_pieces}
+use Rattle.wtf8.specs.private.UnitPieces.{lengths_number, joined_pieces}
 use Rattle.wtf8.proofs.lemmas.units_in.MixedBlocks.{lengths_below, joined_halves}
 use Rattle.wtf8.proofs.units_in.mixed_blocks.put_eight.Goals as goal
 

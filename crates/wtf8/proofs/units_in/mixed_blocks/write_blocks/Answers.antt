@@ -1,8 +1,8 @@
 use Rattle.wtf8.proofs.Common.{◌≡◌, ◌+◌, ◌-◌, [], ◌∙◌, ap, arith, subst, take, drop, true, cases_lt, inl, inr, IsKnownForm}
 use Rattle.std.proofs.lemmas.List.{take-take}
 use Rattle.wtf8.specs.Unicode.{IsLead}
-use Rattle.wtf8.specs.UnitParts.{AppendsForm, AppendsPart}
-use Rattle.wtf8.specs.UnitPieces.{pieces, unit_before}
+use Rattle.wtf8.specs.private.UnitParts.{AppendsForm, AppendsPart}
+use Rattle.wtf8.specs.private.UnitPieces.{pieces, unit_before}
 use Rattle.wtf8.proofs.lemmas.units_in.Blocks.{parts_joined}
 use Rattle.wtf8.proofs.lemmas.units_in.Pieces.{taken_apart}
 use Rattle.wtf8.proofs.units_in.mixed_blocks.write_blocks.Goals as goal

@@ -1,5 +1,5 @@
 use Rattle.wtf8.proofs.Common.{◌≡◌, ◌-◌, ◌≤◌, ◌<◌, [], length, take, true}
-use Rattle.wtf8.specs.UnitParts.{AppendsPart}
+use Rattle.wtf8.specs.private.UnitParts.{AppendsPart}
 use Rattle.wtf8.proofs.units_in.mixed_blocks.write_blocks.Given as goal
 
 -- the block begins with the bytes of the units so far

@@ -1,6 +1,6 @@
 use Rattle.wtf8.proofs.Common.{◌≡◌, Bool, true, false, refl, subst, arith}
 use Rattle.std.specs.Prelude.{◌&&◌}
-use Rattle.wtf8.specs.UnitParts.{IsReadTo}
+use Rattle.wtf8.specs.private.UnitParts.{IsReadTo}
 use Rattle.wtf8.proofs.lemmas.numbers.Readings.{nothing_ends}
 use Rattle.wtf8.proofs.lemmas.units_in.Blocks.{nothing_read, part_read, all_read}
 use Rattle.wtf8.proofs.units_in.unit_blocks.append_form.Goals as goal

@@ -1,5 +1,5 @@
 use Rattle.wtf8.proofs.Common.{◌-◌, length}
-use Rattle.wtf8.specs.UnitParts.{IsReadTo}
+use Rattle.wtf8.specs.private.UnitParts.{IsReadTo}
 use Rattle.wtf8.proofs.units_in.unit_blocks.append_form.Given as goal
 
 abbrev pub invariant-loop-at : goal.invariant-loop-at

@@ -1,5 +1,5 @@
 use Rattle.wtf8.proofs.Common.{◌+◌, arith, subst, true}
-use Rattle.wtf8.specs.UnitParts.{AppendsPart}
+use Rattle.wtf8.specs.private.UnitParts.{AppendsPart}
 use Rattle.wtf8.proofs.lemmas.units_in.Blocks.{ascii_appended, ascii_part, front_and_part}
 use Rattle.wtf8.proofs.units_in.unit_blocks.append_front.Goals as goal
 

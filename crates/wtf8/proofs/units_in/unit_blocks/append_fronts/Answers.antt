@@ -1,6 +1,6 @@
 use Rattle.wtf8.proofs.Common.{subst}
 use Rattle.std.specs.Prelude.{IfSome}
-use Rattle.wtf8.specs.UnitParts.{AppendsPart}
+use Rattle.wtf8.specs.private.UnitParts.{AppendsPart}
 use Rattle.wtf8.proofs.lemmas.units_in.Blocks.{parts_joined}
 use Rattle.wtf8.proofs.units_in.unit_blocks.append_fronts.Goals as goal
 

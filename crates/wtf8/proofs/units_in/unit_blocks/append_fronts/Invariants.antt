@@ -1,5 +1,5 @@
 use Rattle.wtf8.proofs.Common.{◌-◌, length}
-use Rattle.wtf8.specs.UnitParts.{AppendsPart}
+use Rattle.wtf8.specs.private.UnitParts.{AppendsPart}
 use Rattle.wtf8.proofs.units_in.unit_blocks.append_fronts.Given as goal
 
 -- the units so far are appended

@@ -1,9 +1,10 @@
 use Rattle.wtf8.proofs.Common.{◌≡◌, ◌<◌, ◌+◌, ℕ, List, [], ◌∷◌, ◌++◌, length, get_or, Bool, true, false, cond, Some, refl, ap, ◌∙◌, sym, subst, arith, append_assoc}
 use Rattle.wtf8.proofs.Common.{All, Step, Run, Append, IsNoTruncation, Build, Reserve, Truncate, TruncateUnits, ◌≤◌, take, drop, inl, inr, false≢true, cases_lt}
-use Rattle.wtf8.proofs.Common.{append-nil, IsForm, FindRoom}
+use Rattle.wtf8.proofs.Common.{append-nil, IsForm, FindRoom, All-nil, All-cons, take_all}
 use Rattle.std.proofs.lemmas.List.Elements.{All-get_or}
-use Rattle.std.proofs.lemmas.Option.{none-some, MatchOption-at_some}
-use Rattle.wtf8.specs.Building.{appended, LeavesReserved}
+use Rattle.wtf8.specs.Appending.{FitWithin}
+use Rattle.std.proofs.lemmas.Option.{none-some}
+use Rattle.wtf8.specs.Building.{appended, asked, LeavesReserved}
 use Rattle.wtf8.proofs.lemmas.laws.Laws.{reserved_more}
 use Rattle.wtf8.proofs.lemmas.strings.Concatenation.{item_at, items_more}
 use Rattle.wtf8.proofs.lemmas.strings.Gains.{Found, found_more, wider, beginning}
@@ -34,20 +35,41 @@ no_truncation (Truncate k) a e = absurd (none-some a e)
 no_truncation (TruncateUnits n) a e = absurd (none-some a e)
 no_truncation call a e = tt
 
--- what a list appends, in two parts
-record Parts (calls more : List Build) (v : List ℕ) : Type 0 where
-  pub front : List ℕ
-  pub back : List ℕ
-  pub first : Append calls front
-  pub second : Append more back
-  pub joined : v ≡ front ++ back
+-- what a run of pushes and extensions appends, of which none truncates
+run_appends : (u : List ℕ) (calls : List Build) (v : List ℕ) (n : ℕ) (a : List ℕ) → Run u calls v n → Append calls a → v ≡ u ++ a
+run_appends u [] v n a x e = x.0 ∙ (sym (append-nil u) ∙ ap (λ b. u ++ b) (sym e))
+run_appends u (call ∷ calls) v n a x e =
+    let here = step_appends u call x.0 x.1 e.0 x.3 e.2 in
+    let rest = run_appends x.0 calls v x.2 e.1 x.4 e.3 in
+    rest ∙ (ap (λ m. m ++ e.1) here ∙ (append_assoc u e.0 e.1 ∙ ap (λ b. u ++ b) (sym e.4)))
 
-append_parts : (calls more : List Build) (v : List ℕ) → Append (calls ++ more) v → Parts calls more v
-append_parts [] more v x = record { front = []; back = v; first = refl; second = x; joined = refl }
-append_parts (c ∷ calls) more v x =
-    let p = append_parts calls more x.1 x.3 in
-    let joined = x.4 ∙ ap (λ b. x.0 ++ b) p.joined ∙ sym (append_assoc x.0 p.front p.back) in
-    record { front = x.0 ++ p.front; back = p.back; first = (x.0, p.front, x.2, p.first, refl); second = p.second; joined = joined }
+none_truncates : (calls : List Build) (a : List ℕ) → Append calls a → All IsNoTruncation calls
+none_truncates [] a e = All-nil IsNoTruncation
+none_truncates (call ∷ calls) a e = All-cons IsNoTruncation call calls (no_truncation call e.0 e.2) (none_truncates calls e.1 e.3)
+
+-- where all that they append fits, each finds room
+finds_step : (u : List ℕ) (call : Build) (a : List ℕ) → appended call ≡ Some a → Step u call (u ++ a) 0 × (asked call ≡ 0)
+finds_step u (Reserve n) a e = absurd (none-some a e)
+finds_step u (Truncate k) a e = absurd (none-some a e)
+finds_step u (TruncateUnits n) a e = absurd (none-some a e)
+finds_step u call a e = ((ap (λ b. u ++ b) (sym (some_same _ a e)), refl), refl)
+
+find_room : (u : List ℕ) (calls : List Build) (a : List ℕ) (capacity : ℕ) → Append calls a → FitWithin (u ++ a) 0 capacity → FindRoom u calls (u ++ a) capacity
+find_room u [] a capacity e fit = ap (λ b. u ++ b) e ∙ append-nil u
+find_room u (call ∷ calls) a capacity e fit =
+    let mid = u ++ e.0 in
+    let whole : u ++ a ≡ mid ++ e.1 = ap (λ b. u ++ b) e.4 ∙ sym (append_assoc u e.0 e.1) in
+    let fits : FitWithin (mid ++ e.1) 0 capacity = subst (λ w. FitWithin w 0 capacity) whole fit in
+    let step = finds_step u call e.0 e.2 in
+    let b = beginning mid e.1 fits.whole fits.form in (
+      mid,
+      record {
+        no_truncation = no_truncation call e.0 e.2;
+        step = step.0;
+        fits = record { whole = b.whole; form = b.form; within = omega (arith, b.within, fits.within, step.1) };
+      },
+      subst (λ w. FindRoom mid calls w capacity) (sym whole) (find_room mid calls e.1 capacity e.3 fits),
+    )
 
 call_among : (calls : List Build) (i : ℕ) (call : Build) → i < length calls → call ≡ get_or calls i call → All IsNoTruncation calls → IsNoTruncation call
 call_among calls i call h e all = subst IsNoTruncation (sym e) (All-get_or IsNoTruncation calls i call h all)
@@ -59,72 +81,13 @@ counted kept n e = rw e refl
 not_counted : (kept : Bool) (n : ℕ) → kept ≡ true → n ≡ n + cond kept 0 1
 not_counted kept n e = rw e (omega arith)
 
--- one call among those that append: what came before it, its own units, and those behind it
-record Among (u v mid : List ℕ) (call : Build) (calls more : List Build) : Type 0 where
-  pub front : List ℕ
-  pub own : List ℕ
-  pub rest : List ℕ
-  pub before : Append calls front
-  pub appends : appended call ≡ Some own
-  pub behind : Append more rest
-  pub joined : u ++ v ≡ mid ++ (own ++ rest)
-
-among : (u : List ℕ) (calls : List Build) (call : Build) (more : List Build) (v mid : List ℕ) → ((a : List ℕ) → Append calls a → mid ≡ u ++ a)
-    → Append (calls ++ call ∷ more) v → Among u v mid call calls more
-among u calls call more v mid f x =
-    let p = append_parts calls (call ∷ more) v x in
-    record {
-      front = p.front;
-      own = p.second.0;
-      rest = p.second.1;
-      before = p.first;
-      appends = p.second.2;
-      behind = p.second.3;
-      joined = simp (p.joined, p.second.4, f p.front p.first, append_assoc);
-    }
-
--- the call that stopped among all calls
-stopped : (g : Over) (c : In_default g) (v : List ℕ) → Append c.args.calls.now v → Among c.args.self.now.units v c.loop-done.self.units
-    c.index-calls-done.result (take c.loop-done.done c.args.calls.now) (drop (c.loop-done.done + 1) c.args.calls.now)
-stopped g c v all =
-    let whole = item_at c.args.calls.now c.loop-done.done c.index-calls-done.result (omega arith) c.index-calls-done.is in
-    among _ _ _ _ v _ (λ a x. (c.loop-done.invariant.appended a x).0) (subst (λ d. Append d v) (sym whole) all)
-
--- it finds no room that it is said to find with some calls behind it
+-- the call that stopped finds no room that it is said to find with some calls behind it
 no_room : (g : Over) (c : In_default g) (more : List Build) (v : List ℕ)
     → ¬ (FindRoom c.args.self.now.units (take c.loop-done.done c.args.calls.now ++ c.index-calls-done.result ∷ more) v c.args.self.now.capacity)
 no_room g c more v whole =
     let found = c.loop-done.invariant.found in
     let here = found.rest (c.index-calls-done.result ∷ more) v whole in
     false≢true (c.in_default.ensures.found here.0 (wider here.1 (found.grows (c.index-calls-done.result ∷ more) v whole)))
-
-pub returns-in_default-clause-room : goal.returns-in_default-clause-room
-returns-in_default-clause-room g c v all fit =
-    let m = stopped g (goal.at.returns-in_default-clause-room g c).In_default v all in
-    let b = beginning (c.loop-done.self.units ++ m.own) m.rest fit.whole (rw (append_assoc, ← m.joined) fit.form) in
-    let least = (c.loop-done.invariant.appended m.front m.before).1 in
-    MatchOption-at_some _ _ m.own m.appends c.in_default.ensures.room
-    (record { whole = b.whole; form = b.form; within = omega (arith, b.within, fit.within, least) })
-
-pub returns-in_default-clause-outgrown : goal.returns-in_default-clause-outgrown
-returns-in_default-clause-outgrown g c v all w form =
-    let i = c.loop-done.done in
-    let calls = c.args.calls.now in
-    let call = c.index-calls-done.result in
-    let here = subst (λ d. Append d v) (items_more calls i call (omega arith) c.index-calls-done.is) all in
-    let m = among c.args.self.now.units (take i calls) call [] v c.loop-done.self.units (λ a x. (c.loop-done.invariant.appended a x).0) here in
-    let b = beginning (c.loop-done.self.units ++ m.own) m.rest w (rw (append_assoc, ← m.joined) form) in
-    elim (cases_lt c.args.self.now.capacity (length w)) [
-      | inl h ↦ h
-      | inr h ↦ absurd (false≢true (MatchOption-at_some _ _ m.own m.appends c.in_default.ensures.room
-          (record { whole = b.whole; form = b.form; within = omega (arith, b.within, h, (c.loop-done.invariant.appended m.front m.before).1) })))
-    ]
-
-pub returns-in_default-clause-capacity : goal.returns-in_default-clause-capacity
-returns-in_default-clause-capacity g c v all =
-    let m = stopped g (goal.at.returns-in_default-clause-capacity g c).In_default v all in
-    let kept = c.in_default.ensures.capacity (no_truncation c.index-calls-done.result m.own m.appends) in
-    omega (arith, (c.loop-done.invariant.appended m.front m.before).1, kept)
 
 pub loop-done-preserved : goal.loop-done-preserved
 loop-done-preserved g c =
@@ -143,12 +106,6 @@ loop-done-preserved g c =
     ] in record {
       ran = subst (λ d. Run u d now c.if-not-kept.refused) (sym more) (subst (λ n. Run u (take i calls ++ call ∷ []) now n) (sym count.0) run);
       counted = count.1;
-      appended = λ v all.
-          let m = among u (take i calls) call [] v was (λ a x. (inv.appended a x).0) (subst (λ d. Append d v) more all) in
-          let whole : u ++ v ≡ was ++ m.own = m.joined ∙ ap (λ b. was ++ (m.own ++ b)) m.behind ∙ ap (λ b. was ++ b) (append-nil m.own) in (
-            step_appends was call now (cond c.in-Ok.kept 0 1) m.own c.in-Ok.ensures.step m.appends ∙ sym whole,
-            omega (arith, (inv.appended m.front m.before).1, c.in-Ok.ensures.capacity (no_truncation call m.own m.appends)),
-          );
       found = subst (λ d. Found u d now c.args.self.now.capacity c.apply.new.self.capacity) (sym more)
           (found_more (cond c.in-Ok.kept 0 1) inv.found c.in-Ok.ensures.step (λ v f. c.in-Ok.ensures.capacity f.no_truncation));
       reserved = subst (λ d. LeavesReserved u d c.apply.new.self.capacity) (sym more) (reserved_more c.loop-done.refused inv.reserved inv.ran c.in-Ok.ensures.capacity (λ m e.
@@ -172,3 +129,23 @@ pub returns-in_default-clause-no_smaller : goal.returns-in_default-clause-no_sma
 returns-in_default-clause-no_smaller g c all =
     let none = call_among c.args.calls.now c.loop-done.done c.index-calls-done.result (omega arith) c.index-calls-done.is all in
     omega (arith, c.loop-done.invariant.no_smaller all, c.in_default.ensures.capacity none)
+
+pub returns-in_default-clause-room : goal.returns-in_default-clause-room
+returns-in_default-clause-room g c v all fit = returns-in_default-clause-found g c _ (find_room c.args.self.now.units c.args.calls.now v _ all fit)
+
+pub returns-in_default-clause-outgrown : goal.returns-in_default-clause-outgrown
+returns-in_default-clause-outgrown g c v all w form = elim (cases_lt c.args.self.now.capacity (length w)) [
+  | inl h ↦ h
+  | inr h ↦ absurd (returns-in_default-clause-missed g c _ (find_room c.args.self.now.units _ v _ all (record { whole = w; form = form; within = omega (arith, h) })))
+]
+
+pub returns-in_default-clause-capacity : goal.returns-in_default-clause-capacity
+returns-in_default-clause-capacity g c v all = returns-in_default-clause-no_smaller g c (none_truncates c.args.calls.now v all)
+
+pub returns-clause-capacity : goal.returns-clause-capacity
+returns-clause-capacity g c v all = c.loop-done.invariant.no_smaller (none_truncates c.args.calls.now v all)
+
+pub returns-clause-appends : goal.returns-clause-appends
+returns-clause-appends g c v all =
+    let whole = take_all c.loop-done.done c.args.calls.now (omega arith) in
+    run_appends _ _ _ _ v c.loop-done.invariant.ran (subst (λ d. Append d v) (sym whole) all)

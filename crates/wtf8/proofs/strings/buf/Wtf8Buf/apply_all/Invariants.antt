@@ -1,15 +1,13 @@
-use Rattle.wtf8.proofs.Common.{◌≤◌, List, ℕ, take, All, AppendsUnits, Run, Append, IsNoTruncation}
+use Rattle.wtf8.proofs.Common.{◌≤◌, take, All, Run, IsNoTruncation}
 use Rattle.wtf8.specs.Building.{LeavesReserved}
 use Rattle.wtf8.proofs.lemmas.strings.Gains.{Found}
 use Rattle.wtf8.proofs.strings.buf.Wtf8Buf.apply_all.Given as goal
 
--- the calls so far ran; where they are pushes and extensions, their units are appended; room that was asked for is there as long as no call behind it
--- truncates; and the capacity is no smaller where no call truncates
+-- the calls so far ran; room that was asked for is there as long as no call behind it truncates; and the capacity is no smaller where no call truncates
 abbrev pub invariant-loop-done : goal.invariant-loop-done
 invariant-loop-done g l = record {
   ran : Run l.fn.self.units (take l.done l.calls) l.self.units l.refused;
   counted : l.refused ≤ l.done;
-  appended : (v : List ℕ) → Append (take l.done l.calls) v → AppendsUnits l.fn.self v l.self × (l.fn.self.capacity ≤ l.self.capacity);
   found : Found l.fn.self.units (take l.done l.calls) l.self.units l.fn.self.capacity l.self.capacity;
   reserved : LeavesReserved l.fn.self.units (take l.done l.calls) l.self.capacity;
   no_smaller : All IsNoTruncation l.calls → l.fn.self.capacity ≤ l.self.capacity;

@@ -1,32 +1,43 @@
-use Rattle.wtf8.proofs.Common.{UnitString, ap, arith, length, length-append, encoding, on_ok_weaker, subst, OnOk, GainsUnits}
-use Rattle.wtf8.proofs.lemmas.strings.Gains.{gained_units, kept_contents, known_point, scalar_facts}
+use Rattle.wtf8.proofs.Common.{UnitString, ap, arith, length, length-append, encoding, on_ok_weaker, refl, Gains, units_of, ◌≡◌, ◌∷◌, ◌++◌, []}
+use Rattle.wtf8.proofs.lemmas.strings.Gains.{units_appended, kept_contents, room_found, known_point, scalar_facts}
 use Rattle.wtf8.proofs.lemmas.numbers.Encoding.{encoding_one}
 use Rattle.wtf8.proofs.lemmas.numbers.Readings.{units_one}
+use Rattle.wtf8.proofs.strings.buf.Wtf8Buf.push_char.Given.{Over}
+use Rattle.wtf8.proofs.strings.buf.Wtf8Buf.push_char.Goals.{After-push_scalar}
 use Rattle.wtf8.proofs.strings.buf.Wtf8Buf.push_char.Goals as goal
+
+gains : (g : Over) (c : After-push_scalar g) → Gains c.self.inside.bytes (units_of c.args.c) c.push_scalar.new.bytes c.push_scalar.result
+gains g c = record { whole = _; gained = c.push_scalar.ensures.units; becomes = c.push_scalar.ensures.bytes }
 
 pub invariant_of-self-inside : goal.invariant_of-self-inside
 invariant_of-self-inside g c =
     let f = scalar_facts c.args.c c.ranges.c.0 in
     let own = c.self.inside in
-    let call = c.push_scalar in
-    known_point call.result c.args.c own.scalar_end own.scalar_end own.well_formed f.range own.scalar_front (omega arith) (λ _. f.apart) call.ensures.ok call.ensures.err
+    known_point c.push_scalar.result c.args.c own.scalar_end own.scalar_end own.well_formed f.range own.scalar_front (omega arith) (λ _. f.apart)
+    (record { whole = _; gained = c.push_scalar.ensures.units; becomes = c.push_scalar.ensures.bytes })
 
 pub returns-clause-ok : goal.returns-clause-ok
-returns-clause-ok g c =
-    gained_units c.push_scalar.result _ c.self.inside.well_formed c.self-1.given.0 (ap (λ (t : UnitString). t.units) c.self.view_is) c.push_scalar.ensures.ok
+returns-clause-ok g c = units_appended _ _ c.self-1.given.0 c.self.view_is refl (gains g (goal.at.returns-clause-ok g c).After-push_scalar)
 
 pub returns-clause-kept : goal.returns-clause-kept
-returns-clause-kept g c = kept_contents c.push_scalar.result _ _ _ c.self.view_is c.push_scalar.ensures.err
+returns-clause-kept g c = kept_contents _ _ _ c.self.view_is refl refl (gains g (goal.at.returns-clause-kept g c).After-push_scalar)
 
 pub returns-clause-one : goal.returns-clause-one
 returns-clause-one g c low =
-    let old = c.self.inside.bytes.items in
-    let new = c.push_scalar.new.bytes.items in
-    let gains = subst (λ u. OnOk c.push_scalar.result (GainsUnits old new u)) (units_one c.args.c low) c.push_scalar.ensures.ok in
-    gained_units c.push_scalar.result _ c.self.inside.well_formed c.self-1.given.0 (ap (λ (t : UnitString). t.units) c.self.view_is) gains
+    let more : c.args.self.now.units ++ units_of c.args.c ≡ c.args.self.now.units ++ c.args.c ∷ [] = ap (λ u. c.args.self.now.units ++ u) (units_one c.args.c low) in
+    on_ok_weaker c.push_scalar.result (λ e. cc (e, more)) (returns-clause-ok g c)
+
+pub returns-clause-room : goal.returns-clause-room
+returns-clause-room g c = room_found _ _ c.self.view_is refl refl (gains g (goal.at.returns-clause-room g c).After-push_scalar)
 
 pub returns-clause-ascii_length : goal.returns-clause-ascii_length
 returns-clause-ascii_length g c low =
     let one = ap length (encoding_one c.args.c low) in
     let same = ap (λ (t : UnitString). length t.bytes) c.self.view_is in
-    on_ok_weaker c.push_scalar.result (λ e. omega (arith, ap length e, one, same, length-append c.self.inside.bytes.items (encoding c.args.c))) c.push_scalar.ensures.bytes
+    on_ok_weaker c.push_scalar.result (λ e. omega (arith, ap length e, one, same, length-append c.self.inside.bytes.items (encoding c.args.c))) c.push_scalar.ensures.bytes.ok
+
+pub returns-clause-ascii_room : goal.returns-clause-ascii_room
+returns-clause-ascii_room g c low h =
+    let one = ap length (encoding_one c.args.c low) in
+    c.push_scalar.ensures.bytes.room
+    (omega (arith, h, one, ap (λ (t : UnitString). length t.bytes) c.self.view_is, ap (λ (t : UnitString). t.capacity) c.self.view_is, length-append c.self.inside.bytes.items (encoding c.args.c)))

@@ -1,7 +1,7 @@
-use Rattle.wtf8.proofs.Common.{UnitString, ap, arith, length, refl, units, view_units, view_form}
-use Rattle.wtf8.proofs.lemmas.strings.Gains.{gained_units, kept_contents, added_length, known_gained, scalar_apart, scalar_moved}
-use Rattle.wtf8.proofs.lemmas.laws.Laws.{grows_at_most, nothing_appended, fits_left}
-use Rattle.wtf8.proofs.lemmas.numbers.Readings.{no_points, well_formed_of}
+use Rattle.wtf8.proofs.Common.{UnitString, IsForm, ◌++◌, ◌∙◌, subst, sym, append-nil, ap, arith, length, refl, units, view_units, view_form}
+use Rattle.wtf8.proofs.lemmas.strings.Gains.{units_appended, kept_contents, room_found, known_gained, scalar_apart, scalar_moved}
+use Rattle.wtf8.proofs.lemmas.laws.Laws.{grows_at_most, added_length, nothing_appended, room_left}
+use Rattle.wtf8.proofs.lemmas.numbers.Readings.{no_points, well_formed_of, form_of}
 use Rattle.wtf8.proofs.strings.buf.Wtf8Buf.push_wtf8.Goals as goal
 
 pub push_view-requires-clause-apart : goal.push_view-requires-clause-apart
@@ -13,29 +13,32 @@ invariant_of-self-inside g c =
     let other = c.args.other.well_formed in
     let own = c.self.inside in
     let end = c.scalar_end_with-self-inside.ensures in
-    known_gained c.push_view.result other.points (units other.points) own.scalar_end _ own.well_formed refl other.clean own.scalar_front
-    end.order (λ m. end.scalar (omega (arith, m))) c.push_view.ensures.ok c.push_view.ensures.err
+    known_gained c.push_view.result other.points own.scalar_end _ own.well_formed refl other.clean own.scalar_front
+    end.order (λ m. end.scalar (omega (arith, m))) c.push_view.ensures
 
 pub returns-clause-ok : goal.returns-clause-ok
-returns-clause-ok g c =
-    gained_units c.push_view.result _ c.self.inside.well_formed c.self-1.given.0 (ap (λ (t : UnitString). t.units) c.self.view_is) c.push_view.ensures.ok
+returns-clause-ok g c = units_appended _ _ c.self-1.given.0 c.self.view_is refl c.push_view.ensures
 
 pub returns-clause-kept : goal.returns-clause-kept
-returns-clause-kept g c = kept_contents c.push_view.result _ _ _ c.self.view_is c.push_view.ensures.err
+returns-clause-kept g c = kept_contents _ _ _ c.self.view_is refl refl c.push_view.ensures
 
 pub returns-clause-length : goal.returns-clause-length
-returns-clause-length g c = added_length c.push_view.result _ _ _ c.args.other c.self.view_is c.push_view.ensures.ok
+returns-clause-length g c = added_length c.push_view.result _ _ c.args.other (returns-clause-ok g c)
+
+pub returns-clause-room : goal.returns-clause-room
+returns-clause-room g c = room_found _ _ c.self.view_is refl refl c.push_view.ensures
+
+pub returns-clause-empty : goal.returns-clause-empty
+returns-clause-empty g c e =
+    let s = c.args.self.now in
+    let form = subst (IsForm s.bytes) (sym (append-nil s.units) ∙ ap (λ u. s.units ++ u) (sym e)) s.form in
+    returns-clause-room g c (record { whole = s.bytes; form = form; within = omega (arith, s.fits) })
 
 pub returns-clause-at_most : goal.returns-clause-at_most
-returns-clause-at_most g c =
-    let same = ap (λ (t : UnitString). t.bytes) c.self.view_is in
-    grows_at_most c.push_view.result c.args.self.now _ _ (view_units c.args.other) same (view_form c.args.other) c.push_view.ensures.ok
+returns-clause-at_most g c = grows_at_most c.push_view.result c.args.self.now _ (view_units c.args.other) (form_of c.self-1.given.0) (view_form c.args.other) (returns-clause-ok g c)
 
 pub returns-clause-room_left : goal.returns-clause-room_left
-returns-clause-room_left g c h =
-    let room = ap (λ (t : UnitString). t.capacity) c.self.view_is in
-    let same = ap (λ (t : UnitString). t.bytes) c.self.view_is in
-    c.push_view.ensures.room (fits_left c.args.self.now _ (view_units c.args.other) _ same (view_form c.args.other) (omega (arith, h, room)))
+returns-clause-room_left g c h = returns-clause-room g c (room_left c.args.self.now _ (view_units c.args.other) (view_form c.args.other) h)
 
 pub returns-clause-nothing : goal.returns-clause-nothing
 returns-clause-nothing g c e =

@@ -1,9 +1,10 @@
-use Rattle.wtf8.proofs.lemmas.numbers.Readings.{empty_at, empty_form}
+use Rattle.wtf8.proofs.Common.{refl}
+use Rattle.wtf8.proofs.lemmas.numbers.Readings.{empty_at}
 use Rattle.wtf8.proofs.lemmas.strings.Gains.{scalar_moved}
 use Rattle.wtf8.proofs.strings.buf.Wtf8Buf.with_capacity.Goals as goal
 
 pub from_well_formed-requires-clause-scalar : goal.from_well_formed-requires-clause-scalar
-from_well_formed-requires-clause-scalar g c _ h = scalar_moved empty_form h c.in_ok-with_capacity.ensures.items tt
+from_well_formed-requires-clause-scalar g c _ h = scalar_moved (empty_at c.in_ok-with_capacity.ensures.items) h refl tt
 
 pub returns-clause-units : goal.returns-clause-units
 returns-clause-units g c = c.from_well_formed.ensures.units (empty_at c.in_ok-with_capacity.ensures.items)

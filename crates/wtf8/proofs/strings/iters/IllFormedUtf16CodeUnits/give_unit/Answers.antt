@@ -1,6 +1,6 @@
 use Rattle.wtf8.proofs.Common.{◌≡◌, ℕ, ◌∙◌, List, [], ◌∷◌, ◌++◌, drop, arith, ap, sym, refl, length-drop, IsWellFormed, units, Unread, unread_units}
 use Rattle.wtf8.proofs.Common.{held_in, behind_held, unread_after}
-use Rattle.wtf8.specs.UnitSteps.{unread_at, StepsUnit}
+use Rattle.wtf8.specs.private.UnitSteps.{unread_at, StepsUnit}
 use Rattle.wtf8.proofs.lemmas.numbers.Readings.{same_points}
 use Rattle.wtf8.proofs.lemmas.strings.UnitCuts.{ended}
 use Rattle.wtf8.proofs.strings.iters.IllFormedUtf16CodeUnits.give_unit.Goals as goal

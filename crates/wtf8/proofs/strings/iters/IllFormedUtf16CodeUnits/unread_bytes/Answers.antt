@@ -1,7 +1,7 @@
 use Rattle.wtf8.proofs.Common.{◌≡◌, ℕ, ◌+◌, ◌*◌, inl, inr, List, [], ◌∷◌, length, ap, drop, arith, length-drop, cases_lt, bytes, IsWellFormed, held_in}
 use Rattle.wtf8.proofs.Common.{behind_held}
 use Rattle.wtf8.proofs.lemmas.strings.UnitCuts.{inside, below, above, not_held, held_at}
-use Rattle.wtf8.proofs.lemmas.numbers.Readings.{units_bounds}
+use Rattle.wtf8.proofs.lemmas.numbers.Readings.{lengths}
 use Rattle.wtf8.proofs.strings.iters.IllFormedUtf16CodeUnits.unread_bytes.Goals as goal
 
 -- a held trail is two bytes
@@ -30,7 +30,7 @@ returns-clause-value c =
     omega (arith, held, points, c.held_units.ensures.value, length-held (drop s.at s.bytes.now) s.behind, length-drop s.at s.bytes.now)
 
 pub returns-clause-at_least_units : goal.returns-clause-at_least_units
-returns-clause-at_least_units c = let b = units_bounds c.args.self.now.points in omega (arith, b.at_least, returns-clause-value c)
+returns-clause-at_least_units c = let b = lengths c.args.self.now.points in omega (arith, b.units_least, returns-clause-value c)
 
 pub returns-clause-at_most_three_times : goal.returns-clause-at_most_three_times
-returns-clause-at_most_three_times c = let b = units_bounds c.args.self.now.points in omega (arith, b.at_most, returns-clause-value c)
+returns-clause-at_most_three_times c = let b = lengths c.args.self.now.points in omega (arith, b.units_most, returns-clause-value c)

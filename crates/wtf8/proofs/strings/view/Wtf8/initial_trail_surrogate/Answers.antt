@@ -1,5 +1,5 @@
 use Rattle.wtf8.proofs.Common.{◌≡◌, ℕ, ◌∷◌, ◌∙◌, List, length, sym, ap, arith, bytes, encoding, IsWellFormed, IsTrail}
-use Rattle.wtf8.specs.Gains.{FrontSays}
+use Rattle.wtf8.specs.private.Gains.{FrontSays}
 use Rattle.wtf8.proofs.lemmas.numbers.Encoding.{begins_with}
 use Rattle.wtf8.proofs.lemmas.numbers.Readings.{first_of}
 use Rattle.wtf8.proofs.strings.view.Wtf8.initial_trail_surrogate.Goals as goal
@@ -17,7 +17,7 @@ returns-in-237-clause-trail c = let s = (first_of c.args.self.well_formed (omega
 pub returns-in-237-clause-first : goal.returns-in-237-clause-first
 returns-in-237-clause-first c =
     let f = first_of c.args.self.well_formed (omega arith) in
-    let s = f.begins.says in (f.rest, f.points ∙ ap (λ q. q ∷ f.rest) (omega arith))
+    let s = f.begins.says in (f.behind.points, f.points ∙ ap (λ q. q ∷ f.behind.points) (omega arith))
 
 pub returns-in_default-clause-none : goal.returns-in_default-clause-none
 returns-in_default-clause-none c t r i e = let s = says_trail c.args.self.well_formed t r i e in grind arith

@@ -3,7 +3,8 @@ use Rattle.std.proofs.lemmas.List.{drop-take}
 use Rattle.std.specs.Option.{option_to_list}
 use Rattle.wtf8.specs.UnitPosition.{DividesPair}
 use Rattle.wtf8.proofs.lemmas.numbers.Readings.{no_points}
-use Rattle.wtf8.proofs.lemmas.strings.UnitCuts.{divides_behind, take_behind}
+use Rattle.wtf8.proofs.lemmas.strings.UnitCuts.{divides_behind}
+use Rattle.std.proofs.Math.Seq.{take-append-add}
 use Rattle.wtf8.proofs.strings.view.Wtf8.slice_units.Goals.{After-count_of}
 use Rattle.wtf8.proofs.strings.view.Wtf8.slice_units.Goals as goal
 
@@ -39,7 +40,7 @@ returns-clause-units c =
     let many : length half + n ≡ c.args.end - c.args.begin =
     omega (arith, short (goal.at.returns-clause-units c).After-count_of, c.count_of.ensures.count) in
     let whole : c.args.begin + (c.args.end - c.args.begin) ≡ c.args.end = omega (arith, c.requires.order) in
-    ap (λ v. half ++ v) c.first_units-lead.ensures.units ∙ (sym (take_behind half rest n) ∙ (ap (take (length half + n)) c.units_behind-trail.ensures.units
+    ap (λ v. half ++ v) c.first_units-lead.ensures.units ∙ (sym (take-append-add half rest n) ∙ (ap (take (length half + n)) c.units_behind-trail.ensures.units
     ∙ (ap (λ k. take k (drop c.args.begin u)) many ∙ (sym (drop-take c.args.begin (c.args.end - c.args.begin) u) ∙ ap (λ k. drop c.args.begin (take k u)) whole))))
 
 pub returns-clause-lead : goal.returns-clause-lead

@@ -1,4 +1,4 @@
-use Rattle.wtf8.proofs.Common.{◌<◌, rules, refl, inl, inr, sym, subst, arith, Some, peekable_steps, peekable_peeked, units_left, number, IsTrail}
+use Rattle.wtf8.proofs.Common.{◌<◌, rules, refl, inl, inr, sym, subst, arith, Some, peekable_steps, peekable_peeked, units_left, point_of, IsLead, IsTrail}
 use Rattle.std.proofs.Common.{true≢false}
 use Rattle.wtf8.proofs.lemmas.units_in.Decoding.{takes_one, takes_two, held_apart}
 use Rattle.wtf8.proofs.units_in.decode.DecodeUtf16Iterator.next.Goals as goal
@@ -9,12 +9,14 @@ returns-in-Some-clause-steps g c =
     let steps = g.I.Iterator.next_gives in
     let unit = c.in_ok-unit.unit in
     let trail = c.in-Some.trail in
+    let is_lead : IsLead unit = search rules in
+    let is_trail : IsTrail trail = search rules in
     let second : peekable_steps steps c.next.new.self (Some trail) c.next_if.new.self = (told.2.1, rw told.2.0 at told.1) in
     record {
-      kind = λ s. omega (arith, c.paired.ensures, s);
+      kind = (omega (arith, c.paired.ensures), λ s. omega (arith, c.paired.ensures, s));
       behind = c.next_if.new.self;
-      taken = takes_two steps (units_left c.args.self.now) c.next.new.self c.next_if.new.self unit trail (number c.paired.result) c.paired.ensures (search rules)
-          (search rules) c.in_ok-unit.ensures.steps second;
+      taken = takes_two steps (units_left c.args.self.now) c.next.new.self c.next_if.new.self unit trail c.paired.result c.paired.ensures is_lead is_trail
+          c.in_ok-unit.ensures.steps second;
       held = inl refl;
       lone = λ lead. absurd (omega (arith, c.paired.ensures, lead));
     }
@@ -24,34 +26,23 @@ returns-in-None-clause-steps g c =
     let told = c.in-None.ensures.cases in
     let unit = c.in_ok-unit.unit in
     record {
-      kind = (omega (arith, c.single.ensures), omega (arith, c.single.ensures));
+      kind = search rules;
       behind = c.next.new.self;
-      taken = takes_one g.I.Iterator.next_gives (units_left c.args.self.now) c.next.new.self unit (number c.single.result) c.single.ensures (omega arith) c.in_ok-unit.ensures.steps;
+      taken = takes_one g.I.Iterator.next_gives (units_left c.args.self.now) c.next.new.self unit unit refl (omega arith) c.in_ok-unit.ensures.steps;
       held = inr (told.0, told.1, told.2);
       lone = λ _. held_apart (peekable_peeked c.next_if.new.self) told.0 _ told.2 c.in-None.ensures.refused
           (λ u failed trail. true≢false (sym (failed.1.1 (subst IsTrail (sym failed.2) trail))));
-    }
-
-pub returns-in-56320-to-57343-clause-steps : goal.returns-in-56320-to-57343-clause-steps
-returns-in-56320-to-57343-clause-steps g c =
-    let unit = c.in_ok-unit.unit in
-    record {
-      kind = (omega (arith, c.single-in-56320-to-57343.ensures), omega (arith, c.single-in-56320-to-57343.ensures));
-      behind = c.next.new.self;
-      taken = takes_one g.I.Iterator.next_gives (units_left c.args.self.now) c.next.new.self unit (number c.single-in-56320-to-57343.result) c.single-in-56320-to-57343.ensures (omega arith) c.in_ok-unit.ensures.steps;
-      held = inl refl;
-      lone = λ lead. absurd (omega (arith, c.single-in-56320-to-57343.ensures, lead));
     }
 
 pub returns-in_default-clause-steps : goal.returns-in_default-clause-steps
 returns-in_default-clause-steps g c =
     let unit = c.in_ok-unit.unit in
     let range : unit < 0x10000 = search rules in
+    let point = c.alone.ensures.point in
     record {
-      kind = λ s. search (c.single-in_default.ensures, s, rules);
+      kind = c.alone.ensures.kind;
       behind = c.next.new.self;
-      taken =
-          takes_one g.I.Iterator.next_gives (units_left c.args.self.now) c.next.new.self unit (number c.single-in_default.result) c.single-in_default.ensures range c.in_ok-unit.ensures.steps;
+      taken = takes_one g.I.Iterator.next_gives (units_left c.args.self.now) c.next.new.self unit (point_of c.alone.result) point range c.in_ok-unit.ensures.steps;
       held = inl refl;
-      lone = λ lead. absurd (search rules);
+      lone = λ lead. absurd (search (rules, point, lead));
     }

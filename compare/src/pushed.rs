@@ -1,0 +1,87 @@
+//! Lists of scripts on a code point that is pushed behind others, and on strings of 6,000 units.
+
+use crate::generate::registers;
+use crate::long::{changed, on, string_in, BASES};
+use crate::script::{Call, Operand};
+
+/// Code points of each length, and surrogates at the ends of both kinds.
+const PUSHED: [u32; 10] = [
+    0x61, 0xE9, 0x20AC, 0xD7FF, 0xD800, 0xDBFF, 0xDC00, 0xDFFF, 0xE000, 0x1F4A9,
+];
+
+/// How many units the longest strings have here.
+const FAR: usize = 6000;
+
+fn string_of(base: &[u16], len: usize) -> Vec<u16> {
+    base.iter().copied().cycle().take(len).collect()
+}
+
+fn push(register: u8, value: u32) -> Call {
+    let operands = vec![Operand::Register(register), Operand::Value(value)];
+    Call::new("push", operands)
+}
+
+/// A code point pushed behind a string of every length up to 130, and a letter behind it: the string's text, the buffer as a
+/// text, and its lossy text.
+pub fn behind_each_length() -> Vec<Vec<Call>> {
+    let mut scripts = Vec::new();
+    for base in BASES {
+        for len in 0..=130 {
+            scripts.push(pushed_behind(&string_of(base, len)));
+        }
+    }
+    scripts
+}
+
+fn pushed_behind(units: &[u16]) -> Vec<Call> {
+    let mut calls = string_in(0, units);
+    for value in PUSHED {
+        for ends in ["into_string", "into_string_lossy"] {
+            calls.extend([registers("clone", 1, 0), push(1, value)]);
+            calls.extend(on(1, &["as_str", ends]));
+            calls.extend([registers("clone", 1, 0), push(1, value), push(1, 0x7A)]);
+            calls.extend(on(1, &[ends]));
+        }
+    }
+    calls
+}
+
+/// Strings of 6,000 units: with a surrogate or another unit at some places, joined in the middle of a pair, and looked at by
+/// both iterators with their hints.
+pub fn far() -> Vec<Vec<Call>> {
+    BASES.into_iter().map(|base| calls_far(&string_of(base, FAR))).collect()
+}
+
+fn calls_far(units: &[u16]) -> Vec<Call> {
+    let mut calls = string_in(0, units);
+    for place in [0, 2999, 4100, FAR - 1] {
+        for unit in [0x62, 0xD800, 0xDC00] {
+            calls.extend(string_in(1, &changed(units, &[(place, unit)])));
+            calls.extend(compared());
+            calls.extend(on(1, &["as_str", "to_string_lossy", "into_string"]));
+        }
+    }
+    let half = FAR / 2;
+    let whole = [&units[..half], &[0xD83D, 0xDCA9], &units[half..]].concat();
+    calls.extend(string_in(0, &whole));
+    calls.extend(string_in(2, &whole[half + 1..]));
+    calls.extend(string_in(1, &whole[..=half]));
+    calls.push(registers("push_wtf8", 1, 2));
+    calls.extend(compared());
+    // A hint before and behind each of some steps.
+    let steps: Vec<u8> = [1, 0].into_iter().cycle().take(40).chain([1, 6, 1, 5, 7]).collect();
+    for name in ["code_points", "to_ill_formed_utf16"] {
+        let operands = vec![Operand::Register(1), Operand::Steps(steps.clone())];
+        calls.push(Call::new(name, operands));
+    }
+    calls
+}
+
+fn compared() -> [Call; 4] {
+    [
+        registers("comparisons", 0, 1),
+        registers("comparisons", 1, 0),
+        registers("cmp_units", 0, 1),
+        registers("cmp_units", 1, 0),
+    ]
+}

@@ -1,0 +1,8 @@
+use Rattle.std.proofs.Common.{arith, rules}
+use Rattle.unit_text.specs.Marks.{AreKept}
+use Rattle.unit_text.proofs.marks.add_to_kept.Goals as goal
+
+pub returns-else-len-wanted : goal.returns-else-len-wanted
+returns-else-len-wanted g c =
+    let kept : AreKept c.args.text.now.bytes c.args.text.now.units c.in-Some.marks.kept.items = search rules in
+    record { kept = kept; all = λ granted apart n h. let enough = c.wanted.ensures.all apart n h in omega (arith, enough) }

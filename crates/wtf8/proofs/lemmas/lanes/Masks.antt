@@ -1,0 +1,98 @@
+-- Masks: the lowest bit is that of the first lane that is set, and what this says of the places that the lanes are of.
+use Rattle.wtf8.proofs.Common.{◌≡◌, ◌↔◌, ℕ, zero, suc, ◌+◌, ◌-◌, ◌/◌, ◌%◌, ◌^◌, ◌<◌, ◌≤◌, eqb, Bool, true, false, not, cond, Option, Some, None, List, [], ◌∷◌}
+use Rattle.wtf8.proofs.Common.{map, length, take, replicate, refl, sym, ap, ◌∙◌, subst, arith, both_ways, cases_Bool, eqb-true, inl, inr, mask_l-mod, mask_l, top, zip2}
+use Rattle.wtf8.proofs.Common.{Each1, Nowhere, IsLeast, not-false, tops_compared, length-zip2, w8}
+use Rattle.std.proofs.lemmas.Bool.{not-true}
+use Rattle.std.proofs.lemmas.List.{length-replicate, map-id}
+use Rattle.std.proofs.lemmas.List.Sums.{prefix_len_passes, prefix_len_stops}
+use Rattle.std.proofs.lemmas.Simd.{leading_from_mask_l, trailing_mask_l}
+use Rattle.std.specs.List.{prefix_len}
+use Rattle.std.specs.Option.{unwrap_or}
+use lib.Count.{count_trailing_zeros}
+use Rattle.wtf8.specs.private.FirstPlace.{IsFirstBelow, IsFirstSet, IsSet}
+use Rattle.wtf8.specs.private.UnitRows.{IsOfKind}
+
+-- where some bit is set, so is some lane
+some_set : (bs : List Bool) → 0 < mask_l bs → prefix_len (λ b. not b) bs < length bs
+some_set [] h = absurd (omega arith)
+some_set (true ∷ bs) h = omega arith
+some_set (false ∷ bs) h = omega (arith, some_set bs (omega arith))
+
+module _ (bits n : ℕ) (lanes : List Bool) (few : n ≤ 64) (long : length lanes ≡ n) (same : bits ≡ mask_l lanes % 2 ^ 64) where
+  whole : bits ≡ mask_l (map (λ b. b) lanes)
+  whole = same ∙ (mask_l-mod lanes 64 (omega (arith, long, few)) ∙ ap mask_l (sym (map-id lanes)))
+
+  unset : (k : ℕ) → k < prefix_len (λ b. not b) lanes → ¬ (IsSet lanes k)
+  unset k l t = both_ways _ (not-true _ (prefix_len_passes (λ b. not b) lanes k false l)) t
+
+  pub none_set : bits ≡ 0 → Nowhere (IsSet lanes) 0 n
+  none_set e k _ l = unset k (omega (arith, l, long, leading_from_mask_l (λ b. b) lanes (sym whole ∙ e)))
+
+  pub lowest_set : ¬ (bits ≡ 0) → IsLeast (IsSet lanes) 0 (count_trailing_zeros 64 bits) × (count_trailing_zeros 64 bits < n)
+  lowest_set e =
+      let some = some_set lanes (omega (arith, whole, ap mask_l (map-id lanes), e)) in
+      let counted = ap (count_trailing_zeros 64) whole ∙ trailing_mask_l (λ b. b) 64 lanes (omega (arith, long, few)) (omega (arith, whole, e)) in
+      subst (λ t. IsLeast (IsSet lanes) 0 t × (t < n)) (sym counted) (
+        record { not_before = omega arith; here = not-false _ (prefix_len_stops (λ b. not b) lanes false some); none_between = λ k _ l. unset k l },
+        omega (arith, some, long),
+      )
+
+-- lanes that are of the places from one on: the first lane with a property is of the first place with another one
+module _ (P Q : ℕ → Type 0) (i n : ℕ) (says : (k : ℕ) → k < n → P k ↔ Q (i + k)) where
+  pub none_there : (m : ℕ) → m ≤ n → Nowhere P 0 m → Nowhere Q i (i + m)
+  none_there m le none j low high q =
+      let place : i + (j - i) ≡ j = omega arith in
+      none (j - i) (omega arith) (omega arith) ((says (j - i) (omega arith)).1 (subst Q (sym place) q))
+
+  pub first_there : (k : ℕ) → IsLeast P 0 k × (k < n) → IsLeast Q i (i + k) × (i + k < i + n)
+  first_there k h = (
+    record { not_before = omega arith; here = (says k h.1).0 h.0.here; none_between = none_there k (omega (arith, h.1)) h.0.none_between },
+    omega (arith, h.1),
+  )
+
+-- the first lane with one of two properties that say the same
+pub same_first : (P Q : ℕ → Type 0) (n : ℕ) → ((k : ℕ) → k < n → P k ↔ Q k) → (r : Option ℕ) → IsFirstBelow P 0 n r → IsFirstBelow Q 0 n r
+same_first P Q n says None none = λ j low high q. none j low high ((says j high).1 q)
+same_first P Q n says (Some k) h = (
+  record {
+    not_before = h.0.not_before;
+    here = (says k h.1).0 h.0.here;
+    none_between = λ j low l q. h.0.none_between j low l ((says j (omega (arith, l, h.1))).1 q);
+  },
+  h.1,
+)
+
+-- the lanes that, divided by one number, are not another one
+abbrev pub kinds : ℕ → ℕ → List ℕ → List ℕ
+kinds d n xs = zip2 (λ a b. a / b) xs (replicate n d)
+
+abbrev pub others : ℕ → ℕ → ℕ → List ℕ → List Bool
+others d y n xs = zip2 (λ a b. not (eqb a b)) (kinds d n xs) (replicate n y)
+
+kind_before : (d y n m : ℕ) (xs : List ℕ) → length xs ≡ n → m ≤ n → Nowhere (IsSet (others d y n xs)) 0 m → Each1 (IsOfKind d y) (take m xs)
+kind_before d y n zero xs long le none = tt
+kind_before d y n (suc m) [] long le none = tt
+kind_before d y zero (suc m) (x ∷ xs) long le none = absurd (omega arith)
+kind_before d y (suc n) (suc m) (x ∷ xs) long le none = (
+  elim (cases_Bool (eqb (x / d) y)) [ inl t ↦ eqb-true (x / d) y t | inr f ↦ absurd (none 0 (omega arith) (omega arith) (rw f refl)) ],
+  kind_before d y n m xs (omega arith) (omega arith) (λ k _ l. none (suc k) (omega arith) (omega arith)),
+)
+
+-- how many lanes are of a kind
+pub record CountsKind (d y n : ℕ) (xs : List ℕ) (count : ℕ) : Type 0 where
+  pub within : count ≤ n
+  pub each : Each1 (IsOfKind d y) (take count xs)
+
+pub counts_kind : (d y n : ℕ) (xs : List ℕ) → n ≤ 64 → length xs ≡ n → (r : Option ℕ)
+    → IsFirstSet (mask_l (map (top 7) (zip2 (λ a b. cond (not (eqb a b)) 255 0) (kinds d n xs) (replicate n y))) % 2 ^ 64) r
+    → CountsKind d y n xs (unwrap_or r n)
+counts_kind d y n xs few long r first = by r (first n (others d y n xs) few lanes (ap (λ ms. mask_l ms % 2 ^ 64) (tops_compared w8 (λ a b. not (eqb a b)) (kinds d n xs) (replicate n y))))
+  where
+    lanes : length (others d y n xs) ≡ n
+    lanes =
+        let divided = length-zip2 (λ a b. a / b) xs (replicate n d) (long ∙ sym (length-replicate n d)) in
+        length-zip2 (λ a b. not (eqb a b)) (kinds d n xs) (replicate n y) (divided ∙ (long ∙ sym (length-replicate n y))) ∙ (divided ∙ long)
+
+    by : (r : Option ℕ) → IsFirstBelow (IsSet (others d y n xs)) 0 n r → CountsKind d y n xs (unwrap_or r n)
+    by None none = record { within = omega arith; each = kind_before d y n n xs long (omega arith) none }
+    by (Some k) h = record { within = omega (arith, h.1); each = kind_before d y n k xs long (omega (arith, h.1)) h.0.none_between }

@@ -1,7 +1,0 @@
--- For private functions: hexadecimal text with a space before each byte.
-use Rattle.std.specs.Prelude.{ℕ, List, ◌∷◌}
-use Rattle.wtf8.specs.Hex.{hex_of}
-
--- A byte as two digits behind a space.
-abbrev pub spaced : ℕ → List ℕ
-spaced b = 32 ∷ hex_of b

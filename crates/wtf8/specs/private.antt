@@ -1,0 +1,11 @@
+pub mod Decoding
+pub mod Differences
+pub mod FirstPlace
+pub mod Gains
+pub mod SpacedHex
+pub mod SurrogateSearch
+pub mod UnitCounts
+pub mod UnitParts
+pub mod UnitPieces
+pub mod UnitRows
+pub mod UnitSteps

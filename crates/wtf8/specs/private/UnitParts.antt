@@ -1,0 +1,50 @@
+-- Units that are turned into bytes part by part.
+use Rattle.std.specs.Prelude.{◌≡◌, ℕ, ◌-◌, ◌<◌, ◌≤◌, Bool, IsTrue, List, ◌++◌, length, take, drop}
+use lib.Lanes.{Each1}
+use Rattle.wtf8.specs.Form.{IsForm}
+use Rattle.wtf8.specs.Surrogates.{AreScalar}
+use Rattle.wtf8.specs.Unicode.{IsSurrogate}
+use Rattle.wtf8.specs.UnitPosition.{DividesPair}
+
+-- Bytes are the form of these units, and where the flag is set no surrogate is alone in them (Unicode 3.9, "Unicode scalar value").
+pub record IsKnownForm (w u : List ℕ) (known : Bool) : Type 0 where
+  pub form : IsForm w u
+  pub scalar : IsTrue known → AreScalar form.points
+
+-- The new bytes are the old ones with the form of these units behind them, as it is (WTF-8, "Converting between WTF-8 and potentially ill-formed UTF-16").
+pub record AppendsForm (old new u : List ℕ) (known : Bool) : Type 0 where
+  pub appended : List ℕ
+  pub behind : new ≡ old ++ appended
+  pub part : IsKnownForm appended u known
+
+-- No lead and trail stand on the two sides of this place (Unicode 3.8, "Surrogates").
+abbrev pub DividesNoPair : List ℕ → ℕ → Type 0
+DividesNoPair u n = ¬ (DividesPair u n)
+
+-- Each of the units is below 80: its own code point, and its own byte (Unicode 3.9, "UTF-8", Table 3-6).
+abbrev pub AreAscii : List ℕ → Type 0
+AreAscii u = Each1 (λ n. n < 0x80) u
+
+-- The bytes are the form of the units before a place, and no pair is divided there.
+pub record IsReadTo (w u : List ℕ) (at : ℕ) (known : Bool) : Type 0 where
+  pub within : at ≤ length u
+  pub apart : DividesNoPair u at
+  pub form : IsKnownForm w (take at u) known
+
+-- The new bytes are the old ones with the units between two places behind them, each of which is ASCII.
+pub record AppendsAscii (old new u : List ℕ) (at end : ℕ) : Type 0 where
+  pub order : at ≤ end
+  pub within : end ≤ length u
+  pub ascii : AreAscii (take (end - at) (drop at u))
+  pub behind : new ≡ old ++ take (end - at) (drop at u)
+
+-- The new bytes are the old ones with the form of the units between two places behind them, and no pair is divided at the second.
+pub record AppendsPart (old new u : List ℕ) (at end : ℕ) (known : Bool) : Type 0 where
+  pub order : at < end
+  pub within : end ≤ length u
+  pub apart : DividesNoPair u end
+  pub form : AppendsForm old new (take (end - at) (drop at u)) known
+
+-- Each of the units is a scalar value of its own number (Unicode 3.9, "Unicode scalar value").
+abbrev pub AreScalarUnits : List ℕ → Type 0
+AreScalarUnits u = Each1 (λ n. (n < 0x10000) × ¬ (IsSurrogate n)) u

@@ -1,0 +1,19 @@
+-- Code points that stand for themselves in JSON text.
+use Rattle.std.proofs.Common.{◌≡◌, ◌≢◌, ℕ, ◌≤◌, refl, ◌∙◌, arith}
+use Rattle.std.proofs.lemmas.Bool.Decides.{nat_tests}
+use Rattle.std.specs.Char.{encode_utf8}
+use Rattle.wtf8.specs.Form.{encoding}
+use Rattle.wtf8.specs.Unicode.{IsSurrogate}
+use Rattle.wtf8_uses.specs.Json.{json_point}
+
+same_bytes : (p : ℕ) → encoding p ≡ encode_utf8 p
+unfolding encoding encode_utf8
+same_bytes p = refl
+
+unescaped : (p : ℕ) → 0x20 ≤ p → p ≢ 0x22 → p ≢ 0x5C → ¬ (IsSurrogate p) → json_point p ≡ encoding p
+unfolding json_point
+unescaped p control quote backslash surrogate = grind (arith, nat_tests, control, quote, backslash, surrogate)
+
+-- no control character, quote, backslash or surrogate is escaped
+pub stands_itself : (p : ℕ) → 0x20 ≤ p → p ≢ 0x22 → p ≢ 0x5C → ¬ (IsSurrogate p) → json_point p ≡ encode_utf8 p
+stands_itself p control quote backslash surrogate = unescaped p control quote backslash surrogate ∙ same_bytes p

@@ -1,0 +1,26 @@
+//! Strings without regard to the case of ASCII letters.
+ghost use Rattle.std.specs.Char.{to_ascii_lowercase};
+ghost use Rattle.std.specs.Prelude.{◌≡◌, ◌↔◌, map, IsTrue};
+ghost use Rattle.wtf8.specs.View.{view_units};
+
+use wtf8::Wtf8;
+
+/// Whether two strings have the same units, where an ASCII letter is the same in both cases, as `eq_ignore_ascii_case` of
+/// Rust's `OsStr` answers. It makes no copy.
+pub fn eq_ignore_ascii_case(text: Wtf8<'_>, other: Wtf8<'_>) -> bool
+    ensures { IsTrue result ↔ (map to_ascii_lowercase (view_units text.entry) ≡ map to_ascii_lowercase (view_units other.entry)) }
+{
+    let units = text.to_ill_formed_utf16().map(lower_case);
+    let others = other.to_ill_formed_utf16().map(lower_case);
+    units.cmp(others).is_eq()
+}
+
+/// The small letter of an ASCII capital letter, and any other unit as it is.
+fn lower_case(unit: u16) -> u16
+    ensures { result ≡ to_ascii_lowercase unit }
+{
+    match unit {
+        0x41..=0x5A => unit + 0x20,
+        _ => unit,
+    }
+}

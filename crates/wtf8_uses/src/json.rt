@@ -1,0 +1,67 @@
+//! JSON text of strings that hold any units, as `JSON.stringify` of ECMAScript writes it.
+ghost use Rattle.std.specs.Prelude.{◌≡◌, ◌<◌, ◌++◌, IfOk, OnOk};
+ghost use Rattle.std.specs.String.{string_bytes};
+ghost use Rattle.wtf8.specs.CodePoint.{number};
+ghost use Rattle.wtf8.specs.View.{view_points};
+ghost use Rattle.wtf8_uses.specs.Json.{json, json_point, small_digit, unit_escape};
+
+use std::alloc::{AllocError, Allocator};
+use wtf8::{CodePoint, Wtf8};
+
+/// The JSON text of a string: its code points between double quotes. A double quote, a backslash, a control character below
+/// U+0020 and a surrogate, which is in no pair, are escaped, a surrogate as `\ud83d`; so each string has a text, and each its
+/// own. After a refusal nothing is left.
+pub fn json_text<A: Allocator>(alloc: A, text: Wtf8<'_>) -> Result<String<A>, AllocError>
+    ensures { IfOk result (λ t. string_bytes t ≡ json (view_points text.entry)) }
+{
+    let mut json = String::from_str(alloc, "\"")?;
+    for point in text.code_points() {
+        push_point(&mut json, point)?;
+    }
+    json.push_str("\"")?;
+    Ok(json)
+}
+
+/// Appends what stands for a code point in JSON text.
+#[tactic(auto, unfolding(crate::specs::Json::json_point))]
+fn push_point<A: Allocator>(json: &mut String<A>, point: CodePoint) -> Result<(), AllocError>
+    ensures { OnOk result (string_bytes json.new ≡ string_bytes json.old ++ json_point (number point)) }
+{
+    match point.to_u32() {
+        0x08 => json.push_str("\\b"),
+        0x09 => json.push_str("\\t"),
+        0x0A => json.push_str("\\n"),
+        0x0C => json.push_str("\\f"),
+        0x0D => json.push_str("\\r"),
+        0x22 => json.push_str("\\\""),
+        0x5C => json.push_str("\\\\"),
+        unit @ (0..=0x1F | 0xD800..=0xDFFF) => push_escape(json, unit),
+        _ => json.push(point.to_char_lossy()),
+    }
+}
+
+/// Appends the escape of a unit.
+fn push_escape<A: Allocator>(json: &mut String<A>, unit: u32) -> Result<(), AllocError>
+    requires { unit < 0x10000 }
+    ensures { OnOk result (string_bytes json.new ≡ string_bytes json.old ++ unit_escape unit) }
+{
+    json.push_str("\\u")?;
+    json.push(digit(unit / 0x1000))?;
+    json.push(digit(unit / 0x100 % 16))?;
+    json.push(digit(unit / 0x10 % 16))?;
+    json.push(digit(unit % 16))
+}
+
+/// The lower-case hexadecimal digit of a number.
+fn digit(value: u32) -> char
+    requires { value < 16 }
+    ensures value { result ≡ small_digit value }
+    ensures ascii { result < 0x80 }
+{
+    let value = value as u8;
+    if value < 10 {
+        char::from(b'0' + value)
+    } else {
+        char::from(b'a' + (value - 10))
+    }
+}
