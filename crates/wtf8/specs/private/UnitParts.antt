@@ -31,20 +31,6 @@ pub record IsReadTo (w u : List ℕ) (at : ℕ) (known : Bool) : Type 0 where
   pub apart : DividesNoPair u at
   pub form : IsKnownForm w (take at u) known
 
--- The new bytes are the old ones with the units between two places behind them, each of which is ASCII.
-pub record AppendsAscii (old new u : List ℕ) (at end : ℕ) : Type 0 where
-  pub order : at ≤ end
-  pub within : end ≤ length u
-  pub ascii : AreAscii (take (end - at) (drop at u))
-  pub behind : new ≡ old ++ take (end - at) (drop at u)
-
--- The new bytes are the old ones with the form of the units between two places behind them, and no pair is divided at the second.
-pub record AppendsPart (old new u : List ℕ) (at end : ℕ) (known : Bool) : Type 0 where
-  pub order : at < end
-  pub within : end ≤ length u
-  pub apart : DividesNoPair u end
-  pub form : AppendsForm old new (take (end - at) (drop at u)) known
-
 -- Each of the units is a scalar value of its own number (Unicode 3.9, "Unicode scalar value").
 abbrev pub AreScalarUnits : List ℕ → Type 0
 AreScalarUnits u = Each1 (λ n. (n < 0x10000) × ¬ (IsSurrogate n)) u

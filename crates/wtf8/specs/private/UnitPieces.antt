@@ -1,6 +1,6 @@
 -- What units add one after another, the last one, two or three of three bytes, each known by the unit and the one before it.
-use Rattle.std.specs.Prelude.{◌≡◌, ℕ, zero, suc, ◌+◌, ◌-◌, ◌*◌, ◌/◌, ◌%◌, ◌<◌, ◌≤◌, ◌↔◌, List, [], ◌∷◌, ◌++◌, map, take, drop, nat_lt, if◌then◌else◌, slice_index_or}
-use lib.Lanes.{zip2}
+use Rattle.std.specs.Prelude.{◌≡◌, ℕ, ◌+◌, ◌-◌, ◌*◌, ◌/◌, ◌%◌, ◌<◌, ◌≤◌, ◌↔◌, List, [], ◌∷◌, ◌++◌, map, take, drop, nat_lt, if◌then◌else◌, slice_index_or}
+use lib.Lanes.{Each2, zip2}
 use Rattle.wtf8.specs.Unicode.{IsLead, IsTrail}
 
 -- The three bytes of a unit that is no surrogate (Unicode 3.9, "UTF-8", Table 3-6): where it takes fewer, these are the last ones.
@@ -27,53 +27,39 @@ last_byte n =
     else if nat_lt n 0xDC00 then 0x80 + (n - 0xD7C0) / 4 % 64
     else own_last_byte n
 
--- How many bytes a unit adds, and a mark where these are three.
-abbrev pub byte_count : ℕ → ℕ
-byte_count n =
-    if nat_lt n 0x80 then 1
-    else if nat_lt n 0x800 then 2
-    else if nat_lt n 0xD800 then 3
-    else if nat_lt n 0xE000 then 2
-    else 3
+-- Whether a unit adds more than one byte, and whether three: 1 where it does.
+abbrev pub more_than_one : ℕ → ℕ
+more_than_one n = if nat_lt n 0x80 then 0 else 1
 
-abbrev pub long_mark : ℕ → ℕ
-long_mark n = byte_count n / 3 * 0x80
+abbrev pub are_three : ℕ → ℕ
+are_three n = if nat_lt n 0x800 then 0 else if nat_lt n 0xD800 then 1 else if nat_lt n 0xE000 then 0 else 1
+
+-- How many bytes a unit adds.
+abbrev pub byte_count : ℕ → ℕ
+byte_count n = 1 + more_than_one n + are_three n
 
 -- The second and the last bytes of units one behind the other, and marks for those of three.
 pub record AreBehind (u seconds lasts longs : List ℕ) : Type 0 where
   pub second : seconds ≡ zip2 second_byte (0 ∷ u) u
   pub last : lasts ≡ map last_byte u
-  pub long : longs ≡ map long_mark u
+  pub long : longs ≡ map (λ n. are_three n * 0x80) u
 
 -- What a unit adds behind another one.
 abbrev pub piece : ℕ → ℕ → List ℕ
 piece before n = drop (3 - byte_count n) (first_byte n ∷ second_byte before n ∷ last_byte n ∷ [])
 
--- What units add behind others.
-abbrev pub joined_pieces : List ℕ → List ℕ → List ℕ
-joined_pieces [] u = []
-joined_pieces (x ∷ before) [] = []
-joined_pieces (x ∷ before) (y ∷ u) = piece x y ++ joined_pieces before u
-
--- The unit of a number, and the one before it, 0 before the first.
-abbrev pub unit_of_number : List ℕ → ℕ → ℕ
-unit_of_number u i = slice_index_or u i 0
-
-abbrev pub unit_before : List ℕ → ℕ → ℕ
-unit_before u i = slice_index_or (0 ∷ u) i 0
-
--- What the first n units add.
+-- What units add behind another one.
 abbrev pub pieces : ℕ → List ℕ → List ℕ
-pieces zero u = []
-pieces (suc n) u = pieces n u ++ piece (unit_before u n) (unit_of_number u n)
+pieces before [] = []
+pieces before (n ∷ u) = piece before n ++ pieces n u
 
--- Each trail among the first n units stands behind a lead, and no lead of them before another unit of them (Unicode 3.8, "Surrogates").
-abbrev pub ArePaired : List ℕ → ℕ → Type 0
-ArePaired u n = (i : ℕ) → i < n → IsTrail (unit_of_number u i) ↔ IsLead (unit_before u i)
+-- Behind a unit each trail stands behind a lead, and each lead before a trail but at the end (Unicode 3.8, "Surrogates").
+abbrev pub ArePaired : ℕ → List ℕ → Type 0
+ArePaired before u = Each2 (λ b n. IsTrail n ↔ IsLead b) (before ∷ u) u
 
--- The three bytes of units behind others, the first ones before the second and these before the last.
-abbrev pub byte_lanes : List ℕ → List ℕ → List ℕ
-byte_lanes before u = map first_byte u ++ zip2 second_byte before u ++ map last_byte u
+-- The three bytes of units behind another one, the first ones before the second and these before the last.
+abbrev pub byte_lanes : ℕ → List ℕ → List ℕ
+byte_lanes before u = map first_byte u ++ zip2 second_byte (before ∷ u) u ++ map last_byte u
 
 -- Lengths from one to three of four units as a number: a bit for each above one, and four places higher for each of three.
 abbrev pub row_number : ℕ → ℕ → ℕ → ℕ → ℕ

@@ -1,10 +1,12 @@
 // Code units of all kinds side by side turned into bytes, eight together where no surrogate is alone among them: three bytes
 // of each are worked out in lanes, and a row of places picks those that are written.
-ghost use Rattle.std.specs.Prelude.{◌≡◌, ℕ, List, [], ◌∷◌, true, ◌+◌, ◌-◌, ◌*◌, ◌%◌, ◌/◌, ◌<◌, ◌≤◌, ◌++◌, length, map, take, drop, IfOk, IfSome, IfNone, IsTrue, nat_lt, if◌then◌else◌};
+#![tactic(auto, using(crate::proofs::lemmas::lanes::AsciiFronts::by_all))]
+
+ghost use Rattle.std.specs.Prelude.{◌≡◌, ℕ, List, ◌∷◌, true, Bool, ◌+◌, ◌-◌, ◌*◌, ◌%◌, ◌/◌, ◌^◌, ◌<◌, ◌≤◌, ◌++◌, length, map, take, drop, slice_index_or, IfOk, IfSome, IsTrue, nat_lt, if◌then◌else◌};
 ghost use lib.Lanes.{zip2};
 ghost use Rattle.wtf8.specs.Unicode.{IsLead};
-ghost use Rattle.wtf8.specs.private.UnitParts.{AppendsPart, AreScalarUnits, IsKnownForm};
-ghost use Rattle.wtf8.specs.private.UnitPieces.{first_byte, own_second_byte, second_byte, own_last_byte, last_byte, long_mark, byte_lanes, lengths_number, AreBehind, joined_pieces, pieces, unit_before, ArePaired};
+ghost use Rattle.wtf8.specs.private.UnitParts.{AreScalarUnits, IsReadTo};
+ghost use Rattle.wtf8.specs.private.UnitPieces.{first_byte, own_second_byte, second_byte, own_last_byte, last_byte, are_three, byte_lanes, lengths_number, AreBehind, pieces, ArePaired};
 
 use crate::numbers::surrogates::{FIRST_LEAD, FIRST_TRAIL, OF_A_KIND};
 use crate::units_in::rows;
@@ -13,9 +15,6 @@ use std::simd::prelude::*;
 
 /// How many units are turned into bytes together.
 const EIGHT: usize = 8;
-
-/// Room for the bytes of some blocks, and for what is written behind these.
-const ROOM: usize = 208;
 
 /// How many bytes a block needs before its last row is written.
 const SPARE: usize = 28;
@@ -49,16 +48,14 @@ fn are_scalar(units: u16x8) -> bool
 /// Whether each trail among eight units stands behind a lead, and no lead before another unit.
 #[inline(always)]
 fn are_paired(units: u16x8) -> bool
-    ensures { IsTrue result → ArePaired units EIGHT }
+    ensures { IsTrue result → ArePaired 0 units }
 {
-    let kinds = units / u16x8::splat(OF_A_KIND);
-    let leads = kinds
-        .simd_eq(u16x8::splat(FIRST_LEAD / OF_A_KIND))
-        .to_bitmask();
-    let trails = kinds
-        .simd_eq(u16x8::splat(FIRST_TRAIL / OF_A_KIND))
-        .to_bitmask();
-    leads % 0x80 * 2 == trails
+    let previous = units.shuffle(u16x8::splat(0), BY_ONE);
+    let behind_leads = (previous / u16x8::splat(OF_A_KIND)).simd_eq(u16x8::splat(
+        FIRST_LEAD / OF_A_KIND,
+    ));
+    let trails = (units / u16x8::splat(OF_A_KIND)).simd_eq(u16x8::splat(FIRST_TRAIL / OF_A_KIND));
+    (behind_leads ^ trails).to_bitmask() == 0
 }
 
 /// The first of three bytes of each of eight units.
@@ -126,7 +123,7 @@ fn last_bytes(units: u16x8) -> u16x8
 /// For each of eight units a mark unless it is below a number.
 #[inline(always)]
 fn marks(units: u16x8, number: u16) -> u16x8
-    ensures { result ≡ map (λ n. if nat_lt n number then 0 else 0x80) units }
+    ensures { result ≡ map (λ n. (if nat_lt n number then 0 else 1) * 0x80) units }
 {
     units
         .simd_lt(u16x8::splat(number))
@@ -136,7 +133,7 @@ fn marks(units: u16x8, number: u16) -> u16x8
 /// A mark for each of eight units of any kinds that takes three bytes.
 #[inline(always)]
 fn long_marks(units: u16x8) -> u16x8
-    ensures { result ≡ map long_mark units }
+    ensures { result ≡ map (λ n. are_three n * 0x80) units }
 {
     (units / u16x8::splat(2 * OF_A_KIND))
         .simd_eq(u16x8::splat(FIRST_LEAD / (2 * OF_A_KIND)))
@@ -170,8 +167,8 @@ fn behind(units: u16x8) -> Behind
 #[inline(always)]
 fn lanes(units: u16x8, behind: Behind) -> (u8x16, u8x16, u64)
     requires { AreBehind units behind.0 behind.1 behind.2 }
-    ensures front { take 12 result.0 ≡ byte_lanes (0 ∷ take 3 units) (take 4 units) }
-    ensures back { take 12 result.1 ≡ byte_lanes (take 4 (drop 3 units)) (drop 4 units) }
+    ensures front { take 12 result.0 ≡ byte_lanes 0 (take 4 units) }
+    ensures back { take 12 result.1 ≡ byte_lanes (slice_index_or units 3 0) (drop 4 units) }
     ensures lengths { result.2 ≡ lengths_number (take 4 units) + 256 * lengths_number (drop 4 units) }
 {
     let (second, last, long) = behind;
@@ -190,8 +187,8 @@ fn lanes(units: u16x8, behind: Behind) -> (u8x16, u8x16, u64)
 
 /// Writes sixteen bytes behind the first bytes of a block.
 #[inline(always)]
-fn store(bytes: u8x16, block: &mut [u8; ROOM], len: usize)
-    requires { len ≤ ROOM - 16 }
+fn store(bytes: u8x16, block: &mut [u8], len: usize)
+    requires { len + 16 ≤ length block.old }
     ensures { block.new ≡ take len block.old ++ (bytes ++ drop (len + 16) block.old) }
 {
     bytes.copy_to_slice(&mut block[len..]);
@@ -200,12 +197,12 @@ fn store(bytes: u8x16, block: &mut [u8; ROOM], len: usize)
 /// Writes the bytes of four units behind the first bytes of a block, from their lanes and the number of their lengths, and
 /// answers where these end.
 #[inline(always)]
-fn put(lanes: u8x16, number: usize, block: &mut [u8; ROOM], len: usize) -> usize
+fn put(lanes: u8x16, number: usize, block: &mut [u8], len: usize) -> usize
     requires number { number < 256 }
-    requires room { len ≤ ROOM - 16 }
+    requires room { len + 16 ≤ length block.old }
     ensures order { (len ≤ result) × (result ≤ len + 12) }
-    ensures bytes { (before u : List ℕ) → length before ≡ 4 → length u ≡ 4 → take 12 lanes ≡ byte_lanes before u → number ≡ lengths_number u
-        → take result block.new ≡ take len block.old ++ joined_pieces before u }
+    ensures bytes { (before : ℕ) (u : List ℕ) → length u ≡ 4 → take 12 lanes ≡ byte_lanes before u → number ≡ lengths_number u
+        → take result block.new ≡ take len block.old ++ pieces before u }
 {
     store(lanes.swizzle_dyn(rows::row(number)), block, len);
     len + rows::count(number)
@@ -213,11 +210,11 @@ fn put(lanes: u8x16, number: usize, block: &mut [u8; ROOM], len: usize) -> usize
 
 /// Writes what eight units add behind the first bytes of a block, and answers where it ends.
 #[inline(always)]
-fn put_eight(units: u16x8, behind: Behind, block: &mut [u8; ROOM], len: usize) -> usize
-    requires room { len ≤ ROOM - SPARE }
+fn put_eight(units: u16x8, behind: Behind, block: &mut [u8], len: usize) -> usize
+    requires room { len + SPARE ≤ length block.old }
     requires behind { AreBehind units behind.0 behind.1 behind.2 }
     ensures order { (len ≤ result) × (result ≤ len + 24) }
-    ensures bytes { take result block.new ≡ take len block.old ++ pieces EIGHT units }
+    ensures bytes { take result block.new ≡ take len block.old ++ pieces 0 units }
 {
     let (front, back, numbers) = lanes(units, behind);
     let numbers = numbers as usize;
@@ -228,14 +225,13 @@ fn put_eight(units: u16x8, behind: Behind, block: &mut [u8; ROOM], len: usize) -
 /// Writes the bytes of eight units, or of all but a lead at their end, behind the first bytes of a block, and answers how many
 /// units these are and where the bytes end. Units without a surrogate are written by less.
 #[inline(always)]
-fn write_block(units: &[u16; EIGHT], block: &mut [u8; ROOM], len: usize) -> (usize, usize)
-    requires room { len ≤ ROOM - SPARE }
-    requires paired { ArePaired units.now EIGHT }
+fn write_block(units: &[u16; EIGHT], block: &mut [u8], len: usize) -> (usize, usize)
+    requires room { len + SPARE ≤ length block.old }
+    requires paired { ArePaired 0 units.now }
     ensures taken { (0 < result.0) × (result.0 ≤ EIGHT) }
-    ensures within { result.1 ≤ ROOM }
-    ensures apart { ¬ (IsLead (unit_before units.now result.0)) }
-    ensures bytes { take result.1 block.new ≡ take len block.old ++ pieces result.0 units.now }
-    ensures form { IsKnownForm (pieces result.0 units.now) (take result.0 units.now) true }
+    ensures within { result.1 ≤ length block.new }
+    ensures apart { ¬ (IsLead (slice_index_or units.now (result.0 - 1) 0)) }
+    ensures bytes { take result.1 block.new ≡ take len block.old ++ pieces 0 (take result.0 units.now) }
 {
     let lanes = u16x8::from_array(*units);
     if are_scalar(lanes) {
@@ -253,7 +249,7 @@ fn write_block(units: &[u16; EIGHT], block: &mut [u8; ROOM], len: usize) -> (usi
 fn paired_units(v: &[u16], at: usize) -> Option<[u16; EIGHT]>
     requires { at ≤ length v.now }
     ensures within { IfSome result (λ _. at + EIGHT ≤ length v.now) }
-    ensures same { IfSome result (λ units. (units ≡ take EIGHT (drop at v.now)) × ArePaired units EIGHT) }
+    ensures same { IfSome result (λ units. (units ≡ take EIGHT (drop at v.now)) × ArePaired 0 units) }
 {
     let units = v[at..].first_chunk::<EIGHT>()?;
     let lanes = u16x8::from_array(*units);
@@ -266,15 +262,15 @@ fn paired_units(v: &[u16], at: usize) -> Option<[u16; EIGHT]>
 /// Writes the bytes of units from a place on to the front of a block, eight together as long as there are so many, no surrogate
 /// is alone among them and there is room for them, and answers where the units end and how many bytes these are.
 #[inline(always)]
-fn write_blocks(v: &[u16], at: usize, block: &mut [u8; ROOM]) -> (usize, usize)
+fn write_blocks(v: &[u16], at: usize, block: &mut [u8]) -> (usize, usize)
     requires { at ≤ length v.now }
     ensures order { at ≤ result.0 }
-    ensures within { result.1 ≤ ROOM }
-    ensures part { at < result.0 → AppendsPart [] (take result.1 block.new) v.now at result.0 true }
+    ensures within { result.1 ≤ length block.new }
+    ensures read { (w : List ℕ) (known : Bool) → IsReadTo w v.now at known → IsReadTo (w ++ take result.1 block.new) v.now result.0 known }
 {
     let mut end = at;
     let mut len = 0;
-    while len <= ROOM - SPARE
+    while SPARE <= block.len() - len
         && let Some(units) = paired_units(v, end)
     {
         let (taken, next) = write_block(&units, block, len);
@@ -285,22 +281,21 @@ fn write_blocks(v: &[u16], at: usize, block: &mut [u8; ROOM]) -> (usize, usize)
 }
 
 /// Appends the bytes of units from a place on, eight together as long as there are so many and no surrogate is alone among
-/// them, and answers where they end.
+/// them, by a block of so many bytes, and answers where they end.
 #[inline(always)]
-pub(crate) fn append<A: Allocator>(
+pub(crate) fn append<const ROOM: usize, A: Allocator>(
     bytes: &mut Vec<u8, A>,
     v: &[u16],
     at: usize,
-) -> Result<Option<(usize, bool)>, AllocError>
-    requires { at ≤ length v.now }
-    ensures none { IfOk result (λ part. IfNone part (bytes.new.items ≡ bytes.old.items)) }
-    ensures some { IfOk result (λ part. IfSome part (λ part. AppendsPart bytes.old.items bytes.new.items v.now at part.0 part.1)) }
+) -> Result<usize, AllocError>
+    requires room { ROOM < 2 ^ 16 }
+    requires within { at ≤ length v.now }
+    ensures order { IfOk result (λ end. at ≤ end) }
+    ensures read { IfOk result (λ end. (known : Bool) → IsReadTo bytes.old.items v.now at known → IsReadTo bytes.new.items v.now end known) }
 {
     let mut block = [0; ROOM];
-    let (end, len) = write_blocks(v, at, &mut block);
-    if end == at {
-        return Ok(None);
-    }
+    let block = &mut block[..];
+    let (end, len) = write_blocks(v, at, block);
     bytes.extend_from_slice(&block[..len])?;
-    Ok(Some((end, true)))
+    Ok(end)
 }

@@ -1,10 +1,9 @@
 // Code units turned into bytes by the kind of the first: the ASCII units at the front of 32, 16 or eight together with the
-// code point behind them, any others in mixed blocks or one after another.
-ghost use Rattle.std.specs.Prelude.{◌≡◌, ℕ, List, [], ◌+◌, ◌++◌, ◌-◌, ◌*◌, ◌%◌, ◌<◌, ◌≤◌, length, map, take, drop, IfOk, IfSome, IfNone, IsOk, IsTrue, OnOk};
-ghost use Rattle.wtf8.specs.private.UnitParts.{AppendsPart, IsKnownForm, IsReadTo, DividesNoPair, AreAscii};
+// code point behind them, others in mixed blocks or one by one.
+ghost use Rattle.std.specs.Prelude.{◌≡◌, ℕ, [], true, ◌+◌, ◌++◌, ◌%◌, ◌<◌, ◌≤◌, length, map, take, IfOk, IfSome, IsTrue, OnOk, IsOk};
+ghost use Rattle.wtf8.specs.private.UnitParts.{IsKnownForm, IsReadTo, AreAscii};
 
 use crate::numbers::encoding;
-use crate::numbers::surrogates::{FIRST_LEAD, FIRST_TRAIL, LAST_TRAIL};
 use crate::units_in::{NUMBERS, decode, mixed_blocks};
 use std::alloc::{AllocError, Allocator};
 use std::simd::prelude::*;
@@ -15,22 +14,8 @@ const MANY: usize = 2 * NUMBERS;
 /// The fewest units that are looked at together.
 const HALF: usize = NUMBERS / 2;
 
-/// How many units are read one after another before a block is looked at again.
-const PART: usize = 32;
-
-/// The `N` units from a place on, where there are so many.
-#[inline(always)]
-fn units_from<const N: usize>(v: &[u16], at: usize) -> Option<[u16; N]>
-    requires lanes { N ≤ u64.BITS }
-    requires within { at ≤ length v.now }
-    ensures within { IfSome result (λ _. at + N ≤ length v.now) }
-    ensures same { IfSome result (λ units. units ≡ take N (drop at v.now)) }
-{
-    if v.len() - at < N {
-        return None;
-    }
-    Some(Simd::<u16, N>::from_slice(&v[at..]).to_array())
-}
+/// How many bytes of units of other kinds are written before they are appended.
+const ROOM: usize = 208;
 
 /// Whether all of sixteen numbers are below 0x80.
 #[inline(always)]
@@ -58,28 +43,6 @@ pub(crate) fn ascii_bytes(numbers: u32x16) -> Option<[u8; NUMBERS]>
         return Some(narrowed(numbers));
     }
     None
-}
-
-/// Where a part of the units ends that begins at a place: no pair is divided there.
-#[inline(always)]
-fn end_of_part(v: &[u16], at: usize) -> usize
-    requires { at < length v.now }
-    ensures order { at < result }
-    ensures within { result ≤ length v.now }
-    ensures apart { DividesNoPair v.now result }
-{
-    if v.len() - at <= PART {
-        return v.len();
-    }
-    // Behind a trail that is alone a block may begin again.
-    if FIRST_TRAIL <= v[at] && v[at] <= LAST_TRAIL && v[at + 1] < FIRST_LEAD {
-        return at + 1;
-    }
-    let end = at + PART;
-    match v[end - 1] {
-        0xD800..=0xDBFF => end - 1,
-        _ => end,
-    }
 }
 
 /// How many of `N` units come before the first that is not ASCII.
@@ -121,144 +84,86 @@ fn append_cut<const N: usize, A: Allocator>(
     Ok(())
 }
 
-/// Appends the bytes of the code point at a place, and answers where it ends and whether it is a scalar value.
+/// Appends the bytes of the code point at a place up to which units were read, and answers how far they are read then, and
+/// whether no surrogate is alone among them.
 #[inline(always)]
 fn append_point<A: Allocator>(
     bytes: &mut Vec<u8, A>,
     v: &[u16],
     at: usize,
+    is_scalar: bool,
 ) -> Result<(usize, bool), AllocError>
-    requires { at < length v.now }
-    ensures { IfOk result (λ part. AppendsPart bytes.old.items bytes.new.items v.now at part.0 part.1) }
+    requires within { at < length v.now }
+    requires read { IsReadTo bytes.old.items v.now at is_scalar }
+    ensures order { IfOk result (λ to. at < to.0) }
+    ensures read { IfOk result (λ to. IsReadTo bytes.new.items v.now to.0 to.1) }
 {
-    let (code_point, end, is_scalar) = decode::read_point(v, at);
+    let (code_point, end, is_point_scalar) = decode::read_point(v, at);
     encoding::append(bytes, code_point)?;
-    Ok((end, is_scalar))
+    Ok((end, is_scalar & is_point_scalar))
 }
 
-/// Appends the ASCII units at the front of the `N` from a place on, where there are so many, and the bytes of the code
-/// point behind them where not all are ASCII, and answers where these end and whether no surrogate is alone among them.
+/// Appends the ASCII units at the front of the `N` from a place on up to which units were read, and the bytes of the code
+/// point behind them where not all are ASCII, and answers the same.
 #[inline(always)]
 fn append_front<const N: usize, A: Allocator>(
     bytes: &mut Vec<u8, A>,
     v: &[u16],
     at: usize,
-) -> Result<Option<(usize, bool)>, AllocError>
+    is_scalar: bool,
+) -> Result<(usize, bool), AllocError>
     requires lanes { (0 < N) × (N ≤ u64.BITS) }
-    requires within { at ≤ length v.now }
-    ensures none { IfOk result (λ part. IfNone part (bytes.new.items ≡ bytes.old.items)) }
-    ensures some { IfOk result (λ part. IfSome part (λ part. AppendsPart bytes.old.items bytes.new.items v.now at part.0 part.1)) }
+    requires within { at + N ≤ length v.now }
+    requires read { IsReadTo bytes.old.items v.now at is_scalar }
+    ensures order { IfOk result (λ to. at < to.0) }
+    ensures read { IfOk result (λ to. IsReadTo bytes.new.items v.now to.0 to.1) }
 {
-    let Some(units) = units_from::<N>(v, at) else {
-        return Ok(None);
-    };
-    let units = Simd::<u16, N>::from_array(units);
+    let units = Simd::<u16, N>::from_slice(&v[at..]);
     let count = count_ascii(units);
     append_cut(bytes, units, count)?;
     if count == N {
-        return Ok(Some((at + N, true)));
+        return Ok((at + N, is_scalar));
     }
-    Ok(Some(append_point(bytes, v, at + count)?))
+    append_point(bytes, v, at + count, is_scalar)
 }
 
-/// Appends the front of many units from a place on, where there are so many and the first is ASCII.
-#[inline(always)]
-fn append_many<A: Allocator>(
-    bytes: &mut Vec<u8, A>,
-    v: &[u16],
-    at: usize,
-) -> Result<Option<(usize, bool)>, AllocError>
-    requires { at ≤ length v.now }
-    ensures none { IfOk result (λ part. IfNone part (bytes.new.items ≡ bytes.old.items)) }
-    ensures some { IfOk result (λ part. IfSome part (λ part. AppendsPart bytes.old.items bytes.new.items v.now at part.0 part.1)) }
-{
-    if at == v.len() || 0x80 <= v[at] || v.len() - at < MANY {
-        return Ok(None);
-    }
-    append_front::<MANY, A>(bytes, v, at)
-}
-
-/// Appends the front of sixteen units from a place on or, where there are not so many, of half as many.
-#[inline(always)]
-fn append_few<A: Allocator>(
-    bytes: &mut Vec<u8, A>,
-    v: &[u16],
-    at: usize,
-) -> Result<Option<(usize, bool)>, AllocError>
-    requires { at ≤ length v.now }
-    ensures none { IfOk result (λ part. IfNone part (bytes.new.items ≡ bytes.old.items)) }
-    ensures some { IfOk result (λ part. IfSome part (λ part. AppendsPart bytes.old.items bytes.new.items v.now at part.0 part.1)) }
-{
-    if NUMBERS <= v.len() - at {
-        return append_front::<NUMBERS, A>(bytes, v, at);
-    }
-    append_front::<HALF, A>(bytes, v, at)
-}
-
-/// Appends the fronts of many units from a place on, one after another as long as the first of many is ASCII, or where
-/// there are not so many the front of fewer, and answers where they end and whether no surrogate is alone among them.
-#[inline(always)]
-fn append_fronts<A: Allocator>(
-    bytes: &mut Vec<u8, A>,
-    v: &[u16],
-    at: usize,
-) -> Result<Option<(usize, bool)>, AllocError>
-    requires { at ≤ length v.now }
-    ensures none { IfOk result (λ part. IfNone part (bytes.new.items ≡ bytes.old.items)) }
-    ensures some { IfOk result (λ part. IfSome part (λ part. AppendsPart bytes.old.items bytes.new.items v.now at part.0 part.1)) }
-{
-    let Some((mut end, mut is_scalar)) = append_many(bytes, v, at)? else {
-        return append_few(bytes, v, at);
-    };
-    while let Some((next, is_part_scalar)) = append_many(bytes, v, end)? {
-        is_scalar &= is_part_scalar;
-        end = next;
-    }
-    Ok(Some((end, is_scalar)))
-}
-
-/// Appends the bytes of some units from a place on one after another, and answers where they end and whether no surrogate is
-/// alone among them.
-#[inline(always)]
-fn append_singly<A: Allocator>(
-    bytes: &mut Vec<u8, A>,
-    v: &[u16],
-    at: usize,
-) -> Result<(usize, bool), AllocError>
-    requires { at < length v.now }
-    ensures { IfOk result (λ part. AppendsPart bytes.old.items bytes.new.items v.now at part.0 part.1) }
-{
-    let end = end_of_part(v, at);
-    let is_scalar = decode::append_one_by_one(bytes, &v[at..end])?;
-    Ok((end, is_scalar))
-}
-
-/// Appends the bytes of some units from a place on, together where that can be, and answers where they end and whether no
-/// surrogate is alone among them.
+/// Appends the bytes of some units from a place on up to which units were read, together where that can be, and answers the
+/// same.
 #[inline(always)]
 fn append_part<A: Allocator>(
     bytes: &mut Vec<u8, A>,
     v: &[u16],
     at: usize,
+    is_scalar: bool,
 ) -> Result<(usize, bool), AllocError>
-    requires { at < length v.now }
-    ensures { IfOk result (λ part. AppendsPart bytes.old.items bytes.new.items v.now at part.0 part.1) }
+    requires within { at < length v.now }
+    requires read { IsReadTo bytes.old.items v.now at is_scalar }
+    ensures order { IfOk result (λ to. at < to.0) }
+    ensures read { IfOk result (λ to. IsReadTo bytes.new.items v.now to.0 to.1) }
 {
-    if v.len() - at < HALF {
-        return append_singly(bytes, v, at);
+    let left = v.len() - at;
+    if left < HALF {
+        let is_rest_scalar = decode::append_one_by_one(bytes, &v[at..])?;
+        return Ok((v.len(), is_scalar & is_rest_scalar));
     }
-    let part = if v[at] < 0x80 {
-        append_fronts(bytes, v, at)?
-    } else if v[at + 1] < 0x80 || v[at + 2] < 0x80 {
-        // Behind a front of ASCII mostly more of it comes.
-        Some(append_point(bytes, v, at)?)
-    } else {
-        mixed_blocks::append(bytes, v, at)?
-    };
-    match part {
-        Some(part) => Ok(part),
-        None => append_singly(bytes, v, at),
+    if v[at] < 0x80 {
+        return if MANY <= left {
+            append_front::<MANY, A>(bytes, v, at, is_scalar)
+        } else if NUMBERS <= left {
+            append_front::<NUMBERS, A>(bytes, v, at, is_scalar)
+        } else {
+            append_front::<HALF, A>(bytes, v, at, is_scalar)
+        };
     }
+    // Behind a front of ASCII mostly more of it comes.
+    if v[at + 1] < 0x80 || v[at + 2] < 0x80 {
+        return append_point(bytes, v, at, is_scalar);
+    }
+    let end = mixed_blocks::append::<ROOM, A>(bytes, v, at)?;
+    if end == at {
+        return append_point(bytes, v, at, is_scalar);
+    }
+    Ok((end, is_scalar))
 }
 
 /// Appends the string of the units to a buffer without bytes, and answers whether it has no lone surrogate.
@@ -273,12 +178,7 @@ pub(crate) fn append_form<A: Allocator>(
     let mut at = 0;
     let mut is_scalar = true;
     while at < v.len() {
-        let (end, is_part_scalar) = append_part(bytes, v, at)?;
-        // A part mostly holds no lone surrogate, and the compiler then knows it.
-        if !is_part_scalar {
-            is_scalar = false;
-        }
-        at = end;
+        (at, is_scalar) = append_part(bytes, v, at, is_scalar)?;
     }
     Ok(is_scalar)
 }

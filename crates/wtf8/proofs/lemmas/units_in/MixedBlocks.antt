@@ -1,14 +1,18 @@
 -- Blocks of units of mixed kinds: three bytes of each in lanes, and those of them that a row of places picks.
 use Rattle.wtf8.proofs.Common.{◌≡◌, ℕ, suc, ◌+◌, ◌-◌, ◌*◌, ◌/◌, ◌%◌, ◌^◌, ◌<◌, ◌≤◌, List, [], ◌∷◌, ◌++◌, length, take, drop, get_or, map, replicate, zip2, Each1, cond, ltb, leb, eqb, top, Bool, true, false}
-use Rattle.wtf8.proofs.Common.{refl, sym, ap, ◌∙◌, arith, lt-ltb, le-ltb, subst, cases_lt, cases_Bool, inl, inr, Fits, append-nil, append_assoc, map-append, rules, mask_l-mod, eq-eqb, eqb-true, pick_l_whole, IsSurrogate}
+use Rattle.wtf8.proofs.Common.{length-append, false≢true, refl, sym, ap, ◌∙◌, arith, lt-ltb, le-ltb, subst, cases_lt, cases_Bool, inl, inr, Fits, append-nil, append_assoc, map-append, rules, mask_l-mod, eq-eqb, eqb-true, pick_l_whole, IsSurrogate}
 use lib.Lanes.{sel_l, pick_l, mask_l}
 use Rattle.std.specs.Int.{w8, w16}
-use Rattle.std.specs.Prelude.{nat_lt, if◌then◌else◌}
+use Rattle.std.specs.Prelude.{nat_lt, if◌then◌else◌, bit_xor, ◌↔◌}
 use Rattle.std.proofs.lemmas.List.{take-map, drop-map, get_or-take}
 use Rattle.std.proofs.lemmas.Simd.{swz_l, get_or-swz_l_below}
 use Rattle.wtf8.specs.private.UnitParts.{AreScalarUnits}
-use Rattle.wtf8.specs.private.UnitPieces.{first_byte, own_second_byte, second_byte, own_last_byte, last_byte, byte_count, long_mark, byte_lanes, row_number, lengths_number, places, IsLength}
-use Rattle.wtf8.specs.private.UnitPieces.{piece, pieces, joined_pieces}
+use Rattle.wtf8.specs.private.UnitPieces.{first_byte, own_second_byte, second_byte, own_last_byte, last_byte, more_than_one, are_three, byte_count, byte_lanes, row_number, lengths_number, places, IsLength}
+use Rattle.wtf8.specs.private.UnitPieces.{piece, pieces, ArePaired}
+use Rattle.wtf8.proofs.lemmas.units_in.Pieces.{piece_lead}
+use Rattle.wtf8.specs.Unicode.{IsLead, IsTrail}
+use Rattle.std.proofs.lemmas.List.{length-take-le, take-take}
+use Rattle.std.proofs.Math.Seq.{take-append_seam}
 
 -- Eight lanes written out, and each by a fact of it alone.
 
@@ -29,10 +33,6 @@ same_fit f g h (x ∷ u) e = λ i. h x e.0.fits i ∷ same_fit f g h u e.1 i
 each_map : (P : ℕ → Type 0) (f : ℕ → ℕ) → ((x : ℕ) → x < 0x10000 → P (f x)) → (u : List ℕ) → Each1 (Fits w16) u → Each1 P (map f u)
 each_map P f h [] e = tt
 each_map P f h (x ∷ u) e = (h x e.0.fits, each_map P f h u e.1)
-
-chosen : (t : Bool) (a b : ℕ) → cond (top 15 (cond t 0xFFFF 0)) a b ≡ cond t a b
-chosen true a b = refl
-chosen false a b = refl
 
 abbrev chosen_by : (ℕ → ℕ → Bool) → ℕ → List ℕ → List ℕ → List ℕ → List ℕ
 chosen_by f k u a b = sel_l (map (top 15) (zip2 (λ x y. cond (f x y) 0xFFFF 0) u (replicate 8 k))) a b
@@ -79,11 +79,14 @@ pub own_lasts_are : (u : List ℕ) → length u ≡ 8 → own_lasts u ≡ map ow
 own_lasts_are u l = of_eight (λ u. own_lasts u ≡ map own_last_byte u) u l (same_map (λ x. cond (top 15 (cond (ltb x 0x80) 0xFFFF 0)) x ((0x80 + x % 64) % 65536)) own_last_byte own_last_is (out u))
 
 abbrev mark : ℕ → ℕ → ℕ
-mark k n = if nat_lt n k then 0 else 0x80
+mark k n = (if nat_lt n k then 0 else 1) * 0x80
+
+mark_is : (k x : ℕ) → cond (top 15 (cond (ltb x k) 0xFFFF 0)) 0 0x80 ≡ mark k x
+mark_is k x = elim (cases_lt x k) [ inl l ↦ rw (lt-ltb x k l) refl | inr g ↦ rw (le-ltb x k g) refl ]
 
 pub marks_are : (k : ℕ) (u : List ℕ) → length u ≡ 8 → chosen_by ltb k u (replicate 8 0) (replicate 8 0x80) ≡ map (mark k) u
 marks_are k u l = of_eight (λ u. chosen_by ltb k u (replicate 8 0) (replicate 8 0x80) ≡ map (mark k) u) u l
-    (same_map (λ x. cond (top 15 (cond (ltb x k) 0xFFFF 0)) 0 0x80) (mark k) (λ x. chosen (ltb x k) 0 0x80) (out u))
+    (same_map (λ x. cond (top 15 (cond (ltb x k) 0xFFFF 0)) 0 0x80) (mark k) (mark_is k) (out u))
 
 -- The three bytes of units of any kinds.
 
@@ -142,17 +145,17 @@ pub lasts_are : (own u : List ℕ) → length u ≡ 8 → own ≡ map own_last_b
 lasts_are own u l e = rw e (of_eight (λ u. lasts (map own_last_byte u) u ≡ map last_byte u) u l
     (same_map (λ x. cond (top 15 (cond (eqb (x / 1024) 54) 0xFFFF 0)) (lead_last x) (own_last_byte x)) last_byte last_is (out u)))
 
+abbrev long_mark : ℕ → ℕ
+long_mark n = are_three n * 0x80
+
 long_is : (x : ℕ) → cond (top 15 (cond (eqb (x / 2048) 27) 0xFFFF 0)) 0 (mark 0x800 x) ≡ long_mark x
 long_is x = elim (cases_lt x 0x800) [
-  | inl l ↦ elim (cases_lt x 0x80) [
-    | inl k ↦ rw (other (x / 2048) 27 (λ e. omega (arith, e, l)), lt-ltb x 0x800 l, lt-ltb x 0x80 k) refl
-    | inr k ↦ rw (other (x / 2048) 27 (λ e. omega (arith, e, l)), lt-ltb x 0x800 l, le-ltb x 0x80 k) refl
-  ]
+  | inl l ↦ rw (other (x / 2048) 27 (λ e. omega (arith, e, l)), lt-ltb x 0x800 l) refl
   | inr g ↦ elim (cases_lt x 0xD800) [
-    | inl l ↦ rw (other (x / 2048) 27 (λ e. omega (arith, e, l)), le-ltb x 0x80 (omega (arith, g)), le-ltb x 0x800 g, lt-ltb x 0xD800 l) refl
+    | inl l ↦ rw (other (x / 2048) 27 (λ e. omega (arith, e, l)), le-ltb x 0x800 g, lt-ltb x 0xD800 l) refl
     | inr h ↦ elim (cases_lt x 0xE000) [
-      | inl l ↦ rw (eq-eqb (x / 2048) 27 (omega (arith, h, l)), le-ltb x 0x80 (omega (arith, g)), le-ltb x 0x800 g, le-ltb x 0xD800 h, lt-ltb x 0xE000 l) refl
-      | inr k ↦ rw (other (x / 2048) 27 (λ e. omega (arith, e, k)), le-ltb x 0x80 (omega (arith, g)), le-ltb x 0x800 g, le-ltb x 0xD800 h, le-ltb x 0xE000 k) refl
+      | inl l ↦ rw (eq-eqb (x / 2048) 27 (omega (arith, h, l)), le-ltb x 0x800 g, le-ltb x 0xD800 h, lt-ltb x 0xE000 l) refl
+      | inr k ↦ rw (other (x / 2048) 27 (λ e. omega (arith, e, k)), le-ltb x 0x800 g, le-ltb x 0xD800 h, le-ltb x 0xE000 k) refl
     ]
   ]
 ]
@@ -209,23 +212,21 @@ last_small x = elim (cases_lt x 0xD800) [
 pub lasts_fit : (P : ℕ → Type 0) → ((x : ℕ) → x < 256 → P x) → (u : List ℕ) → Each1 (Fits w16) u → Each1 P (map last_byte u)
 lasts_fit P h = each_map P last_byte (λ x _. h _ (last_small x))
 
-pub length_of : (n : ℕ) → IsLength (byte_count n)
-length_of n = elim (cases_lt n 0x80) [
-  | inl l ↦ rw (lt-ltb n 0x80 l) (omega arith, omega arith)
-  | inr g ↦ elim (cases_lt n 0x800) [
-    | inl l ↦ rw (le-ltb n 0x80 g, lt-ltb n 0x800 l) (omega arith, omega arith)
-    | inr h ↦ elim (cases_lt n 0xD800) [
-      | inl l ↦ rw (le-ltb n 0x80 g, le-ltb n 0x800 h, lt-ltb n 0xD800 l) (omega arith, omega arith)
-      | inr k ↦ elim (cases_lt n 0xE000) [
-        | inl l ↦ rw (le-ltb n 0x80 g, le-ltb n 0x800 h, le-ltb n 0xD800 k, lt-ltb n 0xE000 l) (omega arith, omega arith)
-        | inr m ↦ rw (le-ltb n 0x80 g, le-ltb n 0x800 h, le-ltb n 0xD800 k, le-ltb n 0xE000 m) (omega arith, omega arith)
-      ]
-    ]
-  ]
+-- a unit takes three bytes only where it takes more than one
+counts_of : (n : ℕ) → (are_three n ≤ more_than_one n) × (more_than_one n ≤ 1)
+counts_of n = elim (cases_lt n 0x800) [
+  | inl l ↦ rw (lt-ltb n 0x800 l) (elim (cases_lt n 0x80) [ inl k ↦ rw (lt-ltb n 0x80 k) (omega arith, omega arith) | inr k ↦ rw (le-ltb n 0x80 k) (omega arith, omega arith) ])
+  | inr g ↦ rw (le-ltb n 0x80 (omega (arith, g)), le-ltb n 0x800 g) (elim (cases_lt n 0xD800) [
+    | inl l ↦ rw (lt-ltb n 0xD800 l) (omega arith, omega arith)
+    | inr h ↦ rw (le-ltb n 0xD800 h) (elim (cases_lt n 0xE000) [ inl l ↦ rw (lt-ltb n 0xE000 l) (omega arith, omega arith) | inr l ↦ rw (le-ltb n 0xE000 l) (omega arith, omega arith) ])
+  ])
 ]
 
+pub length_of : (n : ℕ) → IsLength (byte_count n)
+length_of n = let counts = counts_of n in (omega arith, omega (arith, counts.0, counts.1))
+
 pub longs_fit : (P : ℕ → Type 0) → ((x : ℕ) → x < 256 → P x) → (u : List ℕ) → Each1 (Fits w16) u → Each1 P (map long_mark u)
-longs_fit P h = each_map P long_mark (λ x _. h _ (omega (arith, (length_of x).1)))
+longs_fit P h = each_map P long_mark (λ x _. let counts = counts_of x in h _ (omega (arith, counts.0, counts.1)))
 
 pub marks_fit : (P : ℕ → Type 0) → ((x : ℕ) → x < 256 → P x) → (k : ℕ) (u : List ℕ) → Each1 (Fits w16) u → Each1 P (map (mark k) u)
 marks_fit P h k = each_map P (mark k) (λ x _. elim (cases_lt x k) [ inl l ↦ rw (lt-ltb x k l) (h _ (omega arith)) | inr g ↦ rw (le-ltb x k g) (h _ (omega arith)) ])
@@ -237,16 +238,16 @@ abbrev part_of : List ℕ → List ℕ → List ℕ → List ℕ → List ℕ �
 part_of f s l js ks = pick_l 0 (f ++ bytes_of s) js ++ pick_l 0 (bytes_of l ++ bytes_of l) ks
 
 pub front_lanes : (u f s l : List ℕ) → length u ≡ 8 → f ≡ map first_byte u → s ≡ zip2 second_byte (0 ∷ u) u → l ≡ map last_byte u
-    → part_of f s l (0 ∷ 1 ∷ 2 ∷ 3 ∷ 8 ∷ 9 ∷ 10 ∷ 11 ∷ []) (0 ∷ 1 ∷ 2 ∷ 3 ∷ []) ≡ byte_lanes (0 ∷ take 3 u) (take 4 u)
+    → part_of f s l (0 ∷ 1 ∷ 2 ∷ 3 ∷ 8 ∷ 9 ∷ 10 ∷ 11 ∷ []) (0 ∷ 1 ∷ 2 ∷ 3 ∷ []) ≡ byte_lanes 0 (take 4 u)
 front_lanes u f s l long x y z =
     rw (x, y, z) (of_eight (λ u. part_of (map first_byte u) (zip2 second_byte (0 ∷ u) u) (map last_byte u) (0 ∷ 1 ∷ 2 ∷ 3 ∷ 8 ∷ 9 ∷ 10 ∷ 11 ∷ []) (0 ∷ 1 ∷ 2 ∷ 3 ∷ [])
-    ≡ byte_lanes (0 ∷ take 3 u) (take 4 u)) u long refl)
+    ≡ byte_lanes 0 (take 4 u)) u long refl)
 
 pub back_lanes : (u f s l : List ℕ) → length u ≡ 8 → f ≡ map first_byte u → s ≡ zip2 second_byte (0 ∷ u) u → l ≡ map last_byte u
-    → part_of f s l (4 ∷ 5 ∷ 6 ∷ 7 ∷ 12 ∷ 13 ∷ 14 ∷ 15 ∷ []) (4 ∷ 5 ∷ 6 ∷ 7 ∷ []) ≡ byte_lanes (take 4 (drop 3 u)) (drop 4 u)
+    → part_of f s l (4 ∷ 5 ∷ 6 ∷ 7 ∷ 12 ∷ 13 ∷ 14 ∷ 15 ∷ []) (4 ∷ 5 ∷ 6 ∷ 7 ∷ []) ≡ byte_lanes (get_or u 3 0) (drop 4 u)
 back_lanes u f s l long x y z =
     rw (x, y, z) (of_eight (λ u. part_of (map first_byte u) (zip2 second_byte (0 ∷ u) u) (map last_byte u) (4 ∷ 5 ∷ 6 ∷ 7 ∷ 12 ∷ 13 ∷ 14 ∷ 15 ∷ []) (4 ∷ 5 ∷ 6 ∷ 7 ∷ [])
-    ≡ byte_lanes (take 4 (drop 3 u)) (drop 4 u)) u long refl)
+    ≡ byte_lanes (get_or u 3 0) (drop 4 u)) u long refl)
 
 abbrev is_set : ℕ → Bool
 is_set y = top 7 (cond (leb 128 y) 255 0)
@@ -254,29 +255,18 @@ is_set y = top 7 (cond (leb 128 y) 255 0)
 abbrev all_set : List ℕ → List ℕ → List Bool
 all_set m n = map is_set (pick_l 0 (bytes_of m ++ bytes_of n) (0 ∷ 1 ∷ 2 ∷ 3 ∷ 8 ∷ 9 ∷ 10 ∷ 11 ∷ 4 ∷ 5 ∷ 6 ∷ 7 ∷ 12 ∷ 13 ∷ 14 ∷ 15 ∷ []))
 
-above_one : (n : ℕ) → cond (is_set (mark 0x80 n)) 1 0 ≡ byte_count n / 2
-above_one n = elim (cases_lt n 0x80) [
-  | inl l ↦ rw (lt-ltb n 0x80 l) refl
-  | inr g ↦
-      let many : byte_count n / 2 ≡ 1 = elim (cases_lt n 0x800) [
-        | inl l ↦ rw (le-ltb n 0x80 g, lt-ltb n 0x800 l) refl
-        | inr h ↦ elim (cases_lt n 0xD800) [
-          | inl l ↦ rw (le-ltb n 0x80 g, le-ltb n 0x800 h, lt-ltb n 0xD800 l) refl
-          | inr k ↦ elim (cases_lt n 0xE000) [
-            | inl l ↦ rw (le-ltb n 0x80 g, le-ltb n 0x800 h, le-ltb n 0xD800 k, lt-ltb n 0xE000 l) refl
-            | inr m ↦ rw (le-ltb n 0x80 g, le-ltb n 0x800 h, le-ltb n 0xD800 k, le-ltb n 0xE000 m) refl
-          ]
-        ]
-      ] in
-      let marked : mark 0x80 n ≡ 0x80 = rw (le-ltb n 0x80 g) refl in
-      ap (λ y. cond {A = ℕ} (is_set y) 1 0) marked ∙ sym many
+-- a mark is set for each of these
+set_for : (t : ℕ) → t ≤ 1 → cond (is_set (t * 0x80)) 1 0 ≡ t
+set_for t h = elim (cases_lt t 1) [
+  | inl l ↦ let none : t ≡ 0 = omega (arith, l) in ap (λ k. cond {A = ℕ} (is_set (k * 0x80)) 1 0) none ∙ sym none
+  | inr g ↦ let one : t ≡ 1 = omega (arith, g, h) in ap (λ k. cond {A = ℕ} (is_set (k * 0x80)) 1 0) one ∙ sym one
 ]
 
+above_one : (n : ℕ) → cond (is_set (mark 0x80 n)) 1 0 ≡ byte_count n / 2
+above_one n = let counts = counts_of n in set_for (more_than_one n) counts.1 ∙ omega (arith, counts.0, counts.1)
+
 above_two : (n : ℕ) → cond (is_set (long_mark n)) 1 0 ≡ byte_count n / 3
-above_two n = elim (cases_lt (byte_count n) 3) [
-  | inl l ↦ let none : byte_count n / 3 ≡ 0 = omega (arith, l) in ap (λ c. cond {A = ℕ} (is_set (c * 0x80)) 1 0) none ∙ sym none
-  | inr g ↦ let one : byte_count n / 3 ≡ 1 = omega (arith, g, (length_of n).1) in ap (λ c. cond {A = ℕ} (is_set (c * 0x80)) 1 0) one ∙ sym one
-]
+above_two n = let counts = counts_of n in set_for (are_three n) (omega (arith, counts.0, counts.1)) ∙ omega (arith, counts.0, counts.1)
 
 -- what sixteen lanes weigh, the lowest first
 abbrev weights : List ℕ → ℕ
@@ -336,39 +326,78 @@ one_picked : (xs : List ℕ) (k b n : ℕ) → get_or xs k 0 ≡ first_byte n �
 one_picked xs k b n x y z =
     sym (drop-map (λ j. get_or xs j 0) (3 - byte_count n) (k ∷ (4 + k) ∷ (8 + k) ∷ [])) ∙ ap (drop (3 - byte_count n)) (λ i. x i ∷ y i ∷ z i ∷ [])
 
-all_picked : (xs : List ℕ) (v w x y a b c d : ℕ) → take 12 xs ≡ byte_lanes (v ∷ w ∷ x ∷ y ∷ []) (a ∷ b ∷ c ∷ d ∷ [])
-    → map (λ j. get_or xs j 0) (places (byte_count a) 0 ++ places (byte_count b) 1 ++ places (byte_count c) 2 ++ places (byte_count d) 3)
-    ≡ joined_pieces (v ∷ w ∷ x ∷ y ∷ []) (a ∷ b ∷ c ∷ d ∷ [])
-all_picked xs v w x y a b c d e =
+all_picked : (xs : List ℕ) (v a b c d : ℕ) → take 12 xs ≡ byte_lanes v (a ∷ b ∷ c ∷ d ∷ [])
+    → map (λ j. get_or xs j 0) (places (byte_count a) 0 ++ places (byte_count b) 1 ++ places (byte_count c) 2 ++ places (byte_count d) 3) ≡ pieces v (a ∷ b ∷ c ∷ d ∷ [])
+all_picked xs v a b c d e =
     let from = λ (js : List ℕ). map (λ j. get_or xs j 0) js in
     let p = places (byte_count a) 0 in
     let q = places (byte_count b) 1 in
     let r = places (byte_count c) 2 in
     let s = places (byte_count d) 3 in
     let split : from (p ++ q ++ r ++ s) ≡ from p ++ from q ++ from r ++ from s = search (rules, map-append) in
-    let together : piece v a ++ piece w b ++ piece x c ++ piece y d ≡ joined_pieces (v ∷ w ∷ x ∷ y ∷ []) (a ∷ b ∷ c ∷ d ∷ []) = simp (append_assoc, append-nil) in
+    let together : piece v a ++ piece a b ++ piece b c ++ piece c d ≡ pieces v (a ∷ b ∷ c ∷ d ∷ []) = simp (append_assoc, append-nil) in
     split ∙ (λ i. one_picked xs 0 v a (lane 0 (omega arith)) (lane 4 (omega arith)) (lane 8 (omega arith)) i
-    ++ one_picked xs 1 w b (lane 1 (omega arith)) (lane 5 (omega arith)) (lane 9 (omega arith)) i
-    ++ one_picked xs 2 x c (lane 2 (omega arith)) (lane 6 (omega arith)) (lane 10 (omega arith)) i
-    ++ one_picked xs 3 y d (lane 3 (omega arith)) (lane 7 (omega arith)) (lane 11 (omega arith)) i) ∙ together
+    ++ one_picked xs 1 a b (lane 1 (omega arith)) (lane 5 (omega arith)) (lane 9 (omega arith)) i
+    ++ one_picked xs 2 b c (lane 2 (omega arith)) (lane 6 (omega arith)) (lane 10 (omega arith)) i
+    ++ one_picked xs 3 c d (lane 3 (omega arith)) (lane 7 (omega arith)) (lane 11 (omega arith)) i) ∙ together
   where
-    lane : (k : ℕ) → k < 12 → get_or xs k 0 ≡ get_or (byte_lanes (v ∷ w ∷ x ∷ y ∷ []) (a ∷ b ∷ c ∷ d ∷ [])) k 0
+    lane : (k : ℕ) → k < 12 → get_or xs k 0 ≡ get_or (byte_lanes v (a ∷ b ∷ c ∷ d ∷ [])) k 0
     lane k l = sym (get_or-take 12 xs k 0 l) ∙ ap (λ w. get_or w k 0) e
 
 abbrev four : List ℕ → List ℕ
 four u = pick_l 0 u (0 ∷ 1 ∷ 2 ∷ 3 ∷ [])
 
-pub picked : (xs row b u : List ℕ) → length row ≤ 16 → Each1 (λ j. j < 16) row → length b ≡ 4 → length u ≡ 4 → take 12 xs ≡ byte_lanes b u
+pub picked : (xs row : List ℕ) (b : ℕ) (u : List ℕ) → length row ≤ 16 → Each1 (λ j. j < 16) row → length u ≡ 4 → take 12 xs ≡ byte_lanes b u
     → let count = λ (k : ℕ). byte_count (get_or u k 0) in
     take (count 0 + count 1 + count 2 + count 3) row ≡ places (count 0) 0 ++ places (count 1) 1 ++ places (count 2) 2 ++ places (count 3) 3
-    → take (count 0 + count 1 + count 2 + count 3) (swz_l w8 16 xs 0 row) ≡ joined_pieces b u
-picked xs row b u short within before long lanes own =
+    → take (count 0 + count 1 + count 2 + count 3) (swz_l w8 16 xs 0 row) ≡ pieces b u
+picked xs row b u short within long lanes own =
     let n = byte_count (get_or u 0 0) + byte_count (get_or u 1 0) + byte_count (get_or u 2 0) + byte_count (get_or u 3 0) in
-    let bs : four b ≡ b = pick_l_whole 0 b 4 before in
     let us : four u ≡ u = pick_l_whole 0 u 4 long in
     ap (take n) (looked_up xs 0 row (omega (arith, short)) within) ∙ take-map (λ j. get_or xs j 0) n row ∙ ap (map (λ j. get_or xs j 0)) own
-    ∙ all_picked xs (get_or b 0 0) (get_or b 1 0) (get_or b 2 0) (get_or b 3 0) (get_or u 0 0) (get_or u 1 0) (get_or u 2 0) (get_or u 3 0) (lanes ∙ (λ i. byte_lanes (sym bs i) (sym us i)))
-    ∙ (λ i. joined_pieces (bs i) (us i))
+    ∙ all_picked xs b (get_or u 0 0) (get_or u 1 0) (get_or u 2 0) (get_or u 3 0) (lanes ∙ ap (byte_lanes b) (sym us)) ∙ ap (pieces b) us
 
-pub joined_halves : (u : List ℕ) → length u ≡ 8 → joined_pieces (0 ∷ take 3 u) (take 4 u) ++ joined_pieces (take 4 (drop 3 u)) (drop 4 u) ≡ pieces 8 u
-joined_halves u long = of_eight (λ u. joined_pieces (0 ∷ take 3 u) (take 4 u) ++ joined_pieces (take 4 (drop 3 u)) (drop 4 u) ≡ pieces 8 u) u long (simp (append_assoc, append-nil))
+pub joined_halves : (u : List ℕ) → length u ≡ 8 → pieces 0 (take 4 u) ++ pieces (get_or u 3 0) (drop 4 u) ≡ pieces 0 u
+joined_halves u long = of_eight (λ u. pieces 0 (take 4 u) ++ pieces (get_or u 3 0) (drop 4 u) ≡ pieces 0 u) u long (simp (append_assoc, append-nil))
+
+-- without the two bytes of a lead at their end the bytes are what the units before it add
+pub lead_dropped : (w kept u : List ℕ) (all : ℕ) → length u ≡ 8 → all ≤ length w → IsLead (get_or u 7 0) → take all w ≡ kept ++ pieces 0 u
+    → (2 ≤ all) × (take (all - 2) w ≡ kept ++ pieces 0 (take 7 u))
+lead_dropped w kept u all long within lead e =
+    let front = kept ++ pieces 0 (take 7 u) in
+    let last = piece (get_or u 6 0) (get_or u 7 0) in
+    let split : pieces 0 u ≡ pieces 0 (take 7 u) ++ last = of_eight (λ u. pieces 0 u ≡ pieces 0 (take 7 u) ++ piece (get_or u 6 0) (get_or u 7 0)) u long (simp (append_assoc, append-nil)) in
+    let whole : take all w ≡ front ++ last = e ∙ ap (λ p. kept ++ p) split ∙ sym (append_assoc kept (pieces 0 (take 7 u)) last) in
+    let two : length last ≡ 2 = ap length (piece_lead (get_or u 6 0) (get_or u 7 0) lead) in
+    let count : all ≡ length front + 2 = omega (arith, length-take-le all w within, ap length whole, length-append front last, two) in
+    let left : all - 2 ≡ length front = omega (arith, count) in
+    (omega (arith, count), sym (take-take (all - 2) all w (omega arith)) ∙ ap (take (all - 2)) whole ∙ ap (λ n. take n (front ++ last)) left ∙ take-append_seam front last)
+
+-- where no lane is set trails stand behind leads
+abbrev differ : ℕ → ℕ → Bool
+differ b x = top 15 (bit_xor (cond (eqb (b / 1024) 54) 0xFFFF 0) (cond (eqb (x / 1024) 55) 0xFFFF 0))
+
+unset_same : (s t : Bool) → top 15 (bit_xor (cond s 0xFFFF 0) (cond t 0xFFFF 0)) ≡ false → s ≡ t
+unset_same true true e = refl
+unset_same false false e = refl
+unset_same true false e = absurd (false≢true (sym e))
+unset_same false true e = absurd (false≢true (sym e))
+
+agreeing : (b x : ℕ) → eqb (b / 1024) 54 ≡ eqb (x / 1024) 55 → IsTrail x ↔ IsLead b
+agreeing b x same = (
+  (λ t. (let is = eqb-true (b / 1024) 54 (same ∙ eq-eqb (x / 1024) 55 (omega (arith, t))) in (omega (arith, is), omega (arith, is)))),
+  (λ l. (let is = eqb-true (x / 1024) 55 (sym same ∙ eq-eqb (b / 1024) 54 (omega (arith, l))) in (omega (arith, is), omega (arith, is)))),
+)
+
+unset_paired : (b : ℕ) (u : List ℕ) → mask_l (zip2 differ (b ∷ u) u) ≡ 0 → ArePaired b u
+unset_paired b [] e = tt
+unset_paired b (x ∷ u) e = elim (cases_Bool (differ b x)) [
+  | inl t ↦ absurd (omega (arith, rw t at e))
+  | inr f ↦ (agreeing b x (unset_same (eqb (b / 1024) 54) (eqb (x / 1024) 55) f), unset_paired x u (omega (arith, e)))
+]
+
+pub all_paired : (u : List ℕ) → length u ≡ 8
+    → mask_l (map (top 15) (zip2 bit_xor (zip2 (λ a b. cond (eqb a b) 0xFFFF 0) (by 1024 (pick_l 0 (u ++ replicate 8 0) (8 ∷ 0 ∷ 1 ∷ 2 ∷ 3 ∷ 4 ∷ 5 ∷ 6 ∷ []))) (replicate 8 54))
+    (zip2 (λ a b. cond (eqb a b) 0xFFFF 0) (by 1024 u) (replicate 8 55)))) % 2 ^ 64 ≡ 0 → ArePaired 0 u
+all_paired u l = of_eight (λ u. mask_l (map (top 15) (zip2 bit_xor (zip2 (λ a b. cond (eqb a b) 0xFFFF 0) (by 1024 (pick_l 0 (u ++ replicate 8 0) (8 ∷ 0 ∷ 1 ∷ 2 ∷ 3 ∷ 4 ∷ 5 ∷ 6 ∷ []))) (replicate 8 54))
+    (zip2 (λ a b. cond (eqb a b) 0xFFFF 0) (by 1024 u) (replicate 8 55)))) % 2 ^ 64 ≡ 0 → ArePaired 0 u) u l (λ e. unset_paired 0 (out u) (sym (mask_l-mod (zip2 differ (0 ∷ out u) (out u)) 64 (omega arith)) ∙ e))

@@ -1,20 +1,24 @@
 -- Blocks of units of mixed kinds: the piece of bytes that each unit gives, and pairs among them.
 use Rattle.wtf8.proofs.Common.{◌≡◌, ℕ, zero, suc, ◌+◌, ◌-◌, ◌*◌, ◌/◌, ◌%◌, ◌<◌, ◌≤◌, List, [], ◌∷◌, ◌++◌, length, take, get_or, length-append}
 use Rattle.wtf8.proofs.Common.{refl, sym, ap, ◌∙◌, arith, lt-ltb, le-ltb, subst, cases_lt, inl, inr, true, drop, append-nil, append_assoc, IsSurrogate, encoding}
-use Rattle.wtf8.proofs.Common.{IsKnownForm, DividesNoPair}
+use Rattle.wtf8.proofs.Common.{IsKnownForm, Fits, Each1, Bool, length-chunk}
+use Rattle.std.specs.Int.{w16}
 use Rattle.std.proofs.Math.Seq.{take-append-add, take-suc, take-append_seam}
-use Rattle.std.proofs.lemmas.List.{length-take-le, take-append-le, get_or-take, take-take}
-use Rattle.std.specs.Prelude.{⊤, ◌↔◌}
+use Rattle.std.proofs.lemmas.List.{length-take-le, take-append-le, get_or-take}
+use Rattle.std.proofs.lemmas.Simd.{Each1-from_get_or}
+use Rattle.std.proofs.Common.{get_or-drop, length-take}
+use Rattle.wtf8.specs.private.UnitParts.{IsReadTo}
+use Rattle.std.specs.Prelude.{◌⊎◌}
 use Rattle.wtf8.specs.Unicode.{IsLead, IsTrail, pair}
-use Rattle.wtf8.specs.private.UnitPieces.{piece, pieces, unit_before, ArePaired}
+use Rattle.wtf8.specs.private.UnitPieces.{piece, pieces, ArePaired}
 use Rattle.wtf8.proofs.lemmas.numbers.Encoding.{encoding_one, encoding_two, encoding_three, encoding_four, third_row}
-use Rattle.wtf8.proofs.lemmas.numbers.Readings.{no_trail, units_one, units_pair}
-use Rattle.wtf8.proofs.lemmas.units_in.Blocks.{known_behind, nothing_read, last_apart}
+use Rattle.wtf8.proofs.lemmas.numbers.Readings.{no_lead, units_one, units_pair}
+use Rattle.wtf8.proofs.lemmas.units_in.Blocks.{known_behind, nothing_read, scalars_read}
 
 -- What units add one after another: the rows of a piece.
 
 pub piece_one : (b x : ℕ) → x < 0x80 → piece b x ≡ x ∷ []
-piece_one b x h = rw (lt-ltb x 0x80 h, lt-ltb x 0xD800 (omega (arith, h))) refl
+piece_one b x h = rw (lt-ltb x 0x80 h, lt-ltb x 0x800 (omega (arith, h)), lt-ltb x 0xD800 (omega (arith, h))) refl
 
 pub piece_two : (b x : ℕ) → 0x80 ≤ x → x < 0x800 → piece b x ≡ (0xC0 + x / 64) ∷ (0x80 + x % 64) ∷ []
 piece_two b x l h =
@@ -40,17 +44,6 @@ pub wrote_part : (block row rest : List ℕ) (n l : ℕ) → n ≤ length block 
 wrote_part block row rest n l room h =
     let front : length (take n block) ≡ n = length-take-le n block room in
     ap (λ k. take (k + l) (take n block ++ (row ++ rest))) (sym front) ∙ take-append-add (take n block) (row ++ rest) l ∙ ap (λ v. take n block ++ v) (take-append-le l row rest h)
-
--- without the two bytes of a lead at their end the bytes are what the units before it add
-pub lead_dropped : (w kept u : List ℕ) (all : ℕ) → all ≤ length w → IsLead (get_or u 7 0) → take all w ≡ kept ++ pieces 8 u → (2 ≤ all) × (take (all - 2) w ≡ kept ++ pieces 7 u)
-lead_dropped w kept u all within lead e =
-    let front = kept ++ pieces 7 u in
-    let x = get_or u 7 0 in
-    let two = (0xF0 + (x - 0xD7C0) / 256) ∷ (0x80 + (x - 0xD7C0) / 4 % 64) ∷ [] in
-    let whole : take all w ≡ front ++ two = e ∙ ap (λ p. kept ++ (pieces 7 u ++ p)) (piece_lead (unit_before u 7) x lead) ∙ sym (append_assoc kept (pieces 7 u) two) in
-    let count : all ≡ length front + 2 = omega (arith, length-take-le all w within, ap length whole, length-append front two) in
-    let left : all - 2 ≡ length front = omega (arith, count) in
-    (omega (arith, count), sym (take-take (all - 2) all w (omega arith)) ∙ ap (take (all - 2)) whole ∙ ap (λ n. take n (front ++ two)) left ∙ take-append_seam front two)
 
 -- Units that are paired are read as scalar values, and what they add one after another are the bytes of these.
 
@@ -97,78 +90,55 @@ pair_form b l t k m = record {
   scalar = λ _. ((λ s. omega (arith, k, m, s.1)), tt);
 }
 
--- where a lead is the last of n units it is held back, and the units before it are read
-abbrev LeadHeld : ℕ → List ℕ → Type 0
-LeadHeld zero u = ⊤
-LeadHeld (suc m) u = IsLead (get_or u m 0) → IsKnownForm (pieces m u) (take m u) true
+own_first : (b x : ℕ) (u : List ℕ) → x < 0x10000 → ¬ (IsSurrogate x) → IsKnownForm (pieces x u) u true → IsKnownForm (pieces b (x ∷ u)) (x ∷ u) true
+own_first b x u h n more =
+    known_behind (piece b x) (pieces x u) (x ∷ []) u true true true (own_form b x h n) more (no_lead [] x (λ l. n (l.0, omega (arith, l.1)))) (λ t. (t, t))
 
-abbrev ReadSoFar : ℕ → List ℕ → Type 0
-ReadSoFar n u = (¬ (IsLead (unit_before u n)) → IsKnownForm (pieces n u) (take n u) true) × LeadHeld n u
+kind_of : (x : ℕ) → (¬ (IsSurrogate x)) ⊎ (IsLead x ⊎ IsTrail x)
+kind_of x = elim (cases_lt x 0xD800) [
+  | inl l ↦ inl (λ s. omega (arith, l, s.0))
+  | inr g ↦ elim (cases_lt x 0xE000) [
+    | inl l ↦ inr (elim (cases_lt x 0xDC00) [ inl h ↦ inl (g, omega (arith, h)) | inr h ↦ inr (h, omega (arith, l)) ])
+    | inr h ↦ inl (λ s. omega (arith, h, s.1))
+  ]
+]
 
--- a unit that is no surrogate behind units that are read
-more_own : (k : ℕ) (u : List ℕ) → k < length u → get_or u k 0 < 0x10000 → ¬ (IsSurrogate (get_or u k 0)) → IsKnownForm (pieces k u) (take k u) true
-    → IsKnownForm (pieces (suc k) u) (take (suc k) u) true
-more_own k u l h n known =
-    let x = get_or u k 0 in
-    let apart = no_trail x [] (λ t. n (omega (arith, t.0), t.1)) in
-    subst (λ v. IsKnownForm (pieces (suc k) u) v true) (sym (take-suc u k 0 l))
-    (known_behind (pieces k u) (piece (unit_before u k) x) (take k u) (x ∷ []) true true true known (own_form (unit_before u k) x h n) apart (λ t. (t, t)))
+-- units that are paired behind another one are read where neither it nor the last one is a lead
+pub paired_form : (b : ℕ) (u : List ℕ) → Each1 (Fits w16) u → ArePaired b u → ¬ (IsLead b) → ¬ (IsLead (get_or (b ∷ u) (length u) 0)) → IsKnownForm (pieces b u) u true
+paired_form b [] f p n last = nothing_read true refl
+paired_form b (x ∷ []) f p n last = elim (kind_of x) [
+  | inl o ↦ own_first b x [] f.0.fits o (nothing_read true refl)
+  | inr s ↦ elim s [ inl l ↦ absurd (last l) | inr t ↦ absurd (n (p.0.0 t)) ]
+]
+paired_form b (x ∷ y ∷ u) f p n last = elim (kind_of x) [
+  | inl o ↦ own_first b x (y ∷ u) f.0.fits o (paired_form x (y ∷ u) f.1 p.1 (λ l. o (l.0, omega (arith, l.1))) last)
+  | inr s ↦ elim s [
+    | inl l ↦
+        let t = p.1.0.1 l in
+        let apart : ¬ (IsLead y) = λ k. omega (arith, k.1, t.0) in
+        subst (λ w. IsKnownForm w (x ∷ y ∷ u) true) (append_assoc (piece b x) (piece x y) (pieces y u))
+        (known_behind (piece b x ++ piece x y) (pieces y u) (x ∷ y ∷ []) u true true true (pair_form b x y l t) (paired_form y u f.1.1 p.1.1 apart last) (no_lead (x ∷ []) y apart) (λ t. (t, t)))
+    | inr t ↦ absurd (n (p.0.0 t))
+  ]
+]
 
--- a trail behind the lead that was held back
-more_pair : (m : ℕ) (u : List ℕ) → suc m < length u → IsLead (get_or u m 0) → IsTrail (get_or u (suc m) 0) → IsKnownForm (pieces m u) (take m u) true
-    → IsKnownForm (pieces (suc (suc m)) u) (take (suc (suc m)) u) true
-more_pair m u l k t known =
-    let lead = get_or u m 0 in
-    let trail = get_or u (suc m) 0 in
-    let front = piece (unit_before u m) lead in
-    let apart = no_trail lead (trail ∷ []) (λ s. omega (arith, k.1, s.0)) in
-    let both = known_behind (pieces m u) (front ++ piece lead trail) (take m u) (lead ∷ trail ∷ []) true true true known
-    (pair_form (unit_before u m) lead trail k t) apart (λ s. (s, s)) in
-    let units_so : take (suc (suc m)) u ≡ take m u ++ (lead ∷ trail ∷ []) =
-    take-suc u (suc m) 0 l ∙ ap (λ v. v ++ trail ∷ []) (take-suc u m 0 (omega (arith, l))) ∙ append_assoc (take m u) (lead ∷ []) (trail ∷ []) in
-    subst (λ w. IsKnownForm w (take (suc (suc m)) u) true) (sym (append_assoc (pieces m u) front (piece lead trail)))
-    (subst (λ v. IsKnownForm (pieces m u ++ (front ++ piece lead trail)) v true) (sym units_so) both)
+paired_front : (b k : ℕ) (u : List ℕ) → ArePaired b u → ArePaired b (take k u)
+paired_front b zero u p = tt
+paired_front b (suc k) [] p = tt
+paired_front b (suc k) (x ∷ u) p = (p.0, paired_front x k u p.1)
 
--- the unit before is no lead where the next is no trail
-apart_before : (u : List ℕ) (k : ℕ) → IsTrail (get_or u k 0) ↔ IsLead (unit_before u k) → ¬ (IsTrail (get_or u k 0)) → ¬ (IsLead (unit_before u k))
-apart_before u k p n l = n (p.1 l)
-
-trail_read : (k : ℕ) (u : List ℕ) → k < length u → IsTrail (get_or u k 0) → IsLead (unit_before u k) → LeadHeld k u
-    → IsKnownForm (pieces (suc k) u) (take (suc k) u) true
-trail_read zero u l t b held = absurd (omega (arith, b.0))
-trail_read (suc m) u l t b held = more_pair m u l b t (held b)
-
-next_read : (k : ℕ) (u : List ℕ) → k < length u → get_or u k 0 < 0x10000 → IsTrail (get_or u k 0) ↔ IsLead (unit_before u k) → ReadSoFar k u → ReadSoFar (suc k) u
-next_read k u l h p r =
-    let x = get_or u k 0 in
-    elim (cases_lt x 0xD800) [
-      | inl a ↦ ((λ _. more_own k u l h (λ s. omega (arith, a, s.0)) (r.0 (apart_before u k p (λ t. omega (arith, a, t.0))))), λ s. absurd (omega (arith, a, s.0)))
-      | inr a ↦ elim (cases_lt x 0xDC00) [
-        | inl b ↦ ((λ n. absurd (n (a, omega (arith, b)))), λ _. r.0 (apart_before u k p (λ t. omega (arith, b, t.0))))
-        | inr b ↦ elim (cases_lt x 0xE000) [
-          | inl c ↦ ((λ _. trail_read k u l (b, omega (arith, c)) (p.0 (b, omega (arith, c))) r.1), λ s. absurd (omega (arith, b, s.1)))
-          | inr c ↦ ((λ _. more_own k u l h (λ s. omega (arith, c, s.1)) (r.0 (apart_before u k p (λ t. omega (arith, c, t.1))))), λ s. absurd (omega (arith, c, s.1)))
-        ]
-      ]
-    ]
-
-so_far : (n : ℕ) (u : List ℕ) → n ≤ length u → ((i : ℕ) → i < n → get_or u i 0 < 0x10000) → ArePaired u n → ReadSoFar n u
-so_far zero u l h p = ((λ _. nothing_read true refl), tt)
-so_far (suc k) u l h p =
-    next_read k u (omega (arith, l)) (h k (omega arith)) (p k (omega arith))
-    (so_far k u (omega (arith, l)) (λ i j. h i (omega (arith, j))) (λ i j. p i (omega (arith, j))))
-
--- paired units whose last one is no lead are read, and their pieces are their bytes
-pub paired_form : (n : ℕ) (u : List ℕ) → n ≤ length u → ((i : ℕ) → i < n → get_or u i 0 < 0x10000) → ArePaired u n → ¬ (IsLead (unit_before u n))
-    → IsKnownForm (pieces n u) (take n u) true
-paired_form n u l h p apart = (so_far n u l h p).0 apart
-
--- no pair is divided behind the first n of eight units whose last one is no lead
-pub taken_apart : (v : List ℕ) (at n : ℕ) → 0 < n → n ≤ 8 → at + 8 ≤ length v → ¬ (IsLead (unit_before (take 8 (drop at v)) n)) → DividesNoPair v (at + n)
-taken_apart v at zero few many within apart = absurd (omega (arith, few))
-taken_apart v at (suc k) few many within apart =
-    let next : k + 1 ≡ suc k = omega arith in
-    let long = get_or-take 8 (drop at v) k 0 (omega (arith, many)) in
-    let short = get_or-take (k + 1) (drop at v) k 0 (omega arith) in
-    subst (λ j. DividesNoPair v (at + j)) next
-    (last_apart v at k (omega (arith, within, many)) (λ l. apart (omega (arith, long, short, l.0), omega (arith, long, short, l.1))))
+-- the first k of eight paired units whose last one is no lead are read behind bytes of which some are kept
+pub pieces_read : (w kept : List ℕ) {bytes u units : List ℕ} {at : ℕ} {known : Bool} (k : ℕ) → IsReadTo (w ++ kept) u at known → (0 < k) × (k ≤ 8) → at + 8 ≤ length u
+    → (units ≡ take 8 (drop at u)) × ArePaired 0 units → ((i : ℕ) → Fits w16 (get_or u i 0)) → ¬ (IsLead (get_or units (k - 1) 0)) → bytes ≡ kept ++ pieces 0 (take k units)
+    → IsReadTo (w ++ bytes) u (at + k) known
+pieces_read w kept {u = u} {units = units} {at = at} k x few within same fits last e =
+    let eight = take 8 (drop at u) in
+    let own = take k eight in
+    let each = Each1-from_get_or (Fits w16) own 0 (λ i l. subst (Fits w16) (sym (get_or-take k eight i 0 (omega (arith, l, length-take k eight)) ∙ get_or-take 8 (drop at u) i 0 (omega (arith, l, length-take k eight, few.1)) ∙ get_or-drop at u i 0)) (fits (at + i))) in
+    let long : length own ≡ suc (k - 1) = omega (arith, few, length-take k eight, length-chunk at 8 u within) in
+    let no_lead : ¬ (IsLead (get_or eight (k - 1) 0)) = subst (λ v. ¬ (IsLead (get_or v (k - 1) 0))) same.0 last in
+    let no_last : ¬ (IsLead (get_or (0 ∷ own) (length own) 0)) =
+    subst (λ n. ¬ (IsLead (get_or (0 ∷ own) n 0))) (sym long) (subst (λ n. ¬ (IsLead n)) (sym (get_or-take k eight (k - 1) 0 (omega (arith, few)))) no_lead) in
+    let form = paired_form 0 own each (paired_front 0 k eight (subst (ArePaired 0) same.0 same.1)) (λ l. omega (arith, l.0)) no_last in
+    scalars_read k 8 x few.1 within (λ j i. let here : k - 1 ≡ j = omega (arith, i) in subst (λ j. ¬ (IsLead (get_or eight j 0))) here no_lead)
+    (ap (λ v. w ++ v) (e ∙ ap (λ v. kept ++ pieces 0 (take k v)) same.0) ∙ sym (append_assoc w kept (pieces 0 own))) form

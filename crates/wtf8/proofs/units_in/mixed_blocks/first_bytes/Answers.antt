@@ -1,10 +1,6 @@
 use Rattle.wtf8.proofs.Common.{arith}
-use Rattle.wtf8.proofs.lemmas.lanes.AsciiFronts.{each2_splat}
 use Rattle.wtf8.proofs.lemmas.units_in.MixedBlocks.{firsts_are, firsts_fit}
 use Rattle.wtf8.proofs.units_in.mixed_blocks.first_bytes.Goals as goal
-
-pub nonzero_div-high : goal.nonzero_div-high
-nonzero_div-high c = each2_splat _ 4096 (λ x. omega arith) 8 c.args.units c.fits-units.0
 
 pub overflow_cast-result : goal.overflow_cast-result
 overflow_cast-result c = firsts_fit _ (λ x h. omega (arith, h)) c.args.units c.fits-units.0 c.fits-units.1

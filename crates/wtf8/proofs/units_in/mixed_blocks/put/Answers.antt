@@ -9,7 +9,7 @@ pub swizzle : goal.swizzle
 swizzle c = SwzOk-from_below w8 16 1 16 0 c.row.result refl (omega arith) c.row.ensures.within
 
 pub returns-clause-bytes : goal.returns-clause-bytes
-returns-clause-bytes c before u short long lanes number =
+returns-clause-bytes c before u long lanes number =
     let count = λ (k : ℕ). byte_count (get_or u k 0) in
     let is = λ (k : ℕ). length_of (get_or u k 0) in
     let many = c.count.ensures.count (count 0) (count 1) (count 2) (count 3) (is 0) (is 1) (is 2) (is 3) number in
@@ -18,6 +18,6 @@ returns-clause-bytes c before u short long lanes number =
     let len = c.args.len in
     let bytes = swz_l w8 16 c.args.lanes 0 c.row.result in
     ap (take (len + c.count.result)) c.store.ensures
-    ∙ wrote_part block bytes (drop (len + 16) block) len c.count.result (omega (arith, c.requires.room, c.told-block)) (omega (arith, c.count.ensures.most, length-swz_l w8 16 c.args.lanes 0 c.row.result))
+    ∙ wrote_part block bytes (drop (len + 16) block) len c.count.result (omega (arith, c.requires.room)) (omega (arith, c.count.ensures.most, length-swz_l w8 16 c.args.lanes 0 c.row.result))
     ∙ ap (λ n. take len block ++ take n bytes) many
-    ∙ ap (λ w. take len block ++ w) (picked c.args.lanes c.row.result before u (omega arith) c.row.ensures.within short long lanes row)
+    ∙ ap (λ w. take len block ++ w) (picked c.args.lanes c.row.result before u (omega arith) c.row.ensures.within long lanes row)

@@ -1,5 +1,5 @@
-use Rattle.wtf8.proofs.Common.{◌≡◌, ◌/◌, ◌%◌, ◌++◌, ◌∙◌, ◌∷◌, ap, arith, take, drop, length-drop, append_assoc, length-take, length-chunk}
-use Rattle.wtf8.specs.private.UnitPieces.{lengths_number, joined_pieces}
+use Rattle.wtf8.proofs.Common.{◌≡◌, ◌/◌, ◌%◌, ◌++◌, ◌∙◌, ap, arith, take, drop, get_or, length-drop, append_assoc, length-take}
+use Rattle.wtf8.specs.private.UnitPieces.{lengths_number, pieces}
 use Rattle.wtf8.proofs.lemmas.units_in.MixedBlocks.{lengths_below, joined_halves}
 use Rattle.wtf8.proofs.units_in.mixed_blocks.put_eight.Goals as goal
 
@@ -16,9 +16,6 @@ returns-clause-bytes c =
     let first : numbers % 256 ≡ lengths_number front = omega (arith, c.lanes-numbers.ensures.lengths, lengths_below front) in
     let second : numbers / 256 ≡ lengths_number back = omega (arith, c.lanes-numbers.ensures.lengths, lengths_below front) in
     let kept = take c.args.len c.args.block.now in
-    let before = 0 ∷ take 3 units in
-    let middle = take 4 (drop 3 units) in
-    c.put.ensures.bytes middle back (length-chunk 3 4 units (omega (arith, long))) (omega (arith, long, length-drop 4 units)) c.lanes-numbers.ensures.back second
-    ∙ ap (λ w. w ++ joined_pieces middle back) (c.put-middle.ensures.bytes before front (omega (arith, long, length-take 3 units)) (omega (arith, long, length-take 4 units)) c.lanes-numbers.ensures.front first)
-    ∙ append_assoc kept (joined_pieces before front) (joined_pieces middle back)
-    ∙ ap (λ w. kept ++ w) (joined_halves units long)
+    c.put.ensures.bytes (get_or units 3 0) back (omega (arith, long, length-drop 4 units)) c.lanes-numbers.ensures.back second
+    ∙ ap (λ w. w ++ pieces (get_or units 3 0) back) (c.put-middle.ensures.bytes 0 front (omega (arith, long, length-take 4 units)) c.lanes-numbers.ensures.front first)
+    ∙ append_assoc kept (pieces 0 front) (pieces (get_or units 3 0) back) ∙ ap (λ w. kept ++ w) (joined_halves units long)

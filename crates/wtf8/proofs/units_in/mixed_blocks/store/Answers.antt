@@ -1,5 +1,4 @@
-use Rattle.wtf8.proofs.Common.{◌-◌, drop, arith, append-nil, length-drop, take_all, drop-drop}
-use Rattle.std.proofs.lemmas.List.{drop_all}
+use Rattle.wtf8.proofs.Common.{◌∙◌, ◌++◌, arith, ap, take, drop, drop-drop}
 use Rattle.std.proofs.lemmas.Simd.{put_chunk_is}
 use Rattle.wtf8.proofs.units_in.mixed_blocks.store.Goals as goal
 
@@ -7,12 +6,5 @@ pub returns : goal.returns
 returns c =
     let block = c.args.block.now in
     let len = c.args.len in
-    let long = length-drop len block in
-    rw (
-      take_all (208 - len) (drop len block) (omega arith),
-      put_chunk_is 0 (drop len block) c.args.bytes (omega (arith, c.fits-bytes.0)),
-      drop_all (208 - len) (drop len block) (omega arith),
-      append-nil,
-      c.fits-bytes.0,
-      drop-drop 16 len block,
-    )
+    put_chunk_is len block c.args.bytes (omega (arith, c.fits-bytes.0, c.requires))
+    ∙ ap (λ w. take len block ++ (c.args.bytes ++ w)) (ap (λ n. drop n (drop len block)) c.fits-bytes.0 ∙ drop-drop 16 len block)
