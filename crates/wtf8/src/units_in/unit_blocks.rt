@@ -1,6 +1,6 @@
 // Code units turned into bytes by the kind of the first: the ASCII units at the front of 32, 16 or eight together with the
 // code point behind them, others in mixed blocks or one by one.
-ghost use Rattle.std.specs.Prelude.{◌≡◌, ℕ, [], true, ◌+◌, ◌++◌, ◌%◌, ◌<◌, ◌≤◌, length, map, take, IfOk, IfSome, IsTrue, OnOk, IsOk};
+ghost use Rattle.std.specs.Prelude.{◌≡◌, ℕ, [], true, ◌+◌, ◌++◌, ◌%◌, ◌^◌, ◌<◌, ◌≤◌, length, map, take, IfOk, IfSome, IsTrue, OnOk, IsOk};
 ghost use Rattle.wtf8.specs.private.UnitParts.{IsKnownForm, IsReadTo, AreAscii};
 
 use crate::numbers::encoding;
@@ -15,7 +15,10 @@ const MANY: usize = 2 * NUMBERS;
 const HALF: usize = NUMBERS / 2;
 
 /// How many bytes of units of other kinds are written before they are appended.
-const ROOM: usize = 208;
+const LONG: usize = 256;
+
+/// How many where few units are left.
+const SHORT: usize = 80;
 
 /// Whether all of sixteen numbers are below 0x80.
 #[inline(always)]
@@ -67,23 +70,6 @@ fn low_bytes<const N: usize>(units: Simd<u16, N>) -> [u8; N]
     (units % Simd::splat(0x100)).cast::<u8>().to_array()
 }
 
-/// Appends the ASCII units at the front of `N`.
-#[inline(always)]
-fn append_cut<const N: usize, A: Allocator>(
-    bytes: &mut Vec<u8, A>,
-    units: Simd<u16, N>,
-    count: usize,
-) -> Result<(), AllocError>
-    requires within { count ≤ N }
-    requires ascii { AreAscii (take count units) }
-    ensures { OnOk result (bytes.new.items ≡ bytes.old.items ++ take count units.entry) }
-{
-    let end = bytes.len() + count;
-    bytes.extend_from_slice(&low_bytes(units))?;
-    bytes.truncate(end);
-    Ok(())
-}
-
 /// Appends the bytes of the code point at a place up to which units were read, and answers how far they are read then, and
 /// whether no surrogate is alone among them.
 #[inline(always)]
@@ -120,17 +106,49 @@ fn append_front<const N: usize, A: Allocator>(
 {
     let units = Simd::<u16, N>::from_slice(&v[at..]);
     let count = count_ascii(units);
-    append_cut(bytes, units, count)?;
+    let end = bytes.len() + count;
+    bytes.extend_from_slice(&low_bytes(units))?;
     if count == N {
         return Ok((at + N, is_scalar));
     }
+    bytes.truncate(end);
     append_point(bytes, v, at + count, is_scalar)
+}
+
+/// Appends the bytes of some units from a place on up to which units were read, where there are as many as are looked at
+/// for ASCII, others by a block of so many bytes, and answers the same.
+#[inline(always)]
+fn append_part<const FRONT: usize, const ROOM: usize, A: Allocator>(
+    bytes: &mut Vec<u8, A>,
+    v: &[u16],
+    at: usize,
+    is_scalar: bool,
+) -> Result<(usize, bool), AllocError>
+    requires lanes { (HALF ≤ FRONT) × (FRONT ≤ u64.BITS) }
+    requires room { ROOM < 2 ^ 16 }
+    requires within { at + FRONT ≤ length v.now }
+    requires read { IsReadTo bytes.old.items v.now at is_scalar }
+    ensures order { IfOk result (λ to. at < to.0) }
+    ensures read { IfOk result (λ to. IsReadTo bytes.new.items v.now to.0 to.1) }
+{
+    if v[at] < 0x80 {
+        return append_front::<FRONT, A>(bytes, v, at, is_scalar);
+    }
+    // Behind a front of ASCII mostly more of it comes.
+    if v[at + 1] < 0x80 || v[at + 2] < 0x80 {
+        return append_point(bytes, v, at, is_scalar);
+    }
+    let end = mixed_blocks::append::<ROOM, A>(bytes, v, at)?;
+    if end == at {
+        return append_point(bytes, v, at, is_scalar);
+    }
+    Ok((end, is_scalar))
 }
 
 /// Appends the bytes of some units from a place on up to which units were read, together where that can be, and answers the
 /// same.
 #[inline(always)]
-fn append_part<A: Allocator>(
+fn append_next<A: Allocator>(
     bytes: &mut Vec<u8, A>,
     v: &[u16],
     at: usize,
@@ -142,28 +160,17 @@ fn append_part<A: Allocator>(
     ensures read { IfOk result (λ to. IsReadTo bytes.new.items v.now to.0 to.1) }
 {
     let left = v.len() - at;
-    if left < HALF {
-        let is_rest_scalar = decode::append_one_by_one(bytes, &v[at..])?;
-        return Ok((v.len(), is_scalar & is_rest_scalar));
+    if MANY <= left {
+        return append_part::<MANY, LONG, A>(bytes, v, at, is_scalar);
     }
-    if v[at] < 0x80 {
-        return if MANY <= left {
-            append_front::<MANY, A>(bytes, v, at, is_scalar)
-        } else if NUMBERS <= left {
-            append_front::<NUMBERS, A>(bytes, v, at, is_scalar)
-        } else {
-            append_front::<HALF, A>(bytes, v, at, is_scalar)
-        };
+    if NUMBERS <= left {
+        return append_part::<NUMBERS, SHORT, A>(bytes, v, at, is_scalar);
     }
-    // Behind a front of ASCII mostly more of it comes.
-    if v[at + 1] < 0x80 || v[at + 2] < 0x80 {
-        return append_point(bytes, v, at, is_scalar);
+    if HALF <= left {
+        return append_part::<HALF, SHORT, A>(bytes, v, at, is_scalar);
     }
-    let end = mixed_blocks::append::<ROOM, A>(bytes, v, at)?;
-    if end == at {
-        return append_point(bytes, v, at, is_scalar);
-    }
-    Ok((end, is_scalar))
+    let is_rest_scalar = decode::append_one_by_one(bytes, &v[at..])?;
+    Ok((v.len(), is_scalar & is_rest_scalar))
 }
 
 /// Appends the string of the units to a buffer without bytes, and answers whether it has no lone surrogate.
@@ -178,7 +185,7 @@ pub(crate) fn append_form<A: Allocator>(
     let mut at = 0;
     let mut is_scalar = true;
     while at < v.len() {
-        (at, is_scalar) = append_part(bytes, v, at, is_scalar)?;
+        (at, is_scalar) = append_next(bytes, v, at, is_scalar)?;
     }
     Ok(is_scalar)
 }

@@ -1,10 +1,6 @@
 use Rattle.wtf8.proofs.Common.{subst}
 use Rattle.wtf8.specs.private.UnitParts.{IsReadTo}
-use Rattle.wtf8.proofs.lemmas.units_in.Blocks.{rest_read}
 use Rattle.wtf8.proofs.units_in.unit_blocks.append_part.Goals as goal
-
-pub returns-then-left-lt-HALF-clause-read : goal.returns-then-left-lt-HALF-clause-read
-returns-then-left-lt-HALF-clause-read g c = rest_read c.requires.read c.in_ok-is_rest_scalar.ensures.ok
 
 pub append_point-requires-then-end-at-clause-read : goal.append_point-requires-then-end-at-clause-read
 append_point-requires-then-end-at-clause-read g c =
