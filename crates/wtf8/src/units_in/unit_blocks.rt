@@ -169,8 +169,7 @@ fn append_next<A: Allocator>(
     if HALF <= left {
         return append_part::<HALF, SHORT, A>(bytes, v, at, is_scalar);
     }
-    let is_rest_scalar = decode::append_one_by_one(bytes, &v[at..])?;
-    Ok((v.len(), is_scalar & is_rest_scalar))
+    append_point(bytes, v, at, is_scalar)
 }
 
 /// Appends the string of the units to a buffer without bytes, and answers whether it has no lone surrogate.
