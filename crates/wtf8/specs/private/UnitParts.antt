@@ -11,12 +11,6 @@ pub record IsKnownForm (w u : List ℕ) (known : Bool) : Type 0 where
   pub form : IsForm w u
   pub scalar : IsTrue known → AreScalar form.points
 
--- The new bytes are the old ones with the form of these units behind them, as it is (WTF-8, "Converting between WTF-8 and potentially ill-formed UTF-16").
-pub record AppendsForm (old new u : List ℕ) (known : Bool) : Type 0 where
-  pub appended : List ℕ
-  pub behind : new ≡ old ++ appended
-  pub part : IsKnownForm appended u known
-
 -- No lead and trail stand on the two sides of this place (Unicode 3.8, "Surrogates").
 abbrev pub DividesNoPair : List ℕ → ℕ → Type 0
 DividesNoPair u n = ¬ (DividesPair u n)

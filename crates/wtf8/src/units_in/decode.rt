@@ -42,11 +42,11 @@ fn is_trail_unit(unit: &u16) -> bool
     surrogates::is_trail(u32::from(*unit))
 }
 
-/// The code point of a lone surrogate.
-fn lone(surrogate: u16) -> CodePoint
-    ensures { number result ≡ surrogate }
+/// The code point of a unit by itself.
+fn single(unit: u16) -> CodePoint
+    ensures { number result ≡ unit }
 {
-    CodePoint::from_u32_unchecked(u32::from(surrogate))
+    CodePoint::from_u32_unchecked(u32::from(unit))
 }
 
 /// The character of a unit that joins no other, or the unit where it is a surrogate.
@@ -103,6 +103,10 @@ pub(crate) fn read_point(v: &[u16], at: usize) -> (CodePoint, usize, bool)
     ensures reads { Reads (number result.0 ∷ []) (take (result.1 - at) (drop at v.now)) }
     ensures scalar { IsTrue result.2 → ¬ (IsSurrogate (number result.0)) }
 {
+    let unit = v[at];
+    if unit < 0x800 {
+        return (single(unit), at + 1, true);
+    }
     let Some(item) = decode_utf16(v[at..].iter().copied()).next() else {
         unreachable!()
     };
@@ -112,6 +116,6 @@ pub(crate) fn read_point(v: &[u16], at: usize) -> (CodePoint, usize, bool)
             at + character.len_utf16(),
             true,
         ),
-        Err(surrogate) => (lone(surrogate), at + 1, false),
+        Err(surrogate) => (single(surrogate), at + 1, false),
     }
 }

@@ -135,7 +135,7 @@ fn append_part<const FRONT: usize, const ROOM: usize, A: Allocator>(
         return append_front::<FRONT, A>(bytes, v, at, is_scalar);
     }
     // Behind a front of ASCII mostly more of it comes.
-    if v[at + 1] < 0x80 || v[at + 2] < 0x80 {
+    if v[at + 1] < 0x80 {
         return append_point(bytes, v, at, is_scalar);
     }
     let end = mixed_blocks::append::<ROOM, A>(bytes, v, at)?;
@@ -163,13 +163,13 @@ fn append_next<A: Allocator>(
     if MANY <= left {
         return append_part::<MANY, LONG, A>(bytes, v, at, is_scalar);
     }
+    if left < HALF {
+        return append_point(bytes, v, at, is_scalar);
+    }
     if NUMBERS <= left {
         return append_part::<NUMBERS, SHORT, A>(bytes, v, at, is_scalar);
     }
-    if HALF <= left {
-        return append_part::<HALF, SHORT, A>(bytes, v, at, is_scalar);
-    }
-    append_point(bytes, v, at, is_scalar)
+    append_part::<HALF, SHORT, A>(bytes, v, at, is_scalar)
 }
 
 /// Appends the string of the units to a buffer without bytes, and answers whether it has no lone surrogate.

@@ -12,7 +12,7 @@ use Rattle.std.proofs.lemmas.Bool.{leb-false, eqb-false}
 use Rattle.std.proofs.lemmas.List.{length-map, take-take, get_or-take, drop_all}
 use Rattle.std.proofs.lemmas.Simd.{zip2_splat, zip2_splat_left, bitmask_splat, map-map, Each1-get_or}
 use Rattle.wtf8.specs.Unicode.{IsLead}
-use Rattle.wtf8.specs.private.UnitParts.{AreScalarUnits, AppendsForm, IsReadTo}
+use Rattle.wtf8.specs.private.UnitParts.{AreScalarUnits, IsReadTo}
 use Rattle.wtf8.specs.declared.numbers.code_point.CodePoint.{CodePoint}
 use Rattle.wtf8.proofs.lemmas.numbers.Encoding.{encoding_one, bytes-append}
 use Rattle.wtf8.proofs.lemmas.numbers.Readings.{meets_by, no_lead, nothing_begins, units-cons_one}
@@ -90,7 +90,7 @@ pub nothing_read : {w : List ℕ} (known : Bool) → w ≡ [] → IsKnownForm w 
 nothing_read known e = record { form = record { points = []; reads = record { clean = tt; same_units = refl }; encoded = sym e }; scalar = λ _. tt }
 
 -- no pair is divided behind a unit that is no lead
-last_apart : (u : List ℕ) (j : ℕ) → j < length u → ¬ (IsLead (get_or u j 0)) → DividesNoPair u (suc j)
+pub last_apart : (u : List ℕ) (j : ℕ) → j < length u → ¬ (IsLead (get_or u j 0)) → DividesNoPair u (suc j)
 last_apart u j within n = subst (λ w. ¬ (MeetsAsPair w (drop (suc j) u))) (sym (take-suc u j 0 within)) (no_lead (take j u) (get_or u j 0) n)
 
 -- where a part meets what is before it, all that is behind does
@@ -120,12 +120,6 @@ part_read {w} {new} {u} {part} {at} {end} {known} {more} x order within apart be
       apart = apart;
       form = subst (λ z. IsKnownForm z (take end u) (known && more)) (sym behind) (subst (λ z. IsKnownForm (w ++ part) z (known && more)) (sym both) whole);
     }
-
--- all units that come next
-pub rest_read : {w new u : List ℕ} {at : ℕ} {known more : Bool} → IsReadTo w u at known → AppendsForm w new (take (length u - at) (drop at u)) more
-    → IsReadTo new u (length u) (known && more)
-rest_read {u = u} x rest =
-    part_read x x.within (omega arith) (subst (λ d. ¬ (MeetsAsPair (take (length u) u) d)) (sym (drop_all (length u) u (omega arith))) nothing_begins) rest.behind rest.part
 
 always : (known : Bool) → (known && true) ≡ known
 always true = refl

@@ -14,8 +14,9 @@ use Rattle.std.specs.declared.iter.Ahead.{Ahead}
 use Rattle.wtf8.specs.Unicode.{units_of}
 use Rattle.wtf8.specs.private.Decoding.{DecodesItem}
 use Rattle.wtf8.specs.declared.units_in.decode.DecodeUtf16.{DecodeUtf16}
+use Rattle.wtf8.proofs.lemmas.units_in.Blocks.{last_apart}
 use Rattle.wtf8.proofs.lemmas.numbers.Readings.{units_one, units_pair, no_lead, nothing_begins, no_trail as trail_apart}
-use Rattle.wtf8.proofs.Common.{◌≤◌, ◌/◌, ◌%◌, cases_lt, lt-ltb, le-ltb, append_assoc, length-append, length-drop, drop-drop, take-add, take_all, DividesNoPair, MeetsAsPair, copied_steps, iter_steps, iter_rest}
+use Rattle.wtf8.proofs.Common.{suc, ◌≤◌, ◌/◌, ◌%◌, cases_lt, lt-ltb, le-ltb, append_assoc, length-append, length-drop, drop-drop, take-add, take_all, DividesNoPair, MeetsAsPair, copied_steps, iter_steps, iter_rest}
 use Rattle.std.proofs.Math.Seq.{take-append_seam, drop-append_seam}
 use Rattle.std.specs.Prelude.{◌⊎◌}
 
@@ -210,4 +211,16 @@ first_read v at end s t x here rest none item count =
       within = omega (arith, count, here, length-drop at v, ap length whole, length-append us (left item.behind));
       apart = subst (λ c. ¬ (MeetsAsPair c (drop end v))) (sym before) (subst (λ d. ¬ (MeetsAsPair (take at v ++ us) d)) (sym back) apart);
       reads = record { clean = item_range steps x item.kind; same_units = append-nil us ∙ sym front ∙ ap (λ k. take k (drop at v)) counted };
+    }
+
+-- a unit that is its own code point and no lead
+pub one_read : (v : List ℕ) (at : ℕ) → at < length v → get_or v at 0 < 0xD800 → IsFirstRead v at (at + 1) (get_or v at 0)
+one_read v at l h =
+    let count : at + 1 - at ≡ 1 = omega arith in
+    let next : suc at ≡ at + 1 = omega arith in
+    let whole : take (at + 1 - at) (drop at v) ≡ get_or v at 0 ∷ [] = ap (λ k. take k (drop at v)) count ∙ ap (take 1) (drop_more v at 0 l) in
+    record {
+      within = omega (arith, l);
+      apart = subst (DividesNoPair v) next (last_apart v at l (λ k. omega (arith, h, k.0)));
+      reads = record { clean = omega (arith, h); same_units = append-nil _ ∙ (units_one (get_or v at 0) (omega (arith, h)) ∙ sym whole) };
     }

@@ -1,6 +1,6 @@
 use Rattle.wtf8.proofs.Common.{◌≡◌, ◌∙◌, ◌+◌, ◌-◌, refl, [], ◌∷◌, ap, arith, drop, iter_rest, length, sym, subst, take, number, point_of, units_left, Reads, units_of}
 use Rattle.std.specs.Iterator.Adapters.{copied_source}
-use Rattle.wtf8.proofs.lemmas.units_in.Decoding.{IsFirstRead, first_read, unit_count}
+use Rattle.wtf8.proofs.lemmas.units_in.Decoding.{IsFirstRead, first_read, one_read, unit_count}
 use Rattle.wtf8.proofs.units_in.decode.read_point.Goals as goal
 
 read_character : (c : goal.After-len_utf16) → IsFirstRead c.args.v.now c.args.at (c.args.at + c.len_utf16.result) (point_of c.in-Some.item)
@@ -19,7 +19,7 @@ returns-in-Ok-clause-apart c = (read_character c).apart
 pub returns-in-Ok-clause-reads : goal.returns-in-Ok-clause-reads
 returns-in-Ok-clause-reads c = subst (λ p. Reads (p ∷ []) (take (c.args.at + c.len_utf16.result - c.args.at) (drop c.args.at c.args.v.now))) (ap point_of c.in-Ok.is ∙ sym c.from_char.ensures) (read_character c).reads
 
-read_lone : (c : goal.After-lone) → IsFirstRead c.args.v.now c.args.at (c.args.at + 1) (point_of c.in-Some.item)
+read_lone : (c : goal.After-single-in-Err) → IsFirstRead c.args.v.now c.args.at (c.args.at + 1) (point_of c.in-Some.item)
 read_lone c =
     let many = unit_count c.in-Err.surrogate 1 (λ _. refl) (λ g. omega (arith, g)) ∙ ap (λ x. length (units_of (point_of x))) (sym c.in-Err.is) in
     let rest = ap (λ s. iter_rest (copied_source s)) c.decode_utf16.ensures.source ∙ ap iter_rest c.copied.ensures.source ∙ c.iter.ensures.rest in
@@ -30,4 +30,8 @@ pub returns-in-Err-clause-apart : goal.returns-in-Err-clause-apart
 returns-in-Err-clause-apart c = (read_lone c).apart
 
 pub returns-in-Err-clause-reads : goal.returns-in-Err-clause-reads
-returns-in-Err-clause-reads c = subst (λ p. Reads (p ∷ []) (take (c.args.at + 1 - c.args.at) (drop c.args.at c.args.v.now))) (ap point_of c.in-Err.is ∙ sym c.lone.ensures) (read_lone c).reads
+returns-in-Err-clause-reads c = subst (λ p. Reads (p ∷ []) (take (c.args.at + 1 - c.args.at) (drop c.args.at c.args.v.now))) (ap point_of c.in-Err.is ∙ sym c.single-in-Err.ensures) (read_lone c).reads
+
+pub returns-then-unit-lt2048-clause-reads : goal.returns-then-unit-lt2048-clause-reads
+returns-then-unit-lt2048-clause-reads c =
+    subst (λ p. Reads (p ∷ []) (take (c.args.at + 1 - c.args.at) (drop c.args.at c.args.v.now))) (sym c.single.ensures) (one_read c.args.v.now c.args.at c.requires (omega (arith, c.if-unit-lt2048.true))).reads
