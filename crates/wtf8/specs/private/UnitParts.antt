@@ -1,5 +1,5 @@
 -- Units that are turned into bytes part by part.
-use Rattle.std.specs.Prelude.{◌≡◌, ℕ, ◌-◌, ◌<◌, ◌≤◌, Bool, IsTrue, List, ◌++◌, length, take, drop}
+use Rattle.std.specs.Prelude.{ℕ, ◌<◌, ◌≤◌, Bool, IsTrue, List, length, take}
 use lib.Lanes.{Each1}
 use Rattle.wtf8.specs.Form.{IsForm}
 use Rattle.wtf8.specs.Surrogates.{AreScalar}

@@ -1,5 +1,5 @@
 -- What units add one after another, the last one, two or three of three bytes, each known by the unit and the one before it.
-use Rattle.std.specs.Prelude.{◌≡◌, ℕ, ◌+◌, ◌-◌, ◌*◌, ◌/◌, ◌%◌, ◌<◌, ◌≤◌, ◌↔◌, List, [], ◌∷◌, ◌++◌, map, take, drop, nat_lt, if◌then◌else◌, slice_index_or}
+use Rattle.std.specs.Prelude.{◌≡◌, ℕ, ◌+◌, ◌-◌, ◌*◌, ◌/◌, ◌%◌, ◌≤◌, ◌↔◌, List, [], ◌∷◌, ◌++◌, map, take, drop, nat_lt, if◌then◌else◌, slice_index_or}
 use lib.Lanes.{Each2, zip2}
 use Rattle.wtf8.specs.Unicode.{IsLead, IsTrail}
 

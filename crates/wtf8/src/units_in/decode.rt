@@ -104,7 +104,7 @@ pub(crate) fn read_point(v: &[u16], at: usize) -> (CodePoint, usize, bool)
     ensures scalar { IsTrue result.2 → ¬ (IsSurrogate (number result.0)) }
 {
     let unit = v[at];
-    if unit < 0x800 {
+    if unit < FIRST_LEAD {
         return (single(unit), at + 1, true);
     }
     let Some(item) = decode_utf16(v[at..].iter().copied()).next() else {

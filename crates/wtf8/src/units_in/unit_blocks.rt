@@ -135,7 +135,7 @@ fn append_part<const FRONT: usize, const ROOM: usize, A: Allocator>(
         return append_front::<FRONT, A>(bytes, v, at, is_scalar);
     }
     // Behind a front of ASCII mostly more of it comes.
-    if v[at + 1] < 0x80 {
+    if v[at + 1] < 0x80 || v[at + 2] < 0x80 {
         return append_point(bytes, v, at, is_scalar);
     }
     let end = mixed_blocks::append::<ROOM, A>(bytes, v, at)?;

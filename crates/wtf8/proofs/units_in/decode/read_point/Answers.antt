@@ -1,4 +1,4 @@
-use Rattle.wtf8.proofs.Common.{◌≡◌, ◌∙◌, ◌+◌, ◌-◌, refl, [], ◌∷◌, ap, arith, drop, iter_rest, length, sym, subst, take, number, point_of, units_left, Reads, units_of}
+use Rattle.wtf8.proofs.Common.{◌∙◌, ◌+◌, ◌-◌, refl, [], ◌∷◌, ap, arith, drop, iter_rest, length, sym, subst, take, point_of, units_left, Reads, units_of}
 use Rattle.std.specs.Iterator.Adapters.{copied_source}
 use Rattle.wtf8.proofs.lemmas.units_in.Decoding.{IsFirstRead, first_read, one_read, unit_count}
 use Rattle.wtf8.proofs.units_in.decode.read_point.Goals as goal
@@ -32,6 +32,6 @@ returns-in-Err-clause-apart c = (read_lone c).apart
 pub returns-in-Err-clause-reads : goal.returns-in-Err-clause-reads
 returns-in-Err-clause-reads c = subst (λ p. Reads (p ∷ []) (take (c.args.at + 1 - c.args.at) (drop c.args.at c.args.v.now))) (ap point_of c.in-Err.is ∙ sym c.single-in-Err.ensures) (read_lone c).reads
 
-pub returns-then-unit-lt2048-clause-reads : goal.returns-then-unit-lt2048-clause-reads
-returns-then-unit-lt2048-clause-reads c =
-    subst (λ p. Reads (p ∷ []) (take (c.args.at + 1 - c.args.at) (drop c.args.at c.args.v.now))) (sym c.single.ensures) (one_read c.args.v.now c.args.at c.requires (omega (arith, c.if-unit-lt2048.true))).reads
+pub returns-then-unit-lt-FIRST_LEAD-clause-reads : goal.returns-then-unit-lt-FIRST_LEAD-clause-reads
+returns-then-unit-lt-FIRST_LEAD-clause-reads c =
+    subst (λ p. Reads (p ∷ []) (take (c.args.at + 1 - c.args.at) (drop c.args.at c.args.v.now))) (sym c.single.ensures) (one_read c.args.v.now c.args.at c.requires (omega (arith, c.if-unit-lt-FIRST_LEAD.true))).reads
