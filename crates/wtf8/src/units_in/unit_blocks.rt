@@ -148,7 +148,7 @@ fn append_part<const FRONT: usize, const ROOM: usize, A: Allocator>(
 /// Appends the bytes of some units from a place on up to which units were read, together where that can be, and answers the
 /// same.
 #[inline(always)]
-fn append_next<A: Allocator>(
+fn append_few<A: Allocator>(
     bytes: &mut Vec<u8, A>,
     v: &[u16],
     at: usize,
@@ -160,9 +160,6 @@ fn append_next<A: Allocator>(
     ensures read { IfOk result (λ to. IsReadTo bytes.new.items v.now to.0 to.1) }
 {
     let left = v.len() - at;
-    if MANY <= left {
-        return append_part::<MANY, LONG, A>(bytes, v, at, is_scalar);
-    }
     if left < HALF {
         return append_point(bytes, v, at, is_scalar);
     }
@@ -170,6 +167,25 @@ fn append_next<A: Allocator>(
         return append_part::<NUMBERS, SHORT, A>(bytes, v, at, is_scalar);
     }
     append_part::<HALF, SHORT, A>(bytes, v, at, is_scalar)
+}
+
+/// Appends the bytes of units to a buffer without bytes as long as many are left, and answers how far they are read then,
+/// and whether no surrogate is alone among them.
+#[inline(always)]
+fn append_many<A: Allocator>(
+    bytes: &mut Vec<u8, A>,
+    v: &[u16],
+) -> Result<(usize, bool), AllocError>
+    requires { bytes.old.items ≡ [] }
+    ensures read { IfOk result (λ to. IsReadTo bytes.new.items v.now to.0 to.1) }
+    ensures empty { v.now ≡ [] → IsOk result }
+{
+    let mut at = 0;
+    let mut is_scalar = true;
+    while MANY <= v.len() - at {
+        (at, is_scalar) = append_part::<MANY, LONG, A>(bytes, v, at, is_scalar)?;
+    }
+    Ok((at, is_scalar))
 }
 
 /// Appends the string of the units to a buffer without bytes, and answers whether it has no lone surrogate.
@@ -181,10 +197,9 @@ pub(crate) fn append_form<A: Allocator>(
     ensures ok { IfOk result (λ known. IsKnownForm bytes.new.items v.now known) }
     ensures empty { v.now ≡ [] → IsOk result }
 {
-    let mut at = 0;
-    let mut is_scalar = true;
+    let (mut at, mut is_scalar) = append_many(bytes, v)?;
     while at < v.len() {
-        (at, is_scalar) = append_next(bytes, v, at, is_scalar)?;
+        (at, is_scalar) = append_few(bytes, v, at, is_scalar)?;
     }
     Ok(is_scalar)
 }
