@@ -172,10 +172,7 @@ fn append_few<A: Allocator>(
 /// Appends the bytes of units to a buffer without bytes as long as many are left, and answers how far they are read then,
 /// and whether no surrogate is alone among them.
 #[inline(always)]
-fn append_many<A: Allocator>(
-    bytes: &mut Vec<u8, A>,
-    v: &[u16],
-) -> Result<(usize, bool), AllocError>
+fn append_many<A: Allocator>(bytes: &mut Vec<u8, A>, v: &[u16]) -> Result<(usize, bool), AllocError>
     requires { bytes.old.items ≡ [] }
     ensures read { IfOk result (λ to. IsReadTo bytes.new.items v.now to.0 to.1) }
     ensures empty { v.now ≡ [] → IsOk result }
