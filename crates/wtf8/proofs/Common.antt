@@ -48,7 +48,7 @@ pub use Rattle.wtf8.specs.private.SurrogateSearch.{SurrogateAt}
 pub use Rattle.wtf8.specs.Surrogates.{AreScalar, replaced, lossy}
 pub use Rattle.wtf8.specs.Unicode.{units_of, units, IsSurrogate, IsLead, IsTrail, pair, IsCodePoint, IsUnit}
 pub use Rattle.wtf8.specs.private.UnitCounts.{IsCounted, IsPlaceOfUnit, CutsUnits, units_begun, all_units_begun}
-pub use Rattle.wtf8.specs.private.UnitParts.{IsKnownForm, DividesNoPair, AreAscii, IsBlock, AreTwoByteUnits, AreThreeByteUnits}
+pub use Rattle.wtf8.specs.private.UnitParts.{IsKnownForm, DividesNoPair, AreAscii}
 pub use Rattle.wtf8.specs.private.UnitSteps.{held_in, behind_held, trail_by, unread_after}
 pub use Rattle.wtf8.specs.UnitString.{UnitString}
 pub use Rattle.wtf8.specs.Units.{unread_units, Unread}

@@ -32,7 +32,7 @@ const ROWS: [(Making, &[u16], u64, usize); 17] = [
     (Making::FromUnits, &[0xD83D, 0xDCA9, 0x0061], 2, 3 + 8),
     (Making::FromUnits, &[0xE000; 8], 2, 8 + 24),
     (Making::FromUnits, &[0xE000; 9], 3, 9 + 24 + 48),
-    (Making::FromUnits, &[0xE000; 16], 3, 16 + 32 + 64),
+    (Making::FromUnits, &[0xE000; 16], 2, 16 + 48),
     (Making::FromUnits, &[0x00E9; 8], 2, 8 + 16),
     (Making::FromUnits, &[0x00E9; 16], 2, 16 + 32),
     (

@@ -1,4 +1,5 @@
 pub mod Blocks
 pub mod Decoding
-pub mod LowBlocks
 pub mod Pieces
+pub mod Rows
+pub mod MixedBlocks

@@ -1,7 +1,7 @@
 -- Units that are turned into bytes part by part.
-use Rattle.std.specs.Prelude.{◌≡◌, ℕ, ◌+◌, ◌-◌, ◌<◌, ◌≤◌, Bool, IsTrue, List, ◌++◌, length, take, drop}
+use Rattle.std.specs.Prelude.{ℕ, ◌<◌, ◌≤◌, Bool, IsTrue, List, length, take}
 use lib.Lanes.{Each1}
-use Rattle.wtf8.specs.Form.{IsForm, bytes}
+use Rattle.wtf8.specs.Form.{IsForm}
 use Rattle.wtf8.specs.Surrogates.{AreScalar}
 use Rattle.wtf8.specs.Unicode.{IsSurrogate}
 use Rattle.wtf8.specs.UnitPosition.{DividesPair}
@@ -10,12 +10,6 @@ use Rattle.wtf8.specs.UnitPosition.{DividesPair}
 pub record IsKnownForm (w u : List ℕ) (known : Bool) : Type 0 where
   pub form : IsForm w u
   pub scalar : IsTrue known → AreScalar form.points
-
--- The new bytes are the old ones with the form of these units behind them, as it is (WTF-8, "Converting between WTF-8 and potentially ill-formed UTF-16").
-pub record AppendsForm (old new u : List ℕ) (known : Bool) : Type 0 where
-  pub appended : List ℕ
-  pub behind : new ≡ old ++ appended
-  pub part : IsKnownForm appended u known
 
 -- No lead and trail stand on the two sides of this place (Unicode 3.8, "Surrogates").
 abbrev pub DividesNoPair : List ℕ → ℕ → Type 0
@@ -31,34 +25,6 @@ pub record IsReadTo (w u : List ℕ) (at : ℕ) (known : Bool) : Type 0 where
   pub apart : DividesNoPair u at
   pub form : IsKnownForm w (take at u) known
 
--- The new bytes are the old ones with the units between two places behind them, each of which is ASCII.
-pub record AppendsAscii (old new u : List ℕ) (at end : ℕ) : Type 0 where
-  pub order : at ≤ end
-  pub within : end ≤ length u
-  pub ascii : AreAscii (take (end - at) (drop at u))
-  pub behind : new ≡ old ++ take (end - at) (drop at u)
-
--- The new bytes are the old ones with the form of the units between two places behind them, and no pair is divided at the second.
-pub record AppendsPart (old new u : List ℕ) (at end : ℕ) (known : Bool) : Type 0 where
-  pub order : at < end
-  pub within : end ≤ length u
-  pub apart : DividesNoPair u end
-  pub form : AppendsForm old new (take (end - at) (drop at u)) known
-
 -- Each of the units is a scalar value of its own number (Unicode 3.9, "Unicode scalar value").
 abbrev pub AreScalarUnits : List ℕ → Type 0
 AreScalarUnits u = Each1 (λ n. (n < 0x10000) × ¬ (IsSurrogate n)) u
-
--- Each of the units takes two bytes (Unicode 3.9, "UTF-8", Table 3-6).
-abbrev pub AreTwoByteUnits : List ℕ → Type 0
-AreTwoByteUnits u = Each1 (λ n. (0x80 ≤ n) × (n < 0x800)) u
-
--- Each of the units takes three bytes, and none is a surrogate (Unicode 3.9, "UTF-8", Table 3-6).
-abbrev pub AreThreeByteUnits : List ℕ → Type 0
-AreThreeByteUnits u = Each1 (λ n. (0x800 ≤ n) × (n < 0x10000) × ¬ (IsSurrogate n)) u
-
--- Bytes are those of n units from a place on, none of which is a surrogate.
-pub record IsBlock (u : List ℕ) (at n : ℕ) (w : List ℕ) : Type 0 where
-  pub within : at + n ≤ length u
-  pub scalars : AreScalarUnits (take n (drop at u))
-  pub encoded : w ≡ bytes (take n (drop at u))

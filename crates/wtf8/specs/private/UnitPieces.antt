@@ -1,74 +1,89 @@
--- The bytes that units add one after another, each known by the unit and the one before it.
-use Rattle.std.specs.Prelude.{◌≡◌, ℕ, zero, suc, ◌+◌, ◌-◌, ◌*◌, ◌/◌, ◌%◌, ◌<◌, ◌↔◌, List, [], ◌∷◌, ◌++◌, take, nat_lt, if◌then◌else◌, slice_index_or}
-use lib.Lanes.{Each1}
+-- What units add one after another, the last one, two or three of three bytes, each known by the unit and the one before it.
+use Rattle.std.specs.Prelude.{◌≡◌, ℕ, ◌+◌, ◌-◌, ◌*◌, ◌/◌, ◌%◌, ◌≤◌, ◌↔◌, List, [], ◌∷◌, ◌++◌, map, take, drop, nat_lt, if◌then◌else◌, slice_index_or}
+use lib.Lanes.{Each2, zip2}
 use Rattle.wtf8.specs.Unicode.{IsLead, IsTrail}
 
--- What a unit adds behind another one: its own bytes, or a surrogate its half of the four that a pair has (Unicode 3.9, "UTF-8", Table 3-6).
-unfoldable pub piece : ℕ → ℕ → List ℕ
-piece before unit =
-    if nat_lt unit 0x80 then unit ∷ []
-    else if nat_lt unit 0x800 then (0xC0 + unit / 64) ∷ (0x80 + unit % 64) ∷ []
-    else if nat_lt unit 0xD800 then (0xE0 + unit / 4096) ∷ (0x80 + unit / 64 % 64) ∷ (0x80 + unit % 64) ∷ []
-    else if nat_lt unit 0xDC00 then (0xF0 + (unit - 0xD7C0) / 256) ∷ (0x80 + (unit - 0xD7C0) / 4 % 64) ∷ []
-    else if nat_lt unit 0xE000 then (0x80 + before % 4 * 16 + unit / 64 % 16) ∷ (0x80 + unit % 64) ∷ []
-    else (0xE0 + unit / 4096) ∷ (0x80 + unit / 64 % 64) ∷ (0x80 + unit % 64) ∷ []
+-- The three bytes of a unit that is no surrogate (Unicode 3.9, "UTF-8", Table 3-6): where it takes fewer, these are the last ones.
+abbrev pub first_byte : ℕ → ℕ
+first_byte n = 0xE0 + n / 4096
 
--- Up to three bytes by two numbers: the first two bytes, and behind them the third one and how many there are.
-abbrev pub spelled : ℕ → ℕ → List ℕ
-spelled front back = take (back / 256) (front % 256 ∷ front / 256 ∷ back % 256 ∷ [])
+abbrev pub own_second_byte : ℕ → ℕ
+own_second_byte n = (if nat_lt n 0x800 then 0xC0 else 0x80) + n / 64 % 64
 
--- The unit of a number, and the one before it, 0 before the first.
-abbrev pub unit_of_number : List ℕ → ℕ → ℕ
-unit_of_number u i = slice_index_or u i 0
+abbrev pub own_last_byte : ℕ → ℕ
+own_last_byte n = if nat_lt n 0x80 then n else 0x80 + n % 64
 
-abbrev pub unit_before : List ℕ → ℕ → ℕ
-unit_before u i = slice_index_or (0 ∷ u) i 0
+-- The same of any unit behind another one: a surrogate adds its half of the four bytes that a pair has.
+abbrev pub second_byte : ℕ → ℕ → ℕ
+second_byte before n =
+    if nat_lt n 0xD800 then own_second_byte n
+    else if nat_lt n 0xDC00 then 0xF0 + (n - 0xD7C0) / 256
+    else if nat_lt n 0xE000 then 0x80 + before % 4 * 16 + n / 64 % 16
+    else own_second_byte n
 
--- The two numbers of a place spell what the unit of that number adds.
-pub record IsSpelled (u fronts backs : List ℕ) (i : ℕ) : Type 0 where
-  pub same : spelled (slice_index_or fronts i 0) (slice_index_or backs i 0) ≡ piece (unit_before u i) (unit_of_number u i)
-  pub small : slice_index_or backs i 0 < 0x400
+abbrev pub last_byte : ℕ → ℕ
+last_byte n =
+    if nat_lt n 0xD800 then own_last_byte n
+    else if nat_lt n 0xDC00 then 0x80 + (n - 0xD7C0) / 4 % 64
+    else own_last_byte n
 
--- What the first n units add.
+-- Whether a unit adds more than one byte, and whether three: 1 where it does.
+abbrev pub more_than_one : ℕ → ℕ
+more_than_one n = if nat_lt n 0x80 then 0 else 1
+
+abbrev pub are_three : ℕ → ℕ
+are_three n = if nat_lt n 0x800 then 0 else if nat_lt n 0xD800 then 1 else if nat_lt n 0xE000 then 0 else 1
+
+-- How many bytes a unit adds.
+abbrev pub byte_count : ℕ → ℕ
+byte_count n = 1 + more_than_one n + are_three n
+
+-- The second and the last bytes of units one behind the other, and marks for those of three.
+pub record AreBehind (u seconds lasts longs : List ℕ) : Type 0 where
+  pub second : seconds ≡ zip2 second_byte (0 ∷ u) u
+  pub last : lasts ≡ map last_byte u
+  pub long : longs ≡ map (λ n. are_three n * 0x80) u
+
+-- What a unit adds behind another one.
+abbrev pub piece : ℕ → ℕ → List ℕ
+piece before n = drop (3 - byte_count n) (first_byte n ∷ second_byte before n ∷ last_byte n ∷ [])
+
+-- What units add behind another one.
 abbrev pub pieces : ℕ → List ℕ → List ℕ
-pieces zero u = []
-pieces (suc n) u = pieces n u ++ piece (unit_before u n) (unit_of_number u n)
+pieces before [] = []
+pieces before (n ∷ u) = piece before n ++ pieces n u
 
--- Each of sixteen numbers holds those of two lists, the second one's above the first one's.
-abbrev pub AreJoined : List ℕ → List ℕ → List ℕ → Type 0
-AreJoined fronts backs numbers = (i : ℕ) → i < 16
-    → (slice_index_or numbers i 0 % 0x10000 ≡ slice_index_or fronts i 0) × (slice_index_or numbers i 0 / 0x10000 ≡ slice_index_or backs i 0)
+-- Behind a unit each trail stands behind a lead, and each lead before a trail but at the end (Unicode 3.8, "Surrogates").
+abbrev pub ArePaired : ℕ → List ℕ → Type 0
+ArePaired before u = Each2 (λ b n. IsTrail n ↔ IsLead b) (before ∷ u) u
 
--- What the first n numbers of a list spell, each by the two that it holds.
-abbrev pub all_spelled : ℕ → List ℕ → List ℕ
-all_spelled zero numbers = []
-all_spelled (suc n) numbers = all_spelled n numbers ++ spelled (slice_index_or numbers n 0 % 0x10000) (slice_index_or numbers n 0 / 0x10000)
+-- The three bytes of units behind another one, the first ones before the second and these before the last.
+abbrev pub byte_lanes : ℕ → List ℕ → List ℕ
+byte_lanes before u = map first_byte u ++ zip2 second_byte (before ∷ u) u ++ map last_byte u
 
--- Each trail among the first n units stands behind a lead, and no lead of them before another unit of them (Unicode 3.8, "Surrogates").
-abbrev pub ArePaired : List ℕ → ℕ → Type 0
-ArePaired u n = (i : ℕ) → i < n → IsTrail (unit_of_number u i) ↔ IsLead (unit_before u i)
+-- Lengths from one to three of four units as a number: a bit for each above one, and four places higher for each of three.
+abbrev pub row_number : ℕ → ℕ → ℕ → ℕ → ℕ
+row_number a b c d = a / 2 + b / 2 * 2 + c / 2 * 4 + d / 2 * 8 + (a / 3 + b / 3 * 2 + c / 3 * 4 + d / 3 * 8) * 16
 
--- Each of the units is below 800: it takes one byte or two (Unicode 3.9, "UTF-8", Table 3-6).
-abbrev pub AreLow : List ℕ → Type 0
-AreLow u = Each1 (λ n. n < 0x800) u
+-- The number of the lengths of four units.
+abbrev pub lengths_number : List ℕ → ℕ
+lengths_number u =
+    let count = λ (k : ℕ). byte_count (slice_index_or u k 0) in
+    row_number (count 0) (count 1) (count 2) (count 3)
 
--- The bytes of such a unit as one number, the first byte lowest, and how many there are.
-abbrev pub low_front : ℕ → ℕ
-low_front unit = if nat_lt unit 0x80 then unit else 0x80C0 + unit / 64 + unit % 64 * 256
+-- The places of the last so many bytes of the unit of a number.
+abbrev pub places : ℕ → ℕ → List ℕ
+places n k = drop (3 - n) (k ∷ (4 + k) ∷ (8 + k) ∷ [])
 
-abbrev pub low_len : ℕ → ℕ
-low_len unit = if nat_lt unit 0x80 then 1 else 2
+-- A length is one, two or three.
+abbrev pub IsLength : ℕ → Type 0
+IsLength n = (1 ≤ n) × (n ≤ 3)
 
--- Up to two bytes by a number and how many there are.
-abbrev pub low_spelled : ℕ → ℕ → List ℕ
-low_spelled front len = take len (front % 256 ∷ front / 256 % 256 ∷ [])
+-- A row has the places of the bytes of four units, by the number of their lengths.
+abbrev pub IsRow : ℕ → List ℕ → Type 0
+IsRow number row = (a b c d : ℕ) → IsLength a → IsLength b → IsLength c → IsLength d → number ≡ row_number a b c d
+    → take (a + b + c + d) row ≡ places a 0 ++ places b 1 ++ places c 2 ++ places d 3
 
--- What the first n numbers of a list spell by their lengths.
-abbrev pub all_low_spelled : ℕ → List ℕ → List ℕ → List ℕ
-all_low_spelled zero fronts lens = []
-all_low_spelled (suc n) fronts lens = all_low_spelled n fronts lens ++ low_spelled (slice_index_or fronts n 0) (slice_index_or lens n 0)
-
--- The sum of the first n numbers of a list.
-abbrev pub first_sum : ℕ → List ℕ → ℕ
-first_sum zero numbers = 0
-first_sum (suc n) numbers = first_sum n numbers + slice_index_or numbers n 0
+-- A count is of the bytes of four units, by the number of their lengths.
+abbrev pub IsCounted : ℕ → ℕ → Type 0
+IsCounted number count = (a b c d : ℕ) → IsLength a → IsLength b → IsLength c → IsLength d → number ≡ row_number a b c d → count ≡ a + b + c + d

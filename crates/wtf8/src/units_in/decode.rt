@@ -1,17 +1,15 @@
 // Code units read as code points.
-ghost use Rattle.std.specs.Prelude.{◌≡◌, ◌↔◌, ℕ, ◌-◌, ◌<◌, ◌≤◌, List, [], ◌∷◌, length, take, drop, Result, None, IsTrue, IfOk, MatchResult};
+ghost use Rattle.std.specs.Prelude.{◌≡◌, ◌↔◌, ℕ, ◌-◌, ◌<◌, ◌≤◌, List, [], ◌∷◌, length, take, drop, Result, None, IsTrue, MatchResult};
 ghost use Rattle.std.specs.Iterator.{count_map, Drains};
 ghost use Rattle.std.specs.Iterator.Adapters.{peekable_can, peekable_source, peekable_peeked, items_left_with_peeked};
 ghost use Rattle.wtf8.specs.CodePoint.{number};
 ghost use Rattle.wtf8.specs.private.Decoding.{point_of, units_left, decode_steps, ReadsAll};
 ghost use Rattle.wtf8.specs.Form.{Reads};
 ghost use Rattle.wtf8.specs.Unicode.{IsCodePoint, IsLead, IsTrail, IsSurrogate, pair};
-ghost use Rattle.wtf8.specs.private.UnitParts.{AppendsForm, DividesNoPair};
+ghost use Rattle.wtf8.specs.private.UnitParts.{DividesNoPair};
 
 use crate::numbers::code_point::CodePoint;
-use crate::numbers::encoding;
-use crate::numbers::surrogates::{self, FIRST_LEAD, FIRST_TRAIL, LAST_LEAD, LAST_TRAIL};
-use std::alloc::{AllocError, Allocator};
+use crate::numbers::surrogates::{self, FIRST_LEAD, LAST_LEAD};
 use std::iter::Ahead;
 
 /// The characters that the units of an iterator stand for, in order, as `Ok`, and its lone surrogates as `Err`.
@@ -44,11 +42,11 @@ fn is_trail_unit(unit: &u16) -> bool
     surrogates::is_trail(u32::from(*unit))
 }
 
-/// The code point of a lone surrogate.
-fn lone(surrogate: u16) -> CodePoint
-    ensures { number result ≡ surrogate }
+/// The code point of a unit by itself.
+fn single(unit: u16) -> CodePoint
+    ensures { number result ≡ unit }
 {
-    CodePoint::from_u32_unchecked(u32::from(surrogate))
+    CodePoint::from_u32_unchecked(u32::from(unit))
 }
 
 /// The character of a unit that joins no other, or the unit where it is a surrogate.
@@ -106,39 +104,18 @@ pub(crate) fn read_point(v: &[u16], at: usize) -> (CodePoint, usize, bool)
     ensures scalar { IsTrue result.2 → ¬ (IsSurrogate (number result.0)) }
 {
     let unit = v[at];
-    if let FIRST_LEAD..=LAST_LEAD = unit {
-        if 1 < v.len() - at {
-            let behind = v[at + 1];
-            if let FIRST_TRAIL..=LAST_TRAIL = behind {
-                return (CodePoint::from_char(paired(unit, behind)), at + 2, true);
-            }
-        }
-        return (lone(unit), at + 1, false);
+    if unit < FIRST_LEAD {
+        return (single(unit), at + 1, true);
     }
-    match alone(unit) {
-        Ok(character) => (CodePoint::from_char(character), at + 1, true),
-        Err(surrogate) => (lone(surrogate), at + 1, false),
+    let Some(item) = decode_utf16(v[at..].iter().copied()).next() else {
+        unreachable!()
+    };
+    match item {
+        Ok(character) => (
+            CodePoint::from_char(character),
+            at + character.len_utf16(),
+            true,
+        ),
+        Err(surrogate) => (single(surrogate), at + 1, false),
     }
-}
-
-/// Appends the string of some units to bytes, and answers whether it has no lone surrogate. Each code point is appended
-/// as it is: no two of those that are read make a pair.
-#[inline(always)]
-pub(crate) fn append_one_by_one<A: Allocator>(
-    bytes: &mut Vec<u8, A>,
-    v: &[u16],
-) -> Result<bool, AllocError>
-    ensures ok { IfOk result (λ known. AppendsForm bytes.old.items bytes.new.items v.now known) }
-{
-    let mut is_scalar = true;
-    for item in decode_utf16(v.iter().copied()) {
-        match item {
-            Ok(character) => encoding::append(bytes, CodePoint::from_char(character))?,
-            Err(surrogate) => {
-                is_scalar = false;
-                encoding::append(bytes, lone(surrogate))?;
-            }
-        }
-    }
-    Ok(is_scalar)
 }

@@ -5,7 +5,7 @@ use Rattle.std.proofs.lemmas.Bool.{leb-false, not-true}
 use Rattle.std.proofs.lemmas.List.{length-map, get_or-take}
 use Rattle.std.proofs.lemmas.List.Sums.{prefix_len_passes, prefix_len-le-length}
 use lib.Lanes.{Each2}
-use Rattle.std.proofs.lemmas.Simd.{zip2_splat_left, Each1-from_get_or, leading_from_mask_l, trailing_mask_l}
+use Rattle.std.proofs.lemmas.Simd.{zip2_splat_left, Each1-from_get_or, Each2-splat, Each1-all, leading_from_mask_l, trailing_mask_l}
 use mir.Syntax.{Width}
 use mir.Val.{bits, hbits}
 use Rattle.std.specs.Int.Count.{count_trailing_zeros}
@@ -53,6 +53,9 @@ module _ (w : Width) (n : ℕ) (xs : List ℕ) (few : n ≤ 64) (long : length x
   front_ascii = front_off (leb 0x80) (λ n. n < 0x80) (leb-false 0x80) xs (omega (arith, long, few)) (others w n xs) same
 
 -- lanes against one number in all lanes
+pub by_all : (xs : List ℕ) (k : ℕ) → 0 < k → Each2 (λ (a b : ℕ). 0 < b) xs (k ∷ k ∷ k ∷ k ∷ k ∷ k ∷ k ∷ k ∷ [])
+by_all xs k h = Each2-splat (λ (a b : ℕ). 0 < b) xs 8 k (Each1-all (λ (a : ℕ). 0 < k) (λ a. h) xs)
+
 pub each2_splat : (P : ℕ → ℕ → Type 0) (y : ℕ) → ((x : ℕ) → P x y) → (n : ℕ) (xs : List ℕ) → length xs ≡ n → Each2 P xs (replicate n y)
 each2_splat P y h zero [] e = tt
 each2_splat P y h (suc n) [] e = absurd (omega arith)

@@ -1,30 +1,26 @@
 -- Blocks of units of one kind: their lanes, their bytes, and what they add to a string.
-use Rattle.wtf8.proofs.Common.{◌≡◌, ℕ, zero, suc, ◌-◌, ◌%◌, ◌^◌, ◌<◌, ◌≤◌, leb, ltb, Bool, true, false, cond, ◌&&◌, ◌||◌, List, [], ◌∷◌, map, length, replicate, bit_and}
-use Rattle.wtf8.proofs.Common.{bit_or, Fits, refl, sym, ap, ◌∙◌, arith, inl, inr, and_parts, cases_Bool, mask_l-mod, tops_compared, Each1, zip2, mask_l, top, AreAscii}
-use Rattle.wtf8.proofs.Common.{AreTwoByteUnits, AreThreeByteUnits, IsSurrogate, ◌+◌, ◌/◌, ◌++◌, flat_map, bytes, encoding, IsTrue, take, drop, get_or, subst}
-use Rattle.wtf8.proofs.Common.{length-append, get_or-append-add, take-append-drop, take_all, Each1-weaker, length-chunk, MeetsAsPair, IsClean, bytes-injective, drop-drop}
-use Rattle.wtf8.proofs.Common.{AreScalar, units, IsKnownForm, DividesNoPair, IsBlock, numbers, append_assoc, IsWellFormed, GainsUnits}
-use Rattle.std.proofs.Common.{w16}
+use Rattle.wtf8.proofs.Common.{◌≡◌, ℕ, zero, suc, ◌-◌, ◌%◌, ◌^◌, ◌<◌, ◌≤◌, leb, eqb, Bool, true, false, cond, ◌&&◌, List, [], ◌∷◌, map, length, replicate}
+use Rattle.wtf8.proofs.Common.{Fits, refl, sym, ap, ◌∙◌, arith, inl, inr, and_parts, cases_Bool, mask_l-mod, tops_compared, Each1, zip2, mask_l, top, AreAscii}
+use Rattle.wtf8.proofs.Common.{IsSurrogate, ◌+◌, ◌/◌, ◌++◌, bytes, IsTrue, take, drop, get_or, subst}
+use Rattle.wtf8.proofs.Common.{take-append-drop, take_all, Each1-weaker, length-chunk, MeetsAsPair, IsClean, bytes-injective}
+use Rattle.wtf8.proofs.Common.{AreScalar, units, IsKnownForm, DividesNoPair, numbers, append_assoc, IsWellFormed, GainsUnits}
+use Rattle.std.proofs.Common.{w16, get_or-drop, length-take}
 use mir.Syntax.{Width}
 use mir.Val.{bits, hbits}
-use Rattle.std.proofs.Math.Seq.{get_or-append_seam, take-add}
-use Rattle.std.proofs.lemmas.Bool.{leb-false, ltb-false, or_parts, and_cases}
-use Rattle.std.proofs.lemmas.List.{length-map, take-take}
-use Rattle.std.proofs.lemmas.Simd.{zip2_splat_left, Each1-get_or}
+use Rattle.std.proofs.Math.Seq.{take-suc, take-add}
+use Rattle.std.proofs.lemmas.Bool.{leb-false, eqb-false}
+use Rattle.std.proofs.lemmas.List.{length-map, take-take, get_or-take}
+use Rattle.std.proofs.lemmas.Simd.{zip2_splat, zip2_splat_left, bitmask_splat, map-map, Each1-get_or}
 use Rattle.wtf8.specs.Unicode.{IsLead}
-use Rattle.wtf8.specs.private.UnitParts.{AreScalarUnits, AppendsForm, AppendsAscii, AppendsPart, IsReadTo}
+use Rattle.wtf8.specs.private.UnitParts.{AreScalarUnits, IsReadTo}
 use Rattle.wtf8.specs.declared.numbers.code_point.CodePoint.{CodePoint}
-use Rattle.wtf8.proofs.lemmas.numbers.Encoding.{encoding_two, encoding_three, third_row, encoding_one, bytes-append}
-use Rattle.wtf8.proofs.lemmas.numbers.Readings.{meets_by, units-cons_one}
+use Rattle.wtf8.proofs.lemmas.numbers.Encoding.{encoding_one, bytes-append}
+use Rattle.wtf8.proofs.lemmas.numbers.Readings.{meets_by, no_lead, units-cons_one}
 use Rattle.wtf8.proofs.lemmas.strings.Concatenation.{form_apart}
 use Rattle.wtf8.specs.OneForm.{AreScalarTo}
 use Rattle.wtf8.proofs.lemmas.strings.Gains.{scalar-append, gains_behind, gained_units, known_behind_gain, scalar_behind, units-points}
 
 -- Blocks of numbers in lanes: what the mask of a block says of them.
-
--- a lane of a comparison of units
-abbrev wide : Bool → ℕ
-wide b = cond b 0xFFFF 0
 
 -- where no lane is set each lane is as it must be
 each_unset : (p : ℕ → Bool) (P Q : ℕ → Type 0) → ((x : ℕ) → P x → p x ≡ false → Q x) → (xs : List ℕ) → Each1 P xs → mask_l (map p xs) ≡ 0 → Each1 Q xs
@@ -34,110 +30,24 @@ each_unset p P Q h (x ∷ xs) f e = elim (cases_Bool (p x)) [
   | inr u ↦ (h x f.0 u, each_unset p P Q h xs f.1 (omega (arith, rw u at e)))
 ]
 
-none_set : (p : ℕ → Bool) (P Q : ℕ → Type 0) → ((x : ℕ) → P x → p x ≡ false → Q x) → (xs : List ℕ) {ms : List Bool} → length xs ≤ 64 → Each1 P xs
-    → ms ≡ map p xs → mask_l ms % 2 ^ 64 ≡ 0 → Each1 Q xs
-none_set p P Q h xs few f same e =
-    let whole = mask_l-mod (map p xs) 64 (omega (arith, few, length-map xs p)) in
-    each_unset p P Q h xs f (sym whole ∙ ap (λ ms. mask_l ms % 2 ^ 64) (sym same) ∙ e)
-
--- where no lane is set all numbers are below k
-pub none_from : (w : Width) (k n : ℕ) (xs : List ℕ) → n ≤ 64 → length xs ≡ n → Each1 (Fits w) xs
-    → mask_l (map (top (hbits w)) (zip2 (λ a b. cond (leb a b) (2 ^ bits w - 1) 0) (replicate n k) xs)) % 2 ^ 64 ≡ 0 → Each1 (λ x. x < k) xs
-none_from w k n xs few l f = none_set (leb k) (Fits w) (λ n. n < k) (λ x _ u. leb-false k x u) xs (omega (arith, few, l)) f
-    (tops_compared w leb (replicate n k) xs ∙ zip2_splat_left leb k n xs l)
-
+-- where no number is from k on
 pub none_high : (w : Width) (n : ℕ) (xs : List ℕ) → n ≤ 64 → length xs ≡ n → Each1 (Fits w) xs
     → mask_l (map (top (hbits w)) (zip2 (λ a b. cond (leb a b) (2 ^ bits w - 1) 0) (replicate n 0x80) xs)) % 2 ^ 64 ≡ 0 → AreAscii xs
-none_high w = none_from w 0x80
+none_high w n xs few l f e =
+    let lanes = tops_compared w leb (replicate n 0x80) xs ∙ zip2_splat_left leb 0x80 n xs l in
+    let whole = mask_l-mod (map (leb 0x80) xs) 64 (omega (arith, few, l, length-map xs (leb 0x80))) in
+    each_unset (leb 0x80) (Fits w) (λ n. n < 0x80) (λ x _ u. leb-false 0x80 x u) xs f (sym whole ∙ ap (λ ms. mask_l ms % 2 ^ 64) (sym lanes) ∙ e)
 
--- a lane is set by a unit that does not take two bytes
-either_set : (a b : Bool) → top 15 (bit_or (wide a) (wide b)) ≡ a || b
-either_set true true = refl
-either_set true false = refl
-either_set false true = refl
-either_set false false = refl
-
-abbrev no_two : ℕ → Bool
-no_two x = ltb x 0x80 || leb 0x800 x
-
-abbrev no_twos : ℕ → List ℕ → List Bool
-no_twos n xs = map (top 15) (zip2 bit_or (zip2 (λ a b. wide (ltb a b)) xs (replicate n 0x80)) (zip2 (λ a b. wide (leb a b)) (replicate n 0x800) xs))
-
-no_twos_are : (n : ℕ) (xs : List ℕ) → length xs ≡ n → no_twos n xs ≡ map no_two xs
-no_twos_are zero [] e = refl
-no_twos_are (suc n) [] e = refl
-no_twos_are zero (x ∷ xs) e = absurd (omega arith)
-no_twos_are (suc n) (x ∷ xs) e = λ i. either_set (ltb x 0x80) (leb 0x800 x) i ∷ no_twos_are n xs (omega arith) i
-
--- where no lane is set all units take two bytes
-pub none_no_two : (xs : List ℕ) → length xs ≡ 8 → Each1 (Fits w16) xs → mask_l (no_twos 8 xs) % 2 ^ 64 ≡ 0 → AreTwoByteUnits xs
-none_no_two xs l f = none_set no_two (Fits w16) (λ n. (0x80 ≤ n) × (n < 0x800)) two xs (omega arith) f (no_twos_are 8 xs l)
+-- where no lane is set no unit is a surrogate
+pub none_surrogate : (xs : List ℕ) → length xs ≡ 8 → Each1 (Fits w16) xs
+    → mask_l (map (top 15) (zip2 (λ a b. cond (eqb a b) 0xFFFF 0) (zip2 (λ a b. a / b) xs (replicate 8 2048)) (replicate 8 27))) % 2 ^ 64 ≡ 0 → AreScalarUnits xs
+none_surrogate xs l f e =
+    let kinds = bitmask_splat w16 eqb (map (λ x. x / 2048) xs) 8 27 (length-map xs (λ x. x / 2048) ∙ l) (omega arith) ∙ ap mask_l (map-map (λ x. eqb x 27) (λ x. x / 2048) xs) in
+    each_unset (λ x. eqb (x / 2048) 27) (Fits w16) (λ n. (n < 0x10000) × ¬ (IsSurrogate n)) own xs f
+    (sym kinds ∙ ap (λ v. mask_l (map (top 15) (zip2 (λ a b. cond (eqb a b) 0xFFFF 0) v (replicate 8 27))) % 2 ^ 64) (sym (zip2_splat (λ a b. a / b) xs 8 2048 l)) ∙ e)
   where
-    two : (x : ℕ) → Fits w16 x → no_two x ≡ false → (0x80 ≤ x) × (x < 0x800)
-    two x _ u = let parts = or_parts _ _ u in (ltb-false x 0x80 parts.0, leb-false 0x800 x parts.1)
-
--- a lane is set by a unit below 800, and by a surrogate
-other_set : (a b c : Bool) → top 15 (bit_or (wide a) (bit_and (wide b) (wide c))) ≡ a || (b && c)
-other_set true true true = refl
-other_set true true false = refl
-other_set true false true = refl
-other_set true false false = refl
-other_set false true true = refl
-other_set false true false = refl
-other_set false false true = refl
-other_set false false false = refl
-
-abbrev other : ℕ → Bool
-other x = ltb x 0x800 || (leb 0xD800 x && leb x 0xDFFF)
-
-abbrev others : ℕ → List ℕ → List Bool
-others n xs = map (top 15) (zip2 bit_or (zip2 (λ a b. wide (ltb a b)) xs (replicate n 0x800))
-    (zip2 bit_and (zip2 (λ a b. wide (leb a b)) (replicate n 0xD800) xs) (zip2 (λ a b. wide (leb a b)) xs (replicate n 0xDFFF))))
-
-others_are : (n : ℕ) (xs : List ℕ) → length xs ≡ n → others n xs ≡ map other xs
-others_are zero [] e = refl
-others_are (suc n) [] e = refl
-others_are zero (x ∷ xs) e = absurd (omega arith)
-others_are (suc n) (x ∷ xs) e = λ i. other_set (ltb x 0x800) (leb 0xD800 x) (leb x 0xDFFF) i ∷ others_are n xs (omega arith) i
-
--- where no lane is set all units take three bytes
-pub none_other : (xs : List ℕ) → length xs ≡ 8 → Each1 (Fits w16) xs → mask_l (others 8 xs) % 2 ^ 64 ≡ 0 → AreThreeByteUnits xs
-none_other xs l f = none_set other (Fits w16) (λ n. (0x800 ≤ n) × (n < 0x10000) × ¬ (IsSurrogate n)) three xs (omega arith) f (others_are 8 xs l)
-  where
-    three : (x : ℕ) → Fits w16 x → other x ≡ false → (0x800 ≤ x) × (x < 0x10000) × ¬ (IsSurrogate x)
-    three x f u =
-        let parts = or_parts _ _ u in (
-          ltb-false x 0x800 parts.0,
-          f.fits,
-          λ s. elim (and_cases _ _ parts.1) [
-            | inl l ↦ omega (arith, s.0, leb-false 0xD800 x l)
-            | inr h ↦ omega (arith, s.1, leb-false x 0xDFFF h)
-          ],
-        )
-
--- Blocks of units as bytes: the rows of two and of three bytes that are written, and the bytes of the units.
-
--- the two bytes that a unit from 80 to 7FF has
-abbrev pub two_byte_row : ℕ → List ℕ
-two_byte_row p = (0xC0 + p / 64 % 32) ∷ (0x80 + p % 64) ∷ []
-
-two_byte_rows : (xs : List ℕ) → AreTwoByteUnits xs → flat_map two_byte_row xs ≡ bytes xs
-two_byte_rows [] h = refl
-two_byte_rows (x ∷ xs) h =
-    let small : x / 64 % 32 ≡ x / 64 = omega (arith, h.0.1) in
-    let row : two_byte_row x ≡ encoding x = ap (λ n. (0xC0 + n) ∷ (0x80 + x % 64) ∷ []) small ∙ sym (encoding_two x h.0.0 h.0.1) in
-    ap (λ w. w ++ flat_map two_byte_row xs) row ∙ ap (λ w. encoding x ++ w) (two_byte_rows xs h.1)
-
-pub by_two_byte_rows : {w : List ℕ} (xs : List ℕ) → AreTwoByteUnits xs → w ≡ flat_map two_byte_row xs → w ≡ bytes xs
-by_two_byte_rows xs h e = e ∙ two_byte_rows xs h
-
--- their rows are their encodings
-third_rows : (xs : List ℕ) → AreThreeByteUnits xs → flat_map third_row xs ≡ bytes xs
-third_rows [] h = refl
-third_rows (x ∷ xs) h = ap (λ w. w ++ flat_map third_row xs) (sym (encoding_three x h.0.0 h.0.1)) ∙ ap (λ w. encoding x ++ w) (third_rows xs h.1)
-
-pub by_rows : {w : List ℕ} (xs : List ℕ) → AreThreeByteUnits xs → w ≡ flat_map third_row xs → w ≡ bytes xs
-by_rows xs h e = e ∙ third_rows xs h
+    own : (x : ℕ) → Fits w16 x → eqb (x / 2048) 27 ≡ false → (x < 0x10000) × ¬ (IsSurrogate x)
+    own x f u = (f.fits, λ s. eqb-false (x / 2048) 27 u (omega (arith, s.0, s.1)))
 
 -- Units turned into bytes part by part: where parts meet, and the form of all that was read.
 
@@ -154,16 +64,6 @@ scalar_units (p ∷ u) h = units-cons_one p u h.0.0 ∙ ap (λ v. p ∷ v) (scal
 are_scalar : (u : List ℕ) → AreScalarUnits u → AreScalar u
 are_scalar [] h = tt
 are_scalar (p ∷ u) h = (h.0.1, are_scalar u h.1)
-
-block_form : {u w : List ℕ} {at n : ℕ} (known : Bool) → IsBlock u at n w → IsKnownForm w (take n (drop at u)) known
-block_form {u} {w} {at} {n} known b = record {
-  form = record {
-    points = take n (drop at u);
-    reads = record { clean = scalar_clean (take n (drop at u)) b.scalars; same_units = scalar_units (take n (drop at u)) b.scalars };
-    encoded = sym b.encoded;
-  };
-  scalar = λ _. are_scalar (take n (drop at u)) b.scalars;
-}
 
 ascii_bytes : (u : List ℕ) → AreAscii u → bytes u ≡ u
 ascii_bytes [] h = refl
@@ -189,31 +89,9 @@ ascii_form u h = record {
 pub nothing_read : {w : List ℕ} (known : Bool) → w ≡ [] → IsKnownForm w [] known
 nothing_read known e = record { form = record { points = []; reads = record { clean = tt; same_units = refl }; encoded = sym e }; scalar = λ _. tt }
 
--- no pair is divided behind units that are no surrogates
-last_is : (u w f : List ℕ) (l k : ℕ) → length w ≡ k + 1 → u ++ w ≡ f ++ l ∷ [] → get_or w k 0 ≡ l
-last_is u w f l k n e =
-    let long : length u + k ≡ length f = omega (arith, n, ap length e, length-append u w, length-append f (l ∷ [])) in
-    cc (get_or-append-add u w k 0, e, long, get_or-append_seam f l [] 0)
-
-pub last_apart : (u : List ℕ) (at k : ℕ) → at + (k + 1) ≤ length u → ¬ (IsLead (get_or (take (k + 1) (drop at u)) k 0)) → DividesNoPair u (at + (k + 1))
-last_apart u at k within n m =
-    let part = take (k + 1) (drop at u) in
-    let last = last_is (take at u) part m.front m.lead k (length-chunk at (k + 1) u within) (sym (take-add at (k + 1) u) ∙ m.ends) in
-    n (omega (arith, last, m.is_lead), omega (arith, last, m.is_lead))
-
--- a block of units of one kind is a part
-pub block_part : {was new u w : List ℕ} (at k : ℕ) → IsBlock u at (k + 1) w → new ≡ was ++ w → AppendsPart was new u at (at + (k + 1)) true
-block_part {was} {new} {u} {w} at k b e =
-    let part = take (k + 1) (drop at u) in
-    let long : length part ≡ k + 1 = length-chunk at (k + 1) u b.within in
-    let last = Each1-get_or (λ n. (n < 0x10000) × ¬ (IsSurrogate n)) part k 0 (omega (arith, long)) b.scalars in
-    let count : k + 1 ≡ at + (k + 1) - at = omega arith in
-    record {
-      order = omega arith;
-      within = b.within;
-      apart = last_apart u at k b.within (λ l. last.1 (l.0, omega (arith, l.1)));
-      form = subst (λ n. AppendsForm was new (take n (drop at u)) true) count (record { appended = w; behind = e; part = block_form true b });
-    }
+-- no pair is divided behind a unit that is no lead
+pub last_apart : (u : List ℕ) (j : ℕ) → j < length u → ¬ (IsLead (get_or u j 0)) → DividesNoPair u (suc j)
+last_apart u j within n = subst (λ w. ¬ (MeetsAsPair w (drop (suc j) u))) (sym (take-suc u j 0 within)) (no_lead (take j u) (get_or u j 0) n)
 
 -- where a part meets what is before it, all that is behind does
 meets_longer : (a b : List ℕ) (n : ℕ) → MeetsAsPair a (take n b) → MeetsAsPair a b
@@ -229,103 +107,46 @@ known_behind w v a b known more both x y n flags =
     let same : x.form.points ++ y.form.points ≡ whole.points = bytes-injective (x.form.points ++ y.form.points) whole.points (encoded ∙ sym whole.encoded) in
     record { form = whole; scalar = λ t. subst AreScalar same (scalar-append x.form.points y.form.points (x.scalar (flags t).0) (y.scalar (flags t).1)) }
 
-pub part_read : {w new u : List ℕ} {at end : ℕ} {known more : Bool} → IsReadTo w u at known → AppendsPart w new u at end more → IsReadTo new u end (known && more)
-part_read {w} {new} {u} {at} {end} {known} {more} x part =
-    let front = take at u in
+-- some more bytes, which are the form of the units up to another place
+pub part_read : {w new u part : List ℕ} {at end : ℕ} {known more : Bool} → IsReadTo w u at known → at ≤ end → end ≤ length u → DividesNoPair u end
+    → new ≡ w ++ part → IsKnownForm part (take (end - at) (drop at u)) more → IsReadTo new u end (known && more)
+part_read {w} {new} {u} {part} {at} {end} {known} {more} x order within apart behind form =
     let back = take (end - at) (drop at u) in
-    let count : end ≡ at + (end - at) = omega (arith, part.order) in
-    let both = ap (λ k. take k u) count ∙ take-add at (end - at) u in
-    let apart : ¬ (MeetsAsPair front back) = λ m. x.apart (meets_longer front (drop at u) (end - at) m) in
-    let whole = known_behind w part.form.appended front back known more (known && more) x.form part.form.part apart (and_parts known more) in
+    let count : end ≡ at + (end - at) = omega (arith, order) in
+    let both : take end u ≡ take at u ++ back = ap (λ k. take k u) count ∙ take-add at (end - at) u in
+    let whole = known_behind w part (take at u) back known more (known && more) x.form form (λ m. x.apart (meets_longer (take at u) (drop at u) (end - at) m)) (and_parts known more) in
     record {
-      within = part.within;
-      apart = part.apart;
-      form = subst (λ z. IsKnownForm z (take end u) (known && more)) (sym part.form.behind) (subst (λ z. IsKnownForm (w ++ part.form.appended) z (known && more)) (sym both) whole);
+      within = within;
+      apart = apart;
+      form = subst (λ z. IsKnownForm z (take end u) (known && more)) (sym behind) (subst (λ z. IsKnownForm (w ++ part) z (known && more)) (sym both) whole);
     }
 
--- the ASCII before a part, and the part
-ascii_meets : (a b : List ℕ) → AreAscii a → ¬ (MeetsAsPair a b)
-ascii_meets a b h m =
-    let last : get_or a (length m.front) 0 ≡ m.lead = ap (λ w. get_or w (length m.front) 0) m.ends ∙ get_or-append_seam m.front m.lead [] 0 in
-    let inside : length m.front < length a = omega (arith, ap length m.ends, length-append m.front (m.lead ∷ [])) in
-    omega (arith, last, m.is_lead, Each1-get_or (λ n. n < 0x80) a (length m.front) 0 inside h)
+always : (known : Bool) → (known && true) ≡ known
+always true = refl
+always false = refl
 
--- some ASCII units, and more behind them
-between : (u : List ℕ) {at mid end : ℕ} → at ≤ mid → mid ≤ end → take (end - at) (drop at u) ≡ take (mid - at) (drop at u) ++ take (end - mid) (drop mid u)
-between u {at} {mid} {end} l m =
-    let both : end - at ≡ (mid - at) + (end - mid) = omega (arith, l, m) in
-    let here : at + (mid - at) ≡ mid = omega (arith, l) in
-    let front = take (mid - at) (drop at u) in
-    ap (λ k. take k (drop at u)) both ∙ (take-add (mid - at) (end - mid) (drop at u)
-    ∙ ap (λ w. front ++ take (end - mid) w) (drop-drop (mid - at) at u ∙ ap (λ k. drop k u) here))
-
--- the first k of some units, which are ASCII
-pub ascii_appended : {was new u part : List ℕ} (at k n : ℕ) → at + n ≤ length u → part ≡ take n (drop at u) → k ≤ n → AreAscii (take k part) → new ≡ was ++ take k part
-    → AppendsAscii was new u at (at + k)
-ascii_appended {was} {new} {u} {part} at k n l same m h e =
+-- the same of the first k of n units among which no surrogate is alone, where the last is no lead
+pub scalars_read : {w new u part : List ℕ} {at : ℕ} {known : Bool} (k n : ℕ) → IsReadTo w u at known → k ≤ n → at + n ≤ length u
+    → ((j : ℕ) → j + 1 ≡ k → ¬ (IsLead (get_or (take n (drop at u)) j 0))) → new ≡ w ++ part → IsKnownForm part (take k (take n (drop at u))) true → IsReadTo new u (at + k) known
+scalars_read {w} {new} {u} {part} {at} {known} k n x few within last behind form =
     let count : k ≡ at + k - at = omega arith in
-    let whole : take k part ≡ take (at + k - at) (drop at u) = ap (take k) same ∙ take-take k n (drop at u) m ∙ ap (λ k. take k (drop at u)) count in
-    record { order = omega arith; within = omega (arith, l, m); ascii = subst AreAscii whole h; behind = e ∙ ap (λ w. was ++ w) whole }
+    let same : take k (take n (drop at u)) ≡ take (at + k - at) (drop at u) = take-take k n (drop at u) few ∙ ap (λ k. take k (drop at u)) count in
+    subst (IsReadTo new u (at + k)) (always known)
+    (part_read x (omega arith) (omega (arith, few, within)) (apart k few last) behind (subst (λ v. IsKnownForm part v true) same form))
+  where
+    apart : (k : ℕ) → k ≤ n → ((j : ℕ) → j + 1 ≡ k → ¬ (IsLead (get_or (take n (drop at u)) j 0))) → DividesNoPair u (at + k)
+    apart zero few h = let here : at ≡ at + 0 = omega arith in subst (DividesNoPair u) here x.apart
+    apart (suc j) few h =
+        let here : suc (at + j) ≡ at + suc j = omega arith in
+        let same = get_or-take n (drop at u) j 0 (omega (arith, few)) ∙ get_or-drop at u j 0 in
+        subst (DividesNoPair u) here (last_apart u (at + j) (omega (arith, few, within)) (λ l. h j (omega arith) (omega (arith, same, l.0), omega (arith, same, l.1))))
 
-pub ascii_part : {was new u : List ℕ} {at end : ℕ} → AppendsAscii was new u at end → at < end → AppendsPart was new u at end true
-ascii_part {was} {new} {u} {at} {end} a l =
-    let k = end - at - 1 in
-    let count : end - at ≡ k + 1 = omega (arith, l) in
-    let here : at + (k + 1) ≡ end = omega (arith, l) in
-    let within : at + (k + 1) ≤ length u = omega (arith, here, a.within) in
-    let ascii = subst (λ n. AreAscii (take n (drop at u))) count a.ascii in
-    let last = Each1-get_or (λ n. n < 0x80) (take (k + 1) (drop at u)) k 0 (omega (arith, length-chunk at (k + 1) u within)) ascii in
-    record {
-      order = l;
-      within = a.within;
-      apart = subst (λ n. DividesNoPair u n) here (last_apart u at k within (λ s. omega (arith, last, s.0)));
-      form = record { appended = take (end - at) (drop at u); behind = a.behind; part = ascii_form (take (end - at) (drop at u)) a.ascii };
-    }
-
-pub front_and_part : {was now new u : List ℕ} {at mid end : ℕ} {known : Bool} → AppendsAscii was now u at mid → AppendsPart now new u mid end known
-    → AppendsPart was new u at end known
-front_and_part {was} {now} {new} {u} {at} {mid} {end} {known} a part =
-    let front = take (mid - at) (drop at u) in
-    let back = take (end - mid) (drop mid u) in
-    let read = part.form in
-    let joined = known_behind front read.appended front back true known known (ascii_form front a.ascii) read.part (ascii_meets front back a.ascii) (λ t. (refl, t)) in
-    record {
-      order = omega (arith, a.order, part.order);
-      within = part.within;
-      apart = part.apart;
-      form = record {
-        appended = front ++ read.appended;
-        behind = read.behind ∙ (ap (λ w. w ++ read.appended) a.behind ∙ append_assoc was front read.appended);
-        part = subst (λ v. IsKnownForm (front ++ read.appended) v known) (sym (between u a.order (omega (arith, part.order)))) joined;
-      };
-    }
-
--- a part and the one behind it
-meets_behind_more : (c : List ℕ) {a b : List ℕ} → MeetsAsPair a b → MeetsAsPair (c ++ a) b
-meets_behind_more c m = meets_by (c ++ m.front) m.rest m.lead m.trail m.is_lead m.is_trail (ap (λ e. c ++ e) m.ends ∙ sym (append_assoc c m.front (m.lead ∷ []))) m.begins
-
-pub parts_joined : {was now new u : List ℕ} {at mid end : ℕ} {known more : Bool} → AppendsPart was now u at mid known → AppendsPart now new u mid end more
-    → AppendsPart was new u at end (known && more)
-parts_joined {was} {now} {new} {u} {at} {mid} {end} {known} {more} a part =
-    let front = take (mid - at) (drop at u) in
-    let back = take (end - mid) (drop mid u) in
-    let count : mid ≡ at + (mid - at) = omega (arith, a.order) in
-    let before : take mid u ≡ take at u ++ front = ap (λ k. take k u) count ∙ take-add at (mid - at) u in
-    let apart : ¬ (MeetsAsPair front back) =
-    λ m. a.apart (subst (λ w. MeetsAsPair w (drop mid u)) (sym before) (meets_behind_more (take at u) (meets_longer front (drop mid u) (end - mid) m))) in
-    let own = a.form in
-    let next = part.form in
-    let joined = known_behind own.appended next.appended front back known more (known && more) own.part next.part apart (and_parts known more) in
-    record {
-      order = omega (arith, a.order, part.order);
-      within = part.within;
-      apart = part.apart;
-      form = record {
-        appended = own.appended ++ next.appended;
-        behind = next.behind ∙ (ap (λ w. w ++ next.appended) own.behind ∙ append_assoc was own.appended next.appended);
-        part = subst (λ v. IsKnownForm (own.appended ++ next.appended) v (known && more)) (sym (between u (omega (arith, a.order)) (omega (arith, part.order)))) joined;
-      };
-    }
+pub ascii_read : {w new u : List ℕ} {at : ℕ} {known : Bool} (k n : ℕ) → IsReadTo w u at known → k ≤ n → at + n ≤ length u → AreAscii (take k (take n (drop at u)))
+    → new ≡ w ++ take k (take n (drop at u)) → IsReadTo new u (at + k) known
+ascii_read {u = u} {at = at} k n x few within ascii behind =
+    let units = take n (drop at u) in
+    let last = λ (j : ℕ) (e : j + 1 ≡ k). Each1-get_or (λ n. n < 0x80) (take k units) j 0 (omega (arith, e, few, length-chunk at n u within, length-take k units)) ascii in
+    scalars_read k n x few within (λ j e l. omega (arith, last j e, get_or-take k units j 0 (omega (arith, e)), l.0)) behind (ascii_form (take k units) ascii)
 
 pub all_read : {w u : List ℕ} {at : ℕ} {known : Bool} → IsReadTo w u at known → length u ≤ at → IsKnownForm w u known
 all_read {w} {u} {at} {known} x h = subst (λ v. IsKnownForm w v known) (take_all at u h) x.form

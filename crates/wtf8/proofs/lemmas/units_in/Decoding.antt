@@ -1,16 +1,24 @@
 -- The items that a decoder gives are a reading of the units of its iterator.
 use Rattle.wtf8.proofs.Common.{◌≡◌, ◌+◌, ◌-◌, ◌<◌, length, take, drop, get_or, append-nil, Reads, inl, inr, ℕ, List, [], ◌∷◌, ◌++◌, Option, None, Some, Result, Ok, Err, refl, sym, ap, ◌∙◌, subst, arith}
 use Rattle.wtf8.proofs.Common.{Drains, peekable_steps, peekable_peeked, point_of, points_of, units_left, decode_steps, ReadsAll, IsClean}
-use Rattle.wtf8.proofs.Common.{IsCodePoint, IsLead, IsTrail, IsSurrogate, MatchResult, units_of, units, pair}
+use Rattle.wtf8.proofs.Common.{IsCodePoint, IsLead, IsTrail, IsSurrogate, MatchResult, units, pair}
 use Rattle.std.proofs.Common.{MatchOption}
 use Rattle.std.proofs.lemmas.List.{drop_more}
 use Rattle.std.specs.Iterator.{Yields}
-use Rattle.std.specs.Iterator.Adapters.{peekable_source, PeeksNext}
+use Rattle.std.specs.Iterator.Adapters.{peekable_source, PeekedOrNext, PeeksNext, copied_source}
+use Rattle.std.specs.declared.iter.Copied.{Copied}
+use Rattle.std.specs.declared.slice.Iter.{Iter}
+use Rattle.std.proofs.Common.{Bor, option_copied}
 use Rattle.std.specs.Prelude.{IfSome, IsSomeAnd}
 use Rattle.std.specs.declared.iter.Ahead.{Ahead}
+use Rattle.wtf8.specs.Unicode.{units_of}
 use Rattle.wtf8.specs.private.Decoding.{DecodesItem}
 use Rattle.wtf8.specs.declared.units_in.decode.DecodeUtf16.{DecodeUtf16}
-use Rattle.wtf8.proofs.lemmas.numbers.Readings.{units_one, units_pair}
+use Rattle.wtf8.proofs.lemmas.units_in.Blocks.{last_apart}
+use Rattle.wtf8.proofs.lemmas.numbers.Readings.{units_one, units_pair, no_lead, nothing_begins, no_trail as trail_apart}
+use Rattle.wtf8.proofs.Common.{suc, ◌≤◌, ◌/◌, ◌%◌, cases_lt, lt-ltb, le-ltb, append_assoc, length-append, length-drop, drop-drop, take-add, take_all, DividesNoPair, MeetsAsPair, copied_steps, iter_steps, iter_rest}
+use Rattle.std.proofs.Math.Seq.{take-append_seam, drop-append_seam}
+use Rattle.std.specs.Prelude.{◌⊎◌}
 
 module _ {S A : Type 0} (steps : S → Option A → S → Type 0) where
   -- what comes from t comes from s, where each call from t may be one from s
@@ -37,20 +45,20 @@ module _ {S : Type 0} (steps : S → Option ℕ → S → Type 0) where
       (λ o. (r ≡ o) × (peekable_source u ≡ peekable_source t))) h.2 k.1 in
       (k.0, answer_of (peekable_peeked s) (peekable_source s) (peekable_source t) (peekable_source u) r h.0 h.1 same.0 same.1)
 
-  bare_call : (s t : Ahead S ℕ) (r : Option ℕ) → peekable_peeked s ≡ None → peekable_steps steps s r t → steps (peekable_source s) r (peekable_source t)
+  bare_call : (s t : Ahead S ℕ) (r : Option ℕ) → peekable_peeked s ≡ None → PeekedOrNext steps s r t → steps (peekable_source s) r (peekable_source t)
   bare_call s t r e k = subst (λ p. MatchOption p (steps (peekable_source s) r (peekable_source t))
-      (λ o. (r ≡ o) × (peekable_source t ≡ peekable_source s))) e k.1
+      (λ o. (r ≡ o) × (peekable_source t ≡ peekable_source s))) e k
 
   -- where nothing is peeked the units come from the source
   drains_source : (s : Ahead S ℕ) (xs : List ℕ) → peekable_peeked s ≡ None → Drains (peekable_steps steps) s xs → Drains steps (peekable_source s) xs
   drains_source s [] e d = (
     peekable_source d.0,
-    (peekable_source s, refl, bare_call s d.0 None e (subst (λ k. peekable_steps steps k None d.0) (sym d.1.1) d.1.2)),
+    (peekable_source s, refl, bare_call s d.0 None e (subst (λ k. peekable_steps steps k None d.0) (sym d.1.1) d.1.2).1),
   )
   drains_source s (x ∷ xs) e d =
       let next = d.1.1.0 in
       let r = drains_source next xs d.1.1.1.0 (d.0, (d.1.0, d.1.1.2, d.1.2)) in
-      (r.0, (r.1.0, (peekable_source next, bare_call s next (Some x) e d.1.1.1, r.1.1), r.1.2))
+      (r.0, (r.1.0, (peekable_source next, bare_call s next (Some x) e d.1.1.1.1, r.1.1), r.1.2))
 
   no_trail : (p : Option (Option ℕ)) (a b : Type 0) (q : ℕ) → IsSomeAnd p (λ o. IfSome o (λ u. ¬ (IsTrail u))) → MatchOption p a (λ o. (Some q ≡ o) × b)
       → ¬ (IsTrail q)
@@ -116,20 +124,103 @@ held_apart None o Failed e h apart = absurd cc
 held_apart (Some None) o Failed e h apart = tt
 held_apart (Some (Some u)) o Failed e h apart = apart u h
 
--- the units of one code point at a place
-pub one_read : (v : List ℕ) (at p : ℕ) → at < length v → p ≡ get_or v at 0 → p < 0x10000 → Reads (p ∷ []) (take (at + 1 - at) (drop at v))
-one_read v at p l e h =
-    let count : at + 1 - at ≡ 1 = omega arith in
-    let whole : take (at + 1 - at) (drop at v) ≡ p ∷ [] =
-    ap (λ k. take k (drop at v)) count ∙ (ap (take 1) (drop_more v at 0 l) ∙ ap (λ n. n ∷ []) (sym e)) in
-    record { clean = omega (arith, h); same_units = append-nil _ ∙ (units_one p h ∙ sym whole) }
+-- What the first call of a reader of a slice gives.
 
-pub pair_read : (v : List ℕ) (at p : ℕ) → at + 1 < length v → IsLead (get_or v at 0) → IsTrail (get_or v (at + 1) 0)
-    → p ≡ pair (get_or v at 0) (get_or v (at + 1) 0) → Reads (p ∷ []) (take (at + 2 - at) (drop at v))
-pair_read v at p l k m e =
-    let lead = get_or v at 0 in
-    let trail = get_or v (at + 1) 0 in
-    let count : at + 2 - at ≡ 2 = omega arith in
-    let both : drop at v ≡ lead ∷ trail ∷ drop (at + 1 + 1) v = drop_more v at 0 (omega (arith, l)) ∙ ap (λ w. lead ∷ w) (drop_more v (at + 1) 0 l) in
-    let whole : take (at + 2 - at) (drop at v) ≡ lead ∷ trail ∷ [] = ap (λ n. take n (drop at v)) count ∙ ap (take 2) both in
-    record { clean = omega (arith, e, k, m); same_units = append-nil _ ∙ (ap units_of e ∙ (units_pair lead trail k m ∙ sym whole)) }
+abbrev Units : Type 0
+Units = Ahead (Copied (Iter ℕ)) ℕ
+
+abbrev steps : Copied (Iter ℕ) → Option ℕ → Copied (Iter ℕ) → Type 0
+steps = copied_steps iter_steps
+
+abbrev left : Units → List ℕ
+left s = iter_rest (copied_source (peekable_source s))
+
+empty : (v : List ℕ) → length v ≡ 0 → v ≡ []
+empty [] e = refl
+empty (x ∷ v) e = absurd (omega (arith, e))
+
+-- a unit that comes is the first of those left, and none comes only where none is
+unit_left : (s t : Copied (Iter ℕ)) (r : Option ℕ) → steps s r t → MatchOption r (iter_rest (copied_source s) ≡ []) (λ x. iter_rest (copied_source s) ≡ x ∷ iter_rest (copied_source t))
+unit_left s t r k = from k.0 k.1 r k.2
+  where
+    from : (o : Option (Bor ℕ)) → iter_steps (copied_source s) o (copied_source t) → (r : Option ℕ) → r ≡ option_copied o
+        → MatchOption r (iter_rest (copied_source s) ≡ []) (λ x. iter_rest (copied_source s) ≡ x ∷ iter_rest (copied_source t))
+    from None k None e = empty (iter_rest (copied_source s)) k.0
+    from None k (Some x) e = absurd cc
+    from (Some y) k None e = absurd cc
+    from (Some y) k (Some x) e = let same : x ≡ y.now = cc in k ∙ ap (λ n. n ∷ iter_rest (copied_source t)) (sym same)
+
+pub yielded : (us : List ℕ) (s t : Units) → peekable_peeked s ≡ None → Yields (peekable_steps steps) s us t → (left s ≡ us ++ left t) × (peekable_peeked t ≡ None)
+yielded [] s t n y = (ap left y, ap peekable_peeked (sym y) ∙ n)
+yielded (x ∷ us) s t n y =
+    let m = y.0 in
+    let here = unit_left (peekable_source s) (peekable_source m) (Some x) (bare_call steps s m (Some x) n y.1.1) in
+    let r = yielded us m t y.1.0 y.2 in
+    (here ∙ ap (λ w. x ∷ w) r.0, r.1)
+
+-- no trail comes behind a lead that is alone
+behind_lone : (c : List ℕ) (s t : Units) → peekable_peeked s ≡ None → IsSomeAnd (peekable_peeked t) (λ o. IfSome o (λ u. ¬ (IsTrail u))) → (t ≡ s) ⊎ PeeksNext steps s t
+    → ¬ (MeetsAsPair c (left s))
+behind_lone c s t n lone held = elim held [
+  | inl e ↦ absurd (subst (λ p. IsSomeAnd p (λ o. IfSome o (λ u. ¬ (IsTrail u)))) (ap peekable_peeked e ∙ n) lone)
+  | inr h ↦ next h.0 (unit_left (peekable_source s) (peekable_source t) h.0 (bare_call steps s t h.0 n h.1)) (subst (λ p. IsSomeAnd p (λ o. IfSome o (λ u. ¬ (IsTrail u)))) h.2 lone)
+]
+  where
+    next : (o : Option ℕ) → MatchOption o (left s ≡ []) (λ x. left s ≡ x ∷ left t) → IfSome o (λ u. ¬ (IsTrail u)) → ¬ (MeetsAsPair c (left s))
+    next None e k = subst (λ w. ¬ (MeetsAsPair c w)) (sym e) nothing_begins
+    next (Some x) e k = subst (λ w. ¬ (MeetsAsPair c w)) (sym e) (trail_apart x (left t) k)
+
+-- no pair is divided behind a code point, where no trail comes behind it if it is a lead
+apart_behind : (f w : List ℕ) (p : ℕ) → (IsLead p → ¬ (MeetsAsPair (f ++ units_of p) w)) → ¬ (MeetsAsPair (f ++ units_of p) w)
+unfolding units_of
+apart_behind f w p lone = elim (cases_lt p 0x10000) [
+  | inl l ↦ elim (cases_lt p 0xD800) [
+    | inl h ↦ rw (lt-ltb p 0x10000 l) (no_lead f p (λ k. omega (arith, h, k.0)))
+    | inr g ↦ elim (cases_lt p 0xDC00) [ inl h ↦ lone (g, omega (arith, h)) | inr h ↦ rw (lt-ltb p 0x10000 l) (no_lead f p (λ k. omega (arith, h, k.1))) ]
+  ]
+  | inr g ↦
+      let lead = 0xD800 + (p - 0x10000) / 0x400 in
+      let trail = 0xDC00 + (p - 0x10000) % 0x400 in
+      let split : f ++ units_of p ≡ (f ++ lead ∷ []) ++ trail ∷ [] = rw (le-ltb p 0x10000 g) (sym (append_assoc f (lead ∷ []) (trail ∷ []))) in
+      subst (λ c. ¬ (MeetsAsPair c w)) (sym split) (no_lead (f ++ lead ∷ []) trail (λ k. omega (arith, k.1)))
+]
+
+-- how many units a code point has
+pub unit_count : (p n : ℕ) → (p < 0x10000 → n ≡ 1) → (0x10000 ≤ p → n ≡ 2) → n ≡ length (units_of p)
+unfolding units_of
+unit_count p n one two = elim (cases_lt p 0x10000) [ inl l ↦ rw (lt-ltb p 0x10000 l) (one l) | inr g ↦ rw (le-ltb p 0x10000 g) (two g) ]
+
+-- the first item of some units from a place on: where its units end
+pub record IsFirstRead (v : List ℕ) (at end p : ℕ) : Type 0 where
+  pub within : end ≤ length v
+  pub apart : DividesNoPair v end
+  pub reads : Reads (p ∷ []) (take (end - at) (drop at v))
+
+pub first_read : (v : List ℕ) (at end : ℕ) (s t : Units) (x : Result ℕ ℕ) → at < length v → left s ≡ take (length v - at) (drop at v) → peekable_peeked s ≡ None → DecodesItem steps s x t
+    → end ≡ at + length (units_of (point_of x)) → IsFirstRead v at end (point_of x)
+first_read v at end s t x here rest none item count =
+    let us = units_of (point_of x) in
+    let got = yielded us s item.behind none item.taken in
+    let whole : drop at v ≡ us ++ left item.behind = sym (take_all (length v - at) (drop at v) (omega (arith, length-drop at v))) ∙ sym rest ∙ got.0 in
+    let front : take (length us) (drop at v) ≡ us = ap (take (length us)) whole ∙ take-append_seam us (left item.behind) in
+    let back : drop end v ≡ left item.behind = ap (λ k. drop k v) count ∙ sym (drop-drop (length us) at v) ∙ ap (drop (length us)) whole ∙ drop-append_seam us (left item.behind) in
+    let before : take end v ≡ take at v ++ us = ap (λ k. take k v) count ∙ take-add at (length us) v ∙ ap (λ w. take at v ++ w) front in
+    let counted : length us ≡ end - at = omega (arith, count) in
+    let apart = apart_behind (take at v) (left item.behind) (point_of x) (λ l. behind_lone (take at v ++ us) item.behind t got.1 (item.lone l) item.held) in
+    record {
+      within = omega (arith, count, here, length-drop at v, ap length whole, length-append us (left item.behind));
+      apart = subst (λ c. ¬ (MeetsAsPair c (drop end v))) (sym before) (subst (λ d. ¬ (MeetsAsPair (take at v ++ us) d)) (sym back) apart);
+      reads = record { clean = item_range steps x item.kind; same_units = append-nil us ∙ sym front ∙ ap (λ k. take k (drop at v)) counted };
+    }
+
+-- a unit that is its own code point and no lead
+pub one_read : (v : List ℕ) (at : ℕ) → at < length v → get_or v at 0 < 0xD800 → IsFirstRead v at (at + 1) (get_or v at 0)
+one_read v at l h =
+    let count : at + 1 - at ≡ 1 = omega arith in
+    let next : suc at ≡ at + 1 = omega arith in
+    let whole : take (at + 1 - at) (drop at v) ≡ get_or v at 0 ∷ [] = ap (λ k. take k (drop at v)) count ∙ ap (take 1) (drop_more v at 0 l) in
+    record {
+      within = omega (arith, l);
+      apart = subst (DividesNoPair v) next (last_apart v at l (λ k. omega (arith, h, k.0)));
+      reads = record { clean = omega (arith, h); same_units = append-nil _ ∙ (units_one (get_or v at 0) (omega (arith, h)) ∙ sym whole) };
+    }

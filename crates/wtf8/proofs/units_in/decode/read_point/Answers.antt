@@ -1,21 +1,37 @@
-use Rattle.wtf8.proofs.Common.{◌∙◌, arith, rules, number}
-use Rattle.wtf8.proofs.lemmas.units_in.Decoding.{one_read, pair_read}
+use Rattle.wtf8.proofs.Common.{◌∙◌, ◌+◌, ◌-◌, refl, [], ◌∷◌, ap, arith, drop, iter_rest, length, sym, subst, take, point_of, units_left, Reads, units_of}
+use Rattle.std.specs.Iterator.Adapters.{copied_source}
+use Rattle.wtf8.proofs.lemmas.units_in.Decoding.{IsFirstRead, first_read, one_read, unit_count}
 use Rattle.wtf8.proofs.units_in.decode.read_point.Goals as goal
 
-pub returns-in-56320-to-57343-clause-reads : goal.returns-in-56320-to-57343-clause-reads
-returns-in-56320-to-57343-clause-reads c =
-    let point = c.from_char.ensures ∙ c.paired.ensures in
-    pair_read c.args.v.now c.args.at (number c.from_char.result) (omega (arith, c.if-v-at-gt1.true)) (search rules) (search rules) point
+read_character : (c : goal.After-len_utf16) → IsFirstRead c.args.v.now c.args.at (c.args.at + c.len_utf16.result) (point_of c.in-Some.item)
+read_character c =
+    let many = unit_count c.in-Ok.character c.len_utf16.result c.len_utf16.ensures.bmp c.len_utf16.ensures.surrogate_pair ∙ ap (λ x. length (units_of (point_of x))) (sym c.in-Ok.is) in
+    let rest = ap (λ s. iter_rest (copied_source s)) c.decode_utf16.ensures.source ∙ ap iter_rest c.copied.ensures.source ∙ c.iter.ensures.rest in
+    first_read c.args.v.now c.args.at (c.args.at + c.len_utf16.result) (units_left c.decode_utf16.result) (units_left c.next.new.self) c.in-Some.item c.requires rest c.decode_utf16.ensures.peeked
+    c.in-Some.ensures.steps (omega (arith, many))
 
-pub returns-in-55296-to-56319-clause-reads : goal.returns-in-55296-to-56319-clause-reads
-returns-in-55296-to-56319-clause-reads c = one_read c.args.v.now c.args.at (number c.lone.result) c.requires c.lone.ensures (search rules)
+pub returns-in-Ok-clause-within : goal.returns-in-Ok-clause-within
+returns-in-Ok-clause-within c = (read_character c).within
+
+pub returns-in-Ok-clause-apart : goal.returns-in-Ok-clause-apart
+returns-in-Ok-clause-apart c = (read_character c).apart
 
 pub returns-in-Ok-clause-reads : goal.returns-in-Ok-clause-reads
-returns-in-Ok-clause-reads c =
-    let point = c.from_char-in-Ok.ensures ∙ c.in-Ok.ensures.point in
-    one_read c.args.v.now c.args.at (number c.from_char-in-Ok.result) c.requires point (search (rules, point))
+returns-in-Ok-clause-reads c = subst (λ p. Reads (p ∷ []) (take (c.args.at + c.len_utf16.result - c.args.at) (drop c.args.at c.args.v.now))) (ap point_of c.in-Ok.is ∙ sym c.from_char.ensures) (read_character c).reads
+
+read_lone : (c : goal.After-single-in-Err) → IsFirstRead c.args.v.now c.args.at (c.args.at + 1) (point_of c.in-Some.item)
+read_lone c =
+    let many = unit_count c.in-Err.surrogate 1 (λ _. refl) (λ g. omega (arith, g)) ∙ ap (λ x. length (units_of (point_of x))) (sym c.in-Err.is) in
+    let rest = ap (λ s. iter_rest (copied_source s)) c.decode_utf16.ensures.source ∙ ap iter_rest c.copied.ensures.source ∙ c.iter.ensures.rest in
+    first_read c.args.v.now c.args.at (c.args.at + 1) (units_left c.decode_utf16.result) (units_left c.next.new.self) c.in-Some.item c.requires rest c.decode_utf16.ensures.peeked
+    c.in-Some.ensures.steps (omega (arith, many))
+
+pub returns-in-Err-clause-apart : goal.returns-in-Err-clause-apart
+returns-in-Err-clause-apart c = (read_lone c).apart
 
 pub returns-in-Err-clause-reads : goal.returns-in-Err-clause-reads
-returns-in-Err-clause-reads c =
-    let point = c.lone-in-Err.ensures ∙ c.in-Err.ensures.point in
-    one_read c.args.v.now c.args.at (number c.lone-in-Err.result) c.requires point (search (rules, point))
+returns-in-Err-clause-reads c = subst (λ p. Reads (p ∷ []) (take (c.args.at + 1 - c.args.at) (drop c.args.at c.args.v.now))) (ap point_of c.in-Err.is ∙ sym c.single-in-Err.ensures) (read_lone c).reads
+
+pub returns-then-unit-lt-FIRST_LEAD-clause-reads : goal.returns-then-unit-lt-FIRST_LEAD-clause-reads
+returns-then-unit-lt-FIRST_LEAD-clause-reads c =
+    subst (λ p. Reads (p ∷ []) (take (c.args.at + 1 - c.args.at) (drop c.args.at c.args.v.now))) (sym c.single.ensures) (one_read c.args.v.now c.args.at c.requires (omega (arith, c.if-unit-lt-FIRST_LEAD.true))).reads

@@ -1,21 +1,30 @@
-use Rattle.wtf8.proofs.Common.{◌+◌, arith, subst, true}
-use Rattle.wtf8.specs.private.UnitParts.{AppendsPart}
-use Rattle.wtf8.proofs.lemmas.units_in.Blocks.{ascii_appended, ascii_part, front_and_part}
+use Rattle.wtf8.proofs.Common.{◌≡◌, ◌∙◌, ◌+◌, ◌≤◌, ◌%◌, ◌++◌, ap, arith, subst, sym, take, drop, length, length-chunk, take_all}
+use Rattle.std.proofs.Math.Seq.{take-append-add}
+use Rattle.std.proofs.lemmas.List.{length-map}
+use Rattle.wtf8.specs.private.UnitParts.{IsReadTo}
+use Rattle.wtf8.proofs.lemmas.lanes.AsciiFronts.{low_ascii}
+use Rattle.wtf8.proofs.lemmas.units_in.Blocks.{ascii_read}
 use Rattle.wtf8.proofs.units_in.unit_blocks.append_front.Goals as goal
 
-pub returns-then-count-clause-some : goal.returns-then-count-clause-some
-returns-then-count-clause-some g c =
+pub returns-then-count-clause-read : goal.returns-then-count-clause-read
+returns-then-count-clause-read g c =
     let n = c.count_ascii-count.result in
-    let units = c.in-Some.ensures in
+    let low = c.low_bytes.result in
     let counted = c.count_ascii-count.ensures in
-    let at = c.args.at in
-    let front = ascii_appended at n g.row.N units.within units.same counted.within counted.ascii c.in_ok-append_cut.ensures in
-    subst (λ k. AppendsPart c.args.bytes.now.items c.append_cut.new.bytes.items c.args.v.now at (at + k) true) c.if-count.true
-    (ascii_part front (omega (arith, c.requires.lanes.0, c.if-count.true)))
+    let kept = ap (take n) c.low_bytes.ensures ∙ low_ascii n (take g.row.N (drop c.args.at c.args.v.now)) counted.ascii in
+    let many : length low ≤ n = omega (arith, ap length c.low_bytes.ensures, length-map (take g.row.N (drop c.args.at c.args.v.now)) (λ unit. unit % 256), length-chunk c.args.at g.row.N c.args.v.now c.requires.within, c.if-count.true) in
+    subst (λ k. IsReadTo c.extend_from_slice.new.self.items c.args.v.now (c.args.at + k) c.args.is_scalar) c.if-count.true
+    (ascii_read n g.row.N c.requires.read counted.within c.requires.within counted.ascii
+    (c.in_ok-extend_from_slice.ensures.items ∙ ap (λ w. c.args.bytes.now.items ++ w) (sym (take_all n low many) ∙ kept)))
 
-pub returns-clause-some : goal.returns-clause-some
-returns-clause-some g c =
-    let units = c.in-Some.ensures in
+pub append_point-requires-clause-read : goal.append_point-requires-clause-read
+append_point-requires-clause-read g c =
+    let n = c.count_ascii-count.result in
+    let low = c.low_bytes.result in
+    let old = c.args.bytes.now.items in
     let counted = c.count_ascii-count.ensures in
-    let front = ascii_appended c.args.at c.count_ascii-count.result g.row.N units.within units.same counted.within counted.ascii c.in_ok-append_cut.ensures in
-    front_and_part front c.in_ok-append_point.ensures
+    let kept = ap (take n) c.low_bytes.ensures ∙ low_ascii n (take g.row.N (drop c.args.at c.args.v.now)) counted.ascii in
+    let end : c.len.result + n ≡ length old + n = omega (arith, c.args.bytes.now.ok.0, c.len.ensures) in
+    ascii_read n g.row.N c.requires.read counted.within c.requires.within counted.ascii
+    (c.truncate.ensures.items ∙ ap (take (c.len.result + n)) c.in_ok-extend_from_slice.ensures.items ∙ ap (λ k. take k (old ++ low)) end
+    ∙ take-append-add old low n ∙ ap (λ w. old ++ w) kept)

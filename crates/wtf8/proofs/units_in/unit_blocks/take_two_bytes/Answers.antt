@@ -1,6 +1,0 @@
-use Rattle.std.proofs.lemmas.Bool.{eqb-true}
-use Rattle.wtf8.proofs.lemmas.units_in.Blocks.{none_no_two}
-use Rattle.wtf8.proofs.units_in.unit_blocks.take_two_bytes.Goals as goal
-
-pub returns : goal.returns
-returns c t = none_no_two c.args.units c.fits-units.0 c.fits-units.1 (eqb-true _ 0 t)
