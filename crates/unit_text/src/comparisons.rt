@@ -9,7 +9,6 @@ ghost use Rattle.wtf8.specs.Form.{bytes};
 use crate::text::UnitText;
 use std::alloc::Allocator;
 use std::hash::{Hash, Hasher};
-use wtf8::laws;
 
 /// Texts are equal where their units are.
 impl<A: Allocator> PartialEq for UnitText<A> {
@@ -36,9 +35,7 @@ impl<A: Allocator> Hash for UnitText<A> {
     ghost hash_input = { λ units. bytes (reading units) ∷ fed.u8 254 };
 
     fn hash<H: Hasher>(&self, state: &mut H) {
-        laws::law_one_reading();
-        laws::law_concat();
-        self.text.hash(state);
+        self.as_wtf8().hash(state);
     }
 
     ghost respects_eq = { Prim.search (hashing, rules) };

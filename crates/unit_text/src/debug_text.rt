@@ -6,7 +6,6 @@ ghost use Rattle.wtf8.specs.Debug.{debug};
 use crate::text::UnitText;
 use std::alloc::Allocator;
 use std::fmt;
-use wtf8::laws;
 
 /// The debug text of the view: a double quote, the code points and a double quote, whatever width and flags stand
 /// outside. A surrogate that is in no pair stands as its four upper-case digits between `\u{` and `}`.
@@ -19,8 +18,6 @@ impl<A: Allocator> fmt::Debug for UnitText<A> {
         ensures writes { DisplaysOnOk W.write_str_gives f.old result (Some (debug (reading self.now))) f.new }
         ensures styled { WritesStyledOnOk W.write_str_gives f.old result (debug (reading self.now)) f.new }
     {
-        laws::law_one_reading();
-        laws::law_concat();
-        self.text.fmt(f)
+        self.as_wtf8().fmt(f)
     }
 }

@@ -6,7 +6,8 @@ ghost use Rattle.std.specs.Ordering.{MatchOrdering, nat_cmp};
 ghost use Rattle.wtf8.specs.Appending.{AppendsUnits, KeepsContents};
 ghost use Rattle.wtf8.specs.Order.{Before};
 ghost use Rattle.wtf8.specs.UnitPosition.{units_of_slice};
-ghost use Rattle.wtf8.specs.View.{view_units};
+ghost use Rattle.wtf8.specs.View.{view_points, view_units};
+ghost use Rattle.unit_text.specs.Reading.{reading};
 
 use crate::marks::{self, Marks};
 use std::alloc::{AllocError, Allocator};
@@ -143,10 +144,13 @@ impl<A: Allocator> UnitText<A> {
         self.as_wtf8().cmp_units(&other.as_wtf8())
     }
 
-    /// A view of the whole text.
+    /// A view of the whole text. Its code points are the reading of the units.
     pub fn as_wtf8(&self) -> Wtf8<'_>
-        ensures { view_units result ≡ self.now }
+        ensures units { view_units result ≡ self.now }
+        ensures reading { view_points result ≡ reading self.now }
     {
+        laws::law_one_reading();
+        laws::law_concat();
         self.text.as_wtf8()
     }
 }

@@ -1,6 +1,6 @@
 // Laws of the encoding: nothing runs here, the contracts are theorems about the definitions.
 ghost use Rattle.std.specs.List.{All};
-ghost use Rattle.std.specs.Prelude.{◌≡◌, ◌≢◌, ◌<◌, ◌≤◌, ◌+◌, ◌*◌, ◌^◌, ℕ, List, ◌∷◌, ◌++◌, length, take, slice_index, ◌↔◌};
+ghost use Rattle.std.specs.Prelude.{◌≡◌, ◌≢◌, ◌<◌, ◌≤◌, ◌+◌, ◌*◌, ◌^◌, ℕ, List, ◌∷◌, ◌++◌, length, take, drop, slice_index, ◌↔◌};
 ghost use Rattle.std.specs.Str.{chars};
 ghost use Rattle.wtf8.specs.Laws.{UnitsHaveOneReading, ReadingsAreOfUnits, UnitsHaveOneForm, FormsAreOfOneList, EqualFormsHaveEqualUnits, NoEncodingBeginsAnother, BytesBeginWithOnePoint, EqualBytesAreOfEqualPoints, ByteOrderIsPointOrder, GlueMakesPair, GlueKeepsOthers, GlueReadsBoth, GlueFormsBoth, PairFormsBoth, OthersFormBoth, GlueIsAssociative, EmptyFrontIsNeutral, EmptyBackIsNeutral, FrontAndBackAreWhole, FirstUnitsAndRestAreWhole};
 ghost use Rattle.wtf8.specs.PositionLaws.{StartIsBoundary, EndIsBoundary, NoneIsBeyondEnd, AsciiStandsAlone, AsciiIsOneUnit, AsciiIsNoOtherUnit, FrontBoundariesAreOfWhole, WholeBoundariesAreOfFront, WholeBoundariesAreOfBack, BackBoundariesAreOfWhole, BeginningsAreNoLonger, BothAreNoLonger, PointsHaveOneToFourBytes, ListsHaveLengths};
@@ -9,13 +9,14 @@ ghost use Rattle.wtf8.specs.Building.{CallsRunOnce, RunsAddUp, Run};
 ghost use Rattle.wtf8.specs.CodePoint.{number};
 ghost use Rattle.wtf8.specs.Form.{Reads, bytes, encoding};
 ghost use Rattle.wtf8.specs.PointLaws.{DrainedPointsAreLeft, DrainedPointsAreTaken, DrainedPointsAreBehind, CollectedPointsAreLeft, CollectedPointsAreTaken, CollectedPointsAreBehind};
-ghost use Rattle.wtf8.specs.Position.{IsBoundary, IsBack};
+ghost use Rattle.wtf8.specs.Position.{IsBoundary, IsFront, IsBack};
 ghost use Rattle.wtf8.specs.Surrogates.{AreScalar, lossy};
-ghost use Rattle.wtf8.specs.UnitMark.{EqualCountsAreMarks, MarksStay};
+ghost use Rattle.wtf8.specs.UnitMark.{IsMarkOf, EqualCountsAreMarks, MarksStay};
 ghost use Rattle.wtf8.specs.View.{view_points, view_units};
 
 use crate::numbers::code_point::CodePoint;
 use crate::strings::build::Build;
+use crate::strings::unit_marks::UnitMark;
 use crate::strings::view::Wtf8;
 
 /// Each list of 16-bit units has exactly one reading as code points of which no two would join, and only such lists
@@ -103,6 +104,15 @@ pub fn law_positions()
 pub fn law_marks()
     ensures equal { EqualCountsAreMarks }
     ensures kept { MarksStay }
+{}
+
+/// The position of a mark of this view is a code point boundary, with the units that the mark counts before it and the
+/// others behind it. A caller calls it with the view and the mark, and has nothing to cite.
+pub fn law_mark(view: Wtf8<'_>, mark: UnitMark)
+    requires { IsMarkOf view mark }
+    ensures boundary { IsBoundary (view_units view.entry) mark.position }
+    ensures front { IsFront (view_units view.entry) mark.position (take mark.units (view_units view.entry)) }
+    ensures back { IsBack (view_units view.entry) mark.position (drop mark.units (view_units view.entry)) }
 {}
 
 /// How long forms are: a beginning is no longer than the whole, and two lists together are no longer than both of them.

@@ -273,6 +273,9 @@ impl<A: Allocator> Wtf8Buf<A> {
         ensures ok { OnOk result (AppendsUnits self.old (units_of (number code_point)) self.new) }
         ensures kept { OnErr result (KeepsContents self.old self.new) }
 
+        // A code point below U+10000 is one unit.
+        ensures one { number code_point < 0x10000 → OnOk result (AppendsUnits self.old (number code_point ∷ []) self.new) }
+
         // A push whose bytes fit is never refused, and the capacity never shrinks.
         ensures room { HasRoomFor self.old (units_of (number code_point)) → IsOk result }
         ensures capacity { self.old.capacity ≤ self.new.capacity }

@@ -29,7 +29,7 @@ mark_of : {w u : List ℕ} (f : IsForm w u) {k n : ℕ} → CutsUnits f.points n
 mark_of {w} f {k} {n} x = subst (λ v. IsMark w v k n) f.reads.same_units (mark_at_cut (well_formed_of f) x)
 
 -- and a mark is one, since bytes determine code points
-pub cut_of : {w u : List ℕ} (h : IsWellFormed w) {k n : ℕ} → IsMark w u k n → CutsUnits h.points n k None
+abbrev pub cut_of : {w u : List ℕ} (h : IsWellFormed w) {k n : ℕ} → IsMark w u k n → CutsUnits h.points n k None
 cut_of {w} {u} h {k} {n} m =
     let front = m.before.points in
     let back = m.behind.points in

@@ -1,6 +1,6 @@
-use Rattle.wtf8.proofs.Common.{number, refl}
+use Rattle.wtf8.proofs.Common.{number, refl, ap, on_ok_weaker, ◌∙◌, ◌∷◌, ◌++◌, []}
 use Rattle.wtf8.proofs.lemmas.strings.Gains.{units_appended, kept_contents, room_found, known_point, point_form}
-use Rattle.wtf8.proofs.lemmas.numbers.Readings.{form_of}
+use Rattle.wtf8.proofs.lemmas.numbers.Readings.{form_of, units_one}
 use Rattle.wtf8.proofs.lemmas.laws.Laws.{grows_at_most, room_left}
 use Rattle.wtf8.proofs.strings.buf.Wtf8Buf.push.Goals as goal
 
@@ -16,6 +16,10 @@ returns-clause-ok g c = units_appended _ _ c.self-1.given.0 c.self.view_is refl 
 
 pub returns-clause-kept : goal.returns-clause-kept
 returns-clause-kept g c = kept_contents _ _ _ c.self.view_is refl refl c.push_point.ensures.gains
+
+pub returns-clause-one : goal.returns-clause-one
+returns-clause-one g c low =
+    on_ok_weaker c.push_point.result (λ e. e ∙ ap (λ u. c.args.self.now.units ++ u) (units_one (number c.args.code_point) low)) (returns-clause-ok g c)
 
 pub returns-clause-room : goal.returns-clause-room
 returns-clause-room g c = room_found _ _ c.self.view_is refl refl c.push_point.ensures.gains
