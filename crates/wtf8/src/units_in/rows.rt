@@ -8,7 +8,7 @@ use std::simd::prelude::*;
 /// The places of the bytes of four units in sixteen, of which the first four are the units' first bytes of three, the next
 /// four their second ones and the next four their last ones. The number of a row has a bit for each unit of more than one
 /// byte, and four places above it one for each of three.
-static ROWS: [[u8; 16]; 256] = [
+const ROWS: &[[u8; 16]; 256] = &[
     [8, 9, 10, 11, 0, 0, 0, 0, 0, 0, 0, 0, 0, 0, 0, 0],
     [4, 8, 9, 10, 11, 0, 0, 0, 0, 0, 0, 0, 0, 0, 0, 0],
     [8, 5, 9, 10, 11, 0, 0, 0, 0, 0, 0, 0, 0, 0, 0, 0],

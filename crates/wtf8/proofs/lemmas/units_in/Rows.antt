@@ -40,11 +40,11 @@ same_lists (x ∷ xs) [] e = absurd (false≢true e)
 same_lists (x ∷ xs) (y ∷ ys) e = λ i. eqb-true x y (and_parts _ _ e).0 i ∷ same_lists xs ys (and_parts _ _ e).1 i
 
 abbrev row_same : List ℕ → ℕ → ℕ → ℕ → ℕ → Bool
-row_same none a b c d = same (take (a + b + c + d) (get_or ROWS (row_number a b c d) none)) (places a 0 ++ places b 1 ++ places c 2 ++ places d 3)
+row_same none a b c d = same (take (a + b + c + d) (get_or ROWS.now (row_number a b c d) none)) (places a 0 ++ places b 1 ++ places c 2 ++ places d 3)
 
-pub row_is : (none : List ℕ) (number : ℕ) → IsRow number (get_or ROWS number none)
+pub row_is : (none : List ℕ) (number : ℕ) → IsRow number (get_or ROWS.now number none)
 row_is none number a b c d i j k l e =
-    ap (λ n. take (a + b + c + d) (get_or ROWS n none)) e ∙ same_lists _ _ (of_four (row_same none) a b c d i j k l refl)
+    ap (λ n. take (a + b + c + d) (get_or ROWS.now n none)) e ∙ same_lists _ _ (of_four (row_same none) a b c d i j k l refl)
 
 -- each place is below 16
 abbrev all_below : List ℕ → Bool
@@ -64,8 +64,8 @@ below_at [] none k h e = absurd (omega (arith, h))
 below_at (row ∷ rows) none zero h e = (and_parts _ _ e).0
 below_at (row ∷ rows) none (suc k) h e = below_at rows none k (omega (arith, h)) (and_parts _ _ e).1
 
-pub row_below : (none : List ℕ) (number : ℕ) → number < 256 → Each1 (λ place. place < 16) (get_or ROWS number none)
-row_below none number h = below_each (get_or ROWS number none) (below_at ROWS none number h refl)
+pub row_below : (none : List ℕ) (number : ℕ) → number < 256 → Each1 (λ place. place < 16) (get_or ROWS.now number none)
+row_below none number h = below_each (get_or ROWS.now number none) (below_at ROWS.now none number h refl)
 
 -- the ones of a number are counted
 counted : ℕ → ℕ → ℕ → ℕ → Bool
