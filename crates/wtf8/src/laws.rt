@@ -11,7 +11,7 @@ ghost use Rattle.wtf8.specs.Form.{Reads, bytes, encoding};
 ghost use Rattle.wtf8.specs.PointLaws.{DrainedPointsAreLeft, DrainedPointsAreTaken, DrainedPointsAreBehind, CollectedPointsAreLeft, CollectedPointsAreTaken, CollectedPointsAreBehind};
 ghost use Rattle.wtf8.specs.Position.{IsBoundary, IsFront, IsBack};
 ghost use Rattle.wtf8.specs.Surrogates.{AreScalar, lossy};
-ghost use Rattle.wtf8.specs.UnitMark.{IsMarkOf, EqualCountsAreMarks, MarksStay};
+ghost use Rattle.wtf8.specs.UnitMark.{IsMarkOf, EqualCountsAreMarks, MarksStay, DividedAreSurrogates};
 ghost use Rattle.wtf8.specs.View.{view_points, view_units};
 
 use crate::numbers::code_point::CodePoint;
@@ -100,19 +100,23 @@ pub fn law_positions()
 {}
 
 /// Marks of strings: each position is one where a string has as many bytes as units, and a mark before the last unit stays
-/// one where units are appended, also where a lead surrogate and a trail surrogate meet.
+/// one where units are appended, also where a lead surrogate and a trail surrogate meet. A number of units divides a pair
+/// only between a lead and a trail.
 pub fn law_marks()
     ensures equal { EqualCountsAreMarks }
     ensures kept { MarksStay }
+    ensures divided { DividedAreSurrogates }
 {}
 
-/// The position of a mark of this view is a code point boundary, with the units that the mark counts before it and the
-/// others behind it. A caller calls it with the view and the mark, and has nothing to cite.
+/// The position of a mark of this view is a code point boundary, with exactly the units that the mark counts before it and
+/// the others behind it. A caller calls it with the view and the mark, and has nothing to cite.
 pub fn law_mark(view: Wtf8<'_>, mark: UnitMark)
     requires { IsMarkOf view mark }
     ensures boundary { IsBoundary (view_units view.entry) mark.position }
     ensures front { IsFront (view_units view.entry) mark.position (take mark.units (view_units view.entry)) }
     ensures back { IsBack (view_units view.entry) mark.position (drop mark.units (view_units view.entry)) }
+    ensures only_front { (v : List ℕ) → IsFront (view_units view.entry) mark.position v → v ≡ take mark.units (view_units view.entry) }
+    ensures only_back { (v : List ℕ) → IsBack (view_units view.entry) mark.position v → v ≡ drop mark.units (view_units view.entry) }
 {}
 
 /// How long forms are: a beginning is no longer than the whole, and two lists together are no longer than both of them.

@@ -1,6 +1,7 @@
 // Places in a string where a known number of units ends, from which other units are found.
 ghost use Rattle.std.specs.Prelude.{◌≡◌, ◌≤◌, length, drop};
 ghost use Rattle.wtf8.specs.UnitMark.{IsMarkOf, IsUndivided};
+ghost use Rattle.wtf8.specs.UnitPosition.{DividesPair};
 ghost use Rattle.wtf8.specs.View.{view_units};
 
 use crate::strings::unit_positions::cut;
@@ -48,6 +49,7 @@ impl<'a> Wtf8<'a> {
         requires within { units ≤ length (view_units self.now) }
         ensures mark { IsMarkOf self.now result }
         ensures last { IsUndivided (view_units self.now) units result.units }
+        ensures exact { ¬ (DividesPair (view_units self.now) units) → result.units ≡ units }
     {
         let Some(cut) = cut(self.behind_mark(from), units - from.units) else {
             return from;

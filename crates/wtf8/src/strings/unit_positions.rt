@@ -454,8 +454,8 @@ impl<'a> Wtf8<'a> {
         ensures units { units_of_slice result ≡ drop begin (take end (view_units self.now)) }
 
         // A half stands beside the code points where an end divides a pair, and only there.
-        ensures trail { begin < end → IsSome result.trail ↔ DividesPair (view_units self.now) begin }
-        ensures lead { begin < end → IsSome result.lead ↔ DividesPair (view_units self.now) end }
+        ensures trail { begin < end → (IsSome result.trail ↔ DividesPair (view_units self.now) begin) }
+        ensures lead { begin < end → (IsSome result.lead ↔ DividesPair (view_units self.now) end) }
     {
         if begin == end {
             return UnitSlice {

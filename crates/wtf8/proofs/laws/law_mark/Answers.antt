@@ -1,14 +1,21 @@
-use Rattle.wtf8.proofs.lemmas.strings.Positions.{cut_by}
+use Rattle.wtf8.proofs.Common.{units, IsFront, IsBack, take, drop}
+use Rattle.wtf8.proofs.lemmas.strings.Positions.{cut_by, same_front, same_back}
 use Rattle.wtf8.proofs.lemmas.strings.UnitMarks.{cut_of}
 use Rattle.wtf8.proofs.laws.law_mark.Goals as goal
 
 pub returns : goal.returns
 returns c =
     let own = c.args.view.well_formed in
+    let u = units own.points in
+    let k = c.args.mark.position in
     let x = cut_of own c.requires in
-    let splits = (cut_by own x.front x.back c.args.mark.position x.joined x.front_len).splits in
+    let splits = (cut_by own x.front x.back k x.joined x.front_len).splits in
+    let front : IsFront u k (take c.args.mark.units u) = record { front = x.front; back = x.back; splits = splits; same_units = c.requires.before.reads.same_units } in
+    let back : IsBack u k (drop c.args.mark.units u) = record { front = x.front; back = x.back; splits = splits; same_units = c.requires.behind.reads.same_units } in
     record {
       boundary = record { front = x.front; back = x.back; splits = splits };
-      front = record { front = x.front; back = x.back; splits = splits; same_units = c.requires.before.reads.same_units };
-      back = record { front = x.front; back = x.back; splits = splits; same_units = c.requires.behind.reads.same_units };
+      front = front;
+      back = back;
+      only_front = λ v f. same_front u k v _ f front;
+      only_back = λ v b. same_back u k v _ b back;
     }

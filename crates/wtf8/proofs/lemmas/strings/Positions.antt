@@ -137,6 +137,16 @@ same_front u k v w x y =
     let front = points_before h (cut_by h x.front x.back k refl own.front_len).before y.front y.back k whole other.front_len refl in
     sym x.same_units ∙ (ap units front ∙ y.same_units)
 
+-- and so is what is behind it
+pub same_back : (u : List ℕ) (k : ℕ) (v w : List ℕ) → IsBack u k v → IsBack u k w → v ≡ w
+same_back u k v w x y =
+    let own = x.splits in
+    let other = y.splits in
+    let whole = reads_same own.reads other.reads in
+    let h : IsWellFormed (bytes (x.front ++ x.back)) = record { points = x.front ++ x.back; clean = own.reads.clean; encoded = refl } in
+    let back = points_behind h (cut_by h x.front x.back k refl own.front_len).behind y.front y.back k whole other.front_len refl in
+    sym x.same_units ∙ (ap units back ∙ y.same_units)
+
 -- of two fronts of one list the one with fewer bytes begins the other
 pub record Begun (f g : List ℕ) : Type 0 where
   pub more : List ℕ

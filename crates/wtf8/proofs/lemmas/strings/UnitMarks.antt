@@ -1,11 +1,12 @@
 -- Marks: places in a string where a number of units ends.
 use Rattle.wtf8.proofs.Common.{◌≡◌, ◌+◌, ◌<◌, ◌≤◌, ℕ, zero, suc, List, [], ◌∷◌, ◌++◌, length, take, None, Some, refl, sym, ap, ◌∙◌, subst, arith}
 use Rattle.wtf8.proofs.Common.{length-append, append_assoc, take-append-drop, bytes-injective, units_of, encoding}
-use Rattle.wtf8.proofs.Common.{units, bytes, IsWellFormed, IsForm, CutsUnits, glue, Option, ◌-◌, drop}
+use Rattle.wtf8.proofs.Common.{get_or, length-drop, IsLead, IsTrail, units, bytes, IsWellFormed, IsForm, CutsUnits, glue, Option, ◌-◌, drop}
 use Rattle.std.proofs.Common.{length-take-le}
+use Rattle.std.proofs.Math.Seq.{get_or-append_seam}
 use Rattle.std.specs.Prelude.{MatchOption}
 use Rattle.wtf8.specs.private.UnitCounts.{Divides}
-use Rattle.wtf8.specs.UnitMark.{IsMark, EqualCountsAreMarks, MarksStay}
+use Rattle.wtf8.specs.UnitMark.{IsMark, EqualCountsAreMarks, MarksStay, DividedAreSurrogates}
 use Rattle.wtf8.proofs.lemmas.numbers.Encoding.{bytes-append, row_of, one, two, three, four}
 use Rattle.wtf8.proofs.lemmas.numbers.Readings.{units-append, lengths, units_one, units_two, well_formed_of, same_form}
 use Rattle.wtf8.proofs.lemmas.strings.Concatenation.{reads-glue, one_form, units_read}
@@ -77,6 +78,22 @@ mark_before_cut h {k} m e x =
     mark_at_cut h (record { front = x.front; back = x.back; joined = x.joined; front_len = x.front_len; counted = omega (arith, x.counted.inside, e) })
 
 -- The laws of marks.
+
+-- beside a place where a pair is divided stand its lead and its trail
+pub divided_are_surrogates : DividedAreSurrogates
+divided_are_surrogates u n m =
+    let inside : n < length u = omega (arith, ap length m.begins, length-drop n u) in
+    let front : length (m.front ++ m.lead ∷ []) ≡ n = sym (ap length m.ends) ∙ length-take-le n u (omega (arith, inside)) in
+    let whole : u ≡ (m.front ++ m.lead ∷ []) ++ m.trail ∷ m.rest =
+    sym (take-append-drop n u) ∙ (ap (λ v. v ++ drop n u) m.ends ∙ ap (λ v. (m.front ++ m.lead ∷ []) ++ v) m.begins) in
+    let before : n - 1 ≡ length m.front = omega (arith, front, length-append m.front (m.lead ∷ [])) in
+    let lead : get_or u (n - 1) 0 ≡ m.lead =
+    ap (λ k. get_or u k 0) before ∙ (ap (λ v. get_or v (length m.front) 0) (whole ∙ append_assoc m.front (m.lead ∷ []) (m.trail ∷ m.rest))
+    ∙ get_or-append_seam m.front m.lead (m.trail ∷ m.rest) 0) in
+    let trail : get_or u n 0 ≡ m.trail =
+    ap (λ k. get_or u k 0) (sym front) ∙ (ap (λ v. get_or v (length (m.front ++ m.lead ∷ [])) 0) whole
+    ∙ get_or-append_seam (m.front ++ m.lead ∷ []) m.trail m.rest 0) in
+    (omega (arith, front, length-append m.front (m.lead ∷ [])), inside, subst IsLead (sym lead) m.is_lead, subst IsTrail (sym trail) m.is_trail)
 
 -- code points of as many bytes as units are of one each
 one_each : (c : List ℕ) (k : ℕ) → length (bytes c) ≡ length (units c) → k ≤ length (bytes c) → CutsUnits c k k None

@@ -1,4 +1,4 @@
-use Rattle.wtf8.proofs.Common.{◌+◌, ◌-◌, refl, inr, subst, arith, CutsUnits}
+use Rattle.wtf8.proofs.Common.{◌+◌, ◌-◌, refl, inl, inr, subst, arith, CutsUnits}
 use Rattle.wtf8.proofs.lemmas.strings.UnitCuts.{divided, divides_some}
 use Rattle.wtf8.proofs.lemmas.strings.UnitMarks.{cut_from_mark, mark_at_cut, mark_before_cut}
 use Rattle.wtf8.proofs.strings.view.Wtf8.mark_at.Goals.{In-Some}
@@ -28,3 +28,6 @@ returns-in-Some-divided-clause-last c =
     let whole = subst (CutsUnits h.points c.args.units (c.args.from.position + c.in-Some.cut.position)) c.in-Some-divided.is
     (cut_here (goal.at.returns-in-Some-divided-clause-last c).In-Some) in
     inr (omega (arith, whole.counted.inside), divides_some h.clean (divided refl whole))
+
+pub returns-in-Some-divided-clause-exact : goal.returns-in-Some-divided-clause-exact
+returns-in-Some-divided-clause-exact c = λ whole. elim (returns-in-Some-divided-clause-last c) [ | inl same ↦ same | inr less ↦ absurd (whole less.1) ]
