@@ -1,7 +1,6 @@
 -- Places in a string where a number of units ends.
-use Rattle.std.specs.Prelude.{◌≡◌, ℕ, ◌+◌, ◌-◌, ◌<◌, ◌≤◌, ◌⊎◌, List, ◌++◌, length, take, drop, slice_index}
+use Rattle.std.specs.Prelude.{◌≡◌, ℕ, ◌+◌, ◌<◌, ◌≤◌, ◌⊎◌, List, ◌++◌, length, take, drop}
 use Rattle.wtf8.specs.Form.{IsForm}
-use Rattle.wtf8.specs.Unicode.{IsLead, IsTrail}
 use Rattle.wtf8.specs.UnitPosition.{DividesPair}
 use Rattle.wtf8.specs.View.{view_units}
 use Rattle.wtf8.specs.declared.strings.view.Wtf8.{Wtf8}
@@ -30,7 +29,3 @@ EqualCountsAreMarks = (w u : List ℕ) (k : ℕ) → IsForm w u → length w ≡
 -- A mark before the last unit stays one where units are appended, also where a lead and a trail meet.
 abbrev pub MarksStay : Type 0
 MarksStay = (w x u v : List ℕ) (k n : ℕ) → IsForm w u → IsForm x (u ++ v) → n < length u → IsMark w u k n → IsMark x (u ++ v) k n
-
--- Where a number of units divides a pair, the unit before is a lead and the one behind a trail (Unicode 3.8, "Surrogates").
-abbrev pub DividedAreSurrogates : Type 0
-DividedAreSurrogates = (u : List ℕ) (n : ℕ) → DividesPair u n → (0 < n) × (n < length u) × IsLead (slice_index u (n - 1)) × IsTrail (slice_index u n)

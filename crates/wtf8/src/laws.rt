@@ -1,6 +1,6 @@
 // Laws of the encoding: nothing runs here, the contracts are theorems about the definitions.
 ghost use Rattle.std.specs.List.{All};
-ghost use Rattle.std.specs.Prelude.{◌≡◌, ◌≢◌, ◌<◌, ◌≤◌, ◌+◌, ◌*◌, ◌^◌, ℕ, List, ◌∷◌, ◌++◌, length, take, drop, slice_index, ◌↔◌};
+ghost use Rattle.std.specs.Prelude.{◌≡◌, ◌≢◌, ◌<◌, ◌≤◌, ◌+◌, ◌-◌, ◌*◌, ◌^◌, ℕ, List, ◌∷◌, ◌++◌, length, take, drop, slice_index, ◌↔◌};
 ghost use Rattle.std.specs.Str.{chars};
 ghost use Rattle.wtf8.specs.Laws.{UnitsHaveOneReading, ReadingsAreOfUnits, UnitsHaveOneForm, FormsAreOfOneList, EqualFormsHaveEqualUnits, NoEncodingBeginsAnother, BytesBeginWithOnePoint, EqualBytesAreOfEqualPoints, ByteOrderIsPointOrder, GlueMakesPair, GlueKeepsOthers, GlueReadsBoth, GlueFormsBoth, PairFormsBoth, OthersFormBoth, GlueIsAssociative, EmptyFrontIsNeutral, EmptyBackIsNeutral, FrontAndBackAreWhole, FirstUnitsAndRestAreWhole};
 ghost use Rattle.wtf8.specs.PositionLaws.{StartIsBoundary, EndIsBoundary, NoneIsBeyondEnd, AsciiStandsAlone, AsciiIsOneUnit, AsciiIsNoOtherUnit, FrontBoundariesAreOfWhole, WholeBoundariesAreOfFront, WholeBoundariesAreOfBack, BackBoundariesAreOfWhole, BeginningsAreNoLonger, BothAreNoLonger, PointsHaveOneToFourBytes, ListsHaveLengths};
@@ -11,7 +11,9 @@ ghost use Rattle.wtf8.specs.Form.{Reads, bytes, encoding};
 ghost use Rattle.wtf8.specs.PointLaws.{DrainedPointsAreLeft, DrainedPointsAreTaken, DrainedPointsAreBehind, CollectedPointsAreLeft, CollectedPointsAreTaken, CollectedPointsAreBehind};
 ghost use Rattle.wtf8.specs.Position.{IsBoundary, IsFront, IsBack};
 ghost use Rattle.wtf8.specs.Surrogates.{AreScalar, lossy};
-ghost use Rattle.wtf8.specs.UnitMark.{IsMarkOf, EqualCountsAreMarks, MarksStay, DividedAreSurrogates};
+ghost use Rattle.wtf8.specs.UnitMark.{IsMarkOf, EqualCountsAreMarks, MarksStay};
+ghost use Rattle.wtf8.specs.Unicode.{IsLead, IsTrail};
+ghost use Rattle.wtf8.specs.UnitPosition.{DividesPair};
 ghost use Rattle.wtf8.specs.View.{view_points, view_units};
 
 use crate::numbers::code_point::CodePoint;
@@ -100,12 +102,10 @@ pub fn law_positions()
 {}
 
 /// Marks of strings: each position is one where a string has as many bytes as units, and a mark before the last unit stays
-/// one where units are appended, also where a lead surrogate and a trail surrogate meet. A number of units divides a pair
-/// only between a lead and a trail.
+/// one where units are appended, also where a lead surrogate and a trail surrogate meet.
 pub fn law_marks()
     ensures equal { EqualCountsAreMarks }
     ensures kept { MarksStay }
-    ensures divided { DividedAreSurrogates }
 {}
 
 /// The position of a mark of this view is a code point boundary, with exactly the units that the mark counts before it and
@@ -117,6 +117,14 @@ pub fn law_mark(view: Wtf8<'_>, mark: UnitMark)
     ensures back { IsBack (view_units view.entry) mark.position (drop mark.units (view_units view.entry)) }
     ensures only_front { (v : List ℕ) → IsFront (view_units view.entry) mark.position v → v ≡ take mark.units (view_units view.entry) }
     ensures only_back { (v : List ℕ) → IsBack (view_units view.entry) mark.position v → v ≡ drop mark.units (view_units view.entry) }
+{}
+
+/// Where a number of units divides a pair of this view, the unit before is a lead and the one behind a trail. A caller
+/// calls it with the view and the number, and has nothing to cite.
+pub fn law_divided_pair(view: Wtf8<'_>, units: usize)
+    ensures inside { DividesPair (view_units view.entry) units → (0 < units) × (units < length (view_units view.entry)) }
+    ensures lead { DividesPair (view_units view.entry) units → IsLead (slice_index (view_units view.entry) (units - 1)) }
+    ensures trail { DividesPair (view_units view.entry) units → IsTrail (slice_index (view_units view.entry) units) }
 {}
 
 /// How long forms are: a beginning is no longer than the whole, and two lists together are no longer than both of them.

@@ -22,6 +22,7 @@ fn each_law_of_values_returns(rt: HostRuntime) {
     let back = Wtf8::from_str("é");
     assert_eq!(rt; laws::law_boundaries(whole), ());
     assert_eq!(rt; laws::law_mark(whole, whole.start_mark()), ());
+    assert_eq!(rt; laws::law_divided_pair(whole, 1), ());
     assert_eq!(rt; laws::law_view_reading(whole), ());
     assert_eq!(rt; laws::law_view_lengths(whole), ());
     assert_eq!(rt; laws::law_view_characters(whole), ());

@@ -6,7 +6,8 @@ use Rattle.std.proofs.Common.{length-take-le}
 use Rattle.std.proofs.Math.Seq.{get_or-append_seam}
 use Rattle.std.specs.Prelude.{MatchOption}
 use Rattle.wtf8.specs.private.UnitCounts.{Divides}
-use Rattle.wtf8.specs.UnitMark.{IsMark, EqualCountsAreMarks, MarksStay, DividedAreSurrogates}
+use Rattle.wtf8.specs.UnitMark.{IsMark, EqualCountsAreMarks, MarksStay}
+use Rattle.wtf8.specs.UnitPosition.{DividesPair}
 use Rattle.wtf8.proofs.lemmas.numbers.Encoding.{bytes-append, row_of, one, two, three, four}
 use Rattle.wtf8.proofs.lemmas.numbers.Readings.{units-append, lengths, units_one, units_two, well_formed_of, same_form}
 use Rattle.wtf8.proofs.lemmas.strings.Concatenation.{reads-glue, one_form, units_read}
@@ -80,7 +81,7 @@ mark_before_cut h {k} m e x =
 -- The laws of marks.
 
 -- beside a place where a pair is divided stand its lead and its trail
-pub divided_are_surrogates : DividedAreSurrogates
+pub divided_are_surrogates : (u : List ℕ) (n : ℕ) → DividesPair u n → (0 < n) × (n < length u) × IsLead (get_or u (n - 1) 0) × IsTrail (get_or u n 0)
 divided_are_surrogates u n m =
     let inside : n < length u = omega (arith, ap length m.begins, length-drop n u) in
     let front : length (m.front ++ m.lead ∷ []) ≡ n = sym (ap length m.ends) ∙ length-take-le n u (omega (arith, inside)) in
