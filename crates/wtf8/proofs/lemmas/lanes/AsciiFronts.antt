@@ -1,10 +1,11 @@
 -- The lanes of one kind at the front of a block.
-use Rattle.wtf8.proofs.Common.{◌≡◌, ℕ, zero, suc, ◌-◌, ◌%◌, ◌^◌, ◌<◌, ◌≤◌, Bool, false, leb, not, cond, List, [], ◌∷◌, map, length, take, get_or, replicate, refl, sym, ap}
+use Rattle.wtf8.proofs.Common.{◌≡◌, ℕ, zero, suc, ◌-◌, ◌%◌, ◌^◌, ◌<◌, ◌≤◌, Bool, false, leb, not, cond, List, [], ◌∷◌, map, length, take, get_or, replicate, refl, sym, ap, ltb, lt-ltb, le-ltb, cases_lt, inl, inr}
 use Rattle.wtf8.proofs.Common.{◌∙◌, arith, subst, Each1, mask_l-mod, tops_compared, zip2, mask_l, top, AreAscii, length-take}
 use Rattle.std.proofs.lemmas.Bool.{leb-false, not-true}
 use Rattle.std.proofs.lemmas.List.{length-map, get_or-take}
 use Rattle.std.proofs.lemmas.List.Sums.{prefix_len_passes, prefix_len-le-length}
-use lib.Lanes.{Each2}
+use lib.Lanes.{Each2, sel_l}
+use Rattle.std.specs.Prelude.{min}
 use Rattle.std.proofs.lemmas.Simd.{zip2_splat_left, Each1-from_get_or, Each2-splat, Each1-all, leading_from_mask_l, trailing_mask_l}
 use mir.Syntax.{Width}
 use mir.Val.{bits, hbits}
@@ -62,21 +63,23 @@ each2_splat P y h (suc n) [] e = absurd (omega arith)
 each2_splat P y h zero (x ∷ xs) e = absurd (omega arith)
 each2_splat P y h (suc n) (x ∷ xs) e = (h x, each2_splat P y h n xs (omega arith))
 
-pub each1_splat : (P : ℕ → Type 0) (f : ℕ → ℕ → ℕ) (y : ℕ) → ((x : ℕ) → P (f x y)) → (n : ℕ) (xs : List ℕ) → length xs ≡ n → Each1 P (zip2 f xs (replicate n y))
-each1_splat P f y h zero [] e = tt
-each1_splat P f y h (suc n) [] e = tt
-each1_splat P f y h zero (x ∷ xs) e = absurd (omega arith)
-each1_splat P f y h (suc n) (x ∷ xs) e = (h x, each1_splat P f y h n xs (omega arith))
+-- the lesser of each lane and the greatest byte
+pub saturated_lanes : (n : ℕ) (xs : List ℕ) → length xs ≡ n
+    → sel_l (map (top 15) (zip2 (λ a b. cond (ltb a b) 0xFFFF 0) xs (replicate n 0xFF))) xs (replicate n 0xFF) ≡ map (λ n. min n 0xFF) xs
+saturated_lanes zero [] e = refl
+saturated_lanes (suc n) [] e = refl
+saturated_lanes zero (x ∷ xs) e = absurd (omega arith)
+saturated_lanes (suc n) (x ∷ xs) e = λ i. lane i ∷ saturated_lanes n xs (omega arith) i
+  where
+    lane : cond (top 15 (cond (ltb x 0xFF) 0xFFFF 0)) x 0xFF ≡ min x 0xFF
+    lane = elim (cases_lt x 0xFF) [ inl l ↦ rw (lt-ltb x 0xFF l) (omega (arith, l)) | inr g ↦ rw (le-ltb x 0xFF g) (omega (arith, g)) ]
 
-pub map_splat : (g : ℕ → ℕ) (f : ℕ → ℕ → ℕ) (k : ℕ → ℕ) (y : ℕ) → ((x : ℕ) → g (f x y) ≡ k x) → (n : ℕ) (xs : List ℕ) → length xs ≡ n
-    → map g (zip2 f xs (replicate n y)) ≡ map k xs
-map_splat g f k y h zero [] e = refl
-map_splat g f k y h (suc n) [] e = refl
-map_splat g f k y h zero (x ∷ xs) e = absurd (omega arith)
-map_splat g f k y h (suc n) (x ∷ xs) e = λ i. h x i ∷ map_splat g f k y h n xs (omega arith) i
+pub saturated_fit : (P : ℕ → Type 0) → ((x : ℕ) → x < 0x100 → P x) → (xs : List ℕ) → Each1 P (map (λ n. min n 0xFF) xs)
+saturated_fit P h [] = tt
+saturated_fit P h (x ∷ xs) = (h (min x 0xFF) (omega arith), saturated_fit P h xs)
 
--- the low bytes of ASCII are the numbers themselves
-pub low_ascii : (k : ℕ) (xs : List ℕ) → AreAscii (take k xs) → take k (map (λ n. n % 256) xs) ≡ take k xs
-low_ascii zero xs h = refl
-low_ascii (suc k) [] h = refl
-low_ascii (suc k) (x ∷ xs) h = let same : x % 256 ≡ x = omega (arith, h.0) in λ i. same i ∷ low_ascii k xs h.1 i
+-- what is ASCII when it is saturated was so before
+pub saturated_front : (k : ℕ) (xs : List ℕ) → AreAscii (take k (map (λ n. min n 0xFF) xs)) → take k (map (λ n. min n 0xFF) xs) ≡ take k xs
+saturated_front zero xs h = refl
+saturated_front (suc k) [] h = refl
+saturated_front (suc k) (x ∷ xs) h = let same : min x 0xFF ≡ x = omega (arith, h.0) in λ i. same i ∷ saturated_front k xs h.1 i

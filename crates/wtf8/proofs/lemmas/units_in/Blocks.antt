@@ -7,7 +7,9 @@ use Rattle.wtf8.proofs.Common.{AreScalar, units, IsKnownForm, DividesNoPair, num
 use Rattle.std.proofs.Common.{w16, get_or-drop, length-take}
 use mir.Syntax.{Width}
 use mir.Val.{bits, hbits}
-use Rattle.std.proofs.Math.Seq.{take-suc, take-add}
+use Rattle.std.proofs.Math.Seq.{take-suc, take-add, take-append-add}
+use Rattle.std.specs.Prelude.{min}
+use Rattle.wtf8.proofs.lemmas.lanes.AsciiFronts.{saturated_front}
 use Rattle.std.proofs.lemmas.Bool.{leb-false, eqb-false}
 use Rattle.std.proofs.lemmas.List.{length-map, take-take, get_or-take}
 use Rattle.std.proofs.lemmas.Simd.{zip2_splat, zip2_splat_left, bitmask_splat, map-map, Each1-get_or}
@@ -141,12 +143,16 @@ scalars_read {w} {new} {u} {part} {at} {known} k n x few within last behind form
         let same = get_or-take n (drop at u) j 0 (omega (arith, few)) ∙ get_or-drop at u j 0 in
         subst (DividesNoPair u) here (last_apart u (at + j) (omega (arith, few, within)) (λ l. h j (omega arith) (omega (arith, same, l.0), omega (arith, same, l.1))))
 
-pub ascii_read : {w new u : List ℕ} {at : ℕ} {known : Bool} (k n : ℕ) → IsReadTo w u at known → k ≤ n → at + n ≤ length u → AreAscii (take k (take n (drop at u)))
-    → new ≡ w ++ take k (take n (drop at u)) → IsReadTo new u (at + k) known
-ascii_read {u = u} {at = at} k n x few within ascii behind =
-    let units = take n (drop at u) in
-    let last = λ (j : ℕ) (e : j + 1 ≡ k). Each1-get_or (λ n. n < 0x80) (take k units) j 0 (omega (arith, e, few, length-chunk at n u within, length-take k units)) ascii in
-    scalars_read k n x few within (λ j e l. omega (arith, last j e, get_or-take k units j 0 (omega (arith, e)), l.0)) behind (ascii_form (take k units) ascii)
+-- the same of the first k of n saturated units behind the bytes so far, which are ASCII
+pub front_read : {w long new u low : List ℕ} {at : ℕ} {known : Bool} (k n end : ℕ) → IsReadTo w u at known → k ≤ n → at + n ≤ length u
+    → low ≡ map (λ n. min n 0xFF) (take n (drop at u)) → AreAscii (take k low) → long ≡ w ++ low → end ≡ length w + k → new ≡ take end long → IsReadTo new u (at + k) known
+front_read {w = w} {u = u} {low = low} {at = at} k n end x few within saturated ascii longer cut front =
+    let block = take n (drop at u) in
+    let kept : take k low ≡ take k block = ap (take k) saturated ∙ saturated_front k block (subst AreAscii (ap (take k) saturated) ascii) in
+    let own : AreAscii (take k block) = subst AreAscii kept ascii in
+    let last = λ (j : ℕ) (e : j + 1 ≡ k). Each1-get_or (λ n. n < 0x80) (take k block) j 0 (omega (arith, e, few, length-chunk at n u within, length-take k block)) own in
+    let behind = front ∙ ap (take end) longer ∙ ap (λ m. take m (w ++ low)) cut ∙ take-append-add w low k ∙ ap (λ v. w ++ v) kept in
+    scalars_read k n x few within (λ j e l. omega (arith, last j e, get_or-take k block j 0 (omega (arith, e)), l.0)) behind (ascii_form (take k block) own)
 
 pub all_read : {w u : List ℕ} {at : ℕ} {known : Bool} → IsReadTo w u at known → length u ≤ at → IsKnownForm w u known
 all_read {w} {u} {at} {known} x h = subst (λ v. IsKnownForm w v known) (take_all at u h) x.form
