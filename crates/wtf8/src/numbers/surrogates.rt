@@ -44,7 +44,7 @@ pub(crate) fn joined(lead: u32, trail: u32) -> u32
     requires trail { IsTrail trail }
     ensures { result ≡ pair lead trail }
 {
-    FIRST_SUPPLEMENTARY + (lead - LEADS_FROM) * PER_KIND + (trail - TRAILS_FROM)
+    FIRST_SUPPLEMENTARY + lead % PER_KIND * PER_KIND + trail % PER_KIND
 }
 
 /// The lead of the pair that a supplementary code point is.
