@@ -32,14 +32,6 @@ each_unset p P Q h (x ∷ xs) f e = elim (cases_Bool (p x)) [
   | inr u ↦ (h x f.0 u, each_unset p P Q h xs f.1 (omega (arith, rw u at e)))
 ]
 
--- where no number is from k on
-pub none_high : (w : Width) (n : ℕ) (xs : List ℕ) → n ≤ 64 → length xs ≡ n → Each1 (Fits w) xs
-    → mask_l (map (top (hbits w)) (zip2 (λ a b. cond (leb a b) (2 ^ bits w - 1) 0) (replicate n 0x80) xs)) % 2 ^ 64 ≡ 0 → AreAscii xs
-none_high w n xs few l f e =
-    let lanes = tops_compared w leb (replicate n 0x80) xs ∙ zip2_splat_left leb 0x80 n xs l in
-    let whole = mask_l-mod (map (leb 0x80) xs) 64 (omega (arith, few, l, length-map xs (leb 0x80))) in
-    each_unset (leb 0x80) (Fits w) (λ n. n < 0x80) (λ x _ u. leb-false 0x80 x u) xs f (sym whole ∙ ap (λ ms. mask_l ms % 2 ^ 64) (sym lanes) ∙ e)
-
 -- where no lane is set no unit is a surrogate
 pub none_surrogate : (xs : List ℕ) → length xs ≡ 8 → Each1 (Fits w16) xs
     → mask_l (map (top 15) (zip2 (λ a b. cond (eqb a b) 0xFFFF 0) (zip2 (λ a b. a / b) xs (replicate 8 2048)) (replicate 8 27))) % 2 ^ 64 ≡ 0 → AreScalarUnits xs
@@ -156,35 +148,3 @@ front_read {w = w} {u = u} {low = low} {at = at} k n end x few within saturated 
 
 pub all_read : {w u : List ℕ} {at : ℕ} {known : Bool} → IsReadTo w u at known → length u ≤ at → IsKnownForm w u known
 all_read {w} {u} {at} {known} x h = subst (λ v. IsKnownForm w v known) (take_all at u h) x.form
-
--- ASCII bytes behind well-formed bytes: the units that these gain, and what a buffer knows of them.
-
-ascii_gains : {w new : List ℕ} (v : List ℕ) (h : IsWellFormed w) → AreAscii v → new ≡ w ++ v → GainsUnits w new v
-ascii_gains {w} v h a e =
-    let f = ascii_form v a in
-    let k : IsWellFormed v = record { points = f.form.points; clean = f.form.reads.clean; encoded = f.form.encoded } in
-    subst (λ n. GainsUnits w n v) (sym e) (subst (GainsUnits w (w ++ v)) f.form.reads.same_units (gains_behind h k (scalar_behind (f.scalar refl))))
-
-pub ascii_units : {w new u : List ℕ} (v : List ℕ) (h : IsWellFormed w) (k : IsWellFormed new) → AreAscii v → new ≡ w ++ v → units h.points ≡ u → units k.points ≡ u ++ v
-ascii_units v h k a e s = gained_units h k s (ascii_gains v h a e)
-
-pub ascii_known : {w new : List ℕ} (v : List ℕ) (end : ℕ) (h : IsWellFormed w) → AreAscii v → new ≡ w ++ v → AreScalarTo end h.points
-    → (k : IsWellFormed new) × (AreScalarTo end k.points × Unit {0})
-ascii_known v end h a e s =
-    let f = ascii_form v a in
-    known_behind_gain f.form.points v end end h (sym f.form.reads.same_units) f.form.reads.clean s (omega arith) (λ _. f.scalar refl) (ascii_gains v h a e)
-
--- some more of the points behind those so far
-pub points_more : (ps : List CodePoint) (at n : ℕ) (u : List ℕ) {now new : List ℕ} → now ≡ u ++ units (numbers (take at ps))
-    → new ≡ now ++ units (numbers (take n (drop at ps))) → new ≡ u ++ units (numbers (take (at + n) ps))
-points_more ps at n u s e =
-    let front = units (numbers (take at ps)) in
-    let back = units (numbers (take n (drop at ps))) in
-    let both : units (numbers (take (at + n) ps)) ≡ front ++ back =
-    ap (λ d. units (numbers d)) (take-add at n ps) ∙ units-points (take at ps) (take n (drop at ps)) in
-    e ∙ ap (λ v. v ++ back) s ∙ append_assoc u front back ∙ ap (λ v. u ++ v) (sym both)
-
--- a block of them that are ASCII
-pub ascii_more : (ps : List CodePoint) (at : ℕ) (u block : List ℕ) {now new : List ℕ} → now ≡ u ++ units (numbers (take at ps))
-    → block ≡ numbers (take 16 (drop at ps)) → AreAscii block → new ≡ now ++ block → new ≡ u ++ units (numbers (take (at + 16) ps))
-ascii_more ps at u block {now} s b a e = points_more ps at 16 u s (e ∙ ap (λ v. now ++ v) (sym (ap units (sym b) ∙ ascii_own_units block a)))

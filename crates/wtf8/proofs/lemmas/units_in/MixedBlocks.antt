@@ -4,6 +4,7 @@ use Rattle.wtf8.proofs.Common.{length-append, false≢true, refl, sym, ap, ◌�
 use lib.Lanes.{sel_l, pick_l, mask_l}
 use Rattle.std.specs.Int.{w8, w16}
 use Rattle.std.specs.Prelude.{nat_lt, if◌then◌else◌, bit_xor, ◌↔◌}
+use Rattle.std.proofs.lemmas.Bool.Decides.{nat_tests}
 use Rattle.std.proofs.lemmas.List.{take-map, drop-map, get_or-take}
 use Rattle.std.proofs.lemmas.Simd.{swz_l, get_or-swz_l_below}
 use Rattle.wtf8.specs.private.UnitParts.{AreScalarUnits}
@@ -187,13 +188,7 @@ below_800 : (x : ℕ) → own_second_byte x < 256
 below_800 x = elim (cases_lt x 0x800) [ inl l ↦ rw (lt-ltb x 0x800 l) (omega arith) | inr g ↦ rw (le-ltb x 0x800 g) (omega arith) ]
 
 second_small : (b x : ℕ) → x < 0x10000 → second_byte b x < 256
-second_small b x h = elim (cases_lt x 0xD800) [
-  | inl l ↦ rw (lt-ltb x 0xD800 l) (below_800 x)
-  | inr g ↦ elim (cases_lt x 0xDC00) [
-    | inl l ↦ rw (le-ltb x 0xD800 g, lt-ltb x 0xDC00 l) (omega (arith, l))
-    | inr k ↦ elim (cases_lt x 0xE000) [ inl l ↦ rw (le-ltb x 0xD800 g, le-ltb x 0xDC00 k, lt-ltb x 0xE000 l) (omega arith) | inr m ↦ rw (le-ltb x 0xD800 g, le-ltb x 0xDC00 k, le-ltb x 0xE000 m) (below_800 x) ]
-  ]
-]
+second_small b x h = grind (arith, nat_tests, h)
 
 pub seconds_fit : (P : ℕ → Type 0) → ((x : ℕ) → x < 256 → P x) → (b u : List ℕ) → Each1 (Fits w16) u → Each1 P (zip2 second_byte b u)
 seconds_fit P h [] u e = tt
@@ -204,23 +199,14 @@ own_last_small : (x : ℕ) → own_last_byte x < 256
 own_last_small x = elim (cases_lt x 0x80) [ inl l ↦ rw (lt-ltb x 0x80 l) (omega (arith, l)) | inr g ↦ rw (le-ltb x 0x80 g) (omega arith) ]
 
 last_small : (x : ℕ) → last_byte x < 256
-last_small x = elim (cases_lt x 0xD800) [
-  | inl l ↦ rw (lt-ltb x 0xD800 l) (own_last_small x)
-  | inr g ↦ elim (cases_lt x 0xDC00) [ inl l ↦ rw (le-ltb x 0xD800 g, lt-ltb x 0xDC00 l) (omega arith) | inr k ↦ rw (le-ltb x 0xD800 g, le-ltb x 0xDC00 k) (own_last_small x) ]
-]
+last_small x = grind (arith, nat_tests)
 
 pub lasts_fit : (P : ℕ → Type 0) → ((x : ℕ) → x < 256 → P x) → (u : List ℕ) → Each1 (Fits w16) u → Each1 P (map last_byte u)
 lasts_fit P h = each_map P last_byte (λ x _. h _ (last_small x))
 
 -- a unit takes three bytes only where it takes more than one
 counts_of : (n : ℕ) → (are_three n ≤ more_than_one n) × (more_than_one n ≤ 1)
-counts_of n = elim (cases_lt n 0x800) [
-  | inl l ↦ rw (lt-ltb n 0x800 l) (elim (cases_lt n 0x80) [ inl k ↦ rw (lt-ltb n 0x80 k) (omega arith, omega arith) | inr k ↦ rw (le-ltb n 0x80 k) (omega arith, omega arith) ])
-  | inr g ↦ rw (le-ltb n 0x80 (omega (arith, g)), le-ltb n 0x800 g) (elim (cases_lt n 0xD800) [
-    | inl l ↦ rw (lt-ltb n 0xD800 l) (omega arith, omega arith)
-    | inr h ↦ rw (le-ltb n 0xD800 h) (elim (cases_lt n 0xE000) [ inl l ↦ rw (lt-ltb n 0xE000 l) (omega arith, omega arith) | inr l ↦ rw (le-ltb n 0xE000 l) (omega arith, omega arith) ])
-  ])
-]
+counts_of n = (grind (arith, nat_tests), grind (arith, nat_tests))
 
 pub length_of : (n : ℕ) → IsLength (byte_count n)
 length_of n = let counts = counts_of n in (omega arith, omega (arith, counts.0, counts.1))
