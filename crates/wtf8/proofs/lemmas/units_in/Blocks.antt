@@ -1,26 +1,22 @@
 -- Blocks of units of one kind: their lanes, their bytes, and what they add to a string.
-use Rattle.wtf8.proofs.Common.{◌≡◌, ℕ, zero, suc, ◌-◌, ◌%◌, ◌^◌, ◌<◌, ◌≤◌, leb, eqb, Bool, true, false, cond, ◌&&◌, List, [], ◌∷◌, map, length, replicate}
-use Rattle.wtf8.proofs.Common.{Fits, refl, sym, ap, ◌∙◌, arith, inl, inr, and_parts, cases_Bool, mask_l-mod, tops_compared, Each1, zip2, mask_l, top, AreAscii}
+use Rattle.wtf8.proofs.Common.{◌≡◌, ℕ, zero, suc, ◌-◌, ◌%◌, ◌^◌, ◌<◌, ◌≤◌, eqb, Bool, true, false, cond, ◌&&◌, List, [], ◌∷◌, map, length, replicate}
+use Rattle.wtf8.proofs.Common.{Fits, refl, sym, ap, ◌∙◌, arith, inl, inr, and_parts, cases_Bool, Each1, zip2, mask_l, top, AreAscii}
 use Rattle.wtf8.proofs.Common.{IsSurrogate, ◌+◌, ◌/◌, ◌++◌, bytes, IsTrue, take, drop, get_or, subst}
 use Rattle.wtf8.proofs.Common.{take-append-drop, take_all, Each1-weaker, length-chunk, MeetsAsPair, IsClean, bytes-injective}
-use Rattle.wtf8.proofs.Common.{AreScalar, units, IsKnownForm, DividesNoPair, numbers, append_assoc, IsWellFormed, GainsUnits}
+use Rattle.wtf8.proofs.Common.{AreScalar, units, IsKnownForm, DividesNoPair}
 use Rattle.std.proofs.Common.{w16, get_or-drop, length-take}
-use mir.Syntax.{Width}
-use mir.Val.{bits, hbits}
 use Rattle.std.proofs.Math.Seq.{take-suc, take-add, take-append-add}
 use Rattle.std.specs.Prelude.{min}
 use Rattle.wtf8.proofs.lemmas.lanes.AsciiFronts.{saturated_front}
-use Rattle.std.proofs.lemmas.Bool.{leb-false, eqb-false}
+use Rattle.std.proofs.lemmas.Bool.{eqb-false}
 use Rattle.std.proofs.lemmas.List.{length-map, take-take, get_or-take}
-use Rattle.std.proofs.lemmas.Simd.{zip2_splat, zip2_splat_left, bitmask_splat, map-map, Each1-get_or}
+use Rattle.std.proofs.lemmas.Simd.{zip2_splat, bitmask_splat, map-map, Each1-get_or}
 use Rattle.wtf8.specs.Unicode.{IsLead}
 use Rattle.wtf8.specs.private.UnitParts.{AreScalarUnits, IsReadTo}
-use Rattle.wtf8.specs.declared.numbers.code_point.CodePoint.{CodePoint}
 use Rattle.wtf8.proofs.lemmas.numbers.Encoding.{encoding_one, bytes-append}
 use Rattle.wtf8.proofs.lemmas.numbers.Readings.{meets_by, no_lead, units-cons_one}
 use Rattle.wtf8.proofs.lemmas.strings.Concatenation.{form_apart}
-use Rattle.wtf8.specs.OneForm.{AreScalarTo}
-use Rattle.wtf8.proofs.lemmas.strings.Gains.{scalar-append, gains_behind, gained_units, known_behind_gain, scalar_behind, units-points}
+use Rattle.wtf8.proofs.lemmas.strings.Gains.{scalar-append}
 
 -- Blocks of numbers in lanes: what the mask of a block says of them.
 

@@ -1,4 +1,4 @@
-use Rattle.wtf8.proofs.Common.{◌<◌, ◌∙◌, Each1, ap, arith, map, subst, sym}
+use Rattle.wtf8.proofs.Common.{◌∙◌, Each1, ap, arith, map, subst, sym}
 use Rattle.std.proofs.lemmas.Simd.{map-map}
 use Rattle.std.specs.Prelude.{min}
 use Rattle.wtf8.proofs.lemmas.lanes.AsciiFronts.{saturated_lanes, saturated_fit}
