@@ -108,10 +108,10 @@ fn append_front<const N: usize, A: Allocator>(
     let count = count_ascii(block);
     let end = bytes.len() + count;
     bytes.extend_from_slice(&block.to_array())?;
-    bytes.truncate(end);
     if count == N {
         return Ok((at + count, is_scalar));
     }
+    bytes.truncate(end);
     append_point(bytes, v, at + count, is_scalar)
 }
 

@@ -1,11 +1,13 @@
-use Rattle.wtf8.proofs.Common.{arith}
+use Rattle.wtf8.proofs.Common.{◌+◌, arith, sym, take_all}
 use Rattle.wtf8.proofs.lemmas.units_in.Blocks.{front_read}
 use Rattle.wtf8.proofs.units_in.unit_blocks.append_front.Goals as goal
 
 pub returns-then-count-clause-read : goal.returns-then-count-clause-read
 returns-then-count-clause-read g c =
+    let whole = c.extend_from_slice.new.self.items in
     front_read c.count_ascii-count.result g.row.N _ c.requires.read c.count_ascii-count.ensures.within c.requires.within
-    c.saturated-block.ensures c.count_ascii-count.ensures.ascii c.in_ok-extend_from_slice.ensures.items (omega (arith, c.args.bytes.now.ok.0, c.len.ensures)) c.truncate.ensures.items
+    c.saturated-block.ensures c.count_ascii-count.ensures.ascii c.in_ok-extend_from_slice.ensures.items (omega (arith, c.args.bytes.now.ok.0, c.len.ensures))
+    (sym (take_all (c.len.result + c.count_ascii-count.result) whole (omega (arith, c.in_ok-extend_from_slice.ensures.len))))
 
 pub append_point-requires-clause-read : goal.append_point-requires-clause-read
 append_point-requires-clause-read g c =
