@@ -37,7 +37,7 @@ pub(crate) fn is_trail(value: u32) -> bool
     TRAILS_FROM <= value && value <= LAST_TRAIL as u32
 }
 
-/// The supplementary code point that a lead and a trail stand for.
+/// The supplementary code point that a lead and a trail stand for, by remainders, so that the compiler knows that it is one.
 #[inline(always)]
 pub(crate) fn joined(lead: u32, trail: u32) -> u32
     requires lead { IsLead lead }

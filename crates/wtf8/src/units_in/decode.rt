@@ -111,6 +111,7 @@ pub(crate) fn read_point(v: &[u16], at: usize) -> (CodePoint, usize, bool)
         unreachable!()
     };
     match item {
+        // A surrogate begins no character but a pair.
         Ok(character) => (CodePoint::from_char(character), at + 2, true),
         Err(surrogate) => (single(surrogate), at + 1, false),
     }

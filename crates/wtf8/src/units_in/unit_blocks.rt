@@ -48,7 +48,7 @@ pub(crate) fn ascii_bytes(numbers: u32x16) -> Option<[u8; NUMBERS]>
     None
 }
 
-/// Units as bytes, each from 0x80 on as one that is no ASCII.
+/// Units as bytes, each above 0xFF as 0xFF.
 #[inline(always)]
 fn saturated<const N: usize>(units: Simd<u16, N>) -> Simd<u8, N>
     ensures { result ≡ map (λ unit. min unit 0xFF) units.entry }
