@@ -1,3 +1,4 @@
+pub mod AsciiEnds
 pub mod Concatenation
 pub mod Gains
 pub mod Positions

@@ -37,14 +37,14 @@ pub(crate) fn is_trail(value: u32) -> bool
     TRAILS_FROM <= value && value <= LAST_TRAIL as u32
 }
 
-/// The supplementary code point that a lead and a trail stand for.
+/// The supplementary code point that a lead and a trail stand for, by remainders, so that the compiler knows that it is one.
 #[inline(always)]
 pub(crate) fn joined(lead: u32, trail: u32) -> u32
     requires lead { IsLead lead }
     requires trail { IsTrail trail }
     ensures { result ≡ pair lead trail }
 {
-    FIRST_SUPPLEMENTARY + (lead - LEADS_FROM) * PER_KIND + (trail - TRAILS_FROM)
+    FIRST_SUPPLEMENTARY + lead % PER_KIND * PER_KIND + trail % PER_KIND
 }
 
 /// The lead of the pair that a supplementary code point is.

@@ -9,7 +9,7 @@ ghost use Rattle.wtf8.specs.Unicode.{IsCodePoint, IsLead, IsTrail, IsSurrogate, 
 ghost use Rattle.wtf8.specs.private.UnitParts.{DividesNoPair};
 
 use crate::numbers::code_point::CodePoint;
-use crate::numbers::surrogates::{self, FIRST_LEAD, LAST_LEAD};
+use crate::numbers::surrogates::{self, FIRST_LEAD, LAST_LEAD, LAST_TRAIL};
 use std::iter::Ahead;
 
 /// The characters that the units of an iterator stand for, in order, as `Ok`, and its lone surrogates as `Err`.
@@ -104,18 +104,15 @@ pub(crate) fn read_point(v: &[u16], at: usize) -> (CodePoint, usize, bool)
     ensures scalar { IsTrue result.2 → ¬ (IsSurrogate (number result.0)) }
 {
     let unit = v[at];
-    if unit < FIRST_LEAD {
+    if unit < FIRST_LEAD || LAST_TRAIL < unit {
         return (single(unit), at + 1, true);
     }
     let Some(item) = decode_utf16(v[at..].iter().copied()).next() else {
         unreachable!()
     };
     match item {
-        Ok(character) => (
-            CodePoint::from_char(character),
-            at + character.len_utf16(),
-            true,
-        ),
+        // A surrogate begins no character but a pair.
+        Ok(character) => (CodePoint::from_char(character), at + 2, true),
         Err(surrogate) => (single(surrogate), at + 1, false),
     }
 }

@@ -1,6 +1,6 @@
 // Code units turned into bytes by the kind of the first: the ASCII units at the front of 32, 16 or eight together with the
 // code point behind them, others in mixed blocks or one by one.
-ghost use Rattle.std.specs.Prelude.{◌≡◌, ℕ, [], true, ◌+◌, ◌++◌, ◌%◌, ◌^◌, ◌<◌, ◌≤◌, length, map, take, IfOk, IfSome, IsTrue, OnOk, IsOk};
+ghost use Rattle.std.specs.Prelude.{◌≡◌, ℕ, [], true, ◌+◌, ◌++◌, ◌^◌, ◌<◌, ◌≤◌, length, map, min, take, IfOk, IfSome, IsTrue, OnOk, IsOk};
 ghost use Rattle.wtf8.specs.private.UnitParts.{IsKnownForm, IsReadTo, AreAscii};
 
 use crate::numbers::encoding;
@@ -48,26 +48,26 @@ pub(crate) fn ascii_bytes(numbers: u32x16) -> Option<[u8; NUMBERS]>
     None
 }
 
-/// How many of `N` units come before the first that is not ASCII.
+/// Units as bytes, each above 0xFF as 0xFF.
 #[inline(always)]
-fn count_ascii<const N: usize>(units: Simd<u16, N>) -> usize
+fn saturated<const N: usize>(units: Simd<u16, N>) -> Simd<u8, N>
+    ensures { result ≡ map (λ unit. min unit 0xFF) units.entry }
+{
+    units.simd_min(Simd::splat(0xFF)).cast::<u8>()
+}
+
+/// How many of `N` bytes come before the first that is not ASCII.
+#[inline(always)]
+fn count_ascii<const N: usize>(bytes: Simd<u8, N>) -> usize
     requires { N ≤ u64.BITS }
     ensures within { result ≤ N }
-    ensures ascii { AreAscii (take result units.entry) }
+    ensures ascii { AreAscii (take result bytes.entry) }
 {
-    let others = units.simd_ge(Simd::splat(0x80)).to_bitmask();
+    let others = bytes.simd_ge(Simd::splat(0x80)).to_bitmask();
     if others == 0 {
         return N;
     }
     others.trailing_zeros() as usize
-}
-
-/// The low bytes of `N` units.
-#[inline(always)]
-fn low_bytes<const N: usize>(units: Simd<u16, N>) -> [u8; N]
-    ensures { result ≡ map (λ unit. unit % 256) units.entry }
-{
-    (units % Simd::splat(0x100)).cast::<u8>().to_array()
 }
 
 /// Appends the bytes of the code point at a place up to which units were read, and answers how far they are read then, and
@@ -104,12 +104,12 @@ fn append_front<const N: usize, A: Allocator>(
     ensures order { IfOk result (λ to. at < to.0) }
     ensures read { IfOk result (λ to. IsReadTo bytes.new.items v.now to.0 to.1) }
 {
-    let units = Simd::<u16, N>::from_slice(&v[at..]);
-    let count = count_ascii(units);
+    let block = saturated(Simd::<u16, N>::from_slice(&v[at..]));
+    let count = count_ascii(block);
     let end = bytes.len() + count;
-    bytes.extend_from_slice(&low_bytes(units))?;
+    bytes.extend_from_slice(&block.to_array())?;
     if count == N {
-        return Ok((at + N, is_scalar));
+        return Ok((at + count, is_scalar));
     }
     bytes.truncate(end);
     append_point(bytes, v, at + count, is_scalar)

@@ -1,24 +1,22 @@
 -- Blocks of units of one kind: their lanes, their bytes, and what they add to a string.
-use Rattle.wtf8.proofs.Common.{◌≡◌, ℕ, zero, suc, ◌-◌, ◌%◌, ◌^◌, ◌<◌, ◌≤◌, leb, eqb, Bool, true, false, cond, ◌&&◌, List, [], ◌∷◌, map, length, replicate}
-use Rattle.wtf8.proofs.Common.{Fits, refl, sym, ap, ◌∙◌, arith, inl, inr, and_parts, cases_Bool, mask_l-mod, tops_compared, Each1, zip2, mask_l, top, AreAscii}
+use Rattle.wtf8.proofs.Common.{◌≡◌, ℕ, zero, suc, ◌-◌, ◌%◌, ◌^◌, ◌<◌, ◌≤◌, eqb, Bool, true, false, cond, ◌&&◌, List, [], ◌∷◌, map, length, replicate}
+use Rattle.wtf8.proofs.Common.{Fits, refl, sym, ap, ◌∙◌, arith, inl, inr, and_parts, cases_Bool, Each1, zip2, mask_l, top, AreAscii}
 use Rattle.wtf8.proofs.Common.{IsSurrogate, ◌+◌, ◌/◌, ◌++◌, bytes, IsTrue, take, drop, get_or, subst}
 use Rattle.wtf8.proofs.Common.{take-append-drop, take_all, Each1-weaker, length-chunk, MeetsAsPair, IsClean, bytes-injective}
-use Rattle.wtf8.proofs.Common.{AreScalar, units, IsKnownForm, DividesNoPair, numbers, append_assoc, IsWellFormed, GainsUnits}
+use Rattle.wtf8.proofs.Common.{AreScalar, units, IsKnownForm, DividesNoPair}
 use Rattle.std.proofs.Common.{w16, get_or-drop, length-take}
-use mir.Syntax.{Width}
-use mir.Val.{bits, hbits}
-use Rattle.std.proofs.Math.Seq.{take-suc, take-add}
-use Rattle.std.proofs.lemmas.Bool.{leb-false, eqb-false}
+use Rattle.std.proofs.Math.Seq.{take-suc, take-add, take-append-add}
+use Rattle.std.specs.Prelude.{min}
+use Rattle.wtf8.proofs.lemmas.lanes.AsciiFronts.{saturated_front}
+use Rattle.std.proofs.lemmas.Bool.{eqb-false}
 use Rattle.std.proofs.lemmas.List.{length-map, take-take, get_or-take}
-use Rattle.std.proofs.lemmas.Simd.{zip2_splat, zip2_splat_left, bitmask_splat, map-map, Each1-get_or}
+use Rattle.std.proofs.lemmas.Simd.{zip2_splat, bitmask_splat, map-map, Each1-get_or}
 use Rattle.wtf8.specs.Unicode.{IsLead}
 use Rattle.wtf8.specs.private.UnitParts.{AreScalarUnits, IsReadTo}
-use Rattle.wtf8.specs.declared.numbers.code_point.CodePoint.{CodePoint}
 use Rattle.wtf8.proofs.lemmas.numbers.Encoding.{encoding_one, bytes-append}
 use Rattle.wtf8.proofs.lemmas.numbers.Readings.{meets_by, no_lead, units-cons_one}
 use Rattle.wtf8.proofs.lemmas.strings.Concatenation.{form_apart}
-use Rattle.wtf8.specs.OneForm.{AreScalarTo}
-use Rattle.wtf8.proofs.lemmas.strings.Gains.{scalar-append, gains_behind, gained_units, known_behind_gain, scalar_behind, units-points}
+use Rattle.wtf8.proofs.lemmas.strings.Gains.{scalar-append}
 
 -- Blocks of numbers in lanes: what the mask of a block says of them.
 
@@ -29,14 +27,6 @@ each_unset p P Q h (x ∷ xs) f e = elim (cases_Bool (p x)) [
   | inl t ↦ absurd (omega (arith, rw t at e))
   | inr u ↦ (h x f.0 u, each_unset p P Q h xs f.1 (omega (arith, rw u at e)))
 ]
-
--- where no number is from k on
-pub none_high : (w : Width) (n : ℕ) (xs : List ℕ) → n ≤ 64 → length xs ≡ n → Each1 (Fits w) xs
-    → mask_l (map (top (hbits w)) (zip2 (λ a b. cond (leb a b) (2 ^ bits w - 1) 0) (replicate n 0x80) xs)) % 2 ^ 64 ≡ 0 → AreAscii xs
-none_high w n xs few l f e =
-    let lanes = tops_compared w leb (replicate n 0x80) xs ∙ zip2_splat_left leb 0x80 n xs l in
-    let whole = mask_l-mod (map (leb 0x80) xs) 64 (omega (arith, few, l, length-map xs (leb 0x80))) in
-    each_unset (leb 0x80) (Fits w) (λ n. n < 0x80) (λ x _ u. leb-false 0x80 x u) xs f (sym whole ∙ ap (λ ms. mask_l ms % 2 ^ 64) (sym lanes) ∙ e)
 
 -- where no lane is set no unit is a surrogate
 pub none_surrogate : (xs : List ℕ) → length xs ≡ 8 → Each1 (Fits w16) xs
@@ -141,44 +131,16 @@ scalars_read {w} {new} {u} {part} {at} {known} k n x few within last behind form
         let same = get_or-take n (drop at u) j 0 (omega (arith, few)) ∙ get_or-drop at u j 0 in
         subst (DividesNoPair u) here (last_apart u (at + j) (omega (arith, few, within)) (λ l. h j (omega arith) (omega (arith, same, l.0), omega (arith, same, l.1))))
 
-pub ascii_read : {w new u : List ℕ} {at : ℕ} {known : Bool} (k n : ℕ) → IsReadTo w u at known → k ≤ n → at + n ≤ length u → AreAscii (take k (take n (drop at u)))
-    → new ≡ w ++ take k (take n (drop at u)) → IsReadTo new u (at + k) known
-ascii_read {u = u} {at = at} k n x few within ascii behind =
-    let units = take n (drop at u) in
-    let last = λ (j : ℕ) (e : j + 1 ≡ k). Each1-get_or (λ n. n < 0x80) (take k units) j 0 (omega (arith, e, few, length-chunk at n u within, length-take k units)) ascii in
-    scalars_read k n x few within (λ j e l. omega (arith, last j e, get_or-take k units j 0 (omega (arith, e)), l.0)) behind (ascii_form (take k units) ascii)
+-- the same of the first k of n saturated units behind the bytes so far, which are ASCII
+pub front_read : {w long new u low : List ℕ} {at : ℕ} {known : Bool} (k n end : ℕ) → IsReadTo w u at known → k ≤ n → at + n ≤ length u
+    → low ≡ map (λ n. min n 0xFF) (take n (drop at u)) → AreAscii (take k low) → long ≡ w ++ low → end ≡ length w + k → new ≡ take end long → IsReadTo new u (at + k) known
+front_read {w = w} {u = u} {low = low} {at = at} k n end x few within saturated ascii longer cut front =
+    let block = take n (drop at u) in
+    let kept : take k low ≡ take k block = ap (take k) saturated ∙ saturated_front k block (subst AreAscii (ap (take k) saturated) ascii) in
+    let own : AreAscii (take k block) = subst AreAscii kept ascii in
+    let last = λ (j : ℕ) (e : j + 1 ≡ k). Each1-get_or (λ n. n < 0x80) (take k block) j 0 (omega (arith, e, few, length-chunk at n u within, length-take k block)) own in
+    let behind = front ∙ ap (take end) longer ∙ ap (λ m. take m (w ++ low)) cut ∙ take-append-add w low k ∙ ap (λ v. w ++ v) kept in
+    scalars_read k n x few within (λ j e l. omega (arith, last j e, get_or-take k block j 0 (omega (arith, e)), l.0)) behind (ascii_form (take k block) own)
 
 pub all_read : {w u : List ℕ} {at : ℕ} {known : Bool} → IsReadTo w u at known → length u ≤ at → IsKnownForm w u known
 all_read {w} {u} {at} {known} x h = subst (λ v. IsKnownForm w v known) (take_all at u h) x.form
-
--- ASCII bytes behind well-formed bytes: the units that these gain, and what a buffer knows of them.
-
-ascii_gains : {w new : List ℕ} (v : List ℕ) (h : IsWellFormed w) → AreAscii v → new ≡ w ++ v → GainsUnits w new v
-ascii_gains {w} v h a e =
-    let f = ascii_form v a in
-    let k : IsWellFormed v = record { points = f.form.points; clean = f.form.reads.clean; encoded = f.form.encoded } in
-    subst (λ n. GainsUnits w n v) (sym e) (subst (GainsUnits w (w ++ v)) f.form.reads.same_units (gains_behind h k (scalar_behind (f.scalar refl))))
-
-pub ascii_units : {w new u : List ℕ} (v : List ℕ) (h : IsWellFormed w) (k : IsWellFormed new) → AreAscii v → new ≡ w ++ v → units h.points ≡ u → units k.points ≡ u ++ v
-ascii_units v h k a e s = gained_units h k s (ascii_gains v h a e)
-
-pub ascii_known : {w new : List ℕ} (v : List ℕ) (end : ℕ) (h : IsWellFormed w) → AreAscii v → new ≡ w ++ v → AreScalarTo end h.points
-    → (k : IsWellFormed new) × (AreScalarTo end k.points × Unit {0})
-ascii_known v end h a e s =
-    let f = ascii_form v a in
-    known_behind_gain f.form.points v end end h (sym f.form.reads.same_units) f.form.reads.clean s (omega arith) (λ _. f.scalar refl) (ascii_gains v h a e)
-
--- some more of the points behind those so far
-pub points_more : (ps : List CodePoint) (at n : ℕ) (u : List ℕ) {now new : List ℕ} → now ≡ u ++ units (numbers (take at ps))
-    → new ≡ now ++ units (numbers (take n (drop at ps))) → new ≡ u ++ units (numbers (take (at + n) ps))
-points_more ps at n u s e =
-    let front = units (numbers (take at ps)) in
-    let back = units (numbers (take n (drop at ps))) in
-    let both : units (numbers (take (at + n) ps)) ≡ front ++ back =
-    ap (λ d. units (numbers d)) (take-add at n ps) ∙ units-points (take at ps) (take n (drop at ps)) in
-    e ∙ ap (λ v. v ++ back) s ∙ append_assoc u front back ∙ ap (λ v. u ++ v) (sym both)
-
--- a block of them that are ASCII
-pub ascii_more : (ps : List CodePoint) (at : ℕ) (u block : List ℕ) {now new : List ℕ} → now ≡ u ++ units (numbers (take at ps))
-    → block ≡ numbers (take 16 (drop at ps)) → AreAscii block → new ≡ now ++ block → new ≡ u ++ units (numbers (take (at + 16) ps))
-ascii_more ps at u block {now} s b a e = points_more ps at 16 u s (e ∙ ap (λ v. now ++ v) (sym (ap units (sym b) ∙ ascii_own_units block a)))

@@ -196,6 +196,21 @@ pub record IsFirstRead (v : List ℕ) (at end p : ℕ) : Type 0 where
   pub apart : DividesNoPair v end
   pub reads : Reads (p ∷ []) (take (end - at) (drop at v))
 
+-- a character that begins with a surrogate has two units
+pub two_units : (v : List ℕ) (at : ℕ) (s t : Units) (x : Result ℕ ℕ) {p : ℕ} → at < length v → left s ≡ take (length v - at) (drop at v) → peekable_peeked s ≡ None → DecodesItem steps s x t
+    → x ≡ Ok p → IsSurrogate (get_or v at 0) → 2 ≡ length (units_of (point_of x))
+two_units v at s t x here rest none item ok begins = unit_count (point_of x) 2 (λ small. absurd (apart (subst IsSurrogate (same small) begins))) (λ _. refl)
+  where
+    apart : ¬ (IsSurrogate (point_of x))
+    apart = subst (λ y. ¬ (IsSurrogate (point_of y))) (sym ok) (subst (λ y. MatchResult y (λ c. IsCodePoint c × ¬ (IsSurrogate c)) IsSurrogate) ok item.kind).1
+
+    same : point_of x < 0x10000 → get_or v at 0 ≡ point_of x
+    same small =
+        let got = yielded (units_of (point_of x)) s item.behind none item.taken in
+        let whole : drop at v ≡ units_of (point_of x) ++ left item.behind = sym (take_all (length v - at) (drop at v) (omega (arith, length-drop at v))) ∙ sym rest ∙ got.0 in
+        let first : get_or (drop at v) 0 0 ≡ point_of x = ap (λ w. get_or w 0 0) (whole ∙ ap (λ u. u ++ left item.behind) (units_one (point_of x) small)) in
+        ap (λ w. get_or w 0 0) (sym (drop_more v at 0 here)) ∙ first
+
 pub first_read : (v : List ℕ) (at end : ℕ) (s t : Units) (x : Result ℕ ℕ) → at < length v → left s ≡ take (length v - at) (drop at v) → peekable_peeked s ≡ None → DecodesItem steps s x t
     → end ≡ at + length (units_of (point_of x)) → IsFirstRead v at end (point_of x)
 first_read v at end s t x here rest none item count =
@@ -213,14 +228,14 @@ first_read v at end s t x here rest none item count =
       reads = record { clean = item_range steps x item.kind; same_units = append-nil us ∙ sym front ∙ ap (λ k. take k (drop at v)) counted };
     }
 
--- a unit that is its own code point and no lead
-pub one_read : (v : List ℕ) (at : ℕ) → at < length v → get_or v at 0 < 0xD800 → IsFirstRead v at (at + 1) (get_or v at 0)
-one_read v at l h =
+-- a unit that is no surrogate
+pub one_read : (v : List ℕ) (at : ℕ) → at < length v → get_or v at 0 < 0x10000 → ¬ (IsSurrogate (get_or v at 0)) → IsFirstRead v at (at + 1) (get_or v at 0)
+one_read v at l h apart =
     let count : at + 1 - at ≡ 1 = omega arith in
     let next : suc at ≡ at + 1 = omega arith in
     let whole : take (at + 1 - at) (drop at v) ≡ get_or v at 0 ∷ [] = ap (λ k. take k (drop at v)) count ∙ ap (take 1) (drop_more v at 0 l) in
     record {
       within = omega (arith, l);
-      apart = subst (DividesNoPair v) next (last_apart v at l (λ k. omega (arith, h, k.0)));
-      reads = record { clean = omega (arith, h); same_units = append-nil _ ∙ (units_one (get_or v at 0) (omega (arith, h)) ∙ sym whole) };
+      apart = subst (DividesNoPair v) next (last_apart v at l (λ k. apart (k.0, omega (arith, k.1))));
+      reads = record { clean = omega (arith, h); same_units = append-nil _ ∙ (units_one (get_or v at 0) h ∙ sym whole) };
     }

@@ -4,6 +4,7 @@ use Rattle.wtf8.proofs.Common.{length-append, false≢true, refl, sym, ap, ◌�
 use lib.Lanes.{sel_l, pick_l, mask_l}
 use Rattle.std.specs.Int.{w8, w16}
 use Rattle.std.specs.Prelude.{nat_lt, if◌then◌else◌, bit_xor, ◌↔◌}
+use Rattle.std.proofs.lemmas.Bool.Decides.{nat_tests}
 use Rattle.std.proofs.lemmas.List.{take-map, drop-map, get_or-take}
 use Rattle.std.proofs.lemmas.Simd.{swz_l, get_or-swz_l_below}
 use Rattle.wtf8.specs.private.UnitParts.{AreScalarUnits}
@@ -100,16 +101,7 @@ abbrev trail_second : ℕ → ℕ → ℕ
 trail_second b x = ((0x80 + b % 4 * 16 % 65536) % 65536 + x / 64 % 16) % 65536
 
 second_is : (b x : ℕ) → cond (top 15 (cond (eqb (x / 1024) 54) 0xFFFF 0)) (lead_second x) (cond (top 15 (cond (eqb (x / 1024) 55) 0xFFFF 0)) (trail_second b x) (own_second_byte x)) ≡ second_byte b x
-second_is b x = elim (cases_lt x 0xD800) [
-  | inl l ↦ rw (other (x / 1024) 54 (λ e. omega (arith, e, l)), other (x / 1024) 55 (λ e. omega (arith, e, l)), lt-ltb x 0xD800 l) refl
-  | inr g ↦ elim (cases_lt x 0xDC00) [
-    | inl l ↦ rw (eq-eqb (x / 1024) 54 (omega (arith, g, l)), le-ltb x 0xD800 g, lt-ltb x 0xDC00 l) (omega (arith, g, l))
-    | inr h ↦ elim (cases_lt x 0xE000) [
-      | inl l ↦ rw (other (x / 1024) 54 (λ e. omega (arith, e, h)), eq-eqb (x / 1024) 55 (omega (arith, h, l)), le-ltb x 0xD800 g, le-ltb x 0xDC00 h, lt-ltb x 0xE000 l) (omega arith)
-      | inr k ↦ rw (other (x / 1024) 54 (λ e. omega (arith, e, k)), other (x / 1024) 55 (λ e. omega (arith, e, k)), le-ltb x 0xD800 g, le-ltb x 0xDC00 h, le-ltb x 0xE000 k) refl
-    ]
-  ]
-]
+second_is b x = grind (arith, nat_tests)
 
 abbrev seconds : List ℕ → List ℕ → List ℕ
 seconds own u =
@@ -130,13 +122,7 @@ abbrev lead_last : ℕ → ℕ
 lead_last x = (0x80 + (x % 1024 + 64) % 65536 / 4 % 64) % 65536
 
 last_is : (x : ℕ) → cond (top 15 (cond (eqb (x / 1024) 54) 0xFFFF 0)) (lead_last x) (own_last_byte x) ≡ last_byte x
-last_is x = elim (cases_lt x 0xD800) [
-  | inl l ↦ rw (other (x / 1024) 54 (λ e. omega (arith, e, l)), lt-ltb x 0xD800 l) refl
-  | inr g ↦ elim (cases_lt x 0xDC00) [
-    | inl l ↦ rw (eq-eqb (x / 1024) 54 (omega (arith, g, l)), le-ltb x 0xD800 g, lt-ltb x 0xDC00 l) (omega (arith, g, l))
-    | inr h ↦ rw (other (x / 1024) 54 (λ e. omega (arith, e, h)), le-ltb x 0xD800 g, le-ltb x 0xDC00 h) refl
-  ]
-]
+last_is x = grind (arith, nat_tests)
 
 abbrev lasts : List ℕ → List ℕ → List ℕ
 lasts own u = chosen_by eqb 54 (by 1024 u) (plus (replicate 8 0x80) (rest 64 (by 4 (plus (rest 1024 u) (replicate 8 64))))) own
@@ -149,16 +135,7 @@ abbrev long_mark : ℕ → ℕ
 long_mark n = are_three n * 0x80
 
 long_is : (x : ℕ) → cond (top 15 (cond (eqb (x / 2048) 27) 0xFFFF 0)) 0 (mark 0x800 x) ≡ long_mark x
-long_is x = elim (cases_lt x 0x800) [
-  | inl l ↦ rw (other (x / 2048) 27 (λ e. omega (arith, e, l)), lt-ltb x 0x800 l) refl
-  | inr g ↦ elim (cases_lt x 0xD800) [
-    | inl l ↦ rw (other (x / 2048) 27 (λ e. omega (arith, e, l)), le-ltb x 0x800 g, lt-ltb x 0xD800 l) refl
-    | inr h ↦ elim (cases_lt x 0xE000) [
-      | inl l ↦ rw (eq-eqb (x / 2048) 27 (omega (arith, h, l)), le-ltb x 0x800 g, le-ltb x 0xD800 h, lt-ltb x 0xE000 l) refl
-      | inr k ↦ rw (other (x / 2048) 27 (λ e. omega (arith, e, k)), le-ltb x 0x800 g, le-ltb x 0xD800 h, le-ltb x 0xE000 k) refl
-    ]
-  ]
-]
+long_is x = grind (arith, nat_tests)
 
 pub longs_are : (m u : List ℕ) → length u ≡ 8 → m ≡ map (mark 0x800) u → chosen_by eqb 27 (by 2048 u) (replicate 8 0) m ≡ map long_mark u
 longs_are m u l e = rw e (of_eight (λ u. chosen_by eqb 27 (by 2048 u) (replicate 8 0) (map (mark 0x800) u) ≡ map long_mark u) u l
@@ -183,44 +160,23 @@ scalar_lanes (y ∷ b) (x ∷ u) l h =
 
 -- The bytes as lanes of eight bits, four units of eight together, and the number of their lengths.
 
-below_800 : (x : ℕ) → own_second_byte x < 256
-below_800 x = elim (cases_lt x 0x800) [ inl l ↦ rw (lt-ltb x 0x800 l) (omega arith) | inr g ↦ rw (le-ltb x 0x800 g) (omega arith) ]
-
 second_small : (b x : ℕ) → x < 0x10000 → second_byte b x < 256
-second_small b x h = elim (cases_lt x 0xD800) [
-  | inl l ↦ rw (lt-ltb x 0xD800 l) (below_800 x)
-  | inr g ↦ elim (cases_lt x 0xDC00) [
-    | inl l ↦ rw (le-ltb x 0xD800 g, lt-ltb x 0xDC00 l) (omega (arith, l))
-    | inr k ↦ elim (cases_lt x 0xE000) [ inl l ↦ rw (le-ltb x 0xD800 g, le-ltb x 0xDC00 k, lt-ltb x 0xE000 l) (omega arith) | inr m ↦ rw (le-ltb x 0xD800 g, le-ltb x 0xDC00 k, le-ltb x 0xE000 m) (below_800 x) ]
-  ]
-]
+second_small b x h = grind (arith, nat_tests, h)
 
 pub seconds_fit : (P : ℕ → Type 0) → ((x : ℕ) → x < 256 → P x) → (b u : List ℕ) → Each1 (Fits w16) u → Each1 P (zip2 second_byte b u)
 seconds_fit P h [] u e = tt
 seconds_fit P h (y ∷ b) [] e = tt
 seconds_fit P h (y ∷ b) (x ∷ u) e = (h _ (second_small y x e.0.fits), seconds_fit P h b u e.1)
 
-own_last_small : (x : ℕ) → own_last_byte x < 256
-own_last_small x = elim (cases_lt x 0x80) [ inl l ↦ rw (lt-ltb x 0x80 l) (omega (arith, l)) | inr g ↦ rw (le-ltb x 0x80 g) (omega arith) ]
-
 last_small : (x : ℕ) → last_byte x < 256
-last_small x = elim (cases_lt x 0xD800) [
-  | inl l ↦ rw (lt-ltb x 0xD800 l) (own_last_small x)
-  | inr g ↦ elim (cases_lt x 0xDC00) [ inl l ↦ rw (le-ltb x 0xD800 g, lt-ltb x 0xDC00 l) (omega arith) | inr k ↦ rw (le-ltb x 0xD800 g, le-ltb x 0xDC00 k) (own_last_small x) ]
-]
+last_small x = grind (arith, nat_tests)
 
 pub lasts_fit : (P : ℕ → Type 0) → ((x : ℕ) → x < 256 → P x) → (u : List ℕ) → Each1 (Fits w16) u → Each1 P (map last_byte u)
 lasts_fit P h = each_map P last_byte (λ x _. h _ (last_small x))
 
 -- a unit takes three bytes only where it takes more than one
 counts_of : (n : ℕ) → (are_three n ≤ more_than_one n) × (more_than_one n ≤ 1)
-counts_of n = elim (cases_lt n 0x800) [
-  | inl l ↦ rw (lt-ltb n 0x800 l) (elim (cases_lt n 0x80) [ inl k ↦ rw (lt-ltb n 0x80 k) (omega arith, omega arith) | inr k ↦ rw (le-ltb n 0x80 k) (omega arith, omega arith) ])
-  | inr g ↦ rw (le-ltb n 0x80 (omega (arith, g)), le-ltb n 0x800 g) (elim (cases_lt n 0xD800) [
-    | inl l ↦ rw (lt-ltb n 0xD800 l) (omega arith, omega arith)
-    | inr h ↦ rw (le-ltb n 0xD800 h) (elim (cases_lt n 0xE000) [ inl l ↦ rw (lt-ltb n 0xE000 l) (omega arith, omega arith) | inr l ↦ rw (le-ltb n 0xE000 l) (omega arith, omega arith) ])
-  ])
-]
+counts_of n = (grind (arith, nat_tests), grind (arith, nat_tests))
 
 pub length_of : (n : ℕ) → IsLength (byte_count n)
 length_of n = let counts = counts_of n in (omega arith, omega (arith, counts.0, counts.1))

@@ -1,5 +1,5 @@
 use Rattle.wtf8.proofs.Common.{◌≡◌, ◌++◌, true, is_ok, arith, ap, length, UnitString}
-use Rattle.wtf8.proofs.lemmas.units_in.Blocks.{ascii_units, ascii_known}
+use Rattle.wtf8.proofs.lemmas.strings.AsciiEnds.{ascii_units, ascii_known}
 use Rattle.wtf8.proofs.strings.buf.Wtf8Buf.push_ascii.Given.{Over}
 use Rattle.wtf8.proofs.strings.buf.Wtf8Buf.push_ascii.Goals.{After-extend_from_slice}
 use Rattle.wtf8.proofs.strings.buf.Wtf8Buf.push_ascii.Goals as goal
