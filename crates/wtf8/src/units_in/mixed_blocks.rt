@@ -79,7 +79,8 @@ fn own_second_bytes(units: u16x8) -> u16x8
     marks + middle
 }
 
-/// The same of eight units of any kinds, of which a trail needs to know the lead.
+/// The second of three bytes of each of eight units of any kinds, or where it takes two its first one. A trail's comes from
+/// the lead before it.
 #[inline(always)]
 fn second_bytes(units: u16x8) -> u16x8
     ensures { result ≡ zip2 second_byte (0 ∷ units) units }

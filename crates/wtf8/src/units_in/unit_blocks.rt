@@ -90,7 +90,8 @@ fn append_point<A: Allocator>(
 }
 
 /// Appends the ASCII units at the front of the `N` from a place on up to which units were read, and the bytes of the code
-/// point behind them where not all are ASCII, and answers the same.
+/// point behind them where not all are ASCII. Answers how far units are read then, and whether no surrogate is alone among
+/// them.
 #[inline(always)]
 fn append_front<const N: usize, A: Allocator>(
     bytes: &mut Vec<u8, A>,
@@ -115,8 +116,9 @@ fn append_front<const N: usize, A: Allocator>(
     append_point(bytes, v, at + count, is_scalar)
 }
 
-/// Appends the bytes of some units from a place on up to which units were read, where there are as many as are looked at
-/// for ASCII, others by a block of so many bytes, and answers the same.
+/// Appends the bytes of some units from a place on up to which units were read: of the ASCII units at their front, where
+/// there are `FRONT` units, or of others by a block of `ROOM` bytes. Answers how far units are read then, and whether no
+/// surrogate is alone among them.
 #[inline(always)]
 fn append_part<const FRONT: usize, const ROOM: usize, A: Allocator>(
     bytes: &mut Vec<u8, A>,
@@ -145,8 +147,8 @@ fn append_part<const FRONT: usize, const ROOM: usize, A: Allocator>(
     Ok((end, is_scalar))
 }
 
-/// Appends the bytes of some units from a place on up to which units were read, together where that can be, and answers the
-/// same.
+/// Appends the bytes of some units from a place on up to which units were read, together where that can be. Answers how far
+/// units are read then, and whether no surrogate is alone among them.
 #[inline(always)]
 fn append_few<A: Allocator>(
     bytes: &mut Vec<u8, A>,

@@ -30,4 +30,4 @@ returns-in-Some-divided-clause-last c =
     inr (omega (arith, whole.counted.inside), divides_some h.clean (divided refl whole))
 
 pub returns-in-Some-divided-clause-exact : goal.returns-in-Some-divided-clause-exact
-returns-in-Some-divided-clause-exact c = λ whole. elim (returns-in-Some-divided-clause-last c) [ | inl same ↦ same | inr less ↦ absurd (whole less.1) ]
+returns-in-Some-divided-clause-exact c = λ whole. elim (returns-in-Some-divided-clause-last c) [ inl same ↦ same | inr less ↦ absurd (whole less.1) ]
