@@ -38,7 +38,8 @@ fn is_block_same<const N: usize>(own: &[u8], others: &[u8], at: usize) -> bool
     requires room { (at + N ≤ length own.now) × (at + N ≤ length others.now) }
     ensures { Tells ⊤ (DifferAt own.now others.now) at (at + N) result }
 {
-    first_in_block::<N>(own, others, at).is_none()
+    let unlike = Simd::<u8, N>::from_slice(&own[at..]).simd_ne(Simd::from_slice(&others[at..]));
+    unlike.to_bitmask() == 0
 }
 
 /// Whether lists of `N` to twice so many bytes are equal.

@@ -49,16 +49,6 @@ before_cons x y xs ys h rest = elim (cases_lt x y) [
   | inr m ↦ let same : x ≡ y = omega arith in inr (same, rest same)
 ]
 
-pub before_two : (a b x y : ℕ) (r s : List ℕ) → a ≤ x → (a ≡ x → b < y) → Before (a ∷ b ∷ r) (x ∷ y ∷ s)
-before_two a b x y r s h k = before_cons a x (b ∷ r) (y ∷ s) h (λ e. inl (k e))
-
-pub before_three : (a b c x y z : ℕ) (r s : List ℕ) → a ≤ x → (a ≡ x → b ≤ y) → (a ≡ x → b ≡ y → c < z) → Before (a ∷ b ∷ c ∷ r) (x ∷ y ∷ z ∷ s)
-before_three a b c x y z r s h k l = before_cons a x (b ∷ c ∷ r) (y ∷ z ∷ s) h (λ e. before_two b c y z r s (k e) (l e))
-
-pub before_four : (a b c d x y z w : ℕ) (r s : List ℕ) → a ≤ x → (a ≡ x → b ≤ y) → (a ≡ x → b ≡ y → c ≤ z) → (a ≡ x → b ≡ y → c ≡ z → d < w)
-    → Before (a ∷ b ∷ c ∷ d ∷ r) (x ∷ y ∷ z ∷ w ∷ s)
-before_four a b c d x y z w r s h k l m = before_cons a x (b ∷ c ∷ d ∷ r) (y ∷ z ∷ w ∷ s) h (λ e. before_three b c d y z w r s (k e) (l e) (m e))
-
 with_first : (x y : ℕ) (xs ys : List ℕ) → x ≡ y → (o : Ordering) → MatchOrdering o (Before xs ys) (xs ≡ ys) (Before ys xs)
     → MatchOrdering o (Before (x ∷ xs) (y ∷ ys)) (x ∷ xs ≡ y ∷ ys) (Before (y ∷ ys) (x ∷ xs))
 with_first x y xs ys e Less h = inr (e, h)
@@ -94,31 +84,24 @@ before_of c d e = ordered Less c d (sym e)
 -- the encoding of a smaller code point comes first, whatever is behind it
 before_encoding : (p q : ℕ) (r s : List ℕ) → p < q → Before (encoding p ++ r) (encoding q ++ s)
 before_encoding p q r s l = elim (row_of p) [
-  | one h e ↦ elim (row_of q) [
-    | one k f ↦ rw (e, f) (inl l)
-    | two k _ f ↦ rw (e, f) (inl (omega arith))
-    | three k _ f ↦ rw (e, f) (inl (omega arith))
-    | four k f ↦ rw (e, f) (inl (omega arith))
-  ]
+  | one h e ↦ elim (row_of q) [ one k f ↦ rw (e, f) (inl l) | two k _ f ↦ rw (e, f) (inl (omega arith)) | three k _ f ↦ rw (e, f) (inl (omega arith)) | four k f ↦ rw (e, f) (inl (omega arith)) ]
   | two m h e ↦ elim (row_of q) [
     | one k f ↦ absurd (omega arith)
-    | two k _ f ↦ rw (e, f) (before_two (0xC0 + p / 64) (0x80 + p % 64) (0xC0 + q / 64) (0x80 + q % 64) r s (omega arith) (λ a. omega arith))
+    | two k _ f ↦ rw (e, f) (grind arith)
     | three k _ f ↦ rw (e, f) (inl (omega arith))
     | four k f ↦ rw (e, f) (inl (omega arith))
   ]
   | three m h e ↦ elim (row_of q) [
     | one k f ↦ absurd (omega arith)
     | two _ k f ↦ absurd (omega arith)
-    | three k _ f ↦ rw (e, f) (before_three (0xE0 + p / 4096) (0x80 + p / 64 % 64) (0x80 + p % 64) (0xE0 + q / 4096) (0x80 + q / 64 % 64)
-        (0x80 + q % 64) r s (omega arith) (λ a. omega arith) (λ a b. omega arith))
+    | three k _ f ↦ rw (e, f) (grind arith)
     | four k f ↦ rw (e, f) (inl (omega arith))
   ]
   | four m e ↦ elim (row_of q) [
     | one k f ↦ absurd (omega arith)
     | two _ k f ↦ absurd (omega arith)
     | three _ k f ↦ absurd (omega arith)
-    | four k f ↦ rw (e, f) (before_four (0xF0 + p / 262144) (0x80 + p / 4096 % 64) (0x80 + p / 64 % 64) (0x80 + p % 64) (0xF0 + q / 262144)
-        (0x80 + q / 4096 % 64) (0x80 + q / 64 % 64) (0x80 + q % 64) r s (omega arith) (λ a. omega arith) (λ a b. omega arith) (λ a b c. omega arith))
+    | four k f ↦ rw (e, f) (grind arith)
   ]
 ]
 
@@ -177,7 +160,7 @@ before_units : (p q : ℕ) (c d : List ℕ) → p < q → BothBelow 0x10000 p q 
 before_units p q c d l both = elim (cases_lt p 0x10000) [
   | inl h ↦ rw (units-cons_one p c h, units-cons_one q d (both.0 h)) (inl l)
   | inr h ↦ rw (units-cons_two p c h, units-cons_two q d (omega arith))
-      (before_two (lead_of p) (trail_of p) (lead_of q) (trail_of q) (units c) (units d) (omega arith) (λ e. omega arith))
+      (grind arith)
 ]
 
 -- where lists differ first, both numbers or neither is below F0

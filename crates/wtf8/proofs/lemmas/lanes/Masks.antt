@@ -8,6 +8,7 @@ use Rattle.std.proofs.lemmas.List.Sums.{prefix_len_passes, prefix_len_stops}
 use Rattle.std.proofs.lemmas.Simd.{leading_from_mask_l, trailing_mask_l}
 use Rattle.std.specs.List.{prefix_len}
 use Rattle.std.specs.Option.{unwrap_or}
+use Rattle.std.specs.Prelude.{MatchOption}
 use lib.Count.{count_trailing_zeros}
 use Rattle.wtf8.specs.private.FirstPlace.{IsFirstBelow, IsFirstSet, IsSet}
 use Rattle.wtf8.specs.private.UnitRows.{IsOfKind}
@@ -37,30 +38,22 @@ module _ (bits n : ℕ) (lanes : List Bool) (few : n ≤ 64) (long : length lane
         omega (arith, some, long),
       )
 
--- lanes that are of the places from one on: the first lane with a property is of the first place with another one
-module _ (P Q : ℕ → Type 0) (i n : ℕ) (says : (k : ℕ) → k < n → P k ↔ Q (i + k)) where
-  pub none_there : (m : ℕ) → m ≤ n → Nowhere P 0 m → Nowhere Q i (i + m)
-  none_there m le none j low high q =
-      let place : i + (j - i) ≡ j = omega arith in
-      none (j - i) (omega arith) (omega arith) ((says (j - i) (omega arith)).1 (subst Q (sym place) q))
+-- lanes that are of the places from one on: the first that is set is of the first place with a property
+pub first_there : (P : ℕ → Type 0) (lanes : List Bool) (i n : ℕ) → ((k : ℕ) → k < n → IsSet lanes k ↔ P (i + k)) → (r : Option ℕ) → IsFirstBelow (IsSet lanes) 0 n r
+    → MatchOption r (Nowhere P i (i + n)) (λ k. IsLeast P i (i + k) × (i + k < i + n))
+first_there P lanes i n says r first = by r first
+  where
+    none : (m : ℕ) → m ≤ n → Nowhere (IsSet lanes) 0 m → Nowhere P i (i + m)
+    none m le unset j low high q =
+        let place : i + (j - i) ≡ j = omega arith in
+        unset (j - i) (omega arith) (omega arith) ((says (j - i) (omega arith)).1 (subst P (sym place) q))
 
-  pub first_there : (k : ℕ) → IsLeast P 0 k × (k < n) → IsLeast Q i (i + k) × (i + k < i + n)
-  first_there k h = (
-    record { not_before = omega arith; here = (says k h.1).0 h.0.here; none_between = none_there k (omega (arith, h.1)) h.0.none_between },
-    omega (arith, h.1),
-  )
-
--- the first lane with one of two properties that say the same
-pub same_first : (P Q : ℕ → Type 0) (n : ℕ) → ((k : ℕ) → k < n → P k ↔ Q k) → (r : Option ℕ) → IsFirstBelow P 0 n r → IsFirstBelow Q 0 n r
-same_first P Q n says None none = λ j low high q. none j low high ((says j high).1 q)
-same_first P Q n says (Some k) h = (
-  record {
-    not_before = h.0.not_before;
-    here = (says k h.1).0 h.0.here;
-    none_between = λ j low l q. h.0.none_between j low l ((says j (omega (arith, l, h.1))).1 q);
-  },
-  h.1,
-)
+    by : (r : Option ℕ) → IsFirstBelow (IsSet lanes) 0 n r → MatchOption r (Nowhere P i (i + n)) (λ k. IsLeast P i (i + k) × (i + k < i + n))
+    by None h = none n (omega arith) h
+    by (Some k) h = (
+      record { not_before = omega arith; here = (says k h.1).0 h.0.here; none_between = none k (omega (arith, h.1)) h.0.none_between },
+      omega (arith, h.1),
+    )
 
 -- the lanes that, divided by one number, are not another one
 abbrev pub kinds : ℕ → ℕ → List ℕ → List ℕ

@@ -6,14 +6,15 @@ use Rattle.wtf8.proofs.Common.{Each1, all_units_begun, Option, get_or-zip2}
 use Rattle.std.proofs.Common.{◌≡◌, ℕ, zero, suc, ◌+◌, ◌%◌, ◌^◌, ◌<◌, ◌≤◌, eqb, leb, Bool, true, false, cond, ◌&&◌, List, [], ◌∷◌, map, length, get_or}
 use Rattle.std.proofs.Common.{replicate, bit_and, w8, w16, refl, sym, ap, ◌∙◌, subst, arith}
 use Rattle.std.proofs.lemmas.Bool.{and_parts, and_from, leb-true, le-leb, eq-eqb, eqb-true}
-use Rattle.std.proofs.lemmas.List.{length-map, length-replicate}
+use Rattle.std.proofs.lemmas.List.{get_or-replicate, length-map, length-replicate}
 use Rattle.std.proofs.lemmas.List.Sums.{sum_by-cons}
-use Rattle.std.proofs.lemmas.Simd.{length-zip2, get_or-chunk, mask_l-mod}
+use Rattle.std.proofs.lemmas.Simd.{length-zip2, length-chunk, get_or-chunk, mask_l-mod}
 use Rattle.std.proofs.lemmas.Simd.{Each2-of, fold-sum, sum_bound, sum_fits, sum-zip2}
 use lib.Lanes.{chunk, zip2, mask_l, top, Each2, Steps, fold_l, sum_l}
-use Rattle.wtf8.proofs.lemmas.lanes.Masks.{same_first}
-use Rattle.wtf8.specs.private.FirstPlace.{IsFirstBelow, IsFirstSet, IsSet}
-use Rattle.wtf8.specs.private.SurrogateSearch.{BeginsInLane, SurrogateAt}
+use Rattle.wtf8.proofs.lemmas.lanes.Masks.{first_there, none_set}
+use Rattle.std.specs.Prelude.{MatchOption}
+use Rattle.wtf8.specs.private.FirstPlace.{IsFirstSet, IsLeast, IsSet, Nowhere}
+use Rattle.wtf8.specs.private.SurrogateSearch.{SurrogateAt}
 use Rattle.wtf8.specs.private.UnitCounts.{HasLane, units_begun}
 
 -- The search in lanes: the mask of two vectors.
@@ -41,44 +42,37 @@ tops n (x ∷ xs) [] p q = absurd (omega arith)
 tops zero (x ∷ xs) (y ∷ ys) p q = absurd (omega arith)
 tops (suc n) (x ∷ xs) (y ∷ ys) p q = λ i. both (eqb x 0xED) (leb 0xA0 y) i ∷ tops n xs ys (omega arith) (omega arith) i
 
-begins_in_lane : (n : ℕ) (xs ys : List ℕ) → length xs ≡ n → length ys ≡ n → (k : ℕ) → k < n → IsSet (zip2 test xs ys) k ↔ BeginsInLane xs ys k
-begins_in_lane n xs ys p q k l =
-    subst (λ b. IsTrue b ↔ BeginsInLane xs ys k) (sym (get_or-zip2 test xs ys k 0 0 false (omega (arith, p, l)) (omega (arith, q, l)))) (
-      λ e. let parts = and_parts _ _ e in (eqb-true _ 0xED parts.0, leb-true 0xA0 _ parts.1),
-      λ h. and_from _ _ (eq-eqb _ 0xED h.0) (le-leb 0xA0 _ h.1),
-    )
-
--- the first lane in which a surrogate begins
-pub first_begins : (xs ys : List ℕ) → length xs ≡ 32 → length ys ≡ 32 → (r : Option ℕ)
-    → IsFirstSet (mask_l (map (top 7) (compared 32 xs ys)) % 2 ^ 64) r → IsFirstBelow (BeginsInLane xs ys) 0 32 r
-first_begins xs ys p q r first =
-    same_first _ _ 32 (begins_in_lane 32 xs ys p q) r
-    (first 32 (zip2 test xs ys) (omega arith) (length-zip2 test xs ys (p ∙ sym q) ∙ p) (ap (λ ms. mask_l ms % 2 ^ 64) (tops 32 xs ys p q)))
-
 -- vectors of the bytes from a place on and from one further
-pub begins_there : (w : List ℕ) (i : ℕ) → i + 32 < length w → (k : ℕ) → k < 32 → BeginsInLane (chunk i 32 w) (chunk (i + 1) 32 w) k ↔ SurrogateAt w (i + k)
+begins_there : (w : List ℕ) (i : ℕ) → i + 32 < length w → (k : ℕ) → k < 32 → IsSet (zip2 test (chunk i 32 w) (chunk (i + 1) 32 w)) k ↔ SurrogateAt w (i + k)
 begins_there w i room k l =
-    let first : get_or (chunk i 32 w) k 0 ≡ get_or w (i + k) 0 = get_or-chunk i 32 w k 0 l in
-    let second : get_or (chunk (i + 1) 32 w) k 0 ≡ get_or w (i + k + 1) 0 = get_or-chunk (i + 1) 32 w k 0 l ∙ ap (λ m. get_or w m 0) (omega arith) in (
-      λ h. record { within = omega arith; first = sym first ∙ h.0; second = omega (arith, second, h.1) },
-      λ s. (first ∙ s.first, omega (arith, second, s.second)),
-    )
+    let next : get_or (chunk (i + 1) 32 w) k 0 ≡ get_or w (i + k + 1) 0 = get_or-chunk (i + 1) 32 w k 0 l ∙ ap (λ m. get_or w m 0) (omega arith) in
+    let within : i + k + 1 < length w = omega arith in
+    let here = get_or-zip2 test (chunk i 32 w) (chunk (i + 1) 32 w) k 0 0 false (omega (arith, length-chunk i 32 w (omega arith), l))
+    (omega (arith, length-chunk (i + 1) 32 w (omega arith), l)) in
+    subst (λ b. IsTrue b ↔ SurrogateAt w (i + k)) (sym here) (rw (get_or-chunk i 32 w k 0 l, next) (
+      λ e. let parts = and_parts _ _ e in record { within = within; first = eqb-true _ 0xED parts.0; second = leb-true 0xA0 _ parts.1 },
+      λ s. and_from _ _ (eq-eqb _ 0xED s.first) (le-leb 0xA0 _ s.second),
+    ))
+
+-- the first place at which a surrogate begins
+pub first_begins : (w : List ℕ) (i : ℕ) → i + 32 < length w → (r : Option ℕ) → IsFirstSet (mask_l (map (top 7) (compared 32 (chunk i 32 w) (chunk (i + 1) 32 w))) % 2 ^ 64) r
+    → MatchOption r (Nowhere (SurrogateAt w) i (i + 32)) (λ k. IsLeast (SurrogateAt w) i (i + k) × (i + k < i + 32))
+first_begins w i room r first =
+    let p = length-chunk i 32 w (omega arith) in
+    let q = length-chunk (i + 1) 32 w (omega arith) in
+    first_there (SurrogateAt w) _ i 32 (begins_there w i room) r (first 32 (zip2 test (chunk i 32 w) (chunk (i + 1) 32 w)) (omega arith)
+    (length-zip2 test (chunk i 32 w) (chunk (i + 1) 32 w) (p ∙ sym q) ∙ p) (ap (λ ms. mask_l ms % 2 ^ 64) (tops 32 (chunk i 32 w) (chunk (i + 1) 32 w) p q)))
 
 -- an empty mask of the lanes that are no less than a number
-none_high : (n least : ℕ) (xs : List ℕ) → length xs ≡ n → mask_l (zip2 leb (replicate n least) xs) ≡ 0 → (k : ℕ) → k < length xs → least ≤ get_or xs k 0 → ⊥
-none_high n least [] p e k l h = absurd (omega arith)
-none_high zero least (x ∷ xs) p e k l h = absurd (omega arith)
-none_high (suc n) least (x ∷ xs) p e zero l h = absurd (omega (arith, rw (le-leb least x h) at e))
-none_high (suc n) least (x ∷ xs) p e (suc k) l h = none_high n least xs (omega arith) (omega (arith, e)) k (omega arith) h
-
 pub none_at_least : (n least : ℕ) (xs : List ℕ) → n ≤ 64 → length xs ≡ n
     → IsTrue (eqb (mask_l (map (top 7) (zip2 (λ a b. lane (leb a b)) (replicate n least) xs)) % 2 ^ 64) 0) → ¬ (HasLane least xs)
 none_at_least n least xs few p t h =
     let rest = length-replicate n least in
     let long : length (zip2 leb (replicate n least) xs) ≡ n = length-zip2 leb (replicate n least) xs (rest ∙ sym p) ∙ rest in
-    let told = ap (λ ms. mask_l ms % 2 ^ 64) (tops_compared w8 leb (replicate n least) xs)
-    ∙ mask_l-mod (zip2 leb (replicate n least) xs) 64 (omega (arith, long, few)) in
-    none_high n least xs p (sym told ∙ eqb-true _ 0 t) h.0 h.1.0 h.1.1
+    let set : IsSet (zip2 leb (replicate n least) xs) h.0 =
+    get_or-zip2 leb (replicate n least) xs h.0 0 0 false (omega (arith, rest, p, h.1.0)) h.1.0 ∙ rw (get_or-replicate n h.0 least 0 (omega (arith, p, h.1.0))) (le-leb least _ h.1.1) in
+    none_set _ n (zip2 leb (replicate n least) xs) few long (ap (λ ms. mask_l ms % 2 ^ 64) (tops_compared w8 leb (replicate n least) xs)) (eqb-true _ 0 t)
+    h.0 (omega arith) (omega (arith, p, h.1.0)) set
 
 -- Units counted in lanes: what a block's lanes add up to.
 
