@@ -1,17 +1,12 @@
 -- The orders of code points, bytes and units, and what the first difference of two strings says of them.
 use Rattle.wtf8.proofs.Common.{◌≡◌, ℕ, ◌<◌, ◌≤◌, inl, inr, List, [], ◌∷◌, ◌++◌, refl, sym, ap, ◌∙◌, arith, subst, Ordering, Less, Equal, Greater, nat_cmp}
-use Rattle.wtf8.proofs.Common.{ordering_then, MatchOrdering, slice_cmp, cases_lt, nat_tests, Before, cases_order, ◌+◌, ◌/◌, ◌%◌, ◌↔◌, encoding, bytes, Bool, IsTrue}
-use Rattle.wtf8.proofs.Common.{nat_eq, pointwise, bytes_decides, units, Reads, IsWellFormed, IsForm, bytes-injective, ◌≢◌, zero, suc, drop, get_or, units_of}
-use Rattle.wtf8.proofs.Common.{IsFirstDifference, PairBegins, true, false, ◌⊎◌, length, take, length-append, append_assoc, false≢true, take-append-drop, slice_get}
-use Rattle.wtf8.proofs.Common.{option_cmp, Nowhere, IsLeast}
-use Rattle.std.proofs.Common.{min}
-use Rattle.std.proofs.lemmas.Option.{slice_get-get_or}
-use Rattle.wtf8.specs.private.Differences.{DifferAt}
+use Rattle.wtf8.proofs.Common.{ordering_then, MatchOrdering, slice_cmp, cases_lt, nat_tests, Before, cases_order, ◌+◌, ◌/◌, ◌%◌, ◌↔◌, encoding, bytes, Bool}
+use Rattle.wtf8.proofs.Common.{IsTrue, nat_eq, pointwise, bytes_decides, units, Reads, IsWellFormed, IsForm, bytes-injective, ◌≢◌, zero, suc, drop, get_or}
+use Rattle.wtf8.proofs.Common.{units_of, IsFirstDifference, PairBegins, true, false, ◌⊎◌, length, take, length-append, append_assoc, false≢true}
+use Rattle.wtf8.proofs.Common.{take-append-drop, slice_get, option_cmp, Nowhere, IsLeast, min, slice_get-get_or, DifferAt, true≢false, ordering_reverse}
 use Rattle.wtf8.proofs.lemmas.lanes.Differences.{same_front}
-use Rattle.std.proofs.lemmas.Bool.{true≢false}
 use Rattle.std.proofs.lemmas.Cmp.{nat_list_cmp_total}
 use Rattle.std.specs.Bool.{beq}
-use Rattle.std.specs.Ordering.{ordering_reverse}
 use Rattle.wtf8.proofs.lemmas.numbers.Encoding.{row_of, one, two, three, four, encoding_same, length-encoding_bounds}
 use Rattle.wtf8.proofs.lemmas.numbers.Readings.{same_reading, lead_of, trail_of, units-cons_one, units-cons_two, units-append}
 use Rattle.wtf8.proofs.lemmas.strings.Positions.{cut_at, boundary_from_byte, points_behind}

@@ -1,15 +1,13 @@
 -- The lanes of one kind at the front of a block.
-use Rattle.wtf8.proofs.Common.{◌≡◌, ℕ, zero, suc, ◌-◌, ◌%◌, ◌^◌, ◌<◌, ◌≤◌, Bool, false, leb, not, cond, List, [], ◌∷◌, map, length, take, get_or, replicate, refl, sym, ap}
-use Rattle.wtf8.proofs.Common.{◌∙◌, arith, subst, Each1, mask_l-mod, tops_compared, zip2, mask_l, top, AreAscii, length-take}
+use Rattle.wtf8.proofs.Common.{◌≡◌, ℕ, zero, suc, ◌-◌, ◌%◌, ◌^◌, ◌<◌, ◌≤◌, Bool, false, leb, not, cond, List, [], ◌∷◌, map, length, take, get_or, replicate}
+use Rattle.wtf8.proofs.Common.{refl, sym, ap, ◌∙◌, arith, subst, Each1, mask_l-mod, tops_compared, zip2, mask_l, top, AreAscii, length-take, Each2, prefix_len}
 use Rattle.std.proofs.lemmas.Bool.{leb-false, not-true}
 use Rattle.std.proofs.lemmas.List.{length-map, get_or-take}
 use Rattle.std.proofs.lemmas.List.Sums.{prefix_len_passes, prefix_len-le-length}
-use lib.Lanes.{Each2}
 use Rattle.std.proofs.lemmas.Simd.{zip2_splat_left, Each1-from_get_or, Each2-splat, Each1-all, leading_from_mask_l, trailing_mask_l}
 use mir.Syntax.{Width}
 use mir.Val.{bits, hbits}
 use Rattle.std.specs.Int.Count.{count_trailing_zeros}
-use Rattle.std.specs.List.{prefix_len}
 
 -- the lanes before the first that a mask shows
 module _ (p : ℕ → Bool) (Q : ℕ → Type 0) (off : (x : ℕ) → p x ≡ false → Q x) (xs : List ℕ) (few : length xs ≤ 64) (m : ℕ) (same : m ≡ mask_l (map p xs)) where

@@ -1,11 +1,8 @@
 -- Bytes compared in lanes: what the mask of a block says of its bytes, and lists without a difference.
-use Rattle.wtf8.proofs.Common.{◌≡◌, ◌≢◌, ◌↔◌, ℕ, zero, suc, ◌+◌, ◌<◌, ◌≤◌, eqb, Bool, true, false, IsTrue, cond, not, inl, inr, refl, sym, ap, subst, arith, List}
-use Rattle.wtf8.proofs.Common.{[], ◌∷◌, ◌∙◌, map, length, get_or, nat_eq, take, take_all, cases_Bool, both_ways, eq-eqb, eqb-true, length-chunk, get_or-chunk, get_or-zip2, length-zip2, tops_compared, mask_l, w8, None, Some, Option, ◌%◌, ◌^◌}
-use Rattle.wtf8.proofs.Common.{pointwise, bytes_decides, chunk, zip2, top, IsLeast, Nowhere}
-use Rattle.std.proofs.lemmas.Bool.{not-true}
-use Rattle.std.specs.Prelude.{MatchOption, ⊤}
-use Rattle.wtf8.specs.private.Differences.{DifferAt, Tells}
-use Rattle.wtf8.specs.private.FirstPlace.{IsFirstSet, IsSet}
+use Rattle.wtf8.proofs.Common.{◌≡◌, ◌≢◌, ◌↔◌, ℕ, zero, suc, ◌+◌, ◌<◌, ◌≤◌, eqb, Bool, true, false, IsTrue, cond, not, inl, inr, refl, sym, ap, subst, arith}
+use Rattle.wtf8.proofs.Common.{List, [], ◌∷◌, ◌∙◌, map, length, get_or, nat_eq, take, take_all, cases_Bool, both_ways, eq-eqb, eqb-true, length-chunk}
+use Rattle.wtf8.proofs.Common.{get_or-chunk, get_or-zip2, length-zip2, tops_compared, mask_l, w8, None, Some, Option, ◌%◌, ◌^◌, pointwise, bytes_decides, chunk}
+use Rattle.wtf8.proofs.Common.{zip2, top, IsLeast, Nowhere, not-true, MatchOption, ⊤, DifferAt, Tells, IsFirstSet, IsSet}
 use Rattle.wtf8.proofs.lemmas.lanes.Masks.{first_there, lowest_set, none_set}
 
 abbrev unlike : ℕ → ℕ → Bool

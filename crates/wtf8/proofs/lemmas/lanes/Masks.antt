@@ -1,17 +1,10 @@
 -- Masks: the lowest bit is that of the first lane that is set, and what this says of the places that the lanes are of.
 use Rattle.wtf8.proofs.Common.{◌≡◌, ◌↔◌, ℕ, zero, suc, ◌+◌, ◌-◌, ◌/◌, ◌%◌, ◌^◌, ◌<◌, ◌≤◌, eqb, Bool, true, false, not, cond, Option, Some, None, List, [], ◌∷◌}
-use Rattle.wtf8.proofs.Common.{map, length, take, replicate, refl, sym, ap, ◌∙◌, subst, arith, both_ways, cases_Bool, eqb-true, inl, inr, mask_l-mod, mask_l, top, zip2}
-use Rattle.wtf8.proofs.Common.{Each1, Nowhere, IsLeast, not-false, tops_compared, length-zip2, w8}
-use Rattle.std.proofs.lemmas.Bool.{not-true}
-use Rattle.std.proofs.lemmas.List.{length-replicate, map-id}
-use Rattle.std.proofs.lemmas.List.Sums.{prefix_len_passes, prefix_len_stops}
+use Rattle.wtf8.proofs.Common.{map, length, take, replicate, refl, sym, ap, ◌∙◌, subst, arith, both_ways, cases_Bool, eqb-true, inl, inr, mask_l-mod, mask_l}
+use Rattle.wtf8.proofs.Common.{top, zip2, Each1, Nowhere, IsLeast, not-false, tops_compared, length-zip2, w8, not-true, length-replicate, map-id}
+use Rattle.wtf8.proofs.Common.{prefix_len_passes, prefix_len_stops, prefix_len, unwrap_or, MatchOption, IsFirstBelow, IsFirstSet, IsSet, IsOfKind}
 use Rattle.std.proofs.lemmas.Simd.{leading_from_mask_l, trailing_mask_l}
-use Rattle.std.specs.List.{prefix_len}
-use Rattle.std.specs.Option.{unwrap_or}
-use Rattle.std.specs.Prelude.{MatchOption}
 use lib.Count.{count_trailing_zeros}
-use Rattle.wtf8.specs.private.FirstPlace.{IsFirstBelow, IsFirstSet, IsSet}
-use Rattle.wtf8.specs.private.UnitRows.{IsOfKind}
 
 -- where some bit is set, so is some lane
 some_set : (bs : List Bool) → 0 < mask_l bs → prefix_len (λ b. not b) bs < length bs

@@ -1,18 +1,12 @@
 -- Lanes that show where surrogates stand, whether one stands there, and how many units begin.
-use Rattle.wtf8.proofs.Common.{◌≡◌, ◌↔◌, ℕ, zero, suc, ◌+◌, ◌%◌, ◌^◌, ◌<◌, ◌≤◌, eqb, ltb, leb, Bool, true, false, IsTrue, cond, List, [], ◌∷◌, map, length, get_or}
-use Rattle.wtf8.proofs.Common.{replicate, w8, inl, inr, sym, ap, ◌∙◌, arith, cases_lt, lt-ltb, le-ltb, le-leb, eq-eqb, eqb-true, length-zip2}
-use Rattle.wtf8.proofs.Common.{get_or-chunk, mask_l-mod, tops_compared, chunk, sel_l, zip2, mask_l, top, SurrogateAt, ◌||◌, bit_or, Fits, refl, lt-leb}
-use Rattle.wtf8.proofs.Common.{Each1, all_units_begun, Option, get_or-zip2}
-use Rattle.std.proofs.Common.{◌≡◌, ℕ, zero, suc, ◌+◌, ◌%◌, ◌^◌, ◌<◌, ◌≤◌, eqb, leb, Bool, true, false, cond, ◌&&◌, List, [], ◌∷◌, map, length, get_or}
-use Rattle.std.proofs.Common.{replicate, bit_and, w8, w16, refl, sym, ap, ◌∙◌, subst, arith}
-use Rattle.std.proofs.lemmas.Bool.{and_parts, and_from, leb-true, le-leb, eq-eqb, eqb-true}
+use Rattle.wtf8.proofs.Common.{◌≡◌, ◌↔◌, ℕ, zero, suc, ◌+◌, ◌%◌, ◌^◌, ◌<◌, ◌≤◌, eqb, ltb, leb, Bool, true, false, IsTrue, cond, List, [], ◌∷◌, map, length}
+use Rattle.wtf8.proofs.Common.{get_or, replicate, w8, inl, inr, sym, ap, ◌∙◌, arith, cases_lt, lt-ltb, le-ltb, le-leb, eq-eqb, eqb-true, length-zip2}
+use Rattle.wtf8.proofs.Common.{get_or-chunk, mask_l-mod, tops_compared, chunk, sel_l, zip2, mask_l, top, SurrogateAt, ◌||◌, bit_or, Fits, refl, lt-leb, Each1}
+use Rattle.wtf8.proofs.Common.{all_units_begun, Option, get_or-zip2, ◌&&◌, bit_and, w16, subst, and_parts, and_from, leb-true, sum_by-cons, length-chunk}
+use Rattle.wtf8.proofs.Common.{Each2-of, fold-sum, sum_bound, sum_fits, sum-zip2, MatchOption}
 use Rattle.std.proofs.lemmas.List.{get_or-replicate, length-map, length-replicate}
-use Rattle.std.proofs.lemmas.List.Sums.{sum_by-cons}
-use Rattle.std.proofs.lemmas.Simd.{length-zip2, length-chunk, get_or-chunk, mask_l-mod}
-use Rattle.std.proofs.lemmas.Simd.{Each2-of, fold-sum, sum_bound, sum_fits, sum-zip2}
 use lib.Lanes.{chunk, zip2, mask_l, top, Each2, Steps, fold_l, sum_l}
 use Rattle.wtf8.proofs.lemmas.lanes.Masks.{first_there, none_set}
-use Rattle.std.specs.Prelude.{MatchOption}
 use Rattle.wtf8.specs.private.FirstPlace.{IsFirstSet, IsLeast, IsSet, Nowhere}
 use Rattle.wtf8.specs.private.SurrogateSearch.{SurrogateAt}
 use Rattle.wtf8.specs.private.UnitCounts.{HasLane, units_begun}

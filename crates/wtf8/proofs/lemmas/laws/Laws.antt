@@ -1,21 +1,17 @@
 -- The laws of positions, ASCII bytes, strings, and lists of building calls.
 use Rattle.wtf8.proofs.Common.{ℕ, List, [], ◌++◌, length, refl, ap, ◌∙◌, sym, subst, arith, append_assoc, length-append, append-nil, append_cancel_left, units}
-use Rattle.wtf8.proofs.Common.{bytes, Reads, IsForm, IsBoundary, ◌≡◌, ◌≢◌, ◌<◌, ◌+◌, ◌-◌, ◌/◌, ◌%◌, inl, ◌∷◌, get_or, drop_at, All-cons, All-drop, All-head, All-nil}
-use Rattle.wtf8.proofs.Common.{All, encoding, IsFront, IsBack, slice_get, Some, zero, suc, ◌≤◌, inr, cases_lt, chunk, length-chunk, get_or-chunk, ◌↔◌, glue}
-use Rattle.wtf8.proofs.Common.{AreScalar, view_units, view_form, Wtf8, Result, Ok, Err, OnOk, OnErr, AppendsUnits, KeepsContents, UnitString, on_ok_weaker}
-use Rattle.wtf8.proofs.Common.{◌⊎◌, All-tail, IsUnit, IsWellFormed, Step, Run, Build, Reserve, Truncate, TruncateUnits, IsNoTruncation}
-use Rattle.std.proofs.Common.{slice_index}
+use Rattle.wtf8.proofs.Common.{bytes, Reads, IsForm, IsBoundary, ◌≡◌, ◌≢◌, ◌<◌, ◌+◌, ◌-◌, ◌/◌, ◌%◌, inl, ◌∷◌, get_or, drop_at, All-cons, All-drop, All-head}
+use Rattle.wtf8.proofs.Common.{All-nil, All, encoding, IsFront, IsBack, slice_get, Some, zero, suc, ◌≤◌, inr, cases_lt, chunk, length-chunk, get_or-chunk, ◌↔◌}
+use Rattle.wtf8.proofs.Common.{glue, AreScalar, view_units, view_form, Wtf8, Result, Ok, Err, OnOk, OnErr, AppendsUnits, KeepsContents, UnitString}
+use Rattle.wtf8.proofs.Common.{on_ok_weaker, ◌⊎◌, All-tail, IsUnit, IsWellFormed, Step, Run, Build, Reserve, Truncate, TruncateUnits, IsNoTruncation}
+use Rattle.wtf8.proofs.Common.{slice_index, All-from_get_or, All-pop, All-same, FitWithin, AddsLength, RunsOnce, RunsAddUp, LeavesReserved, HasLane}
 use Rattle.std.proofs.lemmas.List.{append_cancel_right}
-use Rattle.std.proofs.lemmas.List.Elements.{All-from_get_or, All-pop, All-same}
-use Rattle.wtf8.specs.Appending.{FitWithin, AddsLength}
-use Rattle.wtf8.specs.Building.{RunsOnce, RunsAddUp, LeavesReserved}
 use Rattle.wtf8.specs.Laws.{FrontAndBackAreWhole}
 use Rattle.wtf8.specs.PositionLaws.{StartIsBoundary, EndIsBoundary, NoneIsBeyondEnd, FrontBoundariesAreOfWhole, WholeBoundariesAreOfFront, WholeBoundariesAreOfBack}
 use Rattle.wtf8.specs.PositionLaws.{BackBoundariesAreOfWhole, BeginningsAreNoLonger, BothAreNoLonger, AsciiStandsAlone, AsciiIsOneUnit}
 use Rattle.wtf8.specs.PositionLaws.{AsciiIsNoOtherUnit}
 use Rattle.wtf8.specs.StringLaws.{EqualBuffersHaveEqualUnits, EqualBufferAndViewHaveEqualUnits, EqualViewsHaveEqualUnits, StringsAreJoined, StringsArePaired}
 use Rattle.wtf8.specs.StringLaws.{TextsAreScalar, RoomLeftIsFound, ScalarsStay, FormsAreOfBuffers, FormsAreOfViews, WhatFitsIsFound}
-use Rattle.wtf8.specs.private.UnitCounts.{HasLane}
 use Rattle.wtf8.proofs.lemmas.numbers.Encoding.{bytes-append, bytes-pushed, row_of, one, two, three, four, Begins}
 use Rattle.wtf8.proofs.lemmas.numbers.Readings.{well_formed_of, reads_same, same_form, units-append, units_one, units_two}
 use Rattle.wtf8.proofs.lemmas.numbers.Readings.{units-cons_one, same_reading}

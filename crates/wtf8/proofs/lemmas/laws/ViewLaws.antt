@@ -1,19 +1,13 @@
 -- The laws that are called by value: of the views that a caller has at hand.
-use Rattle.wtf8.proofs.Common.{◌≡◌, ◌<◌, ◌+◌, ℕ, List, [], ◌∷◌, ◌++◌, ◌∙◌, ◌↔◌, refl, ap, sym, subst, arith, get_or, length, length-append, take, take_at, append_assoc}
-use Rattle.wtf8.proofs.Common.{units, bytes, Reads, IsForm, IsBack, Wtf8, view_units, view_form, AreScalar, lossy, chars, bytes_are_encodes}
-use Rattle.wtf8.proofs.Common.{All, IsUnit, number, numbers, Drains, Option, Run, Build}
-use Rattle.wtf8.specs.declared.numbers.code_point.CodePoint.{CodePoint}
-use Rattle.std.proofs.Common.{slice_index}
+use Rattle.wtf8.proofs.Common.{◌≡◌, ◌<◌, ◌+◌, ℕ, List, [], ◌∷◌, ◌++◌, ◌∙◌, ◌↔◌, refl, ap, sym, subst, arith, get_or, length, length-append, take, take_at}
+use Rattle.wtf8.proofs.Common.{append_assoc, units, bytes, Reads, IsForm, IsBack, Wtf8, view_units, view_form, AreScalar, lossy, chars, bytes_are_encodes, All}
+use Rattle.wtf8.proofs.Common.{IsUnit, number, numbers, Drains, Option, Run, Build, CodePoint, slice_index, YieldsList-from_first, chars-encodes}
+use Rattle.wtf8.proofs.Common.{get_or-append_seam, take_source, take_count, skip_source, skip_count, view_points}
 use Rattle.std.proofs.lemmas.Iterator.{YieldsList, items_from_drains, YieldsList-from_take}
 use Rattle.std.proofs.lemmas.Iterator.Adapters.{YieldsList-from_skip}
-use Rattle.std.proofs.lemmas.Iterator.Consumers.{YieldsList-from_first}
-use Rattle.std.proofs.lemmas.Str.{chars-encodes}
-use Rattle.std.proofs.Math.Seq.{get_or-append_seam}
-use Rattle.std.specs.Iterator.Adapters.{take_source, take_count, skip_source, skip_count}
 use Rattle.wtf8.specs.PointLaws.{DrainedPointsAreLeft, DrainedPointsAreTaken, DrainedPointsAreBehind}
 use Rattle.wtf8.specs.PointLaws.{CollectedPointsAreLeft, CollectedPointsAreTaken, CollectedPointsAreBehind}
 use Rattle.wtf8.specs.StringLaws.{CharactersComeBack}
-use Rattle.wtf8.specs.View.{view_points}
 use Rattle.wtf8.proofs.lemmas.numbers.Encoding.{encoding_one, bytes-append, bytes-pushed}
 use Rattle.wtf8.proofs.lemmas.numbers.Readings.{clean-append, no_lead, no_trail, same_reading, units_one, units-append}
 use Rattle.wtf8.proofs.lemmas.strings.Concatenation.{equal_forms, one_form, units_read}

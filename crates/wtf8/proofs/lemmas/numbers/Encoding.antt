@@ -1,11 +1,9 @@
 -- The bytes of a code point, of a list of code points, and what a first byte says.
-use Rattle.wtf8.proofs.Common.{◌≡◌, ℕ, zero, suc, ◌+◌, ◌/◌, ◌%◌, ◌<◌, ◌≤◌, ◌⊎◌, inl, inr, List, [], ◌∷◌, ◌++◌, length, get_or, refl, sym, ap, ◌∙◌, arith, lt-ltb, length-append}
-use Rattle.wtf8.proofs.Common.{le-ltb, cases_lt, append-nil, flat_map-append, IsSurrogate, bytes, encoding_is_encode, ◌-◌, ◌*◌, subst, IsCodePoint, encoding}
-use Rattle.wtf8.proofs.Common.{BeginsWithPoint}
+use Rattle.wtf8.proofs.Common.{◌≡◌, ℕ, zero, suc, ◌+◌, ◌/◌, ◌%◌, ◌<◌, ◌≤◌, ◌⊎◌, inl, inr, List, [], ◌∷◌, ◌++◌, length, get_or, refl, sym, ap, ◌∙◌, arith}
+use Rattle.wtf8.proofs.Common.{lt-ltb, length-append, le-ltb, cases_lt, append-nil, flat_map-append, IsSurrogate, bytes, encoding_is_encode, ◌-◌, ◌*◌, subst}
+use Rattle.wtf8.proofs.Common.{IsCodePoint, encoding, BeginsWithPoint, encode_same, FrontSays}
 use Rattle.std.proofs.Math.Nat.{div-div-eq-div-mul}
-use Rattle.std.proofs.lemmas.Str.{encode_same}
 use Rattle.wtf8.specs.Form.{encoding}
-use Rattle.wtf8.specs.private.Gains.{FrontSays}
 
 -- The encoding of code points: its bytes in each row of the table, its length, and which bytes begin one.
 

@@ -1,16 +1,9 @@
 -- A string cut at a number of units, also inside a pair, and what an iterator holds of a pair.
-use Rattle.wtf8.proofs.Common.{BeginsWithPoint, ◌≡◌, ℕ, zero, suc, ◌+◌, ◌≤◌, List, [], ◌∷◌, ◌++◌, length, take, drop, None, Some, refl, sym, ap, ◌∙◌, subst, arith, length-append}
-use Rattle.wtf8.proofs.Common.{append_assoc, take_at, drop_at, slice_get, IsCodePoint, units, IsClean, bytes, encoding, IsWellFormed, IsFront, CutsUnits, ◌<◌, ◌↔◌}
-use Rattle.wtf8.proofs.Common.{inl, inr, Option, get_or, same_from_push, take-append-drop, length-drop, Reads, true, false, ◌/◌, ◌%◌, lt-ltb, le-ltb}
-use Rattle.wtf8.proofs.Common.{drop-drop, append-nil, IsLead, units_of, trail_by, held_in, behind_held, unread_after}
-use Rattle.std.proofs.Common.{length-take-le}
-use Rattle.std.proofs.Math.Seq.{take-append-add, drop-append-add}
-use Rattle.std.specs.Option.{option_to_list}
-use Rattle.std.specs.Prelude.{IsSome}
-use Rattle.wtf8.specs.private.UnitSteps.{StepsUnit}
-use Rattle.wtf8.specs.private.UnitCounts.{Divides}
-use Rattle.wtf8.specs.UnitPosition.{DividesPair}
-use Rattle.wtf8.specs.private.UnitSteps.{is_inside}
+use Rattle.wtf8.proofs.Common.{BeginsWithPoint, ◌≡◌, ℕ, zero, suc, ◌+◌, ◌≤◌, List, [], ◌∷◌, ◌++◌, length, take, drop, None, Some, refl, sym, ap, ◌∙◌, subst}
+use Rattle.wtf8.proofs.Common.{arith, length-append, append_assoc, take_at, drop_at, slice_get, IsCodePoint, units, IsClean, bytes, encoding, IsWellFormed}
+use Rattle.wtf8.proofs.Common.{IsFront, CutsUnits, ◌<◌, ◌↔◌, inl, inr, Option, get_or, same_from_push, take-append-drop, length-drop, Reads, true, false, ◌/◌}
+use Rattle.wtf8.proofs.Common.{◌%◌, lt-ltb, le-ltb, drop-drop, append-nil, IsLead, units_of, trail_by, held_in, behind_held, unread_after, length-take-le}
+use Rattle.wtf8.proofs.Common.{take-append-add, drop-append-add, option_to_list, IsSome, StepsUnit, Divides, DividesPair, is_inside}
 use Rattle.wtf8.proofs.lemmas.numbers.Encoding.{encoding_four, bytes-append, bytes-pushed, row_of, one, two, three, four, Begins, first-encoding}
 use Rattle.wtf8.proofs.lemmas.numbers.Readings.{clean-first, clean-front, clean-back, clean-append, clean-apart, no_trail, meets_by, lead_of, trail_of, units_one}
 use Rattle.wtf8.proofs.lemmas.numbers.Readings.{units_two, units-append, units-pushed, first_of, no_points, taken, moved}

@@ -1,10 +1,7 @@
 -- Marks: places in a string where a number of units ends.
-use Rattle.wtf8.proofs.Common.{◌≡◌, ◌+◌, ◌<◌, ◌≤◌, ℕ, zero, suc, List, [], ◌∷◌, ◌++◌, length, take, None, Some, refl, sym, ap, ◌∙◌, subst, arith}
-use Rattle.wtf8.proofs.Common.{length-append, append_assoc, take-append-drop, bytes-injective, units_of, encoding}
-use Rattle.wtf8.proofs.Common.{units, bytes, IsWellFormed, IsForm, CutsUnits, glue, Option, ◌-◌, drop}
-use Rattle.std.proofs.Common.{length-take-le}
-use Rattle.std.specs.Prelude.{MatchOption}
-use Rattle.wtf8.specs.private.UnitCounts.{Divides}
+use Rattle.wtf8.proofs.Common.{◌≡◌, ◌+◌, ◌<◌, ◌≤◌, ℕ, zero, suc, List, [], ◌∷◌, ◌++◌, length, take, None, Some, refl, sym, ap, ◌∙◌, subst, arith, length-append}
+use Rattle.wtf8.proofs.Common.{append_assoc, take-append-drop, bytes-injective, units_of, encoding, units, bytes, IsWellFormed, IsForm, CutsUnits, glue, Option}
+use Rattle.wtf8.proofs.Common.{◌-◌, drop, length-take-le, MatchOption, Divides}
 use Rattle.wtf8.specs.UnitMark.{IsMark, EqualCountsAreMarks, MarksStay}
 use Rattle.wtf8.proofs.lemmas.numbers.Encoding.{bytes-append, row_of, one, two, three, four}
 use Rattle.wtf8.proofs.lemmas.numbers.Readings.{units-append, lengths, units_one, units_two, well_formed_of, same_form}

@@ -1,4 +1,4 @@
-use Rattle.std.proofs.Common.{ap, ◌∙◌, get_or}
+use Rattle.wtf8.proofs.Common.{ap, ◌∙◌, get_or}
 use Rattle.wtf8.proofs.lemmas.lanes.Digits.{table, digit_at}
 use Rattle.wtf8.proofs.lanes.digits.upper_digit.Goals as goal
 

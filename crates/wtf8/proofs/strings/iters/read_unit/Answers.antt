@@ -1,8 +1,6 @@
-use Rattle.wtf8.proofs.Common.{◌≡◌, ℕ, ◌+◌, ◌<◌, ◌≤◌, ◌∙◌, List, length, get_or, drop, arith, ap, sym, subst, refl, length-drop}
-use Rattle.wtf8.proofs.Common.{IsWellFormed, BeginsWithPoint, trail_by, behind_held}
-use Rattle.wtf8.specs.private.Gains.{IsReadAs}
+use Rattle.wtf8.proofs.Common.{◌≡◌, ℕ, ◌+◌, ◌<◌, ◌≤◌, ◌∙◌, List, length, get_or, drop, arith, ap, sym, subst, refl, length-drop, IsWellFormed, BeginsWithPoint}
+use Rattle.wtf8.proofs.Common.{trail_by, behind_held, IsReadAs, StepsUnit}
 use Rattle.wtf8.proofs.lemmas.numbers.Encoding.{begins_moved}
-use Rattle.wtf8.specs.private.UnitSteps.{StepsUnit}
 use Rattle.wtf8.proofs.lemmas.strings.UnitCuts.{below, above, not_held, is_whole, steps_one, steps_lead, steps_trail}
 use Rattle.wtf8.proofs.lemmas.numbers.Readings.{first_of, moved, lead_of}
 use Rattle.wtf8.proofs.strings.iters.read_unit.Goals as goal

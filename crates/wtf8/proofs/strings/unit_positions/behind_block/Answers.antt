@@ -1,4 +1,4 @@
-use Rattle.std.proofs.Common.{arith}
+use Rattle.wtf8.proofs.Common.{arith}
 use Rattle.wtf8.proofs.lemmas.strings.Positions.{begun_more}
 use Rattle.wtf8.proofs.strings.unit_positions.behind_block.Goals as goal
 

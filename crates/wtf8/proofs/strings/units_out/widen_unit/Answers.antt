@@ -1,5 +1,4 @@
-use Rattle.wtf8.proofs.Common.{◌∷◌, ◌++◌, ◌+◌, ◌∙◌, ap, sym, arith, length, take, units}
-use Rattle.wtf8.specs.View.{view_points}
+use Rattle.wtf8.proofs.Common.{◌∷◌, ◌++◌, ◌+◌, ◌∙◌, ap, sym, arith, length, take, units, view_points}
 use Rattle.wtf8.proofs.lemmas.numbers.Readings.{units_one, units-cons_one}
 use Rattle.wtf8.proofs.lemmas.strings.UnitsOut.{behind_first, behind_read, pushed}
 use Rattle.wtf8.proofs.strings.units_out.widen_unit.Goals as goal

@@ -1,4 +1,4 @@
-use Rattle.std.proofs.Common.{◌∙◌, rules}
+use Rattle.wtf8.proofs.Common.{◌∙◌, rules}
 use Rattle.wtf8.proofs.lemmas.comparing.Order.{cmp_points, points_order}
 use Rattle.wtf8.proofs.comparing.comparisons.Wtf8BufOrd.cmp.Goals as goal
 

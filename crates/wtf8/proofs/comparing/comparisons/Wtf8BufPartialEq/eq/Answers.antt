@@ -1,4 +1,4 @@
-use Rattle.std.proofs.Common.{rules}
+use Rattle.wtf8.proofs.Common.{rules}
 use Rattle.wtf8.proofs.lemmas.comparing.Order.{equal_points}
 use Rattle.wtf8.proofs.comparing.comparisons.Wtf8BufPartialEq.eq.Goals as goal
 

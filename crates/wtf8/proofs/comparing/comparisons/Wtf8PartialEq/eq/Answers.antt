@@ -1,4 +1,4 @@
-use Rattle.std.proofs.Common.{refl, rules}
+use Rattle.wtf8.proofs.Common.{refl, rules}
 use Rattle.wtf8.proofs.lemmas.comparing.Order.{equal_points, equal_units}
 use Rattle.wtf8.proofs.comparing.comparisons.Wtf8PartialEq.eq.Goals as goal
 

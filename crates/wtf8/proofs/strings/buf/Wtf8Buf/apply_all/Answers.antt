@@ -1,9 +1,6 @@
-use Rattle.wtf8.proofs.Common.{◌≡◌, ◌<◌, ◌+◌, ℕ, List, [], ◌∷◌, ◌++◌, length, get_or, Bool, true, false, cond, Some, refl, ap, ◌∙◌, sym, subst, arith, append_assoc}
-use Rattle.wtf8.proofs.Common.{All, Step, Run, Append, IsNoTruncation, Build, Reserve, Truncate, TruncateUnits, ◌≤◌, take, drop, inl, inr, false≢true, cases_lt}
-use Rattle.wtf8.proofs.Common.{append-nil, IsForm, FindRoom, All-nil, All-cons, take_all}
-use Rattle.std.proofs.lemmas.List.Elements.{All-get_or}
-use Rattle.wtf8.specs.Appending.{FitWithin}
-use Rattle.std.proofs.lemmas.Option.{none-some}
+use Rattle.wtf8.proofs.Common.{◌≡◌, ◌<◌, ◌+◌, ℕ, List, [], ◌∷◌, ◌++◌, length, get_or, Bool, true, false, cond, Some, refl, ap, ◌∙◌, sym, subst, arith}
+use Rattle.wtf8.proofs.Common.{append_assoc, All, Step, Run, Append, IsNoTruncation, Build, Reserve, Truncate, TruncateUnits, ◌≤◌, take, drop, inl, inr}
+use Rattle.wtf8.proofs.Common.{false≢true, cases_lt, append-nil, IsForm, FindRoom, All-nil, All-cons, take_all, All-get_or, FitWithin, none-some}
 use Rattle.wtf8.specs.Building.{appended, asked, LeavesReserved}
 use Rattle.wtf8.proofs.lemmas.laws.Laws.{reserved_more}
 use Rattle.wtf8.proofs.lemmas.strings.Concatenation.{item_at, items_more}

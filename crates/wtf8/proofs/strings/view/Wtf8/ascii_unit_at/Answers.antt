@@ -1,5 +1,4 @@
-use Rattle.wtf8.proofs.Common.{◌∙◌, arith, sym, ap, length, Some, slice_get}
-use Rattle.std.proofs.lemmas.Option.{slice_get-get_or}
+use Rattle.wtf8.proofs.Common.{◌∙◌, arith, sym, ap, length, Some, slice_get, slice_get-get_or}
 use Rattle.wtf8.proofs.lemmas.strings.UnitMarks.{units_are_bytes}
 use Rattle.wtf8.proofs.strings.view.Wtf8.ascii_unit_at.Goals as goal
 

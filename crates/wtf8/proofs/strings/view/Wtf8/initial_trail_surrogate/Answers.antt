@@ -1,5 +1,4 @@
-use Rattle.wtf8.proofs.Common.{◌≡◌, ℕ, ◌∷◌, ◌∙◌, List, length, sym, ap, arith, bytes, encoding, IsWellFormed, IsTrail}
-use Rattle.wtf8.specs.private.Gains.{FrontSays}
+use Rattle.wtf8.proofs.Common.{◌≡◌, ℕ, ◌∷◌, ◌∙◌, List, length, sym, ap, arith, bytes, encoding, IsWellFormed, IsTrail, FrontSays}
 use Rattle.wtf8.proofs.lemmas.numbers.Encoding.{begins_with}
 use Rattle.wtf8.proofs.lemmas.numbers.Readings.{first_of}
 use Rattle.wtf8.proofs.strings.view.Wtf8.initial_trail_surrogate.Goals as goal
