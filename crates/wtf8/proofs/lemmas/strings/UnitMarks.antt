@@ -9,6 +9,9 @@ use Rattle.wtf8.proofs.lemmas.strings.Concatenation.{reads-glue, one_form, units
 use Rattle.wtf8.proofs.lemmas.strings.Gains.{all_back}
 use Rattle.wtf8.proofs.lemmas.strings.Positions.{cut_by, points_behind}
 use Rattle.wtf8.proofs.lemmas.strings.UnitCuts.{undivided}
+use Rattle.wtf8.proofs.lemmas.units_in.Blocks.{ascii_form, ascii_own_units}
+use Rattle.std.proofs.lemmas.Simd.{Each1-chunk}
+use Rattle.wtf8.proofs.Common.{AreAscii, take_all, length-drop}
 
 -- a cut at a number of units is its mark
 pub mark_at_cut : {w : List ℕ} (h : IsWellFormed w) {k n : ℕ} → CutsUnits h.points n k None → IsMark w (units h.points) k n
@@ -75,53 +78,38 @@ mark_before_cut h {k} m e x =
 
 -- The laws of marks.
 
--- code points of as many bytes as units are of one each
-one_each : (c : List ℕ) (k : ℕ) → length (bytes c) ≡ length (units c) → k ≤ length (bytes c) → CutsUnits c k k None
-one_each c zero e h = record { front = []; back = c; joined = refl; front_len = refl; counted = refl }
-one_each [] (suc k) e h = absurd (omega arith)
-one_each (p ∷ c) (suc k) e h =
+-- code points of as many bytes as units are ASCII
+all_ascii : (c : List ℕ) → length (bytes c) ≡ length (units c) → AreAscii c
+all_ascii [] e = tt
+all_ascii (p ∷ c) e =
     let bound = (lengths c).units_least in
     let all_bytes = length-append (encoding p) (bytes c) in
     let all_units = length-append (units_of p) (units c) in
     elim (row_of p) [
-      | one l r ↦
-          let byte = ap length r in
-          let unit = ap length (units_one p (omega arith)) in
-          let more = one_each c k (omega (arith, e, all_bytes, all_units, byte, unit)) (omega (arith, h, all_bytes, byte)) in
-          record {
-            front = p ∷ more.front;
-            back = more.back;
-            joined = ap (λ d. p ∷ d) more.joined;
-            front_len = omega (arith, length-append (encoding p) (bytes more.front), byte, more.front_len);
-            counted = omega (arith, length-append (units_of p) (units more.front), unit, more.counted);
-          }
+      | one l r ↦ (l, all_ascii c (omega (arith, e, all_bytes, all_units, ap length r, ap length (units_one p (omega arith)))))
       | two l g r ↦ absurd (omega (arith, e, all_bytes, all_units, bound, ap length r, ap length (units_one p (omega arith))))
       | three l g r ↦ absurd (omega (arith, e, all_bytes, all_units, bound, ap length r, ap length (units_one p g)))
       | four l r ↦ absurd (omega (arith, e, all_bytes, all_units, bound, ap length r, ap length (units_two p l)))
     ]
+
+-- and the units are the bytes
+pub ascii_same : {w u : List ℕ} → IsForm w u → length w ≡ length u → AreAscii u × (w ≡ u)
+ascii_same {w} {u} f e =
+    let low = all_ascii f.points (ap length f.encoded ∙ (e ∙ sym (ap length f.reads.same_units))) in
+    let own : f.points ≡ u = sym (ascii_own_units f.points low) ∙ f.reads.same_units in
+    let ascii = subst AreAscii own low in
+    (ascii, same_form w u u f (ascii_form u ascii).form)
 
 pub equal_counts : EqualCountsAreMarks
 equal_counts w u k f e h =
-    let same : length (bytes f.points) ≡ length (units f.points) = ap length f.encoded ∙ (e ∙ sym (ap length f.reads.same_units)) in
-    let x = one_each f.points k same (omega (arith, ap length f.encoded, h)) in
-    mark_of f x
-
--- and the units are the bytes
-pub units_are_bytes : (c : List ℕ) → length (bytes c) ≡ length (units c) → units c ≡ bytes c
-units_are_bytes [] e = refl
-units_are_bytes (p ∷ c) e =
-    let bound = (lengths c).units_least in
-    let all_bytes = length-append (encoding p) (bytes c) in
-    let all_units = length-append (units_of p) (units c) in
-    elim (row_of p) [
-      | one l r ↦
-          let unit = units_one p (omega arith) in
-          let more = units_are_bytes c (omega (arith, e, all_bytes, all_units, ap length r, ap length unit)) in
-          ap (λ u. u ++ units c) unit ∙ (ap (λ u. p ∷ u) more ∙ sym (ap (λ w. w ++ bytes c) r))
-      | two l g r ↦ absurd (omega (arith, e, all_bytes, all_units, bound, ap length r, ap length (units_one p (omega arith))))
-      | three l g r ↦ absurd (omega (arith, e, all_bytes, all_units, bound, ap length r, ap length (units_one p g)))
-      | four l r ↦ absurd (omega (arith, e, all_bytes, all_units, bound, ap length r, ap length (units_two p l)))
-    ]
+    let same = ascii_same f e in
+    let behind = subst AreAscii (take_all (length u - k) (drop k u) (omega (arith, length-drop k u))) (Each1-chunk (λ n. n < 0x80) k (length u - k) u same.0) in
+    subst (λ v. IsMark v u k k) (sym same.1) (record {
+      position_within = omega (arith, e, h);
+      units_within = omega (arith, e, h);
+      before = (ascii_form (take k u) (Each1-chunk (λ n. n < 0x80) 0 k u same.0)).form;
+      behind = (ascii_form (drop k u) behind).form;
+    })
 
 -- what is glued behind the last code point leaves those before it
 glue_behind : (f b d : List ℕ) → 0 < length b → glue (f ++ b) d ≡ f ++ glue b d

@@ -7,12 +7,6 @@ use native.Mathlib.Nat.{mul-suc}
 use Rattle.wtf8.specs.private.UnitRows.{IsOfKind, BeginsWithUnits, firsts_of, unit_of_two, unit_of_three, units_of_rows}
 use Rattle.wtf8.proofs.lemmas.numbers.Readings.{Taken, first_of, moved, taken, units-cons_one}
 
--- a string is longer than what is behind its first code point
-pub behind_first : (v r : Wtf8) (p : ℕ) → view_points v ≡ p ∷ view_points r → length r.bytes.now < length v.bytes.now
-behind_first v r p e =
-    let whole = sym v.well_formed.encoded ∙ ap bytes e in
-    omega (arith, ap length whole, length-append (encoding p) (bytes r.well_formed.points), ap length r.well_formed.encoded, length-encoding_bounds p)
-
 -- the string behind some bytes with these units
 pub record Behind (w v : List ℕ) (at : ℕ) (h : IsWellFormed w) : Type 0 where
   pub rest : IsWellFormed (drop at w)
@@ -127,10 +121,14 @@ begins_with_rows {P} n c m f rows w count firsts block wide long le e g each h =
     (subst (λ v. Each1 P (take count v)) e each) in
     (behind.rest, behind.whole ∙ ap (λ b. take count b ++ units behind.rest.points) (sym g))
 
--- what is behind a code point that was read at the front of a view
-pub behind_read : (v : Wtf8) (p n : ℕ) → 0 < length v.bytes.now → IsReadAs v.bytes.now p n → Taken v.bytes.now 0 v.well_formed p n
-behind_read v p n some read = taken v.bytes.now 0 v.well_formed p n some (λ b. let was = read b in (was.0, omega (arith, was.1)))
+-- what a code point that was read at the front of bytes says of the units there
+pub record ReadUnits (w : List ℕ) (p n : ℕ) : Type 0 where
+  pub some : 0 < n
+  pub within : n ≤ length w
+  pub begins : BeginsWithUnits w (units_of p) n
 
--- the units of a first code point behind what was there, and what is left of the string
-pub pushed : (v r : Wtf8) (p : ℕ) (old new : List ℕ) → new ≡ old ++ units_of p → view_points v ≡ p ∷ view_points r → new ++ view_units r ≡ old ++ view_units v
-pushed v r p old new e g = ap (λ u. u ++ view_units r) e ∙ (append_assoc old (units_of p) (view_units r) ∙ ap (λ u. old ++ u) (sym (ap units g)))
+pub read_units : {w : List ℕ} → IsWellFormed w → (p n : ℕ) → 0 < length w → IsReadAs w p n → ReadUnits w p n
+read_units {w} h p n some read =
+    let b = (first_of h some).begins in
+    let t = λ (k : IsWellFormed w). taken w 0 k p n some (λ b. let was = read b in (was.0, omega (arith, was.1))) in
+    record { some = omega (arith, (read b).1, length-encoding_bounds b.point); within = (t h).within; begins = λ k. ((t k).rest, ap units (t k).joined) }
