@@ -1,4 +1,6 @@
 // Laws of the encoding: nothing runs here, the contracts are theorems about the definitions.
+#![tactic(auto, using(crate::proofs::lemmas::laws::ViewLaws::laws))]
+
 ghost use Rattle.std.specs.List.{All};
 ghost use Rattle.std.specs.Prelude.{◌≡◌, ◌≢◌, ◌<◌, ◌≤◌, ◌+◌, ◌*◌, ◌^◌, ℕ, List, ◌∷◌, ◌++◌, length, take, slice_index, ◌↔◌};
 ghost use Rattle.std.specs.Str.{chars};

@@ -136,7 +136,8 @@ fn widen_point<'a>(units: &mut [u16], left: Unwritten<'a>) -> Unwritten<'a>
             if value < 0x10000 {
                 return widen_unit(units, left, value, width);
             }
-            widen_units(units, left, [lead_of(value) as u16, trail_of(value) as u16], 2, width)
+            let pair = [lead_of(value) as u16, trail_of(value) as u16];
+            widen_units(units, left, pair, 2, width)
         }
     }
 }

@@ -37,13 +37,6 @@ pub cmp_behind : (f c d : List ℕ) → slice_cmp nat_cmp (f ++ c) (f ++ d) ≡ 
 cmp_behind [] c d = refl
 cmp_behind (x ∷ f) c d = ap (λ o. ordering_then o (slice_cmp nat_cmp (f ++ c) (f ++ d))) (cmp_same x) ∙ cmp_behind f c d
 
--- the first numbers decide, or the rest does
-pub before_cons : (x y : ℕ) (xs ys : List ℕ) → x ≤ y → (x ≡ y → Before xs ys) → Before (x ∷ xs) (y ∷ ys)
-before_cons x y xs ys h rest = elim (cases_lt x y) [
-  | inl l ↦ inl l
-  | inr m ↦ let same : x ≡ y = omega arith in inr (same, rest same)
-]
-
 with_first : (x y : ℕ) (xs ys : List ℕ) → x ≡ y → (o : Ordering) → MatchOrdering o (Before xs ys) (xs ≡ ys) (Before ys xs)
     → MatchOrdering o (Before (x ∷ xs) (y ∷ ys)) (x ∷ xs ≡ y ∷ ys) (Before (y ∷ ys) (x ∷ xs))
 with_first x y xs ys e Less h = inr (e, h)
@@ -79,25 +72,10 @@ before_of c d e = ordered Less c d (sym e)
 -- the encoding of a smaller code point comes first, whatever is behind it
 before_encoding : (p q : ℕ) (r s : List ℕ) → p < q → Before (encoding p ++ r) (encoding q ++ s)
 before_encoding p q r s l = elim (row_of p) [
-  | one h e ↦ elim (row_of q) [ one k f ↦ rw (e, f) (inl l) | two k _ f ↦ rw (e, f) (inl (omega arith)) | three k _ f ↦ rw (e, f) (inl (omega arith)) | four k f ↦ rw (e, f) (inl (omega arith)) ]
-  | two m h e ↦ elim (row_of q) [
-    | one k f ↦ absurd (omega arith)
-    | two k _ f ↦ rw (e, f) (grind arith)
-    | three k _ f ↦ rw (e, f) (inl (omega arith))
-    | four k f ↦ rw (e, f) (inl (omega arith))
-  ]
-  | three m h e ↦ elim (row_of q) [
-    | one k f ↦ absurd (omega arith)
-    | two _ k f ↦ absurd (omega arith)
-    | three k _ f ↦ rw (e, f) (grind arith)
-    | four k f ↦ rw (e, f) (inl (omega arith))
-  ]
-  | four m e ↦ elim (row_of q) [
-    | one k f ↦ absurd (omega arith)
-    | two _ k f ↦ absurd (omega arith)
-    | three _ k f ↦ absurd (omega arith)
-    | four k f ↦ rw (e, f) (grind arith)
-  ]
+  | one h e ↦ elim (row_of q) [ one k f ↦ rw (e, f) (inl l) | two k _ f ↦ rw (e, f) (grind arith) | three k _ f ↦ rw (e, f) (grind arith) | four k f ↦ rw (e, f) (grind arith) ]
+  | two m h e ↦ elim (row_of q) [ one k f ↦ absurd (omega arith) | two k _ f ↦ rw (e, f) (grind arith) | three k _ f ↦ rw (e, f) (grind arith) | four k f ↦ rw (e, f) (grind arith) ]
+  | three m h e ↦ elim (row_of q) [ one k f ↦ absurd (omega arith) | two _ k f ↦ absurd (omega arith) | three k _ f ↦ rw (e, f) (grind arith) | four k f ↦ rw (e, f) (grind arith) ]
+  | four m e ↦ elim (row_of q) [ one k f ↦ absurd (omega arith) | two _ k f ↦ absurd (omega arith) | three _ k f ↦ absurd (omega arith) | four k f ↦ rw (e, f) (grind arith) ]
 ]
 
 empty_before : (q : ℕ) (s : List ℕ) → Before [] (encoding q ++ s)
@@ -169,30 +147,25 @@ behind [] w v h = h
 behind (x ∷ f) w v h = behind f w v (h.0 refl)
 
 -- the first byte of a code point says how many units it has
-record FirstByte (p : ℕ) (r : List ℕ) : Type 0 where
-  byte : ℕ
-  rest : List ℕ
-  encoded : encoding p ++ r ≡ byte ∷ rest
-  row : (p < 0x10000) ↔ (byte < 0xF0)
-
-first_byte : (p : ℕ) (r : List ℕ) → FirstByte p r
+first_byte : (p : ℕ) (r : List ℕ) → (0 < length (encoding p ++ r)) × ((p < 0x10000) ↔ (get_or (encoding p ++ r) 0 0 < 0xF0))
 first_byte p r = elim (row_of p) [
-  | one h e ↦ record { byte = _; rest = _; encoded = ap (λ v. v ++ r) e; row = (λ _. omega arith, λ _. omega arith) }
-  | two l h e ↦ record { byte = _; rest = _; encoded = ap (λ v. v ++ r) e; row = (λ _. omega arith, λ _. omega arith) }
-  | three l h e ↦ record { byte = _; rest = _; encoded = ap (λ v. v ++ r) e; row = (λ _. omega arith, λ _. omega arith) }
-  | four l e ↦ record { byte = _; rest = _; encoded = ap (λ v. v ++ r) e; row = (λ m. absurd (omega arith), λ m. absurd (omega arith)) }
+  | one h e ↦ rw e (omega arith, (λ _. omega arith, λ _. omega arith))
+  | two l h e ↦ rw e (omega arith, (λ _. omega arith, λ _. omega arith))
+  | three l h e ↦ rw e (omega arith, (λ _. omega arith, λ _. omega arith))
+  | four l e ↦ rw e (omega arith, (λ m. absurd (omega arith), λ m. absurd (omega arith)))
 ]
+
+first_parts : (w v : List ℕ) → 0 < length w → 0 < length v → PartInOneRow w v → BothBelow 0xF0 (get_or w 0 0) (get_or v 0 0)
+first_parts [] v m n h = absurd (omega arith)
+first_parts (x ∷ w) [] m n h = absurd (omega arith)
+first_parts (x ∷ w) (y ∷ v) m n h = elim (cases_order x y) [ inl e ↦ (λ k. omega arith, λ k. omega arith) | inr n ↦ h.1 (λ e. omega (arith, n)) ]
 
 same_row : (p q : ℕ) (r s : List ℕ) → PartInOneRow (encoding p ++ r) (encoding q ++ s) → BothBelow 0x10000 p q
 same_row p q r s h =
     let x = first_byte p r in
     let y = first_byte q s in
-    let parts : PartInOneRow (x.byte ∷ x.rest) (y.byte ∷ y.rest) = rw (x.encoded, y.encoded) at h in
-    let both : BothBelow 0xF0 x.byte y.byte = elim (cases_order x.byte y.byte) [
-      | inl e ↦ (λ k. omega arith, λ k. omega arith)
-      | inr n ↦ parts.1 (λ e. omega (arith, n))
-    ] in
-    (λ k. y.row.1 (both.0 (x.row.0 k)), λ k. x.row.1 (both.1 (y.row.0 k)))
+    let both = first_parts _ _ x.0 y.0 h in
+    (λ k. y.1.1 (both.0 (x.1.0 k)), λ k. x.1.1 (both.1 (y.1.0 k)))
 
 nothing_before : (q : ℕ) (d : List ℕ) → Before [] (units (q ∷ d))
 nothing_before q d = elim (cases_lt q 0x10000) [ inl h ↦ rw (units-cons_one q d h) tt | inr h ↦ rw (units-cons_two q d h) tt ]
@@ -338,9 +311,8 @@ rests_order h k at p i j e f =
 
 pub both_or_neither : {P Q : Type 0} (a b : Bool) → IsTrue a ↔ P → IsTrue b ↔ Q → beq a b ≡ true → P ↔ Q
 both_or_neither true true p q e = (λ _. q.0 refl, λ _. p.0 refl)
-both_or_neither true false p q e = absurd (false≢true e)
-both_or_neither false true p q e = absurd (false≢true e)
 both_or_neither false false p q e = (λ h. absurd (false≢true (p.1 h)), λ h. absurd (false≢true (q.1 h)))
+both_or_neither _ _ p q e = absurd (grind arith)
 
 one_of_both : {P Q : Type 0} (a b : Bool) → IsTrue a ↔ P → IsTrue b ↔ Q → beq a b ≡ false → P ⊎ Q
 one_of_both true b p q e = inl (p.0 refl)

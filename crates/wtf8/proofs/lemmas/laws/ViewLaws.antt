@@ -8,12 +8,12 @@ use Rattle.std.proofs.lemmas.Iterator.Adapters.{YieldsList-from_skip}
 use Rattle.wtf8.specs.PointLaws.{DrainedPointsAreLeft, DrainedPointsAreTaken, DrainedPointsAreBehind}
 use Rattle.wtf8.specs.PointLaws.{CollectedPointsAreLeft, CollectedPointsAreTaken, CollectedPointsAreBehind}
 use Rattle.wtf8.specs.StringLaws.{CharactersComeBack}
-use Rattle.wtf8.proofs.lemmas.numbers.Encoding.{encoding_one, bytes-append, bytes-pushed}
+use Rattle.wtf8.proofs.lemmas.numbers.Encoding.{encoding_one, bytes-append, bytes-pushed, encoding_same}
 use Rattle.wtf8.proofs.lemmas.numbers.Readings.{clean-append, no_lead, no_trail, same_reading, units_one, units-append}
-use Rattle.wtf8.proofs.lemmas.strings.Concatenation.{equal_forms, one_form, units_read}
+use Rattle.wtf8.proofs.lemmas.strings.Concatenation.{equal_forms, one_form, units_read, one_reading, none_begins_another}
 use Rattle.wtf8.proofs.lemmas.strings.Gains.{all_back}
 use Rattle.wtf8.proofs.lemmas.strings.Surrogates.{scalars_true, scalars-lossy}
-use Rattle.wtf8.proofs.lemmas.laws.Laws.{run_once}
+use Rattle.wtf8.proofs.lemmas.laws.Laws.{run_once, runs_add, texts_scalar, scalars_stay}
 
 -- the code points of a view are the one reading of its units
 pub view_reads : (t : Wtf8) → Reads (view_points t) (view_units t)
@@ -132,3 +132,6 @@ collected_front s points d =
 pub collected_back : CollectedPointsAreBehind
 collected_back s points d =
     items_from_drains points d (YieldsList-from_skip (skip_count s) (YieldsList-from_first number (λ c. c) (skip_source s) refl) refl)
+
+-- what laws state of which the proof is a lemma
+pub ruleset laws = (one_reading, units_read, none_begins_another, encoding_same, run_once, runs_add, texts_scalar, scalars_stay, characters_again, view_reads, one_view_reading, view_characters, lossy_characters)

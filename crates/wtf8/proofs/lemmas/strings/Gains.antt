@@ -118,10 +118,6 @@ text_at {v} u e = moved (well_formed_text v u) e
 
 -- Code points that are scalar values, parts of them, and scalar values behind them.
 
-pub scalar-front : (c d : List ℕ) → AreScalar (c ++ d) → AreScalar c
-scalar-front [] d s = tt
-scalar-front (p ∷ c) d s = (s.0, scalar-front c d s.1)
-
 pub scalar-append : (c d : List ℕ) → AreScalar c → AreScalar d → AreScalar (c ++ d)
 scalar-append [] d s t = t
 scalar-append (p ∷ c) d s t = (s.0, scalar-append c d s.1 t)

@@ -1,7 +1,7 @@
 -- Marks: places in a string where a number of units ends.
 use Rattle.wtf8.proofs.Common.{◌≡◌, ◌+◌, ◌<◌, ◌≤◌, ℕ, zero, suc, List, [], ◌∷◌, ◌++◌, length, take, None, Some, refl, sym, ap, ◌∙◌, subst, arith, length-append}
 use Rattle.wtf8.proofs.Common.{append_assoc, take-append-drop, bytes-injective, units_of, encoding, units, bytes, IsWellFormed, IsForm, CutsUnits, glue, Option}
-use Rattle.wtf8.proofs.Common.{◌-◌, drop, length-take-le, MatchOption, Divides}
+use Rattle.wtf8.proofs.Common.{◌-◌, drop, length-take-le, MatchOption, Divides, AreAscii, take_all, length-drop}
 use Rattle.wtf8.specs.UnitMark.{IsMark, EqualCountsAreMarks, MarksStay}
 use Rattle.wtf8.proofs.lemmas.numbers.Encoding.{bytes-append, row_of, one, two, three, four}
 use Rattle.wtf8.proofs.lemmas.numbers.Readings.{units-append, lengths, units_one, units_two, well_formed_of, same_form}
@@ -11,7 +11,6 @@ use Rattle.wtf8.proofs.lemmas.strings.Positions.{cut_by, points_behind}
 use Rattle.wtf8.proofs.lemmas.strings.UnitCuts.{undivided}
 use Rattle.wtf8.proofs.lemmas.units_in.Blocks.{ascii_form, ascii_own_units}
 use Rattle.std.proofs.lemmas.Simd.{Each1-chunk}
-use Rattle.wtf8.proofs.Common.{AreAscii, take_all, length-drop}
 
 -- a cut at a number of units is its mark
 pub mark_at_cut : {w : List ℕ} (h : IsWellFormed w) {k n : ℕ} → CutsUnits h.points n k None → IsMark w (units h.points) k n

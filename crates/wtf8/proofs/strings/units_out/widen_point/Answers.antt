@@ -1,4 +1,5 @@
-use Rattle.wtf8.proofs.Common.{◌≡◌, ℕ, ◌+◌, ◌<◌, List, [], ◌∷◌, encoding, IsWellFormed, ap, arith, length, length-drop, number, subst, units_of, BeginsWithPoint, BeginsWithUnits}
+use Rattle.wtf8.proofs.Common.{◌≡◌, ℕ, ◌+◌, ◌<◌, List, [], ◌∷◌, encoding, IsWellFormed, ap, arith, length, length-drop, number, subst, units_of}
+use Rattle.wtf8.proofs.Common.{BeginsWithPoint, BeginsWithUnits}
 use Rattle.wtf8.proofs.lemmas.numbers.Readings.{first_of, units_two}
 use Rattle.wtf8.proofs.lemmas.strings.UnitsOut.{ReadUnits, read_units}
 use Rattle.wtf8.proofs.strings.units_out.widen_point.Goals as goal
