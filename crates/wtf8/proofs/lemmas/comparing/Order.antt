@@ -1,6 +1,6 @@
 -- The orders of code points, bytes and units, and what the first difference of two strings says of them.
-use Rattle.wtf8.proofs.Common.{◌≡◌, ℕ, ◌<◌, ◌≤◌, inl, inr, List, [], ◌∷◌, ◌++◌, refl, sym, ap, ◌∙◌, arith, subst, Ordering, Less, Equal, Greater, nat_cmp}
-use Rattle.wtf8.proofs.Common.{ordering_then, MatchOrdering, slice_cmp, cases_lt, nat_tests, Before, cases_order, ◌+◌, ◌/◌, ◌%◌, ◌↔◌, encoding, bytes, Bool}
+use Rattle.wtf8.proofs.Common.{◌≡◌, ℕ, ◌<◌, inl, inr, List, [], ◌∷◌, ◌++◌, refl, sym, ap, ◌∙◌, arith, subst, Ordering, Less, Equal, Greater, nat_cmp}
+use Rattle.wtf8.proofs.Common.{ordering_then, MatchOrdering, slice_cmp, cases_lt, nat_tests, Before, cases_order, ◌↔◌, encoding, bytes, Bool}
 use Rattle.wtf8.proofs.Common.{IsTrue, nat_eq, pointwise, bytes_decides, units, Reads, IsWellFormed, IsForm, bytes-injective, ◌≢◌, zero, suc, drop, get_or}
 use Rattle.wtf8.proofs.Common.{units_of, IsFirstDifference, PairBegins, true, false, ◌⊎◌, length, take, length-append, append_assoc, false≢true}
 use Rattle.wtf8.proofs.Common.{take-append-drop, slice_get, option_cmp, Nowhere, IsLeast, min, slice_get-get_or, DifferAt, true≢false, ordering_reverse}
@@ -8,7 +8,7 @@ use Rattle.wtf8.proofs.lemmas.lanes.Differences.{same_front}
 use Rattle.std.proofs.lemmas.Cmp.{nat_list_cmp_total}
 use Rattle.std.specs.Bool.{beq}
 use Rattle.wtf8.proofs.lemmas.numbers.Encoding.{row_of, one, two, three, four, encoding_same, length-encoding_bounds}
-use Rattle.wtf8.proofs.lemmas.numbers.Readings.{same_reading, lead_of, trail_of, units-cons_one, units-cons_two, units-append}
+use Rattle.wtf8.proofs.lemmas.numbers.Readings.{same_reading, units-cons_one, units-cons_two, units-append}
 use Rattle.wtf8.proofs.lemmas.strings.Positions.{cut_at, boundary_from_byte, points_behind}
 
 -- The order of lists of numbers, and comparing them one by one.

@@ -1,6 +1,6 @@
 -- The lanes of one kind at the front of a block.
-use Rattle.wtf8.proofs.Common.{◌≡◌, ℕ, zero, suc, ◌-◌, ◌%◌, ◌^◌, ◌<◌, ◌≤◌, Bool, false, leb, not, cond, List, [], ◌∷◌, map, length, take, get_or, replicate}
-use Rattle.wtf8.proofs.Common.{refl, sym, ap, ◌∙◌, arith, subst, Each1, mask_l-mod, tops_compared, zip2, mask_l, top, AreAscii, length-take, Each2, prefix_len}
+use Rattle.wtf8.proofs.Common.{◌≡◌, ℕ, zero, suc, ◌-◌, ◌%◌, ◌^◌, ◌<◌, ◌≤◌, leb, not, cond, List, [], ◌∷◌, map, length, take, get_or, replicate}
+use Rattle.wtf8.proofs.Common.{refl, sym, ap, ◌∙◌, arith, Each1, mask_l-mod, tops_compared, zip2, mask_l, top, AreAscii, length-take, Each2, prefix_len}
 use Rattle.std.proofs.lemmas.Bool.{leb-false, not-true}
 use Rattle.std.proofs.lemmas.List.{length-map, get_or-take}
 use Rattle.std.proofs.lemmas.List.Sums.{prefix_len_passes, prefix_len-le-length}

@@ -1,11 +1,11 @@
 -- The string behind code points of as many bytes each.
 use Rattle.wtf8.proofs.Common.{◌≡◌, ℕ, zero, suc, ◌<◌, ◌≤◌, List, [], ◌∷◌, ◌++◌, length, take, drop, get_or, refl, sym, ap, ◌∙◌, arith, IsWellFormed, units}
-use Rattle.wtf8.proofs.Common.{encoding, bytes, length-append, units_of, view_units, Wtf8, view_points, ◌+◌, ◌*◌, ◌%◌, subst, Each1, drop_at, drop-drop}
-use Rattle.wtf8.proofs.Common.{length-drop, length-take, take-append-drop, append_assoc, get_or_append_left, drop-append-le, IsReadAs}
+use Rattle.wtf8.proofs.Common.{encoding, length-append, units_of, ◌+◌, ◌*◌, ◌%◌, subst, Each1, drop_at, drop-drop}
+use Rattle.wtf8.proofs.Common.{length-drop, length-take, take-append-drop, get_or_append_left, drop-append-le, IsReadAs}
 use Rattle.wtf8.proofs.lemmas.numbers.Encoding.{row_of, one, two, three, four, length-encoding_bounds}
 use native.Mathlib.Nat.{mul-suc}
 use Rattle.wtf8.specs.private.UnitRows.{IsOfKind, BeginsWithUnits, firsts_of, unit_of_two, unit_of_three, units_of_rows}
-use Rattle.wtf8.proofs.lemmas.numbers.Readings.{Taken, first_of, moved, taken, units-cons_one}
+use Rattle.wtf8.proofs.lemmas.numbers.Readings.{first_of, moved, taken, units-cons_one}
 
 -- the string behind some bytes with these units
 pub record Behind (w v : List ℕ) (at : ℕ) (h : IsWellFormed w) : Type 0 where
