@@ -1,7 +1,7 @@
 -- Lanes that show where surrogates stand, whether one stands there, and how many units begin.
 use Rattle.wtf8.proofs.Common.{◌≡◌, ◌↔◌, ℕ, zero, suc, ◌+◌, ◌%◌, ◌^◌, ◌<◌, ◌≤◌, eqb, ltb, leb, Bool, true, false, IsTrue, cond, List, [], ◌∷◌, map, length}
-use Rattle.wtf8.proofs.Common.{get_or, replicate, w8, inl, inr, sym, ap, ◌∙◌, arith, cases_lt, lt-ltb, le-ltb, le-leb, eq-eqb, eqb-true, length-zip2}
-use Rattle.wtf8.proofs.Common.{get_or-chunk, tops_compared, chunk, sel_l, zip2, mask_l, top, SurrogateAt, ◌||◌, bit_or, Fits, refl, lt-leb, Each1}
+use Rattle.wtf8.proofs.Common.{get_or, replicate, w8, inl, inr, sym, ap, ◌∙◌, arith, cases_lt, nat_tests, lt-ltb, le-ltb, le-leb, eq-eqb, eqb-true, length-zip2}
+use Rattle.wtf8.proofs.Common.{get_or-chunk, mask_l-mod, tops_compared, chunk, sel_l, zip2, mask_l, top, SurrogateAt, ◌||◌, bit_or, Fits, refl, lt-leb, Each1}
 use Rattle.wtf8.proofs.Common.{all_units_begun, Option, get_or-zip2, ◌&&◌, bit_and, w16, subst, and_parts, and_from, leb-true, sum_by-cons, length-chunk}
 use Rattle.wtf8.proofs.Common.{Each2-of, fold-sum, sum_bound, sum_fits, sum-zip2, MatchOption, get_or-replicate, length-map, length-replicate}
 use lib.Lanes.{chunk, zip2, mask_l, top, Each2, Steps, fold_l, sum_l}
@@ -86,13 +86,8 @@ unfolding units_begun
 begun_two b l = rw (le-ltb b 0x80 (omega arith), le-ltb b 0xC0 (omega arith), le-ltb b 0xF0 l) refl
 
 pub begun_most : (b : ℕ) → units_begun b ≤ 2
-begun_most b = elim (cases_lt b 0x80) [
-  | inl h ↦ omega (arith, begun_low b h)
-  | inr k ↦ elim (cases_lt b 0xC0) [
-    | inl h ↦ omega (arith, begun_inside b k h)
-    | inr l ↦ elim (cases_lt b 0xF0) [ inl h ↦ omega (arith, begun_one b l h) | inr h ↦ omega (arith, begun_two b h) ]
-  ]
-]
+unfolding units_begun
+begun_most b = grind (arith, nat_tests)
 
 -- the lanes where a code point begins, and where one of four bytes does
 abbrev pub begins : ℕ → List ℕ → List Bool
@@ -119,16 +114,8 @@ alone true = refl
 alone false = refl
 
 lane_count : (x : ℕ) → cond (ltb x 0x80 || leb 0xC0 x) 1 0 + cond (leb 0xF0 x) 1 0 ≡ units_begun x
-lane_count x = elim (cases_lt x 0x80) [
-  | inl h ↦ rw (lt-ltb x 0x80 h, lt-leb 0xF0 x (omega arith), begun_low x h) refl
-  | inr k ↦ elim (cases_lt x 0xC0) [
-    | inl h ↦ rw (le-ltb x 0x80 k, lt-leb 0xC0 x h, lt-leb 0xF0 x (omega arith), begun_inside x k h) refl
-    | inr l ↦ elim (cases_lt x 0xF0) [
-      | inl h ↦ rw (le-ltb x 0x80 k, le-leb 0xC0 x l, lt-leb 0xF0 x h, begun_one x l h) refl
-      | inr h ↦ rw (le-ltb x 0x80 k, le-leb 0xC0 x l, le-leb 0xF0 x h, begun_two x h) refl
-    ]
-  ]
-]
+unfolding units_begun
+lane_count x = grind (arith, nat_tests)
 
 lane_counts : (x : ℕ) → cond (top 7 (bit_or (lane (ltb x 0x80)) (lane (leb 0xC0 x)))) 1 0 + cond (top 7 (lane (leb 0xF0 x))) 1 0 ≡ units_begun x
 lane_counts x = rw (either (ltb x 0x80) (leb 0xC0 x), alone (leb 0xF0 x)) (lane_count x)

@@ -2,7 +2,7 @@
 use Rattle.wtf8.proofs.Common.{◌≡◌, ℕ, ◌⊎◌, inl, inr, List, [], ◌∷◌, ◌++◌, drop, get_or, length, true, ◌&&◌, leb, refl, sym, ap, ◌∙◌, subst, arith}
 use Rattle.wtf8.proofs.Common.{length-append, leb-true, le-leb, and_parts, cases_Bool, false≢true, same_from_push, IsLead, IsTrail, MeetsAsPair, ◌+◌, ◌-◌, ◌*◌}
 use Rattle.wtf8.proofs.Common.{◌/◌, ◌%◌, ◌<◌, ◌≤◌, lt-ltb, le-ltb, cases_lt, append-nil, flat_map-append, units, pair, encoding, bytes, IsCodePoint, IsClean}
-use Rattle.wtf8.proofs.Common.{drop_at, bytes-injective, Reads, IsWellFormed, IsForm, BeginsWithPoint, length-drop, drop-drop}
+use Rattle.wtf8.proofs.Common.{drop_at, bytes-injective, Reads, IsWellFormed, IsForm, BeginsWithPoint, length-drop, drop-drop, nat_tests}
 use Rattle.wtf8.specs.Concatenation.{is_pair}
 use Rattle.wtf8.specs.PositionLaws.{ListsHaveLengths}
 use Rattle.wtf8.specs.Unicode.{units_of}
@@ -16,11 +16,7 @@ pair_true l t h k = rw (le-leb 0xD800 l h.0, le-leb l 0xDBFF h.1, le-leb 0xDC00 
 
 pub true_pair : (l t : ℕ) → is_pair l t ≡ true → IsLead l × IsTrail t
 unfolding is_pair
-true_pair l t e =
-    let both = and_parts (leb 0xD800 l && leb l 0xDBFF) (leb 0xDC00 t && leb t 0xDFFF) e in
-    let lead = and_parts (leb 0xD800 l) (leb l 0xDBFF) both.0 in
-    let trail = and_parts (leb 0xDC00 t) (leb t 0xDFFF) both.1 in
-    ((leb-true 0xD800 l lead.0, leb-true l 0xDBFF lead.1), (leb-true 0xDC00 t trail.0, leb-true t 0xDFFF trail.1))
+true_pair l t e = ((grind (arith, nat_tests), grind (arith, nat_tests)), (grind (arith, nat_tests), grind (arith, nat_tests)))
 
 -- lists that are known to end and to begin so
 abbrev pub meets_by : {c d : List ℕ} (f r : List ℕ) (l t : ℕ) → IsLead l → IsTrail t → c ≡ f ++ l ∷ [] → d ≡ t ∷ r → MeetsAsPair c d

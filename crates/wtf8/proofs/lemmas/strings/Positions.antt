@@ -187,30 +187,15 @@ blocks_more w i m n k e =
     omega (arith, begun_more w i k, begun_more w i m, begun_more w (i + m) n, same)
 
 -- the bytes of a code point begin its units, and its first byte all of them
+begun_tail : (n : ℕ) → units_begun (0x80 + n % 64) ≡ 0
+begun_tail n = begun_inside (0x80 + n % 64) (omega arith) (omega arith)
+
 pub begun_encoding : (p : ℕ) → all_units_begun (encoding p) ≡ length (units_of p)
 begun_encoding p = elim (row_of p) [
   | one h e ↦ rw (e, units_one p (omega arith), begun_low p h) refl
-  | two l h e ↦ rw (
-    e,
-    units_one p (omega arith),
-    begun_one (0xC0 + p / 64) (omega arith) (omega arith),
-    begun_inside (0x80 + p % 64) (omega arith) (omega arith),
-  ) refl
-  | three l h e ↦ rw (
-    e,
-    units_one p h,
-    begun_one (0xE0 + p / 4096) (omega arith) (omega arith),
-    begun_inside (0x80 + p / 64 % 64) (omega arith) (omega arith),
-    begun_inside (0x80 + p % 64) (omega arith) (omega arith),
-  ) refl
-  | four l e ↦ rw (
-    e,
-    units_two p l,
-    begun_two (0xF0 + p / 262144) (omega arith),
-    begun_inside (0x80 + p / 4096 % 64) (omega arith) (omega arith),
-    begun_inside (0x80 + p / 64 % 64) (omega arith) (omega arith),
-    begun_inside (0x80 + p % 64) (omega arith) (omega arith),
-  ) refl
+  | two l h e ↦ rw (e, units_one p (omega arith), begun_one (0xC0 + p / 64) (omega arith) (omega arith), begun_tail p) refl
+  | three l h e ↦ rw (e, units_one p h, begun_one (0xE0 + p / 4096) (omega arith) (omega arith), begun_tail (p / 64), begun_tail p) refl
+  | four l e ↦ rw (e, units_two p l, begun_two (0xF0 + p / 262144) (omega arith), begun_tail (p / 4096), begun_tail (p / 64), begun_tail p) refl
 ]
 
 begun_first : (p : ℕ) (r : List ℕ) → units_begun (get_or (encoding p ++ r) 0 0) ≡ length (units_of p)
