@@ -235,40 +235,36 @@ empty_at e = record { points = []; clean = tt; encoded = sym e }
 abbrev pub moved : {v w : List ℕ} → IsWellFormed v → w ≡ v → IsWellFormed w
 moved h e = record { points = h.points; clean = h.clean; encoded = h.encoded ∙ sym e }
 
--- the first code point of a string, and what is behind it
-pub record FirstOf (c w : List ℕ) : Type 0 where
-  pub begins : BeginsWithPoint w
-  pub behind : IsWellFormed begins.rest
-  pub points : c ≡ begins.point ∷ behind.points
-
-first_by : (c w : List ℕ) → IsClean c → bytes c ≡ w → 0 < length w → FirstOf c w
-first_by [] w x e n = absurd (omega (arith, ap length e))
-first_by (p ∷ c) w x e n = record {
-  begins = begins_with p (bytes c) w (clean-first p c x) (sym e);
-  behind = record { points = c; clean = clean-rest p c x; encoded = refl };
-  points = refl;
-}
-
-pub first_of : {w : List ℕ} (h : IsWellFormed w) → 0 < length w → FirstOf h.points w
-first_of {w} h n = first_by h.points w h.clean h.encoded n
-
--- bytes from a position on without the code point that was read there
+-- bytes from a position on without the code point that is read there
 pub record Taken (v : List ℕ) (at : ℕ) (h : IsWellFormed (drop at v)) (p behind : ℕ) : Type 0 where
   pub within : behind ≤ length v
   pub rest : IsWellFormed (drop behind v)
   pub joined : h.points ≡ p ∷ rest.points
 
+-- the first code point of a string, and what is behind it
+pub first_of : {w : List ℕ} (h : IsWellFormed w) → 0 < length w → (b : BeginsWithPoint w) × Taken w 0 h b.point (length (encoding b.point))
+first_of {w} h n = by h.points h.clean h.encoded
+  where
+    by : (c : List ℕ) (x : IsClean c) (e : bytes c ≡ w) → (b : BeginsWithPoint w) × Taken w 0 (record { points = c; clean = x; encoded = e }) b.point (length (encoding b.point))
+    by [] x e = absurd (omega (arith, ap length e))
+    by (p ∷ c) x e =
+        let cut : drop (length (encoding p)) w ≡ bytes c = ap (drop (length (encoding p))) (sym e) ∙ drop_at (encoding p) (bytes c) (length (encoding p)) refl in (
+          begins_with p (bytes c) w (clean-first p c x) (sym e),
+          record {
+            within = omega (arith, ap length e, length-append (encoding p) (bytes c));
+            rest = record { points = c; clean = clean-rest p c x; encoded = sym cut };
+            joined = refl;
+          },
+        )
+
 pub taken : (v : List ℕ) (at : ℕ) (h : IsWellFormed (drop at v)) (p behind : ℕ) → at < length v
     → ((b : BeginsWithPoint (drop at v)) → (p ≡ b.point) × (behind ≡ at + length (encoding b.point))) → Taken v at h p behind
 taken v at h p behind long read =
     let f = first_of h (omega (arith, length-drop at v)) in
-    let b = f.begins in
-    let n = length (encoding b.point) in
-    let was = read b in
-    let back : drop behind v ≡ b.rest =
-    ap (λ k. drop k v) was.1 ∙ (sym (drop-drop n at v) ∙ (ap (drop n) b.encoded ∙ drop_at (encoding b.point) b.rest n refl)) in
+    let was = read f.0 in
+    let back : drop behind v ≡ drop (length (encoding f.0.point)) (drop at v) = ap (λ k. drop k v) was.1 ∙ sym (drop-drop (length (encoding f.0.point)) at v) in
     record {
-      within = omega (arith, was.1, ap length b.encoded, length-append (encoding b.point) b.rest, length-drop at v);
-      rest = moved f.behind back;
-      joined = f.points ∙ ap (λ q. q ∷ f.behind.points) (sym was.0);
+      within = omega (arith, was.1, f.1.within, length-drop at v, long);
+      rest = moved f.1.rest back;
+      joined = f.1.joined ∙ ap (λ q. q ∷ f.1.rest.points) (sym was.0);
     }

@@ -173,7 +173,7 @@ above b l = rw (le-ltb b 0x80 (omega arith), le-ltb b 0xC0 l) refl
 
 -- well-formed bytes begin a code point, and so no trail
 start_of : {w : List ℕ} → IsWellFormed w → 0 < length w → Begins (get_or w 0 0)
-start_of h n = let b = (first_of h n).begins in subst Begins (sym (ap (λ v. get_or v 0 0) b.encoded)) (first-encoding b.point b.rest)
+start_of h n = let b = (first_of h n).0 in subst Begins (sym (ap (λ v. get_or v 0 0) b.encoded)) (first-encoding b.point b.rest)
 
 pub starts : {w : List ℕ} → IsWellFormed w → is_inside (get_or w 0 0) ≡ false
 starts {w = []} h = refl
@@ -229,7 +229,7 @@ pub steps_lead : (v : List ℕ) (at : ℕ) (h : IsWellFormed (behind_held (drop 
 steps_lead v at h unit next long g two_on read =
     let n = not_held (drop at v) (above (get_or (drop at v) 0 0) (omega arith)) in
     let f = first_of (moved h (sym n.1)) (omega (arith, length-drop at v)) in
-    let b = f.begins in
+    let b = f.0 in
     let p = b.point in
     let begin : get_or (drop at v) 0 0 ≡ get_or (encoding p ++ b.rest) 0 0 = ap (λ w. get_or w 0 0) b.encoded in
     elim (row_of p) [
@@ -248,9 +248,9 @@ steps_lead v at h unit next long g two_on read =
           units_two p l ∙ (ap (λ a. a ∷ trail_of p ∷ []) (sym (read b)) ∙ ap (λ t. unit ∷ t) (sym held)) in
           record {
             within = omega (arith, two_on, ap length whole, length-drop at v);
-            behind = moved f.behind (ap behind_held rest ∙ k.1);
-            first = first_on _ _ h.points f.behind.points p unit n.0 f.points all;
-            left = left_on _ _ h.points f.behind.points p unit n.0 f.points all;
+            behind = moved f.1.rest (ap behind_held rest ∙ (k.1 ∙ sym (ap (drop (length (encoding p))) b.encoded ∙ drop_at (encoding p) b.rest (length (encoding p)) refl)));
+            first = first_on _ _ h.points f.1.rest.points p unit n.0 f.1.joined all;
+            left = left_on _ _ h.points f.1.rest.points p unit n.0 f.1.joined all;
           }
     ]
 

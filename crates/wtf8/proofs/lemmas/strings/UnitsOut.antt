@@ -83,20 +83,19 @@ behind_rows {P} n f rows (suc c) (suc k) at w b r h e long same le each =
     let wide : n * suc c ≡ n + n * c = omega (arith, mul-suc n c) in
     let fits : n ≤ length b = omega (arith, long, wide) in
     let first = first_of h (omega (arith, ap length e, length-append b r, rows.some, fits)) in
-    let p = first.begins.point in
-    let begins = ap (λ v. get_or v 0 0) (sym e ∙ first.begins.encoded) in
-    let part = rows.part p first.begins.rest (subst P (sym (get_or_append_left b r 0 0 (omega (arith, rows.some, fits))) ∙ begins) each.0) in
-    let value : p ≡ f b = sym part.read ∙ (ap f (sym first.begins.encoded ∙ e) ∙ rows.local b r fits) in
-    let cut : drop n w ≡ first.begins.rest = ap (drop n) first.begins.encoded ∙ drop_at (encoding p) first.begins.rest n part.width in
+    let p = first.0.point in
+    let begins = ap (λ v. get_or v 0 0) (sym e ∙ first.0.encoded) in
+    let part = rows.part p first.0.rest (subst P (sym (get_or_append_left b r 0 0 (omega (arith, rows.some, fits))) ∙ begins) each.0) in
+    let value : p ≡ f b = sym part.read ∙ (ap f (sym first.0.encoded ∙ e) ∙ rows.local b r fits) in
     let behind = behind_rows n f rows c k (n * k) (drop n w) (drop n b) r
-    (moved first.behind cut) (ap (drop n) e ∙ drop-append-le n b r fits)
+    (moved first.1.rest (ap (λ m. drop m w) (sym part.width))) (ap (drop n) e ∙ drop-append-le n b r fits)
     (omega (arith, long, wide, length-drop n b)) refl (omega (arith, le)) each.1 in
     let further : n * suc k ≡ n + n * k = omega (arith, mul-suc n k) in
     let end : drop at w ≡ drop (n * k) (drop n w) = ap (λ m. drop m w) (same ∙ further) ∙ sym (drop-drop (n * k) n w) in
     record {
       rest = moved behind.rest end;
-      whole = ap units first.points ∙ (units-cons_one p first.behind.points part.one_unit
-          ∙ (ap (λ m. m ∷ units first.behind.points) value ∙ ap (λ u. f b ∷ u) behind.whole));
+      whole = ap units first.1.joined ∙ (units-cons_one p first.1.rest.points part.one_unit
+          ∙ (ap (λ m. m ∷ units first.1.rest.points) value ∙ ap (λ u. f b ∷ u) behind.whole));
     }
 
 -- bytes are the first ones, and the units, of parts of one byte each
@@ -129,6 +128,6 @@ pub record ReadUnits (w : List ℕ) (p n : ℕ) : Type 0 where
 
 pub read_units : {w : List ℕ} → IsWellFormed w → (p n : ℕ) → 0 < length w → IsReadAs w p n → ReadUnits w p n
 read_units {w} h p n some read =
-    let b = (first_of h some).begins in
+    let b = (first_of h some).0 in
     let t = λ (k : IsWellFormed w). taken w 0 k p n some (λ b. let was = read b in (was.0, omega (arith, was.1))) in
     record { some = omega (arith, (read b).1, length-encoding_bounds b.point); within = (t h).within; begins = λ k. ((t k).rest, ap units (t k).joined) }

@@ -5,13 +5,13 @@ use Rattle.wtf8.proofs.lemmas.strings.UnitsOut.{ReadUnits, read_units}
 use Rattle.wtf8.proofs.strings.units_out.widen_point.Goals as goal
 
 pub read_two-requires-clause-front : goal.read_two-requires-clause-front
-read_two-requires-clause-front c = (first_of c.args.left.view.well_formed c.requires.some).begins
+read_two-requires-clause-front c = (first_of c.args.left.view.well_formed c.requires.some).0
 
 pub read_three-requires-clause-front : goal.read_three-requires-clause-front
-read_three-requires-clause-front c = (first_of c.args.left.view.well_formed c.requires.some).begins
+read_three-requires-clause-front c = (first_of c.args.left.view.well_formed c.requires.some).0
 
 pub read-width-requires-clause-front : goal.read-width-requires-clause-front
-read-width-requires-clause-front c = (first_of c.args.left.view.well_formed c.requires.some).begins
+read-width-requires-clause-front c = (first_of c.args.left.view.well_formed c.requires.some).0
 
 -- the code point that was read
 front : {w : List ℕ} → IsWellFormed w → (p n : ℕ) → 0 < length w → ((b : BeginsWithPoint w) → (p ≡ b.point) × (n ≡ 0 + length (encoding b.point))) → ReadUnits w p n
