@@ -3,7 +3,7 @@ use Rattle.wtf8.proofs.Common.{◌≡◌, ◌-◌, ◌≤◌, ◌<◌, ℕ, zero
 use Rattle.wtf8.proofs.Common.{cases_lt, append-nil, get_or-append_right, encoding, bytes, take, drop, append_assoc, take_at, drop_at, units, IsClean, Reads}
 use Rattle.wtf8.proofs.Common.{IsWellFormed, IsForm, IsBoundary, IsFront, IsBack, ◌+◌, ◌/◌, ◌%◌, take-add, chunk, units_of, units_begun, all_units_begun}
 use Rattle.wtf8.proofs.Common.{IsPlaceOfUnit, CutsUnits, None, sum_by-append, sum_by_more, Splits, IsMiddle, Place}
-use Rattle.wtf8.proofs.lemmas.lanes.Surrogates.{begun_low, begun_inside, begun_one, begun_two}
+use Rattle.wtf8.proofs.lemmas.lanes.UnitCounts.{begun_low, begun_inside, begun_one, begun_two}
 use Rattle.wtf8.proofs.lemmas.numbers.Encoding.{Begins, first-encoding, inside-encoding, length-encoding_bounds, length-behind, bytes-append, row_of, one, two, three, four}
 use Rattle.wtf8.proofs.lemmas.numbers.Readings.{clean-front, clean-back, reads_same, same_heads, same_points, same_reading, well_formed_of, units_one, units_two}
 

@@ -1,5 +1,5 @@
 use Rattle.wtf8.proofs.Common.{◌∙◌, ◌+◌, ap, arith, fold_l}
-use Rattle.wtf8.proofs.lemmas.lanes.Surrogates.{sum_fits_byte, sum_is}
+use Rattle.wtf8.proofs.lemmas.lanes.UnitCounts.{sum_fits_byte, sum_is}
 use Rattle.wtf8.proofs.strings.unit_positions.units_begun_in_block.Goals as goal
 
 pub overflow_add-units_begun_by_each : goal.overflow_add-units_begun_by_each

@@ -2,7 +2,7 @@ use Rattle.wtf8.proofs.Common.{◌≡◌, ◌<◌, ◌+◌, ℕ, List, [], ◌�
 use Rattle.wtf8.proofs.Common.{append_assoc, All, Step, Run, Append, IsNoTruncation, Build, Reserve, Truncate, TruncateUnits, ◌≤◌, take, drop, inl, inr}
 use Rattle.wtf8.proofs.Common.{false≢true, cases_lt, append-nil, IsForm, FindRoom, All-nil, All-cons, take_all, All-get_or, FitWithin, none-some}
 use Rattle.wtf8.specs.Building.{appended, asked, LeavesReserved}
-use Rattle.wtf8.proofs.lemmas.laws.Laws.{reserved_more}
+use Rattle.wtf8.proofs.lemmas.laws.StringLaws.{reserved_more}
 use Rattle.wtf8.proofs.lemmas.strings.Concatenation.{item_at, items_more}
 use Rattle.wtf8.proofs.lemmas.strings.Gains.{Found, found_more, wider, beginning}
 use Rattle.wtf8.proofs.strings.buf.Wtf8Buf.apply_all.Given.{Over}
