@@ -1,14 +1,11 @@
 -- Units counted in lanes: what a block's lanes add up to.
-use Rattle.wtf8.proofs.Common.{◌≡◌, ◌↔◌, ℕ, zero, suc, ◌+◌, ◌%◌, ◌^◌, ◌<◌, ◌≤◌, eqb, ltb, leb, Bool, true, false, IsTrue, cond, List, [], ◌∷◌, map, length}
-use Rattle.wtf8.proofs.Common.{get_or, replicate, w8, inl, inr, sym, ap, ◌∙◌, arith, cases_lt, nat_tests, lt-ltb, le-ltb, le-leb, eq-eqb, eqb-true, length-zip2}
-use Rattle.wtf8.proofs.Common.{get_or-chunk, mask_l-mod, tops_compared, chunk, sel_l, zip2, mask_l, top, SurrogateAt, ◌||◌, bit_or, Fits, refl, lt-leb, Each1}
-use Rattle.wtf8.proofs.Common.{all_units_begun, Option, get_or-zip2, ◌&&◌, bit_and, w16, subst, and_parts, and_from, leb-true, sum_by-cons, length-chunk}
-use Rattle.wtf8.proofs.Common.{Each2-of, fold-sum, sum_bound, sum_fits, sum-zip2, MatchOption, get_or-replicate, length-map, length-replicate}
-use lib.Lanes.{chunk, zip2, mask_l, top, Each2, Steps, fold_l, sum_l}
-use Rattle.wtf8.proofs.lemmas.lanes.Masks.{first_there, none_set}
-use Rattle.wtf8.specs.private.FirstPlace.{IsFirstSet, IsLeast, IsSet, Nowhere}
-use Rattle.wtf8.specs.private.SurrogateSearch.{SurrogateAt}
-use Rattle.wtf8.specs.private.UnitCounts.{HasLane, units_begun}
+use Rattle.wtf8.proofs.Common.{◌≡◌, ℕ, zero, suc, ◌+◌, ◌<◌, ◌≤◌, ltb, leb, Bool, true, false, cond, List, [], ◌∷◌, map, length}
+use Rattle.wtf8.proofs.Common.{replicate, w8, sym, ap, ◌∙◌, arith, nat_tests, lt-ltb, le-ltb}
+use Rattle.wtf8.proofs.Common.{sel_l, zip2, top, ◌||◌, bit_or, Fits, refl, Each1}
+use Rattle.wtf8.proofs.Common.{all_units_begun, w16, sum_by-cons}
+use Rattle.wtf8.proofs.Common.{Each2-of, fold-sum, sum_bound, sum_fits, sum-zip2, length-map}
+use lib.Lanes.{zip2, top, Each2, Steps, fold_l, sum_l}
+use Rattle.wtf8.specs.private.UnitCounts.{units_begun}
 use Rattle.wtf8.proofs.lemmas.lanes.Surrogates.{lane}
 
 pub begun_low : (b : ℕ) → b < 0x80 → units_begun b ≡ 1

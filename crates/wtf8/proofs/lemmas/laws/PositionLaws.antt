@@ -1,25 +1,18 @@
 -- The laws of positions, of lengths and of ASCII bytes.
 use Rattle.wtf8.proofs.Common.{ℕ, List, [], ◌++◌, length, refl, ap, ◌∙◌, sym, subst, arith, append_assoc, length-append, append-nil, append_cancel_left, units}
 use Rattle.wtf8.proofs.Common.{bytes, Reads, IsForm, IsBoundary, ◌≡◌, ◌≢◌, ◌<◌, ◌+◌, ◌-◌, ◌/◌, ◌%◌, inl, ◌∷◌, get_or, drop_at, All-cons, All-drop, All-head}
-use Rattle.wtf8.proofs.Common.{All-nil, All, encoding, IsFront, IsBack, slice_get, Some, zero, suc, ◌≤◌, inr, cases_lt, chunk, length-chunk, get_or-chunk, ◌↔◌}
-use Rattle.wtf8.proofs.Common.{glue, AreScalar, view_units, view_form, Wtf8, Result, Ok, Err, OnOk, OnErr, AppendsUnits, KeepsContents, UnitString}
-use Rattle.wtf8.proofs.Common.{on_ok_weaker, ◌⊎◌, All-tail, IsUnit, IsWellFormed, Step, Run, Build, Reserve, Truncate, TruncateUnits, IsNoTruncation}
-use Rattle.wtf8.proofs.Common.{slice_index, All-from_get_or, All-pop, All-same, FitWithin, AddsLength, RunsOnce, RunsAddUp, LeavesReserved, HasLane}
+use Rattle.wtf8.proofs.Common.{All-nil, All, encoding, IsFront, IsBack, slice_get, Some, zero, suc, ◌≤◌, inr, cases_lt, chunk, length-chunk, get_or-chunk}
+use Rattle.wtf8.proofs.Common.{HasLane}
 use Rattle.std.proofs.lemmas.List.{append_cancel_right}
 use Rattle.wtf8.specs.Laws.{FrontAndBackAreWhole}
 use Rattle.wtf8.specs.PositionLaws.{StartIsBoundary, EndIsBoundary, NoneIsBeyondEnd, FrontBoundariesAreOfWhole, WholeBoundariesAreOfFront, WholeBoundariesAreOfBack}
 use Rattle.wtf8.specs.PositionLaws.{BackBoundariesAreOfWhole, BeginningsAreNoLonger, BothAreNoLonger, AsciiStandsAlone, AsciiIsOneUnit}
 use Rattle.wtf8.specs.PositionLaws.{AsciiIsNoOtherUnit}
-use Rattle.wtf8.specs.StringLaws.{EqualBuffersHaveEqualUnits, EqualBufferAndViewHaveEqualUnits, EqualViewsHaveEqualUnits, StringsAreJoined, StringsArePaired}
-use Rattle.wtf8.specs.StringLaws.{TextsAreScalar, RoomLeftIsFound, ScalarsStay, FormsAreOfBuffers, FormsAreOfViews, WhatFitsIsFound}
-use Rattle.wtf8.proofs.lemmas.numbers.Encoding.{bytes-append, bytes-pushed, row_of, one, two, three, four, Begins}
+use Rattle.wtf8.proofs.lemmas.numbers.Encoding.{bytes-append, bytes-pushed, row_of, one, two, three, four}
 use Rattle.wtf8.proofs.lemmas.numbers.Readings.{well_formed_of, reads_same, same_form, units-append, units_one, units_two}
-use Rattle.wtf8.proofs.lemmas.numbers.Readings.{units-cons_one, same_reading}
-use Rattle.wtf8.proofs.lemmas.strings.Concatenation.{equal_forms, form-glue, form_paired, form_apart, length_paired, length_apart, one_form, units_read, at_last, before, parted_more}
-use Rattle.wtf8.proofs.lemmas.strings.Gains.{beginning, both_length, scalar_text}
+use Rattle.wtf8.proofs.lemmas.numbers.Readings.{units-cons_one}
+use Rattle.wtf8.proofs.lemmas.strings.Gains.{beginning, both_length}
 use Rattle.wtf8.proofs.lemmas.strings.Positions.{Cut, cut_at, begun, same_front, front_reads, back_reads, front_boundary, boundary_from_byte, first_behind}
-use Rattle.wtf8.proofs.lemmas.strings.Positions.{byte_from_boundary}
-use Rattle.wtf8.proofs.lemmas.strings.Surrogates.{lossy-scalar}
 
 -- Proofs of the laws of positions and lengths.
 

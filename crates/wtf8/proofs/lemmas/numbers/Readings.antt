@@ -1,6 +1,6 @@
 -- Code points and their units, leads that meet trails, and the one list of code points that reads given units.
-use Rattle.wtf8.proofs.Common.{◌≡◌, ℕ, ◌⊎◌, inl, inr, List, [], ◌∷◌, ◌++◌, drop, get_or, length, true, ◌&&◌, leb, refl, sym, ap, ◌∙◌, subst, arith}
-use Rattle.wtf8.proofs.Common.{length-append, leb-true, le-leb, and_parts, cases_Bool, false≢true, same_from_push, IsLead, IsTrail, MeetsAsPair, ◌+◌, ◌-◌, ◌*◌}
+use Rattle.wtf8.proofs.Common.{◌≡◌, ℕ, ◌⊎◌, inl, inr, List, [], ◌∷◌, ◌++◌, drop, get_or, length, true, refl, sym, ap, ◌∙◌, subst, arith}
+use Rattle.wtf8.proofs.Common.{length-append, le-leb, cases_Bool, false≢true, same_from_push, IsLead, IsTrail, MeetsAsPair, ◌+◌, ◌-◌, ◌*◌}
 use Rattle.wtf8.proofs.Common.{◌/◌, ◌%◌, ◌<◌, ◌≤◌, lt-ltb, le-ltb, cases_lt, append-nil, flat_map-append, units, pair, encoding, bytes, IsCodePoint, IsClean}
 use Rattle.wtf8.proofs.Common.{drop_at, bytes-injective, Reads, IsWellFormed, IsForm, BeginsWithPoint, length-drop, drop-drop, nat_tests}
 use Rattle.wtf8.specs.Concatenation.{is_pair}

@@ -1,6 +1,6 @@
 -- The string behind code points of as many bytes each.
 use Rattle.wtf8.proofs.Common.{◌≡◌, ℕ, zero, suc, ◌<◌, ◌≤◌, List, [], ◌∷◌, ◌++◌, length, take, drop, get_or, refl, sym, ap, ◌∙◌, arith, IsWellFormed, units}
-use Rattle.wtf8.proofs.Common.{encoding, length-append, units_of, ◌+◌, ◌*◌, ◌%◌, subst, Each1, drop_at, drop-drop}
+use Rattle.wtf8.proofs.Common.{encoding, length-append, units_of, ◌+◌, ◌*◌, ◌%◌, subst, Each1, drop-drop}
 use Rattle.wtf8.proofs.Common.{length-drop, length-take, take-append-drop, get_or_append_left, drop-append-le, IsReadAs}
 use Rattle.wtf8.proofs.lemmas.numbers.Encoding.{row_of, one, two, three, four, length-encoding_bounds}
 use native.Mathlib.Nat.{mul-suc}
