@@ -94,14 +94,11 @@ scalar_facts c e = elim (scalar_cases c e) [
   | inr h ↦ record { range = omega arith; apart = λ s. omega arith }
 ]
 
-pub scalars-parts : (c : ℕ) (cs : List ℕ) → scalars (c ∷ cs) ≡ true → (scalar c ≡ true) × (scalars cs ≡ true)
-scalars-parts c cs e = and_parts (scalar c) (scalars cs) e
-
 pub clean-scalars : (cs : List ℕ) → scalars cs ≡ true → IsClean cs
 clean-scalars [] e = tt
-clean-scalars (c ∷ []) e = (scalar_facts c (scalars-parts c [] e).0).range
+clean-scalars (c ∷ []) e = (scalar_facts c (and_parts (scalar c) (scalars []) e).0).range
 clean-scalars (c ∷ d ∷ cs) e =
-    let p = scalars-parts c (d ∷ cs) e in
+    let p = and_parts (scalar c) (scalars (d ∷ cs)) e in
     let f = scalar_facts c p.0 in
     (f.range, (λ h. f.apart (omega (arith, h.0), omega (arith, h.0))), clean-scalars (d ∷ cs) p.1)
 
@@ -126,7 +123,7 @@ scalar-append (p ∷ c) d s t = (s.0, scalar-append c d s.1 t)
 pub scalar-characters : (c : List ℕ) → scalars c ≡ true → AreScalar c
 scalar-characters [] e = tt
 scalar-characters (p ∷ c) e =
-    let parts = scalars-parts p c e in
+    let parts = and_parts (scalar p) (scalars c) e in
     ((scalar_facts p parts.0).apart, scalar-characters c parts.1)
 
 pub scalar_text : {w : List ℕ} → IsUtf8 w → AreScalar (chars w)

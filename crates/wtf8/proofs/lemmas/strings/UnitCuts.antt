@@ -254,13 +254,6 @@ steps_lead v at h unit next long g two_on read =
           }
     ]
 
-first_held : (old new points : List ℕ) (t : ℕ) → old ≡ t ∷ [] → new ≡ [] → old ++ units points ≡ t ∷ (new ++ units points)
-first_held old new points t e f = rw (e, f) refl
-
-left_held : (old new points : List ℕ) (t : ℕ) → old ≡ t ∷ [] → new ≡ []
-    → record { held = new; points = points } ≡ unread_after (record { held = old; points = points })
-left_held old new points t e f = rw (e, f) refl
-
 -- a trail whose lead was given
 pub steps_trail : (v : List ℕ) (at : ℕ) (h : IsWellFormed (behind_held (drop at v))) (next : ℕ) → 0x80 ≤ get_or (drop at v) 0 0
     → get_or (drop at v) 0 0 < 0xC0 → next ≡ at + 2 → StepsUnit v at h (trail_by (get_or (drop at v) 0 0) (get_or (drop at v) 1 0)) next
@@ -273,8 +266,8 @@ steps_trail v at h next l g two_on =
     record {
       within = omega (arith, two_on, whole, length-drop at v);
       behind = moved b m.1;
-      first = first_held _ _ h.points _ n.0 m.0;
-      left = left_held _ _ h.points _ n.0 m.0;
+      first = rw (n.0, m.0) refl;
+      left = rw (n.0, m.0) refl;
     }
 
 -- at the end nothing is left

@@ -43,14 +43,8 @@ cut_of {w} {u} h {k} {n} m =
     }
 
 -- a cut of what is behind a mark is one of the whole
-whole_by : {c d : List ℕ} {k n : ℕ} (x : CutsUnits c n k None) (front back : List ℕ) → d ≡ x.back → d ≡ front ++ back → c ≡ (x.front ++ front) ++ back
-whole_by x front back e f = x.joined ∙ (ap (λ b. x.front ++ b) (sym e ∙ f) ∙ sym (append_assoc x.front front back))
-
-bytes_by : {c : List ℕ} {k n : ℕ} (x : CutsUnits c n k None) (front : List ℕ) → length (bytes (x.front ++ front)) ≡ k + length (bytes front)
-bytes_by x front = omega (arith, ap length (bytes-append x.front front), length-append (bytes x.front) (bytes front), x.front_len)
-
 units_by : {c : List ℕ} {k n : ℕ} (x : CutsUnits c n k None) (front : List ℕ) → length (units (x.front ++ front)) ≡ n + length (units front)
-units_by x front = omega (arith, ap length (units-append x.front front), length-append (units x.front) (units front), x.counted)
+units_by x front = simp (units-append, length-append, x.counted)
 
 counted_by : {c : List ℕ} {k n : ℕ} (x : CutsUnits c n k None) (front back : List ℕ) (i m : ℕ) → n + i ≡ m → (half : Option ℕ)
     → MatchOption half (length (units front) ≡ i) (Divides front back i) → MatchOption half (length (units (x.front ++ front)) ≡ m) (Divides (x.front ++ front) back m)
@@ -62,11 +56,12 @@ pub cut_from_mark : {w v u : List ℕ} (h : IsWellFormed w) (rest : IsWellFormed
     → CutsUnits rest.points (m - n) place half → CutsUnits h.points m (k + place) half
 cut_from_mark h rest {k} {n} {place} m half mark e l y =
     let x = cut_of h mark in
+    let behind = points_behind h rest x.front x.back k x.joined x.front_len e in
     record {
       front = x.front ++ y.front;
       back = y.back;
-      joined = whole_by x y.front y.back (points_behind h rest x.front x.back k x.joined x.front_len e) y.joined;
-      front_len = omega (arith, bytes_by x y.front, y.front_len);
+      joined = x.joined ∙ (ap (λ b. x.front ++ b) (sym behind ∙ y.joined) ∙ sym (append_assoc x.front y.front y.back));
+      front_len = simp (bytes-append, length-append, x.front_len, y.front_len);
       counted = counted_by x y.front y.back (m - n) m (omega (arith, l)) half y.counted;
     }
 
