@@ -16,6 +16,9 @@ use Rattle.wtf8.proofs.lemmas.strings.Positions.{cut_at, boundary_from_byte, poi
 pub cmp_less : (x y : ℕ) → x < y → nat_cmp x y ≡ Less
 cmp_less x y h = grind (arith, nat_tests)
 
+pub cmp_greater : (x y : ℕ) → y < x → nat_cmp x y ≡ Greater
+cmp_greater x y h = grind (arith, nat_tests)
+
 pub cmp_same : (x : ℕ) → nat_cmp x x ≡ Equal
 cmp_same x = grind (arith, nat_tests)
 
@@ -48,15 +51,11 @@ pub order_of : (c d : List ℕ) → MatchOrdering (slice_cmp nat_cmp c d) (Befor
 order_of [] [] = refl
 order_of [] (y ∷ ys) = tt
 order_of (x ∷ xs) [] = tt
-order_of (x ∷ xs) (y ∷ ys) =
-    let P : Ordering → Type 0 = λ o. MatchOrdering o (Before (x ∷ xs) (y ∷ ys)) (x ∷ xs ≡ y ∷ ys) (Before (y ∷ ys) (x ∷ xs)) in
-    elim (cases_order x y) [
-      | inl same ↦
-          let first : nat_cmp x y ≡ Equal = ap (nat_cmp x) (sym same) ∙ cmp_same x in
-          subst P (ap (λ o. ordering_then o (slice_cmp nat_cmp xs ys)) (sym first)) (with_first x y xs ys same (slice_cmp nat_cmp xs ys) (order_of xs ys))
-      | inr (inl l) ↦ subst P (sym (less_of (x ∷ xs) (y ∷ ys) (inl l))) (inl l)
-      | inr (inr l) ↦ subst P (sym (greater_of (x ∷ xs) (y ∷ ys) (inl l))) (inl l)
-    ]
+order_of (x ∷ xs) (y ∷ ys) = elim (cases_order x y) [
+  | inl same ↦ rw (same, cmp_same y) (with_first y y xs ys refl (slice_cmp nat_cmp xs ys) (order_of xs ys))
+  | inr (inl l) ↦ rw (cmp_less x y l) (inl l)
+  | inr (inr l) ↦ rw (cmp_greater x y l) (inl l)
+]
 
 -- what an answer by a comparison says
 pub ordered : (o : Ordering) (c d : List ℕ) → o ≡ slice_cmp nat_cmp c d → MatchOrdering o (Before c d) (c ≡ d) (Before d c)
@@ -216,13 +215,6 @@ parts_at (x ∷ w) (y ∷ v) (suc n) d both =
 
 -- The order of units: the bytes where two strings first differ, and the strings behind the place where they part.
 
-pub cmp_greater : (x y : ℕ) → y < x → nat_cmp x y ≡ Greater
-cmp_greater x y h = grind (arith, nat_tests)
-
--- lengths one greater are in the same order
-cmp_longer : (x y : ℕ) → nat_cmp (suc x) (suc y) ≡ nat_cmp x y
-cmp_longer x y = grind (arith, nat_tests)
-
 -- the numbers there, or the ends, are in the order of the lists
 pub order_there : (w v : List ℕ) (at : ℕ) → IsFirstDifference w v at → option_cmp nat_cmp (slice_get w at) (slice_get v at) ≡ slice_cmp nat_cmp w v
 order_there [] [] at d = refl
@@ -247,7 +239,8 @@ order_of_lengths (x ∷ w) [] h = cmp_greater (length (x ∷ w)) 0 (omega arith)
 order_of_lengths (x ∷ w) (y ∷ v) h = elim (cases_order x y) [
   | inl e ↦
       let rest = order_of_lengths w v (λ j _ l. h (suc j) (omega arith) (omega arith)) in
-      cmp_longer (length w) (length v) ∙ (rest ∙ rw e (sym (cmp_behind (y ∷ []) w v)))
+      let longer : nat_cmp (suc (length w)) (suc (length v)) ≡ nat_cmp (length w) (length v) = grind (arith, nat_tests) in
+      longer ∙ (rest ∙ rw e (sym (cmp_behind (y ∷ []) w v)))
   | inr n ↦ absurd (h 0 (omega arith) (omega arith) (λ e. omega (arith, n, e)))
 ]
 
