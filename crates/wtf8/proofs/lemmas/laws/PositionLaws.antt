@@ -8,7 +8,7 @@ use Rattle.wtf8.specs.Laws.{FrontAndBackAreWhole}
 use Rattle.wtf8.specs.PositionLaws.{StartIsBoundary, EndIsBoundary, NoneIsBeyondEnd, FrontBoundariesAreOfWhole, WholeBoundariesAreOfFront, WholeBoundariesAreOfBack}
 use Rattle.wtf8.specs.PositionLaws.{BackBoundariesAreOfWhole, BeginningsAreNoLonger, BothAreNoLonger, AsciiStandsAlone, AsciiIsOneUnit}
 use Rattle.wtf8.specs.PositionLaws.{AsciiIsNoOtherUnit}
-use Rattle.wtf8.proofs.lemmas.numbers.Encoding.{bytes-append, bytes-pushed, row_of, one, two, three, four}
+use Rattle.wtf8.proofs.lemmas.numbers.Encoding.{bytes-append, bytes-pushed, row_of, one, two, three, four, own_byte}
 use Rattle.wtf8.proofs.lemmas.numbers.Readings.{well_formed_of, reads_same, same_form, units-append, units_one, units_two}
 use Rattle.wtf8.proofs.lemmas.numbers.Readings.{units-cons_one}
 use Rattle.wtf8.proofs.lemmas.strings.Gains.{beginning, both_length}
@@ -88,15 +88,6 @@ record Stands (u : List ℕ) (k b : ℕ) : Type 0 where
   from_it : IsBack u k (b ∷ back)
   to_it : IsFront u (k + 1) (front ++ b ∷ [])
   whole : front ++ b ∷ back ≡ u
-
--- a code point whose first byte is below 80 is that number
-own_byte : (p : ℕ) (r : List ℕ) → get_or (encoding p ++ r) 0 0 < 0x80 → (encoding p ≡ p ∷ []) × (p < 0x80)
-own_byte p r h = elim (row_of p) [
-  | one l e ↦ (e, l)
-  | two l _ e ↦ absurd (omega (arith, rw e at h))
-  | three l _ e ↦ absurd (omega (arith, rw e at h))
-  | four l e ↦ absurd (omega (arith, rw e at h))
-]
 
 stands : (front back u : List ℕ) → Reads (front ++ back) u → length (bytes front) < length (bytes (front ++ back))
     → get_or (bytes (front ++ back)) (length (bytes front)) 0 < 0x80 → Stands u (length (bytes front)) (get_or (bytes (front ++ back)) (length (bytes front)) 0)

@@ -60,6 +60,15 @@ first-encoding p r = elim (row_of p) [
   | four l e ↦ rw e (record { start = inr (omega arith) })
 ]
 
+-- a code point whose first byte is below 80 is that number
+pub own_byte : (p : ℕ) (r : List ℕ) → get_or (encoding p ++ r) 0 0 < 0x80 → (encoding p ≡ p ∷ []) × (p < 0x80)
+own_byte p r h = elim (row_of p) [
+  | one l e ↦ (e, l)
+  | two l _ e ↦ absurd (omega (arith, rw e at h))
+  | three l _ e ↦ absurd (omega (arith, rw e at h))
+  | four l e ↦ absurd (omega (arith, rw e at h))
+]
+
 -- each byte is from 80 to BF
 abbrev AreInside : List ℕ → Type 0
 AreInside [] = Unit {0}

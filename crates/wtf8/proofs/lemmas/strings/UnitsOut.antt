@@ -2,7 +2,7 @@
 use Rattle.wtf8.proofs.Common.{◌≡◌, ℕ, zero, suc, ◌<◌, ◌≤◌, List, [], ◌∷◌, ◌++◌, length, take, drop, get_or, refl, sym, ap, ◌∙◌, arith, IsWellFormed, units}
 use Rattle.wtf8.proofs.Common.{encoding, length-append, units_of, ◌+◌, ◌*◌, ◌%◌, subst, Each1, drop-drop}
 use Rattle.wtf8.proofs.Common.{length-drop, length-take, take-append-drop, get_or_append_left, drop-append-le, IsReadAs}
-use Rattle.wtf8.proofs.lemmas.numbers.Encoding.{row_of, one, two, three, four, length-encoding_bounds}
+use Rattle.wtf8.proofs.lemmas.numbers.Encoding.{row_of, one, two, three, four, length-encoding_bounds, own_byte}
 use native.Mathlib.Nat.{mul-suc}
 use Rattle.wtf8.specs.private.UnitRows.{IsOfKind, BeginsWithUnits, firsts_of, unit_of_two, unit_of_three, units_of_rows}
 use Rattle.wtf8.proofs.lemmas.numbers.Readings.{first_of, moved, taken, units-cons_one}
@@ -28,15 +28,12 @@ abbrev pub unit_of_one : List ℕ → ℕ
 unit_of_one w = get_or w 0 0
 
 pub one_rows : Rows 1 (IsOfKind 128 0) unit_of_one
-one_rows = record { some = omega arith; part = part; local = λ b r le. get_or_append_left b r 0 0 (omega arith) }
-  where
-    part : (p : ℕ) (r : List ℕ) → IsOfKind 128 0 (get_or (encoding p ++ r) 0 0) → Part 1 unit_of_one p r
-    part p r h = elim (row_of p) [
-      | one l e ↦ record { width = ap length e; read = ap (λ w. unit_of_one (w ++ r)) e; one_unit = omega arith }
-      | two l _ e ↦ absurd (omega (arith, rw e at h))
-      | three l _ e ↦ absurd (omega (arith, rw e at h))
-      | four l e ↦ absurd (omega (arith, rw e at h))
-    ]
+one_rows = record {
+  some = omega arith;
+  part = λ p r h.
+      let own = own_byte p r (omega (arith, h)) in record { width = ap length own.0; read = ap (λ w. unit_of_one (w ++ r)) own.0; one_unit = omega (arith, own.1) };
+  local = λ b r le. get_or_append_left b r 0 0 (omega arith);
+}
 
 pub two_rows : Rows 2 (IsOfKind 32 6) unit_of_two
 two_rows = record {
