@@ -2,7 +2,7 @@
 use Rattle.wtf8.proofs.Common.{◌≡◌, ℕ, ◌⊎◌, inl, inr, List, [], ◌∷◌, ◌++◌, drop, get_or, length, true, refl, sym, ap, ◌∙◌, subst, arith}
 use Rattle.wtf8.proofs.Common.{length-append, le-leb, cases_Bool, false≢true, same_from_push, IsLead, IsTrail, MeetsAsPair, ◌+◌, ◌-◌, ◌*◌}
 use Rattle.wtf8.proofs.Common.{◌/◌, ◌%◌, ◌<◌, ◌≤◌, lt-ltb, le-ltb, cases_lt, append-nil, flat_map-append, units, pair, encoding, bytes, IsCodePoint, IsClean}
-use Rattle.wtf8.proofs.Common.{drop_at, bytes-injective, Reads, IsWellFormed, IsForm, BeginsWithPoint, length-drop, drop-drop, nat_tests}
+use Rattle.wtf8.proofs.Common.{drop_at, bytes-injective, Reads, IsWellFormed, IsForm, BeginsWithPoint, length-drop, drop-drop, nat_tests, false, cond}
 use Rattle.wtf8.specs.Concatenation.{is_pair}
 use Rattle.wtf8.specs.PositionLaws.{ListsHaveLengths}
 use Rattle.wtf8.specs.Unicode.{units_of}
@@ -153,10 +153,6 @@ clean-apart (p ∷ q ∷ c) d x m = clean-apart (q ∷ c) d x.2 (meets_before p 
 pub same_heads : (p q : ℕ) (r s : List ℕ) → p ∷ r ≡ q ∷ s → (p ≡ q) × (r ≡ s)
 same_heads p q r s e = (ap (λ w. get_or w 0 0) e, ap (drop 1) e)
 
-units_nonempty : (p : ℕ) (c : List ℕ) → 0 < length (units (p ∷ c))
-units_nonempty p c =
-    elim (cases_lt p 0x10000) [ inl h ↦ omega (arith, ap length (units-cons_one p c h)) | inr h ↦ omega (arith, ap length (units-cons_two p c h)) ]
-
 -- where a trail is the first unit it is the first code point
 pub trail_first : (p : ℕ) (c : List ℕ) (t : ℕ) (r : List ℕ) → IsClean (p ∷ c) → units (p ∷ c) ≡ t ∷ r → IsTrail t → p ≡ t
 trail_first p c t r x e h = elim (cases_lt p 0x10000) [
@@ -167,36 +163,36 @@ trail_first p c t r x e h = elim (cases_lt p 0x10000) [
       absurd (omega arith)
 ]
 
--- a code point of one unit and one of two never begin readings of the same units
-apart : (p q : ℕ) (c d : List ℕ) → IsClean (p ∷ c) → IsClean (q ∷ d) → p < 0x10000 → 0x10000 ≤ q → units (p ∷ c) ≡ units (q ∷ d) → ⊥
-apart p q [] d x y l h e = omega (arith, ap length (sym (units-cons_one p [] l) ∙ (e ∙ units-cons_two q d h)))
-apart p q (s ∷ c) d x y l h e =
-    let range = clean-first q d y in
-    let heads = same_heads p (lead_of q) (units (s ∷ c)) (trail_of q ∷ units d) (sym (units-cons_one p (s ∷ c) l) ∙ (e ∙ units-cons_two q d h)) in
-    let first = trail_first s c (trail_of q) (units d) x.2 heads.1 (omega arith, omega arith) in
-    x.1 ((omega (arith, heads.0), omega (arith, heads.0)), (omega (arith, first), omega (arith, first)))
+-- the code points that units are read as, from the front on, and that they come back in a clean list
+abbrev read : List ℕ → List ℕ
+read [] = []
+read (l ∷ []) = l ∷ []
+read (l ∷ t ∷ u) = cond (is_pair l t) (pair l t ∷ read u) (l ∷ read (t ∷ u))
+
+not_pair : (l t : ℕ) → ¬ (IsLead l × IsTrail t) → is_pair l t ≡ false
+not_pair l t n = elim (cases_Bool (is_pair l t)) [ inl e ↦ absurd (n (true_pair l t e)) | inr e ↦ e ]
+
+read_one : (p : ℕ) (c : List ℕ) → IsClean (p ∷ c) → read (units c) ≡ c → read (p ∷ units c) ≡ p ∷ c
+read_one p [] x e = refl
+read_one p (q ∷ d) x e = elim (cases_lt q 0x10000) [
+  | inl h ↦ rw (units-cons_one q d h, not_pair p q x.1) (ap (λ r. p ∷ r) (rw (units-cons_one q d h) at e))
+  | inr h ↦
+      let range = clean-first q d x.2 in
+      rw (units-cons_two q d h, not_pair p (lead_of q) (λ m. omega (arith, range, m.1))) (ap (λ r. p ∷ r) (rw (units-cons_two q d h) at e))
+]
+
+read_again : (c : List ℕ) → IsClean c → read (units c) ≡ c
+read_again [] x = refl
+read_again (p ∷ c) x = elim (cases_lt p 0x10000) [
+  | inl h ↦ rw (units-cons_one p c h) (read_one p c x (read_again c (clean-rest p c x)))
+  | inr h ↦
+      let range = clean-first p c x in
+      let same : pair (lead_of p) (trail_of p) ≡ p = omega arith in
+      rw (units-cons_two p c h, pair_true (lead_of p) (trail_of p) (omega arith, omega arith) (omega arith, omega arith)) (cc (same, read_again c (clean-rest p c x)))
+]
 
 pub same_reading : (c d : List ℕ) → IsClean c → IsClean d → units c ≡ units d → c ≡ d
-same_reading [] [] x y e = refl
-same_reading [] (q ∷ d) x y e = absurd (omega (arith, ap length e, units_nonempty q d))
-same_reading (p ∷ c) [] x y e = absurd (omega (arith, ap length e, units_nonempty p c))
-same_reading (p ∷ c) (q ∷ d) x y e = elim (cases_lt p 0x10000) [
-  | inl h ↦ elim (cases_lt q 0x10000) [
-    | inl k ↦
-        let parts = same_heads p q (units c) (units d) (sym (units-cons_one p c h) ∙ (e ∙ units-cons_one q d k)) in
-        ap (λ n. n ∷ c) parts.0 ∙ ap (λ r. q ∷ r) (same_reading c d (clean-rest p c x) (clean-rest q d y) parts.1)
-    | inr k ↦ absurd (apart p q c d x y h k e)
-  ]
-  | inr h ↦ elim (cases_lt q 0x10000) [
-    | inl k ↦ absurd (apart q p d c y x k h (sym e))
-    | inr k ↦
-        let leads = same_heads (lead_of p) (lead_of q) (trail_of p ∷ units c) (trail_of q ∷ units d)
-        (sym (units-cons_two p c h) ∙ (e ∙ units-cons_two q d k)) in
-        let trails = same_heads (trail_of p) (trail_of q) (units c) (units d) leads.1 in
-        let same : p ≡ q = omega (arith, leads.0, trails.0) in
-        ap (λ n. n ∷ c) same ∙ ap (λ r. q ∷ r) (same_reading c d (clean-rest p c x) (clean-rest q d y) trails.1)
-  ]
-]
+same_reading c d x y e = sym (read_again c x) ∙ (ap read e ∙ read_again d y)
 
 pub reads_same : {c d u : List ℕ} → Reads c u → Reads d u → c ≡ d
 reads_same {c} {d} x y = same_reading c d x.clean y.clean (x.same_units ∙ sym y.same_units)
