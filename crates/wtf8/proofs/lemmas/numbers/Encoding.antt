@@ -102,6 +102,9 @@ length-encoding_bounds p = elim (row_of p) [
 pub length-surrogate : (p : ℕ) → IsSurrogate p → length (encoding p) ≡ 3
 length-surrogate p s = ap length (encoding_three p (omega arith) (omega arith))
 
+-- the rows of the table and how long they are
+pub ruleset rows = (encoding_one, encoding_two, encoding_three, encoding_four, length-encoding_bounds)
+
 -- the bytes of a list, and of one with a code point more
 pub bytes-append : (c d : List ℕ) → bytes (c ++ d) ≡ bytes c ++ bytes d
 bytes-append c d = flat_map-append encoding c d
