@@ -124,6 +124,7 @@ fn are_many_same(own: &[u8], others: &[u8]) -> bool
 
 /// The order of two lists of bytes: the first ones that differ decide, and a beginning stands before the longer list.
 #[inline(never)]
+#[tactic(auto, using(crate::proofs::lemmas::comparing::Order::order_at, crate::proofs::lemmas::comparing::Order::order_of_lengths))]
 pub(crate) fn order(own: &[u8], others: &[u8]) -> Ordering
     ensures { result ≡ slice_cmp nat_cmp own.now others.now }
 {

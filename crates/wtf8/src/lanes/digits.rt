@@ -36,6 +36,7 @@ const SPACED_BACK: [usize; VECTOR] = [5, 16, 6, 7, 16, 8, 9, 16, 10, 11, 16, 12,
 
 /// The upper-case digit of a number below 16.
 #[inline(always)]
+#[tactic(auto, using(crate::proofs::lemmas::lanes::Digits::digit_at))]
 pub(crate) fn upper_digit(value: u8) -> char
     requires { value < 16 }
     ensures digit { result ≡ digit value }
