@@ -56,6 +56,7 @@ fn upper_digits(values: u8x16) -> u8x16
 
 /// A space and two digits for each byte of a vector.
 #[inline(always)]
+#[tactic(auto, using(crate::proofs::lemmas::lanes::Digits::highs_below, crate::proofs::lemmas::lanes::Digits::lows_below, crate::proofs::lemmas::lanes::Digits::block_text))]
 fn spaced_block(bytes: u8x16) -> [u8; SPACED]
     ensures { result ≡ flat_map spaced bytes }
 {
