@@ -1,4 +1,6 @@
 // Laws of the encoding: nothing runs here, the contracts are theorems about the definitions.
+#![tactic(auto, using(crate::proofs::lemmas::laws::ViewLaws::laws))]
+
 ghost use Rattle.std.specs.List.{All};
 ghost use Rattle.std.specs.Prelude.{◌≡◌, ◌≢◌, ◌<◌, ◌≤◌, ◌+◌, ◌-◌, ◌*◌, ◌^◌, ℕ, List, ◌∷◌, ◌++◌, length, take, drop, slice_index, ◌↔◌};
 ghost use Rattle.std.specs.Str.{chars};
@@ -195,6 +197,7 @@ pub fn law_view_lengths(view: Wtf8<'_>)
 }
 
 /// How many bytes the encoding of this code point has. A caller calls it with the code point, and has nothing to cite.
+#[tactic(auto, using(crate::proofs::lemmas::numbers::Encoding::rows))]
 pub fn law_encoding_length(code_point: CodePoint)
     ensures one { number code_point < 0x80 → length (encoding (number code_point)) ≡ 1 }
     ensures two { 0x80 ≤ number code_point → number code_point < 0x800 → length (encoding (number code_point)) ≡ 2 }
@@ -236,6 +239,7 @@ pub fn law_characters()
 
 /// From the same units this list of calls leads to the same units, with the same count of refused truncations. A caller
 /// calls it with the list.
+#[tactic(auto, using(crate::proofs::lemmas::laws::ViewLaws::same_run))]
 pub fn law_same_run(calls: &[Build<'_>])
     ensures units { (u v w : List ℕ) (m n : ℕ) → Run u calls.now v m → Run u calls.now w n → v ≡ w }
     ensures refused { (u v w : List ℕ) (m n : ℕ) → Run u calls.now v m → Run u calls.now w n → m ≡ n }

@@ -4,3 +4,4 @@ pub mod Differences
 pub mod Digits
 pub mod Masks
 pub mod Surrogates
+pub mod UnitCounts

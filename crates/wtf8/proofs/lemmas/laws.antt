@@ -1,2 +1,3 @@
-pub mod Laws
+pub mod PositionLaws
+pub mod StringLaws
 pub mod ViewLaws

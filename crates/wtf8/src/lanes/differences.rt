@@ -38,7 +38,8 @@ fn is_block_same<const N: usize>(own: &[u8], others: &[u8], at: usize) -> bool
     requires room { (at + N ≤ length own.now) × (at + N ≤ length others.now) }
     ensures { Tells ⊤ (DifferAt own.now others.now) at (at + N) result }
 {
-    first_in_block::<N>(own, others, at).is_none()
+    let unlike = Simd::<u8, N>::from_slice(&own[at..]).simd_ne(Simd::from_slice(&others[at..]));
+    unlike.to_bitmask() == 0
 }
 
 /// Whether lists of `N` to twice so many bytes are equal.
@@ -123,6 +124,7 @@ fn are_many_same(own: &[u8], others: &[u8]) -> bool
 
 /// The order of two lists of bytes: the first ones that differ decide, and a beginning stands before the longer list.
 #[inline(never)]
+#[tactic(auto, using(crate::proofs::lemmas::comparing::Order::order_at, crate::proofs::lemmas::comparing::Order::order_of_lengths))]
 pub(crate) fn order(own: &[u8], others: &[u8]) -> Ordering
     ensures { result ≡ slice_cmp nat_cmp own.now others.now }
 {

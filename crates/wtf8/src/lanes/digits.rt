@@ -36,6 +36,7 @@ const SPACED_BACK: [usize; VECTOR] = [5, 16, 6, 7, 16, 8, 9, 16, 10, 11, 16, 12,
 
 /// The upper-case digit of a number below 16.
 #[inline(always)]
+#[tactic(auto, using(crate::proofs::lemmas::lanes::Digits::digit_at))]
 pub(crate) fn upper_digit(value: u8) -> char
     requires { value < 16 }
     ensures digit { result ≡ digit value }
@@ -55,6 +56,7 @@ fn upper_digits(values: u8x16) -> u8x16
 
 /// A space and two digits for each byte of a vector.
 #[inline(always)]
+#[tactic(auto, using(crate::proofs::lemmas::lanes::Digits::highs_below, crate::proofs::lemmas::lanes::Digits::lows_below, crate::proofs::lemmas::lanes::Digits::block_text))]
 fn spaced_block(bytes: u8x16) -> [u8; SPACED]
     ensures { result ≡ flat_map spaced bytes }
 {

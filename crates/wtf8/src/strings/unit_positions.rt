@@ -110,6 +110,7 @@ fn find_unit_from(bytes: &[u8], unit: usize, from: Place) -> Place
 
 /// The place behind the `N` bytes from a place on, where there are so many and the unit is behind them too.
 #[inline(always)]
+#[tactic(auto, using(crate::proofs::lemmas::strings::Positions::begun_more))]
 fn behind_block<const N: usize>(bytes: &[u8], unit: usize, from: Place) -> Option<Place>
     requires lanes { (0 < N) × (N ≤ u64.BITS) }
     requires counted { IsCounted bytes.now unit from }
@@ -184,6 +185,7 @@ fn behind_ascii<const N: usize>(bytes: &[u8], unit: usize, from: Place) -> Optio
 
 /// The place behind all blocks that are added lane by lane and that the unit is behind too.
 #[inline(always)]
+#[tactic(auto, using(crate::proofs::lemmas::strings::Positions::begun_more))]
 fn behind_added_blocks(bytes: &[u8], unit: usize) -> Place
     ensures { IsCounted bytes.now unit result }
 {

@@ -105,23 +105,6 @@ fn append_ascii<const N: usize, B: Allocator>(
     Ok(())
 }
 
-/// Writes the units of a code point from a place on, and answers the place behind them.
-#[inline(always)]
-fn put_units(units: &mut [u16], at: usize, code_point: CodePoint) -> usize
-    requires { at + length (units_of (number code_point)) ≤ length units.old }
-    ensures units { take result units.new ≡ take at units.old ++ units_of (number code_point) }
-    ensures place { result ≡ at + length (units_of (number code_point)) }
-    ensures len { length units.new ≡ length units.old }
-{
-    let value = code_point.to_u32();
-    if value < 0x10000 {
-        put(units, at, [value as u16]);
-        return at + 1;
-    }
-    put(units, at, [lead_of(value) as u16, trail_of(value) as u16]);
-    at + 2
-}
-
 /// Writes the unit of the first code point, which has one.
 #[inline(always)]
 fn widen_unit<'a>(units: &mut [u16], left: Unwritten<'a>, value: u32, width: usize) -> Unwritten<'a>
@@ -132,11 +115,7 @@ fn widen_unit<'a>(units: &mut [u16], left: Unwritten<'a>, value: u32, width: usi
     ensures written { Writes units.old left.entry.at (view_units left.entry.view) units.new result.at (view_units result.view) }
     ensures shorter { length result.view.bytes.now < length left.entry.view.bytes.now }
 {
-    put(units, left.at, [value as u16]);
-    Unwritten {
-        view: left.view.behind(width),
-        at: left.at + 1,
-    }
+    widen_units(units, left, [value as u16], 1, width)
 }
 
 /// Writes the units of the first code point.
@@ -153,11 +132,12 @@ fn widen_point<'a>(units: &mut [u16], left: Unwritten<'a>) -> Unwritten<'a>
         0xE0..=0xEF => widen_unit(units, left, encoding::read_three(bytes), 3),
         _ => {
             let (code_point, width) = encoding::read(bytes, 0);
-            let at = put_units(units, left.at, code_point);
-            Unwritten {
-                view: left.view.behind(width),
-                at,
+            let value = code_point.to_u32();
+            if value < 0x10000 {
+                return widen_unit(units, left, value, width);
             }
+            let pair = [lead_of(value) as u16, trail_of(value) as u16];
+            widen_units(units, left, pair, 2, width)
         }
     }
 }

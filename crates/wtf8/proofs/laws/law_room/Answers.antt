@@ -1,4 +1,5 @@
-use Rattle.wtf8.proofs.lemmas.laws.Laws.{beginnings, both_no_longer, room_left, what_fits}
+use Rattle.wtf8.proofs.lemmas.laws.PositionLaws.{beginnings, both_no_longer}
+use Rattle.wtf8.proofs.lemmas.laws.StringLaws.{room_left, what_fits}
 use Rattle.wtf8.proofs.laws.law_room.Goals as goal
 
 pub returns : goal.returns

@@ -1,6 +1,5 @@
-use Rattle.wtf8.proofs.Common.{ap, arith, length}
+use Rattle.wtf8.proofs.Common.{ap, arith, length, view_points}
 use Rattle.wtf8.proofs.lemmas.numbers.Readings.{lengths}
-use Rattle.wtf8.specs.View.{view_points}
 use Rattle.wtf8.proofs.laws.law_view_lengths.Goals as goal
 
 pub returns-clause-points : goal.returns-clause-points

@@ -1,25 +1,23 @@
 -- The orders of code points, bytes and units, and what the first difference of two strings says of them.
-use Rattle.wtf8.proofs.Common.{◌≡◌, ℕ, ◌<◌, ◌≤◌, inl, inr, List, [], ◌∷◌, ◌++◌, refl, sym, ap, ◌∙◌, arith, subst, Ordering, Less, Equal, Greater, nat_cmp}
-use Rattle.wtf8.proofs.Common.{ordering_then, MatchOrdering, slice_cmp, cases_lt, nat_tests, Before, cases_order, ◌+◌, ◌/◌, ◌%◌, ◌↔◌, encoding, bytes, Bool, IsTrue}
-use Rattle.wtf8.proofs.Common.{nat_eq, pointwise, bytes_decides, units, Reads, IsWellFormed, IsForm, bytes-injective, ◌≢◌, zero, suc, drop, get_or, units_of}
-use Rattle.wtf8.proofs.Common.{IsFirstDifference, PairBegins, true, false, ◌⊎◌, length, take, length-append, append_assoc, false≢true, take-append-drop, slice_get}
-use Rattle.wtf8.proofs.Common.{option_cmp, Nowhere, IsLeast}
-use Rattle.std.proofs.Common.{min}
-use Rattle.std.proofs.lemmas.Option.{slice_get-get_or}
-use Rattle.wtf8.specs.private.Differences.{DifferAt}
+use Rattle.wtf8.proofs.Common.{◌≡◌, ℕ, ◌<◌, inl, inr, List, [], ◌∷◌, ◌++◌, refl, sym, ap, ◌∙◌, arith, subst, Ordering, Less, Equal, Greater, nat_cmp}
+use Rattle.wtf8.proofs.Common.{ordering_then, MatchOrdering, slice_cmp, cases_lt, nat_tests, Before, cases_order, ◌↔◌, encoding, bytes, Bool}
+use Rattle.wtf8.proofs.Common.{IsTrue, nat_eq, pointwise, bytes_decides, units, Reads, IsWellFormed, IsForm, bytes-injective, ◌≢◌, zero, suc, drop, get_or}
+use Rattle.wtf8.proofs.Common.{units_of, IsFirstDifference, PairBegins, true, false, ◌⊎◌, length, take, length-append, append_assoc, false≢true}
+use Rattle.wtf8.proofs.Common.{take-append-drop, slice_get, option_cmp, Nowhere, IsLeast, min, slice_get-get_or, DifferAt, true≢false, ordering_reverse}
 use Rattle.wtf8.proofs.lemmas.lanes.Differences.{same_front}
-use Rattle.std.proofs.lemmas.Bool.{true≢false}
 use Rattle.std.proofs.lemmas.Cmp.{nat_list_cmp_total}
 use Rattle.std.specs.Bool.{beq}
-use Rattle.std.specs.Ordering.{ordering_reverse}
 use Rattle.wtf8.proofs.lemmas.numbers.Encoding.{row_of, one, two, three, four, encoding_same, length-encoding_bounds}
-use Rattle.wtf8.proofs.lemmas.numbers.Readings.{same_reading, lead_of, trail_of, units-cons_one, units-cons_two, units-append}
+use Rattle.wtf8.proofs.lemmas.numbers.Readings.{same_reading, units-cons_one, units-cons_two, units-append}
 use Rattle.wtf8.proofs.lemmas.strings.Positions.{cut_at, boundary_from_byte, points_behind}
 
 -- The order of lists of numbers, and comparing them one by one.
 
 pub cmp_less : (x y : ℕ) → x < y → nat_cmp x y ≡ Less
 cmp_less x y h = grind (arith, nat_tests)
+
+pub cmp_greater : (x y : ℕ) → y < x → nat_cmp x y ≡ Greater
+cmp_greater x y h = grind (arith, nat_tests)
 
 pub cmp_same : (x : ℕ) → nat_cmp x x ≡ Equal
 cmp_same x = grind (arith, nat_tests)
@@ -42,23 +40,6 @@ pub cmp_behind : (f c d : List ℕ) → slice_cmp nat_cmp (f ++ c) (f ++ d) ≡ 
 cmp_behind [] c d = refl
 cmp_behind (x ∷ f) c d = ap (λ o. ordering_then o (slice_cmp nat_cmp (f ++ c) (f ++ d))) (cmp_same x) ∙ cmp_behind f c d
 
--- the first numbers decide, or the rest does
-pub before_cons : (x y : ℕ) (xs ys : List ℕ) → x ≤ y → (x ≡ y → Before xs ys) → Before (x ∷ xs) (y ∷ ys)
-before_cons x y xs ys h rest = elim (cases_lt x y) [
-  | inl l ↦ inl l
-  | inr m ↦ let same : x ≡ y = omega arith in inr (same, rest same)
-]
-
-pub before_two : (a b x y : ℕ) (r s : List ℕ) → a ≤ x → (a ≡ x → b < y) → Before (a ∷ b ∷ r) (x ∷ y ∷ s)
-before_two a b x y r s h k = before_cons a x (b ∷ r) (y ∷ s) h (λ e. inl (k e))
-
-pub before_three : (a b c x y z : ℕ) (r s : List ℕ) → a ≤ x → (a ≡ x → b ≤ y) → (a ≡ x → b ≡ y → c < z) → Before (a ∷ b ∷ c ∷ r) (x ∷ y ∷ z ∷ s)
-before_three a b c x y z r s h k l = before_cons a x (b ∷ c ∷ r) (y ∷ z ∷ s) h (λ e. before_two b c y z r s (k e) (l e))
-
-pub before_four : (a b c d x y z w : ℕ) (r s : List ℕ) → a ≤ x → (a ≡ x → b ≤ y) → (a ≡ x → b ≡ y → c ≤ z) → (a ≡ x → b ≡ y → c ≡ z → d < w)
-    → Before (a ∷ b ∷ c ∷ d ∷ r) (x ∷ y ∷ z ∷ w ∷ s)
-before_four a b c d x y z w r s h k l m = before_cons a x (b ∷ c ∷ d ∷ r) (y ∷ z ∷ w ∷ s) h (λ e. before_three b c d y z w r s (k e) (l e) (m e))
-
 with_first : (x y : ℕ) (xs ys : List ℕ) → x ≡ y → (o : Ordering) → MatchOrdering o (Before xs ys) (xs ≡ ys) (Before ys xs)
     → MatchOrdering o (Before (x ∷ xs) (y ∷ ys)) (x ∷ xs ≡ y ∷ ys) (Before (y ∷ ys) (x ∷ xs))
 with_first x y xs ys e Less h = inr (e, h)
@@ -70,15 +51,11 @@ pub order_of : (c d : List ℕ) → MatchOrdering (slice_cmp nat_cmp c d) (Befor
 order_of [] [] = refl
 order_of [] (y ∷ ys) = tt
 order_of (x ∷ xs) [] = tt
-order_of (x ∷ xs) (y ∷ ys) =
-    let P : Ordering → Type 0 = λ o. MatchOrdering o (Before (x ∷ xs) (y ∷ ys)) (x ∷ xs ≡ y ∷ ys) (Before (y ∷ ys) (x ∷ xs)) in
-    elim (cases_order x y) [
-      | inl same ↦
-          let first : nat_cmp x y ≡ Equal = ap (nat_cmp x) (sym same) ∙ cmp_same x in
-          subst P (ap (λ o. ordering_then o (slice_cmp nat_cmp xs ys)) (sym first)) (with_first x y xs ys same (slice_cmp nat_cmp xs ys) (order_of xs ys))
-      | inr (inl l) ↦ subst P (sym (less_of (x ∷ xs) (y ∷ ys) (inl l))) (inl l)
-      | inr (inr l) ↦ subst P (sym (greater_of (x ∷ xs) (y ∷ ys) (inl l))) (inl l)
-    ]
+order_of (x ∷ xs) (y ∷ ys) = elim (cases_order x y) [
+  | inl same ↦ rw (same, cmp_same y) (with_first y y xs ys refl (slice_cmp nat_cmp xs ys) (order_of xs ys))
+  | inr (inl l) ↦ rw (cmp_less x y l) (inl l)
+  | inr (inr l) ↦ rw (cmp_greater x y l) (inl l)
+]
 
 -- what an answer by a comparison says
 pub ordered : (o : Ordering) (c d : List ℕ) → o ≡ slice_cmp nat_cmp c d → MatchOrdering o (Before c d) (c ≡ d) (Before d c)
@@ -94,32 +71,10 @@ before_of c d e = ordered Less c d (sym e)
 -- the encoding of a smaller code point comes first, whatever is behind it
 before_encoding : (p q : ℕ) (r s : List ℕ) → p < q → Before (encoding p ++ r) (encoding q ++ s)
 before_encoding p q r s l = elim (row_of p) [
-  | one h e ↦ elim (row_of q) [
-    | one k f ↦ rw (e, f) (inl l)
-    | two k _ f ↦ rw (e, f) (inl (omega arith))
-    | three k _ f ↦ rw (e, f) (inl (omega arith))
-    | four k f ↦ rw (e, f) (inl (omega arith))
-  ]
-  | two m h e ↦ elim (row_of q) [
-    | one k f ↦ absurd (omega arith)
-    | two k _ f ↦ rw (e, f) (before_two (0xC0 + p / 64) (0x80 + p % 64) (0xC0 + q / 64) (0x80 + q % 64) r s (omega arith) (λ a. omega arith))
-    | three k _ f ↦ rw (e, f) (inl (omega arith))
-    | four k f ↦ rw (e, f) (inl (omega arith))
-  ]
-  | three m h e ↦ elim (row_of q) [
-    | one k f ↦ absurd (omega arith)
-    | two _ k f ↦ absurd (omega arith)
-    | three k _ f ↦ rw (e, f) (before_three (0xE0 + p / 4096) (0x80 + p / 64 % 64) (0x80 + p % 64) (0xE0 + q / 4096) (0x80 + q / 64 % 64)
-        (0x80 + q % 64) r s (omega arith) (λ a. omega arith) (λ a b. omega arith))
-    | four k f ↦ rw (e, f) (inl (omega arith))
-  ]
-  | four m e ↦ elim (row_of q) [
-    | one k f ↦ absurd (omega arith)
-    | two _ k f ↦ absurd (omega arith)
-    | three _ k f ↦ absurd (omega arith)
-    | four k f ↦ rw (e, f) (before_four (0xF0 + p / 262144) (0x80 + p / 4096 % 64) (0x80 + p / 64 % 64) (0x80 + p % 64) (0xF0 + q / 262144)
-        (0x80 + q / 4096 % 64) (0x80 + q / 64 % 64) (0x80 + q % 64) r s (omega arith) (λ a. omega arith) (λ a b. omega arith) (λ a b c. omega arith))
-  ]
+  | one h e ↦ elim (row_of q) [ one k f ↦ rw (e, f) (inl l) | two k _ f ↦ rw (e, f) (grind arith) | three k _ f ↦ rw (e, f) (grind arith) | four k f ↦ rw (e, f) (grind arith) ]
+  | two m h e ↦ elim (row_of q) [ one k f ↦ absurd (omega arith) | two k _ f ↦ rw (e, f) (grind arith) | three k _ f ↦ rw (e, f) (grind arith) | four k f ↦ rw (e, f) (grind arith) ]
+  | three m h e ↦ elim (row_of q) [ one k f ↦ absurd (omega arith) | two _ k f ↦ absurd (omega arith) | three k _ f ↦ rw (e, f) (grind arith) | four k f ↦ rw (e, f) (grind arith) ]
+  | four m e ↦ elim (row_of q) [ one k f ↦ absurd (omega arith) | two _ k f ↦ absurd (omega arith) | three _ k f ↦ absurd (omega arith) | four k f ↦ rw (e, f) (grind arith) ]
 ]
 
 empty_before : (q : ℕ) (s : List ℕ) → Before [] (encoding q ++ s)
@@ -177,7 +132,7 @@ before_units : (p q : ℕ) (c d : List ℕ) → p < q → BothBelow 0x10000 p q 
 before_units p q c d l both = elim (cases_lt p 0x10000) [
   | inl h ↦ rw (units-cons_one p c h, units-cons_one q d (both.0 h)) (inl l)
   | inr h ↦ rw (units-cons_two p c h, units-cons_two q d (omega arith))
-      (before_two (lead_of p) (trail_of p) (lead_of q) (trail_of q) (units c) (units d) (omega arith) (λ e. omega arith))
+      (grind arith)
 ]
 
 -- where lists differ first, both numbers or neither is below F0
@@ -191,30 +146,25 @@ behind [] w v h = h
 behind (x ∷ f) w v h = behind f w v (h.0 refl)
 
 -- the first byte of a code point says how many units it has
-record FirstByte (p : ℕ) (r : List ℕ) : Type 0 where
-  byte : ℕ
-  rest : List ℕ
-  encoded : encoding p ++ r ≡ byte ∷ rest
-  row : (p < 0x10000) ↔ (byte < 0xF0)
-
-first_byte : (p : ℕ) (r : List ℕ) → FirstByte p r
+first_byte : (p : ℕ) (r : List ℕ) → (0 < length (encoding p ++ r)) × ((p < 0x10000) ↔ (get_or (encoding p ++ r) 0 0 < 0xF0))
 first_byte p r = elim (row_of p) [
-  | one h e ↦ record { byte = _; rest = _; encoded = ap (λ v. v ++ r) e; row = (λ _. omega arith, λ _. omega arith) }
-  | two l h e ↦ record { byte = _; rest = _; encoded = ap (λ v. v ++ r) e; row = (λ _. omega arith, λ _. omega arith) }
-  | three l h e ↦ record { byte = _; rest = _; encoded = ap (λ v. v ++ r) e; row = (λ _. omega arith, λ _. omega arith) }
-  | four l e ↦ record { byte = _; rest = _; encoded = ap (λ v. v ++ r) e; row = (λ m. absurd (omega arith), λ m. absurd (omega arith)) }
+  | one h e ↦ rw e (omega arith, (λ _. omega arith, λ _. omega arith))
+  | two l h e ↦ rw e (omega arith, (λ _. omega arith, λ _. omega arith))
+  | three l h e ↦ rw e (omega arith, (λ _. omega arith, λ _. omega arith))
+  | four l e ↦ rw e (omega arith, (λ m. absurd (omega arith), λ m. absurd (omega arith)))
 ]
+
+first_parts : (w v : List ℕ) → 0 < length w → 0 < length v → PartInOneRow w v → BothBelow 0xF0 (get_or w 0 0) (get_or v 0 0)
+first_parts [] v m n h = absurd (omega arith)
+first_parts (x ∷ w) [] m n h = absurd (omega arith)
+first_parts (x ∷ w) (y ∷ v) m n h = elim (cases_order x y) [ inl e ↦ (λ k. omega arith, λ k. omega arith) | inr n ↦ h.1 (λ e. omega (arith, n)) ]
 
 same_row : (p q : ℕ) (r s : List ℕ) → PartInOneRow (encoding p ++ r) (encoding q ++ s) → BothBelow 0x10000 p q
 same_row p q r s h =
     let x = first_byte p r in
     let y = first_byte q s in
-    let parts : PartInOneRow (x.byte ∷ x.rest) (y.byte ∷ y.rest) = rw (x.encoded, y.encoded) at h in
-    let both : BothBelow 0xF0 x.byte y.byte = elim (cases_order x.byte y.byte) [
-      | inl e ↦ (λ k. omega arith, λ k. omega arith)
-      | inr n ↦ parts.1 (λ e. omega (arith, n))
-    ] in
-    (λ k. y.row.1 (both.0 (x.row.0 k)), λ k. x.row.1 (both.1 (y.row.0 k)))
+    let both = first_parts _ _ x.0 y.0 h in
+    (λ k. y.1.1 (both.0 (x.1.0 k)), λ k. x.1.1 (both.1 (y.1.0 k)))
 
 nothing_before : (q : ℕ) (d : List ℕ) → Before [] (units (q ∷ d))
 nothing_before q d = elim (cases_lt q 0x10000) [ inl h ↦ rw (units-cons_one q d h) tt | inr h ↦ rw (units-cons_two q d h) tt ]
@@ -265,13 +215,6 @@ parts_at (x ∷ w) (y ∷ v) (suc n) d both =
 
 -- The order of units: the bytes where two strings first differ, and the strings behind the place where they part.
 
-pub cmp_greater : (x y : ℕ) → y < x → nat_cmp x y ≡ Greater
-cmp_greater x y h = grind (arith, nat_tests)
-
--- lengths one greater are in the same order
-cmp_longer : (x y : ℕ) → nat_cmp (suc x) (suc y) ≡ nat_cmp x y
-cmp_longer x y = grind (arith, nat_tests)
-
 -- the numbers there, or the ends, are in the order of the lists
 pub order_there : (w v : List ℕ) (at : ℕ) → IsFirstDifference w v at → option_cmp nat_cmp (slice_get w at) (slice_get v at) ≡ slice_cmp nat_cmp w v
 order_there [] [] at d = refl
@@ -296,7 +239,8 @@ order_of_lengths (x ∷ w) [] h = cmp_greater (length (x ∷ w)) 0 (omega arith)
 order_of_lengths (x ∷ w) (y ∷ v) h = elim (cases_order x y) [
   | inl e ↦
       let rest = order_of_lengths w v (λ j _ l. h (suc j) (omega arith) (omega arith)) in
-      cmp_longer (length w) (length v) ∙ (rest ∙ rw e (sym (cmp_behind (y ∷ []) w v)))
+      let longer : nat_cmp (suc (length w)) (suc (length v)) ≡ nat_cmp (length w) (length v) = grind (arith, nat_tests) in
+      longer ∙ (rest ∙ rw e (sym (cmp_behind (y ∷ []) w v)))
   | inr n ↦ absurd (h 0 (omega arith) (omega arith) (λ e. omega (arith, n, e)))
 ]
 
@@ -360,9 +304,8 @@ rests_order h k at p i j e f =
 
 pub both_or_neither : {P Q : Type 0} (a b : Bool) → IsTrue a ↔ P → IsTrue b ↔ Q → beq a b ≡ true → P ↔ Q
 both_or_neither true true p q e = (λ _. q.0 refl, λ _. p.0 refl)
-both_or_neither true false p q e = absurd (false≢true e)
-both_or_neither false true p q e = absurd (false≢true e)
 both_or_neither false false p q e = (λ h. absurd (false≢true (p.1 h)), λ h. absurd (false≢true (q.1 h)))
+both_or_neither _ _ p q e = absurd (grind arith)
 
 one_of_both : {P Q : Type 0} (a b : Bool) → IsTrue a ↔ P → IsTrue b ↔ Q → beq a b ≡ false → P ⊎ Q
 one_of_both true b p q e = inl (p.0 refl)

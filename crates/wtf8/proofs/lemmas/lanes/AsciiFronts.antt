@@ -40,10 +40,7 @@ pub by_all : (xs : List ℕ) (k : ℕ) → 0 < k → Each2 (λ (a b : ℕ). 0 < 
 by_all xs k h = Each2-splat (λ (a b : ℕ). 0 < b) xs 8 k (Each1-all (λ (a : ℕ). 0 < k) (λ a. h) xs)
 
 pub each2_splat : (P : ℕ → ℕ → Type 0) (y : ℕ) → ((x : ℕ) → P x y) → (n : ℕ) (xs : List ℕ) → length xs ≡ n → Each2 P xs (replicate n y)
-each2_splat P y h zero [] e = tt
-each2_splat P y h (suc n) [] e = absurd (omega arith)
-each2_splat P y h zero (x ∷ xs) e = absurd (omega arith)
-each2_splat P y h (suc n) (x ∷ xs) e = (h x, each2_splat P y h n xs (omega arith))
+each2_splat P y h n xs e = Each2-splat P xs n y (Each1-all (λ x. P x y) h xs)
 
 -- the lesser of each lane and the greatest byte
 pub saturated_lanes : (n : ℕ) (xs : List ℕ) → length xs ≡ n

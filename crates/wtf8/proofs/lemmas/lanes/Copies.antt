@@ -1,7 +1,6 @@
 -- A list appended by its first and its last items, which may overlap.
-use Rattle.wtf8.proofs.Common.{◌≡◌, ℕ, ◌+◌, ◌-◌, ◌*◌, ◌≤◌, List, ◌++◌, length, take, drop, ap, ◌∙◌, arith, append_assoc, length-drop, take_all, take-append-drop}
-use Rattle.std.proofs.Math.Seq.{take-append-add}
-use Rattle.std.proofs.lemmas.List.{take-take}
+use Rattle.wtf8.proofs.Common.{◌≡◌, ℕ, ◌+◌, ◌-◌, ◌*◌, ◌≤◌, List, ◌++◌, length, take, drop, ap, ◌∙◌, arith, append_assoc, length-drop, take_all}
+use Rattle.wtf8.proofs.Common.{take-append-drop, take-append-add, take-take}
 
 -- the first n items, of which as many are kept as stand before the last n, and then these
 pub ends_appended : (w v : List ℕ) (n end : ℕ) → end ≡ length w + (length v - n) → n ≤ length v → length v ≤ 2 * n

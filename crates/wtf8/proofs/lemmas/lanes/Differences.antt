@@ -1,11 +1,9 @@
 -- Bytes compared in lanes: what the mask of a block says of its bytes, and lists without a difference.
-use Rattle.wtf8.proofs.Common.{◌≡◌, ◌≢◌, ◌↔◌, ℕ, zero, suc, ◌+◌, ◌<◌, ◌≤◌, eqb, Bool, true, false, IsTrue, cond, not, inl, inr, refl, sym, ap, subst, arith, List}
-use Rattle.wtf8.proofs.Common.{[], ◌∷◌, ◌∙◌, map, length, get_or, nat_eq, take, take_all, cases_Bool, both_ways, eq-eqb, eqb-true, length-chunk, get_or-chunk, get_or-zip2, length-zip2, tops_compared, mask_l, w8, Option, ◌%◌, ◌^◌}
-use Rattle.wtf8.proofs.Common.{pointwise, bytes_decides, chunk, zip2, top, Nowhere}
-use Rattle.std.proofs.lemmas.Bool.{not-true}
-use Rattle.std.specs.Prelude.{⊤}
-use Rattle.wtf8.specs.private.Differences.{DifferAt, Tells}
-use Rattle.wtf8.specs.private.FirstPlace.{IsFirstBelow, IsFirstSet, IsSet}
+use Rattle.wtf8.proofs.Common.{◌≡◌, ◌≢◌, ◌↔◌, ℕ, zero, suc, ◌+◌, ◌<◌, ◌≤◌, eqb, Bool, true, false, IsTrue, cond, not, inl, inr, refl, sym, ap, subst, arith}
+use Rattle.wtf8.proofs.Common.{List, [], ◌∷◌, ◌∙◌, map, length, get_or, nat_eq, take, take_all, cases_Bool, both_ways, eq-eqb, eqb-true, length-chunk}
+use Rattle.wtf8.proofs.Common.{get_or-chunk, get_or-zip2, length-zip2, tops_compared, mask_l, w8, None, Some, Option, ◌%◌, ◌^◌, pointwise, bytes_decides, chunk}
+use Rattle.wtf8.proofs.Common.{zip2, top, IsLeast, Nowhere, not-true, MatchOption, ⊤, DifferAt, Tells, IsFirstSet, IsSet}
+use Rattle.wtf8.proofs.lemmas.lanes.Masks.{first_there, lowest_set, none_set}
 
 abbrev unlike : ℕ → ℕ → Bool
 unlike x y = not (eqb x y)
@@ -14,21 +12,35 @@ unlike_tells : (x y : ℕ) → IsTrue (unlike x y) ↔ (x ≢ y)
 unlike_tells x y =
     (λ t e. both_ways _ (not-true _ t) (eq-eqb x y e), λ d. elim (cases_Bool (eqb x y)) [ inl t ↦ absurd (d (eqb-true x y t)) | inr f ↦ rw f refl ])
 
--- the lanes in which two vectors differ, by which the mask is known, and the places where the bytes do
-abbrev pub unlikes : ℕ → List ℕ → List ℕ → ℕ → List Bool
-unlikes n w v i = zip2 unlike (chunk i n w) (chunk i n v)
+-- the lanes in which two vectors differ, their mask, and the places where the bytes do
+module _ (n : ℕ) (w v : List ℕ) (i : ℕ) (few : n ≤ 64) (own : i + n ≤ length w) (others : i + n ≤ length v) where
+  abbrev lanes : List Bool
+  lanes = zip2 unlike (chunk i n w) (chunk i n v)
 
-pub first_unlike : (n : ℕ) (w v : List ℕ) (i : ℕ) → n ≤ 64 → i + n ≤ length w → i + n ≤ length v → (r : Option ℕ)
-    → IsFirstSet (mask_l (map (top 7) (zip2 (λ a b. cond (unlike a b) 255 0) (chunk i n w) (chunk i n v))) % 2 ^ 64) r → IsFirstBelow (IsSet (unlikes n w v i)) 0 n r
-first_unlike n w v i few own others r first =
-    let one = length-chunk i n w own in
-    first n (unlikes n w v i) few (length-zip2 unlike (chunk i n w) (chunk i n v) (one ∙ sym (length-chunk i n v others)) ∙ one)
-    (ap (λ ms. mask_l ms % 2 ^ 64) (tops_compared w8 unlike (chunk i n w) (chunk i n v)))
+  abbrev mask : ℕ
+  mask = mask_l (map (top 7) (zip2 (λ a b. cond (unlike a b) 255 0) (chunk i n w) (chunk i n v))) % 2 ^ 64
 
-pub differ_there : (n : ℕ) (w v : List ℕ) (i : ℕ) → i + n ≤ length w → i + n ≤ length v → (k : ℕ) → k < n → IsSet (unlikes n w v i) k ↔ DifferAt w v (i + k)
-differ_there n w v i own others k l =
-    let here = get_or-zip2 unlike (chunk i n w) (chunk i n v) k 0 0 false (omega (arith, length-chunk i n w own, l)) (omega (arith, length-chunk i n v others, l)) in
-    subst (λ b. IsTrue b ↔ DifferAt w v (i + k)) (sym here) (rw (get_or-chunk i n w k 0 l, get_or-chunk i n v k 0 l) (unlike_tells _ _))
+  long : length lanes ≡ n
+  long = let one = length-chunk i n w own in length-zip2 unlike (chunk i n w) (chunk i n v) (one ∙ sym (length-chunk i n v others)) ∙ one
+
+  same : mask ≡ mask_l lanes % 2 ^ 64
+  same = ap (λ ms. mask_l ms % 2 ^ 64) (tops_compared w8 unlike (chunk i n w) (chunk i n v))
+
+  differ_there : (k : ℕ) → k < n → IsSet lanes k ↔ DifferAt w v (i + k)
+  differ_there k l =
+      let here = get_or-zip2 unlike (chunk i n w) (chunk i n v) k 0 0 false (omega (arith, length-chunk i n w own, l)) (omega (arith, length-chunk i n v others, l)) in
+      subst (λ b. IsTrue b ↔ DifferAt w v (i + k)) (sym here) (rw (get_or-chunk i n w k 0 l, get_or-chunk i n v k 0 l) (unlike_tells _ _))
+
+  pub first_unlike : (r : Option ℕ) → IsFirstSet mask r → MatchOption r (Nowhere (DifferAt w v) i (i + n)) (λ k. IsLeast (DifferAt w v) i (i + k) × (i + k < i + n))
+  first_unlike r first = first_there (DifferAt w v) lanes i n differ_there r (first n lanes few long same)
+
+  pub told_unlike : Tells ⊤ (DifferAt w v) i (i + n) (eqb mask 0)
+  told_unlike = elim (cases_Bool (eqb mask 0)) [
+    | inl t ↦ rw t (first_there (DifferAt w v) lanes i n differ_there None (none_set mask n lanes few long same (eqb-true mask 0 t)))
+    | inr f ↦ rw f (λ _ none.
+        let some = first_there (DifferAt w v) lanes i n differ_there (Some _) (lowest_set mask n lanes few long same (λ e. both_ways _ f (eq-eqb mask 0 e))) in
+        none _ some.0.not_before some.1 some.0.here)
+  ]
 
 -- lists with no difference before a place are the same up to there
 pub same_front : (n : ℕ) (w v : List ℕ) → n ≤ length w → n ≤ length v → Nowhere (DifferAt w v) 0 n → take n w ≡ take n v

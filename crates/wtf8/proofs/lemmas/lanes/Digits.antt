@@ -1,15 +1,9 @@
 -- Hexadecimal digits in lanes.
 use Rattle.wtf8.proofs.Common.{◌≡◌, ℕ, zero, suc, ◌+◌, ◌*◌, ◌/◌, ◌%◌, ◌<◌, ◌≤◌, false, cond, leb, ltb, inl, inr, List, [], ◌∷◌, ◌++◌, map, length, get_or, take}
-use Rattle.wtf8.proofs.Common.{drop, replicate, refl, sym, ap, ◌∙◌, subst, arith, w8, append_assoc, flat_map-append, lt-leb, cases_Bool, pick_l_whole, Each1, zip2}
-use Rattle.wtf8.proofs.Common.{hex_of, hex, spaced}
-use Rattle.std.proofs.Common.{flat_map, take-append-drop}
-use Rattle.std.proofs.Math.Seq.{take-add}
+use Rattle.wtf8.proofs.Common.{drop, replicate, refl, sym, ap, ◌∙◌, subst, arith, w8, append_assoc, flat_map-append, lt-leb, cases_Bool, pick_l_whole, Each1}
+use Rattle.wtf8.proofs.Common.{zip2, hex_of, hex, spaced, flat_map, take-append-drop, take-add, swz_l, zip2_splat, IsAscii-append, range_with_len, IsAscii}
 use Rattle.std.proofs.lemmas.List.FromFn.{get_or-map-range_with_len}
 use Rattle.std.proofs.lemmas.Nat.{and_mask}
-use Rattle.std.proofs.lemmas.Simd.{swz_l, zip2_splat}
-use Rattle.std.proofs.lemmas.Str.{IsAscii-append}
-use Rattle.std.specs.List.{range_with_len}
-use Rattle.std.specs.Str.{IsAscii}
 use borrow.Rule.Simd.Lanes.{act2}
 use borrow.Table.Row.{s_int}
 use mir.Syntax.{shr, unsigned, bit_and as bit_and_op}

@@ -1,16 +1,10 @@
 -- Masks: the lowest bit is that of the first lane that is set, and what this says of the places that the lanes are of.
 use Rattle.wtf8.proofs.Common.{◌≡◌, ◌↔◌, ℕ, zero, suc, ◌+◌, ◌-◌, ◌/◌, ◌%◌, ◌^◌, ◌<◌, ◌≤◌, eqb, Bool, true, false, not, cond, Option, Some, None, List, [], ◌∷◌}
-use Rattle.wtf8.proofs.Common.{map, length, take, replicate, refl, sym, ap, ◌∙◌, subst, arith, both_ways, cases_Bool, eqb-true, inl, inr, mask_l-mod, mask_l, top, zip2}
-use Rattle.wtf8.proofs.Common.{Each1, Nowhere, IsLeast, not-false, tops_compared, length-zip2, w8}
-use Rattle.std.proofs.lemmas.Bool.{not-true}
-use Rattle.std.proofs.lemmas.List.{length-replicate, map-id}
-use Rattle.std.proofs.lemmas.List.Sums.{prefix_len_passes, prefix_len_stops}
+use Rattle.wtf8.proofs.Common.{map, length, take, replicate, refl, sym, ap, ◌∙◌, subst, arith, both_ways, cases_Bool, eqb-true, inl, inr, mask_l-mod, mask_l}
+use Rattle.wtf8.proofs.Common.{top, zip2, Each1, Nowhere, IsLeast, not-false, tops_compared, length-zip2, w8, not-true, length-replicate, map-id}
+use Rattle.wtf8.proofs.Common.{prefix_len_passes, prefix_len_stops, prefix_len, unwrap_or, MatchOption, IsFirstBelow, IsFirstSet, IsSet, IsOfKind}
 use Rattle.std.proofs.lemmas.Simd.{leading_from_mask_l, trailing_mask_l}
-use Rattle.std.specs.List.{prefix_len}
-use Rattle.std.specs.Option.{unwrap_or}
 use lib.Count.{count_trailing_zeros}
-use Rattle.wtf8.specs.private.FirstPlace.{IsFirstBelow, IsFirstSet, IsSet}
-use Rattle.wtf8.specs.private.UnitRows.{IsOfKind}
 
 -- where some bit is set, so is some lane
 some_set : (bs : List Bool) → 0 < mask_l bs → prefix_len (λ b. not b) bs < length bs
@@ -37,30 +31,22 @@ module _ (bits n : ℕ) (lanes : List Bool) (few : n ≤ 64) (long : length lane
         omega (arith, some, long),
       )
 
--- lanes that are of the places from one on: the first lane with a property is of the first place with another one
-module _ (P Q : ℕ → Type 0) (i n : ℕ) (says : (k : ℕ) → k < n → P k ↔ Q (i + k)) where
-  pub none_there : (m : ℕ) → m ≤ n → Nowhere P 0 m → Nowhere Q i (i + m)
-  none_there m le none j low high q =
-      let place : i + (j - i) ≡ j = omega arith in
-      none (j - i) (omega arith) (omega arith) ((says (j - i) (omega arith)).1 (subst Q (sym place) q))
+-- lanes that are of the places from one on: the first that is set is of the first place with a property
+pub first_there : (P : ℕ → Type 0) (lanes : List Bool) (i n : ℕ) → ((k : ℕ) → k < n → IsSet lanes k ↔ P (i + k)) → (r : Option ℕ) → IsFirstBelow (IsSet lanes) 0 n r
+    → MatchOption r (Nowhere P i (i + n)) (λ k. IsLeast P i (i + k) × (i + k < i + n))
+first_there P lanes i n says r first = by r first
+  where
+    none : (m : ℕ) → m ≤ n → Nowhere (IsSet lanes) 0 m → Nowhere P i (i + m)
+    none m le unset j low high q =
+        let place : i + (j - i) ≡ j = omega arith in
+        unset (j - i) (omega arith) (omega arith) ((says (j - i) (omega arith)).1 (subst P (sym place) q))
 
-  pub first_there : (k : ℕ) → IsLeast P 0 k × (k < n) → IsLeast Q i (i + k) × (i + k < i + n)
-  first_there k h = (
-    record { not_before = omega arith; here = (says k h.1).0 h.0.here; none_between = none_there k (omega (arith, h.1)) h.0.none_between },
-    omega (arith, h.1),
-  )
-
--- the first lane with one of two properties that say the same
-pub same_first : (P Q : ℕ → Type 0) (n : ℕ) → ((k : ℕ) → k < n → P k ↔ Q k) → (r : Option ℕ) → IsFirstBelow P 0 n r → IsFirstBelow Q 0 n r
-same_first P Q n says None none = λ j low high q. none j low high ((says j high).1 q)
-same_first P Q n says (Some k) h = (
-  record {
-    not_before = h.0.not_before;
-    here = (says k h.1).0 h.0.here;
-    none_between = λ j low l q. h.0.none_between j low l ((says j (omega (arith, l, h.1))).1 q);
-  },
-  h.1,
-)
+    by : (r : Option ℕ) → IsFirstBelow (IsSet lanes) 0 n r → MatchOption r (Nowhere P i (i + n)) (λ k. IsLeast P i (i + k) × (i + k < i + n))
+    by None h = none n (omega arith) h
+    by (Some k) h = (
+      record { not_before = omega arith; here = (says k h.1).0 h.0.here; none_between = none k (omega (arith, h.1)) h.0.none_between },
+      omega (arith, h.1),
+    )
 
 -- the lanes that, divided by one number, are not another one
 abbrev pub kinds : ℕ → ℕ → List ℕ → List ℕ

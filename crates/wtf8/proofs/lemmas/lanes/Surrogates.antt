@@ -1,20 +1,14 @@
--- Lanes that show where surrogates stand, whether one stands there, and how many units begin.
-use Rattle.wtf8.proofs.Common.{◌≡◌, ◌↔◌, ℕ, zero, suc, ◌+◌, ◌%◌, ◌^◌, ◌<◌, ◌≤◌, eqb, ltb, leb, Bool, true, false, IsTrue, cond, List, [], ◌∷◌, map, length, get_or}
-use Rattle.wtf8.proofs.Common.{replicate, w8, inl, inr, sym, ap, ◌∙◌, arith, cases_lt, lt-ltb, le-ltb, le-leb, eq-eqb, eqb-true, length-zip2}
-use Rattle.wtf8.proofs.Common.{get_or-chunk, mask_l-mod, tops_compared, chunk, sel_l, zip2, mask_l, top, SurrogateAt, ◌||◌, bit_or, Fits, refl, lt-leb}
-use Rattle.wtf8.proofs.Common.{Each1, all_units_begun, Option, get_or-zip2}
-use Rattle.std.proofs.Common.{◌≡◌, ℕ, zero, suc, ◌+◌, ◌%◌, ◌^◌, ◌<◌, ◌≤◌, eqb, leb, Bool, true, false, cond, ◌&&◌, List, [], ◌∷◌, map, length, get_or}
-use Rattle.std.proofs.Common.{replicate, bit_and, w8, w16, refl, sym, ap, ◌∙◌, subst, arith}
-use Rattle.std.proofs.lemmas.Bool.{and_parts, and_from, leb-true, le-leb, eq-eqb, eqb-true}
-use Rattle.std.proofs.lemmas.List.{length-map, length-replicate}
-use Rattle.std.proofs.lemmas.List.Sums.{sum_by-cons}
-use Rattle.std.proofs.lemmas.Simd.{length-zip2, get_or-chunk, mask_l-mod}
-use Rattle.std.proofs.lemmas.Simd.{Each2-of, fold-sum, sum_bound, sum_fits, sum-zip2}
-use lib.Lanes.{chunk, zip2, mask_l, top, Each2, Steps, fold_l, sum_l}
-use Rattle.wtf8.proofs.lemmas.lanes.Masks.{same_first}
-use Rattle.wtf8.specs.private.FirstPlace.{IsFirstBelow, IsFirstSet, IsSet}
-use Rattle.wtf8.specs.private.SurrogateSearch.{BeginsInLane, SurrogateAt}
-use Rattle.wtf8.specs.private.UnitCounts.{HasLane, units_begun}
+-- Lanes that show where surrogates stand, and whether one stands there.
+use Rattle.wtf8.proofs.Common.{◌≡◌, ◌↔◌, ℕ, zero, suc, ◌+◌, ◌%◌, ◌^◌, ◌<◌, ◌≤◌, eqb, leb, Bool, true, false, IsTrue, cond, List, [], ◌∷◌, map, length}
+use Rattle.wtf8.proofs.Common.{get_or, replicate, w8, sym, ap, ◌∙◌, arith, le-leb, eq-eqb, eqb-true, length-zip2}
+use Rattle.wtf8.proofs.Common.{get_or-chunk, tops_compared, chunk, zip2, mask_l, top, SurrogateAt, refl}
+use Rattle.wtf8.proofs.Common.{Option, get_or-zip2, ◌&&◌, bit_and, subst, and_parts, and_from, leb-true, length-chunk}
+use Rattle.wtf8.proofs.Common.{MatchOption, get_or-replicate, length-replicate}
+use lib.Lanes.{chunk, zip2, mask_l, top}
+use Rattle.wtf8.proofs.lemmas.lanes.Masks.{first_there, none_set}
+use Rattle.wtf8.specs.private.FirstPlace.{IsFirstSet, IsLeast, IsSet, Nowhere}
+use Rattle.wtf8.specs.private.SurrogateSearch.{SurrogateAt}
+use Rattle.wtf8.specs.private.UnitCounts.{HasLane}
 
 -- The search in lanes: the mask of two vectors.
 
@@ -41,158 +35,34 @@ tops n (x ∷ xs) [] p q = absurd (omega arith)
 tops zero (x ∷ xs) (y ∷ ys) p q = absurd (omega arith)
 tops (suc n) (x ∷ xs) (y ∷ ys) p q = λ i. both (eqb x 0xED) (leb 0xA0 y) i ∷ tops n xs ys (omega arith) (omega arith) i
 
-begins_in_lane : (n : ℕ) (xs ys : List ℕ) → length xs ≡ n → length ys ≡ n → (k : ℕ) → k < n → IsSet (zip2 test xs ys) k ↔ BeginsInLane xs ys k
-begins_in_lane n xs ys p q k l =
-    subst (λ b. IsTrue b ↔ BeginsInLane xs ys k) (sym (get_or-zip2 test xs ys k 0 0 false (omega (arith, p, l)) (omega (arith, q, l)))) (
-      λ e. let parts = and_parts _ _ e in (eqb-true _ 0xED parts.0, leb-true 0xA0 _ parts.1),
-      λ h. and_from _ _ (eq-eqb _ 0xED h.0) (le-leb 0xA0 _ h.1),
-    )
-
--- the first lane in which a surrogate begins
-pub first_begins : (xs ys : List ℕ) → length xs ≡ 32 → length ys ≡ 32 → (r : Option ℕ)
-    → IsFirstSet (mask_l (map (top 7) (compared 32 xs ys)) % 2 ^ 64) r → IsFirstBelow (BeginsInLane xs ys) 0 32 r
-first_begins xs ys p q r first =
-    same_first _ _ 32 (begins_in_lane 32 xs ys p q) r
-    (first 32 (zip2 test xs ys) (omega arith) (length-zip2 test xs ys (p ∙ sym q) ∙ p) (ap (λ ms. mask_l ms % 2 ^ 64) (tops 32 xs ys p q)))
-
 -- vectors of the bytes from a place on and from one further
-pub begins_there : (w : List ℕ) (i : ℕ) → i + 32 < length w → (k : ℕ) → k < 32 → BeginsInLane (chunk i 32 w) (chunk (i + 1) 32 w) k ↔ SurrogateAt w (i + k)
+begins_there : (w : List ℕ) (i : ℕ) → i + 32 < length w → (k : ℕ) → k < 32 → IsSet (zip2 test (chunk i 32 w) (chunk (i + 1) 32 w)) k ↔ SurrogateAt w (i + k)
 begins_there w i room k l =
-    let first : get_or (chunk i 32 w) k 0 ≡ get_or w (i + k) 0 = get_or-chunk i 32 w k 0 l in
-    let second : get_or (chunk (i + 1) 32 w) k 0 ≡ get_or w (i + k + 1) 0 = get_or-chunk (i + 1) 32 w k 0 l ∙ ap (λ m. get_or w m 0) (omega arith) in (
-      λ h. record { within = omega arith; first = sym first ∙ h.0; second = omega (arith, second, h.1) },
-      λ s. (first ∙ s.first, omega (arith, second, s.second)),
-    )
+    let next : get_or (chunk (i + 1) 32 w) k 0 ≡ get_or w (i + k + 1) 0 = get_or-chunk (i + 1) 32 w k 0 l ∙ ap (λ m. get_or w m 0) (omega arith) in
+    let within : i + k + 1 < length w = omega arith in
+    let here = get_or-zip2 test (chunk i 32 w) (chunk (i + 1) 32 w) k 0 0 false (omega (arith, length-chunk i 32 w (omega arith), l))
+    (omega (arith, length-chunk (i + 1) 32 w (omega arith), l)) in
+    subst (λ b. IsTrue b ↔ SurrogateAt w (i + k)) (sym here) (rw (get_or-chunk i 32 w k 0 l, next) (
+      λ e. let parts = and_parts _ _ e in record { within = within; first = eqb-true _ 0xED parts.0; second = leb-true 0xA0 _ parts.1 },
+      λ s. and_from _ _ (eq-eqb _ 0xED s.first) (le-leb 0xA0 _ s.second),
+    ))
+
+-- the first place at which a surrogate begins
+pub first_begins : (w : List ℕ) (i : ℕ) → i + 32 < length w → (r : Option ℕ) → IsFirstSet (mask_l (map (top 7) (compared 32 (chunk i 32 w) (chunk (i + 1) 32 w))) % 2 ^ 64) r
+    → MatchOption r (Nowhere (SurrogateAt w) i (i + 32)) (λ k. IsLeast (SurrogateAt w) i (i + k) × (i + k < i + 32))
+first_begins w i room r first =
+    let p = length-chunk i 32 w (omega arith) in
+    let q = length-chunk (i + 1) 32 w (omega arith) in
+    first_there (SurrogateAt w) _ i 32 (begins_there w i room) r (first 32 (zip2 test (chunk i 32 w) (chunk (i + 1) 32 w)) (omega arith)
+    (length-zip2 test (chunk i 32 w) (chunk (i + 1) 32 w) (p ∙ sym q) ∙ p) (ap (λ ms. mask_l ms % 2 ^ 64) (tops 32 (chunk i 32 w) (chunk (i + 1) 32 w) p q)))
 
 -- an empty mask of the lanes that are no less than a number
-none_high : (n least : ℕ) (xs : List ℕ) → length xs ≡ n → mask_l (zip2 leb (replicate n least) xs) ≡ 0 → (k : ℕ) → k < length xs → least ≤ get_or xs k 0 → ⊥
-none_high n least [] p e k l h = absurd (omega arith)
-none_high zero least (x ∷ xs) p e k l h = absurd (omega arith)
-none_high (suc n) least (x ∷ xs) p e zero l h = absurd (omega (arith, rw (le-leb least x h) at e))
-none_high (suc n) least (x ∷ xs) p e (suc k) l h = none_high n least xs (omega arith) (omega (arith, e)) k (omega arith) h
-
 pub none_at_least : (n least : ℕ) (xs : List ℕ) → n ≤ 64 → length xs ≡ n
     → IsTrue (eqb (mask_l (map (top 7) (zip2 (λ a b. lane (leb a b)) (replicate n least) xs)) % 2 ^ 64) 0) → ¬ (HasLane least xs)
 none_at_least n least xs few p t h =
     let rest = length-replicate n least in
     let long : length (zip2 leb (replicate n least) xs) ≡ n = length-zip2 leb (replicate n least) xs (rest ∙ sym p) ∙ rest in
-    let told = ap (λ ms. mask_l ms % 2 ^ 64) (tops_compared w8 leb (replicate n least) xs)
-    ∙ mask_l-mod (zip2 leb (replicate n least) xs) 64 (omega (arith, long, few)) in
-    none_high n least xs p (sym told ∙ eqb-true _ 0 t) h.0 h.1.0 h.1.1
-
--- Units counted in lanes: what a block's lanes add up to.
-
-pub begun_low : (b : ℕ) → b < 0x80 → units_begun b ≡ 1
-unfolding units_begun
-begun_low b h = rw (lt-ltb b 0x80 h) refl
-
-pub begun_inside : (b : ℕ) → 0x80 ≤ b → b < 0xC0 → units_begun b ≡ 0
-unfolding units_begun
-begun_inside b l h = rw (le-ltb b 0x80 l, lt-ltb b 0xC0 h) refl
-
-pub begun_one : (b : ℕ) → 0xC0 ≤ b → b < 0xF0 → units_begun b ≡ 1
-unfolding units_begun
-begun_one b l h = rw (le-ltb b 0x80 (omega arith), le-ltb b 0xC0 l, lt-ltb b 0xF0 h) refl
-
-pub begun_two : (b : ℕ) → 0xF0 ≤ b → units_begun b ≡ 2
-unfolding units_begun
-begun_two b l = rw (le-ltb b 0x80 (omega arith), le-ltb b 0xC0 (omega arith), le-ltb b 0xF0 l) refl
-
-pub begun_most : (b : ℕ) → units_begun b ≤ 2
-begun_most b = elim (cases_lt b 0x80) [
-  | inl h ↦ omega (arith, begun_low b h)
-  | inr k ↦ elim (cases_lt b 0xC0) [
-    | inl h ↦ omega (arith, begun_inside b k h)
-    | inr l ↦ elim (cases_lt b 0xF0) [ inl h ↦ omega (arith, begun_one b l h) | inr h ↦ omega (arith, begun_two b h) ]
-  ]
-]
-
--- the lanes where a code point begins, and where one of four bytes does
-abbrev pub begins : ℕ → List ℕ → List Bool
-begins n xs = map (top 7) (zip2 bit_or (zip2 (λ a b. lane (ltb a b)) xs (replicate n 0x80)) (zip2 (λ a b. lane (leb a b)) (replicate n 0xC0) xs))
-
-abbrev pub pairs : ℕ → List ℕ → List Bool
-pairs n xs = map (top 7) (zip2 (λ a b. lane (leb a b)) (replicate n 0xF0) xs)
-
--- 1 where a lane is set
-abbrev pub ones : ℕ → List Bool → List ℕ
-ones n ms = sel_l ms (replicate n 1) (replicate n 0)
-
-abbrev pub counts : ℕ → List ℕ → List ℕ
-counts n xs = zip2 (λ a b. a + b) (ones n (begins n xs)) (ones n (pairs n xs))
-
-either : (a b : Bool) → top 7 (bit_or (lane a) (lane b)) ≡ a || b
-either true true = refl
-either true false = refl
-either false true = refl
-either false false = refl
-
-alone : (a : Bool) → top 7 (lane a) ≡ a
-alone true = refl
-alone false = refl
-
-lane_count : (x : ℕ) → cond (ltb x 0x80 || leb 0xC0 x) 1 0 + cond (leb 0xF0 x) 1 0 ≡ units_begun x
-lane_count x = elim (cases_lt x 0x80) [
-  | inl h ↦ rw (lt-ltb x 0x80 h, lt-leb 0xF0 x (omega arith), begun_low x h) refl
-  | inr k ↦ elim (cases_lt x 0xC0) [
-    | inl h ↦ rw (le-ltb x 0x80 k, lt-leb 0xC0 x h, lt-leb 0xF0 x (omega arith), begun_inside x k h) refl
-    | inr l ↦ elim (cases_lt x 0xF0) [
-      | inl h ↦ rw (le-ltb x 0x80 k, le-leb 0xC0 x l, lt-leb 0xF0 x h, begun_one x l h) refl
-      | inr h ↦ rw (le-ltb x 0x80 k, le-leb 0xC0 x l, le-leb 0xF0 x h, begun_two x h) refl
-    ]
-  ]
-]
-
-lane_counts : (x : ℕ) → cond (top 7 (bit_or (lane (ltb x 0x80)) (lane (leb 0xC0 x)))) 1 0 + cond (top 7 (lane (leb 0xF0 x))) 1 0 ≡ units_begun x
-lane_counts x = rw (either (ltb x 0x80) (leb 0xC0 x), alone (leb 0xF0 x)) (lane_count x)
-
-pub counts_are : (n : ℕ) (xs : List ℕ) → length xs ≡ n → counts n xs ≡ map units_begun xs
-counts_are n [] e = refl
-counts_are zero (x ∷ xs) e = absurd (omega arith)
-counts_are (suc n) (x ∷ xs) e = λ i. lane_counts x i ∷ counts_are n xs (omega arith) i
-
-small : (n : ℕ) (ms : List Bool) → Each1 (λ a. a ≤ 1) (ones n ms)
-small n [] = tt
-small zero (m ∷ ms) = tt
-small (suc n) (true ∷ ms) = (omega arith, small n ms)
-small (suc n) (false ∷ ms) = (omega arith, small n ms)
-
--- the sums of lanes fit a byte
-pub lanes_fit : (n : ℕ) (ms ks : List Bool) → Each2 (λ a b. Fits w8 (a + b)) (ones n ms) (ones n ks)
-lanes_fit n ms ks =
-    Each2-of (λ a. a ≤ 1) (λ b. b ≤ 1) (λ a b. Fits w8 (a + b)) (λ a b h k. record { fits = omega arith }) (ones n ms) (ones n ks) (small n ms) (small n ks)
-
-at_most_two : (xs : List ℕ) → Each1 (λ a. a ≤ 2) (map units_begun xs)
-at_most_two [] = tt
-at_most_two (x ∷ xs) = (begun_most x, at_most_two xs)
-
-sum_same : (xs : List ℕ) → sum_l (map units_begun xs) ≡ all_units_begun xs
-sum_same [] = refl
-sum_same (x ∷ xs) = ap (λ n. units_begun x + n) (sum_same xs) ∙ sym (sum_by-cons units_begun x xs)
-
--- so does the sum of all lanes
-pub sum_fits_byte : (xs : List ℕ) → length xs ≤ 64 → Steps (λ s x. Fits w8 (s + x)) (λ s x. s + x) 0 (map units_begun xs)
-sum_fits_byte xs h =
-    let bound = sum_bound 2 (map units_begun xs) (at_most_two xs) in
-    sum_fits w8 0 (map units_begun xs) (omega (arith, length-map xs units_begun))
-
-pub sum_is : (xs : List ℕ) → fold_l (λ s x. s + x) 0 (map units_begun xs) ≡ all_units_begun xs
-sum_is xs = omega (arith, fold-sum 0 (map units_begun xs), sum_same xs)
-
--- lanes to which the counts of a block are added
-pub lanes_fit_more : (most : ℕ) (lanes xs : List ℕ) → most + 2 ≤ 255 → Each1 (λ a. a ≤ most) lanes
-    → Each2 (λ a b. Fits w8 (a + b)) lanes (map units_begun xs)
-lanes_fit_more most lanes xs few h =
-    Each2-of (λ a. a ≤ most) (λ b. b ≤ 2) (λ a b. Fits w8 (a + b)) (λ a b l m. record { fits = omega arith }) lanes (map units_begun xs) h (at_most_two xs)
-
-pub lanes_grow : (most : ℕ) (lanes xs : List ℕ) → Each1 (λ a. a ≤ most) lanes → Each1 (λ a. a ≤ most + 2) (zip2 (λ a b. a + b) lanes (map units_begun xs))
-lanes_grow most [] xs h = tt
-lanes_grow most (a ∷ lanes) [] h = tt
-lanes_grow most (a ∷ lanes) (x ∷ xs) h = (omega (arith, h.0, begun_most x), lanes_grow most lanes xs h.1)
-
-pub sums_grow : (lanes xs : List ℕ) → length lanes ≡ length xs → sum_l (zip2 (λ a b. a + b) lanes (map units_begun xs)) ≡ sum_l lanes + all_units_begun xs
-sums_grow lanes xs e = omega (arith, sum-zip2 lanes (map units_begun xs) (e ∙ sym (length-map xs units_begun)), sum_same xs)
-
--- the sum of lanes that eight blocks were added to
-pub sum_fits_two_bytes : (lanes : List ℕ) → length lanes ≡ 64 → Each1 (λ a. a ≤ 16) lanes → Steps (λ s x. Fits w16 (s + x)) (λ s x. s + x) 0 lanes
-sum_fits_two_bytes lanes e h = sum_fits w16 0 lanes (omega (arith, sum_bound 16 lanes h, e))
+    let set : IsSet (zip2 leb (replicate n least) xs) h.0 =
+    get_or-zip2 leb (replicate n least) xs h.0 0 0 false (omega (arith, rest, p, h.1.0)) h.1.0 ∙ rw (get_or-replicate n h.0 least 0 (omega (arith, p, h.1.0))) (le-leb least _ h.1.1) in
+    none_set _ n (zip2 leb (replicate n least) xs) few long (ap (λ ms. mask_l ms % 2 ^ 64) (tops_compared w8 leb (replicate n least) xs)) (eqb-true _ 0 t)
+    h.0 (omega arith) (omega (arith, p, h.1.0)) set

@@ -1,25 +1,19 @@
 -- The laws that are called by value: of the views that a caller has at hand.
-use Rattle.wtf8.proofs.Common.{◌≡◌, ◌<◌, ◌+◌, ℕ, List, [], ◌∷◌, ◌++◌, ◌∙◌, ◌↔◌, refl, ap, sym, subst, arith, get_or, length, length-append, take, take_at, append_assoc}
-use Rattle.wtf8.proofs.Common.{units, bytes, Reads, IsForm, IsBack, Wtf8, view_units, view_form, AreScalar, lossy, chars, bytes_are_encodes}
-use Rattle.wtf8.proofs.Common.{All, IsUnit, number, numbers, Drains, Option, Run, Build}
-use Rattle.wtf8.specs.declared.numbers.code_point.CodePoint.{CodePoint}
-use Rattle.std.proofs.Common.{slice_index}
+use Rattle.wtf8.proofs.Common.{◌≡◌, ◌<◌, ◌+◌, ℕ, List, [], ◌∷◌, ◌++◌, ◌∙◌, ◌↔◌, refl, ap, sym, subst, arith, get_or, length, length-append, take, take_at}
+use Rattle.wtf8.proofs.Common.{append_assoc, units, bytes, Reads, IsForm, IsBack, Wtf8, view_units, view_form, AreScalar, lossy, chars, bytes_are_encodes, All}
+use Rattle.wtf8.proofs.Common.{IsUnit, number, numbers, Drains, Option, Run, Build, CodePoint, slice_index, YieldsList-from_first, chars-encodes}
+use Rattle.wtf8.proofs.Common.{get_or-append_seam, take_source, take_count, skip_source, skip_count, view_points}
 use Rattle.std.proofs.lemmas.Iterator.{YieldsList, items_from_drains, YieldsList-from_take}
 use Rattle.std.proofs.lemmas.Iterator.Adapters.{YieldsList-from_skip}
-use Rattle.std.proofs.lemmas.Iterator.Consumers.{YieldsList-from_first}
-use Rattle.std.proofs.lemmas.Str.{chars-encodes}
-use Rattle.std.proofs.Math.Seq.{get_or-append_seam}
-use Rattle.std.specs.Iterator.Adapters.{take_source, take_count, skip_source, skip_count}
 use Rattle.wtf8.specs.PointLaws.{DrainedPointsAreLeft, DrainedPointsAreTaken, DrainedPointsAreBehind}
 use Rattle.wtf8.specs.PointLaws.{CollectedPointsAreLeft, CollectedPointsAreTaken, CollectedPointsAreBehind}
 use Rattle.wtf8.specs.StringLaws.{CharactersComeBack}
-use Rattle.wtf8.specs.View.{view_points}
-use Rattle.wtf8.proofs.lemmas.numbers.Encoding.{encoding_one, bytes-append, bytes-pushed}
+use Rattle.wtf8.proofs.lemmas.numbers.Encoding.{encoding_one, bytes-append, bytes-pushed, encoding_same}
 use Rattle.wtf8.proofs.lemmas.numbers.Readings.{clean-append, no_lead, no_trail, same_reading, units_one, units-append}
-use Rattle.wtf8.proofs.lemmas.strings.Concatenation.{equal_forms, one_form, units_read}
+use Rattle.wtf8.proofs.lemmas.strings.Concatenation.{equal_forms, one_form, units_read, one_reading, none_begins_another}
 use Rattle.wtf8.proofs.lemmas.strings.Gains.{all_back}
 use Rattle.wtf8.proofs.lemmas.strings.Surrogates.{scalars_true, scalars-lossy}
-use Rattle.wtf8.proofs.lemmas.laws.Laws.{run_once}
+use Rattle.wtf8.proofs.lemmas.laws.StringLaws.{run_once, runs_add, texts_scalar, scalars_stay}
 
 -- the code points of a view are the one reading of its units
 pub view_reads : (t : Wtf8) → Reads (view_points t) (view_units t)
@@ -138,3 +132,6 @@ collected_front s points d =
 pub collected_back : CollectedPointsAreBehind
 collected_back s points d =
     items_from_drains points d (YieldsList-from_skip (skip_count s) (YieldsList-from_first number (λ c. c) (skip_source s) refl) refl)
+
+-- what laws state of which the proof is a lemma
+pub ruleset laws = (one_reading, units_read, none_begins_another, encoding_same, run_once, runs_add, texts_scalar, scalars_stay, characters_again, view_reads, one_view_reading, view_characters, lossy_characters)

@@ -1,11 +1,9 @@
 -- The bytes of a code point, of a list of code points, and what a first byte says.
-use Rattle.wtf8.proofs.Common.{◌≡◌, ℕ, zero, suc, ◌+◌, ◌/◌, ◌%◌, ◌<◌, ◌≤◌, ◌⊎◌, inl, inr, List, [], ◌∷◌, ◌++◌, length, get_or, refl, sym, ap, ◌∙◌, arith, lt-ltb, length-append}
-use Rattle.wtf8.proofs.Common.{le-ltb, cases_lt, append-nil, flat_map-append, IsSurrogate, bytes, encoding_is_encode, ◌-◌, ◌*◌, subst, IsCodePoint, encoding}
-use Rattle.wtf8.proofs.Common.{BeginsWithPoint}
+use Rattle.wtf8.proofs.Common.{◌≡◌, ℕ, zero, suc, ◌+◌, ◌/◌, ◌%◌, ◌<◌, ◌≤◌, ◌⊎◌, inl, inr, List, [], ◌∷◌, ◌++◌, length, get_or, refl, sym, ap, ◌∙◌, arith}
+use Rattle.wtf8.proofs.Common.{lt-ltb, length-append, le-ltb, cases_lt, append-nil, flat_map-append, IsSurrogate, bytes, encoding_is_encode, ◌-◌, ◌*◌, subst}
+use Rattle.wtf8.proofs.Common.{IsCodePoint, encoding, BeginsWithPoint, encode_same, FrontSays}
 use Rattle.std.proofs.Math.Nat.{div-div-eq-div-mul}
-use Rattle.std.proofs.lemmas.Str.{encode_same}
 use Rattle.wtf8.specs.Form.{encoding}
-use Rattle.wtf8.specs.private.Gains.{FrontSays}
 
 -- The encoding of code points: its bytes in each row of the table, its length, and which bytes begin one.
 
@@ -62,6 +60,15 @@ first-encoding p r = elim (row_of p) [
   | four l e ↦ rw e (record { start = inr (omega arith) })
 ]
 
+-- a code point whose first byte is below 80 is that number
+pub own_byte : (p : ℕ) (r : List ℕ) → get_or (encoding p ++ r) 0 0 < 0x80 → (encoding p ≡ p ∷ []) × (p < 0x80)
+own_byte p r h = elim (row_of p) [
+  | one l e ↦ (e, l)
+  | two l _ e ↦ absurd (omega (arith, rw e at h))
+  | three l _ e ↦ absurd (omega (arith, rw e at h))
+  | four l e ↦ absurd (omega (arith, rw e at h))
+]
+
 -- each byte is from 80 to BF
 abbrev AreInside : List ℕ → Type 0
 AreInside [] = Unit {0}
@@ -94,6 +101,9 @@ length-encoding_bounds p = elim (row_of p) [
 
 pub length-surrogate : (p : ℕ) → IsSurrogate p → length (encoding p) ≡ 3
 length-surrogate p s = ap length (encoding_three p (omega arith) (omega arith))
+
+-- the rows of the table and how long they are
+pub ruleset rows = (encoding_one, encoding_two, encoding_three, encoding_four, length-encoding_bounds)
 
 -- the bytes of a list, and of one with a code point more
 pub bytes-append : (c d : List ℕ) → bytes (c ++ d) ≡ bytes c ++ bytes d

@@ -1,8 +1,8 @@
 -- Code points and their units, leads that meet trails, and the one list of code points that reads given units.
-use Rattle.wtf8.proofs.Common.{◌≡◌, ℕ, ◌⊎◌, inl, inr, List, [], ◌∷◌, ◌++◌, drop, get_or, length, true, ◌&&◌, leb, refl, sym, ap, ◌∙◌, subst, arith, length-append}
-use Rattle.wtf8.proofs.Common.{leb-true, le-leb, and_parts, cases_Bool, false≢true, same_from_push, IsLead, IsTrail, MeetsAsPair, ◌+◌, ◌-◌, ◌*◌, ◌/◌, ◌%◌, ◌<◌, ◌≤◌}
-use Rattle.wtf8.proofs.Common.{lt-ltb, le-ltb, cases_lt, append-nil, flat_map-append, units, pair, encoding, bytes, IsCodePoint, IsClean, drop_at}
-use Rattle.wtf8.proofs.Common.{bytes-injective, Reads, IsWellFormed, IsForm, BeginsWithPoint, length-drop, drop-drop}
+use Rattle.wtf8.proofs.Common.{◌≡◌, ℕ, ◌⊎◌, inl, inr, List, [], ◌∷◌, ◌++◌, drop, get_or, length, true, refl, sym, ap, ◌∙◌, subst, arith}
+use Rattle.wtf8.proofs.Common.{length-append, le-leb, cases_Bool, false≢true, same_from_push, IsLead, IsTrail, MeetsAsPair, ◌+◌, ◌-◌, ◌*◌}
+use Rattle.wtf8.proofs.Common.{◌/◌, ◌%◌, ◌<◌, ◌≤◌, lt-ltb, le-ltb, cases_lt, append-nil, flat_map-append, units, pair, encoding, bytes, IsCodePoint, IsClean}
+use Rattle.wtf8.proofs.Common.{drop_at, bytes-injective, Reads, IsWellFormed, IsForm, BeginsWithPoint, length-drop, drop-drop, nat_tests, false, cond}
 use Rattle.wtf8.specs.Concatenation.{is_pair}
 use Rattle.wtf8.specs.PositionLaws.{ListsHaveLengths}
 use Rattle.wtf8.specs.Unicode.{units_of}
@@ -16,11 +16,7 @@ pair_true l t h k = rw (le-leb 0xD800 l h.0, le-leb l 0xDBFF h.1, le-leb 0xDC00 
 
 pub true_pair : (l t : ℕ) → is_pair l t ≡ true → IsLead l × IsTrail t
 unfolding is_pair
-true_pair l t e =
-    let both = and_parts (leb 0xD800 l && leb l 0xDBFF) (leb 0xDC00 t && leb t 0xDFFF) e in
-    let lead = and_parts (leb 0xD800 l) (leb l 0xDBFF) both.0 in
-    let trail = and_parts (leb 0xDC00 t) (leb t 0xDFFF) both.1 in
-    ((leb-true 0xD800 l lead.0, leb-true l 0xDBFF lead.1), (leb-true 0xDC00 t trail.0, leb-true t 0xDFFF trail.1))
+true_pair l t e = ((grind (arith, nat_tests), grind (arith, nat_tests)), (grind (arith, nat_tests), grind (arith, nat_tests)))
 
 -- lists that are known to end and to begin so
 abbrev pub meets_by : {c d : List ℕ} (f r : List ℕ) (l t : ℕ) → IsLead l → IsTrail t → c ≡ f ++ l ∷ [] → d ≡ t ∷ r → MeetsAsPair c d
@@ -157,10 +153,6 @@ clean-apart (p ∷ q ∷ c) d x m = clean-apart (q ∷ c) d x.2 (meets_before p 
 pub same_heads : (p q : ℕ) (r s : List ℕ) → p ∷ r ≡ q ∷ s → (p ≡ q) × (r ≡ s)
 same_heads p q r s e = (ap (λ w. get_or w 0 0) e, ap (drop 1) e)
 
-units_nonempty : (p : ℕ) (c : List ℕ) → 0 < length (units (p ∷ c))
-units_nonempty p c =
-    elim (cases_lt p 0x10000) [ inl h ↦ omega (arith, ap length (units-cons_one p c h)) | inr h ↦ omega (arith, ap length (units-cons_two p c h)) ]
-
 -- where a trail is the first unit it is the first code point
 pub trail_first : (p : ℕ) (c : List ℕ) (t : ℕ) (r : List ℕ) → IsClean (p ∷ c) → units (p ∷ c) ≡ t ∷ r → IsTrail t → p ≡ t
 trail_first p c t r x e h = elim (cases_lt p 0x10000) [
@@ -171,36 +163,36 @@ trail_first p c t r x e h = elim (cases_lt p 0x10000) [
       absurd (omega arith)
 ]
 
--- a code point of one unit and one of two never begin readings of the same units
-apart : (p q : ℕ) (c d : List ℕ) → IsClean (p ∷ c) → IsClean (q ∷ d) → p < 0x10000 → 0x10000 ≤ q → units (p ∷ c) ≡ units (q ∷ d) → ⊥
-apart p q [] d x y l h e = omega (arith, ap length (sym (units-cons_one p [] l) ∙ (e ∙ units-cons_two q d h)))
-apart p q (s ∷ c) d x y l h e =
-    let range = clean-first q d y in
-    let heads = same_heads p (lead_of q) (units (s ∷ c)) (trail_of q ∷ units d) (sym (units-cons_one p (s ∷ c) l) ∙ (e ∙ units-cons_two q d h)) in
-    let first = trail_first s c (trail_of q) (units d) x.2 heads.1 (omega arith, omega arith) in
-    x.1 ((omega (arith, heads.0), omega (arith, heads.0)), (omega (arith, first), omega (arith, first)))
+-- the code points that units are read as, from the front on, and that they come back in a clean list
+abbrev read : List ℕ → List ℕ
+read [] = []
+read (l ∷ []) = l ∷ []
+read (l ∷ t ∷ u) = cond (is_pair l t) (pair l t ∷ read u) (l ∷ read (t ∷ u))
+
+not_pair : (l t : ℕ) → ¬ (IsLead l × IsTrail t) → is_pair l t ≡ false
+not_pair l t n = elim (cases_Bool (is_pair l t)) [ inl e ↦ absurd (n (true_pair l t e)) | inr e ↦ e ]
+
+read_one : (p : ℕ) (c : List ℕ) → IsClean (p ∷ c) → read (units c) ≡ c → read (p ∷ units c) ≡ p ∷ c
+read_one p [] x e = refl
+read_one p (q ∷ d) x e = elim (cases_lt q 0x10000) [
+  | inl h ↦ rw (units-cons_one q d h, not_pair p q x.1) (ap (λ r. p ∷ r) (rw (units-cons_one q d h) at e))
+  | inr h ↦
+      let range = clean-first q d x.2 in
+      rw (units-cons_two q d h, not_pair p (lead_of q) (λ m. omega (arith, range, m.1))) (ap (λ r. p ∷ r) (rw (units-cons_two q d h) at e))
+]
+
+read_again : (c : List ℕ) → IsClean c → read (units c) ≡ c
+read_again [] x = refl
+read_again (p ∷ c) x = elim (cases_lt p 0x10000) [
+  | inl h ↦ rw (units-cons_one p c h) (read_one p c x (read_again c (clean-rest p c x)))
+  | inr h ↦
+      let range = clean-first p c x in
+      let same : pair (lead_of p) (trail_of p) ≡ p = omega arith in
+      rw (units-cons_two p c h, pair_true (lead_of p) (trail_of p) (omega arith, omega arith) (omega arith, omega arith)) (cc (same, read_again c (clean-rest p c x)))
+]
 
 pub same_reading : (c d : List ℕ) → IsClean c → IsClean d → units c ≡ units d → c ≡ d
-same_reading [] [] x y e = refl
-same_reading [] (q ∷ d) x y e = absurd (omega (arith, ap length e, units_nonempty q d))
-same_reading (p ∷ c) [] x y e = absurd (omega (arith, ap length e, units_nonempty p c))
-same_reading (p ∷ c) (q ∷ d) x y e = elim (cases_lt p 0x10000) [
-  | inl h ↦ elim (cases_lt q 0x10000) [
-    | inl k ↦
-        let parts = same_heads p q (units c) (units d) (sym (units-cons_one p c h) ∙ (e ∙ units-cons_one q d k)) in
-        ap (λ n. n ∷ c) parts.0 ∙ ap (λ r. q ∷ r) (same_reading c d (clean-rest p c x) (clean-rest q d y) parts.1)
-    | inr k ↦ absurd (apart p q c d x y h k e)
-  ]
-  | inr h ↦ elim (cases_lt q 0x10000) [
-    | inl k ↦ absurd (apart q p d c y x k h (sym e))
-    | inr k ↦
-        let leads = same_heads (lead_of p) (lead_of q) (trail_of p ∷ units c) (trail_of q ∷ units d)
-        (sym (units-cons_two p c h) ∙ (e ∙ units-cons_two q d k)) in
-        let trails = same_heads (trail_of p) (trail_of q) (units c) (units d) leads.1 in
-        let same : p ≡ q = omega (arith, leads.0, trails.0) in
-        ap (λ n. n ∷ c) same ∙ ap (λ r. q ∷ r) (same_reading c d (clean-rest p c x) (clean-rest q d y) trails.1)
-  ]
-]
+same_reading c d x y e = sym (read_again c x) ∙ (ap read e ∙ read_again d y)
 
 pub reads_same : {c d u : List ℕ} → Reads c u → Reads d u → c ≡ d
 reads_same {c} {d} x y = same_reading c d x.clean y.clean (x.same_units ∙ sym y.same_units)
@@ -239,40 +231,36 @@ empty_at e = record { points = []; clean = tt; encoded = sym e }
 abbrev pub moved : {v w : List ℕ} → IsWellFormed v → w ≡ v → IsWellFormed w
 moved h e = record { points = h.points; clean = h.clean; encoded = h.encoded ∙ sym e }
 
--- the first code point of a string, and what is behind it
-pub record FirstOf (c w : List ℕ) : Type 0 where
-  pub begins : BeginsWithPoint w
-  pub behind : IsWellFormed begins.rest
-  pub points : c ≡ begins.point ∷ behind.points
-
-first_by : (c w : List ℕ) → IsClean c → bytes c ≡ w → 0 < length w → FirstOf c w
-first_by [] w x e n = absurd (omega (arith, ap length e))
-first_by (p ∷ c) w x e n = record {
-  begins = begins_with p (bytes c) w (clean-first p c x) (sym e);
-  behind = record { points = c; clean = clean-rest p c x; encoded = refl };
-  points = refl;
-}
-
-pub first_of : {w : List ℕ} (h : IsWellFormed w) → 0 < length w → FirstOf h.points w
-first_of {w} h n = first_by h.points w h.clean h.encoded n
-
--- bytes from a position on without the code point that was read there
+-- bytes from a position on without the code point that is read there
 pub record Taken (v : List ℕ) (at : ℕ) (h : IsWellFormed (drop at v)) (p behind : ℕ) : Type 0 where
   pub within : behind ≤ length v
   pub rest : IsWellFormed (drop behind v)
   pub joined : h.points ≡ p ∷ rest.points
 
+-- the first code point of a string, and what is behind it
+pub first_of : {w : List ℕ} (h : IsWellFormed w) → 0 < length w → (b : BeginsWithPoint w) × Taken w 0 h b.point (length (encoding b.point))
+first_of {w} h n = by h.points h.clean h.encoded
+  where
+    by : (c : List ℕ) (x : IsClean c) (e : bytes c ≡ w) → (b : BeginsWithPoint w) × Taken w 0 (record { points = c; clean = x; encoded = e }) b.point (length (encoding b.point))
+    by [] x e = absurd (omega (arith, ap length e))
+    by (p ∷ c) x e =
+        let cut : drop (length (encoding p)) w ≡ bytes c = ap (drop (length (encoding p))) (sym e) ∙ drop_at (encoding p) (bytes c) (length (encoding p)) refl in (
+          begins_with p (bytes c) w (clean-first p c x) (sym e),
+          record {
+            within = omega (arith, ap length e, length-append (encoding p) (bytes c));
+            rest = record { points = c; clean = clean-rest p c x; encoded = sym cut };
+            joined = refl;
+          },
+        )
+
 pub taken : (v : List ℕ) (at : ℕ) (h : IsWellFormed (drop at v)) (p behind : ℕ) → at < length v
     → ((b : BeginsWithPoint (drop at v)) → (p ≡ b.point) × (behind ≡ at + length (encoding b.point))) → Taken v at h p behind
 taken v at h p behind long read =
     let f = first_of h (omega (arith, length-drop at v)) in
-    let b = f.begins in
-    let n = length (encoding b.point) in
-    let was = read b in
-    let back : drop behind v ≡ b.rest =
-    ap (λ k. drop k v) was.1 ∙ (sym (drop-drop n at v) ∙ (ap (drop n) b.encoded ∙ drop_at (encoding b.point) b.rest n refl)) in
+    let was = read f.0 in
+    let back : drop behind v ≡ drop (length (encoding f.0.point)) (drop at v) = ap (λ k. drop k v) was.1 ∙ sym (drop-drop (length (encoding f.0.point)) at v) in
     record {
-      within = omega (arith, was.1, ap length b.encoded, length-append (encoding b.point) b.rest, length-drop at v);
-      rest = moved f.behind back;
-      joined = f.points ∙ ap (λ q. q ∷ f.behind.points) (sym was.0);
+      within = omega (arith, was.1, f.1.within, length-drop at v, long);
+      rest = moved f.1.rest back;
+      joined = f.1.joined ∙ ap (λ q. q ∷ f.1.rest.points) (sym was.0);
     }

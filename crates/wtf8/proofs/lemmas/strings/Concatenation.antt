@@ -1,9 +1,8 @@
 -- Strings put together: the form of what is appended to a form, with a pair joined where they meet.
-use Rattle.wtf8.proofs.Common.{◌≡◌, ℕ, inl, inr, List, [], ◌∷◌, ◌++◌, refl, sym, ap, ◌∙◌, subst, arith, append_assoc, cases_Bool, append-nil, IsLead, IsTrail, units}
-use Rattle.wtf8.proofs.Common.{units_of, pair, IsClean, Reads, MeetsAsPair, is_pair, glue, ◌+◌, ◌-◌, ◌≤◌, length, take, drop, length-append, cases_lt, take_at}
-use Rattle.wtf8.proofs.Common.{drop_at, same_from_push, bytes, encoding, IsForm, length-drop, All, All-nil, All-cons, All-head, All-tail, All-same, IsUnit}
-use Rattle.wtf8.proofs.Common.{IsCodePoint, ◌%◌}
-use Rattle.std.proofs.Common.{◌≡◌, ℕ, ◌+◌, ◌<◌, List, [], ◌∷◌, ◌++◌, length, take, drop, get_or, refl, sym, ap, ◌∙◌, arith, length-append}
+use Rattle.wtf8.proofs.Common.{◌≡◌, ℕ, inl, inr, List, [], ◌∷◌, ◌++◌, refl, sym, ap, ◌∙◌, subst, arith, append_assoc, cases_Bool, append-nil, IsLead, IsTrail}
+use Rattle.wtf8.proofs.Common.{units, units_of, pair, IsClean, Reads, MeetsAsPair, is_pair, glue, ◌+◌, ◌-◌, ◌≤◌, length, take, drop, length-append, cases_lt}
+use Rattle.wtf8.proofs.Common.{take_at, drop_at, same_from_push, bytes, encoding, IsForm, length-drop, All, All-nil, All-cons, All-head, All-tail, All-same}
+use Rattle.wtf8.proofs.Common.{IsUnit, IsCodePoint, ◌%◌, ◌<◌, get_or}
 use Rattle.std.proofs.lemmas.List.{drop_more, take_more, take-append-drop, length-take-le}
 use Rattle.std.proofs.lemmas.List.Elements.{All-append}
 use Rattle.wtf8.specs.Laws.{UnitsHaveOneReading, ReadingsAreOfUnits, UnitsHaveOneForm, FormsAreOfOneList, EqualFormsHaveEqualUnits, NoEncodingBeginsAnother}

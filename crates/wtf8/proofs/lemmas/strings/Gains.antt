@@ -1,20 +1,13 @@
 -- What an appending call adds, where no surrogate is added, and how much room it needs.
 use Rattle.wtf8.proofs.Common.{◌≡◌, ◌+◌, ◌-◌, ◌≤◌, List, [], ◌∷◌, ℕ, ◌++◌, length, take, drop, Result, Ok, Err, OnOk, OnErr, refl, ap, ◌∙◌, sym, subst, arith}
-use Rattle.wtf8.proofs.Common.{append-nil, drop_all, units, units_of, pair, IsLead, IsTrail, IsCodePoint, UnitString, KeepsContents, MeetsAsPair}
-use Rattle.wtf8.proofs.Common.{encoding, IsWellFormed, IsForm, GainsUnits, Gains, inl, inr, true, chars, IsUtf8, scalars-chars}
-use Rattle.wtf8.proofs.Common.{and_parts, scalar, scalars, IsSurrogate, IsClean, bytes_are_encodes, AreScalar, append_assoc}
-use Rattle.wtf8.proofs.Common.{length-append, All, map-append, take_at, drop_at, All-drop, All-same, Step, FindRoom, Build, Truncate, TruncateUnits, number, numbers}
-use Rattle.wtf8.proofs.Common.{glue, IsUnit, bytes, ◌<◌, cases_lt, append_cancel_left, SurrogateAt, on_ok_weaker, vec_capacity}
-use Rattle.std.proofs.lemmas.List.{length-map}
-use Rattle.std.proofs.lemmas.List.Elements.{All-take}
-use Rattle.std.proofs.lemmas.Str.{encodes-chars}
+use Rattle.wtf8.proofs.Common.{append-nil, drop_all, units, units_of, pair, IsLead, IsTrail, IsCodePoint, UnitString, KeepsContents, MeetsAsPair, encoding}
+use Rattle.wtf8.proofs.Common.{IsWellFormed, IsForm, GainsUnits, Gains, inl, inr, true, chars, IsUtf8, scalars-chars, and_parts, scalar, scalars, IsSurrogate}
+use Rattle.wtf8.proofs.Common.{IsClean, bytes_are_encodes, AreScalar, append_assoc, length-append, All, map-append, take_at, drop_at, All-drop, All-same, Step}
+use Rattle.wtf8.proofs.Common.{FindRoom, Build, Truncate, TruncateUnits, number, numbers, glue, IsUnit, bytes, ◌<◌, cases_lt, append_cancel_left, SurrogateAt}
+use Rattle.wtf8.proofs.Common.{on_ok_weaker, vec_capacity, length-map, All-take, encodes-chars, on_err_weaker, IsOk, HasRoomFor, FindsRoom, CodePoint}
+use Rattle.wtf8.proofs.Common.{AreScalarTo}
 use lib.Utf8.{scalar_cases}
-use Rattle.std.proofs.lemmas.Result.{on_err_weaker}
-use Rattle.std.specs.Prelude.{IsOk}
 use Rattle.std.specs.declared.vec.Vec.{Vec}
-use Rattle.wtf8.specs.Appending.{HasRoomFor}
-use Rattle.wtf8.specs.Building.{FindsRoom}
-use Rattle.wtf8.specs.declared.numbers.code_point.CodePoint.{CodePoint}
 use Rattle.wtf8.proofs.lemmas.numbers.Encoding.{length-surrogate, length-encoding_bounds, length-behind, encoding_four}
 use Rattle.wtf8.proofs.lemmas.numbers.Readings.{meets_by, form_of, well_formed_of, same_form, units_from_form, moved, same_reading, same_points}
 use Rattle.wtf8.proofs.lemmas.numbers.Readings.{units-append, same_heads, meets_or_apart, units_one, lengths}
@@ -22,7 +15,6 @@ use Rattle.wtf8.proofs.lemmas.strings.Concatenation.{paired_bytes, meeting_bytes
 use Rattle.wtf8.proofs.lemmas.strings.Concatenation.{clean-glue, units-glue, glue_meeting, glue_apart, units_read, bytes_paired, bytes_apart, length-paired_bytes, form-glue}
 use Rattle.wtf8.proofs.lemmas.strings.Surrogates.{scalar-middle, surrogate_in}
 use Rattle.wtf8.proofs.lemmas.strings.Positions.{begun}
-use Rattle.wtf8.specs.OneForm.{AreScalarTo}
 
 -- What a call that appends to bytes, or is refused, leaves of the string that holds them.
 
@@ -102,14 +94,11 @@ scalar_facts c e = elim (scalar_cases c e) [
   | inr h ↦ record { range = omega arith; apart = λ s. omega arith }
 ]
 
-pub scalars-parts : (c : ℕ) (cs : List ℕ) → scalars (c ∷ cs) ≡ true → (scalar c ≡ true) × (scalars cs ≡ true)
-scalars-parts c cs e = and_parts (scalar c) (scalars cs) e
-
 pub clean-scalars : (cs : List ℕ) → scalars cs ≡ true → IsClean cs
 clean-scalars [] e = tt
-clean-scalars (c ∷ []) e = (scalar_facts c (scalars-parts c [] e).0).range
+clean-scalars (c ∷ []) e = (scalar_facts c (and_parts (scalar c) (scalars []) e).0).range
 clean-scalars (c ∷ d ∷ cs) e =
-    let p = scalars-parts c (d ∷ cs) e in
+    let p = and_parts (scalar c) (scalars (d ∷ cs)) e in
     let f = scalar_facts c p.0 in
     (f.range, (λ h. f.apart (omega (arith, h.0), omega (arith, h.0))), clean-scalars (d ∷ cs) p.1)
 
@@ -126,10 +115,6 @@ text_at {v} u e = moved (well_formed_text v u) e
 
 -- Code points that are scalar values, parts of them, and scalar values behind them.
 
-pub scalar-front : (c d : List ℕ) → AreScalar (c ++ d) → AreScalar c
-scalar-front [] d s = tt
-scalar-front (p ∷ c) d s = (s.0, scalar-front c d s.1)
-
 pub scalar-append : (c d : List ℕ) → AreScalar c → AreScalar d → AreScalar (c ++ d)
 scalar-append [] d s t = t
 scalar-append (p ∷ c) d s t = (s.0, scalar-append c d s.1 t)
@@ -138,7 +123,7 @@ scalar-append (p ∷ c) d s t = (s.0, scalar-append c d s.1 t)
 pub scalar-characters : (c : List ℕ) → scalars c ≡ true → AreScalar c
 scalar-characters [] e = tt
 scalar-characters (p ∷ c) e =
-    let parts = scalars-parts p c e in
+    let parts = and_parts (scalar p) (scalars c) e in
     ((scalar_facts p parts.0).apart, scalar-characters c parts.1)
 
 pub scalar_text : {w : List ℕ} → IsUtf8 w → AreScalar (chars w)

@@ -2,11 +2,8 @@
 use Rattle.wtf8.proofs.Common.{◌≡◌, ◌-◌, ◌≤◌, ◌<◌, ℕ, zero, suc, inl, inr, List, [], ◌∷◌, ◌++◌, length, get_or, refl, ap, ◌∙◌, sym, subst, arith, length-append}
 use Rattle.wtf8.proofs.Common.{cases_lt, append-nil, get_or-append_right, encoding, bytes, take, drop, append_assoc, take_at, drop_at, units, IsClean, Reads}
 use Rattle.wtf8.proofs.Common.{IsWellFormed, IsForm, IsBoundary, IsFront, IsBack, ◌+◌, ◌/◌, ◌%◌, take-add, chunk, units_of, units_begun, all_units_begun}
-use Rattle.wtf8.proofs.Common.{IsPlaceOfUnit, CutsUnits, None}
-use Rattle.std.proofs.lemmas.List.Sums.{sum_by-append, sum_by_more}
-use Rattle.wtf8.specs.Position.{Splits, IsMiddle}
-use Rattle.wtf8.specs.declared.strings.unit_positions.Place.{Place}
-use Rattle.wtf8.proofs.lemmas.lanes.Surrogates.{begun_low, begun_inside, begun_one, begun_two}
+use Rattle.wtf8.proofs.Common.{IsPlaceOfUnit, CutsUnits, None, sum_by-append, sum_by_more, Splits, IsMiddle, Place}
+use Rattle.wtf8.proofs.lemmas.lanes.UnitCounts.{begun_low, begun_inside, begun_one, begun_two}
 use Rattle.wtf8.proofs.lemmas.numbers.Encoding.{Begins, first-encoding, inside-encoding, length-encoding_bounds, length-behind, bytes-append, row_of, one, two, three, four}
 use Rattle.wtf8.proofs.lemmas.numbers.Readings.{clean-front, clean-back, reads_same, same_heads, same_points, same_reading, well_formed_of, units_one, units_two}
 
@@ -127,25 +124,19 @@ byte_from_boundary {w} h k b m =
     subst (λ v. Begins (get_or v k 0)) whole (subst (λ n. Begins (get_or (bytes (c.front ++ c.back)) n 0)) c.splits.front_len
     (begins_behind c.front c.back (omega (arith, c.splits.front_len, ap length whole))))
 
--- the units before a position are the same in each splitting
-pub same_front : (u : List ℕ) (k : ℕ) (v w : List ℕ) → IsFront u k v → IsFront u k w → v ≡ w
-same_front u k v w x y =
-    let own = x.splits in
-    let other = y.splits in
+-- what is before a position and behind it is the same in each splitting
+same_splits : (u : List ℕ) (k : ℕ) (f b g d : List ℕ) → Splits u k f b → Splits u k g d → (f ≡ g) × (b ≡ d)
+same_splits u k f b g d own other =
     let whole = reads_same own.reads other.reads in
-    let h : IsWellFormed (bytes (x.front ++ x.back)) = record { points = x.front ++ x.back; clean = own.reads.clean; encoded = refl } in
-    let front = points_before h (cut_by h x.front x.back k refl own.front_len).before y.front y.back k whole other.front_len refl in
-    sym x.same_units ∙ (ap units front ∙ y.same_units)
+    let h : IsWellFormed (bytes (f ++ b)) = record { points = f ++ b; clean = own.reads.clean; encoded = refl } in
+    let cut = cut_by h f b k refl own.front_len in
+    (points_before h cut.before g d k whole other.front_len refl, points_behind h cut.behind g d k whole other.front_len refl)
 
--- and so is what is behind it
+pub same_front : (u : List ℕ) (k : ℕ) (v w : List ℕ) → IsFront u k v → IsFront u k w → v ≡ w
+same_front u k v w x y = sym x.same_units ∙ (ap units (same_splits u k x.front x.back y.front y.back x.splits y.splits).0 ∙ y.same_units)
+
 pub same_back : (u : List ℕ) (k : ℕ) (v w : List ℕ) → IsBack u k v → IsBack u k w → v ≡ w
-same_back u k v w x y =
-    let own = x.splits in
-    let other = y.splits in
-    let whole = reads_same own.reads other.reads in
-    let h : IsWellFormed (bytes (x.front ++ x.back)) = record { points = x.front ++ x.back; clean = own.reads.clean; encoded = refl } in
-    let back = points_behind h (cut_by h x.front x.back k refl own.front_len).behind y.front y.back k whole other.front_len refl in
-    sym x.same_units ∙ (ap units back ∙ y.same_units)
+same_back u k v w x y = sym x.same_units ∙ (ap units (same_splits u k x.front x.back y.front y.back x.splits y.splits).1 ∙ y.same_units)
 
 -- of two fronts of one list the one with fewer bytes begins the other
 pub record Begun (f g : List ℕ) : Type 0 where
@@ -200,30 +191,15 @@ blocks_more w i m n k e =
     omega (arith, begun_more w i k, begun_more w i m, begun_more w (i + m) n, same)
 
 -- the bytes of a code point begin its units, and its first byte all of them
+begun_tail : (n : ℕ) → units_begun (0x80 + n % 64) ≡ 0
+begun_tail n = begun_inside (0x80 + n % 64) (omega arith) (omega arith)
+
 pub begun_encoding : (p : ℕ) → all_units_begun (encoding p) ≡ length (units_of p)
 begun_encoding p = elim (row_of p) [
   | one h e ↦ rw (e, units_one p (omega arith), begun_low p h) refl
-  | two l h e ↦ rw (
-    e,
-    units_one p (omega arith),
-    begun_one (0xC0 + p / 64) (omega arith) (omega arith),
-    begun_inside (0x80 + p % 64) (omega arith) (omega arith),
-  ) refl
-  | three l h e ↦ rw (
-    e,
-    units_one p h,
-    begun_one (0xE0 + p / 4096) (omega arith) (omega arith),
-    begun_inside (0x80 + p / 64 % 64) (omega arith) (omega arith),
-    begun_inside (0x80 + p % 64) (omega arith) (omega arith),
-  ) refl
-  | four l e ↦ rw (
-    e,
-    units_two p l,
-    begun_two (0xF0 + p / 262144) (omega arith),
-    begun_inside (0x80 + p / 4096 % 64) (omega arith) (omega arith),
-    begun_inside (0x80 + p / 64 % 64) (omega arith) (omega arith),
-    begun_inside (0x80 + p % 64) (omega arith) (omega arith),
-  ) refl
+  | two l h e ↦ rw (e, units_one p (omega arith), begun_one (0xC0 + p / 64) (omega arith) (omega arith), begun_tail p) refl
+  | three l h e ↦ rw (e, units_one p h, begun_one (0xE0 + p / 4096) (omega arith) (omega arith), begun_tail (p / 64), begun_tail p) refl
+  | four l e ↦ rw (e, units_two p l, begun_two (0xF0 + p / 262144) (omega arith), begun_tail (p / 4096), begun_tail (p / 64), begun_tail p) refl
 ]
 
 begun_first : (p : ℕ) (r : List ℕ) → units_begun (get_or (encoding p ++ r) 0 0) ≡ length (units_of p)

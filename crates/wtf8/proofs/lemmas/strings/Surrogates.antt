@@ -1,9 +1,8 @@
 -- Where a string holds surrogates, the lead at its end, and the text with each of them replaced.
-use Rattle.wtf8.proofs.Common.{◌≡◌, ◌≤◌, ◌<◌, ◌+◌, ℕ, List, [], ◌∷◌, ◌++◌, length, get_or, refl, ap, ◌∙◌, sym, subst, arith, append_assoc, length-append, true, inl}
-use Rattle.wtf8.proofs.Common.{inr, Option, Some, None, nat_tests, cases_lt, lt-ltb, le-ltb, append-nil, get_or-append-add, IsUtf8, scalar, scalars, IsCodePoint}
-use Rattle.wtf8.proofs.Common.{IsSurrogate, encoding, bytes, IsClean, IsWellFormed, bytes_are_encodes, AreScalar, SurrogateAt, IsLeast, IsFirst, ◌-◌, ◌/◌, ◌%◌, lit≤}
-use Rattle.wtf8.proofs.Common.{lit<, le-leb, lt-leb, map-append, lossy, take, drop, append_cancel_left, take_at, drop_at}
-use lib.Utf8.{low_scalar}
+use Rattle.wtf8.proofs.Common.{◌≡◌, ◌≤◌, ◌<◌, ◌+◌, ℕ, List, [], ◌∷◌, ◌++◌, length, get_or, refl, ap, ◌∙◌, sym, subst, arith, append_assoc, length-append, true}
+use Rattle.wtf8.proofs.Common.{inl, inr, Option, Some, None, nat_tests, cases_lt, lt-ltb, le-ltb, append-nil, get_or-append-add, IsUtf8, scalar, scalars}
+use Rattle.wtf8.proofs.Common.{IsCodePoint, IsSurrogate, encoding, bytes, IsClean, IsWellFormed, bytes_are_encodes, AreScalar, SurrogateAt, IsLeast, IsFirst}
+use Rattle.wtf8.proofs.Common.{◌-◌, ◌/◌, ◌%◌, lit≤, lit<, le-leb, lt-leb, map-append, lossy, take, drop, append_cancel_left, take_at, drop_at, low_scalar}
 use Rattle.wtf8.specs.Surrogates.{replaced}
 use Rattle.wtf8.proofs.lemmas.numbers.Encoding.{length-behind, encoding_three, length-encoding_bounds, row_of, one, two, three, four, bytes-append, third_row, length-surrogate}
 use Rattle.wtf8.proofs.lemmas.numbers.Encoding.{bytes-pushed}

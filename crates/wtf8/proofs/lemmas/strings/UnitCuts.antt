@@ -1,16 +1,9 @@
 -- A string cut at a number of units, also inside a pair, and what an iterator holds of a pair.
-use Rattle.wtf8.proofs.Common.{BeginsWithPoint, ◌≡◌, ℕ, zero, suc, ◌+◌, ◌≤◌, List, [], ◌∷◌, ◌++◌, length, take, drop, None, Some, refl, sym, ap, ◌∙◌, subst, arith, length-append}
-use Rattle.wtf8.proofs.Common.{append_assoc, take_at, drop_at, slice_get, IsCodePoint, units, IsClean, bytes, encoding, IsWellFormed, IsFront, CutsUnits, ◌<◌, ◌↔◌}
-use Rattle.wtf8.proofs.Common.{inl, inr, Option, get_or, same_from_push, take-append-drop, length-drop, Reads, true, false, ◌/◌, ◌%◌, lt-ltb, le-ltb}
-use Rattle.wtf8.proofs.Common.{drop-drop, append-nil, IsLead, units_of, trail_by, held_in, behind_held, unread_after}
-use Rattle.std.proofs.Common.{length-take-le}
-use Rattle.std.proofs.Math.Seq.{take-append-add, drop-append-add}
-use Rattle.std.specs.Option.{option_to_list}
-use Rattle.std.specs.Prelude.{IsSome}
-use Rattle.wtf8.specs.private.UnitSteps.{StepsUnit}
-use Rattle.wtf8.specs.private.UnitCounts.{Divides}
-use Rattle.wtf8.specs.UnitPosition.{DividesPair}
-use Rattle.wtf8.specs.private.UnitSteps.{is_inside}
+use Rattle.wtf8.proofs.Common.{BeginsWithPoint, ◌≡◌, ℕ, zero, suc, ◌+◌, ◌≤◌, List, [], ◌∷◌, ◌++◌, length, take, drop, None, Some, refl, sym, ap, ◌∙◌, subst}
+use Rattle.wtf8.proofs.Common.{arith, length-append, append_assoc, take_at, drop_at, slice_get, IsCodePoint, units, IsClean, bytes, encoding, IsWellFormed}
+use Rattle.wtf8.proofs.Common.{IsFront, CutsUnits, ◌<◌, ◌↔◌, inl, inr, Option, get_or, same_from_push, take-append-drop, length-drop, Reads, true, false, ◌/◌}
+use Rattle.wtf8.proofs.Common.{◌%◌, lt-ltb, le-ltb, drop-drop, append-nil, IsLead, units_of, trail_by, held_in, behind_held, unread_after, length-take-le}
+use Rattle.wtf8.proofs.Common.{take-append-add, drop-append-add, option_to_list, IsSome, StepsUnit, Divides, DividesPair, is_inside}
 use Rattle.wtf8.proofs.lemmas.numbers.Encoding.{encoding_four, bytes-append, bytes-pushed, row_of, one, two, three, four, Begins, first-encoding}
 use Rattle.wtf8.proofs.lemmas.numbers.Readings.{clean-first, clean-front, clean-back, clean-append, clean-apart, no_trail, meets_by, lead_of, trail_of, units_one}
 use Rattle.wtf8.proofs.lemmas.numbers.Readings.{units_two, units-append, units-pushed, first_of, no_points, taken, moved}
@@ -180,7 +173,7 @@ above b l = rw (le-ltb b 0x80 (omega arith), le-ltb b 0xC0 l) refl
 
 -- well-formed bytes begin a code point, and so no trail
 start_of : {w : List ℕ} → IsWellFormed w → 0 < length w → Begins (get_or w 0 0)
-start_of h n = let b = (first_of h n).begins in subst Begins (sym (ap (λ v. get_or v 0 0) b.encoded)) (first-encoding b.point b.rest)
+start_of h n = let b = (first_of h n).0 in subst Begins (sym (ap (λ v. get_or v 0 0) b.encoded)) (first-encoding b.point b.rest)
 
 pub starts : {w : List ℕ} → IsWellFormed w → is_inside (get_or w 0 0) ≡ false
 starts {w = []} h = refl
@@ -236,7 +229,7 @@ pub steps_lead : (v : List ℕ) (at : ℕ) (h : IsWellFormed (behind_held (drop 
 steps_lead v at h unit next long g two_on read =
     let n = not_held (drop at v) (above (get_or (drop at v) 0 0) (omega arith)) in
     let f = first_of (moved h (sym n.1)) (omega (arith, length-drop at v)) in
-    let b = f.begins in
+    let b = f.0 in
     let p = b.point in
     let begin : get_or (drop at v) 0 0 ≡ get_or (encoding p ++ b.rest) 0 0 = ap (λ w. get_or w 0 0) b.encoded in
     elim (row_of p) [
@@ -255,18 +248,11 @@ steps_lead v at h unit next long g two_on read =
           units_two p l ∙ (ap (λ a. a ∷ trail_of p ∷ []) (sym (read b)) ∙ ap (λ t. unit ∷ t) (sym held)) in
           record {
             within = omega (arith, two_on, ap length whole, length-drop at v);
-            behind = moved f.behind (ap behind_held rest ∙ k.1);
-            first = first_on _ _ h.points f.behind.points p unit n.0 f.points all;
-            left = left_on _ _ h.points f.behind.points p unit n.0 f.points all;
+            behind = moved f.1.rest (ap behind_held rest ∙ (k.1 ∙ sym (ap (drop (length (encoding p))) b.encoded ∙ drop_at (encoding p) b.rest (length (encoding p)) refl)));
+            first = first_on _ _ h.points f.1.rest.points p unit n.0 f.1.joined all;
+            left = left_on _ _ h.points f.1.rest.points p unit n.0 f.1.joined all;
           }
     ]
-
-first_held : (old new points : List ℕ) (t : ℕ) → old ≡ t ∷ [] → new ≡ [] → old ++ units points ≡ t ∷ (new ++ units points)
-first_held old new points t e f = rw (e, f) refl
-
-left_held : (old new points : List ℕ) (t : ℕ) → old ≡ t ∷ [] → new ≡ []
-    → record { held = new; points = points } ≡ unread_after (record { held = old; points = points })
-left_held old new points t e f = rw (e, f) refl
 
 -- a trail whose lead was given
 pub steps_trail : (v : List ℕ) (at : ℕ) (h : IsWellFormed (behind_held (drop at v))) (next : ℕ) → 0x80 ≤ get_or (drop at v) 0 0
@@ -280,8 +266,8 @@ steps_trail v at h next l g two_on =
     record {
       within = omega (arith, two_on, whole, length-drop at v);
       behind = moved b m.1;
-      first = first_held _ _ h.points _ n.0 m.0;
-      left = left_held _ _ h.points _ n.0 m.0;
+      first = rw (n.0, m.0) refl;
+      left = rw (n.0, m.0) refl;
     }
 
 -- at the end nothing is left

@@ -1,11 +1,9 @@
 -- Marks: places in a string where a number of units ends.
-use Rattle.wtf8.proofs.Common.{◌≡◌, ◌+◌, ◌<◌, ◌≤◌, ℕ, zero, suc, List, [], ◌∷◌, ◌++◌, length, take, None, Some, refl, sym, ap, ◌∙◌, subst, arith}
-use Rattle.wtf8.proofs.Common.{length-append, append_assoc, take-append-drop, bytes-injective, units_of, encoding}
-use Rattle.wtf8.proofs.Common.{get_or, length-drop, IsLead, IsTrail, units, bytes, IsWellFormed, IsForm, CutsUnits, glue, Option, ◌-◌, drop}
-use Rattle.std.proofs.Common.{length-take-le}
+use Rattle.wtf8.proofs.Common.{◌≡◌, ◌+◌, ◌<◌, ◌≤◌, ℕ, List, [], ◌∷◌, ◌++◌, length, take, None, Some, refl, sym, ap, ◌∙◌, subst, arith, length-append}
+use Rattle.wtf8.proofs.Common.{append_assoc, take-append-drop, bytes-injective, units_of, encoding, units, bytes, IsWellFormed, IsForm, CutsUnits, glue, Option}
+use Rattle.wtf8.proofs.Common.{◌-◌, drop, length-take-le, MatchOption, Divides, AreAscii, take_all, length-drop}
+use Rattle.wtf8.proofs.Common.{get_or, IsLead, IsTrail}
 use Rattle.std.proofs.Math.Seq.{get_or-append_seam}
-use Rattle.std.specs.Prelude.{MatchOption}
-use Rattle.wtf8.specs.private.UnitCounts.{Divides}
 use Rattle.wtf8.specs.UnitMark.{IsMark, EqualCountsAreMarks, MarksStay}
 use Rattle.wtf8.specs.UnitPosition.{DividesPair}
 use Rattle.wtf8.proofs.lemmas.numbers.Encoding.{bytes-append, row_of, one, two, three, four}
@@ -14,6 +12,8 @@ use Rattle.wtf8.proofs.lemmas.strings.Concatenation.{reads-glue, one_form, units
 use Rattle.wtf8.proofs.lemmas.strings.Gains.{all_back}
 use Rattle.wtf8.proofs.lemmas.strings.Positions.{cut_by, points_behind}
 use Rattle.wtf8.proofs.lemmas.strings.UnitCuts.{undivided}
+use Rattle.wtf8.proofs.lemmas.units_in.Blocks.{ascii_form, ascii_own_units}
+use Rattle.std.proofs.lemmas.Simd.{Each1-chunk}
 
 -- a cut at a number of units is its mark
 pub mark_at_cut : {w : List ℕ} (h : IsWellFormed w) {k n : ℕ} → CutsUnits h.points n k None → IsMark w (units h.points) k n
@@ -46,14 +46,8 @@ cut_of {w} {u} h {k} {n} m =
     }
 
 -- a cut of what is behind a mark is one of the whole
-whole_by : {c d : List ℕ} {k n : ℕ} (x : CutsUnits c n k None) (front back : List ℕ) → d ≡ x.back → d ≡ front ++ back → c ≡ (x.front ++ front) ++ back
-whole_by x front back e f = x.joined ∙ (ap (λ b. x.front ++ b) (sym e ∙ f) ∙ sym (append_assoc x.front front back))
-
-bytes_by : {c : List ℕ} {k n : ℕ} (x : CutsUnits c n k None) (front : List ℕ) → length (bytes (x.front ++ front)) ≡ k + length (bytes front)
-bytes_by x front = omega (arith, ap length (bytes-append x.front front), length-append (bytes x.front) (bytes front), x.front_len)
-
 units_by : {c : List ℕ} {k n : ℕ} (x : CutsUnits c n k None) (front : List ℕ) → length (units (x.front ++ front)) ≡ n + length (units front)
-units_by x front = omega (arith, ap length (units-append x.front front), length-append (units x.front) (units front), x.counted)
+units_by x front = simp (units-append, length-append, x.counted)
 
 counted_by : {c : List ℕ} {k n : ℕ} (x : CutsUnits c n k None) (front back : List ℕ) (i m : ℕ) → n + i ≡ m → (half : Option ℕ)
     → MatchOption half (length (units front) ≡ i) (Divides front back i) → MatchOption half (length (units (x.front ++ front)) ≡ m) (Divides (x.front ++ front) back m)
@@ -65,11 +59,12 @@ pub cut_from_mark : {w v u : List ℕ} (h : IsWellFormed w) (rest : IsWellFormed
     → CutsUnits rest.points (m - n) place half → CutsUnits h.points m (k + place) half
 cut_from_mark h rest {k} {n} {place} m half mark e l y =
     let x = cut_of h mark in
+    let behind = points_behind h rest x.front x.back k x.joined x.front_len e in
     record {
       front = x.front ++ y.front;
       back = y.back;
-      joined = whole_by x y.front y.back (points_behind h rest x.front x.back k x.joined x.front_len e) y.joined;
-      front_len = omega (arith, bytes_by x y.front, y.front_len);
+      joined = x.joined ∙ (ap (λ b. x.front ++ b) (sym behind ∙ y.joined) ∙ sym (append_assoc x.front y.front y.back));
+      front_len = simp (bytes-append, length-append, x.front_len, y.front_len);
       counted = counted_by x y.front y.back (m - n) m (omega (arith, l)) half y.counted;
     }
 
@@ -96,53 +91,38 @@ divided_are_surrogates u n m =
     ∙ get_or-append_seam (m.front ++ m.lead ∷ []) m.trail m.rest 0) in
     (omega (arith, front, length-append m.front (m.lead ∷ [])), inside, subst IsLead (sym lead) m.is_lead, subst IsTrail (sym trail) m.is_trail)
 
--- code points of as many bytes as units are of one each
-one_each : (c : List ℕ) (k : ℕ) → length (bytes c) ≡ length (units c) → k ≤ length (bytes c) → CutsUnits c k k None
-one_each c zero e h = record { front = []; back = c; joined = refl; front_len = refl; counted = refl }
-one_each [] (suc k) e h = absurd (omega arith)
-one_each (p ∷ c) (suc k) e h =
+-- code points of as many bytes as units are ASCII
+all_ascii : (c : List ℕ) → length (bytes c) ≡ length (units c) → AreAscii c
+all_ascii [] e = tt
+all_ascii (p ∷ c) e =
     let bound = (lengths c).units_least in
     let all_bytes = length-append (encoding p) (bytes c) in
     let all_units = length-append (units_of p) (units c) in
     elim (row_of p) [
-      | one l r ↦
-          let byte = ap length r in
-          let unit = ap length (units_one p (omega arith)) in
-          let more = one_each c k (omega (arith, e, all_bytes, all_units, byte, unit)) (omega (arith, h, all_bytes, byte)) in
-          record {
-            front = p ∷ more.front;
-            back = more.back;
-            joined = ap (λ d. p ∷ d) more.joined;
-            front_len = omega (arith, length-append (encoding p) (bytes more.front), byte, more.front_len);
-            counted = omega (arith, length-append (units_of p) (units more.front), unit, more.counted);
-          }
+      | one l r ↦ (l, all_ascii c (omega (arith, e, all_bytes, all_units, ap length r, ap length (units_one p (omega arith)))))
       | two l g r ↦ absurd (omega (arith, e, all_bytes, all_units, bound, ap length r, ap length (units_one p (omega arith))))
       | three l g r ↦ absurd (omega (arith, e, all_bytes, all_units, bound, ap length r, ap length (units_one p g)))
       | four l r ↦ absurd (omega (arith, e, all_bytes, all_units, bound, ap length r, ap length (units_two p l)))
     ]
+
+-- and the units are the bytes
+pub ascii_same : {w u : List ℕ} → IsForm w u → length w ≡ length u → AreAscii u × (w ≡ u)
+ascii_same {w} {u} f e =
+    let low = all_ascii f.points (ap length f.encoded ∙ (e ∙ sym (ap length f.reads.same_units))) in
+    let own : f.points ≡ u = sym (ascii_own_units f.points low) ∙ f.reads.same_units in
+    let ascii = subst AreAscii own low in
+    (ascii, same_form w u u f (ascii_form u ascii).form)
 
 pub equal_counts : EqualCountsAreMarks
 equal_counts w u k f e h =
-    let same : length (bytes f.points) ≡ length (units f.points) = ap length f.encoded ∙ (e ∙ sym (ap length f.reads.same_units)) in
-    let x = one_each f.points k same (omega (arith, ap length f.encoded, h)) in
-    mark_of f x
-
--- and the units are the bytes
-pub units_are_bytes : (c : List ℕ) → length (bytes c) ≡ length (units c) → units c ≡ bytes c
-units_are_bytes [] e = refl
-units_are_bytes (p ∷ c) e =
-    let bound = (lengths c).units_least in
-    let all_bytes = length-append (encoding p) (bytes c) in
-    let all_units = length-append (units_of p) (units c) in
-    elim (row_of p) [
-      | one l r ↦
-          let unit = units_one p (omega arith) in
-          let more = units_are_bytes c (omega (arith, e, all_bytes, all_units, ap length r, ap length unit)) in
-          ap (λ u. u ++ units c) unit ∙ (ap (λ u. p ∷ u) more ∙ sym (ap (λ w. w ++ bytes c) r))
-      | two l g r ↦ absurd (omega (arith, e, all_bytes, all_units, bound, ap length r, ap length (units_one p (omega arith))))
-      | three l g r ↦ absurd (omega (arith, e, all_bytes, all_units, bound, ap length r, ap length (units_one p g)))
-      | four l r ↦ absurd (omega (arith, e, all_bytes, all_units, bound, ap length r, ap length (units_two p l)))
-    ]
+    let same = ascii_same f e in
+    let behind = subst AreAscii (take_all (length u - k) (drop k u) (omega (arith, length-drop k u))) (Each1-chunk (λ n. n < 0x80) k (length u - k) u same.0) in
+    subst (λ v. IsMark v u k k) (sym same.1) (record {
+      position_within = omega (arith, e, h);
+      units_within = omega (arith, e, h);
+      before = (ascii_form (take k u) (Each1-chunk (λ n. n < 0x80) 0 k u same.0)).form;
+      behind = (ascii_form (drop k u) behind).form;
+    })
 
 -- what is glued behind the last code point leaves those before it
 glue_behind : (f b d : List ℕ) → 0 < length b → glue (f ++ b) d ≡ f ++ glue b d

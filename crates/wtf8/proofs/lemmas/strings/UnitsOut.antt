@@ -1,20 +1,11 @@
 -- The string behind code points of as many bytes each.
 use Rattle.wtf8.proofs.Common.{◌≡◌, ℕ, zero, suc, ◌<◌, ◌≤◌, List, [], ◌∷◌, ◌++◌, length, take, drop, get_or, refl, sym, ap, ◌∙◌, arith, IsWellFormed, units}
-use Rattle.wtf8.proofs.Common.{encoding, bytes, length-append, units_of, view_units, Wtf8}
-use Rattle.wtf8.specs.View.{view_points}
-use Rattle.wtf8.proofs.lemmas.numbers.Encoding.{row_of, one, two, three, four, length-encoding_bounds}
-use Rattle.wtf8.proofs.Common.{◌+◌, ◌*◌, ◌%◌, subst, Each1, drop_at, drop-drop, length-drop, length-take, take-append-drop, append_assoc}
-use Rattle.std.proofs.lemmas.List.{get_or_append_left, drop-append-le}
+use Rattle.wtf8.proofs.Common.{encoding, length-append, units_of, ◌+◌, ◌*◌, ◌%◌, subst, Each1, drop-drop}
+use Rattle.wtf8.proofs.Common.{length-drop, length-take, take-append-drop, get_or_append_left, drop-append-le, IsReadAs}
+use Rattle.wtf8.proofs.lemmas.numbers.Encoding.{row_of, one, two, three, four, length-encoding_bounds, own_byte}
 use native.Mathlib.Nat.{mul-suc}
 use Rattle.wtf8.specs.private.UnitRows.{IsOfKind, BeginsWithUnits, firsts_of, unit_of_two, unit_of_three, units_of_rows}
-use Rattle.wtf8.proofs.lemmas.numbers.Readings.{Taken, first_of, moved, taken, units-cons_one}
-use Rattle.wtf8.specs.private.Gains.{IsReadAs}
-
--- a string is longer than what is behind its first code point
-pub behind_first : (v r : Wtf8) (p : ℕ) → view_points v ≡ p ∷ view_points r → length r.bytes.now < length v.bytes.now
-behind_first v r p e =
-    let whole = sym v.well_formed.encoded ∙ ap bytes e in
-    omega (arith, ap length whole, length-append (encoding p) (bytes r.well_formed.points), ap length r.well_formed.encoded, length-encoding_bounds p)
+use Rattle.wtf8.proofs.lemmas.numbers.Readings.{first_of, moved, taken, units-cons_one}
 
 -- the string behind some bytes with these units
 pub record Behind (w v : List ℕ) (at : ℕ) (h : IsWellFormed w) : Type 0 where
@@ -37,15 +28,12 @@ abbrev pub unit_of_one : List ℕ → ℕ
 unit_of_one w = get_or w 0 0
 
 pub one_rows : Rows 1 (IsOfKind 128 0) unit_of_one
-one_rows = record { some = omega arith; part = part; local = λ b r le. get_or_append_left b r 0 0 (omega arith) }
-  where
-    part : (p : ℕ) (r : List ℕ) → IsOfKind 128 0 (get_or (encoding p ++ r) 0 0) → Part 1 unit_of_one p r
-    part p r h = elim (row_of p) [
-      | one l e ↦ record { width = ap length e; read = ap (λ w. unit_of_one (w ++ r)) e; one_unit = omega arith }
-      | two l _ e ↦ absurd (omega (arith, rw e at h))
-      | three l _ e ↦ absurd (omega (arith, rw e at h))
-      | four l e ↦ absurd (omega (arith, rw e at h))
-    ]
+one_rows = record {
+  some = omega arith;
+  part = λ p r h.
+      let own = own_byte p r (omega (arith, h)) in record { width = ap length own.0; read = ap (λ w. unit_of_one (w ++ r)) own.0; one_unit = omega (arith, own.1) };
+  local = λ b r le. get_or_append_left b r 0 0 (omega arith);
+}
 
 pub two_rows : Rows 2 (IsOfKind 32 6) unit_of_two
 two_rows = record {
@@ -92,20 +80,19 @@ behind_rows {P} n f rows (suc c) (suc k) at w b r h e long same le each =
     let wide : n * suc c ≡ n + n * c = omega (arith, mul-suc n c) in
     let fits : n ≤ length b = omega (arith, long, wide) in
     let first = first_of h (omega (arith, ap length e, length-append b r, rows.some, fits)) in
-    let p = first.begins.point in
-    let begins = ap (λ v. get_or v 0 0) (sym e ∙ first.begins.encoded) in
-    let part = rows.part p first.begins.rest (subst P (sym (get_or_append_left b r 0 0 (omega (arith, rows.some, fits))) ∙ begins) each.0) in
-    let value : p ≡ f b = sym part.read ∙ (ap f (sym first.begins.encoded ∙ e) ∙ rows.local b r fits) in
-    let cut : drop n w ≡ first.begins.rest = ap (drop n) first.begins.encoded ∙ drop_at (encoding p) first.begins.rest n part.width in
+    let p = first.0.point in
+    let begins = ap (λ v. get_or v 0 0) (sym e ∙ first.0.encoded) in
+    let part = rows.part p first.0.rest (subst P (sym (get_or_append_left b r 0 0 (omega (arith, rows.some, fits))) ∙ begins) each.0) in
+    let value : p ≡ f b = sym part.read ∙ (ap f (sym first.0.encoded ∙ e) ∙ rows.local b r fits) in
     let behind = behind_rows n f rows c k (n * k) (drop n w) (drop n b) r
-    (moved first.behind cut) (ap (drop n) e ∙ drop-append-le n b r fits)
+    (moved first.1.rest (ap (λ m. drop m w) (sym part.width))) (ap (drop n) e ∙ drop-append-le n b r fits)
     (omega (arith, long, wide, length-drop n b)) refl (omega (arith, le)) each.1 in
     let further : n * suc k ≡ n + n * k = omega (arith, mul-suc n k) in
     let end : drop at w ≡ drop (n * k) (drop n w) = ap (λ m. drop m w) (same ∙ further) ∙ sym (drop-drop (n * k) n w) in
     record {
       rest = moved behind.rest end;
-      whole = ap units first.points ∙ (units-cons_one p first.behind.points part.one_unit
-          ∙ (ap (λ m. m ∷ units first.behind.points) value ∙ ap (λ u. f b ∷ u) behind.whole));
+      whole = ap units first.1.joined ∙ (units-cons_one p first.1.rest.points part.one_unit
+          ∙ (ap (λ m. m ∷ units first.1.rest.points) value ∙ ap (λ u. f b ∷ u) behind.whole));
     }
 
 -- bytes are the first ones, and the units, of parts of one byte each
@@ -130,10 +117,14 @@ begins_with_rows {P} n c m f rows w count firsts block wide long le e g each h =
     (subst (λ v. Each1 P (take count v)) e each) in
     (behind.rest, behind.whole ∙ ap (λ b. take count b ++ units behind.rest.points) (sym g))
 
--- what is behind a code point that was read at the front of a view
-pub behind_read : (v : Wtf8) (p n : ℕ) → 0 < length v.bytes.now → IsReadAs v.bytes.now p n → Taken v.bytes.now 0 v.well_formed p n
-behind_read v p n some read = taken v.bytes.now 0 v.well_formed p n some (λ b. let was = read b in (was.0, omega (arith, was.1)))
+-- what a code point that was read at the front of bytes says of the units there
+pub record ReadUnits (w : List ℕ) (p n : ℕ) : Type 0 where
+  pub some : 0 < n
+  pub within : n ≤ length w
+  pub begins : BeginsWithUnits w (units_of p) n
 
--- the units of a first code point behind what was there, and what is left of the string
-pub pushed : (v r : Wtf8) (p : ℕ) (old new : List ℕ) → new ≡ old ++ units_of p → view_points v ≡ p ∷ view_points r → new ++ view_units r ≡ old ++ view_units v
-pushed v r p old new e g = ap (λ u. u ++ view_units r) e ∙ (append_assoc old (units_of p) (view_units r) ∙ ap (λ u. old ++ u) (sym (ap units g)))
+pub read_units : {w : List ℕ} → IsWellFormed w → (p n : ℕ) → 0 < length w → IsReadAs w p n → ReadUnits w p n
+read_units {w} h p n some read =
+    let b = (first_of h some).0 in
+    let t = λ (k : IsWellFormed w). taken w 0 k p n some (λ b. let was = read b in (was.0, omega (arith, was.1))) in
+    record { some = omega (arith, (read b).1, length-encoding_bounds b.point); within = (t h).within; begins = λ k. ((t k).rest, ap units (t k).joined) }

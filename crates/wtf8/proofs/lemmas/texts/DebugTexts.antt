@@ -1,8 +1,6 @@
 -- Debug texts: writes one after the other, and the digits of a number.
-use Rattle.wtf8.proofs.Common.{◌≡◌, ℕ, ◌/◌, ◌%◌, ◌<◌, ◌≤◌, List, [], ◌∷◌, ◌++◌, inl, inr, refl, sym, ap, ◌∙◌, subst, arith, lt-ltb, le-ltb, lt-leb, le-leb, cases_lt}
-use Rattle.wtf8.proofs.Common.{IsFlush, has_written_styled_nil, encoding, digit, encoding_is_encode, IsSurrogate}
-use Rattle.std.proofs.Common.{codes}
-use Rattle.std.proofs.Output.{writes_in_calls_append}
+use Rattle.wtf8.proofs.Common.{◌≡◌, ℕ, ◌/◌, ◌%◌, ◌<◌, ◌≤◌, List, [], ◌∷◌, ◌++◌, inl, inr, refl, sym, ap, ◌∙◌, subst, arith, lt-ltb, le-ltb, lt-leb, le-leb}
+use Rattle.wtf8.proofs.Common.{cases_lt, IsFlush, has_written_styled_nil, encoding, digit, encoding_is_encode, IsSurrogate, codes, writes_in_calls_append}
 use Rattle.std.specs.Fmt.{HasWrittenStyled}
 use Rattle.std.specs.declared.fmt.Formatter.{Formatter}
 use lib.Utf8.{encode}

@@ -1,5 +1,4 @@
-use Rattle.wtf8.proofs.Common.{◌≡◌, ◌∙◌, ap, refl, nat_cmp, unread_units, view_units}
-use Rattle.std.proofs.lemmas.Iterator.Consumers.{YieldsList-from_first}
+use Rattle.wtf8.proofs.Common.{◌≡◌, ◌∙◌, ap, refl, nat_cmp, unread_units, view_units, YieldsList-from_first}
 use Rattle.std.proofs.lemmas.Iterator.Search.{cmp_from_yields_List}
 use Rattle.wtf8.proofs.comparing.unit_order.cmp_one_by_one.Goals as goal
 

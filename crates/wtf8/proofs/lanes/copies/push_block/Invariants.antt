@@ -1,4 +1,4 @@
-use Rattle.std.proofs.Common.{◌≡◌, ◌++◌, take, vec_capacity}
+use Rattle.wtf8.proofs.Common.{◌≡◌, ◌++◌, take, vec_capacity}
 use Rattle.wtf8.proofs.lanes.copies.push_block.Given as goal
 
 -- the lanes so far are appended

@@ -1,4 +1,4 @@
-use Rattle.std.proofs.Common.{arith, true}
+use Rattle.wtf8.proofs.Common.{arith, true}
 use Rattle.wtf8.proofs.lemmas.lanes.Differences.{equal_told}
 use Rattle.wtf8.proofs.lanes.differences.equal.Goals as goal
 

@@ -1,5 +1,4 @@
-use Rattle.wtf8.proofs.Common.{Nowhere}
-use Rattle.wtf8.specs.private.Differences.{DifferAt}
+use Rattle.wtf8.proofs.Common.{Nowhere, DifferAt}
 use Rattle.wtf8.proofs.lanes.differences.first_one_by_one.Given as goal
 
 -- equal so far

@@ -1,5 +1,4 @@
-use Rattle.wtf8.proofs.Common.{sym, subst, rules, IsUtf8, hex, ◌≡◌}
-use Rattle.std.proofs.lemmas.Str.{IsUtf8-from_ascii}
+use Rattle.wtf8.proofs.Common.{sym, subst, rules, IsUtf8, hex, ◌≡◌, IsUtf8-from_ascii}
 use Rattle.wtf8.proofs.lemmas.lanes.Digits.{hex_ascii}
 use Rattle.wtf8.proofs.lanes.digits.hex_text.Goals as goal
 

@@ -1,5 +1,4 @@
-use Rattle.wtf8.proofs.Common.{◌≡◌, ◌∷◌, ◌∙◌, arith, append_assoc, rules}
-use Rattle.std.proofs.lemmas.List.{take_rest}
+use Rattle.wtf8.proofs.Common.{◌≡◌, ◌∷◌, ◌∙◌, arith, append_assoc, rules, take_rest}
 use Rattle.wtf8.proofs.lemmas.lanes.Digits.{more_spaced, all_spaced}
 use Rattle.wtf8.proofs.lanes.digits.push_hex.Goals as goal
 

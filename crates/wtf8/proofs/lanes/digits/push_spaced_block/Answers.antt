@@ -1,4 +1,4 @@
-use Rattle.std.proofs.Common.{◌≡◌, ◌+◌, ◌++◌, true, vec_len, is_ok, ap, ◌∙◌, arith}
+use Rattle.wtf8.proofs.Common.{◌≡◌, ◌+◌, ◌++◌, true, vec_len, is_ok, ap, ◌∙◌, arith}
 use Rattle.wtf8.proofs.lanes.digits.push_spaced_block.Goals as goal
 
 pub returns-clause-items : goal.returns-clause-items

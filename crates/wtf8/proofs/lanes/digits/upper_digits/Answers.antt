@@ -1,5 +1,4 @@
-use Rattle.std.proofs.Common.{refl, arith, w8}
-use Rattle.std.proofs.lemmas.Simd.{SwzOk-from_below}
+use Rattle.wtf8.proofs.Common.{refl, arith, w8, SwzOk-from_below}
 use Rattle.wtf8.proofs.lemmas.lanes.Digits.{looked_up}
 use Rattle.wtf8.proofs.lanes.digits.upper_digits.Goals as goal
 

@@ -1,10 +1,12 @@
-use Rattle.std.proofs.Common.{arith}
-use Rattle.wtf8.proofs.lemmas.lanes.Masks.{none_there, first_there}
-use Rattle.wtf8.proofs.lemmas.lanes.Surrogates.{begins_there}
+use Rattle.wtf8.proofs.Common.{arith, None, Some}
+use Rattle.wtf8.proofs.lemmas.lanes.Surrogates.{first_begins}
 use Rattle.wtf8.proofs.lanes.search.first_in_block.Goals as goal
 
 pub returns-in-None : goal.returns-in-None
-returns-in-None c = none_there _ _ c.args.at 32 (begins_there c.args.bytes.now c.args.at c.requires) 32 (omega arith) c.in-None.ensures
+returns-in-None c = first_begins c.args.bytes.now c.args.at c.requires None c.in-None.ensures
 
 pub returns-in-Some : goal.returns-in-Some
-returns-in-Some c = first_there _ _ c.args.at 32 (begins_there c.args.bytes.now c.args.at c.requires) c.in-Some.lane c.in-Some.ensures
+returns-in-Some c = first_begins c.args.bytes.now c.args.at c.requires (Some c.in-Some.lane) c.in-Some.ensures
+
+pub overflow_add-result : goal.overflow_add-result
+overflow_add-result c = omega (arith, (first_begins c.args.bytes.now c.args.at c.requires (Some c.in-Some.lane) c.in-Some.ensures).1, c.requires)

@@ -1,5 +1,4 @@
-use Rattle.wtf8.proofs.Common.{ap, arith, length, number, rules}
-use Rattle.std.proofs.lemmas.Grind.{common_steps}
+use Rattle.wtf8.proofs.Common.{ap, arith, length, number, rules, common_steps}
 use Rattle.wtf8.proofs.lemmas.numbers.Encoding.{encoding_one}
 use Rattle.wtf8.proofs.numbers.encoding.append_into.Goals as goal
 

@@ -1,7 +1,5 @@
-use Rattle.std.proofs.Common.{◌≡◌, ℕ, ◌<◌, rules, arith, length, get_or, ap, ◌∙◌, sym}
-use Rattle.std.proofs.lemmas.List.{ext_get_or, length-map, get_or-map, length-take-le}
+use Rattle.wtf8.proofs.Common.{◌≡◌, ℕ, ◌<◌, rules, arith, length, get_or, ap, ◌∙◌, sym, CodePoint, ext_get_or, length-map, get_or-map, length-take-le}
 use Rattle.wtf8.specs.CodePoint.{number, numbers}
-use Rattle.wtf8.specs.declared.numbers.code_point.CodePoint.{CodePoint}
 use Rattle.wtf8.proofs.strings.collect.first_numbers.Goals as goal
 
 zeroth : CodePoint

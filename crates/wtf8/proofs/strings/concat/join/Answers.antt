@@ -1,5 +1,4 @@
-use Rattle.wtf8.proofs.Common.{arith, rules}
-use Rattle.std.proofs.lemmas.Grind.{common_steps}
+use Rattle.wtf8.proofs.Common.{arith, rules, common_steps}
 use Rattle.wtf8.proofs.strings.concat.join.Goals as goal
 
 pub returns : goal.returns

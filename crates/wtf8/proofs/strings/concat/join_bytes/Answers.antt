@@ -1,6 +1,4 @@
-use Rattle.wtf8.proofs.Common.{rules, ◌≡◌, ◌∷◌, ◌+◌, ◌%◌, arith, drop, get_or, pair}
-use Rattle.std.proofs.lemmas.Grind.{common_steps}
-use Rattle.std.proofs.Common.{drop-cons}
+use Rattle.wtf8.proofs.Common.{rules, ◌≡◌, ◌∷◌, ◌+◌, ◌%◌, arith, drop, get_or, pair, common_steps, drop-cons}
 use Rattle.wtf8.proofs.lemmas.numbers.Encoding.{encoding_four}
 use Rattle.wtf8.proofs.strings.concat.join_bytes.Goals as goal
 

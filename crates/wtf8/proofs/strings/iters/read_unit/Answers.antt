@@ -1,8 +1,6 @@
-use Rattle.wtf8.proofs.Common.{◌≡◌, ℕ, ◌+◌, ◌<◌, ◌≤◌, ◌∙◌, List, length, get_or, drop, arith, ap, sym, subst, refl, length-drop}
-use Rattle.wtf8.proofs.Common.{IsWellFormed, BeginsWithPoint, trail_by, behind_held}
-use Rattle.wtf8.specs.private.Gains.{IsReadAs}
+use Rattle.wtf8.proofs.Common.{◌≡◌, ℕ, ◌+◌, ◌<◌, ◌≤◌, ◌∙◌, List, length, get_or, drop, arith, ap, sym, subst, refl, length-drop, IsWellFormed, BeginsWithPoint}
+use Rattle.wtf8.proofs.Common.{trail_by, behind_held, IsReadAs, StepsUnit}
 use Rattle.wtf8.proofs.lemmas.numbers.Encoding.{begins_moved}
-use Rattle.wtf8.specs.private.UnitSteps.{StepsUnit}
 use Rattle.wtf8.proofs.lemmas.strings.UnitCuts.{below, above, not_held, is_whole, steps_one, steps_lead, steps_trail}
 use Rattle.wtf8.proofs.lemmas.numbers.Readings.{first_of, moved, lead_of}
 use Rattle.wtf8.proofs.strings.iters.read_unit.Goals as goal
@@ -33,7 +31,7 @@ four_bytes v at h unit same long high read =
 begun : {w : List ℕ} → (v : List ℕ) (at : ℕ) → IsWellFormed (behind_held (drop at v)) → w ≡ drop at v → at < length v → 0xC0 ≤ get_or w 0 0 → BeginsWithPoint w
 begun v at h same long high =
     let n = not_held (drop at v) (above (get_or (drop at v) 0 0) (omega (arith, ap (λ x. get_or x 0 0) same))) in
-    subst BeginsWithPoint (sym same) (first_of (moved h (sym n.1)) (omega (arith, length-drop at v))).begins
+    subst BeginsWithPoint (sym same) (first_of (moved h (sym n.1)) (omega (arith, length-drop at v))).0
 
 -- the two bytes of a trail
 whole : {w : List ℕ} → (v : List ℕ) (at : ℕ) → IsWellFormed (behind_held (drop at v)) → w ≡ drop at v → 0x80 ≤ get_or w 0 0 → get_or w 0 0 < 0xC0 → 1 < length w

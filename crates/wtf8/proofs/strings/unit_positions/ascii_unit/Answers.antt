@@ -1,5 +1,5 @@
 use Rattle.wtf8.proofs.Common.{◌≡◌, ◌+◌, ℕ, ◌∙◌, arith, sym, ap, length, get_or, Some}
-use Rattle.wtf8.proofs.lemmas.laws.Laws.{ascii_unit, below_lanes}
+use Rattle.wtf8.proofs.lemmas.laws.PositionLaws.{ascii_unit, below_lanes}
 use Rattle.wtf8.proofs.strings.unit_positions.ascii_unit.Goals as goal
 
 pub returns-then-is_below : goal.returns-then-is_below

@@ -1,5 +1,5 @@
 use Rattle.wtf8.proofs.Common.{arith}
-use Rattle.wtf8.proofs.lemmas.laws.Laws.{below_lanes}
+use Rattle.wtf8.proofs.lemmas.laws.PositionLaws.{below_lanes}
 use Rattle.wtf8.proofs.lemmas.strings.Positions.{begun_ascii}
 use Rattle.wtf8.proofs.strings.unit_positions.behind_ascii.Goals as goal
 

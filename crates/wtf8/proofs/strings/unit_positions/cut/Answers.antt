@@ -1,9 +1,7 @@
 use Rattle.wtf8.proofs.Common.{◌≡◌, ◌+◌, ℕ, ◌<◌, ◌≤◌, inl, inr, List, [], ◌∷◌, length, sym, ap, ◌∙◌, arith, length-append, None, Some, subst, cases_lt, units}
-use Rattle.wtf8.proofs.Common.{IsWellFormed, IsPlaceOfUnit, CutsUnits}
-use Rattle.std.proofs.Common.{◌∙◌, sym}
+use Rattle.wtf8.proofs.Common.{IsWellFormed, IsPlaceOfUnit, CutsUnits, Place}
 use Rattle.wtf8.proofs.lemmas.numbers.Readings.{units_one, units_two, units-append, lengths}
 use Rattle.wtf8.proofs.lemmas.strings.Positions.{PointsAbout, points_about, boundary_of, points_behind}
-use Rattle.wtf8.specs.declared.strings.unit_positions.Place.{Place}
 use Rattle.wtf8.proofs.strings.unit_positions.cut.Goals as goal
 
 -- The code points about a place among bytes, and what they say of a number of units.

@@ -1,9 +1,8 @@
-use Rattle.wtf8.proofs.Common.{arith, get_or, units_begun}
-use Rattle.std.proofs.lemmas.List.Sums.{sum_by_more}
-use Rattle.wtf8.proofs.lemmas.lanes.Surrogates.{begun_low, begun_inside}
-use Rattle.wtf8.proofs.strings.unit_positions.find_unit_from.Goals as goal
+use Rattle.wtf8.proofs.Common.{arith, get_or, units_begun, sum_by_more}
+use Rattle.wtf8.proofs.lemmas.lanes.UnitCounts.{begun_low, begun_inside}
 use Rattle.wtf8.proofs.strings.unit_positions.find_unit_from.Goals.{then-byte-lt128+else-units_before-unit, else-byte-lt128+then-byte-ge192+else-unit-units_before}
 use Rattle.wtf8.proofs.strings.unit_positions.find_unit_from.Goals.{else-byte-lt128+else-byte-ge192}
+use Rattle.wtf8.proofs.strings.unit_positions.find_unit_from.Goals as goal
 
 pub returns-then-units_before-unit : goal.returns-then-units_before-unit
 returns-then-units_before-unit c =

@@ -1,9 +1,8 @@
 use Rattle.wtf8.proofs.Common.{◌≡◌, ℕ, ◌+◌, ◌-◌, ◌*◌, ◌<◌, ◌≤◌, List, subst, inl, inr, arith, length, get_or, chunk, cases_lt, AreAscii, view_units, view_form}
-use Rattle.std.proofs.lemmas.Simd.{Each1-from_get_or}
-use Rattle.wtf8.proofs.lemmas.laws.Laws.{below_lanes}
+use Rattle.wtf8.proofs.Common.{Each1-from_get_or, HasLane}
+use Rattle.wtf8.proofs.lemmas.laws.PositionLaws.{below_lanes}
 use Rattle.wtf8.proofs.lemmas.numbers.Readings.{units_from_form}
 use Rattle.wtf8.proofs.lemmas.units_in.Blocks.{ascii_form}
-use Rattle.wtf8.specs.private.UnitCounts.{HasLane}
 use Rattle.wtf8.proofs.strings.unit_positions.is_ascii.Goals as goal
 
 -- a byte among n that are below

@@ -1,4 +1,4 @@
-use Rattle.wtf8.proofs.lemmas.lanes.Surrogates.{begins, pairs, lanes_fit, counts_are}
+use Rattle.wtf8.proofs.lemmas.lanes.UnitCounts.{begins, pairs, lanes_fit, counts_are}
 use Rattle.wtf8.proofs.strings.unit_positions.units_begun_by_each.Goals as goal
 
 pub overflow_add-result : goal.overflow_add-result

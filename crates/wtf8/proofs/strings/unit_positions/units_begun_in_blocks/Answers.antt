@@ -1,9 +1,7 @@
-use Rattle.std.proofs.Common.{◌≡◌, ℕ, ◌+◌, ◌*◌, ◌≤◌, List, map, length, Fits, w8, w16, ap, sym, ◌∙◌, subst, arith}
-use Rattle.std.proofs.lemmas.List.{length-map, map-id}
-use Rattle.std.proofs.lemmas.Simd.{Each1-weaker, length-chunk, length-zip2, fold-sum}
+use Rattle.wtf8.proofs.Common.{◌≡◌, ℕ, ◌+◌, ◌*◌, ◌≤◌, List, map, length, Fits, w8, w16, ap, sym, ◌∙◌, subst, arith, length-map, map-id, Each1-weaker}
+use Rattle.wtf8.proofs.Common.{length-chunk, length-zip2, fold-sum, all_units_begun, units_begun}
 use lib.Lanes.{chunk, zip2, Each1, Each2, Steps, fold_l, sum_l}
-use Rattle.wtf8.proofs.Common.{all_units_begun, units_begun}
-use Rattle.wtf8.proofs.lemmas.lanes.Surrogates.{lanes_fit_more, lanes_grow, sums_grow, sum_fits_two_bytes}
+use Rattle.wtf8.proofs.lemmas.lanes.UnitCounts.{lanes_fit_more, lanes_grow, sums_grow, sum_fits_two_bytes}
 use Rattle.wtf8.proofs.lemmas.strings.Positions.{blocks_more}
 use Rattle.wtf8.proofs.strings.unit_positions.units_begun_in_blocks.Goals as goal
 

@@ -1,5 +1,4 @@
-use Rattle.wtf8.proofs.Common.{◌≡◌, ◌*◌, ◌≤◌, length, chunk, all_units_begun, Each1}
-use lib.Lanes.{sum_l}
+use Rattle.wtf8.proofs.Common.{◌≡◌, ◌*◌, ◌≤◌, length, chunk, all_units_begun, Each1, sum_l}
 use Rattle.wtf8.proofs.strings.unit_positions.units_begun_in_blocks.Given as goal
 
 -- the lanes add up to the units so far, and each block added 2 at most to each

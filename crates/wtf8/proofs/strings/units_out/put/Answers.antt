@@ -1,5 +1,4 @@
-use Rattle.wtf8.proofs.Common.{◌∙◌, ◌+◌, ap, arith, take}
-use Rattle.std.proofs.lemmas.Simd.{put_chunk_is}
+use Rattle.wtf8.proofs.Common.{◌∙◌, ◌+◌, ap, arith, take, put_chunk_is}
 use Rattle.wtf8.proofs.lemmas.units_in.Pieces.{wrote_part}
 use Rattle.wtf8.proofs.strings.units_out.put.Goals as goal
 

@@ -1,5 +1,4 @@
-use Rattle.wtf8.proofs.Common.{length, view_units}
-use Rattle.wtf8.specs.private.UnitRows.{Writes}
+use Rattle.wtf8.proofs.Common.{length, view_units, Writes}
 use Rattle.wtf8.proofs.strings.units_out.widen_all.Given as goal
 
 -- with the units that are left behind them these are all, and there is room

@@ -1,5 +1,4 @@
-use Rattle.wtf8.proofs.Common.{◌≡◌, ◌*◌, arith, ap, subst, take}
-use Rattle.wtf8.specs.private.UnitRows.{BeginsWithUnits}
+use Rattle.wtf8.proofs.Common.{◌≡◌, ◌*◌, arith, ap, subst, take, BeginsWithUnits}
 use Rattle.wtf8.proofs.strings.units_out.widen_row.Goals as goal
 
 pub widen_units-requires : goal.widen_units-requires

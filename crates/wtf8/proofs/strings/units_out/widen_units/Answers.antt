@@ -1,5 +1,4 @@
-use Rattle.wtf8.proofs.Common.{◌++◌, ◌∙◌, ap, sym, arith, length, length-append, take, append_assoc, units, view_units}
-use Rattle.std.proofs.lemmas.List.{length-take-le}
+use Rattle.wtf8.proofs.Common.{◌++◌, ◌∙◌, ap, sym, arith, length, length-append, take, append_assoc, units, view_units, length-take-le}
 use Rattle.wtf8.proofs.strings.units_out.widen_units.Goals as goal
 
 pub behind-requires-clause-well_formed : goal.behind-requires-clause-well_formed

@@ -1,8 +1,8 @@
 use Rattle.wtf8.proofs.Common.{refl, sym, has_written_styled_nil}
 use Rattle.wtf8.proofs.lemmas.texts.DebugTexts.{then_written, written_as, written_to, upper_four, upper_five, upper_six}
-use Rattle.wtf8.proofs.texts.debug_text.write_upper.Goals as goal
 use Rattle.wtf8.proofs.texts.debug_text.write_upper.Goals.{then-value-ge1048576+in_ok-write_digit+in_ok-write_digit-2}
 use Rattle.wtf8.proofs.texts.debug_text.write_upper.Goals.{else-value-ge1048576+then-value-ge65536+in_ok-write_digit-3, else-value-ge1048576+else-value-ge65536}
+use Rattle.wtf8.proofs.texts.debug_text.write_upper.Goals as goal
 
 pub returns : goal.returns
 returns g c = λ flush ok.

@@ -1,5 +1,4 @@
-use Rattle.wtf8.proofs.Common.{◌≡◌, ◌++◌, ◌∷◌, IfSome, refl, subst, sym, lit≤, lit<, bytes, lossy}
-use Rattle.wtf8.specs.View.{view_points}
+use Rattle.wtf8.proofs.Common.{◌≡◌, ◌++◌, ◌∷◌, IfSome, refl, subst, sym, lit≤, lit<, bytes, lossy, view_points}
 use Rattle.wtf8.proofs.lemmas.texts.DebugTexts.{continued, written_as}
 use Rattle.wtf8.proofs.lemmas.numbers.Encoding.{encoding_three}
 use Rattle.wtf8.proofs.texts.display_text.write_lossy.Goals as goal

@@ -1,5 +1,4 @@
-use Rattle.wtf8.proofs.Common.{◌≡◌, ◌↔◌, ℕ, Option, None, Some, IfSome, refl, sym, ◌∙◌, false≢true, number, replaced, IsSurrogate}
-use Rattle.std.specs.Option.{IsNone, unwrap_or}
+use Rattle.wtf8.proofs.Common.{◌≡◌, ◌↔◌, ℕ, Option, None, Some, IfSome, refl, sym, ◌∙◌, false≢true, number, replaced, IsSurrogate, IsNone, unwrap_or}
 use Rattle.wtf8.proofs.lemmas.strings.Surrogates.{replaced_surrogate, replaced_scalar}
 use Rattle.wtf8.proofs.numbers.code_point.CodePoint.to_char_lossy.Goals as goal
 

@@ -1,11 +1,8 @@
-use Rattle.wtf8.proofs.Common.{◌≡◌, ◌<◌, ◌+◌, ℕ, List, [], ◌∷◌, ◌++◌, length, get_or, Bool, true, false, cond, Some, refl, ap, ◌∙◌, sym, subst, arith, append_assoc}
-use Rattle.wtf8.proofs.Common.{All, Step, Run, Append, IsNoTruncation, Build, Reserve, Truncate, TruncateUnits, ◌≤◌, take, drop, inl, inr, false≢true, cases_lt}
-use Rattle.wtf8.proofs.Common.{append-nil, IsForm, FindRoom, All-nil, All-cons, take_all}
-use Rattle.std.proofs.lemmas.List.Elements.{All-get_or}
-use Rattle.wtf8.specs.Appending.{FitWithin}
-use Rattle.std.proofs.lemmas.Option.{none-some}
+use Rattle.wtf8.proofs.Common.{◌≡◌, ◌<◌, ◌+◌, ℕ, List, [], ◌∷◌, ◌++◌, length, get_or, Bool, true, false, cond, Some, refl, ap, ◌∙◌, sym, subst, arith}
+use Rattle.wtf8.proofs.Common.{append_assoc, All, Step, Run, Append, IsNoTruncation, Build, Reserve, Truncate, TruncateUnits, ◌≤◌, take, drop, inl, inr}
+use Rattle.wtf8.proofs.Common.{false≢true, cases_lt, append-nil, IsForm, FindRoom, All-nil, All-cons, take_all, All-get_or, FitWithin, none-some}
 use Rattle.wtf8.specs.Building.{appended, asked, LeavesReserved}
-use Rattle.wtf8.proofs.lemmas.laws.Laws.{reserved_more}
+use Rattle.wtf8.proofs.lemmas.laws.StringLaws.{reserved_more}
 use Rattle.wtf8.proofs.lemmas.strings.Concatenation.{item_at, items_more}
 use Rattle.wtf8.proofs.lemmas.strings.Gains.{Found, found_more, wider, beginning}
 use Rattle.wtf8.proofs.strings.buf.Wtf8Buf.apply_all.Given.{Over}
@@ -23,50 +20,47 @@ run_more u (c ∷ calls) mid n call v r x s = (x.0, x.1, x.2 + r, x.3, run_more 
 some_same : (a b : List ℕ) → Some a ≡ Some b → a ≡ b
 some_same a b e = cc
 
--- what a call appends
-step_appends : (u : List ℕ) (call : Build) (v : List ℕ) (r : ℕ) (a : List ℕ) → Step u call v r → appended call ≡ Some a → v ≡ u ++ a
-step_appends u (Reserve n) v r a s e = absurd (none-some a e)
-step_appends u (Truncate k) v r a s e = absurd (none-some a e)
-step_appends u (TruncateUnits n) v r a s e = absurd (none-some a e)
-step_appends u call v r a s e = s.0 ∙ ap (λ b. u ++ b) (some_same _ a e)
+-- what a call that appends does
+record Adds (u : List ℕ) (call : Build) (a : List ℕ) : Type 0 where
+  no_truncation : IsNoTruncation call
+  asks : asked call ≡ 0
+  step : Step u call (u ++ a) 0
+  only : (v : List ℕ) (r : ℕ) → Step u call v r → v ≡ u ++ a
 
-no_truncation : (call : Build) (a : List ℕ) → appended call ≡ Some a → IsNoTruncation call
-no_truncation (Truncate k) a e = absurd (none-some a e)
-no_truncation (TruncateUnits n) a e = absurd (none-some a e)
-no_truncation call a e = tt
+adds : (u : List ℕ) (call : Build) (a : List ℕ) → appended call ≡ Some a → Adds u call a
+adds u (Reserve n) a e = absurd (none-some a e)
+adds u (Truncate k) a e = absurd (none-some a e)
+adds u (TruncateUnits n) a e = absurd (none-some a e)
+adds u call a e =
+    let same : _ ≡ a = some_same _ a e in
+    record { no_truncation = tt; asks = refl; step = (ap (λ b. u ++ b) (sym same), refl); only = λ v r s. s.0 ∙ ap (λ b. u ++ b) same }
 
 -- what a run of pushes and extensions appends, of which none truncates
 run_appends : (u : List ℕ) (calls : List Build) (v : List ℕ) (n : ℕ) (a : List ℕ) → Run u calls v n → Append calls a → v ≡ u ++ a
 run_appends u [] v n a x e = x.0 ∙ (sym (append-nil u) ∙ ap (λ b. u ++ b) (sym e))
 run_appends u (call ∷ calls) v n a x e =
-    let here = step_appends u call x.0 x.1 e.0 x.3 e.2 in
+    let here = (adds u call e.0 e.2).only x.0 x.1 x.3 in
     let rest = run_appends x.0 calls v x.2 e.1 x.4 e.3 in
     rest ∙ (ap (λ m. m ++ e.1) here ∙ (append_assoc u e.0 e.1 ∙ ap (λ b. u ++ b) (sym e.4)))
 
 none_truncates : (calls : List Build) (a : List ℕ) → Append calls a → All IsNoTruncation calls
 none_truncates [] a e = All-nil IsNoTruncation
-none_truncates (call ∷ calls) a e = All-cons IsNoTruncation call calls (no_truncation call e.0 e.2) (none_truncates calls e.1 e.3)
+none_truncates (call ∷ calls) a e = All-cons IsNoTruncation call calls (adds [] call e.0 e.2).no_truncation (none_truncates calls e.1 e.3)
 
 -- where all that they append fits, each finds room
-finds_step : (u : List ℕ) (call : Build) (a : List ℕ) → appended call ≡ Some a → Step u call (u ++ a) 0 × (asked call ≡ 0)
-finds_step u (Reserve n) a e = absurd (none-some a e)
-finds_step u (Truncate k) a e = absurd (none-some a e)
-finds_step u (TruncateUnits n) a e = absurd (none-some a e)
-finds_step u call a e = ((ap (λ b. u ++ b) (sym (some_same _ a e)), refl), refl)
-
 find_room : (u : List ℕ) (calls : List Build) (a : List ℕ) (capacity : ℕ) → Append calls a → FitWithin (u ++ a) 0 capacity → FindRoom u calls (u ++ a) capacity
 find_room u [] a capacity e fit = ap (λ b. u ++ b) e ∙ append-nil u
 find_room u (call ∷ calls) a capacity e fit =
     let mid = u ++ e.0 in
     let whole : u ++ a ≡ mid ++ e.1 = ap (λ b. u ++ b) e.4 ∙ sym (append_assoc u e.0 e.1) in
     let fits : FitWithin (mid ++ e.1) 0 capacity = subst (λ w. FitWithin w 0 capacity) whole fit in
-    let step = finds_step u call e.0 e.2 in
+    let here = adds u call e.0 e.2 in
     let b = beginning mid e.1 fits.whole fits.form in (
       mid,
       record {
-        no_truncation = no_truncation call e.0 e.2;
-        step = step.0;
-        fits = record { whole = b.whole; form = b.form; within = omega (arith, b.within, fits.within, step.1) };
+        no_truncation = here.no_truncation;
+        step = here.step;
+        fits = record { whole = b.whole; form = b.form; within = omega (arith, b.within, fits.within, here.asks) };
       },
       subst (λ w. FindRoom mid calls w capacity) (sym whole) (find_room mid calls e.1 capacity e.3 fits),
     )

@@ -1,5 +1,4 @@
-use Rattle.wtf8.proofs.Common.{◌≤◌, take, All, Run, IsNoTruncation}
-use Rattle.wtf8.specs.Building.{LeavesReserved}
+use Rattle.wtf8.proofs.Common.{◌≤◌, take, All, Run, IsNoTruncation, LeavesReserved}
 use Rattle.wtf8.proofs.lemmas.strings.Gains.{Found}
 use Rattle.wtf8.proofs.strings.buf.Wtf8Buf.apply_all.Given as goal
 

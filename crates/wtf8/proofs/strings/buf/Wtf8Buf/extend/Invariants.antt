@@ -1,5 +1,4 @@
-use Rattle.std.proofs.Common.{◌≤◌}
-use Rattle.wtf8.specs.Appending.{AppendsPoints}
+use Rattle.wtf8.proofs.Common.{◌≤◌, AppendsPoints}
 use Rattle.wtf8.proofs.strings.buf.Wtf8Buf.extend.Given as goal
 
 -- the items so far are appended, and the capacity is no smaller

@@ -1,5 +1,4 @@
-use Rattle.wtf8.proofs.Common.{◌++◌, ◌+◌, ◌∙◌, ap, arith, false≢true, numbers, take, units}
-use Rattle.std.proofs.lemmas.Result.{on_err_weaker}
+use Rattle.wtf8.proofs.Common.{◌++◌, ◌+◌, ◌∙◌, ap, arith, false≢true, numbers, take, units, on_err_weaker}
 use Rattle.wtf8.proofs.lemmas.strings.AsciiEnds.{points_more}
 use Rattle.wtf8.proofs.lemmas.strings.Gains.{extended_length}
 use Rattle.wtf8.proofs.strings.buf.Wtf8Buf.extend_from_points.Goals as goal

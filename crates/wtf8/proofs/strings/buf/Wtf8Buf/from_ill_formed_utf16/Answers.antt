@@ -1,4 +1,4 @@
-use Rattle.std.proofs.Common.{◌∙◌, refl}
+use Rattle.wtf8.proofs.Common.{◌∙◌, refl}
 use Rattle.wtf8.proofs.lemmas.numbers.Readings.{well_formed_of, same_form}
 use Rattle.wtf8.proofs.lemmas.strings.Gains.{scalar_moved}
 use Rattle.wtf8.proofs.strings.buf.Wtf8Buf.from_ill_formed_utf16.Goals as goal

@@ -1,5 +1,4 @@
-use Rattle.std.proofs.Common.{refl, ap}
-use Rattle.std.proofs.lemmas.Str.{IsUtf8-string_bytes}
+use Rattle.wtf8.proofs.Common.{refl, ap, IsUtf8-string_bytes}
 use Rattle.wtf8.proofs.lemmas.numbers.Readings.{well_formed_of}
 use Rattle.wtf8.proofs.lemmas.strings.Gains.{scalar_moved, scalar_text, text_at}
 use Rattle.wtf8.proofs.strings.buf.Wtf8Buf.from_string.Goals as goal

@@ -1,5 +1,4 @@
-use Rattle.wtf8.proofs.Common.{arith}
-use Rattle.std.proofs.lemmas.List.{take_rest}
+use Rattle.wtf8.proofs.Common.{arith, take_rest}
 use Rattle.wtf8.proofs.lemmas.strings.AsciiEnds.{ascii_more}
 use Rattle.wtf8.proofs.strings.buf.Wtf8Buf.push_ascii_front.Goals as goal
 

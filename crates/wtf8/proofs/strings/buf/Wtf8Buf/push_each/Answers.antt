@@ -1,5 +1,5 @@
-use Rattle.wtf8.proofs.Common.{ℕ, rules, ◌≡◌, ◌+◌, ◌++◌, ◌∷◌, ◌<◌, ◌∙◌, length, take, drop, arith, ap, sym, append_assoc, false≢true, number, numbers}
-use Rattle.wtf8.proofs.Common.{units, units_of}
+use Rattle.wtf8.proofs.Common.{ℕ, rules, ◌≡◌, ◌+◌, ◌++◌, ◌∷◌, ◌<◌, ◌∙◌, length, take, drop, arith, ap, sym, append_assoc, false≢true, number, numbers, units}
+use Rattle.wtf8.proofs.Common.{units_of}
 use Rattle.wtf8.proofs.lemmas.strings.Concatenation.{item_at}
 use Rattle.wtf8.proofs.lemmas.strings.Gains.{beginning, units-points}
 use Rattle.wtf8.proofs.strings.buf.Wtf8Buf.push_each.Goals as goal

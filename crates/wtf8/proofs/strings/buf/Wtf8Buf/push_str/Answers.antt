@@ -1,6 +1,6 @@
 use Rattle.wtf8.proofs.Common.{ap, arith, length, refl, units, Gains, chars}
 use Rattle.wtf8.proofs.lemmas.strings.Gains.{units_appended, kept_contents, room_found, known_gained, scalar_text, well_formed_text}
-use Rattle.wtf8.proofs.lemmas.laws.Laws.{nothing_appended}
+use Rattle.wtf8.proofs.lemmas.laws.StringLaws.{nothing_appended}
 use Rattle.wtf8.proofs.lemmas.numbers.Readings.{no_points}
 use Rattle.wtf8.proofs.strings.buf.Wtf8Buf.push_str.Given.{Over}
 use Rattle.wtf8.proofs.strings.buf.Wtf8Buf.push_str.Goals.{After-push_text}

@@ -1,6 +1,6 @@
 use Rattle.wtf8.proofs.Common.{UnitString, IsForm, ◌++◌, ◌∙◌, subst, sym, append-nil, ap, arith, length, refl, units, view_units, view_form}
 use Rattle.wtf8.proofs.lemmas.strings.Gains.{units_appended, kept_contents, room_found, known_gained, scalar_apart, scalar_moved}
-use Rattle.wtf8.proofs.lemmas.laws.Laws.{grows_at_most, added_length, nothing_appended, room_left}
+use Rattle.wtf8.proofs.lemmas.laws.StringLaws.{grows_at_most, added_length, nothing_appended, room_left}
 use Rattle.wtf8.proofs.lemmas.numbers.Readings.{no_points, well_formed_of, form_of}
 use Rattle.wtf8.proofs.strings.buf.Wtf8Buf.push_wtf8.Goals as goal
 

@@ -1,8 +1,7 @@
-use Rattle.wtf8.proofs.Common.{◌∙◌, ap, sym, subst, arith, UnitString, units, IsBoundary, IsFront, IsWellFormed}
+use Rattle.wtf8.proofs.Common.{◌∙◌, ap, sym, subst, arith, UnitString, units, IsBoundary, IsFront, IsWellFormed, AreScalarTo}
 use Rattle.wtf8.proofs.lemmas.strings.Positions.{cut_at}
 use Rattle.wtf8.proofs.lemmas.numbers.Readings.{moved, same_points}
 use Rattle.wtf8.proofs.lemmas.strings.Gains.{scalar_to-front}
-use Rattle.wtf8.specs.OneForm.{AreScalarTo}
 use Rattle.wtf8.proofs.strings.buf.Wtf8Buf.truncate.Goals as goal
 
 pub invariant_of-self-inside : goal.invariant_of-self-inside

@@ -1,6 +1,5 @@
-use Rattle.wtf8.proofs.Common.{◌≡◌, ℕ, ◌∙◌, List, [], ◌∷◌, ◌++◌, drop, arith, ap, sym, refl, length-drop, IsWellFormed, units, Unread, unread_units}
-use Rattle.wtf8.proofs.Common.{held_in, behind_held, unread_after}
-use Rattle.wtf8.specs.private.UnitSteps.{unread_at, StepsUnit}
+use Rattle.wtf8.proofs.Common.{◌≡◌, ℕ, ◌∙◌, List, [], ◌∷◌, ◌++◌, drop, arith, ap, sym, refl, length-drop, IsWellFormed, units, Unread, unread_units, held_in}
+use Rattle.wtf8.proofs.Common.{behind_held, unread_after, unread_at, StepsUnit}
 use Rattle.wtf8.proofs.lemmas.numbers.Readings.{same_points}
 use Rattle.wtf8.proofs.lemmas.strings.UnitCuts.{ended}
 use Rattle.wtf8.proofs.strings.iters.IllFormedUtf16CodeUnits.give_unit.Goals as goal

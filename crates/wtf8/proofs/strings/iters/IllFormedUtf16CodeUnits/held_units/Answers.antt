@@ -1,5 +1,4 @@
-use Rattle.std.proofs.Common.{◌≡◌, ◌+◌, ◌≤◌, ◌<◌, ◌∙◌, sym, length, ap, drop, get_or, arith}
-use Rattle.std.proofs.lemmas.List.{get_or-drop}
+use Rattle.wtf8.proofs.Common.{◌≡◌, ◌+◌, ◌≤◌, ◌<◌, ◌∙◌, sym, length, ap, drop, get_or, arith, get_or-drop}
 use Rattle.wtf8.proofs.lemmas.strings.UnitCuts.{inside, is_whole, held_at}
 use Rattle.wtf8.proofs.strings.iters.IllFormedUtf16CodeUnits.held_units.Goals as goal
 

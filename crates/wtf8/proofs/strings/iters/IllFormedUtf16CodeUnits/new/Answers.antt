@@ -1,4 +1,4 @@
-use Rattle.std.proofs.Common.{arith}
+use Rattle.wtf8.proofs.Common.{arith}
 use Rattle.wtf8.proofs.lemmas.strings.UnitCuts.{starts, not_held}
 use Rattle.wtf8.proofs.lemmas.numbers.Readings.{moved, same_points}
 use Rattle.wtf8.proofs.strings.iters.IllFormedUtf16CodeUnits.new.Goals as goal

@@ -12,7 +12,7 @@ returns-then-self c =
 pub read-behind-requires-clause-front : goal.read-behind-requires-clause-front
 read-behind-requires-clause-front c =
     let s = c.self.inside in
-    rw c.split_at.ensures.back (first_of s.well_formed (omega (arith, length-drop s.at s.bytes.now, s.within, c.if-self.false))).begins
+    rw c.split_at.ensures.back (first_of s.well_formed (omega (arith, length-drop s.at s.bytes.now, s.within, c.if-self.false))).0
 
 pub invariant_of-self-inside : goal.invariant_of-self-inside
 invariant_of-self-inside c =

@@ -1,4 +1,4 @@
-use Rattle.std.proofs.Common.{arith, ap, length, length-drop}
+use Rattle.wtf8.proofs.Common.{arith, ap, length, length-drop}
 use Rattle.wtf8.proofs.lemmas.numbers.Readings.{lengths}
 use Rattle.wtf8.proofs.strings.iters.Wtf8CodePointsIterator.size_hint.Goals as goal
 

@@ -1,5 +1,4 @@
-use Rattle.wtf8.proofs.Common.{arith}
-use Rattle.wtf8.specs.private.UnitRows.{unit_of_two}
+use Rattle.wtf8.proofs.Common.{arith, unit_of_two}
 use Rattle.wtf8.proofs.lemmas.strings.UnitsOut.{begins_with_rows, two_rows}
 use Rattle.wtf8.proofs.strings.units_out.TwoBytesKind8216.read.Goals as goal
 

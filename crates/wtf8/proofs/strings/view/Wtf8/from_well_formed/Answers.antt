@@ -1,4 +1,4 @@
-use Rattle.std.proofs.Common.{refl}
+use Rattle.wtf8.proofs.Common.{refl}
 use Rattle.wtf8.proofs.lemmas.numbers.Readings.{same_points}
 use Rattle.wtf8.proofs.strings.view.Wtf8.from_well_formed.Goals as goal
 

@@ -1,5 +1,4 @@
-use Rattle.wtf8.proofs.Common.{◌≡◌, ℕ, ◌∷◌, ◌∙◌, List, length, sym, ap, arith, bytes, encoding, IsWellFormed, IsTrail}
-use Rattle.wtf8.specs.private.Gains.{FrontSays}
+use Rattle.wtf8.proofs.Common.{◌≡◌, ℕ, ◌∷◌, ◌∙◌, List, length, sym, ap, arith, bytes, encoding, IsWellFormed, IsTrail, FrontSays}
 use Rattle.wtf8.proofs.lemmas.numbers.Encoding.{begins_with}
 use Rattle.wtf8.proofs.lemmas.numbers.Readings.{first_of}
 use Rattle.wtf8.proofs.strings.view.Wtf8.initial_trail_surrogate.Goals as goal
@@ -9,15 +8,15 @@ says_trail : {w : List ℕ} (h : IsWellFormed w) (t : ℕ) (r : List ℕ) → Is
 says_trail h t r i e = (begins_with t (bytes r) _ (omega arith) (sym h.encoded ∙ ap bytes e)).says
 
 pub low_bits-requires-in-237 : goal.low_bits-requires-in-237
-low_bits-requires-in-237 c = let s = (first_of c.args.self.well_formed (omega arith)).begins.says in omega arith
+low_bits-requires-in-237 c = let s = (first_of c.args.self.well_formed (omega arith)).0.says in omega arith
 
 pub returns-in-237-clause-trail : goal.returns-in-237-clause-trail
-returns-in-237-clause-trail c = let s = (first_of c.args.self.well_formed (omega arith)).begins.says in (omega arith, omega arith)
+returns-in-237-clause-trail c = let s = (first_of c.args.self.well_formed (omega arith)).0.says in (omega arith, omega arith)
 
 pub returns-in-237-clause-first : goal.returns-in-237-clause-first
 returns-in-237-clause-first c =
     let f = first_of c.args.self.well_formed (omega arith) in
-    let s = f.begins.says in (f.behind.points, f.points ∙ ap (λ q. q ∷ f.behind.points) (omega arith))
+    let s = f.0.says in (f.1.rest.points, f.1.joined ∙ ap (λ q. q ∷ f.1.rest.points) (omega arith))
 
 pub returns-in_default-clause-none : goal.returns-in_default-clause-none
 returns-in_default-clause-none c t r i e = let s = says_trail c.args.self.well_formed t r i e in grind arith

@@ -1,5 +1,4 @@
-use Rattle.std.proofs.Common.{arith, ℕ, ◌≤◌, ◌≡◌, ◌==◌, true, length}
-use Rattle.std.proofs.lemmas.Bool.Decides.{nat_tests}
+use Rattle.wtf8.proofs.Common.{arith, ℕ, ◌≤◌, ◌≡◌, ◌==◌, true, length, nat_tests}
 use Rattle.wtf8.proofs.lemmas.strings.Positions.{cut_at, boundary_from_byte, byte_from_boundary}
 use Rattle.wtf8.proofs.strings.view.Wtf8.is_code_point_boundary.Goals as goal
 

@@ -1,4 +1,4 @@
-use Rattle.std.proofs.Common.{arith, rules, length, ap}
+use Rattle.wtf8.proofs.Common.{arith, rules, length, ap}
 use Rattle.wtf8.proofs.lemmas.numbers.Readings.{lengths}
 use Rattle.wtf8.proofs.strings.view.Wtf8.len.Goals as goal
 

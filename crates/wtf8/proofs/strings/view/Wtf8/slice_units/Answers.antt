@@ -1,10 +1,7 @@
-use Rattle.wtf8.proofs.Common.{nat_tests, ◌≤◌, ◌≡◌, ◌∙◌, ◌+◌, ◌-◌, [], ◌++◌, ap, sym, subst, length, take, arith, length-append, length-drop, length-take, drop, drop_all, units, view_units}
-use Rattle.std.proofs.lemmas.List.{drop-take}
-use Rattle.std.specs.Option.{option_to_list}
-use Rattle.wtf8.specs.UnitPosition.{DividesPair}
+use Rattle.wtf8.proofs.Common.{nat_tests, ◌≤◌, ◌≡◌, ◌∙◌, ◌+◌, ◌-◌, [], ◌++◌, ap, sym, subst, length, take, arith, length-append, length-drop, length-take, drop}
+use Rattle.wtf8.proofs.Common.{drop_all, units, view_units, drop-take, option_to_list, DividesPair, take-append-add}
 use Rattle.wtf8.proofs.lemmas.numbers.Readings.{no_points}
 use Rattle.wtf8.proofs.lemmas.strings.UnitCuts.{divides_behind}
-use Rattle.std.proofs.Math.Seq.{take-append-add}
 use Rattle.wtf8.proofs.strings.view.Wtf8.slice_units.Goals.{After-count_of}
 use Rattle.wtf8.proofs.strings.view.Wtf8.slice_units.Goals as goal
 

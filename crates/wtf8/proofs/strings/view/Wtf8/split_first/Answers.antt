@@ -6,7 +6,7 @@ pub returns-then-is_empty-clause-none : goal.returns-then-is_empty-clause-none
 returns-then-is_empty-clause-none c = no_points c.args.self.well_formed (grind (arith, nat_tests))
 
 pub read-width-requires-clause-front : goal.read-width-requires-clause-front
-read-width-requires-clause-front c = (first_of c.args.self.well_formed (grind (arith, nat_tests))).begins
+read-width-requires-clause-front c = (first_of c.args.self.well_formed (grind (arith, nat_tests))).0
 
 pub split_at-requires : goal.split_at-requires
 split_at-requires c = (taken c.args.self.bytes.now 0 c.args.self.well_formed _ _ (grind (arith, nat_tests)) c.read-width.ensures).within

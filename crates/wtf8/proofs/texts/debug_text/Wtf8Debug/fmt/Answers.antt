@@ -1,4 +1,4 @@
-use Rattle.std.proofs.Common.{refl}
+use Rattle.wtf8.proofs.Common.{refl}
 use Rattle.wtf8.proofs.lemmas.texts.DebugTexts.{then_written}
 use Rattle.wtf8.proofs.texts.debug_text.Wtf8Debug.fmt.Goals as goal
 

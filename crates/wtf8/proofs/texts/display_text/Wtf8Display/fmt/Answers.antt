@@ -1,5 +1,4 @@
-use Rattle.wtf8.proofs.Common.{◌≡◌, ℕ, List, refl, scalars, bytes, IsClean, AreScalar, lossy, ap, false≢true}
-use Rattle.std.proofs.lemmas.Bool.{false_from_ne_true}
+use Rattle.wtf8.proofs.Common.{◌≡◌, ℕ, List, refl, scalars, bytes, IsClean, AreScalar, lossy, ap, false≢true, false_from_ne_true}
 use Rattle.wtf8.specs.Display.{displayed}
 use Rattle.wtf8.proofs.lemmas.strings.Gains.{scalar-characters}
 use Rattle.wtf8.proofs.lemmas.strings.Surrogates.{scalars_true, lossy-scalar}

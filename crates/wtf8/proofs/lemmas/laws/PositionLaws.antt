@@ -1,0 +1,179 @@
+-- The laws of positions, of lengths and of ASCII bytes.
+use Rattle.wtf8.proofs.Common.{ℕ, List, [], ◌++◌, length, refl, ap, ◌∙◌, sym, subst, arith, append_assoc, length-append, append-nil, append_cancel_left, units}
+use Rattle.wtf8.proofs.Common.{bytes, Reads, IsForm, IsBoundary, ◌≡◌, ◌≢◌, ◌<◌, ◌+◌, ◌-◌, ◌/◌, ◌%◌, inl, ◌∷◌, get_or, drop_at, All-cons, All-drop, All-head}
+use Rattle.wtf8.proofs.Common.{All-nil, All, encoding, IsFront, IsBack, slice_get, Some, zero, suc, ◌≤◌, inr, cases_lt, chunk, length-chunk, get_or-chunk}
+use Rattle.wtf8.proofs.Common.{HasLane}
+use Rattle.std.proofs.lemmas.List.{append_cancel_right}
+use Rattle.wtf8.specs.Laws.{FrontAndBackAreWhole}
+use Rattle.wtf8.specs.PositionLaws.{StartIsBoundary, EndIsBoundary, NoneIsBeyondEnd, FrontBoundariesAreOfWhole, WholeBoundariesAreOfFront, WholeBoundariesAreOfBack}
+use Rattle.wtf8.specs.PositionLaws.{BackBoundariesAreOfWhole, BeginningsAreNoLonger, BothAreNoLonger, AsciiStandsAlone, AsciiIsOneUnit}
+use Rattle.wtf8.specs.PositionLaws.{AsciiIsNoOtherUnit}
+use Rattle.wtf8.proofs.lemmas.numbers.Encoding.{bytes-append, bytes-pushed, row_of, one, two, three, four, own_byte}
+use Rattle.wtf8.proofs.lemmas.numbers.Readings.{well_formed_of, reads_same, same_form, units-append, units_one, units_two}
+use Rattle.wtf8.proofs.lemmas.numbers.Readings.{units-cons_one}
+use Rattle.wtf8.proofs.lemmas.strings.Gains.{beginning, both_length}
+use Rattle.wtf8.proofs.lemmas.strings.Positions.{Cut, cut_at, begun, same_front, front_reads, back_reads, front_boundary, boundary_from_byte, first_behind}
+
+-- Proofs of the laws of positions and lengths.
+
+pub start_is_boundary : StartIsBoundary
+start_is_boundary w u f = record { front = []; back = f.points; splits = record { reads = f.reads; front_len = refl } }
+
+pub end_is_boundary : EndIsBoundary
+end_is_boundary w u f = record {
+  front = f.points;
+  back = [];
+  splits = record { reads = subst (λ c. Reads c u) (sym (append-nil f.points)) f.reads; front_len = ap length f.encoded };
+}
+
+-- a boundary of units as one of the form's own reading
+own_boundary : {w u : List ℕ} (f : IsForm w u) (k : ℕ) → IsBoundary u k → Cut w (well_formed_of f) k
+own_boundary f k b = cut_at (well_formed_of f) k (subst (λ v. IsBoundary v k) (sym f.reads.same_units) b)
+
+pub none_is_beyond : NoneIsBeyondEnd
+none_is_beyond w u k f b = (own_boundary f k b).within
+
+pub front_in_whole : FrontBoundariesAreOfWhole
+front_in_whole u v k m x b =
+    let whole = ap (λ c. c ++ x.back) (reads_same (front_reads x) b.splits.reads) ∙ append_assoc b.front b.back x.back in
+    record { front = b.front; back = b.back ++ x.back; splits = record { reads = subst (λ c. Reads c u) whole x.splits.reads; front_len = b.splits.front_len } }
+
+pub whole_in_front : WholeBoundariesAreOfFront
+whole_in_front u v k m x h b =
+    let more = begun b.front b.back x.front x.back (reads_same b.splits.reads x.splits.reads) (omega (arith, b.splits.front_len, x.splits.front_len)) in
+    let reads = subst (λ c. Reads c v) more.joined (front_reads x) in
+    record { front = b.front; back = more.more; splits = record { reads = reads; front_len = b.splits.front_len } }
+
+pub whole_in_back : WholeBoundariesAreOfBack
+whole_in_back u v k m x b =
+    let whole = reads_same x.splits.reads b.splits.reads in
+    let more = begun x.front x.back b.front b.back whole (omega (arith, b.splits.front_len, x.splits.front_len)) in
+    let behind = append_cancel_left x.front x.back (more.more ++ b.back) (whole ∙ ap (λ f. f ++ b.back) more.joined ∙ append_assoc x.front more.more b.back) in
+    let long = simp (bytes-append, length-append) at (ap (λ c. length (bytes c)) more.joined) in
+    record {
+      front = more.more;
+      back = b.back;
+      splits = record { reads = subst (λ c. Reads c v) behind (back_reads x); front_len = omega (arith, b.splits.front_len, x.splits.front_len, long) };
+    }
+
+pub back_in_whole : BackBoundariesAreOfWhole
+back_in_whole u v k m x b =
+    let whole = ap (λ c. x.front ++ c) (reads_same (back_reads x) b.splits.reads) ∙ sym (append_assoc x.front b.front b.back) in
+    let long = ap length (bytes-append x.front b.front) ∙ length-append (bytes x.front) (bytes b.front) in
+    record {
+      front = x.front ++ b.front;
+      back = b.back;
+      splits = record { reads = subst (λ c. Reads c u) whole x.splits.reads; front_len = omega (arith, long, x.splits.front_len, b.splits.front_len) };
+    }
+
+-- the units before a boundary and those from it on are the whole
+pub front_and_back : FrontAndBackAreWhole
+front_and_back u a b k x y =
+    let front = same_front u k a (units y.front) x (record { front = y.front; back = y.back; splits = y.splits; same_units = refl }) in
+    ap (λ v. v ++ b) front ∙ (ap (λ v. units y.front ++ v) (sym y.same_units) ∙ (sym (units-append y.front y.back) ∙ y.splits.reads.same_units))
+
+pub beginnings : BeginningsAreNoLonger
+beginnings w x u v f g =
+    let b = beginning u v x g in omega (arith, b.within, ap length (same_form b.whole w u b.form f))
+
+pub both_no_longer : BothAreNoLonger
+both_no_longer w v x a b f g h = (both_length f g h).most
+
+-- Proofs of the laws of bytes below 80: each is a code point and a unit by itself.
+
+-- a byte below 80 as a code point and a unit, with what is in front of it and behind it
+record Stands (u : List ℕ) (k b : ℕ) : Type 0 where
+  front : List ℕ
+  back : List ℕ
+  from_it : IsBack u k (b ∷ back)
+  to_it : IsFront u (k + 1) (front ++ b ∷ [])
+  whole : front ++ b ∷ back ≡ u
+
+stands : (front back u : List ℕ) → Reads (front ++ back) u → length (bytes front) < length (bytes (front ++ back))
+    → get_or (bytes (front ++ back)) (length (bytes front)) 0 < 0x80 → Stands u (length (bytes front)) (get_or (bytes (front ++ back)) (length (bytes front)) 0)
+stands front [] u r h low = absurd (omega (arith, ap (λ c. length (bytes c)) (append-nil front)))
+stands front (p ∷ b) u r h low =
+    let at : get_or (bytes (front ++ p ∷ b)) (length (bytes front)) 0 ≡ get_or (encoding p ++ bytes b) 0 0 = first_behind front p b in
+    let own = own_byte p (bytes b) (omega (arith, at)) in
+    let here : get_or (bytes (front ++ p ∷ b)) (length (bytes front)) 0 ≡ p = at ∙ ap (λ e. get_or (e ++ bytes b) 0 0) own.0 in
+    let unit = units_one p (omega (arith, own.1)) in
+    subst (λ x. Stands u (length (bytes front)) x) (sym here) (record {
+      front = units front;
+      back = units b;
+      from_it = record { front = front; back = p ∷ b; splits = record { reads = r; front_len = refl }; same_units = ap (λ v. v ++ units b) unit };
+      to_it = record {
+        front = front ++ p ∷ [];
+        back = b;
+        splits = record { reads = rw append_assoc r; front_len = simp (bytes-pushed, length-append, own.0) };
+        same_units = units-append front (p ∷ []) ∙ ap (λ v. units front ++ (v ++ [])) unit;
+      };
+      whole = ap (λ v. units front ++ (v ++ units b)) (sym unit) ∙ (sym (units-append front (p ∷ b)) ∙ r.same_units);
+    })
+
+ascii_stands : {w u : List ℕ} (form : IsForm w u) (k : ℕ) → k < length w → get_or w k 0 < 0x80 → Stands u k (get_or w k 0)
+ascii_stands {w} {u} form k h low =
+    let own = well_formed_of form in
+    let c = cut_at own k (boundary_from_byte own k (omega arith) (λ _. record { start = inl low })) in
+    let whole : bytes (c.front ++ c.back) ≡ w = ap bytes (sym c.points) ∙ form.encoded in
+    let len = c.splits.front_len in
+    let reads : Reads (c.front ++ c.back) u = subst (λ d. Reads d u) c.points form.reads in
+    let byte : get_or (bytes (c.front ++ c.back)) (length (bytes c.front)) 0 ≡ get_or w k 0 = cc (whole, len) in
+    let x = stands c.front c.back u reads (omega (arith, len, ap length whole)) (omega (arith, byte)) in
+    subst (λ n. Stands u n (get_or w k 0)) len (subst (λ b. Stands u (length (bytes c.front)) b) byte x)
+
+pub ascii_alone : AsciiStandsAlone
+ascii_alone w u k form h low =
+    let s = ascii_stands form k h low in
+    let from = s.from_it in (record { front = from.front; back = from.back; splits = from.splits }, front_boundary s.to_it)
+
+pub ascii_one_unit : AsciiIsOneUnit
+ascii_one_unit w u f g k form h low front back =
+    let s = ascii_stands form k h low in
+    let same_front = append_cancel_right f s.front (get_or w k 0 ∷ s.back) (front_and_back u f _ k front s.from_it ∙ sym s.whole) in
+    let same_back = append_cancel_left (s.front ++ get_or w k 0 ∷ []) g s.back
+    (front_and_back u _ g (k + 1) s.to_it back ∙ (sym s.whole ∙ sym (append_assoc s.front (get_or w k 0 ∷ []) s.back))) in
+    sym s.whole ∙ (ap (λ v. v ++ get_or w k 0 ∷ s.back) (sym same_front) ∙ ap (λ v. f ++ get_or w k 0 ∷ v) (sym same_back))
+
+-- a number below 80 that is none of the bytes is none of the units of the code points
+none_of_points : (c : List ℕ) (b : ℕ) → b < 0x80 → All (λ x. x ≢ b) (bytes c) → All (λ x. x ≢ b) (units c)
+none_of_points [] b l h = All-nil (λ x. x ≢ b)
+none_of_points (p ∷ c) b l h =
+    let P : ℕ → Type 0 = λ x. x ≢ b in
+    let rest : All P (bytes c) = subst (All P) (drop_at (encoding p) (bytes c) (length (encoding p)) refl)
+    (All-drop P (length (encoding p)) (encoding p ++ bytes c) h) in
+    let behind = none_of_points c b l rest in
+    elim (row_of p) [
+      | one m e ↦ rw (units_one p (omega arith)) (All-cons P p (units c) (All-head P p (bytes c) (rw e at h)) behind)
+      | two m n e ↦ rw (units_one p (omega arith)) (All-cons P p (units c) (λ (q : p ≡ b). omega (arith, q)) behind)
+      | three m n e ↦ rw (units_one p (omega arith)) (All-cons P p (units c) (λ (q : p ≡ b). omega (arith, q)) behind)
+      | four m e ↦
+          let lead = 0xD800 + (p - 0x10000) / 0x400 in
+          let trail = 0xDC00 + (p - 0x10000) % 0x400 in
+          rw (units_two p m) (All-cons P lead (trail ∷ units c) (λ (q : lead ≡ b). omega (arith, q))
+          (All-cons P trail (units c) (λ (q : trail ≡ b). omega (arith, q)) behind))
+    ]
+
+pub ascii_no_other_unit : AsciiIsNoOtherUnit
+ascii_no_other_unit w u b form l h =
+    subst (All (λ x. x ≢ b)) form.reads.same_units (none_of_points form.points b l (subst (All (λ x. x ≢ b)) (sym form.encoded) h))
+
+-- behind ASCII alone each byte is a unit
+pub ascii_unit : (c : List ℕ) (k : ℕ) → ((j : ℕ) → j < k + 1 → get_or (bytes c) j 0 < 0x80) → k < length (bytes c) → slice_get (units c) k ≡ Some (get_or (bytes c) k 0)
+ascii_unit [] k low long = absurd (omega (arith, long))
+ascii_unit (p ∷ c) zero low long =
+    let own = own_byte p (bytes c) (low 0 (omega arith)) in
+    ap (λ u. slice_get u 0) (units-cons_one p c (omega (arith, own.1))) ∙ ap (λ e. Some (get_or (e ++ bytes c) 0 0)) (sym own.0)
+ascii_unit (p ∷ c) (suc k) low long =
+    let own = own_byte p (bytes c) (low 0 (omega arith)) in
+    let whole : bytes (p ∷ c) ≡ p ∷ bytes c = ap (λ e. e ++ bytes c) own.0 in
+    let behind = ascii_unit c k (λ j l. omega (arith, low (suc j) (omega (arith, l)), ap (λ w. get_or w (suc j) 0) whole)) (omega (arith, long, ap length whole)) in
+    ap (λ u. slice_get u (suc k)) (units-cons_one p c (omega (arith, own.1))) ∙ (behind ∙ ap (λ w. Some (get_or w (suc k) 0)) (sym whole))
+
+-- the bytes of a block that has no lane from 80 on are below
+pub below_lanes : (n i : ℕ) (w : List ℕ) → i + n ≤ length w → ¬ (HasLane 0x80 (chunk i n w)) → (j : ℕ) → j < n → get_or w (i + j) 0 < 0x80
+below_lanes n i w room none j l =
+    let lane = get_or-chunk i n w j 0 l in
+    elim (cases_lt (get_or w (i + j) 0) 0x80) [
+      | inl low ↦ low
+      | inr high ↦ absurd (none (j, (omega (arith, length-chunk i n w room, l), omega (arith, lane, high))))
+    ]

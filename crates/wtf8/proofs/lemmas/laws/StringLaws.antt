@@ -1,0 +1,191 @@
+-- The laws of strings, and of lists of building calls.
+use Rattle.wtf8.proofs.Common.{ℕ, List, [], ◌++◌, length, refl, ap, ◌∙◌, sym, subst, arith, append-nil, units}
+use Rattle.wtf8.proofs.Common.{bytes, Reads, IsForm, IsBoundary, ◌≡◌, ◌≢◌, ◌<◌, ◌+◌, inl, ◌∷◌, get_or, All-cons, All-head}
+use Rattle.wtf8.proofs.Common.{All-nil, All, IsFront, Some, ◌≤◌, inr, cases_lt, ◌↔◌}
+use Rattle.wtf8.proofs.Common.{glue, AreScalar, view_units, view_form, Wtf8, Result, Ok, Err, OnOk, OnErr, AppendsUnits, KeepsContents, UnitString}
+use Rattle.wtf8.proofs.Common.{on_ok_weaker, ◌⊎◌, All-tail, IsUnit, IsWellFormed, Step, Run, Build, Reserve, Truncate, TruncateUnits, IsNoTruncation}
+use Rattle.wtf8.proofs.Common.{slice_index, All-from_get_or, All-pop, All-same, FitWithin, AddsLength, RunsOnce, RunsAddUp, LeavesReserved}
+use Rattle.wtf8.specs.StringLaws.{EqualBuffersHaveEqualUnits, EqualBufferAndViewHaveEqualUnits, EqualViewsHaveEqualUnits, StringsAreJoined, StringsArePaired}
+use Rattle.wtf8.specs.StringLaws.{TextsAreScalar, RoomLeftIsFound, ScalarsStay, FormsAreOfBuffers, FormsAreOfViews, WhatFitsIsFound}
+use Rattle.wtf8.proofs.lemmas.numbers.Encoding.{Begins}
+use Rattle.wtf8.proofs.lemmas.numbers.Readings.{well_formed_of, same_form}
+use Rattle.wtf8.proofs.lemmas.numbers.Readings.{same_reading}
+use Rattle.wtf8.proofs.lemmas.strings.Concatenation.{equal_forms, form-glue, form_paired, form_apart, length_paired, length_apart, one_form, units_read, at_last, before, parted_more}
+use Rattle.wtf8.proofs.lemmas.strings.Gains.{scalar_text}
+use Rattle.wtf8.proofs.lemmas.strings.Positions.{cut_at, same_front, front_boundary, boundary_from_byte}
+use Rattle.wtf8.proofs.lemmas.strings.Positions.{byte_from_boundary}
+use Rattle.wtf8.proofs.lemmas.strings.Surrogates.{lossy-scalar}
+use Rattle.wtf8.proofs.lemmas.laws.PositionLaws.{both_no_longer, ascii_no_other_unit}
+
+-- Proofs of the laws of strings as contracts see them.
+
+pub equal_buffers : EqualBuffersHaveEqualUnits
+equal_buffers s t = equal_forms s.bytes t.bytes s.units t.units s.form t.form
+
+pub equal_buffer_and_view : EqualBufferAndViewHaveEqualUnits
+equal_buffer_and_view s t = equal_forms s.bytes t.bytes.now s.units (view_units t) s.form (view_form t)
+
+pub equal_views : EqualViewsHaveEqualUnits
+equal_views s t = equal_forms s.bytes.now t.bytes.now (view_units s) (view_units t) (view_form s) (view_form t)
+
+pub strings_joined : StringsAreJoined
+strings_joined s t both e n =
+    same_form both.bytes (s.bytes ++ t.bytes) both.units both.form (subst (IsForm (s.bytes ++ t.bytes)) (sym e)
+    (form_apart s.bytes t.bytes s.units t.units s.form t.form n))
+
+pub strings_paired : StringsArePaired
+strings_paired s t both e m =
+    same_form both.bytes _ both.units both.form (subst (IsForm _) (sym e) (form_paired s.bytes t.bytes s.units t.units s.form t.form m))
+
+pub texts_scalar : TextsAreScalar
+texts_scalar w u = scalar_text u
+
+pub room_left : RoomLeftIsFound
+room_left s w v f h =
+    let whole = bytes (glue s.form.points f.points) in
+    let form : IsForm whole (s.units ++ v) = form-glue s.bytes w s.units v s.form f in
+    record { whole = whole; form = form; within = omega (arith, both_no_longer s.bytes w whole s.units v s.form f form) }
+
+pub scalars_stay : ScalarsStay
+scalars_stay = lossy-scalar
+
+pub forms_of_buffers : FormsAreOfBuffers
+forms_of_buffers s w u form e = same_form s.bytes w u (subst (IsForm s.bytes) e s.form) form
+
+pub forms_of_views : FormsAreOfViews
+forms_of_views t w u form e = same_form t.bytes.now w u (subst (IsForm t.bytes.now) e (view_form t)) form
+
+pub what_fits : WhatFitsIsFound
+what_fits s v n fit h = room_left s fit.whole v fit.form (omega (arith, fit.within, h))
+
+-- a reading is of scalar values exactly where each reading of its units is
+pub scalar_in_each_reading : (c u : List ℕ) → Reads c u → AreScalar c ↔ ((d : List ℕ) → Reads d u → AreScalar d)
+scalar_in_each_reading c u r = (λ s d x. subst AreScalar (same_reading c d r.clean x.clean (r.same_units ∙ sym x.same_units)) s, λ h. h c r)
+
+-- a number below 80 that is none of a view's bytes is none of its units
+pub no_ascii_unit : (t : Wtf8) (b : ℕ) → b < 0x80 → ((j : ℕ) → j < length t.bytes.now → slice_index t.bytes.now j ≢ b) → All (λ x. x ≢ b) (view_units t)
+no_ascii_unit t b l h = ascii_no_other_unit t.bytes.now (view_units t) b (view_form t) l (All-from_get_or (λ x. x ≢ b) t.bytes.now 0 (λ i m e. h i m e))
+
+-- What an appending call says in bytes, by what it says in units.
+
+module _ {T E : Type 0} where
+  -- the length grows by that of the form of what is appended at most
+  pub grows_at_most : (r : Result T E) (old : UnitString) {new u : List ℕ} (w v : List ℕ) → IsForm new u → IsForm w v → OnOk r (u ≡ old.units ++ v)
+      → OnOk r (length new ≤ length old.bytes + length w)
+  grows_at_most r old {new} w v form more ok =
+      on_ok_weaker r (λ e. both_no_longer old.bytes w new old.units v old.form more (subst (IsForm new) e form)) ok
+
+  -- and where a view is appended, by how much
+  pub added_length : (r : Result T E) (old new : UnitString) (other : Wtf8) → OnOk r (AppendsUnits old (view_units other) new) → OnOk r (AddsLength old other new)
+  added_length r old new other ok =
+      on_ok_weaker r (λ e.
+      let both = subst (IsForm new.bytes) e new.form in
+      record {
+        pair = length_paired old.bytes other.bytes.now new.bytes old.units (view_units other) old.form (view_form other) both;
+        apart = length_apart old.bytes other.bytes.now new.bytes old.units (view_units other) old.form (view_form other) both;
+      }) ok
+
+  -- no units appended, or a refusal, leave the contents
+  pub nothing_appended : (r : Result T E) (old new : UnitString) (v : List ℕ) → v ≡ [] →
+      OnOk r (AppendsUnits old v new) → OnErr r (KeepsContents old new) → KeepsContents old new
+  nothing_appended (Ok _) old new v e ok err =
+      let same = ok ∙ (ap (λ x. old.units ++ x) e ∙ append-nil old.units) in record { units = same; bytes = (equal_buffers new old).1 same }
+  nothing_appended (Err _) old new v e ok err = err
+
+-- A list of building calls has exactly one outcome and one count of refused truncations.
+
+-- a list has units alone or not
+units_or_not : (u : List ℕ) → All IsUnit u ⊎ (All IsUnit u → ⊥)
+units_or_not [] = inl (All-nil IsUnit)
+units_or_not (x ∷ u) = elim (cases_lt x 0x10000) [
+  | inl h ↦ elim (units_or_not u) [ inl s ↦ inl (All-cons IsUnit x u (omega arith) s) | inr n ↦ inr (λ s. n (All-tail IsUnit x u s)) ]
+  | inr h ↦ inr (λ s. omega (arith, All-head IsUnit x u s))
+]
+
+begins_or_not : (b : ℕ) → Begins b ⊎ (Begins b → ⊥)
+begins_or_not b = elim (cases_lt b 0x80) [
+  | inl h ↦ inl (record { start = inl h })
+  | inr h ↦ elim (cases_lt b 0xC0) [ inl k ↦ inr (λ s. omega (arith, s.start)) | inr k ↦ inl (record { start = inr k }) ]
+]
+
+-- a position is a boundary of the form or not
+cut_or_not : {w : List ℕ} (h : IsWellFormed w) (k : ℕ) → IsBoundary (units h.points) k ⊎ (IsBoundary (units h.points) k → ⊥)
+cut_or_not {w} h k = elim (cases_lt k (length w)) [
+  | inl l ↦ elim (begins_or_not (get_or w k 0)) [
+    | inl s ↦ inl (boundary_from_byte h k (omega arith) (λ _. s))
+    | inr n ↦ inr (λ b. n (byte_from_boundary h k b l))
+  ]
+  | inr l ↦ elim (cases_lt (length w) k) [
+    | inl m ↦ inr (λ b. omega (arith, (cut_at h k b).within))
+    | inr m ↦ inl (boundary_from_byte h k m (λ x. absurd (omega arith)))
+  ]
+]
+
+boundary_of_form : {w u : List ℕ} (f : IsForm w u) (k : ℕ) → IsBoundary u k ⊎ (IsBoundary u k → ⊥)
+boundary_of_form f k = elim (cut_or_not (well_formed_of f) k) [
+  | inl b ↦ inl (subst (λ v. IsBoundary v k) f.reads.same_units b)
+  | inr n ↦ inr (λ b. n (subst (λ v. IsBoundary v k) (sym f.reads.same_units) b))
+]
+
+boundary_or_not : (u : List ℕ) (k : ℕ) → IsBoundary u k ⊎ (IsBoundary u k → ⊥)
+boundary_or_not u k = elim (units_or_not u) [
+  | inl s ↦ boundary_of_form (one_form u s).has k
+  | inr n ↦ inr (λ b. n (units_read (b.front ++ b.back) u b.splits.reads))
+]
+
+-- one outcome of one call
+record StepsOnce (u : List ℕ) (call : Build) : Type 0 where
+  outcome : List ℕ
+  count : ℕ
+  goes : Step u call outcome count
+  no_other : (v : List ℕ) (r : ℕ) → Step u call v r → (v ≡ outcome) × (r ≡ count)
+
+step_once : (u : List ℕ) (call : Build) → StepsOnce u call
+step_once u (Truncate k) = elim (boundary_or_not u k) [
+  | inl b ↦
+      let f : IsFront u k (units b.front) = record { front = b.front; back = b.back; splits = b.splits; same_units = refl } in
+      record { outcome = _; count = _; goes = inl (f, refl); no_other = λ v r s. elim s [ inl x ↦ (same_front u k v _ x.0 f, x.1) | inr n ↦ absurd (n.0 b) ] }
+  | inr n ↦
+      record { outcome = _; count = _; goes = inr (n, refl, refl); no_other = λ v r s. elim s [ inl x ↦ absurd (n (front_boundary x.0)) | inr m ↦ (m.1, m.2) ] }
+]
+step_once u (TruncateUnits n) = elim (cases_lt (length u) n) [
+  | inl h ↦
+      record { outcome = _; count = _; goes = inr (h, refl, refl); no_other = λ v r s. elim s [ inl x ↦ absurd (omega (arith, x.0, h)) | inr x ↦ (x.1, x.2) ] }
+  | inr h ↦
+      record { outcome = _; count = _; goes = inl (h, refl, refl); no_other = λ v r s. elim s [ inl x ↦ (x.1, x.2) | inr x ↦ absurd (omega (arith, x.0, h)) ] }
+]
+step_once u call = record { outcome = _; count = _; goes = (refl, refl); no_other = λ v r s. s }
+
+-- one run behind another
+pub runs_add : RunsAddUp
+runs_add u mid v [] back m n x y = subst (λ k. Run u back v k) (let same : n ≡ m + n = omega (arith, x.1) in same) (subst (λ w. Run w back v n) x.0 y)
+runs_add u mid v (call ∷ front) back m n x y = (x.0, x.1, x.2 + n, x.3, runs_add x.0 mid v front back x.2 n x.4 y, omega (arith, x.5))
+
+pub run_once : (u : List ℕ) (calls : List Build) → RunsOnce u calls
+run_once u [] = record { outcome = u; count = 0; goes = (refl, refl); no_other = λ v n r. r }
+run_once u (call ∷ calls) =
+    let first = step_once u call in
+    let rest = run_once first.outcome calls in
+    record {
+      outcome = rest.outcome;
+      count = first.count + rest.count;
+      goes = (first.outcome, first.count, rest.count, first.goes, rest.goes, refl);
+      no_other = λ v n r.
+          let same = first.no_other r.0 r.1 r.3 in
+          let ends = rest.no_other v r.2 (subst (λ m. Run m calls v r.2) same.0 r.4) in
+          (ends.0, omega (arith, r.5, same.1, ends.1));
+    }
+
+-- one call more: the room that it asks for is there, and that of the calls before it is kept where it does not truncate
+pub reserved_more : {u now : List ℕ} {calls : List Build} {call : Build} {capacity larger : ℕ} (n : ℕ) → LeavesReserved u calls capacity → Run u calls now n
+    → (IsNoTruncation call → capacity ≤ larger) → ((m : ℕ) → call ≡ Reserve m → FitWithin now m larger) → LeavesReserved u (calls ++ call ∷ []) larger
+reserved_more {u} {now} {calls} {call} {capacity} {larger} n f ran grows here front back m v r e none run = elim (parted_more calls call front (Reserve m) back e) [
+  | at_last same last ↦
+      let once = run_once u calls in
+      let outcome = (once.no_other now n ran).0 ∙ sym (once.no_other v r (subst (λ c. Run u c v r) (sym same) run)).0 in
+      subst (λ w. FitWithin w m larger) outcome (here m last)
+  | before rest same behind ↦
+      let all = All-pop IsNoTruncation (rest ++ call ∷ []) rest (Some call) refl (All-same IsNoTruncation (rest ++ call ∷ []) back (sym behind) none) in
+      let found = f front rest m v r same all.0 run in
+      record { whole = found.whole; form = found.form; within = omega (arith, found.within, grows all.1) }
+]
