@@ -1,10 +1,10 @@
 // Calls that ask for no memory, not even by a request whose refusal they ignore: nine requests are granted before them, and
 // all nine are left after them.
 use refusing::Refusing;
-use std::alloc::{AllocError, Global};
+use std::alloc::{AllocError, Allocator, Global};
 use std::borrow::CowStr;
 use std::test::Fail;
-use wtf8::{Build, Wtf8, Wtf8Buf};
+use wtf8::{Build, CodePoint, Wtf8, Wtf8Buf};
 use wtf8_tests::examples::{TEXT, TEXT_DUMP, expect_dump, point_of_unit, pushed};
 
 type Lent<'a> = &'a Refusing<Global>;
@@ -12,6 +12,14 @@ type Lent<'a> = &'a Refusing<Global>;
 const LEAD: u16 = 0xD83D;
 
 const TRAIL: u16 = 0xDCA9;
+
+/// Fails unless all nine requests are left.
+fn expect_nine(heap: Lent<'_>) -> Result<(), Fail> {
+    if heap.grants_left() != 9 {
+        return Err(Fail::new("a request was made"));
+    }
+    Ok(())
+}
 
 /// An empty string with room for so many bytes, and nine requests granted after it was made.
 fn with_room(heap: Lent<'_>, room: usize) -> Result<Wtf8Buf<Lent<'_>>, AllocError> {
@@ -22,96 +30,151 @@ fn with_room(heap: Lent<'_>, room: usize) -> Result<Wtf8Buf<Lent<'_>>, AllocErro
 }
 
 /// Appends nothing, by each call that appends.
-fn append_nothing(text: &mut Wtf8Buf<Lent<'_>>) -> Result<(), AllocError> {
+fn append_nothing<A: Allocator>(text: &mut Wtf8Buf<A>) -> Result<(), AllocError> {
     text.reserve(0)?;
     text.push_str("")?;
     text.push_wtf8(Wtf8::from_str(""))?;
     text.extend([])
 }
 
-/// Fails unless a string was made, and is empty.
-fn expect_empty(alloc: Global, made: Result<Wtf8Buf<Lent<'_>>, AllocError>) -> Result<(), Fail> {
-    expect_dump(alloc, made?.as_wtf8(), "")
+/// Whether the dump is empty.
+fn is_dump_empty<A: Allocator + Drop>(heap: A, view: Wtf8<'_>) -> Result<bool, AllocError> {
+    let dump = view.hex_dump(heap)?;
+    Ok(dump.as_str().is_empty())
+}
+
+/// Whether the lossy text is empty.
+fn is_lossy_text_empty<A: Allocator + Drop>(heap: A, view: Wtf8<'_>) -> Result<bool, AllocError> {
+    let lossy = view.to_string_lossy(heap)?;
+    Ok(lossy.as_str().is_empty())
+}
+
+/// Fails unless the dump and the lossy text are empty.
+fn expect_no_texts<A: Allocator + Drop + Copy>(heap: A, view: Wtf8<'_>) -> Result<(), Fail> {
+    if !is_dump_empty(heap, view)? || !is_lossy_text_empty(heap, view)? {
+        return Err(Fail::new("a text of nothing"));
+    }
+    Ok(())
+}
+
+/// Fails unless an empty string to which nothing is appended is empty, and its texts are.
+fn expect_nothing<A: Allocator + Drop + Copy>(alloc: Global, heap: A) -> Result<(), Fail> {
+    let mut text = Wtf8Buf::new(heap);
+    append_nothing(&mut text)?;
+    expect_dump(alloc, text.as_wtf8(), "")?;
+    expect_no_texts(heap, text.as_wtf8())
 }
 
 #[test]
 fn what_is_empty(rt: HostRuntime) -> Result<(), Fail> {
     let heap = Refusing::new(rt.alloc(), 9);
-    let mut text = Wtf8Buf::new(&heap);
-    append_nothing(&mut text)?;
-    expect_dump(rt.alloc(), text.as_wtf8(), "")?;
-    let dump = text.as_wtf8().hex_dump(&heap)?;
-    assert!(rt; dump.as_str().is_empty());
-    let lossy = text.as_wtf8().to_string_lossy(&heap)?;
-    assert!(rt; lossy.as_str().is_empty());
-    assert_eq!(rt; heap.grants_left(), 9);
-    Ok(())
+    expect_nothing(rt.alloc(), &heap)?;
+    expect_nine(&heap)
+}
+
+/// Fails unless a string was made, and is empty.
+fn expect_empty<A: Allocator + Drop>(
+    alloc: Global,
+    made: Result<Wtf8Buf<A>, AllocError>,
+) -> Result<(), Fail> {
+    expect_dump(alloc, made?.as_wtf8(), "")
+}
+
+/// Fails unless each call that makes a string of nothing makes it.
+fn expect_made_of_nothing<A: Allocator + Drop + Copy>(alloc: Global, heap: A) -> Result<(), Fail> {
+    expect_empty(alloc, Wtf8Buf::with_capacity(heap, 0))?;
+    expect_empty(alloc, Wtf8Buf::from_str(heap, ""))?;
+    expect_empty(alloc, Wtf8Buf::from_ill_formed_utf16(heap, &[]))?;
+    expect_empty(alloc, Wtf8Buf::from_iter(heap, []))
 }
 
 #[test]
 fn what_is_made_of_nothing(rt: HostRuntime) -> Result<(), Fail> {
     let heap = Refusing::new(rt.alloc(), 9);
-    expect_empty(rt.alloc(), Wtf8Buf::with_capacity(&heap, 0))?;
-    expect_empty(rt.alloc(), Wtf8Buf::from_str(&heap, ""))?;
-    expect_empty(rt.alloc(), Wtf8Buf::from_ill_formed_utf16(&heap, &[]))?;
-    expect_empty(rt.alloc(), Wtf8Buf::from_iter(&heap, []))?;
-    assert_eq!(rt; heap.grants_left(), 9);
-    Ok(())
+    expect_made_of_nothing(rt.alloc(), &heap)?;
+    expect_nine(&heap)
 }
 
 /// Appends the two halves of a pair.
-fn push_pair(text: &mut Wtf8Buf<Lent<'_>>) -> Result<(), AllocError> {
+fn push_pair<A: Allocator>(text: &mut Wtf8Buf<A>) -> Result<(), AllocError> {
     text.push(point_of_unit(LEAD))?;
     text.push(point_of_unit(TRAIL))
 }
 
 /// Empties a string and appends the pair anew.
-fn push_anew(text: &mut Wtf8Buf<Lent<'_>>) -> Result<(), AllocError> {
+fn push_anew<A: Allocator>(text: &mut Wtf8Buf<A>) -> Result<(), AllocError> {
     text.reserve(0)?;
     text.clear();
     text.push_char('💩')
 }
 
-#[test]
-fn what_has_room(rt: HostRuntime) -> Result<(), Fail> {
-    let heap = Refusing::new(rt.alloc(), 0);
-    let mut text = with_room(&heap, 4)?;
-    push_pair(&mut text)?;
-    expect_dump(rt.alloc(), text.as_wtf8(), "F0 9F 92 A9")?;
-    push_anew(&mut text)?;
-    assert_eq!(rt; heap.grants_left(), 9);
+/// Fails unless the two halves of a pair become one code point, for which there is room anew.
+fn expect_pair<A: Allocator>(alloc: Global, text: &mut Wtf8Buf<A>) -> Result<(), Fail> {
+    push_pair(text)?;
+    expect_dump(alloc, text.as_wtf8(), "F0 9F 92 A9")?;
+    push_anew(text)?;
     Ok(())
 }
 
-/// Makes each call that appends, the other string's trail behind a lead.
-fn push_each(text: &mut Wtf8Buf<Lent<'_>>, trail: Wtf8<'_>) -> Result<(), AllocError> {
+/// Fails unless this fits in room for four bytes.
+fn expect_room_for_pair(alloc: Global, heap: Lent<'_>) -> Result<(), Fail> {
+    let mut text = with_room(heap, 4)?;
+    expect_pair(alloc, &mut text)
+}
+
+#[test]
+fn what_has_room(rt: HostRuntime) -> Result<(), Fail> {
+    let heap = Refusing::new(rt.alloc(), 0);
+    expect_room_for_pair(rt.alloc(), &heap)?;
+    expect_nine(&heap)
+}
+
+/// Appends a text, a letter and a lead.
+fn push_text_and_lead<A: Allocator>(text: &mut Wtf8Buf<A>) -> Result<(), AllocError> {
     text.push_str(TEXT)?;
     text.push_char('a')?;
-    text.push(point_of_unit(LEAD))?;
-    text.push_wtf8(trail)?;
+    text.push(point_of_unit(LEAD))
+}
+
+/// Appends a string, a pair by its halves, and nothing by a reserve.
+fn push_string_and_pair<A: Allocator>(
+    text: &mut Wtf8Buf<A>,
+    other: Wtf8<'_>,
+) -> Result<(), AllocError> {
+    text.push_wtf8(other)?;
     text.extend([point_of_unit(LEAD), point_of_unit(TRAIL)])?;
     text.reserve(2)
+}
+
+/// Makes each call that appends, a trail behind a lead.
+fn push_each<A: Allocator>(alloc: Global, text: &mut Wtf8Buf<A>) -> Result<(), Fail> {
+    let trail = pushed(alloc, &[0xDCA9, 0x62])?;
+    push_text_and_lead(text)?;
+    push_string_and_pair(text, trail.as_wtf8())?;
+    Ok(())
+}
+
+/// Fails unless each call that appends does so in room that is there.
+fn expect_room_for_each(alloc: Global, heap: Lent<'_>) -> Result<(), Fail> {
+    let mut text = with_room(heap, 20)?;
+    push_each(alloc, &mut text)?;
+    expect_dump(
+        alloc,
+        text.as_wtf8(),
+        "61 C3 A9 20 F0 9F 92 A9 61 F0 9F 92 A9 62 F0 9F 92 A9",
+    )
 }
 
 #[test]
 fn what_has_room_by_each_call(rt: HostRuntime) -> Result<(), Fail> {
     let heap = Refusing::new(rt.alloc(), 0);
-    let mut text = with_room(&heap, 20)?;
-    let trail = pushed(rt.alloc(), &[0xDCA9, 0x62])?;
-    push_each(&mut text, trail.as_wtf8())?;
-    expect_dump(
-        rt.alloc(),
-        text.as_wtf8(),
-        "61 C3 A9 20 F0 9F 92 A9 61 F0 9F 92 A9 62 F0 9F 92 A9",
-    )?;
-    assert_eq!(rt; heap.grants_left(), 9);
-    Ok(())
+    expect_room_for_each(rt.alloc(), &heap)?;
+    expect_nine(&heap)
 }
 
-#[test]
-fn what_has_room_as_a_list(rt: HostRuntime) -> Result<(), Fail> {
-    let heap = Refusing::new(rt.alloc(), 0);
-    let mut text = with_room(&heap, 4)?;
+/// Whether a list that appends the halves of a pair, by an extension each and nothing between them, is applied, and none of
+/// its truncations is refused.
+fn is_pair_applied<A: Allocator>(text: &mut Wtf8Buf<A>) -> bool {
     let lead = [point_of_unit(LEAD)];
     let trail = [point_of_unit(TRAIL)];
     let calls = [
@@ -119,21 +182,33 @@ fn what_has_room_as_a_list(rt: HostRuntime) -> Result<(), Fail> {
         Build::PushStr(""),
         Build::Extend(&trail),
     ];
-    assert_eq!(rt; text.apply_all(&calls), Ok(0));
-    expect_dump(rt.alloc(), text.as_wtf8(), "F0 9F 92 A9")?;
-    assert_eq!(rt; heap.grants_left(), 9);
-    Ok(())
+    matches!(text.apply_all(&calls), Ok(0))
+}
+
+/// Fails unless such a list fits in room for four bytes.
+fn expect_room_for_list(alloc: Global, heap: Lent<'_>) -> Result<(), Fail> {
+    let mut text = with_room(heap, 4)?;
+    if !is_pair_applied(&mut text) {
+        return Err(Fail::new("a list is not applied"));
+    }
+    expect_dump(alloc, text.as_wtf8(), "F0 9F 92 A9")
 }
 
 #[test]
-fn what_has_room_is_applied(rt: HostRuntime) -> Result<(), Fail> {
+fn what_has_room_as_a_list(rt: HostRuntime) -> Result<(), Fail> {
     let heap = Refusing::new(rt.alloc(), 0);
-    let mut text = with_room(&heap, 20)?;
-    let lead = [point_of_unit(LEAD)];
-    let piece = pushed(rt.alloc(), &[0xDCA9, 0x62])?;
-    for (call, is_done, dump) in [
+    expect_room_for_list(rt.alloc(), &heap)?;
+    expect_nine(&heap)
+}
+
+/// A call, whether it is done, and the bytes after it.
+type Applied<'a> = (Build<'a>, bool, &'static str);
+
+/// Calls one after another on the empty string.
+fn applied_rows<'a>(lead: &'a [CodePoint; 1], piece: Wtf8<'a>) -> [Applied<'a>; 10] {
+    [
         (Build::Push(lead[0]), true, "ED A0 BD"),
-        (Build::PushWtf8(piece.as_wtf8()), true, "F0 9F 92 A9 62"),
+        (Build::PushWtf8(piece), true, "F0 9F 92 A9 62"),
         (Build::Truncate(3), false, "F0 9F 92 A9 62"),
         (Build::Truncate(4), true, "F0 9F 92 A9"),
         (Build::PushStr("é "), true, "F0 9F 92 A9 C3 A9 20"),
@@ -143,61 +218,145 @@ fn what_has_room_is_applied(rt: HostRuntime) -> Result<(), Fail> {
             "F0 9F 92 A9 C3 A9 20 F0 9F 92 A9",
         ),
         (Build::Truncate(7), true, "F0 9F 92 A9 C3 A9 20"),
-        (Build::Extend(&lead), true, "F0 9F 92 A9 C3 A9 20 ED A0 BD"),
+        (Build::Extend(lead), true, "F0 9F 92 A9 C3 A9 20 ED A0 BD"),
         (Build::Reserve(10), true, "F0 9F 92 A9 C3 A9 20 ED A0 BD"),
         (Build::Truncate(0), true, ""),
-    ] {
-        assert_eq!(rt; text.apply(call)?, is_done, "before {dump}");
-        expect_dump(rt.alloc(), text.as_wtf8(), dump)?;
+    ]
+}
+
+/// Fails unless a call is done or not, and leaves these bytes.
+fn expect_applied<A: Allocator>(
+    alloc: Global,
+    text: &mut Wtf8Buf<A>,
+    row: Applied<'_>,
+) -> Result<(), Fail> {
+    let (call, is_done, dump) = row;
+    if text.apply(call)? != is_done {
+        return Err(Fail::new(dump));
     }
-    assert_eq!(rt; heap.grants_left(), 9);
+    expect_dump(alloc, text.as_wtf8(), dump)
+}
+
+/// Fails unless each call is done or not, one after another, where a piece is appended to a lead.
+fn expect_each_applied<A: Allocator>(
+    alloc: Global,
+    text: &mut Wtf8Buf<A>,
+    piece: Wtf8<'_>,
+) -> Result<(), Fail> {
+    let lead = [point_of_unit(LEAD)];
+    for row in applied_rows(&lead, piece) {
+        expect_applied(alloc, text, row)?;
+    }
+    Ok(())
+}
+
+/// Fails unless each call is applied in room that is there.
+fn expect_room_for_applied(alloc: Global, heap: Lent<'_>, piece: Wtf8<'_>) -> Result<(), Fail> {
+    let mut text = with_room(heap, 20)?;
+    expect_each_applied(alloc, &mut text, piece)
+}
+
+/// The same where a trail and a letter are the piece.
+fn expect_trail_applied(alloc: Global, heap: Lent<'_>) -> Result<(), Fail> {
+    let piece = pushed(alloc, &[0xDCA9, 0x62])?;
+    expect_room_for_applied(alloc, heap, piece.as_wtf8())
+}
+
+#[test]
+fn what_has_room_is_applied(rt: HostRuntime) -> Result<(), Fail> {
+    let heap = Refusing::new(rt.alloc(), 0);
+    expect_trail_applied(rt.alloc(), &heap)?;
+    expect_nine(&heap)
+}
+
+/// Appends the text, and a lead surrogate behind it or none.
+fn push_text<A: Allocator>(text: &mut Wtf8Buf<A>, has_lead: bool) -> Result<(), AllocError> {
+    text.push_str(TEXT)?;
+    if has_lead {
+        text.push(point_of_unit(LEAD))?;
+    }
     Ok(())
 }
 
 /// The string of the text, with a lead surrogate behind it or without, and nine requests granted after it was made.
 fn text_of(heap: Lent<'_>, has_lead: bool) -> Result<Wtf8Buf<Lent<'_>>, AllocError> {
     let mut text = with_room(heap, 11)?;
-    text.push_str(TEXT)?;
-    if has_lead {
-        text.push(point_of_unit(LEAD))?;
-    }
+    push_text(&mut text, has_lead)?;
     Ok(text)
+}
+
+/// Whether the lossy text is the text, and borrowed.
+fn is_text_borrowed<A: Allocator + Drop>(heap: A, view: Wtf8<'_>) -> Result<bool, AllocError> {
+    let lossy = view.to_string_lossy(heap)?;
+    Ok(matches!(lossy, CowStr::Borrowed(_)) && lossy.as_str() == TEXT)
+}
+
+/// Fails unless the string is the text, and lossy the same that is borrowed.
+fn expect_borrowed<A: Allocator + Drop>(heap: A, view: Wtf8<'_>) -> Result<(), Fail> {
+    if view.as_str() != Some(TEXT) || !is_text_borrowed(heap, view)? {
+        return Err(Fail::new("another text, or a copy"));
+    }
+    Ok(())
+}
+
+/// Fails unless a string of its own is the text, and comes back as a string and as a lossy text.
+fn expect_again<A: Allocator + Drop>(alloc: Global, owned: String<A>) -> Result<(), Fail> {
+    if owned.as_str() != TEXT {
+        return Err(Fail::new("another text of its own"));
+    }
+    let again = Wtf8Buf::from_string(owned);
+    expect_dump(alloc, again.as_wtf8(), TEXT_DUMP)?;
+    if again.into_string_lossy().as_str() != TEXT {
+        return Err(Fail::new("another lossy text"));
+    }
+    Ok(())
+}
+
+/// Fails unless a string becomes a text of its own, and comes back.
+fn expect_owned<A: Allocator + Drop>(alloc: Global, text: Wtf8Buf<A>) -> Result<(), Fail> {
+    match text.into_string() {
+        Ok(owned) => expect_again(alloc, owned),
+        Err(_) => Err(Fail::new("the text came back")),
+    }
+}
+
+/// Fails unless the string of the text is borrowed as text, and becomes a text of its own.
+fn expect_text(alloc: Global, heap: Lent<'_>) -> Result<(), Fail> {
+    let text = text_of(heap, false)?;
+    expect_borrowed(heap, text.as_wtf8())?;
+    expect_owned(alloc, text)
 }
 
 #[test]
 fn texts_of_a_string(rt: HostRuntime) -> Result<(), Fail> {
     let heap = Refusing::new(rt.alloc(), 0);
-    let text = text_of(&heap, false)?;
-    assert_eq!(rt; text.as_wtf8().as_str(), Some(TEXT));
-    let lossy = text.as_wtf8().to_string_lossy(&heap)?;
-    let is_borrowed_text = matches!(lossy, CowStr::Borrowed(_)) && lossy.as_str() == TEXT;
-    drop(lossy);
-    assert!(rt; is_borrowed_text);
-    let Ok(owned) = text.into_string() else {
-        return Err(Fail::new("the text came back"));
-    };
-    assert_eq!(rt; owned.as_str(), TEXT);
-    let again = Wtf8Buf::from_string(owned);
-    expect_dump(rt.alloc(), again.as_wtf8(), TEXT_DUMP)?;
-    assert_eq!(rt; again.into_string_lossy().as_str(), TEXT);
-    assert_eq!(rt; heap.grants_left(), 9);
+    expect_text(rt.alloc(), &heap)?;
+    expect_nine(&heap)
+}
+
+/// Fails unless a string that came back has the text and the lead, which is replaced in its lossy text.
+fn expect_lossy<A: Allocator + Drop>(alloc: Global, back: Wtf8Buf<A>) -> Result<(), Fail> {
+    expect_dump(alloc, back.as_wtf8(), "61 C3 A9 20 F0 9F 92 A9 ED A0 BD")?;
+    if back.into_string_lossy().as_str() != "aé 💩\u{FFFD}" {
+        return Err(Fail::new("another lossy text"));
+    }
     Ok(())
+}
+
+/// Fails unless a string is no text, and comes back.
+fn expect_no_text<A: Allocator + Drop>(alloc: Global, text: Wtf8Buf<A>) -> Result<(), Fail> {
+    if text.as_wtf8().as_str().is_some() {
+        return Err(Fail::new("a text of a surrogate"));
+    }
+    match text.into_string() {
+        Ok(_) => Err(Fail::new("it holds a surrogate")),
+        Err(back) => expect_lossy(alloc, back),
+    }
 }
 
 #[test]
 fn texts_of_a_string_with_a_surrogate(rt: HostRuntime) -> Result<(), Fail> {
     let heap = Refusing::new(rt.alloc(), 0);
-    let text = text_of(&heap, true)?;
-    assert_eq!(rt; text.as_wtf8().as_str(), None);
-    let Err(back) = text.into_string() else {
-        return Err(Fail::new("it holds a surrogate"));
-    };
-    expect_dump(
-        rt.alloc(),
-        back.as_wtf8(),
-        "61 C3 A9 20 F0 9F 92 A9 ED A0 BD",
-    )?;
-    assert_eq!(rt; back.into_string_lossy().as_str(), "aé 💩\u{FFFD}");
-    assert_eq!(rt; heap.grants_left(), 9);
-    Ok(())
+    expect_no_text(rt.alloc(), text_of(&heap, true)?)?;
+    expect_nine(&heap)
 }

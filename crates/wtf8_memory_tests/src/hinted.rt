@@ -1,9 +1,12 @@
 // Iterators whose lower hint is false, or whose upper hint is far above it.
 use refusing::{REFUSALS, Refusing};
+use std::alloc::{AllocError, Allocator, Global};
 use std::cell::Cell;
 use std::test::Fail;
-use wtf8::{CodePoint, Wtf8Buf};
+use wtf8::{CodePoint, Wtf8, Wtf8Buf};
 use wtf8_tests::examples::{expect_dump, expect_units, point_of_unit, pushed};
+
+type Lent<'a> = &'a Refusing<Global>;
 
 /// A code point again and again, with hints of the test's choice, of which the lower one may be false. It counts the items
 /// that were taken.
@@ -55,22 +58,89 @@ fn trails(left: u32, hint: usize, taken: &Cell<u32>) -> Hinted<'_> {
     }
 }
 
+/// So many times U+DCA9 as a unit, behind D83D or alone.
+fn expected_units(alloc: Global, left: u32, has_lead: bool) -> Result<Vec<u16>, AllocError> {
+    let mut units = Vec::new(alloc);
+    if has_lead {
+        units.push(0xD83D)?;
+    }
+    for _ in 0..left {
+        units.push(0xDCA9)?;
+    }
+    Ok(units)
+}
+
+/// Fails unless the string has so many trails, behind a lead or alone.
+fn expect_trails(alloc: Global, text: Wtf8<'_>, left: u32, has_lead: bool) -> Result<(), Fail> {
+    let expected = expected_units(alloc, left, has_lead)?;
+    expect_units(alloc, text, &expected)
+}
+
+/// Fails unless a string is made of all items, whatever the lower hint.
+fn expect_made(alloc: Global, left: u32, hint: usize, taken: &Cell<u32>) -> Result<(), Fail> {
+    let text = Wtf8Buf::from_iter(alloc, trails(left, hint, taken))?;
+    expect_trails(alloc, text.as_wtf8(), left, false)
+}
+
+/// Fails unless a lead is extended by all items, whatever the lower hint.
+fn expect_extended(alloc: Global, left: u32, hint: usize, taken: &Cell<u32>) -> Result<(), Fail> {
+    let mut text = pushed(alloc, &[0xD83D])?;
+    text.extend(trails(left, hint, taken))?;
+    expect_trails(alloc, text.as_wtf8(), left, true)
+}
+
 #[test]
 fn a_lower_hint_may_be_false(rt: HostRuntime) -> Result<(), Fail> {
     let taken = Cell::new(0);
     for (left, hint) in [(1000, 0), (2, 5), (0, 3)] {
-        let mut expected = vec![in rt.alloc(); 0xDCA9u16; left as usize]?;
-        let text = Wtf8Buf::from_iter(rt.alloc(), trails(left, hint, &taken))?;
-        expect_units(rt.alloc(), text.as_wtf8(), &expected)?;
-        assert_eq!(rt; taken.take(), left, "from_iter");
-
-        let mut text = pushed(rt.alloc(), &[0xD83D])?;
-        text.extend(trails(left, hint, &taken))?;
-        expected.insert(0, 0xD83D)?;
-        expect_units(rt.alloc(), text.as_wtf8(), &expected)?;
-        assert_eq!(rt; taken.take(), left, "extend");
+        expect_made(rt.alloc(), left, hint, &taken)?;
+        assert!(rt; taken.take() == left, "from_iter");
+        expect_extended(rt.alloc(), left, hint, &taken)?;
+        assert!(rt; taken.take() == left, "extend");
     }
     Ok(())
+}
+
+/// Whether a string is extended by so many items.
+fn is_extended<A: Allocator>(
+    text: &mut Wtf8Buf<A>,
+    left: u32,
+    hint: usize,
+    taken: &Cell<u32>,
+) -> bool {
+    text.extend(trails(left, hint, taken)).is_ok()
+}
+
+/// Fails unless room for the lower hint is found by the one request that is granted.
+fn expect_found(
+    heap: Lent<'_>,
+    text: &mut Wtf8Buf<Lent<'_>>,
+    taken: &Cell<u32>,
+) -> Result<(), Fail> {
+    if !is_extended(text, 0, 50, taken) || text.capacity() < 50 || heap.requests() != 1 {
+        return Err(Fail::new("no room for the lower hint, or by other requests"));
+    }
+    Ok(())
+}
+
+/// Fails unless the next request is refused before an item is taken.
+fn expect_refused(
+    heap: Lent<'_>,
+    text: &mut Wtf8Buf<Lent<'_>>,
+    taken: &Cell<u32>,
+) -> Result<(), Fail> {
+    if is_extended(text, 1, 51, taken) || heap.requests() != 2 || taken.get() != 0 {
+        return Err(Fail::new("not refused, or not before an item was taken"));
+    }
+    Ok(())
+}
+
+/// Fails unless room for the lower hint is found first, and what is refused leaves nothing.
+fn expect_found_first(alloc: Global, heap: Lent<'_>, taken: &Cell<u32>) -> Result<(), Fail> {
+    let mut text = Wtf8Buf::new(heap);
+    expect_found(heap, &mut text, taken)?;
+    expect_refused(heap, &mut text, taken)?;
+    expect_dump(alloc, text.as_wtf8(), "")
 }
 
 #[test]
@@ -79,59 +149,90 @@ fn room_for_the_lower_hint_is_found_first(rt: HostRuntime) -> Result<(), Fail> {
     let heap = Refusing::new(rt.alloc(), 0);
     for refusal in REFUSALS {
         heap.refuse_after(1, refusal);
-        let mut text = Wtf8Buf::new(&heap);
-        text.extend(trails(0, 50, &taken))?;
-        assert!(rt; text.capacity() >= 50);
-        assert_eq!(rt; heap.requests(), 1);
-        assert!(rt; text.extend(trails(1, 51, &taken)).is_err());
-        assert_eq!(rt; heap.requests(), 2);
-        assert_eq!(rt; taken.get(), 0);
-        expect_dump(rt.alloc(), text.as_wtf8(), "")?;
+        expect_found_first(rt.alloc(), &heap, &taken)?;
     }
     Ok(())
 }
 
 /// So many times U+DCA9, with that lower hint and an upper one, how many requests they make, and for how many bytes
 /// altogether: room for the lower hint, and then twice as much each time.
-const UPPER: [(u32, usize, usize, u64, usize); 6] = [
-    (0, 0, 1000, 0, 0),
-    (1, 0, 1000, 1, 8),
-    (1, 1, 1000, 1, 8),
-    (10, 10, 100_000, 3, 10 + 20 + 40),
-    (10, 9, usize::MAX, 3, 9 + 18 + 36),
-    (10, 100, usize::MAX, 1, 100),
-];
+type Upper = (u32, usize, usize, u64, usize);
+
+fn upper_rows() -> [Upper; 6] {
+    [
+        (0, 0, 1000, 0, 0),
+        (1, 0, 1000, 1, 8),
+        (1, 1, 1000, 1, 8),
+        (10, 10, 100_000, 3, 10 + 20 + 40),
+        (10, 9, usize::MAX, 3, 9 + 18 + 36),
+        (10, 100, usize::MAX, 1, 100),
+    ]
+}
+
+/// The length of a string that is made of so many items with an upper hint.
+fn len_of_made<A: Allocator + Drop>(
+    heap: A,
+    row: Upper,
+    taken: &Cell<u32>,
+) -> Result<usize, AllocError> {
+    let (left, hint, upper, _, _) = row;
+    let mut points = trails(left, hint, taken);
+    points.upper = Some(upper);
+    let text = Wtf8Buf::from_iter(heap, points)?;
+    Ok(text.len())
+}
+
+/// The length of a string that is extended by so many items with an upper hint.
+fn len_of_extended<A: Allocator + Drop>(
+    heap: A,
+    row: Upper,
+    taken: &Cell<u32>,
+) -> Result<usize, AllocError> {
+    let (left, hint, upper, _, _) = row;
+    let mut points = trails(left, hint, taken);
+    points.upper = Some(upper);
+    let mut text = Wtf8Buf::new(heap);
+    text.extend(points)?;
+    Ok(text.len())
+}
+
+/// Fails unless all items were taken, into so many bytes and by the requests of the row.
+fn expect_upper(heap: Lent<'_>, row: Upper, len: usize, taken: &Cell<u32>) -> Result<(), Fail> {
+    let (left, _, upper, requests, bytes) = row;
+    let are_taken = taken.take() == left && len == left as usize * 3;
+    if !are_taken || heap.requests() != requests || heap.bytes() != bytes {
+        return Err(Fail::new(format_args!("{left} below {upper}")));
+    }
+    Ok(())
+}
 
 #[test]
 fn no_room_is_found_for_the_upper_hint(rt: HostRuntime) -> Result<(), Fail> {
     let taken = Cell::new(0);
     let heap = Refusing::new(rt.alloc(), 0);
-    for (left, hint, upper, requests, bytes) in UPPER {
-        for is_extended in [false, true] {
-            let mut points = trails(left, hint, &taken);
-            points.upper = Some(upper);
-            heap.grant(99);
-            let mut text = Wtf8Buf::new(&heap);
-            if is_extended {
-                text.extend(points)?;
-            } else {
-                text = Wtf8Buf::from_iter(&heap, points)?;
-            }
-            assert_eq!(rt; taken.take(), left, "{left} below {upper}");
-            assert_eq!(rt; text.len(), left as usize * 3, "{left} below {upper}");
-            assert_eq!(rt; heap.requests(), requests, "{left} below {upper}");
-            assert_eq!(rt; heap.bytes(), bytes, "{left} below {upper}");
-        }
+    for row in upper_rows() {
+        heap.grant(99);
+        let len = len_of_made(&heap, row, &taken)?;
+        expect_upper(&heap, row, len, &taken)?;
+        heap.grant(99);
+        let len = len_of_extended(&heap, row, &taken)?;
+        expect_upper(&heap, row, len, &taken)?;
     }
     Ok(())
+}
+
+/// Whether room for the greatest lower hint is refused, to a string and to a new one.
+fn are_refused(alloc: Global, text: &mut Wtf8Buf<Global>, taken: &Cell<u32>) -> bool {
+    let is_extended = text.extend(trails(2, usize::MAX, taken)).is_ok();
+    let is_made = Wtf8Buf::from_iter(alloc, trails(2, usize::MAX, taken)).is_ok();
+    !is_extended && !is_made
 }
 
 #[test]
 fn no_item_is_taken_where_the_hint_is_too_large(rt: HostRuntime) -> Result<(), Fail> {
     let taken = Cell::new(0);
     let mut text = Wtf8Buf::from_str(rt.alloc(), "a")?;
-    assert!(rt; text.extend(trails(2, usize::MAX, &taken)).is_err());
-    assert!(rt; Wtf8Buf::from_iter(rt.alloc(), trails(2, usize::MAX, &taken)).is_err());
-    assert_eq!(rt; taken.get(), 0);
+    assert!(rt; are_refused(rt.alloc(), &mut text, &taken));
+    assert!(rt; taken.get() == 0);
     expect_dump(rt.alloc(), text.as_wtf8(), "61")
 }

@@ -1,9 +1,9 @@
 // Calls that ask for memory, on strings of each length: each is done where all its requests are granted, asks for the bytes
 // that it tells, and answers each request that is refused.
 use refusing::{REFUSALS, Refusing};
-use std::alloc::{AllocError, Global};
+use std::alloc::{AllocError, Allocator, Global};
 use std::test::Fail;
-use wtf8::{Build, CodePoint, Wtf8Buf};
+use wtf8::{Build, CodePoint, Wtf8, Wtf8Buf};
 use wtf8_tests::examples::{point_of_unit, points_of_units};
 
 type Lent<'a> = &'a Refusing<Global>;
@@ -38,10 +38,41 @@ const ABOUT_POWERS: [(u16, &[usize]); 3] = [
 
 /// A string with more room than it needs, and the units and the code points that it is made of.
 #[derive(Drop)]
-struct Sample<'a> {
+struct Sample<A: Allocator> {
     units: Vec<u16>,
     points: Vec<CodePoint>,
-    text: Wtf8Buf<Lent<'a>>,
+    text: Wtf8Buf<A>,
+}
+
+/// So many units of a kind.
+fn units_of(alloc: Global, kind: &[u16; 8], length: usize) -> Result<Vec<u16>, AllocError> {
+    let mut units = Vec::new(alloc);
+    for at in 0..length {
+        units.push(kind[at % 8])?;
+    }
+    Ok(units)
+}
+
+/// The string of these units, with more room than it needs.
+fn text_of<A: Allocator + Drop>(heap: A, units: &[u16]) -> Result<Wtf8Buf<A>, AllocError> {
+    let mut text = Wtf8Buf::from_ill_formed_utf16(heap, units)?;
+    text.reserve(64)?;
+    Ok(text)
+}
+
+/// The sample of these units.
+fn sample_with<A: Allocator + Drop>(
+    alloc: Global,
+    heap: A,
+    units: Vec<u16>,
+) -> Result<Sample<A>, AllocError> {
+    let points = points_of_units(alloc, &units)?;
+    let text = text_of(heap, &units)?;
+    Ok(Sample {
+        units,
+        points,
+        text,
+    })
 }
 
 /// The string of so many units of a kind.
@@ -50,20 +81,10 @@ fn sample_of<'a>(
     heap: Lent<'a>,
     kind: &[u16; 8],
     length: usize,
-) -> Result<Sample<'a>, AllocError> {
-    let mut units = Vec::new(alloc);
-    for at in 0..length {
-        units.push(kind[at % 8])?;
-    }
-    let points = points_of_units(alloc, &units)?;
+) -> Result<Sample<Lent<'a>>, AllocError> {
+    let units = units_of(alloc, kind, length)?;
     heap.grant(u64::MAX);
-    let mut text = Wtf8Buf::from_ill_formed_utf16(heap, &units)?;
-    text.reserve(64)?;
-    Ok(Sample {
-        units,
-        points,
-        text,
-    })
+    sample_with(alloc, heap, units)
 }
 
 /// A call that asks for memory.
@@ -111,7 +132,7 @@ const CALLS: [Call; 18] = [
 ];
 
 /// Pushes code points one after another.
-fn push_each(text: &mut Wtf8Buf<Lent<'_>>, points: &[CodePoint]) -> Result<(), AllocError> {
+fn push_each<A: Allocator>(text: &mut Wtf8Buf<A>, points: &[CodePoint]) -> Result<(), AllocError> {
     for point in points {
         text.push(*point)?;
     }
@@ -119,13 +140,13 @@ fn push_each(text: &mut Wtf8Buf<Lent<'_>>, points: &[CodePoint]) -> Result<(), A
 }
 
 /// Appends the sample behind a lead surrogate.
-fn join(text: &mut Wtf8Buf<Lent<'_>>, sample: &Sample<'_>) -> Result<(), AllocError> {
+fn join<A: Allocator>(text: &mut Wtf8Buf<A>, sample: &Sample<A>) -> Result<(), AllocError> {
     text.push(point_of_unit(0xD83D))?;
     text.push_wtf8(sample.text.as_wtf8())
 }
 
 /// Whether a list of calls that appends the sample twice is applied.
-fn is_applied(text: &mut Wtf8Buf<Lent<'_>>, sample: &Sample<'_>) -> bool {
+fn is_applied<A: Allocator>(text: &mut Wtf8Buf<A>, sample: &Sample<A>) -> bool {
     let calls = [
         Build::PushWtf8(sample.text.as_wtf8()),
         Build::Extend(&sample.points),
@@ -134,7 +155,7 @@ fn is_applied(text: &mut Wtf8Buf<Lent<'_>>, sample: &Sample<'_>) -> bool {
 }
 
 /// Whether the call on an empty string is done.
-fn appends(heap: Lent<'_>, call: Call, sample: &Sample<'_>) -> bool {
+fn appends<A: Allocator + Drop>(heap: A, call: Call, sample: &Sample<A>) -> bool {
     let mut text = Wtf8Buf::new(heap);
     let view = sample.text.as_wtf8();
     match call {
@@ -149,26 +170,46 @@ fn appends(heap: Lent<'_>, call: Call, sample: &Sample<'_>) -> bool {
     }
 }
 
-/// Appends the sample's units to a list, and once more behind them.
-fn append_twice(units: &mut Vec<u16, Lent<'_>>, sample: &Sample<'_>) -> Result<(), AllocError> {
-    sample.text.as_wtf8().append_units(units)?;
-    sample.text.as_wtf8().append_units(units)
+/// Appends the units to a list, and once more behind them.
+fn append_twice<A: Allocator>(units: &mut Vec<u16, A>, view: Wtf8<'_>) -> Result<(), AllocError> {
+    view.append_units(units)?;
+    view.append_units(units)
 }
 
-/// Whether the call is done.
-fn is_done(heap: Lent<'_>, call: Call, sample: &Sample<'_>) -> bool {
+/// Whether a call that makes a string is done.
+fn makes<A: Allocator + Drop + Copy>(heap: A, call: Call, sample: &Sample<A>) -> bool {
     let view = sample.text.as_wtf8();
     match call {
         Call::WithCapacity => Wtf8Buf::with_capacity(heap, sample.units.len()).is_ok(),
         Call::FromStr => Wtf8Buf::from_str(heap, view.as_str().unwrap_or("")).is_ok(),
         Call::FromUnits => Wtf8Buf::from_ill_formed_utf16(heap, &sample.units).is_ok(),
         Call::FromIter => Wtf8Buf::from_iter(heap, sample.points.iter().copied()).is_ok(),
-        Call::Clone => sample.text.clone().is_ok(),
+        _ => sample.text.clone().is_ok(),
+    }
+}
+
+/// Whether a call that writes a text or the units is done.
+fn writes<A: Allocator + Drop + Copy>(heap: A, call: Call, view: Wtf8<'_>) -> bool {
+    match call {
         Call::ToStringLossy => view.to_string_lossy(heap).is_ok(),
         Call::HexDump => view.hex_dump(heap).is_ok(),
         Call::AppendHexDump => view.append_hex_dump(&mut Vec::new(heap)).is_ok(),
         Call::AppendUnits => view.append_units(&mut Vec::new(heap)).is_ok(),
-        Call::AppendUnitsTwice => append_twice(&mut Vec::new(heap), sample).is_ok(),
+        _ => append_twice(&mut Vec::new(heap), view).is_ok(),
+    }
+}
+
+/// Whether the call is done.
+fn is_done<A: Allocator + Drop + Copy>(heap: A, call: Call, sample: &Sample<A>) -> bool {
+    match call {
+        Call::WithCapacity | Call::FromStr | Call::FromUnits | Call::FromIter | Call::Clone => {
+            makes(heap, call, sample)
+        }
+        Call::ToStringLossy
+        | Call::HexDump
+        | Call::AppendHexDump
+        | Call::AppendUnits
+        | Call::AppendUnitsTwice => writes(heap, call, sample.text.as_wtf8()),
         _ => appends(heap, call, sample),
     }
 }
@@ -224,7 +265,7 @@ impl Room {
 }
 
 /// The room of a string that takes the sample behind so many bytes, which end with a lead or with nothing.
-fn room_behind(len: usize, sample: &Sample<'_>) -> Room {
+fn room_behind<A: Allocator>(len: usize, sample: &Sample<A>) -> Room {
     let mut room = NO_ROOM;
     room.append(len);
     let begins_with_trail = match sample.units.first() {
@@ -242,7 +283,7 @@ fn room_behind(len: usize, sample: &Sample<'_>) -> Room {
 }
 
 /// The room of a string that finds room for as many bytes as there are units, and then takes them one after another.
-fn room_extended(mut room: Room, sample: &Sample<'_>) -> Room {
+fn room_extended<A: Allocator>(mut room: Room, sample: &Sample<A>) -> Room {
     let before = if room.len == 0 {
         None
     } else {
@@ -254,7 +295,7 @@ fn room_extended(mut room: Room, sample: &Sample<'_>) -> Room {
 }
 
 /// The room of a string that takes the units one after another.
-fn room_pushed(sample: &Sample<'_>) -> Room {
+fn room_pushed<A: Allocator>(sample: &Sample<A>) -> Room {
     let mut room = NO_ROOM;
     room.push_each(0, &sample.units);
     room
@@ -285,7 +326,7 @@ fn room_appended_twice(count: usize) -> Room {
 }
 
 /// What a call asks for, where that does not depend on how units are taken in blocks.
-fn room_after(call: Call, sample: &Sample<'_>) -> Option<Room> {
+fn room_after<A: Allocator>(call: Call, sample: &Sample<A>) -> Option<Room> {
     let view = sample.text.as_wtf8();
     let (len, text) = (view.len(), view.as_str());
     let text_len = text.unwrap_or("").len();
@@ -313,7 +354,7 @@ fn room_after(call: Call, sample: &Sample<'_>) -> Option<Room> {
 
 /// Whether a string of units asked for no more than it may: at first for as many bytes as there are units, and then for two
 /// growths at most, the first to three bytes a unit at most.
-fn is_within(sample: &Sample<'_>, requests: u64, bytes: usize) -> bool {
+fn is_within<A: Allocator>(sample: &Sample<A>, requests: u64, bytes: usize) -> bool {
     let count = sample.units.len();
     let first = count.saturating_mul(3).max(8);
     requests <= 3
@@ -325,7 +366,7 @@ fn is_within(sample: &Sample<'_>, requests: u64, bytes: usize) -> bool {
 
 /// Fails unless the call is done where all is granted, with the requests that it needs and for the bytes that it needs. It
 /// answers how many requests the call makes.
-fn expect_granted(heap: Lent<'_>, call: Call, sample: &Sample<'_>) -> Result<u64, Fail> {
+fn expect_granted<'a>(heap: Lent<'a>, call: Call, sample: &Sample<Lent<'a>>) -> Result<u64, Fail> {
     heap.grant(u64::MAX);
     let length = sample.units.len();
     if !is_done(heap, call, sample) {
@@ -343,10 +384,10 @@ fn expect_granted(heap: Lent<'_>, call: Call, sample: &Sample<'_>) -> Result<u64
 }
 
 /// Fails unless each request of the call that is refused, for good or alone, is the call's last one, and its answer.
-fn expect_refused(
-    heap: Lent<'_>,
+fn expect_refused<'a>(
+    heap: Lent<'a>,
     call: Call,
-    sample: &Sample<'_>,
+    sample: &Sample<Lent<'a>>,
     requests: u64,
 ) -> Result<(), Fail> {
     for refusal in REFUSALS {
@@ -362,24 +403,29 @@ fn expect_refused(
     Ok(())
 }
 
-/// Fails unless each call is done on a string of so many units of a kind.
-fn expect_done(alloc: Global, kind: &[u16; 8], length: usize) -> Result<(), Fail> {
-    let heap = Refusing::new(alloc, 0);
-    let sample = sample_of(alloc, &heap, kind, length)?;
+/// Fails unless each call is done on a sample.
+fn expect_calls<'a>(heap: Lent<'a>, sample: &Sample<Lent<'a>>) -> Result<(), Fail> {
     for call in CALLS {
-        expect_granted(&heap, call, &sample)?;
+        expect_granted(heap, call, sample)?;
     }
     Ok(())
 }
 
+/// Fails unless each call is done on a string of so many units of a kind.
+fn expect_done(alloc: Global, heap: Lent<'_>, kind: &[u16; 8], length: usize) -> Result<(), Fail> {
+    let sample = sample_of(alloc, heap, kind, length)?;
+    expect_calls(heap, &sample)
+}
+
 #[test]
 fn each_call_is_done_at_each_length(rt: HostRuntime) -> Result<(), Fail> {
+    let heap = Refusing::new(rt.alloc(), 0);
     for kind in &KINDS {
         for length in 0..=300 {
-            expect_done(rt.alloc(), kind, length)?;
+            expect_done(rt.alloc(), &heap, kind, length)?;
         }
         for length in LONG {
-            expect_done(rt.alloc(), kind, length)?;
+            expect_done(rt.alloc(), &heap, kind, length)?;
         }
     }
     Ok(())
@@ -387,30 +433,44 @@ fn each_call_is_done_at_each_length(rt: HostRuntime) -> Result<(), Fail> {
 
 #[test]
 fn each_call_is_done_about_powers_of_two(rt: HostRuntime) -> Result<(), Fail> {
+    let heap = Refusing::new(rt.alloc(), 0);
     for (unit, lengths) in ABOUT_POWERS {
         for length in lengths {
-            expect_done(rt.alloc(), &[unit; 8], *length)?;
+            expect_done(rt.alloc(), &heap, &[unit; 8], *length)?;
         }
     }
     Ok(())
 }
 
-/// Fails unless each call answers each refusal on a string of so many units of a kind.
-fn expect_answers(alloc: Global, kind: &[u16; 8], length: usize) -> Result<(), Fail> {
-    let heap = Refusing::new(alloc, 0);
-    let sample = sample_of(alloc, &heap, kind, length)?;
+/// Fails unless each call answers each refusal on a sample.
+fn expect_refusals<'a>(heap: Lent<'a>, sample: &Sample<Lent<'a>>) -> Result<(), Fail> {
     for call in CALLS {
-        let requests = expect_granted(&heap, call, &sample)?;
-        expect_refused(&heap, call, &sample, requests)?;
+        let requests = expect_granted(heap, call, sample)?;
+        expect_refused(heap, call, sample, requests)?;
     }
     Ok(())
 }
 
+/// Fails unless each call answers each refusal on a string of so many units of a kind.
+fn expect_answers(
+    alloc: Global,
+    heap: Lent<'_>,
+    kind: &[u16; 8],
+    length: usize,
+) -> Result<(), Fail> {
+    let sample = sample_of(alloc, heap, kind, length)?;
+    expect_refusals(heap, &sample)
+}
+
+/// The lengths at which each refusal is tried.
+const REFUSED: [usize; 15] = [0, 1, 2, 3, 8, 15, 16, 17, 31, 32, 33, 64, 100, 300, 1000];
+
 #[test]
 fn each_call_answers_each_refusal(rt: HostRuntime) -> Result<(), Fail> {
+    let heap = Refusing::new(rt.alloc(), 0);
     for kind in &KINDS {
-        for length in [0, 1, 2, 3, 8, 15, 16, 17, 31, 32, 33, 64, 100, 300, 1000] {
-            expect_answers(rt.alloc(), kind, length)?;
+        for length in REFUSED {
+            expect_answers(rt.alloc(), &heap, kind, length)?;
         }
     }
     Ok(())

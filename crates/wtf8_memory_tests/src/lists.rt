@@ -1,9 +1,11 @@
 // Lists of building calls that are stopped by want of memory.
 use refusing::{REFUSALS, Refusal, Refusing};
-use std::alloc::{AllocError, Global};
+use std::alloc::{AllocError, Allocator, Global};
 use std::test::Fail;
-use wtf8::{Build, CodePoint, Stopped, Wtf8Buf};
+use wtf8::{Build, CodePoint, Wtf8, Wtf8Buf};
 use wtf8_tests::examples::{expect_dump, point_of_unit, pushed};
+
+type Lent<'a> = &'a Refusing<Global>;
 
 /// Does a call by its name, a truncation where the position is a boundary or where there are so many units.
 fn call_named(text: &mut Wtf8Buf<Global>, call: Build<'_>) -> Result<(), AllocError> {
@@ -40,6 +42,7 @@ fn folded(alloc: Global, calls: &[Build<'_>]) -> Result<Wtf8Buf<Global>, AllocEr
 
 /// So many granted requests stop the list before this call, which holds so many code points of its extension, and leave
 /// these bytes.
+#[derive(Clone, Copy)]
 struct Stop {
     granted: u64,
     done: usize,
@@ -49,65 +52,128 @@ struct Stop {
 
 /// The list of the test below makes four requests: for the first point, which finds room for eight bytes, for the
 /// character, for the second point of the extension, and for the room of 30 bytes.
-const STOPS: [Stop; 4] = [
-    Stop {
-        granted: 0,
-        done: 0,
-        taken: 0,
-        dump: "",
-    },
-    Stop {
-        granted: 1,
-        done: 4,
-        taken: 0,
-        dump: "F0 9F 92 A9 62 C3 A9 20",
-    },
-    Stop {
-        granted: 2,
-        done: 5,
-        taken: 1,
-        dump: "F0 9F 92 A9 62 C3 A9 20 F0 9F 92 A9 E0 A0 80",
-    },
-    Stop {
-        granted: 3,
-        done: 6,
-        taken: 0,
-        dump: "F0 9F 92 A9 62 C3 A9 20 F0 9F 92 A9 E0 A0 80 E0 A0 80 E0 A0 80",
-    },
-];
-
-/// Whether the list is stopped there, with what the calls before it leave and the points of the extension that were taken.
-fn is_stopped_at(
-    alloc: Global,
-    calls: &[Build<'_>],
-    stop: &Stop,
-    refusal: Refusal,
-) -> Result<bool, Fail> {
-    let heap = Refusing::new(alloc, 0);
-    heap.refuse_after(stop.granted, refusal);
-    let mut text = Wtf8Buf::new(&heap);
-    let answer = text.apply_all(calls);
-    let is_last = heap.requests() == stop.granted.wrapping_add(1);
-    let mut before = folded(alloc, calls.get(..stop.done).ok_or("calls")?)?;
-    if let Some(Build::Extend(points)) = calls.get(stop.done) {
-        before.extend(points.iter().copied().take(stop.taken))?;
-    }
-    expect_dump(alloc, before.as_wtf8(), stop.dump)?;
-    expect_dump(alloc, text.as_wtf8(), stop.dump)?;
-    Ok(is_last && answer == Err(Stopped { done: stop.done }))
+fn stops() -> [Stop; 4] {
+    [
+        Stop {
+            granted: 0,
+            done: 0,
+            taken: 0,
+            dump: "",
+        },
+        Stop {
+            granted: 1,
+            done: 4,
+            taken: 0,
+            dump: "F0 9F 92 A9 62 C3 A9 20",
+        },
+        Stop {
+            granted: 2,
+            done: 5,
+            taken: 1,
+            dump: "F0 9F 92 A9 62 C3 A9 20 F0 9F 92 A9 E0 A0 80",
+        },
+        Stop {
+            granted: 3,
+            done: 6,
+            taken: 0,
+            dump: "F0 9F 92 A9 62 C3 A9 20 F0 9F 92 A9 E0 A0 80 E0 A0 80 E0 A0 80",
+        },
+    ]
 }
 
-#[test]
-fn a_list_of_every_call_stops_at_each_request(rt: HostRuntime) -> Result<(), Fail> {
-    let joining = pushed(rt.alloc(), &[0xDCA9, 0x62])?;
-    let points = [point_of_unit(0x0800); 3];
-    let calls = [
+/// Appends the first points of an extension, so many of them.
+fn extend_by(
+    text: &mut Wtf8Buf<Global>,
+    call: Option<&Build<'_>>,
+    taken: usize,
+) -> Result<(), AllocError> {
+    if let Some(Build::Extend(points)) = call {
+        text.extend(points.iter().copied().take(taken))?;
+    }
+    Ok(())
+}
+
+/// Fails unless the calls before the stop, and the points of the extension that were taken, leave the bytes of the stop.
+fn expect_before(alloc: Global, calls: &[Build<'_>], stop: Stop) -> Result<(), Fail> {
+    let mut before = folded(alloc, calls.get(..stop.done).ok_or("calls")?)?;
+    extend_by(&mut before, calls.get(stop.done), stop.taken)?;
+    expect_dump(alloc, before.as_wtf8(), stop.dump)
+}
+
+/// Whether a list is stopped at the call behind so many.
+fn is_stopped<A: Allocator>(text: &mut Wtf8Buf<A>, calls: &[Build<'_>], done: usize) -> bool {
+    match text.apply_all(calls) {
+        Ok(_) => false,
+        Err(stopped) => stopped.done == done,
+    }
+}
+
+/// Fails unless the list is stopped there by its last request, and leaves the bytes of the stop.
+fn expect_stop(
+    alloc: Global,
+    heap: Lent<'_>,
+    calls: &[Build<'_>],
+    stop: Stop,
+    refusal: Refusal,
+) -> Result<(), Fail> {
+    heap.refuse_after(stop.granted, refusal);
+    let mut text = Wtf8Buf::new(heap);
+    if !is_stopped(&mut text, calls, stop.done) || heap.requests() != stop.granted.wrapping_add(1) {
+        return Err(Fail::new(stop.dump));
+    }
+    expect_dump(alloc, text.as_wtf8(), stop.dump)
+}
+
+/// Fails unless the list is stopped at each of its requests.
+fn expect_stops(alloc: Global, heap: Lent<'_>, calls: &[Build<'_>]) -> Result<(), Fail> {
+    for stop in stops() {
+        expect_before(alloc, calls, stop)?;
+        for refusal in REFUSALS {
+            expect_stop(alloc, heap, calls, stop, refusal)?;
+        }
+    }
+    Ok(())
+}
+
+/// Whether a list is applied, and so many of its truncations are refused.
+fn is_applied<A: Allocator>(text: &mut Wtf8Buf<A>, calls: &[Build<'_>], refused: usize) -> bool {
+    match text.apply_all(calls) {
+        Ok(found) => found == refused,
+        Err(_) => false,
+    }
+}
+
+/// Fails unless the list makes four requests where all are granted, three of its truncations are refused, and it builds a
+/// string of these bytes.
+fn expect_applied(
+    alloc: Global,
+    heap: Lent<'_>,
+    calls: &[Build<'_>],
+    dump: &str,
+) -> Result<(), Fail> {
+    heap.grant(9);
+    let mut text = Wtf8Buf::new(heap);
+    if !is_applied(&mut text, calls, 3) || heap.grants_left() != 5 {
+        return Err(Fail::new("not applied, or by other requests"));
+    }
+    expect_dump(alloc, text.as_wtf8(), dump)
+}
+
+/// Fails unless the calls, each by its name, build a string of these bytes.
+fn expect_folded(alloc: Global, calls: &[Build<'_>], dump: &str) -> Result<(), Fail> {
+    let ample = folded(alloc, calls)?;
+    expect_dump(alloc, ample.as_wtf8(), dump)
+}
+
+/// A list of calls of each kind, by a string that begins with a trail and by some points.
+fn every_call<'a>(joining: Wtf8<'a>, points: &'a [CodePoint]) -> [Build<'a>; 13] {
+    [
         Build::Push(point_of_unit(0xD83D)),
-        Build::PushWtf8(joining.as_wtf8()),
+        Build::PushWtf8(joining),
         Build::Truncate(3),
         Build::PushStr("é "),
         Build::PushChar('💩'),
-        Build::Extend(&points),
+        Build::Extend(points),
         Build::Reserve(30),
         Build::Truncate(4),
         Build::Truncate(5),
@@ -115,51 +181,94 @@ fn a_list_of_every_call_stops_at_each_request(rt: HostRuntime) -> Result<(), Fai
         Build::TruncateUnits(1),
         Build::Push(point_of_unit(0xDCA9)),
         Build::Push(point_of_unit(0x61)),
-    ];
-    for stop in &STOPS {
-        for refusal in REFUSALS {
-            let granted = stop.granted;
-            let is_stopped = is_stopped_at(rt.alloc(), &calls, stop, refusal)?;
-            assert!(rt; is_stopped, "with {granted} granted");
-        }
-    }
-    let heap = Refusing::new(rt.alloc(), 9);
-    let mut text = Wtf8Buf::new(&heap);
-    assert_eq!(rt; text.apply_all(&calls), Ok(3));
-    assert_eq!(rt; heap.grants_left(), 5);
-    let ample = folded(rt.alloc(), &calls)?;
-    expect_dump(rt.alloc(), ample.as_wtf8(), "F0 9F 92 A9 61")?;
-    expect_dump(rt.alloc(), text.as_wtf8(), "F0 9F 92 A9 61")
+    ]
+}
+
+/// Fails unless the list is stopped at each of its requests, and applied where all are granted.
+fn expect_every_call(alloc: Global, heap: Lent<'_>, joining: Wtf8<'_>) -> Result<(), Fail> {
+    let points = [point_of_unit(0x0800); 3];
+    let calls = every_call(joining, &points);
+    expect_stops(alloc, heap, &calls)?;
+    expect_applied(alloc, heap, &calls, "F0 9F 92 A9 61")?;
+    expect_folded(alloc, &calls, "F0 9F 92 A9 61")
 }
 
 #[test]
-fn a_list_stops_at_the_refused_push(rt: HostRuntime) -> Result<(), Fail> {
-    let heap = Refusing::new(rt.alloc(), 1);
-    let mut text = Wtf8Buf::with_capacity(&heap, 4)?;
+fn a_list_of_every_call_stops_at_each_request(rt: HostRuntime) -> Result<(), Fail> {
+    let heap = Refusing::new(rt.alloc(), 0);
+    let joining = pushed(rt.alloc(), &[0xDCA9, 0x62])?;
+    expect_every_call(rt.alloc(), &heap, joining.as_wtf8())
+}
+
+/// Appends "a" and D83D.
+fn fill<A: Allocator>(text: &mut Wtf8Buf<A>) -> Result<(), AllocError> {
     text.push_char('a')?;
-    text.push(point_of_unit(0xD83D))?;
+    text.push(point_of_unit(0xD83D))
+}
+
+/// Whether a list is stopped at its first push that asks for memory, where that is refused.
+fn is_push_refused(heap: Lent<'_>, text: &mut Wtf8Buf<Lent<'_>>, refusal: Refusal) -> bool {
     let calls = [
         Build::Reserve(0),
         Build::Push(point_of_unit(0xDCA9)),
         Build::Push(point_of_unit(0x61)),
     ];
+    heap.refuse_after(0, refusal);
+    is_stopped(text, &calls, 1) && heap.requests() == 1
+}
+
+/// Fails unless a list stops at a refused push, and leaves what was there.
+fn expect_push_refused(
+    alloc: Global,
+    heap: Lent<'_>,
+    text: &mut Wtf8Buf<Lent<'_>>,
+) -> Result<(), Fail> {
     for refusal in REFUSALS {
-        heap.refuse_after(0, refusal);
-        assert_eq!(rt; text.apply_all(&calls), Err(Stopped { done: 1 }));
-        assert_eq!(rt; heap.requests(), 1);
-        expect_dump(rt.alloc(), text.as_wtf8(), "61 ED A0 BD")?;
+        if !is_push_refused(heap, text, refusal) {
+            return Err(Fail::new("not stopped at the push, or by other requests"));
+        }
+        expect_dump(alloc, text.as_wtf8(), "61 ED A0 BD")?;
     }
     Ok(())
+}
+
+/// The same of a string that has no room left.
+fn expect_push_refused_where_full(alloc: Global, heap: Lent<'_>) -> Result<(), Fail> {
+    let mut text = Wtf8Buf::with_capacity(heap, 4)?;
+    fill(&mut text)?;
+    expect_push_refused(alloc, heap, &mut text)
+}
+
+#[test]
+fn a_list_stops_at_the_refused_push(rt: HostRuntime) -> Result<(), Fail> {
+    let heap = Refusing::new(rt.alloc(), 1);
+    expect_push_refused_where_full(rt.alloc(), &heap)
+}
+
+/// Fails unless an extension by more points than there is room for is stopped, and holds those that there was room for.
+fn expect_part<A: Allocator>(text: &mut Wtf8Buf<A>, points: &[CodePoint]) -> Result<(), Fail> {
+    if !is_stopped(text, &[Build::Extend(points)], 0) {
+        return Err(Fail::new("not stopped at the extension"));
+    }
+    let view = text.as_wtf8();
+    if view.len() != text.capacity() / 3 * 3 {
+        return Err(Fail::new("another number of points"));
+    }
+    if view.to_ill_formed_utf16().next() != Some(0x0800) {
+        return Err(Fail::new("other points"));
+    }
+    Ok(())
+}
+
+/// The same of a string with room for at least four bytes.
+fn expect_extension_stopped(alloc: Global, heap: Lent<'_>) -> Result<(), Fail> {
+    let mut text = Wtf8Buf::with_capacity(heap, 4)?;
+    let points: Vec<CodePoint> = vec![in alloc; point_of_unit(0x0800); text.capacity()]?;
+    expect_part(&mut text, &points)
 }
 
 #[test]
 fn an_extension_holds_what_there_was_room_for(rt: HostRuntime) -> Result<(), Fail> {
     let heap = Refusing::new(rt.alloc(), 1);
-    let mut text = Wtf8Buf::with_capacity(&heap, 4)?;
-    let points: Vec<CodePoint> = vec![in rt.alloc(); point_of_unit(0x0800); text.capacity()]?;
-    let calls = [Build::Extend(&points)];
-    assert_eq!(rt; text.apply_all(&calls), Err(Stopped { done: 0 }));
-    assert_eq!(rt; text.as_wtf8().len(), text.capacity() / 3 * 3);
-    assert_eq!(rt; text.as_wtf8().to_ill_formed_utf16().next(), Some(0x0800));
-    Ok(())
+    expect_extension_stopped(rt.alloc(), &heap)
 }

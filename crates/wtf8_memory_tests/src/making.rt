@@ -1,7 +1,7 @@
 // Calls that make a string or a text: how many requests each makes, and that it answers want of memory where one of them
 // is refused.
 use refusing::{REFUSALS, Refusing};
-use std::alloc::{AllocError, Global};
+use std::alloc::{AllocError, Allocator, Global};
 use std::test::Fail;
 use wtf8::{CodePoint, Wtf8Buf};
 use wtf8_tests::examples::{expect_dump, joined, points_of_units};
@@ -21,47 +21,51 @@ enum Making {
 }
 
 /// A call on these units or on as much room as there are, how many requests it makes, and for how many bytes altogether.
+type Row = (Making, &'static [u16], u64, usize);
+
 /// What grows makes room for at least eight bytes at once, for twice as much as there was or for what is wanted, whichever
 /// is more, and a string of units begins with as many bytes as there are units.
-const ROWS: [(Making, &[u16], u64, usize); 17] = [
-    (Making::WithCapacity, &[0x0061], 1, 1),
-    (Making::WithCapacity, &[0x0061; 1000], 1, 1000),
-    (Making::FromStr, &[0x0061], 1, 1),
-    (Making::FromUnits, &[0x0061, 0x0062], 1, 2),
-    (Making::FromUnits, &[0xE000, 0xE000], 2, 2 + 8),
-    (Making::FromUnits, &[0xD83D, 0xDCA9, 0x0061], 2, 3 + 8),
-    (Making::FromUnits, &[0xE000; 8], 2, 8 + 24),
-    (Making::FromUnits, &[0xE000; 9], 3, 9 + 24 + 48),
-    (Making::FromUnits, &[0xE000; 16], 2, 16 + 48),
-    (Making::FromUnits, &[0x00E9; 8], 2, 8 + 16),
-    (Making::FromUnits, &[0x00E9; 16], 2, 16 + 32),
-    (
-        Making::FromUnits,
-        &[
-            0x0061, 0xE000, 0x0061, 0xE000, 0x0061, 0xE000, 0x0061, 0xE000, 0x0061, 0xE000, 0x0061,
-            0xE000, 0x0061, 0xE000, 0x0061, 0xE000,
-        ],
-        2,
-        16 + 32,
-    ),
-    (Making::FromIter, &[0xE000, 0xE000], 1, 8),
-    (Making::FromIter, &[0xE000, 0xE000, 0xE000], 2, 8 + 16),
-    (Making::Clone, &[], 1, 4),
-    (Making::ToStringLossy, &[], 1, 4),
-    (Making::HexDump, &[], 1, 12),
-];
+fn rows() -> [Row; 17] {
+    [
+        (Making::WithCapacity, &[0x0061], 1, 1),
+        (Making::WithCapacity, &[0x0061; 1000], 1, 1000),
+        (Making::FromStr, &[0x0061], 1, 1),
+        (Making::FromUnits, &[0x0061, 0x0062], 1, 2),
+        (Making::FromUnits, &[0xE000, 0xE000], 2, 2 + 8),
+        (Making::FromUnits, &[0xD83D, 0xDCA9, 0x0061], 2, 3 + 8),
+        (Making::FromUnits, &[0xE000; 8], 2, 8 + 24),
+        (Making::FromUnits, &[0xE000; 9], 3, 9 + 24 + 48),
+        (Making::FromUnits, &[0xE000; 16], 2, 16 + 48),
+        (Making::FromUnits, &[0x00E9; 8], 2, 8 + 16),
+        (Making::FromUnits, &[0x00E9; 16], 2, 16 + 32),
+        (
+            Making::FromUnits,
+            &[
+                0x0061, 0xE000, 0x0061, 0xE000, 0x0061, 0xE000, 0x0061, 0xE000, 0x0061, 0xE000,
+                0x0061, 0xE000, 0x0061, 0xE000, 0x0061, 0xE000,
+            ],
+            2,
+            16 + 32,
+        ),
+        (Making::FromIter, &[0xE000, 0xE000], 1, 8),
+        (Making::FromIter, &[0xE000, 0xE000, 0xE000], 2, 8 + 16),
+        (Making::Clone, &[], 1, 4),
+        (Making::ToStringLossy, &[], 1, 4),
+        (Making::HexDump, &[], 1, 12),
+    ]
+}
 
 const LEAD: &str = "61 ED A0 BD";
 
 /// Whether a string was made.
-fn is_granted(made: Result<Wtf8Buf<Lent<'_>>, AllocError>) -> bool {
+fn is_granted<A: Allocator + Drop>(made: Result<Wtf8Buf<A>, AllocError>) -> bool {
     made.is_ok()
 }
 
 /// Makes the call, and answers whether memory was granted.
-fn is_made(
-    heap: Lent<'_>,
-    text: &Wtf8Buf<Lent<'_>>,
+fn is_made<A: Allocator + Drop + Copy>(
+    heap: A,
+    text: &Wtf8Buf<A>,
     making: Making,
     units: &[u16],
     points: &[CodePoint],
@@ -77,24 +81,53 @@ fn is_made(
     }
 }
 
-#[test]
-fn a_making_call_makes_its_requests_and_no_other(rt: HostRuntime) -> Result<(), Fail> {
-    let heap = Refusing::new(rt.alloc(), 9);
-    let text = joined(&heap, &[0x0061, 0xD83D])?;
-    for (making, units, requests, bytes) in ROWS {
-        let points = points_of_units(rt.alloc(), units)?;
-        heap.grant(9);
-        assert!(rt; is_made(&heap, &text, making, units, &points), "{making:?}");
-        assert_eq!(rt; heap.requests(), requests, "{making:?}");
-        assert_eq!(rt; heap.bytes(), bytes, "{making:?}");
+/// Fails unless the call is done where all is granted, by the requests of the row and for its bytes.
+fn expect_granted<'a>(
+    heap: Lent<'a>,
+    text: &Wtf8Buf<Lent<'a>>,
+    row: Row,
+    points: &[CodePoint],
+) -> Result<(), Fail> {
+    let (making, units, requests, bytes) = row;
+    heap.grant(9);
+    let is_made = is_made(heap, text, making, units, points);
+    if !is_made || heap.requests() != requests || heap.bytes() != bytes {
+        return Err(Fail::new(format_args!("{making:?}")));
     }
     Ok(())
 }
 
+/// The same for the row's units as code points.
+fn expect_row<'a>(
+    alloc: Global,
+    heap: Lent<'a>,
+    text: &Wtf8Buf<Lent<'a>>,
+    row: Row,
+) -> Result<(), Fail> {
+    let (_, units, _, _) = row;
+    let points = points_of_units(alloc, units)?;
+    expect_granted(heap, text, row, &points)
+}
+
+/// Fails unless each row is as it tells.
+fn expect_rows(alloc: Global, heap: Lent<'_>) -> Result<(), Fail> {
+    let text = joined(heap, &[0x0061, 0xD83D])?;
+    for row in rows() {
+        expect_row(alloc, heap, &text, row)?;
+    }
+    Ok(())
+}
+
+#[test]
+fn a_making_call_makes_its_requests_and_no_other(rt: HostRuntime) -> Result<(), Fail> {
+    let heap = Refusing::new(rt.alloc(), 9);
+    expect_rows(rt.alloc(), &heap)
+}
+
 /// Fails unless the call ends at each request that is refused, for good or alone.
-fn expect_refused(
-    heap: Lent<'_>,
-    text: &Wtf8Buf<Lent<'_>>,
+fn expect_refused<'a>(
+    heap: Lent<'a>,
+    text: &Wtf8Buf<Lent<'a>>,
     making: Making,
     units: &[u16],
     points: &[CodePoint],
@@ -112,39 +145,73 @@ fn expect_refused(
     Ok(())
 }
 
-#[test]
-fn a_making_call_answers_each_refusal(rt: HostRuntime) -> Result<(), Fail> {
-    let heap = Refusing::new(rt.alloc(), 9);
-    let text = joined(&heap, &[0x0061, 0xD83D])?;
-    for (making, units, requests, _) in ROWS {
-        let points = points_of_units(rt.alloc(), units)?;
-        expect_refused(&heap, &text, making, units, &points, requests)?;
-        expect_dump(rt.alloc(), text.as_wtf8(), LEAD)?;
+/// Fails unless the row's call answers each refusal, and leaves the string.
+fn expect_answers<'a>(
+    alloc: Global,
+    heap: Lent<'a>,
+    text: &Wtf8Buf<Lent<'a>>,
+    row: Row,
+) -> Result<(), Fail> {
+    let (making, units, requests, _) = row;
+    let points = points_of_units(alloc, units)?;
+    expect_refused(heap, text, making, units, &points, requests)?;
+    expect_dump(alloc, text.as_wtf8(), LEAD)
+}
+
+/// Fails unless each row's call does so.
+fn expect_each_answers(alloc: Global, heap: Lent<'_>) -> Result<(), Fail> {
+    let text = joined(heap, &[0x0061, 0xD83D])?;
+    for row in rows() {
+        expect_answers(alloc, heap, &text, row)?;
     }
     Ok(())
 }
 
-/// Fails unless a clone of a string with more room than it needs asks once for its bytes alone, or not at all where it has
-/// none.
-fn expect_cloned(alloc: Global, letters: usize) -> Result<(), Fail> {
-    let heap = Refusing::new(alloc, 1);
-    let mut text = Wtf8Buf::with_capacity(&heap, 200)?;
+#[test]
+fn a_making_call_answers_each_refusal(rt: HostRuntime) -> Result<(), Fail> {
+    let heap = Refusing::new(rt.alloc(), 9);
+    expect_each_answers(rt.alloc(), &heap)
+}
+
+/// Appends so many letters.
+fn push_letters<A: Allocator>(text: &mut Wtf8Buf<A>, letters: usize) -> Result<(), AllocError> {
     for _ in 0..letters {
         text.push_char('a')?;
     }
-    let requests = u64::from(0 < letters);
+    Ok(())
+}
+
+/// The capacity of a clone.
+fn cloned_capacity<A: Allocator + Drop + Copy>(text: &Wtf8Buf<A>) -> Result<usize, AllocError> {
+    let copy = text.clone()?;
+    Ok(copy.capacity())
+}
+
+/// Fails unless a clone of a string of so many letters asks for these, and answers each refusal.
+fn expect_clone<'a>(heap: Lent<'a>, text: &Wtf8Buf<Lent<'a>>, letters: usize) -> Result<(), Fail> {
     heap.grant(9);
-    let capacity = text.clone()?.capacity();
+    let capacity = cloned_capacity(text)?;
+    let requests = u64::from(0 < letters);
     if capacity != letters || heap.requests() != requests || heap.bytes() != letters {
         return Err(Fail::new(format_args!("a clone of {letters} letters")));
     }
-    expect_refused(&heap, &text, Making::Clone, &[], &[], requests)
+    expect_refused(heap, text, Making::Clone, &[], &[], requests)
+}
+
+/// Fails unless a clone of a string with more room than it needs asks once for its bytes alone, or not at all where it has
+/// none.
+fn expect_cloned(heap: Lent<'_>, letters: usize) -> Result<(), Fail> {
+    heap.grant(1);
+    let mut text = Wtf8Buf::with_capacity(heap, 200)?;
+    push_letters(&mut text, letters)?;
+    expect_clone(heap, &text, letters)
 }
 
 #[test]
 fn a_clone_has_no_room_to_spare(rt: HostRuntime) -> Result<(), Fail> {
+    let heap = Refusing::new(rt.alloc(), 1);
     for letters in [0, 1, 31, 32, 33, 64, 100, 199, 200] {
-        expect_cloned(rt.alloc(), letters)?;
+        expect_cloned(&heap, letters)?;
     }
     Ok(())
 }

@@ -4,15 +4,25 @@ use std::alloc::{AllocError, Global};
 use std::test::Fail;
 use wtf8::{Wtf8, Wtf8Buf};
 
+/// Fails unless a copy of a text has these bytes.
+fn expect_copied(alloc: Global, text: &str, dump: &str) -> Result<(), Fail> {
+    let copied = Wtf8Buf::from_str(alloc, text)?;
+    expect_dump(alloc, copied.as_wtf8(), dump)
+}
+
+/// Fails unless a string that keeps a text of its own has these bytes.
+fn expect_kept(alloc: Global, text: &str, dump: &str) -> Result<(), Fail> {
+    let kept = Wtf8Buf::from_string(String::from_str(alloc, text)?);
+    expect_dump(alloc, kept.as_wtf8(), dump)
+}
+
 #[test]
 fn texts_keep_their_bytes(rt: HostRuntime) -> Result<(), Fail> {
     expect_dump(rt.alloc(), Wtf8Buf::new(rt.alloc()).as_wtf8(), "")?;
     for (text, dump) in [("", ""), (TEXT, TEXT_DUMP)] {
         expect_dump(rt.alloc(), Wtf8::from_str(text), dump)?;
-        let copied = Wtf8Buf::from_str(rt.alloc(), text)?;
-        expect_dump(rt.alloc(), copied.as_wtf8(), dump)?;
-        let kept = Wtf8Buf::from_string(String::from_str(rt.alloc(), text)?);
-        expect_dump(rt.alloc(), kept.as_wtf8(), dump)?;
+        expect_copied(rt.alloc(), text, dump)?;
+        expect_kept(rt.alloc(), text, dump)?;
     }
     Ok(())
 }
@@ -22,16 +32,35 @@ const WITH_LEAD: [u32; 5] = [0x61, 0xE9, 0x20, 0x1F4A9, 0xD800];
 
 const WITH_LEAD_DUMP: &str = "61 C3 A9 20 F0 9F 92 A9 ED A0 80";
 
+/// Appends the text, and reserves room for so many bytes behind it.
+fn push_and_reserve(text: &mut Wtf8Buf<Global>, n: usize) -> Result<(), AllocError> {
+    text.push_str(TEXT)?;
+    text.reserve(n)
+}
+
+/// Fails unless an empty string with room for so many bytes has as much again behind a text.
+fn expect_reserved(alloc: Global, text: &mut Wtf8Buf<Global>, n: usize) -> Result<(), Fail> {
+    expect_dump(alloc, text.as_wtf8(), "")?;
+    push_and_reserve(text, n)?;
+    if text.capacity() - text.len() < n {
+        return Err(Fail::new(format_args!("no room for {n}")));
+    }
+    expect_dump(alloc, text.as_wtf8(), TEXT_DUMP)
+}
+
+/// Fails unless there is room for as many bytes as were asked for.
+fn expect_room(alloc: Global, n: usize) -> Result<(), Fail> {
+    let mut text = Wtf8Buf::with_capacity(alloc, n)?;
+    if text.capacity() < n {
+        return Err(Fail::new(format_args!("no room for {n}")));
+    }
+    expect_reserved(alloc, &mut text, n)
+}
+
 #[test]
 fn room_is_at_least_what_was_asked_for(rt: HostRuntime) -> Result<(), Fail> {
     for n in [0, 1, 4, 100] {
-        let mut text = Wtf8Buf::with_capacity(rt.alloc(), n)?;
-        assert!(rt; n <= text.capacity(), "{n}");
-        expect_dump(rt.alloc(), text.as_wtf8(), "")?;
-        text.push_str(TEXT)?;
-        text.reserve(n)?;
-        assert!(rt; n <= text.capacity() - text.as_wtf8().len(), "{n}");
-        expect_dump(rt.alloc(), text.as_wtf8(), TEXT_DUMP)?;
+        expect_room(rt.alloc(), n)?;
     }
     Ok(())
 }
@@ -89,14 +118,19 @@ fn list_of_kinds(alloc: Global, length: u32, code: usize) -> Result<Vec<u16>, Al
     Ok(units)
 }
 
+/// Whether a clone in which room is reserved has the units and is equal, and the room is there.
+fn is_copied(alloc: Global, text: &Wtf8Buf<Global>, units: &[u16]) -> Result<bool, Fail> {
+    let mut copy = text.clone()?;
+    copy.reserve(100)?;
+    expect_units(alloc, copy.as_wtf8(), units)?;
+    Ok(copy == *text && 100 <= copy.capacity() - copy.len())
+}
+
 /// Makes a string of the units, clones it and reserves room in it: whether the room is there.
 fn is_kept(alloc: Global, units: &[u16]) -> Result<bool, Fail> {
     let text = Wtf8Buf::from_ill_formed_utf16(alloc, units)?;
     expect_units(alloc, text.as_wtf8(), units)?;
-    let mut copy = text.clone()?;
-    copy.reserve(100)?;
-    expect_units(alloc, copy.as_wtf8(), units)?;
-    Ok(copy == text && 100 <= copy.capacity() - copy.as_wtf8().len())
+    is_copied(alloc, &text, units)
 }
 
 #[test]
