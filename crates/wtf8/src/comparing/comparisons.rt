@@ -1,5 +1,6 @@
 // Equality, order and hash of strings, which are those of their bytes.
 #![tactic(auto, using(crate::proofs::lemmas::comparing::Order::equal_points, crate::proofs::lemmas::comparing::Order::cmp_points, crate::proofs::lemmas::comparing::Order::points_order))]
+
 ghost use Rattle.std.proofs.Common.{rules};
 ghost use Rattle.std.specs.Cmp.Lexicographic.{pointwise, slice_cmp};
 ghost use Rattle.std.specs.Cmp.Rules.{comparing, hashing};
