@@ -2,7 +2,7 @@
 ghost use Rattle.std.specs.Prelude.{◌≡◌, ◌∷◌, ◌++◌, ◌+◌, ◌<◌, ◌≤◌, length, take, drop};
 ghost use Rattle.wtf8.specs.Form.{IsWellFormed, bytes as bytes_of};
 ghost use Rattle.wtf8.specs.private.FirstPlace.{IsFirst, IsFirstBelow, Nowhere};
-ghost use Rattle.wtf8.specs.private.SurrogateSearch.{SurrogateAt};
+ghost use Rattle.wtf8.specs.private.SurrogateSearch.{BeginsInLane, SurrogateAt};
 ghost use Rattle.wtf8.specs.Surrogates.{lossy};
 
 use crate::lanes::masks::first_set;
@@ -12,16 +12,24 @@ use std::simd::prelude::*;
 /// The bytes of U+FFFD, the replacement character: as many as any surrogate has.
 const REPLACEMENT: [u8; 3] = [0xEF, 0xBF, 0xBD];
 
+/// The first lane in which one vector holds ED and another one A0 or more, or `None`.
+#[inline(always)]
+fn block(firsts: u8x32, seconds: u8x32) -> Option<usize>
+    ensures { IsFirstBelow (BeginsInLane firsts seconds) 0 32 result }
+{
+    let begin = firsts.simd_eq(Simd::splat(0xED)) & seconds.simd_ge(Simd::splat(0xA0));
+    first_set(begin.to_bitmask())
+}
+
 /// The place of the first surrogate that begins at one of 32 places, which are not the last.
 #[inline(always)]
 fn first_in_block(bytes: &[u8], at: usize) -> Option<usize>
     requires { at + 32 < length bytes.now }
     ensures { IsFirstBelow (SurrogateAt bytes.now) at (at + 32) result }
 {
-    let firsts = u8x32::from_slice(&bytes[at..]);
-    let seconds = u8x32::from_slice(&bytes[at + 1..]);
-    let begin = firsts.simd_eq(Simd::splat(0xED)) & seconds.simd_ge(Simd::splat(0xA0));
-    match first_set(begin.to_bitmask()) {
+    let firsts = Simd::from_slice(&bytes[at..]);
+    let seconds = Simd::from_slice(&bytes[at + 1..]);
+    match block(firsts, seconds) {
         Some(lane) => Some(at + lane),
         None => None,
     }

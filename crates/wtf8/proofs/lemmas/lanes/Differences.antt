@@ -32,13 +32,13 @@ module _ (n : ℕ) (w v : List ℕ) (i : ℕ) (few : n ≤ 64) (own : i + n ≤ 
       subst (λ b. IsTrue b ↔ DifferAt w v (i + k)) (sym here) (rw (get_or-chunk i n w k 0 l, get_or-chunk i n v k 0 l) (unlike_tells _ _))
 
   pub first_unlike : (r : Option ℕ) → IsFirstSet mask r → MatchOption r (Nowhere (DifferAt w v) i (i + n)) (λ k. IsLeast (DifferAt w v) i (i + k) × (i + k < i + n))
-  first_unlike r first = first_there (DifferAt w v) lanes i n differ_there r (first n lanes few long same)
+  first_unlike r first = first_there (DifferAt w v) (IsSet lanes) i n differ_there r (first n lanes few long same)
 
   pub told_unlike : Tells ⊤ (DifferAt w v) i (i + n) (eqb mask 0)
   told_unlike = elim (cases_Bool (eqb mask 0)) [
-    | inl t ↦ rw t (first_there (DifferAt w v) lanes i n differ_there None (none_set mask n lanes few long same (eqb-true mask 0 t)))
+    | inl t ↦ rw t (first_there (DifferAt w v) (IsSet lanes) i n differ_there None (none_set mask n lanes few long same (eqb-true mask 0 t)))
     | inr f ↦ rw f (λ _ none.
-        let some = first_there (DifferAt w v) lanes i n differ_there (Some _) (lowest_set mask n lanes few long same (λ e. both_ways _ f (eq-eqb mask 0 e))) in
+        let some = first_there (DifferAt w v) (IsSet lanes) i n differ_there (Some _) (lowest_set mask n lanes few long same (λ e. both_ways _ f (eq-eqb mask 0 e))) in
         none _ some.0.not_before some.1 some.0.here)
   ]
 

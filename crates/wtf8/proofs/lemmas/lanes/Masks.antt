@@ -31,17 +31,29 @@ module _ (bits n : ℕ) (lanes : List Bool) (few : n ≤ 64) (long : length lane
         omega (arith, some, long),
       )
 
--- lanes that are of the places from one on: the first that is set is of the first place with a property
-pub first_there : (P : ℕ → Type 0) (lanes : List Bool) (i n : ℕ) → ((k : ℕ) → k < n → IsSet lanes k ↔ P (i + k)) → (r : Option ℕ) → IsFirstBelow (IsSet lanes) 0 n r
+-- the first lane with one of two properties that say the same
+pub same_first : (P Q : ℕ → Type 0) (n : ℕ) → ((k : ℕ) → k < n → P k ↔ Q k) → (r : Option ℕ) → IsFirstBelow P 0 n r → IsFirstBelow Q 0 n r
+same_first P Q n says None none = λ j low high q. none j low high ((says j high).1 q)
+same_first P Q n says (Some k) h = (
+  record {
+    not_before = h.0.not_before;
+    here = (says k h.1).0 h.0.here;
+    none_between = λ j low l q. h.0.none_between j low l ((says j (omega (arith, l, h.1))).1 q);
+  },
+  h.1,
+)
+
+-- lanes that are of the places from one on: the first with a property is of the first place with another one
+pub first_there : (P Q : ℕ → Type 0) (i n : ℕ) → ((k : ℕ) → k < n → Q k ↔ P (i + k)) → (r : Option ℕ) → IsFirstBelow Q 0 n r
     → MatchOption r (Nowhere P i (i + n)) (λ k. IsLeast P i (i + k) × (i + k < i + n))
-first_there P lanes i n says r first = by r first
+first_there P Q i n says r first = by r first
   where
-    none : (m : ℕ) → m ≤ n → Nowhere (IsSet lanes) 0 m → Nowhere P i (i + m)
+    none : (m : ℕ) → m ≤ n → Nowhere Q 0 m → Nowhere P i (i + m)
     none m le unset j low high q =
         let place : i + (j - i) ≡ j = omega arith in
         unset (j - i) (omega arith) (omega arith) ((says (j - i) (omega arith)).1 (subst P (sym place) q))
 
-    by : (r : Option ℕ) → IsFirstBelow (IsSet lanes) 0 n r → MatchOption r (Nowhere P i (i + n)) (λ k. IsLeast P i (i + k) × (i + k < i + n))
+    by : (r : Option ℕ) → IsFirstBelow Q 0 n r → MatchOption r (Nowhere P i (i + n)) (λ k. IsLeast P i (i + k) × (i + k < i + n))
     by None h = none n (omega arith) h
     by (Some k) h = (
       record { not_before = omega arith; here = (says k h.1).0 h.0.here; none_between = none k (omega (arith, h.1)) h.0.none_between },

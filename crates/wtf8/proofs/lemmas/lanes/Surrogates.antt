@@ -5,9 +5,9 @@ use Rattle.wtf8.proofs.Common.{get_or-chunk, tops_compared, chunk, zip2, mask_l,
 use Rattle.wtf8.proofs.Common.{Option, get_or-zip2, ◌&&◌, bit_and, subst, and_parts, and_from, leb-true, length-chunk}
 use Rattle.wtf8.proofs.Common.{MatchOption, get_or-replicate, length-replicate}
 use lib.Lanes.{chunk, zip2, mask_l, top}
-use Rattle.wtf8.proofs.lemmas.lanes.Masks.{first_there, none_set}
-use Rattle.wtf8.specs.private.FirstPlace.{IsFirstSet, IsLeast, IsSet, Nowhere}
-use Rattle.wtf8.specs.private.SurrogateSearch.{SurrogateAt}
+use Rattle.wtf8.proofs.lemmas.lanes.Masks.{first_there, same_first, none_set}
+use Rattle.wtf8.specs.private.FirstPlace.{IsFirstBelow, IsFirstSet, IsLeast, IsSet, Nowhere}
+use Rattle.wtf8.specs.private.SurrogateSearch.{BeginsInLane, SurrogateAt}
 use Rattle.wtf8.specs.private.UnitCounts.{HasLane}
 
 -- The search in lanes: the mask of two vectors.
@@ -35,26 +35,29 @@ tops n (x ∷ xs) [] p q = absurd (omega arith)
 tops zero (x ∷ xs) (y ∷ ys) p q = absurd (omega arith)
 tops (suc n) (x ∷ xs) (y ∷ ys) p q = λ i. both (eqb x 0xED) (leb 0xA0 y) i ∷ tops n xs ys (omega arith) (omega arith) i
 
--- vectors of the bytes from a place on and from one further
-begins_there : (w : List ℕ) (i : ℕ) → i + 32 < length w → (k : ℕ) → k < 32 → IsSet (zip2 test (chunk i 32 w) (chunk (i + 1) 32 w)) k ↔ SurrogateAt w (i + k)
-begins_there w i room k l =
-    let next : get_or (chunk (i + 1) 32 w) k 0 ≡ get_or w (i + k + 1) 0 = get_or-chunk (i + 1) 32 w k 0 l ∙ ap (λ m. get_or w m 0) (omega arith) in
-    let within : i + k + 1 < length w = omega arith in
-    let here = get_or-zip2 test (chunk i 32 w) (chunk (i + 1) 32 w) k 0 0 false (omega (arith, length-chunk i 32 w (omega arith), l))
-    (omega (arith, length-chunk (i + 1) 32 w (omega arith), l)) in
-    subst (λ b. IsTrue b ↔ SurrogateAt w (i + k)) (sym here) (rw (get_or-chunk i 32 w k 0 l, next) (
-      λ e. let parts = and_parts _ _ e in record { within = within; first = eqb-true _ 0xED parts.0; second = leb-true 0xA0 _ parts.1 },
-      λ s. and_from _ _ (eq-eqb _ 0xED s.first) (le-leb 0xA0 _ s.second),
-    ))
+-- the first lane in which a surrogate begins
+pub first_begins : (xs ys : List ℕ) → length xs ≡ 32 → length ys ≡ 32 → (r : Option ℕ) → IsFirstSet (mask_l (map (top 7) (compared 32 xs ys)) % 2 ^ 64) r
+    → IsFirstBelow (BeginsInLane xs ys) 0 32 r
+first_begins xs ys p q r first =
+    same_first (IsSet (zip2 test xs ys)) (BeginsInLane xs ys) 32 begins r
+    (first 32 (zip2 test xs ys) (omega arith) (length-zip2 test xs ys (p ∙ sym q) ∙ p) (ap (λ ms. mask_l ms % 2 ^ 64) (tops 32 xs ys p q)))
+  where
+    begins : (k : ℕ) → k < 32 → IsSet (zip2 test xs ys) k ↔ BeginsInLane xs ys k
+    begins k l = subst (λ b. IsTrue b ↔ BeginsInLane xs ys k) (sym (get_or-zip2 test xs ys k 0 0 false (omega (arith, p, l)) (omega (arith, q, l)))) (
+      λ e. let parts = and_parts _ _ e in (eqb-true _ 0xED parts.0, leb-true 0xA0 _ parts.1),
+      λ h. and_from _ _ (eq-eqb _ 0xED h.0) (le-leb 0xA0 _ h.1),
+    )
 
--- the first place at which a surrogate begins
-pub first_begins : (w : List ℕ) (i : ℕ) → i + 32 < length w → (r : Option ℕ) → IsFirstSet (mask_l (map (top 7) (compared 32 (chunk i 32 w) (chunk (i + 1) 32 w))) % 2 ^ 64) r
+-- vectors of the bytes from a place on and from one further
+pub begins_there : (w : List ℕ) (i : ℕ) → i + 32 < length w → (r : Option ℕ) → IsFirstBelow (BeginsInLane (chunk i 32 w) (chunk (i + 1) 32 w)) 0 32 r
     → MatchOption r (Nowhere (SurrogateAt w) i (i + 32)) (λ k. IsLeast (SurrogateAt w) i (i + k) × (i + k < i + 32))
-first_begins w i room r first =
-    let p = length-chunk i 32 w (omega arith) in
-    let q = length-chunk (i + 1) 32 w (omega arith) in
-    first_there (SurrogateAt w) _ i 32 (begins_there w i room) r (first 32 (zip2 test (chunk i 32 w) (chunk (i + 1) 32 w)) (omega arith)
-    (length-zip2 test (chunk i 32 w) (chunk (i + 1) 32 w) (p ∙ sym q) ∙ p) (ap (λ ms. mask_l ms % 2 ^ 64) (tops 32 (chunk i 32 w) (chunk (i + 1) 32 w) p q)))
+begins_there w i room = first_there (SurrogateAt w) (BeginsInLane (chunk i 32 w) (chunk (i + 1) 32 w)) i 32 begins
+  where
+    begins : (k : ℕ) → k < 32 → BeginsInLane (chunk i 32 w) (chunk (i + 1) 32 w) k ↔ SurrogateAt w (i + k)
+    begins k l =
+        let next : get_or (chunk (i + 1) 32 w) k 0 ≡ get_or w (i + k + 1) 0 = get_or-chunk (i + 1) 32 w k 0 l ∙ ap (λ m. get_or w m 0) (omega arith) in
+        let within : i + k + 1 < length w = omega arith in
+        rw (get_or-chunk i 32 w k 0 l, next) (λ h. record { within = within; first = h.0; second = h.1 }, λ s. (s.first, s.second))
 
 -- an empty mask of the lanes that are no less than a number
 pub none_at_least : (n least : ℕ) (xs : List ℕ) → n ≤ 64 → length xs ≡ n
