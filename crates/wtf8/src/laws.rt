@@ -115,10 +115,8 @@ pub fn law_marks()
 pub fn law_mark(view: Wtf8<'_>, mark: UnitMark)
     requires { IsMarkOf view mark }
     ensures boundary { IsBoundary (view_units view.entry) mark.position }
-    ensures front { IsFront (view_units view.entry) mark.position (take mark.units (view_units view.entry)) }
-    ensures back { IsBack (view_units view.entry) mark.position (drop mark.units (view_units view.entry)) }
-    ensures only_front { (v : List ℕ) → IsFront (view_units view.entry) mark.position v → v ≡ take mark.units (view_units view.entry) }
-    ensures only_back { (v : List ℕ) → IsBack (view_units view.entry) mark.position v → v ≡ drop mark.units (view_units view.entry) }
+    ensures front { (v : List ℕ) → IsFront (view_units view.entry) mark.position v → v ≡ take mark.units (view_units view.entry) }
+    ensures back { (v : List ℕ) → IsBack (view_units view.entry) mark.position v → v ≡ drop mark.units (view_units view.entry) }
 {}
 
 /// Where a number of units divides a pair of this view, the unit before is a lead and the one behind a trail. A caller

@@ -45,7 +45,7 @@ fn units_begun_by(byte: u8) -> usize
     usize::from(encoding::begins_code_point(byte)) + usize::from(0xF0 <= byte)
 }
 
-/// The same for each of `N` bytes.
+/// How many units the code point has that each of `N` bytes begins; 0 for a byte that begins none.
 #[inline(always)]
 fn units_begun_by_each<const N: usize>(bytes: Simd<u8, N>) -> Simd<u8, N>
     ensures { result ≡ map units_begun bytes.entry }
@@ -57,7 +57,7 @@ fn units_begun_by_each<const N: usize>(bytes: Simd<u8, N>) -> Simd<u8, N>
     begins.select(one, zero).strict_add(pairs.select(one, zero))
 }
 
-/// The same for a block of `N` bytes together.
+/// How many units the code points have that the bytes of a block begin.
 #[inline(always)]
 fn units_begun_in_block<const N: usize>(bytes: Simd<u8, N>) -> usize
     requires { N ≤ u64.BITS }
@@ -66,7 +66,7 @@ fn units_begun_in_block<const N: usize>(bytes: Simd<u8, N>) -> usize
     usize::from(units_begun_by_each(bytes).strict_reduce_sum())
 }
 
-/// The same for `ADDED` blocks from a place on.
+/// How many units the code points have that the bytes of `ADDED` blocks from a place on begin.
 #[inline(always)]
 fn units_begun_in_blocks(bytes: &[u8], at: usize) -> usize
     requires { at + ADDED * BLOCK ≤ length bytes.now }
@@ -219,7 +219,7 @@ fn behind_blocks(bytes: &[u8], unit: usize) -> Place
     }
 }
 
-/// The same. It stands by itself, so that a short string costs little.
+/// The place behind the blocks of a string of 16 bytes or more. It stands by itself, so that a short string costs little.
 #[inline(never)]
 fn behind_blocks_of_many(bytes: &[u8], unit: usize) -> Place
     ensures { IsCounted bytes.now unit result }

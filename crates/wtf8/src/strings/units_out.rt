@@ -276,8 +276,8 @@ fn widen_row<'a, const N: usize, const WIDTH: usize, const BYTES: usize, K: Kind
     (widen_units(units, left, block, count, WIDTH * count), false)
 }
 
-/// The same and, where they do not fill a block, those of the code point behind them, again and again, as long as there are
-/// bytes for a block and the first of them begins a code point of the kind.
+/// Writes the units of the code points of a kind at the front by blocks, and of the code point behind them where they do not
+/// fill a block, as long as there are bytes for a block and the first of them begins a code point of the kind.
 #[inline(always)]
 fn widen_kind<'a, const N: usize, const WIDTH: usize, const BYTES: usize, K: Kind<N, WIDTH, BYTES>>(
     units: &mut [u16],

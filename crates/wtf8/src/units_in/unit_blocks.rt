@@ -3,6 +3,7 @@
 ghost use Rattle.std.specs.Prelude.{◌≡◌, ℕ, [], true, ◌+◌, ◌++◌, ◌^◌, ◌<◌, ◌≤◌, length, map, min, take, IfOk, IfSome, IsTrue, OnOk, IsOk};
 ghost use Rattle.wtf8.specs.private.UnitParts.{IsKnownForm, IsReadTo, AreAscii};
 
+use crate::lanes::masks::first_set;
 use crate::numbers::encoding;
 use crate::units_in::{NUMBERS, decode, mixed_blocks};
 use std::alloc::{AllocError, Allocator};
@@ -63,11 +64,7 @@ fn count_ascii<const N: usize>(bytes: Simd<u8, N>) -> usize
     ensures within { result ≤ N }
     ensures ascii { AreAscii (take result bytes.entry) }
 {
-    let others = bytes.simd_ge(Simd::splat(0x80)).to_bitmask();
-    if others == 0 {
-        return N;
-    }
-    others.trailing_zeros() as usize
+    first_set(bytes.simd_ge(Simd::splat(0x80)).to_bitmask()).unwrap_or(N)
 }
 
 /// Appends the bytes of the code point at a place up to which units were read, and answers how far they are read then, and

@@ -1,4 +1,4 @@
-use Rattle.wtf8.proofs.Common.{units, IsFront, IsBack, take, drop}
+use Rattle.wtf8.proofs.Common.{units}
 use Rattle.wtf8.proofs.lemmas.strings.Positions.{cut_by, same_front, same_back}
 use Rattle.wtf8.proofs.lemmas.strings.UnitMarks.{cut_of}
 use Rattle.wtf8.proofs.laws.law_mark.Goals as goal
@@ -10,12 +10,8 @@ returns c =
     let k = c.args.mark.position in
     let x = cut_of own c.requires in
     let splits = (cut_by own x.front x.back k x.joined x.front_len).splits in
-    let front : IsFront u k (take c.args.mark.units u) = record { front = x.front; back = x.back; splits = splits; same_units = c.requires.before.reads.same_units } in
-    let back : IsBack u k (drop c.args.mark.units u) = record { front = x.front; back = x.back; splits = splits; same_units = c.requires.behind.reads.same_units } in
     record {
       boundary = record { front = x.front; back = x.back; splits = splits };
-      front = front;
-      back = back;
-      only_front = λ v f. same_front u k v _ f front;
-      only_back = λ v b. same_back u k v _ b back;
+      front = λ v f. same_front u k v _ f (record { front = x.front; back = x.back; splits = splits; same_units = c.requires.before.reads.same_units });
+      back = λ v b. same_back u k v _ b (record { front = x.front; back = x.back; splits = splits; same_units = c.requires.behind.reads.same_units });
     }

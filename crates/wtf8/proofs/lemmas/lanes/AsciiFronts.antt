@@ -1,39 +1,40 @@
 -- The ASCII lanes at the front of a block.
-use Rattle.wtf8.proofs.Common.{◌≡◌, ℕ, zero, suc, ◌-◌, ◌%◌, ◌^◌, ◌<◌, ◌≤◌, leb, not, cond, List, [], ◌∷◌, map, length, take, get_or, replicate, refl, sym, ap, ltb, lt-ltb, le-ltb, cases_lt, inl, inr}
-use Rattle.wtf8.proofs.Common.{◌∙◌, arith, subst, Each1, mask_l-mod, tops_compared, zip2, mask_l, top, AreAscii, length-take}
-use Rattle.std.proofs.lemmas.Bool.{leb-false, not-true}
-use Rattle.std.proofs.lemmas.List.{length-map, get_or-take}
-use Rattle.std.proofs.lemmas.List.Sums.{prefix_len_passes, prefix_len-le-length}
-use lib.Lanes.{Each2, sel_l}
+use Rattle.wtf8.proofs.Common.{◌≡◌, ℕ, zero, suc, ◌-◌, ◌%◌, ◌^◌, ◌<◌, ◌≤◌, leb, le-leb, cond, List, [], ◌∷◌, map, length, take, get_or, replicate, refl, sym, ap, ltb, lt-ltb, le-ltb, cases_lt, inl, inr}
+use Rattle.wtf8.proofs.Common.{◌∙◌, arith, subst, false, Each1, Option, None, Some, tops_compared, zip2, mask_l, top, AreAscii, length-take, Nowhere, Each2}
+use Rattle.std.proofs.lemmas.List.{length-map, get_or-map, get_or-take}
+use lib.Lanes.{sel_l}
+use Rattle.std.specs.Option.{unwrap_or}
 use Rattle.std.specs.Prelude.{min}
-use Rattle.std.proofs.lemmas.Simd.{zip2_splat_left, Each1-from_get_or, Each2-splat, Each1-all, leading_from_mask_l, trailing_mask_l}
+use Rattle.std.proofs.lemmas.Simd.{zip2_splat_left, Each1-from_get_or, Each2-splat, Each1-all}
 use mir.Syntax.{Width}
 use mir.Val.{bits, hbits}
-use Rattle.std.specs.Int.Count.{count_trailing_zeros}
-use Rattle.std.specs.List.{prefix_len}
+use Rattle.wtf8.specs.private.FirstPlace.{IsFirstBelow, IsFirstSet, IsSet}
+use Rattle.wtf8.proofs.lemmas.lanes.Masks.{none_set}
 
--- what the mask of the lanes that are not ASCII says of those before them
+-- what the mask of the lanes that are not ASCII says of those before its first
 module _ (w : Width) (n : ℕ) (xs : List ℕ) (few : n ≤ 64) (long : length xs ≡ n) where
   abbrev others : ℕ
   others = mask_l (map (top (hbits w)) (zip2 (λ a b. cond (leb a b) (2 ^ bits w - 1) 0) (replicate n 0x80) xs)) % 2 ^ 64
 
-  same : others ≡ mask_l (map (leb 0x80) xs)
-  same = ap (λ ms. mask_l ms % 2 ^ 64) (tops_compared w leb (replicate n 0x80) xs ∙ zip2_splat_left leb 0x80 n xs long)
-      ∙ mask_l-mod (map (leb 0x80) xs) 64 (omega (arith, length-map xs (leb 0x80), long, few))
+  told : others ≡ mask_l (map (leb 0x80) xs) % 2 ^ 64
+  told = ap (λ ms. mask_l ms % 2 ^ 64) (tops_compared w leb (replicate n 0x80) xs ∙ zip2_splat_left leb 0x80 n xs long)
 
-  ascii : (k : ℕ) → k ≤ prefix_len (λ x. not (leb 0x80 x)) xs → AreAscii (take k xs)
-  ascii k le = Each1-from_get_or (λ n. n < 0x80) (take k xs) 0 (λ i lt.
+  ascii : (k : ℕ) → k ≤ n → Nowhere (IsSet (map (leb 0x80) xs)) 0 k → AreAscii (take k xs)
+  ascii k le none = Each1-from_get_or (λ n. n < 0x80) (take k xs) 0 (λ i lt.
       let inside : i < k = omega (arith, lt, length-take k xs) in
-      let passes = prefix_len_passes (λ x. not (leb 0x80 x)) xs i 0 (omega (arith, inside, le)) in
-      subst (λ n. n < 0x80) (sym (get_or-take k xs i 0 inside)) (leb-false 0x80 (get_or xs i 0) (not-true _ passes)))
+      let lane = get_or-map (leb 0x80) xs i 0 false (omega (arith, inside, le, long)) in
+      let low : get_or xs i 0 < 0x80 = elim (cases_lt (get_or xs i 0) 0x80) [ inl l ↦ l | inr g ↦ absurd (none i (omega arith) inside (lane ∙ le-leb 0x80 _ g)) ] in
+      subst (λ n. n < 0x80) (sym (get_or-take k xs i 0 inside)) low)
 
   pub all_ascii : others ≡ 0 → AreAscii (take n xs)
-  all_ascii e = ascii n (omega (arith, long, leading_from_mask_l (leb 0x80) xs (sym same ∙ e)))
+  all_ascii e = ascii n (omega arith) (none_set others n (map (leb 0x80) xs) few (length-map xs (leb 0x80) ∙ long) told e)
 
-  pub front_ascii : ¬ (others ≡ 0) → (count_trailing_zeros 64 others ≤ n) × AreAscii (take (count_trailing_zeros 64 others) xs)
-  front_ascii e =
-      let counted = ap (count_trailing_zeros 64) same ∙ trailing_mask_l (leb 0x80) 64 xs (omega (arith, few, long)) (omega (arith, same, e)) in
-      (omega (arith, counted, long, prefix_len-le-length (λ x. not (leb 0x80 x)) xs), ascii _ (omega (arith, counted)))
+  pub ascii_before : (r : Option ℕ) → IsFirstSet others r → (unwrap_or r n ≤ n) × AreAscii (take (unwrap_or r n) xs)
+  ascii_before r first = by r (first n (map (leb 0x80) xs) few (length-map xs (leb 0x80) ∙ long) told)
+    where
+      by : (r : Option ℕ) → IsFirstBelow (IsSet (map (leb 0x80) xs)) 0 n r → (unwrap_or r n ≤ n) × AreAscii (take (unwrap_or r n) xs)
+      by None none = (omega arith, ascii n (omega arith) none)
+      by (Some k) h = (omega (arith, h.1), ascii k (omega (arith, h.1)) h.0.none_between)
 
 -- lanes against one number in all lanes
 pub by_all : (xs : List ℕ) (k : ℕ) → 0 < k → Each2 (λ (a b : ℕ). 0 < b) xs (k ∷ k ∷ k ∷ k ∷ k ∷ k ∷ k ∷ k ∷ [])
