@@ -2,7 +2,7 @@
 use Rattle.wtf8.proofs.Common.{◌≡◌, ◌↔◌, ℕ, zero, suc, ◌+◌, ◌%◌, ◌^◌, ◌<◌, ◌≤◌, eqb, leb, Bool, true, false, IsTrue, cond, List, [], ◌∷◌, map, length}
 use Rattle.wtf8.proofs.Common.{get_or, replicate, w8, sym, ap, ◌∙◌, arith, le-leb, eq-eqb, eqb-true, length-zip2}
 use Rattle.wtf8.proofs.Common.{get_or-chunk, tops_compared, chunk, zip2, mask_l, top, SurrogateAt, refl}
-use Rattle.wtf8.proofs.Common.{Option, get_or-zip2, ◌&&◌, bit_and, subst, and_parts, and_from, leb-true, length-chunk}
+use Rattle.wtf8.proofs.Common.{Option, get_or-zip2, ◌&&◌, bit_and, subst, and_parts, and_from, leb-true}
 use Rattle.wtf8.proofs.Common.{MatchOption, get_or-replicate, length-replicate}
 use lib.Lanes.{chunk, zip2, mask_l, top}
 use Rattle.wtf8.proofs.lemmas.lanes.Masks.{first_there, same_first, none_set}

@@ -1,6 +1,5 @@
 use Rattle.std.proofs.Common.{◌∙◌}
 use Rattle.wtf8.specs.View.{view_points}
-use Rattle.unit_text.specs.Reading.{reading}
 use Rattle.unit_text.proofs.ReadingLemmas.{same_as_reading}
 use Rattle.unit_text.proofs.text.UnitText.as_wtf8.Goals as goal
 

@@ -1,4 +1,4 @@
-use Rattle.wtf8.proofs.Common.{number, refl, ap, on_ok_weaker, ◌∙◌, ◌∷◌, ◌++◌, []}
+use Rattle.wtf8.proofs.Common.{number, refl, ap, on_ok_weaker, ◌∙◌, ◌++◌}
 use Rattle.wtf8.proofs.lemmas.strings.Gains.{units_appended, kept_contents, room_found, known_point, point_form}
 use Rattle.wtf8.proofs.lemmas.numbers.Readings.{form_of, units_one}
 use Rattle.wtf8.proofs.lemmas.laws.StringLaws.{grows_at_most, room_left}
