@@ -1,21 +1,20 @@
 //! Strings with places that are counted in units.
-ghost use Rattle.std.specs.Prelude.{◌≡◌, ◌≤◌, length};
+ghost use Rattle.std.specs.Prelude.{◌≡◌, ◌+◌, ◌≤◌, length};
 
 use std::alloc::{AllocError, Global};
 use unit_text::UnitText;
 use wtf8::{Wtf8, Wtf8Buf};
 
-/// A string, a text, and where the middle of the text is and its middle half begins and ends, in units.
+/// A string, a text, and where the middle of the text is and its middle half begins, in units. It has 128 bytes, so that a
+/// loop finds one of several by a shift.
 #[derive(Drop)]
 pub struct Counted {
     pub string: Wtf8Buf<Global>,
     pub text: UnitText<Global>,
     middle: usize,
     begin: usize,
-    end: usize,
     ghost in_string: { middle ≤ length string.units },
-    ghost in_order: { begin ≤ end },
-    ghost in_text: { end ≤ length text },
+    ghost in_text: { begin + begin ≤ length text },
 }
 
 impl Counted {
@@ -27,13 +26,11 @@ impl Counted {
     ) -> Result<Counted, AllocError> {
         let text = UnitText::from_units(alloc, units)?;
         let len = text.unit_len().min(string.as_wtf8().unit_len());
-        let begin = len / 4;
         Ok(Counted {
             string,
             text,
             middle: len / 2,
-            begin,
-            end: len - begin,
+            begin: len / 4,
         })
     }
 
@@ -49,7 +46,8 @@ impl Counted {
 
     /// The text without its first and its last quarter.
     pub fn middle_half(&self, alloc: Global) -> Result<UnitText<Global>, AllocError> {
-        self.text.slice_units(alloc, self.begin, self.end)
+        let end = self.text.unit_len() - self.begin;
+        self.text.slice_units(alloc, self.begin, end)
     }
 
     /// As much of the string as the first half of the text has units.

@@ -419,8 +419,7 @@ impl<A: Allocator> Wtf8Buf<A> {
         self.try_truncate_units(n);
     }
 
-    /// Keeps the first `n` units, and answers true, where there are so many. Where there are fewer it changes nothing
-    /// and answers false.
+    /// Keeps the first `n` units and answers true. Where there are fewer, it changes nothing and answers false.
     pub(crate) fn try_truncate_units(&mut self, n: usize) -> bool
         ensures { TruncatesUnits self.old.units n self.new.units (if result then 0 else 1) }
     {
@@ -463,8 +462,7 @@ impl<A: Allocator> Wtf8Buf<A> {
         unsafe { String::from_utf8_unchecked(self.into_lossy_bytes()) }
     }
 
-    /// The bytes with those of U+FFFD in the place of each surrogate's. It makes no search where it is known that there
-    /// is none.
+    /// The bytes with those of U+FFFD in the place of each surrogate's, without a search where none is known to be held.
     fn into_lossy_bytes(self) -> Vec<u8, A>
         ensures { result.items ≡ bytes (lossy self.form.points) }
     {

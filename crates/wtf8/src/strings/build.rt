@@ -69,8 +69,7 @@ impl<A: Allocator> Wtf8Buf<A> {
         Ok(true)
     }
 
-    /// Applies calls in order, and returns how many truncations were refused; those change nothing, and the list goes
-    /// on.
+    /// Applies calls in order, and returns how many truncations were refused, which change nothing and stop nothing.
     ///
     /// If a call is refused memory, `Stopped` says which: the calls before it were applied, and if it was an extension,
     /// its first points may be appended too.

@@ -82,8 +82,7 @@ impl<A: Allocator> Wtf8Buf<A> {
         self.push_each(rest)
     }
 
-    /// Appends the code points at the front of a slice that are ASCII, as far as blocks of sixteen tell, and answers how
-    /// many. There is room for them.
+    /// Appends the ASCII code points at the front of a slice by blocks of sixteen, for which there is room; answers how many.
     #[inline(always)]
     fn push_ascii_front(&mut self, points: &[CodePoint]) -> usize
         requires { length self.old.bytes + length points.now ≤ self.old.capacity }

@@ -30,8 +30,7 @@ fn join<A: Allocator>(bytes: &mut Vec<u8, A>, lead: u32, trail: u32) -> Result<(
     Ok(())
 }
 
-/// The lead surrogate that ends the string and that the code point would join: there is one only if the code point is a
-/// trail surrogate.
+/// The lead surrogate at the end of the string that the code point would join, if the code point is a trail surrogate.
 fn joining_lead(view: Wtf8<'_>, code_point: CodePoint) -> Option<u32>
     ensures trail { OnSome result (IsTrail (number code_point)) }
     ensures lead { IfSome result (λ l. IsLead l) }

@@ -187,8 +187,7 @@ impl<'a> IllFormedUtf16CodeUnits<'a> {
         }
     }
 
-    /// The unit that is held back, where there is one, else the first unit of the next code point, whose second one is
-    /// then held back.
+    /// The unit that is held back, if any, else the first unit of the next code point, whose second is then held back.
     #[inline(always)]
     fn give_unit(&mut self) -> Option<u16>
         ensures first { YieldsFirst unread_units self.old result self.new }

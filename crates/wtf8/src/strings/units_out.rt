@@ -304,8 +304,7 @@ fn widen_kind<'a, const N: usize, const WIDTH: usize, const BYTES: usize, K: Kin
     }
 }
 
-/// Writes the units at the front: those of blocks where there are bytes for one and the first two code points have as many
-/// bytes, or of the first one.
+/// Writes the units at the front: by blocks where two code points of as many bytes begin the rest, else of the first one.
 #[inline(always)]
 fn widen_front<'a>(units: &mut [u16], left: Unwritten<'a>) -> Unwritten<'a>
     requires room { left.at + length (view_units left.view) ≤ length units.old }

@@ -79,8 +79,7 @@ fn own_second_bytes(units: u16x8) -> u16x8
     marks + middle
 }
 
-/// The second of three bytes of each of eight units of any kinds, or where it takes two its first one. A trail's comes from
-/// the lead before it.
+/// The second of three bytes of each of eight units of any kinds, or the first of two. A trail's comes from its lead.
 #[inline(always)]
 fn second_bytes(units: u16x8) -> u16x8
     ensures { result ≡ zip2 second_byte (0 ∷ units) units }
@@ -141,8 +140,7 @@ fn long_marks(units: u16x8) -> u16x8
         .select(u16x8::splat(0), marks(units, 0x800))
 }
 
-/// What is behind the first of three bytes of each of eight units: the second bytes, the last ones, and marks for the units that
-/// take three.
+/// What is behind the first of three bytes of each of eight units: second bytes, last ones, and marks for units of three.
 type Behind = (u16x8, u16x8, u16x8);
 
 /// What is behind the first bytes of eight units without a surrogate.
@@ -195,8 +193,7 @@ fn store(bytes: u8x16, block: &mut [u8], len: usize)
     bytes.copy_to_slice(&mut block[len..]);
 }
 
-/// Writes the bytes of four units behind the first bytes of a block, from their lanes and the number of their lengths, and
-/// answers where these end.
+/// Writes the bytes of four units behind the first bytes of a block, by their lanes and lengths, and answers where they end.
 #[inline(always)]
 fn put(lanes: u8x16, number: usize, block: &mut [u8], len: usize) -> usize
     requires number { number < 256 }
