@@ -3,7 +3,7 @@
 //     node units.js lists FOLDER               all lists of at most three units out of nine, and long texts, by all calls
 //     node units.js marks SEED CASES FOLDER    texts of some thousand units with marks and without, looked at about each mark, and as
 //                                              many random scripts of such texts
-//     node units.js fixed FOLDER               the long texts and some hundred of the others, which the gate replays: they stand
+//     node units.js fixed FOLDER               worked examples, the long texts and some hundred of the others, which the gate replays: they stand
 //                                              behind the scripts of strings that FOLDER has, in the place of those that stood there
 // Each writes the scripts to FOLDER/stdin, one a line in hexadecimal, and to FOLDER/stdout the answers, one a line, with an empty
 // line behind each script's. crates/compare_scripts/src/texts.rt has the calls by their opcodes.
@@ -85,6 +85,14 @@ const CALLS = {
       return `index ${at < 0 ? '-' : at}`;
     },
   },
+  lastIndexOf: {
+    opcode: 87,
+    run: ({ first, second }, from) => {
+      const at = first.lastIndexOf(second, from);
+      return `last index ${at < 0 ? '-' : at}`;
+    },
+  },
+  endsWith: { opcode: 88, run: ({ first, second }, at) => `ends ${first.endsWith(second, at)}` },
   at: { opcode: 77, run: ({ first }, at) => `at ${shown(first.at(at))} ${shown(first.at(-at))}` },
   codePointAt: {
     opcode: 78,
@@ -213,6 +221,7 @@ function searchCalls(first, place, below) {
   const piece = listOf(first.slice(place, place + 1 + below(4)));
   const calls = [['swap'], ['set', ...(below(4) === 0 ? changed(piece, below) : piece)], ['swap']];
   calls.push(['indexOf', Math.max(0, place - below(12))], ['indexOf', place], ['indexOf', place + 1]);
+  calls.push(['lastIndexOf', place + below(12)], ['lastIndexOf', Math.max(0, place - 1)], ['endsWith', place + piece.length]);
   return below(2) === 0 ? calls : [...calls, ['replace', ...randomReplacement(below)]];
 }
 
@@ -313,7 +322,7 @@ function listScript(units) {
 // Two lists compared, sought in one another at every place, and appended, at once and unit by unit.
 function pairScript(units, others) {
   const calls = [['set', ...others], ['swap'], ['set', ...units], ['compare']];
-  for (let at = 0; at <= units.length + 1; at++) calls.push(['startsWith', at], ['indexOf', at]);
+  for (let at = 0; at <= units.length + 1; at++) calls.push(['startsWith', at], ['indexOf', at], ['lastIndexOf', at], ['endsWith', at]);
   calls.push(...makingCalls(units, [['set', ...units]]));
   calls.push(['concat'], ['length'], ['compare'], ['cutEverywhere'], ['indexOf', 0], ['replace', 0x24, 0x60]);
   calls.push(['set', ...units], ['push', ...others], ['length'], ['compare'], ['cutEverywhere']);
@@ -371,6 +380,7 @@ function neighbourScript(units, places) {
     calls.push(['set', ...units.with(at, units[at] ^ 1)], ['compare'], ['set', ...units.slice(0, at)], ['compare'], ['swap'], ['compare']);
     for (const piece of [units.slice(at), units.slice(at).with(-1, units.at(-1) ^ 1)]) {
       calls.push(['swap'], ['set', ...piece], ['swap'], ['startsWith', at], ['startsWith', at + 1], ['indexOf', Math.max(0, at - 9)]);
+      calls.push(['lastIndexOf', at], ['lastIndexOf', Math.max(0, at - 1)], ['endsWith', units.length], ['endsWith', units.length - 1]);
     }
     calls.push(['swap']);
   }
@@ -518,7 +528,7 @@ function randomMarkedScript(below) {
 function hugeScript(kind, below) {
   const piece = unitsOfKind(kind, 1000, below);
   const looks = [0, 127, 128, 32767, 65407, 65408, 65534, 65535].flatMap((at) => [['unitAt', at], ['at', at], ['codePointAt', at]]);
-  const pieces = [['substring', 65530, 65535], ['startsWith', 64999], ['indexOf', 64999]];
+  const pieces = [['substring', 65530, 65535], ['startsWith', 64999], ['indexOf', 64999], ['lastIndexOf', 65535], ['endsWith', 65000]];
   const calls = [['set', ...piece], ['repeat', 70], ['length'], ...looks, ['mark'], ...looks, ['swap'], ['set', ...piece]];
   calls.push(['swap'], ...pieces, ['swap'], ['repeat', 70], ['compare'], ['push', 0x61], ['compare'], ['swap'], ['compare']);
   return [...calls, ['concat'], ['length'], ...looks];
@@ -531,10 +541,50 @@ function marksScripts(seed, cases) {
   return [...scripts, ...huge, ...Array.from({ length: cases }, () => randomMarkedScript(below))];
 }
 
+// "a", a pair, "b" and a lead, which the worked examples of calls are about.
+const EXAMPLE = [0x61, 0xD83D, 0xDCA9, 0x62, 0xD83D];
+
+// Looks for lists in the example, each up to or from a position.
+const lookedFor = (call, rows) => rows.flatMap(([at, units]) => [['swap'], ['set', ...units], ['swap'], [call, at]]);
+
+// A call on each of some lists, with its operands.
+const onEach = (call, rows) => rows.flatMap(([units, ...operands]) => [['set', ...units], [call, ...operands]]);
+
+// Calls of two lists: the second one, the first one, and the call with its operands.
+const onBoth = (call, rows) =>
+  rows.flatMap(([units, others, ...operands]) => [['set', ...others], ['swap'], ['set', ...units], [call, ...operands]]);
+
+// Worked examples of each call, a script a call: inside a pair and beside it, at both ends and behind them, and with lists of no units.
+function exampleScripts() {
+  const longer = [...EXAMPLE, 0x61];
+  const places = [0, 1, 2, 3, 4, 5, 6].flatMap((at) => [['unitAt', at], ['charAt', at], ['at', at], ['codePointAt', at]]);
+  const between = [[0, 5], [0, 2], [2, 0], [2, 4], [9, 3], [3, 3], [7, 6]].map((ends) => ['substring', ...ends]);
+  const starts = [[0, []], [5, []], [6, []], [0, [0x61, 0xD83D]], [1, [0x61, 0xD83D]], [2, [0xDCA9, 0x62]], [2, [0xDCA9, 0x63]]];
+  starts.push([3, [0x62, 0xD83D]], [3, [0x62, 0xD83D, 0xDCA9]]);
+  const ends = [[9, []], [2, []], [2, [0xD83D]], [3, [0xD83D]], [5, [0x62, 0xD83D]], [2, [0x61, 0xD83D]], [0, [0x61]], [9, EXAMPLE], [9, longer]];
+  const first = [[0, []], [2, []], [9, []], [0, [0xD83D]], [2, [0xD83D]], [0, [0xDCA9, 0x62]], [4, [0x62]], [9, [0x61]], [0, [0x63]]];
+  first.push([0, EXAMPLE], [1, EXAMPLE], [0, longer]);
+  const last = [[9, []], [2, []], [3, [0xD83D]], [0, [0xD83D]], [9, [0xDCA9, 0x62]], [9, [0x61]], [9, [0x63]], [9, EXAMPLE], [9, longer]];
+  return [
+    [['set', ...EXAMPLE], ...places, ...between],
+    [['set', ...EXAMPLE], ...lookedFor('startsWith', starts), ...lookedFor('endsWith', ends)],
+    [['set', ...EXAMPLE], ...lookedFor('indexOf', first), ...lookedFor('lastIndexOf', last)],
+    onEach('codePointAt', [[[0xDBFF, 0xDFFF], 0], [[0xD800, 0xDC00], 0], [[0xDC00, 0xD800], 0]]),
+    onEach('repeat', [[[0xDCA9, 0xD83D], 0], [[0xDCA9, 0xD83D], 3], [[], 4], [[0x61], 2]]),
+    onEach('toWellFormed', [[[0x61, 0xD83D]], [[0xDCA9, 0xD83D, 0xDCA9, 0xD83D]], [[]], [[0xD83D, 0xDCA9, 0xFFFD]]]),
+    onEach('isWellFormed', [[[]], [[0x61, 0xD83D, 0xDCA9]], [[0xD83D]], [[0xDCA9, 0xD83D]], [[0xFFFD, 0xE000]]]),
+    onEach('trim', [[[]], [[0x20, 0x09]], [[0x20, 0x0D, 0x61, 0x20, 0xDCA9, 0x0A, 0x0B]], [[0x0C, 0xD83D]], [[0x08, 0x20]], [[0x0E, 0x1F, 0x20]]]),
+    onEach('split', [[[], 0x2C], [[0x61, 0x2C, 0x2C, 0x62], 0x2C], [[0x2C], 0x2C], [EXAMPLE, 0xD83D], [EXAMPLE, 0x63]]),
+    onBoth('padStart', [[[0x61], [0xDCA9, 0xD83D], 4], [[0x61], [0xDCA9, 0xD83D], 5], [[0x61, 0x62], [0x20], 2], [[0x61], [0x20], 0], [[0x61], [], 3], [[], [0x78], 2]]),
+    onBoth('replace', [[[0x61, 0x62, 0x61, 0x62], [0x62], 0xD83D], [EXAMPLE, [0xDCA9], 0x24, 0x26], [EXAMPLE, [], 0x78], [EXAMPLE, [0x63], 0x78], [[0x61, 0x61, 0x61], [0x61, 0x61]]]),
+    onBoth('compare', [[[0xD800, 0xDC00], [0xE000]], [[0xE000], [0xD800, 0xDC00]], [[0xD800, 0xDC00], [0xD800, 0xDC00]]]),
+  ];
+}
+
 function fixedScripts() {
   const lists = listScripts().filter((_, at) => at % 97 === 0);
   const marked = markedScripts([300], [129]).filter((_, at) => at % 4 === 2);
-  return [...lists, ...longScripts(), ...marked, ...randomScripts(1, 100)];
+  return [...exampleScripts(), ...lists, ...longScripts(), ...marked, ...randomScripts(1, 100)];
 }
 
 // Writes the scripts and the answers behind those that are given.

@@ -4,8 +4,9 @@ use crate::tape::{NONE, Tape};
 use std::alloc::Global;
 use std::fmt::Write;
 use unit_text::UnitText;
-use wtf8_uses::engine_search::{index_of, replace, split};
+use wtf8_uses::engine_search::{index_of, last_index_of, replace, split};
 use wtf8_uses::engine_strings::{at, code_point_at, pad_start, repeat, to_well_formed, trim_ascii};
+use wtf8_uses::strings::ends_with;
 use wtf8_uses::well_formed::is_well_formed;
 
 /// Writes what a call answers that leaves both texts as they are.
@@ -35,6 +36,23 @@ pub fn answer(
         79 => write!(tape.transcript, "well formed {}", is_well_formed(text))?,
         _ => return write_pieces(tape, text),
     }
+    Ok(tape.write_line("")?)
+}
+
+/// Writes what a call answers that looks for the other text from the end: `last_index_of`, or `ends_with`.
+pub fn answer_from_end(
+    opcode: u8,
+    tape: &mut Tape<'_>,
+    text: &UnitText<Global>,
+    other: &UnitText<Global>,
+) -> Result<(), Stop> {
+    let position = tape.reader.number()?;
+    if opcode == 88 {
+        let is_end = ends_with(text, other, position);
+        return Ok(writeln!(tape.transcript, "ends {is_end}")?);
+    }
+    write!(tape.transcript, "last index")?;
+    tape.write_item(last_index_of(text, other, position), NONE)?;
     Ok(tape.write_line("")?)
 }
 

@@ -1,6 +1,6 @@
 // The calls of texts that are counted in units.
 use crate::comparing::name_of;
-use crate::engine::{answer, made};
+use crate::engine::{answer, answer_from_end, made};
 use crate::stop::Stop;
 use crate::tape::{NONE, Tape};
 use std::alloc::{AllocError, Global};
@@ -54,6 +54,7 @@ impl Texts {
     /// | 84 | a number, and so many units | in the first text `replace` of the second by the units |
     /// | 85 | | the first text is made well-formed (`to_well_formed`) |
     /// | 86 | a number, and so many units | each unit is pushed to the first text |
+    /// | 87, 88 | a number | `last_index_of` the second text, up to a position; `ends_with` it, at a position |
     pub fn run(&mut self, opcode: u8, tape: &mut Tape<'_>) -> Result<(), Stop> {
         match opcode {
             64 => self.first = tape.read_units()?,
@@ -109,6 +110,7 @@ impl Texts {
                 writeln!(tape.transcript, "whole {whole}")?;
             }
             76..=80 => return answer(opcode, tape, text, &self.second),
+            87 | 88 => return answer_from_end(opcode, tape, text, &self.second),
             _ => return Err(Stop::Malformed),
         }
         Ok(())

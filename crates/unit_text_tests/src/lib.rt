@@ -6,8 +6,6 @@ mod comparing;
 #[cfg(test)]
 mod cutting;
 #[cfg(test)]
-mod engine_strings;
-#[cfg(test)]
 mod lengths;
 #[cfg(test)]
 mod marks;

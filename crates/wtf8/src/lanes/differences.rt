@@ -202,18 +202,14 @@ fn first_in_vectors(own: &[u8], others: &[u8], end: usize) -> Option<usize>
     requires room { (end ≤ length own.now) × (end ≤ length others.now) }
     ensures { IsFirstBelow (DifferAt own.now others.now) 0 end result }
 {
-    if let Some(at) = first_in_block::<16>(own, others, 0) {
-        return Some(at);
+    if !is_block_same::<16>(own, others, 0) {
+        return first_in_block::<16>(own, others, 0);
     }
-    if 32 < end
-        && let Some(at) = first_in_block::<16>(own, others, 16)
-    {
-        return Some(at);
+    if 32 < end && !is_block_same::<16>(own, others, 16) {
+        return first_in_block::<16>(own, others, 16);
     }
-    if 48 < end
-        && let Some(at) = first_in_block::<16>(own, others, 32)
-    {
-        return Some(at);
+    if 48 < end && !is_block_same::<16>(own, others, 32) {
+        return first_in_block::<16>(own, others, 32);
     }
     first_in_block::<16>(own, others, end - 16)
 }
@@ -294,8 +290,8 @@ fn first_in_ends<const N: usize>(
     requires room { (end ≤ length own.now) × (end ≤ length others.now) }
     ensures { IsFirstBelow (DifferAt own.now others.now) from end result }
 {
-    if let Some(at) = first_in_block::<N>(own, others, from) {
-        return Some(at);
+    if !is_block_same::<N>(own, others, from) {
+        return first_in_block::<N>(own, others, from);
     }
     first_in_block::<N>(own, others, end - N)
 }

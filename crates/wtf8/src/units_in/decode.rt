@@ -43,7 +43,7 @@ fn is_trail_unit(unit: &u16) -> bool
 }
 
 /// The code point of a unit by itself.
-fn single(unit: u16) -> CodePoint
+pub(crate) fn single(unit: u16) -> CodePoint
     ensures { number result ≡ unit }
 {
     CodePoint::from_u32_unchecked(u32::from(unit))

@@ -81,6 +81,12 @@ fn append_point<A: Allocator>(
     ensures order { IfOk result (λ to. at < to.0) }
     ensures read { IfOk result (λ to. IsReadTo bytes.new.items v.now to.0 to.1) }
 {
+    let unit = v[at];
+    if unit < 0x800 {
+        // Letters of most alphabets: no surrogate, and two bytes at most.
+        encoding::append(bytes, decode::single(unit))?;
+        return Ok((at + 1, is_scalar));
+    }
     let (code_point, end, is_point_scalar) = decode::read_point(v, at);
     encoding::append(bytes, code_point)?;
     Ok((end, is_scalar & is_point_scalar))
@@ -144,30 +150,6 @@ fn append_part<const FRONT: usize, const ROOM: usize, A: Allocator>(
     Ok((end, is_scalar))
 }
 
-/// Appends the bytes of some units from a place on up to which units were read, together where that can be. Answers how far
-/// units are read then, and whether no surrogate is alone among them.
-#[inline(always)]
-fn append_few<A: Allocator>(
-    bytes: &mut Vec<u8, A>,
-    v: &[u16],
-    at: usize,
-    is_scalar: bool,
-) -> Result<(usize, bool), AllocError>
-    requires within { at < length v.now }
-    requires read { IsReadTo bytes.old.items v.now at is_scalar }
-    ensures order { IfOk result (λ to. at < to.0) }
-    ensures read { IfOk result (λ to. IsReadTo bytes.new.items v.now to.0 to.1) }
-{
-    let left = v.len() - at;
-    if left < HALF {
-        return append_point(bytes, v, at, is_scalar);
-    }
-    if NUMBERS <= left {
-        return append_part::<NUMBERS, SHORT, A>(bytes, v, at, is_scalar);
-    }
-    append_part::<HALF, SHORT, A>(bytes, v, at, is_scalar)
-}
-
 /// Appends the bytes of units to a buffer without bytes as long as many are left, and answers how far they are read then,
 /// and whether no surrogate is alone among them.
 #[inline(always)]
@@ -184,6 +166,30 @@ fn append_many<A: Allocator>(bytes: &mut Vec<u8, A>, v: &[u16]) -> Result<(usize
     Ok((at, is_scalar))
 }
 
+/// Appends the bytes of units from a place on up to which units were read as long as `HALF` are left, and answers how far they
+/// are read then, and whether no surrogate is alone among them.
+#[inline(always)]
+fn append_few<A: Allocator>(
+    bytes: &mut Vec<u8, A>,
+    v: &[u16],
+    from: usize,
+    is_scalar: bool,
+) -> Result<(usize, bool), AllocError>
+    requires { IsReadTo bytes.old.items v.now from is_scalar }
+    ensures read { IfOk result (λ to. IsReadTo bytes.new.items v.now to.0 to.1) }
+    ensures empty { v.now ≡ [] → IsOk result }
+{
+    let (mut at, mut is_scalar) = (from, is_scalar);
+    while HALF <= v.len() - at {
+        (at, is_scalar) = if NUMBERS <= v.len() - at {
+            append_part::<NUMBERS, SHORT, A>(bytes, v, at, is_scalar)?
+        } else {
+            append_part::<HALF, SHORT, A>(bytes, v, at, is_scalar)?
+        };
+    }
+    Ok((at, is_scalar))
+}
+
 /// Appends the string of the units to a buffer without bytes, and answers whether it has no lone surrogate.
 pub(crate) fn append_form<A: Allocator>(
     bytes: &mut Vec<u8, A>,
@@ -193,9 +199,10 @@ pub(crate) fn append_form<A: Allocator>(
     ensures ok { IfOk result (λ known. IsKnownForm bytes.new.items v.now known) }
     ensures empty { v.now ≡ [] → IsOk result }
 {
-    let (mut at, mut is_scalar) = append_many(bytes, v)?;
+    let (read, is_scalar) = append_many(bytes, v)?;
+    let (mut at, mut is_scalar) = append_few(bytes, v, read, is_scalar)?;
     while at < v.len() {
-        (at, is_scalar) = append_few(bytes, v, at, is_scalar)?;
+        (at, is_scalar) = append_point(bytes, v, at, is_scalar)?;
     }
     Ok(is_scalar)
 }

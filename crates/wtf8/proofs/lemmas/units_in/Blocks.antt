@@ -111,7 +111,7 @@ part_read {w} {new} {u} {part} {at} {end} {known} {more} x order within apart be
       form = subst (λ z. IsKnownForm z (take end u) (known && more)) (sym behind) (subst (λ z. IsKnownForm (w ++ part) z (known && more)) (sym both) whole);
     }
 
-always : (known : Bool) → (known && true) ≡ known
+pub always : (known : Bool) → (known && true) ≡ known
 always true = refl
 always false = refl
 

@@ -1,12 +1,30 @@
-use Rattle.wtf8.proofs.Common.{[], ◌∷◌, arith, append-nil, encoding, number}
-use Rattle.wtf8.proofs.lemmas.units_in.Blocks.{part_read}
+use Rattle.wtf8.proofs.Common.{[], ◌∷◌, ◌+◌, ◌-◌, arith, append-nil, drop, encoding, number, subst, sym, take, Reads}
+use Rattle.wtf8.specs.private.UnitParts.{IsReadTo}
+use Rattle.wtf8.proofs.lemmas.units_in.Blocks.{always, part_read}
+use Rattle.wtf8.proofs.lemmas.units_in.Decoding.{one_read}
 use Rattle.wtf8.proofs.units_in.unit_blocks.append_point.Goals as goal
+
+pub returns-then-unit-lt2048-clause-read : goal.returns-then-unit-lt2048-clause-read
+returns-then-unit-lt2048-clause-read g c =
+    let v = c.args.v.now in
+    let at = c.args.at in
+    let point = number c.single.result in
+    let unit = one_read v at c.requires.within (omega (arith, c.if-unit-lt2048.true)) (λ s. omega (arith, s.0, c.if-unit-lt2048.true)) in
+    subst (IsReadTo c.append.new.bytes.items v (at + 1)) (always c.args.is_scalar)
+    (part_read c.requires.read (omega arith) unit.within unit.apart c.in_ok-append.ensures.ok (record {
+      form = record {
+        points = point ∷ [];
+        reads = subst (λ p. Reads (p ∷ []) (take (at + 1 - at) (drop at v))) (sym c.single.ensures) unit.reads;
+        encoded = append-nil (encoding point);
+      };
+      scalar = λ _. ((λ s. omega (arith, s.0, c.single.ensures, c.if-unit-lt2048.true)), tt);
+    }))
 
 pub returns-clause-read : goal.returns-clause-read
 returns-clause-read g c =
     let point = number c.read_point-end.result.0 in
     let read = c.read_point-end.ensures in
-    part_read c.requires.read (omega (arith, read.order)) read.within read.apart c.in_ok-append.ensures.ok (record {
+    part_read c.requires.read (omega (arith, read.order)) read.within read.apart c.in_ok-append-2.ensures.ok (record {
       form = record { points = point ∷ []; reads = read.reads; encoded = append-nil (encoding point) };
       scalar = λ t. (read.scalar t, tt);
     })
