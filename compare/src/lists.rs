@@ -1,12 +1,13 @@
 //! The lists of scripts that are gone through one by one, by their names.
 
 use crate::script::Call;
-use crate::{blocks, building, generate, long, pairs, pushed};
+use crate::{blocks, building, examples, generate, long, pairs, pushed};
 
 /// A name, and what makes the scripts of that list.
 pub type List = (&'static str, fn() -> Vec<Vec<Call>>);
 
-pub const LISTS: [List; 24] = [
+pub const LISTS: [List; 25] = [
+    ("worked examples", examples::all),
     ("code points at edges", generate::edge_calls),
     ("pairs", pairs::pairs),
     ("up to four units", up_to_four_units),

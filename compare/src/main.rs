@@ -11,6 +11,7 @@ mod building;
 mod column;
 mod console;
 mod differ;
+mod examples;
 mod fed;
 mod generate;
 mod inputs;

@@ -7,7 +7,7 @@ use std::path::Path;
 use crate::original;
 use crate::random::Random;
 use crate::script::{encode, Call};
-use crate::{building, generate, long, pairs, say};
+use crate::{building, examples, generate, long, pairs, say};
 
 /// The first opcode of texts that are counted in units. In the order of texts only lines that begin with one stand behind it.
 const OF_TEXTS: &str = "40";
@@ -65,5 +65,6 @@ fn chosen() -> Vec<Vec<Call>> {
     scripts.extend(building::chosen());
     scripts.extend(long::chosen());
     scripts.extend(pairs::chosen());
+    scripts.extend(examples::recorded());
     scripts
 }

@@ -1,11 +1,10 @@
-// Order, equality, hash and debug texts.
+// Order, equality and hash.
 use crate::shared::text_of_units;
 use std::alloc::{AllocError, Global};
 use std::cmp::Ordering;
 use std::collections::HashMap;
 use std::test::Fail;
 use unit_text::UnitText;
-use wtf8::Wtf8;
 use wtf8_tests::examples::joining;
 
 /// Two texts, how their units compare, and how their views do.
@@ -119,27 +118,5 @@ fn texts_are_found_in_a_map(rt: HostRuntime) -> Result<(), Fail> {
         let found = place_of(rt.alloc(), &places, units)?;
         assert_eq!(rt; found, Some(place), "{units:?}");
     }
-    Ok(())
-}
-
-/// Whether a text was written, and is this one.
-fn is_written(written: Result<String, AllocError>, text: &str) -> bool {
-    match written {
-        Ok(found) => found.as_str() == text,
-        Err(_) => false,
-    }
-}
-
-#[test]
-fn the_debug_text_is_that_of_the_view(rt: HostRuntime) -> Result<(), Fail> {
-    let units = [0x0061, 0x00E9, 0x0020, 0xD83D, 0xDCA9, 0xD800];
-    let text = UnitText::from_units(rt.alloc(), &units)?;
-    let view = text.as_wtf8();
-    let shown = "\"aé 💩\\u{D800}\"";
-    assert!(rt; is_written(format!(in rt.alloc(); "{text:?}"), shown));
-    assert!(rt; is_written(format!(in rt.alloc(); "{text:20?}"), shown));
-    assert!(rt; is_written(format!(in rt.alloc(); "{view:?}"), shown));
-    let letter = UnitText::from_units(rt.alloc(), &[0x0061])?;
-    assert!(rt; letter.as_wtf8() == Wtf8::from_str("a"));
     Ok(())
 }

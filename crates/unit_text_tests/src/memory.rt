@@ -162,6 +162,10 @@ fn a_text_of_units_asks_for_what_it_needs(rt: HostRuntime) -> Result<(), Fail> {
     Ok(())
 }
 
+fn hundred_trails() -> [u16; 100] {
+    [0xDCA9; 100]
+}
+
 /// Appends a hundred trails to a text, where so many requests are granted, and answers whether they were enough. Fails unless
 /// one request asks for the bytes that are needed.
 fn is_appended<'a>(
@@ -170,7 +174,7 @@ fn is_appended<'a>(
     granted: u64,
     refusal: Refusal,
 ) -> Result<bool, Fail> {
-    let behind = UnitText::from_units(heap, &[0xDCA9; 100])?;
+    let behind = UnitText::from_units(heap, &hundred_trails())?;
     heap.refuse_after(granted, refusal);
     let is_appended = text.concat(&behind).is_ok();
     if behind.unit_len() != 100 || heap.requests() != 1 || heap.bytes() != 302 {

@@ -82,6 +82,11 @@ fn a_debug_text_ends_at_a_refused_write(rt: HostRuntime) -> Result<(), Fail> {
     expect_ends(rt.alloc(), &[0xD83D, 0xDCA9], "\"\u{1F4A9}\"")?;
     expect_ends(
         rt.alloc(),
+        &[0x0061, 0x00E9, 0x0020, 0xD83D, 0xDCA9, 0xD800],
+        "\"a\u{E9} \u{1F4A9}\\u{D800}\"",
+    )?;
+    expect_ends(
+        rt.alloc(),
         &[0x0007, 0xDEAD, 0x0007],
         "\"\u{7}\\u{DEAD}\u{7}\"",
     )?;

@@ -22,39 +22,57 @@ fn has_nothing_beyond(text: &UnitText<Global>) -> bool {
         && char_code_at(text, usize::MAX).is_none()
 }
 
-/// Whether a lead and the empty text are found at the end, and a letter before it is not.
-fn is_searched_to_the_end(
-    text: &UnitText<Global>,
-    lead: &UnitText<Global>,
-    letter: &UnitText<Global>,
-    empty: &UnitText<Global>,
-) -> bool {
-    index_of(text, empty, usize::MAX) == Some(5)
-        && last_index_of(text, lead, usize::MAX) == Some(4)
-        && ends_with(text, lead, usize::MAX)
-        && !starts_with(text, letter, usize::MAX)
-}
-
-/// The unit at the greatest position, and the units from a position to the greatest one.
-fn cut_to_the_end(
+/// The first place of units from the greatest position on, and the last one up to it.
+fn places_of(
     alloc: Global,
     text: &UnitText<Global>,
-) -> Result<(UnitText<Global>, UnitText<Global>), AllocError> {
+    units: &[u16],
+) -> Result<(Option<usize>, Option<usize>), AllocError> {
+    let search = text_of(alloc, units)?;
+    let first = index_of(text, &search, usize::MAX);
+    Ok((first, last_index_of(text, &search, usize::MAX)))
+}
+
+/// Whether units stand at the greatest position, and whether the text ends with them there.
+fn stand_at(
+    alloc: Global,
+    text: &UnitText<Global>,
+    units: &[u16],
+) -> Result<(bool, bool), AllocError> {
+    let search = text_of(alloc, units)?;
+    let is_start = starts_with(text, &search, usize::MAX);
+    Ok((is_start, ends_with(text, &search, usize::MAX)))
+}
+
+/// Whether the empty text and a lead are found at the end, and a letter before it is not.
+fn is_searched(alloc: Global, text: &UnitText<Global>) -> Result<bool, AllocError> {
+    let is_found = places_of(alloc, text, &[])? == (Some(5), Some(5))
+        && places_of(alloc, text, &[0xD83D])? == (None, Some(4));
+    Ok(
+        is_found
+            && stand_at(alloc, text, &[0xD83D])? == (false, true)
+            && stand_at(alloc, text, &[0x0062])? == (false, false),
+    )
+}
+
+/// How many units the greatest position has.
+fn unit_count(alloc: Global, text: &UnitText<Global>) -> Result<usize, AllocError> {
     let unit = char_at(alloc, text, usize::MAX)?;
+    Ok(unit.unit_len())
+}
+
+/// Whether "b" and a lead are what is between position 3 and the greatest one.
+fn has_back(alloc: Global, text: &UnitText<Global>) -> Result<bool, AllocError> {
     let back = substring(alloc, text, 3, usize::MAX)?;
-    Ok((unit, back))
+    let is_back = back.unit_at(0) == Some(0x0062) && back.unit_at(1) == Some(0xD83D);
+    Ok(is_back && back.unit_len() == 2)
 }
 
 #[test]
 fn positions_beyond_every_text(rt: HostRuntime) -> Result<(), Fail> {
     let text = text_of(rt.alloc(), &UNITS)?;
-    let lead = text_of(rt.alloc(), &[0xD83D])?;
-    let letter = text_of(rt.alloc(), &[0x0062])?;
-    let empty = text_of(rt.alloc(), &[])?;
-    let back = text_of(rt.alloc(), &[0x0062, 0xD83D])?;
     assert!(rt; has_nothing_beyond(&text));
-    assert!(rt; is_searched_to_the_end(&text, &lead, &letter, &empty));
-    let (unit, found) = cut_to_the_end(rt.alloc(), &text)?;
-    assert!(rt; unit == empty && found == back);
+    assert!(rt; is_searched(rt.alloc(), &text)?);
+    assert!(rt; unit_count(rt.alloc(), &text)? == 0 && has_back(rt.alloc(), &text)?);
     Ok(())
 }

@@ -6,7 +6,6 @@ use std::alloc::{AllocError, Global};
 use std::collections::HashMap;
 use std::hash::{BuildHasherDefault, FoldHasher};
 use std::test::Fail;
-use unit_text::UnitText;
 use wtf8::{Build, CodePoint, Stopped, Wtf8, Wtf8Buf};
 use wtf8_tests::examples::expect_dump;
 use wtf8_uses::ascii_case::eq_ignore_ascii_case;
@@ -215,18 +214,30 @@ fn strings_are_sorted_and_found(rt: HostRuntime) -> Result<(), Fail> {
     Ok(())
 }
 
+/// The strings of these texts.
+fn strings_of(alloc: Global, texts: &[&str]) -> Result<Vec<Wtf8Buf<Global>>, AllocError> {
+    let mut strings = Vec::new(alloc);
+    for text in texts {
+        strings.push(Wtf8Buf::from_str(alloc, text)?)?;
+    }
+    Ok(strings)
+}
+
+/// Whether strings are those of these texts.
+fn are_texts(strings: &[Wtf8Buf<Global>], texts: &[&str]) -> bool {
+    for (string, text) in strings.iter().zip(texts) {
+        if string.as_wtf8().as_str() != Some(*text) {
+            return false;
+        }
+    }
+    strings.len() == texts.len()
+}
+
 #[test]
 fn repeated_strings_are_dropped(rt: HostRuntime) -> Result<(), Fail> {
-    let mut strings = Vec::new(rt.alloc());
-    for text in ["b", "b", "a", "", "", "", "b"] {
-        strings.push(Wtf8Buf::from_str(rt.alloc(), text)?)?;
-    }
+    let mut strings = strings_of(rt.alloc(), &["b", "b", "a", "", "", "", "b"])?;
     sorting::drop_repeated(&mut strings);
-    let left = ["b", "a", "", "b"];
-    assert_eq!(rt; strings.len(), left.len());
-    for (string, text) in strings.iter().zip(left) {
-        assert_eq!(rt; string.as_wtf8().as_str(), Some(text));
-    }
+    assert!(rt; are_texts(&strings, &["b", "a", "", "b"]));
     Ok(())
 }
 
@@ -615,28 +626,6 @@ fn a_string_is_copied_by_its_code_points(rt: HostRuntime) -> Result<(), Fail> {
     expect_halves(rt.alloc(), text.as_wtf8())
 }
 
-/// Whether the text of these units is well-formed.
-fn is_well_formed(alloc: Global, list: &[u16]) -> Result<bool, AllocError> {
-    let text = UnitText::from_units(alloc, list)?;
-    Ok(well_formed::is_well_formed(&text))
-}
-
-#[test]
-fn lone_surrogates_are_not_well_formed(rt: HostRuntime) -> Result<(), Fail> {
-    let rows: [(&[u16], bool); 5] = [
-        (&[], true),
-        (&[0x0061, LEAD, TRAIL], true),
-        (&[LEAD], false),
-        (&[TRAIL, LEAD], false),
-        (&[0xFFFD, 0xE000], true),
-    ];
-    for (list, expected) in rows {
-        let is_well = is_well_formed(rt.alloc(), list)?;
-        assert_eq!(rt; is_well, expected, "{list:?}");
-    }
-    Ok(())
-}
-
 #[test]
 fn lone_surrogates_are_mended(rt: HostRuntime) -> Result<(), Fail> {
     let broken = string_of(rt.alloc(), &[0x0061, TRAIL, LEAD, TRAIL])?;
@@ -646,32 +635,40 @@ fn lone_surrogates_are_mended(rt: HostRuntime) -> Result<(), Fail> {
 }
 
 /// Units, and the JSON text of them: what an engine's `JSON.stringify` answers.
-const JSON: [(&[u16], &str); 6] = [
-    (&[], "\"\""),
-    (
-        &[0x0061, 0x0022, 0x0062, 0x005C, 0x0063, 0x002F],
-        "\"a\\\"b\\\\c/\"",
-    ),
-    (
-        &[
-            0x0000, 0x0007, 0x0008, 0x0009, 0x000A, 0x000B, 0x000C, 0x000D, 0x001F, 0x0020, 0x007F,
-        ],
-        "\"\\u0000\\u0007\\b\\t\\n\\u000b\\f\\r\\u001f \u{7F}\"",
-    ),
-    (&[LEAD, TRAIL], "\"💩\""),
-    (&[TRAIL, LEAD], "\"\\udca9\\ud83d\""),
-    (
-        &[0x0061, 0xD800, 0x00E9, 0xDFFF, 0x2028],
-        "\"a\\ud800é\\udfff\u{2028}\"",
-    ),
-];
+fn json_rows() -> [(&'static [u16], &'static str); 6] {
+    [
+        (&[], "\"\""),
+        (
+            &[0x0061, 0x0022, 0x0062, 0x005C, 0x0063, 0x002F],
+            "\"a\\\"b\\\\c/\"",
+        ),
+        (
+            &[
+                0x0000, 0x0007, 0x0008, 0x0009, 0x000A, 0x000B, 0x000C, 0x000D, 0x001F, 0x0020,
+                0x007F,
+            ],
+            "\"\\u0000\\u0007\\b\\t\\n\\u000b\\f\\r\\u001f \u{7F}\"",
+        ),
+        (&[LEAD, TRAIL], "\"💩\""),
+        (&[TRAIL, LEAD], "\"\\udca9\\ud83d\""),
+        (
+            &[0x0061, 0xD800, 0x00E9, 0xDFFF, 0x2028],
+            "\"a\\ud800é\\udfff\u{2028}\"",
+        ),
+    ]
+}
+
+/// Whether the JSON text of these units is this one.
+fn is_json(alloc: Global, units: &[u16], text: &str) -> Result<bool, AllocError> {
+    let string = string_of(alloc, units)?;
+    let json = json_text(alloc, string.as_wtf8())?;
+    Ok(json.as_str() == text)
+}
 
 #[test]
 fn json_texts_are_those_of_an_engine(rt: HostRuntime) -> Result<(), Fail> {
-    for (units, text) in JSON {
-        let string = Wtf8Buf::from_ill_formed_utf16(rt.alloc(), units)?;
-        let json = json_text(rt.alloc(), string.as_wtf8())?;
-        assert_eq!(rt; json.as_str(), text);
+    for (units, text) in json_rows() {
+        assert!(rt; is_json(rt.alloc(), units, text)?, "{text}");
     }
     Ok(())
 }
@@ -699,16 +696,31 @@ fn an_environment_is_one_block(rt: HostRuntime) -> Result<(), Fail> {
     Ok(())
 }
 
+/// Two texts, and whether they are equal but for the case of ASCII letters.
+fn cases() -> [(&'static str, &'static str, bool); 5] {
+    [
+        ("aZé[@", "Azé[@", true),
+        ("é", "É", false),
+        ("@", "`", false),
+        ("[", "{", false),
+        ("", "", true),
+    ]
+}
+
+/// Whether the strings of two lists of units are equal but for the case of ASCII letters.
+fn are_equal_units(alloc: Global, units: &[u16], others: &[u16]) -> Result<bool, AllocError> {
+    let string = string_of(alloc, units)?;
+    let other = string_of(alloc, others)?;
+    Ok(eq_ignore_ascii_case(string.as_wtf8(), other.as_wtf8()))
+}
+
 #[test]
 fn ascii_letters_are_equal_in_both_cases(rt: HostRuntime) -> Result<(), Fail> {
-    let lead = Wtf8Buf::from_ill_formed_utf16(rt.alloc(), &[0x0041, LEAD])?;
-    let same = Wtf8Buf::from_ill_formed_utf16(rt.alloc(), &[0x0061, LEAD])?;
-    assert!(rt; eq_ignore_ascii_case(lead.as_wtf8(), same.as_wtf8()));
-    assert!(rt; !eq_ignore_ascii_case(lead.as_wtf8(), Wtf8::from_str("a")));
-    assert!(rt; eq_ignore_ascii_case(Wtf8::from_str("aZé[@"), Wtf8::from_str("Azé[@")));
-    assert!(rt; !eq_ignore_ascii_case(Wtf8::from_str("é"), Wtf8::from_str("É")));
-    assert!(rt; !eq_ignore_ascii_case(Wtf8::from_str("@"), Wtf8::from_str("`")));
-    assert!(rt; !eq_ignore_ascii_case(Wtf8::from_str("["), Wtf8::from_str("{")));
-    assert!(rt; eq_ignore_ascii_case(Wtf8::from_str(""), Wtf8::from_str("")));
+    for (text, other, is_equal) in cases() {
+        let found = eq_ignore_ascii_case(Wtf8::from_str(text), Wtf8::from_str(other));
+        assert_eq!(rt; found, is_equal, "{text} and {other}");
+    }
+    assert!(rt; are_equal_units(rt.alloc(), &[0x0041, LEAD], &[0x0061, LEAD])?);
+    assert!(rt; !are_equal_units(rt.alloc(), &[0x0041, LEAD], &[0x0061])?);
     Ok(())
 }

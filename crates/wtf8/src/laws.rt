@@ -111,7 +111,8 @@ pub fn law_marks()
 {}
 
 /// The position of a mark of this view is a code point boundary, with exactly the units that the mark counts before it and
-/// the others behind it. A caller calls it with the view and the mark, and has nothing to cite.
+/// the others behind it. A caller calls it with the view and the mark: `boundary` then holds with nothing more written, and
+/// `front` and `back` are cited with the lists of units that they are asked of.
 pub fn law_mark(view: Wtf8<'_>, mark: UnitMark)
     requires { IsMarkOf view mark }
     ensures boundary { IsBoundary (view_units view.entry) mark.position }

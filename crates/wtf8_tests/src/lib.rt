@@ -4,8 +4,6 @@
 
 pub mod callers;
 #[cfg(test)]
-mod clones;
-#[cfg(test)]
 mod collecting;
 #[cfg(test)]
 mod constructors;
@@ -38,10 +36,6 @@ mod texts;
 mod unit_cuts;
 #[cfg(test)]
 mod unit_lists;
-#[cfg(test)]
-mod unit_order;
-#[cfg(test)]
-mod unit_runs;
 #[cfg(test)]
 mod unit_slices;
 #[cfg(test)]

@@ -1,0 +1,286 @@
+//! Lists of worked examples: strings in the order of their code points, hash inputs, iterators at each moment, orders of units,
+//! and runs of one kind broken at each place.
+
+use crate::generate::{from_units, registers};
+use crate::script::{Call, Operand};
+
+/// The code points of strings, in the order of the strings.
+const IN_ORDER: [&[u32]; 14] = [
+    &[],
+    &[0x0000],
+    &[0x0061],
+    &[0x0061, 0x0000],
+    &[0x007F],
+    &[0x0080],
+    &[0xD7FF],
+    &[0xD800],
+    &[0xD83D],
+    &[0xDFFF],
+    &[0xE000],
+    &[0xFFFF],
+    &[0x10000],
+    &[0xD83D, 0xDCA9],
+];
+
+/// Code points on both sides of where an encoding or a kind of code point begins.
+const EDGES: [u32; 20] = [
+    0x0000, 0x007F, 0x0080, 0x07FF, 0x0800, 0x0FFF, 0x1000, 0xCFFF, 0xD000, 0xD7FF, 0xD800, 0xDBFF,
+    0xDC00, 0xDFFF, 0xE000, 0xFFFD, 0xFFFF, 0x10000, 0x1F4A9, 0x10FFFF,
+];
+
+/// Leads and trails that join, and units that stay alone.
+const JOINING: [&[u16]; 12] = [
+    &[],
+    &[0xD83D, 0xDCA9],
+    &[0xD83D, 0x0020, 0xDCA9],
+    &[0xD800, 0xDBFF],
+    &[0xD800, 0xE000],
+    &[0xD7FF, 0xDC00],
+    &[0x0061, 0xDC00],
+    &[0xDC00],
+    &[0xD83D, 0xD83D, 0xDCA9],
+    &[0xD83D, 0xDCA9, 0xDCA9],
+    &[0xDCA9, 0xD83D],
+    &[0x0061, 0x00E9, 0x0020, 0xD83D, 0xDCA9],
+];
+
+/// Lists of units whose order is not that of their code points, and others.
+const BY_UNITS: [(&[u16], &[u16]); 12] = [
+    (&[0xE000], &[0xD800, 0xDC00]),
+    (&[0xFFFF], &[0xD800, 0xDC00]),
+    (&[0xD83D], &[0xD83D, 0xDCA9]),
+    (&[0xD83E], &[0xD83D, 0xDCA9]),
+    (&[0xD83D, 0xE000], &[0xD83D, 0xDCA9]),
+    (&[0xD83D, 0xD83D, 0xDCA9], &[0xD83D, 0xDCA9]),
+    (&[0xDC00], &[0xDBFF, 0xDFFF]),
+    (&[0xD7FF], &[0xD800, 0xDC00]),
+    (&[0x61, 0xD83D, 0xDCA8], &[0x61, 0xD83D, 0xDCA9]),
+    (&[0xD83D, 0xDCA9], &[]),
+    (&[0x61], &[0x61, 0xD83D, 0xDCA9]),
+    (&[], &[]),
+];
+
+/// Lists of units with surrogates at both ends, and others.
+const LISTS: [&[u16]; 6] = [
+    &[],
+    &[0xDCA9, 0x61, 0xE9, 0xFFFF, 0xD83D],
+    &[0xD83D, 0xDCA9, 0x61, 0xDBFF, 0xDFFF],
+    &[0xDC00, 0xD800, 0xDC00, 0xD800],
+    &[0xD800, 0xD800, 0xDC00, 0xDC00],
+    &[0x61, 0xE9, 0x20, 0xD83D, 0xD83D, 0xDCA9],
+];
+
+/// One code point of each length, a lone lead and a lone trail.
+const KINDS: [&[u16]; 6] = [
+    &[0x61],
+    &[0xE9],
+    &[0x4E2D],
+    &[0xD83D, 0xDCA9],
+    &[0xD800],
+    &[0xDFFF],
+];
+
+/// The examples that are short enough to be recorded.
+pub fn recorded() -> Vec<Vec<Call>> {
+    let mut scripts: Vec<Vec<Call>> = IN_ORDER.iter().map(|own| compared_by_points(own)).collect();
+    scripts.extend(EDGES.iter().map(|own| point_compared(*own)));
+    scripts.extend(JOINING.iter().map(|units| iterated(units)));
+    scripts.push(
+        BY_UNITS
+            .iter()
+            .flat_map(|(own, others)| compared_by_units(own, others))
+            .collect(),
+    );
+    for own in LISTS {
+        let others = LISTS.iter().chain(&JOINING);
+        scripts.push(
+            others
+                .flat_map(|others| compared_by_units(own, others))
+                .collect(),
+        );
+    }
+    scripts.push(copies_of_every_length());
+    scripts.push(followed());
+    scripts.push(equal_or_not());
+    scripts
+}
+
+/// All lists: with the recorded ones a difference at each place, and runs of units broken at each place.
+pub fn all() -> Vec<Vec<Call>> {
+    let mut scripts = recorded();
+    for letters in 0..70 {
+        scripts.extend(
+            [0x62, 0xE000, 0xD83E].map(|unit| changed_at_each_place(&long_list(letters), unit)),
+        );
+    }
+    for pairs in 0..20 {
+        let list = [0xD83D, 0xDCA9].repeat(pairs);
+        scripts.extend([0xDCAA, 0xE000, 0xD83D].map(|unit| changed_at_each_place(&list, unit)));
+    }
+    for run in &KINDS[..3] {
+        for length in [8, 16, 17, 40] {
+            scripts.extend((0..length).map(|place| broken(run, length, place)));
+        }
+    }
+    scripts
+}
+
+fn on(register: u8, name: &str) -> Call {
+    Call::new(name, vec![Operand::Register(register)])
+}
+
+fn steps(register: u8, name: &str, steps: Vec<u8>) -> Call {
+    Call::new(
+        name,
+        vec![Operand::Register(register), Operand::Steps(steps)],
+    )
+}
+
+/// The string that pushes of some code points build.
+fn pushed(register: u8, points: &[u32]) -> Vec<Call> {
+    let mut calls = vec![on(register, "new")];
+    for point in points {
+        let operands = vec![Operand::Register(register), Operand::Value(*point)];
+        calls.push(Call::new("push", operands));
+    }
+    calls
+}
+
+/// A string of code points compared with each other one by every way to ask, and what it feeds a hasher.
+fn compared_by_points(own: &[u32]) -> Vec<Call> {
+    let mut calls = pushed(0, own);
+    calls.push(on(0, "hash"));
+    for other in IN_ORDER {
+        calls.extend(pushed(1, other));
+        calls.push(registers("comparisons", 0, 1));
+    }
+    calls
+}
+
+/// The calls of a code point, what it feeds a hasher among them, and how it compares with each other one.
+fn point_compared(own: u32) -> Vec<Call> {
+    let mut calls = vec![Call::new("CodePoint", vec![Operand::Value(own)])];
+    for other in EDGES {
+        let operands = vec![Operand::Value(own), Operand::Value(other)];
+        calls.push(Call::new("CodePoint comparisons", operands));
+    }
+    calls
+}
+
+/// Both iterators of a string with their hints before each item and behind the end, and clones made behind each number of items:
+/// run to their end beside the iterator, dropped early, and gone on with.
+fn iterated(units: &[u16]) -> Vec<Call> {
+    let mut calls = vec![from_units(0, units)];
+    for name in ["code_points", "to_ill_formed_utf16"] {
+        calls.push(steps(0, name, [1, 0].repeat(units.len() + 2)));
+        for count in 0..units.len() + 2 {
+            let mut clones = vec![0; count];
+            clones.extend([2, 6, 3, 2, 6]);
+            calls.push(steps(0, name, clones));
+        }
+    }
+    calls
+}
+
+/// The orders of two lists by units and by code points.
+fn compared_by_units(own: &[u16], others: &[u16]) -> Vec<Call> {
+    vec![
+        from_units(0, own),
+        from_units(1, others),
+        registers("cmp_units", 0, 1),
+        registers("comparisons", 0, 1),
+    ]
+}
+
+/// So many letters, and behind them a character of each length, a pair in two halves and a lone lead.
+fn long_list(letters: usize) -> Vec<u16> {
+    let mut units = vec![0x61; letters];
+    units.extend([0xE9, 0xFFFF, 0xD83D, 0xDCA9, 0xDBFF, 0xDFFF, 0xD83D]);
+    units
+}
+
+/// A list compared with itself with another unit at each place, and that with the list's beginning before the place.
+fn changed_at_each_place(list: &[u16], unit: u16) -> Vec<Call> {
+    let mut calls = vec![from_units(0, list)];
+    for place in 0..list.len() {
+        let mut other = list.to_vec();
+        other[place] = unit;
+        calls.push(from_units(1, &other));
+        calls.push(from_units(2, &list[..place]));
+        calls.push(registers("cmp_units", 0, 1));
+        calls.push(registers("cmp_units", 1, 2));
+    }
+    calls
+}
+
+/// A run of so many code points of one kind, with each other kind at one place: its bytes and its units.
+fn broken(run: &[u16], length: usize, place: usize) -> Vec<Call> {
+    let with = |other: &[u16]| {
+        let units: Vec<u16> = (0..length)
+            .flat_map(|at| if at == place { other } else { run }.to_vec())
+            .collect();
+        [from_units(0, &units), on(0, "units by number")]
+    };
+    KINDS.iter().flat_map(|other| with(other)).collect()
+}
+
+/// A string of every length up to 130 bytes, a clone of it, and its view appended to an empty string.
+fn copies_of_every_length() -> Vec<Call> {
+    let mut calls = vec![on(0, "new")];
+    for length in 0..131 {
+        calls.extend([registers("clone", 1, 0), registers("comparisons", 0, 1)]);
+        calls.extend([on(2, "new"), registers("push_wtf8", 2, 0)]);
+        let operands = vec![Operand::Register(0), Operand::Value(0x21 + length % 94)];
+        calls.push(Call::new("push", operands));
+    }
+    calls
+}
+
+/// Strings made of texts compared with strings of code points: equal where their units are, and not where a text only spells
+/// a surrogate.
+fn equal_or_not() -> Vec<Call> {
+    let mut calls = Vec::new();
+    for (text, points) in [
+        ("a\u{E9}", &[0x61, 0xE9][..]),
+        ("ae", &[0x61, 0xE9]),
+        ("\u{1F4A9}", &[0xD83D, 0xDCA9]),
+        ("\\u{D800}", &[0xD800]),
+    ] {
+        calls.push(Call::new(
+            "from_str",
+            vec![Operand::Register(0), Operand::Text(text.to_owned())],
+        ));
+        calls.extend(pushed(1, points));
+        calls.push(registers("comparisons", 0, 1));
+    }
+    calls
+}
+
+/// Items of a string that a trail joins, and of one to which a character is pushed behind a lead.
+fn followed() -> Vec<Call> {
+    let text = |text: &str| {
+        Call::new(
+            "from_str",
+            vec![Operand::Register(0), Operand::Text(text.to_owned())],
+        )
+    };
+    let push = |value| Call::new("push", vec![Operand::Register(0), Operand::Value(value)]);
+    let items = || {
+        [
+            steps(0, "code_points", Vec::new()),
+            steps(0, "to_ill_formed_utf16", Vec::new()),
+        ]
+    };
+    let mut calls = vec![text("\u{E9} ")];
+    for unit in [0xD83D, 0xDCA9] {
+        calls.push(push(unit));
+        calls.extend(items());
+    }
+    calls.extend([text("a\u{E9} "), push(0xD83D)]);
+    calls.push(Call::new(
+        "push_char",
+        vec![Operand::Register(0), Operand::Value(0x1F4A9)],
+    ));
+    calls.extend(items());
+    calls
+}
