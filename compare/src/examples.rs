@@ -1,7 +1,7 @@
 //! Lists of worked examples: strings in the order of their code points, hash inputs, iterators at each moment, orders of units,
 //! and runs of one kind broken at each place.
 
-use crate::generate::{from_units, registers};
+use crate::generate::{call_on, from_units, push, registers};
 use crate::script::{Call, Operand};
 
 /// The code points of strings, in the order of the strings.
@@ -20,12 +20,6 @@ const IN_ORDER: [&[u32]; 14] = [
     &[0xFFFF],
     &[0x10000],
     &[0xD83D, 0xDCA9],
-];
-
-/// Code points on both sides of where an encoding or a kind of code point begins.
-const EDGES: [u32; 20] = [
-    0x0000, 0x007F, 0x0080, 0x07FF, 0x0800, 0x0FFF, 0x1000, 0xCFFF, 0xD000, 0xD7FF, 0xD800, 0xDBFF,
-    0xDC00, 0xDFFF, 0xE000, 0xFFFD, 0xFFFF, 0x10000, 0x1F4A9, 0x10FFFF,
 ];
 
 /// Leads and trails that join, and units that stay alone.
@@ -83,7 +77,6 @@ const KINDS: [&[u16]; 6] = [
 /// The examples that are short enough to be recorded.
 pub fn recorded() -> Vec<Vec<Call>> {
     let mut scripts: Vec<Vec<Call>> = IN_ORDER.iter().map(|own| compared_by_points(own)).collect();
-    scripts.extend(EDGES.iter().map(|own| point_compared(*own)));
     scripts.extend(JOINING.iter().map(|units| iterated(units)));
     scripts.push(
         BY_UNITS
@@ -125,8 +118,10 @@ pub fn all() -> Vec<Vec<Call>> {
     scripts
 }
 
-fn on(register: u8, name: &str) -> Call {
-    Call::new(name, vec![Operand::Register(register)])
+/// The first string, made of a text.
+fn from_text(text: &str) -> Call {
+    let operands = vec![Operand::Register(0), Operand::Text(text.to_owned())];
+    Call::new("from_str", operands)
 }
 
 fn steps(register: u8, name: &str, steps: Vec<u8>) -> Call {
@@ -138,31 +133,18 @@ fn steps(register: u8, name: &str, steps: Vec<u8>) -> Call {
 
 /// The string that pushes of some code points build.
 fn pushed(register: u8, points: &[u32]) -> Vec<Call> {
-    let mut calls = vec![on(register, "new")];
-    for point in points {
-        let operands = vec![Operand::Register(register), Operand::Value(*point)];
-        calls.push(Call::new("push", operands));
-    }
+    let mut calls = vec![call_on(register, "new")];
+    calls.extend(points.iter().map(|point| push(register, *point)));
     calls
 }
 
 /// A string of code points compared with each other one by every way to ask, and what it feeds a hasher.
 fn compared_by_points(own: &[u32]) -> Vec<Call> {
     let mut calls = pushed(0, own);
-    calls.push(on(0, "hash"));
+    calls.push(call_on(0, "hash"));
     for other in IN_ORDER {
         calls.extend(pushed(1, other));
         calls.push(registers("comparisons", 0, 1));
-    }
-    calls
-}
-
-/// The calls of a code point, what it feeds a hasher among them, and how it compares with each other one.
-fn point_compared(own: u32) -> Vec<Call> {
-    let mut calls = vec![Call::new("CodePoint", vec![Operand::Value(own)])];
-    for other in EDGES {
-        let operands = vec![Operand::Value(own), Operand::Value(other)];
-        calls.push(Call::new("CodePoint comparisons", operands));
     }
     calls
 }
@@ -219,19 +201,18 @@ fn broken(run: &[u16], length: usize, place: usize) -> Vec<Call> {
         let units: Vec<u16> = (0..length)
             .flat_map(|at| if at == place { other } else { run }.to_vec())
             .collect();
-        [from_units(0, &units), on(0, "units by number")]
+        [from_units(0, &units), call_on(0, "units by number")]
     };
     KINDS.iter().flat_map(|other| with(other)).collect()
 }
 
 /// A string of every length up to 130 bytes, a clone of it, and its view appended to an empty string.
 fn copies_of_every_length() -> Vec<Call> {
-    let mut calls = vec![on(0, "new")];
+    let mut calls = vec![call_on(0, "new")];
     for length in 0..131 {
         calls.extend([registers("clone", 1, 0), registers("comparisons", 0, 1)]);
-        calls.extend([on(2, "new"), registers("push_wtf8", 2, 0)]);
-        let operands = vec![Operand::Register(0), Operand::Value(0x21 + length % 94)];
-        calls.push(Call::new("push", operands));
+        calls.extend([call_on(2, "new"), registers("push_wtf8", 2, 0)]);
+        calls.push(push(0, 0x21 + length % 94));
     }
     calls
 }
@@ -246,10 +227,7 @@ fn equal_or_not() -> Vec<Call> {
         ("\u{1F4A9}", &[0xD83D, 0xDCA9]),
         ("\\u{D800}", &[0xD800]),
     ] {
-        calls.push(Call::new(
-            "from_str",
-            vec![Operand::Register(0), Operand::Text(text.to_owned())],
-        ));
+        calls.push(from_text(text));
         calls.extend(pushed(1, points));
         calls.push(registers("comparisons", 0, 1));
     }
@@ -258,25 +236,18 @@ fn equal_or_not() -> Vec<Call> {
 
 /// Items of a string that a trail joins, and of one to which a character is pushed behind a lead.
 fn followed() -> Vec<Call> {
-    let text = |text: &str| {
-        Call::new(
-            "from_str",
-            vec![Operand::Register(0), Operand::Text(text.to_owned())],
-        )
-    };
-    let push = |value| Call::new("push", vec![Operand::Register(0), Operand::Value(value)]);
     let items = || {
         [
             steps(0, "code_points", Vec::new()),
             steps(0, "to_ill_formed_utf16", Vec::new()),
         ]
     };
-    let mut calls = vec![text("\u{E9} ")];
+    let mut calls = vec![from_text("\u{E9} ")];
     for unit in [0xD83D, 0xDCA9] {
-        calls.push(push(unit));
+        calls.push(push(0, unit));
         calls.extend(items());
     }
-    calls.extend([text("a\u{E9} "), push(0xD83D)]);
+    calls.extend([from_text("a\u{E9} "), push(0, 0xD83D)]);
     calls.push(Call::new(
         "push_char",
         vec![Operand::Register(0), Operand::Value(0x1F4A9)],

@@ -313,6 +313,17 @@ pub fn from_units(register: u8, units: &[u16]) -> Call {
     Call::new("from_ill_formed_utf16", operands)
 }
 
+/// A code point pushed to the string of a register.
+pub fn push(register: u8, value: u32) -> Call {
+    let operands = vec![Operand::Register(register), Operand::Value(value)];
+    Call::new("push", operands)
+}
+
+/// A call of a string that has no other operand.
+pub fn call_on(register: u8, name: &str) -> Call {
+    Call::new(name, vec![Operand::Register(register)])
+}
+
 pub fn registers(name: &str, first: u8, second: u8) -> Call {
     Call::new(
         name,

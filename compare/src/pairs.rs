@@ -1,7 +1,7 @@
 //! The list of pairs: leads and trails with every bit of their ten, put together by each call that joins, and taken apart.
 
-use crate::generate::{from_units, registers};
-use crate::script::{Call, Operand};
+use crate::generate::{call_on, from_units, push, registers};
+use crate::script::Call;
 
 /// Ten bits: none, all, each one alone, and all but each one.
 fn ten_bits() -> Vec<u16> {
@@ -39,38 +39,29 @@ pub fn chosen() -> Vec<Vec<Call>> {
 fn joined(lead: u16, trail: u16) -> Vec<Call> {
     let mut calls = vec![
         from_units(0, &[]),
-        push(0, lead),
+        push(0, lead.into()),
         from_units(1, &[lead]),
         from_units(2, &[trail]),
         registers("push_wtf8", 1, 2),
         from_units(2, &[lead, trail]),
-        push(0, trail),
+        push(0, trail.into()),
         registers("comparisons", 0, 1),
         registers("comparisons", 0, 2),
     ];
     for name in ["hash", "as_str", "units by number", "into_string"] {
-        calls.push(on(0, name));
+        calls.push(call_on(0, name));
     }
     calls
 }
 
 /// A lone surrogate behind a letter and before one: no such string is text.
 fn alone(surrogate: u16) -> Vec<Call> {
-    let mut calls = vec![from_units(0, &[0x61]), push(0, surrogate)];
+    let mut calls = vec![from_units(0, &[0x61]), push(0, surrogate.into())];
     let looks = ["as_str", "to_string_lossy", "hash", "into_string"];
-    calls.extend(looks.map(|name| on(0, name)));
+    calls.extend(looks.map(|name| call_on(0, name)));
     calls.push(from_units(0, &[0x61]));
-    calls.push(push(0, surrogate));
+    calls.push(push(0, surrogate.into()));
     calls.push(push(0, 0x61));
-    calls.extend(looks.map(|name| on(0, name)));
+    calls.extend(looks.map(|name| call_on(0, name)));
     calls
-}
-
-fn push(register: u8, unit: u16) -> Call {
-    let operands = vec![Operand::Register(register), Operand::Value(unit.into())];
-    Call::new("push", operands)
-}
-
-fn on(register: u8, name: &str) -> Call {
-    Call::new(name, vec![Operand::Register(register)])
 }

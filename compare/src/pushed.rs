@@ -1,6 +1,6 @@
 //! Lists of scripts on a code point that is pushed behind others, and on strings of 6,000 units.
 
-use crate::generate::registers;
+use crate::generate::{push, registers};
 use crate::long::{changed, on, string_in, BASES};
 use crate::script::{Call, Operand};
 
@@ -14,11 +14,6 @@ const FAR: usize = 6000;
 
 fn string_of(base: &[u16], len: usize) -> Vec<u16> {
     base.iter().copied().cycle().take(len).collect()
-}
-
-fn push(register: u8, value: u32) -> Call {
-    let operands = vec![Operand::Register(register), Operand::Value(value)];
-    Call::new("push", operands)
 }
 
 /// A code point pushed behind a string of every length up to 130, and a letter behind it: the string's text, the buffer as a

@@ -1,4 +1,5 @@
-// Each public function on its happy path. Expected values are worked by hand from the encoding's tables.
+// The uses on their happy paths, but for an engine's calls, which scripts have. Expected values are worked by hand from the
+// encoding's tables.
 ghost use Rattle.std.specs.Prelude.{IfOk};
 ghost use Rattle.wtf8_uses.specs.Sorted.{AreInPointOrder};
 

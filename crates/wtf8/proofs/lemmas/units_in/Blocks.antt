@@ -5,6 +5,7 @@ use Rattle.wtf8.proofs.Common.{IsSurrogate, ◌+◌, ◌/◌, ◌++◌, bytes, I
 use Rattle.wtf8.proofs.Common.{take-append-drop, take_all, Each1-weaker, length-chunk, MeetsAsPair, IsClean, bytes-injective}
 use Rattle.wtf8.proofs.Common.{AreScalar, units, IsKnownForm, DividesNoPair}
 use Rattle.std.proofs.Common.{w16, get_or-drop, length-take}
+use Rattle.std.proofs.Math.Bool.{and-true}
 use Rattle.std.proofs.Math.Seq.{take-suc, take-add, take-append-add}
 use Rattle.std.specs.Prelude.{min}
 use Rattle.wtf8.proofs.lemmas.lanes.AsciiFronts.{saturated_front}
@@ -111,17 +112,13 @@ part_read {w} {new} {u} {part} {at} {end} {known} {more} x order within apart be
       form = subst (λ z. IsKnownForm z (take end u) (known && more)) (sym behind) (subst (λ z. IsKnownForm (w ++ part) z (known && more)) (sym both) whole);
     }
 
-pub always : (known : Bool) → (known && true) ≡ known
-always true = refl
-always false = refl
-
 -- the same of the first k of n units among which no surrogate is alone, where the last is no lead
 pub scalars_read : {w new u part : List ℕ} {at : ℕ} {known : Bool} (k n : ℕ) → IsReadTo w u at known → k ≤ n → at + n ≤ length u
     → ((j : ℕ) → j + 1 ≡ k → ¬ (IsLead (get_or (take n (drop at u)) j 0))) → new ≡ w ++ part → IsKnownForm part (take k (take n (drop at u))) true → IsReadTo new u (at + k) known
 scalars_read {w} {new} {u} {part} {at} {known} k n x few within last behind form =
     let count : k ≡ at + k - at = omega arith in
     let same : take k (take n (drop at u)) ≡ take (at + k - at) (drop at u) = take-take k n (drop at u) few ∙ ap (λ k. take k (drop at u)) count in
-    subst (IsReadTo new u (at + k)) (always known)
+    subst (IsReadTo new u (at + k)) (and-true known)
     (part_read x (omega arith) (omega (arith, few, within)) (apart k few last) behind (subst (λ v. IsKnownForm part v true) same form))
   where
     apart : (k : ℕ) → k ≤ n → ((j : ℕ) → j + 1 ≡ k → ¬ (IsLead (get_or (take n (drop at u)) j 0))) → DividesNoPair u (at + k)

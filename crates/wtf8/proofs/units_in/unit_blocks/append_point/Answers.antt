@@ -1,6 +1,7 @@
 use Rattle.wtf8.proofs.Common.{[], ◌∷◌, ◌+◌, ◌-◌, arith, append-nil, drop, encoding, number, subst, sym, take, Reads}
 use Rattle.wtf8.specs.private.UnitParts.{IsReadTo}
-use Rattle.wtf8.proofs.lemmas.units_in.Blocks.{always, part_read}
+use Rattle.std.proofs.Math.Bool.{and-true}
+use Rattle.wtf8.proofs.lemmas.units_in.Blocks.{part_read}
 use Rattle.wtf8.proofs.lemmas.units_in.Decoding.{one_read}
 use Rattle.wtf8.proofs.units_in.unit_blocks.append_point.Goals as goal
 
@@ -10,7 +11,7 @@ returns-then-unit-lt2048-clause-read g c =
     let at = c.args.at in
     let point = number c.single.result in
     let unit = one_read v at c.requires.within (omega (arith, c.if-unit-lt2048.true)) (λ s. omega (arith, s.0, c.if-unit-lt2048.true)) in
-    subst (IsReadTo c.append.new.bytes.items v (at + 1)) (always c.args.is_scalar)
+    subst (IsReadTo c.append.new.bytes.items v (at + 1)) (and-true c.args.is_scalar)
     (part_read c.requires.read (omega arith) unit.within unit.apart c.in_ok-append.ensures.ok (record {
       form = record {
         points = point ∷ [];
