@@ -5,30 +5,19 @@ ghost use Rattle.std.specs.Prelude.{◌≡◌, ◌+◌, ◌*◌, ◌<◌, ◌≤
 ghost use Rattle.wtf8.specs.private.Differences.{DifferAt, IsFirstDifference, Tells};
 ghost use Rattle.wtf8.specs.private.FirstPlace.{IsFirstBelow, Nowhere};
 
-use crate::lanes::masks::first_set;
+use crate::lanes::masks::lowest;
 use crate::lanes::{BLOCK, TURN, VECTOR};
 use std::cmp::Ordering;
 use std::simd::prelude::*;
+
+/// How many bytes short lists have at most.
+const SHORT: usize = 2 * VECTOR;
 
 /// The byte at a place, or `None` at or past the end.
 pub(crate) fn byte_at(bytes: &[u8], at: usize) -> Option<u8>
     ensures { result ≡ slice_get bytes.now at }
 {
     bytes.get(at).copied()
-}
-
-/// The place of the first difference in `N` bytes, or `None` where they are equal.
-#[inline(always)]
-fn first_in_block<const N: usize>(own: &[u8], others: &[u8], at: usize) -> Option<usize>
-    requires lanes { (0 < N) × (N ≤ u64.BITS) }
-    requires room { (at + N ≤ length own.now) × (at + N ≤ length others.now) }
-    ensures { IsFirstBelow (DifferAt own.now others.now) at (at + N) result }
-{
-    let unlike = Simd::<u8, N>::from_slice(&own[at..]).simd_ne(Simd::from_slice(&others[at..]));
-    match first_set(unlike.to_bitmask()) {
-        Some(lane) => Some(at + lane),
-        None => None,
-    }
 }
 
 /// Whether `N` bytes are equal.
@@ -40,6 +29,31 @@ fn is_block_same<const N: usize>(own: &[u8], others: &[u8], at: usize) -> bool
 {
     let unlike = Simd::<u8, N>::from_slice(&own[at..]).simd_ne(Simd::from_slice(&others[at..]));
     unlike.to_bitmask() == 0
+}
+
+/// The place of the first difference in `N` bytes that are not equal.
+#[inline(always)]
+fn place_in_block<const N: usize>(own: &[u8], others: &[u8], at: usize) -> usize
+    requires lanes { (0 < N) × (N ≤ u64.BITS) }
+    requires room { (at + N ≤ length own.now) × (at + N ≤ length others.now) }
+    requires unlike { ¬ (Nowhere (DifferAt own.now others.now) at (at + N)) }
+    ensures { IsFirstBelow (DifferAt own.now others.now) at (at + N) (Some result) }
+{
+    let unlike = Simd::<u8, N>::from_slice(&own[at..]).simd_ne(Simd::from_slice(&others[at..]));
+    at + lowest(unlike.to_bitmask())
+}
+
+/// The place of the first difference in `N` bytes, or `None` where they are equal, which is cheaper to ask first.
+#[inline(always)]
+fn first_in_block<const N: usize>(own: &[u8], others: &[u8], at: usize) -> Option<usize>
+    requires lanes { (0 < N) × (N ≤ u64.BITS) }
+    requires room { (at + N ≤ length own.now) × (at + N ≤ length others.now) }
+    ensures { IsFirstBelow (DifferAt own.now others.now) at (at + N) result }
+{
+    if is_block_same::<N>(own, others, at) {
+        return None;
+    }
+    Some(place_in_block::<N>(own, others, at))
 }
 
 /// Whether lists of `N` to twice so many bytes are equal.
@@ -119,18 +133,43 @@ fn are_many_same(own: &[u8], others: &[u8]) -> bool
         return is_block_same::<BLOCK>(own, others, 0)
             && is_block_same::<BLOCK>(own, others, len - BLOCK);
     }
-    first_in_many(own, others, len).is_none()
+    first_in_long(own, others, len).is_none()
 }
 
 /// The order of two lists of bytes: the first ones that differ decide, and a beginning stands before the longer list.
 #[inline(never)]
-#[tactic(auto, using(crate::proofs::lemmas::comparing::Order::order_at, crate::proofs::lemmas::comparing::Order::order_of_lengths))]
 pub(crate) fn order(own: &[u8], others: &[u8]) -> Ordering
     ensures { result ≡ slice_cmp nat_cmp own.now others.now }
 {
-    match first_in_both(own, others) {
-        Some(at) => own[at].cmp(&others[at]),
-        None => own.len().cmp(&others.len()),
+    let end = own.len().min(others.len());
+    if end <= SHORT {
+        return order_at(own, others, first_in_short(own, others, end));
+    }
+    order_of_long(own, others, end)
+}
+
+/// The order of two lists that are both longer than short ones.
+#[inline(never)]
+fn order_of_long(own: &[u8], others: &[u8], end: usize) -> Ordering
+    requires long { SHORT < end }
+    requires shorter { end ≡ min (length own.now) (length others.now) }
+    ensures { result ≡ slice_cmp nat_cmp own.now others.now }
+{
+    order_at(own, others, first_in_long(own, others, end))
+}
+
+/// The order of two lists by the first place in both where they differ.
+#[inline(always)]
+fn order_at(own: &[u8], others: &[u8], place: Option<usize>) -> Ordering
+    requires { IsFirstBelow (DifferAt own.now others.now) 0 (min (length own.now) (length others.now)) place }
+    ensures { result ≡ slice_cmp nat_cmp own.now others.now }
+{
+    match place {
+        Some(at) if own[at] < others[at] => Ordering::Less,
+        Some(_) => Ordering::Greater,
+        None if own.len() > others.len() => Ordering::Greater,
+        None if own.len() == others.len() => Ordering::Equal,
+        None => Ordering::Less,
     }
 }
 
@@ -139,142 +178,87 @@ pub(crate) fn order(own: &[u8], others: &[u8]) -> Ordering
 pub(crate) fn first_difference(own: &[u8], others: &[u8]) -> usize
     ensures { IsFirstDifference own.now others.now result }
 {
-    first_in_both(own, others).unwrap_or(own.len().min(others.len()))
-}
-
-/// The first place in both lists where they differ.
-#[inline(always)]
-fn first_in_both(own: &[u8], others: &[u8]) -> Option<usize>
-    ensures { IsFirstBelow (DifferAt own.now others.now) 0 (min (length own.now) (length others.now)) result }
-{
     let end = own.len().min(others.len());
-    if BLOCK < end {
-        return first_in_many(own, others, end);
+    if end <= SHORT {
+        return first_in_short(own, others, end).unwrap_or(end);
     }
-    if VECTOR < end {
-        return first_in_vectors(own, others, end);
-    }
-    first_in_few(own, others, end)
+    first_in_long(own, others, end).unwrap_or(end)
 }
 
-/// The first place before `end` where bytes differ, for no more bytes than a vector has.
+/// The first place before `end` where bytes differ, for no more bytes than short lists have.
 #[inline(always)]
-fn first_in_few(own: &[u8], others: &[u8], end: usize) -> Option<usize>
-    requires few { end ≤ VECTOR }
+fn first_in_short(own: &[u8], others: &[u8], end: usize) -> Option<usize>
+    requires short { end ≤ SHORT }
     requires room { (end ≤ length own.now) × (end ≤ length others.now) }
     ensures { IsFirstBelow (DifferAt own.now others.now) 0 end result }
 {
+    if 16 <= end {
+        return first_in_ends::<16>(own, others, 0, end);
+    }
     if 8 <= end {
-        return first_in_words::<8, 4>(own, others, end);
+        return first_in_ends::<8>(own, others, 0, end);
     }
     if 4 <= end {
-        return first_in_words::<4, 2>(own, others, end);
+        return first_in_ends::<4>(own, others, 0, end);
     }
     first_one_by_one(own, others, end)
 }
 
-/// The first place before an end where bytes differ, of `N` to twice so many. Whether `N` bytes are equal is asked first,
-/// since that takes one comparison of two numbers.
+/// The first place before `end` where bytes differ, for more bytes than short lists have. Many lists differ in the first
+/// vector; what is equal behind it is skipped in turns.
 #[inline(always)]
-fn first_in_words<const N: usize, const M: usize>(
-    own: &[u8],
-    others: &[u8],
-    end: usize,
-) -> Option<usize>
-    requires lanes { (0 < M) × (M ≤ N) × (N ≤ 2 * M) × (N ≤ u64.BITS) }
-    requires all { (N ≤ end) × (end ≤ 2 * N) }
+fn first_in_long(own: &[u8], others: &[u8], end: usize) -> Option<usize>
+    requires long { SHORT < end }
     requires room { (end ≤ length own.now) × (end ≤ length others.now) }
     ensures { IsFirstBelow (DifferAt own.now others.now) 0 end result }
 {
-    if !is_block_same::<N>(own, others, 0) {
-        return first_in_ends::<M>(own, others, 0, N);
-    }
-    if !is_block_same::<N>(own, others, end - N) {
-        return first_in_ends::<M>(own, others, end - N, end);
-    }
-    None
-}
-
-/// The first place before `end` where bytes differ, for a vector's bytes to a block's, in at most four vectors.
-#[inline(always)]
-fn first_in_vectors(own: &[u8], others: &[u8], end: usize) -> Option<usize>
-    requires all { (VECTOR ≤ end) × (end ≤ BLOCK) }
-    requires room { (end ≤ length own.now) × (end ≤ length others.now) }
-    ensures { IsFirstBelow (DifferAt own.now others.now) 0 end result }
-{
-    if !is_block_same::<16>(own, others, 0) {
-        return first_in_block::<16>(own, others, 0);
-    }
-    if 32 < end && !is_block_same::<16>(own, others, 16) {
-        return first_in_block::<16>(own, others, 16);
-    }
-    if 48 < end && !is_block_same::<16>(own, others, 32) {
-        return first_in_block::<16>(own, others, 32);
-    }
-    first_in_block::<16>(own, others, end - 16)
-}
-
-/// The first place before `end` where bytes differ, for more bytes than a block has. Many lists differ in the first block; the
-/// others are equal in turns, which are skipped.
-#[inline(always)]
-fn first_in_many(own: &[u8], others: &[u8], end: usize) -> Option<usize>
-    requires many { BLOCK < end }
-    requires room { (end ≤ length own.now) × (end ≤ length others.now) }
-    ensures { IsFirstBelow (DifferAt own.now others.now) 0 end result }
-{
-    if let Some(at) = first_in_ends::<32>(own, others, 0, BLOCK) {
+    if let Some(at) = first_in_block::<16>(own, others, 0) {
         return Some(at);
     }
-    if end <= TURN {
-        return first_in_ends::<32>(own, others, end - BLOCK, end);
+    if end <= 48 {
+        return first_in_ends::<16>(own, others, VECTOR, end);
     }
     let at = skip_turns(own, others, end);
     first_in_blocks(own, others, at, end)
 }
 
-/// The place behind all turns that are equal, where the first block is.
+/// The place behind all turns that are equal, where the first vector is.
 #[inline(always)]
 fn skip_turns(own: &[u8], others: &[u8], end: usize) -> usize
-    requires many { TURN ≤ end }
+    requires long { VECTOR ≤ end }
     requires room { (end ≤ length own.now) × (end ≤ length others.now) }
-    requires same { Nowhere (DifferAt own.now others.now) 0 BLOCK }
+    requires same { Nowhere (DifferAt own.now others.now) 0 VECTOR }
     ensures within { result ≤ end }
     ensures same { Nowhere (DifferAt own.now others.now) 0 result }
 {
-    let mut at = BLOCK;
-    while at <= end - TURN && is_turn_same(own, others, at) {
+    let mut at = VECTOR;
+    while at <= end.saturating_sub(TURN)
+        && is_block_same::<BLOCK>(own, others, at)
+            & is_block_same::<BLOCK>(own, others, at + BLOCK)
+    {
         at += TURN;
     }
     at
 }
 
-/// Whether the bytes of a turn are equal.
-#[inline(always)]
-fn is_turn_same(own: &[u8], others: &[u8], at: usize) -> bool
-    requires { (at + TURN ≤ length own.now) × (at + TURN ≤ length others.now) }
-    ensures { Tells ⊤ (DifferAt own.now others.now) at (at + TURN) result }
-{
-    is_block_same::<BLOCK>(own, others, at) & is_block_same::<BLOCK>(own, others, at + BLOCK)
-}
-
-/// The first place before an end where bytes differ, where those before another place are equal: in blocks, of which the
-/// last may begin in the one before it.
+/// The first place before an end where bytes differ, of which those before another place are equal: by two vectors, of which
+/// the last ones may begin among those before.
 #[inline(always)]
 fn first_in_blocks(own: &[u8], others: &[u8], from: usize, end: usize) -> Option<usize>
-    requires many { BLOCK ≤ end }
+    requires long { SHORT ≤ end }
     requires order { from ≤ end }
     requires room { (end ≤ length own.now) × (end ≤ length others.now) }
     requires same { Nowhere (DifferAt own.now others.now) 0 from }
     ensures { IsFirstBelow (DifferAt own.now others.now) 0 end result }
 {
     let mut at = from;
-    while at < end - BLOCK {
-        if let Some(found) = first_in_ends::<32>(own, others, at, at + BLOCK) {
+    while at < end - SHORT {
+        if let Some(found) = first_in_block::<SHORT>(own, others, at) {
             return Some(found);
         }
-        at += BLOCK;
+        at += SHORT;
     }
-    first_in_ends::<32>(own, others, end - BLOCK, end)
+    first_in_block::<SHORT>(own, others, end - SHORT)
 }
 
 /// The first place from another one on and before an end where bytes differ, of `N` to twice so many.
@@ -290,8 +274,8 @@ fn first_in_ends<const N: usize>(
     requires room { (end ≤ length own.now) × (end ≤ length others.now) }
     ensures { IsFirstBelow (DifferAt own.now others.now) from end result }
 {
-    if !is_block_same::<N>(own, others, from) {
-        return first_in_block::<N>(own, others, from);
+    if let Some(at) = first_in_block::<N>(own, others, from) {
+        return Some(at);
     }
     first_in_block::<N>(own, others, end - N)
 }

@@ -39,13 +39,15 @@ fn first_in_block(bytes: &[u8], at: usize) -> Option<usize>
 pub(crate) fn next_surrogate(bytes: &[u8], from: usize) -> Option<usize>
     ensures { IsFirst (SurrogateAt bytes.now) from result }
 {
-    let end = bytes.len().saturating_sub(32);
     let mut at = from;
-    while at < end {
-        if let Some(found) = first_in_block(bytes, at) {
-            return Some(found);
+    if 32 < bytes.len() {
+        let end = bytes.len() - 32;
+        while at < end {
+            if let Some(found) = first_in_block(bytes, at) {
+                return Some(found);
+            }
+            at += 32;
         }
-        at += 32;
     }
     first_one_by_one(bytes, at)
 }

@@ -34,6 +34,9 @@ module _ (n : ℕ) (w v : List ℕ) (i : ℕ) (few : n ≤ 64) (own : i + n ≤ 
   pub first_unlike : (r : Option ℕ) → IsFirstSet mask r → MatchOption r (Nowhere (DifferAt w v) i (i + n)) (λ k. IsLeast (DifferAt w v) i (i + k) × (i + k < i + n))
   first_unlike r first = first_there (DifferAt w v) (IsSet lanes) i n differ_there r (first n lanes few long same)
 
+  pub some_unlike : ¬ (Nowhere (DifferAt w v) i (i + n)) → mask ≢ 0
+  some_unlike some e = some (first_there (DifferAt w v) (IsSet lanes) i n differ_there None (none_set mask n lanes few long same e))
+
   pub told_unlike : Tells ⊤ (DifferAt w v) i (i + n) (eqb mask 0)
   told_unlike = elim (cases_Bool (eqb mask 0)) [
     | inl t ↦ rw t (first_there (DifferAt w v) (IsSet lanes) i n differ_there None (none_set mask n lanes few long same (eqb-true mask 0 t)))

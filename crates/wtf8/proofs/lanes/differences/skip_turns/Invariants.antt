@@ -1,9 +1,9 @@
-use Rattle.wtf8.proofs.Common.{◌≤◌, ◌-◌, Nowhere, DifferAt}
+use Rattle.wtf8.proofs.Common.{◌≤◌, ◌-◌, ◌<◌, Nowhere, DifferAt}
 use Rattle.wtf8.proofs.lanes.differences.skip_turns.Given as goal
 
--- equal so far
+-- equal so far, behind the first byte
 abbrev pub invariant-loop-at : goal.invariant-loop-at
-invariant-loop-at l = (l.at ≤ l.end) × Nowhere (DifferAt l.own l.others) 0 l.at
+invariant-loop-at l = (0 < l.at) × (l.at ≤ l.end) × Nowhere (DifferAt l.own l.others) 0 l.at
 
 abbrev pub decreases-loop-at : goal.decreases-loop-at
 decreases-loop-at l = l.end - l.at
