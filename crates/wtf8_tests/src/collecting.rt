@@ -47,12 +47,25 @@ fn code_points_of_a_string_give_it_again(rt: HostRuntime) -> Result<(), Fail> {
     expect_dump(rt.alloc(), again.as_wtf8(), TEXT_DUMP)
 }
 
+/// Fails unless a string collected from one array of code points and extended by another has these bytes.
+fn expect_extended(
+    alloc: Global,
+    collected: [CodePoint; 2],
+    extension: [CodePoint; 2],
+    dump: &str,
+) -> Result<(), Fail> {
+    let mut text = Wtf8Buf::from_iter(alloc, collected)?;
+    text.extend(extension)?;
+    expect_dump(alloc, text.as_wtf8(), dump)
+}
+
 #[test]
-fn an_array_is_taken(rt: HostRuntime) -> Result<(), Fail> {
-    let lead = [point_of_unit(0x61), point_of_unit(0xD83D)];
-    let mut text = Wtf8Buf::from_iter(rt.alloc(), lead)?;
-    text.extend([point_of_unit(0xDCA9), point_of_unit(0x62)])?;
-    expect_dump(rt.alloc(), text.as_wtf8(), "61 F0 9F 92 A9 62")
+fn arrays_are_taken(rt: HostRuntime) -> Result<(), Fail> {
+    let [a, b] = ['a', 'b'].map(CodePoint::from_char);
+    let [lead, trail] = [0xD83D, 0xDCA9].map(point_of_unit);
+    expect_extended(rt.alloc(), [a, lead], [trail, b], "61 F0 9F 92 A9 62")?;
+    let [e, pile] = ['é', '💩'].map(CodePoint::from_char);
+    expect_extended(rt.alloc(), [a, e], [point_of_unit(0x20), pile], TEXT_DUMP)
 }
 
 #[test]

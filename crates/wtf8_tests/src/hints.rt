@@ -25,3 +25,42 @@ fn code_points_go_on_in_a_clone(rt: HostRuntime) -> Result<(), Fail> {
     assert_eq!(rt; points.size_hint(), (1, Some(4)));
     Ok(())
 }
+
+/// What one call of `next` gives, and the hint after it.
+type Moment = (Option<u16>, (usize, Option<usize>));
+
+/// Texts with a surrogate pair, and each step of the iterator over their code units.
+fn moments() -> [(&'static str, [Moment; 4]); 2] {
+    [
+        (
+            "\u{10000}",
+            [
+                (Some(0xD800), (1, Some(1))),
+                (Some(0xDC00), (0, Some(0))),
+                (None, (0, Some(0))),
+                (None, (0, Some(0))),
+            ],
+        ),
+        (
+            "\u{1F4A9}a",
+            [
+                (Some(0xD83D), (2, Some(3))),
+                (Some(0xDCA9), (1, Some(2))),
+                (Some(0x61), (0, Some(0))),
+                (None, (0, Some(0))),
+            ],
+        ),
+    ]
+}
+
+#[test]
+fn a_held_trail_counts_in_the_hint(rt: HostRuntime) -> Result<(), Fail> {
+    for (text, moments) in moments() {
+        let mut units = Wtf8::from_str(text).to_ill_formed_utf16();
+        for (unit, hint) in moments {
+            assert_eq!(rt; units.next(), unit, "{text}");
+            assert_eq!(rt; units.size_hint(), hint, "{text}");
+        }
+    }
+    Ok(())
+}

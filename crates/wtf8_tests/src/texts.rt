@@ -40,13 +40,17 @@ fn a_long_string_of_hangul_is_a_text(rt: HostRuntime) -> Result<(), Fail> {
 }
 
 /// Code points of strings that hold a surrogate, and their bytes.
-fn no_texts() -> [(&'static [u32], &'static str); 5] {
+fn no_texts() -> [(&'static [u32], &'static str); 6] {
     [
         (&[0xD800], "ED A0 80"),
         (&[0xDC00], "ED B0 80"),
         (&[0xDFFF, 0x61], "ED BF BF 61"),
         (&[0xD83D, 0x20, 0xDCA9], "ED A0 BD 20 ED B2 A9"),
         (&[0xD55C, 0xDBFF], "ED 95 9C ED AF BF"),
+        (
+            &[0x61, 0xE9, 0x20, 0x1F4A9, 0xD800],
+            "61 C3 A9 20 F0 9F 92 A9 ED A0 80",
+        ),
     ]
 }
 
