@@ -1,5 +1,5 @@
 // Calls that ask for no memory, not even by a request whose refusal they ignore: nine requests are granted before them, and
-// all nine are left after them.
+// all nine are left after them. The same calls go on where every request is refused.
 use refusing::Refusing;
 use std::alloc::{AllocError, Allocator, Global};
 use std::borrow::CowStr;
@@ -13,19 +13,22 @@ const LEAD: u16 = 0xD83D;
 
 const TRAIL: u16 = 0xDCA9;
 
-/// Fails unless all nine requests are left.
-fn expect_nine(heap: Lent<'_>) -> Result<(), Fail> {
-    if heap.grants_left() != 9 {
+/// How many requests are granted: none, or nine.
+const GRANTS: [u64; 2] = [0, 9];
+
+/// Fails unless this many requests are left.
+fn expect_left(heap: Lent<'_>, grants: u64) -> Result<(), Fail> {
+    if heap.grants_left() != grants {
         return Err(Fail::new("a request was made"));
     }
     Ok(())
 }
 
-/// An empty string with room for so many bytes, and nine requests granted after it was made.
-fn with_room(heap: Lent<'_>, room: usize) -> Result<Wtf8Buf<Lent<'_>>, AllocError> {
+/// An empty string with room for this many bytes, and this many requests granted after it was made.
+fn with_room(heap: Lent<'_>, room: usize, grants: u64) -> Result<Wtf8Buf<Lent<'_>>, AllocError> {
     heap.grant(1);
     let text = Wtf8Buf::with_capacity(heap, room)?;
-    heap.grant(9);
+    heap.grant(grants);
     Ok(text)
 }
 
@@ -67,9 +70,12 @@ fn expect_nothing<A: Allocator + Drop + Copy>(alloc: Global, heap: A) -> Result<
 
 #[test]
 fn what_is_empty(rt: HostRuntime) -> Result<(), Fail> {
-    let heap = Refusing::new(rt.alloc(), 9);
-    expect_nothing(rt.alloc(), &heap)?;
-    expect_nine(&heap)
+    for grants in GRANTS {
+        let heap = Refusing::new(rt.alloc(), grants);
+        expect_nothing(rt.alloc(), &heap)?;
+        expect_left(&heap, grants)?;
+    }
+    Ok(())
 }
 
 /// Fails unless a string was made, and is empty.
@@ -90,9 +96,28 @@ fn expect_made_of_nothing<A: Allocator + Drop + Copy>(alloc: Global, heap: A) ->
 
 #[test]
 fn what_is_made_of_nothing(rt: HostRuntime) -> Result<(), Fail> {
-    let heap = Refusing::new(rt.alloc(), 9);
-    expect_made_of_nothing(rt.alloc(), &heap)?;
-    expect_nine(&heap)
+    for grants in GRANTS {
+        let heap = Refusing::new(rt.alloc(), grants);
+        expect_made_of_nothing(rt.alloc(), &heap)?;
+        expect_left(&heap, grants)?;
+    }
+    Ok(())
+}
+
+/// Whether the lossy text of a letter is the letter, and borrowed.
+fn is_letter_borrowed<A: Allocator + Drop>(heap: A) -> Result<bool, AllocError> {
+    let lossy = Wtf8::from_str("a").to_string_lossy(heap)?;
+    Ok(matches!(lossy, CowStr::Borrowed(_)) && lossy.as_str() == "a")
+}
+
+#[test]
+fn what_is_borrowed(rt: HostRuntime) -> Result<(), Fail> {
+    for grants in GRANTS {
+        let heap = Refusing::new(rt.alloc(), grants);
+        assert!(rt; is_letter_borrowed(&heap)?);
+        expect_left(&heap, grants)?;
+    }
+    Ok(())
 }
 
 /// Appends the two halves of a pair.
@@ -117,16 +142,19 @@ fn expect_pair<A: Allocator>(alloc: Global, text: &mut Wtf8Buf<A>) -> Result<(),
 }
 
 /// Fails unless this fits in room for four bytes.
-fn expect_room_for_pair(alloc: Global, heap: Lent<'_>) -> Result<(), Fail> {
-    let mut text = with_room(heap, 4)?;
+fn expect_room_for_pair(alloc: Global, heap: Lent<'_>, grants: u64) -> Result<(), Fail> {
+    let mut text = with_room(heap, 4, grants)?;
     expect_pair(alloc, &mut text)
 }
 
 #[test]
 fn what_has_room(rt: HostRuntime) -> Result<(), Fail> {
     let heap = Refusing::new(rt.alloc(), 0);
-    expect_room_for_pair(rt.alloc(), &heap)?;
-    expect_nine(&heap)
+    for grants in GRANTS {
+        expect_room_for_pair(rt.alloc(), &heap, grants)?;
+        expect_left(&heap, grants)?;
+    }
+    Ok(())
 }
 
 /// Appends a text, a letter and a lead.
@@ -156,7 +184,7 @@ fn push_each<A: Allocator>(alloc: Global, text: &mut Wtf8Buf<A>) -> Result<(), F
 
 /// Fails unless each call that appends does so in room that is there.
 fn expect_room_for_each(alloc: Global, heap: Lent<'_>) -> Result<(), Fail> {
-    let mut text = with_room(heap, 20)?;
+    let mut text = with_room(heap, 20, 9)?;
     push_each(alloc, &mut text)?;
     expect_dump(
         alloc,
@@ -169,7 +197,7 @@ fn expect_room_for_each(alloc: Global, heap: Lent<'_>) -> Result<(), Fail> {
 fn what_has_room_by_each_call(rt: HostRuntime) -> Result<(), Fail> {
     let heap = Refusing::new(rt.alloc(), 0);
     expect_room_for_each(rt.alloc(), &heap)?;
-    expect_nine(&heap)
+    expect_left(&heap, 9)
 }
 
 /// Whether a list that appends the halves of a pair, by an extension each and nothing between them, is applied, and none of
@@ -186,8 +214,8 @@ fn is_pair_applied<A: Allocator>(text: &mut Wtf8Buf<A>) -> bool {
 }
 
 /// Fails unless such a list fits in room for four bytes.
-fn expect_room_for_list(alloc: Global, heap: Lent<'_>) -> Result<(), Fail> {
-    let mut text = with_room(heap, 4)?;
+fn expect_room_for_list(alloc: Global, heap: Lent<'_>, grants: u64) -> Result<(), Fail> {
+    let mut text = with_room(heap, 4, grants)?;
     if !is_pair_applied(&mut text) {
         return Err(Fail::new("a list is not applied"));
     }
@@ -197,8 +225,11 @@ fn expect_room_for_list(alloc: Global, heap: Lent<'_>) -> Result<(), Fail> {
 #[test]
 fn what_has_room_as_a_list(rt: HostRuntime) -> Result<(), Fail> {
     let heap = Refusing::new(rt.alloc(), 0);
-    expect_room_for_list(rt.alloc(), &heap)?;
-    expect_nine(&heap)
+    for grants in GRANTS {
+        expect_room_for_list(rt.alloc(), &heap, grants)?;
+        expect_left(&heap, grants)?;
+    }
+    Ok(())
 }
 
 /// A call, whether it is done, and the bytes after it.
@@ -252,7 +283,7 @@ fn expect_each_applied<A: Allocator>(
 
 /// Fails unless each call is applied in room that is there.
 fn expect_room_for_applied(alloc: Global, heap: Lent<'_>, piece: Wtf8<'_>) -> Result<(), Fail> {
-    let mut text = with_room(heap, 20)?;
+    let mut text = with_room(heap, 20, 9)?;
     expect_each_applied(alloc, &mut text, piece)
 }
 
@@ -266,7 +297,7 @@ fn expect_trail_applied(alloc: Global, heap: Lent<'_>) -> Result<(), Fail> {
 fn what_has_room_is_applied(rt: HostRuntime) -> Result<(), Fail> {
     let heap = Refusing::new(rt.alloc(), 0);
     expect_trail_applied(rt.alloc(), &heap)?;
-    expect_nine(&heap)
+    expect_left(&heap, 9)
 }
 
 /// Appends the text, and a lone lead surrogate after it or none.
@@ -278,9 +309,9 @@ fn push_text<A: Allocator>(text: &mut Wtf8Buf<A>, has_lead: bool) -> Result<(), 
     Ok(())
 }
 
-/// The string of the text, with a lone lead surrogate after it or without, and nine requests granted after it was made.
-fn text_of(heap: Lent<'_>, has_lead: bool) -> Result<Wtf8Buf<Lent<'_>>, AllocError> {
-    let mut text = with_room(heap, 11)?;
+/// The string of the text, with a lone lead surrogate after it or without, and this many requests granted after it was made.
+fn text_of(heap: Lent<'_>, has_lead: bool, grants: u64) -> Result<Wtf8Buf<Lent<'_>>, AllocError> {
+    let mut text = with_room(heap, 11, grants)?;
     push_text(&mut text, has_lead)?;
     Ok(text)
 }
@@ -321,8 +352,8 @@ fn expect_owned<A: Allocator + Drop>(alloc: Global, text: Wtf8Buf<A>) -> Result<
 }
 
 /// Fails unless the string of the text is borrowed as text, and becomes a text of its own.
-fn expect_text(alloc: Global, heap: Lent<'_>) -> Result<(), Fail> {
-    let text = text_of(heap, false)?;
+fn expect_text(alloc: Global, heap: Lent<'_>, grants: u64) -> Result<(), Fail> {
+    let text = text_of(heap, false, grants)?;
     expect_borrowed(heap, text.as_wtf8())?;
     expect_owned(alloc, text)
 }
@@ -330,8 +361,11 @@ fn expect_text(alloc: Global, heap: Lent<'_>) -> Result<(), Fail> {
 #[test]
 fn texts_of_a_string(rt: HostRuntime) -> Result<(), Fail> {
     let heap = Refusing::new(rt.alloc(), 0);
-    expect_text(rt.alloc(), &heap)?;
-    expect_nine(&heap)
+    for grants in GRANTS {
+        expect_text(rt.alloc(), &heap, grants)?;
+        expect_left(&heap, grants)?;
+    }
+    Ok(())
 }
 
 /// Fails unless a string that came back has the text and the lead, which is replaced in its lossy text.
@@ -357,11 +391,9 @@ fn expect_no_text<A: Allocator + Drop>(alloc: Global, text: Wtf8Buf<A>) -> Resul
 #[test]
 fn texts_of_a_string_with_a_surrogate(rt: HostRuntime) -> Result<(), Fail> {
     let heap = Refusing::new(rt.alloc(), 0);
-    for granted in [0, 9] {
-        let text = text_of(&heap, true)?;
-        heap.grant(granted);
-        expect_no_text(rt.alloc(), text)?;
-        assert_eq!(rt; heap.grants_left(), granted);
+    for grants in GRANTS {
+        expect_no_text(rt.alloc(), text_of(&heap, true, grants)?)?;
+        expect_left(&heap, grants)?;
     }
     Ok(())
 }

@@ -156,6 +156,17 @@ fn full(heap: Lent<'_>) -> Result<Wtf8Buf<Lent<'_>>, AllocError> {
     Ok(text)
 }
 
+#[test]
+fn an_empty_text_is_pushed_after_a_refused_trail(rt: HostRuntime) -> Result<(), Fail> {
+    let heap = Refusing::new(rt.alloc(), 0);
+    let mut text = full(&heap)?;
+    heap.grant(0);
+    assert!(rt; text.push(point_of_unit(0xDCA9)).is_err());
+    expect_dump(rt.alloc(), text.as_wtf8(), FULL)?;
+    text.push_str("")?;
+    expect_dump(rt.alloc(), text.as_wtf8(), FULL)
+}
+
 /// Makes the call of that name.
 fn call_named<A: Allocator>(
     alloc: Global,

@@ -27,6 +27,13 @@ fn texts_keep_their_bytes(rt: HostRuntime) -> Result<(), Fail> {
     Ok(())
 }
 
+#[test]
+fn a_view_of_a_string_equals_the_view_of_its_text(rt: HostRuntime) -> Result<(), Fail> {
+    let text = Wtf8Buf::from_str(rt.alloc(), "aé")?;
+    assert!(rt; text.as_wtf8() == Wtf8::from_str("aé"));
+    Ok(())
+}
+
 /// The code points of the text with a lead surrogate behind them, and their bytes.
 const WITH_LEAD: [u32; 5] = [0x61, 0xE9, 0x20, 0x1F4A9, 0xD800];
 

@@ -70,6 +70,13 @@ fn a_debug_text_has_the_number_in_hexadecimal(rt: HostRuntime) -> Result<(), Fai
     Ok(())
 }
 
+#[test]
+fn a_width_pads_no_debug_text(rt: HostRuntime) -> Result<(), Fail> {
+    let point = CodePoint::from_char('a');
+    assert!(rt; is_written(format!(in rt.alloc(); "{point:10?}"), "U+0061"));
+    Ok(())
+}
+
 /// Writes a debug text to a sink that refuses a write, with a sign and a width outside or without, and fails unless it ends
 /// there. It answers how many writes the sink saw.
 fn writes_of<T: Debug>(

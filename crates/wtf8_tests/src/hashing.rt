@@ -1,10 +1,10 @@
 // What values feed a hasher.
-use crate::examples::{edges, pushed};
+use crate::examples::{edges, point_of_unit, pushed};
 use std::alloc::Global;
 use std::cell::RefCell;
 use std::hash::{Hash, Hasher};
 use std::test::Fail;
-use wtf8::CodePoint;
+use wtf8::{CodePoint, Wtf8Buf};
 
 /// A hasher that writes down what it is fed: for each write its length, and its bytes.
 #[derive(Drop)]
@@ -53,6 +53,42 @@ fn a_hasher_is_fed_the_bytes_and_an_end(rt: HostRuntime) -> Result<(), Fail> {
         let text = pushed(rt.alloc(), numbers)?;
         assert_eq!(rt; fed_by(rt.alloc(), &text).as_slice(), expected);
         assert_eq!(rt; fed_by(rt.alloc(), &text.as_wtf8()).as_slice(), expected);
+    }
+    Ok(())
+}
+
+/// Pushes a lone lead surrogate and truncates it.
+fn push_and_truncate(text: &mut Wtf8Buf<Global>) -> Result<(), Fail> {
+    let len = text.len();
+    text.push(point_of_unit(0xD800))?;
+    if !text.as_wtf8().is_code_point_boundary(len) {
+        return Err(Fail::new("no boundary before a surrogate"));
+    }
+    text.truncate(len);
+    Ok(())
+}
+
+/// The string "a", where a surrogate was pushed and truncated before the letter was pushed, or after it.
+fn letter(alloc: Global, is_before: bool) -> Result<Wtf8Buf<Global>, Fail> {
+    let mut text = Wtf8Buf::new(alloc);
+    if is_before {
+        push_and_truncate(&mut text)?;
+    }
+    text.push(point_of_unit(0x61))?;
+    if !is_before {
+        push_and_truncate(&mut text)?;
+    }
+    Ok(text)
+}
+
+#[test]
+fn equal_strings_feed_the_same_whatever_was_truncated(rt: HostRuntime) -> Result<(), Fail> {
+    let text = Wtf8Buf::from_str(rt.alloc(), "a")?;
+    let (before, after) = (letter(rt.alloc(), true)?, letter(rt.alloc(), false)?);
+    assert!(rt; text == before && before == after && after == text);
+    let expected: &[u8] = &[1, 0x61, 1, 0xFE];
+    for string in [text, before, after] {
+        assert_eq!(rt; fed_by(rt.alloc(), &string).as_slice(), expected);
     }
     Ok(())
 }

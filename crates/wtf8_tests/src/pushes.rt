@@ -136,14 +136,36 @@ fn a_cleared_string_is_empty_and_begins_anew(rt: HostRuntime) -> Result<(), Fail
     Ok(())
 }
 
+/// Fails unless a string is a lone lead surrogate, and a trail surrogate joins it.
+fn expect_open_lead(alloc: Global, text: &mut Wtf8Buf<Global>) -> Result<(), Fail> {
+    expect_dump(alloc, text.as_wtf8(), "ED A0 BD")?;
+    text.push(CodePoint::from_u32_unchecked(0xDCA9))?;
+    expect_dump(alloc, text.as_wtf8(), "F0 9F 92 A9")
+}
+
 #[test]
-fn an_empty_text_or_view_keeps_the_lead_open(rt: HostRuntime) -> Result<(), Fail> {
+fn a_trail_joins_a_lead_after_an_empty_text(rt: HostRuntime) -> Result<(), Fail> {
     let mut text = pushed(rt.alloc(), &[0xD83D])?;
     text.push_str("")?;
+    expect_open_lead(rt.alloc(), &mut text)
+}
+
+#[test]
+fn a_trail_joins_a_lead_after_an_empty_view(rt: HostRuntime) -> Result<(), Fail> {
+    let mut text = pushed(rt.alloc(), &[0xD83D])?;
     text.push_wtf8(Wtf8::from_str(""))?;
-    expect_dump(rt.alloc(), text.as_wtf8(), "ED A0 BD")?;
-    text.push(CodePoint::from_u32_unchecked(0xDCA9))?;
-    expect_dump(rt.alloc(), text.as_wtf8(), "F0 9F 92 A9")
+    expect_open_lead(rt.alloc(), &mut text)
+}
+
+#[test]
+fn a_pushed_surrogate_is_the_last_code_point_until_it_joins(rt: HostRuntime) -> Result<(), Fail> {
+    let mut text = Wtf8Buf::from_str(rt.alloc(), "é ")?;
+    expect_numbers(text.as_wtf8(), &[0xE9, 0x20])?;
+    for (number, last) in [(0xD83D, 0xD83D), (0xDCA9, 0x1F4A9)] {
+        text.push(CodePoint::from_u32_unchecked(number))?;
+        expect_numbers(text.as_wtf8(), &[0xE9, 0x20, last])?;
+    }
+    Ok(())
 }
 
 #[test]
