@@ -53,7 +53,7 @@ EDGES += [0xE000, 0xFEFF, 0xFFFD, 0xFFFF, 0x10000, 0x1F4A9, 0xFFFFF, 0x10FFFF]
 MALFORMED = b"""
 041|0000041|00D83D1|110000|FFFFFF|1000000|G041|004G|0x41|U+0041|-|/|--1|//1|-/1|/-1|-1234567890|/1234567890|-0000000001|/0000000001
 +1|-a|/a|-1a|/1f|1-|1/|-1.|!|!1|?|0041,|0041;0042|0041-1|0041/1|\t|0041\t0042|0041\r|\r|\xc3\xa9041|\xff|\x00|0041\x00|-\xd9\xa1
-|0041  0042| 0041|0041 | |  |\xef\xbb\xbf0041|\xef\xbc\x910041|-1 /|/ 1|- 1|0041\x0b|\x0c|004\xe2\x80\x8b1
+|0041  0042| 0041|0041 |00061 |10ffff |-1 |/0 | |  |\xef\xbb\xbf0041|\xef\xbc\x910041|-1 /|/ 1|- 1|0041\x0b|\x0c|004\xe2\x80\x8b1
 """.strip(b"\n").replace(b"\n", b"|")
 MALFORMED = [re.sub(rb"\\(t|r|x..)", lambda m: {b"t": b"\t", b"r": b"\r"}.get(m[1]) or bytes([int(m[1][1:], 16)]), w) for w in MALFORMED.split(b"|")]
 MALFORMED = [word for word in MALFORMED if word]
