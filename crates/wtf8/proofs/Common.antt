@@ -11,7 +11,7 @@ pub use Rattle.std.proofs.lemmas.Bool.{eq-eqb, eqb-true, not-false, false_from_n
 pub use Rattle.std.proofs.lemmas.Bool.Decides.{nat_tests}
 pub use Rattle.std.proofs.lemmas.List.{take-append-drop, map-append, append-nil, take_at, drop_at, get_or-append_right, drop_all, get_or-append-add, take_all}
 pub use Rattle.std.proofs.lemmas.List.{same_from_push, append_cancel_left, drop-drop, drop-append-le, drop-take, get_or-drop, get_or_append_left, length-map}
-pub use Rattle.std.proofs.lemmas.List.{length-replicate, map-id, take-take, take_rest, ext_get_or, get_or-map, get_or-replicate}
+pub use Rattle.std.proofs.lemmas.List.{length-replicate, map-id, take-take, take_rest, get_or-replicate}
 pub use Rattle.std.proofs.lemmas.List.Concat.{flat_map-append}
 pub use Rattle.std.proofs.lemmas.List.Elements.{All-drop, All-same, All-cons, All-head, All-nil, All-tail, All-from_get_or, All-get_or, All-pop, All-take}
 pub use Rattle.std.proofs.lemmas.Result.{on_ok_weaker, on_err_weaker}

@@ -1,4 +1,3 @@
-pub mod AsciiEnds
 pub mod Concatenation
 pub mod Gains
 pub mod Positions

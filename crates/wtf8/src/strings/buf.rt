@@ -11,7 +11,6 @@ ghost use Rattle.wtf8.specs.Surrogates.{AreScalar, lossy};
 ghost use Rattle.wtf8.specs.private.FirstPlace.{IsFirst};
 ghost use Rattle.wtf8.specs.private.SurrogateSearch.{SurrogateAt};
 ghost use Rattle.wtf8.specs.Unicode.{units, units_of};
-ghost use Rattle.wtf8.specs.private.UnitParts.{AreAscii};
 ghost use Rattle.wtf8.specs.UnitPosition.{TruncatesUnits};
 ghost use Rattle.wtf8.specs.View.{view_points, view_units};
 
@@ -329,18 +328,6 @@ impl<A: Allocator> Wtf8Buf<A> {
         ensures nothing { other.now ≡ [] → KeepsContents self.old self.new }
     {
         concat::push_text(&mut self.bytes, other)
-    }
-
-    /// Appends ASCII bytes. There is room for them.
-    #[inline(always)]
-    pub(crate) fn push_ascii(&mut self, block: &[u8])
-        requires ascii { AreAscii block.now }
-        requires room { length self.old.bytes + length block.now ≤ self.old.capacity }
-        ensures units { AppendsUnits self.old block.now self.new }
-        ensures len { length self.new.bytes ≡ length self.old.bytes + length block.now }
-        ensures capacity { self.old.capacity ≤ self.new.capacity }
-    {
-        let _ = self.bytes.extend_from_slice(block);
     }
 
     /// Appends another string. A trail surrogate at its front joins a lead at the end: the two become the one code

@@ -5,34 +5,11 @@ ghost use Rattle.wtf8.specs.CodePoint.{numbers};
 ghost use Rattle.wtf8.specs.Appending.{AppendsPoints, HasRoomFor};
 ghost use Rattle.wtf8.specs.Form.{IsForm};
 ghost use Rattle.wtf8.specs.Unicode.{units};
-ghost use Rattle.wtf8.specs.private.UnitParts.{AreAscii};
 ghost use Rattle.wtf8.specs.declared.numbers.code_point.CodePoint.{CodePoint};
 
 use crate::numbers::code_point::CodePoint;
 use crate::strings::buf::Wtf8Buf;
-use crate::units_in::{NUMBERS, unit_blocks};
 use std::alloc::{AllocError, Allocator};
-use std::simd::prelude::*;
-
-/// The numbers of the first sixteen code points, if there are so many.
-#[inline(always)]
-fn first_numbers(points: &[CodePoint]) -> Option<[u32; NUMBERS]>
-    ensures long { IfSome result (λ _. NUMBERS ≤ length points.now) }
-    ensures same { IfSome result (λ values. values ≡ numbers (take NUMBERS points.now)) }
-{
-    let front = points.first_chunk::<NUMBERS>()?;
-    Some(front.map(|point| point.to_u32()))
-}
-
-/// The bytes of the first sixteen code points, if there are so many and all of them are ASCII.
-#[inline(always)]
-fn ascii_points(points: &[CodePoint]) -> Option<[u8; NUMBERS]>
-    ensures long { IfSome result (λ _. NUMBERS ≤ length points.now) }
-    ensures same { IfSome result (λ block. block ≡ numbers (take NUMBERS points.now)) }
-    ensures ascii { IfSome result (λ block. AreAscii block) }
-{
-    unit_blocks::ascii_bytes(u32x16::from_array(first_numbers(points)?))
-}
 
 impl<A: Allocator> Wtf8Buf<A> {
     /// Appends code points in order; a trail surrogate joins a lead before it. Reserves as many bytes as the iterator's
@@ -77,35 +54,6 @@ impl<A: Allocator> Wtf8Buf<A> {
         ensures capacity { self.old.capacity ≤ self.new.capacity }
     {
         self.reserve(points.len())?;
-        let count = self.push_ascii_front(points);
-        let (_, rest) = points.split_at(count);
-        self.push_each(rest)
-    }
-
-    /// Appends the ASCII code points at the front of a slice by blocks of sixteen, for which there is room; answers how many.
-    #[inline(always)]
-    fn push_ascii_front(&mut self, points: &[CodePoint]) -> usize
-        requires { length self.old.bytes + length points.now ≤ self.old.capacity }
-        ensures within { result ≤ length points.now }
-        ensures appended { AppendsPoints self.old (take result points.now) self.new }
-        ensures capacity { self.old.capacity ≤ self.new.capacity }
-    {
-        let mut at = 0;
-        while let Some(block) = ascii_points(&points[at..]) {
-            self.push_ascii(&block);
-            at += NUMBERS;
-        }
-        at
-    }
-
-    /// Appends the code points of a slice, one after another.
-    fn push_each(&mut self, points: &[CodePoint]) -> Result<(), AllocError>
-        ensures ok { OnOk result (AppendsPoints self.old points.now self.new) }
-        ensures err { OnErr result ((n : ℕ) × AppendsPoints self.old (take n points.now) self.new) }
-        ensures room { HasRoomFor self.old (units (numbers points.now)) → IsOk result }
-        ensures empty { points.now ≡ [] → IsOk result }
-        ensures capacity { self.old.capacity ≤ self.new.capacity }
-    {
         for code_point in points {
             self.push(*code_point)?;
         }

@@ -3,6 +3,3 @@ pub(crate) mod decode;
 pub(crate) mod mixed_blocks;
 pub(crate) mod rows;
 pub(crate) mod unit_blocks;
-
-/// How many numbers, of units or of code points, are turned into bytes together.
-pub(crate) const NUMBERS: usize = 16;

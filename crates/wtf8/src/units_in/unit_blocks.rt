@@ -5,14 +5,17 @@ ghost use Rattle.wtf8.specs.private.UnitParts.{IsKnownForm, IsReadTo, AreAscii};
 
 use crate::lanes::masks::first_set;
 use crate::numbers::encoding;
-use crate::units_in::{NUMBERS, decode, mixed_blocks};
+use crate::units_in::{decode, mixed_blocks};
 use std::alloc::{AllocError, Allocator};
 use std::simd::prelude::*;
 
-/// How many units are looked at together for ASCII where there are so many.
+/// The code units of a block that is searched for its ASCII front, while this many are left.
 const MANY: usize = 2 * NUMBERS;
 
-/// The fewest units that are looked at together.
+/// The code units of such a block near the end.
+const NUMBERS: usize = 16;
+
+/// The code units of the smallest such block.
 const HALF: usize = NUMBERS / 2;
 
 /// How many bytes of units of other kinds are written before they are appended.
@@ -20,34 +23,6 @@ const LONG: usize = 256;
 
 /// How many where few units are left.
 const SHORT: usize = 80;
-
-/// Whether all of sixteen numbers are below 0x80.
-#[inline(always)]
-fn are_ascii(numbers: u32x16) -> bool
-    ensures { IsTrue result → AreAscii numbers }
-{
-    numbers.simd_ge(u32x16::splat(0x80)).to_bitmask() == 0
-}
-
-/// Sixteen numbers below 0x80 as bytes.
-#[inline(always)]
-fn narrowed(numbers: u32x16) -> [u8; NUMBERS]
-    requires { AreAscii numbers }
-    ensures { result ≡ numbers }
-{
-    numbers.cast::<u8>().to_array()
-}
-
-/// Sixteen numbers as bytes, if all of them are below 0x80.
-#[inline(always)]
-pub(crate) fn ascii_bytes(numbers: u32x16) -> Option<[u8; NUMBERS]>
-    ensures { IfSome result (λ block. AreAscii block × (block ≡ numbers)) }
-{
-    if are_ascii(numbers) {
-        return Some(narrowed(numbers));
-    }
-    None
-}
 
 /// Units as bytes, each above 0xFF as 0xFF.
 #[inline(always)]

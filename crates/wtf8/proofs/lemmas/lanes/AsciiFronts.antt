@@ -9,7 +9,6 @@ use Rattle.std.proofs.lemmas.Simd.{zip2_splat_left, Each1-from_get_or, Each2-spl
 use mir.Syntax.{Width}
 use mir.Val.{bits, hbits}
 use Rattle.wtf8.specs.private.FirstPlace.{IsFirstBelow, IsFirstSet, IsSet}
-use Rattle.wtf8.proofs.lemmas.lanes.Masks.{none_set}
 
 -- what the mask of the lanes that are not ASCII says of those before its first
 module _ (w : Width) (n : ℕ) (xs : List ℕ) (few : n ≤ 64) (long : length xs ≡ n) where
@@ -25,9 +24,6 @@ module _ (w : Width) (n : ℕ) (xs : List ℕ) (few : n ≤ 64) (long : length x
       let lane = get_or-map (leb 0x80) xs i 0 false (omega (arith, inside, le, long)) in
       let low : get_or xs i 0 < 0x80 = elim (cases_lt (get_or xs i 0) 0x80) [ inl l ↦ l | inr g ↦ absurd (none i (omega arith) inside (lane ∙ le-leb 0x80 _ g)) ] in
       subst (λ n. n < 0x80) (sym (get_or-take k xs i 0 inside)) low)
-
-  pub all_ascii : others ≡ 0 → AreAscii (take n xs)
-  all_ascii e = ascii n (omega arith) (none_set others n (map (leb 0x80) xs) few (length-map xs (leb 0x80) ∙ long) told e)
 
   pub ascii_before : (r : Option ℕ) → IsFirstSet others r → (unwrap_or r n ≤ n) × AreAscii (take (unwrap_or r n) xs)
   ascii_before r first = by r (first n (map (leb 0x80) xs) few (length-map xs (leb 0x80) ∙ long) told)

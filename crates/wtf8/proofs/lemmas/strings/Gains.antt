@@ -22,10 +22,6 @@ use Rattle.wtf8.proofs.lemmas.strings.Positions.{begun}
 pub contents_of : (new old : UnitString) → new.bytes ≡ old.bytes → KeepsContents old new
 contents_of new old e = record { units = units_from_form new.bytes new.units old.units new.form (subst (λ w. IsForm w old.units) (sym e) old.form); bytes = e }
 
--- bytes that gained units are well-formed, and their units are the old ones and these
-pub gained_units : {old new u v : List ℕ} (h : IsWellFormed old) (k : IsWellFormed new) → units h.points ≡ u → GainsUnits old new v → units k.points ≡ u ++ v
-gained_units {new} {v} h k e gained = units_from_form new (units k.points) _ (form_of k) (gained _ (form_of h)) ∙ ap (λ x. x ++ v) e
-
 module _ {T E Z : Type 0} {b n : Vec ℕ Z} {v : List ℕ} {r : Result T E} where
   -- a string whose bytes a call gave units, as `was` and `old` see it before the call
   pub units_appended : (was old : UnitString) (k : IsWellFormed n.items) → was ≡ old → was.bytes ≡ b.items → Gains b v n r → OnOk r (units k.points ≡ old.units ++ v)
@@ -207,7 +203,7 @@ none_before k h i s l at =
     s p.front p.point p.back p.joined (omega (arith, l, p.front_len)) p.surrogate
 
 -- what a buffer holds whose bytes gained units: well-formed bytes, with no surrogate before the place that is told
-pub known_behind_gain : (c v : List ℕ) (k n : ℕ) {old new : List ℕ} (h : IsWellFormed old) → v ≡ units c → IsClean c → AreScalarTo k h.points → n ≤ k
+known_behind_gain : (c v : List ℕ) (k n : ℕ) {old new : List ℕ} (h : IsWellFormed old) → v ≡ units c → IsClean c → AreScalarTo k h.points → n ≤ k
     → (length old < n → AreScalar c) → GainsUnits old new v → (x : IsWellFormed new) × (AreScalarTo n x.points × Unit {0})
 known_behind_gain c v k n h e x s l t gained =
     let f = gained (units h.points) (form_of h) in

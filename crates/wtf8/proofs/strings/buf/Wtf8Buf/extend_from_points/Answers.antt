@@ -1,6 +1,7 @@
-use Rattle.wtf8.proofs.Common.{◌++◌, ◌+◌, ◌∙◌, ap, arith, false≢true, numbers, take, units, on_err_weaker}
-use Rattle.wtf8.proofs.lemmas.strings.AsciiEnds.{points_more}
-use Rattle.wtf8.proofs.lemmas.strings.Gains.{extended_length}
+use Rattle.wtf8.proofs.Common.{ℕ, rules, ◌≡◌, ◌+◌, ◌++◌, ◌∷◌, ◌<◌, ◌∙◌, length, take, drop, arith, ap, sym, append_assoc, false≢true, number, numbers, units}
+use Rattle.wtf8.proofs.Common.{units_of}
+use Rattle.wtf8.proofs.lemmas.strings.Concatenation.{item_at}
+use Rattle.wtf8.proofs.lemmas.strings.Gains.{beginning, extended_length, units-points}
 use Rattle.wtf8.proofs.strings.buf.Wtf8Buf.extend_from_points.Goals as goal
 
 pub returns-in_err-reserve-clause-room : goal.returns-in_err-reserve-clause-room
@@ -8,10 +9,21 @@ returns-in_err-reserve-clause-room g c fit =
     let long = extended_length c.args.points.now c.args.self.now.bytes c.args.self.now.units fit.whole c.args.self.now.form fit.form in
     absurd (false≢true (c.in_err-reserve.ensures.room (omega (arith, fit.within))))
 
-pub returns-clause-err : goal.returns-clause-err
-returns-clause-err g c =
-    let count = c.push_ascii_front-count.result in
-    let u = c.args.self.now.units in
-    let front = units (numbers (take count c.args.points.now)) in
-    let so_far = c.push_ascii_front-count.ensures.appended ∙ ap (λ v. v ++ front) c.reserve.ensures.units in
-    on_err_weaker c.push_each.result (λ k. (count + k.0, points_more c.args.points.now count k.0 u so_far (rw c.split_at.ensures.back at k.1))) c.push_each.ensures.err
+pub returns-in_err-push-clause-room : goal.returns-in_err-push-clause-room
+returns-in_err-push-clause-room g c fit =
+    let i = c.loop-code_point.code_point-index in
+    let ps = c.args.points.now in
+    let p = c.code_point-item.result in
+    let below : i < length ps = omega arith in
+    let inv = c.loop-code_point.invariant in
+    let all = ap (λ d. units (numbers d)) (sym (item_at ps i p below c.code_point-item.is)) ∙ units-points (take i ps) (p ∷ drop (i + 1) ps) in
+    let rest = units (numbers (drop (i + 1) ps)) in
+    let whole : c.args.self.now.units ++ units (numbers ps) ≡ c.loop-code_point.self.units ++ (units_of (number p) ++ rest) = rw (all, inv.0, append_assoc) in
+    let next = beginning (c.loop-code_point.self.units ++ units_of (number p)) rest fit.whole (rw (append_assoc, ← whole) fit.form) in
+    absurd (false≢true (c.in_err-push.ensures.room (record { whole = next.whole; form = next.form; within = omega (arith, next.within, fit.within, inv.1) })))
+
+pub returns-in_err-push-clause-err : goal.returns-in_err-push-clause-err
+returns-in_err-push-clause-err g c =
+    let so_far : (n : ℕ) × (c.push.new.self.units ≡ c.args.self.now.units ++ units (numbers (take n c.args.points.now))) =
+    (c.loop-code_point.code_point-index, c.in_err-push.ensures.kept.units ∙ c.loop-code_point.invariant.0) in
+    search (rules, so_far)

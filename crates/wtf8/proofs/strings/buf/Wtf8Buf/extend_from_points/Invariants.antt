@@ -1,5 +1,5 @@
 use Rattle.wtf8.proofs.Common.{◌≡◌, ◌++◌, ◌≤◌, take, numbers, units}
-use Rattle.wtf8.proofs.strings.buf.Wtf8Buf.push_each.Given as goal
+use Rattle.wtf8.proofs.strings.buf.Wtf8Buf.extend_from_points.Given as goal
 
 -- the points so far are appended, and the capacity is no smaller
 abbrev pub invariant-loop-code_point : goal.invariant-loop-code_point
