@@ -1,5 +1,6 @@
 // What a word stands for.
 ghost use Rattle.std.specs.Prelude.{◌≡◌, ◌==◌, ◌≤◌, ◌<◌, ◌^◌, ◌∷◌, ℕ, List, option_map, Some, IfSome, IfNone, MatchOption};
+ghost use Rattle.std.specs.Char.{digit_value};
 ghost use Rattle.std.specs.List.{slice_split};
 ghost use Rattle.wtf8.specs.CodePoint.{number};
 ghost use Rattle.dump_lines.specs.Parts.{parts_left};
@@ -71,8 +72,35 @@ fn read_number(word: &[u8], base: u32, least: usize, most: usize) -> Option<u32>
     }
     let mut number = 0;
     for byte in word {
-        let digit = char::from(*byte).to_digit(base)?;
+        let digit = digit_of(*byte);
+        if digit >= base {
+            return None;
+        }
         number = number * base + digit;
     }
     Some(number)
+}
+
+/// The value of each byte as a digit, a letter of either case from 10 on, or 36 for any other byte. A table, since tests of
+/// ranges have branches that a processor mispredicts if figures and letters mix.
+const DIGITS: [u8; 256] = [
+    36, 36, 36, 36, 36, 36, 36, 36, 36, 36, 36, 36, 36, 36, 36, 36, 36, 36, 36, 36, 36, 36, 36, 36,
+    36, 36, 36, 36, 36, 36, 36, 36, 36, 36, 36, 36, 36, 36, 36, 36, 36, 36, 36, 36, 36, 36, 36, 36,
+    0, 1, 2, 3, 4, 5, 6, 7, 8, 9, 36, 36, 36, 36, 36, 36, 36, 10, 11, 12, 13, 14, 15, 16, 17, 18,
+    19, 20, 21, 22, 23, 24, 25, 26, 27, 28, 29, 30, 31, 32, 33, 34, 35, 36, 36, 36, 36, 36, 36, 10,
+    11, 12, 13, 14, 15, 16, 17, 18, 19, 20, 21, 22, 23, 24, 25, 26, 27, 28, 29, 30, 31, 32, 33, 34,
+    35, 36, 36, 36, 36, 36, 36, 36, 36, 36, 36, 36, 36, 36, 36, 36, 36, 36, 36, 36, 36, 36, 36, 36,
+    36, 36, 36, 36, 36, 36, 36, 36, 36, 36, 36, 36, 36, 36, 36, 36, 36, 36, 36, 36, 36, 36, 36, 36,
+    36, 36, 36, 36, 36, 36, 36, 36, 36, 36, 36, 36, 36, 36, 36, 36, 36, 36, 36, 36, 36, 36, 36, 36,
+    36, 36, 36, 36, 36, 36, 36, 36, 36, 36, 36, 36, 36, 36, 36, 36, 36, 36, 36, 36, 36, 36, 36, 36,
+    36, 36, 36, 36, 36, 36, 36, 36, 36, 36, 36, 36, 36, 36, 36, 36, 36, 36, 36, 36, 36, 36, 36, 36,
+    36, 36, 36, 36, 36, 36, 36, 36, 36, 36, 36, 36, 36, 36,
+];
+
+/// The value of a byte as a digit, which is 36 for a byte that is none.
+#[inline(always)]
+fn digit_of(byte: u8) -> u32
+    ensures { result ≡ digit_value byte }
+{
+    u32::from(DIGITS[byte as usize])
 }
