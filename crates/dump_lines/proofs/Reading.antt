@@ -1,0 +1,22 @@
+-- The words of a line that were read so far.
+use Rattle.std.proofs.Common.{◌≡◌, ℕ, List, [], ◌∷◌, ◌++◌, sym, ◌∙◌, append_assoc}
+use Rattle.std.specs.List.{AllZip}
+use Rattle.wtf8.specs.declared.strings.build.Build.{Build}
+use Rattle.dump_lines.specs.Lines.{words}
+use Rattle.dump_lines.specs.Word.{IsCall}
+use Rattle.dump_lines.proofs.Answering.{AllZip-one_more}
+
+-- The words in front stand for the calls, and the others are left.
+pub record AreRead (line : List ℕ) (rest : List (List ℕ)) (calls : List Build) : Type 0 where
+  pub front : List (List ℕ)
+  pub split : words line ≡ front ++ rest
+  pub each : AllZip IsCall front calls
+
+-- one more word is read
+pub AreRead-more : (line word : List ℕ) (rest : List (List ℕ)) (calls : List Build) (call : Build) → AreRead line (word ∷ rest) calls → IsCall word call
+    → AreRead line rest (calls ++ call ∷ [])
+AreRead-more line word rest calls call r is = record {
+  front = r.front ++ word ∷ [];
+  split = r.split ∙ sym (append_assoc r.front (word ∷ []) rest);
+  each = AllZip-one_more IsCall r.front calls word call r.each is;
+}

@@ -1,0 +1,61 @@
+-- Splitting at the first separator.
+use Rattle.std.proofs.Common.{◌≡◌, ◌≢◌, ℕ, ◌+◌, ◌<◌, ◌≤◌, ◌==◌, Bool, false, List, [], ◌∷◌, ◌++◌, length, get_or, take, drop, All, refl, sym, ap, ◌∙◌}
+use Rattle.std.proofs.Common.{inl, inr, arith, eq-eqb, length-take-le, take-append-drop, take_all, Option, Some, None, IfNone, unwrap_or, subst}
+use Rattle.std.specs.Borrow.{Bor}
+use Rattle.std.specs.List.{slice_split, onto_first}
+use Rattle.std.proofs.lemmas.Bool.{cases_Bool, ne_eqb}
+use Rattle.std.proofs.lemmas.List.{drop_more, get_or-take}
+use Rattle.std.proofs.lemmas.List.Elements.{All-from_get_or}
+use Rattle.std.proofs.lemmas.List.Splits.{slice_split_at, slice_split_none, slice_split-cons_yes, slice_split-cons_no}
+use Rattle.dump_lines.specs.Lines.{without_empty_end, lines}
+use Rattle.dump_lines.specs.Parts.{parts_left}
+
+-- no separator stands at a place below i
+module _ (separator : ℕ) (xs : List ℕ) (i : ℕ) (none : (k : ℕ) → k < i → get_or xs k 0 ≢ separator) where
+  in_front : i ≤ length xs → All (λ b. (b == separator) ≡ false) (take i xs)
+  in_front within = All-from_get_or (λ b. (b == separator) ≡ false) (take i xs) 0 (λ k lt.
+      let inside : k < i = omega (arith, lt, length-take-le i xs within) in
+      ne_eqb _ separator (λ is. none k inside (sym (get_or-take i xs k 0 inside) ∙ is)))
+
+  -- one there ends the first part
+  pub split_there : i < length xs → get_or xs i 0 ≡ separator
+      → slice_split (λ b. b == separator) xs ≡ take i xs ∷ slice_split (λ b. b == separator) (drop (i + 1) xs)
+  split_there lt is =
+      let parts : xs ≡ take i xs ++ get_or xs i 0 ∷ drop (i + 1) xs = sym (take-append-drop i xs) ∙ ap (λ zs. take i xs ++ zs) (drop_more xs i 0 lt) in
+      ap (slice_split (λ b. b == separator)) parts
+      ∙ slice_split_at (λ b. b == separator) (take i xs) (get_or xs i 0) (drop (i + 1) xs) (in_front (omega arith)) (eq-eqb _ _ is)
+
+  -- at the end all is one part
+  pub split_nowhere : i ≡ length xs → slice_split (λ b. b == separator) xs ≡ xs ∷ []
+  split_nowhere end = slice_split_none _ xs (subst (All (λ b. (b == separator) ≡ false)) (take_all i xs (omega (arith, end))) (in_front (omega (arith, end))))
+
+-- there is a first part
+some_part : (p : ℕ → Bool) (xs : List ℕ) → (first : List ℕ) × (rest : List (List ℕ)) × (slice_split p xs ≡ first ∷ rest)
+some_part p [] = ([], [], refl)
+some_part p (x ∷ xs) =
+    let more = some_part p xs in
+    elim (cases_Bool (p x)) [
+      | inl passes ↦ ([], slice_split p xs, slice_split-cons_yes p x xs passes)
+      | inr fails ↦ (x ∷ more.0, more.1, slice_split-cons_no p x xs fails ∙ ap (onto_first x) more.2)
+    ]
+
+-- a part before others stays
+kept_before : (part next : List ℕ) (parts : List (List ℕ)) → without_empty_end (part ∷ next ∷ parts) ≡ part ∷ without_empty_end (next ∷ parts)
+kept_before [] next parts = refl
+kept_before (b ∷ bs) next parts = refl
+
+-- what is not empty is one line where it has no newline
+one_line : (bytes : List ℕ) → bytes ≢ [] → without_empty_end (bytes ∷ []) ≡ bytes ∷ []
+one_line [] h = absurd (h refl)
+one_line (b ∷ bs) h = refl
+
+-- the first line and the lines after it
+pub lines_step : (bytes line : List ℕ) (after : Option (Bor (List ℕ))) (end rest : Bor (List ℕ)) → bytes ≢ []
+    → slice_split (λ b. b == 10) bytes ≡ line ∷ parts_left 10 after
+    → IfNone after (line ≡ bytes) → end.now ≡ [] → rest ≡ unwrap_or after end → lines bytes ≡ line ∷ lines rest.now
+lines_step bytes line None end rest h split whole empty is =
+    ap without_empty_end split ∙ one_line line (λ e. h (sym whole ∙ e)) ∙ ap (λ r. line ∷ lines r) (sym empty ∙ ap (λ r. r.now) (sym is))
+lines_step bytes line (Some r) end rest h split whole empty is =
+    let more = some_part (λ b. b == 10) r.now in
+    ap without_empty_end (split ∙ ap (λ parts. line ∷ parts) more.2) ∙ kept_before line more.0 more.1
+    ∙ ap (λ parts. line ∷ without_empty_end parts) (sym more.2) ∙ ap (λ b. line ∷ lines b.now) (sym is)

@@ -1,0 +1,11 @@
+use Rattle.std.proofs.Common.{length}
+use Rattle.dump_lines.specs.Parts.{parts_left}
+use Rattle.dump_lines.proofs.Reading.{AreRead}
+use Rattle.dump_lines.proofs.line.read_calls.Given as goal
+
+-- the words so far stand for the calls
+abbrev pub invariant-loop-rest : goal.invariant-loop-rest
+invariant-loop-rest g l = AreRead l.line (parts_left 32 l.rest) l.calls.items
+
+abbrev pub decreases-loop-rest : goal.decreases-loop-rest
+decreases-loop-rest g l = length (parts_left 32 l.rest)

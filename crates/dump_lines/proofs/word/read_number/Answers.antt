@@ -1,0 +1,29 @@
+use Rattle.std.proofs.Common.{sym, ◌∙◌, arith}
+use Rattle.dump_lines.proofs.Digits.{no_number, next_digits, next_number, next_below, next_rest}
+use Rattle.dump_lines.proofs.word.read_number.Goals as goal
+
+pub returns-then-digit-base : goal.returns-then-digit-base
+returns-then-digit-base c = sym (no_number _ _ _ _ _ c.loop-byte-test.true (omega arith))
+
+pub overflow_mul-number : goal.overflow_mul-number
+overflow_mul-number c =
+    omega (
+      arith,
+      next_below _ _ _ _ _ c.loop-byte-test.true (omega arith) c.digit_of-digit.ensures c.args.most c.requires.least_base (omega arith)
+          c.loop-byte.invariant.spelled c.loop-byte.invariant.digits,
+    )
+
+pub overflow_add-number : goal.overflow_add-number
+overflow_add-number c =
+    omega (
+      arith,
+      next_below _ _ _ _ _ c.loop-byte-test.true (omega arith) c.digit_of-digit.ensures c.args.most c.requires.least_base (omega arith)
+          c.loop-byte.invariant.spelled c.loop-byte.invariant.digits,
+    )
+
+pub loop-byte-preserved : goal.loop-byte-preserved
+loop-byte-preserved c = record {
+  spelled = next_number _ _ _ _ _ c.loop-byte-test.true (omega arith) c.digit_of-digit.ensures c.loop-byte.invariant.spelled;
+  digits = next_digits _ _ _ c.loop-byte.number _ c.loop-byte-test.true (omega arith) c.digit_of-digit.ensures c.loop-byte.invariant.digits;
+  rest = c.loop-byte.invariant.rest ∙ next_rest _ _ _ c.loop-byte.number _ c.loop-byte-test.true (omega arith) c.digit_of-digit.ensures;
+}

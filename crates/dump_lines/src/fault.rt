@@ -1,0 +1,38 @@
+// Why a run stopped.
+ghost use Rattle.std.specs.Prelude.{◌≡◌};
+
+/// Why a run stopped before its end.
+#[derive(Clone, Copy, PartialEq, Eq, Debug)]
+pub enum Fault {
+    /// A read answered an error.
+    Read = 1,
+    /// A write or the closing flush answered an error, or a write took no byte.
+    Write = 2,
+    /// A growth of memory was refused.
+    Memory = 3,
+}
+
+impl Fault {
+    ghost use Rattle.dump_lines.specs.Fault.{status_of, text_of};
+
+    /// The exit status that the program ends with: 1 for a failed read or write, 2 for want of memory.
+    pub fn status(&self) -> u8
+        ensures { result ≡ status_of self.now }
+    {
+        match self {
+            Fault::Read | Fault::Write => 1,
+            Fault::Memory => 2,
+        }
+    }
+
+    /// The text that the program prints, in lower-case words with no newline.
+    pub fn text(&self) -> &'static str
+        ensures { result.now ≡ text_of self.now }
+    {
+        match self {
+            Fault::Read => "read failed",
+            Fault::Write => "write failed",
+            Fault::Memory => "out of memory",
+        }
+    }
+}

@@ -1,0 +1,96 @@
+// The answer to one line.
+ghost use Rattle.std.specs.Prelude.{◌≡◌, ℕ, List, ◌++◌, IfOk, OnOk, MatchBool};
+ghost use Rattle.std.specs.List.{Any, AllZip};
+ghost use Rattle.wtf8.specs.Hex.{hex};
+ghost use Rattle.dump_lines.specs.Dump.{IsAnswer, note};
+ghost use Rattle.dump_lines.specs.Lines.{words};
+ghost use Rattle.dump_lines.specs.Word.{IsCall, IsNoCall};
+
+use crate::word::read_first_word;
+use std::alloc::{AllocError, Allocator};
+use wtf8::{Build, Wtf8Buf};
+
+/// Room that is kept from line to line: for the calls of a line, and for the string that they build.
+#[derive(Drop)]
+pub struct Workspace<A: Allocator> {
+    calls: Vec<Build<'static>, A>,
+    string: Wtf8Buf<A>,
+    alloc: A,
+}
+
+impl<A: Allocator + Copy> Workspace<A> {
+    /// A workspace with no room yet. It asks for no memory.
+    pub fn new(alloc: A) -> Workspace<A> {
+        Workspace {
+            calls: Vec::new(alloc),
+            string: Wtf8Buf::new(alloc),
+            alloc,
+        }
+    }
+
+    /// Appends the answer to a line, both without a newline: the bytes, in hexadecimal, of the string that the line's
+    /// calls build from the empty one, or `?` where some word stands for no call, and no call was applied then. Where
+    /// truncations were refused, `!` and how many follows, behind a space where there are bytes.
+    ///
+    /// A word is 4 to 6 hexadecimal digits of either case, which push the code point of that number, at most 0x10FFFF;
+    /// `-` and 1 to 9 decimal digits, which truncate at that position in bytes; or `/` and 1 to 9 decimal digits, which
+    /// truncate at that number of 16-bit units. A newline inside the line stands in no word. An `Err` comes only where a
+    /// growth of memory was refused.
+    pub fn push_answer(&mut self, line: &[u8], out: &mut Vec<u8, A>) -> Result<(), AllocError>
+        ensures answer { OnOk result ((answer : List ℕ) × IsAnswer line.now answer × (out.new.items ≡ out.old.items ++ answer)) }
+    {
+        if line.is_empty() {
+            return Ok(());
+        }
+        if !read_calls(line, &mut self.calls)? {
+            return Ok(out.push(b'?')?);
+        }
+        self.string.clear();
+        let Ok(refused) = self.string.apply_all(self.calls.as_slice()) else {
+            return Err(AllocError);
+        };
+        self.push_dump_with_note(refused, out)
+    }
+
+    /// Appends the bytes of the string in hexadecimal, and behind them how many truncations were refused where some were.
+    fn push_dump_with_note(&self, refused: usize, out: &mut Vec<u8, A>) -> Result<(), AllocError>
+        ensures { OnOk result (out.new.items ≡ out.old.items ++ (hex self.now.string.bytes ++ note self.now.string.bytes refused)) }
+    {
+        self.string.as_wtf8().append_hex_dump(out)?;
+        if refused == 0 {
+            return Ok(());
+        }
+        let space = if self.string.is_empty() { "" } else { " " };
+        let note = format!(in self.alloc; "{space}!{refused}")?;
+        out.extend_from_slice(note.as_bytes())
+    }
+}
+
+/// Reads the calls of a line's words in the place of those that were there, and answers whether each word stands for one.
+fn read_calls<A: Allocator>(
+    line: &[u8],
+    calls: &mut Vec<Build<'static>, A>,
+) -> Result<bool, AllocError>
+    ensures { IfOk result (λ all. MatchBool all (AllZip IsCall (words line.now) calls.new.items) (Any IsNoCall (words line.now))) }
+{
+    calls.clear();
+    let mut rest = if line.is_empty() { None } else { Some(line) };
+    while let Some(bytes) = rest {
+        let (call, after) = read_first_word(bytes);
+        let Some(call) = call else {
+            return Ok(false);
+        };
+        calls.push(call)?;
+        rest = after;
+    }
+    Ok(true)
+}
+
+/// The answer to a line by itself.
+pub fn dump_line<A: Allocator + Copy>(alloc: A, line: &[u8]) -> Result<Vec<u8, A>, AllocError>
+    ensures answer { IfOk result (λ answer. IsAnswer line.now answer.items) }
+{
+    let mut answer = Vec::new(alloc);
+    Workspace::new(alloc).push_answer(line, &mut answer)?;
+    Ok(answer)
+}

@@ -1,0 +1,41 @@
+// Bytes split at a separator.
+ghost use Rattle.std.specs.Prelude.{◌≡◌, ◌≢◌, ◌==◌, ◌≤◌, ◌<◌, ◌∷◌, ℕ, length, slice_index, IfNone};
+ghost use Rattle.std.specs.List.{slice_split};
+ghost use Rattle.dump_lines.specs.Parts.{parts_left};
+
+use std::simd::prelude::*;
+
+/// How many bytes are searched for a separator together.
+const LANES: usize = 16;
+
+/// The bytes before the first separator, and those after it where there is one.
+pub fn split_first_part(bytes: &[u8], separator: u8) -> (&[u8], Option<&[u8]>)
+    ensures parts { slice_split (λ byte. byte == separator) bytes.now ≡ result.0.now ∷ parts_left separator result.1 }
+    ensures whole { IfNone result.1 (result.0.now ≡ bytes.now) }
+{
+    let mut at = skip_blocks(bytes, separator);
+    while at < bytes.len() {
+        if bytes[at] == separator {
+            return (&bytes[..at], Some(&bytes[at + 1..]));
+        }
+        at += 1;
+    }
+    (bytes, None)
+}
+
+/// How many bytes at the front hold no separator, as far as blocks tell.
+#[inline(always)]
+fn skip_blocks(bytes: &[u8], separator: u8) -> usize
+    ensures within { result ≤ length bytes.now }
+    ensures none { (k : ℕ) → k < result → slice_index bytes.now k ≢ separator }
+{
+    let mut at = 0;
+    while LANES <= bytes.len() - at {
+        let found = u8x16::from_slice(&bytes[at..]).simd_eq(u8x16::splat(separator));
+        if found.to_bitmask() != 0 {
+            return at;
+        }
+        at += LANES;
+    }
+    at
+}

@@ -1,0 +1,106 @@
+// What a word stands for.
+ghost use Rattle.std.specs.Prelude.{◌≡◌, ◌==◌, ◌≤◌, ◌<◌, ◌^◌, ◌∷◌, ℕ, List, option_map, Some, IfSome, IfNone, MatchOption};
+ghost use Rattle.std.specs.Char.{digit_value};
+ghost use Rattle.std.specs.List.{slice_split};
+ghost use Rattle.wtf8.specs.CodePoint.{number};
+ghost use Rattle.dump_lines.specs.Parts.{parts_left};
+ghost use Rattle.dump_lines.specs.Word.{bounded_number, number_behind, point_of, IsCall, IsNoCall};
+
+use crate::parts::split_first_part;
+use wtf8::{Build, CodePoint};
+
+/// How many digits most words have. A space behind so many is not searched for.
+const SHORT: usize = 4;
+
+/// The call that a first word stands for, or `None` where it stands for none, and the bytes after its space if there is one.
+pub fn read_first_word(bytes: &[u8]) -> (Option<Build<'static>>, Option<&[u8]>)
+    ensures { (word : List ℕ) × (slice_split (λ byte. byte == 32) bytes.now ≡ word ∷ parts_left 32 result.1)
+        × MatchOption result.0 (IsNoCall word) (IsCall word) }
+{
+    if SHORT < bytes.len() && bytes[SHORT] == b' ' {
+        if let Some(point) = read_point(&bytes[..SHORT]) {
+            return (Some(Build::Push(point)), Some(&bytes[SHORT + 1..]));
+        }
+    }
+    let (word, after) = split_first_part(bytes, b' ');
+    (read_call(word), after)
+}
+
+/// The call that a word stands for, or `None` where it stands for none.
+fn read_call(word: &[u8]) -> Option<Build<'static>>
+    ensures some { IfSome result (λ call. IsCall word.now call) }
+    ensures none { IfNone result (IsNoCall word.now) }
+{
+    if let Some(position) = read_number_behind(word, b'-') {
+        return Some(Build::Truncate(position as usize));
+    }
+    if let Some(units) = read_number_behind(word, b'/') {
+        return Some(Build::TruncateUnits(units as usize));
+    }
+    let point = read_point(word)?;
+    Some(Build::Push(point))
+}
+
+/// The code point that 4 to 6 hexadecimal digits stand for, or `None` for any other word.
+fn read_point(word: &[u8]) -> Option<CodePoint>
+    ensures { option_map number result ≡ point_of word.now }
+{
+    CodePoint::from_u32(read_number(word, 16, 4, 6)?)
+}
+
+/// The number that 1 to 9 decimal digits behind a mark spell, or `None` for any other word.
+fn read_number_behind(word: &[u8], mark: u8) -> Option<u32>
+    ensures { result ≡ number_behind mark word.now }
+{
+    let (first, digits) = word.split_first()?;
+    if *first != mark {
+        return None;
+    }
+    read_number(digits, 10, 1, 9)
+}
+
+/// The number that a word of at least `least` and at most `most` digits spells in a base, or `None` for any other word.
+#[inline(always)]
+fn read_number(word: &[u8], base: u32, least: usize, most: usize) -> Option<u32>
+    requires least_base { 2 ≤ base }
+    requires greatest_base { base ≤ 36 }
+    requires fits { base ^ most < 2 ^ 32 }
+    ensures { result ≡ bounded_number base least most word.now }
+{
+    if word.len() < least || word.len() > most {
+        return None;
+    }
+    let mut number = 0;
+    for byte in word {
+        let digit = digit_of(*byte);
+        if digit >= base {
+            return None;
+        }
+        number = number * base + digit;
+    }
+    Some(number)
+}
+
+/// The value of each byte as a digit, a letter of either case from 10 on, or 36 for any other byte. A table, since tests of
+/// ranges have branches that a processor mispredicts if figures and letters mix.
+const DIGITS: [u8; 256] = [
+    36, 36, 36, 36, 36, 36, 36, 36, 36, 36, 36, 36, 36, 36, 36, 36, 36, 36, 36, 36, 36, 36, 36, 36,
+    36, 36, 36, 36, 36, 36, 36, 36, 36, 36, 36, 36, 36, 36, 36, 36, 36, 36, 36, 36, 36, 36, 36, 36,
+    0, 1, 2, 3, 4, 5, 6, 7, 8, 9, 36, 36, 36, 36, 36, 36, 36, 10, 11, 12, 13, 14, 15, 16, 17, 18,
+    19, 20, 21, 22, 23, 24, 25, 26, 27, 28, 29, 30, 31, 32, 33, 34, 35, 36, 36, 36, 36, 36, 36, 10,
+    11, 12, 13, 14, 15, 16, 17, 18, 19, 20, 21, 22, 23, 24, 25, 26, 27, 28, 29, 30, 31, 32, 33, 34,
+    35, 36, 36, 36, 36, 36, 36, 36, 36, 36, 36, 36, 36, 36, 36, 36, 36, 36, 36, 36, 36, 36, 36, 36,
+    36, 36, 36, 36, 36, 36, 36, 36, 36, 36, 36, 36, 36, 36, 36, 36, 36, 36, 36, 36, 36, 36, 36, 36,
+    36, 36, 36, 36, 36, 36, 36, 36, 36, 36, 36, 36, 36, 36, 36, 36, 36, 36, 36, 36, 36, 36, 36, 36,
+    36, 36, 36, 36, 36, 36, 36, 36, 36, 36, 36, 36, 36, 36, 36, 36, 36, 36, 36, 36, 36, 36, 36, 36,
+    36, 36, 36, 36, 36, 36, 36, 36, 36, 36, 36, 36, 36, 36, 36, 36, 36, 36, 36, 36, 36, 36, 36, 36,
+    36, 36, 36, 36, 36, 36, 36, 36, 36, 36, 36, 36, 36, 36,
+];
+
+/// The value of a byte as a digit, which is 36 for a byte that is none.
+#[inline(always)]
+fn digit_of(byte: u8) -> u32
+    ensures { result ≡ digit_value byte }
+{
+    u32::from(DIGITS[byte as usize])
+}

@@ -1,0 +1,51 @@
+// Inputs without a last newline, a line with a newline inside, and the faults' statuses and texts. The program's stored run
+// has the other lines.
+use dump_lines::{Fault, dump_line, run};
+use std::alloc::Global;
+use std::test::Fail;
+
+/// Fails unless a run reads all of this input and writes this output.
+fn expect_output(alloc: Global, input: &str, expected: &str) -> Result<(), Fail> {
+    let mut rest = input.as_bytes();
+    let mut out = Vec::new(alloc);
+    let result = run(alloc, &mut rest, &mut out);
+    if result.is_err() || !rest.is_empty() || out.as_slice() != expected.as_bytes() {
+        return Err(Fail::new(format_args!("wrote {out:?} at {input:?}")));
+    }
+    Ok(())
+}
+
+#[test]
+fn the_last_line_needs_no_newline(rt: HostRuntime) -> Result<(), Fail> {
+    for (input, expected) in [
+        ("", ""),
+        ("0061", "61\n"),
+        ("0061\n", "61\n"),
+        ("\n\n", "\n\n"),
+        ("\n0061", "\n61\n"),
+        ("0061\n061", "61\n?\n"),
+    ] {
+        expect_output(rt.alloc(), input, expected)?;
+    }
+    Ok(())
+}
+
+#[test]
+fn a_newline_inside_a_line_is_malformed(rt: HostRuntime) -> Result<(), Fail> {
+    let output = dump_line(rt.alloc(), b"0061\n0062")?;
+    assert_eq!(rt; output.as_slice(), b"?".as_slice());
+    Ok(())
+}
+
+#[test]
+fn faults_have_their_statuses_and_texts(rt: HostRuntime) {
+    for (fault, number, status, text) in [
+        (Fault::Read, 1, 1, "read failed"),
+        (Fault::Write, 2, 1, "write failed"),
+        (Fault::Memory, 3, 2, "out of memory"),
+    ] {
+        assert_eq!(rt; fault as u8, number);
+        assert_eq!(rt; fault.status(), status);
+        assert_eq!(rt; fault.text(), text);
+    }
+}

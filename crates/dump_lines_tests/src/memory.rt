@@ -1,0 +1,110 @@
+// Requests for memory, each refused in turn, for good or alone.
+use dump_lines::{Fault, dump_line, run};
+use refusing::{REFUSALS, Refusal, Refusing};
+use std::alloc::Global;
+use std::test::Fail;
+
+type Lent<'a> = &'a Refusing<Global>;
+
+/// Lines with their outputs, how many requests each makes, and for how many bytes altogether: for the list of calls, of 24
+/// bytes each, which has room for four at first and then for twice as many each time; for the string, of eight bytes at
+/// first; for the dump, all at once; and two for a count, one for its text and one to append it. A malformed line needs its
+/// list and its output alone.
+fn rows() -> [(&'static str, &'static str, u64, usize); 8] {
+    [
+        ("", "", 0, 0),
+        ("0061", "61", 3, 96 + 8 + 8),
+        ("D83D DCA9", "F0 9F 92 A9", 3, 96 + 8 + 12),
+        ("-1", "!1", 3, 96 + 8 + 8),
+        (
+            "0061 00E9 0020 D83D DCA9",
+            "61 C3 A9 20 F0 9F 92 A9",
+            4,
+            96 + 192 + 8 + 24,
+        ),
+        ("?", "?", 1, 8),
+        ("0061 D83D DCA9 -1 ?", "?", 2, 96 + 8),
+        ("0061 D83D DCA9 -1 /1 ?", "?", 3, 96 + 192 + 8),
+    ]
+}
+
+/// Fails unless a line has this output after this number of requests for this number of bytes, and an error if one of the
+/// requests is refused, after which no other is made.
+fn expect_requests(
+    heap: Lent<'_>,
+    line: &[u8],
+    expected: &[u8],
+    requests: u64,
+    bytes: usize,
+) -> Result<(), Fail> {
+    for refusal in REFUSALS {
+        for granted in 0..requests {
+            heap.refuse_after(granted, refusal);
+            let is_refused = dump_line(heap, line).is_err();
+            if !is_refused || heap.requests() != granted.wrapping_add(1) {
+                return Err(Fail::new(format_args!("{granted} granted at {line:?}")));
+            }
+        }
+    }
+    heap.grant(99);
+    let output = dump_line(heap, line)?;
+    if output.as_slice() != expected || heap.requests() != requests || heap.bytes() != bytes {
+        return Err(Fail::new(format_args!("all granted at {line:?}")));
+    }
+    Ok(())
+}
+
+#[test]
+fn dump_line_ends_at_a_refused_request(rt: HostRuntime) -> Result<(), Fail> {
+    let heap = Refusing::new(rt.alloc(), 0);
+    for (line, expected, requests, bytes) in rows() {
+        expect_requests(&heap, line.as_bytes(), expected.as_bytes(), requests, bytes)?;
+    }
+    Ok(())
+}
+
+#[test]
+fn a_long_malformed_line_needs_its_list_and_its_output(rt: HostRuntime) -> Result<(), Fail> {
+    let mut line = Vec::new(rt.alloc());
+    for _ in 0..1000 {
+        line.extend_from_slice(b"0061 ")?;
+    }
+    line.extend_from_slice(b"061")?;
+    let heap = Refusing::new(rt.alloc(), 0);
+    // The list has room for 4, 8 and so on up to 1,024 calls, which is nine requests, and the output is the tenth.
+    expect_requests(&heap, line.as_slice(), b"?", 10, 24 * 2044 + 8)
+}
+
+/// A run on one line with `granted` requests granted, and those after them refused for good or the next one alone: its
+/// result, what it wrote, and the number of requests.
+fn run_granted(
+    alloc: Global,
+    input: &str,
+    granted: u64,
+    refusal: Refusal,
+) -> (Result<(), Fault>, Vec<u8>, u64) {
+    let heap = Refusing::new(alloc, 0);
+    heap.refuse_after(granted, refusal);
+    let mut rest = input.as_bytes();
+    let mut out = Vec::new(alloc);
+    let result = run(&heap, &mut rest, &mut out);
+    (result, out, heap.requests())
+}
+
+#[test]
+fn a_run_ends_at_a_refused_request_with_nothing_written(rt: HostRuntime) {
+    // One for the input, one for the list of calls, one for the string, and one for the output: 12 bytes, of which a newline
+    // is the last.
+    for refusal in REFUSALS {
+        for granted in 0..4 {
+            let (result, out, requests) = run_granted(rt.alloc(), "D83D DCA9\n", granted, refusal);
+            assert_eq!(rt; result, Err(Fault::Memory), "with {granted} granted");
+            assert!(rt; out.is_empty(), "with {granted} granted");
+            assert_eq!(rt; requests, granted.wrapping_add(1));
+        }
+        let (result, out, requests) = run_granted(rt.alloc(), "D83D DCA9\n", 9, refusal);
+        assert_eq!(rt; result, Ok(()));
+        assert_eq!(rt; out.as_slice(), b"F0 9F 92 A9\n".as_slice());
+        assert_eq!(rt; requests, 4);
+    }
+}
