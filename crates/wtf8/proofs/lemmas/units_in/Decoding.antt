@@ -19,10 +19,8 @@ use Rattle.wtf8.specs.private.UnitParts.{IsReadTo}
 use Rattle.wtf8.proofs.lemmas.numbers.Encoding.{bytes-append}
 use Rattle.wtf8.proofs.lemmas.strings.Gains.{scalar-append}
 use Rattle.wtf8.proofs.lemmas.units_in.Blocks.{known_behind, last_apart}
-use Rattle.wtf8.proofs.lemmas.numbers.Readings.{units_one, units_pair, no_lead, nothing_begins, no_trail as trail_apart}
-use Rattle.wtf8.proofs.Common.{suc, ◌≤◌, ◌/◌, ◌%◌, cases_lt, lt-ltb, le-ltb, append_assoc, length-append, length-drop, drop-drop, take-add, take_all, DividesNoPair, MeetsAsPair, copied_steps, iter_steps, iter_rest}
-use Rattle.std.proofs.Math.Seq.{take-append_seam, drop-append_seam}
-use Rattle.std.specs.Prelude.{◌⊎◌}
+use Rattle.wtf8.proofs.lemmas.numbers.Readings.{units_one, units_pair}
+use Rattle.wtf8.proofs.Common.{suc, ◌≤◌, cases_lt, lt-ltb, le-ltb, append_assoc, length-append, length-drop, take_all, DividesNoPair, copied_steps, iter_steps, iter_rest}
 
 module _ {S A : Type 0} (steps : S → Option A → S → Type 0) where
   -- what comes from t comes from s, where each call from t may be one from s

@@ -1,4 +1,4 @@
-use Rattle.wtf8.proofs.Common.{◌≡◌, ◌<◌, ◌∙◌, IsLead, IsTrail, false≢true, get_or, length, ◌+◌, ◌-◌, [], ◌∷◌, ap, arith, drop, sym, subst, take, Reads}
+use Rattle.wtf8.proofs.Common.{◌<◌, ◌∙◌, IsLead, IsTrail, false≢true, get_or, length, ◌+◌, ◌-◌, [], ◌∷◌, arith, drop, sym, subst, take, Reads}
 use Rattle.wtf8.proofs.lemmas.units_in.Decoding.{one_read, pair_read}
 use Rattle.wtf8.proofs.units_in.decode.read_point.Goals.{else-unit-le-LAST_LEAD-via-then-unit-le-LAST_LEAD+then-at-v+else-is_trail_unit, else-unit-le-LAST_LEAD-via-then-unit-le-LAST_LEAD+else-at-v, else-unit-le-LAST_LEAD-via-else-unit-le-LAST_LEAD}
 use Rattle.wtf8.proofs.units_in.decode.read_point.Goals as goal

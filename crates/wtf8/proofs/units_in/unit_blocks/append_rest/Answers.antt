@@ -1,6 +1,6 @@
-use Rattle.wtf8.proofs.Common.{◌≡◌, ◌≢◌, false≢true, ◌∙◌, ◌-◌, [], refl, append-nil, ap, drop, iter_rest, iter_steps, copied_steps, length, sym, subst, take, number, points_of, point_of, units_left, decode_steps, IsCodePoint, IsSurrogate, MatchResult, None}
+use Rattle.wtf8.proofs.Common.{◌≢◌, false≢true, ◌∙◌, [], append-nil, ap, iter_rest, iter_steps, copied_steps, sym, subst, point_of, decode_steps, IsCodePoint, IsSurrogate, MatchResult}
 use Rattle.std.specs.Iterator.{Yields}
-use Rattle.std.specs.Iterator.Adapters.{copied_source, peekable_peeked, peekable_source}
+use Rattle.std.specs.Iterator.Adapters.{copied_source}
 use Rattle.wtf8.proofs.lemmas.units_in.Decoding.{encoded_item, no_item, rest_read, scalar_item}
 use Rattle.wtf8.proofs.units_in.unit_blocks.append_rest.Given.{Over}
 use Rattle.wtf8.proofs.units_in.unit_blocks.append_rest.Goals.{In-Some}

@@ -1,4 +1,4 @@
-use Rattle.wtf8.proofs.Common.{◌<◌, rules, refl, inl, inr, sym, subst, arith, Some, peekable_steps, peekable_peeked, units_left, point_of, IsLead, IsTrail}
+use Rattle.wtf8.proofs.Common.{◌<◌, rules, refl, inl, inr, sym, subst, arith, Some, peekable_steps, peekable_peeked, units_left, IsLead, IsTrail}
 use Rattle.std.proofs.Common.{true≢false}
 use Rattle.wtf8.proofs.lemmas.units_in.Decoding.{item_alone, takes_one, takes_two, held_apart}
 use Rattle.wtf8.proofs.units_in.decode.DecodeUtf16Iterator.next.Goals as goal
