@@ -78,6 +78,10 @@ impl<I: Iterator<Item = u16>> Iterator for DecodeUtf16<I> {
 
     fn next(&mut self) -> Option<Result<char, u16>> {
         let unit = self.units.next()?;
+        if unit < FIRST_LEAD {
+            // Most code units: one comparison in place of two, and their character is known to be a scalar value.
+            return Some(alone(unit));
+        }
         match unit {
             FIRST_LEAD..=LAST_LEAD => match self.units.next_if(is_trail_unit) {
                 Some(trail) => Some(Ok(paired(unit, trail))),
@@ -93,7 +97,7 @@ impl<I: Iterator<Item = u16>> Iterator for DecodeUtf16<I> {
     }
 }
 
-/// The code point at a place of some units, where it ends, and whether it is a scalar value.
+/// The code point that begins at index `at`, the index after it, and whether it is a scalar value.
 #[inline(always)]
 pub(crate) fn read_point(v: &[u16], at: usize) -> (CodePoint, usize, bool)
     requires { at < length v.now }
@@ -107,12 +111,9 @@ pub(crate) fn read_point(v: &[u16], at: usize) -> (CodePoint, usize, bool)
     if unit < FIRST_LEAD || LAST_TRAIL < unit {
         return (single(unit), at + 1, true);
     }
-    let Some(item) = decode_utf16(v[at..].iter().copied()).next() else {
-        unreachable!()
-    };
-    match item {
-        // A surrogate begins no character but a pair.
-        Ok(character) => (CodePoint::from_char(character), at + 2, true),
-        Err(surrogate) => (single(surrogate), at + 1, false),
+    if unit <= LAST_LEAD && at + 1 < v.len() && is_trail_unit(&v[at + 1]) {
+        let character = paired(unit, v[at + 1]);
+        return (CodePoint::from_char(character), at + 2, true);
     }
+    (single(unit), at + 1, false)
 }

@@ -1,9 +1,11 @@
 // Code units turned into bytes by the kind of the first: the ASCII units at the front of 32, 16 or eight together with the
-// code point behind them, others in mixed blocks or one by one.
+// code point after them, others in mixed blocks or one code point at a time. The code units that are left at the end, fewer
+// than eight unless a surrogate is unpaired, are read by `decode_utf16`.
 ghost use Rattle.std.specs.Prelude.{◌≡◌, ℕ, [], true, ◌+◌, ◌++◌, ◌^◌, ◌<◌, ◌≤◌, length, map, min, take, IfOk, IfSome, IsTrue, OnOk, IsOk};
 ghost use Rattle.wtf8.specs.private.UnitParts.{IsKnownForm, IsReadTo, AreAscii};
 
 use crate::lanes::masks::first_set;
+use crate::numbers::code_point::CodePoint;
 use crate::numbers::encoding;
 use crate::units_in::{decode, mixed_blocks};
 use std::alloc::{AllocError, Allocator};
@@ -141,8 +143,31 @@ fn append_many<A: Allocator>(bytes: &mut Vec<u8, A>, v: &[u16]) -> Result<(usize
     Ok((at, is_scalar))
 }
 
-/// Appends the bytes of units from a place on up to which units were read as long as `HALF` are left, and answers how far they
-/// are read then, and whether no surrogate is alone among them.
+/// Appends the encodings of the next code units from index `at` on, of which there are at least `HALF`: of an ASCII front and
+/// the code point after it, or of mixed blocks. Returns the index after them, and whether no surrogate before it is unpaired.
+///
+/// The index stays where it is if no block can be written, since a surrogate in it is unpaired.
+#[inline(always)]
+fn append_small_block<A: Allocator>(
+    bytes: &mut Vec<u8, A>,
+    v: &[u16],
+    at: usize,
+    is_scalar: bool,
+) -> Result<(usize, bool), AllocError>
+    requires within { at + HALF ≤ length v.now }
+    requires read { IsReadTo bytes.old.items v.now at is_scalar }
+    ensures order { IfOk result (λ to. at ≤ to.0) }
+    ensures read { IfOk result (λ to. IsReadTo bytes.new.items v.now to.0 to.1) }
+{
+    if v[at] < 0x80 {
+        return append_front::<HALF, A>(bytes, v, at, is_scalar);
+    }
+    let end = mixed_blocks::append::<SHORT, A>(bytes, v, at)?;
+    Ok((end, is_scalar))
+}
+
+/// Appends the encodings of code units from index `from` on as long as at least `HALF` are left and a block can be written.
+/// Returns the index after them, and whether no surrogate before it is unpaired.
 #[inline(always)]
 fn append_few<A: Allocator>(
     bytes: &mut Vec<u8, A>,
@@ -155,14 +180,44 @@ fn append_few<A: Allocator>(
     ensures empty { v.now ≡ [] → IsOk result }
 {
     let (mut at, mut is_scalar) = (from, is_scalar);
+    while NUMBERS <= v.len() - at {
+        (at, is_scalar) = append_part::<NUMBERS, SHORT, A>(bytes, v, at, is_scalar)?;
+    }
     while HALF <= v.len() - at {
-        (at, is_scalar) = if NUMBERS <= v.len() - at {
-            append_part::<NUMBERS, SHORT, A>(bytes, v, at, is_scalar)?
-        } else {
-            append_part::<HALF, SHORT, A>(bytes, v, at, is_scalar)?
-        };
+        let start = at;
+        (at, is_scalar) = append_small_block(bytes, v, start, is_scalar)?;
+        if at == start {
+            break;
+        }
     }
     Ok((at, is_scalar))
+}
+
+/// Appends the encodings of all code units from index `at` on, and returns whether no surrogate in the whole list is unpaired.
+///
+/// No lead surrogate that the reader gives stays before a trail surrogate, so no code point is joined to the one before.
+#[inline(always)]
+fn append_rest<A: Allocator>(
+    bytes: &mut Vec<u8, A>,
+    v: &[u16],
+    at: usize,
+    is_scalar: bool,
+) -> Result<bool, AllocError>
+    requires { IsReadTo bytes.old.items v.now at is_scalar }
+    ensures ok { IfOk result (λ known. IsKnownForm bytes.new.items v.now known) }
+    ensures empty { v.now ≡ [] → IsOk result }
+{
+    let mut is_scalar = is_scalar;
+    for item in decode::decode_utf16(v[at..].iter().copied()) {
+        match item {
+            Ok(character) => encoding::append(bytes, CodePoint::from_char(character))?,
+            Err(surrogate) => {
+                is_scalar = false;
+                encoding::append(bytes, decode::single(surrogate))?;
+            }
+        }
+    }
+    Ok(is_scalar)
 }
 
 /// Appends the string of the units to a buffer without bytes, and answers whether it has no lone surrogate.
@@ -175,9 +230,6 @@ pub(crate) fn append_form<A: Allocator>(
     ensures empty { v.now ≡ [] → IsOk result }
 {
     let (read, is_scalar) = append_many(bytes, v)?;
-    let (mut at, mut is_scalar) = append_few(bytes, v, read, is_scalar)?;
-    while at < v.len() {
-        (at, is_scalar) = append_point(bytes, v, at, is_scalar)?;
-    }
-    Ok(is_scalar)
+    let (at, is_scalar) = append_few(bytes, v, read, is_scalar)?;
+    append_rest(bytes, v, at, is_scalar)
 }

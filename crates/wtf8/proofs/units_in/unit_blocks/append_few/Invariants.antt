@@ -7,3 +7,9 @@ invariant-loop-at g l = IsReadTo l.bytes.items l.v l.at l.is_scalar
 
 abbrev pub decreases-loop-at : goal.decreases-loop-at
 decreases-loop-at g l = length l.v - l.at
+
+abbrev pub invariant-loop-at-2 : goal.invariant-loop-at-2
+invariant-loop-at-2 g l = IsReadTo l.bytes.items l.v l.at l.is_scalar
+
+abbrev pub decreases-loop-at-2 : goal.decreases-loop-at-2
+decreases-loop-at-2 g l = length l.v - l.at

@@ -1,6 +1,6 @@
-use Rattle.wtf8.proofs.Common.{◌<◌, rules, refl, inl, inr, sym, subst, arith, Some, peekable_steps, peekable_peeked, units_left, point_of, IsLead, IsTrail}
+use Rattle.wtf8.proofs.Common.{◌<◌, rules, refl, inl, inr, sym, subst, arith, Some, peekable_steps, peekable_peeked, units_left, IsLead, IsTrail}
 use Rattle.std.proofs.Common.{true≢false}
-use Rattle.wtf8.proofs.lemmas.units_in.Decoding.{takes_one, takes_two, held_apart}
+use Rattle.wtf8.proofs.lemmas.units_in.Decoding.{item_alone, takes_one, takes_two, held_apart}
 use Rattle.wtf8.proofs.units_in.decode.DecodeUtf16Iterator.next.Goals as goal
 
 pub returns-in-Some-clause-steps : goal.returns-in-Some-clause-steps
@@ -34,15 +34,17 @@ returns-in-None-clause-steps g c =
           (λ u failed trail. true≢false (sym (failed.1.1 (subst IsTrail (sym failed.2) trail))));
     }
 
+pub returns-then-unit-lt-FIRST_LEAD-clause-steps : goal.returns-then-unit-lt-FIRST_LEAD-clause-steps
+returns-then-unit-lt-FIRST_LEAD-clause-steps g c =
+    let unit = c.in_ok-unit.unit in
+    let below = c.if-unit-lt-FIRST_LEAD.true in
+    item_alone g.I.Iterator.next_gives (units_left c.args.self.now) c.next.new.self unit c.alone.result c.alone.ensures.kind c.alone.ensures.point (omega (arith, below)) (λ l. omega (arith, below, l.0))
+    c.in_ok-unit.ensures.steps
+
 pub returns-in_default-clause-steps : goal.returns-in_default-clause-steps
 returns-in_default-clause-steps g c =
     let unit = c.in_ok-unit.unit in
     let range : unit < 0x10000 = search rules in
-    let point = c.alone.ensures.point in
-    record {
-      kind = c.alone.ensures.kind;
-      behind = c.next.new.self;
-      taken = takes_one g.I.Iterator.next_gives (units_left c.args.self.now) c.next.new.self unit (point_of c.alone.result) point range c.in_ok-unit.ensures.steps;
-      held = inl refl;
-      lone = λ lead. absurd (search (rules, point, lead));
-    }
+    let apart : ¬ (IsLead unit) = λ lead. search (rules, lead) in
+    item_alone g.I.Iterator.next_gives (units_left c.args.self.now) c.next.new.self unit c.alone-in_default.result c.alone-in_default.ensures.kind c.alone-in_default.ensures.point range apart
+    c.in_ok-unit.ensures.steps
