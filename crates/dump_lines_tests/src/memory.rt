@@ -1,7 +1,7 @@
 // Requests for memory, each refused in turn, for good or alone.
 use dump_lines::{Fault, dump_line, run};
 use refusing::{REFUSALS, Refusal, Refusing};
-use std::alloc::Global;
+use std::alloc::{AllocError, Global};
 use std::test::Fail;
 
 type Lent<'a> = &'a Refusing<Global>;
@@ -75,36 +75,93 @@ fn a_long_malformed_line_needs_its_list_and_its_output(rt: HostRuntime) -> Resul
     expect_requests(&heap, line.as_slice(), b"?", 10, 24 * 2044 + 8)
 }
 
-/// A run on one line with `granted` requests granted, and those after them refused for good or the next one alone: its
-/// result, what it wrote, and the number of requests.
+/// A run with `granted` requests for memory granted, and those after them refused for good or the next one alone: its result,
+/// what it wrote, and the number of requests.
 fn run_granted(
     alloc: Global,
-    input: &str,
+    input: &[u8],
     granted: u64,
     refusal: Refusal,
 ) -> (Result<(), Fault>, Vec<u8>, u64) {
     let heap = Refusing::new(alloc, 0);
     heap.refuse_after(granted, refusal);
-    let mut rest = input.as_bytes();
+    let mut rest = input;
     let mut out = Vec::new(alloc);
     let result = run(&heap, &mut rest, &mut out);
     (result, out, heap.requests())
 }
 
-#[test]
-fn a_run_ends_at_a_refused_request_with_nothing_written(rt: HostRuntime) {
-    // One for the input, one for the list of calls, one for the string, and one for the output: 12 bytes, of which a newline
-    // is the last.
-    for refusal in REFUSALS {
-        for granted in 0..4 {
-            let (result, out, requests) = run_granted(rt.alloc(), "D83D DCA9\n", granted, refusal);
-            assert_eq!(rt; result, Err(Fault::Memory), "with {granted} granted");
-            assert!(rt; out.is_empty(), "with {granted} granted");
-            assert_eq!(rt; requests, granted.wrapping_add(1));
+/// How many requests a run makes whose output is `expected`. Fails unless with fewer granted it ends at the refused one, with
+/// nothing written.
+fn requests_of(
+    alloc: Global,
+    input: &[u8],
+    expected: &[u8],
+    refusal: Refusal,
+) -> Result<u64, Fail> {
+    for granted in 0..60 {
+        let (result, out, requests) = run_granted(alloc, input, granted, refusal);
+        if result == Ok(()) && out.as_slice() == expected && requests == granted {
+            return Ok(requests);
         }
-        let (result, out, requests) = run_granted(rt.alloc(), "D83D DCA9\n", 9, refusal);
-        assert_eq!(rt; result, Ok(()));
-        assert_eq!(rt; out.as_slice(), b"F0 9F 92 A9\n".as_slice());
-        assert_eq!(rt; requests, 4);
+        if result != Err(Fault::Memory) || !out.is_empty() || requests != granted.wrapping_add(1) {
+            return Err(Fail::new(format_args!("{granted} granted at {input:?}")));
+        }
     }
+    Err(Fail::new("more than 59 requests"))
+}
+
+#[test]
+fn a_run_ends_at_a_refused_request_with_nothing_written(rt: HostRuntime) -> Result<(), Fail> {
+    let rows = [
+        ("D83D DCA9\n", "F0 9F 92 A9\n"),
+        ("0061 00E9 -9\n", "61 C3 A9 !1\n"),
+        (
+            "0061 -5 -6\n\n?\n-1\n0062 /1 00E9\n",
+            "61 !2\n\n?\n!1\n62 C3 A9\n",
+        ),
+    ];
+    for refusal in REFUSALS {
+        for (input, expected) in rows {
+            let alloc = rt.alloc();
+            let made = requests_of(alloc, input.as_bytes(), expected.as_bytes(), refusal)?;
+            assert!(rt; made >= 4, "{input}");
+        }
+        // The input, the list of calls, the string and the output.
+        let made = requests_of(rt.alloc(), b"D83D DCA9\n", b"F0 9F 92 A9\n", refusal)?;
+        assert_eq!(rt; made, 4);
+    }
+    Ok(())
+}
+
+/// Repeats some bytes.
+fn repeated(alloc: Global, bytes: &[u8], count: usize) -> Result<Vec<u8>, AllocError> {
+    let mut all = Vec::new(alloc);
+    for _ in 0..count {
+        all.extend_from_slice(bytes)?;
+    }
+    Ok(all)
+}
+
+#[test]
+fn a_run_on_a_long_line_ends_at_a_refused_request(rt: HostRuntime) -> Result<(), Fail> {
+    let mut line = repeated(rt.alloc(), b"0061 ", 66)?;
+    line.extend_from_slice(b"-999 D83D DCA9 -999\n")?;
+    let mut expected = repeated(rt.alloc(), b"61 ", 66)?;
+    expected.extend_from_slice(b"F0 9F 92 A9 !2\n")?;
+    for refusal in REFUSALS {
+        let made = requests_of(rt.alloc(), line.as_slice(), expected.as_slice(), refusal)?;
+        assert!(rt; made > 6);
+    }
+    Ok(())
+}
+
+#[test]
+fn a_run_on_a_long_input_ends_at_a_refused_request(rt: HostRuntime) -> Result<(), Fail> {
+    let input = repeated(rt.alloc(), b"none ", 1000)?;
+    for refusal in REFUSALS {
+        let made = requests_of(rt.alloc(), input.as_slice(), b"?\n", refusal)?;
+        assert!(rt; made >= 2);
+    }
+    Ok(())
 }
