@@ -69,6 +69,24 @@ fn a_pair_is_appended_by_its_halves(rt: HostRuntime) -> Result<(), Fail> {
 }
 
 #[test]
+fn a_string_is_appended_to_another(rt: HostRuntime) -> Result<(), Fail> {
+    let mut string = string_of(rt.alloc(), &[LEAD])?;
+    let other = string_of(rt.alloc(), &[TRAIL, 0x0061])?;
+    joining::append_string(&mut string, &other)?;
+    expect_dump(rt.alloc(), string.as_wtf8(), "F0 9F 92 A9 61")?;
+    joining::append_string(&mut string, &other)?;
+    expect_dump(rt.alloc(), string.as_wtf8(), "F0 9F 92 A9 61 ED B2 A9 61")
+}
+
+#[test]
+fn a_part_has_its_length_in_bytes(rt: HostRuntime) -> Result<(), Fail> {
+    let text = Wtf8::from_str("é/💩");
+    assert!(rt; text.is_code_point_boundary(2));
+    assert!(rt; text.is_code_point_boundary(3));
+    expect_dump(rt.alloc(), joining::part_of_len(text, 2, 1), "2F")
+}
+
+#[test]
 fn what_is_behind_a_place_is_whole(rt: HostRuntime) -> Result<(), Fail> {
     expect_dump(
         rt.alloc(),
@@ -88,6 +106,20 @@ fn the_same_calls_leave_equal_strings(rt: HostRuntime) -> Result<(), Stopped> {
     ];
     assert!(rt; appending::apply_alike(&mut string, &mut other, &calls)?);
     assert_eq!(rt; string.as_wtf8().as_str(), Some("é"));
+    Ok(())
+}
+
+#[test]
+fn two_lists_are_applied_as_one(rt: HostRuntime) -> Result<(), Stopped> {
+    let mut string = Wtf8Buf::new(rt.alloc());
+    let first = [Build::PushStr("a💩"), Build::Truncate(2)];
+    let second = [Build::TruncateUnits(2), Build::TruncateUnits(9)];
+    assert_eq!(rt;
+        appending::apply_both(&mut string, &first, &second)?,
+        (1, 1)
+    );
+    assert_eq!(rt; string.len(), 4);
+    assert_eq!(rt; string.as_wtf8().unit_at(1), Some(LEAD));
     Ok(())
 }
 
@@ -621,6 +653,7 @@ fn expect_halves(alloc: Global, text: Wtf8<'_>) -> Result<(), Fail> {
 fn a_string_is_copied_by_its_code_points(rt: HostRuntime) -> Result<(), Fail> {
     let text = string_of(rt.alloc(), &[TRAIL, LEAD, TRAIL, 0x0041, LEAD])?;
     expect_copies(rt.alloc(), text.as_wtf8())?;
+    assert_eq!(rt; points::point_count(text.as_wtf8()), 4);
     assert_eq!(rt; points::supplementary_count(text.as_wtf8()), 1);
     let back = string_of(rt.alloc(), &[0x0041, LEAD])?;
     assert_eq!(rt; points::supplementary_count(back.as_wtf8()), 0);

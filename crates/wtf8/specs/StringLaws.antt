@@ -2,7 +2,7 @@
 use Rattle.std.specs.Prelude.{◌≡◌, ℕ, ◌+◌, ◌-◌, ◌≤◌, List, ◌++◌, length, take, drop, ◌↔◌}
 use Rattle.std.specs.Cmp.Lexicographic.{slice_cmp}
 use Rattle.std.specs.Ordering.{nat_cmp, MatchOrdering}
-use Rattle.std.specs.Str.{chars, IsUtf8}
+use Rattle.std.specs.Str.{chars}
 use Rattle.wtf8.specs.Unicode.{pair}
 use Rattle.wtf8.specs.Appending.{FitWithin, HasRoomFor}
 use Rattle.wtf8.specs.Form.{encoding, bytes, IsClean, IsForm}
@@ -41,10 +41,6 @@ BytesCompareAsPoints = (c d : List ℕ) → slice_cmp nat_cmp (bytes c) (bytes d
 -- Comparing lists one by one says which stands before the other.
 abbrev pub ComparisonIsOrder : Type 0
 ComparisonIsOrder = (c d : List ℕ) → MatchOrdering (slice_cmp nat_cmp c d) (Before c d) (c ≡ d) (Before d c)
-
--- The characters of a text are scalar values.
-abbrev pub TextsAreScalar : Type 0
-TextsAreScalar = (w : List ℕ) → IsUtf8 w → AreScalar (chars w)
 
 -- A string has room for units whose form is no longer than the room that is left.
 abbrev pub RoomLeftIsFound : Type 0

@@ -19,8 +19,6 @@ mod hexadecimal;
 #[cfg(test)]
 mod hints;
 #[cfg(test)]
-mod laws;
-#[cfg(test)]
 mod ordering;
 #[cfg(test)]
 mod points;

@@ -32,20 +32,9 @@ first_part u front back m e mark none =
 pub one_part : (u : List ℕ) → HasNoMark 0x2F 0x5C u → slice_split is_separator u ≡ u ∷ []
 one_part u none = slice_split_none is_separator u (λ k d h. grind (arith, nat_tests, none.first k d h, none.second k d h))
 
--- lists with the same first part begin with one another where what is behind it does
-pub begin_alike : (x y : List ℕ) (xs ys us vs : List (List ℕ)) → us ≡ x ∷ xs → vs ≡ y ∷ ys → x ≡ y → BeginsWith us vs ↔ BeginsWith xs ys
-begin_alike x y xs ys us vs e f same = (
-  λ b. record { rest = b.rest; joined = cc (b.joined, e, f) },
-  λ b. record { rest = b.rest; joined = cc (b.joined, e, f, same) },
-)
-
 -- parts begin with the first one of them
 pub begin_with_first : (x y : List ℕ) (xs us vs : List (List ℕ)) → us ≡ x ∷ xs → vs ≡ y ∷ [] → x ≡ y → BeginsWith us vs
 begin_with_first x y xs us vs e f same = record { rest = xs; joined = cc (e, f, same) }
-
--- the first part of both is the same where one begins with the other
-pub first_alike : (x y : List ℕ) (xs ys us vs : List (List ℕ)) → us ≡ x ∷ xs → vs ≡ y ∷ ys → BeginsWith us vs → x ≡ y
-first_alike x y xs ys us vs e f b = cc (b.joined, e, f)
 
 -- one part does not begin with more than one
 pub no_more : (x y : List ℕ) (u : List ℕ) (us vs : List (List ℕ)) → us ≡ x ∷ [] → vs ≡ y ∷ slice_split is_separator u → ¬ (BeginsWith us vs)

@@ -1,5 +1,6 @@
 //! What appending leaves: the whole of what was cut, both of two strings, and what was there.
 ghost use Rattle.std.specs.Prelude.{◌≡◌, ◌<◌, ◌+◌, ◌++◌, length, slice_index, IfOk, IsTrue, OnOk};
+ghost use Rattle.wtf8.specs.Building.{Run};
 ghost use Rattle.wtf8.specs.Position.{IsBoundary, IsMiddle};
 ghost use Rattle.wtf8.specs.View.{view_units};
 
@@ -46,6 +47,21 @@ pub fn apply_alike<A: Allocator>(
     string.apply_all(calls)?;
     other.apply_all(calls)?;
     Ok(*string == *other)
+}
+
+/// Applies two lists of calls one after the other, as one list of both. Returns the number of truncations that were refused
+/// in each of the two lists.
+pub fn apply_both<A: Allocator>(
+    string: &mut Wtf8Buf<A>,
+    first: &[Build<'_>],
+    second: &[Build<'_>],
+) -> Result<(usize, usize), Stopped>
+    ensures { IfOk result (λ refused. Run string.old.units (first.now ++ second.now) string.new.units (refused.0 + refused.1)) }
+{
+    laws::law_runs_add_up();
+    let in_first = string.apply_all(first)?;
+    let in_second = string.apply_all(second)?;
+    Ok((in_first, in_second))
 }
 
 /// What is behind the byte at a place, which is ASCII: no code point is divided there.

@@ -1,6 +1,7 @@
 //! Strings that are put together and cut.
-ghost use Rattle.std.specs.Prelude.{◌≡◌, ℕ, List, ◌++◌, ◌<◌, length, slice_index, IfOk, IsTrue};
+ghost use Rattle.std.specs.Prelude.{◌≡◌, ℕ, List, ◌++◌, ◌+◌, ◌<◌, length, take, drop, slice_index, IfOk, OnOk, IsTrue};
 ghost use Rattle.wtf8.specs.Building.{Append};
+ghost use Rattle.wtf8.specs.Concatenation.{MeetsAsPair};
 ghost use Rattle.wtf8.specs.Form.{IsForm};
 ghost use Rattle.wtf8.specs.Position.{IsBoundary};
 ghost use Rattle.wtf8.specs.View.{view_units};
@@ -49,6 +50,29 @@ fn first_slash(text: Wtf8<'_>) -> usize
         }
     }
     text.len()
+}
+
+/// Appends a string to another. The bytes are those of the two strings one after the other, unless a lead surrogate ends the
+/// first one and a trail surrogate begins the second one.
+pub fn append_string(
+    string: &mut Wtf8Buf<Global>,
+    other: &Wtf8Buf<Global>,
+) -> Result<(), AllocError>
+    ensures { OnOk result (¬ (MeetsAsPair string.old.units other.now.units) → string.new.bytes ≡ string.old.bytes ++ other.now.bytes) }
+{
+    laws::law_joined_strings();
+    string.push_wtf8(other.as_wtf8())
+}
+
+/// The part of `len` bytes from `begin` on, both of whose ends must be code point boundaries of the whole string. It is cut in
+/// two steps: a boundary of the whole at or after a cut is one of the rest, less the bytes before the cut.
+pub fn part_of_len<'a>(text: Wtf8<'a>, begin: usize, len: usize) -> Wtf8<'a>
+    requires begin { IsBoundary (view_units text) begin }
+    requires end { IsBoundary (view_units text) (begin + len) }
+    ensures { result.bytes.now ≡ take len (drop begin text.entry.bytes.now) }
+{
+    laws::law_positions();
+    text.slice_from(begin).slice_to(len)
 }
 
 /// A copy of a path that is cut before its first `/` and joined again: it is the whole.

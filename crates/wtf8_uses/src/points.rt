@@ -1,5 +1,5 @@
 //! Strings by their code points.
-ghost use Rattle.std.specs.Prelude.{◌≡◌, ◌++◌, count_by, nat_lt, take, drop, IfOk, OnOk};
+ghost use Rattle.std.specs.Prelude.{◌≡◌, ◌++◌, ◌*◌, ◌≤◌, count_by, nat_lt, length, take, drop, IfOk, OnOk};
 ghost use Rattle.wtf8.specs.Unicode.{units};
 ghost use Rattle.wtf8.specs.View.{view_points, view_units};
 ghost use Rattle.wtf8_uses.specs.CommonFront.{IsCommonFront};
@@ -73,6 +73,15 @@ pub fn common_points(text: Wtf8<'_>, other: Wtf8<'_>) -> usize
         count += 1;
     }
     count
+}
+
+/// The number of code points. Each of them has at most four bytes, so this is at least a quarter of the length in bytes.
+pub fn point_count(text: Wtf8<'_>) -> usize
+    ensures value { result ≡ length (view_points text.entry) }
+    ensures quarter { length text.entry.bytes.now ≤ 4 * result }
+{
+    laws::law_lengths();
+    text.code_points().count()
 }
 
 /// How many code points of a string are supplementary, which are two units each.

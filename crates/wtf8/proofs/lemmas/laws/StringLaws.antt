@@ -6,12 +6,11 @@ use Rattle.wtf8.proofs.Common.{glue, AreScalar, view_units, view_form, Wtf8, Res
 use Rattle.wtf8.proofs.Common.{on_ok_weaker, ◌⊎◌, All-tail, IsUnit, IsWellFormed, Step, Run, Build, Reserve, Truncate, TruncateUnits, IsNoTruncation}
 use Rattle.wtf8.proofs.Common.{slice_index, All-from_get_or, All-pop, All-same, FitWithin, AddsLength, RunsOnce, RunsAddUp, LeavesReserved}
 use Rattle.wtf8.specs.StringLaws.{EqualBuffersHaveEqualUnits, EqualBufferAndViewHaveEqualUnits, EqualViewsHaveEqualUnits, StringsAreJoined, StringsArePaired}
-use Rattle.wtf8.specs.StringLaws.{TextsAreScalar, RoomLeftIsFound, ScalarsStay, FormsAreOfBuffers, FormsAreOfViews, WhatFitsIsFound}
+use Rattle.wtf8.specs.StringLaws.{RoomLeftIsFound, ScalarsStay, FormsAreOfBuffers, FormsAreOfViews, WhatFitsIsFound}
 use Rattle.wtf8.proofs.lemmas.numbers.Encoding.{Begins}
 use Rattle.wtf8.proofs.lemmas.numbers.Readings.{well_formed_of, same_form}
 use Rattle.wtf8.proofs.lemmas.numbers.Readings.{same_reading}
 use Rattle.wtf8.proofs.lemmas.strings.Concatenation.{equal_forms, form-glue, form_paired, form_apart, length_paired, length_apart, one_form, units_read, at_last, before, parted_more}
-use Rattle.wtf8.proofs.lemmas.strings.Gains.{scalar_text}
 use Rattle.wtf8.proofs.lemmas.strings.Positions.{cut_at, same_front, front_boundary, boundary_from_byte}
 use Rattle.wtf8.proofs.lemmas.strings.Positions.{byte_from_boundary}
 use Rattle.wtf8.proofs.lemmas.strings.Surrogates.{lossy-scalar}
@@ -36,9 +35,6 @@ strings_joined s t both e n =
 pub strings_paired : StringsArePaired
 strings_paired s t both e m =
     same_form both.bytes _ both.units both.form (subst (IsForm _) (sym e) (form_paired s.bytes t.bytes s.units t.units s.form t.form m))
-
-pub texts_scalar : TextsAreScalar
-texts_scalar w u = scalar_text u
 
 pub room_left : RoomLeftIsFound
 room_left s w v f h =

@@ -13,7 +13,7 @@ use Rattle.wtf8.proofs.lemmas.numbers.Readings.{clean-append, no_lead, no_trail,
 use Rattle.wtf8.proofs.lemmas.strings.Concatenation.{equal_forms, one_form, units_read, one_reading, none_begins_another}
 use Rattle.wtf8.proofs.lemmas.strings.Gains.{all_back}
 use Rattle.wtf8.proofs.lemmas.strings.Surrogates.{scalars_true, scalars-lossy}
-use Rattle.wtf8.proofs.lemmas.laws.StringLaws.{run_once, runs_add, texts_scalar, scalars_stay}
+use Rattle.wtf8.proofs.lemmas.laws.StringLaws.{run_once, runs_add, scalars_stay}
 
 -- the code points of a view are the one reading of its units
 pub view_reads : (t : Wtf8) → Reads (view_points t) (view_units t)
@@ -134,4 +134,4 @@ collected_back s points d =
     items_from_drains points d (YieldsList-from_skip (skip_count s) (YieldsList-from_first number (λ c. c) (skip_source s) refl) refl)
 
 -- what laws state of which the proof is a lemma
-pub ruleset laws = (one_reading, units_read, none_begins_another, encoding_same, run_once, runs_add, texts_scalar, scalars_stay, characters_again, view_reads, one_view_reading, view_characters, lossy_characters)
+pub ruleset laws = (one_reading, units_read, none_begins_another, encoding_same, run_once, runs_add, scalars_stay, characters_again, view_reads, one_view_reading, view_characters, lossy_characters)
