@@ -111,9 +111,12 @@ pub(crate) fn read_point(v: &[u16], at: usize) -> (CodePoint, usize, bool)
     if unit < FIRST_LEAD || LAST_TRAIL < unit {
         return (single(unit), at + 1, true);
     }
-    if unit <= LAST_LEAD && at + 1 < v.len() && is_trail_unit(&v[at + 1]) {
-        let character = paired(unit, v[at + 1]);
-        return (CodePoint::from_char(character), at + 2, true);
+    let Some(item) = decode_utf16(v[at..].iter().copied()).next() else {
+        unreachable!()
+    };
+    match item {
+        // A surrogate begins no character but a pair.
+        Ok(character) => (CodePoint::from_char(character), at + 2, true),
+        Err(surrogate) => (single(surrogate), at + 1, false),
     }
-    (single(unit), at + 1, false)
 }

@@ -19,8 +19,10 @@ use Rattle.wtf8.specs.private.UnitParts.{IsReadTo}
 use Rattle.wtf8.proofs.lemmas.numbers.Encoding.{bytes-append}
 use Rattle.wtf8.proofs.lemmas.strings.Gains.{scalar-append}
 use Rattle.wtf8.proofs.lemmas.units_in.Blocks.{known_behind, last_apart}
-use Rattle.wtf8.proofs.lemmas.numbers.Readings.{units_one, units_pair}
-use Rattle.wtf8.proofs.Common.{suc, ◌≤◌, cases_lt, lt-ltb, le-ltb, append_assoc, length-append, length-drop, take_all, DividesNoPair, copied_steps, iter_steps, iter_rest}
+use Rattle.wtf8.proofs.lemmas.numbers.Readings.{units_one, units_pair, no_lead, nothing_begins, no_trail as trail_apart}
+use Rattle.wtf8.proofs.Common.{suc, ◌≤◌, ◌/◌, ◌%◌, cases_lt, lt-ltb, le-ltb, append_assoc, length-append, length-drop, drop-drop, take-add, take_all, DividesNoPair, MeetsAsPair, copied_steps, iter_steps, iter_rest}
+use Rattle.std.proofs.Math.Seq.{take-append_seam, drop-append_seam}
+use Rattle.std.specs.Prelude.{◌⊎◌}
 
 module _ {S A : Type 0} (steps : S → Option A → S → Type 0) where
   -- what comes from t comes from s, where each call from t may be one from s
@@ -171,49 +173,86 @@ yielded (x ∷ us) s t n y =
     let r = yielded us m t y.1.0 y.2 in
     (here ∙ ap (λ w. x ∷ w) r.0, r.1)
 
+-- no trail comes behind a lead that is alone
+behind_lone : (c : List ℕ) (s t : Units) → peekable_peeked s ≡ None → IsSomeAnd (peekable_peeked t) (λ o. IfSome o (λ u. ¬ (IsTrail u))) → (t ≡ s) ⊎ PeeksNext steps s t
+    → ¬ (MeetsAsPair c (left s))
+behind_lone c s t n lone held = elim held [
+  | inl e ↦ absurd (subst (λ p. IsSomeAnd p (λ o. IfSome o (λ u. ¬ (IsTrail u)))) (ap peekable_peeked e ∙ n) lone)
+  | inr h ↦ next h.0 (unit_left (peekable_source s) (peekable_source t) h.0 (bare_call steps s t h.0 n h.1)) (subst (λ p. IsSomeAnd p (λ o. IfSome o (λ u. ¬ (IsTrail u)))) h.2 lone)
+]
+  where
+    next : (o : Option ℕ) → MatchOption o (left s ≡ []) (λ x. left s ≡ x ∷ left t) → IfSome o (λ u. ¬ (IsTrail u)) → ¬ (MeetsAsPair c (left s))
+    next None e k = subst (λ w. ¬ (MeetsAsPair c w)) (sym e) nothing_begins
+    next (Some x) e k = subst (λ w. ¬ (MeetsAsPair c w)) (sym e) (trail_apart x (left t) k)
+
+-- no pair is divided behind a code point, where no trail comes behind it if it is a lead
+apart_behind : (f w : List ℕ) (p : ℕ) → (IsLead p → ¬ (MeetsAsPair (f ++ units_of p) w)) → ¬ (MeetsAsPair (f ++ units_of p) w)
+unfolding units_of
+apart_behind f w p lone = elim (cases_lt p 0x10000) [
+  | inl l ↦ elim (cases_lt p 0xD800) [
+    | inl h ↦ rw (lt-ltb p 0x10000 l) (no_lead f p (λ k. omega (arith, h, k.0)))
+    | inr g ↦ elim (cases_lt p 0xDC00) [ inl h ↦ lone (g, omega (arith, h)) | inr h ↦ rw (lt-ltb p 0x10000 l) (no_lead f p (λ k. omega (arith, h, k.1))) ]
+  ]
+  | inr g ↦
+      let lead = 0xD800 + (p - 0x10000) / 0x400 in
+      let trail = 0xDC00 + (p - 0x10000) % 0x400 in
+      let split : f ++ units_of p ≡ (f ++ lead ∷ []) ++ trail ∷ [] = rw (le-ltb p 0x10000 g) (sym (append_assoc f (lead ∷ []) (trail ∷ []))) in
+      subst (λ c. ¬ (MeetsAsPair c w)) (sym split) (no_lead (f ++ lead ∷ []) trail (λ k. omega (arith, k.1)))
+]
+
 -- how many units a code point has
 pub unit_count : (p n : ℕ) → (p < 0x10000 → n ≡ 1) → (0x10000 ≤ p → n ≡ 2) → n ≡ length (units_of p)
 unfolding units_of
 unit_count p n one two = elim (cases_lt p 0x10000) [ inl l ↦ rw (lt-ltb p 0x10000 l) (one l) | inr g ↦ rw (le-ltb p 0x10000 g) (two g) ]
 
--- The code point that begins at an index.
-
--- where it ends, no pair is divided there, and its units
+-- the first item of some units from a place on: where its units end
 pub record IsFirstRead (v : List ℕ) (at end p : ℕ) : Type 0 where
   pub within : end ≤ length v
   pub apart : DividesNoPair v end
   pub reads : Reads (p ∷ []) (take (end - at) (drop at v))
 
--- a unit that is no lead, or that no trail comes after
-pub one_read : (v : List ℕ) (at : ℕ) → at < length v → get_or v at 0 < 0x10000 → (IsLead (get_or v at 0) → at + 1 < length v → ¬ (IsTrail (get_or v (at + 1) 0)))
-    → IsFirstRead v at (at + 1) (get_or v at 0)
-one_read v at l h lone =
+-- a character that begins with a surrogate has two units
+pub two_units : (v : List ℕ) (at : ℕ) (s t : Units) (x : Result ℕ ℕ) {p : ℕ} → at < length v → left s ≡ take (length v - at) (drop at v) → peekable_peeked s ≡ None → DecodesItem steps s x t
+    → x ≡ Ok p → IsSurrogate (get_or v at 0) → 2 ≡ length (units_of (point_of x))
+two_units v at s t x here rest none item ok begins = unit_count (point_of x) 2 (λ small. absurd (apart (subst IsSurrogate (same small) begins))) (λ _. refl)
+  where
+    apart : ¬ (IsSurrogate (point_of x))
+    apart = subst (λ y. ¬ (IsSurrogate (point_of y))) (sym ok) (subst (λ y. MatchResult y (λ c. IsCodePoint c × ¬ (IsSurrogate c)) IsSurrogate) ok item.kind).1
+
+    same : point_of x < 0x10000 → get_or v at 0 ≡ point_of x
+    same small =
+        let got = yielded (units_of (point_of x)) s item.behind none item.taken in
+        let whole : drop at v ≡ units_of (point_of x) ++ left item.behind = sym (take_all (length v - at) (drop at v) (omega (arith, length-drop at v))) ∙ sym rest ∙ got.0 in
+        let first : get_or (drop at v) 0 0 ≡ point_of x = ap (λ w. get_or w 0 0) (whole ∙ ap (λ u. u ++ left item.behind) (units_one (point_of x) small)) in
+        ap (λ w. get_or w 0 0) (sym (drop_more v at 0 here)) ∙ first
+
+pub first_read : (v : List ℕ) (at end : ℕ) (s t : Units) (x : Result ℕ ℕ) → at < length v → left s ≡ take (length v - at) (drop at v) → peekable_peeked s ≡ None → DecodesItem steps s x t
+    → end ≡ at + length (units_of (point_of x)) → IsFirstRead v at end (point_of x)
+first_read v at end s t x here rest none item count =
+    let us = units_of (point_of x) in
+    let got = yielded us s item.behind none item.taken in
+    let whole : drop at v ≡ us ++ left item.behind = sym (take_all (length v - at) (drop at v) (omega (arith, length-drop at v))) ∙ sym rest ∙ got.0 in
+    let front : take (length us) (drop at v) ≡ us = ap (take (length us)) whole ∙ take-append_seam us (left item.behind) in
+    let back : drop end v ≡ left item.behind = ap (λ k. drop k v) count ∙ sym (drop-drop (length us) at v) ∙ ap (drop (length us)) whole ∙ drop-append_seam us (left item.behind) in
+    let before : take end v ≡ take at v ++ us = ap (λ k. take k v) count ∙ take-add at (length us) v ∙ ap (λ w. take at v ++ w) front in
+    let counted : length us ≡ end - at = omega (arith, count) in
+    let apart = apart_behind (take at v) (left item.behind) (point_of x) (λ l. behind_lone (take at v ++ us) item.behind t got.1 (item.lone l) item.held) in
+    record {
+      within = omega (arith, count, here, length-drop at v, ap length whole, length-append us (left item.behind));
+      apart = subst (λ c. ¬ (MeetsAsPair c (drop end v))) (sym before) (subst (λ d. ¬ (MeetsAsPair (take at v ++ us) d)) (sym back) apart);
+      reads = record { clean = item_range steps x item.kind; same_units = append-nil us ∙ sym front ∙ ap (λ k. take k (drop at v)) counted };
+    }
+
+-- a unit that is no surrogate
+pub one_read : (v : List ℕ) (at : ℕ) → at < length v → get_or v at 0 < 0x10000 → ¬ (IsSurrogate (get_or v at 0)) → IsFirstRead v at (at + 1) (get_or v at 0)
+one_read v at l h apart =
     let count : at + 1 - at ≡ 1 = omega arith in
     let next : suc at ≡ at + 1 = omega arith in
     let whole : take (at + 1 - at) (drop at v) ≡ get_or v at 0 ∷ [] = ap (λ k. take k (drop at v)) count ∙ ap (take 1) (drop_more v at 0 l) in
     record {
       within = omega (arith, l);
-      apart = λ m. elim (cases_lt (length v) (at + 2)) [
-        | inl end ↦ omega (arith, end, ap length m.begins, length-drop (at + 1) v)
-        | inr more ↦
-            let trail : get_or v (at + 1) 0 ≡ m.trail = ap (λ w. get_or w 0 0) (sym (drop_more v (at + 1) 0 (omega (arith, more))) ∙ m.begins) in
-            subst (DividesNoPair v) next (last_apart v at l (λ lead. lone lead (omega (arith, more)) (subst IsTrail (sym trail) m.is_trail))) m
-      ];
+      apart = subst (DividesNoPair v) next (last_apart v at l (λ k. apart (k.0, omega (arith, k.1))));
       reads = record { clean = omega (arith, h); same_units = append-nil _ ∙ (units_one (get_or v at 0) h ∙ sym whole) };
-    }
-
--- a lead and the trail after it
-pub pair_read : (v : List ℕ) (at : ℕ) → at + 1 < length v → IsLead (get_or v at 0) → IsTrail (get_or v (at + 1) 0)
-    → IsFirstRead v at (at + 2) (pair (get_or v at 0) (get_or v (at + 1) 0))
-pair_read v at l lead trail =
-    let two : at + 2 - at ≡ 2 = omega arith in
-    let next : suc (at + 1) ≡ at + 2 = omega arith in
-    let whole : take (at + 2 - at) (drop at v) ≡ get_or v at 0 ∷ get_or v (at + 1) 0 ∷ [] =
-    ap (λ k. take k (drop at v)) two ∙ ap (take 2) (drop_more v at 0 (omega (arith, l))) ∙ ap (λ w. get_or v at 0 ∷ take 1 w) (drop_more v (at + 1) 0 l) in
-    record {
-      within = omega (arith, l);
-      apart = subst (DividesNoPair v) next (last_apart v (at + 1) l (λ k. omega (arith, k.1, trail.0)));
-      reads = record { clean = omega (arith, lead.1, trail.1); same_units = append-nil _ ∙ (units_pair (get_or v at 0) (get_or v (at + 1) 0) lead trail ∙ sym whole) };
     }
 
 -- What a reader of a slice gives to its end.

@@ -10,7 +10,7 @@ returns-then-unit-lt2048-clause-read g c =
     let v = c.args.v.now in
     let at = c.args.at in
     let point = number c.single.result in
-    let unit = one_read v at c.requires.within (omega (arith, c.if-unit-lt2048.true)) (λ l _. omega (arith, l.0, c.if-unit-lt2048.true)) in
+    let unit = one_read v at c.requires.within (omega (arith, c.if-unit-lt2048.true)) (λ s. omega (arith, s.0, c.if-unit-lt2048.true)) in
     subst (IsReadTo c.append.new.bytes.items v (at + 1)) (and-true c.args.is_scalar)
     (part_read c.requires.read (omega arith) unit.within unit.apart c.in_ok-append.ensures.ok (record {
       form = record {
