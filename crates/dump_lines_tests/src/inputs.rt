@@ -1,19 +1,8 @@
 // Inputs without a last newline, a line with a newline inside, and the faults' statuses and texts. The program's stored run
 // has the other lines.
-use dump_lines::{Fault, dump_line, run};
-use std::alloc::Global;
+use crate::lengths::expect_output;
+use dump_lines::{Fault, dump_line};
 use std::test::Fail;
-
-/// Fails unless a run reads all of this input and writes this output.
-fn expect_output(alloc: Global, input: &str, expected: &str) -> Result<(), Fail> {
-    let mut rest = input.as_bytes();
-    let mut out = Vec::new(alloc);
-    let result = run(alloc, &mut rest, &mut out);
-    if result.is_err() || !rest.is_empty() || out.as_slice() != expected.as_bytes() {
-        return Err(Fail::new(format_args!("wrote {out:?} at {input:?}")));
-    }
-    Ok(())
-}
 
 #[test]
 fn the_last_line_needs_no_newline(rt: HostRuntime) -> Result<(), Fail> {
@@ -25,7 +14,7 @@ fn the_last_line_needs_no_newline(rt: HostRuntime) -> Result<(), Fail> {
         ("\n0061", "\n61\n"),
         ("0061\n061", "61\n?\n"),
     ] {
-        expect_output(rt.alloc(), input, expected)?;
+        expect_output(rt.alloc(), input.as_bytes(), expected.as_bytes())?;
     }
     Ok(())
 }

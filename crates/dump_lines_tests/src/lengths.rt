@@ -1,44 +1,42 @@
 // Lines and inputs of each length.
-use dump_lines::{dump_line, run};
+use dump_lines::run;
 use refusing::Refusing;
-use std::alloc::Global;
+use std::alloc::{AllocError, Global};
 use std::test::Fail;
 
-#[test]
-fn pairs_and_truncations_follow_many_letters(rt: HostRuntime) -> Result<(), Fail> {
-    for letters in 60..67 {
-        let mut line = Vec::new(rt.alloc());
-        let mut expected = Vec::new(rt.alloc());
-        for _ in 0..letters {
-            line.extend_from_slice(b"0061 ")?;
-            expected.extend_from_slice(b"61 ")?;
-        }
-        line.extend_from_slice(b"-999 D83D DCA9 -999")?;
-        expected.extend_from_slice(b"F0 9F 92 A9 !2")?;
-        let output = dump_line(rt.alloc(), line.as_slice())?;
-        assert!(rt; output == expected, "after {letters} letters");
+/// Some bytes `times` over, and others after them.
+pub fn repeated(
+    alloc: Global,
+    bytes: &[u8],
+    times: usize,
+    end: &[u8],
+) -> Result<Vec<u8>, AllocError> {
+    let mut all = Vec::new(alloc);
+    for _ in 0..times {
+        all.extend_from_slice(bytes)?;
+    }
+    all.extend_from_slice(end)?;
+    Ok(all)
+}
+
+/// Fails unless a run reads all of this input and writes this output, with few requests for memory.
+pub fn expect_output(alloc: Global, input: &[u8], expected: &[u8]) -> Result<(), Fail> {
+    let heap = Refusing::new(alloc, u64::MAX);
+    let mut rest = input;
+    let mut out = Vec::new(alloc);
+    let result = run(&heap, &mut rest, &mut out);
+    // The input, the list, the string and the output grow to twice their room each time, the input at most 15 times.
+    if result.is_err() || !rest.is_empty() || out.as_slice() != expected || heap.requests() > 40 {
+        return Err(Fail::new(format_args!("input of {} bytes", input.len())));
     }
     Ok(())
 }
 
-/// Fails unless a run on a line of `letters` words and then an empty one writes their dumps with few requests for memory.
+/// Fails unless a run on a line of `letters` words and then some others, and an empty line, writes their dumps.
 fn expect_letters(alloc: Global, letters: usize) -> Result<(), Fail> {
-    let mut input = Vec::new(alloc);
-    let mut expected = Vec::new(alloc);
-    for at in 0..letters {
-        input.extend_from_slice(if at == 0 { b"0061" } else { b" 0061" })?;
-        expected.extend_from_slice(if at == 0 { b"61" } else { b" 61" })?;
-    }
-    input.extend_from_slice(b"\n\n")?;
-    expected.extend_from_slice(b"\n\n")?;
-    let heap = Refusing::new(alloc, u64::MAX);
-    let mut out = Vec::new(alloc);
-    let result = run(&heap, &mut input.as_slice(), &mut out);
-    // The input, the list and the string grow to twice their room each time, at most 15 times, and the output all at once.
-    if result.is_err() || out != expected || heap.requests() > 40 {
-        return Err(Fail::new(format_args!("{letters} letters")));
-    }
-    Ok(())
+    let input = repeated(alloc, b"0061 ", letters, b"-999999 D83D DCA9 /999999\n\n")?;
+    let expected = repeated(alloc, b"61 ", letters, b"F0 9F 92 A9 !2\n\n")?;
+    expect_output(alloc, input.as_slice(), expected.as_slice())
 }
 
 #[test]
@@ -54,14 +52,7 @@ fn lines_of_each_length(rt: HostRuntime) -> Result<(), Fail> {
 
 #[test]
 fn an_input_of_many_lines_is_read_in_pieces(rt: HostRuntime) -> Result<(), Fail> {
-    let mut input = Vec::new(rt.alloc());
-    let mut expected = Vec::new(rt.alloc());
-    for _ in 0..2000 {
-        input.extend_from_slice(b"0061\n")?;
-        expected.extend_from_slice(b"61\n")?;
-    }
-    let mut out = Vec::new(rt.alloc());
-    assert_eq!(rt; run(rt.alloc(), &mut input.as_slice(), &mut out), Ok(()));
-    assert!(rt; out == expected);
-    Ok(())
+    let input = repeated(rt.alloc(), b"0061\n", 2000, b"")?;
+    let expected = repeated(rt.alloc(), b"61\n", 2000, b"")?;
+    expect_output(rt.alloc(), input.as_slice(), expected.as_slice())
 }

@@ -1,4 +1,5 @@
 // Requests for memory, each refused in turn, for good or alone.
+use crate::lengths::repeated;
 use dump_lines::{Fault, dump_line, run};
 use refusing::{REFUSALS, Refusal, Refusing};
 use std::alloc::{AllocError, Global};
@@ -65,11 +66,7 @@ fn dump_line_ends_at_a_refused_request(rt: HostRuntime) -> Result<(), Fail> {
 
 #[test]
 fn a_long_malformed_line_needs_its_list_and_its_output(rt: HostRuntime) -> Result<(), Fail> {
-    let mut line = Vec::new(rt.alloc());
-    for _ in 0..1000 {
-        line.extend_from_slice(b"0061 ")?;
-    }
-    line.extend_from_slice(b"061")?;
+    let line = repeated(rt.alloc(), b"0061 ", 1000, b"061")?;
     let heap = Refusing::new(rt.alloc(), 0);
     // The list has room for 4, 8 and so on up to 1,024 calls, which is nine requests, and the output is the tenth.
     expect_requests(&heap, line.as_slice(), b"?", 10, 24 * 2044 + 8)

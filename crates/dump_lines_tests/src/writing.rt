@@ -1,4 +1,5 @@
 // Writers that fail.
+use crate::lengths::repeated;
 use dump_lines::{Fault, run};
 use std::alloc::Global;
 use std::io;
@@ -132,32 +133,19 @@ fn a_failed_flush_ends_the_run(rt: HostRuntime) {
     }
 }
 
-/// How many bytes a writer of the next test takes a call.
-const CAPACITY: usize = 70 * 1024;
-
 #[test]
 fn a_writer_of_seventy_kibibytes_is_called_twice(rt: HostRuntime) -> Result<(), Fail> {
-    let mut input = Vec::new(rt.alloc());
-    let mut expected = Vec::new(rt.alloc());
-    for at in 0..CAPACITY / 11 {
-        input.extend_from_slice(if at == 0 { b"1F4A9" } else { b" 1F4A9" })?;
-        expected.extend_from_slice(if at == 0 {
-            b"F0 9F 92 A9"
-        } else {
-            b" F0 9F 92 A9"
-        })?;
-    }
-    input.extend_from_slice(b"\n0061\n")?;
-    expected.extend_from_slice(b"\n61\n")?;
+    let input = repeated(rt.alloc(), b"1F4A9 ", 6515, b"1F4A9\n0061\n")?;
+    let expected = repeated(rt.alloc(), b"F0 9F 92 A9 ", 6515, b"F0 9F 92 A9\n61\n")?;
     let (result, writer) = run_into(
         rt.alloc(),
         input.as_slice(),
-        CAPACITY,
+        70 * 1024,
         0,
         Failing::TakesNothing,
         None,
     );
-    assert_eq!(rt; result, Ok(()));
+    assert!(rt; result.is_ok());
     assert_eq!(rt; writer.calls, 2);
     assert!(rt; writer.taken == expected);
     Ok(())
