@@ -2,7 +2,7 @@
 use crate::lengths::repeated;
 use dump_lines::{Fault, dump_line, run};
 use refusing::{REFUSALS, Refusal, Refusing};
-use std::alloc::{AllocError, Global};
+use std::alloc::Global;
 use std::test::Fail;
 
 type Lent<'a> = &'a Refusing<Global>;
@@ -131,21 +131,10 @@ fn a_run_ends_at_a_refused_request_with_nothing_written(rt: HostRuntime) -> Resu
     Ok(())
 }
 
-/// Repeats some bytes.
-fn repeated(alloc: Global, bytes: &[u8], count: usize) -> Result<Vec<u8>, AllocError> {
-    let mut all = Vec::new(alloc);
-    for _ in 0..count {
-        all.extend_from_slice(bytes)?;
-    }
-    Ok(all)
-}
-
 #[test]
 fn a_run_on_a_long_line_ends_at_a_refused_request(rt: HostRuntime) -> Result<(), Fail> {
-    let mut line = repeated(rt.alloc(), b"0061 ", 66)?;
-    line.extend_from_slice(b"-999 D83D DCA9 -999\n")?;
-    let mut expected = repeated(rt.alloc(), b"61 ", 66)?;
-    expected.extend_from_slice(b"F0 9F 92 A9 !2\n")?;
+    let line = repeated(rt.alloc(), b"0061 ", 66, b"-999 D83D DCA9 -999\n")?;
+    let expected = repeated(rt.alloc(), b"61 ", 66, b"F0 9F 92 A9 !2\n")?;
     for refusal in REFUSALS {
         let made = requests_of(rt.alloc(), line.as_slice(), expected.as_slice(), refusal)?;
         assert!(rt; made > 6);
@@ -155,7 +144,7 @@ fn a_run_on_a_long_line_ends_at_a_refused_request(rt: HostRuntime) -> Result<(),
 
 #[test]
 fn a_run_on_a_long_input_ends_at_a_refused_request(rt: HostRuntime) -> Result<(), Fail> {
-    let input = repeated(rt.alloc(), b"none ", 1000)?;
+    let input = repeated(rt.alloc(), b"none ", 1000, b"")?;
     for refusal in REFUSALS {
         let made = requests_of(rt.alloc(), input.as_slice(), b"?\n", refusal)?;
         assert!(rt; made >= 2);
