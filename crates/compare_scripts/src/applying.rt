@@ -1,60 +1,49 @@
 // Building calls by their names, one by one and lists of them.
+use crate::building::with_view;
 use crate::machine::Machine;
 use crate::reader::{Reader, Register};
-use crate::stop::Stop;
+use crate::stop::{Stop, allocated, push};
 use crate::tape::{Shown, Tape};
 use refusing::Refusing;
-use std::alloc::{AllocError, Global};
-use std::fmt::Write;
+use std::alloc::{Allocator, Global};
 use std::mem;
-use wtf8::{Build, CodePoint, Stopped, Wtf8Buf};
+use wtf8::{Build, CodePoint, Stopped, Wtf8, Wtf8Buf};
 
 /// So many requests for memory are granted that none is refused.
 const UNBOUNDED: usize = 0xFFFF;
 
 impl Machine {
-    /// `apply` of each call of a list, whose strings stay as they are: writes what it answers, and the string behind it.
+    /// `apply` of each call of a list, whose strings stay as they are: writes what it answers, and the string after it.
     pub fn apply_each(&mut self, at: Register, tape: &mut Tape<'_>) -> Result<(), Stop> {
         let points = tape.reader.points(tape.alloc)?;
-        let copy = self.string(at).clone()?;
-        let mut string = mem::replace(&mut self.strings[at.index], copy);
-        let calls = self.read_calls(tape, points.as_slice())?;
-        for call in calls.as_slice() {
-            writeln!(tape.transcript, "applied {}", string.apply(*call)?)?;
-            tape.write_string(at, string.as_wtf8())?;
-        }
-        drop(calls);
-        self.strings[at.index] = string;
+        let copy = allocated(self.string(at).clone())?;
+        let string = mem::replace(&mut self.strings[at.index], copy);
+        self.strings[at.index] = self.applied(string, at, points.as_slice(), tape)?;
         Ok(())
     }
 
-    /// `apply_all` of a list of calls, on a copy that has so much spare room and an allocator that grants so many
-    /// requests: writes how many truncations were refused or where the list was stopped, and the units, and answers the
-    /// string afterwards.
+    /// A string after each call of a list.
+    fn applied(
+        &self,
+        string: Wtf8Buf<Global>,
+        at: Register,
+        points: &[CodePoint],
+        tape: &mut Tape<'_>,
+    ) -> Result<Wtf8Buf<Global>, Stop> {
+        let mut string = string;
+        let calls = self.read_calls(tape, points)?;
+        apply_calls(&mut string, at, calls.as_slice(), tape)?;
+        Ok(string)
+    }
+
+    /// `apply_all` of a list of calls, on a copy with spare room and an allocator that grants a number of requests: writes
+    /// how many truncations were refused or where the list was stopped, and the units, and returns the string afterwards.
     pub fn apply_all(&self, at: Register, tape: &mut Tape<'_>) -> Result<Wtf8Buf<Global>, Stop> {
         let spare = tape.reader.number()?;
         let grants = tape.reader.number()?;
         let points = tape.reader.points(tape.alloc)?;
         let calls = self.read_calls(tape, points.as_slice())?;
-        let heap = Refusing::new(tape.alloc, u64::MAX);
-        let whole = self.view(at);
-        let mut string = Wtf8Buf::with_capacity(&heap, whole.len().saturating_add(spare))?;
-        string.push_wtf8(whole)?;
-        if grants < UNBOUNDED {
-            heap.grant(grants as u64);
-        }
-        match string.apply_all(calls.as_slice()) {
-            Ok(refused) => writeln!(tape.transcript, "all, {refused} refused")?,
-            Err(Stopped { done }) => writeln!(tape.transcript, "stopped at {done}")?,
-        }
-        write!(tape.transcript, "units")?;
-        for unit in string.as_wtf8().to_ill_formed_utf16() {
-            unit.show(&mut tape.transcript)?;
-        }
-        tape.write_line("")?;
-        let mut copy = Wtf8Buf::new(tape.alloc);
-        copy.push_wtf8(string.as_wtf8())?;
-        Ok(copy)
+        apply_with_grants(self.view(at), spare, grants, calls.as_slice(), tape)
     }
 
     /// The building calls of a list: a byte with their number, and each of them. A number that is no code point gives no
@@ -67,7 +56,7 @@ impl Machine {
         let mut calls = Vec::new(tape.alloc);
         for _ in 0..tape.reader.byte()? {
             match self.read_call(&mut tape.reader, points) {
-                Ok(call) => calls.push(call).map_err(AllocError::from)?,
+                Ok(call) => push(&mut calls, call)?,
                 Err(Stop::NoCodePoint | Stop::NoCharacter) => {}
                 Err(stop) => return Err(stop),
             }
@@ -94,4 +83,84 @@ impl Machine {
         };
         Ok(call)
     }
+}
+
+/// `apply` of each call.
+fn apply_calls(
+    string: &mut Wtf8Buf<Global>,
+    at: Register,
+    calls: &[Build<'_>],
+    tape: &mut Tape<'_>,
+) -> Result<(), Stop> {
+    for call in calls {
+        apply_call(string, *call, tape)?;
+        tape.write_string(at, string.as_wtf8())?;
+    }
+    Ok(())
+}
+
+/// `apply`: writes what it returns.
+fn apply_call(
+    string: &mut Wtf8Buf<Global>,
+    call: Build<'_>,
+    tape: &mut Tape<'_>,
+) -> Result<(), Stop> {
+    let is_kept = allocated(string.apply(call))?;
+    writeln!(tape, "applied {is_kept}")
+}
+
+/// `apply_all` of a list of calls on a copy of a view, with spare room and a limit of requests for memory.
+fn apply_with_grants(
+    view: Wtf8<'_>,
+    spare: usize,
+    grants: usize,
+    calls: &[Build<'_>],
+    tape: &mut Tape<'_>,
+) -> Result<Wtf8Buf<Global>, Stop> {
+    let heap = Refusing::new(tape.alloc, u64::MAX);
+    let string = with_spare(&heap, view, spare)?;
+    if grants < UNBOUNDED {
+        heap.grant(grants as u64);
+    }
+    apply_list(string, calls, tape)
+}
+
+/// A copy of a view with spare room.
+fn with_spare<A: Allocator + Drop>(
+    alloc: A,
+    view: Wtf8<'_>,
+    spare: usize,
+) -> Result<Wtf8Buf<A>, Stop> {
+    let capacity = view.len().saturating_add(spare);
+    let string = allocated(Wtf8Buf::with_capacity(alloc, capacity))?;
+    with_view(string, view)
+}
+
+/// `apply_all` of a list of calls: writes what it returns, and the units, and returns a copy of the string afterwards.
+fn apply_list<A: Allocator + Drop>(
+    string: Wtf8Buf<A>,
+    calls: &[Build<'_>],
+    tape: &mut Tape<'_>,
+) -> Result<Wtf8Buf<Global>, Stop> {
+    let mut string = string;
+    write_refusals(string.apply_all(calls), tape)?;
+    write_units(tape, string.as_wtf8())?;
+    with_view(Wtf8Buf::new(tape.alloc), string.as_wtf8())
+}
+
+/// Writes what `apply_all` returns.
+fn write_refusals(returned: Result<usize, Stopped>, tape: &mut Tape<'_>) -> Result<(), Stop> {
+    match returned {
+        Ok(refused) => writeln!(tape, "all, {refused} refused"),
+        Err(Stopped { done }) => writeln!(tape, "stopped at {done}"),
+    }
+}
+
+/// Writes a line with the units of a string.
+fn write_units(tape: &mut Tape<'_>, view: Wtf8<'_>) -> Result<(), Stop> {
+    tape.write_word("units")?;
+    for unit in view.to_ill_formed_utf16() {
+        unit.show(tape)?;
+    }
+    tape.write_line("")
 }

@@ -2,9 +2,9 @@
 use crate::hinted::Hinted;
 use crate::machine::Machine;
 use crate::reader::{Reader, Register};
-use crate::stop::Stop;
+use crate::stop::{Stop, allocated};
 use crate::tape::Tape;
-use std::alloc::Global;
+use std::alloc::{Allocator, Global};
 use std::mem;
 use wtf8::{Wtf8, Wtf8Buf, Wtf8CodePoints};
 
@@ -17,82 +17,70 @@ impl Machine {
         at: Register,
         tape: &mut Tape<'_>,
     ) -> Result<Wtf8Buf<Global>, Stop> {
-        let alloc = tape.alloc;
-        let string = match opcode {
-            0 => Wtf8Buf::new(alloc),
-            1 => {
-                let capacity = tape.reader.number()?;
-                let string = Wtf8Buf::with_capacity(alloc, capacity)?;
-                tape.write_room(&string, capacity)?;
-                string
-            }
-            2 => Wtf8Buf::from_string(String::from_str(alloc, tape.reader.text()?)?),
-            3 => Wtf8Buf::from_str(alloc, tape.reader.text()?)?,
-            4 => {
-                let count = usize::from(tape.reader.byte()?);
-                let units = tape.reader.units(alloc, count)?;
-                Wtf8Buf::from_ill_formed_utf16(alloc, units.as_slice())?
-            }
-            5 => Wtf8Buf::from_iter(alloc, tape.reader.points(alloc)?)?,
-            6 => {
-                let other = self.string(tape.reader.register()?);
-                Wtf8Buf::from_iter(alloc, points_behind(other, tape.reader.number()?))?
-            }
-            7 => self.string(tape.reader.register()?).clone()?,
-            16..=18 | 36 => self.with_part(opcode, at, tape)?,
-            38 => from_hinted(tape)?,
-            40 => self.apply_all(at, tape)?,
-            _ => return Err(Stop::Malformed),
-        };
-        Ok(string)
+        match opcode {
+            0 => Ok(Wtf8Buf::new(tape.alloc)),
+            1 => with_capacity(tape),
+            2 => from_string(tape),
+            3 => from_text(tape),
+            4 => from_units(tape),
+            5 => from_points(tape),
+            6 => self.from_last_points(tape),
+            7 => self.copy(tape),
+            16..=18 | 36 => self.with_part(opcode, at, tape),
+            38 => from_hinted(tape),
+            40 => self.apply_all(at, tape),
+            _ => Err(Stop::Malformed),
+        }
     }
 
-    /// A part of a string behind the register's string or, of a slice, behind the empty one.
+    /// The string of the code points of another string after the first ones.
+    fn from_last_points(&self, tape: &mut Tape<'_>) -> Result<Wtf8Buf<Global>, Stop> {
+        let other = self.string(tape.reader.register()?);
+        let count = tape.reader.number()?;
+        allocated(Wtf8Buf::from_iter(tape.alloc, points_after(other, count)))
+    }
+
+    /// A copy of another string.
+    fn copy(&self, tape: &mut Tape<'_>) -> Result<Wtf8Buf<Global>, Stop> {
+        let other = self.string(tape.reader.register()?);
+        allocated(other.clone())
+    }
+
+    /// The register's string or, of a slice, the empty one, and a part of a string after it.
     fn with_part(
         &self,
         opcode: u8,
         at: Register,
         tape: &mut Tape<'_>,
     ) -> Result<Wtf8Buf<Global>, Stop> {
-        let mut string = match opcode {
-            36 => self.string(at).clone()?,
+        let part = self.read_part(opcode, &mut tape.reader)?;
+        let string = match opcode {
+            36 => allocated(self.string(at).clone())?,
             _ => Wtf8Buf::new(tape.alloc),
         };
-        string.push_wtf8(self.read_part(opcode, &mut tape.reader)?)?;
-        Ok(string)
+        with_view(string, part)
     }
 
     /// The calls that append to a string, and `reserve`, which writes whether there is the room that was asked.
     pub fn append(&mut self, opcode: u8, at: Register, tape: &mut Tape<'_>) -> Result<(), Stop> {
-        let alloc = tape.alloc;
-        let reader = &mut tape.reader;
         match opcode {
-            8 => {
-                let additional = reader.number()?;
-                self.strings[at.index].reserve(additional)?;
-                tape.write_room(self.string(at), additional)?;
-            }
-            9 => self.strings[at.index].push(reader.point()?)?,
-            10 => self.strings[at.index].push_char(reader.character()?)?,
-            11 => self.strings[at.index].push_str(reader.text()?)?,
-            12 => {
-                let piece = self.string(reader.register()?).clone()?;
-                self.strings[at.index].push_wtf8(piece.as_wtf8())?;
-            }
-            13 => self.strings[at.index].extend(reader.points(alloc)?)?,
-            14 => {
-                let piece = self.string(reader.register()?).clone()?;
-                let points = points_behind(&piece, reader.number()?);
-                self.strings[at.index].extend(points)?;
-            }
-            _ => {
-                let low = reader.number()?;
-                let points = reader.points(alloc)?;
-                let points = points.as_slice();
-                self.strings[at.index].extend(Hinted { points, low })?;
-            }
+            12 => self.push_string(at, tape),
+            14 => self.extend_by_string(at, tape),
+            _ => append_operand(opcode, &mut self.strings[at.index], tape),
         }
-        Ok(())
+    }
+
+    /// `push_wtf8` of a copy of another string.
+    fn push_string(&mut self, at: Register, tape: &mut Tape<'_>) -> Result<(), Stop> {
+        let piece = self.copy(tape)?;
+        allocated(self.strings[at.index].push_wtf8(piece.as_wtf8()))
+    }
+
+    /// `extend` by the code points of a copy of another string after the first ones.
+    fn extend_by_string(&mut self, at: Register, tape: &mut Tape<'_>) -> Result<(), Stop> {
+        let piece = self.copy(tape)?;
+        let count = tape.reader.number()?;
+        allocated(self.strings[at.index].extend(points_after(&piece, count)))
     }
 
     /// `truncate` and `truncate_units`: writes whether the capacity is as before.
@@ -105,29 +93,14 @@ impl Machine {
             33 if position <= string.as_wtf8().unit_len() => string.truncate_units(position),
             _ => return Err(Stop::Refused),
         }
-        Ok(tape.write_kept(string.capacity() == capacity)?)
+        tape.write_kept(string.capacity() == capacity)
     }
 
     /// `into_string` and `into_string_lossy`: writes the bytes of the text and whether the capacity is as before, or that
     /// there is no text. The string is then made of what came back.
     pub fn turn(&mut self, opcode: u8, at: Register, tape: &mut Tape<'_>) -> Result<(), Stop> {
         let string = mem::replace(&mut self.strings[at.index], Wtf8Buf::new(tape.alloc));
-        let capacity = string.capacity();
-        let turned = match opcode {
-            19 => string.into_string(),
-            _ => Ok(string.into_string_lossy()),
-        };
-        self.strings[at.index] = match turned {
-            Ok(text) => {
-                tape.write_text("text", text.as_str())?;
-                tape.write_kept(text.capacity() == capacity)?;
-                Wtf8Buf::from_string(text)
-            }
-            Err(string) => {
-                tape.write_line("no text")?;
-                string
-            }
-        };
+        self.strings[at.index] = turned(opcode, string, tape)?;
         Ok(())
     }
 
@@ -149,16 +122,146 @@ impl Machine {
     }
 }
 
-/// The string of some code points whose iterator gives a hint of its own.
+/// An empty string with room: writes whether there is the room that was asked.
+fn with_capacity(tape: &mut Tape<'_>) -> Result<Wtf8Buf<Global>, Stop> {
+    let capacity = tape.reader.number()?;
+    let string = allocated(Wtf8Buf::with_capacity(tape.alloc, capacity))?;
+    tape.write_room(&string, capacity)?;
+    Ok(string)
+}
+
+/// The string of an owned text.
+fn from_string(tape: &mut Tape<'_>) -> Result<Wtf8Buf<Global>, Stop> {
+    let text = tape.reader.text()?;
+    let text = allocated(String::from_str(tape.alloc, text))?;
+    Ok(Wtf8Buf::from_string(text))
+}
+
+/// The string of a text.
+fn from_text(tape: &mut Tape<'_>) -> Result<Wtf8Buf<Global>, Stop> {
+    let text = tape.reader.text()?;
+    allocated(Wtf8Buf::from_str(tape.alloc, text))
+}
+
+/// The string of code units.
+fn from_units(tape: &mut Tape<'_>) -> Result<Wtf8Buf<Global>, Stop> {
+    let count = usize::from(tape.reader.byte()?);
+    let units = tape.reader.units(tape.alloc, count)?;
+    allocated(Wtf8Buf::from_ill_formed_utf16(tape.alloc, units.as_slice()))
+}
+
+/// The string of code points.
+fn from_points(tape: &mut Tape<'_>) -> Result<Wtf8Buf<Global>, Stop> {
+    let points = tape.reader.points(tape.alloc)?;
+    allocated(Wtf8Buf::from_iter(tape.alloc, points))
+}
+
+/// The string of code points whose iterator gives a hint of its own.
 fn from_hinted(tape: &mut Tape<'_>) -> Result<Wtf8Buf<Global>, Stop> {
     let low = tape.reader.number()?;
     let points = tape.reader.points(tape.alloc)?;
     let points = points.as_slice();
-    Ok(Wtf8Buf::from_iter(tape.alloc, Hinted { points, low })?)
+    allocated(Wtf8Buf::from_iter(tape.alloc, Hinted { points, low }))
 }
 
-/// The code points of a string behind so many.
-fn points_behind(string: &Wtf8Buf<Global>, count: usize) -> Wtf8CodePoints<'_> {
+/// A string with a view after it.
+pub fn with_view<A: Allocator + Drop>(
+    string: Wtf8Buf<A>,
+    view: Wtf8<'_>,
+) -> Result<Wtf8Buf<A>, Stop> {
+    let mut string = string;
+    allocated(string.push_wtf8(view))?;
+    Ok(string)
+}
+
+/// The calls that append what their operands say, and `reserve`.
+fn append_operand(
+    opcode: u8,
+    string: &mut Wtf8Buf<Global>,
+    tape: &mut Tape<'_>,
+) -> Result<(), Stop> {
+    match opcode {
+        8 => reserve(string, tape),
+        9 => push(string, &mut tape.reader),
+        10 => push_char(string, &mut tape.reader),
+        11 => push_str(string, &mut tape.reader),
+        13 => extend(string, tape),
+        _ => extend_hinted(string, tape),
+    }
+}
+
+/// `reserve`: writes whether there is the room that was asked.
+fn reserve(string: &mut Wtf8Buf<Global>, tape: &mut Tape<'_>) -> Result<(), Stop> {
+    let additional = tape.reader.number()?;
+    allocated(string.reserve(additional))?;
+    tape.write_room(string, additional)
+}
+
+/// `push`.
+fn push(string: &mut Wtf8Buf<Global>, reader: &mut Reader<'_>) -> Result<(), Stop> {
+    let point = reader.point()?;
+    allocated(string.push(point))
+}
+
+/// `push_char`.
+fn push_char(string: &mut Wtf8Buf<Global>, reader: &mut Reader<'_>) -> Result<(), Stop> {
+    let character = reader.character()?;
+    allocated(string.push_char(character))
+}
+
+/// `push_str`.
+fn push_str(string: &mut Wtf8Buf<Global>, reader: &mut Reader<'_>) -> Result<(), Stop> {
+    let text = reader.text()?;
+    allocated(string.push_str(text))
+}
+
+/// `extend` by code points.
+fn extend(string: &mut Wtf8Buf<Global>, tape: &mut Tape<'_>) -> Result<(), Stop> {
+    let points = tape.reader.points(tape.alloc)?;
+    allocated(string.extend(points))
+}
+
+/// `extend` by code points whose iterator gives a hint of its own.
+fn extend_hinted(string: &mut Wtf8Buf<Global>, tape: &mut Tape<'_>) -> Result<(), Stop> {
+    let low = tape.reader.number()?;
+    let points = tape.reader.points(tape.alloc)?;
+    let points = points.as_slice();
+    allocated(string.extend(Hinted { points, low }))
+}
+
+/// `into_string` or `into_string_lossy` of a string, and the string that is made of what it returned.
+fn turned(
+    opcode: u8,
+    string: Wtf8Buf<Global>,
+    tape: &mut Tape<'_>,
+) -> Result<Wtf8Buf<Global>, Stop> {
+    let capacity = string.capacity();
+    let turned = match opcode {
+        19 => string.into_string(),
+        _ => Ok(string.into_string_lossy()),
+    };
+    match turned {
+        Ok(text) => from_turned(text, capacity, tape),
+        Err(string) => {
+            tape.write_line("no text")?;
+            Ok(string)
+        }
+    }
+}
+
+/// Writes the bytes of a text and whether its capacity is as before, and makes a string of it.
+fn from_turned(
+    text: String,
+    capacity: usize,
+    tape: &mut Tape<'_>,
+) -> Result<Wtf8Buf<Global>, Stop> {
+    tape.write_text("text", text.as_str())?;
+    tape.write_kept(text.capacity() == capacity)?;
+    Ok(Wtf8Buf::from_string(text))
+}
+
+/// The code points of a string after the first ones.
+fn points_after(string: &Wtf8Buf<Global>, count: usize) -> Wtf8CodePoints<'_> {
     let mut points = string.as_wtf8().code_points();
     for _ in 0..count {
         points.next();

@@ -1,70 +1,88 @@
 // The calls of texts that stand for more calls of an engine's strings.
-use crate::stop::Stop;
-use crate::tape::{NONE, Tape};
+use crate::stop::{Stop, allocated};
+use crate::tape::Tape;
 use std::alloc::Global;
-use std::fmt::Write;
 use unit_text::UnitText;
 use wtf8_uses::engine_search::{index_of, last_index_of, replace, split};
 use wtf8_uses::engine_strings::{at, code_point_at, pad_start, repeat, to_well_formed, trim_ascii};
 use wtf8_uses::strings::ends_with;
 use wtf8_uses::well_formed::is_well_formed;
 
-/// Writes what a call answers that leaves both texts as they are.
-pub fn answer(
+/// Writes what a call returns that leaves both texts as they are.
+pub fn write_result(
     opcode: u8,
     tape: &mut Tape<'_>,
     text: &UnitText<Global>,
     other: &UnitText<Global>,
 ) -> Result<(), Stop> {
     match opcode {
-        76 => {
-            let place = index_of(text, other, tape.reader.number()?);
-            write!(tape.transcript, "index")?;
-            tape.write_item(place, NONE)?;
-        }
-        77 => {
-            let position = tape.reader.unit()? as isize;
-            write!(tape.transcript, "at")?;
-            tape.write_item(at(text, position), NONE)?;
-            tape.write_item(at(text, -position), NONE)?;
-        }
-        78 => {
-            let point = code_point_at(text, tape.reader.number()?);
-            write!(tape.transcript, "point")?;
-            tape.write_item(point, NONE)?;
-        }
-        79 => write!(tape.transcript, "well formed {}", is_well_formed(text))?,
-        _ => return write_pieces(tape, text),
+        76 => write_index(tape, text, other),
+        77 => write_units_at(tape, text),
+        78 => write_point(tape, text),
+        79 => write_well_formed(tape, text),
+        80 => write_pieces(tape, text),
+        87 => write_last_index(tape, text, other),
+        _ => write_end(tape, text, other),
     }
-    Ok(tape.write_line("")?)
 }
 
-/// Writes what a call answers that looks for the other text from the end: `last_index_of`, or `ends_with`.
-pub fn answer_from_end(
-    opcode: u8,
+/// `index_of`: the index.
+fn write_index(
     tape: &mut Tape<'_>,
     text: &UnitText<Global>,
     other: &UnitText<Global>,
 ) -> Result<(), Stop> {
     let position = tape.reader.number()?;
-    if opcode == 88 {
-        let is_end = ends_with(text, other, position);
-        return Ok(writeln!(tape.transcript, "ends {is_end}")?);
-    }
-    write!(tape.transcript, "last index")?;
-    tape.write_item(last_index_of(text, other, position), NONE)?;
-    Ok(tape.write_line("")?)
+    tape.write_found("index", index_of(text, other, position))
+}
+
+/// `at` a position and at the same position before the end: the units.
+fn write_units_at(tape: &mut Tape<'_>, text: &UnitText<Global>) -> Result<(), Stop> {
+    let position = tape.reader.unit()? as isize;
+    tape.write_two("at", at(text, position), at(text, -position))
+}
+
+/// `code_point_at`: the code point.
+fn write_point(tape: &mut Tape<'_>, text: &UnitText<Global>) -> Result<(), Stop> {
+    let position = tape.reader.number()?;
+    tape.write_found("point", code_point_at(text, position))
+}
+
+/// `is_well_formed`.
+fn write_well_formed(tape: &mut Tape<'_>, text: &UnitText<Global>) -> Result<(), Stop> {
+    writeln!(tape, "well formed {}", is_well_formed(text))
 }
 
 /// `split`: the number of pieces, and each of them on a line.
 fn write_pieces(tape: &mut Tape<'_>, text: &UnitText<Global>) -> Result<(), Stop> {
     let separator = tape.reader.unit()?;
-    let pieces = split(tape.alloc, text, separator)?;
-    writeln!(tape.transcript, "{} pieces", pieces.len())?;
+    let pieces = allocated(split(tape.alloc, text, separator))?;
+    writeln!(tape, "{} pieces", pieces.len())?;
     for piece in pieces.iter() {
         tape.write_units(piece)?;
     }
     Ok(())
+}
+
+/// `last_index_of`: the index.
+fn write_last_index(
+    tape: &mut Tape<'_>,
+    text: &UnitText<Global>,
+    other: &UnitText<Global>,
+) -> Result<(), Stop> {
+    let position = tape.reader.number()?;
+    tape.write_found("last index", last_index_of(text, other, position))
+}
+
+/// `ends_with`.
+fn write_end(
+    tape: &mut Tape<'_>,
+    text: &UnitText<Global>,
+    other: &UnitText<Global>,
+) -> Result<(), Stop> {
+    let position = tape.reader.number()?;
+    let is_end = ends_with(text, other, position);
+    writeln!(tape, "ends {is_end}")
 }
 
 /// The text that a call makes.
@@ -74,16 +92,37 @@ pub fn made(
     text: &UnitText<Global>,
     other: &UnitText<Global>,
 ) -> Result<UnitText<Global>, Stop> {
-    let alloc = tape.alloc;
-    let made = match opcode {
-        81 => pad_start(alloc, text, tape.reader.number()?, other)?,
-        82 => repeat(alloc, text, tape.reader.number()?)?,
-        83 => trim_ascii(alloc, text)?,
-        84 => {
-            let replacement = tape.read_units()?;
-            replace(alloc, text, other, &replacement)?
-        }
-        _ => to_well_formed(alloc, text)?,
-    };
-    Ok(made)
+    match opcode {
+        81 => padded(tape, text, other),
+        82 => repeated(tape, text),
+        83 => allocated(trim_ascii(tape.alloc, text)),
+        84 => replaced(tape, text, other),
+        _ => allocated(to_well_formed(tape.alloc, text)),
+    }
+}
+
+/// `pad_start` by the other text.
+fn padded(
+    tape: &mut Tape<'_>,
+    text: &UnitText<Global>,
+    other: &UnitText<Global>,
+) -> Result<UnitText<Global>, Stop> {
+    let width = tape.reader.number()?;
+    allocated(pad_start(tape.alloc, text, width, other))
+}
+
+/// `repeat`.
+fn repeated(tape: &mut Tape<'_>, text: &UnitText<Global>) -> Result<UnitText<Global>, Stop> {
+    let count = tape.reader.number()?;
+    allocated(repeat(tape.alloc, text, count))
+}
+
+/// `replace` of the other text by units of the script.
+fn replaced(
+    tape: &mut Tape<'_>,
+    text: &UnitText<Global>,
+    other: &UnitText<Global>,
+) -> Result<UnitText<Global>, Stop> {
+    let replacement = tape.read_units()?;
+    allocated(replace(tape.alloc, text, other, &replacement))
 }

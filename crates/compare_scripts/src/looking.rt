@@ -3,67 +3,67 @@ use crate::comparing::{name_of, write_comparisons};
 use crate::machine::Machine;
 use crate::reader::Register;
 use crate::recorder::write_hash_input;
-use crate::stop::Stop;
+use crate::stop::{Stop, allocated};
 use crate::tape::{NONE, Tape};
 use crate::walking::{drain, write_steps};
-use std::alloc::AllocError;
+use std::alloc::Global;
 use std::borrow::CowStr;
-use std::fmt::Write;
-use wtf8::{CodePoint, UnitSlice, Wtf8};
+use wtf8::{CodePoint, UnitSlice, Wtf8, Wtf8Buf};
 
 impl Machine {
-    /// The calls that look at a string: writes what they answer.
+    /// The calls that look at a string: writes what they return.
     pub fn look(&self, opcode: u8, at: Register, tape: &mut Tape<'_>) -> Result<(), Stop> {
-        let string = self.string(at);
-        let view = string.as_wtf8();
         match opcode {
-            21 => write_ascii_byte(tape, view)?,
-            22 => write_boundaries(tape, view)?,
-            23 => {
-                write!(tape.transcript, "points, {}:", view.code_points().count())?;
-                write_steps(tape, view.code_points())?;
-            }
-            24 => {
-                let count = view.to_ill_formed_utf16().count();
-                write!(tape.transcript, "units, {count}:")?;
-                write_steps(tape, view.to_ill_formed_utf16())?;
-            }
-            25 => write_as_text(tape, view)?,
-            26 => write_lossy_text(tape, view)?,
-            27 => {
-                let other = self.string(tape.reader.register()?);
-                write_comparisons(tape, "buffers", string, other)?;
-                write_comparisons(tape, "views", &view, &other.as_wtf8())?;
-            }
-            28 => {
-                write_hash_input(tape, string)?;
-                write_hash_input(tape, &view)?;
-            }
-            29 => {
-                let text = format!(in tape.alloc; "{string:?}")?;
-                tape.write_text("buffer", text.as_str())?;
-                write_debug_texts(tape, view)?;
-            }
-            41 => write_units_by_number(tape, view)?,
-            42 => write_unit_slice(tape, view)?,
-            44 => write_appended_units(tape, view)?,
-            _ => {
-                let other = self.view(tape.reader.register()?);
-                write_orders_of_units(tape, &view, &other)?;
-            }
+            27 => self.compare(at, tape),
+            28 => write_hash_inputs(tape, self.string(at)),
+            29 => write_buffer_texts(tape, self.string(at)),
+            43 => self.compare_units(at, tape),
+            _ => look_at_view(opcode, tape, self.view(at)),
         }
-        Ok(())
+    }
+
+    /// Compares a string with another one, and their views.
+    fn compare(&self, at: Register, tape: &mut Tape<'_>) -> Result<(), Stop> {
+        let other = tape.reader.register()?;
+        write_comparisons(tape, "buffers", self.string(at), self.string(other))?;
+        write_comparisons(tape, "views", &self.view(at), &self.view(other))
+    }
+
+    /// `cmp_units` with another string.
+    fn compare_units(&self, at: Register, tape: &mut Tape<'_>) -> Result<(), Stop> {
+        let other = tape.reader.register()?;
+        write_orders_of_units(tape, &self.view(at), &self.view(other))
     }
 
     /// The calls that look at a slice, in its place, and that compare it with another one.
     pub fn look_inside(&self, opcode: u8, at: Register, tape: &mut Tape<'_>) -> Result<(), Stop> {
         let own = self.read_slice(at, &mut tape.reader);
-        if opcode == 34 {
-            return write_answers(tape, own?);
+        match opcode {
+            34 => write_answers(tape, own?),
+            _ => self.compare_slices(own, tape),
         }
+    }
+
+    /// Compares a slice with another one, whose operands are read even if there is no first one.
+    fn compare_slices(&self, own: Result<Wtf8<'_>, Stop>, tape: &mut Tape<'_>) -> Result<(), Stop> {
         let at = tape.reader.register()?;
         let other = self.read_slice(at, &mut tape.reader);
-        Ok(write_comparisons(tape, "views", &own?, &other?)?)
+        write_comparisons(tape, "views", &own?, &other?)
+    }
+}
+
+/// The calls that look at a view: writes what they return.
+fn look_at_view(opcode: u8, tape: &mut Tape<'_>, view: Wtf8<'_>) -> Result<(), Stop> {
+    match opcode {
+        21 => write_ascii_byte(tape, view),
+        22 => write_boundaries(tape, view),
+        23 => write_points(tape, view),
+        24 => write_units(tape, view),
+        25 => write_as_text(tape, view),
+        26 => write_lossy_text(tape, view),
+        41 => write_units_by_number(tape, view),
+        42 => write_unit_slice(tape, view),
+        _ => write_appended_units(tape, view),
     }
 }
 
@@ -72,28 +72,60 @@ fn write_orders_of_units(
     tape: &mut Tape<'_>,
     own: &Wtf8<'_>,
     other: &Wtf8<'_>,
-) -> Result<(), AllocError> {
+) -> Result<(), Stop> {
     let order = name_of(own.cmp_units(other));
     let turned = name_of(other.cmp_units(own));
-    Ok(writeln!(tape.transcript, "units {order}, turned {turned}")?)
+    writeln!(tape, "units {order}, turned {turned}")
 }
 
-/// The calls that look at what their operands say, a text or code points: writes what they answer.
+/// The calls that look at what their operands say, a text or code points: writes what they return.
 pub fn look_at_operands(opcode: u8, tape: &mut Tape<'_>) -> Result<(), Stop> {
     match opcode {
-        30 => {
-            let view = Wtf8::from_str(tape.reader.text()?);
-            write!(tape.transcript, "view")?;
-            tape.write_view(view)?;
-        }
-        31 => write_point(tape)?,
-        _ => {
-            let own = tape.reader.point();
-            let other = tape.reader.point();
-            write_comparisons(tape, "points", &own?, &other?)?;
-        }
+        30 => write_operand_view(tape),
+        31 => write_point(tape),
+        _ => compare_points(tape),
     }
-    Ok(())
+}
+
+/// The view of a text.
+fn write_operand_view(tape: &mut Tape<'_>) -> Result<(), Stop> {
+    let view = Wtf8::from_str(tape.reader.text()?);
+    tape.write_word("view")?;
+    tape.write_view(view)
+}
+
+/// Compares two code points, of which the second is read even if the first is none.
+fn compare_points(tape: &mut Tape<'_>) -> Result<(), Stop> {
+    let own = tape.reader.point();
+    let other = tape.reader.point();
+    write_comparisons(tape, "points", &own?, &other?)
+}
+
+/// The code points: their number, and the steps of their iterator.
+fn write_points(tape: &mut Tape<'_>, view: Wtf8<'_>) -> Result<(), Stop> {
+    let count = view.code_points().count();
+    write!(tape, "points, {count}:")?;
+    write_steps(tape, view.code_points())
+}
+
+/// The code units: their number, and the steps of their iterator.
+fn write_units(tape: &mut Tape<'_>, view: Wtf8<'_>) -> Result<(), Stop> {
+    let count = view.to_ill_formed_utf16().count();
+    write!(tape, "units, {count}:")?;
+    write_steps(tape, view.to_ill_formed_utf16())
+}
+
+/// What a string and its view feed a hasher.
+fn write_hash_inputs(tape: &mut Tape<'_>, string: &Wtf8Buf<Global>) -> Result<(), Stop> {
+    write_hash_input(tape, string)?;
+    write_hash_input(tape, &string.as_wtf8())
+}
+
+/// The bytes of the debug texts of a string and of its view.
+fn write_buffer_texts(tape: &mut Tape<'_>, string: &Wtf8Buf<Global>) -> Result<(), Stop> {
+    let text = allocated(format!(in tape.alloc; "{string:?}"))?;
+    tape.write_text("buffer", text.as_str())?;
+    write_debug_texts(tape, string.as_wtf8())
 }
 
 /// `ascii_byte_at`: the byte.
@@ -103,22 +135,22 @@ fn write_ascii_byte(tape: &mut Tape<'_>, view: Wtf8<'_>) -> Result<(), Stop> {
         return Err(Stop::Refused);
     }
     let byte = view.ascii_byte_at(position);
-    Ok(writeln!(tape.transcript, "byte {byte:02X}")?)
+    writeln!(tape, "byte {byte:02X}")
 }
 
 /// `is_code_point_boundary` of each index up to the length: those that are boundaries.
-fn write_boundaries(tape: &mut Tape<'_>, view: Wtf8<'_>) -> Result<(), AllocError> {
-    write!(tape.transcript, "boundaries")?;
+fn write_boundaries(tape: &mut Tape<'_>, view: Wtf8<'_>) -> Result<(), Stop> {
+    tape.write_word("boundaries")?;
     for index in 0..=view.len() {
         if view.is_code_point_boundary(index) {
-            write!(tape.transcript, " {index}")?;
+            write!(tape, " {index}")?;
         }
     }
     tape.write_line("")
 }
 
 /// `as_str`: the bytes of the text, or that there is none.
-fn write_as_text(tape: &mut Tape<'_>, view: Wtf8<'_>) -> Result<(), AllocError> {
+fn write_as_text(tape: &mut Tape<'_>, view: Wtf8<'_>) -> Result<(), Stop> {
     match view.as_str() {
         Some(text) => tape.write_text("text", text),
         None => tape.write_line("no text"),
@@ -126,8 +158,8 @@ fn write_as_text(tape: &mut Tape<'_>, view: Wtf8<'_>) -> Result<(), AllocError> 
 }
 
 /// `to_string_lossy`: whether the text is borrowed or owned, and its bytes.
-fn write_lossy_text(tape: &mut Tape<'_>, view: Wtf8<'_>) -> Result<(), AllocError> {
-    let text = view.to_string_lossy(tape.alloc)?;
+fn write_lossy_text(tape: &mut Tape<'_>, view: Wtf8<'_>) -> Result<(), Stop> {
+    let text = allocated(view.to_string_lossy(tape.alloc))?;
     let word = match &text {
         CowStr::Borrowed(_) => "borrowed",
         CowStr::Owned(_) => "owned",
@@ -136,17 +168,27 @@ fn write_lossy_text(tape: &mut Tape<'_>, view: Wtf8<'_>) -> Result<(), AllocErro
 }
 
 /// The bytes of a view's debug text, as it is and under a width and flags.
-fn write_debug_texts(tape: &mut Tape<'_>, view: Wtf8<'_>) -> Result<(), AllocError> {
-    let text = format!(in tape.alloc; "{view:?}")?;
-    let wide_text = format!(in tape.alloc; "{view:#12?}")?;
-    tape.write_text("view", text.as_str())?;
-    tape.write_text("wide", wide_text.as_str())
+fn write_debug_texts(tape: &mut Tape<'_>, view: Wtf8<'_>) -> Result<(), Stop> {
+    write_debug_text(tape, view)?;
+    write_wide_text(tape, view)
+}
+
+/// The bytes of a view's debug text.
+fn write_debug_text(tape: &mut Tape<'_>, view: Wtf8<'_>) -> Result<(), Stop> {
+    let text = allocated(format!(in tape.alloc; "{view:?}"))?;
+    tape.write_text("view", text.as_str())
+}
+
+/// The bytes of a view's debug text under a width and flags.
+fn write_wide_text(tape: &mut Tape<'_>, view: Wtf8<'_>) -> Result<(), Stop> {
+    let text = allocated(format!(in tape.alloc; "{view:#12?}"))?;
+    tape.write_text("wide", text.as_str())
 }
 
 /// `unit_len`, and `unit_at` of each number up to that one.
-fn write_units_by_number(tape: &mut Tape<'_>, view: Wtf8<'_>) -> Result<(), AllocError> {
+fn write_units_by_number(tape: &mut Tape<'_>, view: Wtf8<'_>) -> Result<(), Stop> {
     let len = view.unit_len();
-    write!(tape.transcript, "{len} units")?;
+    write!(tape, "{len} units")?;
     for index in 0..=len {
         tape.write_item(view.unit_at(index), NONE)?;
     }
@@ -160,63 +202,82 @@ fn write_unit_slice(tape: &mut Tape<'_>, view: Wtf8<'_>) -> Result<(), Stop> {
     if end < begin || view.unit_len() < end {
         return Err(Stop::Refused);
     }
-    let UnitSlice { trail, whole, lead } = view.slice_units(begin, end);
-    write!(tape.transcript, "slice")?;
-    tape.write_item(trail, NONE)?;
-    let dump = whole.hex_dump(tape.alloc)?;
-    write!(tape.transcript, " ({dump})")?;
-    tape.write_item(lead, NONE)?;
-    Ok(tape.write_line("")?)
+    write_slice(tape, view.slice_units(begin, end))
 }
 
-/// `append_units` behind some units: all of them.
+/// The trail, the bytes and the lead of a slice.
+fn write_slice(tape: &mut Tape<'_>, slice: UnitSlice<'_>) -> Result<(), Stop> {
+    tape.write_word("slice")?;
+    tape.write_item(slice.trail, NONE)?;
+    write_bytes(tape, slice.whole)?;
+    tape.write_item(slice.lead, NONE)?;
+    tape.write_line("")
+}
+
+/// The bytes of a view, in brackets.
+fn write_bytes(tape: &mut Tape<'_>, view: Wtf8<'_>) -> Result<(), Stop> {
+    let dump = allocated(view.hex_dump(tape.alloc))?;
+    write!(tape, " ({dump})")
+}
+
+/// `append_units` to units of the script: all of them.
 fn write_appended_units(tape: &mut Tape<'_>, view: Wtf8<'_>) -> Result<(), Stop> {
     let count = usize::from(tape.reader.byte()?);
     let mut units = tape.reader.units(tape.alloc, count)?;
-    view.append_units(&mut units)?;
-    write!(tape.transcript, "appended")?;
-    for unit in units.as_slice() {
+    allocated(view.append_units(&mut units))?;
+    write_all_units(tape, units.as_slice())
+}
+
+/// A line with units.
+fn write_all_units(tape: &mut Tape<'_>, units: &[u16]) -> Result<(), Stop> {
+    tape.write_word("appended")?;
+    for unit in units {
         tape.write_item(Some(*unit), NONE)?;
     }
-    Ok(tape.write_line("")?)
+    tape.write_line("")
 }
 
 /// The calls of `CodePoint` on a value: its number, texts, characters and hash input.
 fn write_point(tape: &mut Tape<'_>) -> Result<(), Stop> {
     let point = tape.reader.point()?;
+    write_number(tape, point)?;
+    write_character(tape, point)?;
+    write_hash_input(tape, &point)
+}
+
+/// The number and the debug texts of a code point.
+fn write_number(tape: &mut Tape<'_>, point: CodePoint) -> Result<(), Stop> {
     let number = point.to_u32();
     let is_same = CodePoint::from_u32_unchecked(number) == point;
     writeln!(
-        tape.transcript,
+        tape,
         "point {number:X} {point:?} {point:#12?} unchecked {is_same}"
-    )?;
+    )
+}
+
+/// The character of a code point, or that there is none, and the character that stands for it.
+fn write_character(tape: &mut Tape<'_>, point: CodePoint) -> Result<(), Stop> {
     let lossy = point.to_char_lossy() as u32;
-    match point.to_char() {
-        Some(c) => {
-            let scalar = c as u32;
-            let is_same = CodePoint::from_char(c) == point;
-            writeln!(
-                tape.transcript,
-                "char {scalar:X} lossy {lossy:X} back {is_same}"
-            )?;
-        }
-        None => writeln!(tape.transcript, "no char lossy {lossy:X}")?,
-    }
-    Ok(write_hash_input(tape, &point)?)
+    let Some(c) = point.to_char() else {
+        return writeln!(tape, "no char lossy {lossy:X}");
+    };
+    let scalar = c as u32;
+    let is_same = CodePoint::from_char(c) == point;
+    writeln!(tape, "char {scalar:X} lossy {lossy:X} back {is_same}")
 }
 
 /// All that can be asked of a slice, inside its string.
 fn write_answers(tape: &mut Tape<'_>, part: Wtf8<'_>) -> Result<(), Stop> {
-    write!(tape.transcript, "view")?;
+    tape.write_word("view")?;
     tape.write_view(part)?;
     write_boundaries(tape, part)?;
     write_as_text(tape, part)?;
     write_lossy_text(tape, part)?;
     write_hash_input(tape, &part)?;
     write_debug_texts(tape, part)?;
-    write!(tape.transcript, "points")?;
+    tape.write_word("points")?;
     drain(tape, part.code_points())?;
-    write!(tape.transcript, "\nunits")?;
+    tape.write_word("\nunits")?;
     drain(tape, part.to_ill_formed_utf16())?;
-    Ok(tape.write_line("")?)
+    tape.write_line("")
 }

@@ -2,8 +2,8 @@
 ghost use Rattle.std.specs.Prelude.{◌<◌};
 ghost use Rattle.compare_scripts.specs.declared.reader.TheConstants.{STRINGS};
 
-use crate::stop::Stop;
-use std::alloc::{AllocError, Global};
+use crate::stop::{Stop, push};
+use std::alloc::Global;
 use wtf8::CodePoint;
 
 /// How many strings a script works on.
@@ -78,7 +78,7 @@ impl<'a> Reader<'a> {
     pub fn units(&mut self, alloc: Global, count: usize) -> Result<Vec<u16>, Stop> {
         let mut units = Vec::new(alloc);
         for _ in 0..count {
-            units.push(self.unit()?).map_err(AllocError::from)?;
+            push(&mut units, self.unit()?)?;
         }
         Ok(units)
     }
@@ -88,7 +88,7 @@ impl<'a> Reader<'a> {
         let mut points = Vec::new(alloc);
         for _ in 0..self.byte()? {
             if let Some(point) = CodePoint::from_u32(self.value()?) {
-                points.push(point).map_err(AllocError::from)?;
+                push(&mut points, point)?;
             }
         }
         Ok(points)

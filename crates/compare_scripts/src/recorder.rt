@@ -1,9 +1,8 @@
 // What a hasher is fed.
 ghost use Rattle.std.specs.Prelude.{◌-◌, nat_lt, length, slice_index, Some, is_some, if◌then◌else◌};
 
+use crate::stop::Stop;
 use crate::tape::Tape;
-use std::alloc::AllocError;
-use std::fmt::Write;
 use std::hash::{Hash, Hasher};
 
 /// A hasher that keeps one byte of what it is fed: the one that has so many in front of it.
@@ -32,18 +31,23 @@ impl Hasher for ByteAt {
 }
 
 /// Writes the bytes that a value feeds a hasher, one after the other.
-pub fn write_hash_input<T: Hash>(tape: &mut Tape<'_>, value: &T) -> Result<(), AllocError> {
-    write!(tape.transcript, "fed")?;
-    for in_front in 0..usize::MAX {
-        let mut state = ByteAt {
-            in_front,
-            byte: None,
-        };
-        value.hash(&mut state);
-        let Some(byte) = state.byte else {
+pub fn write_hash_input<T: Hash>(tape: &mut Tape<'_>, value: &T) -> Result<(), Stop> {
+    tape.write_word("fed")?;
+    for index in 0..usize::MAX {
+        let Some(byte) = byte_fed(value, index) else {
             break;
         };
-        write!(tape.transcript, " {byte:02X}")?;
+        write!(tape, " {byte:02X}")?;
     }
     tape.write_line("")
+}
+
+/// The byte at an index of what a value feeds a hasher.
+fn byte_fed<T: Hash>(value: &T, index: usize) -> Option<u8> {
+    let mut state = ByteAt {
+        in_front: index,
+        byte: None,
+    };
+    value.hash(&mut state);
+    state.byte
 }

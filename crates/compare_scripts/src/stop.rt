@@ -1,7 +1,8 @@
 // Why a call is not done.
 use std::alloc::AllocError;
 
-/// Why a call is not done.
+/// Why a call is not done. Each function of this crate has this error, so that no `?` converts one: the proof of a function
+/// that converts several errors takes twice as long.
 #[derive(Clone, Copy)]
 pub enum Stop {
     /// A position or a range is refused.
@@ -16,8 +17,18 @@ pub enum Stop {
     Memory,
 }
 
-impl From<AllocError> for Stop {
-    fn from(_: AllocError) -> Stop {
-        Stop::Memory
+/// The result of a call that allocates, with the error of this crate.
+pub fn allocated<T>(returned: Result<T, AllocError>) -> Result<T, Stop> {
+    match returned {
+        Ok(value) => Ok(value),
+        Err(_) => Err(Stop::Memory),
+    }
+}
+
+/// Appends an item to a list.
+pub fn push<T: Copy>(items: &mut Vec<T>, item: T) -> Result<(), Stop> {
+    match items.push(item) {
+        Ok(()) => Ok(()),
+        Err(_) => Err(Stop::Memory),
     }
 }

@@ -1,8 +1,8 @@
 // What a script is read from and its transcript written to.
 use crate::reader::{Reader, Register};
-use crate::stop::Stop;
-use std::alloc::{AllocError, Global};
-use std::fmt::Write;
+use crate::stop::{Stop, allocated};
+use std::alloc::Global;
+use std::fmt::Display;
 use unit_text::UnitText;
 use wtf8::{CodePoint, Wtf8, Wtf8Buf};
 
@@ -16,90 +16,130 @@ pub struct Tape<'s> {
     pub alloc: Global,
     /// What is left of the script.
     pub reader: Reader<'s>,
-    /// What the calls so far answered.
+    /// What the calls so far returned.
     pub transcript: String,
 }
 
 impl<'s> Tape<'s> {
-    /// A text that is counted in units: a number, and so many units.
+    /// A script from its start, and an empty transcript.
+    pub fn new(alloc: Global, script: &'s [u8]) -> Tape<'s> {
+        Tape {
+            alloc,
+            reader: Reader::new(script),
+            transcript: String::new(alloc),
+        }
+    }
+
+    /// A text that is counted in units: their number, and the units.
     pub fn read_units(&mut self) -> Result<UnitText<Global>, Stop> {
         let count = self.reader.number()?;
         let units = self.reader.units(self.alloc, count)?;
-        Ok(UnitText::from_units(self.alloc, units.as_slice())?)
+        allocated(UnitText::from_units(self.alloc, units.as_slice()))
+    }
+
+    /// What `write!` and `writeln!` call.
+    pub fn write_fmt<D: Display + Drop>(&mut self, text: D) -> Result<(), Stop> {
+        allocated(self.transcript.write_fmt(text))
+    }
+
+    /// Writes a word as it is.
+    pub fn write_word(&mut self, word: &str) -> Result<(), Stop> {
+        allocated(self.transcript.push_str(word))
     }
 
     /// Writes a line.
-    pub fn write_line(&mut self, line: &str) -> Result<(), AllocError> {
-        writeln!(self.transcript, "{line}")
+    pub fn write_line(&mut self, line: &str) -> Result<(), Stop> {
+        self.write_word(line)?;
+        self.write_word("\n")
     }
 
     /// Writes a line with a word and the bytes of a text in hexadecimal.
-    pub fn write_text(&mut self, word: &str, text: &str) -> Result<(), AllocError> {
-        let dump = Wtf8::from_str(text).hex_dump(self.alloc)?;
-        writeln!(self.transcript, "{word}: {dump}")
+    pub fn write_text(&mut self, word: &str, text: &str) -> Result<(), Stop> {
+        let dump = allocated(Wtf8::from_str(text).hex_dump(self.alloc))?;
+        writeln!(self, "{word}: {dump}")
     }
 
     /// Writes a register, and a string's length and bytes.
-    pub fn write_string(&mut self, at: Register, string: Wtf8<'_>) -> Result<(), AllocError> {
-        write!(self.transcript, "s{}", at.index)?;
+    pub fn write_string(&mut self, at: Register, string: Wtf8<'_>) -> Result<(), Stop> {
+        write!(self, "s{}", at.index)?;
         self.write_view(string)
     }
 
-    /// Writes the length and the bytes of a view behind a space, to the end of the line.
-    pub fn write_view(&mut self, view: Wtf8<'_>) -> Result<(), AllocError> {
-        let dump = view.hex_dump(self.alloc)?;
-        writeln!(self.transcript, " {}: {dump}", view.len())
+    /// Writes a space and the length and the bytes of a view, to the end of the line.
+    pub fn write_view(&mut self, view: Wtf8<'_>) -> Result<(), Stop> {
+        let dump = allocated(view.hex_dump(self.alloc))?;
+        writeln!(self, " {}: {dump}", view.len())
     }
 
     /// Writes the length and the units of a text, to the end of the line.
-    pub fn write_units(&mut self, text: &UnitText<Global>) -> Result<(), AllocError> {
-        write!(self.transcript, "{} units:", text.unit_len())?;
+    pub fn write_units(&mut self, text: &UnitText<Global>) -> Result<(), Stop> {
+        write!(self, "{} units:", text.unit_len())?;
         for unit in text.as_wtf8().to_ill_formed_utf16() {
-            write!(self.transcript, "{unit:04X}")?;
+            write!(self, "{unit:04X}")?;
         }
         self.write_line("")
     }
 
-    /// Writes an item behind a space, or a word where there is none.
-    pub fn write_item<T: Shown>(&mut self, item: Option<T>, none: &str) -> Result<(), AllocError> {
+    /// Writes a space and an item, or a word where there is none.
+    pub fn write_item<T: Shown>(&mut self, item: Option<T>, none: &str) -> Result<(), Stop> {
         match item {
-            Some(item) => item.show(&mut self.transcript),
-            None => write!(self.transcript, " {none}"),
+            Some(item) => item.show(self),
+            None => write!(self, " {none}"),
         }
     }
 
+    /// Writes a line with a word, and an item after it.
+    pub fn write_found<T: Shown>(&mut self, word: &str, item: Option<T>) -> Result<(), Stop> {
+        self.write_word(word)?;
+        self.write_item(item, NONE)?;
+        self.write_line("")
+    }
+
+    /// Writes a line with a word, and two units after it.
+    pub fn write_two(
+        &mut self,
+        word: &str,
+        first: Option<u16>,
+        second: Option<u16>,
+    ) -> Result<(), Stop> {
+        self.write_word(word)?;
+        self.write_item(first, NONE)?;
+        self.write_item(second, NONE)?;
+        self.write_line("")
+    }
+
     /// Writes whether a string has as much spare room as was asked.
-    pub fn write_room(&mut self, string: &Wtf8Buf<Global>, asked: usize) -> Result<(), AllocError> {
+    pub fn write_room(&mut self, string: &Wtf8Buf<Global>, asked: usize) -> Result<(), Stop> {
         let has_room = asked <= string.capacity() - string.len();
-        writeln!(self.transcript, "room {has_room}")
+        writeln!(self, "room {has_room}")
     }
 
     /// Writes whether the capacity is as before.
-    pub fn write_kept(&mut self, is_kept: bool) -> Result<(), AllocError> {
-        writeln!(self.transcript, "room kept {is_kept}")
+    pub fn write_kept(&mut self, is_kept: bool) -> Result<(), Stop> {
+        writeln!(self, "room kept {is_kept}")
     }
 }
 
 /// An item of an iterator, as a transcript shows it.
 pub trait Shown: Copy {
-    /// Writes the item behind a space.
-    fn show(self, transcript: &mut String) -> Result<(), AllocError>;
+    /// Writes a space and the item.
+    fn show(self, tape: &mut Tape<'_>) -> Result<(), Stop>;
 }
 
 impl Shown for CodePoint {
-    fn show(self, transcript: &mut String) -> Result<(), AllocError> {
-        write!(transcript, " {self:?}")
+    fn show(self, tape: &mut Tape<'_>) -> Result<(), Stop> {
+        write!(tape, " {self:?}")
     }
 }
 
 impl Shown for usize {
-    fn show(self, transcript: &mut String) -> Result<(), AllocError> {
-        write!(transcript, " {self}")
+    fn show(self, tape: &mut Tape<'_>) -> Result<(), Stop> {
+        write!(tape, " {self}")
     }
 }
 
 impl Shown for u16 {
-    fn show(self, transcript: &mut String) -> Result<(), AllocError> {
-        write!(transcript, " {self:04X}")
+    fn show(self, tape: &mut Tape<'_>) -> Result<(), Stop> {
+        write!(tape, " {self:04X}")
     }
 }

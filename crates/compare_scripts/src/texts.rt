@@ -1,10 +1,9 @@
 // The calls of texts that are counted in units.
 use crate::comparing::name_of;
-use crate::engine::{answer, answer_from_end, made};
-use crate::stop::Stop;
-use crate::tape::{NONE, Tape};
-use std::alloc::{AllocError, Global};
-use std::fmt::Write;
+use crate::engine::{made, write_result};
+use crate::stop::{Stop, allocated};
+use crate::tape::Tape;
+use std::alloc::Global;
 use std::mem;
 use unit_text::UnitText;
 use wtf8_uses::cuts::is_whole_again;
@@ -22,11 +21,10 @@ pub struct Texts {
 
 impl Texts {
     /// Two empty texts.
-    pub fn new(alloc: Global) -> Result<Texts, AllocError> {
-        Ok(Texts {
-            first: UnitText::from_units(alloc, &[])?,
-            second: UnitText::from_units(alloc, &[])?,
-        })
+    pub fn new(alloc: Global) -> Result<Texts, Stop> {
+        let first = allocated(UnitText::from_units(alloc, &[]))?;
+        let second = allocated(UnitText::from_units(alloc, &[]))?;
+        Ok(Texts { first, second })
     }
 
     /// Does the call of an opcode, whose operands come next in the script, and writes what it answers. A call that
@@ -57,93 +55,135 @@ impl Texts {
     /// | 87, 88 | a number | `last_index_of` the second text, up to a position; `ends_with` it, at a position |
     pub fn run(&mut self, opcode: u8, tape: &mut Tape<'_>) -> Result<(), Stop> {
         match opcode {
-            64 => self.first = tape.read_units()?,
+            64 | 66 | 67 | 75 | 81..=86 => {
+                self.change(opcode, tape)?;
+                tape.write_units(&self.first)
+            }
             65 => {
                 mem::swap(&mut self.first, &mut self.second);
-                return Ok(tape.write_line("swapped")?);
+                tape.write_line("swapped")
             }
-            66 => {
-                let begin = tape.reader.number()?;
-                let end = tape.reader.number()?;
-                if end < begin || self.first.unit_len() < end {
-                    return Err(Stop::Refused);
-                }
-                self.first = self.first.slice_units(tape.alloc, begin, end)?;
-            }
-            67 => self.first.concat(&self.second)?,
-            75 => self.first.mark_units(tape.alloc),
-            81..=85 => self.first = made(opcode, tape, &self.first, &self.second)?,
-            86 => push_units(&mut self.first, tape)?,
-            _ => return self.look(opcode, tape),
+            76..=80 | 87 | 88 => write_result(opcode, tape, &self.first, &self.second),
+            _ => self.look(opcode, tape),
         }
-        Ok(tape.write_units(&self.first)?)
     }
 
-    /// The calls that leave both texts as they are.
-    fn look(&self, opcode: u8, tape: &mut Tape<'_>) -> Result<(), Stop> {
-        let text = &self.first;
+    /// The calls that change the first text.
+    fn change(&mut self, opcode: u8, tape: &mut Tape<'_>) -> Result<(), Stop> {
         match opcode {
-            68 => writeln!(tape.transcript, "length {}", text.unit_len())?,
-            69 => {
-                let at = tape.reader.number()?;
-                write!(tape.transcript, "unit")?;
-                tape.write_item(text.unit_at(at), NONE)?;
-                tape.write_item(char_code_at(text, at), NONE)?;
-                tape.write_line("")?;
-            }
-            70 => {
-                let first = tape.reader.number()?;
-                let between = substring(tape.alloc, text, first, tape.reader.number()?)?;
-                tape.write_units(&between)?;
-            }
-            71 => {
-                let unit = char_at(tape.alloc, text, tape.reader.number()?)?;
-                tape.write_units(&unit)?;
-            }
-            72 => {
-                let is_there = starts_with(text, &self.second, tape.reader.number()?);
-                writeln!(tape.transcript, "starts {is_there}")?;
-            }
-            73 => self.compare(tape)?,
-            74 => {
-                let whole = whole_cuts(tape.alloc, text)?;
-                writeln!(tape.transcript, "whole {whole}")?;
-            }
-            76..=80 => return answer(opcode, tape, text, &self.second),
-            87 | 88 => return answer_from_end(opcode, tape, text, &self.second),
-            _ => return Err(Stop::Malformed),
+            67 => return allocated(self.first.concat(&self.second)),
+            75 => self.first.mark_units(tape.alloc),
+            86 => return push_units(&mut self.first, tape),
+            _ => self.first = self.made(opcode, tape)?,
         }
         Ok(())
     }
 
+    /// The text that a call makes for the first text.
+    fn made(&self, opcode: u8, tape: &mut Tape<'_>) -> Result<UnitText<Global>, Stop> {
+        match opcode {
+            64 => tape.read_units(),
+            66 => self.slice(tape),
+            _ => made(opcode, tape, &self.first, &self.second),
+        }
+    }
+
+    /// The first text from one position to another.
+    fn slice(&self, tape: &mut Tape<'_>) -> Result<UnitText<Global>, Stop> {
+        let begin = tape.reader.number()?;
+        let end = tape.reader.number()?;
+        if end < begin || self.first.unit_len() < end {
+            return Err(Stop::Refused);
+        }
+        allocated(self.first.slice_units(tape.alloc, begin, end))
+    }
+
+    /// The calls that leave both texts as they are.
+    fn look(&self, opcode: u8, tape: &mut Tape<'_>) -> Result<(), Stop> {
+        match opcode {
+            68 => self.write_len(tape),
+            69 => self.write_unit(tape),
+            70 => self.write_substring(tape),
+            71 => self.write_char(tape),
+            72 => self.write_start(tape),
+            73 => self.write_order(tape),
+            74 => self.write_whole_cuts(tape),
+            _ => Err(Stop::Malformed),
+        }
+    }
+
+    /// The length.
+    fn write_len(&self, tape: &mut Tape<'_>) -> Result<(), Stop> {
+        let len = self.first.unit_len();
+        writeln!(tape, "length {len}")
+    }
+
+    /// The unit at a position, by `unit_at` and by `char_code_at`.
+    fn write_unit(&self, tape: &mut Tape<'_>) -> Result<(), Stop> {
+        let at = tape.reader.number()?;
+        tape.write_two(
+            "unit",
+            self.first.unit_at(at),
+            char_code_at(&self.first, at),
+        )
+    }
+
+    /// `substring`.
+    fn write_substring(&self, tape: &mut Tape<'_>) -> Result<(), Stop> {
+        let begin = tape.reader.number()?;
+        let end = tape.reader.number()?;
+        let part = allocated(substring(tape.alloc, &self.first, begin, end))?;
+        tape.write_units(&part)
+    }
+
+    /// `char_at`.
+    fn write_char(&self, tape: &mut Tape<'_>) -> Result<(), Stop> {
+        let at = tape.reader.number()?;
+        let unit = allocated(char_at(tape.alloc, &self.first, at))?;
+        tape.write_units(&unit)
+    }
+
+    /// `starts_with`.
+    fn write_start(&self, tape: &mut Tape<'_>) -> Result<(), Stop> {
+        let at = tape.reader.number()?;
+        let is_there = starts_with(&self.first, &self.second, at);
+        writeln!(tape, "starts {is_there}")
+    }
+
     /// Writes how the texts compare.
-    fn compare(&self, tape: &mut Tape<'_>) -> Result<(), AllocError> {
+    fn write_order(&self, tape: &mut Tape<'_>) -> Result<(), Stop> {
         let (first, second) = (&self.first, &self.second);
         let order = name_of(first.cmp_units(second));
         let is_below = is_less(first, second);
         let is_above = is_less(second, first);
         let is_equal = first == second;
         writeln!(
-            tape.transcript,
+            tape,
             "order {order} lt {is_below} gt {is_above} eq {is_equal}"
         )
     }
+
+    /// The number of positions at which the text can be cut and is found whole again.
+    fn write_whole_cuts(&self, tape: &mut Tape<'_>) -> Result<(), Stop> {
+        let whole = whole_cuts(tape.alloc, &self.first)?;
+        writeln!(tape, "whole {whole}")
+    }
 }
 
-/// Pushes each of the units that come next in the script, behind their number.
+/// Pushes units: their number comes next in the script, and then the units.
 fn push_units(text: &mut UnitText<Global>, tape: &mut Tape<'_>) -> Result<(), Stop> {
-    let count = tape.reader.number()?;
-    for _ in 0..count {
-        text.push(tape.reader.unit()?)?;
+    for _ in 0..tape.reader.number()? {
+        let unit = tape.reader.unit()?;
+        allocated(text.push(unit))?;
     }
     Ok(())
 }
 
-/// At how many places a text can be cut and is found whole again.
-fn whole_cuts(alloc: Global, text: &UnitText<Global>) -> Result<u64, AllocError> {
+/// The number of positions at which a text can be cut and is found whole again.
+fn whole_cuts(alloc: Global, text: &UnitText<Global>) -> Result<u64, Stop> {
     let mut whole = 0u64;
     for place in 0..=text.unit_len() {
-        if is_whole_again(alloc, alloc, text, place)? {
+        if allocated(is_whole_again(alloc, alloc, text, place))? {
             whole = whole.wrapping_add(1);
         }
     }

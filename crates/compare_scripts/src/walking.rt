@@ -1,10 +1,8 @@
 // The steps of an iterator.
 ghost use Rattle.std.specs.Iterator.{IsFinite};
 
-use crate::stop::Stop;
+use crate::stop::{Stop, allocated};
 use crate::tape::{Shown, Tape};
-use std::alloc::AllocError;
-use std::fmt::Write;
 
 /// The word for the end of an iterator.
 const END: &str = "end";
@@ -21,56 +19,53 @@ pub fn write_steps<T: Shown, I: Iterator<Item = T> + Clone>(
         match *step {
             0 => tape.write_item(items.next(), END)?,
             1 => write_hint(tape, items.size_hint())?,
-            2 => drain(tape, items.clone()?)?,
-            3 => items = items.clone()?,
+            2 => drain(tape, allocated(items.clone())?)?,
+            3 => items = allocated(items.clone())?,
             4 => tape.write_item(items.nth(1), END)?,
-            5 => tape.write_item(items.clone()?.last(), END)?,
-            6 => tape.write_item(items.clone()?.skip(2).next(), END)?,
-            7 => write_collected(tape, items.clone()?)?,
+            5 => tape.write_item(allocated(items.clone())?.last(), END)?,
+            6 => tape.write_item(allocated(items.clone())?.skip(2).next(), END)?,
+            7 => write_collected(tape, allocated(items.clone())?)?,
             _ => return Err(Stop::Malformed),
         }
     }
     drain(tape, items)?;
-    Ok(tape.write_line("")?)
+    tape.write_line("")
 }
 
 /// Writes how many items are collected, and each.
 fn write_collected<T: Shown, I: Iterator<Item = T>>(
     tape: &mut Tape<'_>,
     items: I,
-) -> Result<(), AllocError>
+) -> Result<(), Stop>
     requires { (state : I) → I.can_next state × IsFinite (I.remaining state) }
 {
-    let items: Vec<T> = items.collect(tape.alloc)?;
+    let items: Vec<T> = allocated(items.collect(tape.alloc))?;
     let count = items.len();
-    write!(tape.transcript, " {count} items")?;
+    write!(tape, " {count} items")?;
     for item in &items {
-        item.show(&mut tape.transcript)?;
+        item.show(tape)?;
     }
     Ok(())
 }
 
 /// Writes the items that are left in brackets, each behind the hint before it, and asks once more at the end.
-pub fn drain<T: Shown, I: Iterator<Item = T>>(
-    tape: &mut Tape<'_>,
-    mut items: I,
-) -> Result<(), AllocError>
+pub fn drain<T: Shown, I: Iterator<Item = T>>(tape: &mut Tape<'_>, mut items: I) -> Result<(), Stop>
     requires { (state : I) → I.can_next state × IsFinite (I.remaining state) }
 {
-    write!(tape.transcript, " [")?;
+    tape.write_word(" [")?;
     write_hint(tape, items.size_hint())?;
     while let Some(item) = items.next() {
-        item.show(&mut tape.transcript)?;
+        item.show(tape)?;
         write_hint(tape, items.size_hint())?;
     }
     tape.write_item(items.next(), END)?;
-    write!(tape.transcript, " ]")
+    tape.write_word(" ]")
 }
 
-fn write_hint(tape: &mut Tape<'_>, hint: (usize, Option<usize>)) -> Result<(), AllocError> {
+fn write_hint(tape: &mut Tape<'_>, hint: (usize, Option<usize>)) -> Result<(), Stop> {
     let (low, high) = hint;
     match high {
-        Some(high) => write!(tape.transcript, " {low}..{high}"),
-        None => write!(tape.transcript, " {low}.."),
+        Some(high) => write!(tape, " {low}..{high}"),
+        None => write!(tape, " {low}.."),
     }
 }
