@@ -1,9 +1,9 @@
--- A front that two lists have in common.
+-- The common prefix of two lists.
 use Rattle.std.proofs.Common.{◌≡◌, ℕ, ◌+◌, List, [], ◌∷◌, ◌++◌, sym, ap, ◌∙◌, append_assoc}
 use Rattle.std.proofs.lemmas.List.{length-append}
 use Rattle.wtf8_uses.specs.CommonFront.{ShareFront}
 
--- one more number is the same
+-- if the next numbers are equal, the common prefix grows by one
 pub one_more : {u v rest other : List ℕ} {n : ℕ} → ShareFront u v rest other n → (x y : ℕ) (xs ys : List ℕ) → rest ≡ x ∷ xs → other ≡ y ∷ ys
     → x ≡ y → ShareFront u v xs ys (n + 1)
 one_more s x y xs ys e f same = record {

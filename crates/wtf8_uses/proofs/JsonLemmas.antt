@@ -1,4 +1,4 @@
--- Code points that stand for themselves in JSON text.
+-- Code points that JSON text does not escape.
 use Rattle.std.proofs.Common.{◌≡◌, ◌≢◌, ℕ, ◌≤◌, refl, ◌∙◌, arith}
 use Rattle.std.proofs.lemmas.Bool.Decides.{nat_tests}
 use Rattle.std.specs.Char.{encode_utf8}
@@ -14,6 +14,6 @@ unescaped : (p : ℕ) → 0x20 ≤ p → p ≢ 0x22 → p ≢ 0x5C → ¬ (IsSur
 unfolding json_point
 unescaped p control quote backslash surrogate = grind (arith, nat_tests, control, quote, backslash, surrogate)
 
--- no control character, quote, backslash or surrogate is escaped
+-- a scalar value from U+0020 on that is no quote or backslash is written as its UTF-8 bytes
 pub stands_itself : (p : ℕ) → 0x20 ≤ p → p ≢ 0x22 → p ≢ 0x5C → ¬ (IsSurrogate p) → json_point p ≡ encode_utf8 p
 stands_itself p control quote backslash surrogate = unescaped p control quote backslash surrogate ∙ same_bytes p

@@ -1,4 +1,4 @@
--- A list that is given the next number.
+-- The chains of numbered lists stay correct when a list is added.
 use Rattle.std.proofs.Common.{◌≡◌, ℕ, zero, suc, ◌+◌, ◌<◌, ◌≤◌, ◌↔◌, ◌⊎◌, inl, inr, Bool, true, false, cond, eqb, List, [], ◌∷◌, ◌++◌, length, slice_get, slice_index_or, Some, refl, sym}
 use Rattle.std.proofs.Common.{ap, subst, ◌∙◌, arith}
 use Rattle.std.proofs.lemmas.Bool.Decides.{nat_tests}
@@ -23,17 +23,17 @@ lt_of_apart {j} {k} le apart = grind (arith, le, apart)
 same_at : (us : List (List ℕ)) (k : ℕ) (u v : List ℕ) → slice_get us k ≡ Some u → slice_get us k ≡ Some v → u ≡ v
 same_at us k u v a b = cc
 
--- Where a list stands among others it does before an end, and the one right before the end has its hash.
+-- If `v` is in the lists, its index is below `end`, and the list at index `end - 1` has the hash of `v`.
 pub record IsReached (lists : List (List ℕ)) (v : List ℕ) (end : ℕ) : Type 0 where
   pub within : end ≤ length lists
   pub before : (k : ℕ) → slice_get lists k ≡ Some v → k < end
   pub last : (k : ℕ) (u : List ℕ) → k + 1 ≡ end → slice_get lists k ≡ Some u → hash_of u ≡ hash_of v
 
--- lists are numbered by other words for them
+-- `AreNumbered` for lists equal to the numbered ones
 pub seen : {S : Type 0} {m : HashMap ℕ ℕ S} {b c : List ℕ} {us vs : List (List ℕ)} → AreNumbered m b us → b ≡ c → us ≡ vs → AreNumbered m c vs
 seen {m = m} {c = c} {us = us} old e f = subst (AreNumbered m c) f (subst (λ x. AreNumbered m x us) e old)
 
--- the end before a list that is another one
+-- if the list at index `end - 1` is not `v`, the search goes on at the end before that list
 pub next_end : (us : List (List ℕ)) (u v : List ℕ) (k end e : ℕ) → k + 1 ≡ end → IsReached us v end → slice_get us k ≡ Some u → (u ≡ v → ⊥)
     → IsEnd us (hash_of u) k e → IsReached us v e
 next_end us u v k end e is r at apart o =
@@ -43,14 +43,14 @@ next_end us u v k end e is r at apart o =
       last = λ j w e there. o.last j w e there ∙ hash;
     }
 
--- the list of a number and the end before it
+-- the list at index `k`, and the end of the chain before it
 pub end_before : {S : Type 0} {m : HashMap ℕ ℕ S} {befores : List ℕ} {us : List (List ℕ)} → AreNumbered m befores us → (k e : ℕ) → k < length us
     → e ≡ slice_index_or befores k e → (u : List ℕ) × (slice_get us k ≡ Some u) × IsEnd us (hash_of u) k e
 end_before {befores = befores} {us = us} old k e within is =
     let at = slice_get-get_or us k [] within in
     (slice_index_or us k [], at, old.befores_are k e _ at (slice_get_read befores (length us) k e (sym old.lengths) within is))
 
--- a list has one number
+-- a list occurs at one index only
 pub one_number : {S : Type 0} {m : HashMap ℕ ℕ S} {befores : List ℕ} {us : List (List ℕ)} → AreNumbered m befores us → (k : ℕ) (v : List ℕ)
     → slice_get us k ≡ Some v → (n : ℕ) → (Some k ≡ Some n) ↔ (slice_get us n ≡ Some v)
 one_number {us = us} old k v at n = (λ e. subst (λ j. slice_get us j ≡ Some v) (same_Some k n e) at, λ there. ap Some (old.distinct k n v at there))
@@ -62,7 +62,7 @@ module _ (us : List (List ℕ)) (v : List ℕ) where
   len : length more ≡ length us + 1
   len = length-append us (v ∷ [])
 
-  -- an end within the old lists stays one
+  -- an end within the old lists is still correct
   stays : (h limit end : ℕ) → limit ≤ length us → IsEnd us h limit end → IsEnd more h limit end
   stays h limit end l o = record {
     within = o.within;
@@ -70,7 +70,7 @@ module _ (us : List (List ℕ)) (v : List ℕ) where
     last = λ k u is at. elim (old_or_last us v k u at) [ inl a ↦ o.last k u is a | inr b ↦ absurd (omega (arith, b.0, is, o.within, l)) ];
   }
 
-  -- the end of all lists of another hash stays the same
+  -- the chain of another hash keeps its end
   other : (h end : ℕ) → (hash_of v ≡ h → ⊥) → IsEnd us h (length us) end → IsEnd more h (length more) end
   other h end apart o = let s = stays h (length us) end (omega arith) o in record {
     within = omega (arith, o.within, len);
@@ -81,7 +81,7 @@ module _ (us : List (List ℕ)) (v : List ℕ) where
     last = s.last;
   }
 
-  -- the new list is the last of its hash
+  -- the chain of `v`'s hash now ends with `v`
   newest : IsEnd more (hash_of v) (length more) (length us + 1)
   newest = record {
     within = omega (arith, len);
@@ -120,7 +120,7 @@ module _ (us : List (List ℕ)) (v : List ℕ) where
       ];
     }
 
--- the units of strings of which one was pushed
+-- `units_of_strings` after a push
 pub units_pushed : (old mid new : List UnitString) (s : UnitString) {us : List (List ℕ)} {v : List ℕ} → new ≡ mid ++ s ∷ [] → mid ≡ old
     → units_of_strings old ≡ us → s.units ≡ v → units_of_strings new ≡ us ++ v ∷ []
 units_pushed old mid new s {us} e f g h =

@@ -1,4 +1,4 @@
--- Lists of strings of which each that is equal to the one before it is dropped.
+-- `dedup` of strings, by their units, and their order by code points.
 use Rattle.std.proofs.Common.{◌≡◌, ℕ, Bool, true, false, cond, List, [], ◌∷◌, refl, ap}
 use Rattle.std.specs.Cmp.{both_ways}
 use Rattle.std.specs.Cmp.Lexicographic.{slice_cmp, pointwise, bytes_decides}
@@ -32,11 +32,11 @@ module _ (law : EqualBuffersHaveEqualUnits) where
         | false ↦ ap (λ ys. s.units ∷ ys) (from x xs)
       ])
 
-  -- the units of the strings that are left are the lists that are left of their units
+  -- `dedup` by bytes is `dedup` by units
   pub units_once : (xs : List UnitString) → units_of_strings (dedup alike_bytes xs) ≡ dedup alike (units_of_strings xs)
   units_once [] = refl
   units_once (x ∷ xs) = from x xs
 
--- comparing the bytes of strings is comparing their code points
+-- strings compare by bytes as by code points
 pub by_points : BytesCompareAsPoints → (s t : UnitString) → slice_cmp nat_cmp s.bytes t.bytes ≡ slice_cmp nat_cmp s.form.points t.form.points
 by_points law s t = cc (law s.form.points t.form.points, s.form.encoded, t.form.encoded)

@@ -13,45 +13,45 @@ use Rattle.wtf8_uses.specs.FileName.{BeginsWith, IsMark, HasNoMark, is_separator
 abbrev pub parts : Wtf8 → List (List ℕ)
 parts path = slice_split is_separator (view_units path)
 
--- yes is right where what decides it holds
+-- the result true is right if the equivalent condition holds
 pub yes_by : {P Q : Type 0} → P ↔ Q → Q → IsTrue true ↔ P
 yes_by e q = (λ _. e.1 q, λ _. refl)
 
--- no is right where what decides it does not hold
+-- the result false is right if the equivalent condition fails
 pub no_by : {P Q : Type 0} → P ↔ Q → ¬ Q → IsTrue false ↔ P
 no_by e none = (λ t. absurd (false≢true t), λ p. absurd (none (e.0 p)))
 
--- the first part is before the first separator
+-- the first component is the part before the first separator
 pub first_part : (u front back : List ℕ) (m : ℕ) → u ≡ front ++ m ∷ back → IsMark 0x2F 0x5C m → HasNoMark 0x2F 0x5C front
     → slice_split is_separator u ≡ front ∷ slice_split is_separator back
 first_part u front back m e mark none =
     rw e (slice_split_at is_separator front m back (λ k d h. grind (arith, nat_tests, none.first k d h, none.second k d h))
     (elim mark [ inl l ↦ grind (arith, nat_tests, l) | inr r ↦ grind (arith, nat_tests, r) ]))
 
--- without a separator there is one part
+-- units without a separator are one component
 pub one_part : (u : List ℕ) → HasNoMark 0x2F 0x5C u → slice_split is_separator u ≡ u ∷ []
 one_part u none = slice_split_none is_separator u (λ k d h. grind (arith, nat_tests, none.first k d h, none.second k d h))
 
--- parts begin with the first one of them
+-- a list begins with its first part
 pub begin_with_first : (x y : List ℕ) (xs us vs : List (List ℕ)) → us ≡ x ∷ xs → vs ≡ y ∷ [] → x ≡ y → BeginsWith us vs
 begin_with_first x y xs us vs e f same = record { rest = xs; joined = cc (e, f, same) }
 
--- one part does not begin with more than one
+-- a list of one part does not begin with more than one
 pub no_more : (x y : List ℕ) (u : List ℕ) (us vs : List (List ℕ)) → us ≡ x ∷ [] → vs ≡ y ∷ slice_split is_separator u → ¬ (BeginsWith us vs)
 no_more x y u us vs e f b =
     omega (arith, simp length-append at (ap length (sym e ∙ (b.joined ∙ ap (λ z. z ++ b.rest) f))), length-slice_split is_separator u)
 
--- parts and those of a rest are a list, and another part is added
+-- the components found so far and the components of the rest `u` are the whole list; `part` is found next
 module _ {X : Type 0} (f : X → List ℕ) (old new : List X) (part : X) (u : List ℕ) (whole : List (List ℕ)) (added : new ≡ old ++ part ∷ [])
     (are : map f old ++ slice_split is_separator u ≡ whole) where
-  -- the part before the first separator of the rest
+  -- `part` is before the first separator of the rest
   pub moved : (back : List ℕ) (m : ℕ) → u ≡ f part ++ m ∷ back → IsMark 0x2F 0x5C m → HasNoMark 0x2F 0x5C (f part)
       → map f new ++ slice_split is_separator back ≡ whole
   moved back m e mark none =
       rw (added, map-append f old (part ∷ []), append_assoc (map f old) (f part ∷ []) (slice_split is_separator back))
       (ap (λ ys. map f old ++ ys) (sym (first_part u (f part) back m e mark none)) ∙ are)
 
-  -- the rest, which has no separator
+  -- `part` is all of the rest, which has no separator
   pub ended : u ≡ f part → HasNoMark 0x2F 0x5C u → map f new ≡ whole
   ended e none =
       rw (added, map-append f old (part ∷ [])) (ap (λ ys. map f old ++ ys) (sym (one_part u none ∙ ap (λ y. y ∷ []) e)) ∙ are)

@@ -1,4 +1,4 @@
--- Places along a list.
+-- Searching a list from front to back.
 use Rattle.std.proofs.Common.{◌≡◌, ℕ, ◌+◌, ◌<◌, ◌≤◌, ◌↔◌, IsTrue, false, List, ◌++◌, Option, None, Some, MatchOption, length, length-append, take, drop, min, sym, ap, subst, ◌∙◌, arith}
 use Rattle.std.proofs.lemmas.Bool.{false≢true}
 use Rattle.std.proofs.Math.Seq.{drop-append_seam}
@@ -6,23 +6,23 @@ use Rattle.std.proofs.lemmas.List.{drop-drop, drop-take, length-take, take-appen
 use Rattle.std.specs.Iterator.{YieldsFirst}
 use Rattle.wtf8_uses.proofs.Numbering.{lt_of_apart}
 
--- behind the next number is the list from the next place on
+-- after a call of `next` an iterator at index `k` is at index `k + 1`
 pub next_place : {S : Type 0} (rest : S → List ℕ) (s t : S) (r : Option ℕ) (k : ℕ) (u : List ℕ) → YieldsFirst rest s r t → rest s ≡ drop k u
     → rest t ≡ drop (k + 1) u
 next_place rest s t None k u e at = e.1 ∙ (ap (drop 1) (sym e.0 ∙ at) ∙ drop-drop 1 k u)
 next_place rest s t (Some x) k u e at = ap (drop 1) (sym e ∙ at) ∙ drop-drop 1 k u
 
--- what holds at none of the places so far and not at the next one holds at none up to there
+-- if `P` fails from `begin` to before `place`, and at `place`, it fails to before `place + 1`
 pub none_more : (P : ℕ → Type 0) (begin place : ℕ) → ((k : ℕ) → begin ≤ k → k < place → ¬ (P k)) → ¬ (P place) → (k : ℕ) → begin ≤ k
     → k < place + 1 → ¬ (P k)
 none_more P begin place none here k from below there =
     none k from (lt_of_apart (omega (arith, below)) (λ same. here (subst P same there))) there
 
--- the last place so far where something holds, if there is one
+-- `found` is the last index below `end` at which `P` holds, if there is one
 abbrev pub LastSoFar : (ℕ → Type 0) → ℕ → Option ℕ → Type 0
 LastSoFar P end found = MatchOption found ((k : ℕ) → k < end → ¬ (P k)) (λ f. (f < end) × P f × ((k : ℕ) → f < k → k < end → ¬ (P k)))
 
--- at one place more it is that place or the one before
+-- if `P` fails at `end`, the last index does not change
 pub last_kept : (P : ℕ → Type 0) (end : ℕ) (found : Option ℕ) → LastSoFar P end found → ¬ (P end) → LastSoFar P (end + 1) found
 last_kept P end None none here = λ k below. none_more P 0 end (λ j _ l. none j l) here k (omega arith) below
 last_kept P end (Some f) i here = (omega (arith, i.0), i.1, λ k behind below. none_more P (f + 1) end (λ j l m. i.2 j (omega arith) m) here k (omega arith) below)
@@ -30,7 +30,7 @@ last_kept P end (Some f) i here = (omega (arith, i.0), i.1, λ k behind below. n
 pub last_here : (P : ℕ → Type 0) (end : ℕ) → P end → LastSoFar P (end + 1) (Some end)
 last_here P end here = (omega arith, here, λ k behind below. absurd (omega arith))
 
--- a list ends with another one exactly where that stands at its end
+-- the first `n` numbers of `u` end with `s` exactly if `s` occurs at the index `length s` before their end
 module _ (n : ℕ) (u s : List ℕ) where
   pub ends_there : (begin : ℕ) → begin + length s ≡ min n (length u) → (take (length s) (drop begin u) ≡ s) ↔ ((front : List ℕ) × (take n u ≡ front ++ s))
   ends_there begin e =

@@ -1,4 +1,4 @@
--- Lists that are repeated.
+-- Repeated lists.
 use Rattle.std.proofs.Common.{◌≡◌, ℕ, zero, suc, ◌+◌, ◌*◌, ◌/◌, ◌%◌, ◌<◌, ◌≤◌, List, [], ◌++◌, length, take, refl, sym, ap, ◌∙◌, arith, append-nil, append_assoc}
 use Rattle.std.proofs.Math.Nat.{div-add-mod}
 use Rattle.std.proofs.Math.Seq.{take-append-add}
@@ -6,7 +6,7 @@ use Rattle.std.proofs.lemmas.Grind.{common_steps}
 use Rattle.std.proofs.lemmas.List.{nil_from_length, take-append-le}
 use Rattle.std.specs.List.{repeat}
 
--- one more list behind the repeated ones is one more in front
+-- appending one more copy is one more repetition
 pub repeat_behind : (n : ℕ) (xs : List ℕ) → repeat n xs ++ xs ≡ repeat (suc n) xs
 repeat_behind zero xs = sym (append-nil xs)
 repeat_behind (suc n) xs = append_assoc xs (repeat n xs) xs ∙ ap (λ ys. xs ++ ys) (repeat_behind n xs)
@@ -15,7 +15,7 @@ take_first : (more rest : ℕ) (xs : List ℕ) → rest ≤ length xs → rest <
 take_first zero rest xs h k = let e : rest ≡ 0 = omega arith in rw e
 take_first (suc more) rest xs h k = take-append-le rest xs (repeat more xs) h
 
--- the beginning of repeated lists, by how many of them stand in it as a whole
+-- the first `n` numbers of a repeated list: `whole` copies and `rest` numbers of one more
 pub take_repeat : (whole n m rest : ℕ) (xs : List ℕ) → n ≡ whole * length xs + rest → rest ≤ length xs → 0 < length xs → n ≤ m
     → take n (repeat m xs) ≡ repeat whole xs ++ take rest xs
 take_repeat zero n m rest xs e h k l = let same : n ≡ rest = omega arith in rw same (take_first m rest xs h (omega arith))
@@ -29,11 +29,11 @@ none_repeated : (n : ℕ) (xs : List ℕ) → xs ≡ [] → repeat n xs ≡ []
 none_repeated zero xs e = refl
 none_repeated (suc n) xs e = rw (none_repeated n xs e) (append-nil xs ∙ e)
 
--- the empty list is empty again and again
+-- repetitions of the empty list are empty
 pub repeat_nothing : (n : ℕ) (xs : List ℕ) → length xs ≡ 0 → take n (repeat n xs) ≡ []
 repeat_nothing n xs h = rw (none_repeated n xs (nil_from_length xs h)) (grind (arith, common_steps))
 
--- so many numbers of a list again and again are the whole of it so many times, and a beginning of it
+-- the first `n` numbers of a list repeated: `n / length xs` copies and `n % length xs` numbers of one more
 pub take_filling : (n : ℕ) (xs : List ℕ) → 0 < length xs → take n (repeat n xs) ≡ repeat (n / length xs) xs ++ take (n % length xs) xs
 take_filling n xs h =
     let e : n ≡ n / length xs * length xs + n % length xs = omega (arith, div-add-mod n (length xs)) in

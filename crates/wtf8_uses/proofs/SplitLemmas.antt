@@ -1,11 +1,11 @@
--- The parts of a list that is cut at a number.
+-- The parts of a list that is split at a number.
 use Rattle.std.proofs.Common.{◌≡◌, ◌≢◌, ℕ, suc, Bool, true, false, cond, eqb, List, [], ◌∷◌, refl, sym, subst, arith}
 use Rattle.std.proofs.lemmas.Bool.Decides.{nat_tests}
 use Rattle.std.proofs.lemmas.List.Elements.{All-nil, All-cons}
 use Rattle.std.proofs.lemmas.List.Splits.{join_with_byte-slice_split}
 use Rattle.std.specs.List.{All, join_with_byte, onto_first, slice_split}
 
--- the parts with that number between them are the list
+-- joining the parts with the separator returns the list
 pub join_pieces : (c : ℕ) (u : List ℕ) {parts : List (List ℕ)} → parts ≡ slice_split (λ x. eqb x c) u → join_with_byte c parts ≡ u
 join_pieces c u e = rw e (join_with_byte-slice_split c u)
 
@@ -26,6 +26,6 @@ module _ (c : ℕ) where
   apart [] = All-cons Lacks [] [] (All-nil _) (All-nil _)
   apart (x ∷ u) = step x (slice_split (λ y. eqb y c) u) (eqb x c) refl (apart u)
 
-  -- no part holds the number
+  -- no part contains the separator
   pub pieces_apart : (u : List ℕ) {parts : List (List ℕ)} → parts ≡ slice_split (λ x. eqb x c) u → All Lacks parts
   pieces_apart u e = subst (All Lacks) (sym e) (apart u)

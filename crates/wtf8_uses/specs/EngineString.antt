@@ -1,4 +1,4 @@
--- What calls of ECMAScript's strings say of lists of units.
+-- Definitions of ECMAScript's string calls, over lists of units.
 use Rattle.std.specs.Prelude.{◌≡◌, ℕ, ◌+◌, ◌-◌, ◌<◌, ◌≤◌, ◌⊎◌, List, length, take, drop, slice_get, slice_index, Option, Some, None, if◌then◌else◌}
 use Rattle.std.specs.Option.{option_map}
 use Rattle.wtf8.specs.Concatenation.{is_pair}
@@ -6,43 +6,43 @@ use Rattle.wtf8.specs.Form.{Reads}
 use Rattle.wtf8.specs.Surrogates.{lossy}
 use Rattle.wtf8.specs.Unicode.{pair, units}
 
--- The code point of a unit and of the one behind it, if any: that of a lead and a trail, else the first unit (ECMAScript, "CodePointAt").
+-- The code point of a unit and the next one, if any: their pair, or the number of the first (ECMAScript, "CodePointAt").
 abbrev pub point_with : ℕ → Option ℕ → ℕ
 point_with l None = l
 point_with l (Some t) = if is_pair l t then pair l t else l
 
--- The code point that begins at a place, if a unit stands there (ECMAScript, "CodePointAt").
+-- The code point at unit index `k`, or `None` past the end (ECMAScript, "CodePointAt").
 abbrev pub point_at : List ℕ → ℕ → Option ℕ
 point_at u k = option_map (λ l. point_with l (slice_get u (k + 1))) (slice_get u k)
 
--- A list's numbers stand in another one at a place (ECMAScript, "StringIndexOf").
+-- The list `s` occurs in `u` at index `k` (ECMAScript, "StringIndexOf").
 pub record StandsAt (u s : List ℕ) (k : ℕ) : Type 0 where
   pub within : k + length s ≤ length u
   pub there : take (length s) (drop k u) ≡ s
 
--- A place is the first one at or behind a position where a list's numbers stand in another one (ECMAScript, "StringIndexOf").
+-- `k` is the first index at or after `position` at which `s` occurs in `u` (ECMAScript, "StringIndexOf").
 pub record IsFirstPlace (u s : List ℕ) (position k : ℕ) : Type 0 where
   pub behind : position ≤ k
   pub stands : StandsAt u s k
   pub no_earlier : (j : ℕ) → position ≤ j → j < k → ¬ (StandsAt u s j)
 
--- A place is the last one at or before a position where a list's numbers stand in another one (ECMAScript, "StringLastIndexOf").
+-- `k` is the last index at or before `position` at which `s` occurs in `u` (ECMAScript, "StringLastIndexOf").
 pub record IsLastPlace (u s : List ℕ) (position k : ℕ) : Type 0 where
   pub before : k ≤ position
   pub stands : StandsAt u s k
   pub no_later : (j : ℕ) → k < j → j ≤ position → ¬ (StandsAt u s j)
 
--- Each surrogate of a list that is in no pair has U+FFFD in its place (ECMAScript, "String.prototype.toWellFormed").
+-- `v` is `u` with U+FFFD for each lone surrogate (ECMAScript, "String.prototype.toWellFormed").
 pub record IsMadeWellFormed (u v : List ℕ) : Type 0 where
   pub points : List ℕ
   pub reads : Reads points u
   pub replaced : units (lossy points) ≡ v
 
--- A unit is a white space or ends a line, of those below 80 (ECMAScript, "WhiteSpace" and "LineTerminator").
+-- The unit is an ASCII white space or line terminator (ECMAScript, "WhiteSpace" and "LineTerminator").
 abbrev pub IsSpace : ℕ → Type 0
 IsSpace unit = (unit ≡ 0x20) ⊎ ((0x09 ≤ unit) × (unit ≤ 0x0D))
 
--- A list is what is left of another one where spaces alone stand before and behind it, and at neither end of it (ECMAScript, "TrimString").
+-- `v` is `u` without the ASCII spaces at its two ends (ECMAScript, "TrimString").
 pub record IsTrimmed (u v : List ℕ) : Type 0 where
   pub begin : ℕ
   pub end : ℕ

@@ -8,6 +8,6 @@ use Rattle.wtf8_uses.specs.declared.environment.Variable.{Variable}
 abbrev pub variable_units : Variable → List ℕ
 variable_units variable = view_units variable.name ++ 0x3D ∷ (view_units variable.value ++ 0 ∷ [])
 
--- An environment block: the units of each variable, and one more zero (Windows, "CreateProcessW", lpEnvironment).
+-- An environment block: the units of each variable, then one more zero (Windows, "CreateProcessW", lpEnvironment).
 abbrev pub block : List Variable → List ℕ
 block variables = flat_map variable_units variables ++ 0 ∷ []

@@ -3,20 +3,20 @@ use Rattle.std.specs.Prelude.{ℕ, ◌+◌, ◌/◌, ◌%◌, ◌==◌, ◌&&◌
 use Rattle.std.specs.List.{flat_map}
 use Rattle.wtf8.specs.Form.{encoding}
 
--- The lower-case digit of a number below 16: 0 to 9, then a to f.
+-- The lower-case hexadecimal digit of a number below 16: 0 to 9, then a to f.
 abbrev pub small_digit : ℕ → ℕ
 small_digit n = if nat_lt n 10 then 48 + n else 87 + n
 
--- A unit as `\u` and four lower-case hexadecimal digits (ECMAScript, "UnicodeEscape").
+-- The escape of a unit: `\u` and four lower-case hexadecimal digits (ECMAScript, "UnicodeEscape").
 abbrev pub unit_escape : ℕ → List ℕ
 unit_escape u =
     codes "\\u" ++ small_digit (u / 0x1000) ∷ small_digit (u / 0x100 % 16) ∷ small_digit (u / 0x10 % 16) ∷ small_digit (u % 16) ∷ []
 
--- A code point is written as `\u` and digits: a control character below 20, and a surrogate, which then is in no pair (ECMAScript, "QuoteJSONString").
+-- Whether a code point is a control character below U+0020 or a surrogate (ECMAScript, "QuoteJSONString").
 abbrev pub is_escaped : ℕ → Bool
 is_escaped p = nat_lt p 0x20 || (nat_le 0xD800 p && nat_le p 0xDFFF)
 
--- What stands for a code point in JSON text: its escape, if it has one, else its own bytes (ECMAScript, "QuoteJSONString" and its table of escapes).
+-- A code point in JSON text: its escape, or else its bytes (ECMAScript, "QuoteJSONString" and its table of escapes).
 unfoldable pub json_point : ℕ → List ℕ
 json_point p =
     if p == 0x08 then codes "\\b"
@@ -29,6 +29,6 @@ json_point p =
     else if is_escaped p then unit_escape p
     else encoding p
 
--- The JSON text of a string: what stands for each of its code points, between double quotes (ECMAScript, "QuoteJSONString").
+-- The JSON text of code points, between double quotes (ECMAScript, "QuoteJSONString").
 abbrev pub json : List ℕ → List ℕ
 json c = codes "\"" ++ flat_map json_point c ++ codes "\""

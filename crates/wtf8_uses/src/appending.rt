@@ -1,4 +1,4 @@
-//! What appending leaves: the whole of what was cut, both of two strings, and what was there.
+//! Appending: the parts of a string that was cut, two strings, two lists of calls, the empty string.
 ghost use Rattle.std.specs.Prelude.{◌≡◌, ◌<◌, ◌+◌, ◌++◌, length, slice_index, IfOk, IsTrue, OnOk};
 ghost use Rattle.wtf8.specs.Building.{Run};
 ghost use Rattle.wtf8.specs.Position.{IsBoundary, IsMiddle};
@@ -7,7 +7,7 @@ ghost use Rattle.wtf8.specs.View.{view_units};
 use std::alloc::{AllocError, Allocator};
 use wtf8::{Build, Stopped, Wtf8, Wtf8Buf, laws};
 
-/// A copy of a string that is cut at a code point boundary and joined again: it has the same units.
+/// Cuts a string at a code point boundary and joins the parts. The result has the same units.
 pub fn cut_and_joined<A: Allocator>(
     alloc: A,
     text: Wtf8<'_>,
@@ -22,7 +22,7 @@ pub fn cut_and_joined<A: Allocator>(
     Ok(whole)
 }
 
-/// Two strings appended one after the other: as if they had been joined first.
+/// Appends two strings, one after the other. The result is the same as if they had been joined first.
 pub fn push_both<A: Allocator>(
     text: &mut Wtf8Buf<A>,
     front: Wtf8<'_>,
@@ -34,7 +34,7 @@ pub fn push_both<A: Allocator>(
     text.push_wtf8(back)
 }
 
-/// Whether the same list of calls leaves equal strings of equal ones: it does, where there was memory for it.
+/// Applies the same calls to two equal strings, and compares these: they are equal, unless memory is refused.
 pub fn apply_alike<A: Allocator>(
     string: &mut Wtf8Buf<A>,
     other: &mut Wtf8Buf<A>,
@@ -49,8 +49,7 @@ pub fn apply_alike<A: Allocator>(
     Ok(*string == *other)
 }
 
-/// Applies two lists of calls one after the other, as one list of both. Returns the number of truncations that were refused
-/// in each of the two lists.
+/// Applies two lists of calls, in order, as one list of both. Returns the number of refused truncations of each list.
 pub fn apply_both<A: Allocator>(
     string: &mut Wtf8Buf<A>,
     first: &[Build<'_>],
@@ -64,7 +63,7 @@ pub fn apply_both<A: Allocator>(
     Ok((in_first, in_second))
 }
 
-/// What is behind the byte at a place, which is ASCII: no code point is divided there.
+/// The part of a string after the ASCII byte at position `place`. An ASCII byte ends at a code point boundary.
 pub fn behind_place<'a>(text: Wtf8<'a>, place: usize) -> Wtf8<'a>
     requires inside { place < length text.bytes.now }
     requires ascii { slice_index text.bytes.now place < 0x80 }
@@ -74,7 +73,7 @@ pub fn behind_place<'a>(text: Wtf8<'a>, place: usize) -> Wtf8<'a>
     text.slice(place + 1, text.len())
 }
 
-/// The empty string appended changes nothing.
+/// Appends the empty string, which changes nothing.
 pub fn push_nothing<A: Allocator>(text: &mut Wtf8Buf<A>) -> Result<(), AllocError>
     ensures { OnOk result (text.new.units ≡ text.old.units) }
 {

@@ -1,12 +1,11 @@
-//! Strings without regard to the case of ASCII letters.
+//! Comparison that ignores the case of ASCII letters.
 ghost use Rattle.std.specs.Char.{to_ascii_lowercase};
 ghost use Rattle.std.specs.Prelude.{◌≡◌, ◌↔◌, map, IsTrue};
 ghost use Rattle.wtf8.specs.View.{view_units};
 
 use wtf8::Wtf8;
 
-/// Whether two strings have the same units, where an ASCII letter is the same in both cases, as `eq_ignore_ascii_case` of
-/// Rust's `OsStr` answers. It makes no copy.
+/// Whether two strings have the same units, ignoring ASCII case. Copies nothing, like `eq_ignore_ascii_case` of `OsStr`.
 pub fn eq_ignore_ascii_case(text: Wtf8<'_>, other: Wtf8<'_>) -> bool
     ensures { IsTrue result ↔ (map to_ascii_lowercase (view_units text.entry) ≡ map to_ascii_lowercase (view_units other.entry)) }
 {
@@ -15,7 +14,7 @@ pub fn eq_ignore_ascii_case(text: Wtf8<'_>, other: Wtf8<'_>) -> bool
     units.cmp(others).is_eq()
 }
 
-/// The small letter of an ASCII capital letter, and any other unit as it is.
+/// The lower-case letter of an ASCII capital; any other unit is returned unchanged.
 fn lower_case(unit: u16) -> u16
     ensures { result ≡ to_ascii_lowercase unit }
 {

@@ -1,11 +1,10 @@
-//! A text that is cut and joined again: it is the whole, wherever it was cut, also inside a pair.
+//! A text that is cut at any unit index, also inside a surrogate pair, and joined again.
 ghost use Rattle.std.specs.Prelude.{◌≡◌, ◌≤◌, length, IfOk, IsTrue};
 
 use std::alloc::{AllocError, Allocator};
 use unit_text::UnitText;
 
-/// The units before a position, and those from it on appended to them: the whole text. Each part has an allocator of its
-/// own.
+/// Cuts a text at a unit index and joins the two parts. Returns the whole text. Each part has its own allocator.
 pub fn cut_and_joined<A: Allocator>(
     front_alloc: A,
     back_alloc: A,
@@ -21,7 +20,7 @@ pub fn cut_and_joined<A: Allocator>(
     Ok(whole)
 }
 
-/// Whether a text that was cut and joined again is equal to the whole: it always is.
+/// Whether a text that was cut and joined again equals the original. It always does.
 pub fn is_whole_again<A: Allocator>(
     front_alloc: A,
     back_alloc: A,

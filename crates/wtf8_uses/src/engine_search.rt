@@ -1,5 +1,5 @@
-//! Calls of ECMAScript's strings that look for one text in another (ECMAScript, "String.prototype"). Texts are only read: a
-//! call that makes some takes an allocator, and after a refusal all is as it was.
+//! Calls of ECMAScript's strings that search for one text in another (ECMAScript, "String.prototype"). Positions are
+//! indices of units. The texts are only read: a call that returns a new text takes an allocator.
 ghost use Rattle.std.specs.List.{join_with_byte, slice_split};
 ghost use Rattle.std.specs.Prelude.{All, map, ◌==◌, ◌≢◌, ◌≡◌, ◌+◌, ◌≤◌, ◌++◌, ℕ, length, take, drop, min, IfSome, IfNone, IfOk};
 ghost use Rattle.wtf8_uses.specs.EngineString.{IsFirstPlace, IsLastPlace, StandsAt};
@@ -8,9 +8,9 @@ use crate::strings::{stand_next, units_from};
 use std::alloc::{AllocError, Allocator};
 use unit_text::UnitText;
 
-/// `indexOf`: the first place at or behind a position where another text's units stand, and `None`, for the -1 of the
-/// language, where there is none. A position beyond the end is the end, where the empty text stands. It goes along the text
-/// once, and reads at each place as many units as are alike there.
+/// `indexOf`: the first index at or after `position` at which the units of `search` occur. `None`, for the -1 of the
+/// language, if there is none. A position past the end is the end, where the empty text occurs. Goes through the text
+/// once, and compares at each index until the first mismatch.
 pub fn index_of<A: Allocator, B: Allocator>(
     text: &UnitText<A>,
     search: &UnitText<B>,
@@ -31,8 +31,8 @@ pub fn index_of<A: Allocator, B: Allocator>(
     None
 }
 
-/// `lastIndexOf`: the last place at or before a position where another text's units stand, and `None`, for the -1 of the
-/// language, where there is none. It goes along the text once, from its front.
+/// `lastIndexOf`: the last index at or before `position` at which the units of `search` occur. `None`, for the -1 of
+/// the language, if there is none. Goes through the text once, from its front.
 pub fn last_index_of<A: Allocator, B: Allocator>(
     text: &UnitText<A>,
     search: &UnitText<B>,
@@ -53,8 +53,8 @@ pub fn last_index_of<A: Allocator, B: Allocator>(
     found
 }
 
-/// `replace` of a text by another one: the other one stands in the place of the first units that are those of the text
-/// that is looked for, `$` in it for itself. Where they stand nowhere it is a copy.
+/// `replace` with a text as pattern: replaces the first occurrence of `search` by `other`, in which `$` has no special
+/// meaning. If there is none, returns a copy.
 pub fn replace<A: Allocator + Copy>(
     alloc: A,
     text: &UnitText<A>,
@@ -75,8 +75,8 @@ pub fn replace<A: Allocator + Copy>(
     Ok(whole)
 }
 
-/// `split` at a unit: the pieces before, between and behind the units that are it. There is one piece more than such
-/// units, so an empty text has one piece, which is empty.
+/// `split` at one unit: the parts before, between and after the separators. There is one part more than separators, so
+/// an empty text has one part, which is empty.
 pub fn split<A: Allocator + Copy>(
     alloc: A,
     text: &UnitText<A>,
@@ -92,7 +92,7 @@ pub fn split<A: Allocator + Copy>(
     Ok(pieces)
 }
 
-/// The texts of the parts of a list of units.
+/// Splits units at a separator into texts.
 fn pieces_of<A: Allocator + Copy>(
     alloc: A,
     units: &[u16],
@@ -104,7 +104,7 @@ fn pieces_of<A: Allocator + Copy>(
     texts_of(alloc, parts.as_slice())
 }
 
-/// The texts of lists of units.
+/// Makes a text of each list of units.
 fn texts_of<A: Allocator + Copy>(
     alloc: A,
     parts: &[&[u16]],
@@ -118,7 +118,7 @@ fn texts_of<A: Allocator + Copy>(
     Ok(texts)
 }
 
-/// The parts of a list of units before, between and behind those that are a certain one.
+/// Splits units at a separator, without copying them.
 fn parts_of<A: Allocator>(
     alloc: A,
     units: &[u16],

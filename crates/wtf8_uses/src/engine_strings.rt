@@ -1,7 +1,7 @@
-//! More calls of ECMAScript's strings, each of one text (ECMAScript, "String.prototype"). Those that look for one text in
-//! another are in the module `engine_search`.
+//! More calls of ECMAScript's strings, each on one text (ECMAScript, "String.prototype"). Calls that search for one
+//! text in another are in the module `engine_search`.
 //!
-//! Texts are only read: a call that makes one takes an allocator, and after a refusal all is as it was.
+//! Positions are indices of units. The texts are only read: a call that returns a new text takes an allocator.
 ghost use Rattle.std.specs.List.{repeat};
 ghost use Rattle.std.specs.Option.{option_map};
 ghost use Rattle.std.specs.Prelude.{◌≡◌, ◌↔◌, ◌+◌, ◌-◌, ◌<◌, ◌≤◌, ◌++◌, [], ℕ, pos, negsuc, length, take, slice_get, slice_index, IsTrue, IsNone, IfOk, IsOk};
@@ -12,8 +12,8 @@ use std::alloc::{AllocError, Allocator};
 use unit_text::UnitText;
 use wtf8::{CodePoint, Wtf8, laws};
 
-/// `at`: the unit at a position, which counts from the end where it is negative, so that the last unit is at -1. It is
-/// `None`, for the `undefined` of the language, where there is none.
+/// `at`: the unit at a position. A negative position counts from the end, so that -1 is the last unit. `None`, for the
+/// `undefined` of the language, if there is none.
 pub fn at<A: Allocator>(text: &UnitText<A>, position: isize) -> Option<u16>
     ensures front { (n : ℕ) → position ≡ pos n → result ≡ slice_get text.now n }
     ensures back { (n k : ℕ) → position ≡ negsuc n → k + (n + 1) ≡ length text.now → result ≡ slice_get text.now k }
@@ -26,8 +26,8 @@ pub fn at<A: Allocator>(text: &UnitText<A>, position: isize) -> Option<u16>
     text.unit_at(place)
 }
 
-/// `codePointAt`: the code point that begins at a position. A lead surrogate with a trail surrogate behind it is one
-/// supplementary code point, and any other unit is the code point of its own number; `None` where there is no unit.
+/// `codePointAt`: the code point that begins at a position. A surrogate pair is one supplementary code point; any other
+/// unit is the code point with its number. `None` past the end.
 pub fn code_point_at<A: Allocator>(text: &UnitText<A>, position: usize) -> Option<CodePoint>
     ensures { option_map number result ≡ point_at text.now position }
 {
@@ -37,7 +37,7 @@ pub fn code_point_at<A: Allocator>(text: &UnitText<A>, position: usize) -> Optio
     Some(point_with(unit, next))
 }
 
-/// The code point of a unit and of the one behind it, if any.
+/// The code point of a unit and the next one, if any.
 #[tactic(auto, unfolding(wtf8::specs::Concatenation::is_pair))]
 fn point_with(unit: u16, next: Option<u16>) -> CodePoint
     ensures { number result ≡ point_with unit next }
@@ -51,7 +51,7 @@ fn point_with(unit: u16, next: Option<u16>) -> CodePoint
     CodePoint::from_u32_unchecked(point)
 }
 
-/// `repeat`: the text so many times, one behind the other. It asks for no memory where that is nothing.
+/// `repeat`: the text `count` times in a row. Does not allocate if the result is empty.
 #[tactic(auto, using(crate::proofs::RepeatLemmas::repeat_behind))]
 pub fn repeat<A: Allocator>(
     alloc: A,
@@ -69,8 +69,8 @@ pub fn repeat<A: Allocator>(
     Ok(whole)
 }
 
-/// `toWellFormed`: the text with U+FFFD in the place of each surrogate that is in no pair. It wants memory for the new text
-/// and its units, and where one surrogate is alone for the bytes too; after a refusal nothing is left of them.
+/// `toWellFormed`: the text with U+FFFD for each lone surrogate. Allocates for the new text and for a list of its
+/// units, and for the lossy bytes if any surrogate is lone. If a request is refused, nothing stays allocated.
 pub fn to_well_formed<A: Allocator + Copy + Drop>(
     alloc: A,
     text: &UnitText<A>,
@@ -84,8 +84,8 @@ pub fn to_well_formed<A: Allocator + Copy + Drop>(
     UnitText::from_units(alloc, units.as_slice())
 }
 
-/// `padStart`: the text with the units of a filler again and again in front of it, up to a width. A text that is as wide
-/// already, or an empty filler, adds nothing.
+/// `padStart`: the text, preceded by the units of `filler` again and again until it has `width` units. If the text is
+/// wide enough or the filler is empty, nothing is added.
 pub fn pad_start<A: Allocator + Copy>(
     alloc: A,
     text: &UnitText<A>,
@@ -99,7 +99,7 @@ pub fn pad_start<A: Allocator + Copy>(
     Ok(padded)
 }
 
-/// So many units of a filler again and again, or none where it is empty.
+/// The first `count` units of the filler repeated forever, or none if the filler is empty.
 #[tactic(auto, using(crate::proofs::RepeatLemmas::repeat_nothing, crate::proofs::RepeatLemmas::take_filling))]
 fn filling<A: Allocator + Copy>(
     alloc: A,
@@ -118,8 +118,7 @@ fn filling<A: Allocator + Copy>(
     Ok(units)
 }
 
-/// `trim`, of the spaces below 0x80 alone: the text without those at its ends. It wants memory for what is left
-/// alone.
+/// `trim`, of the ASCII spaces only: the text without the ones at its ends. Allocates only for the result.
 pub fn trim_ascii<A: Allocator>(alloc: A, text: &UnitText<A>) -> Result<UnitText<A>, AllocError>
     ensures { IfOk result (λ t. IsTrimmed text.now t) }
 {
@@ -128,7 +127,7 @@ pub fn trim_ascii<A: Allocator>(alloc: A, text: &UnitText<A>) -> Result<UnitText
     text.slice_units(alloc, begin, end)
 }
 
-/// The place of the first unit that is no space, or the end.
+/// The index of the first unit that is not a space, or the length if there is none.
 fn first_other<A: Allocator>(text: &UnitText<A>) -> usize
     ensures within { result ≤ length text.now }
     ensures before { (k : ℕ) → k < result → IsSpace (slice_index text.now k) }
@@ -142,7 +141,7 @@ fn first_other<A: Allocator>(text: &UnitText<A>) -> usize
     text.unit_len()
 }
 
-/// The place behind the last unit that is no space, or a place from which on all are spaces.
+/// The index after the last unit from `begin` on that is not a space, or `begin` if there is none.
 fn behind_last_other<A: Allocator>(text: &UnitText<A>, begin: usize) -> usize
     requires { begin ≤ length text.now }
     ensures order { begin ≤ result }
@@ -158,7 +157,7 @@ fn behind_last_other<A: Allocator>(text: &UnitText<A>, begin: usize) -> usize
     begin
 }
 
-/// Whether the unit at a place is a space.
+/// Whether the unit at index `place` is a space.
 fn is_space_at<A: Allocator>(text: &UnitText<A>, place: usize) -> bool
     requires { place < length text.now }
     ensures { IsTrue result ↔ IsSpace (slice_index text.now place) }

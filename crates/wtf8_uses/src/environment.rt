@@ -1,4 +1,4 @@
-//! Environment blocks of Windows, whose names and values are 16-bit units that nobody checked.
+//! Environment blocks of Windows, whose names and values are unchecked 16-bit units.
 ghost use Rattle.std.specs.Prelude.{◌≡◌, ◌++◌, IfOk, OnOk};
 ghost use Rattle.wtf8_uses.specs.Environment.{block, variable_units};
 
@@ -8,15 +8,15 @@ use wtf8::Wtf8;
 /// A variable of an environment.
 #[derive(Clone, Copy)]
 pub struct Variable<'a> {
-    /// What stands before the `=`.
+    /// The units before the `=`.
     pub name: Wtf8<'a>,
-    /// What stands behind it.
+    /// The units after the `=`.
     pub value: Wtf8<'a>,
 }
 
-/// The units of an environment block: of each variable its name, `=`, its value and a zero, and behind all of them one more
-/// zero. Nothing is escaped, so a name or value that holds a zero ends there for who reads the block. After a refusal nothing
-/// is left.
+/// The units of an environment block: name, `=`, value and a zero for each variable, then one more zero. Nothing is
+/// escaped, so a reader of the block takes a zero inside a name or value for its end. If a request is refused, nothing
+/// stays allocated.
 pub fn environment_block<A: Allocator>(
     alloc: A,
     variables: &[Variable<'_>],

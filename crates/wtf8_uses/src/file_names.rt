@@ -1,4 +1,4 @@
-//! File names of Windows: 16-bit units that nobody checked.
+//! File names of Windows: unchecked 16-bit units.
 ghost use Rattle.std.specs.List.{All, slice_split};
 ghost use Rattle.std.specs.Prelude.{◌≡◌, ◌≢◌, ◌↔◌, ◌<◌, ◌≤◌, [], ◌∷◌, ◌++◌, ℕ, List, length, map, take, slice_index, IfOk, IfSome, IfNone, IsTrue, OnOk, OnErr};
 ghost use Rattle.std.specs.Cow.{cow_str_bytes};
@@ -12,7 +12,7 @@ use std::alloc::{AllocError, Allocator, Global};
 use std::borrow::CowStr;
 use wtf8::{Wtf8, Wtf8Buf, laws};
 
-/// The folder and the name of a path, cut at its last `/` or `\`; `None` where it has neither. No unit is copied.
+/// The folder and the name of a path, cut at its last `/` or `\`; `None` if it has neither. Copies nothing.
 pub fn folder_and_name<'a>(path: Wtf8<'a>) -> Option<(Wtf8<'a>, Wtf8<'a>)>
     ensures some { IfSome result (λ x. IsCutAtLast 0x2F 0x5C (view_units path.entry) (view_units x.0) (view_units x.1)) }
     ensures none { IfNone result (HasNoMark 0x2F 0x5C (view_units path.entry)) }
@@ -23,7 +23,7 @@ pub fn folder_and_name<'a>(path: Wtf8<'a>) -> Option<(Wtf8<'a>, Wtf8<'a>)>
     Some((folder, name))
 }
 
-/// The stem and the extension of a name, cut at its last `.`; `None` where it has none.
+/// The stem and the extension of a name, cut at its last `.`; `None` if it has none.
 pub fn stem_and_extension<'a>(name: Wtf8<'a>) -> Option<(Wtf8<'a>, Wtf8<'a>)>
     ensures some { IfSome result (λ x. IsCutAtLast 0x2E 0x2E (view_units name.entry) (view_units x.0) (view_units x.1)) }
     ensures none { IfNone result (HasNoMark 0x2E 0x2E (view_units name.entry)) }
@@ -34,14 +34,14 @@ pub fn stem_and_extension<'a>(name: Wtf8<'a>) -> Option<(Wtf8<'a>, Wtf8<'a>)>
     Some((stem, extension))
 }
 
-/// A folder and a name with `\` between them.
+/// The path of a name in a folder: joins them with `\`.
 pub fn join(alloc: Global, folder: Wtf8<'_>, name: Wtf8<'_>) -> Result<Wtf8Buf<Global>, AllocError>
     ensures { IfOk result (λ path. path.units ≡ view_units folder.entry ++ 0x5C ∷ view_units name.entry) }
 {
     with_mark(alloc, folder, '\\', name)
 }
 
-/// A folder and a name with `\` between them, in bytes: nothing joins across an ASCII character.
+/// Joins a folder and a name with `\`, also in bytes: no surrogate pair forms across an ASCII character.
 pub fn join_bytes(
     alloc: Global,
     folder: Wtf8<'_>,
@@ -54,7 +54,7 @@ pub fn join_bytes(
     Ok(path)
 }
 
-/// Appends `\` and a name to a path, or nothing of them: room for both is found first, and then no push is refused.
+/// Appends `\` and a name to a path, or neither: reserves for both first, so that no push is refused.
 pub fn push_name<A: Allocator>(path: &mut Wtf8Buf<A>, name: Wtf8<'_>) -> Result<(), AllocError>
     ensures ok { OnOk result (AppendsUnits path.old (0x5C ∷ view_units name.entry) path.new) }
     ensures kept { OnErr result (KeepsContents path.old path.new) }
@@ -67,7 +67,7 @@ pub fn push_name<A: Allocator>(path: &mut Wtf8Buf<A>, name: Wtf8<'_>) -> Result<
     path.push_wtf8(name)
 }
 
-/// Whether a path is in a folder: its units are those of the folder, `\`, and others. No unit is copied.
+/// Whether a path begins with the units of the folder and `\`. Copies nothing.
 pub fn is_in_folder(path: Wtf8<'_>, folder: Wtf8<'_>) -> bool
     ensures { IsTrue result ↔ ((rest : List ℕ) × (view_units path.entry ≡ view_units folder.entry ++ 0x5C ∷ rest)) }
 {
@@ -81,7 +81,7 @@ pub fn is_in_folder(path: Wtf8<'_>, folder: Wtf8<'_>) -> bool
     front == folder
 }
 
-/// A stem and an extension with `.` between them.
+/// Joins a stem and an extension with `.`.
 pub fn with_extension(
     alloc: Global,
     stem: Wtf8<'_>,
@@ -92,14 +92,14 @@ pub fn with_extension(
     with_mark(alloc, stem, '.', extension)
 }
 
-/// A name as it is shown: U+FFFD stands for each surrogate that is in no pair.
+/// A name for display: U+FFFD replaces each lone surrogate.
 pub fn shown<'a>(alloc: Global, name: Wtf8<'a>) -> Result<CowStr<'a, Global>, AllocError>
     ensures { IfOk result (λ text. cow_str_bytes text ≡ bytes (lossy (view_points name.entry))) }
 {
     name.to_string_lossy(alloc)
 }
 
-/// The extension of a name: what is behind its last `.`; `None` where it has none. No unit is copied.
+/// The extension of a name: the part after its last `.`; `None` if it has none. Copies nothing.
 pub fn extension<'a>(name: Wtf8<'a>) -> Option<Wtf8<'a>>
     ensures some { IfSome result (λ x. (stem : List ℕ) × IsCutAtLast 0x2E 0x2E (view_units name.entry) stem (view_units x)) }
     ensures none { IfNone result (HasNoMark 0x2E 0x2E (view_units name.entry)) }
@@ -108,7 +108,7 @@ pub fn extension<'a>(name: Wtf8<'a>) -> Option<Wtf8<'a>>
     Some(extension)
 }
 
-/// A folder and a name with one separator between them: `\`, or that with which the folder ends.
+/// Joins a folder and a name with one separator: with `\`, unless the folder ends with `/` or `\`.
 pub fn join_once(
     alloc: Global,
     folder: Wtf8<'_>,
@@ -136,7 +136,7 @@ pub fn ends_with_separator(path: Wtf8<'_>) -> bool
     }
 }
 
-/// Whether the components of a path are first those of another one, as `components` has them. No unit is copied.
+/// Whether the components of a path begin with the components of `front` (see `components`). Copies nothing.
 pub fn begins_with(path: Wtf8<'_>, front: Wtf8<'_>) -> bool
     ensures { IsTrue result ↔ BeginsWith (slice_split is_separator (view_units path.entry)) (slice_split is_separator (view_units front.entry)) }
 {
@@ -160,7 +160,7 @@ pub fn begins_with(path: Wtf8<'_>, front: Wtf8<'_>) -> bool
     }
 }
 
-/// What a path is in: all before its last `/` or `\`; `None` where it has neither. No unit is copied.
+/// The folder of a path: the part before its last `/` or `\`; `None` if it has neither. Copies nothing.
 pub fn parent<'a>(path: Wtf8<'a>) -> Option<Wtf8<'a>>
     ensures some { IfSome result (λ x. (name : List ℕ) × IsCutAtLast 0x2F 0x5C (view_units path.entry) (view_units x) name) }
     ensures none { IfNone result (HasNoMark 0x2F 0x5C (view_units path.entry)) }
@@ -169,8 +169,8 @@ pub fn parent<'a>(path: Wtf8<'a>) -> Option<Wtf8<'a>>
     Some(folder)
 }
 
-/// The components of a path: the parts before, between and behind its `/` and `\`, in order, also those that are empty. No
-/// unit is copied; a refusal leaves nothing.
+/// The components of a path: the parts before, between and after its `/` and `\`, in order, including empty ones. Copies no
+/// unit. If a request is refused, nothing stays allocated.
 pub fn components<'a>(alloc: Global, path: Wtf8<'a>) -> Result<Vec<Wtf8<'a>>, AllocError>
     ensures { IfOk result (λ parts. map view_units parts.items ≡ slice_split is_separator (view_units path.entry)) }
 {
@@ -184,8 +184,8 @@ pub fn components<'a>(alloc: Global, path: Wtf8<'a>) -> Result<Vec<Wtf8<'a>>, Al
     Ok(parts)
 }
 
-/// The name that units have which a system call gave: those before the first 0, which ends it, or all where there is none.
-/// An empty name asks for no memory, and a refusal leaves nothing.
+/// The name in a buffer that a system call filled: the units before the first 0, or all of them if there is none. Does
+/// not allocate if the name is empty. If a request is refused, nothing stays allocated.
 pub fn before_zero(alloc: Global, units: &[u16]) -> Result<Wtf8Buf<Global>, AllocError>
     ensures { IfOk result (λ name. IsBeforeZero units.now name.units) }
 {
@@ -193,7 +193,7 @@ pub fn before_zero(alloc: Global, units: &[u16]) -> Result<Wtf8Buf<Global>, Allo
     Wtf8Buf::from_ill_formed_utf16(alloc, &units[..end])
 }
 
-/// The place of the first 0, or the length where there is none.
+/// The index of the first 0, or the length if there is none.
 fn first_zero(units: &[u16]) -> usize
     ensures within { result ≤ length units.now }
     ensures before { All (λ u. u ≢ 0) (take result units.now) }
@@ -207,7 +207,7 @@ fn first_zero(units: &[u16]) -> usize
     units.len()
 }
 
-/// Two strings and a character between them.
+/// Joins two strings with an ASCII character between them.
 fn with_mark(
     alloc: Global,
     front: Wtf8<'_>,
@@ -224,7 +224,7 @@ fn with_mark(
     Ok(whole)
 }
 
-/// The first component of a path, and what is behind the separator that follows it, if one does.
+/// The first component of a path, and the part after the separator that follows it, if one does.
 fn first_component<'a>(path: Wtf8<'a>) -> (Wtf8<'a>, Option<Wtf8<'a>>)
     ensures first { (others : List (List ℕ)) × (slice_split is_separator (view_units path.entry) ≡ view_units result.0 ∷ others) }
     ensures more { IfSome result.1 (λ rest. slice_split is_separator (view_units path.entry) ≡ view_units result.0 ∷ slice_split is_separator (view_units rest)) }
@@ -237,7 +237,7 @@ fn first_component<'a>(path: Wtf8<'a>) -> (Wtf8<'a>, Option<Wtf8<'a>>)
     }
 }
 
-/// What is before the last of two ASCII marks, that mark, and what is behind it; `None` where neither is there.
+/// Splits a string at its last `mark` or `other`, both ASCII, into front, byte and rest; `None` if it has neither.
 fn cut_at_last<'a>(text: Wtf8<'a>, mark: u8, other: u8) -> Option<(Wtf8<'a>, u8, Wtf8<'a>)>
     requires mark { mark < 0x80 }
     requires other { other < 0x80 }
@@ -260,7 +260,7 @@ fn cut_at_last<'a>(text: Wtf8<'a>, mark: u8, other: u8) -> Option<(Wtf8<'a>, u8,
     None
 }
 
-/// What is before the first of two ASCII marks, that mark, and what is behind it; `None` where neither is there.
+/// Splits a string at its first `mark` or `other`, both ASCII, into front, byte and rest; `None` if it has neither.
 fn cut_at_first<'a>(text: Wtf8<'a>, mark: u8, other: u8) -> Option<(Wtf8<'a>, u8, Wtf8<'a>)>
     requires mark { mark < 0x80 }
     requires other { other < 0x80 }

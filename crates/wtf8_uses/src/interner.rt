@@ -1,4 +1,4 @@
-//! An interner: a number for each string.
+//! An interner: gives each distinct string a number.
 ghost use Rattle.std.specs.Prelude.{◌≡◌, ◌<◌, ◌≤◌, ℕ, List, [], ◌∷◌, ◌++◌, Some, None, Ok, slice_get, length, ◌↔◌, IsNone, IfSome, IfOk, OnOk, OnErr};
 ghost use Rattle.wtf8.specs.View.{view_units};
 ghost use Rattle.wtf8_uses.specs.Numbered.{AreNumbered, IsEnd, hash_of, units_of_strings};
@@ -8,19 +8,19 @@ use std::collections::HashMap;
 use std::marker::Model;
 use wtf8::{Wtf8, Wtf8Buf, laws};
 
-/// Strings by their numbers, which count from 0. Equal strings have one number, and a number's string never changes. Each
-/// string is kept once.
+/// Strings, numbered from 0. Equal strings have the same number, and the string of a number never changes. Each string
+/// is stored once.
 ///
-/// Contracts see it as the list of the strings' units.
+/// In contracts its value is the list of the strings' units.
 #[derive(Drop)]
 pub struct Interner {
     alloc: Global,
     strings: Vec<Wtf8Buf<Global>>,
 
-    /// For each hash the number behind that of its last string.
+    /// Head of the chain of each hash: one more than the number of its newest string.
     ends: HashMap<u32, usize>,
 
-    /// For each string the number behind that of the last one before it with its hash, or 0.
+    /// Next in the chain of each string: one more than the number of the previous string with its hash, or 0.
     befores: Vec<usize>,
     ghost numbered: { AreNumbered ends befores.items (units_of_strings strings.items) },
 }
@@ -35,7 +35,7 @@ impl Model for Interner {
 }
 
 impl Interner {
-    /// An interner of no strings. It asks for no memory.
+    /// An interner of no strings. Does not allocate.
     pub fn new(alloc: Global) -> Interner
         ensures { result ≡ [] }
     {
@@ -47,15 +47,15 @@ impl Interner {
         }
     }
 
-    /// How many strings have a number.
+    /// The number of strings.
     pub fn len(&self) -> usize
         ensures { result ≡ length self.now }
     {
         self.strings.len()
     }
 
-    /// The number of a string, which is given the next number where it has none. A string that has one wants no memory
-    /// and is never refused. After a refusal all is as before.
+    /// The number of a string; a new string gets the next number. A string that has a number does not allocate and is
+    /// never refused. If a request is refused, the interner is unchanged.
     pub fn number(&mut self, string: Wtf8<'_>) -> Result<usize, AllocError>
         ensures has { IfOk result (λ n. slice_get self.new n ≡ Some (view_units string.entry)) }
         ensures known { (n : ℕ) → slice_get self.old n ≡ Some (view_units string.entry) → (result ≡ Ok n) × (self.new ≡ self.old) }
@@ -70,7 +70,7 @@ impl Interner {
         }
     }
 
-    /// The string of a number, or `None` where no string has it.
+    /// The string with a number, or `None` if there is none.
     pub fn string(&self, number: usize) -> Option<Wtf8<'_>>
         ensures none { IsNone result ↔ (slice_get self.now number ≡ None) }
         ensures some { IfSome result (λ s. slice_get self.now number ≡ Some (view_units s)) }
@@ -81,7 +81,7 @@ impl Interner {
         }
     }
 
-    /// The number of a string of a hash that has one.
+    /// The number of a string, if it has one, by the chain of its hash.
     fn find(&self, string: Wtf8<'_>, hash: u32) -> Option<usize>
         requires { hash ≡ hash_of (view_units string) }
         ensures { (n : ℕ) → (result ≡ Some n) ↔ (slice_get self.now n ≡ Some (view_units string.entry)) }
@@ -99,7 +99,7 @@ impl Interner {
         None
     }
 
-    /// The string of a number that one has.
+    /// The string with a number.
     fn at(&self, number: usize) -> Wtf8<'_>
         requires { number < length self.now }
         ensures { slice_get self.now number ≡ Some (view_units result) }
@@ -107,7 +107,7 @@ impl Interner {
         self.strings[number].as_wtf8()
     }
 
-    /// The number behind that of the last string before one with its hash, or 0.
+    /// One more than the number of the previous string with the same hash, or 0 if there is none.
     fn before(&self, number: usize) -> usize
         requires { number < length self.now }
         ensures { (u : List ℕ) × (slice_get self.now number ≡ Some u) × IsEnd self.now (hash_of u) number result }
@@ -115,7 +115,7 @@ impl Interner {
         self.befores[number]
     }
 
-    /// Gives the next number to a string of a hash that has none.
+    /// Copies a string that has no number and gives it the next one. Changes nothing before the last request for memory.
     fn add(&mut self, string: Wtf8<'_>, hash: u32) -> Result<usize, AllocError>
         requires hash { hash ≡ hash_of (view_units string) }
         requires new { (n : ℕ) → slice_get self.old n ≡ Some (view_units string) → ⊥ }
@@ -136,7 +136,7 @@ impl Interner {
     }
 }
 
-/// The hash of a string's units, as Java has it: of each unit in turn, 31 times the hash before it and the unit, in 32 bits.
+/// Java's `String.hashCode` of a string's units: for each unit, 31 times the hash so far plus the unit, modulo 2³².
 #[tactic(auto, unfolding(crate::specs::Numbered::hash_of))]
 fn hash_of(string: Wtf8<'_>) -> u32
     ensures { result ≡ hash_of (view_units string.entry) }

@@ -1,4 +1,4 @@
-//! Strings that are put together and cut.
+//! Strings that are joined and cut.
 ghost use Rattle.std.specs.Prelude.{◌≡◌, ℕ, List, ◌++◌, ◌+◌, ◌<◌, length, take, drop, slice_index, IfOk, OnOk, IsTrue};
 ghost use Rattle.wtf8.specs.Building.{Append};
 ghost use Rattle.wtf8.specs.Concatenation.{MeetsAsPair};
@@ -10,8 +10,8 @@ use crate::appending::cut_and_joined;
 use std::alloc::{AllocError, Global};
 use wtf8::{Build, Stopped, Wtf8, Wtf8Buf, laws};
 
-/// The string of two lists of units, one behind the other. It is the string of the joined list, in its bytes too: a pair
-/// that was cut in two between the lists is whole again.
+/// The string of the units of `front` followed by the units of `back`. Its bytes are the form of the joined list: a
+/// surrogate pair that is split between the lists becomes one code point.
 pub fn joined(alloc: Global, front: &[u16], back: &[u16]) -> Result<Wtf8Buf<Global>, AllocError>
     ensures units { IfOk result (λ s. s.units ≡ front.now ++ back.now) }
     ensures bytes { IfOk result (λ s. (w : List ℕ) → IsForm w (front.now ++ back.now) → s.bytes ≡ w) }
@@ -23,8 +23,8 @@ pub fn joined(alloc: Global, front: &[u16], back: &[u16]) -> Result<Wtf8Buf<Glob
     Ok(whole)
 }
 
-/// Whether two lists of pushes and extensions build equal strings: they do where they append the same units, however
-/// these were cut into calls.
+/// Whether two lists of pushes and extensions build equal strings. They do if they append the same units, however the
+/// units are divided among the calls.
 pub fn build_alike(
     alloc: Global,
     calls: &[Build<'_>],
@@ -39,7 +39,7 @@ pub fn build_alike(
     Ok(string == other)
 }
 
-/// The place of the first `/` in bytes, which is a code point boundary, or the length where there is none.
+/// The position of the first `/`, which is a code point boundary, or the length if there is none.
 fn first_slash(text: Wtf8<'_>) -> usize
     ensures boundary { IsBoundary (view_units text.entry) result }
     ensures slash { result < length text.entry.bytes.now → slice_index text.entry.bytes.now result ≡ 0x2F }
@@ -52,8 +52,8 @@ fn first_slash(text: Wtf8<'_>) -> usize
     text.len()
 }
 
-/// Appends a string to another. The bytes are those of the two strings one after the other, unless a lead surrogate ends the
-/// first one and a trail surrogate begins the second one.
+/// Appends a string to another. The bytes are appended unchanged, unless `string` ends with a lead surrogate and
+/// `other` begins with a trail surrogate.
 pub fn append_string(
     string: &mut Wtf8Buf<Global>,
     other: &Wtf8Buf<Global>,
@@ -64,8 +64,8 @@ pub fn append_string(
     string.push_wtf8(other.as_wtf8())
 }
 
-/// The part of `len` bytes from `begin` on, both of whose ends must be code point boundaries of the whole string. It is cut in
-/// two steps: a boundary of the whole at or after a cut is one of the rest, less the bytes before the cut.
+/// The `len` bytes from position `begin` on. Both ends must be code point boundaries of the whole string. Cuts twice: a
+/// boundary of the whole string at or after `begin` is, less `begin`, a boundary of the rest.
 pub fn part_of_len<'a>(text: Wtf8<'a>, begin: usize, len: usize) -> Wtf8<'a>
     requires begin { IsBoundary (view_units text) begin }
     requires end { IsBoundary (view_units text) (begin + len) }
@@ -75,7 +75,7 @@ pub fn part_of_len<'a>(text: Wtf8<'a>, begin: usize, len: usize) -> Wtf8<'a>
     text.slice_from(begin).slice_to(len)
 }
 
-/// A copy of a path that is cut before its first `/` and joined again: it is the whole.
+/// Cuts a path before its first `/` and joins the parts. Returns a copy of the whole path.
 pub fn cut_at_slash_and_joined(alloc: Global, path: Wtf8<'_>) -> Result<Wtf8Buf<Global>, AllocError>
     ensures { IfOk result (λ whole. whole.units ≡ view_units path.entry) }
 {

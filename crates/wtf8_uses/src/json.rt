@@ -1,4 +1,4 @@
-//! JSON text of strings that hold any units, as `JSON.stringify` of ECMAScript writes it.
+//! JSON text of strings of any units, as ECMAScript's `JSON.stringify` writes it.
 ghost use Rattle.std.specs.Prelude.{◌≡◌, ◌<◌, ◌++◌, IfOk, OnOk};
 ghost use Rattle.std.specs.String.{string_bytes};
 ghost use Rattle.wtf8.specs.CodePoint.{number};
@@ -8,9 +8,9 @@ ghost use Rattle.wtf8_uses.specs.Json.{json, json_point, small_digit, unit_escap
 use std::alloc::{AllocError, Allocator};
 use wtf8::{CodePoint, Wtf8};
 
-/// The JSON text of a string: its code points between double quotes. A double quote, a backslash, a control character below
-/// U+0020 and a surrogate, which is in no pair, are escaped, a surrogate as `\ud83d`; so each string has a text, and each its
-/// own. After a refusal nothing is left.
+/// The JSON text of a string: its code points between double quotes. Escapes double quotes, backslashes, control
+/// characters below U+0020 and lone surrogates (`\ud83d`), so that every string has a text and different strings have
+/// different texts. If a request is refused, nothing stays allocated.
 pub fn json_text<A: Allocator>(alloc: A, text: Wtf8<'_>) -> Result<String<A>, AllocError>
     ensures { IfOk result (λ t. string_bytes t ≡ json (view_points text.entry)) }
 {
@@ -22,7 +22,7 @@ pub fn json_text<A: Allocator>(alloc: A, text: Wtf8<'_>) -> Result<String<A>, Al
     Ok(json)
 }
 
-/// Appends what stands for a code point in JSON text.
+/// Appends a code point as JSON text.
 #[tactic(auto, unfolding(crate::specs::Json::json_point))]
 fn push_point<A: Allocator>(json: &mut String<A>, point: CodePoint) -> Result<(), AllocError>
     ensures { OnOk result (string_bytes json.new ≡ string_bytes json.old ++ json_point (number point)) }
@@ -40,7 +40,7 @@ fn push_point<A: Allocator>(json: &mut String<A>, point: CodePoint) -> Result<()
     }
 }
 
-/// Appends the escape of a unit.
+/// Appends the `\u` escape of a unit.
 fn push_escape<A: Allocator>(json: &mut String<A>, unit: u32) -> Result<(), AllocError>
     requires { unit < 0x10000 }
     ensures { OnOk result (string_bytes json.new ≡ string_bytes json.old ++ unit_escape unit) }

@@ -1,4 +1,4 @@
-//! Uses of strings that hold any 16-bit units, each proved from what the library promises.
+//! Example callers of `wtf8` and `unit_text`, each proved from the contracts of these libraries.
 #![tactic(auto)]
 
 pub mod appending;

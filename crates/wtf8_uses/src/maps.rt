@@ -7,7 +7,7 @@ use std::collections::HashMap;
 use std::hash::{BuildHasher, Hash, Hasher};
 use wtf8::{Wtf8, Wtf8Buf, laws};
 
-/// Puts a value under a key, and looks another key up: where that has the same units, it finds the value.
+/// Inserts a value under a key and looks up another key. If that has the same units, it finds the value.
 pub fn put_and_found(
     map: &mut HashMap<Wtf8Buf<Global>, u32>,
     key: Wtf8Buf<Global>,
@@ -21,7 +21,7 @@ pub fn put_and_found(
     Ok(map.get(same_key).copied())
 }
 
-/// Whether hashers of one kind answer alike of a buffer and of a view: they do where these have the same units.
+/// Whether a buffer and a view have the same hash. They do if their units are the same.
 pub fn hash_alike<H: BuildHasher>(build: &H, buffer: &Wtf8Buf<Global>, view: Wtf8<'_>) -> bool
     ensures { buffer.now.units ≡ view_units view.entry → IsTrue result }
 {

@@ -1,11 +1,10 @@
-//! Paths put together.
+//! Joining the parts of a path.
 ghost use Rattle.std.specs.Prelude.{◌≡◌, ◌++◌, IfOk};
 
 use std::alloc::{AllocError, Global};
 use wtf8::Wtf8Buf;
 
-/// Two parts of a path behind one another, whatever units they hold: a pair that was cut in two between them is whole
-/// again.
+/// Joins two parts of a path, of any units. A surrogate pair that is split between them becomes one code point.
 pub fn join(alloc: Global, front: &[u16], back: &[u16]) -> Result<Wtf8Buf<Global>, AllocError>
     ensures { IfOk result (λ path. path.units ≡ front.now ++ back.now) }
 {

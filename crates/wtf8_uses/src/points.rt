@@ -1,4 +1,4 @@
-//! Strings by their code points.
+//! Strings as sequences of code points.
 ghost use Rattle.std.specs.Prelude.{◌≡◌, ◌++◌, ◌*◌, ◌≤◌, count_by, nat_lt, length, take, drop, IfOk, OnOk};
 ghost use Rattle.wtf8.specs.Unicode.{units};
 ghost use Rattle.wtf8.specs.View.{view_points, view_units};
@@ -7,7 +7,7 @@ ghost use Rattle.wtf8_uses.specs.CommonFront.{IsCommonFront};
 use std::alloc::{AllocError, Allocator};
 use wtf8::{Wtf8, Wtf8Buf, laws};
 
-/// A copy of a string by its code points: it has the same units.
+/// Copies a string by its code points. The copy has the same units.
 pub fn copy_by_points<A: Allocator>(alloc: A, text: Wtf8<'_>) -> Result<Wtf8Buf<A>, AllocError>
     ensures { IfOk result (λ copy. copy.units ≡ view_units text.entry) }
 {
@@ -15,7 +15,7 @@ pub fn copy_by_points<A: Allocator>(alloc: A, text: Wtf8<'_>) -> Result<Wtf8Buf<
     Wtf8Buf::from_iter(alloc, text.code_points())
 }
 
-/// A copy of a string by its code points, made by `collect`: it has the same units.
+/// Copies a string by its code points with `collect`. The copy has the same units.
 pub fn collect_points<A: Allocator>(alloc: A, text: Wtf8<'_>) -> Result<Wtf8Buf<A>, AllocError>
     ensures { IfOk result (λ copy. copy.units ≡ view_units text.entry) }
 {
@@ -23,7 +23,7 @@ pub fn collect_points<A: Allocator>(alloc: A, text: Wtf8<'_>) -> Result<Wtf8Buf<
     text.code_points().collect(alloc)
 }
 
-/// The code points of a string appended, one after another: as if the string had been appended.
+/// Appends a string by its code points. The result is the same as appending the string itself.
 pub fn push_points<A: Allocator>(string: &mut Wtf8Buf<A>, text: Wtf8<'_>) -> Result<(), AllocError>
     ensures { OnOk result (string.new.units ≡ string.old.units ++ view_units text.entry) }
 {
@@ -32,7 +32,7 @@ pub fn push_points<A: Allocator>(string: &mut Wtf8Buf<A>, text: Wtf8<'_>) -> Res
     Ok(())
 }
 
-/// The string of the first so many code points of another, or of all where there are fewer.
+/// The string of the first `count` code points, or of all if there are fewer.
 pub fn first_points<A: Allocator>(
     alloc: A,
     text: Wtf8<'_>,
@@ -44,7 +44,7 @@ pub fn first_points<A: Allocator>(
     Wtf8Buf::from_iter(alloc, text.code_points().take(count))
 }
 
-/// The string of the code points of another behind the first so many.
+/// The string without its first `count` code points.
 pub fn points_behind<A: Allocator>(
     alloc: A,
     text: Wtf8<'_>,
@@ -56,7 +56,7 @@ pub fn points_behind<A: Allocator>(
     Wtf8Buf::from_iter(alloc, text.code_points().skip(count))
 }
 
-/// How many code points are the same at the front of two strings: up to where they differ or one of them ends.
+/// The number of code points in the longest common prefix of two strings.
 pub fn common_points(text: Wtf8<'_>, other: Wtf8<'_>) -> usize
     ensures { IsCommonFront (view_points text.entry) (view_points other.entry) result }
 {
@@ -75,7 +75,7 @@ pub fn common_points(text: Wtf8<'_>, other: Wtf8<'_>) -> usize
     count
 }
 
-/// The number of code points. Each of them has at most four bytes, so this is at least a quarter of the length in bytes.
+/// The number of code points. Each has at most four bytes, so this is at least a quarter of the length in bytes.
 pub fn point_count(text: Wtf8<'_>) -> usize
     ensures value { result ≡ length (view_points text.entry) }
     ensures quarter { length text.entry.bytes.now ≤ 4 * result }
@@ -84,7 +84,7 @@ pub fn point_count(text: Wtf8<'_>) -> usize
     text.code_points().count()
 }
 
-/// How many code points of a string are supplementary, which are two units each.
+/// The number of supplementary code points of a string; each of them is two units.
 pub fn supplementary_count(text: Wtf8<'_>) -> usize
     ensures { result ≡ count_by (λ p. nat_lt 0xFFFF p) (view_points text.entry) }
 {

@@ -1,4 +1,4 @@
-//! A reader of UTF-16 in little-endian bytes.
+//! Reads a string from UTF-16 in little-endian bytes.
 ghost use Rattle.std.specs.Prelude.{◌≡◌, ◌≢◌, ◌/◌, ◌%◌, ℕ, List, [], ◌∷◌, ◌++◌, None, IfSome, IfOk, OnOk, IfErr, OnErr, IsErrOf};
 ghost use Rattle.std.specs.Io.KnownBytes.{Consumes, IsAtEnd};
 ghost use Rattle.std.specs.IoError.{error_kind};
@@ -10,26 +10,26 @@ use std::alloc::{AllocError, Allocator};
 use std::io::{self, ErrorKind, Read};
 use wtf8::Wtf8Buf;
 
-/// How many bytes a reader is asked for at a time.
+/// The size of the buffer for one read, in bytes.
 const PIECE: usize = 4096;
 
-/// Why there is no string of what a reader gave.
+/// Why `read_utf16` failed.
 #[derive(Clone, Copy, Debug)]
 pub enum ReadError {
-    /// The reader answered this error, which is not `Interrupted`; it is `TimedOut` too where 2⁶⁴ - 1 reads did not come
-    /// to the end.
+    /// The reader returned this error, which is not `Interrupted`. `TimedOut` also if 2⁶⁴ - 1 reads did not reach the
+    /// end.
     Read(io::Error),
     /// The input ended inside a unit: it has an odd number of bytes.
     HalfUnit,
-    /// A growth of memory was refused.
+    /// A request for memory was refused.
     Memory,
 }
 
-/// The string of the units that a reader has left, each by its low byte and its high byte, in whatever sizes the reader
-/// gives them. A unit or a pair that is cut between two reads is whole again. A byte order mark is a unit like any other.
+/// Reads a string of all units that a reader has left, each as a low byte and a high byte. A read may end inside a unit or
+/// a surrogate pair. A byte order mark is a unit like any other.
 ///
-/// A read that was interrupted is tried again, and any other error is handed on. After an error a beginning of the input
-/// was read and is lost; all of it was read where a last unit has one byte alone.
+/// An interrupted read is tried again; any other error is returned. After an error, the bytes that were read are lost:
+/// after `HalfUnit` the whole input.
 pub fn read_utf16<A: Allocator + Copy, R: Read>(
     alloc: A,
     reader: &mut R,
@@ -61,8 +61,8 @@ pub fn read_utf16<A: Allocator + Copy, R: Read>(
     Err(ReadError::Read(io::Error::from(ErrorKind::TimedOut)))
 }
 
-/// Appends the units of some bytes, of which the first one begins with the low byte that is held, if any. The answer is
-/// the low byte that is left over, if any.
+/// Appends the units of `bytes`, of which the first completes the low byte `held`, if any. Returns the low byte that is
+/// left over, if any.
 fn push_bytes<A: Allocator + Copy>(
     alloc: A,
     string: &mut Wtf8Buf<A>,
@@ -81,8 +81,7 @@ fn push_bytes<A: Allocator + Copy>(
     Ok(low)
 }
 
-/// Appends the unit of the low byte that is held and of another byte. Where none is held it holds this one: the answer
-/// is the low byte that is held then.
+/// Appends the unit of the low byte `held` and the next byte, or returns that byte as the low byte if none is held.
 fn push_byte<A: Allocator>(
     units: &mut Vec<u16, A>,
     held: Option<u8>,
@@ -107,7 +106,7 @@ fn unit_of(low: u8, high: u8) -> u16
     u16::from_le_bytes([low, high])
 }
 
-/// A string of which all was read, unless a low byte was left over.
+/// Returns the string at the end of the input, or fails if a low byte is left over.
 fn whole<A: Allocator>(string: Wtf8Buf<A>, low: Option<u8>) -> Result<Wtf8Buf<A>, ReadError>
     ensures ok { IfOk result (λ s. (s.units ≡ string.units) × (low ≡ None)) }
     ensures err { IfErr result (λ e. (e ≡ ReadError.HalfUnit) × (low ≢ None)) }

@@ -1,4 +1,4 @@
-//! What a refusal of memory leaves, and room that is found before.
+//! Strings after a refused request for memory, and calls that reserve first so that none follows.
 ghost use Rattle.std.specs.Prelude.{◌≡◌, ℕ, List, ◌++◌, IfOk, OnOk, OnErr, IsTrue};
 ghost use Rattle.wtf8.specs.Appending.{AppendsUnits, FitWithin, KeepsContents};
 ghost use Rattle.wtf8.specs.Building.{Append};
@@ -9,8 +9,7 @@ ghost use Rattle.wtf8.specs.View.{view_units};
 use std::alloc::{AllocError, Allocator};
 use wtf8::{Build, CodePoint, Wtf8, Wtf8Buf, laws};
 
-/// Whether a string is, behind a refused push, equal to a clone that was made before: it always is. Where the push is
-/// granted the answer is true as well.
+/// Whether a refused push leaves the string equal to a clone made before it. Always true, also if the push succeeds.
 pub fn is_kept_by_a_refusal<A: Allocator + Clone>(
     string: &mut Wtf8Buf<A>,
     code_point: CodePoint,
@@ -24,7 +23,7 @@ pub fn is_kept_by_a_refusal<A: Allocator + Clone>(
     }
 }
 
-/// Appends both of two strings, or none of them: room for both is found first, and then no push is refused.
+/// Appends two strings or neither: reserves for both first, so that no push is refused.
 pub fn push_both<A: Allocator>(
     string: &mut Wtf8Buf<A>,
     front: Wtf8<'_>,
@@ -41,7 +40,7 @@ pub fn push_both<A: Allocator>(
     string.push_wtf8(back)
 }
 
-/// Appends two code points, or none of them: room for eight bytes is found first, and then no push is refused.
+/// Appends two code points or neither: reserves eight bytes first, so that no push is refused.
 pub fn push_two_points<A: Allocator>(
     string: &mut Wtf8Buf<A>,
     first: CodePoint,
@@ -57,8 +56,8 @@ pub fn push_two_points<A: Allocator>(
     string.push(second)
 }
 
-/// Appends what a list of pushes and extensions appends, or nothing of it, where that is at most so many bytes: room for
-/// these is found first, and then no call is refused.
+/// Appends what a list of pushes and extensions appends, or nothing of it if that is at most `most` bytes: these are
+/// reserved first, so that no call is refused.
 pub fn push_list<A: Allocator>(
     string: &mut Wtf8Buf<A>,
     calls: &[Build<'_>],

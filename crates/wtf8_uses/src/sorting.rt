@@ -29,7 +29,7 @@ pub fn sort_views<'a, A: Allocator>(views: &mut Vec<Wtf8<'a>, A>) -> Result<(), 
     views.sort()
 }
 
-/// Drops each string that is equal to the one before it: of a sorted list each string is left once.
+/// Removes each string that equals the one before it, so that a sorted list has no duplicates.
 pub fn drop_repeated<A: Allocator, B: Allocator>(strings: &mut Vec<Wtf8Buf<B>, A>)
     ensures once { units_of_strings strings.new.items ≡ dedup (pointwise nat_eq) (units_of_strings strings.old.items) }
     ensures sorted { AreInPointOrder strings.old.items → AreInStrictPointOrder strings.new.items }

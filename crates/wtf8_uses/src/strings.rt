@@ -1,4 +1,4 @@
-//! Calls of ECMAScript's strings, whose positions count units (ECMAScript, "String.prototype").
+//! Calls of ECMAScript's strings, whose positions are indices of units (ECMAScript, "String.prototype").
 ghost use Rattle.std.specs.Prelude.{◌≡◌, ◌↔◌, ◌≤◌, ◌++◌, ℕ, List, length, take, drop, slice_get, min, max, IfOk, IsOk, IsTrue};
 ghost use Rattle.wtf8.specs.Order.{Before};
 ghost use Rattle.wtf8.specs.Units.{unread_units};
@@ -8,7 +8,7 @@ use std::cmp::Ordering;
 use unit_text::UnitText;
 use wtf8::IllFormedUtf16CodeUnits;
 
-/// `charAt`: the text of the one unit at a position. It is empty where there is none, which asks for no memory.
+/// `charAt`: the text of the one unit at a position. Empty past the end, and does not allocate then.
 pub fn char_at<A: Allocator>(
     alloc: A,
     text: &UnitText<A>,
@@ -24,15 +24,14 @@ pub fn char_at<A: Allocator>(
     }
 }
 
-/// `charCodeAt`: the unit at a position, or `None`, for the `NaN` of the language, where there is none.
+/// `charCodeAt`: the unit at a position, or `None`, for the `NaN` of the language, past the end.
 pub fn char_code_at<A: Allocator>(text: &UnitText<A>, position: usize) -> Option<u16>
     ensures { result ≡ slice_get text.now position }
 {
     text.unit_at(position)
 }
 
-/// `substring`: the units from the lesser of two positions to before the greater one, in either order. A position beyond
-/// the end is the end.
+/// `substring`: the units from the lesser of two positions to before the greater. A position past the end is the end.
 pub fn substring<A: Allocator>(
     alloc: A,
     text: &UnitText<A>,
@@ -47,7 +46,8 @@ pub fn substring<A: Allocator>(
     text.slice_units(alloc, begin, end)
 }
 
-/// `startsWith`: whether another text's units stand at a position. The empty text stands everywhere, beyond the end too.
+/// `startsWith`: whether the units of `search` occur at a position. The empty text occurs everywhere, also past the
+/// end.
 pub fn starts_with<A: Allocator, B: Allocator>(
     text: &UnitText<A>,
     search: &UnitText<B>,
@@ -58,7 +58,7 @@ pub fn starts_with<A: Allocator, B: Allocator>(
     stand_next(&units_from(text, position.min(text.unit_len())), search)
 }
 
-/// `endsWith`: whether the units before a position end with those of another text. A position beyond the end is the end.
+/// `endsWith`: whether the units before a position end with the units of `search`. A position past the end is the end.
 pub fn ends_with<A: Allocator, B: Allocator>(
     text: &UnitText<A>,
     search: &UnitText<B>,
@@ -73,7 +73,7 @@ pub fn ends_with<A: Allocator, B: Allocator>(
     }
 }
 
-/// The units from a place on.
+/// An iterator over the units from index `begin` on.
 pub(crate) fn units_from<A: Allocator>(
     text: &UnitText<A>,
     begin: usize,
@@ -87,7 +87,7 @@ pub(crate) fn units_from<A: Allocator>(
     units
 }
 
-/// Whether a text's units are the next ones.
+/// Whether the next units are the units of `search`.
 pub(crate) fn stand_next<B: Allocator>(
     units: &IllFormedUtf16CodeUnits<'_>,
     search: &UnitText<B>,
@@ -102,7 +102,7 @@ pub(crate) fn stand_next<B: Allocator>(
     found.cmp(searched).is_eq()
 }
 
-/// `<`: whether a text stands before another in the order of the units.
+/// `<`: whether a text is less than another, compared by units.
 pub fn is_less<A: Allocator>(text: &UnitText<A>, other: &UnitText<A>) -> bool
     ensures { IsTrue result ↔ Before text.now other.now }
 {

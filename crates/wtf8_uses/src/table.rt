@@ -1,4 +1,4 @@
-//! A table of strings that is sorted by code points, and the search in it.
+//! Binary search in a table of strings sorted by code points.
 ghost use Rattle.std.specs.Prelude.{◌≡◌, IfOk, IfErr};
 ghost use Rattle.std.specs.Cmp.Lexicographic.{slice_cmp};
 ghost use Rattle.std.specs.List.{HoldsAt};
@@ -12,8 +12,8 @@ use std::alloc::Allocator;
 use std::cmp::Ordering;
 use wtf8::{Wtf8, Wtf8Buf, laws};
 
-/// The place of a string in a table that `sort_strings` sorted. Where it is not there, the answer is the place where it
-/// may be put in: the strings before that place stand before it, and it stands before those from there on.
+/// Searches a table that `sort_strings` sorted: `Ok` of the string's index, or `Err` of the index where it can be
+/// inserted to keep the table sorted.
 pub fn place_of<A: Allocator>(table: &[Wtf8Buf<A>], string: &Wtf8Buf<A>) -> Result<usize, usize>
     requires { AreInPointOrder table.now }
     ensures found { IfOk result (HoldsAt (λ s. s.units ≡ string.now.units) table.now) }
@@ -22,7 +22,7 @@ pub fn place_of<A: Allocator>(table: &[Wtf8Buf<A>], string: &Wtf8Buf<A>) -> Resu
     place_of_view(table, string.as_wtf8())
 }
 
-/// The place of a view's string in a table that `sort_strings` sorted, as `place_of` answers it. No copy of the view is made.
+/// Searches a sorted table for a view's string, like `place_of`. Does not copy the view.
 pub fn place_of_view<A: Allocator>(table: &[Wtf8Buf<A>], view: Wtf8<'_>) -> Result<usize, usize>
     requires { AreInPointOrder table.now }
     ensures found { IfOk result (HoldsAt (λ s. s.units ≡ view_units view.entry) table.now) }
@@ -35,7 +35,7 @@ pub fn place_of_view<A: Allocator>(table: &[Wtf8Buf<A>], view: Wtf8<'_>) -> Resu
     }
 }
 
-/// Whether a string stands before or behind a view.
+/// Compares a string with a view, by code points.
 fn order<A: Allocator>(string: &Wtf8Buf<A>, view: Wtf8<'_>) -> Ordering
     ensures { result ≡ slice_cmp nat_cmp string.now.form.points (view_points view.entry) }
 {

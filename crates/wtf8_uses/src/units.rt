@@ -4,15 +4,15 @@ ghost use Rattle.wtf8.specs.View.{view_units};
 
 use wtf8::{Wtf8, laws};
 
-/// The unit at a place, counted from 0, by the iterator; `None` where there are no more than so many. `Wtf8::unit_at`
-/// answers the same and skips whole blocks of bytes.
+/// The unit at index `place`, by the iterator; `None` past the end. `Wtf8::unit_at` returns the same and skips whole
+/// blocks of bytes.
 pub fn nth_unit(text: Wtf8<'_>, place: usize) -> Option<u16>
     ensures { result ≡ slice_get (view_units text.entry) place }
 {
     text.to_ill_formed_utf16().nth(place)
 }
 
-/// The unit behind a place that is below the number of units; `None` behind the last one.
+/// The unit after index `place`, which must be below the number of units; `None` after the last one.
 pub fn next_unit(text: Wtf8<'_>, place: usize) -> Option<u16>
     requires { place < length (view_units text) }
     ensures { result ≡ slice_get (view_units text.entry) (place + 1) }
@@ -21,7 +21,7 @@ pub fn next_unit(text: Wtf8<'_>, place: usize) -> Option<u16>
     text.unit_at(place + 1)
 }
 
-/// The number of units, by the iterator. `Wtf8::unit_len` answers the same and skips whole blocks of bytes.
+/// The number of units, by the iterator. `Wtf8::unit_len` returns the same and skips whole blocks of bytes.
 pub fn unit_count(text: Wtf8<'_>) -> usize
     ensures { result ≡ length (view_units text.entry) }
 {

@@ -1,5 +1,5 @@
-//! `isWellFormed` of ECMAScript's strings, over texts that are counted in units, and the text of a string. More calls of these
-//! strings are in the modules `strings` and `engine_strings`.
+//! ECMAScript's `isWellFormed`, and lossy text of a string. More calls of ECMAScript's strings are in the modules
+//! `strings` and `engine_strings`.
 ghost use Rattle.std.specs.Prelude.{◌≡◌, ◌↔◌, ℕ, List, IfOk, IsTrue};
 ghost use Rattle.std.specs.Cow.{cow_str_bytes};
 ghost use Rattle.std.specs.Str.{chars};
@@ -12,15 +12,14 @@ use std::borrow::CowStr;
 use unit_text::UnitText;
 use wtf8::{Wtf8, laws};
 
-/// Whether each surrogate of a text is in a pair: the code points that its units stand for are scalar values.
+/// Whether a text has no lone surrogate: the code points of its reading are scalar values.
 pub fn is_well_formed<A: Allocator>(text: &UnitText<A>) -> bool
     ensures { IsTrue result ↔ ((c : List ℕ) → Reads c text.now → AreScalar c) }
 {
     text.as_wtf8().as_str().is_some()
 }
 
-/// The text whose characters are the code points that the units stand for, with U+FFFD for each surrogate
-/// in no pair.
+/// The string as text, with U+FFFD for each lone surrogate.
 pub fn well_formed_text<'a>(alloc: Global, text: Wtf8<'a>) -> Result<CowStr<'a, Global>, AllocError>
     ensures { IfOk result (λ t. (c : List ℕ) → Reads c (view_units text.entry) → chars (cow_str_bytes t) ≡ lossy c) }
 {

@@ -4,6 +4,6 @@ use Rattle.wtf8_uses.specs.EngineString.{StandsAt}
 use Rattle.wtf8_uses.proofs.PlaceLemmas.{LastSoFar}
 use Rattle.wtf8_uses.proofs.engine_search.last_index_of.Given as goal
 
--- the units from here on are left, and the last place so far where the other text stands is known
+-- the units from `place` on are unread, and `found` is the last index before `place` at which the search text occurs
 abbrev pub invariant-loop-place : goal.invariant-loop-place
 invariant-loop-place g l = (unread_units l.units ≡ drop l.place l.text) × LastSoFar (StandsAt l.text l.search) l.place l.found

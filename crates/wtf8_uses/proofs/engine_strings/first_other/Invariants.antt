@@ -2,6 +2,6 @@ use Rattle.std.proofs.Common.{ℕ, ◌<◌, slice_index}
 use Rattle.wtf8_uses.specs.EngineString.{IsSpace}
 use Rattle.wtf8_uses.proofs.engine_strings.first_other.Given as goal
 
--- the units so far are spaces
+-- the units before `place` are spaces
 abbrev pub invariant-loop-place : goal.invariant-loop-place
 invariant-loop-place g l = (k : ℕ) → k < l.place → IsSpace (slice_index l.text k)

@@ -3,6 +3,6 @@ use Rattle.std.specs.List.{count_by}
 use Rattle.wtf8.specs.View.{view_points}
 use Rattle.wtf8_uses.proofs.points.supplementary_count.Given as goal
 
--- those so far and those that are left are all of them
+-- the count so far and the count of the code points that are left add up to the count of all
 abbrev pub invariant-loop-point : goal.invariant-loop-point
 invariant-loop-point l = l.count + count_by (λ p. nat_lt 0xFFFF p) l.point-iterator ≡ count_by (λ p. nat_lt 0xFFFF p) (view_points l.fn.text)
