@@ -1,4 +1,4 @@
--- The names of std and of specs/ that proofs cite in many places, passed on from one place. Declares nothing.
+-- Re-exports the names of std and of specs/ that many proofs cite. Declares nothing.
 pub use Rattle.std.proofs.Common.{ap, ◌++◌, ◌∙◌, arith, drop, inl, inr, sym, ◌≡◌, ◌+◌, ◌-◌, ◌/◌, ◌%◌, ◌<◌, ℕ, List, [], ◌∷◌, refl, length, length-append, true}
 pub use Rattle.std.proofs.Common.{lit≤, lit<, get_or, Bool, false, cond, Some, subst, append_assoc, ◌≤◌, take, Result, Ok, Err, OnOk, OnErr, ◌≢◌, ◌↔◌, IsTrue}
 pub use Rattle.std.proofs.Common.{◌*◌, zero, suc, None, ◌⊎◌, ◌&&◌, leb, not, w8, map, ltb, replicate, Option, IfSome, rules, vec_len, vec_capacity, length-take}

@@ -1,4 +1,4 @@
--- The orders of code points, bytes and units, and what the first difference of two strings says of them.
+-- The orders of code points, bytes and units, and how the first difference of two strings decides them.
 use Rattle.wtf8.proofs.Common.{◌≡◌, ℕ, ◌<◌, inl, inr, List, [], ◌∷◌, ◌++◌, refl, sym, ap, ◌∙◌, arith, subst, Ordering, Less, Equal, Greater, nat_cmp}
 use Rattle.wtf8.proofs.Common.{ordering_then, MatchOrdering, slice_cmp, cases_lt, nat_tests, Before, cases_order, ◌↔◌, encoding, bytes, Bool}
 use Rattle.wtf8.proofs.Common.{IsTrue, nat_eq, pointwise, bytes_decides, units, Reads, IsWellFormed, IsForm, bytes-injective, ◌≢◌, zero, suc, drop, get_or}
@@ -11,7 +11,7 @@ use Rattle.wtf8.proofs.lemmas.numbers.Encoding.{row_of, one, two, three, four, e
 use Rattle.wtf8.proofs.lemmas.numbers.Readings.{same_reading, units-cons_one, units-cons_two, units-append}
 use Rattle.wtf8.proofs.lemmas.strings.Positions.{cut_at, boundary_from_byte, points_behind}
 
--- The order of lists of numbers, and comparing them one by one.
+-- The order `Before` of lists of numbers, and their comparison item by item.
 
 pub cmp_less : (x y : ℕ) → x < y → nat_cmp x y ≡ Less
 cmp_less x y h = grind (arith, nat_tests)
@@ -22,7 +22,7 @@ cmp_greater x y h = grind (arith, nat_tests)
 pub cmp_same : (x : ℕ) → nat_cmp x x ≡ Equal
 cmp_same x = grind (arith, nat_tests)
 
--- what comes before compares as less
+-- the list that is before the other compares as less
 pub less_of : (c d : List ℕ) → Before c d → slice_cmp nat_cmp c d ≡ Less
 less_of [] [] h = absurd h
 less_of [] (y ∷ ys) h = refl
@@ -35,7 +35,7 @@ less_of (x ∷ xs) (y ∷ ys) h = elim h [
 pub greater_of : (c d : List ℕ) → Before d c → slice_cmp nat_cmp c d ≡ Greater
 greater_of c d h = nat_list_cmp_total.antisymm c d ∙ ap ordering_reverse (less_of d c h)
 
--- a common front doesn't count
+-- a common front does not affect a comparison
 pub cmp_behind : (f c d : List ℕ) → slice_cmp nat_cmp (f ++ c) (f ++ d) ≡ slice_cmp nat_cmp c d
 cmp_behind [] c d = refl
 cmp_behind (x ∷ f) c d = ap (λ o. ordering_then o (slice_cmp nat_cmp (f ++ c) (f ++ d))) (cmp_same x) ∙ cmp_behind f c d
@@ -46,7 +46,7 @@ with_first x y xs ys e Less h = inr (e, h)
 with_first x y xs ys e Equal h = ap (λ z. z ∷ xs) e ∙ ap (λ zs. y ∷ zs) h
 with_first x y xs ys e Greater h = inr (sym e, h)
 
--- a comparison says which list comes before the other
+-- a comparison decides which list is before the other
 pub order_of : (c d : List ℕ) → MatchOrdering (slice_cmp nat_cmp c d) (Before c d) (c ≡ d) (Before d c)
 order_of [] [] = refl
 order_of [] (y ∷ ys) = tt
@@ -57,7 +57,7 @@ order_of (x ∷ xs) (y ∷ ys) = elim (cases_order x y) [
   | inr (inr l) ↦ rw (cmp_greater x y l) (inl l)
 ]
 
--- what an answer by a comparison says
+-- the same of the result `o` of a comparison
 pub ordered : (o : Ordering) (c d : List ℕ) → o ≡ slice_cmp nat_cmp c d → MatchOrdering o (Before c d) (c ≡ d) (Before d c)
 ordered o c d e =
     let P : Ordering → Type 0 = λ p. MatchOrdering p (Before c d) (c ≡ d) (Before d c) in
@@ -66,9 +66,9 @@ ordered o c d e =
 pub before_of : (c d : List ℕ) → slice_cmp nat_cmp c d ≡ Less → Before c d
 before_of c d e = ordered Less c d (sym e)
 
--- The order of encodings byte by byte is the order of their code points.
+-- Encodings compare byte by byte as their code points compare.
 
--- the encoding of a smaller code point comes first, whatever is behind it
+-- the encoding of a smaller code point comes first, whatever follows it
 before_encoding : (p q : ℕ) (r s : List ℕ) → p < q → Before (encoding p ++ r) (encoding q ++ s)
 before_encoding p q r s l = elim (row_of p) [
   | one h e ↦ elim (row_of q) [ one k f ↦ rw (e, f) (inl l) | two k _ f ↦ rw (e, f) (grind arith) | three k _ f ↦ rw (e, f) (grind arith) | four k f ↦ rw (e, f) (grind arith) ]
@@ -80,7 +80,7 @@ before_encoding p q r s l = elim (row_of p) [
 empty_before : (q : ℕ) (s : List ℕ) → Before [] (encoding q ++ s)
 empty_before q s = elim (row_of q) [ one _ f ↦ rw f tt | two _ _ f ↦ rw f tt | three _ _ f ↦ rw f tt | four _ f ↦ rw f tt ]
 
--- the order of bytes is that of code points
+-- bytes compare as code points
 pub cmp-bytes : (c d : List ℕ) → slice_cmp nat_cmp (bytes c) (bytes d) ≡ slice_cmp nat_cmp c d
 cmp-bytes [] [] = refl
 cmp-bytes [] (q ∷ d) = less_of [] (bytes (q ∷ d)) (empty_before q (bytes d))
@@ -91,18 +91,18 @@ cmp-bytes (p ∷ c) (q ∷ d) = elim (cases_order p q) [
   | inr (inr l) ↦ greater_of (bytes (p ∷ c)) (bytes (q ∷ d)) (before_encoding q p (bytes d) (bytes c) l) ∙ sym (greater_of (p ∷ c) (q ∷ d) (inl l))
 ]
 
--- encodings stand before one another as their code points do
+-- one encoding is before another exactly if its code points are
 pub before_bytes : (c d : List ℕ) → Before (bytes c) (bytes d) ↔ Before c d
 before_bytes c d =
     (λ h. before_of c d (sym (cmp-bytes c d) ∙ less_of (bytes c) (bytes d) h), λ h. before_of (bytes c) (bytes d) (cmp-bytes c d ∙ less_of c d h))
 
--- What a comparison of the bytes of two strings says of their code points and units.
+-- Strings compared by their bytes: the code points and units.
 
--- a form has the code points of well-formed bytes that are its own
+-- well-formed bytes and a form with equal bytes have the same code points
 pub form_points : {w v u : List ℕ} (h : IsWellFormed w) (f : IsForm v u) → w ≡ v → h.points ≡ f.points
 form_points h f e = bytes-injective h.points f.points (h.encoded ∙ (e ∙ sym f.encoded))
 
--- strings are equal where their code points are, and where their units are
+-- two byte strings are equal exactly if their code points are, and if their units are
 pub equal_points : (r : Bool) (c d : List ℕ) {w v : List ℕ} → bytes c ≡ w → bytes d ≡ v → r ≡ pointwise nat_eq w v → IsTrue r ↔ (c ≡ d)
 equal_points r c d {w} {v} e f h =
     (λ t. bytes-injective c d (e ∙ ((bytes_decides w v).0 (sym h ∙ t) ∙ sym f)), λ s. h ∙ (bytes_decides w v).1 (sym e ∙ (ap bytes s ∙ f)))
@@ -112,22 +112,22 @@ equal_units r {c} {d} {u} {t} x y e f h =
     let points = equal_points r c d e f h in
     (λ s. sym x.same_units ∙ (ap units (points.0 s) ∙ y.same_units), λ s. points.1 (same_reading c d x.clean y.clean (x.same_units ∙ (s ∙ sym y.same_units))))
 
--- strings are in the order of their code points
+-- byte strings compare as their code points
 pub cmp_points : (c d : List ℕ) {w v : List ℕ} → bytes c ≡ w → bytes d ≡ v → slice_cmp nat_cmp w v ≡ slice_cmp nat_cmp c d
 cmp_points c d {w} {v} e f = ap (λ x. slice_cmp nat_cmp x v) (sym e) ∙ (ap (slice_cmp nat_cmp (bytes c)) (sym f) ∙ cmp-bytes c d)
 
--- a comparison says which string's code points come before the other's
+-- the result of a comparison of bytes says which code points are before the others
 pub points_order : (r : Ordering) (c d : List ℕ) {w v : List ℕ} → bytes c ≡ w → bytes d ≡ v → r ≡ slice_cmp nat_cmp w v
     → MatchOrdering r (Before c d) (c ≡ d) (Before d c)
 points_order r c d e f h = ordered r c d (h ∙ cmp_points c d e f)
 
--- Where code points part in one row of the table, the order of their bytes is the order of their units.
+-- If the code points at the first difference have equally many units, bytes compare as units.
 
--- both numbers or neither is below a bound
+-- `x` and `y` are both below `n` or both not
 abbrev pub BothBelow : ℕ → ℕ → ℕ → Type 0
 BothBelow n x y = (x < n) ↔ (y < n)
 
--- code points of one unit, or of two, are in the order of their units
+-- two code points of one unit each, or of two each, compare as their units
 before_units : (p q : ℕ) (c d : List ℕ) → p < q → BothBelow 0x10000 p q → Before (units (p ∷ c)) (units (q ∷ d))
 before_units p q c d l both = elim (cases_lt p 0x10000) [
   | inl h ↦ rw (units-cons_one p c h, units-cons_one q d (both.0 h)) (inl l)
@@ -135,7 +135,7 @@ before_units p q c d l both = elim (cases_lt p 0x10000) [
       (grind arith)
 ]
 
--- where lists differ first, both numbers or neither is below F0
+-- at the first difference both bytes are below F0 or neither is
 abbrev pub PartInOneRow : List ℕ → List ℕ → Type 0
 PartInOneRow [] v = Unit {0}
 PartInOneRow (x ∷ w) [] = Unit {0}
@@ -145,7 +145,7 @@ behind : (f w v : List ℕ) → PartInOneRow (f ++ w) (f ++ v) → PartInOneRow 
 behind [] w v h = h
 behind (x ∷ f) w v h = behind f w v (h.0 refl)
 
--- the first byte of a code point says how many units it has
+-- a lead byte is below F0 exactly if its code point is one unit
 first_byte : (p : ℕ) (r : List ℕ) → (0 < length (encoding p ++ r)) × ((p < 0x10000) ↔ (get_or (encoding p ++ r) 0 0 < 0xF0))
 first_byte p r = elim (row_of p) [
   | one h e ↦ rw e (omega arith, (λ _. omega arith, λ _. omega arith))
@@ -169,7 +169,7 @@ same_row p q r s h =
 nothing_before : (q : ℕ) (d : List ℕ) → Before [] (units (q ∷ d))
 nothing_before q d = elim (cases_lt q 0x10000) [ inl h ↦ rw (units-cons_one q d h) tt | inr h ↦ rw (units-cons_two q d h) tt ]
 
--- then the order of the code points is that of the units
+-- then code points compare as units
 pub points_as_units : (c d : List ℕ) → PartInOneRow (bytes c) (bytes d) → slice_cmp nat_cmp c d ≡ slice_cmp nat_cmp (units c) (units d)
 points_as_units [] [] h = refl
 points_as_units [] (q ∷ d) h = sym (less_of [] (units (q ∷ d)) (nothing_before q d))
@@ -184,7 +184,7 @@ points_as_units (p ∷ c) (q ∷ d) h =
       | inr (inr l) ↦ less_of (p ∷ c) (q ∷ d) (inl l) ∙ sym (less_of (units (p ∷ c)) (units (q ∷ d)) (before_units p q c d l row))
     ]
 
--- behind the first numbers of both lists
+-- without their equal first items, lists first differ one index earlier
 pub difference_behind : (x y : ℕ) (w v : List ℕ) (n : ℕ) → IsFirstDifference (x ∷ w) (y ∷ v) (suc n) → IsFirstDifference w v n
 difference_behind x y w v n d = record {
   within_first = omega (arith, d.within_first);
@@ -213,9 +213,9 @@ parts_at (x ∷ w) (y ∷ v) (suc n) d both =
       λ e. absurd (e (ap (λ u. get_or u 0 0) d.same_before)),
     )
 
--- The order of units: the bytes where two strings first differ, and the strings behind the place where they part.
+-- The order of units: by the bytes at the first difference, or by the parts of both strings from there on.
 
--- the numbers there, or the ends, are in the order of the lists
+-- lists compare as their items at the first difference, with `None` for the end
 pub order_there : (w v : List ℕ) (at : ℕ) → IsFirstDifference w v at → option_cmp nat_cmp (slice_get w at) (slice_get v at) ≡ slice_cmp nat_cmp w v
 order_there [] [] at d = refl
 order_there [] (y ∷ v) zero d = refl
@@ -231,7 +231,7 @@ order_there (x ∷ w) (y ∷ v) (suc n) d =
     let same : y ≡ x = sym (ap (λ u. get_or u 0 0) d.same_before) in
     order_there w v n (difference_behind x y w v n d) ∙ rw same (sym (cmp_behind (x ∷ []) w v))
 
--- lists that are equal as far as both go are in the order of their lengths
+-- lists that are equal up to the length of the shorter compare as their lengths
 pub order_of_lengths : (w v : List ℕ) → Nowhere (DifferAt w v) 0 (min (length w) (length v)) → nat_cmp (length w) (length v) ≡ slice_cmp nat_cmp w v
 order_of_lengths [] [] h = cmp_same 0
 order_of_lengths [] (y ∷ v) h = cmp_less 0 (length (y ∷ v)) (omega arith)
@@ -244,7 +244,7 @@ order_of_lengths (x ∷ w) (y ∷ v) h = elim (cases_order x y) [
   | inr n ↦ absurd (h 0 (omega arith) (omega arith) (λ e. omega (arith, n, e)))
 ]
 
--- where lists differ first, the numbers there are in their order
+-- lists compare as their items at the first mismatch
 pub order_at : (w v : List ℕ) (at : ℕ) → IsLeast (DifferAt w v) 0 at × (at < min (length w) (length v))
     → nat_cmp (get_or w at 0) (get_or v at 0) ≡ slice_cmp nat_cmp w v
 order_at w v at h =
@@ -258,7 +258,7 @@ order_at w v at h =
     } in
     rw (slice_get-get_or w at 0 own, slice_get-get_or v at 0 others) at (order_there w v at d)
 
--- code points whose bytes begin with those of a front have that front
+-- if the bytes of `d` begin with the bytes of `front`, its code points begin with `front`
 record Continues (front d rest : List ℕ) : Type 0 where
   points : List ℕ
   joined : d ≡ front ++ points
@@ -272,7 +272,7 @@ continues (p ∷ front) (q ∷ d) rest e =
     let more = continues front d rest heads.1 in
     record { points = more.points; joined = ap (λ k. k ∷ d) heads.0 ∙ ap (λ c. p ∷ c) more.joined; encoded = more.encoded }
 
--- two strings that are equal up to a boundary of the one: what they share, and what each has behind it
+-- the common front of two strings up to a boundary, and the rest of each
 pub record Parting (c d : List ℕ) (at : ℕ) : Type 0 where
   pub front : List ℕ
   pub own : List ℕ
@@ -291,7 +291,7 @@ parting {w} {v} h k at same pair =
 turned : {c d : List ℕ} {at : ℕ} → Parting c d at → Parting d c at
 turned p = record { front = p.front; own = p.others; others = p.own; own_joined = p.others_joined; others_joined = p.own_joined; front_len = p.front_len }
 
--- the rests of both are in the order of the whole strings
+-- the rests compare by units as the whole strings do
 pub rests_order : {w v x y : List ℕ} (h : IsWellFormed w) (k : IsWellFormed v) (at : ℕ) → Parting h.points k.points at
     → (i : IsWellFormed x) (j : IsWellFormed y) → x ≡ drop at w → y ≡ drop at v
     → slice_cmp nat_cmp (units i.points) (units j.points) ≡ slice_cmp nat_cmp (units h.points) (units k.points)
@@ -312,12 +312,12 @@ one_of_both true b p q e = inl (p.0 refl)
 one_of_both false true p q e = inr (q.0 refl)
 one_of_both false false p q e = absurd (true≢false e)
 
--- where a code point of two units begins in one of both strings they part
+-- if a code point of two units begins at the first difference in exactly one string, it is a boundary of both
 pub parts_there : {w v : List ℕ} (h : IsWellFormed w) (k : IsWellFormed v) (at : ℕ) → IsFirstDifference w v at → (a b : Bool) → IsTrue a ↔ PairBegins w at
     → IsTrue b ↔ PairBegins v at → beq a b ≡ false → Parting h.points k.points at
 parts_there h k at d a b p q e = elim (one_of_both a b p q e) [ inl l ↦ parting h k at d.same_before l | inr l ↦ turned (parting k h at (sym d.same_before) l) ]
 
--- and elsewhere the bytes there are in the order of the units
+-- otherwise the strings compare by units as their bytes there
 pub bytes_order : {w v : List ℕ} (h : IsWellFormed w) (k : IsWellFormed v) (at : ℕ) → IsFirstDifference w v at → PairBegins w at ↔ PairBegins v at
     → option_cmp nat_cmp (slice_get w at) (slice_get v at) ≡ slice_cmp nat_cmp (units h.points) (units k.points)
 bytes_order {w} {v} h k at d both =

@@ -10,7 +10,7 @@ use mir.Syntax.{Width}
 use mir.Val.{bits, hbits}
 use Rattle.wtf8.specs.private.FirstPlace.{IsFirstBelow, IsFirstSet, IsSet}
 
--- what the mask of the lanes that are not ASCII says of those before its first
+-- the lanes before the first set bit of the mask of non-ASCII lanes are ASCII
 module _ (w : Width) (n : ℕ) (xs : List ℕ) (few : n ≤ 64) (long : length xs ≡ n) where
   abbrev others : ℕ
   others = mask_l (map (top (hbits w)) (zip2 (λ a b. cond (leb a b) (2 ^ bits w - 1) 0) (replicate n 0x80) xs)) % 2 ^ 64
@@ -32,14 +32,14 @@ module _ (w : Width) (n : ℕ) (xs : List ℕ) (few : n ≤ 64) (long : length x
       by None none = (omega arith, ascii n (omega arith) none)
       by (Some k) h = (omega (arith, h.1), ascii k (omega (arith, h.1)) h.0.none_between)
 
--- lanes against one number in all lanes
+-- a vector with `k` in all lanes is a nonzero divisor in each lane
 pub by_all : (xs : List ℕ) (k : ℕ) → 0 < k → Each2 (λ (a b : ℕ). 0 < b) xs (k ∷ k ∷ k ∷ k ∷ k ∷ k ∷ k ∷ k ∷ [])
 by_all xs k h = Each2-splat (λ (a b : ℕ). 0 < b) xs 8 k (Each1-all (λ (a : ℕ). 0 < k) (λ a. h) xs)
 
 pub each2_splat : (P : ℕ → ℕ → Type 0) (y : ℕ) → ((x : ℕ) → P x y) → (n : ℕ) (xs : List ℕ) → length xs ≡ n → Each2 P xs (replicate n y)
 each2_splat P y h n xs e = Each2-splat P xs n y (Each1-all (λ x. P x y) h xs)
 
--- the lesser of each lane and the greatest byte
+-- selecting each lane if it is below FF, else FF, saturates the lanes
 pub saturated_lanes : (n : ℕ) (xs : List ℕ) → length xs ≡ n
     → sel_l (map (top 15) (zip2 (λ a b. cond (ltb a b) 0xFFFF 0) xs (replicate n 0xFF))) xs (replicate n 0xFF) ≡ map (λ n. min n 0xFF) xs
 saturated_lanes zero [] e = refl
@@ -54,7 +54,7 @@ pub saturated_fit : (P : ℕ → Type 0) → ((x : ℕ) → x < 0x100 → P x) �
 saturated_fit P h [] = tt
 saturated_fit P h (x ∷ xs) = (h (min x 0xFF) (omega arith), saturated_fit P h xs)
 
--- what is ASCII when it is saturated was so before
+-- lanes that are ASCII after saturation are unchanged by it
 pub saturated_front : (k : ℕ) (xs : List ℕ) → AreAscii (take k (map (λ n. min n 0xFF) xs)) → take k (map (λ n. min n 0xFF) xs) ≡ take k xs
 saturated_front zero xs h = refl
 saturated_front (suc k) [] h = refl

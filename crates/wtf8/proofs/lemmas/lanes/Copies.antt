@@ -1,8 +1,8 @@
--- A list appended by its first and its last items, which may overlap.
+-- A list appended by its first and its last `n` items, which may overlap.
 use Rattle.wtf8.proofs.Common.{◌≡◌, ℕ, ◌+◌, ◌-◌, ◌*◌, ◌≤◌, List, ◌++◌, length, take, drop, ap, ◌∙◌, arith, append_assoc, length-drop, take_all}
 use Rattle.wtf8.proofs.Common.{take-append-drop, take-append-add, take-take}
 
--- the first n items, of which as many are kept as stand before the last n, and then these
+-- the first `n` items, cut where the last `n` begin, followed by these, are the whole list
 pub ends_appended : (w v : List ℕ) (n end : ℕ) → end ≡ length w + (length v - n) → n ≤ length v → length v ≤ 2 * n
     → take end (w ++ take n v) ++ take n (drop (length v - n) v) ≡ w ++ v
 ends_appended w v n end e h k =

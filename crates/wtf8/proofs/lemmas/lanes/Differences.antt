@@ -1,4 +1,4 @@
--- Bytes compared in lanes: what the mask of a block says of its bytes, and lists without a difference.
+-- Bytes compared in lanes: the mask of a block, and lists without a mismatch.
 use Rattle.wtf8.proofs.Common.{◌≡◌, ◌≢◌, ◌↔◌, ℕ, zero, suc, ◌+◌, ◌<◌, ◌≤◌, eqb, Bool, true, false, IsTrue, cond, not, inl, inr, refl, sym, ap, subst, arith}
 use Rattle.wtf8.proofs.Common.{List, [], ◌∷◌, ◌∙◌, map, length, get_or, nat_eq, take, take_all, cases_Bool, both_ways, eq-eqb, eqb-true, length-chunk}
 use Rattle.wtf8.proofs.Common.{get_or-chunk, get_or-zip2, length-zip2, tops_compared, mask_l, w8, None, Some, Option, ◌%◌, ◌^◌, pointwise, bytes_decides, chunk}
@@ -12,7 +12,7 @@ unlike_tells : (x y : ℕ) → IsTrue (unlike x y) ↔ (x ≢ y)
 unlike_tells x y =
     (λ t e. both_ways _ (not-true _ t) (eq-eqb x y e), λ d. elim (cases_Bool (eqb x y)) [ inl t ↦ absurd (d (eqb-true x y t)) | inr f ↦ rw f refl ])
 
--- the lanes in which two vectors differ, their mask, and the places where the bytes do
+-- the mask of the lanes in which the blocks at `i` differ, and the indexes of the mismatches
 module _ (n : ℕ) (w v : List ℕ) (i : ℕ) (few : n ≤ 64) (own : i + n ≤ length w) (others : i + n ≤ length v) where
   abbrev lanes : List Bool
   lanes = zip2 unlike (chunk i n w) (chunk i n v)
@@ -45,7 +45,7 @@ module _ (n : ℕ) (w v : List ℕ) (i : ℕ) (few : n ≤ 64) (own : i + n ≤ 
         none _ some.0.not_before some.1 some.0.here)
   ]
 
--- lists with no difference before a place are the same up to there
+-- lists without a mismatch before `n` have the same first `n` items
 pub same_front : (n : ℕ) (w v : List ℕ) → n ≤ length w → n ≤ length v → Nowhere (DifferAt w v) 0 n → take n w ≡ take n v
 same_front zero w v p q h = refl
 same_front (suc n) [] v p q h = absurd (omega arith)
@@ -55,14 +55,14 @@ same_front (suc n) (x ∷ w) (y ∷ v) p q h = elim (cases_Bool (eqb x y)) [
   | inr f ↦ absurd (h 0 (omega arith) (omega arith) (λ e. both_ways _ f (eq-eqb x y e)))
 ]
 
--- an answer that is yes exactly where two lists are the same is that of their equality
+-- a Boolean that is true exactly if two lists are equal is the result of their comparison
 pub decided : (b : Bool) (w v : List ℕ) → IsTrue b ↔ (w ≡ v) → b ≡ pointwise nat_eq w v
 decided b w v h = elim (cases_Bool b) [
   | inl t ↦ t ∙ sym ((bytes_decides w v).1 (h.0 t))
   | inr f ↦ elim (cases_Bool (pointwise nat_eq w v)) [ inl t ↦ absurd (both_ways b f (h.1 ((bytes_decides w v).0 t))) | inr g ↦ f ∙ sym g ]
 ]
 
--- so is one of whether two lists of the same length have no difference
+-- so is one that is true exactly if two lists of equal length have no mismatch
 pub equal_told : (b : Bool) (w v : List ℕ) → length w ≡ length v → Tells ⊤ (DifferAt w v) 0 (length w) b → b ≡ pointwise nat_eq w v
 equal_told b w v long h = decided b w v (to b h, from b h)
   where

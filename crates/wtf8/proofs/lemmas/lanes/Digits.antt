@@ -10,7 +10,7 @@ use mir.Syntax.{shr, unsigned, bit_and as bit_and_op}
 use mir.Val.{Fits}
 use Rattle.wtf8.specs.Hex.{digit}
 
--- the digits at their values
+-- the ASCII digits of 0 to 15
 abbrev pub table : List ℕ
 table = 48 ∷ 49 ∷ 50 ∷ 51 ∷ 52 ∷ 53 ∷ 54 ∷ 55 ∷ 56 ∷ 57 ∷ 65 ∷ 66 ∷ 67 ∷ 68 ∷ 69 ∷ 70 ∷ []
 
@@ -21,7 +21,7 @@ counted = refl
 pub digit_at : (n : ℕ) → n < 16 → get_or table n 0 ≡ digit n
 digit_at n h = ap (λ t. get_or t n 0) (sym counted) ∙ get_or-map-range_with_len digit 0 16 n n 0 h (omega arith)
 
--- a look-up gives the digits
+-- a table lookup turns values below 16 into digits
 pub looked_up : (i : ℕ) (values : List ℕ) → i + length values ≤ 16 → Each1 (λ v. v < 16) values → swz_l w8 16 table i values ≡ map digit values
 looked_up i [] p h = refl
 looked_up i (v ∷ values) p h =
@@ -44,7 +44,7 @@ low_below : (bytes : List ℕ) → Each1 (λ v. v < 16) (map (λ b. b % 16) byte
 low_below [] = tt
 low_below (b ∷ bytes) = (omega arith, low_below bytes)
 
--- a space, a digit of the first vector and one of the second, for each lane
+-- for each lane: a space, its digit in the first vector and its digit in the second
 abbrev placed : List ℕ → List ℕ
 placed digits = flat_map (λ k. 32 ∷ get_or digits k 0 ∷ get_or digits (16 + k) 0 ∷ []) (range_with_len 0 16)
 
@@ -64,17 +64,17 @@ woven : (bytes : List ℕ) → length bytes ≡ 16 → placed (map digit (map (�
 woven bytes p = subst (λ bs. placed (map digit (map (λ b. b / 16) bs) ++ map digit (map (λ b. b % 16) bs)) ≡ flat_map spaced bs)
     (pick_l_whole 0 bytes 16 p) refl
 
--- the digits of the halves, put in their places, are those of the bytes
+-- the interleaved digits of the halves are the spaced text of 16 bytes
 pub block_text : (bytes first second : List ℕ) → length bytes ≡ 16 → first ≡ map digit (highs bytes) → second ≡ map digit (lows bytes)
     → placed (first ++ second) ≡ flat_map spaced bytes
 block_text bytes first second p f s = rw (f, s, high bytes p, low bytes p) (woven bytes p)
 
--- some bytes more behind those so far
+-- the text of the first `at` bytes and of the next `n` is the text of the first `at + n`
 pub more_spaced : (text start bytes : List ℕ) (at n : ℕ) → text ≡ start ++ flat_map spaced (take at bytes)
     → text ++ flat_map spaced (take n (drop at bytes)) ≡ start ++ flat_map spaced (take (at + n) bytes)
 more_spaced text start bytes at n e = simp (e, append_assoc, take-add at n bytes, flat_map-append)
 
--- and the rest of them
+-- the text of the first `at` bytes and of the rest is the text of all
 pub all_spaced : (text start bytes : List ℕ) (at : ℕ) → text ≡ start ++ flat_map spaced (take at bytes)
     → text ++ flat_map spaced (drop at bytes) ≡ start ++ flat_map spaced bytes
 all_spaced text start bytes at e = simp (e, append_assoc, ← flat_map-append, take-append-drop)

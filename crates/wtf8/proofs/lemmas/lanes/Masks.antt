@@ -1,4 +1,4 @@
--- Masks: the lowest bit is that of the first lane that is set, and what this says of the places that the lanes are of.
+-- Masks of lanes: the lowest set bit is the first set lane, and so the first position of a block with a property.
 use Rattle.wtf8.proofs.Common.{◌≡◌, ◌↔◌, ℕ, zero, suc, ◌+◌, ◌-◌, ◌/◌, ◌%◌, ◌^◌, ◌<◌, ◌≤◌, eqb, Bool, true, false, not, cond, Option, Some, None, List, [], ◌∷◌}
 use Rattle.wtf8.proofs.Common.{map, length, take, replicate, refl, sym, ap, ◌∙◌, subst, arith, both_ways, cases_Bool, eqb-true, inl, inr, mask_l-mod, mask_l}
 use Rattle.wtf8.proofs.Common.{top, zip2, Each1, Nowhere, IsLeast, not-false, tops_compared, length-zip2, w8, not-true, length-replicate, map-id}
@@ -6,7 +6,7 @@ use Rattle.wtf8.proofs.Common.{prefix_len_passes, prefix_len_stops, prefix_len, 
 use Rattle.std.proofs.lemmas.Simd.{leading_from_mask_l, trailing_mask_l}
 use lib.Count.{count_trailing_zeros}
 
--- where some bit is set, so is some lane
+-- if the mask is not 0, a lane is set
 some_set : (bs : List Bool) → 0 < mask_l bs → prefix_len (λ b. not b) bs < length bs
 some_set [] h = absurd (omega arith)
 some_set (true ∷ bs) h = omega arith
@@ -31,7 +31,7 @@ module _ (bits n : ℕ) (lanes : List Bool) (few : n ≤ 64) (long : length lane
         omega (arith, some, long),
       )
 
--- the first lane with one of two properties that say the same
+-- equivalent properties have the same first lane
 pub same_first : (P Q : ℕ → Type 0) (n : ℕ) → ((k : ℕ) → k < n → P k ↔ Q k) → (r : Option ℕ) → IsFirstBelow P 0 n r → IsFirstBelow Q 0 n r
 same_first P Q n says None none = λ j low high q. none j low high ((says j high).1 q)
 same_first P Q n says (Some k) h = (
@@ -43,7 +43,7 @@ same_first P Q n says (Some k) h = (
   h.1,
 )
 
--- lanes that are of the places from one on: the first with a property is of the first place with another one
+-- if lane `k` has `Q` exactly if position `i + k` has `P`, the first lane with `Q` gives the first position with `P`
 pub first_there : (P Q : ℕ → Type 0) (i n : ℕ) → ((k : ℕ) → k < n → Q k ↔ P (i + k)) → (r : Option ℕ) → IsFirstBelow Q 0 n r
     → MatchOption r (Nowhere P i (i + n)) (λ k. IsLeast P i (i + k) × (i + k < i + n))
 first_there P Q i n says r first = by r first
@@ -60,7 +60,7 @@ first_there P Q i n says r first = by r first
       omega (arith, h.1),
     )
 
--- the lanes that, divided by one number, are not another one
+-- each of `n` lanes divided by `d`
 abbrev pub kinds : ℕ → ℕ → List ℕ → List ℕ
 kinds d n xs = zip2 (λ a b. a / b) xs (replicate n d)
 
@@ -76,7 +76,7 @@ kind_before d y (suc n) (suc m) (x ∷ xs) long le none = (
   kind_before d y n m xs (omega arith) (omega arith) (λ k _ l. none (suc k) (omega arith) (omega arith)),
 )
 
--- how many lanes are of a kind
+-- the first `count` lanes have the quotient `y` by `d`
 pub record CountsKind (d y n : ℕ) (xs : List ℕ) (count : ℕ) : Type 0 where
   pub within : count ≤ n
   pub each : Each1 (IsOfKind d y) (take count xs)

@@ -1,4 +1,4 @@
--- Lanes that show where surrogates stand, and whether one stands there.
+-- Lanes that show where a surrogate begins, and whether a lane is at least a number.
 use Rattle.wtf8.proofs.Common.{◌≡◌, ◌↔◌, ℕ, zero, suc, ◌+◌, ◌%◌, ◌^◌, ◌<◌, ◌≤◌, eqb, leb, Bool, true, false, IsTrue, cond, List, [], ◌∷◌, map, length}
 use Rattle.wtf8.proofs.Common.{get_or, replicate, w8, sym, ap, ◌∙◌, arith, le-leb, eq-eqb, eqb-true, length-zip2}
 use Rattle.wtf8.proofs.Common.{get_or-chunk, tops_compared, chunk, zip2, mask_l, top, SurrogateAt, refl}
@@ -10,13 +10,13 @@ use Rattle.wtf8.specs.private.FirstPlace.{IsFirstBelow, IsFirstSet, IsLeast, IsS
 use Rattle.wtf8.specs.private.SurrogateSearch.{BeginsInLane, SurrogateAt}
 use Rattle.wtf8.specs.private.UnitCounts.{HasLane}
 
--- The search in lanes: the mask of two vectors.
+-- The search for a surrogate in two vectors, the second shifted by one byte.
 
--- a lane of a comparison
+-- the byte of a lane after a comparison: FF or 0
 abbrev pub lane : Bool → ℕ
 lane b = cond b 255 0
 
--- the lanes in which one vector holds ED and the other a byte from A0 on
+-- FF in each lane that is ED in one vector and at least A0 in the other
 abbrev pub compared : ℕ → List ℕ → List ℕ → List ℕ
 compared n xs ys = zip2 bit_and (zip2 (λ a b. lane (eqb a b)) xs (replicate n 0xED)) (zip2 (λ a b. lane (leb a b)) (replicate n 0xA0) ys)
 
@@ -35,7 +35,7 @@ tops n (x ∷ xs) [] p q = absurd (omega arith)
 tops zero (x ∷ xs) (y ∷ ys) p q = absurd (omega arith)
 tops (suc n) (x ∷ xs) (y ∷ ys) p q = λ i. both (eqb x 0xED) (leb 0xA0 y) i ∷ tops n xs ys (omega arith) (omega arith) i
 
--- the first lane in which a surrogate begins
+-- the first set bit of the mask is the first lane in which a surrogate begins
 pub first_begins : (xs ys : List ℕ) → length xs ≡ 32 → length ys ≡ 32 → (r : Option ℕ) → IsFirstSet (mask_l (map (top 7) (compared 32 xs ys)) % 2 ^ 64) r
     → IsFirstBelow (BeginsInLane xs ys) 0 32 r
 first_begins xs ys p q r first =
@@ -48,7 +48,7 @@ first_begins xs ys p q r first =
       λ h. and_from _ _ (eq-eqb _ 0xED h.0) (le-leb 0xA0 _ h.1),
     )
 
--- vectors of the bytes from a place on and from one further
+-- for the blocks at `i` and `i + 1` that lane is the position of the first surrogate
 pub begins_there : (w : List ℕ) (i : ℕ) → i + 32 < length w → (r : Option ℕ) → IsFirstBelow (BeginsInLane (chunk i 32 w) (chunk (i + 1) 32 w)) 0 32 r
     → MatchOption r (Nowhere (SurrogateAt w) i (i + 32)) (λ k. IsLeast (SurrogateAt w) i (i + k) × (i + k < i + 32))
 begins_there w i room = first_there (SurrogateAt w) (BeginsInLane (chunk i 32 w) (chunk (i + 1) 32 w)) i 32 begins
@@ -59,7 +59,7 @@ begins_there w i room = first_there (SurrogateAt w) (BeginsInLane (chunk i 32 w)
         let within : i + k + 1 < length w = omega arith in
         rw (get_or-chunk i 32 w k 0 l, next) (λ h. record { within = within; first = h.0; second = h.1 }, λ s. (s.first, s.second))
 
--- an empty mask of the lanes that are no less than a number
+-- if the mask of the lanes that are at least `least` is 0, there is no such lane
 pub none_at_least : (n least : ℕ) (xs : List ℕ) → n ≤ 64 → length xs ≡ n
     → IsTrue (eqb (mask_l (map (top 7) (zip2 (λ a b. lane (leb a b)) (replicate n least) xs)) % 2 ^ 64) 0) → ¬ (HasLane least xs)
 none_at_least n least xs few p t h =

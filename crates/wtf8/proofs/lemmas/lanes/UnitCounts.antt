@@ -1,4 +1,4 @@
--- Units counted in lanes: what a block's lanes add up to.
+-- Units counted in lanes: the sum of a block's lanes.
 use Rattle.wtf8.proofs.Common.{◌≡◌, ℕ, zero, suc, ◌+◌, ◌<◌, ◌≤◌, ltb, leb, Bool, true, false, cond, List, [], ◌∷◌, map, length}
 use Rattle.wtf8.proofs.Common.{replicate, w8, sym, ap, ◌∙◌, arith, nat_tests, lt-ltb, le-ltb}
 use Rattle.wtf8.proofs.Common.{sel_l, zip2, top, ◌||◌, bit_or, Fits, refl, Each1}
@@ -28,14 +28,14 @@ pub begun_most : (b : ℕ) → units_begun b ≤ 2
 unfolding units_begun
 begun_most b = grind (arith, nat_tests)
 
--- the lanes where a code point begins, and where one of four bytes does
+-- the lanes with an ASCII byte or a lead byte, and the lanes with a lead byte of four bytes
 abbrev pub begins : ℕ → List ℕ → List Bool
 begins n xs = map (top 7) (zip2 bit_or (zip2 (λ a b. lane (ltb a b)) xs (replicate n 0x80)) (zip2 (λ a b. lane (leb a b)) (replicate n 0xC0) xs))
 
 abbrev pub pairs : ℕ → List ℕ → List Bool
 pairs n xs = map (top 7) (zip2 (λ a b. lane (leb a b)) (replicate n 0xF0) xs)
 
--- 1 where a lane is set
+-- 1 in each set lane, else 0
 abbrev pub ones : ℕ → List Bool → List ℕ
 ones n ms = sel_l ms (replicate n 1) (replicate n 0)
 
@@ -70,7 +70,7 @@ small zero (m ∷ ms) = tt
 small (suc n) (true ∷ ms) = (omega arith, small n ms)
 small (suc n) (false ∷ ms) = (omega arith, small n ms)
 
--- the sums of lanes fit a byte
+-- the sum of two such lanes fits a byte
 pub lanes_fit : (n : ℕ) (ms ks : List Bool) → Each2 (λ a b. Fits w8 (a + b)) (ones n ms) (ones n ks)
 lanes_fit n ms ks =
     Each2-of (λ a. a ≤ 1) (λ b. b ≤ 1) (λ a b. Fits w8 (a + b)) (λ a b h k. record { fits = omega arith }) (ones n ms) (ones n ks) (small n ms) (small n ks)
@@ -83,7 +83,7 @@ sum_same : (xs : List ℕ) → sum_l (map units_begun xs) ≡ all_units_begun xs
 sum_same [] = refl
 sum_same (x ∷ xs) = ap (λ n. units_begun x + n) (sum_same xs) ∙ sym (sum_by-cons units_begun x xs)
 
--- so does the sum of all lanes
+-- the sum of up to 64 lanes fits a byte
 pub sum_fits_byte : (xs : List ℕ) → length xs ≤ 64 → Steps (λ s x. Fits w8 (s + x)) (λ s x. s + x) 0 (map units_begun xs)
 sum_fits_byte xs h =
     let bound = sum_bound 2 (map units_begun xs) (at_most_two xs) in
@@ -92,7 +92,7 @@ sum_fits_byte xs h =
 pub sum_is : (xs : List ℕ) → fold_l (λ s x. s + x) 0 (map units_begun xs) ≡ all_units_begun xs
 sum_is xs = omega (arith, fold-sum 0 (map units_begun xs), sum_same xs)
 
--- lanes to which the counts of a block are added
+-- lanes that are at most 253 can take the counts of one more block
 pub lanes_fit_more : (most : ℕ) (lanes xs : List ℕ) → most + 2 ≤ 255 → Each1 (λ a. a ≤ most) lanes
     → Each2 (λ a b. Fits w8 (a + b)) lanes (map units_begun xs)
 lanes_fit_more most lanes xs few h =
@@ -106,6 +106,6 @@ lanes_grow most (a ∷ lanes) (x ∷ xs) h = (omega (arith, h.0, begun_most x), 
 pub sums_grow : (lanes xs : List ℕ) → length lanes ≡ length xs → sum_l (zip2 (λ a b. a + b) lanes (map units_begun xs)) ≡ sum_l lanes + all_units_begun xs
 sums_grow lanes xs e = omega (arith, sum-zip2 lanes (map units_begun xs) (e ∙ sym (length-map xs units_begun)), sum_same xs)
 
--- the sum of lanes that eight blocks were added to
+-- the sum of 64 lanes fits 16 bits after eight blocks were added
 pub sum_fits_two_bytes : (lanes : List ℕ) → length lanes ≡ 64 → Each1 (λ a. a ≤ 16) lanes → Steps (λ s x. Fits w16 (s + x)) (λ s x. s + x) 0 lanes
 sum_fits_two_bytes lanes e h = sum_fits w16 0 lanes (omega (arith, sum_bound 16 lanes h, e))

@@ -26,7 +26,7 @@ end_is_boundary w u f = record {
   splits = record { reads = subst (λ c. Reads c u) (sym (append-nil f.points)) f.reads; front_len = ap length f.encoded };
 }
 
--- a boundary of units as one of the form's own reading
+-- a boundary of the units divides the form's own code points
 own_boundary : {w u : List ℕ} (f : IsForm w u) (k : ℕ) → IsBoundary u k → Cut w (well_formed_of f) k
 own_boundary f k b = cut_at (well_formed_of f) k (subst (λ v. IsBoundary v k) (sym f.reads.same_units) b)
 
@@ -66,7 +66,7 @@ back_in_whole u v k m x b =
       splits = record { reads = subst (λ c. Reads c u) whole x.splits.reads; front_len = omega (arith, long, x.splits.front_len, b.splits.front_len) };
     }
 
--- the units before a boundary and those from it on are the whole
+-- the units before a boundary, followed by the units after it, are the whole
 pub front_and_back : FrontAndBackAreWhole
 front_and_back u a b k x y =
     let front = same_front u k a (units y.front) x (record { front = y.front; back = y.back; splits = y.splits; same_units = refl }) in
@@ -79,9 +79,9 @@ beginnings w x u v f g =
 pub both_no_longer : BothAreNoLonger
 both_no_longer w v x a b f g h = (both_length f g h).most
 
--- Proofs of the laws of bytes below 80: each is a code point and a unit by itself.
+-- Proofs of the laws of ASCII bytes: each is one code point and one unit.
 
--- a byte below 80 as a code point and a unit, with what is in front of it and behind it
+-- an ASCII byte as one unit, with the units before and after it
 record Stands (u : List ℕ) (k b : ℕ) : Type 0 where
   front : List ℕ
   back : List ℕ
@@ -134,7 +134,7 @@ ascii_one_unit w u f g k form h low front back =
     (front_and_back u _ g (k + 1) s.to_it back ∙ (sym s.whole ∙ sym (append_assoc s.front (get_or w k 0 ∷ []) s.back))) in
     sym s.whole ∙ (ap (λ v. v ++ get_or w k 0 ∷ s.back) (sym same_front) ∙ ap (λ v. f ++ get_or w k 0 ∷ v) (sym same_back))
 
--- a number below 80 that is none of the bytes is none of the units of the code points
+-- an ASCII number that is none of the bytes is none of the units
 none_of_points : (c : List ℕ) (b : ℕ) → b < 0x80 → All (λ x. x ≢ b) (bytes c) → All (λ x. x ≢ b) (units c)
 none_of_points [] b l h = All-nil (λ x. x ≢ b)
 none_of_points (p ∷ c) b l h =
@@ -157,7 +157,7 @@ pub ascii_no_other_unit : AsciiIsNoOtherUnit
 ascii_no_other_unit w u b form l h =
     subst (All (λ x. x ≢ b)) form.reads.same_units (none_of_points form.points b l (subst (All (λ x. x ≢ b)) (sym form.encoded) h))
 
--- behind ASCII alone each byte is a unit
+-- after ASCII bytes only, the unit at an index is the byte at that index
 pub ascii_unit : (c : List ℕ) (k : ℕ) → ((j : ℕ) → j < k + 1 → get_or (bytes c) j 0 < 0x80) → k < length (bytes c) → slice_get (units c) k ≡ Some (get_or (bytes c) k 0)
 ascii_unit [] k low long = absurd (omega (arith, long))
 ascii_unit (p ∷ c) zero low long =
@@ -169,7 +169,7 @@ ascii_unit (p ∷ c) (suc k) low long =
     let behind = ascii_unit c k (λ j l. omega (arith, low (suc j) (omega (arith, l)), ap (λ w. get_or w (suc j) 0) whole)) (omega (arith, long, ap length whole)) in
     ap (λ u. slice_get u (suc k)) (units-cons_one p c (omega (arith, own.1))) ∙ (behind ∙ ap (λ w. Some (get_or w (suc k) 0)) (sym whole))
 
--- the bytes of a block that has no lane from 80 on are below
+-- a block without a lane from 80 on holds bytes below 80
 pub below_lanes : (n i : ℕ) (w : List ℕ) → i + n ≤ length w → ¬ (HasLane 0x80 (chunk i n w)) → (j : ℕ) → j < n → get_or w (i + j) 0 < 0x80
 below_lanes n i w room none j l =
     let lane = get_or-chunk i n w j 0 l in

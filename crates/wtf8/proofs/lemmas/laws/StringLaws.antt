@@ -54,24 +54,24 @@ forms_of_views t w u form e = same_form t.bytes.now w u (subst (IsForm t.bytes.n
 pub what_fits : WhatFitsIsFound
 what_fits s v n fit h = room_left s fit.whole v fit.form (omega (arith, fit.within, h))
 
--- a reading is of scalar values exactly where each reading of its units is
+-- the code points are scalar values exactly if they are in each reading of the units
 pub scalar_in_each_reading : (c u : List ℕ) → Reads c u → AreScalar c ↔ ((d : List ℕ) → Reads d u → AreScalar d)
 scalar_in_each_reading c u r = (λ s d x. subst AreScalar (same_reading c d r.clean x.clean (r.same_units ∙ sym x.same_units)) s, λ h. h c r)
 
--- a number below 80 that is none of a view's bytes is none of its units
+-- an ASCII number that is none of a view's bytes is none of its units
 pub no_ascii_unit : (t : Wtf8) (b : ℕ) → b < 0x80 → ((j : ℕ) → j < length t.bytes.now → slice_index t.bytes.now j ≢ b) → All (λ x. x ≢ b) (view_units t)
 no_ascii_unit t b l h = ascii_no_other_unit t.bytes.now (view_units t) b (view_form t) l (All-from_get_or (λ x. x ≢ b) t.bytes.now 0 (λ i m e. h i m e))
 
--- What an appending call says in bytes, by what it says in units.
+-- The bytes after an appending call, by its clauses about units.
 
 module _ {T E : Type 0} where
-  -- the length grows by that of the form of what is appended at most
+  -- the length grows by at most the length of the appended form
   pub grows_at_most : (r : Result T E) (old : UnitString) {new u : List ℕ} (w v : List ℕ) → IsForm new u → IsForm w v → OnOk r (u ≡ old.units ++ v)
       → OnOk r (length new ≤ length old.bytes + length w)
   grows_at_most r old {new} w v form more ok =
       on_ok_weaker r (λ e. both_no_longer old.bytes w new old.units v old.form more (subst (IsForm new) e form)) ok
 
-  -- and where a view is appended, by how much
+  -- by how much it grows if a view is appended
   pub added_length : (r : Result T E) (old new : UnitString) (other : Wtf8) → OnOk r (AppendsUnits old (view_units other) new) → OnOk r (AddsLength old other new)
   added_length r old new other ok =
       on_ok_weaker r (λ e.
@@ -81,16 +81,16 @@ module _ {T E : Type 0} where
         apart = length_apart old.bytes other.bytes.now new.bytes old.units (view_units other) old.form (view_form other) both;
       }) ok
 
-  -- no units appended, or a refusal, leave the contents
+  -- appending no units, or a refused request, leaves the contents unchanged
   pub nothing_appended : (r : Result T E) (old new : UnitString) (v : List ℕ) → v ≡ [] →
       OnOk r (AppendsUnits old v new) → OnErr r (KeepsContents old new) → KeepsContents old new
   nothing_appended (Ok _) old new v e ok err =
       let same = ok ∙ (ap (λ x. old.units ++ x) e ∙ append-nil old.units) in record { units = same; bytes = (equal_buffers new old).1 same }
   nothing_appended (Err _) old new v e ok err = err
 
--- A list of building calls has exactly one outcome and one count of refused truncations.
+-- A list of building calls has exactly one outcome and one number of refused truncations.
 
--- a list has units alone or not
+-- it is decidable whether all numbers are units
 units_or_not : (u : List ℕ) → All IsUnit u ⊎ (All IsUnit u → ⊥)
 units_or_not [] = inl (All-nil IsUnit)
 units_or_not (x ∷ u) = elim (cases_lt x 0x10000) [
@@ -104,7 +104,7 @@ begins_or_not b = elim (cases_lt b 0x80) [
   | inr h ↦ elim (cases_lt b 0xC0) [ inl k ↦ inr (λ s. omega (arith, s.start)) | inr k ↦ inl (record { start = inr k }) ]
 ]
 
--- a position is a boundary of the form or not
+-- it is decidable whether a position is a boundary
 cut_or_not : {w : List ℕ} (h : IsWellFormed w) (k : ℕ) → IsBoundary (units h.points) k ⊎ (IsBoundary (units h.points) k → ⊥)
 cut_or_not {w} h k = elim (cases_lt k (length w)) [
   | inl l ↦ elim (begins_or_not (get_or w k 0)) [
@@ -129,7 +129,7 @@ boundary_or_not u k = elim (units_or_not u) [
   | inr n ↦ inr (λ b. n (units_read (b.front ++ b.back) u b.splits.reads))
 ]
 
--- one outcome of one call
+-- a call has exactly one outcome
 record StepsOnce (u : List ℕ) (call : Build) : Type 0 where
   outcome : List ℕ
   count : ℕ
@@ -152,7 +152,7 @@ step_once u (TruncateUnits n) = elim (cases_lt (length u) n) [
 ]
 step_once u call = record { outcome = _; count = _; goes = (refl, refl); no_other = λ v r s. s }
 
--- one run behind another
+-- a run after another is a run of both lists of calls
 pub runs_add : RunsAddUp
 runs_add u mid v [] back m n x y = subst (λ k. Run u back v k) (let same : n ≡ m + n = omega (arith, x.1) in same) (subst (λ w. Run w back v n) x.0 y)
 runs_add u mid v (call ∷ front) back m n x y = (x.0, x.1, x.2 + n, x.3, runs_add x.0 mid v front back x.2 n x.4 y, omega (arith, x.5))
@@ -172,7 +172,7 @@ run_once u (call ∷ calls) =
           (ends.0, omega (arith, r.5, same.1, ends.1));
     }
 
--- one call more: the room that it asks for is there, and that of the calls before it is kept where it does not truncate
+-- reserved capacity after one more call: its own is there, and the earlier ones' if it does not truncate
 pub reserved_more : {u now : List ℕ} {calls : List Build} {call : Build} {capacity larger : ℕ} (n : ℕ) → LeavesReserved u calls capacity → Run u calls now n
     → (IsNoTruncation call → capacity ≤ larger) → ((m : ℕ) → call ≡ Reserve m → FitWithin now m larger) → LeavesReserved u (calls ++ call ∷ []) larger
 reserved_more {u} {now} {calls} {call} {capacity} {larger} n f ran grows here front back m v r e none run = elim (parted_more calls call front (Reserve m) back e) [

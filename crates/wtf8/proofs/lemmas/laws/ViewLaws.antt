@@ -1,4 +1,4 @@
--- The laws that are called by value: of the views that a caller has at hand.
+-- The laws that are called with views.
 use Rattle.wtf8.proofs.Common.{◌≡◌, ◌<◌, ◌+◌, ℕ, List, [], ◌∷◌, ◌++◌, ◌∙◌, ◌↔◌, refl, ap, sym, subst, arith, get_or, length, length-append, take, take_at}
 use Rattle.wtf8.proofs.Common.{append_assoc, units, bytes, Reads, IsForm, IsBack, Wtf8, view_units, view_form, AreScalar, lossy, chars, bytes_are_encodes, All}
 use Rattle.wtf8.proofs.Common.{IsUnit, number, numbers, Drains, Option, Run, Build, CodePoint, slice_index, YieldsList-from_first, chars-encodes}
@@ -15,7 +15,7 @@ use Rattle.wtf8.proofs.lemmas.strings.Gains.{all_back}
 use Rattle.wtf8.proofs.lemmas.strings.Surrogates.{scalars_true, scalars-lossy}
 use Rattle.wtf8.proofs.lemmas.laws.StringLaws.{run_once, runs_add, scalars_stay}
 
--- the code points of a view are the one reading of its units
+-- the code points of a view are the only reading of its units
 pub view_reads : (t : Wtf8) → Reads (view_points t) (view_units t)
 view_reads t = record { clean = t.well_formed.clean; same_units = refl }
 
@@ -24,7 +24,7 @@ one_view_reading t c r = same_reading c (view_points t) r.clean t.well_formed.cl
 
 -- An ASCII unit between two lists of units.
 
--- a number below 80 in front of a form
+-- a form with an ASCII unit before it
 abbrev ascii_form : {x v : List ℕ} (b : ℕ) → b < 0x80 → IsForm x v → IsForm (b ∷ x) (b ∷ v)
 ascii_form b l g = record {
   points = b ∷ g.points;
@@ -35,7 +35,7 @@ ascii_form b l g = record {
   encoded = ap (λ w. w ++ bytes g.points) (encoding_one b l) ∙ ap (λ w. b ∷ w) g.encoded;
 }
 
--- and between two of them
+-- two forms with an ASCII unit between them
 ascii_between : {w u x v : List ℕ} (b : ℕ) → b < 0x80 → (f : IsForm w u) (g : IsForm x v) → Reads (f.points ++ b ∷ g.points) (u ++ b ∷ v)
 ascii_between {u = u} b l f g =
     let behind = (ascii_form b l g).reads in
@@ -51,13 +51,13 @@ ascii_between_form {w} b l f g = record {
   encoded = bytes-append f.points (b ∷ g.points) ∙ (ap (λ a. a ++ bytes (b ∷ g.points)) f.encoded ∙ ap (λ a. w ++ a) (ascii_form b l g).encoded);
 }
 
--- a view has the units of two others with an ASCII unit between them exactly where it has their bytes so
+-- a view is two others with an ASCII unit between them exactly if its bytes are
 pub parted_by_ascii : (whole front back : Wtf8) (b : ℕ) → b < 0x80
     → (whole.bytes.now ≡ front.bytes.now ++ b ∷ back.bytes.now) ↔ (view_units whole ≡ view_units front ++ b ∷ view_units back)
 parted_by_ascii whole front back b l =
     equal_forms whole.bytes.now _ (view_units whole) _ (view_form whole) (ascii_between_form b l (view_form front) (view_form back))
 
--- what a view has whose units begin with those of another and an ASCII unit
+-- the bytes and boundary of a view whose units begin with another view and an ASCII unit
 pub record BeginsByAscii (whole front : Wtf8) (b : ℕ) (rest : List ℕ) : Type 0 where
   pub inside : length front.bytes.now < length whole.bytes.now
   pub front_bytes : take (length front.bytes.now) whole.bytes.now ≡ front.bytes.now
@@ -88,7 +88,7 @@ begins_by_ascii whole front b rest l e =
       };
     }
 
--- Characters: scalar values made bytes, and the bytes read as a text again.
+-- Characters: the bytes of scalar values, decoded again.
 
 pub characters_again : CharactersComeBack
 characters_again c h s = ap chars (bytes_are_encodes c) ∙ chars-encodes c (scalars_true c h s)
@@ -100,14 +100,14 @@ pub lossy_characters : (t : Wtf8) → chars (bytes (lossy (view_points t))) ≡ 
 lossy_characters t =
     ap chars (bytes_are_encodes (lossy (view_points t))) ∙ chars-encodes (lossy (view_points t)) (scalars-lossy (view_points t) t.well_formed.clean)
 
--- two runs of the same calls
+-- two runs of the same calls have the same outcome
 pub same_run : (u v w : List ℕ) (calls : List Build) (m n : ℕ) → Run u calls v m → Run u calls w n → (v ≡ w) × (m ≡ n)
 same_run u v w calls m n x y =
     let once = run_once u calls in
     let first = once.no_other v m x in
     let second = once.no_other w n y in (first.0 ∙ sym second.0, first.1 ∙ sym second.1)
 
--- What iterators over code points gave until they answered `None`.
+-- What iterators over code points yield before their first `None`.
 
 module _ {S : Type 0} {steps : S → Option CodePoint → S → Type 0} {s : S} {all : List ℕ} where
   abbrev drained : (points : List CodePoint) → Drains steps s points → YieldsList steps number s all → numbers points ≡ all
@@ -133,5 +133,5 @@ pub collected_back : CollectedPointsAreBehind
 collected_back s points d =
     items_from_drains points d (YieldsList-from_skip (skip_count s) (YieldsList-from_first number (λ c. c) (skip_source s) refl) refl)
 
--- what laws state of which the proof is a lemma
+-- the lemmas that prove laws as they are
 pub ruleset laws = (one_reading, units_read, none_begins_another, encoding_same, run_once, runs_add, scalars_stay, characters_again, view_reads, one_view_reading, view_characters, lossy_characters)

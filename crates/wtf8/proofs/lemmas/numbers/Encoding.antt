@@ -1,11 +1,11 @@
--- The bytes of a code point, of a list of code points, and what a first byte says.
+-- The bytes of code points, and what the first bytes determine.
 use Rattle.wtf8.proofs.Common.{◌≡◌, ℕ, zero, suc, ◌+◌, ◌/◌, ◌%◌, ◌<◌, ◌≤◌, ◌⊎◌, inl, inr, List, [], ◌∷◌, ◌++◌, length, get_or, refl, sym, ap, ◌∙◌, arith}
 use Rattle.wtf8.proofs.Common.{lt-ltb, length-append, le-ltb, cases_lt, append-nil, flat_map-append, IsSurrogate, bytes, encoding_is_encode, ◌-◌, ◌*◌, subst}
 use Rattle.wtf8.proofs.Common.{IsCodePoint, encoding, BeginsWithPoint, encode_same, FrontSays}
 use Rattle.std.proofs.Math.Nat.{div-div-eq-div-mul}
 use Rattle.wtf8.specs.Form.{encoding}
 
--- The encoding of code points: its bytes in each row of the table, its length, and which bytes begin one.
+-- The encoding of a code point: its bytes by range, its length, its lead byte.
 
 abbrev second_row : ℕ → List ℕ
 second_row p = (0xC0 + p / 64) ∷ (0x80 + p % 64) ∷ []
@@ -32,7 +32,7 @@ pub encoding_four : (p : ℕ) → 0x10000 ≤ p → encoding p ≡ fourth_row p
 unfolding encoding
 encoding_four p l = rw (le-ltb p 0x80 (omega arith), le-ltb p 0x800 (omega arith), le-ltb p 0x10000 l) refl
 
--- which row of the table a code point is in
+-- the range of a code point, by its encoded length
 pub data Row (p : ℕ) : Type 0 where
   one : p < 0x80 → encoding p ≡ p ∷ [] → Row p
   two : 0x80 ≤ p → p < 0x800 → encoding p ≡ second_row p → Row p
@@ -48,7 +48,7 @@ row_of p = elim (cases_lt p 0x80) [
   ]
 ]
 
--- the first byte is below 80 or at least C0
+-- the byte begins a code point: it is ASCII or a lead byte
 pub record Begins (b : ℕ) : Type 0 where
   pub start : (b < 0x80) ⊎ (0xC0 ≤ b)
 
@@ -60,7 +60,7 @@ first-encoding p r = elim (row_of p) [
   | four l e ↦ rw e (record { start = inr (omega arith) })
 ]
 
--- a code point whose first byte is below 80 is that number
+-- an ASCII first byte is the whole code point
 pub own_byte : (p : ℕ) (r : List ℕ) → get_or (encoding p ++ r) 0 0 < 0x80 → (encoding p ≡ p ∷ []) × (p < 0x80)
 own_byte p r h = elim (row_of p) [
   | one l e ↦ (e, l)
@@ -69,7 +69,7 @@ own_byte p r h = elim (row_of p) [
   | four l e ↦ absurd (omega (arith, rw e at h))
 ]
 
--- each byte is from 80 to BF
+-- all are continuation bytes
 abbrev AreInside : List ℕ → Type 0
 AreInside [] = Unit {0}
 AreInside (x ∷ xs) = (0x80 ≤ x) × (x < 0xC0) × AreInside xs
@@ -79,7 +79,7 @@ inside_at [] r k t h = absurd (omega arith)
 inside_at (x ∷ xs) r zero t h = (t.0, t.1)
 inside_at (x ∷ xs) r (suc k) t h = inside_at xs r k t.2 (omega arith)
 
--- the bytes behind the first are from 80 to BF
+-- the bytes after the first are continuation bytes
 pub inside-encoding : (p k : ℕ) (r : List ℕ) → suc k < length (encoding p)
     → (0x80 ≤ get_or (encoding p ++ r) (suc k) 0) × (get_or (encoding p ++ r) (suc k) 0 < 0xC0)
 inside-encoding p k r l = elim (row_of p) [
@@ -102,10 +102,10 @@ length-encoding_bounds p = elim (row_of p) [
 pub length-surrogate : (p : ℕ) → IsSurrogate p → length (encoding p) ≡ 3
 length-surrogate p s = ap length (encoding_three p (omega arith) (omega arith))
 
--- the rows of the table and how long they are
+-- the encoding in each range, and its least and greatest length
 pub ruleset rows = (encoding_one, encoding_two, encoding_three, encoding_four, length-encoding_bounds)
 
--- the bytes of a list, and of one with a code point more
+-- the bytes of two lists, and of a list with one more code point
 pub bytes-append : (c d : List ℕ) → bytes (c ++ d) ≡ bytes c ++ bytes d
 bytes-append c d = flat_map-append encoding c d
 
@@ -116,11 +116,11 @@ length-behind front p back = simp (bytes-append, length-append)
 pub bytes-pushed : (c : List ℕ) (p : ℕ) → bytes (c ++ p ∷ []) ≡ bytes c ++ encoding p
 bytes-pushed c p = bytes-append c (p ∷ []) ∙ ap (λ w. bytes c ++ w) (append-nil (encoding p))
 
--- no encoding begins another
+-- no encoding is a proper prefix of another
 pub encoding_same : (p q : ℕ) (r s : List ℕ) → encoding p ++ r ≡ encoding q ++ s → (p ≡ q) × (r ≡ s)
 encoding_same p q r s e = encode_same p q r s (ap (λ x. x ++ r) (sym (encoding_is_encode p)) ∙ (e ∙ ap (λ x. x ++ s) (encoding_is_encode q)))
 
--- What the first bytes of an encoding say of the code point.
+-- What the first bytes of an encoding say about the code point.
 
 sixty_fours : (p : ℕ) → (p / 64 / 64 ≡ p / 4096) × (p / 4096 / 64 ≡ p / 262144)
 sixty_fours p = (div-div-eq-div-mul p 64 64, div-div-eq-div-mul p 4096 64)
@@ -135,7 +135,7 @@ front-encoding p r range =
       | four l e ↦ rw e (record { nonempty = omega arith; one = grind arith; two = grind arith; three = grind arith; four = grind arith })
     ]
 
--- bytes that are an encoding and something behind it begin with that code point
+-- bytes that begin with an encoding begin with that code point
 abbrev pub begins_with : (p : ℕ) (r w : List ℕ) → IsCodePoint p → w ≡ encoding p ++ r → BeginsWithPoint w
 begins_with p r w range e = record {
   point = p;
@@ -148,7 +148,7 @@ begins_with p r w range e = record {
 abbrev pub begins_moved : {v w : List ℕ} → BeginsWithPoint v → w ≡ v → BeginsWithPoint w
 begins_moved b e = begins_with b.point b.rest _ b.in_range (e ∙ b.encoded)
 
--- the lead of a supplementary code point by its first three bytes
+-- the lead surrogate of a supplementary code point, from its first three bytes
 abbrev pub LeadRead : List ℕ → ℕ → Type 0
 LeadRead w p = 0xD7C0 + ((get_or w 0 0 - 0xF0) * 64 + (get_or w 1 0 - 0x80)) * 4 + (get_or w 2 0 - 0x80) / 16 ≡ 0xD800 + (p - 0x10000) / 0x400
 

@@ -1,4 +1,4 @@
--- Code points and their units, leads that meet trails, and the one list of code points that reads given units.
+-- Code points and their units, surrogates at the seam of two lists, and the only reading of a list of units.
 use Rattle.wtf8.proofs.Common.{◌≡◌, ℕ, ◌⊎◌, inl, inr, List, [], ◌∷◌, ◌++◌, drop, get_or, length, true, refl, sym, ap, ◌∙◌, subst, arith}
 use Rattle.wtf8.proofs.Common.{length-append, le-leb, cases_Bool, false≢true, same_from_push, IsLead, IsTrail, MeetsAsPair, ◌+◌, ◌-◌, ◌*◌}
 use Rattle.wtf8.proofs.Common.{◌/◌, ◌%◌, ◌<◌, ◌≤◌, lt-ltb, le-ltb, cases_lt, append-nil, flat_map-append, units, pair, encoding, bytes, IsCodePoint, IsClean}
@@ -8,7 +8,7 @@ use Rattle.wtf8.specs.PositionLaws.{ListsHaveLengths}
 use Rattle.wtf8.specs.Unicode.{units_of}
 use Rattle.wtf8.proofs.lemmas.numbers.Encoding.{row_of, one, two, three, four, length-encoding_bounds, begins_with}
 
--- Where a lead ends one list and a trail begins another, and where they do not meet so.
+-- A lead at the end of one list and a trail at the start of the next.
 
 pub pair_true : (l t : ℕ) → IsLead l → IsTrail t → is_pair l t ≡ true
 unfolding is_pair
@@ -18,18 +18,18 @@ pub true_pair : (l t : ℕ) → is_pair l t ≡ true → IsLead l × IsTrail t
 unfolding is_pair
 true_pair l t e = ((grind (arith, nat_tests), grind (arith, nat_tests)), (grind (arith, nat_tests), grind (arith, nat_tests)))
 
--- lists that are known to end and to begin so
+-- two lists with a lead and a trail at their seam
 abbrev pub meets_by : {c d : List ℕ} (f r : List ℕ) (l t : ℕ) → IsLead l → IsTrail t → c ≡ f ++ l ∷ [] → d ≡ t ∷ r → MeetsAsPair c d
 meets_by f r l t h k e g = record { front = f; lead = l; trail = t; rest = r; is_lead = h; is_trail = k; ends = e; begins = g }
 
--- lists that equal two that meet
+-- `MeetsAsPair` of equal lists
 abbrev pub meets_same : {a b c d : List ℕ} → MeetsAsPair a b → c ≡ a → d ≡ b → MeetsAsPair c d
 meets_same m e g = meets_by m.front m.rest m.lead m.trail m.is_lead m.is_trail (e ∙ m.ends) (g ∙ m.begins)
 
 pub meets_behind : (p : ℕ) {c d : List ℕ} → MeetsAsPair c d → MeetsAsPair (p ∷ c) d
 meets_behind p m = meets_by (p ∷ m.front) m.rest m.lead m.trail m.is_lead m.is_trail (ap (λ e. p ∷ e) m.ends) m.begins
 
--- nothing meets an empty list, nor a list that ends in no lead or begins with no trail
+-- no pair forms with an empty list, after a number that is no lead or before one that is no trail
 pub nothing_ends : {d : List ℕ} → ¬ (MeetsAsPair [] d)
 nothing_ends m = omega (arith, ap length m.ends, length-append m.front (m.lead ∷ []))
 
@@ -55,7 +55,7 @@ pub meets_before : (p q : ℕ) (c d : List ℕ) → MeetsAsPair (p ∷ q ∷ c) 
 meets_before p q c d m =
     let s = without_first p q c m.front m.lead m.ends in meets_by s.0 m.rest m.lead m.trail m.is_lead m.is_trail s.1 m.begins
 
--- two lists meet as a pair, or they do not
+-- it is decidable whether two lists meet as a pair
 pub meets_or_apart : (c d : List ℕ) → MeetsAsPair c d ⊎ ¬ (MeetsAsPair c d)
 meets_or_apart [] d = inr nothing_ends
 meets_or_apart (p ∷ []) [] = inr nothing_begins
@@ -65,13 +65,13 @@ meets_or_apart (p ∷ []) (q ∷ d) = elim (cases_Bool (is_pair p q)) [
 ]
 meets_or_apart (p ∷ q ∷ c) d = elim (meets_or_apart (q ∷ c) d) [ inl m ↦ inl (meets_behind p m) | inr n ↦ inr (λ m. n (meets_before p q c d m)) ]
 
--- The units of code points: one below 10000 and two from there on.
+-- The units of code points: one below U+10000, two from there on.
 
 pub units_one : (p : ℕ) → p < 0x10000 → units_of p ≡ p ∷ []
 unfolding units_of
 units_one p h = rw (lt-ltb p 0x10000 h) refl
 
--- the two units of a supplementary code point
+-- the two surrogates of a supplementary code point
 abbrev pub lead_of : ℕ → ℕ
 lead_of p = 0xD800 + (p - 0x10000) / 0x400
 
@@ -97,7 +97,7 @@ units-append c d = flat_map-append units_of c d
 pub units-pushed : (c : List ℕ) (p : ℕ) → units (c ++ p ∷ []) ≡ units c ++ units_of p
 units-pushed c p = units-append c (p ∷ []) ∙ ap (λ u. units c ++ u) (append-nil (units_of p))
 
--- the numbers of code points, units and bytes against one another
+-- bounds between the numbers of code points, units and bytes
 lengths_of_one : (p : ℕ) → (1 ≤ length (units_of p)) × (length (units_of p) ≤ length (encoding p)) × (length (encoding p) ≤ 3 * length (units_of p)) × (length (encoding p) ≤ 4)
 lengths_of_one p = elim (row_of p) [
   | one h e ↦ rw (e, units_one p (omega arith)) (omega arith)
@@ -115,7 +115,7 @@ lengths (p ∷ c) =
     let bytes_more = length-append (encoding p) (bytes c) in
     record { points = omega arith; units_least = omega arith; units_most = omega arith; bytes_most = omega arith }
 
--- Clean lists of code points, cut and joined.
+-- Clean lists of code points, divided and joined.
 
 pub clean-first : (p : ℕ) (c : List ℕ) → IsClean (p ∷ c) → IsCodePoint p
 clean-first p [] x = x
@@ -141,19 +141,19 @@ clean-append (p ∷ []) [] x y n = x
 clean-append (p ∷ []) (q ∷ d) x y n = (x, λ h. n (meets_by [] d p q h.0 h.1 refl refl), y)
 clean-append (p ∷ q ∷ c) d x y n = (x.0, x.1, clean-append (q ∷ c) d x.2 y (λ m. n (meets_behind p m)))
 
--- no lead and trail meet where a clean list is divided
+-- the parts of a divided clean list do not meet as a pair
 pub clean-apart : (c d : List ℕ) → IsClean (c ++ d) → ¬ (MeetsAsPair c d)
 clean-apart [] d x m = nothing_ends m
 clean-apart (p ∷ []) [] x m = nothing_begins m
 clean-apart (p ∷ []) (q ∷ d) x m = x.1 (true_pair p q (meeting_numbers p q d m))
 clean-apart (p ∷ q ∷ c) d x m = clean-apart (q ∷ c) d x.2 (meets_before p q c d m)
 
--- Each list of units has one reading at most and one form at most, and bytes determine code points and units.
+-- A list of units has at most one reading and one form, and bytes determine code points and units.
 
 pub same_heads : (p q : ℕ) (r s : List ℕ) → p ∷ r ≡ q ∷ s → (p ≡ q) × (r ≡ s)
 same_heads p q r s e = (ap (λ w. get_or w 0 0) e, ap (drop 1) e)
 
--- where a trail is the first unit it is the first code point
+-- a trail that is the first unit is the first code point
 pub trail_first : (p : ℕ) (c : List ℕ) (t : ℕ) (r : List ℕ) → IsClean (p ∷ c) → units (p ∷ c) ≡ t ∷ r → IsTrail t → p ≡ t
 trail_first p c t r x e h = elim (cases_lt p 0x10000) [
   | inl l ↦ (same_heads p t (units c) r (sym (units-cons_one p c l) ∙ e)).0
@@ -163,7 +163,7 @@ trail_first p c t r x e h = elim (cases_lt p 0x10000) [
       absurd (omega arith)
 ]
 
--- the code points that units are read as, from the front on, and that they come back in a clean list
+-- decodes units from the front; the units of a clean list decode to that list
 abbrev read : List ℕ → List ℕ
 read [] = []
 read (l ∷ []) = l ∷ []
@@ -208,15 +208,15 @@ form_of h = record { points = h.points; reads = record { clean = h.clean; same_u
 abbrev pub well_formed_of : {w u : List ℕ} → IsForm w u → IsWellFormed w
 well_formed_of f = record { points = f.points; clean = f.reads.clean; encoded = f.encoded }
 
--- bytes are the form of one list of units at most
+-- bytes are the form of at most one list of units
 pub units_from_form : (w a b : List ℕ) → IsForm w a → IsForm w b → a ≡ b
 units_from_form w a b x y = sym x.reads.same_units ∙ (ap units (bytes-injective x.points y.points (x.encoded ∙ sym y.encoded)) ∙ y.reads.same_units)
 
--- what is well-formed has one reading
+-- equal well-formed bytes have the same code points
 pub same_points : {w v : List ℕ} (x : IsWellFormed w) (y : IsWellFormed v) → w ≡ v → x.points ≡ y.points
 same_points x y e = bytes-injective x.points y.points (x.encoded ∙ (e ∙ sym y.encoded))
 
--- no bytes are those of no code points
+-- only the empty list has no bytes
 pub no_bytes : (c : List ℕ) → length (bytes c) ≡ 0 → c ≡ []
 no_bytes [] e = refl
 no_bytes (p ∷ c) e = absurd (omega (arith, length-encoding_bounds p, length-append (encoding p) (bytes c)))
@@ -224,20 +224,20 @@ no_bytes (p ∷ c) e = absurd (omega (arith, length-encoding_bounds p, length-ap
 pub no_points : {w : List ℕ} (h : IsWellFormed w) → length w ≡ 0 → h.points ≡ []
 no_points h e = no_bytes h.points (ap length h.encoded ∙ e)
 
--- bytes that equal well-formed ones have their code points
+-- the empty list, and bytes equal to well-formed ones, are well-formed
 abbrev pub empty_at : {w : List ℕ} → w ≡ [] → IsWellFormed w
 empty_at e = record { points = []; clean = tt; encoded = sym e }
 
 abbrev pub moved : {v w : List ℕ} → IsWellFormed v → w ≡ v → IsWellFormed w
 moved h e = record { points = h.points; clean = h.clean; encoded = h.encoded ∙ sym e }
 
--- bytes from a position on without the code point that is read there
+-- the well-formed bytes from `at` on, without their first code point `p`
 pub record Taken (v : List ℕ) (at : ℕ) (h : IsWellFormed (drop at v)) (p behind : ℕ) : Type 0 where
   pub within : behind ≤ length v
   pub rest : IsWellFormed (drop behind v)
   pub joined : h.points ≡ p ∷ rest.points
 
--- the first code point of a string, and what is behind it
+-- the first code point of nonempty bytes, and the rest
 pub first_of : {w : List ℕ} (h : IsWellFormed w) → 0 < length w → (b : BeginsWithPoint w) × Taken w 0 h b.point (length (encoding b.point))
 first_of {w} h n = by h.points h.clean h.encoded
   where

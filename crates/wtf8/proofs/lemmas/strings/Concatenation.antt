@@ -1,4 +1,4 @@
--- Strings put together: the form of what is appended to a form, with a pair joined where they meet.
+-- Strings joined: the form of two lists of units, with the pair at the seam as one code point.
 use Rattle.wtf8.proofs.Common.{◌≡◌, ℕ, inl, inr, List, [], ◌∷◌, ◌++◌, refl, sym, ap, ◌∙◌, subst, arith, append_assoc, cases_Bool, append-nil, IsLead, IsTrail}
 use Rattle.wtf8.proofs.Common.{units, units_of, pair, IsClean, Reads, MeetsAsPair, is_pair, glue, ◌+◌, ◌-◌, ◌≤◌, length, take, drop, length-append, cases_lt}
 use Rattle.wtf8.proofs.Common.{take_at, drop_at, same_from_push, bytes, encoding, IsForm, length-drop, All, All-nil, All-cons, All-head, All-tail, All-same}
@@ -11,9 +11,9 @@ use Rattle.wtf8.proofs.lemmas.numbers.Readings.{clean-append, clean-front, clean
 use Rattle.wtf8.proofs.lemmas.numbers.Readings.{no_lead, no_trail, same_reading, units_one, units_pair, same_form, trail_first, lead_of, trail_of, units_two}
 use Rattle.wtf8.proofs.lemmas.numbers.Readings.{units-pushed, clean-first, form_of, units_from_form}
 
--- Lists of any kind: their last item, and an item at an index.
+-- Lists of any kind: the last item, and the item at an index.
 
--- a list is empty or has a last
+-- a list is empty or has a last item
 pub data Last (c : List ℕ) : Type 0 where
   empty : c ≡ [] → Last c
   ends : (f : List ℕ) (l : ℕ) → c ≡ f ++ l ∷ [] → Last c
@@ -23,7 +23,7 @@ last_of [] = empty refl
 last_of (p ∷ c) = elim (last_of c) [ empty e ↦ ends [] p (ap (λ d. p ∷ d) e) | ends f l e ↦ ends (p ∷ f) l (ap (λ d. p ∷ d) e) ]
 
 module _ {X : Type 0} where
-  -- a list with one item more is parted at that item or before it
+  -- dividing a list with one more item, at that item or before it
   pub data PartedMore (xs : List X) (x : X) (front : List X) (y : X) (back : List X) : Type 0 where
     at_last : xs ≡ front → x ≡ y → PartedMore xs x front y back
     before : (rest : List X) → xs ≡ front ++ y ∷ rest → back ≡ rest ++ x ∷ [] → PartedMore xs x front y back
@@ -39,16 +39,16 @@ module _ {X : Type 0} where
         | before rest s b ↦ before rest (cc (s, same)) b
       ]
 
-  -- a list before an item, the item and what is behind it
+  -- the items before an index, the item there and the items after it are the list
   pub item_at : (xs : List X) (i : ℕ) (x : X) → i < length xs → x ≡ get_or xs i x → take i xs ++ x ∷ drop (i + 1) xs ≡ xs
   item_at xs i x h e = ap (λ y. take i xs ++ y ∷ drop (i + 1) xs) e ∙ (ap (λ d. take i xs ++ d) (sym (drop_more xs i x h)) ∙ take-append-drop i xs)
 
   pub items_more : (xs : List X) (i : ℕ) (x : X) → i < length xs → x ≡ get_or xs i x → take (i + 1) xs ≡ take i xs ++ x ∷ []
   items_more xs i x h e = take_more xs i x h ∙ ap (λ y. take i xs ++ y ∷ []) (sym e)
 
--- Lists of code points glued: what they are, that they stay clean, and that they have the units of both.
+-- Joining lists of code points with `glue`: its result is clean and has the units of both.
 
--- the two that meet become one
+-- a lead and a trail at the seam become one code point
 glue-pair : (f : List ℕ) (l t : ℕ) (r : List ℕ) → IsLead l → IsTrail t → glue (f ++ l ∷ []) (t ∷ r) ≡ f ++ pair l t ∷ r
 glue-pair [] l t r h k = rw (pair_true l t h k) refl
 glue-pair (p ∷ []) l t r h k = ap (λ e. p ∷ e) (glue-pair [] l t r h k)
@@ -57,7 +57,7 @@ glue-pair (p ∷ q ∷ f) l t r h k = ap (λ e. p ∷ e) (glue-pair (q ∷ f) l 
 pub glue_meeting : (c d : List ℕ) (m : MeetsAsPair c d) → glue c d ≡ m.front ++ pair m.lead m.trail ∷ m.rest
 glue_meeting c d m = ap (λ x. glue x d) m.ends ∙ (ap (glue (m.front ++ m.lead ∷ [])) m.begins ∙ glue-pair m.front m.lead m.trail m.rest m.is_lead m.is_trail)
 
--- where no two meet one list stands behind the other
+-- without a pair at the seam the lists are appended
 pub glue_apart : (c d : List ℕ) → ¬ (MeetsAsPair c d) → glue c d ≡ c ++ d
 glue_apart [] d n = refl
 glue_apart (p ∷ []) [] n = refl
@@ -91,26 +91,26 @@ units-glue (p ∷ []) (q ∷ d) = elim (cases_Bool (is_pair p q)) [
 ]
 units-glue (p ∷ q ∷ c) d = ap (λ u. units_of p ++ u) (units-glue (q ∷ c) d) ∙ sym (append_assoc (units_of p) (units (q ∷ c)) (units d))
 
--- two readings glued read the units of both
+-- joining two readings reads the units of both
 pub reads-glue : (c d a b : List ℕ) → Reads c a → Reads d b → Reads (glue c d) (a ++ b)
 reads-glue c d a b x y = record { clean = clean-glue c d x.clean y.clean; same_units = cc (units-glue c d) }
 
 pub glue-nil : (c : List ℕ) → glue c [] ≡ c
 glue-nil c = glue_apart c [] nothing_begins ∙ append-nil c
 
--- gluing is associative: both ways read the same units
+-- joining is associative, since both ways read the same units
 pub glue_assoc : (c d e : List ℕ) → IsClean c → IsClean d → IsClean e → glue (glue c d) e ≡ glue c (glue d e)
 glue_assoc c d e x y z =
     let right = clean-glue c (glue d e) x (clean-glue d e y z) in
     same_reading (glue (glue c d) e) (glue c (glue d e)) (clean-glue (glue c d) e (clean-glue c d x y) z) right (simp (units-glue, append_assoc))
 
--- The form of the units of two lists, one behind the other: its bytes and its length.
+-- The form of two lists of units, one after the other: its bytes and its length.
 
--- bytes without the lead at their end, the four bytes of the pair, and bytes without the trail at their beginning
+-- `w` without the lead at its end, the four bytes of the pair, `v` without the trail at its start
 abbrev pub paired_bytes : List ℕ → ℕ → ℕ → List ℕ → List ℕ
 paired_bytes w l t v = (take (length w - 3) w ++ encoding (pair l t)) ++ drop 3 v
 
--- the bytes of two lists that meet: those before the lead, and those behind the trail
+-- the bytes of two lists that meet as a pair: before the lead, and after the trail
 pub record MeetingBytes (w v front rest : List ℕ) (trail : ℕ) : Type 0 where
   pub three : 3 ≤ length w
   pub three_behind : 3 ≤ length v
@@ -133,7 +133,7 @@ meeting_bytes {w} {v} m e g =
       last = ap (λ b. get_or b 2 0) (back ∙ ap (λ e. e ++ bytes m.rest) (encoding_three m.trail (omega arith) (omega arith)));
     }
 
--- the bytes of two lists glued
+-- the bytes of two joined lists
 pub bytes_paired : {w v : List ℕ} (c d : List ℕ) (m : MeetsAsPair c d) → bytes c ≡ w → bytes d ≡ v → bytes (glue c d) ≡ paired_bytes w m.lead m.trail v
 bytes_paired {w} {v} c d m e g =
     let s = meeting_bytes m e g in simp (glue_meeting c d m, bytes-append, s.before, s.behind, append_assoc)
@@ -141,7 +141,7 @@ bytes_paired {w} {v} c d m e g =
 pub bytes_apart : {w v : List ℕ} (c d : List ℕ) → ¬ (MeetsAsPair c d) → bytes c ≡ w → bytes d ≡ v → bytes (glue c d) ≡ w ++ v
 bytes_apart {w} {v} c d n e g = simp (glue_apart c d n, bytes-append, e, g)
 
--- a pair has one byte more than its lead, and two less than both
+-- a pair takes one byte more than its lead, and two less than its surrogates
 length-joined : (w : List ℕ) (l t : ℕ) → IsLead l → IsTrail t → 3 ≤ length w → length (take (length w - 3) w ++ encoding (pair l t)) ≡ length w + 1
 length-joined w l t lead trail n =
     length-append (take (length w - 3) w) (encoding (pair l t))
@@ -155,14 +155,14 @@ length-paired_bytes w v l t lead trail m n =
 pub form-glue : (w v a b : List ℕ) (x : IsForm w a) (y : IsForm v b) → IsForm (bytes (glue x.points y.points)) (a ++ b)
 form-glue w v a b x y = record { points = glue x.points y.points; reads = reads-glue x.points y.points a b x.reads y.reads; encoded = refl }
 
--- the form of both, where their code points meet, and where they do not
+-- the form of both, with and without a pair at the seam of their code points
 pub form_meeting : {w v a b : List ℕ} (x : IsForm w a) (y : IsForm v b) (m : MeetsAsPair x.points y.points) → IsForm (paired_bytes w m.lead m.trail v) (a ++ b)
 form_meeting {w} {v} {a} {b} x y m = subst (λ z. IsForm z (a ++ b)) (bytes_paired x.points y.points m x.encoded y.encoded) (form-glue w v a b x y)
 
 pub form_behind : {w v a b : List ℕ} (x : IsForm w a) (y : IsForm v b) → ¬ (MeetsAsPair x.points y.points) → IsForm (w ++ v) (a ++ b)
 form_behind {w} {v} {a} {b} x y n = subst (λ z. IsForm z (a ++ b)) (bytes_apart x.points y.points n x.encoded y.encoded) (form-glue w v a b x y)
 
--- where a lead is the last unit it is the last code point
+-- a lead that is the last unit is the last code point
 pub lead_last : (c g : List ℕ) (l : ℕ) → IsLead l → units c ≡ g ++ l ∷ [] → (f : List ℕ) × (c ≡ f ++ l ∷ [])
 lead_last c g l h e = elim (last_of c) [
   | empty z ↦ absurd (omega (arith, ap (λ d. length (units d)) z, ap length e, length-append g (l ∷ [])))
@@ -176,12 +176,12 @@ lead_last c g l h e = elim (last_of c) [
       ]
 ]
 
--- where a trail is the first unit it is the first code point
+-- a trail that is the first unit is the first code point
 pub trail_begins : (d r : List ℕ) (t : ℕ) → IsClean d → IsTrail t → units d ≡ t ∷ r → (s : List ℕ) × (d ≡ t ∷ s)
 trail_begins [] r t x h e = absurd (omega (arith, ap length e))
 trail_begins (p ∷ d) r t x h e = (d, ap (λ n. n ∷ d) (trail_first p d t r x e h))
 
--- the code points meet where their units do, in the same lead and trail
+-- the code points meet as a pair if their units do, with the same lead and trail
 abbrev pub points_meet : {c d a b : List ℕ} → Reads c a → Reads d b → MeetsAsPair a b → MeetsAsPair c d
 points_meet {c} {d} x y m =
     let before = lead_last c m.front m.lead m.is_lead (x.same_units ∙ m.ends) in
@@ -194,14 +194,14 @@ units_meet x y m =
     let begins = ap units m.begins ∙ ap (λ u. u ++ units m.rest) (units_one m.trail (omega (arith, m.is_trail))) in
     meets_by (units m.front) (units m.rest) m.lead m.trail m.is_lead m.is_trail (sym x.same_units ∙ ends) (sym y.same_units ∙ begins)
 
--- the same where their units meet, and where they do not
+-- the form of both, with and without a pair at the seam of their units
 pub form_paired : (w v a b : List ℕ) → IsForm w a → IsForm v b → (m : MeetsAsPair a b) → IsForm (paired_bytes w m.lead m.trail v) (a ++ b)
 form_paired w v a b x y m = form_meeting x y (points_meet x.reads y.reads m)
 
 pub form_apart : (w v a b : List ℕ) → IsForm w a → IsForm v b → ¬ (MeetsAsPair a b) → IsForm (w ++ v) (a ++ b)
 form_apart w v a b x y n = form_behind x y (λ m. n (units_meet x.reads y.reads m))
 
--- how long the form of both is
+-- the length of the form of both
 pub length_paired : (w v z a b : List ℕ) → IsForm w a → IsForm v b → IsForm z (a ++ b) → MeetsAsPair a b → length z + 2 ≡ length w + length v
 length_paired w v z a b x y f m =
     let s = meeting_bytes (points_meet x.reads y.reads m) x.encoded y.encoded in
@@ -211,13 +211,13 @@ length_paired w v z a b x y f m =
 pub length_apart : (w v z a b : List ℕ) → IsForm w a → IsForm v b → IsForm z (a ++ b) → ¬ (MeetsAsPair a b) → length z ≡ length w + length v
 length_apart w v z a b x y f n = ap length (same_form z (w ++ v) (a ++ b) f (form_apart w v a b x y n)) ∙ length-append w v
 
--- Proofs of the laws of readings and forms: which there are, and that there is one of each.
+-- Proofs of the laws of readings and forms: they exist, and each is the only one.
 
--- a unit alone is the code point of its number
+-- a single unit is the code point of the same number
 reads_one : (n : ℕ) → IsUnit n → Reads (n ∷ []) (n ∷ [])
 reads_one n h = record { clean = omega arith; same_units = append-nil (units_of n) ∙ units_one n (omega arith) }
 
--- the reading of a list of units: the first unit glued in front of the reading of the others
+-- the reading of a list of units: the first unit joined to the reading of the others
 reading : (u : List ℕ) → All IsUnit u → (c : List ℕ) × Reads c u
 reading [] h = ([], record { clean = tt; same_units = refl })
 reading (n ∷ u) h =

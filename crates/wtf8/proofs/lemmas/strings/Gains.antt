@@ -1,4 +1,4 @@
--- What an appending call adds, where no surrogate is added, and how much room it needs.
+-- The effect of appending calls: the contents, the known prefix and the capacity.
 use Rattle.wtf8.proofs.Common.{◌≡◌, ◌+◌, ◌-◌, ◌≤◌, List, [], ◌∷◌, ℕ, ◌++◌, length, take, drop, Result, Ok, Err, OnOk, OnErr, refl, ap, ◌∙◌, sym, subst, arith}
 use Rattle.wtf8.proofs.Common.{append-nil, drop_all, units, units_of, pair, IsLead, IsTrail, IsCodePoint, UnitString, KeepsContents, MeetsAsPair, encoding}
 use Rattle.wtf8.proofs.Common.{IsWellFormed, IsForm, GainsUnits, Gains, inl, inr, true, chars, IsUtf8, scalars-chars, and_parts, scalar, scalars, IsSurrogate}
@@ -16,14 +16,14 @@ use Rattle.wtf8.proofs.lemmas.strings.Concatenation.{clean-glue, units-glue, glu
 use Rattle.wtf8.proofs.lemmas.strings.Surrogates.{scalar-middle, surrogate_in}
 use Rattle.wtf8.proofs.lemmas.strings.Positions.{begun}
 
--- What a call that appends to bytes, or is refused, leaves of the string that holds them.
+-- A string after a call that appended to its bytes, or was refused.
 
--- strings of equal bytes have equal contents
+-- strings with equal bytes have equal contents
 pub contents_of : (new old : UnitString) → new.bytes ≡ old.bytes → KeepsContents old new
 contents_of new old e = record { units = units_from_form new.bytes new.units old.units new.form (subst (λ w. IsForm w old.units) (sym e) old.form); bytes = e }
 
 module _ {T E Z : Type 0} {b n : Vec ℕ Z} {v : List ℕ} {r : Result T E} where
-  -- a string whose bytes a call gave units, as `was` and `old` see it before the call
+  -- the units after a call that appended `v`; `was` and `old` are the string before it
   pub units_appended : (was old : UnitString) (k : IsWellFormed n.items) → was ≡ old → was.bytes ≡ b.items → Gains b v n r → OnOk r (units k.points ≡ old.units ++ v)
   units_appended was old k s e g =
       let before = subst (λ w. IsForm w old.units) (sym (ap (λ (t : UnitString). t.bytes) s) ∙ e) old.form in
@@ -37,11 +37,11 @@ module _ {T E Z : Type 0} {b n : Vec ℕ Z} {v : List ℕ} {r : Result T E} wher
       let before = subst (λ w. IsForm w old.units) (sym (ap (λ (t : UnitString). t.bytes) s) ∙ e) old.form in
       g.becomes.room (omega (arith, fit.within, ap length (same_form g.whole fit.whole (old.units ++ v) (g.gained old.units before) fit.form), c, ap (λ (t : UnitString). t.capacity) s))
 
--- the form of the units of the old bytes and of others says what was gained
+-- the bytes gained `v` if they are the form of the old units followed by `v`
 gains_by : {w new : List ℕ} (v : List ℕ) (h : IsWellFormed w) → IsForm new (units h.points ++ v) → GainsUnits w new v
 gains_by {w} {new} v h f u x = subst (λ a. IsForm new (a ++ v)) (units_from_form w (units h.points) u (form_of h) x) f
 
--- well-formed bytes whose first trail joined the lead at the end, and others that came behind
+-- appending well-formed bytes, with and without a pair at the seam
 pub gains_meeting : {w v : List ℕ} (h : IsWellFormed w) (k : IsWellFormed v) (m : MeetsAsPair h.points k.points)
     → GainsUnits w (paired_bytes w m.lead m.trail v) (units k.points)
 gains_meeting h k m = gains_by (units k.points) h (form_meeting (form_of h) (form_of k) m)
@@ -49,19 +49,19 @@ gains_meeting h k m = gains_by (units k.points) h (form_meeting (form_of h) (for
 pub gains_behind : {w v : List ℕ} (h : IsWellFormed w) (k : IsWellFormed v) → ¬ (MeetsAsPair h.points k.points) → GainsUnits w (w ++ v) (units k.points)
 gains_behind h k n = gains_by (units k.points) h (form_behind (form_of h) (form_of k) n)
 
--- the bytes of one code point
+-- the encoding of one code point is well-formed
 abbrev one_point : (p : ℕ) → IsCodePoint p → IsWellFormed (encoding p)
 one_point p range = record { points = p ∷ []; clean = range; encoded = append-nil (encoding p) }
 
--- they are the form of its units
+-- it is the form of the code point's units
 abbrev pub point_form : (p : ℕ) → IsCodePoint p → IsForm (encoding p) (units_of p)
 point_form p range = record { points = p ∷ []; reads = record { clean = range; same_units = append-nil (units_of p) }; encoded = append-nil (encoding p) }
 
--- one code point that came behind
+-- appending one code point that completes no pair
 pub gains_point : {w : List ℕ} (h : IsWellFormed w) (p : ℕ) → IsCodePoint p → ¬ (MeetsAsPair h.points (p ∷ [])) → GainsUnits w (w ++ encoding p) (units_of p)
 gains_point {w} h p range n = subst (GainsUnits w (w ++ encoding p)) (append-nil (units_of p)) (gains_behind h (one_point p range) n)
 
--- what the bytes gain whose last code point is a lead, where a trail joins it
+-- appending a trail that completes the lead at the end
 pub record Joined (w : List ℕ) (l t : ℕ) : Type 0 where
   pub three : 3 ≤ length w
   pub gains : GainsUnits w (take (length w - 3) w ++ encoding (pair l t)) (units_of t)
@@ -77,9 +77,9 @@ joined {w} h f l t lead trail e =
     let gains = subst (GainsUnits w pair_bytes) (append-nil (units_of t)) (subst (λ x. GainsUnits w x (units (t ∷ []))) whole (gains_meeting h k m)) in
     record { three = three; gains = gains }
 
--- A text's bytes are well-formed, and its characters are their code points.
+-- Text: its bytes are well-formed, and its characters are their code points.
 
--- a scalar value is a code point and no surrogate
+-- a scalar value is a code point that is no surrogate
 pub record ScalarFacts (c : ℕ) : Type 0 where
   pub range : IsCodePoint c
   pub apart : ¬ (IsSurrogate c)
@@ -98,7 +98,7 @@ clean-scalars (c ∷ d ∷ cs) e =
     let f = scalar_facts c p.0 in
     (f.range, (λ h. f.apart (omega (arith, h.0), omega (arith, h.0))), clean-scalars (d ∷ cs) p.1)
 
--- a text's bytes as those of its characters
+-- the bytes of a text are well-formed, with its characters as code points
 abbrev pub well_formed_text : (w : List ℕ) → IsUtf8 w → IsWellFormed w
 well_formed_text w u = record {
   points = chars w;
@@ -109,7 +109,7 @@ well_formed_text w u = record {
 abbrev pub text_at : {v w : List ℕ} → IsUtf8 v → w ≡ v → IsWellFormed w
 text_at {v} u e = moved (well_formed_text v u) e
 
--- Code points that are scalar values, parts of them, and scalar values behind them.
+-- Scalar values: parts of a list, and lists joined.
 
 pub scalar-append : (c d : List ℕ) → AreScalar c → AreScalar d → AreScalar (c ++ d)
 scalar-append [] d s t = t
@@ -125,14 +125,14 @@ scalar-characters (p ∷ c) e =
 pub scalar_text : {w : List ℕ} → IsUtf8 w → AreScalar (chars w)
 scalar_text {w} u = scalar-characters (chars w) (scalars-chars w u)
 
--- scalar values end in no lead and begin with no trail
+-- scalar values form no pair at a seam
 pub scalar_apart : {c d : List ℕ} → AreScalar c → ¬ (MeetsAsPair c d)
 scalar_apart s m = scalar-middle m.front m.lead [] (subst AreScalar m.ends s) (omega (arith, m.is_lead), omega (arith, m.is_lead))
 
 pub scalar_behind : {c d : List ℕ} → AreScalar d → ¬ (MeetsAsPair c d)
 scalar_behind s m = (subst AreScalar m.begins s).0 (omega (arith, m.is_trail), omega (arith, m.is_trail))
 
--- equal bytes have equal code points
+-- equal bytes have the same code points
 pub scalar_moved : {v w : List ℕ} (h : IsWellFormed v) (k : IsWellFormed w) → w ≡ v → AreScalar h.points → AreScalar k.points
 scalar_moved h k e s = subst AreScalar (sym (same_points k h e)) s
 
@@ -140,7 +140,7 @@ pub scalar_each : (c : List ℕ) → ((f : List ℕ) (p : ℕ) (b : List ℕ) �
 scalar_each [] n = tt
 scalar_each (p ∷ c) n = (n [] p c refl, scalar_each c (λ f q b e. n (p ∷ f) q b (ap (λ d. p ∷ d) e)))
 
--- Code points of which none that begins before a place is a surrogate.
+-- The known prefix: no code point that begins before a position is a surrogate.
 
 pub scalar_all : (c : List ℕ) (k : ℕ) → AreScalar c → AreScalarTo k c
 scalar_all c k s f p b e _ = scalar-middle f p b (subst AreScalar e s)
@@ -189,20 +189,20 @@ scalar_to-glue k n c d s l t = elim (meets_or_apart c d) [
   | inr a ↦ subst (AreScalarTo n) (sym (glue_apart c d a)) (scalar_to-append n c d (λ f p b e m. s f p b e (omega (arith, l, m))) t)
 ]
 
--- a front of the code points with another one behind it, which begins at the place or behind it
+-- the known prefix after replacing the back by one code point, which begins at or after its end
 pub scalar_to-cut : (k n : ℕ) (f b : List ℕ) (q : ℕ) {c : List ℕ} → AreScalarTo k c → c ≡ f ++ b → n ≤ k → n ≤ length (bytes f) → AreScalarTo n (f ++ q ∷ [])
 scalar_to-cut k n f b q s e l m = scalar_to-append n f (q ∷ []) (scalar_to-front k n f b (subst (AreScalarTo k) e s) l) (λ x. absurd (omega (arith, x, m)))
 
 pub scalar_to-moved : {v w : List ℕ} (k : ℕ) (h : IsWellFormed v) (x : IsWellFormed w) → w ≡ v → AreScalarTo k h.points → AreScalarTo k x.points
 scalar_to-moved k h x e s = subst (AreScalarTo k) (sym (same_points x h e)) s
 
--- no surrogate begins there among the bytes
+-- no surrogate begins in the known prefix of the bytes
 pub none_before : {w : List ℕ} (k : ℕ) (h : IsWellFormed w) (i : ℕ) → AreScalarTo k h.points → i < k → ¬ (SurrogateAt w i)
 none_before k h i s l at =
     let p = surrogate_in h.points i (subst (λ v. SurrogateAt v i) (sym h.encoded) at) in
     s p.front p.point p.back p.joined (omega (arith, l, p.front_len)) p.surrogate
 
--- what a buffer holds whose bytes gained units: well-formed bytes, with no surrogate before the place that is told
+-- after bytes gained units they are well-formed, with a known prefix of `n` bytes
 known_behind_gain : (c v : List ℕ) (k n : ℕ) {old new : List ℕ} (h : IsWellFormed old) → v ≡ units c → IsClean c → AreScalarTo k h.points → n ≤ k
     → (length old < n → AreScalar c) → GainsUnits old new v → (x : IsWellFormed new) × (AreScalarTo n x.points × Unit {0})
 known_behind_gain c v k n h e x s l t gained =
@@ -213,7 +213,7 @@ known_behind_gain c v k n h e x s l t gained =
     (now, (subst (AreScalarTo n) (sym same) (scalar_to-glue k n h.points c s l (λ m. t (omega (arith, m, ap length h.encoded)))), tt))
 
 module _ {T E Z : Type 0} {b m : Vec ℕ Z} {v : List ℕ} where
-  -- the same behind a call that may be refused
+  -- the same after a call that may be refused
   pub known_gained : (r : Result T E) (c : List ℕ) (k n : ℕ) (h : IsWellFormed b.items) → v ≡ units c → IsClean c → AreScalarTo k h.points → n ≤ k
       → (length b.items < n → AreScalar c) → Gains b v m r → (x : IsWellFormed m.items) × (AreScalarTo n x.points × Unit {0})
   known_gained (Ok _) c k n h e x s l t g = known_behind_gain c v k n h e x s l t (rw g.becomes.ok g.gained)
@@ -224,9 +224,9 @@ module _ {T E Z : Type 0} {b m : Vec ℕ Z} where
       → (length b.items < n → ¬ (IsSurrogate p)) → Gains b (units_of p) m r → (x : IsWellFormed m.items) × (AreScalarTo n x.points × Unit {0})
   known_point r p k n h range s l t g = known_gained r (p ∷ []) k n h (sym (append-nil (units_of p))) range s l (λ m. (t m, tt)) g
 
--- Room: how long the forms of parts and of wholes are, and the room that calls find, one after another.
+-- Lengths of forms and of their parts, and the capacity that a list of calls needs.
 
--- between the bytes of the first with a byte for each unit of the second, and the bytes of both
+-- joined lists have at most the bytes of both, and at least one byte for each unit of the second
 pub record GluedLength (c d : List ℕ) : Type 0 where
   pub least : length (bytes c) + length (units d) ≤ length (bytes (glue c d))
   pub most : length (bytes (glue c d)) ≤ length (bytes c) + length (bytes d)
@@ -247,7 +247,7 @@ glued_length c d = elim (meets_or_apart c d) [
       record { least = omega (arith, both, (lengths d).units_least); most = omega (arith, both) }
 ]
 
--- the form of both is as long as those of the parts let it be
+-- the same bounds for the form of two lists of units
 pub record BothLength (w v z b : List ℕ) : Type 0 where
   pub least : length w + length b ≤ length z
   pub most : length z ≤ length w + length v
@@ -259,7 +259,7 @@ both_length {w} {v} {z} {a} {b} x y f =
     let front = ap length x.encoded in
     record { least = omega (arith, n.least, whole, front, ap length y.reads.same_units); most = omega (arith, n.most, whole, front, ap length y.encoded) }
 
--- where all units have a form, so has each part of them, and that of the first part is no longer
+-- the first part of a list of units has a form, which is no longer than the form of the whole
 pub record Beginning (u w : List ℕ) : Type 0 where
   pub whole : List ℕ
   pub form : IsForm whole u
@@ -277,7 +277,7 @@ beginning a b w f =
     let front = one_form a (all_front a b all) in
     record { whole = front.one; form = front.has; within = omega (arith, (both_length front.has (one_form b (all_back a b all)).has f).least) }
 
--- the form with all of some code points is longer by a byte or more for each
+-- appending code points adds at least one byte for each
 pub extended_length : (ps : List CodePoint) (w u y : List ℕ) → IsForm w u → IsForm y (u ++ units (numbers ps)) → length w + length ps ≤ length y
 extended_length ps w u y h k =
     let v = units (numbers ps) in
@@ -287,13 +287,13 @@ extended_length ps w u y h k =
 pub units-points : (ps qs : List CodePoint) → units (numbers (ps ++ qs)) ≡ units (numbers ps) ++ units (numbers qs)
 units-points ps qs = ap units (map-append number ps qs) ∙ units-append (numbers ps) (numbers qs)
 
--- a call that finds room leads where it is said to
+-- a call that finds room has the outcome `v` that `FindsRoom` names
 pub found_step : (u : List ℕ) (call : Build) (v w : List ℕ) (n r : ℕ) → FindsRoom u call v n → Step u call w r → w ≡ v
 found_step u (Truncate k) v w n r f s = absurd f.no_truncation
 found_step u (TruncateUnits k) v w n r f s = absurd f.no_truncation
 found_step u call v w n r f s = s.0 ∙ sym f.step.0
 
--- what finds room in a capacity finds it in a greater one
+-- a call that finds room in a capacity finds it in a greater one
 pub wider : {u v : List ℕ} {call : Build} {m n : ℕ} → FindsRoom u call v m → m ≤ n → FindsRoom u call v n
 wider f h = record {
   no_truncation = f.no_truncation;
@@ -301,7 +301,7 @@ wider f h = record {
   fits = record { whole = f.fits.whole; form = f.fits.form; within = omega (arith, f.fits.within, h) };
 }
 
--- after some calls, whose capacity at their start was `capacity`: what finds room with calls behind those finds it there, and the capacity is no smaller
+-- If `calls ++ more` find room in `capacity`, `more` find it after `calls`, and the capacity has not shrunk.
 pub record Found (u : List ℕ) (calls : List Build) (now : List ℕ) (capacity grown : ℕ) : Type 0 where
   pub rest : (more : List Build) (v : List ℕ) → FindRoom u (calls ++ more) v capacity → FindRoom now more v capacity
   pub grows : (more : List Build) (v : List ℕ) → FindRoom u (calls ++ more) v capacity → capacity ≤ grown

@@ -1,4 +1,4 @@
--- Where the bytes of code points may be cut, and how many units stand before a cut.
+-- Positions at which the bytes of a string may be cut, and the number of units before them.
 use Rattle.wtf8.proofs.Common.{◌≡◌, ◌-◌, ◌≤◌, ◌<◌, ℕ, zero, suc, inl, inr, List, [], ◌∷◌, ◌++◌, length, get_or, refl, ap, ◌∙◌, sym, subst, arith, length-append}
 use Rattle.wtf8.proofs.Common.{cases_lt, append-nil, get_or-append_right, encoding, bytes, take, drop, append_assoc, take_at, drop_at, units, IsClean, Reads}
 use Rattle.wtf8.proofs.Common.{IsWellFormed, IsForm, IsBoundary, IsFront, IsBack, ◌+◌, ◌/◌, ◌%◌, take-add, chunk, units_of, units_begun, all_units_begun}
@@ -7,9 +7,9 @@ use Rattle.wtf8.proofs.lemmas.lanes.UnitCounts.{begun_low, begun_inside, begun_o
 use Rattle.wtf8.proofs.lemmas.numbers.Encoding.{Begins, first-encoding, inside-encoding, length-encoding_bounds, length-behind, bytes-append, row_of, one, two, three, four}
 use Rattle.wtf8.proofs.lemmas.numbers.Readings.{clean-front, clean-back, reads_same, same_heads, same_points, same_reading, well_formed_of, units_one, units_two}
 
--- Where the bytes of a list of code points may be cut.
+-- Cuts of the bytes of a list of code points.
 
--- a list of code points as a front whose bytes are so many, and what follows
+-- a list of code points, divided after the first `k` bytes
 pub record Split (c : List ℕ) (k : ℕ) : Type 0 where
   pub front : List ℕ
   pub back : List ℕ
@@ -21,7 +21,7 @@ split_behind p h s =
     let whole = length-append (encoding p) (bytes s.front) in
     record { front = p ∷ s.front; back = s.back; joined = ap (λ r. p ∷ r) s.joined; front_len = omega (arith, h, s.front_len, whole) }
 
--- bytes may be cut at their end, and where a code point begins
+-- bytes may be cut at their end and where a code point begins
 pub split_at : (c : List ℕ) (k : ℕ) → k ≤ length (bytes c) → (k < length (bytes c) → Begins (get_or (bytes c) k 0)) → Split c k
 split_at c zero h s = record { front = []; back = c; joined = refl; front_len = refl }
 split_at [] (suc k) h s = absurd (omega arith)
@@ -35,7 +35,7 @@ split_at (p ∷ c) (suc k) h s =
           split_behind p l (split_at c (suc k - length (encoding p)) (omega arith) (λ m. subst Begins at (s (omega arith))))
     ]
 
--- the byte behind the bytes of a front is the first of the next code point
+-- the byte after a front is the first byte of the next code point
 pub first_behind : (front : List ℕ) (p : ℕ) (b : List ℕ) → get_or (bytes (front ++ p ∷ b)) (length (bytes front)) 0 ≡ get_or (encoding p ++ bytes b) 0 0
 first_behind front p b =
     let n = length (bytes front) in
@@ -47,9 +47,9 @@ pub begins_behind : (f b : List ℕ) → length (bytes f) < length (bytes (f ++ 
 begins_behind f [] h = absurd (omega (arith, ap (λ c. length (bytes c)) (append-nil f)))
 begins_behind f (p ∷ b) h = subst Begins (sym (first_behind f p b)) (first-encoding p (bytes b))
 
--- Where a string may be cut, and what the parts are.
+-- Cuts of a string, and its parts.
 
--- what is before a position and what is behind it is read as it is in the whole
+-- the units before and after a position have the readings that they have in the whole
 pub front_reads : {u v : List ℕ} {k : ℕ} (f : IsFront u k v) → Reads f.front v
 front_reads f = record { clean = clean-front f.front f.back f.splits.reads.clean; same_units = f.same_units }
 
@@ -59,7 +59,7 @@ back_reads b = record { clean = clean-back b.front b.back b.splits.reads.clean; 
 pub front_boundary : {u v : List ℕ} {k : ℕ} → IsFront u k v → IsBoundary u k
 front_boundary f = record { front = f.front; back = f.back; splits = f.splits }
 
--- a front and a back of the code points, and the bytes before and behind the place where they meet
+-- the code points and the bytes before and after a position
 pub record Cut (w : List ℕ) (h : IsWellFormed w) (k : ℕ) : Type 0 where
   pub front : List ℕ
   pub back : List ℕ
@@ -104,13 +104,13 @@ pub points_behind : {w v : List ℕ} (h : IsWellFormed w) (p : IsWellFormed v) (
     → v ≡ drop k w → p.points ≡ back
 points_behind h p front back k e n d = same_points p (cut_by h front back k e n).behind d
 
--- the bytes before a position are the form of the units of the code points before it
+-- the bytes before a position are the form of the units before it
 pub front_form : {w u : List ℕ} (h : IsForm w u) (k : ℕ) (v : List ℕ) → IsFront u k v → IsForm (take k w) v
 front_form h k v f =
     let before = (cut_by (well_formed_of h) f.front f.back k (reads_same h.reads f.splits.reads) f.splits.front_len).before in
     record { points = f.front; reads = record { clean = before.clean; same_units = f.same_units }; encoded = before.encoded }
 
--- what the test of one byte says
+-- a position is a boundary exactly if it is the end or the byte there begins a code point
 pub boundary_from_byte : {w : List ℕ} (h : IsWellFormed w) (k : ℕ) → k ≤ length w → (k < length w → Begins (get_or w k 0)) → IsBoundary (units h.points) k
 boundary_from_byte {w} h k within start =
     let cut = split_at h.points k (omega (arith, ap length h.encoded))
@@ -124,7 +124,7 @@ byte_from_boundary {w} h k b m =
     subst (λ v. Begins (get_or v k 0)) whole (subst (λ n. Begins (get_or (bytes (c.front ++ c.back)) n 0)) c.splits.front_len
     (begins_behind c.front c.back (omega (arith, c.splits.front_len, ap length whole))))
 
--- what is before a position and behind it is the same in each splitting
+-- a position divides a list of units in one way only
 same_splits : (u : List ℕ) (k : ℕ) (f b g d : List ℕ) → Splits u k f b → Splits u k g d → (f ≡ g) × (b ≡ d)
 same_splits u k f b g d own other =
     let whole = reads_same own.reads other.reads in
@@ -138,7 +138,7 @@ same_front u k v w x y = sym x.same_units ∙ (ap units (same_splits u k x.front
 pub same_back : (u : List ℕ) (k : ℕ) (v w : List ℕ) → IsBack u k v → IsBack u k w → v ≡ w
 same_back u k v w x y = sym x.same_units ∙ (ap units (same_splits u k x.front x.back y.front y.back x.splits y.splits).1 ∙ y.same_units)
 
--- of two fronts of one list the one with fewer bytes begins the other
+-- of two fronts of a list the shorter begins the longer
 pub record Begun (f g : List ℕ) : Type 0 where
   pub more : List ℕ
   pub joined : g ≡ f ++ more
@@ -165,13 +165,13 @@ middle_of h begin end p f b =
       same_units = b.same_units;
     }
 
--- Positions counted in units: places among bytes, and the code points that are there.
+-- Positions counted in units, and the code points at them.
 
--- a block more
+-- the units that begin before a block and in it add up
 pub begun_more : (w : List ℕ) (i n : ℕ) → all_units_begun (take (i + n) w) ≡ all_units_begun (take i w) + all_units_begun (chunk i n w)
 begun_more w i n = ap all_units_begun (take-add i n w) ∙ sum_by-append units_begun (take i w) (take n (drop i w))
 
--- bytes of ASCII begin as many units
+-- in ASCII bytes as many units begin
 pub begun_ascii : (w : List ℕ) (i n : ℕ) → i + n ≤ length w → ((j : ℕ) → j < n → get_or w (i + j) 0 < 0x80)
     → all_units_begun (take (i + n) w) ≡ all_units_begun (take i w) + n
 begun_ascii w i zero room low = omega (arith, ap (λ k. all_units_begun (take k w)) (start i))
@@ -190,7 +190,7 @@ blocks_more w i m n k e =
     let same = ap (λ j. all_units_begun (take j w)) ends in
     omega (arith, begun_more w i k, begun_more w i m, begun_more w (i + m) n, same)
 
--- the bytes of a code point begin its units, and its first byte all of them
+-- the units of a code point begin in its bytes, all of them at the first byte
 begun_tail : (n : ℕ) → units_begun (0x80 + n % 64) ≡ 0
 begun_tail n = begun_inside (0x80 + n % 64) (omega arith) (omega arith)
 
@@ -214,14 +214,14 @@ pub begun_bytes : (c : List ℕ) → all_units_begun (bytes c) ≡ length (units
 begun_bytes [] = refl
 begun_bytes (p ∷ c) = omega (arith, sum_by-append units_begun (encoding p) (bytes c), begun_encoding p, begun_bytes c, length-append (units_of p) (units c))
 
--- a byte that begins units begins a code point
+-- a byte at which units begin begins a code point
 begins_units : (b : ℕ) → 0 < units_begun b → Begins b
 begins_units b h = elim (cases_lt b 0x80) [
   | inl l ↦ record { start = inl l }
   | inr l ↦ elim (cases_lt b 0xC0) [ inl k ↦ absurd (omega (arith, begun_inside b l k)) | inr k ↦ record { start = inr k } ]
 ]
 
--- the code points about a place
+-- the code points before and after a place, of which the next one holds unit `n`
 pub record PointsAbout (c : List ℕ) (n : ℕ) (place : Place) : Type 0 where
   pub cut : CutsUnits c place.units_before place.at None
   pub not_beyond : place.units_before ≤ n

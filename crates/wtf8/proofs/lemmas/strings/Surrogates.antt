@@ -1,4 +1,4 @@
--- Where a string holds surrogates, the lead at its end, and the text with each of them replaced.
+-- The surrogates of a string: in its bytes, at its end, and replaced by U+FFFD.
 use Rattle.wtf8.proofs.Common.{◌≡◌, ◌≤◌, ◌<◌, ◌+◌, ℕ, List, [], ◌∷◌, ◌++◌, length, get_or, refl, ap, ◌∙◌, sym, subst, arith, append_assoc, length-append, true}
 use Rattle.wtf8.proofs.Common.{inl, inr, Option, Some, None, nat_tests, cases_lt, lt-ltb, le-ltb, append-nil, get_or-append-add, IsUtf8, scalar, scalars}
 use Rattle.wtf8.proofs.Common.{IsCodePoint, IsSurrogate, encoding, bytes, IsClean, IsWellFormed, bytes_are_encodes, AreScalar, SurrogateAt, IsLeast, IsFirst}
@@ -9,9 +9,9 @@ use Rattle.wtf8.proofs.lemmas.numbers.Encoding.{bytes-pushed}
 use Rattle.wtf8.proofs.lemmas.numbers.Readings.{no_bytes, clean-first, clean-rest, clean-front, clean-back}
 use Rattle.wtf8.proofs.lemmas.strings.Positions.{split_at, begun}
 
--- Surrogates in bytes against surrogates among code points.
+-- Surrogates in the bytes and among the code points.
 
--- the bytes of a surrogate are ED and from A0 on
+-- the bytes of a surrogate begin with ED and a byte from A0 on
 pub surrogate_at : (f : List ℕ) (p : ℕ) (b : List ℕ) → IsSurrogate p → SurrogateAt (bytes (f ++ p ∷ b)) (length (bytes f))
 surrogate_at f p b s =
     let row = encoding_three p (omega arith) (omega arith) in
@@ -24,7 +24,7 @@ surrogate_at f p b s =
       second = omega (arith, at 1, ap (λ w. get_or (w ++ bytes b) 1 0) row);
     }
 
--- a place of ED and a byte from A0 on is that of a surrogate
+-- the code point that begins at such bytes is a surrogate
 pub record SurrogateIn (c : List ℕ) (i : ℕ) : Type 0 where
   pub front : List ℕ
   pub point : ℕ
@@ -72,7 +72,7 @@ none_from_scalar c i s at =
     let p = surrogate_in c i at in
     scalar-middle p.front p.point p.back (subst AreScalar p.joined s) p.surrogate
 
--- code points that are scalar values are the characters of a text
+-- scalar values are the characters of a text
 pub scalar_true : (p : ℕ) → IsCodePoint p → ¬ (IsSurrogate p) → scalar p ≡ true
 scalar_true p r n = elim (cases_lt p 0xD800) [
   | inl h ↦ low_scalar p h
@@ -89,7 +89,7 @@ scalars_true (p ∷ c) x s = rw (scalar_true p (clean-first p c x) s.0) (scalars
 pub utf8_of : (c : List ℕ) → IsClean c → AreScalar c → IsUtf8 (bytes c)
 utf8_of c x s = (c, (scalars_true c x s, sym (bytes_are_encodes c)))
 
--- where no surrogate begins among the bytes of c, it is scalar values
+-- if no surrogate begins in the bytes of `c`, it consists of scalar values
 pub scalar_between : (f c b : List ℕ) → ((j : ℕ) → length (bytes f) ≤ j → j < length (bytes (f ++ c)) → ¬ (SurrogateAt (bytes ((f ++ c) ++ b)) j)) → AreScalar c
 scalar_between f [] b none = tt
 scalar_between f (p ∷ c) b none =
@@ -101,16 +101,16 @@ scalar_between f (p ∷ c) b none =
           (none j (omega (arith, l, length-behind f p [])) (omega (arith, u, ap (λ d. length (bytes d)) more)))),
     )
 
--- the same where none begins behind them either
+-- the same if none begins in the bytes from `c` on
 pub scalar_from_none : (f c : List ℕ) → ((j : ℕ) → length (bytes f) ≤ j → ¬ (SurrogateAt (bytes (f ++ c)) j)) → AreScalar c
 scalar_from_none f c none = scalar_between f c [] (λ j l _ s. none j l (subst (λ d. SurrogateAt (bytes d) j) (append-nil (f ++ c)) s))
 
--- an answer that is not `Some` says that there is none
+-- a search that does not return `Some` found none
 pub none_found : (w : List ℕ) (from : ℕ) (r : Option ℕ) → IsFirst (SurrogateAt w) from r → ((i : ℕ) → r ≡ Some i → ⊥) → (j : ℕ) → from ≤ j → ¬ (SurrogateAt w j)
 none_found w from None f n = f
 none_found w from (Some i) f n = absurd (n i refl)
 
--- the first place from a start on is the first of all where there is none before the start
+-- the first position from a start on is the first of all if there is none before the start
 pub first_further : (P : ℕ → Type 0) (from : ℕ) (r : Option ℕ) → ((i : ℕ) → i < from → ¬ (P i)) → IsFirst P from r → IsFirst P 0 r
 first_further P from None before f = λ j _. elim (cases_lt j from) [ inl h ↦ before j h | inr h ↦ f j h ]
 first_further P from (Some i) before f = record {
@@ -119,7 +119,7 @@ first_further P from (Some i) before f = record {
   none_between = λ j _ u. elim (cases_lt j from) [ inl h ↦ before j h | inr h ↦ f.none_between j h u ];
 }
 
--- what the search from the start says of the code points
+-- the result of the search says whether all code points are scalar values
 pub scalar_if_none : {w : List ℕ} (h : IsWellFormed w) → ((j : ℕ) → 0 ≤ j → ¬ (SurrogateAt w j)) → AreScalar h.points
 scalar_if_none h none = scalar_from_none [] h.points (λ j l. subst (λ v. ¬ (SurrogateAt v j)) (sym h.encoded) (none j l))
 
@@ -129,9 +129,9 @@ not_scalar_if_some h i least s = none_from_scalar h.points i s (subst (λ v. Sur
 pub utf8_if_none : {w : List ℕ} (h : IsWellFormed w) → ((j : ℕ) → 0 ≤ j → ¬ (SurrogateAt w j)) → IsUtf8 w
 utf8_if_none h none = subst IsUtf8 h.encoded (utf8_of h.points h.clean (scalar_if_none h none))
 
--- The surrogate that ends a string, in its last three bytes.
+-- The surrogate that ends a string, by its last three bytes.
 
--- bytes that end in those of a surrogate
+-- the last three bytes encode the surrogate `p`
 pub record EndsInSurrogate (w : List ℕ) (p : ℕ) : Type 0 where
   pub enough : 3 ≤ length w
   pub first : get_or w (length w - 3) 0 ≡ 0xED
@@ -151,7 +151,7 @@ ends_in_surrogate w f p s e =
       third = at 2 (length w - 1) (omega arith);
     }
 
--- the last code point where the third byte from the end is ED and the next at least A0
+-- the surrogate that ends a string if the third byte from the end is ED and the next at least A0
 pub record LastSurrogate (c w : List ℕ) : Type 0 where
   pub front : List ℕ
   pub point : ℕ
@@ -173,9 +173,9 @@ last_surrogate {w} h len first second =
     let ends = ends_in_surrogate w p.front p.point p.surrogate (ap bytes (sym joined) ∙ h.encoded) in
     record { front = p.front; point = p.point; joined = joined; surrogate = p.surrogate; ends = ends }
 
--- The list with U+FFFD in the place of each surrogate.
+-- The lossy list, with U+FFFD for each surrogate.
 
--- a code point is a surrogate, which is replaced, or a scalar value, which stays
+-- a code point is a surrogate, which is replaced, or a scalar value, which is kept
 pub data Kind (p : ℕ) : Type 0 where
   surrogate : IsSurrogate p → replaced p ≡ 0xFFFD → Kind p
   scalar_value : ¬ (IsSurrogate p) → replaced p ≡ p → Kind p
@@ -197,7 +197,7 @@ pub lossy-scalar : (c : List ℕ) → AreScalar c → lossy c ≡ c
 lossy-scalar [] s = refl
 lossy-scalar (p ∷ c) s = elim (kind_of p) [ surrogate k e ↦ absurd (s.0 k) | scalar_value n e ↦ rw (e, lossy-scalar c s.1) refl ]
 
--- it is as long: a surrogate has three bytes too
+-- the length does not change, since a surrogate has three bytes too
 pub length-lossy : (c : List ℕ) → length (bytes (lossy c)) ≡ length (bytes c)
 length-lossy [] = refl
 length-lossy (p ∷ c) =
@@ -216,7 +216,7 @@ scalars-lossy (p ∷ c) x = elim (kind_of p) [
   | scalar_value n e ↦ rw (e, scalar_true p (clean-first p c x) n) (scalars-lossy c (clean-rest p c x))
 ]
 
--- the bytes of the list with surrogates replaced are text
+-- the bytes of the lossy list are text
 pub utf8_lossy_points : (c : List ℕ) → IsClean c → IsUtf8 (bytes (lossy c))
 utf8_lossy_points c x = (lossy c, (scalars-lossy c x, sym (bytes_are_encodes (lossy c))))
 
@@ -226,9 +226,9 @@ replaced_surrogate p s = elim (kind_of p) [ surrogate k e ↦ e | scalar_value n
 pub replaced_scalar : (p : ℕ) → ¬ (IsSurrogate p) → replaced p ≡ p
 replaced_scalar p n = elim (kind_of p) [ surrogate k e ↦ absurd (n k) | scalar_value m e ↦ e ]
 
--- Surrogates replaced by U+FFFD: the lossy list, and bytes in which it is written over them one by one.
+-- Replacing surrogates in place, one after another.
 
--- While surrogates are replaced from the front on: some code points are done, their bytes end at `from`, and the others stand behind them as they were.
+-- The loop's state: `done` is replaced and ends at `from`; the code points after it are unchanged.
 pub record Replacing (c w : List ℕ) (from : ℕ) : Type 0 where
   pub done : List ℕ
   pub rest : List ℕ
@@ -241,7 +241,7 @@ replacing_end c w from r none =
     let plain = scalar_from_none (lossy r.done) r.rest (λ j l. subst (λ v. ¬ (SurrogateAt v j)) r.so_far (none j (omega (arith, l, r.place)))) in
     cc (lossy-scalar r.rest plain, lossy-append r.done r.rest)
 
--- a string about a surrogate, in bytes
+-- the bytes before and after the surrogate at `found`
 pub record Around (w : List ℕ) (front : List ℕ) (found : ℕ) (back : List ℕ) : Type 0 where
   pub before : take found w ≡ bytes front
   pub behind : drop (found + 3) w ≡ bytes back
@@ -287,7 +287,7 @@ replacing_step c w from found r least =
       };
     }
 
--- a string about its first surrogate: a text, the surrogate and what is behind it
+-- a string divided at its first surrogate: text, the surrogate, and the rest
 pub record Parted (w : List ℕ) (h : IsWellFormed w) (found : ℕ) : Type 0 where
   pub within : found + 3 ≤ length w
   pub text : IsUtf8 (take found w)

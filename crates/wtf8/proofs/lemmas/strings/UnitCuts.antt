@@ -1,4 +1,4 @@
--- A string cut at a number of units, also inside a pair, and what an iterator holds of a pair.
+-- Strings cut at a number of units, also inside a surrogate pair, and the iterator's state inside a pair.
 use Rattle.wtf8.proofs.Common.{BeginsWithPoint, ◌≡◌, ℕ, zero, suc, ◌+◌, ◌≤◌, List, [], ◌∷◌, ◌++◌, length, take, drop, None, Some, refl, sym, ap, ◌∙◌, subst}
 use Rattle.wtf8.proofs.Common.{arith, length-append, append_assoc, take_at, drop_at, slice_get, IsCodePoint, units, IsClean, bytes, encoding, IsWellFormed}
 use Rattle.wtf8.proofs.Common.{IsFront, CutsUnits, ◌<◌, ◌↔◌, inl, inr, Option, get_or, same_from_push, take-append-drop, length-drop, Reads, true, false, ◌/◌}
@@ -10,9 +10,9 @@ use Rattle.wtf8.proofs.lemmas.numbers.Readings.{units_two, units-append, units-p
 use Rattle.wtf8.proofs.lemmas.strings.Concatenation.{points_meet, last_of, empty, ends}
 use Rattle.wtf8.proofs.lemmas.strings.Positions.{cut_by}
 
--- What a string has before and behind a number of its units.
+-- The parts of a string before and after its first `n` units.
 
--- no pair is divided
+-- the cut is between code points
 pub record Undivided (c : List ℕ) (n k : ℕ) : Type 0 where
   pub front : List ℕ
   pub back : List ℕ
@@ -44,7 +44,7 @@ undivided {c} {n} {k} e cut =
       here = ap (λ u. slice_get u n) whole ∙ get_behind (units x.front) (units x.back) n x.counted;
     }
 
--- the pair of p is divided
+-- the cut is inside the pair of `p`
 pub record Divided (c : List ℕ) (n k p : ℕ) : Type 0 where
   pub front : List ℕ
   pub rest : List ℕ
@@ -89,7 +89,7 @@ divided {c} {n} {k} {p} e cut =
 pub in_range : {c : List ℕ} {n k p : ℕ} → IsClean c → Divided c n k p → IsCodePoint p
 in_range {p} clean d = clean-first p d.rest (clean-back d.front (p ∷ d.rest) (subst IsClean d.joined clean))
 
--- the bytes before the pair and those of its lead
+-- the bytes before the pair and the encoding of its lead are well-formed
 abbrev pub lead_kept : {w : List ℕ} (h : IsWellFormed w) {n k p : ℕ} → Divided h.points n k p → IsWellFormed (take k w ++ encoding (lead_of p))
 lead_kept {w} h {n} {k} {p} d =
     let range = in_range h.clean d in
@@ -104,7 +104,7 @@ lead_kept {w} h {n} {k} {p} d =
 pub lead_kept_units : {c : List ℕ} {n k p : ℕ} → IsClean c → (d : Divided c n k p) → units (d.front ++ lead_of p ∷ []) ≡ take n (units c)
 lead_kept_units {p} clean d = cc (units-pushed d.front (lead_of p), units_one (lead_of p) (omega (arith, in_range clean d, d.large)), d.kept)
 
--- the code points before an undivided pair are the front of its position
+-- at a cut between code points the first `n` units are the units before position `k`
 pub front_at : {w : List ℕ} (h : IsWellFormed w) {n k : ℕ} → Undivided h.points n k → IsFront (units h.points) k (take n (units h.points))
 front_at h x = record {
   front = x.front;
@@ -113,7 +113,7 @@ front_at h x = record {
   same_units = sym x.kept;
 }
 
--- a pair is divided exactly where the cut says so
+-- a pair is divided exactly if the cut says so
 pub divides_none : {c : List ℕ} {n k : ℕ} → IsClean c → Undivided c n k → ¬ (DividesPair (units c) n)
 divides_none {c} {n} clean x m =
     let all : IsClean (x.front ++ x.back) = subst IsClean x.joined clean in
@@ -127,7 +127,7 @@ divides_some {p} clean d =
     meets_by (units d.front) (units d.rest) (lead_of p) (trail_of p) (omega (arith, range, d.large), omega (arith, range, d.large)) (omega (arith, range), omega (arith, range))
     d.kept d.behind
 
--- units behind others divide the pairs that the whole divides there, where the others end in no lead that a trail would meet
+-- `r` divides a pair after `n` units exactly if the whole does there, unless `n` is 0 and a lead ends `f`
 divides_whole : (f r : List ℕ) (n : ℕ) → (take n r ≡ [] → (g : List ℕ) (l : ℕ) → f ≡ g ++ l ∷ [] → ¬ (IsLead l)) → DividesPair r n ↔ DividesPair (f ++ r) (length f + n)
 divides_whole f r n apart =
     let front = take-append-add f r n in
@@ -142,7 +142,7 @@ divides_whole f r n apart =
       ],
     )
 
--- the units behind the first so many, of which a cut-off trail stands by itself
+-- the same for `r`, the units from `begin` on without the trail `half` of a pair that is divided there
 pub divides_behind : (u r : List ℕ) (half : Option ℕ) (begin n : ℕ) → begin ≤ length u → option_to_list half ++ r ≡ drop begin u → (IsSome half ↔ DividesPair u begin)
     → 0 < length (option_to_list half) + n → n ≤ length r → DividesPair r n ↔ DividesPair u (begin + (length (option_to_list half) + n))
 divides_behind u r half begin n in_u e d more in_r =
@@ -160,7 +160,7 @@ divides_behind u r half begin n in_u e d more in_r =
         let first : t ≡ m.trail = ap (λ w. get_or w 0 0) (e ∙ m.begins) in
         omega (arith, first, (same_from_push (take begin u) g t l q).1, lead, m.is_trail)
 
--- Bytes that begin with a held trail or with a code point, and what one unit leaves of them.
+-- Bytes that begin inside a pair or at a code point, and a step of the iterator over units.
 
 pub inside : (b : ℕ) → 0x80 ≤ b → b < 0xC0 → is_inside b ≡ true
 inside b l h = rw (le-ltb b 0x80 l, lt-ltb b 0xC0 h) refl
@@ -171,7 +171,7 @@ below b h = rw (lt-ltb b 0x80 h) refl
 pub above : (b : ℕ) → 0xC0 ≤ b → is_inside b ≡ false
 above b l = rw (le-ltb b 0x80 (omega arith), le-ltb b 0xC0 l) refl
 
--- well-formed bytes begin a code point, and so no trail
+-- well-formed bytes do not begin with a continuation byte
 start_of : {w : List ℕ} → IsWellFormed w → 0 < length w → Begins (get_or w 0 0)
 start_of h n = let b = (first_of h n).0 in subst Begins (sym (ap (λ v. get_or v 0 0) b.encoded)) (first-encoding b.point b.rest)
 
@@ -179,13 +179,13 @@ pub starts : {w : List ℕ} → IsWellFormed w → is_inside (get_or w 0 0) ≡ 
 starts {w = []} h = refl
 starts {w = a ∷ r} h = elim ((start_of h (omega arith)).start) [ inl l ↦ below a l | inr g ↦ above a g ]
 
--- bytes that begin a code point are their own rest, and hold nothing
+-- bytes that begin with no continuation byte hold no trail
 pub not_held : (w : List ℕ) → is_inside (get_or w 0 0) ≡ false → (held_in w ≡ []) × (behind_held w ≡ w)
 not_held [] e = (refl, refl)
 not_held (a ∷ []) e = (refl, refl)
 not_held (a ∷ b ∷ w) e = (rw e refl, rw e refl)
 
--- bytes that begin with a trail hold both of its bytes
+-- bytes that begin inside a pair have both bytes of the trail
 pub is_whole : (w : List ℕ) → IsWellFormed (behind_held w) → 0x80 ≤ get_or w 0 0 → get_or w 0 0 < 0xC0 → 1 < length w
 is_whole [] h l g = absurd (omega arith)
 is_whole (a ∷ []) h l g = absurd (elim ((start_of h (omega arith)).start) [ inl m ↦ omega arith | inr m ↦ omega arith ])
@@ -197,7 +197,7 @@ held_at [] h e = absurd (omega arith)
 held_at (a ∷ []) h e = absurd (omega arith)
 held_at (a ∷ b ∷ w) h e = (rw e refl, rw e refl)
 
--- behind the first unit of a code point the others are held
+-- after the first unit of a code point the second, if any, is held
 first_on : (old new points more : List ℕ) (p unit : ℕ) → old ≡ [] → points ≡ p ∷ more → units_of p ≡ unit ∷ new
     → old ++ units points ≡ unit ∷ (new ++ units more)
 first_on old new points more p unit e f g = rw (e, f) (ap (λ u. u ++ units more) g)
@@ -206,7 +206,7 @@ left_on : (old new points more : List ℕ) (p unit : ℕ) → old ≡ [] → poi
     → record { held = new; points = more } ≡ unread_after (record { held = old; points = points })
 left_on old new points more p unit e f g = rw (e, f) (ap (λ t. record { held = t; points = more }) (sym (ap (drop 1) g)))
 
--- a code point of one unit
+-- a step over a code point of one unit
 pub steps_one : (v : List ℕ) (at : ℕ) (h : IsWellFormed (behind_held (drop at v))) (p next : ℕ) → at < length v
     → is_inside (get_or (drop at v) 0 0) ≡ false → p < 0x10000
     → ((b : BeginsWithPoint (drop at v)) → (p ≡ b.point) × (next ≡ at + length (encoding b.point))) → StepsUnit v at h p next
@@ -222,7 +222,7 @@ steps_one v at h p next long e small read =
       left = left_on _ _ h.points t.rest.points p p n.0 t.joined all;
     }
 
--- the lead of a supplementary code point
+-- a step over the lead of a supplementary code point
 pub steps_lead : (v : List ℕ) (at : ℕ) (h : IsWellFormed (behind_held (drop at v))) (unit next : ℕ) → at < length v
     → 0xF0 ≤ get_or (drop at v) 0 0 → next ≡ at + 2
     → ((b : BeginsWithPoint (drop at v)) → unit ≡ lead_of b.point) → StepsUnit v at h unit next
@@ -254,7 +254,7 @@ steps_lead v at h unit next long g two_on read =
           }
     ]
 
--- a trail whose lead was given
+-- a step over the held trail
 pub steps_trail : (v : List ℕ) (at : ℕ) (h : IsWellFormed (behind_held (drop at v))) (next : ℕ) → 0x80 ≤ get_or (drop at v) 0 0
     → get_or (drop at v) 0 0 < 0xC0 → next ≡ at + 2 → StepsUnit v at h (trail_by (get_or (drop at v) 0 0) (get_or (drop at v) 1 0)) next
 steps_trail v at h next l g two_on =

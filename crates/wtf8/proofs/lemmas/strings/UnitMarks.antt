@@ -1,4 +1,4 @@
--- Marks: places in a string where a number of units ends.
+-- Marks: byte positions with the number of units before them.
 use Rattle.wtf8.proofs.Common.{◌≡◌, ◌+◌, ◌<◌, ◌≤◌, ℕ, List, [], ◌∷◌, ◌++◌, length, take, None, Some, refl, sym, ap, ◌∙◌, subst, arith, length-append}
 use Rattle.wtf8.proofs.Common.{append_assoc, take-append-drop, bytes-injective, units_of, encoding, units, bytes, IsWellFormed, IsForm, CutsUnits, glue, Option}
 use Rattle.wtf8.proofs.Common.{◌-◌, drop, length-take-le, MatchOption, Divides, AreAscii, take_all, length-drop}
@@ -15,7 +15,7 @@ use Rattle.wtf8.proofs.lemmas.strings.UnitCuts.{undivided}
 use Rattle.wtf8.proofs.lemmas.units_in.Blocks.{ascii_form, ascii_own_units}
 use Rattle.std.proofs.lemmas.Simd.{Each1-chunk}
 
--- a cut at a number of units is its mark
+-- a cut between code points is a mark
 pub mark_at_cut : {w : List ℕ} (h : IsWellFormed w) {k n : ℕ} → CutsUnits h.points n k None → IsMark w (units h.points) k n
 mark_at_cut h {k} at =
     let x = undivided refl at in
@@ -30,7 +30,7 @@ mark_at_cut h {k} at =
 mark_of : {w u : List ℕ} (f : IsForm w u) {k n : ℕ} → CutsUnits f.points n k None → IsMark w u k n
 mark_of {w} f {k} {n} x = subst (λ v. IsMark w v k n) f.reads.same_units (mark_at_cut (well_formed_of f) x)
 
--- and a mark is one, since bytes determine code points
+-- a mark is a cut between code points, since bytes determine these
 abbrev pub cut_of : {w u : List ℕ} (h : IsWellFormed w) {k n : ℕ} → IsMark w u k n → CutsUnits h.points n k None
 cut_of {w} {u} h {k} {n} m =
     let front = m.before.points in
@@ -45,7 +45,7 @@ cut_of {w} {u} h {k} {n} m =
       counted = ap length m.before.reads.same_units ∙ length-take-le n u m.units_within;
     }
 
--- a cut of what is behind a mark is one of the whole
+-- a cut of the part after a mark is a cut of the whole
 units_by : {c : List ℕ} {k n : ℕ} (x : CutsUnits c n k None) (front : List ℕ) → length (units (x.front ++ front)) ≡ n + length (units front)
 units_by x front = simp (units-append, length-append, x.counted)
 
@@ -68,14 +68,14 @@ cut_from_mark h rest {k} {n} {place} m half mark e l y =
       counted = counted_by x y.front y.back (m - n) m (omega (arith, l)) half y.counted;
     }
 
--- a cut inside a pair is the mark of one unit less
+-- a cut inside a pair is at the mark of one unit less
 pub mark_before_cut : {w : List ℕ} (h : IsWellFormed w) {k n p : ℕ} (m : ℕ) → m + 1 ≡ n → CutsUnits h.points n k (Some p) → IsMark w (units h.points) k m
 mark_before_cut h {k} m e x =
     mark_at_cut h (record { front = x.front; back = x.back; joined = x.joined; front_len = x.front_len; counted = omega (arith, x.counted.inside, e) })
 
 -- The laws of marks.
 
--- beside a place where a pair is divided stand its lead and its trail
+-- the units on both sides of the division of a pair are its lead and its trail
 pub divided_are_surrogates : (u : List ℕ) (n : ℕ) → DividesPair u n → (0 < n) × (n < length u) × IsLead (get_or u (n - 1) 0) × IsTrail (get_or u n 0)
 divided_are_surrogates u n m =
     let inside : n < length u = omega (arith, ap length m.begins, length-drop n u) in
@@ -91,7 +91,7 @@ divided_are_surrogates u n m =
     ∙ get_or-append_seam (m.front ++ m.lead ∷ []) m.trail m.rest 0) in
     (omega (arith, front, length-append m.front (m.lead ∷ [])), inside, subst IsLead (sym lead) m.is_lead, subst IsTrail (sym trail) m.is_trail)
 
--- code points of as many bytes as units are ASCII
+-- code points with as many bytes as units are ASCII
 all_ascii : (c : List ℕ) → length (bytes c) ≡ length (units c) → AreAscii c
 all_ascii [] e = tt
 all_ascii (p ∷ c) e =
@@ -105,7 +105,7 @@ all_ascii (p ∷ c) e =
       | four l r ↦ absurd (omega (arith, e, all_bytes, all_units, bound, ap length r, ap length (units_two p l)))
     ]
 
--- and the units are the bytes
+-- then the units are the bytes
 pub ascii_same : {w u : List ℕ} → IsForm w u → length w ≡ length u → AreAscii u × (w ≡ u)
 ascii_same {w} {u} f e =
     let low = all_ascii f.points (ap length f.encoded ∙ (e ∙ sym (ap length f.reads.same_units))) in
@@ -124,7 +124,7 @@ equal_counts w u k f e h =
       behind = (ascii_form (drop k u) behind).form;
     })
 
--- what is glued behind the last code point leaves those before it
+-- joining changes no code point before the last
 glue_behind : (f b d : List ℕ) → 0 < length b → glue (f ++ b) d ≡ f ++ glue b d
 glue_behind [] b d h = refl
 glue_behind (p ∷ []) [] d h = absurd (omega arith)

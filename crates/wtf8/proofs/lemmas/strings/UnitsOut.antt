@@ -1,4 +1,4 @@
--- The string behind code points of as many bytes each.
+-- Blocks of code points of one encoded length, decoded to units.
 use Rattle.wtf8.proofs.Common.{◌≡◌, ℕ, zero, suc, ◌<◌, ◌≤◌, List, [], ◌∷◌, ◌++◌, length, take, drop, get_or, refl, sym, ap, ◌∙◌, arith, IsWellFormed, units}
 use Rattle.wtf8.proofs.Common.{encoding, length-append, units_of, ◌+◌, ◌*◌, ◌%◌, subst, Each1, drop-drop}
 use Rattle.wtf8.proofs.Common.{length-drop, length-take, take-append-drop, get_or_append_left, drop-append-le, IsReadAs}
@@ -7,18 +7,18 @@ use native.Mathlib.Nat.{mul-suc}
 use Rattle.wtf8.specs.private.UnitRows.{IsOfKind, BeginsWithUnits, firsts_of, unit_of_two, unit_of_three, units_of_rows}
 use Rattle.wtf8.proofs.lemmas.numbers.Readings.{first_of, moved, taken, units-cons_one}
 
--- the string behind some bytes with these units
+-- the string after its first `at` bytes, whose units are `v`
 pub record Behind (w v : List ℕ) (at : ℕ) (h : IsWellFormed w) : Type 0 where
   pub rest : IsWellFormed (drop at w)
   pub whole : units h.points ≡ v ++ units rest.points
 
--- a code point of n bytes and one unit, which is read from its bytes
+-- a code point of `n` bytes and one unit, which `f` decodes
 pub record Part (n : ℕ) (f : List ℕ → ℕ) (p : ℕ) (r : List ℕ) : Type 0 where
   pub width : length (encoding p) ≡ n
   pub read : f (encoding p ++ r) ≡ p
   pub one_unit : p < 0x10000
 
--- what a first byte tells of a code point, and that its unit is read from n bytes
+-- `f` decodes each code point whose lead byte satisfies `P`, and needs only its `n` bytes
 pub record Rows (n : ℕ) (P : ℕ → Type 0) (f : List ℕ → ℕ) : Type 0 where
   pub some : 0 < n
   pub part : (p : ℕ) (r : List ℕ) → P (get_or (encoding p ++ r) 0 0) → Part n f p r
@@ -69,7 +69,7 @@ three_rows = record {
       | four l e ↦ absurd (omega (arith, rw e at h))
     ]
 
--- behind some code points of n bytes each, whose first bytes are so
+-- the first `k` units, decoded from `n` bytes each, if their lead bytes satisfy `P`
 pub behind_rows : {P : ℕ → Type 0} (n : ℕ) (f : List ℕ → ℕ) → Rows n P f → (c k at : ℕ) (w b r : List ℕ) (h : IsWellFormed w) → w ≡ b ++ r
     → n * c ≤ length b → at ≡ n * k → k ≤ c → Each1 P (take k (firsts_of n c b)) → Behind w (take k (units_of_rows n f c b)) at h
 behind_rows n f rows c zero at w b r h e long same le each =
@@ -95,7 +95,7 @@ behind_rows {P} n f rows (suc c) (suc k) at w b r h e long same le each =
           ∙ (ap (λ m. m ∷ units first.1.rest.points) value ∙ ap (λ u. f b ∷ u) behind.whole));
     }
 
--- bytes are the first ones, and the units, of parts of one byte each
+-- bytes are their own lead bytes and units at width 1
 pub firsts_of_one : (k : ℕ) (w : List ℕ) → length w ≡ k → w ≡ firsts_of 1 k w
 firsts_of_one zero [] e = refl
 firsts_of_one zero (b ∷ w) e = absurd (omega arith)
@@ -108,7 +108,7 @@ units_of_one zero (b ∷ w) e = absurd (omega arith)
 units_of_one (suc k) [] e = absurd (omega arith)
 units_of_one (suc k) (b ∷ w) e = ap (λ v. b ∷ v) (units_of_one k w (omega arith))
 
--- a view's bytes begin with the first units of a block of their first parts
+-- the first `count` lanes of a decoded block are the next units if their lead bytes satisfy `P`
 pub begins_with_rows : {P : ℕ → Type 0} (n c m : ℕ) (f : List ℕ → ℕ) → Rows n P f → (w : List ℕ) (count : ℕ) (firsts block : List ℕ) → n * c ≤ m
     → m ≤ length w → count ≤ c → firsts ≡ firsts_of n c (take m w) → block ≡ units_of_rows n f c (take m w) → Each1 P (take count firsts)
     → BeginsWithUnits w (take count block) (n * count)
@@ -117,7 +117,7 @@ begins_with_rows {P} n c m f rows w count firsts block wide long le e g each h =
     (subst (λ v. Each1 P (take count v)) e each) in
     (behind.rest, behind.whole ∙ ap (λ b. take count b ++ units behind.rest.points) (sym g))
 
--- what a code point that was read at the front of bytes says of the units there
+-- a code point `p` that was decoded from `n` bytes gives the next units
 pub record ReadUnits (w : List ℕ) (p n : ℕ) : Type 0 where
   pub some : 0 < n
   pub within : n ≤ length w

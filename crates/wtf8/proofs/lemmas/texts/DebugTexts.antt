@@ -1,4 +1,4 @@
--- Debug texts: writes one after the other, and the digits of a number.
+-- Debug texts: consecutive writes, and the digits of a code point.
 use Rattle.wtf8.proofs.Common.{◌≡◌, ℕ, ◌/◌, ◌%◌, ◌<◌, ◌≤◌, List, [], ◌∷◌, ◌++◌, inl, inr, refl, sym, ap, ◌∙◌, subst, arith, lt-ltb, le-ltb, lt-leb, le-leb}
 use Rattle.wtf8.proofs.Common.{cases_lt, IsFlush, has_written_styled_nil, encoding, digit, encoding_is_encode, IsSurrogate, codes, writes_in_calls_append}
 use Rattle.std.specs.Fmt.{HasWrittenStyled}
@@ -6,21 +6,21 @@ use Rattle.std.specs.declared.fmt.Formatter.{Formatter}
 use lib.Utf8.{encode}
 use Rattle.wtf8.specs.Debug.{last_four, upper, shown}
 
--- g has written the front of a text that f began: once it has written the rest, the whole is written
+-- `f` was to write `whole`; `g` is the formatter after a front of it, with `rest` left to write
 pub record Continues {W : Type 0} (took : W → List ℕ → W → Type 0) (f : Formatter W) (whole : List ℕ) (g : Formatter W) (rest : List ℕ) : Type 0 where
   pub flush : IsFlush g
   pub ends : (h : Formatter W) → HasWrittenStyled took g rest h → HasWrittenStyled took f whole h
 
 module _ {W : Type 0} {took : W → List ℕ → W → Type 0} where
-  -- two writes in a row
+  -- two consecutive writes
   pub then_written : {f g h : Formatter W} {a b : List ℕ} → HasWrittenStyled took f a g → HasWrittenStyled took g b h → HasWrittenStyled took f (a ++ b) h
   then_written p q = record { wrote = writes_in_calls_append _ _ _ _ _ _ p.wrote q.wrote; spec = q.spec ∙ p.spec; flush = q.flush }
 
-  -- the same write, with its text in another form
+  -- a write of an equal text
   pub written_as : {f g : Formatter W} {a b : List ℕ} → a ≡ b → HasWrittenStyled took f a g → HasWrittenStyled took f b g
   written_as {f} {g} e = subst (λ (t : List ℕ). HasWrittenStyled took f t g) e
 
-  -- the same write, with the formatter under another name
+  -- a write to an equal formatter
   pub written_to : {f g h : Formatter W} {a : List ℕ} → h ≡ g → HasWrittenStyled took f a g → HasWrittenStyled took f a h
   written_to {f} {g} {h} {a} e = subst (HasWrittenStyled took f a) (sym e)
 
@@ -34,7 +34,7 @@ module _ {W : Type 0} {took : W → List ℕ → W → Type 0} where
   pub ended : {f g : Formatter W} {whole rest : List ℕ} → Continues took f whole g rest → rest ≡ [] → HasWrittenStyled took f whole g
   ended {f} {g} c e = c.ends g (written_as (sym e) (has_written_styled_nil took g c.flush))
 
--- the digits of a code point by their number
+-- the hexadecimal digits of a code point: four, five or six
 pub upper_four : (n : ℕ) → n < 0x10000 → upper n ≡ last_four n
 unfolding upper
 upper_four n h = rw (lt-ltb n 0x10000 h) refl
@@ -47,7 +47,7 @@ pub upper_six : (n : ℕ) → 0x100000 ≤ n → upper n ≡ digit (n / 0x100000
 unfolding upper
 upper_six n l = rw (le-ltb n 0x10000 (omega arith), le-ltb n 0x100000 l) refl
 
--- what stands for a surrogate, and for any other code point
+-- a surrogate is shown as its `\u{...}` escape, any other code point as itself
 pub shown_surrogate : (n p : ℕ) → IsSurrogate p → n ≡ p → codes "\\u{" ++ (upper n ++ codes "}") ≡ shown p
 unfolding shown
 shown_surrogate n p h e = rw (e, le-leb 0xD800 p h.0, le-leb p 0xDFFF h.1) refl

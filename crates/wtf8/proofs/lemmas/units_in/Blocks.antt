@@ -1,4 +1,4 @@
--- Blocks of units of one kind: their lanes, their bytes, and what they add to a string.
+-- Blocks of units: their masks, their form, and the string after they are appended.
 use Rattle.wtf8.proofs.Common.{◌≡◌, ℕ, zero, suc, ◌-◌, ◌%◌, ◌^◌, ◌<◌, ◌≤◌, eqb, Bool, true, false, cond, ◌&&◌, List, [], ◌∷◌, map, length, replicate}
 use Rattle.wtf8.proofs.Common.{Fits, refl, sym, ap, ◌∙◌, arith, inl, inr, and_parts, cases_Bool, Each1, zip2, mask_l, top, AreAscii}
 use Rattle.wtf8.proofs.Common.{IsSurrogate, ◌+◌, ◌/◌, ◌++◌, bytes, IsTrue, take, drop, get_or, subst}
@@ -19,9 +19,9 @@ use Rattle.wtf8.proofs.lemmas.numbers.Readings.{meets_by, no_lead, units-cons_on
 use Rattle.wtf8.proofs.lemmas.strings.Concatenation.{form_apart}
 use Rattle.wtf8.proofs.lemmas.strings.Gains.{scalar-append}
 
--- Blocks of numbers in lanes: what the mask of a block says of them.
+-- Masks of blocks of units.
 
--- where no lane is set each lane is as it must be
+-- if the mask is 0, `p` fails in each lane, and so each satisfies `Q`
 each_unset : (p : ℕ → Bool) (P Q : ℕ → Type 0) → ((x : ℕ) → P x → p x ≡ false → Q x) → (xs : List ℕ) → Each1 P xs → mask_l (map p xs) ≡ 0 → Each1 Q xs
 each_unset p P Q h [] f e = tt
 each_unset p P Q h (x ∷ xs) f e = elim (cases_Bool (p x)) [
@@ -29,7 +29,7 @@ each_unset p P Q h (x ∷ xs) f e = elim (cases_Bool (p x)) [
   | inr u ↦ (h x f.0 u, each_unset p P Q h xs f.1 (omega (arith, rw u at e)))
 ]
 
--- where no lane is set no unit is a surrogate
+-- if the mask is 0, no unit is a surrogate
 pub none_surrogate : (xs : List ℕ) → length xs ≡ 8 → Each1 (Fits w16) xs
     → mask_l (map (top 15) (zip2 (λ a b. cond (eqb a b) 0xFFFF 0) (zip2 (λ a b. a / b) xs (replicate 8 2048)) (replicate 8 27))) % 2 ^ 64 ≡ 0 → AreScalarUnits xs
 none_surrogate xs l f e =
@@ -40,7 +40,7 @@ none_surrogate xs l f e =
     own : (x : ℕ) → Fits w16 x → eqb (x / 2048) 27 ≡ false → (x < 0x10000) × ¬ (IsSurrogate x)
     own x f u = (f.fits, λ s. eqb-false (x / 2048) 27 u (omega (arith, s.0, s.1)))
 
--- Units turned into bytes part by part: where parts meet, and the form of all that was read.
+-- Units encoded part by part: the seams between parts, and the form of all units so far.
 
 -- units that are no surrogates are their own code points
 scalar_clean : (u : List ℕ) → AreScalarUnits u → IsClean u
@@ -66,7 +66,7 @@ ascii_scalars u h = Each1-weaker (λ n. n < 0x80) (λ n. (n < 0x10000) × ¬ (Is
 pub ascii_own_units : (u : List ℕ) → AreAscii u → units u ≡ u
 ascii_own_units u h = scalar_units u (ascii_scalars u h)
 
--- ASCII is its own form
+-- ASCII units are their own form
 pub ascii_form : (u : List ℕ) → AreAscii u → IsKnownForm u u true
 ascii_form u h = record {
   form = record {
@@ -80,16 +80,16 @@ ascii_form u h = record {
 pub nothing_read : {w : List ℕ} (known : Bool) → w ≡ [] → IsKnownForm w [] known
 nothing_read known e = record { form = record { points = []; reads = record { clean = tt; same_units = refl }; encoded = sym e }; scalar = λ _. tt }
 
--- no pair is divided behind a unit that is no lead
+-- no pair is divided after a unit that is no lead
 pub last_apart : (u : List ℕ) (j : ℕ) → j < length u → ¬ (IsLead (get_or u j 0)) → DividesNoPair u (suc j)
 last_apart u j within n = subst (λ w. ¬ (MeetsAsPair w (drop (suc j) u))) (sym (take-suc u j 0 within)) (no_lead (take j u) (get_or u j 0) n)
 
--- where a part meets what is before it, all that is behind does
+-- a pair at the seam with the first `n` units of `b` is a pair at the seam with `b`
 meets_longer : (a b : List ℕ) (n : ℕ) → MeetsAsPair a (take n b) → MeetsAsPair a b
 meets_longer a b n m =
     meets_by m.front (m.rest ++ drop n b) m.lead m.trail m.is_lead m.is_trail m.ends (sym (take-append-drop n b) ∙ ap (λ c. c ++ drop n b) m.begins)
 
--- the form of a part behind the form of all before it
+-- the form of a part appended to the form of the units before it, without a pair at the seam
 pub known_behind : (w v a b : List ℕ) (known more both : Bool) → IsKnownForm w a known → IsKnownForm v b more → ¬ (MeetsAsPair a b)
     → (IsTrue both → IsTrue known × IsTrue more) → IsKnownForm (w ++ v) (a ++ b) both
 known_behind w v a b known more both x y n flags =
@@ -98,7 +98,7 @@ known_behind w v a b known more both x y n flags =
     let same : x.form.points ++ y.form.points ≡ whole.points = bytes-injective (x.form.points ++ y.form.points) whole.points (encoded ∙ sym whole.encoded) in
     record { form = whole; scalar = λ t. subst AreScalar same (scalar-append x.form.points y.form.points (x.scalar (flags t).0) (y.scalar (flags t).1)) }
 
--- some more bytes, which are the form of the units up to another place
+-- the units up to `end` are encoded after the form of the units from `at` to `end` was appended
 pub part_read : {w new u part : List ℕ} {at end : ℕ} {known more : Bool} → IsReadTo w u at known → at ≤ end → end ≤ length u → DividesNoPair u end
     → new ≡ w ++ part → IsKnownForm part (take (end - at) (drop at u)) more → IsReadTo new u end (known && more)
 part_read {w} {new} {u} {part} {at} {end} {known} {more} x order within apart behind form =
@@ -112,7 +112,7 @@ part_read {w} {new} {u} {part} {at} {end} {known} {more} x order within apart be
       form = subst (λ z. IsKnownForm z (take end u) (known && more)) (sym behind) (subst (λ z. IsKnownForm (w ++ part) z (known && more)) (sym both) whole);
     }
 
--- the same of the first k of n units among which no surrogate is alone, where the last is no lead
+-- the same for the first `k` of `n` units, without a lone surrogate among them and with no lead at their end
 pub scalars_read : {w new u part : List ℕ} {at : ℕ} {known : Bool} (k n : ℕ) → IsReadTo w u at known → k ≤ n → at + n ≤ length u
     → ((j : ℕ) → j + 1 ≡ k → ¬ (IsLead (get_or (take n (drop at u)) j 0))) → new ≡ w ++ part → IsKnownForm part (take k (take n (drop at u))) true → IsReadTo new u (at + k) known
 scalars_read {w} {new} {u} {part} {at} {known} k n x few within last behind form =
@@ -128,7 +128,7 @@ scalars_read {w} {new} {u} {part} {at} {known} k n x few within last behind form
         let same = get_or-take n (drop at u) j 0 (omega (arith, few)) ∙ get_or-drop at u j 0 in
         subst (DividesNoPair u) here (last_apart u (at + j) (omega (arith, few, within)) (λ l. h j (omega arith) (omega (arith, same, l.0), omega (arith, same, l.1))))
 
--- the same of the first k of n saturated units behind the bytes so far, which are ASCII
+-- the same for `k` ASCII units at the front of `n` saturated ones that were appended and cut after `k`
 pub front_read : {w long new u low : List ℕ} {at : ℕ} {known : Bool} (k n end : ℕ) → IsReadTo w u at known → k ≤ n → at + n ≤ length u
     → low ≡ map (λ n. min n 0xFF) (take n (drop at u)) → AreAscii (take k low) → long ≡ w ++ low → end ≡ length w + k → new ≡ take end long → IsReadTo new u (at + k) known
 front_read {w = w} {u = u} {low = low} {at = at} k n end x few within saturated ascii longer cut front =

@@ -1,4 +1,4 @@
--- The items that a decoder gives are a reading of the units of its iterator.
+-- The items of a decoder are a reading of its iterator's units.
 use Rattle.wtf8.proofs.Common.{◌≡◌, ◌+◌, ◌-◌, ◌<◌, length, take, drop, get_or, append-nil, Reads, inl, inr, ℕ, List, [], ◌∷◌, ◌++◌, Option, None, Some, Result, Ok, Err, refl, sym, ap, ◌∙◌, subst, arith}
 use Rattle.wtf8.proofs.Common.{Drains, peekable_steps, peekable_peeked, point_of, points_of, units_left, decode_steps, ReadsAll, IsClean}
 use Rattle.wtf8.proofs.Common.{IsCodePoint, IsLead, IsTrail, IsSurrogate, MatchResult, units, pair}
@@ -25,7 +25,7 @@ use Rattle.std.proofs.Math.Seq.{take-append_seam, drop-append_seam}
 use Rattle.std.specs.Prelude.{◌⊎◌}
 
 module _ {S A : Type 0} (steps : S → Option A → S → Type 0) where
-  -- what comes from t comes from s, where each call from t may be one from s
+  -- if each call from `t` is also a call from `s`, draining `t` is draining `s`
   drains_on : (s t : S) (xs : List A) → ((r : Option A) (u : S) → steps t r u → steps s r u) → Drains steps t xs → Drains steps s xs
   drains_on s t [] on d = (d.0, (s, refl, on None d.0 (subst (λ k. steps k None d.0) (sym d.1.1) d.1.2)))
   drains_on s t (x ∷ xs) on d = (d.0, (d.1.0, (d.1.1.0, on (Some x) d.1.1.0 d.1.1.1, d.1.1.2), d.1.2))
@@ -42,7 +42,7 @@ module _ {S : Type 0} (steps : S → Option ℕ → S → Type 0) where
   answer_of None a b c r o h e f = subst (λ k. steps a k c) (sym e) (subst (λ k. steps a o k) (sym f) h)
   answer_of (Some k) a b c r o h e f = (e ∙ h.0, f ∙ h.1)
 
-  -- a call behind a peek gives what it would have given before
+  -- a call after a peek yields what it would have yielded before
   peeked_call : (s t u : Ahead S ℕ) (r : Option ℕ) → PeeksNext steps s t → peekable_steps steps t r u → peekable_steps steps s r u
   peeked_call s t u r h k =
       let same = subst (λ p. MatchOption p (steps (peekable_source t) r (peekable_source u))
@@ -53,7 +53,7 @@ module _ {S : Type 0} (steps : S → Option ℕ → S → Type 0) where
   bare_call s t r e k = subst (λ p. MatchOption p (steps (peekable_source s) r (peekable_source t))
       (λ o. (r ≡ o) × (peekable_source t ≡ peekable_source s))) e k
 
-  -- where nothing is peeked the units come from the source
+  -- if nothing is peeked, the units come from the source
   drains_source : (s : Ahead S ℕ) (xs : List ℕ) → peekable_peeked s ≡ None → Drains (peekable_steps steps) s xs → Drains steps (peekable_source s) xs
   drains_source s [] e d = (
     peekable_source d.0,
@@ -77,7 +77,7 @@ module _ {S : Type 0} (steps : S → Option ℕ → S → Type 0) where
   clean_first p [] range clean apart = range
   clean_first p (q ∷ c) range clean apart = (range, apart q c refl, clean)
 
-  -- no trail comes first where the unit that is held back is none
+  -- if the peeked unit is no trail, the next code point is none
   lone_lead : (s : Ahead S ℕ) (q : ℕ) (d : List ℕ) → IsSomeAnd (peekable_peeked s) (λ o. IfSome o (λ u. ¬ (IsTrail u)))
       → Drains (peekable_steps steps) s (units (q ∷ d)) → ¬ (IsTrail q)
   lone_lead s q d lone drains trail =
@@ -112,7 +112,7 @@ module _ {S : Type 0} (steps : S → Option ℕ → S → Type 0) where
       let r = reads_left items s d in
       record { clean = r.clean; all_units = drains_source (units_left s) (units (points_of items)) e r.all_units }
 
-  -- the units of one item came
+  -- the units of one item were taken: one unit, or a pair
   pub takes_one : (s t : Ahead S ℕ) (u p : ℕ) → p ≡ u → u < 0x10000 → peekable_steps steps s (Some u) t → Yields (peekable_steps steps) s (units_of p) t
   takes_one s t u p e h k = subst (λ us. Yields (peekable_steps steps) s us t) (sym (ap units_of e ∙ units_one u h)) (t, k, refl)
 
@@ -121,7 +121,7 @@ module _ {S : Type 0} (steps : S → Option ℕ → S → Type 0) where
   takes_two s m t l u p e lead trail h k = subst (λ us. Yields (peekable_steps steps) s us t) (sym (ap units_of e ∙ units_pair l u lead trail))
       (m, h, (t, k, refl))
 
-  -- a unit that is no lead is an item by itself
+  -- a unit that is no lead is one item
   pub item_alone : (s t : Ahead S ℕ) (u : ℕ) (x : Result ℕ ℕ) → MatchResult x (λ c. IsCodePoint c × ¬ (IsSurrogate c)) IsSurrogate → point_of x ≡ u → u < 0x10000 → ¬ (IsLead u)
       → peekable_steps steps s (Some u) t → DecodesItem steps s x t
   item_alone s t u x kind point range apart k = record {
@@ -132,14 +132,14 @@ module _ {S : Type 0} (steps : S → Option ℕ → S → Type 0) where
     lone = λ lead. absurd (apart (subst IsLead point lead));
   }
 
--- what is held back is no trail where a test of it failed
+-- the peeked unit is no trail if it failed a test that every trail passes
 pub held_apart : (p : Option (Option ℕ)) (o : Option ℕ) (Failed : ℕ → Type 0) → p ≡ Some o → IfSome p (λ o. IfSome o Failed)
     → ((u : ℕ) → Failed u → ¬ (IsTrail u)) → IsSomeAnd p (λ o. IfSome o (λ u. ¬ (IsTrail u)))
 held_apart None o Failed e h apart = absurd cc
 held_apart (Some None) o Failed e h apart = tt
 held_apart (Some (Some u)) o Failed e h apart = apart u h
 
--- What the first call of a reader of a slice gives.
+-- The first call of a decoder over a slice.
 
 abbrev Units : Type 0
 Units = Ahead (Copied (Iter ℕ)) ℕ
@@ -154,7 +154,7 @@ empty : (v : List ℕ) → length v ≡ 0 → v ≡ []
 empty [] e = refl
 empty (x ∷ v) e = absurd (omega (arith, e))
 
--- a unit that comes is the first of those left, and none comes only where none is
+-- a call yields the first of the units left, and `None` only if none is left
 unit_left : (s t : Copied (Iter ℕ)) (r : Option ℕ) → steps s r t → MatchOption r (iter_rest (copied_source s) ≡ []) (λ x. iter_rest (copied_source s) ≡ x ∷ iter_rest (copied_source t))
 unit_left s t r k = from k.0 k.1 r k.2
   where
@@ -173,7 +173,7 @@ yielded (x ∷ us) s t n y =
     let r = yielded us m t y.1.0 y.2 in
     (here ∙ ap (λ w. x ∷ w) r.0, r.1)
 
--- no trail comes behind a lead that is alone
+-- no trail follows a lone lead
 behind_lone : (c : List ℕ) (s t : Units) → peekable_peeked s ≡ None → IsSomeAnd (peekable_peeked t) (λ o. IfSome o (λ u. ¬ (IsTrail u))) → (t ≡ s) ⊎ PeeksNext steps s t
     → ¬ (MeetsAsPair c (left s))
 behind_lone c s t n lone held = elim held [
@@ -185,7 +185,7 @@ behind_lone c s t n lone held = elim held [
     next None e k = subst (λ w. ¬ (MeetsAsPair c w)) (sym e) nothing_begins
     next (Some x) e k = subst (λ w. ¬ (MeetsAsPair c w)) (sym e) (trail_apart x (left t) k)
 
--- no pair is divided behind a code point, where no trail comes behind it if it is a lead
+-- the end of a code point divides no pair, if no trail follows in case it is a lead
 apart_behind : (f w : List ℕ) (p : ℕ) → (IsLead p → ¬ (MeetsAsPair (f ++ units_of p) w)) → ¬ (MeetsAsPair (f ++ units_of p) w)
 unfolding units_of
 apart_behind f w p lone = elim (cases_lt p 0x10000) [
@@ -200,18 +200,18 @@ apart_behind f w p lone = elim (cases_lt p 0x10000) [
       subst (λ c. ¬ (MeetsAsPair c w)) (sym split) (no_lead (f ++ lead ∷ []) trail (λ k. omega (arith, k.1)))
 ]
 
--- how many units a code point has
+-- the number of units of a code point
 pub unit_count : (p n : ℕ) → (p < 0x10000 → n ≡ 1) → (0x10000 ≤ p → n ≡ 2) → n ≡ length (units_of p)
 unfolding units_of
 unit_count p n one two = elim (cases_lt p 0x10000) [ inl l ↦ rw (lt-ltb p 0x10000 l) (one l) | inr g ↦ rw (le-ltb p 0x10000 g) (two g) ]
 
--- the first item of some units from a place on: where its units end
+-- the first code point `p` of the units from index `at` on, and the index `end` after its units
 pub record IsFirstRead (v : List ℕ) (at end p : ℕ) : Type 0 where
   pub within : end ≤ length v
   pub apart : DividesNoPair v end
   pub reads : Reads (p ∷ []) (take (end - at) (drop at v))
 
--- a character that begins with a surrogate has two units
+-- a character whose first unit is a surrogate has two units
 pub two_units : (v : List ℕ) (at : ℕ) (s t : Units) (x : Result ℕ ℕ) {p : ℕ} → at < length v → left s ≡ take (length v - at) (drop at v) → peekable_peeked s ≡ None → DecodesItem steps s x t
     → x ≡ Ok p → IsSurrogate (get_or v at 0) → 2 ≡ length (units_of (point_of x))
 two_units v at s t x here rest none item ok begins = unit_count (point_of x) 2 (λ small. absurd (apart (subst IsSurrogate (same small) begins))) (λ _. refl)
@@ -243,7 +243,7 @@ first_read v at end s t x here rest none item count =
       reads = record { clean = item_range steps x item.kind; same_units = append-nil us ∙ sym front ∙ ap (λ k. take k (drop at v)) counted };
     }
 
--- a unit that is no surrogate
+-- a unit that is no surrogate is one code point
 pub one_read : (v : List ℕ) (at : ℕ) → at < length v → get_or v at 0 < 0x10000 → ¬ (IsSurrogate (get_or v at 0)) → IsFirstRead v at (at + 1) (get_or v at 0)
 one_read v at l h apart =
     let count : at + 1 - at ≡ 1 = omega arith in
@@ -255,16 +255,16 @@ one_read v at l h apart =
       reads = record { clean = omega (arith, h); same_units = append-nil _ ∙ (units_one (get_or v at 0) h ∙ sym whole) };
     }
 
--- What a reader of a slice gives to its end.
+-- All items of a decoder over a slice.
 
--- the units that come to the end are those left
+-- the units that a drained iterator yielded are the units that it had left
 drained : (us : List ℕ) (s : Copied (Iter ℕ)) → Drains steps s us → us ≡ iter_rest (copied_source s)
 drained [] s d = sym (unit_left s d.0 None (subst (λ k. steps k None d.0) (sym d.1.1) d.1.2))
 drained (x ∷ us) s d =
     let next = d.1.1.0 in
     ap (λ w. x ∷ w) (drained us next (d.0, (d.1.0, d.1.1.2, d.1.2))) ∙ sym (unit_left s next (Some x) d.1.1.1)
 
--- no item comes where there are no units
+-- an empty slice yields no item
 pub no_item : (v : List ℕ) (at : ℕ) (items : List (Result ℕ ℕ)) (s k t : DecodeUtf16 (Copied (Iter ℕ))) (x : Result ℕ ℕ) → peekable_peeked (units_left s) ≡ None
     → left (units_left s) ≡ take (length v - at) (drop at v) → Yields (decode_steps steps) s items k → DecodesItem steps (units_left k) x (units_left t) → v ≢ []
 no_item v at items s k t x none rest y item nothing = from items y
@@ -287,7 +287,7 @@ no_item v at items s k t x none rest y item nothing = from items y
     from [] y = begun x t (subst (λ k. DecodesItem steps (units_left k) x (units_left t)) (sym y) item)
     from (q ∷ items) y = begun q y.0 y.1
 
--- the encodings of one more item's code point
+-- the encodings of all items after one more
 pub encoded_item : (w : List ℕ) {now new : List ℕ} (items : List (Result ℕ ℕ)) (x : Result ℕ ℕ) {p : ℕ} → now ≡ w ++ bytes (points_of items) → new ≡ now ++ encoding p → point_of x ≡ p
     → new ≡ w ++ bytes (points_of (items ++ x ∷ []))
 encoded_item w {now} {new} items x {p} before added same =
@@ -298,7 +298,7 @@ encoded_item w {now} {new} items x {p} before added same =
 pub scalar_item : (items : List (Result ℕ ℕ)) (x : Result ℕ ℕ) → AreScalar (points_of items) → ¬ (IsSurrogate (point_of x)) → AreScalar (points_of (items ++ x ∷ []))
 scalar_item items x before apart = subst AreScalar (sym (map-append point_of items (x ∷ []))) (scalar-append (points_of items) (point_of x ∷ []) before (apart, tt))
 
--- the units from a place on, by all that a reader gives of them
+-- the form of all units: the bytes so far, and the encodings of the decoder's items for the rest
 pub rest_read : {w new u : List ℕ} {at : ℕ} {known more : Bool} (items : List (Result ℕ ℕ)) (iter : Copied (Iter ℕ)) → IsReadTo w u at known
     → iter_rest (copied_source iter) ≡ take (length u - at) (drop at u) → ReadsAll steps iter items → new ≡ w ++ bytes (points_of items)
     → (IsTrue more → IsTrue known × AreScalar (points_of items)) → IsKnownForm new u more

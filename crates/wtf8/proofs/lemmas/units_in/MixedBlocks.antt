@@ -1,4 +1,4 @@
--- Blocks of units of mixed kinds: three bytes of each in lanes, and those of them that a row of places picks.
+-- Blocks of units of mixed kinds: three candidate bytes of each unit in lanes, and the shuffle that packs them.
 use Rattle.wtf8.proofs.Common.{◌≡◌, ℕ, suc, ◌+◌, ◌-◌, ◌*◌, ◌/◌, ◌%◌, ◌^◌, ◌<◌, ◌≤◌, List, [], ◌∷◌, ◌++◌, length, take, drop, get_or, map, replicate, zip2, Each1, cond, ltb, leb, eqb, top, Bool, true, false}
 use Rattle.wtf8.proofs.Common.{length-append, false≢true, refl, sym, ap, ◌∙◌, arith, lt-ltb, le-ltb, subst, cases_lt, cases_Bool, inl, inr, Fits, append-nil, append_assoc, map-append, rules, mask_l-mod, eq-eqb, eqb-true, pick_l_whole, IsSurrogate}
 use lib.Lanes.{sel_l, pick_l, mask_l}
@@ -15,7 +15,7 @@ use Rattle.wtf8.specs.Unicode.{IsLead, IsTrail}
 use Rattle.std.proofs.lemmas.List.{length-take-le, take-take}
 use Rattle.std.proofs.Math.Seq.{take-append_seam}
 
--- Eight lanes written out, and each by a fact of it alone.
+-- Eight lanes as an explicit list, and facts that hold lane by lane.
 
 abbrev out : List ℕ → List ℕ
 out u = pick_l 0 u (0 ∷ 1 ∷ 2 ∷ 3 ∷ 4 ∷ 5 ∷ 6 ∷ 7 ∷ [])
@@ -47,7 +47,7 @@ by k u = zip2 (λ a b. a / b) u (replicate 8 k)
 abbrev rest : ℕ → List ℕ → List ℕ
 rest k u = zip2 (λ a b. a % b) u (replicate 8 k)
 
--- The three bytes of units that are no surrogates.
+-- The three candidate bytes of scalar values.
 
 abbrev firsts : List ℕ → List ℕ
 firsts u = plus (replicate 8 0xE0) (by 4096 u)
@@ -89,7 +89,7 @@ pub marks_are : (k : ℕ) (u : List ℕ) → length u ≡ 8 → chosen_by ltb k 
 marks_are k u l = of_eight (λ u. chosen_by ltb k u (replicate 8 0) (replicate 8 0x80) ≡ map (mark k) u) u l
     (same_map (λ x. cond (top 15 (cond (ltb x k) 0xFFFF 0)) 0 0x80) (mark k) (mark_is k) (out u))
 
--- The three bytes of units of any kinds.
+-- The three candidate bytes of units that may be surrogates.
 
 other : (a b : ℕ) → (a ≡ b → ⊥) → eqb a b ≡ false
 other a b n = elim (cases_Bool (eqb a b)) [ inl t ↦ absurd (n (eqb-true a b t)) | inr f ↦ f ]
@@ -141,7 +141,7 @@ pub longs_are : (m u : List ℕ) → length u ≡ 8 → m ≡ map (mark 0x800) u
 longs_are m u l e = rw e (of_eight (λ u. chosen_by eqb 27 (by 2048 u) (replicate 8 0) (map (mark 0x800) u) ≡ map long_mark u) u l
     (same_map (λ x. cond (top 15 (cond (eqb (x / 2048) 27) 0xFFFF 0)) 0 (mark 0x800 x)) long_mark long_is (out u)))
 
--- no surrogate has bytes of its own kind
+-- a unit that is no surrogate has the same bytes by both computations
 no_surrogate : (x : ℕ) → ¬ (IsSurrogate x) → (b : ℕ) → (own_second_byte x ≡ second_byte b x) × (own_last_byte x ≡ last_byte x) × (mark 0x800 x ≡ long_mark x)
 no_surrogate x n b =
     let lead = other (x / 1024) 54 (λ e. n (omega (arith, e), omega (arith, e))) in
@@ -158,7 +158,7 @@ scalar_lanes (y ∷ b) (x ∷ u) l h =
     let more = scalar_lanes b u (omega (arith, l)) h.1 in
     ((λ i. own.0 i ∷ more.0 i), (λ i. own.1 i ∷ more.1 i), (λ i. own.2 i ∷ more.2 i))
 
--- The bytes as lanes of eight bits, four units of eight together, and the number of their lengths.
+-- The candidate bytes as 8-bit lanes, four units at a time, and the table index of their lengths.
 
 second_small : (b x : ℕ) → x < 0x10000 → second_byte b x < 256
 second_small b x h = grind (arith, nat_tests, h)
@@ -174,7 +174,7 @@ last_small x = grind (arith, nat_tests)
 pub lasts_fit : (P : ℕ → Type 0) → ((x : ℕ) → x < 256 → P x) → (u : List ℕ) → Each1 (Fits w16) u → Each1 P (map last_byte u)
 lasts_fit P h = each_map P last_byte (λ x _. h _ (last_small x))
 
--- a unit takes three bytes only where it takes more than one
+-- a unit that takes three bytes takes more than one
 counts_of : (n : ℕ) → (are_three n ≤ more_than_one n) × (more_than_one n ≤ 1)
 counts_of n = (grind (arith, nat_tests), grind (arith, nat_tests))
 
@@ -211,7 +211,7 @@ is_set y = top 7 (cond (leb 128 y) 255 0)
 abbrev all_set : List ℕ → List ℕ → List Bool
 all_set m n = map is_set (pick_l 0 (bytes_of m ++ bytes_of n) (0 ∷ 1 ∷ 2 ∷ 3 ∷ 8 ∷ 9 ∷ 10 ∷ 11 ∷ 4 ∷ 5 ∷ 6 ∷ 7 ∷ 12 ∷ 13 ∷ 14 ∷ 15 ∷ []))
 
--- a mark is set for each of these
+-- the mask bit of the flag `t * 0x80` is `t`
 set_for : (t : ℕ) → t ≤ 1 → cond (is_set (t * 0x80)) 1 0 ≡ t
 set_for t h = elim (cases_lt t 1) [
   | inl l ↦ let none : t ≡ 0 = omega (arith, l) in ap (λ k. cond {A = ℕ} (is_set (k * 0x80)) 1 0) none ∙ sym none
@@ -224,7 +224,7 @@ above_one n = let counts = counts_of n in set_for (more_than_one n) counts.1 ∙
 above_two : (n : ℕ) → cond (is_set (long_mark n)) 1 0 ≡ byte_count n / 3
 above_two n = let counts = counts_of n in set_for (are_three n) (omega (arith, counts.0, counts.1)) ∙ omega (arith, counts.0, counts.1)
 
--- what sixteen lanes weigh, the lowest first
+-- the number with the lanes as binary digits, the lowest first
 abbrev weights : List ℕ → ℕ
 weights [] = 0
 weights (x ∷ xs) = x + 2 * weights xs
@@ -267,9 +267,9 @@ number_below a b c d i j k l = omega (arith, i, j, k, l)
 pub lengths_below : (u : List ℕ) → lengths_number u < 256
 lengths_below u = number_below _ _ _ _ (length_of (get_or u 0 0)) (length_of (get_or u 1 0)) (length_of (get_or u 2 0)) (length_of (get_or u 3 0))
 
--- The bytes that a row picks are what the units add.
+-- The bytes that a row of the table picks are the pieces of the units.
 
--- places of sixteen bytes are looked up one by one
+-- a shuffle of sixteen lanes picks the lane at each index
 looked_up : (xs : List ℕ) (i : ℕ) (js : List ℕ) → i + length js ≤ 16 → Each1 (λ j. j < 16) js → swz_l w8 16 xs i js ≡ map (λ j. get_or xs j 0) js
 looked_up xs i [] l h = refl
 looked_up xs i (j ∷ js) l h =
@@ -316,7 +316,7 @@ picked xs row b u short within long lanes own =
 pub joined_halves : (u : List ℕ) → length u ≡ 8 → pieces 0 (take 4 u) ++ pieces (get_or u 3 0) (drop 4 u) ≡ pieces 0 u
 joined_halves u long = of_eight (λ u. pieces 0 (take 4 u) ++ pieces (get_or u 3 0) (drop 4 u) ≡ pieces 0 u) u long (simp (append_assoc, append-nil))
 
--- without the two bytes of a lead at their end the bytes are what the units before it add
+-- without the two bytes of a lead at the end, the bytes are the pieces of the seven units before it
 pub lead_dropped : (w kept u : List ℕ) (all : ℕ) → length u ≡ 8 → all ≤ length w → IsLead (get_or u 7 0) → take all w ≡ kept ++ pieces 0 u
     → (2 ≤ all) × (take (all - 2) w ≡ kept ++ pieces 0 (take 7 u))
 lead_dropped w kept u all long within lead e =
@@ -329,7 +329,7 @@ lead_dropped w kept u all long within lead e =
     let left : all - 2 ≡ length front = omega (arith, count) in
     (omega (arith, count), sym (take-take (all - 2) all w (omega arith)) ∙ ap (take (all - 2)) whole ∙ ap (λ n. take n (front ++ last)) left ∙ take-append_seam front last)
 
--- where no lane is set trails stand behind leads
+-- if no lane is set, a unit is a trail exactly if the unit before it is a lead
 abbrev differ : ℕ → ℕ → Bool
 differ b x = top 15 (bit_xor (cond (eqb (b / 1024) 54) 0xFFFF 0) (cond (eqb (x / 1024) 55) 0xFFFF 0))
 

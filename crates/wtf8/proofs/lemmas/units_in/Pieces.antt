@@ -1,4 +1,4 @@
--- Blocks of units of mixed kinds: the piece of bytes that each unit gives, and pairs among them.
+-- Blocks of units of mixed kinds: the piece of bytes that each unit contributes, and the pairs among them.
 use Rattle.wtf8.proofs.Common.{◌≡◌, ℕ, zero, suc, ◌+◌, ◌-◌, ◌*◌, ◌/◌, ◌%◌, ◌<◌, ◌≤◌, List, [], ◌∷◌, ◌++◌, length, take, get_or}
 use Rattle.wtf8.proofs.Common.{refl, sym, ap, ◌∙◌, arith, lt-ltb, le-ltb, subst, cases_lt, inl, inr, true, drop, append-nil, append_assoc, IsSurrogate, encoding}
 use Rattle.wtf8.proofs.Common.{IsKnownForm, Fits, Each1, Bool, length-chunk}
@@ -15,7 +15,7 @@ use Rattle.wtf8.proofs.lemmas.numbers.Encoding.{encoding_one, encoding_two, enco
 use Rattle.wtf8.proofs.lemmas.numbers.Readings.{no_lead, units_one, units_pair}
 use Rattle.wtf8.proofs.lemmas.units_in.Blocks.{known_behind, nothing_read, scalars_read}
 
--- What units add one after another: the rows of a piece.
+-- The piece of a unit, by its range.
 
 pub piece_one : (b x : ℕ) → x < 0x80 → piece b x ≡ x ∷ []
 piece_one b x h = rw (lt-ltb x 0x80 h, lt-ltb x 0x800 (omega (arith, h)), lt-ltb x 0xD800 (omega (arith, h))) refl
@@ -39,15 +39,15 @@ piece_trail b x l =
 pub piece_high : (b x : ℕ) → 0xE000 ≤ x → piece b x ≡ third_row x
 piece_high b x l = rw (le-ltb x 0x80 (omega (arith, l)), le-ltb x 0x800 (omega (arith, l)), le-ltb x 0xD800 (omega (arith, l)), le-ltb x 0xE000 l, le-ltb x 0xDC00 (omega (arith, l))) refl
 
--- four bytes that are written behind the first n of a block, of which l are kept
+-- a row written at index `n` of a block, of which the first `l` bytes count
 pub wrote_part : (block row rest : List ℕ) (n l : ℕ) → n ≤ length block → l ≤ length row → take (n + l) (take n block ++ (row ++ rest)) ≡ take n block ++ take l row
 wrote_part block row rest n l room h =
     let front : length (take n block) ≡ n = length-take-le n block room in
     ap (λ k. take (k + l) (take n block ++ (row ++ rest))) (sym front) ∙ take-append-add (take n block) (row ++ rest) l ∙ ap (λ v. take n block ++ v) (take-append-le l row rest h)
 
--- Units that are paired are read as scalar values, and what they add one after another are the bytes of these.
+-- Paired units are read as scalar values, and their pieces are the encodings of these.
 
--- what no surrogate adds is its encoding
+-- the piece of a unit that is no surrogate is its encoding
 own_bytes : (b x : ℕ) → x < 0x10000 → ¬ (IsSurrogate x) → encoding x ≡ piece b x
 own_bytes b x h n = elim (cases_lt x 0x80) [
   | inl l ↦ encoding_one x l ∙ sym (piece_one b x l)
@@ -70,7 +70,7 @@ own_form b x h n = record {
   scalar = λ _. (n, tt);
 }
 
--- what a lead and its trail add is the encoding of what they stand for
+-- the pieces of a lead and its trail are the encoding of the pair
 pair_bytes : (b l t : ℕ) → IsLead l → IsTrail t → encoding (pair l t) ≡ piece b l ++ piece l t
 pair_bytes b l t k m =
     let first : 0xF0 + pair l t / 262144 ≡ 0xF0 + (l - 0xD7C0) / 256 = omega (arith, k, m) in
@@ -103,7 +103,7 @@ kind_of x = elim (cases_lt x 0xD800) [
   ]
 ]
 
--- units that are paired behind another one are read where neither it nor the last one is a lead
+-- the pieces of paired units are their form, if neither the unit before them nor the last one is a lead
 pub paired_form : (b : ℕ) (u : List ℕ) → Each1 (Fits w16) u → ArePaired b u → ¬ (IsLead b) → ¬ (IsLead (get_or (b ∷ u) (length u) 0)) → IsKnownForm (pieces b u) u true
 paired_form b [] f p n last = nothing_read true refl
 paired_form b (x ∷ []) f p n last = elim (kind_of x) [
@@ -127,7 +127,7 @@ paired_front b zero u p = tt
 paired_front b (suc k) [] p = tt
 paired_front b (suc k) (x ∷ u) p = (p.0, paired_front x k u p.1)
 
--- the first k of eight paired units whose last one is no lead are read behind bytes of which some are kept
+-- the first `k` of eight paired units, the last of them no lead, are encoded by appending their pieces
 pub pieces_read : (w kept : List ℕ) {bytes u units : List ℕ} {at : ℕ} {known : Bool} (k : ℕ) → IsReadTo (w ++ kept) u at known → (0 < k) × (k ≤ 8) → at + 8 ≤ length u
     → (units ≡ take 8 (drop at u)) × ArePaired 0 units → ((i : ℕ) → Fits w16 (get_or u i 0)) → ¬ (IsLead (get_or units (k - 1) 0)) → bytes ≡ kept ++ pieces 0 (take k units)
     → IsReadTo (w ++ bytes) u (at + k) known

@@ -1,4 +1,4 @@
--- The rows of places, each of them looked at: what a row picks, and how many bytes these are.
+-- The shuffle table, checked row by row: the lanes that a row picks, and the number of bytes.
 use Rattle.wtf8.proofs.Common.{◌≡◌, ℕ, zero, suc, ◌+◌, ◌<◌, ◌&&◌, false≢true, List, [], ◌∷◌, ◌++◌, length, take, get_or, Each1, ltb, eqb, Bool, true, false}
 use Rattle.wtf8.proofs.Common.{refl, ap, ◌∙◌, arith, subst, cases_lt, inl, inr, and_parts, eqb-true}
 use Rattle.std.proofs.lemmas.Bool.{ltb-true}
@@ -6,7 +6,7 @@ use Rattle.std.specs.Int.RustNames.{count_ones}
 use Rattle.wtf8.specs.private.UnitPieces.{row_number, places, IsLength, IsRow, IsCounted}
 use Rattle.wtf8.specs.declared.units_in.rows.TheConstants.{ROWS}
 
--- a test of each length, and one of each four
+-- whether a test holds for each length, and for each four lengths
 abbrev each_length : (ℕ → Bool) → Bool
 each_length p = p 1 && (p 2 && p 3)
 
@@ -46,7 +46,7 @@ pub row_is : (none : List ℕ) (number : ℕ) → IsRow number (get_or ROWS.now 
 row_is none number a b c d i j k l e =
     ap (λ n. take (a + b + c + d) (get_or ROWS.now n none)) e ∙ same_lists _ _ (of_four (row_same none) a b c d i j k l refl)
 
--- each place is below 16
+-- whether each lane of a row is below 16
 abbrev all_below : List ℕ → Bool
 all_below [] = true
 all_below (x ∷ xs) = ltb x 16 && all_below xs
@@ -67,7 +67,7 @@ below_at (row ∷ rows) none (suc k) h e = below_at rows none k (omega (arith, h
 pub row_below : (none : List ℕ) (number : ℕ) → number < 256 → Each1 (λ place. place < 16) (get_or ROWS.now number none)
 row_below none number h = below_each (get_or ROWS.now number none) (below_at ROWS.now none number h refl)
 
--- the ones of a number are counted
+-- four plus the number of one bits in the index is the number of bytes
 counted : ℕ → ℕ → ℕ → ℕ → Bool
 unfolding count_ones
 counted a b c d = eqb (4 + count_ones (row_number a b c d)) (a + b + c + d)

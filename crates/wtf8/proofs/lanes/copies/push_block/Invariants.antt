@@ -1,7 +1,7 @@
 use Rattle.wtf8.proofs.Common.{◌≡◌, ◌++◌, take, vec_capacity}
 use Rattle.wtf8.proofs.lanes.copies.push_block.Given as goal
 
--- the lanes so far are appended
+-- the first `at` items of the block are appended, and the capacity is unchanged
 abbrev pub invariant-loop-at : goal.invariant-loop-at
 invariant-loop-at g l = record {
   items : l.items.items ≡ l.initial.items.items ++ take l.at l.block;

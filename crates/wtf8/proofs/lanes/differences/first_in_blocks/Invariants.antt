@@ -1,7 +1,7 @@
 use Rattle.wtf8.proofs.Common.{◌≤◌, ◌-◌, Nowhere, DifferAt}
 use Rattle.wtf8.proofs.lanes.differences.first_in_blocks.Given as goal
 
--- equal so far
+-- no mismatch before `at`
 abbrev pub invariant-loop-at : goal.invariant-loop-at
 invariant-loop-at l = (l.at ≤ l.end) × Nowhere (DifferAt l.own l.others) 0 l.at
 

@@ -1,7 +1,7 @@
 use Rattle.wtf8.proofs.Common.{◌≡◌, ◌++◌, ◌+◌, ◌*◌, ◌-◌, ◌≤◌, length, take, vec_len, vec_capacity, flat_map, spaced}
 use Rattle.wtf8.proofs.lanes.digits.push_hex.Given as goal
 
--- the blocks so far are written, and there is room for the other bytes
+-- the first `at` bytes are written, and the spare capacity suffices for the others
 abbrev pub invariant-loop-at : goal.invariant-loop-at
 invariant-loop-at g l = record {
   within : l.at ≤ length l.rest;

@@ -1,7 +1,7 @@
 use Rattle.wtf8.proofs.Common.{◌≤◌, ◌-◌, length, Nowhere, SurrogateAt}
 use Rattle.wtf8.proofs.lanes.search.next_surrogate.Given as goal
 
--- none so far
+-- no surrogate begins in `from..at`
 abbrev pub invariant-loop-at : goal.invariant-loop-at
 invariant-loop-at l = (l.from ≤ l.at) × Nowhere (SurrogateAt l.bytes) l.from l.at
 

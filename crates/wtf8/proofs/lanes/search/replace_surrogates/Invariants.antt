@@ -2,7 +2,7 @@ use Rattle.wtf8.proofs.Common.{◌-◌, length, IsWellFormed}
 use Rattle.wtf8.proofs.lemmas.strings.Surrogates.{Replacing}
 use Rattle.wtf8.proofs.lanes.search.replace_surrogates.Given as goal
 
--- for the reading of the bytes as they were: done up to `from`
+-- of the original bytes, the surrogates before `from` are replaced
 abbrev pub invariant-loop-found : goal.invariant-loop-found
 invariant-loop-found g l = (h : IsWellFormed l.fn.bytes.items) → Replacing h.points l.bytes.items l.from
 

@@ -1,4 +1,4 @@
--- The branch knows its row of the table by the first byte.
+-- The lead byte is at least F0, so the code point is supplementary.
 use Rattle.wtf8.proofs.Common.{◌≤◌, get_or, arith, subst, sym}
 use Rattle.wtf8.proofs.lemmas.numbers.Encoding.{LeadRead, lead_read}
 use Rattle.wtf8.proofs.numbers.encoding.read_lead.Goals as goal

@@ -5,7 +5,7 @@ use Rattle.wtf8.proofs.strings.concat.push_surrogate.Given.{Over}
 use Rattle.wtf8.proofs.strings.concat.push_surrogate.Goals.{After-from_well_formed-view}
 use Rattle.wtf8.proofs.strings.concat.push_surrogate.Goals as goal
 
--- the lead that ends the view of the bytes ends these
+-- the trail completes the lead that ends the view of the bytes
 joined_here : (g : Over) (c : After-from_well_formed-view g) (l t : ℕ) → IsLead l → IsTrail t
     → (f : List ℕ) × (c.from_well_formed-view.result.well_formed.points ≡ f ++ l ∷ []) → Joined c.args.bytes.now.items l t
 joined_here g c l t lead trail last =

@@ -6,7 +6,7 @@ use Rattle.wtf8.proofs.strings.concat.push_view.Given.{Over}
 use Rattle.wtf8.proofs.strings.concat.push_view.Goals.{After-from_well_formed-view}
 use Rattle.wtf8.proofs.strings.concat.push_view.Goals as goal
 
--- the view of the bytes has their code points, and meets what they meet
+-- the view of the bytes has their code points, and so the same pair at the seam
 seen : (g : Over) (c : After-from_well_formed-view g) → c.from_well_formed-view.result.well_formed.points ≡ c.requires.well_formed.points
 seen g c = same_points c.from_well_formed-view.result.well_formed c.requires.well_formed (c.from_well_formed-view.ensures.bytes ∙ c.as_slice.ensures.value)
 

@@ -5,7 +5,7 @@ use Rattle.wtf8.proofs.lemmas.strings.UnitCuts.{below, above, not_held, is_whole
 use Rattle.wtf8.proofs.lemmas.numbers.Readings.{first_of, moved, lead_of}
 use Rattle.wtf8.proofs.strings.iters.read_unit.Goals as goal
 
--- a code point of one byte
+-- a step over a code point of one byte
 one_byte : {w : List ℕ} → (v : List ℕ) (at : ℕ) (h : IsWellFormed (behind_held (drop at v))) (unit : ℕ) → w ≡ drop at v → at < length v → unit ≡ get_or w 0 0
     → get_or w 0 0 < 0x80 → StepsUnit v at h unit (at + 1)
 one_byte v at h unit same long u low =
@@ -13,7 +13,7 @@ one_byte v at h unit same long u low =
     steps_one v at h unit (at + 1) long (below (get_or (drop at v) 0 0) (omega (arith, first))) (omega arith) (λ b.
     let f = b.says in (omega (arith, first), omega (arith, first)))
 
--- a code point of two or three bytes
+-- a step over a code point of two or three bytes
 few_bytes : {w : List ℕ} → (v : List ℕ) (at : ℕ) (h : IsWellFormed (behind_held (drop at v))) (p n : ℕ) → w ≡ drop at v → at < length v → 0xC0 ≤ get_or w 0 0
     → p < 0x10000 → IsReadAs w p n → StepsUnit v at h p (at + n)
 few_bytes v at h p n same long high small read =
@@ -21,19 +21,19 @@ few_bytes v at h p n same long high small read =
     steps_one v at h p (at + n) long (above (get_or (drop at v) 0 0) (omega (arith, first))) small (λ b.
     let t = read (begins_moved b same) in (t.0, omega (arith, t.1)))
 
--- the lead of four bytes
+-- a step over the lead of a code point of four bytes
 four_bytes : {w : List ℕ} → (v : List ℕ) (at : ℕ) (h : IsWellFormed (behind_held (drop at v))) (unit : ℕ) → w ≡ drop at v → at < length v → 0xF0 ≤ get_or w 0 0
     → ((b : BeginsWithPoint w) → unit ≡ lead_of b.point) → StepsUnit v at h unit (at + 2)
 four_bytes v at h unit same long high read =
     steps_lead v at h unit (at + 2) long (omega (arith, ap (λ x. get_or x 0 0) same)) refl (λ b. read (begins_moved b same))
 
--- a code point begins
+-- bytes that begin with C0 or more begin with a code point
 begun : {w : List ℕ} → (v : List ℕ) (at : ℕ) → IsWellFormed (behind_held (drop at v)) → w ≡ drop at v → at < length v → 0xC0 ≤ get_or w 0 0 → BeginsWithPoint w
 begun v at h same long high =
     let n = not_held (drop at v) (above (get_or (drop at v) 0 0) (omega (arith, ap (λ x. get_or x 0 0) same))) in
     subst BeginsWithPoint (sym same) (first_of (moved h (sym n.1)) (omega (arith, length-drop at v))).0
 
--- the two bytes of a trail
+-- a trail has both of its bytes
 whole : {w : List ℕ} → (v : List ℕ) (at : ℕ) → IsWellFormed (behind_held (drop at v)) → w ≡ drop at v → 0x80 ≤ get_or w 0 0 → get_or w 0 0 < 0xC0 → 1 < length w
 whole v at h same least most =
     let first = ap (λ x. get_or x 0 0) same in

@@ -1,7 +1,7 @@
 use Rattle.wtf8.proofs.Common.{◌-◌, length, IsCounted}
 use Rattle.wtf8.proofs.strings.unit_positions.behind_added_blocks.Given as goal
 
--- the units so far are counted, and they are no more than those asked for
+-- `units_before` is the number of units that begin before `at`, at most `unit`
 abbrev pub invariant-loop-at : goal.invariant-loop-at
 invariant-loop-at l = IsCounted l.bytes l.unit (record { at = l.at; units_before = l.units_before })
 

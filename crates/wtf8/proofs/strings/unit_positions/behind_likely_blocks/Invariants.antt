@@ -1,7 +1,7 @@
 use Rattle.wtf8.proofs.Common.{◌-◌, length, IsCounted}
 use Rattle.wtf8.proofs.strings.unit_positions.behind_likely_blocks.Given as goal
 
--- the units so far are counted, and they are no more than those asked for
+-- `place` has the number of units that begin before it, at most `unit`
 abbrev pub invariant-loop-place : goal.invariant-loop-place
 invariant-loop-place g l = IsCounted l.bytes l.unit l.place
 

@@ -1,6 +1,6 @@
 use Rattle.wtf8.proofs.Common.{◌≡◌, ◌≤◌, take, all_units_begun}
 use Rattle.wtf8.proofs.strings.unit_positions.find_unit_from.Given as goal
 
--- the units so far are counted, and they are no more than those asked for
+-- `units_before` is the number of units that begin before `at`, at most `unit`
 abbrev pub invariant-loop-at : goal.invariant-loop-at
 invariant-loop-at l = (l.units_before ≡ all_units_begun (take l.at l.bytes)) × (l.units_before ≤ l.unit)

@@ -5,13 +5,13 @@ use Rattle.wtf8.proofs.lemmas.numbers.Readings.{units_from_form}
 use Rattle.wtf8.proofs.lemmas.units_in.Blocks.{ascii_form}
 use Rattle.wtf8.proofs.strings.unit_positions.is_ascii.Goals as goal
 
--- a byte among n that are below
+-- a byte in a block without a lane from 80 on is ASCII
 below_at : (w : List ℕ) (n at : ℕ) → at + n ≤ length w → ¬ (HasLane 0x80 (chunk at n w)) → (i : ℕ) → at ≤ i → i < at + n → get_or w i 0 < 0x80
 below_at w n at room low i l m =
     let same : at + (i - at) ≡ i = omega (arith, l) in
     subst (λ k. get_or w k 0 < 0x80) same (below_lanes n at w room low (i - at) (omega (arith, l, m)))
 
--- bytes are ASCII where the first n and the last n are, which are all
+-- bytes are ASCII if the first `n` and the last `n` are, which cover all of them
 ascii_ends : (w : List ℕ) (n : ℕ) → n ≤ length w → length w ≤ 2 * n → ¬ (HasLane 0x80 (chunk 0 n w)) → ¬ (HasLane 0x80 (chunk (length w - n) n w)) → AreAscii w
 ascii_ends w n some all front back = Each1-from_get_or (λ b. b < 0x80) w 0 (λ i l. elim (cases_lt i n) [
   | inl first ↦ below_at w n 0 (omega (arith, some)) front i (omega arith) (omega (arith, first))

@@ -1,7 +1,7 @@
 use Rattle.wtf8.proofs.Common.{length, view_units, Writes}
 use Rattle.wtf8.proofs.strings.units_out.widen_all.Given as goal
 
--- with the units that are left behind them these are all, and there is room
+-- the units written so far, followed by the units of the bytes left, are all units
 abbrev pub invariant-loop-units : goal.invariant-loop-units
 invariant-loop-units l = Writes l.fn.units l.from (view_units l.view) l.units l.left.at (view_units l.left.view)
 

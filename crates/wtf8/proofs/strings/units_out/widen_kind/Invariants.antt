@@ -1,7 +1,7 @@
 use Rattle.wtf8.proofs.Common.{◌<◌, ◌≤◌, length, view_units, Writes}
 use Rattle.wtf8.proofs.strings.units_out.widen_kind.Given as goal
 
--- with the units that are left behind them these are all, and there is room
+-- the units written so far, followed by the units of the bytes left, are all units
 abbrev pub invariant-loop-behind : goal.invariant-loop-behind
 invariant-loop-behind g l = record {
   written : Writes l.fn.units l.left.at (view_units l.left.view) l.units l.rest.at (view_units l.rest.view);

@@ -13,7 +13,7 @@ read_three-requires-clause-front c = (first_of c.args.left.view.well_formed c.re
 pub read-width-requires-clause-front : goal.read-width-requires-clause-front
 read-width-requires-clause-front c = (first_of c.args.left.view.well_formed c.requires.some).0
 
--- the code point that was read
+-- the decoded code point gives the next units
 front : {w : List ℕ} → IsWellFormed w → (p n : ℕ) → 0 < length w → ((b : BeginsWithPoint w) → (p ≡ b.point) × (n ≡ 0 + length (encoding b.point))) → ReadUnits w p n
 front h p n some read = read_units h p n some (λ b. let was = read b in (was.0, omega (arith, was.1)))
 

@@ -2,7 +2,7 @@ use Rattle.wtf8.proofs.Common.{ℕ, List, Bool, ◌-◌, ◌≤◌, ◌++◌, le
 use Rattle.wtf8.specs.private.UnitParts.{IsReadTo}
 use Rattle.wtf8.proofs.units_in.mixed_blocks.write_blocks.Given as goal
 
--- the block begins with the bytes of the units so far
+-- the first `len` bytes of the block encode the units from `at` to `end`
 abbrev pub invariant-loop-block : goal.invariant-loop-block
 invariant-loop-block l = record {
   order : l.at ≤ l.end;

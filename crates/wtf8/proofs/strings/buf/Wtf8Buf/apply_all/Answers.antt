@@ -9,9 +9,9 @@ use Rattle.wtf8.proofs.strings.buf.Wtf8Buf.apply_all.Given.{Over}
 use Rattle.wtf8.proofs.strings.buf.Wtf8Buf.apply_all.Goals.{In_default, then-not-kept, else-not-kept}
 use Rattle.wtf8.proofs.strings.buf.Wtf8Buf.apply_all.Goals as goal
 
--- Runs of building calls, one call after another, and what pushes and extensions append.
+-- Runs of building calls, call by call, and the units that pushes and extensions append.
 
--- one call more
+-- a run with one more call
 run_more : (u : List ℕ) (calls : List Build) (mid : List ℕ) (n : ℕ) (call : Build) (v : List ℕ) (r : ℕ) → Run u calls mid n → Step mid call v r
     → Run u (calls ++ call ∷ []) v (n + r)
 run_more u [] mid n call v r x s = (v, r, 0, subst (λ m. Step m call v r) x.0 s, (refl, refl), omega (arith, x.1))
@@ -20,7 +20,7 @@ run_more u (c ∷ calls) mid n call v r x s = (x.0, x.1, x.2 + r, x.3, run_more 
 some_same : (a b : List ℕ) → Some a ≡ Some b → a ≡ b
 some_same a b e = cc
 
--- what a call that appends does
+-- a call that appends `a`: it doesn't truncate or reserve, and has this outcome only
 record Adds (u : List ℕ) (call : Build) (a : List ℕ) : Type 0 where
   no_truncation : IsNoTruncation call
   asks : asked call ≡ 0
@@ -35,7 +35,7 @@ adds u call a e =
     let same : _ ≡ a = some_same _ a e in
     record { no_truncation = tt; asks = refl; step = (ap (λ b. u ++ b) (sym same), refl); only = λ v r s. s.0 ∙ ap (λ b. u ++ b) same }
 
--- what a run of pushes and extensions appends, of which none truncates
+-- a run of pushes and extensions appends the units of all, and none of them truncates
 run_appends : (u : List ℕ) (calls : List Build) (v : List ℕ) (n : ℕ) (a : List ℕ) → Run u calls v n → Append calls a → v ≡ u ++ a
 run_appends u [] v n a x e = x.0 ∙ (sym (append-nil u) ∙ ap (λ b. u ++ b) (sym e))
 run_appends u (call ∷ calls) v n a x e =
@@ -47,7 +47,7 @@ none_truncates : (calls : List Build) (a : List ℕ) → Append calls a → All 
 none_truncates [] a e = All-nil IsNoTruncation
 none_truncates (call ∷ calls) a e = All-cons IsNoTruncation call calls (adds [] call e.0 e.2).no_truncation (none_truncates calls e.1 e.3)
 
--- where all that they append fits, each finds room
+-- if all that they append fits the capacity, each finds room
 find_room : (u : List ℕ) (calls : List Build) (a : List ℕ) (capacity : ℕ) → Append calls a → FitWithin (u ++ a) 0 capacity → FindRoom u calls (u ++ a) capacity
 find_room u [] a capacity e fit = ap (λ b. u ++ b) e ∙ append-nil u
 find_room u (call ∷ calls) a capacity e fit =
@@ -68,14 +68,14 @@ find_room u (call ∷ calls) a capacity e fit =
 call_among : (calls : List Build) (i : ℕ) (call : Build) → i < length calls → call ≡ get_or calls i call → All IsNoTruncation calls → IsNoTruncation call
 call_among calls i call h e all = subst IsNoTruncation (sym e) (All-get_or IsNoTruncation calls i call h all)
 
--- the counts of refused truncations
+-- the number of refused truncations after one more call
 counted : (kept : Bool) (n : ℕ) → kept ≡ false → n + 1 ≡ n + cond kept 0 1
 counted kept n e = rw e refl
 
 not_counted : (kept : Bool) (n : ℕ) → kept ≡ true → n ≡ n + cond kept 0 1
 not_counted kept n e = rw e (omega arith)
 
--- the call that stopped finds no room that it is said to find with some calls behind it
+-- a list that begins with the calls up to the refused one does not find room
 no_room : (g : Over) (c : In_default g) (more : List Build) (v : List ℕ)
     → ¬ (FindRoom c.args.self.now.units (take c.loop-done.done c.args.calls.now ++ c.index-calls-done.result ∷ more) v c.args.self.now.capacity)
 no_room g c more v whole =

@@ -2,7 +2,7 @@ use Rattle.wtf8.proofs.Common.{◌≤◌, take, All, Run, IsNoTruncation, Leaves
 use Rattle.wtf8.proofs.lemmas.strings.Gains.{Found}
 use Rattle.wtf8.proofs.strings.buf.Wtf8Buf.apply_all.Given as goal
 
--- the calls so far ran; room that was asked for is there as long as no call behind it truncates; and the capacity is no smaller where no call truncates
+-- the calls so far ran; capacity that they reserved is there up to a truncation; without truncations it has not shrunk
 abbrev pub invariant-loop-done : goal.invariant-loop-done
 invariant-loop-done g l = record {
   ran : Run l.fn.self.units (take l.done l.calls) l.self.units l.refused;

@@ -7,7 +7,7 @@ use Rattle.wtf8.proofs.strings.iters.IllFormedUtf16CodeUnits.give_unit.Goals as 
 abbrev held_with : List ℕ → List ℕ → Unread
 held_with held points = record { held = held; points = points }
 
--- what a step says of any proof of what is behind it
+-- a step's first unit, for any proof that the rest is well-formed
 first_by : {v : List ℕ} {at : ℕ} {h : IsWellFormed (behind_held (drop at v))} {unit next : ℕ} → StepsUnit v at h unit next
     → (y : IsWellFormed (behind_held (drop next v))) → unread_units (unread_at v at h) ≡ unit ∷ unread_units (unread_at v next y)
 first_by {v} {unit} {next} t y = t.first ∙ ap (λ c. unit ∷ (held_in (drop next v) ++ units c)) (same_points t.behind y refl)

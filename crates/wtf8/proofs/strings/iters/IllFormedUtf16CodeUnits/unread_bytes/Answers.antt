@@ -4,7 +4,7 @@ use Rattle.wtf8.proofs.lemmas.strings.UnitCuts.{inside, below, above, not_held, 
 use Rattle.wtf8.proofs.lemmas.numbers.Readings.{lengths}
 use Rattle.wtf8.proofs.strings.iters.IllFormedUtf16CodeUnits.unread_bytes.Goals as goal
 
--- a held trail is two bytes
+-- a held trail takes two bytes, before the bytes of the unread code points
 length-held : (w : List ℕ) (h : IsWellFormed (behind_held w)) → length w ≡ 2 * length (held_in w) + length (bytes h.points)
 length-held [] h = omega (arith, ap length h.encoded)
 length-held (a ∷ []) h = omega (arith, ap length h.encoded)

@@ -3,7 +3,7 @@ use Rattle.wtf8.proofs.lemmas.numbers.Encoding.{begins_with}
 use Rattle.wtf8.proofs.lemmas.numbers.Readings.{first_of}
 use Rattle.wtf8.proofs.strings.view.Wtf8.initial_trail_surrogate.Goals as goal
 
--- what bytes say that begin with a trail
+-- the first three bytes of a string that begins with a trail
 says_trail : {w : List ℕ} (h : IsWellFormed w) (t : ℕ) (r : List ℕ) → IsTrail t → h.points ≡ t ∷ r → FrontSays w t (length (encoding t))
 says_trail h t r i e = (begins_with t (bytes r) _ (omega arith) (sym h.encoded ∙ ap bytes e)).says
 

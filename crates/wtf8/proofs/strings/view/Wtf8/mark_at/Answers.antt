@@ -4,7 +4,7 @@ use Rattle.wtf8.proofs.lemmas.strings.UnitMarks.{cut_from_mark, mark_at_cut, mar
 use Rattle.wtf8.proofs.strings.view.Wtf8.mark_at.Goals.{In-Some}
 use Rattle.wtf8.proofs.strings.view.Wtf8.mark_at.Goals as goal
 
--- the cut of what is behind the mark as one of the whole
+-- a cut of the part after the mark, as a cut of the whole string
 cut_here : (c : In-Some) → CutsUnits c.args.self.now.well_formed.points c.args.units (c.args.from.position + c.in-Some.cut.position) c.in-Some.cut.divided
 cut_here c =
     let rest = c.behind_mark.result.well_formed in

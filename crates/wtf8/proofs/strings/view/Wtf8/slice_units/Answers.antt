@@ -11,11 +11,11 @@ returns-then-begin-end-clause-units c =
     ap (λ d. units d ++ []) (no_points c.from_str.result.well_formed (ap length c.from_str.ensures.bytes))
     ∙ sym (drop_all c.args.begin (take c.args.end u) (omega (arith, length-take c.args.end u, c.if-begin-end.true)))
 
--- the cut-off trail lies before the end
+-- the trail that is cut off at `begin`, if any, is before `end`
 short : (c : After-count_of) → c.count_of.result ≤ c.args.end - c.args.begin
 short c = grind (arith, nat_tests, c.count_of.ensures.most, c.requires.order, c.if-begin-end.false)
 
--- the units that are left behind those before the begin, the cut-off trail among them
+-- the units from `begin` on: the cut-off trail, if any, and the rest
 left : (c : After-count_of) → c.count_of.result + length (view_units c.units_behind-trail.result.1) ≡ length (view_units c.args.self.now) - c.args.begin
 left c = omega (
   arith,

@@ -4,7 +4,7 @@ use Rattle.wtf8.proofs.lemmas.strings.Gains.{scalar-characters}
 use Rattle.wtf8.proofs.lemmas.strings.Surrogates.{scalars_true, lossy-scalar}
 use Rattle.wtf8.proofs.texts.display_text.Wtf8Display.fmt.Goals as goal
 
--- What is displayed of scalar values, and of code points of which one is a surrogate.
+-- Displayed text of scalar values, and of code points with a surrogate among them.
 
 displayed_text : (c styled : List ℕ) → IsClean c → AreScalar c → displayed c styled ≡ styled
 displayed_text c styled x s = rw (scalars_true c x s) refl
