@@ -42,7 +42,7 @@ pub record IsMadeWellFormed (u v : List ℕ) : Type 0 where
 abbrev pub IsSpace : ℕ → Type 0
 IsSpace unit = (unit ≡ 0x20) ⊎ ((0x09 ≤ unit) × (unit ≤ 0x0D))
 
--- `v` is `u` without the ASCII spaces at its two ends (ECMAScript, "TrimString").
+-- `v` is `u` without the spaces (`IsSpace`) at its two ends (ECMAScript, "TrimString").
 pub record IsTrimmed (u v : List ℕ) : Type 0 where
   pub begin : ℕ
   pub end : ℕ

@@ -28,8 +28,8 @@ pub enum ReadError {
 /// Reads a string of all units that a reader has left, each as a low byte and a high byte. A read may end inside a unit or
 /// a surrogate pair. A byte order mark is a unit like any other.
 ///
-/// An interrupted read is tried again; any other error is returned. After an error, the bytes that were read are lost:
-/// after `HalfUnit` the whole input.
+/// An interrupted read is tried again; any other error is returned. After an error the bytes that were read are lost; after
+/// `HalfUnit` they are the whole input.
 pub fn read_utf16<A: Allocator + Copy, R: Read>(
     alloc: A,
     reader: &mut R,

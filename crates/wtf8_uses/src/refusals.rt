@@ -1,4 +1,4 @@
-//! Strings after a refused request for memory, and calls that reserve first so that none follows.
+//! Strings after a refused request for memory, and pushes that cannot be refused because capacity is reserved first.
 ghost use Rattle.std.specs.Prelude.{◌≡◌, ℕ, List, ◌++◌, IfOk, OnOk, OnErr, IsTrue};
 ghost use Rattle.wtf8.specs.Appending.{AppendsUnits, FitWithin, KeepsContents};
 ghost use Rattle.wtf8.specs.Building.{Append};

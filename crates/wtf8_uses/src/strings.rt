@@ -87,7 +87,7 @@ pub(crate) fn units_from<A: Allocator>(
     units
 }
 
-/// Whether the next units are the units of `search`.
+/// Whether the next units of the iterator are the units of `search`.
 pub(crate) fn stand_next<B: Allocator>(
     units: &IllFormedUtf16CodeUnits<'_>,
     search: &UnitText<B>,

@@ -57,7 +57,7 @@ order_of (x ∷ xs) (y ∷ ys) = elim (cases_order x y) [
   | inr (inr l) ↦ rw (cmp_greater x y l) (inl l)
 ]
 
--- the same of the result `o` of a comparison
+-- the result `o` of a comparison decides which list is before the other
 pub ordered : (o : Ordering) (c d : List ℕ) → o ≡ slice_cmp nat_cmp c d → MatchOrdering o (Before c d) (c ≡ d) (Before d c)
 ordered o c d e =
     let P : Ordering → Type 0 = λ p. MatchOrdering p (Before c d) (c ≡ d) (Before d c) in
@@ -169,7 +169,7 @@ same_row p q r s h =
 nothing_before : (q : ℕ) (d : List ℕ) → Before [] (units (q ∷ d))
 nothing_before q d = elim (cases_lt q 0x10000) [ inl h ↦ rw (units-cons_one q d h) tt | inr h ↦ rw (units-cons_two q d h) tt ]
 
--- then code points compare as units
+-- code points compare as units if their bytes satisfy `PartInOneRow`
 pub points_as_units : (c d : List ℕ) → PartInOneRow (bytes c) (bytes d) → slice_cmp nat_cmp c d ≡ slice_cmp nat_cmp (units c) (units d)
 points_as_units [] [] h = refl
 points_as_units [] (q ∷ d) h = sym (less_of [] (units (q ∷ d)) (nothing_before q d))
@@ -312,12 +312,12 @@ one_of_both true b p q e = inl (p.0 refl)
 one_of_both false true p q e = inr (q.0 refl)
 one_of_both false false p q e = absurd (true≢false e)
 
--- if a code point of two units begins at the first difference in exactly one string, it is a boundary of both
+-- if a code point of two units begins at the first difference in exactly one string, that is a boundary of both
 pub parts_there : {w v : List ℕ} (h : IsWellFormed w) (k : IsWellFormed v) (at : ℕ) → IsFirstDifference w v at → (a b : Bool) → IsTrue a ↔ PairBegins w at
     → IsTrue b ↔ PairBegins v at → beq a b ≡ false → Parting h.points k.points at
 parts_there h k at d a b p q e = elim (one_of_both a b p q e) [ inl l ↦ parting h k at d.same_before l | inr l ↦ turned (parting k h at (sym d.same_before) l) ]
 
--- otherwise the strings compare by units as their bytes there
+-- if one begins there in both strings or in neither, the bytes there compare as the units of the strings
 pub bytes_order : {w v : List ℕ} (h : IsWellFormed w) (k : IsWellFormed v) (at : ℕ) → IsFirstDifference w v at → PairBegins w at ↔ PairBegins v at
     → option_cmp nat_cmp (slice_get w at) (slice_get v at) ≡ slice_cmp nat_cmp (units h.points) (units k.points)
 bytes_order {w} {v} h k at d both =

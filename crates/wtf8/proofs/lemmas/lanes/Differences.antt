@@ -62,7 +62,7 @@ decided b w v h = elim (cases_Bool b) [
   | inr f ↦ elim (cases_Bool (pointwise nat_eq w v)) [ inl t ↦ absurd (both_ways b f (h.1 ((bytes_decides w v).0 t))) | inr g ↦ f ∙ sym g ]
 ]
 
--- so is one that is true exactly if two lists of equal length have no mismatch
+-- a Boolean that is true exactly if lists of equal length have no mismatch is the result of their comparison
 pub equal_told : (b : Bool) (w v : List ℕ) → length w ≡ length v → Tells ⊤ (DifferAt w v) 0 (length w) b → b ≡ pointwise nat_eq w v
 equal_told b w v long h = decided b w v (to b h, from b h)
   where

@@ -26,7 +26,7 @@ end_is_boundary w u f = record {
   splits = record { reads = subst (λ c. Reads c u) (sym (append-nil f.points)) f.reads; front_len = ap length f.encoded };
 }
 
--- a boundary of the units divides the form's own code points
+-- a boundary of the units is a cut of the form's code points
 own_boundary : {w u : List ℕ} (f : IsForm w u) (k : ℕ) → IsBoundary u k → Cut w (well_formed_of f) k
 own_boundary f k b = cut_at (well_formed_of f) k (subst (λ v. IsBoundary v k) (sym f.reads.same_units) b)
 

@@ -71,7 +71,7 @@ module _ {T E : Type 0} where
   grows_at_most r old {new} w v form more ok =
       on_ok_weaker r (λ e. both_no_longer old.bytes w new old.units v old.form more (subst (IsForm new) e form)) ok
 
-  -- by how much it grows if a view is appended
+  -- the length by which a string grows if a view is appended
   pub added_length : (r : Result T E) (old new : UnitString) (other : Wtf8) → OnOk r (AppendsUnits old (view_units other) new) → OnOk r (AddsLength old other new)
   added_length r old new other ok =
       on_ok_weaker r (λ e.
@@ -172,7 +172,7 @@ run_once u (call ∷ calls) =
           (ends.0, omega (arith, r.5, same.1, ends.1));
     }
 
--- reserved capacity after one more call: its own is there, and the earlier ones' if it does not truncate
+-- one more call leaves what it reserves, and the capacity reserved before it unless it truncates
 pub reserved_more : {u now : List ℕ} {calls : List Build} {call : Build} {capacity larger : ℕ} (n : ℕ) → LeavesReserved u calls capacity → Run u calls now n
     → (IsNoTruncation call → capacity ≤ larger) → ((m : ℕ) → call ≡ Reserve m → FitWithin now m larger) → LeavesReserved u (calls ++ call ∷ []) larger
 reserved_more {u} {now} {calls} {call} {capacity} {larger} n f ran grows here front back m v r e none run = elim (parted_more calls call front (Reserve m) back e) [

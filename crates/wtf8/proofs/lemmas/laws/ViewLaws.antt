@@ -51,13 +51,13 @@ ascii_between_form {w} b l f g = record {
   encoded = bytes-append f.points (b ∷ g.points) ∙ (ap (λ a. a ++ bytes (b ∷ g.points)) f.encoded ∙ ap (λ a. w ++ a) (ascii_form b l g).encoded);
 }
 
--- a view is two others with an ASCII unit between them exactly if its bytes are
+-- `whole` is `front`, an ASCII unit and `back` in units exactly if it is in bytes
 pub parted_by_ascii : (whole front back : Wtf8) (b : ℕ) → b < 0x80
     → (whole.bytes.now ≡ front.bytes.now ++ b ∷ back.bytes.now) ↔ (view_units whole ≡ view_units front ++ b ∷ view_units back)
 parted_by_ascii whole front back b l =
     equal_forms whole.bytes.now _ (view_units whole) _ (view_form whole) (ascii_between_form b l (view_form front) (view_form back))
 
--- the bytes and boundary of a view whose units begin with another view and an ASCII unit
+-- a view whose units begin with the units of `front` and an ASCII unit: its bytes up to there, and the rest
 pub record BeginsByAscii (whole front : Wtf8) (b : ℕ) (rest : List ℕ) : Type 0 where
   pub inside : length front.bytes.now < length whole.bytes.now
   pub front_bytes : take (length front.bytes.now) whole.bytes.now ≡ front.bytes.now

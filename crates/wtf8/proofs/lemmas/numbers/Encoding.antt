@@ -69,7 +69,7 @@ own_byte p r h = elim (row_of p) [
   | four l e ↦ absurd (omega (arith, rw e at h))
 ]
 
--- all are continuation bytes
+-- all are continuation bytes (80 to BF)
 abbrev AreInside : List ℕ → Type 0
 AreInside [] = Unit {0}
 AreInside (x ∷ xs) = (0x80 ≤ x) × (x < 0xC0) × AreInside xs

@@ -53,7 +53,7 @@ gains_behind h k n = gains_by (units k.points) h (form_behind (form_of h) (form_
 abbrev one_point : (p : ℕ) → IsCodePoint p → IsWellFormed (encoding p)
 one_point p range = record { points = p ∷ []; clean = range; encoded = append-nil (encoding p) }
 
--- it is the form of the code point's units
+-- the encoding of one code point is the form of its units
 abbrev pub point_form : (p : ℕ) → IsCodePoint p → IsForm (encoding p) (units_of p)
 point_form p range = record { points = p ∷ []; reads = record { clean = range; same_units = append-nil (units_of p) }; encoded = append-nil (encoding p) }
 
@@ -213,7 +213,7 @@ known_behind_gain c v k n h e x s l t gained =
     (now, (subst (AreScalarTo n) (sym same) (scalar_to-glue k n h.points c s l (λ m. t (omega (arith, m, ap length h.encoded)))), tt))
 
 module _ {T E Z : Type 0} {b m : Vec ℕ Z} {v : List ℕ} where
-  -- the same after a call that may be refused
+  -- after a call that appended units or was refused, bytes are well-formed, with a known prefix of `n` bytes
   pub known_gained : (r : Result T E) (c : List ℕ) (k n : ℕ) (h : IsWellFormed b.items) → v ≡ units c → IsClean c → AreScalarTo k h.points → n ≤ k
       → (length b.items < n → AreScalar c) → Gains b v m r → (x : IsWellFormed m.items) × (AreScalarTo n x.points × Unit {0})
   known_gained (Ok _) c k n h e x s l t g = known_behind_gain c v k n h e x s l t (rw g.becomes.ok g.gained)
@@ -247,7 +247,7 @@ glued_length c d = elim (meets_or_apart c d) [
       record { least = omega (arith, both, (lengths d).units_least); most = omega (arith, both) }
 ]
 
--- the same bounds for the form of two lists of units
+-- the form of two lists has at most the bytes of both forms, and at least one byte for each unit of the second
 pub record BothLength (w v z b : List ℕ) : Type 0 where
   pub least : length w + length b ≤ length z
   pub most : length z ≤ length w + length v

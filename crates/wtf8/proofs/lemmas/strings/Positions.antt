@@ -221,7 +221,7 @@ begins_units b h = elim (cases_lt b 0x80) [
   | inr l ↦ elim (cases_lt b 0xC0) [ inl k ↦ absurd (omega (arith, begun_inside b l k)) | inr k ↦ record { start = inr k } ]
 ]
 
--- the code points before and after a place, of which the next one holds unit `n`
+-- the code points before and after `place`; the next one, if any, holds unit `n`
 pub record PointsAbout (c : List ℕ) (n : ℕ) (place : Place) : Type 0 where
   pub cut : CutsUnits c place.units_before place.at None
   pub not_beyond : place.units_before ≤ n

@@ -101,7 +101,7 @@ scalar_between f (p ∷ c) b none =
           (none j (omega (arith, l, length-behind f p [])) (omega (arith, u, ap (λ d. length (bytes d)) more)))),
     )
 
--- the same if none begins in the bytes from `c` on
+-- if no surrogate begins in the bytes from `c` on, it consists of scalar values
 pub scalar_from_none : (f c : List ℕ) → ((j : ℕ) → length (bytes f) ≤ j → ¬ (SurrogateAt (bytes (f ++ c)) j)) → AreScalar c
 scalar_from_none f c none = scalar_between f c [] (λ j l _ s. none j l (subst (λ d. SurrogateAt (bytes d) j) (append-nil (f ++ c)) s))
 

@@ -142,7 +142,7 @@ divides_whole f r n apart =
       ],
     )
 
--- the same for `r`, the units from `begin` on without the trail `half` of a pair that is divided there
+-- `r`, the units from `begin` on without the trail `half` of a pair divided there, divides the pairs of the whole
 pub divides_behind : (u r : List ℕ) (half : Option ℕ) (begin n : ℕ) → begin ≤ length u → option_to_list half ++ r ≡ drop begin u → (IsSome half ↔ DividesPair u begin)
     → 0 < length (option_to_list half) + n → n ≤ length r → DividesPair r n ↔ DividesPair u (begin + (length (option_to_list half) + n))
 divides_behind u r half begin n in_u e d more in_r =

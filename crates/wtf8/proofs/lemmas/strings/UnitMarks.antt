@@ -105,7 +105,7 @@ all_ascii (p ∷ c) e =
       | four l r ↦ absurd (omega (arith, e, all_bytes, all_units, bound, ap length r, ap length (units_two p l)))
     ]
 
--- then the units are the bytes
+-- a string with as many bytes as units is ASCII, and its units are its bytes
 pub ascii_same : {w u : List ℕ} → IsForm w u → length w ≡ length u → AreAscii u × (w ≡ u)
 ascii_same {w} {u} f e =
     let low = all_ascii f.points (ap length f.encoded ∙ (e ∙ sym (ap length f.reads.same_units))) in

@@ -112,7 +112,7 @@ part_read {w} {new} {u} {part} {at} {end} {known} {more} x order within apart be
       form = subst (λ z. IsKnownForm z (take end u) (known && more)) (sym behind) (subst (λ z. IsKnownForm (w ++ part) z (known && more)) (sym both) whole);
     }
 
--- the same for the first `k` of `n` units, without a lone surrogate among them and with no lead at their end
+-- the first `k` of `n` units, with no lone surrogate and no lead at their end, are encoded after their form was appended
 pub scalars_read : {w new u part : List ℕ} {at : ℕ} {known : Bool} (k n : ℕ) → IsReadTo w u at known → k ≤ n → at + n ≤ length u
     → ((j : ℕ) → j + 1 ≡ k → ¬ (IsLead (get_or (take n (drop at u)) j 0))) → new ≡ w ++ part → IsKnownForm part (take k (take n (drop at u))) true → IsReadTo new u (at + k) known
 scalars_read {w} {new} {u} {part} {at} {known} k n x few within last behind form =
@@ -128,7 +128,7 @@ scalars_read {w} {new} {u} {part} {at} {known} k n x few within last behind form
         let same = get_or-take n (drop at u) j 0 (omega (arith, few)) ∙ get_or-drop at u j 0 in
         subst (DividesNoPair u) here (last_apart u (at + j) (omega (arith, few, within)) (λ l. h j (omega arith) (omega (arith, same, l.0), omega (arith, same, l.1))))
 
--- the same for `k` ASCII units at the front of `n` saturated ones that were appended and cut after `k`
+-- the first `k` of `n` units, which are ASCII, are encoded after all were appended saturated and cut after `k`
 pub front_read : {w long new u low : List ℕ} {at : ℕ} {known : Bool} (k n end : ℕ) → IsReadTo w u at known → k ≤ n → at + n ≤ length u
     → low ≡ map (λ n. min n 0xFF) (take n (drop at u)) → AreAscii (take k low) → long ≡ w ++ low → end ≡ length w + k → new ≡ take end long → IsReadTo new u (at + k) known
 front_read {w = w} {u = u} {low = low} {at = at} k n end x few within saturated ascii longer cut front =

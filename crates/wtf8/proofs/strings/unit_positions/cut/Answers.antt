@@ -4,16 +4,16 @@ use Rattle.wtf8.proofs.lemmas.numbers.Readings.{units_one, units_two, units-appe
 use Rattle.wtf8.proofs.lemmas.strings.Positions.{PointsAbout, points_about, boundary_of, points_behind}
 use Rattle.wtf8.proofs.strings.unit_positions.cut.Goals as goal
 
--- The code points before and after a place, and the cut after `n` units.
+-- The code points before and after a `Place`, and the cut after `n` units.
 
 about : {w : List ℕ} (h : IsWellFormed w) (n : ℕ) (place : Place) → IsPlaceOfUnit w n place → PointsAbout h.points n place
 about h n place x = points_about h.points n place (subst (λ v. IsPlaceOfUnit v n place) (sym h.encoded) x)
 
--- the units before the place and after it are all units
+-- the units before and after `place` are all units
 units_counted : {c : List ℕ} {n : ℕ} {place : Place} (x : PointsAbout c n place) → length (units c) ≡ place.units_before + length (units x.cut.back)
 units_counted x = simp (x.cut.joined, units-append, length-append, x.cut.counted)
 
--- the cut is at the place, past the end, or inside the pair at the place
+-- the cut is at `place`, past the end, or inside the pair that begins at `place`
 cut_at_place : {c : List ℕ} {n : ℕ} {place : Place} → PointsAbout c n place → place.units_before ≡ n → CutsUnits c n place.at None
 cut_at_place {c} {n} {place} x e = subst (λ m. CutsUnits c m place.at None) e x.cut
 
