@@ -1,4 +1,4 @@
-// Laws of the encoding: nothing runs here, the contracts are theorems about the definitions.
+// Laws of the encoding: functions that do nothing, whose contracts are theorems. `CALLING.md` says how they are used.
 #![tactic(auto, using(crate::proofs::lemmas::laws::ViewLaws::laws))]
 
 ghost use Rattle.std.specs.List.{All};
@@ -23,30 +23,29 @@ use crate::strings::build::Build;
 use crate::strings::unit_marks::UnitMark;
 use crate::strings::view::Wtf8;
 
-/// Each list of 16-bit units has exactly one reading as code points of which no two would join, and only such lists
-/// have one.
+/// Each list of 16-bit units has exactly one reading: a list of code points with these units, in which no lead
+/// surrogate is directly before a trail surrogate. Only lists of 16-bit units have a reading.
 pub fn law_one_reading()
     ensures one { UnitsHaveOneReading }
     ensures of_units { ReadingsAreOfUnits }
 {}
 
-/// Each list of 16-bit units has exactly one well-formed form in bytes, and well-formed bytes are the form of exactly
-/// one list. So two strings have equal bytes exactly where they have equal units.
+/// Each list of 16-bit units has exactly one WTF-8 form, and well-formed bytes are the form of exactly one list. So two
+/// strings have equal bytes if and only if they have equal units.
 pub fn law_one_form()
     ensures one { UnitsHaveOneForm }
     ensures back { FormsAreOfOneList }
     ensures equal { EqualFormsHaveEqualUnits }
 {}
 
-/// No encoding of a code point begins the encoding of another, so bytes can be read from the front in one way only.
+/// No code point's encoding is a prefix of another's, so bytes can be decoded from the front in one way only.
 pub fn law_prefix_free()
     ensures begins { NoEncodingBeginsAnother }
     ensures reads { BytesBeginWithOnePoint }
 {}
 
-/// The order of bytes is the order of code points: of any two lists of code points the bytes are equal exactly where the
-/// lists are, and one stands before the other exactly where its list does. The comparison that sorts and searches of
-/// the standard library speak of is that of the code points too, and says which list stands before the other.
+/// Byte order is code point order: two lists of code points are equal, or one comes before the other, if and only if
+/// the same is true of their bytes. The standard library's comparison of slices gives this order for both.
 pub fn law_byte_order()
     ensures same { EqualBytesAreOfEqualPoints }
     ensures before { ByteOrderIsPointOrder }
@@ -54,9 +53,9 @@ pub fn law_byte_order()
     ensures order { ComparisonIsOrder }
 {}
 
-/// The form of two lists of units, one behind the other, by the two forms: where a lead surrogate ends the first list
-/// and a trail surrogate begins the second, their six bytes become the four of the code point that they stand for;
-/// else the one form stands behind the other. This holds wherever a list was cut in two, also inside a pair.
+/// The form of two concatenated lists of units is the concatenation of their forms, unless a lead surrogate ends the
+/// first list and a trail surrogate begins the second: then the four bytes of the pair replace the six of the two
+/// surrogates. This holds for every cut of a list in two, even inside a pair.
 pub fn law_concat()
     ensures pair { GlueMakesPair }
     ensures others { GlueKeepsOthers }
@@ -66,8 +65,8 @@ pub fn law_concat()
     ensures other_bytes { OthersFormBoth }
 {}
 
-/// Appending is associative, the empty string changes nothing at either end, and what is cut at a code point boundary,
-/// or at a number of units, and appended again is the whole.
+/// Appending is associative, and the empty string changes nothing at either end. A string that is cut at a code point
+/// boundary, or after a number of units, is whole again if its parts are appended.
 pub fn law_append()
     ensures associative { GlueIsAssociative }
     ensures empty_front { EmptyFrontIsNeutral }
@@ -76,20 +75,19 @@ pub fn law_append()
     ensures cut { FirstUnitsAndRestAreWhole }
 {}
 
-/// For each list of units and each list of building calls there is exactly one outcome and exactly one count of refused
-/// truncations.
+/// From each list of units, a list of building calls has one outcome and one count of refused truncations.
 pub fn law_one_run()
     ensures { CallsRunOnce }
 {}
 
-/// Runs one after the other are the run of both lists of calls, with their counts of refused truncations added.
+/// Running two lists of calls in turn is running their concatenation, and their counts of refused truncations add up.
 pub fn law_runs_add_up()
     ensures { RunsAddUp }
 {}
 
-/// Code point boundaries: the start, the end and both sides of a byte below 0x80 are boundaries, none is beyond the end,
-/// and those of a front or a back are those of the whole, counted from the start or from the cut. Such a byte is a unit
-/// by itself, and such a number that is none of the bytes is none of the units.
+/// The start, the end and both sides of an ASCII byte are code point boundaries, none is past the end, and a front or a
+/// back has the boundaries of the whole, counted from the start or from the cut. An ASCII byte is one unit, and an
+/// ASCII value that does not occur in the bytes does not occur in the units.
 pub fn law_positions()
     ensures start { StartIsBoundary }
     ensures end { EndIsBoundary }
@@ -103,16 +101,15 @@ pub fn law_positions()
     ensures back_in_whole { BackBoundariesAreOfWhole }
 {}
 
-/// Marks of strings: each position is one where a string has as many bytes as units, and a mark before the last unit stays
-/// one where units are appended, also where a lead surrogate and a trail surrogate meet.
+/// If a string's bytes and units are equal in number, every position is a mark. A mark before the last unit is still a
+/// mark after units are appended, even if the last unit becomes part of a pair.
 pub fn law_marks()
     ensures equal { EqualCountsAreMarks }
     ensures kept { MarksStay }
 {}
 
-/// The position of a mark of this view is a code point boundary, with exactly the units that the mark counts before it and
-/// the others behind it. A caller calls it with the view and the mark: `boundary` then holds with nothing more written, and
-/// `front` and `back` are cited with the lists of units that they are asked of.
+/// The position of a mark of this view is a code point boundary: exactly the units that the mark counts are before it,
+/// and the others after it. `boundary` needs no citation; `front` and `back` are cited with their list of units.
 pub fn law_mark(view: Wtf8<'_>, mark: UnitMark)
     requires { IsMarkOf view mark }
     ensures boundary { IsBoundary (view_units view.entry) mark.position }
@@ -120,16 +117,15 @@ pub fn law_mark(view: Wtf8<'_>, mark: UnitMark)
     ensures back { (v : List ℕ) → IsBack (view_units view.entry) mark.position v → v ≡ drop mark.units (view_units view.entry) }
 {}
 
-/// Where a number of units divides a pair of this view, the unit before is a lead and the one behind a trail. A caller
-/// calls it with the view and the number, and has nothing to cite.
+/// If a pair of this view is divided after `units` units, a lead is directly before the cut and a trail after it.
 pub fn law_divided_pair(view: Wtf8<'_>, units: usize)
     ensures inside { DividesPair (view_units view.entry) units → (0 < units) × (units < length (view_units view.entry)) }
     ensures lead { DividesPair (view_units view.entry) units → IsLead (slice_index (view_units view.entry) (units - 1)) }
     ensures trail { DividesPair (view_units view.entry) units → IsTrail (slice_index (view_units view.entry) units) }
 {}
 
-/// How long forms are: a beginning is no longer than the whole, and two lists together are no longer than both of them.
-/// So a string has room for units whose form is no longer than the room that is left, or that fit within it.
+/// The form of the first units of a list is no longer than that of the list, and the form of two lists together no
+/// longer than their two forms. So units fit into a string if their form fits into its spare capacity.
 pub fn law_room()
     ensures beginning { BeginningsAreNoLonger }
     ensures both { BothAreNoLonger }
@@ -137,15 +133,15 @@ pub fn law_room()
     ensures fits { WhatFitsIsFound }
 {}
 
-/// How many code points, units and bytes there are: a code point has one to four bytes, and code points are at most as
-/// many as units, these at most as many as bytes.
+/// A code point has one to four bytes. A list of code points has no more code points than units, no more units than
+/// bytes, and at most three bytes for each unit.
 pub fn law_lengths()
     ensures encoding { PointsHaveOneToFourBytes }
     ensures lists { ListsHaveLengths }
 {}
 
-/// Strings have equal bytes exactly where they have equal units, two buffers, a buffer and a view, or two views; and the
-/// form of a string's units is its bytes.
+/// Two buffers, a buffer and a view, or two views have equal bytes if and only if they have equal units. The form of a
+/// string's units is its bytes.
 pub fn law_equal_strings()
     ensures buffers { EqualBuffersHaveEqualUnits }
     ensures buffer_and_view { EqualBufferAndViewHaveEqualUnits }
@@ -154,21 +150,18 @@ pub fn law_equal_strings()
     ensures form_of_view { FormsAreOfViews }
 {}
 
-/// These two views have equal bytes exactly where they have equal units. A caller calls it with the views, or the views of
-/// buffers, and has nothing to cite.
+/// These two views have equal bytes if and only if they have equal units.
 pub fn law_equal_views(first: Wtf8<'_>, second: Wtf8<'_>)
     ensures { (first.entry.bytes.now ≡ second.entry.bytes.now) ↔ (view_units first.entry ≡ view_units second.entry) }
 {}
 
-/// A number below 0x80 that is none of this view's bytes is none of its units. A caller calls it with the view and the
-/// number, and has nothing to cite.
+/// An ASCII value that does not occur in this view's bytes does not occur in its units.
 pub fn law_no_ascii(view: Wtf8<'_>, byte: u8)
     requires { byte < 0x80 }
     ensures { ((j : ℕ) → j < length view.entry.bytes.now → slice_index view.entry.bytes.now j ≢ byte) → All (λ x. x ≢ byte) (view_units view.entry) }
 {}
 
-/// Code point boundaries of this view: its start, its end, and both sides of each byte below 0x80. A caller calls it with
-/// the view, and has nothing to cite.
+/// The start and the end of this view, and both sides of each of its ASCII bytes, are code point boundaries.
 pub fn law_boundaries(view: Wtf8<'_>)
     ensures start { IsBoundary (view_units view.entry) 0 }
     ensures end { IsBoundary (view_units view.entry) (length view.entry.bytes.now) }
@@ -176,15 +169,14 @@ pub fn law_boundaries(view: Wtf8<'_>)
     ensures behind { (k : ℕ) → k < length view.entry.bytes.now → slice_index view.entry.bytes.now k < 0x80 → IsBoundary (view_units view.entry) (k + 1) }
 {}
 
-/// The code points of this view are the one reading of its units. A caller calls it with the view, and has nothing to
-/// cite.
+/// The code points of this view are a reading of its units, and the only one.
 pub fn law_view_reading(view: Wtf8<'_>)
     ensures reads { Reads (view_points view.entry) (view_units view.entry) }
     ensures one { (c : List ℕ) → Reads c (view_units view.entry) → c ≡ view_points view.entry }
 {}
 
-/// How many code points, units and bytes this view has, each of them fewer than 2⁶⁴. A caller calls it with the view, and
-/// has nothing to cite.
+/// This view has no more code points than units, no more units than bytes, and at most three bytes for each unit. It
+/// has fewer than 2⁶⁴ units, and fewer than 2⁶⁴ bytes.
 pub fn law_view_lengths(view: Wtf8<'_>)
     ensures points { length (view_points view.entry) ≤ length (view_units view.entry) }
     ensures units { length (view_units view.entry) ≤ length view.entry.bytes.now }
@@ -195,7 +187,7 @@ pub fn law_view_lengths(view: Wtf8<'_>)
     prove!(view.len() <= usize::MAX);
 }
 
-/// How many bytes the encoding of this code point has. A caller calls it with the code point, and has nothing to cite.
+/// The encoded length of this code point: one byte below 0x80, two below 0x800, three below 0x10000, else four.
 #[tactic(auto, using(crate::proofs::lemmas::numbers::Encoding::rows))]
 pub fn law_encoding_length(code_point: CodePoint)
     ensures one { number code_point < 0x80 → length (encoding (number code_point)) ≡ 1 }
@@ -206,16 +198,15 @@ pub fn law_encoding_length(code_point: CodePoint)
     ensures at_most_four { length (encoding (number code_point)) ≤ 4 }
 {}
 
-/// A view has the units of two others with an ASCII unit between them exactly where it has their bytes with that byte
-/// between them. A caller calls it with the three views and the number, and has nothing to cite.
+/// `whole` has the units of `front`, the ASCII unit `mark` and the units of `back`, in turn, if and only if it has the
+/// bytes of `front`, the byte `mark` and the bytes of `back`, in turn.
 pub fn law_parted_by_ascii(whole: Wtf8<'_>, front: Wtf8<'_>, mark: u8, back: Wtf8<'_>)
     requires { mark < 0x80 }
     ensures { (whole.entry.bytes.now ≡ front.entry.bytes.now ++ mark ∷ back.entry.bytes.now) ↔ (view_units whole.entry ≡ view_units front.entry ++ mark ∷ view_units back.entry) }
 {}
 
-/// Where the units of a view begin with those of another and an ASCII unit, its bytes begin with the bytes of that other
-/// and that byte, and behind it are the other units. A caller calls it with the two views and the number, and has nothing
-/// to cite.
+/// If the units of `whole` begin with the units of `front` and the ASCII unit `mark`, its bytes begin with the bytes of
+/// `front` and the byte `mark`, and the units after that byte are the rest of its units.
 pub fn law_begins_by_ascii(whole: Wtf8<'_>, front: Wtf8<'_>, mark: u8)
     requires { mark < 0x80 }
     ensures inside { (rest : List ℕ) → view_units whole.entry ≡ view_units front.entry ++ mark ∷ rest → length front.entry.bytes.now < length whole.entry.bytes.now }
@@ -224,49 +215,49 @@ pub fn law_begins_by_ascii(whole: Wtf8<'_>, front: Wtf8<'_>, mark: u8)
     ensures behind { (rest : List ℕ) → view_units whole.entry ≡ view_units front.entry ++ mark ∷ rest → IsBack (view_units whole.entry) (length front.entry.bytes.now + 1) rest }
 {}
 
-/// The characters that the bytes of this view spell are its code points where it holds no surrogate, and those of its
-/// lossy text are its code points made lossy. A caller calls it with the view, and has nothing to cite.
+/// If this view holds no surrogate, the characters of its bytes, read as UTF-8, are its code points. The characters of
+/// its lossy text are its code points with U+FFFD in place of each surrogate.
 pub fn law_view_characters(view: Wtf8<'_>)
     ensures text { AreScalar (view_points view.entry) → chars view.entry.bytes.now ≡ view_points view.entry }
     ensures lossy_text { chars (bytes (lossy (view_points view.entry))) ≡ lossy (view_points view.entry) }
 {}
 
-/// Code points that are scalar values come back where they are encoded and the bytes are read as a text.
+/// The characters of an encoded list of scalar values, read as UTF-8, are that list.
 pub fn law_characters()
     ensures { CharactersComeBack }
 {}
 
-/// From the same units this list of calls leads to the same units, with the same count of refused truncations. A caller
-/// calls it with the list.
+/// From the same units this list of calls leads to the same units, with the same count of refused truncations.
 #[tactic(auto, using(crate::proofs::lemmas::laws::ViewLaws::same_run))]
 pub fn law_same_run(calls: &[Build<'_>])
     ensures units { (u v w : List ℕ) (m n : ℕ) → Run u calls.now v m → Run u calls.now w n → v ≡ w }
     ensures refused { (u v w : List ℕ) (m n : ℕ) → Run u calls.now v m → Run u calls.now w n → m ≡ n }
 {}
 
-/// What an iterator over code points gave until it answered `None` is what it had left, and of a part of it, by `take` or
-/// `skip`, that part.
+/// An iterator over code points that is called until it returns `None` yields all that it had left. With `take` or
+/// `skip` it yields the first of these, or the rest.
 pub fn law_drained_points()
     ensures all { DrainedPointsAreLeft }
     ensures first { DrainedPointsAreTaken }
     ensures rest { DrainedPointsAreBehind }
 {}
 
-/// What a collection was made of by `collect` of an iterator over code points is what that had left, and of a part of it,
-/// by `take` or `skip`, that part.
+/// `collect` of an iterator over code points makes its collection of all that the iterator had left. With `take` or
+/// `skip` it makes it of the first of these, or of the rest.
 pub fn law_collected_points()
     ensures all { CollectedPointsAreLeft }
     ensures first { CollectedPointsAreTaken }
     ensures rest { CollectedPointsAreBehind }
 {}
 
-/// The bytes of a string that has the units of two others, one behind the other, by the bytes of these.
+/// A string with the units of two others, one after the other, has the bytes of both. If a lead ends the first and a
+/// trail begins the second, the four bytes of that pair replace the six of the two surrogates.
 pub fn law_joined_strings()
     ensures joined { StringsAreJoined }
     ensures paired { StringsArePaired }
 {}
 
-/// Scalar values stay as they are where a list is made lossy, so that a text made lossy is the same text.
+/// Making a list of scalar values lossy does not change it, so a text is its own lossy text.
 pub fn law_lossy()
     ensures { ScalarsStay }
 {}

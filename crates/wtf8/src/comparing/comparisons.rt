@@ -1,4 +1,4 @@
-// Equality, order and hash of strings, which are those of their bytes.
+// Equality, order and hash of strings, by their bytes.
 #![tactic(auto, using(crate::proofs::lemmas::comparing::Order::equal_points, crate::proofs::lemmas::comparing::Order::cmp_points, crate::proofs::lemmas::comparing::Order::points_order))]
 
 ghost use Rattle.std.proofs.Common.{rules};
@@ -18,7 +18,7 @@ use std::alloc::Allocator;
 use std::cmp::Ordering;
 use std::hash::{Hash, Hasher};
 
-/// Strings are equal if their bytes are, which is exactly if their code units are.
+/// Strings are equal if their bytes are equal, which is so if and only if their code units are.
 impl<'a> PartialEq for Wtf8<'a> {
     ghost eq = { on (λ view. view.bytes.now) (pointwise nat_eq) };
 
@@ -67,7 +67,7 @@ impl<'a> Ord for Wtf8<'a> {
     ghost matches_eq = { Prim.search (comparing, rules) };
 }
 
-/// Feeds a hasher the bytes and then the byte 0xFE, which no string holds.
+/// Hashes the bytes and then the byte 0xFE, which occurs in no string.
 impl<'a> Hash for Wtf8<'a> {
     ghost hash_input = { λ view. view.bytes.now ∷ fed.u8 254 };
 
@@ -79,7 +79,7 @@ impl<'a> Hash for Wtf8<'a> {
     ghost respects_eq = { Prim.search (hashing, rules) };
 }
 
-/// Buffers are equal if their bytes are, which is exactly if their code units are.
+/// Buffers are equal if their bytes are equal, which is so if and only if their code units are.
 impl<A: Allocator> PartialEq for Wtf8Buf<A> {
     ghost eq = { on (λ string. string.bytes) (pointwise nat_eq) };
 
@@ -128,7 +128,7 @@ impl<A: Allocator> Ord for Wtf8Buf<A> {
     ghost matches_eq = { Prim.search (comparing, rules) };
 }
 
-/// Feeds a hasher what the view feeds it, so that a buffer and a view hash alike.
+/// Hashes what the view hashes, so that a buffer and its view have the same hash.
 impl<A: Allocator> Hash for Wtf8Buf<A> {
     ghost hash_input = { λ string. string.bytes ∷ fed.u8 254 };
 

@@ -1,4 +1,4 @@
-// The order of strings by their 16-bit units.
+// The order of strings by their 16-bit code units.
 ghost use Rattle.std.specs.Cmp.Lexicographic.{slice_cmp};
 ghost use Rattle.std.specs.Ordering.{MatchOrdering, nat_cmp};
 ghost use Rattle.std.specs.Prelude.{◌≡◌, ◌↔◌, IsTrue};
@@ -10,14 +10,14 @@ use crate::lanes::differences::{byte_at, first_difference};
 use crate::strings::view::Wtf8;
 use std::cmp::Ordering;
 
-/// Whether a code point of two units begins at a place.
+/// Whether a code point of two units, whose lead byte is at least 0xF0, begins at index `at`, which may be the end.
 fn pair_begins(bytes: &[u8], at: usize) -> bool
     ensures { IsTrue result ↔ PairBegins bytes.now at }
 {
     at < bytes.len() && 0xF0 <= bytes[at]
 }
 
-/// The order of the units of two strings, one by one.
+/// The order of two strings by code units, compared one by one.
 #[inline(never)]
 fn cmp_one_by_one(own: Wtf8<'_>, others: Wtf8<'_>) -> Ordering
     ensures { result ≡ slice_cmp nat_cmp (view_units own.entry) (view_units others.entry) }

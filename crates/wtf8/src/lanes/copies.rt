@@ -1,13 +1,13 @@
-// Copies of bytes: those of a few by their first and their last block.
+// Copies of bytes, short ones as two overlapping blocks.
 ghost use Rattle.std.specs.Prelude.{◌≡◌, [], ◌++◌, ◌+◌, ◌*◌, ◌<◌, ◌≤◌, length, take, drop, IfOk, IsOk, vec_capacity};
 
 use std::alloc::{AllocError, Allocator};
 use std::simd::prelude::*;
 
-/// How many bytes the call that takes any number copies as fast.
+/// From this length on `extend_from_slice` is as fast as two overlapping blocks.
 const MANY: usize = 32;
 
-/// A copy of bytes. Of none it asks for no memory.
+/// Copies a slice to a new vector. An empty slice requests no memory.
 #[inline(always)]
 pub(crate) fn copied<A: Allocator>(alloc: A, bytes: &[u8]) -> Result<Vec<u8, A>, AllocError>
     ensures items { IfOk result (λ v. v.items ≡ bytes.now) }
@@ -22,7 +22,7 @@ pub(crate) fn copied<A: Allocator>(alloc: A, bytes: &[u8]) -> Result<Vec<u8, A>,
     Ok(copy)
 }
 
-/// Appends fewer than `MANY` bytes, for which there is room.
+/// Appends fewer than `MANY` bytes within the spare capacity.
 #[inline(always)]
 fn push_few<A: Allocator>(bytes: &mut Vec<u8, A>, other: &[u8])
     requires few { length other.now < MANY }
@@ -45,8 +45,8 @@ fn push_few<A: Allocator>(bytes: &mut Vec<u8, A>, other: &[u8])
     }
 }
 
-/// Appends bytes by the first `N` of them and the last `N`, which are all and may overlap. To a vector that nothing else
-/// sees these are two stores.
+/// Appends `N` to `2 * N` bytes within the spare capacity: the first `N` and the last `N`, which may overlap. If
+/// nothing else refers to the vector, these compile to two stores.
 #[inline(always)]
 fn push_ends<const N: usize, A: Allocator>(bytes: &mut Vec<u8, A>, other: &[u8])
     requires lanes { N ≤ u64.BITS }
@@ -61,7 +61,7 @@ fn push_ends<const N: usize, A: Allocator>(bytes: &mut Vec<u8, A>, other: &[u8])
     push_block(bytes, block_at::<N>(other, last));
 }
 
-/// The `N` bytes from a place on.
+/// Loads the `N` bytes at index `at`.
 #[inline(always)]
 fn block_at<const N: usize>(bytes: &[u8], at: usize) -> [u8; N]
     requires lanes { N ≤ u64.BITS }
@@ -71,7 +71,7 @@ fn block_at<const N: usize>(bytes: &[u8], at: usize) -> [u8; N]
     Simd::<u8, N>::from_slice(&bytes[at..]).to_array()
 }
 
-/// Appends a block, for which there is room.
+/// Appends a block within the spare capacity.
 #[inline(always)]
 pub(crate) fn push_block<T: Copy, const N: usize, A: Allocator>(
     items: &mut Vec<T, A>,

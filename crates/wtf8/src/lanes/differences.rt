@@ -1,4 +1,4 @@
-// Whether bytes are equal, and where they first differ, in blocks.
+// Equality, order and first mismatch of byte slices, in SIMD blocks.
 ghost use Rattle.std.specs.Cmp.Lexicographic.{pointwise, slice_cmp};
 ghost use Rattle.std.specs.Ordering.{nat_cmp};
 ghost use Rattle.std.specs.Prelude.{◌≡◌, ◌+◌, ◌*◌, ◌<◌, ◌≤◌, min, length, slice_get, nat_eq, ⊤};
@@ -10,17 +10,17 @@ use crate::lanes::{BLOCK, TURN, VECTOR};
 use std::cmp::Ordering;
 use std::simd::prelude::*;
 
-/// How many bytes short lists have at most.
+/// The most bytes that two overlapping vectors cover, and the stride of the search for a mismatch in longer slices.
 const SHORT: usize = 2 * VECTOR;
 
-/// The byte at a place, or `None` at or past the end.
+/// The byte at index `at`, or `None` at or past the end.
 pub(crate) fn byte_at(bytes: &[u8], at: usize) -> Option<u8>
     ensures { result ≡ slice_get bytes.now at }
 {
     bytes.get(at).copied()
 }
 
-/// Whether `N` bytes are equal.
+/// Whether the `N` bytes at index `at` are equal in both slices.
 #[inline(always)]
 fn is_block_same<const N: usize>(own: &[u8], others: &[u8], at: usize) -> bool
     requires lanes { (0 < N) × (N ≤ u64.BITS) }
@@ -31,7 +31,7 @@ fn is_block_same<const N: usize>(own: &[u8], others: &[u8], at: usize) -> bool
     unlike.to_bitmask() == 0
 }
 
-/// The place of the first difference in `N` bytes that are not equal.
+/// The index of the first mismatch in `at..at + N`, which must contain one.
 #[inline(always)]
 fn place_in_block<const N: usize>(own: &[u8], others: &[u8], at: usize) -> usize
     requires lanes { (0 < N) × (N ≤ u64.BITS) }
@@ -43,7 +43,7 @@ fn place_in_block<const N: usize>(own: &[u8], others: &[u8], at: usize) -> usize
     at + lowest(unlike.to_bitmask())
 }
 
-/// The place of the first difference in `N` bytes, or `None` where they are equal, which is cheaper to ask first.
+/// The index of the first mismatch in `at..at + N`, or `None`. First tests for equality, which is cheaper.
 #[inline(always)]
 fn first_in_block<const N: usize>(own: &[u8], others: &[u8], at: usize) -> Option<usize>
     requires lanes { (0 < N) × (N ≤ u64.BITS) }
@@ -56,7 +56,7 @@ fn first_in_block<const N: usize>(own: &[u8], others: &[u8], at: usize) -> Optio
     Some(place_in_block::<N>(own, others, at))
 }
 
-/// Whether lists of `N` to twice so many bytes are equal.
+/// Whether slices of equal length, `N` to `2 * N` bytes, are equal: two blocks of `N`, which may overlap.
 #[inline(always)]
 fn are_ends_same<const N: usize>(own: &[u8], others: &[u8]) -> bool
     requires lanes { (0 < N) × (N ≤ u64.BITS) }
@@ -67,7 +67,7 @@ fn are_ends_same<const N: usize>(own: &[u8], others: &[u8]) -> bool
     is_block_same::<N>(own, others, 0) & is_block_same::<N>(own, others, own.len() - N)
 }
 
-/// Whether two lists of bytes are equal.
+/// Whether two slices are equal.
 #[inline]
 pub(crate) fn equal(own: &[u8], others: &[u8]) -> bool
     ensures { result ≡ pointwise nat_eq own.now others.now }
@@ -81,7 +81,7 @@ pub(crate) fn equal(own: &[u8], others: &[u8]) -> bool
     BLOCK < own.len() && are_many_same(own, others)
 }
 
-/// Whether two lists of the same length are equal. Where they are longer than a block the answer is no.
+/// Whether two slices of equal length, at most `BLOCK` bytes, are equal. False for longer slices, even for equal ones.
 #[inline(always)]
 fn is_short_same(own: &[u8], others: &[u8]) -> bool
     requires { length own.now ≡ length others.now }
@@ -100,7 +100,7 @@ fn is_short_same(own: &[u8], others: &[u8]) -> bool
     len <= BLOCK && are_ends_same::<32>(own, others)
 }
 
-/// Whether two lists of the same length, no longer than a vector, are equal.
+/// Whether two slices of equal length, at most `VECTOR` bytes, are equal.
 #[inline(always)]
 fn are_few_same(own: &[u8], others: &[u8]) -> bool
     requires few { length own.now ≤ VECTOR }
@@ -121,7 +121,7 @@ fn are_few_same(own: &[u8], others: &[u8]) -> bool
     true
 }
 
-/// Whether two lists of the same length, longer than a block, are equal.
+/// Whether two slices of equal length, more than `BLOCK` bytes, are equal.
 #[inline(never)]
 fn are_many_same(own: &[u8], others: &[u8]) -> bool
     requires many { BLOCK < length own.now }
@@ -136,7 +136,7 @@ fn are_many_same(own: &[u8], others: &[u8]) -> bool
     first_in_long(own, others, len).is_none()
 }
 
-/// The order of two lists of bytes: the first ones that differ decide, and a beginning stands before the longer list.
+/// The lexicographic order of two slices: the first mismatch decides, and a prefix comes before the longer slice.
 #[inline(never)]
 pub(crate) fn order(own: &[u8], others: &[u8]) -> Ordering
     ensures { result ≡ slice_cmp nat_cmp own.now others.now }
@@ -148,7 +148,7 @@ pub(crate) fn order(own: &[u8], others: &[u8]) -> Ordering
     order_of_long(own, others, end)
 }
 
-/// The order of two lists that are both longer than short ones.
+/// The order of two slices that both have more than `SHORT` bytes; `end` is the length of the shorter one.
 #[inline(never)]
 fn order_of_long(own: &[u8], others: &[u8], end: usize) -> Ordering
     requires long { SHORT < end }
@@ -158,7 +158,7 @@ fn order_of_long(own: &[u8], others: &[u8], end: usize) -> Ordering
     order_at(own, others, first_in_long(own, others, end))
 }
 
-/// The order of two lists by the first place in both where they differ.
+/// The order of two slices: `place` is the index of their first mismatch, or `None` if one is a prefix of the other.
 #[inline(always)]
 fn order_at(own: &[u8], others: &[u8], place: Option<usize>) -> Ordering
     requires { IsFirstBelow (DifferAt own.now others.now) 0 (min (length own.now) (length others.now)) place }
@@ -173,7 +173,7 @@ fn order_at(own: &[u8], others: &[u8], place: Option<usize>) -> Ordering
     }
 }
 
-/// The first place where two lists of bytes differ, which is the end of the shorter one where none before it does.
+/// The index of the first mismatch, or the length of the shorter slice if it is a prefix of the other.
 #[inline]
 pub(crate) fn first_difference(own: &[u8], others: &[u8]) -> usize
     ensures { IsFirstDifference own.now others.now result }
@@ -185,7 +185,7 @@ pub(crate) fn first_difference(own: &[u8], others: &[u8]) -> usize
     first_in_long(own, others, end).unwrap_or(end)
 }
 
-/// The first place before `end` where bytes differ, for no more bytes than short lists have.
+/// The index of the first mismatch in `0..end`, at most `SHORT` bytes.
 #[inline(always)]
 fn first_in_short(own: &[u8], others: &[u8], end: usize) -> Option<usize>
     requires short { end ≤ SHORT }
@@ -204,8 +204,8 @@ fn first_in_short(own: &[u8], others: &[u8], end: usize) -> Option<usize>
     first_one_by_one(own, others, end)
 }
 
-/// The first place before `end` where bytes differ, for more bytes than short lists have. Many lists differ in the first
-/// vector; what is equal behind it is skipped in turns.
+/// The index of the first mismatch in `0..end`, more than `SHORT` bytes. Many slices differ in the first vector, which
+/// is compared first. Equal bytes after it are skipped in strides of `TURN`.
 #[inline(always)]
 fn first_in_long(own: &[u8], others: &[u8], end: usize) -> Option<usize>
     requires long { SHORT < end }
@@ -222,7 +222,7 @@ fn first_in_long(own: &[u8], others: &[u8], end: usize) -> Option<usize>
     first_in_blocks(own, others, at, end)
 }
 
-/// The place behind all turns that are equal, where the first vector is.
+/// Skips equal bytes after the first vector, which is equal, in strides of `TURN`. Returns the index after them.
 #[inline(always)]
 fn skip_turns(own: &[u8], others: &[u8], end: usize) -> usize
     requires long { VECTOR ≤ end }
@@ -241,8 +241,8 @@ fn skip_turns(own: &[u8], others: &[u8], end: usize) -> usize
     at
 }
 
-/// The first place before an end where bytes differ, of which those before another place are equal: by two vectors, of which
-/// the last ones may begin among those before.
+/// The index of the first mismatch in `from..end`, `SHORT` bytes at a time; everything before `from` is equal. The last
+/// `SHORT` bytes may overlap equal ones before them.
 #[inline(always)]
 fn first_in_blocks(own: &[u8], others: &[u8], from: usize, end: usize) -> Option<usize>
     requires long { SHORT ≤ end }
@@ -261,7 +261,7 @@ fn first_in_blocks(own: &[u8], others: &[u8], from: usize, end: usize) -> Option
     first_in_block::<SHORT>(own, others, end - SHORT)
 }
 
-/// The first place from another one on and before an end where bytes differ, of `N` to twice so many.
+/// The index of the first mismatch in `from..end`, `N` to `2 * N` bytes: two blocks of `N`, which may overlap.
 #[inline(always)]
 fn first_in_ends<const N: usize>(
     own: &[u8],
@@ -280,7 +280,7 @@ fn first_in_ends<const N: usize>(
     first_in_block::<N>(own, others, end - N)
 }
 
-/// The first place before an end where bytes differ, one after another.
+/// The index of the first mismatch in `0..end`, byte by byte.
 #[inline(always)]
 fn first_one_by_one(own: &[u8], others: &[u8], end: usize) -> Option<usize>
     requires { (end ≤ length own.now) × (end ≤ length others.now) }

@@ -1,4 +1,4 @@
-// Hexadecimal text.
+// Bytes written as upper-case hexadecimal text.
 ghost use Rattle.std.specs.List.{flat_map};
 ghost use Rattle.std.specs.Prelude.{◌≡◌, [], ◌++◌, ◌+◌, ◌*◌, ◌<◌, ◌≤◌, length, map, take, vec_len, vec_capacity, IfOk, OnOk, OnErr, IsOk};
 ghost use Rattle.std.specs.Simd.Lanes.{Each1};
@@ -10,31 +10,31 @@ use crate::lanes::VECTOR;
 use std::alloc::{AllocError, Allocator};
 use std::simd::prelude::*;
 
-/// How many places the digits of a vector of bytes take, with a space before each byte.
+/// The length of the text of one vector: a space and two digits for each byte.
 const SPACED: usize = 3 * VECTOR;
 
-/// The upper-case digits at their values.
+/// The upper-case digits, each at the index of its value.
 const DIGITS: [u8; VECTOR] = *b"0123456789ABCDEF";
 
-/// The places of the first eight lanes of two vectors, in turn.
+/// Interleaves lanes 0 to 7 of the high digits and of the low digits.
 const FRONT: [usize; VECTOR] = [0, 16, 1, 17, 2, 18, 3, 19, 4, 20, 5, 21, 6, 22, 7, 23];
 
-/// The two digits of each of eight lanes in the middle, high and low in turn.
+/// Interleaves lanes 4 to 11 of the high digits and of the low digits.
 const MIDDLE: [usize; VECTOR] = [4, 20, 5, 21, 6, 22, 7, 23, 8, 24, 9, 25, 10, 26, 11, 27];
 
-/// The two digits of each of the last eight lanes, high and low in turn.
+/// Interleaves lanes 8 to 15 of the high digits and of the low digits.
 const BACK: [usize; VECTOR] = [8, 24, 9, 25, 10, 26, 11, 27, 12, 28, 13, 29, 14, 30, 15, 31];
 
-/// The first sixteen places of a text that has a space before each pair of the front's lanes.
+/// Bytes 0 to 15 of the spaced text, from the digits that `FRONT` interleaves; 16 is a space.
 const SPACED_FRONT: [usize; VECTOR] = [16, 0, 1, 16, 2, 3, 16, 4, 5, 16, 6, 7, 16, 8, 9, 16];
 
-/// The next sixteen, of the middle's lanes.
+/// Bytes 16 to 31 of the spaced text, from the digits that `MIDDLE` interleaves; 16 is a space.
 const SPACED_MIDDLE: [usize; VECTOR] = [2, 3, 16, 4, 5, 16, 6, 7, 16, 8, 9, 16, 10, 11, 16, 12];
 
-/// The last sixteen, of the back's lanes.
+/// Bytes 32 to 47 of the spaced text, from the digits that `BACK` interleaves; 16 is a space.
 const SPACED_BACK: [usize; VECTOR] = [5, 16, 6, 7, 16, 8, 9, 16, 10, 11, 16, 12, 13, 16, 14, 15];
 
-/// The upper-case digit of a number below 16.
+/// The upper-case digit of a value below 16.
 #[inline(always)]
 #[tactic(auto, using(crate::proofs::lemmas::lanes::Digits::digit_at))]
 pub(crate) fn upper_digit(value: u8) -> char
@@ -45,7 +45,7 @@ pub(crate) fn upper_digit(value: u8) -> char
     DIGITS[usize::from(value)] as char
 }
 
-/// The digits of numbers below 16.
+/// The upper-case digits of values below 16, by a table lookup in lanes.
 #[inline(always)]
 fn upper_digits(values: u8x16) -> u8x16
     requires { Each1 (λ value. value < 16) values }
@@ -54,7 +54,7 @@ fn upper_digits(values: u8x16) -> u8x16
     u8x16::from_array(DIGITS).swizzle_dyn(values)
 }
 
-/// A space and two digits for each byte of a vector.
+/// The text of one vector: a space and two digits for each byte.
 #[inline(always)]
 #[tactic(auto, using(crate::proofs::lemmas::lanes::Digits::highs_below, crate::proofs::lemmas::lanes::Digits::lows_below, crate::proofs::lemmas::lanes::Digits::block_text))]
 fn spaced_block(bytes: u8x16) -> [u8; SPACED]
@@ -76,7 +76,7 @@ fn spaced_block(bytes: u8x16) -> [u8; SPACED]
     text
 }
 
-/// Appends the digits of a vector of bytes with a space before each byte. There is room for them.
+/// Appends a space and two digits for each byte of a vector, within the spare capacity.
 #[inline(always)]
 fn push_spaced_block<A: Allocator>(text: &mut Vec<u8, A>, bytes: u8x16)
     requires { vec_len text.old + SPACED ≤ vec_capacity text.old }
@@ -88,7 +88,7 @@ fn push_spaced_block<A: Allocator>(text: &mut Vec<u8, A>, bytes: u8x16)
     let _ = text.extend_from_slice(&block);
 }
 
-/// Appends a byte as two digits. There is room for them.
+/// Appends the two digits of a byte, within the spare capacity.
 #[inline(always)]
 fn push_byte<A: Allocator>(text: &mut Vec<u8, A>, byte: u8)
     requires { vec_len text.old + 2 ≤ vec_capacity text.old }
@@ -99,7 +99,7 @@ fn push_byte<A: Allocator>(text: &mut Vec<u8, A>, byte: u8)
     text.push_reserved(upper_digit(byte % 16) as u8);
 }
 
-/// Appends the digits of bytes with a space before each byte. There is room for them.
+/// Appends a space and two digits for each byte, within the spare capacity.
 #[inline(always)]
 fn push_spaced<A: Allocator>(text: &mut Vec<u8, A>, bytes: &[u8])
     requires { vec_len text.old + 3 * length bytes.now ≤ vec_capacity text.old }
@@ -111,8 +111,8 @@ fn push_spaced<A: Allocator>(text: &mut Vec<u8, A>, bytes: &[u8])
     }
 }
 
-/// Appends the bytes as two upper-case digits each, with one space between. It first finds room for three places a byte;
-/// after a refusal the text is as before.
+/// Appends two upper-case digits for each byte, with a space between bytes. First reserves three bytes of text for each
+/// byte; if that is refused, the text is unchanged.
 pub(crate) fn push_hex<A: Allocator>(text: &mut Vec<u8, A>, bytes: &[u8]) -> Result<(), AllocError>
     ensures ok { OnOk result (text.new.items ≡ text.old.items ++ hex bytes.now) }
     ensures kept { OnErr result (text.new.items ≡ text.old.items) }
@@ -132,8 +132,8 @@ pub(crate) fn push_hex<A: Allocator>(text: &mut Vec<u8, A>, bytes: &[u8]) -> Res
     Ok(())
 }
 
-/// The bytes as two upper-case digits each, with one space between. It finds room for all of them at first, and asks for
-/// no memory where there is no byte.
+/// Two upper-case digits for each byte, with a space between bytes. Reserves three bytes of text for each byte in one
+/// request, and requests no memory for an empty slice.
 pub(crate) fn hex_text<A: Allocator>(alloc: A, bytes: &[u8]) -> Result<String<A>, AllocError>
     ensures ok { IfOk result (λ t. string_bytes t ≡ hex bytes.now) }
     ensures empty { bytes.now ≡ [] → IsOk result }

@@ -1,8 +1,8 @@
-// Masks of comparisons in lanes.
+// Bitmasks of lane comparisons: bit `k` is lane `k`.
 ghost use Rattle.std.specs.Prelude.{◌≢◌};
 ghost use Rattle.wtf8.specs.private.FirstPlace.{IsFirstSet};
 
-/// The first lane of a mask that is set, by the bits of its lanes, or `None` where none is.
+/// The index of the first lane that is set in a mask, or `None` if no lane is set.
 #[inline(always)]
 pub(crate) fn first_set(bits: u64) -> Option<usize>
     ensures { IsFirstSet bits result }
@@ -13,7 +13,7 @@ pub(crate) fn first_set(bits: u64) -> Option<usize>
     Some(lowest(bits))
 }
 
-/// The first lane of a mask that is set, where one is.
+/// The index of the first lane that is set in a mask, which must not be 0.
 #[inline(always)]
 pub(crate) fn lowest(bits: u64) -> usize
     requires { bits ≢ 0 }

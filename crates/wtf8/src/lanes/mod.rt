@@ -1,15 +1,15 @@
-// Many bytes looked at, copied or spelled together. Of the rest of the library these modules know surrogates alone.
+// Bytes compared, searched, copied and written as hexadecimal in SIMD blocks. Of WTF-8 only surrogates are known here.
 pub(crate) mod copies;
 pub(crate) mod differences;
 pub(crate) mod digits;
 pub(crate) mod masks;
 pub(crate) mod search;
 
-/// How many bytes one of the processor's vectors holds.
+/// The number of bytes in one of the processor's vectors.
 pub(crate) const VECTOR: usize = 16;
 
-/// How many bytes are looked at together where so many are left.
+/// The number of bytes that are read at once from long input.
 pub(crate) const BLOCK: usize = 4 * VECTOR;
 
-/// How many bytes are looked at in one turn of a loop over many.
+/// The stride of the loop over long slices that are compared: two blocks.
 pub(crate) const TURN: usize = 2 * BLOCK;

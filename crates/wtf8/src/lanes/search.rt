@@ -1,4 +1,4 @@
-// The search for surrogates in bytes, and their replacement.
+// Finds the encodings of surrogates in bytes, and replaces them by U+FFFD.
 ghost use Rattle.std.specs.Prelude.{◌≡◌, ◌∷◌, ◌++◌, ◌+◌, ◌<◌, ◌≤◌, length, take, drop};
 ghost use Rattle.wtf8.specs.Form.{IsWellFormed, bytes as bytes_of};
 ghost use Rattle.wtf8.specs.private.FirstPlace.{IsFirst, IsFirstBelow, Nowhere};
@@ -9,10 +9,10 @@ use crate::lanes::masks::first_set;
 use std::alloc::Allocator;
 use std::simd::prelude::*;
 
-/// The bytes of U+FFFD, the replacement character: as many as any surrogate has.
+/// The encoding of U+FFFD, the replacement character: three bytes, like the encoding of each surrogate.
 const REPLACEMENT: [u8; 3] = [0xEF, 0xBF, 0xBD];
 
-/// The first lane in which one vector holds ED and another one A0 or more, or `None`.
+/// The first lane with 0xED in `firsts` and at least 0xA0 in `seconds`, which are the first two bytes of a surrogate.
 #[inline(always)]
 fn block(firsts: u8x32, seconds: u8x32) -> Option<usize>
     ensures { IsFirstBelow (BeginsInLane firsts seconds) 0 32 result }
@@ -21,7 +21,7 @@ fn block(firsts: u8x32, seconds: u8x32) -> Option<usize>
     first_set(begin.to_bitmask())
 }
 
-/// The place of the first surrogate that begins at one of 32 places, which are not the last.
+/// The index of the first surrogate that begins in `at..at + 32`. Reads one byte past that range.
 #[inline(always)]
 fn first_in_block(bytes: &[u8], at: usize) -> Option<usize>
     requires { at + 32 < length bytes.now }
@@ -35,7 +35,7 @@ fn first_in_block(bytes: &[u8], at: usize) -> Option<usize>
     }
 }
 
-/// The place of the first surrogate that begins at `from` or behind it, in any bytes.
+/// The index of the first surrogate that begins at `from` or after it. The bytes need not be well-formed.
 pub(crate) fn next_surrogate(bytes: &[u8], from: usize) -> Option<usize>
     ensures { IsFirst (SurrogateAt bytes.now) from result }
 {
@@ -52,7 +52,7 @@ pub(crate) fn next_surrogate(bytes: &[u8], from: usize) -> Option<usize>
     first_one_by_one(bytes, at)
 }
 
-/// The place of the first surrogate, one place after another.
+/// The index of the first surrogate that begins at `from` or after it, byte by byte.
 #[inline(always)]
 fn first_one_by_one(bytes: &[u8], from: usize) -> Option<usize>
     ensures { IsFirst (SurrogateAt bytes.now) from result }
@@ -65,7 +65,7 @@ fn first_one_by_one(bytes: &[u8], from: usize) -> Option<usize>
     None
 }
 
-/// Writes the replacement character over the three bytes from a place on.
+/// Overwrites the three bytes at index `at` with U+FFFD.
 fn write_replacement<A: Allocator>(bytes: &mut Vec<u8, A>, at: usize)
     requires { at + 3 ≤ length bytes.old.items }
     ensures { bytes.new.items ≡ take at bytes.old.items ++ (0xEF ∷ 0xBF ∷ 0xBD ∷ drop (at + 3) bytes.old.items) }
@@ -73,7 +73,7 @@ fn write_replacement<A: Allocator>(bytes: &mut Vec<u8, A>, at: usize)
     bytes[at..at + 3].copy_from_slice(&REPLACEMENT);
 }
 
-/// Overwrites each surrogate's bytes by those of the replacement character.
+/// Overwrites each surrogate with U+FFFD.
 pub(crate) fn replace_surrogates<A: Allocator>(bytes: &mut Vec<u8, A>)
     requires { IsWellFormed bytes.old.items }
     ensures { (h : IsWellFormed bytes.old.items) → bytes.new.items ≡ bytes_of (lossy h.points) }

@@ -10,8 +10,8 @@ use std::fmt;
 
 /// A Unicode code point: a number from 0 to 0x10FFFF, surrogates included.
 ///
-/// A `char` is a scalar value, a code point that is no surrogate (0xD800 to 0xDFFF). Equality, order and what a hasher
-/// is fed are those of the number, a `u32`.
+/// A `char` is a scalar value, a code point that is not a surrogate (0xD800 to 0xDFFF). Equality, order and hash are by
+/// the number, a `u32`.
 #[derive(Clone, Copy, PartialEq, Eq, PartialOrd, Ord, Hash)]
 pub struct CodePoint {
     value: u32,
@@ -58,7 +58,7 @@ impl CodePoint {
         self.value
     }
 
-    /// The `char` with this number, or `None` for a surrogate.
+    /// The code point as a `char`, or `None` for a surrogate.
     pub fn to_char(&self) -> Option<char>
         ensures none { IsNone result ↔ IsSurrogate (number self.now) }
         ensures some { IfSome result (λ c. c ≡ number self.now) }
@@ -66,7 +66,7 @@ impl CodePoint {
         char::from_u32(self.value)
     }
 
-    /// The `char` with this number, or U+FFFD, the replacement character, for a surrogate.
+    /// The code point as a `char`, or U+FFFD, the replacement character, for a surrogate.
     pub fn to_char_lossy(&self) -> char
         ensures scalar { ¬ IsSurrogate (number self.now) → result ≡ number self.now }
         ensures surrogate { IsSurrogate (number self.now) → result ≡ 0xFFFD }

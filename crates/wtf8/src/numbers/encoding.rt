@@ -1,4 +1,4 @@
-// The encoding of one code point: written at the end of bytes, and read from their front.
+// Encodes one code point at the end of a byte vector, and decodes the one at the front of a byte slice.
 ghost use Rattle.std.specs.Prelude.{◌≡◌, ◌++◌, ◌+◌, ◌-◌, ◌/◌, ◌%◌, ◌^◌, ◌<◌, ◌≤◌, ◌↔◌, ◌⊎◌};
 ghost use Rattle.std.specs.Prelude.{ℕ, List, IsTrue, length, slice_index, OnOk, IsOk, vec_len, vec_capacity};
 ghost use Rattle.wtf8.specs.CodePoint.{number};
@@ -10,7 +10,7 @@ ghost use Rattle.wtf8.specs.private.UnitSteps.{trail_by};
 use crate::numbers::code_point::CodePoint;
 use std::alloc::{AllocError, Allocator};
 
-/// The byte of the last six bits of a number, as each byte behind a first one is.
+/// The continuation byte that holds the low six bits of `value`.
 #[inline(always)]
 fn six_bits(value: u32) -> u8
     ensures { result ≡ 0x80 + value % 64 }
@@ -18,7 +18,7 @@ fn six_bits(value: u32) -> u8
     (0x80 + value % 64) as u8
 }
 
-/// The two bytes of a code point from 0x80 to 0x7FF.
+/// The encoding of a code point from 0x80 to 0x7FF.
 #[tactic(auto, using(crate::proofs::lemmas::numbers::Encoding::encoding_two))]
 fn two_bytes(value: u32) -> [u8; 2]
     requires low { 0x80 ≤ value }
@@ -28,7 +28,7 @@ fn two_bytes(value: u32) -> [u8; 2]
     [(0xC0 + value / 64) as u8, six_bits(value)]
 }
 
-/// The three bytes of a code point from 0x800 to 0xFFFF, a surrogate like any other.
+/// The encoding of a code point from 0x800 to 0xFFFF, surrogates included.
 #[tactic(auto, using(crate::proofs::lemmas::numbers::Encoding::encoding_three))]
 pub(crate) fn three_bytes(value: u32) -> [u8; 3]
     requires low { 0x800 ≤ value }
@@ -42,7 +42,7 @@ pub(crate) fn three_bytes(value: u32) -> [u8; 3]
     ]
 }
 
-/// The four bytes of a supplementary code point.
+/// The encoding of a supplementary code point.
 #[tactic(auto, using(crate::proofs::lemmas::numbers::Encoding::encoding_four))]
 pub(crate) fn four_bytes(value: u32) -> [u8; 4]
     requires low { 0x10000 ≤ value }
@@ -57,7 +57,7 @@ pub(crate) fn four_bytes(value: u32) -> [u8; 4]
     ]
 }
 
-/// How many bytes there is room for behind those that are there.
+/// The spare capacity in bytes.
 #[inline(always)]
 pub(crate) fn spare_room<A: Allocator>(bytes: &Vec<u8, A>) -> usize
     ensures { vec_len bytes.now + result ≡ vec_capacity bytes.now }
@@ -65,8 +65,8 @@ pub(crate) fn spare_room<A: Allocator>(bytes: &Vec<u8, A>) -> usize
     bytes.capacity() - bytes.len()
 }
 
-/// Finds room for some bytes, which are as before. Their number is compared behind that, so that the compiler knows it in a
-/// loop that follows, and keeps it in a register.
+/// Reserves `count` bytes of spare capacity. The truncation removes nothing: it tells the compiler the length, which a
+/// loop that follows then keeps in a register.
 #[inline(always)]
 pub(crate) fn reserve<A: Allocator>(bytes: &mut Vec<u8, A>, count: usize) -> Result<(), AllocError>
     ensures items { bytes.new.items ≡ bytes.old.items }
@@ -80,7 +80,7 @@ pub(crate) fn reserve<A: Allocator>(bytes: &mut Vec<u8, A>, count: usize) -> Res
     Ok(())
 }
 
-/// Finds room for some bytes where the spare room is not enough. The bytes are as before.
+/// Reserves `count` bytes of spare capacity if `spare`, the present spare capacity, is not enough.
 #[inline(always)]
 fn find_room<A: Allocator>(
     bytes: &mut Vec<u8, A>,
@@ -100,7 +100,7 @@ fn find_room<A: Allocator>(
     bytes.reserve(count)
 }
 
-/// Appends the encoding of a code point, whatever stands before it. After a refusal the bytes are as before.
+/// Appends a code point's encoding, without joining a trail to a lead before it. A refusal leaves `bytes` unchanged.
 #[inline(always)]
 pub(crate) fn append<A: Allocator>(
     bytes: &mut Vec<u8, A>,
@@ -112,7 +112,7 @@ pub(crate) fn append<A: Allocator>(
     append_into(bytes, spare, code_point)
 }
 
-/// Appends the bytes of a code point where the spare room is known.
+/// Appends the encoding of a code point; `spare` is the present spare capacity.
 #[inline(always)]
 #[tactic(auto, using(crate::proofs::lemmas::numbers::Encoding::encoding_one))]
 pub(crate) fn append_into<A: Allocator>(
@@ -149,14 +149,14 @@ pub(crate) fn append_into<A: Allocator>(
     Ok(())
 }
 
-/// Whether a byte is the first one of a code point's encoding: the others are from 0x80 to 0xBF.
+/// Whether a byte begins an encoding: it is not a continuation byte, which is from 0x80 to 0xBF.
 pub(crate) fn begins_code_point(byte: u8) -> bool
     ensures { IsTrue result ↔ ((byte < 0x80) ⊎ (0xC0 ≤ byte)) }
 {
     byte < 0x80 || 0xC0 <= byte
 }
 
-/// The low six bits of a byte behind the first one.
+/// The low six bits of a continuation byte.
 pub(crate) fn low_bits(byte: u8) -> u32
     requires inside { 0x80 ≤ byte }
     ensures { result + 0x80 ≡ byte }
@@ -164,7 +164,7 @@ pub(crate) fn low_bits(byte: u8) -> u32
     u32::from(byte - 0x80)
 }
 
-/// The number of a code point of two bytes at the front of the bytes.
+/// The code point at the front of `bytes`, encoded in two bytes.
 #[inline(always)]
 pub(crate) fn read_two(bytes: &[u8]) -> u32
     requires front { BeginsWithPoint bytes.now }
@@ -176,7 +176,7 @@ pub(crate) fn read_two(bytes: &[u8]) -> u32
     (u32::from(bytes[0]) - 0xC0) * 64 + low_bits(bytes[1])
 }
 
-/// The number of a code point of three bytes at the front of the bytes.
+/// The code point at the front of `bytes`, encoded in three bytes.
 #[inline(always)]
 pub(crate) fn read_three(bytes: &[u8]) -> u32
     requires front { BeginsWithPoint bytes.now }
@@ -189,7 +189,7 @@ pub(crate) fn read_three(bytes: &[u8]) -> u32
     high * 64 + low_bits(bytes[2])
 }
 
-/// The number of a supplementary code point at the front of the bytes.
+/// The code point at the front of `bytes`, encoded in four bytes.
 #[inline(always)]
 fn read_four(bytes: &[u8]) -> u32
     requires front { BeginsWithPoint bytes.now }
@@ -201,7 +201,7 @@ fn read_four(bytes: &[u8]) -> u32
     middle * 64 + low_bits(bytes[3])
 }
 
-/// The lead of the supplementary code point at the front of the bytes.
+/// The lead surrogate of the supplementary code point at the front of `bytes`.
 #[inline(always)]
 pub(crate) fn read_lead(bytes: &[u8]) -> u16
     requires front { BeginsWithPoint bytes.now }
@@ -209,11 +209,11 @@ pub(crate) fn read_lead(bytes: &[u8]) -> u16
     ensures { (b : BeginsWithPoint bytes.now) → result ≡ 0xD800 + (b.point - 0x10000) / 0x400 }
 {
     let high = (u32::from(bytes[0]) - 0xF0) * 64 + low_bits(bytes[1]);
-    // The number less 0x10000 has 0x40 less above its low ten bits.
+    // The lead encodes the bits above the low ten of the code point less 0x10000, which is 0x40 in these bits.
     (0xD800 - 0x40 + high * 4 + low_bits(bytes[2]) / 16) as u16
 }
 
-/// The trail of the supplementary code point whose last two bytes stand at the front.
+/// The trail surrogate of a supplementary code point, by the last two bytes of its encoding at the front of `bytes`.
 #[inline(always)]
 pub(crate) fn read_trail(bytes: &[u8]) -> u16
     requires { 1 < length bytes.now }
@@ -222,7 +222,7 @@ pub(crate) fn read_trail(bytes: &[u8]) -> u16
     (0xDC00 + u32::from(bytes[0] % 16) * 64 + u32::from(bytes[1] % 64)) as u16
 }
 
-/// The number of the code point at the front of the bytes, which stand at a position, and the position behind it.
+/// The number of the code point at the front of `bytes`, and the byte position after it, if `bytes` begins at `at`.
 #[inline(always)]
 fn read_number(bytes: &[u8], at: usize) -> (u32, usize)
     requires front { BeginsWithPoint bytes.now }
@@ -241,7 +241,7 @@ fn read_number(bytes: &[u8], at: usize) -> (u32, usize)
     }
 }
 
-/// The code point at the front of the bytes, which stand at a position, and the position behind it.
+/// The code point at the front of `bytes`, and the byte position after it, if `bytes` begins at `at`.
 #[inline(always)]
 pub(crate) fn read(bytes: &[u8], at: usize) -> (CodePoint, usize)
     requires front { BeginsWithPoint bytes.now }

@@ -1,4 +1,4 @@
-// Code points and surrogates by their numbers, and the bytes of one code point.
+// Code points, surrogate arithmetic, and the encoding of one code point.
 pub(crate) mod code_point;
 pub(crate) mod encoding;
 pub(crate) mod surrogates;

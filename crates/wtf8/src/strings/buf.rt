@@ -1,4 +1,4 @@
-// Owned strings.
+// `Wtf8Buf`, the owned string.
 ghost use Rattle.std.specs.Prelude.{◌≡◌, ℕ, List, [], ◌∷◌, ◌++◌, ◌+◌, ◌*◌, ◌<◌, ◌≤◌, length, take, IsTrue, OnOk, OnErr, IsOk, IfOk, IfErr, ◌↔◌, vec_capacity, if◌then◌else◌};
 ghost use Rattle.std.specs.Str.{chars};
 ghost use Rattle.std.specs.String.{string_bytes};
@@ -25,21 +25,21 @@ use std::marker::Model;
 
 /// An owned string of well-formed WTF-8 that can grow.
 ///
-/// Contracts see it as its units, its bytes, the fact that the bytes are the well-formed form of these units, and its
-/// capacity. They do not see how much of it is known to hold no surrogate, which saves `into_string` and
-/// `into_string_lossy` their search, and equality, order, hash, display and debug text do not look at it.
+/// Contracts see its code units, its bytes, that the bytes are the well-formed form of these units, and its capacity.
+/// They do not see how much of it is known to hold no surrogate, which saves `into_string` and `into_string_lossy` a
+/// search; equality, order, hash, display and debug text ignore it.
 ///
 /// ```
 /// use std::alloc::{AllocError, Global};
 /// use wtf8::Wtf8Buf;
 ///
-/// /// A file name of any units with an ending behind it.
+/// /// Makes a file name from any code units and an extension.
 /// fn with_ending(alloc: Global, name: &[u16]) -> Result<Wtf8Buf<Global>, AllocError> {
 ///     let mut file = Wtf8Buf::from_ill_formed_utf16(alloc, name)?;
 ///     if file.is_empty() {
 ///         file.push_str("unnamed")?;
 ///     }
-///     // Were it refused for want of memory, `file` would still be the name alone.
+///     // If memory is refused, `push_str` leaves `file` unchanged.
 ///     file.push_str(".txt")?;
 ///     Ok(file)
 /// }
@@ -48,8 +48,8 @@ use std::marker::Model;
 pub struct Wtf8Buf<A: Allocator> {
     bytes: Vec<u8, A>,
 
-    /// Before this place it is known that no surrogate begins; at or behind it there may be one or none. It is the
-    /// greatest number where none is held, so that what is appended and holds none leaves it as it is.
+    /// No surrogate begins before this byte position; one may begin at or after it. `usize::MAX` says that the string
+    /// holds none, and need not be updated when text is appended.
     scalar_end: usize,
     ghost well_formed: { IsWellFormed bytes.items } by { IsWellFormed-prop bytes.items },
     ghost scalar_front: { AreScalarTo scalar_end well_formed.points } by { AreScalarTo-prop scalar_end well_formed.points },
@@ -78,7 +78,7 @@ impl<A: Allocator> Model for Wtf8Buf<A> {
     } };
 }
 
-/// The place before which no surrogate begins in a string that may be known to hold none at all.
+/// Returns the `scalar_end` of a new string: `usize::MAX` if `are_all` says that it holds no surrogate, else 0.
 fn end_of_scalars(are_all: bool) -> usize
     ensures { (c : List ℕ) → (IsTrue are_all → AreScalar c) → AreScalarTo result c }
 {
@@ -88,7 +88,7 @@ fn end_of_scalars(are_all: bool) -> usize
     0
 }
 
-/// A string of bytes that are known to be well-formed, and in which no surrogate begins before a place.
+/// Wraps well-formed bytes in which no surrogate begins before `scalar_end`.
 fn with_scalar_front<A: Allocator>(bytes: Vec<u8, A>, scalar_end: usize) -> Wtf8Buf<A>
     requires well_formed { IsWellFormed bytes.items }
     requires scalar { (h : IsWellFormed bytes.items) → AreScalarTo scalar_end h.points }
@@ -99,7 +99,7 @@ fn with_scalar_front<A: Allocator>(bytes: Vec<u8, A>, scalar_end: usize) -> Wtf8
     Wtf8Buf { bytes, scalar_end }
 }
 
-/// A string of bytes that are known to be well-formed, and to hold no surrogate where that is said.
+/// Wraps well-formed bytes; if `is_known_utf8` is true, they must hold no surrogate.
 fn from_well_formed<A: Allocator>(bytes: Vec<u8, A>, is_known_utf8: bool) -> Wtf8Buf<A>
     requires well_formed { IsWellFormed bytes.items }
     requires scalar { IsTrue is_known_utf8 → (h : IsWellFormed bytes.items) → AreScalar h.points }
@@ -110,7 +110,7 @@ fn from_well_formed<A: Allocator>(bytes: Vec<u8, A>, is_known_utf8: bool) -> Wtf
     with_scalar_front(bytes, end_of_scalars(is_known_utf8))
 }
 
-/// The place before which no surrogate begins once a view is appended to so many bytes.
+/// Returns `scalar_end`, lowered to at most `len` if a nonempty `other` is appended there. Does not search `other`.
 #[inline(always)]
 fn scalar_end_with(scalar_end: usize, len: usize, other: Wtf8<'_>) -> usize
     ensures order { result ≤ scalar_end }
@@ -122,7 +122,7 @@ fn scalar_end_with(scalar_end: usize, len: usize, other: Wtf8<'_>) -> usize
     scalar_end.min(len)
 }
 
-/// The place before which no surrogate begins once so many bytes at the front are kept.
+/// Returns `scalar_end` after a truncation to `len` bytes: `usize::MAX` if these are known to hold no surrogate.
 #[inline(always)]
 fn scalar_end_of_front(scalar_end: usize, len: usize) -> usize
     ensures { (c : List ℕ) → length (bytes c) ≡ len → AreScalarTo scalar_end c → AreScalarTo result c }
@@ -152,7 +152,7 @@ impl<A: Allocator> Wtf8Buf<A> {
         Ok(from_well_formed(Vec::with_capacity(alloc, n)?, true))
     }
 
-    /// Converts from a `String`, whose bytes it keeps. Does not allocate.
+    /// Converts a `String`, reusing its buffer. Does not allocate.
     pub fn from_string(string: String<A>) -> Wtf8Buf<A>
         ensures units { result.units ≡ units (chars (string_bytes string)) }
         ensures bytes { result.bytes ≡ string_bytes string }
@@ -179,9 +179,9 @@ impl<A: Allocator> Wtf8Buf<A> {
     /// use std::alloc::{AllocError, Global};
     /// use wtf8::Wtf8Buf;
     ///
-    /// /// A pair, which is one code point of four bytes, and a lead that stands alone: F0 9F 92 A9 ED A0 BD.
+    /// /// A surrogate pair, which is one code point of four bytes, and a lone lead surrogate: F0 9F 92 A9 ED A0 BD.
     /// fn pair_and_lead(alloc: Global) -> Result<Wtf8Buf<Global>, AllocError> {
-    ///     // A refusal leaves no string, and the list of units as it is.
+    ///     // If memory is refused, the result is `Err` and no string is made.
     ///     Wtf8Buf::from_ill_formed_utf16(alloc, &[0xD83D, 0xDCA9, 0xD83D])
     /// }
     /// ```
@@ -208,7 +208,7 @@ impl<A: Allocator> Wtf8Buf<A> {
         Ok(with_scalar_front(bytes, self.scalar_end))
     }
 
-    /// Reserves room for at least `additional` more bytes, and does not allocate if it is there. The string is
+    /// Reserves capacity for at least `additional` more bytes, and does not allocate if it is there. The string is
     /// unchanged either way.
     pub fn reserve(&mut self, additional: usize) -> Result<(), AllocError>
         ensures ok { OnOk result (length self.new.bytes + additional ≤ self.new.capacity) }
@@ -231,7 +231,7 @@ impl<A: Allocator> Wtf8Buf<A> {
         self.bytes.shrink_to_fit();
     }
 
-    /// How many bytes fit before the string has to grow: at least the length.
+    /// The number of bytes that the string can hold without allocating: at least the length.
     pub fn capacity(&self) -> usize
         ensures value { result ≡ self.now.capacity }
         ensures at_least_length { length self.now.bytes ≤ result }
@@ -265,8 +265,8 @@ impl<A: Allocator> Wtf8Buf<A> {
         Wtf8::from_well_formed(self.bytes.as_slice())
     }
 
-    /// Appends a code point. A trail surrogate behind a lead joins it: the two become the one code point of four bytes
-    /// that they stand for, which adds one byte. If memory is refused, the string is unchanged.
+    /// Appends a code point. A trail surrogate after a lead surrogate completes the pair: the three bytes of the lead
+    /// become the four of one supplementary code point. If memory is refused, the string is unchanged.
     #[inline(always)]
     pub fn push(&mut self, code_point: CodePoint) -> Result<(), AllocError>
         ensures ok { OnOk result (AppendsUnits self.old (units_of (number code_point)) self.new) }
@@ -279,7 +279,7 @@ impl<A: Allocator> Wtf8Buf<A> {
         ensures room { HasRoomFor self.old (units_of (number code_point)) → IsOk result }
         ensures capacity { self.old.capacity ≤ self.new.capacity }
 
-        // In bytes: the length grows by the code point's own bytes at most, for which there is room enough.
+        // In bytes: the length grows by at most the code point's encoded length, and spare capacity for that is enough.
         ensures at_most { OnOk result (length self.new.bytes ≤ length self.old.bytes + length (encoding (number code_point))) }
         ensures room_left { length self.old.bytes + length (encoding (number code_point)) ≤ self.old.capacity → IsOk result }
     {
@@ -300,7 +300,7 @@ impl<A: Allocator> Wtf8Buf<A> {
         ensures room { HasRoomFor self.old (units_of c) → IsOk result }
         ensures capacity { self.old.capacity ≤ self.new.capacity }
 
-        // In bytes: the character's own bytes come behind those that were there, and room for these is room enough.
+        // In bytes: the character's encoding is appended, and spare capacity for it is enough.
         ensures bytes { OnOk result (self.new.bytes ≡ self.old.bytes ++ encoding c) }
         ensures at_most { OnOk result (length self.new.bytes ≤ length self.old.bytes + length (encoding c)) }
         ensures room_left { length self.old.bytes + length (encoding c) ≤ self.old.capacity → IsOk result }
@@ -317,12 +317,13 @@ impl<A: Allocator> Wtf8Buf<A> {
         ensures ok { OnOk result (AppendsUnits self.old (units (chars other.now)) self.new) }
         ensures kept { OnErr result (KeepsContents self.old self.new) }
 
-        // A push whose bytes fit is never refused, nor is the empty text, and the capacity never shrinks.
+        // A push whose bytes fit is never refused, nor is an empty text, and the capacity never shrinks.
         ensures room { HasRoomFor self.old (units (chars other.now)) → IsOk result }
         ensures empty { other.now ≡ [] → IsOk result }
         ensures capacity { self.old.capacity ≤ self.new.capacity }
 
-        // In bytes: the length grows by the text's length at most, which is room enough, and the empty text changes nothing.
+        // In bytes: the length grows by at most the text's length, spare capacity for that is enough, and an empty text
+        // changes nothing.
         ensures at_most { OnOk result (length self.new.bytes ≤ length self.old.bytes + length other.now) }
         ensures room_left { length self.old.bytes + length other.now ≤ self.old.capacity → IsOk result }
         ensures nothing { other.now ≡ [] → KeepsContents self.old self.new }
@@ -330,20 +331,20 @@ impl<A: Allocator> Wtf8Buf<A> {
         concat::push_text(&mut self.bytes, other)
     }
 
-    /// Appends another string. A trail surrogate at its front joins a lead at the end: the two become the one code
-    /// point that they stand for, and the length grows by the other's length less 2. If memory is refused, the string
+    /// Appends another string. A trail surrogate at its front completes a lead surrogate at the end: the two become one
+    /// supplementary code point, and the length grows by the other's length minus 2. If memory is refused, the string
     /// is unchanged.
     ///
     /// ```
     /// use std::alloc::Global;
     /// use wtf8::{Wtf8, Wtf8Buf};
     ///
-    /// /// Appends a piece, and answers whether there was memory for it.
+    /// /// Appends a piece, and returns whether there was memory for it.
     /// fn append(text: &mut Wtf8Buf<Global>, piece: Wtf8<'_>) -> bool {
     ///     match text.push_wtf8(piece) {
-    ///         // A lead that ended `text` and a trail that begins `piece` are one code point now.
+    ///         // If a lead ended `text` and a trail begins `piece`, they are one code point now.
     ///         Ok(()) => true,
-    ///         // `text` is as it was, with the lead at its end.
+    ///         // `text` is unchanged.
     ///         Err(_) => false,
     ///     }
     /// }
@@ -353,21 +354,21 @@ impl<A: Allocator> Wtf8Buf<A> {
         ensures ok { OnOk result (AppendsUnits self.old (view_units other.entry) self.new) }
         ensures kept { OnErr result (KeepsContents self.old self.new) }
 
-        // The length grows by the other's length, less 2 where a lead meets a trail.
+        // The length grows by the other's length, minus 2 if a lead meets a trail.
         ensures length { OnOk result (AddsLength self.old other.entry self.new) }
 
-        // A push whose bytes fit is never refused, nor is the empty string, and the capacity never shrinks.
+        // A push whose bytes fit is never refused, nor is an empty string, and the capacity never shrinks.
         ensures room { HasRoomFor self.old (view_units other.entry) → IsOk result }
         ensures empty { view_units other.entry ≡ [] → IsOk result }
         ensures capacity { self.old.capacity ≤ self.new.capacity }
 
-        // In bytes: the length grows by the other's length at most, which is room enough, and the empty string changes
-        // nothing.
+        // In bytes: the length grows by at most the other's length, spare capacity for that is enough, and an empty
+        // string changes nothing.
         ensures at_most { OnOk result (length self.new.bytes ≤ length self.old.bytes + length other.entry.bytes.now) }
         ensures room_left { length self.old.bytes + length other.entry.bytes.now ≤ self.old.capacity → IsOk result }
         ensures nothing { other.entry.bytes.now ≡ [] → KeepsContents self.old self.new }
     {
-        // Where no surrogate is held, none at the end meets another.
+        // A string without surrogates has no lead at its end.
         let is_apart = self.is_known_utf8();
         self.scalar_end = scalar_end_with(self.scalar_end, self.bytes.len(), other);
         concat::push_view(&mut self.bytes, other, is_apart)
@@ -394,19 +395,19 @@ impl<A: Allocator> Wtf8Buf<A> {
         self.bytes.clear()
     }
 
-    /// Shortens the string to `n` code units, which must be at most the number of code units. Where that splits a
-    /// surrogate pair its lead stays alone: three bytes in place of four. Does not allocate.
+    /// Shortens the string to `n` code units, which must be at most the number of code units. If that splits a
+    /// surrogate pair, its lead stays as a lone surrogate: three bytes in place of four. Does not allocate.
     pub fn truncate_units(&mut self, n: usize)
         requires { n ≤ length self.old.units }
         ensures units { self.new.units ≡ take n self.old.units }
 
-        // Where these are the units of the code points before a position, the bytes are those before it.
+        // If position `k` is the code point boundary after the first `n` units, the first `k` bytes stay.
         ensures bytes { (k : ℕ) → IsFront self.old.units k (take n self.old.units) → self.new.bytes ≡ take k self.old.bytes }
     {
         self.try_truncate_units(n);
     }
 
-    /// Keeps the first `n` units and answers true. Where there are fewer, it changes nothing and answers false.
+    /// Keeps the first `n` code units and returns true, or changes nothing and returns false if there are fewer.
     pub(crate) fn try_truncate_units(&mut self, n: usize) -> bool
         ensures { TruncatesUnits self.old.units n self.new.units (if result then 0 else 1) }
     {
@@ -449,7 +450,7 @@ impl<A: Allocator> Wtf8Buf<A> {
         unsafe { String::from_utf8_unchecked(self.into_lossy_bytes()) }
     }
 
-    /// The bytes with those of U+FFFD in the place of each surrogate's, without a search where none is known to be held.
+    /// Returns the bytes with each surrogate replaced by U+FFFD. Does not search if the string is known to hold none.
     fn into_lossy_bytes(self) -> Vec<u8, A>
         ensures { result.items ≡ bytes (lossy self.form.points) }
     {
@@ -461,7 +462,7 @@ impl<A: Allocator> Wtf8Buf<A> {
         bytes
     }
 
-    /// Whether it is known that no surrogate is held.
+    /// Whether the string is known to hold no surrogate.
     #[inline(always)]
     fn is_known_utf8(&self) -> bool
         ensures { IsTrue result → AreScalar self.now.form.points }
@@ -469,8 +470,8 @@ impl<A: Allocator> Wtf8Buf<A> {
         self.bytes.len() <= self.scalar_end
     }
 
-    /// The place of the first surrogate. It makes no search where it is known that there is none, and else none in the
-    /// front that is known to hold none.
+    /// Returns the byte position of the first surrogate. Searches from `scalar_end` on, and not at all if the whole
+    /// string is known to hold none.
     fn first_surrogate(&self) -> Option<usize>
         ensures { IsFirst (SurrogateAt self.now.bytes) 0 result }
     {

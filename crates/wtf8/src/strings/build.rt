@@ -1,4 +1,4 @@
-// Lists of building calls, applied in order.
+// `Build`: building calls as values, applied one by one or as a list.
 ghost use Rattle.std.specs.List.{All};
 ghost use Rattle.std.specs.Prelude.{◌≡◌, ℕ, List, [], Some, ◌+◌, ◌≤◌, length, take, IfOk, OnOk, OnErr, IfErr, IsOk, IfSome, if◌then◌else◌};
 ghost use Rattle.wtf8.specs.Appending.{AppendsUnits, HasRoomFor, Outgrows};
@@ -21,7 +21,7 @@ pub enum Build<'b> {
     PushWtf8(Wtf8<'b>),
     /// `extend` by the code points of a slice.
     Extend(&'b [CodePoint]),
-    /// `reserve` room for this many more bytes.
+    /// `reserve` capacity for this many more bytes.
     Reserve(usize),
     /// `truncate` to this many bytes; refused if that is no code point boundary.
     Truncate(usize),
@@ -40,16 +40,16 @@ impl<A: Allocator> Wtf8Buf<A> {
     ghost use Rattle.wtf8.specs.Building.{Step, Run, LeavesRefused, StopsAt, appended, Append, IsNoExtension, IsNoTruncation, FindsRoom, FindRoom, LeavesReserved};
     ghost use Rattle.wtf8.specs.declared.strings.build.Build.TheVariants.{Reserve, Truncate};
 
-    /// Applies one call. `Ok(false)` means that a truncation was refused, at no code point boundary or past the last
-    /// code unit; it changes nothing. If memory is refused, the string is as that call leaves it: unchanged, or with
-    /// the first points of an extension appended. A truncation needs no memory.
+    /// Applies one call. `Ok(false)` means that a truncation was refused, because its position is no code point
+    /// boundary or the string has fewer code units; it changes nothing. If memory is refused, the string is unchanged,
+    /// except that the first code points of an `Extend` may be appended. A truncation needs no memory.
     pub fn apply(&mut self, call: Build<'_>) -> Result<bool, AllocError>
         ensures step { IfOk result (λ kept. Step self.old.units call.entry self.new.units (if kept then 0 else 1)) }
         ensures refused { OnErr result (LeavesRefused self.old.units call.entry self.new.units) }
         ensures bytes_kept { OnErr result (IsNoExtension call.entry → self.new.bytes ≡ self.old.bytes) }
         ensures reserved { (n : ℕ) → call.entry ≡ Reserve n → OnOk result (length self.new.bytes + n ≤ self.new.capacity) }
 
-        // A push or an extension whose bytes fit is never refused, nor is an empty one, nor is room that is there.
+        // A push or an extension whose bytes fit is never refused, nor is an empty one, nor a `reserve` that fits.
         ensures room { IfSome (appended call.entry) (λ v. HasRoomFor self.old v → IsOk result) }
         ensures empty { appended call.entry ≡ Some [] → IsOk result }
         ensures reserve_room { (n : ℕ) → call.entry ≡ Reserve n → length self.old.bytes + n ≤ self.old.capacity → IsOk result }
@@ -69,10 +69,10 @@ impl<A: Allocator> Wtf8Buf<A> {
         Ok(true)
     }
 
-    /// Applies calls in order, and returns how many truncations were refused, which change nothing and stop nothing.
+    /// Applies calls in order and returns the number of refused truncations, which change nothing and stop nothing.
     ///
     /// If a call is refused memory, `Stopped` says which: the calls before it were applied, and if it was an extension,
-    /// its first points may be appended too.
+    /// its first code points may be appended too.
     ///
     /// ```
     /// use std::alloc::Global;
@@ -80,7 +80,7 @@ impl<A: Allocator> Wtf8Buf<A> {
     ///
     /// /// Makes the string "a💩". Its last call would cut inside a code point: it is refused and counted, so `Ok(1)`.
     /// fn rebuild(text: &mut Wtf8Buf<Global>) -> Result<usize, Stopped> {
-    ///     // Where there is no memory for the push: `Err`, `done` is 1, and `text` is empty.
+    ///     // If memory for the push is refused: `Err`, `done` is 1, and `text` is empty.
     ///     text.apply_all(&[
     ///         Build::Truncate(0),
     ///         Build::PushStr("a💩"),
@@ -89,20 +89,20 @@ impl<A: Allocator> Wtf8Buf<A> {
     /// }
     /// ```
     pub fn apply_all(&mut self, calls: &[Build<'_>]) -> Result<usize, Stopped>
-        // The whole list leads from the units before to the units after; the bytes are their one form, as always.
+        // The units after the whole list, or after a list that was stopped. The bytes are their only well-formed form.
         ensures run { IfOk result (λ n. Run self.old.units calls.now self.new.units n) }
         ensures stopped { IfErr result (λ s. StopsAt self.old.units calls.now s.done self.new.units) }
 
-        // Pushes and extensions alone append their pieces' units. They are never refused where these fit altogether, and
-        // room that was too small for what is appended up to a refused call is why it was refused.
+        // A list of pushes and extensions appends their units in order. It is never refused if all of these fit; if it
+        // is, the units up to and including the refused call's do not fit.
         ensures appends { IfOk result (λ _. (v : List ℕ) → Append calls.now v → AppendsUnits self.old v self.new) }
         ensures room { (v : List ℕ) → Append calls.now v → HasRoomFor self.old v → IsOk result }
         ensures outgrown { IfErr result (λ s. (v : List ℕ) → Append (take (s.done + 1) calls.now) v → Outgrows self.old v) }
         ensures capacity { (v : List ℕ) → Append calls.now v → self.old.capacity ≤ self.new.capacity }
 
-        // With calls of `reserve` among them: never refused where each finds room at its place, and where the list was
-        // stopped, one of the calls up to the refused one does not find it. What a
-        // `reserve` asks for is there at the end, unless a truncation came behind it.
+        // With `reserve` too, but no truncation: never refused if each call in turn fits the capacity at the start; if
+        // refused, some call up to and including the refused one does not. The capacity that a `reserve` asks for is
+        // kept unless a truncation follows.
         ensures found { (v : List ℕ) → FindRoom self.old.units calls.now v self.old.capacity → IsOk result }
         ensures missed { IfErr result (λ s. (v : List ℕ) → ¬ (FindRoom self.old.units (take (s.done + 1) calls.now) v self.old.capacity)) }
         ensures no_smaller { All IsNoTruncation calls.now → self.old.capacity ≤ self.new.capacity }
@@ -120,7 +120,7 @@ impl<A: Allocator> Wtf8Buf<A> {
         Ok(refused)
     }
 
-    /// Truncates where the position is a code point boundary, and answers whether it is one.
+    /// Truncates to `position` bytes if that is a code point boundary, and returns whether it is.
     fn try_truncate(&mut self, position: usize) -> bool
         ensures { Step self.old.units (Truncate position) self.new.units (if result then 0 else 1) }
     {

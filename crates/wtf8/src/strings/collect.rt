@@ -1,4 +1,4 @@
-// Code points collected into a string.
+// Strings extended by, or collected from, iterators of code points.
 ghost use Rattle.std.specs.Prelude.{◌≡◌, ℕ, List, [], ◌++◌, ◌+◌, ◌≤◌, length, take, IfOk, IfSome, OnOk, OnErr, IsOk};
 ghost use Rattle.std.specs.Iterator.{Drains, ExtendsWithItems, IsFinite};
 ghost use Rattle.wtf8.specs.CodePoint.{numbers};
@@ -12,9 +12,9 @@ use crate::strings::buf::Wtf8Buf;
 use std::alloc::{AllocError, Allocator};
 
 impl<A: Allocator> Wtf8Buf<A> {
-    /// Appends code points in order; a trail surrogate joins a lead before it. Reserves as many bytes as the iterator's
-    /// lower size hint first: if that is refused, no item was taken. If memory is refused later, the string holds its
-    /// old code units and those of the first items.
+    /// Appends code points in order; a trail surrogate completes a lead before it. First reserves a byte for each item
+    /// that the iterator's lower size hint promises: if that is refused, no item was taken. If memory is refused later,
+    /// the string holds its old code units and then the units of the first items.
     pub fn extend<I: IntoIterator<Item = CodePoint>>(
         &mut self,
         iterable: I,
@@ -32,7 +32,7 @@ impl<A: Allocator> Wtf8Buf<A> {
         Ok(())
     }
 
-    /// Makes a string of code points in order, as `extend` of an empty one.
+    /// Makes a string from code points in order, as `extend` does from an empty one.
     pub fn from_iter<I: IntoIterator<Item = CodePoint>>(
         alloc: A,
         iterable: I,
@@ -45,7 +45,7 @@ impl<A: Allocator> Wtf8Buf<A> {
         Ok(string)
     }
 
-    /// Appends the code points of a slice, as `extend` does. Where the bytes fit it is never refused.
+    /// Appends the code points of a slice, as `extend` does. Never refused if they fit, as each adds at least one byte.
     pub(crate) fn extend_from_points(&mut self, points: &[CodePoint]) -> Result<(), AllocError>
         ensures ok { OnOk result (AppendsPoints self.old points.now self.new) }
         ensures err { OnErr result ((n : ℕ) × AppendsPoints self.old (take n points.now) self.new) }
@@ -61,7 +61,7 @@ impl<A: Allocator> Wtf8Buf<A> {
     }
 }
 
-/// Makes a string of code points, so that `collect` of an iterator can.
+/// Lets `collect` make a string from an iterator over code points.
 impl<A: Allocator> FromIterator<CodePoint> for Wtf8Buf<A> {
     type Alloc = A;
 
@@ -75,7 +75,7 @@ impl<A: Allocator> FromIterator<CodePoint> for Wtf8Buf<A> {
     }
 }
 
-/// Extends a string by code points, so that code over any collection can.
+/// Lets code that is generic over `Extend` append code points.
 impl<A: Allocator> Extend<CodePoint> for Wtf8Buf<A> {
     ghost extend_gives = { AppendsPoints };
 

@@ -1,4 +1,4 @@
-// Concatenation of well-formed bytes: what is appended at their end, a lead and a trail that meet as one code point.
+// Appending to well-formed bytes: a lead surrogate at their end and a trail surrogate after it become one code point.
 ghost use Rattle.std.specs.Prelude.{◌≡◌, ℕ, List, [], ◌∷◌, ◌++◌, ◌+◌, ◌-◌, ◌≤◌, ◌<◌, length, take, drop, OnOk, OnErr, IsOk, OnSome, IfSome, IfNone, vec_len};
 ghost use Rattle.std.specs.Prelude.{vec_capacity, IsTrue, slice_index, ◌%◌};
 ghost use Rattle.std.specs.Str.{chars};
@@ -14,8 +14,8 @@ use crate::numbers::{encoding, surrogates};
 use crate::strings::view::Wtf8;
 use std::alloc::{AllocError, Allocator};
 
-/// Makes of the lead surrogate that ends the bytes and of a trail the code point that they stand for: room for its fourth
-/// byte is found, then the lead's three bytes are overwritten. After a refusal the bytes are as before.
+/// Completes the lead surrogate at the end of `bytes` with `trail`: reserves the fourth byte of the pair's encoding,
+/// then overwrites the lead's three. If memory is refused, `bytes` is unchanged.
 fn join<A: Allocator>(bytes: &mut Vec<u8, A>, lead: u32, trail: u32) -> Result<(), AllocError>
     requires lead { IsLead lead }
     requires trail { IsTrail trail }
@@ -30,7 +30,7 @@ fn join<A: Allocator>(bytes: &mut Vec<u8, A>, lead: u32, trail: u32) -> Result<(
     Ok(())
 }
 
-/// The lead surrogate at the end of the string that the code point would join, if the code point is a trail surrogate.
+/// Returns the lead surrogate that `code_point` completes, if it is a trail surrogate and a lead ends the string.
 fn joining_lead(view: Wtf8<'_>, code_point: CodePoint) -> Option<u32>
     ensures trail { OnSome result (IsTrail (number code_point)) }
     ensures lead { IfSome result (λ l. IsLead l) }
@@ -44,7 +44,7 @@ fn joining_lead(view: Wtf8<'_>, code_point: CodePoint) -> Option<u32>
     }
 }
 
-/// Appends a code point that joins nothing: it is no trail surrogate, or no lead ends the bytes. It is told the spare room.
+/// Appends a code point that completes no pair: it is no trail, or no lead ends `bytes`. `spare` is the spare capacity.
 #[inline(always)]
 pub(crate) fn push_apart<A: Allocator>(
     bytes: &mut Vec<u8, A>,
@@ -60,7 +60,7 @@ pub(crate) fn push_apart<A: Allocator>(
     encoding::append_into(bytes, spare, code_point)
 }
 
-/// Appends a surrogate to well-formed bytes, a trail behind a lead as the code point that the two stand for.
+/// Appends a surrogate to well-formed bytes; a trail completes a lead at their end.
 #[inline(always)]
 pub(crate) fn push_surrogate<A: Allocator>(
     bytes: &mut Vec<u8, A>,
@@ -79,8 +79,8 @@ pub(crate) fn push_surrogate<A: Allocator>(
     }
 }
 
-/// Appends a code point, a trail surrogate behind a lead as the code point that the two stand for. At a surrogate the place
-/// before which none is known to begin goes back to the end of the bytes as they were.
+/// Appends a code point; a trail surrogate completes a lead at the end. A surrogate lowers `scalar_end` to at most the
+/// old length.
 #[inline(always)]
 pub(crate) fn push_point<A: Allocator>(
     bytes: &mut Vec<u8, A>,
@@ -92,9 +92,9 @@ pub(crate) fn push_point<A: Allocator>(
     ensures known { scalar_end.new ≤ scalar_end.old }
     ensures scalar { length bytes.old.items < scalar_end.new → ¬ (IsSurrogate (number code_point)) }
 {
-    // The length is looked up before the row is chosen, so that a loop can keep it in a register.
+    // The spare capacity is computed before the match, so that a loop can keep the length in a register.
     let spare = encoding::spare_room(bytes);
-    // Each row has an append of its own, in which the compiler knows how many bytes are written.
+    // Each arm has its own call, in which the compiler knows the encoded length.
     match code_point.to_u32() {
         0..=0x7F => push_apart(bytes, spare, code_point),
         0x80..=0x7FF => push_apart(bytes, spare, code_point),
@@ -108,15 +108,15 @@ pub(crate) fn push_point<A: Allocator>(
     }
 }
 
-/// Appends bytes as they are. After a refusal the bytes are as before.
+/// Appends `other` unchanged, without a test for a pair. If memory is refused, `bytes` is unchanged.
 fn append_bytes<A: Allocator>(bytes: &mut Vec<u8, A>, other: &[u8]) -> Result<(), AllocError>
     ensures { Becomes bytes.old (bytes.old.items ++ other.now) bytes.new result }
 {
     bytes.extend_from_slice(other)
 }
 
-/// The lead surrogate that ends the first string and the trail surrogate that begins the second, where both are there.
-/// Neither is looked for where it is known that they are not.
+/// Returns the lead surrogate that ends `front` and the trail surrogate that begins `back`, if both are there.
+/// `is_apart` says that they are not, which skips the tests.
 #[inline(always)]
 fn meeting_pair(front: Wtf8<'_>, back: Wtf8<'_>, is_apart: bool) -> Option<(u32, u32)>
     requires { IsTrue is_apart → ¬ (MeetsAsPair (view_points front) (view_points back)) }
@@ -133,8 +133,8 @@ fn meeting_pair(front: Wtf8<'_>, back: Wtf8<'_>, is_apart: bool) -> Option<(u32,
     Some((lead, trail))
 }
 
-/// Appends bytes whose first three are a trail surrogate, which the lead surrogate at the end joins. Room for all that
-/// is added is found first; after a refusal the bytes are as before.
+/// Appends `other`, whose first three bytes are the trail surrogate that completes the lead at the end. Requests all
+/// memory before it overwrites the lead: if it is refused, `bytes` is unchanged.
 #[inline(never)]
 fn join_bytes<A: Allocator>(
     bytes: &mut Vec<u8, A>,
@@ -150,15 +150,15 @@ fn join_bytes<A: Allocator>(
 {
     let joined = encoding::four_bytes(surrogates::joined(lead, trail));
     let start = bytes.len() - 3;
-    // The last byte of the code point is the trail's, and is appended with those behind it.
+    // The pair's last byte is that of the trail, so it is appended with the bytes after it.
     let (_, added) = other.split_at(2);
     bytes.extend_from_slice(added)?;
     bytes[start..start + 3].copy_from_slice(&joined[..3]);
     Ok(())
 }
 
-/// Appends a view, a trail surrogate at its front and a lead at the end as the code point that the two stand for. It is
-/// told where it is known that these are not both there.
+/// Appends a view; a lead at the end and a trail at its front become one code point. `is_apart` says that these are not
+/// both there, which skips the tests.
 #[inline(always)]
 pub(crate) fn push_view<A: Allocator>(
     bytes: &mut Vec<u8, A>,
@@ -176,7 +176,7 @@ pub(crate) fn push_view<A: Allocator>(
     }
 }
 
-/// Appends a character, which joins nothing.
+/// Appends a character, which completes no pair.
 #[inline(always)]
 pub(crate) fn push_scalar<A: Allocator>(bytes: &mut Vec<u8, A>, c: char) -> Result<(), AllocError>
     requires { IsWellFormed bytes.old.items }
@@ -187,7 +187,7 @@ pub(crate) fn push_scalar<A: Allocator>(bytes: &mut Vec<u8, A>, c: char) -> Resu
     push_apart(bytes, spare, CodePoint::from_u32_unchecked(u32::from(c)))
 }
 
-/// Appends a text, none of whose characters joins anything.
+/// Appends a text, which completes no pair.
 pub(crate) fn push_text<A: Allocator>(bytes: &mut Vec<u8, A>, other: &str) -> Result<(), AllocError>
     requires { IsWellFormed bytes.old.items }
     ensures units { GainsUnits bytes.old.items (bytes.old.items ++ other.now) (units (chars other.now)) }

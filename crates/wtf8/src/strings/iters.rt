@@ -10,15 +10,15 @@ use crate::strings::view::Wtf8;
 use std::alloc::AllocError;
 use std::marker::Model;
 
-/// An iterator over the code points of a string, in order. It ends, and answers `None` from then on; a clone goes on
-/// with the same items and does not allocate.
+/// An iterator over the code points of a string, in order. After the last one it returns `None` from then on. A clone
+/// goes on with the same items and does not allocate.
 ///
 /// Contracts see it as the list of the code points that are left.
 #[derive(Drop)]
 pub struct Wtf8CodePoints<'a> {
     bytes: &'a [u8],
 
-    /// Where the next code point begins, or the end.
+    /// The byte position of the next code point, or the length at the end.
     at: usize,
 
     ghost within: { at ≤ length bytes.now },
@@ -80,7 +80,7 @@ impl<'a> Iterator for Wtf8CodePoints<'a> {
         self.give_next()
     }
 
-    /// At least a quarter of the bytes left, rounded up, and at most their number, since a code point has one to four.
+    /// From a quarter of the bytes left, rounded up, to all of them: a code point takes one to four bytes.
     fn size_hint(&self) -> (usize, Option<usize>)
         ensures lower { IsWithinCount result.0 (at_most (length self.now)) }
         ensures upper { IfSome result.1 (UpTo (at_most (length self.now))) }
@@ -107,8 +107,8 @@ impl<'a> Clone for Wtf8CodePoints<'a> {
     }
 }
 
-/// Reads the unit at a position, a trail by the last two bytes of its code point, else the first unit of the code point
-/// that begins there. The position moves behind what was read.
+/// Returns the code unit at `position` and moves `position` past it. After the lead of a pair it points to the last two
+/// of the pair's four bytes, which give the trail.
 #[inline(always)]
 fn read_unit(bytes: &[u8], position: &mut usize) -> u16
     requires inside { position.old < length bytes.now }
@@ -118,7 +118,7 @@ fn read_unit(bytes: &[u8], position: &mut usize) -> u16
     let at = *position;
     let (_, rest) = bytes.split_at(at);
     let first = rest[0];
-    // The position is moved in each branch: one step for all of them, by a width, is slower.
+    // Each branch moves the position by a constant: one step for all of them, by a variable width, is slower.
     if first < 0x80 {
         *position = at + 1;
         return u16::from(first);
@@ -142,16 +142,16 @@ fn read_unit(bytes: &[u8], position: &mut usize) -> u16
     trail
 }
 
-/// An iterator over the 16-bit code units of a string, in order: those that it was made of, paired or not. It ends, and
-/// answers `None` from then on; a clone goes on with the same items and does not allocate.
+/// An iterator over the 16-bit code units of a string, in order: the units that it was made of, paired or not. After
+/// the last one it returns `None` from then on. A clone goes on with the same items and does not allocate.
 ///
-/// Contracts see it as the units that are held back, none or one trail surrogate, and the code points that are left.
+/// Contracts see the trail surrogate that is held back, if any, and the code points that are left.
 #[derive(Drop)]
 pub struct IllFormedUtf16CodeUnits<'a> {
     bytes: &'a [u8],
 
-    /// Where the next unit is read: at a code point, at the end, or, where its lead was given, at the last two bytes of
-    /// a supplementary code point, which tell its trail.
+    /// The byte position of the next code point, or the length at the end. While the trail of a pair is held back, the
+    /// position of the last two of the pair's four bytes, which give the trail.
     at: usize,
 
     ghost within: { at ≤ length bytes.now },
@@ -187,7 +187,7 @@ impl<'a> IllFormedUtf16CodeUnits<'a> {
         }
     }
 
-    /// The unit that is held back, if any, else the first unit of the next code point, whose second is then held back.
+    /// Returns the held trail, if any, else the first unit of the next code point; a pair's trail is then held.
     #[inline(always)]
     fn give_unit(&mut self) -> Option<u16>
         ensures first { YieldsFirst unread_units self.old result self.new }
@@ -199,7 +199,7 @@ impl<'a> IllFormedUtf16CodeUnits<'a> {
         Some(read_unit(self.bytes, &mut self.at))
     }
 
-    /// How many bytes the code points have that are left.
+    /// Returns the encoded length of the code points that are left, without the two bytes of a held trail.
     fn unread_bytes(&self) -> usize
         ensures value { result ≡ length (bytes self.now.points) }
         ensures at_least_units { length (units self.now.points) ≤ result }
@@ -208,7 +208,7 @@ impl<'a> IllFormedUtf16CodeUnits<'a> {
         self.bytes.len() - self.at - 2 * self.held_units()
     }
 
-    /// How many units are held back.
+    /// Returns the number of units held back: 1 for a trail, else 0.
     fn held_units(&self) -> usize
         ensures value { result ≡ length self.now.held }
         ensures at_most_one { result ≤ 1 }
@@ -236,13 +236,13 @@ impl<'a> Iterator for IllFormedUtf16CodeUnits<'a> {
 
     ghost remaining = { item_count unread_units };
 
-    /// The next unit, or `None` at the end. Behind the lead of a pair its trail is held back; else nothing is.
+    /// The next unit, or `None` at the end. After the lead of a pair its trail is held back until the next call.
     fn next(&mut self) -> Option<u16> {
         self.give_unit()
     }
 
-    /// A quarter of the bytes left, rounded up, and the held unit; and twice their number and the held unit, `None`
-    /// where that is above the greatest `usize`.
+    /// At least a quarter of the bytes left, rounded up, and at most twice their number, both plus 1 if a trail is
+    /// held; the two bytes of a held trail do not count. The upper bound is `None` above `usize::MAX`.
     fn size_hint(&self) -> (usize, Option<usize>)
         ensures lower { IsWithinCount result.0 (at_most (length (unread_units self.now))) }
         ensures upper { IfSome result.1 (UpTo (at_most (length (unread_units self.now)))) }

@@ -1,4 +1,4 @@
-// Strings: borrowed and owned, their iterators, and what is appended, built, collected and cut.
+// The string types `Wtf8` and `Wtf8Buf`: iterators, appending, truncation, and lengths and positions in code units.
 pub(crate) mod buf;
 pub(crate) mod build;
 pub(crate) mod collect;

@@ -1,4 +1,4 @@
-// Places in a string where a known number of units ends, from which other units are found.
+// Marks: byte positions with a known number of code units before them, from which later units are found.
 ghost use Rattle.std.specs.Prelude.{◌≡◌, ◌≤◌, length, drop};
 ghost use Rattle.wtf8.specs.UnitMark.{IsMarkOf, IsUndivided};
 ghost use Rattle.wtf8.specs.UnitPosition.{DividesPair};
@@ -7,10 +7,10 @@ ghost use Rattle.wtf8.specs.View.{view_units};
 use crate::strings::unit_positions::cut;
 use crate::strings::view::Wtf8;
 
-/// A place in a string: a position in bytes, and how many units are before it. It is a mark of a string where the bytes
-/// before the position are the form of so many units and the bytes behind it that of the others, so it divides no pair.
+/// A byte position and the number of code units before it. It is a mark of a string if the bytes before the position
+/// encode exactly that number of units and the bytes after it encode the rest, so it splits no surrogate pair.
 ///
-/// `Wtf8::start_mark` is the first, and others are found by `Wtf8::mark_at`.
+/// `Wtf8::start_mark` returns the first one, and `Wtf8::mark_at` finds others.
 #[derive(Clone, Copy)]
 pub struct UnitMark {
     /// The position in bytes.
@@ -31,7 +31,7 @@ impl<'a> Wtf8<'a> {
         }
     }
 
-    /// The part behind a mark of this string. Borrows the bytes for `'a`, so it may outlive this view.
+    /// The part after a mark of this string. Borrows the bytes for `'a`, so it may outlive this view.
     pub fn behind_mark(&self, mark: UnitMark) -> Wtf8<'a>
         requires { IsMarkOf self.now mark }
         ensures units { view_units result ≡ drop mark.units (view_units self.now) }
@@ -42,7 +42,7 @@ impl<'a> Wtf8<'a> {
     }
 
     /// The mark at code unit `units`, or one unit earlier if that splits a pair. `from` must be a mark of this string
-    /// at no more units; only the distance from there takes time.
+    /// at or before `units`; the time depends only on the distance from it.
     pub fn mark_at(&self, from: UnitMark, units: usize) -> UnitMark
         requires mark { IsMarkOf self.now from }
         requires order { from.units ≤ units }

@@ -1,4 +1,4 @@
-// Positions counted in 16-bit units.
+// Lengths, positions and slices in 16-bit code units.
 ghost use Rattle.std.specs.Prelude.{◌≡◌, ◌++◌, ◌+◌, ◌-◌, ◌*◌, ◌/◌, ◌%◌, ◌^◌, ◌<◌, ◌≤◌, length, map, take, drop, slice_get, Some, IfSome, IfNone, IsSome, IsTrue, ◌↔◌};
 ghost use Rattle.std.specs.Option.{option_to_list};
 ghost use Rattle.wtf8.specs.Form.{encoding};
@@ -14,30 +14,30 @@ use crate::strings::view::Wtf8;
 use std::alloc::Allocator;
 use std::simd::prelude::*;
 
-/// How many bytes are counted together where all are.
+/// Bytes in a block when the units of a whole string are counted.
 const HALF_BLOCK: usize = BLOCK / 2;
 
-/// How many bytes are counted together last of all.
+/// Bytes in the smallest block that a counting loop takes.
 const HALF_VECTOR: usize = VECTOR / 2;
 
-/// How many blocks are added lane by lane before they are summed; a lane of each is at most 2.
+/// Blocks that are added lane by lane before one horizontal sum: a lane of each is at most 2, so a `u8` lane suffices.
 const ADDED: usize = 8;
 
-/// How many units begin at least in so many blocks. A unit has no more than three bytes.
+/// The fewest units that can begin in `ADDED` blocks: a unit takes at most three bytes.
 const LEAST_ADDED: usize = ADDED * BLOCK / 3;
 
-/// How many units further a unit is at least where the next `VECTOR` bytes are counted together; half as many where half as
-/// many bytes are.
+/// If the unit is fewer than this many units ahead, it is probably among the next `VECTOR` bytes, and counting these
+/// does not pay. For `HALF_VECTOR` bytes it is half of this.
 const LIKELY: usize = 11;
 
-/// A place among bytes, and how many units begin before it.
+/// A byte index, and the number of units of the code points that begin before it. It need not be a boundary.
 #[derive(Clone, Copy)]
 struct Place {
     at: usize,
     units_before: usize,
 }
 
-/// How many units the code point has whose bytes begin with this one; 0 where none begins with it.
+/// Returns the number of units of the code point that `byte` begins; 0 for a continuation byte.
 #[tactic(auto, unfolding(crate::specs::private::UnitCounts::units_begun))]
 fn units_begun_by(byte: u8) -> usize
     ensures { result ≡ units_begun byte }
@@ -45,7 +45,7 @@ fn units_begun_by(byte: u8) -> usize
     usize::from(encoding::begins_code_point(byte)) + usize::from(0xF0 <= byte)
 }
 
-/// How many units the code point has that each of `N` bytes begins; 0 for a byte that begins none.
+/// Returns for each byte the number of units of the code point that it begins; 0 for a continuation byte.
 #[inline(always)]
 fn units_begun_by_each<const N: usize>(bytes: Simd<u8, N>) -> Simd<u8, N>
     ensures { result ≡ map units_begun bytes.entry }
@@ -57,7 +57,7 @@ fn units_begun_by_each<const N: usize>(bytes: Simd<u8, N>) -> Simd<u8, N>
     begins.select(one, zero).strict_add(pairs.select(one, zero))
 }
 
-/// How many units the code points have that the bytes of a block begin.
+/// Returns the number of units of the code points that begin in a block: at most 2 per lane, so a `u8` sum suffices.
 #[inline(always)]
 fn units_begun_in_block<const N: usize>(bytes: Simd<u8, N>) -> usize
     requires { N ≤ u64.BITS }
@@ -66,7 +66,7 @@ fn units_begun_in_block<const N: usize>(bytes: Simd<u8, N>) -> usize
     usize::from(units_begun_by_each(bytes).strict_reduce_sum())
 }
 
-/// How many units the code points have that the bytes of `ADDED` blocks from a place on begin.
+/// Returns the number of units of the code points that begin in the `ADDED` blocks from `at` on, by one horizontal sum.
 #[inline(always)]
 fn units_begun_in_blocks(bytes: &[u8], at: usize) -> usize
     requires { at + ADDED * BLOCK ≤ length bytes.now }
@@ -80,8 +80,7 @@ fn units_begun_in_blocks(bytes: &[u8], at: usize) -> usize
     usize::from(lanes.cast::<u16>().strict_reduce_sum())
 }
 
-/// The place of the code point that holds a unit, in the bytes from a place on that has no more units before it; or the
-/// end, where the bytes have no such unit.
+/// Finds the code point that holds unit `unit` (counted from 0), bytewise from `from` on; the end if there is none.
 fn find_unit_from(bytes: &[u8], unit: usize, from: Place) -> Place
     requires { IsCounted bytes.now unit from }
     ensures { IsPlaceOfUnit bytes.now unit result }
@@ -108,7 +107,7 @@ fn find_unit_from(bytes: &[u8], unit: usize, from: Place) -> Place
     }
 }
 
-/// The place behind the `N` bytes from a place on, where there are so many and the unit is behind them too.
+/// Moves `from` past the next `N` bytes, or returns `None` if fewer are left or the unit begins in them.
 #[inline(always)]
 #[tactic(auto, using(crate::proofs::lemmas::strings::Positions::begun_more))]
 fn behind_block<const N: usize>(bytes: &[u8], unit: usize, from: Place) -> Option<Place>
@@ -130,8 +129,8 @@ fn behind_block<const N: usize>(bytes: &[u8], unit: usize, from: Place) -> Optio
     })
 }
 
-/// The place behind the blocks of `N` bytes from a place on that the unit is behind too, as long as it is so many units
-/// further at least. With fewer it is likely to be in the next block, which is then not worth counting.
+/// Skips blocks of `N` bytes in which the unit does not begin, while it is at least `least` units ahead: closer than
+/// that it is probably in the next block, which is then not worth counting.
 #[inline(always)]
 fn behind_likely_blocks<const N: usize>(
     bytes: &[u8],
@@ -153,7 +152,7 @@ fn behind_likely_blocks<const N: usize>(
     place
 }
 
-/// Whether all lanes are below a number.
+/// Whether all lanes are below `least`.
 #[inline(always)]
 fn is_below<const N: usize>(lanes: Simd<u8, N>, least: u8) -> bool
     requires { N ≤ u64.BITS }
@@ -162,8 +161,7 @@ fn is_below<const N: usize>(lanes: Simd<u8, N>, least: u8) -> bool
     lanes.simd_ge(Simd::splat(least)).to_bitmask() == 0
 }
 
-/// The place behind as many of the `N` bytes from a place on as are before the unit, where there are so many bytes and all
-/// are ASCII.
+/// Moves `from` to the unit, at most past the next `N` bytes, or returns `None` if fewer are left or not all are ASCII.
 #[inline(always)]
 fn behind_ascii<const N: usize>(bytes: &[u8], unit: usize, from: Place) -> Option<Place>
     requires lanes { N ≤ u64.BITS }
@@ -183,7 +181,7 @@ fn behind_ascii<const N: usize>(bytes: &[u8], unit: usize, from: Place) -> Optio
     })
 }
 
-/// The place behind all blocks that are added lane by lane and that the unit is behind too.
+/// Skips groups of `ADDED` blocks from the start, up to the unit, while it is at least `LEAST_ADDED` units ahead.
 #[inline(always)]
 #[tactic(auto, using(crate::proofs::lemmas::strings::Positions::begun_more))]
 fn behind_added_blocks(bytes: &[u8], unit: usize) -> Place
@@ -202,7 +200,7 @@ fn behind_added_blocks(bytes: &[u8], unit: usize) -> Place
     Place { at, units_before }
 }
 
-/// The place behind all blocks that the unit is behind too.
+/// Skips bytes before the unit, in blocks from the start; `find_unit_from` goes on from there.
 #[inline(always)]
 fn behind_blocks(bytes: &[u8], unit: usize) -> Place
     ensures { IsCounted bytes.now unit result }
@@ -219,7 +217,7 @@ fn behind_blocks(bytes: &[u8], unit: usize) -> Place
     }
 }
 
-/// The place behind the blocks of a string of 16 bytes or more. It stands by itself, so that a short string costs little.
+/// `behind_blocks` for a string of 16 bytes or more. Not inlined, so that the short path stays small.
 #[inline(never)]
 fn behind_blocks_of_many(bytes: &[u8], unit: usize) -> Place
     ensures { IsCounted bytes.now unit result }
@@ -231,14 +229,14 @@ fn behind_blocks_of_many(bytes: &[u8], unit: usize) -> Place
     behind_ascii::<HALF_VECTOR>(bytes, unit, place).unwrap_or(place)
 }
 
-/// The place of the code point that holds a unit, or the end, where the bytes have no such unit.
+/// Finds the code point that holds unit `unit` (counted from 0); the end if there is none.
 fn find_unit(bytes: &[u8], unit: usize) -> Place
     ensures { IsPlaceOfUnit bytes.now unit result }
 {
     find_unit_from(bytes, unit, behind_blocks(bytes, unit))
 }
 
-/// How many units begin among the bytes, of which those before a place are counted.
+/// Returns the number of units of all the bytes, counted byte by byte from `from` on.
 fn count_units_from(bytes: &[u8], from: Place) -> usize
     requires counted { IsCounted bytes.now usize.MAX from }
     requires fits { all_units_begun bytes.now < 2 ^ 64 }
@@ -251,7 +249,7 @@ fn count_units_from(bytes: &[u8], from: Place) -> usize
     units
 }
 
-/// How many units begin among the bytes.
+/// Returns the number of units of all the bytes.
 fn count_units(bytes: &[u8]) -> usize
     requires { all_units_begun bytes.now < 2 ^ 64 }
     ensures { result ≡ all_units_begun bytes.now }
@@ -270,7 +268,7 @@ fn count_units(bytes: &[u8]) -> usize
     count_units_from(bytes, place)
 }
 
-/// The place behind all blocks. It stands by itself, so that a short string costs little.
+/// Counts groups of `ADDED` blocks, then blocks of `HALF_BLOCK` bytes. Not inlined, so that the short path stays small.
 #[inline(never)]
 fn behind_all_blocks(bytes: &[u8]) -> Place
     requires { all_units_begun bytes.now < 2 ^ 64 }
@@ -283,7 +281,7 @@ fn behind_all_blocks(bytes: &[u8]) -> Place
     place
 }
 
-/// Whether a string is ASCII, of whose bytes the first `N` and the last `N` are all and may overlap.
+/// Whether a string of `N` to `2 * N` bytes is ASCII, by loads of its first and its last `N` bytes, which may overlap.
 #[inline(always)]
 pub(crate) fn is_ascii<const N: usize>(view: Wtf8<'_>) -> bool
     requires lanes { N ≤ u64.BITS }
@@ -296,16 +294,16 @@ pub(crate) fn is_ascii<const N: usize>(view: Wtf8<'_>) -> bool
         && is_below(Simd::<u8, N>::from_slice(&bytes[last..]), 0x80)
 }
 
-/// Where a number of units ends in a string: a position in bytes, and the supplementary code point that begins there
-/// where the last of the units is its lead.
+/// The end of the first `n` units of a string: a byte position and, if the last of these units is the lead of a
+/// surrogate pair, the supplementary code point that begins there.
 #[derive(Clone, Copy)]
 pub(crate) struct UnitCut {
     pub(crate) position: usize,
     pub(crate) divided: Option<u32>,
 }
 
-/// Where the first `n` units of a string end, or `None` where it has fewer. No unit is counted where `n` is beyond the
-/// number of bytes, which is at least that of the units.
+/// Finds the end of the first `n` units of a string, or returns `None` if it has fewer. Counts nothing if `n` exceeds
+/// the length in bytes, which is at least the number of units.
 #[inline(always)]
 pub(crate) fn cut(view: Wtf8<'_>, n: usize) -> Option<UnitCut>
     ensures some { IfSome result (λ cut. CutsUnits (view_points view.entry) n cut.position cut.divided) }
@@ -330,7 +328,7 @@ pub(crate) fn cut(view: Wtf8<'_>, n: usize) -> Option<UnitCut>
     })
 }
 
-/// Keeps the bytes before a place, and writes the bytes of a lead surrogate over the three behind it.
+/// Keeps the first `at + 3` bytes and overwrites the last three of them by the encoding of a lead surrogate.
 pub(crate) fn keep_lead<A: Allocator>(bytes: &mut Vec<u8, A>, at: usize, lead: u32)
     requires lead { IsLead lead }
     requires within { at + 3 ≤ length bytes.old.items }
@@ -340,7 +338,7 @@ pub(crate) fn keep_lead<A: Allocator>(bytes: &mut Vec<u8, A>, at: usize, lead: u
     bytes[at..at + 3].copy_from_slice(&encoding::three_bytes(lead));
 }
 
-/// The first unit of a string, or `None` where it is empty.
+/// Returns the first unit of a string, or `None` if it is empty.
 fn first_unit(view: Wtf8<'_>) -> Option<u16>
     ensures { result ≡ slice_get (view_units view.entry) 0 }
 {
@@ -354,7 +352,7 @@ fn first_unit(view: Wtf8<'_>) -> Option<u16>
     Some(lead_of(value) as u16)
 }
 
-/// The unit of a number, by a cut. It stands by itself, so that what is ASCII costs little.
+/// Returns the unit at `index` by a cut before it. Not inlined, so that the ASCII path stays small.
 #[inline(never)]
 fn unit_by_cut(view: Wtf8<'_>, index: usize) -> Option<u16>
     ensures { result ≡ slice_get (view_units view.entry) index }
@@ -366,7 +364,7 @@ fn unit_by_cut(view: Wtf8<'_>, index: usize) -> Option<u16>
     }
 }
 
-/// The unit of a number, if the string begins with a block of ASCII that holds it.
+/// Returns the unit at `index` if the string begins with a block of ASCII that contains it.
 #[inline(always)]
 fn unit_in_ascii_front(view: Wtf8<'_>, index: usize) -> Option<u16>
     ensures { IfSome result (λ unit. slice_get (view_units view.entry) index ≡ Some unit) }
@@ -379,7 +377,7 @@ fn unit_in_ascii_front(view: Wtf8<'_>, index: usize) -> Option<u16>
     }
 }
 
-/// The unit of a number below `N`, if the first `N` bytes are all ASCII.
+/// Returns the unit at `index` if that is below `N` and the first `N` bytes are all ASCII.
 #[inline(always)]
 fn ascii_unit<const N: usize>(view: Wtf8<'_>, index: usize) -> Option<u16>
     requires lanes { N ≤ u64.BITS }
@@ -392,7 +390,7 @@ fn ascii_unit<const N: usize>(view: Wtf8<'_>, index: usize) -> Option<u16>
     None
 }
 
-/// How many units a half of a pair is, if there is one.
+/// Returns 1 if there is a half of a pair, else 0.
 #[inline(always)]
 fn count_of(half: Option<u16>) -> usize
     ensures count { result ≡ length (option_to_list half) }
@@ -404,7 +402,7 @@ fn count_of(half: Option<u16>) -> usize
     }
 }
 
-/// A part cut at code units. Where a cut splits a surrogate pair, the half inside stands beside the whole code points.
+/// A part cut at code units. If a cut splits a surrogate pair, the half inside is kept beside the whole code points.
 #[derive(Clone, Copy)]
 pub struct UnitSlice<'a> {
     /// The trail surrogate of a pair that the beginning of the part splits.
@@ -437,8 +435,8 @@ impl<'a> Wtf8<'a> {
         unit_by_cut(*self, index)
     }
 
-    /// The code unit at `index` of an all-ASCII string: one that has as many bytes as code units. `index` must be below
-    /// the length.
+    /// The code unit at `index` of an all-ASCII string: one with equal lengths in bytes and in code units. `index` must
+    /// be below the length.
     pub fn ascii_unit_at(&self, index: usize) -> u16
         requires ascii { length self.now.bytes.now ≡ length (view_units self.now) }
         requires within { index < length (view_units self.now) }
@@ -448,14 +446,14 @@ impl<'a> Wtf8<'a> {
     }
 
     /// The part from code unit `begin` to before code unit `end`, which must be in order and at most the number of code
-    /// units. Where an end splits a surrogate pair, the half inside stands beside the code points. Borrows the bytes
-    /// for `'a`, so it may outlive this view.
+    /// units. If an end splits a surrogate pair, the half inside is returned beside the whole code points. Borrows the
+    /// bytes for `'a`, so it may outlive this view.
     pub fn slice_units(&self, begin: usize, end: usize) -> UnitSlice<'a>
         requires order { begin ≤ end }
         requires within { end ≤ length (view_units self.now) }
         ensures units { units_of_slice result ≡ drop begin (take end (view_units self.now)) }
 
-        // A half stands beside the code points where an end divides a pair, and only there.
+        // If the part is not empty, it has a half at an end exactly if that end splits a pair.
         ensures trail { begin < end → (IsSome result.trail ↔ DividesPair (view_units self.now) begin) }
         ensures lead { begin < end → (IsSome result.lead ↔ DividesPair (view_units self.now) end) }
     {
@@ -471,7 +469,7 @@ impl<'a> Wtf8<'a> {
         UnitSlice { trail, whole, lead }
     }
 
-    /// The code points of the first `n` units, and the lead of a pair that `n` divides.
+    /// Returns the whole code points of the first `n` units, and the lead of a pair that `n` splits.
     fn first_units(self, n: usize) -> (Wtf8<'a>, Option<u16>)
         requires { n ≤ length (view_units self) }
         ensures units { view_units result.0 ++ option_to_list result.1 ≡ take n (view_units self.entry) }
@@ -487,7 +485,7 @@ impl<'a> Wtf8<'a> {
         }
     }
 
-    /// The trail of a pair that `n` divides, and the code points of the units behind the first `n`.
+    /// Returns the trail of a pair that `n` splits, and the whole code points after the first `n` units.
     fn units_behind(self, n: usize) -> (Option<u16>, Wtf8<'a>)
         requires { n ≤ length (view_units self) }
         ensures units { option_to_list result.0 ++ view_units result.1 ≡ drop n (view_units self.entry) }

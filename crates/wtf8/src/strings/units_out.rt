@@ -1,4 +1,4 @@
-// The units of a string, appended to a vector of units.
+// Conversion to UTF-16: the code units of a string, appended to a vector.
 ghost use Rattle.std.specs.Prelude.{◌≡◌, ℕ, ◌++◌, ◌+◌, ◌*◌, ◌<◌, ◌≤◌, length, take, drop, IsOk, IsTrue, OnOk, OnErr, false, vec_len, vec_capacity};
 ghost use lib.Lanes.{Each1};
 ghost use Rattle.wtf8.specs.CodePoint.{number};
@@ -19,32 +19,32 @@ use crate::strings::view::Wtf8;
 use std::alloc::{AllocError, Allocator};
 use std::simd::prelude::*;
 
-/// Where the first bytes of eight code points of two bytes stand, and the second ones.
+/// Shuffle indices: the lead bytes of eight two-byte code points; below, their second bytes.
 const FIRST_OF_TWO: [usize; 8] = [0, 2, 4, 6, 8, 10, 12, 14];
 
 const SECOND_OF_TWO: [usize; 8] = [1, 3, 5, 7, 9, 11, 13, 15];
 
-/// Where the first bytes of eight code points of three bytes stand, the second and the third ones.
+/// Shuffle indices: the lead bytes of eight three-byte code points; below, their second and their third bytes.
 const FIRST_OF_THREE: [usize; 8] = [0, 3, 6, 9, 12, 15, 18, 21];
 
 const SECOND_OF_THREE: [usize; 8] = [1, 4, 7, 10, 13, 16, 19, 22];
 
 const THIRD_OF_THREE: [usize; 8] = [2, 5, 8, 11, 14, 17, 20, 23];
 
-/// The units of a string of fewer bytes are written to a block first, so that they need not be counted before there is
-/// room for them.
+/// Strings of fewer bytes are decoded into a buffer on the stack, so that their units need not be counted before memory
+/// is requested.
 const FEW: usize = 4 * VECTOR;
 
-/// Code points of as many bytes each and of one unit each, of which `N` are read from a block of bytes.
+/// Code points of one unit and `WIDTH` bytes each, of which `N` are decoded from a load of `BYTES` bytes.
 trait Kind<const N: usize, const WIDTH: usize, const BYTES: usize> {
-    /// The units that the code points of a block have, and how many of these, from the front on, are of the kind.
+    /// Decodes `N` code points as if all had `WIDTH` bytes. Returns their units, and the number at the front that do.
     fn read(bytes: &[u8]) -> ([u16; N], usize)
         requires { BYTES ≤ length bytes.now }
         ensures within { (result.1 ≤ N) × (result.1 ≤ WIDTH * result.1) × (WIDTH * result.1 ≤ BYTES) }
         ensures more { result.1 < N → WIDTH * result.1 < BYTES }
         ensures begins { BeginsWithUnits bytes.now (take result.1 result.0) (WIDTH * result.1) };
 
-    /// Whether a code point of the kind begins with a byte.
+    /// Whether `byte` begins a code point of this kind.
     fn is_first(byte: u8) -> bool;
 }
 
@@ -54,17 +54,17 @@ struct OneByte;
 /// Code points of two bytes.
 struct TwoBytes;
 
-/// Code points of three bytes, surrogates among them.
+/// Code points of three bytes, surrogates included.
 struct ThreeBytes;
 
-/// The part of a view whose units are not written yet, and the place of the first of them.
+/// The part of a view that is not decoded yet, and the index at which its first unit will be written.
 #[derive(Clone, Copy)]
 struct Unwritten<'a> {
     view: Wtf8<'a>,
     at: usize,
 }
 
-/// Writes a block of units from a place on.
+/// Writes `N` units from index `at` on.
 #[inline(always)]
 fn put<const N: usize>(units: &mut [u16], at: usize, block: [u16; N])
     requires lanes { N ≤ u64.BITS }
@@ -75,7 +75,7 @@ fn put<const N: usize>(units: &mut [u16], at: usize, block: [u16; N])
     Simd::from_array(block).copy_to_slice(&mut units[at..]);
 }
 
-/// Bytes as units.
+/// Widens each byte to a code unit.
 #[inline(always)]
 fn widened<const N: usize>(block: Simd<u8, N>) -> [u16; N]
     requires lanes { N ≤ u64.BITS }
@@ -84,7 +84,7 @@ fn widened<const N: usize>(block: Simd<u8, N>) -> [u16; N]
     block.cast::<u16>().to_array()
 }
 
-/// Appends the units of a string of ASCII, of whose bytes the first `N` and the last `N` are all and may overlap.
+/// Appends the units of an ASCII string of `N` to `2 * N` bytes by its first and its last `N` bytes, which may overlap.
 #[inline(always)]
 fn append_ascii<const N: usize, B: Allocator>(
     units: &mut Vec<u16, B>,
@@ -105,7 +105,7 @@ fn append_ascii<const N: usize, B: Allocator>(
     Ok(())
 }
 
-/// Writes the unit of the first code point, which has one.
+/// Writes the one unit of the first code point, which has the number `value` and `width` bytes.
 #[inline(always)]
 fn widen_unit<'a>(units: &mut [u16], left: Unwritten<'a>, value: u32, width: usize) -> Unwritten<'a>
     requires room { left.at + length (view_units left.view) ≤ length units.old }
@@ -118,7 +118,7 @@ fn widen_unit<'a>(units: &mut [u16], left: Unwritten<'a>, value: u32, width: usi
     widen_units(units, left, [value as u16], 1, width)
 }
 
-/// Writes the units of the first code point.
+/// Decodes the first code point and writes its one or two units.
 #[inline(always)]
 fn widen_point<'a>(units: &mut [u16], left: Unwritten<'a>) -> Unwritten<'a>
     requires room { left.at + length (view_units left.view) ≤ length units.old }
@@ -142,7 +142,8 @@ fn widen_point<'a>(units: &mut [u16], left: Unwritten<'a>) -> Unwritten<'a>
     }
 }
 
-/// How many of `N` bytes stand before the first one of another kind: kinds are as many bytes each, and have numbers.
+/// Returns the number of lanes before the first with `byte / size != kind`. Size and kind are 128 and 0 for ASCII, 32
+/// and 6 for lead bytes of two-byte code points, 16 and 14 for lead bytes of three-byte ones.
 #[inline(always)]
 fn count_of_kind<const N: usize>(bytes: Simd<u8, N>, size: u8, kind: u8) -> usize
     requires lanes { N ≤ u64.BITS }
@@ -154,7 +155,7 @@ fn count_of_kind<const N: usize>(bytes: Simd<u8, N>, size: u8, kind: u8) -> usiz
     first_set(kinds.simd_ne(Simd::splat(kind)).to_bitmask()).unwrap_or(N)
 }
 
-/// The first bytes of eight code points of two bytes, and their units.
+/// Decodes eight two-byte code points. Returns their lead bytes, which are not checked here, and their units.
 #[inline(always)]
 fn read_twos(bytes: u8x16) -> (u8x8, [u16; 8])
     ensures firsts { result.0 ≡ firsts_of 2 8 bytes }
@@ -168,7 +169,7 @@ fn read_twos(bytes: u8x16) -> (u8x8, [u16; 8])
     (first, units.to_array())
 }
 
-/// The first bytes of eight code points of three bytes, and their units.
+/// Decodes eight three-byte code points. Returns their lead bytes, which are not checked here, and their units.
 #[inline(always)]
 fn read_threes(bytes: u8x32) -> (u8x8, [u16; 8])
     ensures firsts { result.0 ≡ firsts_of 3 8 bytes }
@@ -226,7 +227,7 @@ impl Kind<8, 3, 32> for ThreeBytes {
     }
 }
 
-/// Writes a block, whose first units are those of the first bytes.
+/// Writes `block` and advances by `width` bytes and their `count` units; the units of `block` after these do not count.
 #[inline(always)]
 fn widen_units<'a, const N: usize>(
     units: &mut [u16],
@@ -249,9 +250,9 @@ fn widen_units<'a, const N: usize>(
     }
 }
 
-/// Writes the units of the code points of a kind at the front, as far as a block of them tells, where there are bytes and
-/// room for one, and says whether they fill it. A whole block has a constant width, so that the next one need not wait until
-/// its code points are counted.
+/// Decodes the code points of a kind at the front of one block, and returns whether they fill it; does nothing without
+/// `BYTES` bytes and room for `N` units. A full block advances by a constant, so that the next load need not wait for
+/// the count.
 #[inline(always)]
 fn widen_row<'a, const N: usize, const WIDTH: usize, const BYTES: usize, K: Kind<N, WIDTH, BYTES>>(
     units: &mut [u16],
@@ -276,8 +277,8 @@ fn widen_row<'a, const N: usize, const WIDTH: usize, const BYTES: usize, K: Kind
     (widen_units(units, left, block, count, WIDTH * count), false)
 }
 
-/// Writes the units of the code points of a kind at the front by blocks, and of the code point behind them where they do not
-/// fill a block, as long as there are bytes for a block and the first of them begins a code point of the kind.
+/// Decodes a run of code points of a kind by blocks. After a block that they do not fill, it decodes one code point of
+/// any kind. Ends when fewer than `BYTES` bytes are left or another kind follows.
 #[inline(always)]
 fn widen_kind<'a, const N: usize, const WIDTH: usize, const BYTES: usize, K: Kind<N, WIDTH, BYTES>>(
     units: &mut [u16],
@@ -304,7 +305,7 @@ fn widen_kind<'a, const N: usize, const WIDTH: usize, const BYTES: usize, K: Kin
     }
 }
 
-/// Writes the units at the front: by blocks where two code points of as many bytes begin the rest, else of the first one.
+/// Decodes a run by blocks if two code points of equal length up to three bytes come first, else one code point.
 #[inline(always)]
 fn widen_front<'a>(units: &mut [u16], left: Unwritten<'a>) -> Unwritten<'a>
     requires room { left.at + length (view_units left.view) ≤ length units.old }
@@ -313,7 +314,7 @@ fn widen_front<'a>(units: &mut [u16], left: Unwritten<'a>) -> Unwritten<'a>
     ensures shorter { length result.view.bytes.now < length left.entry.view.bytes.now }
 {
     let bytes = left.view.bytes;
-    // The length is compared once, before the patterns, which would each compare it.
+    // The length is compared once here, since each of the patterns would compare it.
     if bytes.len() < VECTOR {
         return widen_point(units, left);
     }
@@ -325,7 +326,7 @@ fn widen_front<'a>(units: &mut [u16], left: Unwritten<'a>) -> Unwritten<'a>
     }
 }
 
-/// Writes the units of a view from a place on, and answers the place behind them.
+/// Writes the units of a view from index `from` on, and returns the index after them.
 #[inline(never)]
 fn widen_all(units: &mut [u16], from: usize, view: Wtf8<'_>) -> usize
     requires room { from + length (view_units view) ≤ length units.old }
@@ -340,7 +341,7 @@ fn widen_all(units: &mut [u16], from: usize, view: Wtf8<'_>) -> usize
     left.at
 }
 
-/// Appends the units of a string of fewer than `FEW` bytes.
+/// Appends the units of a string of fewer than `FEW` bytes, by way of a buffer on the stack.
 #[inline(never)]
 fn append_few<B: Allocator>(units: &mut Vec<u16, B>, view: Wtf8<'_>) -> Result<(), AllocError>
     requires { length view.bytes.now < FEW }
@@ -353,7 +354,7 @@ fn append_few<B: Allocator>(units: &mut Vec<u16, B>, view: Wtf8<'_>) -> Result<(
     units.extend_from_slice(&block[..count])
 }
 
-/// Appends the units of a string, which are counted first.
+/// Appends the units of a string, which are counted first to size the vector.
 #[inline(never)]
 fn append_many<B: Allocator>(units: &mut Vec<u16, B>, view: Wtf8<'_>) -> Result<(), AllocError>
     ensures { Becomes units.old (units.old.items ++ view_units view.entry) units.new result }
@@ -367,7 +368,7 @@ fn append_many<B: Allocator>(units: &mut Vec<u16, B>, view: Wtf8<'_>) -> Result<
 }
 
 impl<'a> Wtf8<'a> {
-    /// The view behind some bytes, which is well-formed.
+    /// Returns the view after the first `count` bytes.
     #[inline(always)]
     fn behind(self, count: usize) -> Wtf8<'a>
         requires within { count ≤ length self.bytes.now }

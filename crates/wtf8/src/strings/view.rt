@@ -1,4 +1,4 @@
-// Borrowed strings.
+// `Wtf8`, the borrowed string.
 ghost use Rattle.std.specs.Prelude.{◌≡◌, ℕ, List, [], ◌∷◌, ◌++◌, ◌+◌, ◌*◌, ◌^◌, ◌<◌, ◌≤◌, ◌↔◌, length, take, drop, slice_index};
 ghost use Rattle.std.specs.Prelude.{IsTrue, IsSome, IfSome, IfNone, IfOk, OnOk, OnErr, IsOk, vec_len, vec_capacity};
 ghost use Rattle.std.specs.Cow.{cow_str_bytes, IsBorrowedStr};
@@ -21,15 +21,15 @@ use std::borrow::CowStr;
 
 /// A borrowed string: a view of well-formed WTF-8 bytes that live for `'a`.
 ///
-/// Its units are those of the code points that the bytes encode. The fields are public so that contracts of other
-/// crates can name the bytes and their code points: code makes a view by a buffer's `as_wtf8`.
+/// The fields are public so that contracts of other crates can name the bytes and their code points, which determine
+/// the code units; code makes a view with `Wtf8Buf::as_wtf8` or `Wtf8::from_str`.
 ///
 /// ```
 /// use std::alloc::{AllocError, Global};
 /// use std::borrow::CowStr;
 /// use wtf8::Wtf8;
 ///
-/// /// The lossy text before a position, or `None` where that is no code point boundary.
+/// /// The lossy text before a position, or `None` if that is no code point boundary.
 /// fn text_before<'a>(
 ///     alloc: Global,
 ///     name: Wtf8<'a>,
@@ -38,7 +38,7 @@ use std::borrow::CowStr;
 ///     if !name.is_code_point_boundary(end) {
 ///         return Ok(None);
 ///     }
-///     // Only a text that has to be copied can be refused. The view and its bytes are never changed.
+///     // Memory is needed, and can be refused, only if the text has to be copied.
 ///     let text = name.slice_to(end).to_string_lossy(alloc)?;
 ///     Ok(Some(text))
 /// }
@@ -62,7 +62,7 @@ impl<'a> Wtf8<'a> {
         Wtf8::from_well_formed(value.as_bytes())
     }
 
-    /// A view of bytes that are known to be well-formed.
+    /// Wraps bytes that are known to be well-formed.
     pub(crate) fn from_well_formed(bytes: &'a [u8]) -> Wtf8<'a>
         requires { IsWellFormed bytes.now }
         ensures bytes { result.bytes.now ≡ bytes.now }
@@ -97,7 +97,7 @@ impl<'a> Wtf8<'a> {
         Wtf8CodePoints::new(*self)
     }
 
-    /// Iterates over the 16-bit code units, in order: those that the string was made of, paired or not.
+    /// Iterates over the 16-bit code units, in order: the units that the string was made of, paired or not.
     pub fn to_ill_formed_utf16(&self) -> IllFormedUtf16CodeUnits<'a>
         ensures units { unread_units result ≡ view_units self.now }
         ensures held { result.held ≡ [] }
@@ -108,8 +108,8 @@ impl<'a> Wtf8<'a> {
         IllFormedUtf16CodeUnits::new(*self)
     }
 
-    /// Whether `index` is a code point boundary: where a code point begins, or the end. An index past the end is none.
-    /// Looks at one byte.
+    /// Whether `index` is a code point boundary: the start of a code point, or the end of the string. An index past the
+    /// end is not. Reads at most one byte.
     pub fn is_code_point_boundary(&self, index: usize) -> bool
         ensures { IsTrue result ↔ IsBoundary (view_units self.now) index }
     {
@@ -139,7 +139,7 @@ impl<'a> Wtf8<'a> {
         ensures units { IsBack (view_units self.now) begin (view_units result) }
         ensures bytes { result.bytes.now ≡ drop begin self.now.bytes.now }
 
-        // Behind the units of the code points before the position these are the whole.
+        // The units of the code points before `begin`, followed by the units of this part, are all units of the string.
         ensures whole { (front : List ℕ) → IsFront (view_units self.now) begin front → front ++ view_units result ≡ view_units self.now }
     {
         let (_, rest) = self.bytes.split_at(begin);
@@ -153,21 +153,21 @@ impl<'a> Wtf8<'a> {
         ensures units { IsFront (view_units self.now) end (view_units result) }
         ensures bytes { result.bytes.now ≡ take end self.now.bytes.now }
 
-        // With the units of the code points from the position on behind them these are the whole.
+        // The units of this part, followed by the units of the code points from `end` on, are all units of the string.
         ensures whole { (back : List ℕ) → IsBack (view_units self.now) end back → view_units result ++ back ≡ view_units self.now }
     {
         let (front, _) = self.bytes.split_at(end);
         Wtf8::from_well_formed(front)
     }
 
-    /// The ASCII byte at `position`, which must be below the length, or 0xFF for any other byte. An ASCII byte is a code
-    /// point and a code unit by itself, wherever it stands.
+    /// The byte at `position` if it is ASCII, else 0xFF. `position` must be below the length. An ASCII byte is always a
+    /// whole code point and one code unit.
     pub fn ascii_byte_at(&self, position: usize) -> u8
         requires { position < length self.now.bytes.now }
         ensures ascii { slice_index self.now.bytes.now position < 0x80 → result ≡ slice_index self.now.bytes.now position }
         ensures other { 0x80 ≤ slice_index self.now.bytes.now position → result ≡ 0xFF }
 
-        // Both sides of an ASCII byte are code point boundaries, and it is the unit between what is before and behind it.
+        // Both sides of an ASCII byte are code point boundaries, and it is the only unit between them.
         ensures before { result < 0x80 → IsBoundary (view_units self.now) position }
         ensures behind { result < 0x80 → IsBoundary (view_units self.now) (position + 1) }
         ensures unit { (front back : List ℕ) → result < 0x80 → IsFront (view_units self.now) position front →
@@ -230,7 +230,7 @@ impl<'a> Wtf8<'a> {
         digits::push_hex(text, self.bytes)
     }
 
-    /// The first code point and the view behind it, or `None` where the string is empty.
+    /// Returns the first code point and the view after it, or `None` if the string is empty.
     pub(crate) fn split_first(self) -> Option<(CodePoint, Wtf8<'a>)>
         ensures none { IfNone result (view_points self.entry ≡ []) }
         ensures some { IfSome result (λ x. view_points self.entry ≡ number x.0 ∷ view_points x.1) }
@@ -243,7 +243,7 @@ impl<'a> Wtf8<'a> {
         Some((code_point, Wtf8 { bytes: rest }))
     }
 
-    /// The text before the first surrogate and the view behind it, or the whole text where there is none.
+    /// Returns the text before the first surrogate and the view after it; without one, the whole text and `None`.
     pub(crate) fn split_at_surrogate(self) -> (&'a str, Option<Wtf8<'a>>)
         ensures none { IfNone result.1 (bytes (lossy (view_points self.entry)) ≡ result.0.now) }
         ensures some { IfSome result.1 (λ rest. bytes (lossy (view_points self.entry)) ≡ result.0.now ++ bytes (0xFFFD ∷ lossy (view_points rest))) }
@@ -258,7 +258,7 @@ impl<'a> Wtf8<'a> {
         (text, Some(Wtf8 { bytes: behind }))
     }
 
-    /// The number of the lead surrogate that ends the string, if one does.
+    /// Returns the lead surrogate that ends the string, if one does: bytes ED, A0 to AF, and a continuation byte.
     pub(crate) fn final_lead_surrogate(&self) -> Option<u32>
         ensures lead { IfSome result (λ l. IsLead l) }
         ensures last { IfSome result (λ l. (f : List ℕ) × (view_points self.now ≡ f ++ l ∷ [])) }
@@ -272,7 +272,7 @@ impl<'a> Wtf8<'a> {
         }
     }
 
-    /// The number of the trail surrogate that begins the string, if one does.
+    /// Returns the trail surrogate that begins the string, if one does: bytes ED, B0 to BF, and a continuation byte.
     pub(crate) fn initial_trail_surrogate(self) -> Option<u32>
         ensures trail { IfSome result (λ t. IsTrail t) }
         ensures first { IfSome result (λ t. (r : List ℕ) × (view_points self.entry ≡ t ∷ r)) }

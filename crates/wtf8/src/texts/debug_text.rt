@@ -1,4 +1,4 @@
-// What debug texts are made of. Each function writes whatever width and flags its formatter has.
+// Debug texts. The functions ignore the formatter's width and flags.
 ghost use Rattle.std.specs.Prelude.{◌≡◌, ◌<◌, Some, [], ◌∷◌};
 ghost use Rattle.std.specs.Fmt.{DisplaysOnOk, WritesStyledOnOk};
 ghost use Rattle.std.specs.List.{flat_map};
@@ -15,7 +15,7 @@ use crate::strings::view::Wtf8;
 use std::alloc::Allocator;
 use std::fmt;
 
-/// Writes one digit.
+/// Writes one upper-case hexadecimal digit.
 fn write_digit<W: fmt::Write>(value: u32, f: &mut fmt::Formatter<W>) -> fmt::Result
     requires { value < 16 }
     ensures { WritesStyledOnOk W.write_str_gives f.old result (digit value ∷ []) f.new }
@@ -23,7 +23,7 @@ fn write_digit<W: fmt::Write>(value: u32, f: &mut fmt::Formatter<W>) -> fmt::Res
     f.write_char(digits::upper_digit(value as u8))
 }
 
-/// Writes the last four digits of a number.
+/// Writes the last four hexadecimal digits of a number, zeros included.
 fn write_last_four<W: fmt::Write>(value: u32, f: &mut fmt::Formatter<W>) -> fmt::Result
     ensures { WritesStyledOnOk W.write_str_gives f.old result (last_four value) f.new }
 {
@@ -33,7 +33,7 @@ fn write_last_four<W: fmt::Write>(value: u32, f: &mut fmt::Formatter<W>) -> fmt:
     write_digit(value % 16, f)
 }
 
-/// Writes the number of a code point in upper-case hexadecimal, at least four digits.
+/// Writes the number of a code point in upper-case hexadecimal, with at least four digits.
 pub(crate) fn write_upper<W: fmt::Write>(value: u32, f: &mut fmt::Formatter<W>) -> fmt::Result
     requires { IsCodePoint value }
     ensures { WritesStyledOnOk W.write_str_gives f.old result (upper value) f.new }
@@ -47,7 +47,7 @@ pub(crate) fn write_upper<W: fmt::Write>(value: u32, f: &mut fmt::Formatter<W>) 
     write_last_four(value, f)
 }
 
-/// Writes what stands for a code point in the debug text of a string.
+/// Writes a code point as in the debug text of a string: a surrogate between `\u{` and `}`, any other as itself.
 fn write_point<W: fmt::Write>(code_point: CodePoint, f: &mut fmt::Formatter<W>) -> fmt::Result
     ensures { WritesStyledOnOk W.write_str_gives f.old result (shown (number code_point)) f.new }
 {
@@ -61,7 +61,7 @@ fn write_point<W: fmt::Write>(code_point: CodePoint, f: &mut fmt::Formatter<W>) 
     }
 }
 
-/// Writes what stands for each code point of a string.
+/// Writes each code point as in the debug text of a string.
 fn write_points<W: fmt::Write>(text: Wtf8<'_>, f: &mut fmt::Formatter<W>) -> fmt::Result
     ensures { WritesStyledOnOk W.write_str_gives f.old result (flat_map shown (view_points text.entry)) f.new }
 {

@@ -1,4 +1,4 @@
-// The texts that strings are displayed as.
+// Display texts, which are lossy if a string holds surrogates.
 ghost use Rattle.std.specs.Prelude.{Some};
 ghost use Rattle.std.specs.Fmt.{WritesStyledOnOk, styled_text};
 ghost use Rattle.wtf8.specs.Display.{displayed};
@@ -11,8 +11,8 @@ use crate::strings::view::Wtf8;
 use std::alloc::Allocator;
 use std::fmt;
 
-/// Writes the lossy text in parts: each text up to a surrogate, and U+FFFD for that surrogate. It writes whatever width
-/// and flags the formatter has.
+/// Writes the lossy text: each part before a surrogate as it is, and U+FFFD for the surrogate. The formatter's width
+/// and flags are ignored.
 fn write_lossy<W: fmt::Write>(view: Wtf8<'_>, f: &mut fmt::Formatter<W>) -> fmt::Result
     ensures { WritesStyledOnOk W.write_str_gives f.old result (bytes (lossy (view_points view.entry))) f.new }
 {
@@ -29,7 +29,7 @@ fn write_lossy<W: fmt::Write>(view: Wtf8<'_>, f: &mut fmt::Formatter<W>) -> fmt:
 }
 
 /// Writes the text with U+FFFD in place of each surrogate. Width, fill and precision apply if the string holds no
-/// surrogate, and are ignored otherwise. Does not allocate; an error of the sink ends it and is its answer.
+/// surrogate, and are ignored otherwise. Does not allocate. Stops at the first error of the writer and returns it.
 impl<'a> fmt::Display for Wtf8<'a> {
     ghost output = { λ view. Some (bytes (lossy (view_points view))) };
 
@@ -43,7 +43,7 @@ impl<'a> fmt::Display for Wtf8<'a> {
     }
 }
 
-/// Writes what the view is displayed as.
+/// Writes the display text of the view.
 impl<A: Allocator> fmt::Display for Wtf8Buf<A> {
     ghost output = { λ string. Some (bytes (lossy string.form.points)) };
 

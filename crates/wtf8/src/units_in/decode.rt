@@ -1,4 +1,4 @@
-// Code units read as code points.
+// Decodes UTF-16 code units to code points.
 ghost use Rattle.std.specs.Prelude.{◌≡◌, ◌↔◌, ℕ, ◌-◌, ◌<◌, ◌≤◌, List, [], ◌∷◌, length, take, drop, Result, None, IsTrue, MatchResult};
 ghost use Rattle.std.specs.Iterator.{count_map, Drains};
 ghost use Rattle.std.specs.Iterator.Adapters.{peekable_can, peekable_source, peekable_peeked, items_left_with_peeked};
@@ -12,14 +12,14 @@ use crate::numbers::code_point::CodePoint;
 use crate::numbers::surrogates::{self, FIRST_LEAD, LAST_LEAD, LAST_TRAIL};
 use std::iter::Ahead;
 
-/// The characters that the units of an iterator stand for, in order, as `Ok`, and its lone surrogates as `Err`.
+/// Decodes the units that an iterator yields: each item is `Ok` of a `char` or `Err` of a lone surrogate.
 ///
-/// A lead and the trail directly behind it are one character, and so is a unit that is no surrogate.
+/// A lead and the trail directly after it are one `char`, and so is a unit that is not a surrogate.
 pub(crate) fn decode_utf16<I: Iterator<Item = u16>>(iter: I) -> DecodeUtf16<I>
     ensures source { peekable_source (units_left result) ≡ iter }
     ensures peeked { peekable_peeked (units_left result) ≡ None }
 
-    // Whatever the iterator gives up to its end, the items are a reading of it.
+    // The items up to the end are a reading of the units, whatever units the iterator yields.
     ensures reads { (items : List (Result ℕ ℕ)) → Drains (decode_steps I.next_gives) result items → ReadsAll I.next_gives iter items }
 {
     DecodeUtf16 {
@@ -27,9 +27,9 @@ pub(crate) fn decode_utf16<I: Iterator<Item = u16>>(iter: I) -> DecodeUtf16<I>
     }
 }
 
-/// An iterator over the characters and the lone surrogates of an iterator of units, made by `decode_utf16`.
+/// An iterator that decodes the units of another iterator, made by `decode_utf16`.
 ///
-/// It holds back the unit behind a lone lead until the next call.
+/// After a lone lead it keeps the next unit, which is already read, until the next call.
 #[derive(Drop)]
 pub(crate) struct DecodeUtf16<I> {
     units: Ahead<I, u16>,
@@ -42,14 +42,14 @@ fn is_trail_unit(unit: &u16) -> bool
     surrogates::is_trail(u32::from(*unit))
 }
 
-/// The code point of a unit by itself.
+/// The code point of one unit, which may be a surrogate.
 pub(crate) fn single(unit: u16) -> CodePoint
     ensures { number result ≡ unit }
 {
     CodePoint::from_u32_unchecked(u32::from(unit))
 }
 
-/// The character of a unit that joins no other, or the unit where it is a surrogate.
+/// The unit as a `char`, or `Err` of the unit if it is a surrogate.
 #[inline(always)]
 fn alone(unit: u16) -> Result<char, u16>
     ensures kind { MatchResult result (λ c. IsCodePoint c × ¬ (IsSurrogate c)) IsSurrogate }
@@ -58,7 +58,7 @@ fn alone(unit: u16) -> Result<char, u16>
     char::from_u32(u32::from(unit)).ok_or(unit)
 }
 
-/// The supplementary character of a lead and a trail.
+/// The supplementary `char` of a surrogate pair.
 fn paired(lead: u16, trail: u16) -> char
     requires lead { IsLead lead }
     requires trail { IsTrail trail }
@@ -79,7 +79,7 @@ impl<I: Iterator<Item = u16>> Iterator for DecodeUtf16<I> {
     fn next(&mut self) -> Option<Result<char, u16>> {
         let unit = self.units.next()?;
         if unit < FIRST_LEAD {
-            // Most code units: one comparison in place of two, and their character is known to be a scalar value.
+            // Most units: one comparison instead of two, after which the conversion to `char` is known to succeed.
             return Some(alone(unit));
         }
         match unit {
@@ -115,7 +115,7 @@ pub(crate) fn read_point(v: &[u16], at: usize) -> (CodePoint, usize, bool)
         unreachable!()
     };
     match item {
-        // A surrogate begins no character but a pair.
+        // The unit is a surrogate, so a `char` is a pair.
         Ok(character) => (CodePoint::from_char(character), at + 2, true),
         Err(surrogate) => (single(surrogate), at + 1, false),
     }

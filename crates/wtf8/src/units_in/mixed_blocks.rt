@@ -1,5 +1,21 @@
-// Code units of all kinds side by side turned into bytes, eight together where no surrogate is alone among them: three bytes
-// of each are worked out in lanes, and a row of places picks those that are written.
+// Kernel that encodes eight code units at a time if none is a lone surrogate. Unit k has three candidate bytes, fk, sk
+// and lk, and takes the last one, two or three of them: two if it is a lead or a trail, half of its pair's four bytes.
+// The lanes before and after the shuffles, from lane 0 on:
+//
+//     first_bytes                 f0 f1 f2 f3 f4 f5 f6 f7
+//     second bytes                s0 s1 s2 s3 s4 s5 s6 s7
+//     last bytes                  l0 l1 l2 l3 l4 l5 l6 l7
+//     first, second by BY_FOUR    f0 f1 f2 f3  s0 s1 s2 s3  f4 f5 f6 f7  s4 s5 s6 s7
+//     last, last by BOTH_WAYS     l0 l1 l2 l3  l4 l5 l6 l7  l4 l5 l6 l7  l0 l1 l2 l3
+//     both of these by FRONTS     f0 f1 f2 f3  s0 s1 s2 s3  l0 l1 l2 l3  l4 l5 l6 l7    for units 0-3
+//     both of these by BACKS      f4 f5 f6 f7  s4 s5 s6 s7  l4 l5 l6 l7  l0 l1 l2 l3    for units 4-7
+//
+// Lanes 12-15 of the last two are not used. With mk set if unit k takes more than one byte, and tk if it takes three:
+//
+//     m, t by BY_FOUR             m0 m1 m2 m3  t0 t1 t2 t3  m4 m5 m6 m7  t4 t5 t6 t7
+//
+// The mask of these lanes, with lane 0 as its lowest bit, is the index in `ROWS` for units 0-3 plus 256 times that for
+// units 4-7. A row is a shuffle that packs the bytes to be written: 4, and one more for each set bit of its index.
 #![tactic(auto, using(crate::proofs::lemmas::lanes::AsciiFronts::by_all))]
 
 ghost use Rattle.std.specs.Prelude.{◌≡◌, ℕ, List, ◌∷◌, true, Bool, ◌+◌, ◌-◌, ◌*◌, ◌%◌, ◌/◌, ◌^◌, ◌<◌, ◌≤◌, ◌++◌, length, map, take, drop, slice_index_or, IfOk, IfSome, IsTrue, nat_lt, if◌then◌else◌};
@@ -13,28 +29,28 @@ use crate::units_in::rows;
 use std::alloc::{AllocError, Allocator};
 use std::simd::prelude::*;
 
-/// How many units are turned into bytes together.
+/// The number of units that are encoded together.
 const EIGHT: usize = 8;
 
-/// How many bytes a block needs before its last row is written.
+/// The bytes that must be left in a block for eight units: at most 12 for the first four, then a store of 16.
 const SPARE: usize = 28;
 
-/// Four lanes of one vector, four of another, and the other four of both.
+/// Lanes 0 to 3 of two vectors of eight lanes, then lanes 4 to 7 of both.
 const BY_FOUR: [usize; 16] = [0, 1, 2, 3, 8, 9, 10, 11, 4, 5, 6, 7, 12, 13, 14, 15];
 
-/// Four lanes and the other four, and then these before those.
+/// A vector of eight lanes, then its two halves swapped.
 const BOTH_WAYS: [usize; 16] = [0, 1, 2, 3, 4, 5, 6, 7, 4, 5, 6, 7, 0, 1, 2, 3];
 
-/// The first eight lanes of two vectors.
+/// Lanes 0 to 7 of two vectors of sixteen lanes.
 const FRONTS: [usize; 16] = [0, 1, 2, 3, 4, 5, 6, 7, 16, 17, 18, 19, 20, 21, 22, 23];
 
-/// The last eight lanes of two vectors.
+/// Lanes 8 to 15 of two vectors of sixteen lanes.
 const BACKS: [usize; 16] = [8, 9, 10, 11, 12, 13, 14, 15, 24, 25, 26, 27, 28, 29, 30, 31];
 
-/// The lanes of a vector one place further on, behind the first of another one.
+/// Lane 0 of another vector, then lanes 0 to 6: moves each unit up by one lane.
 const BY_ONE: [usize; 8] = [8, 0, 1, 2, 3, 4, 5, 6];
 
-/// Whether none of eight units is a surrogate.
+/// Whether none of the units is a surrogate: the high five bits of surrogates, and of no other units, are 11011.
 #[inline(always)]
 fn are_scalar(units: u16x8) -> bool
     ensures { IsTrue result → AreScalarUnits units }
@@ -45,7 +61,7 @@ fn are_scalar(units: u16x8) -> bool
         == 0
 }
 
-/// Whether each trail among eight units stands behind a lead, and no lead before another unit.
+/// Whether each trail is directly after a lead, and each lead directly before a trail unless it is the last unit.
 #[inline(always)]
 fn are_paired(units: u16x8) -> bool
     ensures { IsTrue result → ArePaired 0 units }
@@ -58,7 +74,7 @@ fn are_paired(units: u16x8) -> bool
     (behind_leads ^ trails).to_bitmask() == 0
 }
 
-/// The first of three bytes of each of eight units.
+/// The lead byte of a three-byte encoding, for each unit. Not used if a unit takes fewer than three bytes.
 #[inline(always)]
 fn first_bytes(units: u16x8) -> u8x8
     ensures { result ≡ map first_byte units }
@@ -67,7 +83,7 @@ fn first_bytes(units: u16x8) -> u8x8
     (u16x8::splat(0xE0) + high).cast::<u8>()
 }
 
-/// The second of three bytes of each of eight units that are no surrogates, or where it takes two its first one.
+/// The second of three bytes or the lead byte of two, for each unit that is not a surrogate. Not used for ASCII.
 #[inline(always)]
 fn own_second_bytes(units: u16x8) -> u16x8
     ensures { result ≡ map own_second_byte units }
@@ -79,7 +95,8 @@ fn own_second_bytes(units: u16x8) -> u16x8
     marks + middle
 }
 
-/// The second of three bytes of each of eight units of any kinds, or the first of two. A trail's comes from its lead.
+/// As `own_second_bytes`, but for a lead byte 1 of its pair's four, and for a trail byte 3, which holds bits of the
+/// lead.
 #[inline(always)]
 fn second_bytes(units: u16x8) -> u16x8
     ensures { result ≡ zip2 second_byte (0 ∷ units) units }
@@ -98,7 +115,7 @@ fn second_bytes(units: u16x8) -> u16x8
         .select(lead, no_lead)
 }
 
-/// The last byte of each of eight units that are no leads.
+/// The last byte of each unit's encoding, for a trail that of its pair. Not used for leads.
 #[inline(always)]
 fn own_last_bytes(units: u16x8) -> u16x8
     ensures { result ≡ map own_last_byte units }
@@ -107,7 +124,7 @@ fn own_last_bytes(units: u16x8) -> u16x8
     units.simd_lt(u16x8::splat(0x80)).select(units, low)
 }
 
-/// The last byte of each of eight units of any kinds.
+/// As `own_last_bytes`, but for a lead the second of its pair's four bytes.
 #[inline(always)]
 fn last_bytes(units: u16x8) -> u16x8
     ensures { result ≡ map last_byte units }
@@ -120,7 +137,7 @@ fn last_bytes(units: u16x8) -> u16x8
         .select(lead, own_last_bytes(units))
 }
 
-/// For each of eight units a mark unless it is below a number.
+/// 0x80 in each lane whose unit is at least `number`, else 0.
 #[inline(always)]
 fn marks(units: u16x8, number: u16) -> u16x8
     ensures { result ≡ map (λ n. (if nat_lt n number then 0 else 1) * 0x80) units }
@@ -130,7 +147,7 @@ fn marks(units: u16x8, number: u16) -> u16x8
         .select(u16x8::splat(0), u16x8::splat(0x80))
 }
 
-/// A mark for each of eight units of any kinds that takes three bytes.
+/// 0x80 in each lane whose unit takes three bytes, else 0. A surrogate takes two.
 #[inline(always)]
 fn long_marks(units: u16x8) -> u16x8
     ensures { result ≡ map (λ n. are_three n * 0x80) units }
@@ -140,10 +157,10 @@ fn long_marks(units: u16x8) -> u16x8
         .select(u16x8::splat(0), marks(units, 0x800))
 }
 
-/// What is behind the first of three bytes of each of eight units: second bytes, last ones, and marks for units of three.
+/// Second bytes, last bytes and three-byte flags of eight units. A flag is 0x80 if its unit takes three bytes, else 0.
 type Behind = (u16x8, u16x8, u16x8);
 
-/// What is behind the first bytes of eight units without a surrogate.
+/// Second bytes, last bytes and three-byte flags of eight units without a surrogate: cheaper than `behind`.
 #[inline(always)]
 fn own_behind(units: u16x8) -> Behind
     requires { AreScalarUnits units }
@@ -153,7 +170,7 @@ fn own_behind(units: u16x8) -> Behind
     (seconds, own_last_bytes(units), marks(units, 0x800))
 }
 
-/// What is behind the first bytes of eight units of any kinds.
+/// Second bytes, last bytes and three-byte flags of any eight units.
 #[inline(always)]
 fn behind(units: u16x8) -> Behind
     ensures { AreBehind units result.0 result.1 result.2 }
@@ -161,8 +178,8 @@ fn behind(units: u16x8) -> Behind
     (second_bytes(units), last_bytes(units), long_marks(units))
 }
 
-/// The bytes of the first four of eight units in lanes, those of the other four, and their lengths as a number: those of the
-/// first four below 256, and above it those of the others.
+/// The first, second and last bytes of units 0 to 3 in lanes 0 to 11, the bytes of units 4 to 7 likewise, and the
+/// indexes of their rows: bits 0 to 7 for units 0 to 3, bits 8 to 15 for units 4 to 7.
 #[inline(always)]
 fn lanes(units: u16x8, behind: Behind) -> (u8x16, u8x16, u64)
     requires { AreBehind units behind.0 behind.1 behind.2 }
@@ -184,7 +201,7 @@ fn lanes(units: u16x8, behind: Behind) -> (u8x16, u8x16, u64)
     )
 }
 
-/// Writes sixteen bytes behind the first bytes of a block.
+/// Stores 16 bytes at index `len` of a block.
 #[inline(always)]
 fn store(bytes: u8x16, block: &mut [u8], len: usize)
     requires { len + 16 ≤ length block.old }
@@ -193,7 +210,7 @@ fn store(bytes: u8x16, block: &mut [u8], len: usize)
     bytes.copy_to_slice(&mut block[len..]);
 }
 
-/// Writes the bytes of four units behind the first bytes of a block, by their lanes and lengths, and answers where they end.
+/// Packs the bytes of four units at index `len` of a block, by row `number`. Returns the index after them.
 #[inline(always)]
 fn put(lanes: u8x16, number: usize, block: &mut [u8], len: usize) -> usize
     requires number { number < 256 }
@@ -206,7 +223,7 @@ fn put(lanes: u8x16, number: usize, block: &mut [u8], len: usize) -> usize
     len + rows::count(number)
 }
 
-/// Writes what eight units add behind the first bytes of a block, and answers where it ends.
+/// Packs the bytes of eight units at index `len` of a block. Returns the index after them.
 #[inline(always)]
 fn put_eight(units: u16x8, behind: Behind, block: &mut [u8], len: usize) -> usize
     requires room { len + SPARE ≤ length block.old }
@@ -220,8 +237,8 @@ fn put_eight(units: u16x8, behind: Behind, block: &mut [u8], len: usize) -> usiz
     put(back, numbers / 256, block, middle)
 }
 
-/// Writes the bytes of eight units, or of all but a lead at their end, behind the first bytes of a block, and answers how many
-/// units these are and where the bytes end. Units without a surrogate are written by less.
+/// Encodes eight units at index `len` of a block, or seven if the last one is a lead. Returns the number of units and
+/// the index after their bytes. Units without a surrogate take the cheaper path.
 #[inline(always)]
 fn write_block(units: &[u16; EIGHT], block: &mut [u8], len: usize) -> (usize, usize)
     requires room { len + SPARE ≤ length block.old }
@@ -242,7 +259,7 @@ fn write_block(units: &[u16; EIGHT], block: &mut [u8], len: usize) -> (usize, us
     (EIGHT, all)
 }
 
-/// The eight units from a place on, where there are so many and no surrogate is alone among them but a lead at the end.
+/// The eight units at index `at`, or `None` if fewer are left or one is a lone surrogate; the last one may be a lead.
 #[inline(always)]
 fn paired_units(v: &[u16], at: usize) -> Option<[u16; EIGHT]>
     requires { at ≤ length v.now }
@@ -257,8 +274,8 @@ fn paired_units(v: &[u16], at: usize) -> Option<[u16; EIGHT]>
     None
 }
 
-/// Writes the bytes of units from a place on to the front of a block, eight together as long as there are so many, no surrogate
-/// is alone among them and there is room for them, and answers where the units end and how many bytes these are.
+/// Encodes units from index `at` on into a block, eight at a time, until fewer are left, one is a lone surrogate or the
+/// block has fewer than `SPARE` bytes left. Returns the index after the units and the number of bytes.
 #[inline(always)]
 fn write_blocks(v: &[u16], at: usize, block: &mut [u8]) -> (usize, usize)
     requires { at ≤ length v.now }
@@ -278,8 +295,8 @@ fn write_blocks(v: &[u16], at: usize, block: &mut [u8]) -> (usize, usize)
     (end, len)
 }
 
-/// Appends the bytes of units from a place on, eight together as long as there are so many and no surrogate is alone among
-/// them, by a block of so many bytes, and answers where they end.
+/// Appends the bytes of units from index `at` on, eight at a time by a scratch buffer of `ROOM` bytes, until fewer are
+/// left, one is a lone surrogate or fewer than `SPARE` bytes of the buffer are left. Returns the next index.
 #[inline(always)]
 pub(crate) fn append<const ROOM: usize, A: Allocator>(
     bytes: &mut Vec<u8, A>,

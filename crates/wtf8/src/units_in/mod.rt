@@ -1,4 +1,4 @@
-// Code units on their way in, as bytes.
+// Conversion of UTF-16 code units to WTF-8 bytes.
 pub(crate) mod decode;
 pub(crate) mod mixed_blocks;
 pub(crate) mod rows;

@@ -1,13 +1,13 @@
-// Which bytes of four units stay: for each four lengths the places of the bytes that are written.
+// The shuffle table of the kernel in `mixed_blocks`, by the encoded lengths of four units.
 ghost use Rattle.std.specs.Prelude.{◌<◌, ◌≤◌};
 ghost use Rattle.wtf8.specs.private.UnitPieces.{IsRow, IsCounted};
 ghost use lib.Lanes.{Each1};
 
 use std::simd::prelude::*;
 
-/// The places of the bytes of four units in sixteen, of which the first four are the units' first bytes of three, the next
-/// four their second ones and the next four their last ones. The number of a row has a bit for each unit of more than one
-/// byte, and four places above it one for each of three.
+/// Shuffles that pack the bytes of four units at the front of a vector. Lanes 0 to 3, 4 to 7 and 8 to 11 hold the
+/// first, second and last bytes of units 0 to 3; a unit takes the last one, two or three of its bytes. In the index of
+/// a row, bit `k` is set if unit `k` takes more than one byte, and bit `4 + k` if it takes three.
 const ROWS: &[[u8; 16]; 256] = &[
     [8, 9, 10, 11, 0, 0, 0, 0, 0, 0, 0, 0, 0, 0, 0, 0],
     [4, 8, 9, 10, 11, 0, 0, 0, 0, 0, 0, 0, 0, 0, 0, 0],
@@ -267,7 +267,7 @@ const ROWS: &[[u8; 16]; 256] = &[
     [0, 4, 8, 1, 5, 9, 2, 6, 10, 3, 7, 11, 0, 0, 0, 0],
 ];
 
-/// The places of the bytes that four units take, by the number of their lengths.
+/// The shuffle that packs the bytes of four units; `number` is its index in `ROWS`.
 #[inline(always)]
 pub(crate) fn row(number: usize) -> u8x16
     requires { number < 256 }
@@ -277,7 +277,7 @@ pub(crate) fn row(number: usize) -> u8x16
     u8x16::from_array(ROWS[number])
 }
 
-/// How many bytes four units take, by the number of their lengths.
+/// The number of bytes that row `number` packs: one for each of the four units, and one for each set bit of the index.
 #[inline(always)]
 pub(crate) fn count(number: usize) -> usize
     requires { number < 256 }

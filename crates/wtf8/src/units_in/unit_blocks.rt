@@ -1,6 +1,6 @@
-// Code units turned into bytes by the kind of the first: the ASCII units at the front of 32, 16 or eight together with the
-// code point after them, others in mixed blocks or one code point at a time. The code units that are left at the end, fewer
-// than eight unless a surrogate is unpaired, are read by `decode_utf16`.
+// Encodes a list of code units in steps, by the next units: an ASCII run of up to 32, 16 or 8 units and the code point
+// after it, blocks of the kernel in `mixed_blocks`, or one code point. `decode_utf16` decodes the last units: fewer
+// than 8, or fewer than 16 if there is a lone surrogate among the first 8 of them.
 ghost use Rattle.std.specs.Prelude.{◌≡◌, ℕ, [], true, ◌+◌, ◌++◌, ◌^◌, ◌<◌, ◌≤◌, length, map, min, take, IfOk, IfSome, IsTrue, OnOk, IsOk};
 ghost use Rattle.wtf8.specs.private.UnitParts.{IsKnownForm, IsReadTo, AreAscii};
 
@@ -11,22 +11,22 @@ use crate::units_in::{decode, mixed_blocks};
 use std::alloc::{AllocError, Allocator};
 use std::simd::prelude::*;
 
-/// The code units of a block that is searched for its ASCII front, while this many are left.
+/// The number of units that are searched for an ASCII run at once while at least `MANY` are left.
 const MANY: usize = 2 * NUMBERS;
 
-/// The code units of such a block near the end.
+/// The number of units that are searched for an ASCII run at once if fewer than `MANY` are left.
 const NUMBERS: usize = 16;
 
-/// The code units of the smallest such block.
+/// The least number of units that are searched for an ASCII run at once, or encoded as a block.
 const HALF: usize = NUMBERS / 2;
 
-/// How many bytes of units of other kinds are written before they are appended.
+/// The size in bytes of the kernel's scratch buffer while `MANY` or more units are left.
 const LONG: usize = 256;
 
-/// How many where few units are left.
+/// The size in bytes of the kernel's scratch buffer if fewer than `MANY` units are left.
 const SHORT: usize = 80;
 
-/// Units as bytes, each above 0xFF as 0xFF.
+/// Units narrowed to bytes. A unit above 0xFF becomes 0xFF, so that it is not ASCII.
 #[inline(always)]
 fn saturated<const N: usize>(units: Simd<u16, N>) -> Simd<u8, N>
     ensures { result ≡ map (λ unit. min unit 0xFF) units.entry }
@@ -34,7 +34,7 @@ fn saturated<const N: usize>(units: Simd<u16, N>) -> Simd<u8, N>
     units.simd_min(Simd::splat(0xFF)).cast::<u8>()
 }
 
-/// How many of `N` bytes come before the first that is not ASCII.
+/// The number of ASCII bytes before the first byte that is not ASCII.
 #[inline(always)]
 fn count_ascii<const N: usize>(bytes: Simd<u8, N>) -> usize
     requires { N ≤ u64.BITS }
@@ -44,8 +44,7 @@ fn count_ascii<const N: usize>(bytes: Simd<u8, N>) -> usize
     first_set(bytes.simd_ge(Simd::splat(0x80)).to_bitmask()).unwrap_or(N)
 }
 
-/// Appends the bytes of the code point at a place up to which units were read, and answers how far they are read then, and
-/// whether no surrogate is alone among them.
+/// Appends the encoding of the code point at `at`. Returns the next index, and whether no lone surrogate precedes it.
 #[inline(always)]
 fn append_point<A: Allocator>(
     bytes: &mut Vec<u8, A>,
@@ -60,7 +59,7 @@ fn append_point<A: Allocator>(
 {
     let unit = v[at];
     if unit < 0x800 {
-        // Letters of most alphabets: no surrogate, and two bytes at most.
+        // Letters of most alphabets: never a surrogate, and at most two bytes.
         encoding::append(bytes, decode::single(unit))?;
         return Ok((at + 1, is_scalar));
     }
@@ -69,9 +68,8 @@ fn append_point<A: Allocator>(
     Ok((end, is_scalar & is_point_scalar))
 }
 
-/// Appends the ASCII units at the front of the `N` from a place on up to which units were read, and the bytes of the code
-/// point behind them where not all are ASCII. Answers how far units are read then, and whether no surrogate is alone among
-/// them.
+/// Appends the ASCII run at the front of the `N` units at index `at`, and the code point after it if the run is shorter
+/// than `N`. Returns the next index, and whether no lone surrogate precedes it.
 #[inline(always)]
 fn append_front<const N: usize, A: Allocator>(
     bytes: &mut Vec<u8, A>,
@@ -96,9 +94,9 @@ fn append_front<const N: usize, A: Allocator>(
     append_point(bytes, v, at + count, is_scalar)
 }
 
-/// Appends the bytes of some units from a place on up to which units were read: of the ASCII units at their front, where
-/// there are `FRONT` units, or of others by a block of `ROOM` bytes. Answers how far units are read then, and whether no
-/// surrogate is alone among them.
+/// Appends the bytes of the next units: an ASCII run of up to `FRONT` and the code point after it, blocks of eight by a
+/// scratch buffer of `ROOM` bytes, or one code point. Returns the next index, and whether no lone surrogate precedes
+/// it.
 #[inline(always)]
 fn append_part<const FRONT: usize, const ROOM: usize, A: Allocator>(
     bytes: &mut Vec<u8, A>,
@@ -116,7 +114,7 @@ fn append_part<const FRONT: usize, const ROOM: usize, A: Allocator>(
     if v[at] < 0x80 {
         return append_front::<FRONT, A>(bytes, v, at, is_scalar);
     }
-    // Behind a front of ASCII mostly more of it comes.
+    // ASCII that follows soon is most often a run: encode one code point, and leave the run to a later step.
     if v[at + 1] < 0x80 || v[at + 2] < 0x80 {
         return append_point(bytes, v, at, is_scalar);
     }
@@ -127,8 +125,8 @@ fn append_part<const FRONT: usize, const ROOM: usize, A: Allocator>(
     Ok((end, is_scalar))
 }
 
-/// Appends the bytes of units to a buffer without bytes as long as many are left, and answers how far they are read then,
-/// and whether no surrogate is alone among them.
+/// Appends the bytes of units to an empty buffer while `MANY` or more are left. Returns the next index, and whether no
+/// lone surrogate precedes it.
 #[inline(always)]
 fn append_many<A: Allocator>(bytes: &mut Vec<u8, A>, v: &[u16]) -> Result<(usize, bool), AllocError>
     requires { bytes.old.items ≡ [] }
@@ -143,10 +141,10 @@ fn append_many<A: Allocator>(bytes: &mut Vec<u8, A>, v: &[u16]) -> Result<(usize
     Ok((at, is_scalar))
 }
 
-/// Appends the encodings of the next code units from index `at` on, of which there are at least `HALF`: of an ASCII front and
-/// the code point after it, or of mixed blocks. Returns the index after them, and whether no surrogate before it is unpaired.
+/// Appends the bytes of units from index `at` on, with `HALF` or more left: an ASCII run of up to `HALF` and the code
+/// point after it, or blocks of eight. Returns the next index, and whether no lone surrogate precedes it.
 ///
-/// The index stays where it is if no block can be written, since a surrogate in it is unpaired.
+/// The next index is `at` if no block can be encoded: there is a lone surrogate among the next eight units.
 #[inline(always)]
 fn append_small_block<A: Allocator>(
     bytes: &mut Vec<u8, A>,
@@ -166,8 +164,8 @@ fn append_small_block<A: Allocator>(
     Ok((end, is_scalar))
 }
 
-/// Appends the encodings of code units from index `from` on as long as at least `HALF` are left and a block can be written.
-/// Returns the index after them, and whether no surrogate before it is unpaired.
+/// Appends the bytes of units from index `from` on while `HALF` or more are left and a block can be encoded. Returns
+/// the next index, and whether no lone surrogate precedes it.
 #[inline(always)]
 fn append_few<A: Allocator>(
     bytes: &mut Vec<u8, A>,
@@ -193,9 +191,9 @@ fn append_few<A: Allocator>(
     Ok((at, is_scalar))
 }
 
-/// Appends the encodings of all code units from index `at` on, and returns whether no surrogate in the whole list is unpaired.
+/// Appends the bytes of all units from index `at` on. Returns whether the whole list holds no lone surrogate.
 ///
-/// No lead surrogate that the reader gives stays before a trail surrogate, so no code point is joined to the one before.
+/// `decode_utf16` joins each pair: no trail is appended directly after a lead, and none needs to be joined to one.
 #[inline(always)]
 fn append_rest<A: Allocator>(
     bytes: &mut Vec<u8, A>,
@@ -220,7 +218,7 @@ fn append_rest<A: Allocator>(
     Ok(is_scalar)
 }
 
-/// Appends the string of the units to a buffer without bytes, and answers whether it has no lone surrogate.
+/// Appends the WTF-8 form of units to an empty buffer. Returns whether the units hold no lone surrogate.
 pub(crate) fn append_form<A: Allocator>(
     bytes: &mut Vec<u8, A>,
     v: &[u16],
