@@ -317,7 +317,7 @@ pub parts_there : {w v : List ℕ} (h : IsWellFormed w) (k : IsWellFormed v) (at
     → IsTrue b ↔ PairBegins v at → beq a b ≡ false → Parting h.points k.points at
 parts_there h k at d a b p q e = elim (one_of_both a b p q e) [ inl l ↦ parting h k at d.same_before l | inr l ↦ turned (parting k h at (sym d.same_before) l) ]
 
--- if one begins there in both strings or in neither, the bytes there compare as the units of the strings
+-- if one begins there in both strings or in neither, the bytes at the first difference compare as the units
 pub bytes_order : {w v : List ℕ} (h : IsWellFormed w) (k : IsWellFormed v) (at : ℕ) → IsFirstDifference w v at → PairBegins w at ↔ PairBegins v at
     → option_cmp nat_cmp (slice_get w at) (slice_get v at) ≡ slice_cmp nat_cmp (units h.points) (units k.points)
 bytes_order {w} {v} h k at d both =

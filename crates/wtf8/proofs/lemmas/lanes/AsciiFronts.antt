@@ -32,7 +32,7 @@ module _ (w : Width) (n : ℕ) (xs : List ℕ) (few : n ≤ 64) (long : length x
       by None none = (omega arith, ascii n (omega arith) none)
       by (Some k) h = (omega (arith, h.1), ascii k (omega (arith, h.1)) h.0.none_between)
 
--- a vector with `k` in all lanes is a nonzero divisor in each lane
+-- division by `k` > 0 in all lanes divides by 0 in none
 pub by_all : (xs : List ℕ) (k : ℕ) → 0 < k → Each2 (λ (a b : ℕ). 0 < b) xs (k ∷ k ∷ k ∷ k ∷ k ∷ k ∷ k ∷ k ∷ [])
 by_all xs k h = Each2-splat (λ (a b : ℕ). 0 < b) xs 8 k (Each1-all (λ (a : ℕ). 0 < k) (λ a. h) xs)
 

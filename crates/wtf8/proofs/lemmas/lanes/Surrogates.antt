@@ -48,7 +48,7 @@ first_begins xs ys p q r first =
       λ h. and_from _ _ (eq-eqb _ 0xED h.0) (le-leb 0xA0 _ h.1),
     )
 
--- for the blocks at `i` and `i + 1` that lane is the position of the first surrogate
+-- the first such lane of the blocks at `i` and `i + 1` gives the first position at which a surrogate begins
 pub begins_there : (w : List ℕ) (i : ℕ) → i + 32 < length w → (r : Option ℕ) → IsFirstBelow (BeginsInLane (chunk i 32 w) (chunk (i + 1) 32 w)) 0 32 r
     → MatchOption r (Nowhere (SurrogateAt w) i (i + 32)) (λ k. IsLeast (SurrogateAt w) i (i + k) × (i + k < i + 32))
 begins_there w i room = first_there (SurrogateAt w) (BeginsInLane (chunk i 32 w) (chunk (i + 1) 32 w)) i 32 begins

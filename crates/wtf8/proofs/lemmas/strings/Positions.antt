@@ -171,7 +171,7 @@ middle_of h begin end p f b =
 pub begun_more : (w : List ℕ) (i n : ℕ) → all_units_begun (take (i + n) w) ≡ all_units_begun (take i w) + all_units_begun (chunk i n w)
 begun_more w i n = ap all_units_begun (take-add i n w) ∙ sum_by-append units_begun (take i w) (take n (drop i w))
 
--- in ASCII bytes as many units begin
+-- `n` units begin in `n` ASCII bytes
 pub begun_ascii : (w : List ℕ) (i n : ℕ) → i + n ≤ length w → ((j : ℕ) → j < n → get_or w (i + j) 0 < 0x80)
     → all_units_begun (take (i + n) w) ≡ all_units_begun (take i w) + n
 begun_ascii w i zero room low = omega (arith, ap (λ k. all_units_begun (take k w)) (start i))

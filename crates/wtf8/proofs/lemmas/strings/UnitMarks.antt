@@ -91,7 +91,7 @@ divided_are_surrogates u n m =
     ∙ get_or-append_seam (m.front ++ m.lead ∷ []) m.trail m.rest 0) in
     (omega (arith, front, length-append m.front (m.lead ∷ [])), inside, subst IsLead (sym lead) m.is_lead, subst IsTrail (sym trail) m.is_trail)
 
--- code points with as many bytes as units are ASCII
+-- code points with equal numbers of bytes and units are ASCII
 all_ascii : (c : List ℕ) → length (bytes c) ≡ length (units c) → AreAscii c
 all_ascii [] e = tt
 all_ascii (p ∷ c) e =
@@ -105,7 +105,7 @@ all_ascii (p ∷ c) e =
       | four l r ↦ absurd (omega (arith, e, all_bytes, all_units, bound, ap length r, ap length (units_two p l)))
     ]
 
--- a string with as many bytes as units is ASCII, and its units are its bytes
+-- a string with equal numbers of bytes and units is ASCII, and its units are its bytes
 pub ascii_same : {w u : List ℕ} → IsForm w u → length w ≡ length u → AreAscii u × (w ≡ u)
 ascii_same {w} {u} f e =
     let low = all_ascii f.points (ap length f.encoded ∙ (e ∙ sym (ap length f.reads.same_units))) in
