@@ -1,10 +1,10 @@
--- The answers to the lines so far.
+-- The output for the lines so far.
 use Rattle.std.proofs.Common.{◌≡◌, ℕ, List, [], ◌∷◌, ◌++◌, sym, ap, ◌∙◌, flat_map, append_assoc, append-nil}
 use Rattle.std.proofs.lemmas.List.Concat.{flat_map-append}
 use Rattle.std.specs.List.{AllZip}
 use Rattle.dump_lines.specs.Dump.{IsAnswer, HoldsAnswers}
 
--- lists that agree place by place still do with one more element each
+-- lists that are related element by element still are with one more related element each
 pub AllZip-one_more : {A B : Type 0} (R : A → B → Type 0) (xs : List A) (ys : List B) (x : A) (y : B) → AllZip R xs ys → R x y
     → AllZip R (xs ++ x ∷ []) (ys ++ y ∷ [])
 AllZip-one_more R [] [] x y h here = (here, tt)
@@ -15,7 +15,7 @@ AllZip-one_more R (a ∷ xs) (b ∷ ys) x y h here = (h.0, AllZip-one_more R xs 
 one : (answer : List ℕ) → answer ++ 10 ∷ [] ≡ flat_map (λ a. a ++ 10 ∷ []) (answer ∷ [])
 one answer = sym (append-nil (answer ++ 10 ∷ []))
 
--- one more line is answered
+-- the output for one more line, with its newline, is appended
 pub HoldsAnswers-push : (lines : List (List ℕ)) (out new line answer : List ℕ) → HoldsAnswers lines out → IsAnswer line answer
     → new ≡ (out ++ answer) ++ 10 ∷ []
     → HoldsAnswers (lines ++ line ∷ []) new

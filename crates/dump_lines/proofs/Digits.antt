@@ -11,7 +11,7 @@ use Rattle.std.specs.Str.Parse.{digits_value, AllDigits}
 use Rattle.dump_lines.specs.Word.{bounded_number, point_of}
 use Rattle.std.proofs.lemmas.Int.Digits.{digits_value-lt, digits_value_more, digits_more}
 
--- the number so far is below the base to the length of the word
+-- the value of the digits so far is below `base ^ most`
 number_below : (base : ℕ) (word : List ℕ) (i n most : ℕ) → 2 ≤ base → length word ≤ most → n ≡ digits_value base (take i word)
     → AllDigits base (take i word) → n < base ^ most
 number_below base word i n most least few spelled digits =
@@ -19,7 +19,7 @@ number_below base word i n most least few spelled digits =
     let power : base ^ length (take i word) ≤ base ^ most = pow-le-pow_right (omega arith) shorter in
     omega (arith, spelled, power, digits_value-lt base (take i word) digits)
 
--- the byte at i is the digit d, after the digits so far spelled n
+-- the byte at index `i` is the digit `d`, and the digits before it have the value `n`
 module _ (base : ℕ) (word : List ℕ) (i n d : ℕ) (here : i < length word) (lt : d < base) (is : d ≡ digit_value (get_or word i 0)) where
   small : digit_value (get_or word i 0) < base
   small = omega (arith, lt, is)
@@ -35,20 +35,20 @@ module _ (base : ℕ) (word : List ℕ) (i n d : ℕ) (here : i < length word) (
       → n * base + d < base ^ most
   next_below most least few spelled digits = number_below base word (i + 1) (n * base + d) most least few (next_number spelled) (next_digits digits)
 
-  -- whether all bytes are digits is whether those after this one are
+  -- the bytes from index `i` on are all digits if and only if the bytes after it are
   pub next_rest : list_all (λ byte. is_digit byte base) (drop i word) ≡ list_all (λ byte. is_digit byte base) (drop (i + 1) word)
   next_rest =
       ap (list_all (λ byte. is_digit byte base)) (drop_more word i 0 here)
       ∙ ap (λ passes. passes && list_all (λ byte. is_digit byte base) (drop (i + 1) word)) (lt-ltb _ _ small)
 
--- a word with a byte that is no digit spells no number
+-- a word with a byte that is no digit has no value
 pub no_number : (base least most : ℕ) (word : List ℕ) (i : ℕ) → i < length word → base ≤ digit_value (get_or word i 0)
     → bounded_number base least most word ≡ None
 no_number base least most word i here none =
     let fails : list_all (λ byte. is_digit byte base) word ≡ false = list_all_at _ word i 0 here (le-ltb _ _ none) in
     elim (cases_Bool (nat_le least (length word) && nat_le (length word) most)) [ inl some ↦ rw (some, fails) refl | inr few ↦ rw few refl ]
 
--- a word that stands for a code point holds no space
+-- a word of a code point holds no space
 pub point_no_space : (word : List ℕ) (n k : ℕ) → point_of word ≡ Some n → k < length word → get_or word k 0 ≢ 32
 point_no_space word n k stands lt is =
     let none : None ≡ Some n = rw (no_number 16 4 6 word k lt (omega (arith, ap digit_value is))) at stands in cc

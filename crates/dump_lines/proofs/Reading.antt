@@ -6,7 +6,7 @@ use Rattle.dump_lines.specs.Lines.{words}
 use Rattle.dump_lines.specs.Word.{IsCall}
 use Rattle.dump_lines.proofs.Answering.{AllZip-one_more}
 
--- The words in front stand for the calls, and the others are left.
+-- `calls` are the calls of the first words of the line, and `rest` are the words after them.
 pub record AreRead (line : List ℕ) (rest : List (List ℕ)) (calls : List Build) : Type 0 where
   pub front : List (List ℕ)
   pub split : words line ≡ front ++ rest

@@ -10,14 +10,14 @@ use Rattle.std.proofs.lemmas.List.Splits.{slice_split_at, slice_split_none, slic
 use Rattle.dump_lines.specs.Lines.{without_empty_end, lines}
 use Rattle.dump_lines.specs.Parts.{parts_left}
 
--- no separator stands at a place below i
+-- no separator occurs before index `i`
 module _ (separator : ℕ) (xs : List ℕ) (i : ℕ) (none : (k : ℕ) → k < i → get_or xs k 0 ≢ separator) where
   in_front : i ≤ length xs → All (λ b. (b == separator) ≡ false) (take i xs)
   in_front within = All-from_get_or (λ b. (b == separator) ≡ false) (take i xs) 0 (λ k lt.
       let inside : k < i = omega (arith, lt, length-take-le i xs within) in
       ne_eqb _ separator (λ is. none k inside (sym (get_or-take i xs k 0 inside) ∙ is)))
 
-  -- one there ends the first part
+  -- a separator at index `i` ends the first part
   pub split_there : i < length xs → get_or xs i 0 ≡ separator
       → slice_split (λ b. b == separator) xs ≡ take i xs ∷ slice_split (λ b. b == separator) (drop (i + 1) xs)
   split_there lt is =
@@ -25,11 +25,11 @@ module _ (separator : ℕ) (xs : List ℕ) (i : ℕ) (none : (k : ℕ) → k < i
       ap (slice_split (λ b. b == separator)) parts
       ∙ slice_split_at (λ b. b == separator) (take i xs) (get_or xs i 0) (drop (i + 1) xs) (in_front (omega arith)) (eq-eqb _ _ is)
 
-  -- at the end all is one part
+  -- if `i` is the length, there is one part
   pub split_nowhere : i ≡ length xs → slice_split (λ b. b == separator) xs ≡ xs ∷ []
   split_nowhere end = slice_split_none _ xs (subst (All (λ b. (b == separator) ≡ false)) (take_all i xs (omega (arith, end))) (in_front (omega (arith, end))))
 
--- there is a first part
+-- splitting gives at least one part
 some_part : (p : ℕ → Bool) (xs : List ℕ) → (first : List ℕ) × (rest : List (List ℕ)) × (slice_split p xs ≡ first ∷ rest)
 some_part p [] = ([], [], refl)
 some_part p (x ∷ xs) =
@@ -39,17 +39,17 @@ some_part p (x ∷ xs) =
       | inr fails ↦ (x ∷ more.0, more.1, slice_split-cons_no p x xs fails ∙ ap (onto_first x) more.2)
     ]
 
--- a part before others stays
+-- a part before other parts is kept
 kept_before : (part next : List ℕ) (parts : List (List ℕ)) → without_empty_end (part ∷ next ∷ parts) ≡ part ∷ without_empty_end (next ∷ parts)
 kept_before [] next parts = refl
 kept_before (b ∷ bs) next parts = refl
 
--- what is not empty is one line where it has no newline
+-- one part is one line unless it is empty
 one_line : (bytes : List ℕ) → bytes ≢ [] → without_empty_end (bytes ∷ []) ≡ bytes ∷ []
 one_line [] h = absurd (h refl)
 one_line (b ∷ bs) h = refl
 
--- the first line and the lines after it
+-- the lines of bytes are the first line and the lines of the rest
 pub lines_step : (bytes line : List ℕ) (after : Option (Bor (List ℕ))) (end rest : Bor (List ℕ)) → bytes ≢ []
     → slice_split (λ b. b == 10) bytes ≡ line ∷ parts_left 10 after
     → IfNone after (line ≡ bytes) → end.now ≡ [] → rest ≡ unwrap_or after end → lines bytes ≡ line ∷ lines rest.now

@@ -4,18 +4,18 @@ ghost use Rattle.std.specs.Prelude.{◌≡◌};
 /// Why a run stopped before its end.
 #[derive(Clone, Copy, PartialEq, Eq, Debug)]
 pub enum Fault {
-    /// A read answered an error.
+    /// A read returned an error.
     Read = 1,
-    /// A write or the closing flush answered an error, or a write took no byte.
+    /// A write or the final flush returned an error, or a write accepted no byte.
     Write = 2,
-    /// A growth of memory was refused.
+    /// A request for memory was refused.
     Memory = 3,
 }
 
 impl Fault {
     ghost use Rattle.dump_lines.specs.Fault.{status_of, text_of};
 
-    /// The exit status that the program ends with: 1 for a failed read or write, 2 for want of memory.
+    /// The exit status of the program: 1 if a read or a write failed, 2 if memory was refused.
     pub fn status(&self) -> u8
         ensures { result ≡ status_of self.now }
     {
@@ -25,7 +25,7 @@ impl Fault {
         }
     }
 
-    /// The text that the program prints, in lower-case words with no newline.
+    /// The message that the program prints, in lower-case words with no newline.
     pub fn text(&self) -> &'static str
         ensures { result.now ≡ text_of self.now }
     {

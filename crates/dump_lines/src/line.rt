@@ -1,4 +1,4 @@
-// The answer to one line.
+// The output for one line.
 ghost use Rattle.std.specs.Prelude.{◌≡◌, ℕ, List, ◌++◌, IfOk, OnOk, MatchBool};
 ghost use Rattle.std.specs.List.{Any, AllZip};
 ghost use Rattle.wtf8.specs.Hex.{hex};
@@ -10,7 +10,7 @@ use crate::word::read_first_word;
 use std::alloc::{AllocError, Allocator};
 use wtf8::{Build, Wtf8Buf};
 
-/// Room that is kept from line to line: for the calls of a line, and for the string that they build.
+/// Buffers that are reused from line to line: the calls of a line, and the string that they build.
 #[derive(Drop)]
 pub struct Workspace<A: Allocator> {
     calls: Vec<Build<'static>, A>,
@@ -19,7 +19,7 @@ pub struct Workspace<A: Allocator> {
 }
 
 impl<A: Allocator + Copy> Workspace<A> {
-    /// A workspace with no room yet. It asks for no memory.
+    /// Makes empty buffers. Does not allocate.
     pub fn new(alloc: A) -> Workspace<A> {
         Workspace {
             calls: Vec::new(alloc),
@@ -28,14 +28,14 @@ impl<A: Allocator + Copy> Workspace<A> {
         }
     }
 
-    /// Appends the answer to a line, both without a newline: the bytes, in hexadecimal, of the string that the line's
-    /// calls build from the empty one, or `?` where some word stands for no call, and no call was applied then. Where
-    /// truncations were refused, `!` and how many follows, behind a space where there are bytes.
+    /// Appends the output for a line, without a newline: the bytes, in hexadecimal, of the string that the words of the
+    /// line build; then, if truncations were refused, `!` and their number, after a space if there are bytes. If a word
+    /// is malformed, the output is `?` alone, and no word has an effect.
     ///
-    /// A word is 4 to 6 hexadecimal digits of either case, which push the code point of that number, at most 0x10FFFF;
-    /// `-` and 1 to 9 decimal digits, which truncate at that position in bytes; or `/` and 1 to 9 decimal digits, which
-    /// truncate at that number of 16-bit units. A newline inside the line stands in no word. An `Err` comes only where a
-    /// growth of memory was refused.
+    /// A word is 4 to 6 hexadecimal digits of either case, which push the code point of that value, at most 0x10FFFF;
+    /// `-` and 1 to 9 decimal digits, which truncate to that number of bytes; or `/` and 1 to 9 decimal digits, which
+    /// truncate to that number of 16-bit units. A newline inside the line makes its word malformed. Returns an error
+    /// only if memory is refused.
     pub fn push_answer(&mut self, line: &[u8], out: &mut Vec<u8, A>) -> Result<(), AllocError>
         ensures answer { OnOk result ((answer : List ℕ) × IsAnswer line.now answer × (out.new.items ≡ out.old.items ++ answer)) }
     {
@@ -52,7 +52,7 @@ impl<A: Allocator + Copy> Workspace<A> {
         self.push_dump_with_note(refused, out)
     }
 
-    /// Appends the bytes of the string in hexadecimal, and behind them how many truncations were refused where some were.
+    /// Appends the bytes of the string in hexadecimal and, if truncations were refused, `!` and their number.
     fn push_dump_with_note(&self, refused: usize, out: &mut Vec<u8, A>) -> Result<(), AllocError>
         ensures { OnOk result (out.new.items ≡ out.old.items ++ (hex self.now.string.bytes ++ note self.now.string.bytes refused)) }
     {
@@ -66,7 +66,7 @@ impl<A: Allocator + Copy> Workspace<A> {
     }
 }
 
-/// Reads the calls of a line's words in the place of those that were there, and answers whether each word stands for one.
+/// Replaces `calls` by the calls of the line's words, and returns true, or returns false at the first malformed word.
 fn read_calls<A: Allocator>(
     line: &[u8],
     calls: &mut Vec<Build<'static>, A>,
@@ -86,7 +86,7 @@ fn read_calls<A: Allocator>(
     Ok(true)
 }
 
-/// The answer to a line by itself.
+/// Returns the output for one line, without its newline.
 pub fn dump_line<A: Allocator + Copy>(alloc: A, line: &[u8]) -> Result<Vec<u8, A>, AllocError>
     ensures answer { IfOk result (λ answer. IsAnswer line.now answer.items) }
 {

@@ -5,10 +5,10 @@ ghost use Rattle.dump_lines.specs.Parts.{parts_left};
 
 use std::simd::prelude::*;
 
-/// How many bytes are searched for a separator together.
+/// The number of bytes that are compared with the separator together.
 const LANES: usize = 16;
 
-/// The bytes before the first separator, and those after it where there is one.
+/// Returns the bytes before the first separator and the bytes after it, or all bytes and `None` if there is none.
 pub fn split_first_part(bytes: &[u8], separator: u8) -> (&[u8], Option<&[u8]>)
     ensures parts { slice_split (λ byte. byte == separator) bytes.now ≡ result.0.now ∷ parts_left separator result.1 }
     ensures whole { IfNone result.1 (result.0.now ≡ bytes.now) }
@@ -23,7 +23,7 @@ pub fn split_first_part(bytes: &[u8], separator: u8) -> (&[u8], Option<&[u8]>)
     (bytes, None)
 }
 
-/// How many bytes at the front hold no separator, as far as blocks tell.
+/// Returns the index of the first block that holds a separator, or of the tail of fewer than `LANES` bytes.
 #[inline(always)]
 fn skip_blocks(bytes: &[u8], separator: u8) -> usize
     ensures within { result ≤ length bytes.now }

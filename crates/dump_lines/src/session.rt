@@ -1,4 +1,4 @@
-// One run: everything is read, every answer is computed, and then the answers are written.
+// One run: all input is read, the output for all lines is computed, and then it is written.
 ghost use Rattle.std.specs.Prelude.{◌≡◌, ◌≢◌, ℕ, List, IfOk, OnOk, IfErr, OnErr, IsErrOf, take};
 ghost use Rattle.std.specs.Io.KnownBytes.{Appends, Keeps, IsAtEnd};
 ghost use Rattle.dump_lines.specs.Dump.{IsDump};
@@ -10,27 +10,27 @@ use crate::parts::split_first_part;
 use std::alloc::{AllocError, Allocator};
 use std::io::{Read, Write};
 
-/// Reads the reader to its end, computes the answer to each line, and then writes the answers, each with a newline
-/// after it, and flushes the writer.
+/// Reads the reader to its end, computes the output for all lines, then writes it, a line for each line of input, and
+/// flushes the writer.
 ///
-/// Every error is final, `Interrupted` too. `Fault::Read` comes where a read answered an error and `Fault::Memory`
-/// where a growth of memory was refused; nothing was written then. `Fault::Write` comes where a write or the flush
-/// answered an error or a write took no byte; a beginning of the answers was written then.
+/// Every error is final, `Interrupted` too. Returns `Fault::Read` if a read fails and `Fault::Memory` if memory is
+/// refused, both with nothing written; `Fault::Write` if a write or the flush fails or a write accepts no byte, with a
+/// prefix of the output written.
 pub fn run<A: Allocator + Copy, R: Read, W: Write>(
     alloc: A,
     reader: &mut R,
     writer: &mut W,
 ) -> Result<(), Fault>
-    // Where all went well, all was read, and what was written is its dump and nothing else.
+    // On success, all was read, and its dump and nothing else was written.
     ensures end { OnOk result (IsAtEnd (R.remaining reader.new)) }
     ensures dump { OnOk result ((input : List ℕ) × (out : List ℕ) × IsInput (R.remaining reader.old) input
         × IsDump input out × Appends (W.contents writer.old) (W.contents writer.new) out) }
 
-    // A failed read and want of memory come before anything was written.
+    // If a read fails or memory is refused, nothing was written.
     ensures read { IsErrOf result Fault.Read → Keeps (W.contents writer.old) (W.contents writer.new) }
     ensures memory { IsErrOf result Fault.Memory → Keeps (W.contents writer.old) (W.contents writer.new) }
 
-    // A failed write comes after all was read, and what was written is a beginning of the dump.
+    // If a write fails, all was read, and a prefix of the dump was written.
     ensures write_end { IsErrOf result Fault.Write → IsAtEnd (R.remaining reader.new) }
     ensures write { IsErrOf result Fault.Write → (input : List ℕ) × (out : List ℕ) × (n : ℕ)
         × IsInput (R.remaining reader.old) input × IsDump input out
@@ -43,7 +43,7 @@ pub fn run<A: Allocator + Copy, R: Read, W: Write>(
     write_output(writer, out.as_slice())
 }
 
-/// All that a reader has left.
+/// Reads all bytes that the reader has left.
 fn read_input<A: Allocator + Copy, R: Read>(alloc: A, reader: &mut R) -> Result<Vec<u8, A>, Fault>
     ensures input { IfOk result (λ input. IsInput (R.remaining reader.old) input.items) }
     ensures end { OnOk result (IsAtEnd (R.remaining reader.new)) }
@@ -64,7 +64,7 @@ fn read_input<A: Allocator + Copy, R: Read>(alloc: A, reader: &mut R) -> Result<
     }
 }
 
-/// The answers to the lines of an input, each with a newline after it.
+/// Returns the output for an input: a line for each of its lines.
 fn dump<A: Allocator + Copy>(alloc: A, input: &[u8]) -> Result<Vec<u8, A>, AllocError>
     ensures { IfOk result (λ out. IsDump input.now out.items) }
 {
@@ -80,7 +80,7 @@ fn dump<A: Allocator + Copy>(alloc: A, input: &[u8]) -> Result<Vec<u8, A>, Alloc
     Ok(out)
 }
 
-/// Writes some bytes and flushes the writer. After an error a beginning of the bytes was written.
+/// Writes the bytes and flushes the writer. On an error, a prefix of the bytes was written.
 fn write_output<W: Write>(writer: &mut W, out: &[u8]) -> Result<(), Fault>
     ensures whole { OnOk result (Appends (W.contents writer.old) (W.contents writer.new) out.now) }
     ensures beginning { OnErr result ((n : ℕ)

@@ -1,4 +1,4 @@
-// What a word stands for.
+// Words of a line, parsed as building calls.
 ghost use Rattle.std.specs.Prelude.{◌≡◌, ◌==◌, ◌≤◌, ◌<◌, ◌^◌, ◌∷◌, ℕ, List, option_map, Some, IfSome, IfNone, MatchOption};
 ghost use Rattle.std.specs.Char.{digit_value};
 ghost use Rattle.std.specs.List.{slice_split};
@@ -9,10 +9,10 @@ ghost use Rattle.dump_lines.specs.Word.{bounded_number, number_behind, point_of,
 use crate::parts::split_first_part;
 use wtf8::{Build, CodePoint};
 
-/// How many digits most words have. A space behind so many is not searched for.
+/// The number of digits of most words. If a space follows that many digits, the end of the word is not searched for.
 const SHORT: usize = 4;
 
-/// The call that a first word stands for, or `None` where it stands for none, and the bytes after its space if there is one.
+/// Parses the first word: its call, or `None` if it is malformed, and the bytes after its space, if there is one.
 pub fn read_first_word(bytes: &[u8]) -> (Option<Build<'static>>, Option<&[u8]>)
     ensures { (word : List ℕ) × (slice_split (λ byte. byte == 32) bytes.now ≡ word ∷ parts_left 32 result.1)
         × MatchOption result.0 (IsNoCall word) (IsCall word) }
@@ -26,7 +26,7 @@ pub fn read_first_word(bytes: &[u8]) -> (Option<Build<'static>>, Option<&[u8]>)
     (read_call(word), after)
 }
 
-/// The call that a word stands for, or `None` where it stands for none.
+/// Parses a word as a building call, or returns `None` if it is malformed.
 fn read_call(word: &[u8]) -> Option<Build<'static>>
     ensures some { IfSome result (λ call. IsCall word.now call) }
     ensures none { IfNone result (IsNoCall word.now) }
@@ -41,14 +41,14 @@ fn read_call(word: &[u8]) -> Option<Build<'static>>
     Some(Build::Push(point))
 }
 
-/// The code point that 4 to 6 hexadecimal digits stand for, or `None` for any other word.
+/// Parses 4 to 6 hexadecimal digits as a code point, or returns `None` for any other word.
 fn read_point(word: &[u8]) -> Option<CodePoint>
     ensures { option_map number result ≡ point_of word.now }
 {
     CodePoint::from_u32(read_number(word, 16, 4, 6)?)
 }
 
-/// The number that 1 to 9 decimal digits behind a mark spell, or `None` for any other word.
+/// Parses 1 to 9 decimal digits after the byte `mark` as a number, or returns `None` for any other word.
 fn read_number_behind(word: &[u8], mark: u8) -> Option<u32>
     ensures { result ≡ number_behind mark word.now }
 {
@@ -59,7 +59,7 @@ fn read_number_behind(word: &[u8], mark: u8) -> Option<u32>
     read_number(digits, 10, 1, 9)
 }
 
-/// The number that a word of at least `least` and at most `most` digits spells in a base, or `None` for any other word.
+/// Parses a word of `least` to `most` digits in a base as a number, or returns `None` for any other word.
 #[inline(always)]
 fn read_number(word: &[u8], base: u32, least: usize, most: usize) -> Option<u32>
     requires least_base { 2 ≤ base }
@@ -81,8 +81,8 @@ fn read_number(word: &[u8], base: u32, least: usize, most: usize) -> Option<u32>
     Some(number)
 }
 
-/// The value of each byte as a digit, a letter of either case from 10 on, or 36 for any other byte. A table, since tests of
-/// ranges have branches that a processor mispredicts if figures and letters mix.
+/// The value of each byte as a digit, with letters of either case from 10 on, or 36 for any other byte. A table, since
+/// range tests have branches that a processor mispredicts if digits and letters mix.
 const DIGITS: [u8; 256] = [
     36, 36, 36, 36, 36, 36, 36, 36, 36, 36, 36, 36, 36, 36, 36, 36, 36, 36, 36, 36, 36, 36, 36, 36,
     36, 36, 36, 36, 36, 36, 36, 36, 36, 36, 36, 36, 36, 36, 36, 36, 36, 36, 36, 36, 36, 36, 36, 36,
@@ -97,7 +97,7 @@ const DIGITS: [u8; 256] = [
     36, 36, 36, 36, 36, 36, 36, 36, 36, 36, 36, 36, 36, 36,
 ];
 
-/// The value of a byte as a digit, which is 36 for a byte that is none.
+/// The value of a byte as a digit, or 36 for a byte that is no digit.
 #[inline(always)]
 fn digit_of(byte: u8) -> u32
     ensures { result ≡ digit_value byte }

@@ -1,4 +1,4 @@
--- The one reading of a list of units.
+-- A list of units has one reading.
 use Rattle.std.proofs.Common.{◌≡◌, ℕ, suc, ◌<◌, All, List, [], ◌∷◌, refl, sym, ◌∙◌, arith}
 use Rattle.std.proofs.lemmas.Bool.{lt-ltb}
 use Rattle.std.proofs.lemmas.List.{append-nil}
@@ -7,7 +7,7 @@ use Rattle.wtf8.specs.Laws.{UnitsHaveOneReading, ReadingsAreOfUnits, GlueReadsBo
 use Rattle.wtf8.specs.Unicode.{IsUnit, units_of}
 use Rattle.unit_text.specs.Reading.{reading}
 
--- a unit is the one unit of its own code point
+-- the units of a code point below 0x10000 are that number alone
 pub units_one : (n : ℕ) → n < 0x10000 → units_of n ≡ n ∷ []
 unfolding units_of
 units_one n h = rw (lt-ltb n 0x10000 h) refl
@@ -20,7 +20,7 @@ reading_reads both [] h = record { clean = tt; same_units = refl }
 reading_reads both (n ∷ u) h = both (n ∷ []) (reading u) (n ∷ []) u (unit_reads n (h 0 n (omega arith)))
     (reading_reads both u (λ k d l. h (suc k) d (omega arith)))
 
--- whatever reads the units is their reading
+-- a reading of the units is their `reading`
 pub same_as_reading : UnitsHaveOneReading → ReadingsAreOfUnits → GlueReadsBoth → (c u : List ℕ) → Reads c u → c ≡ reading u
 same_as_reading one of_units both c u h =
     let all = of_units c u h in

@@ -3,26 +3,26 @@ use Rattle.std.specs.Prelude.{◌≡◌, ◌≢◌, ℕ, ◌+◌, ◌*◌, ◌<�
 use Rattle.wtf8.specs.UnitMark.{IsMark}
 use Rattle.wtf8.specs.declared.strings.unit_marks.UnitMark.{UnitMark}
 
--- How many units are between one mark and the next.
+-- The number of units from one mark to the next.
 abbrev pub spacing : ℕ
 spacing = 128
 
--- A mark of some bytes and their units, of so many units or of one less, that lies before the last unit, so that it stays one where units are appended.
+-- A mark at `n` units or one fewer, before the last unit, so that it stays valid when units are appended.
 pub record IsKept (w u : List ℕ) (n : ℕ) (mark : UnitMark) : Type 0 where
   pub is_mark : IsMark w u mark.position mark.units
   pub at_most : mark.units ≤ n
   pub at_least : n ≤ mark.units + 1
   pub before_last : mark.units < length u
 
--- Marks are kept from the front on, one at each multiple of the spacing.
+-- The marks are kept in order from the front, one at each multiple of the spacing or one unit before it.
 abbrev pub AreKept : List ℕ → List ℕ → List UnitMark → Type 0
 AreKept w u marks = (k : ℕ) (d : UnitMark) → k < length marks → IsKept w u ((k + 1) * spacing) (slice_index_or marks k d)
 
--- There are as many marks as multiples of the spacing before the last unit, unless there are as many bytes as units, where none is wanted.
+-- `count` marks reach each multiple of the spacing below the length in units, unless that equals the length in bytes.
 abbrev pub AreAll : List ℕ → List ℕ → ℕ → Type 0
 AreAll w u count = (length w ≢ length u) → (n : ℕ) → n * spacing < length u → n ≤ count
 
--- Marks are kept, and where memory was refused for none of them they are all.
+-- The marks are kept, and if memory was refused for none of them, none is missing.
 pub record AreMarks (w u : List ℕ) (marks : List UnitMark) (is_refused : Bool) : Type 0 where
   pub kept : AreKept w u marks
   pub all : is_refused ≡ false → AreAll w u (length marks)

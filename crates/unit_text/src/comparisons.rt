@@ -1,4 +1,4 @@
-// Equality and hash of texts, which are those of their units.
+// Equality and hashes of texts.
 ghost use Rattle.std.proofs.Common.{rules};
 ghost use Rattle.std.specs.Cmp.Lexicographic.{pointwise};
 ghost use Rattle.std.specs.Cmp.Rules.{comparing, hashing};
@@ -10,7 +10,7 @@ use crate::text::UnitText;
 use std::alloc::Allocator;
 use std::hash::{Hash, Hasher};
 
-/// Texts are equal where their units are.
+/// Two texts are equal if and only if their units are equal.
 impl<A: Allocator> PartialEq for UnitText<A> {
     ghost eq = { pointwise nat_eq };
 
@@ -28,7 +28,7 @@ impl<A: Allocator> Eq for UnitText<A> {
     ghost laws = { Prim.search (comparing, rules) };
 }
 
-/// A hasher is fed what the view feeds it: the same for texts of the same units.
+/// Feeds the hasher what the text's view feeds it, so texts with equal units have equal hashes.
 impl<A: Allocator> Hash for UnitText<A> {
     ghost use Rattle.unit_text.specs.Reading.{reading};
 

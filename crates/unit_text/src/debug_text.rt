@@ -7,8 +7,8 @@ use crate::text::UnitText;
 use std::alloc::Allocator;
 use std::fmt;
 
-/// The debug text of the view: a double quote, the code points and a double quote, whatever width and flags stand
-/// outside. A surrogate that is in no pair stands as its four upper-case digits between `\u{` and `}`.
+/// Writes the code points of the view between double quotes, whatever the formatter's width and flags. A lone surrogate
+/// is written as `\u{`, its four upper-case hexadecimal digits and `}`; nothing else is escaped.
 impl<A: Allocator> fmt::Debug for UnitText<A> {
     ghost use Rattle.unit_text.specs.Reading.{reading};
 

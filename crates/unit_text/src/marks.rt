@@ -1,4 +1,4 @@
-// The marks of a text, by which its units are found without counting from its front.
+// The marks of a text, from which a unit is found without counting from the front of the text.
 ghost use Rattle.std.specs.Prelude.{◌≡◌, ◌≢◌, ◌+◌, ◌*◌, ◌<◌, ◌≤◌, ℕ, false, length, take, drop, slice_get, IfSome};
 ghost use Rattle.unit_text.specs.Marks.{AreAll, AreKept, AreMarks};
 ghost use Rattle.wtf8.specs.UnitMark.{IsMark};
@@ -8,21 +8,20 @@ ghost use Rattle.wtf8.specs.View.{view_units};
 use std::alloc::Allocator;
 use wtf8::{UnitMark, UnitSlice, Wtf8, Wtf8Buf, laws};
 
-/// How many units are between one mark and the next. A text of no more has none.
+/// The number of units from one mark to the next. A text of at most this length has no marks.
 pub(crate) const SPACING: usize = 128;
 
-/// How many units at the front of a short text are found at once without a mark.
+/// In a short text, units before this index are found from the front, without a mark.
 const FRONT: usize = 8;
 
-/// The marks of a text, from its front on, and whether memory was refused for those that are missing.
+/// The marks of a text, in order, and whether memory was refused for any that is missing.
 #[derive(Drop)]
 pub(crate) struct Marks<A: Allocator> {
     pub(crate) kept: Vec<UnitMark, A>,
     pub(crate) is_refused: bool,
 }
 
-/// A mark at or before a number of units: where the text has as many bytes as units the position itself, else the last one
-/// that is kept, or the start.
+/// A mark at or before unit index `units`: at that index if the text is ASCII, else a kept mark or the start.
 fn mark_before<A: Allocator>(
     text: &Wtf8Buf<A>,
     count: usize,
@@ -49,7 +48,7 @@ fn mark_before<A: Allocator>(
     }
 }
 
-/// The last of the marks that are kept at or before a number of units, or the start.
+/// The last kept mark for a multiple of `SPACING` that is at most `units`, or the start if there is none.
 fn kept_before<A: Allocator>(text: &Wtf8Buf<A>, marks: &Marks<A>, units: usize) -> UnitMark
     requires marks { AreMarks text.now.bytes text.now.units marks.now.kept.items marks.now.is_refused }
     requires apart { length text.now.bytes ≢ length text.now.units }
@@ -65,8 +64,8 @@ fn kept_before<A: Allocator>(text: &Wtf8Buf<A>, marks: &Marks<A>, units: usize) 
     marks.kept[number - 1]
 }
 
-/// A view of the text's end in which a number of units is near the front, and that number there. A text that is too short
-/// for marks is looked at as it is, unless it has as many bytes as units and the number is not at its front already.
+/// Returns the rest of the text after a mark at or before unit index `units`, and the offset of `units` in it. A short
+/// text has no marks and is returned whole, unless it is ASCII and `units` is not near its front.
 #[inline(always)]
 fn near<'a, A: Allocator>(
     text: &'a Wtf8Buf<A>,
@@ -88,7 +87,7 @@ fn near<'a, A: Allocator>(
     (text.as_wtf8().behind_mark(mark), units - mark.units)
 }
 
-/// The unit of a number. It stands by itself, so that a short text costs little.
+/// The unit at index `number`. Not inlined, so that the caller's path for a short text stays cheap.
 #[inline(never)]
 pub(crate) fn unit_at<A: Allocator>(
     text: &Wtf8Buf<A>,
@@ -105,7 +104,7 @@ pub(crate) fn unit_at<A: Allocator>(
     view.unit_at(at)
 }
 
-/// So many units from a number on.
+/// Returns the `many` units from index `begin` on.
 pub(crate) fn units_from<'a, A: Allocator>(
     text: &'a Wtf8Buf<A>,
     count: usize,
@@ -123,20 +122,20 @@ pub(crate) fn units_from<'a, A: Allocator>(
     rest.slice_units(at, at + many)
 }
 
-/// The marks of a text, as far as there is memory for them.
+/// Makes the marks of a text, and stops at the first that is refused memory.
 pub(crate) fn marks_of<A: Allocator>(alloc: A, text: &Wtf8Buf<A>, count: usize) -> Marks<A>
     requires counted { count ≡ length text.now.units }
     ensures { AreMarks text.now.bytes text.now.units result.kept.items result.is_refused }
 {
     let mut kept = Vec::new(alloc);
-    // Where there is no memory for all of them at once there may be some for a few.
+    // If memory for all marks at once is refused, there may be enough for a few.
     let _is_found = kept.reserve_exact(wanted(text, count)).is_ok();
     let is_refused = add_marks(text, count, &mut kept);
     Marks { kept, is_refused }
 }
 
-/// How many marks a text wants: one at each multiple of the spacing that lies before the last unit, and none where it has as
-/// many bytes as units.
+/// The number of marks that a text needs: one for each multiple of `SPACING` below its number of units, but none if it
+/// is ASCII.
 #[inline(always)]
 fn wanted<A: Allocator>(text: &Wtf8Buf<A>, count: usize) -> usize
     requires counted { count ≡ length text.now.units }
@@ -149,8 +148,8 @@ fn wanted<A: Allocator>(text: &Wtf8Buf<A>, count: usize) -> usize
     (count - 1) / SPACING
 }
 
-/// Adds the marks that are missing behind those that are there, as far as there is memory for them, and answers whether it
-/// was refused for one. It stands by itself, so that a text that misses none costs little.
+/// Appends the missing marks until one is refused memory, and returns whether one was. Not inlined, so that a text that
+/// lacks no mark costs little.
 #[inline(never)]
 pub(crate) fn add_marks<A: Allocator>(
     text: &Wtf8Buf<A>,
@@ -172,7 +171,7 @@ pub(crate) fn add_marks<A: Allocator>(
     false
 }
 
-/// Adds the marks that are missing, where marks are kept.
+/// Appends the missing marks, if marks are kept.
 #[inline(always)]
 pub(crate) fn add_to_kept<A: Allocator>(
     text: &Wtf8Buf<A>,
@@ -190,7 +189,7 @@ pub(crate) fn add_to_kept<A: Allocator>(
     }
 }
 
-/// The last of the marks, or the start where there are none.
+/// The last mark, or the start if there is none.
 fn last_or_start<A: Allocator>(text: &Wtf8Buf<A>, marks: &[UnitMark]) -> UnitMark
     requires { AreKept text.now.bytes text.now.units marks.now }
     ensures mark { IsMark text.now.bytes text.now.units result.position result.units }

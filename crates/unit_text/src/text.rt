@@ -1,4 +1,4 @@
-// Texts that are counted in units.
+// Texts that are indexed by code units.
 ghost use Rattle.std.specs.Prelude.{◌≡◌, ◌↔◌, ◌≤◌, [], ◌∷◌, ◌++◌, length, take, drop, slice_get, None, IsNone, IfOk, IsOk, OnOk, OnErr};
 ghost use Rattle.std.specs.Cmp.Lexicographic.{slice_cmp};
 ghost use Rattle.std.specs.Option.{option_to_list};
@@ -16,8 +16,8 @@ use std::marker::Model;
 use wtf8::{CodePoint, UnitSlice, Wtf8, Wtf8Buf, laws};
 
 /// A text that is counted, cut and compared by its 16-bit units, as ECMAScript counts a string. It may hold any units,
-/// and is kept as WTF-8, with its number of units. `mark_units` gives it marks, by which a unit is found at once wherever
-/// it is; a text with as many bytes as units needs none.
+/// and is stored as WTF-8 with its number of units. `mark_units` adds marks, from which a unit is found without
+/// counting from the front; an ASCII text needs none.
 ///
 /// Contracts see it as the list of its units.
 #[derive(Drop)]
@@ -54,9 +54,9 @@ impl<A: Allocator> UnitText<A> {
         })
     }
 
-    /// Keeps marks of the text, with an allocator for them, so that `unit_at` and `slice_units` need not count from the
-    /// front; from then on `push` and `concat` keep marks of what they append. A mark that is refused memory is left
-    /// out, and the text is slower there. A short text, or one with as many bytes as code units, needs none.
+    /// Keeps marks of the text, allocated by `alloc`, so that `unit_at` and `slice_units` need not count from the
+    /// front; from then on `push` and `concat` add marks of what they append. A mark that is refused memory is left
+    /// out, and the text is slower there. A short text or an ASCII text needs none.
     pub fn mark_units(&mut self, alloc: A)
         ensures { self.new ≡ self.old }
     {
@@ -87,9 +87,9 @@ impl<A: Allocator> UnitText<A> {
         marks::unit_at(&self.text, self.count, &self.marks, i)
     }
 
-    /// Copies the code units from `begin` to before `end`, which must be in order and at most the length, with the
-    /// given allocator. Where an end splits a surrogate pair, the half inside stands alone. Does not allocate if there
-    /// are none.
+    /// Copies the code units `begin..end` to a new text, allocated by `alloc`. `begin` must be at most `end`, and `end`
+    /// at most the length. If `begin` or `end` splits a surrogate pair, the half inside is a lone surrogate. Does not
+    /// allocate if the range is empty.
     pub fn slice_units(&self, alloc: A, begin: usize, end: usize) -> Result<UnitText<A>, AllocError>
         requires order { begin ≤ end }
         requires within { end ≤ length self.now }
@@ -106,8 +106,8 @@ impl<A: Allocator> UnitText<A> {
         })
     }
 
-    /// Appends a code unit. A trail surrogate behind a lead joins it: the view then has the one code point that the two
-    /// stand for, and the text has both units. If memory is refused, the text is unchanged.
+    /// Appends a code unit. A trail surrogate after a lead completes the pair: the view then has its one code point,
+    /// and the text has both units. If memory is refused, the text is unchanged.
     #[inline(always)]
     pub fn push(&mut self, unit: u16) -> Result<(), AllocError>
         ensures ok { OnOk result (self.new ≡ self.old ++ unit ∷ []) }
@@ -121,7 +121,8 @@ impl<A: Allocator> UnitText<A> {
         Ok(())
     }
 
-    /// Appends another text's code units. If memory is refused, the text is unchanged; an empty text is never refused.
+    /// Appends the code units of `other`. If memory is refused, the text is unchanged; an empty `other` is never
+    /// refused.
     pub fn concat(&mut self, other: &UnitText<A>) -> Result<(), AllocError>
         ensures ok { OnOk result (self.new ≡ self.old ++ other.now) }
         ensures err { OnErr result (self.new ≡ self.old) }
@@ -155,7 +156,7 @@ impl<A: Allocator> UnitText<A> {
     }
 }
 
-/// A text of what lies between two numbers of units. It asks for no memory where that is nothing.
+/// Copies a slice to a new string. Does not allocate if the slice is empty.
 fn copied<A: Allocator>(alloc: A, slice: UnitSlice<'_>) -> Result<Wtf8Buf<A>, AllocError>
     ensures ok { IfOk result (λ text. text.units ≡ units_of_slice slice.entry) }
     ensures empty { units_of_slice slice.entry ≡ [] → IsOk result }
@@ -167,7 +168,7 @@ fn copied<A: Allocator>(alloc: A, slice: UnitSlice<'_>) -> Result<Wtf8Buf<A>, Al
     Ok(text)
 }
 
-/// Appends the half of a pair, if there is one.
+/// Appends half of a surrogate pair, if there is one.
 #[inline(always)]
 fn push_half<A: Allocator>(text: &mut Wtf8Buf<A>, half: Option<u16>) -> Result<(), AllocError>
     ensures ok { OnOk result (text.new.units ≡ text.old.units ++ option_to_list half) }
@@ -179,7 +180,7 @@ fn push_half<A: Allocator>(text: &mut Wtf8Buf<A>, half: Option<u16>) -> Result<(
     }
 }
 
-/// Appends a unit.
+/// Appends a code unit.
 #[inline(always)]
 fn push_unit<A: Allocator>(text: &mut Wtf8Buf<A>, unit: u16) -> Result<(), AllocError>
     ensures ok { OnOk result (AppendsUnits text.old (unit ∷ []) text.new) }

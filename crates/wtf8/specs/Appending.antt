@@ -1,4 +1,4 @@
--- What appending leaves of a string, and the room that it needs.
+-- What appending does to a string, and the capacity that it needs.
 use Rattle.std.specs.Prelude.{◌≡◌, ℕ, ◌+◌, ◌<◌, ◌≤◌, List, ◌++◌, length}
 use Rattle.wtf8.specs.UnitString.{UnitString}
 use Rattle.wtf8.specs.Unicode.{units}
@@ -9,11 +9,11 @@ use Rattle.wtf8.specs.View.{view_units}
 use Rattle.wtf8.specs.declared.strings.view.Wtf8.{Wtf8}
 use Rattle.wtf8.specs.declared.numbers.code_point.CodePoint.{CodePoint}
 
--- The new string has the old units and these behind them (WTF-8, "Concatenating").
+-- The new units are the old ones followed by `v` (WTF-8, "Concatenating").
 abbrev pub AppendsUnits : UnitString → List ℕ → UnitString → Type 0
 AppendsUnits old v new = new.units ≡ old.units ++ v
 
--- The new string has the old units and behind them those of the code points in order (WTF-8, "Concatenating").
+-- The new units are the old ones followed by the units of the code points, in order (WTF-8, "Concatenating").
 abbrev pub AppendsPoints : UnitString → List CodePoint → UnitString → Type 0
 AppendsPoints old points new = AppendsUnits old (units (numbers points)) new
 
@@ -22,21 +22,21 @@ pub record KeepsContents (old new : UnitString) : Type 0 where
   pub units : new.units ≡ old.units
   pub bytes : new.bytes ≡ old.bytes
 
--- The form of some units, with so many more bytes, is within a capacity.
+-- The length of the form of the units `u`, plus `more`, is at most `capacity` bytes.
 pub record FitWithin (u : List ℕ) (more capacity : ℕ) : Type 0 where
   pub whole : List ℕ
   pub form : IsForm whole u
   pub within : length whole + more ≤ capacity
 
--- Units fit behind those of a string: the form of both is within its capacity.
+-- The form of the string's units followed by `v` is no longer than its capacity.
 abbrev pub HasRoomFor : UnitString → List ℕ → Type 0
 HasRoomFor s v = FitWithin (s.units ++ v) 0 s.capacity
 
--- The form of a string's units with these behind them is longer than its capacity.
+-- Every form of the string's units followed by `v` is longer than its capacity.
 abbrev pub Outgrows : UnitString → List ℕ → Type 0
 Outgrows s v = (w : List ℕ) → IsForm w (s.units ++ v) → s.capacity < length w
 
--- The length grows by that of the other string, less 2 where a lead meets a trail.
+-- The new length in bytes is the sum of the other two, less 2 if a lead ends the old units and a trail begins `other`.
 pub record AddsLength (old : UnitString) (other : Wtf8) (new : UnitString) : Type 0 where
   pub pair : MeetsAsPair old.units (view_units other) → length new.bytes + 2 ≡ length old.bytes + length other.bytes.now
   pub apart : ¬ (MeetsAsPair old.units (view_units other)) → length new.bytes ≡ length old.bytes + length other.bytes.now

@@ -11,11 +11,11 @@ use Rattle.wtf8.specs.UnitPosition.{TruncatesUnits}
 use Rattle.wtf8.specs.declared.strings.build.Build.{Build}
 use Rattle.wtf8.specs.declared.strings.build.Build.TheVariants.{Push, PushChar, PushStr, PushWtf8, Extend, Reserve, Truncate, TruncateUnits}
 
--- A truncation at a boundary keeps the units of the code points before it; any other is refused, which r counts as 1, and changes nothing.
+-- A truncation at a boundary `k` keeps the units before it, `r` is 0; any other is refused, changes nothing, `r` is 1.
 abbrev pub Truncates : List ℕ → ℕ → List ℕ → ℕ → Type 0
 Truncates u k v r = (IsFront u k v × (r ≡ 0)) ⊎ (¬ (IsBoundary u k) × (v ≡ u) × (r ≡ 1))
 
--- One call leads from units u to units v, and r is 1 for a refused truncation, else 0.
+-- One call takes the units from `u` to `v`; `r` is 1 for a refused truncation, else 0.
 abbrev pub Step : List ℕ → Build → List ℕ → ℕ → Type 0
 Step u (Push p) v r = (v ≡ u ++ units_of (number p)) × (r ≡ 0)
 Step u (PushChar x) v r = (v ≡ u ++ units_of x) × (r ≡ 0)
@@ -26,31 +26,31 @@ Step u (Reserve n) v r = (v ≡ u) × (r ≡ 0)
 Step u (Truncate k) v r = Truncates u k v r
 Step u (TruncateUnits n) v r = TruncatesUnits u n v r
 
--- The calls in order lead from units u to units v, and n of their truncations are refused.
+-- The calls, in order, take the units from `u` to `v`, and `n` truncations among them are refused.
 abbrev pub Run : List ℕ → List Build → List ℕ → ℕ → Type 0
 Run u [] v n = (v ≡ u) × (n ≡ 0)
 Run u (call ∷ calls) v n = (mid : List ℕ) × (r : ℕ) × (m : ℕ) × Step u call mid r × Run mid calls v m × (n ≡ r + m)
 
--- What a call that was refused for want of memory leaves of units u: the same, and behind them some beginning of an extension's points; no truncation is
--- refused so.
+-- A call that is refused memory leaves the units `u`, for an extension followed by the units of some prefix of its code
+-- points. A truncation is never refused memory.
 abbrev pub LeavesRefused : List ℕ → Build → List ℕ → Type 0
 LeavesRefused u (Extend d) v = (n : ℕ) × (v ≡ u ++ units (numbers (take n d.now)))
 LeavesRefused u (Truncate k) v = ⊥
 LeavesRefused u (TruncateUnits n) v = ⊥
 LeavesRefused u call v = v ≡ u
 
--- The call is no extension.
+-- The call is not an `Extend`.
 abbrev pub IsNoExtension : Build → Type 0
 IsNoExtension (Extend d) = ⊥
 IsNoExtension call = ⊤
 
--- The call is no truncation, neither at a position nor at a number of units.
+-- The call is neither a `Truncate` nor a `TruncateUnits`.
 abbrev pub IsNoTruncation : Build → Type 0
 IsNoTruncation (Truncate k) = ⊥
 IsNoTruncation (TruncateUnits n) = ⊥
 IsNoTruncation call = ⊤
 
--- The calls before call number `done` ran, and that call was refused for want of memory.
+-- The calls before index `done` ran, and the call at that index was refused memory and left the units `v`.
 pub record StopsAt (u : List ℕ) (calls : List Build) (done : ℕ) (v : List ℕ) : Type 0 where
   pub call : Build
   pub here : slice_get calls done ≡ Some call
@@ -59,7 +59,7 @@ pub record StopsAt (u : List ℕ) (calls : List Build) (done : ℕ) (v : List �
   pub before : Run u (take done calls) mid refused
   pub leaves : LeavesRefused mid call v
 
--- The units that a push or an extension appends.
+-- The units that a push or an extension appends, or `None` for any other call.
 abbrev pub appended : Build → Option (List ℕ)
 appended (Push p) = Some (units_of (number p))
 appended (PushChar x) = Some (units_of x)
@@ -68,44 +68,43 @@ appended (PushWtf8 s) = Some (view_units s)
 appended (Extend d) = Some (units (numbers d.now))
 appended call = None
 
--- Each call of the list is a push or an extension, and together they append these units.
+-- Each call of the list is a push or an extension, and together they append the units `v`.
 abbrev pub Append : List Build → List ℕ → Type 0
 Append [] v = v ≡ []
 Append (call ∷ calls) v = (a : List ℕ) × (b : List ℕ) × (appended call ≡ Some a) × Append calls b × (v ≡ a ++ b)
 
--- How many more bytes than it appends a call asks room for.
+-- The number of bytes that a call reserves beyond what it appends: that of a `Reserve`, else 0.
 abbrev pub asked : Build → ℕ
 asked (Reserve n) = n
 asked call = 0
 
--- A call that is no truncation finds room within a capacity: for the units that it leads to, and for as many more bytes as it asks for.
+-- The call is no truncation and takes `u` to `v`, whose form, plus the bytes that it reserves, is within `capacity`.
 pub record FindsRoom (u : List ℕ) (call : Build) (v : List ℕ) (capacity : ℕ) : Type 0 where
   pub no_truncation : IsNoTruncation call
   pub step : Step u call v 0
   pub fits : FitWithin v (asked call) capacity
 
--- Each call of the list finds room within a capacity at its place, and together they lead from units u to units v.
+-- Each call of the list fits within `capacity` when its turn comes, and together they take the units from `u` to `v`.
 abbrev pub FindRoom : List ℕ → List Build → List ℕ → ℕ → Type 0
 FindRoom u [] v capacity = v ≡ u
 FindRoom u (call ∷ calls) v capacity = (mid : List ℕ) × FindsRoom u call mid capacity × FindRoom mid calls v capacity
 
--- Where a call asks for room and no call behind it truncates, the form of the units that the calls before it lead to, with as many more bytes as it asks for, is
--- within the capacity.
+-- For each `Reserve n` that no truncation follows, the form of the units before it plus `n` bytes fits in `capacity`.
 abbrev pub LeavesReserved : List ℕ → List Build → ℕ → Type 0
 LeavesReserved u calls capacity = (front back : List Build) (n : ℕ) (v : List ℕ) (r : ℕ) → calls ≡ front ++ Reserve n ∷ back → All IsNoTruncation back
     → Run u front v r → FitWithin v n capacity
 
--- The calls lead from the units to exactly one list, with exactly one count of refused truncations.
+-- The calls take the units `u` to exactly one list of units, with exactly one count of refused truncations.
 pub record RunsOnce (u : List ℕ) (calls : List Build) : Type 0 where
   pub outcome : List ℕ
   pub count : ℕ
   pub goes : Run u calls outcome count
   pub no_other : (v : List ℕ) (n : ℕ) → Run u calls v n → (v ≡ outcome) × (n ≡ count)
 
--- Each list of calls leads from each list of units to exactly one outcome.
+-- From each list of units, each list of calls has exactly one outcome and one count of refused truncations.
 abbrev pub CallsRunOnce : Type 0
 CallsRunOnce = (u : List ℕ) (calls : List Build) → RunsOnce u calls
 
--- Two lists of calls one after the other lead where the one list of both leads, and their counts of refused truncations are added.
+-- Two runs, one after the other, are a run of both lists joined, and their counts of refused truncations add up.
 abbrev pub RunsAddUp : Type 0
 RunsAddUp = (u mid v : List ℕ) (front back : List Build) (m n : ℕ) → Run u front mid m → Run mid back v n → Run u (front ++ back) v (m + n)

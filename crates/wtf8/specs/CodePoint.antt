@@ -2,10 +2,10 @@
 use Rattle.std.specs.Prelude.{ℕ, List, map}
 use Rattle.wtf8.specs.declared.numbers.code_point.CodePoint.{CodePoint}
 
--- The number of a code point.
+-- The value of a code point.
 abbrev pub number : CodePoint → ℕ
 number p = p.value
 
--- The numbers of a list of code points.
+-- The values of a list of code points.
 abbrev pub numbers : List CodePoint → List ℕ
 numbers ps = map number ps

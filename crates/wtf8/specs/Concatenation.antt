@@ -1,8 +1,8 @@
--- Lists of code points behind one another, a lead and a trail that meet as one code point.
+-- Concatenation of lists of code points: a lead and a trail that meet become one code point.
 use Rattle.std.specs.Prelude.{◌≡◌, ℕ, List, [], ◌∷◌, ◌++◌, Bool, ◌&&◌, nat_le, if◌then◌else◌}
 use Rattle.wtf8.specs.Unicode.{IsLead, IsTrail, pair}
 
--- Two lists meet as a pair where a lead ends the first and a trail begins the second.
+-- Two lists meet as a pair if a lead ends the first and a trail begins the second.
 pub record MeetsAsPair (c d : List ℕ) : Type 0 where
   pub front : List ℕ
   pub lead : ℕ
@@ -17,7 +17,7 @@ pub record MeetsAsPair (c d : List ℕ) : Type 0 where
 unfoldable pub is_pair : ℕ → ℕ → Bool
 is_pair l t = (nat_le 0xD800 l && nat_le l 0xDBFF) && (nat_le 0xDC00 t && nat_le t 0xDFFF)
 
--- The second list behind the first, the lead and the trail that meet between them, if any, as the code point that they stand for (WTF-8, "Concatenating").
+-- The two lists joined, with a lead and a trail that meet replaced by the pair's code point (WTF-8, "Concatenating").
 abbrev pub glue : List ℕ → List ℕ → List ℕ
 glue [] d = d
 glue (p ∷ []) [] = p ∷ []

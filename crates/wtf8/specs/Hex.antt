@@ -2,7 +2,7 @@
 use Rattle.std.specs.Prelude.{ℕ, ◌+◌, ◌/◌, ◌%◌, List, [], ◌∷◌, nat_lt, if◌then◌else◌}
 use Rattle.std.specs.List.{join_by}
 
--- The upper-case digit of a number below 16: 0 to 9, then A to F.
+-- The upper-case hexadecimal digit of a number below 16, in ASCII.
 unfoldable pub digit : ℕ → ℕ
 digit n = if nat_lt n 10 then 48 + n else 55 + n
 
@@ -10,6 +10,6 @@ digit n = if nat_lt n 10 then 48 + n else 55 + n
 abbrev pub hex_of : ℕ → List ℕ
 hex_of b = digit (b / 16) ∷ digit (b % 16) ∷ []
 
--- Bytes as hexadecimal text, one space between two bytes.
+-- Bytes as hexadecimal text, with one space between two bytes.
 abbrev pub hex : List ℕ → List ℕ
 hex w = join_by hex_of (32 ∷ []) w

@@ -7,7 +7,7 @@ use Rattle.wtf8.specs.Order.{Before}
 use Rattle.wtf8.specs.UnitPosition.{TruncatesUnits}
 use Rattle.wtf8.specs.Position.{IsFront, IsBack}
 
--- Exactly one list has a fact.
+-- Exactly one list has the property `P`.
 pub record ExactlyOne (P : List ℕ → Type 0) : Type 0 where
   pub one : List ℕ
   pub has : P one
@@ -17,7 +17,7 @@ pub record ExactlyOne (P : List ℕ → Type 0) : Type 0 where
 abbrev pub UnitsHaveOneReading : Type 0
 UnitsHaveOneReading = (u : List ℕ) → All IsUnit u → ExactlyOne (λ c. Reads c u)
 
--- Whatever list has a reading, its numbers are units.
+-- A list that has a reading consists of code units.
 abbrev pub ReadingsAreOfUnits : Type 0
 ReadingsAreOfUnits = (c u : List ℕ) → Reads c u → All IsUnit u
 
@@ -25,72 +25,72 @@ ReadingsAreOfUnits = (c u : List ℕ) → Reads c u → All IsUnit u
 abbrev pub UnitsHaveOneForm : Type 0
 UnitsHaveOneForm = (u : List ℕ) → All IsUnit u → ExactlyOne (λ w. IsForm w u)
 
--- Well-formed bytes are the form of exactly one list.
+-- Well-formed bytes are the form of exactly one list of units.
 abbrev pub FormsAreOfOneList : Type 0
 FormsAreOfOneList = (w : List ℕ) → IsWellFormed w → ExactlyOne (λ u. IsForm w u)
 
--- Forms are equal exactly where their units are.
+-- Two forms are equal if and only if their units are equal.
 abbrev pub EqualFormsHaveEqualUnits : Type 0
 EqualFormsHaveEqualUnits = (w v a b : List ℕ) → IsForm w a → IsForm v b → (w ≡ v) ↔ (a ≡ b)
 
--- No encoding of a code point begins that of another.
+-- No encoding of a code point is a prefix of the encoding of another.
 abbrev pub NoEncodingBeginsAnother : Type 0
 NoEncodingBeginsAnother = (p q : ℕ) (r : List ℕ) → IsCodePoint p → IsCodePoint q → encoding q ≡ encoding p ++ r → p ≡ q
 
--- Bytes begin with the encoding of one code point at most.
+-- Bytes that begin with the encoding of a code point determine that code point and the bytes after it.
 abbrev pub BytesBeginWithOnePoint : Type 0
 BytesBeginWithOnePoint = (p q : ℕ) (r s : List ℕ) → IsCodePoint p → IsCodePoint q → encoding p ++ r ≡ encoding q ++ s → (p ≡ q) × (r ≡ s)
 
--- Lists of code points, clean or not, have equal bytes exactly where they are equal.
+-- Lists of code points, clean or not, have equal bytes if and only if they are equal.
 abbrev pub EqualBytesAreOfEqualPoints : Type 0
 EqualBytesAreOfEqualPoints = (c d : List ℕ) → (bytes c ≡ bytes d) ↔ (c ≡ d)
 
--- Bytes stand before one another exactly as their code points do, in clean lists or not.
+-- The bytes of two lists of code points, clean or not, are ordered as the lists are.
 abbrev pub ByteOrderIsPointOrder : Type 0
 ByteOrderIsPointOrder = (c d : List ℕ) → Before (bytes c) (bytes d) ↔ Before c d
 
--- Lists that meet as a pair are glued as the first without its last number, the code point of the pair, and the second without its first.
+-- Gluing two lists that meet as a pair replaces the lead and the trail by the code point of the pair.
 abbrev pub GlueMakesPair : Type 0
 GlueMakesPair = (c d : List ℕ) (m : MeetsAsPair c d) → glue c d ≡ m.front ++ pair m.lead m.trail ∷ m.rest
 
--- Other lists are glued as they are.
+-- Gluing two lists that do not meet as a pair concatenates them.
 abbrev pub GlueKeepsOthers : Type 0
 GlueKeepsOthers = (c d : List ℕ) → ¬ (MeetsAsPair c d) → glue c d ≡ c ++ d
 
--- Two readings glued read the units of both.
+-- Two readings, glued, are a reading of the concatenation of their units.
 abbrev pub GlueReadsBoth : Type 0
 GlueReadsBoth = (c d a b : List ℕ) → Reads c a → Reads d b → Reads (glue c d) (a ++ b)
 
--- The form of the units of both is the bytes of the two readings glued.
+-- The bytes of two readings, glued, are the form of the concatenation of their units.
 abbrev pub GlueFormsBoth : Type 0
 GlueFormsBoth = (w v a b : List ℕ) (x : IsForm w a) (y : IsForm v b) → IsForm (bytes (glue x.points y.points)) (a ++ b)
 
--- Where a lead meets a trail, the form of both is the first form without its last three bytes, the four bytes of the pair, and the second form without its
--- first three.
+-- If a lead meets a trail, the form of both lists is the first form without its last three bytes, the bytes of the
+-- pair, and the second form without its first three.
 abbrev pub PairFormsBoth : Type 0
 PairFormsBoth = (w v a b : List ℕ) → IsForm w a → IsForm v b → (m : MeetsAsPair a b)
     → IsForm ((take (length w - 3) w ++ encoding (pair m.lead m.trail)) ++ drop 3 v) (a ++ b)
 
--- Elsewhere the form of both is the one form behind the other.
+-- If no lead meets a trail, the form of both lists is the first form followed by the second.
 abbrev pub OthersFormBoth : Type 0
 OthersFormBoth = (w v a b : List ℕ) → IsForm w a → IsForm v b → ¬ (MeetsAsPair a b) → IsForm (w ++ v) (a ++ b)
 
--- It doesn't matter which of three readings are glued first.
+-- Gluing clean lists is associative.
 abbrev pub GlueIsAssociative : Type 0
 GlueIsAssociative = (c d e : List ℕ) → IsClean c → IsClean d → IsClean e → glue (glue c d) e ≡ glue c (glue d e)
 
--- The empty list glued in front changes nothing.
+-- Gluing the empty list before a list changes nothing.
 abbrev pub EmptyFrontIsNeutral : Type 0
 EmptyFrontIsNeutral = (c : List ℕ) → glue [] c ≡ c
 
--- The empty list glued behind changes nothing.
+-- Gluing the empty list after a list changes nothing.
 abbrev pub EmptyBackIsNeutral : Type 0
 EmptyBackIsNeutral = (c : List ℕ) → glue c [] ≡ c
 
--- The units before a code point boundary and those from it on are the whole.
+-- The units before a code point boundary, followed by the units after it, are the whole.
 abbrev pub FrontAndBackAreWhole : Type 0
 FrontAndBackAreWhole = (u a b : List ℕ) (k : ℕ) → IsFront u k a → IsBack u k b → a ++ b ≡ u
 
--- The first units that a truncation keeps and the rest are the whole, also where a pair is divided.
+-- The first units, which a truncation keeps, followed by the rest are the whole, also if a pair is divided.
 abbrev pub FirstUnitsAndRestAreWhole : Type 0
 FirstUnitsAndRestAreWhole = (u v : List ℕ) (n : ℕ) → TruncatesUnits u n v 0 → v ++ drop n u ≡ u

@@ -1,4 +1,4 @@
--- For types: that bytes are well-formed, and that they are a form of units, has one proof at most: encodings determine their code points.
+-- That bytes are well-formed, or the form of units, has at most one proof: types that hold such a proof require this.
 use Rattle.std.specs.Prelude.{◌≡◌, ◌<◌, ℕ, List, [], ◌∷◌, ◌++◌, length, refl}
 use Rattle.std.specs.Coded.{×_prop, →_prop, Unit-prop, le_prop, Coded-set, coded_list, coded_ℕ}
 use Rattle.std.proofs.Common.{ap, sym, ◌∙◌}
@@ -8,7 +8,7 @@ use lib.Utf8.{encode, encodes}
 use Rattle.wtf8.specs.Form.{IsClean, encoding, bytes, IsWellFormed, IsForm}
 use Rattle.wtf8.specs.Unicode.{units, IsSurrogate}
 
--- the library's table of UTF-8 is the same at every number
+-- `encoding` is the library's `encode` of UTF-8, for every number
 pub encoding_is_encode : (p : ℕ) → encoding p ≡ encode p
 unfolding encoding encode
 encoding_is_encode p = refl
@@ -17,7 +17,7 @@ pub bytes_are_encodes : (c : List ℕ) → bytes c ≡ encodes c
 bytes_are_encodes [] = refl
 bytes_are_encodes (p ∷ c) = ap (λ e. e ++ bytes c) (encoding_is_encode p) ∙ ap (λ r. encode p ++ r) (bytes_are_encodes c)
 
--- bytes determine code points
+-- bytes determine their code points
 pub bytes-injective : (c d : List ℕ) → bytes c ≡ bytes d → c ≡ d
 bytes-injective c d e = encodes_same c d (sym (bytes_are_encodes c) ∙ (e ∙ bytes_are_encodes d))
 
@@ -35,7 +35,7 @@ WellFormed w = (c : List ℕ) × (IsClean c × (bytes c ≡ w))
 abbrev well_formed : {w : List ℕ} → WellFormed w → IsWellFormed w
 well_formed t = record { points = t.0; clean = t.1.0; encoded = t.1.1 }
 
--- bytes are well-formed in one way
+-- bytes have at most one proof that they are well-formed
 pub IsWellFormed-prop : (w : List ℕ) → IsProp (IsWellFormed w)
 IsWellFormed-prop w x y =
     let same : (c : List ℕ) → IsProp (IsClean c × (bytes c ≡ w)) = λ c. ×_prop (IsClean-prop c) (list_set (bytes c) w) in
@@ -51,17 +51,17 @@ form t = record { points = t.0; reads = record { clean = t.1.0.0; same_units = t
 abbrev form_parts : {w u : List ℕ} → IsForm w u → Form w u
 form_parts x = (x.points, ((x.reads.clean, x.reads.same_units), x.encoded))
 
--- bytes are the form of units in one way
+-- bytes have at most one proof that they are the form of units
 pub IsForm-prop : (w u : List ℕ) → IsProp (IsForm w u)
 IsForm-prop w u x y =
     let same : (c : List ℕ) → IsProp ((IsClean c × (units c ≡ u)) × (bytes c ≡ w)) =
     λ c. ×_prop (×_prop (IsClean-prop c) (list_set (units c) u)) (list_set (bytes c) w) in
     ap form (Σ_prop_path same {u = form_parts x} {v = form_parts y} (bytes-injective x.points y.points (x.encoded ∙ sym y.encoded)))
 
--- No code point that begins before a place among its string's bytes is a surrogate.
+-- No code point of `c` that begins before byte position `end` is a surrogate.
 abbrev pub AreScalarTo : ℕ → List ℕ → Type 0
 AreScalarTo end c = (f : List ℕ) (p : ℕ) (b : List ℕ) → c ≡ f ++ p ∷ b → length (bytes f) < end → ¬ (IsSurrogate p)
 
--- that has one proof at most
+-- `AreScalarTo` has at most one proof
 pub AreScalarTo-prop : (end : ℕ) (c : List ℕ) → IsProp (AreScalarTo end c)
 AreScalarTo-prop end c = Π_prop λ f. Π_prop λ p. Π_prop λ b. Π_prop λ _. Π_prop λ _. Π_prop λ _. ⊥_prop

@@ -1,7 +1,7 @@
--- The order of lists.
+-- The lexicographic order of lists.
 use Rattle.std.specs.Prelude.{◌≡◌, ℕ, ◌<◌, ◌⊎◌, List, [], ◌∷◌, ⊤}
 
--- A list of numbers stands before another where the first numbers that differ say so, or where it is a beginning of the longer one.
+-- Lexicographic order: the first numbers that differ decide, and a proper prefix is before the longer list.
 abbrev pub Before : List ℕ → List ℕ → Type 0
 Before [] [] = ⊥
 Before [] (y ∷ ys) = ⊤

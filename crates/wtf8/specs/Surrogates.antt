@@ -1,4 +1,4 @@
--- Code points that are no surrogates, and lists without surrogates.
+-- Lists of scalar values, and surrogates replaced by U+FFFD.
 use Rattle.std.specs.Prelude.{ℕ, List, [], ◌∷◌, map, ⊤, ◌&&◌, nat_le, if◌then◌else◌}
 use Rattle.wtf8.specs.Unicode.{IsSurrogate}
 
@@ -7,10 +7,10 @@ abbrev pub AreScalar : List ℕ → Type 0
 AreScalar [] = ⊤
 AreScalar (p ∷ c) = ¬ (IsSurrogate p) × AreScalar c
 
--- A code point, or the replacement character FFFD in a surrogate's place (Unicode 3.9, "U+FFFD Substitution").
+-- A code point, or U+FFFD if it is a surrogate (Unicode 3.9, "U+FFFD Substitution").
 unfoldable pub replaced : ℕ → ℕ
 replaced p = if nat_le 0xD800 p && nat_le p 0xDFFF then 0xFFFD else p
 
--- The list with the replacement character in the place of each surrogate (WTF-8, "Converting WTF-8 to UTF-8", lossily).
+-- The list with each surrogate replaced by U+FFFD (WTF-8, "Converting WTF-8 to UTF-8", lossily).
 abbrev pub lossy : List ℕ → List ℕ
 lossy c = map replaced c

@@ -5,14 +5,14 @@ use Rattle.wtf8.specs.Concatenation.{MeetsAsPair}
 use Rattle.wtf8.specs.View.{view_units}
 use Rattle.wtf8.specs.declared.strings.unit_positions.UnitSlice.{UnitSlice}
 
--- The units that a slice by units has: the trail of a pair that its begin divides, those of the whole code points, and the lead of a pair that its end divides.
+-- The trail of a pair cut at the start, the units of the whole code points, and the lead of a pair cut at the end.
 abbrev pub units_of_slice : UnitSlice → List ℕ
 units_of_slice s = option_to_list s.trail ++ (view_units s.whole ++ option_to_list s.lead)
 
--- A number of units divides a pair where the last of them is a lead and a trail stands behind it (Unicode 3.8, "Surrogates").
+-- A cut after `n` units divides a pair: a lead is before it and a trail after it (Unicode 3.8, "Surrogates").
 abbrev pub DividesPair : List ℕ → ℕ → Type 0
 DividesPair u n = MeetsAsPair (take n u) (drop n u)
 
--- A truncation at a number of units keeps the first so many; where there are fewer it is refused, which r counts as 1, and changes nothing.
+-- A truncation keeps the first `n` units, `r` is 0; if there are fewer, it is refused, changes nothing, `r` is 1.
 abbrev pub TruncatesUnits : List ℕ → ℕ → List ℕ → ℕ → Type 0
 TruncatesUnits u n v r = ((n ≤ length u) × (v ≡ take n u) × (r ≡ 0)) ⊎ ((length u < n) × (v ≡ u) × (r ≡ 1))

@@ -1,4 +1,4 @@
--- What contracts see of a view.
+-- What contracts see of a `Wtf8`.
 use Rattle.std.specs.Prelude.{ℕ, List, refl}
 use Rattle.wtf8.specs.Unicode.{units}
 use Rattle.wtf8.specs.Form.{IsForm}
@@ -8,7 +8,7 @@ use Rattle.wtf8.specs.declared.strings.view.Wtf8.{Wtf8}
 abbrev pub view_points : Wtf8 → List ℕ
 view_points view = view.well_formed.points
 
--- The units of a view: those of its code points (WTF-8, "Potentially ill-formed UTF-16").
+-- The units of a view: the units of its code points (WTF-8, "Potentially ill-formed UTF-16").
 abbrev pub view_units : Wtf8 → List ℕ
 view_units view = units view.well_formed.points
 

@@ -1,4 +1,4 @@
--- What a decoder reads from an iterator of code units: the code points of its items.
+-- What a `DecodeUtf16` reads from an iterator of code units.
 use Rattle.std.specs.Prelude.{◌≡◌, ℕ, List, map, Option, None, Result, Ok, Err, ◌⊎◌, MatchOption, MatchResult, IfSome, IsSomeAnd}
 use Rattle.std.specs.declared.iter.Ahead.{Ahead}
 use Rattle.std.specs.Iterator.{Yields, Drains}
@@ -7,7 +7,7 @@ use Rattle.wtf8.specs.declared.units_in.decode.DecodeUtf16.{DecodeUtf16}
 use Rattle.wtf8.specs.Form.{IsClean}
 use Rattle.wtf8.specs.Unicode.{IsCodePoint, IsLead, IsTrail, IsSurrogate, units_of, units}
 
--- The code point of an item: a character, or a lone surrogate.
+-- The code point of an item: a scalar value, or a lone surrogate.
 abbrev pub point_of : Result ℕ ℕ → ℕ
 point_of (Ok c) = c
 point_of (Err u) = u
@@ -16,12 +16,12 @@ point_of (Err u) = u
 abbrev pub points_of : List (Result ℕ ℕ) → List ℕ
 points_of items = map point_of items
 
--- The units that a decoder has left: one that may be held back, and those of its iterator.
+-- The units that a decoder has left: a peeked one, if any, and the units of its iterator.
 abbrev pub units_left : {S : Type 0} → DecodeUtf16 S → Ahead S ℕ
 units_left s = s.units
 
 module _ {S : Type 0} (steps : S → Option ℕ → S → Type 0) where
-  -- An item is a scalar value or a surrogate, the units of its code point came off the front, and behind a lead the next unit was seen to be no trail.
+  -- A scalar value or a surrogate came off the front; after a lone lead the next unit, if any, was peeked: no trail.
   pub record DecodesItem (s : Ahead S ℕ) (item : Result ℕ ℕ) (t : Ahead S ℕ) : Type 0 where
     pub kind : MatchResult item (λ c. IsCodePoint c × ¬ (IsSurrogate c)) IsSurrogate
     pub behind : Ahead S ℕ
@@ -29,11 +29,11 @@ module _ {S : Type 0} (steps : S → Option ℕ → S → Type 0) where
     pub held : (t ≡ behind) ⊎ PeeksNext steps behind t
     pub lone : IsLead (point_of item) → IsSomeAnd (peekable_peeked t) (λ o. IfSome o (λ u. ¬ (IsTrail u)))
 
-  -- A call gives the item at the front of the units, or `None` where no unit is left.
+  -- A step yields the item at the front of the units left, or `None` if no unit is left.
   abbrev pub decode_steps : DecodeUtf16 S → Option (Result ℕ ℕ) → DecodeUtf16 S → Type 0
   decode_steps s r t = MatchOption r (peekable_steps steps (units_left s) None (units_left t)) (λ item. DecodesItem (units_left s) item (units_left t))
 
-  -- Items are a reading of what an iterator gives: their code points are clean, and the iterator gives the units of these and then ends.
+  -- The items' code points are clean, and the iterator yields exactly their units and then ends.
   pub record ReadsAll (iter : S) (items : List (Result ℕ ℕ)) : Type 0 where
     pub clean : IsClean (points_of items)
     pub all_units : Drains steps iter (units (points_of items))

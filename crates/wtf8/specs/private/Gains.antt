@@ -1,10 +1,10 @@
--- What bytes begin with, what they gained, and whether it fits.
+-- The code point that bytes begin with, and calls that append units to a vector of bytes.
 use Rattle.std.specs.Prelude.{◌≡◌, ℕ, ◌+◌, ◌-◌, ◌*◌, ◌<◌, ◌≤◌, length, List, ◌++◌, slice_index, Result, OnOk, OnErr, IsOk, vec_capacity}
 use Rattle.std.specs.declared.vec.Vec.{Vec}
 use Rattle.wtf8.specs.Unicode.{IsCodePoint}
 use Rattle.wtf8.specs.Form.{encoding, IsForm}
 
--- What bytes say of the code point p of n bytes that they begin with, by their first byte: one row of the table each (WTF-8, "Generalized UTF-8").
+-- The code point `p` of `n` bytes at the front, by its lead byte, a field for each row (WTF-8, "Generalized UTF-8").
 pub record FrontSays (w : List ℕ) (p n : ℕ) : Type 0 where
   pub nonempty : 0 < length w
   pub one : slice_index w 0 < 0x80 → (p ≡ slice_index w 0) × (n ≡ 1)
@@ -16,7 +16,7 @@ pub record FrontSays (w : List ℕ) (p n : ℕ) : Type 0 where
   pub four : 0xF0 ≤ slice_index w 0 → (3 < length w) × (0x80 ≤ slice_index w 1) × (0x80 ≤ slice_index w 2) × (0x80 ≤ slice_index w 3) × (0x10000 ≤ p)
       × (p ≡ (((slice_index w 0 - 0xF0) * 64 + (slice_index w 1 - 0x80)) * 64 + (slice_index w 2 - 0x80)) * 64 + (slice_index w 3 - 0x80)) × (n ≡ 4)
 
--- Bytes begin with a code point where they are its encoding and something behind it (WTF-8, "Generalized UTF-8").
+-- The bytes are the encoding of a code point, followed by a rest (WTF-8, "Generalized UTF-8").
 pub record BeginsWithPoint (w : List ℕ) : Type 0 where
   pub point : ℕ
   pub rest : List ℕ
@@ -24,23 +24,23 @@ pub record BeginsWithPoint (w : List ℕ) : Type 0 where
   pub encoded : w ≡ encoding point ++ rest
   pub says : FrontSays w point (length (encoding point))
 
--- What bytes begin with was read as a code point of so many bytes: no other one begins there.
+-- If the bytes begin with a code point, it is `p` and has `n` bytes.
 abbrev pub IsReadAs : List ℕ → ℕ → ℕ → Type 0
 IsReadAs w p n = (b : BeginsWithPoint w) → (p ≡ b.point) × (n ≡ length (encoding b.point))
 
--- Bytes gained these units: new bytes are the form of the units of the old ones with these behind them (WTF-8, "Concatenating").
+-- If the old bytes are a form, the new ones are the form of its units followed by `v` (WTF-8, "Concatenating").
 abbrev pub GainsUnits : List ℕ → List ℕ → List ℕ → Type 0
 GainsUnits old new v = (u : List ℕ) → IsForm old u → IsForm new (u ++ v)
 
 module _ {T E Z : Type 0} where
-  -- A call that may be refused for want of memory leaves these numbers in a vector, or what was there; it is not refused where they fit, and gives no room back.
+  -- A call leaves `whole`, or on an error the old items; it succeeds if `whole` fits, and capacity never shrinks.
   pub record Becomes (old : Vec ℕ Z) (whole : List ℕ) (new : Vec ℕ Z) (r : Result T E) : Type 0 where
     pub ok : OnOk r (new.items ≡ whole)
     pub err : OnErr r (new.items ≡ old.items)
     pub room : length whole ≤ vec_capacity old → IsOk r
     pub capacity : vec_capacity old ≤ vec_capacity new
 
-  -- Such a call leaves bytes that gained these units.
+  -- A call appends the units `v` to the bytes or, refused memory, leaves them, as `Becomes` says.
   pub record Gains (old : Vec ℕ Z) (v : List ℕ) (new : Vec ℕ Z) (r : Result T E) : Type 0 where
     pub whole : List ℕ
     pub gained : GainsUnits old.items whole v

@@ -1,4 +1,4 @@
--- Units that are turned into bytes part by part.
+-- Units that are encoded part by part.
 use Rattle.std.specs.Prelude.{ℕ, ◌<◌, ◌≤◌, Bool, IsTrue, List, length, take}
 use lib.Lanes.{Each1}
 use Rattle.wtf8.specs.Form.{IsForm}
@@ -6,25 +6,25 @@ use Rattle.wtf8.specs.Surrogates.{AreScalar}
 use Rattle.wtf8.specs.Unicode.{IsSurrogate}
 use Rattle.wtf8.specs.UnitPosition.{DividesPair}
 
--- Bytes are the form of these units, and where the flag is set no surrogate is alone in them (Unicode 3.9, "Unicode scalar value").
+-- The bytes are the form of the units; if `known`, no code point is a surrogate (Unicode 3.9, "Unicode scalar value").
 pub record IsKnownForm (w u : List ℕ) (known : Bool) : Type 0 where
   pub form : IsForm w u
   pub scalar : IsTrue known → AreScalar form.points
 
--- No lead and trail stand on the two sides of this place (Unicode 3.8, "Surrogates").
+-- A cut after `n` units divides no surrogate pair (Unicode 3.8, "Surrogates").
 abbrev pub DividesNoPair : List ℕ → ℕ → Type 0
 DividesNoPair u n = ¬ (DividesPair u n)
 
--- Each of the units is below 80: its own code point, and its own byte (Unicode 3.9, "UTF-8", Table 3-6).
+-- Each of the units is below 0x80, so it is its own code point and its own byte (Unicode 3.9, "UTF-8", Table 3-6).
 abbrev pub AreAscii : List ℕ → Type 0
 AreAscii u = Each1 (λ n. n < 0x80) u
 
--- The bytes are the form of the units before a place, and no pair is divided there.
+-- The bytes are the form of the units before index `at`, as `IsKnownForm` says, and no pair is divided there.
 pub record IsReadTo (w u : List ℕ) (at : ℕ) (known : Bool) : Type 0 where
   pub within : at ≤ length u
   pub apart : DividesNoPair u at
   pub form : IsKnownForm w (take at u) known
 
--- Each of the units is a scalar value of its own number (Unicode 3.9, "Unicode scalar value").
+-- Each of the units is a scalar value below 0x10000 (Unicode 3.9, "Unicode scalar value").
 abbrev pub AreScalarUnits : List ℕ → Type 0
 AreScalarUnits u = Each1 (λ n. (n < 0x10000) × ¬ (IsSurrogate n)) u

@@ -1,19 +1,21 @@
--- What units add one after another, the last one, two or three of three bytes, each known by the unit and the one before it.
+-- The bytes that each unit adds: the last one, two or three of three, computed from the unit and the one before it.
 use Rattle.std.specs.Prelude.{◌≡◌, ℕ, ◌+◌, ◌-◌, ◌*◌, ◌/◌, ◌%◌, ◌≤◌, ◌↔◌, List, [], ◌∷◌, ◌++◌, map, take, drop, nat_lt, if◌then◌else◌, slice_index_or}
 use lib.Lanes.{Each2, zip2}
 use Rattle.wtf8.specs.Unicode.{IsLead, IsTrail}
 
--- The three bytes of a unit that is no surrogate (Unicode 3.9, "UTF-8", Table 3-6): where it takes fewer, these are the last ones.
+-- The first of a unit's three bytes, of which a shorter encoding has the last ones (Unicode 3.9, "UTF-8", Table 3-6).
 abbrev pub first_byte : ℕ → ℕ
 first_byte n = 0xE0 + n / 4096
 
+-- The second of the three bytes of a unit that is no surrogate.
 abbrev pub own_second_byte : ℕ → ℕ
 own_second_byte n = (if nat_lt n 0x800 then 0xC0 else 0x80) + n / 64 % 64
 
+-- The last of the three bytes of a unit that is no surrogate.
 abbrev pub own_last_byte : ℕ → ℕ
 own_last_byte n = if nat_lt n 0x80 then n else 0x80 + n % 64
 
--- The same of any unit behind another one: a surrogate adds its half of the four bytes that a pair has.
+-- The second of the three bytes of a unit after `before`; a lead adds its pair's first two bytes, a trail the last two.
 abbrev pub second_byte : ℕ → ℕ → ℕ
 second_byte before n =
     if nat_lt n 0xD800 then own_second_byte n
@@ -21,57 +23,59 @@ second_byte before n =
     else if nat_lt n 0xE000 then 0x80 + before % 4 * 16 + n / 64 % 16
     else own_second_byte n
 
+-- The last of the three bytes of a unit.
 abbrev pub last_byte : ℕ → ℕ
 last_byte n =
     if nat_lt n 0xD800 then own_last_byte n
     else if nat_lt n 0xDC00 then 0x80 + (n - 0xD7C0) / 4 % 64
     else own_last_byte n
 
--- Whether a unit adds more than one byte, and whether three: 1 where it does.
+-- 1 if the unit adds more than one byte, else 0.
 abbrev pub more_than_one : ℕ → ℕ
 more_than_one n = if nat_lt n 0x80 then 0 else 1
 
+-- 1 if the unit adds three bytes, else 0.
 abbrev pub are_three : ℕ → ℕ
 are_three n = if nat_lt n 0x800 then 0 else if nat_lt n 0xD800 then 1 else if nat_lt n 0xE000 then 0 else 1
 
--- How many bytes a unit adds.
+-- The number of bytes that a unit adds.
 abbrev pub byte_count : ℕ → ℕ
 byte_count n = 1 + more_than_one n + are_three n
 
--- The second and the last bytes of units one behind the other, and marks for those of three.
+-- The second and last bytes of the units, as if a 0 came before them, and 0x80 for each that adds three bytes, else 0.
 pub record AreBehind (u seconds lasts longs : List ℕ) : Type 0 where
   pub second : seconds ≡ zip2 second_byte (0 ∷ u) u
   pub last : lasts ≡ map last_byte u
   pub long : longs ≡ map (λ n. are_three n * 0x80) u
 
--- What a unit adds behind another one.
+-- The bytes that the unit `n` adds after the unit `before`.
 abbrev pub piece : ℕ → ℕ → List ℕ
 piece before n = drop (3 - byte_count n) (first_byte n ∷ second_byte before n ∷ last_byte n ∷ [])
 
--- What units add behind another one.
+-- The bytes that the units add after the unit `before`.
 abbrev pub pieces : ℕ → List ℕ → List ℕ
 pieces before [] = []
 pieces before (n ∷ u) = piece before n ++ pieces n u
 
--- Behind a unit each trail stands behind a lead, and each lead before a trail but at the end (Unicode 3.8, "Surrogates").
+-- Each unit after `before` is a trail if and only if the unit before it is a lead (Unicode 3.8, "Surrogates").
 abbrev pub ArePaired : ℕ → List ℕ → Type 0
 ArePaired before u = Each2 (λ b n. IsTrail n ↔ IsLead b) (before ∷ u) u
 
--- The three bytes of units behind another one, the first ones before the second and these before the last.
+-- The three bytes of the units after `before`: all first bytes, then all second ones, then all last ones.
 abbrev pub byte_lanes : ℕ → List ℕ → List ℕ
 byte_lanes before u = map first_byte u ++ zip2 second_byte (before ∷ u) u ++ map last_byte u
 
--- Lengths from one to three of four units as a number: a bit for each above one, and four places higher for each of three.
+-- The table index for four lengths: bit `k` is set if length `k` is above one, bit `4 + k` if it is three.
 abbrev pub row_number : ℕ → ℕ → ℕ → ℕ → ℕ
 row_number a b c d = a / 2 + b / 2 * 2 + c / 2 * 4 + d / 2 * 8 + (a / 3 + b / 3 * 2 + c / 3 * 4 + d / 3 * 8) * 16
 
--- The number of the lengths of four units.
+-- The table index for the first four units of a list.
 abbrev pub lengths_number : List ℕ → ℕ
 lengths_number u =
     let count = λ (k : ℕ). byte_count (slice_index_or u k 0) in
     row_number (count 0) (count 1) (count 2) (count 3)
 
--- The places of the last so many bytes of the unit of a number.
+-- The lanes of the last `n` of the three bytes of unit `k` of four.
 abbrev pub places : ℕ → ℕ → List ℕ
 places n k = drop (3 - n) (k ∷ (4 + k) ∷ (8 + k) ∷ [])
 
@@ -79,11 +83,11 @@ places n k = drop (3 - n) (k ∷ (4 + k) ∷ (8 + k) ∷ [])
 abbrev pub IsLength : ℕ → Type 0
 IsLength n = (1 ≤ n) × (n ≤ 3)
 
--- A row has the places of the bytes of four units, by the number of their lengths.
+-- The row at table index `number` begins with the lanes of the bytes of four units of these lengths, in order.
 abbrev pub IsRow : ℕ → List ℕ → Type 0
 IsRow number row = (a b c d : ℕ) → IsLength a → IsLength b → IsLength c → IsLength d → number ≡ row_number a b c d
     → take (a + b + c + d) row ≡ places a 0 ++ places b 1 ++ places c 2 ++ places d 3
 
--- A count is of the bytes of four units, by the number of their lengths.
+-- The count at table index `number` is the sum of the four lengths.
 abbrev pub IsCounted : ℕ → ℕ → Type 0
 IsCounted number count = (a b c d : ℕ) → IsLength a → IsLength b → IsLength c → IsLength d → number ≡ row_number a b c d → count ≡ a + b + c + d

@@ -1,45 +1,44 @@
--- What an iterator of units holds back, and what a step leaves of it.
+-- The trail that an iterator over units holds back, and what a step leaves.
 use Rattle.std.specs.Prelude.{◌≡◌, ℕ, Bool, false, ◌+◌, ◌*◌, ◌%◌, ◌≤◌, List, [], ◌∷◌, drop, length, nat_lt, if◌then◌else◌}
 use Rattle.wtf8.specs.Form.{IsWellFormed}
 use Rattle.wtf8.specs.Unicode.{units_of}
 use Rattle.wtf8.specs.Units.{Unread, unread_units}
 
--- Whether a byte is one behind the first of a code point's encoding: from 80 to BF.
+-- Whether a byte is a continuation byte: from 0x80 to 0xBF.
 abbrev pub is_inside : ℕ → Bool
 is_inside b = if nat_lt b 0x80 then false else nat_lt b 0xC0
 
--- The trail of a supplementary code point by the last two bytes of its encoding: four bits and six.
+-- The trail of a supplementary code point from the last two bytes of its encoding: four low bits and six.
 abbrev pub trail_by : ℕ → ℕ → ℕ
 trail_by a b = 0xDC00 + a % 16 * 64 + b % 64
 
--- The trail that bytes begin with, where they begin inside a code point, behind its lead: none where a code point begins.
+-- The trail at the front of bytes that begin with the last two bytes of a pair; nothing if a code point begins there.
 abbrev pub held_in : List ℕ → List ℕ
 held_in [] = []
 held_in (a ∷ []) = []
 held_in (a ∷ b ∷ w) = if is_inside a then trail_by a b ∷ [] else []
 
--- The bytes behind the trail that bytes begin with: all of them where a code point begins.
+-- The bytes after the trail that `held_in` reads: all of them if a code point begins there.
 abbrev pub behind_held : List ℕ → List ℕ
 behind_held [] = []
 behind_held (a ∷ []) = a ∷ []
 behind_held (a ∷ b ∷ w) = if is_inside a then w else a ∷ b ∷ w
 
--- What is left of a held part and unread code points behind their first unit: a held unit goes first, and behind the first unit of a code point its second one
--- is held.
+-- What is left after the first unit: a held trail, or else the first unit of a code point, whose trail is then held.
 abbrev pub left_after : List ℕ → List ℕ → Unread
 left_after (t ∷ held) c = record { held = held; points = c }
 left_after [] [] = record { held = []; points = [] }
 left_after [] (p ∷ c) = record { held = drop 1 (units_of p); points = c }
 
--- What is left behind the first unit.
+-- What an iterator has left after its first unit.
 abbrev pub unread_after : Unread → Unread
 unread_after s = left_after s.held s.points
 
--- What is unread from a position on: the trail that begins there, if any, and the code points behind it.
+-- What is unread at byte position `at`: the trail that begins there, if any, and the code points after it.
 abbrev pub unread_at : (v : List ℕ) (at : ℕ) → IsWellFormed (behind_held (drop at v)) → Unread
 unread_at v at h = record { held = held_in (drop at v); points = h.points }
 
--- A step from a position to the next reads the first unread unit and leaves what is behind it.
+-- A step from position `at` to `next` reads the first unread unit and leaves the rest.
 pub record StepsUnit (v : List ℕ) (at : ℕ) (h : IsWellFormed (behind_held (drop at v))) (unit next : ℕ) : Type 0 where
   pub within : next ≤ length v
   pub behind : IsWellFormed (behind_held (drop next v))

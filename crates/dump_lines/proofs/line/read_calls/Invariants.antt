@@ -3,7 +3,7 @@ use Rattle.dump_lines.specs.Parts.{parts_left}
 use Rattle.dump_lines.proofs.Reading.{AreRead}
 use Rattle.dump_lines.proofs.line.read_calls.Given as goal
 
--- the words so far stand for the calls
+-- `calls` are the calls of the words so far
 abbrev pub invariant-loop-rest : goal.invariant-loop-rest
 invariant-loop-rest g l = AreRead l.line (parts_left 32 l.rest) l.calls.items
 

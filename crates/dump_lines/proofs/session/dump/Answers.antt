@@ -6,7 +6,7 @@ use Rattle.dump_lines.proofs.Splitting.{lines_step}
 use Rattle.dump_lines.proofs.session.dump.Given
 use Rattle.dump_lines.proofs.session.dump.Goals as goal
 
--- the lines that are left are this one and those behind it
+-- the lines that are left are this one and the lines after it
 step : (g : Given.Over) (c : goal.After-unwrap_or-rest g) → lines c.loop-rest.rest.now ≡ c.split_first_part.result.0.now ∷ lines c.unwrap_or-rest.result.now
 step g c =
     let long : 0 < length c.loop-rest.rest.now = grind (arith, nat_tests) in

@@ -3,7 +3,7 @@ use Rattle.dump_lines.specs.Dump.{HoldsAnswers}
 use Rattle.dump_lines.specs.Lines.{lines}
 use Rattle.dump_lines.proofs.session.dump.Given as goal
 
--- the lines so far are answered
+-- `out` is the output for the lines so far
 abbrev pub invariant-loop-rest : goal.invariant-loop-rest
 invariant-loop-rest g l = (front : List (List ℕ)) × (lines l.input ≡ front ++ lines l.rest) × HoldsAnswers front l.out.items
 

@@ -2,7 +2,7 @@ use Rattle.std.proofs.Common.{◌-◌, ◌^◌, vec_len}
 use Rattle.std.specs.Io.KnownBytes.{Consumes}
 use Rattle.dump_lines.proofs.session.read_input.Given as goal
 
--- the reader gave the bytes so far
+-- `input` is what was read so far
 abbrev pub invariant-loop-count : goal.invariant-loop-count
 invariant-loop-count g l = Consumes (g.R.Read.remaining l.fn.reader) (g.R.Read.remaining l.reader) l.input.items
 

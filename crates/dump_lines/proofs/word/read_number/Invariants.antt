@@ -4,7 +4,7 @@ use Rattle.std.specs.Char.{is_digit}
 use Rattle.std.specs.Str.Parse.{digits_value, AllDigits}
 use Rattle.dump_lines.proofs.word.read_number.Given as goal
 
--- the digits so far spell the number so far, and the word is a number if the rest is
+-- the bytes so far are digits with the value `number`, and the word is all digits if and only if the rest is
 abbrev pub invariant-loop-byte : goal.invariant-loop-byte
 invariant-loop-byte l = record {
   spelled : l.number ≡ digits_value l.base (take l.byte-index l.word);

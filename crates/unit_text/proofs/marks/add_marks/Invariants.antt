@@ -4,7 +4,7 @@ use Rattle.wtf8.specs.View.{view_units}
 use Rattle.unit_text.specs.Marks.{AreKept}
 use Rattle.unit_text.proofs.marks.add_marks.Given as goal
 
--- the marks so far are kept, and the last place is a mark at or before that of the last of them
+-- the marks so far are kept, and `last` is a mark at or before unit index `number * 128`
 abbrev pub invariant-loop-number : goal.invariant-loop-number
 invariant-loop-number g l = record {
   bytes : l.view.bytes.now ≡ l.text.bytes;
