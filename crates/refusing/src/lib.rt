@@ -9,7 +9,7 @@ use std::cell::Cell;
 pub enum Refusal {
     /// All of them.
     ForGood,
-    /// The first one alone. So a caller that repeats a refused request is granted it, and the repetition shows.
+    /// The first one alone. A caller that repeats the refused request is granted it, so the repetition shows.
     Once,
 }
 
@@ -28,8 +28,8 @@ struct Ledger {
 /// An allocator for tests that wraps another one: it grants a set number of requests for memory, and refuses the ones
 /// after them, all or the first alone.
 ///
-/// A new block is a request, and so is a block that grows or shrinks. A deallocation is none. A request that is granted
-/// counts even if the inner allocator then refuses it.
+/// A new block is a request, and so is a block that grows or shrinks. A deallocation is none. A granted request uses up
+/// a grant even if the inner allocator then refuses it.
 pub struct Refusing<B: Allocator> {
     inner: B,
     ledger: Cell<Ledger>,

@@ -112,7 +112,7 @@ fn expect_whole(
     expect_text(alloc, &whole, units, dump)
 }
 
-/// Checks `expect_whole` at each index of the text of `units`.
+/// Fails unless the text of `units`, cut at each unit index and joined by both callers, is whole again.
 fn expect_whole_anywhere(alloc: Global, units: &[u16], dump: &str) -> Result<(), Fail> {
     let text = UnitText::from_units(alloc, units)?;
     for place in 0..=units.len() {

@@ -131,7 +131,7 @@ fn expect_twice<'a>(heap: Lent<'a>, text: &UnitText<Lent<'a>>) -> Result<(), Fai
     Ok(())
 }
 
-/// Checks slices of a text of `length` units that repeat `kind`, and the text appended to a copy of it.
+/// Fails unless slices of `length` units that repeat `kind`, and appending these to a copy, request what they need.
 fn expect_done(alloc: Global, kind: &[u16; 8], length: usize) -> Result<(), Fail> {
     let heap = Refusing::new(alloc, 0);
     let text = text_of(alloc, &heap, kind, length)?;

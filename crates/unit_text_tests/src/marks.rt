@@ -69,7 +69,7 @@ fn expect_found<'a>(heap: Lent<'a>, text: &UnitText<Lent<'a>>, units: &[u16]) ->
     Ok(())
 }
 
-/// Fails unless the text of `units` passes `expect_found` without marks and with them.
+/// Fails unless the units and slices of the text of `units` are right, without marks and with them.
 fn expect_marks(heap: Lent<'_>, units: &[u16]) -> Result<(), Fail> {
     let mut text = UnitText::from_units(heap, units)?;
     expect_found(heap, &text, units)?;
@@ -77,7 +77,7 @@ fn expect_marks(heap: Lent<'_>, units: &[u16]) -> Result<(), Fail> {
     expect_found(heap, &text, units)
 }
 
-/// Checks `expect_marks` with `length` units that repeat `kind`, of which the first is its unit `first`.
+/// Fails unless units and slices of a text of `length` units are right, without marks and with them.
 fn expect_marked(alloc: Global, kind: &[u16; 6], first: usize, length: usize) -> Result<(), Fail> {
     let heap = Refusing::new(alloc, u64::MAX);
     let units = units_of(alloc, kind, first, length)?;
@@ -98,7 +98,7 @@ fn append<'a>(
     text.concat(&piece)
 }
 
-/// Checks `expect_found` with `length` units that repeat `kind`.
+/// Fails unless the text has `length` units that repeat `kind`, and slices of it have their part of them.
 fn expect_kind<'a>(
     alloc: Global,
     heap: Lent<'a>,

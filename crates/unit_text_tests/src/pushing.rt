@@ -133,7 +133,7 @@ fn pushed_units_are_found(rt: HostRuntime) -> Result<(), Fail> {
             let left_out = expect_grown(rt.alloc(), &kind, is_marked, granted, Refusal::Once)?;
             refused = refused.wrapping_add(left_out);
         }
-        // One push is refused for each growth, none for a mark, and none if all requests are granted.
+        // A refused growth refuses one push, and a refused mark none. None is refused if all requests are granted.
         assert_eq!(rt; refused, growths);
     }
     Ok(())

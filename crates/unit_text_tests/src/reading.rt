@@ -47,7 +47,7 @@ fn told<A: Allocator>(
     }
 }
 
-/// Input bytes, and the result of reading them as `told` returns it.
+/// Input bytes, and the hex dump of the string that is read, or the name of the error.
 fn rows() -> [(&'static [u8], &'static str); 6] {
     [
         (b"", ""),
@@ -206,7 +206,7 @@ fn an_error_is_handed_on(rt: HostRuntime) -> Result<(), Fail> {
 }
 
 /// Reads `bytes` with `granted` requests for memory granted, and the following ones, or the next one alone, refused.
-/// Returns the result as `told` does, the number of requests and of the bytes in them, and the number of reads.
+/// Returns the hex dump or the error's name, the number of requests, their bytes, and the number of reads.
 fn read_granted(
     alloc: Global,
     bytes: &[u8],

@@ -640,7 +640,7 @@ fn expect_common(
     expect_dump(alloc, front.as_wtf8(), WHOLE)
 }
 
-/// Fails unless a text splits into its first two code points and the rest, and `expect_common` succeeds for them.
+/// Fails unless a text splits into its first two code points and the rest, and these join to the text again.
 fn expect_halves(alloc: Global, text: Wtf8<'_>) -> Result<(), Fail> {
     let mut front = points::first_points(alloc, text, 2)?;
     expect_dump(alloc, front.as_wtf8(), "ED B2 A9 F0 9F 92 A9")?;

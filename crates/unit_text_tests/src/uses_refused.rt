@@ -150,7 +150,7 @@ fn is_kept(alloc: Global, folder: Wtf8<'_>) -> Result<bool, AllocError> {
     Ok(again.as_wtf8() == folder && shown.as_str().len() == folder.len())
 }
 
-/// Fails unless a folder and a name are joined to paths of the right length, and the folder passes `is_kept`.
+/// Fails unless a folder and a name join to paths of the right length, and the folder, cut and joined, is unchanged.
 fn expect_paths(alloc: Global, folder: Wtf8<'_>) -> Result<(), Fail> {
     let name = Wtf8::from_str("name");
     let len = folder.len().saturating_add(5);

@@ -141,7 +141,7 @@ fn expect_pair<A: Allocator>(alloc: Global, text: &mut Wtf8Buf<A>) -> Result<(),
     Ok(())
 }
 
-/// Checks `expect_pair` on a string with a capacity of four bytes.
+/// Fails unless a surrogate pair, pushed in halves and then as a character, fits in a capacity of four bytes.
 fn expect_room_for_pair(alloc: Global, heap: Lent<'_>, grants: u64) -> Result<(), Fail> {
     let mut text = with_room(heap, 4, grants)?;
     expect_pair(alloc, &mut text)
@@ -213,7 +213,7 @@ fn is_pair_applied<A: Allocator>(text: &mut Wtf8Buf<A>) -> bool {
     matches!(text.apply_all(&calls), Ok(0))
 }
 
-/// Fails unless the list of `is_pair_applied` fits in a capacity of four bytes.
+/// Fails unless a list that appends the two surrogates of a pair fits in a capacity of four bytes.
 fn expect_room_for_list(alloc: Global, heap: Lent<'_>, grants: u64) -> Result<(), Fail> {
     let mut text = with_room(heap, 4, grants)?;
     if !is_pair_applied(&mut text) {
@@ -268,7 +268,7 @@ fn expect_applied<A: Allocator>(
     expect_dump(alloc, text.as_wtf8(), dump)
 }
 
-/// Checks `expect_applied` for each row in turn; `piece` is pushed after a lead.
+/// Fails unless each call of `applied_rows` in turn is as its row tells; `piece` is pushed after a lead.
 fn expect_each_applied<A: Allocator>(
     alloc: Global,
     text: &mut Wtf8Buf<A>,
@@ -281,13 +281,13 @@ fn expect_each_applied<A: Allocator>(
     Ok(())
 }
 
-/// Checks `expect_each_applied` on a string with a capacity of 20 bytes.
+/// Fails unless the calls of `applied_rows` are as the rows tell within a capacity of 20 bytes.
 fn expect_room_for_applied(alloc: Global, heap: Lent<'_>, piece: Wtf8<'_>) -> Result<(), Fail> {
     let mut text = with_room(heap, 20, 9)?;
     expect_each_applied(alloc, &mut text, piece)
 }
 
-/// Checks `expect_room_for_applied` with a trail and "b" as the piece.
+/// Fails unless the calls of `applied_rows`, with a trail and "b" as the piece, fit in a capacity of 20 bytes.
 fn expect_trail_applied(alloc: Global, heap: Lent<'_>) -> Result<(), Fail> {
     let piece = pushed(alloc, &[0xDCA9, 0x62])?;
     expect_room_for_applied(alloc, heap, piece.as_wtf8())
@@ -343,7 +343,7 @@ fn expect_again<A: Allocator + Drop>(alloc: Global, owned: String<A>) -> Result<
     Ok(())
 }
 
-/// Fails unless `into_string` succeeds with a text that passes `expect_again`.
+/// Fails unless `into_string` succeeds, and its text makes the string and the lossy text again.
 fn expect_owned<A: Allocator + Drop>(alloc: Global, text: Wtf8Buf<A>) -> Result<(), Fail> {
     match text.into_string() {
         Ok(owned) => expect_again(alloc, owned),
@@ -351,7 +351,7 @@ fn expect_owned<A: Allocator + Drop>(alloc: Global, text: Wtf8Buf<A>) -> Result<
     }
 }
 
-/// Checks `expect_borrowed` and `expect_owned` for the string of `TEXT`.
+/// Fails unless the string of `TEXT` is borrowed as text, and converts to an owned text.
 fn expect_text(alloc: Global, heap: Lent<'_>, grants: u64) -> Result<(), Fail> {
     let text = text_of(heap, false, grants)?;
     expect_borrowed(heap, text.as_wtf8())?;

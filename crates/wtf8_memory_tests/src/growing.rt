@@ -298,7 +298,7 @@ fn expect_kept(
     Ok(())
 }
 
-/// Checks `expect_kept` by name and through `apply`, with requests refused for good and once.
+/// Fails unless the call, by name and through `apply`, ends at each refused request and leaves the bytes of `refused`.
 fn expect_kept_each_way(alloc: Global, piece: Piece, refused: &[&str]) -> Result<(), Fail> {
     for refusal in REFUSALS {
         expect_kept(alloc, piece, refused, false, refusal)?;
@@ -399,7 +399,7 @@ fn expect_given_back(
     Ok(())
 }
 
-/// Checks `expect_given_back` on a string with a capacity of 100 bytes.
+/// Fails unless a string with a capacity of 100 bytes releases what it does not need, if memory is granted.
 fn expect_hundred_given_back(alloc: Global, heap: Lent<'_>) -> Result<(), Fail> {
     let mut text = Wtf8Buf::with_capacity(heap, 100)?;
     fill(&mut text)?;

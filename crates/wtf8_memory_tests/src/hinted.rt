@@ -101,7 +101,7 @@ fn a_lower_hint_may_be_false(rt: HostRuntime) -> Result<(), Fail> {
     Ok(())
 }
 
-/// Whether extending a string by `left` items succeeds.
+/// Whether extending a string by `left` items, with the lower hint `hint`, succeeds.
 fn is_extended<A: Allocator>(
     text: &mut Wtf8Buf<A>,
     left: u32,

@@ -1,5 +1,5 @@
-// Calls that request memory, on strings of each length: each succeeds if all its requests are granted, requests as many
-// bytes as expected, and fails at each request that is refused.
+// Calls that request memory, on strings of each length: each succeeds if all its requests are granted, requests the
+// expected number of bytes, and fails at each request that is refused.
 use refusing::{REFUSALS, Refusing};
 use std::alloc::{AllocError, Allocator, Global};
 use std::test::Fail;
@@ -403,7 +403,7 @@ fn expect_refused<'a>(
     Ok(())
 }
 
-/// Checks `expect_granted` for each call on a sample.
+/// Fails unless each call on a sample succeeds if all is granted, with the expected number of requests and of bytes.
 fn expect_calls<'a>(heap: Lent<'a>, sample: &Sample<Lent<'a>>) -> Result<(), Fail> {
     for call in CALLS {
         expect_granted(heap, call, sample)?;
@@ -411,7 +411,7 @@ fn expect_calls<'a>(heap: Lent<'a>, sample: &Sample<Lent<'a>>) -> Result<(), Fai
     Ok(())
 }
 
-/// Checks `expect_granted` for each call on the sample of `length` units that repeat `kind`.
+/// Fails unless each call succeeds on `length` units that repeat `kind`, with the expected requests and bytes.
 fn expect_done(alloc: Global, heap: Lent<'_>, kind: &[u16; 8], length: usize) -> Result<(), Fail> {
     let sample = sample_of(alloc, heap, kind, length)?;
     expect_calls(heap, &sample)
@@ -442,7 +442,7 @@ fn each_call_is_done_about_powers_of_two(rt: HostRuntime) -> Result<(), Fail> {
     Ok(())
 }
 
-/// Checks `expect_granted` and `expect_refused` for each call on a sample.
+/// Fails unless each call on a sample fails at each request that is refused.
 fn expect_refusals<'a>(heap: Lent<'a>, sample: &Sample<Lent<'a>>) -> Result<(), Fail> {
     for call in CALLS {
         let requests = expect_granted(heap, call, sample)?;
@@ -451,7 +451,7 @@ fn expect_refusals<'a>(heap: Lent<'a>, sample: &Sample<Lent<'a>>) -> Result<(), 
     Ok(())
 }
 
-/// Checks `expect_refusals` on the sample of `length` units that repeat `kind`.
+/// Fails unless each call on `length` units that repeat `kind` fails at each request that is refused.
 fn expect_answers(
     alloc: Global,
     heap: Lent<'_>,

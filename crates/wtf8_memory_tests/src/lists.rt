@@ -7,7 +7,7 @@ use wtf8_tests::examples::{expect_dump, point_of_unit, pushed};
 
 type Lent<'a> = &'a Refusing<Global>;
 
-/// Makes a call by the method of its name. Truncates only at a code point boundary, or to units that the string has.
+/// Makes a call by the method of its name; a truncation only at a boundary, or to a number of units that are there.
 fn call_named(text: &mut Wtf8Buf<Global>, call: Build<'_>) -> Result<(), AllocError> {
     match call {
         Build::Push(code_point) => text.push(code_point),
@@ -124,7 +124,7 @@ fn expect_stop(
     expect_dump(alloc, text.as_wtf8(), stop.dump)
 }
 
-/// Checks `expect_before` and, with requests refused for good and once, `expect_stop` for each of the stops.
+/// Fails unless the list stops at each of its requests, refused for good or once, with the bytes of the calls before.
 fn expect_stops(alloc: Global, heap: Lent<'_>, calls: &[Build<'_>]) -> Result<(), Fail> {
     for stop in stops() {
         expect_before(alloc, calls, stop)?;
@@ -217,7 +217,7 @@ fn is_push_refused(heap: Lent<'_>, text: &mut Wtf8Buf<Lent<'_>>, refusal: Refusa
     is_stopped(text, &calls, 1) && heap.requests() == 1
 }
 
-/// Fails unless a list stops at a refused push and leaves the bytes of `fill`.
+/// Fails unless a list stops at a refused push and leaves "a" and D83D.
 fn expect_push_refused(
     alloc: Global,
     heap: Lent<'_>,
@@ -232,7 +232,7 @@ fn expect_push_refused(
     Ok(())
 }
 
-/// Checks `expect_push_refused` on a string without spare capacity.
+/// Fails unless a list stops at a refused push, on a string without spare capacity, and leaves that unchanged.
 fn expect_push_refused_where_full(alloc: Global, heap: Lent<'_>) -> Result<(), Fail> {
     let mut text = Wtf8Buf::with_capacity(heap, 4)?;
     fill(&mut text)?;
@@ -245,7 +245,7 @@ fn a_list_stops_at_the_refused_push(rt: HostRuntime) -> Result<(), Fail> {
     expect_push_refused_where_full(rt.alloc(), &heap)
 }
 
-/// Fails unless an extension that needs more than the capacity stops with as many code points appended as fit.
+/// Fails unless an extension that needs more than the capacity stops, with the code points appended that fit.
 fn expect_part<A: Allocator>(text: &mut Wtf8Buf<A>, points: &[CodePoint]) -> Result<(), Fail> {
     if !is_stopped(text, &[Build::Extend(points)], 0) {
         return Err(Fail::new("not stopped at the extension"));
@@ -260,7 +260,7 @@ fn expect_part<A: Allocator>(text: &mut Wtf8Buf<A>, points: &[CodePoint]) -> Res
     Ok(())
 }
 
-/// Checks `expect_part` on a string with a capacity of at least four bytes, and as many code points of three bytes.
+/// Fails unless an extension of a string of small capacity stops, with the code points appended that fit.
 fn expect_extension_stopped(alloc: Global, heap: Lent<'_>) -> Result<(), Fail> {
     let mut text = Wtf8Buf::with_capacity(heap, 4)?;
     let points: Vec<CodePoint> = vec![in alloc; point_of_unit(0x0800); text.capacity()]?;

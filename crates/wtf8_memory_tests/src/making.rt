@@ -97,7 +97,7 @@ fn expect_granted<'a>(
     Ok(())
 }
 
-/// Checks `expect_granted` with the row's units as code points.
+/// Fails unless the row's call succeeds if all is granted, with the requests and bytes of the row.
 fn expect_row<'a>(
     alloc: Global,
     heap: Lent<'a>,
@@ -109,7 +109,7 @@ fn expect_row<'a>(
     expect_granted(heap, text, row, &points)
 }
 
-/// Checks `expect_row` for each row, with a string of "a" and D83D.
+/// Fails unless each row's call succeeds if all is granted, with the requests and bytes of the row.
 fn expect_rows(alloc: Global, heap: Lent<'_>) -> Result<(), Fail> {
     let text = joined(heap, &[0x0061, 0xD83D])?;
     for row in rows() {
@@ -158,7 +158,7 @@ fn expect_answers<'a>(
     expect_dump(alloc, text.as_wtf8(), LEAD)
 }
 
-/// Checks `expect_answers` for each row, with a string of "a" and D83D.
+/// Fails unless each row's call fails at each refused request and leaves the string unchanged.
 fn expect_each_answers(alloc: Global, heap: Lent<'_>) -> Result<(), Fail> {
     let text = joined(heap, &[0x0061, 0xD83D])?;
     for row in rows() {

@@ -133,7 +133,7 @@ fn is_copied(alloc: Global, text: &Wtf8Buf<Global>, units: &[u16]) -> Result<boo
     Ok(copy == *text && 100 <= copy.capacity() - copy.len())
 }
 
-/// Whether the string made of `units` has a clone that passes `is_copied`. Fails unless the string has `units`.
+/// Whether a clone of the string of `units` is equal, with room for what is reserved. Fails unless the units come back.
 fn is_kept(alloc: Global, units: &[u16]) -> Result<bool, Fail> {
     let text = Wtf8Buf::from_ill_formed_utf16(alloc, units)?;
     expect_units(alloc, text.as_wtf8(), units)?;

@@ -106,7 +106,7 @@ fn expect_ends<T: Debug>(alloc: Global, value: &T, expected: &str) -> Result<(),
     Ok(())
 }
 
-/// Checks `expect_ends` for the string of these code points and for its view.
+/// Fails unless the debug output of the string of these code points, and of its view, ends at each refused write.
 fn expect_string_ends(alloc: Global, numbers: &[u32], expected: &str) -> Result<(), Fail> {
     let text = pushed(alloc, numbers)?;
     expect_ends(alloc, &text, expected)?;

@@ -6,8 +6,8 @@ use std::fmt;
 use std::fmt::{Display, Write};
 use std::test::Fail;
 
-/// Code points of strings, and their `Display` output by `{}`, `{:>8}`, `{:*^8.1}`, `{:*<6.2}` and `{:+4}`, which is
-/// that of the Rust library's own WTF-8 strings.
+/// Code points of strings, and their `Display` output by `{}`, `{:>8}`, `{:*^8.1}`, `{:*<6.2}` and `{:+4}`, equal to
+/// the output of the Rust library's own WTF-8 type.
 fn styled() -> [(&'static [u32], [&'static str; 5]); 6] {
     [
         (&[], ["", "        ", "********", "******", "    "]),
@@ -44,7 +44,7 @@ fn a_text_is_filled_and_a_lossy_text_is_not(rt: HostRuntime) -> Result<(), Fail>
     Ok(())
 }
 
-/// Takes `left` writes, each followed by a bar, refuses the next one, and takes all after that.
+/// Takes `left` writes, each followed by `|`, refuses the next one, and takes all after that.
 #[derive(Drop)]
 struct Parts {
     taken: String,
@@ -63,7 +63,7 @@ impl Write for Parts {
     }
 }
 
-/// The first `left` parts, each followed by a bar.
+/// The first `left` parts, each followed by `|`.
 fn with_bars(alloc: Global, parts: &[&str], left: usize) -> Result<String, AllocError> {
     let mut text = String::new(alloc);
     for part in parts.iter().take(left) {
@@ -83,7 +83,7 @@ fn takes<T: Display>(alloc: Global, value: &T, left: usize, parts: &[&str]) -> R
     Ok(sink.taken == expected && is_ok == (parts.len() <= left))
 }
 
-/// Code points of strings, and the single writes by which the Rust library's own WTF-8 strings are displayed.
+/// Code points of strings, and the single writes by which the Rust library's own WTF-8 type displays them.
 fn parts_rows() -> [(&'static [u32], &'static [&'static str]); 5] {
     [
         (&[0x61, 0x62], &["ab"]),
@@ -143,7 +143,7 @@ fn expect_ends<T: Display>(alloc: Global, value: &T, expected: [&str; 5]) -> Res
     Ok(())
 }
 
-/// Checks `expect_ends` for the string of these code points and for its view.
+/// Fails unless the output of the string of these code points, and of its view, ends at each refused write.
 fn expect_string_ends(alloc: Global, numbers: &[u32], expected: [&str; 5]) -> Result<(), Fail> {
     let text = pushed(alloc, numbers)?;
     expect_ends(alloc, &text, expected)?;

@@ -1,5 +1,5 @@
 // Equality and order, in sorts and in maps. Scripts compare the order of many strings and code points, by each
-// comparing call, with the original crate.
+// comparison, with the original crate.
 use crate::examples::pushed;
 use std::alloc::Global;
 use std::cmp::Ordering;
@@ -30,7 +30,7 @@ fn table() -> [&'static [u32]; ROWS] {
     ]
 }
 
-/// Row `place` of the shuffled table, which takes every fifth row, wrapping around.
+/// Row `place` of the shuffled table: row 5 * `place`, modulo `ROWS`, of the table.
 fn row(place: usize) -> &'static [u32] {
     table()[place.wrapping_mul(5) % ROWS]
 }

@@ -28,7 +28,7 @@ fn a_string_without_surrogates_is_a_text(rt: HostRuntime) -> Result<(), Fail> {
     expect_text(pushed(rt.alloc(), &[0xD83D, 0xDCA9])?, "💩")
 }
 
-/// Hangul such as U+D55C begins with 0xED, as surrogates do: the search, many bytes at a time, must pass over it.
+/// Hangul such as U+D55C begins with 0xED as surrogates do, so the search for them, by blocks, must pass over it.
 #[test]
 fn a_long_string_of_hangul_is_a_text(rt: HostRuntime) -> Result<(), Fail> {
     let hangul = [0xD55C; 40];
@@ -82,7 +82,7 @@ fn lossy_rows() -> [(&'static [u32], &'static str, bool); 7] {
     ]
 }
 
-/// Whether both lossy conversions of a string give `text`, and whether the one of the view borrows.
+/// Whether both lossy conversions of a string give `text`, and whether `to_string_lossy` of the view borrows.
 fn lossy_texts(alloc: Global, numbers: &[u32], text: &str) -> Result<(bool, bool), Fail> {
     let string = pushed(alloc, numbers)?;
     let lossy = string.as_wtf8().to_string_lossy(alloc)?;

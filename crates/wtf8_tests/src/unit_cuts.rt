@@ -21,8 +21,8 @@ fn cut(text: &mut Wtf8Buf<Lent<'_>>, n: usize, is_applied: bool, is_within: bool
     true
 }
 
-/// Truncates the string of `units` to `n` of them by `cut`, with every request for memory refused or the first alone.
-/// Fails unless `cut` returns true, makes no request, and leaves the first `n` units, or all if there are fewer.
+/// Truncates the string of `units` to `n` of them, by `apply` or not, with every request for memory refused or the
+/// first alone. Fails unless the result is right, no request is made, and the first `n` units, or all, are left.
 fn expect_cut(
     alloc: Global,
     units: &[u16],
@@ -52,7 +52,7 @@ fn expect_whole(alloc: Global, units: &[u16], n: usize) -> Result<(), Fail> {
     Err(Fail::new(format_args!("not the whole, cut at {n}")))
 }
 
-/// Checks `expect_cut` at each number of units up to two past the end, and `expect_whole` at each up to the end.
+/// Fails unless truncation to each number of units, up to two past the end, is right, and the parts join to the whole.
 fn cut_everywhere(alloc: Global, units: &[u16]) -> Result<(), Fail> {
     for n in 0..units.len().saturating_add(3) {
         for refusal in REFUSALS {

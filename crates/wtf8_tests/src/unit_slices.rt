@@ -6,7 +6,7 @@ use std::alloc::Global;
 use std::test::Fail;
 use wtf8::{Wtf8, Wtf8Buf};
 
-/// Whether `text` has `units` by index, and no more.
+/// Whether `unit_at`, `ascii_unit_at` and `unit_len` agree with `units`.
 fn has_units(text: Wtf8<'_>, units: &[u16]) -> bool {
     for n in 0..units.len().saturating_add(3) {
         if text.unit_at(n) != units.get(n).copied() {
@@ -44,7 +44,7 @@ fn expect_slice(
     expect_units(alloc, part.as_wtf8(), &units[begin..end])
 }
 
-/// Checks `has_units` for the string of `units`, and `expect_slice` for each nonempty slice before its last unit.
+/// Fails unless the string of `units` has them by index, and its nonempty slices before the last unit have theirs.
 fn expect_list(alloc: Global, units: &[u16]) -> Result<(), Fail> {
     let text = Wtf8Buf::from_ill_formed_utf16(alloc, units)?;
     if !has_units(text.as_wtf8(), units) {

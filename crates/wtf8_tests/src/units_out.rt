@@ -4,10 +4,10 @@ use std::alloc::{AllocError, Global};
 use std::test::Fail;
 use wtf8::{Wtf8, Wtf8Buf};
 
-/// The units in a vector before the call.
+/// The units that a vector holds before the call of `append_units`.
 const BEFORE: [u16; 2] = [0xDC00, 0x0061];
 
-/// Lists of units of each kind, which overwrite a part of a list of equal units.
+/// Lists of units of each kind, written over a part of a list of equal units.
 const OTHERS: [&[u16]; 7] = [
     &[0x0061],
     &[0x00E9],
@@ -42,7 +42,7 @@ fn appended_in_room<'a>(
     Ok(room)
 }
 
-/// Whether the call, with no spare capacity and no request granted, changes nothing, and fails if there are units.
+/// Whether `append_units`, without spare capacity and memory, changes nothing, and fails unless there are no units.
 fn is_refused(heap: Lent<'_>, text: Wtf8<'_>) -> Result<bool, AllocError> {
     heap.grant(u64::MAX);
     let mut full = Vec::from_slice(heap, &BEFORE)?;
@@ -51,15 +51,15 @@ fn is_refused(heap: Lent<'_>, text: Wtf8<'_>) -> Result<bool, AllocError> {
     Ok(full.as_slice() == BEFORE.as_slice() && is_refused != text.is_empty())
 }
 
-/// Whether the call makes `whole` with all requests for memory granted, and with none granted if the capacity suffices,
-/// and leaves the vector unchanged if it is refused.
+/// Whether `append_units` makes `whole` with all requests for memory granted, and with none granted if the capacity
+/// suffices, and leaves the vector unchanged if memory is refused.
 fn come_back(heap: Lent<'_>, text: Wtf8<'_>, whole: &[u16]) -> Result<bool, AllocError> {
     let is_appended = appended(heap, text)?.as_slice() == whole;
     let is_in_room = appended_in_room(heap, text, whole.len())?.as_slice() == whole;
     Ok(is_appended && is_in_room && is_refused(heap, text)?)
 }
 
-/// Fails unless the string made of `units` passes `come_back`.
+/// Fails unless `append_units` appends `units` if there is memory or capacity, and else leaves the vector unchanged.
 fn expect_units_back(alloc: Global, units: &[u16]) -> Result<(), Fail> {
     let text = Wtf8Buf::from_ill_formed_utf16(alloc, units)?;
     let mut whole = Vec::from_slice(alloc, &BEFORE)?;
@@ -71,7 +71,7 @@ fn expect_units_back(alloc: Global, units: &[u16]) -> Result<(), Fail> {
     Ok(())
 }
 
-/// Fails unless lists of `length` times `unit`, overwritten from each index on by each of `OTHERS`, are appended.
+/// Fails unless lists of `length` times `unit`, overwritten from each index on by each of `OTHERS`, are appended whole.
 fn expect_changed_back(alloc: Global, unit: u16, length: usize) -> Result<(), Fail> {
     for place in 0..length {
         for other in &OTHERS {
