@@ -173,7 +173,7 @@ fn marks_ask_for_what_they_need(rt: HostRuntime) -> Result<(), Fail> {
     Ok(())
 }
 
-/// Appends a text ten times, of which some may be refused, and returns how many were not.
+/// Appends a text ten times and returns how many of these calls were not refused.
 fn times_appended<'a>(text: &mut UnitText<Lent<'a>>, piece: &UnitText<Lent<'a>>) -> usize {
     let mut times = 0usize;
     for _ in 0..10 {

@@ -21,8 +21,8 @@ fn cut(text: &mut Wtf8Buf<Lent<'_>>, n: usize, is_applied: bool, is_within: bool
     true
 }
 
-/// Truncates the string of `units` to `n` of them, by `apply` or not, with every request for memory refused or the
-/// first alone. Fails unless the result is right, no request is made, and the first `n` units, or all, are left.
+/// Truncates the string of `units` to `n`, by `apply` or `truncate_units`, with every request refused or the first
+/// alone. Fails unless the result is right, without a request, and leaves the first `n` units, or all.
 fn expect_cut(
     alloc: Global,
     units: &[u16],
