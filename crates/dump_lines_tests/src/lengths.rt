@@ -4,7 +4,7 @@ use refusing::Refusing;
 use std::alloc::{AllocError, Global};
 use std::test::Fail;
 
-/// Some bytes `times` over, and others after them.
+/// `bytes` repeated `times` times, then `end`.
 pub fn repeated(
     alloc: Global,
     bytes: &[u8],
@@ -19,20 +19,20 @@ pub fn repeated(
     Ok(all)
 }
 
-/// Fails unless a run reads all of this input and writes this output, with few requests for memory.
+/// Fails unless a run reads all of `input` and writes `expected`, with at most 40 requests for memory.
 pub fn expect_output(alloc: Global, input: &[u8], expected: &[u8]) -> Result<(), Fail> {
     let heap = Refusing::new(alloc, u64::MAX);
     let mut rest = input;
     let mut out = Vec::new(alloc);
     let result = run(&heap, &mut rest, &mut out);
-    // The input, the list, the string and the output grow to twice their room each time, the input at most 15 times.
+    // The input, the list, the string and the output double their capacity at each growth, the input at most 15 times.
     if result.is_err() || !rest.is_empty() || out.as_slice() != expected || heap.requests() > 40 {
         return Err(Fail::new(format_args!("input of {} bytes", input.len())));
     }
     Ok(())
 }
 
-/// Fails unless a run on a line of `letters` words and then some others, and an empty line, writes their dumps.
+/// Fails unless a run on a line of `letters` words "0061" and four others, and an empty line, writes their dumps.
 fn expect_letters(alloc: Global, letters: usize) -> Result<(), Fail> {
     let input = repeated(alloc, b"0061 ", letters, b"-999999 D83D DCA9 /999999\n\n")?;
     let expected = repeated(alloc, b"61 ", letters, b"F0 9F 92 A9 !2\n\n")?;

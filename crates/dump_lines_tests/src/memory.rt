@@ -1,4 +1,4 @@
-// Requests for memory, each refused in turn, for good or alone.
+// Each request for memory refused in turn, with all after it or alone.
 use crate::lengths::repeated;
 use dump_lines::{Fault, dump_line, run};
 use refusing::{REFUSALS, Refusal, Refusing};
@@ -7,10 +7,10 @@ use std::test::Fail;
 
 type Lent<'a> = &'a Refusing<Global>;
 
-/// Lines with their outputs, how many requests each makes, and for how many bytes altogether: for the list of calls, of 24
-/// bytes each, which has room for four at first and then for twice as many each time; for the string, of eight bytes at
-/// first; for the dump, all at once; and two for a count, one for its text and one to append it. A malformed line needs its
-/// list and its output alone.
+/// Lines with their outputs, the number of requests that each makes, and of the bytes in them: for the list of calls,
+/// of 24 bytes each, whose capacity is four at first and then doubles; for the string, eight bytes at first; for the
+/// dump, all at once; and two for a count, one for its text and one to append it. A malformed line needs its list and
+/// its output alone.
 fn rows() -> [(&'static str, &'static str, u64, usize); 8] {
     [
         ("", "", 0, 0),
@@ -29,7 +29,7 @@ fn rows() -> [(&'static str, &'static str, u64, usize); 8] {
     ]
 }
 
-/// Fails unless a line has this output after this number of requests for this number of bytes, and an error if one of the
+/// Fails unless `line` has the output `expected`, by `requests` requests for `bytes` bytes, and an error if one of the
 /// requests is refused, after which no other is made.
 fn expect_requests(
     heap: Lent<'_>,
@@ -68,12 +68,12 @@ fn dump_line_ends_at_a_refused_request(rt: HostRuntime) -> Result<(), Fail> {
 fn a_long_malformed_line_needs_its_list_and_its_output(rt: HostRuntime) -> Result<(), Fail> {
     let line = repeated(rt.alloc(), b"0061 ", 1000, b"061")?;
     let heap = Refusing::new(rt.alloc(), 0);
-    // The list has room for 4, 8 and so on up to 1,024 calls, which is nine requests, and the output is the tenth.
+    // The list has a capacity of 4, 8 and so on up to 1,024 calls, which is nine requests, and the output is the tenth.
     expect_requests(&heap, line.as_slice(), b"?", 10, 24 * 2044 + 8)
 }
 
-/// A run with `granted` requests for memory granted, and those after them refused for good or the next one alone: its result,
-/// what it wrote, and the number of requests.
+/// A run with `granted` requests for memory granted, and the following ones, or the next one alone, refused: its
+/// result, what it wrote, and the number of requests.
 fn run_granted(
     alloc: Global,
     input: &[u8],
@@ -88,8 +88,8 @@ fn run_granted(
     (result, out, heap.requests())
 }
 
-/// How many requests a run makes whose output is `expected`. Fails unless with fewer granted it ends at the refused one, with
-/// nothing written.
+/// The number of requests of a run whose output is `expected`. Fails unless with fewer granted it ends at the refused
+/// one, with nothing written.
 fn requests_of(
     alloc: Global,
     input: &[u8],
@@ -124,7 +124,7 @@ fn a_run_ends_at_a_refused_request_with_nothing_written(rt: HostRuntime) -> Resu
             let made = requests_of(alloc, input.as_bytes(), expected.as_bytes(), refusal)?;
             assert!(rt; made >= 4, "{input}");
         }
-        // The input, the list of calls, the string and the output.
+        // One request each: the input, the list of calls, the string and the output.
         let made = requests_of(rt.alloc(), b"D83D DCA9\n", b"F0 9F 92 A9\n", refusal)?;
         assert_eq!(rt; made, 4);
     }

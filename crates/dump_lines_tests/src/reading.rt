@@ -5,7 +5,7 @@ use std::alloc::Global;
 use std::io;
 use std::io::{Error, ErrorKind, Read};
 
-/// Gives its bytes two at a time and fails at one call, counted from 1; later calls would succeed.
+/// Returns its bytes two at a time and fails at one call, counted from 1; later calls would succeed.
 #[derive(Drop)]
 struct FailingReader<'a> {
     rest: &'a [u8],

@@ -70,7 +70,7 @@ fn run_into(
     (run(alloc, &mut rest, &mut writer), writer)
 }
 
-/// An input, how many bytes the writer takes a call, the call at which it fails, and what it took before.
+/// An input, the number of bytes that the writer takes a call, the call at which it fails, and what it took before.
 fn rows() -> [(&'static str, usize, u32, &'static str); 8] {
     [
         ("0061 0062 0063\n", 2, 1, ""),

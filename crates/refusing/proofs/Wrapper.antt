@@ -1,4 +1,4 @@
--- What the walks of both calls say of the allocator itself.
+-- What the proofs of `allocate` and `deallocate` say of the allocator itself.
 use Rattle.std.proofs.Common.{[], ◌∷◌}
 use mir.Syntax.{Args, a_type, dnil, dcons}
 use denote.Builtin.{RefOf}
@@ -7,7 +7,7 @@ use denote.Signature.{Slot, plain}
 use Rattle.std.proofs.alloc.Calls.{Al}
 use Rattle.refusing.specs.contracts.Refusing as wrapper
 
--- the type arguments of a call: those of the inner allocator
+-- the type arguments of a call: the ones of the inner allocator
 abbrev pub args : Al → Args
 args Z = bounded (a_type ∷ []) (Z.row, tt) (dcons Z.d (dcons Z.drops dnil))
 

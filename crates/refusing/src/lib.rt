@@ -1,22 +1,22 @@
-//! An allocator for tests, which refuses memory after so many requests, and counts what it is asked for.
+//! An allocator for tests that refuses requests for memory after a number of them, and counts requests and their bytes.
 #![tactic(auto)]
 
 use std::alloc::{AllocError, Allocator};
 use std::cell::Cell;
 
-/// Which requests are refused behind those that are granted.
+/// Which requests are refused after the ones that are granted.
 #[derive(Clone, Copy, PartialEq, Eq, Debug)]
 pub enum Refusal {
     /// All of them.
     ForGood,
-    /// The first one alone. So a refused request that is made again is granted, and shows.
+    /// The first one alone. A caller that repeats the refused request is granted it, so the repetition shows.
     Once,
 }
 
-/// Both, for tests that go over them.
+/// Both, for tests that try each.
 pub const REFUSALS: [Refusal; 2] = [Refusal::ForGood, Refusal::Once];
 
-/// What is still granted, and what was asked for.
+/// The requests that are still granted, and the number of requests made and of the bytes in them.
 #[derive(Clone, Copy)]
 struct Ledger {
     grants: u64,
@@ -25,18 +25,18 @@ struct Ledger {
     bytes: usize,
 }
 
-/// An allocator for tests, over another one: it grants as many requests for memory as it was told to, and refuses those after
-/// them, or the first of those.
+/// An allocator for tests that wraps another one: it grants a set number of requests for memory, and refuses the ones
+/// after them, all or the first alone.
 ///
-/// A new block is a request, and so is a block that grows or shrinks. Memory that is given back is none. A request counts where it
-/// is granted, also if the inner allocator then has no memory.
+/// A new block is a request, and so is a block that grows or shrinks. A deallocation is none. A granted request uses up
+/// a grant even if the inner allocator then refuses it.
 pub struct Refusing<B: Allocator> {
     inner: B,
     ledger: Cell<Ledger>,
 }
 
 impl<B: Allocator> Refusing<B> {
-    /// Over `inner`, with `grants` requests to grant.
+    /// Wraps `inner`. The first `grants` requests are granted, and all after them refused.
     pub fn new(inner: B, grants: u64) -> Refusing<B> {
         Refusing {
             inner,
@@ -44,28 +44,28 @@ impl<B: Allocator> Refusing<B> {
         }
     }
 
-    /// From now on the next `grants` requests are granted, and those after them refused.
+    /// From now on the next `grants` requests are granted, and all after them refused. The counts restart at 0.
     pub fn grant(&self, grants: u64) {
         self.refuse_after(grants, Refusal::ForGood);
     }
 
-    /// From now on the next `grants` requests are granted, and of those after them all or the first one refused. What was asked
-    /// for is counted anew.
+    /// From now on the next `grants` requests are granted, and the ones after them refused, all or the first alone. The
+    /// counts restart at 0.
     pub fn refuse_after(&self, grants: u64, refusal: Refusal) {
         self.ledger.set(opened(grants, refusal));
     }
 
-    /// How many requests are still granted before one is refused.
+    /// The number of requests that are still granted before one is refused.
     pub fn grants_left(&self) -> u64 {
         self.ledger.get().grants
     }
 
-    /// How many requests were made, the refused ones too, since it was last told what to grant.
+    /// The number of requests, refused ones included, since the grants were last set.
     pub fn requests(&self) -> u64 {
         self.ledger.get().requests
     }
 
-    /// How many bytes these requests asked for together.
+    /// The number of bytes in all requests, refused ones included, since the grants were last set.
     pub fn bytes(&self) -> usize {
         self.ledger.get().bytes
     }
@@ -80,7 +80,7 @@ impl<B: Allocator> Drop for Refusing<B> {
     }
 }
 
-/// A ledger with so many requests to grant, and none made.
+/// A ledger with `grants` requests to grant, and none made.
 fn opened(grants: u64, refusal: Refusal) -> Ledger {
     Ledger {
         grants,
@@ -90,7 +90,7 @@ fn opened(grants: u64, refusal: Refusal) -> Ledger {
     }
 }
 
-/// Enters a request of so many bytes, and answers whether it is granted, which uses a grant up.
+/// Counts a request of `size` bytes. Returns whether it is granted, which uses up one of the grants.
 fn use_grant(ledger: &Cell<Ledger>, size: usize) -> bool {
     let mut page = ledger.get();
     page.requests = page.requests.wrapping_add(1);

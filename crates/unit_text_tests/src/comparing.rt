@@ -1,4 +1,4 @@
-// Order, equality and hash.
+// Order, equality and hashes of texts.
 use crate::shared::text_of_units;
 use std::alloc::{AllocError, Global};
 use std::cmp::Ordering;
@@ -7,7 +7,7 @@ use std::test::Fail;
 use unit_text::UnitText;
 use wtf8_tests::examples::joining;
 
-/// Two texts, how their units compare, and how their views do.
+/// The units of two texts, their order by code units, and the order of their views, which is by code points.
 fn compared() -> [(&'static [u16], &'static [u16], Ordering, Ordering); 8] {
     [
         (
@@ -46,7 +46,7 @@ fn compared() -> [(&'static [u16], &'static [u16], Ordering, Ordering); 8] {
     ]
 }
 
-/// Whether two texts and their views are ordered so, and are equal only where their units are.
+/// Whether `cmp_units` gives `order`, `cmp` of the views `view_order`, and `==` whether `order` is `Equal`.
 fn are_ordered(
     alloc: Global,
     left: &[u16],
@@ -91,7 +91,7 @@ fn texts_are_equal_where_their_units_are(rt: HostRuntime) -> Result<(), Fail> {
     Ok(())
 }
 
-/// The places of texts in the table.
+/// A map from the texts of `joining` to their indexes.
 fn places(alloc: Global) -> Result<HashMap<UnitText<Global>, usize>, AllocError> {
     let mut places = HashMap::new(alloc);
     for (place, (units, _, _)) in joining().iter().enumerate() {
@@ -100,7 +100,7 @@ fn places(alloc: Global) -> Result<HashMap<UnitText<Global>, usize>, AllocError>
     Ok(places)
 }
 
-/// The place of the text of these units.
+/// The index that the map has for the text of these units.
 fn place_of(
     alloc: Global,
     places: &HashMap<UnitText<Global>, usize>,

@@ -1,4 +1,4 @@
-// Texts that are cut at every place.
+// Texts cut at every unit index.
 use crate::shared::{expect_text, expect_units, slice_of};
 use std::alloc::Global;
 use std::test::Fail;
@@ -6,7 +6,7 @@ use unit_text::UnitText;
 use wtf8_tests::examples::joining;
 use wtf8_uses::cuts::{cut_and_joined, is_whole_again};
 
-/// Fails unless the units of a text between two places are these.
+/// Fails unless the slice from unit `begin` to before unit `end` has `units`.
 fn expect_slice(
     alloc: Global,
     text: &UnitText<Global>,
@@ -18,7 +18,7 @@ fn expect_slice(
     expect_units(&slice, units)
 }
 
-/// Fails unless the two parts of a text have its units before a place and from it on.
+/// Fails unless the two parts of a text at unit index `place` have its units before that index and from there on.
 fn expect_parts(
     alloc: Global,
     text: &UnitText<Global>,
@@ -33,7 +33,7 @@ fn expect_parts(
     expect_slice(alloc, text, place, text.unit_len(), behind)
 }
 
-/// Appends the units of a text from a place on to another one.
+/// Appends the units of `text` from unit index `place` on to `front`.
 fn append_rest(
     alloc: Global,
     front: &mut UnitText<Global>,
@@ -45,7 +45,7 @@ fn append_rest(
     Ok(())
 }
 
-/// The two parts of a text, put together again.
+/// The two parts of a text at unit index `place`, joined again.
 fn parts_joined(
     alloc: Global,
     text: &UnitText<Global>,
@@ -56,7 +56,7 @@ fn parts_joined(
     Ok(front)
 }
 
-/// Fails unless a text that was put together is another one, and has its units and bytes.
+/// Fails unless `whole` equals `text`, and has `units` and the bytes of `dump`.
 fn expect_same(
     alloc: Global,
     whole: &UnitText<Global>,
@@ -70,7 +70,7 @@ fn expect_same(
     expect_text(alloc, whole, units, dump)
 }
 
-/// Fails unless the two parts of a text have its units before a place and from it on, and make the whole together.
+/// Fails unless the two parts of the text of `units` at unit index `place` have their units, and join to the whole.
 fn expect_cut(alloc: Global, units: &[u16], dump: &str, place: usize) -> Result<(), Fail> {
     let text = UnitText::from_units(alloc, units)?;
     expect_parts(alloc, &text, units, place)?;
@@ -94,7 +94,7 @@ fn a_text_cut_anywhere_is_found_whole_again(rt: HostRuntime) -> Result<(), Fail>
     expect_cut(rt.alloc(), &[0x0061, 0xD83D, 0xDCA9], "61 F0 9F 92 A9", 2)
 }
 
-/// Fails unless the callers that cut a text at a place and join it again find the whole.
+/// Fails unless `is_whole_again` is true at unit index `place`, and `cut_and_joined` returns the whole text.
 fn expect_whole(
     alloc: Global,
     text: &UnitText<Global>,
@@ -112,7 +112,7 @@ fn expect_whole(
     expect_text(alloc, &whole, units, dump)
 }
 
-/// Fails unless they find the whole of the text of these units, cut anywhere.
+/// Fails unless the text of `units`, cut at each unit index and joined by both callers, is whole again.
 fn expect_whole_anywhere(alloc: Global, units: &[u16], dump: &str) -> Result<(), Fail> {
     let text = UnitText::from_units(alloc, units)?;
     for place in 0..=units.len() {
@@ -129,7 +129,7 @@ fn callers_find_the_whole_again(rt: HostRuntime) -> Result<(), Fail> {
     Ok(())
 }
 
-/// Fails unless the units of a text between two places are those of the list.
+/// Fails unless the slice of the text of `units` from `begin` to before `end` has `units[begin..end]`.
 fn expect_middle(alloc: Global, units: &[u16], begin: usize, end: usize) -> Result<(), Fail> {
     if begin > end || end > units.len() {
         return Err(Fail::new("no such places"));

@@ -1,4 +1,4 @@
-// Texts of each length: each call is done where its requests are granted, and asks for no more bytes than it needs.
+// Texts of each length: each call succeeds if its requests are granted, and requests no more bytes than it needs.
 use refusing::Refusing;
 use std::alloc::{AllocError, Global};
 use std::test::Fail;
@@ -6,7 +6,7 @@ use unit_text::UnitText;
 
 type Lent<'a> = &'a Refusing<Global>;
 
-/// Eight units, which come again and again in a text: of one kind alone, or mixed.
+/// Eight units that repeat in a text: of one kind alone, or mixed.
 const KINDS: [[u16; 8]; 5] = [
     [0x0061; 8],
     [0x3042; 8],
@@ -19,17 +19,17 @@ const KINDS: [[u16; 8]; 5] = [
     ],
 ];
 
-/// Lengths beyond those that are tried one by one.
+/// Lengths in units above the range in which each length is tried.
 const LONG: [usize; 4] = [1000, 5000, 20_000, 70_000];
 
-/// A unit and lengths at which strings of it have about 4,096 bytes and about 65,536.
+/// A unit, and lengths in units at which a text of it has about 4,096 or 65,536 bytes.
 const ABOUT_POWERS: [(u16, &[usize]); 3] = [
     (0x0061, &[4095, 4096, 4097, 65_535, 65_536, 65_537]),
     (0x00E9, &[2047, 2048, 2049, 32_767, 32_768, 32_769]),
     (0x3042, &[1365, 1366, 21_845, 21_846]),
 ];
 
-/// The text of so many units of a kind.
+/// The text of `length` units that repeat `kind`.
 fn text_of<'a>(
     alloc: Global,
     heap: Lent<'a>,
@@ -44,8 +44,8 @@ fn text_of<'a>(
     UnitText::from_units(heap, &units)
 }
 
-/// What a text asks for, worked out by itself: how many bytes it has and has room for, how many requests were made and for
-/// how many bytes. A growth is to eight bytes at least, to twice the room or to what is wanted, whichever is more.
+/// A model of the memory of a growing text: its length and capacity in bytes, and the number of requests and of the
+/// bytes in them. It grows to the greatest of eight bytes, twice its capacity and what is needed.
 #[derive(Clone, Copy)]
 struct Room {
     len: usize,
@@ -55,7 +55,7 @@ struct Room {
 }
 
 impl Room {
-    /// Appends so many bytes at once.
+    /// Appends `count` bytes at once.
     fn append(&mut self, count: usize) {
         self.len = self.len.wrapping_add(count);
         if self.len <= self.capacity {
@@ -67,7 +67,7 @@ impl Room {
     }
 }
 
-/// How many bytes the half of a pair has that a place divides, or none.
+/// The number of bytes of a lone surrogate, 3, if unit index `place` splits a surrogate pair, else 0.
 fn half_at(kind: &[u16; 8], length: usize, place: usize) -> usize {
     if place == 0 || length <= place {
         return 0;
@@ -78,7 +78,7 @@ fn half_at(kind: &[u16; 8], length: usize, place: usize) -> usize {
     if is_divided { 3 } else { 0 }
 }
 
-/// What the units between two places ask for: room for the half of a pair, for what is whole and for another half.
+/// The memory that a slice of `len` bytes requests: for a split-off trail, for whole code points, and for a lead.
 fn room_between(kind: &[u16; 8], length: usize, begin: usize, end: usize, len: usize) -> Room {
     let mut room = Room {
         len: 0,
@@ -97,7 +97,7 @@ fn room_between(kind: &[u16; 8], length: usize, begin: usize, end: usize, len: u
     room
 }
 
-/// Fails unless the units between two places are found by the requests that they need, for the bytes that they need.
+/// Fails unless the slice from unit `begin` to before unit `end` makes the requests that `room_between` expects.
 fn expect_slice<'a>(
     heap: Lent<'a>,
     text: &UnitText<Lent<'a>>,
@@ -119,7 +119,7 @@ fn expect_slice<'a>(
     Ok(())
 }
 
-/// Fails unless a text is appended to a copy of it by one request at most, for the bytes of both.
+/// Fails unless a text is appended to a copy of it with at most one request, for at most the bytes of both, or 16.
 fn expect_twice<'a>(heap: Lent<'a>, text: &UnitText<Lent<'a>>) -> Result<(), Fail> {
     let mut front = text.slice_units(heap, 0, text.unit_len())?;
     let len = front.as_wtf8().len();
@@ -131,7 +131,7 @@ fn expect_twice<'a>(heap: Lent<'a>, text: &UnitText<Lent<'a>>) -> Result<(), Fai
     Ok(())
 }
 
-/// Fails unless each call is done on a text of so many units of a kind.
+/// Fails unless slices of `length` units that repeat `kind`, and appending these to a copy, request what they need.
 fn expect_done(alloc: Global, kind: &[u16; 8], length: usize) -> Result<(), Fail> {
     let heap = Refusing::new(alloc, 0);
     let text = text_of(alloc, &heap, kind, length)?;

@@ -1,4 +1,4 @@
-// Tests of the public calls of `unit_text` and of the uses of both libraries.
+// Tests of the public calls of `unit_text`, and of the functions of `wtf8_uses`.
 #![tactic(auto)]
 
 #[cfg(test)]

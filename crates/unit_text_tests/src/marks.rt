@@ -1,4 +1,4 @@
-// Texts that keep marks: the units and slices about each, texts grown by pieces that join, and memory for marks refused.
+// Texts with marks: units and slices near the marks, texts grown by pieces that join, and memory for marks refused.
 use crate::shared::expect_units;
 use refusing::{REFUSALS, Refusal, Refusing};
 use std::alloc::{AllocError, Global};
@@ -7,8 +7,8 @@ use unit_text::UnitText;
 
 type Lent<'a> = &'a Refusing<Global>;
 
-/// Six units, which come again and again in a text. In one of the third kind that begins with its second unit every place of
-/// an even number divides a pair.
+/// Six units that repeat in a text. If a text of the third kind begins with the second unit, every even index but 0
+/// splits a surrogate pair.
 const KINDS: [[u16; 6]; 5] = [
     [0x0061; 6],
     [0x3042; 6],
@@ -17,18 +17,18 @@ const KINDS: [[u16; 6]; 5] = [
     [0x0061, 0x3042, 0xDCA9, 0xD83D, 0xDCA9, 0xD83D],
 ];
 
-/// Lengths at which marks come: one stands at each 128th unit that is not the last.
+/// Lengths in units near new marks. A text that is not all ASCII has one for each multiple of 128 below its length.
 const LENGTHS: [usize; 10] = [0, 1, 127, 128, 129, 256, 257, 258, 385, 600];
 
-/// Places on both sides of marks.
+/// Unit indexes on both sides of marks.
 const PLACES: [usize; 14] = [
     0, 1, 126, 127, 128, 129, 130, 255, 256, 257, 384, 385, 599, 600,
 ];
 
-/// How many units a text grows by at a time.
+/// The numbers of units that a text grows by at a time.
 const PIECES: [usize; 6] = [1, 2, 5, 127, 128, 300];
 
-/// So many units of a kind, from its unit of a number on.
+/// `length` units that repeat `kind`, of which the first is its unit `first`.
 fn units_of(
     alloc: Global,
     kind: &[u16; 6],
@@ -42,7 +42,7 @@ fn units_of(
     Ok(units)
 }
 
-/// Fails unless the units of a text between two places, if there are such places, are those of the list.
+/// Fails unless the slice from unit `begin` to before unit `end` is that part of `units`, if there is such a range.
 fn expect_between<'a>(
     heap: Lent<'a>,
     text: &UnitText<Lent<'a>>,
@@ -57,7 +57,7 @@ fn expect_between<'a>(
     Ok(())
 }
 
-/// Fails unless the text has these units, and so has what is between two places.
+/// Fails unless the text has `units`, and each slice between two of `PLACES` has its part of them.
 fn expect_found<'a>(heap: Lent<'a>, text: &UnitText<Lent<'a>>, units: &[u16]) -> Result<(), Fail> {
     expect_units(text, units)?;
     heap.grant(u64::MAX);
@@ -69,7 +69,7 @@ fn expect_found<'a>(heap: Lent<'a>, text: &UnitText<Lent<'a>>, units: &[u16]) ->
     Ok(())
 }
 
-/// Fails unless the text of these units is found with marks as it is without them.
+/// Fails unless the units and slices of the text of `units` are right, without marks and with them.
 fn expect_marks(heap: Lent<'_>, units: &[u16]) -> Result<(), Fail> {
     let mut text = UnitText::from_units(heap, units)?;
     expect_found(heap, &text, units)?;
@@ -77,14 +77,14 @@ fn expect_marks(heap: Lent<'_>, units: &[u16]) -> Result<(), Fail> {
     expect_found(heap, &text, units)
 }
 
-/// The same for a text of so many units of a kind.
+/// Fails unless units and slices of a text of `length` units are right, without marks and with them.
 fn expect_marked(alloc: Global, kind: &[u16; 6], first: usize, length: usize) -> Result<(), Fail> {
     let heap = Refusing::new(alloc, u64::MAX);
     let units = units_of(alloc, kind, first, length)?;
     expect_marks(&heap, &units)
 }
 
-/// Appends so many units of a kind, from its unit of a number on.
+/// Appends `length` units that repeat `kind`, of which the first is its unit `first`.
 fn append<'a>(
     alloc: Global,
     heap: Lent<'a>,
@@ -98,7 +98,7 @@ fn append<'a>(
     text.concat(&piece)
 }
 
-/// Fails unless a text is found as so many units of a kind.
+/// Fails unless the text has `length` units that repeat `kind`, and slices of it have their part of them.
 fn expect_kind<'a>(
     alloc: Global,
     heap: Lent<'a>,
@@ -110,7 +110,7 @@ fn expect_kind<'a>(
     expect_found(heap, text, &units)
 }
 
-/// Fails unless a text that grows by so many units at a time, with marks from the start, has all of them.
+/// Fails unless a text that has marks from the start, and grows by `piece` units at a time, has all of them.
 fn expect_grown(alloc: Global, kind: &[u16; 6], piece: usize) -> Result<(), Fail> {
     let heap = Refusing::new(alloc, u64::MAX);
     let mut text = UnitText::from_units(&heap, &[])?;
@@ -139,7 +139,7 @@ fn units_are_found_by_marks(rt: HostRuntime) -> Result<(), Fail> {
     Ok(())
 }
 
-/// A kind, a number of its units, and how many requests their marks make: one for all of them, none where there are none.
+/// Six units to repeat, the number of units of a text, and of requests for its marks: one if there are any marks.
 const REQUESTS: [([u16; 6], usize, u64); 5] = [
     ([0x0061; 6], 600, 0),
     ([0x3042; 6], 0, 0),
@@ -148,7 +148,7 @@ const REQUESTS: [([u16; 6], usize, u64); 5] = [
     ([0x3042; 6], 600, 1),
 ];
 
-/// How many requests the marks of a text of so many units make.
+/// The number of requests that `mark_units` makes for a text of `length` units that repeat `kind`.
 fn requests_of_marks(
     alloc: Global,
     heap: Lent<'_>,
@@ -173,7 +173,7 @@ fn marks_ask_for_what_they_need(rt: HostRuntime) -> Result<(), Fail> {
     Ok(())
 }
 
-/// Appends a text ten times, where it may be refused, and answers how often it was appended.
+/// Appends a text ten times and returns how many of these calls were not refused.
 fn times_appended<'a>(text: &mut UnitText<Lent<'a>>, piece: &UnitText<Lent<'a>>) -> usize {
     let mut times = 0usize;
     for _ in 0..10 {
@@ -184,8 +184,8 @@ fn times_appended<'a>(text: &mut UnitText<Lent<'a>>, piece: &UnitText<Lent<'a>>)
     times
 }
 
-/// Grows a text with marks by sixty units of a kind at a time, where some requests are granted and those behind them refused
-/// for good or the next one alone, and answers how many units it has then.
+/// Grows a text with marks by pieces of 60 units, with `granted` requests granted, and the following ones, or the next
+/// one alone, refused. Returns the number of units appended.
 fn grow<'a>(
     heap: Lent<'a>,
     text: &mut UnitText<Lent<'a>>,
@@ -201,8 +201,8 @@ fn grow<'a>(
     Ok(times.wrapping_mul(60))
 }
 
-/// Fails unless a text with marks, which grows where some requests are granted and those behind them refused for good or the
-/// next one alone, has what was appended to it.
+/// Fails unless a text with marks that grows by pieces of 60 units has all that were appended, with `granted` requests
+/// granted, and the following ones, or the next one alone, refused.
 fn expect_left(alloc: Global, kind: &[u16; 6], granted: u64, refusal: Refusal) -> Result<(), Fail> {
     let heap = Refusing::new(alloc, u64::MAX);
     let mut text = UnitText::from_units(&heap, &[])?;

@@ -1,4 +1,4 @@
-// Refused memory, and how much is asked for.
+// Refused requests for memory, and the number of bytes in requests.
 use crate::shared::slice_of;
 use refusing::{REFUSALS, Refusal, Refusing};
 use std::alloc::{AllocError, Global};
@@ -13,7 +13,7 @@ type Lent<'a> = &'a Refusing<Global>;
 /// Units of three bytes each, so that a text of them grows more than once.
 const WIDE: [u16; 6] = [0xE000; 6];
 
-/// Fails unless no request was made, and a text has these bytes.
+/// Fails unless no request was made, and the text has the bytes of `dump`.
 fn expect_unasked<'a>(
     alloc: Global,
     heap: Lent<'a>,
@@ -26,7 +26,7 @@ fn expect_unasked<'a>(
     expect_dump(alloc, text.as_wtf8(), dump)
 }
 
-/// Fails unless a text of no units and a slice of it are made by no request.
+/// Fails unless a text of no units, and a slice of it, make no request.
 fn expect_empty(alloc: Global, heap: Lent<'_>) -> Result<(), Fail> {
     let empty = UnitText::from_units(heap, &[])?;
     expect_unasked(alloc, heap, &empty, "")?;
@@ -39,7 +39,7 @@ fn no_units_ask_for_no_memory(rt: HostRuntime) -> Result<(), Fail> {
     expect_empty(rt.alloc(), &heap)
 }
 
-/// A lead, to which the empty text is appended where no request is granted.
+/// A lead surrogate, to which the empty text is appended with no request granted.
 fn lead_and_nothing(heap: Lent<'_>) -> Result<UnitText<Lent<'_>>, AllocError> {
     let mut lead = UnitText::from_units(heap, &[0xD83D])?;
     heap.grant(0);
@@ -53,7 +53,7 @@ fn the_empty_text_asks_for_no_memory(rt: HostRuntime) -> Result<(), Fail> {
     expect_unasked(rt.alloc(), &heap, &lead_and_nothing(&heap)?, "ED A0 BD")
 }
 
-/// Fails unless an empty slice inside a pair is made by no request, and the pair stays.
+/// Fails unless an empty slice inside a surrogate pair makes no request, and the text keeps the pair.
 fn expect_sliced_pair(alloc: Global, heap: Lent<'_>) -> Result<(), Fail> {
     let text = UnitText::from_units(heap, &[0xD83D, 0xDCA9])?;
     heap.grant(0);
@@ -67,11 +67,11 @@ fn an_empty_slice_asks_for_no_memory(rt: HostRuntime) -> Result<(), Fail> {
     expect_sliced_pair(rt.alloc(), &heap)
 }
 
-/// The units between two places of a text of these units, how many requests it makes to find them, and for how many bytes
-/// altogether. A growth is to eight bytes at least, to twice the room or to what is wanted, whichever is more.
+/// The units of a text, the begin and end of a slice in units, and the number of its requests and of the bytes in them.
+/// A growth is to the greatest of eight bytes, twice the capacity and what is needed.
 type Slice = (&'static [u16], usize, usize, u64, usize);
 
-/// A slice of a text whose growths are seen, and slices that cut pairs.
+/// Slices of units of three bytes, and slices that split surrogate pairs.
 fn slices() -> [Slice; 7] {
     [
         (&WIDE, 0, 6, 1, 18),
@@ -92,8 +92,8 @@ fn slices() -> [Slice; 7] {
     ]
 }
 
-/// Whether the units between two places were found, where some requests are granted and those behind them refused for good
-/// or the next one alone.
+/// Whether `slice_units` succeeds with `granted.0` requests granted, and the following ones, or the next one alone,
+/// refused.
 fn is_sliced(
     heap: Lent<'_>,
     units: &[u16],
@@ -112,7 +112,7 @@ fn is_sliced(
     Ok(is_sliced)
 }
 
-/// Fails unless a slice that is granted all its requests is found by those of the row, for the bytes of the row.
+/// Fails unless the slice succeeds if all its requests are granted, with the requests and bytes of the row.
 fn expect_sliced(heap: Lent<'_>, row: Slice) -> Result<(), Fail> {
     let (units, begin, end, requests, bytes) = row;
     let is_sliced = is_sliced(heap, units, begin, end, (9, Refusal::Once))?;
@@ -122,7 +122,7 @@ fn expect_sliced(heap: Lent<'_>, row: Slice) -> Result<(), Fail> {
     Ok(())
 }
 
-/// Fails unless each request of a slice that is refused is its last one.
+/// Refuses each request of the slice in turn. Fails unless the slice fails and makes no more requests.
 fn expect_unsliced(heap: Lent<'_>, row: Slice, refusal: Refusal) -> Result<(), Fail> {
     let (units, begin, end, requests, _) = row;
     for granted in 0..requests {
@@ -166,8 +166,8 @@ fn hundred_trails() -> [u16; 100] {
     [0xDCA9; 100]
 }
 
-/// Appends a hundred trails to a text, where so many requests are granted, and answers whether they were enough. Fails unless
-/// one request asks for the bytes that are needed.
+/// Appends 100 trail surrogates with `granted` requests granted, and returns whether these were enough. Fails unless
+/// there is one request, for the 302 bytes that are needed.
 fn is_appended<'a>(
     heap: Lent<'a>,
     text: &mut UnitText<Lent<'a>>,
@@ -183,7 +183,7 @@ fn is_appended<'a>(
     Ok(is_appended)
 }
 
-/// Fails unless a text that was appended to has the units of both, and another one is as before.
+/// Fails unless the text has the 102 units of both texts if `is_grown`, and is unchanged if not.
 fn expect_grown<'a>(
     alloc: Global,
     heap: Lent<'a>,
@@ -202,8 +202,8 @@ fn expect_grown<'a>(
     expect_dump(alloc, front.as_wtf8(), "61 F0 9F 92 A9")
 }
 
-/// Appends a hundred trails to a text that ends with a lead, where so many requests are granted, and answers whether they
-/// were enough. Fails unless a refusal leaves the text as before.
+/// Appends 100 trail surrogates to "a" and a lead with `granted` requests granted, and returns whether these were
+/// enough. Fails unless a refusal leaves the text unchanged.
 fn is_grown(alloc: Global, granted: u64, refusal: Refusal) -> Result<bool, Fail> {
     let heap = Refusing::new(alloc, 9);
     let mut text = UnitText::from_units(&heap, &[0x0061, 0xD83D])?;
@@ -223,7 +223,7 @@ fn a_refused_text_is_not_appended(rt: HostRuntime) -> Result<(), Fail> {
     Ok(())
 }
 
-/// A call of the uses that makes a text.
+/// A function of `wtf8_uses` that makes a text.
 #[derive(Clone, Copy, Debug)]
 enum Use {
     CharAt,
@@ -231,7 +231,7 @@ enum Use {
     CutAndJoined,
 }
 
-/// Makes the call on "a💩b" at a place, and answers whether memory was granted.
+/// Makes the call on "a💩b" at unit index `place`, and returns whether it succeeded.
 fn is_used(heap: Lent<'_>, call: Use, place: usize) -> Result<bool, Fail> {
     let text = UnitText::from_units(heap, &[0x0061, 0xD83D, 0xDCA9, 0x0062])?;
     if heap.requests() != 2 || text.unit_len() < place {
@@ -245,8 +245,8 @@ fn is_used(heap: Lent<'_>, call: Use, place: usize) -> Result<bool, Fail> {
     Ok(is_used)
 }
 
-/// Calls of the uses at a place, how many requests each makes behind the two of the text, and for how many bytes altogether.
-/// Where a half is cut off, it and what is whole fit in eight bytes.
+/// Calls at a unit index, and the number of requests and bytes that each makes after the two requests of the text. If a
+/// pair is split, the lone surrogate and the rest fit in eight bytes.
 const USES: [(Use, usize, u64, usize); 8] = [
     (Use::CharAt, 0, 1, 8),
     (Use::CharAt, 1, 1, 8),
@@ -258,11 +258,11 @@ const USES: [(Use, usize, u64, usize); 8] = [
     (Use::CutAndJoined, 4, 1, 8),
 ];
 
-/// Fails unless a call that is granted all its requests makes those of the row, for the bytes of the row.
+/// Fails unless the call succeeds if all its requests are granted, with the requests and bytes of the row.
 fn expect_used(heap: Lent<'_>, row: (Use, usize, u64, usize)) -> Result<(), Fail> {
     let (call, place, requests, bytes) = row;
     heap.grant(99);
-    // The text has room for four bytes at first, and then for eight.
+    // The text requests four bytes at first, and then eight.
     let made = (requests.wrapping_add(2), bytes.wrapping_add(4 + 8));
     if !is_used(heap, call, place)? || (heap.requests(), heap.bytes()) != made {
         return Err(Fail::new(format_args!("{call:?} at {place}")));
@@ -270,7 +270,7 @@ fn expect_used(heap: Lent<'_>, row: (Use, usize, u64, usize)) -> Result<(), Fail
     Ok(())
 }
 
-/// Fails unless each request of a call that is refused is its last one.
+/// Refuses each request of the call in turn. Fails unless the call fails and makes no more requests.
 fn expect_unused(
     heap: Lent<'_>,
     row: (Use, usize, u64, usize),

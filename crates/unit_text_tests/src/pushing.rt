@@ -10,8 +10,8 @@ type Lent<'a> = &'a Refusing<Global>;
 
 type Text<'a> = UnitText<Lent<'a>>;
 
-/// Units that are pushed one by one, and the bytes of their text: on both sides of where a unit takes one byte more, leads and
-/// trails that join, and those that stay alone.
+/// Units to push one by one, and the bytes of their text: units on both sides of the limits of encoded lengths,
+/// surrogates that join, and lone ones.
 fn pushed_rows() -> [(&'static [u16], &'static str); 7] {
     [
         (
@@ -30,7 +30,7 @@ fn pushed_rows() -> [(&'static [u16], &'static str); 7] {
     ]
 }
 
-/// Fails unless pushes of units build the text of them with these bytes.
+/// Fails unless pushes of `units` build a text with them and with the bytes of `dump`.
 fn expect_pushed(alloc: Global, units: &[u16], dump: &str) -> Result<(), Fail> {
     let text = text_of_units(alloc, units)?;
     expect_text(alloc, &text, units, dump)
@@ -44,9 +44,9 @@ fn a_pushed_trail_joins_a_lead(rt: HostRuntime) -> Result<(), Fail> {
     Ok(())
 }
 
-/// Six units, which come again and again in a text, whether it keeps marks, and how many requests 300 of them make:
-/// for their bytes, whose room is eight and then doubles, and for marks. Where the units begin with a trail, every place of an
-/// even number divides a pair.
+/// Six units that repeat in a text, whether it has marks, and the number of requests that 300 units make: for their
+/// bytes, whose capacity is eight and then doubles, and for marks. If the units begin with a trail, every even index
+/// but 0 splits a surrogate pair.
 const GROWN: [([u16; 6], bool, u64, u64); 6] = [
     ([0x0061; 6], true, 7, 0),
     ([0x3042; 6], false, 8, 0),
@@ -61,13 +61,13 @@ const GROWN: [([u16; 6], bool, u64, u64); 6] = [
     ),
 ];
 
-/// How many units are pushed.
+/// The number of units to push.
 const LENGTH: usize = 300;
 
-/// The numbers of pushes behind which a text is looked at, about those behind which a mark comes.
+/// Indexes of pushes after which a text is checked, near the ones after which a mark is added.
 const LOOKED_AT: [usize; 7] = [0, 126, 127, 128, 129, 255, 256];
 
-/// Fails unless a text is equal to another one, and has its bytes.
+/// Fails unless a text equals another one and has its bytes.
 fn expect_same<'a>(alloc: Global, text: &Text<'a>, other: &Text<'a>) -> Result<(), Fail> {
     if *text != *other {
         return Err(Fail::new("not equal to the text that is made at once"));
@@ -76,7 +76,7 @@ fn expect_same<'a>(alloc: Global, text: &Text<'a>, other: &Text<'a>) -> Result<(
     expect_dump(alloc, text.as_wtf8(), dump.as_str())
 }
 
-/// Fails unless a text has these units, one by one, and is as the text that is made of them at once.
+/// Fails unless a text has `units` by index, and equals the text made of them at once.
 fn expect_made<'a>(
     alloc: Global,
     heap: Lent<'a>,
@@ -89,7 +89,7 @@ fn expect_made<'a>(
     expect_same(alloc, text, &made)
 }
 
-/// Pushes units of a kind to a text, and answers those that were not refused. Fails unless the text has them.
+/// Pushes units that repeat `kind`, and returns the ones not refused. Fails unless the text has them at each check.
 fn pushed(alloc: Global, text: &mut Text<'_>, kind: &[u16; 6]) -> Result<Vec<u16>, Fail> {
     let mut units = Vec::new(alloc);
     for at in 0..LENGTH {
@@ -104,8 +104,8 @@ fn pushed(alloc: Global, text: &mut Text<'_>, kind: &[u16; 6]) -> Result<Vec<u16
     Ok(units)
 }
 
-/// Pushes units of a kind to an empty text, where so many requests are granted and those behind them refused for good or the
-/// first one alone, and answers how many pushes were refused. Fails unless the text has the units of all others.
+/// Pushes units that repeat `kind` to an empty text, with `granted` requests granted, and the following ones, or the
+/// next one alone, refused. Returns the number of refused pushes. Fails unless the text has all other units.
 fn expect_grown(
     alloc: Global,
     kind: &[u16; 6],
@@ -133,7 +133,7 @@ fn pushed_units_are_found(rt: HostRuntime) -> Result<(), Fail> {
             let left_out = expect_grown(rt.alloc(), &kind, is_marked, granted, Refusal::Once)?;
             refused = refused.wrapping_add(left_out);
         }
-        // A push is refused for each growth, none for a mark, and none where all requests are granted.
+        // A refused growth refuses one push, and a refused mark none. None is refused if all requests are granted.
         assert_eq!(rt; refused, growths);
     }
     Ok(())

@@ -1,4 +1,4 @@
-// Readers that give their bytes in pieces, are interrupted, or fail. Expected values are of Python's codecs, or plain text.
+// Readers that return bytes in pieces, are interrupted, or fail. Expected values are of Python's codecs, or plain text.
 use refusing::{REFUSALS, Refusal, Refusing};
 use std::alloc::{AllocError, Allocator, Global};
 use std::io;
@@ -7,7 +7,7 @@ use std::test::Fail;
 use wtf8::Wtf8Buf;
 use wtf8_uses::reading::{ReadError, read_utf16};
 
-/// Gives at most `most` bytes a read, and fails once before the last `failing` of them; then it would go on.
+/// Returns at most `most` bytes a read. Fails once, when at most `failing` bytes are left; later reads succeed.
 #[derive(Drop)]
 struct Pieces<'a> {
     rest: &'a [u8],
@@ -34,7 +34,7 @@ impl Read for Pieces<'_> {
     }
 }
 
-/// What was answered: the dump of the string, or why there is none.
+/// The hex dump of the string, or the name of the error.
 fn told<A: Allocator>(
     alloc: Global,
     answer: Result<Wtf8Buf<A>, ReadError>,
@@ -47,7 +47,7 @@ fn told<A: Allocator>(
     }
 }
 
-/// Bytes and what is read of them.
+/// Input bytes, and the hex dump of the string that is read, or the name of the error.
 fn rows() -> [(&'static [u8], &'static str); 6] {
     [
         (b"", ""),
@@ -59,7 +59,7 @@ fn rows() -> [(&'static [u8], &'static str); 6] {
     ]
 }
 
-/// Fails unless this is read, in pieces of so many bytes and by so many calls.
+/// Fails unless reading pieces of at most `most` bytes, with one interruption, gives `want` in `calls` calls.
 fn expect_read(
     alloc: Global,
     bytes: &[u8],
@@ -85,7 +85,7 @@ fn expect_read(
 fn pieces_of_any_size_are_one_input(rt: HostRuntime) -> Result<(), Fail> {
     for (bytes, want) in rows() {
         for most in 1..8 {
-            // Each piece, the interruption and the end.
+            // One call for each piece, one for the interruption and one for the end.
             let calls = bytes.len().div_ceil(most).wrapping_add(2);
             expect_read(rt.alloc(), bytes, most, calls, want)?;
         }
@@ -93,7 +93,7 @@ fn pieces_of_any_size_are_one_input(rt: HostRuntime) -> Result<(), Fail> {
     Ok(())
 }
 
-/// So many letters, a pair and "b", and that text.
+/// The UTF-16 bytes, low byte first, of `letters` times "a", a surrogate pair and "b", and that text.
 fn letters_and_pair(alloc: Global, letters: u32) -> Result<(Vec<u8>, String), AllocError> {
     let mut bytes = Vec::new(alloc);
     let mut text = String::new(alloc);
@@ -106,7 +106,7 @@ fn letters_and_pair(alloc: Global, letters: u32) -> Result<(Vec<u8>, String), Al
     Ok((bytes, text))
 }
 
-/// Whether this text is read, in pieces of so many bytes.
+/// Whether reading pieces of at most `most` bytes gives `text`.
 fn is_text_read(alloc: Global, bytes: &[u8], most: usize, text: &str) -> bool {
     let mut reader = Pieces {
         rest: bytes,
@@ -133,7 +133,7 @@ fn a_pair_is_cut_by_the_largest_piece_and_by_single_bytes(rt: HostRuntime) -> Re
     Ok(())
 }
 
-/// Whether a reader's error is handed on, with this number of the system.
+/// Whether the reader's error is returned, with its kind and this error number of the system.
 fn is_handed_on(
     alloc: Global,
     reader: &mut Pieces<'_>,
@@ -148,7 +148,7 @@ fn is_handed_on(
     }
 }
 
-/// Fails unless an error is handed on where so many bytes are not read yet, after so many calls, and these are left.
+/// Fails unless the error is returned after `calls` calls, with `failing` bytes unread, which then give `left`.
 fn expect_handed_on(
     alloc: Global,
     error: io::Error,
@@ -164,7 +164,7 @@ fn expect_handed_on(
         calls: 0,
     };
     let is_handed_on = is_handed_on(alloc, &mut reader, error, number);
-    // What was not read is still there, and nothing was read after the error.
+    // The reader was not called after the error, and the bytes that were not read are still there.
     if !is_handed_on || reader.calls != calls {
         return Err(Fail::new("the reader's error"));
     }
@@ -175,7 +175,7 @@ fn expect_handed_on(
     Ok(())
 }
 
-/// How many bytes are not read where the reader fails, how often it is called, and what is left.
+/// The number of bytes not read when the reader fails, the number of its calls, and the result of reading the rest.
 const FAILING: [(usize, u32, &str); 4] = [
     (6, 1, "61 62 63"),
     (5, 2, "half unit"),
@@ -205,8 +205,8 @@ fn an_error_is_handed_on(rt: HostRuntime) -> Result<(), Fail> {
     Ok(())
 }
 
-/// Reads bytes where so many requests are granted, and those behind them refused for good or the next one alone. It answers
-/// what is told, how many requests were made and for how many bytes, and how often the reader was called.
+/// Reads `bytes` with `granted` requests for memory granted, and the following ones, or the next one alone, refused.
+/// Returns the hex dump or the error's name, the number of requests, their bytes, and the number of reads.
 fn read_granted(
     alloc: Global,
     bytes: &[u8],
@@ -228,9 +228,9 @@ fn read_granted(
 
 type Granted = (&'static [u8], &'static str, u64, usize);
 
-/// Bytes, what is read of them, the requests that this makes and their bytes.
-/// A piece of four bytes wants room for three units and then for the bytes of its string, and the whole grows to eight bytes
-/// or to twice as many.
+/// Input bytes, the result of reading them, and the number of requests for memory and of the bytes in them. A piece of
+/// four bytes needs memory for three units, then for its string. The whole string grows to eight bytes or to twice its
+/// capacity.
 fn granted_rows() -> [Granted; 4] {
     [
         (b"", "", 0, 0),
@@ -245,10 +245,10 @@ fn granted_rows() -> [Granted; 4] {
     ]
 }
 
-/// Fails unless the request behind so many that are granted is the last one, and its refusal is want of memory.
+/// Fails unless the refused request is the last one made, no more is read, and the result is `ReadError::Memory`.
 fn expect_refused(alloc: Global, given: &[u8], granted: u64, refusal: Refusal) -> Result<(), Fail> {
     let (found, made, _, calls) = read_granted(alloc, given, granted, refusal)?;
-    // The first piece makes three requests, a pair four, and nothing is read after the refused one.
+    // The first piece makes three requests, or four if it is a pair, and nothing is read after the refused one.
     let is_first = granted < 3 || given.len() == 4;
     let wanted = if is_first { 1 } else { 2 };
     let is_last = made == granted.wrapping_add(1) && calls == wanted;
@@ -258,7 +258,7 @@ fn expect_refused(alloc: Global, given: &[u8], granted: u64, refusal: Refusal) -
     Ok(())
 }
 
-/// Fails unless a row is read where all is granted, by its requests.
+/// Fails unless the bytes of a row are read if all is granted, with the row's requests and no more reads than needed.
 fn expect_granted(alloc: Global, row: Granted, refusal: Refusal) -> Result<(), Fail> {
     let (given, want, requests, bytes) = row;
     let (found, made, asked, calls) = read_granted(alloc, given, 99, refusal)?;
@@ -284,7 +284,7 @@ fn each_refusal_is_want_of_memory(rt: HostRuntime) -> Result<(), Fail> {
     Ok(())
 }
 
-/// Whether this text is read of bytes.
+/// Whether reading `bytes` gives `text`.
 fn is_read(alloc: Global, mut bytes: &[u8], text: &str) -> bool {
     match read_utf16(alloc, &mut bytes) {
         Ok(string) => string.as_wtf8().as_str() == Some(text),

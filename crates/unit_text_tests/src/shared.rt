@@ -1,10 +1,10 @@
-// Comparisons that the tests of several subjects use.
+// Texts and checks that several test modules use.
 use std::alloc::{Allocator, Global};
 use std::test::Fail;
 use unit_text::UnitText;
 use wtf8_tests::examples::expect_dump;
 
-/// The text of these units, one pushed after the other.
+/// The text that pushing `units` one by one builds.
 pub fn text_of_units(alloc: Global, units: &[u16]) -> Result<UnitText<Global>, Fail> {
     let mut text = UnitText::from_units(alloc, &[])?;
     for unit in units {
@@ -13,7 +13,7 @@ pub fn text_of_units(alloc: Global, units: &[u16]) -> Result<UnitText<Global>, F
     Ok(text)
 }
 
-/// The units of a text between two places. Fails where there are no such places.
+/// The slice from unit `begin` to before unit `end`. Fails if this is no range of the text's units.
 pub fn slice_of<A: Allocator + Drop>(
     alloc: A,
     text: &UnitText<A>,
@@ -27,7 +27,7 @@ pub fn slice_of<A: Allocator + Drop>(
     Ok(slice)
 }
 
-/// Whether the text has these units, one by one, and none behind them.
+/// Whether the text has `units` by index, and no more.
 fn has_units<A: Allocator>(text: &UnitText<A>, units: &[u16]) -> bool {
     for i in 0..units.len().saturating_add(1) {
         if text.unit_at(i) != units.get(i).copied() {
@@ -37,7 +37,7 @@ fn has_units<A: Allocator>(text: &UnitText<A>, units: &[u16]) -> bool {
     text.unit_len() == units.len() && text.unit_at(usize::MAX).is_none()
 }
 
-/// Fails unless the text has these units, one by one.
+/// Fails unless the text has `units` by index, and no more.
 pub fn expect_units<A: Allocator>(text: &UnitText<A>, units: &[u16]) -> Result<(), Fail> {
     if !has_units(text, units) {
         return Err(Fail::new(format_args!("not the units {units:?}")));
@@ -45,7 +45,7 @@ pub fn expect_units<A: Allocator>(text: &UnitText<A>, units: &[u16]) -> Result<(
     Ok(())
 }
 
-/// Fails unless the text has these units, one by one, and these bytes.
+/// Fails unless the text has `units` by index, and the bytes of `dump`.
 pub fn expect_text<A: Allocator>(
     alloc: Global,
     text: &UnitText<A>,

@@ -1,11 +1,11 @@
-// Debug texts through a sink that refuses a write.
+// `Debug` output of texts through a sink that refuses a write.
 use std::alloc::{AllocError, Global};
 use std::fmt;
 use std::fmt::Write;
 use std::test::Fail;
 use unit_text::UnitText;
 
-/// Takes what is written, but for one write, which it refuses; then it goes on.
+/// Takes all writes but number `refused`, counted from 1, which it refuses.
 #[derive(Drop)]
 struct Sink {
     taken: String,
@@ -23,8 +23,8 @@ impl Write for Sink {
     }
 }
 
-/// Writes a debug text, with a sign and a width outside or without. Fails unless it ends at the refused write, where one is
-/// refused, and is whole where none is. It answers how many writes the sink saw.
+/// Writes the debug output, with a sign and a width if `is_styled`, to a sink that refuses write number `refused`.
+/// Fails unless it ends there, or is `expected` if no write is refused. Returns the number of writes.
 fn writes_of(
     alloc: Global,
     text: &UnitText<Global>,
@@ -52,7 +52,7 @@ fn writes_of(
     Ok(sink.writes)
 }
 
-/// Fails unless each write of a debug text, refused in turn, ends it.
+/// Refuses each write of the debug output in turn. Fails unless the output ends there.
 fn expect_ends(alloc: Global, units: &[u16], expected: &str) -> Result<(), Fail> {
     let text = UnitText::from_units(alloc, units)?;
     for is_styled in [false, true] {
@@ -64,7 +64,7 @@ fn expect_ends(alloc: Global, units: &[u16], expected: &str) -> Result<(), Fail>
     Ok(())
 }
 
-/// Units of a text of more than a thousand bytes, and its debug text.
+/// The units of a text of more than a thousand bytes, and its debug output.
 fn long_text(alloc: Global) -> Result<(Vec<u16>, String), AllocError> {
     let mut units = Vec::new(alloc);
     let mut expected = String::from_str(alloc, "\"")?;

@@ -1,5 +1,5 @@
-// Calls of ECMAScript's strings at the greatest positions, which no script of `compare_scripts` has. The expected answers are
-// those of an engine.
+// Calls of ECMAScript's strings at the greatest positions, which no script of `compare_scripts` tries. The expected
+// results are an engine's.
 use std::alloc::{AllocError, Global};
 use std::test::Fail;
 use unit_text::UnitText;
@@ -7,14 +7,14 @@ use wtf8_uses::engine_search::{index_of, last_index_of};
 use wtf8_uses::engine_strings::{at, code_point_at};
 use wtf8_uses::strings::{char_at, char_code_at, ends_with, starts_with, substring};
 
-/// "a💩b", with a lead behind it.
+/// "a💩b" followed by a lead surrogate.
 const UNITS: [u16; 5] = [0x0061, 0xD83D, 0xDCA9, 0x0062, 0xD83D];
 
 fn text_of(alloc: Global, units: &[u16]) -> Result<UnitText<Global>, AllocError> {
     UnitText::from_units(alloc, units)
 }
 
-/// Whether nothing stands at the greatest positions from either end.
+/// Whether the text has no unit and no code point at the greatest positions, and none at the least position of `at`.
 fn has_nothing_beyond(text: &UnitText<Global>) -> bool {
     at(text, isize::MAX).is_none()
         && at(text, isize::MIN).is_none()
@@ -22,7 +22,7 @@ fn has_nothing_beyond(text: &UnitText<Global>) -> bool {
         && char_code_at(text, usize::MAX).is_none()
 }
 
-/// The first place of units from the greatest position on, and the last one up to it.
+/// The results of `index_of` and `last_index_of` for `units`, both from the greatest position.
 fn places_of(
     alloc: Global,
     text: &UnitText<Global>,
@@ -33,7 +33,7 @@ fn places_of(
     Ok((first, last_index_of(text, &search, usize::MAX)))
 }
 
-/// Whether units stand at the greatest position, and whether the text ends with them there.
+/// The results of `starts_with` and `ends_with` for `units`, both at the greatest position.
 fn stand_at(
     alloc: Global,
     text: &UnitText<Global>,
@@ -55,13 +55,13 @@ fn is_searched(alloc: Global, text: &UnitText<Global>) -> Result<bool, AllocErro
     )
 }
 
-/// How many units the greatest position has.
+/// The number of units that `char_at` returns at the greatest position.
 fn unit_count(alloc: Global, text: &UnitText<Global>) -> Result<usize, AllocError> {
     let unit = char_at(alloc, text, usize::MAX)?;
     Ok(unit.unit_len())
 }
 
-/// Whether "b" and a lead are what is between position 3 and the greatest one.
+/// Whether the units from position 3 to the greatest one are "b" and a lead.
 fn has_back(alloc: Global, text: &UnitText<Global>) -> Result<bool, AllocError> {
     let back = substring(alloc, text, 3, usize::MAX)?;
     let is_back = back.unit_at(0) == Some(0x0062) && back.unit_at(1) == Some(0xD83D);

@@ -1,11 +1,11 @@
-// Lengths, units and slices of texts, and texts appended.
+// Lengths, units and slices of texts, and texts appended to others.
 use crate::shared::{expect_text, slice_of};
 use std::alloc::{AllocError, Global};
 use std::test::Fail;
 use unit_text::UnitText;
 use wtf8_tests::examples::{expect_dump, joining};
 
-/// Fails unless the text of these units has them, one by one, and these bytes.
+/// Fails unless the text made of `units` has them by index, and has the bytes of `dump`.
 fn expect_made(alloc: Global, units: &[u16], dump: &str) -> Result<(), Fail> {
     let text = UnitText::from_units(alloc, units)?;
     expect_text(alloc, &text, units, dump)
@@ -20,10 +20,10 @@ fn units_are_kept(rt: HostRuntime) -> Result<(), Fail> {
     Ok(())
 }
 
-/// "a" and a pair.
+/// "a" and a surrogate pair.
 const PAIR: [u16; 3] = [0x0061, 0xD83D, 0xDCA9];
 
-/// Two positions among these units, and the bytes of what lies between them.
+/// The begin and end of slices of `PAIR` in units, and the bytes of the slices.
 const PARTS: [(usize, usize, &str); 4] = [
     (0, 2, "61 ED A0 BD"),
     (2, 3, "ED B2 A9"),
@@ -31,7 +31,7 @@ const PARTS: [(usize, usize, &str); 4] = [
     (0, 3, "61 F0 9F 92 A9"),
 ];
 
-/// Fails unless the units of the pair between two positions have these bytes.
+/// Fails unless the slice of `PAIR` from unit `begin` to before unit `end` has the bytes of `dump`.
 fn expect_part(alloc: Global, begin: usize, end: usize, dump: &str) -> Result<(), Fail> {
     let text = UnitText::from_units(alloc, &PAIR)?;
     let part = slice_of(alloc, &text, begin, end)?;
@@ -47,7 +47,7 @@ fn a_pair_is_counted_and_cut(rt: HostRuntime) -> Result<(), Fail> {
     Ok(())
 }
 
-/// The text of two lists of units, one appended to the other.
+/// The text of `front` with the text of `back` appended.
 fn appended(alloc: Global, front: &[u16], back: &[u16]) -> Result<UnitText<Global>, AllocError> {
     let mut text = UnitText::from_units(alloc, front)?;
     text.concat(&UnitText::from_units(alloc, back)?)?;
@@ -73,7 +73,7 @@ fn appended_rows() -> [(&'static [u16], &'static [u16], &'static [u16], &'static
     ]
 }
 
-/// Fails unless a text is that of these units, and has these bytes.
+/// Fails unless `text` is equal to the text made of `units`, and has the bytes of `dump`.
 fn expect_same(
     alloc: Global,
     text: &UnitText<Global>,

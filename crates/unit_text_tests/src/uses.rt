@@ -1,5 +1,5 @@
-// The uses on their happy paths, but for an engine's calls, which scripts have. Expected values are worked by hand from the
-// encoding's tables.
+// Functions of `wtf8_uses` on their usual paths; scripts try an engine's calls. Expected values are worked out by hand
+// from the encoding's tables.
 ghost use Rattle.std.specs.Prelude.{IfOk};
 ghost use Rattle.wtf8_uses.specs.Sorted.{AreInPointOrder};
 
@@ -18,7 +18,7 @@ use wtf8_uses::{
     units, well_formed,
 };
 
-/// U+1F4A9 as two units, and its bytes.
+/// The code units of U+1F4A9; `PAIR_DUMP` is its bytes.
 const LEAD: u16 = 0xD83D;
 
 const TRAIL: u16 = 0xDCA9;
@@ -30,7 +30,7 @@ fn string_of(alloc: Global, units: &[u16]) -> Result<Wtf8Buf<Global>, AllocError
     Wtf8Buf::from_ill_formed_utf16(alloc, units)
 }
 
-/// Fails unless a string was made, and has these bytes.
+/// Fails unless a string was made, and has the bytes of `dump`.
 fn expect_made(
     alloc: Global,
     made: Result<Wtf8Buf<Global>, AllocError>,
@@ -50,7 +50,7 @@ fn lists_are_joined(rt: HostRuntime) -> Result<(), Fail> {
     expect_made(rt.alloc(), apart, "ED B2 A9 ED A0 BD")
 }
 
-/// Appends the halves of the pair, and then nothing.
+/// Appends the two surrogates of the pair, and then nothing.
 fn append_halves(alloc: Global, text: &mut Wtf8Buf<Global>) -> Result<(), AllocError> {
     let lead = string_of(alloc, &[LEAD])?;
     let trail = string_of(alloc, &[TRAIL])?;
@@ -132,13 +132,13 @@ fn a_path_is_cut_and_joined(rt: HostRuntime) -> Result<(), Fail> {
     Ok(())
 }
 
-/// Whether these units come back.
+/// Whether `units_again` returns the units of `list`.
 fn come_back(alloc: Global, list: &[u16]) -> Result<bool, AllocError> {
     let again = round_trips::units_again(alloc, list)?;
     Ok(again.as_slice() == list)
 }
 
-/// Whether a text of its own comes back.
+/// Whether `owned_text_again` returns `text`.
 fn comes_back(alloc: Global, text: &str) -> Result<bool, AllocError> {
     let owned = String::from_str(alloc, text)?;
     match round_trips::owned_text_again(owned) {
@@ -147,7 +147,7 @@ fn comes_back(alloc: Global, text: &str) -> Result<bool, AllocError> {
     }
 }
 
-/// Whether the lossy text of these units, made twice, is this one.
+/// Whether `lossy_twice` of the string of `list` is `text`.
 fn is_lossy(alloc: Global, list: &[u16], text: &str) -> Result<bool, AllocError> {
     let broken = string_of(alloc, list)?;
     Ok(round_trips::lossy_twice(broken).as_str() == text)
@@ -162,10 +162,10 @@ fn units_and_texts_come_back(rt: HostRuntime) -> Result<(), Fail> {
     Ok(())
 }
 
-/// U+E000 and U+10000, which stand the other way round by their units.
+/// The bytes of U+E000 and U+10000, in code point order. By code units the order is the other way round.
 const IN_ORDER: [&str; 2] = ["EE 80 80", "F0 90 80 80"];
 
-/// Two strings, the first of which stands behind the other in the order of code points.
+/// The strings of U+10000 and U+E000, in descending code point order.
 fn behind_and_before(alloc: Global) -> Result<(Wtf8Buf<Global>, Wtf8Buf<Global>), AllocError> {
     let before = Wtf8Buf::from_ill_formed_utf16(alloc, &[0xE000])?;
     let behind = Wtf8Buf::from_ill_formed_utf16(alloc, &[0xD800, 0xDC00])?;
@@ -185,7 +185,7 @@ fn sorted_views<'a>(
     Ok(views)
 }
 
-/// Fails unless these views are in order.
+/// Fails unless the views have the bytes of `IN_ORDER`.
 fn expect_views(alloc: Global, views: &[Wtf8<'_>]) -> Result<(), Fail> {
     for (view, dump) in views.iter().zip(IN_ORDER) {
         expect_dump(alloc, *view, dump)?;
@@ -200,7 +200,7 @@ fn views_are_sorted(rt: HostRuntime) -> Result<(), Fail> {
     expect_views(rt.alloc(), &views)
 }
 
-/// The two strings, sorted.
+/// The two strings of `behind_and_before`, sorted.
 fn sorted(alloc: Global) -> Result<Vec<Wtf8Buf<Global>>, AllocError>
     ensures { IfOk result (λ strings. AreInPointOrder strings.items) }
 {
@@ -212,7 +212,7 @@ fn sorted(alloc: Global) -> Result<Vec<Wtf8Buf<Global>>, AllocError>
     Ok(strings)
 }
 
-/// Fails unless these strings are in order.
+/// Fails unless the strings have the bytes of `IN_ORDER`.
 fn expect_strings(alloc: Global, strings: &[Wtf8Buf<Global>]) -> Result<(), Fail> {
     for (string, dump) in strings.iter().zip(IN_ORDER) {
         expect_dump(alloc, string.as_wtf8(), dump)?;
@@ -220,7 +220,7 @@ fn expect_strings(alloc: Global, strings: &[Wtf8Buf<Global>]) -> Result<(), Fail
     Ok(())
 }
 
-/// The place of the string of these units in a table, or the place where it would stand.
+/// `Ok` of the index of the string of these units in a sorted table, or `Err` of the index to insert it at.
 fn place_of(
     alloc: Global,
     table: &[Wtf8Buf<Global>],
@@ -256,7 +256,7 @@ fn strings_of(alloc: Global, texts: &[&str]) -> Result<Vec<Wtf8Buf<Global>>, All
     Ok(strings)
 }
 
-/// Whether strings are those of these texts.
+/// Whether the strings are `texts`, in this order.
 fn are_texts(strings: &[Wtf8Buf<Global>], texts: &[&str]) -> bool {
     for (string, text) in strings.iter().zip(texts) {
         if string.as_wtf8().as_str() != Some(*text) {
@@ -285,12 +285,12 @@ fn a_map_finds_equal_strings(rt: HostRuntime) -> Result<(), Fail> {
     Ok(())
 }
 
-/// The path C:\\a/b<lone trail>.tar.gz.
+/// The path `C:\a/b<lone trail>.tar.gz`.
 const PATH: [u16; 14] = [
     0x43, 0x3A, 0x5C, 0x61, 0x2F, 0x62, TRAIL, 0x2E, 0x74, 0x61, 0x72, 0x2E, 0x67, 0x7A,
 ];
 
-/// Fails unless a path has this folder and this name.
+/// Fails unless the path has this folder and name, the name has no folder, and `join` of both gives the path's bytes.
 fn expect_folder_and_name(
     alloc: Global,
     path: Wtf8<'_>,
@@ -322,14 +322,14 @@ fn a_path_has_a_folder_and_a_name(rt: HostRuntime) -> Result<(), Fail> {
     )
 }
 
-/// A folder, to which a name is pushed.
+/// A copy of `folder` with `name` pushed to it.
 fn path_of(folder: &Wtf8Buf<Global>, name: Wtf8<'_>) -> Result<Wtf8Buf<Global>, AllocError> {
     let mut path = folder.clone()?;
     file_names::push_name(&mut path, name)?;
     Ok(path)
 }
 
-/// Whether a path is that of a folder and a name, and in this folder alone.
+/// Whether `path` is `folder` joined with `name`, and is in `folder`, but not in `name`, nor `folder` in itself.
 fn is_path_of(
     alloc: Global,
     path: &Wtf8Buf<Global>,
@@ -353,7 +353,7 @@ fn a_name_is_pushed_and_found_in_its_folder(rt: HostRuntime) -> Result<(), Fail>
     Ok(())
 }
 
-/// Fails unless a name has a stem and an extension of these bytes, which make it again.
+/// Fails unless a name has the expected stem and extension, which give the name again.
 fn expect_stem(alloc: Global, name: Wtf8<'_>) -> Result<(), Fail> {
     let parts = file_names::stem_and_extension(name);
     let (stem, extension) = parts.ok_or("an extension")?;
@@ -378,7 +378,7 @@ fn a_name_has_a_stem_and_an_extension(rt: HostRuntime) -> Result<(), Fail> {
     Ok(())
 }
 
-/// Fails unless these are the components of the path.
+/// Fails unless `parts` are the components of `PATH`.
 fn expect_components(alloc: Global, parts: &[Wtf8<'_>]) -> Result<(), Fail> {
     let dumps = ["43 3A", "61", "62 ED B2 A9 2E 74 61 72 2E 67 7A"];
     if parts.len() != dumps.len() {
@@ -390,7 +390,7 @@ fn expect_components(alloc: Global, parts: &[Wtf8<'_>]) -> Result<(), Fail> {
     Ok(())
 }
 
-/// How many components a path has.
+/// The number of components of a path.
 fn component_count(alloc: Global, path: Wtf8<'_>) -> Result<usize, AllocError> {
     let parts = file_names::components(alloc, path)?;
     Ok(parts.len())
@@ -414,8 +414,8 @@ fn a_path_has_one_component_more_than_separators(rt: HostRuntime) -> Result<(), 
     Ok(())
 }
 
-/// A folder and a name; the path of them, its suffix without the dot, and whether that path is relative to another one: what
-/// CPython's `PureWindowsPath` answers by `/`, `suffix` and `is_relative_to`.
+/// A folder, a name, the path of both, its suffix without the dot, another path, and whether the first one is relative
+/// to it: the results of `/`, `suffix` and `is_relative_to` of CPython's `PureWindowsPath`.
 type WindowsPath = (
     &'static str,
     &'static str,
@@ -461,7 +461,7 @@ fn windows_paths() -> [WindowsPath; 10] {
     ]
 }
 
-/// Whether the path of a folder and a name is that of the row, with its suffix, and relative to another path or not.
+/// Whether the path of a row's folder and name, its extension and its relation to the other path are as the row tells.
 fn is_windows_path(alloc: Global, row: WindowsPath) -> Result<bool, AllocError> {
     let (folder, name, whole, extension, front, is_relative) = row;
     let path = file_names::join_once(alloc, Wtf8::from_str(folder), Wtf8::from_str(name))?;
@@ -495,7 +495,7 @@ fn a_name_ends_at_a_zero(rt: HostRuntime) -> Result<(), Fail> {
     Ok(())
 }
 
-/// Whether the strings have these numbers, the first one again and again.
+/// Whether the interner returns 0 for `first`, 1 for the empty string, and 0 for `first` again.
 fn are_numbered(interner: &mut Interner, first: Wtf8<'_>) -> Result<bool, AllocError> {
     let number = interner.number(first)?;
     let other = interner.number(Wtf8::from_str(""))?;
@@ -503,7 +503,7 @@ fn are_numbered(interner: &mut Interner, first: Wtf8<'_>) -> Result<bool, AllocE
     Ok(number == 0 && other == 1 && again == 0 && interner.len() == 2)
 }
 
-/// Fails unless the string of a number has these bytes, or there is none.
+/// Fails unless the string with this number has the bytes of `dump`, or there is none if `dump` is `None`.
 fn expect_string(
     alloc: Global,
     interner: &Interner,
@@ -528,7 +528,7 @@ fn a_number_stays(rt: HostRuntime) -> Result<(), Fail> {
     Ok(())
 }
 
-/// The name of a number below 512, by its lowest eight bits: below 256 one of 256 names that have one hash, else eight digits.
+/// The name of a number below 512: below 256 one of 256 names with equal hashes, else its low eight bits as digits.
 fn name_of(alloc: Global, number: usize) -> Result<String, AllocError> {
     let mut name = String::new(alloc);
     let mut left = number;
@@ -570,7 +570,7 @@ fn strings_of_one_hash_have_their_own_numbers(rt: HostRuntime) -> Result<(), Fai
     Ok(())
 }
 
-/// Pushes a trail and "é" to a string, and then a list.
+/// Pushes a trail, "é" and a list of calls to a lead. Fails unless the bytes are the expected ones after each step.
 fn push_all(alloc: Global, string: &mut Wtf8Buf<Global>) -> Result<(), Fail> {
     let trail = string_of(alloc, &[TRAIL])?;
     refusals::push_both(string, trail.as_wtf8(), Wtf8::from_str("é"))?;
@@ -579,7 +579,7 @@ fn push_all(alloc: Global, string: &mut Wtf8Buf<Global>) -> Result<(), Fail> {
     expect_dump(alloc, string.as_wtf8(), "F0 9F 92 A9 C3 A9 61 62")
 }
 
-/// A lead, to which "é" and a trail are pushed.
+/// A string of a lead, to which "é" and a trail are pushed.
 fn with_two_points(alloc: Global) -> Result<Wtf8Buf<Global>, Fail> {
     let mut both = string_of(alloc, &[LEAD])?;
     let second = CodePoint::from_u32(u32::from(TRAIL)).ok_or("a code point")?;
@@ -617,13 +617,13 @@ fn units_are_counted(rt: HostRuntime) {
 
 const WHOLE: &str = "ED B2 A9 F0 9F 92 A9 41 ED A0 BD";
 
-/// Fails unless the copies of a text by its code points have these bytes.
+/// Fails unless both copies of a text by its code points have the bytes of `WHOLE`.
 fn expect_copies(alloc: Global, text: Wtf8<'_>) -> Result<(), Fail> {
     expect_made(alloc, points::copy_by_points(alloc, text), WHOLE)?;
     expect_made(alloc, points::collect_points(alloc, text), WHOLE)
 }
 
-/// Fails unless a text has two code points in common with its front, none with its back, and all with both.
+/// Fails unless a text has two leading code points in common with `front`, none with `back`, and all with both.
 fn expect_common(
     alloc: Global,
     text: Wtf8<'_>,
@@ -640,7 +640,7 @@ fn expect_common(
     expect_dump(alloc, front.as_wtf8(), WHOLE)
 }
 
-/// Fails unless the first two code points of a text and those behind them make it again.
+/// Fails unless a text splits into its first two code points and the rest, and these join to the text again.
 fn expect_halves(alloc: Global, text: Wtf8<'_>) -> Result<(), Fail> {
     let mut front = points::first_points(alloc, text, 2)?;
     expect_dump(alloc, front.as_wtf8(), "ED B2 A9 F0 9F 92 A9")?;
@@ -668,7 +668,7 @@ fn lone_surrogates_are_mended(rt: HostRuntime) -> Result<(), Fail> {
     Ok(())
 }
 
-/// Units, and the JSON text of them: what an engine's `JSON.stringify` answers.
+/// Units, and their JSON text as an engine's `JSON.stringify` returns it.
 fn json_rows() -> [(&'static [u16], &'static str); 6] {
     [
         (&[], "\"\""),
@@ -692,7 +692,7 @@ fn json_rows() -> [(&'static [u16], &'static str); 6] {
     ]
 }
 
-/// Whether the JSON text of these units is this one.
+/// Whether the JSON text of these units is `text`.
 fn is_json(alloc: Global, units: &[u16], text: &str) -> Result<bool, AllocError> {
     let string = string_of(alloc, units)?;
     let json = json_text(alloc, string.as_wtf8())?;
@@ -730,7 +730,7 @@ fn an_environment_is_one_block(rt: HostRuntime) -> Result<(), Fail> {
     Ok(())
 }
 
-/// Two texts, and whether they are equal but for the case of ASCII letters.
+/// Two texts, and whether they are equal if the case of ASCII letters is ignored.
 fn cases() -> [(&'static str, &'static str, bool); 5] {
     [
         ("aZé[@", "Azé[@", true),
@@ -741,7 +741,7 @@ fn cases() -> [(&'static str, &'static str, bool); 5] {
     ]
 }
 
-/// Whether the strings of two lists of units are equal but for the case of ASCII letters.
+/// Whether the strings of two lists of units are equal if the case of ASCII letters is ignored.
 fn are_equal_units(alloc: Global, units: &[u16], others: &[u16]) -> Result<bool, AllocError> {
     let string = string_of(alloc, units)?;
     let other = string_of(alloc, others)?;

@@ -1,4 +1,4 @@
-// What the uses leave where memory is refused, and that they are done at each length where it is granted.
+// What functions of `wtf8_uses` leave if memory is refused, and that they succeed at each length if it is granted.
 use refusing::{REFUSALS, Refusal, Refusing};
 use std::alloc::{AllocError, Global};
 use std::test::Fail;
@@ -8,7 +8,7 @@ use wtf8_uses::{appending, file_names, joining, refusals};
 
 type Lent<'a> = &'a Refusing<Global>;
 
-/// A use that appends to "a" and D83D, whose four bytes take all the room.
+/// A function that appends to a string whose four bytes, "a" and D83D, fill its capacity.
 #[derive(Clone, Copy, Debug)]
 enum Use {
     PushBoth,
@@ -18,7 +18,7 @@ enum Use {
     KeptByARefusal,
 }
 
-/// Makes the call, and answers whether it was done.
+/// Makes the call and returns whether it succeeded.
 fn is_done(text: &mut Wtf8Buf<Lent<'_>>, call: Use, trail: Wtf8<'_>) -> bool {
     let back = Wtf8::from_str("bcdefgh");
     match call {
@@ -35,7 +35,7 @@ fn is_done(text: &mut Wtf8Buf<Lent<'_>>, call: Use, trail: Wtf8<'_>) -> bool {
     }
 }
 
-/// What a use leaves where so many requests are granted: whether it is done, how many requests it makes, and the bytes.
+/// A call, the requests granted, whether it succeeds, the number of its requests, and the bytes that it leaves.
 const LEFT: [(Use, u64, bool, u64, &str); 11] = [
     (
         Use::PushBoth,
@@ -62,10 +62,10 @@ const LEFT: [(Use, u64, bool, u64, &str); 11] = [
     (Use::KeptByARefusal, 0, false, 1, "61 ED A0 BD"),
 ];
 
-/// What stands in the table of what uses leave.
+/// A row of `LEFT`.
 type Left = (Use, u64, bool, u64, &'static str);
 
-/// The string that each row begins with.
+/// The string on which each row's call is made.
 fn full(heap: Lent<'_>) -> Result<Wtf8Buf<Lent<'_>>, AllocError> {
     let mut text = Wtf8Buf::with_capacity(heap, 4)?;
     text.push_char('a')?;
@@ -73,7 +73,7 @@ fn full(heap: Lent<'_>) -> Result<Wtf8Buf<Lent<'_>>, AllocError> {
     Ok(text)
 }
 
-/// Fails unless a use is done or not, with as many requests as the row tells.
+/// Fails unless the call succeeds or fails as the row tells, with the row's number of requests.
 fn expect_requests<'a>(
     alloc: Global,
     heap: Lent<'a>,
@@ -91,7 +91,7 @@ fn expect_requests<'a>(
     Ok(())
 }
 
-/// Fails unless a use leaves what the row tells.
+/// Fails unless the call of a row leaves the bytes of the row.
 fn expect_left(alloc: Global, row: Left, refusal: Refusal) -> Result<(), Fail> {
     let heap = Refusing::new(alloc, 1);
     let mut text = full(&heap)?;
@@ -110,7 +110,7 @@ fn a_refusal_leaves_what_was_there(rt: HostRuntime) -> Result<(), Fail> {
     Ok(())
 }
 
-/// Fails unless a copy that is cut and joined again makes two requests, of which each that is refused is the last one.
+/// Fails unless `cut_and_joined` makes two requests, and fails at the first one that is refused.
 fn expect_cut(alloc: Global, refusal: Refusal) -> Result<(), Fail> {
     let text = Wtf8::from_str("abcdefgh/bcdefgh");
     if !text.is_code_point_boundary(8) {
@@ -135,7 +135,7 @@ fn a_copy_that_is_cut_answers_each_refusal(rt: HostRuntime) -> Result<(), Fail> 
     Ok(())
 }
 
-/// Fails unless a string was made, and has so many bytes.
+/// Fails unless a string was made, and has `len` bytes.
 fn expect_len(made: Result<Wtf8Buf<Global>, AllocError>, len: usize) -> Result<(), Fail> {
     if made?.len() != len {
         return Err(Fail::new(format_args!("not {len} bytes")));
@@ -143,14 +143,14 @@ fn expect_len(made: Result<Wtf8Buf<Global>, AllocError>, len: usize) -> Result<(
     Ok(())
 }
 
-/// Whether a folder comes back where it is cut and joined, and is shown in as many bytes as it has.
+/// Whether `folder`, cut at a slash and joined, is unchanged, and the text that shows it has its length in bytes.
 fn is_kept(alloc: Global, folder: Wtf8<'_>) -> Result<bool, AllocError> {
     let again = joining::cut_at_slash_and_joined(alloc, folder)?;
     let shown = file_names::shown(alloc, folder)?;
     Ok(again.as_wtf8() == folder && shown.as_str().len() == folder.len())
 }
 
-/// Fails unless a path of a folder of so many letters and a name is joined.
+/// Fails unless a folder and a name join to paths of the right length, and the folder, cut and joined, is unchanged.
 fn expect_paths(alloc: Global, folder: Wtf8<'_>) -> Result<(), Fail> {
     let name = Wtf8::from_str("name");
     let len = folder.len().saturating_add(5);
@@ -162,7 +162,7 @@ fn expect_paths(alloc: Global, folder: Wtf8<'_>) -> Result<(), Fail> {
     Ok(())
 }
 
-/// Fails unless two lists of units are joined, and calls that append them build alike.
+/// Fails unless the string of `units` twice and two pushes of `text` build equal strings.
 fn expect_joined(alloc: Global, units: &[u16], text: &str) -> Result<(), AllocError> {
     let whole = joining::joined(alloc, units, units)?;
     let calls = [Build::PushStr(text), Build::PushStr(text)];

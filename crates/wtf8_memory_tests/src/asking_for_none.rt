@@ -1,5 +1,5 @@
-// Calls that ask for no memory, not even by a request whose refusal they ignore: nine requests are granted before them, and
-// all nine are left after them. The same calls go on where every request is refused.
+// Calls that make no request for memory, not even one whose refusal they ignore: of nine requests granted before them
+// all are left after them. The calls also succeed if every request is refused.
 use refusing::Refusing;
 use std::alloc::{AllocError, Allocator, Global};
 use std::borrow::CowStr;
@@ -13,10 +13,10 @@ const LEAD: u16 = 0xD83D;
 
 const TRAIL: u16 = 0xDCA9;
 
-/// How many requests are granted: none, or nine.
+/// The numbers of requests granted: none, or nine.
 const GRANTS: [u64; 2] = [0, 9];
 
-/// Fails unless this many requests are left.
+/// Fails unless `grants` requests are still granted, so that none was made.
 fn expect_left(heap: Lent<'_>, grants: u64) -> Result<(), Fail> {
     if heap.grants_left() != grants {
         return Err(Fail::new("a request was made"));
@@ -24,7 +24,7 @@ fn expect_left(heap: Lent<'_>, grants: u64) -> Result<(), Fail> {
     Ok(())
 }
 
-/// An empty string with room for this many bytes, and this many requests granted after it was made.
+/// An empty string with a capacity of `room` bytes, after which `grants` requests are granted.
 fn with_room(heap: Lent<'_>, room: usize, grants: u64) -> Result<Wtf8Buf<Lent<'_>>, AllocError> {
     heap.grant(1);
     let text = Wtf8Buf::with_capacity(heap, room)?;
@@ -40,7 +40,7 @@ fn append_nothing<A: Allocator>(text: &mut Wtf8Buf<A>) -> Result<(), AllocError>
     text.extend([])
 }
 
-/// Whether the dump is empty.
+/// Whether the hex dump is empty.
 fn is_dump_empty<A: Allocator + Drop>(heap: A, view: Wtf8<'_>) -> Result<bool, AllocError> {
     let dump = view.hex_dump(heap)?;
     Ok(dump.as_str().is_empty())
@@ -52,7 +52,7 @@ fn is_lossy_text_empty<A: Allocator + Drop>(heap: A, view: Wtf8<'_>) -> Result<b
     Ok(lossy.as_str().is_empty())
 }
 
-/// Fails unless the dump and the lossy text are empty.
+/// Fails unless the hex dump and the lossy text are empty.
 fn expect_no_texts<A: Allocator + Drop + Copy>(heap: A, view: Wtf8<'_>) -> Result<(), Fail> {
     if !is_dump_empty(heap, view)? || !is_lossy_text_empty(heap, view)? {
         return Err(Fail::new("a text of nothing"));
@@ -60,7 +60,7 @@ fn expect_no_texts<A: Allocator + Drop + Copy>(heap: A, view: Wtf8<'_>) -> Resul
     Ok(())
 }
 
-/// Fails unless an empty string to which nothing is appended is empty, and its texts are.
+/// Fails unless an empty string to which nothing is appended is empty, and so are its hex dump and lossy text.
 fn expect_nothing<A: Allocator + Drop + Copy>(alloc: Global, heap: A) -> Result<(), Fail> {
     let mut text = Wtf8Buf::new(heap);
     append_nothing(&mut text)?;
@@ -86,7 +86,7 @@ fn expect_empty<A: Allocator + Drop>(
     expect_dump(alloc, made?.as_wtf8(), "")
 }
 
-/// Fails unless each call that makes a string of nothing makes it.
+/// Fails unless each call that makes a string of nothing makes an empty one.
 fn expect_made_of_nothing<A: Allocator + Drop + Copy>(alloc: Global, heap: A) -> Result<(), Fail> {
     expect_empty(alloc, Wtf8Buf::with_capacity(heap, 0))?;
     expect_empty(alloc, Wtf8Buf::from_str(heap, ""))?;
@@ -104,7 +104,7 @@ fn what_is_made_of_nothing(rt: HostRuntime) -> Result<(), Fail> {
     Ok(())
 }
 
-/// Whether the lossy text of a letter is the letter, and borrowed.
+/// Whether the lossy text of "a" is "a", borrowed.
 fn is_letter_borrowed<A: Allocator + Drop>(heap: A) -> Result<bool, AllocError> {
     let lossy = Wtf8::from_str("a").to_string_lossy(heap)?;
     Ok(matches!(lossy, CowStr::Borrowed(_)) && lossy.as_str() == "a")
@@ -120,20 +120,20 @@ fn what_is_borrowed(rt: HostRuntime) -> Result<(), Fail> {
     Ok(())
 }
 
-/// Appends the two halves of a pair.
+/// Appends the two surrogates of a pair.
 fn push_pair<A: Allocator>(text: &mut Wtf8Buf<A>) -> Result<(), AllocError> {
     text.push(point_of_unit(LEAD))?;
     text.push(point_of_unit(TRAIL))
 }
 
-/// Empties a string and appends the pair anew.
+/// Empties a string and appends the pair as one character.
 fn push_anew<A: Allocator>(text: &mut Wtf8Buf<A>) -> Result<(), AllocError> {
     text.reserve(0)?;
     text.clear();
     text.push_char('💩')
 }
 
-/// Fails unless the two halves of a pair become one code point, for which there is room anew.
+/// Fails unless two pushed surrogates become one code point, and it can be pushed again once the string is cleared.
 fn expect_pair<A: Allocator>(alloc: Global, text: &mut Wtf8Buf<A>) -> Result<(), Fail> {
     push_pair(text)?;
     expect_dump(alloc, text.as_wtf8(), "F0 9F 92 A9")?;
@@ -141,7 +141,7 @@ fn expect_pair<A: Allocator>(alloc: Global, text: &mut Wtf8Buf<A>) -> Result<(),
     Ok(())
 }
 
-/// Fails unless this fits in room for four bytes.
+/// Fails unless a surrogate pair, pushed in halves and then as a character, fits in a capacity of four bytes.
 fn expect_room_for_pair(alloc: Global, heap: Lent<'_>, grants: u64) -> Result<(), Fail> {
     let mut text = with_room(heap, 4, grants)?;
     expect_pair(alloc, &mut text)
@@ -157,14 +157,14 @@ fn what_has_room(rt: HostRuntime) -> Result<(), Fail> {
     Ok(())
 }
 
-/// Appends a text, a letter and a lead.
+/// Appends `TEXT`, "a" and a lead surrogate.
 fn push_text_and_lead<A: Allocator>(text: &mut Wtf8Buf<A>) -> Result<(), AllocError> {
     text.push_str(TEXT)?;
     text.push_char('a')?;
     text.push(point_of_unit(LEAD))
 }
 
-/// Appends a string, a pair by its halves, and nothing by a reserve.
+/// Appends a string and the two surrogates of a pair, and reserves two bytes.
 fn push_string_and_pair<A: Allocator>(
     text: &mut Wtf8Buf<A>,
     other: Wtf8<'_>,
@@ -174,7 +174,7 @@ fn push_string_and_pair<A: Allocator>(
     text.reserve(2)
 }
 
-/// Makes each call that appends, a trail behind a lead.
+/// Makes each call that appends; `push_wtf8` appends a trail after a lead.
 fn push_each<A: Allocator>(alloc: Global, text: &mut Wtf8Buf<A>) -> Result<(), Fail> {
     let trail = pushed(alloc, &[0xDCA9, 0x62])?;
     push_text_and_lead(text)?;
@@ -182,7 +182,7 @@ fn push_each<A: Allocator>(alloc: Global, text: &mut Wtf8Buf<A>) -> Result<(), F
     Ok(())
 }
 
-/// Fails unless each call that appends does so in room that is there.
+/// Fails unless each call that appends succeeds within the capacity of the string.
 fn expect_room_for_each(alloc: Global, heap: Lent<'_>) -> Result<(), Fail> {
     let mut text = with_room(heap, 20, 9)?;
     push_each(alloc, &mut text)?;
@@ -200,8 +200,8 @@ fn what_has_room_by_each_call(rt: HostRuntime) -> Result<(), Fail> {
     expect_left(&heap, 9)
 }
 
-/// Whether a list that appends the halves of a pair, by an extension each and nothing between them, is applied, and none of
-/// its truncations is refused.
+/// Whether a list that appends the two surrogates of a pair, by an extension each with an empty push between them, is
+/// applied with no truncation refused.
 fn is_pair_applied<A: Allocator>(text: &mut Wtf8Buf<A>) -> bool {
     let lead = [point_of_unit(LEAD)];
     let trail = [point_of_unit(TRAIL)];
@@ -213,7 +213,7 @@ fn is_pair_applied<A: Allocator>(text: &mut Wtf8Buf<A>) -> bool {
     matches!(text.apply_all(&calls), Ok(0))
 }
 
-/// Fails unless such a list fits in room for four bytes.
+/// Fails unless a list that appends the two surrogates of a pair fits in a capacity of four bytes.
 fn expect_room_for_list(alloc: Global, heap: Lent<'_>, grants: u64) -> Result<(), Fail> {
     let mut text = with_room(heap, 4, grants)?;
     if !is_pair_applied(&mut text) {
@@ -232,10 +232,10 @@ fn what_has_room_as_a_list(rt: HostRuntime) -> Result<(), Fail> {
     Ok(())
 }
 
-/// A call, whether it is done, and the bytes after it.
+/// A call, whether it is applied, and the bytes after it.
 type Applied<'a> = (Build<'a>, bool, &'static str);
 
-/// Calls one after another on the empty string.
+/// Calls made one after another, the first of them on the empty string.
 fn applied_rows<'a>(lead: &'a [CodePoint; 1], piece: Wtf8<'a>) -> [Applied<'a>; 10] {
     [
         (Build::Push(lead[0]), true, "ED A0 BD"),
@@ -255,7 +255,7 @@ fn applied_rows<'a>(lead: &'a [CodePoint; 1], piece: Wtf8<'a>) -> [Applied<'a>; 
     ]
 }
 
-/// Fails unless a call is done or not, and leaves these bytes.
+/// Fails unless a call is applied or refused as the row tells, and leaves the bytes of the row.
 fn expect_applied<A: Allocator>(
     alloc: Global,
     text: &mut Wtf8Buf<A>,
@@ -268,7 +268,7 @@ fn expect_applied<A: Allocator>(
     expect_dump(alloc, text.as_wtf8(), dump)
 }
 
-/// Fails unless each call is done or not, one after another, where a piece is appended to a lead.
+/// Fails unless each call of `applied_rows` in turn is as its row tells; `piece` is pushed after a lead.
 fn expect_each_applied<A: Allocator>(
     alloc: Global,
     text: &mut Wtf8Buf<A>,
@@ -281,13 +281,13 @@ fn expect_each_applied<A: Allocator>(
     Ok(())
 }
 
-/// Fails unless each call is applied in room that is there.
+/// Fails unless the calls of `applied_rows` are as the rows tell within a capacity of 20 bytes.
 fn expect_room_for_applied(alloc: Global, heap: Lent<'_>, piece: Wtf8<'_>) -> Result<(), Fail> {
     let mut text = with_room(heap, 20, 9)?;
     expect_each_applied(alloc, &mut text, piece)
 }
 
-/// The same where a trail and a letter are the piece.
+/// Fails unless the calls of `applied_rows`, with a trail and "b" as the piece, fit in a capacity of 20 bytes.
 fn expect_trail_applied(alloc: Global, heap: Lent<'_>) -> Result<(), Fail> {
     let piece = pushed(alloc, &[0xDCA9, 0x62])?;
     expect_room_for_applied(alloc, heap, piece.as_wtf8())
@@ -300,7 +300,7 @@ fn what_has_room_is_applied(rt: HostRuntime) -> Result<(), Fail> {
     expect_left(&heap, 9)
 }
 
-/// Appends the text, and a lone lead surrogate after it or none.
+/// Appends `TEXT`, and a lone lead surrogate if `has_lead`.
 fn push_text<A: Allocator>(text: &mut Wtf8Buf<A>, has_lead: bool) -> Result<(), AllocError> {
     text.push_str(TEXT)?;
     if has_lead {
@@ -309,20 +309,20 @@ fn push_text<A: Allocator>(text: &mut Wtf8Buf<A>, has_lead: bool) -> Result<(), 
     Ok(())
 }
 
-/// The string of the text, with a lone lead surrogate after it or without, and this many requests granted after it was made.
+/// A string of `TEXT`, with a lone lead surrogate if `has_lead`, and `grants` requests granted after its allocation.
 fn text_of(heap: Lent<'_>, has_lead: bool, grants: u64) -> Result<Wtf8Buf<Lent<'_>>, AllocError> {
     let mut text = with_room(heap, 11, grants)?;
     push_text(&mut text, has_lead)?;
     Ok(text)
 }
 
-/// Whether the lossy text is the text, and borrowed.
+/// Whether the lossy text is `TEXT`, borrowed.
 fn is_text_borrowed<A: Allocator + Drop>(heap: A, view: Wtf8<'_>) -> Result<bool, AllocError> {
     let lossy = view.to_string_lossy(heap)?;
     Ok(matches!(lossy, CowStr::Borrowed(_)) && lossy.as_str() == TEXT)
 }
 
-/// Fails unless the string is the text, and lossy the same that is borrowed.
+/// Fails unless the view is `TEXT` as a text, and as a lossy text, borrowed.
 fn expect_borrowed<A: Allocator + Drop>(heap: A, view: Wtf8<'_>) -> Result<(), Fail> {
     if view.as_str() != Some(TEXT) || !is_text_borrowed(heap, view)? {
         return Err(Fail::new("another text, or a copy"));
@@ -330,7 +330,7 @@ fn expect_borrowed<A: Allocator + Drop>(heap: A, view: Wtf8<'_>) -> Result<(), F
     Ok(())
 }
 
-/// Fails unless a string of its own is the text, and comes back as a string and as a lossy text.
+/// Fails unless `owned` is `TEXT`, also as a string made of it and as that string's lossy text.
 fn expect_again<A: Allocator + Drop>(alloc: Global, owned: String<A>) -> Result<(), Fail> {
     if owned.as_str() != TEXT {
         return Err(Fail::new("another text of its own"));
@@ -343,7 +343,7 @@ fn expect_again<A: Allocator + Drop>(alloc: Global, owned: String<A>) -> Result<
     Ok(())
 }
 
-/// Fails unless a string becomes a text of its own, and comes back.
+/// Fails unless `into_string` succeeds, and its text makes the string and the lossy text again.
 fn expect_owned<A: Allocator + Drop>(alloc: Global, text: Wtf8Buf<A>) -> Result<(), Fail> {
     match text.into_string() {
         Ok(owned) => expect_again(alloc, owned),
@@ -351,7 +351,7 @@ fn expect_owned<A: Allocator + Drop>(alloc: Global, text: Wtf8Buf<A>) -> Result<
     }
 }
 
-/// Fails unless the string of the text is borrowed as text, and becomes a text of its own.
+/// Fails unless the string of `TEXT` is borrowed as text, and converts to an owned text.
 fn expect_text(alloc: Global, heap: Lent<'_>, grants: u64) -> Result<(), Fail> {
     let text = text_of(heap, false, grants)?;
     expect_borrowed(heap, text.as_wtf8())?;
@@ -368,7 +368,7 @@ fn texts_of_a_string(rt: HostRuntime) -> Result<(), Fail> {
     Ok(())
 }
 
-/// Fails unless a string that came back has the text and the lead, which is replaced in its lossy text.
+/// Fails unless `back` is `TEXT` and a lead surrogate, which is U+FFFD in the lossy text.
 fn expect_lossy<A: Allocator + Drop>(alloc: Global, back: Wtf8Buf<A>) -> Result<(), Fail> {
     expect_dump(alloc, back.as_wtf8(), "61 C3 A9 20 F0 9F 92 A9 ED A0 80")?;
     if back.into_string_lossy().as_str() != "aé 💩\u{FFFD}" {
@@ -377,7 +377,7 @@ fn expect_lossy<A: Allocator + Drop>(alloc: Global, back: Wtf8Buf<A>) -> Result<
     Ok(())
 }
 
-/// Fails unless a string is no text, and comes back.
+/// Fails unless `text` is not UTF-8, and `into_string` returns it with its bytes.
 fn expect_no_text<A: Allocator + Drop>(alloc: Global, text: Wtf8Buf<A>) -> Result<(), Fail> {
     if text.as_wtf8().as_str().is_some() {
         return Err(Fail::new("a text of a surrogate"));

@@ -6,7 +6,7 @@ use wtf8_tests::examples::{
     expect_dump, expect_units, joined, joining, point_of_unit, points_of_units,
 };
 
-/// Fails unless a list of calls, so many of them refused truncations, builds a string of these bytes.
+/// Fails unless a list of calls, with `refused` of its truncations refused, builds the bytes of `dump`.
 fn expect_list(alloc: Global, calls: &[Build<'_>], refused: usize, dump: &str) -> Result<(), Fail> {
     let mut text = Wtf8Buf::new(alloc);
     if text.apply_all(calls) != Ok(refused) {
@@ -15,8 +15,8 @@ fn expect_list(alloc: Global, calls: &[Build<'_>], refused: usize, dump: &str) -
     expect_dump(alloc, text.as_wtf8(), dump)
 }
 
-/// Fails unless a push for each of these units, by one call at a time and by one list, and an extension by all of them
-/// build a string of these bytes.
+/// Fails unless pushes of `units`, by single calls and as one list, and one extension by all of them each build the
+/// bytes of `dump`.
 fn expect_built(alloc: Global, units: &[u16], dump: &str) -> Result<(), Fail> {
     let mut text = Wtf8Buf::new(alloc);
     let mut calls = Vec::new(alloc);
@@ -42,7 +42,7 @@ fn a_push_for_each_code_point_builds_the_string(rt: HostRuntime) -> Result<(), F
     Ok(())
 }
 
-/// Fails unless each of these calls, one after the other, is done, or refused as a truncation is, and leaves these bytes.
+/// Fails unless each call in turn is applied, or refused as a truncation, as its row tells, and leaves its bytes.
 fn expect_steps(alloc: Global, steps: &[(Build<'_>, bool, &str)]) -> Result<(), Fail> {
     let mut text = Wtf8Buf::new(alloc);
     for (call, is_done, dump) in steps {

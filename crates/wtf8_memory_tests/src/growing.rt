@@ -1,4 +1,4 @@
-// Calls that grow a string: how many requests each makes, and what it leaves where one of them is refused.
+// Calls that grow a string: the requests for memory that each makes, and what it leaves if one of them is refused.
 use refusing::{REFUSALS, Refusal, Refusing};
 use std::alloc::{AllocError, Allocator, Global};
 use std::test::Fail;
@@ -7,7 +7,7 @@ use wtf8_tests::examples::{TEXT, expect_dump, joined, point_of_unit, points_of_u
 
 type Lent<'a> = &'a Refusing<Global>;
 
-/// What is appended to a string, by the call of that name, or the room that is reserved in it.
+/// What the method of that name appends to a string, or the number of bytes that it reserves.
 #[derive(Clone, Copy)]
 enum Piece {
     Push(u16),
@@ -19,16 +19,16 @@ enum Piece {
     Reserve(usize),
 }
 
-/// A call on a string with four bytes of room, all taken by "a" and D83D. A growth is to twice the room or to what is
-/// wanted, whichever is more, so each request that is made is one that the table tells.
+/// A call on a string whose four bytes, "a" and D83D, fill its capacity. A growth is to twice the capacity or to what
+/// is needed, whichever is more, so the table tells each request.
 #[derive(Clone, Copy)]
 struct Row {
     piece: Piece,
-    /// The bytes after the call was granted all its requests.
+    /// The bytes after the call, with all its requests granted.
     granted: &'static str,
-    /// For how many bytes these are altogether.
+    /// The number of bytes in its requests, if all are granted.
     asked: usize,
-    /// The bytes after so many of its requests were granted, and the next refused: as many as it makes.
+    /// For each of the call's requests, the bytes after the call if that request is the first one refused.
     refused: &'static [&'static str],
 }
 
@@ -120,7 +120,7 @@ fn rows() -> [Row; 17] {
             asked: 8,
             refused: &[FULL],
         },
-        // Room for three bytes makes eight of four, which holds the first point, but not the second.
+        // Reserving three bytes grows the capacity to eight, which fits the first code point but not the second.
         Row {
             piece: Piece::Extend(&[0x0800, 0x0800, 0x0800]),
             granted: "61 ED A0 BD E0 A0 80 E0 A0 80 E0 A0 80",
@@ -142,13 +142,13 @@ fn rows() -> [Row; 17] {
     ]
 }
 
-/// Appends "a" and D83D.
+/// Appends "a" and the lead surrogate D83D.
 fn fill<A: Allocator>(text: &mut Wtf8Buf<A>) -> Result<(), AllocError> {
     text.push_char('a')?;
     text.push(point_of_unit(0xD83D))
 }
 
-/// The string that each row begins with.
+/// The string on which each row's call is made.
 fn full(heap: Lent<'_>) -> Result<Wtf8Buf<Lent<'_>>, AllocError> {
     heap.grant(1);
     let mut text = Wtf8Buf::with_capacity(heap, 4)?;
@@ -167,7 +167,7 @@ fn an_empty_text_is_pushed_after_a_refused_trail(rt: HostRuntime) -> Result<(), 
     expect_dump(rt.alloc(), text.as_wtf8(), FULL)
 }
 
-/// Makes the call of that name.
+/// Makes the call by the method of its name.
 fn call_named<A: Allocator>(
     alloc: Global,
     text: &mut Wtf8Buf<A>,
@@ -184,7 +184,7 @@ fn call_named<A: Allocator>(
     }
 }
 
-/// Makes the call through `apply`, which answers that it was done.
+/// Makes the call through `apply` and returns its result.
 fn apply_named<A: Allocator>(
     alloc: Global,
     text: &mut Wtf8Buf<A>,
@@ -207,7 +207,7 @@ fn apply_named<A: Allocator>(
     }
 }
 
-/// Makes the call by name or through `apply`, and answers whether it was done.
+/// Makes the call through `apply` if `is_applied`, else by name, and returns whether it succeeded.
 fn is_made<A: Allocator>(
     alloc: Global,
     text: &mut Wtf8Buf<A>,
@@ -220,9 +220,8 @@ fn is_made<A: Allocator>(
     call_named(alloc, text, piece).is_ok()
 }
 
-/// Makes the call where so many requests are granted, and those behind them refused for good or the next one alone. Fails
-/// unless it is done or not, makes so many requests, and the string holds these bytes. It answers how many bytes the
-/// requests ask for.
+/// Makes the call with `granted.0` requests granted, and the following ones, or the next one alone, refused. Fails
+/// unless success, the number of requests and the bytes left are `wanted`. Returns the number of bytes in the requests.
 fn expect_outcome(
     alloc: Global,
     piece: Piece,
@@ -243,7 +242,7 @@ fn expect_outcome(
     Ok(heap.bytes())
 }
 
-/// Fails unless the call is granted all its requests, and asks for the bytes of the row.
+/// Fails unless the call, with all its requests granted, succeeds with the requests and bytes of the row.
 fn expect_granted(alloc: Global, row: &Row, is_applied: bool) -> Result<(), Fail> {
     let requests = row.refused.len() as u64;
     let asked = expect_outcome(
@@ -269,7 +268,7 @@ fn a_growing_call_makes_its_requests_and_no_other(rt: HostRuntime) -> Result<(),
     Ok(())
 }
 
-/// Fails unless the call ends at a request that is refused, the one behind those that are granted, and leaves these bytes.
+/// Fails unless the call fails with its first refused request, and leaves the bytes of `dump`.
 fn expect_stopped(
     alloc: Global,
     piece: Piece,
@@ -283,7 +282,7 @@ fn expect_stopped(
     Ok(())
 }
 
-/// Fails unless the call ends at each request that is refused, and leaves what it tells.
+/// Refuses each request of the call in turn. Fails unless the call ends there and leaves the bytes of `refused`.
 fn expect_kept(
     alloc: Global,
     piece: Piece,
@@ -299,7 +298,7 @@ fn expect_kept(
     Ok(())
 }
 
-/// The same by name and through `apply`, where a request is refused for good or alone.
+/// Fails unless the call, by name and through `apply`, ends at each refused request and leaves the bytes of `refused`.
 fn expect_kept_each_way(alloc: Global, piece: Piece, refused: &[&str]) -> Result<(), Fail> {
     for refusal in REFUSALS {
         expect_kept(alloc, piece, refused, false, refusal)?;
@@ -316,7 +315,7 @@ fn a_refused_request_leaves_what_was_there(rt: HostRuntime) -> Result<(), Fail> 
     Ok(())
 }
 
-/// Whether room is reserved for a thousand bytes more, by name or through `apply`.
+/// Whether reserving 1,000 more bytes succeeds, through `apply` if `is_applied`, else by name.
 fn is_reserved<A: Allocator>(text: &mut Wtf8Buf<A>, is_applied: bool) -> bool {
     if is_applied {
         return matches!(text.apply(Build::Reserve(1000)), Ok(true));
@@ -324,7 +323,7 @@ fn is_reserved<A: Allocator>(text: &mut Wtf8Buf<A>, is_applied: bool) -> bool {
     text.reserve(1000).is_ok()
 }
 
-/// Fails unless room for a thousand bytes more is there once it is reserved.
+/// Fails unless there is room for 1,000 more bytes after they are reserved.
 fn expect_reserved(heap: Lent<'_>, is_applied: bool) -> Result<(), Fail> {
     let mut text = full(heap)?;
     heap.grant(1);
@@ -343,7 +342,7 @@ fn reserved_room_is_there(rt: HostRuntime) -> Result<(), Fail> {
     Ok(())
 }
 
-/// Fails unless room that no memory has is refused, by name and through `apply`, and leaves "a".
+/// Fails unless reserving `usize::MAX` bytes is refused, by name and through `apply`, and leaves "a".
 fn expect_refused_room(alloc: Global, text: &mut Wtf8Buf<Global>) -> Result<(), Fail> {
     if text.reserve(usize::MAX).is_ok() {
         return Err(Fail::new("room that no memory has"));
@@ -362,7 +361,7 @@ fn room_that_no_memory_has_is_refused(rt: HostRuntime) -> Result<(), Fail> {
     expect_refused_room(rt.alloc(), &mut text)
 }
 
-/// Gives back spare room. Fails unless the capacity is then this one, and the string as before.
+/// Calls `shrink_to_fit`. Fails unless the capacity is then `capacity` and the string is unchanged.
 fn expect_shrunk<A: Allocator>(
     alloc: Global,
     text: &mut Wtf8Buf<A>,
@@ -375,20 +374,20 @@ fn expect_shrunk<A: Allocator>(
     expect_dump(alloc, text.as_wtf8(), FULL)
 }
 
-/// Whether nothing is left of the room of an emptied string.
+/// Clears and shrinks a string, and returns whether its capacity is then 0.
 fn is_released<A: Allocator>(text: &mut Wtf8Buf<A>) -> bool {
     text.clear();
     text.shrink_to_fit();
     text.capacity() == 0 && text.is_empty()
 }
 
-/// Fails unless spare room is given back as it has to be.
+/// Fails unless `shrink_to_fit` releases the spare capacity if memory is granted, and all capacity of an empty string.
 fn expect_given_back(
     alloc: Global,
     heap: Lent<'_>,
     text: &mut Wtf8Buf<Lent<'_>>,
 ) -> Result<(), Fail> {
-    // Where the smaller block is refused all stays, then the capacity is the length, and of nothing nothing is left.
+    // If the smaller block is refused, the capacity stays. Else it is the length, and an empty string keeps none.
     for (granted, capacity) in [(0, 100), (1, 4), (1, 4)] {
         heap.grant(granted);
         expect_shrunk(alloc, text, capacity)?;
@@ -400,7 +399,7 @@ fn expect_given_back(
     Ok(())
 }
 
-/// The same of a string with room for a hundred bytes.
+/// Fails unless a string with a capacity of 100 bytes releases what it does not need, if memory is granted.
 fn expect_hundred_given_back(alloc: Global, heap: Lent<'_>) -> Result<(), Fail> {
     let mut text = Wtf8Buf::with_capacity(heap, 100)?;
     fill(&mut text)?;
@@ -413,7 +412,7 @@ fn spare_room_is_given_back(rt: HostRuntime) -> Result<(), Fail> {
     expect_hundred_given_back(rt.alloc(), &heap)
 }
 
-/// Appends so many letters.
+/// Appends `length` times "a".
 fn push_letters(text: &mut Wtf8Buf<Global>, length: usize) -> Result<(), AllocError> {
     for _ in 0..length {
         text.push_char('a')?;
@@ -421,7 +420,7 @@ fn push_letters(text: &mut Wtf8Buf<Global>, length: usize) -> Result<(), AllocEr
     Ok(())
 }
 
-/// The capacity of a string of so many letters once its spare room is given back.
+/// The capacity of a string of `length` bytes after `shrink_to_fit`.
 fn shrunk_capacity(alloc: Global, length: usize) -> Result<usize, AllocError> {
     let mut text = Wtf8Buf::with_capacity(alloc, 100)?;
     push_letters(&mut text, length)?;

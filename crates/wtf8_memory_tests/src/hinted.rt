@@ -1,4 +1,4 @@
-// Iterators whose lower hint is false, or whose upper hint is far above it.
+// Iterators whose lower size hint is wrong, or whose upper one is far above it.
 use refusing::{REFUSALS, Refusing};
 use std::alloc::{AllocError, Allocator, Global};
 use std::cell::Cell;
@@ -8,8 +8,8 @@ use wtf8_tests::examples::{expect_dump, expect_units, point_of_unit, pushed};
 
 type Lent<'a> = &'a Refusing<Global>;
 
-/// A code point again and again, with hints of the test's choice, of which the lower one may be false. It counts the items
-/// that were taken.
+/// Yields a code point `left` times, with size hints that the test chooses, of which the lower one may be wrong. Counts
+/// the items that are taken.
 #[derive(Drop)]
 struct Hinted<'a> {
     point: CodePoint,
@@ -37,7 +37,7 @@ impl<'a> Iterator for Hinted<'a> {
     }
 
     fn size_hint(&self) -> (usize, Option<usize>) {
-        // An upper hint is true: the items that are left are no more.
+        // The upper hint is correct: it is at least the number of items left.
         let most = self.hint.checked_add(self.left as usize);
         match (most, self.upper) {
             (Some(most), Some(upper)) => (self.hint, Some(most.max(upper))),
@@ -46,7 +46,7 @@ impl<'a> Iterator for Hinted<'a> {
     }
 }
 
-/// So many times U+DCA9, with that lower hint.
+/// U+DCA9, `left` times, with the lower size hint `hint` and no upper one.
 fn trails(left: u32, hint: usize, taken: &Cell<u32>) -> Hinted<'_> {
     let point = point_of_unit(0xDCA9);
     Hinted {
@@ -58,7 +58,7 @@ fn trails(left: u32, hint: usize, taken: &Cell<u32>) -> Hinted<'_> {
     }
 }
 
-/// So many times U+DCA9 as a unit, behind D83D or alone.
+/// The unit D83D if `has_lead`, then `left` times DCA9.
 fn expected_units(alloc: Global, left: u32, has_lead: bool) -> Result<Vec<u16>, AllocError> {
     let mut units = Vec::new(alloc);
     if has_lead {
@@ -70,19 +70,19 @@ fn expected_units(alloc: Global, left: u32, has_lead: bool) -> Result<Vec<u16>, 
     Ok(units)
 }
 
-/// Fails unless the string has so many trails, behind a lead or alone.
+/// Fails unless the string has `left` times the unit DCA9, after a lead if `has_lead`.
 fn expect_trails(alloc: Global, text: Wtf8<'_>, left: u32, has_lead: bool) -> Result<(), Fail> {
     let expected = expected_units(alloc, left, has_lead)?;
     expect_units(alloc, text, &expected)
 }
 
-/// Fails unless a string is made of all items, whatever the lower hint.
+/// Fails unless `from_iter` takes all items, whatever the lower hint.
 fn expect_made(alloc: Global, left: u32, hint: usize, taken: &Cell<u32>) -> Result<(), Fail> {
     let text = Wtf8Buf::from_iter(alloc, trails(left, hint, taken))?;
     expect_trails(alloc, text.as_wtf8(), left, false)
 }
 
-/// Fails unless a lead is extended by all items, whatever the lower hint.
+/// Fails unless `extend` appends all items to a lead surrogate, whatever the lower hint.
 fn expect_extended(alloc: Global, left: u32, hint: usize, taken: &Cell<u32>) -> Result<(), Fail> {
     let mut text = pushed(alloc, &[0xD83D])?;
     text.extend(trails(left, hint, taken))?;
@@ -101,7 +101,7 @@ fn a_lower_hint_may_be_false(rt: HostRuntime) -> Result<(), Fail> {
     Ok(())
 }
 
-/// Whether a string is extended by so many items.
+/// Whether extending a string by `left` items, with the lower hint `hint`, succeeds.
 fn is_extended<A: Allocator>(
     text: &mut Wtf8Buf<A>,
     left: u32,
@@ -111,7 +111,7 @@ fn is_extended<A: Allocator>(
     text.extend(trails(left, hint, taken)).is_ok()
 }
 
-/// Fails unless room for the lower hint is found by the one request that is granted.
+/// Fails unless a lower hint of 50 is reserved by the one request that is granted.
 fn expect_found(
     heap: Lent<'_>,
     text: &mut Wtf8Buf<Lent<'_>>,
@@ -123,7 +123,7 @@ fn expect_found(
     Ok(())
 }
 
-/// Fails unless the next request is refused before an item is taken.
+/// Fails unless the next request, for a lower hint of 51, is refused before an item is taken.
 fn expect_refused(
     heap: Lent<'_>,
     text: &mut Wtf8Buf<Lent<'_>>,
@@ -135,7 +135,7 @@ fn expect_refused(
     Ok(())
 }
 
-/// Fails unless room for the lower hint is found first, and what is refused leaves nothing.
+/// Fails unless room for the lower hint is reserved first, and a refusal leaves the string empty.
 fn expect_found_first(alloc: Global, heap: Lent<'_>, taken: &Cell<u32>) -> Result<(), Fail> {
     let mut text = Wtf8Buf::new(heap);
     expect_found(heap, &mut text, taken)?;
@@ -154,8 +154,8 @@ fn room_for_the_lower_hint_is_found_first(rt: HostRuntime) -> Result<(), Fail> {
     Ok(())
 }
 
-/// So many times U+DCA9, with that lower hint and an upper one, how many requests they make, and for how many bytes
-/// altogether: room for the lower hint, and then twice as much each time.
+/// The number of items U+DCA9, their lower and upper hints, and the number of requests and bytes that they make: for
+/// the lower hint, then for at least eight bytes and twice the capacity each time.
 type Upper = (u32, usize, usize, u64, usize);
 
 fn upper_rows() -> [Upper; 6] {
@@ -169,7 +169,7 @@ fn upper_rows() -> [Upper; 6] {
     ]
 }
 
-/// The length of a string that is made of so many items with an upper hint.
+/// The length in bytes of a string made of the items of a row.
 fn len_of_made<A: Allocator + Drop>(
     heap: A,
     row: Upper,
@@ -182,7 +182,7 @@ fn len_of_made<A: Allocator + Drop>(
     Ok(text.len())
 }
 
-/// The length of a string that is extended by so many items with an upper hint.
+/// The length in bytes of an empty string that is extended by the items of a row.
 fn len_of_extended<A: Allocator + Drop>(
     heap: A,
     row: Upper,
@@ -196,7 +196,7 @@ fn len_of_extended<A: Allocator + Drop>(
     Ok(text.len())
 }
 
-/// Fails unless all items were taken, into so many bytes and by the requests of the row.
+/// Fails unless all items of the row were taken, three bytes each, with its requests and bytes.
 fn expect_upper(heap: Lent<'_>, row: Upper, len: usize, taken: &Cell<u32>) -> Result<(), Fail> {
     let (left, _, upper, requests, bytes) = row;
     let are_taken = taken.take() == left && len == left as usize * 3;
@@ -221,7 +221,7 @@ fn no_room_is_found_for_the_upper_hint(rt: HostRuntime) -> Result<(), Fail> {
     Ok(())
 }
 
-/// Whether room for the greatest lower hint is refused, to a string and to a new one.
+/// Whether a lower hint of `usize::MAX` is refused both by `extend` and by `from_iter`.
 fn are_refused(alloc: Global, text: &mut Wtf8Buf<Global>, taken: &Cell<u32>) -> bool {
     let is_extended = text.extend(trails(2, usize::MAX, taken)).is_ok();
     let is_made = Wtf8Buf::from_iter(alloc, trails(2, usize::MAX, taken)).is_ok();

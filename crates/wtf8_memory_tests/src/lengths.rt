@@ -1,5 +1,5 @@
-// Calls that ask for memory, on strings of each length: each is done where all its requests are granted, asks for the bytes
-// that it tells, and answers each request that is refused.
+// Calls that request memory, on strings of each length: each succeeds if all its requests are granted, requests the
+// expected number of bytes, and fails at each request that is refused.
 use refusing::{REFUSALS, Refusing};
 use std::alloc::{AllocError, Allocator, Global};
 use std::test::Fail;
@@ -8,7 +8,7 @@ use wtf8_tests::examples::{point_of_unit, points_of_units};
 
 type Lent<'a> = &'a Refusing<Global>;
 
-/// Eight units, which come again and again in a string: of one kind alone, or mixed, with no lone surrogate and with some.
+/// Eight units that repeat in a string: of one kind alone, or mixed, without lone surrogates and with some.
 const KINDS: [[u16; 8]; 8] = [
     [0x0061; 8],
     [0x00E9; 8],
@@ -26,17 +26,17 @@ const KINDS: [[u16; 8]; 8] = [
     ],
 ];
 
-/// Lengths beyond those that are tried one by one.
+/// Lengths in units above the range in which each length is tried.
 const LONG: [usize; 4] = [1000, 5000, 20_000, 70_000];
 
-/// A unit and lengths at which strings of it have about 4,096 bytes and about 65,536.
+/// A unit, and lengths in units at which a string of it has about 4,096 or 65,536 bytes.
 const ABOUT_POWERS: [(u16, &[usize]); 3] = [
     (0x0061, &[4095, 4096, 4097, 65_535, 65_536, 65_537]),
     (0x00E9, &[2047, 2048, 2049, 32_767, 32_768, 32_769]),
     (0x3042, &[1365, 1366, 21_845, 21_846]),
 ];
 
-/// A string with more room than it needs, and the units and the code points that it is made of.
+/// A string with spare capacity, and the units and the code points that it is made of.
 #[derive(Drop)]
 struct Sample<A: Allocator> {
     units: Vec<u16>,
@@ -44,7 +44,7 @@ struct Sample<A: Allocator> {
     text: Wtf8Buf<A>,
 }
 
-/// So many units of a kind.
+/// `length` units that repeat `kind`.
 fn units_of(alloc: Global, kind: &[u16; 8], length: usize) -> Result<Vec<u16>, AllocError> {
     let mut units = Vec::new(alloc);
     for at in 0..length {
@@ -53,7 +53,7 @@ fn units_of(alloc: Global, kind: &[u16; 8], length: usize) -> Result<Vec<u16>, A
     Ok(units)
 }
 
-/// The string of these units, with more room than it needs.
+/// The string of these units, with 64 more bytes reserved.
 fn text_of<A: Allocator + Drop>(heap: A, units: &[u16]) -> Result<Wtf8Buf<A>, AllocError> {
     let mut text = Wtf8Buf::from_ill_formed_utf16(heap, units)?;
     text.reserve(64)?;
@@ -75,7 +75,7 @@ fn sample_with<A: Allocator + Drop>(
     })
 }
 
-/// The string of so many units of a kind.
+/// The sample of `length` units that repeat `kind`.
 fn sample_of<'a>(
     alloc: Global,
     heap: Lent<'a>,
@@ -87,7 +87,7 @@ fn sample_of<'a>(
     sample_with(alloc, heap, units)
 }
 
-/// A call that asks for memory.
+/// A call that requests memory.
 #[derive(Clone, Copy, Debug)]
 enum Call {
     WithCapacity,
@@ -131,7 +131,7 @@ const CALLS: [Call; 18] = [
     Call::AppendUnitsTwice,
 ];
 
-/// Pushes code points one after another.
+/// Pushes code points one by one.
 fn push_each<A: Allocator>(text: &mut Wtf8Buf<A>, points: &[CodePoint]) -> Result<(), AllocError> {
     for point in points {
         text.push(*point)?;
@@ -139,13 +139,13 @@ fn push_each<A: Allocator>(text: &mut Wtf8Buf<A>, points: &[CodePoint]) -> Resul
     Ok(())
 }
 
-/// Appends the sample behind a lead surrogate.
+/// Appends a lead surrogate, then the string of the sample.
 fn join<A: Allocator>(text: &mut Wtf8Buf<A>, sample: &Sample<A>) -> Result<(), AllocError> {
     text.push(point_of_unit(0xD83D))?;
     text.push_wtf8(sample.text.as_wtf8())
 }
 
-/// Whether a list of calls that appends the sample twice is applied.
+/// Whether a list of calls that appends the sample as a view, then as code points, is applied.
 fn is_applied<A: Allocator>(text: &mut Wtf8Buf<A>, sample: &Sample<A>) -> bool {
     let calls = [
         Build::PushWtf8(sample.text.as_wtf8()),
@@ -154,7 +154,7 @@ fn is_applied<A: Allocator>(text: &mut Wtf8Buf<A>, sample: &Sample<A>) -> bool {
     text.apply_all(&calls).is_ok()
 }
 
-/// Whether the call on an empty string is done.
+/// Whether the call on an empty string succeeds.
 fn appends<A: Allocator + Drop>(heap: A, call: Call, sample: &Sample<A>) -> bool {
     let mut text = Wtf8Buf::new(heap);
     let view = sample.text.as_wtf8();
@@ -170,13 +170,13 @@ fn appends<A: Allocator + Drop>(heap: A, call: Call, sample: &Sample<A>) -> bool
     }
 }
 
-/// Appends the units to a list, and once more behind them.
+/// Appends the units of a view to a vector twice.
 fn append_twice<A: Allocator>(units: &mut Vec<u16, A>, view: Wtf8<'_>) -> Result<(), AllocError> {
     view.append_units(units)?;
     view.append_units(units)
 }
 
-/// Whether a call that makes a string is done.
+/// Whether a call that makes a string succeeds.
 fn makes<A: Allocator + Drop + Copy>(heap: A, call: Call, sample: &Sample<A>) -> bool {
     let view = sample.text.as_wtf8();
     match call {
@@ -188,7 +188,7 @@ fn makes<A: Allocator + Drop + Copy>(heap: A, call: Call, sample: &Sample<A>) ->
     }
 }
 
-/// Whether a call that writes a text or the units is done.
+/// Whether a call that writes a text or the units succeeds.
 fn writes<A: Allocator + Drop + Copy>(heap: A, call: Call, view: Wtf8<'_>) -> bool {
     match call {
         Call::ToStringLossy => view.to_string_lossy(heap).is_ok(),
@@ -199,7 +199,7 @@ fn writes<A: Allocator + Drop + Copy>(heap: A, call: Call, view: Wtf8<'_>) -> bo
     }
 }
 
-/// Whether the call is done.
+/// Whether the call succeeds.
 fn is_done<A: Allocator + Drop + Copy>(heap: A, call: Call, sample: &Sample<A>) -> bool {
     match call {
         Call::WithCapacity | Call::FromStr | Call::FromUnits | Call::FromIter | Call::Clone => {
@@ -214,8 +214,8 @@ fn is_done<A: Allocator + Drop + Copy>(heap: A, call: Call, sample: &Sample<A>) 
     }
 }
 
-/// What a string asks for, worked out by itself: how many bytes it has and has room for, how many requests were made and
-/// for how many bytes. A growth is to eight bytes at least, to twice the room or to what is wanted, whichever is more.
+/// A model of the memory of a growing string: its length and capacity in bytes, and the number of requests and of the
+/// bytes in them. It grows to the greatest of eight bytes, twice its capacity and what is needed.
 #[derive(Clone, Copy)]
 struct Room {
     len: usize,
@@ -232,7 +232,7 @@ const NO_ROOM: Room = Room {
 };
 
 impl Room {
-    /// Finds room for so many bytes more.
+    /// Reserves `additional` more bytes.
     fn reserve(&mut self, additional: usize) {
         let wanted = self.len.saturating_add(additional);
         if wanted <= self.capacity {
@@ -243,13 +243,13 @@ impl Room {
         self.bytes = self.bytes.wrapping_add(self.capacity);
     }
 
-    /// Appends so many bytes at once.
+    /// Appends `count` bytes at once.
     fn append(&mut self, count: usize) {
         self.reserve(count);
         self.len = self.len.wrapping_add(count);
     }
 
-    /// Appends units one after another behind a unit. A trail behind a lead adds one byte to the lead's three.
+    /// Pushes units one by one after the unit `before`. A trail after a lead adds one byte to the lead's three.
     fn push_each(&mut self, before: u16, units: &[u16]) {
         let mut last = before;
         for unit in units {
@@ -264,7 +264,7 @@ impl Room {
     }
 }
 
-/// The room of a string that takes the sample behind so many bytes, which end with a lead or with nothing.
+/// The memory of a string of `len` bytes, empty or with a lead at its end, to which the sample is appended as a view.
 fn room_behind<A: Allocator>(len: usize, sample: &Sample<A>) -> Room {
     let mut room = NO_ROOM;
     room.append(len);
@@ -282,7 +282,7 @@ fn room_behind<A: Allocator>(len: usize, sample: &Sample<A>) -> Room {
     room
 }
 
-/// The room of a string that finds room for as many bytes as there are units, and then takes them one after another.
+/// `room` after an extension by the sample, which reserves a byte for each unit and then pushes them one by one.
 fn room_extended<A: Allocator>(mut room: Room, sample: &Sample<A>) -> Room {
     let before = if room.len == 0 {
         None
@@ -294,14 +294,14 @@ fn room_extended<A: Allocator>(mut room: Room, sample: &Sample<A>) -> Room {
     room
 }
 
-/// The room of a string that takes the units one after another.
+/// The memory of a string to which the units are pushed one by one.
 fn room_pushed<A: Allocator>(sample: &Sample<A>) -> Room {
     let mut room = NO_ROOM;
     room.push_each(0, &sample.units);
     room
 }
 
-/// The room of so many bytes that are asked for at once, or of none.
+/// The memory of `count` bytes that are requested at once; no request if `count` is 0.
 fn room_of(count: usize) -> Room {
     Room {
         len: count,
@@ -311,21 +311,21 @@ fn room_of(count: usize) -> Room {
     }
 }
 
-/// The room of so many bytes that are appended to nothing.
+/// The memory of `count` bytes appended to an empty vector.
 fn room_appended(count: usize) -> Room {
     let mut room = NO_ROOM;
     room.append(count);
     room
 }
 
-/// The room of so many bytes that are appended to nothing, and of as many behind them.
+/// The memory of `count` bytes appended to an empty vector twice.
 fn room_appended_twice(count: usize) -> Room {
     let mut room = room_appended(count);
     room.append(count);
     room
 }
 
-/// What a call asks for, where that does not depend on how units are taken in blocks.
+/// The memory that a call requests, or `None` if that depends on the blocks in which units are encoded.
 fn room_after<A: Allocator>(call: Call, sample: &Sample<A>) -> Option<Room> {
     let view = sample.text.as_wtf8();
     let (len, text) = (view.len(), view.as_str());
@@ -352,8 +352,8 @@ fn room_after<A: Allocator>(call: Call, sample: &Sample<A>) -> Option<Room> {
     }
 }
 
-/// Whether a string of units asked for no more than it may: at first for as many bytes as there are units, and then for two
-/// growths at most, the first to three bytes a unit at most.
+/// Whether a string made of units requested no more than it may: one byte for each unit at first, then at most two
+/// growths, the first to at most three bytes for each unit, or eight.
 fn is_within<A: Allocator>(sample: &Sample<A>, requests: u64, bytes: usize) -> bool {
     let count = sample.units.len();
     let first = count.saturating_mul(3).max(8);
@@ -364,8 +364,8 @@ fn is_within<A: Allocator>(sample: &Sample<A>, requests: u64, bytes: usize) -> b
                 .saturating_add(first.saturating_mul(2))
 }
 
-/// Fails unless the call is done where all is granted, with the requests that it needs and for the bytes that it needs. It
-/// answers how many requests the call makes.
+/// Fails unless the call succeeds if all is granted, with the expected number of requests and of bytes. Returns the
+/// number of requests.
 fn expect_granted<'a>(heap: Lent<'a>, call: Call, sample: &Sample<Lent<'a>>) -> Result<u64, Fail> {
     heap.grant(u64::MAX);
     let length = sample.units.len();
@@ -383,7 +383,7 @@ fn expect_granted<'a>(heap: Lent<'a>, call: Call, sample: &Sample<Lent<'a>>) -> 
     Ok(requests)
 }
 
-/// Fails unless each request of the call that is refused, for good or alone, is the call's last one, and its answer.
+/// Refuses each request of the call in turn, for good and once. Fails unless the call fails and makes no more requests.
 fn expect_refused<'a>(
     heap: Lent<'a>,
     call: Call,
@@ -403,7 +403,7 @@ fn expect_refused<'a>(
     Ok(())
 }
 
-/// Fails unless each call is done on a sample.
+/// Fails unless each call on a sample succeeds if all is granted, with the expected number of requests and of bytes.
 fn expect_calls<'a>(heap: Lent<'a>, sample: &Sample<Lent<'a>>) -> Result<(), Fail> {
     for call in CALLS {
         expect_granted(heap, call, sample)?;
@@ -411,7 +411,7 @@ fn expect_calls<'a>(heap: Lent<'a>, sample: &Sample<Lent<'a>>) -> Result<(), Fai
     Ok(())
 }
 
-/// Fails unless each call is done on a string of so many units of a kind.
+/// Fails unless each call succeeds on `length` units that repeat `kind`, with the expected requests and bytes.
 fn expect_done(alloc: Global, heap: Lent<'_>, kind: &[u16; 8], length: usize) -> Result<(), Fail> {
     let sample = sample_of(alloc, heap, kind, length)?;
     expect_calls(heap, &sample)
@@ -442,7 +442,7 @@ fn each_call_is_done_about_powers_of_two(rt: HostRuntime) -> Result<(), Fail> {
     Ok(())
 }
 
-/// Fails unless each call answers each refusal on a sample.
+/// Fails unless each call on a sample fails at each request that is refused.
 fn expect_refusals<'a>(heap: Lent<'a>, sample: &Sample<Lent<'a>>) -> Result<(), Fail> {
     for call in CALLS {
         let requests = expect_granted(heap, call, sample)?;
@@ -451,7 +451,7 @@ fn expect_refusals<'a>(heap: Lent<'a>, sample: &Sample<Lent<'a>>) -> Result<(), 
     Ok(())
 }
 
-/// Fails unless each call answers each refusal on a string of so many units of a kind.
+/// Fails unless each call on `length` units that repeat `kind` fails at each request that is refused.
 fn expect_answers(
     alloc: Global,
     heap: Lent<'_>,
@@ -462,7 +462,7 @@ fn expect_answers(
     expect_refusals(heap, &sample)
 }
 
-/// The lengths at which each refusal is tried.
+/// The lengths in units at which each request is refused in turn.
 const REFUSED: [usize; 15] = [0, 1, 2, 3, 8, 15, 16, 17, 31, 32, 33, 64, 100, 300, 1000];
 
 #[test]

@@ -1,4 +1,4 @@
-// Tests of what the public calls of `wtf8` ask for, of what they leave where memory is refused, and of lists of calls.
+// Tests of the memory that public calls of `wtf8` request, what they leave if it is refused, and lists of calls.
 #![tactic(auto)]
 
 #[cfg(test)]

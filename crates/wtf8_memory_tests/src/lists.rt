@@ -1,4 +1,4 @@
-// Lists of building calls that are stopped by want of memory.
+// Lists of building calls that stop at a refused request for memory.
 use refusing::{REFUSALS, Refusal, Refusing};
 use std::alloc::{AllocError, Allocator, Global};
 use std::test::Fail;
@@ -7,7 +7,7 @@ use wtf8_tests::examples::{expect_dump, point_of_unit, pushed};
 
 type Lent<'a> = &'a Refusing<Global>;
 
-/// Does a call by its name, a truncation where the position is a boundary or where there are so many units.
+/// Makes a call by the method of its name; a truncation only at a boundary, or to a number of units that are there.
 fn call_named(text: &mut Wtf8Buf<Global>, call: Build<'_>) -> Result<(), AllocError> {
     match call {
         Build::Push(code_point) => text.push(code_point),
@@ -31,7 +31,7 @@ fn call_named(text: &mut Wtf8Buf<Global>, call: Build<'_>) -> Result<(), AllocEr
     }
 }
 
-/// The string that one call after the other leaves, each by its name.
+/// The string that the calls build, each made by the method of its name.
 fn folded(alloc: Global, calls: &[Build<'_>]) -> Result<Wtf8Buf<Global>, AllocError> {
     let mut text = Wtf8Buf::new(alloc);
     for call in calls {
@@ -40,8 +40,8 @@ fn folded(alloc: Global, calls: &[Build<'_>]) -> Result<Wtf8Buf<Global>, AllocEr
     Ok(text)
 }
 
-/// So many granted requests stop the list before this call, which holds so many code points of its extension, and leave
-/// these bytes.
+/// With `granted` requests granted, a list stops at call `done`, of which `taken` code points are appended if it is an
+/// extension, and leaves the bytes of `dump`.
 #[derive(Clone, Copy)]
 struct Stop {
     granted: u64,
@@ -50,8 +50,8 @@ struct Stop {
     dump: &'static str,
 }
 
-/// The list of the test below makes four requests: for the first point, which finds room for eight bytes, for the
-/// character, for the second point of the extension, and for the room of 30 bytes.
+/// `every_call` makes four requests for memory: for the first push, which grows to eight bytes, for the character, for
+/// the second code point of the extension, and for the reserved 30 bytes.
 fn stops() -> [Stop; 4] {
     [
         Stop {
@@ -81,7 +81,7 @@ fn stops() -> [Stop; 4] {
     ]
 }
 
-/// Appends the first points of an extension, so many of them.
+/// Appends the first `taken` code points of the call, if it is an extension.
 fn extend_by(
     text: &mut Wtf8Buf<Global>,
     call: Option<&Build<'_>>,
@@ -93,14 +93,14 @@ fn extend_by(
     Ok(())
 }
 
-/// Fails unless the calls before the stop, and the points of the extension that were taken, leave the bytes of the stop.
+/// Fails unless the calls before the stop, made by name, and the code points taken of an extension build `stop.dump`.
 fn expect_before(alloc: Global, calls: &[Build<'_>], stop: Stop) -> Result<(), Fail> {
     let mut before = folded(alloc, calls.get(..stop.done).ok_or("calls")?)?;
     extend_by(&mut before, calls.get(stop.done), stop.taken)?;
     expect_dump(alloc, before.as_wtf8(), stop.dump)
 }
 
-/// Whether a list is stopped at the call behind so many.
+/// Whether `apply_all` stops at the call with index `done`.
 fn is_stopped<A: Allocator>(text: &mut Wtf8Buf<A>, calls: &[Build<'_>], done: usize) -> bool {
     match text.apply_all(calls) {
         Ok(_) => false,
@@ -108,7 +108,7 @@ fn is_stopped<A: Allocator>(text: &mut Wtf8Buf<A>, calls: &[Build<'_>], done: us
     }
 }
 
-/// Fails unless the list is stopped there by its last request, and leaves the bytes of the stop.
+/// Fails unless the list stops at call `stop.done` with its first refused request, and leaves the bytes of `stop.dump`.
 fn expect_stop(
     alloc: Global,
     heap: Lent<'_>,
@@ -124,7 +124,7 @@ fn expect_stop(
     expect_dump(alloc, text.as_wtf8(), stop.dump)
 }
 
-/// Fails unless the list is stopped at each of its requests.
+/// Fails unless the list stops at each of its requests, refused for good or once, with the bytes of the calls before.
 fn expect_stops(alloc: Global, heap: Lent<'_>, calls: &[Build<'_>]) -> Result<(), Fail> {
     for stop in stops() {
         expect_before(alloc, calls, stop)?;
@@ -135,7 +135,7 @@ fn expect_stops(alloc: Global, heap: Lent<'_>, calls: &[Build<'_>]) -> Result<()
     Ok(())
 }
 
-/// Whether a list is applied, and so many of its truncations are refused.
+/// Whether a list is applied to its end, with `refused` of its truncations refused.
 fn is_applied<A: Allocator>(text: &mut Wtf8Buf<A>, calls: &[Build<'_>], refused: usize) -> bool {
     match text.apply_all(calls) {
         Ok(found) => found == refused,
@@ -143,8 +143,8 @@ fn is_applied<A: Allocator>(text: &mut Wtf8Buf<A>, calls: &[Build<'_>], refused:
     }
 }
 
-/// Fails unless the list makes four requests where all are granted, three of its truncations are refused, and it builds a
-/// string of these bytes.
+/// Fails unless the list makes four requests if all are granted, three of its truncations are refused, and it builds
+/// the bytes of `dump`.
 fn expect_applied(
     alloc: Global,
     heap: Lent<'_>,
@@ -159,13 +159,13 @@ fn expect_applied(
     expect_dump(alloc, text.as_wtf8(), dump)
 }
 
-/// Fails unless the calls, each by its name, build a string of these bytes.
+/// Fails unless the calls, each made by the method of its name, build the bytes of `dump`.
 fn expect_folded(alloc: Global, calls: &[Build<'_>], dump: &str) -> Result<(), Fail> {
     let ample = folded(alloc, calls)?;
     expect_dump(alloc, ample.as_wtf8(), dump)
 }
 
-/// A list of calls of each kind, by a string that begins with a trail and by some points.
+/// A list with each kind of call. `joining` begins with a trail surrogate; `points` is the extension.
 fn every_call<'a>(joining: Wtf8<'a>, points: &'a [CodePoint]) -> [Build<'a>; 13] {
     [
         Build::Push(point_of_unit(0xD83D)),
@@ -184,7 +184,7 @@ fn every_call<'a>(joining: Wtf8<'a>, points: &'a [CodePoint]) -> [Build<'a>; 13]
     ]
 }
 
-/// Fails unless the list is stopped at each of its requests, and applied where all are granted.
+/// Fails unless the list of `every_call` stops at each request that is refused, and is applied if all are granted.
 fn expect_every_call(alloc: Global, heap: Lent<'_>, joining: Wtf8<'_>) -> Result<(), Fail> {
     let points = [point_of_unit(0x0800); 3];
     let calls = every_call(joining, &points);
@@ -200,13 +200,13 @@ fn a_list_of_every_call_stops_at_each_request(rt: HostRuntime) -> Result<(), Fai
     expect_every_call(rt.alloc(), &heap, joining.as_wtf8())
 }
 
-/// Appends "a" and D83D.
+/// Appends "a" and the lead surrogate D83D.
 fn fill<A: Allocator>(text: &mut Wtf8Buf<A>) -> Result<(), AllocError> {
     text.push_char('a')?;
     text.push(point_of_unit(0xD83D))
 }
 
-/// Whether a list is stopped at its first push that asks for memory, where that is refused.
+/// Whether a list stops at its first push, which makes its only request, if that is refused.
 fn is_push_refused(heap: Lent<'_>, text: &mut Wtf8Buf<Lent<'_>>, refusal: Refusal) -> bool {
     let calls = [
         Build::Reserve(0),
@@ -217,7 +217,7 @@ fn is_push_refused(heap: Lent<'_>, text: &mut Wtf8Buf<Lent<'_>>, refusal: Refusa
     is_stopped(text, &calls, 1) && heap.requests() == 1
 }
 
-/// Fails unless a list stops at a refused push, and leaves what was there.
+/// Fails unless a list stops at a refused push and leaves "a" and D83D.
 fn expect_push_refused(
     alloc: Global,
     heap: Lent<'_>,
@@ -232,7 +232,7 @@ fn expect_push_refused(
     Ok(())
 }
 
-/// The same of a string that has no room left.
+/// Fails unless a list stops at a refused push, on a string without spare capacity, and leaves that unchanged.
 fn expect_push_refused_where_full(alloc: Global, heap: Lent<'_>) -> Result<(), Fail> {
     let mut text = Wtf8Buf::with_capacity(heap, 4)?;
     fill(&mut text)?;
@@ -245,7 +245,7 @@ fn a_list_stops_at_the_refused_push(rt: HostRuntime) -> Result<(), Fail> {
     expect_push_refused_where_full(rt.alloc(), &heap)
 }
 
-/// Fails unless an extension by more points than there is room for is stopped, and holds those that there was room for.
+/// Fails unless an extension that needs more than the capacity stops, with the code points appended that fit.
 fn expect_part<A: Allocator>(text: &mut Wtf8Buf<A>, points: &[CodePoint]) -> Result<(), Fail> {
     if !is_stopped(text, &[Build::Extend(points)], 0) {
         return Err(Fail::new("not stopped at the extension"));
@@ -260,7 +260,7 @@ fn expect_part<A: Allocator>(text: &mut Wtf8Buf<A>, points: &[CodePoint]) -> Res
     Ok(())
 }
 
-/// The same of a string with room for at least four bytes.
+/// Fails unless an extension of a string of small capacity stops, with the code points appended that fit.
 fn expect_extension_stopped(alloc: Global, heap: Lent<'_>) -> Result<(), Fail> {
     let mut text = Wtf8Buf::with_capacity(heap, 4)?;
     let points: Vec<CodePoint> = vec![in alloc; point_of_unit(0x0800); text.capacity()]?;

@@ -1,5 +1,5 @@
-// Calls that make a string or a text: how many requests each makes, and that it answers want of memory where one of them
-// is refused.
+// Calls that make a string or a text: the requests for memory that each makes, and that it fails if one of them is
+// refused.
 use refusing::{REFUSALS, Refusing};
 use std::alloc::{AllocError, Allocator, Global};
 use std::test::Fail;
@@ -8,7 +8,7 @@ use wtf8_tests::examples::{expect_dump, joined, points_of_units};
 
 type Lent<'a> = &'a Refusing<Global>;
 
-/// A call that makes a string, or a text of the string that is there.
+/// A call that makes a string, or a text of an existing string.
 #[derive(Clone, Copy, Debug)]
 enum Making {
     WithCapacity,
@@ -20,11 +20,11 @@ enum Making {
     HexDump,
 }
 
-/// A call on these units or on as much room as there are, how many requests it makes, and for how many bytes altogether.
+/// A call, its units (for `WithCapacity` their number is the capacity), and the number of its requests and bytes.
 type Row = (Making, &'static [u16], u64, usize);
 
-/// What grows makes room for at least eight bytes at once, for twice as much as there was or for what is wanted, whichever
-/// is more, and a string of units begins with as many bytes as there are units.
+/// A growing string requests the greatest of eight bytes, twice its capacity and what is needed. A string made of units
+/// first reserves one byte for each unit.
 fn rows() -> [Row; 17] {
     [
         (Making::WithCapacity, &[0x0061], 1, 1),
@@ -62,7 +62,7 @@ fn is_granted<A: Allocator + Drop>(made: Result<Wtf8Buf<A>, AllocError>) -> bool
     made.is_ok()
 }
 
-/// Makes the call, and answers whether memory was granted.
+/// Makes the call and returns whether it succeeded.
 fn is_made<A: Allocator + Drop + Copy>(
     heap: A,
     text: &Wtf8Buf<A>,
@@ -81,7 +81,7 @@ fn is_made<A: Allocator + Drop + Copy>(
     }
 }
 
-/// Fails unless the call is done where all is granted, by the requests of the row and for its bytes.
+/// Fails unless the call succeeds if all is granted, with the requests and bytes of the row.
 fn expect_granted<'a>(
     heap: Lent<'a>,
     text: &Wtf8Buf<Lent<'a>>,
@@ -97,7 +97,7 @@ fn expect_granted<'a>(
     Ok(())
 }
 
-/// The same for the row's units as code points.
+/// Fails unless the row's call succeeds if all is granted, with the requests and bytes of the row.
 fn expect_row<'a>(
     alloc: Global,
     heap: Lent<'a>,
@@ -109,7 +109,7 @@ fn expect_row<'a>(
     expect_granted(heap, text, row, &points)
 }
 
-/// Fails unless each row is as it tells.
+/// Fails unless each row's call succeeds if all is granted, with the requests and bytes of the row.
 fn expect_rows(alloc: Global, heap: Lent<'_>) -> Result<(), Fail> {
     let text = joined(heap, &[0x0061, 0xD83D])?;
     for row in rows() {
@@ -124,7 +124,7 @@ fn a_making_call_makes_its_requests_and_no_other(rt: HostRuntime) -> Result<(), 
     expect_rows(rt.alloc(), &heap)
 }
 
-/// Fails unless the call ends at each request that is refused, for good or alone.
+/// Refuses each request of the call in turn, for good and once. Fails unless the call fails and makes no more requests.
 fn expect_refused<'a>(
     heap: Lent<'a>,
     text: &Wtf8Buf<Lent<'a>>,
@@ -145,7 +145,7 @@ fn expect_refused<'a>(
     Ok(())
 }
 
-/// Fails unless the row's call answers each refusal, and leaves the string.
+/// Fails unless the row's call fails at each refused request and leaves the string unchanged.
 fn expect_answers<'a>(
     alloc: Global,
     heap: Lent<'a>,
@@ -158,7 +158,7 @@ fn expect_answers<'a>(
     expect_dump(alloc, text.as_wtf8(), LEAD)
 }
 
-/// Fails unless each row's call does so.
+/// Fails unless each row's call fails at each refused request and leaves the string unchanged.
 fn expect_each_answers(alloc: Global, heap: Lent<'_>) -> Result<(), Fail> {
     let text = joined(heap, &[0x0061, 0xD83D])?;
     for row in rows() {
@@ -173,7 +173,7 @@ fn a_making_call_answers_each_refusal(rt: HostRuntime) -> Result<(), Fail> {
     expect_each_answers(rt.alloc(), &heap)
 }
 
-/// Appends so many letters.
+/// Appends `letters` times "a".
 fn push_letters<A: Allocator>(text: &mut Wtf8Buf<A>, letters: usize) -> Result<(), AllocError> {
     for _ in 0..letters {
         text.push_char('a')?;
@@ -187,7 +187,7 @@ fn cloned_capacity<A: Allocator + Drop + Copy>(text: &Wtf8Buf<A>) -> Result<usiz
     Ok(copy.capacity())
 }
 
-/// Fails unless a clone of a string of so many letters asks for these, and answers each refusal.
+/// Fails unless a clone of `text` requests just its `letters` bytes, at once, and fails if that is refused.
 fn expect_clone<'a>(heap: Lent<'a>, text: &Wtf8Buf<Lent<'a>>, letters: usize) -> Result<(), Fail> {
     heap.grant(9);
     let capacity = cloned_capacity(text)?;
@@ -198,8 +198,8 @@ fn expect_clone<'a>(heap: Lent<'a>, text: &Wtf8Buf<Lent<'a>>, letters: usize) ->
     expect_refused(heap, text, Making::Clone, &[], &[], requests)
 }
 
-/// Fails unless a clone of a string with more room than it needs asks once for its bytes alone, or not at all where it has
-/// none.
+/// Fails unless a clone of a string of `letters` bytes, with a capacity of at least 200, makes one request for its
+/// bytes alone, or none if it is empty.
 fn expect_cloned(heap: Lent<'_>, letters: usize) -> Result<(), Fail> {
     heap.grant(1);
     let mut text = Wtf8Buf::with_capacity(heap, 200)?;

@@ -1,4 +1,4 @@
-//! A string that is cut at a number of units, and put together again.
+//! Callers that append by code units, and that cut a string at a code unit and join the parts again.
 ghost use Rattle.std.specs.Prelude.{◌≡◌, [], ◌∷◌, ◌≤◌, length, IfOk, OnOk};
 ghost use Rattle.std.specs.Option.{option_to_list};
 ghost use Rattle.wtf8.specs.Appending.{AppendsUnits};
@@ -8,14 +8,14 @@ ghost use Rattle.wtf8.specs.View.{view_units};
 use std::alloc::{AllocError, Allocator};
 use wtf8::{CodePoint, UnitSlice, Wtf8, Wtf8Buf, laws};
 
-/// Appends one unit.
+/// Appends one code unit.
 pub fn push_unit<A: Allocator>(text: &mut Wtf8Buf<A>, unit: u16) -> Result<(), AllocError>
     ensures { OnOk result (AppendsUnits text.old (unit ∷ []) text.new) }
 {
     text.push(CodePoint::from_u32_unchecked(u32::from(unit)))
 }
 
-/// Appends the half of a pair, if there is one.
+/// Appends half of a surrogate pair, if there is one.
 fn push_half<A: Allocator>(text: &mut Wtf8Buf<A>, half: Option<u16>) -> Result<(), AllocError>
     ensures { OnOk result (AppendsUnits text.old (option_to_list half) text.new) }
 {
@@ -25,7 +25,7 @@ fn push_half<A: Allocator>(text: &mut Wtf8Buf<A>, half: Option<u16>) -> Result<(
     }
 }
 
-/// Appends what was cut out of a string by units.
+/// Appends a slice by code units.
 pub fn push_slice<A: Allocator>(
     text: &mut Wtf8Buf<A>,
     slice: UnitSlice<'_>,
@@ -37,8 +37,8 @@ pub fn push_slice<A: Allocator>(
     push_half(text, slice.lead)
 }
 
-/// A copy of a string that is cut at a number of units, also inside a pair, and to which the units from there on are
-/// appended again: it has the same units.
+/// Copies `text`, truncates the copy to `n` code units, also inside a surrogate pair, and appends the rest again. The
+/// result has the units of `text`.
 pub fn cut_at_units_and_joined<A: Allocator>(
     alloc: A,
     text: Wtf8<'_>,

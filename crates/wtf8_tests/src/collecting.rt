@@ -1,4 +1,4 @@
-// Strings that iterators of code points build.
+// Strings built from iterators of code points.
 use crate::examples::{
     TEXT, TEXT_DUMP, expect_dump, expect_units, joined, joining, point_of_unit, points_of_units,
     pushed,
@@ -17,7 +17,7 @@ fn collected_code_points_join(rt: HostRuntime) -> Result<(), Fail> {
     Ok(())
 }
 
-/// The string of some code points, extended by the others from a place on.
+/// The string collected from the first `at` code points and extended by the rest.
 fn extended(alloc: Global, points: &[CodePoint], at: usize) -> Result<Wtf8Buf<Global>, AllocError> {
     let mut text = Wtf8Buf::from_iter(alloc, points.iter().copied().take(at))?;
     text.extend(points.iter().copied().skip(at))?;
@@ -47,7 +47,7 @@ fn code_points_of_a_string_give_it_again(rt: HostRuntime) -> Result<(), Fail> {
     expect_dump(rt.alloc(), again.as_wtf8(), TEXT_DUMP)
 }
 
-/// Fails unless a string collected from one array of code points and extended by another has these bytes.
+/// Fails unless a string collected from one array of code points and extended by another has the bytes of `dump`.
 fn expect_extended(
     alloc: Global,
     collected: [CodePoint; 2],

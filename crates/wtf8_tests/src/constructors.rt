@@ -1,16 +1,16 @@
-// Strings that are made of texts and of units.
+// Strings made from texts and from code units.
 use crate::examples::{TEXT, TEXT_DUMP, expect_dump, expect_units, joining, pushed};
 use std::alloc::{AllocError, Global};
 use std::test::Fail;
 use wtf8::{Wtf8, Wtf8Buf};
 
-/// Fails unless a copy of a text has these bytes.
+/// Fails unless a copy of `text` has the bytes of `dump`.
 fn expect_copied(alloc: Global, text: &str, dump: &str) -> Result<(), Fail> {
     let copied = Wtf8Buf::from_str(alloc, text)?;
     expect_dump(alloc, copied.as_wtf8(), dump)
 }
 
-/// Fails unless a string that keeps a text of its own has these bytes.
+/// Fails unless a string converted from a `String` of `text` has the bytes of `dump`.
 fn expect_kept(alloc: Global, text: &str, dump: &str) -> Result<(), Fail> {
     let kept = Wtf8Buf::from_string(String::from_str(alloc, text)?);
     expect_dump(alloc, kept.as_wtf8(), dump)
@@ -34,18 +34,18 @@ fn a_view_of_a_string_equals_the_view_of_its_text(rt: HostRuntime) -> Result<(),
     Ok(())
 }
 
-/// The code points of the text with a lead surrogate behind them, and their bytes.
+/// The code points of `TEXT` followed by a lead surrogate; `WITH_LEAD_DUMP` is their bytes.
 const WITH_LEAD: [u32; 5] = [0x61, 0xE9, 0x20, 0x1F4A9, 0xD800];
 
 const WITH_LEAD_DUMP: &str = "61 C3 A9 20 F0 9F 92 A9 ED A0 80";
 
-/// Appends the text, and reserves room for so many bytes behind it.
+/// Appends `TEXT`, then reserves `n` more bytes.
 fn push_and_reserve(text: &mut Wtf8Buf<Global>, n: usize) -> Result<(), AllocError> {
     text.push_str(TEXT)?;
     text.reserve(n)
 }
 
-/// Fails unless an empty string with room for so many bytes has as much again behind a text.
+/// Fails unless `text` is empty, and has `n` bytes to spare after `TEXT` is appended and `n` bytes are reserved.
 fn expect_reserved(alloc: Global, text: &mut Wtf8Buf<Global>, n: usize) -> Result<(), Fail> {
     expect_dump(alloc, text.as_wtf8(), "")?;
     push_and_reserve(text, n)?;
@@ -55,7 +55,7 @@ fn expect_reserved(alloc: Global, text: &mut Wtf8Buf<Global>, n: usize) -> Resul
     expect_dump(alloc, text.as_wtf8(), TEXT_DUMP)
 }
 
-/// Fails unless there is room for as many bytes as were asked for.
+/// Fails unless `with_capacity` and `reserve` provide room for at least `n` bytes.
 fn expect_room(alloc: Global, n: usize) -> Result<(), Fail> {
     let mut text = Wtf8Buf::with_capacity(alloc, n)?;
     if text.capacity() < n {
@@ -104,17 +104,17 @@ fn units_come_back_from_a_string_of_them(rt: HostRuntime) -> Result<(), Fail> {
     Ok(())
 }
 
-/// Fails unless the string of these units has these bytes, and the units again.
+/// Fails unless the string made of `units` has the bytes of `dump` and gives `units` back.
 fn expect_made(alloc: Global, units: &[u16], dump: &str) -> Result<(), Fail> {
     let text = Wtf8Buf::from_ill_formed_utf16(alloc, units)?;
     expect_dump(alloc, text.as_wtf8(), dump)?;
     expect_units(alloc, text.as_wtf8(), units)
 }
 
-/// An ASCII character, a lead surrogate, a trail surrogate, and the first unit behind the surrogates.
+/// An ASCII unit, a lead surrogate, a trail surrogate, and the first code unit after the surrogates.
 const KINDS: [u16; 4] = [0x0061, 0xD83D, 0xDCA9, 0xE000];
 
-/// List number `code` of so many units, each of the four kinds.
+/// The list of `length` units of `KINDS` whose indexes are the base-4 digits of `code`, the lowest one first.
 fn list_of_kinds(alloc: Global, length: u32, code: usize) -> Result<Vec<u16>, AllocError> {
     let mut units = Vec::new(alloc);
     let mut digits = code;
@@ -125,7 +125,7 @@ fn list_of_kinds(alloc: Global, length: u32, code: usize) -> Result<Vec<u16>, Al
     Ok(units)
 }
 
-/// Whether a clone in which room is reserved has the units and is equal, and the room is there.
+/// Whether a clone equals `text` and has 100 bytes to spare once they are reserved. Fails unless it has `units`.
 fn is_copied(alloc: Global, text: &Wtf8Buf<Global>, units: &[u16]) -> Result<bool, Fail> {
     let mut copy = text.clone()?;
     copy.reserve(100)?;
@@ -133,7 +133,7 @@ fn is_copied(alloc: Global, text: &Wtf8Buf<Global>, units: &[u16]) -> Result<boo
     Ok(copy == *text && 100 <= copy.capacity() - copy.len())
 }
 
-/// Makes a string of the units, clones it and reserves room in it: whether the room is there.
+/// Whether a clone of the string of `units` is equal, with room for what is reserved. Fails unless the units come back.
 fn is_kept(alloc: Global, units: &[u16]) -> Result<bool, Fail> {
     let text = Wtf8Buf::from_ill_formed_utf16(alloc, units)?;
     expect_units(alloc, text.as_wtf8(), units)?;

@@ -1,4 +1,4 @@
-// Debug texts: of strings and code points, whatever width and flags stand outside, and through a sink that refuses a write.
+// `Debug` output of strings and code points: it ignores width, precision and flags, and ends at a refused write.
 use crate::examples::pushed;
 use crate::sinks::{Sink, is_written, long_text};
 use std::alloc::Global;
@@ -6,7 +6,7 @@ use std::fmt::{Debug, Write};
 use std::test::Fail;
 use wtf8::{CodePoint, Wtf8};
 
-/// Whether the debug text is this one, with each width and flag outside.
+/// Whether the debug output is `expected`, both plain and with a width, a precision or flags.
 fn shows<T: Debug>(alloc: Global, value: &T, expected: &str) -> bool {
     is_written(format!(in alloc; "{value:?}"), expected)
         && is_written(format!(in alloc; "{value:30?}"), expected)
@@ -16,7 +16,7 @@ fn shows<T: Debug>(alloc: Global, value: &T, expected: &str) -> bool {
         && is_written(format!(in alloc; "{value:<#010?}"), expected)
 }
 
-/// Code points of strings, and the strings' debug texts.
+/// Code points of strings, and the strings' debug output.
 fn strings() -> [(&'static [u32], &'static str); 8] {
     [
         (&[], "\"\""),
@@ -77,8 +77,8 @@ fn a_width_pads_no_debug_text(rt: HostRuntime) -> Result<(), Fail> {
     Ok(())
 }
 
-/// Writes a debug text to a sink that refuses a write, with a sign and a width outside or without, and fails unless it ends
-/// there. It answers how many writes the sink saw.
+/// Writes the debug output, with a sign and a width if `is_styled`, to a sink that refuses write number `refused`.
+/// Fails unless it ends there, or is `expected` if no write is refused. Returns the number of writes.
 fn writes_of<T: Debug>(
     alloc: Global,
     value: &T,
@@ -95,7 +95,7 @@ fn writes_of<T: Debug>(
     sink.expect_end(is_ok, expected)
 }
 
-/// Fails unless each write of a debug text, refused in turn, ends it.
+/// Refuses each write of the debug output in turn. Fails unless the output ends there.
 fn expect_ends<T: Debug>(alloc: Global, value: &T, expected: &str) -> Result<(), Fail> {
     for is_styled in [false, true] {
         let writes = writes_of(alloc, value, is_styled, u32::MAX, expected)?;
@@ -106,7 +106,7 @@ fn expect_ends<T: Debug>(alloc: Global, value: &T, expected: &str) -> Result<(),
     Ok(())
 }
 
-/// The same for a string of these code points, and for its view.
+/// Fails unless the debug output of the string of these code points, and of its view, ends at each refused write.
 fn expect_string_ends(alloc: Global, numbers: &[u32], expected: &str) -> Result<(), Fail> {
     let text = pushed(alloc, numbers)?;
     expect_ends(alloc, &text, expected)?;

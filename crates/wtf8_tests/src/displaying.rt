@@ -1,4 +1,4 @@
-// What strings are displayed as: with a width, a fill and a precision, and through a sink that refuses a write.
+// `Display` output of strings: with a width, a fill and a precision, and through a sink that refuses a write.
 use crate::examples::pushed;
 use crate::sinks::{Sink, is_written, long_text};
 use std::alloc::{AllocError, Global};
@@ -6,8 +6,8 @@ use std::fmt;
 use std::fmt::{Display, Write};
 use std::test::Fail;
 
-/// Code points of strings, and what is displayed of them by `{}`, `{:>8}`, `{:*^8.1}`, `{:*<6.2}` and `{:+4}`. Each text is
-/// that of the Rust library's own type of such strings.
+/// Code points of strings, and their `Display` output by `{}`, `{:>8}`, `{:*^8.1}`, `{:*<6.2}` and `{:+4}`, equal to
+/// the output of the Rust library's own WTF-8 type.
 fn styled() -> [(&'static [u32], [&'static str; 5]); 6] {
     [
         (&[], ["", "        ", "********", "******", "    "]),
@@ -25,7 +25,7 @@ fn styled() -> [(&'static [u32], [&'static str; 5]); 6] {
     ]
 }
 
-/// Whether a value is displayed so.
+/// Whether the outputs of `value` by the five formats of `styled` are `expected`.
 fn shows<T: Display>(alloc: Global, value: &T, expected: [&str; 5]) -> bool {
     is_written(format!(in alloc; "{value}"), expected[0])
         && is_written(format!(in alloc; "{value:>8}"), expected[1])
@@ -44,7 +44,7 @@ fn a_text_is_filled_and_a_lossy_text_is_not(rt: HostRuntime) -> Result<(), Fail>
     Ok(())
 }
 
-/// Takes so many writes, each with a bar behind it, and refuses the next one; then it goes on.
+/// Takes `left` writes, each followed by `|`, refuses the next one, and takes all after that.
 #[derive(Drop)]
 struct Parts {
     taken: String,
@@ -63,7 +63,7 @@ impl Write for Parts {
     }
 }
 
-/// So many parts, each with a bar behind it.
+/// The first `left` parts, each followed by `|`.
 fn with_bars(alloc: Global, parts: &[&str], left: usize) -> Result<String, AllocError> {
     let mut text = String::new(alloc);
     for part in parts.iter().take(left) {
@@ -73,8 +73,8 @@ fn with_bars(alloc: Global, parts: &[&str], left: usize) -> Result<String, Alloc
     Ok(text)
 }
 
-/// Whether a sink that refuses the write after so many takes the parts of a value before it and no more, and the call fails
-/// where there are more parts.
+/// Whether a sink that refuses the write after the first `left` takes just the first `left` parts of `value`, and the
+/// call fails if there are more.
 fn takes<T: Display>(alloc: Global, value: &T, left: usize, parts: &[&str]) -> Result<bool, Fail> {
     let taken = String::new(alloc);
     let mut sink = Parts { taken, left };
@@ -83,7 +83,7 @@ fn takes<T: Display>(alloc: Global, value: &T, left: usize, parts: &[&str]) -> R
     Ok(sink.taken == expected && is_ok == (parts.len() <= left))
 }
 
-/// Code points of strings, and the parts in which the Rust library's own type displays them.
+/// Code points of strings, and the single writes by which the Rust library's own WTF-8 type displays them.
 fn parts_rows() -> [(&'static [u32], &'static [&'static str]); 5] {
     [
         (&[0x61, 0x62], &["ab"]),
@@ -112,8 +112,8 @@ fn a_lossy_text_is_written_in_parts(rt: HostRuntime) -> Result<(), Fail> {
     Ok(())
 }
 
-/// Writes what is displayed of a value by the style of that number to a sink that refuses a write, and fails unless it ends
-/// there. It answers how many writes the sink saw.
+/// Displays `value` in format number `style` of `styled` to a sink that refuses write number `refused`. Fails unless
+/// the output ends there, or is `expected` if no write is refused. Returns the number of writes.
 fn writes_of<T: Display>(
     alloc: Global,
     value: &T,
@@ -132,7 +132,7 @@ fn writes_of<T: Display>(
     sink.expect_end(is_ok, expected)
 }
 
-/// Fails unless each write of a value in each style, refused in turn, ends it.
+/// Refuses each write in each format in turn. Fails unless the output ends there.
 fn expect_ends<T: Display>(alloc: Global, value: &T, expected: [&str; 5]) -> Result<(), Fail> {
     for (style, expected) in expected.iter().enumerate() {
         let writes = writes_of(alloc, value, style, u32::MAX, expected)?;
@@ -143,7 +143,7 @@ fn expect_ends<T: Display>(alloc: Global, value: &T, expected: [&str; 5]) -> Res
     Ok(())
 }
 
-/// The same for a string of these code points, and for its view.
+/// Fails unless the output of the string of these code points, and of its view, ends at each refused write.
 fn expect_string_ends(alloc: Global, numbers: &[u32], expected: [&str; 5]) -> Result<(), Fail> {
     let text = pushed(alloc, numbers)?;
     expect_ends(alloc, &text, expected)?;

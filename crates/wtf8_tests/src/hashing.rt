@@ -1,4 +1,4 @@
-// What values feed a hasher.
+// What strings and code points write to a hasher.
 use crate::examples::{edges, point_of_unit, pushed};
 use std::alloc::Global;
 use std::cell::RefCell;
@@ -6,14 +6,14 @@ use std::hash::{Hash, Hasher};
 use std::test::Fail;
 use wtf8::{CodePoint, Wtf8Buf};
 
-/// A hasher that writes down what it is fed: for each write its length, and its bytes.
+/// A hasher that records each write: its length as one byte, then its bytes.
 #[derive(Drop)]
 struct Recorder<'a> {
     fed: &'a RefCell<Vec<u8>>,
 }
 
 impl<'a> Hasher for Recorder<'a> {
-    // What is in the cell is no part of the hasher's state.
+    // The recorded bytes are not part of the hasher's state in contracts.
     ghost write = { λ state _. state };
 
     ghost finish = { λ _. 0 };
@@ -30,14 +30,14 @@ impl<'a> Hasher for Recorder<'a> {
     }
 }
 
-/// What a value feeds a hasher: for each write its length, and its bytes.
+/// What `value` writes to a hasher: for each write its length, then its bytes.
 fn fed_by<T: Hash>(alloc: Global, value: &T) -> Vec<u8> {
     let fed = RefCell::new(Vec::new(alloc));
     value.hash(&mut Recorder { fed: &fed });
     fed.into_inner()
 }
 
-/// Code points of strings, and what the strings feed a hasher: their bytes, and then an end.
+/// Code points of strings, and what the strings write to a hasher: all bytes at once, then the byte 0xFE.
 fn strings() -> [(&'static [u32], &'static [u8]); 4] {
     [
         (&[], &[0, 1, 0xFE]),
@@ -57,7 +57,7 @@ fn a_hasher_is_fed_the_bytes_and_an_end(rt: HostRuntime) -> Result<(), Fail> {
     Ok(())
 }
 
-/// Pushes a lone lead surrogate and truncates it.
+/// Pushes a lone lead surrogate, then truncates the string to its old length.
 fn push_and_truncate(text: &mut Wtf8Buf<Global>) -> Result<(), Fail> {
     let len = text.len();
     text.push(point_of_unit(0xD800))?;
@@ -68,7 +68,7 @@ fn push_and_truncate(text: &mut Wtf8Buf<Global>) -> Result<(), Fail> {
     Ok(())
 }
 
-/// The string "a", where a surrogate was pushed and truncated before the letter was pushed, or after it.
+/// The string "a". A surrogate was pushed and truncated before the letter was pushed if `is_before`, else after it.
 fn letter(alloc: Global, is_before: bool) -> Result<Wtf8Buf<Global>, Fail> {
     let mut text = Wtf8Buf::new(alloc);
     if is_before {

@@ -1,4 +1,4 @@
-// Dumps, of which blocks of bytes are written together.
+// Hex dumps of texts of each length up to 65 bytes, as blocks are written at once, and dumps appended to a vector.
 use std::test::Fail;
 use wtf8::Wtf8;
 

@@ -1,4 +1,4 @@
-// The items of the iterators, their hints and clones. What they are at each moment is compared with the original crate by scripts.
+// Items, size hints and clones of the iterators. Scripts compare each of their steps with the original crate.
 use std::test::Fail;
 use wtf8::{CodePoint, Wtf8};
 
@@ -26,7 +26,7 @@ fn code_points_go_on_in_a_clone(rt: HostRuntime) -> Result<(), Fail> {
     Ok(())
 }
 
-/// What one call of `next` gives, and the hint after it.
+/// What one call of `next` returns, and the size hint after it.
 type Moment = (Option<u16>, (usize, Option<usize>));
 
 /// Texts with a surrogate pair, and each step of the iterator over their code units.

@@ -1,5 +1,5 @@
-//! Tests of the public calls of `wtf8`, callers that count positions in 16-bit units, proved from its public contracts,
-//! and what the tests of several crates share.
+//! Tests of the public calls of `wtf8`, callers that use positions in code units, proved from its public contracts, and
+//! examples that the tests of several crates share.
 #![tactic(auto)]
 
 pub mod callers;

@@ -1,5 +1,5 @@
-// Equality and order, in sorts and in maps. How each two of many strings and code points compare, by each way to ask, is compared
-// with the original crate by scripts.
+// Equality and order, in sorts and in maps. Scripts compare the order of many strings and code points, by each
+// comparison, with the original crate.
 use crate::examples::pushed;
 use std::alloc::Global;
 use std::cmp::Ordering;
@@ -7,10 +7,10 @@ use std::collections::{BTreeMap, HashMap};
 use std::test::Fail;
 use wtf8::{CodePoint, Wtf8, Wtf8Buf};
 
-/// How many rows the table has.
+/// The number of rows of `table`.
 const ROWS: usize = 14;
 
-/// The code points of strings, in the order of the strings.
+/// The code points of strings, in ascending order of the strings.
 fn table() -> [&'static [u32]; ROWS] {
     [
         &[],
@@ -30,12 +30,12 @@ fn table() -> [&'static [u32]; ROWS] {
     ]
 }
 
-/// The row of a place where the table is shuffled: the first one, then each fifth one behind the one before, round and round.
+/// Row `place` of the shuffled table: row 5 * `place`, modulo `ROWS`, of the table.
 fn row(place: usize) -> &'static [u32] {
     table()[place.wrapping_mul(5) % ROWS]
 }
 
-/// The strings of the shuffled rows.
+/// The strings of the shuffled table.
 fn shuffled(alloc: Global) -> Result<Vec<Wtf8Buf<Global>>, Fail> {
     let mut strings = Vec::new(alloc);
     for place in 0..ROWS {
@@ -74,7 +74,7 @@ fn strings_are_sorted(rt: HostRuntime) -> Result<(), Fail> {
 
 type Ordered = BTreeMap<Wtf8Buf<Global>, usize>;
 
-/// The places of the shuffled strings, in an ordered map.
+/// An ordered map from the shuffled strings to their indexes.
 fn ordered(alloc: Global) -> Result<Ordered, Fail> {
     let mut map = BTreeMap::new(alloc);
     for (place, string) in shuffled(alloc)?.into_iter().enumerate() {
@@ -83,7 +83,7 @@ fn ordered(alloc: Global) -> Result<Ordered, Fail> {
     Ok(map)
 }
 
-/// Whether the keys of an ordered map are those of the table, in its order.
+/// Whether the keys of an ordered map are the strings of the table, in its order.
 fn has_keys_in_order(alloc: Global, map: &Ordered) -> Result<bool, Fail> {
     let expected = in_order(alloc)?;
     for (found, string) in map.keys().zip(&expected) {
@@ -94,7 +94,7 @@ fn has_keys_in_order(alloc: Global, map: &Ordered) -> Result<bool, Fail> {
     Ok(map.len() == expected.len())
 }
 
-/// The place of the string of these code points in an ordered map.
+/// The index that an ordered map has for the string of these code points.
 fn ordered_place(alloc: Global, map: &Ordered, numbers: &[u32]) -> Result<Option<usize>, Fail> {
     let string = pushed(alloc, numbers)?;
     Ok(map.get(&string).copied())
@@ -113,7 +113,7 @@ fn strings_are_found_in_an_ordered_map(rt: HostRuntime) -> Result<(), Fail> {
 
 type Hashed = HashMap<Wtf8Buf<Global>, usize>;
 
-/// The places of the shuffled strings, in a map by hash.
+/// A hash map from the shuffled strings to their indexes.
 fn hashed(alloc: Global) -> Result<Hashed, Fail> {
     let mut map = HashMap::new(alloc);
     for (place, string) in shuffled(alloc)?.into_iter().enumerate() {
@@ -122,7 +122,7 @@ fn hashed(alloc: Global) -> Result<Hashed, Fail> {
     Ok(map)
 }
 
-/// The place of the string of these code points in a map by hash.
+/// The index that a hash map has for the string of these code points.
 fn hashed_place(alloc: Global, map: &Hashed, numbers: &[u32]) -> Result<Option<usize>, Fail> {
     let string = pushed(alloc, numbers)?;
     Ok(map.get(&string).copied())

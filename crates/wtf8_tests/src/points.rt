@@ -1,4 +1,4 @@
-// Code points.
+// Conversions of code points from and to numbers and characters.
 use std::test::Fail;
 use wtf8::CodePoint;
 

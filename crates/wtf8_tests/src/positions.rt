@@ -1,10 +1,10 @@
-// Positions in a string, and what is cut at them.
+// Code point boundaries, and slices and truncation at byte positions.
 use crate::examples::{TEXT, TEXT_ROW, expect_dump, joined, joining, pushed};
 use std::alloc::{AllocError, Allocator, Global};
 use std::test::Fail;
 use wtf8::{CodePoint, Wtf8, Wtf8Buf};
 
-/// What stands before a position, if it is a boundary.
+/// The part before byte position `end`, if that is a code point boundary.
 fn cut_to(text: Wtf8<'_>, end: usize) -> Option<Wtf8<'_>> {
     if text.is_code_point_boundary(end) {
         Some(text.slice_to(end))
@@ -13,7 +13,7 @@ fn cut_to(text: Wtf8<'_>, end: usize) -> Option<Wtf8<'_>> {
     }
 }
 
-/// What stands from a position on, if it is a boundary.
+/// The part from byte position `begin` to the end, if that is a code point boundary.
 fn cut_from(text: Wtf8<'_>, begin: usize) -> Option<Wtf8<'_>> {
     if text.is_code_point_boundary(begin) {
         Some(text.slice_from(begin))
@@ -22,7 +22,7 @@ fn cut_from(text: Wtf8<'_>, begin: usize) -> Option<Wtf8<'_>> {
     }
 }
 
-/// What stands between two positions, if they are boundaries in order.
+/// The part between two byte positions, if both are code point boundaries and they are in order.
 fn cut_out(text: Wtf8<'_>, begin: usize, end: usize) -> Option<Wtf8<'_>> {
     if begin <= end && text.is_code_point_boundary(begin) && text.is_code_point_boundary(end) {
         Some(text.slice(begin, end))
@@ -31,7 +31,7 @@ fn cut_out(text: Wtf8<'_>, begin: usize, end: usize) -> Option<Wtf8<'_>> {
     }
 }
 
-/// Cuts a string off at a position, if it is a boundary.
+/// Truncates a string to `new_len` bytes if that is a code point boundary, and returns whether it is.
 fn cut_off<A: Allocator>(text: &mut Wtf8Buf<A>, new_len: usize) -> bool {
     let cuts = text.as_wtf8().is_code_point_boundary(new_len);
     if cuts {
@@ -40,7 +40,7 @@ fn cut_off<A: Allocator>(text: &mut Wtf8Buf<A>, new_len: usize) -> bool {
     cuts
 }
 
-/// The byte at a position below the length, as the string shows it.
+/// The result of `ascii_byte_at`, or `None` at or past the end.
 fn ascii_at(text: Wtf8<'_>, position: usize) -> Option<u8> {
     if position < text.len() {
         Some(text.ascii_byte_at(position))
@@ -49,7 +49,7 @@ fn ascii_at(text: Wtf8<'_>, position: usize) -> Option<u8> {
     }
 }
 
-/// The running sums of the lengths of these code points' encodings, from the front, 0 among them.
+/// The byte positions of the code points' starts and of the end: 0 and the running sums of the encoded lengths.
 fn sums_of(alloc: Global, numbers: &[u32]) -> Result<Vec<usize>, AllocError> {
     let mut sum = 0usize;
     let mut sums = vec![in alloc; sum]?;
@@ -66,7 +66,7 @@ fn sums_of(alloc: Global, numbers: &[u32]) -> Result<Vec<usize>, AllocError> {
     Ok(sums)
 }
 
-/// Whether the boundaries of a string are these sums, and no other number up to three behind the length nor the greatest.
+/// Whether `sums` are the boundaries among all indexes up to three past the length, and `usize::MAX` is not one.
 fn has_boundaries(text: Wtf8<'_>, sums: &[usize]) -> bool {
     for index in 0..text.len().saturating_add(4) {
         if text.is_code_point_boundary(index) != sums.contains(&index) {
@@ -108,7 +108,7 @@ fn a_pair_has_no_boundary_inside(rt: HostRuntime) -> Result<(), Fail> {
     Ok(())
 }
 
-/// Whether the parts of a string at each of its boundaries make an equal string, and how many boundaries there are.
+/// Whether the two parts at each boundary make an equal string when joined, and the number of boundaries.
 fn parts_make(alloc: Global, text: Wtf8<'_>) -> Result<(bool, usize), AllocError> {
     let mut boundaries = 0usize;
     for at in 0..text.len().saturating_add(1) {
@@ -140,7 +140,7 @@ fn the_parts_at_each_boundary_make_the_whole(rt: HostRuntime) -> Result<(), Fail
     Ok(())
 }
 
-/// Fails unless there is a part, and it has these bytes.
+/// Fails unless `part` is there and has the bytes of `dump`.
 fn expect_part(alloc: Global, part: Option<Wtf8<'_>>, dump: &str) -> Result<(), Fail> {
     match part {
         Some(part) => expect_dump(alloc, part, dump),
@@ -214,7 +214,7 @@ fn a_truncated_string_keeps_what_stands_before(rt: HostRuntime) -> Result<(), Fa
     expect_dump(rt.alloc(), pair.as_wtf8(), "F0 9F 92 A9")
 }
 
-/// Whether a string shows these bytes, one at each position below its length.
+/// Whether `ascii_byte_at` returns `shown`, one byte for each position below the length.
 fn shows(text: Wtf8<'_>, shown: &[u8]) -> bool {
     for (position, byte) in shown.iter().enumerate() {
         if ascii_at(text, position) != Some(*byte) {

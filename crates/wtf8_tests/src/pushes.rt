@@ -1,4 +1,4 @@
-// Strings that pushes build.
+// Strings built by pushes of code points, characters, texts and views.
 use crate::examples::{
     TEXT, TEXT_DUMP, TEXT_ROW, edges, expect_dump, expect_numbers, expect_units, joined, joining,
     pushed,
@@ -29,7 +29,7 @@ fn a_trail_joins_a_lead_that_is_pushed_before_it(rt: HostRuntime) -> Result<(), 
     expect_dump(rt.alloc(), pair.as_wtf8(), "ED A0 BD F0 9F 92 A9 ED B2 A9")
 }
 
-/// The string that views of one code point each build, appended one after the other.
+/// The string built by appending a view of one code point for each unit.
 fn appended(alloc: Global, units: &[u16]) -> Result<Wtf8Buf<Global>, Fail> {
     let mut text = Wtf8Buf::new(alloc);
     for unit in units {
@@ -49,7 +49,7 @@ fn a_view_joins_the_lead_before_it(rt: HostRuntime) -> Result<(), Fail> {
     Ok(())
 }
 
-/// The string of three pieces of units, each a string of its own that is appended as a view.
+/// The string made of the first list of units, with views of strings of the other two appended.
 fn of_pieces(
     alloc: Global,
     first: &[u16],
@@ -64,7 +64,7 @@ fn of_pieces(
     Ok(text)
 }
 
-/// Fails unless these units, cut at each two places into three pieces, some of them empty, build a string of these bytes.
+/// Fails unless `units`, split in three in every way, empty pieces included, build a string with the bytes of `dump`.
 fn expect_built(alloc: Global, units: &[u16], dump: &str) -> Result<(), Fail> {
     for first in 0..units.len() + 1 {
         let (front, rest) = units.split_at(first);
@@ -86,7 +86,7 @@ fn pieces_cut_at_any_units_build_the_whole(rt: HostRuntime) -> Result<(), Fail> 
     expect_built(rt.alloc(), units, dump)
 }
 
-/// The units of a string, those of a view that is appended, and the bytes and their number.
+/// The units of a string and of a view to append to it, and the bytes of the result and their number.
 fn glued() -> [(&'static [u16], &'static [u16], &'static str, usize); 7] {
     [
         (&[0x61, 0xD83D], &[0xDCA9, 0x62], "61 F0 9F 92 A9 62", 6),
@@ -112,7 +112,7 @@ fn appended_views_have_the_units_of_both(rt: HostRuntime) -> Result<(), Fail> {
     Ok(())
 }
 
-/// Fails unless the string of some units that is cleared is empty, keeps its capacity, and takes others anew.
+/// Fails unless `clear` empties a string of `front` and keeps its capacity, and appending `back` gives just `back`.
 fn expect_cleared(alloc: Global, front: &[u16], back: &[u16]) -> Result<(), Fail> {
     let other = joined(alloc, back)?;
     let mut text = joined(alloc, front)?;
@@ -136,7 +136,7 @@ fn a_cleared_string_is_empty_and_begins_anew(rt: HostRuntime) -> Result<(), Fail
     Ok(())
 }
 
-/// Fails unless a string is a lone lead surrogate, and a trail surrogate joins it.
+/// Fails unless `text` is a lone lead surrogate, and a trail surrogate that is pushed joins it.
 fn expect_open_lead(alloc: Global, text: &mut Wtf8Buf<Global>) -> Result<(), Fail> {
     expect_dump(alloc, text.as_wtf8(), "ED A0 BD")?;
     text.push(CodePoint::from_u32_unchecked(0xDCA9))?;

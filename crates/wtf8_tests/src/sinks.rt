@@ -1,10 +1,10 @@
-// A sink that refuses one write, and a long string whose texts are written to it.
+// A sink that refuses one write, and a long string to write to it.
 use std::alloc::{AllocError, Global};
 use std::fmt;
 use std::fmt::Write;
 use std::test::Fail;
 
-/// Takes what is written, but for one write, counted from 1, which it refuses; then it goes on.
+/// Takes all writes but number `refused`, counted from 1, which it refuses.
 #[derive(Drop)]
 pub struct Sink {
     taken: String,
@@ -21,8 +21,8 @@ impl Sink {
         }
     }
 
-    /// Fails unless a call that wrote this text, and was done or not, ended at the refused write, where one was refused, and
-    /// is whole where none was. It answers how many writes the sink saw.
+    /// Fails unless the call that writes `expected` failed at the refused write and ended there, or wrote all if none
+    /// was refused; `is_ok` is whether it succeeded. Returns the number of writes.
     pub fn expect_end(&self, is_ok: bool, expected: &str) -> Result<u32, Fail> {
         let (taken, writes) = (self.taken.as_str(), self.writes);
         if is_ok != (writes < self.refused) || (is_ok && taken != expected) {
@@ -45,7 +45,7 @@ impl Write for Sink {
     }
 }
 
-/// Whether a text was written, and is this one.
+/// Whether formatting succeeded with `text`.
 pub fn is_written(written: Result<String, AllocError>, text: &str) -> bool {
     match written {
         Ok(found) => found.as_str() == text,
@@ -53,8 +53,7 @@ pub fn is_written(written: Result<String, AllocError>, text: &str) -> bool {
     }
 }
 
-/// So many times "a", a code point and U+3042, as numbers of code points and as a text, in which another text stands for
-/// the code point.
+/// "a", a code point and U+3042, repeated `times` times: as code points, and as a text with `shown` for the code point.
 pub fn long_text(
     alloc: Global,
     times: u32,

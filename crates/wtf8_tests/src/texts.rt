@@ -1,11 +1,11 @@
-// Strings as UTF-8.
+// Conversions of strings to UTF-8, exact and lossy.
 use crate::examples::{TEXT, expect_dump, pushed};
 use std::alloc::{Allocator, Global};
 use std::borrow::CowStr;
 use std::test::Fail;
 use wtf8::{Wtf8, Wtf8Buf};
 
-/// Fails unless the string is this text.
+/// Fails unless `string` converts to `text`, borrowed and owned.
 fn expect_text<A: Allocator + Drop>(string: Wtf8Buf<A>, text: &str) -> Result<(), Fail> {
     if string.as_wtf8().as_str() != Some(text) {
         return Err(Fail::new("the view is another text, or none"));
@@ -28,7 +28,7 @@ fn a_string_without_surrogates_is_a_text(rt: HostRuntime) -> Result<(), Fail> {
     expect_text(pushed(rt.alloc(), &[0xD83D, 0xDCA9])?, "💩")
 }
 
-/// The byte ED begins no surrogate in Hangul, however often it stands in a string that is searched many bytes at a time.
+/// Hangul such as U+D55C begins with 0xED as surrogates do, so the search for them, by blocks, must pass over it.
 #[test]
 fn a_long_string_of_hangul_is_a_text(rt: HostRuntime) -> Result<(), Fail> {
     let hangul = [0xD55C; 40];
@@ -39,7 +39,7 @@ fn a_long_string_of_hangul_is_a_text(rt: HostRuntime) -> Result<(), Fail> {
     expect_text(units, expected)
 }
 
-/// Code points of strings that hold a surrogate, and their bytes.
+/// Code points of strings with a lone surrogate, and the strings' bytes.
 fn no_texts() -> [(&'static [u32], &'static str); 6] {
     [
         (&[0xD800], "ED A0 80"),
@@ -69,7 +69,7 @@ fn a_string_with_a_surrogate_is_no_text(rt: HostRuntime) -> Result<(), Fail> {
     Ok(())
 }
 
-/// Code points of strings, their lossy texts, and whether those are borrowed.
+/// Code points of strings, the strings' lossy texts, and whether `to_string_lossy` borrows them.
 fn lossy_rows() -> [(&'static [u32], &'static str, bool); 7] {
     [
         (&[], "", true),
@@ -82,7 +82,7 @@ fn lossy_rows() -> [(&'static [u32], &'static str, bool); 7] {
     ]
 }
 
-/// Whether both lossy texts of a string are this one, and whether that of the view is borrowed.
+/// Whether both lossy conversions of a string give `text`, and whether `to_string_lossy` of the view borrows.
 fn lossy_texts(alloc: Global, numbers: &[u32], text: &str) -> Result<(bool, bool), Fail> {
     let string = pushed(alloc, numbers)?;
     let lossy = string.as_wtf8().to_string_lossy(alloc)?;

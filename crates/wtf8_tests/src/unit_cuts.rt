@@ -1,4 +1,4 @@
-// Cuts at every number of units.
+// Truncation to every number of code units.
 use crate::callers::cut_at_units_and_joined;
 use crate::examples::{expect_dump, expect_units, joining};
 use crate::unit_lists::{lists, long_list};
@@ -9,8 +9,8 @@ use wtf8::{Build, Wtf8Buf};
 
 type Lent<'a> = &'a Refusing<Global>;
 
-/// Cuts a string at a number of units, by the call itself or by the call that answers whether there are so many, and answers
-/// whether it says so.
+/// Truncates `text` to `n` code units by `apply` if `is_applied`, and returns whether the result is `Ok(is_within)`.
+/// Else truncates by `truncate_units` unless `text` has fewer units, and returns true.
 fn cut(text: &mut Wtf8Buf<Lent<'_>>, n: usize, is_applied: bool, is_within: bool) -> bool {
     if is_applied {
         return text.apply(Build::TruncateUnits(n)) == Ok(is_within);
@@ -21,8 +21,8 @@ fn cut(text: &mut Wtf8Buf<Lent<'_>>, n: usize, is_applied: bool, is_within: bool
     true
 }
 
-/// Cuts the string of some units at a number of them, with every request for memory refused or the first one alone, by the
-/// call itself or by the call that answers whether there are so many. Fails unless it makes no request.
+/// Truncates the string of `units` to `n`, by `apply` or `truncate_units`, with every request refused or the first
+/// alone. Fails unless the result is right, without a request, and leaves the first `n` units, or all.
 fn expect_cut(
     alloc: Global,
     units: &[u16],
@@ -40,7 +40,7 @@ fn expect_cut(
     expect_units(alloc, text.as_wtf8(), &units[..n.min(units.len())])
 }
 
-/// Fails unless the string of some units that is cut at a number of them and put together again is the whole.
+/// Fails unless the string of `units`, truncated to `n` of them and joined with the rest, equals the whole.
 fn expect_whole(alloc: Global, units: &[u16], n: usize) -> Result<(), Fail> {
     let whole = Wtf8Buf::from_ill_formed_utf16(alloc, units)?;
     if n <= whole.as_wtf8().unit_len() {
@@ -52,7 +52,7 @@ fn expect_whole(alloc: Global, units: &[u16], n: usize) -> Result<(), Fail> {
     Err(Fail::new(format_args!("not the whole, cut at {n}")))
 }
 
-/// Cuts the string of some units at each number of them and at two more, and puts it together again.
+/// Fails unless truncation to each number of units, up to two past the end, is right, and the parts join to the whole.
 fn cut_everywhere(alloc: Global, units: &[u16]) -> Result<(), Fail> {
     for n in 0..units.len().saturating_add(3) {
         for refusal in REFUSALS {

@@ -1,4 +1,4 @@
-// What the tests share: lists of units.
+// Lists of code units that several test modules use.
 use std::alloc::{AllocError, Global};
 
 /// Lists of units with surrogates at both ends, and others.
@@ -13,7 +13,7 @@ pub fn lists() -> [&'static [u16]; 6] {
     ]
 }
 
-/// So many letters, and behind them a character of each length, a pair in two halves and a lone lead.
+/// `letters` times "a", then characters of two, three and four bytes, another pair and a lone lead surrogate.
 pub fn long_list(alloc: Global, letters: usize) -> Result<Vec<u16>, AllocError> {
     let mut units = vec![in alloc; 0x61; letters]?;
     units.extend_from_slice(&[0xE9, 0xFFFF, 0xD83D, 0xDCA9, 0xDBFF, 0xDFFF, 0xD83D])?;

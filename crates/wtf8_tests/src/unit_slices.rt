@@ -1,4 +1,4 @@
-// Units by their numbers, and slices between two of them.
+// Code units by index, and slices by code units.
 use crate::callers::push_slice;
 use crate::examples::{expect_dump, expect_units, joining};
 use crate::unit_lists::{lists, long_list};
@@ -6,7 +6,7 @@ use std::alloc::Global;
 use std::test::Fail;
 use wtf8::{Wtf8, Wtf8Buf};
 
-/// Whether the units of a string by their numbers are those of the list, and none stands behind them.
+/// Whether `unit_at`, `ascii_unit_at` and `unit_len` agree with `units`.
 fn has_units(text: Wtf8<'_>, units: &[u16]) -> bool {
     for n in 0..units.len().saturating_add(3) {
         if text.unit_at(n) != units.get(n).copied() {
@@ -19,7 +19,7 @@ fn has_units(text: Wtf8<'_>, units: &[u16]) -> bool {
     text.unit_len() == units.len()
 }
 
-/// The unit of a number, where a string has as many bytes as units and more than so many.
+/// The result of `ascii_unit_at`, or `None` if `text` is not all ASCII or has no unit `n`.
 fn ascii_unit(text: Wtf8<'_>, n: usize) -> Option<u16> {
     if text.len() == text.unit_len() && n < text.len() {
         Some(text.ascii_unit_at(n))
@@ -28,7 +28,7 @@ fn ascii_unit(text: Wtf8<'_>, n: usize) -> Option<u16> {
     }
 }
 
-/// Fails unless the slice between two numbers of units, which are in order, is that of the list.
+/// Fails unless `begin..end` is a range of units of the text, and its slice has the units `units[begin..end]`.
 fn expect_slice(
     alloc: Global,
     text: Wtf8<'_>,
@@ -44,7 +44,7 @@ fn expect_slice(
     expect_units(alloc, part.as_wtf8(), &units[begin..end])
 }
 
-/// Fails unless the units of a string by their numbers are those of the list, and each slice is that of the list.
+/// Fails unless the string of `units` has them by index, and its nonempty slices before the last unit have theirs.
 fn expect_list(alloc: Global, units: &[u16]) -> Result<(), Fail> {
     let text = Wtf8Buf::from_ill_formed_utf16(alloc, units)?;
     if !has_units(text.as_wtf8(), units) {

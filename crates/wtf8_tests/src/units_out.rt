@@ -1,13 +1,13 @@
-// The units of a string appended to a vector: all of them behind those that are there, wherever a block of ASCII ends.
+// `append_units` appends all code units of a string after a vector's own, wherever a block of one kind ends.
 use refusing::Refusing;
 use std::alloc::{AllocError, Global};
 use std::test::Fail;
 use wtf8::{Wtf8, Wtf8Buf};
 
-/// Units that stand in the vector before.
+/// The units that a vector holds before the call of `append_units`.
 const BEFORE: [u16; 2] = [0xDC00, 0x0061];
 
-/// Units of each kind, which take the place of another one.
+/// Lists of units of each kind, written over a part of a list of equal units.
 const OTHERS: [&[u16]; 7] = [
     &[0x0061],
     &[0x00E9],
@@ -20,7 +20,7 @@ const OTHERS: [&[u16]; 7] = [
 
 type Lent<'a> = &'a Refusing<Global>;
 
-/// The units behind those that are there, where the call finds room.
+/// `BEFORE` with the units of `text` appended, with all requests for memory granted.
 fn appended<'a>(heap: Lent<'a>, text: Wtf8<'_>) -> Result<Vec<u16, Lent<'a>>, AllocError> {
     heap.grant(u64::MAX);
     let mut grown = Vec::from_slice(heap, &BEFORE)?;
@@ -28,7 +28,7 @@ fn appended<'a>(heap: Lent<'a>, text: Wtf8<'_>) -> Result<Vec<u16, Lent<'a>>, Al
     Ok(grown)
 }
 
-/// The same where there is just room for so many units, and no memory.
+/// `BEFORE` with the units of `text` appended to a vector of capacity `count`, with no request for memory granted.
 fn appended_in_room<'a>(
     heap: Lent<'a>,
     text: Wtf8<'_>,
@@ -42,7 +42,7 @@ fn appended_in_room<'a>(
     Ok(room)
 }
 
-/// Whether the call leaves what is there where there is neither, and is refused unless there are no units.
+/// Whether `append_units`, without spare capacity and memory, changes nothing, and fails unless there are no units.
 fn is_refused(heap: Lent<'_>, text: Wtf8<'_>) -> Result<bool, AllocError> {
     heap.grant(u64::MAX);
     let mut full = Vec::from_slice(heap, &BEFORE)?;
@@ -51,15 +51,15 @@ fn is_refused(heap: Lent<'_>, text: Wtf8<'_>) -> Result<bool, AllocError> {
     Ok(full.as_slice() == BEFORE.as_slice() && is_refused != text.is_empty())
 }
 
-/// Whether the units come back behind those that are there: where the call finds room, where there is just room for them and
-/// no memory, and not at all where there is neither.
+/// Whether `append_units` makes `whole` with all requests for memory granted, and with none granted if the capacity
+/// suffices, and leaves the vector unchanged if memory is refused.
 fn come_back(heap: Lent<'_>, text: Wtf8<'_>, whole: &[u16]) -> Result<bool, AllocError> {
     let is_appended = appended(heap, text)?.as_slice() == whole;
     let is_in_room = appended_in_room(heap, text, whole.len())?.as_slice() == whole;
     Ok(is_appended && is_in_room && is_refused(heap, text)?)
 }
 
-/// Fails unless the units come back so.
+/// Fails unless `append_units` appends `units` if there is memory or capacity, and else leaves the vector unchanged.
 fn expect_units_back(alloc: Global, units: &[u16]) -> Result<(), Fail> {
     let text = Wtf8Buf::from_ill_formed_utf16(alloc, units)?;
     let mut whole = Vec::from_slice(alloc, &BEFORE)?;
@@ -71,7 +71,7 @@ fn expect_units_back(alloc: Global, units: &[u16]) -> Result<(), Fail> {
     Ok(())
 }
 
-/// Fails unless so many equal units come back, with each other kind in the place of each of them.
+/// Fails unless lists of `length` times `unit`, overwritten from each index on by each of `OTHERS`, are appended whole.
 fn expect_changed_back(alloc: Global, unit: u16, length: usize) -> Result<(), Fail> {
     for place in 0..length {
         for other in &OTHERS {

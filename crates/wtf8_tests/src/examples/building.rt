@@ -1,4 +1,4 @@
-// Strings that are built by one push after the other.
+// Strings built by single pushes.
 ghost use Rattle.std.specs.Prelude.{◌≡◌, [], ◌∷◌, IfOk};
 ghost use Rattle.wtf8.specs.CodePoint.{number, numbers};
 ghost use Rattle.wtf8.specs.Unicode.{units, units_of};
@@ -7,7 +7,7 @@ use std::alloc::{AllocError, Allocator, Global};
 use std::test::Fail;
 use wtf8::{CodePoint, Wtf8Buf};
 
-/// The code point of a unit's number.
+/// The code point with the value of `unit`.
 pub fn point_of_unit(unit: u16) -> CodePoint
     ensures value { number result ≡ unit }
     ensures units { units_of (number result) ≡ unit ∷ [] }
@@ -15,7 +15,7 @@ pub fn point_of_unit(unit: u16) -> CodePoint
     CodePoint::from_u32_unchecked(u32::from(unit))
 }
 
-/// The code points of some units, each by itself.
+/// The code point of each of `units`. The surrogates of a pair are two code points.
 pub fn points_of_units(alloc: Global, units: &[u16]) -> Result<Vec<CodePoint>, AllocError>
     ensures { IfOk result (λ points. numbers points.items ≡ units.now) }
 {
@@ -26,7 +26,7 @@ pub fn points_of_units(alloc: Global, units: &[u16]) -> Result<Vec<CodePoint>, A
     Ok(points)
 }
 
-/// The string that pushes of these units give, one after the other.
+/// The string that pushing `units` one by one builds.
 pub fn joined<A: Allocator>(alloc: A, units: &[u16]) -> Result<Wtf8Buf<A>, AllocError>
     ensures { IfOk result (λ text. text.units ≡ units.now) }
 {
@@ -37,7 +37,7 @@ pub fn joined<A: Allocator>(alloc: A, units: &[u16]) -> Result<Wtf8Buf<A>, Alloc
     Ok(text)
 }
 
-/// The string that pushes of these numbers' code points give, one after the other.
+/// The string that pushing the code points `numbers` one by one builds.
 pub fn pushed<A: Allocator>(alloc: A, numbers: &[u32]) -> Result<Wtf8Buf<A>, Fail>
     ensures { IfOk result (λ text. text.units ≡ units numbers.now) }
 {

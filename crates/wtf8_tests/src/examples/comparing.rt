@@ -1,4 +1,4 @@
-// Comparisons with what is expected, which say what was found.
+// Checks of a string's bytes, code units or code points, whose failures say what was found.
 ghost use Rattle.std.specs.Prelude.{◌≡◌, OnOk};
 ghost use Rattle.wtf8.specs.Hex.{hex};
 ghost use Rattle.wtf8.specs.Unicode.{units};
@@ -7,7 +7,7 @@ use std::alloc::Global;
 use std::test::Fail;
 use wtf8::Wtf8;
 
-/// Fails unless the string's bytes are those of the dump.
+/// Fails unless the string has the bytes of `dump`.
 pub fn expect_dump(alloc: Global, text: Wtf8<'_>, dump: &str) -> Result<(), Fail>
     ensures { OnOk result (hex text.entry.bytes.now ≡ dump.now) }
 {
@@ -18,7 +18,7 @@ pub fn expect_dump(alloc: Global, text: Wtf8<'_>, dump: &str) -> Result<(), Fail
     Ok(())
 }
 
-/// Fails unless the string has these units.
+/// Fails unless the string has the code units `expected`.
 pub fn expect_units(alloc: Global, text: Wtf8<'_>, expected: &[u16]) -> Result<(), Fail>
     ensures { OnOk result (units text.entry.well_formed.points ≡ expected.now) }
 {
@@ -29,7 +29,7 @@ pub fn expect_units(alloc: Global, text: Wtf8<'_>, expected: &[u16]) -> Result<(
     Ok(())
 }
 
-/// Fails unless the string has the code points of these numbers.
+/// Fails unless the string has the code points `expected`.
 pub fn expect_numbers(text: Wtf8<'_>, expected: &[u32]) -> Result<(), Fail>
     ensures { OnOk result (text.entry.well_formed.points ≡ expected.now) }
 {

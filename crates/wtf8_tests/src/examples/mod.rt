@@ -1,5 +1,5 @@
-//! Examples with known answers for tests, strings that are built in the plainest way, and comparisons with what is expected
-//! that say what was found.
+//! Example strings with their bytes and code units, strings built by single pushes, and checks of strings whose
+//! failures say what was found.
 
 mod building;
 mod comparing;

@@ -1,20 +1,19 @@
-// Strings with their bytes and units, from the tables of the encoding.
+// Strings with their bytes and code units, from the tables of the encoding.
 
-/// A text with characters of one, two and four bytes, and its bytes.
+/// A text with characters of one, two and four bytes; `TEXT_DUMP` is its bytes.
 pub const TEXT: &str = "aé 💩";
 
 pub const TEXT_DUMP: &str = "61 C3 A9 20 F0 9F 92 A9";
 
-/// A code point, the bytes of its encoding, and its units.
+/// A code point, the bytes of its encoding, and its code units.
 type Edge = (u32, &'static str, &'static [u16]);
 
-/// Units, given one after the other as code points of their own; the code points of the string that they build, and its
-/// bytes.
+/// Code units, each pushed as a code point of its own; the code points of the string that they build, and its bytes.
 type Row = (&'static [u16], &'static [u32], &'static str);
 
-// A table is what a function returns: where it is a constant, each function that goes over it is proved with all its rows.
+// Tables are functions: if one were a constant, each function that reads it would be proved with all its rows.
 
-/// Code points on both sides of where an encoding or a kind of code point begins.
+/// Code points at the limits of encoded lengths, of ranges of bytes and of the surrogates.
 pub fn edges() -> [Edge; 20] {
     [
         (0x0000, "00", &[0x0000]),
@@ -40,7 +39,7 @@ pub fn edges() -> [Edge; 20] {
     ]
 }
 
-/// Leads and trails that join, and units that stay alone.
+/// Lead and trail surrogates that join, and surrogates that stay lone.
 pub fn joining() -> [Row; 10] {
     [
         (&[0xD83D, 0xDCA9], &[0x1F4A9], "F0 9F 92 A9"),
@@ -68,7 +67,7 @@ pub fn joining() -> [Row; 10] {
     ]
 }
 
-/// The units, the code points and the bytes of the text.
+/// The code units, the code points and the bytes of `TEXT`.
 pub const TEXT_ROW: Row = (
     &[0x0061, 0x00E9, 0x0020, 0xD83D, 0xDCA9],
     &[0x0061, 0x00E9, 0x0020, 0x1F4A9],

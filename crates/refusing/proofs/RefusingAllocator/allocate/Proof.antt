@@ -1,4 +1,4 @@
--- It uses a grant up and answers what the inner allocator answers, or answers `Err`. Assumes `Logic`.
+-- `allocate` uses up a grant and returns what the inner allocator returns, or returns `Err`. Assumes `Logic`.
 use Rattle.std.proofs.Common.{◌≡◌, ℕ, ◌+◌, ◌^◌, ◌<◌, Bool, true, false, List, [], ◌∷◌, Ok, Err, refl, ap, w64, Bor}
 use seplogic.Ra.Ura.{Ura}
 use mir.Syntax.{Ty, Fn}
@@ -53,7 +53,7 @@ use Rattle.refusing.proofs.RefusingAllocator.allocate.Code as code
 abbrev Page : RattleType
 Page = cell.the_row ledger.the_row
 
--- `use_grant` at a call: what it is handed, a `&` to the cell, a token of its lifetime and a number, and what a caller has of it
+-- a call of `use_grant`: its arguments (a `&` to the cell, a token of its lifetime, a number) and what its caller gets
 module _ {M : Type 1} {𝓤 : Ura M} (𝓛 : Logic 𝓤) (at_mem : Memory → SProp 𝓤) (run : Routine → Fun 𝓤) where
   abbrev Uses : Contract 𝓤
   Uses = triple_of 𝓛 grant.signature (grant.spec 𝓛 at_mem run)
