@@ -1,4 +1,4 @@
-//! Links the proved static library, and the toolchain's own small C library, which is found through `rt`; or neither, where
+//! Links the proved static library and the toolchain's own small C library, which is found through `rt`; or neither, if
 //! `COMPARE_PROGRAM` names a program that runs the scripts.
 
 use std::env;
@@ -14,7 +14,7 @@ fn main() {
         link_library();
     }
     println!("cargo:rustc-check-cfg=cfg(further)");
-    // The standard library's own WTF-8 is there for compilers that allow features.
+    // Only compilers that allow unstable features give access to the standard library's own WTF-8.
     println!("cargo:rustc-check-cfg=cfg(std_wtf8)");
     println!("cargo:rerun-if-env-changed=RUSTC_BOOTSTRAP");
     if env::var_os("RUSTC_BOOTSTRAP").is_some() {

@@ -14,13 +14,13 @@ import struct
 import subprocess
 import sys
 
-# The last unit of each length of encoding, both ends of leads and of trails, and their neighbours.
+# The greatest unit of each encoded length, the ends of the lead and trail surrogates, and their neighbours.
 NINE = [0x007F, 0x07FF, 0xD7FF, 0xD800, 0xDBFF, 0xDC00, 0xDFFF, 0xE000, 0xFFFF]
 
 LEADS = (0xD800, 0xDBFF)
 TRAILS = (0xDC00, 0xDFFF)
 
-# The pieces of well-formed lists: a unit of a range whose units are encoded alike, or a pair.
+# The pieces of well-formed lists: a unit of a range with one encoded length, or a pair.
 WELL_FORMED = [[(0x0000, 0x007F)], [(0x0080, 0x07FF)], [(0x0800, 0xD7FF)], [(0xE000, 0xFFFF)], [LEADS, TRAILS]]
 ALL = WELL_FORMED + 2 * [[LEADS], [TRAILS]]
 
@@ -46,7 +46,7 @@ def random_lists(seed, cases):
     source = random.Random(seed)
 
     def below(bound):
-        # Of the source's methods `random` alone gives the same numbers in every version of CPython.
+        # Of the source's methods, only `random` gives the same numbers in every version of CPython.
         return int(source.random() * bound)
 
     return [random_list(below) for _ in range(cases)]

@@ -1,4 +1,4 @@
-// Reads lists of units, one a line, and writes what the engine's TextEncoder makes of each, in the notation of wtf8_dump.
+// Reads lists of units, one a line, and writes their bytes by the engine's TextEncoder, in the notation of wtf8_dump.
 'use strict';
 const fs = require('fs');
 

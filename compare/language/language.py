@@ -49,7 +49,7 @@ def answer(line):
 EDGES = [0, 0x41, 0x7F, 0x80, 0xE9, 0x7FF, 0x800, 0xD7FF, 0xD800, 0xD83D, 0xDBFF, 0xDC00, 0xDCA9, 0xDFFF]
 EDGES += [0xE000, 0xFEFF, 0xFFFD, 0xFFFF, 0x10000, 0x1F4A9, 0xFFFFF, 0x10FFFF]
 
-# Each is a word, or several with the spaces between them, for which no line has another answer than a question mark.
+# Words, or several with the spaces between them, that make the output for any line a question mark.
 MALFORMED = b"""
 041|0000041|00D83D1|110000|FFFFFF|1000000|G041|004G|0x41|U+0041|-|/|--1|//1|-/1|/-1|-1234567890|/1234567890|-0000000001|/0000000001
 +1|-a|/a|-1a|/1f|1-|1/|-1.|!|!1|?|0041,|0041;0042|0041-1|0041/1|\t|0041\t0042|0041\r|\r|\xc3\xa9041|\xff|\x00|0041\x00|-\xd9\xa1
@@ -112,7 +112,7 @@ def listed_lines():
             for near in (-2, -1, 0, 1):
                 lines += [line + b" -%d DC00" % (width * length + near)] if 0 <= width * length + near else []
                 lines += [line + b" /%d DC00" % (units + near)] if 0 <= units + near else []
-    # Many refused cuts, and answers of about 30,000 and 70,000 bytes.
+    # Many refused cuts, and outputs of about 30,000 to 210,000 bytes.
     lines += [b"0041" + word * count for word in (b" -9", b" /9") for count in (99, 100, 255, 256, 300, 1000)]
     lines += [b" ".join([b"%04X" % point] * count) for point in (0x41, 0x20AC, 0xD800) for count in (9999, 10001, 23334)]
     return lines

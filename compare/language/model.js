@@ -1,9 +1,9 @@
 "use strict";
-// Answers lines as the program wtf8_dump does, by the engine's own strings: their concatenation, length, slice and code points.
+// The output of the program wtf8_dump, computed by the engine's own strings: concatenation, length, slice, code points.
 
 const fs = require("fs");
 
-// The bytes of a code point, by the table of four rows.
+// The bytes of a code point, surrogates included, by its encoded length.
 function encoded(point) {
     if (point < 0x80) return [point];
     if (point < 0x800) return [0xc0 + (point >> 6), 0x80 + (point & 63)];
@@ -11,7 +11,7 @@ function encoded(point) {
     return [0xf0 + (point >> 18), 0x80 + ((point >> 12) & 63), 0x80 + ((point >> 6) & 63), 0x80 + (point & 63)];
 }
 
-// The front of a text that is so many bytes long, or null where no code point ends there.
+// The front of a text that has `place` bytes, or null if no code point ends there.
 function frontOf(text, place) {
     let at = 0;
     let front = "";
@@ -46,7 +46,7 @@ function answer(line) {
     return shown.concat(refused === 0 ? [] : ["!" + refused]).join(" ");
 }
 
-// Each byte is a character of its own, so that bytes that are no text stay apart.
+// Each byte is read as one character, so that bytes that are not UTF-8 stay distinct.
 const lines = fs.readFileSync(0, "latin1").split("\n");
 if (lines[lines.length - 1] === "") lines.pop();
 process.stdout.write(lines.map((line) => answer(line) + "\n").join(""));

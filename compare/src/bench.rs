@@ -1,4 +1,4 @@
-//! Timings: columns by turns in one process, the least of some rounds each.
+//! Timings: the columns take turns in one process, and the least time of each counts.
 
 use std::fmt::Write;
 use std::fs;
@@ -15,7 +15,7 @@ use crate::ours;
 use crate::random::Random;
 use crate::say;
 
-/// The loops over strings of some units by number, as the proved library's exports know them.
+/// The loops over strings, by their numbers in the proved library's exports.
 const LOOPS: [(u32, &str); 21] = [
     (1, "from_ill_formed_utf16"),
     (2, "to_ill_formed_utf16, collected"),
@@ -40,19 +40,19 @@ const LOOPS: [(u32, &str); 21] = [
     (21, "UnitText, push of each unit"),
 ];
 
-/// Those of them that compare two strings.
+/// The loops that compare two strings.
 const COMPARING: [u32; 3] = [11, 12, 18];
 
 /// The loops over the lines among the units.
 const LOOPS_OF_LINES: [(u32, &str); 2] = [(22, "sort"), (23, "BTreeMap, get of each key")];
 
-/// How often a column is timed.
+/// The number of turns of each column.
 const TURNS: usize = 120;
 
-/// How long one turn takes at least, in nanoseconds.
+/// The least duration of a turn, in nanoseconds.
 const TURN: f64 = 1e6;
 
-/// The least time of each column for a row, in nanoseconds an item.
+/// A row of the table: the least time of each column, in nanoseconds per item.
 struct Row {
     name: String,
     ours: f64,
@@ -60,7 +60,7 @@ struct Row {
     standard: f64,
 }
 
-/// The rows of the table: each with the number of its loop, its name, and its input.
+/// The rows of the table: the number of the loop, the name and the input of each.
 fn all_rows() -> Vec<(u32, String, Input)> {
     let mut rows = Vec::new();
     for input in inputs::all() {
@@ -85,10 +85,10 @@ fn row(number: u32, call: &str, input: &Input) -> (u32, String, Input) {
     (number, format!("{call}\t{}", input.name), input.clone())
 }
 
-/// Times the rows whose name has the filter in it, prints them, and writes them to a file that `table` reads.
+/// Times the rows whose name contains the filter, prints them, and writes them to a file that `table` reads.
 pub fn run(filter: &str, file: &Path) -> bool {
     let mut lines = String::new();
-    // A file that cannot be written is better known before the time is spent.
+    // Fails before the time is spent if the file cannot be written.
     write_file(file, &lines);
     for (number, name, input) in all_rows() {
         if !name.contains(filter) {
@@ -119,7 +119,7 @@ fn write_file(file: &Path, text: &str) {
     }
 }
 
-/// Prints the names of the rows with the filter in them, each with the number of items that a round of it has.
+/// Prints the names of the rows that contain the filter, each with the number of items in a round.
 pub fn rows(filter: &str) -> bool {
     for (_, name, input) in all_rows() {
         if name.contains(filter) {
@@ -129,7 +129,7 @@ pub fn rows(filter: &str) -> bool {
     true
 }
 
-/// Runs one column's loop of a row and nothing else, for a tool that counts its instructions.
+/// Runs one column's loop of a row and nothing else, for a tool that measures it.
 pub fn run_loop(column: &str, row: &str, rounds: &str) -> bool {
     let found = all_rows().into_iter().find(|(_, name, _)| name == row);
     let Some((number, _, input)) = found else {
@@ -147,8 +147,8 @@ pub fn run_loop(column: &str, row: &str, rounds: &str) -> bool {
     true
 }
 
-/// Times a row, or answers `None` where the sides' answers differ. Each side has rounds of its own, so that a turn of each
-/// takes as long.
+/// Times a row. Returns `None` if the columns return different sums. The proved library and the crate have their own
+/// numbers of rounds, so that their turns take about equally long.
 fn time(number: u32, name: String, input: &Input) -> Option<Row> {
     let Input { units, others, .. } = input;
     let rounds = rounds_of_a_turn(|rounds| {
@@ -161,8 +161,8 @@ fn time(number: u32, name: String, input: &Input) -> Option<Row> {
     let mut random = Random::new(u64::from(number));
     let mut least = [f64::INFINITY; 4];
     for _ in 0..TURNS {
-        // Where strings lie may decide as much as what is done with them, so each turn makes all of them elsewhere, and
-        // each side's when no other side's are there.
+        // Times depend on the addresses of the strings, so each turn makes all strings at other addresses, one column's
+        // while no other column has any.
         let _elsewhere = black_box(vec![0u8; random.between(1, 8192) as usize]);
         let (made, _) = timed(|| ours::time(number, units, others, 0));
         let (with_making, _) = timed(|| ours::time(number, units, others, own_rounds));
@@ -200,7 +200,7 @@ fn time(number: u32, name: String, input: &Input) -> Option<Row> {
     })
 }
 
-/// A number of rounds with which a loop takes long enough.
+/// Doubles the number of rounds, up to 2^24, until a loop takes at least `TURN`.
 fn rounds_of_a_turn(run: impl Fn(u32)) -> u32 {
     let mut rounds = 16;
     loop {
@@ -218,8 +218,8 @@ fn timed<T>(run: impl FnOnce() -> T) -> (f64, T) {
     (start.elapsed().as_nanos() as f64, answer)
 }
 
-/// Prints the tables of some files of rows, those of the two cargo profiles with the code in two places: the rows above 1.00,
-/// the greatest first, and all rows. A row's numbers are the least in all of the files.
+/// Prints two tables from files of rows, one file for each cargo profile and address of the code: the rows with a ratio
+/// above 1.00, the greatest first, then all rows. Each number is the least of all files.
 pub fn table(files: &[&str]) -> bool {
     let texts: Vec<String> = files.iter().map(|file| rows_of_file(file)).collect();
     let all: Vec<(f64, String)> = texts[0]
@@ -243,7 +243,7 @@ fn say_table<'a>(rows: impl Iterator<Item = &'a (f64, String)>) {
     }
 }
 
-/// The ratio of a row of files, as it is shown, and its line in the table.
+/// The rounded ratio of a row, and its line in the table.
 fn table_row(line: &str, texts: &[String]) -> (f64, String) {
     let words: Vec<&str> = line.split('\t').collect();
     let same = texts.iter().flat_map(|text| text.lines());
@@ -270,7 +270,7 @@ fn table_row(line: &str, texts: &[String]) -> (f64, String) {
     ((100.0 * ratio).round() / 100.0, line)
 }
 
-/// The text of a file of rows, or the end of the program with one line that says what is wrong with it.
+/// The text of a file of rows. Ends the program with one line if it cannot be read or a line is not a row.
 fn rows_of_file(file: &str) -> String {
     let text = match fs::read_to_string(file) {
         Ok(text) => text,

@@ -1,17 +1,17 @@
-//! Lists of scripts on strings whose number of bytes is about that of a block of a search or a copy, or of several, and on
-//! strings of up to 65,000 bytes.
+//! Lists of scripts on strings about as long as one or more blocks of a search or a copy, and on strings of 65,000
+//! bytes.
 
 use crate::generate::{from_units, registers};
 use crate::long::{byte_len, changed, changed_at, on, string_in, with_surrogate_at, BASES};
 use crate::script::{Call, Operand};
 
-/// Numbers of bytes about the ends of blocks.
+/// Lengths in bytes about the ends of blocks.
 const ABOUT_BLOCKS: [usize; 9] = [127, 128, 129, 255, 256, 257, 511, 512, 513];
 
-/// The most bytes of a text that one call takes.
+/// The most bytes in a text operand.
 const MOST_BYTES: usize = 255;
 
-/// A string of so many bytes: the points of a base over and over, and letters behind them where none of them fits.
+/// A string of `bytes` bytes: the code points of `base` repeated, and a letter where the next one does not fit.
 fn units_of_bytes(base: &[u16], bytes: usize) -> Vec<u16> {
     let mut points =
         char::decode_utf16(base.iter().copied().cycle()).map(|point| point.unwrap_or('a'));
@@ -25,27 +25,27 @@ fn units_of_bytes(base: &[u16], bytes: usize) -> Vec<u16> {
     text.encode_utf16().collect()
 }
 
-/// What a list makes of a string's units.
+/// Makes the script for a string's units.
 type Script = fn(&[u16]) -> Vec<Call>;
 
-/// A script for each base and each number of bytes about the ends of blocks.
+/// A script for each base and each length about the ends of blocks.
 fn about_blocks(script: Script) -> Vec<Vec<Call>> {
     let lens = |base: &'static [u16]| ABOUT_BLOCKS.map(|bytes| units_of_bytes(base, bytes));
     let strings = BASES.into_iter().flat_map(lens);
     strings.map(|units| script(&units)).collect()
 }
 
-/// One unit changed at each place, compared both ways.
+/// One unit changed at each index, compared in both directions.
 pub fn changed_at_each_place() -> Vec<Vec<Call>> {
     about_blocks(|units| changed_at(units, 0..units.len()))
 }
 
-/// One lone surrogate at each place, and none: texts, hash and lossy texts.
+/// No lone surrogate, and one at each index: texts, lossy or not.
 pub fn one_surrogate() -> Vec<Vec<Call>> {
     about_blocks(|units| with_surrogate_at(units, 0..units.len()))
 }
 
-/// One lone surrogate at each place, and none: the debug text.
+/// One lone surrogate at each index: the debug text.
 pub fn debug_texts() -> Vec<Vec<Call>> {
     about_blocks(|units| {
         let mut calls = Vec::new();
@@ -57,7 +57,7 @@ pub fn debug_texts() -> Vec<Vec<Call>> {
     })
 }
 
-/// A string cut at each byte, off its boundaries and beyond its end too, and all that answers by a position.
+/// The boundaries of a string, and `at_position` at each byte position up to one past the end.
 pub fn positions() -> Vec<Vec<Call>> {
     about_blocks(|units| {
         let mut calls = string_in(0, units);
@@ -69,7 +69,7 @@ pub fn positions() -> Vec<Vec<Call>> {
     })
 }
 
-/// Each call that takes a position, on the string in register 0.
+/// The calls that take one position, on the string in register 0.
 fn at_position(position: usize) -> Vec<Call> {
     let place = || Operand::Number(position as u16);
     let (zero, one) = (|| Operand::Register(0), || Operand::Register(1));
@@ -82,8 +82,8 @@ fn at_position(position: usize) -> Vec<Call> {
     ]
 }
 
-/// Units of one kind with two others among them, at each two places of 36 units: made of units, and their units appended
-/// behind none to two others.
+/// 36 units of one kind, with two others at every two indexes: made into a string, whose units are appended to none,
+/// one or two others.
 pub fn of_mixed_kinds() -> Vec<Vec<Call>> {
     let mut scripts = Vec::new();
     for base in [0x61, 0xE9, 0x20AC, 0xD800, 0xDC00] {
@@ -102,7 +102,7 @@ pub fn of_mixed_kinds() -> Vec<Vec<Call>> {
     scripts
 }
 
-/// Two units of other kinds, each kind with itself and with the next, so that some stand for a pair where they meet.
+/// Two units of other kinds, each kind with itself and with the next. Some form a pair if they are adjacent.
 const OTHERS: [(u16, u16); 10] = [
     (0x7F, 0x7F),
     (0x7F, 0x80),
@@ -116,10 +116,10 @@ const OTHERS: [(u16, u16); 10] = [
     (0xDCA9, 0x00),
 ];
 
-/// Units that stand before those that are appended.
+/// The units to which others are appended.
 const ABOUT_UNITS: [u16; 2] = [0xDFFF, 0xD800];
 
-/// A string made of units, all of which are appended behind some others.
+/// Makes a string of `units`, and appends all its units to `before`.
 fn made_and_appended(units: &[u16], before: &[u16]) -> [Call; 2] {
     let before = Operand::Units(before.to_vec());
     [
@@ -128,8 +128,8 @@ fn made_and_appended(units: &[u16], before: &[u16]) -> [Call; 2] {
     ]
 }
 
-/// Texts of each number of bytes that a call takes, each pushed onto an empty string, onto a letter and onto a lead, and made
-/// a string in each other way.
+/// Texts of each length that a text operand can have: pushed to an empty string, to a letter and to a lead surrogate,
+/// and made into a string by each other call.
 pub fn texts_of_each_length() -> Vec<Vec<Call>> {
     let mut scripts = Vec::new();
     for base in [BASES[0], BASES[1], BASES[3], BASES[5]] {
@@ -157,12 +157,12 @@ fn text_calls(units: &[u16]) -> Vec<Call> {
     calls
 }
 
-/// Strings of 65,000 bytes and a few less, cut and looked at far from their begin.
+/// Strings of 65,000 bytes, cut and read far from their start.
 pub fn far() -> Vec<Vec<Call>> {
     let mut scripts = Vec::new();
     for base in BASES {
         for far in [8191, 16_384, 32_767, 49_153, 60_001, 64_999] {
-            // Each position by itself: the crate tells what is no boundary by a panic that writes the whole string.
+            // Few positions: off a boundary the crate panics with the whole string in its message.
             let mut calls = string_of_far_bytes(&units_of_bytes(base, 250));
             for position in far - 1..=far + 2 {
                 calls.extend(at_position(position));
@@ -181,11 +181,11 @@ pub fn far() -> Vec<Vec<Call>> {
     scripts
 }
 
-/// The string of 260 times some units of 250 bytes, in register 0.
+/// Makes the string of 260 copies of `units` in register 0: 65,000 bytes if `units` has 250.
 fn string_of_far_bytes(units: &[u16]) -> Vec<Call> {
     let mut calls = vec![from_units(0, units), from_units(2, units)];
     for doubled in 0..8 {
-        // 256 times by doubling, and four times more behind it.
+        // 256 copies by doubling, and the four of register 2 at the end.
         if doubled == 2 {
             calls.push(registers("clone", 2, 0));
         }

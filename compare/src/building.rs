@@ -1,9 +1,9 @@
-//! Lists of building calls, and of false hints.
+//! Lists of building calls, and of code points under false size hints.
 
 use crate::generate::from_units;
 use crate::script::{Build, Call, Operand, UNBOUNDED};
 
-/// Lower hints, false and true.
+/// Lower size hints, false and true.
 const HINTS: [u16; 6] = [0, 1, 2, 5, 7, 1000];
 
 fn alphabet() -> Vec<Build> {
@@ -26,7 +26,7 @@ fn alphabet() -> Vec<Build> {
     ]
 }
 
-/// All lists of up to three calls, one by one, as a list, and as one without memory but the spare room.
+/// All lists of up to three calls: by `apply`, by `apply_all`, and by `apply_all` with no memory but spare capacity.
 pub fn lists_of_calls() -> Vec<Vec<Call>> {
     let alphabet = alphabet();
     let mut lists: Vec<Vec<Build>> = vec![Vec::new()];
@@ -44,7 +44,7 @@ pub fn lists_of_calls() -> Vec<Vec<Call>> {
     lists.iter().map(|list| calls_of(list)).collect()
 }
 
-/// A few of these, for a list that is short.
+/// Some of these scripts, for the recorded list.
 pub fn chosen() -> Vec<Vec<Call>> {
     let mut scripts: Vec<Vec<Call>> = lists_of_calls().into_iter().step_by(61).collect();
     scripts.extend(false_hints().into_iter().skip(3).step_by(8));
@@ -79,7 +79,7 @@ fn calls_of(list: &[Build]) -> Vec<Call> {
     calls
 }
 
-/// Points under lower hints that are false, on strings that end with a lead and that do not.
+/// Code points under each of `HINTS`: collected, and appended to the empty string, a letter and a lead surrogate.
 pub fn false_hints() -> Vec<Vec<Call>> {
     let all = [0x61, 0xD83D, 0xDCA9, 0xDC00, 0x10000, 0xE9, 0x20AC, 0xD800];
     let mut scripts = Vec::new();

@@ -1,4 +1,4 @@
-//! The timed loops over the original crate, and over the standard library's own WTF-8 where the compiler gives it.
+//! The timed loops over the original crate, and over the standard library's own WTF-8 if the compiler gives access.
 
 use std::collections::BTreeMap;
 use std::hash::Hash;
@@ -7,7 +7,7 @@ use std::hint::black_box;
 use crate::fed::fed_by;
 use crate::inputs::LINE_END;
 
-/// How many equal strings a loop goes round.
+/// The number of equal strings that a loop cycles through.
 const STRINGS: usize = 4;
 
 /// The number of the first loop over the lines among the units.
@@ -29,9 +29,9 @@ macro_rules! column {
             }
 
             impl Bench {
-                /// Equal strings of some units for the loop of a number, those of other units that they are compared with,
-                /// if there are any, and what else the loops work on, made in the same order as the proved library's, so
-                /// that they lie alike.
+                /// Makes equal strings of `units` for loop `number`, strings of `others` to compare them with unless
+                /// `others` is empty, and what else the loops work on, all in the order of the proved library, so that
+                /// they lie alike in memory.
                 pub fn new(number: u32, units: &[u16], others: &[u16]) -> Bench {
                     let string = Wtf8Buf::$from_units(units);
                     let points = string.code_points().collect();
@@ -57,7 +57,7 @@ macro_rules! column {
                     black_box(&self.strings[round as usize % STRINGS])
                 }
 
-                /// Runs the loop of a number, and answers a sum over what its calls answered.
+                /// Runs a loop, and returns a checksum of what its calls returned. `None` if no loop has the number.
                 pub fn run(&self, number: u32, rounds: u32) -> Option<u64> {
                     match number {
                         1 => Some(sum(rounds, |_| {
@@ -130,7 +130,7 @@ macro_rules! column {
                     }
                 }
 
-                /// In how many rounds the round's string and the one that it is compared with are so.
+                /// The number of rounds in which `are` holds for the round's string and the other one.
                 fn compare(&self, rounds: u32, are: impl Fn(&Wtf8Buf, &Wtf8Buf) -> bool) -> u64 {
                     let others = self.others.as_ref().unwrap_or(&self.strings);
                     sum(rounds, |round| {
@@ -139,7 +139,7 @@ macro_rules! column {
                     })
                 }
 
-                /// Makes a string of so many units behind the first ones, and answers its length.
+                /// Makes a string of `count` units from index `begin`, and returns its length.
                 fn part(&self, round: u32, begin: usize, count: usize) -> u64 {
                     let units = self.string_at(round).$units();
                     let units: Vec<u16> = units.skip(begin).take(count).collect();
@@ -197,7 +197,7 @@ macro_rules! column {
                 }
             }
 
-            /// Each loop is a function of its own, so that where its code lies does not depend on the other loops.
+            /// Each loop is a function of its own, so that the address of its code does not depend on the other loops.
             #[inline(never)]
             fn sum(rounds: u32, answer: impl Fn(u32) -> u64) -> u64 {
                 (0..rounds).fold(0, |sum, round| sum.wrapping_add(answer(round)))
@@ -206,8 +206,8 @@ macro_rules! column {
     };
 }
 
-/// The bytes of a string in hexadecimal. Neither crate has such a call: this is what their users can write, by the bytes
-/// that a hasher is fed, with FE behind them.
+/// The bytes of a string in hexadecimal. Neither crate has such a call: this is what their users can write, with the
+/// bytes that a hasher is fed, without the FE at their end.
 fn hex_dump(text: &impl Hash) -> String {
     const DIGITS: &[u8; 16] = b"0123456789ABCDEF";
     let mut bytes = fed_by(text);

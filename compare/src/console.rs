@@ -1,9 +1,9 @@
-//! What the program says, on an output that may be closed.
+//! Prints to an output that may be closed.
 
 use std::fmt;
 use std::io::{self, IsTerminal, Write};
 
-/// Prints a line, or some text, on standard output.
+/// Prints a line on standard output.
 #[macro_export]
 macro_rules! say {
     ($($words:tt)*) => {
@@ -11,7 +11,7 @@ macro_rules! say {
     };
 }
 
-/// Prints on standard output, or ends the program with one line where that is closed.
+/// Prints on standard output, or ends the program with one line if that fails.
 pub fn print(text: fmt::Arguments<'_>) {
     let mut out = io::stdout().lock();
     if let Err(error) = out.write_fmt(text).and_then(|()| out.flush()) {
@@ -19,7 +19,7 @@ pub fn print(text: fmt::Arguments<'_>) {
     }
 }
 
-/// Shows how far the program is, where somebody may be looking.
+/// Shows how far the program is, if standard error is a terminal.
 pub fn progress(text: &str) {
     let mut out = io::stderr();
     if out.is_terminal() {
@@ -27,7 +27,7 @@ pub fn progress(text: &str) {
     }
 }
 
-/// Ends the program with one line that says why.
+/// Ends the program with status 2 and one line that says why.
 pub fn fail(why: &str) -> ! {
     let _ = writeln!(io::stderr(), "compare: {why}");
     std::process::exit(2)

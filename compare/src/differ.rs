@@ -1,4 +1,4 @@
-//! The two sides' answers to the same scripts.
+//! Runs scripts on both sides and compares the transcripts.
 
 use crate::console::progress;
 use crate::generate;
@@ -16,10 +16,10 @@ const REFUSALS: [&str; 5] = [
     "ascii_byte_at",
 ];
 
-/// How many scripts are given to both sides together.
+/// The number of scripts that both sides run at a time.
 const BATCH: usize = 1000;
 
-/// What was run, and the known differences that were seen.
+/// Counts of what was run, and examples of the known differences.
 #[derive(Default)]
 struct Tally {
     scripts: u64,
@@ -30,8 +30,8 @@ struct Tally {
     refusal_examples: Vec<(&'static str, Vec<Call>)>,
 }
 
-/// Runs the lists that are gone through one by one, `cases` random scripts, and as many lists of building calls against the
-/// model. The answer is whether the sides agree, but for the known differences.
+/// Runs all of `LISTS`, `cases` random scripts, and `cases` random lists of building calls against the model. Returns
+/// whether the sides agree, but for the known differences.
 pub fn run(seed: u64, cases: u64, every_point: bool) -> bool {
     let mut tally = Tally::default();
     for (name, list) in LISTS {
@@ -62,7 +62,7 @@ pub fn run(seed: u64, cases: u64, every_point: bool) -> bool {
     true
 }
 
-/// What the crate answers to scripts, and the proved library's transcripts, as many as there are.
+/// Runs scripts on the crate and on the proved library, whose transcripts are fewer if its program ended.
 fn answers_of(batch: &[Vec<Call>]) -> (Vec<Answers>, Vec<String>) {
     let scripts: Vec<Vec<u8>> = batch.iter().map(|script| encode(script)).collect();
     std::thread::scope(|scope| {
@@ -81,7 +81,7 @@ fn differs(script: &[Call]) -> bool {
 }
 
 impl Tally {
-    /// Whether the two sides agree on a list of scripts, which are run many at a time, side by side.
+    /// Whether the two sides agree on a list of scripts, which they run in batches, in parallel.
     fn agrees_on(&mut self, name: &str, mut scripts: impl Iterator<Item = Vec<Call>>) -> bool {
         for turn in 0.. {
             let batch: Vec<Vec<Call>> = scripts.by_ref().take(BATCH).collect();

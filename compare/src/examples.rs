@@ -1,10 +1,10 @@
-//! Lists of worked examples: strings in the order of their code points, hash inputs, iterators at each moment, orders of units,
-//! and runs of one kind broken at each place.
+//! Lists of worked examples: strings in the order of their code points, hash inputs, iterators in each state, orders by
+//! code units, and runs of one kind with another kind at each index.
 
 use crate::generate::{call_on, from_units, push, registers};
 use crate::script::{Call, Operand};
 
-/// The code points of strings, in the order of the strings.
+/// Strings as code points, in ascending order.
 const IN_ORDER: [&[u32]; 14] = [
     &[],
     &[0x0000],
@@ -22,7 +22,7 @@ const IN_ORDER: [&[u32]; 14] = [
     &[0xD83D, 0xDCA9],
 ];
 
-/// Leads and trails that join, and units that stay alone.
+/// Units with pairs, and with surrogates that stay lone.
 const JOINING: [&[u16]; 12] = [
     &[],
     &[0xD83D, 0xDCA9],
@@ -38,7 +38,7 @@ const JOINING: [&[u16]; 12] = [
     &[0x0061, 0x00E9, 0x0020, 0xD83D, 0xDCA9],
 ];
 
-/// Lists of units whose order is not that of their code points, and others.
+/// Lists of units to compare, some of which have another order by code units than by code points.
 const BY_UNITS: [(&[u16], &[u16]); 12] = [
     (&[0xE000], &[0xD800, 0xDC00]),
     (&[0xFFFF], &[0xD800, 0xDC00]),
@@ -54,7 +54,7 @@ const BY_UNITS: [(&[u16], &[u16]); 12] = [
     (&[], &[]),
 ];
 
-/// Lists of units with surrogates at both ends, and others.
+/// Lists of units, some with surrogates at both ends.
 const LISTS: [&[u16]; 6] = [
     &[],
     &[0xDCA9, 0x61, 0xE9, 0xFFFF, 0xD83D],
@@ -64,7 +64,7 @@ const LISTS: [&[u16]; 6] = [
     &[0x61, 0xE9, 0x20, 0xD83D, 0xD83D, 0xDCA9],
 ];
 
-/// One code point of each length, a lone lead and a lone trail.
+/// One code point of each encoded length, a lone lead and a lone trail.
 const KINDS: [&[u16]; 6] = [
     &[0x61],
     &[0xE9],
@@ -98,7 +98,7 @@ pub fn recorded() -> Vec<Vec<Call>> {
     scripts
 }
 
-/// All lists: with the recorded ones a difference at each place, and runs of units broken at each place.
+/// All examples: the recorded ones, a difference at each index, and runs with another kind at each index.
 pub fn all() -> Vec<Vec<Call>> {
     let mut scripts = recorded();
     for letters in 0..70 {
@@ -118,7 +118,7 @@ pub fn all() -> Vec<Vec<Call>> {
     scripts
 }
 
-/// The first string, made of a text.
+/// Makes the string of register 0 from a text.
 fn from_text(text: &str) -> Call {
     let operands = vec![Operand::Register(0), Operand::Text(text.to_owned())];
     Call::new("from_str", operands)
@@ -131,14 +131,14 @@ fn steps(register: u8, name: &str, steps: Vec<u8>) -> Call {
     )
 }
 
-/// The string that pushes of some code points build.
+/// Makes a string by pushing code points.
 fn pushed(register: u8, points: &[u32]) -> Vec<Call> {
     let mut calls = vec![call_on(register, "new")];
     calls.extend(points.iter().map(|point| push(register, *point)));
     calls
 }
 
-/// A string of code points compared with each other one by every way to ask, and what it feeds a hasher.
+/// A string compared with each one of `IN_ORDER`, and the bytes that it feeds a hasher.
 fn compared_by_points(own: &[u32]) -> Vec<Call> {
     let mut calls = pushed(0, own);
     calls.push(call_on(0, "hash"));
@@ -149,8 +149,8 @@ fn compared_by_points(own: &[u32]) -> Vec<Call> {
     calls
 }
 
-/// Both iterators of a string with their hints before each item and behind the end, and clones made behind each number of items:
-/// run to their end beside the iterator, dropped early, and gone on with.
+/// Both iterators of a string with their size hints before each item and after the end, and clones made after each
+/// number of items: drained while the iterator goes on, dropped early, and used in its place.
 fn iterated(units: &[u16]) -> Vec<Call> {
     let mut calls = vec![from_units(0, units)];
     for name in ["code_points", "to_ill_formed_utf16"] {
@@ -164,7 +164,7 @@ fn iterated(units: &[u16]) -> Vec<Call> {
     calls
 }
 
-/// The orders of two lists by units and by code points.
+/// Compares two lists by code units and by code points.
 fn compared_by_units(own: &[u16], others: &[u16]) -> Vec<Call> {
     vec![
         from_units(0, own),
@@ -174,14 +174,14 @@ fn compared_by_units(own: &[u16], others: &[u16]) -> Vec<Call> {
     ]
 }
 
-/// So many letters, and behind them a character of each length, a pair in two halves and a lone lead.
+/// `letters` ASCII letters, then code points of two, three and four bytes, and a lone lead.
 fn long_list(letters: usize) -> Vec<u16> {
     let mut units = vec![0x61; letters];
     units.extend([0xE9, 0xFFFF, 0xD83D, 0xDCA9, 0xDBFF, 0xDFFF, 0xD83D]);
     units
 }
 
-/// A list compared with itself with another unit at each place, and that with the list's beginning before the place.
+/// A list compared with a copy that has `unit` at each index in turn, and that copy with the units before the index.
 fn changed_at_each_place(list: &[u16], unit: u16) -> Vec<Call> {
     let mut calls = vec![from_units(0, list)];
     for place in 0..list.len() {
@@ -195,7 +195,7 @@ fn changed_at_each_place(list: &[u16], unit: u16) -> Vec<Call> {
     calls
 }
 
-/// A run of so many code points of one kind, with each other kind at one place: its bytes and its units.
+/// A run of `length` equal code points with one of each kind at index `place`: its bytes, and its units by index.
 fn broken(run: &[u16], length: usize, place: usize) -> Vec<Call> {
     let with = |other: &[u16]| {
         let units: Vec<u16> = (0..length)
@@ -217,8 +217,8 @@ fn copies_of_every_length() -> Vec<Call> {
     calls
 }
 
-/// Strings made of texts compared with strings of code points: equal where their units are, and not where a text only spells
-/// a surrogate.
+/// Strings made of texts, compared with strings of code points: equal if their units are, and different if a text only
+/// spells a surrogate in ASCII.
 fn equal_or_not() -> Vec<Call> {
     let mut calls = Vec::new();
     for (text, points) in [
@@ -234,7 +234,7 @@ fn equal_or_not() -> Vec<Call> {
     calls
 }
 
-/// Items of a string that a trail joins, and of one to which a character is pushed behind a lead.
+/// The items of a string whose last lead a trail completes, and of one with a character pushed after a lead.
 fn followed() -> Vec<Call> {
     let items = || {
         [

@@ -1,8 +1,8 @@
-//! What a value feeds a hasher.
+//! The bytes that a value feeds a hasher.
 
 use std::hash::{Hash, Hasher};
 
-/// Keeps all that it is fed.
+/// A hasher that keeps its input.
 #[derive(Default)]
 struct Recorder {
     bytes: Vec<u8>,
@@ -18,7 +18,7 @@ impl Hasher for Recorder {
     }
 }
 
-/// The bytes that a value feeds a hasher, one behind the other.
+/// The bytes that a value feeds a hasher, in order.
 pub fn fed_by<T: Hash + ?Sized>(value: &T) -> Vec<u8> {
     let mut recorder = Recorder::default();
     value.hash(&mut recorder);

@@ -1,9 +1,9 @@
-//! Random scripts, and the lists of scripts that are gone through one by one.
+//! Random scripts, and scripts for the exhaustive lists.
 
 use crate::random::Random;
 use crate::script::{Build, Call, Kind, Operand, CALLS, UNBOUNDED};
 
-/// Code points at the edges of the encodings' classes, and two numbers that are none.
+/// Code points, among them the ends of each encoded length, and two numbers above U+10FFFF.
 pub const EDGES: [u32; 32] = [
     0x0000,
     0x0001,
@@ -39,12 +39,12 @@ pub const EDGES: [u32; 32] = [
     0xFFFF_FFFF,
 ];
 
-/// The units of the exhaustive lists: each class, and the edges of the surrogates.
+/// The units of the exhaustive lists: one of each encoded length, the ends of the surrogates, and their neighbours.
 pub const ALPHABET: [u16; 9] = [
     0x41, 0xE9, 0x20AC, 0xD7FF, 0xD800, 0xDBFF, 0xDC00, 0xDFFF, 0xE000,
 ];
 
-/// The least and the greatest code point of each kind: one, two and three bytes, a lead and a trail alone, a pair.
+/// The least and the greatest code point of each kind: one, two and three bytes, lone leads, lone trails, pairs.
 const KINDS: [(u32, u32); 7] = [
     (0x00, 0x7F),
     (0x80, 0x7FF),
@@ -62,7 +62,7 @@ pub fn script(random: &mut Random) -> Vec<Call> {
 }
 
 fn call(random: &mut Random) -> Call {
-    // Half of the calls make or change strings, so that the others have something to look at.
+    // More than half of the calls on average make or change strings, so that the others have something to read.
     let opcode = match random.below(2) {
         0 => random.below(CALLS.len() as u64) as u8,
         _ => random.between(2, 18) as u8,
@@ -75,7 +75,7 @@ fn call(random: &mut Random) -> Call {
     Call { opcode, operands }
 }
 
-/// A building call of a list, with points of every class.
+/// A random building call.
 pub fn build(random: &mut Random) -> Build {
     match random.below(16) {
         0..=3 => Build::Push(value(random)),
@@ -128,7 +128,7 @@ pub fn operand(random: &mut Random, kind: Kind) -> Operand {
     }
 }
 
-/// Mostly short, now and then up to the most.
+/// A length that is mostly short and sometimes up to `most`.
 fn length(random: &mut Random, most: u32) -> u32 {
     match random.below(24) {
         0 => random.between(0, most),
@@ -147,7 +147,7 @@ fn number(random: &mut Random) -> u16 {
     }
 }
 
-/// A number that is a code point but for a few, of every class of the encodings.
+/// A number of any encoded length, seldom above U+10FFFF.
 fn value(random: &mut Random) -> u32 {
     match random.below(16) {
         0..=3 => random.pick(&EDGES),
@@ -170,7 +170,7 @@ fn unit(random: &mut Random) -> u16 {
     }
 }
 
-/// So many units by runs of one kind, as texts have them: the blocks in which units are read and written begin and end
+/// `count` units in runs of one kind, as texts have them: the blocks in which units are read and written begin and end
 /// anywhere in a run.
 fn runs(random: &mut Random, count: usize) -> Vec<u16> {
     let mut units = Vec::new();
@@ -204,7 +204,7 @@ fn longer_by_one(list: &[u16]) -> Vec<Vec<u16>> {
     ALPHABET.iter().map(with).collect()
 }
 
-/// Every call on the string of a list of units, and the string made in every other way that there is, cut at every place.
+/// Calls that read the string of `units`, cut it at every index and position, and join the pieces again.
 pub fn calls_on(units: &[u16]) -> Vec<Call> {
     let mut calls = vec![from_units(0, units)];
     let steps: Vec<u8> = (0..=units.len())
@@ -224,7 +224,7 @@ pub fn calls_on(units: &[u16]) -> Vec<Call> {
         calls.extend(cut_and_joined(units, cut));
         calls.extend(cut_by_units(units.len(), cut));
     }
-    // One beyond the longest string and one more, which the crate refuses as well.
+    // Up to two past the longest string of these units, which the crate refuses as well.
     for position in 0..=3 * units.len() as u16 + 2 {
         calls.extend(cut_at(position));
     }
@@ -235,7 +235,7 @@ pub fn calls_on(units: &[u16]) -> Vec<Call> {
     calls
 }
 
-/// The units in two pieces, pushed, collected and extended, each compared with the whole in register 0.
+/// The units in two pieces, joined by `push_wtf8`, `extend` and `push`, and compared with the whole in register 0.
 pub fn cut_and_joined(units: &[u16], cut: usize) -> Vec<Call> {
     let (front, back) = units.split_at(cut);
     let points = |units: &[u16]| Operand::Points(units.iter().copied().map(u32::from).collect());
@@ -267,7 +267,7 @@ pub fn cut_and_joined(units: &[u16], cut: usize) -> Vec<Call> {
     calls
 }
 
-/// A copy of the string in register 0 cut at a number of units, and the slices that begin there, up to one that is too long.
+/// `truncate_units` of a copy of register 0, and `slice_units` from that unit, the last slice past the end.
 pub fn cut_by_units(len: usize, cut: usize) -> Vec<Call> {
     let count = Operand::Number(cut as u16);
     let mut calls = vec![
@@ -285,7 +285,7 @@ pub fn cut_by_units(len: usize, cut: usize) -> Vec<Call> {
     calls
 }
 
-/// Each call that takes a position, at one.
+/// The calls that take a position or a count, with `position`.
 fn cut_at(position: u16) -> Vec<Call> {
     let place = Operand::Number(position);
     let mut calls = vec![
@@ -313,13 +313,13 @@ pub fn from_units(register: u8, units: &[u16]) -> Call {
     Call::new("from_ill_formed_utf16", operands)
 }
 
-/// A code point pushed to the string of a register.
+/// Pushes a code point to the string of a register.
 pub fn push(register: u8, value: u32) -> Call {
     let operands = vec![Operand::Register(register), Operand::Value(value)];
     Call::new("push", operands)
 }
 
-/// A call of a string that has no other operand.
+/// A call whose only operand is a register.
 pub fn call_on(register: u8, name: &str) -> Call {
     Call::new(name, vec![Operand::Register(register)])
 }
@@ -331,7 +331,7 @@ pub fn registers(name: &str, first: u8, second: u8) -> Call {
     )
 }
 
-/// The calls of code points at each edge, compared with each other edge.
+/// The calls of each of `EDGES`, and its comparisons with all of them.
 pub fn edge_calls() -> Vec<Vec<Call>> {
     let on_edge = |point: &u32| {
         let mut calls = point_calls(*point);
@@ -344,7 +344,7 @@ pub fn edge_calls() -> Vec<Vec<Call>> {
     EDGES.iter().map(on_edge).collect()
 }
 
-/// The calls of one code point, and the string of it alone.
+/// The calls of one code point, and calls of the string of that code point.
 pub fn point_calls(point: u32) -> Vec<Call> {
     let value = || Operand::Value(point);
     let register = || Operand::Register(0);

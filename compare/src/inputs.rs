@@ -6,9 +6,9 @@ use crate::random::Random;
 pub struct Input {
     pub name: String,
     pub units: Vec<u16>,
-    /// The units of the strings that these are compared with; none where they are compared with equal ones.
+    /// The units of the strings that these are compared with; empty if those are equal.
     pub others: Vec<u16>,
-    /// How many items a round has: units, or lines.
+    /// The number of items in a round: units, or lines.
     pub items: usize,
 }
 
@@ -26,19 +26,19 @@ impl Input {
 /// The unit that ends a line.
 pub const LINE_END: u16 = 0x0A;
 
-/// The name of a short input of one code point of each kind after another.
+/// The name of a short input in which no two code points side by side have the same encoded length.
 const KINDS_THAT_DIFFER: &str = "12 units, kinds that differ";
 
-/// How many lines the list of file names has.
+/// The number of lines in the list of file names.
 const LINES: usize = 1000;
 
-/// How many units the long inputs have.
+/// The number of units in the long inputs.
 const LONG: usize = 4096;
 
-/// How many units the inputs have that are like texts of people: more than a processor learns by heart.
+/// The number of units in the inputs that are like real texts: more than a processor's branch predictor learns.
 const TEXT: usize = 1 << 16;
 
-/// The names of the inputs of texts that are counted in units.
+/// The names of the inputs for `UnitText`.
 pub const NAMES_OF_TEXTS: [&str; 3] = ["ASCII", "CJK", "mixed"];
 
 /// All inputs, in the order of the table.
@@ -80,8 +80,8 @@ pub fn all() -> Vec<Input> {
     inputs
 }
 
-/// The inputs that are compared with strings that differ from them in one unit, each beside the name of its place: the first,
-/// the middle or the last one.
+/// The inputs that are compared with strings that differ from them in one unit, each with the name of that unit's
+/// index: first, middle or last.
 pub fn pairs() -> Vec<(&'static str, Input)> {
     let names = [
         "ASCII",
@@ -103,13 +103,13 @@ fn differing(input: Input) -> [(&'static str, Input); 3] {
     [("first", 0), ("middle", last / 2), ("last", last)].map(|(place, at)| {
         let mut pair = input.clone();
         pair.others = input.units.clone();
-        // The unit is of the same kind, and a half of a pair stays one.
+        // The unit keeps its encoded length, and a surrogate stays a lead or a trail.
         pair.others[at] ^= 1;
         (place, pair)
     })
 }
 
-/// A list of file names, a line each: of a few folders, with numbers and endings, some with letters beyond ASCII.
+/// File names, one a line: from a few folders, with numbers and endings, some with letters beyond ASCII.
 pub fn lines() -> Input {
     let folders = ["src", "docs", "images", "\u{65E5}\u{672C}"];
     let names = ["report", "IMG_", "notes", "\u{E9}t\u{E9}", "main"];
@@ -129,19 +129,19 @@ pub fn lines() -> Input {
     }
 }
 
-/// Texts as people have them: none is of one kind, and none repeats.
+/// Inputs like real texts: none is of one kind, and none repeats.
 fn texts_of_people() -> [Input; 5] {
     let letter = |random: &mut Random| match random.below(6) {
         0 => 0x20,
         _ => random.between(0x61, 0x7A),
     };
     [
-        // One in twelve an accented letter.
+        // One in twelve is an accented letter.
         text("French", |random| match random.below(12) {
             0 => random.pick(&[0xE0, 0xE7, 0xE8, 0xE9, 0xE9, 0xE9, 0xEA, 0xF4]),
             _ => letter(random),
         }),
-        // One in sixty a typographic quotation mark or dash.
+        // One in sixty is a typographic quotation mark or dash.
         text("English", |random| match random.below(60) {
             0 => random.pick(&[0x2013, 0x2018, 0x2019, 0x201C, 0x201D]),
             _ => letter(random),
@@ -154,7 +154,7 @@ fn texts_of_people() -> [Input; 5] {
             0 => 0x20,
             _ => random.between(0x430, 0x44F),
         }),
-        // Kana, kanji and their full stops, one in twenty an ASCII digit.
+        // Kana, kanji and their full stops; one in twenty is an ASCII digit.
         text("Japanese", |random| match random.below(20) {
             0 => random.between(0x30, 0x39),
             1 => random.pick(&[0x3001, 0x3002]),
@@ -164,7 +164,7 @@ fn texts_of_people() -> [Input; 5] {
     ]
 }
 
-/// The inputs of texts that are counted in units, of so many units, in the order of their names.
+/// The inputs for `UnitText`, of `length` units each, in the order of their names.
 pub fn texts(length: usize) -> [Input; 3] {
     let made = [
         units(length, |random| random.between(0x20, 0x7E)),
@@ -184,7 +184,7 @@ fn mixed(random: &mut Random) -> u32 {
     }
 }
 
-/// A string that begins with a trail and ends with a lead, so that each meets the one before.
+/// A string that begins with a trail and ends with a lead, so that it forms a pair with a copy before or after it.
 fn joining() -> Input {
     let mut units = units(40, |random| random.between(0x20, 0x7E));
     units[0] = 0xDC00;

@@ -1,9 +1,9 @@
-//! The lists of scripts that are gone through one by one, by their names.
+//! The lists of scripts that `differ` always runs, by name.
 
 use crate::script::Call;
 use crate::{blocks, building, examples, generate, long, pairs, pushed};
 
-/// A name, and what makes the scripts of that list.
+/// The name of a list, and the function that makes its scripts.
 pub type List = (&'static str, fn() -> Vec<Vec<Call>>);
 
 pub const LISTS: [List; 25] = [

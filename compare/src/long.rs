@@ -1,10 +1,10 @@
-//! Lists of scripts on long strings, on strings that share a front, and on slices inside a string.
+//! Lists of scripts on long strings, on strings with a common prefix, and on slices inside a string.
 
 use crate::generate::{cut_and_joined, cut_by_units, from_units, registers};
 use crate::script::{Call, Operand};
 
-/// The units that long strings are made of, over and over: a string of each class, one whose bytes begin as a surrogate's
-/// do, one of pairs, and one of all classes.
+/// The units that long strings repeat: a code point of each encoded length, one with the lead byte of a surrogate (ED),
+/// one after the surrogates, a pair, and a mix.
 pub const BASES: [&[u16]; 7] = [
     &[0x61],
     &[0xE9],
@@ -15,10 +15,10 @@ pub const BASES: [&[u16]; 7] = [
     &[0x61, 0xE9, 0xD55C, 0xD83D, 0xDCA9, 0x20AC, 0x7A],
 ];
 
-/// Lengths beyond the blocks of any search.
+/// Lengths in units above the blocks of any search.
 const LENGTHS: [usize; 7] = [255, 256, 257, 511, 600, 1023, 2000];
 
-/// Places at the ends, in the middle, and about the ends of the first and the last blocks of a search.
+/// Indexes at the ends, in the middle, and about the ends of the first and the last blocks of a search.
 fn places_in(len: usize) -> [usize; 15] {
     let half = len / 2;
     let back = |count: usize| len - count;
@@ -41,15 +41,15 @@ fn places_in(len: usize) -> [usize; 15] {
     ]
 }
 
-/// The most units that one call takes.
+/// The most units in one operand.
 const MOST_UNITS: usize = 255;
 
 fn string_of(base: &[u16], len: usize) -> Vec<u16> {
     base.iter().copied().cycle().take(len).collect()
 }
 
-/// The string of some units in a register, by pieces where they are too many for one call. The string in register 3 is
-/// lost.
+/// Makes the string of `units` in a register, in pieces if they are too many for one operand. The pieces overwrite
+/// register 3.
 pub fn string_in(register: u8, units: &[u16]) -> Vec<Call> {
     let mut pieces = units.chunks(MOST_UNITS);
     let mut calls = vec![from_units(register, pieces.next().unwrap_or_default())];
@@ -73,7 +73,7 @@ pub fn changed(units: &[u16], changes: &[(usize, u16)]) -> Vec<u16> {
     units
 }
 
-/// Strings of every length up to 130, with one unit changed at each place, compared both ways.
+/// Strings of every length up to 130, with one unit changed at each index, compared in both directions.
 pub fn changed_at_each_place() -> Vec<Vec<Call>> {
     let mut scripts = Vec::new();
     for base in BASES {
@@ -104,8 +104,8 @@ fn compared_both_ways() -> [Call; 4] {
     ]
 }
 
-/// Strings of 320 units beside ones that part from them at each place up to 300, and strings of 4,110 units beside ones that
-/// part from them about the place 4,096, compared both ways.
+/// Strings of 320 units against others with the first mismatch at each index up to 300, and strings of 4,110 units
+/// against others with it about index 4,096, compared in both directions.
 pub fn parting_at_each_place() -> Vec<Vec<Call>> {
     let parting = |base| {
         [
@@ -116,7 +116,7 @@ pub fn parting_at_each_place() -> Vec<Vec<Call>> {
     BASES.into_iter().flat_map(parting).collect()
 }
 
-/// A string beside others that have a lower or a higher unit at a place, or end there.
+/// A string against others that have a lower or a higher unit at an index, or end there.
 fn parting_at(units: &[u16], places: impl IntoIterator<Item = usize>) -> Vec<Call> {
     let mut calls = string_in(0, units);
     for place in places {
@@ -129,7 +129,7 @@ fn parting_at(units: &[u16], places: impl IntoIterator<Item = usize>) -> Vec<Cal
     calls
 }
 
-/// Strings of every length up to 130 that are made of units, with one unit at each place that has more or fewer bytes.
+/// Strings of every length up to 130, with a unit of each encoded length at each index.
 pub fn another_kind_at_each_place() -> Vec<Vec<Call>> {
     let mut scripts = Vec::new();
     for base in BASES {
@@ -150,7 +150,7 @@ fn another_kind_at(units: &[u16], places: impl IntoIterator<Item = usize>) -> Ve
     calls
 }
 
-/// A string of every length, and one that goes on behind it.
+/// Strings of every length up to 130, each compared with strings that continue it by one and two units.
 pub fn fronts() -> Vec<Vec<Call>> {
     let mut scripts = Vec::new();
     for base in BASES {
@@ -171,7 +171,7 @@ pub fn fronts() -> Vec<Vec<Call>> {
     scripts
 }
 
-/// One lone surrogate at each place of strings of every length up to 130, and none: texts, hash and lossy texts.
+/// Strings of every length up to 130 with no lone surrogate, and with one at each index: texts, lossy or not.
 pub fn one_surrogate() -> Vec<Vec<Call>> {
     let mut scripts = Vec::new();
     for base in BASES {
@@ -192,7 +192,7 @@ pub fn with_surrogate_at(units: &[u16], places: impl IntoIterator<Item = usize>)
     calls
 }
 
-/// Two lone surrogates at each two places, of some lengths.
+/// Strings of some lengths with a lead and a trail at every two indexes, which form a pair if adjacent.
 pub fn two_surrogates() -> Vec<Vec<Call>> {
     let mut scripts = Vec::new();
     for base in BASES {
@@ -208,7 +208,7 @@ pub fn two_surrogates() -> Vec<Vec<Call>> {
     scripts
 }
 
-/// The texts of a string, twice made: by units, whose search may be known, and by pushes of its two halves.
+/// The texts of a string made of units and of one joined from halves, which may know different fronts to be UTF-8.
 fn texts_of(units: &[u16]) -> Vec<Call> {
     let (front, back) = units.split_at(units.len() / 2);
     let mut calls = string_in(0, units);
@@ -220,7 +220,7 @@ fn texts_of(units: &[u16]) -> Vec<Call> {
     calls
 }
 
-/// Strings of up to 2,000 units: all calls, with changes and surrogates at some places.
+/// Strings of up to 2,000 units with a changed unit or a surrogate at some indexes: comparisons, hash and texts.
 pub fn longest() -> Vec<Vec<Call>> {
     let mut scripts = Vec::new();
     for base in BASES {
@@ -243,7 +243,7 @@ pub fn longest() -> Vec<Vec<Call>> {
     scripts
 }
 
-/// Strings put together at each cut, with a pair, a lead or a trail there.
+/// Strings of many lengths joined in the middle, with a pair, a lead or a trail there.
 pub fn joins() -> Vec<Vec<Call>> {
     let mut scripts = Vec::new();
     for base in BASES {
@@ -267,7 +267,7 @@ fn joined_in_the_middle(units: &[u16]) -> Vec<Call> {
     calls
 }
 
-/// Strings cut at each number of units, with whole pairs and lone surrogates at both ends.
+/// Strings cut at each number of units, with letters or lone surrogates at both ends; long ones at some numbers.
 pub fn cuts_by_units() -> Vec<Vec<Call>> {
     let mut scripts = Vec::new();
     for base in BASES {
@@ -294,7 +294,7 @@ fn cut_by_units_at(units: &[u16], places: impl IntoIterator<Item = usize>) -> Ve
     calls
 }
 
-/// Slices in the middle of a string: their front at each place up to 40, with surrogates inside them, outside them, and at
+/// Slices inside a string, after a front of every length up to 40, with surrogates inside them, outside them, and at
 /// their ends.
 pub fn inside() -> Vec<Vec<Call>> {
     let bodies: [&[u16]; 10] = [
@@ -352,7 +352,7 @@ fn calls_inside(filling: u16, front: usize, body: &[u16]) -> Vec<Call> {
     calls
 }
 
-/// A few of all of these, for a list that is short.
+/// Some of these scripts, for the recorded list.
 pub fn chosen() -> Vec<Vec<Call>> {
     let mut scripts: Vec<Vec<Call>> = inside().into_iter().step_by(19).collect();
     for base in [BASES[0], BASES[3], BASES[6]] {
@@ -374,7 +374,7 @@ pub fn chosen() -> Vec<Vec<Call>> {
     scripts
 }
 
-/// How many bytes the string of some units has.
+/// The length in bytes of the string of `units`.
 pub fn byte_len(units: &[u16]) -> u16 {
     let points = char::decode_utf16(units.iter().copied());
     let lens = points.map(|point| point.map_or(3, char::len_utf8));

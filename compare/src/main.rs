@@ -1,4 +1,4 @@
-//! The original crate `wtf8` and the proved library in one process: their answers, call by call, and their speed.
+//! Compares the original crate `wtf8` and the proved library in one process: results, call by call, and speed.
 
 #![cfg_attr(std_wtf8, feature(wtf8_internals))]
 
@@ -34,8 +34,8 @@ use std::process::ExitCode;
 
 use console::fail;
 
-// What stands behind this in the program stands 16 bytes further: where the code of a loop lies decides much of its time,
-// so timings are taken in both places.
+// Moves all code after this by 16 bytes. The address of a loop decides much of its time, so timings are taken at both
+// addresses.
 #[cfg(further)]
 std::arch::global_asm!(
     ".section .text.further,\"axR\"",
@@ -97,7 +97,7 @@ fn main() -> ExitCode {
     }
 }
 
-/// The words behind a call's own.
+/// The flags after a command.
 struct Flags {
     seed: u64,
     cases: Option<u64>,
@@ -105,7 +105,7 @@ struct Flags {
 }
 
 impl Flags {
-    /// Ends the program with one line at a word that it does not know, and at a number that is none.
+    /// Ends the program with one line at an unknown word or a malformed number.
     fn read(mut words: &[&str], may_have_every_point: bool) -> Flags {
         let mut flags = Flags {
             seed: 1,

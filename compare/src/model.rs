@@ -1,4 +1,4 @@
-//! Random lists of building calls through `apply_all`, against a model that holds a list of units.
+//! Checks random lists of building calls through `apply_all` against a model that holds a list of units.
 
 use crate::console::progress;
 use crate::generate;
@@ -7,7 +7,7 @@ use crate::random::Random;
 use crate::script::{encode, Build, Call, Kind, Operand, UNBOUNDED};
 use crate::{ours, say};
 
-/// How many lists are given to the library together.
+/// The number of lists that the library runs at a time.
 const BATCH: u64 = 1000;
 
 /// A list of building calls, and what it works on.
@@ -16,20 +16,20 @@ struct Case {
     pieces: [Vec<u16>; 3],
     points: Vec<u32>,
     builds: Vec<Build>,
-    /// Room beyond the start's own bytes.
+    /// Spare capacity in bytes.
     spare: u16,
-    /// How many requests for memory are granted.
+    /// The number of requests for memory that are granted.
     grants: u16,
 }
 
-/// What the proved library answered to a list.
+/// What the proved library returned for a list.
 struct Answer {
-    /// How many truncations were refused, or the number of the call that memory was refused to.
+    /// The number of refused truncations, or the index of the call that was refused memory.
     outcome: Result<usize, usize>,
     units: Vec<u16>,
 }
 
-/// Runs `cases` random lists. The answer is whether the library's answers are the model's.
+/// Runs `cases` random lists. Returns whether the library agrees with the model on all of them.
 pub fn run(seed: u64, cases: u64) -> bool {
     let mut random = Random::new(seed ^ 0x5EED);
     let (mut stopped, mut refused) = (0, 0);
@@ -110,7 +110,7 @@ impl Case {
         Ok(answer.outcome)
     }
 
-    /// Why the answer is not the model's, if it is not.
+    /// Returns an error that says how the answer differs from the model's.
     fn check(&self, answer: &Answer) -> Result<(), String> {
         let done = match answer.outcome {
             Ok(_) => self.builds.len(),
@@ -133,8 +133,8 @@ impl Case {
         }
     }
 
-    /// A stopped list: at the first call that has no room where no request is granted, and else at that or a later one; never
-    /// at a truncation; and the units are those before, with some beginning of an extension's points.
+    /// Checks a stopped list. With no grants it stops at the first call that does not fit, else at that or a later one,
+    /// never at a truncation. Its units are the ones before the call, plus some first code points of an extension.
     fn check_stopped(
         &self,
         done: usize,
@@ -166,7 +166,7 @@ impl Case {
         }
     }
 
-    /// Does a call. The answer is false for a truncation at no boundary.
+    /// Applies a call. Returns false for a truncation that is off a boundary or past the end.
     fn apply(&self, build: &Build, units: &mut Vec<u16>) -> bool {
         match build {
             Build::Push(value) | Build::PushChar(value) => units.extend(units_of(&[*value])),
@@ -188,7 +188,7 @@ impl Case {
         true
     }
 
-    /// The first call whose bytes have no room, if the room is that at the start.
+    /// The index of the first call that does not fit in the capacity at the start.
     fn stops_at(&self) -> Option<usize> {
         let room = usize::from(byte_len(&self.start)) + usize::from(self.spare);
         let mut units = self.start.clone();
@@ -205,7 +205,7 @@ impl Case {
     }
 }
 
-/// Whether a call's number is one that it may have.
+/// Whether a call's value is a code point and, for `PushChar`, a scalar value.
 fn is_call(build: &Build) -> bool {
     match build {
         Build::Push(value) => *value <= 0x10FFFF,
@@ -214,7 +214,7 @@ fn is_call(build: &Build) -> bool {
     }
 }
 
-/// The units of some code points.
+/// The code units of code points. A surrogate is its own unit.
 fn units_of(points: &[u32]) -> Vec<u16> {
     let mut units = Vec::new();
     for point in points {
@@ -229,7 +229,7 @@ fn units_of(points: &[u32]) -> Vec<u16> {
     units
 }
 
-/// Keeps the units of the code points before a position in bytes, where one begins or the string ends there.
+/// Keeps the units of the code points before a byte position, if it is a boundary. Returns whether it is.
 fn truncate(units: &mut Vec<u16>, position: u16) -> bool {
     let mut count = 0;
     let mut bytes = 0;
@@ -246,7 +246,7 @@ fn truncate(units: &mut Vec<u16>, position: u16) -> bool {
 }
 
 impl Answer {
-    /// The answer in a transcript whose last three lines are that of `apply_all`.
+    /// Reads a transcript whose last three lines are from `apply_all`.
     fn read(transcript: &str) -> Option<Answer> {
         let mut lines = transcript.lines().rev().skip(1);
         let units = lines.next()?.strip_prefix("units")?;

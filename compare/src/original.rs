@@ -1,4 +1,4 @@
-//! The same interpreter of scripts over the original crate.
+//! The interpreter of scripts over the original crate.
 
 use std::borrow::Cow;
 use std::cell::{Cell, RefCell};
@@ -12,25 +12,25 @@ use crate::script::{Build, UNBOUNDED};
 
 mod together;
 
-/// What the original crate answered to a script.
+/// What the original crate returned for a script.
 pub struct Answers {
-    /// The transcript, with the known differences as the proved library has them.
+    /// The transcript, with the proved library's results at the known differences.
     pub transcript: String,
-    /// The transcript with the crate's own hints, where a trail surrogate is held.
+    /// The transcript with the crate's own size hints while its iterator holds a trail surrogate.
     pub own_hints: String,
     /// The calls that panicked.
     pub panicked: Vec<&'static str>,
 }
 
 thread_local! {
-    /// How many calls that may panic are under way, one inside the other: a panic is an answer then.
+    /// The depth of nested calls that may panic. A panic inside one is a result.
     static GUARDS: Cell<u32> = const { Cell::new(0) };
 
-    /// What a panic said that was no call's refusal.
+    /// The message of the last panic that was not the refusal of a call.
     static LAST_PANIC: RefCell<String> = const { RefCell::new(String::new()) };
 }
 
-/// From now on nothing is printed of the crate's panics that are answers.
+/// From now on the crate's panics that are results print nothing.
 pub fn silence_answers() {
     let print = std::panic::take_hook();
     std::panic::set_hook(Box::new(move |panic| match GUARDS.get() {
@@ -40,7 +40,7 @@ pub fn silence_answers() {
     }));
 }
 
-/// What a call answers, or `None` where it panics.
+/// What a call returns, or `None` if it panics.
 fn answer_of<T>(call: impl FnOnce() -> T) -> Option<T> {
     GUARDS.set(GUARDS.get() + 1);
     let answer = catch_unwind(AssertUnwindSafe(call)).ok();
@@ -55,7 +55,7 @@ pub fn run(script: &[u8]) -> Answers {
         out: Out::default(),
         panicked: Vec::new(),
     };
-    // A panic elsewhere than in a call that may refuse is an answer too, which the proved library has not.
+    // A panic outside of the calls that may refuse is a result too, one that the proved library never has.
     if answer_of(|| machine.run(Reader { rest: script })).is_none() {
         let message = LAST_PANIC.take().replace('\n', " ");
         machine.line(&format!("THE CRATE PANICKED: {message}"));
@@ -137,7 +137,7 @@ impl<'a> Reader<'a> {
     }
 }
 
-/// Two transcripts that are written side by side.
+/// Two transcripts that differ only in size hints.
 #[derive(Default)]
 struct Out {
     excused: String,
@@ -166,7 +166,7 @@ fn hex(bytes: &[u8]) -> String {
     text
 }
 
-/// The bytes of a string in hexadecimal. The crate shows them to a hasher alone, which gets FE behind them.
+/// The bytes of a string in hexadecimal. The crate shows them only to a hasher, with FE after them.
 fn dump(text: &Wtf8) -> String {
     let fed = fed_by(text);
     match fed.split_last() {
@@ -211,7 +211,7 @@ impl Machine {
         self.line(&line);
     }
 
-    /// What a call answers; a panic is counted and written as a refusal.
+    /// What a call returns. A panic is counted, and written as a refusal.
     fn guarded<T>(
         &mut self,
         name: &'static str,
@@ -443,7 +443,7 @@ impl Machine {
         let other = self.strings[other].clone();
         self.comparisons("buffers", &own, &other);
         self.comparisons::<Wtf8>("views", &own, &other);
-        // The comparisons between a buffer and a view, which the proved library has no call for.
+        // Comparisons between a buffer and a view, for which the proved library has no call.
         if (own == &*other) != (own == other) || (&*own == other) != (own == other) {
             self.line("A BUFFER AND A VIEW ARE EQUAL OTHERWISE");
         }
@@ -526,18 +526,18 @@ fn hint_text((low, high): (usize, Option<usize>)) -> String {
     }
 }
 
-/// An iterator whose items and hints are written.
+/// An iterator whose items and size hints are written.
 trait Walked: Clone {
-    /// The next item as it is written.
+    /// The next item, as it is written.
     fn next_text(&mut self) -> Option<String>;
 
-    /// The item behind the next one.
+    /// The item after the next one, by `nth`.
     fn nth_text(&mut self) -> Option<String>;
 
     /// The last item.
     fn last_text(self) -> Option<String>;
 
-    /// The item behind two that are skipped.
+    /// The item after two that are skipped.
     fn skipped_text(self) -> Option<String>;
 
     /// All items collected, as they are written.
@@ -569,7 +569,7 @@ fn walk(out: &mut Out, mut walked: impl Walked, steps: &[u8]) {
     drain(out, walked);
 }
 
-/// Writes what is left, each item behind the hint before it, and asks once more at the end.
+/// Writes the remaining items, a size hint before each, and calls `next` once more after the end.
 fn drain(out: &mut Out, mut walked: impl Walked) {
     out.write_str(" [").unwrap();
     walked.write_hint(out);
@@ -613,7 +613,7 @@ impl Walked for Wtf8CodePoints<'_> {
     }
 }
 
-/// The crate's iterator of units, and beside it whether it holds a trail: the crate does not say, so the code points
+/// The crate's iterator of units, and whether it holds a trail surrogate. The crate does not say, so the code points
 /// are followed too.
 #[derive(Clone)]
 struct Units<'a> {
@@ -631,7 +631,7 @@ impl<'a> Units<'a> {
         }
     }
 
-    /// Follows the iterator over one unit.
+    /// Updates `is_trail_held` for the next unit.
     fn follow(&mut self) {
         self.is_trail_held = match self.is_trail_held {
             true => false,
@@ -672,8 +672,7 @@ impl Walked for Units<'_> {
         units.into_iter().map(unit_text).collect()
     }
 
-    /// Writes the crate's hint as it is, and in the other transcript with a held trail counted, which is all that may
-    /// differ.
+    /// Writes the crate's hint to `raw`, and to `excused` the hint with a held trail counted. Nothing else may differ.
     fn write_hint(&self, out: &mut Out) {
         let (low, high) = self.units.size_hint();
         let held = usize::from(self.is_trail_held);

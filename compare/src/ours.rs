@@ -1,4 +1,4 @@
-//! The proved side: the library through its exports, or, where the build was told of one, a program over it.
+//! The proved side: the library through its exports or, if `COMPARE_PROGRAM` is set in the build, a program over it.
 
 #[cfg(not(by_program))]
 mod library;

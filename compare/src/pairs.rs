@@ -1,4 +1,4 @@
-//! The list of pairs: leads and trails with every bit of their ten, put together by each call that joins, and taken apart.
+//! The list of pairs: leads and trails with each of their ten bits, joined by each call that can, and lone.
 
 use crate::generate::{call_on, from_units, push, registers};
 use crate::script::Call;
@@ -12,7 +12,7 @@ fn ten_bits() -> Vec<u16> {
     bits
 }
 
-/// Each lead of these with each trail, and each alone behind a letter.
+/// Each lead with these bits joined with each trail, and each lone next to letters.
 pub fn pairs() -> Vec<Vec<Call>> {
     let bits = ten_bits();
     let mut scripts = Vec::new();
@@ -24,7 +24,7 @@ pub fn pairs() -> Vec<Vec<Call>> {
     scripts
 }
 
-/// A few of these, for a list that is short.
+/// Some of these scripts, for the recorded list.
 pub fn chosen() -> Vec<Vec<Call>> {
     vec![
         joined(0xDBC0, 0xDC00),
@@ -35,7 +35,7 @@ pub fn chosen() -> Vec<Vec<Call>> {
     ]
 }
 
-/// A pair put together by `push`, by `push_wtf8` and from its units.
+/// A pair joined by `push`, by `push_wtf8` and from its units.
 fn joined(lead: u16, trail: u16) -> Vec<Call> {
     let mut calls = vec![
         from_units(0, &[]),
@@ -54,7 +54,7 @@ fn joined(lead: u16, trail: u16) -> Vec<Call> {
     calls
 }
 
-/// A lone surrogate behind a letter and before one: no such string is text.
+/// A lone surrogate after a letter, and between two letters: no such string is text.
 fn alone(surrogate: u16) -> Vec<Call> {
     let mut calls = vec![from_units(0, &[0x61]), push(0, surrogate.into())];
     let looks = ["as_str", "to_string_lossy", "hash", "into_string"];

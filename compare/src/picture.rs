@@ -1,4 +1,4 @@
-//! The table of timings as a picture: a bar for each call and input, beside a line where the crate is.
+//! The table of timings as a picture: a bar for each call and input, and a line at the crate's time.
 
 use std::fmt::Write;
 use std::fs;
@@ -6,23 +6,23 @@ use std::path::Path;
 
 use crate::console::fail;
 
-/// The width of the calls' names, of the bar and its number for one input, and of the whole's edge.
+/// Widths: the names of the calls, the cell of an input, and the margin.
 const NAMES: f64 = 196.0;
 const CELL: f64 = 110.0;
 const EDGE: f64 = 12.0;
 
-/// The height of the inputs' names, of one call, and of a bar.
+/// Heights: the names of the inputs, the line of a call, and a bar.
 const HEAD: f64 = 64.0;
 const LINE: f64 = 24.0;
 const BAR: f64 = 13.0;
 
-/// The length of a bar where both sides take as long, and of the longest bar, and how far behind it its number stands, which
-/// is nearer than the next input's bar.
+/// Lengths: a bar of ratio 1.00, the longest bar, and the gap between a bar and its number, which keeps the number
+/// nearer to its bar than to the next one.
 const ONE: f64 = 24.0;
 const LONGEST: f64 = 52.0;
 const GAP: f64 = 4.0;
 
-/// Colours for a light and for a dark page, each on a ground of its own.
+/// Colours for a light and for a dark page, each with its own background.
 const STYLE: &str = "\
 text { font: 12px sans-serif; fill: #24292f }
 .ground { fill: #ffffff }
@@ -38,7 +38,7 @@ text { fill: #e6edf3 }
 }
 ";
 
-/// One row of the table: how long the proved library takes where the crate takes 1.
+/// A row of the table, with the ratio of the proved library's time to the crate's.
 struct Timing<'a> {
     call: &'a str,
     input: &'a str,
@@ -51,7 +51,7 @@ pub fn run(table: &Path, file: &Path) -> bool {
         Ok(text) => text,
         Err(error) => fail(&format!("{}: {error}", table.display())),
     };
-    // The rows above 1.00 may stand in a table of their own before that of all rows.
+    // A table of the rows above 1.00 may come before that of all rows.
     let all_rows = text.rsplit("| Call |").next().unwrap_or(&text);
     let timings: Vec<Timing> = all_rows.lines().filter_map(timing_of).collect();
     if timings.is_empty() {
@@ -63,7 +63,7 @@ pub fn run(table: &Path, file: &Path) -> bool {
     true
 }
 
-/// The row on a line of the table: call, input, both times and their ratio. Any other line is none.
+/// Parses a line of the table: call, input, both times and their ratio. `None` for any other line.
 fn timing_of(line: &str) -> Option<Timing<'_>> {
     let cells: Vec<&str> = line.split('|').map(str::trim).collect();
     match cells[..] {
@@ -98,7 +98,7 @@ fn drawn(timings: &[Timing]) -> String {
     picture
 }
 
-/// Each name once, in the order in which it first comes.
+/// Each name once, in the order of first occurrence.
 fn names<'a>(all: impl Iterator<Item = &'a str>) -> Vec<&'a str> {
     let mut names = Vec::new();
     for name in all {
@@ -136,7 +136,7 @@ fn opened(width: f64, height: f64) -> String {
     )
 }
 
-/// The name of an input, on two lines where it is long, and the line where the crate is.
+/// Draws the name of an input, on two lines if it is long, and the line at the crate's time.
 fn draw_input(picture: &mut String, left: f64, bottom: f64, name: &str) {
     let (first, second) = halves(name);
     let at = left + ONE;
@@ -157,7 +157,7 @@ fn draw_input(picture: &mut String, left: f64, bottom: f64, name: &str) {
     );
 }
 
-/// A name in two at a comma, or at its first space where it is longer than a cell is wide.
+/// Splits a name at a comma, or at its first space if it is longer than a cell is wide.
 fn halves(name: &str) -> (&str, &str) {
     if let Some(halves) = name.split_once(", ") {
         return halves;
@@ -183,7 +183,7 @@ fn draw_call(picture: &mut String, top: f64, width: f64, name: &str) {
     );
 }
 
-/// A bar, drawn over the line where the crate is, and its number directly behind both.
+/// Draws a bar over the line at the crate's time, and its number directly after both.
 fn draw_bar(picture: &mut String, left: f64, top: f64, ratio: f64) {
     let class = if ratio > 1.0 { "slower" } else { "faster" };
     let bar = top + (LINE - BAR) / 2.0;

@@ -1,23 +1,23 @@
-//! Lists of scripts on a code point that is pushed behind others, and on strings of 6,000 units.
+//! Lists of scripts on a code point that is pushed to strings of every length, and on strings of 6,000 units.
 
 use crate::generate::{push, registers};
 use crate::long::{changed, on, string_in, BASES};
 use crate::script::{Call, Operand};
 
-/// Code points of each length, and surrogates at the ends of both kinds.
+/// Code points of each encoded length, and the ends of the lead and the trail surrogates.
 const PUSHED: [u32; 10] = [
     0x61, 0xE9, 0x20AC, 0xD7FF, 0xD800, 0xDBFF, 0xDC00, 0xDFFF, 0xE000, 0x1F4A9,
 ];
 
-/// How many units the longest strings have here.
+/// The number of units in the longest strings of this list.
 const FAR: usize = 6000;
 
 fn string_of(base: &[u16], len: usize) -> Vec<u16> {
     base.iter().copied().cycle().take(len).collect()
 }
 
-/// A code point pushed behind a string of every length up to 130, and a letter behind it: the string's text, the buffer as a
-/// text, and its lossy text.
+/// A code point pushed to a string of every length up to 130, without and with a letter after it: `as_str`,
+/// `into_string` and `into_string_lossy`.
 pub fn behind_each_length() -> Vec<Vec<Call>> {
     let mut scripts = Vec::new();
     for base in BASES {
@@ -41,8 +41,8 @@ fn pushed_behind(units: &[u16]) -> Vec<Call> {
     calls
 }
 
-/// Strings of 6,000 units: with a surrogate or another unit at some places, joined in the middle of a pair, and looked at by
-/// both iterators with their hints.
+/// Strings of 6,000 units: with a surrogate or another unit at some indexes, joined in the middle of a pair, and read
+/// by both iterators with their size hints.
 pub fn far() -> Vec<Vec<Call>> {
     BASES.into_iter().map(|base| calls_far(&string_of(base, FAR))).collect()
 }
@@ -63,7 +63,7 @@ fn calls_far(units: &[u16]) -> Vec<Call> {
     calls.extend(string_in(1, &whole[..=half]));
     calls.push(registers("push_wtf8", 1, 2));
     calls.extend(compared());
-    // A hint before and behind each of some steps.
+    // A size hint before each of some steps.
     let steps: Vec<u8> = [1, 0].into_iter().cycle().take(40).chain([1, 6, 1, 5, 7]).collect();
     for name in ["code_points", "to_ill_formed_utf16"] {
         let operands = vec![Operand::Register(1), Operand::Steps(steps.clone())];

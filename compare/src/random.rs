@@ -6,7 +6,7 @@ pub struct Random {
 
 impl Random {
     pub fn new(seed: u64) -> Random {
-        // The state may not be 0, and near seeds are to lie far apart.
+        // The state must not be 0, and near seeds must give distant states.
         Random {
             state: seed.wrapping_mul(0x9E37_79B9_7F4A_7C15) | 1,
         }
@@ -24,7 +24,7 @@ impl Random {
         (self.next() >> 16) % bound
     }
 
-    /// A number from `low` to `high`.
+    /// A number from `low` to `high`, both included.
     pub fn between(&mut self, low: u32, high: u32) -> u32 {
         low + self.below(u64::from(high - low) + 1) as u32
     }

@@ -1,4 +1,4 @@
-//! The fixed list of the crate's answers.
+//! Writes the fixed list of scripts with the crate's transcripts.
 
 use std::fs;
 use std::io::ErrorKind;
@@ -9,11 +9,11 @@ use crate::random::Random;
 use crate::script::{encode, Call};
 use crate::{building, examples, generate, long, pairs, say};
 
-/// The first opcode of texts that are counted in units. In the order of texts only lines that begin with one stand behind it.
+/// The first opcode of a call on texts, in hexadecimal. Lines that begin with a lower one are less as strings.
 const OF_TEXTS: &str = "40";
 
-/// Writes scripts in hexadecimal, one a line, to `stdin` in a folder, and the original crate's transcripts, with an
-/// empty line behind each, to `stdout` there. The scripts of texts that `units/run` wrote stay behind them.
+/// Writes scripts in hexadecimal, one a line, to `stdin` in a folder, and the original crate's transcripts, each with
+/// an empty line after it, to `stdout` there. The scripts on texts, which `units/run` wrote, stay at the end.
 pub fn run(folder: &Path, seed: u64, cases: u64) -> std::io::Result<()> {
     let mut scripts = chosen();
     let mut random = Random::new(seed);
@@ -39,7 +39,7 @@ pub fn run(folder: &Path, seed: u64, cases: u64) -> std::io::Result<()> {
     Ok(())
 }
 
-/// The scripts of a folder from the first of texts on, and their answers.
+/// The scripts of a folder from the first one on texts, and their transcripts.
 fn scripts_of_texts(folder: &Path) -> std::io::Result<(String, String)> {
     let read = |name: &str| match fs::read_to_string(folder.join(name)) {
         Err(error) if error.kind() == ErrorKind::NotFound => Ok(String::new()),
@@ -52,7 +52,7 @@ fn scripts_of_texts(folder: &Path) -> std::io::Result<(String, String)> {
     Ok((texts, answers))
 }
 
-/// Some scripts of each of the lists, the short ones whole.
+/// Some scripts of each list, and all of the short lists.
 fn chosen() -> Vec<Vec<Call>> {
     let mut scripts = generate::edge_calls();
     let mut lists = generate::unit_lists(1);

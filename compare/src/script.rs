@@ -2,35 +2,34 @@
 
 use std::fmt;
 
-/// What an operand is. Numbers have their lowest byte first.
+/// The kind of an operand. Numbers are little-endian.
 #[derive(Clone, Copy, PartialEq)]
 pub enum Kind {
     /// One of the four strings: a byte from 0 to 3.
     Register,
     /// A position, capacity or count: two bytes.
     Number,
-    /// A number that may be a code point's: four bytes.
+    /// A value of four bytes, which may be a code point.
     Value,
-    /// A length in one byte, and UTF-8.
+    /// A length of one byte, then UTF-8.
     Text,
-    /// Their number in one byte, and two bytes each.
+    /// A count of one byte, then two bytes for each unit.
     Units,
-    /// Their number in one byte, and four bytes each; numbers that are no code point are left out.
+    /// A count of one byte, then four bytes for each value. Values that are not code points are left out.
     Points,
-    /// Their number in one byte, and a byte each: 0 asks the iterator for an item, 1 for its hint, 2 empties a clone of it,
-    /// 3 goes on with a clone, 4 asks for the item behind the next (`nth`), 5 a clone for its `last` item, 6 a clone behind
-    /// a `skip` of two for an item, 7 collects a clone.
+    /// A count of one byte, then a byte for each step: 0 `next`, 1 `size_hint`, 2 drains a clone, 3 goes on with a
+    /// clone, 4 `nth(1)`, 5 `last` of a clone, 6 `skip(2)` of a clone and `next`, 7 `collect` of a clone.
     Steps,
-    /// Their number in one byte, and each of them: 0 `Push` value, 1 `PushChar` value, 2 `PushStr` text, 3 `PushWtf8`
-    /// string, 4 `Extend` by so many (number) of the points that stand before, 5 `Reserve` number, 6 `Truncate` number,
-    /// 7 `TruncateUnits` number.
+    /// A count of one byte, then each call: 0 `Push` value, 1 `PushChar` value, 2 `PushStr` text, 3 `PushWtf8`
+    /// register, 4 `Extend` number of the points before, 5 `Reserve` number, 6 `Truncate` number, 7 `TruncateUnits`
+    /// number.
     Builds,
 }
 
 use Kind::{Builds, Number, Points, Register, Steps, Text, Units, Value};
 
-/// The calls of strings by opcode, with the kinds of their operands. The opcodes from 64 on are calls of texts that are
-/// counted in units, which `units/units.js` makes.
+/// The calls on strings by opcode, with the kinds of their operands. The opcodes from 64 on are calls on texts, which
+/// `units/units.js` makes.
 pub const CALLS: [(&str, &[Kind]); 46] = [
     ("new", &[Register]),
     ("with_capacity", &[Register, Number]),
@@ -83,7 +82,7 @@ pub const CALLS: [(&str, &[Kind]); 46] = [
     ("shrink_to_fit", &[Register]),
 ];
 
-/// The number of grants that stands for as many as are asked for.
+/// The number of grants that means no limit.
 pub const UNBOUNDED: u16 = 0xFFFF;
 
 /// The opcode of a name in `CALLS`.
@@ -110,9 +109,9 @@ pub enum Build {
     Push(u32),
     PushChar(u32),
     PushStr(String),
-    /// By the string of a register, as it was before the list.
+    /// The string of a register, as it was before the list.
     PushWtf8(u8),
-    /// By so many of the points that the list comes with.
+    /// By this number of the list's points, from the first.
     Extend(u16),
     Reserve(u16),
     Truncate(u16),

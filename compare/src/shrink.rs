@@ -1,14 +1,14 @@
-//! The smallest script that still shows something.
+//! Shrinks a script that shows something.
 
 use std::time::{Duration, Instant};
 
 use crate::script::{Build, Call, Operand};
 
-/// How long a smaller script is looked for.
+/// How long to search for a smaller script.
 const PATIENCE: Duration = Duration::from_secs(7);
 
-/// A script that shows what `shows` tests for, from which nothing can be left out and in which no number can be made
-/// simpler, or the smallest that was found in a few seconds.
+/// Shrinks a script for which `shows` holds until no call can be left out and no operand made simpler, or until
+/// `PATIENCE` is over.
 pub fn smallest(script: &[Call], shows: &dyn Fn(&[Call]) -> bool) -> Vec<Call> {
     let end = Instant::now() + PATIENCE;
     let mut best = without_blocks(without_end(script, shows), shows, end);
@@ -25,7 +25,7 @@ pub fn smallest(script: &[Call], shows: &dyn Fn(&[Call]) -> bool) -> Vec<Call> {
     best
 }
 
-/// The script up to the call that shows it: longer ones do too.
+/// The script up to the call that shows it, by binary search: longer fronts show it too.
 fn without_end(script: &[Call], shows: &dyn Fn(&[Call]) -> bool) -> Vec<Call> {
     let (mut too_short, mut long_enough) = (0, script.len());
     while too_short + 1 < long_enough {
@@ -38,7 +38,7 @@ fn without_end(script: &[Call], shows: &dyn Fn(&[Call]) -> bool) -> Vec<Call> {
     script[..long_enough].to_vec()
 }
 
-/// The script without each block of calls that it does not need, blocks of half of it first and then ever shorter ones.
+/// Leaves out each block of calls that is not needed, blocks of half the script first and then ever shorter ones.
 fn without_blocks(
     mut script: Vec<Call>,
     shows: &dyn Fn(&[Call]) -> bool,
@@ -60,7 +60,7 @@ fn without_blocks(
     script
 }
 
-/// The scripts that are one step smaller: first those with a call less.
+/// All scripts that are one step smaller, those with a call less first.
 fn candidates(script: &[Call]) -> Vec<Vec<Call>> {
     let mut found = Vec::new();
     for at in (0..script.len()).rev() {
@@ -155,7 +155,7 @@ fn simpler_lists<T: Clone>(list: &[T], simpler_items: impl Fn(T) -> Vec<T>) -> V
     found
 }
 
-/// Known numbers in the order of their simplicity: those before the number itself.
+/// The values before `value` in a list of simple values, or all of the list if it is not there.
 fn simpler_values(value: u32) -> Vec<u32> {
     let simple = [0x61, 0xE9, 0x20AC, 0x10000, 0xD800, 0xDC00];
     simple

@@ -1,4 +1,4 @@
-//! Timings of texts that are counted in units, beside views and buffers, and beside arrays of units.
+//! Timings of `UnitText`, beside views and buffers, and beside arrays of units.
 
 use std::hint::black_box;
 use std::time::{Duration, Instant};
@@ -8,49 +8,49 @@ use crate::ours;
 use crate::random::Random;
 use crate::say;
 
-/// How many units the texts have.
+/// The lengths of the texts in units.
 const LENGTHS: [usize; 3] = [40, 1_000, 1_000_000];
 
-/// How many places in random order a round looks at, at least.
+/// The least number of indexes in random order in a round.
 const LEAST_PLACES: usize = 1_000;
 
-/// How many places a round looks at where each is counted from the front of a long text, at most.
+/// The most indexes in a round if each is counted from the front of a long text.
 const MOST_COUNTED: usize = 200;
 
-/// How many units a slice has.
+/// The number of units in a slice.
 const SLICE: usize = 10;
 
-/// How long one turn takes at least.
+/// The least duration of a turn.
 const TURN: Duration = Duration::from_millis(4);
 
-/// How long the turns of a number take together, unless the least count of them takes longer.
+/// The duration of the turns for one number of the table, unless `LEAST_TURNS` take longer.
 const BUDGET: Duration = Duration::from_millis(600);
 
-/// How many turns there are at least.
+/// The least number of turns.
 const LEAST_TURNS: usize = 5;
 
-/// The loops of the proved library that give its memory: a buffer's, and that of a text's marks.
+/// The loops of the proved library that return the memory of a buffer, and of a text's marks.
 const MEMORY_OF_BUFFER: u32 = 11;
 const MEMORY_OF_MARKS: u32 = 12;
 
-/// In which order a loop looks at places. The others go through all units.
+/// The order of the indexes that a loop reads. A loop without an order reads all units.
 #[derive(Clone, Copy, PartialEq)]
 enum Order {
     Ascending,
     Random,
 }
 
-/// A loop over an array of units: what one round answers for some places.
+/// A loop over an array of units: returns the sum of one round at some indexes.
 type ArrayLoop = fn(&[u16], &[u32]) -> u64;
 
-/// The row of a call: its loop over texts, that over views or buffers and that over arrays.
+/// A row of the table: its loops over texts, over views or buffers, and over arrays.
 struct Call {
     name: &'static str,
     order: Option<Order>,
     text: u32,
     string: Option<u32>,
     array: Option<ArrayLoop>,
-    /// Whether the array's answer is the text's.
+    /// Whether the array's sum must be the text's.
     is_compared: bool,
 }
 
@@ -113,8 +113,8 @@ const CALLS: [Call; 7] = [
     },
 ];
 
-/// Times the calls whose names have the filter in them, and prints their table: nanoseconds a call or a unit, of texts with
-/// marks, of views and buffers, and of arrays of units.
+/// Times the calls whose names contain the filter, and prints their table: nanoseconds per call or unit, of texts, of
+/// views and buffers, and of arrays of units.
 pub fn run(filter: &str) -> bool {
     let header = inputs::NAMES_OF_TEXTS.join(" | ");
     say!("| text / view / array, ns | Units | {header} |\n|---|---|---|---|---|");
@@ -137,7 +137,7 @@ pub fn run(filter: &str) -> bool {
     true
 }
 
-/// The times of a call on an input, or `None` where the sides' answers differ.
+/// The times of a call on an input, or `None` if the sides return different sums.
 fn cell(call: &Call, input: &Input) -> Option<String> {
     let units = &input.units;
     let places = places(call.order, units.len());
@@ -163,7 +163,7 @@ fn cell(call: &Call, input: &Input) -> Option<String> {
     Some(numbers.join(" / "))
 }
 
-/// Whether all sides answer the same at some places, or says where they do not.
+/// Whether all sides return the same sum at some indexes. Prints the sums if not.
 fn agree(call: &Call, input: &Input, places: &[u32]) -> bool {
     let proved = |number| ours::texts(number, &input.units, places, 1);
     let text = proved(call.text);
@@ -183,7 +183,7 @@ fn agree(call: &Call, input: &Input, places: &[u32]) -> bool {
     is_same
 }
 
-/// The places that a round looks at.
+/// The indexes that a round reads.
 fn places(order: Option<Order>, len: usize) -> Vec<u32> {
     let mut random = Random::new(len as u64);
     match order {
@@ -196,7 +196,7 @@ fn places(order: Option<Order>, len: usize) -> Vec<u32> {
     }
 }
 
-/// Some of the places, spread over all of them, where the text is long.
+/// All indexes or, if the text is long, about `MOST_COUNTED` of them at equal distances.
 fn counted_from_front(places: &[u32], len: usize) -> Vec<u32> {
     let step = match len > LEAST_PLACES {
         true => (places.len() / MOST_COUNTED).max(1),
@@ -205,7 +205,7 @@ fn counted_from_front(places: &[u32], len: usize) -> Vec<u32> {
     places.iter().copied().step_by(step).collect()
 }
 
-/// The least time of a loop for an item, in nanoseconds, without the time that it takes for no rounds.
+/// The least time of a loop per item, in nanoseconds, without the time that it takes for no rounds.
 fn time(items: usize, run: impl Fn(u32) -> u64) -> f64 {
     let rounds = rounds_of_a_turn(&run);
     let mut random = Random::new(items as u64);
@@ -213,7 +213,7 @@ fn time(items: usize, run: impl Fn(u32) -> u64) -> f64 {
     let (mut whole, mut made) = (Duration::MAX, Duration::MAX);
     let mut turns = 0;
     while turns < LEAST_TURNS || begin.elapsed() < BUDGET {
-        // Where things lie may decide as much as what is done with them.
+        // Times depend on the addresses of data, so each turn first allocates a block of random size.
         let _elsewhere = black_box(vec![0u8; random.between(1, 8192) as usize]);
         made = made.min(timed(&run, 0));
         whole = whole.min(timed(&run, rounds));
@@ -222,7 +222,7 @@ fn time(items: usize, run: impl Fn(u32) -> u64) -> f64 {
     whole.saturating_sub(made).as_nanos() as f64 / (f64::from(rounds) * items as f64)
 }
 
-/// A number of rounds with which a loop takes long enough.
+/// Doubles the number of rounds, up to 2^24, until they take `TURN` longer than no rounds.
 fn rounds_of_a_turn(run: impl Fn(u32) -> u64) -> u32 {
     let mut rounds = 1;
     while timed(&run, rounds) < timed(&run, 0) + TURN && rounds < 1 << 24 {
@@ -237,7 +237,7 @@ fn timed(run: impl Fn(u32) -> u64, rounds: u32) -> Duration {
     start.elapsed()
 }
 
-/// How many bytes a unit takes: of a text without its marks and of these, of a buffer, and of an array.
+/// The bytes per unit of a text without its marks, of the marks, of a buffer, and of an array.
 fn memory(input: &Input) -> String {
     let [buffer, marks] = [MEMORY_OF_BUFFER, MEMORY_OF_MARKS]
         .map(|number| ours::texts(number, &input.units, &[], 0) as f64 / input.units.len() as f64);
@@ -247,7 +247,7 @@ fn memory(input: &Input) -> String {
     )
 }
 
-/// A time in two digits or so, in nanoseconds unless it says another unit.
+/// A time in about two digits, in nanoseconds unless it names another unit.
 fn shown(time: Option<f64>) -> String {
     match time {
         None => "-".to_owned(),

@@ -1,36 +1,35 @@
-// Scripts of calls on texts that are counted in units, and what the engine's own strings answer to them.
+// Scripts of calls on `UnitText`s, and what the engine's own strings return for them.
 //     node units.js random SEED CASES FOLDER   random scripts
 //     node units.js lists FOLDER               all lists of at most three units out of nine, and long texts, by all calls
-//     node units.js marks SEED CASES FOLDER    texts of some thousand units with marks and without, looked at about each mark, and as
-//                                              many random scripts of such texts
-//     node units.js fixed FOLDER               worked examples, the long texts and some hundred of the others, which the gate replays: they stand
-//                                              behind the scripts of strings that FOLDER has, in the place of those that stood there
-// Each writes the scripts to FOLDER/stdin, one a line in hexadecimal, and to FOLDER/stdout the answers, one a line, with an empty
-// line behind each script's. crates/compare_scripts/src/texts.rt has the calls by their opcodes.
+//     node units.js marks SEED CASES FOLDER    long texts with and without marks, and CASES random scripts of these
+//     node units.js fixed FOLDER               examples, long texts and some hundred others for the gate to replay;
+//                                              they follow the scripts of strings in FOLDER, in place of the old ones
+// Each writes the scripts to FOLDER/stdin, one a line in hexadecimal, and their transcripts to FOLDER/stdout, each with
+// an empty line after it. crates/compare_scripts/src/texts.rt lists the calls by their opcodes.
 'use strict';
 const fs = require('fs');
 const path = require('path');
 
 const NINE = [0x0061, 0x00E9, 0xD7FF, 0xD800, 0xDBFF, 0xDC00, 0xDFFF, 0xE000, 0xFFFF];
 
-// The spaces and ends of lines below 0x80, and nine units that are some of them or near them.
+// ASCII white space, and nine units that are white space or similar.
 const SPACES = [0x20, 0x09, 0x0A, 0x0B, 0x0C, 0x0D];
 const ABOUT_SPACES = [0x08, 0x09, 0x0D, 0x0E, 0x20, 0x21, 0xA0, 0x0120, 0xD800];
 
 const hex = (number, digits) => number.toString(16).toUpperCase().padStart(digits, '0');
 const textOf = (units) => units.map((unit) => String.fromCharCode(unit)).join('');
 
-// The length and the units of a string.
+// A string as a transcript shows it: its length and its units.
 function unitsOf(text) {
   let units = `${text.length} units:`;
   for (let i = 0; i < text.length; i++) units += hex(text.charCodeAt(i), 4);
   return units;
 }
 
-// A unit as a transcript shows it, from a string of that unit.
+// A string of one unit as a transcript shows it.
 const shown = (unit) => (unit === undefined ? '-' : hex(unit.charCodeAt(0), 4));
 
-// The calls, by their names: their opcode, and what they answer over the two strings of a state.
+// The calls by name: the opcode of each, and what it returns over the two strings of a state.
 const CALLS = {
   set: { opcode: 64, run: (state, ...units) => unitsOf((state.first = textOf(units))) },
   swap: {
@@ -130,10 +129,10 @@ const CALLS = {
 const OF_UNITS = ['set', 'replace', 'push'];
 const CHANGING = [...OF_UNITS, 'swap', 'slice', 'concat', 'padStart', 'repeat', 'trim', 'toWellFormed'];
 
-// A number of two bytes in hexadecimal, the lowest first.
+// A number of two bytes in hexadecimal, little-endian.
 const bytesOf = (number) => hex(number & 0xFF, 2) + hex(number >> 8, 2);
 
-// A script as a line: each call's opcode and its operands, units behind their number.
+// A script as a line: each call's opcode and its operands, units after their count.
 function lineOf(calls) {
   let line = '';
   for (const [name, ...operands] of calls) {
@@ -143,13 +142,13 @@ function lineOf(calls) {
   return line + '\n';
 }
 
-// What a script's calls answer, a line each, and an empty line.
+// The transcript of a script: what its calls return, and an empty line.
 function answersOf(calls) {
   const state = { first: '', second: '' };
   return calls.map(([name, ...operands]) => CALLS[name].run(state, ...operands) + '\n').join('') + '\n';
 }
 
-// Numbers that follow from a seed alone.
+// A generator of random numbers below a bound, by a seed.
 function randomBelow(seed) {
   let state = BigInt(seed) * 2n + 1n;
   return (bound) => {
@@ -158,7 +157,7 @@ function randomBelow(seed) {
   };
 }
 
-// A unit of some class, leads and trails more often than others.
+// A random unit, more often a surrogate than another.
 function randomUnit(below) {
   switch (below(6)) {
     case 0: return NINE[below(NINE.length)];
@@ -169,16 +168,16 @@ function randomUnit(below) {
   }
 }
 
-// A list of units, one in eight of them long.
+// A random list of units. One list in eight is long.
 function randomUnits(below) {
   const length = below(8) === 0 ? below(301) : below(8);
   return Array.from({ length }, () => randomUnit(below));
 }
 
-// A unit that is not that one.
+// A random unit other than `unit`.
 const anotherUnit = (unit, below) => (unit + 1 + below(0xFFFF)) & 0xFFFF;
 
-// A list with one unit changed, more often than not one of the last eight.
+// A list with one unit changed, mostly one of the last eight.
 function changed(units, below) {
   if (units.length === 0) return units;
   const near = below(3) === 0 ? units.length : Math.min(units.length, 8);
@@ -186,8 +185,8 @@ function changed(units, below) {
   return units.with(at, anotherUnit(units[at], below));
 }
 
-// A second list for a first: the same, with one unit changed, shorter, longer, or a piece of it from that place on, which may
-// be changed too; or any other.
+// A second list for a first: equal, with one unit changed, shorter, longer, a piece of it from an index, changed or
+// not, or any other.
 function neighbour(units, at, below) {
   const piece = units.slice(at, at + 1 + below(units.length + 1));
   switch (below(8)) {
@@ -203,20 +202,20 @@ function neighbour(units, at, below) {
 
 const listOf = (text) => Array.from({ length: text.length }, (_, at) => text.charCodeAt(at));
 
-// Units to put in the place of others. One in three lists would have a meaning to `replace` if it were not from a function.
+// Units that `replace` inserts. One list in three begins with `$`, which it would interpret in a string.
 function randomReplacement(below) {
   if (below(3) === 0) return [0x24, 0x24 + below(14)];
   return randomUnits(below).slice(0, 4);
 }
 
-// Units with spaces before and behind them, and seldom what is only near to one.
+// Units with white space before and after them, and sometimes with a unit that is only similar to it.
 function spaced(units, below) {
   const space = () => (below(6) === 0 ? ABOUT_SPACES[below(ABOUT_SPACES.length)] : SPACES[below(SPACES.length)]);
   const spaces = () => Array.from({ length: below(6) === 0 ? below(40) : below(5) }, space);
   return [...spaces(), ...units, ...spaces()];
 }
 
-// Random calls that look for a piece of a string in it.
+// Random calls that search a string for a piece of it.
 function searchCalls(first, place, below) {
   const piece = listOf(first.slice(place, place + 1 + below(4)));
   const calls = [['swap'], ['set', ...(below(4) === 0 ? changed(piece, below) : piece)], ['swap']];
@@ -225,7 +224,7 @@ function searchCalls(first, place, below) {
   return below(2) === 0 ? calls : [...calls, ['replace', ...randomReplacement(below)]];
 }
 
-// One random call or some that belong together of those that make another string of the first, or look at the whole of it.
+// One random call or a few related ones that make another string of the first, or read the whole of it.
 function randomMakingCalls(first, place, below) {
   const unit = below(3) === 0 || first === '' ? randomUnit(below) : first.charCodeAt(below(first.length));
   switch (below(7)) {
@@ -239,7 +238,7 @@ function randomMakingCalls(first, place, below) {
   }
 }
 
-// One random call or some that belong together, for the strings that stand.
+// One random call or a few related ones, for the current strings.
 function randomCalls({ first }, below) {
   const at = () => (below(40) === 0 ? below(0x10000) : below(first.length + 3));
   const place = at();
@@ -268,7 +267,7 @@ function randomCalls({ first }, below) {
   }
 }
 
-// A script of some calls, and so often more of them, which depend on the strings that stand.
+// A script of the calls `first` and then, `more` times, the calls that `callsOn` returns for the current strings.
 function scriptOf(first, more, callsOn, below) {
   const state = { first: '', second: '' };
   const calls = [];
@@ -288,7 +287,7 @@ function randomScript(below) {
   return scriptOf(first, 1 + below(12), randomCalls, below);
 }
 
-// All lists of at most so many units out of some.
+// All lists of at most `most` units out of `some`.
 function listsOf(some, most) {
   let longest = [[]];
   const all = [[]];
@@ -299,7 +298,7 @@ function listsOf(some, most) {
   return all;
 }
 
-// The calls that look at the whole of a string, and those that make one of it, each on the string anew by other calls.
+// Calls that read a whole string, and calls that make another of it, each followed by `anew`, which restores it.
 function makingCalls(units, anew) {
   const calls = [['isWellFormed'], ...[...new Set([0x61, ...units.slice(0, 3)])].map((unit) => ['split', unit])];
   const making = [['repeat', 0], ['repeat', 2], ['repeat', 3], ['trim'], ['toWellFormed'], ['replace'], ['replace', 0x24, 0x26]];
@@ -307,7 +306,7 @@ function makingCalls(units, anew) {
   return [...calls, ...making.flatMap((call) => [call, ...anew])];
 }
 
-// Every call on a list, at every place in it and behind its end.
+// The calls on a list, at every index up to one past its end.
 function listScript(units) {
   const calls = [['set', ...units], ['length'], ['cutEverywhere'], ...makingCalls(units, [['set', ...units]])];
   for (let at = 0; at <= units.length + 1; at++) {
@@ -319,7 +318,7 @@ function listScript(units) {
   return calls;
 }
 
-// Two lists compared, sought in one another at every place, and appended, at once and unit by unit.
+// Two lists: compared, the second searched in the first at every index, and appended to it, at once and unit by unit.
 function pairScript(units, others) {
   const calls = [['set', ...others], ['swap'], ['set', ...units], ['compare']];
   for (let at = 0; at <= units.length + 1; at++) calls.push(['startsWith', at], ['indexOf', at], ['lastIndexOf', at], ['endsWith', at]);
@@ -329,7 +328,7 @@ function pairScript(units, others) {
   return calls;
 }
 
-// A list trimmed, and trimmed with a space before it and the end of a line behind it.
+// A list trimmed, without and with a space before it and a line feed after it.
 const trimScript = (units) => [['set', ...units], ['trim'], ['set', 0x20, ...units, 0x0A], ['trim']];
 
 function listScripts() {
@@ -345,18 +344,18 @@ function randomScripts(seed, cases) {
   return Array.from({ length: cases }, () => randomScript(below));
 }
 
-// Texts of one kind: units that repeat, of one, two and three bytes, pairs, and all of these with lone surrogates.
+// Units that long texts repeat: of one, two and three bytes, pairs, and all of these with lone surrogates.
 const KINDS = [[0x61, 0x62, 0x63], [0xE9, 0x7FF, 0x80], [0x800, 0xD7FF, 0xE000], [0xD83D, 0xDCA9], [...NINE, 0xD83D, 0xDCA9]];
 const textOfKind = (kind, length) => Array.from({ length }, (_, at) => kind[at % kind.length]);
 
-// The places at both ends, and around those where a block may begin.
+// The indexes at both ends, and about those at which a block may begin.
 function placesOf(length) {
   const places = [0, 1, ...[8, 16, 32, 64, 128, 256].flatMap((edge) => [edge - 1, edge, edge + 1]), length - 2, length - 1];
   return [...new Set(places.filter((at) => 0 <= at && at < length))];
 }
 
-// Every look at a long text: its units one by one, and pieces that begin or end at each of its places. It is also the second
-// text, so that it stands again behind a slice to nothing and a concatenation, or where its units are pushed.
+// A long text read unit by unit, and by pieces that begin or end at each index of `placesOf`. The second text is equal,
+// so that a slice to nothing and a concatenation restore the first.
 function longScript(units) {
   const last = units.length - 1;
   const again = [['slice', 0, 0], ['concat']];
@@ -372,8 +371,8 @@ function longScript(units) {
   return calls;
 }
 
-// A long text and its neighbours at some of its places: one unit changed, what stands before, what goes on behind, and the
-// piece from there on.
+// A long text against others made at some of its indexes: one unit changed, the units before, and the piece from there,
+// which is searched in it; last, a text that is one unit longer.
 function neighbourScript(units, places) {
   const calls = [['set', ...units], ['swap']];
   for (const at of places) {
@@ -398,11 +397,11 @@ function longScripts() {
   ]));
 }
 
-// How many units are between one mark and the next.
+// The number of units between one mark and the next.
 const SPACING = 128;
 
-// The units of a long text, by its kind, one or a pair at a time. Among pairs a unit stands here and there, so that a mark may
-// divide a pair.
+// The units of a long text by its kind, one or a pair at a time. Among pairs a single unit occurs now and then, so that
+// a mark may divide a pair.
 const KINDS_OF_MARKED = [
   (below) => [0x20 + below(0x5F)],
   (below) => [0x80 + below(0x780)],
@@ -413,7 +412,7 @@ const KINDS_OF_MARKED = [
   (below) => KINDS_OF_MARKED[below(6)](below),
 ];
 
-// So many units of a kind; a pair at the end may be cut.
+// `length` units of a kind; a pair at the end may be cut.
 function unitsOfKind(kind, length, below) {
   const units = [];
   while (units.length < length) units.push(...kind(below));
@@ -422,13 +421,13 @@ function unitsOfKind(kind, length, below) {
 
 const anyUnits = (length, below) => unitsOfKind(KINDS_OF_MARKED[below(KINDS_OF_MARKED.length)], length, below);
 
-// A place in a text or a little behind it, more often than not about a multiple of the marks' distance.
+// An index in a text or a little past its end, mostly about a multiple of `SPACING`.
 function placeAbout(length, below) {
   if (below(3) === 0) return below(length + 3);
   return Math.max(0, SPACING * below(Math.ceil(length / SPACING) + 1) + below(5) - 2);
 }
 
-// The units about each multiple of the marks' distance, and pieces from there and up to there.
+// Reads the units about each multiple of `SPACING`, and pieces from there and up to there.
 function looksAbout(length) {
   const calls = [];
   for (let edge = 0; edge <= length + 2; edge += SPACING) {
@@ -440,7 +439,7 @@ function looksAbout(length) {
   return calls;
 }
 
-// A text looked at without marks and with them, appended to one with marks, and cut between two marks.
+// A text read without marks and with them, appended to one with marks, and cut between two marks.
 function markedScript(units) {
   const looks = looksAbout(units.length);
   const calls = [['set', ...units], ...looks, ['mark'], ...looks, ['swap'], ['set', ...units], ['compare'], ['swap'], ['compare'], ['concat'], ['compare']];
@@ -448,8 +447,8 @@ function markedScript(units) {
   return calls;
 }
 
-// A text that grows by the same piece, at once or unit by unit, with marks from the start or without, looked at where each piece
-// ends.
+// A text that grows by the same piece, at once or unit by unit, with marks from the start or without, read at the end
+// of each piece.
 function grownScript(way, piece, count, isMarked) {
   const append = way === 'push' ? ['push', ...piece] : [way];
   const calls = [['set', ...piece], ['swap'], ['set']];
@@ -460,7 +459,7 @@ function grownScript(way, piece, count, isMarked) {
   return [...calls, ...looksAbout(count * piece.length)];
 }
 
-// Each call that makes a text, of one with marks and with marks in what it is made from, looked at with its own marks.
+// Each call that makes a text from others, with marks on these or on none; the result is read about each mark.
 function madeScript(units, isMarked) {
   const marks = isMarked ? [['mark']] : [];
   const piece = units.slice(SPACING, 2 * SPACING + 1);
@@ -472,7 +471,7 @@ function madeScript(units, isMarked) {
   return calls;
 }
 
-// A piece that begins with a trail and ends with a lead, so that it joins what stands before it and what follows.
+// A piece that begins with a trail and ends with a lead, so that it joins the units before and after it.
 const joining = (units) => units.with(0, 0xDCA9).with(-1, 0xD83D);
 
 function markedScripts(lengths, pieces) {
@@ -489,7 +488,7 @@ function markedScripts(lengths, pieces) {
   return scripts;
 }
 
-// One random call or some that belong together, for long texts that stand.
+// One random call or a few related ones, for the current long texts.
 function randomMarkedCalls({ first, second }, below) {
   const place = placeAbout(first.length, below);
   switch (below(27)) {
@@ -523,8 +522,8 @@ function randomMarkedScript(below) {
   return scriptOf([['set', ...units], ...(below(3) === 0 ? [] : [['mark']])], 20 + below(60), randomMarkedCalls, below);
 }
 
-// A text of more units than two bytes count, looked at about the last places that they name, from both ends, without marks and
-// with them, beside an equal one and one that differs in its last unit.
+// A text of more units than two bytes count, read at indexes up to the last that two bytes name, from both ends,
+// without marks and with them, and compared with an equal text and one that is a unit longer.
 function hugeScript(kind, below) {
   const piece = unitsOfKind(kind, 1000, below);
   const looks = [0, 127, 128, 32767, 65407, 65408, 65534, 65535].flatMap((at) => [['unitAt', at], ['at', at], ['codePointAt', at]]);
@@ -541,20 +540,20 @@ function marksScripts(seed, cases) {
   return [...scripts, ...huge, ...Array.from({ length: cases }, () => randomMarkedScript(below))];
 }
 
-// "a", a pair, "b" and a lead, which the worked examples of calls are about.
+// "a", a pair, "b" and a lead: the string of the worked examples.
 const EXAMPLE = [0x61, 0xD83D, 0xDCA9, 0x62, 0xD83D];
 
-// Looks for lists in the example, each up to or from a position.
+// Searches the example for lists, each up to or from an index.
 const lookedFor = (call, rows) => rows.flatMap(([at, units]) => [['swap'], ['set', ...units], ['swap'], [call, at]]);
 
-// A call on each of some lists, with its operands.
+// A call with its operands on each of some lists.
 const onEach = (call, rows) => rows.flatMap(([units, ...operands]) => [['set', ...units], [call, ...operands]]);
 
-// Calls of two lists: the second one, the first one, and the call with its operands.
+// A call with its operands on two lists, which become the second and the first text.
 const onBoth = (call, rows) =>
   rows.flatMap(([units, others, ...operands]) => [['set', ...others], ['swap'], ['set', ...units], [call, ...operands]]);
 
-// Worked examples of each call, a script a call: inside a pair and beside it, at both ends and behind them, and with lists of no units.
+// Worked examples of the calls: inside a pair and beside it, at both ends and past them, and with empty lists.
 function exampleScripts() {
   const longer = [...EXAMPLE, 0x61];
   const places = [0, 1, 2, 3, 4, 5, 6].flatMap((at) => [['unitAt', at], ['charAt', at], ['at', at], ['codePointAt', at]]);
@@ -587,7 +586,7 @@ function fixedScripts() {
   return [...exampleScripts(), ...lists, ...longScripts(), ...marked, ...randomScripts(1, 100)];
 }
 
-// Writes the scripts and the answers behind those that are given.
+// Writes the scripts and their transcripts after the given lines.
 function write(scripts, folder, linesBefore = '', answersBefore = '') {
   for (const [name, before, textOfScript] of [['stdin', linesBefore, lineOf], ['stdout', answersBefore, answersOf]]) {
     const file = fs.openSync(path.join(folder, name), 'w');
@@ -598,7 +597,7 @@ function write(scripts, folder, linesBefore = '', answersBefore = '') {
   console.error(`${scripts.length} scripts, ${scripts.reduce((sum, calls) => sum + calls.length, 0)} calls`);
 }
 
-// The scripts of strings that a folder has, and their transcripts: those before the first whose first call is one of texts.
+// The scripts of strings in a folder and their transcripts: all before the first that begins with a call on texts.
 function stringScripts(folder) {
   const lines = fs.readFileSync(path.join(folder, 'stdin'), 'utf8').split(/(?<=\n)/);
   const transcripts = fs.readFileSync(path.join(folder, 'stdout'), 'utf8').split(/(?<=\n\n)/);
@@ -612,7 +611,7 @@ function stop(why) {
   process.exit(2);
 }
 
-// The whole number that a word spells, at least this one.
+// The whole number that a word spells, which must be at least `least`.
 function numberOf(word, least) {
   if (!/^[0-9]{1,9}$/.test(word) || Number(word) < least) stop(`${word} is no whole number from ${least} on`);
   return Number(word);

@@ -1,18 +1,18 @@
-//! The program `wtf8_dump` over the original crate: reads all lines, answers each, and then writes all answers.
+//! The program `wtf8_dump` over the original crate: reads all lines, computes the output for each, then writes it.
 
 use std::hash::{Hash, Hasher};
 use std::io::{Read, Write};
 
 use wtf8::{CodePoint, Wtf8Buf};
 
-/// What a word stands for.
+/// The call that a word names.
 enum Call {
     Push(CodePoint),
     Truncate(usize),
     TruncateUnits(usize),
 }
 
-/// Keeps the bytes of a string, which feeds them to it in one write and a byte FE behind them by another.
+/// A hasher that keeps the bytes of a string, which come in one `write`; the FE after them comes by `write_u8`.
 #[derive(Default)]
 struct Bytes {
     bytes: Vec<u8>,
@@ -30,7 +30,7 @@ impl Hasher for Bytes {
     }
 }
 
-/// Appends the bytes of a string in hexadecimal.
+/// A hasher that appends the bytes of a string in hexadecimal.
 struct Hexadecimal<'a> {
     out: &'a mut Vec<u8>,
 }
@@ -56,7 +56,7 @@ impl Hasher for Hexadecimal<'_> {
     }
 }
 
-/// The number that so many digits of a base spell.
+/// Parses `least` to `most` digits of a base.
 fn number(word: &[u8], base: u32, least: usize, most: usize) -> Option<u32> {
     if word.len() < least || word.len() > most {
         return None;
@@ -74,7 +74,7 @@ fn read_call(word: &[u8]) -> Option<Call> {
     }
 }
 
-/// Keeps the code points before a position, if it is a boundary.
+/// Keeps the code points before a byte position, if it is a boundary. Returns whether it is.
 fn truncate(string: &mut Wtf8Buf, position: usize) -> bool {
     let mut bytes = Bytes::default();
     string.hash(&mut bytes);
@@ -88,7 +88,7 @@ fn truncate(string: &mut Wtf8Buf, position: usize) -> bool {
     is_boundary
 }
 
-/// Keeps the first units, if there are so many.
+/// Keeps the first `count` units, if there are that many. Returns whether there are.
 fn truncate_units(string: &mut Wtf8Buf, count: usize) -> bool {
     let kept: Vec<u16> = string.to_ill_formed_utf16().take(count).collect();
     if kept.len() == count {
@@ -97,7 +97,7 @@ fn truncate_units(string: &mut Wtf8Buf, count: usize) -> bool {
     kept.len() == count
 }
 
-/// Appends the answer to a line.
+/// Appends the output for a line, without its newline.
 fn push_answer(line: &[u8], out: &mut Vec<u8>) {
     let words = line.split(|byte| *byte == b' ');
     let calls: Option<Vec<Call>> = words.filter(|_| !line.is_empty()).map(read_call).collect();

@@ -1,4 +1,4 @@
-//! Slices inside a string, false hints, and lists of building calls.
+//! Slices inside a string, false size hints, and lists of building calls.
 
 use super::*;
 
@@ -16,13 +16,13 @@ impl Machine {
             42 => self.slice_units(reader),
             43 => self.compare_units(reader),
             44 => self.append_units(reader),
-            // The crate has no such call, and it changes no string.
+            // The crate has no `shrink_to_fit`, which leaves the string's bytes unchanged.
             45 => self.show(reader.register()),
             _ => unreachable!("the generator knows no opcode {opcode}"),
         }
     }
 
-    /// The crate cannot cut by units: its own units are cut, and make a string again.
+    /// The crate cannot cut by units, so this makes a string of the first ones.
     fn truncate_units(&mut self, reader: &mut Reader<'_>) {
         let register = reader.register();
         let count = reader.number();
@@ -53,7 +53,7 @@ impl Machine {
         self.line(&line.join(" "));
     }
 
-    /// The crate compares code points: its own units are walked.
+    /// The crate compares code points, so this compares its iterators of units.
     fn compare_units(&mut self, reader: &mut Reader<'_>) {
         let [own, other] = [reader.register(), reader.register()];
         let units = |register: usize| self.strings[register].to_ill_formed_utf16();
@@ -62,8 +62,8 @@ impl Machine {
         self.line(&format!("units {order}, turned {turned}"));
     }
 
-    /// The units between two numbers, a pair's half at either end by itself: the code points that are whole lie between
-    /// them.
+    /// The units from one index to another: the half of a divided pair at either end, and the bytes of the whole code
+    /// points between them.
     fn slice_units(&mut self, reader: &mut Reader<'_>) {
         let units: Vec<u16> = self.strings[reader.register()]
             .to_ill_formed_utf16()
@@ -165,8 +165,8 @@ impl Machine {
         }
     }
 
-    /// The calls one after the other, truncations tested first. Where no request for memory is granted the list is
-    /// stopped at the first call whose bytes do not fit.
+    /// Applies the calls one by one, and tests truncations first. If no request for memory is granted, the list stops
+    /// at the first call whose bytes do not fit.
     fn apply_all(&mut self, reader: &mut Reader<'_>) {
         let register = reader.register();
         let mut string = self.strings[register].clone();
@@ -204,13 +204,13 @@ impl Machine {
     }
 }
 
-/// The string of the first so many units, where there are so many.
+/// The string of the first `count` units, if there are that many.
 fn first_units(text: &Wtf8, count: usize) -> Option<Wtf8Buf> {
     let units: Vec<u16> = text.to_ill_formed_utf16().collect();
     units.get(..count).map(Wtf8Buf::from_ill_formed_utf16)
 }
 
-/// Code points under a lower hint that may be false.
+/// Code points, and the lower size hint of their iterator, which may be false.
 struct Hinted {
     points: std::vec::IntoIter<CodePoint>,
     low: usize,
@@ -228,9 +228,9 @@ impl Iterator for Hinted {
     }
 }
 
-/// What became of a call in a list.
+/// The outcome of a call in a list.
 enum Applied {
-    /// It was done, or was a truncation at no boundary.
+    /// Applied, or, if false, a refused truncation.
     Done(bool),
     /// Its bytes do not fit.
     Stopped,
@@ -247,7 +247,7 @@ impl Pieces {
         &self.points[..usize::from(count).min(self.points.len())]
     }
 
-    /// Whether a call was done, or `None` where its number is no code point and so there is no call.
+    /// Applies a call, and returns whether it was done. `None` if the call does not accept its value.
     fn apply(&self, build: &Build, string: &mut Wtf8Buf) -> Option<bool> {
         match build {
             Build::Push(value) => string.push(CodePoint::from_u32(*value)?),
@@ -276,7 +276,7 @@ impl Pieces {
         Some(true)
     }
 
-    /// The call in a room that cannot grow.
+    /// Applies a call to a string whose length may not exceed `room`.
     fn apply_within(&self, build: &Build, string: &mut Wtf8Buf, room: usize) -> Option<Applied> {
         if room == usize::MAX {
             return self.apply(build, string).map(Applied::Done);
@@ -300,7 +300,7 @@ impl Pieces {
     }
 }
 
-/// Room for a byte for each point is found first, and then the points are pushed up to the one that does not fit.
+/// Stops unless a byte for each code point fits, then pushes code points up to the one that does not fit.
 fn extend_within(points: &[CodePoint], string: &mut Wtf8Buf, room: usize) -> Applied {
     if string.len() + points.len() > room {
         return Applied::Stopped;

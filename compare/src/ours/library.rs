@@ -32,11 +32,11 @@ extern "C" {
 }
 
 thread_local! {
-    /// Where transcripts are written, kept from one script to the next.
+    /// The buffer for transcripts, kept from one script to the next.
     static TRANSCRIPT: RefCell<Vec<u8>> = RefCell::new(vec![0; 1 << 16]);
 }
 
-/// The proved library's transcript of a script, or what it gave in the place of one.
+/// The proved library's transcript of a script, or a line with the number that it returned instead.
 pub fn run(script: &[u8]) -> String {
     TRANSCRIPT.with_borrow_mut(|out| loop {
         let len = unsafe {
@@ -57,8 +57,8 @@ pub fn run_all(scripts: &[Vec<u8>]) -> Vec<String> {
     scripts.iter().map(|script| run(script)).collect()
 }
 
-/// Runs a timed loop of the proved library over strings of some units and those of others that they are compared with, and
-/// answers its sum.
+/// Runs a timed loop of the proved library over strings of `units`, compared with strings of `others`, and returns its
+/// sum.
 pub fn time(number: u32, units: &[u16], others: &[u16], rounds: u32) -> u64 {
     let mut sum = 0;
     let status = unsafe {
@@ -78,7 +78,7 @@ pub fn time(number: u32, units: &[u16], others: &[u16], rounds: u32) -> u64 {
     }
 }
 
-/// Runs a loop of the proved library over a text, and answers its sum.
+/// Runs a loop of the proved library over a text, and returns its sum.
 pub fn texts(number: u32, units: &[u16], places: &[u32], rounds: u32) -> u64 {
     let mut sum = 0;
     let status = unsafe {

@@ -1,5 +1,5 @@
-//! The proved library as the program `compare_replay` runs it: a script a line in hexadecimal, and its transcript with an empty
-//! line behind. The variable `COMPARE_PROGRAM` names the built program.
+//! The proved library through the program `compare_replay`, which reads scripts, one a line in hexadecimal, and prints
+//! each transcript with an empty line after it. The variable `COMPARE_PROGRAM` names the built program.
 
 use std::cell::RefCell;
 use std::io::{BufRead, BufReader, Write};
@@ -8,7 +8,7 @@ use std::process::{Child, ChildStdin, ChildStdout, Command, Stdio};
 use crate::console::fail;
 
 thread_local! {
-    /// The program that waits for the next script. It ends with its standard input, when this one ends.
+    /// The running program, which ends with its standard input when this one ends.
     static PROGRAM: RefCell<Option<Program>> = const { RefCell::new(None) };
 }
 
@@ -18,13 +18,13 @@ struct Program {
     transcripts: BufReader<ChildStdout>,
 }
 
-/// The proved library's transcript of a script, or what the program ended with in the place of one.
+/// The proved library's transcript of a script, or a line with the program's exit status if it ended instead.
 pub fn run(script: &[u8]) -> String {
     run_all(&[script.to_vec()]).concat()
 }
 
-/// The proved library's transcripts of scripts, in their order. Where the program ends at one, what it ended with stands in
-/// its place, and those behind it are left out.
+/// The proved library's transcripts of scripts, in their order. If the program ends at a script, the last one is a line
+/// with its exit status, and the scripts after it have none.
 pub fn run_all(scripts: &[Vec<u8>]) -> Vec<String> {
     PROGRAM.with_borrow_mut(|kept| {
         let program = kept.get_or_insert_with(Program::started);
@@ -44,12 +44,12 @@ pub fn run_all(scripts: &[Vec<u8>]) -> Vec<String> {
     })
 }
 
-/// The timed loops are exports of the library alone.
+/// Only the library exports the timed loops.
 pub fn time(_number: u32, _units: &[u16], _others: &[u16], _rounds: u32) -> u64 {
     fail("the timed loops want the library: leave out COMPARE_PROGRAM")
 }
 
-/// So are the loops over texts.
+/// Only the library exports the loops over texts.
 pub fn texts(_number: u32, _units: &[u16], _places: &[u32], _rounds: u32) -> u64 {
     fail("the timed loops want the library: leave out COMPARE_PROGRAM")
 }
@@ -75,8 +75,8 @@ impl Program {
         }
     }
 
-    /// The transcripts, as many as there are before the program ends. It is given all scripts while it answers, so that
-    /// neither side waits for the other at each of them.
+    /// The transcripts that the program prints before it ends. A thread writes all scripts meanwhile, so that neither
+    /// side waits for the other at each of them.
     fn transcripts(&mut self, scripts: &[Vec<u8>]) -> std::io::Result<Vec<String>> {
         let Program {
             scripts: input,
@@ -85,7 +85,7 @@ impl Program {
         } = self;
         let lines: String = scripts.iter().map(|script| line_of(script)).collect();
         std::thread::scope(|scope| {
-            // A program that has ended takes no more; its end is seen where its transcripts are read.
+            // Writing fails if the program has ended, which shows when its transcripts are read.
             scope.spawn(|| input.write_all(lines.as_bytes()));
             let mut transcripts = Vec::with_capacity(scripts.len());
             while transcripts.len() < scripts.len() {
@@ -110,7 +110,7 @@ fn line_of(script: &[u8]) -> String {
         .collect()
 }
 
-/// The next transcript, or none where the program ended before it was whole.
+/// The next transcript, or `None` if the program ended before it was complete.
 fn transcript_from(output: &mut impl BufRead) -> std::io::Result<Option<String>> {
     let mut transcript = Vec::new();
     loop {

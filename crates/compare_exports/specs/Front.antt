@@ -1,6 +1,6 @@
--- What is written at the front of a slice.
+-- Writing at the front of a slice.
 use Rattle.std.specs.Prelude.{ℕ, List, ◌++◌, length, drop, nat_le, if◌then◌else◌}
 
--- A slice with some bytes over its front, where they fit, and else as it was.
+-- The slice `out` with `bytes` over its front if they fit, else unchanged.
 abbrev pub with_front : List ℕ → List ℕ → List ℕ
 with_front bytes out = if nat_le (length bytes) (length out) then bytes ++ drop (length bytes) out else out

@@ -1,12 +1,12 @@
-//! Strings with places that are counted in units.
+//! A string and a text with indexes in code units, for the timed loops.
 ghost use Rattle.std.specs.Prelude.{◌≡◌, ◌+◌, ◌≤◌, length};
 
 use std::alloc::{AllocError, Global};
 use unit_text::UnitText;
 use wtf8::{Wtf8, Wtf8Buf};
 
-/// A string, a text, and where the middle of the text is and its middle half begins, in units. It has 128 bytes, so that a
-/// loop finds one of several by a shift.
+/// A string, a text, and indexes in code units: the middle of the shorter of both, and the start of its middle half.
+/// The struct has 128 bytes, so that a loop indexes an array of them by a shift.
 #[derive(Drop)]
 pub struct Counted {
     pub string: Wtf8Buf<Global>,
@@ -18,7 +18,7 @@ pub struct Counted {
 }
 
 impl Counted {
-    /// A string with a text of some units, and places in as many units as both have.
+    /// Makes a text of `units`, and indexes that are within both the text and the string.
     pub fn new(
         alloc: Global,
         string: Wtf8Buf<Global>,
@@ -44,13 +44,13 @@ impl Counted {
         self.text.unit_at(self.middle).unwrap_or(0)
     }
 
-    /// The text without its first and its last quarter.
+    /// The text without `begin` units at each end.
     pub fn middle_half(&self, alloc: Global) -> Result<UnitText<Global>, AllocError> {
         let end = self.text.unit_len() - self.begin;
         self.text.slice_units(alloc, self.begin, end)
     }
 
-    /// As much of the string as the first half of the text has units.
+    /// The first `middle` units of the string.
     pub fn first_half(&self) -> Result<Wtf8Buf<Global>, AllocError> {
         let mut string = self.string.clone()?;
         string.truncate_units(self.middle);

@@ -1,4 +1,4 @@
-//! The proved library for programs that are not Rattle: exports on numbers and slices alone.
+//! Exports of the proved library for programs that are not written in Rattle. They take only numbers and slices.
 #![tactic(auto)]
 
 ghost use Rattle.std.specs.Prelude.{◌≡◌, ◌<◌, ◌≤◌, ◌<ℤ◌, ◌↔◌, ◌⊎◌, ℕ, pos, length, drop};
@@ -13,29 +13,28 @@ use std::alloc::Global;
 use texts::{LAST as LAST_OF_TEXTS, TextBench};
 use timing::{Bench, LAST};
 
-/// The script ends inside a call, or a byte or a text in it stands for nothing.
+/// The result for a script that ends inside a call or has an invalid byte or text.
 const MALFORMED: i64 = -1;
 
-/// No loop has the number.
+/// The result for a number that no loop has.
 const NO_LOOP: i64 = -1;
 
-/// A growth of memory was refused.
+/// The result if a request for memory was refused.
 const MEMORY: i64 = -2;
 
-/// Runs a script and writes its transcript, text in UTF-8, at the front of `out`.
+/// Runs a script and writes its transcript, in UTF-8, at the front of `out`.
 ///
-/// It answers the transcript's length in bytes, or a number below 0 where there is none: -1 for a malformed script, -2
-/// for want of memory. `out` is left as it was where there is no transcript and where it is longer than `out`, and else
-/// behind the transcript.
+/// Returns the transcript's length in bytes, -1 for a malformed script, or -2 if memory was refused. If there is no
+/// transcript or `out` is too short for it, `out` is unchanged; otherwise the bytes after the transcript are.
 #[unsafe(no_mangle)]
 pub extern "C" fn compare_exports_run(alloc: Global, script: &[u8], out: &mut [u8]) -> i64
     ensures code { result <ℤ pos 0 → (result ≡ MALFORMED) ⊎ (result ≡ MEMORY) }
 
-    // Nothing is written where there is no transcript, or no room for it.
+    // Nothing is written if there is no transcript or `out` is too short for it.
     ensures none { result <ℤ pos 0 → out.new ≡ out.old }
     ensures long { pos (length out.old) <ℤ result → out.new ≡ out.old }
 
-    // A transcript of n bytes leaves what is behind the first n bytes.
+    // A transcript of n bytes leaves the bytes after the first n unchanged.
     ensures behind { (n : ℕ) → result ≡ pos n → drop n out.new ≡ drop n out.old }
 {
     match run_script(alloc, script) {
@@ -45,12 +44,11 @@ pub extern "C" fn compare_exports_run(alloc: Global, script: &[u8], out: &mut [u
     }
 }
 
-/// Makes equal strings of some units, and of other units those that they are compared with, if there are any, runs the loop
-/// of a number, 1 to 23, over them for so many rounds, and writes to `sum` a sum over what its calls answered, which wraps
-/// round at 2^64. With no rounds it makes the strings alone. Loops 22 and 23 work on the lines among the units.
+/// Makes equal strings of `units` and, unless `others` is empty, strings of `others` to compare them with. Runs loop
+/// `number`, 1 to 23, for `rounds` rounds, and writes to `sum` a checksum of what its calls returned, modulo 2^64. With
+/// 0 rounds it only makes what the loop works on. Loops 22 and 23 work on the lines among the units.
 ///
-/// It answers 0, or a number below 0 where `sum` is left as it was: -1 where the number has no loop, -2 for want of
-/// memory.
+/// Returns 0, or, with `sum` unchanged, -1 if no loop has the number or -2 if memory was refused.
 #[unsafe(no_mangle)]
 pub extern "C" fn compare_exports_time(
     alloc: Global,
@@ -76,19 +74,18 @@ pub extern "C" fn compare_exports_time(
     }
 }
 
-/// Makes a text and a string of some units, runs the loop of a number, 1 to 12, over the places in them for so many rounds,
-/// and writes to `sum` a sum over what its calls answered, which wraps round at 2^64. With no rounds it makes both alone.
+/// Makes a text and a string of `units`, runs loop `number`, 1 to 12, at `places` for `rounds` rounds, and writes to
+/// `sum` a checksum of what its calls returned, modulo 2^64. With 0 rounds it only makes the text and the string.
 ///
 /// | Loop | Call |
 /// |---|---|
-/// | 1, 2 | the unit at each place, of the text with its marks and of the string's view |
-/// | 3, 4 | ten units from each place on, as a text and as a part of the view |
-/// | 5, 6, 7 | the units made into a text, into one with marks, and into a string |
-/// | 8, 9, 10 | each unit pushed by itself, to a text without marks and with them, and to a string |
-/// | 11, 12 | how many bytes the string has asked for, and how many the marks ask for, whatever the rounds are |
+/// | 1, 2 | `unit_at` each index in `places`, of the text with its marks and of the string's view |
+/// | 3, 4 | `slice_units` of ten units from each index, of the text and of the view |
+/// | 5, 6, 7 | makes a text, a text with marks, and a string of the units |
+/// | 8, 9, 10 | pushes each unit to a text without marks, a text with marks, and a string |
+/// | 11, 12 | the bytes of the string's capacity, and the bytes that the marks request, for any `rounds` |
 ///
-/// It answers 0, or a number below 0 where `sum` is left as it was: -1 where the number has no loop, -2 for want of
-/// memory.
+/// Returns 0, or, with `sum` unchanged, -1 if no loop has the number or -2 if memory was refused.
 #[unsafe(no_mangle)]
 pub extern "C" fn compare_exports_texts(
     alloc: Global,
@@ -114,7 +111,7 @@ pub extern "C" fn compare_exports_texts(
     }
 }
 
-/// Writes some bytes at the front where they fit, and answers how many there are.
+/// Writes `bytes` at the front of `out` if they fit, and returns their number in any case.
 fn write_front(bytes: &[u8], out: &mut [u8]) -> i64
     ensures len { result ≡ pos (length bytes.now) }
     ensures out { out.new ≡ with_front bytes.now out.old }

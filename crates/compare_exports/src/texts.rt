@@ -1,4 +1,4 @@
-// Calls of texts that are counted in units, in loops, and the same calls of views and buffers.
+// Timed loops over texts, and the same calls over views and buffers.
 ghost use Rattle.std.specs.Prelude.{◌≡◌, ◌<◌, ◌≤◌, length};
 
 use refusing::{Refusal, Refusing};
@@ -9,10 +9,10 @@ use wtf8::{CodePoint, UnitSlice, Wtf8Buf};
 /// The number of the last loop.
 pub const LAST: u32 = 12;
 
-/// How many units a slice has.
+/// The number of units in a slice.
 const SLICE: usize = 10;
 
-/// How many bytes a unit takes that a slice divides from its pair.
+/// The encoded length of a surrogate that a slice cuts from its pair.
 const DIVIDED: u64 = 3;
 
 /// What the loops work on.
@@ -29,7 +29,7 @@ pub struct TextBench<'a> {
 }
 
 impl<'a> TextBench<'a> {
-    /// A text of some units, with its marks, and a string of them, and the places that each round looks at.
+    /// Makes a text of `units` with marks and a string of them. `places` are the indexes that each round reads.
     pub fn new(
         alloc: Global,
         units: &'a [u16],
@@ -51,7 +51,7 @@ impl<'a> TextBench<'a> {
         })
     }
 
-    /// Runs the loop of a number, and answers a sum over what its calls answered.
+    /// Runs a loop, and returns a checksum of what its calls returned.
     pub fn run(&self, number: u32) -> Result<u64, AllocError>
         requires least { 0 < number }
         requires most { number ≤ 12 }
@@ -73,7 +73,7 @@ impl<'a> TextBench<'a> {
         }
     }
 
-    /// The sum of what a loop's call answers at each place, in each round, which wraps round.
+    /// The sum of what a loop's call returns at each index in each round, modulo 2^64.
     #[inline(never)]
     fn at_places<const LOOP: u32>(&self) -> Result<u64, AllocError> {
         let mut sum = 0u64;
@@ -83,7 +83,7 @@ impl<'a> TextBench<'a> {
         Ok(sum)
     }
 
-    /// The same for one round.
+    /// The sum of what a loop's call returns at each index, modulo 2^64.
     #[inline(always)]
     fn round_of_places<const LOOP: u32>(&self) -> Result<u64, AllocError> {
         let mut sum = 0u64;
@@ -93,7 +93,7 @@ impl<'a> TextBench<'a> {
         Ok(sum)
     }
 
-    /// What a loop's call answers at a place, as a number.
+    /// What a loop's call returns at an index, as a number.
     #[inline(always)]
     fn answer_at<const LOOP: u32>(&self, place: usize) -> Result<u64, AllocError> {
         let answer = match LOOP {
@@ -106,21 +106,21 @@ impl<'a> TextBench<'a> {
         Ok(answer)
     }
 
-    /// Ten units of the text from a place on, or the last ten.
+    /// Ten units of the text from an index, or the last ten if fewer follow.
     #[inline(always)]
     fn slice_of_text(&self, place: usize) -> Result<UnitText<Global>, AllocError> {
         let (begin, end) = ends_of_slice(place, self.text.unit_len());
         self.text.slice_units(self.alloc, begin, end)
     }
 
-    /// The same units of the string, as parts of it.
+    /// Ten units of the string's view from an index, or the last ten if fewer follow.
     #[inline(always)]
     fn slice_of_view(&self, place: usize) -> UnitSlice<'_> {
         let (begin, end) = ends_of_slice(place, self.len);
         self.string.as_wtf8().slice_units(begin, end)
     }
 
-    /// The sum of how long what a loop's call makes of all units is, in each round, which wraps round.
+    /// The sum of the lengths in bytes of what a loop's call makes of all units in each round, modulo 2^64.
     #[inline(never)]
     fn whole<const LOOP: u32>(&self) -> Result<u64, AllocError> {
         let mut sum = 0u64;
@@ -130,7 +130,7 @@ impl<'a> TextBench<'a> {
         Ok(sum)
     }
 
-    /// How many bytes what a loop's call makes of all units has.
+    /// The length in bytes of what a loop's call makes of all units.
     #[inline(always)]
     fn len_of_whole<const LOOP: u32>(&self) -> Result<usize, AllocError> {
         let (alloc, units) = (self.alloc, self.units);
@@ -148,7 +148,7 @@ impl<'a> TextBench<'a> {
         Ok(len)
     }
 
-    /// How many bytes the marks of a text of the units ask for.
+    /// The number of bytes that the marks of a text of the units request.
     fn bytes_of_marks(&self) -> Result<u64, AllocError> {
         let heap = Refusing::new(self.alloc, u64::MAX);
         let mut text = UnitText::from_units(&heap, self.units)?;
@@ -158,7 +158,7 @@ impl<'a> TextBench<'a> {
     }
 }
 
-/// Where ten units from a place on begin and end in so many, or the last ten.
+/// The start and the end of ten units from an index, or of the last ten, in a text of `len` units.
 #[inline(always)]
 fn ends_of_slice(place: usize, len: usize) -> (usize, usize)
     ensures order { result.0 ≤ result.1 }
@@ -168,14 +168,14 @@ fn ends_of_slice(place: usize, len: usize) -> (usize, usize)
     (begin, len.min(begin.saturating_add(SLICE)))
 }
 
-/// A text of some units, with its marks.
+/// A text of `units` with marks.
 fn marked(alloc: Global, units: &[u16]) -> Result<UnitText<Global>, AllocError> {
     let mut text = UnitText::from_units(alloc, units)?;
     text.mark_units(alloc);
     Ok(text)
 }
 
-/// A text with units behind it, each of which is pushed by itself.
+/// Pushes units to a text one by one.
 fn appended(
     text: UnitText<Global>,
     alloc: Global,
@@ -188,7 +188,7 @@ fn appended(
     Ok(text)
 }
 
-/// A string of units, each of which is pushed by itself.
+/// A string of `units`, pushed one by one.
 fn pushed(alloc: Global, units: &[u16]) -> Result<Wtf8Buf<Global>, AllocError> {
     let mut string = Wtf8Buf::new(alloc);
     for unit in units {
@@ -197,7 +197,7 @@ fn pushed(alloc: Global, units: &[u16]) -> Result<Wtf8Buf<Global>, AllocError> {
     Ok(string)
 }
 
-/// How many bytes a slice has as a text.
+/// The length in bytes of a slice as a string of its own.
 #[inline(always)]
 fn len_of_slice(slice: UnitSlice<'_>) -> u64 {
     let divided = u64::from(slice.trail.is_some()) + u64::from(slice.lead.is_some());

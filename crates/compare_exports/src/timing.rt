@@ -1,6 +1,6 @@
 //! Calls in loops, for timings.
 //!
-//! Each round takes another one of some equal strings, so that a compiler cannot answer one round by the round before.
+//! Each round takes another of several equal strings, so that a compiler cannot reuse the result of the round before.
 ghost use Rattle.std.specs.Prelude.{◌<◌, ◌≤◌};
 
 use crate::counted::Counted;
@@ -10,10 +10,10 @@ use std::collections::BTreeMap;
 use unit_text::UnitText;
 use wtf8::{CodePoint, Wtf8, Wtf8Buf};
 
-/// How many equal strings a loop goes round.
+/// The number of equal strings that a loop cycles through.
 pub const STRINGS: usize = 4;
 
-/// The numbers of the first loop that counts in units and of the last one.
+/// The numbers of the first and the last loop that counts in code units.
 const FIRST_COUNTED: u32 = 15;
 
 const LAST_COUNTED: u32 = 20;
@@ -40,8 +40,8 @@ pub struct Bench {
 }
 
 impl Bench {
-    /// Equal strings of some units for the loop of a number, those of other units that they are compared with, if there are
-    /// any, and the loop's number of rounds.
+    /// Makes equal strings of `units` for loop `number` and, unless `others` is empty, strings of `others` to compare
+    /// them with.
     pub fn new(
         alloc: Global,
         number: u32,
@@ -72,7 +72,7 @@ impl Bench {
         Ok(bench)
     }
 
-    /// Runs the loop of a number, and answers a sum over what its calls answered.
+    /// Runs a loop, and returns a checksum of what its calls returned.
     pub fn run(&self, number: u32) -> Result<u64, AllocError>
         requires least { 0 < number }
         requires most { number ≤ 23 }
@@ -105,8 +105,8 @@ impl Bench {
         }
     }
 
-    /// The sum of what a loop's call answers on each round's string and another one, which wraps round. Each loop is a
-    /// function of its own, so that where its code lies does not depend on the other loops.
+    /// The sum of what a loop's call returns on each round's string and another one, modulo 2^64. Each loop is a
+    /// function of its own, so that the address of its code does not depend on the other loops.
     #[inline(never)]
     fn sum<const LOOP: u32>(&self) -> Result<u64, AllocError> {
         let others = self.others.as_ref().unwrap_or(&self.strings);
@@ -118,7 +118,7 @@ impl Bench {
         Ok(sum)
     }
 
-    /// What a loop's call answers on a string and another one, as a number.
+    /// What a loop's call returns on a string and another one, as a number.
     #[inline(always)]
     fn answer<const LOOP: u32>(&self, own: &Counted, other: &Counted) -> Result<u64, AllocError> {
         let answer = match LOOP {
@@ -159,7 +159,7 @@ impl Bench {
         &self.strings[round as usize % STRINGS]
     }
 
-    /// The length of a string of all code points, pushed one by one.
+    /// The length of a string to which all code points are pushed one by one.
     #[inline(never)]
     fn push(&self) -> Result<u64, AllocError> {
         let mut string = Wtf8Buf::new(self.alloc);
@@ -169,8 +169,8 @@ impl Bench {
         Ok(string.len() as u64)
     }
 
-    /// The sum of the lengths of empty strings that are extended by the code points of each round's string. The loop stands
-    /// here since the same one over a closure takes an instruction more for each code point.
+    /// The sum of the lengths of empty strings, each extended by the code points of a round's string. Written without
+    /// `sum`: the loop over a closure takes one more instruction for each code point.
     #[inline(never)]
     fn extend(&self) -> Result<u64, AllocError> {
         let mut sum = 0u64;
@@ -182,7 +182,7 @@ impl Bench {
         Ok(sum)
     }
 
-    /// The sum of the lengths of the line that stands in the middle once all are sorted, in each round.
+    /// The sum of the lengths of the line in the middle after sorting, in each round.
     #[inline(never)]
     fn sort(&self) -> Result<u64, AllocError> {
         let mut sum = 0u64;
@@ -198,7 +198,7 @@ impl Bench {
         Ok(sum)
     }
 
-    /// The sum of the places of all lines, each of which is looked up in a map in each round.
+    /// The sum of the indexes of all lines, each of which is looked up in a map in each round.
     #[inline(never)]
     fn look_up(&self) -> Result<u64, AllocError> {
         let mut places = BTreeMap::new(self.alloc);
@@ -215,7 +215,7 @@ impl Bench {
         Ok(sum)
     }
 
-    /// The length of the last string that was pushed to, up to 64 times each.
+    /// Pushes each round's string, to a new string every 64 rounds. Returns the length of the last string.
     #[inline(never)]
     fn push_strings(&self) -> Result<u64, AllocError> {
         let mut string = Wtf8Buf::new(self.alloc);
@@ -229,7 +229,7 @@ impl Bench {
     }
 }
 
-/// Equal strings, with texts of the units that a loop counts in.
+/// Clones of `string`, each with a text of the units `counted`.
 fn equal_strings(
     string: &Wtf8Buf<Global>,
     alloc: Global,
@@ -238,8 +238,8 @@ fn equal_strings(
     array::try_from_fn(|_| Counted::new(alloc, string.clone()?, counted))
 }
 
-/// The units that the loop of a number counts in. Where it counts in none the strings stand alone, so that they lie in
-/// memory as those of a library without such calls.
+/// The units of the texts for loop `number`. None if the loop does not count in units, so that the strings lie in
+/// memory as in a library without such calls.
 fn counted_units(number: u32, units: &[u16]) -> &[u16] {
     if number < FIRST_COUNTED || LAST_COUNTED < number {
         return &units[..0];
@@ -247,7 +247,7 @@ fn counted_units(number: u32, units: &[u16]) -> &[u16] {
     units
 }
 
-/// The strings of the lines among some units.
+/// A string for each line of `units`.
 fn lines(alloc: Global, units: &[u16]) -> Result<Vec<Wtf8Buf<Global>>, AllocError> {
     let mut lines = Vec::new(alloc);
     for line in units.split(|unit| *unit == LINE_END) {
@@ -256,7 +256,7 @@ fn lines(alloc: Global, units: &[u16]) -> Result<Vec<Wtf8Buf<Global>>, AllocErro
     Ok(lines)
 }
 
-/// How many bytes a text has that is grown by single units.
+/// The length in bytes of a text to which each unit is pushed.
 #[inline(never)]
 fn grown_text(alloc: Global, units: &[u16]) -> Result<u64, AllocError> {
     let mut text = UnitText::from_units(alloc, &[])?;
@@ -266,14 +266,14 @@ fn grown_text(alloc: Global, units: &[u16]) -> Result<u64, AllocError> {
     Ok(text.as_wtf8().len() as u64)
 }
 
-/// How many units a view has, by those that it appends to none.
+/// The number of units of a view, by `append_units`.
 fn appended_units(alloc: Global, view: Wtf8<'_>) -> Result<u64, AllocError> {
     let mut units = Vec::new(alloc);
     view.append_units(&mut units)?;
     Ok(units.len() as u64)
 }
 
-/// How many units a view has, by a list of them.
+/// The number of units of a view, by collecting its iterator.
 fn collected_units(alloc: Global, view: Wtf8<'_>) -> Result<u64, AllocError> {
     let units: Vec<u16> = view.to_ill_formed_utf16().collect(alloc)?;
     Ok(units.len() as u64)

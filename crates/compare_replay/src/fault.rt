@@ -1,23 +1,23 @@
-// Why answers stopped.
+// The error of the program.
 use std::alloc::AllocError;
 
-/// Why answers stopped before the end of the input.
+/// Why the program stopped before the end of the input.
 #[derive(Clone, Copy)]
 pub enum Fault {
-    /// A read answered an error.
+    /// A read failed.
     Read,
-    /// A write answered an error.
+    /// A write failed.
     Write,
-    /// A growth of memory was refused.
+    /// A request for memory was refused.
     Memory,
     /// A line is not in hexadecimal.
     NotHexadecimal,
-    /// A line's script ends inside a call, or a byte or a text in it stands for nothing.
+    /// The script of a line ends inside a call, or has an invalid byte or text.
     Malformed,
 }
 
 impl Fault {
-    /// The exit status that the program ends with: 1 for a failed read or write, 2 for want of memory, 3 for a bad line.
+    /// The exit status: 1 for a failed read or write, 2 for refused memory, 3 for a bad line.
     pub fn status(self) -> u8 {
         match self {
             Fault::Read | Fault::Write => 1,
@@ -26,7 +26,7 @@ impl Fault {
         }
     }
 
-    /// The text that the program prints, in lower-case words with no newline.
+    /// The message on standard error, in lower-case words without a newline.
     pub fn text(self) -> &'static str {
         match self {
             Fault::Read => "read failed",

@@ -2,7 +2,7 @@
 use crate::fault::Fault;
 use std::alloc::{AllocError, Global};
 
-/// The bytes that a text spells with two hexadecimal digits each, of either case.
+/// Decodes a text of two hexadecimal digits a byte, of either case.
 pub fn read_hex(alloc: Global, text: &str) -> Result<Vec<u8>, Fault> {
     let mut bytes = Vec::new(alloc);
     for digits in text.as_bytes().chunks(2) {
@@ -12,7 +12,7 @@ pub fn read_hex(alloc: Global, text: &str) -> Result<Vec<u8>, Fault> {
     Ok(bytes)
 }
 
-/// The byte that two hexadecimal digits spell, or `None` for any other text.
+/// The byte of two hexadecimal digits, or `None` for any other text.
 fn byte_of(digits: &[u8]) -> Option<u8> {
     let [high, low] = digits else {
         return None;

@@ -1,4 +1,4 @@
-//! Reads scripts, one a line in hexadecimal, and prints their transcripts with an empty line behind each.
+//! Reads scripts, one a line in hexadecimal, and prints their transcripts, each followed by an empty line.
 #![tactic(auto)]
 
 mod fault;
@@ -11,7 +11,7 @@ use std::alloc::Global;
 use std::io::{BufRead, BufReader, ErrorKind, Stdin};
 use std::process::ExitCode;
 
-/// Answers up to the end of the input or to the first fault, of which the standard error and the status say what it was.
+/// Runs to the end of the input or to the first fault, which standard error and the exit status report.
 fn main(rt: HostRuntime) -> ExitCode {
     match print_transcripts(&rt, rt.stdin(), rt.alloc()) {
         Ok(()) => ExitCode::SUCCESS,
@@ -22,7 +22,7 @@ fn main(rt: HostRuntime) -> ExitCode {
     }
 }
 
-/// Prints the transcript of each line's script. Input that comes through a pipe is read by the piece, and not by the byte.
+/// Prints the transcript of each line's script. The input is buffered, so that a pipe is not read byte by byte.
 fn print_transcripts<R: Print>(rt: &R, input: Stdin, alloc: Global) -> Result<(), Fault> {
     let input = BufReader::new(alloc, input).or(Err(Fault::Memory))?;
     for line in input.lines(alloc) {

@@ -1,4 +1,4 @@
-// Building calls by their names, one by one and lists of them.
+// Building calls, applied one by one and as lists.
 use crate::building::with_view;
 use crate::machine::Machine;
 use crate::reader::{Reader, Register};
@@ -9,11 +9,12 @@ use std::alloc::{Allocator, Global};
 use std::mem;
 use wtf8::{Build, CodePoint, Stopped, Wtf8, Wtf8Buf};
 
-/// So many requests for memory are granted that none is refused.
+/// The number of grants that means no limit.
 const UNBOUNDED: usize = 0xFFFF;
 
 impl Machine {
-    /// `apply` of each call of a list, whose strings stay as they are: writes what it answers, and the string after it.
+    /// `apply` of each call of a list: writes what it returns, and the string after it. The calls refer to the strings
+    /// as they were before the list.
     pub fn apply_each(&mut self, at: Register, tape: &mut Tape<'_>) -> Result<(), Stop> {
         let points = tape.reader.points(tape.alloc)?;
         let copy = allocated(self.string(at).clone())?;
@@ -22,7 +23,7 @@ impl Machine {
         Ok(())
     }
 
-    /// A string after each call of a list.
+    /// Returns a string after `apply` of each call of a list.
     fn applied(
         &self,
         string: Wtf8Buf<Global>,
@@ -36,8 +37,8 @@ impl Machine {
         Ok(string)
     }
 
-    /// `apply_all` of a list of calls, on a copy with spare room and an allocator that grants a number of requests: writes
-    /// how many truncations were refused or where the list was stopped, and the units, and returns the string afterwards.
+    /// `apply_all` of a list of calls, on a copy with spare capacity and an allocator that grants a number of requests.
+    /// Writes the number of refused truncations or the index of the refused call, then the units. Returns the string.
     pub fn apply_all(&self, at: Register, tape: &mut Tape<'_>) -> Result<Wtf8Buf<Global>, Stop> {
         let spare = tape.reader.number()?;
         let grants = tape.reader.number()?;
@@ -46,8 +47,8 @@ impl Machine {
         apply_with_grants(self.view(at), spare, grants, calls.as_slice(), tape)
     }
 
-    /// The building calls of a list: a byte with their number, and each of them. A number that is no code point gives no
-    /// call.
+    /// Reads a count of one byte, then that number of building calls. A call whose value is not a code point, or not a
+    /// scalar value for `PushChar`, is left out.
     fn read_calls<'s: 'c, 'c>(
         &'c self,
         tape: &mut Tape<'s>,
@@ -64,7 +65,7 @@ impl Machine {
         Ok(calls)
     }
 
-    /// A building call: a byte that names it, and its operand.
+    /// Reads a building call: a byte that names it, and its operand.
     fn read_call<'s: 'c, 'c>(
         &'c self,
         reader: &mut Reader<'s>,
@@ -85,7 +86,7 @@ impl Machine {
     }
 }
 
-/// `apply` of each call.
+/// `apply` of each call: writes what it returns, and the string after it.
 fn apply_calls(
     string: &mut Wtf8Buf<Global>,
     at: Register,
@@ -109,7 +110,7 @@ fn apply_call(
     writeln!(tape, "applied {is_kept}")
 }
 
-/// `apply_all` of a list of calls on a copy of a view, with spare room and a limit of requests for memory.
+/// `apply_all` on a copy of a view with spare capacity, after which `grants` requests for memory are granted.
 fn apply_with_grants(
     view: Wtf8<'_>,
     spare: usize,
@@ -125,7 +126,7 @@ fn apply_with_grants(
     apply_list(string, calls, tape)
 }
 
-/// A copy of a view with spare room.
+/// A copy of a view with at least `spare` bytes of spare capacity.
 fn with_spare<A: Allocator + Drop>(
     alloc: A,
     view: Wtf8<'_>,
@@ -136,7 +137,7 @@ fn with_spare<A: Allocator + Drop>(
     with_view(string, view)
 }
 
-/// `apply_all` of a list of calls: writes what it returns, and the units, and returns a copy of the string afterwards.
+/// `apply_all`: writes what it returns and the units, and returns a copy of the string.
 fn apply_list<A: Allocator + Drop>(
     string: Wtf8Buf<A>,
     calls: &[Build<'_>],

@@ -1,4 +1,4 @@
-// The calls that make strings or change them in their places.
+// Calls that make strings or change them.
 use crate::hinted::Hinted;
 use crate::machine::Machine;
 use crate::reader::{Reader, Register};
@@ -9,8 +9,7 @@ use std::mem;
 use wtf8::{Wtf8, Wtf8Buf, Wtf8CodePoints};
 
 impl Machine {
-    /// The string that a call makes of its operands for a register; of `with_capacity` it writes whether there is the
-    /// room that was asked.
+    /// Makes the string of a call for register `at`. `with_capacity` and `apply_all` also write lines of their own.
     pub fn make(
         &self,
         opcode: u8,
@@ -33,20 +32,20 @@ impl Machine {
         }
     }
 
-    /// The string of the code points of another string after the first ones.
+    /// `from_iter` of the code points of another string without its first ones.
     fn from_last_points(&self, tape: &mut Tape<'_>) -> Result<Wtf8Buf<Global>, Stop> {
         let other = self.string(tape.reader.register()?);
         let count = tape.reader.number()?;
         allocated(Wtf8Buf::from_iter(tape.alloc, points_after(other, count)))
     }
 
-    /// A copy of another string.
+    /// A clone of another string.
     fn copy(&self, tape: &mut Tape<'_>) -> Result<Wtf8Buf<Global>, Stop> {
         let other = self.string(tape.reader.register()?);
         allocated(other.clone())
     }
 
-    /// The register's string or, of a slice, the empty one, and a part of a string after it.
+    /// Appends a slice to a clone of the register's string (opcode 36) or to an empty string.
     fn with_part(
         &self,
         opcode: u8,
@@ -61,7 +60,7 @@ impl Machine {
         with_view(string, part)
     }
 
-    /// The calls that append to a string, and `reserve`, which writes whether there is the room that was asked.
+    /// Runs a call that appends to a string, or `reserve`.
     pub fn append(&mut self, opcode: u8, at: Register, tape: &mut Tape<'_>) -> Result<(), Stop> {
         match opcode {
             12 => self.push_string(at, tape),
@@ -70,20 +69,20 @@ impl Machine {
         }
     }
 
-    /// `push_wtf8` of a copy of another string.
+    /// `push_wtf8` of a clone of another string, which may be in this register.
     fn push_string(&mut self, at: Register, tape: &mut Tape<'_>) -> Result<(), Stop> {
         let piece = self.copy(tape)?;
         allocated(self.strings[at.index].push_wtf8(piece.as_wtf8()))
     }
 
-    /// `extend` by the code points of a copy of another string after the first ones.
+    /// `extend` by the code points of a clone of another string without its first ones.
     fn extend_by_string(&mut self, at: Register, tape: &mut Tape<'_>) -> Result<(), Stop> {
         let piece = self.copy(tape)?;
         let count = tape.reader.number()?;
         allocated(self.strings[at.index].extend(points_after(&piece, count)))
     }
 
-    /// `truncate` and `truncate_units`: writes whether the capacity is as before.
+    /// `truncate` and `truncate_units`: writes whether the capacity was unchanged.
     pub fn cut(&mut self, opcode: u8, at: Register, tape: &mut Tape<'_>) -> Result<(), Stop> {
         let position = tape.reader.number()?;
         let string = &mut self.strings[at.index];
@@ -96,15 +95,15 @@ impl Machine {
         tape.write_kept(string.capacity() == capacity)
     }
 
-    /// `into_string` and `into_string_lossy`: writes the bytes of the text and whether the capacity is as before, or that
-    /// there is no text. The string is then made of what came back.
+    /// `into_string` and `into_string_lossy`: writes the bytes of the text and whether the capacity was unchanged, or
+    /// that there is no text. The result becomes the register's string again.
     pub fn turn(&mut self, opcode: u8, at: Register, tape: &mut Tape<'_>) -> Result<(), Stop> {
         let string = mem::replace(&mut self.strings[at.index], Wtf8Buf::new(tape.alloc));
         self.strings[at.index] = turned(opcode, string, tape)?;
         Ok(())
     }
 
-    /// A string, and a position for `slice_from` or `slice_to` or else a range: that part of it.
+    /// Reads a string, then a position (`slice_from`, `slice_to`) or a range, and returns that slice.
     fn read_part(&self, opcode: u8, reader: &mut Reader<'_>) -> Result<Wtf8<'_>, Stop> {
         let at = reader.register()?;
         if let 16 | 36 = opcode {
@@ -122,7 +121,7 @@ impl Machine {
     }
 }
 
-/// An empty string with room: writes whether there is the room that was asked.
+/// `with_capacity`: writes whether the capacity is at least the requested one.
 fn with_capacity(tape: &mut Tape<'_>) -> Result<Wtf8Buf<Global>, Stop> {
     let capacity = tape.reader.number()?;
     let string = allocated(Wtf8Buf::with_capacity(tape.alloc, capacity))?;
@@ -130,33 +129,33 @@ fn with_capacity(tape: &mut Tape<'_>) -> Result<Wtf8Buf<Global>, Stop> {
     Ok(string)
 }
 
-/// The string of an owned text.
+/// `from_string`.
 fn from_string(tape: &mut Tape<'_>) -> Result<Wtf8Buf<Global>, Stop> {
     let text = tape.reader.text()?;
     let text = allocated(String::from_str(tape.alloc, text))?;
     Ok(Wtf8Buf::from_string(text))
 }
 
-/// The string of a text.
+/// `from_str`.
 fn from_text(tape: &mut Tape<'_>) -> Result<Wtf8Buf<Global>, Stop> {
     let text = tape.reader.text()?;
     allocated(Wtf8Buf::from_str(tape.alloc, text))
 }
 
-/// The string of code units.
+/// `from_ill_formed_utf16`.
 fn from_units(tape: &mut Tape<'_>) -> Result<Wtf8Buf<Global>, Stop> {
     let count = usize::from(tape.reader.byte()?);
     let units = tape.reader.units(tape.alloc, count)?;
     allocated(Wtf8Buf::from_ill_formed_utf16(tape.alloc, units.as_slice()))
 }
 
-/// The string of code points.
+/// `from_iter` of code points.
 fn from_points(tape: &mut Tape<'_>) -> Result<Wtf8Buf<Global>, Stop> {
     let points = tape.reader.points(tape.alloc)?;
     allocated(Wtf8Buf::from_iter(tape.alloc, points))
 }
 
-/// The string of code points whose iterator gives a hint of its own.
+/// `from_iter` of code points with a lower size hint from the script.
 fn from_hinted(tape: &mut Tape<'_>) -> Result<Wtf8Buf<Global>, Stop> {
     let low = tape.reader.number()?;
     let points = tape.reader.points(tape.alloc)?;
@@ -164,7 +163,7 @@ fn from_hinted(tape: &mut Tape<'_>) -> Result<Wtf8Buf<Global>, Stop> {
     allocated(Wtf8Buf::from_iter(tape.alloc, Hinted { points, low }))
 }
 
-/// A string with a view after it.
+/// Appends a view to a string.
 pub fn with_view<A: Allocator + Drop>(
     string: Wtf8Buf<A>,
     view: Wtf8<'_>,
@@ -174,7 +173,7 @@ pub fn with_view<A: Allocator + Drop>(
     Ok(string)
 }
 
-/// The calls that append what their operands say, and `reserve`.
+/// Runs a call that appends its operand, or `reserve`.
 fn append_operand(
     opcode: u8,
     string: &mut Wtf8Buf<Global>,
@@ -190,7 +189,7 @@ fn append_operand(
     }
 }
 
-/// `reserve`: writes whether there is the room that was asked.
+/// `reserve`: writes whether the spare capacity is at least the requested one.
 fn reserve(string: &mut Wtf8Buf<Global>, tape: &mut Tape<'_>) -> Result<(), Stop> {
     let additional = tape.reader.number()?;
     allocated(string.reserve(additional))?;
@@ -221,7 +220,7 @@ fn extend(string: &mut Wtf8Buf<Global>, tape: &mut Tape<'_>) -> Result<(), Stop>
     allocated(string.extend(points))
 }
 
-/// `extend` by code points whose iterator gives a hint of its own.
+/// `extend` by code points with a lower size hint from the script.
 fn extend_hinted(string: &mut Wtf8Buf<Global>, tape: &mut Tape<'_>) -> Result<(), Stop> {
     let low = tape.reader.number()?;
     let points = tape.reader.points(tape.alloc)?;
@@ -229,7 +228,7 @@ fn extend_hinted(string: &mut Wtf8Buf<Global>, tape: &mut Tape<'_>) -> Result<()
     allocated(string.extend(Hinted { points, low }))
 }
 
-/// `into_string` or `into_string_lossy` of a string, and the string that is made of what it returned.
+/// `into_string` or `into_string_lossy` of a string. Returns its result as a string.
 fn turned(
     opcode: u8,
     string: Wtf8Buf<Global>,
@@ -249,7 +248,7 @@ fn turned(
     }
 }
 
-/// Writes the bytes of a text and whether its capacity is as before, and makes a string of it.
+/// Writes the bytes of a text and whether its capacity was unchanged, and makes a string of it.
 fn from_turned(
     text: String,
     capacity: usize,
@@ -260,7 +259,7 @@ fn from_turned(
     Ok(Wtf8Buf::from_string(text))
 }
 
-/// The code points of a string after the first ones.
+/// The code points of a string without the first `count`.
 fn points_after(string: &Wtf8Buf<Global>, count: usize) -> Wtf8CodePoints<'_> {
     let mut points = string.as_wtf8().code_points();
     for _ in 0..count {

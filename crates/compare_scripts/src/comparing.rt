@@ -40,7 +40,7 @@ fn write_inequalities<T: Ord>(
     )
 }
 
-/// The word that a transcript has for an order.
+/// The word for an order in a transcript.
 pub fn name_of(order: Ordering) -> &'static str {
     match order {
         Ordering::Less => "less",

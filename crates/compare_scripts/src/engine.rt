@@ -1,4 +1,4 @@
-// The calls of texts that stand for more calls of an engine's strings.
+// Further calls on texts, which correspond to methods of a JavaScript engine's strings.
 use crate::stop::{Stop, allocated};
 use crate::tape::Tape;
 use std::alloc::Global;
@@ -8,7 +8,7 @@ use wtf8_uses::engine_strings::{at, code_point_at, pad_start, repeat, to_well_fo
 use wtf8_uses::strings::ends_with;
 use wtf8_uses::well_formed::is_well_formed;
 
-/// Writes what a call returns that leaves both texts as they are.
+/// Runs a call that changes neither text, and writes what it returns.
 pub fn write_result(
     opcode: u8,
     tape: &mut Tape<'_>,
@@ -26,7 +26,7 @@ pub fn write_result(
     }
 }
 
-/// `index_of`: the index.
+/// `index_of`: writes the index.
 fn write_index(
     tape: &mut Tape<'_>,
     text: &UnitText<Global>,
@@ -36,13 +36,13 @@ fn write_index(
     tape.write_found("index", index_of(text, other, position))
 }
 
-/// `at` a position and at the same position before the end: the units.
+/// `at` an index and at its negation, which counts from the end: writes both units.
 fn write_units_at(tape: &mut Tape<'_>, text: &UnitText<Global>) -> Result<(), Stop> {
     let position = tape.reader.unit()? as isize;
     tape.write_two("at", at(text, position), at(text, -position))
 }
 
-/// `code_point_at`: the code point.
+/// `code_point_at`: writes the code point.
 fn write_point(tape: &mut Tape<'_>, text: &UnitText<Global>) -> Result<(), Stop> {
     let position = tape.reader.number()?;
     tape.write_found("point", code_point_at(text, position))
@@ -53,7 +53,7 @@ fn write_well_formed(tape: &mut Tape<'_>, text: &UnitText<Global>) -> Result<(),
     writeln!(tape, "well formed {}", is_well_formed(text))
 }
 
-/// `split`: the number of pieces, and each of them on a line.
+/// `split`: writes the number of pieces, then one piece a line.
 fn write_pieces(tape: &mut Tape<'_>, text: &UnitText<Global>) -> Result<(), Stop> {
     let separator = tape.reader.unit()?;
     let pieces = allocated(split(tape.alloc, text, separator))?;
@@ -64,7 +64,7 @@ fn write_pieces(tape: &mut Tape<'_>, text: &UnitText<Global>) -> Result<(), Stop
     Ok(())
 }
 
-/// `last_index_of`: the index.
+/// `last_index_of`: writes the index.
 fn write_last_index(
     tape: &mut Tape<'_>,
     text: &UnitText<Global>,
@@ -85,7 +85,7 @@ fn write_end(
     writeln!(tape, "ends {is_end}")
 }
 
-/// The text that a call makes.
+/// Makes the text that replaces the first one.
 pub fn made(
     opcode: u8,
     tape: &mut Tape<'_>,
@@ -101,7 +101,7 @@ pub fn made(
     }
 }
 
-/// `pad_start` by the other text.
+/// `pad_start` with the other text.
 fn padded(
     tape: &mut Tape<'_>,
     text: &UnitText<Global>,

@@ -1,7 +1,7 @@
-// Code points under a lower hint that may be false.
+// An iterator of code points whose lower size hint may be false.
 use wtf8::CodePoint;
 
-/// Code points, and the lower hint that they come with, which may be false.
+/// Code points, and the lower size hint of their iterator, which may be false.
 #[derive(Drop)]
 pub struct Hinted<'a> {
     pub points: &'a [CodePoint],

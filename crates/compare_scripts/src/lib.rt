@@ -1,8 +1,8 @@
-//! Short scripts of calls on strings, and the transcripts of what the calls answer.
+//! Interpreter of short scripts of calls on strings: writes a transcript of what each call returns.
 //!
-//! A script is bytes: one call after another, each an opcode and its operands, over four strings and two texts that are
-//! counted in units, all empty at the start. `compare/src/script.rs` has the calls of strings by their opcodes, `texts`
-//! those of texts. A transcript has lines of text, at least one for each call.
+//! A script is bytes: one call after another, each an opcode and its operands. It works on four strings and two
+//! `UnitText`s, all empty at the start. `compare/src/script.rs` lists the calls on strings by opcode, `texts` those on
+//! `UnitText`s. A transcript is lines of text, at least one for each call but `apply` of an empty list.
 #![tactic(auto)]
 
 mod applying;

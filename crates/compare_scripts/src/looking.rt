@@ -1,4 +1,4 @@
-// The calls that look at strings, code points and slices.
+// Calls that only read strings, slices, texts and code points.
 use crate::comparing::{name_of, write_comparisons};
 use crate::machine::Machine;
 use crate::reader::Register;
@@ -11,7 +11,7 @@ use std::borrow::CowStr;
 use wtf8::{CodePoint, UnitSlice, Wtf8, Wtf8Buf};
 
 impl Machine {
-    /// The calls that look at a string: writes what they return.
+    /// Runs a call that reads a string, and writes what it returns.
     pub fn look(&self, opcode: u8, at: Register, tape: &mut Tape<'_>) -> Result<(), Stop> {
         match opcode {
             27 => self.compare(at, tape),
@@ -22,20 +22,20 @@ impl Machine {
         }
     }
 
-    /// Compares a string with another one, and their views.
+    /// Compares a string with another one, as buffers and as views.
     fn compare(&self, at: Register, tape: &mut Tape<'_>) -> Result<(), Stop> {
         let other = tape.reader.register()?;
         write_comparisons(tape, "buffers", self.string(at), self.string(other))?;
         write_comparisons(tape, "views", &self.view(at), &self.view(other))
     }
 
-    /// `cmp_units` with another string.
+    /// `cmp_units` of a string and another one, in both directions.
     fn compare_units(&self, at: Register, tape: &mut Tape<'_>) -> Result<(), Stop> {
         let other = tape.reader.register()?;
         write_orders_of_units(tape, &self.view(at), &self.view(other))
     }
 
-    /// The calls that look at a slice, in its place, and that compare it with another one.
+    /// Runs a call that reads a slice in its string, without a copy, or compares it with another slice.
     pub fn look_inside(&self, opcode: u8, at: Register, tape: &mut Tape<'_>) -> Result<(), Stop> {
         let own = self.read_slice(at, &mut tape.reader);
         match opcode {
@@ -44,7 +44,7 @@ impl Machine {
         }
     }
 
-    /// Compares a slice with another one, whose operands are read even if there is no first one.
+    /// Compares a slice with another one. The second one is read from the script even if the first is refused.
     fn compare_slices(&self, own: Result<Wtf8<'_>, Stop>, tape: &mut Tape<'_>) -> Result<(), Stop> {
         let at = tape.reader.register()?;
         let other = self.read_slice(at, &mut tape.reader);
@@ -52,7 +52,7 @@ impl Machine {
     }
 }
 
-/// The calls that look at a view: writes what they return.
+/// Runs a call that reads a view, and writes what it returns.
 fn look_at_view(opcode: u8, tape: &mut Tape<'_>, view: Wtf8<'_>) -> Result<(), Stop> {
     match opcode {
         21 => write_ascii_byte(tape, view),
@@ -67,7 +67,7 @@ fn look_at_view(opcode: u8, tape: &mut Tape<'_>, view: Wtf8<'_>) -> Result<(), S
     }
 }
 
-/// How two views compare by their units, and the second with the first.
+/// Writes how two views compare by code units, in both directions.
 fn write_orders_of_units(
     tape: &mut Tape<'_>,
     own: &Wtf8<'_>,
@@ -78,7 +78,7 @@ fn write_orders_of_units(
     writeln!(tape, "units {order}, turned {turned}")
 }
 
-/// The calls that look at what their operands say, a text or code points: writes what they return.
+/// Runs a call on a text or on code points of the script, and writes what it returns.
 pub fn look_at_operands(opcode: u8, tape: &mut Tape<'_>) -> Result<(), Stop> {
     match opcode {
         30 => write_operand_view(tape),
@@ -87,48 +87,48 @@ pub fn look_at_operands(opcode: u8, tape: &mut Tape<'_>) -> Result<(), Stop> {
     }
 }
 
-/// The view of a text.
+/// `Wtf8::from_str`: writes the view.
 fn write_operand_view(tape: &mut Tape<'_>) -> Result<(), Stop> {
     let view = Wtf8::from_str(tape.reader.text()?);
     tape.write_word("view")?;
     tape.write_view(view)
 }
 
-/// Compares two code points, of which the second is read even if the first is none.
+/// Compares two code points. The second is read even if the first value is not a code point.
 fn compare_points(tape: &mut Tape<'_>) -> Result<(), Stop> {
     let own = tape.reader.point();
     let other = tape.reader.point();
     write_comparisons(tape, "points", &own?, &other?)
 }
 
-/// The code points: their number, and the steps of their iterator.
+/// Writes the number of code points, and the steps of their iterator.
 fn write_points(tape: &mut Tape<'_>, view: Wtf8<'_>) -> Result<(), Stop> {
     let count = view.code_points().count();
     write!(tape, "points, {count}:")?;
     write_steps(tape, view.code_points())
 }
 
-/// The code units: their number, and the steps of their iterator.
+/// Writes the number of code units, and the steps of their iterator.
 fn write_units(tape: &mut Tape<'_>, view: Wtf8<'_>) -> Result<(), Stop> {
     let count = view.to_ill_formed_utf16().count();
     write!(tape, "units, {count}:")?;
     write_steps(tape, view.to_ill_formed_utf16())
 }
 
-/// What a string and its view feed a hasher.
+/// Writes the bytes that a string and its view feed a hasher.
 fn write_hash_inputs(tape: &mut Tape<'_>, string: &Wtf8Buf<Global>) -> Result<(), Stop> {
     write_hash_input(tape, string)?;
     write_hash_input(tape, &string.as_wtf8())
 }
 
-/// The bytes of the debug texts of a string and of its view.
+/// Writes the bytes of the debug texts of a string and of its view.
 fn write_buffer_texts(tape: &mut Tape<'_>, string: &Wtf8Buf<Global>) -> Result<(), Stop> {
     let text = allocated(format!(in tape.alloc; "{string:?}"))?;
     tape.write_text("buffer", text.as_str())?;
     write_debug_texts(tape, string.as_wtf8())
 }
 
-/// `ascii_byte_at`: the byte.
+/// `ascii_byte_at`: writes the byte.
 fn write_ascii_byte(tape: &mut Tape<'_>, view: Wtf8<'_>) -> Result<(), Stop> {
     let position = tape.reader.number()?;
     if view.len() <= position {
@@ -138,7 +138,7 @@ fn write_ascii_byte(tape: &mut Tape<'_>, view: Wtf8<'_>) -> Result<(), Stop> {
     writeln!(tape, "byte {byte:02X}")
 }
 
-/// `is_code_point_boundary` of each index up to the length: those that are boundaries.
+/// Writes the indexes up to the length that `is_code_point_boundary` accepts.
 fn write_boundaries(tape: &mut Tape<'_>, view: Wtf8<'_>) -> Result<(), Stop> {
     tape.write_word("boundaries")?;
     for index in 0..=view.len() {
@@ -149,7 +149,7 @@ fn write_boundaries(tape: &mut Tape<'_>, view: Wtf8<'_>) -> Result<(), Stop> {
     tape.write_line("")
 }
 
-/// `as_str`: the bytes of the text, or that there is none.
+/// `as_str`: writes the bytes of the text, or that there is none.
 fn write_as_text(tape: &mut Tape<'_>, view: Wtf8<'_>) -> Result<(), Stop> {
     match view.as_str() {
         Some(text) => tape.write_text("text", text),
@@ -157,7 +157,7 @@ fn write_as_text(tape: &mut Tape<'_>, view: Wtf8<'_>) -> Result<(), Stop> {
     }
 }
 
-/// `to_string_lossy`: whether the text is borrowed or owned, and its bytes.
+/// `to_string_lossy`: writes whether the text is borrowed or owned, and its bytes.
 fn write_lossy_text(tape: &mut Tape<'_>, view: Wtf8<'_>) -> Result<(), Stop> {
     let text = allocated(view.to_string_lossy(tape.alloc))?;
     let word = match &text {
@@ -167,25 +167,25 @@ fn write_lossy_text(tape: &mut Tape<'_>, view: Wtf8<'_>) -> Result<(), Stop> {
     tape.write_text(word, text.as_str())
 }
 
-/// The bytes of a view's debug text, as it is and under a width and flags.
+/// Writes the bytes of a view's debug text, without and with a width and flags.
 fn write_debug_texts(tape: &mut Tape<'_>, view: Wtf8<'_>) -> Result<(), Stop> {
     write_debug_text(tape, view)?;
     write_wide_text(tape, view)
 }
 
-/// The bytes of a view's debug text.
+/// Writes the bytes of a view's debug text.
 fn write_debug_text(tape: &mut Tape<'_>, view: Wtf8<'_>) -> Result<(), Stop> {
     let text = allocated(format!(in tape.alloc; "{view:?}"))?;
     tape.write_text("view", text.as_str())
 }
 
-/// The bytes of a view's debug text under a width and flags.
+/// Writes the bytes of a view's debug text with a width and flags.
 fn write_wide_text(tape: &mut Tape<'_>, view: Wtf8<'_>) -> Result<(), Stop> {
     let text = allocated(format!(in tape.alloc; "{view:#12?}"))?;
     tape.write_text("wide", text.as_str())
 }
 
-/// `unit_len`, and `unit_at` of each number up to that one.
+/// Writes `unit_len`, and `unit_at` of each index from 0 to that number.
 fn write_units_by_number(tape: &mut Tape<'_>, view: Wtf8<'_>) -> Result<(), Stop> {
     let len = view.unit_len();
     write!(tape, "{len} units")?;
@@ -195,7 +195,7 @@ fn write_units_by_number(tape: &mut Tape<'_>, view: Wtf8<'_>) -> Result<(), Stop
     tape.write_line("")
 }
 
-/// `slice_units`: the trail, the bytes and the lead.
+/// `slice_units`: writes the trail, the bytes and the lead.
 fn write_unit_slice(tape: &mut Tape<'_>, view: Wtf8<'_>) -> Result<(), Stop> {
     let begin = tape.reader.number()?;
     let end = tape.reader.number()?;
@@ -205,7 +205,7 @@ fn write_unit_slice(tape: &mut Tape<'_>, view: Wtf8<'_>) -> Result<(), Stop> {
     write_slice(tape, view.slice_units(begin, end))
 }
 
-/// The trail, the bytes and the lead of a slice.
+/// Writes the trail, the bytes and the lead of a slice.
 fn write_slice(tape: &mut Tape<'_>, slice: UnitSlice<'_>) -> Result<(), Stop> {
     tape.write_word("slice")?;
     tape.write_item(slice.trail, NONE)?;
@@ -214,13 +214,13 @@ fn write_slice(tape: &mut Tape<'_>, slice: UnitSlice<'_>) -> Result<(), Stop> {
     tape.write_line("")
 }
 
-/// The bytes of a view, in brackets.
+/// Writes the bytes of a view in parentheses.
 fn write_bytes(tape: &mut Tape<'_>, view: Wtf8<'_>) -> Result<(), Stop> {
     let dump = allocated(view.hex_dump(tape.alloc))?;
     write!(tape, " ({dump})")
 }
 
-/// `append_units` to units of the script: all of them.
+/// `append_units` to units of the script: writes all units of the result.
 fn write_appended_units(tape: &mut Tape<'_>, view: Wtf8<'_>) -> Result<(), Stop> {
     let count = usize::from(tape.reader.byte()?);
     let mut units = tape.reader.units(tape.alloc, count)?;
@@ -228,7 +228,7 @@ fn write_appended_units(tape: &mut Tape<'_>, view: Wtf8<'_>) -> Result<(), Stop>
     write_all_units(tape, units.as_slice())
 }
 
-/// A line with units.
+/// Writes the line of `append_units`.
 fn write_all_units(tape: &mut Tape<'_>, units: &[u16]) -> Result<(), Stop> {
     tape.write_word("appended")?;
     for unit in units {
@@ -237,7 +237,7 @@ fn write_all_units(tape: &mut Tape<'_>, units: &[u16]) -> Result<(), Stop> {
     tape.write_line("")
 }
 
-/// The calls of `CodePoint` on a value: its number, texts, characters and hash input.
+/// Writes what the calls of `CodePoint` return for a value: its number, texts, characters and hash input.
 fn write_point(tape: &mut Tape<'_>) -> Result<(), Stop> {
     let point = tape.reader.point()?;
     write_number(tape, point)?;
@@ -245,7 +245,7 @@ fn write_point(tape: &mut Tape<'_>) -> Result<(), Stop> {
     write_hash_input(tape, &point)
 }
 
-/// The number and the debug texts of a code point.
+/// Writes the number and the debug texts of a code point.
 fn write_number(tape: &mut Tape<'_>, point: CodePoint) -> Result<(), Stop> {
     let number = point.to_u32();
     let is_same = CodePoint::from_u32_unchecked(number) == point;
@@ -255,7 +255,7 @@ fn write_number(tape: &mut Tape<'_>, point: CodePoint) -> Result<(), Stop> {
     )
 }
 
-/// The character of a code point, or that there is none, and the character that stands for it.
+/// Writes the character of a code point, or that there is none, and the result of `to_char_lossy`.
 fn write_character(tape: &mut Tape<'_>, point: CodePoint) -> Result<(), Stop> {
     let lossy = point.to_char_lossy() as u32;
     let Some(c) = point.to_char() else {
@@ -266,7 +266,7 @@ fn write_character(tape: &mut Tape<'_>, point: CodePoint) -> Result<(), Stop> {
     writeln!(tape, "char {scalar:X} lossy {lossy:X} back {is_same}")
 }
 
-/// All that can be asked of a slice, inside its string.
+/// Writes length, bytes, boundaries, texts, hash input, code points and code units of a slice of a string.
 fn write_answers(tape: &mut Tape<'_>, part: Wtf8<'_>) -> Result<(), Stop> {
     tape.write_word("view")?;
     tape.write_view(part)?;

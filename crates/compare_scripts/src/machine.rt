@@ -1,4 +1,4 @@
-// Running a script.
+// Runs a script.
 use crate::looking::look_at_operands;
 use crate::reader::{Reader, Register, STRINGS};
 use crate::stop::Stop;
@@ -8,8 +8,8 @@ use std::alloc::{AllocError, Global};
 use std::array;
 use wtf8::{Wtf8, Wtf8Buf};
 
-/// The transcript of a script: what each of its calls answers, and for one that changes a string its length and bytes, or
-/// a text its units, afterwards. A script that ends inside a call, or with a byte or a text that stands for nothing, has none.
+/// Returns the transcript of a script: what each call returns and, if it changes a string or a text, the string's
+/// length and bytes or the text's units. `None` if the script ends inside a call or has an invalid byte or text.
 pub fn run_script(alloc: Global, script: &[u8]) -> Result<Option<String>, AllocError> {
     match transcript_of(alloc, script) {
         Ok(transcript) => Ok(Some(transcript)),
@@ -18,7 +18,7 @@ pub fn run_script(alloc: Global, script: &[u8]) -> Result<Option<String>, AllocE
     }
 }
 
-/// The transcript of a script, or why it has none.
+/// Returns the transcript of a script, or why it has none.
 fn transcript_of(alloc: Global, script: &[u8]) -> Result<String, Stop> {
     let mut tape = Tape::new(alloc, script);
     let mut machine = Machine::new(alloc)?;
@@ -31,7 +31,7 @@ fn transcript_of(alloc: Global, script: &[u8]) -> Result<String, Stop> {
     Ok(tape.transcript)
 }
 
-/// What a script works on: strings, by their registers, and texts that are counted in units.
+/// The state of a script: its strings by register, and its texts.
 #[derive(Drop)]
 pub struct Machine {
     pub strings: [Wtf8Buf<Global>; STRINGS],
@@ -39,14 +39,14 @@ pub struct Machine {
 }
 
 impl Machine {
-    /// Empty strings and texts.
+    /// Makes empty strings and texts.
     fn new(alloc: Global) -> Result<Machine, Stop> {
         let texts = Texts::new(alloc)?;
         let strings = array::from_fn(|_| Wtf8Buf::new(alloc));
         Ok(Machine { strings, texts })
     }
 
-    /// Does the call of an opcode, or writes why the call refuses its operands.
+    /// Runs the call of an opcode, or writes why the call does not accept its operands.
     fn step(&mut self, opcode: u8, tape: &mut Tape<'_>) -> Result<(), Stop> {
         match self.run(opcode, tape) {
             Err(Stop::Refused) => tape.write_line("refused"),
@@ -56,7 +56,7 @@ impl Machine {
         }
     }
 
-    /// Does the call of an opcode, whose operands come next in the script, and writes what it answers.
+    /// Runs the call of an opcode, whose operands come next in the script, and writes what it returns.
     fn run(&mut self, opcode: u8, tape: &mut Tape<'_>) -> Result<(), Stop> {
         if FIRST_OF_TEXTS <= opcode {
             return self.texts.run(opcode, tape);
@@ -67,7 +67,7 @@ impl Machine {
         }
     }
 
-    /// Does a call of one of the strings.
+    /// Runs a call on one of the strings.
     fn run_at(&mut self, opcode: u8, tape: &mut Tape<'_>) -> Result<(), Stop> {
         let at = tape.reader.register()?;
         match opcode {
@@ -81,7 +81,7 @@ impl Machine {
         }
     }
 
-    /// Does a call that changes one of the strings.
+    /// Runs a call that changes one of the strings.
     fn change(&mut self, opcode: u8, at: Register, tape: &mut Tape<'_>) -> Result<(), Stop> {
         match opcode {
             8..=14 | 37 => return self.append(opcode, at, tape),
@@ -93,17 +93,17 @@ impl Machine {
         Ok(())
     }
 
-    /// One of the strings.
+    /// The string of a register.
     pub fn string(&self, at: Register) -> &Wtf8Buf<Global> {
         &self.strings[at.index]
     }
 
-    /// A view of one of the strings.
+    /// A view of the string of a register.
     pub fn view(&self, at: Register) -> Wtf8<'_> {
         self.string(at).as_wtf8()
     }
 
-    /// A begin and an end: the slice of a string, which is refused where the range is.
+    /// Reads a start and an end, and returns that slice of a string. `Refused` unless they are boundaries in order.
     pub fn read_slice(&self, at: Register, reader: &mut Reader<'_>) -> Result<Wtf8<'_>, Stop> {
         let whole = self.view(at);
         let begin = reader.number()?;

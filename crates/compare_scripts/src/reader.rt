@@ -1,4 +1,4 @@
-// What is left of a script, and its operands.
+// Reads the bytes of a script.
 ghost use Rattle.std.specs.Prelude.{◌<◌};
 ghost use Rattle.compare_scripts.specs.declared.reader.TheConstants.{STRINGS};
 
@@ -6,30 +6,30 @@ use crate::stop::{Stop, push};
 use std::alloc::Global;
 use wtf8::CodePoint;
 
-/// How many strings a script works on.
+/// The number of strings that a script works on.
 pub const STRINGS: usize = 4;
 
 /// The number of one of the strings.
 #[derive(Clone, Copy)]
 pub struct Register {
-    /// Which of the strings it is.
+    /// Index of the string.
     pub index: usize,
     pub ghost below: { index < STRINGS },
 }
 
-/// What is left of a script. Numbers are read with the lowest byte first.
+/// The unread rest of a script. Numbers are little-endian.
 #[derive(Drop)]
 pub struct Reader<'a> {
     rest: &'a [u8],
 }
 
 impl<'a> Reader<'a> {
-    /// The whole script.
+    /// Reads a script from its start.
     pub fn new(script: &'a [u8]) -> Reader<'a> {
         Reader { rest: script }
     }
 
-    /// A byte that names one of the strings.
+    /// Reads a register: a byte below `STRINGS`.
     pub fn register(&mut self) -> Result<Register, Stop> {
         let index = usize::from(self.byte()?);
         if index < STRINGS {
@@ -39,29 +39,29 @@ impl<'a> Reader<'a> {
         }
     }
 
-    /// A number of two bytes: a position, a capacity or a count.
+    /// Reads a number of two bytes: a position, a capacity or a count.
     pub fn number(&mut self) -> Result<usize, Stop> {
         Ok(usize::from(self.unit()?))
     }
 
-    /// A number of four bytes, which may be a code point's.
+    /// Reads a value of four bytes, which may be a code point.
     pub fn value(&mut self) -> Result<u32, Stop> {
         let ([a, b, c, d], rest) = self.rest.split_first_chunk::<4>().ok_or(Stop::Malformed)?;
         self.rest = rest;
         Ok(u32::from_le_bytes([*a, *b, *c, *d]))
     }
 
-    /// A value that is a code point's.
+    /// Reads a value that must be a code point.
     pub fn point(&mut self) -> Result<CodePoint, Stop> {
         CodePoint::from_u32(self.value()?).ok_or(Stop::NoCodePoint)
     }
 
-    /// A value that is a character's.
+    /// Reads a value that must be a scalar value.
     pub fn character(&mut self) -> Result<char, Stop> {
         char::from_u32(self.value()?).ok_or(Stop::NoCharacter)
     }
 
-    /// A byte with the number of bytes that follow, and those bytes.
+    /// Reads a count of one byte, then that number of bytes.
     pub fn bytes(&mut self) -> Result<&'a [u8], Stop> {
         let count = usize::from(self.byte()?);
         let (front, rest) = self.rest.split_at_checked(count).ok_or(Stop::Malformed)?;
@@ -69,12 +69,12 @@ impl<'a> Reader<'a> {
         Ok(front)
     }
 
-    /// A byte with the length in bytes, and a text in UTF-8.
+    /// Reads a length of one byte, then a text in UTF-8 of that number of bytes.
     pub fn text(&mut self) -> Result<&'a str, Stop> {
         str::from_utf8(self.bytes()?).or(Err(Stop::Malformed))
     }
 
-    /// So many units of two bytes.
+    /// Reads `count` code units of two bytes each.
     pub fn units(&mut self, alloc: Global, count: usize) -> Result<Vec<u16>, Stop> {
         let mut units = Vec::new(alloc);
         for _ in 0..count {
@@ -83,7 +83,7 @@ impl<'a> Reader<'a> {
         Ok(units)
     }
 
-    /// A byte with their number, and code points of four bytes. A number that is no code point is left out.
+    /// Reads a count of one byte, then that number of values. Values that are not code points are left out.
     pub fn points(&mut self, alloc: Global) -> Result<Vec<CodePoint>, Stop> {
         let mut points = Vec::new(alloc);
         for _ in 0..self.byte()? {
@@ -94,14 +94,14 @@ impl<'a> Reader<'a> {
         Ok(points)
     }
 
-    /// A byte: a kind or how many follow.
+    /// Reads a byte: an opcode, a kind or a count.
     pub fn byte(&mut self) -> Result<u8, Stop> {
         let (first, rest) = self.rest.split_first().ok_or(Stop::Malformed)?;
         self.rest = rest;
         Ok(*first)
     }
 
-    /// A code unit of two bytes.
+    /// Reads a code unit of two bytes.
     pub fn unit(&mut self) -> Result<u16, Stop> {
         let ([low, high], rest) = self.rest.split_first_chunk::<2>().ok_or(Stop::Malformed)?;
         self.rest = rest;

@@ -1,11 +1,11 @@
-// What a hasher is fed.
+// Records the bytes that a value feeds a hasher.
 ghost use Rattle.std.specs.Prelude.{◌-◌, nat_lt, length, slice_index, Some, is_some, if◌then◌else◌};
 
 use crate::stop::Stop;
 use crate::tape::Tape;
 use std::hash::{Hash, Hasher};
 
-/// A hasher that keeps one byte of what it is fed: the one that has so many in front of it.
+/// A hasher that keeps one byte of its input: the one after the next `in_front` bytes.
 #[derive(Drop)]
 struct ByteAt {
     in_front: usize,
@@ -30,7 +30,7 @@ impl Hasher for ByteAt {
     }
 }
 
-/// Writes the bytes that a value feeds a hasher, one after the other.
+/// Writes the bytes that a value feeds a hasher. Hashes the value once for each byte.
 pub fn write_hash_input<T: Hash>(tape: &mut Tape<'_>, value: &T) -> Result<(), Stop> {
     tape.write_word("fed")?;
     for index in 0..usize::MAX {
@@ -42,7 +42,7 @@ pub fn write_hash_input<T: Hash>(tape: &mut Tape<'_>, value: &T) -> Result<(), S
     tape.write_line("")
 }
 
-/// The byte at an index of what a value feeds a hasher.
+/// The byte at an index of what a value feeds a hasher, or `None` past its end.
 fn byte_fed<T: Hash>(value: &T, index: usize) -> Option<u8> {
     let mut state = ByteAt {
         in_front: index,

@@ -1,23 +1,23 @@
-// Why a call is not done.
+// The error of this crate.
 use std::alloc::AllocError;
 
-/// Why a call is not done. Each function of this crate has this error, so that no `?` converts one: the proof of a function
-/// that converts several errors takes twice as long.
+/// Why a call failed. All functions of this crate return this error, so that no `?` converts one: the proof of a
+/// function that converts several errors takes twice as long.
 #[derive(Clone, Copy)]
 pub enum Stop {
-    /// A position or a range is refused.
+    /// The call does not accept a position or a range.
     Refused,
-    /// A value is no code point.
+    /// A value is not a code point.
     NoCodePoint,
-    /// A value is no character.
+    /// A value is not a scalar value.
     NoCharacter,
-    /// The script ends inside the call, a byte is no opcode or no step, or a text is not UTF-8.
+    /// The script ends inside the call, a byte is not valid where it is read, or a text is not UTF-8.
     Malformed,
-    /// A growth of memory was refused.
+    /// A request for memory was refused.
     Memory,
 }
 
-/// The result of a call that allocates, with the error of this crate.
+/// Converts the error of a call that allocates to that of this crate.
 pub fn allocated<T>(returned: Result<T, AllocError>) -> Result<T, Stop> {
     match returned {
         Ok(value) => Ok(value),
@@ -25,7 +25,7 @@ pub fn allocated<T>(returned: Result<T, AllocError>) -> Result<T, Stop> {
     }
 }
 
-/// Appends an item to a list.
+/// `Vec::push` with the error of this crate.
 pub fn push<T: Copy>(items: &mut Vec<T>, item: T) -> Result<(), Stop> {
     match items.push(item) {
         Ok(()) => Ok(()),

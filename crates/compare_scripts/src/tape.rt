@@ -1,4 +1,4 @@
-// What a script is read from and its transcript written to.
+// A running script and its transcript.
 use crate::reader::{Reader, Register};
 use crate::stop::{Stop, allocated};
 use std::alloc::Global;
@@ -6,22 +6,22 @@ use std::fmt::Display;
 use unit_text::UnitText;
 use wtf8::{CodePoint, Wtf8, Wtf8Buf};
 
-/// The word for a unit that is not there.
+/// The word for `None`.
 pub const NONE: &str = "-";
 
-/// A script that runs: what is left of it, and its transcript so far.
+/// A running script: its unread rest, and its transcript so far.
 #[derive(Drop)]
 pub struct Tape<'s> {
-    /// Where memory comes from.
+    /// Allocator of the strings, the texts and the transcript.
     pub alloc: Global,
-    /// What is left of the script.
+    /// The unread rest of the script.
     pub reader: Reader<'s>,
-    /// What the calls so far returned.
+    /// The transcript of the calls so far.
     pub transcript: String,
 }
 
 impl<'s> Tape<'s> {
-    /// A script from its start, and an empty transcript.
+    /// Begins a script with an empty transcript.
     pub fn new(alloc: Global, script: &'s [u8]) -> Tape<'s> {
         Tape {
             alloc,
@@ -30,7 +30,7 @@ impl<'s> Tape<'s> {
         }
     }
 
-    /// A text that is counted in units: their number, and the units.
+    /// Reads a text: the number of its units in two bytes, then the units.
     pub fn read_units(&mut self) -> Result<UnitText<Global>, Stop> {
         let count = self.reader.number()?;
         let units = self.reader.units(self.alloc, count)?;
@@ -53,25 +53,25 @@ impl<'s> Tape<'s> {
         self.write_word("\n")
     }
 
-    /// Writes a line with a word and the bytes of a text in hexadecimal.
+    /// Writes a line of a word and the bytes of a text in hexadecimal.
     pub fn write_text(&mut self, word: &str, text: &str) -> Result<(), Stop> {
         let dump = allocated(Wtf8::from_str(text).hex_dump(self.alloc))?;
         writeln!(self, "{word}: {dump}")
     }
 
-    /// Writes a register, and a string's length and bytes.
+    /// Writes the line of a string: its register, length and bytes.
     pub fn write_string(&mut self, at: Register, string: Wtf8<'_>) -> Result<(), Stop> {
         write!(self, "s{}", at.index)?;
         self.write_view(string)
     }
 
-    /// Writes a space and the length and the bytes of a view, to the end of the line.
+    /// Writes a space, the length and the bytes of a view, and ends the line.
     pub fn write_view(&mut self, view: Wtf8<'_>) -> Result<(), Stop> {
         let dump = allocated(view.hex_dump(self.alloc))?;
         writeln!(self, " {}: {dump}", view.len())
     }
 
-    /// Writes the length and the units of a text, to the end of the line.
+    /// Writes the number of units of a text and the units, and ends the line.
     pub fn write_units(&mut self, text: &UnitText<Global>) -> Result<(), Stop> {
         write!(self, "{} units:", text.unit_len())?;
         for unit in text.as_wtf8().to_ill_formed_utf16() {
@@ -80,7 +80,7 @@ impl<'s> Tape<'s> {
         self.write_line("")
     }
 
-    /// Writes a space and an item, or a word where there is none.
+    /// Writes a space, then the item, or the word that `none` holds if there is no item.
     pub fn write_item<T: Shown>(&mut self, item: Option<T>, none: &str) -> Result<(), Stop> {
         match item {
             Some(item) => item.show(self),
@@ -88,14 +88,14 @@ impl<'s> Tape<'s> {
         }
     }
 
-    /// Writes a line with a word, and an item after it.
+    /// Writes a line of a word and an item.
     pub fn write_found<T: Shown>(&mut self, word: &str, item: Option<T>) -> Result<(), Stop> {
         self.write_word(word)?;
         self.write_item(item, NONE)?;
         self.write_line("")
     }
 
-    /// Writes a line with a word, and two units after it.
+    /// Writes a line of a word and two units.
     pub fn write_two(
         &mut self,
         word: &str,
@@ -108,19 +108,19 @@ impl<'s> Tape<'s> {
         self.write_line("")
     }
 
-    /// Writes whether a string has as much spare room as was asked.
+    /// Writes whether the spare capacity of a string is at least `asked` bytes.
     pub fn write_room(&mut self, string: &Wtf8Buf<Global>, asked: usize) -> Result<(), Stop> {
         let has_room = asked <= string.capacity() - string.len();
         writeln!(self, "room {has_room}")
     }
 
-    /// Writes whether the capacity is as before.
+    /// Writes whether the capacity was unchanged.
     pub fn write_kept(&mut self, is_kept: bool) -> Result<(), Stop> {
         writeln!(self, "room kept {is_kept}")
     }
 }
 
-/// An item of an iterator, as a transcript shows it.
+/// An item that a transcript can show.
 pub trait Shown: Copy {
     /// Writes a space and the item.
     fn show(self, tape: &mut Tape<'_>) -> Result<(), Stop>;

@@ -1,4 +1,4 @@
-// The calls of texts that are counted in units.
+// The calls on texts, with the opcodes from 64 on.
 use crate::comparing::name_of;
 use crate::engine::{made, write_result};
 use crate::stop::{Stop, allocated};
@@ -9,10 +9,10 @@ use unit_text::UnitText;
 use wtf8_uses::cuts::is_whole_again;
 use wtf8_uses::strings::{char_at, char_code_at, is_less, starts_with, substring};
 
-/// The opcode of the first call of texts. No call from there on is one of strings.
+/// The first opcode of a call on texts. All calls on strings have lower ones.
 pub const FIRST_OF_TEXTS: u8 = 64;
 
-/// The two texts that a script works on.
+/// The two texts of a script.
 #[derive(Drop)]
 pub struct Texts {
     first: UnitText<Global>,
@@ -27,32 +27,32 @@ impl Texts {
         Ok(Texts { first, second })
     }
 
-    /// Does the call of an opcode, whose operands come next in the script, and writes what it answers. A call that
-    /// makes or changes the first text answers its units afterwards.
+    /// Runs the call of an opcode, whose operands come next in the script, and writes what it returns. After a call
+    /// that makes or changes the first text it writes the units of that text.
     ///
     /// | Opcode | Operands | Call |
     /// |---|---|---|
-    /// | 64 | a number, and so many units | the first text is made of the units |
-    /// | 65 | | the texts change places |
-    /// | 66 | two numbers | the first text is cut from one position to the other |
-    /// | 67 | | the second text is appended to the first |
+    /// | 64 | a count, and units | makes the first text of the units |
+    /// | 65 | | swaps the texts, and writes only `swapped` |
+    /// | 66 | two numbers | cuts the first text to the units from one index to another |
+    /// | 67 | | appends the second text to the first |
     /// | 68 | | the length |
-    /// | 69 | a number | the unit at a position, by `unit_at` and by `char_code_at` |
+    /// | 69 | a number | the unit at an index, by `unit_at` and by `char_code_at` |
     /// | 70, 71 | two numbers, a number | `substring`, `char_at` |
-    /// | 72 | a number | whether the second text stands at a position |
-    /// | 73 | | the order of the texts, each way of `is_less`, and whether they are equal |
-    /// | 74 | | at how many places the text can be cut and is found whole again |
-    /// | 75 | | the first text keeps its marks from now on |
-    /// | 76 | a number | `index_of` the second text, from a position |
-    /// | 77, 78 | a number | `at` a position and so far before the end, `code_point_at` |
+    /// | 72 | a number | whether the second text occurs at an index (`starts_with`) |
+    /// | 73 | | the order of the texts, `is_less` in both directions, and whether they are equal |
+    /// | 74 | | the number of indexes at which the first text, cut and joined again, is unchanged |
+    /// | 75 | | makes the first text keep marks from now on |
+    /// | 76 | a number | `index_of` the second text, from an index |
+    /// | 77, 78 | a number | `at` an index and at its negation; `code_point_at` |
     /// | 79 | | `is_well_formed` |
-    /// | 80 | a unit | `split` at it: the pieces, each on a line |
-    /// | 81 | a number | the first text is padded to a width by the second (`pad_start`) |
-    /// | 82, 83 | a number, none | the first text is repeated; it is trimmed (`trim_ascii`) |
-    /// | 84 | a number, and so many units | in the first text `replace` of the second by the units |
-    /// | 85 | | the first text is made well-formed (`to_well_formed`) |
-    /// | 86 | a number, and so many units | each unit is pushed to the first text |
-    /// | 87, 88 | a number | `last_index_of` the second text, up to a position; `ends_with` it, at a position |
+    /// | 80 | a unit | `split` at it: the number of pieces, then one piece a line |
+    /// | 81 | a number | `pad_start` of the first text to a width by the second |
+    /// | 82, 83 | a number, none | `repeat` and `trim_ascii` of the first text |
+    /// | 84 | a count, and units | `replace` of the second text in the first by the units |
+    /// | 85 | | `to_well_formed` of the first text |
+    /// | 86 | a count, and units | pushes each unit to the first text |
+    /// | 87, 88 | a number | `last_index_of` the second text, up to an index; `ends_with` it, at an index |
     pub fn run(&mut self, opcode: u8, tape: &mut Tape<'_>) -> Result<(), Stop> {
         match opcode {
             64 | 66 | 67 | 75 | 81..=86 => {
@@ -68,7 +68,7 @@ impl Texts {
         }
     }
 
-    /// The calls that change the first text.
+    /// Runs a call that changes the first text.
     fn change(&mut self, opcode: u8, tape: &mut Tape<'_>) -> Result<(), Stop> {
         match opcode {
             67 => return allocated(self.first.concat(&self.second)),
@@ -79,7 +79,7 @@ impl Texts {
         Ok(())
     }
 
-    /// The text that a call makes for the first text.
+    /// Makes the text that replaces the first one.
     fn made(&self, opcode: u8, tape: &mut Tape<'_>) -> Result<UnitText<Global>, Stop> {
         match opcode {
             64 => tape.read_units(),
@@ -88,7 +88,7 @@ impl Texts {
         }
     }
 
-    /// The first text from one position to another.
+    /// The units of the first text from one index to another.
     fn slice(&self, tape: &mut Tape<'_>) -> Result<UnitText<Global>, Stop> {
         let begin = tape.reader.number()?;
         let end = tape.reader.number()?;
@@ -98,7 +98,7 @@ impl Texts {
         allocated(self.first.slice_units(tape.alloc, begin, end))
     }
 
-    /// The calls that leave both texts as they are.
+    /// Runs a call that changes neither text, and writes what it returns.
     fn look(&self, opcode: u8, tape: &mut Tape<'_>) -> Result<(), Stop> {
         match opcode {
             68 => self.write_len(tape),
@@ -112,13 +112,13 @@ impl Texts {
         }
     }
 
-    /// The length.
+    /// Writes the number of units.
     fn write_len(&self, tape: &mut Tape<'_>) -> Result<(), Stop> {
         let len = self.first.unit_len();
         writeln!(tape, "length {len}")
     }
 
-    /// The unit at a position, by `unit_at` and by `char_code_at`.
+    /// Writes the unit at an index, by `unit_at` and by `char_code_at`.
     fn write_unit(&self, tape: &mut Tape<'_>) -> Result<(), Stop> {
         let at = tape.reader.number()?;
         tape.write_two(
@@ -150,7 +150,7 @@ impl Texts {
         writeln!(tape, "starts {is_there}")
     }
 
-    /// Writes how the texts compare.
+    /// Writes how the two texts compare.
     fn write_order(&self, tape: &mut Tape<'_>) -> Result<(), Stop> {
         let (first, second) = (&self.first, &self.second);
         let order = name_of(first.cmp_units(second));
@@ -163,14 +163,14 @@ impl Texts {
         )
     }
 
-    /// The number of positions at which the text can be cut and is found whole again.
+    /// Writes the number of indexes at which the text, cut and joined again, is unchanged.
     fn write_whole_cuts(&self, tape: &mut Tape<'_>) -> Result<(), Stop> {
         let whole = whole_cuts(tape.alloc, &self.first)?;
         writeln!(tape, "whole {whole}")
     }
 }
 
-/// Pushes units: their number comes next in the script, and then the units.
+/// Reads a count of two bytes, then that number of units, and pushes each.
 fn push_units(text: &mut UnitText<Global>, tape: &mut Tape<'_>) -> Result<(), Stop> {
     for _ in 0..tape.reader.number()? {
         let unit = tape.reader.unit()?;
@@ -179,7 +179,7 @@ fn push_units(text: &mut UnitText<Global>, tape: &mut Tape<'_>) -> Result<(), St
     Ok(())
 }
 
-/// The number of positions at which a text can be cut and is found whole again.
+/// The number of indexes at which a text, cut and joined again, is unchanged.
 fn whole_cuts(alloc: Global, text: &UnitText<Global>) -> Result<u64, Stop> {
     let mut whole = 0u64;
     for place in 0..=text.unit_len() {

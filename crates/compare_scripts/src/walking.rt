@@ -7,8 +7,8 @@ use crate::tape::{Shown, Tape};
 /// The word for the end of an iterator.
 const END: &str = "end";
 
-/// Writes what each of the script's next steps answers at an iterator, and then all that is left, to the end of the line.
-/// The iterator may be asked at every moment, behind its end too. `Kind` in `compare/src/script.rs` has the steps.
+/// Runs the script's next steps on an iterator and writes what each returns, then the remaining items, and ends the
+/// line. Calls `next` after the end too. `Kind` in `compare/src/script.rs` lists the steps.
 pub fn write_steps<T: Shown, I: Iterator<Item = T> + Clone>(
     tape: &mut Tape<'_>,
     mut items: I,
@@ -32,7 +32,7 @@ pub fn write_steps<T: Shown, I: Iterator<Item = T> + Clone>(
     tape.write_line("")
 }
 
-/// Writes how many items are collected, and each.
+/// Collects the items, and writes their number and each item.
 fn write_collected<T: Shown, I: Iterator<Item = T>>(
     tape: &mut Tape<'_>,
     items: I,
@@ -48,7 +48,7 @@ fn write_collected<T: Shown, I: Iterator<Item = T>>(
     Ok(())
 }
 
-/// Writes the items that are left in brackets, each behind the hint before it, and asks once more at the end.
+/// Writes the remaining items in brackets, a size hint before each, and calls `next` once more after the end.
 pub fn drain<T: Shown, I: Iterator<Item = T>>(tape: &mut Tape<'_>, mut items: I) -> Result<(), Stop>
     requires { (state : I) → I.can_next state × IsFinite (I.remaining state) }
 {
