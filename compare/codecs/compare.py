@@ -79,7 +79,7 @@ def is_well_formed(units):
 
 
 def answers_of(command, lines):
-    """What a program answers to these lines, a line to each."""
+    """The lines that a program prints for these lines, one for each."""
     ended = subprocess.run(command, input="".join(line + "\n" for line in lines).encode(), stdout=subprocess.PIPE)
     *answers, rest = ended.stdout.decode("latin-1").split("\n")
     if ended.returncode != 0 or rest or len(answers) != len(lines):
@@ -88,7 +88,7 @@ def answers_of(command, lines):
 
 
 def compare(name, lists, answers, wanted):
-    """Shows the shortest list whose two answers differ, and ends there, or counts the lists."""
+    """Shows the shortest list with different results and ends, or counts the lists."""
     differing = [case for case in zip(lists, answers, wanted) if case[1] != case[2]]
     if differing:
         units, answer, other = min(differing, key=lambda case: len(case[0]))

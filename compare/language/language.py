@@ -1,4 +1,4 @@
-"""Compares the program's answers with those of a model over CPython's codecs, and with those of model.js where node is there."""
+"""Compares the program's output with that of a model over CPython's codecs, and with that of model.js if node is there."""
 
 import argparse
 import os
@@ -24,7 +24,7 @@ def units_of(text):
 
 
 def answer(line):
-    """The answer to a line, without its newline."""
+    """The output for a line, without its newline."""
     units, refused = b"", 0
     for word in line.split(b" ") if line else []:
         if POINT.match(word) and int(word, 16) <= 0x10FFFF:
@@ -93,7 +93,7 @@ def random_line(rng):
 
 
 def listed_lines():
-    """Each malformed word alone, behind and before a code point; each two edges together, cut at each place and unit; and a
+    """Each malformed word alone, after and before a code point; each two edges together, cut at each position and unit; and a
     long line of each kind, cut about its end."""
     lines = [b"", b"-0", b"/0", b"-1", b"/1", b"-999999999", b"/999999999", b"-000000000", b"/000000000"]
     for word in MALFORMED:
@@ -119,14 +119,14 @@ def listed_lines():
 
 
 def line_of_length(length):
-    """A line of so many bytes, ten at least: words of four digits, of which the first few have five."""
+    """A line of `length` bytes, at least ten: words of four digits, of which the first few have five."""
     words = (length + 1) // 5
     more = length - (5 * words - 1)
     return b" ".join([(b"0" if at < more else b"") + b"0041" for at in range(words)])
 
 
 def compare_about(program, edge):
-    """Lines whose newline stands about this byte of the input, with another line behind them."""
+    """Lines whose newline is about this byte of the input, each followed by another line."""
     for length in range(edge - 4, edge + 4):
         lines = [line_of_length(length), b"D83D DCA9"]
         if len(lines[0]) != length:
@@ -142,7 +142,7 @@ def output(command, lines):
 
 
 def compare(name, lines, wanted, found):
-    """Ends with status 1 at the first answer that differs, or where there are too few or too many."""
+    """Ends with status 1 at the first line that differs, or if there are too few or too many."""
     answers = found.split(b"\n")
     if answers.pop() != b"" or len(answers) != len(lines):
         sys.exit(f"{name}: {len(answers)} answers to {len(lines)} lines")
