@@ -7,7 +7,7 @@ use Rattle.wtf8.specs.CodePoint.{number}
 use Rattle.wtf8.specs.declared.strings.build.Build.{Build}
 use Rattle.wtf8.specs.declared.strings.build.Build.TheVariants.{Push, Truncate, TruncateUnits}
 
--- The value of a word in a base, or `None` if one of its bytes is no digit of that base, of either case.
+-- The value of a word in a base, with letters of either case as digits, or `None` if a byte is no digit of that base.
 abbrev pub number_in : ℕ → List ℕ → Option ℕ
 number_in base word = if list_all (λ byte. is_digit byte base) word then Some (digits_value base word) else None
 

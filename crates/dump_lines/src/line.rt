@@ -52,7 +52,8 @@ impl<A: Allocator + Copy> Workspace<A> {
         self.push_dump_with_note(refused, out)
     }
 
-    /// Appends the bytes of the string in hexadecimal and, if truncations were refused, `!` and their number.
+    /// Appends the bytes of the string in hexadecimal and, if truncations were refused, `!` and their number, after a
+    /// space if there are bytes.
     fn push_dump_with_note(&self, refused: usize, out: &mut Vec<u8, A>) -> Result<(), AllocError>
         ensures { OnOk result (out.new.items ≡ out.old.items ++ (hex self.now.string.bytes ++ note self.now.string.bytes refused)) }
     {

@@ -23,7 +23,8 @@ pub fn split_first_part(bytes: &[u8], separator: u8) -> (&[u8], Option<&[u8]>)
     (bytes, None)
 }
 
-/// Returns the index of the first block that holds a separator, or of the tail of fewer than `LANES` bytes.
+/// Returns the start of the first block that holds a separator or, if none does, of the tail of fewer than `LANES`
+/// bytes.
 #[inline(always)]
 fn skip_blocks(bytes: &[u8], separator: u8) -> usize
     ensures within { result ≤ length bytes.now }

@@ -65,7 +65,7 @@ impl<B: Allocator> Refusing<B> {
         self.ledger.get().requests
     }
 
-    /// The number of bytes in all requests, refused ones included, since the grants were last set.
+    /// The number of bytes in all requests, refused ones included, since the grants were last set, modulo 2⁶⁴.
     pub fn bytes(&self) -> usize {
         self.ledger.get().bytes
     }

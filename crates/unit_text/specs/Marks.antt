@@ -14,15 +14,16 @@ pub record IsKept (w u : List ℕ) (n : ℕ) (mark : UnitMark) : Type 0 where
   pub at_least : n ≤ mark.units + 1
   pub before_last : mark.units < length u
 
--- The marks are kept in order from the front, one at each multiple of the spacing or one unit before it.
+-- Mark `k` of the list is at `k + 1` times the spacing, or one unit before that.
 abbrev pub AreKept : List ℕ → List ℕ → List UnitMark → Type 0
 AreKept w u marks = (k : ℕ) (d : UnitMark) → k < length marks → IsKept w u ((k + 1) * spacing) (slice_index_or marks k d)
 
--- `count` marks reach each multiple of the spacing below the length in units, unless that equals the length in bytes.
+-- If the lengths in bytes and in units differ, `count` is at least the number of multiples of the spacing, from the
+-- first one on, that are below the length in units.
 abbrev pub AreAll : List ℕ → List ℕ → ℕ → Type 0
 AreAll w u count = (length w ≢ length u) → (n : ℕ) → n * spacing < length u → n ≤ count
 
--- The marks are kept, and if memory was refused for none of them, none is missing.
+-- The marks are as `AreKept` says and, unless memory was refused for one, there are as many as `AreAll` says.
 pub record AreMarks (w u : List ℕ) (marks : List UnitMark) (is_refused : Bool) : Type 0 where
   pub kept : AreKept w u marks
   pub all : is_refused ≡ false → AreAll w u (length marks)

@@ -22,21 +22,22 @@ pub record KeepsContents (old new : UnitString) : Type 0 where
   pub units : new.units ≡ old.units
   pub bytes : new.bytes ≡ old.bytes
 
--- The length of the form of the units `u`, plus `more`, is at most `capacity` bytes.
+-- The units `u` have a form, and its length in bytes plus `more` is at most `capacity`.
 pub record FitWithin (u : List ℕ) (more capacity : ℕ) : Type 0 where
   pub whole : List ℕ
   pub form : IsForm whole u
   pub within : length whole + more ≤ capacity
 
--- The form of the string's units followed by `v` is no longer than its capacity.
+-- The string's units followed by `v` have a form, which is no longer than the string's capacity.
 abbrev pub HasRoomFor : UnitString → List ℕ → Type 0
 HasRoomFor s v = FitWithin (s.units ++ v) 0 s.capacity
 
--- Every form of the string's units followed by `v` is longer than its capacity.
+-- Every form of the string's units followed by `v` is longer than the string's capacity.
 abbrev pub Outgrows : UnitString → List ℕ → Type 0
 Outgrows s v = (w : List ℕ) → IsForm w (s.units ++ v) → s.capacity < length w
 
--- The new length in bytes is the sum of the other two, less 2 if a lead ends the old units and a trail begins `other`.
+-- The new length in bytes is the old one plus the length of `other`, less 2 if a lead ends the old units and a trail
+-- begins those of `other`.
 pub record AddsLength (old : UnitString) (other : Wtf8) (new : UnitString) : Type 0 where
   pub pair : MeetsAsPair old.units (view_units other) → length new.bytes + 2 ≡ length old.bytes + length other.bytes.now
   pub apart : ¬ (MeetsAsPair old.units (view_units other)) → length new.bytes ≡ length old.bytes + length other.bytes.now

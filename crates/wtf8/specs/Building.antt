@@ -11,7 +11,8 @@ use Rattle.wtf8.specs.UnitPosition.{TruncatesUnits}
 use Rattle.wtf8.specs.declared.strings.build.Build.{Build}
 use Rattle.wtf8.specs.declared.strings.build.Build.TheVariants.{Push, PushChar, PushStr, PushWtf8, Extend, Reserve, Truncate, TruncateUnits}
 
--- A truncation at a boundary `k` keeps the units before it, `r` is 0; any other is refused, changes nothing, `r` is 1.
+-- A truncation of `u` at a boundary `k` leaves the units before it as `v`, and `r` is 0. At any other position it is
+-- refused: `v` is `u`, and `r` is 1.
 abbrev pub Truncates : List ℕ → ℕ → List ℕ → ℕ → Type 0
 Truncates u k v r = (IsFront u k v × (r ≡ 0)) ⊎ (¬ (IsBoundary u k) × (v ≡ u) × (r ≡ 1))
 
@@ -31,8 +32,8 @@ abbrev pub Run : List ℕ → List Build → List ℕ → ℕ → Type 0
 Run u [] v n = (v ≡ u) × (n ≡ 0)
 Run u (call ∷ calls) v n = (mid : List ℕ) × (r : ℕ) × (m : ℕ) × Step u call mid r × Run mid calls v m × (n ≡ r + m)
 
--- A call that is refused memory leaves the units `u`, for an extension followed by the units of some prefix of its code
--- points. A truncation is never refused memory.
+-- The units `v` that a call leaves if it is refused memory: `u`, and for an `Extend` after them the units of some
+-- prefix of its code points. A truncation is never refused memory.
 abbrev pub LeavesRefused : List ℕ → Build → List ℕ → Type 0
 LeavesRefused u (Extend d) v = (n : ℕ) × (v ≡ u ++ units (numbers (take n d.now)))
 LeavesRefused u (Truncate k) v = ⊥
@@ -78,18 +79,21 @@ abbrev pub asked : Build → ℕ
 asked (Reserve n) = n
 asked call = 0
 
--- The call is no truncation and takes `u` to `v`, whose form, plus the bytes that it reserves, is within `capacity`.
+-- The call is no truncation and takes `u` to `v`, and the length of the form of `v`, plus the number of bytes that the
+-- call reserves, is at most `capacity`.
 pub record FindsRoom (u : List ℕ) (call : Build) (v : List ℕ) (capacity : ℕ) : Type 0 where
   pub no_truncation : IsNoTruncation call
   pub step : Step u call v 0
   pub fits : FitWithin v (asked call) capacity
 
--- Each call of the list fits within `capacity` when its turn comes, and together they take the units from `u` to `v`.
+-- Each call of the list finds room within `capacity`, as `FindsRoom` says, and together they take the units from `u` to
+-- `v`.
 abbrev pub FindRoom : List ℕ → List Build → List ℕ → ℕ → Type 0
 FindRoom u [] v capacity = v ≡ u
 FindRoom u (call ∷ calls) v capacity = (mid : List ℕ) × FindsRoom u call mid capacity × FindRoom mid calls v capacity
 
--- For each `Reserve n` that no truncation follows, the form of the units before it plus `n` bytes fits in `capacity`.
+-- For each `Reserve n` with no truncation after it in the list, the length of the form of the units that the calls
+-- before it leave, plus `n`, is at most `capacity`.
 abbrev pub LeavesReserved : List ℕ → List Build → ℕ → Type 0
 LeavesReserved u calls capacity = (front back : List Build) (n : ℕ) (v : List ℕ) (r : ℕ) → calls ≡ front ++ Reserve n ∷ back → All IsNoTruncation back
     → Run u front v r → FitWithin v n capacity

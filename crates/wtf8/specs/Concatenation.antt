@@ -13,11 +13,11 @@ pub record MeetsAsPair (c d : List ℕ) : Type 0 where
   pub ends : c ≡ front ++ lead ∷ []
   pub begins : d ≡ trail ∷ rest
 
--- The first number is a lead and the second a trail.
+-- Whether the first number is a lead and the second a trail.
 unfoldable pub is_pair : ℕ → ℕ → Bool
 is_pair l t = (nat_le 0xD800 l && nat_le l 0xDBFF) && (nat_le 0xDC00 t && nat_le t 0xDFFF)
 
--- The two lists joined, with a lead and a trail that meet replaced by the pair's code point (WTF-8, "Concatenating").
+-- The two lists joined; if they meet as a pair, its code point replaces lead and trail (WTF-8, "Concatenating").
 abbrev pub glue : List ℕ → List ℕ → List ℕ
 glue [] d = d
 glue (p ∷ []) [] = p ∷ []

@@ -19,7 +19,8 @@ upper n =
 abbrev pub debug_point : ℕ → List ℕ
 debug_point p = codes "U+" ++ upper p
 
--- A code point in the debug text of a string: a surrogate as `\u{`, its digits and `}`, any other as its own bytes.
+-- A code point in the debug text of a string: a surrogate as `\u{`, its value in hexadecimal and `}`, any other as its
+-- own bytes.
 unfoldable pub shown : ℕ → List ℕ
 shown p = if nat_le 0xD800 p && nat_le p 0xDFFF then codes "\\u{" ++ upper p ++ codes "}" else encoding p
 

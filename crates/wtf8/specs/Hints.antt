@@ -16,6 +16,7 @@ points_hint c = ((length (bytes c) + 3) / 4, Some (length (bytes c)))
 abbrev pub if_it_fits : ℕ → Option ℕ
 if_it_fits n = if nat_lt n (2 ^ 64) then Some n else None
 
--- The hint for units: the held one, plus from a quarter of the unread bytes, rounded up, to twice them, if that fits.
+-- The hint for units: the held one, if any, plus from a quarter of the number of unread bytes, rounded up, to twice
+-- that number. There is no upper bound if it is greater than `usize::MAX`.
 abbrev pub units_hint : Unread → ℕ × Option ℕ
 units_hint s = ((length (bytes s.points) + 3) / 4 + length s.held, if_it_fits (2 * length (bytes s.points) + length s.held))

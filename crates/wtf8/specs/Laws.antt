@@ -65,13 +65,14 @@ GlueReadsBoth = (c d a b : List ℕ) → Reads c a → Reads d b → Reads (glue
 abbrev pub GlueFormsBoth : Type 0
 GlueFormsBoth = (w v a b : List ℕ) (x : IsForm w a) (y : IsForm v b) → IsForm (bytes (glue x.points y.points)) (a ++ b)
 
--- If a lead meets a trail, the form of both lists is the first form without its last three bytes, the bytes of the
--- pair, and the second form without its first three.
+-- If a lead at the end of `a` meets a trail at the start of `b`, the form of `a` and then `b` is the form of `a`
+-- without its last three bytes, the bytes of the pair, and the form of `b` without its first three.
 abbrev pub PairFormsBoth : Type 0
 PairFormsBoth = (w v a b : List ℕ) → IsForm w a → IsForm v b → (m : MeetsAsPair a b)
     → IsForm ((take (length w - 3) w ++ encoding (pair m.lead m.trail)) ++ drop 3 v) (a ++ b)
 
--- If no lead meets a trail, the form of both lists is the first form followed by the second.
+-- If no lead at the end of `a` meets a trail at the start of `b`, the form of `a` and then `b` is the form of `a`
+-- followed by the form of `b`.
 abbrev pub OthersFormBoth : Type 0
 OthersFormBoth = (w v a b : List ℕ) → IsForm w a → IsForm v b → ¬ (MeetsAsPair a b) → IsForm (w ++ v) (a ++ b)
 

@@ -1,4 +1,4 @@
--- That bytes are well-formed, or the form of units, has at most one proof: types that hold such a proof require this.
+-- `IsWellFormed`, `IsForm` and `AreScalarTo` have at most one proof each, as is required of a fact that a type holds.
 use Rattle.std.specs.Prelude.{◌≡◌, ◌<◌, ℕ, List, [], ◌∷◌, ◌++◌, length, refl}
 use Rattle.std.specs.Coded.{×_prop, →_prop, Unit-prop, le_prop, Coded-set, coded_list, coded_ℕ}
 use Rattle.std.proofs.Common.{ap, sym, ◌∙◌}

@@ -1,7 +1,8 @@
 -- The lexicographic order of lists.
 use Rattle.std.specs.Prelude.{◌≡◌, ℕ, ◌<◌, ◌⊎◌, List, [], ◌∷◌, ⊤}
 
--- Lexicographic order: the first numbers that differ decide, and a proper prefix is before the longer list.
+-- The first list is less than the second in lexicographic order: its number at the first difference is less, or it is a
+-- proper prefix of the second.
 abbrev pub Before : List ℕ → List ℕ → Type 0
 Before [] [] = ⊥
 Before [] (y ∷ ys) = ⊤

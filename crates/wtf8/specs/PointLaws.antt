@@ -7,7 +7,8 @@ use Rattle.std.specs.declared.iter.Skip.{Skip}
 use Rattle.wtf8.specs.CodePoint.{number, numbers}
 use Rattle.wtf8.specs.declared.numbers.code_point.CodePoint.{CodePoint}
 
--- A step of an iterator over code points, seen as the values left: it yields the first, or `None` at the end.
+-- A step of an iterator over code points, which is seen as the values that it has left: it yields the first of them, or
+-- `None` if there is none.
 abbrev pub StepsPoint : List ℕ → Option CodePoint → List ℕ → Type 0
 StepsPoint = YieldsFirstBy number (λ points. points)
 
@@ -15,11 +16,11 @@ StepsPoint = YieldsFirstBy number (λ points. points)
 abbrev pub DrainedPointsAreLeft : Type 0
 DrainedPointsAreLeft = (left : List ℕ) (points : List CodePoint) → Drains StepsPoint left points → numbers points ≡ left
 
--- `take(n)` of an iterator over code points yields, until `None`, the first `n` that this had left.
+-- `take(n)` of an iterator over code points yields, until `None`, the first `n` that the iterator had left.
 abbrev pub DrainedPointsAreTaken : Type 0
 DrainedPointsAreTaken = (s : Take (List ℕ)) (points : List CodePoint) → Drains (take_steps StepsPoint) s points → numbers points ≡ take (take_count s) (take_source s)
 
--- `skip(n)` of an iterator over code points yields, until `None`, what this had left after the first `n`.
+-- `skip(n)` of an iterator over code points yields, until `None`, what the iterator had left after the first `n`.
 abbrev pub DrainedPointsAreBehind : Type 0
 DrainedPointsAreBehind = (s : Skip (List ℕ)) (points : List CodePoint) → Drains (skip_steps StepsPoint) s points → numbers points ≡ drop (skip_count s) (skip_source s)
 

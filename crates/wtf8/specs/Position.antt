@@ -3,7 +3,7 @@ use Rattle.std.specs.Prelude.{◌≡◌, ℕ, List, ◌++◌, length}
 use Rattle.wtf8.specs.Unicode.{units}
 use Rattle.wtf8.specs.Form.{Reads, bytes}
 
--- `f` followed by `b` is a reading of `u`, and `f` is `k` bytes long (Unicode 3.9, boundaries of code unit sequences).
+-- `f` followed by `b` is a reading of `u`, and `f` has `k` bytes (Unicode 3.9, boundaries of code unit sequences).
 pub record Splits (u : List ℕ) (k : ℕ) (f b : List ℕ) : Type 0 where
   pub reads : Reads (f ++ b) u
   pub front_len : length (bytes f) ≡ k

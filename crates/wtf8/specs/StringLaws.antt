@@ -25,12 +25,13 @@ EqualBufferAndViewHaveEqualUnits = (s : UnitString) (t : Wtf8) → (s.bytes ≡ 
 abbrev pub EqualViewsHaveEqualUnits : Type 0
 EqualViewsHaveEqualUnits = (s t : Wtf8) → (s.bytes.now ≡ t.bytes.now) ↔ (view_units s ≡ view_units t)
 
--- If no lead meets a trail, a string with the units of `s` and then `t` has the bytes of `s` and then `t`.
+-- If no lead at the end of `s` meets a trail at the start of `t`, a string with the units of `s` and then `t` has the
+-- bytes of `s` and then `t`.
 abbrev pub StringsAreJoined : Type 0
 StringsAreJoined = (s t both : UnitString) → both.units ≡ s.units ++ t.units → ¬ (MeetsAsPair s.units t.units) → both.bytes ≡ s.bytes ++ t.bytes
 
--- If a lead meets a trail, a string with the units of `s` and then `t` has the bytes of `s` without the last three, the
--- bytes of the pair, and the bytes of `t` without the first three.
+-- If a lead at the end of `s` meets a trail at the start of `t`, a string with the units of `s` and then `t` has the
+-- bytes of `s` without the last three, the bytes of the pair, and the bytes of `t` without the first three.
 abbrev pub StringsArePaired : Type 0
 StringsArePaired = (s t both : UnitString) → both.units ≡ s.units ++ t.units → (m : MeetsAsPair s.units t.units)
     → both.bytes ≡ (take (length s.bytes - 3) s.bytes ++ encoding (pair m.lead m.trail)) ++ drop 3 t.bytes

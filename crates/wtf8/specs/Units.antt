@@ -1,4 +1,4 @@
--- What an iterator over units has left: a trail that is held back, and the code points that are not yet read.
+-- What an iterator over units has left: the trail that is held back, if any, and the code points that are not yet read.
 use Rattle.std.specs.Prelude.{ℕ, List, ◌++◌}
 use Rattle.wtf8.specs.Unicode.{units}
 

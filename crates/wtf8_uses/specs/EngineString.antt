@@ -6,12 +6,12 @@ use Rattle.wtf8.specs.Form.{Reads}
 use Rattle.wtf8.specs.Surrogates.{lossy}
 use Rattle.wtf8.specs.Unicode.{pair, units}
 
--- The code point of a unit and the next one, if any: their pair, or the number of the first (ECMAScript, "CodePointAt").
+-- The code point of a unit and the next one, if any: that of their pair, or else the first (ECMAScript, "CodePointAt").
 abbrev pub point_with : ℕ → Option ℕ → ℕ
 point_with l None = l
 point_with l (Some t) = if is_pair l t then pair l t else l
 
--- The code point at unit index `k`, or `None` past the end (ECMAScript, "CodePointAt").
+-- The code point at unit index `k`, or `None` if there is no unit (ECMAScript, "CodePointAt").
 abbrev pub point_at : List ℕ → ℕ → Option ℕ
 point_at u k = option_map (λ l. point_with l (slice_get u (k + 1))) (slice_get u k)
 

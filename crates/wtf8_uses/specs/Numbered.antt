@@ -22,7 +22,8 @@ pub record IsEnd (lists : List (List ℕ)) (hash limit end : ℕ) : Type 0 where
   pub before : (k : ℕ) (u : List ℕ) → k < limit → slice_get lists k ≡ Some u → hash_of u ≡ hash → k < end
   pub last : (k : ℕ) (u : List ℕ) → k + 1 ≡ end → slice_get lists k ≡ Some u → hash_of u ≡ hash
 
--- The lists are distinct. `ends` has the end of each hash's chain, and `befores` the end of the chain before each list.
+-- The lists are distinct. `ends` has for each hash its end among all lists, 0 if missing, and `befores` for each list
+-- the end of its hash among the lists before it, as `IsEnd` says.
 pub record AreNumbered {S : Type 0} (ends : HashMap ℕ ℕ S) (befores : List ℕ) (lists : List (List ℕ)) : Type 0 where
   pub distinct : (j k : ℕ) (u : List ℕ) → slice_get lists j ≡ Some u → slice_get lists k ≡ Some u → j ≡ k
   pub lengths : length befores ≡ length lists

@@ -5,7 +5,8 @@ ghost use Rattle.wtf8.specs.View.{view_units};
 
 use wtf8::Wtf8;
 
-/// Whether two strings have the same units, ignoring ASCII case. Copies nothing, like `eq_ignore_ascii_case` of `OsStr`.
+/// Whether two strings have the same units, ignoring ASCII case, like `eq_ignore_ascii_case` of `OsStr`. Copies
+/// nothing.
 pub fn eq_ignore_ascii_case(text: Wtf8<'_>, other: Wtf8<'_>) -> bool
     ensures { IsTrue result ↔ (map to_ascii_lowercase (view_units text.entry) ≡ map to_ascii_lowercase (view_units other.entry)) }
 {

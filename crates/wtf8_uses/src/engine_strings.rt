@@ -27,7 +27,7 @@ pub fn at<A: Allocator>(text: &UnitText<A>, position: isize) -> Option<u16>
 }
 
 /// `codePointAt`: the code point that begins at a position. A surrogate pair is one supplementary code point; any other
-/// unit is the code point with its number. `None` past the end.
+/// unit is the code point with its number. `None` if there is no unit.
 pub fn code_point_at<A: Allocator>(text: &UnitText<A>, position: usize) -> Option<CodePoint>
     ensures { option_map number result ≡ point_at text.now position }
 {

@@ -169,8 +169,8 @@ pub fn parent<'a>(path: Wtf8<'a>) -> Option<Wtf8<'a>>
     Some(folder)
 }
 
-/// The components of a path: the parts before, between and after its `/` and `\`, in order, including empty ones. Copies no
-/// unit. If a request is refused, nothing stays allocated.
+/// The components of a path: the parts before, between and after its `/` and `\`, in order, including empty ones.
+/// Copies no unit. If a request is refused, nothing stays allocated.
 pub fn components<'a>(alloc: Global, path: Wtf8<'a>) -> Result<Vec<Wtf8<'a>>, AllocError>
     ensures { IfOk result (λ parts. map view_units parts.items ≡ slice_split is_separator (view_units path.entry)) }
 {

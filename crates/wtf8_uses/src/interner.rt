@@ -54,7 +54,7 @@ impl Interner {
         self.strings.len()
     }
 
-    /// The number of a string; a new string gets the next number. A string that has a number does not allocate and is
+    /// The number of a string; a new string gets the next number. A string that has a number needs no memory and is
     /// never refused. If a request is refused, the interner is unchanged.
     pub fn number(&mut self, string: Wtf8<'_>) -> Result<usize, AllocError>
         ensures has { IfOk result (λ n. slice_get self.new n ≡ Some (view_units string.entry)) }
@@ -115,7 +115,8 @@ impl Interner {
         self.befores[number]
     }
 
-    /// Copies a string that has no number and gives it the next one. Changes nothing before the last request for memory.
+    /// Copies a string that has no number and gives it the next one. Changes nothing before the last request for
+    /// memory.
     fn add(&mut self, string: Wtf8<'_>, hash: u32) -> Result<usize, AllocError>
         requires hash { hash ≡ hash_of (view_units string) }
         requires new { (n : ℕ) → slice_get self.old n ≡ Some (view_units string) → ⊥ }

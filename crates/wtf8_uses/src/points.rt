@@ -44,7 +44,7 @@ pub fn first_points<A: Allocator>(
     Wtf8Buf::from_iter(alloc, text.code_points().take(count))
 }
 
-/// The string without its first `count` code points.
+/// The string without its first `count` code points; empty if it has no more.
 pub fn points_behind<A: Allocator>(
     alloc: A,
     text: Wtf8<'_>,

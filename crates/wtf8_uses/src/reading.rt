@@ -16,8 +16,8 @@ const PIECE: usize = 4096;
 /// Why `read_utf16` failed.
 #[derive(Clone, Copy, Debug)]
 pub enum ReadError {
-    /// The reader returned this error, which is not `Interrupted`. `TimedOut` also if 2⁶⁴ - 1 reads did not reach the
-    /// end.
+    /// The reader returned this error, which is not `Interrupted`. It is also `TimedOut` if 2⁶⁴ - 1 reads did not reach
+    /// the end.
     Read(io::Error),
     /// The input ended inside a unit: it has an odd number of bytes.
     HalfUnit,
@@ -25,11 +25,11 @@ pub enum ReadError {
     Memory,
 }
 
-/// Reads a string of all units that a reader has left, each as a low byte and a high byte. A read may end inside a unit or
-/// a surrogate pair. A byte order mark is a unit like any other.
+/// Reads a string of all units that a reader has left, each as a low byte and a high byte. A read may end inside a unit
+/// or a surrogate pair. A byte order mark is a unit like any other.
 ///
-/// An interrupted read is tried again; any other error is returned. After an error the bytes that were read are lost; after
-/// `HalfUnit` they are the whole input.
+/// An interrupted read is tried again; any other error is returned. After an error the bytes that were read are lost;
+/// after `HalfUnit` they are the whole input.
 pub fn read_utf16<A: Allocator + Copy, R: Read>(
     alloc: A,
     reader: &mut R,
@@ -81,7 +81,7 @@ fn push_bytes<A: Allocator + Copy>(
     Ok(low)
 }
 
-/// Appends the unit of the low byte `held` and the next byte, or returns that byte as the low byte if none is held.
+/// Appends the unit of the low byte `held` and the high byte `byte`, or returns `byte` as the low byte if none is held.
 fn push_byte<A: Allocator>(
     units: &mut Vec<u16, A>,
     held: Option<u8>,

@@ -8,7 +8,7 @@ use std::cmp::Ordering;
 use unit_text::UnitText;
 use wtf8::IllFormedUtf16CodeUnits;
 
-/// `charAt`: the text of the one unit at a position. Empty past the end, and does not allocate then.
+/// `charAt`: the text of the one unit at a position. If there is none, the result is empty, and nothing is allocated.
 pub fn char_at<A: Allocator>(
     alloc: A,
     text: &UnitText<A>,
@@ -24,7 +24,7 @@ pub fn char_at<A: Allocator>(
     }
 }
 
-/// `charCodeAt`: the unit at a position, or `None`, for the `NaN` of the language, past the end.
+/// `charCodeAt`: the unit at a position, or `None`, for the `NaN` of the language, if there is none.
 pub fn char_code_at<A: Allocator>(text: &UnitText<A>, position: usize) -> Option<u16>
     ensures { result ≡ slice_get text.now position }
 {

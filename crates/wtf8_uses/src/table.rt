@@ -12,8 +12,8 @@ use std::alloc::Allocator;
 use std::cmp::Ordering;
 use wtf8::{Wtf8, Wtf8Buf, laws};
 
-/// Searches a table that `sort_strings` sorted: `Ok` of the string's index, or `Err` of the index where it can be
-/// inserted to keep the table sorted.
+/// Searches a table that `sort_strings` sorted: `Ok` of an index of the string, or `Err` of the index at which
+/// inserting it keeps the table sorted.
 pub fn place_of<A: Allocator>(table: &[Wtf8Buf<A>], string: &Wtf8Buf<A>) -> Result<usize, usize>
     requires { AreInPointOrder table.now }
     ensures found { IfOk result (HoldsAt (λ s. s.units ≡ string.now.units) table.now) }

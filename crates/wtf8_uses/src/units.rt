@@ -4,8 +4,8 @@ ghost use Rattle.wtf8.specs.View.{view_units};
 
 use wtf8::{Wtf8, laws};
 
-/// The unit at index `place`, by the iterator; `None` past the end. `Wtf8::unit_at` returns the same and skips whole
-/// blocks of bytes.
+/// The unit at index `place`, by the iterator; `None` if there is none. `Wtf8::unit_at` returns the same and skips
+/// whole blocks of bytes.
 pub fn nth_unit(text: Wtf8<'_>, place: usize) -> Option<u16>
     ensures { result ≡ slice_get (view_units text.entry) place }
 {

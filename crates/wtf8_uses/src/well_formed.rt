@@ -1,4 +1,4 @@
-//! ECMAScript's `isWellFormed`, and lossy text of a string. More calls of ECMAScript's strings are in the modules
+//! ECMAScript's `isWellFormed`, and the lossy text of a string. More calls of ECMAScript's strings are in the modules
 //! `strings` and `engine_strings`.
 ghost use Rattle.std.specs.Prelude.{◌≡◌, ◌↔◌, ℕ, List, IfOk, IsTrue};
 ghost use Rattle.std.specs.Cow.{cow_str_bytes};

@@ -21,7 +21,8 @@ abbrev pub units_left : {S : Type 0} → DecodeUtf16 S → Ahead S ℕ
 units_left s = s.units
 
 module _ {S : Type 0} (steps : S → Option ℕ → S → Type 0) where
-  -- A scalar value or a surrogate came off the front; after a lone lead the next unit, if any, was peeked: no trail.
+  -- The units of the item, a scalar value or a surrogate, came off the front. The next unit may have been peeked; after
+  -- a lone lead it was, and either it is no trail or no unit was left.
   pub record DecodesItem (s : Ahead S ℕ) (item : Result ℕ ℕ) (t : Ahead S ℕ) : Type 0 where
     pub kind : MatchResult item (λ c. IsCodePoint c × ¬ (IsSurrogate c)) IsSurrogate
     pub behind : Ahead S ℕ

@@ -4,7 +4,8 @@ use Rattle.std.specs.declared.vec.Vec.{Vec}
 use Rattle.wtf8.specs.Unicode.{IsCodePoint}
 use Rattle.wtf8.specs.Form.{encoding, IsForm}
 
--- The code point `p` of `n` bytes at the front, by its lead byte, a field for each row (WTF-8, "Generalized UTF-8").
+-- What holds of bytes that begin with the code point `p` of `n` bytes, by their lead byte: a field for each row of the
+-- table (WTF-8, "Generalized UTF-8").
 pub record FrontSays (w : List ℕ) (p n : ℕ) : Type 0 where
   pub nonempty : 0 < length w
   pub one : slice_index w 0 < 0x80 → (p ≡ slice_index w 0) × (n ≡ 1)
@@ -33,14 +34,15 @@ abbrev pub GainsUnits : List ℕ → List ℕ → List ℕ → Type 0
 GainsUnits old new v = (u : List ℕ) → IsForm old u → IsForm new (u ++ v)
 
 module _ {T E Z : Type 0} where
-  -- A call leaves `whole`, or on an error the old items; it succeeds if `whole` fits, and capacity never shrinks.
+  -- A call leaves `whole`, or on an error the old items. It succeeds if `whole` fits in the old capacity, and the
+  -- capacity never shrinks.
   pub record Becomes (old : Vec ℕ Z) (whole : List ℕ) (new : Vec ℕ Z) (r : Result T E) : Type 0 where
     pub ok : OnOk r (new.items ≡ whole)
     pub err : OnErr r (new.items ≡ old.items)
     pub room : length whole ≤ vec_capacity old → IsOk r
     pub capacity : vec_capacity old ≤ vec_capacity new
 
-  -- A call appends the units `v` to the bytes or, refused memory, leaves them, as `Becomes` says.
+  -- A call appends the units `v` to the bytes or, on an error, leaves them unchanged, as `Becomes` says.
   pub record Gains (old : Vec ℕ Z) (v : List ℕ) (new : Vec ℕ Z) (r : Result T E) : Type 0 where
     pub whole : List ℕ
     pub gained : GainsUnits old.items whole v

@@ -17,7 +17,7 @@ all_units_begun w = sum_by units_begun w
 abbrev pub HasLane : ℕ → List ℕ → Type 0
 HasLane least lanes = (k : ℕ) × ((k < length lanes) × (least ≤ slice_index lanes k))
 
--- `place` is a byte position with the number of units that begin before it, at most `n`.
+-- `place` is a byte position with the number of units of the code points that begin before it, which is at most `n`.
 pub record IsCounted (w : List ℕ) (n : ℕ) (place : Place) : Type 0 where
   pub within : place.at ≤ length w
   pub counted : place.units_before ≡ all_units_begun (take place.at w)
@@ -35,7 +35,8 @@ pub record Divides (front back : List ℕ) (n p : ℕ) : Type 0 where
   pub supplementary : 0x10000 ≤ p
   pub inside : length (units front) + 1 ≡ n
 
--- The first `n` units end at byte position `position`: at a boundary, or inside the pair `divided` that begins there.
+-- The first `n` units end at byte position `position`, or between the two units of the code point `divided` that begins
+-- there.
 pub record CutsUnits (c : List ℕ) (n position : ℕ) (divided : Option ℕ) : Type 0 where
   pub front : List ℕ
   pub back : List ℕ

@@ -3,7 +3,7 @@ use Rattle.std.specs.Prelude.{◌≡◌, ℕ, ◌+◌, ◌-◌, ◌*◌, ◌/◌
 use lib.Lanes.{Each2, zip2}
 use Rattle.wtf8.specs.Unicode.{IsLead, IsTrail}
 
--- The first of a unit's three bytes, of which a shorter encoding has the last ones (Unicode 3.9, "UTF-8", Table 3-6).
+-- The first of a unit's three bytes; an encoding of fewer bytes is the last ones (Unicode 3.9, "UTF-8", Table 3-6).
 abbrev pub first_byte : ℕ → ℕ
 first_byte n = 0xE0 + n / 4096
 
@@ -42,7 +42,8 @@ are_three n = if nat_lt n 0x800 then 0 else if nat_lt n 0xD800 then 1 else if na
 abbrev pub byte_count : ℕ → ℕ
 byte_count n = 1 + more_than_one n + are_three n
 
--- The second and last bytes of the units, as if a 0 came before them, and 0x80 for each that adds three bytes, else 0.
+-- The second bytes and the last bytes of the units, as if a 0 came before them, and for each unit 0x80 if it adds three
+-- bytes, else 0.
 pub record AreBehind (u seconds lasts longs : List ℕ) : Type 0 where
   pub second : seconds ≡ zip2 second_byte (0 ∷ u) u
   pub last : lasts ≡ map last_byte u

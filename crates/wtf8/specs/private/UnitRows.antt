@@ -3,8 +3,8 @@ use Rattle.std.specs.Prelude.{◌≡◌, ℕ, zero, suc, ◌+◌, ◌*◌, ◌/�
 use Rattle.wtf8.specs.Form.{IsWellFormed}
 use Rattle.wtf8.specs.Unicode.{units}
 
--- The byte divided by `size` is `kind`: 0 by 128 is ASCII, 6 by 32 the lead byte of two bytes, 14 by 16 the lead byte
--- of three (Unicode 3.9, "UTF-8", Table 3-6).
+-- The byte divided by `size` is `kind`. Kind 0 of size 128 is ASCII, kind 6 of size 32 a lead byte of two bytes, and
+-- kind 14 of size 16 a lead byte of three (Unicode 3.9, "UTF-8", Table 3-6).
 abbrev pub IsOfKind : ℕ → ℕ → ℕ → Type 0
 IsOfKind size kind b = b / size ≡ kind
 
@@ -26,11 +26,13 @@ abbrev pub units_of_rows : ℕ → (List ℕ → ℕ) → ℕ → List ℕ → L
 units_of_rows n f zero w = []
 units_of_rows n f (suc k) w = f w ∷ units_of_rows n f k (drop n w)
 
--- Well-formed bytes have the units `v`, followed by the units of the bytes from index `at` on, which are well-formed.
+-- If the bytes `w` are well-formed, so are those from index `at` on, and the units of `w` are `v` followed by the units
+-- of these.
 abbrev pub BeginsWithUnits : List ℕ → List ℕ → ℕ → Type 0
 BeginsWithUnits w v at = (h : IsWellFormed w) → (rest : IsWellFormed (drop at w)) × (units h.points ≡ v ++ units rest.points)
 
--- The first of `left` are written at `at..behind`: `new` up to `behind`, then `rest`, is `old` up to `at`, then `left`.
+-- The first of the units `left` were written at `at..behind`, and `rest` is what is left now: `new` before `behind`,
+-- then `rest`, is `old` before `at`, then `left`.
 pub record Writes (old : List ℕ) (at : ℕ) (left new : List ℕ) (behind : ℕ) (rest : List ℕ) : Type 0 where
   pub units : take behind new ++ rest ≡ take at old ++ left
   pub as_many : behind + length rest ≡ at + length left

@@ -12,7 +12,8 @@ is_inside b = if nat_lt b 0x80 then false else nat_lt b 0xC0
 abbrev pub trail_by : ℕ → ℕ → ℕ
 trail_by a b = 0xDC00 + a % 16 * 64 + b % 64
 
--- The trail at the front of bytes that begin with the last two bytes of a pair; nothing if a code point begins there.
+-- The trail at the front of bytes that begin with the last two bytes of a supplementary code point; nothing if a code
+-- point begins there.
 abbrev pub held_in : List ℕ → List ℕ
 held_in [] = []
 held_in (a ∷ []) = []
@@ -24,7 +25,8 @@ behind_held [] = []
 behind_held (a ∷ []) = a ∷ []
 behind_held (a ∷ b ∷ w) = if is_inside a then w else a ∷ b ∷ w
 
--- What is left after the first unit: a held trail, or else the first unit of a code point, whose trail is then held.
+-- What is left after the first unit: that is the held trail or, if none is held, the first unit of a code point, whose
+-- trail, if any, is then held.
 abbrev pub left_after : List ℕ → List ℕ → Unread
 left_after (t ∷ held) c = record { held = held; points = c }
 left_after [] [] = record { held = []; points = [] }
