@@ -8,10 +8,12 @@ ghost use Rattle.wtf8.specs.View.{view_units};
 use std::alloc::Allocator;
 use wtf8::{UnitMark, UnitSlice, Wtf8, Wtf8Buf, laws};
 
-/// The number of units from one mark to the next. A text of at most this length has no marks.
+/// Marks are at the multiples of this number of units, or one unit before a multiple that splits a pair. A text of at
+/// most this number of units has no marks.
 pub(crate) const SPACING: usize = 128;
 
-/// In a short text, units before this index are found from the front, without a mark.
+/// In an ASCII text of at most `SPACING` units, units before this index are found from the front; from this index on,
+/// each index is itself a mark.
 const FRONT: usize = 8;
 
 /// The marks of a text, in order, and whether memory was refused for any that is missing.
@@ -64,8 +66,8 @@ fn kept_before<A: Allocator>(text: &Wtf8Buf<A>, marks: &Marks<A>, units: usize) 
     marks.kept[number - 1]
 }
 
-/// Returns the rest of the text after a mark at or before unit index `units`, and the offset of `units` in it. A short
-/// text has no marks and is returned whole, unless it is ASCII and `units` is not near its front.
+/// Returns the rest of the text after a mark at or before unit index `units`, and the offset of `units` in it. A text
+/// of at most `SPACING` units is returned whole, unless it is ASCII and `units` is at least `FRONT`.
 #[inline(always)]
 fn near<'a, A: Allocator>(
     text: &'a Wtf8Buf<A>,
@@ -87,7 +89,7 @@ fn near<'a, A: Allocator>(
     (text.as_wtf8().behind_mark(mark), units - mark.units)
 }
 
-/// The unit at index `number`. Not inlined, so that the caller's path for a short text stays cheap.
+/// The unit at index `number`, or `None` at the end. Not inlined, so that the caller's short path stays cheap.
 #[inline(never)]
 pub(crate) fn unit_at<A: Allocator>(
     text: &Wtf8Buf<A>,
@@ -134,8 +136,8 @@ pub(crate) fn marks_of<A: Allocator>(alloc: A, text: &Wtf8Buf<A>, count: usize) 
     Marks { kept, is_refused }
 }
 
-/// The number of marks that a text needs: one for each multiple of `SPACING` below its number of units, but none if it
-/// is ASCII.
+/// The number of marks that a text needs: one for each positive multiple of `SPACING` below its number of units, but
+/// none if it is ASCII.
 #[inline(always)]
 fn wanted<A: Allocator>(text: &Wtf8Buf<A>, count: usize) -> usize
     requires counted { count ≡ length text.now.units }

@@ -55,8 +55,9 @@ impl<A: Allocator> UnitText<A> {
     }
 
     /// Keeps marks of the text, allocated by `alloc`, so that `unit_at` and `slice_units` need not count from the
-    /// front; from then on `push` and `concat` add marks of what they append. A mark that is refused memory is left
-    /// out, and the text is slower there. A short text or an ASCII text needs none.
+    /// front; from then on `push` and `concat` add marks of what they append. If memory for a mark is refused,
+    /// it and those after it are missing, and units there are found more slowly, until a later `push` or `concat` can
+    /// add them. A short text or an ASCII text needs none.
     pub fn mark_units(&mut self, alloc: A)
         ensures { self.new ≡ self.old }
     {

@@ -75,7 +75,7 @@ pub fn law_append()
     ensures cut { FirstUnitsAndRestAreWhole }
 {}
 
-/// From each list of units, a list of building calls has one outcome and one count of refused truncations.
+/// From each list of units, a list of building calls has exactly one outcome and one count of refused truncations.
 pub fn law_one_run()
     ensures { CallsRunOnce }
 {}
@@ -85,9 +85,9 @@ pub fn law_runs_add_up()
     ensures { RunsAddUp }
 {}
 
-/// The start, the end and both sides of an ASCII byte are code point boundaries, none is past the end, and a front or a
-/// back has the boundaries of the whole, counted from the start or from the cut. An ASCII byte is one unit, and an
-/// ASCII value that does not occur in the bytes does not occur in the units.
+/// The start, the end and both sides of an ASCII byte are code point boundaries, and none is past the end. The
+/// boundaries of the part before or after a cut are those of the whole that lie in it, counted from the start or from
+/// the cut. An ASCII byte is one unit, and an ASCII value that does not occur in the bytes does not occur in the units.
 pub fn law_positions()
     ensures start { StartIsBoundary }
     ensures end { EndIsBoundary }
@@ -101,8 +101,8 @@ pub fn law_positions()
     ensures back_in_whole { BackBoundariesAreOfWhole }
 {}
 
-/// If a string's bytes and units are equal in number, every position is a mark. A mark before the last unit is still a
-/// mark after units are appended, even if the last unit becomes part of a pair.
+/// If a string has as many bytes as units, every byte position is a mark. A mark before the last unit is still a mark
+/// after units are appended, even if the last unit becomes part of a pair.
 pub fn law_marks()
     ensures equal { EqualCountsAreMarks }
     ensures kept { MarksStay }
@@ -124,8 +124,9 @@ pub fn law_divided_pair(view: Wtf8<'_>, units: usize)
     ensures trail { DividesPair (view_units view.entry) units → IsTrail (slice_index (view_units view.entry) units) }
 {}
 
-/// The form of the first units of a list is no longer than that of the list, and the form of two lists together no
-/// longer than their two forms. So units fit into a string if their form fits into its spare capacity.
+/// The form of the first units of a list is no longer than that of the list, and the form of two concatenated lists no
+/// longer than their two forms together. So there is room to append units to a string if their form fits into its spare
+/// capacity.
 pub fn law_room()
     ensures beginning { BeginningsAreNoLonger }
     ensures both { BothAreNoLonger }
@@ -250,8 +251,8 @@ pub fn law_collected_points()
     ensures rest { CollectedPointsAreBehind }
 {}
 
-/// A string with the units of two others, one after the other, has the bytes of both. If a lead ends the first and a
-/// trail begins the second, the four bytes of that pair replace the six of the two surrogates.
+/// A string with the units of two others, one after the other, has their bytes, one after the other, unless a lead ends
+/// the first and a trail begins the second: then the four bytes of that pair replace the six of the two surrogates.
 pub fn law_joined_strings()
     ensures joined { StringsAreJoined }
     ensures paired { StringsArePaired }

@@ -47,7 +47,8 @@ impl<'a> PartialOrd for Wtf8<'a> {
     ghost laws = { partial_order_from_own_ties (Prim.search (comparing, rules)) (Prim.search (comparing, rules)) };
 }
 
-/// Compares byte by byte, a prefix before the longer string: the order of code points, not of code units (`cmp_units`).
+/// Compares byte by byte, a prefix before the longer string. This is the order of code points; `cmp_units` compares by
+/// code units.
 impl<'a> Ord for Wtf8<'a> {
     ghost cmp = { on (λ view. view.bytes.now) (slice_cmp nat_cmp) };
 

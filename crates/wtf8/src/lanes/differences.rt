@@ -10,7 +10,7 @@ use crate::lanes::{BLOCK, TURN, VECTOR};
 use std::cmp::Ordering;
 use std::simd::prelude::*;
 
-/// The most bytes that two overlapping vectors cover, and the stride of the search for a mismatch in longer slices.
+/// The most bytes that two vectors cover, and the stride of the search for a mismatch after `skip_turns`.
 const SHORT: usize = 2 * VECTOR;
 
 /// The byte at index `at`, or `None` at or past the end.
@@ -56,7 +56,7 @@ fn first_in_block<const N: usize>(own: &[u8], others: &[u8], at: usize) -> Optio
     Some(place_in_block::<N>(own, others, at))
 }
 
-/// Whether slices of equal length, `N` to `2 * N` bytes, are equal: two blocks of `N`, which may overlap.
+/// Whether slices of equal length, `N` to `2 * N` bytes, are equal, by two blocks of `N`, which may overlap.
 #[inline(always)]
 fn are_ends_same<const N: usize>(own: &[u8], others: &[u8]) -> bool
     requires lanes { (0 < N) × (N ≤ u64.BITS) }
@@ -81,7 +81,7 @@ pub(crate) fn equal(own: &[u8], others: &[u8]) -> bool
     BLOCK < own.len() && are_many_same(own, others)
 }
 
-/// Whether two slices of equal length, at most `BLOCK` bytes, are equal. False for longer slices, even for equal ones.
+/// Whether two slices of equal length are equal and have at most `BLOCK` bytes. False for longer ones, even if equal.
 #[inline(always)]
 fn is_short_same(own: &[u8], others: &[u8]) -> bool
     requires { length own.now ≡ length others.now }
@@ -222,7 +222,7 @@ fn first_in_long(own: &[u8], others: &[u8], end: usize) -> Option<usize>
     first_in_blocks(own, others, at, end)
 }
 
-/// Skips equal bytes after the first vector, which is equal, in strides of `TURN`. Returns the index after them.
+/// Skips strides of `TURN` equal bytes after the first vector, which is equal. Returns the index after the last one.
 #[inline(always)]
 fn skip_turns(own: &[u8], others: &[u8], end: usize) -> usize
     requires long { VECTOR ≤ end }
@@ -261,7 +261,7 @@ fn first_in_blocks(own: &[u8], others: &[u8], from: usize, end: usize) -> Option
     first_in_block::<SHORT>(own, others, end - SHORT)
 }
 
-/// The index of the first mismatch in `from..end`, `N` to `2 * N` bytes: two blocks of `N`, which may overlap.
+/// The index of the first mismatch in `from..end`, `N` to `2 * N` bytes, by two blocks of `N`, which may overlap.
 #[inline(always)]
 fn first_in_ends<const N: usize>(
     own: &[u8],

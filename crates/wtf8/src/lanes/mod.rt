@@ -1,4 +1,5 @@
-// Bytes compared, searched, copied and written as hexadecimal in SIMD blocks. Of WTF-8 only surrogates are known here.
+// Bytes compared, searched, copied and written as hexadecimal in SIMD blocks. All that these modules know of WTF-8 is
+// how surrogates are encoded.
 pub(crate) mod copies;
 pub(crate) mod differences;
 pub(crate) mod digits;
@@ -8,8 +9,8 @@ pub(crate) mod search;
 /// The number of bytes in one of the processor's vectors.
 pub(crate) const VECTOR: usize = 16;
 
-/// The number of bytes that are read at once from long input.
+/// The number of bytes in a block: four vectors, the most that one load takes.
 pub(crate) const BLOCK: usize = 4 * VECTOR;
 
-/// The stride of the loop over long slices that are compared: two blocks.
+/// The stride of the loop that compares long slices: two blocks.
 pub(crate) const TURN: usize = 2 * BLOCK;

@@ -209,11 +209,11 @@ pub(crate) fn read_lead(bytes: &[u8]) -> u16
     ensures { (b : BeginsWithPoint bytes.now) → result ≡ 0xD800 + (b.point - 0x10000) / 0x400 }
 {
     let high = (u32::from(bytes[0]) - 0xF0) * 64 + low_bits(bytes[1]);
-    // The lead encodes the bits above the low ten of the code point less 0x10000, which is 0x40 in these bits.
+    // The lead is 0xD800 + ((code point - 0x10000) >> 10), and 0x10000 >> 10 is 0x40.
     (0xD800 - 0x40 + high * 4 + low_bits(bytes[2]) / 16) as u16
 }
 
-/// The trail surrogate of a supplementary code point, by the last two bytes of its encoding at the front of `bytes`.
+/// The trail surrogate of a supplementary code point; `bytes` begins with the last two bytes of its encoding.
 #[inline(always)]
 pub(crate) fn read_trail(bytes: &[u8]) -> u16
     requires { 1 < length bytes.now }
@@ -222,7 +222,7 @@ pub(crate) fn read_trail(bytes: &[u8]) -> u16
     (0xDC00 + u32::from(bytes[0] % 16) * 64 + u32::from(bytes[1] % 64)) as u16
 }
 
-/// The number of the code point at the front of `bytes`, and the byte position after it, if `bytes` begins at `at`.
+/// The number of the code point at the front of `bytes`, which is at byte position `at`, and the position after it.
 #[inline(always)]
 fn read_number(bytes: &[u8], at: usize) -> (u32, usize)
     requires front { BeginsWithPoint bytes.now }
@@ -241,7 +241,7 @@ fn read_number(bytes: &[u8], at: usize) -> (u32, usize)
     }
 }
 
-/// The code point at the front of `bytes`, and the byte position after it, if `bytes` begins at `at`.
+/// The code point at the front of `bytes`, which is at byte position `at`, and the position after it.
 #[inline(always)]
 pub(crate) fn read(bytes: &[u8], at: usize) -> (CodePoint, usize)
     requires front { BeginsWithPoint bytes.now }

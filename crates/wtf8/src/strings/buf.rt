@@ -25,9 +25,9 @@ use std::marker::Model;
 
 /// An owned string of well-formed WTF-8 that can grow.
 ///
-/// Contracts see its code units, its bytes, that the bytes are the well-formed form of these units, and its capacity.
-/// They do not see how much of it is known to hold no surrogate, which saves `into_string` and `into_string_lossy` a
-/// search; equality, order, hash, display and debug text ignore it.
+/// Contracts see its code units, its bytes, which are the well-formed form of these units, and its capacity.
+/// They do not see how much of it is known to hold no surrogate. That knowledge saves `into_string` and
+/// `into_string_lossy` a search; equality, order, hash, display and debug text ignore it.
 ///
 /// ```
 /// use std::alloc::{AllocError, Global};
@@ -110,7 +110,8 @@ fn from_well_formed<A: Allocator>(bytes: Vec<u8, A>, is_known_utf8: bool) -> Wtf
     with_scalar_front(bytes, end_of_scalars(is_known_utf8))
 }
 
-/// Returns `scalar_end`, lowered to at most `len` if a nonempty `other` is appended there. Does not search `other`.
+/// Returns the `scalar_end` after `other` is appended to `len` bytes: unchanged if `other` is empty, else at most
+/// `len`, since `other` is not searched.
 #[inline(always)]
 fn scalar_end_with(scalar_end: usize, len: usize, other: Wtf8<'_>) -> usize
     ensures order { result ≤ scalar_end }
@@ -122,7 +123,8 @@ fn scalar_end_with(scalar_end: usize, len: usize, other: Wtf8<'_>) -> usize
     scalar_end.min(len)
 }
 
-/// Returns `scalar_end` after a truncation to `len` bytes: `usize::MAX` if these are known to hold no surrogate.
+/// Returns the `scalar_end` after a truncation to `len` bytes: `usize::MAX` if these are known to hold no surrogate,
+/// else unchanged.
 #[inline(always)]
 fn scalar_end_of_front(scalar_end: usize, len: usize) -> usize
     ensures { (c : List ℕ) → length (bytes c) ≡ len → AreScalarTo scalar_end c → AreScalarTo result c }
@@ -208,8 +210,8 @@ impl<A: Allocator> Wtf8Buf<A> {
         Ok(with_scalar_front(bytes, self.scalar_end))
     }
 
-    /// Reserves capacity for at least `additional` more bytes, and does not allocate if it is there. The string is
-    /// unchanged either way.
+    /// Reserves capacity for at least `additional` more bytes, and does not allocate if there is enough. The units and
+    /// bytes of the string never change, even if memory is refused.
     pub fn reserve(&mut self, additional: usize) -> Result<(), AllocError>
         ensures ok { OnOk result (length self.new.bytes + additional ≤ self.new.capacity) }
         ensures units { self.new.units ≡ self.old.units }
@@ -220,8 +222,8 @@ impl<A: Allocator> Wtf8Buf<A> {
         encoding::reserve(&mut self.bytes, additional)
     }
 
-    /// Releases spare capacity if the allocator agrees, else keeps it. An empty string releases all of it. The string
-    /// is unchanged either way.
+    /// Releases spare capacity if the allocator agrees, else keeps it. An empty string releases all of it. The units
+    /// and bytes of the string never change.
     pub fn shrink_to_fit(&mut self)
         ensures units { self.new.units ≡ self.old.units }
         ensures bytes { self.new.bytes ≡ self.old.bytes }

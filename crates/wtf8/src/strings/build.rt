@@ -32,7 +32,7 @@ pub enum Build<'b> {
 /// The error of `apply_all`: a call was refused memory, and the list stopped there.
 #[derive(Clone, Copy, PartialEq, Eq, Debug)]
 pub struct Stopped {
-    /// The number of calls that were applied, which is the index of the refused one.
+    /// The number of calls before the one that was refused memory, which is its index. Refused truncations count too.
     pub done: usize,
 }
 
@@ -94,15 +94,15 @@ impl<A: Allocator> Wtf8Buf<A> {
         ensures stopped { IfErr result (λ s. StopsAt self.old.units calls.now s.done self.new.units) }
 
         // A list of pushes and extensions appends their units in order. It is never refused if all of these fit; if it
-        // is, the units up to and including the refused call's do not fit.
+        // is refused, the units up to and including the refused call's do not fit.
         ensures appends { IfOk result (λ _. (v : List ℕ) → Append calls.now v → AppendsUnits self.old v self.new) }
         ensures room { (v : List ℕ) → Append calls.now v → HasRoomFor self.old v → IsOk result }
         ensures outgrown { IfErr result (λ s. (v : List ℕ) → Append (take (s.done + 1) calls.now) v → Outgrows self.old v) }
         ensures capacity { (v : List ℕ) → Append calls.now v → self.old.capacity ≤ self.new.capacity }
 
         // With `reserve` too, but no truncation: never refused if each call in turn fits the capacity at the start; if
-        // refused, some call up to and including the refused one does not. The capacity that a `reserve` asks for is
-        // kept unless a truncation follows.
+        // refused, some call up to and including the refused one does not fit it. The capacity that a `reserve` asks
+        // for is kept unless a truncation follows.
         ensures found { (v : List ℕ) → FindRoom self.old.units calls.now v self.old.capacity → IsOk result }
         ensures missed { IfErr result (λ s. (v : List ℕ) → ¬ (FindRoom self.old.units (take (s.done + 1) calls.now) v self.old.capacity)) }
         ensures no_smaller { All IsNoTruncation calls.now → self.old.capacity ≤ self.new.capacity }

@@ -32,7 +32,7 @@ impl<A: Allocator> Wtf8Buf<A> {
         Ok(())
     }
 
-    /// Makes a string from code points in order, as `extend` does from an empty one.
+    /// Makes a string from code points in order, as `extend` of an empty string does.
     pub fn from_iter<I: IntoIterator<Item = CodePoint>>(
         alloc: A,
         iterable: I,
@@ -45,7 +45,8 @@ impl<A: Allocator> Wtf8Buf<A> {
         Ok(string)
     }
 
-    /// Appends the code points of a slice, as `extend` does. Never refused if they fit, as each adds at least one byte.
+    /// Appends the code points of a slice, as `extend` does. Never refused if they fit: each adds at least one byte, so
+    /// the reservation of a byte for each fits too.
     pub(crate) fn extend_from_points(&mut self, points: &[CodePoint]) -> Result<(), AllocError>
         ensures ok { OnOk result (AppendsPoints self.old points.now self.new) }
         ensures err { OnErr result ((n : ℕ) × AppendsPoints self.old (take n points.now) self.new) }

@@ -116,7 +116,7 @@ fn append_bytes<A: Allocator>(bytes: &mut Vec<u8, A>, other: &[u8]) -> Result<()
 }
 
 /// Returns the lead surrogate that ends `front` and the trail surrogate that begins `back`, if both are there.
-/// `is_apart` says that they are not, which skips the tests.
+/// `is_apart` says that they are not both there, which skips the tests.
 #[inline(always)]
 fn meeting_pair(front: Wtf8<'_>, back: Wtf8<'_>, is_apart: bool) -> Option<(u32, u32)>
     requires { IsTrue is_apart → ¬ (MeetsAsPair (view_points front) (view_points back)) }

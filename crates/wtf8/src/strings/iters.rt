@@ -10,8 +10,8 @@ use crate::strings::view::Wtf8;
 use std::alloc::AllocError;
 use std::marker::Model;
 
-/// An iterator over the code points of a string, in order. After the last one it returns `None` from then on. A clone
-/// goes on with the same items and does not allocate.
+/// An iterator over the code points of a string, in order. After the last one it always returns `None`. A clone goes on
+/// with the same items and does not allocate.
 ///
 /// Contracts see it as the list of the code points that are left.
 #[derive(Drop)]
@@ -80,7 +80,7 @@ impl<'a> Iterator for Wtf8CodePoints<'a> {
         self.give_next()
     }
 
-    /// From a quarter of the bytes left, rounded up, to all of them: a code point takes one to four bytes.
+    /// At least a quarter of the bytes left, rounded up, and at most all: a code point takes one to four bytes.
     fn size_hint(&self) -> (usize, Option<usize>)
         ensures lower { IsWithinCount result.0 (at_most (length self.now)) }
         ensures upper { IfSome result.1 (UpTo (at_most (length self.now))) }
@@ -143,7 +143,7 @@ fn read_unit(bytes: &[u8], position: &mut usize) -> u16
 }
 
 /// An iterator over the 16-bit code units of a string, in order: the units that it was made of, paired or not. After
-/// the last one it returns `None` from then on. A clone goes on with the same items and does not allocate.
+/// the last one it always returns `None`. A clone goes on with the same items and does not allocate.
 ///
 /// Contracts see the trail surrogate that is held back, if any, and the code points that are left.
 #[derive(Drop)]

@@ -41,8 +41,9 @@ impl<'a> Wtf8<'a> {
         Wtf8::from_well_formed(rest)
     }
 
-    /// The mark at code unit `units`, or one unit earlier if that splits a pair. `from` must be a mark of this string
-    /// at or before `units`; the time depends only on the distance from it.
+    /// The mark with `units` code units before it, or one fewer if that splits a pair. `units` must be at most the
+    /// number of code units, and `from` a mark of this string at or before `units`; the time depends only on the
+    /// distance from it.
     pub fn mark_at(&self, from: UnitMark, units: usize) -> UnitMark
         requires mark { IsMarkOf self.now from }
         requires order { from.units ≤ units }

@@ -14,7 +14,7 @@ use crate::strings::view::Wtf8;
 use std::alloc::Allocator;
 use std::simd::prelude::*;
 
-/// Bytes in a block when the units of a whole string are counted.
+/// Bytes in a block when all units of a string are counted, after the groups of `ADDED` blocks.
 const HALF_BLOCK: usize = BLOCK / 2;
 
 /// Bytes in the smallest block that a counting loop takes.
@@ -26,11 +26,11 @@ const ADDED: usize = 8;
 /// The fewest units that can begin in `ADDED` blocks: a unit takes at most three bytes.
 const LEAST_ADDED: usize = ADDED * BLOCK / 3;
 
-/// If the unit is fewer than this many units ahead, it is probably among the next `VECTOR` bytes, and counting these
-/// does not pay. For `HALF_VECTOR` bytes it is half of this.
+/// If the unit searched for is fewer than this many units ahead, it is probably among the next `VECTOR` bytes, and
+/// counting these does not pay. For `HALF_VECTOR` bytes the limit is half of this.
 const LIKELY: usize = 11;
 
-/// A byte index, and the number of units of the code points that begin before it. It need not be a boundary.
+/// A byte index, which need not be a boundary, and the number of units of the code points that begin before it.
 #[derive(Clone, Copy)]
 struct Place {
     at: usize,
@@ -80,7 +80,7 @@ fn units_begun_in_blocks(bytes: &[u8], at: usize) -> usize
     usize::from(lanes.cast::<u16>().strict_reduce_sum())
 }
 
-/// Finds the code point that holds unit `unit` (counted from 0), bytewise from `from` on; the end if there is none.
+/// Finds the code point that holds unit `unit` (counted from 0), byte by byte from `from`; the end if there is none.
 fn find_unit_from(bytes: &[u8], unit: usize, from: Place) -> Place
     requires { IsCounted bytes.now unit from }
     ensures { IsPlaceOfUnit bytes.now unit result }
@@ -107,7 +107,8 @@ fn find_unit_from(bytes: &[u8], unit: usize, from: Place) -> Place
     }
 }
 
-/// Moves `from` past the next `N` bytes, or returns `None` if fewer are left or the unit begins in them.
+/// Moves `from` past the next `N` bytes, or returns `None` if fewer are left or the code point that holds the unit
+/// begins in them.
 #[inline(always)]
 #[tactic(auto, using(crate::proofs::lemmas::strings::Positions::begun_more))]
 fn behind_block<const N: usize>(bytes: &[u8], unit: usize, from: Place) -> Option<Place>
@@ -129,8 +130,8 @@ fn behind_block<const N: usize>(bytes: &[u8], unit: usize, from: Place) -> Optio
     })
 }
 
-/// Skips blocks of `N` bytes in which the unit does not begin, while it is at least `least` units ahead: closer than
-/// that it is probably in the next block, which is then not worth counting.
+/// Skips blocks of `N` bytes before the code point that holds the unit, while the unit is at least `least` units ahead:
+/// closer than that it is probably in the next block, which is then not worth counting.
 #[inline(always)]
 fn behind_likely_blocks<const N: usize>(
     bytes: &[u8],
@@ -181,7 +182,8 @@ fn behind_ascii<const N: usize>(bytes: &[u8], unit: usize, from: Place) -> Optio
     })
 }
 
-/// Skips groups of `ADDED` blocks from the start, up to the unit, while it is at least `LEAST_ADDED` units ahead.
+/// Skips groups of `ADDED` blocks from the start, before the code point that holds the unit, while the unit is at least
+/// `LEAST_ADDED` units ahead.
 #[inline(always)]
 #[tactic(auto, using(crate::proofs::lemmas::strings::Positions::begun_more))]
 fn behind_added_blocks(bytes: &[u8], unit: usize) -> Place
@@ -352,7 +354,8 @@ fn first_unit(view: Wtf8<'_>) -> Option<u16>
     Some(lead_of(value) as u16)
 }
 
-/// Returns the unit at `index` by a cut before it. Not inlined, so that the ASCII path stays small.
+/// Returns the unit at `index`, or `None` at or past the end, by a cut before it. Not inlined, so that the ASCII path
+/// stays small.
 #[inline(never)]
 fn unit_by_cut(view: Wtf8<'_>, index: usize) -> Option<u16>
     ensures { result ≡ slice_get (view_units view.entry) index }

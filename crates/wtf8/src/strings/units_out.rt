@@ -31,13 +31,14 @@ const SECOND_OF_THREE: [usize; 8] = [1, 4, 7, 10, 13, 16, 19, 22];
 
 const THIRD_OF_THREE: [usize; 8] = [2, 5, 8, 11, 14, 17, 20, 23];
 
-/// Strings of fewer bytes are decoded into a buffer on the stack, so that their units need not be counted before memory
-/// is requested.
+/// Strings of fewer bytes than this, except ASCII ones of 1 to 15 bytes, are decoded into a buffer on the stack, so
+/// that their units need not be counted before memory is requested.
 const FEW: usize = 4 * VECTOR;
 
 /// Code points of one unit and `WIDTH` bytes each, of which `N` are decoded from a load of `BYTES` bytes.
 trait Kind<const N: usize, const WIDTH: usize, const BYTES: usize> {
-    /// Decodes `N` code points as if all had `WIDTH` bytes. Returns their units, and the number at the front that do.
+    /// Decodes `N` code points as if all had `WIDTH` bytes. Returns their units, and how many of them at the front are
+    /// right: those before the first code point of another length.
     fn read(bytes: &[u8]) -> ([u16; N], usize)
         requires { BYTES ≤ length bytes.now }
         ensures within { (result.1 ≤ N) × (result.1 ≤ WIDTH * result.1) × (WIDTH * result.1 ≤ BYTES) }
@@ -227,7 +228,8 @@ impl Kind<8, 3, 32> for ThreeBytes {
     }
 }
 
-/// Writes `block` and advances by `width` bytes and their `count` units; the units of `block` after these do not count.
+/// Writes `block` and advances by `width` bytes and their `count` units; the units of `block` after these are
+/// overwritten later or never read.
 #[inline(always)]
 fn widen_units<'a, const N: usize>(
     units: &mut [u16],
@@ -250,9 +252,9 @@ fn widen_units<'a, const N: usize>(
     }
 }
 
-/// Decodes the code points of a kind at the front of one block, and returns whether they fill it; does nothing without
-/// `BYTES` bytes and room for `N` units. A full block advances by a constant, so that the next load need not wait for
-/// the count.
+/// Decodes the code points of a kind at the front of one block, and returns whether they fill it. Does nothing and
+/// returns false if fewer than `BYTES` bytes are left or there is no room for `N` units. A full block advances by a
+/// constant, so that the next load need not wait for the count.
 #[inline(always)]
 fn widen_row<'a, const N: usize, const WIDTH: usize, const BYTES: usize, K: Kind<N, WIDTH, BYTES>>(
     units: &mut [u16],
@@ -305,7 +307,8 @@ fn widen_kind<'a, const N: usize, const WIDTH: usize, const BYTES: usize, K: Kin
     }
 }
 
-/// Decodes a run by blocks if two code points of equal length up to three bytes come first, else one code point.
+/// Decodes a run by blocks if at least `VECTOR` bytes are left and the first two code points have the same length, at
+/// most three bytes; else one code point.
 #[inline(always)]
 fn widen_front<'a>(units: &mut [u16], left: Unwritten<'a>) -> Unwritten<'a>
     requires room { left.at + length (view_units left.view) ≤ length units.old }

@@ -47,7 +47,7 @@ pub(crate) fn write_upper<W: fmt::Write>(value: u32, f: &mut fmt::Formatter<W>) 
     write_last_four(value, f)
 }
 
-/// Writes a code point as in the debug text of a string: a surrogate between `\u{` and `}`, any other as itself.
+/// Writes a code point as in the debug text of a string: a surrogate's number between `\u{` and `}`, others as is.
 fn write_point<W: fmt::Write>(code_point: CodePoint, f: &mut fmt::Formatter<W>) -> fmt::Result
     ensures { WritesStyledOnOk W.write_str_gives f.old result (shown (number code_point)) f.new }
 {

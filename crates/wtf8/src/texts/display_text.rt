@@ -11,8 +11,8 @@ use crate::strings::view::Wtf8;
 use std::alloc::Allocator;
 use std::fmt;
 
-/// Writes the lossy text: each part before a surrogate as it is, and U+FFFD for the surrogate. The formatter's width
-/// and flags are ignored.
+/// Writes the lossy text: U+FFFD for each surrogate, and the parts before, between and after surrogates as they are.
+/// The formatter's width and flags are ignored.
 fn write_lossy<W: fmt::Write>(view: Wtf8<'_>, f: &mut fmt::Formatter<W>) -> fmt::Result
     ensures { WritesStyledOnOk W.write_str_gives f.old result (bytes (lossy (view_points view.entry))) f.new }
 {
@@ -28,8 +28,8 @@ fn write_lossy<W: fmt::Write>(view: Wtf8<'_>, f: &mut fmt::Formatter<W>) -> fmt:
     }
 }
 
-/// Writes the text with U+FFFD in place of each surrogate. Width, fill and precision apply if the string holds no
-/// surrogate, and are ignored otherwise. Does not allocate. Stops at the first error of the writer and returns it.
+/// Writes the text with U+FFFD in place of each surrogate. Width, fill, alignment and precision apply if the string
+/// holds no surrogate, and are ignored otherwise. Does not allocate. Stops at the writer's first error and returns it.
 impl<'a> fmt::Display for Wtf8<'a> {
     ghost output = { λ view. Some (bytes (lossy (view_points view))) };
 

@@ -115,7 +115,7 @@ pub(crate) fn read_point(v: &[u16], at: usize) -> (CodePoint, usize, bool)
         unreachable!()
     };
     match item {
-        // The unit is a surrogate, so a `char` is a pair.
+        // The unit is a surrogate, so the `char` is that of a pair: two units.
         Ok(character) => (CodePoint::from_char(character), at + 2, true),
         Err(surrogate) => (single(surrogate), at + 1, false),
     }

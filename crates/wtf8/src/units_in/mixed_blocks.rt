@@ -95,8 +95,8 @@ fn own_second_bytes(units: u16x8) -> u16x8
     marks + middle
 }
 
-/// As `own_second_bytes`, but for a lead byte 1 of its pair's four, and for a trail byte 3, which holds bits of the
-/// lead.
+/// As `own_second_bytes`, but for a lead the first of its pair's four bytes, and for a trail the third, which also
+/// holds bits of the lead.
 #[inline(always)]
 fn second_bytes(units: u16x8) -> u16x8
     ensures { result ≡ zip2 second_byte (0 ∷ units) units }
@@ -274,8 +274,9 @@ fn paired_units(v: &[u16], at: usize) -> Option<[u16; EIGHT]>
     None
 }
 
-/// Encodes units from index `at` on into a block, eight at a time, until fewer are left, one is a lone surrogate or the
-/// block has fewer than `SPARE` bytes left. Returns the index after the units and the number of bytes.
+/// Encodes units from index `at` on into a block, eight at a time, until fewer than eight are left, one of the next
+/// eight is a lone surrogate or the block has fewer than `SPARE` bytes left. Returns the index after the units and the
+/// number of bytes.
 #[inline(always)]
 fn write_blocks(v: &[u16], at: usize, block: &mut [u8]) -> (usize, usize)
     requires { at ≤ length v.now }
@@ -295,8 +296,9 @@ fn write_blocks(v: &[u16], at: usize, block: &mut [u8]) -> (usize, usize)
     (end, len)
 }
 
-/// Appends the bytes of units from index `at` on, eight at a time by a scratch buffer of `ROOM` bytes, until fewer are
-/// left, one is a lone surrogate or fewer than `SPARE` bytes of the buffer are left. Returns the next index.
+/// Appends the bytes of units from index `at` on, through a scratch buffer of `ROOM` bytes: eight units at a time,
+/// until fewer than eight are left, one of the next eight is a lone surrogate or fewer than `SPARE` bytes of the buffer
+/// are left. Returns the next index.
 #[inline(always)]
 pub(crate) fn append<const ROOM: usize, A: Allocator>(
     bytes: &mut Vec<u8, A>,

@@ -1,4 +1,4 @@
-// The shuffle table of the kernel in `mixed_blocks`, by the encoded lengths of four units.
+// The shuffle table of the kernel in `mixed_blocks`, indexed by the encoded lengths of four units.
 ghost use Rattle.std.specs.Prelude.{◌<◌, ◌≤◌};
 ghost use Rattle.wtf8.specs.private.UnitPieces.{IsRow, IsCounted};
 ghost use lib.Lanes.{Each1};

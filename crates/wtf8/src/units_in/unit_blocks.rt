@@ -1,6 +1,6 @@
-// Encodes a list of code units in steps, by the next units: an ASCII run of up to 32, 16 or 8 units and the code point
-// after it, blocks of the kernel in `mixed_blocks`, or one code point. `decode_utf16` decodes the last units: fewer
-// than 8, or fewer than 16 if there is a lone surrogate among the first 8 of them.
+// Encodes a list of code units in steps. What a step encodes depends on the next units: an ASCII run of up to 32, 16 or
+// 8 units and the code point after it, blocks of the kernel in `mixed_blocks`, or one code point. `decode_utf16`
+// decodes the last units: fewer than 8, or fewer than 16 if there is a lone surrogate among the first 8 of them.
 ghost use Rattle.std.specs.Prelude.{◌≡◌, ℕ, [], true, ◌+◌, ◌++◌, ◌^◌, ◌<◌, ◌≤◌, length, map, min, take, IfOk, IfSome, IsTrue, OnOk, IsOk};
 ghost use Rattle.wtf8.specs.private.UnitParts.{IsKnownForm, IsReadTo, AreAscii};
 
@@ -94,9 +94,9 @@ fn append_front<const N: usize, A: Allocator>(
     append_point(bytes, v, at + count, is_scalar)
 }
 
-/// Appends the bytes of the next units: an ASCII run of up to `FRONT` and the code point after it, blocks of eight by a
-/// scratch buffer of `ROOM` bytes, or one code point. Returns the next index, and whether no lone surrogate precedes
-/// it.
+/// Appends the bytes of the next units: an ASCII run of up to `FRONT` and the code point after it, blocks of eight
+/// through a scratch buffer of `ROOM` bytes, or one code point. Returns the next index, and whether no lone surrogate
+/// precedes it.
 #[inline(always)]
 fn append_part<const FRONT: usize, const ROOM: usize, A: Allocator>(
     bytes: &mut Vec<u8, A>,
@@ -164,8 +164,8 @@ fn append_small_block<A: Allocator>(
     Ok((end, is_scalar))
 }
 
-/// Appends the bytes of units from index `from` on while `HALF` or more are left and a block can be encoded. Returns
-/// the next index, and whether no lone surrogate precedes it.
+/// Appends the bytes of units from index `from` on until fewer than `HALF` are left, or fewer than `NUMBERS` and
+/// `append_small_block` cannot encode a block. Returns the next index, and whether no lone surrogate precedes it.
 #[inline(always)]
 fn append_few<A: Allocator>(
     bytes: &mut Vec<u8, A>,
@@ -193,7 +193,7 @@ fn append_few<A: Allocator>(
 
 /// Appends the bytes of all units from index `at` on. Returns whether the whole list holds no lone surrogate.
 ///
-/// `decode_utf16` joins each pair: no trail is appended directly after a lead, and none needs to be joined to one.
+/// `decode_utf16` joins each pair, so it yields no trail directly after a lead, and `append` has nothing to join.
 #[inline(always)]
 fn append_rest<A: Allocator>(
     bytes: &mut Vec<u8, A>,
