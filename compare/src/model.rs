@@ -110,7 +110,7 @@ impl Case {
         Ok(answer.outcome)
     }
 
-    /// Returns an error that says how the answer differs from the model's.
+    /// Returns an error that says how the outcome differs from the model's.
     fn check(&self, answer: &Answer) -> Result<(), String> {
         let done = match answer.outcome {
             Ok(_) => self.builds.len(),

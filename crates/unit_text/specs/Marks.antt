@@ -23,7 +23,7 @@ AreKept w u marks = (k : ℕ) (d : UnitMark) → k < length marks → IsKept w u
 abbrev pub AreAll : List ℕ → List ℕ → ℕ → Type 0
 AreAll w u count = (length w ≢ length u) → (n : ℕ) → n * spacing < length u → n ≤ count
 
--- The marks are as `AreKept` says and, unless memory was refused for one, there are as many as `AreAll` says.
+-- The marks are as `AreKept` says and, unless memory was refused for one, all that `AreAll` says are there.
 pub record AreMarks (w u : List ℕ) (marks : List UnitMark) (is_refused : Bool) : Type 0 where
   pub kept : AreKept w u marks
   pub all : is_refused ≡ false → AreAll w u (length marks)

@@ -38,7 +38,7 @@ const FEW: usize = 4 * VECTOR;
 /// Code points of one unit and `WIDTH` bytes each, of which `N` are decoded from a load of `BYTES` bytes.
 trait Kind<const N: usize, const WIDTH: usize, const BYTES: usize> {
     /// Decodes `N` code points as if all had `WIDTH` bytes. Returns their units, and how many of them at the front are
-    /// right: those before the first code point of another length.
+    /// right: the ones before the first code point of another length.
     fn read(bytes: &[u8]) -> ([u16; N], usize)
         requires { BYTES ≤ length bytes.now }
         ensures within { (result.1 ≤ N) × (result.1 ≤ WIDTH * result.1) × (WIDTH * result.1 ≤ BYTES) }
