@@ -50,6 +50,7 @@ pub fn apply_alike<A: Allocator>(
 }
 
 /// Applies two lists of calls, in order, as one list of both. Returns the number of refused truncations of each list.
+/// `done` of an error counts the calls of the list that stopped.
 pub fn apply_both<A: Allocator>(
     string: &mut Wtf8Buf<A>,
     first: &[Build<'_>],

@@ -1,5 +1,6 @@
 //! Strings that are joined and cut.
-ghost use Rattle.std.specs.Prelude.{◌≡◌, ℕ, List, ◌++◌, ◌+◌, ◌<◌, length, take, drop, slice_index, IfOk, OnOk, IsTrue};
+ghost use Rattle.std.specs.Prelude.{◌≡◌, ℕ, List, ◌++◌, ◌+◌, ◌<◌, length, take, drop, slice_index, IfOk, OnOk, OnErr, IsTrue};
+ghost use Rattle.wtf8.specs.Appending.{KeepsContents};
 ghost use Rattle.wtf8.specs.Building.{Append};
 ghost use Rattle.wtf8.specs.Concatenation.{MeetsAsPair};
 ghost use Rattle.wtf8.specs.Form.{IsForm};
@@ -53,12 +54,14 @@ fn first_slash(text: Wtf8<'_>) -> usize
 }
 
 /// Appends a string to another. The bytes are appended unchanged, unless `string` ends with a lead surrogate and
-/// `other` begins with a trail surrogate.
+/// `other` begins with a trail surrogate. If memory is refused, `string` is unchanged.
 pub fn append_string(
     string: &mut Wtf8Buf<Global>,
     other: &Wtf8Buf<Global>,
 ) -> Result<(), AllocError>
-    ensures { OnOk result (¬ (MeetsAsPair string.old.units other.now.units) → string.new.bytes ≡ string.old.bytes ++ other.now.bytes) }
+    ensures units { OnOk result (string.new.units ≡ string.old.units ++ other.now.units) }
+    ensures bytes { OnOk result (¬ (MeetsAsPair string.old.units other.now.units) → string.new.bytes ≡ string.old.bytes ++ other.now.bytes) }
+    ensures kept { OnErr result (KeepsContents string.old string.new) }
 {
     laws::law_joined_strings();
     string.push_wtf8(other.as_wtf8())
