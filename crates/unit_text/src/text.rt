@@ -1,8 +1,8 @@
 // Texts that are indexed by code units.
-ghost use Rattle.std.specs.Prelude.{◌≡◌, ◌↔◌, ◌≤◌, [], ◌∷◌, ◌++◌, length, take, drop, slice_get, None, IsNone, IfOk, IsOk, OnOk, OnErr};
+ghost use Rattle.std.specs.Prelude.{◌≡◌, ◌↔◌, ◌≤◌, [], ◌∷◌, ◌++◌, length, take, drop, slice_get, None, IsNone, IsTrue, IfOk, IsOk, OnOk, OnErr};
 ghost use Rattle.std.specs.Cmp.Lexicographic.{slice_cmp};
 ghost use Rattle.std.specs.Option.{option_to_list};
-ghost use Rattle.std.specs.Ordering.{MatchOrdering, nat_cmp};
+ghost use Rattle.std.specs.Ordering.{MatchOrdering, is_ge, is_gt, is_le, is_lt, nat_cmp};
 ghost use Rattle.wtf8.specs.Appending.{AppendsUnits, KeepsContents};
 ghost use Rattle.wtf8.specs.Order.{Before};
 ghost use Rattle.wtf8.specs.UnitPosition.{units_of_slice};
@@ -142,6 +142,12 @@ impl<A: Allocator> UnitText<A> {
     pub fn cmp_units(&self, other: &UnitText<A>) -> Ordering
         ensures value { result ≡ slice_cmp nat_cmp self.now other.now }
         ensures order { MatchOrdering result (Before self.now other.now) (self.now ≡ other.now) (Before other.now self.now) }
+
+        // What `is_lt`, `is_gt`, `is_le` and `is_ge` of the result return.
+        ensures less { IsTrue (is_lt result) ↔ Before self.now other.now }
+        ensures greater { IsTrue (is_gt result) ↔ Before other.now self.now }
+        ensures at_most { IsTrue (is_le result) ↔ ¬ (Before other.now self.now) }
+        ensures at_least { IsTrue (is_ge result) ↔ ¬ (Before self.now other.now) }
     {
         self.as_wtf8().cmp_units(&other.as_wtf8())
     }

@@ -3,6 +3,7 @@ use Rattle.std.specs.Prelude.{◌≡◌, ℕ, ◌+◌, ◌-◌, ◌≤◌, List,
 use Rattle.std.specs.Cmp.Lexicographic.{slice_cmp}
 use Rattle.std.specs.Ordering.{nat_cmp, MatchOrdering}
 use Rattle.std.specs.Str.{chars}
+use Rattle.std.specs.declared.cmp.Ordering.TheVariants.{Equal}
 use Rattle.wtf8.specs.Unicode.{pair}
 use Rattle.wtf8.specs.Appending.{FitWithin, HasRoomFor}
 use Rattle.wtf8.specs.Form.{encoding, bytes, IsClean, IsForm}
@@ -39,6 +40,14 @@ StringsArePaired = (s t both : UnitString) → both.units ≡ s.units ++ t.units
 -- Comparing the bytes of two lists of code points gives the result of comparing the lists.
 abbrev pub BytesCompareAsPoints : Type 0
 BytesCompareAsPoints = (c d : List ℕ) → slice_cmp nat_cmp (bytes c) (bytes d) ≡ slice_cmp nat_cmp c d
+
+-- Comparing the bytes of two buffers gives `Equal` if and only if their units are equal.
+abbrev pub EqualBuffersCompareEqual : Type 0
+EqualBuffersCompareEqual = (s t : UnitString) → (slice_cmp nat_cmp s.bytes t.bytes ≡ Equal) ↔ (s.units ≡ t.units)
+
+-- Comparing the bytes of two views gives `Equal` if and only if their units are equal.
+abbrev pub EqualViewsCompareEqual : Type 0
+EqualViewsCompareEqual = (s t : Wtf8) → (slice_cmp nat_cmp s.bytes.now t.bytes.now ≡ Equal) ↔ (view_units s ≡ view_units t)
 
 -- The result of a lexicographic comparison says which list is `Before` the other, or that they are equal.
 abbrev pub ComparisonIsOrder : Type 0

@@ -1,12 +1,15 @@
 // Laws of the encoding: functions that do nothing, whose contracts are theorems. `CALLING.md` says how they are used.
 #![tactic(auto, using(crate::proofs::lemmas::laws::ViewLaws::laws))]
 
-ghost use Rattle.std.specs.List.{All};
-ghost use Rattle.std.specs.Prelude.{◌≡◌, ◌≢◌, ◌<◌, ◌≤◌, ◌+◌, ◌-◌, ◌*◌, ◌^◌, ℕ, List, ◌∷◌, ◌++◌, length, take, drop, slice_index, ◌↔◌};
+ghost use Rattle.std.specs.Cmp.Lexicographic.{slice_cmp};
+ghost use Rattle.std.specs.List.{All, HoldsAt};
+ghost use Rattle.std.specs.List.Sorted.{IsBinarySearchResult, IsSorted};
+ghost use Rattle.std.specs.Ordering.{nat_cmp, on};
+ghost use Rattle.std.specs.Prelude.{◌≡◌, ◌≢◌, ◌<◌, ◌≤◌, ◌+◌, ◌-◌, ◌*◌, ◌^◌, ℕ, List, ◌∷◌, ◌++◌, length, take, drop, slice_index, Err, ◌↔◌};
 ghost use Rattle.std.specs.Str.{chars};
 ghost use Rattle.wtf8.specs.Laws.{UnitsHaveOneReading, ReadingsAreOfUnits, UnitsHaveOneForm, FormsAreOfOneList, EqualFormsHaveEqualUnits, NoEncodingBeginsAnother, BytesBeginWithOnePoint, EqualBytesAreOfEqualPoints, ByteOrderIsPointOrder, GlueMakesPair, GlueKeepsOthers, GlueReadsBoth, GlueFormsBoth, PairFormsBoth, OthersFormBoth, GlueIsAssociative, EmptyFrontIsNeutral, EmptyBackIsNeutral, FrontAndBackAreWhole, FirstUnitsAndRestAreWhole};
 ghost use Rattle.wtf8.specs.PositionLaws.{StartIsBoundary, EndIsBoundary, NoneIsBeyondEnd, AsciiStandsAlone, AsciiIsOneUnit, AsciiIsNoOtherUnit, FrontBoundariesAreOfWhole, WholeBoundariesAreOfFront, WholeBoundariesAreOfBack, BackBoundariesAreOfWhole, BeginningsAreNoLonger, BothAreNoLonger, PointsHaveOneToFourBytes, ListsHaveLengths};
-ghost use Rattle.wtf8.specs.StringLaws.{EqualBuffersHaveEqualUnits, EqualBufferAndViewHaveEqualUnits, EqualViewsHaveEqualUnits, StringsAreJoined, StringsArePaired, BytesCompareAsPoints, ComparisonIsOrder, RoomLeftIsFound, ScalarsStay, FormsAreOfBuffers, FormsAreOfViews, WhatFitsIsFound, CharactersComeBack};
+ghost use Rattle.wtf8.specs.StringLaws.{EqualBuffersHaveEqualUnits, EqualBufferAndViewHaveEqualUnits, EqualViewsHaveEqualUnits, StringsAreJoined, StringsArePaired, BytesCompareAsPoints, EqualBuffersCompareEqual, EqualViewsCompareEqual, ComparisonIsOrder, RoomLeftIsFound, ScalarsStay, FormsAreOfBuffers, FormsAreOfViews, WhatFitsIsFound, CharactersComeBack};
 ghost use Rattle.wtf8.specs.Building.{CallsRunOnce, RunsAddUp, Run};
 ghost use Rattle.wtf8.specs.CodePoint.{number};
 ghost use Rattle.wtf8.specs.Form.{Reads, bytes, encoding};
@@ -19,9 +22,12 @@ ghost use Rattle.wtf8.specs.UnitPosition.{DividesPair};
 ghost use Rattle.wtf8.specs.View.{view_points, view_units};
 
 use crate::numbers::code_point::CodePoint;
+use crate::strings::buf::Wtf8Buf;
 use crate::strings::build::Build;
 use crate::strings::unit_marks::UnitMark;
 use crate::strings::view::Wtf8;
+use std::alloc::Allocator;
+use std::cmp::Ordering;
 
 /// Each list of 16-bit units has exactly one reading: a list of code points with these units, in which no lead
 /// surrogate is directly before a trail surrogate. Only lists of 16-bit units have a reading.
@@ -45,12 +51,22 @@ pub fn law_prefix_free()
 {}
 
 /// Byte order is code point order: two lists of code points are equal, or one comes before the other, if and only if
-/// the same is true of their bytes. The standard library's comparison of slices gives this order for both.
+/// the same is true of their bytes. The standard library's comparison of slices gives this order for both, and `Equal`
+/// for two buffers or two views if and only if their units are equal.
 pub fn law_byte_order()
     ensures same { EqualBytesAreOfEqualPoints }
     ensures before { ByteOrderIsPointOrder }
     ensures compares { BytesCompareAsPoints }
     ensures order { ComparisonIsOrder }
+    ensures equal_buffers { EqualBuffersCompareEqual }
+    ensures equal_views { EqualViewsCompareEqual }
+{}
+
+/// What `binary_search` for `string` in a table that `sort` sorted says of units: at an index that it finds is a buffer
+/// with the units of `string`, and if it finds none, no buffer of the table has these units.
+pub fn law_binary_search<A: Allocator>(table: &[Wtf8Buf<A>], string: &Wtf8Buf<A>)
+    ensures found { (i : ℕ) → HoldsAt (λ s. slice_cmp nat_cmp s.bytes string.now.bytes ≡ Ordering.Equal) table.now i → HoldsAt (λ s. s.units ≡ string.now.units) table.now i }
+    ensures absent { (i : ℕ) → IsSorted (on (λ s. s.bytes) (slice_cmp nat_cmp)) table.now → IsBinarySearchResult (λ s. slice_cmp nat_cmp s.bytes string.now.bytes) table.now (Err i) → All (λ s. s.units ≢ string.now.units) table.now }
 {}
 
 /// The form of two concatenated lists of units is the concatenation of their forms, unless a lead surrogate ends the

@@ -1,6 +1,8 @@
 // The order of strings by their 16-bit code units.
+#![tactic(auto, using(crate::proofs::lemmas::comparing::Order::ordered, crate::proofs::lemmas::comparing::Order::less_test, crate::proofs::lemmas::comparing::Order::greater_test, crate::proofs::lemmas::comparing::Order::at_most_test, crate::proofs::lemmas::comparing::Order::at_least_test))]
+
 ghost use Rattle.std.specs.Cmp.Lexicographic.{slice_cmp};
-ghost use Rattle.std.specs.Ordering.{MatchOrdering, nat_cmp};
+ghost use Rattle.std.specs.Ordering.{MatchOrdering, is_ge, is_gt, is_le, is_lt, nat_cmp};
 ghost use Rattle.std.specs.Prelude.{◌≡◌, ◌↔◌, IsTrue};
 ghost use Rattle.wtf8.specs.private.Differences.{PairBegins};
 ghost use Rattle.wtf8.specs.Order.{Before};
@@ -25,6 +27,19 @@ fn cmp_one_by_one(own: Wtf8<'_>, others: Wtf8<'_>) -> Ordering
     own.to_ill_formed_utf16().cmp(others.to_ill_formed_utf16())
 }
 
+/// The order of two strings by code units: that of the bytes at the first mismatch, unless a code point of two units
+/// begins there in one string alone. A lead surrogate is less than the units E000 to FFFF, although its byte is greater.
+#[inline(always)]
+fn cmp_by_units(own: Wtf8<'_>, others: Wtf8<'_>) -> Ordering
+    ensures { result ≡ slice_cmp nat_cmp (view_units own.entry) (view_units others.entry) }
+{
+    let at = first_difference(own.bytes, others.bytes);
+    if pair_begins(own.bytes, at) == pair_begins(others.bytes, at) {
+        return byte_at(own.bytes, at).cmp(&byte_at(others.bytes, at));
+    }
+    cmp_one_by_one(own.slice_from(at), others.slice_from(at))
+}
+
 impl<'a> Wtf8<'a> {
     /// Compares by 16-bit code units, as ECMAScript compares strings: the first units that differ decide, and a prefix
     /// comes before the longer string. `cmp` compares by code points instead.
@@ -32,11 +47,13 @@ impl<'a> Wtf8<'a> {
         ensures value { result ≡ slice_cmp nat_cmp (view_units self.now) (view_units other.now) }
         ensures order { let own = view_units self.now in let others = view_units other.now in
             MatchOrdering result (Before own others) (own ≡ others) (Before others own) }
+
+        // What `is_lt`, `is_gt`, `is_le` and `is_ge` of the result return.
+        ensures less { IsTrue (is_lt result) ↔ Before (view_units self.now) (view_units other.now) }
+        ensures greater { IsTrue (is_gt result) ↔ Before (view_units other.now) (view_units self.now) }
+        ensures at_most { IsTrue (is_le result) ↔ ¬ (Before (view_units other.now) (view_units self.now)) }
+        ensures at_least { IsTrue (is_ge result) ↔ ¬ (Before (view_units self.now) (view_units other.now)) }
     {
-        let at = first_difference(self.bytes, other.bytes);
-        if pair_begins(self.bytes, at) == pair_begins(other.bytes, at) {
-            return byte_at(self.bytes, at).cmp(&byte_at(other.bytes, at));
-        }
-        cmp_one_by_one(self.slice_from(at), other.slice_from(at))
+        cmp_by_units(*self, *other)
     }
 }

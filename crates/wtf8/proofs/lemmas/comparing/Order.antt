@@ -7,6 +7,7 @@ use Rattle.wtf8.proofs.Common.{take-append-drop, slice_get, option_cmp, Nowhere,
 use Rattle.wtf8.proofs.lemmas.lanes.Differences.{same_front}
 use Rattle.std.proofs.lemmas.Cmp.{nat_list_cmp_total}
 use Rattle.std.specs.Bool.{beq}
+use Rattle.std.specs.Ordering.{is_ge, is_gt, is_le, is_lt}
 use Rattle.wtf8.proofs.lemmas.numbers.Encoding.{row_of, one, two, three, four, encoding_same, length-encoding_bounds}
 use Rattle.wtf8.proofs.lemmas.numbers.Readings.{same_reading, units-cons_one, units-cons_two, units-append}
 use Rattle.wtf8.proofs.lemmas.strings.Positions.{cut_at, boundary_from_byte, points_behind}
@@ -40,6 +41,11 @@ pub cmp_behind : (f c d : List ℕ) → slice_cmp nat_cmp (f ++ c) (f ++ d) ≡ 
 cmp_behind [] c d = refl
 cmp_behind (x ∷ f) c d = ap (λ o. ordering_then o (slice_cmp nat_cmp (f ++ c) (f ++ d))) (cmp_same x) ∙ cmp_behind f c d
 
+-- a list compares as `Equal` with itself
+pub cmp_self : (c : List ℕ) → slice_cmp nat_cmp c c ≡ Equal
+cmp_self [] = refl
+cmp_self (x ∷ c) = cmp_behind (x ∷ []) c c ∙ cmp_self c
+
 with_first : (x y : ℕ) (xs ys : List ℕ) → x ≡ y → (o : Ordering) → MatchOrdering o (Before xs ys) (xs ≡ ys) (Before ys xs)
     → MatchOrdering o (Before (x ∷ xs) (y ∷ ys)) (x ∷ xs ≡ y ∷ ys) (Before (y ∷ ys) (x ∷ xs))
 with_first x y xs ys e Less h = inr (e, h)
@@ -65,6 +71,27 @@ ordered o c d e =
 
 pub before_of : (c d : List ℕ) → slice_cmp nat_cmp c d ≡ Less → Before c d
 before_of c d e = ordered Less c d (sym e)
+
+-- what the four tests of a comparison's result say
+pub less_test : (o : Ordering) (c d : List ℕ) → o ≡ slice_cmp nat_cmp c d → IsTrue (is_lt o) ↔ Before c d
+less_test Less c d e = (λ _. ordered Less c d e, λ _. refl)
+less_test Equal c d e = (λ t. absurd (false≢true t), λ h. absurd (false≢true (ap is_lt (e ∙ less_of c d h))))
+less_test Greater c d e = (λ t. absurd (false≢true t), λ h. absurd (false≢true (ap is_lt (e ∙ less_of c d h))))
+
+pub greater_test : (o : Ordering) (c d : List ℕ) → o ≡ slice_cmp nat_cmp c d → IsTrue (is_gt o) ↔ Before d c
+greater_test Less c d e = (λ t. absurd (false≢true t), λ h. absurd (false≢true (ap is_gt (e ∙ greater_of c d h))))
+greater_test Equal c d e = (λ t. absurd (false≢true t), λ h. absurd (false≢true (ap is_gt (e ∙ greater_of c d h))))
+greater_test Greater c d e = (λ _. ordered Greater c d e, λ _. refl)
+
+pub at_most_test : (o : Ordering) (c d : List ℕ) → o ≡ slice_cmp nat_cmp c d → IsTrue (is_le o) ↔ ¬ (Before d c)
+at_most_test Less c d e = (λ _ h. false≢true (ap is_gt (e ∙ greater_of c d h)), λ _. refl)
+at_most_test Equal c d e = (λ _ h. false≢true (ap is_gt (e ∙ greater_of c d h)), λ _. refl)
+at_most_test Greater c d e = (λ t. absurd (false≢true t), λ n. absurd (n (ordered Greater c d e)))
+
+pub at_least_test : (o : Ordering) (c d : List ℕ) → o ≡ slice_cmp nat_cmp c d → IsTrue (is_ge o) ↔ ¬ (Before c d)
+at_least_test Less c d e = (λ t. absurd (false≢true t), λ n. absurd (n (ordered Less c d e)))
+at_least_test Equal c d e = (λ _ h. false≢true (ap is_lt (e ∙ less_of c d h)), λ _. refl)
+at_least_test Greater c d e = (λ _ h. false≢true (ap is_lt (e ∙ less_of c d h)), λ _. refl)
 
 -- Encodings compare byte by byte as their code points compare.
 
