@@ -4,6 +4,7 @@
 mod comparisons;
 mod debug_text;
 mod marks;
+mod slices;
 mod text;
 
 pub use text::UnitText;

@@ -1,19 +1,19 @@
 // Texts that are indexed by code units.
 ghost use Rattle.std.specs.Prelude.{◌≡◌, ◌↔◌, ◌≤◌, [], ◌∷◌, ◌++◌, length, take, drop, slice_get, None, IsNone, IsTrue, IfOk, IsOk, OnOk, OnErr};
 ghost use Rattle.std.specs.Cmp.Lexicographic.{slice_cmp};
-ghost use Rattle.std.specs.Option.{option_to_list};
+ghost use Rattle.std.specs.Str.{chars};
 ghost use Rattle.std.specs.Ordering.{MatchOrdering, is_ge, is_gt, is_le, is_lt, nat_cmp};
-ghost use Rattle.wtf8.specs.Appending.{AppendsUnits, KeepsContents};
 ghost use Rattle.wtf8.specs.Order.{Before};
-ghost use Rattle.wtf8.specs.UnitPosition.{units_of_slice};
+ghost use Rattle.wtf8.specs.Unicode.{units};
 ghost use Rattle.wtf8.specs.View.{view_points, view_units};
 ghost use Rattle.unit_text.specs.Reading.{reading};
 
 use crate::marks::{self, Marks};
+use crate::slices::{self, push_unit};
 use std::alloc::{AllocError, Allocator};
 use std::cmp::Ordering;
 use std::marker::Model;
-use wtf8::{CodePoint, UnitSlice, Wtf8, Wtf8Buf, laws};
+use wtf8::{Wtf8, Wtf8Buf, laws};
 
 /// A text that is counted, cut and compared by its 16-bit units, as ECMAScript counts a string. It may hold any units,
 /// and is stored as WTF-8 with its number of units. `mark_units` adds marks, from which a unit is found without
@@ -54,8 +54,37 @@ impl<A: Allocator> UnitText<A> {
         })
     }
 
+    /// Copies a `&str`. An empty one does not allocate.
+    pub fn from_str(alloc: A, value: &str) -> Result<UnitText<A>, AllocError>
+        ensures ok { IfOk result (λ t. t ≡ units (chars value.now)) }
+        ensures empty { value.now ≡ [] → IsOk result }
+    {
+        let text = Wtf8Buf::from_str(alloc, value)?;
+        Ok(UnitText::from_wtf8(text))
+    }
+
+    /// Takes over a string without copying it, and counts its code units. Does not allocate.
+    pub fn from_wtf8(text: Wtf8Buf<A>) -> UnitText<A>
+        ensures { result ≡ text.units }
+    {
+        let count = text.as_wtf8().unit_len();
+        UnitText {
+            text,
+            count,
+            marks: None,
+        }
+    }
+
+    /// Returns the string with the text's code units, without copying it. Does not allocate.
+    pub fn into_wtf8(self) -> Wtf8Buf<A>
+        ensures { result.units ≡ self }
+    {
+        let UnitText { text, .. } = self;
+        text
+    }
+
     /// Keeps marks of the text, allocated by `alloc`, so that `unit_at` and `slice_units` need not count from the
-    /// front; from then on `push` and `concat` add marks of what they append. If memory for a mark is refused,
+    /// front; from then on each call that appends adds marks of what it appends. If memory for a mark is refused,
     /// it and those after it are missing, and units there are found more slowly, until a later `push` or `concat` can
     /// add them. A short text or an ASCII text needs none.
     pub fn mark_units(&mut self, alloc: A)
@@ -99,7 +128,7 @@ impl<A: Allocator> UnitText<A> {
     {
         let count = end - begin;
         let slice = marks::units_from(&self.text, self.count, &self.marks, begin, count);
-        let text = copied(alloc, slice)?;
+        let text = slices::copied(alloc, slice)?;
         Ok(UnitText {
             text,
             count,
@@ -129,12 +158,55 @@ impl<A: Allocator> UnitText<A> {
         ensures err { OnErr result (self.new ≡ self.old) }
         ensures empty { other.now ≡ [] → IsOk result }
     {
-        self.text.push_wtf8(other.as_wtf8())?;
+        self.append(other.as_wtf8(), other.count)
+    }
+
+    /// Appends the characters of a `&str`. If memory is refused, the text is unchanged; an empty `other` is never
+    /// refused.
+    pub fn push_str(&mut self, other: &str) -> Result<(), AllocError>
+        ensures ok { OnOk result (self.new ≡ self.old ++ units (chars other.now)) }
+        ensures err { OnErr result (self.new ≡ self.old) }
+        ensures empty { other.now ≡ [] → IsOk result }
+    {
+        self.push_wtf8(Wtf8::from_str(other))
+    }
+
+    /// Appends the code units of a string, and counts them. A trail surrogate at its front completes a lead at the end
+    /// of the text. If memory is refused, the text is unchanged; an empty `other` is never refused.
+    pub fn push_wtf8(&mut self, other: Wtf8<'_>) -> Result<(), AllocError>
+        ensures ok { OnOk result (self.new ≡ self.old ++ view_units other.entry) }
+        ensures err { OnErr result (self.new ≡ self.old) }
+        ensures empty { view_units other.entry ≡ [] → IsOk result }
+    {
+        self.append(other, other.unit_len())
+    }
+
+    /// Appends a string of `count` code units.
+    fn append(&mut self, other: Wtf8<'_>, count: usize) -> Result<(), AllocError>
+        requires { count ≡ length (view_units other) }
+        ensures ok { OnOk result (self.new ≡ self.old ++ view_units other.entry) }
+        ensures err { OnErr result (self.new ≡ self.old) }
+        ensures empty { view_units other.entry ≡ [] → IsOk result }
+    {
+        self.text.push_wtf8(other)?;
         laws::law_marks();
         prove!(self.text.len() <= usize::MAX);
-        self.count += other.count;
+        self.count += count;
         marks::add_to_kept(&self.text, self.count, &mut self.marks);
         Ok(())
+    }
+
+    /// Whether the code units from index `position` on begin with those of `other`. An empty `other` is found
+    /// everywhere, also past the end. Compares bytes, unless an end of the compared part splits a surrogate pair.
+    pub fn starts_with_at<B: Allocator>(&self, position: usize, other: &UnitText<B>) -> bool
+        ensures { IsTrue result ↔ (take (length other.now) (drop position self.now) ≡ other.now) }
+    {
+        let begin = position.min(self.count);
+        if self.count - begin < other.count {
+            return false;
+        }
+        let part = marks::units_from(&self.text, self.count, &self.marks, begin, other.count);
+        slices::has_units(part, other.as_wtf8())
     }
 
     /// Compares by code units, as ECMAScript compares strings: the first units that differ decide, and a prefix comes
@@ -161,37 +233,4 @@ impl<A: Allocator> UnitText<A> {
         laws::law_concat();
         self.text.as_wtf8()
     }
-}
-
-/// Copies a slice to a new string. Does not allocate if the slice is empty.
-fn copied<A: Allocator>(alloc: A, slice: UnitSlice<'_>) -> Result<Wtf8Buf<A>, AllocError>
-    ensures ok { IfOk result (λ text. text.units ≡ units_of_slice slice.entry) }
-    ensures empty { units_of_slice slice.entry ≡ [] → IsOk result }
-{
-    let mut text = Wtf8Buf::new(alloc);
-    push_half(&mut text, slice.trail)?;
-    text.push_wtf8(slice.whole)?;
-    push_half(&mut text, slice.lead)?;
-    Ok(text)
-}
-
-/// Appends half of a surrogate pair, if there is one.
-#[inline(always)]
-fn push_half<A: Allocator>(text: &mut Wtf8Buf<A>, half: Option<u16>) -> Result<(), AllocError>
-    ensures ok { OnOk result (text.new.units ≡ text.old.units ++ option_to_list half) }
-    ensures none { half ≡ None → IsOk result }
-{
-    match half {
-        Some(unit) => push_unit(text, unit),
-        None => Ok(()),
-    }
-}
-
-/// Appends a code unit.
-#[inline(always)]
-fn push_unit<A: Allocator>(text: &mut Wtf8Buf<A>, unit: u16) -> Result<(), AllocError>
-    ensures ok { OnOk result (AppendsUnits text.old (unit ∷ []) text.new) }
-    ensures kept { OnErr result (KeepsContents text.old text.new) }
-{
-    text.push(CodePoint::from_u32_unchecked(u32::from(unit)))
 }

@@ -4,7 +4,11 @@
 #[cfg(test)]
 mod comparing;
 #[cfg(test)]
+mod conversions;
+#[cfg(test)]
 mod cutting;
+#[cfg(test)]
+mod finding;
 #[cfg(test)]
 mod lengths;
 #[cfg(test)]

@@ -55,7 +55,7 @@ fn appended(alloc: Global, front: &[u16], back: &[u16]) -> Result<UnitText<Globa
 }
 
 /// Two lists of units, and the units and bytes of the text of both.
-fn appended_rows() -> [(&'static [u16], &'static [u16], &'static [u16], &'static str); 3] {
+pub fn appended_rows() -> [(&'static [u16], &'static [u16], &'static [u16], &'static str); 3] {
     [
         (
             &[0x0061, 0xD83D],

@@ -1,10 +1,11 @@
 //! Binary search in a table of strings sorted by code points.
-ghost use Rattle.std.specs.Prelude.{◌≡◌, IfOk, IfErr};
+ghost use Rattle.std.specs.Prelude.{◌≡◌, ◌≢◌, All, IfOk, IfErr, IfSome, IfNone};
 ghost use Rattle.std.specs.Cmp.Lexicographic.{slice_cmp};
 ghost use Rattle.std.specs.List.{HoldsAt};
-ghost use Rattle.std.specs.List.Sorted.{IsPartitionPoint};
-ghost use Rattle.std.specs.Ordering.{nat_cmp};
+ghost use Rattle.std.specs.List.Sorted.{IsPartitionPoint, IsSorted};
+ghost use Rattle.std.specs.Ordering.{nat_cmp, on};
 ghost use Rattle.wtf8.specs.Order.{Before};
+ghost use Rattle.wtf8.specs.UnitString.{UnitString};
 ghost use Rattle.wtf8.specs.View.{view_points, view_units};
 ghost use Rattle.wtf8_uses.specs.Sorted.{AreInPointOrder};
 
@@ -32,6 +33,19 @@ pub fn place_of_view<A: Allocator>(table: &[Wtf8Buf<A>], view: Wtf8<'_>) -> Resu
     match table.binary_search_by(|string| order(string, view)) {
         Ok(place) => Ok(place),
         Err(place) => Err(place),
+    }
+}
+
+/// The index of a string in a table that `sort` sorted, or `None` if no string of the table has its units.
+pub fn index_in<A: Allocator>(table: &[Wtf8Buf<A>], string: &Wtf8Buf<A>) -> Option<usize>
+    requires { IsSorted (on (λ (s : UnitString). s.bytes) (slice_cmp nat_cmp)) table.now }
+    ensures some { IfSome result (HoldsAt (λ s. s.units ≡ string.now.units) table.now) }
+    ensures none { IfNone result (All (λ s. s.units ≢ string.now.units) table.now) }
+{
+    laws::law_binary_search(table, string);
+    match table.binary_search(string) {
+        Ok(index) => Some(index),
+        Err(_) => None,
     }
 }
 

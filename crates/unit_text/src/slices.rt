@@ -1,0 +1,66 @@
+// Slices of units, copied and compared.
+ghost use Rattle.std.specs.Option.{option_to_list};
+ghost use Rattle.std.specs.Prelude.{◌≡◌, ◌↔◌, [], ◌∷◌, ◌++◌, None, IfOk, IsOk, IsTrue, OnOk, OnErr};
+ghost use Rattle.wtf8.specs.Appending.{AppendsUnits, KeepsContents};
+ghost use Rattle.wtf8.specs.UnitPosition.{units_of_slice};
+ghost use Rattle.wtf8.specs.View.{view_units};
+
+use std::alloc::{AllocError, Allocator};
+use wtf8::{CodePoint, UnitSlice, Wtf8, Wtf8Buf};
+
+/// Copies a slice to a new string. Does not allocate if the slice is empty.
+pub(crate) fn copied<A: Allocator>(alloc: A, slice: UnitSlice<'_>) -> Result<Wtf8Buf<A>, AllocError>
+    ensures ok { IfOk result (λ text. text.units ≡ units_of_slice slice.entry) }
+    ensures empty { units_of_slice slice.entry ≡ [] → IsOk result }
+{
+    let mut text = Wtf8Buf::new(alloc);
+    push_half(&mut text, slice.trail)?;
+    text.push_wtf8(slice.whole)?;
+    push_half(&mut text, slice.lead)?;
+    Ok(text)
+}
+
+/// Appends half of a surrogate pair, if there is one.
+#[inline(always)]
+fn push_half<A: Allocator>(text: &mut Wtf8Buf<A>, half: Option<u16>) -> Result<(), AllocError>
+    ensures ok { OnOk result (text.new.units ≡ text.old.units ++ option_to_list half) }
+    ensures none { half ≡ None → IsOk result }
+{
+    match half {
+        Some(unit) => push_unit(text, unit),
+        None => Ok(()),
+    }
+}
+
+/// Appends a code unit.
+#[inline(always)]
+pub(crate) fn push_unit<A: Allocator>(text: &mut Wtf8Buf<A>, unit: u16) -> Result<(), AllocError>
+    ensures ok { OnOk result (AppendsUnits text.old (unit ∷ []) text.new) }
+    ensures kept { OnErr result (KeepsContents text.old text.new) }
+{
+    text.push(CodePoint::from_u32_unchecked(u32::from(unit)))
+}
+
+/// Whether a slice has the code units of `other`. Compares bytes, unless an end of the slice splits a surrogate pair.
+pub(crate) fn has_units(slice: UnitSlice<'_>, other: Wtf8<'_>) -> bool
+    ensures { IsTrue result ↔ (units_of_slice slice.entry ≡ view_units other.entry) }
+{
+    match slice {
+        UnitSlice {
+            trail: None,
+            whole,
+            lead: None,
+        } => whole == other,
+        _ => has_units_one_by_one(slice, other),
+    }
+}
+
+/// Whether a slice has the code units of `other`, compared one by one.
+#[inline(never)]
+fn has_units_one_by_one(slice: UnitSlice<'_>, other: Wtf8<'_>) -> bool
+    ensures { IsTrue result ↔ (units_of_slice slice.entry ≡ view_units other.entry) }
+{
+    let rest = slice.whole.to_ill_formed_utf16().chain(slice.lead);
+    let units = slice.trail.into_iter().chain(rest);
+    units.cmp(other.to_ill_formed_utf16()).is_eq()
+}
