@@ -3,7 +3,7 @@
 
 use crate::generate::{from_units, registers};
 use crate::long::{byte_len, changed, changed_at, on, string_in, with_surrogate_at, BASES};
-use crate::script::{Call, Operand};
+use crate::script::{Call, Opcode, Operand};
 
 /// Lengths in bytes about the ends of blocks.
 const ABOUT_BLOCKS: [usize; 9] = [127, 128, 129, 255, 256, 257, 511, 512, 513];
@@ -51,7 +51,7 @@ pub fn debug_texts() -> Vec<Vec<Call>> {
         let mut calls = Vec::new();
         for place in 0..units.len() {
             calls.extend(string_in(0, &changed(units, &[(place, 0xDBFF)])));
-            calls.extend(on(0, &["debug"]));
+            calls.extend(on(0, &[Opcode::Debug]));
         }
         calls
     })
@@ -61,7 +61,7 @@ pub fn debug_texts() -> Vec<Vec<Call>> {
 pub fn positions() -> Vec<Vec<Call>> {
     about_blocks(|units| {
         let mut calls = string_in(0, units);
-        calls.extend(on(0, &["boundaries"]));
+        calls.extend(on(0, &[Opcode::Boundaries]));
         for position in 0..=usize::from(byte_len(units)) + 1 {
             calls.extend(at_position(position));
         }
@@ -74,11 +74,11 @@ fn at_position(position: usize) -> Vec<Call> {
     let place = || Operand::Number(position as u16);
     let (zero, one) = (|| Operand::Register(0), || Operand::Register(1));
     vec![
-        registers("clone", 1, 0),
-        Call::new("truncate", vec![one(), place()]),
-        Call::new("slice_from", vec![one(), zero(), place()]),
-        Call::new("slice_to", vec![one(), zero(), place()]),
-        Call::new("ascii_byte_at", vec![zero(), place()]),
+        registers(Opcode::Clone, 1, 0),
+        Call::new(Opcode::Truncate, vec![one(), place()]),
+        Call::new(Opcode::SliceFrom, vec![one(), zero(), place()]),
+        Call::new(Opcode::SliceTo, vec![one(), zero(), place()]),
+        Call::new(Opcode::AsciiByteAt, vec![zero(), place()]),
     ]
 }
 
@@ -124,7 +124,7 @@ fn made_and_appended(units: &[u16], before: &[u16]) -> [Call; 2] {
     let before = Operand::Units(before.to_vec());
     [
         from_units(0, units),
-        Call::new("append_units", vec![Operand::Register(0), before]),
+        Call::new(Opcode::AppendUnits, vec![Operand::Register(0), before]),
     ]
 }
 
@@ -140,20 +140,23 @@ pub fn texts_of_each_length() -> Vec<Vec<Call>> {
 
 fn text_calls(units: &[u16]) -> Vec<Call> {
     let text = || Operand::Text(String::from_utf16_lossy(units));
-    let mut calls = vec![Call::new("Wtf8::from_str", vec![text()])];
-    for name in ["from_str", "from_string"] {
-        calls.push(Call::new(name, vec![Operand::Register(0), text()]));
+    let mut calls = vec![Call::new(Opcode::ViewFromStr, vec![text()])];
+    for opcode in [Opcode::FromStr, Opcode::FromString] {
+        calls.push(Call::new(opcode, vec![Operand::Register(0), text()]));
     }
     for front in [&[][..], &[0x61], &[0xD83D]] {
         calls.push(from_units(1, front));
-        calls.push(Call::new("push_str", vec![Operand::Register(1), text()]));
+        calls.push(Call::new(
+            Opcode::PushStr,
+            vec![Operand::Register(1), text()],
+        ));
         calls.push(from_units(2, front));
-        calls.push(registers("push_wtf8", 2, 0));
-        calls.push(registers("comparisons", 1, 2));
-        calls.extend(on(1, &["as_str", "hash"]));
+        calls.push(registers(Opcode::PushWtf8, 2, 0));
+        calls.push(registers(Opcode::Comparisons, 1, 2));
+        calls.extend(on(1, &[Opcode::AsStr, Opcode::Hash]));
     }
-    calls.push(registers("clone", 2, 0));
-    calls.extend(on(2, &["into_string"]));
+    calls.push(registers(Opcode::Clone, 2, 0));
+    calls.extend(on(2, &[Opcode::IntoString]));
     calls
 }
 
@@ -167,14 +170,14 @@ pub fn far() -> Vec<Vec<Call>> {
             for position in far - 1..=far + 2 {
                 calls.extend(at_position(position));
             }
-            calls.extend(on(0, &["to_string_lossy", "hash"]));
-            calls.push(registers("clone", 1, 0));
+            calls.extend(on(0, &[Opcode::ToStringLossy, Opcode::Hash]));
+            calls.push(registers(Opcode::Clone, 1, 0));
             calls.push(Call::new(
-                "push",
+                Opcode::Push,
                 vec![Operand::Register(1), Operand::Value(0xDC00)],
             ));
-            calls.push(registers("comparisons", 0, 1));
-            calls.push(registers("cmp_units", 1, 0));
+            calls.push(registers(Opcode::Comparisons, 0, 1));
+            calls.push(registers(Opcode::CmpUnits, 1, 0));
             scripts.push(calls);
         }
     }
@@ -187,11 +190,11 @@ fn string_of_far_bytes(units: &[u16]) -> Vec<Call> {
     for doubled in 0..8 {
         // 256 copies by doubling, and the four of register 2 at the end.
         if doubled == 2 {
-            calls.push(registers("clone", 2, 0));
+            calls.push(registers(Opcode::Clone, 2, 0));
         }
-        calls.push(registers("clone", 1, 0));
-        calls.push(registers("push_wtf8", 0, 1));
+        calls.push(registers(Opcode::Clone, 1, 0));
+        calls.push(registers(Opcode::PushWtf8, 0, 1));
     }
-    calls.push(registers("push_wtf8", 0, 2));
+    calls.push(registers(Opcode::PushWtf8, 0, 2));
     calls
 }

@@ -1,7 +1,7 @@
 //! Lists of building calls, and of code points under false size hints.
 
 use crate::generate::from_units;
-use crate::script::{Build, Call, Operand, UNBOUNDED};
+use crate::script::{Build, Call, Opcode, Operand, UNBOUNDED};
 
 /// Lower size hints, false and true.
 const HINTS: [u16; 6] = [0, 1, 2, 5, 7, 1000];
@@ -61,11 +61,11 @@ fn calls_of(list: &[Build]) -> Vec<Call> {
     for start in [&[0xD83D][..], &[0x61, 0xE9]] {
         calls.push(from_units(0, start));
         let operands = vec![Operand::Register(0), points.clone(), builds.clone()];
-        calls.push(Call::new("apply", operands));
+        calls.push(Call::new(Opcode::Apply, operands));
         for (spare, grants) in [(0, UNBOUNDED), (0, 0), (1, 0), (2, 0), (3, 0), (6, 0)] {
             calls.push(from_units(0, start));
             calls.push(Call::new(
-                "apply_all",
+                Opcode::ApplyAll,
                 vec![
                     Operand::Register(0),
                     Operand::Number(spare),
@@ -86,17 +86,17 @@ pub fn false_hints() -> Vec<Vec<Call>> {
     for low in HINTS {
         for count in [0, 1, 2, 3, 5, 8, 50, 250] {
             let points: Vec<u32> = all.iter().copied().cycle().take(count).collect();
-            let hinted = |name| {
+            let hinted = |opcode| {
                 let points = Operand::Points(points.clone());
                 Call::new(
-                    name,
+                    opcode,
                     vec![Operand::Register(0), Operand::Number(low), points],
                 )
             };
-            let mut calls = vec![hinted("from_iter hinted")];
+            let mut calls = vec![hinted(Opcode::FromIterHinted)];
             for start in [&[][..], &[0x61], &[0xD83D]] {
                 calls.push(from_units(0, start));
-                calls.push(hinted("extend hinted"));
+                calls.push(hinted(Opcode::ExtendHinted));
             }
             scripts.push(calls);
         }

@@ -2,7 +2,7 @@
 //! code units, and runs of one kind with another kind at each index.
 
 use crate::generate::{call_on, from_units, push, registers};
-use crate::script::{Call, Operand};
+use crate::script::{Call, Opcode, Operand};
 
 /// Strings as code points, in ascending order.
 const IN_ORDER: [&[u32]; 14] = [
@@ -121,19 +121,19 @@ pub fn all() -> Vec<Vec<Call>> {
 /// Makes the string of register 0 from a text.
 fn from_text(text: &str) -> Call {
     let operands = vec![Operand::Register(0), Operand::Text(text.to_owned())];
-    Call::new("from_str", operands)
+    Call::new(Opcode::FromStr, operands)
 }
 
-fn steps(register: u8, name: &str, steps: Vec<u8>) -> Call {
+fn steps(register: u8, opcode: Opcode, steps: Vec<u8>) -> Call {
     Call::new(
-        name,
+        opcode,
         vec![Operand::Register(register), Operand::Steps(steps)],
     )
 }
 
 /// Makes a string by pushing code points.
 fn pushed(register: u8, points: &[u32]) -> Vec<Call> {
-    let mut calls = vec![call_on(register, "new")];
+    let mut calls = vec![call_on(register, Opcode::New)];
     calls.extend(points.iter().map(|point| push(register, *point)));
     calls
 }
@@ -141,10 +141,10 @@ fn pushed(register: u8, points: &[u32]) -> Vec<Call> {
 /// A string compared with each one of `IN_ORDER`, and the bytes that it feeds a hasher.
 fn compared_by_points(own: &[u32]) -> Vec<Call> {
     let mut calls = pushed(0, own);
-    calls.push(call_on(0, "hash"));
+    calls.push(call_on(0, Opcode::Hash));
     for other in IN_ORDER {
         calls.extend(pushed(1, other));
-        calls.push(registers("comparisons", 0, 1));
+        calls.push(registers(Opcode::Comparisons, 0, 1));
     }
     calls
 }
@@ -153,12 +153,12 @@ fn compared_by_points(own: &[u32]) -> Vec<Call> {
 /// number of items: drained while the iterator goes on, dropped early, and used in its place.
 fn iterated(units: &[u16]) -> Vec<Call> {
     let mut calls = vec![from_units(0, units)];
-    for name in ["code_points", "to_ill_formed_utf16"] {
-        calls.push(steps(0, name, [1, 0].repeat(units.len() + 2)));
+    for opcode in [Opcode::CodePoints, Opcode::ToIllFormedUtf16] {
+        calls.push(steps(0, opcode, [1, 0].repeat(units.len() + 2)));
         for count in 0..units.len() + 2 {
             let mut clones = vec![0; count];
             clones.extend([2, 6, 3, 2, 6]);
-            calls.push(steps(0, name, clones));
+            calls.push(steps(0, opcode, clones));
         }
     }
     calls
@@ -169,8 +169,8 @@ fn compared_by_units(own: &[u16], others: &[u16]) -> Vec<Call> {
     vec![
         from_units(0, own),
         from_units(1, others),
-        registers("cmp_units", 0, 1),
-        registers("comparisons", 0, 1),
+        registers(Opcode::CmpUnits, 0, 1),
+        registers(Opcode::Comparisons, 0, 1),
     ]
 }
 
@@ -189,8 +189,8 @@ fn changed_at_each_place(list: &[u16], unit: u16) -> Vec<Call> {
         other[place] = unit;
         calls.push(from_units(1, &other));
         calls.push(from_units(2, &list[..place]));
-        calls.push(registers("cmp_units", 0, 1));
-        calls.push(registers("cmp_units", 1, 2));
+        calls.push(registers(Opcode::CmpUnits, 0, 1));
+        calls.push(registers(Opcode::CmpUnits, 1, 2));
     }
     calls
 }
@@ -201,17 +201,20 @@ fn broken(run: &[u16], length: usize, place: usize) -> Vec<Call> {
         let units: Vec<u16> = (0..length)
             .flat_map(|at| if at == place { other } else { run }.to_vec())
             .collect();
-        [from_units(0, &units), call_on(0, "units by number")]
+        [from_units(0, &units), call_on(0, Opcode::UnitAt)]
     };
     KINDS.iter().flat_map(|other| with(other)).collect()
 }
 
 /// A string of every length up to 130 bytes, a clone of it, and its view appended to an empty string.
 fn copies_of_every_length() -> Vec<Call> {
-    let mut calls = vec![call_on(0, "new")];
+    let mut calls = vec![call_on(0, Opcode::New)];
     for length in 0..131 {
-        calls.extend([registers("clone", 1, 0), registers("comparisons", 0, 1)]);
-        calls.extend([call_on(2, "new"), registers("push_wtf8", 2, 0)]);
+        calls.extend([
+            registers(Opcode::Clone, 1, 0),
+            registers(Opcode::Comparisons, 0, 1),
+        ]);
+        calls.extend([call_on(2, Opcode::New), registers(Opcode::PushWtf8, 2, 0)]);
         calls.push(push(0, 0x21 + length % 94));
     }
     calls
@@ -229,7 +232,7 @@ fn equal_or_not() -> Vec<Call> {
     ] {
         calls.push(from_text(text));
         calls.extend(pushed(1, points));
-        calls.push(registers("comparisons", 0, 1));
+        calls.push(registers(Opcode::Comparisons, 0, 1));
     }
     calls
 }
@@ -238,8 +241,8 @@ fn equal_or_not() -> Vec<Call> {
 fn followed() -> Vec<Call> {
     let items = || {
         [
-            steps(0, "code_points", Vec::new()),
-            steps(0, "to_ill_formed_utf16", Vec::new()),
+            steps(0, Opcode::CodePoints, Vec::new()),
+            steps(0, Opcode::ToIllFormedUtf16, Vec::new()),
         ]
     };
     let mut calls = vec![from_text("\u{E9} ")];
@@ -249,7 +252,7 @@ fn followed() -> Vec<Call> {
     }
     calls.extend([from_text("a\u{E9} "), push(0, 0xD83D)]);
     calls.push(Call::new(
-        "push_char",
+        Opcode::PushChar,
         vec![Operand::Register(0), Operand::Value(0x1F4A9)],
     ));
     calls.extend(items());

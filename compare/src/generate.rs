@@ -1,7 +1,7 @@
 //! Random scripts, and scripts for the exhaustive lists.
 
 use crate::random::Random;
-use crate::script::{Build, Call, Kind, Operand, CALLS, UNBOUNDED};
+use crate::script::{Build, Call, Kind, Opcode, Operand, CALLS, UNBOUNDED};
 
 /// Code points, among them the ends of each encoded length, and two numbers above U+10FFFF.
 pub const EDGES: [u32; 32] = [
@@ -63,13 +63,13 @@ pub fn script(random: &mut Random) -> Vec<Call> {
 
 fn call(random: &mut Random) -> Call {
     // More than half of the calls on average make or change strings, so that the others have something to read.
-    let opcode = match random.below(2) {
-        0 => random.below(CALLS.len() as u64) as u8,
-        _ => random.between(2, 18) as u8,
+    let index = match random.below(2) {
+        0 => random.below(CALLS.len() as u64) as usize,
+        _ => random.between(Opcode::FromString as u32, Opcode::SliceTo as u32) as usize,
     };
-    let kinds = CALLS[usize::from(opcode)].1;
+    let (opcode, kinds) = CALLS[index];
     let mut operands: Vec<Operand> = kinds.iter().map(|kind| operand(random, *kind)).collect();
-    if CALLS[usize::from(opcode)].0 == "apply_all" {
+    if opcode == Opcode::ApplyAll {
         operands[2] = Operand::Number(random.pick(&[0, UNBOUNDED]));
     }
     Call { opcode, operands }
@@ -210,16 +210,22 @@ pub fn calls_on(units: &[u16]) -> Vec<Call> {
     let steps: Vec<u8> = (0..=units.len())
         .flat_map(|_| [1, 2, 5, 6, 7, 0, 3])
         .collect();
-    for name in ["boundaries", "as_str", "to_string_lossy", "hash", "debug"] {
-        calls.push(Call::new(name, vec![Operand::Register(0)]));
+    for opcode in [
+        Opcode::Boundaries,
+        Opcode::AsStr,
+        Opcode::ToStringLossy,
+        Opcode::Hash,
+        Opcode::Debug,
+    ] {
+        calls.push(Call::new(opcode, vec![Operand::Register(0)]));
     }
-    for name in ["code_points", "to_ill_formed_utf16"] {
+    for opcode in [Opcode::CodePoints, Opcode::ToIllFormedUtf16] {
         for steps in [steps.clone(), vec![4, 1, 4, 1, 4], vec![0, 4, 1, 4, 4]] {
             let operands = vec![Operand::Register(0), Operand::Steps(steps)];
-            calls.push(Call::new(name, operands));
+            calls.push(Call::new(opcode, operands));
         }
     }
-    calls.push(Call::new("units by number", vec![Operand::Register(0)]));
+    calls.push(Call::new(Opcode::UnitAt, vec![Operand::Register(0)]));
     for cut in 0..=units.len() {
         calls.extend(cut_and_joined(units, cut));
         calls.extend(cut_by_units(units.len(), cut));
@@ -228,9 +234,9 @@ pub fn calls_on(units: &[u16]) -> Vec<Call> {
     for position in 0..=3 * units.len() as u16 + 2 {
         calls.extend(cut_at(position));
     }
-    for name in ["into_string", "into_string_lossy"] {
-        calls.push(registers("clone", 1, 0));
-        calls.push(Call::new(name, vec![Operand::Register(1)]));
+    for opcode in [Opcode::IntoString, Opcode::IntoStringLossy] {
+        calls.push(registers(Opcode::Clone, 1, 0));
+        calls.push(Call::new(opcode, vec![Operand::Register(1)]));
     }
     calls
 }
@@ -242,15 +248,15 @@ pub fn cut_and_joined(units: &[u16], cut: usize) -> Vec<Call> {
     let mut calls = vec![
         from_units(1, front),
         from_units(2, back),
-        registers("push_wtf8", 1, 2),
-        registers("comparisons", 1, 0),
-        registers("comparisons", 2, 0),
-        Call::new("from_iter", vec![Operand::Register(3), points(front)]),
-        Call::new("extend", vec![Operand::Register(3), points(back)]),
-        registers("comparisons", 0, 3),
+        registers(Opcode::PushWtf8, 1, 2),
+        registers(Opcode::Comparisons, 1, 0),
+        registers(Opcode::Comparisons, 2, 0),
+        Call::new(Opcode::FromIter, vec![Operand::Register(3), points(front)]),
+        Call::new(Opcode::Extend, vec![Operand::Register(3), points(back)]),
+        registers(Opcode::Comparisons, 0, 3),
         from_units(1, front),
         Call::new(
-            "extend code_points",
+            Opcode::ExtendCodePoints,
             vec![
                 Operand::Register(1),
                 Operand::Register(2),
@@ -261,9 +267,9 @@ pub fn cut_and_joined(units: &[u16], cut: usize) -> Vec<Call> {
     ];
     for unit in back {
         let value = Operand::Value(u32::from(*unit));
-        calls.push(Call::new("push", vec![Operand::Register(1), value]));
+        calls.push(Call::new(Opcode::Push, vec![Operand::Register(1), value]));
     }
-    calls.push(registers("comparisons", 1, 0));
+    calls.push(registers(Opcode::Comparisons, 1, 0));
     calls
 }
 
@@ -271,16 +277,19 @@ pub fn cut_and_joined(units: &[u16], cut: usize) -> Vec<Call> {
 pub fn cut_by_units(len: usize, cut: usize) -> Vec<Call> {
     let count = Operand::Number(cut as u16);
     let mut calls = vec![
-        registers("clone", 1, 0),
-        Call::new("truncate_units", vec![Operand::Register(1), count.clone()]),
-        Call::new("into_string", vec![Operand::Register(1)]),
-        registers("push_wtf8", 1, 0),
-        Call::new("as_str", vec![Operand::Register(1)]),
+        registers(Opcode::Clone, 1, 0),
+        Call::new(
+            Opcode::TruncateUnits,
+            vec![Operand::Register(1), count.clone()],
+        ),
+        Call::new(Opcode::IntoString, vec![Operand::Register(1)]),
+        registers(Opcode::PushWtf8, 1, 0),
+        Call::new(Opcode::AsStr, vec![Operand::Register(1)]),
     ];
     for end in [cut, cut + 1, cut + 2, len, len + 1] {
         let end = Operand::Number(end as u16);
         let operands = vec![Operand::Register(0), count.clone(), end];
-        calls.push(Call::new("slice_units", operands));
+        calls.push(Call::new(Opcode::SliceUnits, operands));
     }
     calls
 }
@@ -289,19 +298,26 @@ pub fn cut_by_units(len: usize, cut: usize) -> Vec<Call> {
 fn cut_at(position: u16) -> Vec<Call> {
     let place = Operand::Number(position);
     let mut calls = vec![
-        registers("clone", 1, 0),
-        Call::new("truncate", vec![Operand::Register(1), place.clone()]),
-        Call::new("into_string", vec![Operand::Register(1)]),
-        Call::new("ascii_byte_at", vec![Operand::Register(0), place.clone()]),
+        registers(Opcode::Clone, 1, 0),
+        Call::new(Opcode::Truncate, vec![Operand::Register(1), place.clone()]),
+        Call::new(Opcode::IntoString, vec![Operand::Register(1)]),
+        Call::new(
+            Opcode::AsciiByteAt,
+            vec![Operand::Register(0), place.clone()],
+        ),
     ];
-    for name in ["slice_from", "slice_to", "from_iter code_points"] {
+    for opcode in [
+        Opcode::SliceFrom,
+        Opcode::SliceTo,
+        Opcode::FromIterCodePoints,
+    ] {
         let operands = vec![Operand::Register(1), Operand::Register(0), place.clone()];
-        calls.push(Call::new(name, operands));
+        calls.push(Call::new(opcode, operands));
     }
     for end in position.saturating_sub(2)..=position + 4 {
         let (one, zero) = (Operand::Register(1), Operand::Register(0));
         calls.push(Call::new(
-            "slice",
+            Opcode::Slice,
             vec![one, zero, place.clone(), Operand::Number(end)],
         ));
     }
@@ -310,23 +326,23 @@ fn cut_at(position: u16) -> Vec<Call> {
 
 pub fn from_units(register: u8, units: &[u16]) -> Call {
     let operands = vec![Operand::Register(register), Operand::Units(units.to_vec())];
-    Call::new("from_ill_formed_utf16", operands)
+    Call::new(Opcode::FromIllFormedUtf16, operands)
 }
 
 /// Pushes a code point to the string of a register.
 pub fn push(register: u8, value: u32) -> Call {
     let operands = vec![Operand::Register(register), Operand::Value(value)];
-    Call::new("push", operands)
+    Call::new(Opcode::Push, operands)
 }
 
 /// A call whose only operand is a register.
-pub fn call_on(register: u8, name: &str) -> Call {
-    Call::new(name, vec![Operand::Register(register)])
+pub fn call_on(register: u8, opcode: Opcode) -> Call {
+    Call::new(opcode, vec![Operand::Register(register)])
 }
 
-pub fn registers(name: &str, first: u8, second: u8) -> Call {
+pub fn registers(opcode: Opcode, first: u8, second: u8) -> Call {
     Call::new(
-        name,
+        opcode,
         vec![Operand::Register(first), Operand::Register(second)],
     )
 }
@@ -337,7 +353,7 @@ pub fn edge_calls() -> Vec<Vec<Call>> {
         let mut calls = point_calls(*point);
         for other in EDGES {
             let operands = vec![Operand::Value(*point), Operand::Value(other)];
-            calls.push(Call::new("CodePoint comparisons", operands));
+            calls.push(Call::new(Opcode::CodePointComparisons, operands));
         }
         calls
     };
@@ -349,19 +365,19 @@ pub fn point_calls(point: u32) -> Vec<Call> {
     let value = || Operand::Value(point);
     let register = || Operand::Register(0);
     let mut calls = vec![
-        Call::new("CodePoint", vec![value()]),
-        Call::new("new", vec![register()]),
-        Call::new("push", vec![register(), value()]),
-        Call::new("ascii_byte_at", vec![register(), Operand::Number(0)]),
-        Call::new("push_char", vec![register(), value()]),
-        Call::new("code_points", vec![register(), Operand::Steps(vec![])]),
+        Call::new(Opcode::CodePoint, vec![value()]),
+        Call::new(Opcode::New, vec![register()]),
+        Call::new(Opcode::Push, vec![register(), value()]),
+        Call::new(Opcode::AsciiByteAt, vec![register(), Operand::Number(0)]),
+        Call::new(Opcode::PushChar, vec![register(), value()]),
+        Call::new(Opcode::CodePoints, vec![register(), Operand::Steps(vec![])]),
         Call::new(
-            "to_ill_formed_utf16",
+            Opcode::ToIllFormedUtf16,
             vec![register(), Operand::Steps(vec![])],
         ),
     ];
-    for name in ["boundaries", "to_string_lossy", "debug"] {
-        calls.push(Call::new(name, vec![register()]));
+    for opcode in [Opcode::Boundaries, Opcode::ToStringLossy, Opcode::Debug] {
+        calls.push(Call::new(opcode, vec![register()]));
     }
     calls
 }

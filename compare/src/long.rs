@@ -1,7 +1,7 @@
 //! Lists of scripts on long strings, on strings with a common prefix, and on slices inside a string.
 
 use crate::generate::{cut_and_joined, cut_by_units, from_units, registers};
-use crate::script::{Call, Operand};
+use crate::script::{Call, Opcode, Operand};
 
 /// The units that long strings repeat: a code point of each encoded length, one with the lead byte of a surrogate (ED),
 /// one after the surrogates, a pair, and a mix.
@@ -55,14 +55,14 @@ pub fn string_in(register: u8, units: &[u16]) -> Vec<Call> {
     let mut calls = vec![from_units(register, pieces.next().unwrap_or_default())];
     for piece in pieces {
         calls.push(from_units(3, piece));
-        calls.push(registers("push_wtf8", register, 3));
+        calls.push(registers(Opcode::PushWtf8, register, 3));
     }
     calls
 }
 
-pub fn on(register: u8, names: &[&str]) -> Vec<Call> {
-    let call = |name: &&str| Call::new(name, vec![Operand::Register(register)]);
-    names.iter().map(call).collect()
+pub fn on(register: u8, opcodes: &[Opcode]) -> Vec<Call> {
+    let call = |opcode: &Opcode| Call::new(*opcode, vec![Operand::Register(register)]);
+    opcodes.iter().map(call).collect()
 }
 
 pub fn changed(units: &[u16], changes: &[(usize, u16)]) -> Vec<u16> {
@@ -97,10 +97,10 @@ pub fn changed_at(units: &[u16], places: impl IntoIterator<Item = usize>) -> Vec
 
 fn compared_both_ways() -> [Call; 4] {
     [
-        registers("comparisons", 0, 1),
-        registers("comparisons", 1, 0),
-        registers("cmp_units", 0, 1),
-        registers("cmp_units", 1, 0),
+        registers(Opcode::Comparisons, 0, 1),
+        registers(Opcode::Comparisons, 1, 0),
+        registers(Opcode::CmpUnits, 0, 1),
+        registers(Opcode::CmpUnits, 1, 0),
     ]
 }
 
@@ -160,11 +160,11 @@ pub fn fronts() -> Vec<Vec<Call>> {
             calls.extend(string_in(0, &units[..len]));
             for more in 1..=2 {
                 calls.extend(string_in(1, &units[..len + more]));
-                calls.push(registers("comparisons", 0, 1));
-                calls.push(registers("comparisons", 1, 0));
-                calls.push(registers("cmp_units", 0, 1));
+                calls.push(registers(Opcode::Comparisons, 0, 1));
+                calls.push(registers(Opcode::Comparisons, 1, 0));
+                calls.push(registers(Opcode::CmpUnits, 0, 1));
             }
-            calls.extend(on(1, &["hash", "debug"]));
+            calls.extend(on(1, &[Opcode::Hash, Opcode::Debug]));
         }
         scripts.push(calls);
     }
@@ -212,11 +212,14 @@ pub fn two_surrogates() -> Vec<Vec<Call>> {
 fn texts_of(units: &[u16]) -> Vec<Call> {
     let (front, back) = units.split_at(units.len() / 2);
     let mut calls = string_in(0, units);
-    calls.extend(on(0, &["as_str", "to_string_lossy", "into_string"]));
+    calls.extend(on(
+        0,
+        &[Opcode::AsStr, Opcode::ToStringLossy, Opcode::IntoString],
+    ));
     calls.extend(string_in(1, front));
     calls.extend(string_in(2, back));
-    calls.push(registers("push_wtf8", 1, 2));
-    calls.extend(on(1, &["to_string_lossy", "into_string_lossy"]));
+    calls.push(registers(Opcode::PushWtf8, 1, 2));
+    calls.extend(on(1, &[Opcode::ToStringLossy, Opcode::IntoStringLossy]));
     calls
 }
 
@@ -231,10 +234,18 @@ pub fn longest() -> Vec<Vec<Call>> {
                 for other in [0x62, 0xD800, 0xDC00] {
                     let units = changed(&units, &[(place, other)]);
                     calls.extend(string_in(1, &units));
-                    calls.push(registers("comparisons", 0, 1));
-                    calls.push(registers("comparisons", 1, 0));
-                    calls.extend(on(1, &["hash", "as_str", "to_string_lossy", "debug"]));
-                    calls.extend(on(1, &["into_string_lossy"]));
+                    calls.push(registers(Opcode::Comparisons, 0, 1));
+                    calls.push(registers(Opcode::Comparisons, 1, 0));
+                    calls.extend(on(
+                        1,
+                        &[
+                            Opcode::Hash,
+                            Opcode::AsStr,
+                            Opcode::ToStringLossy,
+                            Opcode::Debug,
+                        ],
+                    ));
+                    calls.extend(on(1, &[Opcode::IntoStringLossy]));
                 }
                 scripts.push(calls);
             }
@@ -287,7 +298,7 @@ pub fn cuts_by_units() -> Vec<Vec<Call>> {
 
 fn cut_by_units_at(units: &[u16], places: impl IntoIterator<Item = usize>) -> Vec<Call> {
     let mut calls = string_in(0, units);
-    calls.extend(on(0, &["units by number"]));
+    calls.extend(on(0, &[Opcode::UnitAt]));
     for cut in places {
         calls.extend(cut_by_units(units.len(), cut));
     }
@@ -338,16 +349,16 @@ fn calls_inside(filling: u16, front: usize, body: &[u16]) -> Vec<Call> {
     let other_end = other_begin + byte_len(body);
     let mut calls = string_in(0, &whole);
     calls.extend(string_in(1, &other));
-    calls.push(Call::new("look at slice", own_slice.to_vec()));
+    calls.push(Call::new(Opcode::ReadSlice, own_slice.to_vec()));
     for end in [other_end, other_end + 1, byte_len(&other)] {
         let slices = [own_slice.clone(), place(1, other_begin, end)].concat();
-        calls.push(Call::new("compare slices", slices));
+        calls.push(Call::new(Opcode::CompareSlices, slices));
     }
     for string in [&[0x61][..], &[0xD83D], &[]] {
         calls.push(from_units(2, string));
         let operands = [&[Operand::Register(2)][..], &own_slice].concat();
-        calls.push(Call::new("push_wtf8 slice", operands));
-        calls.extend(on(2, &["as_str", "to_string_lossy"]));
+        calls.push(Call::new(Opcode::PushSlice, operands));
+        calls.extend(on(2, &[Opcode::AsStr, Opcode::ToStringLossy]));
     }
     calls
 }
@@ -368,8 +379,8 @@ pub fn chosen() -> Vec<Vec<Call>> {
     let units = string_of(BASES[0], 1200);
     let mut calls = string_in(0, &units);
     calls.extend(string_in(1, &changed(&units, &[(1199, 0xDC00)])));
-    calls.push(registers("comparisons", 0, 1));
-    calls.extend(on(1, &["as_str", "to_string_lossy", "hash"]));
+    calls.push(registers(Opcode::Comparisons, 0, 1));
+    calls.extend(on(1, &[Opcode::AsStr, Opcode::ToStringLossy, Opcode::Hash]));
     scripts.push(calls);
     scripts
 }

@@ -4,7 +4,7 @@ use crate::console::progress;
 use crate::generate;
 use crate::long::byte_len;
 use crate::random::Random;
-use crate::script::{encode, Build, Call, Kind, Operand, UNBOUNDED};
+use crate::script::{encode, Build, Call, Kind, Opcode, Operand, UNBOUNDED};
 use crate::{ours, say};
 
 /// The number of lists that the library runs at a time.
@@ -99,7 +99,7 @@ impl Case {
             Operand::Points(self.points.clone()),
             Operand::Builds(self.builds.clone()),
         ];
-        calls.push(Call::new("apply_all", operands));
+        calls.push(Call::new(Opcode::ApplyAll, operands));
         calls
     }
 

@@ -8,7 +8,7 @@ use std::panic::{catch_unwind, AssertUnwindSafe};
 use wtf8::{CodePoint, IllFormedUtf16CodeUnits, Wtf8, Wtf8Buf, Wtf8CodePoints};
 
 use crate::fed::fed_by;
-use crate::script::{Build, UNBOUNDED};
+use crate::script::{Build, Opcode, UNBOUNDED};
 
 mod together;
 
@@ -183,17 +183,94 @@ struct Machine {
 
 impl Machine {
     fn run(&mut self, mut reader: Reader<'_>) {
-        while let Some((&opcode, rest)) = reader.rest.split_first() {
-            reader.rest = rest;
-            match opcode {
-                0..=8 => self.make(opcode, &mut reader),
-                9..=15 => self.change(opcode, &mut reader),
-                16..=20 => self.cut_or_turn(opcode, &mut reader),
-                21..=24 => self.look(opcode, &mut reader),
-                25..=32 => self.ask(opcode, &mut reader),
-                _ => self.run_together(opcode, &mut reader),
-            }
+        while !reader.rest.is_empty() {
+            let opcode = Opcode::from_byte(reader.take(1)[0]);
+            self.call(opcode.expect("the generator knows the opcode"), &mut reader);
         }
+    }
+
+    fn call(&mut self, opcode: Opcode, reader: &mut Reader<'_>) {
+        match opcode {
+            Opcode::New => self.put(reader.register(), Wtf8Buf::new()),
+            Opcode::WithCapacity => self.with_capacity(reader),
+            Opcode::FromString => {
+                let register = reader.register();
+                self.put(register, Wtf8Buf::from_string(reader.text().to_owned()));
+            }
+            Opcode::FromStr => self.put(reader.register(), Wtf8Buf::from_str(reader.text())),
+            Opcode::FromIllFormedUtf16 => {
+                let register = reader.register();
+                self.put(register, Wtf8Buf::from_ill_formed_utf16(&reader.units()));
+            }
+            Opcode::FromIter => {
+                let register = reader.register();
+                self.put(register, reader.points().into_iter().collect());
+            }
+            Opcode::FromIterCodePoints => self.from_iter_code_points(reader),
+            Opcode::Clone => {
+                let register = reader.register();
+                let copy = self.copy(reader);
+                self.put(register, copy);
+            }
+            Opcode::Reserve => self.reserve(reader),
+            Opcode::Push => self.push(reader),
+            Opcode::PushChar => self.push_char(reader),
+            Opcode::PushStr => self.change(reader, |string, reader| string.push_str(reader.text())),
+            Opcode::PushWtf8 => self.push_wtf8(reader),
+            Opcode::Extend => self.change(reader, |string, reader| string.extend(reader.points())),
+            Opcode::ExtendCodePoints => self.extend_code_points(reader),
+            Opcode::Truncate => self.truncate(reader),
+            Opcode::Slice => self.slice(reader),
+            Opcode::SliceFrom => self.slice_from(reader),
+            Opcode::SliceTo => self.slice_to(reader),
+            Opcode::IntoString => self.convert(reader.register(), Wtf8Buf::into_string),
+            Opcode::IntoStringLossy => {
+                self.convert(reader.register(), |string| Ok(string.into_string_lossy()))
+            }
+            Opcode::AsciiByteAt => self.ascii_byte_at(reader),
+            Opcode::Boundaries => {
+                let string = self.copy(reader);
+                self.boundaries(&string);
+            }
+            Opcode::CodePoints => self.code_points(reader),
+            Opcode::ToIllFormedUtf16 => self.to_ill_formed_utf16(reader),
+            Opcode::AsStr => {
+                let string = self.copy(reader);
+                self.as_text(&string);
+            }
+            Opcode::ToStringLossy => {
+                let string = self.copy(reader);
+                self.lossy_text(&string);
+            }
+            Opcode::Comparisons => self.compare(reader.register(), reader.register()),
+            Opcode::Hash => self.hash(reader.register()),
+            Opcode::Debug => self.debug(reader.register()),
+            Opcode::ViewFromStr => {
+                let view = Wtf8::from_str(reader.text());
+                self.line(&format!("view {}: {}", view.len(), dump(view)));
+            }
+            Opcode::CodePoint => self.point(reader.value()),
+            Opcode::CodePointComparisons => self.compare_points(reader.value(), reader.value()),
+            Opcode::TruncateUnits => self.truncate_units(reader),
+            Opcode::ReadSlice => self.read_slice(reader),
+            Opcode::CompareSlices => self.compare_slices(reader),
+            Opcode::PushSlice => self.push_slice(reader),
+            Opcode::ExtendHinted => self.extend_hinted(reader),
+            Opcode::FromIterHinted => self.from_iter_hinted(reader),
+            Opcode::Apply => self.apply_each(reader),
+            Opcode::ApplyAll => self.apply_all(reader),
+            Opcode::UnitAt => self.units_by_index(reader),
+            Opcode::SliceUnits => self.slice_units(reader),
+            Opcode::CmpUnits => self.compare_units(reader),
+            Opcode::AppendUnits => self.append_units(reader),
+            // The crate has no `shrink_to_fit`, which leaves the string's bytes unchanged.
+            Opcode::ShrinkToFit => self.show(reader.register()),
+        }
+    }
+
+    /// A clone of the string of the register that is read.
+    fn copy(&self, reader: &mut Reader<'_>) -> Wtf8Buf {
+        self.strings[reader.register()].clone()
     }
 
     fn line(&mut self, line: &str) {
@@ -226,103 +303,119 @@ impl Machine {
         answer
     }
 
-    fn make(&mut self, opcode: u8, reader: &mut Reader<'_>) {
+    fn with_capacity(&mut self, reader: &mut Reader<'_>) {
         let register = reader.register();
-        let string = match opcode {
-            0 => Wtf8Buf::new(),
-            1 => {
-                let capacity = reader.number();
-                let string = Wtf8Buf::with_capacity(capacity);
-                let has_room = string.capacity() >= capacity;
-                self.line(&format!("room {has_room}"));
-                string
-            }
-            2 => Wtf8Buf::from_string(reader.text().to_owned()),
-            3 => Wtf8Buf::from_str(reader.text()),
-            4 => Wtf8Buf::from_ill_formed_utf16(&reader.units()),
-            5 => reader.points().into_iter().collect(),
-            6 => {
-                let other = self.strings[reader.register()].clone();
-                points_behind(&other, reader.number()).collect()
-            }
-            7 => self.strings[reader.register()].clone(),
-            _ => {
-                let additional = reader.number();
-                let string = &mut self.strings[register];
-                string.reserve(additional);
-                let has_room = string.capacity() - string.len() >= additional;
-                self.line(&format!("room {has_room}"));
-                return self.show(register);
-            }
-        };
+        let capacity = reader.number();
+        let string = Wtf8Buf::with_capacity(capacity);
+        let has_room = string.capacity() >= capacity;
+        self.line(&format!("room {has_room}"));
         self.put(register, string);
     }
 
-    fn change(&mut self, opcode: u8, reader: &mut Reader<'_>) {
+    fn from_iter_code_points(&mut self, reader: &mut Reader<'_>) {
         let register = reader.register();
-        match opcode {
-            9 => match CodePoint::from_u32(reader.value()) {
-                Some(point) => self.strings[register].push(point),
-                None => return self.line("no code point"),
-            },
-            10 => match char::from_u32(reader.value()) {
-                Some(c) => self.strings[register].push_char(c),
-                None => return self.line("no character"),
-            },
-            11 => self.strings[register].push_str(reader.text()),
-            12 => {
-                let piece = self.strings[reader.register()].clone();
-                self.strings[register].push_wtf8(&piece);
-            }
-            13 => self.strings[register].extend(reader.points()),
-            14 => {
-                let piece = self.strings[reader.register()].clone();
-                self.strings[register].extend(points_behind(&piece, reader.number()));
-            }
-            _ => {
-                let position = reader.number();
-                let capacity = self.strings[register].capacity();
-                let cut = |strings: &mut [Wtf8Buf; 4]| strings[register].truncate(position);
-                if self.guarded("truncate", cut).is_none() {
-                    return;
-                }
-                let is_kept = self.strings[register].capacity() == capacity;
-                self.line(&format!("room kept {is_kept}"));
-            }
+        let other = self.copy(reader);
+        let string = points_behind(&other, reader.number()).collect();
+        self.put(register, string);
+    }
+
+    fn reserve(&mut self, reader: &mut Reader<'_>) {
+        let register = reader.register();
+        let additional = reader.number();
+        let string = &mut self.strings[register];
+        string.reserve(additional);
+        let has_room = string.capacity() - string.len() >= additional;
+        self.line(&format!("room {has_room}"));
+        self.show(register);
+    }
+
+    /// Changes the string of the register that is read.
+    fn change(
+        &mut self,
+        reader: &mut Reader<'_>,
+        call: impl FnOnce(&mut Wtf8Buf, &mut Reader<'_>),
+    ) {
+        let register = reader.register();
+        call(&mut self.strings[register], reader);
+        self.show(register);
+    }
+
+    fn push(&mut self, reader: &mut Reader<'_>) {
+        let register = reader.register();
+        match CodePoint::from_u32(reader.value()) {
+            Some(point) => self.strings[register].push(point),
+            None => return self.line("no code point"),
         }
         self.show(register);
     }
 
-    fn cut_or_turn(&mut self, opcode: u8, reader: &mut Reader<'_>) {
+    fn push_char(&mut self, reader: &mut Reader<'_>) {
         let register = reader.register();
-        if opcode >= 19 {
-            return self.turn(opcode, register);
+        match char::from_u32(reader.value()) {
+            Some(c) => self.strings[register].push_char(c),
+            None => return self.line("no character"),
         }
-        let other = reader.register();
-        let first = reader.number();
-        let part = match opcode {
-            16 => {
-                let end = reader.number();
-                self.guarded("slice", |strings| owned(strings[other].slice(first, end)))
-            }
-            17 => self.guarded("slice_from", |strings| {
-                owned(strings[other].slice_from(first))
-            }),
-            _ => self.guarded("slice_to", |strings| owned(strings[other].slice_to(first))),
-        };
-        if let Some(part) = part {
+        self.show(register);
+    }
+
+    fn push_wtf8(&mut self, reader: &mut Reader<'_>) {
+        let register = reader.register();
+        let piece = self.copy(reader);
+        self.strings[register].push_wtf8(&piece);
+        self.show(register);
+    }
+
+    fn extend_code_points(&mut self, reader: &mut Reader<'_>) {
+        let register = reader.register();
+        let piece = self.copy(reader);
+        self.strings[register].extend(points_behind(&piece, reader.number()));
+        self.show(register);
+    }
+
+    fn truncate(&mut self, reader: &mut Reader<'_>) {
+        let register = reader.register();
+        let position = reader.number();
+        let capacity = self.strings[register].capacity();
+        let cut = |strings: &mut [Wtf8Buf; 4]| strings[register].truncate(position);
+        if self.guarded("truncate", cut).is_none() {
+            return;
+        }
+        let is_kept = self.strings[register].capacity() == capacity;
+        self.line(&format!("room kept {is_kept}"));
+        self.show(register);
+    }
+
+    fn slice(&mut self, reader: &mut Reader<'_>) {
+        let [register, other] = [reader.register(), reader.register()];
+        let [begin, end] = [reader.number(), reader.number()];
+        let slice = |strings: &mut [Wtf8Buf; 4]| owned(strings[other].slice(begin, end));
+        if let Some(part) = self.guarded("slice", slice) {
             self.put(register, part);
         }
     }
 
-    fn turn(&mut self, opcode: u8, register: usize) {
+    fn slice_from(&mut self, reader: &mut Reader<'_>) {
+        let [register, other] = [reader.register(), reader.register()];
+        let begin = reader.number();
+        let slice = |strings: &mut [Wtf8Buf; 4]| owned(strings[other].slice_from(begin));
+        if let Some(part) = self.guarded("slice_from", slice) {
+            self.put(register, part);
+        }
+    }
+
+    fn slice_to(&mut self, reader: &mut Reader<'_>) {
+        let [register, other] = [reader.register(), reader.register()];
+        let end = reader.number();
+        let slice = |strings: &mut [Wtf8Buf; 4]| owned(strings[other].slice_to(end));
+        if let Some(part) = self.guarded("slice_to", slice) {
+            self.put(register, part);
+        }
+    }
+
+    fn convert(&mut self, register: usize, call: impl FnOnce(Wtf8Buf) -> Result<String, Wtf8Buf>) {
         let string = std::mem::replace(&mut self.strings[register], Wtf8Buf::new());
         let capacity = string.capacity();
-        let turned = match opcode {
-            19 => string.into_string(),
-            _ => Ok(string.into_string_lossy()),
-        };
-        let string = match turned {
+        let string = match call(string) {
             Ok(text) => {
                 self.line(&format!("text: {}", hex(text.as_bytes())));
                 self.line(&format!("room kept {}", text.capacity() == capacity));
@@ -336,35 +429,29 @@ impl Machine {
         self.put(register, string);
     }
 
-    fn look(&mut self, opcode: u8, reader: &mut Reader<'_>) {
+    fn ascii_byte_at(&mut self, reader: &mut Reader<'_>) {
         let register = reader.register();
-        match opcode {
-            21 => {
-                let position = reader.number();
-                let look = |strings: &mut [Wtf8Buf; 4]| strings[register].ascii_byte_at(position);
-                if let Some(byte) = self.guarded("ascii_byte_at", look) {
-                    self.line(&format!("byte {byte:02X}"));
-                }
-            }
-            22 => {
-                let string = self.strings[register].clone();
-                self.boundaries(&string);
-            }
-            23 => {
-                let string = self.strings[register].clone();
-                let count = string.code_points().count();
-                write!(self.out, "points, {count}:").unwrap();
-                walk(&mut self.out, string.code_points(), reader.bytes());
-                self.line("");
-            }
-            _ => {
-                let string = self.strings[register].clone();
-                let count = string.to_ill_formed_utf16().count();
-                write!(self.out, "units, {count}:").unwrap();
-                walk(&mut self.out, Units::of(&string), reader.bytes());
-                self.line("");
-            }
+        let position = reader.number();
+        let look = |strings: &mut [Wtf8Buf; 4]| strings[register].ascii_byte_at(position);
+        if let Some(byte) = self.guarded("ascii_byte_at", look) {
+            self.line(&format!("byte {byte:02X}"));
         }
+    }
+
+    fn code_points(&mut self, reader: &mut Reader<'_>) {
+        let string = self.copy(reader);
+        let count = string.code_points().count();
+        write!(self.out, "points, {count}:").unwrap();
+        walk(&mut self.out, string.code_points(), reader.bytes());
+        self.line("");
+    }
+
+    fn to_ill_formed_utf16(&mut self, reader: &mut Reader<'_>) {
+        let string = self.copy(reader);
+        let count = string.to_ill_formed_utf16().count();
+        write!(self.out, "units, {count}:").unwrap();
+        walk(&mut self.out, Units::of(&string), reader.bytes());
+        self.line("");
     }
 
     fn boundaries(&mut self, view: &Wtf8) {
@@ -398,43 +485,18 @@ impl Machine {
         self.line(&format!("wide: {}", hex(format!("{view:#12?}").as_bytes())));
     }
 
-    fn ask(&mut self, opcode: u8, reader: &mut Reader<'_>) {
-        match opcode {
-            25 => {
-                let string = self.strings[reader.register()].clone();
-                self.as_text(&string);
-            }
-            26 => {
-                let string = self.strings[reader.register()].clone();
-                self.lossy_text(&string);
-            }
-            27 => {
-                let own = reader.register();
-                let other = reader.register();
-                self.compare(own, other);
-            }
-            28 => {
-                let string = &self.strings[reader.register()];
-                let lines = [hex(&fed_by(string)), hex(&fed_by::<Wtf8>(string))];
-                lines
-                    .iter()
-                    .for_each(|fed| self.line(&format!("fed {fed}")));
-            }
-            29 => self.debug(reader.register()),
-            30 => {
-                let view = Wtf8::from_str(reader.text());
-                self.line(&format!("view {}: {}", view.len(), dump(view)));
-            }
-            31 => self.point(reader.value()),
-            32 => {
-                let own = CodePoint::from_u32(reader.value());
-                let other = CodePoint::from_u32(reader.value());
-                match (own, other) {
-                    (Some(own), Some(other)) => self.comparisons("points", &own, &other),
-                    _ => self.line("no code point"),
-                }
-            }
-            _ => unreachable!("the generator knows no opcode {opcode}"),
+    fn hash(&mut self, register: usize) {
+        let string = &self.strings[register];
+        let lines = [hex(&fed_by(string)), hex(&fed_by::<Wtf8>(string))];
+        lines
+            .iter()
+            .for_each(|fed| self.line(&format!("fed {fed}")));
+    }
+
+    fn compare_points(&mut self, own: u32, other: u32) {
+        match (CodePoint::from_u32(own), CodePoint::from_u32(other)) {
+            (Some(own), Some(other)) => self.comparisons("points", &own, &other),
+            _ => self.line("no code point"),
         }
     }
 

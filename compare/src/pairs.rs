@@ -1,7 +1,7 @@
 //! The list of pairs: leads and trails with each of their ten bits, joined by each call that can, and lone.
 
 use crate::generate::{call_on, from_units, push, registers};
-use crate::script::Call;
+use crate::script::{Call, Opcode};
 
 /// Ten bits: none, all, each one alone, and all but each one.
 fn ten_bits() -> Vec<u16> {
@@ -42,14 +42,19 @@ fn joined(lead: u16, trail: u16) -> Vec<Call> {
         push(0, lead.into()),
         from_units(1, &[lead]),
         from_units(2, &[trail]),
-        registers("push_wtf8", 1, 2),
+        registers(Opcode::PushWtf8, 1, 2),
         from_units(2, &[lead, trail]),
         push(0, trail.into()),
-        registers("comparisons", 0, 1),
-        registers("comparisons", 0, 2),
+        registers(Opcode::Comparisons, 0, 1),
+        registers(Opcode::Comparisons, 0, 2),
     ];
-    for name in ["hash", "as_str", "units by number", "into_string"] {
-        calls.push(call_on(0, name));
+    for opcode in [
+        Opcode::Hash,
+        Opcode::AsStr,
+        Opcode::UnitAt,
+        Opcode::IntoString,
+    ] {
+        calls.push(call_on(0, opcode));
     }
     calls
 }
@@ -57,11 +62,16 @@ fn joined(lead: u16, trail: u16) -> Vec<Call> {
 /// A lone surrogate after a letter, and between two letters: no such string is text.
 fn alone(surrogate: u16) -> Vec<Call> {
     let mut calls = vec![from_units(0, &[0x61]), push(0, surrogate.into())];
-    let looks = ["as_str", "to_string_lossy", "hash", "into_string"];
-    calls.extend(looks.map(|name| call_on(0, name)));
+    let looks = [
+        Opcode::AsStr,
+        Opcode::ToStringLossy,
+        Opcode::Hash,
+        Opcode::IntoString,
+    ];
+    calls.extend(looks.map(|opcode| call_on(0, opcode)));
     calls.push(from_units(0, &[0x61]));
     calls.push(push(0, surrogate.into()));
     calls.push(push(0, 0x61));
-    calls.extend(looks.map(|name| call_on(0, name)));
+    calls.extend(looks.map(|opcode| call_on(0, opcode)));
     calls
 }

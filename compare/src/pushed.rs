@@ -2,7 +2,7 @@
 
 use crate::generate::{push, registers};
 use crate::long::{changed, on, string_in, BASES};
-use crate::script::{Call, Operand};
+use crate::script::{Call, Opcode, Operand};
 
 /// Code points of each encoded length, and the ends of the lead and the trail surrogates.
 const PUSHED: [u32; 10] = [
@@ -31,10 +31,14 @@ pub fn behind_each_length() -> Vec<Vec<Call>> {
 fn pushed_behind(units: &[u16]) -> Vec<Call> {
     let mut calls = string_in(0, units);
     for value in PUSHED {
-        for ends in ["into_string", "into_string_lossy"] {
-            calls.extend([registers("clone", 1, 0), push(1, value)]);
-            calls.extend(on(1, &["as_str", ends]));
-            calls.extend([registers("clone", 1, 0), push(1, value), push(1, 0x7A)]);
+        for ends in [Opcode::IntoString, Opcode::IntoStringLossy] {
+            calls.extend([registers(Opcode::Clone, 1, 0), push(1, value)]);
+            calls.extend(on(1, &[Opcode::AsStr, ends]));
+            calls.extend([
+                registers(Opcode::Clone, 1, 0),
+                push(1, value),
+                push(1, 0x7A),
+            ]);
             calls.extend(on(1, &[ends]));
         }
     }
@@ -44,7 +48,10 @@ fn pushed_behind(units: &[u16]) -> Vec<Call> {
 /// Strings of 6,000 units: with a surrogate or another unit at some indexes, joined in the middle of a pair, and read
 /// by both iterators with their size hints.
 pub fn far() -> Vec<Vec<Call>> {
-    BASES.into_iter().map(|base| calls_far(&string_of(base, FAR))).collect()
+    BASES
+        .into_iter()
+        .map(|base| calls_far(&string_of(base, FAR)))
+        .collect()
 }
 
 fn calls_far(units: &[u16]) -> Vec<Call> {
@@ -53,7 +60,10 @@ fn calls_far(units: &[u16]) -> Vec<Call> {
         for unit in [0x62, 0xD800, 0xDC00] {
             calls.extend(string_in(1, &changed(units, &[(place, unit)])));
             calls.extend(compared());
-            calls.extend(on(1, &["as_str", "to_string_lossy", "into_string"]));
+            calls.extend(on(
+                1,
+                &[Opcode::AsStr, Opcode::ToStringLossy, Opcode::IntoString],
+            ));
         }
     }
     let half = FAR / 2;
@@ -61,22 +71,27 @@ fn calls_far(units: &[u16]) -> Vec<Call> {
     calls.extend(string_in(0, &whole));
     calls.extend(string_in(2, &whole[half + 1..]));
     calls.extend(string_in(1, &whole[..=half]));
-    calls.push(registers("push_wtf8", 1, 2));
+    calls.push(registers(Opcode::PushWtf8, 1, 2));
     calls.extend(compared());
     // A size hint before each of some steps.
-    let steps: Vec<u8> = [1, 0].into_iter().cycle().take(40).chain([1, 6, 1, 5, 7]).collect();
-    for name in ["code_points", "to_ill_formed_utf16"] {
+    let steps: Vec<u8> = [1, 0]
+        .into_iter()
+        .cycle()
+        .take(40)
+        .chain([1, 6, 1, 5, 7])
+        .collect();
+    for opcode in [Opcode::CodePoints, Opcode::ToIllFormedUtf16] {
         let operands = vec![Operand::Register(1), Operand::Steps(steps.clone())];
-        calls.push(Call::new(name, operands));
+        calls.push(Call::new(opcode, operands));
     }
     calls
 }
 
 fn compared() -> [Call; 4] {
     [
-        registers("comparisons", 0, 1),
-        registers("comparisons", 1, 0),
-        registers("cmp_units", 0, 1),
-        registers("cmp_units", 1, 0),
+        registers(Opcode::Comparisons, 0, 1),
+        registers(Opcode::Comparisons, 1, 0),
+        registers(Opcode::CmpUnits, 0, 1),
+        registers(Opcode::CmpUnits, 1, 0),
     ]
 }

@@ -6,11 +6,8 @@ use std::path::Path;
 
 use crate::original;
 use crate::random::Random;
-use crate::script::{encode, Call};
+use crate::script::{encode, Call, FIRST_OF_TEXTS};
 use crate::{building, examples, generate, long, pairs, say};
-
-/// The first opcode of a call on texts, in hexadecimal. Lines that begin with a lower one are less as strings.
-const OF_TEXTS: &str = "40";
 
 /// Writes scripts in hexadecimal, one a line, to `stdin` in a folder, and the original crate's transcripts, each with
 /// an empty line after it, to `stdout` there. The scripts on texts, which `units/run` wrote, stay at the end.
@@ -46,7 +43,9 @@ fn scripts_of_texts(folder: &Path) -> std::io::Result<(String, String)> {
         read => read,
     };
     let (lines, transcripts) = (read("stdin")?, read("stdout")?);
-    let others = lines.lines().take_while(|line| *line < OF_TEXTS).count();
+    // Lines that begin with a lower opcode are less as strings.
+    let first = format!("{FIRST_OF_TEXTS:02X}");
+    let others = lines.lines().take_while(|line| *line < &first[..]).count();
     let texts = lines.split_inclusive('\n').skip(others).collect();
     let answers = transcripts.split_inclusive("\n\n").skip(others).collect();
     Ok((texts, answers))

@@ -28,68 +28,134 @@ pub enum Kind {
 
 use Kind::{Builds, Number, Points, Register, Steps, Text, Units, Value};
 
-/// The calls on strings by opcode, with the kinds of their operands. The opcodes from 64 on are calls on texts, which
-/// `units/units.js` makes.
-pub const CALLS: [(&str, &[Kind]); 46] = [
-    ("new", &[Register]),
-    ("with_capacity", &[Register, Number]),
-    ("from_string", &[Register, Text]),
-    ("from_str", &[Register, Text]),
-    ("from_ill_formed_utf16", &[Register, Units]),
-    ("from_iter", &[Register, Points]),
-    ("from_iter code_points", &[Register, Register, Number]),
-    ("clone", &[Register, Register]),
-    ("reserve", &[Register, Number]),
-    ("push", &[Register, Value]),
-    ("push_char", &[Register, Value]),
-    ("push_str", &[Register, Text]),
-    ("push_wtf8", &[Register, Register]),
-    ("extend", &[Register, Points]),
-    ("extend code_points", &[Register, Register, Number]),
-    ("truncate", &[Register, Number]),
-    ("slice", &[Register, Register, Number, Number]),
-    ("slice_from", &[Register, Register, Number]),
-    ("slice_to", &[Register, Register, Number]),
-    ("into_string", &[Register]),
-    ("into_string_lossy", &[Register]),
-    ("ascii_byte_at", &[Register, Number]),
-    ("boundaries", &[Register]),
-    ("code_points", &[Register, Steps]),
-    ("to_ill_formed_utf16", &[Register, Steps]),
-    ("as_str", &[Register]),
-    ("to_string_lossy", &[Register]),
-    ("comparisons", &[Register, Register]),
-    ("hash", &[Register]),
-    ("debug", &[Register]),
-    ("Wtf8::from_str", &[Text]),
-    ("CodePoint", &[Value]),
-    ("CodePoint comparisons", &[Value, Value]),
-    ("truncate_units", &[Register, Number]),
-    ("look at slice", &[Register, Number, Number]),
+/// The opcodes of the calls on strings. `crates/compare_scripts/src/opcodes.rt` says what each call does.
+#[derive(Clone, Copy, Debug, PartialEq)]
+pub enum Opcode {
+    New = 0,
+    WithCapacity = 1,
+    FromString = 2,
+    FromStr = 3,
+    FromIllFormedUtf16 = 4,
+    FromIter = 5,
+    FromIterCodePoints = 6,
+    Clone = 7,
+    Reserve = 8,
+    Push = 9,
+    PushChar = 10,
+    PushStr = 11,
+    PushWtf8 = 12,
+    Extend = 13,
+    ExtendCodePoints = 14,
+    Truncate = 15,
+    Slice = 16,
+    SliceFrom = 17,
+    SliceTo = 18,
+    IntoString = 19,
+    IntoStringLossy = 20,
+    AsciiByteAt = 21,
+    Boundaries = 22,
+    CodePoints = 23,
+    ToIllFormedUtf16 = 24,
+    AsStr = 25,
+    ToStringLossy = 26,
+    Comparisons = 27,
+    Hash = 28,
+    Debug = 29,
+    ViewFromStr = 30,
+    CodePoint = 31,
+    CodePointComparisons = 32,
+    TruncateUnits = 33,
+    ReadSlice = 34,
+    CompareSlices = 35,
+    PushSlice = 36,
+    ExtendHinted = 37,
+    FromIterHinted = 38,
+    Apply = 39,
+    ApplyAll = 40,
+    UnitAt = 41,
+    SliceUnits = 42,
+    CmpUnits = 43,
+    AppendUnits = 44,
+    ShrinkToFit = 45,
+}
+
+/// The first opcode of a call on texts. `units/units.js` makes these calls.
+pub const FIRST_OF_TEXTS: u8 = 64;
+
+/// The calls on strings with the kinds of their operands, in the order of the opcodes.
+pub const CALLS: [(Opcode, &[Kind]); 46] = [
+    (Opcode::New, &[Register]),
+    (Opcode::WithCapacity, &[Register, Number]),
+    (Opcode::FromString, &[Register, Text]),
+    (Opcode::FromStr, &[Register, Text]),
+    (Opcode::FromIllFormedUtf16, &[Register, Units]),
+    (Opcode::FromIter, &[Register, Points]),
+    (Opcode::FromIterCodePoints, &[Register, Register, Number]),
+    (Opcode::Clone, &[Register, Register]),
+    (Opcode::Reserve, &[Register, Number]),
+    (Opcode::Push, &[Register, Value]),
+    (Opcode::PushChar, &[Register, Value]),
+    (Opcode::PushStr, &[Register, Text]),
+    (Opcode::PushWtf8, &[Register, Register]),
+    (Opcode::Extend, &[Register, Points]),
+    (Opcode::ExtendCodePoints, &[Register, Register, Number]),
+    (Opcode::Truncate, &[Register, Number]),
+    (Opcode::Slice, &[Register, Register, Number, Number]),
+    (Opcode::SliceFrom, &[Register, Register, Number]),
+    (Opcode::SliceTo, &[Register, Register, Number]),
+    (Opcode::IntoString, &[Register]),
+    (Opcode::IntoStringLossy, &[Register]),
+    (Opcode::AsciiByteAt, &[Register, Number]),
+    (Opcode::Boundaries, &[Register]),
+    (Opcode::CodePoints, &[Register, Steps]),
+    (Opcode::ToIllFormedUtf16, &[Register, Steps]),
+    (Opcode::AsStr, &[Register]),
+    (Opcode::ToStringLossy, &[Register]),
+    (Opcode::Comparisons, &[Register, Register]),
+    (Opcode::Hash, &[Register]),
+    (Opcode::Debug, &[Register]),
+    (Opcode::ViewFromStr, &[Text]),
+    (Opcode::CodePoint, &[Value]),
+    (Opcode::CodePointComparisons, &[Value, Value]),
+    (Opcode::TruncateUnits, &[Register, Number]),
+    (Opcode::ReadSlice, &[Register, Number, Number]),
     (
-        "compare slices",
+        Opcode::CompareSlices,
         &[Register, Number, Number, Register, Number, Number],
     ),
-    ("push_wtf8 slice", &[Register, Register, Number, Number]),
-    ("extend hinted", &[Register, Number, Points]),
-    ("from_iter hinted", &[Register, Number, Points]),
-    ("apply", &[Register, Points, Builds]),
-    ("apply_all", &[Register, Number, Number, Points, Builds]),
-    ("units by number", &[Register]),
-    ("slice_units", &[Register, Number, Number]),
-    ("cmp_units", &[Register, Register]),
-    ("append_units", &[Register, Units]),
-    ("shrink_to_fit", &[Register]),
+    (Opcode::PushSlice, &[Register, Register, Number, Number]),
+    (Opcode::ExtendHinted, &[Register, Number, Points]),
+    (Opcode::FromIterHinted, &[Register, Number, Points]),
+    (Opcode::Apply, &[Register, Points, Builds]),
+    (
+        Opcode::ApplyAll,
+        &[Register, Number, Number, Points, Builds],
+    ),
+    (Opcode::UnitAt, &[Register]),
+    (Opcode::SliceUnits, &[Register, Number, Number]),
+    (Opcode::CmpUnits, &[Register, Register]),
+    (Opcode::AppendUnits, &[Register, Units]),
+    (Opcode::ShrinkToFit, &[Register]),
 ];
+
+// The index of a call in `CALLS` is its opcode.
+const _: () = {
+    let mut index = 0;
+    while index < CALLS.len() {
+        assert!(CALLS[index].0 as usize == index);
+        index += 1;
+    }
+};
+
+impl Opcode {
+    /// The opcode of a byte, if there is one.
+    pub fn from_byte(byte: u8) -> Option<Opcode> {
+        CALLS.get(usize::from(byte)).map(|(opcode, _)| *opcode)
+    }
+}
 
 /// The number of grants that means no limit.
 pub const UNBOUNDED: u16 = 0xFFFF;
-
-/// The opcode of a name in `CALLS`.
-pub fn opcode(name: &str) -> u8 {
-    let found = CALLS.iter().position(|(known, _)| *known == name);
-    found.unwrap_or_else(|| panic!("no call {name}")) as u8
-}
 
 #[derive(Clone, PartialEq)]
 pub enum Operand {
@@ -143,20 +209,17 @@ fn put(out: &mut Vec<u8>, kind: u8, operand: &[u8]) {
 
 #[derive(Clone, PartialEq)]
 pub struct Call {
-    pub opcode: u8,
+    pub opcode: Opcode,
     pub operands: Vec<Operand>,
 }
 
 impl Call {
-    pub fn new(name: &str, operands: Vec<Operand>) -> Call {
-        Call {
-            opcode: opcode(name),
-            operands,
-        }
+    pub fn new(opcode: Opcode, operands: Vec<Operand>) -> Call {
+        Call { opcode, operands }
     }
 
     fn encode(&self, out: &mut Vec<u8>) {
-        out.push(self.opcode);
+        out.push(self.opcode as u8);
         for operand in &self.operands {
             match operand {
                 Operand::Register(register) => out.push(*register),
@@ -197,7 +260,7 @@ pub fn encode(calls: &[Call]) -> Vec<u8> {
 
 impl fmt::Display for Call {
     fn fmt(&self, f: &mut fmt::Formatter<'_>) -> fmt::Result {
-        f.write_str(CALLS[usize::from(self.opcode)].0)?;
+        write!(f, "{:?}", self.opcode)?;
         for operand in &self.operands {
             match operand {
                 Operand::Register(register) => write!(f, " s{register}")?,

@@ -5,7 +5,7 @@
 //     node units.js fixed FOLDER               examples, long texts and some hundred others for the gate to replay;
 //                                              they follow the scripts of strings in FOLDER, in place of the old ones
 // Each writes the scripts to FOLDER/stdin, one a line in hexadecimal, and their transcripts to FOLDER/stdout, each with
-// an empty line after it. crates/compare_scripts/src/texts.rt lists the calls by their opcodes.
+// an empty line after it.
 'use strict';
 const fs = require('fs');
 const path = require('path');
@@ -29,99 +29,95 @@ function unitsOf(text) {
 // A string of one unit as a transcript shows it.
 const shown = (unit) => (unit === undefined ? '-' : hex(unit.charCodeAt(0), 4));
 
-// The calls by name: the opcode of each, and what it returns over the two strings of a state.
+// The opcodes of the calls. crates/compare_scripts/src/opcodes.rt says what each call does.
+const OPCODES = {
+  set: 64,
+  swap: 65,
+  slice: 66,
+  concat: 67,
+  length: 68,
+  unitAt: 69,
+  substring: 70,
+  charAt: 71,
+  startsWith: 72,
+  compare: 73,
+  cutEverywhere: 74,
+  mark: 75,
+  indexOf: 76,
+  at: 77,
+  codePointAt: 78,
+  isWellFormed: 79,
+  split: 80,
+  padStart: 81,
+  repeat: 82,
+  trim: 83,
+  replace: 84,
+  toWellFormed: 85,
+  push: 86,
+  lastIndexOf: 87,
+  endsWith: 88,
+};
+
+// What each call returns over the two strings of a state.
 const CALLS = {
-  set: { opcode: 64, run: (state, ...units) => unitsOf((state.first = textOf(units))) },
-  swap: {
-    opcode: 65,
-    run: (state) => {
-      [state.first, state.second] = [state.second, state.first];
-      return 'swapped';
-    },
+  set: (state, ...units) => unitsOf((state.first = textOf(units))),
+  swap: (state) => {
+    [state.first, state.second] = [state.second, state.first];
+    return 'swapped';
   },
-  length: { opcode: 68, run: (state) => `length ${state.first.length}` },
-  unitAt: {
-    opcode: 69,
-    run: (state, at) => {
-      const code = state.first.charCodeAt(at);
-      return `unit ${shown(state.first[at])} ${Number.isNaN(code) ? '-' : hex(code, 4)}`;
-    },
+  length: (state) => `length ${state.first.length}`,
+  unitAt: (state, at) => {
+    const code = state.first.charCodeAt(at);
+    return `unit ${shown(state.first[at])} ${Number.isNaN(code) ? '-' : hex(code, 4)}`;
   },
-  slice: {
-    opcode: 66,
-    run: (state, begin, end) => {
-      if (end < begin || state.first.length < end) return 'refused';
-      return unitsOf((state.first = state.first.slice(begin, end)));
-    },
+  slice: (state, begin, end) => {
+    if (end < begin || state.first.length < end) return 'refused';
+    return unitsOf((state.first = state.first.slice(begin, end)));
   },
-  substring: { opcode: 70, run: (state, first, second) => unitsOf(state.first.substring(first, second)) },
-  charAt: { opcode: 71, run: (state, at) => unitsOf(state.first.charAt(at)) },
-  startsWith: { opcode: 72, run: (state, at) => `starts ${state.first.startsWith(state.second, at)}` },
-  concat: { opcode: 67, run: (state) => unitsOf((state.first += state.second)) },
-  compare: {
-    opcode: 73,
-    run: ({ first, second }) => {
-      const order = first < second ? 'less' : first > second ? 'greater' : 'equal';
-      return `order ${order} lt ${first < second} gt ${second < first} eq ${first === second}`;
-    },
+  substring: (state, first, second) => unitsOf(state.first.substring(first, second)),
+  charAt: (state, at) => unitsOf(state.first.charAt(at)),
+  startsWith: (state, at) => `starts ${state.first.startsWith(state.second, at)}`,
+  concat: (state) => unitsOf((state.first += state.second)),
+  compare: ({ first, second }) => {
+    const order = first < second ? 'less' : first > second ? 'greater' : 'equal';
+    return `order ${order} lt ${first < second} gt ${second < first} eq ${first === second}`;
   },
-  cutEverywhere: {
-    opcode: 74,
-    run: ({ first }) => {
-      let whole = 0;
-      for (let at = 0; at <= first.length; at++) {
-        const cut = first.slice(0, at) + first.slice(at);
-        if (cut === first) whole += 1;
-      }
-      return `whole ${whole}`;
-    },
+  cutEverywhere: ({ first }) => {
+    let whole = 0;
+    for (let at = 0; at <= first.length; at++) {
+      const cut = first.slice(0, at) + first.slice(at);
+      if (cut === first) whole += 1;
+    }
+    return `whole ${whole}`;
   },
-  mark: { opcode: 75, run: ({ first }) => unitsOf(first) },
-  indexOf: {
-    opcode: 76,
-    run: ({ first, second }, from) => {
-      const at = first.indexOf(second, from);
-      return `index ${at < 0 ? '-' : at}`;
-    },
+  mark: ({ first }) => unitsOf(first),
+  indexOf: ({ first, second }, from) => {
+    const at = first.indexOf(second, from);
+    return `index ${at < 0 ? '-' : at}`;
   },
-  lastIndexOf: {
-    opcode: 87,
-    run: ({ first, second }, from) => {
-      const at = first.lastIndexOf(second, from);
-      return `last index ${at < 0 ? '-' : at}`;
-    },
+  lastIndexOf: ({ first, second }, from) => {
+    const at = first.lastIndexOf(second, from);
+    return `last index ${at < 0 ? '-' : at}`;
   },
-  endsWith: { opcode: 88, run: ({ first, second }, at) => `ends ${first.endsWith(second, at)}` },
-  at: { opcode: 77, run: ({ first }, at) => `at ${shown(first.at(at))} ${shown(first.at(-at))}` },
-  codePointAt: {
-    opcode: 78,
-    run: ({ first }, at) => {
-      const point = first.codePointAt(at);
-      return `point ${point === undefined ? '-' : `U+${hex(point, 4)}`}`;
-    },
+  endsWith: ({ first, second }, at) => `ends ${first.endsWith(second, at)}`,
+  at: ({ first }, at) => `at ${shown(first.at(at))} ${shown(first.at(-at))}`,
+  codePointAt: ({ first }, at) => {
+    const point = first.codePointAt(at);
+    return `point ${point === undefined ? '-' : `U+${hex(point, 4)}`}`;
   },
-  isWellFormed: { opcode: 79, run: ({ first }) => `well formed ${first.isWellFormed()}` },
-  split: {
-    opcode: 80,
-    run: ({ first }, unit) => {
-      const pieces = first.split(String.fromCharCode(unit));
-      return [`${pieces.length} pieces`, ...pieces.map(unitsOf)].join('\n');
-    },
+  isWellFormed: ({ first }) => `well formed ${first.isWellFormed()}`,
+  split: ({ first }, unit) => {
+    const pieces = first.split(String.fromCharCode(unit));
+    return [`${pieces.length} pieces`, ...pieces.map(unitsOf)].join('\n');
   },
-  padStart: { opcode: 81, run: (state, width) => unitsOf((state.first = state.first.padStart(width, state.second))) },
-  repeat: { opcode: 82, run: (state, count) => unitsOf((state.first = state.first.repeat(count))) },
-  trim: { opcode: 83, run: (state) => unitsOf((state.first = state.first.replace(/^[\t-\r ]+|[\t-\r ]+$/g, ''))) },
-  replace: {
-    opcode: 84,
-    run: (state, ...units) => unitsOf((state.first = state.first.replace(state.second, () => textOf(units)))),
-  },
-  toWellFormed: { opcode: 85, run: (state) => unitsOf((state.first = state.first.toWellFormed())) },
-  push: {
-    opcode: 86,
-    run: (state, ...units) => {
-      for (const unit of units) state.first += String.fromCharCode(unit);
-      return unitsOf(state.first);
-    },
+  padStart: (state, width) => unitsOf((state.first = state.first.padStart(width, state.second))),
+  repeat: (state, count) => unitsOf((state.first = state.first.repeat(count))),
+  trim: (state) => unitsOf((state.first = state.first.replace(/^[\t-\r ]+|[\t-\r ]+$/g, ''))),
+  replace: (state, ...units) => unitsOf((state.first = state.first.replace(state.second, () => textOf(units)))),
+  toWellFormed: (state) => unitsOf((state.first = state.first.toWellFormed())),
+  push: (state, ...units) => {
+    for (const unit of units) state.first += String.fromCharCode(unit);
+    return unitsOf(state.first);
   },
 };
 
@@ -137,7 +133,7 @@ function lineOf(calls) {
   let line = '';
   for (const [name, ...operands] of calls) {
     const numbers = OF_UNITS.includes(name) ? [operands.length, ...operands] : operands;
-    line += hex(CALLS[name].opcode, 2) + numbers.map(bytesOf).join('');
+    line += hex(OPCODES[name], 2) + numbers.map(bytesOf).join('');
   }
   return line + '\n';
 }
@@ -145,7 +141,7 @@ function lineOf(calls) {
 // The transcript of a script: what its calls return, and an empty line.
 function answersOf(calls) {
   const state = { first: '', second: '' };
-  return calls.map(([name, ...operands]) => CALLS[name].run(state, ...operands) + '\n').join('') + '\n';
+  return calls.map(([name, ...operands]) => CALLS[name](state, ...operands) + '\n').join('') + '\n';
 }
 
 // A generator of random numbers below a bound, by a seed.
@@ -273,7 +269,7 @@ function scriptOf(first, more, callsOn, below) {
   const calls = [];
   const add = (added) => {
     for (const [name, ...operands] of added) {
-      if (CHANGING.includes(name)) CALLS[name].run(state, ...operands);
+      if (CHANGING.includes(name)) CALLS[name](state, ...operands);
     }
     calls.push(...added);
   };
@@ -601,7 +597,7 @@ function write(scripts, folder, linesBefore = '', answersBefore = '') {
 function stringScripts(folder) {
   const lines = fs.readFileSync(path.join(folder, 'stdin'), 'utf8').split(/(?<=\n)/);
   const transcripts = fs.readFileSync(path.join(folder, 'stdout'), 'utf8').split(/(?<=\n\n)/);
-  const first = lines.findIndex((line) => parseInt(line.slice(0, 2), 16) >= CALLS.set.opcode);
+  const first = lines.findIndex((line) => parseInt(line.slice(0, 2), 16) >= OPCODES.set);
   const count = first < 0 ? lines.length : first;
   return [lines.slice(0, count).join(''), transcripts.slice(0, count).join('')];
 }

@@ -3,27 +3,8 @@
 use super::*;
 
 impl Machine {
-    pub fn run_together(&mut self, opcode: u8, reader: &mut Reader<'_>) {
-        match opcode {
-            33 => self.truncate_units(reader),
-            34 => self.look_at_slice(reader),
-            35 => self.compare_slices(reader),
-            36 => self.push_slice(reader),
-            37 | 38 => self.take_hinted(opcode, reader),
-            39 => self.apply_each(reader),
-            40 => self.apply_all(reader),
-            41 => self.units_by_number(reader),
-            42 => self.slice_units(reader),
-            43 => self.compare_units(reader),
-            44 => self.append_units(reader),
-            // The crate has no `shrink_to_fit`, which leaves the string's bytes unchanged.
-            45 => self.show(reader.register()),
-            _ => unreachable!("the generator knows no opcode {opcode}"),
-        }
-    }
-
     /// The crate cannot cut by units, so this makes a string of the first ones.
-    fn truncate_units(&mut self, reader: &mut Reader<'_>) {
+    pub fn truncate_units(&mut self, reader: &mut Reader<'_>) {
         let register = reader.register();
         let count = reader.number();
         match first_units(&self.strings[register], count) {
@@ -35,7 +16,7 @@ impl Machine {
         }
     }
 
-    fn units_by_number(&mut self, reader: &mut Reader<'_>) {
+    pub fn units_by_index(&mut self, reader: &mut Reader<'_>) {
         let units: Vec<String> = self.strings[reader.register()]
             .to_ill_formed_utf16()
             .map(unit_text)
@@ -44,7 +25,7 @@ impl Machine {
         self.line(&format!("{} -", line.join(" ")));
     }
 
-    fn append_units(&mut self, reader: &mut Reader<'_>) {
+    pub fn append_units(&mut self, reader: &mut Reader<'_>) {
         let register = reader.register();
         let mut units = reader.units();
         units.extend(self.strings[register].to_ill_formed_utf16());
@@ -54,7 +35,7 @@ impl Machine {
     }
 
     /// The crate compares code points, so this compares its iterators of units.
-    fn compare_units(&mut self, reader: &mut Reader<'_>) {
+    pub fn compare_units(&mut self, reader: &mut Reader<'_>) {
         let [own, other] = [reader.register(), reader.register()];
         let units = |register: usize| self.strings[register].to_ill_formed_utf16();
         let order = name_of(Some(units(own).cmp(units(other))));
@@ -64,7 +45,7 @@ impl Machine {
 
     /// The units from one index to another: the half of a divided pair at either end, and the bytes of the whole code
     /// points between them.
-    fn slice_units(&mut self, reader: &mut Reader<'_>) {
+    pub fn slice_units(&mut self, reader: &mut Reader<'_>) {
         let units: Vec<u16> = self.strings[reader.register()]
             .to_ill_formed_utf16()
             .collect();
@@ -88,7 +69,7 @@ impl Machine {
         self.line(&format!("slice {trail} ({whole}) {lead}"));
     }
 
-    fn look_at_slice(&mut self, reader: &mut Reader<'_>) {
+    pub fn read_slice(&mut self, reader: &mut Reader<'_>) {
         let whole = self.strings[reader.register()].clone();
         let (begin, end) = (reader.number(), reader.number());
         let Some(part) = self.slice_of(&whole, begin, end) else {
@@ -116,7 +97,7 @@ impl Machine {
         part
     }
 
-    fn compare_slices(&mut self, reader: &mut Reader<'_>) {
+    pub fn compare_slices(&mut self, reader: &mut Reader<'_>) {
         let own = self.strings[reader.register()].clone();
         let own = self.slice_of(&own, reader.number(), reader.number());
         let other = self.strings[reader.register()].clone();
@@ -127,7 +108,7 @@ impl Machine {
         }
     }
 
-    fn push_slice(&mut self, reader: &mut Reader<'_>) {
+    pub fn push_slice(&mut self, reader: &mut Reader<'_>) {
         let register = reader.register();
         let whole = self.strings[reader.register()].clone();
         let Some(part) = self.slice_of(&whole, reader.number(), reader.number()) else {
@@ -137,19 +118,15 @@ impl Machine {
         self.show(register);
     }
 
-    fn take_hinted(&mut self, opcode: u8, reader: &mut Reader<'_>) {
-        let register = reader.register();
-        let low = reader.number();
-        let points = reader.points().into_iter();
-        let hinted = Hinted { points, low };
-        match opcode {
-            37 => self.strings[register].extend(hinted),
-            _ => self.strings[register] = hinted.collect(),
-        }
-        self.show(register);
+    pub fn extend_hinted(&mut self, reader: &mut Reader<'_>) {
+        self.change(reader, |string, reader| string.extend(hinted(reader)));
     }
 
-    fn apply_each(&mut self, reader: &mut Reader<'_>) {
+    pub fn from_iter_hinted(&mut self, reader: &mut Reader<'_>) {
+        self.change(reader, |string, reader| *string = hinted(reader).collect());
+    }
+
+    pub fn apply_each(&mut self, reader: &mut Reader<'_>) {
         let register = reader.register();
         let pieces = Pieces {
             points: reader.points(),
@@ -167,7 +144,7 @@ impl Machine {
 
     /// Applies the calls one by one, and tests truncations first. If no request for memory is granted, the list stops
     /// at the first call whose bytes do not fit.
-    fn apply_all(&mut self, reader: &mut Reader<'_>) {
+    pub fn apply_all(&mut self, reader: &mut Reader<'_>) {
         let register = reader.register();
         let mut string = self.strings[register].clone();
         let room = match (reader.number(), reader.unit()) {
@@ -214,6 +191,13 @@ fn first_units(text: &Wtf8, count: usize) -> Option<Wtf8Buf> {
 struct Hinted {
     points: std::vec::IntoIter<CodePoint>,
     low: usize,
+}
+
+/// Reads a hint, then points.
+fn hinted(reader: &mut Reader<'_>) -> Hinted {
+    let low = reader.number();
+    let points = reader.points().into_iter();
+    Hinted { points, low }
 }
 
 impl Iterator for Hinted {

@@ -1,6 +1,7 @@
 // Calls that make strings or change them.
 use crate::hinted::Hinted;
 use crate::machine::Machine;
+use crate::opcodes::{Append, Convert, Cut, Make};
 use crate::reader::{Reader, Register};
 use crate::stop::{Stop, allocated};
 use crate::tape::Tape;
@@ -12,23 +13,25 @@ impl Machine {
     /// Makes the string of a call for register `at`. `with_capacity` and `apply_all` also write lines of their own.
     pub fn make(
         &self,
-        opcode: u8,
+        call: Make,
         at: Register,
         tape: &mut Tape<'_>,
     ) -> Result<Wtf8Buf<Global>, Stop> {
-        match opcode {
-            0 => Ok(Wtf8Buf::new(tape.alloc)),
-            1 => with_capacity(tape),
-            2 => from_string(tape),
-            3 => from_text(tape),
-            4 => from_units(tape),
-            5 => from_points(tape),
-            6 => self.from_last_points(tape),
-            7 => self.copy(tape),
-            16..=18 | 36 => self.with_part(opcode, at, tape),
-            38 => from_hinted(tape),
-            40 => self.apply_all(at, tape),
-            _ => Err(Stop::Malformed),
+        match call {
+            Make::New => Ok(Wtf8Buf::new(tape.alloc)),
+            Make::WithCapacity => with_capacity(tape),
+            Make::FromString => from_string(tape),
+            Make::FromStr => from_text(tape),
+            Make::FromIllFormedUtf16 => from_units(tape),
+            Make::FromIter => from_points(tape),
+            Make::FromIterCodePoints => self.from_last_points(tape),
+            Make::Clone => self.copy(tape),
+            Make::Slice => self.from_slice(tape),
+            Make::SliceFrom => self.from_back(tape),
+            Make::SliceTo => self.from_front(tape),
+            Make::PushSlice => self.with_slice(at, tape),
+            Make::FromIterHinted => from_hinted(tape),
+            Make::ApplyAll => self.apply_all(at, tape),
         }
     }
 
@@ -45,27 +48,52 @@ impl Machine {
         allocated(other.clone())
     }
 
-    /// Appends a slice to a clone of the register's string (opcode 36) or to an empty string.
-    fn with_part(
-        &self,
-        opcode: u8,
-        at: Register,
-        tape: &mut Tape<'_>,
-    ) -> Result<Wtf8Buf<Global>, Stop> {
-        let part = self.read_part(opcode, &mut tape.reader)?;
-        let string = match opcode {
-            36 => allocated(self.string(at).clone())?,
-            _ => Wtf8Buf::new(tape.alloc),
-        };
-        with_view(string, part)
+    /// `slice` of another string.
+    fn from_slice(&self, tape: &mut Tape<'_>) -> Result<Wtf8Buf<Global>, Stop> {
+        let other = tape.reader.register()?;
+        let part = self.read_slice(other, &mut tape.reader)?;
+        with_view(Wtf8Buf::new(tape.alloc), part)
+    }
+
+    /// `slice_from` of another string.
+    fn from_back(&self, tape: &mut Tape<'_>) -> Result<Wtf8Buf<Global>, Stop> {
+        let whole = self.view(tape.reader.register()?);
+        let position = tape.reader.number()?;
+        if !whole.is_code_point_boundary(position) {
+            return Err(Stop::Refused);
+        }
+        with_view(Wtf8Buf::new(tape.alloc), whole.slice_from(position))
+    }
+
+    /// `slice_to` of another string.
+    fn from_front(&self, tape: &mut Tape<'_>) -> Result<Wtf8Buf<Global>, Stop> {
+        let whole = self.view(tape.reader.register()?);
+        let position = tape.reader.number()?;
+        if !whole.is_code_point_boundary(position) {
+            return Err(Stop::Refused);
+        }
+        with_view(Wtf8Buf::new(tape.alloc), whole.slice_to(position))
+    }
+
+    /// `push_wtf8` of a slice of another string to a clone of the register's string.
+    fn with_slice(&self, at: Register, tape: &mut Tape<'_>) -> Result<Wtf8Buf<Global>, Stop> {
+        let other = tape.reader.register()?;
+        let part = self.read_slice(other, &mut tape.reader)?;
+        with_view(allocated(self.string(at).clone())?, part)
     }
 
     /// Runs a call that appends to a string, or `reserve`.
-    pub fn append(&mut self, opcode: u8, at: Register, tape: &mut Tape<'_>) -> Result<(), Stop> {
-        match opcode {
-            12 => self.push_string(at, tape),
-            14 => self.extend_by_string(at, tape),
-            _ => append_operand(opcode, &mut self.strings[at.index], tape),
+    pub fn append(&mut self, call: Append, at: Register, tape: &mut Tape<'_>) -> Result<(), Stop> {
+        let string = &mut self.strings[at.index];
+        match call {
+            Append::Reserve => reserve(string, tape),
+            Append::Push => push(string, &mut tape.reader),
+            Append::PushChar => push_char(string, &mut tape.reader),
+            Append::PushStr => push_str(string, &mut tape.reader),
+            Append::PushWtf8 => self.push_string(at, tape),
+            Append::Extend => extend(string, tape),
+            Append::ExtendCodePoints => self.extend_by_string(at, tape),
+            Append::ExtendHinted => extend_hinted(string, tape),
         }
     }
 
@@ -83,41 +111,28 @@ impl Machine {
     }
 
     /// `truncate` and `truncate_units`: writes whether the capacity was unchanged.
-    pub fn cut(&mut self, opcode: u8, at: Register, tape: &mut Tape<'_>) -> Result<(), Stop> {
+    pub fn cut(&mut self, call: Cut, at: Register, tape: &mut Tape<'_>) -> Result<(), Stop> {
         let position = tape.reader.number()?;
         let string = &mut self.strings[at.index];
         let capacity = string.capacity();
-        match opcode {
-            15 if string.as_wtf8().is_code_point_boundary(position) => string.truncate(position),
-            33 if position <= string.as_wtf8().unit_len() => string.truncate_units(position),
-            _ => return Err(Stop::Refused),
+        match call {
+            Cut::Truncate => truncate(string, position)?,
+            Cut::TruncateUnits => truncate_units(string, position)?,
         }
         tape.write_kept(string.capacity() == capacity)
     }
 
     /// `into_string` and `into_string_lossy`: writes the bytes of the text and whether the capacity was unchanged, or
     /// that there is no text. The result becomes the register's string again.
-    pub fn turn(&mut self, opcode: u8, at: Register, tape: &mut Tape<'_>) -> Result<(), Stop> {
+    pub fn convert(
+        &mut self,
+        call: Convert,
+        at: Register,
+        tape: &mut Tape<'_>,
+    ) -> Result<(), Stop> {
         let string = mem::replace(&mut self.strings[at.index], Wtf8Buf::new(tape.alloc));
-        self.strings[at.index] = turned(opcode, string, tape)?;
+        self.strings[at.index] = converted(call, string, tape)?;
         Ok(())
-    }
-
-    /// Reads a string, then a position (`slice_from`, `slice_to`) or a range, and returns that slice.
-    fn read_part(&self, opcode: u8, reader: &mut Reader<'_>) -> Result<Wtf8<'_>, Stop> {
-        let at = reader.register()?;
-        if let 16 | 36 = opcode {
-            return self.read_slice(at, reader);
-        }
-        let position = reader.number()?;
-        let whole = self.view(at);
-        if !whole.is_code_point_boundary(position) {
-            return Err(Stop::Refused);
-        }
-        match opcode {
-            17 => Ok(whole.slice_from(position)),
-            _ => Ok(whole.slice_to(position)),
-        }
     }
 }
 
@@ -173,22 +188,6 @@ pub fn with_view<A: Allocator + Drop>(
     Ok(string)
 }
 
-/// Runs a call that appends its operand, or `reserve`.
-fn append_operand(
-    opcode: u8,
-    string: &mut Wtf8Buf<Global>,
-    tape: &mut Tape<'_>,
-) -> Result<(), Stop> {
-    match opcode {
-        8 => reserve(string, tape),
-        9 => push(string, &mut tape.reader),
-        10 => push_char(string, &mut tape.reader),
-        11 => push_str(string, &mut tape.reader),
-        13 => extend(string, tape),
-        _ => extend_hinted(string, tape),
-    }
-}
-
 /// `reserve`: writes whether the spare capacity is at least the requested one.
 fn reserve(string: &mut Wtf8Buf<Global>, tape: &mut Tape<'_>) -> Result<(), Stop> {
     let additional = tape.reader.number()?;
@@ -229,18 +228,26 @@ fn extend_hinted(string: &mut Wtf8Buf<Global>, tape: &mut Tape<'_>) -> Result<()
 }
 
 /// `into_string` or `into_string_lossy` of a string. Returns its result as a string.
-fn turned(
-    opcode: u8,
+fn converted(
+    call: Convert,
     string: Wtf8Buf<Global>,
     tape: &mut Tape<'_>,
 ) -> Result<Wtf8Buf<Global>, Stop> {
     let capacity = string.capacity();
-    let turned = match opcode {
-        19 => string.into_string(),
-        _ => Ok(string.into_string_lossy()),
-    };
-    match turned {
-        Ok(text) => from_turned(text, capacity, tape),
+    match call {
+        Convert::IntoString => from_conversion(string.into_string(), capacity, tape),
+        Convert::IntoStringLossy => from_converted(string.into_string_lossy(), capacity, tape),
+    }
+}
+
+/// Writes what `into_string` returned, and returns it as a string.
+fn from_conversion(
+    returned: Result<String, Wtf8Buf<Global>>,
+    capacity: usize,
+    tape: &mut Tape<'_>,
+) -> Result<Wtf8Buf<Global>, Stop> {
+    match returned {
+        Ok(text) => from_converted(text, capacity, tape),
         Err(string) => {
             tape.write_line("no text")?;
             Ok(string)
@@ -249,7 +256,7 @@ fn turned(
 }
 
 /// Writes the bytes of a text and whether its capacity was unchanged, and makes a string of it.
-fn from_turned(
+fn from_converted(
     text: String,
     capacity: usize,
     tape: &mut Tape<'_>,
@@ -257,6 +264,24 @@ fn from_turned(
     tape.write_text("text", text.as_str())?;
     tape.write_kept(text.capacity() == capacity)?;
     Ok(Wtf8Buf::from_string(text))
+}
+
+/// `truncate`.
+fn truncate(string: &mut Wtf8Buf<Global>, position: usize) -> Result<(), Stop> {
+    if !string.as_wtf8().is_code_point_boundary(position) {
+        return Err(Stop::Refused);
+    }
+    string.truncate(position);
+    Ok(())
+}
+
+/// `truncate_units`.
+fn truncate_units(string: &mut Wtf8Buf<Global>, count: usize) -> Result<(), Stop> {
+    if string.as_wtf8().unit_len() < count {
+        return Err(Stop::Refused);
+    }
+    string.truncate_units(count);
+    Ok(())
 }
 
 /// The code points of a string without the first `count`.

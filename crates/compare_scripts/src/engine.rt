@@ -4,30 +4,12 @@ use crate::tape::Tape;
 use std::alloc::Global;
 use unit_text::UnitText;
 use wtf8_uses::engine_search::{index_of, last_index_of, replace, split};
-use wtf8_uses::engine_strings::{at, code_point_at, pad_start, repeat, to_well_formed, trim_ascii};
+use wtf8_uses::engine_strings::{at, code_point_at, pad_start, repeat};
 use wtf8_uses::strings::ends_with;
 use wtf8_uses::well_formed::is_well_formed;
 
-/// Runs a call that changes neither text, and writes what it returns.
-pub fn write_result(
-    opcode: u8,
-    tape: &mut Tape<'_>,
-    text: &UnitText<Global>,
-    other: &UnitText<Global>,
-) -> Result<(), Stop> {
-    match opcode {
-        76 => write_index(tape, text, other),
-        77 => write_units_at(tape, text),
-        78 => write_point(tape, text),
-        79 => write_well_formed(tape, text),
-        80 => write_pieces(tape, text),
-        87 => write_last_index(tape, text, other),
-        _ => write_end(tape, text, other),
-    }
-}
-
 /// `index_of`: writes the index.
-fn write_index(
+pub fn write_index(
     tape: &mut Tape<'_>,
     text: &UnitText<Global>,
     other: &UnitText<Global>,
@@ -37,24 +19,24 @@ fn write_index(
 }
 
 /// `at` an index and at its negation, which counts from the end: writes both units.
-fn write_units_at(tape: &mut Tape<'_>, text: &UnitText<Global>) -> Result<(), Stop> {
+pub fn write_units_at(tape: &mut Tape<'_>, text: &UnitText<Global>) -> Result<(), Stop> {
     let position = tape.reader.unit()? as isize;
     tape.write_two("at", at(text, position), at(text, -position))
 }
 
 /// `code_point_at`: writes the code point.
-fn write_point(tape: &mut Tape<'_>, text: &UnitText<Global>) -> Result<(), Stop> {
+pub fn write_point(tape: &mut Tape<'_>, text: &UnitText<Global>) -> Result<(), Stop> {
     let position = tape.reader.number()?;
     tape.write_found("point", code_point_at(text, position))
 }
 
 /// `is_well_formed`.
-fn write_well_formed(tape: &mut Tape<'_>, text: &UnitText<Global>) -> Result<(), Stop> {
+pub fn write_well_formed(tape: &mut Tape<'_>, text: &UnitText<Global>) -> Result<(), Stop> {
     writeln!(tape, "well formed {}", is_well_formed(text))
 }
 
 /// `split`: writes the number of pieces, then one piece a line.
-fn write_pieces(tape: &mut Tape<'_>, text: &UnitText<Global>) -> Result<(), Stop> {
+pub fn write_pieces(tape: &mut Tape<'_>, text: &UnitText<Global>) -> Result<(), Stop> {
     let separator = tape.reader.unit()?;
     let pieces = allocated(split(tape.alloc, text, separator))?;
     writeln!(tape, "{} pieces", pieces.len())?;
@@ -65,7 +47,7 @@ fn write_pieces(tape: &mut Tape<'_>, text: &UnitText<Global>) -> Result<(), Stop
 }
 
 /// `last_index_of`: writes the index.
-fn write_last_index(
+pub fn write_last_index(
     tape: &mut Tape<'_>,
     text: &UnitText<Global>,
     other: &UnitText<Global>,
@@ -75,7 +57,7 @@ fn write_last_index(
 }
 
 /// `ends_with`.
-fn write_end(
+pub fn write_end(
     tape: &mut Tape<'_>,
     text: &UnitText<Global>,
     other: &UnitText<Global>,
@@ -85,24 +67,8 @@ fn write_end(
     writeln!(tape, "ends {is_end}")
 }
 
-/// Makes the text that replaces the first one.
-pub fn made(
-    opcode: u8,
-    tape: &mut Tape<'_>,
-    text: &UnitText<Global>,
-    other: &UnitText<Global>,
-) -> Result<UnitText<Global>, Stop> {
-    match opcode {
-        81 => padded(tape, text, other),
-        82 => repeated(tape, text),
-        83 => allocated(trim_ascii(tape.alloc, text)),
-        84 => replaced(tape, text, other),
-        _ => allocated(to_well_formed(tape.alloc, text)),
-    }
-}
-
 /// `pad_start` with the other text.
-fn padded(
+pub fn padded(
     tape: &mut Tape<'_>,
     text: &UnitText<Global>,
     other: &UnitText<Global>,
@@ -112,13 +78,13 @@ fn padded(
 }
 
 /// `repeat`.
-fn repeated(tape: &mut Tape<'_>, text: &UnitText<Global>) -> Result<UnitText<Global>, Stop> {
+pub fn repeated(tape: &mut Tape<'_>, text: &UnitText<Global>) -> Result<UnitText<Global>, Stop> {
     let count = tape.reader.number()?;
     allocated(repeat(tape.alloc, text, count))
 }
 
 /// `replace` of the other text by units of the script.
-fn replaced(
+pub fn replaced(
     tape: &mut Tape<'_>,
     text: &UnitText<Global>,
     other: &UnitText<Global>,

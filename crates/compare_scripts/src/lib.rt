@@ -1,8 +1,8 @@
 //! Interpreter of short scripts of calls on strings: writes a transcript of what each call returns.
 //!
 //! A script is bytes: one call after another, each an opcode and its operands. It works on four strings and two
-//! `UnitText`s, all empty at the start. `compare/src/script.rs` lists the calls on strings by opcode, `texts` those on
-//! `UnitText`s. A transcript is lines of text, at least one for each call but `apply` of an empty list.
+//! `UnitText`s, all empty at the start. `opcodes` lists the calls. A transcript is lines of text, at least one for each
+//! call but `apply` of an empty list.
 #![tactic(auto)]
 
 mod applying;
@@ -12,6 +12,7 @@ mod engine;
 mod hinted;
 mod looking;
 mod machine;
+mod opcodes;
 mod reader;
 mod recorder;
 mod stop;

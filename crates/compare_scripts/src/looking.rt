@@ -1,6 +1,7 @@
 // Calls that only read strings, slices, texts and code points.
 use crate::comparing::{name_of, write_comparisons};
 use crate::machine::Machine;
+use crate::opcodes::{OperandCall, Read};
 use crate::reader::Register;
 use crate::recorder::write_hash_input;
 use crate::stop::{Stop, allocated};
@@ -12,13 +13,22 @@ use wtf8::{CodePoint, UnitSlice, Wtf8, Wtf8Buf};
 
 impl Machine {
     /// Runs a call that reads a string, and writes what it returns.
-    pub fn look(&self, opcode: u8, at: Register, tape: &mut Tape<'_>) -> Result<(), Stop> {
-        match opcode {
-            27 => self.compare(at, tape),
-            28 => write_hash_inputs(tape, self.string(at)),
-            29 => write_buffer_texts(tape, self.string(at)),
-            43 => self.compare_units(at, tape),
-            _ => look_at_view(opcode, tape, self.view(at)),
+    pub fn look(&self, call: Read, at: Register, tape: &mut Tape<'_>) -> Result<(), Stop> {
+        let view = self.view(at);
+        match call {
+            Read::AsciiByteAt => write_ascii_byte(tape, view),
+            Read::Boundaries => write_boundaries(tape, view),
+            Read::CodePoints => write_points(tape, view),
+            Read::ToIllFormedUtf16 => write_units(tape, view),
+            Read::AsStr => write_as_text(tape, view),
+            Read::ToStringLossy => write_lossy_text(tape, view),
+            Read::Comparisons => self.compare(at, tape),
+            Read::Hash => write_hash_inputs(tape, self.string(at)),
+            Read::Debug => write_buffer_texts(tape, self.string(at)),
+            Read::UnitAt => write_units_by_index(tape, view),
+            Read::SliceUnits => write_unit_slice(tape, view),
+            Read::CmpUnits => self.compare_units(at, tape),
+            Read::AppendUnits => write_appended_units(tape, view),
         }
     }
 
@@ -35,35 +45,18 @@ impl Machine {
         write_orders_of_units(tape, &self.view(at), &self.view(other))
     }
 
-    /// Runs a call that reads a slice in its string, without a copy, or compares it with another slice.
-    pub fn look_inside(&self, opcode: u8, at: Register, tape: &mut Tape<'_>) -> Result<(), Stop> {
-        let own = self.read_slice(at, &mut tape.reader);
-        match opcode {
-            34 => write_answers(tape, own?),
-            _ => self.compare_slices(own, tape),
-        }
+    /// The calls that read a view, on a slice of a string, without a copy.
+    pub fn look_at_slice(&self, at: Register, tape: &mut Tape<'_>) -> Result<(), Stop> {
+        let slice = self.read_slice(at, &mut tape.reader)?;
+        write_answers(tape, slice)
     }
 
     /// Compares a slice with another one. The second one is read from the script even if the first is refused.
-    fn compare_slices(&self, own: Result<Wtf8<'_>, Stop>, tape: &mut Tape<'_>) -> Result<(), Stop> {
+    pub fn compare_slices(&self, at: Register, tape: &mut Tape<'_>) -> Result<(), Stop> {
+        let own = self.read_slice(at, &mut tape.reader);
         let at = tape.reader.register()?;
         let other = self.read_slice(at, &mut tape.reader);
         write_comparisons(tape, "views", &own?, &other?)
-    }
-}
-
-/// Runs a call that reads a view, and writes what it returns.
-fn look_at_view(opcode: u8, tape: &mut Tape<'_>, view: Wtf8<'_>) -> Result<(), Stop> {
-    match opcode {
-        21 => write_ascii_byte(tape, view),
-        22 => write_boundaries(tape, view),
-        23 => write_points(tape, view),
-        24 => write_units(tape, view),
-        25 => write_as_text(tape, view),
-        26 => write_lossy_text(tape, view),
-        41 => write_units_by_number(tape, view),
-        42 => write_unit_slice(tape, view),
-        _ => write_appended_units(tape, view),
     }
 }
 
@@ -79,11 +72,11 @@ fn write_orders_of_units(
 }
 
 /// Runs a call on a text or on code points of the script, and writes what it returns.
-pub fn look_at_operands(opcode: u8, tape: &mut Tape<'_>) -> Result<(), Stop> {
-    match opcode {
-        30 => write_operand_view(tape),
-        31 => write_point(tape),
-        _ => compare_points(tape),
+pub fn look_at_operands(call: OperandCall, tape: &mut Tape<'_>) -> Result<(), Stop> {
+    match call {
+        OperandCall::ViewFromStr => write_operand_view(tape),
+        OperandCall::CodePoint => write_point(tape),
+        OperandCall::CodePointComparisons => compare_points(tape),
     }
 }
 
@@ -186,7 +179,7 @@ fn write_wide_text(tape: &mut Tape<'_>, view: Wtf8<'_>) -> Result<(), Stop> {
 }
 
 /// Writes `unit_len`, and `unit_at` of each index from 0 to that number.
-fn write_units_by_number(tape: &mut Tape<'_>, view: Wtf8<'_>) -> Result<(), Stop> {
+fn write_units_by_index(tape: &mut Tape<'_>, view: Wtf8<'_>) -> Result<(), Stop> {
     let len = view.unit_len();
     write!(tape, "{len} units")?;
     for index in 0..=len {

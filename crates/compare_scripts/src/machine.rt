@@ -1,9 +1,10 @@
 // Runs a script.
 use crate::looking::look_at_operands;
+use crate::opcodes::{Call, Change, Make, StringCall};
 use crate::reader::{Reader, Register, STRINGS};
 use crate::stop::Stop;
 use crate::tape::Tape;
-use crate::texts::{FIRST_OF_TEXTS, Texts};
+use crate::texts::Texts;
 use std::alloc::{AllocError, Global};
 use std::array;
 use wtf8::{Wtf8, Wtf8Buf};
@@ -58,38 +59,52 @@ impl Machine {
 
     /// Runs the call of an opcode, whose operands come next in the script, and writes what it returns.
     fn run(&mut self, opcode: u8, tape: &mut Tape<'_>) -> Result<(), Stop> {
-        if FIRST_OF_TEXTS <= opcode {
-            return self.texts.run(opcode, tape);
-        }
-        match opcode {
-            30..=32 => look_at_operands(opcode, tape),
-            _ => self.run_at(opcode, tape),
+        match Call::from_opcode(opcode) {
+            Some(Call::Operands(call)) => look_at_operands(call, tape),
+            Some(Call::String(call)) => self.run_at(call, tape),
+            Some(Call::Text(call)) => self.texts.run(call, tape),
+            None => Err(Stop::Malformed),
         }
     }
 
     /// Runs a call on one of the strings.
-    fn run_at(&mut self, opcode: u8, tape: &mut Tape<'_>) -> Result<(), Stop> {
+    fn run_at(&mut self, call: StringCall, tape: &mut Tape<'_>) -> Result<(), Stop> {
         let at = tape.reader.register()?;
-        match opcode {
-            21..=29 | 41..=44 => self.look(opcode, at, tape),
-            34 | 35 => self.look_inside(opcode, at, tape),
-            39 => self.apply_each(at, tape),
-            _ => {
-                self.change(opcode, at, tape)?;
-                tape.write_string(at, self.view(at))
-            }
+        match call {
+            StringCall::Change(call) => self.run_change(call, at, tape),
+            StringCall::Read(call) => self.look(call, at, tape),
+            StringCall::ReadSlice => self.look_at_slice(at, tape),
+            StringCall::CompareSlices => self.compare_slices(at, tape),
+            StringCall::Apply => self.apply_each(at, tape),
         }
     }
 
+    /// Runs a call that changes one of the strings, and writes the string after it.
+    fn run_change(&mut self, call: Change, at: Register, tape: &mut Tape<'_>) -> Result<(), Stop> {
+        self.change(call, at, tape)?;
+        tape.write_string(at, self.view(at))
+    }
+
     /// Runs a call that changes one of the strings.
-    fn change(&mut self, opcode: u8, at: Register, tape: &mut Tape<'_>) -> Result<(), Stop> {
-        match opcode {
-            8..=14 | 37 => return self.append(opcode, at, tape),
-            15 | 33 => return self.cut(opcode, at, tape),
-            19 | 20 => return self.turn(opcode, at, tape),
-            45 => self.strings[at.index].shrink_to_fit(),
-            _ => self.strings[at.index] = self.make(opcode, at, tape)?,
+    fn change(&mut self, call: Change, at: Register, tape: &mut Tape<'_>) -> Result<(), Stop> {
+        match call {
+            Change::Make(call) => self.replace(call, at, tape),
+            Change::Append(call) => self.append(call, at, tape),
+            Change::Cut(call) => self.cut(call, at, tape),
+            Change::Convert(call) => self.convert(call, at, tape),
+            Change::ShrinkToFit => self.shrink_to_fit(at),
         }
+    }
+
+    /// Runs a call that makes one of the strings anew.
+    fn replace(&mut self, call: Make, at: Register, tape: &mut Tape<'_>) -> Result<(), Stop> {
+        self.strings[at.index] = self.make(call, at, tape)?;
+        Ok(())
+    }
+
+    /// `shrink_to_fit`.
+    fn shrink_to_fit(&mut self, at: Register) -> Result<(), Stop> {
+        self.strings[at.index].shrink_to_fit();
         Ok(())
     }
 

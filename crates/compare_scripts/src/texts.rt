@@ -1,16 +1,18 @@
-// The calls on texts, with the opcodes from 64 on.
+// The calls on texts.
 use crate::comparing::name_of;
-use crate::engine::{made, write_result};
+use crate::engine::{
+    padded, repeated, replaced, write_end, write_index, write_last_index, write_pieces,
+    write_point, write_units_at, write_well_formed,
+};
+use crate::opcodes::{ChangeText, MakeText, ReadText, TextCall};
 use crate::stop::{Stop, allocated};
 use crate::tape::Tape;
 use std::alloc::Global;
 use std::mem;
 use unit_text::UnitText;
 use wtf8_uses::cuts::is_whole_again;
+use wtf8_uses::engine_strings::{to_well_formed, trim_ascii};
 use wtf8_uses::strings::{char_at, char_code_at, is_less, starts_with, substring};
-
-/// The first opcode of a call on texts. All calls on strings have lower ones.
-pub const FIRST_OF_TEXTS: u8 = 64;
 
 /// The two texts of a script.
 #[derive(Drop)]
@@ -27,64 +29,59 @@ impl Texts {
         Ok(Texts { first, second })
     }
 
-    /// Runs the call of an opcode, whose operands come next in the script, and writes what it returns. After a call
-    /// that makes or changes the first text it writes the units of that text.
-    ///
-    /// | Opcode | Operands | Call |
-    /// |---|---|---|
-    /// | 64 | a count, and units | makes the first text of the units |
-    /// | 65 | | swaps the texts, and writes only `swapped` |
-    /// | 66 | two numbers | cuts the first text to the units from one index to another |
-    /// | 67 | | appends the second text to the first |
-    /// | 68 | | the length |
-    /// | 69 | a number | the unit at an index, by `unit_at` and by `char_code_at` |
-    /// | 70, 71 | two numbers, a number | `substring`, `char_at` |
-    /// | 72 | a number | whether the second text occurs at an index (`starts_with`) |
-    /// | 73 | | the order of the texts, `is_less` in both directions, and whether they are equal |
-    /// | 74 | | the number of indexes at which the first text, cut and joined again, is unchanged |
-    /// | 75 | | makes the first text keep marks from now on |
-    /// | 76 | a number | `index_of` the second text, from an index |
-    /// | 77, 78 | a number | `at` an index and at its negation; `code_point_at` |
-    /// | 79 | | `is_well_formed` |
-    /// | 80 | a unit | `split` at it: the number of pieces, then one piece a line |
-    /// | 81 | a number | `pad_start` of the first text to a width by the second |
-    /// | 82, 83 | a number, none | `repeat` and `trim_ascii` of the first text |
-    /// | 84 | a count, and units | `replace` of the second text in the first by the units |
-    /// | 85 | | `to_well_formed` of the first text |
-    /// | 86 | a count, and units | pushes each unit to the first text |
-    /// | 87, 88 | a number | `last_index_of` the second text, up to an index; `ends_with` it, at an index |
-    pub fn run(&mut self, opcode: u8, tape: &mut Tape<'_>) -> Result<(), Stop> {
-        match opcode {
-            64 | 66 | 67 | 75 | 81..=86 => {
-                self.change(opcode, tape)?;
-                tape.write_units(&self.first)
-            }
-            65 => {
-                mem::swap(&mut self.first, &mut self.second);
-                tape.write_line("swapped")
-            }
-            76..=80 | 87 | 88 => write_result(opcode, tape, &self.first, &self.second),
-            _ => self.look(opcode, tape),
+    /// Runs a call, whose operands come next in the script, and writes what it returns.
+    pub fn run(&mut self, call: TextCall, tape: &mut Tape<'_>) -> Result<(), Stop> {
+        match call {
+            TextCall::Change(call) => self.run_change(call, tape),
+            TextCall::Read(call) => self.look(call, tape),
+            TextCall::Swap => self.swap(tape),
         }
     }
 
+    /// Runs a call that changes the first text, and writes its units after the call.
+    fn run_change(&mut self, call: ChangeText, tape: &mut Tape<'_>) -> Result<(), Stop> {
+        self.change(call, tape)?;
+        tape.write_units(&self.first)
+    }
+
+    /// Swaps the texts.
+    fn swap(&mut self, tape: &mut Tape<'_>) -> Result<(), Stop> {
+        mem::swap(&mut self.first, &mut self.second);
+        tape.write_line("swapped")
+    }
+
     /// Runs a call that changes the first text.
-    fn change(&mut self, opcode: u8, tape: &mut Tape<'_>) -> Result<(), Stop> {
-        match opcode {
-            67 => return allocated(self.first.concat(&self.second)),
-            75 => self.first.mark_units(tape.alloc),
-            86 => return push_units(&mut self.first, tape),
-            _ => self.first = self.made(opcode, tape)?,
+    fn change(&mut self, call: ChangeText, tape: &mut Tape<'_>) -> Result<(), Stop> {
+        match call {
+            ChangeText::Make(call) => self.replace(call, tape),
+            ChangeText::Concat => allocated(self.first.concat(&self.second)),
+            ChangeText::Mark => self.mark(tape),
+            ChangeText::Push => push_units(&mut self.first, tape),
         }
+    }
+
+    /// Runs a call that makes the first text anew.
+    fn replace(&mut self, call: MakeText, tape: &mut Tape<'_>) -> Result<(), Stop> {
+        self.first = self.make(call, tape)?;
+        Ok(())
+    }
+
+    /// `mark_units`.
+    fn mark(&mut self, tape: &mut Tape<'_>) -> Result<(), Stop> {
+        self.first.mark_units(tape.alloc);
         Ok(())
     }
 
     /// Makes the text that replaces the first one.
-    fn made(&self, opcode: u8, tape: &mut Tape<'_>) -> Result<UnitText<Global>, Stop> {
-        match opcode {
-            64 => tape.read_units(),
-            66 => self.slice(tape),
-            _ => made(opcode, tape, &self.first, &self.second),
+    fn make(&self, call: MakeText, tape: &mut Tape<'_>) -> Result<UnitText<Global>, Stop> {
+        match call {
+            MakeText::Set => tape.read_units(),
+            MakeText::Slice => self.slice(tape),
+            MakeText::PadStart => padded(tape, &self.first, &self.second),
+            MakeText::Repeat => repeated(tape, &self.first),
+            MakeText::Trim => allocated(trim_ascii(tape.alloc, &self.first)),
+            MakeText::Replace => replaced(tape, &self.first, &self.second),
+            MakeText::ToWellFormed => allocated(to_well_formed(tape.alloc, &self.first)),
         }
     }
 
@@ -99,16 +96,22 @@ impl Texts {
     }
 
     /// Runs a call that changes neither text, and writes what it returns.
-    fn look(&self, opcode: u8, tape: &mut Tape<'_>) -> Result<(), Stop> {
-        match opcode {
-            68 => self.write_len(tape),
-            69 => self.write_unit(tape),
-            70 => self.write_substring(tape),
-            71 => self.write_char(tape),
-            72 => self.write_start(tape),
-            73 => self.write_order(tape),
-            74 => self.write_whole_cuts(tape),
-            _ => Err(Stop::Malformed),
+    fn look(&self, call: ReadText, tape: &mut Tape<'_>) -> Result<(), Stop> {
+        match call {
+            ReadText::Length => self.write_len(tape),
+            ReadText::UnitAt => self.write_unit(tape),
+            ReadText::Substring => self.write_substring(tape),
+            ReadText::CharAt => self.write_char(tape),
+            ReadText::StartsWith => self.write_start(tape),
+            ReadText::Compare => self.write_order(tape),
+            ReadText::CutEverywhere => self.write_whole_cuts(tape),
+            ReadText::IndexOf => write_index(tape, &self.first, &self.second),
+            ReadText::At => write_units_at(tape, &self.first),
+            ReadText::CodePointAt => write_point(tape, &self.first),
+            ReadText::IsWellFormed => write_well_formed(tape, &self.first),
+            ReadText::Split => write_pieces(tape, &self.first),
+            ReadText::LastIndexOf => write_last_index(tape, &self.first, &self.second),
+            ReadText::EndsWith => write_end(tape, &self.first, &self.second),
         }
     }
 
