@@ -7,7 +7,7 @@ use std::alloc::Global;
 use std::mem;
 use unit_text::UnitText;
 use wtf8_uses::cuts::is_whole_again;
-use wtf8_uses::strings::{char_at, char_code_at, is_less, starts_with, substring};
+use wtf8_uses::string_prototype::{char_at, char_code_at, is_less, starts_with, substring};
 
 /// The first opcode of a call on texts. All calls on strings have lower ones.
 pub const FIRST_OF_TEXTS: u8 = 64;

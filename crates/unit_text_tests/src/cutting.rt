@@ -4,7 +4,6 @@ use std::alloc::Global;
 use std::test::Fail;
 use unit_text::UnitText;
 use wtf8_tests::examples::joining;
-use wtf8_uses::cuts::{cut_and_joined, is_whole_again};
 
 /// Fails unless the slice from unit `begin` to before unit `end` has `units`.
 fn expect_slice(
@@ -92,41 +91,6 @@ fn a_text_cut_anywhere_is_found_whole_again(rt: HostRuntime) -> Result<(), Fail>
         }
     }
     expect_cut(rt.alloc(), &[0x0061, 0xD83D, 0xDCA9], "61 F0 9F 92 A9", 2)
-}
-
-/// Fails unless `is_whole_again` is true at unit index `place`, and `cut_and_joined` returns the whole text.
-fn expect_whole(
-    alloc: Global,
-    text: &UnitText<Global>,
-    units: &[u16],
-    dump: &str,
-    place: usize,
-) -> Result<(), Fail> {
-    if place > text.unit_len() {
-        return Err(Fail::new("no such place"));
-    }
-    if !is_whole_again(alloc, alloc, text, place)? {
-        return Err(Fail::new("not the whole"));
-    }
-    let whole = cut_and_joined(alloc, alloc, text, place)?;
-    expect_text(alloc, &whole, units, dump)
-}
-
-/// Fails unless the text of `units`, cut at each unit index and joined by both callers, is whole again.
-fn expect_whole_anywhere(alloc: Global, units: &[u16], dump: &str) -> Result<(), Fail> {
-    let text = UnitText::from_units(alloc, units)?;
-    for place in 0..=units.len() {
-        expect_whole(alloc, &text, units, dump, place)?;
-    }
-    Ok(())
-}
-
-#[test]
-fn callers_find_the_whole_again(rt: HostRuntime) -> Result<(), Fail> {
-    for (units, _, dump) in joining() {
-        expect_whole_anywhere(rt.alloc(), units, dump)?;
-    }
-    Ok(())
 }
 
 /// Fails unless the slice of the text of `units` from `begin` to before `end` has `units[begin..end]`.
