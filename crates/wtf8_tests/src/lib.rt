@@ -34,3 +34,4 @@ pub mod unit_lists;
 mod unit_slices;
 #[cfg(test)]
 mod units_out;
+pub mod wrong;

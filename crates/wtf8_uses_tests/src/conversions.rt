@@ -1,60 +1,62 @@
 // Conversions, JSON texts, environment blocks, counts of units, and comparison without ASCII case.
 use crate::shared::{LEAD, TRAIL, string_of};
-use std::alloc::{AllocError, Global};
-use std::test::Fail;
-use wtf8::{Wtf8, Wtf8Buf};
+use std::alloc::Global;
+use wtf8::Wtf8;
+use wtf8_tests::wrong::{Wrong, expect, made};
 use wtf8_uses::ascii_case::eq_ignore_ascii_case;
 use wtf8_uses::environment::{Variable, environment_block};
 use wtf8_uses::json::json_text;
 use wtf8_uses::{round_trips, units, well_formed};
 
-/// Whether `units_again` returns the units of `list`.
-fn come_back(alloc: Global, list: &[u16]) -> Result<bool, AllocError> {
-    let again = round_trips::units_again(alloc, list)?;
-    Ok(again.as_slice() == list)
+/// Fails unless `units_again` returns the units of `list`.
+fn expect_units_again(alloc: Global, list: &[u16]) -> Result<(), Wrong> {
+    let again = made(round_trips::units_again(alloc, list))?;
+    expect(again.as_slice() == list, Wrong::Units)
 }
 
-/// Whether `owned_text_again` returns `text`.
-fn comes_back(alloc: Global, text: &str) -> Result<bool, AllocError> {
-    let owned = String::from_str(alloc, text)?;
+/// Whether `owned_text_again` returns `text`, of which `owned` is a copy.
+fn comes_back(owned: String, text: &str) -> bool {
     match round_trips::owned_text_again(owned) {
-        Ok(again) => Ok(again.as_str() == text),
-        Err(_) => Ok(false),
+        Ok(again) => again.as_str() == text,
+        Err(_) => false,
     }
 }
 
-/// Whether `lossy_twice` of the string of `list` is `text`.
-fn is_lossy(alloc: Global, list: &[u16], text: &str) -> Result<bool, AllocError> {
-    let broken = string_of(alloc, list)?;
-    Ok(round_trips::lossy_twice(broken).as_str() == text)
+/// Fails unless `text_again` and `owned_text_again` return `text`.
+fn expect_text_again(alloc: Global, text: &str) -> Result<(), Wrong> {
+    let owned = made(String::from_str(alloc, text))?;
+    let is_same = round_trips::text_again(text) == Some(text);
+    expect(comes_back(owned, text) && is_same, Wrong::Bytes)
+}
+
+/// Fails unless `lossy_twice` of the string of `list` is `text`.
+fn expect_lossy(alloc: Global, list: &[u16], text: &str) -> Result<(), Wrong> {
+    let lossy = round_trips::lossy_twice(string_of(alloc, list)?);
+    expect(lossy.as_str() == text, Wrong::Bytes)
 }
 
 #[test]
-fn units_and_texts_come_back(rt: HostRuntime) -> Result<(), Fail> {
-    assert!(rt; come_back(rt.alloc(), &[TRAIL, LEAD, TRAIL, 0x0041, LEAD])?);
-    assert_eq!(rt; round_trips::text_again("aé 💩"), Some("aé 💩"));
-    assert!(rt; comes_back(rt.alloc(), "aé 💩")?);
-    assert!(rt; is_lossy(rt.alloc(), &[0x0041, LEAD], "A\u{FFFD}")?);
-    Ok(())
+fn units_and_texts_come_back(rt: HostRuntime) -> Result<(), Wrong> {
+    expect_units_again(rt.alloc(), &[TRAIL, LEAD, TRAIL, 0x0041, LEAD])?;
+    expect_text_again(rt.alloc(), "aé 💩")?;
+    expect_lossy(rt.alloc(), &[0x0041, LEAD], "A\u{FFFD}")
 }
 
 #[test]
 fn units_are_counted(rt: HostRuntime) {
     let text = Wtf8::from_str("a💩");
-    assert_eq!(rt; units::unit_count(text), 3);
-    assert_eq!(rt; units::nth_unit(text, 1), Some(LEAD));
-    assert_eq!(rt; units::nth_unit(text, 2), Some(TRAIL));
-    assert_eq!(rt; units::nth_unit(text, 3), None);
-    assert_eq!(rt; units::next_unit(text, 0), Some(LEAD));
-    assert_eq!(rt; units::next_unit(text, 2), None);
+    assert!(rt; units::unit_count(text) == 3);
+    for (index, unit) in [(1, Some(LEAD)), (2, Some(TRAIL)), (3, None)] {
+        assert!(rt; units::nth_unit(text, index) == unit);
+    }
+    assert!(rt; units::next_unit(text, 0) == Some(LEAD) && units::next_unit(text, 2).is_none());
 }
 
 #[test]
-fn lone_surrogates_are_mended(rt: HostRuntime) -> Result<(), Fail> {
+fn lone_surrogates_are_mended(rt: HostRuntime) -> Result<(), Wrong> {
     let broken = string_of(rt.alloc(), &[0x0061, TRAIL, LEAD, TRAIL])?;
-    let mended = well_formed::well_formed_text(rt.alloc(), broken.as_wtf8())?;
-    assert_eq!(rt; mended.as_str(), "a\u{FFFD}💩");
-    Ok(())
+    let mended = made(well_formed::well_formed_text(rt.alloc(), broken.as_wtf8()))?;
+    expect(mended.as_str() == "a\u{FFFD}💩", Wrong::Bytes)
 }
 
 /// Units, and their JSON text as an engine's `JSON.stringify` returns it.
@@ -81,24 +83,30 @@ fn json_rows() -> [(&'static [u16], &'static str); 6] {
     ]
 }
 
-/// Whether the JSON text of these units is `text`.
-fn is_json(alloc: Global, units: &[u16], text: &str) -> Result<bool, AllocError> {
-    let string = string_of(alloc, units)?;
-    let json = json_text(alloc, string.as_wtf8())?;
-    Ok(json.as_str() == text)
+/// Fails unless the JSON text of the string is `text`.
+fn expect_json(alloc: Global, string: Wtf8<'_>, text: &str) -> Result<(), Wrong> {
+    let json = made(json_text(alloc, string))?;
+    expect(json.as_str() == text, Wrong::Bytes)
 }
 
 #[test]
-fn json_texts_are_those_of_an_engine(rt: HostRuntime) -> Result<(), Fail> {
+fn json_texts_are_those_of_an_engine(rt: HostRuntime) -> Result<(), Wrong> {
     for (units, text) in json_rows() {
-        assert!(rt; is_json(rt.alloc(), units, text)?, "{text}");
+        let string = string_of(rt.alloc(), units)?;
+        expect_json(rt.alloc(), string.as_wtf8(), text)?;
     }
     Ok(())
 }
 
+/// Fails unless the block of the variables has `units`.
+fn expect_block(alloc: Global, variables: &[Variable<'_>], units: &[u16]) -> Result<(), Wrong> {
+    let block = made(environment_block(alloc, variables))?;
+    expect(block.as_slice() == units, Wrong::Units)
+}
+
 #[test]
-fn an_environment_is_one_block(rt: HostRuntime) -> Result<(), Fail> {
-    let value = Wtf8Buf::from_ill_formed_utf16(rt.alloc(), &[LEAD, 0x003D])?;
+fn an_environment_is_one_block(rt: HostRuntime) -> Result<(), Wrong> {
+    let value = string_of(rt.alloc(), &[LEAD, 0x003D])?;
     let variables = [
         Variable {
             name: Wtf8::from_str("a"),
@@ -109,14 +117,11 @@ fn an_environment_is_one_block(rt: HostRuntime) -> Result<(), Fail> {
             value: Wtf8::from_str(""),
         },
     ];
-    let block = environment_block(rt.alloc(), &variables)?;
-    let expected: [u16; 11] = [
+    let units: [u16; 11] = [
         0x0061, 0x003D, LEAD, 0x003D, 0, 0x003D, 0x0043, 0x003A, 0x003D, 0, 0,
     ];
-    assert_eq!(rt; block.as_slice(), expected.as_slice());
-    let empty = environment_block(rt.alloc(), &[])?;
-    assert_eq!(rt; empty.as_slice(), [0].as_slice());
-    Ok(())
+    expect_block(rt.alloc(), &variables, &units)?;
+    expect_block(rt.alloc(), &[], &[0])
 }
 
 /// Two texts, and whether they are equal if the case of ASCII letters is ignored.
@@ -130,20 +135,20 @@ fn cases() -> [(&'static str, &'static str, bool); 5] {
     ]
 }
 
-/// Whether the strings of two lists of units are equal if the case of ASCII letters is ignored.
-fn are_equal_units(alloc: Global, units: &[u16], others: &[u16]) -> Result<bool, AllocError> {
-    let string = string_of(alloc, units)?;
-    let other = string_of(alloc, others)?;
-    Ok(eq_ignore_ascii_case(string.as_wtf8(), other.as_wtf8()))
+/// Fails unless `is_equal` says whether `text` equals the string of `units` if the case of ASCII letters is ignored.
+fn expect_case(alloc: Global, text: Wtf8<'_>, units: &[u16], is_equal: bool) -> Result<(), Wrong> {
+    let other = string_of(alloc, units)?;
+    let is_found = eq_ignore_ascii_case(text, other.as_wtf8());
+    expect(is_found == is_equal, Wrong::Outcome)
 }
 
 #[test]
-fn ascii_letters_are_equal_in_both_cases(rt: HostRuntime) -> Result<(), Fail> {
+fn ascii_letters_are_equal_in_both_cases(rt: HostRuntime) -> Result<(), Wrong> {
     for (text, other, is_equal) in cases() {
         let found = eq_ignore_ascii_case(Wtf8::from_str(text), Wtf8::from_str(other));
-        assert_eq!(rt; found, is_equal, "{text} and {other}");
+        assert!(rt; found == is_equal, "{text} and {other}");
     }
-    assert!(rt; are_equal_units(rt.alloc(), &[0x0041, LEAD], &[0x0061, LEAD])?);
-    assert!(rt; !are_equal_units(rt.alloc(), &[0x0041, LEAD], &[0x0061])?);
-    Ok(())
+    let capital = string_of(rt.alloc(), &[0x0041, LEAD])?;
+    expect_case(rt.alloc(), capital.as_wtf8(), &[0x0061, LEAD], true)?;
+    expect_case(rt.alloc(), capital.as_wtf8(), &[0x0061], false)
 }

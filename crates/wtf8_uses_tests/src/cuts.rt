@@ -1,40 +1,49 @@
 // Texts cut at each unit index and joined again.
+use crate::shared::has_units;
 use std::alloc::Global;
-use std::test::Fail;
 use unit_text::UnitText;
-use wtf8_tests::examples::{expect_dump, expect_units, joining};
+use wtf8_tests::examples::joining;
+use wtf8_tests::wrong::{Wrong, expect_bytes, made};
 use wtf8_uses::cuts::{cut_and_joined, is_whole_again};
 
-/// Fails unless `is_whole_again` is true at unit index `index`, and `cut_and_joined` returns the whole text.
-fn expect_whole(
+/// Fails unless `cut_and_joined` returns the text of `units` and the bytes of `dump`.
+fn expect_joined(
     alloc: Global,
     text: &UnitText<Global>,
     units: &[u16],
     dump: &str,
     index: usize,
-) -> Result<(), Fail> {
+) -> Result<(), Wrong> {
     if index > text.unit_len() {
-        return Err(Fail::new("no such index"));
+        return Err(Wrong::Row);
     }
-    if !is_whole_again(alloc, alloc, text, index)? {
-        return Err(Fail::new("not the whole"));
+    let whole = made(cut_and_joined(alloc, alloc, text, index))?;
+    if !has_units(whole.as_wtf8(), units) {
+        return Err(Wrong::Units);
     }
-    let whole = cut_and_joined(alloc, alloc, text, index)?;
-    expect_units(alloc, whole.as_wtf8(), units)?;
-    expect_dump(alloc, whole.as_wtf8(), dump)
+    expect_bytes(alloc, whole.as_wtf8(), dump)
+}
+
+/// Fails unless `is_whole_again` is true at unit index `index`.
+fn expect_whole(alloc: Global, text: &UnitText<Global>, index: usize) -> Result<(), Wrong> {
+    if index <= text.unit_len() && made(is_whole_again(alloc, alloc, text, index))? {
+        return Ok(());
+    }
+    Err(Wrong::Outcome)
 }
 
 /// Fails unless the text of `units`, cut at each unit index and joined by both callers, is whole again.
-fn expect_whole_anywhere(alloc: Global, units: &[u16], dump: &str) -> Result<(), Fail> {
-    let text = UnitText::from_units(alloc, units)?;
+fn expect_whole_anywhere(alloc: Global, units: &[u16], dump: &str) -> Result<(), Wrong> {
+    let text = made(UnitText::from_units(alloc, units))?;
     for index in 0..=units.len() {
-        expect_whole(alloc, &text, units, dump, index)?;
+        expect_whole(alloc, &text, index)?;
+        expect_joined(alloc, &text, units, dump, index)?;
     }
     Ok(())
 }
 
 #[test]
-fn callers_find_the_whole_again(rt: HostRuntime) -> Result<(), Fail> {
+fn callers_find_the_whole_again(rt: HostRuntime) -> Result<(), Wrong> {
     for (units, _, dump) in joining() {
         expect_whole_anywhere(rt.alloc(), units, dump)?;
     }

@@ -1,17 +1,14 @@
 // The interner.
 use crate::shared::{LEAD, string_of};
 use std::alloc::{AllocError, Global};
-use std::test::Fail;
 use wtf8::Wtf8;
-use wtf8_tests::examples::expect_dump;
+use wtf8_tests::wrong::{Wrong, expect, expect_bytes, made};
 use wtf8_uses::interner::Interner;
 
-/// Whether the interner returns 0 for `first`, 1 for the empty string, and 0 for `first` again.
-fn are_numbered(interner: &mut Interner, first: Wtf8<'_>) -> Result<bool, AllocError> {
-    let number = interner.number(first)?;
-    let other = interner.number(Wtf8::from_str(""))?;
-    let again = interner.number(first)?;
-    Ok(number == 0 && other == 1 && again == 0 && interner.len() == 2)
+/// Fails unless the interner returns `number` for `string`.
+fn expect_number(interner: &mut Interner, string: Wtf8<'_>, number: usize) -> Result<(), Wrong> {
+    let found = made(interner.number(string))?;
+    expect(found == number, Wrong::Outcome)
 }
 
 /// Fails unless the string with this number has the bytes of `dump`, or there is none if `dump` is `None`.
@@ -20,23 +17,41 @@ fn expect_string(
     interner: &Interner,
     number: usize,
     dump: Option<&str>,
-) -> Result<(), Fail> {
+) -> Result<(), Wrong> {
     match (interner.string(number), dump) {
-        (Some(string), Some(dump)) => expect_dump(alloc, string, dump),
+        (Some(string), Some(dump)) => expect_bytes(alloc, string, dump),
         (None, None) => Ok(()),
-        _ => Err(Fail::new("a string of no number, or none")),
+        _ => Err(Wrong::Outcome),
     }
 }
 
+/// Fails unless the interner returns 0 for `first`, 1 for the empty string, and 0 for `first` again.
+fn expect_numbers(interner: &mut Interner, first: Wtf8<'_>) -> Result<(), Wrong> {
+    for (string, number) in [(first, 0), (Wtf8::from_str(""), 1), (first, 0)] {
+        expect_number(interner, string, number)?;
+    }
+    expect(interner.len() == 2, Wrong::Outcome)
+}
+
 #[test]
-fn a_number_stays(rt: HostRuntime) -> Result<(), Fail> {
+fn a_number_stays(rt: HostRuntime) -> Result<(), Wrong> {
     let mut interner = Interner::new(rt.alloc());
     let first = string_of(rt.alloc(), &[LEAD])?;
-    assert!(rt; are_numbered(&mut interner, first.as_wtf8())?);
+    expect_numbers(&mut interner, first.as_wtf8())?;
     for (number, dump) in [(0, Some("ED A0 BD")), (1, Some("")), (2, None)] {
         expect_string(rt.alloc(), &interner, number, dump)?;
     }
     Ok(())
+}
+
+/// The part of a name for one bit of its number: the two parts for numbers below 256 have equal hashes.
+fn part_of_name(number: usize, is_even: bool) -> &'static str {
+    match (number < 256, is_even) {
+        (true, true) => "Aa",
+        (true, false) => "BB",
+        (false, true) => "0",
+        (false, false) => "1",
+    }
 }
 
 /// The name of a number below 512: below 256 one of 256 names with equal hashes, else its low eight bits as digits.
@@ -44,39 +59,38 @@ fn name_of(alloc: Global, number: usize) -> Result<String, AllocError> {
     let mut name = String::new(alloc);
     let mut left = number;
     for _ in 0..8 {
-        name.push_str(match (number < 256, left % 2 == 0) {
-            (true, true) => "Aa",
-            (true, false) => "BB",
-            (false, true) => "0",
-            (false, false) => "1",
-        })?;
+        name.push_str(part_of_name(number, left % 2 == 0))?;
         left /= 2;
     }
     Ok(name)
 }
 
+/// Fails unless the interner returns `number` for its name.
+fn expect_name(alloc: Global, interner: &mut Interner, number: usize) -> Result<(), Wrong> {
+    let name = made(name_of(alloc, number))?;
+    expect_number(interner, Wtf8::from_str(name.as_str()), number)
+}
+
 #[test]
-fn three_hundred_strings_keep_their_numbers(rt: HostRuntime) -> Result<(), Fail> {
+fn three_hundred_strings_keep_their_numbers(rt: HostRuntime) -> Result<(), Wrong> {
     let mut interner = Interner::new(rt.alloc());
     for _ in 0..2 {
         for number in 0..300 {
-            let name = name_of(rt.alloc(), number)?;
-            assert_eq!(rt; interner.number(Wtf8::from_str(name.as_str()))?, number);
+            expect_name(rt.alloc(), &mut interner, number)?;
         }
-        assert_eq!(rt; interner.len(), 300);
+        expect(interner.len() == 300, Wrong::Outcome)?;
     }
     Ok(())
 }
 
 #[test]
-fn strings_of_one_hash_have_their_own_numbers(rt: HostRuntime) -> Result<(), Fail> {
+fn strings_of_one_hash_have_their_own_numbers(rt: HostRuntime) -> Result<(), Wrong> {
     let mut interner = Interner::new(rt.alloc());
     let names = ["Aa", "BB", "AaAa", "AaBB", "BBAa", "BBBB", "C#", ""];
     for _ in 0..2 {
         for (number, name) in names.iter().enumerate() {
-            assert_eq!(rt; interner.number(Wtf8::from_str(name))?, number);
+            expect_number(&mut interner, Wtf8::from_str(name), number)?;
         }
     }
-    assert_eq!(rt; interner.len(), names.len());
-    Ok(())
+    expect(interner.len() == names.len(), Wrong::Outcome)
 }

@@ -3,8 +3,8 @@ use refusing::{REFUSALS, Refusal, Refusing};
 use std::alloc::{AllocError, Allocator, Global};
 use std::io;
 use std::io::{ErrorKind, Read};
-use std::test::Fail;
 use wtf8::Wtf8Buf;
+use wtf8_tests::wrong::{Wrong, expect, expect_bytes, made};
 use wtf8_uses::reading::{ReadError, read_utf16};
 
 /// Returns at most `most` bytes a read. Fails once, when at most `failing` bytes are left; later reads succeed.
@@ -34,16 +34,24 @@ impl Read for Pieces<'_> {
     }
 }
 
-/// The hex dump of the string, or the name of the error.
-fn told<A: Allocator>(
+/// The name of an error.
+fn name_of(error: ReadError) -> &'static str {
+    match error {
+        ReadError::Read(_) => "read",
+        ReadError::HalfUnit => "half unit",
+        ReadError::Memory => "memory",
+    }
+}
+
+/// Fails unless the string that was read has the hex dump `expected`, or that is the name of the error.
+fn expect_told<A: Allocator>(
     alloc: Global,
-    answer: Result<Wtf8Buf<A>, ReadError>,
-) -> Result<String, AllocError> {
-    match answer {
-        Ok(string) => string.as_wtf8().hex_dump(alloc),
-        Err(ReadError::Read(_)) => String::from_str(alloc, "read"),
-        Err(ReadError::HalfUnit) => String::from_str(alloc, "half unit"),
-        Err(ReadError::Memory) => String::from_str(alloc, "memory"),
+    returned: Result<Wtf8Buf<A>, ReadError>,
+    expected: &str,
+) -> Result<(), Wrong> {
+    match returned {
+        Ok(string) => expect_bytes(alloc, string.as_wtf8(), expected),
+        Err(error) => expect(name_of(error) == expected, Wrong::Outcome),
     }
 }
 
@@ -59,14 +67,14 @@ fn rows() -> [(&'static [u8], &'static str); 6] {
     ]
 }
 
-/// Fails unless reading pieces of at most `most` bytes, with one interruption, gives `want` in `calls` calls.
+/// Fails unless reading pieces of at most `most` bytes, with one interruption, gives `expected` in `calls` calls.
 fn expect_read(
     alloc: Global,
     bytes: &[u8],
     most: usize,
     calls: usize,
-    want: &str,
-) -> Result<(), Fail> {
+    expected: &str,
+) -> Result<(), Wrong> {
     let mut reader = Pieces {
         rest: bytes,
         most,
@@ -74,20 +82,17 @@ fn expect_read(
         error: Some(io::Error::from(ErrorKind::Interrupted)),
         calls: 0,
     };
-    let found = told(alloc, read_utf16(alloc, &mut reader))?;
-    if found.as_str() != want || reader.calls as usize != calls {
-        return Err(Fail::new(format_args!("{most} at a time")));
-    }
-    Ok(())
+    expect_told(alloc, read_utf16(alloc, &mut reader), expected)?;
+    expect(reader.calls as usize == calls, Wrong::Requests)
 }
 
 #[test]
-fn pieces_of_any_size_are_one_input(rt: HostRuntime) -> Result<(), Fail> {
-    for (bytes, want) in rows() {
+fn pieces_of_any_size_are_one_input(rt: HostRuntime) -> Result<(), Wrong> {
+    for (bytes, expected) in rows() {
         for most in 1..8 {
             // One call for each piece, one for the interruption and one for the end.
             let calls = bytes.len().div_ceil(most).wrapping_add(2);
-            expect_read(rt.alloc(), bytes, most, calls, want)?;
+            expect_read(rt.alloc(), bytes, most, calls, expected)?;
         }
     }
     Ok(())
@@ -122,8 +127,8 @@ fn is_text_read(alloc: Global, bytes: &[u8], most: usize, text: &str) -> bool {
 }
 
 #[test]
-fn a_pair_is_cut_by_the_largest_piece_and_by_single_bytes(rt: HostRuntime) -> Result<(), Fail> {
-    let (bytes, text) = letters_and_pair(rt.alloc(), 2047)?;
+fn a_pair_is_cut_by_the_largest_piece_and_by_single_bytes(rt: HostRuntime) -> Result<(), Wrong> {
+    let (bytes, text) = made(letters_and_pair(rt.alloc(), 2047))?;
     for most in [1, 4095, 4096, 4097] {
         assert!(rt;
             is_text_read(rt.alloc(), &bytes, most, &text),
@@ -148,13 +153,23 @@ fn is_handed_on(
     }
 }
 
+/// The number of bytes not read when the reader fails, the number of its calls, and the result of reading the rest.
+fn failing_rows() -> [(usize, u32, &'static str); 4] {
+    [
+        (6, 1, "61 62 63"),
+        (5, 2, "half unit"),
+        (2, 5, "63"),
+        (0, 7, ""),
+    ]
+}
+
 /// Fails unless the error is returned after `calls` calls, with `failing` bytes unread, which then give `left`.
 fn expect_handed_on(
     alloc: Global,
     error: io::Error,
     number: Option<i32>,
     row: (usize, u32, &str),
-) -> Result<(), Fail> {
+) -> Result<(), Wrong> {
     let (failing, calls, left) = row;
     let mut reader = Pieces {
         rest: b"\x61\x00\x62\x00\x63\x00",
@@ -166,25 +181,21 @@ fn expect_handed_on(
     let is_handed_on = is_handed_on(alloc, &mut reader, error, number);
     // The reader was not called after the error, and the bytes that were not read are still there.
     if !is_handed_on || reader.calls != calls {
-        return Err(Fail::new("the reader's error"));
+        return Err(Wrong::Outcome);
     }
-    let found = told(alloc, read_utf16(alloc, &mut reader))?;
-    if found.as_str() != left {
-        return Err(Fail::new(format_args!("not {left}")));
+    expect_told(alloc, read_utf16(alloc, &mut reader), left)
+}
+
+/// Fails unless the error is returned in each of `failing_rows`.
+fn expect_all_handed_on(alloc: Global, error: io::Error, number: Option<i32>) -> Result<(), Wrong> {
+    for row in failing_rows() {
+        expect_handed_on(alloc, error, number, row)?;
     }
     Ok(())
 }
 
-/// The number of bytes not read when the reader fails, the number of its calls, and the result of reading the rest.
-const FAILING: [(usize, u32, &str); 4] = [
-    (6, 1, "61 62 63"),
-    (5, 2, "half unit"),
-    (2, 5, "63"),
-    (0, 7, ""),
-];
-
 #[test]
-fn an_error_is_handed_on(rt: HostRuntime) -> Result<(), Fail> {
+fn an_error_is_handed_on(rt: HostRuntime) -> Result<(), Wrong> {
     for kind in [
         ErrorKind::BrokenPipe,
         ErrorKind::WouldBlock,
@@ -192,29 +203,22 @@ fn an_error_is_handed_on(rt: HostRuntime) -> Result<(), Fail> {
         ErrorKind::Other,
         ErrorKind::TimedOut,
     ] {
-        for row in FAILING {
-            expect_handed_on(rt.alloc(), io::Error::from(kind), None, row)?;
-        }
+        expect_all_handed_on(rt.alloc(), io::Error::from(kind), None)?;
     }
     for number in [5, 32] {
         let error = io::Error::from_raw_os_error(number);
-        for row in FAILING {
-            expect_handed_on(rt.alloc(), error, Some(number), row)?;
-        }
+        expect_all_handed_on(rt.alloc(), error, Some(number))?;
     }
     Ok(())
 }
 
-/// Reads `bytes` with `granted` requests for memory granted, and the following ones, or the next one alone, refused.
-/// Returns the hex dump or the error's name, the number of requests, their bytes, and the number of reads.
-fn read_granted(
+/// Reads `bytes`, four at a time. Fails unless this gives `expected`. Returns the number of reads.
+fn reads_of(
     alloc: Global,
+    heap: &Refusing<Global>,
     bytes: &[u8],
-    granted: u64,
-    refusal: Refusal,
-) -> Result<(String, u64, usize, u32), Fail> {
-    let heap = Refusing::new(alloc, 0);
-    heap.refuse_after(granted, refusal);
+    expected: &str,
+) -> Result<u32, Wrong> {
     let mut reader = Pieces {
         rest: bytes,
         most: 4,
@@ -222,8 +226,8 @@ fn read_granted(
         error: None,
         calls: 0,
     };
-    let found = told(alloc, read_utf16(&heap, &mut reader))?;
-    Ok((found, heap.requests(), heap.bytes(), reader.calls))
+    expect_told(alloc, read_utf16(heap, &mut reader), expected)?;
+    Ok(reader.calls)
 }
 
 type Granted = (&'static [u8], &'static str, u64, usize);
@@ -246,39 +250,52 @@ fn granted_rows() -> [Granted; 4] {
 }
 
 /// Fails unless the refused request is the last one made, no more is read, and the result is `ReadError::Memory`.
-fn expect_refused(alloc: Global, given: &[u8], granted: u64, refusal: Refusal) -> Result<(), Fail> {
-    let (found, made, _, calls) = read_granted(alloc, given, granted, refusal)?;
+fn expect_refused(
+    alloc: Global,
+    heap: &Refusing<Global>,
+    bytes: &[u8],
+    granted: u64,
+    refusal: Refusal,
+) -> Result<(), Wrong> {
+    heap.refuse_after(granted, refusal);
+    let calls = reads_of(alloc, heap, bytes, "memory")?;
     // The first piece makes three requests, or four if it is a pair, and nothing is read after the refused one.
-    let is_first = granted < 3 || given.len() == 4;
-    let wanted = if is_first { 1 } else { 2 };
-    let is_last = made == granted.wrapping_add(1) && calls == wanted;
-    if found.as_str() != "memory" || !is_last {
-        return Err(Fail::new(format_args!("with {granted} granted")));
-    }
-    Ok(())
+    let is_first = granted < 3 || bytes.len() == 4;
+    let expected = if is_first { 1 } else { 2 };
+    let is_last = heap.requests() == granted.wrapping_add(1);
+    expect(is_last && calls == expected, Wrong::Requests)
 }
 
 /// Fails unless the bytes of a row are read if all is granted, with the row's requests and no more reads than needed.
-fn expect_granted(alloc: Global, row: Granted, refusal: Refusal) -> Result<(), Fail> {
-    let (given, want, requests, bytes) = row;
-    let (found, made, asked, calls) = read_granted(alloc, given, 99, refusal)?;
-    let is_asked = (made, asked) == (requests, bytes);
+fn expect_granted(alloc: Global, heap: &Refusing<Global>, row: Granted) -> Result<(), Wrong> {
+    let (given, expected, requests, bytes) = row;
+    heap.grant(99);
+    let calls = reads_of(alloc, heap, given, expected)?;
     let is_called = calls as usize == (given.len() / 4).wrapping_add(1);
-    if found.as_str() != want || !is_asked || !is_called {
-        return Err(Fail::new(want));
+    let is_asked = heap.requests() == requests && heap.bytes() == bytes;
+    expect(is_called && is_asked, Wrong::Requests)
+}
+
+/// Reads the bytes of a row with each request refused in turn, and with all granted.
+fn expect_row(
+    alloc: Global,
+    heap: &Refusing<Global>,
+    row: Granted,
+    refusal: Refusal,
+) -> Result<(), Wrong> {
+    let (given, _, requests, _) = row;
+    for granted in 0..requests {
+        expect_refused(alloc, heap, given, granted, refusal)?;
     }
-    Ok(())
+    expect_granted(alloc, heap, row)
 }
 
 #[test]
-fn each_refusal_is_want_of_memory(rt: HostRuntime) -> Result<(), Fail> {
+fn each_refusal_is_want_of_memory(rt: HostRuntime) -> Result<(), Wrong> {
+    let heap = Refusing::new(rt.alloc(), 0);
     for row in granted_rows() {
         for refusal in REFUSALS {
-            let (given, _, requests, _) = row;
-            for granted in 0..requests {
-                expect_refused(rt.alloc(), given, granted, refusal)?;
-            }
-            expect_granted(rt.alloc(), row, refusal)?;
+            expect_row(rt.alloc(), &heap, row, refusal)?;
         }
     }
     Ok(())
@@ -293,13 +310,13 @@ fn is_read(alloc: Global, mut bytes: &[u8], text: &str) -> bool {
 }
 
 #[test]
-fn each_length_is_read(rt: HostRuntime) -> Result<(), Fail> {
+fn each_length_is_read(rt: HostRuntime) -> Result<(), Wrong> {
     let mut bytes = Vec::new(rt.alloc());
     let mut text = String::new(rt.alloc());
     for length in 0..=300 {
         assert!(rt; is_read(rt.alloc(), &bytes, &text), "{length} units");
-        bytes.extend_from_slice(b"\x61\x00")?;
-        text.push('a')?;
+        made(bytes.extend_from_slice(b"\x61\x00"))?;
+        made(text.push('a'))?;
     }
     Ok(())
 }

@@ -6,20 +6,12 @@ use crate::shared::{LEAD, TRAIL, string_of};
 use std::alloc::{AllocError, Global};
 use std::collections::HashMap;
 use std::hash::{BuildHasherDefault, FoldHasher};
-use std::test::Fail;
 use wtf8::{Wtf8, Wtf8Buf};
-use wtf8_tests::examples::expect_dump;
+use wtf8_tests::wrong::{Wrong, expect, expect_bytes, made};
 use wtf8_uses::{joining, maps, sorting, table};
 
 /// The bytes of U+E000 and U+10000, in code point order. By code units the order is the other way round.
 const IN_ORDER: [&str; 2] = ["EE 80 80", "F0 90 80 80"];
-
-/// The strings of U+10000 and U+E000, in descending code point order.
-fn behind_and_before(alloc: Global) -> Result<(Wtf8Buf<Global>, Wtf8Buf<Global>), AllocError> {
-    let before = Wtf8Buf::from_ill_formed_utf16(alloc, &[0xE000])?;
-    let behind = Wtf8Buf::from_ill_formed_utf16(alloc, &[0xD800, 0xDC00])?;
-    Ok((behind, before))
-}
 
 /// Two views, sorted.
 fn sorted_views<'a>(
@@ -34,66 +26,73 @@ fn sorted_views<'a>(
     Ok(views)
 }
 
-/// Fails unless the views have the bytes of `IN_ORDER`.
-fn expect_views(alloc: Global, views: &[Wtf8<'_>]) -> Result<(), Fail> {
+/// Fails unless the two views, sorted, have the bytes of `IN_ORDER`.
+fn expect_sorted(alloc: Global, first: Wtf8<'_>, second: Wtf8<'_>) -> Result<(), Wrong> {
+    let views = made(sorted_views(alloc, first, second))?;
     for (view, dump) in views.iter().zip(IN_ORDER) {
-        expect_dump(alloc, *view, dump)?;
+        expect_bytes(alloc, *view, dump)?;
     }
     Ok(())
 }
 
 #[test]
-fn views_are_sorted(rt: HostRuntime) -> Result<(), Fail> {
-    let (behind, before) = behind_and_before(rt.alloc())?;
-    let views = sorted_views(rt.alloc(), behind.as_wtf8(), before.as_wtf8())?;
-    expect_views(rt.alloc(), &views)
+fn views_are_sorted(rt: HostRuntime) -> Result<(), Wrong> {
+    let first = string_of(rt.alloc(), &[0xD800, 0xDC00])?;
+    let second = string_of(rt.alloc(), &[0xE000])?;
+    expect_sorted(rt.alloc(), first.as_wtf8(), second.as_wtf8())
 }
 
-/// The two strings of `behind_and_before`, sorted.
+/// Appends the string of `units`.
+fn push_string(
+    alloc: Global,
+    strings: &mut Vec<Wtf8Buf<Global>>,
+    units: &[u16],
+) -> Result<(), AllocError> {
+    strings.push(Wtf8Buf::from_ill_formed_utf16(alloc, units)?)?;
+    Ok(())
+}
+
+/// The strings of U+10000 and U+E000, sorted.
 fn sorted(alloc: Global) -> Result<Vec<Wtf8Buf<Global>>, AllocError>
     ensures { IfOk result (λ strings. AreInPointOrder strings.items) }
 {
-    let (behind, before) = behind_and_before(alloc)?;
     let mut strings = Vec::new(alloc);
-    strings.push(behind)?;
-    strings.push(before)?;
+    push_string(alloc, &mut strings, &[0xD800, 0xDC00])?;
+    push_string(alloc, &mut strings, &[0xE000])?;
     sorting::sort_strings(&mut strings)?;
     Ok(strings)
 }
 
 /// Fails unless the strings have the bytes of `IN_ORDER`.
-fn expect_strings(alloc: Global, strings: &[Wtf8Buf<Global>]) -> Result<(), Fail> {
+fn expect_strings(alloc: Global, strings: &[Wtf8Buf<Global>]) -> Result<(), Wrong> {
     for (string, dump) in strings.iter().zip(IN_ORDER) {
-        expect_dump(alloc, string.as_wtf8(), dump)?;
+        expect_bytes(alloc, string.as_wtf8(), dump)?;
     }
     Ok(())
 }
 
-/// `Ok` of the index of the string of these units in a sorted table, or `Err` of the index to insert it at.
-fn place_of(
+/// Fails unless the search in a sorted table for the string of these units returns `index`, also by its view.
+fn expect_index(
     alloc: Global,
     table: &[Wtf8Buf<Global>],
     units: &[u16],
-) -> Result<Result<usize, usize>, AllocError>
+    index: Result<usize, usize>,
+) -> Result<(), Wrong>
     requires { AreInPointOrder table.now }
 {
     let string = string_of(alloc, units)?;
-    Ok(table::place_of(table, &string))
+    let by_view = table::place_of_view(table, string.as_wtf8());
+    let is_found = table::place_of(table, &string) == index && by_view == index;
+    expect(is_found, Wrong::Outcome)
 }
 
 #[test]
-fn strings_are_sorted_and_found(rt: HostRuntime) -> Result<(), Fail> {
-    let strings = sorted(rt.alloc())?;
+fn strings_are_sorted_and_found(rt: HostRuntime) -> Result<(), Wrong> {
+    let strings = made(sorted(rt.alloc()))?;
     expect_strings(rt.alloc(), &strings)?;
-    let there = place_of(rt.alloc(), strings.as_slice(), &[0xD800, 0xDC00])?;
-    assert_eq!(rt; there, Ok(1));
-    let absent = place_of(rt.alloc(), strings.as_slice(), &[0xF000])?;
-    assert_eq!(rt; absent, Err(1));
-    let there = string_of(rt.alloc(), &[0xD800, 0xDC00])?;
-    let slice = strings.as_slice();
-    assert_eq!(rt; table::place_of_view(slice, there.as_wtf8()), Ok(1));
-    assert_eq!(rt; table::place_of_view(slice, Wtf8::from_str("a")), Err(0));
-    Ok(())
+    expect_index(rt.alloc(), strings.as_slice(), &[0xD800, 0xDC00], Ok(1))?;
+    expect_index(rt.alloc(), strings.as_slice(), &[0xF000], Err(1))?;
+    expect_index(rt.alloc(), strings.as_slice(), &[0x0061], Err(0))
 }
 
 /// The strings of these texts.
@@ -116,20 +115,25 @@ fn are_texts(strings: &[Wtf8Buf<Global>], texts: &[&str]) -> bool {
 }
 
 #[test]
-fn repeated_strings_are_dropped(rt: HostRuntime) -> Result<(), Fail> {
-    let mut strings = strings_of(rt.alloc(), &["b", "b", "a", "", "", "", "b"])?;
+fn repeated_strings_are_dropped(rt: HostRuntime) -> Result<(), Wrong> {
+    let mut strings = made(strings_of(rt.alloc(), &["b", "b", "a", "", "", "", "b"]))?;
     sorting::drop_repeated(&mut strings);
-    assert!(rt; are_texts(&strings, &["b", "a", "", "b"]));
-    Ok(())
+    expect(are_texts(&strings, &["b", "a", "", "b"]), Wrong::Bytes)
+}
+
+/// Whether a map finds the value of a pair's string by `same`.
+fn is_found(alloc: Global, same: &Wtf8Buf<Global>) -> Result<bool, AllocError> {
+    let mut map = HashMap::new(alloc);
+    let key = joining::joined(alloc, &[LEAD], &[TRAIL])?;
+    let found = maps::put_and_found(&mut map, key, same, 7)?;
+    Ok(found == Some(7))
 }
 
 #[test]
-fn a_map_finds_equal_strings(rt: HostRuntime) -> Result<(), Fail> {
-    let mut map = HashMap::new(rt.alloc());
-    let key = joining::joined(rt.alloc(), &[LEAD], &[TRAIL])?;
-    let same = Wtf8Buf::from_str(rt.alloc(), "💩")?;
+fn a_map_finds_equal_strings(rt: HostRuntime) -> Result<(), Wrong> {
+    let same = made(Wtf8Buf::from_str(rt.alloc(), "💩"))?;
     let hashers: BuildHasherDefault<FoldHasher> = BuildHasherDefault::new();
-    assert!(rt; maps::hash_alike(&hashers, &same, Wtf8::from_str("💩")));
-    assert_eq!(rt; maps::put_and_found(&mut map, key, &same, 7)?, Some(7));
-    Ok(())
+    let is_alike = maps::hash_alike(&hashers, &same, Wtf8::from_str("💩"));
+    let is_found = made(is_found(rt.alloc(), &same))?;
+    expect(is_alike && is_found, Wrong::Outcome)
 }

@@ -1,8 +1,8 @@
 // Calls of ECMAScript's strings at the greatest positions, which no script of `compare_scripts` tries. The expected
 // results are an engine's.
-use std::alloc::{AllocError, Global};
-use std::test::Fail;
+use std::alloc::Global;
 use unit_text::UnitText;
+use wtf8_tests::wrong::{Wrong, expect, made};
 use wtf8_uses::string_prototype::{
     at, char_at, char_code_at, code_point_at, ends_with, index_of, last_index_of, starts_with,
     substring,
@@ -10,10 +10,6 @@ use wtf8_uses::string_prototype::{
 
 /// "a💩b" followed by a lead surrogate.
 const UNITS: [u16; 5] = [0x0061, 0xD83D, 0xDCA9, 0x0062, 0xD83D];
-
-fn text_of(alloc: Global, units: &[u16]) -> Result<UnitText<Global>, AllocError> {
-    UnitText::from_units(alloc, units)
-}
 
 /// Whether the text has no unit and no code point at the greatest positions, and none at the least position of `at`.
 fn has_nothing_beyond(text: &UnitText<Global>) -> bool {
@@ -23,57 +19,59 @@ fn has_nothing_beyond(text: &UnitText<Global>) -> bool {
         && char_code_at(text, usize::MAX).is_none()
 }
 
-/// The results of `index_of` and `last_index_of` for `units`, both from the greatest position.
-fn places_of(
+/// Fails unless `index_of` and `last_index_of` return `first` and `last` for `units`, both from the greatest position.
+fn expect_indexes(
     alloc: Global,
     text: &UnitText<Global>,
     units: &[u16],
-) -> Result<(Option<usize>, Option<usize>), AllocError> {
-    let search = text_of(alloc, units)?;
-    let first = index_of(text, &search, usize::MAX);
-    Ok((first, last_index_of(text, &search, usize::MAX)))
+    first: Option<usize>,
+    last: Option<usize>,
+) -> Result<(), Wrong> {
+    let search = made(UnitText::from_units(alloc, units))?;
+    let is_first = index_of(text, &search, usize::MAX) == first;
+    let is_last = last_index_of(text, &search, usize::MAX) == last;
+    expect(is_first && is_last, Wrong::Outcome)
 }
 
-/// The results of `starts_with` and `ends_with` for `units`, both at the greatest position.
-fn stand_at(
+/// Fails unless `starts_with` is false for `units`, and `ends_with` is `is_end`, both at the greatest position.
+fn expect_end(
     alloc: Global,
     text: &UnitText<Global>,
     units: &[u16],
-) -> Result<(bool, bool), AllocError> {
-    let search = text_of(alloc, units)?;
+    is_end: bool,
+) -> Result<(), Wrong> {
+    let search = made(UnitText::from_units(alloc, units))?;
     let is_start = starts_with(text, &search, usize::MAX);
-    Ok((is_start, ends_with(text, &search, usize::MAX)))
+    let is_found = ends_with(text, &search, usize::MAX);
+    expect(!is_start && is_found == is_end, Wrong::Outcome)
 }
 
-/// Whether the empty text and a lead are found at the end, and a letter before it is not.
-fn is_searched(alloc: Global, text: &UnitText<Global>) -> Result<bool, AllocError> {
-    let is_found = places_of(alloc, text, &[])? == (Some(5), Some(5))
-        && places_of(alloc, text, &[0xD83D])? == (None, Some(4));
-    Ok(
-        is_found
-            && stand_at(alloc, text, &[0xD83D])? == (false, true)
-            && stand_at(alloc, text, &[0x0062])? == (false, false),
-    )
+/// Fails unless `char_at` returns no unit at the greatest position.
+fn expect_no_char(alloc: Global, text: &UnitText<Global>) -> Result<(), Wrong> {
+    let unit = made(char_at(alloc, text, usize::MAX))?;
+    expect(unit.unit_len() == 0, Wrong::Units)
 }
 
-/// The number of units that `char_at` returns at the greatest position.
-fn unit_count(alloc: Global, text: &UnitText<Global>) -> Result<usize, AllocError> {
-    let unit = char_at(alloc, text, usize::MAX)?;
-    Ok(unit.unit_len())
-}
-
-/// Whether the units from position 3 to the greatest one are "b" and a lead.
-fn has_back(alloc: Global, text: &UnitText<Global>) -> Result<bool, AllocError> {
-    let back = substring(alloc, text, 3, usize::MAX)?;
+/// Fails unless the units from position 3 to the greatest one are "b" and a lead.
+fn expect_back(alloc: Global, text: &UnitText<Global>) -> Result<(), Wrong> {
+    let back = made(substring(alloc, text, 3, usize::MAX))?;
     let is_back = back.unit_at(0) == Some(0x0062) && back.unit_at(1) == Some(0xD83D);
-    Ok(is_back && back.unit_len() == 2)
+    expect(is_back && back.unit_len() == 2, Wrong::Units)
+}
+
+/// Fails unless the empty text and a lead are found at the end, and a letter before it is not.
+fn expect_searched(alloc: Global, text: &UnitText<Global>) -> Result<(), Wrong> {
+    expect_indexes(alloc, text, &[], Some(5), Some(5))?;
+    expect_indexes(alloc, text, &[0xD83D], None, Some(4))?;
+    expect_end(alloc, text, &[0xD83D], true)?;
+    expect_end(alloc, text, &[0x0062], false)
 }
 
 #[test]
-fn positions_beyond_every_text(rt: HostRuntime) -> Result<(), Fail> {
-    let text = text_of(rt.alloc(), &UNITS)?;
-    assert!(rt; has_nothing_beyond(&text));
-    assert!(rt; is_searched(rt.alloc(), &text)?);
-    assert!(rt; unit_count(rt.alloc(), &text)? == 0 && has_back(rt.alloc(), &text)?);
-    Ok(())
+fn positions_beyond_every_text(rt: HostRuntime) -> Result<(), Wrong> {
+    let text = made(UnitText::from_units(rt.alloc(), &UNITS))?;
+    expect(has_nothing_beyond(&text), Wrong::Outcome)?;
+    expect_searched(rt.alloc(), &text)?;
+    expect_no_char(rt.alloc(), &text)?;
+    expect_back(rt.alloc(), &text)
 }
