@@ -56,6 +56,10 @@ const OPCODES = {
   push: 86,
   lastIndexOf: 87,
   endsWith: 88,
+  fromStr: 89,
+  pushStr: 90,
+  pushWtf8: 91,
+  throughWtf8: 92,
 };
 
 // What each call returns over the two strings of a state.
@@ -119,23 +123,35 @@ const CALLS = {
     for (const unit of units) state.first += String.fromCharCode(unit);
     return unitsOf(state.first);
   },
+  fromStr: (state, text) => unitsOf((state.first = text)),
+  pushStr: (state, text) => unitsOf((state.first += text)),
+  pushWtf8: (state, ...units) => unitsOf((state.first += textOf(units))),
+  throughWtf8: ({ first }) => unitsOf(first),
 };
 
-// The calls whose operands are units, and those that change a string.
-const OF_UNITS = ['set', 'replace', 'push'];
-const CHANGING = [...OF_UNITS, 'swap', 'slice', 'concat', 'padStart', 'repeat', 'trim', 'toWellFormed'];
+// The calls whose operands are units, those whose operand is a well-formed string, and those that change a string.
+const OF_UNITS = ['set', 'replace', 'push', 'pushWtf8'];
+const OF_TEXT = ['fromStr', 'pushStr'];
+const CHANGING = [...OF_UNITS, ...OF_TEXT, 'swap', 'slice', 'concat', 'padStart', 'repeat', 'trim', 'toWellFormed'];
 
 // A number of two bytes in hexadecimal, little-endian.
 const bytesOf = (number) => hex(number & 0xFF, 2) + hex(number >> 8, 2);
 
-// A script as a line: each call's opcode and its operands, units after their count.
+// A well-formed string in hexadecimal: the number of its bytes in UTF-8, at most 255, and the bytes.
+function utf8Of(text) {
+  const bytes = Buffer.from(text, 'utf8');
+  return hex(bytes.length, 2) + bytes.toString('hex').toUpperCase();
+}
+
+// The operands of a call: a string, or numbers, of which units come after their count.
+function operandsOf(name, operands) {
+  if (OF_TEXT.includes(name)) return utf8Of(operands[0]);
+  return (OF_UNITS.includes(name) ? [operands.length, ...operands] : operands).map(bytesOf).join('');
+}
+
+// A script as a line: each call's opcode and its operands.
 function lineOf(calls) {
-  let line = '';
-  for (const [name, ...operands] of calls) {
-    const numbers = OF_UNITS.includes(name) ? [operands.length, ...operands] : operands;
-    line += hex(OPCODES[name], 2) + numbers.map(bytesOf).join('');
-  }
-  return line + '\n';
+  return calls.map(([name, ...operands]) => hex(OPCODES[name], 2) + operandsOf(name, operands)).join('') + '\n';
 }
 
 // The transcript of a script: what its calls return, and an empty line.
@@ -169,6 +185,9 @@ function randomUnits(below) {
   const length = below(8) === 0 ? below(301) : below(8);
   return Array.from({ length }, () => randomUnit(below));
 }
+
+// A well-formed string of the units, of at most 255 bytes in UTF-8.
+const wellFormed = (units) => textOf(units.slice(0, 80)).toWellFormed();
 
 // A random unit other than `unit`.
 const anotherUnit = (unit, below) => (unit + 1 + below(0xFFFF)) & 0xFFFF;
@@ -239,7 +258,7 @@ function randomCalls({ first }, below) {
   const at = () => (below(40) === 0 ? below(0x10000) : below(first.length + 3));
   const place = at();
   if (first.length < 900 && below(3) === 0) return randomMakingCalls(first, place, below);
-  switch (below(18)) {
+  switch (below(22)) {
     case 0: return [['set', ...randomUnits(below)]];
     case 1: return [['swap']];
     case 2: return [['length']];
@@ -256,6 +275,10 @@ function randomCalls({ first }, below) {
     case 13: return [['at', place]];
     case 14: return [['codePointAt', place]];
     case 15: return first.length > 600 ? [['length']] : [['push', ...randomUnits(below)], ['compare'], ['unitAt', first.length]];
+    case 16: return first.length > 600 ? [['length']] : [['pushWtf8', ...randomUnits(below)], ['compare'], ['unitAt', first.length]];
+    case 17: return first.length > 600 ? [['length']] : [['pushStr', wellFormed(randomUnits(below))], ['unitAt', first.length]];
+    case 18: return [['throughWtf8'], ['unitAt', place]];
+    case 19: return [['fromStr', wellFormed(randomUnits(below))], ['compare'], ['length']];
     default: {
       const others = neighbour(listOf(first), place, below);
       return [['swap'], ['set', ...others], ['swap'], ['compare'], ['startsWith', place], ['swap'], ['compare'], ['swap']];
@@ -321,6 +344,8 @@ function pairScript(units, others) {
   calls.push(...makingCalls(units, [['set', ...units]]));
   calls.push(['concat'], ['length'], ['compare'], ['cutEverywhere'], ['indexOf', 0], ['replace', 0x24, 0x60]);
   calls.push(['set', ...units], ['push', ...others], ['length'], ['compare'], ['cutEverywhere']);
+  calls.push(['set', ...units], ['pushWtf8', ...others], ['length'], ['compare'], ['throughWtf8'], ['length']);
+  calls.push(['fromStr', wellFormed(units)], ['length'], ['pushStr', wellFormed(others)], ['length'], ['compare']);
   return calls;
 }
 
@@ -446,7 +471,7 @@ function markedScript(units) {
 // A text that grows by the same piece, at once or unit by unit, with marks from the start or without, read at the end
 // of each piece.
 function grownScript(way, piece, count, isMarked) {
-  const append = way === 'push' ? ['push', ...piece] : [way];
+  const append = OF_UNITS.includes(way) ? [way, ...piece] : [way];
   const calls = [['set', ...piece], ['swap'], ['set']];
   if (isMarked) calls.push(['mark']);
   for (let end = piece.length; end <= count * piece.length; end += piece.length) {
@@ -476,12 +501,22 @@ function markedScripts(lengths, pieces) {
   for (const length of pieces) {
     const piece = anyUnits(length, below);
     const count = Math.ceil(1200 / length);
-    for (const way of ['concat', 'push']) {
+    for (const way of ['concat', 'push', 'pushWtf8']) {
       for (const isMarked of [false, true]) scripts.push(...[piece, joining(piece)].map((units) => grownScript(way, units, count, isMarked)));
     }
   }
   for (const kind of KINDS_OF_MARKED) scripts.push(...[false, true].map((isMarked) => madeScript(unitsOfKind(kind, 300, below), isMarked)));
   return scripts;
+}
+
+// A random call, or a few related ones, that appends a piece; as a well-formed string only its first units.
+function appending(piece, below) {
+  switch (below(4)) {
+    case 0: return [['push', ...piece]];
+    case 1: return [['pushWtf8', ...piece]];
+    case 2: return [['pushStr', wellFormed(piece)]];
+    default: return [['swap'], ['set', ...piece], ['swap'], ['concat']];
+  }
 }
 
 // One random call or a few related ones, for the current long texts.
@@ -494,8 +529,7 @@ function randomMarkedCalls({ first, second }, below) {
     case 3: case 4: {
       const any = anyUnits(1 + below(2 * SPACING), below);
       const piece = below(2) === 0 ? any : joining(any);
-      const appended = below(2) === 0 ? [['push', ...piece]] : [['swap'], ['set', ...piece], ['swap'], ['concat']];
-      return [...appended, ['unitAt', first.length]];
+      return [...appending(piece, below), ['unitAt', first.length]];
     }
     case 5: return [['slice', ...[below(SPACING), placeAbout(first.length, below)].sort((one, other) => one - other)]];
     case 6: case 7: case 8: return [['substring', place, place + below(2 * SPACING)]];
@@ -572,6 +606,10 @@ function exampleScripts() {
     onEach('split', [[[], 0x2C], [[0x61, 0x2C, 0x2C, 0x62], 0x2C], [[0x2C], 0x2C], [EXAMPLE, 0xD83D], [EXAMPLE, 0x63]]),
     onBoth('padStart', [[[0x61], [0xDCA9, 0xD83D], 4], [[0x61], [0xDCA9, 0xD83D], 5], [[0x61, 0x62], [0x20], 2], [[0x61], [0x20], 0], [[0x61], [], 3], [[], [0x78], 2]]),
     onBoth('replace', [[[0x61, 0x62, 0x61, 0x62], [0x62], 0xD83D], [EXAMPLE, [0xDCA9], 0x24, 0x26], [EXAMPLE, [], 0x78], [EXAMPLE, [0x63], 0x78], [[0x61, 0x61, 0x61], [0x61, 0x61]]]),
+    [['fromStr', ''], ['pushStr', ''], ['fromStr', 'a\u{1F4A9}'], ['length'], ['pushStr', '\u00E9\uD55C'], ['throughWtf8'], ['length']],
+    onEach('pushWtf8', [[[0x61, 0xD83D], 0xDCA9], [[0xD83D], 0xDCA9, 0xD83D], [[0xD83D]], [[], 0xDCA9], [[0xDCA9], 0xD83D]]),
+    onEach('pushStr', [[[0x61, 0xD83D], '\u00E9'], [[0xD83D], '\u{1F4A9}'], [[0xDCA9, 0xD83D], '']]),
+    onEach('throughWtf8', [[[]], [[0x61, 0xD83D]], [[0xD83D, 0xDCA9]], [[0xDCA9, 0xD83D]]]),
     onBoth('compare', [[[0xD800, 0xDC00], [0xE000]], [[0xE000], [0xD800, 0xDC00]], [[0xD800, 0xDC00], [0xD800, 0xDC00]]]),
   ];
 }

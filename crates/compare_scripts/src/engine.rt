@@ -3,10 +3,10 @@ use crate::stop::{Stop, allocated};
 use crate::tape::Tape;
 use std::alloc::Global;
 use unit_text::UnitText;
-use wtf8_uses::engine_search::{index_of, last_index_of, replace, split};
-use wtf8_uses::engine_strings::{at, code_point_at, pad_start, repeat};
-use wtf8_uses::strings::ends_with;
-use wtf8_uses::well_formed::is_well_formed;
+use wtf8_uses::string_prototype::{
+    at, code_point_at, ends_with, index_of, is_well_formed, last_index_of, pad_start, repeat,
+    replace, split,
+};
 
 /// `index_of`: writes the index.
 pub fn write_index(

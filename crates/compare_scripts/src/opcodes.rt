@@ -183,6 +183,12 @@ pub enum ChangeText {
     Mark,
     /// Units: pushes each.
     Push,
+    /// Text: `push_str`.
+    PushStr,
+    /// Units: `push_wtf8` of their string.
+    PushWtf8,
+    /// `into_wtf8`, then `from_wtf8` of the string, which leaves the marks out.
+    ThroughWtf8,
 }
 
 /// A call that makes the first text anew.
@@ -190,6 +196,8 @@ pub enum ChangeText {
 pub enum MakeText {
     /// Units: makes the text of them.
     Set,
+    /// Text: `from_str`.
+    FromStr,
     /// Two numbers: the units from one index to another.
     Slice,
     /// Number: `pad_start` to that width by the second text.
@@ -349,6 +357,10 @@ impl ChangeText {
             84 => ChangeText::Make(MakeText::Replace),
             85 => ChangeText::Make(MakeText::ToWellFormed),
             86 => ChangeText::Push,
+            89 => ChangeText::Make(MakeText::FromStr),
+            90 => ChangeText::PushStr,
+            91 => ChangeText::PushWtf8,
+            92 => ChangeText::ThroughWtf8,
             _ => return None,
         };
         Some(call)

@@ -11,8 +11,9 @@ use std::alloc::Global;
 use std::mem;
 use unit_text::UnitText;
 use wtf8_uses::cuts::is_whole_again;
-use wtf8_uses::engine_strings::{to_well_formed, trim_ascii};
-use wtf8_uses::strings::{char_at, char_code_at, is_less, starts_with, substring};
+use wtf8_uses::string_prototype::{
+    char_at, char_code_at, is_less, starts_with, substring, to_well_formed, trim_ascii,
+};
 
 /// The two texts of a script.
 #[derive(Drop)]
@@ -57,6 +58,9 @@ impl Texts {
             ChangeText::Concat => allocated(self.first.concat(&self.second)),
             ChangeText::Mark => self.mark(tape),
             ChangeText::Push => push_units(&mut self.first, tape),
+            ChangeText::PushStr => push_str(&mut self.first, tape),
+            ChangeText::PushWtf8 => push_string(&mut self.first, tape),
+            ChangeText::ThroughWtf8 => self.convert(tape),
         }
     }
 
@@ -72,10 +76,19 @@ impl Texts {
         Ok(())
     }
 
+    /// `into_wtf8`, then `from_wtf8`.
+    fn convert(&mut self, tape: &mut Tape<'_>) -> Result<(), Stop> {
+        let empty = allocated(UnitText::from_units(tape.alloc, &[]))?;
+        let text = mem::replace(&mut self.first, empty);
+        self.first = UnitText::from_wtf8(text.into_wtf8());
+        Ok(())
+    }
+
     /// Makes the text that replaces the first one.
     fn make(&self, call: MakeText, tape: &mut Tape<'_>) -> Result<UnitText<Global>, Stop> {
         match call {
             MakeText::Set => tape.read_units(),
+            MakeText::FromStr => from_str(tape),
             MakeText::Slice => self.slice(tape),
             MakeText::PadStart => padded(tape, &self.first, &self.second),
             MakeText::Repeat => repeated(tape, &self.first),
@@ -171,6 +184,24 @@ impl Texts {
         let whole = whole_cuts(tape.alloc, &self.first)?;
         writeln!(tape, "whole {whole}")
     }
+}
+
+/// `from_str`.
+fn from_str(tape: &mut Tape<'_>) -> Result<UnitText<Global>, Stop> {
+    let value = tape.reader.text()?;
+    allocated(UnitText::from_str(tape.alloc, value))
+}
+
+/// `push_str`.
+fn push_str(text: &mut UnitText<Global>, tape: &mut Tape<'_>) -> Result<(), Stop> {
+    let value = tape.reader.text()?;
+    allocated(text.push_str(value))
+}
+
+/// `push_wtf8` of the string of units.
+fn push_string(text: &mut UnitText<Global>, tape: &mut Tape<'_>) -> Result<(), Stop> {
+    let units = tape.read_units()?;
+    allocated(text.push_wtf8(units.as_wtf8()))
 }
 
 /// Reads a count of two bytes, then that number of units, and pushes each.

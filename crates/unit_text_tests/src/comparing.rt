@@ -3,7 +3,6 @@ use crate::shared::text_of_units;
 use std::alloc::{AllocError, Global};
 use std::cmp::Ordering;
 use std::collections::HashMap;
-use std::test::Fail;
 use unit_text::UnitText;
 use wtf8_tests::examples::joining;
 
@@ -47,76 +46,81 @@ fn compared() -> [(&'static [u16], &'static [u16], Ordering, Ordering); 8] {
 }
 
 /// Whether `cmp_units` gives `order`, `cmp` of the views `view_order`, and `==` whether `order` is `Equal`.
-fn are_ordered(
-    alloc: Global,
-    left: &[u16],
-    right: &[u16],
+fn is_order_of(
+    first: &UnitText<Global>,
+    second: &UnitText<Global>,
     order: Ordering,
     view_order: Ordering,
-) -> Result<bool, Fail> {
-    let first = UnitText::from_units(alloc, left)?;
-    let second = UnitText::from_units(alloc, right)?;
-    Ok(
-        first.cmp_units(&second) == order
-            && second.cmp_units(&first) == order.reverse()
-            && first.as_wtf8().cmp(&second.as_wtf8()) == view_order
-            && (first == second) == order.is_eq(),
-    )
+) -> bool {
+    first.cmp_units(second) == order
+        && second.cmp_units(first) == order.reverse()
+        && first.as_wtf8().cmp(&second.as_wtf8()) == view_order
+        && (first == second) == order.is_eq()
+}
+
+/// Whether `is_order_of` is true of `first` and the text of `units`.
+fn is_order_with(
+    alloc: Global,
+    first: &UnitText<Global>,
+    units: &[u16],
+    order: Ordering,
+    view_order: Ordering,
+) -> Result<bool, AllocError> {
+    let second = UnitText::from_units(alloc, units)?;
+    Ok(is_order_of(first, &second, order, view_order))
 }
 
 #[test]
-fn units_are_compared(rt: HostRuntime) -> Result<(), Fail> {
+fn units_are_compared(rt: HostRuntime) -> Result<(), AllocError> {
     for (left, right, order, view_order) in compared() {
-        let is_right = are_ordered(rt.alloc(), left, right, order, view_order)?;
-        assert!(rt; is_right, "{left:?} and {right:?}");
+        let first = UnitText::from_units(rt.alloc(), left)?;
+        assert!(rt; is_order_with(rt.alloc(), &first, right, order, view_order)?);
     }
     Ok(())
 }
 
-/// Whether the texts of two lists of units are equal.
-fn are_equal(alloc: Global, units: &[u16], others: &[u16]) -> Result<bool, Fail> {
-    let text = UnitText::from_units(alloc, units)?;
-    let other = UnitText::from_units(alloc, others)?;
-    Ok(text == other)
+/// Whether the text of `units` equals `text`.
+fn is_text_of(alloc: Global, text: &UnitText<Global>, units: &[u16]) -> Result<bool, AllocError> {
+    let other = UnitText::from_units(alloc, units)?;
+    Ok(*text == other)
 }
 
 #[test]
-fn texts_are_equal_where_their_units_are(rt: HostRuntime) -> Result<(), Fail> {
+fn texts_are_equal_where_their_units_are(rt: HostRuntime) -> Result<(), AllocError> {
     for (left, (units, _, _)) in joining().iter().enumerate() {
+        let text = UnitText::from_units(rt.alloc(), units)?;
         for (right, (others, _, _)) in joining().iter().enumerate() {
-            let is_equal = are_equal(rt.alloc(), units, others)?;
-            assert_eq!(rt; is_equal, left == right, "{units:?} and {others:?}");
+            assert_eq!(rt; is_text_of(rt.alloc(), &text, others)?, left == right);
         }
     }
     Ok(())
 }
 
 /// A map from the texts of `joining` to their indexes.
-fn places(alloc: Global) -> Result<HashMap<UnitText<Global>, usize>, AllocError> {
-    let mut places = HashMap::new(alloc);
-    for (place, (units, _, _)) in joining().iter().enumerate() {
-        places.insert(UnitText::from_units(alloc, units)?, place)?;
+fn indexes(alloc: Global) -> Result<HashMap<UnitText<Global>, usize>, AllocError> {
+    let mut indexes = HashMap::new(alloc);
+    for (index, (units, _, _)) in joining().iter().enumerate() {
+        indexes.insert(UnitText::from_units(alloc, units)?, index)?;
     }
-    Ok(places)
+    Ok(indexes)
 }
 
 /// The index that the map has for the text of these units.
-fn place_of(
+fn index_of(
     alloc: Global,
-    places: &HashMap<UnitText<Global>, usize>,
+    indexes: &HashMap<UnitText<Global>, usize>,
     units: &[u16],
-) -> Result<Option<usize>, Fail> {
+) -> Result<Option<usize>, AllocError> {
     let key = text_of_units(alloc, units)?;
-    Ok(places.get(&key).copied())
+    Ok(indexes.get(&key).copied())
 }
 
 #[test]
-fn texts_are_found_in_a_map(rt: HostRuntime) -> Result<(), Fail> {
-    let places = places(rt.alloc())?;
-    assert_eq!(rt; places.len(), joining().len());
-    for (place, (units, _, _)) in joining().iter().enumerate() {
-        let found = place_of(rt.alloc(), &places, units)?;
-        assert_eq!(rt; found, Some(place), "{units:?}");
+fn texts_are_found_in_a_map(rt: HostRuntime) -> Result<(), AllocError> {
+    let indexes = indexes(rt.alloc())?;
+    assert_eq!(rt; indexes.len(), joining().len());
+    for (index, (units, _, _)) in joining().iter().enumerate() {
+        assert_eq!(rt; index_of(rt.alloc(), &indexes, units)?, Some(index));
     }
     Ok(())
 }

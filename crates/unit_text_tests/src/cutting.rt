@@ -1,10 +1,9 @@
 // Texts cut at every unit index.
 use crate::shared::{expect_text, expect_units, slice_of};
 use std::alloc::Global;
-use std::test::Fail;
 use unit_text::UnitText;
 use wtf8_tests::examples::joining;
-use wtf8_uses::cuts::{cut_and_joined, is_whole_again};
+use wtf8_tests::wrong::{Wrong, made};
 
 /// Fails unless the slice from unit `begin` to before unit `end` has `units`.
 fn expect_slice(
@@ -13,47 +12,35 @@ fn expect_slice(
     begin: usize,
     end: usize,
     units: &[u16],
-) -> Result<(), Fail> {
+) -> Result<(), Wrong> {
     let slice = slice_of(alloc, text, begin, end)?;
     expect_units(&slice, units)
 }
 
-/// Fails unless the two parts of a text at unit index `place` have its units before that index and from there on.
+/// Fails unless the two parts of a text at unit index `index` have its units before that index and from there on.
 fn expect_parts(
     alloc: Global,
     text: &UnitText<Global>,
     units: &[u16],
-    place: usize,
-) -> Result<(), Fail> {
-    if place > units.len() {
-        return Err(Fail::new("no such place"));
+    index: usize,
+) -> Result<(), Wrong> {
+    if index > units.len() {
+        return Err(Wrong::Row);
     }
-    let (before, behind) = units.split_at(place);
-    expect_slice(alloc, text, 0, place, before)?;
-    expect_slice(alloc, text, place, text.unit_len(), behind)
+    let (before, after) = units.split_at(index);
+    expect_slice(alloc, text, 0, index, before)?;
+    expect_slice(alloc, text, index, text.unit_len(), after)
 }
 
-/// Appends the units of `text` from unit index `place` on to `front`.
+/// Appends the units of `text` from unit index `index` on to `front`.
 fn append_rest(
     alloc: Global,
     front: &mut UnitText<Global>,
     text: &UnitText<Global>,
-    place: usize,
-) -> Result<(), Fail> {
-    let back = slice_of(alloc, text, place, text.unit_len())?;
-    front.concat(&back)?;
-    Ok(())
-}
-
-/// The two parts of a text at unit index `place`, joined again.
-fn parts_joined(
-    alloc: Global,
-    text: &UnitText<Global>,
-    place: usize,
-) -> Result<UnitText<Global>, Fail> {
-    let mut front = slice_of(alloc, text, 0, place)?;
-    append_rest(alloc, &mut front, text, place)?;
-    Ok(front)
+    index: usize,
+) -> Result<(), Wrong> {
+    let back = slice_of(alloc, text, index, text.unit_len())?;
+    made(front.concat(&back))
 }
 
 /// Fails unless `whole` equals `text`, and has `units` and the bytes of `dump`.
@@ -63,83 +50,55 @@ fn expect_same(
     text: &UnitText<Global>,
     units: &[u16],
     dump: &str,
-) -> Result<(), Fail> {
+) -> Result<(), Wrong> {
     if whole != text {
-        return Err(Fail::new("not equal to the whole"));
+        return Err(Wrong::Outcome);
     }
     expect_text(alloc, whole, units, dump)
 }
 
-/// Fails unless the two parts of the text of `units` at unit index `place` have their units, and join to the whole.
-fn expect_cut(alloc: Global, units: &[u16], dump: &str, place: usize) -> Result<(), Fail> {
-    let text = UnitText::from_units(alloc, units)?;
-    expect_parts(alloc, &text, units, place)?;
-    expect_same(
-        alloc,
-        &parts_joined(alloc, &text, place)?,
-        &text,
-        units,
-        dump,
-    )?;
+/// Fails unless the two parts of `text` at unit index `index` join to the whole.
+fn expect_joined(
+    alloc: Global,
+    text: &UnitText<Global>,
+    units: &[u16],
+    dump: &str,
+    index: usize,
+) -> Result<(), Wrong> {
+    let mut front = slice_of(alloc, text, 0, index)?;
+    append_rest(alloc, &mut front, text, index)?;
+    expect_same(alloc, &front, text, units, dump)
+}
+
+/// Fails unless the two parts of the text of `units` at unit index `index` have their units, and join to the whole.
+fn expect_cut(alloc: Global, units: &[u16], dump: &str, index: usize) -> Result<(), Wrong> {
+    let text = made(UnitText::from_units(alloc, units))?;
+    expect_parts(alloc, &text, units, index)?;
+    expect_joined(alloc, &text, units, dump, index)?;
     expect_text(alloc, &text, units, dump)
 }
 
 #[test]
-fn a_text_cut_anywhere_is_found_whole_again(rt: HostRuntime) -> Result<(), Fail> {
+fn a_text_cut_anywhere_is_found_whole_again(rt: HostRuntime) -> Result<(), Wrong> {
     for (units, _, dump) in joining() {
-        for place in 0..units.len().saturating_add(1) {
-            expect_cut(rt.alloc(), units, dump, place)?;
+        for index in 0..units.len().saturating_add(1) {
+            expect_cut(rt.alloc(), units, dump, index)?;
         }
     }
     expect_cut(rt.alloc(), &[0x0061, 0xD83D, 0xDCA9], "61 F0 9F 92 A9", 2)
 }
 
-/// Fails unless `is_whole_again` is true at unit index `place`, and `cut_and_joined` returns the whole text.
-fn expect_whole(
-    alloc: Global,
-    text: &UnitText<Global>,
-    units: &[u16],
-    dump: &str,
-    place: usize,
-) -> Result<(), Fail> {
-    if place > text.unit_len() {
-        return Err(Fail::new("no such place"));
-    }
-    if !is_whole_again(alloc, alloc, text, place)? {
-        return Err(Fail::new("not the whole"));
-    }
-    let whole = cut_and_joined(alloc, alloc, text, place)?;
-    expect_text(alloc, &whole, units, dump)
-}
-
-/// Fails unless the text of `units`, cut at each unit index and joined by both callers, is whole again.
-fn expect_whole_anywhere(alloc: Global, units: &[u16], dump: &str) -> Result<(), Fail> {
-    let text = UnitText::from_units(alloc, units)?;
-    for place in 0..=units.len() {
-        expect_whole(alloc, &text, units, dump, place)?;
-    }
-    Ok(())
-}
-
-#[test]
-fn callers_find_the_whole_again(rt: HostRuntime) -> Result<(), Fail> {
-    for (units, _, dump) in joining() {
-        expect_whole_anywhere(rt.alloc(), units, dump)?;
-    }
-    Ok(())
-}
-
 /// Fails unless the slice of the text of `units` from `begin` to before `end` has `units[begin..end]`.
-fn expect_middle(alloc: Global, units: &[u16], begin: usize, end: usize) -> Result<(), Fail> {
+fn expect_middle(alloc: Global, units: &[u16], begin: usize, end: usize) -> Result<(), Wrong> {
     if begin > end || end > units.len() {
-        return Err(Fail::new("no such places"));
+        return Err(Wrong::Row);
     }
-    let text = UnitText::from_units(alloc, units)?;
+    let text = made(UnitText::from_units(alloc, units))?;
     expect_slice(alloc, &text, begin, end, &units[begin..end])
 }
 
 #[test]
-fn every_middle_has_its_units(rt: HostRuntime) -> Result<(), Fail> {
+fn every_middle_has_its_units(rt: HostRuntime) -> Result<(), Wrong> {
     for (units, _, _) in joining() {
         for end in 0..units.len().saturating_add(1) {
             for begin in 0..end.saturating_add(1) {

@@ -1,33 +1,40 @@
 // Texts of each length: each call succeeds if its requests are granted, and requests no more bytes than it needs.
+use crate::shared::slice_of;
 use refusing::Refusing;
 use std::alloc::{AllocError, Global};
-use std::test::Fail;
 use unit_text::UnitText;
+use wtf8_tests::wrong::{Wrong, expect, made};
 
 type Lent<'a> = &'a Refusing<Global>;
 
 /// Eight units that repeat in a text: of one kind alone, or mixed.
-const KINDS: [[u16; 8]; 5] = [
-    [0x0061; 8],
-    [0x3042; 8],
-    [0xDCA9; 8],
+fn kinds() -> [[u16; 8]; 5] {
     [
-        0xD83D, 0xDCA9, 0xD83D, 0xDCA9, 0xD83D, 0xDCA9, 0xD83D, 0xDCA9,
-    ],
-    [
-        0x0061, 0x00E9, 0x3042, 0xD83D, 0xDCA9, 0xDCA9, 0x0020, 0xD83D,
-    ],
-];
+        [0x0061; 8],
+        [0x3042; 8],
+        [0xDCA9; 8],
+        [
+            0xD83D, 0xDCA9, 0xD83D, 0xDCA9, 0xD83D, 0xDCA9, 0xD83D, 0xDCA9,
+        ],
+        [
+            0x0061, 0x00E9, 0x3042, 0xD83D, 0xDCA9, 0xDCA9, 0x0020, 0xD83D,
+        ],
+    ]
+}
 
 /// Lengths in units above the range in which each length is tried.
-const LONG: [usize; 4] = [1000, 5000, 20_000, 70_000];
+fn long() -> [usize; 4] {
+    [1000, 5000, 20_000, 70_000]
+}
 
 /// A unit, and lengths in units at which a text of it has about 4,096 or 65,536 bytes.
-const ABOUT_POWERS: [(u16, &[usize]); 3] = [
-    (0x0061, &[4095, 4096, 4097, 65_535, 65_536, 65_537]),
-    (0x00E9, &[2047, 2048, 2049, 32_767, 32_768, 32_769]),
-    (0x3042, &[1365, 1366, 21_845, 21_846]),
-];
+fn about_powers() -> [(u16, &'static [usize]); 3] {
+    [
+        (0x0061, &[4095, 4096, 4097, 65_535, 65_536, 65_537]),
+        (0x00E9, &[2047, 2048, 2049, 32_767, 32_768, 32_769]),
+        (0x3042, &[1365, 1366, 21_845, 21_846]),
+    ]
+}
 
 /// The text of `length` units that repeat `kind`.
 fn text_of<'a>(
@@ -67,14 +74,14 @@ impl Room {
     }
 }
 
-/// The number of bytes of a lone surrogate, 3, if unit index `place` splits a surrogate pair, else 0.
-fn half_at(kind: &[u16; 8], length: usize, place: usize) -> usize {
-    if place == 0 || length <= place {
+/// The number of bytes of a lone surrogate, 3, if unit index `index` splits a surrogate pair, else 0.
+fn half_at(kind: &[u16; 8], length: usize, index: usize) -> usize {
+    if index == 0 || length <= index {
         return 0;
     }
-    let before = kind[(place - 1) % 8];
-    let behind = kind[place % 8];
-    let is_divided = before == 0xD83D && behind == 0xDCA9;
+    let before = kind[(index - 1) % 8];
+    let after = kind[index % 8];
+    let is_divided = before == 0xD83D && after == 0xDCA9;
     if is_divided { 3 } else { 0 }
 }
 
@@ -104,52 +111,61 @@ fn expect_slice<'a>(
     kind: &[u16; 8],
     begin: usize,
     end: usize,
-) -> Result<(), Fail> {
+) -> Result<(), Wrong> {
     heap.grant(u64::MAX);
-    let length = text.unit_len();
-    if begin > end || end > length {
-        return Err(Fail::new("no such places"));
-    }
-    let slice = text.slice_units(heap, begin, end)?;
-    let len = slice.as_wtf8().len();
-    let room = room_between(kind, length, begin, end, len);
-    if heap.requests() != room.requests || heap.bytes() != room.bytes {
-        return Err(Fail::new(format_args!("from {begin} to {end}")));
+    let slice = slice_of(heap, text, begin, end)?;
+    let room = room_between(kind, text.unit_len(), begin, end, slice.as_wtf8().len());
+    let requests = (heap.requests(), heap.bytes());
+    expect(requests == (room.requests, room.bytes), Wrong::Requests)
+}
+
+/// Fails unless five slices of a text of `length` units request what they need.
+fn expect_slices<'a>(
+    heap: Lent<'a>,
+    text: &UnitText<Lent<'a>>,
+    kind: &[u16; 8],
+    length: usize,
+) -> Result<(), Wrong> {
+    let half = length / 2;
+    for (begin, end) in [
+        (0, length),
+        (half, length),
+        (length.min(1), length),
+        (0, length.saturating_sub(1)),
+        (half, half),
+    ] {
+        expect_slice(heap, text, kind, begin, end)?;
     }
     Ok(())
 }
 
 /// Fails unless a text is appended to a copy of it with at most one request, for at most the bytes of both, or 16.
-fn expect_twice<'a>(heap: Lent<'a>, text: &UnitText<Lent<'a>>) -> Result<(), Fail> {
-    let mut front = text.slice_units(heap, 0, text.unit_len())?;
-    let len = front.as_wtf8().len();
+fn expect_twice<'a>(heap: Lent<'a>, text: &UnitText<Lent<'a>>) -> Result<(), Wrong> {
+    let mut front = slice_of(heap, text, 0, text.unit_len())?;
+    let most = front.as_wtf8().len().saturating_mul(2).max(16);
     heap.grant(u64::MAX);
-    front.concat(text)?;
-    if heap.requests() > 1 || heap.bytes() > len.saturating_mul(2).max(16) {
-        return Err(Fail::new(format_args!("{len} bytes twice")));
-    }
-    Ok(())
+    made(front.concat(text))?;
+    expect(
+        heap.requests() <= 1 && heap.bytes() <= most,
+        Wrong::Requests,
+    )
 }
 
 /// Fails unless slices of `length` units that repeat `kind`, and appending these to a copy, request what they need.
-fn expect_done(alloc: Global, kind: &[u16; 8], length: usize) -> Result<(), Fail> {
+fn expect_done(alloc: Global, kind: &[u16; 8], length: usize) -> Result<(), Wrong> {
     let heap = Refusing::new(alloc, 0);
-    let text = text_of(alloc, &heap, kind, length)?;
-    expect_slice(&heap, &text, kind, 0, length)?;
-    expect_slice(&heap, &text, kind, length / 2, length)?;
-    expect_slice(&heap, &text, kind, length.min(1), length)?;
-    expect_slice(&heap, &text, kind, 0, length.saturating_sub(1))?;
-    expect_slice(&heap, &text, kind, length / 2, length / 2)?;
+    let text = made(text_of(alloc, &heap, kind, length))?;
+    expect_slices(&heap, &text, kind, length)?;
     expect_twice(&heap, &text)
 }
 
 #[test]
-fn each_call_is_done_at_each_length(rt: HostRuntime) -> Result<(), Fail> {
-    for kind in &KINDS {
+fn each_call_is_done_at_each_length(rt: HostRuntime) -> Result<(), Wrong> {
+    for kind in &kinds() {
         for length in 0..=300 {
             expect_done(rt.alloc(), kind, length)?;
         }
-        for length in LONG {
+        for length in long() {
             expect_done(rt.alloc(), kind, length)?;
         }
     }
@@ -157,8 +173,8 @@ fn each_call_is_done_at_each_length(rt: HostRuntime) -> Result<(), Fail> {
 }
 
 #[test]
-fn each_call_is_done_about_powers_of_two(rt: HostRuntime) -> Result<(), Fail> {
-    for (unit, lengths) in ABOUT_POWERS {
+fn each_call_is_done_about_powers_of_two(rt: HostRuntime) -> Result<(), Wrong> {
+    for (unit, lengths) in about_powers() {
         for length in lengths {
             expect_done(rt.alloc(), &[unit; 8], *length)?;
         }

@@ -1,4 +1,4 @@
-// Tests of the public calls of `unit_text`, and of the functions of `wtf8_uses`.
+// Tests of the public calls of `unit_text`.
 #![tactic(auto)]
 
 #[cfg(test)]
@@ -18,16 +18,8 @@ mod memory;
 #[cfg(test)]
 mod pushing;
 #[cfg(test)]
-mod reading;
-#[cfg(test)]
 mod shared;
 #[cfg(test)]
 mod sinks;
 #[cfg(test)]
-mod strings;
-#[cfg(test)]
 mod texts;
-#[cfg(test)]
-mod uses;
-#[cfg(test)]
-mod uses_refused;

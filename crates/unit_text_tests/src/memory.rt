@@ -2,11 +2,8 @@
 use crate::shared::slice_of;
 use refusing::{REFUSALS, Refusal, Refusing};
 use std::alloc::{AllocError, Global};
-use std::test::Fail;
 use unit_text::UnitText;
-use wtf8_tests::examples::expect_dump;
-use wtf8_uses::cuts::cut_and_joined;
-use wtf8_uses::strings::{char_at, substring};
+use wtf8_tests::wrong::{Wrong, expect, expect_bytes, made};
 
 type Lent<'a> = &'a Refusing<Global>;
 
@@ -19,24 +16,30 @@ fn expect_unasked<'a>(
     heap: Lent<'a>,
     text: &UnitText<Lent<'a>>,
     dump: &str,
-) -> Result<(), Fail> {
+) -> Result<(), Wrong> {
     if heap.requests() != 0 {
-        return Err(Fail::new("a request"));
+        return Err(Wrong::Requests);
     }
-    expect_dump(alloc, text.as_wtf8(), dump)
+    expect_bytes(alloc, text.as_wtf8(), dump)
 }
 
-/// Fails unless a text of no units, and a slice of it, make no request.
-fn expect_empty(alloc: Global, heap: Lent<'_>) -> Result<(), Fail> {
-    let empty = UnitText::from_units(heap, &[])?;
-    expect_unasked(alloc, heap, &empty, "")?;
-    expect_unasked(alloc, heap, &slice_of(heap, &empty, 0, 0)?, "")
+/// Fails unless the slice from unit `index` to before unit `index` makes no request and is empty.
+fn expect_empty_slice<'a>(
+    alloc: Global,
+    heap: Lent<'a>,
+    text: &UnitText<Lent<'a>>,
+    index: usize,
+) -> Result<(), Wrong> {
+    let slice = slice_of(heap, text, index, index)?;
+    expect_unasked(alloc, heap, &slice, "")
 }
 
 #[test]
-fn no_units_ask_for_no_memory(rt: HostRuntime) -> Result<(), Fail> {
+fn no_units_ask_for_no_memory(rt: HostRuntime) -> Result<(), Wrong> {
     let heap = Refusing::new(rt.alloc(), 0);
-    expect_empty(rt.alloc(), &heap)
+    let empty = made(UnitText::from_units(&heap, &[]))?;
+    expect_unasked(rt.alloc(), &heap, &empty, "")?;
+    expect_empty_slice(rt.alloc(), &heap, &empty, 0)
 }
 
 /// A lead surrogate, to which the empty text is appended with no request granted.
@@ -48,23 +51,19 @@ fn lead_and_nothing(heap: Lent<'_>) -> Result<UnitText<Lent<'_>>, AllocError> {
 }
 
 #[test]
-fn the_empty_text_asks_for_no_memory(rt: HostRuntime) -> Result<(), Fail> {
+fn the_empty_text_asks_for_no_memory(rt: HostRuntime) -> Result<(), Wrong> {
     let heap = Refusing::new(rt.alloc(), 9);
-    expect_unasked(rt.alloc(), &heap, &lead_and_nothing(&heap)?, "ED A0 BD")
-}
-
-/// Fails unless an empty slice inside a surrogate pair makes no request, and the text keeps the pair.
-fn expect_sliced_pair(alloc: Global, heap: Lent<'_>) -> Result<(), Fail> {
-    let text = UnitText::from_units(heap, &[0xD83D, 0xDCA9])?;
-    heap.grant(0);
-    expect_unasked(alloc, heap, &slice_of(heap, &text, 1, 1)?, "")?;
-    expect_dump(alloc, text.as_wtf8(), "F0 9F 92 A9")
+    let lead = made(lead_and_nothing(&heap))?;
+    expect_unasked(rt.alloc(), &heap, &lead, "ED A0 BD")
 }
 
 #[test]
-fn an_empty_slice_asks_for_no_memory(rt: HostRuntime) -> Result<(), Fail> {
+fn an_empty_slice_asks_for_no_memory(rt: HostRuntime) -> Result<(), Wrong> {
     let heap = Refusing::new(rt.alloc(), 9);
-    expect_sliced_pair(rt.alloc(), &heap)
+    let text = made(UnitText::from_units(&heap, &[0xD83D, 0xDCA9]))?;
+    heap.grant(0);
+    expect_empty_slice(rt.alloc(), &heap, &text, 1)?;
+    expect_bytes(rt.alloc(), text.as_wtf8(), "F0 9F 92 A9")
 }
 
 /// The units of a text, the begin and end of a slice in units, and the number of its requests and of the bytes in them.
@@ -92,62 +91,70 @@ fn slices() -> [Slice; 7] {
     ]
 }
 
-/// Whether `slice_units` succeeds with `granted.0` requests granted, and the following ones, or the next one alone,
-/// refused.
-fn is_sliced(
-    heap: Lent<'_>,
-    units: &[u16],
-    begin: usize,
-    end: usize,
-    granted: (u64, Refusal),
-) -> Result<bool, Fail> {
-    heap.grant(9);
-    let text = UnitText::from_units(heap, units)?;
+/// Whether `slice_units` succeeds with `granted` requests granted, and the following ones, or the next one alone,
+/// refused. Fails unless `begin..end` is a range of the text's units.
+fn is_sliced<'a>(
+    heap: Lent<'a>,
+    text: &UnitText<Lent<'a>>,
+    range: (usize, usize),
+    granted: u64,
+    refusal: Refusal,
+) -> Result<bool, Wrong> {
+    let (begin, end) = range;
     if begin > end || end > text.unit_len() {
-        return Err(Fail::new("no such places"));
+        return Err(Wrong::Row);
     }
-    let (grants, refusal) = granted;
-    heap.refuse_after(grants, refusal);
-    let is_sliced = text.slice_units(heap, begin, end).is_ok();
-    Ok(is_sliced)
+    heap.refuse_after(granted, refusal);
+    Ok(text.slice_units(heap, begin, end).is_ok())
 }
 
-/// Fails unless the slice succeeds if all its requests are granted, with the requests and bytes of the row.
-fn expect_sliced(heap: Lent<'_>, row: Slice) -> Result<(), Fail> {
-    let (units, begin, end, requests, bytes) = row;
-    let is_sliced = is_sliced(heap, units, begin, end, (9, Refusal::Once))?;
-    if !is_sliced || heap.requests() != requests || heap.bytes() != bytes {
-        return Err(Fail::new(format_args!("{units:?} from {begin} to {end}")));
-    }
-    Ok(())
-}
-
-/// Refuses each request of the slice in turn. Fails unless the slice fails and makes no more requests.
-fn expect_unsliced(heap: Lent<'_>, row: Slice, refusal: Refusal) -> Result<(), Fail> {
-    let (units, begin, end, requests, _) = row;
+/// Refuses each request of the row's slice in turn. Fails unless the slice fails and makes no more requests.
+fn expect_unsliced<'a>(
+    heap: Lent<'a>,
+    text: &UnitText<Lent<'a>>,
+    row: Slice,
+    refusal: Refusal,
+) -> Result<(), Wrong> {
+    let (_, begin, end, requests, _) = row;
     for granted in 0..requests {
-        let is_sliced = is_sliced(heap, units, begin, end, (granted, refusal))?;
+        let is_sliced = is_sliced(heap, text, (begin, end), granted, refusal)?;
         if is_sliced || heap.requests() != granted.wrapping_add(1) {
-            return Err(Fail::new(format_args!("from {begin} to {end}")));
+            return Err(Wrong::Requests);
         }
     }
     Ok(())
 }
 
+/// Fails unless the row's slice succeeds if all its requests are granted, with the row's requests and bytes.
+fn expect_sliced<'a>(heap: Lent<'a>, text: &UnitText<Lent<'a>>, row: Slice) -> Result<(), Wrong> {
+    let (_, begin, end, requests, bytes) = row;
+    let is_sliced = is_sliced(heap, text, (begin, end), 9, Refusal::Once)?;
+    let is_asked = heap.requests() == requests && heap.bytes() == bytes;
+    expect(is_sliced && is_asked, Wrong::Requests)
+}
+
+/// Fails unless the row's slice requests what the row says, and fails at each request that is refused.
+fn expect_slice(heap: Lent<'_>, row: Slice) -> Result<(), Wrong> {
+    let (units, _, _, _, _) = row;
+    heap.grant(9);
+    let text = made(UnitText::from_units(heap, units))?;
+    for refusal in REFUSALS {
+        expect_unsliced(heap, &text, row, refusal)?;
+    }
+    expect_sliced(heap, &text, row)
+}
+
 #[test]
-fn a_slice_asks_for_what_it_needs(rt: HostRuntime) -> Result<(), Fail> {
+fn a_slice_asks_for_what_it_needs(rt: HostRuntime) -> Result<(), Wrong> {
     let heap = Refusing::new(rt.alloc(), 9);
     for row in slices() {
-        expect_sliced(&heap, row)?;
-        for refusal in REFUSALS {
-            expect_unsliced(&heap, row, refusal)?;
-        }
+        expect_slice(&heap, row)?;
     }
     Ok(())
 }
 
 #[test]
-fn a_text_of_units_asks_for_what_it_needs(rt: HostRuntime) -> Result<(), Fail> {
+fn a_text_of_units_asks_for_what_it_needs(rt: HostRuntime) {
     let heap = Refusing::new(rt.alloc(), 9);
     assert!(rt; UnitText::from_units(&heap, &WIDE).is_ok());
     assert_eq!(rt; heap.requests(), 3);
@@ -159,7 +166,6 @@ fn a_text_of_units_asks_for_what_it_needs(rt: HostRuntime) -> Result<(), Fail> {
             assert_eq!(rt; heap.requests(), granted.wrapping_add(1));
         }
     }
-    Ok(())
 }
 
 fn hundred_trails() -> [u16; 100] {
@@ -173,12 +179,12 @@ fn is_appended<'a>(
     text: &mut UnitText<Lent<'a>>,
     granted: u64,
     refusal: Refusal,
-) -> Result<bool, Fail> {
-    let behind = UnitText::from_units(heap, &hundred_trails())?;
+) -> Result<bool, Wrong> {
+    let trails = made(UnitText::from_units(heap, &hundred_trails()))?;
     heap.refuse_after(granted, refusal);
-    let is_appended = text.concat(&behind).is_ok();
-    if behind.unit_len() != 100 || heap.requests() != 1 || heap.bytes() != 302 {
-        return Err(Fail::new("another length, or not one request for all bytes"));
+    let is_appended = text.concat(&trails).is_ok();
+    if trails.unit_len() != 100 || heap.requests() != 1 || heap.bytes() != 302 {
+        return Err(Wrong::Requests);
     }
     Ok(is_appended)
 }
@@ -189,110 +195,42 @@ fn expect_grown<'a>(
     heap: Lent<'a>,
     text: &UnitText<Lent<'a>>,
     is_grown: bool,
-) -> Result<(), Fail> {
+) -> Result<(), Wrong> {
     let len = if is_grown { 102 } else { 2 };
     if text.unit_len() != len {
-        return Err(Fail::new("another length"));
+        return Err(Wrong::Units);
     }
     if !is_grown {
-        return expect_dump(alloc, text.as_wtf8(), "61 ED A0 BD");
+        return expect_bytes(alloc, text.as_wtf8(), "61 ED A0 BD");
     }
     heap.grant(9);
     let front = slice_of(heap, text, 0, 3)?;
-    expect_dump(alloc, front.as_wtf8(), "61 F0 9F 92 A9")
+    expect_bytes(alloc, front.as_wtf8(), "61 F0 9F 92 A9")
 }
 
-/// Appends 100 trail surrogates to "a" and a lead with `granted` requests granted, and returns whether these were
-/// enough. Fails unless a refusal leaves the text unchanged.
-fn is_grown(alloc: Global, granted: u64, refusal: Refusal) -> Result<bool, Fail> {
-    let heap = Refusing::new(alloc, 9);
-    let mut text = UnitText::from_units(&heap, &[0x0061, 0xD83D])?;
-    let is_grown = is_appended(&heap, &mut text, granted, refusal)?;
-    expect_grown(alloc, &heap, &text, is_grown)?;
-    Ok(is_grown)
+/// Appends 100 trail surrogates to "a" and a lead with `granted` requests granted. Fails unless these are enough if
+/// `is_granted`, and a refusal leaves the text unchanged.
+fn expect_appended(
+    alloc: Global,
+    heap: Lent<'_>,
+    granted: u64,
+    refusal: Refusal,
+    is_granted: bool,
+) -> Result<(), Wrong> {
+    let mut text = made(UnitText::from_units(heap, &[0x0061, 0xD83D]))?;
+    let is_grown = is_appended(heap, &mut text, granted, refusal)?;
+    if is_grown != is_granted {
+        return Err(Wrong::Outcome);
+    }
+    expect_grown(alloc, heap, &text, is_grown)
 }
 
 #[test]
-fn a_refused_text_is_not_appended(rt: HostRuntime) -> Result<(), Fail> {
+fn a_refused_text_is_not_appended(rt: HostRuntime) -> Result<(), Wrong> {
     for (granted, is_granted) in [(0, false), (1, true), (9, true)] {
         for refusal in REFUSALS {
-            let is_grown = is_grown(rt.alloc(), granted, refusal)?;
-            assert_eq!(rt; is_grown, is_granted, "with {granted} granted");
-        }
-    }
-    Ok(())
-}
-
-/// A function of `wtf8_uses` that makes a text.
-#[derive(Clone, Copy, Debug)]
-enum Use {
-    CharAt,
-    Substring,
-    CutAndJoined,
-}
-
-/// Makes the call on "a💩b" at unit index `place`, and returns whether it succeeded.
-fn is_used(heap: Lent<'_>, call: Use, place: usize) -> Result<bool, Fail> {
-    let text = UnitText::from_units(heap, &[0x0061, 0xD83D, 0xDCA9, 0x0062])?;
-    if heap.requests() != 2 || text.unit_len() < place {
-        return Err(Fail::new("no such place"));
-    }
-    let is_used = match call {
-        Use::CharAt => char_at(heap, &text, place).is_ok(),
-        Use::Substring => substring(heap, &text, place, 0).is_ok(),
-        Use::CutAndJoined => cut_and_joined(heap, heap, &text, place).is_ok(),
-    };
-    Ok(is_used)
-}
-
-/// Calls at a unit index, and the number of requests and bytes that each makes after the two requests of the text. If a
-/// pair is split, the lone surrogate and the rest fit in eight bytes.
-const USES: [(Use, usize, u64, usize); 8] = [
-    (Use::CharAt, 0, 1, 8),
-    (Use::CharAt, 1, 1, 8),
-    (Use::CharAt, 4, 0, 0),
-    (Use::Substring, 0, 0, 0),
-    (Use::Substring, 2, 1, 8),
-    (Use::CutAndJoined, 0, 2, 8 + 8),
-    (Use::CutAndJoined, 2, 2, 8 + 8),
-    (Use::CutAndJoined, 4, 1, 8),
-];
-
-/// Fails unless the call succeeds if all its requests are granted, with the requests and bytes of the row.
-fn expect_used(heap: Lent<'_>, row: (Use, usize, u64, usize)) -> Result<(), Fail> {
-    let (call, place, requests, bytes) = row;
-    heap.grant(99);
-    // The text requests four bytes at first, and then eight.
-    let made = (requests.wrapping_add(2), bytes.wrapping_add(4 + 8));
-    if !is_used(heap, call, place)? || (heap.requests(), heap.bytes()) != made {
-        return Err(Fail::new(format_args!("{call:?} at {place}")));
-    }
-    Ok(())
-}
-
-/// Refuses each request of the call in turn. Fails unless the call fails and makes no more requests.
-fn expect_unused(
-    heap: Lent<'_>,
-    row: (Use, usize, u64, usize),
-    refusal: Refusal,
-) -> Result<(), Fail> {
-    let (call, place, requests, _) = row;
-    for granted in 2..requests.wrapping_add(2) {
-        heap.refuse_after(granted, refusal);
-        if is_used(heap, call, place)? || heap.requests() != granted.wrapping_add(1) {
-            return Err(Fail::new(format_args!("{call:?} at {place}")));
-        }
-    }
-    Ok(())
-}
-
-#[test]
-fn uses_ask_for_what_they_need(rt: HostRuntime) -> Result<(), Fail> {
-    let heap = Refusing::new(rt.alloc(), 0);
-    for row in USES {
-        expect_used(&heap, row)?;
-        for refusal in REFUSALS {
-            expect_unused(&heap, row, refusal)?;
+            let heap = Refusing::new(rt.alloc(), 9);
+            expect_appended(rt.alloc(), &heap, granted, refusal, is_granted)?;
         }
     }
     Ok(())

@@ -1,10 +1,9 @@
 // Texts that grow by single units, with marks and without, and their requests for memory refused in turn.
 use crate::shared::{expect_text, expect_units, text_of_units};
 use refusing::{Refusal, Refusing};
-use std::alloc::Global;
-use std::test::Fail;
+use std::alloc::{AllocError, Global};
 use unit_text::UnitText;
-use wtf8_tests::examples::expect_dump;
+use wtf8_tests::wrong::{Wrong, expect_bytes, made};
 
 type Lent<'a> = &'a Refusing<Global>;
 
@@ -31,13 +30,13 @@ fn pushed_rows() -> [(&'static [u16], &'static str); 7] {
 }
 
 /// Fails unless pushes of `units` build a text with them and with the bytes of `dump`.
-fn expect_pushed(alloc: Global, units: &[u16], dump: &str) -> Result<(), Fail> {
-    let text = text_of_units(alloc, units)?;
+fn expect_pushed(alloc: Global, units: &[u16], dump: &str) -> Result<(), Wrong> {
+    let text = made(text_of_units(alloc, units))?;
     expect_text(alloc, &text, units, dump)
 }
 
 #[test]
-fn a_pushed_trail_joins_a_lead(rt: HostRuntime) -> Result<(), Fail> {
+fn a_pushed_trail_joins_a_lead(rt: HostRuntime) -> Result<(), Wrong> {
     for (units, dump) in pushed_rows() {
         expect_pushed(rt.alloc(), units, dump)?;
     }
@@ -47,33 +46,37 @@ fn a_pushed_trail_joins_a_lead(rt: HostRuntime) -> Result<(), Fail> {
 /// Six units that repeat in a text, whether it has marks, and the number of requests that 300 units make: for their
 /// bytes, whose capacity is eight and then doubles, and for marks. If the units begin with a trail, every even index
 /// but 0 splits a surrogate pair.
-const GROWN: [([u16; 6], bool, u64, u64); 6] = [
-    ([0x0061; 6], true, 7, 0),
-    ([0x3042; 6], false, 8, 0),
-    ([0x3042; 6], true, 8, 1),
-    ([0xDCA9, 0xD83D, 0xDCA9, 0xD83D, 0xDCA9, 0xD83D], true, 8, 1),
-    ([0x00E9, 0xD83D, 0xDCA9, 0x00E9, 0xD83D, 0xDCA9], true, 8, 1),
-    (
-        [0x0061, 0x3042, 0xDCA9, 0xD83D, 0xDCA9, 0xD83D],
-        false,
-        8,
-        0,
-    ),
-];
+fn grown() -> [([u16; 6], bool, u64, u64); 6] {
+    [
+        ([0x0061; 6], true, 7, 0),
+        ([0x3042; 6], false, 8, 0),
+        ([0x3042; 6], true, 8, 1),
+        ([0xDCA9, 0xD83D, 0xDCA9, 0xD83D, 0xDCA9, 0xD83D], true, 8, 1),
+        ([0x00E9, 0xD83D, 0xDCA9, 0x00E9, 0xD83D, 0xDCA9], true, 8, 1),
+        (
+            [0x0061, 0x3042, 0xDCA9, 0xD83D, 0xDCA9, 0xD83D],
+            false,
+            8,
+            0,
+        ),
+    ]
+}
 
 /// The number of units to push.
 const LENGTH: usize = 300;
 
 /// Indexes of pushes after which a text is checked, near the ones after which a mark is added.
-const LOOKED_AT: [usize; 7] = [0, 126, 127, 128, 129, 255, 256];
+fn checked() -> [usize; 7] {
+    [0, 126, 127, 128, 129, 255, 256]
+}
 
 /// Fails unless a text equals another one and has its bytes.
-fn expect_same<'a>(alloc: Global, text: &Text<'a>, other: &Text<'a>) -> Result<(), Fail> {
+fn expect_same<'a>(alloc: Global, text: &Text<'a>, other: &Text<'a>) -> Result<(), Wrong> {
     if *text != *other {
-        return Err(Fail::new("not equal to the text that is made at once"));
+        return Err(Wrong::Outcome);
     }
-    let dump = other.as_wtf8().hex_dump(alloc)?;
-    expect_dump(alloc, text.as_wtf8(), dump.as_str())
+    let dump = made(other.as_wtf8().hex_dump(alloc))?;
+    expect_bytes(alloc, text.as_wtf8(), dump.as_str())
 }
 
 /// Fails unless a text has `units` by index, and equals the text made of them at once.
@@ -82,26 +85,45 @@ fn expect_made<'a>(
     heap: Lent<'a>,
     text: &UnitText<Lent<'a>>,
     units: &[u16],
-) -> Result<(), Fail> {
+) -> Result<(), Wrong> {
     expect_units(text, units)?;
     heap.grant(u64::MAX);
-    let made = UnitText::from_units(heap, units)?;
-    expect_same(alloc, text, &made)
+    let other = made(UnitText::from_units(heap, units))?;
+    expect_same(alloc, text, &other)
+}
+
+/// Appends a unit to a list.
+fn append(units: &mut Vec<u16>, unit: u16) -> Result<(), AllocError> {
+    units.push(unit)?;
+    Ok(())
 }
 
 /// Pushes units that repeat `kind`, and returns the ones not refused. Fails unless the text has them at each check.
-fn pushed(alloc: Global, text: &mut Text<'_>, kind: &[u16; 6]) -> Result<Vec<u16>, Fail> {
+fn pushed(alloc: Global, text: &mut Text<'_>, kind: &[u16; 6]) -> Result<Vec<u16>, Wrong> {
     let mut units = Vec::new(alloc);
     for at in 0..LENGTH {
         let unit = kind[at % 6];
         if text.push(unit).is_ok() {
-            units.push(unit)?;
+            made(append(&mut units, unit))?;
         }
-        if LOOKED_AT.contains(&at) {
+        if checked().contains(&at) {
             expect_units(text, &units)?;
         }
     }
     Ok(units)
+}
+
+/// Pushes units that repeat `kind` to an empty text. Returns the number of refused pushes. Fails unless the text has all
+/// other units.
+fn push_and_expect<'a>(
+    alloc: Global,
+    heap: Lent<'a>,
+    text: &mut Text<'a>,
+    kind: &[u16; 6],
+) -> Result<u64, Wrong> {
+    let units = pushed(alloc, text, kind)?;
+    expect_made(alloc, heap, text, &units)?;
+    Ok(LENGTH.saturating_sub(units.len()) as u64)
 }
 
 /// Pushes units that repeat `kind` to an empty text, with `granted` requests granted, and the following ones, or the
@@ -112,21 +134,19 @@ fn expect_grown(
     is_marked: bool,
     granted: u64,
     refusal: Refusal,
-) -> Result<u64, Fail> {
+) -> Result<u64, Wrong> {
     let heap = Refusing::new(alloc, 0);
-    let mut text = UnitText::from_units(&heap, &[])?;
+    let mut text = made(UnitText::from_units(&heap, &[]))?;
     if is_marked {
         text.mark_units(&heap);
     }
     heap.refuse_after(granted, refusal);
-    let units = pushed(alloc, &mut text, kind)?;
-    expect_made(alloc, &heap, &text, &units)?;
-    Ok(LENGTH.saturating_sub(units.len()) as u64)
+    push_and_expect(alloc, &heap, &mut text, kind)
 }
 
 #[test]
-fn pushed_units_are_found(rt: HostRuntime) -> Result<(), Fail> {
-    for (kind, is_marked, growths, marks) in GROWN {
+fn pushed_units_are_found(rt: HostRuntime) -> Result<(), Wrong> {
+    for (kind, is_marked, growths, marks) in grown() {
         let mut refused = 0u64;
         for granted in 0..=growths.wrapping_add(marks) {
             expect_grown(rt.alloc(), &kind, is_marked, granted, Refusal::ForGood)?;

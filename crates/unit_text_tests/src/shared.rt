@@ -1,11 +1,10 @@
 // Texts and checks that several test modules use.
-use std::alloc::{Allocator, Global};
-use std::test::Fail;
+use std::alloc::{AllocError, Allocator, Global};
 use unit_text::UnitText;
-use wtf8_tests::examples::expect_dump;
+use wtf8_tests::wrong::{Wrong, expect, expect_bytes, made};
 
 /// The text that pushing `units` one by one builds.
-pub fn text_of_units(alloc: Global, units: &[u16]) -> Result<UnitText<Global>, Fail> {
+pub fn text_of_units(alloc: Global, units: &[u16]) -> Result<UnitText<Global>, AllocError> {
     let mut text = UnitText::from_units(alloc, &[])?;
     for unit in units {
         text.push(*unit)?;
@@ -19,12 +18,11 @@ pub fn slice_of<A: Allocator + Drop>(
     text: &UnitText<A>,
     begin: usize,
     end: usize,
-) -> Result<UnitText<A>, Fail> {
+) -> Result<UnitText<A>, Wrong> {
     if begin > end || end > text.unit_len() {
-        return Err(Fail::new("no such places"));
+        return Err(Wrong::Row);
     }
-    let slice = text.slice_units(alloc, begin, end)?;
-    Ok(slice)
+    made(text.slice_units(alloc, begin, end))
 }
 
 /// Whether the text has `units` by index, and no more.
@@ -38,11 +36,8 @@ fn has_units<A: Allocator>(text: &UnitText<A>, units: &[u16]) -> bool {
 }
 
 /// Fails unless the text has `units` by index, and no more.
-pub fn expect_units<A: Allocator>(text: &UnitText<A>, units: &[u16]) -> Result<(), Fail> {
-    if !has_units(text, units) {
-        return Err(Fail::new(format_args!("not the units {units:?}")));
-    }
-    Ok(())
+pub fn expect_units<A: Allocator>(text: &UnitText<A>, units: &[u16]) -> Result<(), Wrong> {
+    expect(has_units(text, units), Wrong::Units)
 }
 
 /// Fails unless the text has `units` by index, and the bytes of `dump`.
@@ -51,7 +46,7 @@ pub fn expect_text<A: Allocator>(
     text: &UnitText<A>,
     units: &[u16],
     dump: &str,
-) -> Result<(), Fail> {
+) -> Result<(), Wrong> {
     expect_units(text, units)?;
-    expect_dump(alloc, text.as_wtf8(), dump)
+    expect_bytes(alloc, text.as_wtf8(), dump)
 }

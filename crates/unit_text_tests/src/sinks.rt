@@ -1,27 +1,9 @@
 // `Debug` output of texts through a sink that refuses a write.
 use std::alloc::{AllocError, Global};
-use std::fmt;
 use std::fmt::Write;
 use std::test::Fail;
 use unit_text::UnitText;
-
-/// Takes all writes but number `refused`, counted from 1, which it refuses.
-#[derive(Drop)]
-struct Sink {
-    taken: String,
-    writes: u32,
-    refused: u32,
-}
-
-impl Write for Sink {
-    fn write_str(&mut self, s: &str) -> fmt::Result {
-        self.writes = self.writes.wrapping_add(1);
-        if self.writes == self.refused {
-            return Err(fmt::Error);
-        }
-        self.taken.write_str(s)
-    }
-}
+use wtf8_tests::sinks::Sink;
 
 /// Writes the debug output, with a sign and a width if `is_styled`, to a sink that refuses write number `refused`.
 /// Fails unless it ends there, or is `expected` if no write is refused. Returns the number of writes.
@@ -32,24 +14,16 @@ fn writes_of(
     refused: u32,
     expected: &str,
 ) -> Result<u32, Fail> {
-    let taken = String::new(alloc);
-    let mut sink = Sink {
-        taken,
-        writes: 0,
-        refused,
-    };
+    let mut sink = Sink::new(alloc, refused);
     let is_ok = if is_styled {
         write!(sink, "{text:+3000?}").is_ok()
     } else {
         write!(sink, "{text:?}").is_ok()
     };
-    if is_ok != (sink.writes < refused) || is_ok != (sink.taken.as_str() == expected) {
-        return Err(Fail::new("the answer is not the sink's"));
+    if is_ok != sink.has_taken(expected) {
+        return Err(Fail::new("the result is not the sink's"));
     }
-    if !expected.starts_with(sink.taken.as_str()) || (!is_ok && sink.writes != refused) {
-        return Err(Fail::new("it went on after the refused write"));
-    }
-    Ok(sink.writes)
+    sink.expect_end(is_ok, expected)
 }
 
 /// Refuses each write of the debug output in turn. Fails unless the output ends there.

@@ -1,18 +1,18 @@
 // Lengths, units and slices of texts, and texts appended to others.
 use crate::shared::{expect_text, slice_of};
 use std::alloc::{AllocError, Global};
-use std::test::Fail;
 use unit_text::UnitText;
-use wtf8_tests::examples::{expect_dump, joining};
+use wtf8_tests::examples::joining;
+use wtf8_tests::wrong::{Wrong, expect_bytes, made};
 
 /// Fails unless the text made of `units` has them by index, and has the bytes of `dump`.
-fn expect_made(alloc: Global, units: &[u16], dump: &str) -> Result<(), Fail> {
-    let text = UnitText::from_units(alloc, units)?;
+fn expect_made(alloc: Global, units: &[u16], dump: &str) -> Result<(), Wrong> {
+    let text = made(UnitText::from_units(alloc, units))?;
     expect_text(alloc, &text, units, dump)
 }
 
 #[test]
-fn units_are_kept(rt: HostRuntime) -> Result<(), Fail> {
+fn units_are_kept(rt: HostRuntime) -> Result<(), Wrong> {
     expect_made(rt.alloc(), &[], "")?;
     for (units, _, dump) in joining() {
         expect_made(rt.alloc(), units, dump)?;
@@ -32,14 +32,14 @@ const PARTS: [(usize, usize, &str); 4] = [
 ];
 
 /// Fails unless the slice of `PAIR` from unit `begin` to before unit `end` has the bytes of `dump`.
-fn expect_part(alloc: Global, begin: usize, end: usize, dump: &str) -> Result<(), Fail> {
-    let text = UnitText::from_units(alloc, &PAIR)?;
+fn expect_part(alloc: Global, begin: usize, end: usize, dump: &str) -> Result<(), Wrong> {
+    let text = made(UnitText::from_units(alloc, &PAIR))?;
     let part = slice_of(alloc, &text, begin, end)?;
-    expect_dump(alloc, part.as_wtf8(), dump)
+    expect_bytes(alloc, part.as_wtf8(), dump)
 }
 
 #[test]
-fn a_pair_is_counted_and_cut(rt: HostRuntime) -> Result<(), Fail> {
+fn a_pair_is_counted_and_cut(rt: HostRuntime) -> Result<(), Wrong> {
     expect_made(rt.alloc(), &PAIR, "61 F0 9F 92 A9")?;
     for (begin, end, dump) in PARTS {
         expect_part(rt.alloc(), begin, end, dump)?;
@@ -79,18 +79,18 @@ fn expect_same(
     text: &UnitText<Global>,
     units: &[u16],
     dump: &str,
-) -> Result<(), Fail> {
-    let same = UnitText::from_units(alloc, units)?;
+) -> Result<(), Wrong> {
+    let same = made(UnitText::from_units(alloc, units))?;
     if *text != same {
-        return Err(Fail::new("not the text of these units"));
+        return Err(Wrong::Outcome);
     }
     expect_text(alloc, text, units, dump)
 }
 
 #[test]
-fn a_trail_joins_a_lead(rt: HostRuntime) -> Result<(), Fail> {
+fn a_trail_joins_a_lead(rt: HostRuntime) -> Result<(), Wrong> {
     for (front, back, units, dump) in appended_rows() {
-        let text = appended(rt.alloc(), front, back)?;
+        let text = made(appended(rt.alloc(), front, back))?;
         expect_same(rt.alloc(), &text, units, dump)?;
     }
     Ok(())

@@ -1,8 +1,6 @@
-//! Tests of the public calls of `wtf8`, callers that use positions in code units, proved from its public contracts, and
-//! examples that the tests of several crates share.
+//! Tests of the public calls of `wtf8`, and examples and checks that the tests of several crates share.
 #![tactic(auto)]
 
-pub mod callers;
 #[cfg(test)]
 mod collecting;
 #[cfg(test)]
@@ -26,15 +24,14 @@ mod points;
 mod positions;
 #[cfg(test)]
 mod pushes;
-#[cfg(test)]
-mod sinks;
+pub mod sinks;
 #[cfg(test)]
 mod texts;
 #[cfg(test)]
 mod unit_cuts;
-#[cfg(test)]
-mod unit_lists;
+pub mod unit_lists;
 #[cfg(test)]
 mod unit_slices;
 #[cfg(test)]
 mod units_out;
+pub mod wrong;

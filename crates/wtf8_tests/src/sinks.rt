@@ -1,4 +1,4 @@
-// A sink that refuses one write, and a long string to write to it.
+//! A sink that refuses one write, and a long string to write to it.
 use std::alloc::{AllocError, Global};
 use std::fmt;
 use std::fmt::Write;
@@ -21,12 +21,17 @@ impl Sink {
         }
     }
 
+    /// Whether the text written so far is `expected`.
+    pub fn has_taken(&self, expected: &str) -> bool {
+        self.taken.as_str() == expected
+    }
+
     /// Fails unless the call that writes `expected` failed at the refused write and ended there, or wrote all if none
     /// was refused; `is_ok` is whether it succeeded. Returns the number of writes.
     pub fn expect_end(&self, is_ok: bool, expected: &str) -> Result<u32, Fail> {
         let (taken, writes) = (self.taken.as_str(), self.writes);
         if is_ok != (writes < self.refused) || (is_ok && taken != expected) {
-            return Err(Fail::new("the answer is not the sink's"));
+            return Err(Fail::new("the result is not the sink's"));
         }
         if !expected.starts_with(taken) || (!is_ok && writes != self.refused) {
             return Err(Fail::new("it went on after the refused write"));

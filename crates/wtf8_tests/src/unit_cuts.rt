@@ -1,5 +1,4 @@
 // Truncation to every number of code units.
-use crate::callers::cut_at_units_and_joined;
 use crate::examples::{expect_dump, expect_units, joining};
 use crate::unit_lists::{lists, long_list};
 use refusing::{REFUSALS, Refusal, Refusing};
@@ -40,27 +39,12 @@ fn expect_cut(
     expect_units(alloc, text.as_wtf8(), &units[..n.min(units.len())])
 }
 
-/// Fails unless the string of `units`, truncated to `n` of them and joined with the rest, equals the whole.
-fn expect_whole(alloc: Global, units: &[u16], n: usize) -> Result<(), Fail> {
-    let whole = Wtf8Buf::from_ill_formed_utf16(alloc, units)?;
-    if n <= whole.as_wtf8().unit_len() {
-        let joined = cut_at_units_and_joined(alloc, whole.as_wtf8(), n)?;
-        if joined == whole {
-            return Ok(());
-        }
-    }
-    Err(Fail::new(format_args!("not the whole, cut at {n}")))
-}
-
-/// Fails unless truncation to each number of units, up to two past the end, is right, and the parts join to the whole.
+/// Fails unless truncation to each number of units, up to two past the end, is right.
 fn cut_everywhere(alloc: Global, units: &[u16]) -> Result<(), Fail> {
     for n in 0..units.len().saturating_add(3) {
         for refusal in REFUSALS {
             expect_cut(alloc, units, n, true, refusal)?;
             expect_cut(alloc, units, n, false, refusal)?;
-        }
-        if n <= units.len() {
-            expect_whole(alloc, units, n)?;
         }
     }
     Ok(())

@@ -1,4 +1,4 @@
-// Lists of code units that several test modules use.
+//! Lists of code units.
 use std::alloc::{AllocError, Global};
 
 /// Lists of units with surrogates at both ends, and others.

@@ -1,10 +1,9 @@
 // Code units by index, and slices by code units.
-use crate::callers::push_slice;
-use crate::examples::{expect_dump, expect_units, joining};
+use crate::examples::{expect_dump, joining};
 use crate::unit_lists::{lists, long_list};
 use std::alloc::Global;
 use std::test::Fail;
-use wtf8::{Wtf8, Wtf8Buf};
+use wtf8::{UnitSlice, Wtf8, Wtf8Buf};
 
 /// Whether `unit_at`, `ascii_unit_at` and `unit_len` agree with `units`.
 fn has_units(text: Wtf8<'_>, units: &[u16]) -> bool {
@@ -29,19 +28,35 @@ fn ascii_unit(text: Wtf8<'_>, n: usize) -> Option<u16> {
 }
 
 /// Fails unless `begin..end` is a range of units of the text, and its slice has the units `units[begin..end]`.
-fn expect_slice(
-    alloc: Global,
-    text: Wtf8<'_>,
-    units: &[u16],
-    begin: usize,
-    end: usize,
-) -> Result<(), Fail> {
+fn expect_slice(text: Wtf8<'_>, units: &[u16], begin: usize, end: usize) -> Result<(), Fail> {
     if end < begin || text.unit_len() < end || units.len() < end {
         return Err(Fail::new(format_args!("no slice from {begin} to {end}")));
     }
-    let mut part = Wtf8Buf::new(alloc);
-    push_slice(&mut part, text.slice_units(begin, end))?;
-    expect_units(alloc, part.as_wtf8(), &units[begin..end])
+    if !is_slice_of(text.slice_units(begin, end), &units[begin..end]) {
+        return Err(Fail::new(format_args!("another slice from {begin} to {end}")));
+    }
+    Ok(())
+}
+
+/// Whether the trail, the whole code points and the lead of the slice have `units`, in this order.
+fn is_slice_of(slice: UnitSlice<'_>, units: &[u16]) -> bool {
+    let trails = if slice.trail.is_some() { 1 } else { 0 };
+    for (n, unit) in units.iter().enumerate() {
+        let found = match n.checked_sub(trails) {
+            None => slice.trail,
+            Some(index) => slice.whole.unit_at(index).or(slice.lead),
+        };
+        if found != Some(*unit) {
+            return false;
+        }
+    }
+    let leads = if slice.lead.is_some() { 1 } else { 0 };
+    slice
+        .whole
+        .unit_len()
+        .wrapping_add(trails)
+        .wrapping_add(leads)
+        == units.len()
 }
 
 /// Fails unless the string of `units` has them by index, and its nonempty slices before the last unit have theirs.
@@ -52,7 +67,7 @@ fn expect_list(alloc: Global, units: &[u16]) -> Result<(), Fail> {
     }
     for end in 0..units.len() {
         for begin in 0..end {
-            expect_slice(alloc, text.as_wtf8(), units, begin, end)?;
+            expect_slice(text.as_wtf8(), units, begin, end)?;
         }
     }
     Ok(())

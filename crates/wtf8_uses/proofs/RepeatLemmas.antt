@@ -7,9 +7,9 @@ use Rattle.std.proofs.lemmas.List.{nil_from_length, take-append-le}
 use Rattle.std.specs.List.{repeat}
 
 -- appending one more copy is one more repetition
-pub repeat_behind : (n : ℕ) (xs : List ℕ) → repeat n xs ++ xs ≡ repeat (suc n) xs
-repeat_behind zero xs = sym (append-nil xs)
-repeat_behind (suc n) xs = append_assoc xs (repeat n xs) xs ∙ ap (λ ys. xs ++ ys) (repeat_behind n xs)
+pub repeat_one_more : (n : ℕ) (xs : List ℕ) → repeat n xs ++ xs ≡ repeat (suc n) xs
+repeat_one_more zero xs = sym (append-nil xs)
+repeat_one_more (suc n) xs = append_assoc xs (repeat n xs) xs ∙ ap (λ ys. xs ++ ys) (repeat_one_more n xs)
 
 take_first : (more rest : ℕ) (xs : List ℕ) → rest ≤ length xs → rest < suc more → take rest (repeat more xs) ≡ take rest xs
 take_first zero rest xs h k = let e : rest ≡ 0 = omega arith in rw e

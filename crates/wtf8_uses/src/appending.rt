@@ -1,37 +1,31 @@
-//! Appending: the parts of a string that was cut, two strings, two lists of calls, the empty string.
-ghost use Rattle.std.specs.Prelude.{◌≡◌, ◌<◌, ◌+◌, ◌++◌, length, slice_index, IfOk, IsTrue, OnOk};
-ghost use Rattle.wtf8.specs.Building.{Run};
-ghost use Rattle.wtf8.specs.Position.{IsBoundary, IsMiddle};
-ghost use Rattle.wtf8.specs.View.{view_units};
+//! Appending: a string, nothing, and lists of calls.
+ghost use Rattle.std.specs.Prelude.{◌≡◌, ◌+◌, ◌++◌, ℕ, List, IfOk, IsTrue, OnOk, OnErr};
+ghost use Rattle.wtf8.specs.Appending.{KeepsContents};
+ghost use Rattle.wtf8.specs.Building.{Append, Run};
+ghost use Rattle.wtf8.specs.Concatenation.{MeetsAsPair};
 
-use std::alloc::{AllocError, Allocator};
+use std::alloc::{AllocError, Allocator, Global};
 use wtf8::{Build, Stopped, Wtf8, Wtf8Buf, laws};
 
-/// Cuts a string at a code point boundary and joins the parts. The result has the same units.
-pub fn cut_and_joined<A: Allocator>(
-    alloc: A,
-    text: Wtf8<'_>,
-    position: usize,
-) -> Result<Wtf8Buf<A>, AllocError>
-    requires { IsBoundary (view_units text) position }
-    ensures { IfOk result (λ whole. whole.units ≡ view_units text.entry) }
+/// Appends a string to another. The bytes are appended unchanged, unless `string` ends with a lead surrogate and
+/// `other` begins with a trail surrogate. If memory is refused, `string` is unchanged.
+pub fn append_string(
+    string: &mut Wtf8Buf<Global>,
+    other: &Wtf8Buf<Global>,
+) -> Result<(), AllocError>
+    ensures units { OnOk result (string.new.units ≡ string.old.units ++ other.now.units) }
+    ensures bytes { OnOk result (¬ (MeetsAsPair string.old.units other.now.units) → string.new.bytes ≡ string.old.bytes ++ other.now.bytes) }
+    ensures kept { OnErr result (KeepsContents string.old string.new) }
 {
-    let mut whole = Wtf8Buf::new(alloc);
-    whole.push_wtf8(text.slice_to(position))?;
-    whole.push_wtf8(text.slice_from(position))?;
-    Ok(whole)
+    laws::law_joined_strings();
+    string.push_wtf8(other.as_wtf8())
 }
 
-/// Appends two strings, one after the other. The result is the same as if they had been joined first.
-pub fn push_both<A: Allocator>(
-    text: &mut Wtf8Buf<A>,
-    front: Wtf8<'_>,
-    back: Wtf8<'_>,
-) -> Result<(), AllocError>
-    ensures { OnOk result (text.new.units ≡ text.old.units ++ (view_units front.entry ++ view_units back.entry)) }
+/// Appends the empty string, which changes nothing.
+pub fn push_nothing<A: Allocator>(text: &mut Wtf8Buf<A>) -> Result<(), AllocError>
+    ensures { OnOk result (text.new.units ≡ text.old.units) }
 {
-    text.push_wtf8(front)?;
-    text.push_wtf8(back)
+    text.push_wtf8(Wtf8::from_str(""))
 }
 
 /// Applies the same calls to two equal strings, and compares these: they are equal, unless memory is refused.
@@ -64,19 +58,18 @@ pub fn apply_both<A: Allocator>(
     Ok((in_first, in_second))
 }
 
-/// The part of a string after the ASCII byte at position `place`. An ASCII byte ends at a code point boundary.
-pub fn behind_place<'a>(text: Wtf8<'a>, place: usize) -> Wtf8<'a>
-    requires inside { place < length text.bytes.now }
-    requires ascii { slice_index text.bytes.now place < 0x80 }
-    ensures { IsMiddle (view_units text.entry) (place + 1) (length text.entry.bytes.now) (view_units result) }
+/// Whether two lists of pushes and extensions build equal strings. They do if they append the same units, however the
+/// units are divided among the calls.
+pub fn build_alike(
+    alloc: Global,
+    calls: &[Build<'_>],
+    others: &[Build<'_>],
+) -> Result<bool, Stopped>
+    ensures { IfOk result (λ same. (v : List ℕ) → Append calls.now v → Append others.now v → IsTrue same) }
 {
-    laws::law_boundaries(text);
-    text.slice(place + 1, text.len())
-}
-
-/// Appends the empty string, which changes nothing.
-pub fn push_nothing<A: Allocator>(text: &mut Wtf8Buf<A>) -> Result<(), AllocError>
-    ensures { OnOk result (text.new.units ≡ text.old.units) }
-{
-    text.push_wtf8(Wtf8::from_str(""))
+    let mut string = Wtf8Buf::new(alloc);
+    let mut other = Wtf8Buf::new(alloc);
+    string.apply_all(calls)?;
+    other.apply_all(others)?;
+    Ok(string == other)
 }

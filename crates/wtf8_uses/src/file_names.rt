@@ -208,7 +208,7 @@ fn first_zero(units: &[u16]) -> usize
 }
 
 /// Joins two strings with an ASCII character between them.
-fn with_mark(
+pub(crate) fn with_mark(
     alloc: Global,
     front: Wtf8<'_>,
     mark: char,
@@ -261,7 +261,11 @@ fn cut_at_last<'a>(text: Wtf8<'a>, mark: u8, other: u8) -> Option<(Wtf8<'a>, u8,
 }
 
 /// Splits a string at its first `mark` or `other`, both ASCII, into front, byte and rest; `None` if it has neither.
-fn cut_at_first<'a>(text: Wtf8<'a>, mark: u8, other: u8) -> Option<(Wtf8<'a>, u8, Wtf8<'a>)>
+pub(crate) fn cut_at_first<'a>(
+    text: Wtf8<'a>,
+    mark: u8,
+    other: u8,
+) -> Option<(Wtf8<'a>, u8, Wtf8<'a>)>
     requires mark { mark < 0x80 }
     requires other { other < 0x80 }
     ensures mark { IfSome result (λ x. IsMark mark other x.1) }

@@ -4,8 +4,6 @@
 pub mod appending;
 pub mod ascii_case;
 pub mod cuts;
-pub mod engine_search;
-pub mod engine_strings;
 pub mod environment;
 pub mod file_names;
 pub mod interner;
@@ -18,7 +16,8 @@ pub mod reading;
 pub mod refusals;
 pub mod round_trips;
 pub mod sorting;
-pub mod strings;
+pub mod string_prototype;
 pub mod table;
+pub mod unit_slices;
 pub mod units;
 pub mod well_formed;

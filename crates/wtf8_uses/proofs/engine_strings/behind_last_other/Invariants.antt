@@ -1,7 +1,0 @@
-use Rattle.std.proofs.Common.{ℕ, ◌<◌, ◌≤◌, length, slice_index}
-use Rattle.wtf8_uses.specs.EngineString.{IsSpace}
-use Rattle.wtf8_uses.proofs.engine_strings.behind_last_other.Given as goal
-
--- the units from `place` on are spaces
-abbrev pub invariant-loop-place : goal.invariant-loop-place
-invariant-loop-place g l = (k : ℕ) → l.place ≤ k → k < length l.text → IsSpace (slice_index l.text k)

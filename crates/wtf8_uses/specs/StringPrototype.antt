@@ -1,0 +1,54 @@
+-- Definitions of ECMAScript's string calls, over lists of units.
+use Rattle.std.specs.Prelude.{◌≡◌, ℕ, ◌+◌, ◌-◌, ◌<◌, ◌≤◌, ◌⊎◌, List, length, take, drop, slice_get, slice_index, Option, Some, None, if◌then◌else◌}
+use Rattle.std.specs.Option.{option_map}
+use Rattle.wtf8.specs.Concatenation.{is_pair}
+use Rattle.wtf8.specs.Form.{Reads}
+use Rattle.wtf8.specs.Surrogates.{lossy}
+use Rattle.wtf8.specs.Unicode.{pair, units}
+
+-- The code point of a unit and the next one, if any: that of their pair, or else the first (ECMAScript, "CodePointAt").
+abbrev pub point_with : ℕ → Option ℕ → ℕ
+point_with l None = l
+point_with l (Some t) = if is_pair l t then pair l t else l
+
+-- The code point at unit index `k`, or `None` if there is no unit (ECMAScript, "CodePointAt").
+abbrev pub point_at : List ℕ → ℕ → Option ℕ
+point_at u k = option_map (λ l. point_with l (slice_get u (k + 1))) (slice_get u k)
+
+-- The list `s` occurs in `u` at index `k` (ECMAScript, "StringIndexOf").
+pub record OccursAt (u s : List ℕ) (k : ℕ) : Type 0 where
+  pub within : k + length s ≤ length u
+  pub there : take (length s) (drop k u) ≡ s
+
+-- `k` is the first index at or after `position` at which `s` occurs in `u` (ECMAScript, "StringIndexOf").
+pub record IsFirstIndex (u s : List ℕ) (position k : ℕ) : Type 0 where
+  pub behind : position ≤ k
+  pub stands : OccursAt u s k
+  pub no_earlier : (j : ℕ) → position ≤ j → j < k → ¬ (OccursAt u s j)
+
+-- `k` is the last index at or before `position` at which `s` occurs in `u` (ECMAScript, "StringLastIndexOf").
+pub record IsLastIndex (u s : List ℕ) (position k : ℕ) : Type 0 where
+  pub before : k ≤ position
+  pub stands : OccursAt u s k
+  pub no_later : (j : ℕ) → k < j → j ≤ position → ¬ (OccursAt u s j)
+
+-- `v` is `u` with U+FFFD for each lone surrogate (ECMAScript, "String.prototype.toWellFormed").
+pub record IsMadeWellFormed (u v : List ℕ) : Type 0 where
+  pub points : List ℕ
+  pub reads : Reads points u
+  pub replaced : units (lossy points) ≡ v
+
+-- The unit is an ASCII white space or line terminator (ECMAScript, "WhiteSpace" and "LineTerminator").
+abbrev pub IsSpace : ℕ → Type 0
+IsSpace unit = (unit ≡ 0x20) ⊎ ((0x09 ≤ unit) × (unit ≤ 0x0D))
+
+-- `v` is `u` without the spaces (`IsSpace`) at its two ends (ECMAScript, "TrimString").
+pub record IsTrimmed (u v : List ℕ) : Type 0 where
+  pub begin : ℕ
+  pub end : ℕ
+  pub within : end ≤ length u
+  pub between : v ≡ drop begin (take end u)
+  pub before : (k : ℕ) → k < begin → IsSpace (slice_index u k)
+  pub behind : (k : ℕ) → end ≤ k → k < length u → IsSpace (slice_index u k)
+  pub first : begin < end → ¬ (IsSpace (slice_index u begin))
+  pub last : begin < end → ¬ (IsSpace (slice_index u (end - 1)))

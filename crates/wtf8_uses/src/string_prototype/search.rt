@@ -1,0 +1,129 @@
+//! Searches for one text or unit in a text.
+ghost use Rattle.std.specs.List.{join_with_byte, slice_split};
+ghost use Rattle.std.specs.Prelude.{All, map, ◌==◌, ◌≢◌, ◌≡◌, ◌+◌, ◌≤◌, ◌++◌, ℕ, length, take, drop, min, IfSome, IfNone, IfOk};
+ghost use Rattle.wtf8_uses.specs.StringPrototype.{IsFirstIndex, IsLastIndex, OccursAt};
+
+use super::comparing::{occurs_next, units_from};
+use std::alloc::{AllocError, Allocator};
+use unit_text::UnitText;
+
+/// `indexOf`: the first index at or after `position` at which the units of `search` occur. `None`, for the -1 of the
+/// language, if there is none. A position past the end is the end, where the empty text occurs. Goes through the text
+/// once, and compares at each index until the first mismatch.
+pub fn index_of<A: Allocator, B: Allocator>(
+    text: &UnitText<A>,
+    search: &UnitText<B>,
+    position: usize,
+) -> Option<usize>
+    ensures some { IfSome result (λ k. IsFirstIndex text.now search.now (min position (length text.now)) k) }
+    ensures none { IfNone result ((k : ℕ) → min position (length text.now) ≤ k → ¬ (OccursAt text.now search.now k)) }
+{
+    let last = text.unit_len().checked_sub(search.unit_len())?;
+    let begin = position.min(text.unit_len());
+    let mut units = units_from(text, begin);
+    for place in begin..=last {
+        if occurs_next(&units, search) {
+            return Some(place);
+        }
+        units.next();
+    }
+    None
+}
+
+/// `lastIndexOf`: the last index at or before `position` at which the units of `search` occur. `None`, for the -1 of
+/// the language, if there is none. Goes through the text once, from its front.
+pub fn last_index_of<A: Allocator, B: Allocator>(
+    text: &UnitText<A>,
+    search: &UnitText<B>,
+    position: usize,
+) -> Option<usize>
+    ensures some { IfSome result (λ k. IsLastIndex text.now search.now position k) }
+    ensures none { IfNone result ((k : ℕ) → k ≤ position → ¬ (OccursAt text.now search.now k)) }
+{
+    let last = text.unit_len().checked_sub(search.unit_len())?;
+    let mut units = units_from(text, 0);
+    let mut found = None;
+    for place in 0..=last.min(position) {
+        if occurs_next(&units, search) {
+            found = Some(place);
+        }
+        units.next();
+    }
+    found
+}
+
+/// `replace` with a text as pattern: replaces the first occurrence of `search` by `other`, in which `$` has no special
+/// meaning. If there is none, returns a copy.
+pub fn replace<A: Allocator + Copy>(
+    alloc: A,
+    text: &UnitText<A>,
+    search: &UnitText<A>,
+    other: &UnitText<A>,
+) -> Result<UnitText<A>, AllocError>
+    ensures found { IfOk result (λ t. (k : ℕ) → IsFirstIndex text.now search.now 0 k → t ≡ take k text.now ++ (other.now ++ drop (k + length search.now) text.now)) }
+    ensures none { IfOk result (λ t. ((k : ℕ) → ¬ (OccursAt text.now search.now k)) → t ≡ text.now) }
+{
+    let len = text.unit_len();
+    let Some(place) = index_of(text, search, 0) else {
+        return text.slice_units(alloc, 0, len);
+    };
+    let mut whole = text.slice_units(alloc, 0, place)?;
+    whole.concat(other)?;
+    let back = text.slice_units(alloc, place + search.unit_len(), len)?;
+    whole.concat(&back)?;
+    Ok(whole)
+}
+
+/// `split` at one unit: the parts before, between and after the separators. There is one part more than separators, so
+/// an empty text has one part, which is empty.
+pub fn split<A: Allocator + Copy>(
+    alloc: A,
+    text: &UnitText<A>,
+    separator: u16,
+) -> Result<Vec<UnitText<A>, A>, AllocError>
+    ensures pieces { IfOk result (λ v. v.items ≡ slice_split (λ u. u == separator) text.now) }
+    ensures joined { IfOk result (λ v. join_with_byte separator v.items ≡ text.now) }
+    ensures apart { IfOk result (λ v. All (λ piece. All (λ u. u ≢ separator) piece) v.items) }
+{
+    let mut units = Vec::new(alloc);
+    text.as_wtf8().append_units(&mut units)?;
+    let pieces = pieces_of(alloc, units.as_slice(), separator)?;
+    Ok(pieces)
+}
+
+/// Splits units at a separator into texts.
+fn pieces_of<A: Allocator + Copy>(
+    alloc: A,
+    units: &[u16],
+    separator: u16,
+) -> Result<Vec<UnitText<A>, A>, AllocError>
+    ensures { IfOk result (λ v. v.items ≡ slice_split (λ u. u == separator) units.now) }
+{
+    let parts = parts_of(alloc, units, separator)?;
+    texts_of(alloc, parts.as_slice())
+}
+
+/// Makes a text of each list of units.
+fn texts_of<A: Allocator + Copy>(
+    alloc: A,
+    parts: &[&[u16]],
+) -> Result<Vec<UnitText<A>, A>, AllocError>
+    ensures { IfOk result (λ v. v.items ≡ map (λ part. part.now) parts.now) }
+{
+    let mut texts = Vec::with_capacity(alloc, parts.len())?;
+    for part in parts {
+        texts.push(UnitText::from_units(alloc, part)?)?;
+    }
+    Ok(texts)
+}
+
+/// Splits units at a separator, without copying them.
+fn parts_of<A: Allocator>(
+    alloc: A,
+    units: &[u16],
+    separator: u16,
+) -> Result<Vec<&[u16], A>, AllocError>
+    ensures { IfOk result (λ v. map (λ part. part.now) v.items ≡ slice_split (λ u. u == separator) units.now) }
+{
+    units.split(|unit| *unit == separator).collect(alloc)
+}

@@ -1,0 +1,91 @@
+// Strings and lists of calls that are appended.
+use crate::shared::{LEAD, TRAIL, expect_made, string_of};
+use std::alloc::Global;
+use wtf8::{Build, Stopped, Wtf8, Wtf8Buf};
+use wtf8_tests::wrong::{Wrong, expect_bytes, made};
+use wtf8_uses::{appending, joining, refusals};
+
+/// Appends the two surrogates of the pair, and then nothing.
+fn append_halves(alloc: Global, text: &mut Wtf8Buf<Global>) -> Result<(), Wrong> {
+    let lead = string_of(alloc, &[LEAD])?;
+    let trail = string_of(alloc, &[TRAIL])?;
+    made(refusals::push_both(text, lead.as_wtf8(), trail.as_wtf8()))?;
+    made(appending::push_nothing(text))
+}
+
+/// Fails unless the text, cut at position 1 and joined, has the bytes of `dump`.
+fn expect_cut(alloc: Global, text: Wtf8<'_>, dump: &str) -> Result<(), Wrong> {
+    if !text.is_code_point_boundary(1) {
+        return Err(Wrong::Row);
+    }
+    let whole = joining::cut_at_boundary_and_joined(alloc, text, 1);
+    expect_made(alloc, whole, dump)
+}
+
+#[test]
+fn a_pair_is_appended_by_its_halves(rt: HostRuntime) -> Result<(), Wrong> {
+    let mut text = made(Wtf8Buf::from_str(rt.alloc(), "a"))?;
+    append_halves(rt.alloc(), &mut text)?;
+    expect_bytes(rt.alloc(), text.as_wtf8(), "61 F0 9F 92 A9")?;
+    expect_cut(rt.alloc(), text.as_wtf8(), "61 F0 9F 92 A9")
+}
+
+/// Appends a string to another. Fails unless the bytes are then those of `dump`.
+fn expect_appended(
+    alloc: Global,
+    string: &mut Wtf8Buf<Global>,
+    other: &Wtf8Buf<Global>,
+    dump: &str,
+) -> Result<(), Wrong> {
+    made(appending::append_string(string, other))?;
+    expect_bytes(alloc, string.as_wtf8(), dump)
+}
+
+/// Appends a trail and "a" twice. Fails unless the bytes are right each time.
+fn expect_appended_twice(alloc: Global, string: &mut Wtf8Buf<Global>) -> Result<(), Wrong> {
+    let other = string_of(alloc, &[TRAIL, 0x0061])?;
+    expect_appended(alloc, string, &other, "F0 9F 92 A9 61")?;
+    expect_appended(alloc, string, &other, "F0 9F 92 A9 61 ED B2 A9 61")
+}
+
+#[test]
+fn a_string_is_appended_to_another(rt: HostRuntime) -> Result<(), Wrong> {
+    let mut string = string_of(rt.alloc(), &[LEAD])?;
+    expect_appended_twice(rt.alloc(), &mut string)
+}
+
+#[test]
+fn the_same_calls_leave_equal_strings(rt: HostRuntime) {
+    let mut string = Wtf8Buf::new(rt.alloc());
+    let mut other = Wtf8Buf::new(rt.alloc());
+    let calls = [
+        Build::PushStr("é/"),
+        Build::Truncate(1),
+        Build::TruncateUnits(1),
+    ];
+    let is_alike = appending::apply_alike(&mut string, &mut other, &calls);
+    assert!(rt; matches!(is_alike, Ok(true)) && string.as_wtf8().as_str() == Some("é"));
+}
+
+/// Applies two lists of calls, and returns whether each has one refused truncation.
+fn apply_both(string: &mut Wtf8Buf<Global>) -> Result<bool, Stopped> {
+    let first = [Build::PushStr("a💩"), Build::Truncate(2)];
+    let second = [Build::TruncateUnits(2), Build::TruncateUnits(9)];
+    let refused = appending::apply_both(string, &first, &second)?;
+    Ok(refused == (1, 1))
+}
+
+#[test]
+fn two_lists_are_applied_as_one(rt: HostRuntime) {
+    let mut string = Wtf8Buf::new(rt.alloc());
+    assert!(rt; matches!(apply_both(&mut string), Ok(true)));
+    assert!(rt; string.len() == 4 && string.as_wtf8().unit_at(1) == Some(LEAD));
+}
+
+#[test]
+fn equal_units_build_equal_strings(rt: HostRuntime) {
+    let calls = [Build::PushStr("ab"), Build::PushChar('c')];
+    let others = [Build::PushChar('a'), Build::PushStr("bc")];
+    let is_alike = appending::build_alike(rt.alloc(), &calls, &others);
+    assert!(rt; matches!(is_alike, Ok(true)));
+}

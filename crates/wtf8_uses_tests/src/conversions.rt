@@ -1,0 +1,154 @@
+// Conversions, JSON texts, environment blocks, counts of units, and comparison without ASCII case.
+use crate::shared::{LEAD, TRAIL, string_of};
+use std::alloc::Global;
+use wtf8::Wtf8;
+use wtf8_tests::wrong::{Wrong, expect, made};
+use wtf8_uses::ascii_case::eq_ignore_ascii_case;
+use wtf8_uses::environment::{Variable, environment_block};
+use wtf8_uses::json::json_text;
+use wtf8_uses::{round_trips, units, well_formed};
+
+/// Fails unless `units_again` returns the units of `list`.
+fn expect_units_again(alloc: Global, list: &[u16]) -> Result<(), Wrong> {
+    let again = made(round_trips::units_again(alloc, list))?;
+    expect(again.as_slice() == list, Wrong::Units)
+}
+
+/// Whether `owned_text_again` returns `text`, of which `owned` is a copy.
+fn comes_back(owned: String, text: &str) -> bool {
+    match round_trips::owned_text_again(owned) {
+        Ok(again) => again.as_str() == text,
+        Err(_) => false,
+    }
+}
+
+/// Fails unless `text_again` and `owned_text_again` return `text`.
+fn expect_text_again(alloc: Global, text: &str) -> Result<(), Wrong> {
+    let owned = made(String::from_str(alloc, text))?;
+    let is_same = round_trips::text_again(text) == Some(text);
+    expect(comes_back(owned, text) && is_same, Wrong::Bytes)
+}
+
+/// Fails unless `lossy_twice` of the string of `list` is `text`.
+fn expect_lossy(alloc: Global, list: &[u16], text: &str) -> Result<(), Wrong> {
+    let lossy = round_trips::lossy_twice(string_of(alloc, list)?);
+    expect(lossy.as_str() == text, Wrong::Bytes)
+}
+
+#[test]
+fn units_and_texts_come_back(rt: HostRuntime) -> Result<(), Wrong> {
+    expect_units_again(rt.alloc(), &[TRAIL, LEAD, TRAIL, 0x0041, LEAD])?;
+    expect_text_again(rt.alloc(), "aé 💩")?;
+    expect_lossy(rt.alloc(), &[0x0041, LEAD], "A\u{FFFD}")
+}
+
+#[test]
+fn units_are_counted(rt: HostRuntime) {
+    let text = Wtf8::from_str("a💩");
+    assert!(rt; units::unit_count(text) == 3);
+    for (index, unit) in [(1, Some(LEAD)), (2, Some(TRAIL)), (3, None)] {
+        assert!(rt; units::nth_unit(text, index) == unit);
+    }
+    assert!(rt; units::next_unit(text, 0) == Some(LEAD) && units::next_unit(text, 2).is_none());
+}
+
+#[test]
+fn lone_surrogates_are_mended(rt: HostRuntime) -> Result<(), Wrong> {
+    let broken = string_of(rt.alloc(), &[0x0061, TRAIL, LEAD, TRAIL])?;
+    let mended = made(well_formed::well_formed_text(rt.alloc(), broken.as_wtf8()))?;
+    expect(mended.as_str() == "a\u{FFFD}💩", Wrong::Bytes)
+}
+
+/// Units, and their JSON text as an engine's `JSON.stringify` returns it.
+fn json_rows() -> [(&'static [u16], &'static str); 6] {
+    [
+        (&[], "\"\""),
+        (
+            &[0x0061, 0x0022, 0x0062, 0x005C, 0x0063, 0x002F],
+            "\"a\\\"b\\\\c/\"",
+        ),
+        (
+            &[
+                0x0000, 0x0007, 0x0008, 0x0009, 0x000A, 0x000B, 0x000C, 0x000D, 0x001F, 0x0020,
+                0x007F,
+            ],
+            "\"\\u0000\\u0007\\b\\t\\n\\u000b\\f\\r\\u001f \u{7F}\"",
+        ),
+        (&[LEAD, TRAIL], "\"💩\""),
+        (&[TRAIL, LEAD], "\"\\udca9\\ud83d\""),
+        (
+            &[0x0061, 0xD800, 0x00E9, 0xDFFF, 0x2028],
+            "\"a\\ud800é\\udfff\u{2028}\"",
+        ),
+    ]
+}
+
+/// Fails unless the JSON text of the string is `text`.
+fn expect_json(alloc: Global, string: Wtf8<'_>, text: &str) -> Result<(), Wrong> {
+    let json = made(json_text(alloc, string))?;
+    expect(json.as_str() == text, Wrong::Bytes)
+}
+
+#[test]
+fn json_texts_are_those_of_an_engine(rt: HostRuntime) -> Result<(), Wrong> {
+    for (units, text) in json_rows() {
+        let string = string_of(rt.alloc(), units)?;
+        expect_json(rt.alloc(), string.as_wtf8(), text)?;
+    }
+    Ok(())
+}
+
+/// Fails unless the block of the variables has `units`.
+fn expect_block(alloc: Global, variables: &[Variable<'_>], units: &[u16]) -> Result<(), Wrong> {
+    let block = made(environment_block(alloc, variables))?;
+    expect(block.as_slice() == units, Wrong::Units)
+}
+
+#[test]
+fn an_environment_is_one_block(rt: HostRuntime) -> Result<(), Wrong> {
+    let value = string_of(rt.alloc(), &[LEAD, 0x003D])?;
+    let variables = [
+        Variable {
+            name: Wtf8::from_str("a"),
+            value: value.as_wtf8(),
+        },
+        Variable {
+            name: Wtf8::from_str("=C:"),
+            value: Wtf8::from_str(""),
+        },
+    ];
+    let units: [u16; 11] = [
+        0x0061, 0x003D, LEAD, 0x003D, 0, 0x003D, 0x0043, 0x003A, 0x003D, 0, 0,
+    ];
+    expect_block(rt.alloc(), &variables, &units)?;
+    expect_block(rt.alloc(), &[], &[0])
+}
+
+/// Two texts, and whether they are equal if the case of ASCII letters is ignored.
+fn cases() -> [(&'static str, &'static str, bool); 5] {
+    [
+        ("aZé[@", "Azé[@", true),
+        ("é", "É", false),
+        ("@", "`", false),
+        ("[", "{", false),
+        ("", "", true),
+    ]
+}
+
+/// Fails unless `is_equal` says whether `text` equals the string of `units` if the case of ASCII letters is ignored.
+fn expect_case(alloc: Global, text: Wtf8<'_>, units: &[u16], is_equal: bool) -> Result<(), Wrong> {
+    let other = string_of(alloc, units)?;
+    let is_found = eq_ignore_ascii_case(text, other.as_wtf8());
+    expect(is_found == is_equal, Wrong::Outcome)
+}
+
+#[test]
+fn ascii_letters_are_equal_in_both_cases(rt: HostRuntime) -> Result<(), Wrong> {
+    for (text, other, is_equal) in cases() {
+        let found = eq_ignore_ascii_case(Wtf8::from_str(text), Wtf8::from_str(other));
+        assert!(rt; found == is_equal, "{text} and {other}");
+    }
+    let capital = string_of(rt.alloc(), &[0x0041, LEAD])?;
+    expect_case(rt.alloc(), capital.as_wtf8(), &[0x0061, LEAD], true)?;
+    expect_case(rt.alloc(), capital.as_wtf8(), &[0x0061], false)
+}

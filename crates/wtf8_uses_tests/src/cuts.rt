@@ -1,0 +1,51 @@
+// Texts cut at each unit index and joined again.
+use crate::shared::has_units;
+use std::alloc::Global;
+use unit_text::UnitText;
+use wtf8_tests::examples::joining;
+use wtf8_tests::wrong::{Wrong, expect_bytes, made};
+use wtf8_uses::cuts::{cut_and_joined, is_whole_again};
+
+/// Fails unless `cut_and_joined` returns the text of `units` and the bytes of `dump`.
+fn expect_joined(
+    alloc: Global,
+    text: &UnitText<Global>,
+    units: &[u16],
+    dump: &str,
+    index: usize,
+) -> Result<(), Wrong> {
+    if index > text.unit_len() {
+        return Err(Wrong::Row);
+    }
+    let whole = made(cut_and_joined(alloc, alloc, text, index))?;
+    if !has_units(whole.as_wtf8(), units) {
+        return Err(Wrong::Units);
+    }
+    expect_bytes(alloc, whole.as_wtf8(), dump)
+}
+
+/// Fails unless `is_whole_again` is true at unit index `index`.
+fn expect_whole(alloc: Global, text: &UnitText<Global>, index: usize) -> Result<(), Wrong> {
+    if index <= text.unit_len() && made(is_whole_again(alloc, alloc, text, index))? {
+        return Ok(());
+    }
+    Err(Wrong::Outcome)
+}
+
+/// Fails unless the text of `units`, cut at each unit index and joined by both callers, is whole again.
+fn expect_whole_anywhere(alloc: Global, units: &[u16], dump: &str) -> Result<(), Wrong> {
+    let text = made(UnitText::from_units(alloc, units))?;
+    for index in 0..=units.len() {
+        expect_whole(alloc, &text, index)?;
+        expect_joined(alloc, &text, units, dump, index)?;
+    }
+    Ok(())
+}
+
+#[test]
+fn callers_find_the_whole_again(rt: HostRuntime) -> Result<(), Wrong> {
+    for (units, _, dump) in joining() {
+        expect_whole_anywhere(rt.alloc(), units, dump)?;
+    }
+    Ok(())
+}

@@ -1,0 +1,96 @@
+// The interner.
+use crate::shared::{LEAD, string_of};
+use std::alloc::{AllocError, Global};
+use wtf8::Wtf8;
+use wtf8_tests::wrong::{Wrong, expect, expect_bytes, made};
+use wtf8_uses::interner::Interner;
+
+/// Fails unless the interner returns `number` for `string`.
+fn expect_number(interner: &mut Interner, string: Wtf8<'_>, number: usize) -> Result<(), Wrong> {
+    let found = made(interner.number(string))?;
+    expect(found == number, Wrong::Outcome)
+}
+
+/// Fails unless the string with this number has the bytes of `dump`, or there is none if `dump` is `None`.
+fn expect_string(
+    alloc: Global,
+    interner: &Interner,
+    number: usize,
+    dump: Option<&str>,
+) -> Result<(), Wrong> {
+    match (interner.string(number), dump) {
+        (Some(string), Some(dump)) => expect_bytes(alloc, string, dump),
+        (None, None) => Ok(()),
+        _ => Err(Wrong::Outcome),
+    }
+}
+
+/// Fails unless the interner returns 0 for `first`, 1 for the empty string, and 0 for `first` again.
+fn expect_numbers(interner: &mut Interner, first: Wtf8<'_>) -> Result<(), Wrong> {
+    for (string, number) in [(first, 0), (Wtf8::from_str(""), 1), (first, 0)] {
+        expect_number(interner, string, number)?;
+    }
+    expect(interner.len() == 2, Wrong::Outcome)
+}
+
+#[test]
+fn a_number_stays(rt: HostRuntime) -> Result<(), Wrong> {
+    let mut interner = Interner::new(rt.alloc());
+    let first = string_of(rt.alloc(), &[LEAD])?;
+    expect_numbers(&mut interner, first.as_wtf8())?;
+    for (number, dump) in [(0, Some("ED A0 BD")), (1, Some("")), (2, None)] {
+        expect_string(rt.alloc(), &interner, number, dump)?;
+    }
+    Ok(())
+}
+
+/// The part of a name for one bit of its number: the two parts for numbers below 256 have equal hashes.
+fn part_of_name(number: usize, is_even: bool) -> &'static str {
+    match (number < 256, is_even) {
+        (true, true) => "Aa",
+        (true, false) => "BB",
+        (false, true) => "0",
+        (false, false) => "1",
+    }
+}
+
+/// The name of a number below 512: below 256 one of 256 names with equal hashes, else its low eight bits as digits.
+fn name_of(alloc: Global, number: usize) -> Result<String, AllocError> {
+    let mut name = String::new(alloc);
+    let mut left = number;
+    for _ in 0..8 {
+        name.push_str(part_of_name(number, left % 2 == 0))?;
+        left /= 2;
+    }
+    Ok(name)
+}
+
+/// Fails unless the interner returns `number` for its name.
+fn expect_name(alloc: Global, interner: &mut Interner, number: usize) -> Result<(), Wrong> {
+    let name = made(name_of(alloc, number))?;
+    expect_number(interner, Wtf8::from_str(name.as_str()), number)
+}
+
+#[test]
+fn three_hundred_strings_keep_their_numbers(rt: HostRuntime) -> Result<(), Wrong> {
+    let mut interner = Interner::new(rt.alloc());
+    for _ in 0..2 {
+        for number in 0..300 {
+            expect_name(rt.alloc(), &mut interner, number)?;
+        }
+        expect(interner.len() == 300, Wrong::Outcome)?;
+    }
+    Ok(())
+}
+
+#[test]
+fn strings_of_one_hash_have_their_own_numbers(rt: HostRuntime) -> Result<(), Wrong> {
+    let mut interner = Interner::new(rt.alloc());
+    let names = ["Aa", "BB", "AaAa", "AaBB", "BBAa", "BBBB", "C#", ""];
+    for _ in 0..2 {
+        for (number, name) in names.iter().enumerate() {
+            expect_number(&mut interner, Wtf8::from_str(name), number)?;
+        }
+    }
+    expect(interner.len() == names.len(), Wrong::Outcome)
+}

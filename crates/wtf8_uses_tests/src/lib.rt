@@ -1,0 +1,32 @@
+// Tests of the proved callers in `wtf8_uses`. Expected values are worked out by hand from the encoding's tables, unless a
+// module names another source.
+#![tactic(auto)]
+
+#[cfg(test)]
+mod appending;
+#[cfg(test)]
+mod conversions;
+#[cfg(test)]
+mod cuts;
+#[cfg(test)]
+mod file_names;
+#[cfg(test)]
+mod interner;
+#[cfg(test)]
+mod joining;
+#[cfg(test)]
+mod points;
+#[cfg(test)]
+mod reading;
+#[cfg(test)]
+mod refusals;
+#[cfg(test)]
+mod shared;
+#[cfg(test)]
+mod sorting;
+#[cfg(test)]
+mod string_prototype;
+#[cfg(test)]
+mod text_requests;
+#[cfg(test)]
+mod unit_slices;

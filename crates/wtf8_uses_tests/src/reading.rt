@@ -1,0 +1,322 @@
+// Readers that return bytes in pieces, are interrupted, or fail. Expected values are of Python's codecs, or plain text.
+use refusing::{REFUSALS, Refusal, Refusing};
+use std::alloc::{AllocError, Allocator, Global};
+use std::io;
+use std::io::{ErrorKind, Read};
+use wtf8::Wtf8Buf;
+use wtf8_tests::wrong::{Wrong, expect, expect_bytes, made};
+use wtf8_uses::reading::{ReadError, read_utf16};
+
+/// Returns at most `most` bytes a read. Fails once, when at most `failing` bytes are left; later reads succeed.
+#[derive(Drop)]
+struct Pieces<'a> {
+    rest: &'a [u8],
+    most: usize,
+    failing: usize,
+    error: Option<io::Error>,
+    calls: u32,
+}
+
+impl Read for Pieces<'_> {
+    fn read(&mut self, buf: &mut [u8]) -> io::Result<usize> {
+        self.calls = self.calls.wrapping_add(1);
+        if let Some(error) = self.error {
+            if self.rest.len() <= self.failing {
+                self.error = None;
+                return Err(error);
+            }
+        }
+        let count = self.most.min(self.rest.len()).min(buf.len());
+        let (piece, rest) = self.rest.split_at(count);
+        buf[..count].copy_from_slice(piece);
+        self.rest = rest;
+        Ok(count)
+    }
+}
+
+/// The name of an error.
+fn name_of(error: ReadError) -> &'static str {
+    match error {
+        ReadError::Read(_) => "read",
+        ReadError::HalfUnit => "half unit",
+        ReadError::Memory => "memory",
+    }
+}
+
+/// Fails unless the string that was read has the hex dump `expected`, or that is the name of the error.
+fn expect_told<A: Allocator>(
+    alloc: Global,
+    returned: Result<Wtf8Buf<A>, ReadError>,
+    expected: &str,
+) -> Result<(), Wrong> {
+    match returned {
+        Ok(string) => expect_bytes(alloc, string.as_wtf8(), expected),
+        Err(error) => expect(name_of(error) == expected, Wrong::Outcome),
+    }
+}
+
+/// Input bytes, and the hex dump of the string that is read, or the name of the error.
+fn rows() -> [(&'static [u8], &'static str); 6] {
+    [
+        (b"", ""),
+        (b"\x61\x00\x3D\xD8\xA9\xDC", "61 F0 9F 92 A9"),
+        (b"\xA9\xDC\x3D\xD8", "ED B2 A9 ED A0 BD"),
+        (b"\xFF\xFE\x61\x00", "EF BB BF 61"),
+        (b"\x61", "half unit"),
+        (b"\x61\x00\x3D", "half unit"),
+    ]
+}
+
+/// Fails unless reading pieces of at most `most` bytes, with one interruption, gives `expected` in `calls` calls.
+fn expect_read(
+    alloc: Global,
+    bytes: &[u8],
+    most: usize,
+    calls: usize,
+    expected: &str,
+) -> Result<(), Wrong> {
+    let mut reader = Pieces {
+        rest: bytes,
+        most,
+        failing: 2,
+        error: Some(io::Error::from(ErrorKind::Interrupted)),
+        calls: 0,
+    };
+    expect_told(alloc, read_utf16(alloc, &mut reader), expected)?;
+    expect(reader.calls as usize == calls, Wrong::Requests)
+}
+
+#[test]
+fn pieces_of_any_size_are_one_input(rt: HostRuntime) -> Result<(), Wrong> {
+    for (bytes, expected) in rows() {
+        for most in 1..8 {
+            // One call for each piece, one for the interruption and one for the end.
+            let calls = bytes.len().div_ceil(most).wrapping_add(2);
+            expect_read(rt.alloc(), bytes, most, calls, expected)?;
+        }
+    }
+    Ok(())
+}
+
+/// The UTF-16 bytes, low byte first, of `letters` times "a", a surrogate pair and "b", and that text.
+fn letters_and_pair(alloc: Global, letters: u32) -> Result<(Vec<u8>, String), AllocError> {
+    let mut bytes = Vec::new(alloc);
+    let mut text = String::new(alloc);
+    for _ in 0..letters {
+        bytes.extend_from_slice(b"\x61\x00")?;
+        text.push('a')?;
+    }
+    bytes.extend_from_slice(b"\x3D\xD8\xA9\xDC\x62\x00")?;
+    text.push_str("💩b")?;
+    Ok((bytes, text))
+}
+
+/// Whether reading pieces of at most `most` bytes gives `text`.
+fn is_text_read(alloc: Global, bytes: &[u8], most: usize, text: &str) -> bool {
+    let mut reader = Pieces {
+        rest: bytes,
+        most,
+        failing: 0,
+        error: None,
+        calls: 0,
+    };
+    match read_utf16(alloc, &mut reader) {
+        Ok(string) => string.as_wtf8().as_str() == Some(text),
+        Err(_) => false,
+    }
+}
+
+#[test]
+fn a_pair_is_cut_by_the_largest_piece_and_by_single_bytes(rt: HostRuntime) -> Result<(), Wrong> {
+    let (bytes, text) = made(letters_and_pair(rt.alloc(), 2047))?;
+    for most in [1, 4095, 4096, 4097] {
+        assert!(rt;
+            is_text_read(rt.alloc(), &bytes, most, &text),
+            "{most} at a time"
+        );
+    }
+    Ok(())
+}
+
+/// Whether the reader's error is returned, with its kind and this error number of the system.
+fn is_handed_on(
+    alloc: Global,
+    reader: &mut Pieces<'_>,
+    error: io::Error,
+    number: Option<i32>,
+) -> bool {
+    match read_utf16(alloc, reader) {
+        Err(ReadError::Read(found)) => {
+            found.kind() == error.kind() && found.raw_os_error() == number
+        }
+        _ => false,
+    }
+}
+
+/// The number of bytes not read when the reader fails, the number of its calls, and the result of reading the rest.
+fn failing_rows() -> [(usize, u32, &'static str); 4] {
+    [
+        (6, 1, "61 62 63"),
+        (5, 2, "half unit"),
+        (2, 5, "63"),
+        (0, 7, ""),
+    ]
+}
+
+/// Fails unless the error is returned after `calls` calls, with `failing` bytes unread, which then give `left`.
+fn expect_handed_on(
+    alloc: Global,
+    error: io::Error,
+    number: Option<i32>,
+    row: (usize, u32, &str),
+) -> Result<(), Wrong> {
+    let (failing, calls, left) = row;
+    let mut reader = Pieces {
+        rest: b"\x61\x00\x62\x00\x63\x00",
+        most: 1,
+        failing,
+        error: Some(error),
+        calls: 0,
+    };
+    let is_handed_on = is_handed_on(alloc, &mut reader, error, number);
+    // The reader was not called after the error, and the bytes that were not read are still there.
+    if !is_handed_on || reader.calls != calls {
+        return Err(Wrong::Outcome);
+    }
+    expect_told(alloc, read_utf16(alloc, &mut reader), left)
+}
+
+/// Fails unless the error is returned in each of `failing_rows`.
+fn expect_all_handed_on(alloc: Global, error: io::Error, number: Option<i32>) -> Result<(), Wrong> {
+    for row in failing_rows() {
+        expect_handed_on(alloc, error, number, row)?;
+    }
+    Ok(())
+}
+
+#[test]
+fn an_error_is_handed_on(rt: HostRuntime) -> Result<(), Wrong> {
+    for kind in [
+        ErrorKind::BrokenPipe,
+        ErrorKind::WouldBlock,
+        ErrorKind::UnexpectedEof,
+        ErrorKind::Other,
+        ErrorKind::TimedOut,
+    ] {
+        expect_all_handed_on(rt.alloc(), io::Error::from(kind), None)?;
+    }
+    for number in [5, 32] {
+        let error = io::Error::from_raw_os_error(number);
+        expect_all_handed_on(rt.alloc(), error, Some(number))?;
+    }
+    Ok(())
+}
+
+/// Reads `bytes`, four at a time. Fails unless this gives `expected`. Returns the number of reads.
+fn reads_of(
+    alloc: Global,
+    heap: &Refusing<Global>,
+    bytes: &[u8],
+    expected: &str,
+) -> Result<u32, Wrong> {
+    let mut reader = Pieces {
+        rest: bytes,
+        most: 4,
+        failing: 0,
+        error: None,
+        calls: 0,
+    };
+    expect_told(alloc, read_utf16(heap, &mut reader), expected)?;
+    Ok(reader.calls)
+}
+
+type Granted = (&'static [u8], &'static str, u64, usize);
+
+/// Input bytes, the result of reading them, and the number of requests for memory and of the bytes in them. A piece of
+/// four bytes needs memory for three units, then for its string. The whole string grows to eight bytes or to twice its
+/// capacity.
+fn granted_rows() -> [Granted; 4] {
+    [
+        (b"", "", 0, 0),
+        (b"\x61\x00\x62\x00", "61 62", 3, 6 + 2 + 8),
+        (
+            b"\x61\x00\x62\x00\x63\x00\x64\x00",
+            "61 62 63 64",
+            5,
+            6 + 2 + 8 + 6 + 2,
+        ),
+        (b"\x3D\xD8\xA9\xDC", "F0 9F 92 A9", 4, 6 + 2 + 8 + 8),
+    ]
+}
+
+/// Fails unless the refused request is the last one made, no more is read, and the result is `ReadError::Memory`.
+fn expect_refused(
+    alloc: Global,
+    heap: &Refusing<Global>,
+    bytes: &[u8],
+    granted: u64,
+    refusal: Refusal,
+) -> Result<(), Wrong> {
+    heap.refuse_after(granted, refusal);
+    let calls = reads_of(alloc, heap, bytes, "memory")?;
+    // The first piece makes three requests, or four if it is a pair, and nothing is read after the refused one.
+    let is_first = granted < 3 || bytes.len() == 4;
+    let expected = if is_first { 1 } else { 2 };
+    let is_last = heap.requests() == granted.wrapping_add(1);
+    expect(is_last && calls == expected, Wrong::Requests)
+}
+
+/// Fails unless the bytes of a row are read if all is granted, with the row's requests and no more reads than needed.
+fn expect_granted(alloc: Global, heap: &Refusing<Global>, row: Granted) -> Result<(), Wrong> {
+    let (given, expected, requests, bytes) = row;
+    heap.grant(99);
+    let calls = reads_of(alloc, heap, given, expected)?;
+    let is_called = calls as usize == (given.len() / 4).wrapping_add(1);
+    let is_asked = heap.requests() == requests && heap.bytes() == bytes;
+    expect(is_called && is_asked, Wrong::Requests)
+}
+
+/// Reads the bytes of a row with each request refused in turn, and with all granted.
+fn expect_row(
+    alloc: Global,
+    heap: &Refusing<Global>,
+    row: Granted,
+    refusal: Refusal,
+) -> Result<(), Wrong> {
+    let (given, _, requests, _) = row;
+    for granted in 0..requests {
+        expect_refused(alloc, heap, given, granted, refusal)?;
+    }
+    expect_granted(alloc, heap, row)
+}
+
+#[test]
+fn each_refusal_is_want_of_memory(rt: HostRuntime) -> Result<(), Wrong> {
+    let heap = Refusing::new(rt.alloc(), 0);
+    for row in granted_rows() {
+        for refusal in REFUSALS {
+            expect_row(rt.alloc(), &heap, row, refusal)?;
+        }
+    }
+    Ok(())
+}
+
+/// Whether reading `bytes` gives `text`.
+fn is_read(alloc: Global, mut bytes: &[u8], text: &str) -> bool {
+    match read_utf16(alloc, &mut bytes) {
+        Ok(string) => string.as_wtf8().as_str() == Some(text),
+        Err(_) => false,
+    }
+}
+
+#[test]
+fn each_length_is_read(rt: HostRuntime) -> Result<(), Wrong> {
+    let mut bytes = Vec::new(rt.alloc());
+    let mut text = String::new(rt.alloc());
+    for length in 0..=300 {
+        assert!(rt; is_read(rt.alloc(), &bytes, &text), "{length} units");
+        made(bytes.extend_from_slice(b"\x61\x00"))?;
+        made(text.push('a'))?;
+    }
+    Ok(())
+}

@@ -1,0 +1,36 @@
+// Strings and checks that several test modules use.
+use std::alloc::{AllocError, Global};
+use wtf8::{Wtf8, Wtf8Buf};
+use wtf8_tests::wrong::{Wrong, expect_bytes, made};
+
+/// The code units of U+1F4A9; `PAIR_DUMP` is its bytes.
+pub const LEAD: u16 = 0xD83D;
+
+pub const TRAIL: u16 = 0xDCA9;
+
+pub const PAIR_DUMP: &str = "F0 9F 92 A9";
+
+/// The string of these units.
+pub fn string_of(alloc: Global, units: &[u16]) -> Result<Wtf8Buf<Global>, Wrong> {
+    made(Wtf8Buf::from_ill_formed_utf16(alloc, units))
+}
+
+/// Fails unless a string was made, and has the bytes of `dump`.
+pub fn expect_made(
+    alloc: Global,
+    returned: Result<Wtf8Buf<Global>, AllocError>,
+    dump: &str,
+) -> Result<(), Wrong> {
+    let string = made(returned)?;
+    expect_bytes(alloc, string.as_wtf8(), dump)
+}
+
+/// Whether the string has `units` by index, and no more.
+pub fn has_units(text: Wtf8<'_>, units: &[u16]) -> bool {
+    for (index, unit) in units.iter().enumerate() {
+        if text.unit_at(index) != Some(*unit) {
+            return false;
+        }
+    }
+    text.unit_len() == units.len()
+}

@@ -1,0 +1,139 @@
+// Strings that are sorted, searched in a table, and keys of a map.
+ghost use Rattle.std.specs.Prelude.{IfOk};
+ghost use Rattle.wtf8_uses.specs.Sorted.{AreInPointOrder};
+
+use crate::shared::{LEAD, TRAIL, string_of};
+use std::alloc::{AllocError, Global};
+use std::collections::HashMap;
+use std::hash::{BuildHasherDefault, FoldHasher};
+use wtf8::{Wtf8, Wtf8Buf};
+use wtf8_tests::wrong::{Wrong, expect, expect_bytes, made};
+use wtf8_uses::{joining, maps, sorting, table};
+
+/// The bytes of U+E000 and U+10000, in code point order. By code units the order is the other way round.
+const IN_ORDER: [&str; 2] = ["EE 80 80", "F0 90 80 80"];
+
+/// Two views, sorted.
+fn sorted_views<'a>(
+    alloc: Global,
+    first: Wtf8<'a>,
+    second: Wtf8<'a>,
+) -> Result<Vec<Wtf8<'a>>, AllocError> {
+    let mut views = Vec::new(alloc);
+    views.push(first)?;
+    views.push(second)?;
+    sorting::sort_views(&mut views)?;
+    Ok(views)
+}
+
+/// Fails unless the two views, sorted, have the bytes of `IN_ORDER`.
+fn expect_sorted(alloc: Global, first: Wtf8<'_>, second: Wtf8<'_>) -> Result<(), Wrong> {
+    let views = made(sorted_views(alloc, first, second))?;
+    for (view, dump) in views.iter().zip(IN_ORDER) {
+        expect_bytes(alloc, *view, dump)?;
+    }
+    Ok(())
+}
+
+#[test]
+fn views_are_sorted(rt: HostRuntime) -> Result<(), Wrong> {
+    let first = string_of(rt.alloc(), &[0xD800, 0xDC00])?;
+    let second = string_of(rt.alloc(), &[0xE000])?;
+    expect_sorted(rt.alloc(), first.as_wtf8(), second.as_wtf8())
+}
+
+/// Appends the string of `units`.
+fn push_string(
+    alloc: Global,
+    strings: &mut Vec<Wtf8Buf<Global>>,
+    units: &[u16],
+) -> Result<(), AllocError> {
+    strings.push(Wtf8Buf::from_ill_formed_utf16(alloc, units)?)?;
+    Ok(())
+}
+
+/// The strings of U+10000 and U+E000, sorted.
+fn sorted(alloc: Global) -> Result<Vec<Wtf8Buf<Global>>, AllocError>
+    ensures { IfOk result (λ strings. AreInPointOrder strings.items) }
+{
+    let mut strings = Vec::new(alloc);
+    push_string(alloc, &mut strings, &[0xD800, 0xDC00])?;
+    push_string(alloc, &mut strings, &[0xE000])?;
+    sorting::sort_strings(&mut strings)?;
+    Ok(strings)
+}
+
+/// Fails unless the strings have the bytes of `IN_ORDER`.
+fn expect_strings(alloc: Global, strings: &[Wtf8Buf<Global>]) -> Result<(), Wrong> {
+    for (string, dump) in strings.iter().zip(IN_ORDER) {
+        expect_bytes(alloc, string.as_wtf8(), dump)?;
+    }
+    Ok(())
+}
+
+/// Fails unless the search in a sorted table for the string of these units returns `index`, also by its view.
+fn expect_index(
+    alloc: Global,
+    table: &[Wtf8Buf<Global>],
+    units: &[u16],
+    index: Result<usize, usize>,
+) -> Result<(), Wrong>
+    requires { AreInPointOrder table.now }
+{
+    let string = string_of(alloc, units)?;
+    let by_view = table::place_of_view(table, string.as_wtf8());
+    let is_found = table::place_of(table, &string) == index && by_view == index;
+    expect(is_found, Wrong::Outcome)
+}
+
+#[test]
+fn strings_are_sorted_and_found(rt: HostRuntime) -> Result<(), Wrong> {
+    let strings = made(sorted(rt.alloc()))?;
+    expect_strings(rt.alloc(), &strings)?;
+    expect_index(rt.alloc(), strings.as_slice(), &[0xD800, 0xDC00], Ok(1))?;
+    expect_index(rt.alloc(), strings.as_slice(), &[0xF000], Err(1))?;
+    expect_index(rt.alloc(), strings.as_slice(), &[0x0061], Err(0))
+}
+
+/// The strings of these texts.
+fn strings_of(alloc: Global, texts: &[&str]) -> Result<Vec<Wtf8Buf<Global>>, AllocError> {
+    let mut strings = Vec::new(alloc);
+    for text in texts {
+        strings.push(Wtf8Buf::from_str(alloc, text)?)?;
+    }
+    Ok(strings)
+}
+
+/// Whether the strings are `texts`, in this order.
+fn are_texts(strings: &[Wtf8Buf<Global>], texts: &[&str]) -> bool {
+    for (string, text) in strings.iter().zip(texts) {
+        if string.as_wtf8().as_str() != Some(*text) {
+            return false;
+        }
+    }
+    strings.len() == texts.len()
+}
+
+#[test]
+fn repeated_strings_are_dropped(rt: HostRuntime) -> Result<(), Wrong> {
+    let mut strings = made(strings_of(rt.alloc(), &["b", "b", "a", "", "", "", "b"]))?;
+    sorting::drop_repeated(&mut strings);
+    expect(are_texts(&strings, &["b", "a", "", "b"]), Wrong::Bytes)
+}
+
+/// Whether a map finds the value of a pair's string by `same`.
+fn is_found(alloc: Global, same: &Wtf8Buf<Global>) -> Result<bool, AllocError> {
+    let mut map = HashMap::new(alloc);
+    let key = joining::joined(alloc, &[LEAD], &[TRAIL])?;
+    let found = maps::put_and_found(&mut map, key, same, 7)?;
+    Ok(found == Some(7))
+}
+
+#[test]
+fn a_map_finds_equal_strings(rt: HostRuntime) -> Result<(), Wrong> {
+    let same = made(Wtf8Buf::from_str(rt.alloc(), "💩"))?;
+    let hashers: BuildHasherDefault<FoldHasher> = BuildHasherDefault::new();
+    let is_alike = maps::hash_alike(&hashers, &same, Wtf8::from_str("💩"));
+    let is_found = made(is_found(rt.alloc(), &same))?;
+    expect(is_alike && is_found, Wrong::Outcome)
+}
