@@ -1,0 +1,5 @@
+use Rattle.wtf8.proofs.Common.{rules}
+use Rattle.wtf8.proofs.strings.buf.Wtf8Buf.try_truncate.Goals as goal
+
+pub returns-then-not-is_code_point_boundary : goal.returns-then-not-is_code_point_boundary
+returns-then-not-is_code_point_boundary g c = search rules
