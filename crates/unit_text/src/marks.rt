@@ -1,5 +1,5 @@
 // The marks of a text, from which a unit is found without counting from the front of the text.
-ghost use Rattle.std.specs.Prelude.{◌≡◌, ◌≢◌, ◌+◌, ◌*◌, ◌<◌, ◌≤◌, ℕ, false, length, take, drop, slice_get, IfSome};
+ghost use Rattle.std.specs.Prelude.{◌≡◌, ◌≢◌, ◌+◌, ◌*◌, ◌<◌, ◌≤◌, ℕ, false, length, vec_capacity, take, drop, slice_get, IfSome};
 ghost use Rattle.unit_text.specs.Marks.{AreAll, AreKept, AreMarks};
 ghost use Rattle.wtf8.specs.UnitMark.{IsMark};
 ghost use Rattle.wtf8.specs.UnitPosition.{units_of_slice};
@@ -143,6 +143,7 @@ fn wanted<A: Allocator>(text: &Wtf8Buf<A>, count: usize) -> usize
     requires counted { count ≡ length text.now.units }
     ensures before_last { (n : ℕ) → n < result → (n + 1) * SPACING < count }
     ensures all { AreAll text.now.bytes text.now.units result }
+    ensures apart { 0 < result → length text.now.bytes ≢ length text.now.units }
 {
     if text.len() == count {
         return 0;
@@ -160,7 +161,10 @@ pub(crate) fn add_marks<A: Allocator>(
 ) -> bool
     requires counted { count ≡ length text.now.units }
     requires marks { AreKept text.now.bytes text.now.units marks.old.items }
-    ensures { AreMarks text.now.bytes text.now.units marks.new.items result }
+    ensures marks { AreMarks text.now.bytes text.now.units marks.new.items result }
+
+    // Memory is refused for none if the vector has room for all.
+    ensures room { AreAll text.now.bytes text.now.units (vec_capacity marks.old) → result ≡ false }
 {
     let view = text.as_wtf8();
     let mut last = last_or_start(text, marks.as_slice());

@@ -1,4 +1,6 @@
-use Rattle.std.proofs.Common.{◌+◌, ◌*◌, ◌<◌, [], ◌∷◌, length, length-append, ap, sym, subst, arith}
+use Rattle.std.proofs.Common.{◌+◌, ◌*◌, ◌<◌, [], ◌∷◌, length, length-append, ap, refl, sym, subst, arith, ◌≤◌}
+use Rattle.std.proofs.lemmas.Bool.{false≢true}
+use Rattle.std.specs.Prelude.{vec_capacity}
 use Rattle.wtf8.specs.UnitMark.{IsMark, IsUndivided}
 use Rattle.unit_text.specs.Marks.{AreKept}
 use Rattle.unit_text.proofs.MarkLemmas.{kept_mark, one_more}
@@ -23,9 +25,23 @@ loop-number-preserved g c =
       kept = subst (AreKept text.bytes text.units) (sym c.in-Ok.ensures.items) all;
       is_mark = c.mark_at-last.ensures.mark;
       before = kept.at_most;
+      capacity = omega (arith, i.capacity, c.in-Ok.ensures.capacity);
     }
 
-pub returns : goal.returns
-returns g c =
+-- a vector with room for all marks is not full
+pub returns-in_default-clause-room : goal.returns-in_default-clause-room
+returns-in_default-clause-room g c = λ all.
+    let number = c.loop-number.number in
+    let i = c.loop-number.invariant in
+    let apart = c.wanted-number-end.ensures.apart (omega (arith, c.loop-number-test.true)) in
+    let next = c.wanted-number-end.ensures.before_last number c.loop-number-test.true in
+    let room : number + 1 ≤ vec_capacity c.args.marks.now = all apart (number + 1) (omega (arith, next, c.requires.counted)) in
+    absurd (false≢true (c.in_default.ensures.succeeds (omega (arith, room, i.capacity, i.counted, c.loop-number.marks.ok.0))))
+
+pub returns-clause-marks : goal.returns-clause-marks
+returns-clause-marks g c =
     let i = c.loop-number.invariant in
     record { kept = i.kept; all = λ granted apart n h. let enough = c.wanted-number-end.ensures.all apart n h in omega (arith, enough, i.counted) }
+
+pub returns-clause-room : goal.returns-clause-room
+returns-clause-room g c = λ _. refl

@@ -1,10 +1,11 @@
 use Rattle.std.proofs.Common.{◌≡◌, ◌*◌, ◌≤◌, length}
+use Rattle.std.specs.Prelude.{vec_capacity}
 use Rattle.wtf8.specs.UnitMark.{IsMarkOf}
 use Rattle.wtf8.specs.View.{view_units}
 use Rattle.unit_text.specs.Marks.{AreKept}
 use Rattle.unit_text.proofs.marks.add_marks.Given as goal
 
--- the marks so far are kept, and `last` is a mark at or before unit index `number * 128`
+-- the marks so far are kept, `last` is a mark at or before unit index `number * 128`, and the capacity has not shrunk
 abbrev pub invariant-loop-number : goal.invariant-loop-number
 invariant-loop-number g l = record {
   bytes : l.view.bytes.now ≡ l.text.bytes;
@@ -13,4 +14,5 @@ invariant-loop-number g l = record {
   kept : AreKept l.text.bytes l.text.units l.marks.items;
   is_mark : IsMarkOf l.view l.last;
   before : l.last.units ≤ l.number * 128;
+  capacity : vec_capacity l.fn.marks ≤ vec_capacity l.marks;
 }
