@@ -3,18 +3,18 @@ use crate::shared::expect_text;
 use crate::texts::appended_rows;
 use refusing::{REFUSALS, Refusing};
 use std::alloc::{AllocError, Global};
-use std::test::Fail;
 use unit_text::UnitText;
 use wtf8::{Wtf8, Wtf8Buf};
-use wtf8_tests::examples::{expect_dump, joining};
+use wtf8_tests::examples::joining;
+use wtf8_tests::wrong::{Wrong, expect, expect_bytes, made};
 
 type Lent<'a> = &'a Refusing<Global>;
 
 /// Fails unless the string of `units` makes a text of these units, and the text a string of the bytes of `dump`, with
 /// no request for memory.
-fn expect_string_and_back(alloc: Global, units: &[u16], dump: &str) -> Result<(), Fail> {
+fn expect_string_and_back(alloc: Global, units: &[u16], dump: &str) -> Result<(), Wrong> {
     let heap = Refusing::new(alloc, 9);
-    let string = Wtf8Buf::from_ill_formed_utf16(&heap, units)?;
+    let string = made(Wtf8Buf::from_ill_formed_utf16(&heap, units))?;
     heap.grant(0);
     let text = UnitText::from_wtf8(string);
     expect_text(alloc, &text, units, dump)?;
@@ -27,16 +27,14 @@ fn expect_string<'a>(
     heap: Lent<'a>,
     text: UnitText<Lent<'a>>,
     dump: &str,
-) -> Result<(), Fail> {
+) -> Result<(), Wrong> {
     let string = text.into_wtf8();
-    if heap.requests() != 0 {
-        return Err(Fail::new("a request"));
-    }
-    expect_dump(alloc, string.as_wtf8(), dump)
+    expect(heap.requests() == 0, Wrong::Requests)?;
+    expect_bytes(alloc, string.as_wtf8(), dump)
 }
 
 #[test]
-fn a_string_becomes_a_text_and_a_string_again(rt: HostRuntime) -> Result<(), Fail> {
+fn a_string_becomes_a_text_and_a_string_again(rt: HostRuntime) -> Result<(), Wrong> {
     expect_string_and_back(rt.alloc(), &[], "")?;
     for (units, _, dump) in joining() {
         expect_string_and_back(rt.alloc(), units, dump)?;
@@ -56,35 +54,47 @@ fn characters() -> [(&'static str, &'static [u16], &'static str); 5] {
 }
 
 /// Fails unless the text made of `value` has `units`, and the bytes of `dump`.
-fn expect_made(alloc: Global, value: &str, units: &[u16], dump: &str) -> Result<(), Fail> {
-    let text = UnitText::from_str(alloc, value)?;
+fn expect_made(alloc: Global, value: &str, units: &[u16], dump: &str) -> Result<(), Wrong> {
+    let text = made(UnitText::from_str(alloc, value))?;
     expect_text(alloc, &text, units, dump)
 }
 
-/// Fails unless a text grown by `value` has `units`, and the bytes of `dump`.
-fn expect_grown(alloc: Global, value: &str, units: &[u16], dump: &str) -> Result<(), Fail> {
-    let mut text = UnitText::from_units(alloc, &[])?;
+/// A text grown by `value` from `units`.
+fn grown(alloc: Global, units: &[u16], value: &str) -> Result<UnitText<Global>, AllocError> {
+    let mut text = UnitText::from_units(alloc, units)?;
     text.push_str(value)?;
+    Ok(text)
+}
+
+/// Fails unless the text of `start` grown by `value` has `units`, and the bytes of `dump`.
+fn expect_grown(
+    alloc: Global,
+    start: &[u16],
+    value: &str,
+    units: &[u16],
+    dump: &str,
+) -> Result<(), Wrong> {
+    let text = made(grown(alloc, start, value))?;
     expect_text(alloc, &text, units, dump)
 }
 
 #[test]
-fn a_str_becomes_a_text(rt: HostRuntime) -> Result<(), Fail> {
+fn a_str_becomes_a_text(rt: HostRuntime) -> Result<(), Wrong> {
     for (value, units, dump) in characters() {
         expect_made(rt.alloc(), value, units, dump)?;
-        expect_grown(rt.alloc(), value, units, dump)?;
+        expect_grown(rt.alloc(), &[], value, units, dump)?;
     }
     Ok(())
 }
 
 #[test]
-fn characters_do_not_join_a_lead(rt: HostRuntime) -> Result<(), Fail> {
-    let mut text = UnitText::from_units(rt.alloc(), &[0x0061, 0xD83D])?;
-    text.push_str("é")?;
-    expect_text(
+fn characters_do_not_join_a_lead(rt: HostRuntime) -> Result<(), Wrong> {
+    let units = [0x0061, 0xD83D, 0x00E9];
+    expect_grown(
         rt.alloc(),
-        &text,
-        &[0x0061, 0xD83D, 0x00E9],
+        &[0x0061, 0xD83D],
+        "é",
+        &units,
         "61 ED A0 BD C3 A9",
     )
 }
@@ -97,11 +107,22 @@ fn with_string(alloc: Global, front: &[u16], back: &[u16]) -> Result<UnitText<Gl
     Ok(text)
 }
 
+/// Fails unless the text of `front` with the string of `back` appended has `units`, and the bytes of `dump`.
+fn expect_with_string(
+    alloc: Global,
+    front: &[u16],
+    back: &[u16],
+    units: &[u16],
+    dump: &str,
+) -> Result<(), Wrong> {
+    let text = made(with_string(alloc, front, back))?;
+    expect_text(alloc, &text, units, dump)
+}
+
 #[test]
-fn a_string_joins_a_lead(rt: HostRuntime) -> Result<(), Fail> {
+fn a_string_joins_a_lead(rt: HostRuntime) -> Result<(), Wrong> {
     for (front, back, units, dump) in appended_rows() {
-        let text = with_string(rt.alloc(), front, back)?;
-        expect_text(rt.alloc(), &text, units, dump)?;
+        expect_with_string(rt.alloc(), front, back, units, dump)?;
     }
     Ok(())
 }
@@ -122,25 +143,32 @@ fn is_appended<'a>(text: &mut UnitText<Lent<'a>>, call: Append) -> bool {
     }
 }
 
+/// Fails unless the call, refused its request, leaves the text of "a" and a lead unchanged.
+fn expect_unchanged<'a>(
+    alloc: Global,
+    heap: Lent<'a>,
+    text: &mut UnitText<Lent<'a>>,
+    call: Append,
+) -> Result<(), Wrong> {
+    expect(!is_appended(text, call), Wrong::Outcome)?;
+    expect(heap.requests() == 1, Wrong::Requests)?;
+    expect_text(alloc, text, &[0x0061, 0xD83D], "61 ED A0 BD")
+}
+
 /// Fails unless the call makes one request, and leaves the text unchanged if it is refused.
-fn expect_refused(alloc: Global, heap: Lent<'_>, call: Append) -> Result<(), Fail> {
-    let mut text = UnitText::from_units(heap, &[0x0061, 0xD83D])?;
+fn expect_refused(alloc: Global, heap: Lent<'_>, call: Append) -> Result<(), Wrong> {
+    let mut text = made(UnitText::from_units(heap, &[0x0061, 0xD83D]))?;
     for refusal in REFUSALS {
         heap.refuse_after(0, refusal);
-        if is_appended(&mut text, call) || heap.requests() != 1 {
-            return Err(Fail::new(format_args!("{call:?} is not refused")));
-        }
-        expect_text(alloc, &text, &[0x0061, 0xD83D], "61 ED A0 BD")?;
+        expect_unchanged(alloc, heap, &mut text, call)?;
     }
     heap.grant(1);
-    if !is_appended(&mut text, call) || text.unit_len() != 42 {
-        return Err(Fail::new(format_args!("{call:?} fails")));
-    }
-    Ok(())
+    let is_appended = is_appended(&mut text, call);
+    expect(is_appended && text.unit_len() == 42, Wrong::Outcome)
 }
 
 #[test]
-fn a_refused_string_is_not_appended(rt: HostRuntime) -> Result<(), Fail> {
+fn a_refused_string_is_not_appended(rt: HostRuntime) -> Result<(), Wrong> {
     for call in [Append::Str, Append::Wtf8] {
         let heap = Refusing::new(rt.alloc(), 9);
         expect_refused(rt.alloc(), &heap, call)?;
@@ -149,7 +177,7 @@ fn a_refused_string_is_not_appended(rt: HostRuntime) -> Result<(), Fail> {
 }
 
 #[test]
-fn a_refused_str_makes_no_text(rt: HostRuntime) -> Result<(), Fail> {
+fn a_refused_str_makes_no_text(rt: HostRuntime) -> Result<(), Wrong> {
     let heap = Refusing::new(rt.alloc(), 0);
     for refusal in REFUSALS {
         heap.refuse_after(0, refusal);

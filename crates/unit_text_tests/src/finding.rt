@@ -1,15 +1,17 @@
 // Texts that are looked for at an index of another.
-use std::alloc::Global;
-use std::test::Fail;
+use std::alloc::{AllocError, Global};
 use unit_text::UnitText;
+use wtf8_tests::wrong::{Wrong, expect, made};
 
 /// Lists of units whose pairs are split by slices of them, and in which a slice occurs at several indexes.
-const TEXTS: [&[u16]; 4] = [
-    &[0x0061, 0xD83D, 0xDCA9, 0x0062],
-    &[0xD83D, 0xDCA9, 0xD83D, 0xDCA9, 0xD83D],
-    &[0xDCA9, 0xD83D, 0xD83D, 0xDCA9, 0xDCA9],
-    &[0x00E9, 0x0061, 0x00E9, 0x0061, 0xFFFF],
-];
+fn texts() -> [&'static [u16]; 4] {
+    [
+        &[0x0061, 0xD83D, 0xDCA9, 0x0062],
+        &[0xD83D, 0xDCA9, 0xD83D, 0xDCA9, 0xD83D],
+        &[0xDCA9, 0xD83D, 0xD83D, 0xDCA9, 0xDCA9],
+        &[0x00E9, 0x0061, 0x00E9, 0x0061, 0xFFFF],
+    ]
+}
 
 /// Whether the slices of the standard library find `part` in `units` at index `position`.
 fn is_there(units: &[u16], position: usize, part: &[u16]) -> bool {
@@ -22,23 +24,20 @@ fn expect_found(
     text: &UnitText<Global>,
     units: &[u16],
     part: &[u16],
-) -> Result<(), Fail> {
-    let searched = UnitText::from_units(alloc, part)?;
+) -> Result<(), Wrong> {
+    let searched = made(UnitText::from_units(alloc, part))?;
     for position in 0..=units.len().saturating_add(2) {
-        if text.starts_with_at(position, &searched) != is_there(units, position, part) {
-            return Err(Fail::new(format_args!("{part:?} in {units:?} at {position}")));
-        }
+        let is_found = text.starts_with_at(position, &searched);
+        expect(is_found == is_there(units, position, part), Wrong::Outcome)?;
     }
-    if text.starts_with_at(usize::MAX, &searched) != part.is_empty() {
-        return Err(Fail::new(format_args!("{part:?} past the end")));
-    }
-    Ok(())
+    let is_past_end = text.starts_with_at(usize::MAX, &searched);
+    expect(is_past_end == part.is_empty(), Wrong::Outcome)
 }
 
 /// Looks for each slice of each of the lists in the text of `units`.
-fn expect_slices_found(alloc: Global, units: &[u16]) -> Result<(), Fail> {
-    let text = UnitText::from_units(alloc, units)?;
-    for other in TEXTS {
+fn expect_slices_found(alloc: Global, units: &[u16]) -> Result<(), Wrong> {
+    let text = made(UnitText::from_units(alloc, units))?;
+    for other in texts() {
         for begin in 0..=other.len() {
             for end in begin..=other.len() {
                 expect_found(alloc, &text, units, &other[begin..end])?;
@@ -49,34 +48,59 @@ fn expect_slices_found(alloc: Global, units: &[u16]) -> Result<(), Fail> {
 }
 
 #[test]
-fn slices_are_found_where_the_units_have_them(rt: HostRuntime) -> Result<(), Fail> {
-    for units in TEXTS {
+fn slices_are_found_where_the_units_have_them(rt: HostRuntime) -> Result<(), Wrong> {
+    for units in texts() {
         expect_slices_found(rt.alloc(), units)?;
     }
     Ok(())
 }
 
-/// Fails unless 300 surrogate pairs after a letter are found from index 1 on, and from index 3 on those that are left.
-fn expect_found_far(text: &UnitText<Global>, pairs: &UnitText<Global>) -> Result<(), Fail> {
-    if !text.starts_with_at(1, pairs) || text.starts_with_at(3, pairs) {
-        return Err(Fail::new("not found at index 1 alone"));
+/// 300 surrogate pairs.
+fn pairs(alloc: Global) -> Result<UnitText<Global>, AllocError> {
+    let mut pairs = UnitText::from_str(alloc, "")?;
+    for _ in 0..300 {
+        pairs.push_str("💩")?;
+    }
+    Ok(pairs)
+}
+
+/// A letter and then `pairs`, with marks.
+fn letter_and_pairs(
+    alloc: Global,
+    pairs: &UnitText<Global>,
+) -> Result<UnitText<Global>, AllocError> {
+    let mut text = UnitText::from_str(alloc, "a")?;
+    text.mark_units(alloc);
+    text.push_wtf8(pairs.as_wtf8())?;
+    Ok(text)
+}
+
+/// Fails unless the pairs are found at index 1 of the text, and at no other up to 299.
+fn expect_pairs(text: &UnitText<Global>, pairs: &UnitText<Global>) -> Result<(), Wrong> {
+    for index in 0..300 {
+        let is_found = text.starts_with_at(index, pairs);
+        expect(is_found == (index == 1), Wrong::Outcome)?;
+    }
+    Ok(())
+}
+
+/// Fails unless a trail is found at each even index of the text from 2 on, and at no other.
+fn expect_trails(text: &UnitText<Global>, trail: &UnitText<Global>) -> Result<(), Wrong> {
+    for index in 0..602 {
+        let is_found = text.starts_with_at(index, trail);
+        expect(
+            is_found == (index % 2 == 0 && 0 < index && index <= 600),
+            Wrong::Outcome,
+        )?;
     }
     Ok(())
 }
 
 #[test]
-fn a_marked_text_finds_a_long_one(rt: HostRuntime) -> Result<(), Fail> {
-    let mut text = UnitText::from_str(rt.alloc(), "a")?;
-    let mut pairs = UnitText::from_str(rt.alloc(), "")?;
-    text.mark_units(rt.alloc());
-    for _ in 0..300 {
-        pairs.push_str("💩")?;
-    }
-    text.push_wtf8(pairs.as_wtf8())?;
-    expect_found_far(&text, &pairs)?;
-    let last = UnitText::from_units(rt.alloc(), &[0xDCA9])?;
-    assert!(rt; text.starts_with_at(600, &last));
-    assert!(rt; !text.starts_with_at(599, &last));
-    assert_eq!(rt; text.unit_len(), 601);
-    Ok(())
+fn a_marked_text_finds_pairs_and_their_halves(rt: HostRuntime) -> Result<(), Wrong> {
+    let pairs = made(pairs(rt.alloc()))?;
+    let text = made(letter_and_pairs(rt.alloc(), &pairs))?;
+    expect_pairs(&text, &pairs)?;
+    let trail = made(UnitText::from_units(rt.alloc(), &[0xDCA9]))?;
+    expect_trails(&text, &trail)
 }

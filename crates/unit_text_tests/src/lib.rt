@@ -12,6 +12,8 @@ mod finding;
 #[cfg(test)]
 mod lengths;
 #[cfg(test)]
+mod mark_requests;
+#[cfg(test)]
 mod marks;
 #[cfg(test)]
 mod memory;
