@@ -34,15 +34,26 @@ fn expect_found(
     expect(is_past_end == part.is_empty(), Wrong::Outcome)
 }
 
+/// Looks for each slice of `other` in `text`, the text of `units`.
+fn expect_slices_of(
+    alloc: Global,
+    text: &UnitText<Global>,
+    units: &[u16],
+    other: &[u16],
+) -> Result<(), Wrong> {
+    for begin in 0..=other.len() {
+        for end in begin..=other.len() {
+            expect_found(alloc, text, units, &other[begin..end])?;
+        }
+    }
+    Ok(())
+}
+
 /// Looks for each slice of each of the lists in the text of `units`.
 fn expect_slices_found(alloc: Global, units: &[u16]) -> Result<(), Wrong> {
     let text = made(UnitText::from_units(alloc, units))?;
     for other in texts() {
-        for begin in 0..=other.len() {
-            for end in begin..=other.len() {
-                expect_found(alloc, &text, units, &other[begin..end])?;
-            }
-        }
+        expect_slices_of(alloc, &text, units, other)?;
     }
     Ok(())
 }
