@@ -1,7 +1,7 @@
 // The calls of scripts, by their opcodes.
 //
-// A comment names the operands of a call in their order, then the call. `Reader` says how operands are encoded. The
-// number of units of a text takes two bytes, the number of units of a string one.
+// A comment names the operands of a call in their order, then the call. `Reader` says how operands are encoded. Units
+// follow their number, which takes one byte in a call on a string and two in a call on the texts.
 
 /// A call of a script.
 #[derive(Clone, Copy)]
