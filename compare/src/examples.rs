@@ -2,7 +2,7 @@
 //! code units, and runs of one kind with another kind at each index.
 
 use crate::generate::{call_on, from_units, push, registers};
-use crate::script::{Call, Opcode, Operand};
+use crate::script::{Call, Opcode, Operand, Step};
 
 /// Strings as code points, in ascending order.
 const IN_ORDER: [&[u32]; 14] = [
@@ -124,7 +124,7 @@ fn from_text(text: &str) -> Call {
     Call::new(Opcode::FromStr, operands)
 }
 
-fn steps(register: u8, opcode: Opcode, steps: Vec<u8>) -> Call {
+fn steps(register: u8, opcode: Opcode, steps: Vec<Step>) -> Call {
     Call::new(
         opcode,
         vec![Operand::Register(register), Operand::Steps(steps)],
@@ -154,10 +154,20 @@ fn compared_by_points(own: &[u32]) -> Vec<Call> {
 fn iterated(units: &[u16]) -> Vec<Call> {
     let mut calls = vec![from_units(0, units)];
     for opcode in [Opcode::CodePoints, Opcode::ToIllFormedUtf16] {
-        calls.push(steps(0, opcode, [1, 0].repeat(units.len() + 2)));
+        calls.push(steps(
+            0,
+            opcode,
+            [Step::SizeHint, Step::Next].repeat(units.len() + 2),
+        ));
         for count in 0..units.len() + 2 {
-            let mut clones = vec![0; count];
-            clones.extend([2, 6, 3, 2, 6]);
+            let mut clones = vec![Step::Next; count];
+            clones.extend([
+                Step::Drain,
+                Step::Skip,
+                Step::Replace,
+                Step::Drain,
+                Step::Skip,
+            ]);
             calls.push(steps(0, opcode, clones));
         }
     }

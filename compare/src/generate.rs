@@ -1,7 +1,7 @@
 //! Random scripts, and scripts for the exhaustive lists.
 
 use crate::random::Random;
-use crate::script::{Build, Call, Kind, Opcode, Operand, CALLS, UNBOUNDED};
+use crate::script::{Build, Call, Kind, Opcode, Operand, Step, CALLS, UNBOUNDED};
 
 /// Code points, among them the ends of each encoded length, and two numbers above U+10FFFF.
 pub const EDGES: [u32; 32] = [
@@ -53,6 +53,20 @@ const KINDS: [(u32, u32); 7] = [
     (0xD800, 0xDBFF),
     (0xDC00, 0xDFFF),
     (0x10000, 0x10FFFF),
+];
+
+/// The steps of random calls, with `next` more often than another.
+const STEPS: [Step; 10] = [
+    Step::Next,
+    Step::Next,
+    Step::Next,
+    Step::SizeHint,
+    Step::Drain,
+    Step::Replace,
+    Step::Nth,
+    Step::Last,
+    Step::Skip,
+    Step::Collect,
 ];
 
 /// A script of up to twenty calls.
@@ -119,11 +133,7 @@ pub fn operand(random: &mut Random, kind: Kind) -> Operand {
         }
         Kind::Steps => {
             let count = length(random, 12);
-            Operand::Steps(
-                (0..count)
-                    .map(|_| random.pick(&[0, 0, 0, 1, 2, 3, 4, 5, 6, 7]))
-                    .collect(),
-            )
+            Operand::Steps((0..count).map(|_| random.pick(&STEPS)).collect())
         }
     }
 }
@@ -207,9 +217,16 @@ fn longer_by_one(list: &[u16]) -> Vec<Vec<u16>> {
 /// Calls that read the string of `units`, cut it at every index and position, and join the pieces again.
 pub fn calls_on(units: &[u16]) -> Vec<Call> {
     let mut calls = vec![from_units(0, units)];
-    let steps: Vec<u8> = (0..=units.len())
-        .flat_map(|_| [1, 2, 5, 6, 7, 0, 3])
-        .collect();
+    let round = [
+        Step::SizeHint,
+        Step::Drain,
+        Step::Last,
+        Step::Skip,
+        Step::Collect,
+        Step::Next,
+        Step::Replace,
+    ];
+    let steps = round.repeat(units.len() + 1);
     for opcode in [
         Opcode::Boundaries,
         Opcode::AsStr,
@@ -220,7 +237,15 @@ pub fn calls_on(units: &[u16]) -> Vec<Call> {
         calls.push(Call::new(opcode, vec![Operand::Register(0)]));
     }
     for opcode in [Opcode::CodePoints, Opcode::ToIllFormedUtf16] {
-        for steps in [steps.clone(), vec![4, 1, 4, 1, 4], vec![0, 4, 1, 4, 4]] {
+        let hinted = vec![
+            Step::Nth,
+            Step::SizeHint,
+            Step::Nth,
+            Step::SizeHint,
+            Step::Nth,
+        ];
+        let after_next = vec![Step::Next, Step::Nth, Step::SizeHint, Step::Nth, Step::Nth];
+        for steps in [steps.clone(), hinted, after_next] {
             let operands = vec![Operand::Register(0), Operand::Steps(steps)];
             calls.push(Call::new(opcode, operands));
         }

@@ -8,7 +8,7 @@ use std::panic::{catch_unwind, AssertUnwindSafe};
 use wtf8::{CodePoint, IllFormedUtf16CodeUnits, Wtf8, Wtf8Buf, Wtf8CodePoints};
 
 use crate::fed::fed_by;
-use crate::script::{Build, Opcode, UNBOUNDED};
+use crate::script::{Build, Opcode, Step, UNBOUNDED};
 
 mod together;
 
@@ -110,6 +110,11 @@ impl<'a> Reader<'a> {
 
     fn units(&mut self) -> Vec<u16> {
         (0..self.count()).map(|_| self.unit()).collect()
+    }
+
+    fn steps(&mut self) -> Vec<Step> {
+        let bytes = self.bytes().iter();
+        bytes.map(|byte| Step::ALL[usize::from(*byte)]).collect()
     }
 
     fn builds(&mut self) -> Vec<Build> {
@@ -442,7 +447,7 @@ impl Machine {
         let string = self.copy(reader);
         let count = string.code_points().count();
         write!(self.out, "points, {count}:").unwrap();
-        walk(&mut self.out, string.code_points(), reader.bytes());
+        walk(&mut self.out, string.code_points(), &reader.steps());
         self.line("");
     }
 
@@ -450,7 +455,7 @@ impl Machine {
         let string = self.copy(reader);
         let count = string.to_ill_formed_utf16().count();
         write!(self.out, "units, {count}:").unwrap();
-        walk(&mut self.out, Units::of(&string), reader.bytes());
+        walk(&mut self.out, Units::of(&string), &reader.steps());
         self.line("");
     }
 
@@ -608,24 +613,23 @@ trait Walked: Clone {
     fn write_hint(&self, out: &mut Out);
 }
 
-fn walk(out: &mut Out, mut walked: impl Walked, steps: &[u8]) {
+fn walk(out: &mut Out, mut walked: impl Walked, steps: &[Step]) {
     for step in steps {
         match step {
-            0 => write_item(out, walked.next_text()),
-            1 => walked.write_hint(out),
-            2 => drain(out, walked.clone()),
-            3 => walked = walked.clone(),
-            4 => write_item(out, walked.nth_text()),
-            5 => write_item(out, walked.clone().last_text()),
-            6 => write_item(out, walked.clone().skipped_text()),
-            7 => {
+            Step::Next => write_item(out, walked.next_text()),
+            Step::SizeHint => walked.write_hint(out),
+            Step::Drain => drain(out, walked.clone()),
+            Step::Replace => walked = walked.clone(),
+            Step::Nth => write_item(out, walked.nth_text()),
+            Step::Last => write_item(out, walked.clone().last_text()),
+            Step::Skip => write_item(out, walked.clone().skipped_text()),
+            Step::Collect => {
                 let texts = walked.clone().collected_texts();
                 write!(out, " {} items", texts.len()).unwrap();
                 texts
                     .into_iter()
                     .for_each(|text| write_item(out, Some(text)));
             }
-            _ => unreachable!("the generator knows no step {step}"),
         }
     }
     drain(out, walked);

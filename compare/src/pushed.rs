@@ -2,7 +2,7 @@
 
 use crate::generate::{push, registers};
 use crate::long::{changed, on, string_in, BASES};
-use crate::script::{Call, Opcode, Operand};
+use crate::script::{Call, Opcode, Operand, Step};
 
 /// Code points of each encoded length, and the ends of the lead and the trail surrogates.
 const PUSHED: [u32; 10] = [
@@ -74,12 +74,14 @@ fn calls_far(units: &[u16]) -> Vec<Call> {
     calls.push(registers(Opcode::PushWtf8, 1, 2));
     calls.extend(compared());
     // A size hint before each of some steps.
-    let steps: Vec<u8> = [1, 0]
-        .into_iter()
-        .cycle()
-        .take(40)
-        .chain([1, 6, 1, 5, 7])
-        .collect();
+    let mut steps = [Step::SizeHint, Step::Next].repeat(20);
+    steps.extend([
+        Step::SizeHint,
+        Step::Skip,
+        Step::SizeHint,
+        Step::Last,
+        Step::Collect,
+    ]);
     for opcode in [Opcode::CodePoints, Opcode::ToIllFormedUtf16] {
         let operands = vec![Operand::Register(1), Operand::Steps(steps.clone())];
         calls.push(Call::new(opcode, operands));

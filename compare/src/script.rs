@@ -17,8 +17,7 @@ pub enum Kind {
     Units,
     /// A count of one byte, then four bytes for each value. Values that are not code points are left out.
     Points,
-    /// A count of one byte, then a byte for each step: 0 `next`, 1 `size_hint`, 2 drains a clone, 3 goes on with a
-    /// clone, 4 `nth(1)`, 5 `last` of a clone, 6 `skip(2)` of a clone and `next`, 7 `collect` of a clone.
+    /// A count of one byte, then a byte for each step.
     Steps,
     /// A count of one byte, then each call: 0 `Push` value, 1 `PushChar` value, 2 `PushStr` text, 3 `PushWtf8`
     /// register, 4 `Extend` number of the points before, 5 `Reserve` number, 6 `Truncate` number, 7 `TruncateUnits`
@@ -165,8 +164,35 @@ pub enum Operand {
     Text(String),
     Units(Vec<u16>),
     Points(Vec<u32>),
-    Steps(Vec<u8>),
+    Steps(Vec<Step>),
     Builds(Vec<Build>),
+}
+
+/// A step on an iterator. `crates/compare_scripts/src/opcodes.rt` says what each does.
+#[derive(Clone, Copy, Debug, PartialEq)]
+pub enum Step {
+    Next = 0,
+    SizeHint = 1,
+    Drain = 2,
+    Replace = 3,
+    Nth = 4,
+    Last = 5,
+    Skip = 6,
+    Collect = 7,
+}
+
+impl Step {
+    /// The steps by their bytes.
+    pub const ALL: [Step; 8] = [
+        Step::Next,
+        Step::SizeHint,
+        Step::Drain,
+        Step::Replace,
+        Step::Nth,
+        Step::Last,
+        Step::Skip,
+        Step::Collect,
+    ];
 }
 
 /// A building call in a list.
@@ -239,7 +265,7 @@ impl Call {
                 }
                 Operand::Steps(steps) => {
                     out.push(steps.len() as u8);
-                    out.extend(steps);
+                    out.extend(steps.iter().map(|step| *step as u8));
                 }
                 Operand::Builds(builds) => {
                     out.push(builds.len() as u8);
@@ -270,12 +296,7 @@ impl fmt::Display for Call {
                 Operand::Units(units) => write!(f, " {units:04X?}")?,
                 Operand::Points(points) => write!(f, " {points:04X?}")?,
                 Operand::Steps(steps) => {
-                    let names = [
-                        "next", "hint", "fork", "swap", "nth", "last", "skip", "collect",
-                    ];
-                    let words: Vec<&str> =
-                        steps.iter().map(|step| names[usize::from(*step)]).collect();
-                    write!(f, " [{}]", words.join(" "))?;
+                    write!(f, " {steps:?}")?;
                 }
                 Operand::Builds(builds) => write!(f, " {builds:02X?}")?,
             }

@@ -1,8 +1,8 @@
 // Calls that make strings or change them.
 use crate::hinted::Hinted;
 use crate::machine::Machine;
-use crate::opcodes::{Append, Convert, Cut, Make};
-use crate::reader::{Reader, Register};
+use crate::opcodes::{Append, Convert, Cut, Make, OpenSlice};
+use crate::reader::Register;
 use crate::stop::{Stop, allocated};
 use crate::tape::Tape;
 use std::alloc::{Allocator, Global};
@@ -21,15 +21,14 @@ impl Machine {
             Make::New => Ok(Wtf8Buf::new(tape.alloc)),
             Make::WithCapacity => with_capacity(tape),
             Make::FromString => from_string(tape),
-            Make::FromStr => from_text(tape),
+            Make::FromStr => allocated(Wtf8Buf::from_str(tape.alloc, tape.reader.text()?)),
             Make::FromIllFormedUtf16 => from_units(tape),
             Make::FromIter => from_points(tape),
             Make::FromIterCodePoints => self.from_last_points(tape),
             Make::Clone => self.copy(tape),
-            Make::Slice => self.from_slice(tape),
-            Make::SliceFrom => self.from_back(tape),
-            Make::SliceTo => self.from_front(tape),
-            Make::PushSlice => self.with_slice(at, tape),
+            Make::Slice => self.with_slice(Wtf8Buf::new(tape.alloc), tape),
+            Make::OpenSlice(call) => self.from_open_slice(call, tape),
+            Make::PushSlice => self.with_slice(allocated(self.string(at).clone())?, tape),
             Make::FromIterHinted => from_hinted(tape),
             Make::ApplyAll => self.apply_all(at, tape),
         }
@@ -48,38 +47,33 @@ impl Machine {
         allocated(other.clone())
     }
 
-    /// `slice` of another string.
-    fn from_slice(&self, tape: &mut Tape<'_>) -> Result<Wtf8Buf<Global>, Stop> {
+    /// Appends a slice of another string to a string.
+    fn with_slice(
+        &self,
+        string: Wtf8Buf<Global>,
+        tape: &mut Tape<'_>,
+    ) -> Result<Wtf8Buf<Global>, Stop> {
         let other = tape.reader.register()?;
         let part = self.read_slice(other, &mut tape.reader)?;
+        with_view(string, part)
+    }
+
+    /// `slice_from` and `slice_to` of another string.
+    fn from_open_slice(
+        &self,
+        call: OpenSlice,
+        tape: &mut Tape<'_>,
+    ) -> Result<Wtf8Buf<Global>, Stop> {
+        let whole = self.view(tape.reader.register()?);
+        let position = tape.reader.number()?;
+        if !whole.is_code_point_boundary(position) {
+            return Err(Stop::Refused);
+        }
+        let part = match call {
+            OpenSlice::SliceFrom => whole.slice_from(position),
+            OpenSlice::SliceTo => whole.slice_to(position),
+        };
         with_view(Wtf8Buf::new(tape.alloc), part)
-    }
-
-    /// `slice_from` of another string.
-    fn from_back(&self, tape: &mut Tape<'_>) -> Result<Wtf8Buf<Global>, Stop> {
-        let whole = self.view(tape.reader.register()?);
-        let position = tape.reader.number()?;
-        if !whole.is_code_point_boundary(position) {
-            return Err(Stop::Refused);
-        }
-        with_view(Wtf8Buf::new(tape.alloc), whole.slice_from(position))
-    }
-
-    /// `slice_to` of another string.
-    fn from_front(&self, tape: &mut Tape<'_>) -> Result<Wtf8Buf<Global>, Stop> {
-        let whole = self.view(tape.reader.register()?);
-        let position = tape.reader.number()?;
-        if !whole.is_code_point_boundary(position) {
-            return Err(Stop::Refused);
-        }
-        with_view(Wtf8Buf::new(tape.alloc), whole.slice_to(position))
-    }
-
-    /// `push_wtf8` of a slice of another string to a clone of the register's string.
-    fn with_slice(&self, at: Register, tape: &mut Tape<'_>) -> Result<Wtf8Buf<Global>, Stop> {
-        let other = tape.reader.register()?;
-        let part = self.read_slice(other, &mut tape.reader)?;
-        with_view(allocated(self.string(at).clone())?, part)
     }
 
     /// Runs a call that appends to a string, or `reserve`.
@@ -87,9 +81,9 @@ impl Machine {
         let string = &mut self.strings[at.index];
         match call {
             Append::Reserve => reserve(string, tape),
-            Append::Push => push(string, &mut tape.reader),
-            Append::PushChar => push_char(string, &mut tape.reader),
-            Append::PushStr => push_str(string, &mut tape.reader),
+            Append::Push => allocated(string.push(tape.reader.point()?)),
+            Append::PushChar => allocated(string.push_char(tape.reader.character()?)),
+            Append::PushStr => allocated(string.push_str(tape.reader.text()?)),
             Append::PushWtf8 => self.push_string(at, tape),
             Append::Extend => extend(string, tape),
             Append::ExtendCodePoints => self.extend_by_string(at, tape),
@@ -116,8 +110,13 @@ impl Machine {
         let string = &mut self.strings[at.index];
         let capacity = string.capacity();
         match call {
-            Cut::Truncate => truncate(string, position)?,
-            Cut::TruncateUnits => truncate_units(string, position)?,
+            Cut::Truncate if string.as_wtf8().is_code_point_boundary(position) => {
+                string.truncate(position);
+            }
+            Cut::TruncateUnits if position <= string.as_wtf8().unit_len() => {
+                string.truncate_units(position);
+            }
+            Cut::Truncate | Cut::TruncateUnits => return Err(Stop::Refused),
         }
         tape.write_kept(string.capacity() == capacity)
     }
@@ -149,12 +148,6 @@ fn from_string(tape: &mut Tape<'_>) -> Result<Wtf8Buf<Global>, Stop> {
     let text = tape.reader.text()?;
     let text = allocated(String::from_str(tape.alloc, text))?;
     Ok(Wtf8Buf::from_string(text))
-}
-
-/// `from_str`.
-fn from_text(tape: &mut Tape<'_>) -> Result<Wtf8Buf<Global>, Stop> {
-    let text = tape.reader.text()?;
-    allocated(Wtf8Buf::from_str(tape.alloc, text))
 }
 
 /// `from_ill_formed_utf16`.
@@ -195,24 +188,6 @@ fn reserve(string: &mut Wtf8Buf<Global>, tape: &mut Tape<'_>) -> Result<(), Stop
     tape.write_room(string, additional)
 }
 
-/// `push`.
-fn push(string: &mut Wtf8Buf<Global>, reader: &mut Reader<'_>) -> Result<(), Stop> {
-    let point = reader.point()?;
-    allocated(string.push(point))
-}
-
-/// `push_char`.
-fn push_char(string: &mut Wtf8Buf<Global>, reader: &mut Reader<'_>) -> Result<(), Stop> {
-    let character = reader.character()?;
-    allocated(string.push_char(character))
-}
-
-/// `push_str`.
-fn push_str(string: &mut Wtf8Buf<Global>, reader: &mut Reader<'_>) -> Result<(), Stop> {
-    let text = reader.text()?;
-    allocated(string.push_str(text))
-}
-
 /// `extend` by code points.
 fn extend(string: &mut Wtf8Buf<Global>, tape: &mut Tape<'_>) -> Result<(), Stop> {
     let points = tape.reader.points(tape.alloc)?;
@@ -234,19 +209,11 @@ fn converted(
     tape: &mut Tape<'_>,
 ) -> Result<Wtf8Buf<Global>, Stop> {
     let capacity = string.capacity();
-    match call {
-        Convert::IntoString => from_conversion(string.into_string(), capacity, tape),
-        Convert::IntoStringLossy => from_converted(string.into_string_lossy(), capacity, tape),
-    }
-}
-
-/// Writes what `into_string` returned, and returns it as a string.
-fn from_conversion(
-    returned: Result<String, Wtf8Buf<Global>>,
-    capacity: usize,
-    tape: &mut Tape<'_>,
-) -> Result<Wtf8Buf<Global>, Stop> {
-    match returned {
+    let converted = match call {
+        Convert::IntoString => string.into_string(),
+        Convert::IntoStringLossy => Ok(string.into_string_lossy()),
+    };
+    match converted {
         Ok(text) => from_converted(text, capacity, tape),
         Err(string) => {
             tape.write_line("no text")?;
@@ -264,24 +231,6 @@ fn from_converted(
     tape.write_text("text", text.as_str())?;
     tape.write_kept(text.capacity() == capacity)?;
     Ok(Wtf8Buf::from_string(text))
-}
-
-/// `truncate`.
-fn truncate(string: &mut Wtf8Buf<Global>, position: usize) -> Result<(), Stop> {
-    if !string.as_wtf8().is_code_point_boundary(position) {
-        return Err(Stop::Refused);
-    }
-    string.truncate(position);
-    Ok(())
-}
-
-/// `truncate_units`.
-fn truncate_units(string: &mut Wtf8Buf<Global>, count: usize) -> Result<(), Stop> {
-    if string.as_wtf8().unit_len() < count {
-        return Err(Stop::Refused);
-    }
-    string.truncate_units(count);
-    Ok(())
 }
 
 /// The code points of a string without the first `count`.

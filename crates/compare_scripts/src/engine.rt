@@ -3,36 +3,12 @@ use crate::stop::{Stop, allocated};
 use crate::tape::Tape;
 use std::alloc::Global;
 use unit_text::UnitText;
-use wtf8_uses::string_prototype::{
-    at, code_point_at, ends_with, index_of, is_well_formed, last_index_of, pad_start, repeat,
-    replace, split,
-};
-
-/// `index_of`: writes the index.
-pub fn write_index(
-    tape: &mut Tape<'_>,
-    text: &UnitText<Global>,
-    other: &UnitText<Global>,
-) -> Result<(), Stop> {
-    let position = tape.reader.number()?;
-    tape.write_found("index", index_of(text, other, position))
-}
+use wtf8_uses::string_prototype::{at, ends_with, pad_start, repeat, replace, split};
 
 /// `at` an index and at its negation, which counts from the end: writes both units.
 pub fn write_units_at(tape: &mut Tape<'_>, text: &UnitText<Global>) -> Result<(), Stop> {
     let position = tape.reader.unit()? as isize;
     tape.write_two("at", at(text, position), at(text, -position))
-}
-
-/// `code_point_at`: writes the code point.
-pub fn write_point(tape: &mut Tape<'_>, text: &UnitText<Global>) -> Result<(), Stop> {
-    let position = tape.reader.number()?;
-    tape.write_found("point", code_point_at(text, position))
-}
-
-/// `is_well_formed`.
-pub fn write_well_formed(tape: &mut Tape<'_>, text: &UnitText<Global>) -> Result<(), Stop> {
-    writeln!(tape, "well formed {}", is_well_formed(text))
 }
 
 /// `split`: writes the number of pieces, then one piece a line.
@@ -44,16 +20,6 @@ pub fn write_pieces(tape: &mut Tape<'_>, text: &UnitText<Global>) -> Result<(), 
         tape.write_units(piece)?;
     }
     Ok(())
-}
-
-/// `last_index_of`: writes the index.
-pub fn write_last_index(
-    tape: &mut Tape<'_>,
-    text: &UnitText<Global>,
-    other: &UnitText<Global>,
-) -> Result<(), Stop> {
-    let position = tape.reader.number()?;
-    tape.write_found("last index", last_index_of(text, other, position))
 }
 
 /// `ends_with`.

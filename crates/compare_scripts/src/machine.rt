@@ -1,6 +1,6 @@
 // Runs a script.
 use crate::looking::look_at_operands;
-use crate::opcodes::{Call, Change, Make, StringCall};
+use crate::opcodes::{Call, Change, StringCall};
 use crate::reader::{Reader, Register, STRINGS};
 use crate::stop::Stop;
 use crate::tape::Tape;
@@ -71,7 +71,10 @@ impl Machine {
     fn run_at(&mut self, call: StringCall, tape: &mut Tape<'_>) -> Result<(), Stop> {
         let at = tape.reader.register()?;
         match call {
-            StringCall::Change(call) => self.run_change(call, at, tape),
+            StringCall::Change(call) => {
+                self.change(call, at, tape)?;
+                tape.write_string(at, self.view(at))
+            }
             StringCall::Read(call) => self.look(call, at, tape),
             StringCall::ReadSlice => self.look_at_slice(at, tape),
             StringCall::CompareSlices => self.compare_slices(at, tape),
@@ -79,32 +82,15 @@ impl Machine {
         }
     }
 
-    /// Runs a call that changes one of the strings, and writes the string after it.
-    fn run_change(&mut self, call: Change, at: Register, tape: &mut Tape<'_>) -> Result<(), Stop> {
-        self.change(call, at, tape)?;
-        tape.write_string(at, self.view(at))
-    }
-
     /// Runs a call that changes one of the strings.
     fn change(&mut self, call: Change, at: Register, tape: &mut Tape<'_>) -> Result<(), Stop> {
         match call {
-            Change::Make(call) => self.replace(call, at, tape),
-            Change::Append(call) => self.append(call, at, tape),
-            Change::Cut(call) => self.cut(call, at, tape),
-            Change::Convert(call) => self.convert(call, at, tape),
-            Change::ShrinkToFit => self.shrink_to_fit(at),
+            Change::Make(call) => self.strings[at.index] = self.make(call, at, tape)?,
+            Change::Append(call) => return self.append(call, at, tape),
+            Change::Cut(call) => return self.cut(call, at, tape),
+            Change::Convert(call) => return self.convert(call, at, tape),
+            Change::ShrinkToFit => self.strings[at.index].shrink_to_fit(),
         }
-    }
-
-    /// Runs a call that makes one of the strings anew.
-    fn replace(&mut self, call: Make, at: Register, tape: &mut Tape<'_>) -> Result<(), Stop> {
-        self.strings[at.index] = self.make(call, at, tape)?;
-        Ok(())
-    }
-
-    /// `shrink_to_fit`.
-    fn shrink_to_fit(&mut self, at: Register) -> Result<(), Stop> {
-        self.strings[at.index].shrink_to_fit();
         Ok(())
     }
 

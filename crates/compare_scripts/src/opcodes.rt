@@ -1,7 +1,7 @@
 // The calls of scripts, by their opcodes.
 //
-// A comment names the operands of a call in their order, then the call. `Reader` says how operands are encoded. The
-// number of units of a text takes two bytes, the number of units of a string one.
+// A comment names the operands of a call in their order, then the call. `Reader` says how operands are encoded. Units
+// follow their number, which takes one byte in a call on a string and two in a call on the texts.
 
 /// A call of a script.
 #[derive(Clone, Copy)]
@@ -76,10 +76,8 @@ pub enum Make {
     Clone,
     /// Register, two numbers: `slice` of that string.
     Slice,
-    /// Register, number: `slice_from` of that string.
-    SliceFrom,
-    /// Register, number: `slice_to` of that string.
-    SliceTo,
+    /// Register, number: a slice of that string from its start or to its end.
+    OpenSlice(OpenSlice),
     /// Register, two numbers: `push_wtf8` of a slice of that string to a clone of the string.
     PushSlice,
     /// Number, points: `from_iter` of points with the number as the lower size hint.
@@ -88,6 +86,15 @@ pub enum Make {
     /// spare capacity, and with the second number of requests granted. Writes the number of refused truncations or the
     /// index of the refused call, and the units.
     ApplyAll,
+}
+
+/// A call that makes a slice with one end.
+#[derive(Clone, Copy)]
+pub enum OpenSlice {
+    /// `slice_from`.
+    SliceFrom,
+    /// `slice_to`.
+    SliceTo,
 }
 
 /// A call that appends to a string, or reserves.
@@ -245,6 +252,34 @@ pub enum ReadText {
     EndsWith,
 }
 
+/// A step on an iterator. Writes what it returns.
+#[derive(Clone, Copy)]
+pub enum Step {
+    /// `next`.
+    Next,
+    /// `nth(1)`.
+    Nth,
+    /// `size_hint`.
+    SizeHint,
+    /// Replaces the iterator by its clone.
+    Replace,
+    /// A step on a clone.
+    OnClone(CloneStep),
+}
+
+/// A step on a clone of an iterator.
+#[derive(Clone, Copy)]
+pub enum CloneStep {
+    /// The remaining items, a size hint before each, and `next` once more after the end.
+    Drain,
+    /// `last`.
+    Last,
+    /// `skip(2)`, then `next`.
+    Skip,
+    /// `collect`: the number of items, and each item.
+    Collect,
+}
+
 impl Call {
     /// The call of an opcode, if there is one.
     pub fn from_opcode(opcode: u8) -> Option<Call> {
@@ -304,8 +339,8 @@ impl Change {
             14 => Change::Append(Append::ExtendCodePoints),
             15 => Change::Cut(Cut::Truncate),
             16 => Change::Make(Make::Slice),
-            17 => Change::Make(Make::SliceFrom),
-            18 => Change::Make(Make::SliceTo),
+            17 => Change::Make(Make::OpenSlice(OpenSlice::SliceFrom)),
+            18 => Change::Make(Make::OpenSlice(OpenSlice::SliceTo)),
             19 => Change::Convert(Convert::IntoString),
             20 => Change::Convert(Convert::IntoStringLossy),
             33 => Change::Cut(Cut::TruncateUnits),
@@ -364,5 +399,23 @@ impl ChangeText {
             _ => return None,
         };
         Some(call)
+    }
+}
+
+impl Step {
+    /// The step of a byte, if there is one.
+    pub fn from_byte(byte: u8) -> Option<Step> {
+        let step = match byte {
+            0 => Step::Next,
+            1 => Step::SizeHint,
+            2 => Step::OnClone(CloneStep::Drain),
+            3 => Step::Replace,
+            4 => Step::Nth,
+            5 => Step::OnClone(CloneStep::Last),
+            6 => Step::OnClone(CloneStep::Skip),
+            7 => Step::OnClone(CloneStep::Collect),
+            _ => return None,
+        };
+        Some(step)
     }
 }

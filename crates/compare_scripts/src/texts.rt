@@ -1,9 +1,6 @@
 // The calls on texts.
 use crate::comparing::name_of;
-use crate::engine::{
-    padded, repeated, replaced, write_end, write_index, write_last_index, write_pieces,
-    write_point, write_units_at, write_well_formed,
-};
+use crate::engine::{padded, repeated, replaced, write_end, write_pieces, write_units_at};
 use crate::opcodes::{ChangeText, MakeText, ReadText, TextCall};
 use crate::stop::{Stop, allocated};
 use crate::tape::Tape;
@@ -12,7 +9,8 @@ use std::mem;
 use unit_text::UnitText;
 use wtf8_uses::cuts::is_whole_again;
 use wtf8_uses::string_prototype::{
-    char_at, char_code_at, is_less, starts_with, substring, to_well_formed, trim_ascii,
+    char_at, char_code_at, code_point_at, index_of, is_less, is_well_formed, last_index_of,
+    starts_with, substring, to_well_formed, trim_ascii,
 };
 
 /// The two texts of a script.
@@ -33,46 +31,29 @@ impl Texts {
     /// Runs a call, whose operands come next in the script, and writes what it returns.
     pub fn run(&mut self, call: TextCall, tape: &mut Tape<'_>) -> Result<(), Stop> {
         match call {
-            TextCall::Change(call) => self.run_change(call, tape),
+            TextCall::Change(call) => {
+                self.change(call, tape)?;
+                tape.write_units(&self.first)
+            }
             TextCall::Read(call) => self.look(call, tape),
-            TextCall::Swap => self.swap(tape),
+            TextCall::Swap => {
+                mem::swap(&mut self.first, &mut self.second);
+                tape.write_line("swapped")
+            }
         }
-    }
-
-    /// Runs a call that changes the first text, and writes its units after the call.
-    fn run_change(&mut self, call: ChangeText, tape: &mut Tape<'_>) -> Result<(), Stop> {
-        self.change(call, tape)?;
-        tape.write_units(&self.first)
-    }
-
-    /// Swaps the texts.
-    fn swap(&mut self, tape: &mut Tape<'_>) -> Result<(), Stop> {
-        mem::swap(&mut self.first, &mut self.second);
-        tape.write_line("swapped")
     }
 
     /// Runs a call that changes the first text.
     fn change(&mut self, call: ChangeText, tape: &mut Tape<'_>) -> Result<(), Stop> {
         match call {
-            ChangeText::Make(call) => self.replace(call, tape),
-            ChangeText::Concat => allocated(self.first.concat(&self.second)),
-            ChangeText::Mark => self.mark(tape),
-            ChangeText::Push => push_units(&mut self.first, tape),
-            ChangeText::PushStr => push_str(&mut self.first, tape),
-            ChangeText::PushWtf8 => push_string(&mut self.first, tape),
-            ChangeText::ThroughWtf8 => self.convert(tape),
+            ChangeText::Make(call) => self.first = self.make(call, tape)?,
+            ChangeText::Concat => return allocated(self.first.concat(&self.second)),
+            ChangeText::Mark => self.first.mark_units(tape.alloc),
+            ChangeText::Push => return push_units(&mut self.first, tape),
+            ChangeText::PushStr => return push_str(&mut self.first, tape),
+            ChangeText::PushWtf8 => return push_string(&mut self.first, tape),
+            ChangeText::ThroughWtf8 => return self.convert(tape),
         }
-    }
-
-    /// Runs a call that makes the first text anew.
-    fn replace(&mut self, call: MakeText, tape: &mut Tape<'_>) -> Result<(), Stop> {
-        self.first = self.make(call, tape)?;
-        Ok(())
-    }
-
-    /// `mark_units`.
-    fn mark(&mut self, tape: &mut Tape<'_>) -> Result<(), Stop> {
-        self.first.mark_units(tape.alloc);
         Ok(())
     }
 
@@ -111,27 +92,32 @@ impl Texts {
     /// Runs a call that changes neither text, and writes what it returns.
     fn look(&self, call: ReadText, tape: &mut Tape<'_>) -> Result<(), Stop> {
         match call {
-            ReadText::Length => self.write_len(tape),
+            ReadText::Length => writeln!(tape, "length {}", self.first.unit_len()),
             ReadText::UnitAt => self.write_unit(tape),
             ReadText::Substring => self.write_substring(tape),
             ReadText::CharAt => self.write_char(tape),
             ReadText::StartsWith => self.write_start(tape),
             ReadText::Compare => self.write_order(tape),
             ReadText::CutEverywhere => self.write_whole_cuts(tape),
-            ReadText::IndexOf => write_index(tape, &self.first, &self.second),
+            ReadText::IndexOf => {
+                let from = tape.reader.number()?;
+                tape.write_found("index", index_of(&self.first, &self.second, from))
+            }
             ReadText::At => write_units_at(tape, &self.first),
-            ReadText::CodePointAt => write_point(tape, &self.first),
-            ReadText::IsWellFormed => write_well_formed(tape, &self.first),
+            ReadText::CodePointAt => {
+                let at = tape.reader.number()?;
+                tape.write_found("point", code_point_at(&self.first, at))
+            }
+            ReadText::IsWellFormed => {
+                writeln!(tape, "well formed {}", is_well_formed(&self.first))
+            }
             ReadText::Split => write_pieces(tape, &self.first),
-            ReadText::LastIndexOf => write_last_index(tape, &self.first, &self.second),
+            ReadText::LastIndexOf => {
+                let to = tape.reader.number()?;
+                tape.write_found("last index", last_index_of(&self.first, &self.second, to))
+            }
             ReadText::EndsWith => write_end(tape, &self.first, &self.second),
         }
-    }
-
-    /// Writes the number of units.
-    fn write_len(&self, tape: &mut Tape<'_>) -> Result<(), Stop> {
-        let len = self.first.unit_len();
-        writeln!(tape, "length {len}")
     }
 
     /// Writes the unit at an index, by `unit_at` and by `char_code_at`.

@@ -1,6 +1,7 @@
 // The steps of an iterator.
 ghost use Rattle.std.specs.Iterator.{IsFinite};
 
+use crate::opcodes::{CloneStep, Step};
 use crate::stop::{Stop, allocated};
 use crate::tape::{Shown, Tape};
 
@@ -8,7 +9,7 @@ use crate::tape::{Shown, Tape};
 const END: &str = "end";
 
 /// Runs the script's next steps on an iterator and writes what each returns, then the remaining items, and ends the
-/// line. Calls `next` after the end too. `Kind` in `compare/src/script.rs` lists the steps.
+/// line. Calls `next` after the end too.
 pub fn write_steps<T: Shown, I: Iterator<Item = T> + Clone>(
     tape: &mut Tape<'_>,
     mut items: I,
@@ -16,20 +17,51 @@ pub fn write_steps<T: Shown, I: Iterator<Item = T> + Clone>(
     requires { (state : I) → I.can_next state × IsFinite (I.remaining state) }
 {
     for step in tape.reader.bytes()? {
-        match *step {
-            0 => tape.write_item(items.next(), END)?,
-            1 => write_hint(tape, items.size_hint())?,
-            2 => drain(tape, allocated(items.clone())?)?,
-            3 => items = allocated(items.clone())?,
-            4 => tape.write_item(items.nth(1), END)?,
-            5 => tape.write_item(allocated(items.clone())?.last(), END)?,
-            6 => tape.write_item(allocated(items.clone())?.skip(2).next(), END)?,
-            7 => write_collected(tape, allocated(items.clone())?)?,
-            _ => return Err(Stop::Malformed),
-        }
+        write_step(Step::from_byte(*step), tape, &mut items)?;
     }
     drain(tape, items)?;
     tape.write_line("")
+}
+
+/// Runs a step on an iterator, and writes what it returns. `Malformed` without a step.
+fn write_step<T: Shown, I: Iterator<Item = T> + Clone>(
+    step: Option<Step>,
+    tape: &mut Tape<'_>,
+    items: &mut I,
+) -> Result<(), Stop>
+    requires { (state : I) → I.can_next state × IsFinite (I.remaining state) }
+{
+    match step {
+        Some(Step::Next) => tape.write_item(items.next(), END),
+        Some(Step::Nth) => tape.write_item(items.nth(1), END),
+        Some(Step::SizeHint) => write_hint(tape, items.size_hint()),
+        Some(Step::Replace) => replace_by_clone(items),
+        Some(Step::OnClone(step)) => write_step_of_clone(step, tape, items),
+        None => Err(Stop::Malformed),
+    }
+}
+
+/// Replaces an iterator by its clone.
+fn replace_by_clone<I: Clone + Drop>(items: &mut I) -> Result<(), Stop> {
+    *items = allocated(items.clone())?;
+    Ok(())
+}
+
+/// Runs a step on a clone of an iterator, and writes what it returns.
+fn write_step_of_clone<T: Shown, I: Iterator<Item = T> + Clone>(
+    step: CloneStep,
+    tape: &mut Tape<'_>,
+    items: &I,
+) -> Result<(), Stop>
+    requires { (state : I) → I.can_next state × IsFinite (I.remaining state) }
+{
+    let items = allocated(items.clone())?;
+    match step {
+        CloneStep::Drain => drain(tape, items),
+        CloneStep::Last => tape.write_item(items.last(), END),
+        CloneStep::Skip => tape.write_item(items.skip(2).next(), END),
+        CloneStep::Collect => write_collected(tape, items),
+    }
 }
 
 /// Collects the items, and writes their number and each item.
