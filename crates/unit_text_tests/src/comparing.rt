@@ -58,42 +58,67 @@ fn is_order_of(
         && (first == second) == order.is_eq()
 }
 
-/// Whether `is_order_of` is true of `first` and the text of `units`.
+/// Whether `is_order_of` is true of `first` and the text of `units`, which can be made.
 fn is_order_with(
     alloc: Global,
     first: &UnitText<Global>,
     units: &[u16],
     order: Ordering,
     view_order: Ordering,
-) -> Result<bool, AllocError> {
-    let second = UnitText::from_units(alloc, units)?;
-    Ok(is_order_of(first, &second, order, view_order))
-}
-
-#[test]
-fn units_are_compared(rt: HostRuntime) -> Result<(), AllocError> {
-    for (left, right, order, view_order) in compared() {
-        let first = UnitText::from_units(rt.alloc(), left)?;
-        assert!(rt; is_order_with(rt.alloc(), &first, right, order, view_order)?);
+) -> bool {
+    match UnitText::from_units(alloc, units) {
+        Ok(second) => is_order_of(first, &second, order, view_order),
+        Err(_) => false,
     }
-    Ok(())
 }
 
-/// Whether the text of `units` equals `text`.
-fn is_text_of(alloc: Global, text: &UnitText<Global>, units: &[u16]) -> Result<bool, AllocError> {
-    let other = UnitText::from_units(alloc, units)?;
-    Ok(*text == other)
+/// Whether the texts of two lists of units can be made, and are ordered as `is_order_of` says.
+fn are_ordered(
+    alloc: Global,
+    left: &[u16],
+    right: &[u16],
+    order: Ordering,
+    view_order: Ordering,
+) -> bool {
+    match UnitText::from_units(alloc, left) {
+        Ok(first) => is_order_with(alloc, &first, right, order, view_order),
+        Err(_) => false,
+    }
 }
 
 #[test]
-fn texts_are_equal_where_their_units_are(rt: HostRuntime) -> Result<(), AllocError> {
-    for (left, (units, _, _)) in joining().iter().enumerate() {
-        let text = UnitText::from_units(rt.alloc(), units)?;
-        for (right, (others, _, _)) in joining().iter().enumerate() {
-            assert_eq!(rt; is_text_of(rt.alloc(), &text, others)?, left == right);
+fn units_are_compared(rt: HostRuntime) {
+    for (left, right, order, view_order) in compared() {
+        assert!(rt; are_ordered(rt.alloc(), left, right, order, view_order));
+    }
+}
+
+/// Whether the text of `units` can be made, and equals `text` if `is_equal`, and only then.
+fn is_equal_to(alloc: Global, text: &UnitText<Global>, units: &[u16], is_equal: bool) -> bool {
+    match UnitText::from_units(alloc, units) {
+        Ok(other) => (*text == other) == is_equal,
+        Err(_) => false,
+    }
+}
+
+/// Whether the text of row `index` of `joining` can be made, and equals the text of that row alone.
+fn is_equal_once(alloc: Global, units: &[u16], index: usize) -> bool {
+    let Ok(text) = UnitText::from_units(alloc, units) else {
+        return false;
+    };
+    for (other, (others, _, _)) in joining().iter().enumerate() {
+        if !is_equal_to(alloc, &text, others, other == index) {
+            return false;
         }
     }
-    Ok(())
+    true
+}
+
+#[test]
+fn texts_are_equal_where_their_units_are(rt: HostRuntime) {
+    for (index, (units, _, _)) in joining().iter().enumerate() {
+        assert!(rt; is_equal_once(rt.alloc(), units, index));
+    }
 }
 
 /// A map from the texts of `joining` to their indexes.
@@ -105,22 +130,32 @@ fn indexes(alloc: Global) -> Result<HashMap<UnitText<Global>, usize>, AllocError
     Ok(indexes)
 }
 
-/// The index that the map has for the text of these units.
-fn index_of(
+/// Whether the map has `index` for the text of these units, which can be made.
+fn has_index(
     alloc: Global,
     indexes: &HashMap<UnitText<Global>, usize>,
     units: &[u16],
-) -> Result<Option<usize>, AllocError> {
-    let key = text_of_units(alloc, units)?;
-    Ok(indexes.get(&key).copied())
+    index: usize,
+) -> bool {
+    match text_of_units(alloc, units) {
+        Ok(key) => indexes.get(&key).copied() == Some(index),
+        Err(_) => false,
+    }
+}
+
+/// Whether the map has the text of each row of `joining`, and nothing else.
+fn has_indexes(alloc: Global, indexes: &HashMap<UnitText<Global>, usize>) -> bool {
+    for (index, (units, _, _)) in joining().iter().enumerate() {
+        if !has_index(alloc, indexes, units, index) {
+            return false;
+        }
+    }
+    indexes.len() == joining().len()
 }
 
 #[test]
 fn texts_are_found_in_a_map(rt: HostRuntime) -> Result<(), AllocError> {
     let indexes = indexes(rt.alloc())?;
-    assert_eq!(rt; indexes.len(), joining().len());
-    for (index, (units, _, _)) in joining().iter().enumerate() {
-        assert_eq!(rt; index_of(rt.alloc(), &indexes, units)?, Some(index));
-    }
+    assert!(rt; has_indexes(rt.alloc(), &indexes));
     Ok(())
 }

@@ -28,13 +28,11 @@ fn long() -> [usize; 4] {
 }
 
 /// A unit, and lengths in units at which a text of it has about 4,096 or 65,536 bytes.
-fn about_powers() -> [(u16, &'static [usize]); 3] {
-    [
-        (0x0061, &[4095, 4096, 4097, 65_535, 65_536, 65_537]),
-        (0x00E9, &[2047, 2048, 2049, 32_767, 32_768, 32_769]),
-        (0x3042, &[1365, 1366, 21_845, 21_846]),
-    ]
-}
+const ABOUT_POWERS: [(u16, &[usize]); 3] = [
+    (0x0061, &[4095, 4096, 4097, 65_535, 65_536, 65_537]),
+    (0x00E9, &[2047, 2048, 2049, 32_767, 32_768, 32_769]),
+    (0x3042, &[1365, 1366, 21_845, 21_846]),
+];
 
 /// The text of `length` units that repeat `kind`.
 fn text_of<'a>(
@@ -174,7 +172,7 @@ fn each_call_is_done_at_each_length(rt: HostRuntime) -> Result<(), Wrong> {
 
 #[test]
 fn each_call_is_done_about_powers_of_two(rt: HostRuntime) -> Result<(), Wrong> {
-    for (unit, lengths) in about_powers() {
+    for (unit, lengths) in ABOUT_POWERS {
         for length in lengths {
             expect_done(rt.alloc(), &[unit; 8], *length)?;
         }

@@ -3,7 +3,7 @@ use crate::shared::expect_units;
 use refusing::{REFUSALS, Refusal, Refusing};
 use std::alloc::{AllocError, Allocator, Global};
 use unit_text::UnitText;
-use wtf8_tests::wrong::{Wrong, made};
+use wtf8_tests::wrong::{Wrong, expect, made};
 
 type Lent<'a> = &'a Refusing<Global>;
 
@@ -177,25 +177,21 @@ fn requests() -> [([u16; 6], usize, u64); 5] {
     ]
 }
 
-/// The number of requests that `mark_units` makes for the text of `units`.
-fn requests_of_marks(heap: Lent<'_>, units: &[u16]) -> Result<u64, AllocError> {
+/// Fails unless `mark_units` makes this number of requests for the text of `units`.
+fn expect_requests(heap: Lent<'_>, units: &[u16], requests: u64) -> Result<(), Wrong> {
     heap.grant(u64::MAX);
-    let mut text = UnitText::from_units(heap, units)?;
+    let mut text = made(UnitText::from_units(heap, units))?;
     heap.grant(u64::MAX);
     text.mark_units(heap);
-    Ok(heap.requests())
+    expect(heap.requests() == requests, Wrong::Requests)
 }
 
 #[test]
-fn marks_ask_for_what_they_need(rt: HostRuntime) -> Result<(), AllocError> {
+fn marks_ask_for_what_they_need(rt: HostRuntime) -> Result<(), Wrong> {
     let heap = Refusing::new(rt.alloc(), u64::MAX);
     for (kind, length, requests) in requests() {
-        let units = units_of(rt.alloc(), &kind, 0, length)?;
-        assert_eq!(rt;
-            requests_of_marks(&heap, &units)?,
-            requests,
-            "{length} units"
-        );
+        let units = made(units_of(rt.alloc(), &kind, 0, length))?;
+        expect_requests(&heap, &units, requests)?;
     }
     Ok(())
 }

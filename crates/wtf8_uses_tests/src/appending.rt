@@ -30,7 +30,7 @@ fn a_pair_is_appended_by_its_halves(rt: HostRuntime) -> Result<(), Wrong> {
     expect_cut(rt.alloc(), text.as_wtf8(), "61 F0 9F 92 A9")
 }
 
-/// Appends a string to another. Fails unless the bytes are then those of `dump`.
+/// Appends a string to another. Fails unless it then has the bytes of `dump`.
 fn expect_appended(
     alloc: Global,
     string: &mut Wtf8Buf<Global>,

@@ -13,7 +13,7 @@ const PATH: [u16; 14] = [
 /// The bytes of `PATH` with `\` between its folder and its name.
 const JOINED: &str = "43 3A 5C 61 5C 62 ED B2 A9 2E 74 61 72 2E 67 7A";
 
-/// Fails unless a folder and a name have the bytes of those of `PATH`, the name has no folder, and both join to `JOINED`.
+/// Fails unless a folder and a name have the bytes that `PATH` has there, the name has no folder, and both join to `JOINED`.
 fn expect_parts(alloc: Global, folder: Wtf8<'_>, name: Wtf8<'_>) -> Result<(), Wrong> {
     expect_bytes(alloc, folder, "43 3A 5C 61")?;
     expect_bytes(alloc, name, "62 ED B2 A9 2E 74 61 72 2E 67 7A")?;
@@ -23,7 +23,7 @@ fn expect_parts(alloc: Global, folder: Wtf8<'_>, name: Wtf8<'_>) -> Result<(), W
     expect_made(alloc, file_names::join(alloc, folder, name), JOINED)
 }
 
-/// Fails unless the folder and the name of the path are those of `PATH`.
+/// Fails unless the path has the folder and the name of `PATH`.
 fn expect_folder_and_name(alloc: Global, path: Wtf8<'_>) -> Result<(), Wrong> {
     match file_names::folder_and_name(path) {
         Some((folder, name)) => expect_parts(alloc, folder, name),

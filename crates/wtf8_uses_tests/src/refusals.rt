@@ -6,7 +6,7 @@ use wtf8::{Build, CodePoint, Wtf8, Wtf8Buf};
 use wtf8_tests::wrong::{Wrong, expect, expect_bytes, made};
 use wtf8_uses::{appending, refusals};
 
-/// Pushes "a" and "b" by a list of calls. Fails unless the bytes are then those of `dump`.
+/// Pushes "a" and "b" by a list of calls. Fails unless the string then has the bytes of `dump`.
 fn expect_list(alloc: Global, string: &mut Wtf8Buf<Global>, dump: &str) -> Result<(), Wrong> {
     let calls = [Build::PushChar('a'), Build::PushStr("b")];
     made(refusals::push_list(string, &calls, 2))?;
