@@ -1,17 +1,17 @@
 // Truncation to every number of code units.
 use crate::callers::cut_at_units_and_joined;
-use crate::examples::{expect_dump, expect_units, joining};
+use crate::examples::{expect, expect_made, expect_units, joining};
 use crate::unit_lists::{lists, long_list};
 use refusing::{REFUSALS, Refusal, Refusing};
-use std::alloc::Global;
+use std::alloc::{AllocError, Allocator, Global};
 use std::test::Fail;
-use wtf8::{Build, Wtf8Buf};
+use wtf8::{Build, Wtf8, Wtf8Buf};
 
 type Lent<'a> = &'a Refusing<Global>;
 
 /// Truncates `text` to `n` code units by `apply` if `is_applied`, and returns whether the result is `Ok(is_within)`.
 /// Else truncates by `truncate_units` unless `text` has fewer units, and returns true.
-fn cut(text: &mut Wtf8Buf<Lent<'_>>, n: usize, is_applied: bool, is_within: bool) -> bool {
+fn cut<A: Allocator>(text: &mut Wtf8Buf<A>, n: usize, is_applied: bool, is_within: bool) -> bool {
     if is_applied {
         return text.apply(Build::TruncateUnits(n)) == Ok(is_within);
     }
@@ -25,72 +25,85 @@ fn cut(text: &mut Wtf8Buf<Lent<'_>>, n: usize, is_applied: bool, is_within: bool
 /// alone. Fails unless the result is right, without a request, and leaves the first `n` units, or all.
 fn expect_cut(
     alloc: Global,
+    heap: Lent<'_>,
     units: &[u16],
     n: usize,
     is_applied: bool,
     refusal: Refusal,
 ) -> Result<(), Fail> {
-    let heap = Refusing::new(alloc, 1_000);
-    let mut text = Wtf8Buf::from_ill_formed_utf16(&heap, units)?;
+    heap.grant(1_000);
+    let mut text = Wtf8Buf::from_ill_formed_utf16(heap, units)?;
     heap.refuse_after(0, refusal);
-    let is_answered = cut(&mut text, n, is_applied, n <= units.len());
-    if !is_answered || heap.requests() != 0 {
+    if !cut(&mut text, n, is_applied, n <= units.len()) || heap.requests() != 0 {
         return Err(Fail::new(format_args!("a cut at {n}")));
     }
     expect_units(alloc, text.as_wtf8(), &units[..n.min(units.len())])
 }
 
-/// Fails unless the string of `units`, truncated to `n` of them and joined with the rest, equals the whole.
-fn expect_whole(alloc: Global, units: &[u16], n: usize) -> Result<(), Fail> {
-    let whole = Wtf8Buf::from_ill_formed_utf16(alloc, units)?;
-    if n <= whole.as_wtf8().unit_len() {
-        let joined = cut_at_units_and_joined(alloc, whole.as_wtf8(), n)?;
-        if joined == whole {
-            return Ok(());
-        }
+/// Whether a string, truncated to `n` of its units and joined with the rest, equals the whole, or has fewer units.
+fn is_joined(alloc: Global, whole: Wtf8<'_>, n: usize) -> Result<bool, AllocError> {
+    if whole.unit_len() < n {
+        return Ok(true);
     }
-    Err(Fail::new(format_args!("not the whole, cut at {n}")))
+    Ok(cut_at_units_and_joined(alloc, whole, n)?.as_wtf8() == whole)
+}
+
+/// Whether the string of `units`, truncated to `n` of them and joined with the rest, equals the whole, or has fewer.
+fn is_whole(alloc: Global, units: &[u16], n: usize) -> Result<bool, AllocError> {
+    is_joined(
+        alloc,
+        Wtf8Buf::from_ill_formed_utf16(alloc, units)?.as_wtf8(),
+        n,
+    )
+}
+
+/// Fails unless truncation to `n` units is right, and the parts join to the whole.
+fn expect_cut_at(alloc: Global, heap: Lent<'_>, units: &[u16], n: usize) -> Result<(), Fail> {
+    for refusal in REFUSALS {
+        expect_cut(alloc, heap, units, n, true, refusal)?;
+        expect_cut(alloc, heap, units, n, false, refusal)?;
+    }
+    expect(
+        is_whole(alloc, units, n),
+        "the parts at a cut are not the whole",
+    )
 }
 
 /// Fails unless truncation to each number of units, up to two past the end, is right, and the parts join to the whole.
 fn cut_everywhere(alloc: Global, units: &[u16]) -> Result<(), Fail> {
+    let heap = Refusing::new(alloc, 0);
     for n in 0..units.len().saturating_add(3) {
-        for refusal in REFUSALS {
-            expect_cut(alloc, units, n, true, refusal)?;
-            expect_cut(alloc, units, n, false, refusal)?;
-        }
-        if n <= units.len() {
-            expect_whole(alloc, units, n)?;
-        }
+        expect_cut_at(alloc, &heap, units, n)?;
     }
     Ok(())
 }
 
 #[test]
 fn cuts_keep_the_first_units_without_memory(rt: HostRuntime) -> Result<(), Fail> {
+    let alloc = rt.alloc();
     for (units, _, dump) in joining() {
-        let text = Wtf8Buf::from_ill_formed_utf16(rt.alloc(), units)?;
-        expect_dump(rt.alloc(), text.as_wtf8(), dump)?;
-        cut_everywhere(rt.alloc(), units)?;
+        expect_made(alloc, Wtf8Buf::from_ill_formed_utf16(alloc, units), dump)?;
+        cut_everywhere(alloc, units)?;
     }
     for units in lists() {
-        cut_everywhere(rt.alloc(), units)?;
+        cut_everywhere(alloc, units)?;
     }
     Ok(())
 }
 
 #[test]
 fn cuts_are_right_about_the_blocks(rt: HostRuntime) -> Result<(), Fail> {
+    let alloc = rt.alloc();
     for letters in 20..36 {
-        let units = long_list(rt.alloc(), letters)?;
-        cut_everywhere(rt.alloc(), units.as_slice())?;
+        cut_everywhere(alloc, &long_list(alloc, letters)?)?;
     }
     Ok(())
 }
 
 #[test]
 fn refused_cuts_are_counted(rt: HostRuntime) -> Result<(), Fail> {
-    let mut text = Wtf8Buf::from_str(rt.alloc(), "a💩")?;
+    let alloc = rt.alloc();
+    let mut text = Wtf8Buf::from_str(alloc, "a💩")?;
     let calls = [
         Build::TruncateUnits(4),
         Build::TruncateUnits(2),
@@ -99,6 +112,6 @@ fn refused_cuts_are_counted(rt: HostRuntime) -> Result<(), Fail> {
         Build::PushStr("b"),
         Build::TruncateUnits(usize::MAX),
     ];
-    assert_eq!(rt; text.apply_all(&calls), Ok(4));
-    expect_units(rt.alloc(), text.as_wtf8(), &[0x61, 0xD83D, 0x62])
+    assert!(rt; text.apply_all(&calls) == Ok(4));
+    expect_units(alloc, text.as_wtf8(), &[0x61, 0xD83D, 0x62])
 }
