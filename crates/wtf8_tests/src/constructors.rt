@@ -133,18 +133,20 @@ fn clone_and_reserve(text: &Wtf8Buf<Global>) -> Result<Wtf8Buf<Global>, AllocErr
     Ok(copy)
 }
 
-/// Whether a clone equals `text`, and has 100 bytes to spare once they are reserved.
-fn is_copied(text: &Wtf8Buf<Global>) -> Result<bool, AllocError> {
+/// Fails unless a clone equals `text`, has its units `units`, and has 100 bytes to spare once they are reserved.
+fn expect_copied(alloc: Global, text: &Wtf8Buf<Global>, units: &[u16]) -> Result<(), Fail> {
     let copy = clone_and_reserve(text)?;
-    Ok(copy == *text && 100 <= copy.capacity() - copy.len())
+    if copy != *text || copy.capacity() - copy.len() < 100 {
+        return Err(Fail::new("a clone is not equal, or has no room"));
+    }
+    expect_units(alloc, copy.as_wtf8(), units)
 }
 
 /// Fails unless the string of `units` gives them back, and so does a clone of it with room for what is reserved.
 fn expect_kept(alloc: Global, units: &[u16]) -> Result<(), Fail> {
     let text = Wtf8Buf::from_ill_formed_utf16(alloc, units)?;
     expect_units(alloc, text.as_wtf8(), units)?;
-    expect_units(alloc, clone_and_reserve(&text)?.as_wtf8(), units)?;
-    expect(is_copied(&text), "a clone is not equal, or has no room")
+    expect_copied(alloc, &text, units)
 }
 
 /// Fails unless the list of kinds with this length and code comes back.

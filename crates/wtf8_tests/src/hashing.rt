@@ -52,12 +52,20 @@ fn strings() -> [(&'static [u32], &'static [u8]); 4] {
     ]
 }
 
+/// Fails unless the string of these code points, and its view, write `expected` to a hasher.
+fn expect_fed(alloc: Global, numbers: &[u32], expected: &[u8]) -> Result<(), Fail> {
+    let text = pushed(alloc, numbers)?;
+    if !is_fed(alloc, &text, expected) || !is_fed(alloc, &text.as_wtf8(), expected) {
+        return Err(Fail::new("another feed"));
+    }
+    Ok(())
+}
+
 #[test]
 fn a_hasher_is_fed_the_bytes_and_an_end(rt: HostRuntime) -> Result<(), Fail> {
     let alloc = rt.alloc();
     for (numbers, expected) in strings() {
-        let text = pushed(alloc, numbers)?;
-        assert!(rt; is_fed(alloc, &text, expected) && is_fed(alloc, &text.as_wtf8(), expected));
+        expect_fed(alloc, numbers, expected)?;
     }
     Ok(())
 }
@@ -91,17 +99,23 @@ fn is_letter(alloc: Global, text: &Wtf8Buf<Global>, is_before: bool) -> Result<b
     Ok(string == *text && *text == string && is_fed(alloc, &string, &[1, 0x61, 1, 0xFE]))
 }
 
+/// Whether "a", with a surrogate truncated before it or after it or without one, is one string to `==` and a hasher.
+fn are_letters(alloc: Global) -> Result<bool, AllocError> {
+    let text = Wtf8Buf::from_str(alloc, "a")?;
+    let is_same = is_fed(alloc, &text, &[1, 0x61, 1, 0xFE]);
+    Ok(is_same && is_letter(alloc, &text, true)? && is_letter(alloc, &text, false)?)
+}
+
+/// Whether "a" is the same with a surrogate truncated before it and with one truncated after it.
+fn are_same_letters(alloc: Global) -> Result<bool, AllocError> {
+    is_letter(alloc, &letter(alloc, true)?, false)
+}
+
 #[test]
 fn equal_strings_feed_the_same_whatever_was_truncated(rt: HostRuntime) -> Result<(), Fail> {
     let alloc = rt.alloc();
-    let text = Wtf8Buf::from_str(alloc, "a")?;
-    assert!(rt; is_fed(alloc, &text, &[1, 0x61, 1, 0xFE]));
-    expect(is_letter(alloc, &text, true), "truncated before the letter")?;
-    expect(is_letter(alloc, &text, false), "truncated after the letter")?;
-    expect(
-        is_letter(alloc, &letter(alloc, true)?, false),
-        "truncated before and after",
-    )
+    expect(are_letters(alloc), "not the same with a surrogate truncated as without")?;
+    expect(are_same_letters(alloc), "not the same before and after")
 }
 
 /// Whether a code point feeds the five bytes that its number feeds.

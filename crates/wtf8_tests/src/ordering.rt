@@ -35,12 +35,16 @@ fn row(index: usize) -> &'static [u16] {
     table()[index.wrapping_mul(5) % ROWS]
 }
 
+/// Whether `last` is before `pair` in the order of code points, and after it in that of code units.
+fn is_before(last: Wtf8<'_>, pair: Wtf8<'_>) -> bool {
+    last < pair
+        && pair.partial_cmp(&last) == Some(Ordering::Greater)
+        && pair.cmp_units(&last) == Ordering::Less
+}
+
 #[test]
 fn the_order_of_code_points_is_not_that_of_units(rt: HostRuntime) {
-    let pair = Wtf8::from_str("\u{10000}");
-    let last = Wtf8::from_str("\u{FFFF}");
-    assert!(rt; last < pair && pair.partial_cmp(&last) == Some(Ordering::Greater));
-    assert!(rt; pair.cmp_units(&last) == Ordering::Less);
+    assert!(rt; is_before(Wtf8::from_str("\u{FFFF}"), Wtf8::from_str("\u{10000}")));
     let (first, second) = (CodePoint::from_char('a'), CodePoint::from_char('b'));
     assert!(rt; first < second && first != second);
 }

@@ -9,6 +9,12 @@ fn is_number(number: u32) -> bool {
     }
 }
 
+/// Whether code points made with no check have their numbers.
+fn are_unchecked_kept() -> bool {
+    CodePoint::from_u32_unchecked(0x1F4A9).to_u32() == 0x1F4A9
+        && CodePoint::from_u32_unchecked(0x10FFFF).to_u32() == 0x10FFFF
+}
+
 #[test]
 fn a_code_point_is_a_number_up_to_10ffff(rt: HostRuntime) {
     for number in [0, 0x61, 0xD800, 0xDFFF, 0xFFFF, 0x10000, 0x10FFFF] {
@@ -17,8 +23,7 @@ fn a_code_point_is_a_number_up_to_10ffff(rt: HostRuntime) {
     for number in [0x110000, 0x7FFFFFFF, 0xFFFFFFFF] {
         assert!(rt; CodePoint::from_u32(number).is_none(), "{number}");
     }
-    assert!(rt; CodePoint::from_u32_unchecked(0x1F4A9).to_u32() == 0x1F4A9);
-    assert!(rt; CodePoint::from_u32_unchecked(0x10FFFF).to_u32() == 0x10FFFF);
+    assert!(rt; are_unchecked_kept());
 }
 
 /// Code points and their characters.

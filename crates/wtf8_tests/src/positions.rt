@@ -98,15 +98,19 @@ fn code_points_begin_at_the_boundaries(rt: HostRuntime) -> Result<(), Fail> {
     Ok(())
 }
 
+/// Whether the boundaries in `TEXT`, and in shorter texts, are where their code points start and end.
+fn are_text_sums(alloc: Global) -> Result<bool, AllocError> {
+    let (_, numbers, _) = TEXT_ROW;
+    let sums = sums_of(alloc, numbers)?;
+    Ok(sums.as_slice() == [0, 1, 3, 4, 8].as_slice()
+        && has_boundaries(Wtf8::from_str(TEXT), &sums)
+        && has_boundaries(Wtf8::from_str("aé"), &[0, 1, 3])
+        && has_boundaries(Wtf8::from_str(""), &[0]))
+}
+
 #[test]
 fn code_points_of_a_text_begin_at_the_boundaries(rt: HostRuntime) -> Result<(), Fail> {
-    let (_, numbers, _) = TEXT_ROW;
-    let sums = sums_of(rt.alloc(), numbers)?;
-    assert!(rt; sums.as_slice() == [0, 1, 3, 4, 8].as_slice());
-    assert!(rt; has_boundaries(Wtf8::from_str(TEXT), &sums));
-    assert!(rt; has_boundaries(Wtf8::from_str("aé"), &[0, 1, 3]));
-    assert!(rt; has_boundaries(Wtf8::from_str(""), &[0]));
-    Ok(())
+    expect(are_text_sums(rt.alloc()), "other boundaries")
 }
 
 #[test]
@@ -289,16 +293,26 @@ fn shows(text: Wtf8<'_>, shown: &[u8]) -> bool {
     ascii_at(text, shown.len()) == None
 }
 
+/// Whether `TEXT` and the empty text show their bytes of ASCII.
+fn shows_texts() -> bool {
+    let text = Wtf8::from_str(TEXT);
+    let empty = Wtf8::from_str("");
+    shows(text, &[0x61, 0xFF, 0xFF, 0x20, 0xFF, 0xFF, 0xFF, 0xFF])
+        && text.len() == 8
+        && empty.len() == 0
+}
+
+/// Whether code points at the limits of ASCII, and a surrogate, show their bytes of ASCII.
+fn shows_edges(alloc: Global) -> Result<bool, AllocError> {
+    let edges = joined(alloc, &[0, 0x7F, 0x80, 0xD800])?;
+    let shown = [0, 0x7F, 0xFF, 0xFF, 0xFF, 0xFF, 0xFF];
+    Ok(shows(edges.as_wtf8(), &shown))
+}
+
 #[test]
 fn bytes_of_ascii_are_shown(rt: HostRuntime) -> Result<(), Fail> {
-    let text = Wtf8::from_str(TEXT);
-    assert!(rt; shows(text, &[0x61, 0xFF, 0xFF, 0x20, 0xFF, 0xFF, 0xFF, 0xFF]));
-    assert!(rt; text.len() == 8);
-    assert!(rt; Wtf8::from_str("").len() == 0);
-    let edges = pushed(rt.alloc(), &[0, 0x7F, 0x80, 0xD800])?;
-    let shown = [0, 0x7F, 0xFF, 0xFF, 0xFF, 0xFF, 0xFF];
-    assert!(rt; shows(edges.as_wtf8(), &shown));
-    Ok(())
+    assert!(rt; shows_texts());
+    expect(shows_edges(rt.alloc()), "other bytes")
 }
 
 /// The slice from byte position 1 to 4, and the slice from 1 to the end, if these are boundaries.
@@ -308,21 +322,30 @@ fn slices(text: &Wtf8Buf<Global>) -> Option<(Wtf8<'_>, Wtf8<'_>)> {
     Some((cut_to(back, 3)?, back))
 }
 
+/// Whether an iterator that outlives the view yields the units D83D and 62.
+fn yields(text: Wtf8<'_>) -> bool {
+    let mut units = {
+        let view = text;
+        view.to_ill_formed_utf16()
+    };
+    units.next() == Some(0xD83D) && units.next() == Some(0x62) && units.next().is_none()
+}
+
+/// Fails unless the two slices have their bytes, and the second one its units.
+fn expect_outlived(alloc: Global, middle: Wtf8<'_>, back: Wtf8<'_>) -> Result<(), Fail> {
+    expect_dump(alloc, middle, "ED A0 BD")?;
+    if !yields(back) {
+        return Err(Fail::new("other units"));
+    }
+    expect_dump(alloc, back, "ED A0 BD 62")
+}
+
 #[test]
 fn a_slice_outlives_its_view(rt: HostRuntime) -> Result<(), Fail> {
     let alloc = rt.alloc();
-    let text = pushed(alloc, &[0x61, 0xD83D, 0x62])?;
-    let Some((middle, back)) = slices(&text) else {
-        return Err(Fail::new("no boundaries"));
-    };
-    expect_dump(alloc, middle, "ED A0 BD")?;
-    expect_dump(alloc, back, "ED A0 BD 62")?;
-    let mut units = {
-        let view = back;
-        view.to_ill_formed_utf16()
-    };
-    for unit in [Some(0xD83D), Some(0x62), None] {
-        assert!(rt; units.next() == unit);
+    let text = joined(alloc, &[0x61, 0xD83D, 0x62])?;
+    match slices(&text) {
+        Some((middle, back)) => expect_outlived(alloc, middle, back),
+        None => Err(Fail::new("no boundaries")),
     }
-    Ok(())
 }

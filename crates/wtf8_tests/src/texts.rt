@@ -24,12 +24,19 @@ fn expect_text(made: Result<Wtf8Buf<Global>, AllocError>, text: &str) -> Result<
     Ok(())
 }
 
+/// Fails unless a view of `text`, and a copy of it, convert to it.
+fn expect_copied(alloc: Global, text: &str) -> Result<(), Fail> {
+    if Wtf8::from_str(text).as_str() != Some(text) {
+        return Err(Fail::new(text));
+    }
+    expect_text(Wtf8Buf::from_str(alloc, text), text)
+}
+
 #[test]
 fn a_string_without_surrogates_is_a_text(rt: HostRuntime) -> Result<(), Fail> {
     let alloc = rt.alloc();
     for text in ["", "a", TEXT, "\u{D55C}", "\u{D7FF}\u{E000}", "\u{10FFFF}"] {
-        assert!(rt; Wtf8::from_str(text).as_str() == Some(text));
-        expect_text(Wtf8Buf::from_str(alloc, text), text)?;
+        expect_copied(alloc, text)?;
     }
     expect_text(joined(alloc, &[0xD83D, 0xDCA9]), "💩")
 }

@@ -21,6 +21,19 @@ fn cut<A: Allocator>(text: &mut Wtf8Buf<A>, n: usize, is_applied: bool, is_withi
     true
 }
 
+/// Whether truncation with every request refused, or the first alone, has the right result and makes no request.
+fn is_cut(
+    heap: Lent<'_>,
+    text: &mut Wtf8Buf<Lent<'_>>,
+    n: usize,
+    is_applied: bool,
+    is_within: bool,
+    refusal: Refusal,
+) -> bool {
+    heap.refuse_after(0, refusal);
+    cut(text, n, is_applied, is_within) && heap.requests() == 0
+}
+
 /// Truncates the string of `units` to `n`, by `apply` or `truncate_units`, with every request refused or the first
 /// alone. Fails unless the result is right, without a request, and leaves the first `n` units, or all.
 fn expect_cut(
@@ -33,9 +46,8 @@ fn expect_cut(
 ) -> Result<(), Fail> {
     heap.grant(1_000);
     let mut text = Wtf8Buf::from_ill_formed_utf16(heap, units)?;
-    heap.refuse_after(0, refusal);
-    if !cut(&mut text, n, is_applied, n <= units.len()) || heap.requests() != 0 {
-        return Err(Fail::new(format_args!("a cut at {n}")));
+    if !is_cut(heap, &mut text, n, is_applied, n <= units.len(), refusal) {
+        return Err(Fail::new("another result, or a request"));
     }
     expect_units(alloc, text.as_wtf8(), &units[..n.min(units.len())])
 }
