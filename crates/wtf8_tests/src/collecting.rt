@@ -76,10 +76,11 @@ fn of_arrays(
 fn arrays_are_taken(rt: HostRuntime) -> Result<(), Fail> {
     let alloc = rt.alloc();
     let [a, b, e, pile] = ['a', 'b', 'é', '💩'].map(CodePoint::from_char);
-    let [lead, trail, space] = [0xD83D, 0xDCA9, 0x20].map(point_of_unit);
-    let text = of_arrays(alloc, [a, lead], [trail, b]);
+    let pair = [point_of_unit(0xD83D), point_of_unit(0xDCA9)];
+    let text = of_arrays(alloc, [a, pair[0]], [pair[1], b]);
     expect_made(alloc, text, "61 F0 9F 92 A9 62")?;
-    expect_made(alloc, of_arrays(alloc, [a, e], [space, pile]), TEXT_DUMP)
+    let end = [point_of_unit(0x20), pile];
+    expect_made(alloc, of_arrays(alloc, [a, e], end), TEXT_DUMP)
 }
 
 #[test]

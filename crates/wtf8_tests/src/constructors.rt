@@ -12,16 +12,19 @@ fn converted(alloc: Global, text: &str) -> Result<Wtf8Buf<Global>, AllocError> {
     Ok(Wtf8Buf::from_string(String::from_str(alloc, text)?))
 }
 
+/// Fails unless a view of `text`, a copy, and a string converted from a `String` have the bytes of `dump`.
+fn expect_text(alloc: Global, text: &str, dump: &str) -> Result<(), Fail> {
+    expect_dump(alloc, Wtf8::from_str(text), dump)?;
+    expect_made(alloc, Wtf8Buf::from_str(alloc, text), dump)?;
+    expect_made(alloc, converted(alloc, text), dump)
+}
+
 #[test]
 fn texts_keep_their_bytes(rt: HostRuntime) -> Result<(), Fail> {
     let alloc = rt.alloc();
     expect_made(alloc, Ok(Wtf8Buf::new(alloc)), "")?;
-    for (text, dump) in [("", ""), (TEXT, TEXT_DUMP)] {
-        expect_dump(alloc, Wtf8::from_str(text), dump)?;
-        expect_made(alloc, Wtf8Buf::from_str(alloc, text), dump)?;
-        expect_made(alloc, converted(alloc, text), dump)?;
-    }
-    Ok(())
+    expect_text(alloc, "", "")?;
+    expect_text(alloc, TEXT, TEXT_DUMP)
 }
 
 #[test]

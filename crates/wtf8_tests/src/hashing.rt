@@ -114,7 +114,10 @@ fn are_same_letters(alloc: Global) -> Result<bool, AllocError> {
 #[test]
 fn equal_strings_feed_the_same_whatever_was_truncated(rt: HostRuntime) -> Result<(), Fail> {
     let alloc = rt.alloc();
-    expect(are_letters(alloc), "not the same with a surrogate truncated as without")?;
+    expect(
+        are_letters(alloc),
+        "not the same with a surrogate truncated as without",
+    )?;
     expect(are_same_letters(alloc), "not the same before and after")
 }
 

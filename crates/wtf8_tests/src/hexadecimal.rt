@@ -9,7 +9,7 @@ const TEXT: &str = "The quick brown fox jumps over the lazy dog: 0123456789 @[]^
 const DUMP: &str =
     "54 68 65 20 71 75 69 63 6B 20 62 72 6F 77 6E 20 66 6F 78 20 6A 75 6D 70 73 20 6F 76 65 72 20 74 68 65 20 6C 61 7A 79 20 64 6F 67 3A 20 30 31 32 33 34 35 36 37 38 39 20 40 5B 5D 5E 5F 7B 7C 7D 7E";
 
-/// Whether the dump of `text` is as much of `DUMP` as its bytes take.
+/// Whether the dump of `text`, a front of `TEXT`, is the front of `DUMP` with three characters a byte.
 fn is_front(alloc: Global, text: &str) -> Result<bool, AllocError> {
     let dump = Wtf8::from_str(text).hex_dump(alloc)?;
     let length = text.len().saturating_mul(3).saturating_sub(1);

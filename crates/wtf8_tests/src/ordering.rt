@@ -63,7 +63,7 @@ fn is_string(alloc: Global, string: &Wtf8Buf<Global>, units: &[u16]) -> Result<b
     Ok(joined(alloc, units)? == *string)
 }
 
-/// Whether the strings of the shuffled table, sorted, are those of the table.
+/// Whether the strings of the shuffled table, sorted, are in the order of the table.
 fn are_sorted(alloc: Global) -> Result<bool, AllocError> {
     let mut strings = shuffled(alloc)?;
     strings.sort()?;

@@ -41,7 +41,7 @@ fn characters() -> [(u32, Option<char>); 9] {
     ]
 }
 
-/// Whether the code point of a number has this character, or U+FFFD in its place if it has none.
+/// Whether the code point of a number has this character, or is U+FFFD in lossy text if it has none.
 fn has_character(number: u32, character: Option<char>) -> bool {
     let lossy = character.unwrap_or('\u{FFFD}');
     match CodePoint::from_u32(number) {

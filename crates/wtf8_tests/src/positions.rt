@@ -102,10 +102,12 @@ fn code_points_begin_at_the_boundaries(rt: HostRuntime) -> Result<(), Fail> {
 fn are_text_sums(alloc: Global) -> Result<bool, AllocError> {
     let (_, numbers, _) = TEXT_ROW;
     let sums = sums_of(alloc, numbers)?;
-    Ok(sums.as_slice() == [0, 1, 3, 4, 8].as_slice()
-        && has_boundaries(Wtf8::from_str(TEXT), &sums)
-        && has_boundaries(Wtf8::from_str("aé"), &[0, 1, 3])
-        && has_boundaries(Wtf8::from_str(""), &[0]))
+    Ok(
+        sums.as_slice() == [0, 1, 3, 4, 8].as_slice()
+            && has_boundaries(Wtf8::from_str(TEXT), &sums)
+            && has_boundaries(Wtf8::from_str("aé"), &[0, 1, 3])
+            && has_boundaries(Wtf8::from_str(""), &[0]),
+    )
 }
 
 #[test]

@@ -125,7 +125,7 @@ fn has_length(text: &Wtf8Buf<Global>, length: usize) -> bool {
     view.len() == length && text.len() == length && !text.is_empty() && !view.is_empty()
 }
 
-/// Fails unless the string of `front`, with a view of that of `back` appended, has `length` bytes, those of `dump`.
+/// Fails unless the string of `front`, with a view of the string of `back` appended, has the `length` bytes of `dump`.
 fn expect_glued(
     alloc: Global,
     front: &[u16],

@@ -67,29 +67,26 @@ fn no_texts() -> [(&'static [u32], &'static str); 6] {
     ]
 }
 
-/// Fails unless the conversion to a text gives back a string that equals `copy` and has the bytes of `dump`.
-fn expect_back(
-    alloc: Global,
-    string: Wtf8Buf<Global>,
+/// Whether a string was made, and the conversion to a text gives back a string that equals `copy`.
+fn is_given_back(
+    made: Result<Wtf8Buf<Global>, AllocError>,
     copy: &Wtf8Buf<Global>,
-    dump: &str,
-) -> Result<(), Fail> {
-    let Err(back) = string.into_string() else {
-        return Err(Fail::new("a surrogate is no text"));
-    };
-    if back != *copy {
-        return Err(Fail::new(dump));
+) -> Result<bool, AllocError> {
+    match made?.into_string() {
+        Ok(_) => Ok(false),
+        Err(back) => Ok(back == *copy),
     }
-    expect_dump(alloc, back.as_wtf8(), dump)
 }
 
-/// Fails unless the string of these code points is no text, and the conversion to one gives it back.
+/// Fails unless the string of these code points has the bytes of `dump` and is no text, and the conversion to one gives
+/// it back.
 fn expect_no_text(alloc: Global, numbers: &[u32], dump: &str) -> Result<(), Fail> {
     let string = pushed(alloc, numbers)?;
     if string.as_wtf8().as_str().is_some() {
         return Err(Fail::new(dump));
     }
-    expect_back(alloc, string.clone()?, &string, dump)
+    expect(is_given_back(string.clone(), &string), dump)?;
+    expect_dump(alloc, string.as_wtf8(), dump)
 }
 
 #[test]
@@ -125,14 +122,16 @@ fn is_lossy(
     Ok(matches!(lossy, CowStr::Borrowed(_)) == is_borrowed && lossy.as_str() == text)
 }
 
+/// Whether the owned lossy text of a string is `text`.
+fn is_lossy_owned(string: Wtf8Buf<Global>, text: &str) -> bool {
+    string.into_string_lossy().as_str() == text
+}
+
 /// Fails unless both lossy conversions of a string give `text`, that of its view borrowed if `is_borrowed`.
 fn expect_lossy(alloc: Global, numbers: &[u32], text: &str, is_borrowed: bool) -> Result<(), Fail> {
     let string = pushed(alloc, numbers)?;
     expect(is_lossy(alloc, string.as_wtf8(), text, is_borrowed), text)?;
-    if string.into_string_lossy().as_str() != text {
-        return Err(Fail::new(text));
-    }
-    Ok(())
+    expect(Ok(is_lossy_owned(string, text)), text)
 }
 
 #[test]

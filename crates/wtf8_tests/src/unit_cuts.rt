@@ -47,21 +47,25 @@ fn expect_cut(
     heap.grant(1_000);
     let mut text = Wtf8Buf::from_ill_formed_utf16(heap, units)?;
     if !is_cut(heap, &mut text, n, is_applied, n <= units.len(), refusal) {
-        return Err(Fail::new("another result, or a request"));
+        return Err(Fail::new(format_args!("another result, or a request, at {n}")));
     }
     expect_units(alloc, text.as_wtf8(), &units[..n.min(units.len())])
 }
 
-/// Whether a string, truncated to `n` of its units and joined with the rest, equals the whole, or has fewer units.
+/// Whether a string has at least `n` units, and truncated to them and joined with the rest equals the whole.
 fn is_joined(alloc: Global, whole: Wtf8<'_>, n: usize) -> Result<bool, AllocError> {
     if whole.unit_len() < n {
-        return Ok(true);
+        return Ok(false);
     }
     Ok(cut_at_units_and_joined(alloc, whole, n)?.as_wtf8() == whole)
 }
 
-/// Whether the string of `units`, truncated to `n` of them and joined with the rest, equals the whole, or has fewer.
+/// Whether the string of `units`, truncated to `n` of them and joined with the rest, equals the whole, or there are
+/// fewer units.
 fn is_whole(alloc: Global, units: &[u16], n: usize) -> Result<bool, AllocError> {
+    if units.len() < n {
+        return Ok(true);
+    }
     is_joined(
         alloc,
         Wtf8Buf::from_ill_formed_utf16(alloc, units)?.as_wtf8(),
@@ -75,10 +79,7 @@ fn expect_cut_at(alloc: Global, heap: Lent<'_>, units: &[u16], n: usize) -> Resu
         expect_cut(alloc, heap, units, n, true, refusal)?;
         expect_cut(alloc, heap, units, n, false, refusal)?;
     }
-    expect(
-        is_whole(alloc, units, n),
-        "the parts at a cut are not the whole",
-    )
+    expect(is_whole(alloc, units, n), "the parts are not the whole")
 }
 
 /// Fails unless truncation to each number of units, up to two past the end, is right, and the parts join to the whole.

@@ -6,26 +6,25 @@ use std::alloc::Global;
 use std::test::Fail;
 use wtf8::{Wtf8, Wtf8Buf};
 
+/// Whether `ascii_unit_at` returns `unit`, if `text` is all ASCII and has a unit with the index `n`.
+fn is_ascii_unit(text: Wtf8<'_>, n: usize, unit: u16) -> bool {
+    if text.len() == text.unit_len() && n < text.len() {
+        return text.ascii_unit_at(n) == unit;
+    }
+    true
+}
+
 /// Whether `unit_at`, `ascii_unit_at` and `unit_len` agree with `units`.
 fn has_units(text: Wtf8<'_>, units: &[u16]) -> bool {
     for n in 0..units.len().saturating_add(3) {
         if text.unit_at(n) != units.get(n).copied() {
             return false;
         }
-        if n < units.len() && ascii_unit(text, n).is_some_and(|unit| unit != units[n]) {
+        if n < units.len() && !is_ascii_unit(text, n, units[n]) {
             return false;
         }
     }
     text.unit_len() == units.len()
-}
-
-/// The result of `ascii_unit_at`, or `None` if `text` is not all ASCII or has no unit `n`.
-fn ascii_unit(text: Wtf8<'_>, n: usize) -> Option<u16> {
-    if text.len() == text.unit_len() && n < text.len() {
-        Some(text.ascii_unit_at(n))
-    } else {
-        None
-    }
 }
 
 /// Fails unless `begin..end` is a range of units of the text, and its slice has the units `units[begin..end]`.
