@@ -10,84 +10,60 @@ use wtf8_tests::examples::{TEXT, expect_dump, joined, point_of_unit};
 /// its requests, if all are granted; and for each request the bytes after the call if that is the first one refused.
 type Row<'a> = (Build<'a>, &'static str, usize, &'static [&'static str]);
 
-/// A growth is to twice the capacity or to what is needed, whichever is more, so the table tells each request. `trails`
-/// has the units DCA9, DCA9 and 62.
-fn rows<'a>(trails: Wtf8<'a>, joining: &'a [CodePoint], three: &'a [CodePoint]) -> [Row<'a>; 17] {
+/// Calls that make one request: to twice the capacity or to what is needed, whichever is more. Each has the bytes after
+/// it, and the number of bytes in its request. `trails` has the units DCA9, DCA9 and 62.
+fn one_request<'a>(
+    trails: Wtf8<'a>,
+    joining: &'a [CodePoint; 2],
+) -> [(Build<'a>, &'static str, usize); 13] {
+    let [a, e, hiragana, pile] = ['a', 'é', 'あ', '💩'].map(CodePoint::from_char);
     [
-        (
-            Build::Push(point_of_unit(0x0061)),
-            "61 ED A0 BD 61",
-            8,
-            &[FULL],
-        ),
-        (
-            Build::Push(point_of_unit(0xDCA9)),
-            "61 F0 9F 92 A9",
-            8,
-            &[FULL],
-        ),
+        (Build::Push(point_of_unit(0x0061)), "61 ED A0 BD 61", 8),
+        (Build::Push(joining[0]), "61 F0 9F 92 A9", 8),
         (
             Build::Push(point_of_unit(0xD83D)),
             "61 ED A0 BD ED A0 BD",
             8,
-            &[FULL],
         ),
-        (
-            Build::Push(CodePoint::from_char('a')),
-            "61 ED A0 BD 61",
-            8,
-            &[FULL],
-        ),
-        (
-            Build::Push(CodePoint::from_char('é')),
-            "61 ED A0 BD C3 A9",
-            8,
-            &[FULL],
-        ),
-        (
-            Build::Push(CodePoint::from_char('あ')),
-            "61 ED A0 BD E3 81 82",
-            8,
-            &[FULL],
-        ),
-        (
-            Build::Push(CodePoint::from_char('💩')),
-            "61 ED A0 BD F0 9F 92 A9",
-            8,
-            &[FULL],
-        ),
-        (Build::PushChar('💩'), "61 ED A0 BD F0 9F 92 A9", 8, &[FULL]),
+        (Build::Push(a), "61 ED A0 BD 61", 8),
+        (Build::Push(e), "61 ED A0 BD C3 A9", 8),
+        (Build::Push(hiragana), "61 ED A0 BD E3 81 82", 8),
+        (Build::Push(pile), "61 ED A0 BD F0 9F 92 A9", 8),
+        (Build::PushChar('💩'), "61 ED A0 BD F0 9F 92 A9", 8),
         (
             Build::PushStr(TEXT),
             "61 ED A0 BD 61 C3 A9 20 F0 9F 92 A9",
             12,
-            &[FULL],
         ),
-        (Build::PushStr(""), FULL, 0, &[]),
         (
             Build::PushWtf8(Wtf8::from_str("ab")),
             "61 ED A0 BD 61 62",
             8,
-            &[FULL],
         ),
-        (
-            Build::PushWtf8(trails),
-            "61 F0 9F 92 A9 ED B2 A9 62",
-            9,
-            &[FULL],
-        ),
-        (Build::PushWtf8(Wtf8::from_str("")), FULL, 0, &[]),
-        (Build::Extend(joining), "61 F0 9F 92 A9 62", 8, &[FULL]),
-        // Reserving three bytes grows the capacity to eight, which fits the first code point but not the second.
-        (
-            Build::Extend(three),
-            "61 ED A0 BD E0 A0 80 E0 A0 80 E0 A0 80",
-            24,
-            &[FULL, "61 ED A0 BD E0 A0 80"],
-        ),
-        (Build::Reserve(1000), FULL, 1004, &[FULL]),
-        (Build::Reserve(0), FULL, 0, &[]),
+        (Build::PushWtf8(trails), "61 F0 9F 92 A9 ED B2 A9 62", 9),
+        (Build::Extend(joining), "61 F0 9F 92 A9 62", 8),
+        (Build::Reserve(1000), FULL, 1004),
     ]
+}
+
+/// Calls that make no request, and leave the string unchanged.
+fn no_request() -> [Build<'static>; 3] {
+    [
+        Build::PushStr(""),
+        Build::PushWtf8(Wtf8::from_str("")),
+        Build::Reserve(0),
+    ]
+}
+
+/// An extension by three code points of three bytes. Reserving three bytes grows the capacity to eight, which fits the
+/// first code point but not the second.
+fn two_requests(points: &[CodePoint; 3]) -> Row<'_> {
+    (
+        Build::Extend(points),
+        "61 ED A0 BD E0 A0 80 E0 A0 80 E0 A0 80",
+        24,
+        &[FULL, "61 ED A0 BD E0 A0 80"],
+    )
 }
 
 /// Fails unless a trail surrogate is refused, and the string of "a" and D83D is unchanged, also after an empty text.
@@ -170,7 +146,7 @@ fn expect_kept(
 
 /// Fails unless the row's call makes its requests if all are granted and `refusal` is `None`, or ends at each of them
 /// that is refused.
-fn expect_row(
+fn expect_call(
     alloc: Global,
     heap: Lent<'_>,
     row: Row<'_>,
@@ -183,7 +159,18 @@ fn expect_row(
     }
 }
 
-/// Fails unless each row's call, by name and through `apply`, is as `expect_row` says.
+/// Fails unless the row's call, by name and through `apply`, is as `expect_call` says.
+fn expect_row(
+    alloc: Global,
+    heap: Lent<'_>,
+    row: Row<'_>,
+    refusal: Option<Refusal>,
+) -> Result<(), Fail> {
+    expect_call(alloc, heap, row, false, refusal)?;
+    expect_call(alloc, heap, row, true, refusal)
+}
+
+/// Fails unless each call, by name and through `apply`, is as `expect_call` says.
 fn expect_rows(
     alloc: Global,
     heap: Lent<'_>,
@@ -191,15 +178,17 @@ fn expect_rows(
     refusal: Option<Refusal>,
 ) -> Result<(), Fail> {
     let joining = [point_of_unit(0xDCA9), point_of_unit(0x62)];
-    let three = [point_of_unit(0x0800); 3];
-    for row in rows(trails, &joining, &three) {
-        expect_row(alloc, heap, row, false, refusal)?;
-        expect_row(alloc, heap, row, true, refusal)?;
+    for (call, granted, asked) in one_request(trails, &joining) {
+        expect_row(alloc, heap, (call, granted, asked, &[FULL]), refusal)?;
     }
-    Ok(())
+    for call in no_request() {
+        expect_row(alloc, heap, (call, FULL, 0, &[]), refusal)?;
+    }
+    let points = [point_of_unit(0x0800); 3];
+    expect_row(alloc, heap, two_requests(&points), refusal)
 }
 
-/// Fails unless each row's call, by name and through `apply`, is as `expect_row` says.
+/// Fails unless each call, by name and through `apply`, is as `expect_call` says.
 fn expect_table(alloc: Global, refusal: Option<Refusal>) -> Result<(), Fail> {
     let trails = joined(alloc, &[0xDCA9, 0xDCA9, 0x62])?;
     let heap = Refusing::new(alloc, 0);

@@ -44,7 +44,7 @@ fn truncate<A: Allocator>(text: &mut Wtf8Buf<A>, position: usize) {
     }
 }
 
-/// Truncates to `n` code units, if the string has as many.
+/// Truncates to `n` code units, if the string has at least `n`.
 fn truncate_units<A: Allocator>(text: &mut Wtf8Buf<A>, n: usize) {
     if n <= text.as_wtf8().unit_len() {
         text.truncate_units(n);
