@@ -1,13 +1,14 @@
 // Calls that make no request for memory, not even one whose refusal they ignore: of nine requests granted before them
 // all are left after them. The calls also succeed if every request is refused.
+use crate::shared::{Lent, Step, expect_step};
 use refusing::Refusing;
 use std::alloc::{AllocError, Allocator, Global};
 use std::borrow::CowStr;
 use std::test::Fail;
 use wtf8::{Build, CodePoint, Wtf8, Wtf8Buf};
-use wtf8_tests::examples::{TEXT, TEXT_DUMP, expect_dump, point_of_unit, pushed};
-
-type Lent<'a> = &'a Refusing<Global>;
+use wtf8_tests::examples::{
+    TEXT, TEXT_DUMP, expect, expect_dump, expect_made, point_of_unit, pushed,
+};
 
 const LEAD: u16 = 0xD83D;
 
@@ -16,8 +17,9 @@ const TRAIL: u16 = 0xDCA9;
 /// The numbers of requests granted: none, or nine.
 const GRANTS: [u64; 2] = [0, 9];
 
-/// Fails unless `grants` requests are still granted, so that none was made.
-fn expect_left(heap: Lent<'_>, grants: u64) -> Result<(), Fail> {
+/// Fails if `outcome` did, or unless `grants` requests are still granted, so that none was made.
+fn expect_left(heap: Lent<'_>, grants: u64, outcome: Result<(), Fail>) -> Result<(), Fail> {
+    outcome?;
     if heap.grants_left() != grants {
         return Err(Fail::new("a request was made"));
     }
@@ -52,12 +54,9 @@ fn is_lossy_text_empty<A: Allocator + Drop>(heap: A, view: Wtf8<'_>) -> Result<b
     Ok(lossy.as_str().is_empty())
 }
 
-/// Fails unless the hex dump and the lossy text are empty.
-fn expect_no_texts<A: Allocator + Drop + Copy>(heap: A, view: Wtf8<'_>) -> Result<(), Fail> {
-    if !is_dump_empty(heap, view)? || !is_lossy_text_empty(heap, view)? {
-        return Err(Fail::new("a text of nothing"));
-    }
-    Ok(())
+/// Whether the hex dump and the lossy text are empty.
+fn has_no_texts<A: Allocator + Drop + Copy>(heap: A, view: Wtf8<'_>) -> Result<bool, AllocError> {
+    Ok(is_dump_empty(heap, view)? && is_lossy_text_empty(heap, view)?)
 }
 
 /// Fails unless an empty string to which nothing is appended is empty, and so are its hex dump and lossy text.
@@ -65,57 +64,56 @@ fn expect_nothing<A: Allocator + Drop + Copy>(alloc: Global, heap: A) -> Result<
     let mut text = Wtf8Buf::new(heap);
     append_nothing(&mut text)?;
     expect_dump(alloc, text.as_wtf8(), "")?;
-    expect_no_texts(heap, text.as_wtf8())
+    expect(has_no_texts(heap, text.as_wtf8()), "a text of nothing")
 }
 
 #[test]
 fn what_is_empty(rt: HostRuntime) -> Result<(), Fail> {
+    let alloc = rt.alloc();
+    let heap = Refusing::new(alloc, 0);
     for grants in GRANTS {
-        let heap = Refusing::new(rt.alloc(), grants);
-        expect_nothing(rt.alloc(), &heap)?;
-        expect_left(&heap, grants)?;
+        heap.grant(grants);
+        expect_left(&heap, grants, expect_nothing(alloc, &heap))?;
     }
     Ok(())
-}
-
-/// Fails unless a string was made, and is empty.
-fn expect_empty<A: Allocator + Drop>(
-    alloc: Global,
-    made: Result<Wtf8Buf<A>, AllocError>,
-) -> Result<(), Fail> {
-    expect_dump(alloc, made?.as_wtf8(), "")
 }
 
 /// Fails unless each call that makes a string of nothing makes an empty one.
 fn expect_made_of_nothing<A: Allocator + Drop + Copy>(alloc: Global, heap: A) -> Result<(), Fail> {
-    expect_empty(alloc, Wtf8Buf::with_capacity(heap, 0))?;
-    expect_empty(alloc, Wtf8Buf::from_str(heap, ""))?;
-    expect_empty(alloc, Wtf8Buf::from_ill_formed_utf16(heap, &[]))?;
-    expect_empty(alloc, Wtf8Buf::from_iter(heap, []))
+    expect_made(alloc, Wtf8Buf::with_capacity(heap, 0), "")?;
+    expect_made(alloc, Wtf8Buf::from_str(heap, ""), "")?;
+    expect_made(alloc, Wtf8Buf::from_ill_formed_utf16(heap, &[]), "")?;
+    expect_made(alloc, Wtf8Buf::from_iter(heap, []), "")
 }
 
 #[test]
 fn what_is_made_of_nothing(rt: HostRuntime) -> Result<(), Fail> {
+    let alloc = rt.alloc();
+    let heap = Refusing::new(alloc, 0);
     for grants in GRANTS {
-        let heap = Refusing::new(rt.alloc(), grants);
-        expect_made_of_nothing(rt.alloc(), &heap)?;
-        expect_left(&heap, grants)?;
+        heap.grant(grants);
+        expect_left(&heap, grants, expect_made_of_nothing(alloc, &heap))?;
     }
     Ok(())
 }
 
-/// Whether the lossy text of "a" is "a", borrowed.
-fn is_letter_borrowed<A: Allocator + Drop>(heap: A) -> Result<bool, AllocError> {
-    let lossy = Wtf8::from_str("a").to_string_lossy(heap)?;
-    Ok(matches!(lossy, CowStr::Borrowed(_)) && lossy.as_str() == "a")
+/// Whether the lossy text is `text`, borrowed.
+fn is_lossy_text_borrowed<A: Allocator + Drop>(
+    heap: A,
+    view: Wtf8<'_>,
+    text: &str,
+) -> Result<bool, AllocError> {
+    let lossy = view.to_string_lossy(heap)?;
+    Ok(matches!(lossy, CowStr::Borrowed(_)) && lossy.as_str() == text)
 }
 
 #[test]
 fn what_is_borrowed(rt: HostRuntime) -> Result<(), Fail> {
+    let heap = Refusing::new(rt.alloc(), 0);
     for grants in GRANTS {
-        let heap = Refusing::new(rt.alloc(), grants);
-        assert!(rt; is_letter_borrowed(&heap)?);
-        expect_left(&heap, grants)?;
+        heap.grant(grants);
+        let found = is_lossy_text_borrowed(&heap, Wtf8::from_str("a"), "a");
+        expect_left(&heap, grants, expect(found, "another text, or a copy"))?;
     }
     Ok(())
 }
@@ -149,10 +147,10 @@ fn expect_room_for_pair(alloc: Global, heap: Lent<'_>, grants: u64) -> Result<()
 
 #[test]
 fn what_has_room(rt: HostRuntime) -> Result<(), Fail> {
-    let heap = Refusing::new(rt.alloc(), 0);
+    let alloc = rt.alloc();
+    let heap = Refusing::new(alloc, 0);
     for grants in GRANTS {
-        expect_room_for_pair(rt.alloc(), &heap, grants)?;
-        expect_left(&heap, grants)?;
+        expect_left(&heap, grants, expect_room_for_pair(alloc, &heap, grants))?;
     }
     Ok(())
 }
@@ -195,9 +193,9 @@ fn expect_room_for_each(alloc: Global, heap: Lent<'_>) -> Result<(), Fail> {
 
 #[test]
 fn what_has_room_by_each_call(rt: HostRuntime) -> Result<(), Fail> {
-    let heap = Refusing::new(rt.alloc(), 0);
-    expect_room_for_each(rt.alloc(), &heap)?;
-    expect_left(&heap, 9)
+    let alloc = rt.alloc();
+    let heap = Refusing::new(alloc, 0);
+    expect_left(&heap, 9, expect_room_for_each(alloc, &heap))
 }
 
 /// Whether a list that appends the two surrogates of a pair, by an extension each with an empty push between them, is
@@ -224,19 +222,16 @@ fn expect_room_for_list(alloc: Global, heap: Lent<'_>, grants: u64) -> Result<()
 
 #[test]
 fn what_has_room_as_a_list(rt: HostRuntime) -> Result<(), Fail> {
-    let heap = Refusing::new(rt.alloc(), 0);
+    let alloc = rt.alloc();
+    let heap = Refusing::new(alloc, 0);
     for grants in GRANTS {
-        expect_room_for_list(rt.alloc(), &heap, grants)?;
-        expect_left(&heap, grants)?;
+        expect_left(&heap, grants, expect_room_for_list(alloc, &heap, grants))?;
     }
     Ok(())
 }
 
-/// A call, whether it is applied, and the bytes after it.
-type Applied<'a> = (Build<'a>, bool, &'static str);
-
 /// Calls made one after another, the first of them on the empty string.
-fn applied_rows<'a>(lead: &'a [CodePoint; 1], piece: Wtf8<'a>) -> [Applied<'a>; 10] {
+fn applied_rows<'a>(lead: &'a [CodePoint; 1], piece: Wtf8<'a>) -> [Step<'a>; 10] {
     [
         (Build::Push(lead[0]), true, "ED A0 BD"),
         (Build::PushWtf8(piece), true, "F0 9F 92 A9 62"),
@@ -255,19 +250,6 @@ fn applied_rows<'a>(lead: &'a [CodePoint; 1], piece: Wtf8<'a>) -> [Applied<'a>; 
     ]
 }
 
-/// Fails unless a call is applied or refused as the row tells, and leaves the bytes of the row.
-fn expect_applied<A: Allocator>(
-    alloc: Global,
-    text: &mut Wtf8Buf<A>,
-    row: Applied<'_>,
-) -> Result<(), Fail> {
-    let (call, is_done, dump) = row;
-    if text.apply(call)? != is_done {
-        return Err(Fail::new(dump));
-    }
-    expect_dump(alloc, text.as_wtf8(), dump)
-}
-
 /// Fails unless each call of `applied_rows` in turn is as its row tells; `piece` is pushed after a lead.
 fn expect_each_applied<A: Allocator>(
     alloc: Global,
@@ -276,7 +258,7 @@ fn expect_each_applied<A: Allocator>(
 ) -> Result<(), Fail> {
     let lead = [point_of_unit(LEAD)];
     for row in applied_rows(&lead, piece) {
-        expect_applied(alloc, text, row)?;
+        expect_step(alloc, text, row)?;
     }
     Ok(())
 }
@@ -295,9 +277,9 @@ fn expect_trail_applied(alloc: Global, heap: Lent<'_>) -> Result<(), Fail> {
 
 #[test]
 fn what_has_room_is_applied(rt: HostRuntime) -> Result<(), Fail> {
-    let heap = Refusing::new(rt.alloc(), 0);
-    expect_trail_applied(rt.alloc(), &heap)?;
-    expect_left(&heap, 9)
+    let alloc = rt.alloc();
+    let heap = Refusing::new(alloc, 0);
+    expect_left(&heap, 9, expect_trail_applied(alloc, &heap))
 }
 
 /// Appends `TEXT`, and a lone lead surrogate if `has_lead`.
@@ -316,18 +298,9 @@ fn text_of(heap: Lent<'_>, has_lead: bool, grants: u64) -> Result<Wtf8Buf<Lent<'
     Ok(text)
 }
 
-/// Whether the lossy text is `TEXT`, borrowed.
+/// Whether the view is `TEXT` as a text, and as a lossy text, borrowed.
 fn is_text_borrowed<A: Allocator + Drop>(heap: A, view: Wtf8<'_>) -> Result<bool, AllocError> {
-    let lossy = view.to_string_lossy(heap)?;
-    Ok(matches!(lossy, CowStr::Borrowed(_)) && lossy.as_str() == TEXT)
-}
-
-/// Fails unless the view is `TEXT` as a text, and as a lossy text, borrowed.
-fn expect_borrowed<A: Allocator + Drop>(heap: A, view: Wtf8<'_>) -> Result<(), Fail> {
-    if view.as_str() != Some(TEXT) || !is_text_borrowed(heap, view)? {
-        return Err(Fail::new("another text, or a copy"));
-    }
-    Ok(())
+    Ok(view.as_str() == Some(TEXT) && is_lossy_text_borrowed(heap, view, TEXT)?)
 }
 
 /// Fails unless `owned` is `TEXT`, also as a string made of it and as that string's lossy text.
@@ -354,16 +327,19 @@ fn expect_owned<A: Allocator + Drop>(alloc: Global, text: Wtf8Buf<A>) -> Result<
 /// Fails unless the string of `TEXT` is borrowed as text, and converts to an owned text.
 fn expect_text(alloc: Global, heap: Lent<'_>, grants: u64) -> Result<(), Fail> {
     let text = text_of(heap, false, grants)?;
-    expect_borrowed(heap, text.as_wtf8())?;
+    expect(
+        is_text_borrowed(heap, text.as_wtf8()),
+        "another text, or a copy",
+    )?;
     expect_owned(alloc, text)
 }
 
 #[test]
 fn texts_of_a_string(rt: HostRuntime) -> Result<(), Fail> {
-    let heap = Refusing::new(rt.alloc(), 0);
+    let alloc = rt.alloc();
+    let heap = Refusing::new(alloc, 0);
     for grants in GRANTS {
-        expect_text(rt.alloc(), &heap, grants)?;
-        expect_left(&heap, grants)?;
+        expect_left(&heap, grants, expect_text(alloc, &heap, grants))?;
     }
     Ok(())
 }
@@ -377,8 +353,12 @@ fn expect_lossy<A: Allocator + Drop>(alloc: Global, back: Wtf8Buf<A>) -> Result<
     Ok(())
 }
 
-/// Fails unless `text` is not UTF-8, and `into_string` returns it with its bytes.
-fn expect_no_text<A: Allocator + Drop>(alloc: Global, text: Wtf8Buf<A>) -> Result<(), Fail> {
+/// Fails unless a string was made and is not UTF-8, and `into_string` returns it with its bytes.
+fn expect_no_text<A: Allocator + Drop>(
+    alloc: Global,
+    made: Result<Wtf8Buf<A>, AllocError>,
+) -> Result<(), Fail> {
+    let text = made?;
     if text.as_wtf8().as_str().is_some() {
         return Err(Fail::new("a text of a surrogate"));
     }
@@ -390,10 +370,11 @@ fn expect_no_text<A: Allocator + Drop>(alloc: Global, text: Wtf8Buf<A>) -> Resul
 
 #[test]
 fn texts_of_a_string_with_a_surrogate(rt: HostRuntime) -> Result<(), Fail> {
-    let heap = Refusing::new(rt.alloc(), 0);
+    let alloc = rt.alloc();
+    let heap = Refusing::new(alloc, 0);
     for grants in GRANTS {
-        expect_no_text(rt.alloc(), text_of(&heap, true, grants)?)?;
-        expect_left(&heap, grants)?;
+        let made = text_of(&heap, true, grants);
+        expect_left(&heap, grants, expect_no_text(alloc, made))?;
     }
     Ok(())
 }

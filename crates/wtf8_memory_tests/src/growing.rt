@@ -1,316 +1,210 @@
 // Calls that grow a string: the requests for memory that each makes, and what it leaves if one of them is refused.
+use crate::shared::{FULL, Lent, filled, full, is_made, push_letters};
 use refusing::{REFUSALS, Refusal, Refusing};
 use std::alloc::{AllocError, Allocator, Global};
 use std::test::Fail;
-use wtf8::{Build, CodePoint, Wtf8Buf};
-use wtf8_tests::examples::{TEXT, expect_dump, joined, point_of_unit, points_of_units};
+use wtf8::{Build, CodePoint, Wtf8, Wtf8Buf};
+use wtf8_tests::examples::{TEXT, expect_dump, joined, point_of_unit};
 
-type Lent<'a> = &'a Refusing<Global>;
+/// A call on a string whose four bytes, "a" and D83D, fill its capacity; the bytes after it, and the number of bytes in
+/// its requests, if all are granted; and for each request the bytes after the call if that is the first one refused.
+type Row<'a> = (Build<'a>, &'static str, usize, &'static [&'static str]);
 
-/// What the method of that name appends to a string, or the number of bytes that it reserves.
-#[derive(Clone, Copy)]
-enum Piece {
-    Push(u16),
-    PushPoint(char),
-    PushChar(char),
-    PushStr(&'static str),
-    PushWtf8(&'static [u16]),
-    Extend(&'static [u16]),
-    Reserve(usize),
-}
-
-/// A call on a string whose four bytes, "a" and D83D, fill its capacity. A growth is to twice the capacity or to what
-/// is needed, whichever is more, so the table tells each request.
-#[derive(Clone, Copy)]
-struct Row {
-    piece: Piece,
-    /// The bytes after the call, with all its requests granted.
-    granted: &'static str,
-    /// The number of bytes in its requests, if all are granted.
-    asked: usize,
-    /// For each of the call's requests, the bytes after the call if that request is the first one refused.
-    refused: &'static [&'static str],
-}
-
-const FULL: &str = "61 ED A0 BD";
-
-fn rows() -> [Row; 17] {
+/// Calls that make one request: to twice the capacity or to what is needed, whichever is more. Each has the bytes after
+/// it, and the number of bytes in its request. `trails` has the units DCA9, DCA9 and 62.
+fn one_request<'a>(
+    trails: Wtf8<'a>,
+    joining: &'a [CodePoint; 2],
+) -> [(Build<'a>, &'static str, usize); 13] {
+    let [a, e, hiragana, pile] = ['a', 'é', 'あ', '💩'].map(CodePoint::from_char);
     [
-        Row {
-            piece: Piece::Push(0x0061),
-            granted: "61 ED A0 BD 61",
-            asked: 8,
-            refused: &[FULL],
-        },
-        Row {
-            piece: Piece::Push(0xDCA9),
-            granted: "61 F0 9F 92 A9",
-            asked: 8,
-            refused: &[FULL],
-        },
-        Row {
-            piece: Piece::Push(0xD83D),
-            granted: "61 ED A0 BD ED A0 BD",
-            asked: 8,
-            refused: &[FULL],
-        },
-        Row {
-            piece: Piece::PushPoint('a'),
-            granted: "61 ED A0 BD 61",
-            asked: 8,
-            refused: &[FULL],
-        },
-        Row {
-            piece: Piece::PushPoint('é'),
-            granted: "61 ED A0 BD C3 A9",
-            asked: 8,
-            refused: &[FULL],
-        },
-        Row {
-            piece: Piece::PushPoint('あ'),
-            granted: "61 ED A0 BD E3 81 82",
-            asked: 8,
-            refused: &[FULL],
-        },
-        Row {
-            piece: Piece::PushPoint('💩'),
-            granted: "61 ED A0 BD F0 9F 92 A9",
-            asked: 8,
-            refused: &[FULL],
-        },
-        Row {
-            piece: Piece::PushChar('💩'),
-            granted: "61 ED A0 BD F0 9F 92 A9",
-            asked: 8,
-            refused: &[FULL],
-        },
-        Row {
-            piece: Piece::PushStr(TEXT),
-            granted: "61 ED A0 BD 61 C3 A9 20 F0 9F 92 A9",
-            asked: 12,
-            refused: &[FULL],
-        },
-        Row {
-            piece: Piece::PushStr(""),
-            granted: FULL,
-            asked: 0,
-            refused: &[],
-        },
-        Row {
-            piece: Piece::PushWtf8(&[0x0061, 0x0062]),
-            granted: "61 ED A0 BD 61 62",
-            asked: 8,
-            refused: &[FULL],
-        },
-        Row {
-            piece: Piece::PushWtf8(&[0xDCA9, 0xDCA9, 0x0062]),
-            granted: "61 F0 9F 92 A9 ED B2 A9 62",
-            asked: 9,
-            refused: &[FULL],
-        },
-        Row {
-            piece: Piece::PushWtf8(&[]),
-            granted: FULL,
-            asked: 0,
-            refused: &[],
-        },
-        Row {
-            piece: Piece::Extend(&[0xDCA9, 0x0062]),
-            granted: "61 F0 9F 92 A9 62",
-            asked: 8,
-            refused: &[FULL],
-        },
-        // Reserving three bytes grows the capacity to eight, which fits the first code point but not the second.
-        Row {
-            piece: Piece::Extend(&[0x0800, 0x0800, 0x0800]),
-            granted: "61 ED A0 BD E0 A0 80 E0 A0 80 E0 A0 80",
-            asked: 24,
-            refused: &[FULL, "61 ED A0 BD E0 A0 80"],
-        },
-        Row {
-            piece: Piece::Reserve(1000),
-            granted: FULL,
-            asked: 1004,
-            refused: &[FULL],
-        },
-        Row {
-            piece: Piece::Reserve(0),
-            granted: FULL,
-            asked: 0,
-            refused: &[],
-        },
+        (Build::Push(point_of_unit(0x0061)), "61 ED A0 BD 61", 8),
+        (Build::Push(joining[0]), "61 F0 9F 92 A9", 8),
+        (
+            Build::Push(point_of_unit(0xD83D)),
+            "61 ED A0 BD ED A0 BD",
+            8,
+        ),
+        (Build::Push(a), "61 ED A0 BD 61", 8),
+        (Build::Push(e), "61 ED A0 BD C3 A9", 8),
+        (Build::Push(hiragana), "61 ED A0 BD E3 81 82", 8),
+        (Build::Push(pile), "61 ED A0 BD F0 9F 92 A9", 8),
+        (Build::PushChar('💩'), "61 ED A0 BD F0 9F 92 A9", 8),
+        (
+            Build::PushStr(TEXT),
+            "61 ED A0 BD 61 C3 A9 20 F0 9F 92 A9",
+            12,
+        ),
+        (
+            Build::PushWtf8(Wtf8::from_str("ab")),
+            "61 ED A0 BD 61 62",
+            8,
+        ),
+        (Build::PushWtf8(trails), "61 F0 9F 92 A9 ED B2 A9 62", 9),
+        (Build::Extend(joining), "61 F0 9F 92 A9 62", 8),
+        (Build::Reserve(1000), FULL, 1004),
     ]
 }
 
-/// Appends "a" and the lead surrogate D83D.
-fn fill<A: Allocator>(text: &mut Wtf8Buf<A>) -> Result<(), AllocError> {
-    text.push_char('a')?;
-    text.push(point_of_unit(0xD83D))
+/// Calls that make no request, and leave the string unchanged.
+fn no_request() -> [Build<'static>; 3] {
+    [
+        Build::PushStr(""),
+        Build::PushWtf8(Wtf8::from_str("")),
+        Build::Reserve(0),
+    ]
 }
 
-/// The string on which each row's call is made.
-fn full(heap: Lent<'_>) -> Result<Wtf8Buf<Lent<'_>>, AllocError> {
-    heap.grant(1);
-    let mut text = Wtf8Buf::with_capacity(heap, 4)?;
-    fill(&mut text)?;
-    Ok(text)
+/// An extension by three code points of three bytes. Reserving three bytes grows the capacity to eight, which fits the
+/// first code point but not the second.
+fn two_requests(points: &[CodePoint; 3]) -> Row<'_> {
+    (
+        Build::Extend(points),
+        "61 ED A0 BD E0 A0 80 E0 A0 80 E0 A0 80",
+        24,
+        &[FULL, "61 ED A0 BD E0 A0 80"],
+    )
+}
+
+/// Fails unless a trail surrogate is refused, and the string of "a" and D83D is unchanged, also after an empty text.
+fn expect_trail_refused<A: Allocator>(alloc: Global, text: &mut Wtf8Buf<A>) -> Result<(), Fail> {
+    if text.push(point_of_unit(0xDCA9)).is_ok() {
+        return Err(Fail::new("not refused"));
+    }
+    expect_dump(alloc, text.as_wtf8(), FULL)?;
+    if text.push_str("").is_err() {
+        return Err(Fail::new("an empty text is refused"));
+    }
+    expect_dump(alloc, text.as_wtf8(), FULL)
+}
+
+/// Fails unless a trail surrogate is refused after "a" and D83D, and an empty text is not.
+fn expect_full_kept(alloc: Global, heap: Lent<'_>) -> Result<(), Fail> {
+    let mut text = full(heap)?;
+    heap.grant(0);
+    expect_trail_refused(alloc, &mut text)
 }
 
 #[test]
 fn an_empty_text_is_pushed_after_a_refused_trail(rt: HostRuntime) -> Result<(), Fail> {
-    let heap = Refusing::new(rt.alloc(), 0);
-    let mut text = full(&heap)?;
-    heap.grant(0);
-    assert!(rt; text.push(point_of_unit(0xDCA9)).is_err());
-    expect_dump(rt.alloc(), text.as_wtf8(), FULL)?;
-    text.push_str("")?;
-    expect_dump(rt.alloc(), text.as_wtf8(), FULL)
-}
-
-/// Makes the call by the method of its name.
-fn call_named<A: Allocator>(
-    alloc: Global,
-    text: &mut Wtf8Buf<A>,
-    piece: Piece,
-) -> Result<(), AllocError> {
-    match piece {
-        Piece::Push(unit) => text.push(point_of_unit(unit)),
-        Piece::PushPoint(c) => text.push(CodePoint::from_char(c)),
-        Piece::PushChar(c) => text.push_char(c),
-        Piece::PushStr(piece) => text.push_str(piece),
-        Piece::PushWtf8(units) => text.push_wtf8(joined(alloc, units)?.as_wtf8()),
-        Piece::Extend(units) => text.extend(points_of_units(alloc, units)?),
-        Piece::Reserve(additional) => text.reserve(additional),
-    }
-}
-
-/// Makes the call through `apply` and returns its result.
-fn apply_named<A: Allocator>(
-    alloc: Global,
-    text: &mut Wtf8Buf<A>,
-    piece: Piece,
-) -> Result<bool, AllocError> {
-    match piece {
-        Piece::Push(unit) => text.apply(Build::Push(point_of_unit(unit))),
-        Piece::PushPoint(c) => text.apply(Build::Push(CodePoint::from_char(c))),
-        Piece::PushChar(c) => text.apply(Build::PushChar(c)),
-        Piece::PushStr(piece) => text.apply(Build::PushStr(piece)),
-        Piece::PushWtf8(units) => {
-            let other = joined(alloc, units)?;
-            text.apply(Build::PushWtf8(other.as_wtf8()))
-        }
-        Piece::Extend(units) => {
-            let points = points_of_units(alloc, units)?;
-            text.apply(Build::Extend(&points))
-        }
-        Piece::Reserve(additional) => text.apply(Build::Reserve(additional)),
-    }
-}
-
-/// Makes the call through `apply` if `is_applied`, else by name, and returns whether it succeeded.
-fn is_made<A: Allocator>(
-    alloc: Global,
-    text: &mut Wtf8Buf<A>,
-    piece: Piece,
-    is_applied: bool,
-) -> bool {
-    if is_applied {
-        return matches!(apply_named(alloc, text, piece), Ok(true));
-    }
-    call_named(alloc, text, piece).is_ok()
-}
-
-/// Makes the call with `granted.0` requests granted, and the following ones, or the next one alone, refused. Fails
-/// unless success, the number of requests and the bytes left are `wanted`. Returns the number of bytes in the requests.
-fn expect_outcome(
-    alloc: Global,
-    piece: Piece,
-    is_applied: bool,
-    granted: (u64, Refusal),
-    wanted: (bool, u64, &str),
-) -> Result<usize, Fail> {
+    let alloc = rt.alloc();
     let heap = Refusing::new(alloc, 0);
-    let mut text = full(&heap)?;
-    let (grants, refusal) = granted;
-    heap.refuse_after(grants, refusal);
-    let is_done = is_made(alloc, &mut text, piece, is_applied);
-    let (is_done_wanted, requests, dump) = wanted;
-    if is_done != is_done_wanted || heap.requests() != requests {
-        return Err(Fail::new(format_args!("at {dump} with {grants} granted, then {refusal:?}")));
-    }
-    expect_dump(alloc, text.as_wtf8(), dump)?;
-    Ok(heap.bytes())
+    expect_full_kept(alloc, &heap)
 }
 
 /// Fails unless the call, with all its requests granted, succeeds with the requests and bytes of the row.
-fn expect_granted(alloc: Global, row: &Row, is_applied: bool) -> Result<(), Fail> {
-    let requests = row.refused.len() as u64;
-    let asked = expect_outcome(
-        alloc,
-        row.piece,
-        is_applied,
-        (9, Refusal::ForGood),
-        (true, requests, row.granted),
-    )?;
-    if asked != row.asked {
-        return Err(Fail::new(row.granted));
+fn expect_granted(
+    alloc: Global,
+    heap: Lent<'_>,
+    row: Row<'_>,
+    is_applied: bool,
+) -> Result<(), Fail> {
+    let (call, granted, asked, refused) = row;
+    let mut text = full(heap)?;
+    heap.grant(9);
+    let is_made = is_made(&mut text, call, is_applied);
+    if !is_made || heap.requests() != refused.len() as u64 || heap.bytes() != asked {
+        return Err(Fail::new(granted));
     }
-    Ok(())
+    expect_dump(alloc, text.as_wtf8(), granted)
 }
 
-#[test]
-fn a_growing_call_makes_its_requests_and_no_other(rt: HostRuntime) -> Result<(), Fail> {
-    for row in rows() {
-        for is_applied in [false, true] {
-            expect_granted(rt.alloc(), &row, is_applied)?;
-        }
-    }
-    Ok(())
-}
-
-/// Fails unless the call fails with its first refused request, and leaves the bytes of `dump`.
+/// Makes the call with `granted` requests granted, and the following ones, or the next one alone, refused. Fails unless
+/// the call fails at its first refused request and leaves the bytes of `dump`.
 fn expect_stopped(
     alloc: Global,
-    piece: Piece,
-    is_applied: bool,
-    granted: (u64, Refusal),
+    heap: Lent<'_>,
+    (call, is_applied): (Build<'_>, bool),
+    (granted, refusal): (u64, Refusal),
     dump: &str,
 ) -> Result<(), Fail> {
-    let (grants, _) = granted;
-    let wanted = (false, grants.wrapping_add(1), dump);
-    expect_outcome(alloc, piece, is_applied, granted, wanted)?;
-    Ok(())
+    let mut text = full(heap)?;
+    heap.refuse_after(granted, refusal);
+    let is_made = is_made(&mut text, call, is_applied);
+    if is_made || heap.requests() != granted.wrapping_add(1) {
+        return Err(Fail::new(format_args!("at {dump} with {granted} granted, then {refusal:?}")));
+    }
+    expect_dump(alloc, text.as_wtf8(), dump)
 }
 
-/// Refuses each request of the call in turn. Fails unless the call ends there and leaves the bytes of `refused`.
+/// Refuses each request of the call in turn. Fails unless the call ends there and leaves the bytes of the row.
 fn expect_kept(
     alloc: Global,
-    piece: Piece,
-    refused: &[&str],
+    heap: Lent<'_>,
+    row: Row<'_>,
     is_applied: bool,
     refusal: Refusal,
 ) -> Result<(), Fail> {
+    let (call, _, _, refused) = row;
     let mut granted = 0u64;
     for dump in refused {
-        expect_stopped(alloc, piece, is_applied, (granted, refusal), dump)?;
+        expect_stopped(alloc, heap, (call, is_applied), (granted, refusal), dump)?;
         granted = granted.wrapping_add(1);
     }
     Ok(())
 }
 
-/// Fails unless the call, by name and through `apply`, ends at each refused request and leaves the bytes of `refused`.
-fn expect_kept_each_way(alloc: Global, piece: Piece, refused: &[&str]) -> Result<(), Fail> {
-    for refusal in REFUSALS {
-        expect_kept(alloc, piece, refused, false, refusal)?;
-        expect_kept(alloc, piece, refused, true, refusal)?;
+/// Fails unless the row's call makes its requests if all are granted and `refusal` is `None`, or ends at each of them
+/// that is refused.
+fn expect_call(
+    alloc: Global,
+    heap: Lent<'_>,
+    row: Row<'_>,
+    is_applied: bool,
+    refusal: Option<Refusal>,
+) -> Result<(), Fail> {
+    match refusal {
+        None => expect_granted(alloc, heap, row, is_applied),
+        Some(refusal) => expect_kept(alloc, heap, row, is_applied, refusal),
     }
-    Ok(())
+}
+
+/// Fails unless the row's call, by name and through `apply`, is as `expect_call` says.
+fn expect_row(
+    alloc: Global,
+    heap: Lent<'_>,
+    row: Row<'_>,
+    refusal: Option<Refusal>,
+) -> Result<(), Fail> {
+    expect_call(alloc, heap, row, false, refusal)?;
+    expect_call(alloc, heap, row, true, refusal)
+}
+
+/// Fails unless each call, by name and through `apply`, is as `expect_call` says.
+fn expect_rows(
+    alloc: Global,
+    heap: Lent<'_>,
+    trails: Wtf8<'_>,
+    refusal: Option<Refusal>,
+) -> Result<(), Fail> {
+    let joining = [point_of_unit(0xDCA9), point_of_unit(0x62)];
+    for (call, granted, asked) in one_request(trails, &joining) {
+        expect_row(alloc, heap, (call, granted, asked, &[FULL]), refusal)?;
+    }
+    for call in no_request() {
+        expect_row(alloc, heap, (call, FULL, 0, &[]), refusal)?;
+    }
+    let points = [point_of_unit(0x0800); 3];
+    expect_row(alloc, heap, two_requests(&points), refusal)
+}
+
+/// Fails unless each call, by name and through `apply`, is as `expect_call` says.
+fn expect_table(alloc: Global, refusal: Option<Refusal>) -> Result<(), Fail> {
+    let trails = joined(alloc, &[0xDCA9, 0xDCA9, 0x62])?;
+    let heap = Refusing::new(alloc, 0);
+    expect_rows(alloc, &heap, trails.as_wtf8(), refusal)
+}
+
+#[test]
+fn a_growing_call_makes_its_requests_and_no_other(rt: HostRuntime) -> Result<(), Fail> {
+    expect_table(rt.alloc(), None)
 }
 
 #[test]
 fn a_refused_request_leaves_what_was_there(rt: HostRuntime) -> Result<(), Fail> {
-    for row in rows() {
-        expect_kept_each_way(rt.alloc(), row.piece, row.refused)?;
+    let alloc = rt.alloc();
+    for refusal in REFUSALS {
+        expect_table(alloc, Some(refusal))?;
     }
     Ok(())
 }
@@ -356,9 +250,10 @@ fn expect_refused_room(alloc: Global, text: &mut Wtf8Buf<Global>) -> Result<(), 
 
 #[test]
 fn room_that_no_memory_has_is_refused(rt: HostRuntime) -> Result<(), Fail> {
-    assert!(rt; Wtf8Buf::with_capacity(rt.alloc(), usize::MAX).is_err());
-    let mut text = Wtf8Buf::from_str(rt.alloc(), "a")?;
-    expect_refused_room(rt.alloc(), &mut text)
+    let alloc = rt.alloc();
+    assert!(rt; Wtf8Buf::with_capacity(alloc, usize::MAX).is_err());
+    let mut text = Wtf8Buf::from_str(alloc, "a")?;
+    expect_refused_room(alloc, &mut text)
 }
 
 /// Calls `shrink_to_fit`. Fails unless the capacity is then `capacity` and the string is unchanged.
@@ -401,23 +296,15 @@ fn expect_given_back(
 
 /// Fails unless a string with a capacity of 100 bytes releases what it does not need, if memory is granted.
 fn expect_hundred_given_back(alloc: Global, heap: Lent<'_>) -> Result<(), Fail> {
-    let mut text = Wtf8Buf::with_capacity(heap, 100)?;
-    fill(&mut text)?;
+    let mut text = filled(heap, 100)?;
     expect_given_back(alloc, heap, &mut text)
 }
 
 #[test]
 fn spare_room_is_given_back(rt: HostRuntime) -> Result<(), Fail> {
-    let heap = Refusing::new(rt.alloc(), u64::MAX);
-    expect_hundred_given_back(rt.alloc(), &heap)
-}
-
-/// Appends `length` times "a".
-fn push_letters(text: &mut Wtf8Buf<Global>, length: usize) -> Result<(), AllocError> {
-    for _ in 0..length {
-        text.push_char('a')?;
-    }
-    Ok(())
+    let alloc = rt.alloc();
+    let heap = Refusing::new(alloc, u64::MAX);
+    expect_hundred_given_back(alloc, &heap)
 }
 
 /// The capacity of a string of `length` bytes after `shrink_to_fit`.

@@ -1,12 +1,11 @@
 // Iterators whose lower size hint is wrong, or whose upper one is far above it.
+use crate::shared::Lent;
 use refusing::{REFUSALS, Refusing};
 use std::alloc::{AllocError, Allocator, Global};
 use std::cell::Cell;
 use std::test::Fail;
 use wtf8::{CodePoint, Wtf8, Wtf8Buf};
-use wtf8_tests::examples::{expect_dump, expect_units, point_of_unit, pushed};
-
-type Lent<'a> = &'a Refusing<Global>;
+use wtf8_tests::examples::{expect_dump, expect_units, joined, point_of_unit};
 
 /// Yields a code point `left` times, with size hints that the test chooses, of which the lower one may be wrong. Counts
 /// the items that are taken.
@@ -46,16 +45,21 @@ impl<'a> Iterator for Hinted<'a> {
     }
 }
 
-/// U+DCA9, `left` times, with the lower size hint `hint` and no upper one.
-fn trails(left: u32, hint: usize, taken: &Cell<u32>) -> Hinted<'_> {
+/// U+DCA9, `left` times, with the lower size hint `hint` and the upper one `upper`.
+fn items(left: u32, hint: usize, upper: Option<usize>, taken: &Cell<u32>) -> Hinted<'_> {
     let point = point_of_unit(0xDCA9);
     Hinted {
         point,
         left,
         hint,
-        upper: None,
+        upper,
         taken,
     }
+}
+
+/// U+DCA9, `left` times, with the lower size hint `hint` and no upper one.
+fn trails(left: u32, hint: usize, taken: &Cell<u32>) -> Hinted<'_> {
+    items(left, hint, None, taken)
 }
 
 /// The unit D83D if `has_lead`, then `left` times DCA9.
@@ -70,8 +74,17 @@ fn expected_units(alloc: Global, left: u32, has_lead: bool) -> Result<Vec<u16>, 
     Ok(units)
 }
 
-/// Fails unless the string has `left` times the unit DCA9, after a lead if `has_lead`.
-fn expect_trails(alloc: Global, text: Wtf8<'_>, left: u32, has_lead: bool) -> Result<(), Fail> {
+/// Fails unless `left` items were taken, and the string has `left` times the unit DCA9, after a lead if `has_lead`.
+fn expect_trails(
+    alloc: Global,
+    text: Wtf8<'_>,
+    left: u32,
+    has_lead: bool,
+    taken: &Cell<u32>,
+) -> Result<(), Fail> {
+    if taken.take() != left {
+        return Err(Fail::new("another number of items was taken"));
+    }
     let expected = expected_units(alloc, left, has_lead)?;
     expect_units(alloc, text, &expected)
 }
@@ -79,24 +92,23 @@ fn expect_trails(alloc: Global, text: Wtf8<'_>, left: u32, has_lead: bool) -> Re
 /// Fails unless `from_iter` takes all items, whatever the lower hint.
 fn expect_made(alloc: Global, left: u32, hint: usize, taken: &Cell<u32>) -> Result<(), Fail> {
     let text = Wtf8Buf::from_iter(alloc, trails(left, hint, taken))?;
-    expect_trails(alloc, text.as_wtf8(), left, false)
+    expect_trails(alloc, text.as_wtf8(), left, false, taken)
 }
 
 /// Fails unless `extend` appends all items to a lead surrogate, whatever the lower hint.
 fn expect_extended(alloc: Global, left: u32, hint: usize, taken: &Cell<u32>) -> Result<(), Fail> {
-    let mut text = pushed(alloc, &[0xD83D])?;
+    let mut text = joined(alloc, &[0xD83D])?;
     text.extend(trails(left, hint, taken))?;
-    expect_trails(alloc, text.as_wtf8(), left, true)
+    expect_trails(alloc, text.as_wtf8(), left, true, taken)
 }
 
 #[test]
 fn a_lower_hint_may_be_false(rt: HostRuntime) -> Result<(), Fail> {
+    let alloc = rt.alloc();
     let taken = Cell::new(0);
     for (left, hint) in [(1000, 0), (2, 5), (0, 3)] {
-        expect_made(rt.alloc(), left, hint, &taken)?;
-        assert!(rt; taken.take() == left, "from_iter");
-        expect_extended(rt.alloc(), left, hint, &taken)?;
-        assert!(rt; taken.take() == left, "extend");
+        expect_made(alloc, left, hint, &taken)?;
+        expect_extended(alloc, left, hint, &taken)?;
     }
     Ok(())
 }
@@ -112,7 +124,7 @@ fn is_extended<A: Allocator>(
 }
 
 /// Fails unless a lower hint of 50 is reserved by the one request that is granted.
-fn expect_found(
+fn expect_reserved(
     heap: Lent<'_>,
     text: &mut Wtf8Buf<Lent<'_>>,
     taken: &Cell<u32>,
@@ -136,20 +148,21 @@ fn expect_refused(
 }
 
 /// Fails unless room for the lower hint is reserved first, and a refusal leaves the string empty.
-fn expect_found_first(alloc: Global, heap: Lent<'_>, taken: &Cell<u32>) -> Result<(), Fail> {
+fn expect_reserved_first(alloc: Global, heap: Lent<'_>, taken: &Cell<u32>) -> Result<(), Fail> {
     let mut text = Wtf8Buf::new(heap);
-    expect_found(heap, &mut text, taken)?;
+    expect_reserved(heap, &mut text, taken)?;
     expect_refused(heap, &mut text, taken)?;
     expect_dump(alloc, text.as_wtf8(), "")
 }
 
 #[test]
-fn room_for_the_lower_hint_is_found_first(rt: HostRuntime) -> Result<(), Fail> {
+fn room_for_the_lower_hint_is_reserved_first(rt: HostRuntime) -> Result<(), Fail> {
+    let alloc = rt.alloc();
     let taken = Cell::new(0);
-    let heap = Refusing::new(rt.alloc(), 0);
+    let heap = Refusing::new(alloc, 0);
     for refusal in REFUSALS {
         heap.refuse_after(1, refusal);
-        expect_found_first(rt.alloc(), &heap, &taken)?;
+        expect_reserved_first(alloc, &heap, &taken)?;
     }
     Ok(())
 }
@@ -169,17 +182,19 @@ fn upper_rows() -> [Upper; 6] {
     ]
 }
 
+/// The items of a row.
+fn items_of(row: Upper, taken: &Cell<u32>) -> Hinted<'_> {
+    let (left, hint, upper, _, _) = row;
+    items(left, hint, Some(upper), taken)
+}
+
 /// The length in bytes of a string made of the items of a row.
 fn len_of_made<A: Allocator + Drop>(
     heap: A,
     row: Upper,
     taken: &Cell<u32>,
 ) -> Result<usize, AllocError> {
-    let (left, hint, upper, _, _) = row;
-    let mut points = trails(left, hint, taken);
-    points.upper = Some(upper);
-    let text = Wtf8Buf::from_iter(heap, points)?;
-    Ok(text.len())
+    Ok(Wtf8Buf::from_iter(heap, items_of(row, taken))?.len())
 }
 
 /// The length in bytes of an empty string that is extended by the items of a row.
@@ -188,18 +203,20 @@ fn len_of_extended<A: Allocator + Drop>(
     row: Upper,
     taken: &Cell<u32>,
 ) -> Result<usize, AllocError> {
-    let (left, hint, upper, _, _) = row;
-    let mut points = trails(left, hint, taken);
-    points.upper = Some(upper);
     let mut text = Wtf8Buf::new(heap);
-    text.extend(points)?;
+    text.extend(items_of(row, taken))?;
     Ok(text.len())
 }
 
 /// Fails unless all items of the row were taken, three bytes each, with its requests and bytes.
-fn expect_upper(heap: Lent<'_>, row: Upper, len: usize, taken: &Cell<u32>) -> Result<(), Fail> {
+fn expect_upper(
+    heap: Lent<'_>,
+    row: Upper,
+    len: Result<usize, AllocError>,
+    taken: &Cell<u32>,
+) -> Result<(), Fail> {
     let (left, _, upper, requests, bytes) = row;
-    let are_taken = taken.take() == left && len == left as usize * 3;
+    let are_taken = taken.take() == left && len == Ok(left as usize * 3);
     if !are_taken || heap.requests() != requests || heap.bytes() != bytes {
         return Err(Fail::new(format_args!("{left} below {upper}")));
     }
@@ -207,16 +224,14 @@ fn expect_upper(heap: Lent<'_>, row: Upper, len: usize, taken: &Cell<u32>) -> Re
 }
 
 #[test]
-fn no_room_is_found_for_the_upper_hint(rt: HostRuntime) -> Result<(), Fail> {
+fn no_room_is_reserved_for_the_upper_hint(rt: HostRuntime) -> Result<(), Fail> {
     let taken = Cell::new(0);
     let heap = Refusing::new(rt.alloc(), 0);
     for row in upper_rows() {
         heap.grant(99);
-        let len = len_of_made(&heap, row, &taken)?;
-        expect_upper(&heap, row, len, &taken)?;
+        expect_upper(&heap, row, len_of_made(&heap, row, &taken), &taken)?;
         heap.grant(99);
-        let len = len_of_extended(&heap, row, &taken)?;
-        expect_upper(&heap, row, len, &taken)?;
+        expect_upper(&heap, row, len_of_extended(&heap, row, &taken), &taken)?;
     }
     Ok(())
 }
@@ -229,10 +244,11 @@ fn are_refused(alloc: Global, text: &mut Wtf8Buf<Global>, taken: &Cell<u32>) -> 
 }
 
 #[test]
-fn no_item_is_taken_where_the_hint_is_too_large(rt: HostRuntime) -> Result<(), Fail> {
+fn no_item_is_taken_if_the_hint_is_too_large(rt: HostRuntime) -> Result<(), Fail> {
+    let alloc = rt.alloc();
     let taken = Cell::new(0);
-    let mut text = Wtf8Buf::from_str(rt.alloc(), "a")?;
-    assert!(rt; are_refused(rt.alloc(), &mut text, &taken));
+    let mut text = Wtf8Buf::from_str(alloc, "a")?;
+    assert!(rt; are_refused(alloc, &mut text, &taken));
     assert!(rt; taken.get() == 0);
-    expect_dump(rt.alloc(), text.as_wtf8(), "61")
+    expect_dump(alloc, text.as_wtf8(), "61")
 }

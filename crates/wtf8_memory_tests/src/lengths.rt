@@ -1,12 +1,10 @@
 // Calls that request memory, on strings of each length: each succeeds if all its requests are granted, requests the
 // expected number of bytes, and fails at each request that is refused.
-use refusing::{REFUSALS, Refusing};
+use crate::samples::{Call, Sample, expect_refused, is_done, sample_with};
+use crate::shared::Lent;
+use refusing::Refusing;
 use std::alloc::{AllocError, Allocator, Global};
 use std::test::Fail;
-use wtf8::{Build, CodePoint, Wtf8, Wtf8Buf};
-use wtf8_tests::examples::{point_of_unit, points_of_units};
-
-type Lent<'a> = &'a Refusing<Global>;
 
 /// Eight units that repeat in a string: of one kind alone, or mixed, without lone surrogates and with some.
 const KINDS: [[u16; 8]; 8] = [
@@ -36,14 +34,6 @@ const ABOUT_POWERS: [(u16, &[usize]); 3] = [
     (0x3042, &[1365, 1366, 21_845, 21_846]),
 ];
 
-/// A string with spare capacity, and the units and the code points that it is made of.
-#[derive(Drop)]
-struct Sample<A: Allocator> {
-    units: Vec<u16>,
-    points: Vec<CodePoint>,
-    text: Wtf8Buf<A>,
-}
-
 /// `length` units that repeat `kind`.
 fn units_of(alloc: Global, kind: &[u16; 8], length: usize) -> Result<Vec<u16>, AllocError> {
     let mut units = Vec::new(alloc);
@@ -51,28 +41,6 @@ fn units_of(alloc: Global, kind: &[u16; 8], length: usize) -> Result<Vec<u16>, A
         units.push(kind[at % 8])?;
     }
     Ok(units)
-}
-
-/// The string of these units, with 64 more bytes reserved.
-fn text_of<A: Allocator + Drop>(heap: A, units: &[u16]) -> Result<Wtf8Buf<A>, AllocError> {
-    let mut text = Wtf8Buf::from_ill_formed_utf16(heap, units)?;
-    text.reserve(64)?;
-    Ok(text)
-}
-
-/// The sample of these units.
-fn sample_with<A: Allocator + Drop>(
-    alloc: Global,
-    heap: A,
-    units: Vec<u16>,
-) -> Result<Sample<A>, AllocError> {
-    let points = points_of_units(alloc, &units)?;
-    let text = text_of(heap, &units)?;
-    Ok(Sample {
-        units,
-        points,
-        text,
-    })
 }
 
 /// The sample of `length` units that repeat `kind`.
@@ -85,29 +53,6 @@ fn sample_of<'a>(
     let units = units_of(alloc, kind, length)?;
     heap.grant(u64::MAX);
     sample_with(alloc, heap, units)
-}
-
-/// A call that requests memory.
-#[derive(Clone, Copy, Debug)]
-enum Call {
-    WithCapacity,
-    FromStr,
-    FromUnits,
-    FromIter,
-    Clone,
-    Reserve,
-    PushEach,
-    PushStr,
-    PushWtf8,
-    JoinWtf8,
-    Extend,
-    ApplyExtend,
-    ApplyAll,
-    ToStringLossy,
-    HexDump,
-    AppendHexDump,
-    AppendUnits,
-    AppendUnitsTwice,
 }
 
 const CALLS: [Call; 18] = [
@@ -131,89 +76,6 @@ const CALLS: [Call; 18] = [
     Call::AppendUnitsTwice,
 ];
 
-/// Pushes code points one by one.
-fn push_each<A: Allocator>(text: &mut Wtf8Buf<A>, points: &[CodePoint]) -> Result<(), AllocError> {
-    for point in points {
-        text.push(*point)?;
-    }
-    Ok(())
-}
-
-/// Appends a lead surrogate, then the string of the sample.
-fn join<A: Allocator>(text: &mut Wtf8Buf<A>, sample: &Sample<A>) -> Result<(), AllocError> {
-    text.push(point_of_unit(0xD83D))?;
-    text.push_wtf8(sample.text.as_wtf8())
-}
-
-/// Whether a list of calls that appends the sample as a view, then as code points, is applied.
-fn is_applied<A: Allocator>(text: &mut Wtf8Buf<A>, sample: &Sample<A>) -> bool {
-    let calls = [
-        Build::PushWtf8(sample.text.as_wtf8()),
-        Build::Extend(&sample.points),
-    ];
-    text.apply_all(&calls).is_ok()
-}
-
-/// Whether the call on an empty string succeeds.
-fn appends<A: Allocator + Drop>(heap: A, call: Call, sample: &Sample<A>) -> bool {
-    let mut text = Wtf8Buf::new(heap);
-    let view = sample.text.as_wtf8();
-    match call {
-        Call::Reserve => text.reserve(sample.units.len()).is_ok(),
-        Call::PushEach => push_each(&mut text, &sample.points).is_ok(),
-        Call::PushStr => text.push_str(view.as_str().unwrap_or("")).is_ok(),
-        Call::PushWtf8 => text.push_wtf8(view).is_ok(),
-        Call::JoinWtf8 => join(&mut text, sample).is_ok(),
-        Call::Extend => text.extend(sample.points.iter().copied()).is_ok(),
-        Call::ApplyExtend => text.apply(Build::Extend(&sample.points)).is_ok(),
-        _ => is_applied(&mut text, sample),
-    }
-}
-
-/// Appends the units of a view to a vector twice.
-fn append_twice<A: Allocator>(units: &mut Vec<u16, A>, view: Wtf8<'_>) -> Result<(), AllocError> {
-    view.append_units(units)?;
-    view.append_units(units)
-}
-
-/// Whether a call that makes a string succeeds.
-fn makes<A: Allocator + Drop + Copy>(heap: A, call: Call, sample: &Sample<A>) -> bool {
-    let view = sample.text.as_wtf8();
-    match call {
-        Call::WithCapacity => Wtf8Buf::with_capacity(heap, sample.units.len()).is_ok(),
-        Call::FromStr => Wtf8Buf::from_str(heap, view.as_str().unwrap_or("")).is_ok(),
-        Call::FromUnits => Wtf8Buf::from_ill_formed_utf16(heap, &sample.units).is_ok(),
-        Call::FromIter => Wtf8Buf::from_iter(heap, sample.points.iter().copied()).is_ok(),
-        _ => sample.text.clone().is_ok(),
-    }
-}
-
-/// Whether a call that writes a text or the units succeeds.
-fn writes<A: Allocator + Drop + Copy>(heap: A, call: Call, view: Wtf8<'_>) -> bool {
-    match call {
-        Call::ToStringLossy => view.to_string_lossy(heap).is_ok(),
-        Call::HexDump => view.hex_dump(heap).is_ok(),
-        Call::AppendHexDump => view.append_hex_dump(&mut Vec::new(heap)).is_ok(),
-        Call::AppendUnits => view.append_units(&mut Vec::new(heap)).is_ok(),
-        _ => append_twice(&mut Vec::new(heap), view).is_ok(),
-    }
-}
-
-/// Whether the call succeeds.
-fn is_done<A: Allocator + Drop + Copy>(heap: A, call: Call, sample: &Sample<A>) -> bool {
-    match call {
-        Call::WithCapacity | Call::FromStr | Call::FromUnits | Call::FromIter | Call::Clone => {
-            makes(heap, call, sample)
-        }
-        Call::ToStringLossy
-        | Call::HexDump
-        | Call::AppendHexDump
-        | Call::AppendUnits
-        | Call::AppendUnitsTwice => writes(heap, call, sample.text.as_wtf8()),
-        _ => appends(heap, call, sample),
-    }
-}
-
 /// A model of the memory of a growing string: its length and capacity in bytes, and the number of requests and of the
 /// bytes in them. It grows to the greatest of eight bytes, twice its capacity and what is needed.
 #[derive(Clone, Copy)]
@@ -234,11 +96,11 @@ const NO_ROOM: Room = Room {
 impl Room {
     /// Reserves `additional` more bytes.
     fn reserve(&mut self, additional: usize) {
-        let wanted = self.len.saturating_add(additional);
-        if wanted <= self.capacity {
+        let needed = self.len.saturating_add(additional);
+        if needed <= self.capacity {
             return;
         }
-        self.capacity = self.capacity.saturating_mul(2).max(wanted).max(8);
+        self.capacity = self.capacity.saturating_mul(2).max(needed).max(8);
         self.requests = self.requests.wrapping_add(1);
         self.bytes = self.bytes.wrapping_add(self.capacity);
     }
@@ -265,7 +127,7 @@ impl Room {
 }
 
 /// The memory of a string of `len` bytes, empty or with a lead at its end, to which the sample is appended as a view.
-fn room_behind<A: Allocator>(len: usize, sample: &Sample<A>) -> Room {
+fn room_with_view<A: Allocator>(len: usize, sample: &Sample<A>) -> Room {
     let mut room = NO_ROOM;
     room.append(len);
     let begins_with_trail = match sample.units.first() {
@@ -342,8 +204,8 @@ fn room_after<A: Allocator>(call: Call, sample: &Sample<A>) -> Option<Room> {
         Call::PushEach => Some(room_pushed(sample)),
         Call::PushStr => Some(room_appended(text_len)),
         Call::PushWtf8 => Some(room_appended(len)),
-        Call::JoinWtf8 => Some(room_behind(3, sample)),
-        Call::ApplyAll => Some(room_extended(room_behind(0, sample), sample)),
+        Call::JoinWtf8 => Some(room_with_view(3, sample)),
+        Call::ApplyAll => Some(room_extended(room_with_view(0, sample), sample)),
         Call::ToStringLossy => Some(room_of(if text.is_some() { 0 } else { len })),
         Call::HexDump => Some(room_of(len.saturating_mul(3))),
         Call::AppendHexDump => Some(room_appended(len.saturating_mul(3))),
@@ -383,26 +245,6 @@ fn expect_granted<'a>(heap: Lent<'a>, call: Call, sample: &Sample<Lent<'a>>) -> 
     Ok(requests)
 }
 
-/// Refuses each request of the call in turn, for good and once. Fails unless the call fails and makes no more requests.
-fn expect_refused<'a>(
-    heap: Lent<'a>,
-    call: Call,
-    sample: &Sample<Lent<'a>>,
-    requests: u64,
-) -> Result<(), Fail> {
-    for refusal in REFUSALS {
-        for granted in 0..requests {
-            heap.refuse_after(granted, refusal);
-            let is_done = is_done(heap, call, sample);
-            if is_done || heap.requests() != granted.wrapping_add(1) {
-                let length = sample.units.len();
-                return Err(Fail::new(format_args!("{call:?} at {length} with {granted} granted")));
-            }
-        }
-    }
-    Ok(())
-}
-
 /// Fails unless each call on a sample succeeds if all is granted, with the expected number of requests and of bytes.
 fn expect_calls<'a>(heap: Lent<'a>, sample: &Sample<Lent<'a>>) -> Result<(), Fail> {
     for call in CALLS {
@@ -419,13 +261,14 @@ fn expect_done(alloc: Global, heap: Lent<'_>, kind: &[u16; 8], length: usize) ->
 
 #[test]
 fn each_call_is_done_at_each_length(rt: HostRuntime) -> Result<(), Fail> {
-    let heap = Refusing::new(rt.alloc(), 0);
+    let alloc = rt.alloc();
+    let heap = Refusing::new(alloc, 0);
     for kind in &KINDS {
         for length in 0..=300 {
-            expect_done(rt.alloc(), &heap, kind, length)?;
+            expect_done(alloc, &heap, kind, length)?;
         }
         for length in LONG {
-            expect_done(rt.alloc(), &heap, kind, length)?;
+            expect_done(alloc, &heap, kind, length)?;
         }
     }
     Ok(())
@@ -433,10 +276,11 @@ fn each_call_is_done_at_each_length(rt: HostRuntime) -> Result<(), Fail> {
 
 #[test]
 fn each_call_is_done_about_powers_of_two(rt: HostRuntime) -> Result<(), Fail> {
-    let heap = Refusing::new(rt.alloc(), 0);
+    let alloc = rt.alloc();
+    let heap = Refusing::new(alloc, 0);
     for (unit, lengths) in ABOUT_POWERS {
         for length in lengths {
-            expect_done(rt.alloc(), &heap, &[unit; 8], *length)?;
+            expect_done(alloc, &heap, &[unit; 8], *length)?;
         }
     }
     Ok(())
@@ -452,7 +296,7 @@ fn expect_refusals<'a>(heap: Lent<'a>, sample: &Sample<Lent<'a>>) -> Result<(), 
 }
 
 /// Fails unless each call on `length` units that repeat `kind` fails at each request that is refused.
-fn expect_answers(
+fn expect_failures(
     alloc: Global,
     heap: Lent<'_>,
     kind: &[u16; 8],
@@ -466,11 +310,12 @@ fn expect_answers(
 const REFUSED: [usize; 15] = [0, 1, 2, 3, 8, 15, 16, 17, 31, 32, 33, 64, 100, 300, 1000];
 
 #[test]
-fn each_call_answers_each_refusal(rt: HostRuntime) -> Result<(), Fail> {
-    let heap = Refusing::new(rt.alloc(), 0);
+fn each_call_fails_at_each_refusal(rt: HostRuntime) -> Result<(), Fail> {
+    let alloc = rt.alloc();
+    let heap = Refusing::new(alloc, 0);
     for kind in &KINDS {
         for length in REFUSED {
-            expect_answers(rt.alloc(), &heap, kind, length)?;
+            expect_failures(alloc, &heap, kind, length)?;
         }
     }
     Ok(())

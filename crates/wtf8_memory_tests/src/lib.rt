@@ -15,3 +15,7 @@ mod lengths;
 mod lists;
 #[cfg(test)]
 mod making;
+#[cfg(test)]
+mod samples;
+#[cfg(test)]
+mod shared;

@@ -1,35 +1,10 @@
 // Lists of building calls that stop at a refused request for memory.
+use crate::shared::{FULL, Lent, call_named, full};
 use refusing::{REFUSALS, Refusal, Refusing};
 use std::alloc::{AllocError, Allocator, Global};
 use std::test::Fail;
 use wtf8::{Build, CodePoint, Wtf8, Wtf8Buf};
-use wtf8_tests::examples::{expect_dump, point_of_unit, pushed};
-
-type Lent<'a> = &'a Refusing<Global>;
-
-/// Makes a call by the method of its name; a truncation only at a boundary, or to a number of units that are there.
-fn call_named(text: &mut Wtf8Buf<Global>, call: Build<'_>) -> Result<(), AllocError> {
-    match call {
-        Build::Push(code_point) => text.push(code_point),
-        Build::PushChar(c) => text.push_char(c),
-        Build::PushStr(piece) => text.push_str(piece),
-        Build::PushWtf8(piece) => text.push_wtf8(piece),
-        Build::Extend(points) => text.extend(points.iter().copied()),
-        Build::Reserve(additional) => text.reserve(additional),
-        Build::Truncate(position) => {
-            if text.as_wtf8().is_code_point_boundary(position) {
-                text.truncate(position);
-            }
-            Ok(())
-        }
-        Build::TruncateUnits(n) => {
-            if n <= text.as_wtf8().unit_len() {
-                text.truncate_units(n);
-            }
-            Ok(())
-        }
-    }
-}
+use wtf8_tests::examples::{expect_dump, expect_made, joined, point_of_unit};
 
 /// The string that the calls build, each made by the method of its name.
 fn folded(alloc: Global, calls: &[Build<'_>]) -> Result<Wtf8Buf<Global>, AllocError> {
@@ -87,17 +62,17 @@ fn extend_by(
     call: Option<&Build<'_>>,
     taken: usize,
 ) -> Result<(), AllocError> {
-    if let Some(Build::Extend(points)) = call {
-        text.extend(points.iter().copied().take(taken))?;
+    match call {
+        Some(Build::Extend(points)) => text.extend(points.iter().copied().take(taken)),
+        _ => Ok(()),
     }
-    Ok(())
 }
 
-/// Fails unless the calls before the stop, made by name, and the code points taken of an extension build `stop.dump`.
-fn expect_before(alloc: Global, calls: &[Build<'_>], stop: Stop) -> Result<(), Fail> {
-    let mut before = folded(alloc, calls.get(..stop.done).ok_or("calls")?)?;
-    extend_by(&mut before, calls.get(stop.done), stop.taken)?;
-    expect_dump(alloc, before.as_wtf8(), stop.dump)
+/// The string that the calls before the stop, made by name, and the code points taken of an extension build.
+fn before(alloc: Global, calls: &[Build<'_>], stop: Stop) -> Result<Wtf8Buf<Global>, AllocError> {
+    let mut text = folded(alloc, calls.get(..stop.done).unwrap_or(calls))?;
+    extend_by(&mut text, calls.get(stop.done), stop.taken)?;
+    Ok(text)
 }
 
 /// Whether `apply_all` stops at the call with index `done`.
@@ -127,7 +102,7 @@ fn expect_stop(
 /// Fails unless the list stops at each of its requests, refused for good or once, with the bytes of the calls before.
 fn expect_stops(alloc: Global, heap: Lent<'_>, calls: &[Build<'_>]) -> Result<(), Fail> {
     for stop in stops() {
-        expect_before(alloc, calls, stop)?;
+        expect_made(alloc, before(alloc, calls, stop), stop.dump)?;
         for refusal in REFUSALS {
             expect_stop(alloc, heap, calls, stop, refusal)?;
         }
@@ -159,12 +134,6 @@ fn expect_applied(
     expect_dump(alloc, text.as_wtf8(), dump)
 }
 
-/// Fails unless the calls, each made by the method of its name, build the bytes of `dump`.
-fn expect_folded(alloc: Global, calls: &[Build<'_>], dump: &str) -> Result<(), Fail> {
-    let ample = folded(alloc, calls)?;
-    expect_dump(alloc, ample.as_wtf8(), dump)
-}
-
 /// A list with each kind of call. `joining` begins with a trail surrogate; `points` is the extension.
 fn every_call<'a>(joining: Wtf8<'a>, points: &'a [CodePoint]) -> [Build<'a>; 13] {
     [
@@ -190,20 +159,15 @@ fn expect_every_call(alloc: Global, heap: Lent<'_>, joining: Wtf8<'_>) -> Result
     let calls = every_call(joining, &points);
     expect_stops(alloc, heap, &calls)?;
     expect_applied(alloc, heap, &calls, "F0 9F 92 A9 61")?;
-    expect_folded(alloc, &calls, "F0 9F 92 A9 61")
+    expect_made(alloc, folded(alloc, &calls), "F0 9F 92 A9 61")
 }
 
 #[test]
 fn a_list_of_every_call_stops_at_each_request(rt: HostRuntime) -> Result<(), Fail> {
-    let heap = Refusing::new(rt.alloc(), 0);
-    let joining = pushed(rt.alloc(), &[0xDCA9, 0x62])?;
-    expect_every_call(rt.alloc(), &heap, joining.as_wtf8())
-}
-
-/// Appends "a" and the lead surrogate D83D.
-fn fill<A: Allocator>(text: &mut Wtf8Buf<A>) -> Result<(), AllocError> {
-    text.push_char('a')?;
-    text.push(point_of_unit(0xD83D))
+    let alloc = rt.alloc();
+    let heap = Refusing::new(alloc, 0);
+    let joining = joined(alloc, &[0xDCA9, 0x62])?;
+    expect_every_call(alloc, &heap, joining.as_wtf8())
 }
 
 /// Whether a list stops at its first push, which makes its only request, if that is refused.
@@ -227,22 +191,22 @@ fn expect_push_refused(
         if !is_push_refused(heap, text, refusal) {
             return Err(Fail::new("not stopped at the push, or by other requests"));
         }
-        expect_dump(alloc, text.as_wtf8(), "61 ED A0 BD")?;
+        expect_dump(alloc, text.as_wtf8(), FULL)?;
     }
     Ok(())
 }
 
 /// Fails unless a list stops at a refused push, on a string without spare capacity, and leaves that unchanged.
 fn expect_push_refused_where_full(alloc: Global, heap: Lent<'_>) -> Result<(), Fail> {
-    let mut text = Wtf8Buf::with_capacity(heap, 4)?;
-    fill(&mut text)?;
+    let mut text = full(heap)?;
     expect_push_refused(alloc, heap, &mut text)
 }
 
 #[test]
 fn a_list_stops_at_the_refused_push(rt: HostRuntime) -> Result<(), Fail> {
-    let heap = Refusing::new(rt.alloc(), 1);
-    expect_push_refused_where_full(rt.alloc(), &heap)
+    let alloc = rt.alloc();
+    let heap = Refusing::new(alloc, 1);
+    expect_push_refused_where_full(alloc, &heap)
 }
 
 /// Fails unless an extension that needs more than the capacity stops, with the code points appended that fit.
@@ -269,6 +233,7 @@ fn expect_extension_stopped(alloc: Global, heap: Lent<'_>) -> Result<(), Fail> {
 
 #[test]
 fn an_extension_holds_what_there_was_room_for(rt: HostRuntime) -> Result<(), Fail> {
-    let heap = Refusing::new(rt.alloc(), 1);
-    expect_extension_stopped(rt.alloc(), &heap)
+    let alloc = rt.alloc();
+    let heap = Refusing::new(alloc, 1);
+    expect_extension_stopped(alloc, &heap)
 }

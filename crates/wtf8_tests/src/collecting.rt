@@ -1,18 +1,21 @@
 // Strings built from iterators of code points.
 use crate::examples::{
-    TEXT, TEXT_DUMP, expect_dump, expect_units, joined, joining, point_of_unit, points_of_units,
-    pushed,
+    TEXT, TEXT_DUMP, expect_made, expect_made_of, joined, joining, point_of_unit, points_of_units,
 };
-use std::alloc::{AllocError, Global};
+use std::alloc::{AllocError, Allocator, Global};
 use std::test::Fail;
 use wtf8::{CodePoint, Wtf8, Wtf8Buf};
 
+/// The string collected from a code point for each of `units`.
+fn collected(alloc: Global, units: &[u16]) -> Result<Wtf8Buf<Global>, AllocError> {
+    Wtf8Buf::from_iter(alloc, points_of_units(alloc, units)?)
+}
+
 #[test]
 fn collected_code_points_join(rt: HostRuntime) -> Result<(), Fail> {
+    let alloc = rt.alloc();
     for (units, _, dump) in joining() {
-        let text = Wtf8Buf::from_iter(rt.alloc(), points_of_units(rt.alloc(), units)?)?;
-        expect_dump(rt.alloc(), text.as_wtf8(), dump)?;
-        expect_units(rt.alloc(), text.as_wtf8(), units)?;
+        expect_made_of(alloc, collected(alloc, units), dump, units)?;
     }
     Ok(())
 }
@@ -24,61 +27,87 @@ fn extended(alloc: Global, points: &[CodePoint], at: usize) -> Result<Wtf8Buf<Gl
     Ok(text)
 }
 
-#[test]
-fn a_string_is_extended_from_each_place(rt: HostRuntime) -> Result<(), Fail> {
-    for (units, _, dump) in joining() {
-        let points = points_of_units(rt.alloc(), units)?;
-        for at in 0..units.len().saturating_add(1) {
-            let text = extended(rt.alloc(), &points, at)?;
-            expect_dump(rt.alloc(), text.as_wtf8(), dump)?;
-        }
+/// Fails unless a string extended from each index of `units` on has the bytes of `dump`.
+fn expect_extended(alloc: Global, units: &[u16], dump: &str) -> Result<(), Fail> {
+    let points = points_of_units(alloc, units)?;
+    for at in 0..=points.len() {
+        expect_made(alloc, extended(alloc, &points, at), dump)?;
     }
     Ok(())
 }
 
 #[test]
-fn code_points_of_a_string_give_it_again(rt: HostRuntime) -> Result<(), Fail> {
+fn a_string_is_extended_from_each_index(rt: HostRuntime) -> Result<(), Fail> {
+    let alloc = rt.alloc();
     for (units, _, dump) in joining() {
-        let text = joined(rt.alloc(), units)?;
-        let again = Wtf8Buf::from_iter(rt.alloc(), text.as_wtf8().code_points())?;
-        expect_dump(rt.alloc(), again.as_wtf8(), dump)?;
+        expect_extended(alloc, units, dump)?;
     }
-    let again = Wtf8Buf::from_iter(rt.alloc(), Wtf8::from_str(TEXT).code_points())?;
-    expect_dump(rt.alloc(), again.as_wtf8(), TEXT_DUMP)
+    Ok(())
 }
 
-/// Fails unless a string collected from one array of code points and extended by another has the bytes of `dump`.
-fn expect_extended(
+/// The string collected from the code points of the string of `units`.
+fn collected_again(alloc: Global, units: &[u16]) -> Result<Wtf8Buf<Global>, AllocError> {
+    let text = joined(alloc, units)?;
+    Wtf8Buf::from_iter(alloc, text.as_wtf8().code_points())
+}
+
+#[test]
+fn code_points_of_a_string_give_it_again(rt: HostRuntime) -> Result<(), Fail> {
+    let alloc = rt.alloc();
+    for (units, _, dump) in joining() {
+        expect_made(alloc, collected_again(alloc, units), dump)?;
+    }
+    let points = Wtf8::from_str(TEXT).code_points();
+    expect_made(alloc, Wtf8Buf::from_iter(alloc, points), TEXT_DUMP)
+}
+
+/// The string collected from one array of code points and extended by another.
+fn of_arrays(
     alloc: Global,
     collected: [CodePoint; 2],
     extension: [CodePoint; 2],
-    dump: &str,
-) -> Result<(), Fail> {
+) -> Result<Wtf8Buf<Global>, AllocError> {
     let mut text = Wtf8Buf::from_iter(alloc, collected)?;
     text.extend(extension)?;
-    expect_dump(alloc, text.as_wtf8(), dump)
+    Ok(text)
 }
 
 #[test]
 fn arrays_are_taken(rt: HostRuntime) -> Result<(), Fail> {
-    let [a, b] = ['a', 'b'].map(CodePoint::from_char);
-    let [lead, trail] = [0xD83D, 0xDCA9].map(point_of_unit);
-    expect_extended(rt.alloc(), [a, lead], [trail, b], "61 F0 9F 92 A9 62")?;
-    let [e, pile] = ['é', '💩'].map(CodePoint::from_char);
-    expect_extended(rt.alloc(), [a, e], [point_of_unit(0x20), pile], TEXT_DUMP)
+    let alloc = rt.alloc();
+    let [a, b, e, pile] = ['a', 'b', 'é', '💩'].map(CodePoint::from_char);
+    let pair = [point_of_unit(0xD83D), point_of_unit(0xDCA9)];
+    let text = of_arrays(alloc, [a, pair[0]], [pair[1], b]);
+    expect_made(alloc, text, "61 F0 9F 92 A9 62")?;
+    let end = [point_of_unit(0x20), pile];
+    expect_made(alloc, of_arrays(alloc, [a, e], end), TEXT_DUMP)
 }
 
 #[test]
 fn characters_are_taken_as_code_points(rt: HostRuntime) -> Result<(), Fail> {
+    let alloc = rt.alloc();
     let points = TEXT.chars().map(CodePoint::from_char);
-    let text = Wtf8Buf::from_iter(rt.alloc(), points)?;
-    expect_dump(rt.alloc(), text.as_wtf8(), TEXT_DUMP)
+    expect_made(alloc, Wtf8Buf::from_iter(alloc, points), TEXT_DUMP)
+}
+
+/// Extends `text` by no code point, then by `point`.
+fn extend_by_options<A: Allocator>(
+    text: &mut Wtf8Buf<A>,
+    point: CodePoint,
+) -> Result<(), AllocError> {
+    text.extend(None)?;
+    text.extend(Some(point))
+}
+
+/// The string of D83D, extended by DCA9.
+fn of_options(alloc: Global) -> Result<Wtf8Buf<Global>, AllocError> {
+    let mut text = joined(alloc, &[0xD83D])?;
+    extend_by_options(&mut text, point_of_unit(0xDCA9))?;
+    Ok(text)
 }
 
 #[test]
 fn an_option_is_taken(rt: HostRuntime) -> Result<(), Fail> {
-    let mut text = pushed(rt.alloc(), &[0xD83D])?;
-    text.extend(None)?;
-    text.extend(Some(point_of_unit(0xDCA9)))?;
-    expect_dump(rt.alloc(), text.as_wtf8(), "F0 9F 92 A9")
+    let alloc = rt.alloc();
+    expect_made(alloc, of_options(alloc), "F0 9F 92 A9")
 }

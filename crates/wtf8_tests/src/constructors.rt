@@ -1,30 +1,30 @@
 // Strings made from texts and from code units.
-use crate::examples::{TEXT, TEXT_DUMP, expect_dump, expect_units, joining, pushed};
+use crate::examples::{
+    TEXT, TEXT_DUMP, expect, expect_dump, expect_made, expect_made_of, expect_units, joining,
+    pushed,
+};
 use std::alloc::{AllocError, Global};
 use std::test::Fail;
 use wtf8::{Wtf8, Wtf8Buf};
 
-/// Fails unless a copy of `text` has the bytes of `dump`.
-fn expect_copied(alloc: Global, text: &str, dump: &str) -> Result<(), Fail> {
-    let copied = Wtf8Buf::from_str(alloc, text)?;
-    expect_dump(alloc, copied.as_wtf8(), dump)
+/// The string converted from a `String` of `text`.
+fn converted(alloc: Global, text: &str) -> Result<Wtf8Buf<Global>, AllocError> {
+    Ok(Wtf8Buf::from_string(String::from_str(alloc, text)?))
 }
 
-/// Fails unless a string converted from a `String` of `text` has the bytes of `dump`.
-fn expect_kept(alloc: Global, text: &str, dump: &str) -> Result<(), Fail> {
-    let kept = Wtf8Buf::from_string(String::from_str(alloc, text)?);
-    expect_dump(alloc, kept.as_wtf8(), dump)
+/// Fails unless a view of `text`, a copy, and a string converted from a `String` have the bytes of `dump`.
+fn expect_text(alloc: Global, text: &str, dump: &str) -> Result<(), Fail> {
+    expect_dump(alloc, Wtf8::from_str(text), dump)?;
+    expect_made(alloc, Wtf8Buf::from_str(alloc, text), dump)?;
+    expect_made(alloc, converted(alloc, text), dump)
 }
 
 #[test]
 fn texts_keep_their_bytes(rt: HostRuntime) -> Result<(), Fail> {
-    expect_dump(rt.alloc(), Wtf8Buf::new(rt.alloc()).as_wtf8(), "")?;
-    for (text, dump) in [("", ""), (TEXT, TEXT_DUMP)] {
-        expect_dump(rt.alloc(), Wtf8::from_str(text), dump)?;
-        expect_copied(rt.alloc(), text, dump)?;
-        expect_kept(rt.alloc(), text, dump)?;
-    }
-    Ok(())
+    let alloc = rt.alloc();
+    expect_made(alloc, Ok(Wtf8Buf::new(alloc)), "")?;
+    expect_text(alloc, "", "")?;
+    expect_text(alloc, TEXT, TEXT_DUMP)
 }
 
 #[test]
@@ -72,43 +72,47 @@ fn room_is_at_least_what_was_asked_for(rt: HostRuntime) -> Result<(), Fail> {
     Ok(())
 }
 
-#[test]
-fn a_clone_is_equal_and_stands_alone(rt: HostRuntime) -> Result<(), Fail> {
-    let text = pushed(rt.alloc(), &WITH_LEAD)?;
+/// Whether a clone equals `text`.
+fn is_clone_equal(text: &Wtf8Buf<Global>) -> Result<bool, AllocError> {
+    Ok(text.clone()? == *text)
+}
+
+/// A clone of `text`, to which "b" is appended.
+fn clone_and_push(text: &Wtf8Buf<Global>) -> Result<Wtf8Buf<Global>, AllocError> {
     let mut copy = text.clone()?;
-    assert!(rt; copy == text);
     copy.push_char('b')?;
-    expect_dump(
-        rt.alloc(),
-        copy.as_wtf8(),
-        "61 C3 A9 20 F0 9F 92 A9 ED A0 80 62",
-    )?;
-    expect_dump(rt.alloc(), text.as_wtf8(), WITH_LEAD_DUMP)
+    Ok(copy)
+}
+
+#[test]
+fn a_clone_is_equal_and_independent(rt: HostRuntime) -> Result<(), Fail> {
+    let alloc = rt.alloc();
+    let text = pushed(alloc, &WITH_LEAD)?;
+    expect(is_clone_equal(&text), "a clone is not equal")?;
+    let dump = "61 C3 A9 20 F0 9F 92 A9 ED A0 80 62";
+    expect_made(alloc, clone_and_push(&text), dump)?;
+    expect_dump(alloc, text.as_wtf8(), WITH_LEAD_DUMP)
+}
+
+/// Fails unless the string made of `units` has the bytes of `dump` and gives `units` back.
+fn expect_made_by_units(alloc: Global, units: &[u16], dump: &str) -> Result<(), Fail> {
+    let made = Wtf8Buf::from_ill_formed_utf16(alloc, units);
+    expect_made_of(alloc, made, dump, units)
 }
 
 #[test]
 fn units_come_back_from_a_string_of_them(rt: HostRuntime) -> Result<(), Fail> {
-    let cases: [(&[u16], &str); 2] = [
-        (&[], ""),
-        (
-            &[0x61, 0xE9, 0x20, 0xD83D, 0xD83D, 0xDCA9],
-            "61 C3 A9 20 ED A0 BD F0 9F 92 A9",
-        ),
-    ];
-    for (units, dump) in cases {
-        expect_made(rt.alloc(), units, dump)?;
-    }
+    let alloc = rt.alloc();
+    expect_made_by_units(alloc, &[], "")?;
+    expect_made_by_units(
+        alloc,
+        &[0x61, 0xE9, 0x20, 0xD83D, 0xD83D, 0xDCA9],
+        "61 C3 A9 20 ED A0 BD F0 9F 92 A9",
+    )?;
     for (units, _, dump) in joining() {
-        expect_made(rt.alloc(), units, dump)?;
+        expect_made_by_units(alloc, units, dump)?;
     }
     Ok(())
-}
-
-/// Fails unless the string made of `units` has the bytes of `dump` and gives `units` back.
-fn expect_made(alloc: Global, units: &[u16], dump: &str) -> Result<(), Fail> {
-    let text = Wtf8Buf::from_ill_formed_utf16(alloc, units)?;
-    expect_dump(alloc, text.as_wtf8(), dump)?;
-    expect_units(alloc, text.as_wtf8(), units)
 }
 
 /// An ASCII unit, a lead surrogate, a trail surrogate, and the first code unit after the surrogates.
@@ -125,31 +129,44 @@ fn list_of_kinds(alloc: Global, length: u32, code: usize) -> Result<Vec<u16>, Al
     Ok(units)
 }
 
-/// Whether a clone equals `text` and has 100 bytes to spare once they are reserved. Fails unless it has `units`.
-fn is_copied(alloc: Global, text: &Wtf8Buf<Global>, units: &[u16]) -> Result<bool, Fail> {
+/// A clone of `text`, for which 100 more bytes are reserved.
+fn clone_and_reserve(text: &Wtf8Buf<Global>) -> Result<Wtf8Buf<Global>, AllocError> {
     let mut copy = text.clone()?;
     copy.reserve(100)?;
-    expect_units(alloc, copy.as_wtf8(), units)?;
-    Ok(copy == *text && 100 <= copy.capacity() - copy.len())
+    Ok(copy)
 }
 
-/// Whether a clone of the string of `units` is equal, with room for what is reserved. Fails unless the units come back.
-fn is_kept(alloc: Global, units: &[u16]) -> Result<bool, Fail> {
+/// Fails unless a clone equals `text`, has its units `units`, and has 100 bytes to spare once they are reserved.
+fn expect_copied(alloc: Global, text: &Wtf8Buf<Global>, units: &[u16]) -> Result<(), Fail> {
+    let copy = clone_and_reserve(text)?;
+    if copy != *text || copy.capacity() - copy.len() < 100 {
+        return Err(Fail::new("a clone is not equal, or has no room"));
+    }
+    expect_units(alloc, copy.as_wtf8(), units)
+}
+
+/// Fails unless the string of `units` gives them back, and so does a clone of it with room for what is reserved.
+fn expect_kept(alloc: Global, units: &[u16]) -> Result<(), Fail> {
     let text = Wtf8Buf::from_ill_formed_utf16(alloc, units)?;
     expect_units(alloc, text.as_wtf8(), units)?;
-    is_copied(alloc, &text, units)
+    expect_copied(alloc, &text, units)
+}
+
+/// Fails unless the list of kinds with this length and code comes back.
+fn expect_list_kept(alloc: Global, length: u32, code: usize) -> Result<(), Fail> {
+    expect_kept(alloc, &list_of_kinds(alloc, length, code)?)
 }
 
 #[test]
 fn all_short_lists_of_units_come_back(rt: HostRuntime) -> Result<(), Fail> {
+    let alloc = rt.alloc();
     let mut tried = 0u32;
     for (length, lists) in [(0, 1), (1, 4), (2, 16), (3, 64)] {
         for code in 0..lists {
-            let units = list_of_kinds(rt.alloc(), length, code)?;
-            assert!(rt; is_kept(rt.alloc(), &units)?, "{units:?}");
+            expect_list_kept(alloc, length, code)?;
             tried = tried.wrapping_add(1);
         }
     }
-    assert_eq!(rt; tried, 85);
+    assert!(rt; tried == 85);
     Ok(())
 }

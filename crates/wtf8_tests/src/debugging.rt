@@ -1,7 +1,7 @@
 // `Debug` output of strings and code points: it ignores width, precision and flags, and ends at a refused write.
-use crate::examples::pushed;
+use crate::examples::{point_of_number, pushed};
 use crate::sinks::{Sink, is_written, long_text};
-use std::alloc::Global;
+use std::alloc::{AllocError, Global};
 use std::fmt::{Debug, Write};
 use std::test::Fail;
 use wtf8::{CodePoint, Wtf8};
@@ -33,14 +33,22 @@ fn strings() -> [(&'static [u32], &'static str); 8] {
     ]
 }
 
+/// Fails unless the debug output of the string of these code points, and of its view, is `expected`.
+fn expect_shown(alloc: Global, numbers: &[u32], expected: &str) -> Result<(), Fail> {
+    let text = pushed(alloc, numbers)?;
+    if !shows(alloc, &text, expected) || !shows(alloc, &text.as_wtf8(), expected) {
+        return Err(Fail::new(expected));
+    }
+    Ok(())
+}
+
 #[test]
 fn debug_texts_show_surrogates_by_number(rt: HostRuntime) -> Result<(), Fail> {
+    let alloc = rt.alloc();
     for (numbers, expected) in strings() {
-        let text = pushed(rt.alloc(), numbers)?;
-        assert!(rt; shows(rt.alloc(), &text, expected), "{expected}");
-        assert!(rt; shows(rt.alloc(), &text.as_wtf8(), expected), "{expected}");
+        expect_shown(alloc, numbers, expected)?;
     }
-    assert!(rt; shows(rt.alloc(), &Wtf8::from_str("\\u{D800}"), "\"\\u{D800}\""));
+    assert!(rt; shows(alloc, &Wtf8::from_str("\\u{D800}"), "\"\\u{D800}\""));
     Ok(())
 }
 
@@ -63,9 +71,12 @@ fn points() -> [(u32, &'static str); 12] {
 
 #[test]
 fn a_debug_text_has_the_number_in_hexadecimal(rt: HostRuntime) -> Result<(), Fail> {
+    let alloc = rt.alloc();
     for (number, expected) in points() {
-        let point = CodePoint::from_u32(number).ok_or("a code point")?;
-        assert!(rt; shows(rt.alloc(), &point, expected), "{expected}");
+        assert!(rt;
+            shows(alloc, &point_of_number(number)?, expected),
+            "{expected}"
+        );
     }
     Ok(())
 }
@@ -115,24 +126,34 @@ fn expect_string_ends(alloc: Global, numbers: &[u32], expected: &str) -> Result<
 
 #[test]
 fn a_debug_text_ends_at_a_refused_write(rt: HostRuntime) -> Result<(), Fail> {
+    let alloc = rt.alloc();
     for (numbers, expected) in strings() {
-        expect_string_ends(rt.alloc(), numbers, expected)?;
+        expect_string_ends(alloc, numbers, expected)?;
     }
     for (number, expected) in points() {
-        let point = CodePoint::from_u32(number).ok_or("a code point")?;
-        expect_ends(rt.alloc(), &point, expected)?;
+        expect_ends(alloc, &point_of_number(number)?, expected)?;
     }
     Ok(())
 }
 
+/// `text` in quotation marks.
+fn quoted(alloc: Global, text: &str) -> Result<String, AllocError> {
+    let mut quoted = String::from_str(alloc, "\"")?;
+    quoted.push_str(text)?;
+    quoted.push('"')?;
+    Ok(quoted)
+}
+
+/// Fails unless the debug output of a long string with the code point `number`, shown as `shown`, ends at each refused
+/// write.
+fn expect_long_ends(alloc: Global, number: u32, shown: &str) -> Result<(), Fail> {
+    let (numbers, text) = long_text(alloc, 160, number, shown)?;
+    expect_string_ends(alloc, &numbers, &quoted(alloc, &text)?)
+}
+
 #[test]
 fn a_long_debug_text_ends_at_a_refused_write(rt: HostRuntime) -> Result<(), Fail> {
-    for (number, shown) in [(0xDEAD, "\\u{DEAD}"), (0x07, "\u{7}")] {
-        let (numbers, text) = long_text(rt.alloc(), 160, number, shown)?;
-        let mut expected = String::from_str(rt.alloc(), "\"")?;
-        expected.push_str(&text)?;
-        expected.push('"')?;
-        expect_string_ends(rt.alloc(), &numbers, &expected)?;
-    }
-    Ok(())
+    let alloc = rt.alloc();
+    expect_long_ends(alloc, 0xDEAD, "\\u{DEAD}")?;
+    expect_long_ends(alloc, 0x07, "\u{7}")
 }

@@ -1,10 +1,11 @@
 // `Display` output of strings: with a width, a fill and a precision, and through a sink that refuses a write.
-use crate::examples::pushed;
+use crate::examples::{expect, pushed};
 use crate::sinks::{Sink, is_written, long_text};
 use std::alloc::{AllocError, Global};
 use std::fmt;
 use std::fmt::{Display, Write};
 use std::test::Fail;
+use wtf8::Wtf8Buf;
 
 /// Code points of strings, and their `Display` output by `{}`, `{:>8}`, `{:*^8.1}`, `{:*<6.2}` and `{:+4}`, equal to
 /// the output of the Rust library's own WTF-8 type.
@@ -34,12 +35,20 @@ fn shows<T: Display>(alloc: Global, value: &T, expected: [&str; 5]) -> bool {
         && is_written(format!(in alloc; "{value:+4}"), expected[4])
 }
 
+/// Fails unless the outputs of the string of these code points, and of its view, are `expected`.
+fn expect_shown(alloc: Global, numbers: &[u32], expected: [&str; 5]) -> Result<(), Fail> {
+    let text = pushed(alloc, numbers)?;
+    if !shows(alloc, &text, expected) || !shows(alloc, &text.as_wtf8(), expected) {
+        return Err(Fail::new(expected[0]));
+    }
+    Ok(())
+}
+
 #[test]
 fn a_text_is_filled_and_a_lossy_text_is_not(rt: HostRuntime) -> Result<(), Fail> {
+    let alloc = rt.alloc();
     for (numbers, expected) in styled() {
-        let text = pushed(rt.alloc(), numbers)?;
-        assert!(rt; shows(rt.alloc(), &text, expected), "{numbers:?}");
-        assert!(rt; shows(rt.alloc(), &text.as_wtf8(), expected), "{numbers:?}");
+        expect_shown(alloc, numbers, expected)?;
     }
     Ok(())
 }
@@ -75,12 +84,26 @@ fn with_bars(alloc: Global, parts: &[&str], left: usize) -> Result<String, Alloc
 
 /// Whether a sink that refuses the write after the first `left` takes just the first `left` parts of `value`, and the
 /// call fails if there are more.
-fn takes<T: Display>(alloc: Global, value: &T, left: usize, parts: &[&str]) -> Result<bool, Fail> {
+fn takes<T: Display>(
+    alloc: Global,
+    value: &T,
+    left: usize,
+    parts: &[&str],
+) -> Result<bool, AllocError> {
     let taken = String::new(alloc);
     let mut sink = Parts { taken, left };
     let is_ok = write!(sink, "{value}").is_ok();
-    let expected = with_bars(alloc, parts, left)?;
-    Ok(sink.taken == expected && is_ok == (parts.len() <= left))
+    Ok(sink.taken == with_bars(alloc, parts, left)? && is_ok == (parts.len() <= left))
+}
+
+/// Whether the string and its view are written in these parts, and end at each refused write.
+fn is_in_parts(alloc: Global, text: &Wtf8Buf<Global>, parts: &[&str]) -> Result<bool, AllocError> {
+    for left in 0..parts.len().saturating_add(2) {
+        if !takes(alloc, text, left, parts)? || !takes(alloc, &text.as_wtf8(), left, parts)? {
+            return Ok(false);
+        }
+    }
+    Ok(true)
 }
 
 /// Code points of strings, and the single writes by which the Rust library's own WTF-8 type displays them.
@@ -99,15 +122,13 @@ fn parts_rows() -> [(&'static [u32], &'static [&'static str]); 5] {
 
 #[test]
 fn a_lossy_text_is_written_in_parts(rt: HostRuntime) -> Result<(), Fail> {
+    let alloc = rt.alloc();
     for (numbers, parts) in parts_rows() {
-        let text = pushed(rt.alloc(), numbers)?;
-        for left in 0..parts.len().saturating_add(2) {
-            assert!(rt; takes(rt.alloc(), &text, left, parts)?, "{numbers:?}");
-            assert!(rt;
-                takes(rt.alloc(), &text.as_wtf8(), left, parts)?,
-                "{numbers:?}"
-            );
-        }
+        let text = pushed(alloc, numbers)?;
+        expect(
+            is_in_parts(alloc, &text, parts),
+            "not in the parts of the table",
+        )?;
     }
     Ok(())
 }
@@ -160,16 +181,18 @@ fn a_text_ends_at_a_refused_write(rt: HostRuntime) -> Result<(), Fail> {
 
 #[test]
 fn a_long_text_ends_at_a_refused_write(rt: HostRuntime) -> Result<(), Fail> {
-    let (numbers, text) = long_text(rt.alloc(), 160, 0x1F4A9, "💩")?;
+    let alloc = rt.alloc();
+    let (numbers, text) = long_text(alloc, 160, 0x1F4A9, "💩")?;
     let whole = text.as_str();
     let expected = [whole, whole, "***a****", "a💩****", whole];
-    expect_string_ends(rt.alloc(), &numbers, expected)
+    expect_string_ends(alloc, &numbers, expected)
 }
 
 #[test]
 fn a_long_lossy_text_ends_at_a_refused_write(rt: HostRuntime) -> Result<(), Fail> {
-    let (numbers, text) = long_text(rt.alloc(), 160, 0xDEAD, "\u{FFFD}")?;
+    let alloc = rt.alloc();
+    let (numbers, text) = long_text(alloc, 160, 0xDEAD, "\u{FFFD}")?;
     let whole = text.as_str();
     let expected = [whole, whole, whole, whole, whole];
-    expect_string_ends(rt.alloc(), &numbers, expected)
+    expect_string_ends(alloc, &numbers, expected)
 }

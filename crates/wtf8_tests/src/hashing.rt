@@ -1,6 +1,6 @@
 // What strings and code points write to a hasher.
-use crate::examples::{edges, point_of_unit, pushed};
-use std::alloc::Global;
+use crate::examples::{edges, expect, point_of_number, point_of_unit, pushed};
+use std::alloc::{AllocError, Global};
 use std::cell::RefCell;
 use std::hash::{Hash, Hasher};
 use std::test::Fail;
@@ -37,6 +37,11 @@ fn fed_by<T: Hash>(alloc: Global, value: &T) -> Vec<u8> {
     fed.into_inner()
 }
 
+/// Whether `value` writes `expected` to a hasher.
+fn is_fed<T: Hash>(alloc: Global, value: &T, expected: &[u8]) -> bool {
+    fed_by(alloc, value).as_slice() == expected
+}
+
 /// Code points of strings, and what the strings write to a hasher: all bytes at once, then the byte 0xFE.
 fn strings() -> [(&'static [u32], &'static [u8]); 4] {
     [
@@ -47,29 +52,26 @@ fn strings() -> [(&'static [u32], &'static [u8]); 4] {
     ]
 }
 
-#[test]
-fn a_hasher_is_fed_the_bytes_and_an_end(rt: HostRuntime) -> Result<(), Fail> {
-    for (numbers, expected) in strings() {
-        let text = pushed(rt.alloc(), numbers)?;
-        assert_eq!(rt; fed_by(rt.alloc(), &text).as_slice(), expected);
-        assert_eq!(rt; fed_by(rt.alloc(), &text.as_wtf8()).as_slice(), expected);
+/// Fails unless the string of these code points, and its view, write `expected` to a hasher.
+fn expect_fed(alloc: Global, numbers: &[u32], expected: &[u8]) -> Result<(), Fail> {
+    let text = pushed(alloc, numbers)?;
+    if !is_fed(alloc, &text, expected) || !is_fed(alloc, &text.as_wtf8(), expected) {
+        return Err(Fail::new("another feed"));
     }
     Ok(())
 }
 
-/// Pushes a lone lead surrogate, then truncates the string to its old length.
-fn push_and_truncate(text: &mut Wtf8Buf<Global>) -> Result<(), Fail> {
-    let len = text.len();
-    text.push(point_of_unit(0xD800))?;
-    if !text.as_wtf8().is_code_point_boundary(len) {
-        return Err(Fail::new("no boundary before a surrogate"));
+#[test]
+fn a_hasher_is_fed_the_bytes_and_an_end(rt: HostRuntime) -> Result<(), Fail> {
+    let alloc = rt.alloc();
+    for (numbers, expected) in strings() {
+        expect_fed(alloc, numbers, expected)?;
     }
-    text.truncate(len);
     Ok(())
 }
 
 /// The string "a". A surrogate was pushed and truncated before the letter was pushed if `is_before`, else after it.
-fn letter(alloc: Global, is_before: bool) -> Result<Wtf8Buf<Global>, Fail> {
+fn letter(alloc: Global, is_before: bool) -> Result<Wtf8Buf<Global>, AllocError> {
     let mut text = Wtf8Buf::new(alloc);
     if is_before {
         push_and_truncate(&mut text)?;
@@ -81,25 +83,58 @@ fn letter(alloc: Global, is_before: bool) -> Result<Wtf8Buf<Global>, Fail> {
     Ok(text)
 }
 
-#[test]
-fn equal_strings_feed_the_same_whatever_was_truncated(rt: HostRuntime) -> Result<(), Fail> {
-    let text = Wtf8Buf::from_str(rt.alloc(), "a")?;
-    let (before, after) = (letter(rt.alloc(), true)?, letter(rt.alloc(), false)?);
-    assert!(rt; text == before && before == after && after == text);
-    let expected: &[u8] = &[1, 0x61, 1, 0xFE];
-    for string in [text, before, after] {
-        assert_eq!(rt; fed_by(rt.alloc(), &string).as_slice(), expected);
+/// Pushes a lone lead surrogate, then truncates the string to its old length.
+fn push_and_truncate(text: &mut Wtf8Buf<Global>) -> Result<(), AllocError> {
+    let len = text.len();
+    text.push(point_of_unit(0xD800))?;
+    if text.as_wtf8().is_code_point_boundary(len) {
+        text.truncate(len);
     }
     Ok(())
 }
 
+/// Whether the string "a", with a surrogate truncated before or after it, equals `text` and feeds what "a" feeds.
+fn is_letter(alloc: Global, text: &Wtf8Buf<Global>, is_before: bool) -> Result<bool, AllocError> {
+    let string = letter(alloc, is_before)?;
+    Ok(string == *text && *text == string && is_fed(alloc, &string, &[1, 0x61, 1, 0xFE]))
+}
+
+/// Whether "a", with a surrogate truncated before it or after it or without one, is one string to `==` and a hasher.
+fn are_letters(alloc: Global) -> Result<bool, AllocError> {
+    let text = Wtf8Buf::from_str(alloc, "a")?;
+    let is_same = is_fed(alloc, &text, &[1, 0x61, 1, 0xFE]);
+    Ok(is_same && is_letter(alloc, &text, true)? && is_letter(alloc, &text, false)?)
+}
+
+/// Whether "a" is the same with a surrogate truncated before it and with one truncated after it.
+fn are_same_letters(alloc: Global) -> Result<bool, AllocError> {
+    is_letter(alloc, &letter(alloc, true)?, false)
+}
+
+#[test]
+fn equal_strings_feed_the_same_whatever_was_truncated(rt: HostRuntime) -> Result<(), Fail> {
+    let alloc = rt.alloc();
+    expect(
+        are_letters(alloc),
+        "not the same with a surrogate truncated as without",
+    )?;
+    expect(are_same_letters(alloc), "not the same before and after")
+}
+
+/// Whether a code point feeds the five bytes that its number feeds.
+fn is_fed_as_number(alloc: Global, point: CodePoint, number: u32) -> bool {
+    let expected = fed_by(alloc, &number);
+    expected.len() == 5 && is_fed(alloc, &point, &expected)
+}
+
 #[test]
 fn a_code_point_feeds_what_its_number_feeds(rt: HostRuntime) -> Result<(), Fail> {
+    let alloc = rt.alloc();
     for (number, _, _) in edges() {
-        let point = CodePoint::from_u32(number).ok_or("a code point")?;
-        let expected = fed_by(rt.alloc(), &number);
-        assert_eq!(rt; expected.len(), 5);
-        assert_eq!(rt; fed_by(rt.alloc(), &point), expected, "{number}");
+        assert!(rt;
+            is_fed_as_number(alloc, point_of_number(number)?, number),
+            "{number}"
+        );
     }
     Ok(())
 }

@@ -1,29 +1,56 @@
 // Items, size hints and clones of the iterators. Scripts compare each of their steps with the original crate.
+use crate::examples::expect;
+use std::alloc::AllocError;
 use std::test::Fail;
-use wtf8::{CodePoint, Wtf8};
+use wtf8::{CodePoint, IllFormedUtf16CodeUnits, Wtf8, Wtf8CodePoints};
+
+/// Whether the iterator yields `unit`, and has the size hint `hint` after it.
+fn yields(
+    units: &mut IllFormedUtf16CodeUnits<'_>,
+    unit: Option<u16>,
+    hint: (usize, Option<usize>),
+) -> bool {
+    units.next() == unit && units.size_hint() == hint
+}
+
+/// Whether the iterator yields one more unit, DCA9.
+fn yields_trail(units: &mut IllFormedUtf16CodeUnits<'_>) -> bool {
+    yields(units, Some(0xDCA9), (0, Some(0))) && units.next().is_none()
+}
+
+/// Whether the iterator over the units of "a" and U+1F4A9, cloned inside the pair, goes on in the clone.
+fn do_units_go_on() -> Result<bool, AllocError> {
+    let mut units = Wtf8::from_str("a\u{1F4A9}").to_ill_formed_utf16();
+    let is_begun = units.size_hint() == (2, Some(10))
+        && units.next() == Some(0x61)
+        && yields(&mut units, Some(0xD83D), (1, Some(1)));
+    let mut copy = units.clone()?;
+    let is_copied = copy.size_hint() == (1, Some(1));
+    Ok(is_begun && is_copied && yields_trail(&mut copy) && yields_trail(&mut units))
+}
 
 #[test]
 fn units_go_on_in_a_clone(rt: HostRuntime) -> Result<(), Fail> {
-    let mut units = Wtf8::from_str("a\u{1F4A9}").to_ill_formed_utf16();
-    assert_eq!(rt; units.size_hint(), (2, Some(10)));
-    assert_eq!(rt; units.next(), Some(0x61));
-    assert_eq!(rt; units.next(), Some(0xD83D));
-    let mut copy = units.clone()?;
-    assert_eq!(rt; copy.size_hint(), (1, Some(1)));
-    assert_eq!(rt; (copy.next(), copy.next()), (Some(0xDCA9), None));
-    assert_eq!(rt; (units.next(), units.next()), (Some(0xDCA9), None));
-    Ok(())
+    expect(do_units_go_on(), "another unit or hint")
+}
+
+/// Whether the next code point is that of `character`.
+fn yields_point(points: &mut Wtf8CodePoints<'_>, character: char) -> bool {
+    points.next() == Some(CodePoint::from_char(character))
+}
+
+/// Whether the iterator over the code points of "a" and U+1F4A9, cloned after the first, goes on in the clone.
+fn do_points_go_on() -> Result<bool, AllocError> {
+    let mut points = Wtf8::from_str("a\u{1F4A9}").code_points();
+    let is_begun = points.size_hint() == (2, Some(5)) && yields_point(&mut points, 'a');
+    let mut copy = points.clone()?;
+    let is_ended = yields_point(&mut copy, '\u{1F4A9}') && copy.next().is_none();
+    Ok(is_begun && is_ended && points.size_hint() == (1, Some(4)))
 }
 
 #[test]
 fn code_points_go_on_in_a_clone(rt: HostRuntime) -> Result<(), Fail> {
-    let mut points = Wtf8::from_str("a\u{1F4A9}").code_points();
-    assert_eq!(rt; points.size_hint(), (2, Some(5)));
-    assert!(rt; points.next() == Some(CodePoint::from_char('a')));
-    let mut copy = points.clone()?;
-    assert!(rt; copy.next() == Some(CodePoint::from_char('\u{1F4A9}')) && copy.next().is_none());
-    assert_eq!(rt; points.size_hint(), (1, Some(4)));
-    Ok(())
+    expect(do_points_go_on(), "another code point or hint")
 }
 
 /// What one call of `next` returns, and the size hint after it.
@@ -53,14 +80,20 @@ fn moments() -> [(&'static str, [Moment; 4]); 2] {
     ]
 }
 
-#[test]
-fn a_held_trail_counts_in_the_hint(rt: HostRuntime) -> Result<(), Fail> {
-    for (text, moments) in moments() {
-        let mut units = Wtf8::from_str(text).to_ill_formed_utf16();
-        for (unit, hint) in moments {
-            assert_eq!(rt; units.next(), unit, "{text}");
-            assert_eq!(rt; units.size_hint(), hint, "{text}");
+/// Whether the iterator over the units of `text` takes these steps.
+fn takes_steps(text: &str, moments: [Moment; 4]) -> bool {
+    let mut units = Wtf8::from_str(text).to_ill_formed_utf16();
+    for (unit, hint) in moments {
+        if !yields(&mut units, unit, hint) {
+            return false;
         }
     }
-    Ok(())
+    true
+}
+
+#[test]
+fn a_held_trail_counts_in_the_hint(rt: HostRuntime) {
+    for (text, moments) in moments() {
+        assert!(rt; takes_steps(text, moments), "{text}");
+    }
 }

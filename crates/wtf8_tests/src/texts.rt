@@ -1,42 +1,55 @@
 // Conversions of strings to UTF-8, exact and lossy.
-use crate::examples::{TEXT, expect_dump, pushed};
-use std::alloc::{Allocator, Global};
+use crate::examples::{TEXT, expect, expect_dump, joined, pushed};
+use std::alloc::{AllocError, Allocator, Global};
 use std::borrow::CowStr;
 use std::test::Fail;
 use wtf8::{Wtf8, Wtf8Buf};
 
-/// Fails unless `string` converts to `text`, borrowed and owned.
-fn expect_text<A: Allocator + Drop>(string: Wtf8Buf<A>, text: &str) -> Result<(), Fail> {
+/// Whether `string` converts to `text`, borrowed and owned.
+fn is_text<A: Allocator + Drop>(string: Wtf8Buf<A>, text: &str) -> bool {
     if string.as_wtf8().as_str() != Some(text) {
-        return Err(Fail::new("the view is another text, or none"));
+        return false;
     }
-    let Ok(owned) = string.into_string() else {
-        return Err(Fail::new("the string is no text"));
-    };
-    if owned.as_str() != text {
-        return Err(Fail::new("the string is another text"));
+    match string.into_string() {
+        Ok(owned) => owned.as_str() == text,
+        Err(_) => false,
+    }
+}
+
+/// Fails unless a string was made, and converts to `text`, borrowed and owned.
+fn expect_text(made: Result<Wtf8Buf<Global>, AllocError>, text: &str) -> Result<(), Fail> {
+    if !is_text(made?, text) {
+        return Err(Fail::new("another text, or none"));
     }
     Ok(())
 }
 
+/// Fails unless a view of `text`, and a copy of it, convert to it.
+fn expect_copied(alloc: Global, text: &str) -> Result<(), Fail> {
+    if Wtf8::from_str(text).as_str() != Some(text) {
+        return Err(Fail::new(text));
+    }
+    expect_text(Wtf8Buf::from_str(alloc, text), text)
+}
+
 #[test]
 fn a_string_without_surrogates_is_a_text(rt: HostRuntime) -> Result<(), Fail> {
+    let alloc = rt.alloc();
     for text in ["", "a", TEXT, "\u{D55C}", "\u{D7FF}\u{E000}", "\u{10FFFF}"] {
-        assert_eq!(rt; Wtf8::from_str(text).as_str(), Some(text));
-        expect_text(Wtf8Buf::from_str(rt.alloc(), text)?, text)?;
+        expect_copied(alloc, text)?;
     }
-    expect_text(pushed(rt.alloc(), &[0xD83D, 0xDCA9])?, "💩")
+    expect_text(joined(alloc, &[0xD83D, 0xDCA9]), "💩")
 }
 
 /// Hangul such as U+D55C begins with 0xED as surrogates do, so the search for them, by blocks, must pass over it.
 #[test]
 fn a_long_string_of_hangul_is_a_text(rt: HostRuntime) -> Result<(), Fail> {
+    let alloc = rt.alloc();
     let hangul = [0xD55C; 40];
     let expected = "한한한한한한한한한한한한한한한한한한한한한한한한한한한한한한한한한한한한한한한한";
-    assert_eq!(rt; expected.len(), 120);
-    expect_text(pushed(rt.alloc(), &hangul)?, expected)?;
-    let units = Wtf8Buf::from_ill_formed_utf16(rt.alloc(), &[0xD55C; 40])?;
-    expect_text(units, expected)
+    assert!(rt; expected.len() == 120);
+    expect_text(joined(alloc, &hangul), expected)?;
+    expect_text(Wtf8Buf::from_ill_formed_utf16(alloc, &hangul), expected)
 }
 
 /// Code points of strings with a lone surrogate, and the strings' bytes.
@@ -54,17 +67,33 @@ fn no_texts() -> [(&'static [u32], &'static str); 6] {
     ]
 }
 
+/// Whether a string was made, and the conversion to a text gives back a string that equals `copy`.
+fn is_given_back(
+    made: Result<Wtf8Buf<Global>, AllocError>,
+    copy: &Wtf8Buf<Global>,
+) -> Result<bool, AllocError> {
+    match made?.into_string() {
+        Ok(_) => Ok(false),
+        Err(back) => Ok(back == *copy),
+    }
+}
+
+/// Fails unless the string of these code points has the bytes of `dump` and is no text, and the conversion to one gives
+/// it back.
+fn expect_no_text(alloc: Global, numbers: &[u32], dump: &str) -> Result<(), Fail> {
+    let string = pushed(alloc, numbers)?;
+    if string.as_wtf8().as_str().is_some() {
+        return Err(Fail::new(dump));
+    }
+    expect(is_given_back(string.clone(), &string), dump)?;
+    expect_dump(alloc, string.as_wtf8(), dump)
+}
+
 #[test]
 fn a_string_with_a_surrogate_is_no_text(rt: HostRuntime) -> Result<(), Fail> {
+    let alloc = rt.alloc();
     for (numbers, dump) in no_texts() {
-        let string = pushed(rt.alloc(), numbers)?;
-        assert_eq!(rt; string.as_wtf8().as_str(), None, "{dump}");
-        let copy = string.clone()?;
-        let Err(back) = string.into_string() else {
-            return Err(Fail::new("a surrogate is no text"));
-        };
-        assert!(rt; back == copy, "{dump}");
-        expect_dump(rt.alloc(), back.as_wtf8(), dump)?;
+        expect_no_text(alloc, numbers, dump)?;
     }
     Ok(())
 }
@@ -82,22 +111,34 @@ fn lossy_rows() -> [(&'static [u32], &'static str, bool); 7] {
     ]
 }
 
-/// Whether both lossy conversions of a string give `text`, and whether `to_string_lossy` of the view borrows.
-fn lossy_texts(alloc: Global, numbers: &[u32], text: &str) -> Result<(bool, bool), Fail> {
+/// Whether the lossy text of a view is `text`, and borrowed if `is_borrowed`.
+fn is_lossy(
+    alloc: Global,
+    view: Wtf8<'_>,
+    text: &str,
+    is_borrowed: bool,
+) -> Result<bool, AllocError> {
+    let lossy = view.to_string_lossy(alloc)?;
+    Ok(matches!(lossy, CowStr::Borrowed(_)) == is_borrowed && lossy.as_str() == text)
+}
+
+/// Whether the owned lossy text of a string is `text`.
+fn is_lossy_owned(string: Wtf8Buf<Global>, text: &str) -> bool {
+    string.into_string_lossy().as_str() == text
+}
+
+/// Fails unless both lossy conversions of a string give `text`, that of its view borrowed if `is_borrowed`.
+fn expect_lossy(alloc: Global, numbers: &[u32], text: &str, is_borrowed: bool) -> Result<(), Fail> {
     let string = pushed(alloc, numbers)?;
-    let lossy = string.as_wtf8().to_string_lossy(alloc)?;
-    let is_borrowed = matches!(lossy, CowStr::Borrowed(_));
-    let is_text = lossy.as_str() == text;
-    drop(lossy);
-    let owned = string.into_string_lossy();
-    Ok((is_text && owned.as_str() == text, is_borrowed))
+    expect(is_lossy(alloc, string.as_wtf8(), text, is_borrowed), text)?;
+    expect(Ok(is_lossy_owned(string, text)), text)
 }
 
 #[test]
 fn a_lossy_text_has_replacements(rt: HostRuntime) -> Result<(), Fail> {
+    let alloc = rt.alloc();
     for (numbers, text, is_borrowed) in lossy_rows() {
-        let found = lossy_texts(rt.alloc(), numbers, text)?;
-        assert_eq!(rt; found, (true, is_borrowed), "{text}");
+        expect_lossy(alloc, numbers, text, is_borrowed)?;
     }
     Ok(())
 }

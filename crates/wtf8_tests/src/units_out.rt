@@ -7,16 +7,18 @@ use wtf8::{Wtf8, Wtf8Buf};
 /// The units that a vector holds before the call of `append_units`.
 const BEFORE: [u16; 2] = [0xDC00, 0x0061];
 
-/// Lists of units of each kind, written over a part of a list of equal units.
-const OTHERS: [&[u16]; 7] = [
-    &[0x0061],
-    &[0x00E9],
-    &[0x20AC],
-    &[0xD83D],
-    &[0xDCA9],
-    &[0xD83D, 0xDCA9],
-    &[0xD7FF, 0xE000, 0xDBFF, 0xDFFF, 0x007F, 0x0080, 0x0000],
-];
+/// Lists of units of each kind, written over or into a list of other units.
+fn others() -> [&'static [u16]; 7] {
+    [
+        &[0x0061],
+        &[0x00E9],
+        &[0x20AC],
+        &[0xD83D],
+        &[0xDCA9],
+        &[0xD83D, 0xDCA9],
+        &[0xD7FF, 0xE000, 0xDBFF, 0xDFFF, 0x007F, 0x0080, 0x0000],
+    ]
+}
 
 type Lent<'a> = &'a Refusing<Global>;
 
@@ -59,27 +61,56 @@ fn come_back(heap: Lent<'_>, text: Wtf8<'_>, whole: &[u16]) -> Result<bool, Allo
     Ok(is_appended && is_in_room && is_refused(heap, text)?)
 }
 
-/// Fails unless `append_units` appends `units` if there is memory or capacity, and else leaves the vector unchanged.
-fn expect_units_back(alloc: Global, units: &[u16]) -> Result<(), Fail> {
-    let text = Wtf8Buf::from_ill_formed_utf16(alloc, units)?;
+/// `BEFORE` followed by `units`.
+fn whole_of(alloc: Global, units: &[u16]) -> Result<Vec<u16>, AllocError> {
     let mut whole = Vec::from_slice(alloc, &BEFORE)?;
     whole.extend_from_slice(units)?;
+    Ok(whole)
+}
+
+/// Whether `append_units` appends the units of `text` if there is memory or capacity, and else leaves the vector
+/// unchanged.
+fn is_each_way(alloc: Global, text: Wtf8<'_>, units: &[u16]) -> Result<bool, AllocError> {
+    let whole = whole_of(alloc, units)?;
     let heap = Refusing::new(alloc, u64::MAX);
-    if !come_back(&heap, text.as_wtf8(), &whole)? {
+    come_back(&heap, text, &whole)
+}
+
+/// Whether the units of the string of `units` come back by `append_units`.
+fn are_units_back(alloc: Global, units: &[u16]) -> Result<bool, AllocError> {
+    let text = Wtf8Buf::from_ill_formed_utf16(alloc, units)?;
+    is_each_way(alloc, text.as_wtf8(), units)
+}
+
+/// Fails unless the units come back by `append_units`.
+fn expect_units_back(alloc: Global, units: Result<Vec<u16>, AllocError>) -> Result<(), Fail> {
+    let units = units?;
+    if !are_units_back(alloc, &units)? {
         return Err(Fail::new(format_args!("{units:?}")));
     }
     Ok(())
 }
 
-/// Fails unless lists of `length` times `unit`, overwritten from each index on by each of `OTHERS`, are appended whole.
-fn expect_changed_back(alloc: Global, unit: u16, length: usize) -> Result<(), Fail> {
-    for place in 0..length {
-        for other in &OTHERS {
-            let mut units = Vec::new(alloc);
-            units.resize(place, unit)?;
-            units.extend_from_slice(other)?;
-            units.resize(length.max(units.len()), unit)?;
-            expect_units_back(alloc, &units)?;
+/// `length` times `unit`, with `other` written over the units from index `at` on.
+fn overwritten(
+    alloc: Global,
+    unit: u16,
+    length: usize,
+    other: &[u16],
+    at: usize,
+) -> Result<Vec<u16>, AllocError> {
+    let mut units = Vec::new(alloc);
+    units.resize(at, unit)?;
+    units.extend_from_slice(other)?;
+    units.resize(length.max(units.len()), unit)?;
+    Ok(units)
+}
+
+/// Fails unless lists of `length` times `unit`, overwritten from each index on by each of `others`, come back.
+fn expect_overwritten_back(alloc: Global, unit: u16, length: usize) -> Result<(), Fail> {
+    for at in 0..length {
+        for other in others() {
+            expect_units_back(alloc, overwritten(alloc, unit, length, other, at))?;
         }
     }
     Ok(())
@@ -87,39 +118,51 @@ fn expect_changed_back(alloc: Global, unit: u16, length: usize) -> Result<(), Fa
 
 #[test]
 fn all_units_are_appended(rt: HostRuntime) -> Result<(), Fail> {
+    let alloc = rt.alloc();
     for length in 0..=50 {
-        let mut letters = Vec::new(rt.alloc());
-        letters.resize(length, 0x0061)?;
-        expect_units_back(rt.alloc(), &letters)?;
-        expect_changed_back(rt.alloc(), 0x0061, length)?;
+        expect_units_back(alloc, vec![in alloc; 0x0061; length])?;
+        expect_overwritten_back(alloc, 0x0061, length)?;
     }
     Ok(())
 }
 
 #[test]
 fn blocks_of_other_units_are_appended(rt: HostRuntime) -> Result<(), Fail> {
+    let alloc = rt.alloc();
     for length in 0..=26 {
         for unit in [0x0080, 0x07FF, 0x0800, 0xFFFF, 0xD7FF, 0xD800, 0xDFFF] {
-            expect_changed_back(rt.alloc(), unit, length)?;
+            expect_overwritten_back(alloc, unit, length)?;
         }
+    }
+    Ok(())
+}
+
+/// 40 consecutive units from `start` on, with `other` inserted at index `at`.
+fn inserted(alloc: Global, start: u16, other: &[u16], at: u16) -> Result<Vec<u16>, AllocError> {
+    let mut units = Vec::new(alloc);
+    for index in 0..40u16 {
+        if index == at {
+            units.extend_from_slice(other)?;
+        }
+        units.push(start.wrapping_add(index))?;
+    }
+    Ok(units)
+}
+
+/// Fails unless 40 consecutive units from `start` on, with `other` inserted at each index, come back.
+fn expect_inserted_back(alloc: Global, start: u16, other: &[u16]) -> Result<(), Fail> {
+    for at in 0..40 {
+        expect_units_back(alloc, inserted(alloc, start, other, at))?;
     }
     Ok(())
 }
 
 #[test]
 fn blocks_of_different_units_are_appended(rt: HostRuntime) -> Result<(), Fail> {
+    let alloc = rt.alloc();
     for start in [0x0080, 0x07E8, 0x4E00, 0xD7F0, 0xDBF0, 0xFFD8] {
-        for other in &OTHERS {
-            for place in 0..40 {
-                let mut units = Vec::new(rt.alloc());
-                for more in 0..40u16 {
-                    if more == place {
-                        units.extend_from_slice(other)?;
-                    }
-                    units.push(more.wrapping_add(start))?;
-                }
-                expect_units_back(rt.alloc(), &units)?;
-            }
+        for other in others() {
+            expect_inserted_back(alloc, start, other)?;
         }
     }
     Ok(())

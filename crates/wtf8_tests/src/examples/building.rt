@@ -15,6 +15,14 @@ pub fn point_of_unit(unit: u16) -> CodePoint
     CodePoint::from_u32_unchecked(u32::from(unit))
 }
 
+/// The code point with the value `number`, if there is one.
+pub fn point_of_number(number: u32) -> Result<CodePoint, Fail> {
+    match CodePoint::from_u32(number) {
+        Some(point) => Ok(point),
+        None => Err(Fail::new("a number of no code point")),
+    }
+}
+
 /// The code point of each of `units`. The surrogates of a pair are two code points.
 pub fn points_of_units(alloc: Global, units: &[u16]) -> Result<Vec<CodePoint>, AllocError>
     ensures { IfOk result (λ points. numbers points.items ≡ units.now) }

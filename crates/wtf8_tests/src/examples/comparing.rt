@@ -3,9 +3,9 @@ ghost use Rattle.std.specs.Prelude.{◌≡◌, OnOk};
 ghost use Rattle.wtf8.specs.Hex.{hex};
 ghost use Rattle.wtf8.specs.Unicode.{units};
 
-use std::alloc::Global;
+use std::alloc::{AllocError, Allocator, Global};
 use std::test::Fail;
-use wtf8::Wtf8;
+use wtf8::{Wtf8, Wtf8Buf};
 
 /// Fails unless the string has the bytes of `dump`.
 pub fn expect_dump(alloc: Global, text: Wtf8<'_>, dump: &str) -> Result<(), Fail>
@@ -46,4 +46,33 @@ pub fn expect_numbers(text: Wtf8<'_>, expected: &[u32]) -> Result<(), Fail>
         None => Ok(()),
         Some(point) => Err(Fail::new(format_args!("found {point:?}, not an end"))),
     }
+}
+
+/// Fails with `what` unless `found` is true.
+pub fn expect(found: Result<bool, AllocError>, what: &str) -> Result<(), Fail> {
+    if found? {
+        return Ok(());
+    }
+    Err(Fail::new(what))
+}
+
+/// Fails unless a string was made, and has the bytes of `dump`.
+pub fn expect_made<A: Allocator + Drop>(
+    alloc: Global,
+    made: Result<Wtf8Buf<A>, AllocError>,
+    dump: &str,
+) -> Result<(), Fail> {
+    expect_dump(alloc, made?.as_wtf8(), dump)
+}
+
+/// Fails unless a string was made, and has the bytes of `dump` and the code units `units`.
+pub fn expect_made_of(
+    alloc: Global,
+    made: Result<Wtf8Buf<Global>, AllocError>,
+    dump: &str,
+    units: &[u16],
+) -> Result<(), Fail> {
+    let text = made?;
+    expect_dump(alloc, text.as_wtf8(), dump)?;
+    expect_units(alloc, text.as_wtf8(), units)
 }
