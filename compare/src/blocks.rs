@@ -128,6 +128,42 @@ fn made_and_appended(units: &[u16], before: &[u16]) -> [Call; 2] {
     ]
 }
 
+/// Units of two bytes, of pairs, or of one to three bytes in turn, up to each number of bytes to 300, and up to eight
+/// units of three bytes after them. A block of bytes is full up to each distance from its end before those.
+pub fn filled_blocks() -> Vec<Vec<Call>> {
+    let mut scripts = Vec::new();
+    for base in [&[0xE9][..], &[0xD83D, 0xDCA9], &[0x61, 0xE9, 0x20AC]] {
+        for bytes in 0..=300 {
+            let units = units_of_bytes(base, bytes);
+            let filled = |wide| from_units(0, &[&units[..], &[0x20AC; 8][..wide]].concat());
+            scripts.push((1..=8).map(filled).collect());
+        }
+    }
+    scripts
+}
+
+/// Strings whose last block is letters and one other code point at each index, after no block or one of letters or of
+/// units of two bytes: their units are appended to none.
+pub fn last_blocks() -> Vec<Vec<Call>> {
+    let mut scripts = Vec::new();
+    for other in [&[0xE9][..], &[0x20AC], &[0xD83D, 0xDCA9], &[0xD800]] {
+        for front in [&[][..], &[0x61; 64], &[0xE9; 64]] {
+            for letters in 0..34 {
+                let ended = |index| ended_by(front, letters, index, other);
+                scripts.push((0..=letters).flat_map(ended).collect());
+            }
+        }
+    }
+    scripts
+}
+
+/// Makes a string of `front` and `letters` letters with `other` at `index` among these, and appends its units to none.
+fn ended_by(front: &[u16], letters: usize, index: usize, other: &[u16]) -> [Call; 2] {
+    let (before, after) = ([0x61; 34], [0x62; 34]);
+    let units = [front, &before[..index], other, &after[..letters - index]].concat();
+    made_and_appended(&units, &[])
+}
+
 /// Texts of each length that a text operand can have: pushed to an empty string, to a letter and to a lead surrogate,
 /// and made into a string by each other call.
 pub fn texts_of_each_length() -> Vec<Vec<Call>> {

@@ -44,6 +44,38 @@ pub fn lists_of_calls() -> Vec<Vec<Call>> {
     lists.iter().map(|list| calls_of(list)).collect()
 }
 
+/// The most points of an extension in `extensions`.
+const MOST_POINTS: u16 = 40;
+
+/// Extensions of the empty string and of a lead surrogate by up to `MOST_POINTS` letters, with a point at the edge of an
+/// encoded length or a surrogate in place of the letter at each index.
+pub fn extensions() -> Vec<Vec<Call>> {
+    let mut scripts = Vec::new();
+    for other in [0x7F, 0x80, 0x7FF, 0x800, 0x10000, 0xD83D, 0xDCA9] {
+        for count in 0..=MOST_POINTS {
+            let extended = |index| extended(count, index, other);
+            scripts.push((0..count.max(1)).flat_map(extended).collect());
+        }
+    }
+    scripts
+}
+
+/// Extends by `count` letters, of which the one at `index`, if there is one, is `other`.
+fn extended(count: u16, index: u16, other: u32) -> Vec<Call> {
+    let point = |at| if at == index { other } else { 0x61 };
+    let points = Operand::Points((0..count).map(point).collect());
+    let mut calls = Vec::new();
+    for start in [&[][..], &[0xD83D]] {
+        let builds = Operand::Builds(vec![Build::Extend(count)]);
+        calls.push(from_units(0, start));
+        calls.push(Call::new(
+            Opcode::Apply,
+            vec![Operand::Register(0), points.clone(), builds],
+        ));
+    }
+    calls
+}
+
 /// Some of these scripts, for the recorded list.
 pub fn chosen() -> Vec<Vec<Call>> {
     let mut scripts: Vec<Vec<Call>> = lists_of_calls().into_iter().step_by(61).collect();

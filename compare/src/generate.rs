@@ -96,7 +96,7 @@ pub fn build(random: &mut Random) -> Build {
         4 => Build::PushChar(value(random)),
         5 => Build::PushStr(text(random, 20)),
         6..=8 => Build::PushWtf8(random.below(4) as u8),
-        9..=10 => Build::Extend(random.between(0, 8) as u16),
+        9..=10 => Build::Extend(random.between(0, 40) as u16),
         11 => Build::Reserve(number(random)),
         12..=13 => Build::TruncateUnits(number(random)),
         _ => Build::Truncate(number(random)),

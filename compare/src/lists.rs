@@ -6,12 +6,13 @@ use crate::{blocks, building, examples, generate, long, pairs, pushed};
 /// The name of a list, and the function that makes its scripts.
 pub type List = (&'static str, fn() -> Vec<Vec<Call>>);
 
-pub const LISTS: [List; 25] = [
+pub const LISTS: [List; 28] = [
     ("worked examples", examples::all),
     ("code points at edges", generate::edge_calls),
     ("pairs", pairs::pairs),
     ("up to four units", up_to_four_units),
     ("lists of building calls", building::lists_of_calls),
+    ("extensions by one list", building::extensions),
     ("false hints", building::false_hints),
     ("slices inside strings", long::inside),
     ("cuts by units", long::cuts_by_units),
@@ -23,6 +24,8 @@ pub const LISTS: [List; 25] = [
     ("strings that part", long::parting_at_each_place),
     ("one unit of another kind", long::another_kind_at_each_place),
     ("mixed blocks", blocks::of_mixed_kinds),
+    ("filled blocks", blocks::filled_blocks),
+    ("last blocks", blocks::last_blocks),
     ("longest strings", long::longest),
     ("texts of each length", blocks::texts_of_each_length),
     (
