@@ -128,15 +128,18 @@ fn made_and_appended(units: &[u16], before: &[u16]) -> [Call; 2] {
     ]
 }
 
-/// Units of two bytes, of pairs, or of one to three bytes in turn, up to each number of bytes to 300, and up to eight
-/// units of three bytes after them. A block of bytes is full up to each distance from its end before those.
+/// Up to 14 groups of eight units, of three bytes each at the front and of two bytes after these, in each proportion, and
+/// after them eight units that take the most bytes: a buffer that is filled eight units at a time is full up to each
+/// distance from its end before those.
 pub fn filled_blocks() -> Vec<Vec<Call>> {
     let mut scripts = Vec::new();
-    for base in [&[0xE9][..], &[0xD83D, 0xDCA9], &[0x61, 0xE9, 0x20AC]] {
-        for bytes in 0..=300 {
-            let units = units_of_bytes(base, bytes);
-            let filled = |wide| from_units(0, &[&units[..], &[0x20AC; 8][..wide]].concat());
-            scripts.push((1..=8).map(filled).collect());
+    for last in [[0x20AC; 8], [0xD83D, 0xDCA9, 0xD83D, 0xDCA9, 0x20AC, 0x20AC, 0x20AC, 0x20AC]] {
+        for groups in 1..=14 {
+            let filled = |wide| {
+                let (front, rest) = (vec![0x20AC; wide], vec![0xE9; 8 * groups - wide]);
+                from_units(0, &[&front[..], &rest, &last].concat())
+            };
+            scripts.push((0..=8 * groups).map(filled).collect());
         }
     }
     scripts
