@@ -86,7 +86,7 @@ fn near<'a, A: Allocator>(
         return (text.as_wtf8(), units);
     }
     let mark = mark_before(text, count, marks, units);
-    (text.as_wtf8().behind_mark(mark), units - mark.units)
+    (text.as_wtf8().slice_from_mark(mark), units - mark.units)
 }
 
 /// The unit at index `number`, or `None` at the end. Not inlined, so that the caller's short path stays cheap.

@@ -36,7 +36,7 @@ pub use Rattle.wtf8.specs.Appending.{KeepsContents, AppendsUnits, AddsLength, Ap
 pub use Rattle.wtf8.specs.Building.{Step, Run, Append, IsNoTruncation, FindRoom, FindsRoom, LeavesReserved, RunsAddUp, RunsOnce}
 pub use Rattle.wtf8.specs.CodePoint.{number, numbers}
 pub use Rattle.wtf8.specs.Concatenation.{MeetsAsPair, is_pair, glue}
-pub use Rattle.wtf8.specs.Debug.{shown}
+pub use Rattle.wtf8.specs.Debug.{escape_surrogate}
 pub use Rattle.wtf8.specs.private.Decoding.{point_of, points_of, units_left, decode_steps, ReadsAll}
 pub use Rattle.wtf8.specs.private.Differences.{IsFirstDifference, PairBegins, DifferAt, Tells}
 pub use Rattle.wtf8.specs.Form.{bytes, encoding, IsClean, Reads, IsWellFormed, IsForm}
@@ -48,7 +48,7 @@ pub use Rattle.wtf8.specs.Position.{IsBoundary, IsFront, IsBack, IsMiddle, Split
 pub use Rattle.wtf8.specs.private.SpacedHex.{spaced}
 pub use Rattle.wtf8.specs.private.FirstPlace.{IsFirst, IsLeast, Nowhere, IsFirstBelow, IsFirstSet, IsSet}
 pub use Rattle.wtf8.specs.private.SurrogateSearch.{SurrogateAt}
-pub use Rattle.wtf8.specs.Surrogates.{AreScalar, replaced, lossy}
+pub use Rattle.wtf8.specs.Surrogates.{AreScalar, replace_surrogate, lossy_points}
 pub use Rattle.wtf8.specs.Unicode.{units_of, units, IsSurrogate, IsLead, IsTrail, pair, IsCodePoint, IsUnit}
 pub use Rattle.wtf8.specs.private.UnitCounts.{IsCounted, IsPlaceOfUnit, CutsUnits, units_begun, all_units_begun, Divides, HasLane}
 pub use Rattle.wtf8.specs.private.UnitParts.{IsKnownForm, DividesNoPair, AreAscii}

@@ -61,30 +61,30 @@ pub record StopsAt (u : List ℕ) (calls : List Build) (done : ℕ) (v : List �
   pub leaves : LeavesRefused mid call v
 
 -- The units that a push or an extension appends, or `None` for any other call.
-abbrev pub appended : Build → Option (List ℕ)
-appended (Push p) = Some (units_of (number p))
-appended (PushChar x) = Some (units_of x)
-appended (PushStr s) = Some (units (chars s.now))
-appended (PushWtf8 s) = Some (view_units s)
-appended (Extend d) = Some (units (numbers d.now))
-appended call = None
+abbrev pub appended_units : Build → Option (List ℕ)
+appended_units (Push p) = Some (units_of (number p))
+appended_units (PushChar x) = Some (units_of x)
+appended_units (PushStr s) = Some (units (chars s.now))
+appended_units (PushWtf8 s) = Some (view_units s)
+appended_units (Extend d) = Some (units (numbers d.now))
+appended_units call = None
 
 -- Each call of the list is a push or an extension, and together they append the units `v`.
 abbrev pub Append : List Build → List ℕ → Type 0
 Append [] v = v ≡ []
-Append (call ∷ calls) v = (a : List ℕ) × (b : List ℕ) × (appended call ≡ Some a) × Append calls b × (v ≡ a ++ b)
+Append (call ∷ calls) v = (a : List ℕ) × (b : List ℕ) × (appended_units call ≡ Some a) × Append calls b × (v ≡ a ++ b)
 
 -- The number of bytes that a call reserves beyond what it appends: that of a `Reserve`, else 0.
-abbrev pub asked : Build → ℕ
-asked (Reserve n) = n
-asked call = 0
+abbrev pub reserved_bytes : Build → ℕ
+reserved_bytes (Reserve n) = n
+reserved_bytes call = 0
 
 -- The call is no truncation and takes `u` to `v`, and the length of the form of `v`, plus the number of bytes that the
 -- call reserves, is at most `capacity`.
 pub record FindsRoom (u : List ℕ) (call : Build) (v : List ℕ) (capacity : ℕ) : Type 0 where
   pub no_truncation : IsNoTruncation call
   pub step : Step u call v 0
-  pub fits : FitWithin v (asked call) capacity
+  pub fits : FitWithin v (reserved_bytes call) capacity
 
 -- Each call of the list finds room within `capacity`, as `FindsRoom` says, and together they take the units from `u` to
 -- `v`.

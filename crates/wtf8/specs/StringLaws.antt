@@ -9,7 +9,7 @@ use Rattle.wtf8.specs.Appending.{FitWithin, HasRoomFor}
 use Rattle.wtf8.specs.Form.{encoding, bytes, IsClean, IsForm}
 use Rattle.wtf8.specs.Concatenation.{MeetsAsPair}
 use Rattle.wtf8.specs.Order.{Before}
-use Rattle.wtf8.specs.Surrogates.{AreScalar, lossy}
+use Rattle.wtf8.specs.Surrogates.{AreScalar, lossy_points}
 use Rattle.wtf8.specs.UnitString.{UnitString}
 use Rattle.wtf8.specs.View.{view_units}
 use Rattle.wtf8.specs.declared.strings.view.Wtf8.{Wtf8}
@@ -59,7 +59,7 @@ RoomLeftIsFound = (s : UnitString) (w v : List ℕ) → IsForm w v → length s.
 
 -- Making a list of scalar values lossy leaves it unchanged.
 abbrev pub ScalarsStay : Type 0
-ScalarsStay = (c : List ℕ) → AreScalar c → lossy c ≡ c
+ScalarsStay = (c : List ℕ) → AreScalar c → lossy_points c ≡ c
 
 -- The form of a buffer's units is its bytes.
 abbrev pub FormsAreOfBuffers : Type 0

@@ -8,9 +8,9 @@ AreScalar [] = ⊤
 AreScalar (p ∷ c) = ¬ (IsSurrogate p) × AreScalar c
 
 -- A code point, or U+FFFD if it is a surrogate (Unicode 3.9, "U+FFFD Substitution").
-unfoldable pub replaced : ℕ → ℕ
-replaced p = if nat_le 0xD800 p && nat_le p 0xDFFF then 0xFFFD else p
+unfoldable pub replace_surrogate : ℕ → ℕ
+replace_surrogate p = if nat_le 0xD800 p && nat_le p 0xDFFF then 0xFFFD else p
 
 -- The list with each surrogate replaced by U+FFFD (WTF-8, "Converting WTF-8 to UTF-8", lossily).
-abbrev pub lossy : List ℕ → List ℕ
-lossy c = map replaced c
+abbrev pub lossy_points : List ℕ → List ℕ
+lossy_points c = map replace_surrogate c

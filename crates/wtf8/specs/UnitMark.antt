@@ -12,7 +12,7 @@ pub record IsMark (w u : List ℕ) (k n : ℕ) : Type 0 where
   pub position_within : k ≤ length w
   pub units_within : n ≤ length u
   pub before : IsForm (take k w) (take n u)
-  pub behind : IsForm (drop k w) (drop n u)
+  pub after : IsForm (drop k w) (drop n u)
 
 -- The position and the number of units of a `UnitMark` are a mark of the view's bytes and units.
 abbrev pub IsMarkOf : Wtf8 → UnitMark → Type 0

@@ -8,14 +8,14 @@ ghost use Rattle.std.specs.Ordering.{nat_cmp, on};
 ghost use Rattle.std.specs.Prelude.{◌≡◌, ◌≢◌, ◌<◌, ◌≤◌, ◌+◌, ◌-◌, ◌*◌, ◌^◌, ℕ, List, ◌∷◌, ◌++◌, length, take, drop, slice_index, Err, ◌↔◌};
 ghost use Rattle.std.specs.Str.{chars};
 ghost use Rattle.wtf8.specs.Laws.{UnitsHaveOneReading, ReadingsAreOfUnits, UnitsHaveOneForm, FormsAreOfOneList, EqualFormsHaveEqualUnits, NoEncodingBeginsAnother, BytesBeginWithOnePoint, EqualBytesAreOfEqualPoints, ByteOrderIsPointOrder, GlueMakesPair, GlueKeepsOthers, GlueReadsBoth, GlueFormsBoth, PairFormsBoth, OthersFormBoth, GlueIsAssociative, EmptyFrontIsNeutral, EmptyBackIsNeutral, FrontAndBackAreWhole, FirstUnitsAndRestAreWhole};
-ghost use Rattle.wtf8.specs.PositionLaws.{StartIsBoundary, EndIsBoundary, NoneIsBeyondEnd, AsciiStandsAlone, AsciiIsOneUnit, AsciiIsNoOtherUnit, FrontBoundariesAreOfWhole, WholeBoundariesAreOfFront, WholeBoundariesAreOfBack, BackBoundariesAreOfWhole, BeginningsAreNoLonger, BothAreNoLonger, PointsHaveOneToFourBytes, ListsHaveLengths};
+ghost use Rattle.wtf8.specs.PositionLaws.{StartIsBoundary, EndIsBoundary, NoneIsBeyondEnd, AsciiIsBetweenBoundaries, AsciiIsOneUnit, AsciiIsNoOtherUnit, FrontBoundariesAreOfWhole, WholeBoundariesAreOfFront, WholeBoundariesAreOfBack, BackBoundariesAreOfWhole, BeginningsAreNoLonger, BothAreNoLonger, PointsHaveOneToFourBytes, ListsHaveLengths};
 ghost use Rattle.wtf8.specs.StringLaws.{EqualBuffersHaveEqualUnits, EqualBufferAndViewHaveEqualUnits, EqualViewsHaveEqualUnits, StringsAreJoined, StringsArePaired, BytesCompareAsPoints, EqualBuffersCompareEqual, EqualViewsCompareEqual, ComparisonIsOrder, RoomLeftIsFound, ScalarsStay, FormsAreOfBuffers, FormsAreOfViews, WhatFitsIsFound, CharactersComeBack};
 ghost use Rattle.wtf8.specs.Building.{CallsRunOnce, RunsAddUp, Run};
 ghost use Rattle.wtf8.specs.CodePoint.{number};
 ghost use Rattle.wtf8.specs.Form.{Reads, bytes, encoding};
-ghost use Rattle.wtf8.specs.PointLaws.{DrainedPointsAreLeft, DrainedPointsAreTaken, DrainedPointsAreBehind, CollectedPointsAreLeft, CollectedPointsAreTaken, CollectedPointsAreBehind};
+ghost use Rattle.wtf8.specs.PointLaws.{DrainedPointsAreLeft, DrainedPointsAreTaken, DrainedPointsAreAfterSkip, CollectedPointsAreLeft, CollectedPointsAreTaken, CollectedPointsAreAfterSkip};
 ghost use Rattle.wtf8.specs.Position.{IsBoundary, IsFront, IsBack};
-ghost use Rattle.wtf8.specs.Surrogates.{AreScalar, lossy};
+ghost use Rattle.wtf8.specs.Surrogates.{AreScalar, lossy_points};
 ghost use Rattle.wtf8.specs.UnitMark.{IsMarkOf, EqualCountsAreMarks, MarksStay};
 ghost use Rattle.wtf8.specs.Unicode.{IsLead, IsTrail};
 ghost use Rattle.wtf8.specs.UnitPosition.{DividesPair};
@@ -32,14 +32,14 @@ use std::cmp::Ordering;
 /// Each list of 16-bit units has exactly one reading: a list of code points with these units, in which no lead
 /// surrogate is directly before a trail surrogate. Only lists of 16-bit units have a reading.
 pub fn law_one_reading()
-    ensures one { UnitsHaveOneReading }
+    ensures unique { UnitsHaveOneReading }
     ensures of_units { ReadingsAreOfUnits }
 {}
 
 /// Each list of 16-bit units has exactly one WTF-8 form, and well-formed bytes are the form of exactly one list. So two
 /// strings have equal bytes if and only if they have equal units.
 pub fn law_one_form()
-    ensures one { UnitsHaveOneForm }
+    ensures unique { UnitsHaveOneForm }
     ensures back { FormsAreOfOneList }
     ensures equal { EqualFormsHaveEqualUnits }
 {}
@@ -108,7 +108,7 @@ pub fn law_positions()
     ensures start { StartIsBoundary }
     ensures end { EndIsBoundary }
     ensures beyond { NoneIsBeyondEnd }
-    ensures ascii { AsciiStandsAlone }
+    ensures ascii { AsciiIsBetweenBoundaries }
     ensures unit { AsciiIsOneUnit }
     ensures none { AsciiIsNoOtherUnit }
     ensures front_in_whole { FrontBoundariesAreOfWhole }
@@ -183,13 +183,13 @@ pub fn law_boundaries(view: Wtf8<'_>)
     ensures start { IsBoundary (view_units view.entry) 0 }
     ensures end { IsBoundary (view_units view.entry) (length view.entry.bytes.now) }
     ensures before { (k : ℕ) → k < length view.entry.bytes.now → slice_index view.entry.bytes.now k < 0x80 → IsBoundary (view_units view.entry) k }
-    ensures behind { (k : ℕ) → k < length view.entry.bytes.now → slice_index view.entry.bytes.now k < 0x80 → IsBoundary (view_units view.entry) (k + 1) }
+    ensures after { (k : ℕ) → k < length view.entry.bytes.now → slice_index view.entry.bytes.now k < 0x80 → IsBoundary (view_units view.entry) (k + 1) }
 {}
 
 /// The code points of this view are a reading of its units, and the only one.
 pub fn law_view_reading(view: Wtf8<'_>)
     ensures reads { Reads (view_points view.entry) (view_units view.entry) }
-    ensures one { (c : List ℕ) → Reads c (view_units view.entry) → c ≡ view_points view.entry }
+    ensures unique { (c : List ℕ) → Reads c (view_units view.entry) → c ≡ view_points view.entry }
 {}
 
 /// This view has no more code points than units, no more units than bytes, and at most three bytes for each unit. It
@@ -215,28 +215,28 @@ pub fn law_encoding_length(code_point: CodePoint)
     ensures at_most_four { length (encoding (number code_point)) ≤ 4 }
 {}
 
-/// `whole` has the units of `front`, the ASCII unit `mark` and the units of `back`, in turn, if and only if it has the
-/// bytes of `front`, the byte `mark` and the bytes of `back`, in turn.
-pub fn law_parted_by_ascii(whole: Wtf8<'_>, front: Wtf8<'_>, mark: u8, back: Wtf8<'_>)
-    requires { mark < 0x80 }
-    ensures { (whole.entry.bytes.now ≡ front.entry.bytes.now ++ mark ∷ back.entry.bytes.now) ↔ (view_units whole.entry ≡ view_units front.entry ++ mark ∷ view_units back.entry) }
+/// `whole` has the units of `front`, the ASCII unit `separator` and the units of `back`, in turn, if and only if it has
+/// the bytes of `front`, the byte `separator` and the bytes of `back`, in turn.
+pub fn law_parted_by_ascii(whole: Wtf8<'_>, front: Wtf8<'_>, separator: u8, back: Wtf8<'_>)
+    requires { separator < 0x80 }
+    ensures { (whole.entry.bytes.now ≡ front.entry.bytes.now ++ separator ∷ back.entry.bytes.now) ↔ (view_units whole.entry ≡ view_units front.entry ++ separator ∷ view_units back.entry) }
 {}
 
-/// If the units of `whole` begin with the units of `front` and the ASCII unit `mark`, its bytes begin with the bytes of
-/// `front` and the byte `mark`, and the units after that byte are the rest of its units.
-pub fn law_begins_by_ascii(whole: Wtf8<'_>, front: Wtf8<'_>, mark: u8)
-    requires { mark < 0x80 }
-    ensures inside { (rest : List ℕ) → view_units whole.entry ≡ view_units front.entry ++ mark ∷ rest → length front.entry.bytes.now < length whole.entry.bytes.now }
-    ensures front { (rest : List ℕ) → view_units whole.entry ≡ view_units front.entry ++ mark ∷ rest → take (length front.entry.bytes.now) whole.entry.bytes.now ≡ front.entry.bytes.now }
-    ensures mark { (rest : List ℕ) → view_units whole.entry ≡ view_units front.entry ++ mark ∷ rest → slice_index whole.entry.bytes.now (length front.entry.bytes.now) ≡ mark }
-    ensures behind { (rest : List ℕ) → view_units whole.entry ≡ view_units front.entry ++ mark ∷ rest → IsBack (view_units whole.entry) (length front.entry.bytes.now + 1) rest }
+/// If the units of `whole` begin with the units of `front` and the ASCII unit `separator`, its bytes begin with the
+/// bytes of `front` and the byte `separator`, and the units after that byte are the rest of its units.
+pub fn law_begins_by_ascii(whole: Wtf8<'_>, front: Wtf8<'_>, separator: u8)
+    requires { separator < 0x80 }
+    ensures inside { (rest : List ℕ) → view_units whole.entry ≡ view_units front.entry ++ separator ∷ rest → length front.entry.bytes.now < length whole.entry.bytes.now }
+    ensures front { (rest : List ℕ) → view_units whole.entry ≡ view_units front.entry ++ separator ∷ rest → take (length front.entry.bytes.now) whole.entry.bytes.now ≡ front.entry.bytes.now }
+    ensures separator { (rest : List ℕ) → view_units whole.entry ≡ view_units front.entry ++ separator ∷ rest → slice_index whole.entry.bytes.now (length front.entry.bytes.now) ≡ separator }
+    ensures after { (rest : List ℕ) → view_units whole.entry ≡ view_units front.entry ++ separator ∷ rest → IsBack (view_units whole.entry) (length front.entry.bytes.now + 1) rest }
 {}
 
 /// If this view holds no surrogate, the characters of its bytes, read as UTF-8, are its code points. The characters of
 /// its lossy text are its code points with U+FFFD in place of each surrogate.
 pub fn law_view_characters(view: Wtf8<'_>)
     ensures text { AreScalar (view_points view.entry) → chars view.entry.bytes.now ≡ view_points view.entry }
-    ensures lossy_text { chars (bytes (lossy (view_points view.entry))) ≡ lossy (view_points view.entry) }
+    ensures lossy_text { chars (bytes (lossy_points (view_points view.entry))) ≡ lossy_points (view_points view.entry) }
 {}
 
 /// The characters of an encoded list of scalar values, read as UTF-8, are that list.
@@ -256,7 +256,7 @@ pub fn law_same_run(calls: &[Build<'_>])
 pub fn law_drained_points()
     ensures all { DrainedPointsAreLeft }
     ensures first { DrainedPointsAreTaken }
-    ensures rest { DrainedPointsAreBehind }
+    ensures rest { DrainedPointsAreAfterSkip }
 {}
 
 /// `collect` of an iterator over code points makes its collection of all that the iterator had left. With `take` or
@@ -264,7 +264,7 @@ pub fn law_drained_points()
 pub fn law_collected_points()
     ensures all { CollectedPointsAreLeft }
     ensures first { CollectedPointsAreTaken }
-    ensures rest { CollectedPointsAreBehind }
+    ensures rest { CollectedPointsAreAfterSkip }
 {}
 
 /// A string with the units of two others, one after the other, has their bytes, one after the other, unless a lead ends

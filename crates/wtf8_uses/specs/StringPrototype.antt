@@ -3,7 +3,7 @@ use Rattle.std.specs.Prelude.{◌≡◌, ℕ, ◌+◌, ◌-◌, ◌<◌, ◌≤�
 use Rattle.std.specs.Option.{option_map}
 use Rattle.wtf8.specs.Concatenation.{is_pair}
 use Rattle.wtf8.specs.Form.{Reads}
-use Rattle.wtf8.specs.Surrogates.{lossy}
+use Rattle.wtf8.specs.Surrogates.{lossy_points}
 use Rattle.wtf8.specs.Unicode.{pair, units}
 
 -- The code point of a unit and the next one, if any: that of their pair, or else the first (ECMAScript, "CodePointAt").
@@ -36,7 +36,7 @@ pub record IsLastIndex (u s : List ℕ) (position k : ℕ) : Type 0 where
 pub record IsMadeWellFormed (u v : List ℕ) : Type 0 where
   pub points : List ℕ
   pub reads : Reads points u
-  pub replaced : units (lossy points) ≡ v
+  pub replaced : units (lossy_points points) ≡ v
 
 -- The unit is an ASCII white space or line terminator (ECMAScript, "WhiteSpace" and "LineTerminator").
 abbrev pub IsSpace : ℕ → Type 0

@@ -4,7 +4,7 @@ ghost use Rattle.std.specs.Prelude.{◌≡◌, ◌≢◌, ◌↔◌, ◌<◌, �
 ghost use Rattle.std.specs.Cow.{cow_str_bytes};
 ghost use Rattle.wtf8.specs.Appending.{AppendsUnits, KeepsContents};
 ghost use Rattle.wtf8.specs.Form.{bytes};
-ghost use Rattle.wtf8.specs.Surrogates.{lossy};
+ghost use Rattle.wtf8.specs.Surrogates.{lossy_points};
 ghost use Rattle.wtf8.specs.View.{view_points, view_units};
 ghost use Rattle.wtf8_uses.specs.FileName.{BeginsWith, EndsWithMark, IsBeforeZero, IsCutAtLast, IsMark, HasNoMark, is_separator};
 
@@ -94,7 +94,7 @@ pub fn with_extension(
 
 /// A name for display: U+FFFD replaces each lone surrogate.
 pub fn shown<'a>(alloc: Global, name: Wtf8<'a>) -> Result<CowStr<'a, Global>, AllocError>
-    ensures { IfOk result (λ text. cow_str_bytes text ≡ bytes (lossy (view_points name.entry))) }
+    ensures { IfOk result (λ text. cow_str_bytes text ≡ bytes (lossy_points (view_points name.entry))) }
 {
     name.to_string_lossy(alloc)
 }

@@ -2,7 +2,7 @@
 ghost use Rattle.std.specs.Prelude.{◌≡◌, IfOk, IsOk, IsSome, IfSome};
 ghost use Rattle.std.specs.String.{string_bytes};
 ghost use Rattle.wtf8.specs.Form.{bytes};
-ghost use Rattle.wtf8.specs.Surrogates.{lossy};
+ghost use Rattle.wtf8.specs.Surrogates.{lossy_points};
 
 use std::alloc::{AllocError, Allocator, Global};
 use wtf8::{Wtf8, Wtf8Buf, laws};
@@ -33,7 +33,7 @@ pub fn owned_text_again<A: Allocator>(text: String<A>) -> Result<String<A>, Wtf8
 
 /// Makes a string lossy twice. The result is the same as after the first time.
 pub fn lossy_twice<A: Allocator>(string: Wtf8Buf<A>) -> String<A>
-    ensures { string_bytes result ≡ bytes (lossy string.form.points) }
+    ensures { string_bytes result ≡ bytes (lossy_points string.form.points) }
 {
     laws::law_lossy();
     let once = string.into_string_lossy();

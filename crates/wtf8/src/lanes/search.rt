@@ -3,7 +3,7 @@ ghost use Rattle.std.specs.Prelude.{◌≡◌, ◌∷◌, ◌++◌, ◌+◌, ◌
 ghost use Rattle.wtf8.specs.Form.{IsWellFormed, bytes as bytes_of};
 ghost use Rattle.wtf8.specs.private.FirstPlace.{IsFirst, IsFirstBelow, Nowhere};
 ghost use Rattle.wtf8.specs.private.SurrogateSearch.{BeginsInLane, SurrogateAt};
-ghost use Rattle.wtf8.specs.Surrogates.{lossy};
+ghost use Rattle.wtf8.specs.Surrogates.{lossy_points};
 
 use crate::lanes::masks::first_set;
 use std::alloc::Allocator;
@@ -76,7 +76,7 @@ fn write_replacement<A: Allocator>(bytes: &mut Vec<u8, A>, at: usize)
 /// Overwrites each surrogate with U+FFFD.
 pub(crate) fn replace_surrogates<A: Allocator>(bytes: &mut Vec<u8, A>)
     requires { IsWellFormed bytes.old.items }
-    ensures { (h : IsWellFormed bytes.old.items) → bytes.new.items ≡ bytes_of (lossy h.points) }
+    ensures { (h : IsWellFormed bytes.old.items) → bytes.new.items ≡ bytes_of (lossy_points h.points) }
 {
     let mut from = 0;
     while let Some(found) = next_surrogate(bytes, from) {

@@ -2,7 +2,7 @@
 ghost use Rattle.std.specs.Prelude.{◌≡◌, ◌↔◌, IsSome, IfSome, IsNone, Some};
 ghost use Rattle.std.specs.Fmt.{DisplaysOnOk, WritesStyledOnOk};
 ghost use Rattle.wtf8.specs.Debug.{debug_point};
-ghost use Rattle.wtf8.specs.Surrogates.{replaced};
+ghost use Rattle.wtf8.specs.Surrogates.{replace_surrogate};
 ghost use Rattle.wtf8.specs.Unicode.{IsCodePoint, IsSurrogate};
 
 use crate::texts::debug_text;
@@ -70,7 +70,7 @@ impl CodePoint {
     pub fn to_char_lossy(&self) -> char
         ensures scalar { ¬ IsSurrogate (number self.now) → result ≡ number self.now }
         ensures surrogate { IsSurrogate (number self.now) → result ≡ 0xFFFD }
-        ensures value { result ≡ replaced (number self.now) }
+        ensures value { result ≡ replace_surrogate (number self.now) }
     {
         self.to_char().unwrap_or('\u{FFFD}')
     }

@@ -7,7 +7,7 @@ ghost use Rattle.wtf8.specs.CodePoint.{number};
 ghost use Rattle.wtf8.specs.Form.{IsWellFormed, IsForm, Reads, bytes, encoding};
 ghost use Rattle.wtf8.specs.OneForm.{IsWellFormed-prop, AreScalarTo, AreScalarTo-prop};
 ghost use Rattle.wtf8.specs.Position.{IsBoundary, IsFront};
-ghost use Rattle.wtf8.specs.Surrogates.{AreScalar, lossy};
+ghost use Rattle.wtf8.specs.Surrogates.{AreScalar, lossy_points};
 ghost use Rattle.wtf8.specs.private.FirstPlace.{IsFirst};
 ghost use Rattle.wtf8.specs.private.SurrogateSearch.{SurrogateAt};
 ghost use Rattle.wtf8.specs.Unicode.{units, units_of};
@@ -275,7 +275,7 @@ impl<A: Allocator> Wtf8Buf<A> {
         ensures kept { OnErr result (KeepsContents self.old self.new) }
 
         // A code point below U+10000 is one unit.
-        ensures one { number code_point < 0x10000 → OnOk result (AppendsUnits self.old (number code_point ∷ []) self.new) }
+        ensures one_unit { number code_point < 0x10000 → OnOk result (AppendsUnits self.old (number code_point ∷ []) self.new) }
 
         // A push whose bytes fit is never refused, and the capacity never shrinks.
         ensures room { HasRoomFor self.old (units_of (number code_point)) → IsOk result }
@@ -296,7 +296,7 @@ impl<A: Allocator> Wtf8Buf<A> {
         ensures kept { OnErr result (KeepsContents self.old self.new) }
 
         // A character below U+10000 is one unit.
-        ensures one { c < 0x10000 → OnOk result (AppendsUnits self.old (c ∷ []) self.new) }
+        ensures one_unit { c < 0x10000 → OnOk result (AppendsUnits self.old (c ∷ []) self.new) }
 
         // A push whose bytes fit is never refused, and the capacity never shrinks.
         ensures room { HasRoomFor self.old (units_of c) → IsOk result }
@@ -446,7 +446,7 @@ impl<A: Allocator> Wtf8Buf<A> {
     /// Converts to a `String` with U+FFFD written over each surrogate in place, so that the length in bytes stays the
     /// same. Does not allocate.
     pub fn into_string_lossy(self) -> String<A>
-        ensures text { string_bytes result ≡ bytes (lossy self.form.points) }
+        ensures text { string_bytes result ≡ bytes (lossy_points self.form.points) }
         ensures len { length (string_bytes result) ≡ length self.bytes }
     {
         unsafe { String::from_utf8_unchecked(self.into_lossy_bytes()) }
@@ -454,7 +454,7 @@ impl<A: Allocator> Wtf8Buf<A> {
 
     /// Returns the bytes with each surrogate replaced by U+FFFD. Does not search if the string is known to hold none.
     fn into_lossy_bytes(self) -> Vec<u8, A>
-        ensures { result.items ≡ bytes (lossy self.form.points) }
+        ensures { result.items ≡ bytes (lossy_points self.form.points) }
     {
         let is_known_utf8 = self.is_known_utf8();
         let Wtf8Buf { mut bytes, .. } = self;

@@ -37,7 +37,7 @@ pub struct Stopped {
 }
 
 impl<A: Allocator> Wtf8Buf<A> {
-    ghost use Rattle.wtf8.specs.Building.{Step, Run, LeavesRefused, StopsAt, appended, Append, IsNoExtension, IsNoTruncation, FindsRoom, FindRoom, LeavesReserved};
+    ghost use Rattle.wtf8.specs.Building.{Step, Run, LeavesRefused, StopsAt, appended_units, Append, IsNoExtension, IsNoTruncation, FindsRoom, FindRoom, LeavesReserved};
     ghost use Rattle.wtf8.specs.declared.strings.build.Build.TheVariants.{Reserve, Truncate};
 
     /// Applies one call. `Ok(false)` means that a truncation was refused, because its position is no code point
@@ -50,8 +50,8 @@ impl<A: Allocator> Wtf8Buf<A> {
         ensures reserved { (n : ℕ) → call.entry ≡ Reserve n → OnOk result (length self.new.bytes + n ≤ self.new.capacity) }
 
         // A push or an extension whose bytes fit is never refused, nor is an empty one, nor a `reserve` that fits.
-        ensures room { IfSome (appended call.entry) (λ v. HasRoomFor self.old v → IsOk result) }
-        ensures empty { appended call.entry ≡ Some [] → IsOk result }
+        ensures room { IfSome (appended_units call.entry) (λ v. HasRoomFor self.old v → IsOk result) }
+        ensures empty { appended_units call.entry ≡ Some [] → IsOk result }
         ensures reserve_room { (n : ℕ) → call.entry ≡ Reserve n → length self.old.bytes + n ≤ self.old.capacity → IsOk result }
         ensures found { (v : List ℕ) → FindsRoom self.old.units call.entry v self.old.capacity → IsOk result }
         ensures capacity { IsNoTruncation call.entry → self.old.capacity ≤ self.new.capacity }

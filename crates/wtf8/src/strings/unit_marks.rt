@@ -32,7 +32,7 @@ impl<'a> Wtf8<'a> {
     }
 
     /// The part after a mark of this string. Borrows the bytes for `'a`, so it may outlive this view.
-    pub fn behind_mark(&self, mark: UnitMark) -> Wtf8<'a>
+    pub fn slice_from_mark(&self, mark: UnitMark) -> Wtf8<'a>
         requires { IsMarkOf self.now mark }
         ensures units { view_units result ≡ drop mark.units (view_units self.now) }
         ensures bytes { result.bytes.now ≡ drop mark.position self.now.bytes.now }
@@ -52,7 +52,7 @@ impl<'a> Wtf8<'a> {
         ensures last { IsUndivided (view_units self.now) units result.units }
         ensures exact { ¬ (DividesPair (view_units self.now) units) → result.units ≡ units }
     {
-        let Some(cut) = cut(self.behind_mark(from), units - from.units) else {
+        let Some(cut) = cut(self.slice_from_mark(from), units - from.units) else {
             return from;
         };
         prove!(self.len() <= usize::MAX);

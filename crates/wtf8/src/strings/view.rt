@@ -8,7 +8,7 @@ ghost use Rattle.wtf8.specs.Form.{bytes, IsWellFormed, Reads};
 ghost use Rattle.wtf8.specs.Hex.{hex};
 ghost use Rattle.wtf8.specs.OneForm.{IsWellFormed-prop};
 ghost use Rattle.wtf8.specs.Position.{IsBoundary, IsFront, IsBack, IsMiddle};
-ghost use Rattle.wtf8.specs.Surrogates.{AreScalar, lossy};
+ghost use Rattle.wtf8.specs.Surrogates.{AreScalar, lossy_points};
 ghost use Rattle.wtf8.specs.Unicode.{IsLead, IsTrail};
 ghost use Rattle.wtf8.specs.Units.{unread_units};
 
@@ -169,7 +169,7 @@ impl<'a> Wtf8<'a> {
 
         // Both sides of an ASCII byte are code point boundaries, and it is the only unit between them.
         ensures before { result < 0x80 → IsBoundary (view_units self.now) position }
-        ensures behind { result < 0x80 → IsBoundary (view_units self.now) (position + 1) }
+        ensures after { result < 0x80 → IsBoundary (view_units self.now) (position + 1) }
         ensures unit { (front back : List ℕ) → result < 0x80 → IsFront (view_units self.now) position front →
             IsBack (view_units self.now) (position + 1) back → view_units self.now ≡ front ++ result ∷ back }
     {
@@ -198,7 +198,7 @@ impl<'a> Wtf8<'a> {
         &self,
         alloc: A,
     ) -> Result<CowStr<'a, A>, AllocError>
-        ensures text { IfOk result (λ t. cow_str_bytes t ≡ bytes (lossy (view_points self.now))) }
+        ensures text { IfOk result (λ t. cow_str_bytes t ≡ bytes (lossy_points (view_points self.now))) }
         ensures len { IfOk result (λ t. length (cow_str_bytes t) ≡ length self.now.bytes.now) }
         ensures borrowed { IfOk result (λ t. IsBorrowedStr t ↔ AreScalar (view_points self.now)) }
         ensures granted { AreScalar (view_points self.now) → IsOk result }
@@ -245,8 +245,8 @@ impl<'a> Wtf8<'a> {
 
     /// Returns the text before the first surrogate and the view after it; without one, the whole text and `None`.
     pub(crate) fn split_at_surrogate(self) -> (&'a str, Option<Wtf8<'a>>)
-        ensures none { IfNone result.1 (bytes (lossy (view_points self.entry)) ≡ result.0.now) }
-        ensures some { IfSome result.1 (λ rest. bytes (lossy (view_points self.entry)) ≡ result.0.now ++ bytes (0xFFFD ∷ lossy (view_points rest))) }
+        ensures none { IfNone result.1 (bytes (lossy_points (view_points self.entry)) ≡ result.0.now) }
+        ensures some { IfSome result.1 (λ rest. bytes (lossy_points (view_points self.entry)) ≡ result.0.now ++ bytes (0xFFFD ∷ lossy_points (view_points rest))) }
         ensures shorter { IfSome result.1 (λ rest. length rest.bytes.now < length self.entry.bytes.now) }
     {
         let Some(place) = search::next_surrogate(self.bytes, 0) else {

@@ -3,7 +3,7 @@ ghost use Rattle.std.specs.Prelude.{◌≡◌, ◌<◌, Some, [], ◌∷◌};
 ghost use Rattle.std.specs.Fmt.{DisplaysOnOk, WritesStyledOnOk};
 ghost use Rattle.std.specs.List.{flat_map};
 ghost use Rattle.wtf8.specs.CodePoint.{number};
-ghost use Rattle.wtf8.specs.Debug.{last_four, upper, shown, debug};
+ghost use Rattle.wtf8.specs.Debug.{last_four_digits, upper_hex, escape_surrogate, debug};
 ghost use Rattle.wtf8.specs.View.{view_points};
 ghost use Rattle.wtf8.specs.Hex.{digit};
 ghost use Rattle.wtf8.specs.Unicode.{IsCodePoint};
@@ -25,7 +25,7 @@ fn write_digit<W: fmt::Write>(value: u32, f: &mut fmt::Formatter<W>) -> fmt::Res
 
 /// Writes the last four hexadecimal digits of a number, zeros included.
 fn write_last_four<W: fmt::Write>(value: u32, f: &mut fmt::Formatter<W>) -> fmt::Result
-    ensures { WritesStyledOnOk W.write_str_gives f.old result (last_four value) f.new }
+    ensures { WritesStyledOnOk W.write_str_gives f.old result (last_four_digits value) f.new }
 {
     write_digit(value / 0x1000 % 16, f)?;
     write_digit(value / 0x100 % 16, f)?;
@@ -36,7 +36,7 @@ fn write_last_four<W: fmt::Write>(value: u32, f: &mut fmt::Formatter<W>) -> fmt:
 /// Writes the number of a code point in upper-case hexadecimal, with at least four digits.
 pub(crate) fn write_upper<W: fmt::Write>(value: u32, f: &mut fmt::Formatter<W>) -> fmt::Result
     requires { IsCodePoint value }
-    ensures { WritesStyledOnOk W.write_str_gives f.old result (upper value) f.new }
+    ensures { WritesStyledOnOk W.write_str_gives f.old result (upper_hex value) f.new }
 {
     if value >= 0x100000 {
         write_digit(value / 0x100000, f)?;
@@ -49,7 +49,7 @@ pub(crate) fn write_upper<W: fmt::Write>(value: u32, f: &mut fmt::Formatter<W>) 
 
 /// Writes a code point as in the debug text of a string: a surrogate's number between `\u{` and `}`, others as is.
 fn write_point<W: fmt::Write>(code_point: CodePoint, f: &mut fmt::Formatter<W>) -> fmt::Result
-    ensures { WritesStyledOnOk W.write_str_gives f.old result (shown (number code_point)) f.new }
+    ensures { WritesStyledOnOk W.write_str_gives f.old result (escape_surrogate (number code_point)) f.new }
 {
     match code_point.to_char() {
         Some(scalar) => f.write_char(scalar),
@@ -63,7 +63,7 @@ fn write_point<W: fmt::Write>(code_point: CodePoint, f: &mut fmt::Formatter<W>) 
 
 /// Writes each code point as in the debug text of a string.
 fn write_points<W: fmt::Write>(text: Wtf8<'_>, f: &mut fmt::Formatter<W>) -> fmt::Result
-    ensures { WritesStyledOnOk W.write_str_gives f.old result (flat_map shown (view_points text.entry)) f.new }
+    ensures { WritesStyledOnOk W.write_str_gives f.old result (flat_map escape_surrogate (view_points text.entry)) f.new }
 {
     let mut rest = text;
     while let Some((code_point, behind)) = rest.split_first() {

@@ -9,5 +9,5 @@ returns c =
       start = start_is_boundary t.bytes.now (view_units t) form;
       end = end_is_boundary t.bytes.now (view_units t) form;
       before = λ k inside low. (ascii_alone t.bytes.now (view_units t) k form inside low).0;
-      behind = λ k inside low. (ascii_alone t.bytes.now (view_units t) k form inside low).1;
+      after = λ k inside low. (ascii_alone t.bytes.now (view_units t) k form inside low).1;
     }

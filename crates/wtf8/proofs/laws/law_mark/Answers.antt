@@ -13,5 +13,5 @@ returns c =
     record {
       boundary = record { front = x.front; back = x.back; splits = splits };
       front = λ v f. same_front u k v _ f (record { front = x.front; back = x.back; splits = splits; same_units = c.requires.before.reads.same_units });
-      back = λ v b. same_back u k v _ b (record { front = x.front; back = x.back; splits = splits; same_units = c.requires.behind.reads.same_units });
+      back = λ v b. same_back u k v _ b (record { front = x.front; back = x.back; splits = splits; same_units = c.requires.after.reads.same_units });
     }

@@ -2,4 +2,4 @@ use Rattle.wtf8.proofs.lemmas.strings.Concatenation.{one_form, form_of_one, equa
 use Rattle.wtf8.proofs.laws.law_one_form.Goals as goal
 
 pub returns : goal.returns
-returns c = record { one = one_form; back = form_of_one; equal = equal_forms }
+returns c = record { unique = one_form; back = form_of_one; equal = equal_forms }

@@ -6,7 +6,7 @@ use Rattle.wtf8.proofs.Common.{HasLane}
 use Rattle.std.proofs.lemmas.List.{append_cancel_right}
 use Rattle.wtf8.specs.Laws.{FrontAndBackAreWhole}
 use Rattle.wtf8.specs.PositionLaws.{StartIsBoundary, EndIsBoundary, NoneIsBeyondEnd, FrontBoundariesAreOfWhole, WholeBoundariesAreOfFront, WholeBoundariesAreOfBack}
-use Rattle.wtf8.specs.PositionLaws.{BackBoundariesAreOfWhole, BeginningsAreNoLonger, BothAreNoLonger, AsciiStandsAlone, AsciiIsOneUnit}
+use Rattle.wtf8.specs.PositionLaws.{BackBoundariesAreOfWhole, BeginningsAreNoLonger, BothAreNoLonger, AsciiIsBetweenBoundaries, AsciiIsOneUnit}
 use Rattle.wtf8.specs.PositionLaws.{AsciiIsNoOtherUnit}
 use Rattle.wtf8.proofs.lemmas.numbers.Encoding.{bytes-append, bytes-pushed, row_of, one, two, three, four, own_byte}
 use Rattle.wtf8.proofs.lemmas.numbers.Readings.{well_formed_of, reads_same, same_form, units-append, units_one, units_two}
@@ -121,7 +121,7 @@ ascii_stands {w} {u} form k h low =
     let x = stands c.front c.back u reads (omega (arith, len, ap length whole)) (omega (arith, byte)) in
     subst (λ n. Stands u n (get_or w k 0)) len (subst (λ b. Stands u (length (bytes c.front)) b) byte x)
 
-pub ascii_alone : AsciiStandsAlone
+pub ascii_alone : AsciiIsBetweenBoundaries
 ascii_alone w u k form h low =
     let s = ascii_stands form k h low in
     let from = s.from_it in (record { front = from.front; back = from.back; splits = from.splits }, front_boundary s.to_it)

@@ -21,7 +21,7 @@ use Rattle.wtf8.proofs.lemmas.numbers.Readings.{same_reading}
 use Rattle.wtf8.proofs.lemmas.strings.Concatenation.{equal_forms, form-glue, form_paired, form_apart, length_paired, length_apart, one_form, units_read, at_last, before, parted_more}
 use Rattle.wtf8.proofs.lemmas.strings.Positions.{cut_at, same_front, front_boundary, boundary_from_byte}
 use Rattle.wtf8.proofs.lemmas.strings.Positions.{byte_from_boundary}
-use Rattle.wtf8.proofs.lemmas.strings.Surrogates.{lossy-scalar}
+use Rattle.wtf8.proofs.lemmas.strings.Surrogates.{lossy_points-scalar}
 use Rattle.wtf8.proofs.lemmas.laws.PositionLaws.{both_no_longer, ascii_no_other_unit}
 
 -- Proofs of the laws of strings as contracts see them.
@@ -78,7 +78,7 @@ room_left s w v f h =
     record { whole = whole; form = form; within = omega (arith, both_no_longer s.bytes w whole s.units v s.form f form) }
 
 pub scalars_stay : ScalarsStay
-scalars_stay = lossy-scalar
+scalars_stay = lossy_points-scalar
 
 pub forms_of_buffers : FormsAreOfBuffers
 forms_of_buffers s w u form e = same_form s.bytes w u (subst (IsForm s.bytes) e s.form) form

@@ -1,18 +1,18 @@
 -- The laws that are called with views.
 use Rattle.wtf8.proofs.Common.{◌≡◌, ◌<◌, ◌+◌, ℕ, List, [], ◌∷◌, ◌++◌, ◌∙◌, ◌↔◌, refl, ap, sym, subst, arith, get_or, length, length-append, take, take_at}
-use Rattle.wtf8.proofs.Common.{append_assoc, units, bytes, Reads, IsForm, IsBack, Wtf8, view_units, view_form, AreScalar, lossy, chars, bytes_are_encodes, All}
+use Rattle.wtf8.proofs.Common.{append_assoc, units, bytes, Reads, IsForm, IsBack, Wtf8, view_units, view_form, AreScalar, lossy_points, chars, bytes_are_encodes, All}
 use Rattle.wtf8.proofs.Common.{IsUnit, number, numbers, Drains, Option, Run, Build, CodePoint, slice_index, YieldsList-from_first, chars-encodes}
 use Rattle.wtf8.proofs.Common.{get_or-append_seam, take_source, take_count, skip_source, skip_count, view_points}
 use Rattle.std.proofs.lemmas.Iterator.{YieldsList, items_from_drains, YieldsList-from_take}
 use Rattle.std.proofs.lemmas.Iterator.Adapters.{YieldsList-from_skip}
-use Rattle.wtf8.specs.PointLaws.{DrainedPointsAreLeft, DrainedPointsAreTaken, DrainedPointsAreBehind}
-use Rattle.wtf8.specs.PointLaws.{CollectedPointsAreLeft, CollectedPointsAreTaken, CollectedPointsAreBehind}
+use Rattle.wtf8.specs.PointLaws.{DrainedPointsAreLeft, DrainedPointsAreTaken, DrainedPointsAreAfterSkip}
+use Rattle.wtf8.specs.PointLaws.{CollectedPointsAreLeft, CollectedPointsAreTaken, CollectedPointsAreAfterSkip}
 use Rattle.wtf8.specs.StringLaws.{CharactersComeBack}
 use Rattle.wtf8.proofs.lemmas.numbers.Encoding.{encoding_one, bytes-append, bytes-pushed, encoding_same}
 use Rattle.wtf8.proofs.lemmas.numbers.Readings.{clean-append, no_lead, no_trail, same_reading, units_one, units-append}
 use Rattle.wtf8.proofs.lemmas.strings.Concatenation.{equal_forms, one_form, units_read, one_reading, none_begins_another}
 use Rattle.wtf8.proofs.lemmas.strings.Gains.{all_back}
-use Rattle.wtf8.proofs.lemmas.strings.Surrogates.{scalars_true, scalars-lossy}
+use Rattle.wtf8.proofs.lemmas.strings.Surrogates.{scalars_true, scalars-lossy_points}
 use Rattle.wtf8.proofs.lemmas.laws.StringLaws.{run_once, runs_add, scalars_stay}
 
 -- the code points of a view are the only reading of its units
@@ -61,8 +61,8 @@ parted_by_ascii whole front back b l =
 pub record BeginsByAscii (whole front : Wtf8) (b : ℕ) (rest : List ℕ) : Type 0 where
   pub inside : length front.bytes.now < length whole.bytes.now
   pub front_bytes : take (length front.bytes.now) whole.bytes.now ≡ front.bytes.now
-  pub mark : slice_index whole.bytes.now (length front.bytes.now) ≡ b
-  pub behind : IsBack (view_units whole) (length front.bytes.now + 1) rest
+  pub separator : slice_index whole.bytes.now (length front.bytes.now) ≡ b
+  pub after : IsBack (view_units whole) (length front.bytes.now + 1) rest
 
 pub begins_by_ascii : (whole front : Wtf8) (b : ℕ) (rest : List ℕ) → b < 0x80 → view_units whole ≡ view_units front ++ b ∷ rest → BeginsByAscii whole front b rest
 begins_by_ascii whole front b rest l e =
@@ -76,8 +76,8 @@ begins_by_ascii whole front b rest l e =
     record {
       inside = omega (arith, ap length same, length-append w (b ∷ back.one));
       front_bytes = ap (take (length w)) same ∙ take_at w (b ∷ back.one) (length w) refl;
-      mark = ap (λ v. get_or v (length w) 0) same ∙ get_or-append_seam w b back.one 0;
-      behind = record {
+      separator = ap (λ v. get_or v (length w) 0) same ∙ get_or-append_seam w b back.one 0;
+      after = record {
         front = view_points front ++ b ∷ [];
         back = back.has.points;
         splits = record {
@@ -96,9 +96,9 @@ characters_again c h s = ap chars (bytes_are_encodes c) ∙ chars-encodes c (sca
 pub view_characters : (t : Wtf8) → AreScalar (view_points t) → chars t.bytes.now ≡ view_points t
 view_characters t s = ap chars (sym t.well_formed.encoded) ∙ characters_again (view_points t) t.well_formed.clean s
 
-pub lossy_characters : (t : Wtf8) → chars (bytes (lossy (view_points t))) ≡ lossy (view_points t)
+pub lossy_characters : (t : Wtf8) → chars (bytes (lossy_points (view_points t))) ≡ lossy_points (view_points t)
 lossy_characters t =
-    ap chars (bytes_are_encodes (lossy (view_points t))) ∙ chars-encodes (lossy (view_points t)) (scalars-lossy (view_points t) t.well_formed.clean)
+    ap chars (bytes_are_encodes (lossy_points (view_points t))) ∙ chars-encodes (lossy_points (view_points t)) (scalars-lossy_points (view_points t) t.well_formed.clean)
 
 -- two runs of the same calls have the same outcome
 pub same_run : (u v w : List ℕ) (calls : List Build) (m n : ℕ) → Run u calls v m → Run u calls w n → (v ≡ w) × (m ≡ n)
@@ -119,7 +119,7 @@ drained_points left points d = drained points d (YieldsList-from_first number (�
 pub taken_points : DrainedPointsAreTaken
 taken_points s points d = drained points d (YieldsList-from_take (take_count s) (YieldsList-from_first number (λ c. c) (take_source s) refl) refl)
 
-pub skipped_points : DrainedPointsAreBehind
+pub skipped_points : DrainedPointsAreAfterSkip
 skipped_points s points d = drained points d (YieldsList-from_skip (skip_count s) (YieldsList-from_first number (λ c. c) (skip_source s) refl) refl)
 
 pub collected_points : CollectedPointsAreLeft
@@ -129,7 +129,7 @@ pub collected_front : CollectedPointsAreTaken
 collected_front s points d =
     items_from_drains points d (YieldsList-from_take (take_count s) (YieldsList-from_first number (λ c. c) (take_source s) refl) refl)
 
-pub collected_back : CollectedPointsAreBehind
+pub collected_back : CollectedPointsAreAfterSkip
 collected_back s points d =
     items_from_drains points d (YieldsList-from_skip (skip_count s) (YieldsList-from_first number (λ c. c) (skip_source s) refl) refl)
 

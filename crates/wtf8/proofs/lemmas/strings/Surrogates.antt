@@ -2,8 +2,8 @@
 use Rattle.wtf8.proofs.Common.{◌≡◌, ◌≤◌, ◌<◌, ◌+◌, ℕ, List, [], ◌∷◌, ◌++◌, length, get_or, refl, ap, ◌∙◌, sym, subst, arith, append_assoc, length-append, true}
 use Rattle.wtf8.proofs.Common.{inl, inr, Option, Some, None, nat_tests, cases_lt, lt-ltb, le-ltb, append-nil, get_or-append-add, IsUtf8, scalar, scalars}
 use Rattle.wtf8.proofs.Common.{IsCodePoint, IsSurrogate, encoding, bytes, IsClean, IsWellFormed, bytes_are_encodes, AreScalar, SurrogateAt, IsLeast, IsFirst}
-use Rattle.wtf8.proofs.Common.{◌-◌, ◌/◌, ◌%◌, lit≤, lit<, le-leb, lt-leb, map-append, lossy, take, drop, append_cancel_left, take_at, drop_at, low_scalar}
-use Rattle.wtf8.specs.Surrogates.{replaced}
+use Rattle.wtf8.proofs.Common.{◌-◌, ◌/◌, ◌%◌, lit≤, lit<, le-leb, lt-leb, map-append, lossy_points, take, drop, append_cancel_left, take_at, drop_at, low_scalar}
+use Rattle.wtf8.specs.Surrogates.{replace_surrogate}
 use Rattle.wtf8.proofs.lemmas.numbers.Encoding.{length-behind, encoding_three, length-encoding_bounds, row_of, one, two, three, four, bytes-append, third_row, length-surrogate}
 use Rattle.wtf8.proofs.lemmas.numbers.Encoding.{bytes-pushed}
 use Rattle.wtf8.proofs.lemmas.numbers.Readings.{no_bytes, clean-first, clean-rest, clean-front, clean-back}
@@ -177,11 +177,11 @@ last_surrogate {w} h len first second =
 
 -- a code point is a surrogate, which is replaced, or a scalar value, which is kept
 pub data Kind (p : ℕ) : Type 0 where
-  surrogate : IsSurrogate p → replaced p ≡ 0xFFFD → Kind p
-  scalar_value : ¬ (IsSurrogate p) → replaced p ≡ p → Kind p
+  surrogate : IsSurrogate p → replace_surrogate p ≡ 0xFFFD → Kind p
+  scalar_value : ¬ (IsSurrogate p) → replace_surrogate p ≡ p → Kind p
 
 pub kind_of : (p : ℕ) → Kind p
-unfolding replaced
+unfolding replace_surrogate
 kind_of p = elim (cases_lt p 0xD800) [
   | inl h ↦ scalar_value (λ s. omega arith) (rw (lt-leb 0xD800 p h) refl)
   | inr h ↦ elim (cases_lt p 0xE000) [
@@ -190,41 +190,41 @@ kind_of p = elim (cases_lt p 0xD800) [
   ]
 ]
 
-pub lossy-append : (c d : List ℕ) → lossy (c ++ d) ≡ lossy c ++ lossy d
-lossy-append c d = map-append replaced c d
+pub lossy_points-append : (c d : List ℕ) → lossy_points (c ++ d) ≡ lossy_points c ++ lossy_points d
+lossy_points-append c d = map-append replace_surrogate c d
 
-pub lossy-scalar : (c : List ℕ) → AreScalar c → lossy c ≡ c
-lossy-scalar [] s = refl
-lossy-scalar (p ∷ c) s = elim (kind_of p) [ surrogate k e ↦ absurd (s.0 k) | scalar_value n e ↦ rw (e, lossy-scalar c s.1) refl ]
+pub lossy_points-scalar : (c : List ℕ) → AreScalar c → lossy_points c ≡ c
+lossy_points-scalar [] s = refl
+lossy_points-scalar (p ∷ c) s = elim (kind_of p) [ surrogate k e ↦ absurd (s.0 k) | scalar_value n e ↦ rw (e, lossy_points-scalar c s.1) refl ]
 
 -- the length does not change, since a surrogate has three bytes too
-pub length-lossy : (c : List ℕ) → length (bytes (lossy c)) ≡ length (bytes c)
-length-lossy [] = refl
-length-lossy (p ∷ c) =
-    let r = length-lossy c in
-    let whole = length-append (encoding (replaced p)) (bytes (lossy c)) in
+pub length-lossy_points : (c : List ℕ) → length (bytes (lossy_points c)) ≡ length (bytes c)
+length-lossy_points [] = refl
+length-lossy_points (p ∷ c) =
+    let r = length-lossy_points c in
+    let whole = length-append (encoding (replace_surrogate p)) (bytes (lossy_points c)) in
     let here = length-append (encoding p) (bytes c) in
     elim (kind_of p) [
       | surrogate k e ↦ omega (arith, ap (λ q. length (encoding q)) e, ap length (encoding_three 0xFFFD (lit≤ tt) (lit< tt)), length-surrogate p k)
       | scalar_value n e ↦ omega (arith, ap (λ q. length (encoding q)) e)
     ]
 
-pub scalars-lossy : (c : List ℕ) → IsClean c → scalars (lossy c) ≡ true
-scalars-lossy [] x = refl
-scalars-lossy (p ∷ c) x = elim (kind_of p) [
-  | surrogate k e ↦ rw e (scalars-lossy c (clean-rest p c x))
-  | scalar_value n e ↦ rw (e, scalar_true p (clean-first p c x) n) (scalars-lossy c (clean-rest p c x))
+pub scalars-lossy_points : (c : List ℕ) → IsClean c → scalars (lossy_points c) ≡ true
+scalars-lossy_points [] x = refl
+scalars-lossy_points (p ∷ c) x = elim (kind_of p) [
+  | surrogate k e ↦ rw e (scalars-lossy_points c (clean-rest p c x))
+  | scalar_value n e ↦ rw (e, scalar_true p (clean-first p c x) n) (scalars-lossy_points c (clean-rest p c x))
 ]
 
 -- the bytes of the lossy list are text
-pub utf8_lossy_points : (c : List ℕ) → IsClean c → IsUtf8 (bytes (lossy c))
-utf8_lossy_points c x = (lossy c, (scalars-lossy c x, sym (bytes_are_encodes (lossy c))))
+pub utf8_lossy_points : (c : List ℕ) → IsClean c → IsUtf8 (bytes (lossy_points c))
+utf8_lossy_points c x = (lossy_points c, (scalars-lossy_points c x, sym (bytes_are_encodes (lossy_points c))))
 
-pub replaced_surrogate : (p : ℕ) → IsSurrogate p → replaced p ≡ 0xFFFD
-replaced_surrogate p s = elim (kind_of p) [ surrogate k e ↦ e | scalar_value n e ↦ absurd (n s) ]
+pub replace_surrogate-surrogate : (p : ℕ) → IsSurrogate p → replace_surrogate p ≡ 0xFFFD
+replace_surrogate-surrogate p s = elim (kind_of p) [ surrogate k e ↦ e | scalar_value n e ↦ absurd (n s) ]
 
-pub replaced_scalar : (p : ℕ) → ¬ (IsSurrogate p) → replaced p ≡ p
-replaced_scalar p n = elim (kind_of p) [ surrogate k e ↦ absurd (n k) | scalar_value m e ↦ e ]
+pub replace_surrogate-scalar : (p : ℕ) → ¬ (IsSurrogate p) → replace_surrogate p ≡ p
+replace_surrogate-scalar p n = elim (kind_of p) [ surrogate k e ↦ absurd (n k) | scalar_value m e ↦ e ]
 
 -- Replacing surrogates in place, one after another.
 
@@ -233,13 +233,13 @@ pub record Replacing (c w : List ℕ) (from : ℕ) : Type 0 where
   pub done : List ℕ
   pub rest : List ℕ
   pub joined : c ≡ done ++ rest
-  pub so_far : w ≡ bytes (lossy done ++ rest)
-  pub place : length (bytes (lossy done)) ≡ from
+  pub so_far : w ≡ bytes (lossy_points done ++ rest)
+  pub place : length (bytes (lossy_points done)) ≡ from
 
-pub replacing_end : (c w : List ℕ) (from : ℕ) → Replacing c w from → ((j : ℕ) → from ≤ j → ¬ (SurrogateAt w j)) → w ≡ bytes (lossy c)
+pub replacing_end : (c w : List ℕ) (from : ℕ) → Replacing c w from → ((j : ℕ) → from ≤ j → ¬ (SurrogateAt w j)) → w ≡ bytes (lossy_points c)
 replacing_end c w from r none =
-    let plain = scalar_from_none (lossy r.done) r.rest (λ j l. subst (λ v. ¬ (SurrogateAt v j)) r.so_far (none j (omega (arith, l, r.place)))) in
-    cc (lossy-scalar r.rest plain, lossy-append r.done r.rest)
+    let plain = scalar_from_none (lossy_points r.done) r.rest (λ j l. subst (λ v. ¬ (SurrogateAt v j)) r.so_far (none j (omega (arith, l, r.place)))) in
+    cc (lossy_points-scalar r.rest plain, lossy_points-append r.done r.rest)
 
 -- the bytes before and after the surrogate at `found`
 pub record Around (w : List ℕ) (front : List ℕ) (found : ℕ) (back : List ℕ) : Type 0 where
@@ -266,15 +266,15 @@ pub record Replaced (c w : List ℕ) (found : ℕ) : Type 0 where
 
 pub replacing_step : (c w : List ℕ) (from found : ℕ) → Replacing c w from → IsLeast (SurrogateAt w) from found → Replaced c w found
 replacing_step c w from found r least =
-    let p = surrogate_in (lossy r.done ++ r.rest) found (subst (λ v. SurrogateAt v found) r.so_far least.here) in
-    let b = begun (lossy r.done) r.rest p.front (p.point ∷ p.back) p.joined (omega (arith, r.place, p.front_len, least.not_before)) in
+    let p = surrogate_in (lossy_points r.done ++ r.rest) found (subst (λ v. SurrogateAt v found) r.so_far least.here) in
+    let b = begun (lossy_points r.done) r.rest p.front (p.point ∷ p.back) p.joined (omega (arith, r.place, p.front_len, least.not_before)) in
     let a = around w p.front p.point p.back found (r.so_far ∙ ap bytes p.joined) p.front_len p.surrogate in
-    let rest : r.rest ≡ b.more ++ p.point ∷ p.back = append_cancel_left (lossy r.done) _ _ (p.joined ∙ simp (b.joined, append_assoc)) in
-    let plain : AreScalar b.more = scalar_between (lossy r.done) b.more (p.point ∷ p.back)
+    let rest : r.rest ≡ b.more ++ p.point ∷ p.back = append_cancel_left (lossy_points r.done) _ _ (p.joined ∙ simp (b.joined, append_assoc)) in
+    let plain : AreScalar b.more = scalar_between (lossy_points r.done) b.more (p.point ∷ p.back)
     (λ j l u s. least.none_between j (omega (arith, r.place)) (omega (arith, p.front_len, ap (λ d. length (bytes d)) b.joined))
     (subst (λ v. SurrogateAt v j) (sym (r.so_far ∙ ap bytes (p.joined ∙ ap (λ d. d ++ p.point ∷ p.back) b.joined))) s)) in
-    let done : lossy ((r.done ++ b.more) ++ p.point ∷ []) ≡ p.front ++ 0xFFFD ∷ [] =
-    simp (lossy-append, lossy-scalar b.more plain, ← b.joined, replaced_surrogate p.point p.surrogate) in
+    let done : lossy_points ((r.done ++ b.more) ++ p.point ∷ []) ≡ p.front ++ 0xFFFD ∷ [] =
+    simp (lossy_points-append, lossy_points-scalar b.more plain, ← b.joined, replace_surrogate-surrogate p.point p.surrogate) in
     let sign : encoding 0xFFFD ≡ 0xEF ∷ 0xBF ∷ 0xBD ∷ [] = encoding_three 0xFFFD (lit≤ tt) (lit< tt) in
     record {
       within = a.within;
@@ -292,7 +292,7 @@ pub record Parted (w : List ℕ) (h : IsWellFormed w) (found : ℕ) : Type 0 whe
   pub within : found + 3 ≤ length w
   pub text : IsUtf8 (take found w)
   pub rest : IsWellFormed (drop (found + 3) w)
-  pub lossy_parts : bytes (lossy h.points) ≡ take found w ++ bytes (0xFFFD ∷ lossy rest.points)
+  pub lossy_parts : bytes (lossy_points h.points) ≡ take found w ++ bytes (0xFFFD ∷ lossy_points rest.points)
 
 pub parted : {w : List ℕ} (h : IsWellFormed w) (found : ℕ) → IsLeast (SurrogateAt w) 0 found → Parted w h found
 parted {w} h found least =
@@ -306,5 +306,5 @@ parted {w} h found least =
       within = a.within;
       text = subst IsUtf8 (sym a.before) (utf8_of p.front (clean-front p.front (p.point ∷ p.back) clean) plain);
       rest = record { points = p.back; clean = clean-rest p.point p.back (clean-back p.front (p.point ∷ p.back) clean); encoded = sym a.behind };
-      lossy_parts = simp (p.joined, lossy-append, bytes-append, lossy-scalar p.front plain, replaced_surrogate p.point p.surrogate, a.before);
+      lossy_parts = simp (p.joined, lossy_points-append, bytes-append, lossy_points-scalar p.front plain, replace_surrogate-surrogate p.point p.surrogate, a.before);
     }

@@ -24,7 +24,7 @@ mark_at_cut h {k} at =
       position_within = cut.within;
       units_within = x.within;
       before = record { points = x.front; reads = record { clean = cut.before.clean; same_units = sym x.kept }; encoded = cut.before.encoded };
-      behind = record { points = x.back; reads = record { clean = cut.behind.clean; same_units = sym x.behind }; encoded = cut.behind.encoded };
+      after = record { points = x.back; reads = record { clean = cut.behind.clean; same_units = sym x.behind }; encoded = cut.behind.encoded };
     }
 
 mark_of : {w u : List ℕ} (f : IsForm w u) {k n : ℕ} → CutsUnits f.points n k None → IsMark w u k n
@@ -34,9 +34,9 @@ mark_of {w} f {k} {n} x = subst (λ v. IsMark w v k n) f.reads.same_units (mark_
 abbrev pub cut_of : {w u : List ℕ} (h : IsWellFormed w) {k n : ℕ} → IsMark w u k n → CutsUnits h.points n k None
 cut_of {w} {u} h {k} {n} m =
     let front = m.before.points in
-    let back = m.behind.points in
+    let back = m.after.points in
     let whole : bytes (front ++ back) ≡ w =
-    bytes-append front back ∙ (ap (λ v. v ++ bytes back) m.before.encoded ∙ (ap (λ v. take k w ++ v) m.behind.encoded ∙ take-append-drop k w)) in
+    bytes-append front back ∙ (ap (λ v. v ++ bytes back) m.before.encoded ∙ (ap (λ v. take k w ++ v) m.after.encoded ∙ take-append-drop k w)) in
     record {
       front = front;
       back = back;
@@ -121,7 +121,7 @@ equal_counts w u k f e h =
       position_within = omega (arith, e, h);
       units_within = omega (arith, e, h);
       before = (ascii_form (take k u) (Each1-chunk (λ n. n < 0x80) 0 k u same.0)).form;
-      behind = (ascii_form (drop k u) behind).form;
+      after = (ascii_form (drop k u) behind).form;
     })
 
 -- joining changes no code point before the last

@@ -4,7 +4,7 @@ use Rattle.wtf8.proofs.Common.{cases_lt, IsFlush, has_written_styled_nil, encodi
 use Rattle.std.specs.Fmt.{HasWrittenStyled}
 use Rattle.std.specs.declared.fmt.Formatter.{Formatter}
 use lib.Utf8.{encode}
-use Rattle.wtf8.specs.Debug.{last_four, upper, shown}
+use Rattle.wtf8.specs.Debug.{last_four_digits, upper_hex, escape_surrogate}
 
 -- `f` was to write `whole`; `g` is the formatter after a front of it, with `rest` left to write
 pub record Continues {W : Type 0} (took : W → List ℕ → W → Type 0) (f : Formatter W) (whole : List ℕ) (g : Formatter W) (rest : List ℕ) : Type 0 where
@@ -35,29 +35,29 @@ module _ {W : Type 0} {took : W → List ℕ → W → Type 0} where
   ended {f} {g} c e = c.ends g (written_as (sym e) (has_written_styled_nil took g c.flush))
 
 -- the hexadecimal digits of a code point: four, five or six
-pub upper_four : (n : ℕ) → n < 0x10000 → upper n ≡ last_four n
-unfolding upper
-upper_four n h = rw (lt-ltb n 0x10000 h) refl
+pub upper_hex-four : (n : ℕ) → n < 0x10000 → upper_hex n ≡ last_four_digits n
+unfolding upper_hex
+upper_hex-four n h = rw (lt-ltb n 0x10000 h) refl
 
-pub upper_five : (n : ℕ) → 0x10000 ≤ n → n < 0x100000 → upper n ≡ digit (n / 0x10000) ∷ last_four n
-unfolding upper
-upper_five n l h = rw (le-ltb n 0x10000 l, lt-ltb n 0x100000 h) refl
+pub upper_hex-five : (n : ℕ) → 0x10000 ≤ n → n < 0x100000 → upper_hex n ≡ digit (n / 0x10000) ∷ last_four_digits n
+unfolding upper_hex
+upper_hex-five n l h = rw (le-ltb n 0x10000 l, lt-ltb n 0x100000 h) refl
 
-pub upper_six : (n : ℕ) → 0x100000 ≤ n → upper n ≡ digit (n / 0x100000) ∷ digit (n / 0x10000 % 16) ∷ last_four n
-unfolding upper
-upper_six n l = rw (le-ltb n 0x10000 (omega arith), le-ltb n 0x100000 l) refl
+pub upper_hex-six : (n : ℕ) → 0x100000 ≤ n → upper_hex n ≡ digit (n / 0x100000) ∷ digit (n / 0x10000 % 16) ∷ last_four_digits n
+unfolding upper_hex
+upper_hex-six n l = rw (le-ltb n 0x10000 (omega arith), le-ltb n 0x100000 l) refl
 
--- a surrogate is shown as its `\u{...}` escape, any other code point as itself
-pub shown_surrogate : (n p : ℕ) → IsSurrogate p → n ≡ p → codes "\\u{" ++ (upper n ++ codes "}") ≡ shown p
-unfolding shown
-shown_surrogate n p h e = rw (e, le-leb 0xD800 p h.0, le-leb p 0xDFFF h.1) refl
+-- a surrogate is written as its `\u{...}` escape, any other code point as itself
+pub escape_surrogate-surrogate : (n p : ℕ) → IsSurrogate p → n ≡ p → codes "\\u{" ++ (upper_hex n ++ codes "}") ≡ escape_surrogate p
+unfolding escape_surrogate
+escape_surrogate-surrogate n p h e = rw (e, le-leb 0xD800 p h.0, le-leb p 0xDFFF h.1) refl
 
-shown_itself : (p : ℕ) → ¬ IsSurrogate p → shown p ≡ encoding p
-unfolding shown
-shown_itself p h = elim (cases_lt p 0xD800) [
+escape_surrogate-encoding : (p : ℕ) → ¬ IsSurrogate p → escape_surrogate p ≡ encoding p
+unfolding escape_surrogate
+escape_surrogate-encoding p h = elim (cases_lt p 0xD800) [
   | inl l ↦ rw (lt-leb 0xD800 p l) refl
   | inr l ↦ elim (cases_lt 0xDFFF p) [ inl m ↦ rw (le-leb 0xD800 p l, lt-leb p 0xDFFF m) refl | inr m ↦ absurd (h (l, m)) ]
 ]
 
-pub shown_scalar : (c p : ℕ) → ¬ IsSurrogate p → c ≡ p → encode c ≡ shown p
-shown_scalar c p h e = ap encode e ∙ (sym (encoding_is_encode p) ∙ sym (shown_itself p h))
+pub escape_surrogate-scalar : (c p : ℕ) → ¬ IsSurrogate p → c ≡ p → encode c ≡ escape_surrogate p
+escape_surrogate-scalar c p h e = ap encode e ∙ (sym (encoding_is_encode p) ∙ sym (escape_surrogate-encoding p h))

@@ -8,7 +8,7 @@ pub returns : goal.returns
 returns c =
     let mark : c.ascii_byte_at.result ≡ 0x5C = omega (arith, c.if-ascii_byte_at-ne92.false) in
     let low : c.ascii_byte_at.result < 0x80 = omega (arith, mark) in
-    let b = c.ascii_byte_at.ensures.behind low in
+    let b = c.ascii_byte_at.ensures.after low in
     let back : IsBack (view_units c.args.path) (c.len-end.result + 1) (units b.back) =
     record { front = b.front; back = b.back; splits = b.splits; same_units = refl } in (
       λ t. (units b.back, cc (c.ascii_byte_at.ensures.unit _ _ low c.slice_to-front.ensures.units back, c.eq.ensures.units.0 t, mark)),

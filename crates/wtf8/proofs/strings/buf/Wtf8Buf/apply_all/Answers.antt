@@ -1,7 +1,7 @@
 use Rattle.wtf8.proofs.Common.{◌≡◌, ◌<◌, ◌+◌, ℕ, List, [], ◌∷◌, ◌++◌, length, get_or, Bool, true, false, cond, Some, refl, ap, ◌∙◌, sym, subst, arith}
 use Rattle.wtf8.proofs.Common.{append_assoc, All, Step, Run, Append, IsNoTruncation, Build, Reserve, Truncate, TruncateUnits, ◌≤◌, take, drop, inl, inr}
 use Rattle.wtf8.proofs.Common.{false≢true, cases_lt, append-nil, IsForm, FindRoom, All-nil, All-cons, take_all, All-get_or, FitWithin, none-some}
-use Rattle.wtf8.specs.Building.{appended, asked, LeavesReserved}
+use Rattle.wtf8.specs.Building.{appended_units, reserved_bytes, LeavesReserved}
 use Rattle.wtf8.proofs.lemmas.laws.StringLaws.{reserved_more}
 use Rattle.wtf8.proofs.lemmas.strings.Concatenation.{item_at, items_more}
 use Rattle.wtf8.proofs.lemmas.strings.Gains.{Found, found_more, wider, beginning}
@@ -23,11 +23,11 @@ some_same a b e = cc
 -- a call that appends `a`: it doesn't truncate or reserve, and has this outcome only
 record Adds (u : List ℕ) (call : Build) (a : List ℕ) : Type 0 where
   no_truncation : IsNoTruncation call
-  asks : asked call ≡ 0
+  asks : reserved_bytes call ≡ 0
   step : Step u call (u ++ a) 0
   only : (v : List ℕ) (r : ℕ) → Step u call v r → v ≡ u ++ a
 
-adds : (u : List ℕ) (call : Build) (a : List ℕ) → appended call ≡ Some a → Adds u call a
+adds : (u : List ℕ) (call : Build) (a : List ℕ) → appended_units call ≡ Some a → Adds u call a
 adds u (Reserve n) a e = absurd (none-some a e)
 adds u (Truncate k) a e = absurd (none-some a e)
 adds u (TruncateUnits n) a e = absurd (none-some a e)

@@ -17,8 +17,8 @@ returns-clause-ok g c = units_appended _ _ c.self-1.given.0 c.self.view_is refl 
 pub returns-clause-kept : goal.returns-clause-kept
 returns-clause-kept g c = kept_contents _ _ _ c.self.view_is refl refl c.push_point.ensures.gains
 
-pub returns-clause-one : goal.returns-clause-one
-returns-clause-one g c low =
+pub returns-clause-one_unit : goal.returns-clause-one_unit
+returns-clause-one_unit g c low =
     on_ok_weaker c.push_point.result (λ e. e ∙ ap (λ u. c.args.self.now.units ++ u) (units_one (number c.args.code_point) low)) (returns-clause-ok g c)
 
 pub returns-clause-room : goal.returns-clause-room

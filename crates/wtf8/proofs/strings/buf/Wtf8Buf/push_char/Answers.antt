@@ -22,8 +22,8 @@ returns-clause-ok g c = units_appended _ _ c.self-1.given.0 c.self.view_is refl 
 pub returns-clause-kept : goal.returns-clause-kept
 returns-clause-kept g c = kept_contents _ _ _ c.self.view_is refl refl (gains g (goal.at.returns-clause-kept g c).After-push_scalar)
 
-pub returns-clause-one : goal.returns-clause-one
-returns-clause-one g c low =
+pub returns-clause-one_unit : goal.returns-clause-one_unit
+returns-clause-one_unit g c low =
     let more : c.args.self.now.units ++ units_of c.args.c ≡ c.args.self.now.units ++ c.args.c ∷ [] = ap (λ u. c.args.self.now.units ++ u) (units_one c.args.c low) in
     on_ok_weaker c.push_scalar.result (λ e. cc (e, more)) (returns-clause-ok g c)
 

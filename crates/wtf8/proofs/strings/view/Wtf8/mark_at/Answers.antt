@@ -7,8 +7,8 @@ use Rattle.wtf8.proofs.strings.view.Wtf8.mark_at.Goals as goal
 -- a cut of the part after the mark, as a cut of the whole string
 cut_here : (c : In-Some) → CutsUnits c.args.self.now.well_formed.points c.args.units (c.args.from.position + c.in-Some.cut.position) c.in-Some.cut.divided
 cut_here c =
-    let rest = c.behind_mark.result.well_formed in
-    cut_from_mark c.args.self.now.well_formed rest c.args.units c.in-Some.cut.divided c.requires.mark c.behind_mark.ensures.bytes c.requires.order c.in-Some.ensures.some
+    let rest = c.slice_from_mark.result.well_formed in
+    cut_from_mark c.args.self.now.well_formed rest c.args.units c.in-Some.cut.divided c.requires.mark c.slice_from_mark.ensures.bytes c.requires.order c.in-Some.ensures.some
 
 pub returns-in-None-clause-mark : goal.returns-in-None-clause-mark
 returns-in-None-clause-mark c =

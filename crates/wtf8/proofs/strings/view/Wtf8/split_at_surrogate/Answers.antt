@@ -1,5 +1,5 @@
 use Rattle.wtf8.proofs.Common.{◌∙◌, ap, sym, subst, IsUtf8, bytes}
-use Rattle.wtf8.proofs.lemmas.strings.Surrogates.{lossy-scalar, parted, scalar_if_none, utf8_if_none}
+use Rattle.wtf8.proofs.lemmas.strings.Surrogates.{lossy_points-scalar, parted, scalar_if_none, utf8_if_none}
 use Rattle.wtf8.proofs.lemmas.numbers.Readings.{moved, same_points}
 use Rattle.wtf8.proofs.strings.view.Wtf8.split_at_surrogate.Goals as goal
 
@@ -9,7 +9,7 @@ from_utf8_unchecked-requires c = utf8_if_none c.args.self.well_formed c.in_defau
 pub returns-in_default-clause-none : goal.returns-in_default-clause-none
 returns-in_default-clause-none c =
     let h = c.args.self.well_formed in
-    ap bytes (lossy-scalar h.points (scalar_if_none h c.in_default.ensures)) ∙ (h.encoded ∙ sym c.from_utf8_unchecked.ensures)
+    ap bytes (lossy_points-scalar h.points (scalar_if_none h c.in_default.ensures)) ∙ (h.encoded ∙ sym c.from_utf8_unchecked.ensures)
 
 pub split_at-requires-2 : goal.split_at-requires-2
 split_at-requires-2 c = (parted c.args.self.well_formed c.in-Some.place c.in-Some.ensures).within

@@ -1,12 +1,12 @@
 use Rattle.wtf8.proofs.Common.{ap, sym, ◌∙◌, subst, refl, IsUtf8, bytes, length}
-use Rattle.wtf8.proofs.lemmas.strings.Surrogates.{utf8_lossy_points, lossy-scalar, length-lossy}
+use Rattle.wtf8.proofs.lemmas.strings.Surrogates.{utf8_lossy_points, lossy_points-scalar, length-lossy_points}
 use Rattle.wtf8.proofs.lemmas.numbers.Readings.{moved}
 use Rattle.wtf8.proofs.strings.view.Wtf8.to_string_lossy.Goals as goal
 
 pub returns-in-Some-clause-text : goal.returns-in-Some-clause-text
 returns-in-Some-clause-text g c =
     let h = c.args.self.now.well_formed in
-    c.in-Some.ensures.bytes ∙ (sym h.encoded ∙ ap bytes (sym (lossy-scalar h.points (c.in-Some.ensures.some.0 refl))))
+    c.in-Some.ensures.bytes ∙ (sym h.encoded ∙ ap bytes (sym (lossy_points-scalar h.points (c.in-Some.ensures.some.0 refl))))
 
 pub from_utf8_unchecked-requires : goal.from_utf8_unchecked-requires
 from_utf8_unchecked-requires g c =
@@ -24,4 +24,4 @@ pub returns-clause-len : goal.returns-clause-len
 returns-clause-len g c =
     let h = c.args.self.now.well_formed in
     ap (λ v. length v.items) c.from_utf8_unchecked.ensures.value
-    ∙ (ap length (c.replace_surrogates.ensures (moved h c.in_ok-bytes.ensures.items)) ∙ (length-lossy h.points ∙ ap length h.encoded))
+    ∙ (ap length (c.replace_surrogates.ensures (moved h c.in_ok-bytes.ensures.items)) ∙ (length-lossy_points h.points ∙ ap length h.encoded))
