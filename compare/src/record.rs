@@ -10,7 +10,7 @@ use crate::script::{encode, Call, FIRST_OF_TEXTS};
 use crate::{building, examples, generate, long, pairs, say};
 
 /// Writes scripts in hexadecimal, one a line, to `stdin` in a folder, and the original crate's transcripts, each with
-/// an empty line after it, to `stdout` there. The scripts on texts, which `units/run` wrote, stay at the end.
+/// an empty line after it, to `stdout` there. The scripts on texts, which `javascript/run` wrote, stay at the end.
 pub fn run(folder: &Path, seed: u64, cases: u64) -> std::io::Result<()> {
     let mut scripts = chosen();
     let mut random = Random::new(seed);

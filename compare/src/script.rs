@@ -78,7 +78,7 @@ pub enum Opcode {
     ShrinkToFit = 45,
 }
 
-/// The first opcode of a call on texts. `units/units.js` makes these calls.
+/// The first opcode of a call on texts. `javascript/text_calls.js` makes these calls.
 pub const FIRST_OF_TEXTS: u8 = 64;
 
 /// The calls on strings with the kinds of their operands, in the order of the opcodes.

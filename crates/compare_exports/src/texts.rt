@@ -57,10 +57,10 @@ impl<'a> TextBench<'a> {
         requires most { number ≤ 12 }
     {
         match number {
-            1 => self.at_places::<1>(),
-            2 => self.at_places::<2>(),
-            3 => self.at_places::<3>(),
-            4 => self.at_places::<4>(),
+            1 => self.sum_at_indexes::<1>(),
+            2 => self.sum_at_indexes::<2>(),
+            3 => self.sum_at_indexes::<3>(),
+            4 => self.sum_at_indexes::<4>(),
             5 => self.whole::<5>(),
             6 => self.whole::<6>(),
             7 => self.whole::<7>(),
@@ -75,32 +75,32 @@ impl<'a> TextBench<'a> {
 
     /// The sum of what a loop's call returns at each index in each round, modulo 2^64.
     #[inline(never)]
-    fn at_places<const LOOP: u32>(&self) -> Result<u64, AllocError> {
+    fn sum_at_indexes<const LOOP: u32>(&self) -> Result<u64, AllocError> {
         let mut sum = 0u64;
         for _ in 0..self.rounds {
-            sum = sum.wrapping_add(self.round_of_places::<LOOP>()?);
+            sum = sum.wrapping_add(self.sum_of_round::<LOOP>()?);
         }
         Ok(sum)
     }
 
     /// The sum of what a loop's call returns at each index, modulo 2^64.
     #[inline(always)]
-    fn round_of_places<const LOOP: u32>(&self) -> Result<u64, AllocError> {
+    fn sum_of_round<const LOOP: u32>(&self) -> Result<u64, AllocError> {
         let mut sum = 0u64;
-        for place in self.places {
-            sum = sum.wrapping_add(self.answer_at::<LOOP>(*place as usize)?);
+        for index in self.places {
+            sum = sum.wrapping_add(self.value_at::<LOOP>(*index as usize)?);
         }
         Ok(sum)
     }
 
     /// What a loop's call returns at an index, as a number.
     #[inline(always)]
-    fn answer_at<const LOOP: u32>(&self, place: usize) -> Result<u64, AllocError> {
+    fn value_at<const LOOP: u32>(&self, index: usize) -> Result<u64, AllocError> {
         let answer = match LOOP {
-            1 => u64::from(self.text.unit_at(place).unwrap_or(0)),
-            2 => u64::from(self.string.as_wtf8().unit_at(place).unwrap_or(0)),
-            3 => self.slice_of_text(place)?.as_wtf8().len() as u64,
-            4 => len_of_slice(self.slice_of_view(place)),
+            1 => u64::from(self.text.unit_at(index).unwrap_or(0)),
+            2 => u64::from(self.string.as_wtf8().unit_at(index).unwrap_or(0)),
+            3 => self.slice_of_text(index)?.as_wtf8().len() as u64,
+            4 => len_of_slice(self.slice_of_view(index)),
             _ => 0,
         };
         Ok(answer)
@@ -108,15 +108,15 @@ impl<'a> TextBench<'a> {
 
     /// Ten units of the text from an index, or the last ten if fewer follow.
     #[inline(always)]
-    fn slice_of_text(&self, place: usize) -> Result<UnitText<Global>, AllocError> {
-        let (begin, end) = ends_of_slice(place, self.text.unit_len());
+    fn slice_of_text(&self, index: usize) -> Result<UnitText<Global>, AllocError> {
+        let (begin, end) = ends_of_slice(index, self.text.unit_len());
         self.text.slice_units(self.alloc, begin, end)
     }
 
     /// Ten units of the string's view from an index, or the last ten if fewer follow.
     #[inline(always)]
-    fn slice_of_view(&self, place: usize) -> UnitSlice<'_> {
-        let (begin, end) = ends_of_slice(place, self.len);
+    fn slice_of_view(&self, index: usize) -> UnitSlice<'_> {
+        let (begin, end) = ends_of_slice(index, self.len);
         self.string.as_wtf8().slice_units(begin, end)
     }
 
@@ -160,11 +160,11 @@ impl<'a> TextBench<'a> {
 
 /// The start and the end of ten units from an index, or of the last ten, in a text of `len` units.
 #[inline(always)]
-fn ends_of_slice(place: usize, len: usize) -> (usize, usize)
+fn ends_of_slice(index: usize, len: usize) -> (usize, usize)
     ensures order { result.0 ≤ result.1 }
     ensures within { result.1 ≤ len }
 {
-    let begin = place.min(len.saturating_sub(SLICE));
+    let begin = index.min(len.saturating_sub(SLICE));
     (begin, len.min(begin.saturating_add(SLICE)))
 }
 

@@ -5,12 +5,12 @@
 //! call but `apply` of an empty list.
 #![tactic(auto)]
 
-mod applying;
+mod build_calls;
 mod building;
 mod comparing;
 mod engine;
 mod hinted;
-mod looking;
+mod iterators;
 mod machine;
 mod opcodes;
 mod reader;
@@ -18,6 +18,6 @@ mod recorder;
 mod stop;
 mod tape;
 mod texts;
-mod walking;
+mod views;
 
 pub use machine::run_script;

@@ -1,10 +1,10 @@
 // Runs a script.
-use crate::looking::look_at_operands;
 use crate::opcodes::{Call, Change, StringCall};
 use crate::reader::{Reader, Register, STRINGS};
 use crate::stop::Stop;
 use crate::tape::Tape;
 use crate::texts::Texts;
+use crate::views::write_operand_results;
 use std::alloc::{AllocError, Global};
 use std::array;
 use wtf8::{Wtf8, Wtf8Buf};
@@ -60,7 +60,7 @@ impl Machine {
     /// Runs the call of an opcode, whose operands come next in the script, and writes what it returns.
     fn run(&mut self, opcode: u8, tape: &mut Tape<'_>) -> Result<(), Stop> {
         match Call::from_opcode(opcode) {
-            Some(Call::Operands(call)) => look_at_operands(call, tape),
+            Some(Call::Operands(call)) => write_operand_results(call, tape),
             Some(Call::String(call)) => self.run_at(call, tape),
             Some(Call::Text(call)) => self.texts.run(call, tape),
             None => Err(Stop::Malformed),
@@ -75,8 +75,8 @@ impl Machine {
                 self.change(call, at, tape)?;
                 tape.write_string(at, self.view(at))
             }
-            StringCall::Read(call) => self.look(call, at, tape),
-            StringCall::ReadSlice => self.look_at_slice(at, tape),
+            StringCall::Read(call) => self.write_results(call, at, tape),
+            StringCall::ReadSlice => self.write_slice_results(at, tape),
             StringCall::CompareSlices => self.compare_slices(at, tape),
             StringCall::Apply => self.apply_each(at, tape),
         }

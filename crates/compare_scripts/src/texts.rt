@@ -7,7 +7,7 @@ use crate::tape::Tape;
 use std::alloc::Global;
 use std::mem;
 use unit_text::UnitText;
-use wtf8_uses::cuts::is_whole_again;
+use wtf8_uses::cuts::is_equal_after_cut;
 use wtf8_uses::string_prototype::{
     char_at, char_code_at, code_point_at, index_of, is_less, is_well_formed, last_index_of,
     starts_with, substring, to_well_formed, trim_ascii,
@@ -35,7 +35,7 @@ impl Texts {
                 self.change(call, tape)?;
                 tape.write_units(&self.first)
             }
-            TextCall::Read(call) => self.look(call, tape),
+            TextCall::Read(call) => self.write_results(call, tape),
             TextCall::Swap => {
                 mem::swap(&mut self.first, &mut self.second);
                 tape.write_line("swapped")
@@ -90,7 +90,7 @@ impl Texts {
     }
 
     /// Runs a call that changes neither text, and writes what it returns.
-    fn look(&self, call: ReadText, tape: &mut Tape<'_>) -> Result<(), Stop> {
+    fn write_results(&self, call: ReadText, tape: &mut Tape<'_>) -> Result<(), Stop> {
         match call {
             ReadText::Length => writeln!(tape, "length {}", self.first.unit_len()),
             ReadText::UnitAt => self.write_unit(tape),
@@ -202,8 +202,8 @@ fn push_units(text: &mut UnitText<Global>, tape: &mut Tape<'_>) -> Result<(), St
 /// The number of indexes at which a text, cut and joined again, is unchanged.
 fn whole_cuts(alloc: Global, text: &UnitText<Global>) -> Result<u64, Stop> {
     let mut whole = 0u64;
-    for place in 0..=text.unit_len() {
-        if allocated(is_whole_again(alloc, alloc, text, place))? {
+    for index in 0..=text.unit_len() {
+        if allocated(is_equal_after_cut(alloc, alloc, text, index))? {
             whole = whole.wrapping_add(1);
         }
     }

@@ -21,11 +21,11 @@ number_below base word i n most least few spelled digits =
 
 -- the byte at index `i` is the digit `d`, and the digits before it have the value `n`
 module _ (base : ℕ) (word : List ℕ) (i n d : ℕ) (here : i < length word) (lt : d < base) (is : d ≡ digit_value (get_or word i 0)) where
-  small : digit_value (get_or word i 0) < base
-  small = omega (arith, lt, is)
+  digit-lt_base : digit_value (get_or word i 0) < base
+  digit-lt_base = omega (arith, lt, is)
 
   pub next_digits : AllDigits base (take i word) → AllDigits base (take (i + 1) word)
-  next_digits digits = digits_more base word i here digits small
+  next_digits digits = digits_more base word i here digits digit-lt_base
 
   pub next_number : n ≡ digits_value base (take i word) → n * base + d ≡ digits_value base (take (i + 1) word)
   next_number spelled =
@@ -39,7 +39,7 @@ module _ (base : ℕ) (word : List ℕ) (i n d : ℕ) (here : i < length word) (
   pub next_rest : list_all (λ byte. is_digit byte base) (drop i word) ≡ list_all (λ byte. is_digit byte base) (drop (i + 1) word)
   next_rest =
       ap (list_all (λ byte. is_digit byte base)) (drop_more word i 0 here)
-      ∙ ap (λ passes. passes && list_all (λ byte. is_digit byte base) (drop (i + 1) word)) (lt-ltb _ _ small)
+      ∙ ap (λ passes. passes && list_all (λ byte. is_digit byte base) (drop (i + 1) word)) (lt-ltb _ _ digit-lt_base)
 
 -- a word with a byte that is no digit has no value
 pub no_number : (base least most : ℕ) (word : List ℕ) (i : ℕ) → i < length word → base ≤ digit_value (get_or word i 0)
@@ -50,5 +50,5 @@ no_number base least most word i here none =
 
 -- a word of a code point holds no space
 pub point_no_space : (word : List ℕ) (n k : ℕ) → point_of word ≡ Some n → k < length word → get_or word k 0 ≢ 32
-point_no_space word n k stands lt is =
-    let none : None ≡ Some n = rw (no_number 16 4 6 word k lt (omega (arith, ap digit_value is))) at stands in cc
+point_no_space word n k is_point lt is =
+    let none : None ≡ Some n = rw (no_number 16 4 6 word k lt (omega (arith, ap digit_value is))) at is_point in cc

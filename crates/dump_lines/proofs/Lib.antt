@@ -1,4 +1,4 @@
-mod Answering
+mod Outputs
 mod Digits
 mod Reading
 mod Splitting

@@ -4,7 +4,7 @@ use Rattle.std.specs.List.{AllZip}
 use Rattle.wtf8.specs.declared.strings.build.Build.{Build}
 use Rattle.dump_lines.specs.Lines.{words}
 use Rattle.dump_lines.specs.Word.{IsCall}
-use Rattle.dump_lines.proofs.Answering.{AllZip-one_more}
+use Rattle.dump_lines.proofs.Outputs.{AllZip-one_more}
 
 -- `calls` are the calls of the first words of the line, and `rest` are the words after them.
 pub record AreRead (line : List ℕ) (rest : List (List ℕ)) (calls : List Build) : Type 0 where

@@ -18,17 +18,17 @@ note (byte ∷ w) (suc n) = 32 ∷ 33 ∷ decimal (suc n)
 
 -- The output for a line: a question mark if a word is malformed, else the bytes, in hexadecimal, of the string that the
 -- calls of its words build from the empty string, and the note of refused truncations.
-pub data IsAnswer (line answer : List ℕ) : Type 0 where
-  refused : Any IsNoCall (words line) → answer ≡ 63 ∷ [] → IsAnswer line answer
+pub data IsOutput (line output : List ℕ) : Type 0 where
+  refused : Any IsNoCall (words line) → output ≡ 63 ∷ [] → IsOutput line output
   dumped : (calls : List Build) (v : List ℕ) (n : ℕ) (w : List ℕ) → AllZip IsCall (words line) calls → Run [] calls v n → IsForm w v
-      → answer ≡ hex w ++ note w n → IsAnswer line answer
+      → output ≡ hex w ++ note w n → IsOutput line output
 
 -- `out` is the output for each of the lines, in order, with a newline after each.
-pub record HoldsAnswers (lines : List (List ℕ)) (out : List ℕ) : Type 0 where
-  pub answers : List (List ℕ)
-  pub each : AllZip IsAnswer lines answers
-  pub joined : out ≡ flat_map (λ answer. answer ++ 10 ∷ []) answers
+pub record HoldsOutputs (lines : List (List ℕ)) (out : List ℕ) : Type 0 where
+  pub outputs : List (List ℕ)
+  pub each : AllZip IsOutput lines outputs
+  pub joined : out ≡ flat_map (λ output. output ++ 10 ∷ []) outputs
 
 -- The dump of an input is the output for its lines, with a newline after each, and nothing else.
 abbrev pub IsDump : List ℕ → List ℕ → Type 0
-IsDump input out = HoldsAnswers (lines input) out
+IsDump input out = HoldsOutputs (lines input) out

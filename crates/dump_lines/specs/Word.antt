@@ -15,10 +15,10 @@ number_in base word = if list_all (λ byte. is_digit byte base) word then Some (
 abbrev pub bounded_number : ℕ → ℕ → ℕ → List ℕ → Option ℕ
 bounded_number base least most word = if nat_le least (length word) && nat_le (length word) most then number_in base word else None
 
--- The value of one to nine decimal digits after the byte `mark`, or `None` for any other word.
-abbrev pub number_behind : ℕ → List ℕ → Option ℕ
-number_behind mark [] = None
-number_behind mark (byte ∷ digits) = if byte == mark then bounded_number 10 1 9 digits else None
+-- The value of one to nine decimal digits after the byte `sigil`, or `None` for any other word.
+abbrev pub number_after : ℕ → List ℕ → Option ℕ
+number_after sigil [] = None
+number_after sigil (byte ∷ digits) = if byte == sigil then bounded_number 10 1 9 digits else None
 
 -- The code point of a word: the value of four to six hexadecimal digits if it is at most 0x10FFFF, else `None`.
 abbrev pub point_of : List ℕ → Option ℕ
@@ -26,11 +26,11 @@ point_of word = option_and_then (λ n. if nat_le n 0x10FFFF then Some n else Non
 
 -- The byte position of a word: the value of one to nine decimal digits after a hyphen, else `None`.
 abbrev pub position_of : List ℕ → Option ℕ
-position_of word = number_behind 45 word
+position_of word = number_after 45 word
 
 -- The number of units of a word: the value of one to nine decimal digits after a slash, else `None`.
 abbrev pub unit_count_of : List ℕ → Option ℕ
-unit_count_of word = number_behind 47 word
+unit_count_of word = number_after 47 word
 
 -- The call of a word: the push of its code point, or the truncation at its byte position or its number of units.
 abbrev pub IsCall : List ℕ → Build → Type 0

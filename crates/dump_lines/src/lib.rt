@@ -3,8 +3,8 @@
 
 mod fault;
 mod line;
-mod parts;
 mod session;
+mod split;
 mod word;
 
 pub use fault::Fault;

@@ -2,7 +2,7 @@
 ghost use Rattle.std.specs.Prelude.{◌≡◌, ℕ, List, ◌++◌, IfOk, OnOk, MatchBool};
 ghost use Rattle.std.specs.List.{Any, AllZip};
 ghost use Rattle.wtf8.specs.Hex.{hex};
-ghost use Rattle.dump_lines.specs.Dump.{IsAnswer, note};
+ghost use Rattle.dump_lines.specs.Dump.{IsOutput, note};
 ghost use Rattle.dump_lines.specs.Lines.{words};
 ghost use Rattle.dump_lines.specs.Word.{IsCall, IsNoCall};
 
@@ -12,16 +12,16 @@ use wtf8::{Build, Wtf8Buf};
 
 /// Buffers that are reused from line to line: the calls of a line, and the string that they build.
 #[derive(Drop)]
-pub struct Workspace<A: Allocator> {
+pub struct LineBuffers<A: Allocator> {
     calls: Vec<Build<'static>, A>,
     string: Wtf8Buf<A>,
     alloc: A,
 }
 
-impl<A: Allocator + Copy> Workspace<A> {
+impl<A: Allocator + Copy> LineBuffers<A> {
     /// Makes empty buffers. Does not allocate.
-    pub fn new(alloc: A) -> Workspace<A> {
-        Workspace {
+    pub fn new(alloc: A) -> LineBuffers<A> {
+        LineBuffers {
             calls: Vec::new(alloc),
             string: Wtf8Buf::new(alloc),
             alloc,
@@ -36,8 +36,8 @@ impl<A: Allocator + Copy> Workspace<A> {
     /// `-` and 1 to 9 decimal digits, which truncate to that number of bytes; or `/` and 1 to 9 decimal digits, which
     /// truncate to that number of 16-bit units. A newline inside the line makes its word malformed. Returns an error
     /// only if memory is refused.
-    pub fn push_answer(&mut self, line: &[u8], out: &mut Vec<u8, A>) -> Result<(), AllocError>
-        ensures answer { OnOk result ((answer : List ℕ) × IsAnswer line.now answer × (out.new.items ≡ out.old.items ++ answer)) }
+    pub fn push_output(&mut self, line: &[u8], out: &mut Vec<u8, A>) -> Result<(), AllocError>
+        ensures output { OnOk result ((output : List ℕ) × IsOutput line.now output × (out.new.items ≡ out.old.items ++ output)) }
     {
         if line.is_empty() {
             return Ok(());
@@ -89,9 +89,9 @@ fn read_calls<A: Allocator>(
 
 /// Returns the output for one line, without its newline.
 pub fn dump_line<A: Allocator + Copy>(alloc: A, line: &[u8]) -> Result<Vec<u8, A>, AllocError>
-    ensures answer { IfOk result (λ answer. IsAnswer line.now answer.items) }
+    ensures output { IfOk result (λ output. IsOutput line.now output.items) }
 {
-    let mut answer = Vec::new(alloc);
-    Workspace::new(alloc).push_answer(line, &mut answer)?;
-    Ok(answer)
+    let mut output = Vec::new(alloc);
+    LineBuffers::new(alloc).push_output(line, &mut output)?;
+    Ok(output)
 }

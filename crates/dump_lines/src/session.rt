@@ -5,8 +5,8 @@ ghost use Rattle.dump_lines.specs.Dump.{IsDump};
 ghost use Rattle.dump_lines.specs.Known.{IsInput};
 
 use crate::fault::Fault;
-use crate::line::Workspace;
-use crate::parts::split_first_part;
+use crate::line::LineBuffers;
+use crate::split::split_first_part;
 use std::alloc::{AllocError, Allocator};
 use std::io::{Read, Write};
 
@@ -69,11 +69,11 @@ fn dump<A: Allocator + Copy>(alloc: A, input: &[u8]) -> Result<Vec<u8, A>, Alloc
     ensures { IfOk result (λ out. IsDump input.now out.items) }
 {
     let mut out = Vec::new(alloc);
-    let mut workspace = Workspace::new(alloc);
+    let mut buffers = LineBuffers::new(alloc);
     let mut rest = input;
     while !rest.is_empty() {
         let (line, after) = split_first_part(rest, b'\n');
-        workspace.push_answer(line, &mut out)?;
+        buffers.push_output(line, &mut out)?;
         out.push(b'\n')?;
         rest = after.unwrap_or(&[]);
     }

@@ -4,22 +4,23 @@ ghost use Rattle.std.specs.Char.{digit_value};
 ghost use Rattle.std.specs.List.{slice_split};
 ghost use Rattle.wtf8.specs.CodePoint.{number};
 ghost use Rattle.dump_lines.specs.Parts.{parts_left};
-ghost use Rattle.dump_lines.specs.Word.{bounded_number, number_behind, point_of, IsCall, IsNoCall};
+ghost use Rattle.dump_lines.specs.Word.{bounded_number, number_after, point_of, IsCall, IsNoCall};
 
-use crate::parts::split_first_part;
+use crate::split::split_first_part;
 use wtf8::{Build, CodePoint};
 
-/// The number of digits of most words. If a space follows that many digits, the end of the word is not searched for.
-const SHORT: usize = 4;
+/// The number of digits of a code point below 0x10000, as most words are. If a space follows that many digits, the end of
+/// the word is not searched for.
+const BMP_DIGITS: usize = 4;
 
 /// Parses the first word: its call, or `None` if it is malformed, and the bytes after its space, if there is one.
 pub fn read_first_word(bytes: &[u8]) -> (Option<Build<'static>>, Option<&[u8]>)
     ensures { (word : List ℕ) × (slice_split (λ byte. byte == 32) bytes.now ≡ word ∷ parts_left 32 result.1)
         × MatchOption result.0 (IsNoCall word) (IsCall word) }
 {
-    if SHORT < bytes.len() && bytes[SHORT] == b' ' {
-        if let Some(point) = read_point(&bytes[..SHORT]) {
-            return (Some(Build::Push(point)), Some(&bytes[SHORT + 1..]));
+    if BMP_DIGITS < bytes.len() && bytes[BMP_DIGITS] == b' ' {
+        if let Some(point) = read_point(&bytes[..BMP_DIGITS]) {
+            return (Some(Build::Push(point)), Some(&bytes[BMP_DIGITS + 1..]));
         }
     }
     let (word, after) = split_first_part(bytes, b' ');
@@ -31,10 +32,10 @@ fn read_call(word: &[u8]) -> Option<Build<'static>>
     ensures some { IfSome result (λ call. IsCall word.now call) }
     ensures none { IfNone result (IsNoCall word.now) }
 {
-    if let Some(position) = read_number_behind(word, b'-') {
+    if let Some(position) = read_number_after(word, b'-') {
         return Some(Build::Truncate(position as usize));
     }
-    if let Some(units) = read_number_behind(word, b'/') {
+    if let Some(units) = read_number_after(word, b'/') {
         return Some(Build::TruncateUnits(units as usize));
     }
     let point = read_point(word)?;
@@ -48,12 +49,12 @@ fn read_point(word: &[u8]) -> Option<CodePoint>
     CodePoint::from_u32(read_number(word, 16, 4, 6)?)
 }
 
-/// Parses 1 to 9 decimal digits after the byte `mark` as a number, or returns `None` for any other word.
-fn read_number_behind(word: &[u8], mark: u8) -> Option<u32>
-    ensures { result ≡ number_behind mark word.now }
+/// Parses 1 to 9 decimal digits after the byte `sigil` as a number, or returns `None` for any other word.
+fn read_number_after(word: &[u8], sigil: u8) -> Option<u32>
+    ensures { result ≡ number_after sigil word.now }
 {
     let (first, digits) = word.split_first()?;
-    if *first != mark {
+    if *first != sigil {
         return None;
     }
     read_number(digits, 10, 1, 9)

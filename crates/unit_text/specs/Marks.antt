@@ -20,10 +20,10 @@ AreKept w u marks = (k : ℕ) (d : UnitMark) → k < length marks → IsKept w u
 
 -- If the lengths in bytes and in units differ, `count` is at least the number of multiples of the spacing, from the
 -- first one on, that are below the length in units.
-abbrev pub AreAll : List ℕ → List ℕ → ℕ → Type 0
-AreAll w u count = (length w ≢ length u) → (n : ℕ) → n * spacing < length u → n ≤ count
+abbrev pub AreEnough : List ℕ → List ℕ → ℕ → Type 0
+AreEnough w u count = (length w ≢ length u) → (n : ℕ) → n * spacing < length u → n ≤ count
 
--- The marks are as `AreKept` says and, unless memory was refused for one, all that `AreAll` says are there.
-pub record AreMarks (w u : List ℕ) (marks : List UnitMark) (is_refused : Bool) : Type 0 where
+-- The marks are as `AreKept` says and, unless memory was refused for one, all that `AreEnough` says are there.
+pub record AreMarks (w u : List ℕ) (marks : List UnitMark) (is_incomplete : Bool) : Type 0 where
   pub kept : AreKept w u marks
-  pub all : is_refused ≡ false → AreAll w u (length marks)
+  pub all : is_incomplete ≡ false → AreEnough w u (length marks)

@@ -1,6 +1,6 @@
 // The marks of a text, from which a unit is found without counting from the front of the text.
 ghost use Rattle.std.specs.Prelude.{◌≡◌, ◌≢◌, ◌+◌, ◌*◌, ◌<◌, ◌≤◌, ℕ, false, length, vec_capacity, take, drop, slice_get, IfSome};
-ghost use Rattle.unit_text.specs.Marks.{AreAll, AreKept, AreMarks};
+ghost use Rattle.unit_text.specs.Marks.{AreEnough, AreKept, AreMarks};
 ghost use Rattle.wtf8.specs.UnitMark.{IsMark};
 ghost use Rattle.wtf8.specs.UnitPosition.{units_of_slice};
 ghost use Rattle.wtf8.specs.View.{view_units};
@@ -20,22 +20,22 @@ const FRONT: usize = 8;
 #[derive(Drop)]
 pub(crate) struct Marks<A: Allocator> {
     pub(crate) kept: Vec<UnitMark, A>,
-    pub(crate) is_refused: bool,
+    pub(crate) is_incomplete: bool,
 }
 
 /// A mark at or before unit index `units`: at that index if the text is ASCII, else a kept mark or the start.
-fn mark_before<A: Allocator>(
+fn mark_at_or_before<A: Allocator>(
     text: &Wtf8Buf<A>,
     count: usize,
     marks: &Option<Marks<A>>,
     units: usize,
 ) -> UnitMark
     requires counted { count ≡ length text.now.units }
-    requires marks { IfSome marks.now (λ m. AreMarks text.now.bytes text.now.units m.kept.items m.is_refused) }
+    requires marks { IfSome marks.now (λ m. AreMarks text.now.bytes text.now.units m.kept.items m.is_incomplete) }
     requires within { units ≤ count }
     ensures mark { IsMark text.now.bytes text.now.units result.position result.units }
     ensures before { result.units ≤ units }
-    ensures close { IfSome marks.now (λ m. m.is_refused ≡ false → units ≤ result.units + SPACING + 1) }
+    ensures close { IfSome marks.now (λ m. m.is_incomplete ≡ false → units ≤ result.units + SPACING + 1) }
 {
     laws::law_marks();
     if text.len() == count {
@@ -45,19 +45,23 @@ fn mark_before<A: Allocator>(
         };
     }
     match marks {
-        Some(marks) => kept_before(text, marks, units),
+        Some(marks) => kept_mark_at_or_before(text, marks, units),
         None => text.as_wtf8().start_mark(),
     }
 }
 
 /// The last kept mark for a multiple of `SPACING` that is at most `units`, or the start if there is none.
-fn kept_before<A: Allocator>(text: &Wtf8Buf<A>, marks: &Marks<A>, units: usize) -> UnitMark
-    requires marks { AreMarks text.now.bytes text.now.units marks.now.kept.items marks.now.is_refused }
+fn kept_mark_at_or_before<A: Allocator>(
+    text: &Wtf8Buf<A>,
+    marks: &Marks<A>,
+    units: usize,
+) -> UnitMark
+    requires marks { AreMarks text.now.bytes text.now.units marks.now.kept.items marks.now.is_incomplete }
     requires apart { length text.now.bytes ≢ length text.now.units }
     requires within { units ≤ length text.now.units }
     ensures mark { IsMark text.now.bytes text.now.units result.position result.units }
     ensures before { result.units ≤ units }
-    ensures close { marks.now.is_refused ≡ false → units ≤ result.units + SPACING + 1 }
+    ensures close { marks.now.is_incomplete ≡ false → units ≤ result.units + SPACING + 1 }
 {
     let number = marks.kept.len().min(units / SPACING);
     if number == 0 {
@@ -69,23 +73,23 @@ fn kept_before<A: Allocator>(text: &Wtf8Buf<A>, marks: &Marks<A>, units: usize) 
 /// Returns the rest of the text after a mark at or before unit index `units`, and the offset of `units` in it. A text
 /// of at most `SPACING` units is returned whole, unless it is ASCII and `units` is at least `FRONT`.
 #[inline(always)]
-fn near<'a, A: Allocator>(
+fn rest_from_mark<'a, A: Allocator>(
     text: &'a Wtf8Buf<A>,
     count: usize,
     marks: &Option<Marks<A>>,
     units: usize,
 ) -> (Wtf8<'a>, usize)
     requires counted { count ≡ length text.now.units }
-    requires marks { IfSome marks.now (λ m. AreMarks text.now.bytes text.now.units m.kept.items m.is_refused) }
+    requires marks { IfSome marks.now (λ m. AreMarks text.now.bytes text.now.units m.kept.items m.is_incomplete) }
     requires within { units ≤ count }
     ensures units { drop result.1 (view_units result.0) ≡ drop units text.now.units }
     ensures within { result.1 ≤ length (view_units result.0) }
-    ensures close { IfSome marks.now (λ m. m.is_refused ≡ false → result.1 ≤ SPACING + 1) }
+    ensures close { IfSome marks.now (λ m. m.is_incomplete ≡ false → result.1 ≤ SPACING + 1) }
 {
     if count <= SPACING && (units < FRONT || text.len() != count) {
         return (text.as_wtf8(), units);
     }
-    let mark = mark_before(text, count, marks, units);
+    let mark = mark_at_or_before(text, count, marks, units);
     (text.as_wtf8().slice_from_mark(mark), units - mark.units)
 }
 
@@ -98,51 +102,54 @@ pub(crate) fn unit_at<A: Allocator>(
     number: usize,
 ) -> Option<u16>
     requires counted { count ≡ length text.now.units }
-    requires marks { IfSome marks.now (λ m. AreMarks text.now.bytes text.now.units m.kept.items m.is_refused) }
+    requires marks { IfSome marks.now (λ m. AreMarks text.now.bytes text.now.units m.kept.items m.is_incomplete) }
     requires within { number ≤ count }
     ensures { result ≡ slice_get text.now.units number }
 {
-    let (view, at) = near(text, count, marks, number);
+    let (view, at) = rest_from_mark(text, count, marks, number);
     view.unit_at(at)
 }
 
-/// Returns the `many` units from index `begin` on.
+/// Returns the `len` units from index `begin` on.
 pub(crate) fn units_from<'a, A: Allocator>(
     text: &'a Wtf8Buf<A>,
     count: usize,
     marks: &Option<Marks<A>>,
     begin: usize,
-    many: usize,
+    len: usize,
 ) -> UnitSlice<'a>
     requires counted { count ≡ length text.now.units }
-    requires marks { IfSome marks.now (λ m. AreMarks text.now.bytes text.now.units m.kept.items m.is_refused) }
-    requires within { begin + many ≤ count }
-    ensures { units_of_slice result ≡ take many (drop begin text.now.units) }
+    requires marks { IfSome marks.now (λ m. AreMarks text.now.bytes text.now.units m.kept.items m.is_incomplete) }
+    requires within { begin + len ≤ count }
+    ensures { units_of_slice result ≡ take len (drop begin text.now.units) }
 {
-    let (rest, at) = near(text, count, marks, begin);
+    let (rest, at) = rest_from_mark(text, count, marks, begin);
     prove!(rest.len() <= usize::MAX);
-    rest.slice_units(at, at + many)
+    rest.slice_units(at, at + len)
 }
 
 /// Makes the marks of a text, and stops at the first that is refused memory.
 pub(crate) fn marks_of<A: Allocator>(alloc: A, text: &Wtf8Buf<A>, count: usize) -> Marks<A>
     requires counted { count ≡ length text.now.units }
-    ensures { AreMarks text.now.bytes text.now.units result.kept.items result.is_refused }
+    ensures { AreMarks text.now.bytes text.now.units result.kept.items result.is_incomplete }
 {
     let mut kept = Vec::new(alloc);
     // If memory for all marks at once is refused, there may be enough for a few.
-    let _is_found = kept.reserve_exact(wanted(text, count)).is_ok();
-    let is_refused = add_marks(text, count, &mut kept);
-    Marks { kept, is_refused }
+    let _is_found = kept.reserve_exact(needed_mark_count(text, count)).is_ok();
+    let is_incomplete = add_marks(text, count, &mut kept);
+    Marks {
+        kept,
+        is_incomplete,
+    }
 }
 
 /// The number of marks that a text needs: one for each positive multiple of `SPACING` below its number of units, but
 /// none if it is ASCII.
 #[inline(always)]
-fn wanted<A: Allocator>(text: &Wtf8Buf<A>, count: usize) -> usize
+fn needed_mark_count<A: Allocator>(text: &Wtf8Buf<A>, count: usize) -> usize
     requires counted { count ≡ length text.now.units }
     ensures before_last { (n : ℕ) → n < result → (n + 1) * SPACING < count }
-    ensures all { AreAll text.now.bytes text.now.units result }
+    ensures all { AreEnough text.now.bytes text.now.units result }
     ensures apart { 0 < result → length text.now.bytes ≢ length text.now.units }
 {
     if text.len() == count {
@@ -164,11 +171,11 @@ pub(crate) fn add_marks<A: Allocator>(
     ensures marks { AreMarks text.now.bytes text.now.units marks.new.items result }
 
     // Memory is refused for none if the vector has room for all.
-    ensures room { AreAll text.now.bytes text.now.units (vec_capacity marks.old) → result ≡ false }
+    ensures room { AreEnough text.now.bytes text.now.units (vec_capacity marks.old) → result ≡ false }
 {
     let view = text.as_wtf8();
     let mut last = last_or_start(text, marks.as_slice());
-    for number in marks.len()..wanted(text, count) {
+    for number in marks.len()..needed_mark_count(text, count) {
         last = view.mark_at(last, (number + 1) * SPACING);
         let Ok(()) = marks.push(last) else {
             return true;
@@ -186,11 +193,11 @@ pub(crate) fn add_to_kept<A: Allocator>(
 )
     requires counted { count ≡ length text.now.units }
     requires marks { IfSome marks.old (λ m. AreKept text.now.bytes text.now.units m.kept.items) }
-    ensures { IfSome marks.new (λ m. AreMarks text.now.bytes text.now.units m.kept.items m.is_refused) }
+    ensures { IfSome marks.new (λ m. AreMarks text.now.bytes text.now.units m.kept.items m.is_incomplete) }
 {
     if let Some(marks) = marks {
-        if marks.kept.len() < wanted(text, count) {
-            marks.is_refused = add_marks(text, count, &mut marks.kept);
+        if marks.kept.len() < needed_mark_count(text, count) {
+            marks.is_incomplete = add_marks(text, count, &mut marks.kept);
         }
     }
 }

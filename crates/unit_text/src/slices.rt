@@ -9,7 +9,10 @@ use std::alloc::{AllocError, Allocator};
 use wtf8::{CodePoint, UnitSlice, Wtf8, Wtf8Buf};
 
 /// Copies a slice to a new string. Does not allocate if the slice is empty.
-pub(crate) fn copied<A: Allocator>(alloc: A, slice: UnitSlice<'_>) -> Result<Wtf8Buf<A>, AllocError>
+pub(crate) fn buf_of_slice<A: Allocator>(
+    alloc: A,
+    slice: UnitSlice<'_>,
+) -> Result<Wtf8Buf<A>, AllocError>
     ensures ok { IfOk result (λ text. text.units ≡ units_of_slice slice.entry) }
     ensures empty { units_of_slice slice.entry ≡ [] → IsOk result }
 {

@@ -37,7 +37,7 @@ impl<A: Allocator> Model for UnitText<A> {
     ghost use Rattle.std.specs.Prelude.{◌≡◌, length, IfSome};
     ghost use Rattle.unit_text.specs.Marks.{AreMarks};
 
-    ghost invariant = { λ t. (t.count ≡ length t.text.units) × IfSome t.marks (λ m. AreMarks t.text.bytes t.text.units m.kept.items m.is_refused) };
+    ghost invariant = { λ t. (t.count ≡ length t.text.units) × IfSome t.marks (λ m. AreMarks t.text.bytes t.text.units m.kept.items m.is_incomplete) };
 }
 
 impl<A: Allocator> UnitText<A> {
@@ -128,7 +128,7 @@ impl<A: Allocator> UnitText<A> {
     {
         let count = end - begin;
         let slice = marks::units_from(&self.text, self.count, &self.marks, begin, count);
-        let text = slices::copied(alloc, slice)?;
+        let text = slices::buf_of_slice(alloc, slice)?;
         Ok(UnitText {
             text,
             count,

@@ -79,7 +79,7 @@ fn expect_cut(alloc: Global, units: &[u16], dump: &str, index: usize) -> Result<
 }
 
 #[test]
-fn a_text_cut_anywhere_is_found_whole_again(rt: HostRuntime) -> Result<(), Wrong> {
+fn a_text_cut_at_any_index_and_joined_is_equal(rt: HostRuntime) -> Result<(), Wrong> {
     for (units, _, dump) in joining() {
         for index in 0..units.len().saturating_add(1) {
             expect_cut(rt.alloc(), units, dump, index)?;

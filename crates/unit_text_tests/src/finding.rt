@@ -59,7 +59,7 @@ fn expect_slices_found(alloc: Global, units: &[u16]) -> Result<(), Wrong> {
 }
 
 #[test]
-fn slices_are_found_where_the_units_have_them(rt: HostRuntime) -> Result<(), Wrong> {
+fn starts_with_at_finds_units_where_they_occur(rt: HostRuntime) -> Result<(), Wrong> {
     for units in texts() {
         expect_slices_found(rt.alloc(), units)?;
     }

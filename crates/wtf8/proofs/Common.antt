@@ -38,21 +38,21 @@ pub use Rattle.wtf8.specs.CodePoint.{number, numbers}
 pub use Rattle.wtf8.specs.Concatenation.{MeetsAsPair, is_pair, glue}
 pub use Rattle.wtf8.specs.Debug.{escape_surrogate}
 pub use Rattle.wtf8.specs.private.Decoding.{point_of, points_of, units_left, decode_steps, ReadsAll}
-pub use Rattle.wtf8.specs.private.Differences.{IsFirstDifference, PairBegins, DifferAt, Tells}
+pub use Rattle.wtf8.specs.private.Mismatch.{IsMismatch, SupplementaryBegins, DifferAt, DecidesNone}
 pub use Rattle.wtf8.specs.Form.{bytes, encoding, IsClean, Reads, IsWellFormed, IsForm}
-pub use Rattle.wtf8.specs.private.Gains.{GainsUnits, Becomes, Gains, BeginsWithPoint, FrontSays, IsReadAs}
+pub use Rattle.wtf8.specs.private.EncodedBytes.{ExtendsForm, BecomesOrKeeps, ExtendsFormOrKeeps, BeginsWithPoint, FirstPointByLead, FirstPointIs}
 pub use Rattle.wtf8.specs.Hex.{digit, hex_of, hex}
 pub use Rattle.wtf8.specs.OneForm.{bytes-injective, bytes_are_encodes, encoding_is_encode, AreScalarTo}
 pub use Rattle.wtf8.specs.Order.{Before}
 pub use Rattle.wtf8.specs.Position.{IsBoundary, IsFront, IsBack, IsMiddle, Splits}
-pub use Rattle.wtf8.specs.private.SpacedHex.{spaced}
-pub use Rattle.wtf8.specs.private.FirstPlace.{IsFirst, IsLeast, Nowhere, IsFirstBelow, IsFirstSet, IsSet}
+pub use Rattle.wtf8.specs.private.SpacedHex.{spaced_hex}
+pub use Rattle.wtf8.specs.private.FirstIndex.{IsFirst, IsLeast, NoneIn, IsFirstIn, IsFirstSet, IsSet}
 pub use Rattle.wtf8.specs.private.SurrogateSearch.{SurrogateAt}
 pub use Rattle.wtf8.specs.Surrogates.{AreScalar, replace_surrogate, lossy_points}
 pub use Rattle.wtf8.specs.Unicode.{units_of, units, IsSurrogate, IsLead, IsTrail, pair, IsCodePoint, IsUnit}
-pub use Rattle.wtf8.specs.private.UnitCounts.{IsCounted, IsPlaceOfUnit, CutsUnits, units_begun, all_units_begun, Divides, HasLane}
-pub use Rattle.wtf8.specs.private.UnitParts.{IsKnownForm, DividesNoPair, AreAscii}
-pub use Rattle.wtf8.specs.private.UnitSteps.{held_in, behind_held, trail_by, unread_after, StepsUnit, is_inside, unread_at}
+pub use Rattle.wtf8.specs.private.UnitCounts.{IsCursor, IsCursorOfUnit, CutsUnits, utf16_len, sum_utf16_len, Divides, HasLaneAtLeast}
+pub use Rattle.wtf8.specs.private.ConvertedPrefix.{IsKnownForm, DividesNoPair, AreAscii}
+pub use Rattle.wtf8.specs.private.UnitIterator.{held_trail, after_held_trail, trail_from_bytes, unread_after, StepsUnit, is_continuation, unread_at}
 pub use Rattle.wtf8.specs.UnitString.{UnitString}
 pub use Rattle.wtf8.specs.Units.{unread_units, Unread}
 pub use Rattle.wtf8.specs.View.{view_units, view_form, view_points}
@@ -66,6 +66,6 @@ pub use Rattle.std.proofs.lemmas.List.Sums.{sum_by-append, sum_by-cons, sum_by_m
 pub use Rattle.std.proofs.lemmas.Option.{none-some, slice_get-get_or}
 pub use Rattle.std.specs.Prelude.{IsOk, IsSome, MatchOption, ⊤}
 pub use Rattle.wtf8.specs.UnitPosition.{DividesPair}
-pub use Rattle.wtf8.specs.declared.numbers.code_point.CodePoint.{CodePoint}
-pub use Rattle.wtf8.specs.declared.strings.unit_positions.Place.{Place}
-pub use Rattle.wtf8.specs.private.UnitRows.{BeginsWithUnits, IsOfKind, Writes, unit_of_three, unit_of_two}
+pub use Rattle.wtf8.specs.declared.codec.code_point.CodePoint.{CodePoint}
+pub use Rattle.wtf8.specs.declared.strings.unit_positions.UnitCursor.{UnitCursor}
+pub use Rattle.wtf8.specs.private.EncodedRuns.{BeginsWithUnits, HasBitPrefix, Writes, unit_of_three, unit_of_two}

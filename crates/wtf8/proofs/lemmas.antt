@@ -1,7 +1,7 @@
 pub mod comparing
 pub mod lanes
 pub mod laws
-pub mod numbers
+pub mod codec
 pub mod strings
-pub mod texts
-pub mod units_in
+pub mod formatting
+pub mod from_utf16

@@ -7,7 +7,7 @@ use Rattle.wtf8.specs.CodePoint.{numbers}
 use Rattle.wtf8.specs.Concatenation.{MeetsAsPair}
 use Rattle.wtf8.specs.View.{view_units}
 use Rattle.wtf8.specs.declared.strings.view.Wtf8.{Wtf8}
-use Rattle.wtf8.specs.declared.numbers.code_point.CodePoint.{CodePoint}
+use Rattle.wtf8.specs.declared.codec.code_point.CodePoint.{CodePoint}
 
 -- The new units are the old ones followed by `v` (WTF-8, "Concatenating").
 abbrev pub AppendsUnits : UnitString → List ℕ → UnitString → Type 0

@@ -1,6 +1,6 @@
 -- What contracts see of a `CodePoint`.
 use Rattle.std.specs.Prelude.{ℕ, List, map}
-use Rattle.wtf8.specs.declared.numbers.code_point.CodePoint.{CodePoint}
+use Rattle.wtf8.specs.declared.codec.code_point.CodePoint.{CodePoint}
 
 -- The value of a code point.
 abbrev pub number : CodePoint → ℕ

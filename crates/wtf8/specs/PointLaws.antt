@@ -5,7 +5,7 @@ use Rattle.std.specs.Iterator.Adapters.{take_source, take_count, take_steps, ski
 use Rattle.std.specs.declared.iter.Take.{Take}
 use Rattle.std.specs.declared.iter.Skip.{Skip}
 use Rattle.wtf8.specs.CodePoint.{number, numbers}
-use Rattle.wtf8.specs.declared.numbers.code_point.CodePoint.{CodePoint}
+use Rattle.wtf8.specs.declared.codec.code_point.CodePoint.{CodePoint}
 
 -- A step of an iterator over code points, which is seen as the values that it has left: it yields the first of them, or
 -- `None` if there is none.

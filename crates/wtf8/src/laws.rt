@@ -21,7 +21,7 @@ ghost use Rattle.wtf8.specs.Unicode.{IsLead, IsTrail};
 ghost use Rattle.wtf8.specs.UnitPosition.{DividesPair};
 ghost use Rattle.wtf8.specs.View.{view_points, view_units};
 
-use crate::numbers::code_point::CodePoint;
+use crate::codec::code_point::CodePoint;
 use crate::strings::buf::Wtf8Buf;
 use crate::strings::build::Build;
 use crate::strings::unit_marks::UnitMark;
@@ -205,7 +205,7 @@ pub fn law_view_lengths(view: Wtf8<'_>)
 }
 
 /// The encoded length of this code point: one byte below 0x80, two below 0x800, three below 0x10000, else four.
-#[tactic(auto, using(crate::proofs::lemmas::numbers::Encoding::rows))]
+#[tactic(auto, using(crate::proofs::lemmas::codec::Encoding::rows))]
 pub fn law_encoding_length(code_point: CodePoint)
     ensures one { number code_point < 0x80 → length (encoding (number code_point)) ≡ 1 }
     ensures two { 0x80 ≤ number code_point → number code_point < 0x800 → length (encoding (number code_point)) ≡ 2 }

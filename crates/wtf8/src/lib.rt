@@ -1,15 +1,15 @@
 //! WTF-8 strings: text that holds any 16-bit units.
 #![tactic(auto)]
 
+mod codec;
 mod comparing;
+mod formatting;
+mod from_utf16;
 mod lanes;
 pub mod laws;
-mod numbers;
 mod strings;
-mod texts;
-mod units_in;
 
-pub use numbers::code_point::CodePoint;
+pub use codec::code_point::CodePoint;
 pub use strings::buf::Wtf8Buf;
 pub use strings::build::{Build, Stopped};
 pub use strings::iters::{IllFormedUtf16CodeUnits, Wtf8CodePoints};

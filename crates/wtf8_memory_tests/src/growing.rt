@@ -201,7 +201,7 @@ fn a_growing_call_makes_its_requests_and_no_other(rt: HostRuntime) -> Result<(),
 }
 
 #[test]
-fn a_refused_request_leaves_what_was_there(rt: HostRuntime) -> Result<(), Fail> {
+fn a_refused_request_leaves_the_string_unchanged(rt: HostRuntime) -> Result<(), Fail> {
     let alloc = rt.alloc();
     for refusal in REFUSALS {
         expect_table(alloc, Some(refusal))?;
@@ -228,7 +228,7 @@ fn expect_reserved(heap: Lent<'_>, is_applied: bool) -> Result<(), Fail> {
 }
 
 #[test]
-fn reserved_room_is_there(rt: HostRuntime) -> Result<(), Fail> {
+fn reserve_gives_the_capacity(rt: HostRuntime) -> Result<(), Fail> {
     let heap = Refusing::new(rt.alloc(), 0);
     for is_applied in [false, true] {
         expect_reserved(&heap, is_applied)?;
@@ -249,7 +249,7 @@ fn expect_refused_room(alloc: Global, text: &mut Wtf8Buf<Global>) -> Result<(), 
 }
 
 #[test]
-fn room_that_no_memory_has_is_refused(rt: HostRuntime) -> Result<(), Fail> {
+fn reserving_usize_max_bytes_is_refused(rt: HostRuntime) -> Result<(), Fail> {
     let alloc = rt.alloc();
     assert!(rt; Wtf8Buf::with_capacity(alloc, usize::MAX).is_err());
     let mut text = Wtf8Buf::from_str(alloc, "a")?;
@@ -277,7 +277,7 @@ fn is_released<A: Allocator>(text: &mut Wtf8Buf<A>) -> bool {
 }
 
 /// Fails unless `shrink_to_fit` releases the spare capacity if memory is granted, and all capacity of an empty string.
-fn expect_given_back(
+fn expect_released(
     alloc: Global,
     heap: Lent<'_>,
     text: &mut Wtf8Buf<Lent<'_>>,
@@ -295,16 +295,16 @@ fn expect_given_back(
 }
 
 /// Fails unless a string with a capacity of 100 bytes releases what it does not need, if memory is granted.
-fn expect_hundred_given_back(alloc: Global, heap: Lent<'_>) -> Result<(), Fail> {
+fn expect_hundred_released(alloc: Global, heap: Lent<'_>) -> Result<(), Fail> {
     let mut text = filled(heap, 100)?;
-    expect_given_back(alloc, heap, &mut text)
+    expect_released(alloc, heap, &mut text)
 }
 
 #[test]
-fn spare_room_is_given_back(rt: HostRuntime) -> Result<(), Fail> {
+fn shrink_to_fit_releases_spare_capacity(rt: HostRuntime) -> Result<(), Fail> {
     let alloc = rt.alloc();
     let heap = Refusing::new(alloc, u64::MAX);
-    expect_hundred_given_back(alloc, &heap)
+    expect_hundred_released(alloc, &heap)
 }
 
 /// The capacity of a string of `length` bytes after `shrink_to_fit`.
@@ -316,7 +316,7 @@ fn shrunk_capacity(alloc: Global, length: usize) -> Result<usize, AllocError> {
 }
 
 #[test]
-fn spare_room_is_given_back_at_each_length(rt: HostRuntime) -> Result<(), Fail> {
+fn shrink_to_fit_leaves_no_spare_capacity_at_each_length(rt: HostRuntime) -> Result<(), Fail> {
     for length in 0..=70 {
         let capacity = shrunk_capacity(rt.alloc(), length)?;
         assert_eq!(rt; capacity, length);

@@ -2,8 +2,6 @@
 #![tactic(auto)]
 
 #[cfg(test)]
-mod asking_for_none;
-#[cfg(test)]
 mod calls;
 #[cfg(test)]
 mod growing;
@@ -15,6 +13,8 @@ mod lengths;
 mod lists;
 #[cfg(test)]
 mod making;
+#[cfg(test)]
+mod no_requests;
 #[cfg(test)]
 mod samples;
 #[cfg(test)]

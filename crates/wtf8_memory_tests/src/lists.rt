@@ -232,7 +232,7 @@ fn expect_extension_stopped(alloc: Global, heap: Lent<'_>) -> Result<(), Fail> {
 }
 
 #[test]
-fn an_extension_holds_what_there_was_room_for(rt: HostRuntime) -> Result<(), Fail> {
+fn a_stopped_extension_keeps_the_code_points_that_fit(rt: HostRuntime) -> Result<(), Fail> {
     let alloc = rt.alloc();
     let heap = Refusing::new(alloc, 1);
     expect_extension_stopped(alloc, &heap)

@@ -142,7 +142,7 @@ fn expect_cloned(alloc: Global, heap: Lent<'_>, letters: usize) -> Result<(), Fa
 }
 
 #[test]
-fn a_clone_has_no_room_to_spare(rt: HostRuntime) -> Result<(), Fail> {
+fn a_clone_has_no_spare_capacity(rt: HostRuntime) -> Result<(), Fail> {
     let alloc = rt.alloc();
     let heap = Refusing::new(alloc, 0);
     for letters in [0, 1, 31, 32, 33, 64, 100, 199, 200] {

@@ -65,7 +65,7 @@ fn expect_room(alloc: Global, n: usize) -> Result<(), Fail> {
 }
 
 #[test]
-fn room_is_at_least_what_was_asked_for(rt: HostRuntime) -> Result<(), Fail> {
+fn capacity_is_at_least_what_was_requested(rt: HostRuntime) -> Result<(), Fail> {
     for n in [0, 1, 4, 100] {
         expect_room(rt.alloc(), n)?;
     }

@@ -17,7 +17,7 @@ fn is_front(alloc: Global, text: &str) -> Result<bool, AllocError> {
 }
 
 #[test]
-fn dumps_of_all_lengths_are_beginnings(rt: HostRuntime) -> Result<(), Fail> {
+fn dumps_of_all_prefixes_are_prefixes(rt: HostRuntime) -> Result<(), Fail> {
     let alloc = rt.alloc();
     for n in 0..66 {
         let text = str::from_utf8(&TEXT.as_bytes()[..n])?;

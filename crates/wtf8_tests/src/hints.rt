@@ -30,7 +30,7 @@ fn do_units_go_on() -> Result<bool, AllocError> {
 }
 
 #[test]
-fn units_go_on_in_a_clone(rt: HostRuntime) -> Result<(), Fail> {
+fn a_cloned_unit_iterator_goes_on(rt: HostRuntime) -> Result<(), Fail> {
     expect(do_units_go_on(), "another unit or hint")
 }
 
@@ -49,7 +49,7 @@ fn do_points_go_on() -> Result<bool, AllocError> {
 }
 
 #[test]
-fn code_points_go_on_in_a_clone(rt: HostRuntime) -> Result<(), Fail> {
+fn a_cloned_code_point_iterator_goes_on(rt: HostRuntime) -> Result<(), Fail> {
     expect(do_points_go_on(), "another code point or hint")
 }
 
@@ -92,7 +92,7 @@ fn takes_steps(text: &str, moments: [Moment; 4]) -> bool {
 }
 
 #[test]
-fn a_held_trail_counts_in_the_hint(rt: HostRuntime) {
+fn a_pending_trail_counts_in_the_size_hint(rt: HostRuntime) {
     for (text, moments) in moments() {
         assert!(rt; takes_steps(text, moments), "{text}");
     }

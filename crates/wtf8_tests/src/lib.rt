@@ -2,6 +2,8 @@
 #![tactic(auto)]
 
 #[cfg(test)]
+mod append_units;
+#[cfg(test)]
 mod collecting;
 #[cfg(test)]
 mod constructors;
@@ -32,6 +34,4 @@ mod unit_cuts;
 pub mod unit_lists;
 #[cfg(test)]
 mod unit_slices;
-#[cfg(test)]
-mod units_out;
 pub mod wrong;

@@ -201,7 +201,7 @@ fn parts() -> [(usize, usize, &'static str); 5] {
 }
 
 #[test]
-fn slices_hold_what_is_between(rt: HostRuntime) -> Result<(), Fail> {
+fn a_slice_has_the_bytes_between_its_positions(rt: HostRuntime) -> Result<(), Fail> {
     let alloc = rt.alloc();
     for (begin, end, dump) in parts() {
         expect_part(alloc, cut_out(Wtf8::from_str(TEXT), begin, end), dump)?;
@@ -221,7 +221,7 @@ fn sides() -> [(usize, &'static str, &'static str); 4] {
 }
 
 #[test]
-fn slices_hold_what_is_on_one_side(rt: HostRuntime) -> Result<(), Fail> {
+fn slice_to_and_slice_from_have_the_bytes_before_and_after(rt: HostRuntime) -> Result<(), Fail> {
     let alloc = rt.alloc();
     for (at, front, back) in sides() {
         expect_part(alloc, cut_to(Wtf8::from_str(TEXT), at), front)?;
@@ -262,7 +262,7 @@ fn expect_cut(
 }
 
 #[test]
-fn a_truncated_string_keeps_what_is_before(rt: HostRuntime) -> Result<(), Fail> {
+fn a_truncated_string_keeps_the_bytes_before(rt: HostRuntime) -> Result<(), Fail> {
     let alloc = rt.alloc();
     let mut text = Wtf8Buf::from_str(alloc, "aé")?;
     for (at, is_cut, dump) in [

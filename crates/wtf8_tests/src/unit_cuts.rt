@@ -61,7 +61,7 @@ fn expect_cut_at(alloc: Global, heap: Lent<'_>, units: &[u16], n: usize) -> Resu
 }
 
 /// Fails unless truncation to each number of units, up to two past the end, is right.
-fn cut_everywhere(alloc: Global, units: &[u16]) -> Result<(), Fail> {
+fn expect_each_cut(alloc: Global, units: &[u16]) -> Result<(), Fail> {
     let heap = Refusing::new(alloc, 0);
     for n in 0..units.len().saturating_add(3) {
         expect_cut_at(alloc, &heap, units, n)?;
@@ -70,29 +70,29 @@ fn cut_everywhere(alloc: Global, units: &[u16]) -> Result<(), Fail> {
 }
 
 #[test]
-fn cuts_keep_the_first_units_without_memory(rt: HostRuntime) -> Result<(), Fail> {
+fn truncate_units_keeps_the_first_units_without_memory(rt: HostRuntime) -> Result<(), Fail> {
     let alloc = rt.alloc();
     for (units, _, dump) in joining() {
         expect_made(alloc, Wtf8Buf::from_ill_formed_utf16(alloc, units), dump)?;
-        cut_everywhere(alloc, units)?;
+        expect_each_cut(alloc, units)?;
     }
     for units in lists() {
-        cut_everywhere(alloc, units)?;
+        expect_each_cut(alloc, units)?;
     }
     Ok(())
 }
 
 #[test]
-fn cuts_are_right_about_the_blocks(rt: HostRuntime) -> Result<(), Fail> {
+fn truncate_units_is_right_near_block_edges(rt: HostRuntime) -> Result<(), Fail> {
     let alloc = rt.alloc();
     for letters in 20..36 {
-        cut_everywhere(alloc, &long_list(alloc, letters)?)?;
+        expect_each_cut(alloc, &long_list(alloc, letters)?)?;
     }
     Ok(())
 }
 
 #[test]
-fn refused_cuts_are_counted(rt: HostRuntime) -> Result<(), Fail> {
+fn refused_truncations_are_counted(rt: HostRuntime) -> Result<(), Fail> {
     let alloc = rt.alloc();
     let mut text = Wtf8Buf::from_str(alloc, "a💩")?;
     let calls = [

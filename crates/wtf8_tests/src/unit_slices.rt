@@ -124,7 +124,7 @@ fn expect_halves(alloc: Global, row: Halves) -> Result<(), Fail> {
 }
 
 #[test]
-fn halves_of_divided_pairs_are_beside_the_rest(rt: HostRuntime) -> Result<(), Fail> {
+fn a_unit_slice_has_the_halves_of_divided_pairs(rt: HostRuntime) -> Result<(), Fail> {
     let alloc = rt.alloc();
     for row in halves() {
         expect_halves(alloc, row)?;

@@ -2,8 +2,8 @@ pub mod BeforeLemmas
 pub mod FrontLemmas
 pub mod JsonLemmas
 pub mod Numbering
-pub mod OnceLemmas
+pub mod DedupLemmas
 pub mod PartLemmas
-pub mod PlaceLemmas
+pub mod IndexLemmas
 pub mod RepeatLemmas
 pub mod SplitLemmas

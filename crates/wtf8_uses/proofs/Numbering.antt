@@ -1,4 +1,4 @@
--- The chains of numbered lists stay correct when a list is added.
+-- The chains of numbered lists stay correct when a list is AreNumbered-push.
 use Rattle.std.proofs.Common.{◌≡◌, ℕ, zero, suc, ◌+◌, ◌<◌, ◌≤◌, ◌↔◌, ◌⊎◌, inl, inr, Bool, true, false, cond, eqb, List, [], ◌∷◌, ◌++◌, length, slice_get, slice_index_or, Some, refl, sym}
 use Rattle.std.proofs.Common.{ap, subst, ◌∙◌, arith}
 use Rattle.std.proofs.lemmas.Bool.Decides.{nat_tests}
@@ -8,7 +8,7 @@ use Rattle.std.proofs.lemmas.Option.{same_Some, slice_get-get_or, slice_get_read
 use Rattle.std.specs.HashMap.{HashMap, get}
 use Rattle.std.specs.Prelude.{unwrap_or, nat_eq}
 use Rattle.wtf8.specs.UnitString.{UnitString}
-use Rattle.wtf8_uses.specs.Numbered.{AreNumbered, IsEnd, hash_of, units_of_strings}
+use Rattle.wtf8_uses.specs.Numbered.{AreNumbered, IsChainHead, hash_of, units_of_strings}
 
 old_or_last : {X : Type 0} (xs : List X) (x : X) (k : ℕ) (y : X) → slice_get (xs ++ x ∷ []) k ≡ Some y
     → (slice_get xs k ≡ Some y) ⊎ ((k ≡ length xs) × (y ≡ x))
@@ -23,35 +23,35 @@ lt_of_apart {j} {k} le apart = grind (arith, le, apart)
 same_at : (us : List (List ℕ)) (k : ℕ) (u v : List ℕ) → slice_get us k ≡ Some u → slice_get us k ≡ Some v → u ≡ v
 same_at us k u v a b = cc
 
--- If `v` is in the lists, its index is below `end`, and the list at index `end - 1` has the hash of `v`.
-pub record IsReached (lists : List (List ℕ)) (v : List ℕ) (end : ℕ) : Type 0 where
-  pub within : end ≤ length lists
-  pub before : (k : ℕ) → slice_get lists k ≡ Some v → k < end
-  pub last : (k : ℕ) (u : List ℕ) → k + 1 ≡ end → slice_get lists k ≡ Some u → hash_of u ≡ hash_of v
+-- If `v` is in the lists, its index is below `head`, and the list at index `head - 1` has the hash of `v`.
+pub record IsReached (lists : List (List ℕ)) (v : List ℕ) (head : ℕ) : Type 0 where
+  pub within : head ≤ length lists
+  pub before : (k : ℕ) → slice_get lists k ≡ Some v → k < head
+  pub last : (k : ℕ) (u : List ℕ) → k + 1 ≡ head → slice_get lists k ≡ Some u → hash_of u ≡ hash_of v
 
 -- `AreNumbered` for lists equal to the numbered ones
-pub seen : {S : Type 0} {m : HashMap ℕ ℕ S} {b c : List ℕ} {us vs : List (List ℕ)} → AreNumbered m b us → b ≡ c → us ≡ vs → AreNumbered m c vs
-seen {m = m} {c = c} {us = us} old e f = subst (AreNumbered m c) f (subst (λ x. AreNumbered m x us) e old)
+pub AreNumbered-equal_lists : {S : Type 0} {m : HashMap ℕ ℕ S} {b c : List ℕ} {us vs : List (List ℕ)} → AreNumbered m b us → b ≡ c → us ≡ vs → AreNumbered m c vs
+AreNumbered-equal_lists {m = m} {c = c} {us = us} old e f = subst (AreNumbered m c) f (subst (λ x. AreNumbered m x us) e old)
 
--- if the list at index `end - 1` is not `v`, the search goes on at the end before that list
-pub next_end : (us : List (List ℕ)) (u v : List ℕ) (k end e : ℕ) → k + 1 ≡ end → IsReached us v end → slice_get us k ≡ Some u → (u ≡ v → ⊥)
-    → IsEnd us (hash_of u) k e → IsReached us v e
-next_end us u v k end e is r at apart o =
+-- if the list at index `head - 1` is not `v`, the search goes on at the next one in its chain
+pub IsReached-next : (us : List (List ℕ)) (u v : List ℕ) (k head e : ℕ) → k + 1 ≡ head → IsReached us v head → slice_get us k ≡ Some u → (u ≡ v → ⊥)
+    → IsChainHead us (hash_of u) k e → IsReached us v e
+IsReached-next us u v k head e is r at apart o =
     let hash = r.last k u is at in record {
       within = omega (arith, o.within, r.within, is);
       before = λ j there. o.before j v (lt_of_apart (omega (arith, r.before j there, is)) (λ same. apart (same_at us k u v at (subst (λ i. slice_get us i ≡ Some v) same there)))) there (sym hash);
       last = λ j w e there. o.last j w e there ∙ hash;
     }
 
--- the list at index `k`, and the end of the chain before it
-pub end_before : {S : Type 0} {m : HashMap ℕ ℕ S} {befores : List ℕ} {us : List (List ℕ)} → AreNumbered m befores us → (k e : ℕ) → k < length us
-    → e ≡ slice_index_or befores k e → (u : List ℕ) × (slice_get us k ≡ Some u) × IsEnd us (hash_of u) k e
-end_before {befores = befores} {us = us} old k e within is =
+-- the list at index `k`, and the head of its hash's chain in the lists before it
+pub next_in_chain-is_head : {S : Type 0} {m : HashMap ℕ ℕ S} {nexts : List ℕ} {us : List (List ℕ)} → AreNumbered m nexts us → (k e : ℕ) → k < length us
+    → e ≡ slice_index_or nexts k e → (u : List ℕ) × (slice_get us k ≡ Some u) × IsChainHead us (hash_of u) k e
+next_in_chain-is_head {nexts = nexts} {us = us} old k e within is =
     let at = slice_get-get_or us k [] within in
-    (slice_index_or us k [], at, old.befores_are k e _ at (slice_get_read befores (length us) k e (sym old.lengths) within is))
+    (slice_index_or us k [], at, old.nexts_are k e _ at (slice_get_read nexts (length us) k e (sym old.lengths) within is))
 
 -- a list occurs at one index only
-pub one_number : {S : Type 0} {m : HashMap ℕ ℕ S} {befores : List ℕ} {us : List (List ℕ)} → AreNumbered m befores us → (k : ℕ) (v : List ℕ)
+pub one_number : {S : Type 0} {m : HashMap ℕ ℕ S} {nexts : List ℕ} {us : List (List ℕ)} → AreNumbered m nexts us → (k : ℕ) (v : List ℕ)
     → slice_get us k ≡ Some v → (n : ℕ) → (Some k ≡ Some n) ↔ (slice_get us n ≡ Some v)
 one_number {us = us} old k v at n = (λ e. subst (λ j. slice_get us j ≡ Some v) (same_Some k n e) at, λ there. ap Some (old.distinct k n v at there))
 
@@ -59,21 +59,21 @@ module _ (us : List (List ℕ)) (v : List ℕ) where
   abbrev more : List (List ℕ)
   more = us ++ v ∷ []
 
-  len : length more ≡ length us + 1
-  len = length-append us (v ∷ [])
+  length-more : length more ≡ length us + 1
+  length-more = length-append us (v ∷ [])
 
-  -- an end within the old lists is still correct
-  stays : (h limit end : ℕ) → limit ≤ length us → IsEnd us h limit end → IsEnd more h limit end
-  stays h limit end l o = record {
+  -- a head within the old lists is still correct
+  IsChainHead-of_front : (h limit head : ℕ) → limit ≤ length us → IsChainHead us h limit head → IsChainHead more h limit head
+  IsChainHead-of_front h limit head l o = record {
     within = o.within;
     before = λ k u below at same. elim (old_or_last us v k u at) [ inl a ↦ o.before k u below a same | inr b ↦ absurd (omega (arith, b.0, below, l)) ];
     last = λ k u is at. elim (old_or_last us v k u at) [ inl a ↦ o.last k u is a | inr b ↦ absurd (omega (arith, b.0, is, o.within, l)) ];
   }
 
-  -- the chain of another hash keeps its end
-  other : (h end : ℕ) → (hash_of v ≡ h → ⊥) → IsEnd us h (length us) end → IsEnd more h (length more) end
-  other h end apart o = let s = stays h (length us) end (omega arith) o in record {
-    within = omega (arith, o.within, len);
+  -- the chain of another hash keeps its head
+  IsChainHead-other_hash : (h head : ℕ) → (hash_of v ≡ h → ⊥) → IsChainHead us h (length us) head → IsChainHead more h (length more) head
+  IsChainHead-other_hash h head apart o = let s = IsChainHead-of_front h (length us) head (omega arith) o in record {
+    within = omega (arith, o.within, length-more);
     before = λ k u below at same. elim (old_or_last us v k u at) [
       | inl a ↦ o.before k u (slice_get_within us k u a) a same
       | inr b ↦ absurd (apart (ap hash_of (sym b.1) ∙ same))
@@ -81,41 +81,41 @@ module _ (us : List (List ℕ)) (v : List ℕ) where
     last = s.last;
   }
 
-  -- the chain of `v`'s hash now ends with `v`
-  newest : IsEnd more (hash_of v) (length more) (length us + 1)
-  newest = record {
-    within = omega (arith, len);
-    before = λ k u below at same. omega (arith, below, len);
+  -- the chain of `v`'s hash now begins with `v`
+  IsChainHead-pushed : IsChainHead more (hash_of v) (length more) (length us + 1)
+  IsChainHead-pushed = record {
+    within = omega (arith, length-more);
+    before = λ k u below at same. omega (arith, below, length-more);
     last = λ k u is at. elim (old_or_last us v k u at) [
       | inl a ↦ absurd (omega (arith, slice_get_within us k u a, is))
       | inr b ↦ ap hash_of b.1
     ];
   }
 
-  module _ {S : Type 0} (m n : HashMap ℕ ℕ S) (befores : List ℕ) (h : ℕ) (is_hash : h ≡ hash_of v) (old : AreNumbered m befores us)
+  module _ {S : Type 0} (m n : HashMap ℕ ℕ S) (nexts : List ℕ) (h : ℕ) (is_hash : h ≡ hash_of v) (old : AreNumbered m nexts us)
       (none : (k : ℕ) → slice_get us k ≡ Some v → ⊥) (put : (q : ℕ) → get nat_eq n q ≡ cond (eqb h q) (Some (length us + 1)) (get nat_eq m q)) where
-    end_at : (q : ℕ) (b : Bool) → eqb h q ≡ b → IsEnd more q (length more) (unwrap_or (cond b (Some (length us + 1)) (get nat_eq m q)) 0)
-    end_at q true t = let e : hash_of v ≡ q = grind (arith, nat_tests, is_hash, t) in subst (λ x. IsEnd more x (length more) (length us + 1)) e newest
-    end_at q false t = other q _ (λ e. grind (arith, nat_tests, is_hash, t, e)) (old.ends_are q)
+    heads-insert : (q : ℕ) (b : Bool) → eqb h q ≡ b → IsChainHead more q (length more) (unwrap_or (cond b (Some (length us + 1)) (get nat_eq m q)) 0)
+    heads-insert q true t = let e : hash_of v ≡ q = grind (arith, nat_tests, is_hash, t) in subst (λ x. IsChainHead more x (length more) (length us + 1)) e IsChainHead-pushed
+    heads-insert q false t = IsChainHead-other_hash q _ (λ e. grind (arith, nat_tests, is_hash, t, e)) (old.heads_are q)
 
-    pub added : AreNumbered n (befores ++ unwrap_or (get nat_eq m h) 0 ∷ []) more
-    added = record {
+    pub AreNumbered-push : AreNumbered n (nexts ++ unwrap_or (get nat_eq m h) 0 ∷ []) more
+    AreNumbered-push = record {
       distinct = λ j k u a b. elim (old_or_last us v j u a) [
         | inl x ↦ elim (old_or_last us v k u b) [ inl y ↦ old.distinct j k u x y | inr y ↦ absurd (none j (x ∙ ap Some y.1)) ]
         | inr x ↦ elim (old_or_last us v k u b) [ inl y ↦ absurd (none k (y ∙ ap Some x.1)) | inr y ↦ x.0 ∙ sym y.0 ]
       ];
-      lengths = omega (arith, old.lengths, len, length-append befores (unwrap_or (get nat_eq m h) 0 ∷ []));
-      ends_are = λ q. subst (λ o. IsEnd more q (length more) (unwrap_or o 0)) (sym (put q)) (end_at q (eqb h q) refl);
-      befores_are = λ k e u a b. elim (old_or_last us v k u a) [
-        | inl x ↦ elim (old_or_last befores _ k e b) [
-          | inl y ↦ let w = slice_get_within us k u x in stays (hash_of u) k e (omega (arith, w)) (old.befores_are k e u x y)
+      lengths = omega (arith, old.lengths, length-more, length-append nexts (unwrap_or (get nat_eq m h) 0 ∷ []));
+      heads_are = λ q. subst (λ o. IsChainHead more q (length more) (unwrap_or o 0)) (sym (put q)) (heads-insert q (eqb h q) refl);
+      nexts_are = λ k e u a b. elim (old_or_last us v k u a) [
+        | inl x ↦ elim (old_or_last nexts _ k e b) [
+          | inl y ↦ let w = slice_get_within us k u x in IsChainHead-of_front (hash_of u) k e (omega (arith, w)) (old.nexts_are k e u x y)
           | inr y ↦ absurd (omega (arith, slice_get_within us k u x, y.0, old.lengths))
         ]
-        | inr x ↦ elim (old_or_last befores _ k e b) [
-          | inl y ↦ absurd (omega (arith, slice_get_within befores k e y, x.0, old.lengths))
-          | inr y ↦ let here = stays (hash_of v) (length us) _ (omega arith) (subst (λ q. IsEnd us q (length us) (unwrap_or (get nat_eq m h) 0)) is_hash (old.ends_are h))
-              in subst (λ q. IsEnd more (hash_of q) k e) (sym x.1) (subst (λ q. IsEnd more (hash_of v) q e) (sym x.0)
-              (subst (IsEnd more (hash_of v) (length us)) (sym y.1) here))
+        | inr x ↦ elim (old_or_last nexts _ k e b) [
+          | inl y ↦ absurd (omega (arith, slice_get_within nexts k e y, x.0, old.lengths))
+          | inr y ↦ let here = IsChainHead-of_front (hash_of v) (length us) _ (omega arith) (subst (λ q. IsChainHead us q (length us) (unwrap_or (get nat_eq m h) 0)) is_hash (old.heads_are h))
+              in subst (λ q. IsChainHead more (hash_of q) k e) (sym x.1) (subst (λ q. IsChainHead more (hash_of v) q e) (sym x.0)
+              (subst (IsChainHead more (hash_of v) (length us)) (sym y.1) here))
         ]
       ];
     }

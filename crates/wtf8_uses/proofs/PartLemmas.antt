@@ -7,7 +7,7 @@ use Rattle.std.proofs.lemmas.List.Splits.{length-slice_split, slice_split_at, sl
 use Rattle.std.specs.List.{slice_split}
 use Rattle.wtf8.specs.View.{view_units}
 use Rattle.wtf8.specs.declared.strings.view.Wtf8.{Wtf8}
-use Rattle.wtf8_uses.specs.FileName.{BeginsWith, IsMark, HasNoMark, is_separator}
+use Rattle.wtf8_uses.specs.FileName.{BeginsWith, IsEither, HasNeither, is_separator}
 
 -- the components of a path
 abbrev pub parts : Wtf8 → List (List ℕ)
@@ -22,15 +22,15 @@ pub no_by : {P Q : Type 0} → P ↔ Q → ¬ Q → IsTrue false ↔ P
 no_by e none = (λ t. absurd (false≢true t), λ p. absurd (none (e.0 p)))
 
 -- the first component is the part before the first separator
-pub first_part : (u front back : List ℕ) (m : ℕ) → u ≡ front ++ m ∷ back → IsMark 0x2F 0x5C m → HasNoMark 0x2F 0x5C front
+pub slice_split-first_part : (u front back : List ℕ) (m : ℕ) → u ≡ front ++ m ∷ back → IsEither 0x2F 0x5C m → HasNeither 0x2F 0x5C front
     → slice_split is_separator u ≡ front ∷ slice_split is_separator back
-first_part u front back m e mark none =
+slice_split-first_part u front back m e separator none =
     rw e (slice_split_at is_separator front m back (λ k d h. grind (arith, nat_tests, none.first k d h, none.second k d h))
-    (elim mark [ inl l ↦ grind (arith, nat_tests, l) | inr r ↦ grind (arith, nat_tests, r) ]))
+    (elim separator [ inl l ↦ grind (arith, nat_tests, l) | inr r ↦ grind (arith, nat_tests, r) ]))
 
 -- units without a separator are one component
-pub one_part : (u : List ℕ) → HasNoMark 0x2F 0x5C u → slice_split is_separator u ≡ u ∷ []
-one_part u none = slice_split_none is_separator u (λ k d h. grind (arith, nat_tests, none.first k d h, none.second k d h))
+pub slice_split-one_part : (u : List ℕ) → HasNeither 0x2F 0x5C u → slice_split is_separator u ≡ u ∷ []
+slice_split-one_part u none = slice_split_none is_separator u (λ k d h. grind (arith, nat_tests, none.first k d h, none.second k d h))
 
 -- a list begins with its first part
 pub begin_with_first : (x y : List ℕ) (xs us vs : List (List ℕ)) → us ≡ x ∷ xs → vs ≡ y ∷ [] → x ≡ y → BeginsWith us vs
@@ -45,13 +45,13 @@ no_more x y u us vs e f b =
 module _ {X : Type 0} (f : X → List ℕ) (old new : List X) (part : X) (u : List ℕ) (whole : List (List ℕ)) (added : new ≡ old ++ part ∷ [])
     (are : map f old ++ slice_split is_separator u ≡ whole) where
   -- `part` is before the first separator of the rest
-  pub moved : (back : List ℕ) (m : ℕ) → u ≡ f part ++ m ∷ back → IsMark 0x2F 0x5C m → HasNoMark 0x2F 0x5C (f part)
+  pub slice_split-part_pushed : (back : List ℕ) (m : ℕ) → u ≡ f part ++ m ∷ back → IsEither 0x2F 0x5C m → HasNeither 0x2F 0x5C (f part)
       → map f new ++ slice_split is_separator back ≡ whole
-  moved back m e mark none =
+  slice_split-part_pushed back m e separator none =
       rw (added, map-append f old (part ∷ []), append_assoc (map f old) (f part ∷ []) (slice_split is_separator back))
-      (ap (λ ys. map f old ++ ys) (sym (first_part u (f part) back m e mark none)) ∙ are)
+      (ap (λ ys. map f old ++ ys) (sym (slice_split-first_part u (f part) back m e separator none)) ∙ are)
 
   -- `part` is all of the rest, which has no separator
-  pub ended : u ≡ f part → HasNoMark 0x2F 0x5C u → map f new ≡ whole
-  ended e none =
-      rw (added, map-append f old (part ∷ [])) (ap (λ ys. map f old ++ ys) (sym (one_part u none ∙ ap (λ y. y ∷ []) e)) ∙ are)
+  pub slice_split-last_part : u ≡ f part → HasNeither 0x2F 0x5C u → map f new ≡ whole
+  slice_split-last_part e none =
+      rw (added, map-append f old (part ∷ [])) (ap (λ ys. map f old ++ ys) (sym (slice_split-one_part u none ∙ ap (λ y. y ∷ []) e)) ∙ are)

@@ -13,19 +13,19 @@ module _ (c : ℕ) where
   abbrev pub Lacks : List ℕ → Type 0
   Lacks part = All (λ x. x ≢ c) part
 
-  put : (x : ℕ) (parts : List (List ℕ)) → x ≢ c → All Lacks parts → All Lacks (onto_first x parts)
-  put x [] h k = All-cons Lacks (x ∷ []) [] (All-cons (λ y. y ≢ c) x [] h (All-nil _)) (All-nil _)
-  put x (part ∷ parts) h k =
+  Lacks-onto_first : (x : ℕ) (parts : List (List ℕ)) → x ≢ c → All Lacks parts → All Lacks (onto_first x parts)
+  Lacks-onto_first x [] h k = All-cons Lacks (x ∷ []) [] (All-cons (λ y. y ≢ c) x [] h (All-nil _)) (All-nil _)
+  Lacks-onto_first x (part ∷ parts) h k =
       All-cons Lacks (x ∷ part) parts (All-cons (λ y. y ≢ c) x part h (k 0 [] (omega arith))) (λ j d m. k (suc j) d (omega arith))
 
-  step : (x : ℕ) (parts : List (List ℕ)) (b : Bool) → eqb x c ≡ b → All Lacks parts → All Lacks (cond b ([] ∷ parts) (onto_first x parts))
-  step x parts true e k = All-cons Lacks [] parts (All-nil _) k
-  step x parts false e k = put x parts (λ h. grind (arith, nat_tests, e, h)) k
+  Lacks-cond_split : (x : ℕ) (parts : List (List ℕ)) (b : Bool) → eqb x c ≡ b → All Lacks parts → All Lacks (cond b ([] ∷ parts) (onto_first x parts))
+  Lacks-cond_split x parts true e k = All-cons Lacks [] parts (All-nil _) k
+  Lacks-cond_split x parts false e k = Lacks-onto_first x parts (λ h. grind (arith, nat_tests, e, h)) k
 
-  apart : (u : List ℕ) → All Lacks (slice_split (λ x. eqb x c) u)
-  apart [] = All-cons Lacks [] [] (All-nil _) (All-nil _)
-  apart (x ∷ u) = step x (slice_split (λ y. eqb y c) u) (eqb x c) refl (apart u)
+  slice_split-Lacks : (u : List ℕ) → All Lacks (slice_split (λ x. eqb x c) u)
+  slice_split-Lacks [] = All-cons Lacks [] [] (All-nil _) (All-nil _)
+  slice_split-Lacks (x ∷ u) = Lacks-cond_split x (slice_split (λ y. eqb y c) u) (eqb x c) refl (slice_split-Lacks u)
 
   -- no part contains the separator
   pub pieces_apart : (u : List ℕ) {parts : List (List ℕ)} → parts ≡ slice_split (λ x. eqb x c) u → All Lacks parts
-  pieces_apart u e = subst (All Lacks) (sym e) (apart u)
+  pieces_apart u e = subst (All Lacks) (sym e) (slice_split-Lacks u)

@@ -2,27 +2,27 @@
 use Rattle.std.specs.Prelude.{◌≡◌, ◌≢◌, ◌==◌, ◌||◌, ℕ, Bool, ◌+◌, ◌<◌, ◌⊎◌, List, ◌∷◌, ◌++◌, length, take, slice_index}
 use Rattle.std.specs.List.{All}
 
--- `x` is one of the two separators `a` and `b`.
-abbrev pub IsMark : ℕ → ℕ → ℕ → Type 0
-IsMark a b x = (x ≡ a) ⊎ (x ≡ b)
+-- `x` is `a` or `b`.
+abbrev pub IsEither : ℕ → ℕ → ℕ → Type 0
+IsEither a b x = (x ≡ a) ⊎ (x ≡ b)
 
 -- The list contains neither `a` nor `b`.
-pub record HasNoMark (a b : ℕ) (u : List ℕ) : Type 0 where
+pub record HasNeither (a b : ℕ) (u : List ℕ) : Type 0 where
   pub first : All (λ x. x ≢ a) u
   pub second : All (λ x. x ≢ b) u
 
 -- `u` is cut at its last `a` or `b`: `front` is before it, and `back`, which contains neither, after it.
 pub record IsCutAtLast (a b : ℕ) (u front back : List ℕ) : Type 0 where
-  pub mark : ℕ
-  pub is_mark : IsMark a b mark
-  pub joined : u ≡ front ++ mark ∷ back
-  pub none : HasNoMark a b back
+  pub separator : ℕ
+  pub is_either : IsEither a b separator
+  pub joined : u ≡ front ++ separator ∷ back
+  pub none : HasNeither a b back
 
 -- The list ends with `a` or `b`.
-pub record EndsWithMark (a b : ℕ) (u : List ℕ) : Type 0 where
-  pub place : ℕ
-  pub is_last : place + 1 ≡ length u
-  pub is_mark : IsMark a b (slice_index u place)
+pub record EndsWithEither (a b : ℕ) (u : List ℕ) : Type 0 where
+  pub index : ℕ
+  pub is_last : index + 1 ≡ length u
+  pub is_either : IsEither a b (slice_index u index)
 
 -- The list `parts` begins with the parts in `front`, in order.
 pub record BeginsWith (parts front : List (List ℕ)) : Type 0 where
@@ -31,10 +31,10 @@ pub record BeginsWith (parts front : List (List ℕ)) : Type 0 where
 
 -- `v` is the part of `u` before its first 0, or all of `u` if it has none.
 pub record IsBeforeZero (u v : List ℕ) : Type 0 where
-  pub place : ℕ
-  pub front : v ≡ take place u
+  pub index : ℕ
+  pub front : v ≡ take index u
   pub none : All (λ x. x ≢ 0) v
-  pub zero : place < length u → slice_index u place ≡ 0
+  pub zero : index < length u → slice_index u index ≡ 0
 
 -- Whether the unit separates components of a path: `/` or `\`.
 abbrev pub is_separator : ℕ → Bool

@@ -16,16 +16,16 @@ hash_with h (unit ∷ units) = hash_with ((h * 31 % 2 ^ 32 + unit) % 2 ^ 32) uni
 unfoldable pub hash_of : List ℕ → ℕ
 hash_of units = hash_with 0 units
 
--- Of the first `limit` lists, the last one with the hash has index `end - 1`, or none has it if `end` is 0.
-pub record IsEnd (lists : List (List ℕ)) (hash limit end : ℕ) : Type 0 where
-  pub within : end ≤ limit
-  pub before : (k : ℕ) (u : List ℕ) → k < limit → slice_get lists k ≡ Some u → hash_of u ≡ hash → k < end
-  pub last : (k : ℕ) (u : List ℕ) → k + 1 ≡ end → slice_get lists k ≡ Some u → hash_of u ≡ hash
+-- Of the first `limit` lists, the last one with the hash has index `head - 1`, or none has it if `head` is 0.
+pub record IsChainHead (lists : List (List ℕ)) (hash limit head : ℕ) : Type 0 where
+  pub within : head ≤ limit
+  pub before : (k : ℕ) (u : List ℕ) → k < limit → slice_get lists k ≡ Some u → hash_of u ≡ hash → k < head
+  pub last : (k : ℕ) (u : List ℕ) → k + 1 ≡ head → slice_get lists k ≡ Some u → hash_of u ≡ hash
 
--- The lists are distinct. `ends` has for each hash its end among all lists, 0 if missing, and `befores` for each list
--- the end of its hash among the lists before it, as `IsEnd` says.
-pub record AreNumbered {S : Type 0} (ends : HashMap ℕ ℕ S) (befores : List ℕ) (lists : List (List ℕ)) : Type 0 where
+-- The lists are distinct. `heads` has for each hash the head of its chain in all lists, 0 if missing, and `nexts` for each
+-- list the head of its hash's chain in the lists before it, as `IsChainHead` says.
+pub record AreNumbered {S : Type 0} (heads : HashMap ℕ ℕ S) (nexts : List ℕ) (lists : List (List ℕ)) : Type 0 where
   pub distinct : (j k : ℕ) (u : List ℕ) → slice_get lists j ≡ Some u → slice_get lists k ≡ Some u → j ≡ k
-  pub lengths : length befores ≡ length lists
-  pub ends_are : (h : ℕ) → IsEnd lists h (length lists) (unwrap_or (get nat_eq ends h) 0)
-  pub befores_are : (k e : ℕ) (u : List ℕ) → slice_get lists k ≡ Some u → slice_get befores k ≡ Some e → IsEnd lists (hash_of u) k e
+  pub lengths : length nexts ≡ length lists
+  pub heads_are : (h : ℕ) → IsChainHead lists h (length lists) (unwrap_or (get nat_eq heads h) 0)
+  pub nexts_are : (k e : ℕ) (u : List ℕ) → slice_get lists k ≡ Some u → slice_get nexts k ≡ Some e → IsChainHead lists (hash_of u) k e

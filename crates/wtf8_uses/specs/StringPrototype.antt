@@ -22,14 +22,14 @@ pub record OccursAt (u s : List ℕ) (k : ℕ) : Type 0 where
 
 -- `k` is the first index at or after `position` at which `s` occurs in `u` (ECMAScript, "StringIndexOf").
 pub record IsFirstIndex (u s : List ℕ) (position k : ℕ) : Type 0 where
-  pub behind : position ≤ k
-  pub stands : OccursAt u s k
+  pub after : position ≤ k
+  pub occurs : OccursAt u s k
   pub no_earlier : (j : ℕ) → position ≤ j → j < k → ¬ (OccursAt u s j)
 
 -- `k` is the last index at or before `position` at which `s` occurs in `u` (ECMAScript, "StringLastIndexOf").
 pub record IsLastIndex (u s : List ℕ) (position k : ℕ) : Type 0 where
   pub before : k ≤ position
-  pub stands : OccursAt u s k
+  pub occurs : OccursAt u s k
   pub no_later : (j : ℕ) → k < j → j ≤ position → ¬ (OccursAt u s j)
 
 -- `v` is `u` with U+FFFD for each lone surrogate (ECMAScript, "String.prototype.toWellFormed").
@@ -49,6 +49,6 @@ pub record IsTrimmed (u v : List ℕ) : Type 0 where
   pub within : end ≤ length u
   pub between : v ≡ drop begin (take end u)
   pub before : (k : ℕ) → k < begin → IsSpace (slice_index u k)
-  pub behind : (k : ℕ) → end ≤ k → k < length u → IsSpace (slice_index u k)
+  pub after : (k : ℕ) → end ≤ k → k < length u → IsSpace (slice_index u k)
   pub first : begin < end → ¬ (IsSpace (slice_index u begin))
   pub last : begin < end → ¬ (IsSpace (slice_index u (end - 1)))

@@ -29,7 +29,7 @@ pub fn push_nothing<A: Allocator>(text: &mut Wtf8Buf<A>) -> Result<(), AllocErro
 }
 
 /// Applies the same calls to two equal strings, and compares these: they are equal, unless memory is refused.
-pub fn apply_alike<A: Allocator>(
+pub fn apply_to_equals<A: Allocator>(
     string: &mut Wtf8Buf<A>,
     other: &mut Wtf8Buf<A>,
     calls: &[Build<'_>],
@@ -60,7 +60,7 @@ pub fn apply_both<A: Allocator>(
 
 /// Whether two lists of pushes and extensions build equal strings. They do if they append the same units, however the
 /// units are divided among the calls.
-pub fn build_alike(
+pub fn build_equals(
     alloc: Global,
     calls: &[Build<'_>],
     others: &[Build<'_>],

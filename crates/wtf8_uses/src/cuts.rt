@@ -21,7 +21,7 @@ pub fn cut_and_joined<A: Allocator>(
 }
 
 /// Whether a text that was cut and joined again equals the original. It always does.
-pub fn is_whole_again<A: Allocator>(
+pub fn is_equal_after_cut<A: Allocator>(
     front_alloc: A,
     back_alloc: A,
     text: &UnitText<A>,

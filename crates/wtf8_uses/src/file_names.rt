@@ -6,7 +6,7 @@ ghost use Rattle.wtf8.specs.Appending.{AppendsUnits, KeepsContents};
 ghost use Rattle.wtf8.specs.Form.{bytes};
 ghost use Rattle.wtf8.specs.Surrogates.{lossy_points};
 ghost use Rattle.wtf8.specs.View.{view_points, view_units};
-ghost use Rattle.wtf8_uses.specs.FileName.{BeginsWith, EndsWithMark, IsBeforeZero, IsCutAtLast, IsMark, HasNoMark, is_separator};
+ghost use Rattle.wtf8_uses.specs.FileName.{BeginsWith, EndsWithEither, IsBeforeZero, IsCutAtLast, IsEither, HasNeither, is_separator};
 
 use std::alloc::{AllocError, Allocator, Global};
 use std::borrow::CowStr;
@@ -15,7 +15,7 @@ use wtf8::{Wtf8, Wtf8Buf, laws};
 /// The folder and the name of a path, cut at its last `/` or `\`; `None` if it has neither. Copies nothing.
 pub fn folder_and_name<'a>(path: Wtf8<'a>) -> Option<(Wtf8<'a>, Wtf8<'a>)>
     ensures some { IfSome result (λ x. IsCutAtLast 0x2F 0x5C (view_units path.entry) (view_units x.0) (view_units x.1)) }
-    ensures none { IfNone result (HasNoMark 0x2F 0x5C (view_units path.entry)) }
+    ensures none { IfNone result (HasNeither 0x2F 0x5C (view_units path.entry)) }
 {
     let Some((folder, _, name)) = cut_at_last(path, b'/', b'\\') else {
         return None;
@@ -26,7 +26,7 @@ pub fn folder_and_name<'a>(path: Wtf8<'a>) -> Option<(Wtf8<'a>, Wtf8<'a>)>
 /// The stem and the extension of a name, cut at its last `.`; `None` if it has none.
 pub fn stem_and_extension<'a>(name: Wtf8<'a>) -> Option<(Wtf8<'a>, Wtf8<'a>)>
     ensures some { IfSome result (λ x. IsCutAtLast 0x2E 0x2E (view_units name.entry) (view_units x.0) (view_units x.1)) }
-    ensures none { IfNone result (HasNoMark 0x2E 0x2E (view_units name.entry)) }
+    ensures none { IfNone result (HasNeither 0x2E 0x2E (view_units name.entry)) }
 {
     let Some((stem, _, extension)) = cut_at_last(name, b'.', b'.') else {
         return None;
@@ -38,7 +38,7 @@ pub fn stem_and_extension<'a>(name: Wtf8<'a>) -> Option<(Wtf8<'a>, Wtf8<'a>)>
 pub fn join(alloc: Global, folder: Wtf8<'_>, name: Wtf8<'_>) -> Result<Wtf8Buf<Global>, AllocError>
     ensures { IfOk result (λ path. path.units ≡ view_units folder.entry ++ 0x5C ∷ view_units name.entry) }
 {
-    with_mark(alloc, folder, '\\', name)
+    join_with(alloc, folder, '\\', name)
 }
 
 /// Joins a folder and a name with `\`, also in bytes: no surrogate pair forms across an ASCII character.
@@ -89,7 +89,7 @@ pub fn with_extension(
 ) -> Result<Wtf8Buf<Global>, AllocError>
     ensures { IfOk result (λ name. name.units ≡ view_units stem.entry ++ 0x2E ∷ view_units extension.entry) }
 {
-    with_mark(alloc, stem, '.', extension)
+    join_with(alloc, stem, '.', extension)
 }
 
 /// A name for display: U+FFFD replaces each lone surrogate.
@@ -102,7 +102,7 @@ pub fn shown<'a>(alloc: Global, name: Wtf8<'a>) -> Result<CowStr<'a, Global>, Al
 /// The extension of a name: the part after its last `.`; `None` if it has none. Copies nothing.
 pub fn extension<'a>(name: Wtf8<'a>) -> Option<Wtf8<'a>>
     ensures some { IfSome result (λ x. (stem : List ℕ) × IsCutAtLast 0x2E 0x2E (view_units name.entry) stem (view_units x)) }
-    ensures none { IfNone result (HasNoMark 0x2E 0x2E (view_units name.entry)) }
+    ensures none { IfNone result (HasNeither 0x2E 0x2E (view_units name.entry)) }
 {
     let (_, extension) = stem_and_extension(name)?;
     Some(extension)
@@ -114,8 +114,8 @@ pub fn join_once(
     folder: Wtf8<'_>,
     name: Wtf8<'_>,
 ) -> Result<Wtf8Buf<Global>, AllocError>
-    ensures there { EndsWithMark 0x2F 0x5C (view_units folder.entry) → IfOk result (λ path. path.units ≡ view_units folder.entry ++ view_units name.entry) }
-    ensures put { ¬ (EndsWithMark 0x2F 0x5C (view_units folder.entry)) → IfOk result (λ path. path.units ≡ view_units folder.entry ++ 0x5C ∷ view_units name.entry) }
+    ensures there { EndsWithEither 0x2F 0x5C (view_units folder.entry) → IfOk result (λ path. path.units ≡ view_units folder.entry ++ view_units name.entry) }
+    ensures put { ¬ (EndsWithEither 0x2F 0x5C (view_units folder.entry)) → IfOk result (λ path. path.units ≡ view_units folder.entry ++ 0x5C ∷ view_units name.entry) }
 {
     if !ends_with_separator(folder) {
         return join(alloc, folder, name);
@@ -128,10 +128,10 @@ pub fn join_once(
 
 /// Whether a path ends with `/` or `\`.
 pub fn ends_with_separator(path: Wtf8<'_>) -> bool
-    ensures { IsTrue result ↔ EndsWithMark 0x2F 0x5C (view_units path.entry) }
+    ensures { IsTrue result ↔ EndsWithEither 0x2F 0x5C (view_units path.entry) }
 {
     match cut_at_last(path, b'/', b'\\') {
-        Some((_, _, behind)) => behind.is_empty(),
+        Some((_, _, after)) => after.is_empty(),
         None => false,
     }
 }
@@ -143,16 +143,16 @@ pub fn begins_with(path: Wtf8<'_>, front: Wtf8<'_>) -> bool
     let mut rest = path;
     let mut front_rest = front;
     loop {
-        let (part, behind) = first_component(rest);
-        let (front_part, front_behind) = first_component(front_rest);
+        let (part, after) = first_component(rest);
+        let (front_part, front_after) = first_component(front_rest);
         laws::law_equal_views(part, front_part);
         if part != front_part {
             return false;
         }
-        let Some(front_next) = front_behind else {
+        let Some(front_next) = front_after else {
             return true;
         };
-        let Some(next) = behind else {
+        let Some(next) = after else {
             return false;
         };
         rest = next;
@@ -163,7 +163,7 @@ pub fn begins_with(path: Wtf8<'_>, front: Wtf8<'_>) -> bool
 /// The folder of a path: the part before its last `/` or `\`; `None` if it has neither. Copies nothing.
 pub fn parent<'a>(path: Wtf8<'a>) -> Option<Wtf8<'a>>
     ensures some { IfSome result (λ x. (name : List ℕ) × IsCutAtLast 0x2F 0x5C (view_units path.entry) (view_units x) name) }
-    ensures none { IfNone result (HasNoMark 0x2F 0x5C (view_units path.entry)) }
+    ensures none { IfNone result (HasNeither 0x2F 0x5C (view_units path.entry)) }
 {
     let (folder, _) = folder_and_name(path)?;
     Some(folder)
@@ -176,9 +176,9 @@ pub fn components<'a>(alloc: Global, path: Wtf8<'a>) -> Result<Vec<Wtf8<'a>>, Al
 {
     let mut parts = Vec::new(alloc);
     let mut rest = path;
-    while let Some((part, _, behind)) = cut_at_first(rest, b'/', b'\\') {
+    while let Some((part, _, after)) = cut_at_first(rest, b'/', b'\\') {
         parts.push(part)?;
-        rest = behind;
+        rest = after;
     }
     parts.push(rest)?;
     Ok(parts)
@@ -199,27 +199,27 @@ fn first_zero(units: &[u16]) -> usize
     ensures before { All (λ u. u ≢ 0) (take result units.now) }
     ensures zero { result < length units.now → slice_index units.now result ≡ 0 }
 {
-    for (place, unit) in units.iter().enumerate() {
+    for (index, unit) in units.iter().enumerate() {
         if *unit == 0 {
-            return place;
+            return index;
         }
     }
     units.len()
 }
 
 /// Joins two strings with an ASCII character between them.
-pub(crate) fn with_mark(
+pub(crate) fn join_with(
     alloc: Global,
     front: Wtf8<'_>,
-    mark: char,
+    separator: char,
     back: Wtf8<'_>,
 ) -> Result<Wtf8Buf<Global>, AllocError>
-    requires { mark < 0x80 }
-    ensures { IfOk result (λ whole. whole.units ≡ view_units front.entry ++ mark ∷ view_units back.entry) }
+    requires { separator < 0x80 }
+    ensures { IfOk result (λ whole. whole.units ≡ view_units front.entry ++ separator ∷ view_units back.entry) }
 {
     let mut whole = Wtf8Buf::new(alloc);
     whole.push_wtf8(front)?;
-    whole.push_char(mark)?;
+    whole.push_char(separator)?;
     whole.push_wtf8(back)?;
     Ok(whole)
 }
@@ -232,57 +232,57 @@ fn first_component<'a>(path: Wtf8<'a>) -> (Wtf8<'a>, Option<Wtf8<'a>>)
     ensures last { IfNone result.1 (slice_split is_separator (view_units path.entry) ≡ view_units result.0 ∷ []) }
 {
     match cut_at_first(path, b'/', b'\\') {
-        Some((part, _, behind)) => (part, Some(behind)),
+        Some((part, _, after)) => (part, Some(after)),
         None => (path, None),
     }
 }
 
-/// Splits a string at its last `mark` or `other`, both ASCII, into front, byte and rest; `None` if it has neither.
-fn cut_at_last<'a>(text: Wtf8<'a>, mark: u8, other: u8) -> Option<(Wtf8<'a>, u8, Wtf8<'a>)>
-    requires mark { mark < 0x80 }
+/// Splits a string at its last `separator` or `other`, both ASCII, into front, byte and rest; `None` if it has neither.
+fn cut_at_last<'a>(text: Wtf8<'a>, separator: u8, other: u8) -> Option<(Wtf8<'a>, u8, Wtf8<'a>)>
+    requires separator { separator < 0x80 }
     requires other { other < 0x80 }
-    ensures mark { IfSome result (λ x. IsMark mark other x.1) }
+    ensures separator { IfSome result (λ x. IsEither separator other x.1) }
     ensures joined { IfSome result (λ x. view_units text.entry ≡ view_units x.0 ++ x.1 ∷ view_units x.2) }
-    ensures behind { IfSome result (λ x. HasNoMark mark other (view_units x.2)) }
-    ensures none { IfNone result (HasNoMark mark other (view_units text.entry)) }
+    ensures after { IfSome result (λ x. HasNeither separator other (view_units x.2)) }
+    ensures none { IfNone result (HasNeither separator other (view_units text.entry)) }
 {
-    for place in (0..text.len()).rev() {
-        let byte = text.ascii_byte_at(place);
-        if byte == mark || byte == other {
-            let back = text.slice_from(place + 1);
-            laws::law_no_ascii(back, mark);
+    for index in (0..text.len()).rev() {
+        let byte = text.ascii_byte_at(index);
+        if byte == separator || byte == other {
+            let back = text.slice_from(index + 1);
+            laws::law_no_ascii(back, separator);
             laws::law_no_ascii(back, other);
-            return Some((text.slice_to(place), byte, back));
+            return Some((text.slice_to(index), byte, back));
         }
     }
-    laws::law_no_ascii(text, mark);
+    laws::law_no_ascii(text, separator);
     laws::law_no_ascii(text, other);
     None
 }
 
-/// Splits a string at its first `mark` or `other`, both ASCII, into front, byte and rest; `None` if it has neither.
+/// Splits a string at its first `separator` or `other`, both ASCII, into front, byte and rest; `None` if it has neither.
 pub(crate) fn cut_at_first<'a>(
     text: Wtf8<'a>,
-    mark: u8,
+    separator: u8,
     other: u8,
 ) -> Option<(Wtf8<'a>, u8, Wtf8<'a>)>
-    requires mark { mark < 0x80 }
+    requires separator { separator < 0x80 }
     requires other { other < 0x80 }
-    ensures mark { IfSome result (λ x. IsMark mark other x.1) }
+    ensures separator { IfSome result (λ x. IsEither separator other x.1) }
     ensures joined { IfSome result (λ x. view_units text.entry ≡ view_units x.0 ++ x.1 ∷ view_units x.2) }
-    ensures before { IfSome result (λ x. HasNoMark mark other (view_units x.0)) }
-    ensures none { IfNone result (HasNoMark mark other (view_units text.entry)) }
+    ensures before { IfSome result (λ x. HasNeither separator other (view_units x.0)) }
+    ensures none { IfNone result (HasNeither separator other (view_units text.entry)) }
 {
-    for place in 0..text.len() {
-        let byte = text.ascii_byte_at(place);
-        if byte == mark || byte == other {
-            let front = text.slice_to(place);
-            laws::law_no_ascii(front, mark);
+    for index in 0..text.len() {
+        let byte = text.ascii_byte_at(index);
+        if byte == separator || byte == other {
+            let front = text.slice_to(index);
+            laws::law_no_ascii(front, separator);
             laws::law_no_ascii(front, other);
-            return Some((front, byte, text.slice_from(place + 1)));
+            return Some((front, byte, text.slice_from(index + 1)));
         }
     }
-    laws::law_no_ascii(text, mark);
+    laws::law_no_ascii(text, separator);
     laws::law_no_ascii(text, other);
     None
 }

@@ -1,7 +1,7 @@
 //! An interner: gives each distinct string a number.
 ghost use Rattle.std.specs.Prelude.{◌≡◌, ◌<◌, ◌≤◌, ℕ, List, [], ◌∷◌, ◌++◌, Some, None, Ok, slice_get, length, ◌↔◌, IsNone, IfSome, IfOk, OnOk, OnErr};
 ghost use Rattle.wtf8.specs.View.{view_units};
-ghost use Rattle.wtf8_uses.specs.Numbered.{AreNumbered, IsEnd, hash_of, units_of_strings};
+ghost use Rattle.wtf8_uses.specs.Numbered.{AreNumbered, IsChainHead, hash_of, units_of_strings};
 
 use std::alloc::{AllocError, Global};
 use std::collections::HashMap;
@@ -18,11 +18,11 @@ pub struct Interner {
     strings: Vec<Wtf8Buf<Global>>,
 
     /// Head of the chain of each hash: one more than the number of its newest string.
-    ends: HashMap<u32, usize>,
+    heads: HashMap<u32, usize>,
 
     /// Next in the chain of each string: one more than the number of the previous string with its hash, or 0.
-    befores: Vec<usize>,
-    ghost numbered: { AreNumbered ends befores.items (units_of_strings strings.items) },
+    nexts: Vec<usize>,
+    ghost numbered: { AreNumbered heads nexts.items (units_of_strings strings.items) },
 }
 
 impl Model for Interner {
@@ -42,8 +42,8 @@ impl Interner {
         Interner {
             alloc,
             strings: Vec::new(alloc),
-            ends: HashMap::new(alloc),
-            befores: Vec::new(alloc),
+            heads: HashMap::new(alloc),
+            nexts: Vec::new(alloc),
         }
     }
 
@@ -86,15 +86,15 @@ impl Interner {
         requires { hash ≡ hash_of (view_units string) }
         ensures { (n : ℕ) → (result ≡ Some n) ↔ (slice_get self.now n ≡ Some (view_units string.entry)) }
     {
-        let mut end = self.ends.get(&hash).copied().unwrap_or(0);
-        while end != 0 {
-            let number = end - 1;
+        let mut head = self.heads.get(&hash).copied().unwrap_or(0);
+        while head != 0 {
+            let number = head - 1;
             let found = self.at(number);
             laws::law_equal_views(found, string);
             if found == string {
                 return Some(number);
             }
-            end = self.before(number);
+            head = self.next_in_chain(number);
         }
         None
     }
@@ -108,11 +108,11 @@ impl Interner {
     }
 
     /// One more than the number of the previous string with the same hash, or 0 if there is none.
-    fn before(&self, number: usize) -> usize
+    fn next_in_chain(&self, number: usize) -> usize
         requires { number < length self.now }
-        ensures { (u : List ℕ) × (slice_get self.now number ≡ Some u) × IsEnd self.now (hash_of u) number result }
+        ensures { (u : List ℕ) × (slice_get self.now number ≡ Some u) × IsChainHead self.now (hash_of u) number result }
     {
-        self.befores[number]
+        self.nexts[number]
     }
 
     /// Copies a string that has no number and gives it the next one. Changes nothing before the last request for
@@ -127,12 +127,12 @@ impl Interner {
         let mut copy = Wtf8Buf::new(self.alloc);
         copy.push_wtf8(string)?;
         self.strings.reserve(1)?;
-        self.befores.reserve(1)?;
+        self.nexts.reserve(1)?;
         let number = self.strings.len();
-        let before = self.ends.get(&hash).copied().unwrap_or(0);
-        self.ends.insert(hash, number + 1)?;
+        let next = self.heads.get(&hash).copied().unwrap_or(0);
+        self.heads.insert(hash, number + 1)?;
         self.strings.push_reserved(copy);
-        self.befores.push_reserved(before);
+        self.nexts.push_reserved(next);
         Ok(number)
     }
 }

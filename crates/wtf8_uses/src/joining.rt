@@ -4,7 +4,7 @@ ghost use Rattle.wtf8.specs.Form.{IsForm};
 ghost use Rattle.wtf8.specs.Position.{IsBoundary, IsMiddle};
 ghost use Rattle.wtf8.specs.View.{view_units};
 
-use crate::file_names::{cut_at_first, with_mark};
+use crate::file_names::{cut_at_first, join_with};
 use crate::paths;
 use std::alloc::{AllocError, Allocator, Global};
 use wtf8::{Wtf8, Wtf8Buf, laws};
@@ -40,7 +40,7 @@ pub fn cut_at_slash_and_joined(alloc: Global, path: Wtf8<'_>) -> Result<Wtf8Buf<
     ensures { IfOk result (λ whole. whole.units ≡ view_units path.entry) }
 {
     match cut_at_first(path, b'/', b'/') {
-        Some((front, _, back)) => with_mark(alloc, front, '/', back),
+        Some((front, _, back)) => join_with(alloc, front, '/', back),
         None => copied(alloc, path),
     }
 }

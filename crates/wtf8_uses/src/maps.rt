@@ -8,7 +8,7 @@ use std::hash::{BuildHasher, Hash, Hasher};
 use wtf8::{Wtf8, Wtf8Buf, laws};
 
 /// Inserts a value under a key and looks up another key. If that has the same units, it finds the value.
-pub fn put_and_found(
+pub fn insert_and_get(
     map: &mut HashMap<Wtf8Buf<Global>, u32>,
     key: Wtf8Buf<Global>,
     same_key: &Wtf8Buf<Global>,
@@ -22,7 +22,7 @@ pub fn put_and_found(
 }
 
 /// Whether a buffer and a view have the same hash. They do if their units are the same.
-pub fn hash_alike<H: BuildHasher>(build: &H, buffer: &Wtf8Buf<Global>, view: Wtf8<'_>) -> bool
+pub fn hashes_agree<H: BuildHasher>(build: &H, buffer: &Wtf8Buf<Global>, view: Wtf8<'_>) -> bool
     ensures { buffer.now.units ≡ view_units view.entry → IsTrue result }
 {
     laws::law_equal_views(buffer.as_wtf8(), view);

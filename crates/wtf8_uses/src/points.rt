@@ -45,7 +45,7 @@ pub fn first_points<A: Allocator>(
 }
 
 /// The string without its first `count` code points; empty if it has no more.
-pub fn points_behind<A: Allocator>(
+pub fn points_after<A: Allocator>(
     alloc: A,
     text: Wtf8<'_>,
     count: usize,

@@ -8,7 +8,7 @@ use std::alloc::{AllocError, Allocator, Global};
 use wtf8::{Wtf8, Wtf8Buf, laws};
 
 /// Makes a string of units and collects its units again. They are the same, whether surrogates pair or not.
-pub fn units_again(alloc: Global, units: &[u16]) -> Result<Vec<u16>, AllocError>
+pub fn units_round_trip(alloc: Global, units: &[u16]) -> Result<Vec<u16>, AllocError>
     ensures { IfOk result (λ again. again.items ≡ units.now) }
 {
     let string = Wtf8Buf::from_ill_formed_utf16(alloc, units)?;
@@ -16,7 +16,7 @@ pub fn units_again(alloc: Global, units: &[u16]) -> Result<Vec<u16>, AllocError>
 }
 
 /// Views a text as a string and that string as a text. It is always the same text.
-pub fn text_again(text: &str) -> Option<&str>
+pub fn text_round_trip(text: &str) -> Option<&str>
     ensures some { IsSome result }
     ensures same { IfSome result (λ again. again.now ≡ text.now) }
 {
@@ -24,7 +24,7 @@ pub fn text_again(text: &str) -> Option<&str>
 }
 
 /// Turns a text into a string and back. It is always the same text, and nothing is allocated.
-pub fn owned_text_again<A: Allocator>(text: String<A>) -> Result<String<A>, Wtf8Buf<A>>
+pub fn string_round_trip<A: Allocator>(text: String<A>) -> Result<String<A>, Wtf8Buf<A>>
     ensures ok { IsOk result }
     ensures same { IfOk result (λ again. string_bytes again ≡ string_bytes text) }
 {

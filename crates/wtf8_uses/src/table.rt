@@ -15,24 +15,27 @@ use wtf8::{Wtf8, Wtf8Buf, laws};
 
 /// Searches a table that `sort_strings` sorted: `Ok` of an index of the string, or `Err` of the index at which
 /// inserting it keeps the table sorted.
-pub fn place_of<A: Allocator>(table: &[Wtf8Buf<A>], string: &Wtf8Buf<A>) -> Result<usize, usize>
+pub fn search_table<A: Allocator>(table: &[Wtf8Buf<A>], string: &Wtf8Buf<A>) -> Result<usize, usize>
     requires { AreInPointOrder table.now }
     ensures found { IfOk result (HoldsAt (λ s. s.units ≡ string.now.units) table.now) }
     ensures absent { IfErr result (IsPartitionPoint (λ s. Before s.form.points string.now.form.points) (λ s. Before string.now.form.points s.form.points) table.now) }
 {
-    place_of_view(table, string.as_wtf8())
+    search_table_for_view(table, string.as_wtf8())
 }
 
-/// Searches a sorted table for a view's string, like `place_of`. Does not copy the view.
-pub fn place_of_view<A: Allocator>(table: &[Wtf8Buf<A>], view: Wtf8<'_>) -> Result<usize, usize>
+/// Searches a sorted table for a view's string, like `search_table`. Does not copy the view.
+pub fn search_table_for_view<A: Allocator>(
+    table: &[Wtf8Buf<A>],
+    view: Wtf8<'_>,
+) -> Result<usize, usize>
     requires { AreInPointOrder table.now }
     ensures found { IfOk result (HoldsAt (λ s. s.units ≡ view_units view.entry) table.now) }
     ensures absent { IfErr result (IsPartitionPoint (λ s. Before s.form.points (view_points view.entry)) (λ s. Before (view_points view.entry) s.form.points) table.now) }
 {
     laws::law_byte_order();
     match table.binary_search_by(|string| order(string, view)) {
-        Ok(place) => Ok(place),
-        Err(place) => Err(place),
+        Ok(index) => Ok(index),
+        Err(index) => Err(index),
     }
 }
 

@@ -63,7 +63,7 @@ fn the_same_calls_leave_equal_strings(rt: HostRuntime) {
         Build::Truncate(1),
         Build::TruncateUnits(1),
     ];
-    let is_alike = appending::apply_alike(&mut string, &mut other, &calls);
+    let is_alike = appending::apply_to_equals(&mut string, &mut other, &calls);
     assert!(rt; matches!(is_alike, Ok(true)) && string.as_wtf8().as_str() == Some("é"));
 }
 
@@ -86,6 +86,6 @@ fn two_lists_are_applied_as_one(rt: HostRuntime) {
 fn equal_units_build_equal_strings(rt: HostRuntime) {
     let calls = [Build::PushStr("ab"), Build::PushChar('c')];
     let others = [Build::PushChar('a'), Build::PushStr("bc")];
-    let is_alike = appending::build_alike(rt.alloc(), &calls, &others);
+    let is_alike = appending::build_equals(rt.alloc(), &calls, &others);
     assert!(rt; matches!(is_alike, Ok(true)));
 }

@@ -8,24 +8,24 @@ use wtf8_uses::environment::{Variable, environment_block};
 use wtf8_uses::json::json_text;
 use wtf8_uses::{round_trips, units, well_formed};
 
-/// Fails unless `units_again` returns the units of `list`.
+/// Fails unless `units_round_trip` returns the units of `list`.
 fn expect_units_again(alloc: Global, list: &[u16]) -> Result<(), Wrong> {
-    let again = made(round_trips::units_again(alloc, list))?;
+    let again = made(round_trips::units_round_trip(alloc, list))?;
     expect(again.as_slice() == list, Wrong::Units)
 }
 
-/// Whether `owned_text_again` returns `text`, of which `owned` is a copy.
+/// Whether `string_round_trip` returns `text`, of which `owned` is a copy.
 fn comes_back(owned: String, text: &str) -> bool {
-    match round_trips::owned_text_again(owned) {
+    match round_trips::string_round_trip(owned) {
         Ok(again) => again.as_str() == text,
         Err(_) => false,
     }
 }
 
-/// Fails unless `text_again` and `owned_text_again` return `text`.
+/// Fails unless `text_round_trip` and `string_round_trip` return `text`.
 fn expect_text_again(alloc: Global, text: &str) -> Result<(), Wrong> {
     let owned = made(String::from_str(alloc, text))?;
-    let is_same = round_trips::text_again(text) == Some(text);
+    let is_same = round_trips::text_round_trip(text) == Some(text);
     expect(comes_back(owned, text) && is_same, Wrong::Bytes)
 }
 
@@ -36,7 +36,7 @@ fn expect_lossy(alloc: Global, list: &[u16], text: &str) -> Result<(), Wrong> {
 }
 
 #[test]
-fn units_and_texts_come_back(rt: HostRuntime) -> Result<(), Wrong> {
+fn round_trips_return_their_input(rt: HostRuntime) -> Result<(), Wrong> {
     expect_units_again(rt.alloc(), &[TRAIL, LEAD, TRAIL, 0x0041, LEAD])?;
     expect_text_again(rt.alloc(), "aé 💩")?;
     expect_lossy(rt.alloc(), &[0x0041, LEAD], "A\u{FFFD}")

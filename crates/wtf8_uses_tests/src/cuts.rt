@@ -4,7 +4,7 @@ use std::alloc::Global;
 use unit_text::UnitText;
 use wtf8_tests::examples::joining;
 use wtf8_tests::wrong::{Wrong, expect_bytes, made};
-use wtf8_uses::cuts::{cut_and_joined, is_whole_again};
+use wtf8_uses::cuts::{cut_and_joined, is_equal_after_cut};
 
 /// Fails unless `cut_and_joined` returns the text of `units` and the bytes of `dump`.
 fn expect_joined(
@@ -24,9 +24,9 @@ fn expect_joined(
     expect_bytes(alloc, whole.as_wtf8(), dump)
 }
 
-/// Fails unless `is_whole_again` is true at unit index `index`.
+/// Fails unless `is_equal_after_cut` is true at unit index `index`.
 fn expect_whole(alloc: Global, text: &UnitText<Global>, index: usize) -> Result<(), Wrong> {
-    if index <= text.unit_len() && made(is_whole_again(alloc, alloc, text, index))? {
+    if index <= text.unit_len() && made(is_equal_after_cut(alloc, alloc, text, index))? {
         return Ok(());
     }
     Err(Wrong::Outcome)
@@ -43,7 +43,7 @@ fn expect_whole_anywhere(alloc: Global, units: &[u16], dump: &str) -> Result<(),
 }
 
 #[test]
-fn callers_find_the_whole_again(rt: HostRuntime) -> Result<(), Wrong> {
+fn cut_and_joined_texts_are_equal_to_the_whole(rt: HostRuntime) -> Result<(), Wrong> {
     for (units, _, dump) in joining() {
         expect_whole_anywhere(rt.alloc(), units, dump)?;
     }

@@ -34,7 +34,7 @@ fn expect_numbers(interner: &mut Interner, first: Wtf8<'_>) -> Result<(), Wrong>
 }
 
 #[test]
-fn a_number_stays(rt: HostRuntime) -> Result<(), Wrong> {
+fn a_string_keeps_its_number(rt: HostRuntime) -> Result<(), Wrong> {
     let mut interner = Interner::new(rt.alloc());
     let first = string_of(rt.alloc(), &[LEAD])?;
     expect_numbers(&mut interner, first.as_wtf8())?;

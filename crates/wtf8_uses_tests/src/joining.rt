@@ -105,7 +105,7 @@ fn expect_paths(alloc: Global, folder: Wtf8<'_>) -> Result<(), Wrong> {
 /// Fails unless two pushes of `text` build a string that equals `whole`.
 fn expect_built(alloc: Global, whole: Wtf8<'_>, text: &str) -> Result<(), Wrong> {
     let calls = [Build::PushStr(text), Build::PushStr(text)];
-    let is_alike = appending::build_alike(alloc, &calls, &[Build::PushWtf8(whole)]);
+    let is_alike = appending::build_equals(alloc, &calls, &[Build::PushWtf8(whole)]);
     expect(matches!(is_alike, Ok(true)), Wrong::Outcome)
 }
 

@@ -35,7 +35,7 @@ fn expect_common(
 /// Fails unless the points of a text after its first two are the expected ones, none is supplementary, and both parts
 /// join to the text again.
 fn expect_back(alloc: Global, text: Wtf8<'_>, front: &mut Wtf8Buf<Global>) -> Result<(), Wrong> {
-    let back = made(points::points_behind(alloc, text, 2))?;
+    let back = made(points::points_after(alloc, text, 2))?;
     expect_bytes(alloc, back.as_wtf8(), "41 ED A0 BD")?;
     if points::supplementary_count(back.as_wtf8()) != 0 {
         return Err(Wrong::Outcome);

@@ -30,7 +30,7 @@ fn expect_two_points(alloc: Global) -> Result<(), Wrong> {
 }
 
 #[test]
-fn room_is_found_once(rt: HostRuntime) -> Result<(), Wrong> {
+fn memory_is_reserved_once_for_all_pushes(rt: HostRuntime) -> Result<(), Wrong> {
     let mut string = string_of(rt.alloc(), &[LEAD])?;
     expect_pushed(rt.alloc(), &mut string)?;
     let is_kept = refusals::is_kept_by_a_refusal(&mut string, CodePoint::from_char('c'));
@@ -148,7 +148,7 @@ fn expect_row(
 }
 
 #[test]
-fn a_refusal_leaves_what_was_there(rt: HostRuntime) -> Result<(), Wrong> {
+fn a_refusal_leaves_the_string_unchanged(rt: HostRuntime) -> Result<(), Wrong> {
     let heap = Refusing::new(rt.alloc(), 1);
     let trail = string_of(rt.alloc(), &[TRAIL])?;
     for row in left() {

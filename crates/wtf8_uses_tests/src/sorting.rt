@@ -81,8 +81,8 @@ fn expect_index(
     requires { AreInPointOrder table.now }
 {
     let string = string_of(alloc, units)?;
-    let by_view = table::place_of_view(table, string.as_wtf8());
-    let is_found = table::place_of(table, &string) == index && by_view == index;
+    let by_view = table::search_table_for_view(table, string.as_wtf8());
+    let is_found = table::search_table(table, &string) == index && by_view == index;
     expect(is_found, Wrong::Outcome)
 }
 
@@ -134,7 +134,7 @@ fn repeated_strings_are_dropped(rt: HostRuntime) -> Result<(), Wrong> {
 fn is_found(alloc: Global, same: &Wtf8Buf<Global>) -> Result<bool, AllocError> {
     let mut map = HashMap::new(alloc);
     let key = joining::joined(alloc, &[LEAD], &[TRAIL])?;
-    let found = maps::put_and_found(&mut map, key, same, 7)?;
+    let found = maps::insert_and_get(&mut map, key, same, 7)?;
     Ok(found == Some(7))
 }
 
@@ -142,7 +142,7 @@ fn is_found(alloc: Global, same: &Wtf8Buf<Global>) -> Result<bool, AllocError> {
 fn a_map_finds_equal_strings(rt: HostRuntime) -> Result<(), Wrong> {
     let same = made(Wtf8Buf::from_str(rt.alloc(), "💩"))?;
     let hashers: BuildHasherDefault<FoldHasher> = BuildHasherDefault::new();
-    let is_alike = maps::hash_alike(&hashers, &same, Wtf8::from_str("💩"));
+    let is_alike = maps::hashes_agree(&hashers, &same, Wtf8::from_str("💩"));
     let is_found = made(is_found(rt.alloc(), &same))?;
     expect(is_alike && is_found, Wrong::Outcome)
 }

@@ -68,7 +68,7 @@ fn cut_everywhere(alloc: Global, units: &[u16]) -> Result<(), Wrong> {
 }
 
 #[test]
-fn a_string_cut_anywhere_is_whole_again(rt: HostRuntime) -> Result<(), Wrong> {
+fn a_string_cut_at_any_index_and_joined_is_equal(rt: HostRuntime) -> Result<(), Wrong> {
     for (units, _, _) in joining() {
         cut_everywhere(rt.alloc(), units)?;
     }

@@ -1,7 +1,7 @@
 pub mod AsciiFronts
 pub mod Copies
-pub mod Differences
-pub mod Digits
+pub mod Mismatch
+pub mod HexDigits
 pub mod Masks
 pub mod Surrogates
 pub mod UnitCounts

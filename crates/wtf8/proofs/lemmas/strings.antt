@@ -1,7 +1,7 @@
 pub mod Concatenation
-pub mod Gains
+pub mod ExtendedForms
 pub mod Positions
 pub mod Surrogates
 pub mod UnitCuts
 pub mod UnitMarks
-pub mod UnitsOut
+pub mod ToUtf16

@@ -3,7 +3,7 @@ use Rattle.std.specs.Prelude.{◌≡◌, ℕ, List, map, Option, None, Result, O
 use Rattle.std.specs.declared.iter.Ahead.{Ahead}
 use Rattle.std.specs.Iterator.{Yields, Drains}
 use Rattle.std.specs.Iterator.Adapters.{peekable_steps, peekable_peeked, PeeksNext}
-use Rattle.wtf8.specs.declared.units_in.decode.DecodeUtf16.{DecodeUtf16}
+use Rattle.wtf8.specs.declared.from_utf16.decode.DecodeUtf16.{DecodeUtf16}
 use Rattle.wtf8.specs.Form.{IsClean}
 use Rattle.wtf8.specs.Unicode.{IsCodePoint, IsLead, IsTrail, IsSurrogate, units_of, units}
 
@@ -25,9 +25,9 @@ module _ {S : Type 0} (steps : S → Option ℕ → S → Type 0) where
   -- a lone lead it was, and either it is no trail or no unit was left.
   pub record DecodesItem (s : Ahead S ℕ) (item : Result ℕ ℕ) (t : Ahead S ℕ) : Type 0 where
     pub kind : MatchResult item (λ c. IsCodePoint c × ¬ (IsSurrogate c)) IsSurrogate
-    pub behind : Ahead S ℕ
-    pub taken : Yields (peekable_steps steps) s (units_of (point_of item)) behind
-    pub held : (t ≡ behind) ⊎ PeeksNext steps behind t
+    pub after : Ahead S ℕ
+    pub taken : Yields (peekable_steps steps) s (units_of (point_of item)) after
+    pub held : (t ≡ after) ⊎ PeeksNext steps after t
     pub lone : IsLead (point_of item) → IsSomeAnd (peekable_peeked t) (λ o. IfSome o (λ u. ¬ (IsTrail u)))
 
   -- A step yields the item at the front of the units left, or `None` if no unit is left.

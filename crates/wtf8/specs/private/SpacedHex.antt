@@ -3,5 +3,5 @@ use Rattle.std.specs.Prelude.{ℕ, List, ◌∷◌}
 use Rattle.wtf8.specs.Hex.{hex_of}
 
 -- A space followed by a byte as two hexadecimal digits.
-abbrev pub spaced : ℕ → List ℕ
-spaced b = 32 ∷ hex_of b
+abbrev pub spaced_hex : ℕ → List ℕ
+spaced_hex b = 32 ∷ hex_of b

@@ -8,5 +8,5 @@ pub record SurrogateAt (w : List ℕ) (i : ℕ) : Type 0 where
   pub second : 0xA0 ≤ slice_index w (i + 1)
 
 -- Lane `k` of `firsts` is 0xED, and lane `k` of `seconds` is at least 0xA0.
-abbrev pub BeginsInLane : List ℕ → List ℕ → ℕ → Type 0
-BeginsInLane firsts seconds k = (slice_index firsts k ≡ 0xED) × (0xA0 ≤ slice_index seconds k)
+abbrev pub SurrogateInLane : List ℕ → List ℕ → ℕ → Type 0
+SurrogateInLane firsts seconds k = (slice_index firsts k ≡ 0xED) × (0xA0 ≤ slice_index seconds k)

@@ -3,30 +3,30 @@ use Rattle.std.specs.Prelude.{◌≡◌, ℕ, ◌+◌, ◌<◌, ◌≤◌, List,
 use Rattle.std.specs.List.{sum_by}
 use Rattle.wtf8.specs.Unicode.{units}
 use Rattle.wtf8.specs.Form.{bytes}
-use Rattle.wtf8.specs.declared.strings.unit_positions.Place.{Place}
+use Rattle.wtf8.specs.declared.strings.unit_positions.UnitCursor.{UnitCursor}
 
 -- The number of units of a code point by its lead byte; 0 for a continuation byte (Unicode 3.9, "UTF-8", Table 3-6).
-unfoldable pub units_begun : ℕ → ℕ
-units_begun b = if nat_lt b 0x80 then 1 else if nat_lt b 0xC0 then 0 else if nat_lt b 0xF0 then 1 else 2
+unfoldable pub utf16_len : ℕ → ℕ
+utf16_len b = if nat_lt b 0x80 then 1 else if nat_lt b 0xC0 then 0 else if nat_lt b 0xF0 then 1 else 2
 
 -- The number of units of the code points that begin among the bytes.
-abbrev pub all_units_begun : List ℕ → ℕ
-all_units_begun w = sum_by units_begun w
+abbrev pub sum_utf16_len : List ℕ → ℕ
+sum_utf16_len w = sum_by utf16_len w
 
 -- Some lane of the vector is at least `least`.
-abbrev pub HasLane : ℕ → List ℕ → Type 0
-HasLane least lanes = (k : ℕ) × ((k < length lanes) × (least ≤ slice_index lanes k))
+abbrev pub HasLaneAtLeast : ℕ → List ℕ → Type 0
+HasLaneAtLeast least lanes = (k : ℕ) × ((k < length lanes) × (least ≤ slice_index lanes k))
 
--- `place` is a byte position with the number of units of the code points that begin before it, which is at most `n`.
-pub record IsCounted (w : List ℕ) (n : ℕ) (place : Place) : Type 0 where
-  pub within : place.at ≤ length w
-  pub counted : place.units_before ≡ all_units_begun (take place.at w)
-  pub not_beyond : place.units_before ≤ n
+-- `cursor` is a byte position with the number of units of the code points that begin before it, which is at most `n`.
+pub record IsCursor (w : List ℕ) (n : ℕ) (cursor : UnitCursor) : Type 0 where
+  pub within : cursor.at ≤ length w
+  pub counted : cursor.units_before ≡ sum_utf16_len (take cursor.at w)
+  pub not_beyond : cursor.units_before ≤ n
 
--- `place` is the start of the code point that holds unit `n`, or the end of the bytes if they have at most `n` units.
-pub record IsPlaceOfUnit (w : List ℕ) (n : ℕ) (place : Place) : Type 0 where
-  pub before : IsCounted w n place
-  pub reaches : place.at < length w → n < all_units_begun (take (place.at + 1) w)
+-- `cursor` is the start of the code point that holds unit `n`, or the end of the bytes if they have at most `n` units.
+pub record IsCursorOfUnit (w : List ℕ) (n : ℕ) (cursor : UnitCursor) : Type 0 where
+  pub before : IsCursor w n cursor
+  pub reaches : cursor.at < length w → n < sum_utf16_len (take (cursor.at + 1) w)
 
 -- `p`, the first code point of `back`, has two units, and a cut after `n` units is between them.
 pub record Divides (front back : List ℕ) (n p : ℕ) : Type 0 where

@@ -1,3 +1,3 @@
 // Equality, order and hash of strings, and their order by code units.
-pub(crate) mod comparisons;
+pub(crate) mod traits;
 pub(crate) mod unit_order;

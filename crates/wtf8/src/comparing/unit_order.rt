@@ -1,27 +1,27 @@
 // The order of strings by their 16-bit code units.
-#![tactic(auto, using(crate::proofs::lemmas::comparing::Order::ordered, crate::proofs::lemmas::comparing::Order::less_test, crate::proofs::lemmas::comparing::Order::greater_test, crate::proofs::lemmas::comparing::Order::at_most_test, crate::proofs::lemmas::comparing::Order::at_least_test))]
+#![tactic(auto, using(crate::proofs::lemmas::comparing::Order::order_of_result, crate::proofs::lemmas::comparing::Order::less_test, crate::proofs::lemmas::comparing::Order::greater_test, crate::proofs::lemmas::comparing::Order::at_most_test, crate::proofs::lemmas::comparing::Order::at_least_test))]
 
 ghost use Rattle.std.specs.Cmp.Lexicographic.{slice_cmp};
 ghost use Rattle.std.specs.Ordering.{MatchOrdering, is_ge, is_gt, is_le, is_lt, nat_cmp};
 ghost use Rattle.std.specs.Prelude.{◌≡◌, ◌↔◌, IsTrue};
-ghost use Rattle.wtf8.specs.private.Differences.{PairBegins};
+ghost use Rattle.wtf8.specs.private.Mismatch.{SupplementaryBegins};
 ghost use Rattle.wtf8.specs.Order.{Before};
 ghost use Rattle.wtf8.specs.View.{view_units};
 
-use crate::lanes::differences::{byte_at, first_difference};
+use crate::lanes::memcmp::{byte_at, mismatch};
 use crate::strings::view::Wtf8;
 use std::cmp::Ordering;
 
 /// Whether a code point of two units, whose lead byte is at least 0xF0, begins at index `at`, which may be the end.
-fn pair_begins(bytes: &[u8], at: usize) -> bool
-    ensures { IsTrue result ↔ PairBegins bytes.now at }
+fn supplementary_begins(bytes: &[u8], at: usize) -> bool
+    ensures { IsTrue result ↔ SupplementaryBegins bytes.now at }
 {
     at < bytes.len() && 0xF0 <= bytes[at]
 }
 
 /// The order of two strings by code units, compared one by one.
 #[inline(never)]
-fn cmp_one_by_one(own: Wtf8<'_>, others: Wtf8<'_>) -> Ordering
+fn cmp_unitwise(own: Wtf8<'_>, others: Wtf8<'_>) -> Ordering
     ensures { result ≡ slice_cmp nat_cmp (view_units own.entry) (view_units others.entry) }
 {
     own.to_ill_formed_utf16().cmp(others.to_ill_formed_utf16())
@@ -30,14 +30,14 @@ fn cmp_one_by_one(own: Wtf8<'_>, others: Wtf8<'_>) -> Ordering
 /// The order of two strings by code units: that of the bytes at the first mismatch, unless a code point of two units
 /// begins there in one string alone. A lead surrogate is less than the units E000 to FFFF, although its byte is greater.
 #[inline(always)]
-fn cmp_by_units(own: Wtf8<'_>, others: Wtf8<'_>) -> Ordering
+fn cmp_units_at_mismatch(own: Wtf8<'_>, others: Wtf8<'_>) -> Ordering
     ensures { result ≡ slice_cmp nat_cmp (view_units own.entry) (view_units others.entry) }
 {
-    let at = first_difference(own.bytes, others.bytes);
-    if pair_begins(own.bytes, at) == pair_begins(others.bytes, at) {
+    let at = mismatch(own.bytes, others.bytes);
+    if supplementary_begins(own.bytes, at) == supplementary_begins(others.bytes, at) {
         return byte_at(own.bytes, at).cmp(&byte_at(others.bytes, at));
     }
-    cmp_one_by_one(own.slice_from(at), others.slice_from(at))
+    cmp_unitwise(own.slice_from(at), others.slice_from(at))
 }
 
 impl<'a> Wtf8<'a> {
@@ -54,6 +54,6 @@ impl<'a> Wtf8<'a> {
         ensures at_most { IsTrue (is_le result) ↔ ¬ (Before (view_units other.now) (view_units self.now)) }
         ensures at_least { IsTrue (is_ge result) ↔ ¬ (Before (view_units self.now) (view_units other.now)) }
     {
-        cmp_by_units(*self, *other)
+        cmp_units_at_mismatch(*self, *other)
     }
 }

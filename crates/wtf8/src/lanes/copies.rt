@@ -5,50 +5,50 @@ use std::alloc::{AllocError, Allocator};
 use std::simd::prelude::*;
 
 /// From this length on `extend_from_slice` is as fast as two overlapping blocks.
-const MANY: usize = 32;
+const SHORT_COPY_LIMIT: usize = 32;
 
 /// Copies a slice to a new vector. An empty slice requests no memory.
 #[inline(always)]
-pub(crate) fn copied<A: Allocator>(alloc: A, bytes: &[u8]) -> Result<Vec<u8, A>, AllocError>
+pub(crate) fn to_vec_in<A: Allocator>(alloc: A, bytes: &[u8]) -> Result<Vec<u8, A>, AllocError>
     ensures items { IfOk result (λ v. v.items ≡ bytes.now) }
     ensures empty { bytes.now ≡ [] → IsOk result }
 {
     let mut copy = Vec::with_capacity(alloc, bytes.len())?;
-    if bytes.len() < MANY {
-        push_few(&mut copy, bytes);
+    if bytes.len() < SHORT_COPY_LIMIT {
+        push_short(&mut copy, bytes);
     } else {
         copy.extend_from_slice(bytes)?;
     }
     Ok(copy)
 }
 
-/// Appends fewer than `MANY` bytes within the spare capacity.
+/// Appends fewer than `SHORT_COPY_LIMIT` bytes within the spare capacity.
 #[inline(always)]
-fn push_few<A: Allocator>(bytes: &mut Vec<u8, A>, other: &[u8])
-    requires few { length other.now < MANY }
+fn push_short<A: Allocator>(bytes: &mut Vec<u8, A>, other: &[u8])
+    requires few { length other.now < SHORT_COPY_LIMIT }
     requires room { length bytes.old.items + length other.now ≤ vec_capacity bytes.old }
     ensures { bytes.new.items ≡ bytes.old.items ++ other.now }
 {
     let count = other.len();
     if 8 <= count {
         if 16 <= count {
-            push_ends::<16, A>(bytes, other)
+            push_overlapping::<16, A>(bytes, other)
         } else {
-            push_ends::<8, A>(bytes, other)
+            push_overlapping::<8, A>(bytes, other)
         }
     } else if 4 <= count {
-        push_ends::<4, A>(bytes, other)
+        push_overlapping::<4, A>(bytes, other)
     } else if 2 <= count {
-        push_ends::<2, A>(bytes, other)
+        push_overlapping::<2, A>(bytes, other)
     } else if count == 1 {
-        push_ends::<1, A>(bytes, other)
+        push_overlapping::<1, A>(bytes, other)
     }
 }
 
 /// Appends `N` to `2 * N` bytes within the spare capacity: the first `N` and the last `N`, which may overlap. If
 /// nothing else refers to the vector, these compile to two stores.
 #[inline(always)]
-fn push_ends<const N: usize, A: Allocator>(bytes: &mut Vec<u8, A>, other: &[u8])
+fn push_overlapping<const N: usize, A: Allocator>(bytes: &mut Vec<u8, A>, other: &[u8])
     requires lanes { N ≤ u64.BITS }
     requires all { (N ≤ length other.now) × (length other.now ≤ 2 * N) }
     requires room { length bytes.old.items + length other.now ≤ vec_capacity bytes.old }

@@ -1,21 +1,21 @@
 // Bitmasks of lane comparisons: bit `k` is lane `k`.
 ghost use Rattle.std.specs.Prelude.{◌≢◌};
-ghost use Rattle.wtf8.specs.private.FirstPlace.{IsFirstSet};
+ghost use Rattle.wtf8.specs.private.FirstIndex.{IsFirstSet};
 
 /// The index of the first lane that is set in a mask, or `None` if no lane is set.
 #[inline(always)]
-pub(crate) fn first_set(bits: u64) -> Option<usize>
+pub(crate) fn first_set_lane(bits: u64) -> Option<usize>
     ensures { IsFirstSet bits result }
 {
     if bits == 0 {
         return None;
     }
-    Some(lowest(bits))
+    Some(lowest_set_lane(bits))
 }
 
 /// The index of the first lane that is set in a mask, which must not be 0.
 #[inline(always)]
-pub(crate) fn lowest(bits: u64) -> usize
+pub(crate) fn lowest_set_lane(bits: u64) -> usize
     requires { bits ≢ 0 }
     ensures { IsFirstSet bits (Some result) }
 {

@@ -1,9 +1,9 @@
 // Bytes compared, searched, copied and written as hexadecimal in SIMD blocks. All that these modules know of WTF-8 is
 // how surrogates are encoded.
 pub(crate) mod copies;
-pub(crate) mod differences;
-pub(crate) mod digits;
+pub(crate) mod hex_digits;
 pub(crate) mod masks;
+pub(crate) mod memcmp;
 pub(crate) mod search;
 
 /// The number of bytes in one of the processor's vectors.
@@ -13,4 +13,4 @@ pub(crate) const VECTOR: usize = 16;
 pub(crate) const BLOCK: usize = 4 * VECTOR;
 
 /// The stride of the loop that compares long slices: two blocks.
-pub(crate) const TURN: usize = 2 * BLOCK;
+pub(crate) const STRIDE: usize = 2 * BLOCK;

@@ -1,11 +1,11 @@
 // Finds the encodings of surrogates in bytes, and replaces them by U+FFFD.
 ghost use Rattle.std.specs.Prelude.{◌≡◌, ◌∷◌, ◌++◌, ◌+◌, ◌<◌, ◌≤◌, length, take, drop};
 ghost use Rattle.wtf8.specs.Form.{IsWellFormed, bytes as bytes_of};
-ghost use Rattle.wtf8.specs.private.FirstPlace.{IsFirst, IsFirstBelow, Nowhere};
-ghost use Rattle.wtf8.specs.private.SurrogateSearch.{BeginsInLane, SurrogateAt};
+ghost use Rattle.wtf8.specs.private.FirstIndex.{IsFirst, IsFirstIn, NoneIn};
+ghost use Rattle.wtf8.specs.private.SurrogateSearch.{SurrogateInLane, SurrogateAt};
 ghost use Rattle.wtf8.specs.Surrogates.{lossy_points};
 
-use crate::lanes::masks::first_set;
+use crate::lanes::masks::first_set_lane;
 use std::alloc::Allocator;
 use std::simd::prelude::*;
 
@@ -15,17 +15,17 @@ const REPLACEMENT: [u8; 3] = [0xEF, 0xBF, 0xBD];
 /// The first lane with 0xED in `firsts` and at least 0xA0 in `seconds`, which are the first two bytes of a surrogate.
 #[inline(always)]
 fn block(firsts: u8x32, seconds: u8x32) -> Option<usize>
-    ensures { IsFirstBelow (BeginsInLane firsts seconds) 0 32 result }
+    ensures { IsFirstIn (SurrogateInLane firsts seconds) 0 32 result }
 {
     let begin = firsts.simd_eq(Simd::splat(0xED)) & seconds.simd_ge(Simd::splat(0xA0));
-    first_set(begin.to_bitmask())
+    first_set_lane(begin.to_bitmask())
 }
 
 /// The index of the first surrogate that begins in `at..at + 32`. Reads one byte past that range.
 #[inline(always)]
-fn first_in_block(bytes: &[u8], at: usize) -> Option<usize>
+fn surrogate_in_block(bytes: &[u8], at: usize) -> Option<usize>
     requires { at + 32 < length bytes.now }
-    ensures { IsFirstBelow (SurrogateAt bytes.now) at (at + 32) result }
+    ensures { IsFirstIn (SurrogateAt bytes.now) at (at + 32) result }
 {
     let firsts = Simd::from_slice(&bytes[at..]);
     let seconds = Simd::from_slice(&bytes[at + 1..]);
@@ -43,18 +43,18 @@ pub(crate) fn next_surrogate(bytes: &[u8], from: usize) -> Option<usize>
     if 32 < bytes.len() {
         let end = bytes.len() - 32;
         while at < end {
-            if let Some(found) = first_in_block(bytes, at) {
+            if let Some(found) = surrogate_in_block(bytes, at) {
                 return Some(found);
             }
             at += 32;
         }
     }
-    first_one_by_one(bytes, at)
+    next_surrogate_bytewise(bytes, at)
 }
 
 /// The index of the first surrogate that begins at `from` or after it, byte by byte.
 #[inline(always)]
-fn first_one_by_one(bytes: &[u8], from: usize) -> Option<usize>
+fn next_surrogate_bytewise(bytes: &[u8], from: usize) -> Option<usize>
     ensures { IsFirst (SurrogateAt bytes.now) from result }
 {
     for at in from..bytes.len().saturating_sub(1) {

@@ -8,18 +8,18 @@ ghost use Rattle.wtf8.specs.Form.{IsWellFormed, IsForm, Reads, bytes, encoding};
 ghost use Rattle.wtf8.specs.OneForm.{IsWellFormed-prop, AreScalarTo, AreScalarTo-prop};
 ghost use Rattle.wtf8.specs.Position.{IsBoundary, IsFront};
 ghost use Rattle.wtf8.specs.Surrogates.{AreScalar, lossy_points};
-ghost use Rattle.wtf8.specs.private.FirstPlace.{IsFirst};
+ghost use Rattle.wtf8.specs.private.FirstIndex.{IsFirst};
 ghost use Rattle.wtf8.specs.private.SurrogateSearch.{SurrogateAt};
 ghost use Rattle.wtf8.specs.Unicode.{units, units_of};
 ghost use Rattle.wtf8.specs.UnitPosition.{TruncatesUnits};
 ghost use Rattle.wtf8.specs.View.{view_points, view_units};
 
+use crate::codec::code_point::CodePoint;
+use crate::codec::{encoding, surrogates};
+use crate::from_utf16::transcode;
 use crate::lanes::{copies, search};
-use crate::numbers::code_point::CodePoint;
-use crate::numbers::{encoding, surrogates};
 use crate::strings::view::Wtf8;
 use crate::strings::{concat, unit_positions};
-use crate::units_in::unit_blocks;
 use std::alloc::{AllocError, Allocator};
 use std::marker::Model;
 
@@ -52,7 +52,7 @@ pub struct Wtf8Buf<A: Allocator> {
     /// holds none, and need not be updated when text is appended.
     scalar_end: usize,
     ghost well_formed: { IsWellFormed bytes.items } by { IsWellFormed-prop bytes.items },
-    ghost scalar_front: { AreScalarTo scalar_end well_formed.points } by { AreScalarTo-prop scalar_end well_formed.points },
+    ghost scalar_prefix: { AreScalarTo scalar_end well_formed.points } by { AreScalarTo-prop scalar_end well_formed.points },
 }
 
 impl<A: Allocator> Model for Wtf8Buf<A> {
@@ -78,18 +78,18 @@ impl<A: Allocator> Model for Wtf8Buf<A> {
     } };
 }
 
-/// Returns the `scalar_end` of a new string: `usize::MAX` if `are_all` says that it holds no surrogate, else 0.
-fn end_of_scalars(are_all: bool) -> usize
-    ensures { (c : List ℕ) → (IsTrue are_all → AreScalar c) → AreScalarTo result c }
+/// Returns the `scalar_end` of a new string: `usize::MAX` if `is_known_utf8` says that it holds no surrogate, else 0.
+fn new_scalar_end(is_known_utf8: bool) -> usize
+    ensures { (c : List ℕ) → (IsTrue is_known_utf8 → AreScalar c) → AreScalarTo result c }
 {
-    if are_all {
+    if is_known_utf8 {
         return usize::MAX;
     }
     0
 }
 
 /// Wraps well-formed bytes in which no surrogate begins before `scalar_end`.
-fn with_scalar_front<A: Allocator>(bytes: Vec<u8, A>, scalar_end: usize) -> Wtf8Buf<A>
+fn with_scalar_end<A: Allocator>(bytes: Vec<u8, A>, scalar_end: usize) -> Wtf8Buf<A>
     requires well_formed { IsWellFormed bytes.items }
     requires scalar { (h : IsWellFormed bytes.items) → AreScalarTo scalar_end h.points }
     ensures bytes { result.bytes ≡ bytes.items }
@@ -107,13 +107,13 @@ fn from_well_formed<A: Allocator>(bytes: Vec<u8, A>, is_known_utf8: bool) -> Wtf
     ensures units { (h : IsWellFormed bytes.items) → result.units ≡ units h.points }
     ensures capacity { result.capacity ≡ vec_capacity bytes }
 {
-    with_scalar_front(bytes, end_of_scalars(is_known_utf8))
+    with_scalar_end(bytes, new_scalar_end(is_known_utf8))
 }
 
 /// Returns the `scalar_end` after `other` is appended to `len` bytes: unchanged if `other` is empty, else at most
 /// `len`, since `other` is not searched.
 #[inline(always)]
-fn scalar_end_with(scalar_end: usize, len: usize, other: Wtf8<'_>) -> usize
+fn scalar_end_after_push(scalar_end: usize, len: usize, other: Wtf8<'_>) -> usize
     ensures order { result ≤ scalar_end }
     ensures scalar { len < result → AreScalar (view_points other.entry) }
 {
@@ -126,7 +126,7 @@ fn scalar_end_with(scalar_end: usize, len: usize, other: Wtf8<'_>) -> usize
 /// Returns the `scalar_end` after a truncation to `len` bytes: `usize::MAX` if these are known to hold no surrogate,
 /// else unchanged.
 #[inline(always)]
-fn scalar_end_of_front(scalar_end: usize, len: usize) -> usize
+fn scalar_end_after_truncate(scalar_end: usize, len: usize) -> usize
     ensures { (c : List ℕ) → length (bytes c) ≡ len → AreScalarTo scalar_end c → AreScalarTo result c }
 {
     if len <= scalar_end {
@@ -170,7 +170,7 @@ impl<A: Allocator> Wtf8Buf<A> {
         ensures scalar { IfOk result (λ b. AreScalar b.form.points) }
         ensures empty { value.now ≡ [] → IsOk result }
     {
-        let bytes = copies::copied(alloc, value.as_bytes())?;
+        let bytes = copies::to_vec_in(alloc, value.as_bytes())?;
         Ok(from_well_formed(bytes, true))
     }
 
@@ -193,7 +193,7 @@ impl<A: Allocator> Wtf8Buf<A> {
         ensures empty { v.now ≡ [] → IsOk result }
     {
         let mut bytes = Vec::with_capacity(alloc, v.len())?;
-        let is_known_utf8 = unit_blocks::append_form(&mut bytes, v)?;
+        let is_known_utf8 = transcode::append_utf16(&mut bytes, v)?;
         Ok(from_well_formed(bytes, is_known_utf8))
     }
 
@@ -206,8 +206,8 @@ impl<A: Allocator> Wtf8Buf<A> {
         ensures bytes { IfOk result (λ b. b.bytes ≡ self.now.bytes) }
     {
         let alloc = self.bytes.allocator().clone()?;
-        let bytes = copies::copied(alloc, self.bytes.as_slice())?;
-        Ok(with_scalar_front(bytes, self.scalar_end))
+        let bytes = copies::to_vec_in(alloc, self.bytes.as_slice())?;
+        Ok(with_scalar_end(bytes, self.scalar_end))
     }
 
     /// Reserves capacity for at least `additional` more bytes, and does not allocate if there is enough. The units and
@@ -219,7 +219,7 @@ impl<A: Allocator> Wtf8Buf<A> {
         ensures room { length self.old.bytes + additional ≤ self.old.capacity → IsOk result }
         ensures capacity { self.old.capacity ≤ self.new.capacity }
     {
-        encoding::reserve(&mut self.bytes, additional)
+        encoding::reserve_with_known_len(&mut self.bytes, additional)
     }
 
     /// Releases spare capacity if the allocator agrees, else keeps it. An empty string releases all of it. The units
@@ -290,7 +290,7 @@ impl<A: Allocator> Wtf8Buf<A> {
 
     /// Appends a character. If memory is refused, the string is unchanged.
     #[inline(always)]
-    #[tactic(auto, using(crate::proofs::lemmas::numbers::Encoding::encoding_one))]
+    #[tactic(auto, using(crate::proofs::lemmas::codec::Encoding::encoding_one))]
     pub fn push_char(&mut self, c: char) -> Result<(), AllocError>
         ensures ok { OnOk result (AppendsUnits self.old (units_of c) self.new) }
         ensures kept { OnErr result (KeepsContents self.old self.new) }
@@ -371,9 +371,9 @@ impl<A: Allocator> Wtf8Buf<A> {
         ensures nothing { other.entry.bytes.now ≡ [] → KeepsContents self.old self.new }
     {
         // A string without surrogates has no lead at its end.
-        let is_apart = self.is_known_utf8();
-        self.scalar_end = scalar_end_with(self.scalar_end, self.bytes.len(), other);
-        concat::push_view(&mut self.bytes, other, is_apart)
+        let forms_no_pair = self.is_known_utf8();
+        self.scalar_end = scalar_end_after_push(self.scalar_end, self.bytes.len(), other);
+        concat::push_view(&mut self.bytes, other, forms_no_pair)
     }
 
     /// Shortens the string to `new_len` bytes, which must be a code point boundary (`is_code_point_boundary` of the
@@ -383,7 +383,7 @@ impl<A: Allocator> Wtf8Buf<A> {
         ensures units { IsFront self.old.units new_len self.new.units }
         ensures bytes { self.new.bytes ≡ take new_len self.old.bytes }
     {
-        self.scalar_end = scalar_end_of_front(self.scalar_end, new_len);
+        self.scalar_end = scalar_end_after_truncate(self.scalar_end, new_len);
         self.bytes.truncate(new_len)
     }
 
@@ -413,7 +413,7 @@ impl<A: Allocator> Wtf8Buf<A> {
     pub(crate) fn try_truncate_units(&mut self, n: usize) -> bool
         ensures { TruncatesUnits self.old.units n self.new.units (if result then 0 else 1) }
     {
-        let Some(cut) = unit_positions::cut(self.as_wtf8(), n) else {
+        let Some(cut) = unit_positions::find_cut(self.as_wtf8(), n) else {
             return false;
         };
         match cut.divided {

@@ -3,7 +3,7 @@ ghost use Rattle.std.specs.List.{All};
 ghost use Rattle.std.specs.Prelude.{◌≡◌, ℕ, List, [], Some, ◌+◌, ◌≤◌, length, take, IfOk, OnOk, OnErr, IfErr, IsOk, IfSome, if◌then◌else◌};
 ghost use Rattle.wtf8.specs.Appending.{AppendsUnits, HasRoomFor, Outgrows};
 
-use crate::numbers::code_point::CodePoint;
+use crate::codec::code_point::CodePoint;
 use crate::strings::buf::Wtf8Buf;
 use crate::strings::view::Wtf8;
 use std::alloc::{AllocError, Allocator};

@@ -5,9 +5,9 @@ ghost use Rattle.wtf8.specs.CodePoint.{numbers};
 ghost use Rattle.wtf8.specs.Appending.{AppendsPoints, HasRoomFor};
 ghost use Rattle.wtf8.specs.Form.{IsForm};
 ghost use Rattle.wtf8.specs.Unicode.{units};
-ghost use Rattle.wtf8.specs.declared.numbers.code_point.CodePoint.{CodePoint};
+ghost use Rattle.wtf8.specs.declared.codec.code_point.CodePoint.{CodePoint};
 
-use crate::numbers::code_point::CodePoint;
+use crate::codec::code_point::CodePoint;
 use crate::strings::buf::Wtf8Buf;
 use std::alloc::{AllocError, Allocator};
 

@@ -5,24 +5,28 @@ ghost use Rattle.std.specs.Str.{chars};
 ghost use Rattle.wtf8.specs.CodePoint.{number};
 ghost use Rattle.wtf8.specs.Concatenation.{MeetsAsPair};
 ghost use Rattle.wtf8.specs.Form.{IsWellFormed, encoding};
-ghost use Rattle.wtf8.specs.private.Gains.{GainsUnits, Becomes, Gains};
+ghost use Rattle.wtf8.specs.private.EncodedBytes.{ExtendsForm, BecomesOrKeeps, ExtendsFormOrKeeps};
 ghost use Rattle.wtf8.specs.Unicode.{units, units_of, pair, IsSurrogate, IsLead, IsTrail};
 ghost use Rattle.wtf8.specs.View.{view_points, view_units};
 
-use crate::numbers::code_point::CodePoint;
-use crate::numbers::{encoding, surrogates};
+use crate::codec::code_point::CodePoint;
+use crate::codec::{encoding, surrogates};
 use crate::strings::view::Wtf8;
 use std::alloc::{AllocError, Allocator};
 
 /// Completes the lead surrogate at the end of `bytes` with `trail`: reserves the fourth byte of the pair's encoding,
 /// then overwrites the lead's three. If memory is refused, `bytes` is unchanged.
-fn join<A: Allocator>(bytes: &mut Vec<u8, A>, lead: u32, trail: u32) -> Result<(), AllocError>
+fn complete_pair<A: Allocator>(
+    bytes: &mut Vec<u8, A>,
+    lead: u32,
+    trail: u32,
+) -> Result<(), AllocError>
     requires lead { IsLead lead }
     requires trail { IsTrail trail }
     requires three { 3 ≤ length bytes.old.items }
-    ensures { Becomes bytes.old (take (length bytes.old.items - 3) bytes.old.items ++ encoding (pair lead trail)) bytes.new result }
+    ensures { BecomesOrKeeps bytes.old (take (length bytes.old.items - 3) bytes.old.items ++ encoding (pair lead trail)) bytes.new result }
 {
-    let joined = encoding::four_bytes(surrogates::joined(lead, trail));
+    let joined = encoding::four_bytes(surrogates::code_point_of_pair(lead, trail));
     let start = bytes.len() - 3;
     bytes.reserve(1)?;
     bytes[start..start + 3].copy_from_slice(&joined[..3]);
@@ -31,7 +35,7 @@ fn join<A: Allocator>(bytes: &mut Vec<u8, A>, lead: u32, trail: u32) -> Result<(
 }
 
 /// Returns the lead surrogate that `code_point` completes, if it is a trail surrogate and a lead ends the string.
-fn joining_lead(view: Wtf8<'_>, code_point: CodePoint) -> Option<u32>
+fn lead_to_complete(view: Wtf8<'_>, code_point: CodePoint) -> Option<u32>
     ensures trail { OnSome result (IsTrail (number code_point)) }
     ensures lead { IfSome result (λ l. IsLead l) }
     ensures last { IfSome result (λ l. (f : List ℕ) × (view_points view.entry ≡ f ++ l ∷ [])) }
@@ -46,7 +50,7 @@ fn joining_lead(view: Wtf8<'_>, code_point: CodePoint) -> Option<u32>
 
 /// Appends a code point that completes no pair: it is no trail, or no lead ends `bytes`. `spare` is the spare capacity.
 #[inline(always)]
-pub(crate) fn push_apart<A: Allocator>(
+pub(crate) fn push_unpaired<A: Allocator>(
     bytes: &mut Vec<u8, A>,
     spare: usize,
     code_point: CodePoint,
@@ -54,10 +58,10 @@ pub(crate) fn push_apart<A: Allocator>(
     requires spare { vec_len bytes.old + spare ≡ vec_capacity bytes.old }
     requires well_formed { IsWellFormed bytes.old.items }
     requires apart { (h : IsWellFormed bytes.old.items) → ¬ (MeetsAsPair h.points (number code_point ∷ [])) }
-    ensures units { GainsUnits bytes.old.items (bytes.old.items ++ encoding (number code_point)) (units_of (number code_point)) }
-    ensures bytes { Becomes bytes.old (bytes.old.items ++ encoding (number code_point)) bytes.new result }
+    ensures units { ExtendsForm bytes.old.items (bytes.old.items ++ encoding (number code_point)) (units_of (number code_point)) }
+    ensures bytes { BecomesOrKeeps bytes.old (bytes.old.items ++ encoding (number code_point)) bytes.new result }
 {
-    encoding::append_into(bytes, spare, code_point)
+    encoding::append_with_spare(bytes, spare, code_point)
 }
 
 /// Appends a surrogate to well-formed bytes; a trail completes a lead at their end.
@@ -67,14 +71,14 @@ pub(crate) fn push_surrogate<A: Allocator>(
     code_point: CodePoint,
 ) -> Result<(), AllocError>
     requires { IsWellFormed bytes.old.items }
-    ensures { Gains bytes.old (units_of (number code_point)) bytes.new result }
+    ensures { ExtendsFormOrKeeps bytes.old (units_of (number code_point)) bytes.new result }
 {
     let view = Wtf8::from_well_formed(bytes.as_slice());
-    match joining_lead(view, code_point) {
-        Some(lead) => join(bytes, lead, code_point.to_u32()),
+    match lead_to_complete(view, code_point) {
+        Some(lead) => complete_pair(bytes, lead, code_point.to_u32()),
         None => {
-            let spare = encoding::spare_room(bytes);
-            push_apart(bytes, spare, code_point)
+            let spare = encoding::spare_capacity(bytes);
+            push_unpaired(bytes, spare, code_point)
         }
     }
 }
@@ -88,44 +92,44 @@ pub(crate) fn push_point<A: Allocator>(
     code_point: CodePoint,
 ) -> Result<(), AllocError>
     requires { IsWellFormed bytes.old.items }
-    ensures gains { Gains bytes.old (units_of (number code_point)) bytes.new result }
+    ensures gains { ExtendsFormOrKeeps bytes.old (units_of (number code_point)) bytes.new result }
     ensures known { scalar_end.new ≤ scalar_end.old }
     ensures scalar { length bytes.old.items < scalar_end.new → ¬ (IsSurrogate (number code_point)) }
 {
     // The spare capacity is computed before the match, so that a loop can keep the length in a register.
-    let spare = encoding::spare_room(bytes);
+    let spare = encoding::spare_capacity(bytes);
     // Each arm has its own call, in which the compiler knows the encoded length.
     match code_point.to_u32() {
-        0..=0x7F => push_apart(bytes, spare, code_point),
-        0x80..=0x7FF => push_apart(bytes, spare, code_point),
-        0x800..=0xD7FF => push_apart(bytes, spare, code_point),
-        0x10000.. => push_apart(bytes, spare, code_point),
+        0..=0x7F => push_unpaired(bytes, spare, code_point),
+        0x80..=0x7FF => push_unpaired(bytes, spare, code_point),
+        0x800..=0xD7FF => push_unpaired(bytes, spare, code_point),
+        0x10000.. => push_unpaired(bytes, spare, code_point),
         0xD800..=0xDFFF => {
             *scalar_end = (*scalar_end).min(bytes.len());
             push_surrogate(bytes, code_point)
         }
-        _ => push_apart(bytes, spare, code_point),
+        _ => push_unpaired(bytes, spare, code_point),
     }
 }
 
 /// Appends `other` unchanged, without a test for a pair. If memory is refused, `bytes` is unchanged.
 fn append_bytes<A: Allocator>(bytes: &mut Vec<u8, A>, other: &[u8]) -> Result<(), AllocError>
-    ensures { Becomes bytes.old (bytes.old.items ++ other.now) bytes.new result }
+    ensures { BecomesOrKeeps bytes.old (bytes.old.items ++ other.now) bytes.new result }
 {
     bytes.extend_from_slice(other)
 }
 
 /// Returns the lead surrogate that ends `front` and the trail surrogate that begins `back`, if both are there.
-/// `is_apart` says that they are not both there, which skips the tests.
+/// `forms_no_pair` says that they are not both there, which skips the tests.
 #[inline(always)]
-fn meeting_pair(front: Wtf8<'_>, back: Wtf8<'_>, is_apart: bool) -> Option<(u32, u32)>
-    requires { IsTrue is_apart → ¬ (MeetsAsPair (view_points front) (view_points back)) }
+fn pair_at_seam(front: Wtf8<'_>, back: Wtf8<'_>, forms_no_pair: bool) -> Option<(u32, u32)>
+    requires { IsTrue forms_no_pair → ¬ (MeetsAsPair (view_points front) (view_points back)) }
     ensures pair { IfSome result (λ p. IsLead p.0 × IsTrail p.1) }
     ensures last { IfSome result (λ p. (f : List ℕ) × (view_points front.entry ≡ f ++ p.0 ∷ [])) }
     ensures first { IfSome result (λ p. (r : List ℕ) × (view_points back.entry ≡ p.1 ∷ r)) }
     ensures none { IfNone result (¬ (MeetsAsPair (view_points front.entry) (view_points back.entry))) }
 {
-    if is_apart {
+    if forms_no_pair {
         return None;
     }
     let trail = back.initial_trail_surrogate()?;
@@ -136,7 +140,7 @@ fn meeting_pair(front: Wtf8<'_>, back: Wtf8<'_>, is_apart: bool) -> Option<(u32,
 /// Appends `other`, whose first three bytes are the trail surrogate that completes the lead at the end. Requests all
 /// memory before it overwrites the lead: if it is refused, `bytes` is unchanged.
 #[inline(never)]
-fn join_bytes<A: Allocator>(
+fn append_completing_pair<A: Allocator>(
     bytes: &mut Vec<u8, A>,
     lead: u32,
     trail: u32,
@@ -146,9 +150,9 @@ fn join_bytes<A: Allocator>(
     requires trail { IsTrail trail }
     requires three { 3 ≤ length bytes.old.items }
     requires begins { (3 ≤ length other.now) × (slice_index other.now 2 ≡ 0x80 + trail % 64) }
-    ensures { Becomes bytes.old ((take (length bytes.old.items - 3) bytes.old.items ++ encoding (pair lead trail)) ++ drop 3 other.now) bytes.new result }
+    ensures { BecomesOrKeeps bytes.old ((take (length bytes.old.items - 3) bytes.old.items ++ encoding (pair lead trail)) ++ drop 3 other.now) bytes.new result }
 {
-    let joined = encoding::four_bytes(surrogates::joined(lead, trail));
+    let joined = encoding::four_bytes(surrogates::code_point_of_pair(lead, trail));
     let start = bytes.len() - 3;
     // The pair's last byte is that of the trail, so it is appended with the bytes after it.
     let (_, added) = other.split_at(2);
@@ -157,21 +161,21 @@ fn join_bytes<A: Allocator>(
     Ok(())
 }
 
-/// Appends a view; a lead at the end and a trail at its front become one code point. `is_apart` says that these are not
-/// both there, which skips the tests.
+/// Appends a view; a lead at the end and a trail at its front become one code point. `forms_no_pair` says that these
+/// are not both there, which skips the tests.
 #[inline(always)]
 pub(crate) fn push_view<A: Allocator>(
     bytes: &mut Vec<u8, A>,
     other: Wtf8<'_>,
-    is_apart: bool,
+    forms_no_pair: bool,
 ) -> Result<(), AllocError>
     requires well_formed { IsWellFormed bytes.old.items }
-    requires apart { IsTrue is_apart → (h : IsWellFormed bytes.old.items) → ¬ (MeetsAsPair h.points (view_points other)) }
-    ensures { Gains bytes.old (view_units other.entry) bytes.new result }
+    requires apart { IsTrue forms_no_pair → (h : IsWellFormed bytes.old.items) → ¬ (MeetsAsPair h.points (view_points other)) }
+    ensures { ExtendsFormOrKeeps bytes.old (view_units other.entry) bytes.new result }
 {
     let view = Wtf8::from_well_formed(bytes.as_slice());
-    match meeting_pair(view, other, is_apart) {
-        Some((lead, trail)) => join_bytes(bytes, lead, trail, other.bytes),
+    match pair_at_seam(view, other, forms_no_pair) {
+        Some((lead, trail)) => append_completing_pair(bytes, lead, trail, other.bytes),
         None => append_bytes(bytes, other.bytes),
     }
 }
@@ -180,18 +184,18 @@ pub(crate) fn push_view<A: Allocator>(
 #[inline(always)]
 pub(crate) fn push_scalar<A: Allocator>(bytes: &mut Vec<u8, A>, c: char) -> Result<(), AllocError>
     requires { IsWellFormed bytes.old.items }
-    ensures units { GainsUnits bytes.old.items (bytes.old.items ++ encoding c) (units_of c) }
-    ensures bytes { Becomes bytes.old (bytes.old.items ++ encoding c) bytes.new result }
+    ensures units { ExtendsForm bytes.old.items (bytes.old.items ++ encoding c) (units_of c) }
+    ensures bytes { BecomesOrKeeps bytes.old (bytes.old.items ++ encoding c) bytes.new result }
 {
-    let spare = encoding::spare_room(bytes);
-    push_apart(bytes, spare, CodePoint::from_u32_unchecked(u32::from(c)))
+    let spare = encoding::spare_capacity(bytes);
+    push_unpaired(bytes, spare, CodePoint::from_u32_unchecked(u32::from(c)))
 }
 
 /// Appends a text, which completes no pair.
 pub(crate) fn push_text<A: Allocator>(bytes: &mut Vec<u8, A>, other: &str) -> Result<(), AllocError>
     requires { IsWellFormed bytes.old.items }
-    ensures units { GainsUnits bytes.old.items (bytes.old.items ++ other.now) (units (chars other.now)) }
-    ensures bytes { Becomes bytes.old (bytes.old.items ++ other.now) bytes.new result }
+    ensures units { ExtendsForm bytes.old.items (bytes.old.items ++ other.now) (units (chars other.now)) }
+    ensures bytes { BecomesOrKeeps bytes.old (bytes.old.items ++ other.now) bytes.new result }
     ensures empty { other.now ≡ [] → IsOk result }
 {
     append_bytes(bytes, other.as_bytes())

@@ -2,10 +2,10 @@
 ghost use Rattle.std.specs.Prelude.{◌≤◌, ◌<◌, length, drop};
 ghost use Rattle.wtf8.specs.Form.{IsWellFormed};
 ghost use Rattle.wtf8.specs.OneForm.{IsWellFormed-prop};
-ghost use Rattle.wtf8.specs.private.UnitSteps.{behind_held, StepsUnit};
+ghost use Rattle.wtf8.specs.private.UnitIterator.{after_held_trail, StepsUnit};
 
-use crate::numbers::code_point::CodePoint;
-use crate::numbers::encoding;
+use crate::codec::code_point::CodePoint;
+use crate::codec::encoding;
 use crate::strings::view::Wtf8;
 use std::alloc::AllocError;
 use std::marker::Model;
@@ -50,15 +50,15 @@ impl<'a> Wtf8CodePoints<'a> {
 
     /// The next code point, or `None` at the end.
     #[inline(always)]
-    fn give_next(&mut self) -> Option<CodePoint>
+    fn next_point(&mut self) -> Option<CodePoint>
         ensures { YieldsFirstBy number (λ points. points) self.old result self.new }
     {
         if self.at == self.bytes.len() {
             return None;
         }
         let (_, rest) = self.bytes.split_at(self.at);
-        let (code_point, behind) = encoding::read(rest, self.at);
-        self.at = behind;
+        let (code_point, after) = encoding::read(rest, self.at);
+        self.at = after;
         Some(code_point)
     }
 }
@@ -77,7 +77,7 @@ impl<'a> Iterator for Wtf8CodePoints<'a> {
     ghost remaining = { item_count (λ points. points) };
 
     fn next(&mut self) -> Option<CodePoint> {
-        self.give_next()
+        self.next_point()
     }
 
     /// At least a quarter of the bytes left, rounded up, and at most all: a code point takes one to four bytes.
@@ -112,8 +112,8 @@ impl<'a> Clone for Wtf8CodePoints<'a> {
 #[inline(always)]
 fn read_unit(bytes: &[u8], position: &mut usize) -> u16
     requires inside { position.old < length bytes.now }
-    requires behind { IsWellFormed (behind_held (drop position.old bytes.now)) }
-    ensures { (h : IsWellFormed (behind_held (drop position.old bytes.now))) → StepsUnit bytes.now position.old h result position.new }
+    requires after { IsWellFormed (after_held_trail (drop position.old bytes.now)) }
+    ensures { (h : IsWellFormed (after_held_trail (drop position.old bytes.now))) → StepsUnit bytes.now position.old h result position.new }
 {
     let at = *position;
     let (_, rest) = bytes.split_at(at);
@@ -155,17 +155,17 @@ pub struct IllFormedUtf16CodeUnits<'a> {
     at: usize,
 
     ghost within: { at ≤ length bytes.now },
-    ghost behind: { IsWellFormed (behind_held (drop at bytes.now)) } by { IsWellFormed-prop (behind_held (drop at bytes.now)) },
+    ghost after: { IsWellFormed (after_held_trail (drop at bytes.now)) } by { IsWellFormed-prop (after_held_trail (drop at bytes.now)) },
 }
 
 impl<'a> Model for IllFormedUtf16CodeUnits<'a> {
     ghost use Rattle.std.specs.Prelude.{drop};
     ghost use Rattle.wtf8.specs.Units.{Unread};
-    ghost use Rattle.wtf8.specs.private.UnitSteps.{held_in};
+    ghost use Rattle.wtf8.specs.private.UnitIterator.{held_trail};
 
     ghost Value = { Unread };
 
-    ghost view = { λ s. record { held = held_in (drop s.at s.bytes.now); points = s.behind.points } };
+    ghost view = { λ s. record { held = held_trail (drop s.at s.bytes.now); points = s.after.points } };
 }
 
 impl<'a> IllFormedUtf16CodeUnits<'a> {
@@ -174,7 +174,7 @@ impl<'a> IllFormedUtf16CodeUnits<'a> {
     ghost use Rattle.wtf8.specs.Form.{bytes};
     ghost use Rattle.wtf8.specs.Unicode.{units};
     ghost use Rattle.wtf8.specs.Units.{unread_units};
-    ghost use Rattle.wtf8.specs.private.UnitSteps.{unread_after};
+    ghost use Rattle.wtf8.specs.private.UnitIterator.{unread_after};
     ghost use Rattle.wtf8.specs.View.{view_points};
 
     pub(crate) fn new(view: Wtf8<'a>) -> IllFormedUtf16CodeUnits<'a>
@@ -189,7 +189,7 @@ impl<'a> IllFormedUtf16CodeUnits<'a> {
 
     /// Returns the held trail, if any, else the first unit of the next code point; a pair's trail is then held.
     #[inline(always)]
-    fn give_unit(&mut self) -> Option<u16>
+    fn next_unit(&mut self) -> Option<u16>
         ensures first { YieldsFirst unread_units self.old result self.new }
         ensures left { self.new ≡ unread_after self.old }
     {
@@ -238,7 +238,7 @@ impl<'a> Iterator for IllFormedUtf16CodeUnits<'a> {
 
     /// The next unit, or `None` at the end. After the lead of a pair its trail is held back until the next call.
     fn next(&mut self) -> Option<u16> {
-        self.give_unit()
+        self.next_unit()
     }
 
     /// At least a quarter of the bytes left, rounded up, and at most twice their number, both plus 1 if a trail is

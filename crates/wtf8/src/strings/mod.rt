@@ -4,7 +4,7 @@ pub(crate) mod build;
 pub(crate) mod collect;
 pub(crate) mod concat;
 pub(crate) mod iters;
+pub(crate) mod to_utf16;
 pub(crate) mod unit_marks;
 pub(crate) mod unit_positions;
-pub(crate) mod units_out;
 pub(crate) mod view;

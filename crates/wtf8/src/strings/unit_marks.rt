@@ -4,7 +4,7 @@ ghost use Rattle.wtf8.specs.UnitMark.{IsMarkOf, IsUndivided};
 ghost use Rattle.wtf8.specs.UnitPosition.{DividesPair};
 ghost use Rattle.wtf8.specs.View.{view_units};
 
-use crate::strings::unit_positions::cut;
+use crate::strings::unit_positions::find_cut;
 use crate::strings::view::Wtf8;
 
 /// A byte position and the number of code units before it. It is a mark of a string if the bytes before the position
@@ -52,7 +52,7 @@ impl<'a> Wtf8<'a> {
         ensures last { IsUndivided (view_units self.now) units result.units }
         ensures exact { ¬ (DividesPair (view_units self.now) units) → result.units ≡ units }
     {
-        let Some(cut) = cut(self.slice_from_mark(from), units - from.units) else {
+        let Some(cut) = find_cut(self.slice_from_mark(from), units - from.units) else {
             return from;
         };
         prove!(self.len() <= usize::MAX);

@@ -3,52 +3,52 @@ ghost use Rattle.std.specs.Prelude.{◌≡◌, ◌++◌, ◌+◌, ◌-◌, ◌*�
 ghost use Rattle.std.specs.Option.{option_to_list};
 ghost use Rattle.wtf8.specs.Form.{encoding};
 ghost use Rattle.wtf8.specs.Unicode.{IsLead};
-ghost use Rattle.wtf8.specs.private.UnitCounts.{units_begun, all_units_begun, HasLane, IsCounted, IsPlaceOfUnit, CutsUnits};
+ghost use Rattle.wtf8.specs.private.UnitCounts.{utf16_len, sum_utf16_len, HasLaneAtLeast, IsCursor, IsCursorOfUnit, CutsUnits};
 ghost use Rattle.wtf8.specs.UnitPosition.{units_of_slice, DividesPair};
 ghost use Rattle.wtf8.specs.View.{view_points, view_units};
 
+use crate::codec::encoding;
+use crate::codec::surrogates::{lead_of, trail_of};
 use crate::lanes::{BLOCK, VECTOR};
-use crate::numbers::encoding;
-use crate::numbers::surrogates::{lead_of, trail_of};
 use crate::strings::view::Wtf8;
 use std::alloc::Allocator;
 use std::simd::prelude::*;
 
-/// Bytes in a block when all units of a string are counted, after the groups of `ADDED` blocks.
+/// Bytes in a block when all units of a string are counted, after the groups of `SUMMED_BLOCKS` blocks.
 const HALF_BLOCK: usize = BLOCK / 2;
 
 /// Bytes in the smallest block that a counting loop takes.
 const HALF_VECTOR: usize = VECTOR / 2;
 
 /// Blocks that are added lane by lane before one horizontal sum: a lane of each is at most 2, so a `u8` lane suffices.
-const ADDED: usize = 8;
+const SUMMED_BLOCKS: usize = 8;
 
-/// The fewest units that can begin in `ADDED` blocks: a unit takes at most three bytes.
-const LEAST_ADDED: usize = ADDED * BLOCK / 3;
+/// The fewest units that can begin in `SUMMED_BLOCKS` blocks: a unit takes at most three bytes.
+const LEAST_UNITS_SUMMED: usize = SUMMED_BLOCKS * BLOCK / 3;
 
 /// If the unit searched for is fewer than this many units ahead, it is probably among the next `VECTOR` bytes, and
 /// counting these does not pay. For `HALF_VECTOR` bytes the limit is half of this.
-const LIKELY: usize = 11;
+const WORTH_COUNTING: usize = 11;
 
 /// A byte index, which need not be a boundary, and the number of units of the code points that begin before it.
 #[derive(Clone, Copy)]
-struct Place {
+struct UnitCursor {
     at: usize,
     units_before: usize,
 }
 
 /// Returns the number of units of the code point that `byte` begins; 0 for a continuation byte.
-#[tactic(auto, unfolding(crate::specs::private::UnitCounts::units_begun))]
-fn units_begun_by(byte: u8) -> usize
-    ensures { result ≡ units_begun byte }
+#[tactic(auto, unfolding(crate::specs::private::UnitCounts::utf16_len))]
+fn utf16_len_of_byte(byte: u8) -> usize
+    ensures { result ≡ utf16_len byte }
 {
     usize::from(encoding::begins_code_point(byte)) + usize::from(0xF0 <= byte)
 }
 
 /// Returns for each byte the number of units of the code point that it begins; 0 for a continuation byte.
 #[inline(always)]
-fn units_begun_by_each<const N: usize>(bytes: Simd<u8, N>) -> Simd<u8, N>
-    ensures { result ≡ map units_begun bytes.entry }
+fn utf16_len_of_each<const N: usize>(bytes: Simd<u8, N>) -> Simd<u8, N>
+    ensures { result ≡ map utf16_len bytes.entry }
 {
     let zero = Simd::<u8, N>::splat(0);
     let one = Simd::<u8, N>::splat(1);
@@ -59,49 +59,50 @@ fn units_begun_by_each<const N: usize>(bytes: Simd<u8, N>) -> Simd<u8, N>
 
 /// Returns the number of units of the code points that begin in a block: at most 2 per lane, so a `u8` sum suffices.
 #[inline(always)]
-fn units_begun_in_block<const N: usize>(bytes: Simd<u8, N>) -> usize
+fn utf16_len_of_block<const N: usize>(bytes: Simd<u8, N>) -> usize
     requires { N ≤ u64.BITS }
-    ensures { result ≡ all_units_begun bytes.entry }
+    ensures { result ≡ sum_utf16_len bytes.entry }
 {
-    usize::from(units_begun_by_each(bytes).strict_reduce_sum())
+    usize::from(utf16_len_of_each(bytes).strict_reduce_sum())
 }
 
-/// Returns the number of units of the code points that begin in the `ADDED` blocks from `at` on, by one horizontal sum.
+/// Returns the number of units of the code points that begin in the `SUMMED_BLOCKS` blocks from `at` on, by one
+/// horizontal sum.
 #[inline(always)]
-fn units_begun_in_blocks(bytes: &[u8], at: usize) -> usize
-    requires { at + ADDED * BLOCK ≤ length bytes.now }
-    ensures { result ≡ all_units_begun (take (ADDED * BLOCK) (drop at bytes.now)) }
+fn utf16_len_of_blocks(bytes: &[u8], at: usize) -> usize
+    requires { at + SUMMED_BLOCKS * BLOCK ≤ length bytes.now }
+    ensures { result ≡ sum_utf16_len (take (SUMMED_BLOCKS * BLOCK) (drop at bytes.now)) }
 {
     let mut lanes = Simd::<u8, BLOCK>::splat(0);
-    for block in 0..ADDED {
+    for block in 0..SUMMED_BLOCKS {
         let bytes = Simd::<u8, BLOCK>::from_slice(&bytes[at + block * BLOCK..]);
-        lanes = lanes.strict_add(units_begun_by_each(bytes));
+        lanes = lanes.strict_add(utf16_len_of_each(bytes));
     }
     usize::from(lanes.cast::<u16>().strict_reduce_sum())
 }
 
 /// Finds the code point that holds unit `unit` (counted from 0), byte by byte from `from`; the end if there is none.
-fn find_unit_from(bytes: &[u8], unit: usize, from: Place) -> Place
-    requires { IsCounted bytes.now unit from }
-    ensures { IsPlaceOfUnit bytes.now unit result }
+fn find_unit_from(bytes: &[u8], unit: usize, from: UnitCursor) -> UnitCursor
+    requires { IsCursor bytes.now unit from }
+    ensures { IsCursorOfUnit bytes.now unit result }
 {
     let mut units_before = from.units_before;
     for at in from.at..bytes.len() {
         let byte = bytes[at];
         if byte < 0x80 {
             if units_before == unit {
-                return Place { at, units_before };
+                return UnitCursor { at, units_before };
             }
             units_before += 1;
         } else if 0xC0 <= byte {
-            let more = units_begun_by(byte);
+            let more = utf16_len_of_byte(byte);
             if unit - units_before < more {
-                return Place { at, units_before };
+                return UnitCursor { at, units_before };
             }
             units_before += more;
         }
     }
-    Place {
+    UnitCursor {
         at: bytes.len(),
         units_before,
     }
@@ -110,21 +111,21 @@ fn find_unit_from(bytes: &[u8], unit: usize, from: Place) -> Place
 /// Moves `from` past the next `N` bytes, or returns `None` if fewer are left or the code point that holds the unit
 /// begins in them.
 #[inline(always)]
-#[tactic(auto, using(crate::proofs::lemmas::strings::Positions::begun_more))]
-fn behind_block<const N: usize>(bytes: &[u8], unit: usize, from: Place) -> Option<Place>
+#[tactic(auto, using(crate::proofs::lemmas::strings::Positions::sum_utf16_len_take_add))]
+fn skip_block<const N: usize>(bytes: &[u8], unit: usize, from: UnitCursor) -> Option<UnitCursor>
     requires lanes { (0 < N) × (N ≤ u64.BITS) }
-    requires counted { IsCounted bytes.now unit from }
-    ensures counted { IfSome result (λ place. IsCounted bytes.now unit place) }
-    ensures further { IfSome result (λ place. from.at < place.at) }
+    requires counted { IsCursor bytes.now unit from }
+    ensures counted { IfSome result (λ cursor. IsCursor bytes.now unit cursor) }
+    ensures further { IfSome result (λ cursor. from.at < cursor.at) }
 {
     if bytes.len() - from.at < N {
         return None;
     }
-    let more = units_begun_in_block(Simd::<u8, N>::from_slice(&bytes[from.at..]));
+    let more = utf16_len_of_block(Simd::<u8, N>::from_slice(&bytes[from.at..]));
     if unit - from.units_before < more {
         return None;
     }
-    Some(Place {
+    Some(UnitCursor {
         at: from.at + N,
         units_before: from.units_before + more,
     })
@@ -133,167 +134,168 @@ fn behind_block<const N: usize>(bytes: &[u8], unit: usize, from: Place) -> Optio
 /// Skips blocks of `N` bytes before the code point that holds the unit, while the unit is at least `least` units ahead:
 /// closer than that it is probably in the next block, which is then not worth counting.
 #[inline(always)]
-fn behind_likely_blocks<const N: usize>(
+fn skip_blocks_while_far<const N: usize>(
     bytes: &[u8],
     unit: usize,
     least: usize,
-    from: Place,
-) -> Place
+    from: UnitCursor,
+) -> UnitCursor
     requires lanes { (0 < N) × (N ≤ u64.BITS) }
-    requires counted { IsCounted bytes.now unit from }
-    ensures { IsCounted bytes.now unit result }
+    requires counted { IsCursor bytes.now unit from }
+    ensures { IsCursor bytes.now unit result }
 {
-    let mut place = from;
-    while least <= unit - place.units_before {
-        let Some(behind) = behind_block::<N>(bytes, unit, place) else {
-            return place;
+    let mut cursor = from;
+    while least <= unit - cursor.units_before {
+        let Some(next) = skip_block::<N>(bytes, unit, cursor) else {
+            return cursor;
         };
-        place = behind;
+        cursor = next;
     }
-    place
+    cursor
 }
 
 /// Whether all lanes are below `least`.
 #[inline(always)]
-fn is_below<const N: usize>(lanes: Simd<u8, N>, least: u8) -> bool
+fn are_all_below<const N: usize>(lanes: Simd<u8, N>, least: u8) -> bool
     requires { N ≤ u64.BITS }
-    ensures { IsTrue result → ¬ (HasLane least lanes.entry) }
+    ensures { IsTrue result → ¬ (HasLaneAtLeast least lanes.entry) }
 {
     lanes.simd_ge(Simd::splat(least)).to_bitmask() == 0
 }
 
 /// Moves `from` to the unit, at most past the next `N` bytes, or returns `None` if fewer are left or not all are ASCII.
 #[inline(always)]
-fn behind_ascii<const N: usize>(bytes: &[u8], unit: usize, from: Place) -> Option<Place>
+fn skip_ascii<const N: usize>(bytes: &[u8], unit: usize, from: UnitCursor) -> Option<UnitCursor>
     requires lanes { N ≤ u64.BITS }
-    requires counted { IsCounted bytes.now unit from }
-    ensures { IfSome result (λ place. IsCounted bytes.now unit place) }
+    requires counted { IsCursor bytes.now unit from }
+    ensures { IfSome result (λ cursor. IsCursor bytes.now unit cursor) }
 {
     if bytes.len() - from.at < N {
         return None;
     }
-    if !is_below(Simd::<u8, N>::from_slice(&bytes[from.at..]), 0x80) {
+    if !are_all_below(Simd::<u8, N>::from_slice(&bytes[from.at..]), 0x80) {
         return None;
     }
     let more = (unit - from.units_before).min(N);
-    Some(Place {
+    Some(UnitCursor {
         at: from.at + more,
         units_before: from.units_before + more,
     })
 }
 
-/// Skips groups of `ADDED` blocks from the start, before the code point that holds the unit, while the unit is at least
-/// `LEAST_ADDED` units ahead.
+/// Skips groups of `SUMMED_BLOCKS` blocks from the start, before the code point that holds the unit, while the unit is
+/// at least `LEAST_UNITS_SUMMED` units ahead.
 #[inline(always)]
-#[tactic(auto, using(crate::proofs::lemmas::strings::Positions::begun_more))]
-fn behind_added_blocks(bytes: &[u8], unit: usize) -> Place
-    ensures { IsCounted bytes.now unit result }
+#[tactic(auto, using(crate::proofs::lemmas::strings::Positions::sum_utf16_len_take_add))]
+fn skip_summed_blocks(bytes: &[u8], unit: usize) -> UnitCursor
+    ensures { IsCursor bytes.now unit result }
 {
     let mut at = 0;
     let mut units_before = 0;
-    while ADDED * BLOCK <= bytes.len() - at && LEAST_ADDED <= unit - units_before {
-        let more = units_begun_in_blocks(bytes, at);
+    while SUMMED_BLOCKS * BLOCK <= bytes.len() - at && LEAST_UNITS_SUMMED <= unit - units_before {
+        let more = utf16_len_of_blocks(bytes, at);
         if unit - units_before < more {
-            return Place { at, units_before };
+            return UnitCursor { at, units_before };
         }
         units_before += more;
-        at += ADDED * BLOCK;
+        at += SUMMED_BLOCKS * BLOCK;
     }
-    Place { at, units_before }
+    UnitCursor { at, units_before }
 }
 
 /// Skips bytes before the unit, in blocks from the start; `find_unit_from` goes on from there.
 #[inline(always)]
-fn behind_blocks(bytes: &[u8], unit: usize) -> Place
-    ensures { IsCounted bytes.now unit result }
+fn skip_blocks(bytes: &[u8], unit: usize) -> UnitCursor
+    ensures { IsCursor bytes.now unit result }
 {
-    let start = Place {
+    let start = UnitCursor {
         at: 0,
         units_before: 0,
     };
     match bytes.len() {
         0..=3 => start,
-        4..=7 => behind_ascii::<4>(bytes, unit, start).unwrap_or(start),
-        8..=15 => behind_ascii::<HALF_VECTOR>(bytes, unit, start).unwrap_or(start),
-        _ => behind_blocks_of_many(bytes, unit),
+        4..=7 => skip_ascii::<4>(bytes, unit, start).unwrap_or(start),
+        8..=15 => skip_ascii::<HALF_VECTOR>(bytes, unit, start).unwrap_or(start),
+        _ => skip_blocks_of_long(bytes, unit),
     }
 }
 
-/// `behind_blocks` for a string of 16 bytes or more. Not inlined, so that the short path stays small.
+/// `skip_blocks` for a string of 16 bytes or more. Not inlined, so that the short path stays small.
 #[inline(never)]
-fn behind_blocks_of_many(bytes: &[u8], unit: usize) -> Place
-    ensures { IsCounted bytes.now unit result }
+fn skip_blocks_of_long(bytes: &[u8], unit: usize) -> UnitCursor
+    ensures { IsCursor bytes.now unit result }
 {
-    let place = behind_added_blocks(bytes, unit);
-    let place = behind_likely_blocks::<BLOCK>(bytes, unit, BLOCK / 3, place);
-    let place = behind_likely_blocks::<VECTOR>(bytes, unit, LIKELY, place);
-    let place = behind_likely_blocks::<HALF_VECTOR>(bytes, unit, LIKELY / 2, place);
-    behind_ascii::<HALF_VECTOR>(bytes, unit, place).unwrap_or(place)
+    let cursor = skip_summed_blocks(bytes, unit);
+    let cursor = skip_blocks_while_far::<BLOCK>(bytes, unit, BLOCK / 3, cursor);
+    let cursor = skip_blocks_while_far::<VECTOR>(bytes, unit, WORTH_COUNTING, cursor);
+    let cursor = skip_blocks_while_far::<HALF_VECTOR>(bytes, unit, WORTH_COUNTING / 2, cursor);
+    skip_ascii::<HALF_VECTOR>(bytes, unit, cursor).unwrap_or(cursor)
 }
 
 /// Finds the code point that holds unit `unit` (counted from 0); the end if there is none.
-fn find_unit(bytes: &[u8], unit: usize) -> Place
-    ensures { IsPlaceOfUnit bytes.now unit result }
+fn find_unit(bytes: &[u8], unit: usize) -> UnitCursor
+    ensures { IsCursorOfUnit bytes.now unit result }
 {
-    find_unit_from(bytes, unit, behind_blocks(bytes, unit))
+    find_unit_from(bytes, unit, skip_blocks(bytes, unit))
 }
 
 /// Returns the number of units of all the bytes, counted byte by byte from `from` on.
-fn count_units_from(bytes: &[u8], from: Place) -> usize
-    requires counted { IsCounted bytes.now usize.MAX from }
-    requires fits { all_units_begun bytes.now < 2 ^ 64 }
-    ensures { result ≡ all_units_begun bytes.now }
+fn count_units_from(bytes: &[u8], from: UnitCursor) -> usize
+    requires counted { IsCursor bytes.now usize.MAX from }
+    requires fits { sum_utf16_len bytes.now < 2 ^ 64 }
+    ensures { result ≡ sum_utf16_len bytes.now }
 {
     let mut units = from.units_before;
     for at in from.at..bytes.len() {
-        units += units_begun_by(bytes[at]);
+        units += utf16_len_of_byte(bytes[at]);
     }
     units
 }
 
 /// Returns the number of units of all the bytes.
 fn count_units(bytes: &[u8]) -> usize
-    requires { all_units_begun bytes.now < 2 ^ 64 }
-    ensures { result ≡ all_units_begun bytes.now }
+    requires { sum_utf16_len bytes.now < 2 ^ 64 }
+    ensures { result ≡ sum_utf16_len bytes.now }
 {
-    let mut place = Place {
+    let mut cursor = UnitCursor {
         at: 0,
         units_before: 0,
     };
     if HALF_BLOCK <= bytes.len() {
-        place = behind_all_blocks(bytes);
+        cursor = skip_all_blocks(bytes);
     }
-    while let Some(behind) = behind_block::<HALF_VECTOR>(bytes, usize::MAX, place) {
-        place = behind;
+    while let Some(next) = skip_block::<HALF_VECTOR>(bytes, usize::MAX, cursor) {
+        cursor = next;
     }
-    let place = behind_block::<4>(bytes, usize::MAX, place).unwrap_or(place);
-    count_units_from(bytes, place)
+    let cursor = skip_block::<4>(bytes, usize::MAX, cursor).unwrap_or(cursor);
+    count_units_from(bytes, cursor)
 }
 
-/// Counts groups of `ADDED` blocks, then blocks of `HALF_BLOCK` bytes. Not inlined, so that the short path stays small.
+/// Counts groups of `SUMMED_BLOCKS` blocks, then blocks of `HALF_BLOCK` bytes. Not inlined, so that the short path
+/// stays small.
 #[inline(never)]
-fn behind_all_blocks(bytes: &[u8]) -> Place
-    requires { all_units_begun bytes.now < 2 ^ 64 }
-    ensures { IsCounted bytes.now usize.MAX result }
+fn skip_all_blocks(bytes: &[u8]) -> UnitCursor
+    requires { sum_utf16_len bytes.now < 2 ^ 64 }
+    ensures { IsCursor bytes.now usize.MAX result }
 {
-    let mut place = behind_added_blocks(bytes, usize::MAX);
-    while let Some(behind) = behind_block::<HALF_BLOCK>(bytes, usize::MAX, place) {
-        place = behind;
+    let mut cursor = skip_summed_blocks(bytes, usize::MAX);
+    while let Some(next) = skip_block::<HALF_BLOCK>(bytes, usize::MAX, cursor) {
+        cursor = next;
     }
-    place
+    cursor
 }
 
 /// Whether a string of `N` to `2 * N` bytes is ASCII, by loads of its first and its last `N` bytes, which may overlap.
 #[inline(always)]
-pub(crate) fn is_ascii<const N: usize>(view: Wtf8<'_>) -> bool
+pub(crate) fn is_ascii_overlapping<const N: usize>(view: Wtf8<'_>) -> bool
     requires lanes { N ≤ u64.BITS }
     requires all { (N ≤ length view.bytes.now) × (length view.bytes.now ≤ 2 * N) }
     ensures { IsTrue result → view_units view.entry ≡ view.entry.bytes.now }
 {
     let bytes = view.bytes;
     let last = bytes.len() - N;
-    is_below(Simd::<u8, N>::from_slice(bytes), 0x80)
-        && is_below(Simd::<u8, N>::from_slice(&bytes[last..]), 0x80)
+    are_all_below(Simd::<u8, N>::from_slice(bytes), 0x80)
+        && are_all_below(Simd::<u8, N>::from_slice(&bytes[last..]), 0x80)
 }
 
 /// The end of the first `n` units of a string: a byte position and, if the last of these units is the lead of a
@@ -307,25 +309,25 @@ pub(crate) struct UnitCut {
 /// Finds the end of the first `n` units of a string, or returns `None` if it has fewer. Counts nothing if `n` exceeds
 /// the length in bytes, which is at least the number of units.
 #[inline(always)]
-pub(crate) fn cut(view: Wtf8<'_>, n: usize) -> Option<UnitCut>
+pub(crate) fn find_cut(view: Wtf8<'_>, n: usize) -> Option<UnitCut>
     ensures some { IfSome result (λ cut. CutsUnits (view_points view.entry) n cut.position cut.divided) }
     ensures none { IfNone result (length (view_units view.entry) < n) }
 {
     if view.bytes.len() < n {
         return None;
     }
-    let place = find_unit(view.bytes, n);
-    if place.units_before == n {
+    let cursor = find_unit(view.bytes, n);
+    if cursor.units_before == n {
         return Some(UnitCut {
-            position: place.at,
+            position: cursor.at,
             divided: None,
         });
     }
-    let Some((code_point, _)) = view.slice_from(place.at).split_first() else {
+    let Some((code_point, _)) = view.slice_from(cursor.at).split_first() else {
         return None;
     };
     Some(UnitCut {
-        position: place.at,
+        position: cursor.at,
         divided: Some(code_point.to_u32()),
     })
 }
@@ -360,7 +362,7 @@ fn first_unit(view: Wtf8<'_>) -> Option<u16>
 fn unit_by_cut(view: Wtf8<'_>, index: usize) -> Option<u16>
     ensures { result ≡ slice_get (view_units view.entry) index }
 {
-    let cut = cut(view, index)?;
+    let cut = find_cut(view, index)?;
     match cut.divided {
         None => first_unit(view.slice_from(cut.position)),
         Some(value) => Some(trail_of(value) as u16),
@@ -369,7 +371,7 @@ fn unit_by_cut(view: Wtf8<'_>, index: usize) -> Option<u16>
 
 /// Returns the unit at `index` if the string begins with a block of ASCII that contains it.
 #[inline(always)]
-fn unit_in_ascii_front(view: Wtf8<'_>, index: usize) -> Option<u16>
+fn unit_in_ascii_prefix(view: Wtf8<'_>, index: usize) -> Option<u16>
     ensures { IfSome result (λ unit. slice_get (view_units view.entry) index ≡ Some unit) }
 {
     match view.bytes.len() {
@@ -387,7 +389,7 @@ fn ascii_unit<const N: usize>(view: Wtf8<'_>, index: usize) -> Option<u16>
     requires room { N ≤ length view.bytes.now }
     ensures { IfSome result (λ unit. slice_get (view_units view.entry) index ≡ Some unit) }
 {
-    if index < N && is_below(Simd::<u8, N>::from_slice(view.bytes), 0x80) {
+    if index < N && are_all_below(Simd::<u8, N>::from_slice(view.bytes), 0x80) {
         return Some(u16::from(view.bytes[index]));
     }
     None
@@ -395,7 +397,7 @@ fn ascii_unit<const N: usize>(view: Wtf8<'_>, index: usize) -> Option<u16>
 
 /// Returns 1 if there is a half of a pair, else 0.
 #[inline(always)]
-fn count_of(half: Option<u16>) -> usize
+fn half_len(half: Option<u16>) -> usize
     ensures count { result ≡ length (option_to_list half) }
     ensures most { result ≤ 1 }
 {
@@ -422,8 +424,8 @@ impl<'a> Wtf8<'a> {
         ensures { result ≡ length (view_units self.now) }
     {
         match self.len() {
-            4..=7 if is_ascii::<4>(*self) => self.len(),
-            8..=15 if is_ascii::<HALF_VECTOR>(*self) => self.len(),
+            4..=7 if is_ascii_overlapping::<4>(*self) => self.len(),
+            8..=15 if is_ascii_overlapping::<HALF_VECTOR>(*self) => self.len(),
             _ => count_units(self.bytes),
         }
     }
@@ -432,7 +434,7 @@ impl<'a> Wtf8<'a> {
     pub fn unit_at(&self, index: usize) -> Option<u16>
         ensures { result ≡ slice_get (view_units self.now) index }
     {
-        if let Some(unit) = unit_in_ascii_front(*self, index) {
+        if let Some(unit) = unit_in_ascii_prefix(*self, index) {
             return Some(unit);
         }
         unit_by_cut(*self, index)
@@ -467,8 +469,8 @@ impl<'a> Wtf8<'a> {
                 lead: None,
             };
         }
-        let (trail, rest) = self.units_behind(begin);
-        let (whole, lead) = rest.first_units(end - begin - count_of(trail));
+        let (trail, rest) = self.units_after(begin);
+        let (whole, lead) = rest.first_units(end - begin - half_len(trail));
         UnitSlice { trail, whole, lead }
     }
 
@@ -478,7 +480,7 @@ impl<'a> Wtf8<'a> {
         ensures units { view_units result.0 ++ option_to_list result.1 ≡ take n (view_units self.entry) }
         ensures lead { IsSome result.1 ↔ DividesPair (view_units self.entry) n }
     {
-        let Some(cut) = cut(self, n) else {
+        let Some(cut) = find_cut(self, n) else {
             return (self, None);
         };
         let front = self.slice_to(cut.position);
@@ -489,12 +491,12 @@ impl<'a> Wtf8<'a> {
     }
 
     /// Returns the trail of a pair that `n` splits, and the whole code points after the first `n` units.
-    fn units_behind(self, n: usize) -> (Option<u16>, Wtf8<'a>)
+    fn units_after(self, n: usize) -> (Option<u16>, Wtf8<'a>)
         requires { n ≤ length (view_units self) }
         ensures units { option_to_list result.0 ++ view_units result.1 ≡ drop n (view_units self.entry) }
         ensures trail { IsSome result.0 ↔ DividesPair (view_units self.entry) n }
     {
-        let Some(cut) = cut(self, n) else {
+        let Some(cut) = find_cut(self, n) else {
             return (None, self);
         };
         match cut.divided {

@@ -12,9 +12,9 @@ ghost use Rattle.wtf8.specs.Surrogates.{AreScalar, lossy_points};
 ghost use Rattle.wtf8.specs.Unicode.{IsLead, IsTrail};
 ghost use Rattle.wtf8.specs.Units.{unread_units};
 
-use crate::lanes::{digits, search};
-use crate::numbers::code_point::CodePoint;
-use crate::numbers::encoding;
+use crate::codec::code_point::CodePoint;
+use crate::codec::encoding;
+use crate::lanes::{hex_digits, search};
 use crate::strings::iters::{IllFormedUtf16CodeUnits, Wtf8CodePoints};
 use std::alloc::{AllocError, Allocator};
 use std::borrow::CowStr;
@@ -217,7 +217,7 @@ impl<'a> Wtf8<'a> {
         ensures ok { IfOk result (λ t. string_bytes t ≡ hex self.now.bytes.now) }
         ensures empty { self.now.bytes.now ≡ [] → IsOk result }
     {
-        digits::hex_text(alloc, self.bytes)
+        hex_digits::hex_text(alloc, self.bytes)
     }
 
     /// Appends the text of `hex_dump` to a vector of bytes. Reserves three bytes for each byte of the string, and does
@@ -227,7 +227,7 @@ impl<'a> Wtf8<'a> {
         ensures kept { OnErr result (text.new.items ≡ text.old.items) }
         ensures room { vec_len text.old + 3 * length self.now.bytes.now ≤ vec_capacity text.old → IsOk result }
     {
-        digits::push_hex(text, self.bytes)
+        hex_digits::push_hex(text, self.bytes)
     }
 
     /// Returns the first code point and the view after it, or `None` if the string is empty.
@@ -266,7 +266,7 @@ impl<'a> Wtf8<'a> {
     {
         match self.bytes {
             [.., 0xED, second @ 0xA0..=0xAF, third] => {
-                Some(0xD000 + encoding::low_bits(*second) * 64 + encoding::low_bits(*third))
+                Some(0xD000 + encoding::payload_bits(*second) * 64 + encoding::payload_bits(*third))
             }
             _ => None,
         }
@@ -280,7 +280,7 @@ impl<'a> Wtf8<'a> {
     {
         match self.bytes {
             [0xED, second @ 0xB0..=0xBF, third, ..] => {
-                Some(0xD000 + encoding::low_bits(*second) * 64 + encoding::low_bits(*third))
+                Some(0xD000 + encoding::payload_bits(*second) * 64 + encoding::payload_bits(*third))
             }
             _ => None,
         }

@@ -21,9 +21,9 @@ pub fn index_of<A: Allocator, B: Allocator>(
     let last = text.unit_len().checked_sub(search.unit_len())?;
     let begin = position.min(text.unit_len());
     let mut units = units_from(text, begin);
-    for place in begin..=last {
+    for index in begin..=last {
         if occurs_next(&units, search) {
-            return Some(place);
+            return Some(index);
         }
         units.next();
     }
@@ -43,9 +43,9 @@ pub fn last_index_of<A: Allocator, B: Allocator>(
     let last = text.unit_len().checked_sub(search.unit_len())?;
     let mut units = units_from(text, 0);
     let mut found = None;
-    for place in 0..=last.min(position) {
+    for index in 0..=last.min(position) {
         if occurs_next(&units, search) {
-            found = Some(place);
+            found = Some(index);
         }
         units.next();
     }
@@ -64,12 +64,12 @@ pub fn replace<A: Allocator + Copy>(
     ensures none { IfOk result (λ t. ((k : ℕ) → ¬ (OccursAt text.now search.now k)) → t ≡ text.now) }
 {
     let len = text.unit_len();
-    let Some(place) = index_of(text, search, 0) else {
+    let Some(index) = index_of(text, search, 0) else {
         return text.slice_units(alloc, 0, len);
     };
-    let mut whole = text.slice_units(alloc, 0, place)?;
+    let mut whole = text.slice_units(alloc, 0, index)?;
     whole.concat(other)?;
-    let back = text.slice_units(alloc, place + search.unit_len(), len)?;
+    let back = text.slice_units(alloc, index + search.unit_len(), len)?;
     whole.concat(&back)?;
     Ok(whole)
 }

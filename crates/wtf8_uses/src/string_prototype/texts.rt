@@ -88,9 +88,9 @@ fn first_other<A: Allocator>(text: &UnitText<A>) -> usize
     ensures before { (k : ℕ) → k < result → IsSpace (slice_index text.now k) }
     ensures first { result < length text.now → ¬ (IsSpace (slice_index text.now result)) }
 {
-    for place in 0..text.unit_len() {
-        if !is_space_at(text, place) {
-            return place;
+    for index in 0..text.unit_len() {
+        if !is_space_at(text, index) {
+            return index;
         }
     }
     text.unit_len()
@@ -101,21 +101,21 @@ fn after_last_other<A: Allocator>(text: &UnitText<A>, begin: usize) -> usize
     requires { begin ≤ length text.now }
     ensures order { begin ≤ result }
     ensures within { result ≤ length text.now }
-    ensures behind { (k : ℕ) → result ≤ k → k < length text.now → IsSpace (slice_index text.now k) }
+    ensures after { (k : ℕ) → result ≤ k → k < length text.now → IsSpace (slice_index text.now k) }
     ensures last { begin < result → ¬ (IsSpace (slice_index text.now (result - 1))) }
 {
-    for place in (begin..text.unit_len()).rev() {
-        if !is_space_at(text, place) {
-            return place + 1;
+    for index in (begin..text.unit_len()).rev() {
+        if !is_space_at(text, index) {
+            return index + 1;
         }
     }
     begin
 }
 
-/// Whether the unit at index `place` is a space.
-fn is_space_at<A: Allocator>(text: &UnitText<A>, place: usize) -> bool
-    requires { place < length text.now }
-    ensures { IsTrue result ↔ IsSpace (slice_index text.now place) }
+/// Whether the unit at index `index` is a space.
+fn is_space_at<A: Allocator>(text: &UnitText<A>, index: usize) -> bool
+    requires { index < length text.now }
+    ensures { IsTrue result ↔ IsSpace (slice_index text.now index) }
 {
-    matches!(text.unit_at(place), Some(0x20 | 0x09..=0x0D))
+    matches!(text.unit_at(index), Some(0x20 | 0x09..=0x0D))
 }

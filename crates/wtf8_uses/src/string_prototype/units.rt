@@ -41,8 +41,8 @@ pub fn at<A: Allocator>(text: &UnitText<A>, position: isize) -> Option<u16>
     if 0 <= position {
         return text.unit_at(position.unsigned_abs());
     }
-    let place = text.unit_len().checked_sub(position.unsigned_abs())?;
-    text.unit_at(place)
+    let index = text.unit_len().checked_sub(position.unsigned_abs())?;
+    text.unit_at(index)
 }
 
 /// `codePointAt`: the code point that begins at a position. A surrogate pair is one supplementary code point; any other

@@ -5,8 +5,8 @@ use Rattle.dump_lines.specs.declared.word.TheConstants.{DIGITS}
 use Rattle.dump_lines.proofs.word.digit_of.Goals as goal
 
 -- the table has the value of each byte, by computation
-row_is : (b : ℕ) → b < 256 → get_or DIGITS b 0 ≡ digit_value b
-row_is b lt = eqb-true _ _ (agree_below_at (λ k. eqb (get_or DIGITS k 0) (digit_value k)) (λ k. true) 256 b refl lt)
+get_or-DIGITS : (b : ℕ) → b < 256 → get_or DIGITS b 0 ≡ digit_value b
+get_or-DIGITS b lt = eqb-true _ _ (agree_below_at (λ k. eqb (get_or DIGITS k 0) (digit_value k)) (λ k. true) 256 b refl lt)
 
 pub returns : goal.returns
-returns c = c.from.ensures ∙ row_is c.args.byte c.ranges.byte.fits
+returns c = c.from.ensures ∙ get_or-DIGITS c.args.byte c.ranges.byte.fits

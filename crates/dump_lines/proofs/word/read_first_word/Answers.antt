@@ -2,25 +2,25 @@ use Rattle.std.proofs.Common.{take, sym, ◌∙◌, arith, length-take-le, Optio
 use Rattle.std.proofs.lemmas.List.{take_rest, get_or-take}
 use Rattle.dump_lines.specs.Word.{IsCall, IsNoCall}
 use Rattle.dump_lines.proofs.Digits.{point_no_space}
-use Rattle.dump_lines.proofs.Splitting.{split_there}
+use Rattle.dump_lines.proofs.Splitting.{slice_split-at_separator}
 use Rattle.dump_lines.proofs.word.read_first_word.Goals as goal
 
 pub returns-in-Some : goal.returns-in-Some
 returns-in-Some c =
     let bytes = c.args.bytes.now in
-    let stands = sym c.in-Some.ensures in
+    let is_point = sym c.in-Some.ensures in
     let within = length-take-le 4 bytes (omega arith) in (
       take 4 bytes,
-      rw take_rest (split_there 32 bytes 4 (λ k lt is. point_no_space (take 4 bytes) _ k stands (omega (arith, lt, within)) (get_or-take 4 bytes k 0 lt ∙ is))
+      rw take_rest (slice_split-at_separator 32 bytes 4 (λ k lt is. point_no_space (take 4 bytes) _ k is_point (omega (arith, lt, within)) (get_or-take 4 bytes k 0 lt ∙ is))
           (omega arith) c.if-bytes-eq32.true),
-      stands,
+      is_point,
     )
 
-both : {A : Type 0} (P : A → Type 0) (Q : Type 0) (o : Option A) → IfSome o P → IfNone o Q → MatchOption o Q P
-both P Q None some none = none
-both P Q (Some x) some none = some
+MatchOption-from_both : {A : Type 0} (P : A → Type 0) (Q : Type 0) (o : Option A) → IfSome o P → IfNone o Q → MatchOption o Q P
+MatchOption-from_both P Q None some none = none
+MatchOption-from_both P Q (Some x) some none = some
 
 pub returns : goal.returns
 returns c =
     let word = c.split_first_part.result.0.now in
-    (word, c.split_first_part.ensures.parts, both (IsCall word) (IsNoCall word) c.read_call.result c.read_call.ensures.some c.read_call.ensures.none)
+    (word, c.split_first_part.ensures.parts, MatchOption-from_both (IsCall word) (IsNoCall word) c.read_call.result c.read_call.ensures.some c.read_call.ensures.none)

@@ -3,7 +3,7 @@ use Rattle.std.proofs.lemmas.Bool.{false≢true}
 use Rattle.std.specs.Prelude.{vec_capacity}
 use Rattle.wtf8.specs.UnitMark.{IsMark, IsUndivided}
 use Rattle.unit_text.specs.Marks.{AreKept}
-use Rattle.unit_text.proofs.MarkLemmas.{kept_mark, one_more}
+use Rattle.unit_text.proofs.MarkLemmas.{IsKept-mark_at, AreKept-push}
 use Rattle.unit_text.proofs.marks.add_marks.Goals as goal
 
 pub loop-number-preserved : goal.loop-number-preserved
@@ -15,9 +15,9 @@ loop-number-preserved g c =
     let is_mark = subst (λ w. IsMark w text.units mark.position mark.units) i.bytes
     (subst (λ u. IsMark c.as_wtf8-view.result.bytes.now u mark.position mark.units) i.units c.mark_at-last.ensures.mark) in
     let last = subst (λ u. IsUndivided u n mark.units) i.units c.mark_at-last.ensures.last in
-    let before : n < length text.units = omega (arith, c.wanted-number-end.ensures.before_last c.loop-number.number c.loop-number-test.true, c.requires.counted) in
-    let kept = kept_mark text.bytes text.units mark n is_mark last before in
-    let all = one_more text.bytes text.units c.loop-number.marks.items mark c.loop-number.number i.counted i.kept kept in
+    let before : n < length text.units = omega (arith, c.needed_mark_count-number-end.ensures.before_last c.loop-number.number c.loop-number-test.true, c.requires.counted) in
+    let kept = IsKept-mark_at text.bytes text.units mark n is_mark last before in
+    let all = AreKept-push text.bytes text.units c.loop-number.marks.items mark c.loop-number.number i.counted i.kept kept in
     record {
       bytes = i.bytes;
       units = i.units;
@@ -33,15 +33,15 @@ pub returns-in_default-clause-room : goal.returns-in_default-clause-room
 returns-in_default-clause-room g c = λ all.
     let number = c.loop-number.number in
     let i = c.loop-number.invariant in
-    let apart = c.wanted-number-end.ensures.apart (omega (arith, c.loop-number-test.true)) in
-    let next = c.wanted-number-end.ensures.before_last number c.loop-number-test.true in
+    let apart = c.needed_mark_count-number-end.ensures.apart (omega (arith, c.loop-number-test.true)) in
+    let next = c.needed_mark_count-number-end.ensures.before_last number c.loop-number-test.true in
     let room : number + 1 ≤ vec_capacity c.args.marks.now = all apart (number + 1) (omega (arith, next, c.requires.counted)) in
     absurd (false≢true (c.in_default.ensures.succeeds (omega (arith, room, i.capacity, i.counted, c.loop-number.marks.ok.0))))
 
 pub returns-clause-marks : goal.returns-clause-marks
 returns-clause-marks g c =
     let i = c.loop-number.invariant in
-    record { kept = i.kept; all = λ granted apart n h. let enough = c.wanted-number-end.ensures.all apart n h in omega (arith, enough, i.counted) }
+    record { kept = i.kept; all = λ granted apart n h. let enough = c.needed_mark_count-number-end.ensures.all apart n h in omega (arith, enough, i.counted) }
 
 pub returns-clause-room : goal.returns-clause-room
 returns-clause-room g c = λ _. refl

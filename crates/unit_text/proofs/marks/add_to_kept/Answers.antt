@@ -2,7 +2,7 @@ use Rattle.std.proofs.Common.{arith, rules}
 use Rattle.unit_text.specs.Marks.{AreKept}
 use Rattle.unit_text.proofs.marks.add_to_kept.Goals as goal
 
-pub returns-else-len-wanted : goal.returns-else-len-wanted
-returns-else-len-wanted g c =
+pub returns-else-len-needed_mark_count : goal.returns-else-len-needed_mark_count
+returns-else-len-needed_mark_count g c =
     let kept : AreKept c.args.text.now.bytes c.args.text.now.units c.in-Some.marks.kept.items = search rules in
-    record { kept = kept; all = λ granted apart n h. let enough = c.wanted.ensures.all apart n h in omega (arith, enough) }
+    record { kept = kept; all = λ granted apart n h. let enough = c.needed_mark_count.ensures.all apart n h in omega (arith, enough) }

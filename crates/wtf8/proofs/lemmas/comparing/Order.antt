@@ -2,15 +2,15 @@
 use Rattle.wtf8.proofs.Common.{◌≡◌, ℕ, ◌<◌, inl, inr, List, [], ◌∷◌, ◌++◌, refl, sym, ap, ◌∙◌, arith, subst, Ordering, Less, Equal, Greater, nat_cmp}
 use Rattle.wtf8.proofs.Common.{ordering_then, MatchOrdering, slice_cmp, cases_lt, nat_tests, Before, cases_order, ◌↔◌, encoding, bytes, Bool}
 use Rattle.wtf8.proofs.Common.{IsTrue, nat_eq, pointwise, bytes_decides, units, Reads, IsWellFormed, IsForm, bytes-injective, ◌≢◌, zero, suc, drop, get_or}
-use Rattle.wtf8.proofs.Common.{units_of, IsFirstDifference, PairBegins, true, false, ◌⊎◌, length, take, length-append, append_assoc, false≢true}
-use Rattle.wtf8.proofs.Common.{take-append-drop, slice_get, option_cmp, Nowhere, IsLeast, min, slice_get-get_or, DifferAt, true≢false, ordering_reverse}
-use Rattle.wtf8.proofs.lemmas.lanes.Differences.{same_front}
+use Rattle.wtf8.proofs.Common.{units_of, IsMismatch, SupplementaryBegins, true, false, ◌⊎◌, length, take, length-append, append_assoc, false≢true}
+use Rattle.wtf8.proofs.Common.{take-append-drop, slice_get, option_cmp, NoneIn, IsLeast, min, slice_get-get_or, DifferAt, true≢false, ordering_reverse}
+use Rattle.wtf8.proofs.lemmas.lanes.Mismatch.{take-before_mismatch}
 use Rattle.std.proofs.lemmas.Cmp.{nat_list_cmp_total}
 use Rattle.std.specs.Bool.{beq}
 use Rattle.std.specs.Ordering.{is_ge, is_gt, is_le, is_lt}
-use Rattle.wtf8.proofs.lemmas.numbers.Encoding.{row_of, one, two, three, four, encoding_same, length-encoding_bounds}
-use Rattle.wtf8.proofs.lemmas.numbers.Readings.{same_reading, units-cons_one, units-cons_two, units-append}
-use Rattle.wtf8.proofs.lemmas.strings.Positions.{cut_at, boundary_from_byte, points_behind}
+use Rattle.wtf8.proofs.lemmas.codec.Encoding.{encoding_cases, one, two, three, four, encoding_same, length-encoding_bounds}
+use Rattle.wtf8.proofs.lemmas.codec.Readings.{same_reading, units-cons_one, units-cons_two, units-append}
+use Rattle.wtf8.proofs.lemmas.strings.Positions.{cut_at, boundary_from_byte, points_after}
 
 -- The order `Before` of lists of numbers, and their comparison item by item.
 
@@ -37,14 +37,14 @@ pub greater_of : (c d : List ℕ) → Before d c → slice_cmp nat_cmp c d ≡ G
 greater_of c d h = nat_list_cmp_total.antisymm c d ∙ ap ordering_reverse (less_of d c h)
 
 -- a common front does not affect a comparison
-pub cmp_behind : (f c d : List ℕ) → slice_cmp nat_cmp (f ++ c) (f ++ d) ≡ slice_cmp nat_cmp c d
-cmp_behind [] c d = refl
-cmp_behind (x ∷ f) c d = ap (λ o. ordering_then o (slice_cmp nat_cmp (f ++ c) (f ++ d))) (cmp_same x) ∙ cmp_behind f c d
+pub cmp-append_left : (f c d : List ℕ) → slice_cmp nat_cmp (f ++ c) (f ++ d) ≡ slice_cmp nat_cmp c d
+cmp-append_left [] c d = refl
+cmp-append_left (x ∷ f) c d = ap (λ o. ordering_then o (slice_cmp nat_cmp (f ++ c) (f ++ d))) (cmp_same x) ∙ cmp-append_left f c d
 
 -- a list compares as `Equal` with itself
 pub cmp_self : (c : List ℕ) → slice_cmp nat_cmp c c ≡ Equal
 cmp_self [] = refl
-cmp_self (x ∷ c) = cmp_behind (x ∷ []) c c ∙ cmp_self c
+cmp_self (x ∷ c) = cmp-append_left (x ∷ []) c c ∙ cmp_self c
 
 with_first : (x y : ℕ) (xs ys : List ℕ) → x ≡ y → (o : Ordering) → MatchOrdering o (Before xs ys) (xs ≡ ys) (Before ys xs)
     → MatchOrdering o (Before (x ∷ xs) (y ∷ ys)) (x ∷ xs ≡ y ∷ ys) (Before (y ∷ ys) (x ∷ xs))
@@ -64,32 +64,32 @@ order_of (x ∷ xs) (y ∷ ys) = elim (cases_order x y) [
 ]
 
 -- the result `o` of a comparison decides which list is before the other
-pub ordered : (o : Ordering) (c d : List ℕ) → o ≡ slice_cmp nat_cmp c d → MatchOrdering o (Before c d) (c ≡ d) (Before d c)
-ordered o c d e =
+pub order_of_result : (o : Ordering) (c d : List ℕ) → o ≡ slice_cmp nat_cmp c d → MatchOrdering o (Before c d) (c ≡ d) (Before d c)
+order_of_result o c d e =
     let P : Ordering → Type 0 = λ p. MatchOrdering p (Before c d) (c ≡ d) (Before d c) in
     subst P (sym e) (order_of c d)
 
 pub before_of : (c d : List ℕ) → slice_cmp nat_cmp c d ≡ Less → Before c d
-before_of c d e = ordered Less c d (sym e)
+before_of c d e = order_of_result Less c d (sym e)
 
 -- what the four tests of a comparison's result say
 pub less_test : (o : Ordering) (c d : List ℕ) → o ≡ slice_cmp nat_cmp c d → IsTrue (is_lt o) ↔ Before c d
-less_test Less c d e = (λ _. ordered Less c d e, λ _. refl)
+less_test Less c d e = (λ _. order_of_result Less c d e, λ _. refl)
 less_test Equal c d e = (λ t. absurd (false≢true t), λ h. absurd (false≢true (ap is_lt (e ∙ less_of c d h))))
 less_test Greater c d e = (λ t. absurd (false≢true t), λ h. absurd (false≢true (ap is_lt (e ∙ less_of c d h))))
 
 pub greater_test : (o : Ordering) (c d : List ℕ) → o ≡ slice_cmp nat_cmp c d → IsTrue (is_gt o) ↔ Before d c
 greater_test Less c d e = (λ t. absurd (false≢true t), λ h. absurd (false≢true (ap is_gt (e ∙ greater_of c d h))))
 greater_test Equal c d e = (λ t. absurd (false≢true t), λ h. absurd (false≢true (ap is_gt (e ∙ greater_of c d h))))
-greater_test Greater c d e = (λ _. ordered Greater c d e, λ _. refl)
+greater_test Greater c d e = (λ _. order_of_result Greater c d e, λ _. refl)
 
 pub at_most_test : (o : Ordering) (c d : List ℕ) → o ≡ slice_cmp nat_cmp c d → IsTrue (is_le o) ↔ ¬ (Before d c)
 at_most_test Less c d e = (λ _ h. false≢true (ap is_gt (e ∙ greater_of c d h)), λ _. refl)
 at_most_test Equal c d e = (λ _ h. false≢true (ap is_gt (e ∙ greater_of c d h)), λ _. refl)
-at_most_test Greater c d e = (λ t. absurd (false≢true t), λ n. absurd (n (ordered Greater c d e)))
+at_most_test Greater c d e = (λ t. absurd (false≢true t), λ n. absurd (n (order_of_result Greater c d e)))
 
 pub at_least_test : (o : Ordering) (c d : List ℕ) → o ≡ slice_cmp nat_cmp c d → IsTrue (is_ge o) ↔ ¬ (Before c d)
-at_least_test Less c d e = (λ t. absurd (false≢true t), λ n. absurd (n (ordered Less c d e)))
+at_least_test Less c d e = (λ t. absurd (false≢true t), λ n. absurd (n (order_of_result Less c d e)))
 at_least_test Equal c d e = (λ _ h. false≢true (ap is_lt (e ∙ less_of c d h)), λ _. refl)
 at_least_test Greater c d e = (λ _ h. false≢true (ap is_lt (e ∙ less_of c d h)), λ _. refl)
 
@@ -97,15 +97,15 @@ at_least_test Greater c d e = (λ _ h. false≢true (ap is_lt (e ∙ less_of c d
 
 -- the encoding of a smaller code point comes first, whatever follows it
 before_encoding : (p q : ℕ) (r s : List ℕ) → p < q → Before (encoding p ++ r) (encoding q ++ s)
-before_encoding p q r s l = elim (row_of p) [
-  | one h e ↦ elim (row_of q) [ one k f ↦ rw (e, f) (inl l) | two k _ f ↦ rw (e, f) (grind arith) | three k _ f ↦ rw (e, f) (grind arith) | four k f ↦ rw (e, f) (grind arith) ]
-  | two m h e ↦ elim (row_of q) [ one k f ↦ absurd (omega arith) | two k _ f ↦ rw (e, f) (grind arith) | three k _ f ↦ rw (e, f) (grind arith) | four k f ↦ rw (e, f) (grind arith) ]
-  | three m h e ↦ elim (row_of q) [ one k f ↦ absurd (omega arith) | two _ k f ↦ absurd (omega arith) | three k _ f ↦ rw (e, f) (grind arith) | four k f ↦ rw (e, f) (grind arith) ]
-  | four m e ↦ elim (row_of q) [ one k f ↦ absurd (omega arith) | two _ k f ↦ absurd (omega arith) | three _ k f ↦ absurd (omega arith) | four k f ↦ rw (e, f) (grind arith) ]
+before_encoding p q r s l = elim (encoding_cases p) [
+  | one h e ↦ elim (encoding_cases q) [ one k f ↦ rw (e, f) (inl l) | two k _ f ↦ rw (e, f) (grind arith) | three k _ f ↦ rw (e, f) (grind arith) | four k f ↦ rw (e, f) (grind arith) ]
+  | two m h e ↦ elim (encoding_cases q) [ one k f ↦ absurd (omega arith) | two k _ f ↦ rw (e, f) (grind arith) | three k _ f ↦ rw (e, f) (grind arith) | four k f ↦ rw (e, f) (grind arith) ]
+  | three m h e ↦ elim (encoding_cases q) [ one k f ↦ absurd (omega arith) | two _ k f ↦ absurd (omega arith) | three k _ f ↦ rw (e, f) (grind arith) | four k f ↦ rw (e, f) (grind arith) ]
+  | four m e ↦ elim (encoding_cases q) [ one k f ↦ absurd (omega arith) | two _ k f ↦ absurd (omega arith) | three _ k f ↦ absurd (omega arith) | four k f ↦ rw (e, f) (grind arith) ]
 ]
 
 empty_before : (q : ℕ) (s : List ℕ) → Before [] (encoding q ++ s)
-empty_before q s = elim (row_of q) [ one _ f ↦ rw f tt | two _ _ f ↦ rw f tt | three _ _ f ↦ rw f tt | four _ f ↦ rw f tt ]
+empty_before q s = elim (encoding_cases q) [ one _ f ↦ rw f tt | two _ _ f ↦ rw f tt | three _ _ f ↦ rw f tt | four _ f ↦ rw f tt ]
 
 -- bytes compare as code points
 pub cmp-bytes : (c d : List ℕ) → slice_cmp nat_cmp (bytes c) (bytes d) ≡ slice_cmp nat_cmp c d
@@ -113,7 +113,7 @@ cmp-bytes [] [] = refl
 cmp-bytes [] (q ∷ d) = less_of [] (bytes (q ∷ d)) (empty_before q (bytes d))
 cmp-bytes (p ∷ c) [] = greater_of (bytes (p ∷ c)) [] (empty_before p (bytes c))
 cmp-bytes (p ∷ c) (q ∷ d) = elim (cases_order p q) [
-  | inl same ↦ rw (← same) (cmp_behind (encoding p) (bytes c) (bytes d) ∙ cmp-bytes c d ∙ sym (cmp_behind (p ∷ []) c d))
+  | inl same ↦ rw (← same) (cmp-append_left (encoding p) (bytes c) (bytes d) ∙ cmp-bytes c d ∙ sym (cmp-append_left (p ∷ []) c d))
   | inr (inl l) ↦ less_of (bytes (p ∷ c)) (bytes (q ∷ d)) (before_encoding p q (bytes c) (bytes d) l) ∙ sym (less_of (p ∷ c) (q ∷ d) (inl l))
   | inr (inr l) ↦ greater_of (bytes (p ∷ c)) (bytes (q ∷ d)) (before_encoding q p (bytes d) (bytes c) l) ∙ sym (greater_of (p ∷ c) (q ∷ d) (inl l))
 ]
@@ -146,7 +146,7 @@ cmp_points c d {w} {v} e f = ap (λ x. slice_cmp nat_cmp x v) (sym e) ∙ (ap (s
 -- the result of a comparison of bytes says which code points are before the others
 pub points_order : (r : Ordering) (c d : List ℕ) {w v : List ℕ} → bytes c ≡ w → bytes d ≡ v → r ≡ slice_cmp nat_cmp w v
     → MatchOrdering r (Before c d) (c ≡ d) (Before d c)
-points_order r c d e f h = ordered r c d (h ∙ cmp_points c d e f)
+points_order r c d e f h = order_of_result r c d (h ∙ cmp_points c d e f)
 
 -- If the code points at the first difference have equally many units, bytes compare as units.
 
@@ -163,103 +163,103 @@ before_units p q c d l both = elim (cases_lt p 0x10000) [
 ]
 
 -- at the first difference both bytes are below F0 or neither is
-abbrev pub PartInOneRow : List ℕ → List ℕ → Type 0
-PartInOneRow [] v = Unit {0}
-PartInOneRow (x ∷ w) [] = Unit {0}
-PartInOneRow (x ∷ w) (y ∷ v) = (x ≡ y → PartInOneRow w v) × (x ≢ y → BothBelow 0xF0 x y)
+abbrev pub SameSideOfF0 : List ℕ → List ℕ → Type 0
+SameSideOfF0 [] v = Unit {0}
+SameSideOfF0 (x ∷ w) [] = Unit {0}
+SameSideOfF0 (x ∷ w) (y ∷ v) = (x ≡ y → SameSideOfF0 w v) × (x ≢ y → BothBelow 0xF0 x y)
 
-behind : (f w v : List ℕ) → PartInOneRow (f ++ w) (f ++ v) → PartInOneRow w v
-behind [] w v h = h
-behind (x ∷ f) w v h = behind f w v (h.0 refl)
+SameSideOfF0-cancel_left : (f w v : List ℕ) → SameSideOfF0 (f ++ w) (f ++ v) → SameSideOfF0 w v
+SameSideOfF0-cancel_left [] w v h = h
+SameSideOfF0-cancel_left (x ∷ f) w v h = SameSideOfF0-cancel_left f w v (h.0 refl)
 
 -- a lead byte is below F0 exactly if its code point is one unit
 first_byte : (p : ℕ) (r : List ℕ) → (0 < length (encoding p ++ r)) × ((p < 0x10000) ↔ (get_or (encoding p ++ r) 0 0 < 0xF0))
-first_byte p r = elim (row_of p) [
+first_byte p r = elim (encoding_cases p) [
   | one h e ↦ rw e (omega arith, (λ _. omega arith, λ _. omega arith))
   | two l h e ↦ rw e (omega arith, (λ _. omega arith, λ _. omega arith))
   | three l h e ↦ rw e (omega arith, (λ _. omega arith, λ _. omega arith))
   | four l e ↦ rw e (omega arith, (λ m. absurd (omega arith), λ m. absurd (omega arith)))
 ]
 
-first_parts : (w v : List ℕ) → 0 < length w → 0 < length v → PartInOneRow w v → BothBelow 0xF0 (get_or w 0 0) (get_or v 0 0)
-first_parts [] v m n h = absurd (omega arith)
-first_parts (x ∷ w) [] m n h = absurd (omega arith)
-first_parts (x ∷ w) (y ∷ v) m n h = elim (cases_order x y) [ inl e ↦ (λ k. omega arith, λ k. omega arith) | inr n ↦ h.1 (λ e. omega (arith, n)) ]
+SameSideOfF0-first : (w v : List ℕ) → 0 < length w → 0 < length v → SameSideOfF0 w v → BothBelow 0xF0 (get_or w 0 0) (get_or v 0 0)
+SameSideOfF0-first [] v m n h = absurd (omega arith)
+SameSideOfF0-first (x ∷ w) [] m n h = absurd (omega arith)
+SameSideOfF0-first (x ∷ w) (y ∷ v) m n h = elim (cases_order x y) [ inl e ↦ (λ k. omega arith, λ k. omega arith) | inr n ↦ h.1 (λ e. omega (arith, n)) ]
 
-same_row : (p q : ℕ) (r s : List ℕ) → PartInOneRow (encoding p ++ r) (encoding q ++ s) → BothBelow 0x10000 p q
-same_row p q r s h =
+SameSideOfF0-encoding : (p q : ℕ) (r s : List ℕ) → SameSideOfF0 (encoding p ++ r) (encoding q ++ s) → BothBelow 0x10000 p q
+SameSideOfF0-encoding p q r s h =
     let x = first_byte p r in
     let y = first_byte q s in
-    let both = first_parts _ _ x.0 y.0 h in
+    let both = SameSideOfF0-first _ _ x.0 y.0 h in
     (λ k. y.1.1 (both.0 (x.1.0 k)), λ k. x.1.1 (both.1 (y.1.0 k)))
 
 nothing_before : (q : ℕ) (d : List ℕ) → Before [] (units (q ∷ d))
 nothing_before q d = elim (cases_lt q 0x10000) [ inl h ↦ rw (units-cons_one q d h) tt | inr h ↦ rw (units-cons_two q d h) tt ]
 
--- code points compare as units if their bytes satisfy `PartInOneRow`
-pub points_as_units : (c d : List ℕ) → PartInOneRow (bytes c) (bytes d) → slice_cmp nat_cmp c d ≡ slice_cmp nat_cmp (units c) (units d)
+-- code points compare as units if their bytes satisfy `SameSideOfF0`
+pub points_as_units : (c d : List ℕ) → SameSideOfF0 (bytes c) (bytes d) → slice_cmp nat_cmp c d ≡ slice_cmp nat_cmp (units c) (units d)
 points_as_units [] [] h = refl
 points_as_units [] (q ∷ d) h = sym (less_of [] (units (q ∷ d)) (nothing_before q d))
 points_as_units (p ∷ c) [] h = sym (greater_of (units (p ∷ c)) [] (nothing_before p c))
 points_as_units (p ∷ c) (q ∷ d) h =
-    let row = same_row p q (bytes c) (bytes d) h in
+    let row = SameSideOfF0-encoding p q (bytes c) (bytes d) h in
     elim (cases_order q p) [
       | inl same ↦
-          let rest = points_as_units c d (behind (encoding p) (bytes c) (bytes d) (rw same at h)) in
-          rw same (cmp_behind (p ∷ []) c d ∙ rest ∙ sym (cmp_behind (units_of p) (units c) (units d)))
+          let rest = points_as_units c d (SameSideOfF0-cancel_left (encoding p) (bytes c) (bytes d) (rw same at h)) in
+          rw same (cmp-append_left (p ∷ []) c d ∙ rest ∙ sym (cmp-append_left (units_of p) (units c) (units d)))
       | inr (inl l) ↦ greater_of (p ∷ c) (q ∷ d) (inl l) ∙ sym (greater_of (units (p ∷ c)) (units (q ∷ d)) (before_units q p d c l (row.1, row.0)))
       | inr (inr l) ↦ less_of (p ∷ c) (q ∷ d) (inl l) ∙ sym (less_of (units (p ∷ c)) (units (q ∷ d)) (before_units p q c d l row))
     ]
 
 -- without their equal first items, lists first differ one index earlier
-pub difference_behind : (x y : ℕ) (w v : List ℕ) (n : ℕ) → IsFirstDifference (x ∷ w) (y ∷ v) (suc n) → IsFirstDifference w v n
-difference_behind x y w v n d = record {
+pub mismatch-cons : (x y : ℕ) (w v : List ℕ) (n : ℕ) → IsMismatch (x ∷ w) (y ∷ v) (suc n) → IsMismatch w v n
+mismatch-cons x y w v n d = record {
   within_first = omega (arith, d.within_first);
   within_second = omega (arith, d.within_second);
   same_before = ap (drop 1) d.same_before;
   differ_there = λ a b. d.differ_there (omega arith) (omega arith);
 }
 
-pair_behind : (x : ℕ) (w : List ℕ) (n : ℕ) → PairBegins (x ∷ w) (suc n) ↔ PairBegins w n
-pair_behind x w n = (λ h. (omega (arith, h.0), h.1), λ h. (omega (arith, h.0), h.1))
+supplementary_begins-cons : (x : ℕ) (w : List ℕ) (n : ℕ) → SupplementaryBegins (x ∷ w) (suc n) ↔ SupplementaryBegins w n
+supplementary_begins-cons x w n = (λ h. (omega (arith, h.0), h.1), λ h. (omega (arith, h.0), h.1))
 
-pub parts_at : (w v : List ℕ) (at : ℕ) → IsFirstDifference w v at → PairBegins w at ↔ PairBegins v at → PartInOneRow w v
-parts_at [] v at d both = tt
-parts_at (x ∷ w) [] at d both = tt
-parts_at (x ∷ w) (y ∷ v) zero d both = (
+pub same_side_at_mismatch : (w v : List ℕ) (at : ℕ) → IsMismatch w v at → SupplementaryBegins w at ↔ SupplementaryBegins v at → SameSideOfF0 w v
+same_side_at_mismatch [] v at d both = tt
+same_side_at_mismatch (x ∷ w) [] at d both = tt
+same_side_at_mismatch (x ∷ w) (y ∷ v) zero d both = (
   λ e. absurd (d.differ_there (omega arith) (omega arith) e),
   λ n. (
     λ h. elim (cases_lt y 0xF0) [ inl m ↦ m | inr m ↦ let back = both.1 (omega arith, m) in absurd (omega (arith, back.1)) ],
     λ h. elim (cases_lt x 0xF0) [ inl m ↦ m | inr m ↦ let there = both.0 (omega arith, m) in absurd (omega (arith, there.1)) ],
   ),
 )
-parts_at (x ∷ w) (y ∷ v) (suc n) d both =
-    let own = pair_behind x w n in
-    let others = pair_behind y v n in (
-      λ e. parts_at w v n (difference_behind x y w v n d) (λ h. others.0 (both.0 (own.1 h)), λ h. own.0 (both.1 (others.1 h))),
+same_side_at_mismatch (x ∷ w) (y ∷ v) (suc n) d both =
+    let own = supplementary_begins-cons x w n in
+    let others = supplementary_begins-cons y v n in (
+      λ e. same_side_at_mismatch w v n (mismatch-cons x y w v n d) (λ h. others.0 (both.0 (own.1 h)), λ h. own.0 (both.1 (others.1 h))),
       λ e. absurd (e (ap (λ u. get_or u 0 0) d.same_before)),
     )
 
 -- The order of units: by the bytes at the first difference, or by the parts of both strings from there on.
 
 -- lists compare as their items at the first difference, with `None` for the end
-pub order_there : (w v : List ℕ) (at : ℕ) → IsFirstDifference w v at → option_cmp nat_cmp (slice_get w at) (slice_get v at) ≡ slice_cmp nat_cmp w v
-order_there [] [] at d = refl
-order_there [] (y ∷ v) zero d = refl
-order_there [] (y ∷ v) (suc n) d = absurd (omega (arith, d.within_first))
-order_there (x ∷ w) [] zero d = refl
-order_there (x ∷ w) [] (suc n) d = absurd (omega (arith, d.within_second))
-order_there (x ∷ w) (y ∷ v) zero d = elim (cases_order x y) [
+pub order_at_mismatch : (w v : List ℕ) (at : ℕ) → IsMismatch w v at → option_cmp nat_cmp (slice_get w at) (slice_get v at) ≡ slice_cmp nat_cmp w v
+order_at_mismatch [] [] at d = refl
+order_at_mismatch [] (y ∷ v) zero d = refl
+order_at_mismatch [] (y ∷ v) (suc n) d = absurd (omega (arith, d.within_first))
+order_at_mismatch (x ∷ w) [] zero d = refl
+order_at_mismatch (x ∷ w) [] (suc n) d = absurd (omega (arith, d.within_second))
+order_at_mismatch (x ∷ w) (y ∷ v) zero d = elim (cases_order x y) [
   | inl e ↦ absurd (d.differ_there (omega arith) (omega arith) e)
   | inr (inl l) ↦ cmp_less x y l ∙ sym (less_of (x ∷ w) (y ∷ v) (inl l))
   | inr (inr l) ↦ cmp_greater x y l ∙ sym (greater_of (x ∷ w) (y ∷ v) (inl l))
 ]
-order_there (x ∷ w) (y ∷ v) (suc n) d =
+order_at_mismatch (x ∷ w) (y ∷ v) (suc n) d =
     let same : y ≡ x = sym (ap (λ u. get_or u 0 0) d.same_before) in
-    order_there w v n (difference_behind x y w v n d) ∙ rw same (sym (cmp_behind (x ∷ []) w v))
+    order_at_mismatch w v n (mismatch-cons x y w v n d) ∙ rw same (sym (cmp-append_left (x ∷ []) w v))
 
 -- lists that are equal up to the length of the shorter compare as their lengths
-pub order_of_lengths : (w v : List ℕ) → Nowhere (DifferAt w v) 0 (min (length w) (length v)) → nat_cmp (length w) (length v) ≡ slice_cmp nat_cmp w v
+pub order_of_lengths : (w v : List ℕ) → NoneIn (DifferAt w v) 0 (min (length w) (length v)) → nat_cmp (length w) (length v) ≡ slice_cmp nat_cmp w v
 order_of_lengths [] [] h = cmp_same 0
 order_of_lengths [] (y ∷ v) h = cmp_less 0 (length (y ∷ v)) (omega arith)
 order_of_lengths (x ∷ w) [] h = cmp_greater (length (x ∷ w)) 0 (omega arith)
@@ -267,7 +267,7 @@ order_of_lengths (x ∷ w) (y ∷ v) h = elim (cases_order x y) [
   | inl e ↦
       let rest = order_of_lengths w v (λ j _ l. h (suc j) (omega arith) (omega arith)) in
       let longer : nat_cmp (suc (length w)) (suc (length v)) ≡ nat_cmp (length w) (length v) = grind (arith, nat_tests) in
-      longer ∙ (rest ∙ rw e (sym (cmp_behind (y ∷ []) w v)))
+      longer ∙ (rest ∙ rw e (sym (cmp-append_left (y ∷ []) w v)))
   | inr n ↦ absurd (h 0 (omega arith) (omega arith) (λ e. omega (arith, n, e)))
 ]
 
@@ -277,13 +277,13 @@ pub order_at : (w v : List ℕ) (at : ℕ) → IsLeast (DifferAt w v) 0 at × (a
 order_at w v at h =
     let own : at < length w = omega (arith, h.1) in
     let others : at < length v = omega (arith, h.1) in
-    let d : IsFirstDifference w v at = record {
+    let d : IsMismatch w v at = record {
       within_first = omega arith;
       within_second = omega arith;
-      same_before = same_front at w v (omega arith) (omega arith) h.0.none_between;
+      same_before = take-before_mismatch at w v (omega arith) (omega arith) h.0.none_between;
       differ_there = λ _ _. h.0.here;
     } in
-    rw (slice_get-get_or w at 0 own, slice_get-get_or v at 0 others) at (order_there w v at d)
+    rw (slice_get-get_or w at 0 own, slice_get-get_or v at 0 others) at (order_at_mismatch w v at d)
 
 -- if the bytes of `d` begin with the bytes of `front`, its code points begin with `front`
 record Continues (front d rest : List ℕ) : Type 0 where
@@ -291,16 +291,16 @@ record Continues (front d rest : List ℕ) : Type 0 where
   joined : d ≡ front ++ points
   encoded : bytes points ≡ rest
 
-continues : (front d rest : List ℕ) → bytes d ≡ bytes front ++ rest → Continues front d rest
-continues [] d rest e = record { points = d; joined = refl; encoded = e }
-continues (p ∷ front) [] rest e = absurd (omega (arith, simp length-append at (ap length e), length-encoding_bounds p))
-continues (p ∷ front) (q ∷ d) rest e =
+Continues-from_bytes : (front d rest : List ℕ) → bytes d ≡ bytes front ++ rest → Continues front d rest
+Continues-from_bytes [] d rest e = record { points = d; joined = refl; encoded = e }
+Continues-from_bytes (p ∷ front) [] rest e = absurd (omega (arith, simp length-append at (ap length e), length-encoding_bounds p))
+Continues-from_bytes (p ∷ front) (q ∷ d) rest e =
     let heads = encoding_same q p (bytes d) (bytes front ++ rest) (e ∙ append_assoc (encoding p) (bytes front) rest) in
-    let more = continues front d rest heads.1 in
+    let more = Continues-from_bytes front d rest heads.1 in
     record { points = more.points; joined = ap (λ k. k ∷ d) heads.0 ∙ ap (λ c. p ∷ c) more.joined; encoded = more.encoded }
 
 -- the common front of two strings up to a boundary, and the rest of each
-pub record Parting (c d : List ℕ) (at : ℕ) : Type 0 where
+pub record CommonFront (c d : List ℕ) (at : ℕ) : Type 0 where
   pub front : List ℕ
   pub own : List ℕ
   pub others : List ℕ
@@ -308,26 +308,26 @@ pub record Parting (c d : List ℕ) (at : ℕ) : Type 0 where
   pub others_joined : d ≡ front ++ others
   pub front_len : length (bytes front) ≡ at
 
-parting : {w v : List ℕ} (h : IsWellFormed w) (k : IsWellFormed v) (at : ℕ) → take at w ≡ take at v → PairBegins w at → Parting h.points k.points at
-parting {w} {v} h k at same pair =
+common_front_at_lead_byte : {w v : List ℕ} (h : IsWellFormed w) (k : IsWellFormed v) (at : ℕ) → take at w ≡ take at v → SupplementaryBegins w at → CommonFront h.points k.points at
+common_front_at_lead_byte {w} {v} h k at same pair =
     let cut = cut_at h at (boundary_from_byte h at (omega (arith, pair.0)) (λ _. record { start = inr (omega (arith, pair.1)) })) in
     let front : bytes cut.front ≡ take at v = ap bytes (sym cut.before_points) ∙ (cut.before.encoded ∙ same) in
-    let more = continues cut.front k.points (drop at v) (k.encoded ∙ (sym (take-append-drop at v) ∙ ap (λ f. f ++ drop at v) (sym front))) in
+    let more = Continues-from_bytes cut.front k.points (drop at v) (k.encoded ∙ (sym (take-append-drop at v) ∙ ap (λ f. f ++ drop at v) (sym front))) in
     record { front = cut.front; own = cut.back; others = more.points; own_joined = cut.points; others_joined = more.joined; front_len = cut.splits.front_len }
 
-turned : {c d : List ℕ} {at : ℕ} → Parting c d at → Parting d c at
-turned p = record { front = p.front; own = p.others; others = p.own; own_joined = p.others_joined; others_joined = p.own_joined; front_len = p.front_len }
+CommonFront-swap : {c d : List ℕ} {at : ℕ} → CommonFront c d at → CommonFront d c at
+CommonFront-swap p = record { front = p.front; own = p.others; others = p.own; own_joined = p.others_joined; others_joined = p.own_joined; front_len = p.front_len }
 
 -- the rests compare by units as the whole strings do
-pub rests_order : {w v x y : List ℕ} (h : IsWellFormed w) (k : IsWellFormed v) (at : ℕ) → Parting h.points k.points at
+pub rests_order : {w v x y : List ℕ} (h : IsWellFormed w) (k : IsWellFormed v) (at : ℕ) → CommonFront h.points k.points at
     → (i : IsWellFormed x) (j : IsWellFormed y) → x ≡ drop at w → y ≡ drop at v
     → slice_cmp nat_cmp (units i.points) (units j.points) ≡ slice_cmp nat_cmp (units h.points) (units k.points)
 rests_order h k at p i j e f =
     let own : units h.points ≡ units p.front ++ units i.points =
-    cc (p.own_joined, units-append p.front p.own, points_behind h i p.front p.own at p.own_joined p.front_len e) in
+    cc (p.own_joined, units-append p.front p.own, points_after h i p.front p.own at p.own_joined p.front_len e) in
     let others : units k.points ≡ units p.front ++ units j.points =
-    cc (p.others_joined, units-append p.front p.others, points_behind k j p.front p.others at p.others_joined p.front_len f) in
-    cc (own, others, cmp_behind (units p.front) (units i.points) (units j.points))
+    cc (p.others_joined, units-append p.front p.others, points_after k j p.front p.others at p.others_joined p.front_len f) in
+    cc (own, others, cmp-append_left (units p.front) (units i.points) (units j.points))
 
 pub both_or_neither : {P Q : Type 0} (a b : Bool) → IsTrue a ↔ P → IsTrue b ↔ Q → beq a b ≡ true → P ↔ Q
 both_or_neither true true p q e = (λ _. q.0 refl, λ _. p.0 refl)
@@ -340,14 +340,14 @@ one_of_both false true p q e = inr (q.0 refl)
 one_of_both false false p q e = absurd (true≢false e)
 
 -- if a code point of two units begins at the first difference in exactly one string, that is a boundary of both
-pub parts_there : {w v : List ℕ} (h : IsWellFormed w) (k : IsWellFormed v) (at : ℕ) → IsFirstDifference w v at → (a b : Bool) → IsTrue a ↔ PairBegins w at
-    → IsTrue b ↔ PairBegins v at → beq a b ≡ false → Parting h.points k.points at
-parts_there h k at d a b p q e = elim (one_of_both a b p q e) [ inl l ↦ parting h k at d.same_before l | inr l ↦ turned (parting k h at (sym d.same_before) l) ]
+pub common_front_at_mismatch : {w v : List ℕ} (h : IsWellFormed w) (k : IsWellFormed v) (at : ℕ) → IsMismatch w v at → (a b : Bool) → IsTrue a ↔ SupplementaryBegins w at
+    → IsTrue b ↔ SupplementaryBegins v at → beq a b ≡ false → CommonFront h.points k.points at
+common_front_at_mismatch h k at d a b p q e = elim (one_of_both a b p q e) [ inl l ↦ common_front_at_lead_byte h k at d.same_before l | inr l ↦ CommonFront-swap (common_front_at_lead_byte k h at (sym d.same_before) l) ]
 
 -- if one begins there in both strings or in neither, the bytes at the first difference compare as the units
-pub bytes_order : {w v : List ℕ} (h : IsWellFormed w) (k : IsWellFormed v) (at : ℕ) → IsFirstDifference w v at → PairBegins w at ↔ PairBegins v at
+pub bytes_order : {w v : List ℕ} (h : IsWellFormed w) (k : IsWellFormed v) (at : ℕ) → IsMismatch w v at → SupplementaryBegins w at ↔ SupplementaryBegins v at
     → option_cmp nat_cmp (slice_get w at) (slice_get v at) ≡ slice_cmp nat_cmp (units h.points) (units k.points)
 bytes_order {w} {v} h k at d both =
-    let rows : PartInOneRow (bytes h.points) (bytes k.points) =
-    subst (λ x. PartInOneRow x (bytes k.points)) (sym h.encoded) (subst (PartInOneRow w) (sym k.encoded) (parts_at w v at d both)) in
-    order_there w v at d ∙ (cmp_points h.points k.points h.encoded k.encoded ∙ points_as_units h.points k.points rows)
+    let rows : SameSideOfF0 (bytes h.points) (bytes k.points) =
+    subst (λ x. SameSideOfF0 x (bytes k.points)) (sym h.encoded) (subst (SameSideOfF0 w) (sym k.encoded) (same_side_at_mismatch w v at d both)) in
+    order_at_mismatch w v at d ∙ (cmp_points h.points k.points h.encoded k.encoded ∙ points_as_units h.points k.points rows)

@@ -1,6 +1,6 @@
 -- The ASCII lanes at the front of a block.
 use Rattle.wtf8.proofs.Common.{◌≡◌, ℕ, zero, suc, ◌-◌, ◌%◌, ◌^◌, ◌<◌, ◌≤◌, leb, le-leb, cond, List, [], ◌∷◌, map, length, take, get_or, replicate, refl, sym, ap, ltb, lt-ltb, le-ltb, cases_lt, inl, inr}
-use Rattle.wtf8.proofs.Common.{◌∙◌, arith, subst, false, Each1, Option, None, Some, tops_compared, zip2, mask_l, top, AreAscii, length-take, Nowhere, Each2}
+use Rattle.wtf8.proofs.Common.{◌∙◌, arith, subst, false, Each1, Option, None, Some, tops_compared, zip2, mask_l, top, AreAscii, length-take, NoneIn, Each2}
 use Rattle.std.proofs.lemmas.List.{length-map, get_or-map, get_or-take}
 use lib.Lanes.{sel_l}
 use Rattle.std.specs.Option.{unwrap_or}
@@ -8,29 +8,29 @@ use Rattle.std.specs.Prelude.{min}
 use Rattle.std.proofs.lemmas.Simd.{zip2_splat_left, Each1-from_get_or, Each2-splat, Each1-all}
 use mir.Syntax.{Width}
 use mir.Val.{bits, hbits}
-use Rattle.wtf8.specs.private.FirstPlace.{IsFirstBelow, IsFirstSet, IsSet}
+use Rattle.wtf8.specs.private.FirstIndex.{IsFirstIn, IsFirstSet, IsSet}
 
 -- the lanes before the first set bit of the mask of non-ASCII lanes are ASCII
 module _ (w : Width) (n : ℕ) (xs : List ℕ) (few : n ≤ 64) (long : length xs ≡ n) where
-  abbrev others : ℕ
-  others = mask_l (map (top (hbits w)) (zip2 (λ a b. cond (leb a b) (2 ^ bits w - 1) 0) (replicate n 0x80) xs)) % 2 ^ 64
+  abbrev non_ascii_mask : ℕ
+  non_ascii_mask = mask_l (map (top (hbits w)) (zip2 (λ a b. cond (leb a b) (2 ^ bits w - 1) 0) (replicate n 0x80) xs)) % 2 ^ 64
 
-  told : others ≡ mask_l (map (leb 0x80) xs) % 2 ^ 64
-  told = ap (λ ms. mask_l ms % 2 ^ 64) (tops_compared w leb (replicate n 0x80) xs ∙ zip2_splat_left leb 0x80 n xs long)
+  non_ascii_mask-mask_l : non_ascii_mask ≡ mask_l (map (leb 0x80) xs) % 2 ^ 64
+  non_ascii_mask-mask_l = ap (λ ms. mask_l ms % 2 ^ 64) (tops_compared w leb (replicate n 0x80) xs ∙ zip2_splat_left leb 0x80 n xs long)
 
-  ascii : (k : ℕ) → k ≤ n → Nowhere (IsSet (map (leb 0x80) xs)) 0 k → AreAscii (take k xs)
-  ascii k le none = Each1-from_get_or (λ n. n < 0x80) (take k xs) 0 (λ i lt.
+  AreAscii-take : (k : ℕ) → k ≤ n → NoneIn (IsSet (map (leb 0x80) xs)) 0 k → AreAscii (take k xs)
+  AreAscii-take k le none = Each1-from_get_or (λ n. n < 0x80) (take k xs) 0 (λ i lt.
       let inside : i < k = omega (arith, lt, length-take k xs) in
       let lane = get_or-map (leb 0x80) xs i 0 false (omega (arith, inside, le, long)) in
       let low : get_or xs i 0 < 0x80 = elim (cases_lt (get_or xs i 0) 0x80) [ inl l ↦ l | inr g ↦ absurd (none i (omega arith) inside (lane ∙ le-leb 0x80 _ g)) ] in
       subst (λ n. n < 0x80) (sym (get_or-take k xs i 0 inside)) low)
 
-  pub ascii_before : (r : Option ℕ) → IsFirstSet others r → (unwrap_or r n ≤ n) × AreAscii (take (unwrap_or r n) xs)
-  ascii_before r first = by r (first n (map (leb 0x80) xs) few (length-map xs (leb 0x80) ∙ long) told)
+  pub ascii_before : (r : Option ℕ) → IsFirstSet non_ascii_mask r → (unwrap_or r n ≤ n) × AreAscii (take (unwrap_or r n) xs)
+  ascii_before r first = by r (first n (map (leb 0x80) xs) few (length-map xs (leb 0x80) ∙ long) non_ascii_mask-mask_l)
     where
-      by : (r : Option ℕ) → IsFirstBelow (IsSet (map (leb 0x80) xs)) 0 n r → (unwrap_or r n ≤ n) × AreAscii (take (unwrap_or r n) xs)
-      by None none = (omega arith, ascii n (omega arith) none)
-      by (Some k) h = (omega (arith, h.1), ascii k (omega (arith, h.1)) h.0.none_between)
+      by : (r : Option ℕ) → IsFirstIn (IsSet (map (leb 0x80) xs)) 0 n r → (unwrap_or r n ≤ n) × AreAscii (take (unwrap_or r n) xs)
+      by None none = (omega arith, AreAscii-take n (omega arith) none)
+      by (Some k) h = (omega (arith, h.1), AreAscii-take k (omega (arith, h.1)) h.0.none_between)
 
 -- division by `k` > 0 in all lanes divides by 0 in none
 pub by_all : (xs : List ℕ) (k : ℕ) → 0 < k → Each2 (λ (a b : ℕ). 0 < b) xs (k ∷ k ∷ k ∷ k ∷ k ∷ k ∷ k ∷ k ∷ [])

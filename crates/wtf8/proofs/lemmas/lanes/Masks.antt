@@ -1,8 +1,8 @@
 -- Masks of lanes: the lowest set bit is the first set lane, and so the first position of a block with a property.
 use Rattle.wtf8.proofs.Common.{◌≡◌, ◌↔◌, ℕ, zero, suc, ◌+◌, ◌-◌, ◌/◌, ◌%◌, ◌^◌, ◌<◌, ◌≤◌, eqb, Bool, true, false, not, cond, Option, Some, None, List, [], ◌∷◌}
 use Rattle.wtf8.proofs.Common.{map, length, take, replicate, refl, sym, ap, ◌∙◌, subst, arith, both_ways, cases_Bool, eqb-true, inl, inr, mask_l-mod, mask_l}
-use Rattle.wtf8.proofs.Common.{top, zip2, Each1, Nowhere, IsLeast, not-false, tops_compared, length-zip2, w8, not-true, length-replicate, map-id}
-use Rattle.wtf8.proofs.Common.{prefix_len_passes, prefix_len_stops, prefix_len, unwrap_or, MatchOption, IsFirstBelow, IsFirstSet, IsSet, IsOfKind}
+use Rattle.wtf8.proofs.Common.{top, zip2, Each1, NoneIn, IsLeast, not-false, tops_compared, length-zip2, w8, not-true, length-replicate, map-id}
+use Rattle.wtf8.proofs.Common.{prefix_len_passes, prefix_len_stops, prefix_len, unwrap_or, MatchOption, IsFirstIn, IsFirstSet, IsSet, HasBitPrefix}
 use Rattle.std.proofs.lemmas.Simd.{leading_from_mask_l, trailing_mask_l}
 use lib.Count.{count_trailing_zeros}
 
@@ -13,26 +13,26 @@ some_set (true ∷ bs) h = omega arith
 some_set (false ∷ bs) h = omega (arith, some_set bs (omega arith))
 
 module _ (bits n : ℕ) (lanes : List Bool) (few : n ≤ 64) (long : length lanes ≡ n) (same : bits ≡ mask_l lanes % 2 ^ 64) where
-  whole : bits ≡ mask_l (map (λ b. b) lanes)
-  whole = same ∙ (mask_l-mod lanes 64 (omega (arith, long, few)) ∙ ap mask_l (sym (map-id lanes)))
+  bits-mask_l : bits ≡ mask_l (map (λ b. b) lanes)
+  bits-mask_l = same ∙ (mask_l-mod lanes 64 (omega (arith, long, few)) ∙ ap mask_l (sym (map-id lanes)))
 
-  unset : (k : ℕ) → k < prefix_len (λ b. not b) lanes → ¬ (IsSet lanes k)
-  unset k l t = both_ways _ (not-true _ (prefix_len_passes (λ b. not b) lanes k false l)) t
+  not_set_in_prefix : (k : ℕ) → k < prefix_len (λ b. not b) lanes → ¬ (IsSet lanes k)
+  not_set_in_prefix k l t = both_ways _ (not-true _ (prefix_len_passes (λ b. not b) lanes k false l)) t
 
-  pub none_set : bits ≡ 0 → Nowhere (IsSet lanes) 0 n
-  none_set e k _ l = unset k (omega (arith, l, long, leading_from_mask_l (λ b. b) lanes (sym whole ∙ e)))
+  pub none_set : bits ≡ 0 → NoneIn (IsSet lanes) 0 n
+  none_set e k _ l = not_set_in_prefix k (omega (arith, l, long, leading_from_mask_l (λ b. b) lanes (sym bits-mask_l ∙ e)))
 
   pub lowest_set : ¬ (bits ≡ 0) → IsLeast (IsSet lanes) 0 (count_trailing_zeros 64 bits) × (count_trailing_zeros 64 bits < n)
   lowest_set e =
-      let some = some_set lanes (omega (arith, whole, ap mask_l (map-id lanes), e)) in
-      let counted = ap (count_trailing_zeros 64) whole ∙ trailing_mask_l (λ b. b) 64 lanes (omega (arith, long, few)) (omega (arith, whole, e)) in
+      let some = some_set lanes (omega (arith, bits-mask_l, ap mask_l (map-id lanes), e)) in
+      let counted = ap (count_trailing_zeros 64) bits-mask_l ∙ trailing_mask_l (λ b. b) 64 lanes (omega (arith, long, few)) (omega (arith, bits-mask_l, e)) in
       subst (λ t. IsLeast (IsSet lanes) 0 t × (t < n)) (sym counted) (
-        record { not_before = omega arith; here = not-false _ (prefix_len_stops (λ b. not b) lanes false some); none_between = λ k _ l. unset k l },
+        record { not_before = omega arith; here = not-false _ (prefix_len_stops (λ b. not b) lanes false some); none_between = λ k _ l. not_set_in_prefix k l },
         omega (arith, some, long),
       )
 
 -- equivalent properties have the same first lane
-pub same_first : (P Q : ℕ → Type 0) (n : ℕ) → ((k : ℕ) → k < n → P k ↔ Q k) → (r : Option ℕ) → IsFirstBelow P 0 n r → IsFirstBelow Q 0 n r
+pub same_first : (P Q : ℕ → Type 0) (n : ℕ) → ((k : ℕ) → k < n → P k ↔ Q k) → (r : Option ℕ) → IsFirstIn P 0 n r → IsFirstIn Q 0 n r
 same_first P Q n says None none = λ j low high q. none j low high ((says j high).1 q)
 same_first P Q n says (Some k) h = (
   record {
@@ -44,16 +44,16 @@ same_first P Q n says (Some k) h = (
 )
 
 -- if lane `k` has `Q` exactly if position `i + k` has `P`, the first lane with `Q` gives the first position with `P`
-pub first_there : (P Q : ℕ → Type 0) (i n : ℕ) → ((k : ℕ) → k < n → Q k ↔ P (i + k)) → (r : Option ℕ) → IsFirstBelow Q 0 n r
-    → MatchOption r (Nowhere P i (i + n)) (λ k. IsLeast P i (i + k) × (i + k < i + n))
-first_there P Q i n says r first = by r first
+pub first_at_offset : (P Q : ℕ → Type 0) (i n : ℕ) → ((k : ℕ) → k < n → Q k ↔ P (i + k)) → (r : Option ℕ) → IsFirstIn Q 0 n r
+    → MatchOption r (NoneIn P i (i + n)) (λ k. IsLeast P i (i + k) × (i + k < i + n))
+first_at_offset P Q i n says r first = by r first
   where
-    none : (m : ℕ) → m ≤ n → Nowhere Q 0 m → Nowhere P i (i + m)
+    none : (m : ℕ) → m ≤ n → NoneIn Q 0 m → NoneIn P i (i + m)
     none m le unset j low high q =
         let place : i + (j - i) ≡ j = omega arith in
         unset (j - i) (omega arith) (omega arith) ((says (j - i) (omega arith)).1 (subst P (sym place) q))
 
-    by : (r : Option ℕ) → IsFirstBelow Q 0 n r → MatchOption r (Nowhere P i (i + n)) (λ k. IsLeast P i (i + k) × (i + k < i + n))
+    by : (r : Option ℕ) → IsFirstIn Q 0 n r → MatchOption r (NoneIn P i (i + n)) (λ k. IsLeast P i (i + k) × (i + k < i + n))
     by None h = none n (omega arith) h
     by (Some k) h = (
       record { not_before = omega arith; here = (says k h.1).0 h.0.here; none_between = none k (omega (arith, h.1)) h.0.none_between },
@@ -67,30 +67,30 @@ kinds d n xs = zip2 (λ a b. a / b) xs (replicate n d)
 abbrev pub others : ℕ → ℕ → ℕ → List ℕ → List Bool
 others d y n xs = zip2 (λ a b. not (eqb a b)) (kinds d n xs) (replicate n y)
 
-kind_before : (d y n m : ℕ) (xs : List ℕ) → length xs ≡ n → m ≤ n → Nowhere (IsSet (others d y n xs)) 0 m → Each1 (IsOfKind d y) (take m xs)
-kind_before d y n zero xs long le none = tt
-kind_before d y n (suc m) [] long le none = tt
-kind_before d y zero (suc m) (x ∷ xs) long le none = absurd (omega arith)
-kind_before d y (suc n) (suc m) (x ∷ xs) long le none = (
+HasBitPrefix-before_first : (d y n m : ℕ) (xs : List ℕ) → length xs ≡ n → m ≤ n → NoneIn (IsSet (others d y n xs)) 0 m → Each1 (HasBitPrefix d y) (take m xs)
+HasBitPrefix-before_first d y n zero xs long le none = tt
+HasBitPrefix-before_first d y n (suc m) [] long le none = tt
+HasBitPrefix-before_first d y zero (suc m) (x ∷ xs) long le none = absurd (omega arith)
+HasBitPrefix-before_first d y (suc n) (suc m) (x ∷ xs) long le none = (
   elim (cases_Bool (eqb (x / d) y)) [ inl t ↦ eqb-true (x / d) y t | inr f ↦ absurd (none 0 (omega arith) (omega arith) (rw f refl)) ],
-  kind_before d y n m xs (omega arith) (omega arith) (λ k _ l. none (suc k) (omega arith) (omega arith)),
+  HasBitPrefix-before_first d y n m xs (omega arith) (omega arith) (λ k _ l. none (suc k) (omega arith) (omega arith)),
 )
 
 -- the first `count` lanes have the quotient `y` by `d`
-pub record CountsKind (d y n : ℕ) (xs : List ℕ) (count : ℕ) : Type 0 where
+pub record LeadingHavePrefix (d y n : ℕ) (xs : List ℕ) (count : ℕ) : Type 0 where
   pub within : count ≤ n
-  pub each : Each1 (IsOfKind d y) (take count xs)
+  pub each : Each1 (HasBitPrefix d y) (take count xs)
 
-pub counts_kind : (d y n : ℕ) (xs : List ℕ) → n ≤ 64 → length xs ≡ n → (r : Option ℕ)
+pub LeadingHavePrefix-first_set : (d y n : ℕ) (xs : List ℕ) → n ≤ 64 → length xs ≡ n → (r : Option ℕ)
     → IsFirstSet (mask_l (map (top 7) (zip2 (λ a b. cond (not (eqb a b)) 255 0) (kinds d n xs) (replicate n y))) % 2 ^ 64) r
-    → CountsKind d y n xs (unwrap_or r n)
-counts_kind d y n xs few long r first = by r (first n (others d y n xs) few lanes (ap (λ ms. mask_l ms % 2 ^ 64) (tops_compared w8 (λ a b. not (eqb a b)) (kinds d n xs) (replicate n y))))
+    → LeadingHavePrefix d y n xs (unwrap_or r n)
+LeadingHavePrefix-first_set d y n xs few long r first = by r (first n (others d y n xs) few lanes (ap (λ ms. mask_l ms % 2 ^ 64) (tops_compared w8 (λ a b. not (eqb a b)) (kinds d n xs) (replicate n y))))
   where
     lanes : length (others d y n xs) ≡ n
     lanes =
         let divided = length-zip2 (λ a b. a / b) xs (replicate n d) (long ∙ sym (length-replicate n d)) in
         length-zip2 (λ a b. not (eqb a b)) (kinds d n xs) (replicate n y) (divided ∙ (long ∙ sym (length-replicate n y))) ∙ (divided ∙ long)
 
-    by : (r : Option ℕ) → IsFirstBelow (IsSet (others d y n xs)) 0 n r → CountsKind d y n xs (unwrap_or r n)
-    by None none = record { within = omega arith; each = kind_before d y n n xs long (omega arith) none }
-    by (Some k) h = record { within = omega (arith, h.1); each = kind_before d y n k xs long (omega (arith, h.1)) h.0.none_between }
+    by : (r : Option ℕ) → IsFirstIn (IsSet (others d y n xs)) 0 n r → LeadingHavePrefix d y n xs (unwrap_or r n)
+    by None none = record { within = omega arith; each = HasBitPrefix-before_first d y n n xs long (omega arith) none }
+    by (Some k) h = record { within = omega (arith, h.1); each = HasBitPrefix-before_first d y n k xs long (omega (arith, h.1)) h.0.none_between }

@@ -2,17 +2,17 @@
 use Rattle.wtf8.proofs.Common.{ℕ, List, [], ◌++◌, length, refl, ap, ◌∙◌, sym, subst, arith, append_assoc, length-append, append-nil, append_cancel_left, units}
 use Rattle.wtf8.proofs.Common.{bytes, Reads, IsForm, IsBoundary, ◌≡◌, ◌≢◌, ◌<◌, ◌+◌, ◌-◌, ◌/◌, ◌%◌, inl, ◌∷◌, get_or, drop_at, All-cons, All-drop, All-head}
 use Rattle.wtf8.proofs.Common.{All-nil, All, encoding, IsFront, IsBack, slice_get, Some, zero, suc, ◌≤◌, inr, cases_lt, chunk, length-chunk, get_or-chunk}
-use Rattle.wtf8.proofs.Common.{HasLane}
+use Rattle.wtf8.proofs.Common.{HasLaneAtLeast}
 use Rattle.std.proofs.lemmas.List.{append_cancel_right}
 use Rattle.wtf8.specs.Laws.{FrontAndBackAreWhole}
 use Rattle.wtf8.specs.PositionLaws.{StartIsBoundary, EndIsBoundary, NoneIsBeyondEnd, FrontBoundariesAreOfWhole, WholeBoundariesAreOfFront, WholeBoundariesAreOfBack}
 use Rattle.wtf8.specs.PositionLaws.{BackBoundariesAreOfWhole, BeginningsAreNoLonger, BothAreNoLonger, AsciiIsBetweenBoundaries, AsciiIsOneUnit}
 use Rattle.wtf8.specs.PositionLaws.{AsciiIsNoOtherUnit}
-use Rattle.wtf8.proofs.lemmas.numbers.Encoding.{bytes-append, bytes-pushed, row_of, one, two, three, four, own_byte}
-use Rattle.wtf8.proofs.lemmas.numbers.Readings.{well_formed_of, reads_same, same_form, units-append, units_one, units_two}
-use Rattle.wtf8.proofs.lemmas.numbers.Readings.{units-cons_one}
-use Rattle.wtf8.proofs.lemmas.strings.Gains.{beginning, both_length}
-use Rattle.wtf8.proofs.lemmas.strings.Positions.{Cut, cut_at, begun, same_front, front_reads, back_reads, front_boundary, boundary_from_byte, first_behind}
+use Rattle.wtf8.proofs.lemmas.codec.Encoding.{bytes-append, bytes-pushed, encoding_cases, one, two, three, four, encoding-from_ascii_byte}
+use Rattle.wtf8.proofs.lemmas.codec.Readings.{well_formed_of, reads_same, same_form, units-append, units_one, units_two}
+use Rattle.wtf8.proofs.lemmas.codec.Readings.{units-cons_one}
+use Rattle.wtf8.proofs.lemmas.strings.ExtendedForms.{beginning_of_form, both_length}
+use Rattle.wtf8.proofs.lemmas.strings.Positions.{Cut, cut_at, shorter_is_prefix, front_unique, front_reads, back_reads, front_boundary, boundary_from_byte, first-bytes_after}
 
 -- Proofs of the laws of positions and lengths.
 
@@ -27,11 +27,11 @@ end_is_boundary w u f = record {
 }
 
 -- a boundary of the units is a cut of the form's code points
-own_boundary : {w u : List ℕ} (f : IsForm w u) (k : ℕ) → IsBoundary u k → Cut w (well_formed_of f) k
-own_boundary f k b = cut_at (well_formed_of f) k (subst (λ v. IsBoundary v k) (sym f.reads.same_units) b)
+cut_at_boundary : {w u : List ℕ} (f : IsForm w u) (k : ℕ) → IsBoundary u k → Cut w (well_formed_of f) k
+cut_at_boundary f k b = cut_at (well_formed_of f) k (subst (λ v. IsBoundary v k) (sym f.reads.same_units) b)
 
 pub none_is_beyond : NoneIsBeyondEnd
-none_is_beyond w u k f b = (own_boundary f k b).within
+none_is_beyond w u k f b = (cut_at_boundary f k b).within
 
 pub front_in_whole : FrontBoundariesAreOfWhole
 front_in_whole u v k m x b =
@@ -40,14 +40,14 @@ front_in_whole u v k m x b =
 
 pub whole_in_front : WholeBoundariesAreOfFront
 whole_in_front u v k m x h b =
-    let more = begun b.front b.back x.front x.back (reads_same b.splits.reads x.splits.reads) (omega (arith, b.splits.front_len, x.splits.front_len)) in
+    let more = shorter_is_prefix b.front b.back x.front x.back (reads_same b.splits.reads x.splits.reads) (omega (arith, b.splits.front_len, x.splits.front_len)) in
     let reads = subst (λ c. Reads c v) more.joined (front_reads x) in
     record { front = b.front; back = more.more; splits = record { reads = reads; front_len = b.splits.front_len } }
 
 pub whole_in_back : WholeBoundariesAreOfBack
 whole_in_back u v k m x b =
     let whole = reads_same x.splits.reads b.splits.reads in
-    let more = begun x.front x.back b.front b.back whole (omega (arith, b.splits.front_len, x.splits.front_len)) in
+    let more = shorter_is_prefix x.front x.back b.front b.back whole (omega (arith, b.splits.front_len, x.splits.front_len)) in
     let behind = append_cancel_left x.front x.back (more.more ++ b.back) (whole ∙ ap (λ f. f ++ b.back) more.joined ∙ append_assoc x.front more.more b.back) in
     let long = simp (bytes-append, length-append) at (ap (λ c. length (bytes c)) more.joined) in
     record {
@@ -69,12 +69,12 @@ back_in_whole u v k m x b =
 -- the units before a boundary, followed by the units after it, are the whole
 pub front_and_back : FrontAndBackAreWhole
 front_and_back u a b k x y =
-    let front = same_front u k a (units y.front) x (record { front = y.front; back = y.back; splits = y.splits; same_units = refl }) in
+    let front = front_unique u k a (units y.front) x (record { front = y.front; back = y.back; splits = y.splits; same_units = refl }) in
     ap (λ v. v ++ b) front ∙ (ap (λ v. units y.front ++ v) (sym y.same_units) ∙ (sym (units-append y.front y.back) ∙ y.splits.reads.same_units))
 
-pub beginnings : BeginningsAreNoLonger
-beginnings w x u v f g =
-    let b = beginning u v x g in omega (arith, b.within, ap length (same_form b.whole w u b.form f))
+pub beginning_no_longer : BeginningsAreNoLonger
+beginning_no_longer w x u v f g =
+    let b = beginning_of_form u v x g in omega (arith, b.within, ap length (same_form b.whole w u b.form f))
 
 pub both_no_longer : BothAreNoLonger
 both_no_longer w v x a b f g h = (both_length f g h).most
@@ -82,22 +82,22 @@ both_no_longer w v x a b f g h = (both_length f g h).most
 -- Proofs of the laws of ASCII bytes: each is one code point and one unit.
 
 -- an ASCII byte as one unit, with the units before and after it
-record Stands (u : List ℕ) (k b : ℕ) : Type 0 where
+record AsciiUnitAt (u : List ℕ) (k b : ℕ) : Type 0 where
   front : List ℕ
   back : List ℕ
   from_it : IsBack u k (b ∷ back)
   to_it : IsFront u (k + 1) (front ++ b ∷ [])
   whole : front ++ b ∷ back ≡ u
 
-stands : (front back u : List ℕ) → Reads (front ++ back) u → length (bytes front) < length (bytes (front ++ back))
-    → get_or (bytes (front ++ back)) (length (bytes front)) 0 < 0x80 → Stands u (length (bytes front)) (get_or (bytes (front ++ back)) (length (bytes front)) 0)
-stands front [] u r h low = absurd (omega (arith, ap (λ c. length (bytes c)) (append-nil front)))
-stands front (p ∷ b) u r h low =
-    let at : get_or (bytes (front ++ p ∷ b)) (length (bytes front)) 0 ≡ get_or (encoding p ++ bytes b) 0 0 = first_behind front p b in
-    let own = own_byte p (bytes b) (omega (arith, at)) in
+AsciiUnitAt-from_points : (front back u : List ℕ) → Reads (front ++ back) u → length (bytes front) < length (bytes (front ++ back))
+    → get_or (bytes (front ++ back)) (length (bytes front)) 0 < 0x80 → AsciiUnitAt u (length (bytes front)) (get_or (bytes (front ++ back)) (length (bytes front)) 0)
+AsciiUnitAt-from_points front [] u r h low = absurd (omega (arith, ap (λ c. length (bytes c)) (append-nil front)))
+AsciiUnitAt-from_points front (p ∷ b) u r h low =
+    let at : get_or (bytes (front ++ p ∷ b)) (length (bytes front)) 0 ≡ get_or (encoding p ++ bytes b) 0 0 = first-bytes_after front p b in
+    let own = encoding-from_ascii_byte p (bytes b) (omega (arith, at)) in
     let here : get_or (bytes (front ++ p ∷ b)) (length (bytes front)) 0 ≡ p = at ∙ ap (λ e. get_or (e ++ bytes b) 0 0) own.0 in
     let unit = units_one p (omega (arith, own.1)) in
-    subst (λ x. Stands u (length (bytes front)) x) (sym here) (record {
+    subst (λ x. AsciiUnitAt u (length (bytes front)) x) (sym here) (record {
       front = units front;
       back = units b;
       from_it = record { front = front; back = p ∷ b; splits = record { reads = r; front_len = refl }; same_units = ap (λ v. v ++ units b) unit };
@@ -110,25 +110,25 @@ stands front (p ∷ b) u r h low =
       whole = ap (λ v. units front ++ (v ++ units b)) (sym unit) ∙ (sym (units-append front (p ∷ b)) ∙ r.same_units);
     })
 
-ascii_stands : {w u : List ℕ} (form : IsForm w u) (k : ℕ) → k < length w → get_or w k 0 < 0x80 → Stands u k (get_or w k 0)
-ascii_stands {w} {u} form k h low =
+AsciiUnitAt-from_form : {w u : List ℕ} (form : IsForm w u) (k : ℕ) → k < length w → get_or w k 0 < 0x80 → AsciiUnitAt u k (get_or w k 0)
+AsciiUnitAt-from_form {w} {u} form k h low =
     let own = well_formed_of form in
     let c = cut_at own k (boundary_from_byte own k (omega arith) (λ _. record { start = inl low })) in
     let whole : bytes (c.front ++ c.back) ≡ w = ap bytes (sym c.points) ∙ form.encoded in
     let len = c.splits.front_len in
     let reads : Reads (c.front ++ c.back) u = subst (λ d. Reads d u) c.points form.reads in
     let byte : get_or (bytes (c.front ++ c.back)) (length (bytes c.front)) 0 ≡ get_or w k 0 = cc (whole, len) in
-    let x = stands c.front c.back u reads (omega (arith, len, ap length whole)) (omega (arith, byte)) in
-    subst (λ n. Stands u n (get_or w k 0)) len (subst (λ b. Stands u (length (bytes c.front)) b) byte x)
+    let x = AsciiUnitAt-from_points c.front c.back u reads (omega (arith, len, ap length whole)) (omega (arith, byte)) in
+    subst (λ n. AsciiUnitAt u n (get_or w k 0)) len (subst (λ b. AsciiUnitAt u (length (bytes c.front)) b) byte x)
 
 pub ascii_alone : AsciiIsBetweenBoundaries
 ascii_alone w u k form h low =
-    let s = ascii_stands form k h low in
+    let s = AsciiUnitAt-from_form form k h low in
     let from = s.from_it in (record { front = from.front; back = from.back; splits = from.splits }, front_boundary s.to_it)
 
 pub ascii_one_unit : AsciiIsOneUnit
 ascii_one_unit w u f g k form h low front back =
-    let s = ascii_stands form k h low in
+    let s = AsciiUnitAt-from_form form k h low in
     let same_front = append_cancel_right f s.front (get_or w k 0 ∷ s.back) (front_and_back u f _ k front s.from_it ∙ sym s.whole) in
     let same_back = append_cancel_left (s.front ++ get_or w k 0 ∷ []) g s.back
     (front_and_back u _ g (k + 1) s.to_it back ∙ (sym s.whole ∙ sym (append_assoc s.front (get_or w k 0 ∷ []) s.back))) in
@@ -142,7 +142,7 @@ none_of_points (p ∷ c) b l h =
     let rest : All P (bytes c) = subst (All P) (drop_at (encoding p) (bytes c) (length (encoding p)) refl)
     (All-drop P (length (encoding p)) (encoding p ++ bytes c) h) in
     let behind = none_of_points c b l rest in
-    elim (row_of p) [
+    elim (encoding_cases p) [
       | one m e ↦ rw (units_one p (omega arith)) (All-cons P p (units c) (All-head P p (bytes c) (rw e at h)) behind)
       | two m n e ↦ rw (units_one p (omega arith)) (All-cons P p (units c) (λ (q : p ≡ b). omega (arith, q)) behind)
       | three m n e ↦ rw (units_one p (omega arith)) (All-cons P p (units c) (λ (q : p ≡ b). omega (arith, q)) behind)
@@ -161,16 +161,16 @@ ascii_no_other_unit w u b form l h =
 pub ascii_unit : (c : List ℕ) (k : ℕ) → ((j : ℕ) → j < k + 1 → get_or (bytes c) j 0 < 0x80) → k < length (bytes c) → slice_get (units c) k ≡ Some (get_or (bytes c) k 0)
 ascii_unit [] k low long = absurd (omega (arith, long))
 ascii_unit (p ∷ c) zero low long =
-    let own = own_byte p (bytes c) (low 0 (omega arith)) in
+    let own = encoding-from_ascii_byte p (bytes c) (low 0 (omega arith)) in
     ap (λ u. slice_get u 0) (units-cons_one p c (omega (arith, own.1))) ∙ ap (λ e. Some (get_or (e ++ bytes c) 0 0)) (sym own.0)
 ascii_unit (p ∷ c) (suc k) low long =
-    let own = own_byte p (bytes c) (low 0 (omega arith)) in
+    let own = encoding-from_ascii_byte p (bytes c) (low 0 (omega arith)) in
     let whole : bytes (p ∷ c) ≡ p ∷ bytes c = ap (λ e. e ++ bytes c) own.0 in
     let behind = ascii_unit c k (λ j l. omega (arith, low (suc j) (omega (arith, l)), ap (λ w. get_or w (suc j) 0) whole)) (omega (arith, long, ap length whole)) in
     ap (λ u. slice_get u (suc k)) (units-cons_one p c (omega (arith, own.1))) ∙ (behind ∙ ap (λ w. Some (get_or w (suc k) 0)) (sym whole))
 
 -- a block without a lane from 80 on holds bytes below 80
-pub below_lanes : (n i : ℕ) (w : List ℕ) → i + n ≤ length w → ¬ (HasLane 0x80 (chunk i n w)) → (j : ℕ) → j < n → get_or w (i + j) 0 < 0x80
+pub below_lanes : (n i : ℕ) (w : List ℕ) → i + n ≤ length w → ¬ (HasLaneAtLeast 0x80 (chunk i n w)) → (j : ℕ) → j < n → get_or w (i + j) 0 < 0x80
 below_lanes n i w room none j l =
     let lane = get_or-chunk i n w j 0 l in
     elim (cases_lt (get_or w (i + j) 0) 0x80) [

@@ -14,12 +14,12 @@ use Rattle.std.proofs.lemmas.List.Sorted.{searchable_from_sorted}
 use Rattle.std.specs.List.{slice_index_or}
 use Rattle.std.specs.List.Sorted.{IsBinarySearchResult, IsSorted}
 use Rattle.std.specs.Ordering.{is_eq, on}
-use Rattle.wtf8.proofs.lemmas.comparing.Order.{cmp_self, ordered}
-use Rattle.wtf8.proofs.lemmas.numbers.Encoding.{Begins}
-use Rattle.wtf8.proofs.lemmas.numbers.Readings.{well_formed_of, same_form}
-use Rattle.wtf8.proofs.lemmas.numbers.Readings.{same_reading}
-use Rattle.wtf8.proofs.lemmas.strings.Concatenation.{equal_forms, form-glue, form_paired, form_apart, length_paired, length_apart, one_form, units_read, at_last, before, parted_more}
-use Rattle.wtf8.proofs.lemmas.strings.Positions.{cut_at, same_front, front_boundary, boundary_from_byte}
+use Rattle.wtf8.proofs.lemmas.comparing.Order.{cmp_self, order_of_result}
+use Rattle.wtf8.proofs.lemmas.codec.Encoding.{Begins}
+use Rattle.wtf8.proofs.lemmas.codec.Readings.{well_formed_of, same_form}
+use Rattle.wtf8.proofs.lemmas.codec.Readings.{same_reading}
+use Rattle.wtf8.proofs.lemmas.strings.Concatenation.{equal_forms, form-glue, form_paired, form_append-unpaired, length_paired, length_append-unpaired, one_form, units_read, at_last, before, split_of_push}
+use Rattle.wtf8.proofs.lemmas.strings.Positions.{cut_at, front_unique, front_boundary, boundary_from_byte}
 use Rattle.wtf8.proofs.lemmas.strings.Positions.{byte_from_boundary}
 use Rattle.wtf8.proofs.lemmas.strings.Surrogates.{lossy_points-scalar}
 use Rattle.wtf8.proofs.lemmas.laws.PositionLaws.{both_no_longer, ascii_no_other_unit}
@@ -37,7 +37,7 @@ equal_views s t = equal_forms s.bytes.now t.bytes.now (view_units s) (view_units
 
 -- bytes compare as `Equal` exactly if they are equal
 equal_bytes : (w v : List ℕ) → (slice_cmp nat_cmp w v ≡ Equal) ↔ (w ≡ v)
-equal_bytes w v = (λ e. ordered Equal w v (sym e), λ e. rw e (cmp_self v))
+equal_bytes w v = (λ e. order_of_result Equal w v (sym e), λ e. rw e (cmp_self v))
 
 pub equal_buffers_compare : EqualBuffersCompareEqual
 equal_buffers_compare s t =
@@ -65,7 +65,7 @@ absent_units table s i sorted result =
 pub strings_joined : StringsAreJoined
 strings_joined s t both e n =
     same_form both.bytes (s.bytes ++ t.bytes) both.units both.form (subst (IsForm (s.bytes ++ t.bytes)) (sym e)
-    (form_apart s.bytes t.bytes s.units t.units s.form t.form n))
+    (form_append-unpaired s.bytes t.bytes s.units t.units s.form t.form n))
 
 pub strings_paired : StringsArePaired
 strings_paired s t both e m =
@@ -113,7 +113,7 @@ module _ {T E : Type 0} where
       let both = subst (IsForm new.bytes) e new.form in
       record {
         pair = length_paired old.bytes other.bytes.now new.bytes old.units (view_units other) old.form (view_form other) both;
-        apart = length_apart old.bytes other.bytes.now new.bytes old.units (view_units other) old.form (view_form other) both;
+        apart = length_append-unpaired old.bytes other.bytes.now new.bytes old.units (view_units other) old.form (view_form other) both;
       }) ok
 
   -- appending no units, or a refused request, leaves the contents unchanged
@@ -175,7 +175,7 @@ step_once : (u : List ℕ) (call : Build) → StepsOnce u call
 step_once u (Truncate k) = elim (boundary_or_not u k) [
   | inl b ↦
       let f : IsFront u k (units b.front) = record { front = b.front; back = b.back; splits = b.splits; same_units = refl } in
-      record { outcome = _; count = _; goes = inl (f, refl); no_other = λ v r s. elim s [ inl x ↦ (same_front u k v _ x.0 f, x.1) | inr n ↦ absurd (n.0 b) ] }
+      record { outcome = _; count = _; goes = inl (f, refl); no_other = λ v r s. elim s [ inl x ↦ (front_unique u k v _ x.0 f, x.1) | inr n ↦ absurd (n.0 b) ] }
   | inr n ↦
       record { outcome = _; count = _; goes = inr (n, refl, refl); no_other = λ v r s. elim s [ inl x ↦ absurd (n (front_boundary x.0)) | inr m ↦ (m.1, m.2) ] }
 ]
@@ -210,7 +210,7 @@ run_once u (call ∷ calls) =
 -- one more call leaves what it reserves, and the capacity reserved before it unless it truncates
 pub reserved_more : {u now : List ℕ} {calls : List Build} {call : Build} {capacity larger : ℕ} (n : ℕ) → LeavesReserved u calls capacity → Run u calls now n
     → (IsNoTruncation call → capacity ≤ larger) → ((m : ℕ) → call ≡ Reserve m → FitWithin now m larger) → LeavesReserved u (calls ++ call ∷ []) larger
-reserved_more {u} {now} {calls} {call} {capacity} {larger} n f ran grows here front back m v r e none run = elim (parted_more calls call front (Reserve m) back e) [
+reserved_more {u} {now} {calls} {call} {capacity} {larger} n f ran grows here front back m v r e none run = elim (split_of_push calls call front (Reserve m) back e) [
   | at_last same last ↦
       let once = run_once u calls in
       let outcome = (once.no_other now n ran).0 ∙ sym (once.no_other v r (subst (λ c. Run u c v r) (sym same) run)).0 in

@@ -8,10 +8,10 @@ use Rattle.std.proofs.lemmas.Iterator.Adapters.{YieldsList-from_skip}
 use Rattle.wtf8.specs.PointLaws.{DrainedPointsAreLeft, DrainedPointsAreTaken, DrainedPointsAreAfterSkip}
 use Rattle.wtf8.specs.PointLaws.{CollectedPointsAreLeft, CollectedPointsAreTaken, CollectedPointsAreAfterSkip}
 use Rattle.wtf8.specs.StringLaws.{CharactersComeBack}
-use Rattle.wtf8.proofs.lemmas.numbers.Encoding.{encoding_one, bytes-append, bytes-pushed, encoding_same}
-use Rattle.wtf8.proofs.lemmas.numbers.Readings.{clean-append, no_lead, no_trail, same_reading, units_one, units-append}
+use Rattle.wtf8.proofs.lemmas.codec.Encoding.{encoding_one, bytes-append, bytes-pushed, encoding_same}
+use Rattle.wtf8.proofs.lemmas.codec.Readings.{clean-append, no_lead, no_trail, same_reading, units_one, units-append}
 use Rattle.wtf8.proofs.lemmas.strings.Concatenation.{equal_forms, one_form, units_read, one_reading, none_begins_another}
-use Rattle.wtf8.proofs.lemmas.strings.Gains.{all_back}
+use Rattle.wtf8.proofs.lemmas.strings.ExtendedForms.{all_back}
 use Rattle.wtf8.proofs.lemmas.strings.Surrogates.{scalars_true, scalars-lossy_points}
 use Rattle.wtf8.proofs.lemmas.laws.StringLaws.{run_once, runs_add, scalars_stay}
 
@@ -90,11 +90,11 @@ begins_by_ascii whole front b rest l e =
 
 -- Characters: the bytes of scalar values, decoded again.
 
-pub characters_again : CharactersComeBack
-characters_again c h s = ap chars (bytes_are_encodes c) ∙ chars-encodes c (scalars_true c h s)
+pub characters_come_back : CharactersComeBack
+characters_come_back c h s = ap chars (bytes_are_encodes c) ∙ chars-encodes c (scalars_true c h s)
 
 pub view_characters : (t : Wtf8) → AreScalar (view_points t) → chars t.bytes.now ≡ view_points t
-view_characters t s = ap chars (sym t.well_formed.encoded) ∙ characters_again (view_points t) t.well_formed.clean s
+view_characters t s = ap chars (sym t.well_formed.encoded) ∙ characters_come_back (view_points t) t.well_formed.clean s
 
 pub lossy_characters : (t : Wtf8) → chars (bytes (lossy_points (view_points t))) ≡ lossy_points (view_points t)
 lossy_characters t =
@@ -134,4 +134,4 @@ collected_back s points d =
     items_from_drains points d (YieldsList-from_skip (skip_count s) (YieldsList-from_first number (λ c. c) (skip_source s) refl) refl)
 
 -- the lemmas that prove laws as they are
-pub ruleset laws = (one_reading, units_read, none_begins_another, encoding_same, run_once, runs_add, scalars_stay, characters_again, view_reads, one_view_reading, view_characters, lossy_characters)
+pub ruleset laws = (one_reading, units_read, none_begins_another, encoding_same, run_once, runs_add, scalars_stay, characters_come_back, view_reads, one_view_reading, view_characters, lossy_characters)

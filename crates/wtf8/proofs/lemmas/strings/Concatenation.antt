@@ -6,10 +6,10 @@ use Rattle.wtf8.proofs.Common.{IsUnit, IsCodePoint, ◌%◌, ◌<◌, get_or}
 use Rattle.std.proofs.lemmas.List.{drop_more, take_more, take-append-drop, length-take-le}
 use Rattle.std.proofs.lemmas.List.Elements.{All-append}
 use Rattle.wtf8.specs.Laws.{UnitsHaveOneReading, ReadingsAreOfUnits, UnitsHaveOneForm, FormsAreOfOneList, EqualFormsHaveEqualUnits, NoEncodingBeginsAnother}
-use Rattle.wtf8.proofs.lemmas.numbers.Encoding.{encoding_three, encoding_four, length-surrogate, bytes-append, bytes-pushed, encoding_same}
-use Rattle.wtf8.proofs.lemmas.numbers.Readings.{clean-append, clean-front, clean-rest, pair_true, true_pair, meets_by, meets_behind, meets_or_apart, nothing_begins}
-use Rattle.wtf8.proofs.lemmas.numbers.Readings.{no_lead, no_trail, same_reading, units_one, units_pair, same_form, trail_first, lead_of, trail_of, units_two}
-use Rattle.wtf8.proofs.lemmas.numbers.Readings.{units-pushed, clean-first, form_of, units_from_form}
+use Rattle.wtf8.proofs.lemmas.codec.Encoding.{encoding_three, encoding_four, length-surrogate, bytes-append, bytes-pushed, encoding_same}
+use Rattle.wtf8.proofs.lemmas.codec.Readings.{clean-append, clean-front, clean-rest, pair_true, true_pair, meets_by, MeetsAsPair-cons, meets_or_not, nothing_begins}
+use Rattle.wtf8.proofs.lemmas.codec.Readings.{no_lead, no_trail, same_reading, units_one, units_pair, same_form, trail_first, lead_of, trail_of, units_two}
+use Rattle.wtf8.proofs.lemmas.codec.Readings.{units-pushed, clean-first, form_of, units_from_form}
 
 -- Lists of any kind: the last item, and the item at an index.
 
@@ -24,17 +24,17 @@ last_of (p ∷ c) = elim (last_of c) [ empty e ↦ ends [] p (ap (λ d. p ∷ d)
 
 module _ {X : Type 0} where
   -- dividing a list with one more item, at that item or before it
-  pub data PartedMore (xs : List X) (x : X) (front : List X) (y : X) (back : List X) : Type 0 where
-    at_last : xs ≡ front → x ≡ y → PartedMore xs x front y back
-    before : (rest : List X) → xs ≡ front ++ y ∷ rest → back ≡ rest ++ x ∷ [] → PartedMore xs x front y back
+  pub data SplitOfPush (xs : List X) (x : X) (front : List X) (y : X) (back : List X) : Type 0 where
+    at_last : xs ≡ front → x ≡ y → SplitOfPush xs x front y back
+    before : (rest : List X) → xs ≡ front ++ y ∷ rest → back ≡ rest ++ x ∷ [] → SplitOfPush xs x front y back
 
-  pub parted_more : (xs : List X) (x : X) (front : List X) (y : X) (back : List X) → xs ++ x ∷ [] ≡ front ++ y ∷ back → PartedMore xs x front y back
-  parted_more [] x [] y back e = at_last refl (ap (λ l. get_or l 0 x) e)
-  parted_more [] x (f ∷ front) y back e = absurd (omega (arith, ap length e, length-append front (y ∷ back)))
-  parted_more (z ∷ xs) x [] y back e = before xs (ap (λ h. h ∷ xs) (ap (λ l. get_or l 0 z) e)) (sym (ap (drop 1) e))
-  parted_more (z ∷ xs) x (f ∷ front) y back e =
+  pub split_of_push : (xs : List X) (x : X) (front : List X) (y : X) (back : List X) → xs ++ x ∷ [] ≡ front ++ y ∷ back → SplitOfPush xs x front y back
+  split_of_push [] x [] y back e = at_last refl (ap (λ l. get_or l 0 x) e)
+  split_of_push [] x (f ∷ front) y back e = absurd (omega (arith, ap length e, length-append front (y ∷ back)))
+  split_of_push (z ∷ xs) x [] y back e = before xs (ap (λ h. h ∷ xs) (ap (λ l. get_or l 0 z) e)) (sym (ap (drop 1) e))
+  split_of_push (z ∷ xs) x (f ∷ front) y back e =
       let same : z ≡ f = ap (λ l. get_or l 0 z) e in
-      elim (parted_more xs x front y back (ap (drop 1) e)) [
+      elim (split_of_push xs x front y back (ap (drop 1) e)) [
         | at_last s o ↦ at_last (cc (s, same)) o
         | before rest s b ↦ before rest (cc (s, same)) b
       ]
@@ -43,8 +43,8 @@ module _ {X : Type 0} where
   pub item_at : (xs : List X) (i : ℕ) (x : X) → i < length xs → x ≡ get_or xs i x → take i xs ++ x ∷ drop (i + 1) xs ≡ xs
   item_at xs i x h e = ap (λ y. take i xs ++ y ∷ drop (i + 1) xs) e ∙ (ap (λ d. take i xs ++ d) (sym (drop_more xs i x h)) ∙ take-append-drop i xs)
 
-  pub items_more : (xs : List X) (i : ℕ) (x : X) → i < length xs → x ≡ get_or xs i x → take (i + 1) xs ≡ take i xs ++ x ∷ []
-  items_more xs i x h e = take_more xs i x h ∙ ap (λ y. take i xs ++ y ∷ []) (sym e)
+  pub take-one_more : (xs : List X) (i : ℕ) (x : X) → i < length xs → x ≡ get_or xs i x → take (i + 1) xs ≡ take i xs ++ x ∷ []
+  take-one_more xs i x h e = take_more xs i x h ∙ ap (λ y. take i xs ++ y ∷ []) (sym e)
 
 -- Joining lists of code points with `glue`: its result is clean and has the units of both.
 
@@ -58,14 +58,14 @@ pub glue_meeting : (c d : List ℕ) (m : MeetsAsPair c d) → glue c d ≡ m.fro
 glue_meeting c d m = ap (λ x. glue x d) m.ends ∙ (ap (glue (m.front ++ m.lead ∷ [])) m.begins ∙ glue-pair m.front m.lead m.trail m.rest m.is_lead m.is_trail)
 
 -- without a pair at the seam the lists are appended
-pub glue_apart : (c d : List ℕ) → ¬ (MeetsAsPair c d) → glue c d ≡ c ++ d
-glue_apart [] d n = refl
-glue_apart (p ∷ []) [] n = refl
-glue_apart (p ∷ []) (q ∷ d) n = elim (cases_Bool (is_pair p q)) [
+pub glue-unpaired : (c d : List ℕ) → ¬ (MeetsAsPair c d) → glue c d ≡ c ++ d
+glue-unpaired [] d n = refl
+glue-unpaired (p ∷ []) [] n = refl
+glue-unpaired (p ∷ []) (q ∷ d) n = elim (cases_Bool (is_pair p q)) [
   | inl e ↦ let h = true_pair p q e in absurd (n (meets_by [] d p q h.0 h.1 refl refl))
   | inr e ↦ rw e refl
 ]
-glue_apart (p ∷ q ∷ c) d n = ap (λ e. p ∷ e) (glue_apart (q ∷ c) d (λ m. n (meets_behind p m)))
+glue-unpaired (p ∷ q ∷ c) d n = ap (λ e. p ∷ e) (glue-unpaired (q ∷ c) d (λ m. n (MeetsAsPair-cons p m)))
 
 clean-paired : (f : List ℕ) (l t : ℕ) (r : List ℕ) → IsClean (f ++ l ∷ []) → IsClean (t ∷ r) → IsLead l → IsTrail t → IsClean (f ++ pair l t ∷ r)
 clean-paired f l t r x y h k =
@@ -73,10 +73,10 @@ clean-paired f l t r x y h k =
     clean-append f (pair l t ∷ r) (clean-front f (l ∷ []) x) behind (no_trail (pair l t) r (λ p. omega (arith, p.1)))
 
 pub clean-glue : (c d : List ℕ) → IsClean c → IsClean d → IsClean (glue c d)
-clean-glue c d x y = elim (meets_or_apart c d) [
+clean-glue c d x y = elim (meets_or_not c d) [
   | inl m ↦ subst IsClean (sym (glue_meeting c d m)) (clean-paired m.front m.lead m.trail m.rest (subst IsClean m.ends x)
       (subst IsClean m.begins y) m.is_lead m.is_trail)
-  | inr n ↦ subst IsClean (sym (glue_apart c d n)) (clean-append c d x y n)
+  | inr n ↦ subst IsClean (sym (glue-unpaired c d n)) (clean-append c d x y n)
 ]
 
 units-paired : (p q : ℕ) (d : List ℕ) → IsLead p → IsTrail q → units (pair p q ∷ d) ≡ units (p ∷ []) ++ units (q ∷ d)
@@ -96,7 +96,7 @@ pub reads-glue : (c d a b : List ℕ) → Reads c a → Reads d b → Reads (glu
 reads-glue c d a b x y = record { clean = clean-glue c d x.clean y.clean; same_units = cc (units-glue c d) }
 
 pub glue-nil : (c : List ℕ) → glue c [] ≡ c
-glue-nil c = glue_apart c [] nothing_begins ∙ append-nil c
+glue-nil c = glue-unpaired c [] nothing_begins ∙ append-nil c
 
 -- joining is associative, since both ways read the same units
 pub glue_assoc : (c d e : List ℕ) → IsClean c → IsClean d → IsClean e → glue (glue c d) e ≡ glue c (glue d e)
@@ -138,8 +138,8 @@ pub bytes_paired : {w v : List ℕ} (c d : List ℕ) (m : MeetsAsPair c d) → b
 bytes_paired {w} {v} c d m e g =
     let s = meeting_bytes m e g in simp (glue_meeting c d m, bytes-append, s.before, s.behind, append_assoc)
 
-pub bytes_apart : {w v : List ℕ} (c d : List ℕ) → ¬ (MeetsAsPair c d) → bytes c ≡ w → bytes d ≡ v → bytes (glue c d) ≡ w ++ v
-bytes_apart {w} {v} c d n e g = simp (glue_apart c d n, bytes-append, e, g)
+pub bytes_glue-unpaired : {w v : List ℕ} (c d : List ℕ) → ¬ (MeetsAsPair c d) → bytes c ≡ w → bytes d ≡ v → bytes (glue c d) ≡ w ++ v
+bytes_glue-unpaired {w} {v} c d n e g = simp (glue-unpaired c d n, bytes-append, e, g)
 
 -- a pair takes one byte more than its lead, and two less than its surrogates
 length-joined : (w : List ℕ) (l t : ℕ) → IsLead l → IsTrail t → 3 ≤ length w → length (take (length w - 3) w ++ encoding (pair l t)) ≡ length w + 1
@@ -159,8 +159,8 @@ form-glue w v a b x y = record { points = glue x.points y.points; reads = reads-
 pub form_meeting : {w v a b : List ℕ} (x : IsForm w a) (y : IsForm v b) (m : MeetsAsPair x.points y.points) → IsForm (paired_bytes w m.lead m.trail v) (a ++ b)
 form_meeting {w} {v} {a} {b} x y m = subst (λ z. IsForm z (a ++ b)) (bytes_paired x.points y.points m x.encoded y.encoded) (form-glue w v a b x y)
 
-pub form_behind : {w v a b : List ℕ} (x : IsForm w a) (y : IsForm v b) → ¬ (MeetsAsPair x.points y.points) → IsForm (w ++ v) (a ++ b)
-form_behind {w} {v} {a} {b} x y n = subst (λ z. IsForm z (a ++ b)) (bytes_apart x.points y.points n x.encoded y.encoded) (form-glue w v a b x y)
+pub form-append : {w v a b : List ℕ} (x : IsForm w a) (y : IsForm v b) → ¬ (MeetsAsPair x.points y.points) → IsForm (w ++ v) (a ++ b)
+form-append {w} {v} {a} {b} x y n = subst (λ z. IsForm z (a ++ b)) (bytes_glue-unpaired x.points y.points n x.encoded y.encoded) (form-glue w v a b x y)
 
 -- a lead that is the last unit is the last code point
 pub lead_last : (c g : List ℕ) (l : ℕ) → IsLead l → units c ≡ g ++ l ∷ [] → (f : List ℕ) × (c ≡ f ++ l ∷ [])
@@ -198,8 +198,8 @@ units_meet x y m =
 pub form_paired : (w v a b : List ℕ) → IsForm w a → IsForm v b → (m : MeetsAsPair a b) → IsForm (paired_bytes w m.lead m.trail v) (a ++ b)
 form_paired w v a b x y m = form_meeting x y (points_meet x.reads y.reads m)
 
-pub form_apart : (w v a b : List ℕ) → IsForm w a → IsForm v b → ¬ (MeetsAsPair a b) → IsForm (w ++ v) (a ++ b)
-form_apart w v a b x y n = form_behind x y (λ m. n (units_meet x.reads y.reads m))
+pub form_append-unpaired : (w v a b : List ℕ) → IsForm w a → IsForm v b → ¬ (MeetsAsPair a b) → IsForm (w ++ v) (a ++ b)
+form_append-unpaired w v a b x y n = form-append x y (λ m. n (units_meet x.reads y.reads m))
 
 -- the length of the form of both
 pub length_paired : (w v z a b : List ℕ) → IsForm w a → IsForm v b → IsForm z (a ++ b) → MeetsAsPair a b → length z + 2 ≡ length w + length v
@@ -208,8 +208,8 @@ length_paired w v z a b x y f m =
     let same = same_form z (paired_bytes w m.lead m.trail v) (a ++ b) f (form_paired w v a b x y m) in
     ap (λ e. length e + 2) same ∙ length-paired_bytes w v m.lead m.trail m.is_lead m.is_trail s.three s.three_behind
 
-pub length_apart : (w v z a b : List ℕ) → IsForm w a → IsForm v b → IsForm z (a ++ b) → ¬ (MeetsAsPair a b) → length z ≡ length w + length v
-length_apart w v z a b x y f n = ap length (same_form z (w ++ v) (a ++ b) f (form_apart w v a b x y n)) ∙ length-append w v
+pub length_append-unpaired : (w v z a b : List ℕ) → IsForm w a → IsForm v b → IsForm z (a ++ b) → ¬ (MeetsAsPair a b) → length z ≡ length w + length v
+length_append-unpaired w v z a b x y f n = ap length (same_form z (w ++ v) (a ++ b) f (form_append-unpaired w v a b x y n)) ∙ length-append w v
 
 -- Proofs of the laws of readings and forms: they exist, and each is the only one.
 
@@ -218,15 +218,15 @@ reads_one : (n : ℕ) → IsUnit n → Reads (n ∷ []) (n ∷ [])
 reads_one n h = record { clean = omega arith; same_units = append-nil (units_of n) ∙ units_one n (omega arith) }
 
 -- the reading of a list of units: the first unit joined to the reading of the others
-reading : (u : List ℕ) → All IsUnit u → (c : List ℕ) × Reads c u
-reading [] h = ([], record { clean = tt; same_units = refl })
-reading (n ∷ u) h =
-    let rest = reading u (All-tail IsUnit n u h) in
+reading_exists : (u : List ℕ) → All IsUnit u → (c : List ℕ) × Reads c u
+reading_exists [] h = ([], record { clean = tt; same_units = refl })
+reading_exists (n ∷ u) h =
+    let rest = reading_exists u (All-tail IsUnit n u h) in
     (glue (n ∷ []) rest.0, reads-glue (n ∷ []) rest.0 (n ∷ []) u (reads_one n (All-head IsUnit n u h)) rest.1)
 
 pub one_reading : UnitsHaveOneReading
 one_reading u h =
-    let r = reading u h in
+    let r = reading_exists u h in
     record { one = r.0; has = r.1; no_other = λ c x. same_reading c r.0 x.clean r.1.clean (x.same_units ∙ sym r.1.same_units) }
 
 units_in_range : (p : ℕ) → IsCodePoint p → All IsUnit (units_of p)
@@ -244,7 +244,7 @@ units_read c u x = All-same IsUnit u (units c) (sym x.same_units) (all_units c x
 
 pub one_form : UnitsHaveOneForm
 one_form u h =
-    let r = reading u h in
+    let r = reading_exists u h in
     let form : IsForm (bytes r.0) u = record { points = r.0; reads = r.1; encoded = refl } in
     record { one = bytes r.0; has = form; no_other = λ w x. same_form w (bytes r.0) u x form }
 

@@ -1,11 +1,11 @@
 -- Positions at which the bytes of a string may be cut, and the number of units before them.
 use Rattle.wtf8.proofs.Common.{◌≡◌, ◌-◌, ◌≤◌, ◌<◌, ℕ, zero, suc, inl, inr, List, [], ◌∷◌, ◌++◌, length, get_or, refl, ap, ◌∙◌, sym, subst, arith, length-append}
 use Rattle.wtf8.proofs.Common.{cases_lt, append-nil, get_or-append_right, encoding, bytes, take, drop, append_assoc, take_at, drop_at, units, IsClean, Reads}
-use Rattle.wtf8.proofs.Common.{IsWellFormed, IsForm, IsBoundary, IsFront, IsBack, ◌+◌, ◌/◌, ◌%◌, take-add, chunk, units_of, units_begun, all_units_begun}
-use Rattle.wtf8.proofs.Common.{IsPlaceOfUnit, CutsUnits, None, sum_by-append, sum_by_more, Splits, IsMiddle, Place}
-use Rattle.wtf8.proofs.lemmas.lanes.UnitCounts.{begun_low, begun_inside, begun_one, begun_two}
-use Rattle.wtf8.proofs.lemmas.numbers.Encoding.{Begins, first-encoding, inside-encoding, length-encoding_bounds, length-behind, bytes-append, row_of, one, two, three, four}
-use Rattle.wtf8.proofs.lemmas.numbers.Readings.{clean-front, clean-back, reads_same, same_heads, same_points, same_reading, well_formed_of, units_one, units_two}
+use Rattle.wtf8.proofs.Common.{IsWellFormed, IsForm, IsBoundary, IsFront, IsBack, ◌+◌, ◌/◌, ◌%◌, take-add, chunk, units_of, utf16_len, sum_utf16_len}
+use Rattle.wtf8.proofs.Common.{IsCursorOfUnit, CutsUnits, None, sum_by-append, sum_by_more, Splits, IsMiddle, UnitCursor}
+use Rattle.wtf8.proofs.lemmas.lanes.UnitCounts.{utf16_len-ascii, utf16_len-continuation, utf16_len-lead_below_F0, utf16_len-lead_from_F0}
+use Rattle.wtf8.proofs.lemmas.codec.Encoding.{Begins, first-encoding, continuation-encoding, length-encoding_bounds, length-bytes_append, bytes-append, encoding_cases, one, two, three, four}
+use Rattle.wtf8.proofs.lemmas.codec.Readings.{clean-front, clean-back, reads_same, same_heads, same_points, same_reading, well_formed_of, units_one, units_two}
 
 -- Cuts of the bytes of a list of code points.
 
@@ -16,8 +16,8 @@ pub record Split (c : List ℕ) (k : ℕ) : Type 0 where
   pub joined : c ≡ front ++ back
   pub front_len : length (bytes front) ≡ k
 
-split_behind : (p : ℕ) {c : List ℕ} {k : ℕ} → length (encoding p) ≤ k → Split c (k - length (encoding p)) → Split (p ∷ c) k
-split_behind p h s =
+Split-cons : (p : ℕ) {c : List ℕ} {k : ℕ} → length (encoding p) ≤ k → Split c (k - length (encoding p)) → Split (p ∷ c) k
+Split-cons p h s =
     let whole = length-append (encoding p) (bytes s.front) in
     record { front = p ∷ s.front; back = s.back; joined = ap (λ r. p ∷ r) s.joined; front_len = omega (arith, h, s.front_len, whole) }
 
@@ -29,23 +29,23 @@ split_at (p ∷ c) (suc k) h s =
     let n = length-encoding_bounds p in
     let whole = length-append (encoding p) (bytes c) in
     elim (cases_lt (suc k) (length (encoding p))) [
-      | inl l ↦ let inside = inside-encoding p k (bytes c) l in absurd (omega (arith, (s (omega arith)).start))
+      | inl l ↦ let inside = continuation-encoding p k (bytes c) l in absurd (omega (arith, (s (omega arith)).start))
       | inr l ↦
           let at = get_or-append_right (encoding p) (bytes c) (length (encoding p)) (suc k) 0 refl l in
-          split_behind p l (split_at c (suc k - length (encoding p)) (omega arith) (λ m. subst Begins at (s (omega arith))))
+          Split-cons p l (split_at c (suc k - length (encoding p)) (omega arith) (λ m. subst Begins at (s (omega arith))))
     ]
 
 -- the byte after a front is the first byte of the next code point
-pub first_behind : (front : List ℕ) (p : ℕ) (b : List ℕ) → get_or (bytes (front ++ p ∷ b)) (length (bytes front)) 0 ≡ get_or (encoding p ++ bytes b) 0 0
-first_behind front p b =
+pub first-bytes_after : (front : List ℕ) (p : ℕ) (b : List ℕ) → get_or (bytes (front ++ p ∷ b)) (length (bytes front)) 0 ≡ get_or (encoding p ++ bytes b) 0 0
+first-bytes_after front p b =
     let n = length (bytes front) in
     let start : n - n ≡ 0 = omega arith in
     ap (λ w. get_or w n 0) (bytes-append front (p ∷ b)) ∙ (get_or-append_right (bytes front) (encoding p ++ bytes b) n n 0 refl (omega arith)
     ∙ ap (λ k. get_or (encoding p ++ bytes b) k 0) start)
 
-pub begins_behind : (f b : List ℕ) → length (bytes f) < length (bytes (f ++ b)) → Begins (get_or (bytes (f ++ b)) (length (bytes f)) 0)
-begins_behind f [] h = absurd (omega (arith, ap (λ c. length (bytes c)) (append-nil f)))
-begins_behind f (p ∷ b) h = subst Begins (sym (first_behind f p b)) (first-encoding p (bytes b))
+pub begins_after : (f b : List ℕ) → length (bytes f) < length (bytes (f ++ b)) → Begins (get_or (bytes (f ++ b)) (length (bytes f)) 0)
+begins_after f [] h = absurd (omega (arith, ap (λ c. length (bytes c)) (append-nil f)))
+begins_after f (p ∷ b) h = subst Begins (sym (first-bytes_after f p b)) (first-encoding p (bytes b))
 
 -- Cuts of a string, and its parts.
 
@@ -100,9 +100,9 @@ pub points_before : {w v : List ℕ} (h : IsWellFormed w) (p : IsWellFormed v) (
     → v ≡ take k w → p.points ≡ front
 points_before h p front back k e n d = same_points p (cut_by h front back k e n).before d
 
-pub points_behind : {w v : List ℕ} (h : IsWellFormed w) (p : IsWellFormed v) (front back : List ℕ) (k : ℕ) → h.points ≡ front ++ back → length (bytes front) ≡ k
+pub points_after : {w v : List ℕ} (h : IsWellFormed w) (p : IsWellFormed v) (front back : List ℕ) (k : ℕ) → h.points ≡ front ++ back → length (bytes front) ≡ k
     → v ≡ drop k w → p.points ≡ back
-points_behind h p front back k e n d = same_points p (cut_by h front back k e n).behind d
+points_after h p front back k e n d = same_points p (cut_by h front back k e n).behind d
 
 -- the bytes before a position are the form of the units before it
 pub front_form : {w u : List ℕ} (h : IsForm w u) (k : ℕ) (v : List ℕ) → IsFront u k v → IsForm (take k w) v
@@ -122,7 +122,7 @@ byte_from_boundary {w} h k b m =
     let c = cut_at h k b in
     let whole : bytes (c.front ++ c.back) ≡ w = ap bytes (sym c.points) ∙ h.encoded in
     subst (λ v. Begins (get_or v k 0)) whole (subst (λ n. Begins (get_or (bytes (c.front ++ c.back)) n 0)) c.splits.front_len
-    (begins_behind c.front c.back (omega (arith, c.splits.front_len, ap length whole))))
+    (begins_after c.front c.back (omega (arith, c.splits.front_len, ap length whole))))
 
 -- a position divides a list of units in one way only
 same_splits : (u : List ℕ) (k : ℕ) (f b g d : List ℕ) → Splits u k f b → Splits u k g d → (f ≡ g) × (b ≡ d)
@@ -130,25 +130,25 @@ same_splits u k f b g d own other =
     let whole = reads_same own.reads other.reads in
     let h : IsWellFormed (bytes (f ++ b)) = record { points = f ++ b; clean = own.reads.clean; encoded = refl } in
     let cut = cut_by h f b k refl own.front_len in
-    (points_before h cut.before g d k whole other.front_len refl, points_behind h cut.behind g d k whole other.front_len refl)
+    (points_before h cut.before g d k whole other.front_len refl, points_after h cut.behind g d k whole other.front_len refl)
 
-pub same_front : (u : List ℕ) (k : ℕ) (v w : List ℕ) → IsFront u k v → IsFront u k w → v ≡ w
-same_front u k v w x y = sym x.same_units ∙ (ap units (same_splits u k x.front x.back y.front y.back x.splits y.splits).0 ∙ y.same_units)
+pub front_unique : (u : List ℕ) (k : ℕ) (v w : List ℕ) → IsFront u k v → IsFront u k w → v ≡ w
+front_unique u k v w x y = sym x.same_units ∙ (ap units (same_splits u k x.front x.back y.front y.back x.splits y.splits).0 ∙ y.same_units)
 
-pub same_back : (u : List ℕ) (k : ℕ) (v w : List ℕ) → IsBack u k v → IsBack u k w → v ≡ w
-same_back u k v w x y = sym x.same_units ∙ (ap units (same_splits u k x.front x.back y.front y.back x.splits y.splits).1 ∙ y.same_units)
+pub back_unique : (u : List ℕ) (k : ℕ) (v w : List ℕ) → IsBack u k v → IsBack u k w → v ≡ w
+back_unique u k v w x y = sym x.same_units ∙ (ap units (same_splits u k x.front x.back y.front y.back x.splits y.splits).1 ∙ y.same_units)
 
 -- of two fronts of a list the shorter begins the longer
-pub record Begun (f g : List ℕ) : Type 0 where
+pub record IsPrefix (f g : List ℕ) : Type 0 where
   pub more : List ℕ
   pub joined : g ≡ f ++ more
 
-pub begun : (f b g d : List ℕ) → f ++ b ≡ g ++ d → length (bytes f) ≤ length (bytes g) → Begun f g
-begun [] b g d e n = record { more = g; joined = refl }
-begun (p ∷ f) b [] d e n = absurd (omega (arith, length-encoding_bounds p, length-append (encoding p) (bytes f)))
-begun (p ∷ f) b (q ∷ g) d e n =
+pub shorter_is_prefix : (f b g d : List ℕ) → f ++ b ≡ g ++ d → length (bytes f) ≤ length (bytes g) → IsPrefix f g
+shorter_is_prefix [] b g d e n = record { more = g; joined = refl }
+shorter_is_prefix (p ∷ f) b [] d e n = absurd (omega (arith, length-encoding_bounds p, length-append (encoding p) (bytes f)))
+shorter_is_prefix (p ∷ f) b (q ∷ g) d e n =
     let h = same_heads p q (f ++ b) (g ++ d) e in
-    let r = begun f b g d h.1 (omega (arith, length-append (encoding p) (bytes f), length-append (encoding q) (bytes g), ap (λ k. length (encoding k)) h.0)) in
+    let r = shorter_is_prefix f b g d h.1 (omega (arith, length-append (encoding p) (bytes f), length-append (encoding q) (bytes g), ap (λ k. length (encoding k)) h.0)) in
     record { more = r.more; joined = ap (λ k. k ∷ g) (sym h.0) ∙ ap (λ v. p ∷ v) r.joined }
 
 -- the back of a front is the middle
@@ -168,88 +168,88 @@ middle_of h begin end p f b =
 -- Positions counted in units, and the code points at them.
 
 -- the units that begin before a block and in it add up
-pub begun_more : (w : List ℕ) (i n : ℕ) → all_units_begun (take (i + n) w) ≡ all_units_begun (take i w) + all_units_begun (chunk i n w)
-begun_more w i n = ap all_units_begun (take-add i n w) ∙ sum_by-append units_begun (take i w) (take n (drop i w))
+pub sum_utf16_len_take_add : (w : List ℕ) (i n : ℕ) → sum_utf16_len (take (i + n) w) ≡ sum_utf16_len (take i w) + sum_utf16_len (chunk i n w)
+sum_utf16_len_take_add w i n = ap sum_utf16_len (take-add i n w) ∙ sum_by-append utf16_len (take i w) (take n (drop i w))
 
 -- `n` units begin in `n` ASCII bytes
-pub begun_ascii : (w : List ℕ) (i n : ℕ) → i + n ≤ length w → ((j : ℕ) → j < n → get_or w (i + j) 0 < 0x80)
-    → all_units_begun (take (i + n) w) ≡ all_units_begun (take i w) + n
-begun_ascii w i zero room low = omega (arith, ap (λ k. all_units_begun (take k w)) (start i))
+pub sum_utf16_len-ascii : (w : List ℕ) (i n : ℕ) → i + n ≤ length w → ((j : ℕ) → j < n → get_or w (i + j) 0 < 0x80)
+    → sum_utf16_len (take (i + n) w) ≡ sum_utf16_len (take i w) + n
+sum_utf16_len-ascii w i zero room low = omega (arith, ap (λ k. sum_utf16_len (take k w)) (start i))
   where
     start : (i : ℕ) → i + 0 ≡ i
     start i = omega arith
-begun_ascii w i (suc n) room low =
+sum_utf16_len-ascii w i (suc n) room low =
     let last : i + suc n ≡ i + n + 1 = omega arith in
-    let more = sum_by_more units_begun w (i + n) 0 (omega (arith, room)) in
-    let one = begun_low (get_or w (i + n) 0) (low n (omega arith)) in
-    omega (arith, ap (λ k. all_units_begun (take k w)) last, more, one, begun_ascii w i n (omega (arith, room)) (λ j l. low j (omega (arith, l))))
+    let more = sum_by_more utf16_len w (i + n) 0 (omega (arith, room)) in
+    let one = utf16_len-ascii (get_or w (i + n) 0) (low n (omega arith)) in
+    omega (arith, ap (λ k. sum_utf16_len (take k w)) last, more, one, sum_utf16_len-ascii w i n (omega (arith, room)) (λ j l. low j (omega (arith, l))))
 
-pub blocks_more : (w : List ℕ) (i m n k : ℕ) → m + n ≡ k → all_units_begun (chunk i k w) ≡ all_units_begun (chunk i m w) + all_units_begun (chunk (i + m) n w)
-blocks_more w i m n k e =
+pub sum_utf16_len-chunk_add : (w : List ℕ) (i m n k : ℕ) → m + n ≡ k → sum_utf16_len (chunk i k w) ≡ sum_utf16_len (chunk i m w) + sum_utf16_len (chunk (i + m) n w)
+sum_utf16_len-chunk_add w i m n k e =
     let ends : i + m + n ≡ i + k = omega (arith, e) in
-    let same = ap (λ j. all_units_begun (take j w)) ends in
-    omega (arith, begun_more w i k, begun_more w i m, begun_more w (i + m) n, same)
+    let same = ap (λ j. sum_utf16_len (take j w)) ends in
+    omega (arith, sum_utf16_len_take_add w i k, sum_utf16_len_take_add w i m, sum_utf16_len_take_add w (i + m) n, same)
 
 -- the units of a code point begin in its bytes, all of them at the first byte
-begun_tail : (n : ℕ) → units_begun (0x80 + n % 64) ≡ 0
-begun_tail n = begun_inside (0x80 + n % 64) (omega arith) (omega arith)
+utf16_len-continuation_byte : (n : ℕ) → utf16_len (0x80 + n % 64) ≡ 0
+utf16_len-continuation_byte n = utf16_len-continuation (0x80 + n % 64) (omega arith) (omega arith)
 
-pub begun_encoding : (p : ℕ) → all_units_begun (encoding p) ≡ length (units_of p)
-begun_encoding p = elim (row_of p) [
-  | one h e ↦ rw (e, units_one p (omega arith), begun_low p h) refl
-  | two l h e ↦ rw (e, units_one p (omega arith), begun_one (0xC0 + p / 64) (omega arith) (omega arith), begun_tail p) refl
-  | three l h e ↦ rw (e, units_one p h, begun_one (0xE0 + p / 4096) (omega arith) (omega arith), begun_tail (p / 64), begun_tail p) refl
-  | four l e ↦ rw (e, units_two p l, begun_two (0xF0 + p / 262144) (omega arith), begun_tail (p / 4096), begun_tail (p / 64), begun_tail p) refl
+pub sum_utf16_len-encoding : (p : ℕ) → sum_utf16_len (encoding p) ≡ length (units_of p)
+sum_utf16_len-encoding p = elim (encoding_cases p) [
+  | one h e ↦ rw (e, units_one p (omega arith), utf16_len-ascii p h) refl
+  | two l h e ↦ rw (e, units_one p (omega arith), utf16_len-lead_below_F0 (0xC0 + p / 64) (omega arith) (omega arith), utf16_len-continuation_byte p) refl
+  | three l h e ↦ rw (e, units_one p h, utf16_len-lead_below_F0 (0xE0 + p / 4096) (omega arith) (omega arith), utf16_len-continuation_byte (p / 64), utf16_len-continuation_byte p) refl
+  | four l e ↦ rw (e, units_two p l, utf16_len-lead_from_F0 (0xF0 + p / 262144) (omega arith), utf16_len-continuation_byte (p / 4096), utf16_len-continuation_byte (p / 64), utf16_len-continuation_byte p) refl
 ]
 
-begun_first : (p : ℕ) (r : List ℕ) → units_begun (get_or (encoding p ++ r) 0 0) ≡ length (units_of p)
-begun_first p r = elim (row_of p) [
-  | one h e ↦ rw (e, units_one p (omega arith)) (begun_low p h)
-  | two l h e ↦ rw (e, units_one p (omega arith)) (begun_one (0xC0 + p / 64) (omega arith) (omega arith))
-  | three l h e ↦ rw (e, units_one p h) (begun_one (0xE0 + p / 4096) (omega arith) (omega arith))
-  | four l e ↦ rw (e, units_two p l) (begun_two (0xF0 + p / 262144) (omega arith))
+utf16_len-encoding : (p : ℕ) (r : List ℕ) → utf16_len (get_or (encoding p ++ r) 0 0) ≡ length (units_of p)
+utf16_len-encoding p r = elim (encoding_cases p) [
+  | one h e ↦ rw (e, units_one p (omega arith)) (utf16_len-ascii p h)
+  | two l h e ↦ rw (e, units_one p (omega arith)) (utf16_len-lead_below_F0 (0xC0 + p / 64) (omega arith) (omega arith))
+  | three l h e ↦ rw (e, units_one p h) (utf16_len-lead_below_F0 (0xE0 + p / 4096) (omega arith) (omega arith))
+  | four l e ↦ rw (e, units_two p l) (utf16_len-lead_from_F0 (0xF0 + p / 262144) (omega arith))
 ]
 
-pub begun_bytes : (c : List ℕ) → all_units_begun (bytes c) ≡ length (units c)
-begun_bytes [] = refl
-begun_bytes (p ∷ c) = omega (arith, sum_by-append units_begun (encoding p) (bytes c), begun_encoding p, begun_bytes c, length-append (units_of p) (units c))
+pub sum_utf16_len-bytes : (c : List ℕ) → sum_utf16_len (bytes c) ≡ length (units c)
+sum_utf16_len-bytes [] = refl
+sum_utf16_len-bytes (p ∷ c) = omega (arith, sum_by-append utf16_len (encoding p) (bytes c), sum_utf16_len-encoding p, sum_utf16_len-bytes c, length-append (units_of p) (units c))
 
 -- a byte at which units begin begins a code point
-begins_units : (b : ℕ) → 0 < units_begun b → Begins b
-begins_units b h = elim (cases_lt b 0x80) [
+begins_from_utf16_len : (b : ℕ) → 0 < utf16_len b → Begins b
+begins_from_utf16_len b h = elim (cases_lt b 0x80) [
   | inl l ↦ record { start = inl l }
-  | inr l ↦ elim (cases_lt b 0xC0) [ inl k ↦ absurd (omega (arith, begun_inside b l k)) | inr k ↦ record { start = inr k } ]
+  | inr l ↦ elim (cases_lt b 0xC0) [ inl k ↦ absurd (omega (arith, utf16_len-continuation b l k)) | inr k ↦ record { start = inr k } ]
 ]
 
--- the code points before and after `place`; the next one, if any, holds unit `n`
-pub record PointsAbout (c : List ℕ) (n : ℕ) (place : Place) : Type 0 where
-  pub cut : CutsUnits c place.units_before place.at None
-  pub not_beyond : place.units_before ≤ n
-  pub holds : (p : ℕ) (rest : List ℕ) → cut.back ≡ p ∷ rest → n < place.units_before + length (units_of p)
+-- the code points before and after `cursor`; the next one, if any, holds unit `n`
+pub record PointsAbout (c : List ℕ) (n : ℕ) (cursor : UnitCursor) : Type 0 where
+  pub cut : CutsUnits c cursor.units_before cursor.at None
+  pub not_beyond : cursor.units_before ≤ n
+  pub holds : (p : ℕ) (rest : List ℕ) → cut.back ≡ p ∷ rest → n < cursor.units_before + length (units_of p)
 
-pub points_about : (c : List ℕ) (n : ℕ) (s : Place) → IsPlaceOfUnit (bytes c) n s → PointsAbout c n s
+pub points_about : (c : List ℕ) (n : ℕ) (s : UnitCursor) → IsCursorOfUnit (bytes c) n s → PointsAbout c n s
 points_about c n s h =
-    let place = s.at in
+    let cursor = s.at in
     let before = s.units_before in
     let was = h.before in
-    let next : place < length (bytes c) → n < before + units_begun (get_or (bytes c) place 0) =
-    λ m. omega (arith, h.reaches m, was.counted, sum_by_more units_begun (bytes c) place 0 m) in
-    let cut = split_at c place was.within (λ m. begins_units (get_or (bytes c) place 0) (omega (arith, next m, was.not_beyond))) in
+    let next : cursor < length (bytes c) → n < before + utf16_len (get_or (bytes c) cursor 0) =
+    λ m. omega (arith, h.reaches m, was.counted, sum_by_more utf16_len (bytes c) cursor 0 m) in
+    let cut = split_at c cursor was.within (λ m. begins_from_utf16_len (get_or (bytes c) cursor 0) (omega (arith, next m, was.not_beyond))) in
     let whole : bytes c ≡ bytes cut.front ++ bytes cut.back = ap bytes cut.joined ∙ bytes-append cut.front cut.back in
-    let front : take place (bytes c) ≡ bytes cut.front = ap (take place) whole ∙ take_at (bytes cut.front) (bytes cut.back) place cut.front_len in
+    let front : take cursor (bytes c) ≡ bytes cut.front = ap (take cursor) whole ∙ take_at (bytes cut.front) (bytes cut.back) cursor cut.front_len in
     record {
       cut = record {
         front = cut.front;
         back = cut.back;
         joined = cut.joined;
         front_len = cut.front_len;
-        counted = sym (begun_bytes cut.front) ∙ (ap all_units_begun (sym front) ∙ sym was.counted);
+        counted = sym (sum_utf16_len-bytes cut.front) ∙ (ap sum_utf16_len (sym front) ∙ sym was.counted);
       };
       not_beyond = was.not_beyond;
       holds = λ p rest e.
           let joined : c ≡ cut.front ++ p ∷ rest = cut.joined ∙ ap (λ b. cut.front ++ b) e in
-          let long : place < length (bytes c) = omega (arith, cut.front_len, ap (λ d. length (bytes d)) joined, length-behind cut.front p rest, length-encoding_bounds p) in
-          let here : get_or (bytes c) place 0 ≡ get_or (encoding p ++ bytes rest) 0 0 =
-          ap (λ d. get_or (bytes d) place 0) joined ∙ (ap (λ k. get_or (bytes (cut.front ++ p ∷ rest)) k 0) (sym cut.front_len) ∙ first_behind cut.front p rest) in
-          omega (arith, next long, ap units_begun here, begun_first p (bytes rest));
+          let long : cursor < length (bytes c) = omega (arith, cut.front_len, ap (λ d. length (bytes d)) joined, length-bytes_append cut.front p rest, length-encoding_bounds p) in
+          let here : get_or (bytes c) cursor 0 ≡ get_or (encoding p ++ bytes rest) 0 0 =
+          ap (λ d. get_or (bytes d) cursor 0) joined ∙ (ap (λ k. get_or (bytes (cut.front ++ p ∷ rest)) k 0) (sym cut.front_len) ∙ first-bytes_after cut.front p rest) in
+          omega (arith, next long, ap utf16_len here, utf16_len-encoding p (bytes rest));
     }

@@ -4,10 +4,10 @@ use Rattle.wtf8.proofs.Common.{inl, inr, Option, Some, None, nat_tests, cases_lt
 use Rattle.wtf8.proofs.Common.{IsCodePoint, IsSurrogate, encoding, bytes, IsClean, IsWellFormed, bytes_are_encodes, AreScalar, SurrogateAt, IsLeast, IsFirst}
 use Rattle.wtf8.proofs.Common.{◌-◌, ◌/◌, ◌%◌, lit≤, lit<, le-leb, lt-leb, map-append, lossy_points, take, drop, append_cancel_left, take_at, drop_at, low_scalar}
 use Rattle.wtf8.specs.Surrogates.{replace_surrogate}
-use Rattle.wtf8.proofs.lemmas.numbers.Encoding.{length-behind, encoding_three, length-encoding_bounds, row_of, one, two, three, four, bytes-append, third_row, length-surrogate}
-use Rattle.wtf8.proofs.lemmas.numbers.Encoding.{bytes-pushed}
-use Rattle.wtf8.proofs.lemmas.numbers.Readings.{no_bytes, clean-first, clean-rest, clean-front, clean-back}
-use Rattle.wtf8.proofs.lemmas.strings.Positions.{split_at, begun}
+use Rattle.wtf8.proofs.lemmas.codec.Encoding.{length-bytes_append, encoding_three, length-encoding_bounds, encoding_cases, one, two, three, four, bytes-append, third_row, length-surrogate}
+use Rattle.wtf8.proofs.lemmas.codec.Encoding.{bytes-pushed}
+use Rattle.wtf8.proofs.lemmas.codec.Readings.{no_bytes, clean-first, clean-rest, clean-front, clean-back}
+use Rattle.wtf8.proofs.lemmas.strings.Positions.{split_at, shorter_is_prefix}
 
 -- Surrogates in the bytes and among the code points.
 
@@ -35,7 +35,7 @@ pub record SurrogateIn (c : List ℕ) (i : ℕ) : Type 0 where
 
 first_surrogate_in : (b : List ℕ) → 1 < length (bytes b) → get_or (bytes b) 0 0 ≡ 0xED → 0xA0 ≤ get_or (bytes b) 1 0 → SurrogateIn b 0
 first_surrogate_in [] n e s = absurd (omega arith)
-first_surrogate_in (p ∷ b) n e s = elim (row_of p) [
+first_surrogate_in (p ∷ b) n e s = elim (encoding_cases p) [
   | one h r ↦ absurd (omega (arith, rw r at e))
   | two l h r ↦ absurd (omega (arith, rw r at e))
   | three l h r ↦
@@ -94,11 +94,11 @@ pub scalar_between : (f c b : List ℕ) → ((j : ℕ) → length (bytes f) ≤ 
 scalar_between f [] b none = tt
 scalar_between f (p ∷ c) b none =
     let at : (f ++ p ∷ c) ++ b ≡ f ++ p ∷ (c ++ b) = append_assoc f (p ∷ c) b in
-    let within : length (bytes f) < length (bytes (f ++ p ∷ c)) = omega (arith, length-behind f p c, length-encoding_bounds p) in
+    let within : length (bytes f) < length (bytes (f ++ p ∷ c)) = omega (arith, length-bytes_append f p c, length-encoding_bounds p) in
     let more : (f ++ p ∷ []) ++ c ≡ f ++ p ∷ c = append_assoc f (p ∷ []) c in (
       λ s. none (length (bytes f)) (omega arith) within (subst (λ d. SurrogateAt (bytes d) (length (bytes f))) (sym at) (surrogate_at f p (c ++ b) s)),
       scalar_between (f ++ p ∷ []) c b (λ j l u. subst (λ d. ¬ (SurrogateAt (bytes (d ++ b)) j)) (sym more)
-          (none j (omega (arith, l, length-behind f p [])) (omega (arith, u, ap (λ d. length (bytes d)) more)))),
+          (none j (omega (arith, l, length-bytes_append f p [])) (omega (arith, u, ap (λ d. length (bytes d)) more)))),
     )
 
 -- if no surrogate begins in the bytes from `c` on, it consists of scalar values
@@ -180,9 +180,9 @@ pub data Kind (p : ℕ) : Type 0 where
   surrogate : IsSurrogate p → replace_surrogate p ≡ 0xFFFD → Kind p
   scalar_value : ¬ (IsSurrogate p) → replace_surrogate p ≡ p → Kind p
 
-pub kind_of : (p : ℕ) → Kind p
+pub kind_by_surrogates : (p : ℕ) → Kind p
 unfolding replace_surrogate
-kind_of p = elim (cases_lt p 0xD800) [
+kind_by_surrogates p = elim (cases_lt p 0xD800) [
   | inl h ↦ scalar_value (λ s. omega arith) (rw (lt-leb 0xD800 p h) refl)
   | inr h ↦ elim (cases_lt p 0xE000) [
     | inl k ↦ surrogate (h, omega arith) (rw (le-leb 0xD800 p h, le-leb p 0xDFFF (omega arith)) refl)
@@ -195,7 +195,7 @@ lossy_points-append c d = map-append replace_surrogate c d
 
 pub lossy_points-scalar : (c : List ℕ) → AreScalar c → lossy_points c ≡ c
 lossy_points-scalar [] s = refl
-lossy_points-scalar (p ∷ c) s = elim (kind_of p) [ surrogate k e ↦ absurd (s.0 k) | scalar_value n e ↦ rw (e, lossy_points-scalar c s.1) refl ]
+lossy_points-scalar (p ∷ c) s = elim (kind_by_surrogates p) [ surrogate k e ↦ absurd (s.0 k) | scalar_value n e ↦ rw (e, lossy_points-scalar c s.1) refl ]
 
 -- the length does not change, since a surrogate has three bytes too
 pub length-lossy_points : (c : List ℕ) → length (bytes (lossy_points c)) ≡ length (bytes c)
@@ -204,14 +204,14 @@ length-lossy_points (p ∷ c) =
     let r = length-lossy_points c in
     let whole = length-append (encoding (replace_surrogate p)) (bytes (lossy_points c)) in
     let here = length-append (encoding p) (bytes c) in
-    elim (kind_of p) [
+    elim (kind_by_surrogates p) [
       | surrogate k e ↦ omega (arith, ap (λ q. length (encoding q)) e, ap length (encoding_three 0xFFFD (lit≤ tt) (lit< tt)), length-surrogate p k)
       | scalar_value n e ↦ omega (arith, ap (λ q. length (encoding q)) e)
     ]
 
 pub scalars-lossy_points : (c : List ℕ) → IsClean c → scalars (lossy_points c) ≡ true
 scalars-lossy_points [] x = refl
-scalars-lossy_points (p ∷ c) x = elim (kind_of p) [
+scalars-lossy_points (p ∷ c) x = elim (kind_by_surrogates p) [
   | surrogate k e ↦ rw e (scalars-lossy_points c (clean-rest p c x))
   | scalar_value n e ↦ rw (e, scalar_true p (clean-first p c x) n) (scalars-lossy_points c (clean-rest p c x))
 ]
@@ -221,10 +221,10 @@ pub utf8_lossy_points : (c : List ℕ) → IsClean c → IsUtf8 (bytes (lossy_po
 utf8_lossy_points c x = (lossy_points c, (scalars-lossy_points c x, sym (bytes_are_encodes (lossy_points c))))
 
 pub replace_surrogate-surrogate : (p : ℕ) → IsSurrogate p → replace_surrogate p ≡ 0xFFFD
-replace_surrogate-surrogate p s = elim (kind_of p) [ surrogate k e ↦ e | scalar_value n e ↦ absurd (n s) ]
+replace_surrogate-surrogate p s = elim (kind_by_surrogates p) [ surrogate k e ↦ e | scalar_value n e ↦ absurd (n s) ]
 
 pub replace_surrogate-scalar : (p : ℕ) → ¬ (IsSurrogate p) → replace_surrogate p ≡ p
-replace_surrogate-scalar p n = elim (kind_of p) [ surrogate k e ↦ absurd (n k) | scalar_value m e ↦ e ]
+replace_surrogate-scalar p n = elim (kind_by_surrogates p) [ surrogate k e ↦ absurd (n k) | scalar_value m e ↦ e ]
 
 -- Replacing surrogates in place, one after another.
 
@@ -242,14 +242,14 @@ replacing_end c w from r none =
     cc (lossy_points-scalar r.rest plain, lossy_points-append r.done r.rest)
 
 -- the bytes before and after the surrogate at `found`
-pub record Around (w : List ℕ) (front : List ℕ) (found : ℕ) (back : List ℕ) : Type 0 where
+pub record AroundSurrogate (w : List ℕ) (front : List ℕ) (found : ℕ) (back : List ℕ) : Type 0 where
   pub before : take found w ≡ bytes front
   pub behind : drop (found + 3) w ≡ bytes back
   pub within : found + 3 ≤ length w
 
-pub around : (w front : List ℕ) (p : ℕ) (back : List ℕ) (found : ℕ) → w ≡ bytes (front ++ p ∷ back) → length (bytes front) ≡ found → IsSurrogate p
-    → Around w front found back
-around w front p back found e n s =
+pub around_surrogate : (w front : List ℕ) (p : ℕ) (back : List ℕ) (found : ℕ) → w ≡ bytes (front ++ p ∷ back) → length (bytes front) ≡ found → IsSurrogate p
+    → AroundSurrogate w front found back
+around_surrogate w front p back found e n s =
     let three = length-surrogate p s in
     let whole : w ≡ bytes front ++ (encoding p ++ bytes back) = e ∙ bytes-append front (p ∷ back) in
     let other : w ≡ (bytes front ++ encoding p) ++ bytes back = whole ∙ sym (append_assoc (bytes front) (encoding p) (bytes back)) in
@@ -267,8 +267,8 @@ pub record Replaced (c w : List ℕ) (found : ℕ) : Type 0 where
 pub replacing_step : (c w : List ℕ) (from found : ℕ) → Replacing c w from → IsLeast (SurrogateAt w) from found → Replaced c w found
 replacing_step c w from found r least =
     let p = surrogate_in (lossy_points r.done ++ r.rest) found (subst (λ v. SurrogateAt v found) r.so_far least.here) in
-    let b = begun (lossy_points r.done) r.rest p.front (p.point ∷ p.back) p.joined (omega (arith, r.place, p.front_len, least.not_before)) in
-    let a = around w p.front p.point p.back found (r.so_far ∙ ap bytes p.joined) p.front_len p.surrogate in
+    let b = shorter_is_prefix (lossy_points r.done) r.rest p.front (p.point ∷ p.back) p.joined (omega (arith, r.place, p.front_len, least.not_before)) in
+    let a = around_surrogate w p.front p.point p.back found (r.so_far ∙ ap bytes p.joined) p.front_len p.surrogate in
     let rest : r.rest ≡ b.more ++ p.point ∷ p.back = append_cancel_left (lossy_points r.done) _ _ (p.joined ∙ simp (b.joined, append_assoc)) in
     let plain : AreScalar b.more = scalar_between (lossy_points r.done) b.more (p.point ∷ p.back)
     (λ j l u s. least.none_between j (omega (arith, r.place)) (omega (arith, p.front_len, ap (λ d. length (bytes d)) b.joined))
@@ -288,17 +288,17 @@ replacing_step c w from found r least =
     }
 
 -- a string divided at its first surrogate: text, the surrogate, and the rest
-pub record Parted (w : List ℕ) (h : IsWellFormed w) (found : ℕ) : Type 0 where
+pub record SplitAtSurrogate (w : List ℕ) (h : IsWellFormed w) (found : ℕ) : Type 0 where
   pub within : found + 3 ≤ length w
   pub text : IsUtf8 (take found w)
   pub rest : IsWellFormed (drop (found + 3) w)
   pub lossy_parts : bytes (lossy_points h.points) ≡ take found w ++ bytes (0xFFFD ∷ lossy_points rest.points)
 
-pub parted : {w : List ℕ} (h : IsWellFormed w) (found : ℕ) → IsLeast (SurrogateAt w) 0 found → Parted w h found
-parted {w} h found least =
+pub split_at_first_surrogate : {w : List ℕ} (h : IsWellFormed w) (found : ℕ) → IsLeast (SurrogateAt w) 0 found → SplitAtSurrogate w h found
+split_at_first_surrogate {w} h found least =
     let p = surrogate_in h.points found (subst (λ v. SurrogateAt v found) (sym h.encoded) least.here) in
     let whole : w ≡ bytes (p.front ++ p.point ∷ p.back) = sym h.encoded ∙ ap bytes p.joined in
-    let a = around w p.front p.point p.back found whole p.front_len p.surrogate in
+    let a = around_surrogate w p.front p.point p.back found whole p.front_len p.surrogate in
     let clean : IsClean (p.front ++ p.point ∷ p.back) = subst IsClean p.joined h.clean in
     let plain : AreScalar p.front = scalar_between [] p.front (p.point ∷ p.back)
     (λ j l u s. least.none_between j l (omega (arith, p.front_len)) (subst (λ v. SurrogateAt v j) (sym whole) s)) in

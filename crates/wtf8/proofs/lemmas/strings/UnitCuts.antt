@@ -2,11 +2,11 @@
 use Rattle.wtf8.proofs.Common.{BeginsWithPoint, ◌≡◌, ℕ, zero, suc, ◌+◌, ◌≤◌, List, [], ◌∷◌, ◌++◌, length, take, drop, None, Some, refl, sym, ap, ◌∙◌, subst}
 use Rattle.wtf8.proofs.Common.{arith, length-append, append_assoc, take_at, drop_at, slice_get, IsCodePoint, units, IsClean, bytes, encoding, IsWellFormed}
 use Rattle.wtf8.proofs.Common.{IsFront, CutsUnits, ◌<◌, ◌↔◌, inl, inr, Option, get_or, same_from_push, take-append-drop, length-drop, Reads, true, false, ◌/◌}
-use Rattle.wtf8.proofs.Common.{◌%◌, lt-ltb, le-ltb, drop-drop, append-nil, IsLead, units_of, trail_by, held_in, behind_held, unread_after, length-take-le}
-use Rattle.wtf8.proofs.Common.{take-append-add, drop-append-add, option_to_list, IsSome, StepsUnit, Divides, DividesPair, is_inside}
-use Rattle.wtf8.proofs.lemmas.numbers.Encoding.{encoding_four, bytes-append, bytes-pushed, row_of, one, two, three, four, Begins, first-encoding}
-use Rattle.wtf8.proofs.lemmas.numbers.Readings.{clean-first, clean-front, clean-back, clean-append, clean-apart, no_trail, meets_by, lead_of, trail_of, units_one}
-use Rattle.wtf8.proofs.lemmas.numbers.Readings.{units_two, units-append, units-pushed, first_of, no_points, taken, moved}
+use Rattle.wtf8.proofs.Common.{◌%◌, lt-ltb, le-ltb, drop-drop, append-nil, IsLead, units_of, trail_from_bytes, held_trail, after_held_trail, unread_after, length-take-le}
+use Rattle.wtf8.proofs.Common.{take-append-add, drop-append-add, option_to_list, IsSome, StepsUnit, Divides, DividesPair, is_continuation}
+use Rattle.wtf8.proofs.lemmas.codec.Encoding.{encoding_four, bytes-append, bytes-pushed, encoding_cases, one, two, three, four, Begins, first-encoding}
+use Rattle.wtf8.proofs.lemmas.codec.Readings.{clean-first, clean-front, clean-back, clean-append, clean-unpaired, no_trail, meets_by, lead_of, trail_of, units_one}
+use Rattle.wtf8.proofs.lemmas.codec.Readings.{units_two, units-append, units-pushed, first_of, no_points, Taken-from_first, moved}
 use Rattle.wtf8.proofs.lemmas.strings.Concatenation.{points_meet, last_of, empty, ends}
 use Rattle.wtf8.proofs.lemmas.strings.Positions.{cut_by}
 
@@ -23,14 +23,14 @@ pub record Undivided (c : List ℕ) (n k : ℕ) : Type 0 where
   pub behind : drop n (units c) ≡ units back
   pub here : slice_get (units c) n ≡ slice_get (units back) 0
 
-get_behind : (a b : List ℕ) (n : ℕ) → length a ≡ n → slice_get (a ++ b) n ≡ slice_get b 0
-get_behind [] b zero e = refl
-get_behind [] b (suc n) e = absurd (omega arith)
-get_behind (x ∷ a) b zero e = absurd (omega arith)
-get_behind (x ∷ a) b (suc n) e = get_behind a b n (omega arith)
+slice_get-append_at : (a b : List ℕ) (n : ℕ) → length a ≡ n → slice_get (a ++ b) n ≡ slice_get b 0
+slice_get-append_at [] b zero e = refl
+slice_get-append_at [] b (suc n) e = absurd (omega arith)
+slice_get-append_at (x ∷ a) b zero e = absurd (omega arith)
+slice_get-append_at (x ∷ a) b (suc n) e = slice_get-append_at a b n (omega arith)
 
-pub undivided : {c : List ℕ} {n k : ℕ} {half : Option ℕ} → half ≡ None → CutsUnits c n k half → Undivided c n k
-undivided {c} {n} {k} e cut =
+pub undivided_from_cut : {c : List ℕ} {n k : ℕ} {half : Option ℕ} → half ≡ None → CutsUnits c n k half → Undivided c n k
+undivided_from_cut {c} {n} {k} e cut =
     let x = subst (CutsUnits c n k) e cut in
     let whole : units c ≡ units x.front ++ units x.back = ap units x.joined ∙ units-append x.front x.back in
     record {
@@ -41,7 +41,7 @@ undivided {c} {n} {k} e cut =
       within = omega (arith, ap length whole, length-append (units x.front) (units x.back), x.counted);
       kept = ap (take n) whole ∙ take_at (units x.front) (units x.back) n x.counted;
       behind = ap (drop n) whole ∙ drop_at (units x.front) (units x.back) n x.counted;
-      here = ap (λ u. slice_get u n) whole ∙ get_behind (units x.front) (units x.back) n x.counted;
+      here = ap (λ u. slice_get u n) whole ∙ slice_get-append_at (units x.front) (units x.back) n x.counted;
     }
 
 -- the cut is inside the pair of `p`
@@ -59,8 +59,8 @@ pub record Divided (c : List ℕ) (n k p : ℕ) : Type 0 where
   pub pushed_len : length (bytes (front ++ p ∷ [])) ≡ k + 4
   pub long : k + 4 ≤ length (bytes c)
 
-pub divided : {c : List ℕ} {n k p : ℕ} {half : Option ℕ} → half ≡ Some p → CutsUnits c n k half → Divided c n k p
-divided {c} {n} {k} {p} e cut =
+pub divided_from_cut : {c : List ℕ} {n k p : ℕ} {half : Option ℕ} → half ≡ Some p → CutsUnits c n k half → Divided c n k p
+divided_from_cut {c} {n} {k} {p} e cut =
     let x = subst (CutsUnits c n k) e cut in
     let d : Divides x.front x.back n p = x.counted in
     let joined : c ≡ x.front ++ p ∷ d.rest = x.joined ∙ ap (λ b. x.front ++ b) d.first in
@@ -79,7 +79,7 @@ divided {c} {n} {k} {p} e cut =
       within = omega (arith, ap length whole, length-append (units x.front ++ lead_of p ∷ []) (trail_of p ∷ units d.rest), long);
       kept = ap (take n) whole ∙ take_at (units x.front ++ lead_of p ∷ []) (trail_of p ∷ units d.rest) n long;
       behind = ap (drop n) whole ∙ drop_at (units x.front ++ lead_of p ∷ []) (trail_of p ∷ units d.rest) n long;
-      here = ap (λ u. slice_get u n) whole ∙ get_behind (units x.front ++ lead_of p ∷ []) (trail_of p ∷ units d.rest) n long;
+      here = ap (λ u. slice_get u n) whole ∙ slice_get-append_at (units x.front ++ lead_of p ∷ []) (trail_of p ∷ units d.rest) n long;
       front_len = x.front_len;
       pushed = pushed;
       pushed_len = pushed_len;
@@ -119,7 +119,7 @@ divides_none {c} {n} clean x m =
     let all : IsClean (x.front ++ x.back) = subst IsClean x.joined clean in
     let before : Reads x.front (take n (units c)) = record { clean = clean-front x.front x.back all; same_units = sym x.kept } in
     let behind : Reads x.back (drop n (units c)) = record { clean = clean-back x.front x.back all; same_units = sym x.behind } in
-    clean-apart x.front x.back all (points_meet before behind m)
+    clean-unpaired x.front x.back all (points_meet before behind m)
 
 pub divides_some : {c : List ℕ} {n k p : ℕ} → IsClean c → Divided c n k p → DividesPair (units c) n
 divides_some {p} clean d =
@@ -143,9 +143,9 @@ divides_whole f r n apart =
     )
 
 -- `r`, the units from `begin` on without the trail `half` of a pair divided there, divides the pairs of the whole
-pub divides_behind : (u r : List ℕ) (half : Option ℕ) (begin n : ℕ) → begin ≤ length u → option_to_list half ++ r ≡ drop begin u → (IsSome half ↔ DividesPair u begin)
+pub divides_after : (u r : List ℕ) (half : Option ℕ) (begin n : ℕ) → begin ≤ length u → option_to_list half ++ r ≡ drop begin u → (IsSome half ↔ DividesPair u begin)
     → 0 < length (option_to_list half) + n → n ≤ length r → DividesPair r n ↔ DividesPair u (begin + (length (option_to_list half) + n))
-divides_behind u r half begin n in_u e d more in_r =
+divides_after u r half begin n in_u e d more in_r =
     let f = take begin u ++ option_to_list half in
     let whole : f ++ r ≡ u = append_assoc (take begin u) (option_to_list half) r ∙ (ap (λ x. take begin u ++ x) e ∙ take-append-drop begin u) in
     let long : length f + n ≡ begin + (length (option_to_list half) + n) =
@@ -162,77 +162,77 @@ divides_behind u r half begin n in_u e d more in_r =
 
 -- Bytes that begin inside a pair or at a code point, and a step of the iterator over units.
 
-pub inside : (b : ℕ) → 0x80 ≤ b → b < 0xC0 → is_inside b ≡ true
-inside b l h = rw (le-ltb b 0x80 l, lt-ltb b 0xC0 h) refl
+pub continuation_range : (b : ℕ) → 0x80 ≤ b → b < 0xC0 → is_continuation b ≡ true
+continuation_range b l h = rw (le-ltb b 0x80 l, lt-ltb b 0xC0 h) refl
 
-pub below : (b : ℕ) → b < 0x80 → is_inside b ≡ false
-below b h = rw (lt-ltb b 0x80 h) refl
+pub ascii_no_continuation : (b : ℕ) → b < 0x80 → is_continuation b ≡ false
+ascii_no_continuation b h = rw (lt-ltb b 0x80 h) refl
 
-pub above : (b : ℕ) → 0xC0 ≤ b → is_inside b ≡ false
-above b l = rw (le-ltb b 0x80 (omega arith), le-ltb b 0xC0 l) refl
+pub lead_no_continuation : (b : ℕ) → 0xC0 ≤ b → is_continuation b ≡ false
+lead_no_continuation b l = rw (le-ltb b 0x80 (omega arith), le-ltb b 0xC0 l) refl
 
 -- well-formed bytes do not begin with a continuation byte
 start_of : {w : List ℕ} → IsWellFormed w → 0 < length w → Begins (get_or w 0 0)
 start_of h n = let b = (first_of h n).0 in subst Begins (sym (ap (λ v. get_or v 0 0) b.encoded)) (first-encoding b.point b.rest)
 
-pub starts : {w : List ℕ} → IsWellFormed w → is_inside (get_or w 0 0) ≡ false
-starts {w = []} h = refl
-starts {w = a ∷ r} h = elim ((start_of h (omega arith)).start) [ inl l ↦ below a l | inr g ↦ above a g ]
+pub first_no_continuation : {w : List ℕ} → IsWellFormed w → is_continuation (get_or w 0 0) ≡ false
+first_no_continuation {w = []} h = refl
+first_no_continuation {w = a ∷ r} h = elim ((start_of h (omega arith)).start) [ inl l ↦ ascii_no_continuation a l | inr g ↦ lead_no_continuation a g ]
 
 -- bytes that begin with no continuation byte hold no trail
-pub not_held : (w : List ℕ) → is_inside (get_or w 0 0) ≡ false → (held_in w ≡ []) × (behind_held w ≡ w)
-not_held [] e = (refl, refl)
-not_held (a ∷ []) e = (refl, refl)
-not_held (a ∷ b ∷ w) e = (rw e refl, rw e refl)
+pub held_trail-none : (w : List ℕ) → is_continuation (get_or w 0 0) ≡ false → (held_trail w ≡ []) × (after_held_trail w ≡ w)
+held_trail-none [] e = (refl, refl)
+held_trail-none (a ∷ []) e = (refl, refl)
+held_trail-none (a ∷ b ∷ w) e = (rw e refl, rw e refl)
 
 -- bytes that begin inside a pair have both bytes of the trail
-pub is_whole : (w : List ℕ) → IsWellFormed (behind_held w) → 0x80 ≤ get_or w 0 0 → get_or w 0 0 < 0xC0 → 1 < length w
-is_whole [] h l g = absurd (omega arith)
-is_whole (a ∷ []) h l g = absurd (elim ((start_of h (omega arith)).start) [ inl m ↦ omega arith | inr m ↦ omega arith ])
-is_whole (a ∷ b ∷ w) h l g = omega arith
+pub held_trail-two_bytes : (w : List ℕ) → IsWellFormed (after_held_trail w) → 0x80 ≤ get_or w 0 0 → get_or w 0 0 < 0xC0 → 1 < length w
+held_trail-two_bytes [] h l g = absurd (omega arith)
+held_trail-two_bytes (a ∷ []) h l g = absurd (elim ((start_of h (omega arith)).start) [ inl m ↦ omega arith | inr m ↦ omega arith ])
+held_trail-two_bytes (a ∷ b ∷ w) h l g = omega arith
 
-pub held_at : (w : List ℕ) → 1 < length w → is_inside (get_or w 0 0) ≡ true
-    → (held_in w ≡ trail_by (get_or w 0 0) (get_or w 1 0) ∷ []) × (behind_held w ≡ drop 2 w)
-held_at [] h e = absurd (omega arith)
-held_at (a ∷ []) h e = absurd (omega arith)
-held_at (a ∷ b ∷ w) h e = (rw e refl, rw e refl)
+pub held_trail-some : (w : List ℕ) → 1 < length w → is_continuation (get_or w 0 0) ≡ true
+    → (held_trail w ≡ trail_from_bytes (get_or w 0 0) (get_or w 1 0) ∷ []) × (after_held_trail w ≡ drop 2 w)
+held_trail-some [] h e = absurd (omega arith)
+held_trail-some (a ∷ []) h e = absurd (omega arith)
+held_trail-some (a ∷ b ∷ w) h e = (rw e refl, rw e refl)
 
 -- after the first unit of a code point the second, if any, is held
-first_on : (old new points more : List ℕ) (p unit : ℕ) → old ≡ [] → points ≡ p ∷ more → units_of p ≡ unit ∷ new
+units-first : (old new points more : List ℕ) (p unit : ℕ) → old ≡ [] → points ≡ p ∷ more → units_of p ≡ unit ∷ new
     → old ++ units points ≡ unit ∷ (new ++ units more)
-first_on old new points more p unit e f g = rw (e, f) (ap (λ u. u ++ units more) g)
+units-first old new points more p unit e f g = rw (e, f) (ap (λ u. u ++ units more) g)
 
-left_on : (old new points more : List ℕ) (p unit : ℕ) → old ≡ [] → points ≡ p ∷ more → units_of p ≡ unit ∷ new
+unread_after-first : (old new points more : List ℕ) (p unit : ℕ) → old ≡ [] → points ≡ p ∷ more → units_of p ≡ unit ∷ new
     → record { held = new; points = more } ≡ unread_after (record { held = old; points = points })
-left_on old new points more p unit e f g = rw (e, f) (ap (λ t. record { held = t; points = more }) (sym (ap (drop 1) g)))
+unread_after-first old new points more p unit e f g = rw (e, f) (ap (λ t. record { held = t; points = more }) (sym (ap (drop 1) g)))
 
 -- a step over a code point of one unit
-pub steps_one : (v : List ℕ) (at : ℕ) (h : IsWellFormed (behind_held (drop at v))) (p next : ℕ) → at < length v
-    → is_inside (get_or (drop at v) 0 0) ≡ false → p < 0x10000
+pub steps_one : (v : List ℕ) (at : ℕ) (h : IsWellFormed (after_held_trail (drop at v))) (p next : ℕ) → at < length v
+    → is_continuation (get_or (drop at v) 0 0) ≡ false → p < 0x10000
     → ((b : BeginsWithPoint (drop at v)) → (p ≡ b.point) × (next ≡ at + length (encoding b.point))) → StepsUnit v at h p next
 steps_one v at h p next long e small read =
-    let n = not_held (drop at v) e in
-    let t = taken v at (moved h (sym n.1)) p next long read in
-    let m = not_held (drop next v) (starts t.rest) in
-    let all : units_of p ≡ p ∷ held_in (drop next v) = units_one p small ∙ ap (λ k. p ∷ k) (sym m.0) in
+    let n = held_trail-none (drop at v) e in
+    let t = Taken-from_first v at (moved h (sym n.1)) p next long read in
+    let m = held_trail-none (drop next v) (first_no_continuation t.rest) in
+    let all : units_of p ≡ p ∷ held_trail (drop next v) = units_one p small ∙ ap (λ k. p ∷ k) (sym m.0) in
     record {
       within = t.within;
-      behind = moved t.rest m.1;
-      first = first_on _ _ h.points t.rest.points p p n.0 t.joined all;
-      left = left_on _ _ h.points t.rest.points p p n.0 t.joined all;
+      after = moved t.rest m.1;
+      first = units-first _ _ h.points t.rest.points p p n.0 t.joined all;
+      left = unread_after-first _ _ h.points t.rest.points p p n.0 t.joined all;
     }
 
 -- a step over the lead of a supplementary code point
-pub steps_lead : (v : List ℕ) (at : ℕ) (h : IsWellFormed (behind_held (drop at v))) (unit next : ℕ) → at < length v
+pub steps_lead : (v : List ℕ) (at : ℕ) (h : IsWellFormed (after_held_trail (drop at v))) (unit next : ℕ) → at < length v
     → 0xF0 ≤ get_or (drop at v) 0 0 → next ≡ at + 2
     → ((b : BeginsWithPoint (drop at v)) → unit ≡ lead_of b.point) → StepsUnit v at h unit next
 steps_lead v at h unit next long g two_on read =
-    let n = not_held (drop at v) (above (get_or (drop at v) 0 0) (omega arith)) in
+    let n = held_trail-none (drop at v) (lead_no_continuation (get_or (drop at v) 0 0) (omega arith)) in
     let f = first_of (moved h (sym n.1)) (omega (arith, length-drop at v)) in
     let b = f.0 in
     let p = b.point in
     let begin : get_or (drop at v) 0 0 ≡ get_or (encoding p ++ b.rest) 0 0 = ap (λ w. get_or w 0 0) b.encoded in
-    elim (row_of p) [
+    elim (encoding_cases p) [
       | one l e ↦ absurd (omega (arith, rw e at begin))
       | two _ l e ↦ absurd (omega (arith, rw e at begin))
       | three _ l e ↦ absurd (omega (arith, rw e at begin))
@@ -241,36 +241,36 @@ steps_lead v at h unit next long g two_on read =
           let d = 0x80 + p % 64 in
           let whole = b.encoded ∙ ap (λ x. x ++ b.rest) e in
           let rest : drop next v ≡ c ∷ d ∷ b.rest = ap (λ k. drop k v) two_on ∙ (sym (drop-drop 2 at v) ∙ ap (drop 2) whole) in
-          let k = held_at (c ∷ d ∷ b.rest) (omega arith) (inside c (omega arith) (omega arith)) in
-          let trail : trail_by c d ≡ trail_of p = omega arith in
-          let held : held_in (drop next v) ≡ trail_of p ∷ [] = ap held_in rest ∙ (k.0 ∙ ap (λ t. t ∷ []) trail) in
-          let all : units_of p ≡ unit ∷ held_in (drop next v) =
+          let k = held_trail-some (c ∷ d ∷ b.rest) (omega arith) (continuation_range c (omega arith) (omega arith)) in
+          let trail : trail_from_bytes c d ≡ trail_of p = omega arith in
+          let held : held_trail (drop next v) ≡ trail_of p ∷ [] = ap held_trail rest ∙ (k.0 ∙ ap (λ t. t ∷ []) trail) in
+          let all : units_of p ≡ unit ∷ held_trail (drop next v) =
           units_two p l ∙ (ap (λ a. a ∷ trail_of p ∷ []) (sym (read b)) ∙ ap (λ t. unit ∷ t) (sym held)) in
           record {
             within = omega (arith, two_on, ap length whole, length-drop at v);
-            behind = moved f.1.rest (ap behind_held rest ∙ (k.1 ∙ sym (ap (drop (length (encoding p))) b.encoded ∙ drop_at (encoding p) b.rest (length (encoding p)) refl)));
-            first = first_on _ _ h.points f.1.rest.points p unit n.0 f.1.joined all;
-            left = left_on _ _ h.points f.1.rest.points p unit n.0 f.1.joined all;
+            after = moved f.1.rest (ap after_held_trail rest ∙ (k.1 ∙ sym (ap (drop (length (encoding p))) b.encoded ∙ drop_at (encoding p) b.rest (length (encoding p)) refl)));
+            first = units-first _ _ h.points f.1.rest.points p unit n.0 f.1.joined all;
+            left = unread_after-first _ _ h.points f.1.rest.points p unit n.0 f.1.joined all;
           }
     ]
 
 -- a step over the held trail
-pub steps_trail : (v : List ℕ) (at : ℕ) (h : IsWellFormed (behind_held (drop at v))) (next : ℕ) → 0x80 ≤ get_or (drop at v) 0 0
-    → get_or (drop at v) 0 0 < 0xC0 → next ≡ at + 2 → StepsUnit v at h (trail_by (get_or (drop at v) 0 0) (get_or (drop at v) 1 0)) next
+pub steps_trail : (v : List ℕ) (at : ℕ) (h : IsWellFormed (after_held_trail (drop at v))) (next : ℕ) → 0x80 ≤ get_or (drop at v) 0 0
+    → get_or (drop at v) 0 0 < 0xC0 → next ≡ at + 2 → StepsUnit v at h (trail_from_bytes (get_or (drop at v) 0 0) (get_or (drop at v) 1 0)) next
 steps_trail v at h next l g two_on =
-    let whole = is_whole (drop at v) h l g in
-    let n = held_at (drop at v) whole (inside (get_or (drop at v) 0 0) l g) in
+    let whole = held_trail-two_bytes (drop at v) h l g in
+    let n = held_trail-some (drop at v) whole (continuation_range (get_or (drop at v) 0 0) l g) in
     let rest : drop next v ≡ drop 2 (drop at v) = ap (λ k. drop k v) two_on ∙ sym (drop-drop 2 at v) in
     let b = moved h (rest ∙ sym n.1) in
-    let m = not_held (drop next v) (starts b) in
+    let m = held_trail-none (drop next v) (first_no_continuation b) in
     record {
       within = omega (arith, two_on, whole, length-drop at v);
-      behind = moved b m.1;
+      after = moved b m.1;
       first = rw (n.0, m.0) refl;
       left = rw (n.0, m.0) refl;
     }
 
 -- at the end nothing is left
-pub ended : (w : List ℕ) (h : IsWellFormed (behind_held w)) → length w ≡ 0 → (held_in w ≡ []) × (h.points ≡ [])
-ended [] h e = (refl, no_points h refl)
-ended (a ∷ w) h e = absurd (omega arith)
+pub nothing_held_at_end : (w : List ℕ) (h : IsWellFormed (after_held_trail w)) → length w ≡ 0 → (held_trail w ≡ []) × (h.points ≡ [])
+nothing_held_at_end [] h e = (refl, no_points h refl)
+nothing_held_at_end (a ∷ w) h e = absurd (omega arith)

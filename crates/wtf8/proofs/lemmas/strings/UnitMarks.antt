@@ -6,19 +6,19 @@ use Rattle.wtf8.proofs.Common.{get_or, IsLead, IsTrail}
 use Rattle.std.proofs.Math.Seq.{get_or-append_seam}
 use Rattle.wtf8.specs.UnitMark.{IsMark, EqualCountsAreMarks, MarksStay}
 use Rattle.wtf8.specs.UnitPosition.{DividesPair}
-use Rattle.wtf8.proofs.lemmas.numbers.Encoding.{bytes-append, row_of, one, two, three, four}
-use Rattle.wtf8.proofs.lemmas.numbers.Readings.{units-append, lengths, units_one, units_two, well_formed_of, same_form}
+use Rattle.wtf8.proofs.lemmas.codec.Encoding.{bytes-append, encoding_cases, one, two, three, four}
+use Rattle.wtf8.proofs.lemmas.codec.Readings.{units-append, lists_have_lengths, units_one, units_two, well_formed_of, same_form}
 use Rattle.wtf8.proofs.lemmas.strings.Concatenation.{reads-glue, one_form, units_read}
-use Rattle.wtf8.proofs.lemmas.strings.Gains.{all_back}
-use Rattle.wtf8.proofs.lemmas.strings.Positions.{cut_by, points_behind}
-use Rattle.wtf8.proofs.lemmas.strings.UnitCuts.{undivided}
-use Rattle.wtf8.proofs.lemmas.units_in.Blocks.{ascii_form, ascii_own_units}
+use Rattle.wtf8.proofs.lemmas.strings.ExtendedForms.{all_back}
+use Rattle.wtf8.proofs.lemmas.strings.Positions.{cut_by, points_after}
+use Rattle.wtf8.proofs.lemmas.strings.UnitCuts.{undivided_from_cut}
+use Rattle.wtf8.proofs.lemmas.from_utf16.Transcode.{ascii_form, units-ascii}
 use Rattle.std.proofs.lemmas.Simd.{Each1-chunk}
 
 -- a cut between code points is a mark
 pub mark_at_cut : {w : List ℕ} (h : IsWellFormed w) {k n : ℕ} → CutsUnits h.points n k None → IsMark w (units h.points) k n
 mark_at_cut h {k} at =
-    let x = undivided refl at in
+    let x = undivided_from_cut refl at in
     let cut = cut_by h x.front x.back k x.joined x.front_len in
     record {
       position_within = cut.within;
@@ -59,7 +59,7 @@ pub cut_from_mark : {w v u : List ℕ} (h : IsWellFormed w) (rest : IsWellFormed
     → CutsUnits rest.points (m - n) place half → CutsUnits h.points m (k + place) half
 cut_from_mark h rest {k} {n} {place} m half mark e l y =
     let x = cut_of h mark in
-    let behind = points_behind h rest x.front x.back k x.joined x.front_len e in
+    let behind = points_after h rest x.front x.back k x.joined x.front_len e in
     record {
       front = x.front ++ y.front;
       back = y.back;
@@ -92,14 +92,14 @@ divided_are_surrogates u n m =
     (omega (arith, front, length-append m.front (m.lead ∷ [])), inside, subst IsLead (sym lead) m.is_lead, subst IsTrail (sym trail) m.is_trail)
 
 -- code points with equal numbers of bytes and units are ASCII
-all_ascii : (c : List ℕ) → length (bytes c) ≡ length (units c) → AreAscii c
-all_ascii [] e = tt
-all_ascii (p ∷ c) e =
-    let bound = (lengths c).units_least in
+ascii_from_lengths : (c : List ℕ) → length (bytes c) ≡ length (units c) → AreAscii c
+ascii_from_lengths [] e = tt
+ascii_from_lengths (p ∷ c) e =
+    let bound = (lists_have_lengths c).units_least in
     let all_bytes = length-append (encoding p) (bytes c) in
     let all_units = length-append (units_of p) (units c) in
-    elim (row_of p) [
-      | one l r ↦ (l, all_ascii c (omega (arith, e, all_bytes, all_units, ap length r, ap length (units_one p (omega arith)))))
+    elim (encoding_cases p) [
+      | one l r ↦ (l, ascii_from_lengths c (omega (arith, e, all_bytes, all_units, ap length r, ap length (units_one p (omega arith)))))
       | two l g r ↦ absurd (omega (arith, e, all_bytes, all_units, bound, ap length r, ap length (units_one p (omega arith))))
       | three l g r ↦ absurd (omega (arith, e, all_bytes, all_units, bound, ap length r, ap length (units_one p g)))
       | four l r ↦ absurd (omega (arith, e, all_bytes, all_units, bound, ap length r, ap length (units_two p l)))
@@ -108,8 +108,8 @@ all_ascii (p ∷ c) e =
 -- a string with equal numbers of bytes and units is ASCII, and its units are its bytes
 pub ascii_same : {w u : List ℕ} → IsForm w u → length w ≡ length u → AreAscii u × (w ≡ u)
 ascii_same {w} {u} f e =
-    let low = all_ascii f.points (ap length f.encoded ∙ (e ∙ sym (ap length f.reads.same_units))) in
-    let own : f.points ≡ u = sym (ascii_own_units f.points low) ∙ f.reads.same_units in
+    let low = ascii_from_lengths f.points (ap length f.encoded ∙ (e ∙ sym (ap length f.reads.same_units))) in
+    let own : f.points ≡ u = sym (units-ascii f.points low) ∙ f.reads.same_units in
     let ascii = subst AreAscii own low in
     (ascii, same_form w u u f (ascii_form u ascii).form)
 
@@ -125,15 +125,15 @@ equal_counts w u k f e h =
     })
 
 -- joining changes no code point before the last
-glue_behind : (f b d : List ℕ) → 0 < length b → glue (f ++ b) d ≡ f ++ glue b d
-glue_behind [] b d h = refl
-glue_behind (p ∷ []) [] d h = absurd (omega arith)
-glue_behind (p ∷ []) (q ∷ b) d h = refl
-glue_behind (p ∷ q ∷ f) b d h = ap (λ c. p ∷ c) (glue_behind (q ∷ f) b d h)
+glue-append_left : (f b d : List ℕ) → 0 < length b → glue (f ++ b) d ≡ f ++ glue b d
+glue-append_left [] b d h = refl
+glue-append_left (p ∷ []) [] d h = absurd (omega arith)
+glue-append_left (p ∷ []) (q ∷ b) d h = refl
+glue-append_left (p ∷ q ∷ f) b d h = ap (λ c. p ∷ c) (glue-append_left (q ∷ f) b d h)
 
-some_behind : (b : List ℕ) → 0 < length (units b) → 0 < length b
-some_behind [] h = h
-some_behind (p ∷ b) h = omega arith
+nonempty_from_units : (b : List ℕ) → 0 < length (units b) → 0 < length b
+nonempty_from_units [] h = h
+nonempty_from_units (p ∷ b) h = omega arith
 
 pub marks_stay : MarksStay
 marks_stay w x u v k n f g l m =
@@ -147,7 +147,7 @@ marks_stay w x u v k n f g l m =
     let same = same_form x (bytes (glue f.points more.has.points)) (u ++ v) g both in
     let units_len = ap length (ap units own.joined ∙ units-append own.front own.back) in
     let some : 0 < length own.back =
-    some_behind own.back (omega (arith, units_len, length-append (units own.front) (units own.back), own.counted, ap length f.reads.same_units, l)) in
+    nonempty_from_units own.back (omega (arith, units_len, length-append (units own.front) (units own.back), own.counted, ap length f.reads.same_units, l)) in
     let joined : glue f.points more.has.points ≡ own.front ++ glue own.back more.has.points =
-    ap (λ c. glue c more.has.points) own.joined ∙ glue_behind own.front own.back more.has.points some in
+    ap (λ c. glue c more.has.points) own.joined ∙ glue-append_left own.front own.back more.has.points some in
     subst (λ z. IsMark z (u ++ v) k n) (sym same) (mark_of both (record { front = own.front; back = glue own.back more.has.points; joined = joined; front_len = own.front_len; counted = own.counted }))

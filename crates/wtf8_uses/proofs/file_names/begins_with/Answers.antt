@@ -7,12 +7,12 @@ use Rattle.wtf8_uses.proofs.file_names.begins_with.Goals as goal
 
 pub returns-in_default : goal.returns-in_default
 returns-in_default c =
-    let last = MatchOption-at_none _ (λ _. ⊤) c.in_default.is c.first_component-in-loop-behind.ensures.last in
-    let same : view_units c.first_component.result.0 ≡ view_units c.first_component-in-loop-behind.result.0 = search rules in
-    yes_by c.loop-behind.invariant (begin_with_first _ _ c.first_component.ensures.first.0 _ _ c.first_component.ensures.first.1 last same)
+    let last = MatchOption-at_none _ (λ _. ⊤) c.in_default.is c.first_component-in-loop-after.ensures.last in
+    let same : view_units c.first_component.result.0 ≡ view_units c.first_component-in-loop-after.result.0 = search rules in
+    yes_by c.loop-after.invariant (begin_with_first _ _ c.first_component.ensures.first.0 _ _ c.first_component.ensures.first.1 last same)
 
-pub returns-in_default-behind : goal.returns-in_default-behind
-returns-in_default-behind c =
-    let last = MatchOption-at_none _ (λ _. ⊤) c.in_default-behind.is c.first_component.ensures.last in
-    let more = MatchOption-at_some ⊤ _ _ c.in-Some.is c.first_component-in-loop-behind.ensures.more in
-    no_by c.loop-behind.invariant (no_more _ _ (view_units c.in-Some.front_next) _ _ last more)
+pub returns-in_default-after : goal.returns-in_default-after
+returns-in_default-after c =
+    let last = MatchOption-at_none _ (λ _. ⊤) c.in_default-after.is c.first_component.ensures.last in
+    let more = MatchOption-at_some ⊤ _ _ c.in-Some.is c.first_component-in-loop-after.ensures.more in
+    no_by c.loop-after.invariant (no_more _ _ (view_units c.in-Some.front_next) _ _ last more)

@@ -5,9 +5,9 @@ use Rattle.wtf8_uses.proofs.PartLemmas.{parts}
 use Rattle.wtf8_uses.proofs.file_names.begins_with.Given as goal
 
 -- the path begins with the front exactly if the rest does with the rest of the front
-abbrev pub invariant-loop-behind : goal.invariant-loop-behind
-invariant-loop-behind l = BeginsWith (parts l.path) (parts l.front) ↔ BeginsWith (parts l.rest) (parts l.front_rest)
+abbrev pub invariant-loop-after : goal.invariant-loop-after
+invariant-loop-after l = BeginsWith (parts l.path) (parts l.front) ↔ BeginsWith (parts l.rest) (parts l.front_rest)
 
 -- the rest gets shorter
-abbrev pub decreases-loop-behind : goal.decreases-loop-behind
-decreases-loop-behind l = length (view_units l.rest)
+abbrev pub decreases-loop-after : goal.decreases-loop-after
+decreases-loop-after l = length (view_units l.rest)

@@ -1,8 +1,8 @@
 use Rattle.wtf8.specs.View.{view_units}
-use Rattle.unit_text.proofs.MarkLemmas.{if_kept}
+use Rattle.unit_text.proofs.MarkLemmas.{AreKept-append}
 use Rattle.unit_text.proofs.text.UnitText.append.Goals as goal
 
 pub add_to_kept-requires-clause-marks : goal.add_to_kept-requires-clause-marks
 add_to_kept-requires-clause-marks g c =
-    if_kept c.law_marks.ensures.kept c.self.inside.marks (λ k. k.kept.items) (λ k. k.is_refused) c.self.inside.text c.push_wtf8.new.self (view_units c.args.other)
+    AreKept-append c.law_marks.ensures.kept c.self.inside.marks (λ k. k.kept.items) (λ k. k.is_incomplete) c.self.inside.text c.push_wtf8.new.self (view_units c.args.other)
     c.in_ok-push_wtf8.ensures.ok c.self.invariant.1

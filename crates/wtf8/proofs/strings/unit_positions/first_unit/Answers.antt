@@ -1,5 +1,5 @@
 use Rattle.wtf8.proofs.Common.{◌∷◌, Some, ap, sym, ◌∙◌, slice_get, units}
-use Rattle.wtf8.proofs.lemmas.numbers.Readings.{units-cons_one, units-cons_two}
+use Rattle.wtf8.proofs.lemmas.codec.Readings.{units-cons_one, units-cons_two}
 use Rattle.wtf8.proofs.strings.unit_positions.first_unit.Goals as goal
 
 pub returns-then-value-lt65536 : goal.returns-then-value-lt65536

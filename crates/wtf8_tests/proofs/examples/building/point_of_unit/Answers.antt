@@ -1,6 +1,6 @@
 use Rattle.std.proofs.Common.{ap, arith, ◌∙◌}
 use Rattle.wtf8.specs.Unicode.{units_of}
-use Rattle.wtf8.proofs.lemmas.numbers.Readings.{units_one}
+use Rattle.wtf8.proofs.lemmas.codec.Readings.{units_one}
 use Rattle.wtf8_tests.proofs.examples.building.point_of_unit.Goals as goal
 
 pub returns-clause-units : goal.returns-clause-units

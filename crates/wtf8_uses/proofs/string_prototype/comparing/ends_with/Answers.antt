@@ -1,5 +1,5 @@
 use Rattle.std.proofs.Common.{arith}
-use Rattle.wtf8_uses.proofs.PlaceLemmas.{ends_there, ends_nowhere}
+use Rattle.wtf8_uses.proofs.IndexLemmas.{ends_there, ends_nowhere}
 use Rattle.wtf8_uses.proofs.string_prototype.comparing.ends_with.Goals as goal
 
 pub returns-in-Some : goal.returns-in-Some

@@ -1,5 +1,5 @@
 use Rattle.wtf8.proofs.Common.{length, ap, subst, arith, false≢true, IsForm}
-use Rattle.wtf8.proofs.lemmas.numbers.Readings.{same_form}
+use Rattle.wtf8.proofs.lemmas.codec.Readings.{same_form}
 use Rattle.wtf8.proofs.strings.buf.Wtf8Buf.apply.Goals as goal
 
 pub returns-in_err-reserve-in-Reserve-clause-found : goal.returns-in_err-reserve-in-Reserve-clause-found

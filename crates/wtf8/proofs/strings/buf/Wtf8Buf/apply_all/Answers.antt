@@ -3,8 +3,8 @@ use Rattle.wtf8.proofs.Common.{append_assoc, All, Step, Run, Append, IsNoTruncat
 use Rattle.wtf8.proofs.Common.{false≢true, cases_lt, append-nil, IsForm, FindRoom, All-nil, All-cons, take_all, All-get_or, FitWithin, none-some}
 use Rattle.wtf8.specs.Building.{appended_units, reserved_bytes, LeavesReserved}
 use Rattle.wtf8.proofs.lemmas.laws.StringLaws.{reserved_more}
-use Rattle.wtf8.proofs.lemmas.strings.Concatenation.{item_at, items_more}
-use Rattle.wtf8.proofs.lemmas.strings.Gains.{Found, found_more, wider, beginning}
+use Rattle.wtf8.proofs.lemmas.strings.Concatenation.{item_at, take-one_more}
+use Rattle.wtf8.proofs.lemmas.strings.ExtendedForms.{Found, found_more, FindsRoom-larger, beginning_of_form}
 use Rattle.wtf8.proofs.strings.buf.Wtf8Buf.apply_all.Given.{Over}
 use Rattle.wtf8.proofs.strings.buf.Wtf8Buf.apply_all.Goals.{In_default, then-not-kept, else-not-kept}
 use Rattle.wtf8.proofs.strings.buf.Wtf8Buf.apply_all.Goals as goal
@@ -27,11 +27,11 @@ record Adds (u : List ℕ) (call : Build) (a : List ℕ) : Type 0 where
   step : Step u call (u ++ a) 0
   only : (v : List ℕ) (r : ℕ) → Step u call v r → v ≡ u ++ a
 
-adds : (u : List ℕ) (call : Build) (a : List ℕ) → appended_units call ≡ Some a → Adds u call a
-adds u (Reserve n) a e = absurd (none-some a e)
-adds u (Truncate k) a e = absurd (none-some a e)
-adds u (TruncateUnits n) a e = absurd (none-some a e)
-adds u call a e =
+Adds-from_appended : (u : List ℕ) (call : Build) (a : List ℕ) → appended_units call ≡ Some a → Adds u call a
+Adds-from_appended u (Reserve n) a e = absurd (none-some a e)
+Adds-from_appended u (Truncate k) a e = absurd (none-some a e)
+Adds-from_appended u (TruncateUnits n) a e = absurd (none-some a e)
+Adds-from_appended u call a e =
     let same : _ ≡ a = some_same _ a e in
     record { no_truncation = tt; asks = refl; step = (ap (λ b. u ++ b) (sym same), refl); only = λ v r s. s.0 ∙ ap (λ b. u ++ b) same }
 
@@ -39,13 +39,13 @@ adds u call a e =
 run_appends : (u : List ℕ) (calls : List Build) (v : List ℕ) (n : ℕ) (a : List ℕ) → Run u calls v n → Append calls a → v ≡ u ++ a
 run_appends u [] v n a x e = x.0 ∙ (sym (append-nil u) ∙ ap (λ b. u ++ b) (sym e))
 run_appends u (call ∷ calls) v n a x e =
-    let here = (adds u call e.0 e.2).only x.0 x.1 x.3 in
+    let here = (Adds-from_appended u call e.0 e.2).only x.0 x.1 x.3 in
     let rest = run_appends x.0 calls v x.2 e.1 x.4 e.3 in
     rest ∙ (ap (λ m. m ++ e.1) here ∙ (append_assoc u e.0 e.1 ∙ ap (λ b. u ++ b) (sym e.4)))
 
 none_truncates : (calls : List Build) (a : List ℕ) → Append calls a → All IsNoTruncation calls
 none_truncates [] a e = All-nil IsNoTruncation
-none_truncates (call ∷ calls) a e = All-cons IsNoTruncation call calls (adds [] call e.0 e.2).no_truncation (none_truncates calls e.1 e.3)
+none_truncates (call ∷ calls) a e = All-cons IsNoTruncation call calls (Adds-from_appended [] call e.0 e.2).no_truncation (none_truncates calls e.1 e.3)
 
 -- if all that they append fits the capacity, each finds room
 find_room : (u : List ℕ) (calls : List Build) (a : List ℕ) (capacity : ℕ) → Append calls a → FitWithin (u ++ a) 0 capacity → FindRoom u calls (u ++ a) capacity
@@ -54,8 +54,8 @@ find_room u (call ∷ calls) a capacity e fit =
     let mid = u ++ e.0 in
     let whole : u ++ a ≡ mid ++ e.1 = ap (λ b. u ++ b) e.4 ∙ sym (append_assoc u e.0 e.1) in
     let fits : FitWithin (mid ++ e.1) 0 capacity = subst (λ w. FitWithin w 0 capacity) whole fit in
-    let here = adds u call e.0 e.2 in
-    let b = beginning mid e.1 fits.whole fits.form in (
+    let here = Adds-from_appended u call e.0 e.2 in
+    let b = beginning_of_form mid e.1 fits.whole fits.form in (
       mid,
       record {
         no_truncation = here.no_truncation;
@@ -69,11 +69,11 @@ call_among : (calls : List Build) (i : ℕ) (call : Build) → i < length calls 
 call_among calls i call h e all = subst IsNoTruncation (sym e) (All-get_or IsNoTruncation calls i call h all)
 
 -- the number of refused truncations after one more call
-counted : (kept : Bool) (n : ℕ) → kept ≡ false → n + 1 ≡ n + cond kept 0 1
-counted kept n e = rw e refl
+refused-one_more : (kept : Bool) (n : ℕ) → kept ≡ false → n + 1 ≡ n + cond kept 0 1
+refused-one_more kept n e = rw e refl
 
-not_counted : (kept : Bool) (n : ℕ) → kept ≡ true → n ≡ n + cond kept 0 1
-not_counted kept n e = rw e (omega arith)
+refused-unchanged : (kept : Bool) (n : ℕ) → kept ≡ true → n ≡ n + cond kept 0 1
+refused-unchanged kept n e = rw e (omega arith)
 
 -- a list that begins with the calls up to the refused one does not find room
 no_room : (g : Over) (c : In_default g) (more : List Build) (v : List ℕ)
@@ -81,7 +81,7 @@ no_room : (g : Over) (c : In_default g) (more : List Build) (v : List ℕ)
 no_room g c more v whole =
     let found = c.loop-done.invariant.found in
     let here = found.rest (c.index-calls-done.result ∷ more) v whole in
-    false≢true (c.in_default.ensures.found here.0 (wider here.1 (found.grows (c.index-calls-done.result ∷ more) v whole)))
+    false≢true (c.in_default.ensures.found here.0 (FindsRoom-larger here.1 (found.grows (c.index-calls-done.result ∷ more) v whole)))
 
 pub loop-done-preserved : goal.loop-done-preserved
 loop-done-preserved g c =
@@ -89,14 +89,14 @@ loop-done-preserved g c =
     let calls = c.args.calls.now in
     let call = c.index-calls-done.result in
     let inv = c.loop-done.invariant in
-    let more = items_more calls i call (omega arith) c.index-calls-done.is in
+    let more = take-one_more calls i call (omega arith) c.index-calls-done.is in
     let u = c.args.self.now.units in
     let was = c.loop-done.self.units in
     let now = c.apply.new.self.units in
     let run = run_more u (take i calls) was c.loop-done.refused call now (cond c.in-Ok.kept 0 1) inv.ran c.in-Ok.ensures.step in
     let count : (c.if-not-kept.refused ≡ c.loop-done.refused + cond c.in-Ok.kept 0 1) × (c.if-not-kept.refused ≤ i + 1) = elim c.if-not-kept.branch [
-      | then-not-kept w ↦ (w.refused-is ∙ counted c.in-Ok.kept c.loop-done.refused w.if-not-kept.true, omega (arith, w.refused-is, inv.counted))
-      | else-not-kept w ↦ (w.refused-is ∙ not_counted c.in-Ok.kept c.loop-done.refused w.if-not-kept.false, omega (arith, w.refused-is, inv.counted))
+      | then-not-kept w ↦ (w.refused-is ∙ refused-one_more c.in-Ok.kept c.loop-done.refused w.if-not-kept.true, omega (arith, w.refused-is, inv.counted))
+      | else-not-kept w ↦ (w.refused-is ∙ refused-unchanged c.in-Ok.kept c.loop-done.refused w.if-not-kept.false, omega (arith, w.refused-is, inv.counted))
     ] in record {
       ran = subst (λ d. Run u d now c.if-not-kept.refused) (sym more) (subst (λ n. Run u (take i calls ++ call ∷ []) now n) (sym count.0) run);
       counted = count.1;
@@ -116,7 +116,7 @@ returns-in_default-clause-found g c v room =
 
 pub returns-in_default-clause-missed : goal.returns-in_default-clause-missed
 returns-in_default-clause-missed g c v room =
-    let more = items_more c.args.calls.now c.loop-done.done c.index-calls-done.result (omega arith) c.index-calls-done.is in
+    let more = take-one_more c.args.calls.now c.loop-done.done c.index-calls-done.result (omega arith) c.index-calls-done.is in
     no_room g (goal.at.returns-in_default-clause-missed g c).In_default [] v (rw more at room)
 
 pub returns-in_default-clause-no_smaller : goal.returns-in_default-clause-no_smaller

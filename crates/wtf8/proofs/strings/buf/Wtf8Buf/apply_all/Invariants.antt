@@ -1,5 +1,5 @@
 use Rattle.wtf8.proofs.Common.{◌≤◌, take, All, Run, IsNoTruncation, LeavesReserved}
-use Rattle.wtf8.proofs.lemmas.strings.Gains.{Found}
+use Rattle.wtf8.proofs.lemmas.strings.ExtendedForms.{Found}
 use Rattle.wtf8.proofs.strings.buf.Wtf8Buf.apply_all.Given as goal
 
 -- the calls so far ran; capacity that they reserved is there up to a truncation; without truncations it has not shrunk

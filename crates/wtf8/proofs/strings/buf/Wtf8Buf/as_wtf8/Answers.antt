@@ -1,5 +1,5 @@
 use Rattle.wtf8.proofs.Common.{ap, rules, ◌∙◌, UnitString, units}
-use Rattle.wtf8.proofs.lemmas.numbers.Readings.{same_points}
+use Rattle.wtf8.proofs.lemmas.codec.Readings.{same_points}
 use Rattle.wtf8.proofs.strings.buf.Wtf8Buf.as_wtf8.Goals as goal
 
 pub from_well_formed-requires : goal.from_well_formed-requires

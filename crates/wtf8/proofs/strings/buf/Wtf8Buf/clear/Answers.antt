@@ -1,5 +1,5 @@
 use Rattle.wtf8.proofs.Common.{ap, units, arith, length, length-append, ◌∷◌}
-use Rattle.wtf8.proofs.lemmas.numbers.Readings.{empty_at, no_points}
+use Rattle.wtf8.proofs.lemmas.codec.Readings.{empty_at, no_points}
 use Rattle.wtf8.proofs.strings.buf.Wtf8Buf.clear.Goals as goal
 
 pub invariant_of-self-inside : goal.invariant_of-self-inside

@@ -1,7 +1,7 @@
 use Rattle.wtf8.proofs.Common.{ℕ, rules, ◌≡◌, ◌+◌, ◌++◌, ◌∷◌, ◌<◌, ◌∙◌, length, take, drop, arith, ap, sym, append_assoc, false≢true, number, numbers, units}
 use Rattle.wtf8.proofs.Common.{units_of}
 use Rattle.wtf8.proofs.lemmas.strings.Concatenation.{item_at}
-use Rattle.wtf8.proofs.lemmas.strings.Gains.{beginning, extended_length, units-points}
+use Rattle.wtf8.proofs.lemmas.strings.ExtendedForms.{beginning_of_form, extended_length, units-points}
 use Rattle.wtf8.proofs.strings.buf.Wtf8Buf.extend_from_points.Goals as goal
 
 pub returns-in_err-reserve-clause-room : goal.returns-in_err-reserve-clause-room
@@ -19,7 +19,7 @@ returns-in_err-push-clause-room g c fit =
     let all = ap (λ d. units (numbers d)) (sym (item_at ps i p below c.code_point-item.is)) ∙ units-points (take i ps) (p ∷ drop (i + 1) ps) in
     let rest = units (numbers (drop (i + 1) ps)) in
     let whole : c.args.self.now.units ++ units (numbers ps) ≡ c.loop-code_point.self.units ++ (units_of (number p) ++ rest) = rw (all, inv.0, append_assoc) in
-    let next = beginning (c.loop-code_point.self.units ++ units_of (number p)) rest fit.whole (rw (append_assoc, ← whole) fit.form) in
+    let next = beginning_of_form (c.loop-code_point.self.units ++ units_of (number p)) rest fit.whole (rw (append_assoc, ← whole) fit.form) in
     absurd (false≢true (c.in_err-push.ensures.room (record { whole = next.whole; form = next.form; within = omega (arith, next.within, fit.within, inv.1) })))
 
 pub returns-in_err-push-clause-err : goal.returns-in_err-push-clause-err

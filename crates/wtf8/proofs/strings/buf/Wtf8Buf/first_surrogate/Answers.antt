@@ -1,5 +1,5 @@
 use Rattle.wtf8.proofs.Common.{UnitString, ap, subst, ◌∙◌, IsFirst, SurrogateAt}
-use Rattle.wtf8.proofs.lemmas.strings.Gains.{none_before}
+use Rattle.wtf8.proofs.lemmas.strings.ExtendedForms.{none_before}
 use Rattle.wtf8.proofs.lemmas.strings.Surrogates.{first_further, none_from_scalar}
 use Rattle.wtf8.proofs.strings.buf.Wtf8Buf.first_surrogate.Goals as goal
 
@@ -14,4 +14,4 @@ returns g c =
     let same = c.deref.ensures.value in
     subst (λ w. IsFirst (SurrogateAt w) 0 c.next_surrogate.result) (same ∙ ap (λ (t : UnitString). t.bytes) c.self.view_is)
     (first_further (SurrogateAt c.deref.result.now) own.scalar_end c.next_surrogate.result
-    (λ i l at. none_before own.scalar_end own.well_formed i own.scalar_front l (subst (λ w. SurrogateAt w i) same at)) c.next_surrogate.ensures)
+    (λ i l at. none_before own.scalar_end own.well_formed i own.scalar_prefix l (subst (λ w. SurrogateAt w i) same at)) c.next_surrogate.ensures)

@@ -1,6 +1,6 @@
 use Rattle.wtf8.proofs.Common.{◌∙◌, refl}
-use Rattle.wtf8.proofs.lemmas.numbers.Readings.{well_formed_of, same_form}
-use Rattle.wtf8.proofs.lemmas.strings.Gains.{scalar_moved}
+use Rattle.wtf8.proofs.lemmas.codec.Readings.{well_formed_of, same_form}
+use Rattle.wtf8.proofs.lemmas.strings.ExtendedForms.{scalar_moved}
 use Rattle.wtf8.proofs.strings.buf.Wtf8Buf.from_ill_formed_utf16.Goals as goal
 
 pub from_well_formed-requires-clause-scalar : goal.from_well_formed-requires-clause-scalar
@@ -15,4 +15,4 @@ returns-clause-units g c =
 
 pub returns-clause-form : goal.returns-clause-form
 returns-clause-form g c w form =
-    c.from_well_formed.ensures.bytes ∙ same_form c.append_form.new.bytes.items w c.args.v.now c.in_ok-is_known_utf8.ensures.ok.form form
+    c.from_well_formed.ensures.bytes ∙ same_form c.append_utf16.new.bytes.items w c.args.v.now c.in_ok-is_known_utf8.ensures.ok.form form

@@ -1,6 +1,6 @@
 use Rattle.wtf8.proofs.Common.{refl, ap, IsUtf8-string_bytes}
-use Rattle.wtf8.proofs.lemmas.numbers.Readings.{well_formed_of}
-use Rattle.wtf8.proofs.lemmas.strings.Gains.{scalar_moved, scalar_text, text_at}
+use Rattle.wtf8.proofs.lemmas.codec.Readings.{well_formed_of}
+use Rattle.wtf8.proofs.lemmas.strings.ExtendedForms.{scalar_moved, scalar_text, text_at}
 use Rattle.wtf8.proofs.strings.buf.Wtf8Buf.from_string.Goals as goal
 
 pub from_well_formed-requires-clause-well_formed : goal.from_well_formed-requires-clause-well_formed

@@ -1,6 +1,6 @@
 use Rattle.wtf8.proofs.Common.{refl}
-use Rattle.wtf8.proofs.lemmas.numbers.Readings.{empty_at}
-use Rattle.wtf8.proofs.lemmas.strings.Gains.{scalar_moved}
+use Rattle.wtf8.proofs.lemmas.codec.Readings.{empty_at}
+use Rattle.wtf8.proofs.lemmas.strings.ExtendedForms.{scalar_moved}
 use Rattle.wtf8.proofs.strings.buf.Wtf8Buf.new.Goals as goal
 
 pub from_well_formed-requires-clause-scalar : goal.from_well_formed-requires-clause-scalar

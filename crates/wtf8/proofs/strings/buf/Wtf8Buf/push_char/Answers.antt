@@ -1,26 +1,26 @@
-use Rattle.wtf8.proofs.Common.{UnitString, ap, arith, length, length-append, encoding, on_ok_weaker, refl, Gains, units_of, ◌≡◌, ◌∷◌, ◌++◌, []}
-use Rattle.wtf8.proofs.lemmas.strings.Gains.{units_appended, kept_contents, room_found, known_point, scalar_facts}
-use Rattle.wtf8.proofs.lemmas.numbers.Encoding.{encoding_one}
-use Rattle.wtf8.proofs.lemmas.numbers.Readings.{units_one}
+use Rattle.wtf8.proofs.Common.{UnitString, ap, arith, length, length-append, encoding, on_ok_weaker, refl, ExtendsFormOrKeeps, units_of, ◌≡◌, ◌∷◌, ◌++◌, []}
+use Rattle.wtf8.proofs.lemmas.strings.ExtendedForms.{units_appended, kept_contents, room_found, known_prefix_after_push, scalar_facts}
+use Rattle.wtf8.proofs.lemmas.codec.Encoding.{encoding_one}
+use Rattle.wtf8.proofs.lemmas.codec.Readings.{units_one}
 use Rattle.wtf8.proofs.strings.buf.Wtf8Buf.push_char.Given.{Over}
 use Rattle.wtf8.proofs.strings.buf.Wtf8Buf.push_char.Goals.{After-push_scalar}
 use Rattle.wtf8.proofs.strings.buf.Wtf8Buf.push_char.Goals as goal
 
-gains : (g : Over) (c : After-push_scalar g) → Gains c.self.inside.bytes (units_of c.args.c) c.push_scalar.new.bytes c.push_scalar.result
-gains g c = record { whole = _; gained = c.push_scalar.ensures.units; becomes = c.push_scalar.ensures.bytes }
+push_extends_form : (g : Over) (c : After-push_scalar g) → ExtendsFormOrKeeps c.self.inside.bytes (units_of c.args.c) c.push_scalar.new.bytes c.push_scalar.result
+push_extends_form g c = record { whole = _; gained = c.push_scalar.ensures.units; becomes = c.push_scalar.ensures.bytes }
 
 pub invariant_of-self-inside : goal.invariant_of-self-inside
 invariant_of-self-inside g c =
     let f = scalar_facts c.args.c c.ranges.c.0 in
     let own = c.self.inside in
-    known_point c.push_scalar.result c.args.c own.scalar_end own.scalar_end own.well_formed f.range own.scalar_front (omega arith) (λ _. f.apart)
+    known_prefix_after_push c.push_scalar.result c.args.c own.scalar_end own.scalar_end own.well_formed f.range own.scalar_prefix (omega arith) (λ _. f.apart)
     (record { whole = _; gained = c.push_scalar.ensures.units; becomes = c.push_scalar.ensures.bytes })
 
 pub returns-clause-ok : goal.returns-clause-ok
-returns-clause-ok g c = units_appended _ _ c.self-1.given.0 c.self.view_is refl (gains g (goal.at.returns-clause-ok g c).After-push_scalar)
+returns-clause-ok g c = units_appended _ _ c.self-1.given.0 c.self.view_is refl (push_extends_form g (goal.at.returns-clause-ok g c).After-push_scalar)
 
 pub returns-clause-kept : goal.returns-clause-kept
-returns-clause-kept g c = kept_contents _ _ _ c.self.view_is refl refl (gains g (goal.at.returns-clause-kept g c).After-push_scalar)
+returns-clause-kept g c = kept_contents _ _ _ c.self.view_is refl refl (push_extends_form g (goal.at.returns-clause-kept g c).After-push_scalar)
 
 pub returns-clause-one_unit : goal.returns-clause-one_unit
 returns-clause-one_unit g c low =
@@ -28,7 +28,7 @@ returns-clause-one_unit g c low =
     on_ok_weaker c.push_scalar.result (λ e. cc (e, more)) (returns-clause-ok g c)
 
 pub returns-clause-room : goal.returns-clause-room
-returns-clause-room g c = room_found _ _ c.self.view_is refl refl (gains g (goal.at.returns-clause-room g c).After-push_scalar)
+returns-clause-room g c = room_found _ _ c.self.view_is refl refl (push_extends_form g (goal.at.returns-clause-room g c).After-push_scalar)
 
 pub returns-clause-ascii_length : goal.returns-clause-ascii_length
 returns-clause-ascii_length g c low =

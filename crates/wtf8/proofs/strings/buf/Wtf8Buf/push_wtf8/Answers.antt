@@ -1,19 +1,19 @@
 use Rattle.wtf8.proofs.Common.{UnitString, IsForm, ◌++◌, ◌∙◌, subst, sym, append-nil, ap, arith, length, refl, units, view_units, view_form}
-use Rattle.wtf8.proofs.lemmas.strings.Gains.{units_appended, kept_contents, room_found, known_gained, scalar_apart, scalar_moved}
+use Rattle.wtf8.proofs.lemmas.strings.ExtendedForms.{units_appended, kept_contents, room_found, known_prefix_after_append, scalar_front_unpaired, scalar_moved}
 use Rattle.wtf8.proofs.lemmas.laws.StringLaws.{grows_at_most, added_length, nothing_appended, room_left}
-use Rattle.wtf8.proofs.lemmas.numbers.Readings.{no_points, well_formed_of, form_of}
+use Rattle.wtf8.proofs.lemmas.codec.Readings.{no_points, well_formed_of, form_of}
 use Rattle.wtf8.proofs.strings.buf.Wtf8Buf.push_wtf8.Goals as goal
 
 pub push_view-requires-clause-apart : goal.push_view-requires-clause-apart
 push_view-requires-clause-apart g c t h =
-    scalar_apart (scalar_moved (well_formed_of c.args.self.now.form) h (ap (λ (t : UnitString). t.bytes) c.self.view_is) (c.is_known_utf8-is_apart.ensures t))
+    scalar_front_unpaired (scalar_moved (well_formed_of c.args.self.now.form) h (ap (λ (t : UnitString). t.bytes) c.self.view_is) (c.is_known_utf8-forms_no_pair.ensures t))
 
 pub invariant_of-self-inside : goal.invariant_of-self-inside
 invariant_of-self-inside g c =
     let other = c.args.other.well_formed in
     let own = c.self.inside in
-    let end = c.scalar_end_with-self-inside.ensures in
-    known_gained c.push_view.result other.points own.scalar_end _ own.well_formed refl other.clean own.scalar_front
+    let end = c.scalar_end_after_push-self-inside.ensures in
+    known_prefix_after_append c.push_view.result other.points own.scalar_end _ own.well_formed refl other.clean own.scalar_prefix
     end.order (λ m. end.scalar (omega (arith, m))) c.push_view.ensures
 
 pub returns-clause-ok : goal.returns-clause-ok

@@ -1,22 +1,22 @@
 use Rattle.wtf8.proofs.Common.{◌≡◌, ◌∙◌, ap, sym, subst, arith, take, UnitString, units, IsBoundary, IsFront, IsWellFormed, AreScalarTo}
 use Rattle.wtf8.proofs.lemmas.strings.Positions.{cut_at}
-use Rattle.wtf8.proofs.lemmas.numbers.Readings.{moved, same_points}
-use Rattle.wtf8.proofs.lemmas.strings.Gains.{scalar_to-front}
+use Rattle.wtf8.proofs.lemmas.codec.Readings.{moved, same_points}
+use Rattle.wtf8.proofs.lemmas.strings.ExtendedForms.{scalar_to-front}
 use Rattle.wtf8.proofs.strings.buf.Wtf8Buf.truncate.Given.{Over}
 use Rattle.wtf8.proofs.strings.buf.Wtf8Buf.truncate.Goals.{After-truncate}
 use Rattle.wtf8.proofs.strings.buf.Wtf8Buf.truncate.Goals as goal
 
-kept : (g : Over) (c : After-truncate g) → c.truncate.new.self.items ≡ take c.args.new_len c.self.inside.bytes.items
-kept g c = grind arith
+items-truncate : (g : Over) (c : After-truncate g) → c.truncate.new.self.items ≡ take c.args.new_len c.self.inside.bytes.items
+items-truncate g c = grind arith
 
 pub invariant_of-self-inside : goal.invariant_of-self-inside
 invariant_of-self-inside g c =
     let same = ap (λ (t : UnitString). t.units) c.self.view_is in
     let cut = cut_at c.self.inside.well_formed c.args.new_len (subst (λ u. IsBoundary u c.args.new_len) (sym same) c.requires) in
     let own = c.self.inside in
-    let front = scalar_to-front own.scalar_end own.scalar_end cut.front cut.back (subst (AreScalarTo own.scalar_end) cut.points own.scalar_front) (omega arith) in
-    let end = c.scalar_end_of_front-self-inside in
-    let now : IsWellFormed c.truncate.new.self.items = moved cut.before (kept g (goal.at.invariant_of-self-inside g c).After-truncate) in
+    let front = scalar_to-front own.scalar_end own.scalar_end cut.front cut.back (subst (AreScalarTo own.scalar_end) cut.points own.scalar_prefix) (omega arith) in
+    let end = c.scalar_end_after_truncate-self-inside in
+    let now : IsWellFormed c.truncate.new.self.items = moved cut.before (items-truncate g (goal.at.invariant_of-self-inside g c).After-truncate) in
     (now, (subst (AreScalarTo end.result) (sym cut.before_points) (end.ensures cut.front cut.splits.front_len front), tt))
 
 pub returns-clause-units : goal.returns-clause-units
@@ -27,9 +27,9 @@ returns-clause-units g c =
       front = cut.front;
       back = cut.back;
       splits = cut.splits;
-      same_units = ap units (sym (same_points c.self-1.given.0 cut.before (kept g (goal.at.returns-clause-units g c).After-truncate) ∙ cut.before_points));
+      same_units = ap units (sym (same_points c.self-1.given.0 cut.before (items-truncate g (goal.at.returns-clause-units g c).After-truncate) ∙ cut.before_points));
     })
 
 pub returns-clause-bytes : goal.returns-clause-bytes
 returns-clause-bytes g c =
-    kept g (goal.at.returns-clause-bytes g c).After-truncate ∙ ap (λ (t : UnitString). take c.args.new_len t.bytes) c.self.view_is
+    items-truncate g (goal.at.returns-clause-bytes g c).After-truncate ∙ ap (λ (t : UnitString). take c.args.new_len t.bytes) c.self.view_is

@@ -1,6 +1,6 @@
 use Rattle.wtf8.proofs.Common.{subst, inl, inr, take, arith, IsForm}
 use Rattle.wtf8.proofs.lemmas.strings.Positions.{front_form}
-use Rattle.wtf8.proofs.lemmas.numbers.Readings.{same_form}
+use Rattle.wtf8.proofs.lemmas.codec.Readings.{same_form}
 use Rattle.wtf8.proofs.strings.buf.Wtf8Buf.truncate_units.Goals as goal
 
 pub returns-clause-bytes : goal.returns-clause-bytes

@@ -1,5 +1,5 @@
 use Rattle.wtf8.proofs.Common.{◌≡◌, ◌+◌, ◌≤◌, ◌<◌, ◌∙◌, sym, length, ap, drop, get_or, arith, get_or-drop}
-use Rattle.wtf8.proofs.lemmas.strings.UnitCuts.{inside, is_whole, held_at}
+use Rattle.wtf8.proofs.lemmas.strings.UnitCuts.{continuation_range, held_trail-two_bytes, held_trail-some}
 use Rattle.wtf8.proofs.strings.iters.IllFormedUtf16CodeUnits.held_units.Goals as goal
 
 pub returns-in-128-to-191-clause-value : goal.returns-in-128-to-191-clause-value
@@ -9,6 +9,6 @@ returns-in-128-to-191-clause-value c =
     let first = get_or-drop s.at s.bytes.now 0 0 ∙ ap (λ k. get_or s.bytes.now k 0) none_on in
     let least : 0x80 ≤ get_or (drop s.at s.bytes.now) 0 0 = omega (arith, first, c.in-128-to-191) in
     let most : get_or (drop s.at s.bytes.now) 0 0 < 0xC0 = omega (arith, first, c.in-128-to-191) in
-    let two = is_whole (drop s.at s.bytes.now) s.behind least most in
-    let held = held_at (drop s.at s.bytes.now) two (inside (get_or (drop s.at s.bytes.now) 0 0) least most) in
+    let two = held_trail-two_bytes (drop s.at s.bytes.now) s.after least most in
+    let held = held_trail-some (drop s.at s.bytes.now) two (continuation_range (get_or (drop s.at s.bytes.now) 0 0) least most) in
     sym (ap (λ u. length u.held) (sym c.self.view_is) ∙ ap length held.0)

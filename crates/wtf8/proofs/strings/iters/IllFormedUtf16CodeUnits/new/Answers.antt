@@ -1,16 +1,16 @@
 use Rattle.wtf8.proofs.Common.{arith}
-use Rattle.wtf8.proofs.lemmas.strings.UnitCuts.{starts, not_held}
-use Rattle.wtf8.proofs.lemmas.numbers.Readings.{moved, same_points}
+use Rattle.wtf8.proofs.lemmas.strings.UnitCuts.{first_no_continuation, held_trail-none}
+use Rattle.wtf8.proofs.lemmas.codec.Readings.{moved, same_points}
 use Rattle.wtf8.proofs.strings.iters.IllFormedUtf16CodeUnits.new.Goals as goal
 
 pub invariant_of-result : goal.invariant_of-result
 invariant_of-result c =
     let w = c.args.view.well_formed in
-    let n = not_held c.args.view.bytes.now (starts w) in (omega arith, (moved w n.1, tt))
+    let n = held_trail-none c.args.view.bytes.now (first_no_continuation w) in (omega arith, (moved w n.1, tt))
 
 pub returns-clause-held : goal.returns-clause-held
-returns-clause-held c = (not_held c.args.view.bytes.now (starts c.args.view.well_formed)).0
+returns-clause-held c = (held_trail-none c.args.view.bytes.now (first_no_continuation c.args.view.well_formed)).0
 
 pub returns-clause-points : goal.returns-clause-points
 returns-clause-points c =
-    let w = c.args.view.well_formed in same_points c.result-2-1.given.1.0 w (not_held c.args.view.bytes.now (starts w)).1
+    let w = c.args.view.well_formed in same_points c.result-2-1.given.1.0 w (held_trail-none c.args.view.bytes.now (first_no_continuation w)).1

@@ -1,5 +1,5 @@
-use Rattle.wtf8.proofs.Common.{List, ℕ, ◌∙◌, ap, drop, refl, Unread, held_in}
-use Rattle.wtf8.proofs.lemmas.numbers.Readings.{same_points}
+use Rattle.wtf8.proofs.Common.{List, ℕ, ◌∙◌, ap, drop, refl, Unread, held_trail}
+use Rattle.wtf8.proofs.lemmas.codec.Readings.{same_points}
 use Rattle.wtf8.proofs.strings.iters.IllFormedUtf16CodeUnitsClone.clone.Goals as goal
 
 abbrev held_with : List ℕ → List ℕ → Unread
@@ -8,4 +8,4 @@ held_with held points = record { held = held; points = points }
 pub returns : goal.returns
 returns c =
     let s = c.self.inside in
-    record { cases = ap (held_with (held_in (drop s.at s.bytes.now))) (same_points c.result-2-1.given.1.0 s.behind refl) ∙ c.self.view_is }
+    record { cases = ap (held_with (held_trail (drop s.at s.bytes.now))) (same_points c.result-2-1.given.1.0 s.after refl) ∙ c.self.view_is }

@@ -1,5 +1,5 @@
 use Rattle.wtf8.proofs.Common.{◌∙◌, refl}
-use Rattle.wtf8.proofs.lemmas.numbers.Readings.{same_points}
+use Rattle.wtf8.proofs.lemmas.codec.Readings.{same_points}
 use Rattle.wtf8.proofs.strings.iters.Wtf8CodePointsClone.clone.Goals as goal
 
 pub returns : goal.returns

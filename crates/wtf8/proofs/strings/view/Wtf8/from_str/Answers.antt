@@ -1,5 +1,5 @@
 use Rattle.wtf8.proofs.Common.{sym, subst, AreScalar}
-use Rattle.wtf8.proofs.lemmas.strings.Gains.{scalar_text, text_at}
+use Rattle.wtf8.proofs.lemmas.strings.ExtendedForms.{scalar_text, text_at}
 use Rattle.wtf8.proofs.strings.view.Wtf8.from_str.Goals as goal
 
 pub from_well_formed-requires : goal.from_well_formed-requires

@@ -1,14 +1,14 @@
-use Rattle.wtf8.proofs.Common.{◌≡◌, ℕ, ◌∷◌, ◌∙◌, List, length, sym, ap, arith, bytes, encoding, IsWellFormed, IsTrail, FrontSays}
-use Rattle.wtf8.proofs.lemmas.numbers.Encoding.{begins_with}
-use Rattle.wtf8.proofs.lemmas.numbers.Readings.{first_of}
+use Rattle.wtf8.proofs.Common.{◌≡◌, ℕ, ◌∷◌, ◌∙◌, List, length, sym, ap, arith, bytes, encoding, IsWellFormed, IsTrail, FirstPointByLead}
+use Rattle.wtf8.proofs.lemmas.codec.Encoding.{begins_with}
+use Rattle.wtf8.proofs.lemmas.codec.Readings.{first_of}
 use Rattle.wtf8.proofs.strings.view.Wtf8.initial_trail_surrogate.Goals as goal
 
 -- the first three bytes of a string that begins with a trail
-says_trail : {w : List ℕ} (h : IsWellFormed w) (t : ℕ) (r : List ℕ) → IsTrail t → h.points ≡ t ∷ r → FrontSays w t (length (encoding t))
+says_trail : {w : List ℕ} (h : IsWellFormed w) (t : ℕ) (r : List ℕ) → IsTrail t → h.points ≡ t ∷ r → FirstPointByLead w t (length (encoding t))
 says_trail h t r i e = (begins_with t (bytes r) _ (omega arith) (sym h.encoded ∙ ap bytes e)).says
 
-pub low_bits-requires-in-237 : goal.low_bits-requires-in-237
-low_bits-requires-in-237 c = let s = (first_of c.args.self.well_formed (omega arith)).0.says in omega arith
+pub payload_bits-requires-in-237 : goal.payload_bits-requires-in-237
+payload_bits-requires-in-237 c = let s = (first_of c.args.self.well_formed (omega arith)).0.says in omega arith
 
 pub returns-in-237-clause-trail : goal.returns-in-237-clause-trail
 returns-in-237-clause-trail c = let s = (first_of c.args.self.well_formed (omega arith)).0.says in (omega arith, omega arith)

@@ -1,5 +1,5 @@
 use Rattle.wtf8.proofs.Common.{◌+◌, ◌-◌, refl, inl, inr, subst, arith, CutsUnits}
-use Rattle.wtf8.proofs.lemmas.strings.UnitCuts.{divided, divides_some}
+use Rattle.wtf8.proofs.lemmas.strings.UnitCuts.{divided_from_cut, divides_some}
 use Rattle.wtf8.proofs.lemmas.strings.UnitMarks.{cut_from_mark, mark_at_cut, mark_before_cut}
 use Rattle.wtf8.proofs.strings.view.Wtf8.mark_at.Goals.{In-Some}
 use Rattle.wtf8.proofs.strings.view.Wtf8.mark_at.Goals as goal
@@ -27,7 +27,7 @@ returns-in-Some-divided-clause-last c =
     let h = c.args.self.now.well_formed in
     let whole = subst (CutsUnits h.points c.args.units (c.args.from.position + c.in-Some.cut.position)) c.in-Some-divided.is
     (cut_here (goal.at.returns-in-Some-divided-clause-last c).In-Some) in
-    inr (omega (arith, whole.counted.inside), divides_some h.clean (divided refl whole))
+    inr (omega (arith, whole.counted.inside), divides_some h.clean (divided_from_cut refl whole))
 
 pub returns-in-Some-divided-clause-exact : goal.returns-in-Some-divided-clause-exact
 returns-in-Some-divided-clause-exact c = λ whole. elim (returns-in-Some-divided-clause-last c) [ inl same ↦ same | inr less ↦ absurd (whole less.1) ]

@@ -1,5 +1,5 @@
 use Rattle.wtf8.proofs.Common.{◌∙◌, ap, units}
-use Rattle.wtf8.proofs.lemmas.numbers.Readings.{moved, well_formed_of}
+use Rattle.wtf8.proofs.lemmas.codec.Readings.{moved, well_formed_of}
 use Rattle.wtf8.proofs.strings.view.Wtf8.slice_from_mark.Goals as goal
 
 pub split_at-requires : goal.split_at-requires

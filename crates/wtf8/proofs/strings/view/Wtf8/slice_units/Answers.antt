@@ -1,8 +1,8 @@
 use Rattle.wtf8.proofs.Common.{nat_tests, ◌≤◌, ◌≡◌, ◌∙◌, ◌+◌, ◌-◌, [], ◌++◌, ap, sym, subst, length, take, arith, length-append, length-drop, length-take, drop}
 use Rattle.wtf8.proofs.Common.{drop_all, units, view_units, drop-take, option_to_list, DividesPair, take-append-add}
-use Rattle.wtf8.proofs.lemmas.numbers.Readings.{no_points}
-use Rattle.wtf8.proofs.lemmas.strings.UnitCuts.{divides_behind}
-use Rattle.wtf8.proofs.strings.view.Wtf8.slice_units.Goals.{After-count_of}
+use Rattle.wtf8.proofs.lemmas.codec.Readings.{no_points}
+use Rattle.wtf8.proofs.lemmas.strings.UnitCuts.{divides_after}
+use Rattle.wtf8.proofs.strings.view.Wtf8.slice_units.Goals.{After-half_len}
 use Rattle.wtf8.proofs.strings.view.Wtf8.slice_units.Goals as goal
 
 pub returns-then-begin-end-clause-units : goal.returns-then-begin-end-clause-units
@@ -12,42 +12,42 @@ returns-then-begin-end-clause-units c =
     ∙ sym (drop_all c.args.begin (take c.args.end u) (omega (arith, length-take c.args.end u, c.if-begin-end.true)))
 
 -- the trail that is cut off at `begin`, if any, is before `end`
-short : (c : After-count_of) → c.count_of.result ≤ c.args.end - c.args.begin
-short c = grind (arith, nat_tests, c.count_of.ensures.most, c.requires.order, c.if-begin-end.false)
+trail_before_end : (c : After-half_len) → c.half_len.result ≤ c.args.end - c.args.begin
+trail_before_end c = grind (arith, nat_tests, c.half_len.ensures.most, c.requires.order, c.if-begin-end.false)
 
 -- the units from `begin` on: the cut-off trail, if any, and the rest
-left : (c : After-count_of) → c.count_of.result + length (view_units c.units_behind-trail.result.1) ≡ length (view_units c.args.self.now) - c.args.begin
-left c = omega (
+units_from_begin : (c : After-half_len) → c.half_len.result + length (view_units c.units_after-trail.result.1) ≡ length (view_units c.args.self.now) - c.args.begin
+units_from_begin c = omega (
   arith,
-  c.count_of.ensures.count,
-  ap length c.units_behind-trail.ensures.units,
-  length-append (option_to_list c.units_behind-trail.result.0) (view_units c.units_behind-trail.result.1),
+  c.half_len.ensures.count,
+  ap length c.units_after-trail.ensures.units,
+  length-append (option_to_list c.units_after-trail.result.0) (view_units c.units_after-trail.result.1),
   length-drop c.args.begin (view_units c.args.self.now),
 )
 
 pub first_units-lead-requires : goal.first_units-lead-requires
-first_units-lead-requires c = omega (arith, left c, c.requires.within)
+first_units-lead-requires c = omega (arith, units_from_begin c, c.requires.within)
 
 pub returns-clause-units : goal.returns-clause-units
 returns-clause-units c =
     let u = view_units c.args.self.now in
-    let half = option_to_list c.units_behind-trail.result.0 in
-    let rest = view_units c.units_behind-trail.result.1 in
-    let n = c.args.end - c.args.begin - c.count_of.result in
+    let half = option_to_list c.units_after-trail.result.0 in
+    let rest = view_units c.units_after-trail.result.1 in
+    let n = c.args.end - c.args.begin - c.half_len.result in
     let many : length half + n ≡ c.args.end - c.args.begin =
-    omega (arith, short (goal.at.returns-clause-units c).After-count_of, c.count_of.ensures.count) in
+    omega (arith, trail_before_end (goal.at.returns-clause-units c).After-half_len, c.half_len.ensures.count) in
     let whole : c.args.begin + (c.args.end - c.args.begin) ≡ c.args.end = omega (arith, c.requires.order) in
-    ap (λ v. half ++ v) c.first_units-lead.ensures.units ∙ (sym (take-append-add half rest n) ∙ (ap (take (length half + n)) c.units_behind-trail.ensures.units
+    ap (λ v. half ++ v) c.first_units-lead.ensures.units ∙ (sym (take-append-add half rest n) ∙ (ap (take (length half + n)) c.units_after-trail.ensures.units
     ∙ (ap (λ k. take k (drop c.args.begin u)) many ∙ (sym (drop-take c.args.begin (c.args.end - c.args.begin) u) ∙ ap (λ k. drop c.args.begin (take k u)) whole))))
 
 pub returns-clause-lead : goal.returns-clause-lead
 returns-clause-lead c before =
     let u = view_units c.args.self.now in
-    let half = c.units_behind-trail.result.0 in
-    let rest = view_units c.units_behind-trail.result.1 in
-    let n = c.args.end - c.args.begin - c.count_of.result in
-    let same = divides_behind u rest half c.args.begin n (omega (arith, c.requires.within, before)) c.units_behind-trail.ensures.units
-    c.units_behind-trail.ensures.trail (omega (arith, before, c.count_of.ensures.count)) (omega (arith, left (goal.at.returns-clause-lead c).After-count_of, c.requires.within)) in
-    let end : c.args.begin + (length (option_to_list half) + n) ≡ c.args.end = omega (arith, before, c.count_of.ensures.count, c.count_of.ensures.most) in
+    let half = c.units_after-trail.result.0 in
+    let rest = view_units c.units_after-trail.result.1 in
+    let n = c.args.end - c.args.begin - c.half_len.result in
+    let same = divides_after u rest half c.args.begin n (omega (arith, c.requires.within, before)) c.units_after-trail.ensures.units
+    c.units_after-trail.ensures.trail (omega (arith, before, c.half_len.ensures.count)) (omega (arith, units_from_begin (goal.at.returns-clause-lead c).After-half_len, c.requires.within)) in
+    let end : c.args.begin + (length (option_to_list half) + n) ≡ c.args.end = omega (arith, before, c.half_len.ensures.count, c.half_len.ensures.most) in
     let own = c.first_units-lead.ensures.lead in
     (λ s. subst (DividesPair u) end (same.0 (own.0 s)), λ m. own.1 (same.1 (subst (DividesPair u) (sym end) m)))

@@ -1,6 +1,6 @@
 use Rattle.wtf8.proofs.Common.{ap, sym, ◌∙◌, subst, refl, IsUtf8, bytes, length}
 use Rattle.wtf8.proofs.lemmas.strings.Surrogates.{utf8_lossy_points, lossy_points-scalar, length-lossy_points}
-use Rattle.wtf8.proofs.lemmas.numbers.Readings.{moved}
+use Rattle.wtf8.proofs.lemmas.codec.Readings.{moved}
 use Rattle.wtf8.proofs.strings.view.Wtf8.to_string_lossy.Goals as goal
 
 pub returns-in-Some-clause-text : goal.returns-in-Some-clause-text

@@ -1,0 +1,276 @@
+// Calls that only read strings, slices, texts and code points.
+use crate::comparing::{name_of, write_comparisons};
+use crate::iterators::{drain, write_steps};
+use crate::machine::Machine;
+use crate::opcodes::{OperandCall, Read};
+use crate::reader::Register;
+use crate::recorder::write_hash_input;
+use crate::stop::{Stop, allocated};
+use crate::tape::{NONE, Tape};
+use std::alloc::Global;
+use std::borrow::CowStr;
+use wtf8::{CodePoint, UnitSlice, Wtf8, Wtf8Buf};
+
+impl Machine {
+    /// Runs a call that reads a string, and writes what it returns.
+    pub fn write_results(&self, call: Read, at: Register, tape: &mut Tape<'_>) -> Result<(), Stop> {
+        let view = self.view(at);
+        match call {
+            Read::AsciiByteAt => write_ascii_byte(tape, view),
+            Read::Boundaries => write_boundaries(tape, view),
+            Read::CodePoints => write_points(tape, view),
+            Read::ToIllFormedUtf16 => write_units(tape, view),
+            Read::AsStr => write_as_text(tape, view),
+            Read::ToStringLossy => write_lossy_text(tape, view),
+            Read::Comparisons => self.compare(at, tape),
+            Read::Hash => write_hash_inputs(tape, self.string(at)),
+            Read::Debug => write_buffer_texts(tape, self.string(at)),
+            Read::UnitAt => write_units_by_index(tape, view),
+            Read::SliceUnits => write_unit_slice(tape, view),
+            Read::CmpUnits => self.compare_units(at, tape),
+            Read::AppendUnits => write_appended_units(tape, view),
+        }
+    }
+
+    /// Compares a string with another one, as buffers and as views.
+    fn compare(&self, at: Register, tape: &mut Tape<'_>) -> Result<(), Stop> {
+        let other = tape.reader.register()?;
+        write_comparisons(tape, "buffers", self.string(at), self.string(other))?;
+        write_comparisons(tape, "views", &self.view(at), &self.view(other))
+    }
+
+    /// `cmp_units` of a string and another one, in both directions.
+    fn compare_units(&self, at: Register, tape: &mut Tape<'_>) -> Result<(), Stop> {
+        let other = tape.reader.register()?;
+        write_orders_of_units(tape, &self.view(at), &self.view(other))
+    }
+
+    /// The calls that read a view, on a slice of a string, without a copy.
+    pub fn write_slice_results(&self, at: Register, tape: &mut Tape<'_>) -> Result<(), Stop> {
+        let slice = self.read_slice(at, &mut tape.reader)?;
+        write_view_results(tape, slice)
+    }
+
+    /// Compares a slice with another one. The second one is read from the script even if the first is refused.
+    pub fn compare_slices(&self, at: Register, tape: &mut Tape<'_>) -> Result<(), Stop> {
+        let own = self.read_slice(at, &mut tape.reader);
+        let at = tape.reader.register()?;
+        let other = self.read_slice(at, &mut tape.reader);
+        write_comparisons(tape, "views", &own?, &other?)
+    }
+}
+
+/// Writes how two views compare by code units, in both directions.
+fn write_orders_of_units(
+    tape: &mut Tape<'_>,
+    own: &Wtf8<'_>,
+    other: &Wtf8<'_>,
+) -> Result<(), Stop> {
+    let order = name_of(own.cmp_units(other));
+    let reversed = name_of(other.cmp_units(own));
+    writeln!(tape, "units {order}, turned {reversed}")
+}
+
+/// Runs a call on a text or on code points of the script, and writes what it returns.
+pub fn write_operand_results(call: OperandCall, tape: &mut Tape<'_>) -> Result<(), Stop> {
+    match call {
+        OperandCall::ViewFromStr => write_operand_view(tape),
+        OperandCall::CodePoint => write_point(tape),
+        OperandCall::CodePointComparisons => compare_points(tape),
+    }
+}
+
+/// `Wtf8::from_str`: writes the view.
+fn write_operand_view(tape: &mut Tape<'_>) -> Result<(), Stop> {
+    let view = Wtf8::from_str(tape.reader.text()?);
+    tape.write_word("view")?;
+    tape.write_view(view)
+}
+
+/// Compares two code points. The second is read even if the first value is not a code point.
+fn compare_points(tape: &mut Tape<'_>) -> Result<(), Stop> {
+    let own = tape.reader.point();
+    let other = tape.reader.point();
+    write_comparisons(tape, "points", &own?, &other?)
+}
+
+/// Writes the number of code points, and the steps of their iterator.
+fn write_points(tape: &mut Tape<'_>, view: Wtf8<'_>) -> Result<(), Stop> {
+    let count = view.code_points().count();
+    write!(tape, "points, {count}:")?;
+    write_steps(tape, view.code_points())
+}
+
+/// Writes the number of code units, and the steps of their iterator.
+fn write_units(tape: &mut Tape<'_>, view: Wtf8<'_>) -> Result<(), Stop> {
+    let count = view.to_ill_formed_utf16().count();
+    write!(tape, "units, {count}:")?;
+    write_steps(tape, view.to_ill_formed_utf16())
+}
+
+/// Writes the bytes that a string and its view feed a hasher.
+fn write_hash_inputs(tape: &mut Tape<'_>, string: &Wtf8Buf<Global>) -> Result<(), Stop> {
+    write_hash_input(tape, string)?;
+    write_hash_input(tape, &string.as_wtf8())
+}
+
+/// Writes the bytes of the debug texts of a string and of its view.
+fn write_buffer_texts(tape: &mut Tape<'_>, string: &Wtf8Buf<Global>) -> Result<(), Stop> {
+    let text = allocated(format!(in tape.alloc; "{string:?}"))?;
+    tape.write_text("buffer", text.as_str())?;
+    write_debug_texts(tape, string.as_wtf8())
+}
+
+/// `ascii_byte_at`: writes the byte.
+fn write_ascii_byte(tape: &mut Tape<'_>, view: Wtf8<'_>) -> Result<(), Stop> {
+    let position = tape.reader.number()?;
+    if view.len() <= position {
+        return Err(Stop::Refused);
+    }
+    let byte = view.ascii_byte_at(position);
+    writeln!(tape, "byte {byte:02X}")
+}
+
+/// Writes the indexes up to the length that `is_code_point_boundary` accepts.
+fn write_boundaries(tape: &mut Tape<'_>, view: Wtf8<'_>) -> Result<(), Stop> {
+    tape.write_word("boundaries")?;
+    for index in 0..=view.len() {
+        if view.is_code_point_boundary(index) {
+            write!(tape, " {index}")?;
+        }
+    }
+    tape.write_line("")
+}
+
+/// `as_str`: writes the bytes of the text, or that there is none.
+fn write_as_text(tape: &mut Tape<'_>, view: Wtf8<'_>) -> Result<(), Stop> {
+    match view.as_str() {
+        Some(text) => tape.write_text("text", text),
+        None => tape.write_line("no text"),
+    }
+}
+
+/// `to_string_lossy`: writes whether the text is borrowed or owned, and its bytes.
+fn write_lossy_text(tape: &mut Tape<'_>, view: Wtf8<'_>) -> Result<(), Stop> {
+    let text = allocated(view.to_string_lossy(tape.alloc))?;
+    let word = match &text {
+        CowStr::Borrowed(_) => "borrowed",
+        CowStr::Owned(_) => "owned",
+    };
+    tape.write_text(word, text.as_str())
+}
+
+/// Writes the bytes of a view's debug text, without and with a width and flags.
+fn write_debug_texts(tape: &mut Tape<'_>, view: Wtf8<'_>) -> Result<(), Stop> {
+    write_debug_text(tape, view)?;
+    write_wide_text(tape, view)
+}
+
+/// Writes the bytes of a view's debug text.
+fn write_debug_text(tape: &mut Tape<'_>, view: Wtf8<'_>) -> Result<(), Stop> {
+    let text = allocated(format!(in tape.alloc; "{view:?}"))?;
+    tape.write_text("view", text.as_str())
+}
+
+/// Writes the bytes of a view's debug text with a width and flags.
+fn write_wide_text(tape: &mut Tape<'_>, view: Wtf8<'_>) -> Result<(), Stop> {
+    let text = allocated(format!(in tape.alloc; "{view:#12?}"))?;
+    tape.write_text("wide", text.as_str())
+}
+
+/// Writes `unit_len`, and `unit_at` of each index from 0 to that number.
+fn write_units_by_index(tape: &mut Tape<'_>, view: Wtf8<'_>) -> Result<(), Stop> {
+    let len = view.unit_len();
+    write!(tape, "{len} units")?;
+    for index in 0..=len {
+        tape.write_item(view.unit_at(index), NONE)?;
+    }
+    tape.write_line("")
+}
+
+/// `slice_units`: writes the trail, the bytes and the lead.
+fn write_unit_slice(tape: &mut Tape<'_>, view: Wtf8<'_>) -> Result<(), Stop> {
+    let begin = tape.reader.number()?;
+    let end = tape.reader.number()?;
+    if end < begin || view.unit_len() < end {
+        return Err(Stop::Refused);
+    }
+    write_slice(tape, view.slice_units(begin, end))
+}
+
+/// Writes the trail, the bytes and the lead of a slice.
+fn write_slice(tape: &mut Tape<'_>, slice: UnitSlice<'_>) -> Result<(), Stop> {
+    tape.write_word("slice")?;
+    tape.write_item(slice.trail, NONE)?;
+    write_bytes(tape, slice.whole)?;
+    tape.write_item(slice.lead, NONE)?;
+    tape.write_line("")
+}
+
+/// Writes the bytes of a view in parentheses.
+fn write_bytes(tape: &mut Tape<'_>, view: Wtf8<'_>) -> Result<(), Stop> {
+    let dump = allocated(view.hex_dump(tape.alloc))?;
+    write!(tape, " ({dump})")
+}
+
+/// `append_units` to units of the script: writes all units of the result.
+fn write_appended_units(tape: &mut Tape<'_>, view: Wtf8<'_>) -> Result<(), Stop> {
+    let count = usize::from(tape.reader.byte()?);
+    let mut units = tape.reader.units(tape.alloc, count)?;
+    allocated(view.append_units(&mut units))?;
+    write_all_units(tape, units.as_slice())
+}
+
+/// Writes the line of `append_units`.
+fn write_all_units(tape: &mut Tape<'_>, units: &[u16]) -> Result<(), Stop> {
+    tape.write_word("appended")?;
+    for unit in units {
+        tape.write_item(Some(*unit), NONE)?;
+    }
+    tape.write_line("")
+}
+
+/// Writes what the calls of `CodePoint` return for a value: its number, texts, characters and hash input.
+fn write_point(tape: &mut Tape<'_>) -> Result<(), Stop> {
+    let point = tape.reader.point()?;
+    write_number(tape, point)?;
+    write_character(tape, point)?;
+    write_hash_input(tape, &point)
+}
+
+/// Writes the number and the debug texts of a code point.
+fn write_number(tape: &mut Tape<'_>, point: CodePoint) -> Result<(), Stop> {
+    let number = point.to_u32();
+    let is_same = CodePoint::from_u32_unchecked(number) == point;
+    writeln!(
+        tape,
+        "point {number:X} {point:?} {point:#12?} unchecked {is_same}"
+    )
+}
+
+/// Writes the character of a code point, or that there is none, and the result of `to_char_lossy`.
+fn write_character(tape: &mut Tape<'_>, point: CodePoint) -> Result<(), Stop> {
+    let lossy = point.to_char_lossy() as u32;
+    let Some(c) = point.to_char() else {
+        return writeln!(tape, "no char lossy {lossy:X}");
+    };
+    let scalar = c as u32;
+    let is_same = CodePoint::from_char(c) == point;
+    writeln!(tape, "char {scalar:X} lossy {lossy:X} back {is_same}")
+}
+
+/// Writes length, bytes, boundaries, texts, hash input, code points and code units of a slice of a string.
+fn write_view_results(tape: &mut Tape<'_>, part: Wtf8<'_>) -> Result<(), Stop> {
+    tape.write_word("view")?;
+    tape.write_view(part)?;
+    write_boundaries(tape, part)?;
+    write_as_text(tape, part)?;
+    write_lossy_text(tape, part)?;
+    write_hash_input(tape, &part)?;
+    write_debug_texts(tape, part)?;
+    tape.write_word("points")?;
+    drain(tape, part.code_points())?;
+    tape.write_word("\nunits")?;
+    drain(tape, part.to_ill_formed_utf16())?;
+    tape.write_line("")
+}

@@ -1,0 +1,5 @@
+use Rattle.wtf8.proofs.Common.{rules}
+use Rattle.wtf8.proofs.codec.code_point.CodePoint.from_u32_unchecked.Goals as goal
+
+pub returns : goal.returns
+returns c = search rules

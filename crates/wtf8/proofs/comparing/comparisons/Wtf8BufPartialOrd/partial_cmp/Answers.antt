@@ -1,5 +1,0 @@
-use Rattle.wtf8.proofs.Common.{rules}
-use Rattle.wtf8.proofs.comparing.comparisons.Wtf8BufPartialOrd.partial_cmp.Goals as goal
-
-pub returns : goal.returns
-returns g c = search rules

@@ -1,0 +1,5 @@
+use Rattle.wtf8.proofs.Common.{rules}
+use Rattle.wtf8.proofs.comparing.traits.Wtf8Hash.hash.Goals as goal
+
+pub returns : goal.returns
+returns g c = search rules

@@ -1,9 +1,0 @@
-use Rattle.wtf8.proofs.Common.{None, Some}
-use Rattle.wtf8.proofs.lemmas.lanes.Surrogates.{begins_there}
-use Rattle.wtf8.proofs.lanes.search.first_in_block.Goals as goal
-
-pub returns-in-None : goal.returns-in-None
-returns-in-None c = begins_there c.args.bytes.now c.args.at c.requires None c.in-None.ensures
-
-pub returns-in-Some : goal.returns-in-Some
-returns-in-Some c = begins_there c.args.bytes.now c.args.at c.requires (Some c.in-Some.lane) c.in-Some.ensures

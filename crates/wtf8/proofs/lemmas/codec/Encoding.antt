@@ -1,0 +1,161 @@
+-- The bytes of code points, and what the first bytes determine.
+use Rattle.wtf8.proofs.Common.{◌≡◌, ℕ, zero, suc, ◌+◌, ◌/◌, ◌%◌, ◌<◌, ◌≤◌, ◌⊎◌, inl, inr, List, [], ◌∷◌, ◌++◌, length, get_or, refl, sym, ap, ◌∙◌, arith}
+use Rattle.wtf8.proofs.Common.{lt-ltb, length-append, le-ltb, cases_lt, append-nil, flat_map-append, IsSurrogate, bytes, encoding_is_encode, ◌-◌, ◌*◌, subst}
+use Rattle.wtf8.proofs.Common.{IsCodePoint, encoding, BeginsWithPoint, encode_same, FirstPointByLead}
+use Rattle.std.proofs.Math.Nat.{div-div-eq-div-mul}
+use Rattle.wtf8.specs.Form.{encoding}
+
+-- The encoding of a code point: its bytes by range, its length, its lead byte.
+
+abbrev second_row : ℕ → List ℕ
+second_row p = (0xC0 + p / 64) ∷ (0x80 + p % 64) ∷ []
+
+abbrev pub third_row : ℕ → List ℕ
+third_row p = (0xE0 + p / 4096) ∷ (0x80 + p / 64 % 64) ∷ (0x80 + p % 64) ∷ []
+
+abbrev fourth_row : ℕ → List ℕ
+fourth_row p = (0xF0 + p / 262144) ∷ (0x80 + p / 4096 % 64) ∷ (0x80 + p / 64 % 64) ∷ (0x80 + p % 64) ∷ []
+
+pub encoding_one : (p : ℕ) → p < 0x80 → encoding p ≡ p ∷ []
+unfolding encoding
+encoding_one p h = rw (lt-ltb p 0x80 h) refl
+
+pub encoding_two : (p : ℕ) → 0x80 ≤ p → p < 0x800 → encoding p ≡ second_row p
+unfolding encoding
+encoding_two p l h = rw (le-ltb p 0x80 l, lt-ltb p 0x800 h) refl
+
+pub encoding_three : (p : ℕ) → 0x800 ≤ p → p < 0x10000 → encoding p ≡ third_row p
+unfolding encoding
+encoding_three p l h = rw (le-ltb p 0x80 (omega arith), le-ltb p 0x800 l, lt-ltb p 0x10000 h) refl
+
+pub encoding_four : (p : ℕ) → 0x10000 ≤ p → encoding p ≡ fourth_row p
+unfolding encoding
+encoding_four p l = rw (le-ltb p 0x80 (omega arith), le-ltb p 0x800 (omega arith), le-ltb p 0x10000 l) refl
+
+-- the range of a code point, by its encoded length
+pub data EncodingCase (p : ℕ) : Type 0 where
+  one : p < 0x80 → encoding p ≡ p ∷ [] → EncodingCase p
+  two : 0x80 ≤ p → p < 0x800 → encoding p ≡ second_row p → EncodingCase p
+  three : 0x800 ≤ p → p < 0x10000 → encoding p ≡ third_row p → EncodingCase p
+  four : 0x10000 ≤ p → encoding p ≡ fourth_row p → EncodingCase p
+
+pub encoding_cases : (p : ℕ) → EncodingCase p
+encoding_cases p = elim (cases_lt p 0x80) [
+  | inl h ↦ one h (encoding_one p h)
+  | inr l ↦ elim (cases_lt p 0x800) [
+    | inl h ↦ two l h (encoding_two p l h)
+    | inr m ↦ elim (cases_lt p 0x10000) [ inl h ↦ three m h (encoding_three p m h) | inr n ↦ four n (encoding_four p n) ]
+  ]
+]
+
+-- the byte begins a code point: it is ASCII or a lead byte
+pub record Begins (b : ℕ) : Type 0 where
+  pub start : (b < 0x80) ⊎ (0xC0 ≤ b)
+
+pub first-encoding : (p : ℕ) (r : List ℕ) → Begins (get_or (encoding p ++ r) 0 0)
+first-encoding p r = elim (encoding_cases p) [
+  | one h e ↦ rw e (record { start = inl h })
+  | two l h e ↦ rw e (record { start = inr (omega arith) })
+  | three l h e ↦ rw e (record { start = inr (omega arith) })
+  | four l e ↦ rw e (record { start = inr (omega arith) })
+]
+
+-- an ASCII first byte is the whole code point
+pub encoding-from_ascii_byte : (p : ℕ) (r : List ℕ) → get_or (encoding p ++ r) 0 0 < 0x80 → (encoding p ≡ p ∷ []) × (p < 0x80)
+encoding-from_ascii_byte p r h = elim (encoding_cases p) [
+  | one l e ↦ (e, l)
+  | two l _ e ↦ absurd (omega (arith, rw e at h))
+  | three l _ e ↦ absurd (omega (arith, rw e at h))
+  | four l e ↦ absurd (omega (arith, rw e at h))
+]
+
+-- all are continuation bytes (80 to BF)
+abbrev AreContinuationBytes : List ℕ → Type 0
+AreContinuationBytes [] = Unit {0}
+AreContinuationBytes (x ∷ xs) = (0x80 ≤ x) × (x < 0xC0) × AreContinuationBytes xs
+
+continuation_byte_at : (xs r : List ℕ) (k : ℕ) → AreContinuationBytes xs → k < length xs → (0x80 ≤ get_or (xs ++ r) k 0) × (get_or (xs ++ r) k 0 < 0xC0)
+continuation_byte_at [] r k t h = absurd (omega arith)
+continuation_byte_at (x ∷ xs) r zero t h = (t.0, t.1)
+continuation_byte_at (x ∷ xs) r (suc k) t h = continuation_byte_at xs r k t.2 (omega arith)
+
+-- the bytes after the first are continuation bytes
+pub continuation-encoding : (p k : ℕ) (r : List ℕ) → suc k < length (encoding p)
+    → (0x80 ≤ get_or (encoding p ++ r) (suc k) 0) × (get_or (encoding p ++ r) (suc k) 0 < 0xC0)
+continuation-encoding p k r l = elim (encoding_cases p) [
+  | one h e ↦ absurd (omega (arith, ap length e))
+  | two _ h e ↦ let m = rw e at l in rw e (continuation_byte_at ((0x80 + p % 64) ∷ []) r k (omega arith, omega arith, tt) (omega arith))
+  | three _ h e ↦ let m = rw e at l in rw e (continuation_byte_at ((0x80 + p / 64 % 64) ∷ (0x80 + p % 64) ∷ []) r k
+      (omega arith, omega arith, (omega arith, omega arith, tt)) (omega arith))
+  | four _ e ↦ let m = rw e at l in rw e (continuation_byte_at ((0x80 + p / 4096 % 64) ∷ (0x80 + p / 64 % 64) ∷ (0x80 + p % 64) ∷ []) r k
+      (omega arith, omega arith, (omega arith, omega arith, (omega arith, omega arith, tt))) (omega arith))
+]
+
+pub length-encoding_bounds : (p : ℕ) → (1 ≤ length (encoding p)) × (length (encoding p) ≤ 4)
+length-encoding_bounds p = elim (encoding_cases p) [
+  | one h e ↦ rw e (omega arith, omega arith)
+  | two l h e ↦ rw e (omega arith, omega arith)
+  | three l h e ↦ rw e (omega arith, omega arith)
+  | four l e ↦ rw e (omega arith, omega arith)
+]
+
+pub length-surrogate : (p : ℕ) → IsSurrogate p → length (encoding p) ≡ 3
+length-surrogate p s = ap length (encoding_three p (omega arith) (omega arith))
+
+-- the encoding in each range, and its least and greatest length
+pub ruleset rows = (encoding_one, encoding_two, encoding_three, encoding_four, length-encoding_bounds)
+
+-- the bytes of two lists, and of a list with one more code point
+pub bytes-append : (c d : List ℕ) → bytes (c ++ d) ≡ bytes c ++ bytes d
+bytes-append c d = flat_map-append encoding c d
+
+pub length-bytes_append : (front : List ℕ) (p : ℕ) (back : List ℕ)
+    → length (bytes (front ++ p ∷ back)) ≡ length (bytes front) + (length (encoding p) + length (bytes back))
+length-bytes_append front p back = simp (bytes-append, length-append)
+
+pub bytes-pushed : (c : List ℕ) (p : ℕ) → bytes (c ++ p ∷ []) ≡ bytes c ++ encoding p
+bytes-pushed c p = bytes-append c (p ∷ []) ∙ ap (λ w. bytes c ++ w) (append-nil (encoding p))
+
+-- no encoding is a proper prefix of another
+pub encoding_same : (p q : ℕ) (r s : List ℕ) → encoding p ++ r ≡ encoding q ++ s → (p ≡ q) × (r ≡ s)
+encoding_same p q r s e = encode_same p q r s (ap (λ x. x ++ r) (sym (encoding_is_encode p)) ∙ (e ∙ ap (λ x. x ++ s) (encoding_is_encode q)))
+
+-- What the first bytes of an encoding say about the code point.
+
+sixty_fours : (p : ℕ) → (p / 64 / 64 ≡ p / 4096) × (p / 4096 / 64 ≡ p / 262144)
+sixty_fours p = (div-div-eq-div-mul p 64 64, div-div-eq-div-mul p 4096 64)
+
+pub front-encoding : (p : ℕ) (r : List ℕ) → IsCodePoint p → FirstPointByLead (encoding p ++ r) p (length (encoding p))
+front-encoding p r range =
+    let d = sixty_fours p in
+    elim (encoding_cases p) [
+      | one h e ↦ rw e (record { nonempty = omega arith; one = grind arith; two = grind arith; three = grind arith; four = grind arith })
+      | two l h e ↦ rw e (record { nonempty = omega arith; one = grind arith; two = grind arith; three = grind arith; four = grind arith })
+      | three l h e ↦ rw e (record { nonempty = omega arith; one = grind arith; two = grind arith; three = grind arith; four = grind arith })
+      | four l e ↦ rw e (record { nonempty = omega arith; one = grind arith; two = grind arith; three = grind arith; four = grind arith })
+    ]
+
+-- bytes that begin with an encoding begin with that code point
+abbrev pub begins_with : (p : ℕ) (r w : List ℕ) → IsCodePoint p → w ≡ encoding p ++ r → BeginsWithPoint w
+begins_with p r w range e = record {
+  point = p;
+  rest = r;
+  in_range = range;
+  encoded = e;
+  says = subst (λ (v : List ℕ). FirstPointByLead v p (length (encoding p))) (sym e) (front-encoding p r range);
+}
+
+abbrev pub begins_moved : {v w : List ℕ} → BeginsWithPoint v → w ≡ v → BeginsWithPoint w
+begins_moved b e = begins_with b.point b.rest _ b.in_range (e ∙ b.encoded)
+
+-- the lead surrogate of a supplementary code point, from its first three bytes
+abbrev pub LeadRead : List ℕ → ℕ → Type 0
+LeadRead w p = 0xD7C0 + ((get_or w 0 0 - 0xF0) * 64 + (get_or w 1 0 - 0x80)) * 4 + (get_or w 2 0 - 0x80) / 16 ≡ 0xD800 + (p - 0x10000) / 0x400
+
+pub lead_read : (p : ℕ) (r : List ℕ) → 0xF0 ≤ get_or (encoding p ++ r) 0 0 → LeadRead (encoding p ++ r) p
+lead_read p r g = elim (encoding_cases p) [
+  | one l e ↦ absurd (omega (arith, rw e at g))
+  | two _ l e ↦ absurd (omega (arith, rw e at g))
+  | three _ l e ↦ absurd (omega (arith, rw e at g))
+  | four l e ↦ rw e (omega arith)
+]

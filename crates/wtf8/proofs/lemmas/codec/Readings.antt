@@ -1,0 +1,266 @@
+-- Code points and their units, surrogates at the seam of two lists, and the only reading of a list of units.
+use Rattle.wtf8.proofs.Common.{◌≡◌, ℕ, ◌⊎◌, inl, inr, List, [], ◌∷◌, ◌++◌, drop, get_or, length, true, refl, sym, ap, ◌∙◌, subst, arith}
+use Rattle.wtf8.proofs.Common.{length-append, le-leb, cases_Bool, false≢true, same_from_push, IsLead, IsTrail, MeetsAsPair, ◌+◌, ◌-◌, ◌*◌}
+use Rattle.wtf8.proofs.Common.{◌/◌, ◌%◌, ◌<◌, ◌≤◌, lt-ltb, le-ltb, cases_lt, append-nil, flat_map-append, units, pair, encoding, bytes, IsCodePoint, IsClean}
+use Rattle.wtf8.proofs.Common.{drop_at, bytes-injective, Reads, IsWellFormed, IsForm, BeginsWithPoint, length-drop, drop-drop, nat_tests, false, cond}
+use Rattle.wtf8.specs.Concatenation.{is_pair}
+use Rattle.wtf8.specs.PositionLaws.{ListsHaveLengths}
+use Rattle.wtf8.specs.Unicode.{units_of}
+use Rattle.wtf8.proofs.lemmas.codec.Encoding.{encoding_cases, one, two, three, four, length-encoding_bounds, begins_with}
+
+-- A lead at the end of one list and a trail at the start of the next.
+
+pub pair_true : (l t : ℕ) → IsLead l → IsTrail t → is_pair l t ≡ true
+unfolding is_pair
+pair_true l t h k = rw (le-leb 0xD800 l h.0, le-leb l 0xDBFF h.1, le-leb 0xDC00 t k.0, le-leb t 0xDFFF k.1) refl
+
+pub true_pair : (l t : ℕ) → is_pair l t ≡ true → IsLead l × IsTrail t
+unfolding is_pair
+true_pair l t e = ((grind (arith, nat_tests), grind (arith, nat_tests)), (grind (arith, nat_tests), grind (arith, nat_tests)))
+
+-- two lists with a lead and a trail at their seam
+abbrev pub meets_by : {c d : List ℕ} (f r : List ℕ) (l t : ℕ) → IsLead l → IsTrail t → c ≡ f ++ l ∷ [] → d ≡ t ∷ r → MeetsAsPair c d
+meets_by f r l t h k e g = record { front = f; lead = l; trail = t; rest = r; is_lead = h; is_trail = k; ends = e; begins = g }
+
+-- `MeetsAsPair` of equal lists
+abbrev pub meets_same : {a b c d : List ℕ} → MeetsAsPair a b → c ≡ a → d ≡ b → MeetsAsPair c d
+meets_same m e g = meets_by m.front m.rest m.lead m.trail m.is_lead m.is_trail (e ∙ m.ends) (g ∙ m.begins)
+
+pub MeetsAsPair-cons : (p : ℕ) {c d : List ℕ} → MeetsAsPair c d → MeetsAsPair (p ∷ c) d
+MeetsAsPair-cons p m = meets_by (p ∷ m.front) m.rest m.lead m.trail m.is_lead m.is_trail (ap (λ e. p ∷ e) m.ends) m.begins
+
+-- no pair forms with an empty list, after a number that is no lead or before one that is no trail
+pub nothing_ends : {d : List ℕ} → ¬ (MeetsAsPair [] d)
+nothing_ends m = omega (arith, ap length m.ends, length-append m.front (m.lead ∷ []))
+
+pub nothing_begins : {c : List ℕ} → ¬ (MeetsAsPair c [])
+nothing_begins m = omega (arith, ap length m.begins)
+
+pub no_lead : (f : List ℕ) (p : ℕ) {d : List ℕ} → ¬ (IsLead p) → ¬ (MeetsAsPair (f ++ p ∷ []) d)
+no_lead f p n m = n (subst IsLead (sym (same_from_push f m.front p m.lead m.ends).1) m.is_lead)
+
+pub no_trail : {c : List ℕ} (p : ℕ) (r : List ℕ) → ¬ (IsTrail p) → ¬ (MeetsAsPair c (p ∷ r))
+no_trail p r n m = n (subst IsTrail (sym (ap (λ w. get_or w 0 0) m.begins)) m.is_trail)
+
+pub meeting_numbers : (p q : ℕ) (d : List ℕ) → MeetsAsPair (p ∷ []) (q ∷ d) → is_pair p q ≡ true
+meeting_numbers p q d m =
+    let last = (same_from_push [] m.front p m.lead m.ends).1 in
+    pair_true p q (subst IsLead (sym last) m.is_lead) (subst IsTrail (sym (ap (λ w. get_or w 0 0) m.begins)) m.is_trail)
+
+without_first : (p q : ℕ) (c f : List ℕ) (l : ℕ) → p ∷ q ∷ c ≡ f ++ l ∷ [] → (g : List ℕ) × (q ∷ c ≡ g ++ l ∷ [])
+without_first p q c [] l e = absurd (omega (arith, ap length e))
+without_first p q c (x ∷ f) l e = (f, ap (drop 1) e)
+
+pub MeetsAsPair-uncons : (p q : ℕ) (c d : List ℕ) → MeetsAsPair (p ∷ q ∷ c) d → MeetsAsPair (q ∷ c) d
+MeetsAsPair-uncons p q c d m =
+    let s = without_first p q c m.front m.lead m.ends in meets_by s.0 m.rest m.lead m.trail m.is_lead m.is_trail s.1 m.begins
+
+-- it is decidable whether two lists meet as a pair
+pub meets_or_not : (c d : List ℕ) → MeetsAsPair c d ⊎ ¬ (MeetsAsPair c d)
+meets_or_not [] d = inr nothing_ends
+meets_or_not (p ∷ []) [] = inr nothing_begins
+meets_or_not (p ∷ []) (q ∷ d) = elim (cases_Bool (is_pair p q)) [
+  | inl e ↦ let h = true_pair p q e in inl (meets_by [] d p q h.0 h.1 refl refl)
+  | inr e ↦ inr (λ m. false≢true (sym e ∙ meeting_numbers p q d m))
+]
+meets_or_not (p ∷ q ∷ c) d = elim (meets_or_not (q ∷ c) d) [ inl m ↦ inl (MeetsAsPair-cons p m) | inr n ↦ inr (λ m. n (MeetsAsPair-uncons p q c d m)) ]
+
+-- The units of code points: one below U+10000, two from there on.
+
+pub units_one : (p : ℕ) → p < 0x10000 → units_of p ≡ p ∷ []
+unfolding units_of
+units_one p h = rw (lt-ltb p 0x10000 h) refl
+
+-- the two surrogates of a supplementary code point
+abbrev pub lead_of : ℕ → ℕ
+lead_of p = 0xD800 + (p - 0x10000) / 0x400
+
+abbrev pub trail_of : ℕ → ℕ
+trail_of p = 0xDC00 + (p - 0x10000) % 0x400
+
+pub units_two : (p : ℕ) → 0x10000 ≤ p → units_of p ≡ lead_of p ∷ trail_of p ∷ []
+unfolding units_of
+units_two p h = rw (le-ltb p 0x10000 h) refl
+
+pub units_pair : (l t : ℕ) → IsLead l → IsTrail t → units_of (pair l t) ≡ l ∷ t ∷ []
+units_pair l t h k = units_two (pair l t) (omega arith) ∙ (ap (λ a. a ∷ trail_of (pair l t) ∷ []) (omega arith) ∙ ap (λ b. l ∷ b ∷ []) (omega arith))
+
+pub units-cons_one : (p : ℕ) (c : List ℕ) → p < 0x10000 → units (p ∷ c) ≡ p ∷ units c
+units-cons_one p c h = ap (λ u. u ++ units c) (units_one p h)
+
+pub units-cons_two : (p : ℕ) (c : List ℕ) → 0x10000 ≤ p → units (p ∷ c) ≡ lead_of p ∷ trail_of p ∷ units c
+units-cons_two p c h = ap (λ u. u ++ units c) (units_two p h)
+
+pub units-append : (c d : List ℕ) → units (c ++ d) ≡ units c ++ units d
+units-append c d = flat_map-append units_of c d
+
+pub units-pushed : (c : List ℕ) (p : ℕ) → units (c ++ p ∷ []) ≡ units c ++ units_of p
+units-pushed c p = units-append c (p ∷ []) ∙ ap (λ u. units c ++ u) (append-nil (units_of p))
+
+-- bounds between the numbers of code points, units and bytes
+lengths_of_one : (p : ℕ) → (1 ≤ length (units_of p)) × (length (units_of p) ≤ length (encoding p)) × (length (encoding p) ≤ 3 * length (units_of p)) × (length (encoding p) ≤ 4)
+lengths_of_one p = elim (encoding_cases p) [
+  | one h e ↦ rw (e, units_one p (omega arith)) (omega arith)
+  | two _ h e ↦ rw (e, units_one p (omega arith)) (omega arith)
+  | three _ h e ↦ rw (e, units_one p h) (omega arith)
+  | four l e ↦ rw (e, units_two p l) (omega arith)
+]
+
+pub lists_have_lengths : ListsHaveLengths
+lists_have_lengths [] = record { points = omega arith; units_least = omega arith; units_most = omega arith; bytes_most = omega arith }
+lists_have_lengths (p ∷ c) =
+    let here = lengths_of_one p in
+    let rest = lists_have_lengths c in
+    let more = length-append (units_of p) (units c) in
+    let bytes_more = length-append (encoding p) (bytes c) in
+    record { points = omega arith; units_least = omega arith; units_most = omega arith; bytes_most = omega arith }
+
+-- Clean lists of code points, divided and joined.
+
+pub clean-first : (p : ℕ) (c : List ℕ) → IsClean (p ∷ c) → IsCodePoint p
+clean-first p [] x = x
+clean-first p (q ∷ c) x = x.0
+
+pub clean-rest : (p : ℕ) (c : List ℕ) → IsClean (p ∷ c) → IsClean c
+clean-rest p [] x = tt
+clean-rest p (q ∷ c) x = x.2
+
+pub clean-front : (c d : List ℕ) → IsClean (c ++ d) → IsClean c
+clean-front [] d x = tt
+clean-front (p ∷ []) [] x = x
+clean-front (p ∷ []) (q ∷ d) x = x.0
+clean-front (p ∷ q ∷ c) d x = (x.0, x.1, clean-front (q ∷ c) d x.2)
+
+pub clean-back : (c d : List ℕ) → IsClean (c ++ d) → IsClean d
+clean-back [] d x = x
+clean-back (p ∷ c) d x = clean-back c d (clean-rest p (c ++ d) x)
+
+pub clean-append : (c d : List ℕ) → IsClean c → IsClean d → ¬ (MeetsAsPair c d) → IsClean (c ++ d)
+clean-append [] d x y n = y
+clean-append (p ∷ []) [] x y n = x
+clean-append (p ∷ []) (q ∷ d) x y n = (x, λ h. n (meets_by [] d p q h.0 h.1 refl refl), y)
+clean-append (p ∷ q ∷ c) d x y n = (x.0, x.1, clean-append (q ∷ c) d x.2 y (λ m. n (MeetsAsPair-cons p m)))
+
+-- the parts of a divided clean list do not meet as a pair
+pub clean-unpaired : (c d : List ℕ) → IsClean (c ++ d) → ¬ (MeetsAsPair c d)
+clean-unpaired [] d x m = nothing_ends m
+clean-unpaired (p ∷ []) [] x m = nothing_begins m
+clean-unpaired (p ∷ []) (q ∷ d) x m = x.1 (true_pair p q (meeting_numbers p q d m))
+clean-unpaired (p ∷ q ∷ c) d x m = clean-unpaired (q ∷ c) d x.2 (MeetsAsPair-uncons p q c d m)
+
+-- A list of units has at most one reading and one form, and bytes determine code points and units.
+
+pub same_heads : (p q : ℕ) (r s : List ℕ) → p ∷ r ≡ q ∷ s → (p ≡ q) × (r ≡ s)
+same_heads p q r s e = (ap (λ w. get_or w 0 0) e, ap (drop 1) e)
+
+-- a trail that is the first unit is the first code point
+pub trail_first : (p : ℕ) (c : List ℕ) (t : ℕ) (r : List ℕ) → IsClean (p ∷ c) → units (p ∷ c) ≡ t ∷ r → IsTrail t → p ≡ t
+trail_first p c t r x e h = elim (cases_lt p 0x10000) [
+  | inl l ↦ (same_heads p t (units c) r (sym (units-cons_one p c l) ∙ e)).0
+  | inr l ↦
+      let range = clean-first p c x in
+      let same = (same_heads (lead_of p) t (trail_of p ∷ units c) r (sym (units-cons_two p c l) ∙ e)).0 in
+      absurd (omega arith)
+]
+
+-- decodes units from the front; the units of a clean list decode to that list
+abbrev read : List ℕ → List ℕ
+read [] = []
+read (l ∷ []) = l ∷ []
+read (l ∷ t ∷ u) = cond (is_pair l t) (pair l t ∷ read u) (l ∷ read (t ∷ u))
+
+not_pair : (l t : ℕ) → ¬ (IsLead l × IsTrail t) → is_pair l t ≡ false
+not_pair l t n = elim (cases_Bool (is_pair l t)) [ inl e ↦ absurd (n (true_pair l t e)) | inr e ↦ e ]
+
+read_one : (p : ℕ) (c : List ℕ) → IsClean (p ∷ c) → read (units c) ≡ c → read (p ∷ units c) ≡ p ∷ c
+read_one p [] x e = refl
+read_one p (q ∷ d) x e = elim (cases_lt q 0x10000) [
+  | inl h ↦ rw (units-cons_one q d h, not_pair p q x.1) (ap (λ r. p ∷ r) (rw (units-cons_one q d h) at e))
+  | inr h ↦
+      let range = clean-first q d x.2 in
+      rw (units-cons_two q d h, not_pair p (lead_of q) (λ m. omega (arith, range, m.1))) (ap (λ r. p ∷ r) (rw (units-cons_two q d h) at e))
+]
+
+read-units : (c : List ℕ) → IsClean c → read (units c) ≡ c
+read-units [] x = refl
+read-units (p ∷ c) x = elim (cases_lt p 0x10000) [
+  | inl h ↦ rw (units-cons_one p c h) (read_one p c x (read-units c (clean-rest p c x)))
+  | inr h ↦
+      let range = clean-first p c x in
+      let same : pair (lead_of p) (trail_of p) ≡ p = omega arith in
+      rw (units-cons_two p c h, pair_true (lead_of p) (trail_of p) (omega arith, omega arith) (omega arith, omega arith)) (cc (same, read-units c (clean-rest p c x)))
+]
+
+pub same_reading : (c d : List ℕ) → IsClean c → IsClean d → units c ≡ units d → c ≡ d
+same_reading c d x y e = sym (read-units c x) ∙ (ap read e ∙ read-units d y)
+
+pub reads_same : {c d u : List ℕ} → Reads c u → Reads d u → c ≡ d
+reads_same {c} {d} x y = same_reading c d x.clean y.clean (x.same_units ∙ sym y.same_units)
+
+-- equal units have equal forms
+pub same_form : (w v u : List ℕ) → IsForm w u → IsForm v u → w ≡ v
+same_form w v u x y = sym x.encoded ∙ ap bytes (reads_same x.reads y.reads) ∙ y.encoded
+
+-- well-formed bytes are the form of the units of their code points
+abbrev pub form_of : {w : List ℕ} (h : IsWellFormed w) → IsForm w (units h.points)
+form_of h = record { points = h.points; reads = record { clean = h.clean; same_units = refl }; encoded = h.encoded }
+
+abbrev pub well_formed_of : {w u : List ℕ} → IsForm w u → IsWellFormed w
+well_formed_of f = record { points = f.points; clean = f.reads.clean; encoded = f.encoded }
+
+-- bytes are the form of at most one list of units
+pub units_from_form : (w a b : List ℕ) → IsForm w a → IsForm w b → a ≡ b
+units_from_form w a b x y = sym x.reads.same_units ∙ (ap units (bytes-injective x.points y.points (x.encoded ∙ sym y.encoded)) ∙ y.reads.same_units)
+
+-- equal well-formed bytes have the same code points
+pub same_points : {w v : List ℕ} (x : IsWellFormed w) (y : IsWellFormed v) → w ≡ v → x.points ≡ y.points
+same_points x y e = bytes-injective x.points y.points (x.encoded ∙ (e ∙ sym y.encoded))
+
+-- only the empty list has no bytes
+pub no_bytes : (c : List ℕ) → length (bytes c) ≡ 0 → c ≡ []
+no_bytes [] e = refl
+no_bytes (p ∷ c) e = absurd (omega (arith, length-encoding_bounds p, length-append (encoding p) (bytes c)))
+
+pub no_points : {w : List ℕ} (h : IsWellFormed w) → length w ≡ 0 → h.points ≡ []
+no_points h e = no_bytes h.points (ap length h.encoded ∙ e)
+
+-- the empty list, and bytes equal to well-formed ones, are well-formed
+abbrev pub empty_at : {w : List ℕ} → w ≡ [] → IsWellFormed w
+empty_at e = record { points = []; clean = tt; encoded = sym e }
+
+abbrev pub moved : {v w : List ℕ} → IsWellFormed v → w ≡ v → IsWellFormed w
+moved h e = record { points = h.points; clean = h.clean; encoded = h.encoded ∙ sym e }
+
+-- the well-formed bytes from `at` on, without their first code point `p`
+pub record Taken (v : List ℕ) (at : ℕ) (h : IsWellFormed (drop at v)) (p behind : ℕ) : Type 0 where
+  pub within : behind ≤ length v
+  pub rest : IsWellFormed (drop behind v)
+  pub joined : h.points ≡ p ∷ rest.points
+
+-- the first code point of nonempty bytes, and the rest
+pub first_of : {w : List ℕ} (h : IsWellFormed w) → 0 < length w → (b : BeginsWithPoint w) × Taken w 0 h b.point (length (encoding b.point))
+first_of {w} h n = by h.points h.clean h.encoded
+  where
+    by : (c : List ℕ) (x : IsClean c) (e : bytes c ≡ w) → (b : BeginsWithPoint w) × Taken w 0 (record { points = c; clean = x; encoded = e }) b.point (length (encoding b.point))
+    by [] x e = absurd (omega (arith, ap length e))
+    by (p ∷ c) x e =
+        let cut : drop (length (encoding p)) w ≡ bytes c = ap (drop (length (encoding p))) (sym e) ∙ drop_at (encoding p) (bytes c) (length (encoding p)) refl in (
+          begins_with p (bytes c) w (clean-first p c x) (sym e),
+          record {
+            within = omega (arith, ap length e, length-append (encoding p) (bytes c));
+            rest = record { points = c; clean = clean-rest p c x; encoded = sym cut };
+            joined = refl;
+          },
+        )
+
+pub Taken-from_first : (v : List ℕ) (at : ℕ) (h : IsWellFormed (drop at v)) (p behind : ℕ) → at < length v
+    → ((b : BeginsWithPoint (drop at v)) → (p ≡ b.point) × (behind ≡ at + length (encoding b.point))) → Taken v at h p behind
+Taken-from_first v at h p behind long read =
+    let f = first_of h (omega (arith, length-drop at v)) in
+    let was = read f.0 in
+    let back : drop behind v ≡ drop (length (encoding f.0.point)) (drop at v) = ap (λ k. drop k v) was.1 ∙ sym (drop-drop (length (encoding f.0.point)) at v) in
+    record {
+      within = omega (arith, was.1, f.1.within, length-drop at v, long);
+      rest = moved f.1.rest back;
+      joined = f.1.joined ∙ ap (λ q. q ∷ f.1.rest.points) (sym was.0);
+    }

@@ -1,0 +1,5 @@
+pub mod Transcode
+pub mod Decoding
+pub mod PackedUnits
+pub mod ShuffleTable
+pub mod Kernel

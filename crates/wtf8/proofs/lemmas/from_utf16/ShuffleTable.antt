@@ -1,0 +1,77 @@
+-- The shuffle table, checked row by row: the lanes that a row picks, and the number of bytes.
+use Rattle.wtf8.proofs.Common.{◌≡◌, ℕ, zero, suc, ◌+◌, ◌<◌, ◌&&◌, false≢true, List, [], ◌∷◌, ◌++◌, length, take, get_or, Each1, ltb, eqb, Bool, true, false}
+use Rattle.wtf8.proofs.Common.{refl, ap, ◌∙◌, arith, subst, cases_lt, inl, inr, and_parts, eqb-true}
+use Rattle.std.proofs.lemmas.Bool.{ltb-true}
+use Rattle.std.specs.Int.RustNames.{count_ones}
+use Rattle.wtf8.specs.private.PackedUnits.{table_index, source_lanes, IsByteCount, IsPackingShuffle, IsPackedLen}
+use Rattle.wtf8.specs.declared.from_utf16.shuffle_table.TheConstants.{SHUFFLES}
+
+-- whether a test holds for each length, and for each four lengths
+abbrev each_length : (ℕ → Bool) → Bool
+each_length p = p 1 && (p 2 && p 3)
+
+of_length : (p : ℕ → Bool) (a : ℕ) → IsByteCount a → each_length p ≡ true → p a ≡ true
+of_length p a l e = elim (cases_lt a 2) [
+  | inl h ↦ let one : 1 ≡ a = omega (arith, l.0, h) in subst (λ k. p k ≡ true) one (and_parts _ _ e).0
+  | inr g ↦ elim (cases_lt a 3) [
+    | inl h ↦ let two : 2 ≡ a = omega (arith, g, h) in subst (λ k. p k ≡ true) two (and_parts _ _ (and_parts _ _ e).1).0
+    | inr h ↦ let three : 3 ≡ a = omega (arith, l.1, h) in subst (λ k. p k ≡ true) three (and_parts _ _ (and_parts _ _ e).1).1
+  ]
+]
+
+abbrev each_four : (ℕ → ℕ → ℕ → ℕ → Bool) → Bool
+each_four p = each_length (λ a. each_length (λ b. each_length (λ c. each_length (p a b c))))
+
+of_four : (p : ℕ → ℕ → ℕ → ℕ → Bool) (a b c d : ℕ) → IsByteCount a → IsByteCount b → IsByteCount c → IsByteCount d → each_four p ≡ true → p a b c d ≡ true
+of_four p a b c d i j k l e =
+    of_length (p a b c) d l (of_length (λ c. each_length (p a b c)) c k (of_length (λ b. each_length (λ c. each_length (p a b c))) b j
+    (of_length (λ a. each_length (λ b. each_length (λ c. each_length (p a b c)))) a i e)))
+
+abbrev same : List ℕ → List ℕ → Bool
+same [] [] = true
+same [] (y ∷ ys) = false
+same (x ∷ xs) [] = false
+same (x ∷ xs) (y ∷ ys) = eqb x y && same xs ys
+
+same_lists : (xs ys : List ℕ) → same xs ys ≡ true → xs ≡ ys
+same_lists [] [] e = refl
+same_lists [] (y ∷ ys) e = absurd (false≢true e)
+same_lists (x ∷ xs) [] e = absurd (false≢true e)
+same_lists (x ∷ xs) (y ∷ ys) e = λ i. eqb-true x y (and_parts _ _ e).0 i ∷ same_lists xs ys (and_parts _ _ e).1 i
+
+abbrev is_packing : List ℕ → ℕ → ℕ → ℕ → ℕ → Bool
+is_packing none a b c d = same (take (a + b + c + d) (get_or SHUFFLES.now (table_index a b c d) none)) (source_lanes a 0 ++ source_lanes b 1 ++ source_lanes c 2 ++ source_lanes d 3)
+
+pub IsPackingShuffle-table : (none : List ℕ) (number : ℕ) → IsPackingShuffle number (get_or SHUFFLES.now number none)
+IsPackingShuffle-table none number a b c d i j k l e =
+    ap (λ n. take (a + b + c + d) (get_or SHUFFLES.now n none)) e ∙ same_lists _ _ (of_four (is_packing none) a b c d i j k l refl)
+
+-- whether each lane of a row is below 16
+abbrev all_below : List ℕ → Bool
+all_below [] = true
+all_below (x ∷ xs) = ltb x 16 && all_below xs
+
+abbrev rows_below : List (List ℕ) → Bool
+rows_below [] = true
+rows_below (row ∷ rows) = all_below row && rows_below rows
+
+below_each : (xs : List ℕ) → all_below xs ≡ true → Each1 (λ lane. lane < 16) xs
+below_each [] e = tt
+below_each (x ∷ xs) e = (ltb-true x 16 (and_parts _ _ e).0, below_each xs (and_parts _ _ e).1)
+
+below_at : (rows : List (List ℕ)) (none : List ℕ) (k : ℕ) → k < length rows → rows_below rows ≡ true → all_below (get_or rows k none) ≡ true
+below_at [] none k h e = absurd (omega (arith, h))
+below_at (row ∷ rows) none zero h e = (and_parts _ _ e).0
+below_at (row ∷ rows) none (suc k) h e = below_at rows none k (omega (arith, h)) (and_parts _ _ e).1
+
+pub table_below_16 : (none : List ℕ) (number : ℕ) → number < 256 → Each1 (λ lane. lane < 16) (get_or SHUFFLES.now number none)
+table_below_16 none number h = below_each (get_or SHUFFLES.now number none) (below_at SHUFFLES.now none number h refl)
+
+-- four plus the number of one bits in the index is the number of bytes
+has_packed_len : ℕ → ℕ → ℕ → ℕ → Bool
+unfolding count_ones
+has_packed_len a b c d = eqb (4 + count_ones (table_index a b c d)) (a + b + c + d)
+
+pub IsPackedLen-count_ones : (number : ℕ) → IsPackedLen number (4 + count_ones number)
+unfolding count_ones has_packed_len
+IsPackedLen-count_ones number a b c d i j k l e = ap (λ n. 4 + count_ones n) e ∙ eqb-true _ _ (of_four has_packed_len a b c d i j k l refl)

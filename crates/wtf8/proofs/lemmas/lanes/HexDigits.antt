@@ -1,0 +1,99 @@
+-- Hexadecimal digits in lanes.
+use Rattle.wtf8.proofs.Common.{◌≡◌, ℕ, zero, suc, ◌+◌, ◌*◌, ◌/◌, ◌%◌, ◌<◌, ◌≤◌, false, cond, leb, ltb, inl, inr, List, [], ◌∷◌, ◌++◌, map, length, get_or, take}
+use Rattle.wtf8.proofs.Common.{drop, replicate, refl, sym, ap, ◌∙◌, subst, arith, w8, append_assoc, flat_map-append, lt-leb, cases_Bool, pick_l_whole, Each1}
+use Rattle.wtf8.proofs.Common.{zip2, hex_of, hex, spaced_hex, flat_map, take-append-drop, take-add, swz_l, zip2_splat, IsAscii-append, range_with_len, IsAscii}
+use Rattle.std.proofs.lemmas.List.FromFn.{get_or-map-range_with_len}
+use Rattle.std.proofs.lemmas.Nat.{and_mask}
+use borrow.Rule.Simd.Lanes.{act2}
+use borrow.Table.Row.{s_int}
+use mir.Syntax.{shr, unsigned, bit_and as bit_and_op}
+use mir.Val.{Fits}
+use Rattle.wtf8.specs.Hex.{digit}
+
+-- the ASCII digits of 0 to 15
+abbrev pub table : List ℕ
+table = 48 ∷ 49 ∷ 50 ∷ 51 ∷ 52 ∷ 53 ∷ 54 ∷ 55 ∷ 56 ∷ 57 ∷ 65 ∷ 66 ∷ 67 ∷ 68 ∷ 69 ∷ 70 ∷ []
+
+map_digit-range : map digit (range_with_len 0 16) ≡ table
+unfolding digit
+map_digit-range = refl
+
+pub digit_at : (n : ℕ) → n < 16 → get_or table n 0 ≡ digit n
+digit_at n h = ap (λ t. get_or t n 0) (sym map_digit-range) ∙ get_or-map-range_with_len digit 0 16 n n 0 h (omega arith)
+
+-- a table lookup turns values below 16 into digits
+pub swz_l-table : (i : ℕ) (values : List ℕ) → i + length values ≤ 16 → Each1 (λ v. v < 16) values → swz_l w8 16 table i values ≡ map digit values
+swz_l-table i [] p h = refl
+swz_l-table i (v ∷ values) p h =
+    let kept : leb 128 v ≡ false = lt-leb 128 v (omega (arith, h.0)) in
+    let here : 16 * (i / 16) + v ≡ v = omega arith in
+    let one : cond (leb 128 v) zero (get_or table (16 * (i / 16) + v) zero) ≡ digit v = rw kept (ap (λ n. get_or table n 0) here ∙ digit_at v h.0) in
+    λ j. one j ∷ swz_l-table (suc i) values (omega arith) h.1 j
+
+highs-map : (bytes : List ℕ) → length bytes ≡ 16 → zip2 (act2 (shr unsigned) (s_int w8) (s_int w8) (s_int w8)) bytes (replicate 16 4) ≡ map (λ b. b / 16) bytes
+highs-map bytes p = zip2_splat (act2 (shr unsigned) (s_int w8) (s_int w8) (s_int w8)) bytes 16 4 p
+
+lows-map : (bytes : List ℕ) → length bytes ≡ 16 → zip2 (act2 bit_and_op (s_int w8) (s_int w8) (s_int w8)) bytes (replicate 16 15) ≡ map (λ b. b % 16) bytes
+lows-map bytes p = zip2_splat (act2 bit_and_op (s_int w8) (s_int w8) (s_int w8)) bytes 16 15 p ∙ (λ i. map (λ b. and_mask b 4 i) bytes)
+
+high_below : (bytes : List ℕ) → Each1 (Fits w8) bytes → Each1 (λ v. v < 16) (map (λ b. b / 16) bytes)
+high_below [] h = tt
+high_below (b ∷ bytes) h = (omega (arith, h.0.fits), high_below bytes h.1)
+
+low_below : (bytes : List ℕ) → Each1 (λ v. v < 16) (map (λ b. b % 16) bytes)
+low_below [] = tt
+low_below (b ∷ bytes) = (omega arith, low_below bytes)
+
+-- for each lane: a space, its digit in the first vector and its digit in the second
+abbrev interleave_digits : List ℕ → List ℕ
+interleave_digits digits = flat_map (λ k. 32 ∷ get_or digits k 0 ∷ get_or digits (16 + k) 0 ∷ []) (range_with_len 0 16)
+
+abbrev highs : List ℕ → List ℕ
+highs bytes = zip2 (act2 (shr unsigned) (s_int w8) (s_int w8) (s_int w8)) bytes (replicate 16 4)
+
+abbrev lows : List ℕ → List ℕ
+lows bytes = zip2 (act2 bit_and_op (s_int w8) (s_int w8) (s_int w8)) bytes (replicate 16 15)
+
+pub highs_below : (bytes : List ℕ) → length bytes ≡ 16 → Each1 (Fits w8) bytes → Each1 (λ v. v < 16) (highs bytes)
+highs_below bytes p h = subst (Each1 (λ v. v < 16)) (sym (highs-map bytes p)) (high_below bytes h)
+
+pub lows_below : (bytes : List ℕ) → length bytes ≡ 16 → Each1 (λ v. v < 16) (lows bytes)
+lows_below bytes p = subst (Each1 (λ v. v < 16)) (sym (lows-map bytes p)) (low_below bytes)
+
+interleave_digits-spaced : (bytes : List ℕ) → length bytes ≡ 16 → interleave_digits (map digit (map (λ b. b / 16) bytes) ++ map digit (map (λ b. b % 16) bytes)) ≡ flat_map spaced_hex bytes
+interleave_digits-spaced bytes p = subst (λ bs. interleave_digits (map digit (map (λ b. b / 16) bs) ++ map digit (map (λ b. b % 16) bs)) ≡ flat_map spaced_hex bs)
+    (pick_l_whole 0 bytes 16 p) refl
+
+-- the interleaved digits of the halves are the spaced text of 16 bytes
+pub block_text : (bytes first second : List ℕ) → length bytes ≡ 16 → first ≡ map digit (highs bytes) → second ≡ map digit (lows bytes)
+    → interleave_digits (first ++ second) ≡ flat_map spaced_hex bytes
+block_text bytes first second p f s = rw (f, s, highs-map bytes p, lows-map bytes p) (interleave_digits-spaced bytes p)
+
+-- the text of the first `at` bytes and of the next `n` is the text of the first `at + n`
+pub more_spaced : (text start bytes : List ℕ) (at n : ℕ) → text ≡ start ++ flat_map spaced_hex (take at bytes)
+    → text ++ flat_map spaced_hex (take n (drop at bytes)) ≡ start ++ flat_map spaced_hex (take (at + n) bytes)
+more_spaced text start bytes at n e = simp (e, append_assoc, take-add at n bytes, flat_map-append)
+
+-- the text of the first `at` bytes and of the rest is the text of all
+pub all_spaced : (text start bytes : List ℕ) (at : ℕ) → text ≡ start ++ flat_map spaced_hex (take at bytes)
+    → text ++ flat_map spaced_hex (drop at bytes) ≡ start ++ flat_map spaced_hex bytes
+all_spaced text start bytes at e = simp (e, append_assoc, ← flat_map-append, take-append-drop)
+
+digit_ascii : (n : ℕ) → n < 16 → digit n < 128
+unfolding digit
+digit_ascii n h = elim (cases_Bool (ltb n 10)) [ inl less ↦ rw less (omega arith) | inr more ↦ rw more (omega arith) ]
+
+spaced_ascii : (b : ℕ) → b < 256 → IsAscii (spaced_hex b)
+spaced_ascii b h zero = omega arith
+spaced_ascii b h (suc zero) = digit_ascii (b / 16) (omega arith)
+spaced_ascii b h (suc (suc zero)) = digit_ascii (b % 16) (omega arith)
+spaced_ascii b h (suc (suc (suc i))) = omega arith
+
+all_spaced_ascii : (bytes : List ℕ) → ((i : ℕ) → Fits w8 (get_or bytes i 0)) → IsAscii (flat_map spaced_hex bytes)
+all_spaced_ascii [] h = λ i. omega arith
+all_spaced_ascii (b ∷ bytes) h = IsAscii-append (spaced_hex b) _ (spaced_ascii b (h 0).fits) (all_spaced_ascii bytes (λ i. h (suc i)))
+
+-- hexadecimal text is ASCII
+pub hex_ascii : (bytes : List ℕ) → ((i : ℕ) → Fits w8 (get_or bytes i 0)) → IsAscii (hex bytes)
+hex_ascii [] h = λ i. omega arith
+hex_ascii (b ∷ bytes) h = IsAscii-append (hex_of b) _ (λ i. spaced_ascii b (h 0).fits (suc i)) (all_spaced_ascii bytes (λ i. h (suc i)))

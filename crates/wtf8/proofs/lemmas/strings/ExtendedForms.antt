@@ -1,0 +1,317 @@
+-- The effect of appending calls: the contents, the known prefix and the capacity.
+use Rattle.wtf8.proofs.Common.{◌≡◌, ◌+◌, ◌-◌, ◌≤◌, List, [], ◌∷◌, ℕ, ◌++◌, length, take, drop, Result, Ok, Err, OnOk, OnErr, refl, ap, ◌∙◌, sym, subst, arith}
+use Rattle.wtf8.proofs.Common.{append-nil, drop_all, units, units_of, pair, IsLead, IsTrail, IsCodePoint, UnitString, KeepsContents, MeetsAsPair, encoding}
+use Rattle.wtf8.proofs.Common.{IsWellFormed, IsForm, ExtendsForm, ExtendsFormOrKeeps, inl, inr, true, chars, IsUtf8, scalars-chars, and_parts, scalar, scalars, IsSurrogate}
+use Rattle.wtf8.proofs.Common.{IsClean, bytes_are_encodes, AreScalar, append_assoc, length-append, All, map-append, take_at, drop_at, All-drop, All-same, Step}
+use Rattle.wtf8.proofs.Common.{FindRoom, Build, Truncate, TruncateUnits, number, numbers, glue, IsUnit, bytes, ◌<◌, cases_lt, append_cancel_left, SurrogateAt}
+use Rattle.wtf8.proofs.Common.{on_ok_weaker, vec_capacity, length-map, All-take, encodes-chars, on_err_weaker, IsOk, HasRoomFor, FindsRoom, CodePoint}
+use Rattle.wtf8.proofs.Common.{AreScalarTo}
+use lib.Utf8.{scalar_cases}
+use Rattle.std.specs.declared.vec.Vec.{Vec}
+use Rattle.wtf8.proofs.lemmas.codec.Encoding.{length-surrogate, length-encoding_bounds, length-bytes_append, encoding_four}
+use Rattle.wtf8.proofs.lemmas.codec.Readings.{meets_by, form_of, well_formed_of, same_form, units_from_form, moved, same_reading, same_points}
+use Rattle.wtf8.proofs.lemmas.codec.Readings.{units-append, same_heads, meets_or_not, units_one, lists_have_lengths}
+use Rattle.wtf8.proofs.lemmas.strings.Concatenation.{paired_bytes, meeting_bytes, form_meeting, form-append, one_form}
+use Rattle.wtf8.proofs.lemmas.strings.Concatenation.{clean-glue, units-glue, glue_meeting, glue-unpaired, units_read, bytes_paired, bytes_glue-unpaired, length-paired_bytes, form-glue}
+use Rattle.wtf8.proofs.lemmas.strings.Surrogates.{scalar-middle, surrogate_in}
+use Rattle.wtf8.proofs.lemmas.strings.Positions.{shorter_is_prefix}
+
+-- A string after a call that appended to its bytes, or was refused.
+
+-- strings with equal bytes have equal contents
+pub contents_of : (new old : UnitString) → new.bytes ≡ old.bytes → KeepsContents old new
+contents_of new old e = record { units = units_from_form new.bytes new.units old.units new.form (subst (λ w. IsForm w old.units) (sym e) old.form); bytes = e }
+
+module _ {T E Z : Type 0} {b n : Vec ℕ Z} {v : List ℕ} {r : Result T E} where
+  -- the units after a call that appended `v`; `was` and `old` are the string before it
+  pub units_appended : (was old : UnitString) (k : IsWellFormed n.items) → was ≡ old → was.bytes ≡ b.items → ExtendsFormOrKeeps b v n r → OnOk r (units k.points ≡ old.units ++ v)
+  units_appended was old k s e g =
+      let before = subst (λ w. IsForm w old.units) (sym (ap (λ (t : UnitString). t.bytes) s) ∙ e) old.form in
+      on_ok_weaker r (λ h. units_from_form n.items (units k.points) _ (form_of k) (rw h (g.gained old.units before))) g.becomes.ok
+
+  pub kept_contents : (was old new : UnitString) → was ≡ old → was.bytes ≡ b.items → new.bytes ≡ n.items → ExtendsFormOrKeeps b v n r → OnErr r (KeepsContents old new)
+  kept_contents was old new s e f g = on_err_weaker r (λ h. contents_of new old (f ∙ (h ∙ (sym e ∙ ap (λ (t : UnitString). t.bytes) s)))) g.becomes.err
+
+  pub room_found : (was old : UnitString) → was ≡ old → was.bytes ≡ b.items → was.capacity ≡ vec_capacity b → ExtendsFormOrKeeps b v n r → HasRoomFor old v → IsOk r
+  room_found was old s e c g fit =
+      let before = subst (λ w. IsForm w old.units) (sym (ap (λ (t : UnitString). t.bytes) s) ∙ e) old.form in
+      g.becomes.room (omega (arith, fit.within, ap length (same_form g.whole fit.whole (old.units ++ v) (g.gained old.units before) fit.form), c, ap (λ (t : UnitString). t.capacity) s))
+
+-- the bytes gained `v` if they are the form of the old units followed by `v`
+ExtendsForm-by_units : {w new : List ℕ} (v : List ℕ) (h : IsWellFormed w) → IsForm new (units h.points ++ v) → ExtendsForm w new v
+ExtendsForm-by_units {w} {new} v h f u x = subst (λ a. IsForm new (a ++ v)) (units_from_form w (units h.points) u (form_of h) x) f
+
+-- appending well-formed bytes, with and without a pair at the seam
+pub ExtendsForm-meeting_pair : {w v : List ℕ} (h : IsWellFormed w) (k : IsWellFormed v) (m : MeetsAsPair h.points k.points)
+    → ExtendsForm w (paired_bytes w m.lead m.trail v) (units k.points)
+ExtendsForm-meeting_pair h k m = ExtendsForm-by_units (units k.points) h (form_meeting (form_of h) (form_of k) m)
+
+pub ExtendsForm-append : {w v : List ℕ} (h : IsWellFormed w) (k : IsWellFormed v) → ¬ (MeetsAsPair h.points k.points) → ExtendsForm w (w ++ v) (units k.points)
+ExtendsForm-append h k n = ExtendsForm-by_units (units k.points) h (form-append (form_of h) (form_of k) n)
+
+-- the encoding of one code point is well-formed
+abbrev one_point : (p : ℕ) → IsCodePoint p → IsWellFormed (encoding p)
+one_point p range = record { points = p ∷ []; clean = range; encoded = append-nil (encoding p) }
+
+-- the encoding of one code point is the form of its units
+abbrev pub point_form : (p : ℕ) → IsCodePoint p → IsForm (encoding p) (units_of p)
+point_form p range = record { points = p ∷ []; reads = record { clean = range; same_units = append-nil (units_of p) }; encoded = append-nil (encoding p) }
+
+-- appending one code point that completes no pair
+pub ExtendsForm-push : {w : List ℕ} (h : IsWellFormed w) (p : ℕ) → IsCodePoint p → ¬ (MeetsAsPair h.points (p ∷ [])) → ExtendsForm w (w ++ encoding p) (units_of p)
+ExtendsForm-push {w} h p range n = subst (ExtendsForm w (w ++ encoding p)) (append-nil (units_of p)) (ExtendsForm-append h (one_point p range) n)
+
+-- appending a trail that completes the lead at the end
+pub record CompletedPair (w : List ℕ) (l t : ℕ) : Type 0 where
+  pub three : 3 ≤ length w
+  pub gains : ExtendsForm w (take (length w - 3) w ++ encoding (pair l t)) (units_of t)
+
+pub CompletedPair-from_lead : {w : List ℕ} (h : IsWellFormed w) (f : List ℕ) (l t : ℕ) → IsLead l → IsTrail t → h.points ≡ f ++ l ∷ [] → CompletedPair w l t
+CompletedPair-from_lead {w} h f l t lead trail e =
+    let k = one_point t (omega arith) in
+    let m : MeetsAsPair h.points (t ∷ []) = meets_by f [] l t lead trail e refl in
+    let three = (meeting_bytes m h.encoded k.encoded).three in
+    let pair_bytes = take (length w - 3) w ++ encoding (pair l t) in
+    let nothing : drop 3 (encoding t) ≡ [] = drop_all 3 (encoding t) (omega (arith, length-surrogate t (omega arith, omega arith))) in
+    let whole : pair_bytes ++ drop 3 (encoding t) ≡ pair_bytes = ap (λ r. pair_bytes ++ r) nothing ∙ append-nil pair_bytes in
+    let gains = subst (ExtendsForm w pair_bytes) (append-nil (units_of t)) (subst (λ x. ExtendsForm w x (units (t ∷ []))) whole (ExtendsForm-meeting_pair h k m)) in
+    record { three = three; gains = gains }
+
+-- Text: its bytes are well-formed, and its characters are their code points.
+
+-- a scalar value is a code point that is no surrogate
+pub record ScalarFacts (c : ℕ) : Type 0 where
+  pub range : IsCodePoint c
+  pub apart : ¬ (IsSurrogate c)
+
+pub scalar_facts : (c : ℕ) → scalar c ≡ true → ScalarFacts c
+scalar_facts c e = elim (scalar_cases c e) [
+  | inl l ↦ record { range = omega arith; apart = λ s. omega arith }
+  | inr h ↦ record { range = omega arith; apart = λ s. omega arith }
+]
+
+pub clean-scalars : (cs : List ℕ) → scalars cs ≡ true → IsClean cs
+clean-scalars [] e = tt
+clean-scalars (c ∷ []) e = (scalar_facts c (and_parts (scalar c) (scalars []) e).0).range
+clean-scalars (c ∷ d ∷ cs) e =
+    let p = and_parts (scalar c) (scalars (d ∷ cs)) e in
+    let f = scalar_facts c p.0 in
+    (f.range, (λ h. f.apart (omega (arith, h.0), omega (arith, h.0))), clean-scalars (d ∷ cs) p.1)
+
+-- the bytes of a text are well-formed, with its characters as code points
+abbrev pub well_formed_text : (w : List ℕ) → IsUtf8 w → IsWellFormed w
+well_formed_text w u = record {
+  points = chars w;
+  clean = clean-scalars (chars w) (scalars-chars w u);
+  encoded = bytes_are_encodes (chars w) ∙ encodes-chars w u;
+}
+
+abbrev pub text_at : {v w : List ℕ} → IsUtf8 v → w ≡ v → IsWellFormed w
+text_at {v} u e = moved (well_formed_text v u) e
+
+-- Scalar values: parts of a list, and lists joined.
+
+pub scalar-append : (c d : List ℕ) → AreScalar c → AreScalar d → AreScalar (c ++ d)
+scalar-append [] d s t = t
+scalar-append (p ∷ c) d s t = (s.0, scalar-append c d s.1 t)
+
+-- the characters of a text are scalar values
+pub scalar-characters : (c : List ℕ) → scalars c ≡ true → AreScalar c
+scalar-characters [] e = tt
+scalar-characters (p ∷ c) e =
+    let parts = and_parts (scalar p) (scalars c) e in
+    ((scalar_facts p parts.0).apart, scalar-characters c parts.1)
+
+pub scalar_text : {w : List ℕ} → IsUtf8 w → AreScalar (chars w)
+scalar_text {w} u = scalar-characters (chars w) (scalars-chars w u)
+
+-- scalar values form no pair at a seam
+pub scalar_front_unpaired : {c d : List ℕ} → AreScalar c → ¬ (MeetsAsPair c d)
+scalar_front_unpaired s m = scalar-middle m.front m.lead [] (subst AreScalar m.ends s) (omega (arith, m.is_lead), omega (arith, m.is_lead))
+
+pub scalar_back_unpaired : {c d : List ℕ} → AreScalar d → ¬ (MeetsAsPair c d)
+scalar_back_unpaired s m = (subst AreScalar m.begins s).0 (omega (arith, m.is_trail), omega (arith, m.is_trail))
+
+-- equal bytes have the same code points
+pub scalar_moved : {v w : List ℕ} (h : IsWellFormed v) (k : IsWellFormed w) → w ≡ v → AreScalar h.points → AreScalar k.points
+scalar_moved h k e s = subst AreScalar (sym (same_points k h e)) s
+
+pub scalar_each : (c : List ℕ) → ((f : List ℕ) (p : ℕ) (b : List ℕ) → c ≡ f ++ p ∷ b → ¬ (IsSurrogate p)) → AreScalar c
+scalar_each [] n = tt
+scalar_each (p ∷ c) n = (n [] p c refl, scalar_each c (λ f q b e. n (p ∷ f) q b (ap (λ d. p ∷ d) e)))
+
+-- The known prefix: no code point that begins before a position is a surrogate.
+
+pub scalar_all : (c : List ℕ) (k : ℕ) → AreScalar c → AreScalarTo k c
+scalar_all c k s f p b e _ = scalar-middle f p b (subst AreScalar e s)
+
+pub all_scalar : (c : List ℕ) (k : ℕ) → AreScalarTo k c → length (bytes c) ≤ k → AreScalar c
+all_scalar c k s n = scalar_each c (λ f p b e. s f p b e (omega (arith, n, ap (λ d. length (bytes d)) e, length-bytes_append f p b, length-encoding_bounds p)))
+
+pub scalar_to-front : (k n : ℕ) (c d : List ℕ) → AreScalarTo k (c ++ d) → n ≤ k → AreScalarTo n c
+scalar_to-front k n c d s l f p b e m = s f p (b ++ d) (ap (λ x. x ++ d) e ∙ append_assoc f (p ∷ b) d) (omega (arith, l, m))
+
+scalar_before : (k : ℕ) (f more b d : List ℕ) (p : ℕ) → AreScalarTo k (f ++ more) → f ++ p ∷ b ≡ (f ++ more) ++ d → length (bytes f) < length (bytes (f ++ more))
+    → length (bytes f) < k → ¬ (IsSurrogate p)
+scalar_before k f [] b d p s e h l = absurd (omega (arith, h, ap (λ x. length (bytes x)) (append-nil f)))
+scalar_before k f (q ∷ more) b d p s e h l =
+    let same = same_heads p q b (more ++ d) (append_cancel_left f _ _ (e ∙ append_assoc f (q ∷ more) d)) in
+    s f p more (ap (λ x. f ++ x ∷ more) (sym same.0)) l
+
+pub scalar_to-append : (k : ℕ) (c d : List ℕ) → AreScalarTo k c → (length (bytes c) < k → AreScalar d) → AreScalarTo k (c ++ d)
+scalar_to-append k c d s t f p b e l = elim (cases_lt (length (bytes f)) (length (bytes c))) [
+  | inl h ↦
+      let r = shorter_is_prefix f (p ∷ b) c d (sym e) (omega (arith, h)) in
+      scalar_before k f r.more b d p (subst (AreScalarTo k) r.joined s) (sym e ∙ ap (λ x. x ++ d) r.joined)
+      (omega (arith, h, ap (λ x. length (bytes x)) r.joined)) l
+  | inr h ↦
+      let r = shorter_is_prefix c d f (p ∷ b) e h in
+      let rest : d ≡ r.more ++ p ∷ b = append_cancel_left c _ _ (e ∙ (ap (λ x. x ++ p ∷ b) r.joined ∙ append_assoc c r.more (p ∷ b))) in
+      scalar-middle r.more p b (subst AreScalar rest (t (omega (arith, h, l))))
+]
+
+scalar_to-paired : (k n : ℕ) (f : List ℕ) (l t : ℕ) (r : List ℕ) → IsLead l → IsTrail t → AreScalarTo k (f ++ l ∷ []) → n ≤ k
+    → n ≤ length (bytes (f ++ l ∷ [])) → AreScalarTo n (f ++ pair l t ∷ r)
+scalar_to-paired k n f l t r lead trail s m u =
+    let front = scalar_to-append n f (pair l t ∷ []) (scalar_to-front k n f (l ∷ []) s m) (λ _. ((λ x. omega (arith, x.1)), tt)) in
+    let long = length-bytes_append f (pair l t) [] in
+    let was = length-bytes_append f l [] in
+    let four = ap length (encoding_four (pair l t) (omega arith)) in
+    subst (AreScalarTo n) (append_assoc f (pair l t ∷ []) r)
+    (scalar_to-append n (f ++ pair l t ∷ []) r front (λ x. absurd (omega (arith, x, u, long, was, four, length-surrogate l (omega arith, omega arith)))))
+
+pub scalar_to-glue : (k n : ℕ) (c d : List ℕ) → AreScalarTo k c → n ≤ k → (length (bytes c) < n → AreScalar d) → AreScalarTo n (glue c d)
+scalar_to-glue k n c d s l t = elim (meets_or_not c d) [
+  | inl m ↦
+      let within : n ≤ length (bytes c) = elim (cases_lt (length (bytes c)) n) [ inl h ↦ absurd (scalar_back_unpaired (t h) m) | inr h ↦ h ] in
+      subst (AreScalarTo n) (sym (glue_meeting c d m)) (scalar_to-paired k n m.front m.lead m.trail m.rest m.is_lead m.is_trail
+      (subst (AreScalarTo k) m.ends s) l (omega (arith, within, ap (λ x. length (bytes x)) m.ends)))
+  | inr a ↦ subst (AreScalarTo n) (sym (glue-unpaired c d a)) (scalar_to-append n c d (λ f p b e m. s f p b e (omega (arith, l, m))) t)
+]
+
+-- the known prefix after replacing the back by one code point, which begins at or after its end
+pub scalar_to-cut : (k n : ℕ) (f b : List ℕ) (q : ℕ) {c : List ℕ} → AreScalarTo k c → c ≡ f ++ b → n ≤ k → n ≤ length (bytes f) → AreScalarTo n (f ++ q ∷ [])
+scalar_to-cut k n f b q s e l m = scalar_to-append n f (q ∷ []) (scalar_to-front k n f b (subst (AreScalarTo k) e s) l) (λ x. absurd (omega (arith, x, m)))
+
+pub scalar_to-moved : {v w : List ℕ} (k : ℕ) (h : IsWellFormed v) (x : IsWellFormed w) → w ≡ v → AreScalarTo k h.points → AreScalarTo k x.points
+scalar_to-moved k h x e s = subst (AreScalarTo k) (sym (same_points x h e)) s
+
+-- no surrogate begins in the known prefix of the bytes
+pub none_before : {w : List ℕ} (k : ℕ) (h : IsWellFormed w) (i : ℕ) → AreScalarTo k h.points → i < k → ¬ (SurrogateAt w i)
+none_before k h i s l at =
+    let p = surrogate_in h.points i (subst (λ v. SurrogateAt v i) (sym h.encoded) at) in
+    s p.front p.point p.back p.joined (omega (arith, l, p.front_len)) p.surrogate
+
+-- after bytes gained units they are well-formed, with a known prefix of `n` bytes
+known_prefix_after_gain : (c v : List ℕ) (k n : ℕ) {old new : List ℕ} (h : IsWellFormed old) → v ≡ units c → IsClean c → AreScalarTo k h.points → n ≤ k
+    → (length old < n → AreScalar c) → ExtendsForm old new v → (x : IsWellFormed new) × (AreScalarTo n x.points × Unit {0})
+known_prefix_after_gain c v k n h e x s l t gained =
+    let f = gained (units h.points) (form_of h) in
+    let now = well_formed_of f in
+    let whole : units now.points ≡ units (glue h.points c) = cc (f.reads.same_units, units-glue h.points c) in
+    let same : now.points ≡ glue h.points c = same_reading now.points (glue h.points c) now.clean (clean-glue h.points c h.clean x) whole in
+    (now, (subst (AreScalarTo n) (sym same) (scalar_to-glue k n h.points c s l (λ m. t (omega (arith, m, ap length h.encoded)))), tt))
+
+module _ {T E Z : Type 0} {b m : Vec ℕ Z} {v : List ℕ} where
+  -- after a call that appended units or was refused, bytes are well-formed, with a known prefix of `n` bytes
+  pub known_prefix_after_append : (r : Result T E) (c : List ℕ) (k n : ℕ) (h : IsWellFormed b.items) → v ≡ units c → IsClean c → AreScalarTo k h.points → n ≤ k
+      → (length b.items < n → AreScalar c) → ExtendsFormOrKeeps b v m r → (x : IsWellFormed m.items) × (AreScalarTo n x.points × Unit {0})
+  known_prefix_after_append (Ok _) c k n h e x s l t g = known_prefix_after_gain c v k n h e x s l t (rw g.becomes.ok g.gained)
+  known_prefix_after_append (Err _) c k n h e x s l t g = (moved h g.becomes.err, ((λ f p b g m. s f p b g (omega (arith, l, m))), tt))
+
+module _ {T E Z : Type 0} {b m : Vec ℕ Z} where
+  pub known_prefix_after_push : (r : Result T E) (p : ℕ) (k n : ℕ) (h : IsWellFormed b.items) → IsCodePoint p → AreScalarTo k h.points → n ≤ k
+      → (length b.items < n → ¬ (IsSurrogate p)) → ExtendsFormOrKeeps b (units_of p) m r → (x : IsWellFormed m.items) × (AreScalarTo n x.points × Unit {0})
+  known_prefix_after_push r p k n h range s l t g = known_prefix_after_append r (p ∷ []) k n h (sym (append-nil (units_of p))) range s l (λ m. (t m, tt)) g
+
+-- Lengths of forms and of their parts, and the capacity that a list of calls needs.
+
+-- joined lists have at most the bytes of both, and at least one byte for each unit of the second
+pub record GluedLength (c d : List ℕ) : Type 0 where
+  pub least : length (bytes c) + length (units d) ≤ length (bytes (glue c d))
+  pub most : length (bytes (glue c d)) ≤ length (bytes c) + length (bytes d)
+
+glued_length : (c d : List ℕ) → GluedLength c d
+glued_length c d = elim (meets_or_not c d) [
+  | inl m ↦
+      let s = meeting_bytes m refl refl in
+      let both = ap length (bytes_paired c d m refl refl) in
+      let paired = length-paired_bytes (bytes c) (bytes d) m.lead m.trail m.is_lead m.is_trail s.three s.three_behind in
+      let three = length-surrogate m.trail (omega (arith, m.is_trail), omega (arith, m.is_trail)) in
+      let back : length (bytes d) ≡ 3 + length (bytes m.rest) = simp (m.begins, length-append, three) in
+      let own : length (units d) ≡ 1 + length (units m.rest) = simp (m.begins, length-append, units_one m.trail (omega (arith, m.is_trail))) in
+      let rest = (lists_have_lengths m.rest).units_least in
+      record { least = omega (arith, both, paired, back, own, rest); most = omega (arith, both, paired) }
+  | inr n ↦
+      let both = ap length (bytes_glue-unpaired c d n refl refl) ∙ length-append (bytes c) (bytes d) in
+      record { least = omega (arith, both, (lists_have_lengths d).units_least); most = omega (arith, both) }
+]
+
+-- the form of two lists has at most the bytes of both forms, and at least one byte for each unit of the second
+pub record BothLength (w v z b : List ℕ) : Type 0 where
+  pub least : length w + length b ≤ length z
+  pub most : length z ≤ length w + length v
+
+pub both_length : {w v z a b : List ℕ} → IsForm w a → IsForm v b → IsForm z (a ++ b) → BothLength w v z b
+both_length {w} {v} {z} {a} {b} x y f =
+    let n = glued_length x.points y.points in
+    let whole = ap length (same_form z (bytes (glue x.points y.points)) (a ++ b) f (form-glue w v a b x y)) in
+    let front = ap length x.encoded in
+    record { least = omega (arith, n.least, whole, front, ap length y.reads.same_units); most = omega (arith, n.most, whole, front, ap length y.encoded) }
+
+-- the first part of a list of units has a form, which is no longer than the form of the whole
+pub record Beginning (u w : List ℕ) : Type 0 where
+  pub whole : List ℕ
+  pub form : IsForm whole u
+  pub within : length whole ≤ length w
+
+all_front : (a b : List ℕ) → All IsUnit (a ++ b) → All IsUnit a
+all_front a b h = All-same IsUnit a (take (length a) (a ++ b)) (sym (take_at a b (length a) refl)) (All-take IsUnit (length a) (a ++ b) h)
+
+pub all_back : (a b : List ℕ) → All IsUnit (a ++ b) → All IsUnit b
+all_back a b h = All-same IsUnit b (drop (length a) (a ++ b)) (sym (drop_at a b (length a) refl)) (All-drop IsUnit (length a) (a ++ b) h)
+
+pub beginning_of_form : (a b w : List ℕ) → IsForm w (a ++ b) → Beginning a w
+beginning_of_form a b w f =
+    let all = units_read f.points (a ++ b) f.reads in
+    let front = one_form a (all_front a b all) in
+    record { whole = front.one; form = front.has; within = omega (arith, (both_length front.has (one_form b (all_back a b all)).has f).least) }
+
+-- appending code points adds at least one byte for each
+pub extended_length : (ps : List CodePoint) (w u y : List ℕ) → IsForm w u → IsForm y (u ++ units (numbers ps)) → length w + length ps ≤ length y
+extended_length ps w u y h k =
+    let v = units (numbers ps) in
+    let back = one_form v (all_back u v (units_read k.points (u ++ v) k.reads)) in
+    omega (arith, (both_length h back.has k).least, (lists_have_lengths (numbers ps)).points, length-map ps number)
+
+pub units-points : (ps qs : List CodePoint) → units (numbers (ps ++ qs)) ≡ units (numbers ps) ++ units (numbers qs)
+units-points ps qs = ap units (map-append number ps qs) ∙ units-append (numbers ps) (numbers qs)
+
+-- a call that finds room has the outcome `v` that `FindsRoom` names
+pub found_step : (u : List ℕ) (call : Build) (v w : List ℕ) (n r : ℕ) → FindsRoom u call v n → Step u call w r → w ≡ v
+found_step u (Truncate k) v w n r f s = absurd f.no_truncation
+found_step u (TruncateUnits k) v w n r f s = absurd f.no_truncation
+found_step u call v w n r f s = s.0 ∙ sym f.step.0
+
+-- a call that finds room in a capacity finds it in a greater one
+pub FindsRoom-larger : {u v : List ℕ} {call : Build} {m n : ℕ} → FindsRoom u call v m → m ≤ n → FindsRoom u call v n
+FindsRoom-larger f h = record {
+  no_truncation = f.no_truncation;
+  step = f.step;
+  fits = record { whole = f.fits.whole; form = f.fits.form; within = omega (arith, f.fits.within, h) };
+}
+
+-- If `calls ++ more` find room in `capacity`, `more` find it after `calls`, and the capacity has not shrunk.
+pub record Found (u : List ℕ) (calls : List Build) (now : List ℕ) (capacity grown : ℕ) : Type 0 where
+  pub rest : (more : List Build) (v : List ℕ) → FindRoom u (calls ++ more) v capacity → FindRoom now more v capacity
+  pub grows : (more : List Build) (v : List ℕ) → FindRoom u (calls ++ more) v capacity → capacity ≤ grown
+
+pub found_more : {u now new : List ℕ} {calls : List Build} {call : Build} {capacity grown larger : ℕ} (r : ℕ) → Found u calls now capacity grown
+    → Step now call new r → ((v : List ℕ) → FindsRoom now call v capacity → grown ≤ larger) → Found u (calls ++ call ∷ []) new capacity larger
+found_more {u} {now} {new} {calls} {call} {capacity} {grown} {larger} r f s h = record {
+  rest = λ more v x. let here = f.rest (call ∷ more) v (rw append_assoc at x) in
+      subst (λ m. FindRoom m more v capacity) (sym (found_step now call here.0 new capacity r here.1 s)) here.2;
+  grows = λ more v x.
+      let here = f.rest (call ∷ more) v (rw append_assoc at x) in
+      omega (arith, f.grows (call ∷ more) v (rw append_assoc at x), h here.0 here.1);
+}

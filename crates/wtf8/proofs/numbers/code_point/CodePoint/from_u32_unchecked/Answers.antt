@@ -1,5 +1,0 @@
-use Rattle.wtf8.proofs.Common.{rules}
-use Rattle.wtf8.proofs.numbers.code_point.CodePoint.from_u32_unchecked.Goals as goal
-
-pub returns : goal.returns
-returns c = search rules

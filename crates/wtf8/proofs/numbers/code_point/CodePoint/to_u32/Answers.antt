@@ -1,5 +1,0 @@
-use Rattle.wtf8.proofs.Common.{rules}
-use Rattle.wtf8.proofs.numbers.code_point.CodePoint.to_u32.Goals as goal
-
-pub returns-clause-value : goal.returns-clause-value
-returns-clause-value c = search rules

@@ -1,0 +1,34 @@
+use Rattle.wtf8.proofs.Common.{◌≡◌, ℕ, ◌+◌, ◌<◌, List, [], ◌∷◌, encoding, IsWellFormed, ap, arith, length, length-drop, number, subst, units_of}
+use Rattle.wtf8.proofs.Common.{BeginsWithPoint, BeginsWithUnits}
+use Rattle.wtf8.proofs.lemmas.codec.Readings.{first_of, units_two}
+use Rattle.wtf8.proofs.lemmas.strings.ToUtf16.{ReadUnits, read_units}
+use Rattle.wtf8.proofs.strings.to_utf16.decode_point.Goals as goal
+
+pub read_two-requires-clause-front : goal.read_two-requires-clause-front
+read_two-requires-clause-front c = (first_of c.args.left.view.well_formed c.requires.some).0
+
+pub read_three-requires-clause-front : goal.read_three-requires-clause-front
+read_three-requires-clause-front c = (first_of c.args.left.view.well_formed c.requires.some).0
+
+pub read-width-requires-clause-front : goal.read-width-requires-clause-front
+read-width-requires-clause-front c = (first_of c.args.left.view.well_formed c.requires.some).0
+
+-- the decoded code point gives the next units
+first_point_read : {w : List ℕ} → IsWellFormed w → (p n : ℕ) → 0 < length w → ((b : BeginsWithPoint w) → (p ≡ b.point) × (n ≡ 0 + length (encoding b.point))) → ReadUnits w p n
+first_point_read h p n some read = read_units h p n some (λ b. let was = read b in (was.0, omega (arith, was.1)))
+
+pub write_units-requires : goal.write_units-requires
+write_units-requires c =
+    let view = c.args.left.view in
+    let p = number c.read-width.result.0 in
+    let r = first_point_read view.well_formed p c.read-width.result.1 c.requires.some c.read-width.ensures in
+    let two = units_two p (omega (arith, c.to_u32-value.ensures.value, c.if-value-lt65536.false)) in
+    let same : units_of p ≡ c.lead_of.result ∷ c.trail_of.result ∷ [] = rw (c.lead_of.ensures, c.trail_of.ensures, c.to_u32-value.ensures.value) two in
+    let begins = subst (λ v. BeginsWithUnits view.bytes.now v c.read-width.result.1) same r.begins in
+    (omega arith, (omega arith, (omega (arith, c.requires.room, ap length (begins view.well_formed).1), ((omega arith, r.within), begins))))
+
+pub returns-else-value-lt65536-clause-shorter : goal.returns-else-value-lt65536-clause-shorter
+returns-else-value-lt65536-clause-shorter c =
+    let view = c.args.left.view in
+    let r = first_point_read view.well_formed (number c.read-width.result.0) c.read-width.result.1 c.requires.some c.read-width.ensures in
+    omega (arith, r.some, r.within, ap length c.write_units.ensures.bytes, length-drop c.read-width.result.1 view.bytes.now)

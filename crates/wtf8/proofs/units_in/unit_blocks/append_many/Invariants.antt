@@ -1,9 +1,0 @@
-use Rattle.wtf8.proofs.Common.{◌-◌, length}
-use Rattle.wtf8.specs.private.UnitParts.{IsReadTo}
-use Rattle.wtf8.proofs.units_in.unit_blocks.append_many.Given as goal
-
-abbrev pub invariant-loop-at : goal.invariant-loop-at
-invariant-loop-at g l = IsReadTo l.bytes.items l.v l.at l.is_scalar
-
-abbrev pub decreases-loop-at : goal.decreases-loop-at
-decreases-loop-at g l = length l.v - l.at

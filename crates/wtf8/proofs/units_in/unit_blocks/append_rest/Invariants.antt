@@ -1,5 +1,0 @@
-use Rattle.wtf8.proofs.Common.{◌≡◌, ◌++◌, IsTrue, bytes, points_of, AreScalar}
-use Rattle.wtf8.proofs.units_in.unit_blocks.append_rest.Given as goal
-
-abbrev pub invariant-loop-item : goal.invariant-loop-item
-invariant-loop-item g l = (l.bytes.items ≡ l.initial.bytes.items ++ bytes (points_of l.yielded)) × (IsTrue l.is_scalar → IsTrue l.initial.is_scalar × AreScalar (points_of l.yielded))

@@ -1,0 +1,49 @@
+-- The code point that bytes begin with, and calls that append units to a vector of bytes.
+use Rattle.std.specs.Prelude.{◌≡◌, ℕ, ◌+◌, ◌-◌, ◌*◌, ◌<◌, ◌≤◌, length, List, ◌++◌, slice_index, Result, OnOk, OnErr, IsOk, vec_capacity}
+use Rattle.std.specs.declared.vec.Vec.{Vec}
+use Rattle.wtf8.specs.Unicode.{IsCodePoint}
+use Rattle.wtf8.specs.Form.{encoding, IsForm}
+
+-- What holds of bytes that begin with the code point `p` of `n` bytes, by their lead byte: a field for each row of the
+-- table (WTF-8, "Generalized UTF-8").
+pub record FirstPointByLead (w : List ℕ) (p n : ℕ) : Type 0 where
+  pub nonempty : 0 < length w
+  pub one : slice_index w 0 < 0x80 → (p ≡ slice_index w 0) × (n ≡ 1)
+  pub two : 0x80 ≤ slice_index w 0 → slice_index w 0 < 0xE0 → (0xC0 ≤ slice_index w 0) × (1 < length w) × (0x80 ≤ slice_index w 1) × (p < 0x800)
+      × (p ≡ (slice_index w 0 - 0xC0) * 64 + (slice_index w 1 - 0x80)) × (n ≡ 2)
+  pub three : 0xE0 ≤ slice_index w 0 → slice_index w 0 < 0xF0 → (2 < length w) × (0x80 ≤ slice_index w 1) × (slice_index w 1 < 0xC0) × (0x80 ≤ slice_index w 2)
+      × (slice_index w 2 < 0xC0) × (p < 0x10000)
+      × (p ≡ ((slice_index w 0 - 0xE0) * 64 + (slice_index w 1 - 0x80)) * 64 + (slice_index w 2 - 0x80)) × (n ≡ 3)
+  pub four : 0xF0 ≤ slice_index w 0 → (3 < length w) × (0x80 ≤ slice_index w 1) × (0x80 ≤ slice_index w 2) × (0x80 ≤ slice_index w 3) × (0x10000 ≤ p)
+      × (p ≡ (((slice_index w 0 - 0xF0) * 64 + (slice_index w 1 - 0x80)) * 64 + (slice_index w 2 - 0x80)) * 64 + (slice_index w 3 - 0x80)) × (n ≡ 4)
+
+-- The bytes are the encoding of a code point, followed by a rest (WTF-8, "Generalized UTF-8").
+pub record BeginsWithPoint (w : List ℕ) : Type 0 where
+  pub point : ℕ
+  pub rest : List ℕ
+  pub in_range : IsCodePoint point
+  pub encoded : w ≡ encoding point ++ rest
+  pub says : FirstPointByLead w point (length (encoding point))
+
+-- If the bytes begin with a code point, it is `p` and has `n` bytes.
+abbrev pub FirstPointIs : List ℕ → ℕ → ℕ → Type 0
+FirstPointIs w p n = (b : BeginsWithPoint w) → (p ≡ b.point) × (n ≡ length (encoding b.point))
+
+-- If the old bytes are a form, the new ones are the form of its units followed by `v` (WTF-8, "Concatenating").
+abbrev pub ExtendsForm : List ℕ → List ℕ → List ℕ → Type 0
+ExtendsForm old new v = (u : List ℕ) → IsForm old u → IsForm new (u ++ v)
+
+module _ {T E Z : Type 0} where
+  -- A call leaves `whole`, or on an error the old items. It succeeds if `whole` fits in the old capacity, and the
+  -- capacity never shrinks.
+  pub record BecomesOrKeeps (old : Vec ℕ Z) (whole : List ℕ) (new : Vec ℕ Z) (r : Result T E) : Type 0 where
+    pub ok : OnOk r (new.items ≡ whole)
+    pub err : OnErr r (new.items ≡ old.items)
+    pub room : length whole ≤ vec_capacity old → IsOk r
+    pub capacity : vec_capacity old ≤ vec_capacity new
+
+  -- A call appends the units `v` to the bytes or, on an error, leaves them unchanged, as `BecomesOrKeeps` says.
+  pub record ExtendsFormOrKeeps (old : Vec ℕ Z) (v : List ℕ) (new : Vec ℕ Z) (r : Result T E) : Type 0 where
+    pub whole : List ℕ
+    pub gained : ExtendsForm old.items whole v
+    pub becomes : BecomesOrKeeps old whole new r

@@ -1,0 +1,94 @@
+-- The bytes that each unit adds: the last one, two or three of three, computed from the unit and the one before it.
+use Rattle.std.specs.Prelude.{◌≡◌, ℕ, ◌+◌, ◌-◌, ◌*◌, ◌/◌, ◌%◌, ◌≤◌, ◌↔◌, List, [], ◌∷◌, ◌++◌, map, take, drop, nat_lt, if◌then◌else◌, slice_index_or}
+use lib.Lanes.{Each2, zip2}
+use Rattle.wtf8.specs.Unicode.{IsLead, IsTrail}
+
+-- The first of a unit's three bytes; an encoding of fewer bytes is the last ones (Unicode 3.9, "UTF-8", Table 3-6).
+abbrev pub first_byte : ℕ → ℕ
+first_byte n = 0xE0 + n / 4096
+
+-- The second of the three bytes of a unit that is no surrogate.
+abbrev pub scalar_second_byte : ℕ → ℕ
+scalar_second_byte n = (if nat_lt n 0x800 then 0xC0 else 0x80) + n / 64 % 64
+
+-- The last of the three bytes of a unit that is no surrogate.
+abbrev pub scalar_last_byte : ℕ → ℕ
+scalar_last_byte n = if nat_lt n 0x80 then n else 0x80 + n % 64
+
+-- The second of the three bytes of a unit after `before`; a lead adds its pair's first two bytes, a trail the last two.
+abbrev pub second_byte : ℕ → ℕ → ℕ
+second_byte before n =
+    if nat_lt n 0xD800 then scalar_second_byte n
+    else if nat_lt n 0xDC00 then 0xF0 + (n - 0xD7C0) / 256
+    else if nat_lt n 0xE000 then 0x80 + before % 4 * 16 + n / 64 % 16
+    else scalar_second_byte n
+
+-- The last of the three bytes of a unit.
+abbrev pub last_byte : ℕ → ℕ
+last_byte n =
+    if nat_lt n 0xD800 then scalar_last_byte n
+    else if nat_lt n 0xDC00 then 0x80 + (n - 0xD7C0) / 4 % 64
+    else scalar_last_byte n
+
+-- 1 if the unit adds more than one byte, else 0.
+abbrev pub multi_byte_bit : ℕ → ℕ
+multi_byte_bit n = if nat_lt n 0x80 then 0 else 1
+
+-- 1 if the unit adds three bytes, else 0.
+abbrev pub three_byte_bit : ℕ → ℕ
+three_byte_bit n = if nat_lt n 0x800 then 0 else if nat_lt n 0xD800 then 1 else if nat_lt n 0xE000 then 0 else 1
+
+-- The number of bytes that a unit adds.
+abbrev pub byte_count : ℕ → ℕ
+byte_count n = 1 + multi_byte_bit n + three_byte_bit n
+
+-- The second bytes and the last bytes of the units, as if a 0 came before them, and for each unit 0x80 if it adds three
+-- bytes, else 0.
+pub record AreLaterBytes (u seconds lasts longs : List ℕ) : Type 0 where
+  pub second : seconds ≡ zip2 second_byte (0 ∷ u) u
+  pub last : lasts ≡ map last_byte u
+  pub long : longs ≡ map (λ n. three_byte_bit n * 0x80) u
+
+-- The bytes that the unit `n` adds after the unit `before`.
+abbrev pub packed_unit : ℕ → ℕ → List ℕ
+packed_unit before n = drop (3 - byte_count n) (first_byte n ∷ second_byte before n ∷ last_byte n ∷ [])
+
+-- The bytes that the units add after the unit `before`.
+abbrev pub packed_units : ℕ → List ℕ → List ℕ
+packed_units before [] = []
+packed_units before (n ∷ u) = packed_unit before n ++ packed_units n u
+
+-- Each unit after `before` is a trail if and only if the unit before it is a lead (Unicode 3.8, "Surrogates").
+abbrev pub ArePaired : ℕ → List ℕ → Type 0
+ArePaired before u = Each2 (λ b n. IsTrail n ↔ IsLead b) (before ∷ u) u
+
+-- The three bytes of the units after `before`: all first bytes, then all second ones, then all last ones.
+abbrev pub byte_lanes : ℕ → List ℕ → List ℕ
+byte_lanes before u = map first_byte u ++ zip2 second_byte (before ∷ u) u ++ map last_byte u
+
+-- The table index for four lengths: bit `k` is set if length `k` is above one, bit `4 + k` if it is three.
+abbrev pub table_index : ℕ → ℕ → ℕ → ℕ → ℕ
+table_index a b c d = a / 2 + b / 2 * 2 + c / 2 * 4 + d / 2 * 8 + (a / 3 + b / 3 * 2 + c / 3 * 4 + d / 3 * 8) * 16
+
+-- The table index for the first four units of a list.
+abbrev pub units_table_index : List ℕ → ℕ
+units_table_index u =
+    let count = λ (k : ℕ). byte_count (slice_index_or u k 0) in
+    table_index (count 0) (count 1) (count 2) (count 3)
+
+-- The lanes of the last `n` of the three bytes of unit `k` of four.
+abbrev pub source_lanes : ℕ → ℕ → List ℕ
+source_lanes n k = drop (3 - n) (k ∷ (4 + k) ∷ (8 + k) ∷ [])
+
+-- A length is one, two or three.
+abbrev pub IsByteCount : ℕ → Type 0
+IsByteCount n = (1 ≤ n) × (n ≤ 3)
+
+-- The row at table index `number` begins with the lanes of the bytes of four units of these lengths, in order.
+abbrev pub IsPackingShuffle : ℕ → List ℕ → Type 0
+IsPackingShuffle number row = (a b c d : ℕ) → IsByteCount a → IsByteCount b → IsByteCount c → IsByteCount d → number ≡ table_index a b c d
+    → take (a + b + c + d) row ≡ source_lanes a 0 ++ source_lanes b 1 ++ source_lanes c 2 ++ source_lanes d 3
+
+-- The count at table index `number` is the sum of the four lengths.
+abbrev pub IsPackedLen : ℕ → ℕ → Type 0
+IsPackedLen number count = (a b c d : ℕ) → IsByteCount a → IsByteCount b → IsByteCount c → IsByteCount d → number ≡ table_index a b c d → count ≡ a + b + c + d

@@ -1,0 +1,48 @@
+-- The trail that an iterator over units holds back, and what a step leaves.
+use Rattle.std.specs.Prelude.{◌≡◌, ℕ, Bool, false, ◌+◌, ◌*◌, ◌%◌, ◌≤◌, List, [], ◌∷◌, drop, length, nat_lt, if◌then◌else◌}
+use Rattle.wtf8.specs.Form.{IsWellFormed}
+use Rattle.wtf8.specs.Unicode.{units_of}
+use Rattle.wtf8.specs.Units.{Unread, unread_units}
+
+-- Whether a byte is a continuation byte: from 0x80 to 0xBF.
+abbrev pub is_continuation : ℕ → Bool
+is_continuation b = if nat_lt b 0x80 then false else nat_lt b 0xC0
+
+-- The trail of a supplementary code point from the last two bytes of its encoding: four low bits and six.
+abbrev pub trail_from_bytes : ℕ → ℕ → ℕ
+trail_from_bytes a b = 0xDC00 + a % 16 * 64 + b % 64
+
+-- The trail at the front of bytes that begin with the last two bytes of a supplementary code point; nothing if a code
+-- point begins there.
+abbrev pub held_trail : List ℕ → List ℕ
+held_trail [] = []
+held_trail (a ∷ []) = []
+held_trail (a ∷ b ∷ w) = if is_continuation a then trail_from_bytes a b ∷ [] else []
+
+-- The bytes after the trail that `held_trail` reads: all of them if a code point begins there.
+abbrev pub after_held_trail : List ℕ → List ℕ
+after_held_trail [] = []
+after_held_trail (a ∷ []) = a ∷ []
+after_held_trail (a ∷ b ∷ w) = if is_continuation a then w else a ∷ b ∷ w
+
+-- What is left after the first unit: that is the held trail or, if none is held, the first unit of a code point, whose
+-- trail, if any, is then held.
+abbrev pub left_after : List ℕ → List ℕ → Unread
+left_after (t ∷ held) c = record { held = held; points = c }
+left_after [] [] = record { held = []; points = [] }
+left_after [] (p ∷ c) = record { held = drop 1 (units_of p); points = c }
+
+-- What an iterator has left after its first unit.
+abbrev pub unread_after : Unread → Unread
+unread_after s = left_after s.held s.points
+
+-- What is unread at byte position `at`: the trail that begins there, if any, and the code points after it.
+abbrev pub unread_at : (v : List ℕ) (at : ℕ) → IsWellFormed (after_held_trail (drop at v)) → Unread
+unread_at v at h = record { held = held_trail (drop at v); points = h.points }
+
+-- A step from position `at` to `next` reads the first unread unit and leaves the rest.
+pub record StepsUnit (v : List ℕ) (at : ℕ) (h : IsWellFormed (after_held_trail (drop at v))) (unit next : ℕ) : Type 0 where
+  pub within : next ≤ length v
+  pub after : IsWellFormed (after_held_trail (drop next v))
+  pub first : unread_units (unread_at v at h) ≡ unit ∷ unread_units (unread_at v next after)
+  pub left : unread_at v next after ≡ unread_after (unread_at v at h)

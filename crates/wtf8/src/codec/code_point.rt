@@ -1,0 +1,93 @@
+// Code points.
+ghost use Rattle.std.specs.Prelude.{◌≡◌, ◌↔◌, IsSome, IfSome, IsNone, Some};
+ghost use Rattle.std.specs.Fmt.{DisplaysOnOk, WritesStyledOnOk};
+ghost use Rattle.wtf8.specs.Debug.{debug_point};
+ghost use Rattle.wtf8.specs.Surrogates.{replace_surrogate};
+ghost use Rattle.wtf8.specs.Unicode.{IsCodePoint, IsSurrogate};
+
+use crate::formatting::debug_text;
+use std::fmt;
+
+/// A Unicode code point: a number from 0 to 0x10FFFF, surrogates included.
+///
+/// A `char` is a scalar value, a code point that is not a surrogate (0xD800 to 0xDFFF). Equality, order and hash are by
+/// the number, a `u32`.
+#[derive(Clone, Copy, PartialEq, Eq, PartialOrd, Ord, Hash)]
+pub struct CodePoint {
+    value: u32,
+    pub ghost in_range: { IsCodePoint value },
+}
+
+impl CodePoint {
+    ghost use Rattle.wtf8.specs.CodePoint.{number};
+
+    /// The code point with this number, or `None` if it is above 0x10FFFF.
+    pub fn from_u32(value: u32) -> Option<CodePoint>
+        ensures some { IsSome result ↔ IsCodePoint value }
+        ensures number { IfSome result (λ p. number p ≡ value) }
+    {
+        if value <= 0x10FFFF {
+            Some(CodePoint { value })
+        } else {
+            None
+        }
+    }
+
+    /// The code point with this number, which must be at most 0x10FFFF.
+    pub fn from_u32_unchecked(value: u32) -> CodePoint
+        requires { IsCodePoint value }
+        ensures { number result ≡ value }
+    {
+        CodePoint { value }
+    }
+
+    /// The code point of a `char`.
+    pub fn from_char(value: char) -> CodePoint
+        ensures { number result ≡ value }
+    {
+        CodePoint {
+            value: value as u32,
+        }
+    }
+
+    /// The number of the code point, at most 0x10FFFF.
+    pub fn to_u32(&self) -> u32
+        ensures value { result ≡ number self.now }
+        ensures range { IsCodePoint result }
+    {
+        self.value
+    }
+
+    /// The code point as a `char`, or `None` for a surrogate.
+    pub fn to_char(&self) -> Option<char>
+        ensures none { IsNone result ↔ IsSurrogate (number self.now) }
+        ensures some { IfSome result (λ c. c ≡ number self.now) }
+    {
+        char::from_u32(self.value)
+    }
+
+    /// The code point as a `char`, or U+FFFD, the replacement character, for a surrogate.
+    pub fn to_char_lossy(&self) -> char
+        ensures scalar { ¬ IsSurrogate (number self.now) → result ≡ number self.now }
+        ensures surrogate { IsSurrogate (number self.now) → result ≡ 0xFFFD }
+        ensures value { result ≡ replace_surrogate (number self.now) }
+    {
+        self.to_char().unwrap_or('\u{FFFD}')
+    }
+}
+
+/// Writes `U+` and the number in upper-case hexadecimal, with at least four digits. The formatter's width and flags are
+/// ignored.
+impl fmt::Debug for CodePoint {
+    ghost use Rattle.wtf8.specs.CodePoint.{number};
+
+    ghost debug_output = { λ p. Some (debug_point (number p)) };
+
+    fn fmt<W: fmt::Write>(&self, f: &mut fmt::Formatter<W>) -> fmt::Result
+        ensures writes { DisplaysOnOk W.write_str_gives f.old result (Some (debug_point (number self.now))) f.new }
+        ensures styled { WritesStyledOnOk W.write_str_gives f.old result (debug_point (number self.now)) f.new }
+    {
+        f.write_str("U+")?;
+        debug_text::write_upper_hex(self.value, f)
+    }
+}

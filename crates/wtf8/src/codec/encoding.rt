@@ -1,0 +1,256 @@
+// Encodes one code point at the end of a byte vector, and decodes the one at the front of a byte slice.
+ghost use Rattle.std.specs.Prelude.{◌≡◌, ◌++◌, ◌+◌, ◌-◌, ◌/◌, ◌%◌, ◌^◌, ◌<◌, ◌≤◌, ◌↔◌, ◌⊎◌};
+ghost use Rattle.std.specs.Prelude.{ℕ, List, IsTrue, length, slice_index, OnOk, IsOk, vec_len, vec_capacity};
+ghost use Rattle.wtf8.specs.CodePoint.{number};
+ghost use Rattle.wtf8.specs.Form.{encoding};
+ghost use Rattle.wtf8.specs.private.EncodedBytes.{BeginsWithPoint, FirstPointIs, BecomesOrKeeps};
+ghost use Rattle.wtf8.specs.Unicode.{IsCodePoint};
+ghost use Rattle.wtf8.specs.private.UnitIterator.{trail_from_bytes};
+
+use crate::codec::code_point::CodePoint;
+use std::alloc::{AllocError, Allocator};
+
+/// The continuation byte that holds the low six bits of `value`.
+#[inline(always)]
+fn continuation_byte(value: u32) -> u8
+    ensures { result ≡ 0x80 + value % 64 }
+{
+    (0x80 + value % 64) as u8
+}
+
+/// The encoding of a code point from 0x80 to 0x7FF.
+#[tactic(auto, using(crate::proofs::lemmas::codec::Encoding::encoding_two))]
+fn two_bytes(value: u32) -> [u8; 2]
+    requires low { 0x80 ≤ value }
+    requires high { value < 0x800 }
+    ensures { result ≡ encoding value }
+{
+    [(0xC0 + value / 64) as u8, continuation_byte(value)]
+}
+
+/// The encoding of a code point from 0x800 to 0xFFFF, surrogates included.
+#[tactic(auto, using(crate::proofs::lemmas::codec::Encoding::encoding_three))]
+pub(crate) fn three_bytes(value: u32) -> [u8; 3]
+    requires low { 0x800 ≤ value }
+    requires high { value < 0x10000 }
+    ensures { result ≡ encoding value }
+{
+    [
+        (0xE0 + value / 4096) as u8,
+        continuation_byte(value / 64),
+        continuation_byte(value),
+    ]
+}
+
+/// The encoding of a supplementary code point.
+#[tactic(auto, using(crate::proofs::lemmas::codec::Encoding::encoding_four))]
+pub(crate) fn four_bytes(value: u32) -> [u8; 4]
+    requires low { 0x10000 ≤ value }
+    requires high { IsCodePoint value }
+    ensures { result ≡ encoding value }
+{
+    [
+        (0xF0 + value / 262144 % 8) as u8,
+        continuation_byte(value / 4096),
+        continuation_byte(value / 64),
+        continuation_byte(value),
+    ]
+}
+
+/// The spare capacity in bytes.
+#[inline(always)]
+pub(crate) fn spare_capacity<A: Allocator>(bytes: &Vec<u8, A>) -> usize
+    ensures { vec_len bytes.now + result ≡ vec_capacity bytes.now }
+{
+    bytes.capacity() - bytes.len()
+}
+
+/// Reserves `count` bytes of spare capacity. The truncation removes nothing: it tells the compiler the length, which a
+/// loop that follows then keeps in a register.
+#[inline(always)]
+pub(crate) fn reserve_with_known_len<A: Allocator>(
+    bytes: &mut Vec<u8, A>,
+    count: usize,
+) -> Result<(), AllocError>
+    ensures items { bytes.new.items ≡ bytes.old.items }
+    ensures ok { OnOk result (vec_len bytes.new + count ≤ vec_capacity bytes.new) }
+    ensures room { vec_len bytes.old + count ≤ vec_capacity bytes.old → IsOk result }
+    ensures capacity { vec_capacity bytes.old ≤ vec_capacity bytes.new }
+{
+    let len = bytes.len();
+    bytes.reserve(count)?;
+    bytes.truncate(len);
+    Ok(())
+}
+
+/// Reserves `count` bytes of spare capacity if `spare`, the present spare capacity, is not enough.
+#[inline(always)]
+fn reserve_if_short<A: Allocator>(
+    bytes: &mut Vec<u8, A>,
+    spare: usize,
+    count: usize,
+) -> Result<(), AllocError>
+    requires { vec_len bytes.old + spare ≡ vec_capacity bytes.old }
+    ensures items { bytes.new.items ≡ bytes.old.items }
+    ensures len { vec_len bytes.new ≡ vec_len bytes.old }
+    ensures ok { OnOk result (vec_len bytes.new + count ≤ vec_capacity bytes.new) }
+    ensures room { vec_len bytes.old + count ≤ vec_capacity bytes.old → IsOk result }
+    ensures capacity { vec_capacity bytes.old ≤ vec_capacity bytes.new }
+{
+    if count <= spare {
+        return Ok(());
+    }
+    bytes.reserve(count)
+}
+
+/// Appends a code point's encoding, without joining a trail to a lead before it. A refusal leaves `bytes` unchanged.
+#[inline(always)]
+pub(crate) fn append<A: Allocator>(
+    bytes: &mut Vec<u8, A>,
+    code_point: CodePoint,
+) -> Result<(), AllocError>
+    ensures { BecomesOrKeeps bytes.old (bytes.old.items ++ encoding (number code_point)) bytes.new result }
+{
+    let spare = spare_capacity(bytes);
+    append_with_spare(bytes, spare, code_point)
+}
+
+/// Appends the encoding of a code point; `spare` is the present spare capacity.
+#[inline(always)]
+#[tactic(auto, using(crate::proofs::lemmas::codec::Encoding::encoding_one))]
+pub(crate) fn append_with_spare<A: Allocator>(
+    bytes: &mut Vec<u8, A>,
+    spare: usize,
+    code_point: CodePoint,
+) -> Result<(), AllocError>
+    requires { vec_len bytes.old + spare ≡ vec_capacity bytes.old }
+    ensures { BecomesOrKeeps bytes.old (bytes.old.items ++ encoding (number code_point)) bytes.new result }
+{
+    let value = code_point.to_u32();
+    if value < 0x80 {
+        reserve_if_short(bytes, spare, 1)?;
+        bytes.push_reserved(value as u8);
+    } else if value < 0x800 {
+        let [first, second] = two_bytes(value);
+        reserve_if_short(bytes, spare, 2)?;
+        bytes.push_reserved(first);
+        bytes.push_reserved(second);
+    } else if value < 0x10000 {
+        let [first, second, third] = three_bytes(value);
+        reserve_if_short(bytes, spare, 3)?;
+        bytes.push_reserved(first);
+        bytes.push_reserved(second);
+        bytes.push_reserved(third);
+    } else {
+        let [first, second, third, fourth] = four_bytes(value);
+        reserve_if_short(bytes, spare, 4)?;
+        bytes.push_reserved(first);
+        bytes.push_reserved(second);
+        bytes.push_reserved(third);
+        bytes.push_reserved(fourth);
+    }
+    Ok(())
+}
+
+/// Whether a byte begins an encoding: it is not a continuation byte, which is from 0x80 to 0xBF.
+pub(crate) fn begins_code_point(byte: u8) -> bool
+    ensures { IsTrue result ↔ ((byte < 0x80) ⊎ (0xC0 ≤ byte)) }
+{
+    byte < 0x80 || 0xC0 <= byte
+}
+
+/// The low six bits of a continuation byte.
+pub(crate) fn payload_bits(byte: u8) -> u32
+    requires inside { 0x80 ≤ byte }
+    ensures { result + 0x80 ≡ byte }
+{
+    u32::from(byte - 0x80)
+}
+
+/// The code point at the front of `bytes`, encoded in two bytes.
+#[inline(always)]
+pub(crate) fn read_two(bytes: &[u8]) -> u32
+    requires front { BeginsWithPoint bytes.now }
+    requires least { 0x80 ≤ slice_index bytes.now 0 }
+    requires most { slice_index bytes.now 0 < 0xE0 }
+    ensures read { FirstPointIs bytes.now result 2 }
+    ensures one_unit { result < 0x10000 }
+{
+    (u32::from(bytes[0]) - 0xC0) * 64 + payload_bits(bytes[1])
+}
+
+/// The code point at the front of `bytes`, encoded in three bytes.
+#[inline(always)]
+pub(crate) fn read_three(bytes: &[u8]) -> u32
+    requires front { BeginsWithPoint bytes.now }
+    requires least { 0xE0 ≤ slice_index bytes.now 0 }
+    requires most { slice_index bytes.now 0 < 0xF0 }
+    ensures read { FirstPointIs bytes.now result 3 }
+    ensures one_unit { result < 0x10000 }
+{
+    let high = (u32::from(bytes[0]) - 0xE0) * 64 + payload_bits(bytes[1]);
+    high * 64 + payload_bits(bytes[2])
+}
+
+/// The code point at the front of `bytes`, encoded in four bytes.
+#[inline(always)]
+fn read_four(bytes: &[u8]) -> u32
+    requires front { BeginsWithPoint bytes.now }
+    requires least { 0xF0 ≤ slice_index bytes.now 0 }
+    ensures { FirstPointIs bytes.now result 4 }
+{
+    let high = (u32::from(bytes[0]) - 0xF0) * 64 + payload_bits(bytes[1]);
+    let middle = high * 64 + payload_bits(bytes[2]);
+    middle * 64 + payload_bits(bytes[3])
+}
+
+/// The lead surrogate of the supplementary code point at the front of `bytes`.
+#[inline(always)]
+pub(crate) fn read_lead(bytes: &[u8]) -> u16
+    requires front { BeginsWithPoint bytes.now }
+    requires least { 0xF0 ≤ slice_index bytes.now 0 }
+    ensures { (b : BeginsWithPoint bytes.now) → result ≡ 0xD800 + (b.point - 0x10000) / 0x400 }
+{
+    let high = (u32::from(bytes[0]) - 0xF0) * 64 + payload_bits(bytes[1]);
+    // The lead is 0xD800 + ((code point - 0x10000) >> 10), and 0x10000 >> 10 is 0x40.
+    (0xD800 - 0x40 + high * 4 + payload_bits(bytes[2]) / 16) as u16
+}
+
+/// The trail surrogate of a supplementary code point; `bytes` begins with the last two bytes of its encoding.
+#[inline(always)]
+pub(crate) fn read_trail(bytes: &[u8]) -> u16
+    requires { 1 < length bytes.now }
+    ensures { result ≡ trail_from_bytes (slice_index bytes.now 0) (slice_index bytes.now 1) }
+{
+    (0xDC00 + u32::from(bytes[0] % 16) * 64 + u32::from(bytes[1] % 64)) as u16
+}
+
+/// The number of the code point at the front of `bytes`, which is at byte position `at`, and the position after it.
+#[inline(always)]
+fn read_number(bytes: &[u8], at: usize) -> (u32, usize)
+    requires front { BeginsWithPoint bytes.now }
+    requires within { at + length bytes.now < 2 ^ 64 }
+    ensures { (b : BeginsWithPoint bytes.now) → (result.0 ≡ b.point) × (result.1 ≡ at + length (encoding b.point)) }
+{
+    let first = bytes[0];
+    if first < 0x80 {
+        (u32::from(first), at + 1)
+    } else if first < 0xE0 {
+        (read_two(bytes), at + 2)
+    } else if first < 0xF0 {
+        (read_three(bytes), at + 3)
+    } else {
+        (read_four(bytes), at + 4)
+    }
+}
+
+/// The code point at the front of `bytes`, which is at byte position `at`, and the position after it.
+#[inline(always)]
+pub(crate) fn read(bytes: &[u8], at: usize) -> (CodePoint, usize)
+    requires front { BeginsWithPoint bytes.now }
+    requires within { at + length bytes.now < 2 ^ 64 }
+    ensures { (b : BeginsWithPoint bytes.now) → (number result.0 ≡ b.point) × (result.1 ≡ at + length (encoding b.point)) }
+{
+    let (value, after) = read_number(bytes, at);
+    (CodePoint::from_u32_unchecked(value), after)
+}

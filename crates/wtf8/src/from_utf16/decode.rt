@@ -1,0 +1,124 @@
+// Decodes UTF-16 code units to code points.
+ghost use Rattle.std.specs.Prelude.{◌≡◌, ◌↔◌, ℕ, ◌-◌, ◌<◌, ◌≤◌, List, [], ◌∷◌, length, take, drop, Result, None, IsTrue, MatchResult};
+ghost use Rattle.std.specs.Iterator.{count_map, Drains};
+ghost use Rattle.std.specs.Iterator.Adapters.{peekable_can, peekable_source, peekable_peeked, items_left_with_peeked};
+ghost use Rattle.wtf8.specs.CodePoint.{number};
+ghost use Rattle.wtf8.specs.private.Decoding.{point_of, units_left, decode_steps, ReadsAll};
+ghost use Rattle.wtf8.specs.Form.{Reads};
+ghost use Rattle.wtf8.specs.Unicode.{IsCodePoint, IsLead, IsTrail, IsSurrogate, pair};
+ghost use Rattle.wtf8.specs.private.ConvertedPrefix.{DividesNoPair};
+
+use crate::codec::code_point::CodePoint;
+use crate::codec::surrogates::{self, FIRST_LEAD, LAST_LEAD, LAST_TRAIL};
+use std::iter::Ahead;
+
+/// Decodes the units that an iterator yields: each item is `Ok` of a `char` or `Err` of a lone surrogate.
+///
+/// A lead and the trail directly after it are one `char`, and so is a unit that is not a surrogate.
+pub(crate) fn decode_utf16<I: Iterator<Item = u16>>(iter: I) -> DecodeUtf16<I>
+    ensures source { peekable_source (units_left result) ≡ iter }
+    ensures peeked { peekable_peeked (units_left result) ≡ None }
+
+    // The items up to the end are a reading of the units, whatever units the iterator yields.
+    ensures reads { (items : List (Result ℕ ℕ)) → Drains (decode_steps I.next_gives) result items → ReadsAll I.next_gives iter items }
+{
+    DecodeUtf16 {
+        units: iter.peekable(),
+    }
+}
+
+/// An iterator that decodes the units of another iterator, made by `decode_utf16`.
+///
+/// After a lone lead it keeps the next unit, which is already read, until the next call.
+#[derive(Drop)]
+pub(crate) struct DecodeUtf16<I> {
+    units: Ahead<I, u16>,
+}
+
+/// Whether a unit is a trail surrogate.
+fn is_trail_unit(unit: &u16) -> bool
+    ensures { IsTrue result ↔ IsTrail unit.now }
+{
+    surrogates::is_trail(u32::from(*unit))
+}
+
+/// The code point of one unit, which may be a surrogate.
+pub(crate) fn point_of_unit(unit: u16) -> CodePoint
+    ensures { number result ≡ unit }
+{
+    CodePoint::from_u32_unchecked(u32::from(unit))
+}
+
+/// The unit as a `char`, or `Err` of the unit if it is a surrogate.
+#[inline(always)]
+fn char_or_surrogate(unit: u16) -> Result<char, u16>
+    ensures kind { MatchResult result (λ c. IsCodePoint c × ¬ (IsSurrogate c)) IsSurrogate }
+    ensures point { point_of result ≡ unit }
+{
+    char::from_u32(u32::from(unit)).ok_or(unit)
+}
+
+/// The supplementary `char` of a surrogate pair.
+fn char_of_pair(lead: u16, trail: u16) -> char
+    requires lead { IsLead lead }
+    requires trail { IsTrail trail }
+    ensures { result ≡ pair lead trail }
+{
+    unsafe {
+        char::from_u32_unchecked(surrogates::code_point_of_pair(u32::from(lead), u32::from(trail)))
+    }
+}
+
+impl<I: Iterator<Item = u16>> Iterator for DecodeUtf16<I> {
+    type Item = Result<char, u16>;
+
+    ghost can_next = { λ s. peekable_can I.can_next (units_left s) };
+
+    ghost next_gives = { decode_steps I.next_gives };
+
+    ghost remaining = { λ s. count_map (items_left_with_peeked (peekable_peeked (units_left s))) (I.remaining (peekable_source (units_left s))) };
+
+    fn next(&mut self) -> Option<Result<char, u16>> {
+        let unit = self.units.next()?;
+        if unit < FIRST_LEAD {
+            // Most units: one comparison instead of two, after which the conversion to `char` is known to succeed.
+            return Some(char_or_surrogate(unit));
+        }
+        match unit {
+            FIRST_LEAD..=LAST_LEAD => match self.units.next_if(is_trail_unit) {
+                Some(trail) => Some(Ok(char_of_pair(unit, trail))),
+                None => Some(Err(unit)),
+            },
+            _ => Some(char_or_surrogate(unit)),
+        }
+    }
+
+    fn size_hint(&self) -> (usize, Option<usize>) {
+        let (low, high) = self.units.size_hint();
+        (low / 2, high)
+    }
+}
+
+/// The code point that begins at index `at`, the index after it, and whether it is a scalar value.
+#[inline(always)]
+pub(crate) fn read_point(v: &[u16], at: usize) -> (CodePoint, usize, bool)
+    requires { at < length v.now }
+    ensures order { at < result.1 }
+    ensures within { result.1 ≤ length v.now }
+    ensures apart { DividesNoPair v.now result.1 }
+    ensures reads { Reads (number result.0 ∷ []) (take (result.1 - at) (drop at v.now)) }
+    ensures scalar { IsTrue result.2 → ¬ (IsSurrogate (number result.0)) }
+{
+    let unit = v[at];
+    if unit < FIRST_LEAD || LAST_TRAIL < unit {
+        return (point_of_unit(unit), at + 1, true);
+    }
+    let Some(item) = decode_utf16(v[at..].iter().copied()).next() else {
+        unreachable!()
+    };
+    match item {
+        // The unit is a surrogate, so the `char` is that of a pair: two units.
+        Ok(character) => (CodePoint::from_char(character), at + 2, true),
+        Err(surrogate) => (point_of_unit(surrogate), at + 1, false),
+    }
+}

@@ -1,0 +1,148 @@
+// Bytes written as upper-case hexadecimal text.
+ghost use Rattle.std.specs.List.{flat_map};
+ghost use Rattle.std.specs.Prelude.{◌≡◌, [], ◌++◌, ◌+◌, ◌*◌, ◌<◌, ◌≤◌, length, map, take, vec_len, vec_capacity, IfOk, OnOk, OnErr, IsOk};
+ghost use Rattle.std.specs.Simd.Lanes.{Each1};
+ghost use Rattle.std.specs.String.{string_bytes};
+ghost use Rattle.wtf8.specs.Hex.{digit, hex_of, hex};
+ghost use Rattle.wtf8.specs.private.SpacedHex.{spaced_hex};
+
+use crate::lanes::VECTOR;
+use std::alloc::{AllocError, Allocator};
+use std::simd::prelude::*;
+
+/// The length of the text of one vector: a space and two digits for each byte.
+const SPACED_LEN: usize = 3 * VECTOR;
+
+/// The upper-case digits, each at the index of its value.
+const DIGITS: [u8; VECTOR] = *b"0123456789ABCDEF";
+
+/// Interleaves lanes 0 to 7 of the high digits and of the low digits.
+const INTERLEAVE_FRONT: [usize; VECTOR] = [0, 16, 1, 17, 2, 18, 3, 19, 4, 20, 5, 21, 6, 22, 7, 23];
+
+/// Interleaves lanes 4 to 11 of the high digits and of the low digits.
+const INTERLEAVE_MIDDLE: [usize; VECTOR] = [
+    4, 20, 5, 21, 6, 22, 7, 23, 8, 24, 9, 25, 10, 26, 11, 27,
+];
+
+/// Interleaves lanes 8 to 15 of the high digits and of the low digits.
+const INTERLEAVE_BACK: [usize; VECTOR] = [
+    8, 24, 9, 25, 10, 26, 11, 27, 12, 28, 13, 29, 14, 30, 15, 31,
+];
+
+/// Bytes 0 to 15 of the spaced text, from the digits that `INTERLEAVE_FRONT` interleaves; 16 is a space.
+const SPACED_FRONT: [usize; VECTOR] = [16, 0, 1, 16, 2, 3, 16, 4, 5, 16, 6, 7, 16, 8, 9, 16];
+
+/// Bytes 16 to 31 of the spaced text, from the digits that `INTERLEAVE_MIDDLE` interleaves; 16 is a space.
+const SPACED_MIDDLE: [usize; VECTOR] = [2, 3, 16, 4, 5, 16, 6, 7, 16, 8, 9, 16, 10, 11, 16, 12];
+
+/// Bytes 32 to 47 of the spaced text, from the digits that `INTERLEAVE_BACK` interleaves; 16 is a space.
+const SPACED_BACK: [usize; VECTOR] = [5, 16, 6, 7, 16, 8, 9, 16, 10, 11, 16, 12, 13, 16, 14, 15];
+
+/// The upper-case digit of a value below 16.
+#[inline(always)]
+#[tactic(auto, using(crate::proofs::lemmas::lanes::HexDigits::digit_at))]
+pub(crate) fn upper_digit(value: u8) -> char
+    requires { value < 16 }
+    ensures digit { result ≡ digit value }
+    ensures ascii { result < 128 }
+{
+    DIGITS[usize::from(value)] as char
+}
+
+/// The upper-case digits of values below 16, by a table lookup in lanes.
+#[inline(always)]
+fn upper_digits(values: u8x16) -> u8x16
+    requires { Each1 (λ value. value < 16) values }
+    ensures { result ≡ map digit values }
+{
+    u8x16::from_array(DIGITS).swizzle_dyn(values)
+}
+
+/// The text of one vector: a space and two digits for each byte.
+#[inline(always)]
+#[tactic(auto, using(crate::proofs::lemmas::lanes::HexDigits::highs_below, crate::proofs::lemmas::lanes::HexDigits::lows_below, crate::proofs::lemmas::lanes::HexDigits::block_text))]
+fn spaced_block(bytes: u8x16) -> [u8; SPACED_LEN]
+    ensures { result ≡ flat_map spaced_hex bytes }
+{
+    let high = upper_digits(bytes >> u8x16::splat(4));
+    let low = upper_digits(bytes & u8x16::splat(15));
+    let spaces = u8x16::splat(b' ');
+    let front: u8x16 = high.shuffle(low, INTERLEAVE_FRONT);
+    let middle: u8x16 = high.shuffle(low, INTERLEAVE_MIDDLE);
+    let back: u8x16 = high.shuffle(low, INTERLEAVE_BACK);
+    let mut text = [0; SPACED_LEN];
+    front.shuffle(spaces, SPACED_FRONT).copy_to_slice(&mut text);
+    middle
+        .shuffle(spaces, SPACED_MIDDLE)
+        .copy_to_slice(&mut text[VECTOR..]);
+    back.shuffle(spaces, SPACED_BACK)
+        .copy_to_slice(&mut text[2 * VECTOR..]);
+    text
+}
+
+/// Appends a space and two digits for each byte of a vector, within the spare capacity.
+#[inline(always)]
+fn push_spaced_block<A: Allocator>(text: &mut Vec<u8, A>, bytes: u8x16)
+    requires { vec_len text.old + SPACED_LEN ≤ vec_capacity text.old }
+    ensures items { text.new.items ≡ text.old.items ++ flat_map spaced_hex bytes }
+    ensures len { vec_len text.new ≡ vec_len text.old + SPACED_LEN }
+    ensures capacity { vec_capacity text.old ≤ vec_capacity text.new }
+{
+    let block = spaced_block(bytes);
+    let _ = text.extend_from_slice(&block);
+}
+
+/// Appends the two digits of a byte, within the spare capacity.
+#[inline(always)]
+fn push_hex_byte<A: Allocator>(text: &mut Vec<u8, A>, byte: u8)
+    requires { vec_len text.old + 2 ≤ vec_capacity text.old }
+    ensures items { text.new.items ≡ text.old.items ++ hex_of byte }
+    ensures capacity { vec_capacity text.new ≡ vec_capacity text.old }
+{
+    text.push_reserved(upper_digit(byte / 16) as u8);
+    text.push_reserved(upper_digit(byte % 16) as u8);
+}
+
+/// Appends a space and two digits for each byte, within the spare capacity.
+#[inline(always)]
+fn push_spaced<A: Allocator>(text: &mut Vec<u8, A>, bytes: &[u8])
+    requires { vec_len text.old + 3 * length bytes.now ≤ vec_capacity text.old }
+    ensures { text.new.items ≡ text.old.items ++ flat_map spaced_hex bytes.now }
+{
+    for byte in bytes {
+        text.push_reserved(b' ');
+        push_hex_byte(text, *byte);
+    }
+}
+
+/// Appends two upper-case digits for each byte, with a space between bytes. First reserves three bytes of text for each
+/// byte; if that is refused, the text is unchanged.
+pub(crate) fn push_hex<A: Allocator>(text: &mut Vec<u8, A>, bytes: &[u8]) -> Result<(), AllocError>
+    ensures ok { OnOk result (text.new.items ≡ text.old.items ++ hex bytes.now) }
+    ensures kept { OnErr result (text.new.items ≡ text.old.items) }
+    ensures room { vec_len text.old + 3 * length bytes.now ≤ vec_capacity text.old → IsOk result }
+{
+    text.reserve(bytes.len().saturating_mul(3))?;
+    let Some((first, rest)) = bytes.split_first() else {
+        return Ok(());
+    };
+    push_hex_byte(text, *first);
+    let mut at = 0;
+    while VECTOR <= rest.len() - at {
+        push_spaced_block(text, u8x16::from_slice(&rest[at..]));
+        at += VECTOR;
+    }
+    push_spaced(text, &rest[at..]);
+    Ok(())
+}
+
+/// Two upper-case digits for each byte, with a space between bytes. Reserves three bytes of text for each byte in one
+/// request, and requests no memory for an empty slice.
+pub(crate) fn hex_text<A: Allocator>(alloc: A, bytes: &[u8]) -> Result<String<A>, AllocError>
+    ensures ok { IfOk result (λ t. string_bytes t ≡ hex bytes.now) }
+    ensures empty { bytes.now ≡ [] → IsOk result }
+{
+    let mut text = Vec::with_capacity(alloc, bytes.len().saturating_mul(3))?;
+    push_hex(&mut text, bytes)?;
+    Ok(unsafe { String::from_utf8_unchecked(text) })
+}

@@ -1,0 +1,421 @@
+// Conversion to UTF-16: the code units of a string, appended to a vector.
+ghost use Rattle.std.specs.Prelude.{◌≡◌, ℕ, ◌++◌, ◌+◌, ◌*◌, ◌<◌, ◌≤◌, length, take, drop, IsOk, IsTrue, OnOk, OnErr, false, vec_len, vec_capacity};
+ghost use lib.Lanes.{Each1};
+ghost use Rattle.wtf8.specs.CodePoint.{number};
+ghost use Rattle.wtf8.specs.Form.{IsWellFormed};
+ghost use Rattle.wtf8.specs.private.EncodedBytes.{FirstPointIs, BecomesOrKeeps};
+ghost use Rattle.wtf8.specs.Unicode.{units_of};
+ghost use Rattle.wtf8.specs.private.EncodedRuns.{HasBitPrefix, BeginsWithUnits, lead_bytes_of, unit_of_two, unit_of_three, units_of_run, Writes};
+ghost use Rattle.wtf8.specs.View.{view_points, view_units};
+
+use crate::codec::code_point::CodePoint;
+use crate::codec::encoding;
+use crate::codec::surrogates::{lead_of, trail_of};
+use crate::lanes::VECTOR;
+use crate::lanes::copies::push_block;
+use crate::lanes::masks::first_set_lane;
+use crate::strings::unit_positions::is_ascii_overlapping;
+use crate::strings::view::Wtf8;
+use std::alloc::{AllocError, Allocator};
+use std::simd::prelude::*;
+
+/// Shuffle indices: the lead bytes of eight two-byte code points; below, their second bytes.
+const FIRST_OF_TWO: [usize; 8] = [0, 2, 4, 6, 8, 10, 12, 14];
+
+const SECOND_OF_TWO: [usize; 8] = [1, 3, 5, 7, 9, 11, 13, 15];
+
+/// Shuffle indices: the lead bytes of eight three-byte code points; below, their second and their third bytes.
+const FIRST_OF_THREE: [usize; 8] = [0, 3, 6, 9, 12, 15, 18, 21];
+
+const SECOND_OF_THREE: [usize; 8] = [1, 4, 7, 10, 13, 16, 19, 22];
+
+const THIRD_OF_THREE: [usize; 8] = [2, 5, 8, 11, 14, 17, 20, 23];
+
+/// Strings of fewer bytes than this, except ASCII ones of 1 to 15 bytes, are decoded into a buffer on the stack, so
+/// that their units need not be counted before memory is requested.
+const SCRATCH_UNITS: usize = 4 * VECTOR;
+
+/// Code points of one unit and `WIDTH` bytes each, of which `N` are decoded from a load of `BYTES` bytes.
+trait EncodedLength<const N: usize, const WIDTH: usize, const BYTES: usize> {
+    /// Decodes `N` code points as if all had `WIDTH` bytes. Returns their units, and how many of them at the front are
+    /// right: the ones before the first code point of another length.
+    fn read(bytes: &[u8]) -> ([u16; N], usize)
+        requires { BYTES ≤ length bytes.now }
+        ensures within { (result.1 ≤ N) × (result.1 ≤ WIDTH * result.1) × (WIDTH * result.1 ≤ BYTES) }
+        ensures more { result.1 < N → WIDTH * result.1 < BYTES }
+        ensures begins { BeginsWithUnits bytes.now (take result.1 result.0) (WIDTH * result.1) };
+
+    /// Whether `byte` begins a code point of this kind.
+    fn is_lead_byte(byte: u8) -> bool;
+}
+
+/// ASCII.
+struct OneByte;
+
+/// Code points of two bytes.
+struct TwoBytes;
+
+/// Code points of three bytes, surrogates included.
+struct ThreeBytes;
+
+/// The part of a view that is not decoded yet, and the index at which its first unit will be written.
+#[derive(Clone, Copy)]
+struct Undecoded<'a> {
+    view: Wtf8<'a>,
+    at: usize,
+}
+
+/// Writes `N` units from index `at` on.
+#[inline(always)]
+fn store_units<const N: usize>(units: &mut [u16], at: usize, block: [u16; N])
+    requires lanes { N ≤ u64.BITS }
+    requires room { at + N ≤ length units.old }
+    ensures front { (n : ℕ) → n ≤ N → take (at + n) units.new ≡ take at units.old ++ take n block.entry }
+    ensures len { length units.new ≡ length units.old }
+{
+    Simd::from_array(block).copy_to_slice(&mut units[at..]);
+}
+
+/// Widens each byte to a code unit.
+#[inline(always)]
+fn widen_bytes<const N: usize>(block: Simd<u8, N>) -> [u16; N]
+    requires lanes { N ≤ u64.BITS }
+    ensures { result ≡ block.entry }
+{
+    block.cast::<u16>().to_array()
+}
+
+/// Appends the units of an ASCII string of `N` to `2 * N` bytes by its first and its last `N` bytes, which may overlap.
+#[inline(always)]
+fn append_ascii_overlapping<const N: usize, B: Allocator>(
+    units: &mut Vec<u16, B>,
+    view: Wtf8<'_>,
+) -> Result<(), AllocError>
+    requires lanes { N ≤ u64.BITS }
+    requires all { (N ≤ length view.bytes.now) × (length view.bytes.now ≤ 2 * N) }
+    requires ascii { view_units view ≡ view.bytes.now }
+    ensures { BecomesOrKeeps units.old (units.old.items ++ view_units view.entry) units.new result }
+{
+    let bytes = view.bytes;
+    units.reserve(bytes.len())?;
+    let last = bytes.len() - N;
+    let end = units.len() + last;
+    push_block(units, widen_bytes(Simd::<u8, N>::from_slice(bytes)));
+    units.truncate(end);
+    push_block(
+        units,
+        widen_bytes(Simd::<u8, N>::from_slice(&bytes[last..])),
+    );
+    Ok(())
+}
+
+/// Writes the one unit of the first code point, which has the number `value` and `width` bytes.
+#[inline(always)]
+fn write_unit<'a>(units: &mut [u16], left: Undecoded<'a>, value: u32, width: usize) -> Undecoded<'a>
+    requires room { left.at + length (view_units left.view) ≤ length units.old }
+    requires some { 0 < length left.view.bytes.now }
+    requires read { FirstPointIs left.view.bytes.now value width }
+    requires one_unit { value < 0x10000 }
+    ensures written { Writes units.old left.entry.at (view_units left.entry.view) units.new result.at (view_units result.view) }
+    ensures shorter { length result.view.bytes.now < length left.entry.view.bytes.now }
+{
+    write_units(units, left, [value as u16], 1, width)
+}
+
+/// Decodes the first code point and writes its one or two units.
+#[inline(always)]
+fn decode_point<'a>(units: &mut [u16], left: Undecoded<'a>) -> Undecoded<'a>
+    requires room { left.at + length (view_units left.view) ≤ length units.old }
+    requires some { 0 < length left.view.bytes.now }
+    ensures written { Writes units.old left.entry.at (view_units left.entry.view) units.new result.at (view_units result.view) }
+    ensures shorter { length result.view.bytes.now < length left.entry.view.bytes.now }
+{
+    let bytes = left.view.bytes;
+    match bytes[0] {
+        0x80..=0xDF => write_unit(units, left, encoding::read_two(bytes), 2),
+        0xE0..=0xEF => write_unit(units, left, encoding::read_three(bytes), 3),
+        _ => {
+            let (code_point, width) = encoding::read(bytes, 0);
+            let value = code_point.to_u32();
+            if value < 0x10000 {
+                return write_unit(units, left, value, width);
+            }
+            let pair = [lead_of(value) as u16, trail_of(value) as u16];
+            write_units(units, left, pair, 2, width)
+        }
+    }
+}
+
+/// Returns the number of lanes before the first with `byte / size != prefix`. Size and prefix are 128 and 0 for ASCII,
+/// 32 and 6 for lead bytes of two-byte code points, 16 and 14 for lead bytes of three-byte ones.
+#[inline(always)]
+fn count_leading_with_prefix<const N: usize>(bytes: Simd<u8, N>, size: u8, prefix: u8) -> usize
+    requires lanes { N ≤ u64.BITS }
+    requires size { 0 < size }
+    ensures within { result ≤ N }
+    ensures each { Each1 (HasBitPrefix size prefix) (take result bytes.entry) }
+{
+    let kinds = bytes / Simd::splat(size);
+    first_set_lane(kinds.simd_ne(Simd::splat(prefix)).to_bitmask()).unwrap_or(N)
+}
+
+/// Decodes eight two-byte code points. Returns their lead bytes, which are not checked here, and their units.
+#[inline(always)]
+fn read_twos(bytes: u8x16) -> (u8x8, [u16; 8])
+    ensures firsts { result.0 ≡ lead_bytes_of 2 8 bytes }
+    ensures units { result.1 ≡ units_of_run 2 unit_of_two 8 bytes }
+{
+    let first: u8x8 = bytes.shuffle(bytes, FIRST_OF_TWO);
+    let second: u8x8 = bytes.shuffle(bytes, SECOND_OF_TWO);
+    let high = (first % u8x8::splat(32)).cast::<u16>();
+    let low = (second % u8x8::splat(64)).cast::<u16>();
+    let units = high.strict_mul(u16x8::splat(64)).strict_add(low);
+    (first, units.to_array())
+}
+
+/// Decodes eight three-byte code points. Returns their lead bytes, which are not checked here, and their units.
+#[inline(always)]
+fn read_threes(bytes: u8x32) -> (u8x8, [u16; 8])
+    ensures firsts { result.0 ≡ lead_bytes_of 3 8 bytes }
+    ensures units { result.1 ≡ units_of_run 3 unit_of_three 8 bytes }
+{
+    let first: u8x8 = bytes.shuffle(bytes, FIRST_OF_THREE);
+    let second: u8x8 = bytes.shuffle(bytes, SECOND_OF_THREE);
+    let third: u8x8 = bytes.shuffle(bytes, THIRD_OF_THREE);
+    let high = (first % u8x8::splat(16)).cast::<u16>();
+    let middle = (second % u8x8::splat(64)).cast::<u16>();
+    let low = (third % u8x8::splat(64)).cast::<u16>();
+    let above = high
+        .strict_mul(u16x8::splat(64))
+        .strict_add(middle)
+        .strict_mul(u16x8::splat(64));
+    (first, above.strict_add(low).to_array())
+}
+
+impl EncodedLength<16, 1, 16> for OneByte {
+    #[inline(always)]
+    fn read(bytes: &[u8]) -> ([u16; 16], usize) {
+        let block = u8x16::from_slice(bytes);
+        (widen_bytes(block), count_leading_with_prefix(block, 128, 0))
+    }
+
+    #[inline(always)]
+    fn is_lead_byte(byte: u8) -> bool {
+        byte < 0x80
+    }
+}
+
+impl EncodedLength<8, 2, 16> for TwoBytes {
+    #[inline(always)]
+    fn read(bytes: &[u8]) -> ([u16; 8], usize) {
+        let (firsts, units) = read_twos(u8x16::from_slice(bytes));
+        (units, count_leading_with_prefix(firsts, 32, 6))
+    }
+
+    #[inline(always)]
+    fn is_lead_byte(byte: u8) -> bool {
+        byte / 32 == 6
+    }
+}
+
+impl EncodedLength<8, 3, 32> for ThreeBytes {
+    #[inline(always)]
+    fn read(bytes: &[u8]) -> ([u16; 8], usize) {
+        let (firsts, units) = read_threes(u8x32::from_slice(bytes));
+        (units, count_leading_with_prefix(firsts, 16, 14))
+    }
+
+    #[inline(always)]
+    fn is_lead_byte(byte: u8) -> bool {
+        byte / 16 == 14
+    }
+}
+
+/// Writes `block` and advances by `width` bytes and their `count` units; the units of `block` after these are
+/// overwritten later or never read.
+#[inline(always)]
+fn write_units<'a, const N: usize>(
+    units: &mut [u16],
+    left: Undecoded<'a>,
+    block: [u16; N],
+    count: usize,
+    width: usize,
+) -> Undecoded<'a>
+    requires lanes { N ≤ u64.BITS }
+    requires room { left.at + N ≤ length units.old }
+    requires within { (count ≤ N) × (width ≤ length left.view.bytes.now) }
+    requires begins { BeginsWithUnits left.view.bytes.now (take count block) width }
+    ensures written { Writes units.old left.entry.at (view_units left.entry.view) units.new result.at (view_units result.view) }
+    ensures bytes { result.view.bytes.now ≡ drop width left.entry.view.bytes.now }
+{
+    store_units(units, left.at, block);
+    Undecoded {
+        view: left.view.skip_bytes(width),
+        at: left.at + count,
+    }
+}
+
+/// Decodes the code points of a kind at the front of one block, and returns whether they fill it. Does nothing and
+/// returns false if fewer than `BYTES` bytes are left or there is no room for `N` units. A full block advances by a
+/// constant, so that the next load need not wait for the count.
+#[inline(always)]
+fn decode_block<
+    'a,
+    const N: usize,
+    const WIDTH: usize,
+    const BYTES: usize,
+    K: EncodedLength<N, WIDTH, BYTES>,
+>(units: &mut [u16], left: Undecoded<'a>) -> (Undecoded<'a>, bool)
+    requires lanes { (0 < N) × (N ≤ u64.BITS) }
+    requires room { left.at + length (view_units left.view) ≤ length units.old }
+    requires some { 0 < length left.view.bytes.now }
+    ensures written { Writes units.old left.entry.at (view_units left.entry.view) units.new result.0.at (view_units result.0.view) }
+    ensures whole { IsTrue result.1 → length result.0.view.bytes.now < length left.entry.view.bytes.now }
+    ensures part { result.1 ≡ false → 0 < length result.0.view.bytes.now }
+    ensures not_longer { length result.0.view.bytes.now ≤ length left.entry.view.bytes.now }
+{
+    let bytes = left.view.bytes;
+    if bytes.len() < BYTES || units.len() - left.at < N {
+        return (left, false);
+    }
+    let (block, count) = K::read(bytes);
+    if count == N {
+        return (write_units(units, left, block, N, WIDTH * N), true);
+    }
+    (write_units(units, left, block, count, WIDTH * count), false)
+}
+
+/// Decodes a run of code points of a kind by blocks. After a block that they do not fill, it decodes one code point of
+/// any kind. Ends when fewer than `BYTES` bytes are left or another kind follows.
+#[inline(always)]
+fn decode_run<
+    'a,
+    const N: usize,
+    const WIDTH: usize,
+    const BYTES: usize,
+    K: EncodedLength<N, WIDTH, BYTES>,
+>(units: &mut [u16], left: Undecoded<'a>) -> Undecoded<'a>
+    requires lanes { (0 < N) × (N ≤ u64.BITS) }
+    requires room { left.at + length (view_units left.view) ≤ length units.old }
+    requires some { 0 < length left.view.bytes.now }
+    ensures written { Writes units.old left.entry.at (view_units left.entry.view) units.new result.at (view_units result.view) }
+    ensures shorter { length result.view.bytes.now < length left.entry.view.bytes.now }
+{
+    let mut rest = left;
+    loop {
+        let (after, is_whole) = decode_block::<N, WIDTH, BYTES, K>(units, rest);
+        rest = if is_whole {
+            after
+        } else {
+            decode_point(units, after)
+        };
+        let bytes = rest.view.bytes;
+        if bytes.len() < BYTES || bytes.is_empty() || !K::is_lead_byte(bytes[0]) {
+            return rest;
+        }
+    }
+}
+
+/// Decodes a run by blocks if at least `VECTOR` bytes are left and the first two code points have the same length, at
+/// most three bytes; else one code point.
+#[inline(always)]
+fn decode_next<'a>(units: &mut [u16], left: Undecoded<'a>) -> Undecoded<'a>
+    requires room { left.at + length (view_units left.view) ≤ length units.old }
+    requires some { 0 < length left.view.bytes.now }
+    ensures written { Writes units.old left.entry.at (view_units left.entry.view) units.new result.at (view_units result.view) }
+    ensures shorter { length result.view.bytes.now < length left.entry.view.bytes.now }
+{
+    let bytes = left.view.bytes;
+    // The length is compared once here, since each of the patterns would compare it.
+    if bytes.len() < VECTOR {
+        return decode_point(units, left);
+    }
+    match bytes {
+        [0x00..=0x7F, 0x00..=0x7F, ..] => decode_run::<16, 1, 16, OneByte>(units, left),
+        [0xC0..=0xDF, _, 0xC0..=0xDF, ..] => decode_run::<8, 2, 16, TwoBytes>(units, left),
+        [0xE0..=0xEF, _, _, 0xE0..=0xEF, ..] => decode_run::<8, 3, 32, ThreeBytes>(units, left),
+        _ => decode_point(units, left),
+    }
+}
+
+/// Writes the units of a view from index `from` on, and returns the index after them.
+#[inline(never)]
+fn decode_all(units: &mut [u16], from: usize, view: Wtf8<'_>) -> usize
+    requires room { from + length (view_units view) ≤ length units.old }
+    ensures units { take result units.new ≡ take from units.old ++ view_units view.entry }
+    ensures index { result ≡ from + length (view_units view.entry) }
+    ensures len { length units.new ≡ length units.old }
+{
+    let mut left = Undecoded { view, at: from };
+    while !left.view.is_empty() {
+        left = decode_next(units, left);
+    }
+    left.at
+}
+
+/// Appends the units of a string of fewer than `SCRATCH_UNITS` bytes, by way of a buffer on the stack.
+#[inline(never)]
+fn append_through_scratch<B: Allocator>(
+    units: &mut Vec<u16, B>,
+    view: Wtf8<'_>,
+) -> Result<(), AllocError>
+    requires { length view.bytes.now < SCRATCH_UNITS }
+    ensures { BecomesOrKeeps units.old (units.old.items ++ view_units view.entry) units.new result }
+{
+    // There are no more units than bytes.
+    prove!(view.len() <= SCRATCH_UNITS);
+    let mut block = [0; SCRATCH_UNITS];
+    let count = decode_all(&mut block, 0, view);
+    units.extend_from_slice(&block[..count])
+}
+
+/// Appends the units of a string, which are counted first to size the vector.
+#[inline(never)]
+fn append_counted<B: Allocator>(units: &mut Vec<u16, B>, view: Wtf8<'_>) -> Result<(), AllocError>
+    ensures { BecomesOrKeeps units.old (units.old.items ++ view_units view.entry) units.new result }
+{
+    // There are no more units than bytes.
+    prove!(view.len() <= usize::MAX / 2);
+    let from = units.len();
+    units.resize(from + view.unit_len(), 0)?;
+    decode_all(units, from, view);
+    Ok(())
+}
+
+impl<'a> Wtf8<'a> {
+    /// Returns the view after the first `count` bytes.
+    #[inline(always)]
+    fn skip_bytes(self, count: usize) -> Wtf8<'a>
+        requires within { count ≤ length self.bytes.now }
+        requires well_formed { IsWellFormed (drop count self.bytes.now) }
+        ensures points { (h : IsWellFormed (drop count self.entry.bytes.now)) → view_points result ≡ h.points }
+        ensures bytes { result.bytes.now ≡ drop count self.entry.bytes.now }
+    {
+        let (_, rest) = self.bytes.split_at(count);
+        Wtf8::from_well_formed(rest)
+    }
+
+    /// Appends the 16-bit code units of the string to a vector. Reserves room for them first, and does not allocate if
+    /// they fit. If memory is refused, the vector is unchanged.
+    pub fn append_units<B: Allocator>(&self, units: &mut Vec<u16, B>) -> Result<(), AllocError>
+        ensures ok { OnOk result (units.new.items ≡ units.old.items ++ view_units self.now) }
+        ensures kept { OnErr result (units.new.items ≡ units.old.items) }
+        ensures room { vec_len units.old + length (view_units self.now) ≤ vec_capacity units.old → IsOk result }
+        ensures capacity { vec_capacity units.old ≤ vec_capacity units.new }
+    {
+        match self.len() {
+            1 if is_ascii_overlapping::<1>(*self) => append_ascii_overlapping::<1, B>(units, *self),
+            2..=3 if is_ascii_overlapping::<2>(*self) => append_ascii_overlapping::<2, B>(
+                units, *self,
+            ),
+            4..=7 if is_ascii_overlapping::<4>(*self) => append_ascii_overlapping::<4, B>(
+                units, *self,
+            ),
+            8..=15 if is_ascii_overlapping::<8>(*self) => append_ascii_overlapping::<8, B>(
+                units, *self,
+            ),
+            0..SCRATCH_UNITS => append_through_scratch(units, *self),
+            _ => append_counted(units, *self),
+        }
+    }
+}
