@@ -583,6 +583,101 @@ const onEach = (call, rows) => rows.flatMap(([units, ...operands]) => [['set', .
 const onBoth = (call, rows) =>
   rows.flatMap(([units, others, ...operands]) => [['set', ...others], ['swap'], ['set', ...units], [call, ...operands]]);
 
+// Lists of units in which surrogates join, or stay lone.
+const JOINING = [
+  [0xD83D, 0xDCA9],
+  [0xD83D, 0x20, 0xDCA9],
+  [0xD800, 0xDBFF],
+  [0xD800, 0xE000],
+  [0xD7FF, 0xDC00],
+  [0x61, 0xDC00],
+  [0xDC00],
+  [0xD83D, 0xD83D, 0xDCA9],
+  [0xD83D, 0xDCA9, 0xDCA9],
+  [0xDCA9, 0xD83D],
+];
+
+// Two lists of units whose order by units is not that by code points, or that are equal, or one the other's beginning.
+const ORDERED = [
+  [[0xE000], [0xD800, 0xDC00]],
+  [[0xD83D], [0xD83D, 0xDCA9]],
+  [[0xFFFF], [0xD800, 0xDC00]],
+  [[], []],
+  [[], [0x00]],
+  [[0x61, 0x62], [0x61, 0x63]],
+  [[0xD83D, 0xDCA9], [0xD83D, 0xDCA9]],
+  [[0xD800, 0x61], [0xD800, 0xDC00]],
+];
+
+// Units to push one by one: on both sides of the limits of encoded lengths, surrogates that join, and lone ones.
+const PUSHED = [
+  [0x00, 0x7F, 0x80, 0x7FF, 0x800, 0xFFFF],
+  [0xD7FF, 0xDC00, 0xE000],
+  [0xD83D, 0xDCA9],
+  [0xD800, 0xDC00, 0xDBFF, 0xDFFF],
+  [0xD83D, 0xD83D, 0xDCA9, 0xDCA9],
+  [0xDCA9, 0xD83D],
+  [0xD83D, 0x61, 0xDCA9],
+];
+
+// Lists whose pairs are divided by slices of them, and in which a slice occurs at several indexes.
+const REPEATING = [
+  [0x61, 0xD83D, 0xDCA9, 0x62],
+  [0xD83D, 0xDCA9, 0xD83D, 0xDCA9, 0xD83D],
+  [0xDCA9, 0xD83D, 0xD83D, 0xDCA9, 0xDCA9],
+  [0xE9, 0x61, 0xE9, 0x61, 0xFFFF],
+];
+
+// A list searched for each slice of a list, at each index up to two past its end and at the last that two bytes name.
+function slicesScript(units, others) {
+  const places = [...Array.from({ length: units.length + 3 }, (_, at) => at), 0xFFFF];
+  const calls = [['set', ...units]];
+  for (let begin = 0; begin <= others.length; begin++) {
+    for (let end = begin; end <= others.length; end++) {
+      calls.push(['swap'], ['set', ...others.slice(begin, end)], ['swap'], ...places.map((at) => ['startsWith', at]));
+    }
+  }
+  return calls;
+}
+
+// 300 pairs, searched at each index of a letter and these pairs, with marks; then a trail, likewise.
+function pairsScript() {
+  const pairs = textOfKind([0xD83D, 0xDCA9], 600);
+  const calls = [['set', ...pairs], ['swap'], ['fromStr', 'a'], ['mark'], ['pushWtf8', ...pairs]];
+  for (let at = 0; at < 300; at++) calls.push(['startsWith', at]);
+  calls.push(['swap'], ['set', 0xDCA9], ['swap']);
+  for (let at = 0; at < 602; at++) calls.push(['startsWith', at]);
+  return calls;
+}
+
+// Texts of six units that repeat, of lengths about those at which a mark is added. In the last three a pair is divided
+// at some of the marks.
+function nearMarksScripts() {
+  const kinds = [[0x61], [0x3042], [0xDCA9, 0xD83D], [0xD83D, 0xDCA9, 0xE9], [0x3042, 0xDCA9, 0xD83D, 0xDCA9, 0xD83D, 0x61]];
+  return kinds.flatMap((kind) => [127, 128, 129, 257, 385].map((length) => {
+    const looks = looksAbout(length);
+    return [['set', ...textOfKind(kind, length)], ...looks, ['mark'], ...looks];
+  }));
+}
+
+// The examples above by each call that they are for.
+function rowScripts() {
+  const ofPairs = (call) => JOINING.flatMap((units) => onBoth(call, JOINING.map((others) => [units, others])));
+  return [
+    ...[...JOINING, [0x61, 0xD83D, 0xDCA9]].map(listScript),
+    ofPairs('compare'),
+    ofPairs('concat'),
+    onBoth('compare', [...ORDERED, ...ORDERED.map(([units, others]) => [others, units])]),
+    onEach('push', PUSHED.map((units) => [[], ...units])),
+    onBoth('concat', [[[0x61, 0xD83D], [0xDCA9]], [[0xDCA9, 0x61, 0xD83D], [0xDCA9, 0x61, 0xD83D]]]),
+    onEach('pushWtf8', [[[0xDCA9, 0x61, 0xD83D], 0xDCA9, 0x61, 0xD83D]]),
+    ['', 'a', 'a\u00E9', '\uD55C', 'a\u{1F4A9}'].flatMap((text) => [['fromStr', text], ['length'], ['set'], ['pushStr', text], ['throughWtf8']]),
+    ...REPEATING.map((units) => REPEATING.flatMap((others) => slicesScript(units, others))),
+    pairsScript(),
+    ...nearMarksScripts(),
+  ];
+}
+
 // Worked examples of the calls: inside a pair and beside it, at both ends and past them, and with empty lists.
 function exampleScripts() {
   const longer = [...EXAMPLE, 0x61];
@@ -610,7 +705,7 @@ function exampleScripts() {
     onEach('pushWtf8', [[[0x61, 0xD83D], 0xDCA9], [[0xD83D], 0xDCA9, 0xD83D], [[0xD83D]], [[], 0xDCA9], [[0xDCA9], 0xD83D]]),
     onEach('pushStr', [[[0x61, 0xD83D], '\u00E9'], [[0xD83D], '\u{1F4A9}'], [[0xDCA9, 0xD83D], '']]),
     onEach('throughWtf8', [[[]], [[0x61, 0xD83D]], [[0xD83D, 0xDCA9]], [[0xDCA9, 0xD83D]]]),
-    onBoth('compare', [[[0xD800, 0xDC00], [0xE000]], [[0xE000], [0xD800, 0xDC00]], [[0xD800, 0xDC00], [0xD800, 0xDC00]]]),
+    ...rowScripts(),
   ];
 }
 

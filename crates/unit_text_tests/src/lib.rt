@@ -2,13 +2,9 @@
 #![tactic(auto)]
 
 #[cfg(test)]
-mod comparing;
+mod calls;
 #[cfg(test)]
 mod conversions;
-#[cfg(test)]
-mod cutting;
-#[cfg(test)]
-mod finding;
 #[cfg(test)]
 mod lengths;
 #[cfg(test)]
@@ -23,5 +19,3 @@ mod pushing;
 mod shared;
 #[cfg(test)]
 mod sinks;
-#[cfg(test)]
-mod texts;

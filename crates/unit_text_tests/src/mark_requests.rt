@@ -13,7 +13,7 @@ fn requests_by_length() -> [(usize, u64); 6] {
 }
 
 /// How a text grows.
-#[derive(Clone, Copy, Debug)]
+#[derive(Clone, Copy)]
 enum Growth {
     Push,
     Concat,

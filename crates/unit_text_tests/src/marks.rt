@@ -1,4 +1,4 @@
-// Texts with marks: units and slices near the marks, texts grown by pieces that join, and memory for marks refused.
+// Texts with marks: the requests for these, and texts grown by pieces while requests are refused.
 use crate::shared::expect_units;
 use refusing::{REFUSALS, Refusal, Refusing};
 use std::alloc::{AllocError, Allocator, Global};
@@ -7,8 +7,7 @@ use wtf8_tests::wrong::{Wrong, expect, made};
 
 type Lent<'a> = &'a Refusing<Global>;
 
-/// Six units that repeat in a text. If a text of the third kind begins with the second unit, every even index but 0
-/// splits a surrogate pair.
+/// Six units that repeat in a text.
 fn kinds() -> [[u16; 6]; 5] {
     [
         [0x0061; 6],
@@ -19,11 +18,6 @@ fn kinds() -> [[u16; 6]; 5] {
     ]
 }
 
-/// Lengths in units near new marks. A text that is not all ASCII has one for each multiple of 128 below its length.
-fn lengths() -> [usize; 10] {
-    [0, 1, 127, 128, 129, 256, 257, 258, 385, 600]
-}
-
 /// Unit indexes on both sides of marks.
 fn indexes() -> [usize; 14] {
     [
@@ -31,21 +25,11 @@ fn indexes() -> [usize; 14] {
     ]
 }
 
-/// The numbers of units that a text grows by at a time.
-fn pieces() -> [usize; 6] {
-    [1, 2, 5, 127, 128, 300]
-}
-
-/// `length` units that repeat `kind`, of which the first is its unit `first`.
-fn units_of(
-    alloc: Global,
-    kind: &[u16; 6],
-    first: usize,
-    length: usize,
-) -> Result<Vec<u16>, AllocError> {
+/// `length` units that repeat `kind`.
+fn units_of(alloc: Global, kind: &[u16; 6], length: usize) -> Result<Vec<u16>, AllocError> {
     let mut units = Vec::new(alloc);
     for at in 0..length {
-        units.push(kind[first.wrapping_add(at) % 6])?;
+        units.push(kind[at % 6])?;
     }
     Ok(units)
 }
@@ -79,42 +63,6 @@ fn expect_found<A: Allocator + Copy + Drop>(
     expect_units(text, units)
 }
 
-/// Fails unless the units and slices of the text of `units` are right, without marks and with them.
-fn expect_marks<A: Allocator + Copy + Drop>(alloc: A, units: &[u16]) -> Result<(), Wrong> {
-    let mut text = made(UnitText::from_units(alloc, units))?;
-    expect_found(alloc, &text, units)?;
-    text.mark_units(alloc);
-    expect_found(alloc, &text, units)
-}
-
-/// Fails unless units and slices of a text of `length` units are right, without marks and with them.
-fn expect_marked(alloc: Global, kind: &[u16; 6], first: usize, length: usize) -> Result<(), Wrong> {
-    let units = made(units_of(alloc, kind, first, length))?;
-    expect_marks(alloc, &units)
-}
-
-/// Appends the text of `units`.
-fn append<A: Allocator + Drop>(
-    alloc: A,
-    text: &mut UnitText<A>,
-    units: &[u16],
-) -> Result<(), AllocError> {
-    let piece = UnitText::from_units(alloc, units)?;
-    text.concat(&piece)
-}
-
-/// Appends `length` units that repeat `kind`, of which the first is its unit `first`.
-fn append_kind(
-    alloc: Global,
-    text: &mut UnitText<Global>,
-    kind: &[u16; 6],
-    first: usize,
-    length: usize,
-) -> Result<(), AllocError> {
-    let units = units_of(alloc, kind, first, length)?;
-    append(alloc, text, &units)
-}
-
 /// Fails unless the text has `length` units that repeat `kind`, and slices of it have their part of them.
 fn expect_kind<A: Allocator + Copy + Drop>(
     alloc: Global,
@@ -123,47 +71,8 @@ fn expect_kind<A: Allocator + Copy + Drop>(
     kind: &[u16; 6],
     length: usize,
 ) -> Result<(), Wrong> {
-    let units = made(units_of(alloc, kind, 0, length))?;
+    let units = made(units_of(alloc, kind, length))?;
     expect_found(text_alloc, text, &units)
-}
-
-/// Appends pieces of `piece` units that repeat `kind` until the text has 600 units or more. Returns their number.
-fn grown(
-    alloc: Global,
-    text: &mut UnitText<Global>,
-    kind: &[u16; 6],
-    piece: usize,
-) -> Result<usize, AllocError> {
-    let mut grown = 0usize;
-    for _ in 0..600 {
-        if grown < 600 {
-            append_kind(alloc, text, kind, grown, piece)?;
-            grown = grown.wrapping_add(piece);
-        }
-    }
-    Ok(grown)
-}
-
-/// Fails unless a text that has marks from the start, and grows by `piece` units at a time, has all of them.
-fn expect_grown(alloc: Global, kind: &[u16; 6], piece: usize) -> Result<(), Wrong> {
-    let mut text = made(UnitText::from_units(alloc, &[]))?;
-    text.mark_units(alloc);
-    let length = made(grown(alloc, &mut text, kind, piece))?;
-    expect_kind(alloc, alloc, &text, kind, length)
-}
-
-#[test]
-fn units_are_found_by_marks(rt: HostRuntime) -> Result<(), Wrong> {
-    for kind in &kinds() {
-        for length in lengths() {
-            expect_marked(rt.alloc(), kind, 0, length)?;
-            expect_marked(rt.alloc(), kind, 1, length)?;
-        }
-        for piece in pieces() {
-            expect_grown(rt.alloc(), kind, piece)?;
-        }
-    }
-    Ok(())
 }
 
 /// Six units to repeat, the number of units of a text, and of requests for its marks: one if there are any marks.
@@ -190,7 +99,7 @@ fn expect_requests(heap: Lent<'_>, units: &[u16], requests: u64) -> Result<(), W
 fn marks_ask_for_what_they_need(rt: HostRuntime) -> Result<(), Wrong> {
     let heap = Refusing::new(rt.alloc(), u64::MAX);
     for (kind, length, requests) in requests() {
-        let units = made(units_of(rt.alloc(), &kind, 0, length))?;
+        let units = made(units_of(rt.alloc(), &kind, length))?;
         expect_requests(&heap, &units, requests)?;
     }
     Ok(())
@@ -234,7 +143,7 @@ fn expect_left(
     refusal: Refusal,
 ) -> Result<(), Wrong> {
     let mut text = made(UnitText::from_units(heap, &[]))?;
-    let units = made(units_of(alloc, kind, 0, 60))?;
+    let units = made(units_of(alloc, kind, 60))?;
     let grown = made(grow(heap, &mut text, &units, granted, refusal))?;
     heap.grant(u64::MAX);
     expect_kind(alloc, heap, &text, kind, grown)

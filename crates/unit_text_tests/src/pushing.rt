@@ -1,5 +1,5 @@
 // Texts that grow by single units, with marks and without, and their requests for memory refused in turn.
-use crate::shared::{expect_text, expect_units, text_of_units};
+use crate::shared::expect_units;
 use refusing::{Refusal, Refusing};
 use std::alloc::{AllocError, Global};
 use unit_text::UnitText;
@@ -8,40 +8,6 @@ use wtf8_tests::wrong::{Wrong, expect_bytes, made};
 type Lent<'a> = &'a Refusing<Global>;
 
 type Text<'a> = UnitText<Lent<'a>>;
-
-/// Units to push one by one, and the bytes of their text: units on both sides of the limits of encoded lengths,
-/// surrogates that join, and lone ones.
-fn pushed_rows() -> [(&'static [u16], &'static str); 7] {
-    [
-        (
-            &[0x0000, 0x007F, 0x0080, 0x07FF, 0x0800, 0xFFFF],
-            "00 7F C2 80 DF BF E0 A0 80 EF BF BF",
-        ),
-        (&[0xD7FF, 0xDC00, 0xE000], "ED 9F BF ED B0 80 EE 80 80"),
-        (&[0xD83D, 0xDCA9], "F0 9F 92 A9"),
-        (&[0xD800, 0xDC00, 0xDBFF, 0xDFFF], "F0 90 80 80 F4 8F BF BF"),
-        (
-            &[0xD83D, 0xD83D, 0xDCA9, 0xDCA9],
-            "ED A0 BD F0 9F 92 A9 ED B2 A9",
-        ),
-        (&[0xDCA9, 0xD83D], "ED B2 A9 ED A0 BD"),
-        (&[0xD83D, 0x0061, 0xDCA9], "ED A0 BD 61 ED B2 A9"),
-    ]
-}
-
-/// Fails unless pushes of `units` build a text with them and with the bytes of `dump`.
-fn expect_pushed(alloc: Global, units: &[u16], dump: &str) -> Result<(), Wrong> {
-    let text = made(text_of_units(alloc, units))?;
-    expect_text(alloc, &text, units, dump)
-}
-
-#[test]
-fn a_pushed_trail_joins_a_lead(rt: HostRuntime) -> Result<(), Wrong> {
-    for (units, dump) in pushed_rows() {
-        expect_pushed(rt.alloc(), units, dump)?;
-    }
-    Ok(())
-}
 
 /// Six units that repeat in a text, whether it has marks, and the number of requests that 300 units make: for their
 /// bytes, whose capacity is eight and then doubles, and for marks. If the units begin with a trail, every even index

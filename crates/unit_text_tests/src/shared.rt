@@ -1,16 +1,7 @@
 // Texts and checks that several test modules use.
-use std::alloc::{AllocError, Allocator, Global};
+use std::alloc::{Allocator, Global};
 use unit_text::UnitText;
 use wtf8_tests::wrong::{Wrong, expect, expect_bytes, made};
-
-/// The text that pushing `units` one by one builds.
-pub fn text_of_units(alloc: Global, units: &[u16]) -> Result<UnitText<Global>, AllocError> {
-    let mut text = UnitText::from_units(alloc, &[])?;
-    for unit in units {
-        text.push(*unit)?;
-    }
-    Ok(text)
-}
 
 /// The slice from unit `begin` to before unit `end`. Fails if this is no range of the text's units.
 pub fn slice_of<A: Allocator + Drop>(
