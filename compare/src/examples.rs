@@ -1,7 +1,9 @@
 //! Lists of worked examples: strings in the order of their code points, hash inputs, iterators in each state, orders by
 //! code units, and runs of one kind with another kind at each index.
 
-use crate::generate::{call_on, from_units, push, registers};
+use crate::generate::{
+    call_on, calls_on, cut_and_joined, from_units, point_calls, push, registers,
+};
 use crate::script::{Call, Opcode, Operand, Step};
 
 /// Strings as code points, in ascending order.
@@ -74,6 +76,35 @@ const KINDS: [&[u16]; 6] = [
     &[0xDFFF],
 ];
 
+/// Code points beside the edges of the encoding, and numbers of none.
+const NUMBERS: [u32; 11] = [
+    0x07, 0x61, 0xABCD, 0xDEAD, 0xD83D, 0xDCA9, 0x1F4A9, 0x10FFFF, 0x110000, 0x7FFFFFFF, 0xFFFFFFFF,
+];
+
+/// Lists of code points with characters that a literal of Rust escapes, and with lone surrogates.
+const SHOWN: [&[u32]; 9] = [
+    &[0x61, 0x22, 0x62],
+    &[0x0A, 0x5C, 0x27, 0x00],
+    &[0x07, 0xDEAD, 0x07],
+    &[0xABCD, 0xDABC],
+    &[0x5C, 0x75, 0x7B, 0x44, 0x38, 0x30, 0x30, 0x7D],
+    &[0xD55C, 0xDBFF],
+    &[0xD800, 0xD800, 0xD55C],
+    &[0xDFFF, 0x61],
+    &[0xD83D, 0x1F4A9, 0xDCA9],
+];
+
+/// Two lists of units that are joined, of which one is empty, or a surrogate is at the seam.
+const SEAMS: [(&[u16], &[u16]); 7] = [
+    (&[0x61, 0xD83D], &[0xDCA9, 0x62]),
+    (&[0xD83D], &[0xDCA9, 0xDCA9]),
+    (&[], &[0xDCA9]),
+    (&[0xD83D], &[]),
+    (&[0xD83D], &[0xD83D, 0xDCA9]),
+    (&[0xDCA9], &[0xDCA9]),
+    (&[0xD83D, 0x61], &[0xDCA9]),
+];
+
 /// The examples that are short enough to be recorded.
 pub fn recorded() -> Vec<Vec<Call>> {
     let mut scripts: Vec<Vec<Call>> = IN_ORDER.iter().map(|own| compared_by_points(own)).collect();
@@ -95,6 +126,19 @@ pub fn recorded() -> Vec<Vec<Call>> {
     scripts.push(copies_of_every_length());
     scripts.push(followed());
     scripts.push(equal_or_not());
+    scripts.extend(JOINING.iter().chain(&LISTS).map(|units| calls_on(units)));
+    scripts.extend(NUMBERS.map(point_calls));
+    scripts.extend(SHOWN.map(shown));
+    scripts.push(
+        SEAMS
+            .iter()
+            .flat_map(|(own, other)| joined(own, other))
+            .collect(),
+    );
+    scripts.push(texts_and_characters());
+    scripts.push(hangul());
+    scripts.extend([true, false].map(truncated_surrogate));
+    scripts.extend([0, 1, 8, 15, 16, 17, 31, 32, 33, 48].map(appended_units));
     scripts
 }
 
@@ -266,5 +310,127 @@ fn followed() -> Vec<Call> {
         vec![Operand::Register(0), Operand::Value(0x1F4A9)],
     ));
     calls.extend(items());
+    calls
+}
+
+/// A string of code points with its debug texts, its texts, and its bytes for a hasher.
+fn shown(points: &[u32]) -> Vec<Call> {
+    let mut calls = pushed(0, points);
+    for opcode in [
+        Opcode::Debug,
+        Opcode::Hash,
+        Opcode::AsStr,
+        Opcode::ToStringLossy,
+        Opcode::IntoString,
+        Opcode::IntoStringLossy,
+    ] {
+        calls.push(call_on(0, opcode));
+    }
+    calls
+}
+
+/// Two lists of units as one string, by each call that joins strings, and each of the two made anew.
+fn joined(own: &[u16], other: &[u16]) -> Vec<Call> {
+    let mut calls = vec![from_units(0, &[own, other].concat())];
+    calls.extend(cut_and_joined(&[own, other].concat(), own.len()));
+    calls.extend([from_units(0, own), from_units(1, other)]);
+    calls.extend([registers(Opcode::PushWtf8, 0, 1), call_on(0, Opcode::New)]);
+    calls.push(registers(Opcode::PushWtf8, 0, 1));
+    calls
+}
+
+/// Texts and characters that are appended to a text and to a lead, which they do not join, and which a trail then does
+/// if only an empty text is between them.
+fn texts_and_characters() -> Vec<Call> {
+    let mut calls = Vec::new();
+    for (first, second) in [
+        ("", "a\u{E9} \u{1F4A9}"),
+        ("a\u{E9} ", "\u{1F4A9}"),
+        ("a", ""),
+    ] {
+        calls.extend([
+            call_with_text(0, Opcode::FromString, first),
+            call_with_text(0, Opcode::PushStr, second),
+        ]);
+    }
+    for text in ["", "\u{1F4A9}"] {
+        calls.extend([
+            from_units(0, &[0xD83D]),
+            call_with_text(0, Opcode::PushStr, text),
+        ]);
+        calls.push(push(0, 0xDCA9));
+        calls.extend([
+            from_units(0, &[0xD83D]),
+            call_with_text(1, Opcode::FromStr, text),
+        ]);
+        calls.extend([registers(Opcode::PushWtf8, 0, 1), push(0, 0xDCA9)]);
+    }
+    calls.push(from_units(0, &[0xD83D]));
+    let operands = vec![Operand::Register(0), Operand::Value(0x1F4A9)];
+    calls.push(Call::new(Opcode::PushChar, operands));
+    for count in [0, 1, 4, 100] {
+        let number = || vec![Operand::Register(0), Operand::Number(count)];
+        calls.push(Call::new(Opcode::WithCapacity, number()));
+        calls.push(call_with_text(0, Opcode::PushStr, "a\u{E9}"));
+        calls.push(Call::new(Opcode::Reserve, number()));
+    }
+    calls
+}
+
+fn call_with_text(register: u8, opcode: Opcode, text: &str) -> Call {
+    let operands = vec![Operand::Register(register), Operand::Text(text.to_owned())];
+    Call::new(opcode, operands)
+}
+
+/// 40 characters whose first byte is that of surrogates too, of units and of code points.
+fn hangul() -> Vec<Call> {
+    let mut calls = vec![from_units(0, &[0xD55C; 40])];
+    calls.extend([Opcode::AsStr, Opcode::IntoString].map(|opcode| call_on(0, opcode)));
+    calls.extend(pushed(1, &[0xD55C; 40]));
+    calls.extend([
+        call_on(1, Opcode::IntoString),
+        registers(Opcode::Comparisons, 0, 1),
+    ]);
+    calls
+}
+
+/// "a", with a surrogate that was pushed and truncated before the letter, or after it, compared with "a".
+fn truncated_surrogate(is_before: bool) -> Vec<Call> {
+    let cut = |position| {
+        let operands = vec![Operand::Register(0), Operand::Number(position)];
+        [push(0, 0xD800), Call::new(Opcode::Truncate, operands)]
+    };
+    let mut calls = vec![call_on(0, Opcode::New)];
+    if is_before {
+        calls.extend(cut(0));
+    }
+    calls.push(push(0, 0x61));
+    if !is_before {
+        calls.extend(cut(1));
+    }
+    calls.extend([
+        call_on(0, Opcode::Hash),
+        call_with_text(1, Opcode::FromStr, "a"),
+    ]);
+    calls.extend([
+        call_on(1, Opcode::Hash),
+        registers(Opcode::Comparisons, 0, 1),
+    ]);
+    calls
+}
+
+/// The units of strings of `letters` letters and of one of each of `KINDS`, appended to units, and read one by one.
+fn appended_units(letters: usize) -> Vec<Call> {
+    let mut calls = Vec::new();
+    for kind in KINDS {
+        for units in [
+            [vec![0x61; letters], kind.to_vec()].concat(),
+            kind.repeat(letters),
+        ] {
+            calls.extend([from_units(0, &units), call_on(0, Opcode::UnitAt)]);
+            let operands = vec![Operand::Register(0), Operand::Units(vec![0xDC00, 0x61])];
+            calls.push(Call::new(Opcode::AppendUnits, operands));
+        }
+    }
     calls
 }
