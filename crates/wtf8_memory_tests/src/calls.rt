@@ -1,19 +1,22 @@
 // Lists of building calls.
 use crate::shared::{Step, expect_step};
 use std::alloc::{AllocError, Global};
-use std::test::Fail;
 use wtf8::{Build, CodePoint, Wtf8, Wtf8Buf};
-use wtf8_tests::examples::{
-    expect_dump, expect_made_of, joined, joining, point_of_unit, points_of_units,
-};
+use wtf8_tests::examples::{expect_made_of, joined, joining, point_of_unit, points_of_units};
+use wtf8_tests::wrong::{Wrong, expect_bytes};
 
 /// Fails unless a list of calls, with `refused` of its truncations refused, builds the bytes of `dump`.
-fn expect_list(alloc: Global, calls: &[Build<'_>], refused: usize, dump: &str) -> Result<(), Fail> {
+fn expect_list(
+    alloc: Global,
+    calls: &[Build<'_>],
+    refused: usize,
+    dump: &str,
+) -> Result<(), Wrong> {
     let mut text = Wtf8Buf::new(alloc);
     if text.apply_all(calls) != Ok(refused) {
-        return Err(Fail::new("a list is refused, or another number of truncations"));
+        return Err(Wrong::Outcome);
     }
-    expect_dump(alloc, text.as_wtf8(), dump)
+    expect_bytes(alloc, text.as_wtf8(), dump)
 }
 
 /// A push of each of `units`.
@@ -41,23 +44,23 @@ fn expect_each_applied(
     calls: &[Build<'_>],
     units: &[u16],
     dump: &str,
-) -> Result<(), Fail> {
+) -> Result<(), Wrong> {
     let mut text = Wtf8Buf::new(alloc);
     if !is_each_applied(&mut text, calls) {
-        return Err(Fail::new("a push is refused"));
+        return Err(Wrong::Outcome);
     }
     expect_made_of(alloc, Ok(text), dump, units)
 }
 
 /// Fails unless an extension by all of `units` builds the bytes of `dump`.
-fn expect_extension(alloc: Global, units: &[u16], dump: &str) -> Result<(), Fail> {
+fn expect_extension(alloc: Global, units: &[u16], dump: &str) -> Result<(), Wrong> {
     let points = points_of_units(alloc, units)?;
     expect_list(alloc, &[Build::Extend(&points)], 0, dump)
 }
 
 /// Fails unless pushes of `units`, by single calls and as one list, and one extension by all of them each build the
 /// bytes of `dump`.
-fn expect_built(alloc: Global, units: &[u16], dump: &str) -> Result<(), Fail> {
+fn expect_built(alloc: Global, units: &[u16], dump: &str) -> Result<(), Wrong> {
     let calls = pushes(alloc, units)?;
     expect_each_applied(alloc, &calls, units, dump)?;
     expect_list(alloc, &calls, 0, dump)?;
@@ -65,7 +68,7 @@ fn expect_built(alloc: Global, units: &[u16], dump: &str) -> Result<(), Fail> {
 }
 
 #[test]
-fn a_push_for_each_code_point_builds_the_string(rt: HostRuntime) -> Result<(), Fail> {
+fn a_push_for_each_code_point_builds_the_string(rt: HostRuntime) -> Result<(), Wrong> {
     for (units, _, dump) in joining() {
         expect_built(rt.alloc(), units, dump)?;
     }
@@ -91,7 +94,7 @@ fn steps<'a>(pair: &'a [CodePoint; 2], trail: Wtf8<'a>) -> [Step<'a>; 12] {
 }
 
 /// Fails unless each call of `steps` in turn is as its row says.
-fn expect_steps(alloc: Global, trail: Wtf8<'_>) -> Result<(), Fail> {
+fn expect_steps(alloc: Global, trail: Wtf8<'_>) -> Result<(), Wrong> {
     let pair = [point_of_unit(0xD83D), point_of_unit(0xDCA9)];
     let mut text = Wtf8Buf::new(alloc);
     for row in steps(&pair, trail) {
@@ -101,7 +104,7 @@ fn expect_steps(alloc: Global, trail: Wtf8<'_>) -> Result<(), Fail> {
 }
 
 #[test]
-fn each_call_does_what_it_is_named_for(rt: HostRuntime) -> Result<(), Fail> {
+fn each_call_does_what_it_is_named_for(rt: HostRuntime) -> Result<(), Wrong> {
     let alloc = rt.alloc();
     let trail = joined(alloc, &[0xDCA9, 0x62])?;
     expect_steps(alloc, trail.as_wtf8())
@@ -113,14 +116,14 @@ fn is_reserved(text: &mut Wtf8Buf<Global>) -> bool {
 }
 
 #[test]
-fn a_reserve_makes_room(rt: HostRuntime) -> Result<(), Fail> {
+fn a_reserve_makes_room(rt: HostRuntime) -> Result<(), Wrong> {
     let mut text = Wtf8Buf::from_str(rt.alloc(), "a💩b")?;
     assert!(rt; is_reserved(&mut text));
     Ok(())
 }
 
 #[test]
-fn a_list_counts_the_refused_truncations(rt: HostRuntime) -> Result<(), Fail> {
+fn a_list_counts_the_refused_truncations(rt: HostRuntime) -> Result<(), Wrong> {
     let alloc = rt.alloc();
     let lead = Build::Push(point_of_unit(0xD83D));
     let trail = Build::Push(point_of_unit(0xDCA9));

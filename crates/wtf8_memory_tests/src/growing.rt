@@ -2,9 +2,9 @@
 use crate::shared::{FULL, Lent, filled, full, is_made, push_letters};
 use refusing::{REFUSALS, Refusal, Refusing};
 use std::alloc::{AllocError, Allocator, Global};
-use std::test::Fail;
 use wtf8::{Build, CodePoint, Wtf8, Wtf8Buf};
-use wtf8_tests::examples::{TEXT, expect_dump, joined, point_of_unit};
+use wtf8_tests::examples::{TEXT, joined, point_of_unit};
+use wtf8_tests::wrong::{Wrong, expect_bytes};
 
 /// A call on a string whose four bytes, "a" and D83D, fill its capacity; the bytes after it, and the number of bytes in
 /// its requests, if all are granted; and for each request the bytes after the call if that is the first one refused.
@@ -67,26 +67,26 @@ fn two_requests(points: &[CodePoint; 3]) -> Row<'_> {
 }
 
 /// Fails unless a trail surrogate is refused, and the string of "a" and D83D is unchanged, also after an empty text.
-fn expect_trail_refused<A: Allocator>(alloc: Global, text: &mut Wtf8Buf<A>) -> Result<(), Fail> {
+fn expect_trail_refused<A: Allocator>(alloc: Global, text: &mut Wtf8Buf<A>) -> Result<(), Wrong> {
     if text.push(point_of_unit(0xDCA9)).is_ok() {
-        return Err(Fail::new("not refused"));
+        return Err(Wrong::Outcome);
     }
-    expect_dump(alloc, text.as_wtf8(), FULL)?;
+    expect_bytes(alloc, text.as_wtf8(), FULL)?;
     if text.push_str("").is_err() {
-        return Err(Fail::new("an empty text is refused"));
+        return Err(Wrong::Outcome);
     }
-    expect_dump(alloc, text.as_wtf8(), FULL)
+    expect_bytes(alloc, text.as_wtf8(), FULL)
 }
 
 /// Fails unless a trail surrogate is refused after "a" and D83D, and an empty text is not.
-fn expect_full_kept(alloc: Global, heap: Lent<'_>) -> Result<(), Fail> {
+fn expect_full_kept(alloc: Global, heap: Lent<'_>) -> Result<(), Wrong> {
     let mut text = full(heap)?;
     heap.grant(0);
     expect_trail_refused(alloc, &mut text)
 }
 
 #[test]
-fn an_empty_text_is_pushed_after_a_refused_trail(rt: HostRuntime) -> Result<(), Fail> {
+fn an_empty_text_is_pushed_after_a_refused_trail(rt: HostRuntime) -> Result<(), Wrong> {
     let alloc = rt.alloc();
     let heap = Refusing::new(alloc, 0);
     expect_full_kept(alloc, &heap)
@@ -98,15 +98,15 @@ fn expect_granted(
     heap: Lent<'_>,
     row: Row<'_>,
     is_applied: bool,
-) -> Result<(), Fail> {
+) -> Result<(), Wrong> {
     let (call, granted, asked, refused) = row;
     let mut text = full(heap)?;
     heap.grant(9);
     let is_made = is_made(&mut text, call, is_applied);
     if !is_made || heap.requests() != refused.len() as u64 || heap.bytes() != asked {
-        return Err(Fail::new(granted));
+        return Err(Wrong::Requests);
     }
-    expect_dump(alloc, text.as_wtf8(), granted)
+    expect_bytes(alloc, text.as_wtf8(), granted)
 }
 
 /// Makes the call with `granted` requests granted, and the following ones, or the next one alone, refused. Fails unless
@@ -117,14 +117,14 @@ fn expect_stopped(
     (call, is_applied): (Build<'_>, bool),
     (granted, refusal): (u64, Refusal),
     dump: &str,
-) -> Result<(), Fail> {
+) -> Result<(), Wrong> {
     let mut text = full(heap)?;
     heap.refuse_after(granted, refusal);
     let is_made = is_made(&mut text, call, is_applied);
     if is_made || heap.requests() != granted.wrapping_add(1) {
-        return Err(Fail::new(format_args!("at {dump} with {granted} granted, then {refusal:?}")));
+        return Err(Wrong::Requests);
     }
-    expect_dump(alloc, text.as_wtf8(), dump)
+    expect_bytes(alloc, text.as_wtf8(), dump)
 }
 
 /// Refuses each request of the call in turn. Fails unless the call ends there and leaves the bytes of the row.
@@ -134,7 +134,7 @@ fn expect_kept(
     row: Row<'_>,
     is_applied: bool,
     refusal: Refusal,
-) -> Result<(), Fail> {
+) -> Result<(), Wrong> {
     let (call, _, _, refused) = row;
     let mut granted = 0u64;
     for dump in refused {
@@ -152,7 +152,7 @@ fn expect_call(
     row: Row<'_>,
     is_applied: bool,
     refusal: Option<Refusal>,
-) -> Result<(), Fail> {
+) -> Result<(), Wrong> {
     match refusal {
         None => expect_granted(alloc, heap, row, is_applied),
         Some(refusal) => expect_kept(alloc, heap, row, is_applied, refusal),
@@ -165,7 +165,7 @@ fn expect_row(
     heap: Lent<'_>,
     row: Row<'_>,
     refusal: Option<Refusal>,
-) -> Result<(), Fail> {
+) -> Result<(), Wrong> {
     expect_call(alloc, heap, row, false, refusal)?;
     expect_call(alloc, heap, row, true, refusal)
 }
@@ -176,7 +176,7 @@ fn expect_rows(
     heap: Lent<'_>,
     trails: Wtf8<'_>,
     refusal: Option<Refusal>,
-) -> Result<(), Fail> {
+) -> Result<(), Wrong> {
     let joining = [point_of_unit(0xDCA9), point_of_unit(0x62)];
     for (call, granted, asked) in one_request(trails, &joining) {
         expect_row(alloc, heap, (call, granted, asked, &[FULL]), refusal)?;
@@ -189,19 +189,19 @@ fn expect_rows(
 }
 
 /// Fails unless each call, by name and through `apply`, is as `expect_call` says.
-fn expect_table(alloc: Global, refusal: Option<Refusal>) -> Result<(), Fail> {
+fn expect_table(alloc: Global, refusal: Option<Refusal>) -> Result<(), Wrong> {
     let trails = joined(alloc, &[0xDCA9, 0xDCA9, 0x62])?;
     let heap = Refusing::new(alloc, 0);
     expect_rows(alloc, &heap, trails.as_wtf8(), refusal)
 }
 
 #[test]
-fn a_growing_call_makes_its_requests_and_no_other(rt: HostRuntime) -> Result<(), Fail> {
+fn a_growing_call_makes_its_requests_and_no_other(rt: HostRuntime) -> Result<(), Wrong> {
     expect_table(rt.alloc(), None)
 }
 
 #[test]
-fn a_refused_request_leaves_the_string_unchanged(rt: HostRuntime) -> Result<(), Fail> {
+fn a_refused_request_leaves_the_string_unchanged(rt: HostRuntime) -> Result<(), Wrong> {
     let alloc = rt.alloc();
     for refusal in REFUSALS {
         expect_table(alloc, Some(refusal))?;
@@ -218,17 +218,17 @@ fn is_reserved<A: Allocator>(text: &mut Wtf8Buf<A>, is_applied: bool) -> bool {
 }
 
 /// Fails unless there is room for 1,000 more bytes after they are reserved.
-fn expect_reserved(heap: Lent<'_>, is_applied: bool) -> Result<(), Fail> {
+fn expect_reserved(heap: Lent<'_>, is_applied: bool) -> Result<(), Wrong> {
     let mut text = full(heap)?;
     heap.grant(1);
     if !is_reserved(&mut text, is_applied) || text.capacity() < 1004 {
-        return Err(Fail::new("no room"));
+        return Err(Wrong::Outcome);
     }
     Ok(())
 }
 
 #[test]
-fn reserve_gives_the_capacity(rt: HostRuntime) -> Result<(), Fail> {
+fn reserve_gives_the_capacity(rt: HostRuntime) -> Result<(), Wrong> {
     let heap = Refusing::new(rt.alloc(), 0);
     for is_applied in [false, true] {
         expect_reserved(&heap, is_applied)?;
@@ -237,19 +237,19 @@ fn reserve_gives_the_capacity(rt: HostRuntime) -> Result<(), Fail> {
 }
 
 /// Fails unless reserving `usize::MAX` bytes is refused, by name and through `apply`, and leaves "a".
-fn expect_refused_room(alloc: Global, text: &mut Wtf8Buf<Global>) -> Result<(), Fail> {
+fn expect_refused_room(alloc: Global, text: &mut Wtf8Buf<Global>) -> Result<(), Wrong> {
     if text.reserve(usize::MAX).is_ok() {
-        return Err(Fail::new("room that no memory has"));
+        return Err(Wrong::Outcome);
     }
-    expect_dump(alloc, text.as_wtf8(), "61")?;
+    expect_bytes(alloc, text.as_wtf8(), "61")?;
     if text.apply(Build::Reserve(usize::MAX)).is_ok() {
-        return Err(Fail::new("room that no memory has, through apply"));
+        return Err(Wrong::Outcome);
     }
-    expect_dump(alloc, text.as_wtf8(), "61")
+    expect_bytes(alloc, text.as_wtf8(), "61")
 }
 
 #[test]
-fn reserving_usize_max_bytes_is_refused(rt: HostRuntime) -> Result<(), Fail> {
+fn reserving_usize_max_bytes_is_refused(rt: HostRuntime) -> Result<(), Wrong> {
     let alloc = rt.alloc();
     assert!(rt; Wtf8Buf::with_capacity(alloc, usize::MAX).is_err());
     let mut text = Wtf8Buf::from_str(alloc, "a")?;
@@ -261,12 +261,12 @@ fn expect_shrunk<A: Allocator>(
     alloc: Global,
     text: &mut Wtf8Buf<A>,
     capacity: usize,
-) -> Result<(), Fail> {
+) -> Result<(), Wrong> {
     text.shrink_to_fit();
     if text.capacity() != capacity {
-        return Err(Fail::new("another capacity"));
+        return Err(Wrong::Outcome);
     }
-    expect_dump(alloc, text.as_wtf8(), FULL)
+    expect_bytes(alloc, text.as_wtf8(), FULL)
 }
 
 /// Clears and shrinks a string, and returns whether its capacity is then 0.
@@ -281,7 +281,7 @@ fn expect_released(
     alloc: Global,
     heap: Lent<'_>,
     text: &mut Wtf8Buf<Lent<'_>>,
-) -> Result<(), Fail> {
+) -> Result<(), Wrong> {
     // If the smaller block is refused, the capacity stays. Else it is the length, and an empty string keeps none.
     for (granted, capacity) in [(0, 100), (1, 4), (1, 4)] {
         heap.grant(granted);
@@ -289,19 +289,19 @@ fn expect_released(
     }
     heap.grant(0);
     if !is_released(text) {
-        return Err(Fail::new("room of nothing"));
+        return Err(Wrong::Outcome);
     }
     Ok(())
 }
 
 /// Fails unless a string with a capacity of 100 bytes releases what it does not need, if memory is granted.
-fn expect_hundred_released(alloc: Global, heap: Lent<'_>) -> Result<(), Fail> {
+fn expect_hundred_released(alloc: Global, heap: Lent<'_>) -> Result<(), Wrong> {
     let mut text = filled(heap, 100)?;
     expect_released(alloc, heap, &mut text)
 }
 
 #[test]
-fn shrink_to_fit_releases_spare_capacity(rt: HostRuntime) -> Result<(), Fail> {
+fn shrink_to_fit_releases_spare_capacity(rt: HostRuntime) -> Result<(), Wrong> {
     let alloc = rt.alloc();
     let heap = Refusing::new(alloc, u64::MAX);
     expect_hundred_released(alloc, &heap)
@@ -316,7 +316,7 @@ fn shrunk_capacity(alloc: Global, length: usize) -> Result<usize, AllocError> {
 }
 
 #[test]
-fn shrink_to_fit_leaves_no_spare_capacity_at_each_length(rt: HostRuntime) -> Result<(), Fail> {
+fn shrink_to_fit_leaves_no_spare_capacity_at_each_length(rt: HostRuntime) -> Result<(), Wrong> {
     for length in 0..=70 {
         let capacity = shrunk_capacity(rt.alloc(), length)?;
         assert_eq!(rt; capacity, length);

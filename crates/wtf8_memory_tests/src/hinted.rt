@@ -3,9 +3,9 @@ use crate::shared::Lent;
 use refusing::{REFUSALS, Refusing};
 use std::alloc::{AllocError, Allocator, Global};
 use std::cell::Cell;
-use std::test::Fail;
 use wtf8::{CodePoint, Wtf8, Wtf8Buf};
-use wtf8_tests::examples::{expect_dump, expect_units, joined, point_of_unit};
+use wtf8_tests::examples::{expect_units, joined, point_of_unit};
+use wtf8_tests::wrong::{Wrong, expect_bytes};
 
 /// Yields a code point `left` times, with size hints that the test chooses, of which the lower one may be wrong. Counts
 /// the items that are taken.
@@ -81,29 +81,29 @@ fn expect_trails(
     left: u32,
     has_lead: bool,
     taken: &Cell<u32>,
-) -> Result<(), Fail> {
+) -> Result<(), Wrong> {
     if taken.take() != left {
-        return Err(Fail::new("another number of items was taken"));
+        return Err(Wrong::Outcome);
     }
     let expected = expected_units(alloc, left, has_lead)?;
     expect_units(alloc, text, &expected)
 }
 
 /// Fails unless `from_iter` takes all items, whatever the lower hint.
-fn expect_made(alloc: Global, left: u32, hint: usize, taken: &Cell<u32>) -> Result<(), Fail> {
+fn expect_made(alloc: Global, left: u32, hint: usize, taken: &Cell<u32>) -> Result<(), Wrong> {
     let text = Wtf8Buf::from_iter(alloc, trails(left, hint, taken))?;
     expect_trails(alloc, text.as_wtf8(), left, false, taken)
 }
 
 /// Fails unless `extend` appends all items to a lead surrogate, whatever the lower hint.
-fn expect_extended(alloc: Global, left: u32, hint: usize, taken: &Cell<u32>) -> Result<(), Fail> {
+fn expect_extended(alloc: Global, left: u32, hint: usize, taken: &Cell<u32>) -> Result<(), Wrong> {
     let mut text = joined(alloc, &[0xD83D])?;
     text.extend(trails(left, hint, taken))?;
     expect_trails(alloc, text.as_wtf8(), left, true, taken)
 }
 
 #[test]
-fn a_lower_hint_may_be_false(rt: HostRuntime) -> Result<(), Fail> {
+fn a_lower_hint_may_be_false(rt: HostRuntime) -> Result<(), Wrong> {
     let alloc = rt.alloc();
     let taken = Cell::new(0);
     for (left, hint) in [(1000, 0), (2, 5), (0, 3)] {
@@ -128,9 +128,9 @@ fn expect_reserved(
     heap: Lent<'_>,
     text: &mut Wtf8Buf<Lent<'_>>,
     taken: &Cell<u32>,
-) -> Result<(), Fail> {
+) -> Result<(), Wrong> {
     if !is_extended(text, 0, 50, taken) || text.capacity() < 50 || heap.requests() != 1 {
-        return Err(Fail::new("no room for the lower hint, or by other requests"));
+        return Err(Wrong::Requests);
     }
     Ok(())
 }
@@ -140,23 +140,23 @@ fn expect_refused(
     heap: Lent<'_>,
     text: &mut Wtf8Buf<Lent<'_>>,
     taken: &Cell<u32>,
-) -> Result<(), Fail> {
+) -> Result<(), Wrong> {
     if is_extended(text, 1, 51, taken) || heap.requests() != 2 || taken.get() != 0 {
-        return Err(Fail::new("not refused, or not before an item was taken"));
+        return Err(Wrong::Requests);
     }
     Ok(())
 }
 
 /// Fails unless room for the lower hint is reserved first, and a refusal leaves the string empty.
-fn expect_reserved_first(alloc: Global, heap: Lent<'_>, taken: &Cell<u32>) -> Result<(), Fail> {
+fn expect_reserved_first(alloc: Global, heap: Lent<'_>, taken: &Cell<u32>) -> Result<(), Wrong> {
     let mut text = Wtf8Buf::new(heap);
     expect_reserved(heap, &mut text, taken)?;
     expect_refused(heap, &mut text, taken)?;
-    expect_dump(alloc, text.as_wtf8(), "")
+    expect_bytes(alloc, text.as_wtf8(), "")
 }
 
 #[test]
-fn room_for_the_lower_hint_is_reserved_first(rt: HostRuntime) -> Result<(), Fail> {
+fn room_for_the_lower_hint_is_reserved_first(rt: HostRuntime) -> Result<(), Wrong> {
     let alloc = rt.alloc();
     let taken = Cell::new(0);
     let heap = Refusing::new(alloc, 0);
@@ -214,17 +214,17 @@ fn expect_upper(
     row: Upper,
     len: Result<usize, AllocError>,
     taken: &Cell<u32>,
-) -> Result<(), Fail> {
+) -> Result<(), Wrong> {
     let (left, _, upper, requests, bytes) = row;
     let are_taken = taken.take() == left && len == Ok(left as usize * 3);
     if !are_taken || heap.requests() != requests || heap.bytes() != bytes {
-        return Err(Fail::new(format_args!("{left} below {upper}")));
+        return Err(Wrong::Requests);
     }
     Ok(())
 }
 
 #[test]
-fn no_room_is_reserved_for_the_upper_hint(rt: HostRuntime) -> Result<(), Fail> {
+fn no_room_is_reserved_for_the_upper_hint(rt: HostRuntime) -> Result<(), Wrong> {
     let taken = Cell::new(0);
     let heap = Refusing::new(rt.alloc(), 0);
     for row in upper_rows() {
@@ -244,11 +244,11 @@ fn are_refused(alloc: Global, text: &mut Wtf8Buf<Global>, taken: &Cell<u32>) -> 
 }
 
 #[test]
-fn no_item_is_taken_if_the_hint_is_too_large(rt: HostRuntime) -> Result<(), Fail> {
+fn no_item_is_taken_if_the_hint_is_too_large(rt: HostRuntime) -> Result<(), Wrong> {
     let alloc = rt.alloc();
     let taken = Cell::new(0);
     let mut text = Wtf8Buf::from_str(alloc, "a")?;
     assert!(rt; are_refused(alloc, &mut text, &taken));
     assert!(rt; taken.get() == 0);
-    expect_dump(alloc, text.as_wtf8(), "61")
+    expect_bytes(alloc, text.as_wtf8(), "61")
 }

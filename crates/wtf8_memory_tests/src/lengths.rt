@@ -4,7 +4,7 @@ use crate::samples::{Call, Sample, expect_refused, is_done, sample_with};
 use crate::shared::Lent;
 use refusing::Refusing;
 use std::alloc::{AllocError, Allocator, Global};
-use std::test::Fail;
+use wtf8_tests::wrong::Wrong;
 
 /// Eight units that repeat in a string: of one kind alone, or mixed, without lone surrogates and with some.
 const KINDS: [[u16; 8]; 8] = [
@@ -228,11 +228,10 @@ fn is_within<A: Allocator>(sample: &Sample<A>, requests: u64, bytes: usize) -> b
 
 /// Fails unless the call succeeds if all is granted, with the expected number of requests and of bytes. Returns the
 /// number of requests.
-fn expect_granted<'a>(heap: Lent<'a>, call: Call, sample: &Sample<Lent<'a>>) -> Result<u64, Fail> {
+fn expect_granted<'a>(heap: Lent<'a>, call: Call, sample: &Sample<Lent<'a>>) -> Result<u64, Wrong> {
     heap.grant(u64::MAX);
-    let length = sample.units.len();
     if !is_done(heap, call, sample) {
-        return Err(Fail::new(format_args!("{call:?} refused at {length}")));
+        return Err(Wrong::Outcome);
     }
     let (requests, bytes) = (heap.requests(), heap.bytes());
     let is_as_needed = match room_after(call, sample) {
@@ -240,13 +239,13 @@ fn expect_granted<'a>(heap: Lent<'a>, call: Call, sample: &Sample<Lent<'a>>) -> 
         None => is_within(sample, requests, bytes),
     };
     if !is_as_needed {
-        return Err(Fail::new(format_args!("{call:?} asked for {bytes} bytes at {length}")));
+        return Err(Wrong::Requests);
     }
     Ok(requests)
 }
 
 /// Fails unless each call on a sample succeeds if all is granted, with the expected number of requests and of bytes.
-fn expect_calls<'a>(heap: Lent<'a>, sample: &Sample<Lent<'a>>) -> Result<(), Fail> {
+fn expect_calls<'a>(heap: Lent<'a>, sample: &Sample<Lent<'a>>) -> Result<(), Wrong> {
     for call in CALLS {
         expect_granted(heap, call, sample)?;
     }
@@ -254,13 +253,13 @@ fn expect_calls<'a>(heap: Lent<'a>, sample: &Sample<Lent<'a>>) -> Result<(), Fai
 }
 
 /// Fails unless each call succeeds on `length` units that repeat `kind`, with the expected requests and bytes.
-fn expect_done(alloc: Global, heap: Lent<'_>, kind: &[u16; 8], length: usize) -> Result<(), Fail> {
+fn expect_done(alloc: Global, heap: Lent<'_>, kind: &[u16; 8], length: usize) -> Result<(), Wrong> {
     let sample = sample_of(alloc, heap, kind, length)?;
     expect_calls(heap, &sample)
 }
 
 #[test]
-fn each_call_is_done_at_each_length(rt: HostRuntime) -> Result<(), Fail> {
+fn each_call_is_done_at_each_length(rt: HostRuntime) -> Result<(), Wrong> {
     let alloc = rt.alloc();
     let heap = Refusing::new(alloc, 0);
     for kind in &KINDS {
@@ -275,7 +274,7 @@ fn each_call_is_done_at_each_length(rt: HostRuntime) -> Result<(), Fail> {
 }
 
 #[test]
-fn each_call_is_done_about_powers_of_two(rt: HostRuntime) -> Result<(), Fail> {
+fn each_call_is_done_about_powers_of_two(rt: HostRuntime) -> Result<(), Wrong> {
     let alloc = rt.alloc();
     let heap = Refusing::new(alloc, 0);
     for (unit, lengths) in ABOUT_POWERS {
@@ -287,7 +286,7 @@ fn each_call_is_done_about_powers_of_two(rt: HostRuntime) -> Result<(), Fail> {
 }
 
 /// Fails unless each call on a sample fails at each request that is refused.
-fn expect_refusals<'a>(heap: Lent<'a>, sample: &Sample<Lent<'a>>) -> Result<(), Fail> {
+fn expect_refusals<'a>(heap: Lent<'a>, sample: &Sample<Lent<'a>>) -> Result<(), Wrong> {
     for call in CALLS {
         let requests = expect_granted(heap, call, sample)?;
         expect_refused(heap, call, sample, requests)?;
@@ -301,7 +300,7 @@ fn expect_failures(
     heap: Lent<'_>,
     kind: &[u16; 8],
     length: usize,
-) -> Result<(), Fail> {
+) -> Result<(), Wrong> {
     let sample = sample_of(alloc, heap, kind, length)?;
     expect_refusals(heap, &sample)
 }
@@ -310,7 +309,7 @@ fn expect_failures(
 const REFUSED: [usize; 15] = [0, 1, 2, 3, 8, 15, 16, 17, 31, 32, 33, 64, 100, 300, 1000];
 
 #[test]
-fn each_call_fails_at_each_refusal(rt: HostRuntime) -> Result<(), Fail> {
+fn each_call_fails_at_each_refusal(rt: HostRuntime) -> Result<(), Wrong> {
     let alloc = rt.alloc();
     let heap = Refusing::new(alloc, 0);
     for kind in &KINDS {

@@ -2,9 +2,9 @@
 use crate::shared::{FULL, Lent, call_named, full};
 use refusing::{REFUSALS, Refusal, Refusing};
 use std::alloc::{AllocError, Allocator, Global};
-use std::test::Fail;
 use wtf8::{Build, CodePoint, Wtf8, Wtf8Buf};
-use wtf8_tests::examples::{expect_dump, expect_made, joined, point_of_unit};
+use wtf8_tests::examples::{expect_made, joined, point_of_unit};
+use wtf8_tests::wrong::{Wrong, expect_bytes};
 
 /// The string that the calls build, each made by the method of its name.
 fn folded(alloc: Global, calls: &[Build<'_>]) -> Result<Wtf8Buf<Global>, AllocError> {
@@ -90,17 +90,17 @@ fn expect_stop(
     calls: &[Build<'_>],
     stop: Stop,
     refusal: Refusal,
-) -> Result<(), Fail> {
+) -> Result<(), Wrong> {
     heap.refuse_after(stop.granted, refusal);
     let mut text = Wtf8Buf::new(heap);
     if !is_stopped(&mut text, calls, stop.done) || heap.requests() != stop.granted.wrapping_add(1) {
-        return Err(Fail::new(stop.dump));
+        return Err(Wrong::Requests);
     }
-    expect_dump(alloc, text.as_wtf8(), stop.dump)
+    expect_bytes(alloc, text.as_wtf8(), stop.dump)
 }
 
 /// Fails unless the list stops at each of its requests, refused for good or once, with the bytes of the calls before.
-fn expect_stops(alloc: Global, heap: Lent<'_>, calls: &[Build<'_>]) -> Result<(), Fail> {
+fn expect_stops(alloc: Global, heap: Lent<'_>, calls: &[Build<'_>]) -> Result<(), Wrong> {
     for stop in stops() {
         expect_made(alloc, before(alloc, calls, stop), stop.dump)?;
         for refusal in REFUSALS {
@@ -125,13 +125,13 @@ fn expect_applied(
     heap: Lent<'_>,
     calls: &[Build<'_>],
     dump: &str,
-) -> Result<(), Fail> {
+) -> Result<(), Wrong> {
     heap.grant(9);
     let mut text = Wtf8Buf::new(heap);
     if !is_applied(&mut text, calls, 3) || heap.grants_left() != 5 {
-        return Err(Fail::new("not applied, or by other requests"));
+        return Err(Wrong::Requests);
     }
-    expect_dump(alloc, text.as_wtf8(), dump)
+    expect_bytes(alloc, text.as_wtf8(), dump)
 }
 
 /// A list with each kind of call. `joining` begins with a trail surrogate; `points` is the extension.
@@ -154,7 +154,7 @@ fn every_call<'a>(joining: Wtf8<'a>, points: &'a [CodePoint]) -> [Build<'a>; 13]
 }
 
 /// Fails unless the list of `every_call` stops at each request that is refused, and is applied if all are granted.
-fn expect_every_call(alloc: Global, heap: Lent<'_>, joining: Wtf8<'_>) -> Result<(), Fail> {
+fn expect_every_call(alloc: Global, heap: Lent<'_>, joining: Wtf8<'_>) -> Result<(), Wrong> {
     let points = [point_of_unit(0x0800); 3];
     let calls = every_call(joining, &points);
     expect_stops(alloc, heap, &calls)?;
@@ -163,7 +163,7 @@ fn expect_every_call(alloc: Global, heap: Lent<'_>, joining: Wtf8<'_>) -> Result
 }
 
 #[test]
-fn a_list_of_every_call_stops_at_each_request(rt: HostRuntime) -> Result<(), Fail> {
+fn a_list_of_every_call_stops_at_each_request(rt: HostRuntime) -> Result<(), Wrong> {
     let alloc = rt.alloc();
     let heap = Refusing::new(alloc, 0);
     let joining = joined(alloc, &[0xDCA9, 0x62])?;
@@ -186,53 +186,53 @@ fn expect_push_refused(
     alloc: Global,
     heap: Lent<'_>,
     text: &mut Wtf8Buf<Lent<'_>>,
-) -> Result<(), Fail> {
+) -> Result<(), Wrong> {
     for refusal in REFUSALS {
         if !is_push_refused(heap, text, refusal) {
-            return Err(Fail::new("not stopped at the push, or by other requests"));
+            return Err(Wrong::Outcome);
         }
-        expect_dump(alloc, text.as_wtf8(), FULL)?;
+        expect_bytes(alloc, text.as_wtf8(), FULL)?;
     }
     Ok(())
 }
 
 /// Fails unless a list stops at a refused push, on a string without spare capacity, and leaves that unchanged.
-fn expect_push_refused_where_full(alloc: Global, heap: Lent<'_>) -> Result<(), Fail> {
+fn expect_push_refused_where_full(alloc: Global, heap: Lent<'_>) -> Result<(), Wrong> {
     let mut text = full(heap)?;
     expect_push_refused(alloc, heap, &mut text)
 }
 
 #[test]
-fn a_list_stops_at_the_refused_push(rt: HostRuntime) -> Result<(), Fail> {
+fn a_list_stops_at_the_refused_push(rt: HostRuntime) -> Result<(), Wrong> {
     let alloc = rt.alloc();
     let heap = Refusing::new(alloc, 1);
     expect_push_refused_where_full(alloc, &heap)
 }
 
 /// Fails unless an extension that needs more than the capacity stops, with the code points appended that fit.
-fn expect_part<A: Allocator>(text: &mut Wtf8Buf<A>, points: &[CodePoint]) -> Result<(), Fail> {
+fn expect_part<A: Allocator>(text: &mut Wtf8Buf<A>, points: &[CodePoint]) -> Result<(), Wrong> {
     if !is_stopped(text, &[Build::Extend(points)], 0) {
-        return Err(Fail::new("not stopped at the extension"));
+        return Err(Wrong::Outcome);
     }
     let view = text.as_wtf8();
     if view.len() != text.capacity() / 3 * 3 {
-        return Err(Fail::new("another number of points"));
+        return Err(Wrong::Outcome);
     }
     if view.to_ill_formed_utf16().next() != Some(0x0800) {
-        return Err(Fail::new("other points"));
+        return Err(Wrong::Outcome);
     }
     Ok(())
 }
 
 /// Fails unless an extension of a string of small capacity stops, with the code points appended that fit.
-fn expect_extension_stopped(alloc: Global, heap: Lent<'_>) -> Result<(), Fail> {
+fn expect_extension_stopped(alloc: Global, heap: Lent<'_>) -> Result<(), Wrong> {
     let mut text = Wtf8Buf::with_capacity(heap, 4)?;
     let points: Vec<CodePoint> = vec![in alloc; point_of_unit(0x0800); text.capacity()]?;
     expect_part(&mut text, &points)
 }
 
 #[test]
-fn a_stopped_extension_keeps_the_code_points_that_fit(rt: HostRuntime) -> Result<(), Fail> {
+fn a_stopped_extension_keeps_the_code_points_that_fit(rt: HostRuntime) -> Result<(), Wrong> {
     let alloc = rt.alloc();
     let heap = Refusing::new(alloc, 1);
     expect_extension_stopped(alloc, &heap)

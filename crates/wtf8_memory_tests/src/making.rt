@@ -4,9 +4,9 @@ use crate::samples::{Call, Sample, expect_refused, is_done, sample_with};
 use crate::shared::{Lent, push_letters};
 use refusing::Refusing;
 use std::alloc::{AllocError, Allocator, Global};
-use std::test::Fail;
 use wtf8::Wtf8Buf;
 use wtf8_tests::examples::expect_units;
+use wtf8_tests::wrong::Wrong;
 
 /// A call, its units (for `WithCapacity` their number is the capacity), and the number of its requests and bytes.
 type Row = (Call, &'static [u16], u64, usize);
@@ -44,12 +44,12 @@ fn rows() -> [Row; 17] {
 }
 
 /// Fails unless the call succeeds if all is granted, with the requests and bytes of the row.
-fn expect_granted<'a>(heap: Lent<'a>, row: Row, sample: &Sample<Lent<'a>>) -> Result<(), Fail> {
+fn expect_granted<'a>(heap: Lent<'a>, row: Row, sample: &Sample<Lent<'a>>) -> Result<(), Wrong> {
     let (call, _, requests, bytes) = row;
     heap.grant(9);
     let is_done = is_done(heap, call, sample);
     if !is_done || heap.requests() != requests || heap.bytes() != bytes {
-        return Err(Fail::new(format_args!("{call:?}")));
+        return Err(Wrong::Requests);
     }
     Ok(())
 }
@@ -60,7 +60,7 @@ fn expect_call<'a>(
     row: Row,
     sample: &Sample<Lent<'a>>,
     is_refused: bool,
-) -> Result<(), Fail> {
+) -> Result<(), Wrong> {
     let (call, _, requests, _) = row;
     if is_refused {
         return expect_refused(heap, call, sample, requests);
@@ -79,7 +79,7 @@ fn sample_of<'a>(
 }
 
 /// Fails unless the row's call on a string of its units is as `expect_call` says, and leaves the string unchanged.
-fn expect_row(alloc: Global, heap: Lent<'_>, row: Row, is_refused: bool) -> Result<(), Fail> {
+fn expect_row(alloc: Global, heap: Lent<'_>, row: Row, is_refused: bool) -> Result<(), Wrong> {
     let (_, units, _, _) = row;
     let sample = sample_of(alloc, heap, units)?;
     expect_call(heap, row, &sample, is_refused)?;
@@ -87,7 +87,7 @@ fn expect_row(alloc: Global, heap: Lent<'_>, row: Row, is_refused: bool) -> Resu
 }
 
 /// Fails unless each row's call is as `expect_row` says.
-fn expect_rows(alloc: Global, is_refused: bool) -> Result<(), Fail> {
+fn expect_rows(alloc: Global, is_refused: bool) -> Result<(), Wrong> {
     let heap = Refusing::new(alloc, 0);
     for row in rows() {
         expect_row(alloc, &heap, row, is_refused)?;
@@ -96,12 +96,12 @@ fn expect_rows(alloc: Global, is_refused: bool) -> Result<(), Fail> {
 }
 
 #[test]
-fn a_making_call_makes_its_requests_and_no_other(rt: HostRuntime) -> Result<(), Fail> {
+fn a_making_call_makes_its_requests_and_no_other(rt: HostRuntime) -> Result<(), Wrong> {
     expect_rows(rt.alloc(), false)
 }
 
 #[test]
-fn a_making_call_fails_at_each_refusal(rt: HostRuntime) -> Result<(), Fail> {
+fn a_making_call_fails_at_each_refusal(rt: HostRuntime) -> Result<(), Wrong> {
     expect_rows(rt.alloc(), true)
 }
 
@@ -112,12 +112,16 @@ fn cloned_capacity<A: Allocator + Drop + Copy>(text: &Wtf8Buf<A>) -> Result<usiz
 }
 
 /// Fails unless a clone of the sample's text requests just its `letters` bytes, at once, and fails if that is refused.
-fn expect_clone<'a>(heap: Lent<'a>, sample: &Sample<Lent<'a>>, letters: usize) -> Result<(), Fail> {
+fn expect_clone<'a>(
+    heap: Lent<'a>,
+    sample: &Sample<Lent<'a>>,
+    letters: usize,
+) -> Result<(), Wrong> {
     heap.grant(9);
     let capacity = cloned_capacity(&sample.text);
     let requests = u64::from(0 < letters);
     if capacity != Ok(letters) || heap.requests() != requests || heap.bytes() != letters {
-        return Err(Fail::new(format_args!("a clone of {letters} letters")));
+        return Err(Wrong::Requests);
     }
     expect_refused(heap, Call::Clone, sample, requests)
 }
@@ -136,13 +140,13 @@ fn sample_of_letters<'a>(
 
 /// Fails unless a clone of a string of `letters` bytes, with a capacity of at least 200, makes one request for its
 /// bytes alone, or none if it is empty.
-fn expect_cloned(alloc: Global, heap: Lent<'_>, letters: usize) -> Result<(), Fail> {
+fn expect_cloned(alloc: Global, heap: Lent<'_>, letters: usize) -> Result<(), Wrong> {
     let sample = sample_of_letters(alloc, heap, letters)?;
     expect_clone(heap, &sample, letters)
 }
 
 #[test]
-fn a_clone_has_no_spare_capacity(rt: HostRuntime) -> Result<(), Fail> {
+fn a_clone_has_no_spare_capacity(rt: HostRuntime) -> Result<(), Wrong> {
     let alloc = rt.alloc();
     let heap = Refusing::new(alloc, 0);
     for letters in [0, 1, 31, 32, 33, 64, 100, 199, 200] {

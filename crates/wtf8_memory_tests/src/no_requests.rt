@@ -4,11 +4,9 @@ use crate::shared::{Lent, Step, expect_step};
 use refusing::Refusing;
 use std::alloc::{AllocError, Allocator, Global};
 use std::borrow::CowStr;
-use std::test::Fail;
 use wtf8::{Build, CodePoint, Wtf8, Wtf8Buf};
-use wtf8_tests::examples::{
-    TEXT, TEXT_DUMP, expect, expect_dump, expect_made, point_of_unit, pushed,
-};
+use wtf8_tests::examples::{TEXT, TEXT_DUMP, expect_made, expect_true, point_of_unit, pushed};
+use wtf8_tests::wrong::{Wrong, expect_bytes};
 
 const LEAD: u16 = 0xD83D;
 
@@ -18,10 +16,10 @@ const TRAIL: u16 = 0xDCA9;
 const GRANTS: [u64; 2] = [0, 9];
 
 /// Fails if `outcome` did, or unless `grants` requests are still granted, so that none was made.
-fn expect_left(heap: Lent<'_>, grants: u64, outcome: Result<(), Fail>) -> Result<(), Fail> {
+fn expect_left(heap: Lent<'_>, grants: u64, outcome: Result<(), Wrong>) -> Result<(), Wrong> {
     outcome?;
     if heap.grants_left() != grants {
-        return Err(Fail::new("a request was made"));
+        return Err(Wrong::Requests);
     }
     Ok(())
 }
@@ -60,15 +58,15 @@ fn has_no_texts<A: Allocator + Drop + Copy>(heap: A, view: Wtf8<'_>) -> Result<b
 }
 
 /// Fails unless an empty string to which nothing is appended is empty, and so are its hex dump and lossy text.
-fn expect_nothing<A: Allocator + Drop + Copy>(alloc: Global, heap: A) -> Result<(), Fail> {
+fn expect_nothing<A: Allocator + Drop + Copy>(alloc: Global, heap: A) -> Result<(), Wrong> {
     let mut text = Wtf8Buf::new(heap);
     append_nothing(&mut text)?;
-    expect_dump(alloc, text.as_wtf8(), "")?;
-    expect(has_no_texts(heap, text.as_wtf8()), "a text of nothing")
+    expect_bytes(alloc, text.as_wtf8(), "")?;
+    expect_true(has_no_texts(heap, text.as_wtf8()))
 }
 
 #[test]
-fn empty_values_make_no_request(rt: HostRuntime) -> Result<(), Fail> {
+fn empty_values_make_no_request(rt: HostRuntime) -> Result<(), Wrong> {
     let alloc = rt.alloc();
     let heap = Refusing::new(alloc, 0);
     for grants in GRANTS {
@@ -79,7 +77,7 @@ fn empty_values_make_no_request(rt: HostRuntime) -> Result<(), Fail> {
 }
 
 /// Fails unless each call that makes a string of nothing makes an empty one.
-fn expect_made_of_nothing<A: Allocator + Drop + Copy>(alloc: Global, heap: A) -> Result<(), Fail> {
+fn expect_made_of_nothing<A: Allocator + Drop + Copy>(alloc: Global, heap: A) -> Result<(), Wrong> {
     expect_made(alloc, Wtf8Buf::with_capacity(heap, 0), "")?;
     expect_made(alloc, Wtf8Buf::from_str(heap, ""), "")?;
     expect_made(alloc, Wtf8Buf::from_ill_formed_utf16(heap, &[]), "")?;
@@ -87,7 +85,7 @@ fn expect_made_of_nothing<A: Allocator + Drop + Copy>(alloc: Global, heap: A) ->
 }
 
 #[test]
-fn strings_of_nothing_make_no_request(rt: HostRuntime) -> Result<(), Fail> {
+fn strings_of_nothing_make_no_request(rt: HostRuntime) -> Result<(), Wrong> {
     let alloc = rt.alloc();
     let heap = Refusing::new(alloc, 0);
     for grants in GRANTS {
@@ -108,12 +106,12 @@ fn is_lossy_text_borrowed<A: Allocator + Drop>(
 }
 
 #[test]
-fn a_borrowed_lossy_text_makes_no_request(rt: HostRuntime) -> Result<(), Fail> {
+fn a_borrowed_lossy_text_makes_no_request(rt: HostRuntime) -> Result<(), Wrong> {
     let heap = Refusing::new(rt.alloc(), 0);
     for grants in GRANTS {
         heap.grant(grants);
         let found = is_lossy_text_borrowed(&heap, Wtf8::from_str("a"), "a");
-        expect_left(&heap, grants, expect(found, "another text, or a copy"))?;
+        expect_left(&heap, grants, expect_true(found))?;
     }
     Ok(())
 }
@@ -132,21 +130,21 @@ fn push_anew<A: Allocator>(text: &mut Wtf8Buf<A>) -> Result<(), AllocError> {
 }
 
 /// Fails unless two pushed surrogates become one code point, and it can be pushed again once the string is cleared.
-fn expect_pair<A: Allocator>(alloc: Global, text: &mut Wtf8Buf<A>) -> Result<(), Fail> {
+fn expect_pair<A: Allocator>(alloc: Global, text: &mut Wtf8Buf<A>) -> Result<(), Wrong> {
     push_pair(text)?;
-    expect_dump(alloc, text.as_wtf8(), "F0 9F 92 A9")?;
+    expect_bytes(alloc, text.as_wtf8(), "F0 9F 92 A9")?;
     push_anew(text)?;
     Ok(())
 }
 
 /// Fails unless a surrogate pair, pushed in halves and then as a character, fits in a capacity of four bytes.
-fn expect_room_for_pair(alloc: Global, heap: Lent<'_>, grants: u64) -> Result<(), Fail> {
+fn expect_room_for_pair(alloc: Global, heap: Lent<'_>, grants: u64) -> Result<(), Wrong> {
     let mut text = with_room(heap, 4, grants)?;
     expect_pair(alloc, &mut text)
 }
 
 #[test]
-fn pushes_within_capacity_make_no_request(rt: HostRuntime) -> Result<(), Fail> {
+fn pushes_within_capacity_make_no_request(rt: HostRuntime) -> Result<(), Wrong> {
     let alloc = rt.alloc();
     let heap = Refusing::new(alloc, 0);
     for grants in GRANTS {
@@ -173,7 +171,7 @@ fn push_string_and_pair<A: Allocator>(
 }
 
 /// Makes each call that appends; `push_wtf8` appends a trail after a lead.
-fn push_each<A: Allocator>(alloc: Global, text: &mut Wtf8Buf<A>) -> Result<(), Fail> {
+fn push_each<A: Allocator>(alloc: Global, text: &mut Wtf8Buf<A>) -> Result<(), Wrong> {
     let trail = pushed(alloc, &[0xDCA9, 0x62])?;
     push_text_and_lead(text)?;
     push_string_and_pair(text, trail.as_wtf8())?;
@@ -181,10 +179,10 @@ fn push_each<A: Allocator>(alloc: Global, text: &mut Wtf8Buf<A>) -> Result<(), F
 }
 
 /// Fails unless each call that appends succeeds within the capacity of the string.
-fn expect_room_for_each(alloc: Global, heap: Lent<'_>) -> Result<(), Fail> {
+fn expect_room_for_each(alloc: Global, heap: Lent<'_>) -> Result<(), Wrong> {
     let mut text = with_room(heap, 20, 9)?;
     push_each(alloc, &mut text)?;
-    expect_dump(
+    expect_bytes(
         alloc,
         text.as_wtf8(),
         "61 C3 A9 20 F0 9F 92 A9 61 F0 9F 92 A9 62 F0 9F 92 A9",
@@ -192,7 +190,7 @@ fn expect_room_for_each(alloc: Global, heap: Lent<'_>) -> Result<(), Fail> {
 }
 
 #[test]
-fn each_call_within_capacity_makes_no_request(rt: HostRuntime) -> Result<(), Fail> {
+fn each_call_within_capacity_makes_no_request(rt: HostRuntime) -> Result<(), Wrong> {
     let alloc = rt.alloc();
     let heap = Refusing::new(alloc, 0);
     expect_left(&heap, 9, expect_room_for_each(alloc, &heap))
@@ -212,16 +210,16 @@ fn is_pair_applied<A: Allocator>(text: &mut Wtf8Buf<A>) -> bool {
 }
 
 /// Fails unless a list that appends the two surrogates of a pair fits in a capacity of four bytes.
-fn expect_room_for_list(alloc: Global, heap: Lent<'_>, grants: u64) -> Result<(), Fail> {
+fn expect_room_for_list(alloc: Global, heap: Lent<'_>, grants: u64) -> Result<(), Wrong> {
     let mut text = with_room(heap, 4, grants)?;
     if !is_pair_applied(&mut text) {
-        return Err(Fail::new("a list is not applied"));
+        return Err(Wrong::Outcome);
     }
-    expect_dump(alloc, text.as_wtf8(), "F0 9F 92 A9")
+    expect_bytes(alloc, text.as_wtf8(), "F0 9F 92 A9")
 }
 
 #[test]
-fn a_list_within_capacity_makes_no_request(rt: HostRuntime) -> Result<(), Fail> {
+fn a_list_within_capacity_makes_no_request(rt: HostRuntime) -> Result<(), Wrong> {
     let alloc = rt.alloc();
     let heap = Refusing::new(alloc, 0);
     for grants in GRANTS {
@@ -255,7 +253,7 @@ fn expect_each_applied<A: Allocator>(
     alloc: Global,
     text: &mut Wtf8Buf<A>,
     piece: Wtf8<'_>,
-) -> Result<(), Fail> {
+) -> Result<(), Wrong> {
     let lead = [point_of_unit(LEAD)];
     for row in applied_rows(&lead, piece) {
         expect_step(alloc, text, row)?;
@@ -264,19 +262,19 @@ fn expect_each_applied<A: Allocator>(
 }
 
 /// Fails unless the calls of `applied_rows` are as the rows tell within a capacity of 20 bytes.
-fn expect_room_for_applied(alloc: Global, heap: Lent<'_>, piece: Wtf8<'_>) -> Result<(), Fail> {
+fn expect_room_for_applied(alloc: Global, heap: Lent<'_>, piece: Wtf8<'_>) -> Result<(), Wrong> {
     let mut text = with_room(heap, 20, 9)?;
     expect_each_applied(alloc, &mut text, piece)
 }
 
 /// Fails unless the calls of `applied_rows`, with a trail and "b" as the piece, fit in a capacity of 20 bytes.
-fn expect_trail_applied(alloc: Global, heap: Lent<'_>) -> Result<(), Fail> {
+fn expect_trail_applied(alloc: Global, heap: Lent<'_>) -> Result<(), Wrong> {
     let piece = pushed(alloc, &[0xDCA9, 0x62])?;
     expect_room_for_applied(alloc, heap, piece.as_wtf8())
 }
 
 #[test]
-fn applied_calls_within_capacity_make_no_request(rt: HostRuntime) -> Result<(), Fail> {
+fn applied_calls_within_capacity_make_no_request(rt: HostRuntime) -> Result<(), Wrong> {
     let alloc = rt.alloc();
     let heap = Refusing::new(alloc, 0);
     expect_left(&heap, 9, expect_trail_applied(alloc, &heap))
@@ -304,38 +302,35 @@ fn is_text_borrowed<A: Allocator + Drop>(heap: A, view: Wtf8<'_>) -> Result<bool
 }
 
 /// Fails unless `owned` is `TEXT`, also as a string made of it and as that string's lossy text.
-fn expect_again<A: Allocator + Drop>(alloc: Global, owned: String<A>) -> Result<(), Fail> {
+fn expect_again<A: Allocator + Drop>(alloc: Global, owned: String<A>) -> Result<(), Wrong> {
     if owned.as_str() != TEXT {
-        return Err(Fail::new("another text of its own"));
+        return Err(Wrong::Outcome);
     }
     let again = Wtf8Buf::from_string(owned);
-    expect_dump(alloc, again.as_wtf8(), TEXT_DUMP)?;
+    expect_bytes(alloc, again.as_wtf8(), TEXT_DUMP)?;
     if again.into_string_lossy().as_str() != TEXT {
-        return Err(Fail::new("another lossy text"));
+        return Err(Wrong::Outcome);
     }
     Ok(())
 }
 
 /// Fails unless `into_string` succeeds, and its text makes the string and the lossy text again.
-fn expect_owned<A: Allocator + Drop>(alloc: Global, text: Wtf8Buf<A>) -> Result<(), Fail> {
+fn expect_owned<A: Allocator + Drop>(alloc: Global, text: Wtf8Buf<A>) -> Result<(), Wrong> {
     match text.into_string() {
         Ok(owned) => expect_again(alloc, owned),
-        Err(_) => Err(Fail::new("the text came back")),
+        Err(_) => Err(Wrong::Outcome),
     }
 }
 
 /// Fails unless the string of `TEXT` is borrowed as text, and converts to an owned text.
-fn expect_text(alloc: Global, heap: Lent<'_>, grants: u64) -> Result<(), Fail> {
+fn expect_text(alloc: Global, heap: Lent<'_>, grants: u64) -> Result<(), Wrong> {
     let text = text_of(heap, false, grants)?;
-    expect(
-        is_text_borrowed(heap, text.as_wtf8()),
-        "another text, or a copy",
-    )?;
+    expect_true(is_text_borrowed(heap, text.as_wtf8()))?;
     expect_owned(alloc, text)
 }
 
 #[test]
-fn texts_of_a_string(rt: HostRuntime) -> Result<(), Fail> {
+fn texts_of_a_string(rt: HostRuntime) -> Result<(), Wrong> {
     let alloc = rt.alloc();
     let heap = Refusing::new(alloc, 0);
     for grants in GRANTS {
@@ -345,10 +340,10 @@ fn texts_of_a_string(rt: HostRuntime) -> Result<(), Fail> {
 }
 
 /// Fails unless `back` is `TEXT` and a lead surrogate, which is U+FFFD in the lossy text.
-fn expect_lossy<A: Allocator + Drop>(alloc: Global, back: Wtf8Buf<A>) -> Result<(), Fail> {
-    expect_dump(alloc, back.as_wtf8(), "61 C3 A9 20 F0 9F 92 A9 ED A0 80")?;
+fn expect_lossy<A: Allocator + Drop>(alloc: Global, back: Wtf8Buf<A>) -> Result<(), Wrong> {
+    expect_bytes(alloc, back.as_wtf8(), "61 C3 A9 20 F0 9F 92 A9 ED A0 80")?;
     if back.into_string_lossy().as_str() != "aé 💩\u{FFFD}" {
-        return Err(Fail::new("another lossy text"));
+        return Err(Wrong::Outcome);
     }
     Ok(())
 }
@@ -357,19 +352,19 @@ fn expect_lossy<A: Allocator + Drop>(alloc: Global, back: Wtf8Buf<A>) -> Result<
 fn expect_no_text<A: Allocator + Drop>(
     alloc: Global,
     made: Result<Wtf8Buf<A>, AllocError>,
-) -> Result<(), Fail> {
+) -> Result<(), Wrong> {
     let text = made?;
     if text.as_wtf8().as_str().is_some() {
-        return Err(Fail::new("a text of a surrogate"));
+        return Err(Wrong::Outcome);
     }
     match text.into_string() {
-        Ok(_) => Err(Fail::new("it holds a surrogate")),
+        Ok(_) => Err(Wrong::Outcome),
         Err(back) => expect_lossy(alloc, back),
     }
 }
 
 #[test]
-fn texts_of_a_string_with_a_surrogate(rt: HostRuntime) -> Result<(), Fail> {
+fn texts_of_a_string_with_a_surrogate(rt: HostRuntime) -> Result<(), Wrong> {
     let alloc = rt.alloc();
     let heap = Refusing::new(alloc, 0);
     for grants in GRANTS {

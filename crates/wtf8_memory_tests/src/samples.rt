@@ -2,9 +2,9 @@
 use crate::shared::Lent;
 use refusing::REFUSALS;
 use std::alloc::{AllocError, Allocator, Global};
-use std::test::Fail;
 use wtf8::{Build, CodePoint, Wtf8, Wtf8Buf};
 use wtf8_tests::examples::{point_of_unit, points_of_units};
+use wtf8_tests::wrong::Wrong;
 
 /// A string with spare capacity, and the units and the code points that it is made of.
 #[derive(Drop)]
@@ -37,7 +37,7 @@ pub fn sample_with<A: Allocator + Drop>(
 }
 
 /// A call that requests memory.
-#[derive(Clone, Copy, Debug)]
+#[derive(Clone, Copy)]
 pub enum Call {
     WithCapacity,
     FromStr,
@@ -152,14 +152,13 @@ pub fn expect_refused<'a>(
     call: Call,
     sample: &Sample<Lent<'a>>,
     requests: u64,
-) -> Result<(), Fail> {
+) -> Result<(), Wrong> {
     for refusal in REFUSALS {
         for granted in 0..requests {
             heap.refuse_after(granted, refusal);
             let is_done = is_done(heap, call, sample);
             if is_done || heap.requests() != granted.wrapping_add(1) {
-                let length = sample.units.len();
-                return Err(Fail::new(format_args!("{call:?} at {length} with {granted} granted")));
+                return Err(Wrong::Requests);
             }
         }
     }

@@ -1,9 +1,9 @@
 // Strings and calls that several test modules use.
 use refusing::Refusing;
 use std::alloc::{AllocError, Allocator, Global};
-use std::test::Fail;
 use wtf8::{Build, Wtf8Buf};
-use wtf8_tests::examples::{expect_dump, point_of_unit};
+use wtf8_tests::examples::point_of_unit;
+use wtf8_tests::wrong::{Wrong, expect_bytes};
 
 pub type Lent<'a> = &'a Refusing<Global>;
 
@@ -87,10 +87,10 @@ pub fn expect_step<A: Allocator>(
     alloc: Global,
     text: &mut Wtf8Buf<A>,
     row: Step<'_>,
-) -> Result<(), Fail> {
+) -> Result<(), Wrong> {
     let (call, is_done, dump) = row;
     if text.apply(call) != Ok(is_done) {
-        return Err(Fail::new(dump));
+        return Err(Wrong::Outcome);
     }
-    expect_dump(alloc, text.as_wtf8(), dump)
+    expect_bytes(alloc, text.as_wtf8(), dump)
 }

@@ -1,7 +1,7 @@
 // `append_units` appends all code units of a string after a vector's own, wherever a block of one kind ends.
+use crate::wrong::Wrong;
 use refusing::Refusing;
 use std::alloc::{AllocError, Global};
-use std::test::Fail;
 use wtf8::{Wtf8, Wtf8Buf};
 
 /// The units that a vector holds before the call of `append_units`.
@@ -83,10 +83,10 @@ fn are_units_back(alloc: Global, units: &[u16]) -> Result<bool, AllocError> {
 }
 
 /// Fails unless the units come back by `append_units`.
-fn expect_units_back(alloc: Global, units: Result<Vec<u16>, AllocError>) -> Result<(), Fail> {
+fn expect_units_back(alloc: Global, units: Result<Vec<u16>, AllocError>) -> Result<(), Wrong> {
     let units = units?;
     if !are_units_back(alloc, &units)? {
-        return Err(Fail::new(format_args!("{units:?}")));
+        return Err(Wrong::Outcome);
     }
     Ok(())
 }
@@ -107,7 +107,7 @@ fn overwritten(
 }
 
 /// Fails unless lists of `length` times `unit`, overwritten from each index on by each of `others`, come back.
-fn expect_overwritten_back(alloc: Global, unit: u16, length: usize) -> Result<(), Fail> {
+fn expect_overwritten_back(alloc: Global, unit: u16, length: usize) -> Result<(), Wrong> {
     for at in 0..length {
         for other in others() {
             expect_units_back(alloc, overwritten(alloc, unit, length, other, at))?;
@@ -117,7 +117,7 @@ fn expect_overwritten_back(alloc: Global, unit: u16, length: usize) -> Result<()
 }
 
 #[test]
-fn all_units_are_appended(rt: HostRuntime) -> Result<(), Fail> {
+fn all_units_are_appended(rt: HostRuntime) -> Result<(), Wrong> {
     let alloc = rt.alloc();
     for length in 0..=50 {
         expect_units_back(alloc, vec![in alloc; 0x0061; length])?;
@@ -127,7 +127,7 @@ fn all_units_are_appended(rt: HostRuntime) -> Result<(), Fail> {
 }
 
 #[test]
-fn blocks_of_other_units_are_appended(rt: HostRuntime) -> Result<(), Fail> {
+fn blocks_of_other_units_are_appended(rt: HostRuntime) -> Result<(), Wrong> {
     let alloc = rt.alloc();
     for length in 0..=26 {
         for unit in [0x0080, 0x07FF, 0x0800, 0xFFFF, 0xD7FF, 0xD800, 0xDFFF] {
@@ -150,7 +150,7 @@ fn inserted(alloc: Global, start: u16, other: &[u16], at: u16) -> Result<Vec<u16
 }
 
 /// Fails unless 40 consecutive units from `start` on, with `other` inserted at each index, come back.
-fn expect_inserted_back(alloc: Global, start: u16, other: &[u16]) -> Result<(), Fail> {
+fn expect_inserted_back(alloc: Global, start: u16, other: &[u16]) -> Result<(), Wrong> {
     for at in 0..40 {
         expect_units_back(alloc, inserted(alloc, start, other, at))?;
     }
@@ -158,7 +158,7 @@ fn expect_inserted_back(alloc: Global, start: u16, other: &[u16]) -> Result<(), 
 }
 
 #[test]
-fn blocks_of_different_units_are_appended(rt: HostRuntime) -> Result<(), Fail> {
+fn blocks_of_different_units_are_appended(rt: HostRuntime) -> Result<(), Wrong> {
     let alloc = rt.alloc();
     for start in [0x0080, 0x07E8, 0x4E00, 0xD7F0, 0xDBF0, 0xFFD8] {
         for other in others() {

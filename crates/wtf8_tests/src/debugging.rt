@@ -1,20 +1,10 @@
 // `Debug` output of strings and code points: it ignores width, precision and flags, and ends at a refused write.
 use crate::examples::{point_of_number, pushed};
-use crate::sinks::{Sink, is_written, long_text};
+use crate::long_texts::long_text;
+use crate::sinks::Sink;
+use crate::wrong::Wrong;
 use std::alloc::{AllocError, Global};
 use std::fmt::{Debug, Write};
-use std::test::Fail;
-use wtf8::{CodePoint, Wtf8};
-
-/// Whether the debug output is `expected`, both plain and with a width, a precision or flags.
-fn shows<T: Debug>(alloc: Global, value: &T, expected: &str) -> bool {
-    is_written(format!(in alloc; "{value:?}"), expected)
-        && is_written(format!(in alloc; "{value:30?}"), expected)
-        && is_written(format!(in alloc; "{value:+?}"), expected)
-        && is_written(format!(in alloc; "{value:.3?}"), expected)
-        && is_written(format!(in alloc; "{value:#?}"), expected)
-        && is_written(format!(in alloc; "{value:<#010?}"), expected)
-}
 
 /// Code points of strings, and the strings' debug output.
 fn strings() -> [(&'static [u32], &'static str); 8] {
@@ -33,25 +23,7 @@ fn strings() -> [(&'static [u32], &'static str); 8] {
     ]
 }
 
-/// Fails unless the debug output of the string of these code points, and of its view, is `expected`.
-fn expect_shown(alloc: Global, numbers: &[u32], expected: &str) -> Result<(), Fail> {
-    let text = pushed(alloc, numbers)?;
-    if !shows(alloc, &text, expected) || !shows(alloc, &text.as_wtf8(), expected) {
-        return Err(Fail::new(expected));
-    }
-    Ok(())
-}
-
-#[test]
-fn debug_texts_show_surrogates_by_number(rt: HostRuntime) -> Result<(), Fail> {
-    let alloc = rt.alloc();
-    for (numbers, expected) in strings() {
-        expect_shown(alloc, numbers, expected)?;
-    }
-    assert!(rt; shows(alloc, &Wtf8::from_str("\\u{D800}"), "\"\\u{D800}\""));
-    Ok(())
-}
-
+/// Code points, and their debug output.
 fn points() -> [(u32, &'static str); 12] {
     [
         (0, "U+0000"),
@@ -69,26 +41,7 @@ fn points() -> [(u32, &'static str); 12] {
     ]
 }
 
-#[test]
-fn a_debug_text_has_the_number_in_hexadecimal(rt: HostRuntime) -> Result<(), Fail> {
-    let alloc = rt.alloc();
-    for (number, expected) in points() {
-        assert!(rt;
-            shows(alloc, &point_of_number(number)?, expected),
-            "{expected}"
-        );
-    }
-    Ok(())
-}
-
-#[test]
-fn a_width_pads_no_debug_text(rt: HostRuntime) -> Result<(), Fail> {
-    let point = CodePoint::from_char('a');
-    assert!(rt; is_written(format!(in rt.alloc(); "{point:10?}"), "U+0061"));
-    Ok(())
-}
-
-/// Writes the debug output, with a sign and a width if `is_styled`, to a sink that refuses write number `refused`.
+/// Writes the debug output, with a width, a precision and flags if `is_styled`, to a sink that refuses write number `refused`.
 /// Fails unless it ends there, or is `expected` if no write is refused. Returns the number of writes.
 fn writes_of<T: Debug>(
     alloc: Global,
@@ -96,10 +49,10 @@ fn writes_of<T: Debug>(
     is_styled: bool,
     refused: u32,
     expected: &str,
-) -> Result<u32, Fail> {
+) -> Result<u32, Wrong> {
     let mut sink = Sink::new(alloc, refused);
     let is_ok = if is_styled {
-        write!(sink, "{value:+3000?}").is_ok()
+        write!(sink, "{value:<+#03000.3?}").is_ok()
     } else {
         write!(sink, "{value:?}").is_ok()
     };
@@ -107,7 +60,7 @@ fn writes_of<T: Debug>(
 }
 
 /// Refuses each write of the debug output in turn. Fails unless the output ends there.
-fn expect_ends<T: Debug>(alloc: Global, value: &T, expected: &str) -> Result<(), Fail> {
+fn expect_ends<T: Debug>(alloc: Global, value: &T, expected: &str) -> Result<(), Wrong> {
     for is_styled in [false, true] {
         let writes = writes_of(alloc, value, is_styled, u32::MAX, expected)?;
         for refused in 1..=writes {
@@ -118,14 +71,16 @@ fn expect_ends<T: Debug>(alloc: Global, value: &T, expected: &str) -> Result<(),
 }
 
 /// Fails unless the debug output of the string of these code points, and of its view, ends at each refused write.
-fn expect_string_ends(alloc: Global, numbers: &[u32], expected: &str) -> Result<(), Fail> {
+fn expect_string_ends(alloc: Global, numbers: &[u32], expected: &str) -> Result<(), Wrong> {
     let text = pushed(alloc, numbers)?;
     expect_ends(alloc, &text, expected)?;
     expect_ends(alloc, &text.as_wtf8(), expected)
 }
 
 #[test]
-fn a_debug_text_ends_at_a_refused_write(rt: HostRuntime) -> Result<(), Fail> {
+fn a_debug_text_shows_surrogates_by_number_and_ends_at_a_refused_write(
+    rt: HostRuntime,
+) -> Result<(), Wrong> {
     let alloc = rt.alloc();
     for (numbers, expected) in strings() {
         expect_string_ends(alloc, numbers, expected)?;
@@ -146,13 +101,13 @@ fn quoted(alloc: Global, text: &str) -> Result<String, AllocError> {
 
 /// Fails unless the debug output of a long string with the code point `number`, shown as `shown`, ends at each refused
 /// write.
-fn expect_long_ends(alloc: Global, number: u32, shown: &str) -> Result<(), Fail> {
+fn expect_long_ends(alloc: Global, number: u32, shown: &str) -> Result<(), Wrong> {
     let (numbers, text) = long_text(alloc, 160, number, shown)?;
     expect_string_ends(alloc, &numbers, &quoted(alloc, &text)?)
 }
 
 #[test]
-fn a_long_debug_text_ends_at_a_refused_write(rt: HostRuntime) -> Result<(), Fail> {
+fn a_long_debug_text_ends_at_a_refused_write(rt: HostRuntime) -> Result<(), Wrong> {
     let alloc = rt.alloc();
     expect_long_ends(alloc, 0xDEAD, "\\u{DEAD}")?;
     expect_long_ends(alloc, 0x07, "\u{7}")

@@ -1,10 +1,11 @@
 // `Display` output of strings: with a width, a fill and a precision, and through a sink that refuses a write.
-use crate::examples::{expect, pushed};
-use crate::sinks::{Sink, is_written, long_text};
+use crate::examples::{expect_true, pushed};
+use crate::long_texts::long_text;
+use crate::sinks::Sink;
+use crate::wrong::Wrong;
 use std::alloc::{AllocError, Global};
 use std::fmt;
 use std::fmt::{Display, Write};
-use std::test::Fail;
 use wtf8::Wtf8Buf;
 
 /// Code points of strings, and their `Display` output by `{}`, `{:>8}`, `{:*^8.1}`, `{:*<6.2}` and `{:+4}`, equal to
@@ -24,33 +25,6 @@ fn styled() -> [(&'static [u32], [&'static str; 5]); 6] {
         (&[0x61, 0xD83D, 0x62], ["a\u{FFFD}b"; 5]),
         (&[0xDCA9, 0xD83D], ["\u{FFFD}\u{FFFD}"; 5]),
     ]
-}
-
-/// Whether the outputs of `value` by the five formats of `styled` are `expected`.
-fn shows<T: Display>(alloc: Global, value: &T, expected: [&str; 5]) -> bool {
-    is_written(format!(in alloc; "{value}"), expected[0])
-        && is_written(format!(in alloc; "{value:>8}"), expected[1])
-        && is_written(format!(in alloc; "{value:*^8.1}"), expected[2])
-        && is_written(format!(in alloc; "{value:*<6.2}"), expected[3])
-        && is_written(format!(in alloc; "{value:+4}"), expected[4])
-}
-
-/// Fails unless the outputs of the string of these code points, and of its view, are `expected`.
-fn expect_shown(alloc: Global, numbers: &[u32], expected: [&str; 5]) -> Result<(), Fail> {
-    let text = pushed(alloc, numbers)?;
-    if !shows(alloc, &text, expected) || !shows(alloc, &text.as_wtf8(), expected) {
-        return Err(Fail::new(expected[0]));
-    }
-    Ok(())
-}
-
-#[test]
-fn a_text_is_filled_and_a_lossy_text_is_not(rt: HostRuntime) -> Result<(), Fail> {
-    let alloc = rt.alloc();
-    for (numbers, expected) in styled() {
-        expect_shown(alloc, numbers, expected)?;
-    }
-    Ok(())
 }
 
 /// Takes `left` writes, each followed by `|`, refuses the next one, and takes all after that.
@@ -121,14 +95,11 @@ fn parts_rows() -> [(&'static [u32], &'static [&'static str]); 5] {
 }
 
 #[test]
-fn a_lossy_text_is_written_in_parts(rt: HostRuntime) -> Result<(), Fail> {
+fn a_lossy_text_is_written_in_parts(rt: HostRuntime) -> Result<(), Wrong> {
     let alloc = rt.alloc();
     for (numbers, parts) in parts_rows() {
         let text = pushed(alloc, numbers)?;
-        expect(
-            is_in_parts(alloc, &text, parts),
-            "not in the parts of the table",
-        )?;
+        expect_true(is_in_parts(alloc, &text, parts))?;
     }
     Ok(())
 }
@@ -141,7 +112,7 @@ fn writes_of<T: Display>(
     style: usize,
     refused: u32,
     expected: &str,
-) -> Result<u32, Fail> {
+) -> Result<u32, Wrong> {
     let mut sink = Sink::new(alloc, refused);
     let is_ok = match style {
         0 => write!(sink, "{value}").is_ok(),
@@ -154,7 +125,7 @@ fn writes_of<T: Display>(
 }
 
 /// Refuses each write in each format in turn. Fails unless the output ends there.
-fn expect_ends<T: Display>(alloc: Global, value: &T, expected: [&str; 5]) -> Result<(), Fail> {
+fn expect_ends<T: Display>(alloc: Global, value: &T, expected: [&str; 5]) -> Result<(), Wrong> {
     for (style, expected) in expected.iter().enumerate() {
         let writes = writes_of(alloc, value, style, u32::MAX, expected)?;
         for refused in 1..=writes {
@@ -165,14 +136,16 @@ fn expect_ends<T: Display>(alloc: Global, value: &T, expected: [&str; 5]) -> Res
 }
 
 /// Fails unless the output of the string of these code points, and of its view, ends at each refused write.
-fn expect_string_ends(alloc: Global, numbers: &[u32], expected: [&str; 5]) -> Result<(), Fail> {
+fn expect_string_ends(alloc: Global, numbers: &[u32], expected: [&str; 5]) -> Result<(), Wrong> {
     let text = pushed(alloc, numbers)?;
     expect_ends(alloc, &text, expected)?;
     expect_ends(alloc, &text.as_wtf8(), expected)
 }
 
 #[test]
-fn a_text_ends_at_a_refused_write(rt: HostRuntime) -> Result<(), Fail> {
+fn a_text_is_filled_a_lossy_text_is_not_and_both_end_at_a_refused_write(
+    rt: HostRuntime,
+) -> Result<(), Wrong> {
     for (numbers, expected) in styled() {
         expect_string_ends(rt.alloc(), numbers, expected)?;
     }
@@ -180,7 +153,7 @@ fn a_text_ends_at_a_refused_write(rt: HostRuntime) -> Result<(), Fail> {
 }
 
 #[test]
-fn a_long_text_ends_at_a_refused_write(rt: HostRuntime) -> Result<(), Fail> {
+fn a_long_text_ends_at_a_refused_write(rt: HostRuntime) -> Result<(), Wrong> {
     let alloc = rt.alloc();
     let (numbers, text) = long_text(alloc, 160, 0x1F4A9, "💩")?;
     let whole = text.as_str();
@@ -189,7 +162,7 @@ fn a_long_text_ends_at_a_refused_write(rt: HostRuntime) -> Result<(), Fail> {
 }
 
 #[test]
-fn a_long_lossy_text_ends_at_a_refused_write(rt: HostRuntime) -> Result<(), Fail> {
+fn a_long_lossy_text_ends_at_a_refused_write(rt: HostRuntime) -> Result<(), Wrong> {
     let alloc = rt.alloc();
     let (numbers, text) = long_text(alloc, 160, 0xDEAD, "\u{FFFD}")?;
     let whole = text.as_str();

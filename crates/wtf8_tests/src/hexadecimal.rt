@@ -1,7 +1,7 @@
 // Hex dumps of texts of each length up to 65 bytes, as blocks are written at once, and dumps appended to a vector.
-use crate::examples::expect;
+use crate::examples::expect_true;
+use crate::wrong::Wrong;
 use std::alloc::{AllocError, Global};
-use std::test::Fail;
 use wtf8::Wtf8;
 
 const TEXT: &str = "The quick brown fox jumps over the lazy dog: 0123456789 @[]^_{|}~";
@@ -9,19 +9,21 @@ const TEXT: &str = "The quick brown fox jumps over the lazy dog: 0123456789 @[]^
 const DUMP: &str =
     "54 68 65 20 71 75 69 63 6B 20 62 72 6F 77 6E 20 66 6F 78 20 6A 75 6D 70 73 20 6F 76 65 72 20 74 68 65 20 6C 61 7A 79 20 64 6F 67 3A 20 30 31 32 33 34 35 36 37 38 39 20 40 5B 5D 5E 5F 7B 7C 7D 7E";
 
-/// Whether the dump of `text`, a front of `TEXT`, is the front of `DUMP` with three characters a byte.
-fn is_front(alloc: Global, text: &str) -> Result<bool, AllocError> {
+/// Whether the dump of `text`, a prefix of `TEXT`, is the prefix of `DUMP` with three characters a byte.
+fn is_prefix(alloc: Global, text: &str) -> Result<bool, AllocError> {
     let dump = Wtf8::from_str(text).hex_dump(alloc)?;
     let length = text.len().saturating_mul(3).saturating_sub(1);
     Ok(DUMP.starts_with(dump.as_str()) && dump.len() == length)
 }
 
 #[test]
-fn dumps_of_all_prefixes_are_prefixes(rt: HostRuntime) -> Result<(), Fail> {
+fn dumps_of_all_prefixes_are_prefixes(rt: HostRuntime) -> Result<(), Wrong> {
     let alloc = rt.alloc();
     for n in 0..66 {
-        let text = str::from_utf8(&TEXT.as_bytes()[..n])?;
-        expect(is_front(alloc, text), text)?;
+        let Ok(text) = str::from_utf8(&TEXT.as_bytes()[..n]) else {
+            return Err(Wrong::Row);
+        };
+        expect_true(is_prefix(alloc, text))?;
     }
     Ok(())
 }
@@ -34,7 +36,7 @@ fn is_appended(alloc: Global, text: &str, expected: &str) -> Result<bool, AllocE
 }
 
 #[test]
-fn a_dump_is_appended_after_a_text(rt: HostRuntime) -> Result<(), Fail> {
+fn a_dump_is_appended_after_a_text(rt: HostRuntime) -> Result<(), Wrong> {
     let alloc = rt.alloc();
     for (text, expected) in [
         ("", "before:"),
@@ -44,7 +46,7 @@ fn a_dump_is_appended_after_a_text(rt: HostRuntime) -> Result<(), Fail> {
             "before:C3 A9 E6 BC A2 F0 9F 92 A9 C3 A9 E6 BC A2 F0 9F 92 A9",
         ),
     ] {
-        expect(is_appended(alloc, text, expected), expected)?;
+        expect_true(is_appended(alloc, text, expected))?;
     }
     Ok(())
 }

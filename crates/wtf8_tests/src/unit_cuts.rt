@@ -1,9 +1,9 @@
 // Truncation to every number of code units.
 use crate::examples::{expect_made, expect_units, joining};
 use crate::unit_lists::{lists, long_list};
+use crate::wrong::Wrong;
 use refusing::{REFUSALS, Refusal, Refusing};
 use std::alloc::{Allocator, Global};
-use std::test::Fail;
 use wtf8::{Build, Wtf8Buf};
 
 type Lent<'a> = &'a Refusing<Global>;
@@ -42,17 +42,17 @@ fn expect_cut(
     n: usize,
     is_applied: bool,
     refusal: Refusal,
-) -> Result<(), Fail> {
+) -> Result<(), Wrong> {
     heap.grant(1_000);
     let mut text = Wtf8Buf::from_ill_formed_utf16(heap, units)?;
     if !is_cut(heap, &mut text, n, is_applied, n <= units.len(), refusal) {
-        return Err(Fail::new(format_args!("another result, or a request, at {n}")));
+        return Err(Wrong::Outcome);
     }
     expect_units(alloc, text.as_wtf8(), &units[..n.min(units.len())])
 }
 
 /// Fails unless truncation to `n` units is right.
-fn expect_cut_at(alloc: Global, heap: Lent<'_>, units: &[u16], n: usize) -> Result<(), Fail> {
+fn expect_cut_at(alloc: Global, heap: Lent<'_>, units: &[u16], n: usize) -> Result<(), Wrong> {
     for refusal in REFUSALS {
         expect_cut(alloc, heap, units, n, true, refusal)?;
         expect_cut(alloc, heap, units, n, false, refusal)?;
@@ -61,7 +61,7 @@ fn expect_cut_at(alloc: Global, heap: Lent<'_>, units: &[u16], n: usize) -> Resu
 }
 
 /// Fails unless truncation to each number of units, up to two past the end, is right.
-fn expect_each_cut(alloc: Global, units: &[u16]) -> Result<(), Fail> {
+fn expect_each_cut(alloc: Global, units: &[u16]) -> Result<(), Wrong> {
     let heap = Refusing::new(alloc, 0);
     for n in 0..units.len().saturating_add(3) {
         expect_cut_at(alloc, &heap, units, n)?;
@@ -70,7 +70,7 @@ fn expect_each_cut(alloc: Global, units: &[u16]) -> Result<(), Fail> {
 }
 
 #[test]
-fn truncate_units_keeps_the_first_units_without_memory(rt: HostRuntime) -> Result<(), Fail> {
+fn truncate_units_keeps_the_first_units_without_memory(rt: HostRuntime) -> Result<(), Wrong> {
     let alloc = rt.alloc();
     for (units, _, dump) in joining() {
         expect_made(alloc, Wtf8Buf::from_ill_formed_utf16(alloc, units), dump)?;
@@ -83,7 +83,7 @@ fn truncate_units_keeps_the_first_units_without_memory(rt: HostRuntime) -> Resul
 }
 
 #[test]
-fn truncate_units_is_right_near_block_edges(rt: HostRuntime) -> Result<(), Fail> {
+fn truncate_units_is_right_near_block_edges(rt: HostRuntime) -> Result<(), Wrong> {
     let alloc = rt.alloc();
     for letters in 20..36 {
         expect_each_cut(alloc, &long_list(alloc, letters)?)?;
@@ -92,7 +92,7 @@ fn truncate_units_is_right_near_block_edges(rt: HostRuntime) -> Result<(), Fail>
 }
 
 #[test]
-fn refused_truncations_are_counted(rt: HostRuntime) -> Result<(), Fail> {
+fn refused_truncations_are_counted(rt: HostRuntime) -> Result<(), Wrong> {
     let alloc = rt.alloc();
     let mut text = Wtf8Buf::from_str(alloc, "a💩")?;
     let calls = [

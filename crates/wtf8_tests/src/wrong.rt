@@ -20,6 +20,12 @@ pub enum Wrong {
     Outcome,
 }
 
+impl From<AllocError> for Wrong {
+    fn from(_: AllocError) -> Wrong {
+        Wrong::Memory
+    }
+}
+
 /// The value of a call that allocates.
 pub fn made<T>(returned: Result<T, AllocError>) -> Result<T, Wrong> {
     match returned {

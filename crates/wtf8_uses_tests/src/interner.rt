@@ -1,6 +1,6 @@
 // The interner.
 use crate::shared::{LEAD, string_of};
-use std::alloc::{AllocError, Global};
+use std::alloc::Global;
 use wtf8::Wtf8;
 use wtf8_tests::wrong::{Wrong, expect, expect_bytes, made};
 use wtf8_uses::interner::Interner;
@@ -40,45 +40,6 @@ fn a_string_keeps_its_number(rt: HostRuntime) -> Result<(), Wrong> {
     expect_numbers(&mut interner, first.as_wtf8())?;
     for (number, dump) in [(0, Some("ED A0 BD")), (1, Some("")), (2, None)] {
         expect_string(rt.alloc(), &interner, number, dump)?;
-    }
-    Ok(())
-}
-
-/// The part of a name for one bit of its number: the two parts for numbers below 256 have equal hashes.
-fn part_of_name(number: usize, is_even: bool) -> &'static str {
-    match (number < 256, is_even) {
-        (true, true) => "Aa",
-        (true, false) => "BB",
-        (false, true) => "0",
-        (false, false) => "1",
-    }
-}
-
-/// The name of a number below 512: below 256 one of 256 names with equal hashes, else its low eight bits as digits.
-fn name_of(alloc: Global, number: usize) -> Result<String, AllocError> {
-    let mut name = String::new(alloc);
-    let mut left = number;
-    for _ in 0..8 {
-        name.push_str(part_of_name(number, left % 2 == 0))?;
-        left /= 2;
-    }
-    Ok(name)
-}
-
-/// Fails unless the interner returns `number` for its name.
-fn expect_name(alloc: Global, interner: &mut Interner, number: usize) -> Result<(), Wrong> {
-    let name = made(name_of(alloc, number))?;
-    expect_number(interner, Wtf8::from_str(name.as_str()), number)
-}
-
-#[test]
-fn three_hundred_strings_keep_their_numbers(rt: HostRuntime) -> Result<(), Wrong> {
-    let mut interner = Interner::new(rt.alloc());
-    for _ in 0..2 {
-        for number in 0..300 {
-            expect_name(rt.alloc(), &mut interner, number)?;
-        }
-        expect(interner.len() == 300, Wrong::Outcome)?;
     }
     Ok(())
 }

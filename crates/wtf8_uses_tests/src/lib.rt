@@ -27,6 +27,4 @@ mod sorting;
 #[cfg(test)]
 mod string_prototype;
 #[cfg(test)]
-mod text_requests;
-#[cfg(test)]
 mod unit_slices;

@@ -1,32 +1,23 @@
 // Strings built by single pushes.
-ghost use Rattle.std.specs.Prelude.{◌≡◌, [], ◌∷◌, IfOk};
-ghost use Rattle.wtf8.specs.CodePoint.{number, numbers};
-ghost use Rattle.wtf8.specs.Unicode.{units, units_of};
-
+use crate::wrong::Wrong;
 use std::alloc::{AllocError, Allocator, Global};
-use std::test::Fail;
 use wtf8::{CodePoint, Wtf8Buf};
 
 /// The code point with the value of `unit`.
-pub fn point_of_unit(unit: u16) -> CodePoint
-    ensures value { number result ≡ unit }
-    ensures units { units_of (number result) ≡ unit ∷ [] }
-{
+pub fn point_of_unit(unit: u16) -> CodePoint {
     CodePoint::from_u32_unchecked(u32::from(unit))
 }
 
 /// The code point with the value `number`, if there is one.
-pub fn point_of_number(number: u32) -> Result<CodePoint, Fail> {
+pub fn point_of_number(number: u32) -> Result<CodePoint, Wrong> {
     match CodePoint::from_u32(number) {
         Some(point) => Ok(point),
-        None => Err(Fail::new("a number of no code point")),
+        None => Err(Wrong::Row),
     }
 }
 
 /// The code point of each of `units`. The surrogates of a pair are two code points.
-pub fn points_of_units(alloc: Global, units: &[u16]) -> Result<Vec<CodePoint>, AllocError>
-    ensures { IfOk result (λ points. numbers points.items ≡ units.now) }
-{
+pub fn points_of_units(alloc: Global, units: &[u16]) -> Result<Vec<CodePoint>, AllocError> {
     let mut points = Vec::new(alloc);
     for unit in units {
         points.push(point_of_unit(*unit))?;
@@ -35,9 +26,7 @@ pub fn points_of_units(alloc: Global, units: &[u16]) -> Result<Vec<CodePoint>, A
 }
 
 /// The string that pushing `units` one by one builds.
-pub fn joined<A: Allocator>(alloc: A, units: &[u16]) -> Result<Wtf8Buf<A>, AllocError>
-    ensures { IfOk result (λ text. text.units ≡ units.now) }
-{
+pub fn joined<A: Allocator>(alloc: A, units: &[u16]) -> Result<Wtf8Buf<A>, AllocError> {
     let mut text = Wtf8Buf::new(alloc);
     for unit in units {
         text.push(point_of_unit(*unit))?;
@@ -46,15 +35,10 @@ pub fn joined<A: Allocator>(alloc: A, units: &[u16]) -> Result<Wtf8Buf<A>, Alloc
 }
 
 /// The string that pushing the code points `numbers` one by one builds.
-pub fn pushed<A: Allocator>(alloc: A, numbers: &[u32]) -> Result<Wtf8Buf<A>, Fail>
-    ensures { IfOk result (λ text. text.units ≡ units numbers.now) }
-{
+pub fn pushed<A: Allocator>(alloc: A, numbers: &[u32]) -> Result<Wtf8Buf<A>, Wrong> {
     let mut text = Wtf8Buf::new(alloc);
     for number in numbers {
-        let Some(point) = CodePoint::from_u32(*number) else {
-            return Err(Fail::new("a number of no code point"));
-        };
-        text.push(point)?;
+        text.push(point_of_number(*number)?)?;
     }
     Ok(text)
 }

@@ -1,0 +1,205 @@
+// Each call of a string on one example. Scripts compare the calls with the original crate on many strings.
+use crate::examples::{TEXT, TEXT_DUMP, expect_units, has_numbers, point_of_unit};
+use crate::wrong::{Wrong, expect, expect_bytes, made};
+use std::alloc::{AllocError, Global};
+use std::borrow::CowStr;
+use wtf8::{CodePoint, Wtf8, Wtf8Buf};
+
+/// The code points, units and bytes of `TEXT` followed by a lone lead surrogate.
+const NUMBERS: [u32; 5] = [0x61, 0xE9, 0x20, 0x1F4A9, 0xD83D];
+
+const UNITS: [u16; 6] = [0x61, 0xE9, 0x20, 0xD83D, 0xDCA9, 0xD83D];
+
+const DUMP: &str = "61 C3 A9 20 F0 9F 92 A9 ED A0 BD";
+
+/// Appends the trail of a pair, and a lead.
+fn append_trail_and_lead(alloc: Global, text: &mut Wtf8Buf<Global>) -> Result<(), AllocError> {
+    let trail = Wtf8Buf::from_ill_formed_utf16(alloc, &[0xDCA9])?;
+    text.push_wtf8(trail.as_wtf8())?;
+    text.extend([point_of_unit(0xD83D)])
+}
+
+/// The string of `UNITS`, by each call that appends.
+fn appended(alloc: Global) -> Result<Wtf8Buf<Global>, AllocError> {
+    let mut text = Wtf8Buf::from_str(alloc, "a")?;
+    text.push_char('é')?;
+    text.push_str(" ")?;
+    text.push(point_of_unit(0xD83D))?;
+    append_trail_and_lead(alloc, &mut text)?;
+    Ok(text)
+}
+
+/// Fails unless the string is that of `UNITS`.
+fn expect_string(alloc: Global, string: &Wtf8Buf<Global>) -> Result<(), Wrong> {
+    expect_bytes(alloc, string.as_wtf8(), DUMP)?;
+    expect_units(alloc, string.as_wtf8(), &UNITS)?;
+    expect(has_numbers(string.as_wtf8(), &NUMBERS), Wrong::Outcome)
+}
+
+#[test]
+fn each_call_that_appends_keeps_the_units_before(rt: HostRuntime) -> Result<(), Wrong> {
+    let alloc = rt.alloc();
+    let text = appended(alloc)?;
+    expect_string(alloc, &text)?;
+    expect_string(alloc, &text.clone()?)
+}
+
+/// The string of the code points of `UNITS`, collected from the string itself.
+fn collected(alloc: Global) -> Result<Wtf8Buf<Global>, AllocError> {
+    let text = Wtf8Buf::from_ill_formed_utf16(alloc, &UNITS)?;
+    Wtf8Buf::from_iter(alloc, text.as_wtf8().code_points())
+}
+
+#[test]
+fn code_points_of_a_string_give_it_again(rt: HostRuntime) -> Result<(), Wrong> {
+    let alloc = rt.alloc();
+    expect_string(alloc, &collected(alloc)?)
+}
+
+/// Whether a number is that of a code point with this character.
+fn has_character(number: u32, character: Option<char>) -> bool {
+    match CodePoint::from_u32(number) {
+        Some(point) => point.to_u32() == number && point.to_char() == character,
+        None => false,
+    }
+}
+
+#[test]
+fn a_code_point_is_a_number_up_to_10ffff(rt: HostRuntime) {
+    for (number, character) in [
+        (0x61, Some('a')),
+        (0xD7FF, Some('\u{D7FF}')),
+        (0xD800, None),
+        (0x10FFFF, Some('\u{10FFFF}')),
+    ] {
+        assert!(rt; has_character(number, character), "{number}");
+    }
+    assert!(rt; CodePoint::from_u32(0x110000).is_none());
+}
+
+/// Whether a string without surrogates converts to `TEXT`, borrowed and owned.
+fn is_text(string: Wtf8Buf<Global>) -> bool {
+    if string.as_wtf8().as_str() != Some(TEXT) {
+        return false;
+    }
+    match string.into_string() {
+        Ok(text) => text.as_str() == TEXT,
+        Err(_) => false,
+    }
+}
+
+/// Whether the lossy text of the view is `text`, and borrowed if `is_borrowed`.
+fn is_lossy(
+    alloc: Global,
+    view: Wtf8<'_>,
+    text: &str,
+    is_borrowed: bool,
+) -> Result<bool, AllocError> {
+    let lossy = view.to_string_lossy(alloc)?;
+    Ok(matches!(lossy, CowStr::Borrowed(_)) == is_borrowed && lossy.as_str() == text)
+}
+
+#[test]
+fn a_string_without_surrogates_is_a_text(rt: HostRuntime) -> Result<(), Wrong> {
+    let text = made(String::from_str(rt.alloc(), TEXT))?;
+    expect(is_text(Wtf8Buf::from_string(text)), Wrong::Bytes)?;
+    let is_borrowed = made(is_lossy(rt.alloc(), Wtf8::from_str(TEXT), TEXT, true))?;
+    expect(is_borrowed, Wrong::Bytes)
+}
+
+#[test]
+fn a_lossy_text_has_replacements(rt: HostRuntime) -> Result<(), Wrong> {
+    let text = made(appended(rt.alloc()))?;
+    let lossy = "aé 💩\u{FFFD}";
+    let is_copied = made(is_lossy(rt.alloc(), text.as_wtf8(), lossy, false))?;
+    expect(is_copied && text.as_wtf8().as_str().is_none(), Wrong::Bytes)?;
+    expect(text.into_string_lossy().as_str() == lossy, Wrong::Bytes)
+}
+
+/// Fails unless the parts of `TEXT` at a boundary have their bytes, and inside a code point there is none.
+fn expect_parts(alloc: Global, text: Wtf8<'_>) -> Result<(), Wrong> {
+    if text.is_code_point_boundary(5) || !text.is_code_point_boundary(4) {
+        return Err(Wrong::Row);
+    }
+    expect_bytes(alloc, text.slice_to(4), "61 C3 A9 20")?;
+    expect_bytes(alloc, text.slice_from(4), "F0 9F 92 A9")?;
+    expect_bytes(alloc, text.slice(4, 4), "")
+}
+
+#[test]
+fn parts_have_the_bytes_between_their_positions(rt: HostRuntime) -> Result<(), Wrong> {
+    expect_parts(rt.alloc(), Wtf8::from_str(TEXT))
+}
+
+/// Truncates `TEXT` to its first four units. Fails unless it then ends with a lead that a trail joins.
+fn expect_truncated(alloc: Global, text: &mut Wtf8Buf<Global>) -> Result<(), Wrong> {
+    if text.as_wtf8().unit_len() != 5 {
+        return Err(Wrong::Outcome);
+    }
+    text.truncate_units(4);
+    expect_bytes(alloc, text.as_wtf8(), "61 C3 A9 20 ED A0 BD")?;
+    text.push(point_of_unit(0xDCA9))?;
+    expect_bytes(alloc, text.as_wtf8(), TEXT_DUMP)
+}
+
+#[test]
+fn a_string_is_truncated_inside_a_pair(rt: HostRuntime) -> Result<(), Wrong> {
+    let mut text = Wtf8Buf::from_str(rt.alloc(), TEXT)?;
+    expect_truncated(rt.alloc(), &mut text)
+}
+
+/// Whether `clear` empties a string and keeps its capacity.
+fn is_cleared(text: &mut Wtf8Buf<Global>) -> bool {
+    let capacity = text.capacity();
+    text.clear();
+    text.is_empty() && text.as_wtf8().is_empty() && text.len() == 0 && text.capacity() == capacity
+}
+
+#[test]
+fn a_cleared_string_is_empty_and_begins_anew(rt: HostRuntime) -> Result<(), Wrong> {
+    let mut text = appended(rt.alloc())?;
+    assert!(rt; !text.is_empty() && !text.as_wtf8().is_empty());
+    assert!(rt; is_cleared(&mut text));
+    text.push(point_of_unit(0xDCA9))?;
+    expect_bytes(rt.alloc(), text.as_wtf8(), "ED B2 A9")
+}
+
+/// Whether the units of "ab" are found by their indexes, by both calls.
+fn has_letters(text: Wtf8<'_>) -> bool {
+    text.len() == 2
+        && text.unit_len() == 2
+        && text.ascii_unit_at(1) == 0x62
+        && text.unit_at(1) == Some(0x62)
+        && text.ascii_byte_at(0) == 0x61
+        && text.unit_at(2).is_none()
+}
+
+#[test]
+fn units_of_ascii_are_found(rt: HostRuntime) {
+    assert!(rt; has_letters(Wtf8::from_str("ab")));
+}
+
+/// Whether U+FFFF is before U+10000 in the order of code points, and after it in that of code units.
+fn is_ordered(last: Wtf8<'_>, pair: Wtf8<'_>) -> bool {
+    last < pair && last != pair && pair.cmp_units(&last).is_lt()
+}
+
+#[test]
+fn the_order_of_code_points_is_not_that_of_units(rt: HostRuntime) {
+    assert!(rt; is_ordered(Wtf8::from_str("\u{FFFF}"), Wtf8::from_str("\u{10000}")));
+}
+
+/// Whether an iterator that outlives its view yields the units D83D and 62.
+fn yields_back(text: Wtf8<'_>) -> bool {
+    let mut units = {
+        let view = text;
+        view.to_ill_formed_utf16()
+    };
+    units.next() == Some(0xD83D) && units.next() == Some(0x62) && units.next().is_none()
+}
+
+#[test]
+fn an_iterator_outlives_its_view(rt: HostRuntime) -> Result<(), Wrong> {
+    let text = made(Wtf8Buf::from_ill_formed_utf16(rt.alloc(), &[0xD83D, 0x62]))?;
+    expect(yields_back(text.as_wtf8()), Wrong::Units)
+}
