@@ -13,9 +13,11 @@ pub fn expect_units(alloc: Global, text: Wtf8<'_>, expected: &[u16]) -> Result<(
 pub fn has_numbers(text: Wtf8<'_>, expected: &[u32]) -> bool {
     let mut points = text.code_points();
     for number in expected {
-        match points.next() {
-            Some(point) if point.to_u32() == *number => {}
-            _ => return false,
+        let Some(point) = points.next() else {
+            return false;
+        };
+        if point.to_u32() != *number {
+            return false;
         }
     }
     points.next().is_none()
