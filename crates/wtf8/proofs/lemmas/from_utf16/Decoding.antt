@@ -3,7 +3,7 @@ use Rattle.wtf8.proofs.Common.{◌≡◌, ◌+◌, ◌-◌, ◌<◌, length, tak
 use Rattle.wtf8.proofs.Common.{Drains, peekable_steps, peekable_peeked, point_of, points_of, units_left, decode_steps, ReadsAll, IsClean}
 use Rattle.wtf8.proofs.Common.{IsCodePoint, IsLead, IsTrail, IsSurrogate, MatchResult, units, pair}
 use Rattle.std.proofs.Common.{MatchOption}
-use Rattle.std.proofs.lemmas.List.{drop_more}
+use Rattle.std.proofs.lemmas.List.{drop_more, nil_from_length}
 use Rattle.std.specs.Iterator.{Yields}
 use Rattle.std.specs.Iterator.Adapters.{peekable_source, PeekedOrNext, PeeksNext, copied_source}
 use Rattle.std.specs.declared.iter.Copied.{Copied}
@@ -150,17 +150,13 @@ steps = copied_steps iter_steps
 abbrev left : Units → List ℕ
 left s = iter_rest (copied_source (peekable_source s))
 
-empty_from_length : (v : List ℕ) → length v ≡ 0 → v ≡ []
-empty_from_length [] e = refl
-empty_from_length (x ∷ v) e = absurd (omega (arith, e))
-
 -- a call yields the first of the units left, and `None` only if none is left
 unit_left : (s t : Copied (Iter ℕ)) (r : Option ℕ) → steps s r t → MatchOption r (iter_rest (copied_source s) ≡ []) (λ x. iter_rest (copied_source s) ≡ x ∷ iter_rest (copied_source t))
 unit_left s t r k = from k.0 k.1 r k.2
   where
     from : (o : Option (Bor ℕ)) → iter_steps (copied_source s) o (copied_source t) → (r : Option ℕ) → r ≡ option_copied o
         → MatchOption r (iter_rest (copied_source s) ≡ []) (λ x. iter_rest (copied_source s) ≡ x ∷ iter_rest (copied_source t))
-    from None k None e = empty_from_length (iter_rest (copied_source s)) k.0
+    from None k None e = nil_from_length (iter_rest (copied_source s)) k.0
     from None k (Some x) e = absurd cc
     from (Some y) k None e = absurd cc
     from (Some y) k (Some x) e = let same : x ≡ y.now = cc in k ∙ ap (λ n. n ∷ iter_rest (copied_source t)) (sym same)

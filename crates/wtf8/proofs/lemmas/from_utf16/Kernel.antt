@@ -4,6 +4,7 @@ use Rattle.wtf8.proofs.Common.{length-append, false≢true, refl, sym, ap, ◌�
 use lib.Lanes.{sel_l, pick_l, mask_l}
 use Rattle.std.specs.Int.{w8, w16}
 use Rattle.std.specs.Prelude.{nat_lt, if◌then◌else◌, bit_xor, ◌↔◌}
+use Rattle.std.proofs.lemmas.Bool.{ne_eqb}
 use Rattle.std.proofs.lemmas.Bool.Decides.{nat_tests}
 use Rattle.std.proofs.lemmas.List.{take-map, drop-map, get_or-take}
 use Rattle.std.proofs.lemmas.Simd.{swz_l, get_or-swz_l_below}
@@ -91,9 +92,6 @@ flags_from_are k u l = of_eight (λ u. chosen_by ltb k u (replicate 8 0) (replic
 
 -- The three candidate bytes of units that may be surrogates.
 
-eqb_from_ne : (a b : ℕ) → (a ≡ b → ⊥) → eqb a b ≡ false
-eqb_from_ne a b n = elim (cases_Bool (eqb a b)) [ inl t ↦ absurd (n (eqb-true a b t)) | inr f ↦ f ]
-
 abbrev lead_second : ℕ → ℕ
 lead_second x = (0xF0 + (x % 1024 + 64) % 65536 / 256) % 65536
 
@@ -144,9 +142,9 @@ three_byte_flags_are m u l e = rw e (of_eight (λ u. chosen_by eqb 27 (by 2048 u
 -- a unit that is no surrogate has the same bytes by both computations
 no_surrogate : (x : ℕ) → ¬ (IsSurrogate x) → (b : ℕ) → (scalar_second_byte x ≡ second_byte b x) × (scalar_last_byte x ≡ last_byte x) × (flag_from 0x800 x ≡ three_byte_flag x)
 no_surrogate x n b =
-    let lead = eqb_from_ne (x / 1024) 54 (λ e. n (omega (arith, e), omega (arith, e))) in
-    let trail = eqb_from_ne (x / 1024) 55 (λ e. n (omega (arith, e), omega (arith, e))) in
-    let long = eqb_from_ne (x / 2048) 27 (λ e. n (omega (arith, e), omega (arith, e))) in
+    let lead = ne_eqb (x / 1024) 54 (λ e. n (omega (arith, e), omega (arith, e))) in
+    let trail = ne_eqb (x / 1024) 55 (λ e. n (omega (arith, e), omega (arith, e))) in
+    let long = ne_eqb (x / 2048) 27 (λ e. n (omega (arith, e), omega (arith, e))) in
     (rw (lead, trail) at (second_is b x), rw lead at (last_is x), rw long at (three_byte_flag_is x))
 
 pub scalar_lanes : (b u : List ℕ) → length u ≤ length b → AreScalarUnits u → (map scalar_second_byte u ≡ zip2 second_byte b u) × (map scalar_last_byte u ≡ map last_byte u) × (map (flag_from 0x800) u ≡ map three_byte_flag u)

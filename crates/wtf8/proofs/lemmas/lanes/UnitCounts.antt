@@ -6,7 +6,7 @@ use Rattle.wtf8.proofs.Common.{sum_utf16_len, w16, sum_by-cons}
 use Rattle.wtf8.proofs.Common.{Each2-of, fold-sum, sum_bound, sum_fits, sum-zip2, length-map}
 use lib.Lanes.{zip2, top, Each2, Steps, fold_l, sum_l}
 use Rattle.wtf8.specs.private.UnitCounts.{utf16_len}
-use Rattle.wtf8.proofs.lemmas.lanes.Surrogates.{lane}
+use Rattle.wtf8.proofs.lemmas.lanes.SurrogateLanes.{lane}
 
 pub utf16_len-ascii : (b : ℕ) → b < 0x80 → utf16_len b ≡ 1
 unfolding utf16_len

@@ -1,6 +1,7 @@
 use Rattle.wtf8.proofs.Common.{◌≡◌, ◌<◌, ◌+◌, ℕ, List, [], ◌∷◌, ◌++◌, length, get_or, Bool, true, false, cond, Some, refl, ap, ◌∙◌, sym, subst, arith}
 use Rattle.wtf8.proofs.Common.{append_assoc, All, Step, Run, Append, IsNoTruncation, Build, Reserve, Truncate, TruncateUnits, ◌≤◌, take, drop, inl, inr}
 use Rattle.wtf8.proofs.Common.{false≢true, cases_lt, append-nil, IsForm, FindRoom, All-nil, All-cons, take_all, All-get_or, FitWithin, none-some}
+use Rattle.std.proofs.lemmas.Option.{same_Some}
 use Rattle.wtf8.specs.Building.{appended_units, reserved_bytes, LeavesReserved}
 use Rattle.wtf8.proofs.lemmas.laws.StringLaws.{reserved_more}
 use Rattle.wtf8.proofs.lemmas.strings.Concatenation.{item_at, take-one_more}
@@ -17,9 +18,6 @@ run_more : (u : List ℕ) (calls : List Build) (mid : List ℕ) (n : ℕ) (call 
 run_more u [] mid n call v r x s = (v, r, 0, subst (λ m. Step m call v r) x.0 s, (refl, refl), omega (arith, x.1))
 run_more u (c ∷ calls) mid n call v r x s = (x.0, x.1, x.2 + r, x.3, run_more x.0 calls mid x.2 call v r x.4 s, omega (arith, x.5))
 
-some_same : (a b : List ℕ) → Some a ≡ Some b → a ≡ b
-some_same a b e = cc
-
 -- a call that appends `a`: it doesn't truncate or reserve, and has this outcome only
 record Adds (u : List ℕ) (call : Build) (a : List ℕ) : Type 0 where
   no_truncation : IsNoTruncation call
@@ -32,7 +30,7 @@ Adds-from_appended u (Reserve n) a e = absurd (none-some a e)
 Adds-from_appended u (Truncate k) a e = absurd (none-some a e)
 Adds-from_appended u (TruncateUnits n) a e = absurd (none-some a e)
 Adds-from_appended u call a e =
-    let same : _ ≡ a = some_same _ a e in
+    let same : _ ≡ a = same_Some _ a e in
     record { no_truncation = tt; asks = refl; step = (ap (λ b. u ++ b) (sym same), refl); only = λ v r s. s.0 ∙ ap (λ b. u ++ b) same }
 
 -- a run of pushes and extensions appends the units of all, and none of them truncates
