@@ -1,7 +1,7 @@
 use Rattle.std.proofs.Common.{length}
 use Rattle.dump_lines.specs.Parts.{parts_left}
 use Rattle.dump_lines.proofs.Reading.{AreRead}
-use Rattle.dump_lines.proofs.line.read_calls.Given as goal
+use Rattle.dump_lines.proofs.line.parse_calls.Given as goal
 
 -- `calls` are the calls of the words so far
 abbrev pub invariant-loop-rest : goal.invariant-loop-rest
