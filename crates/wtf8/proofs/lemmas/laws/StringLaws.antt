@@ -215,8 +215,8 @@ reserved_more {u} {now} {calls} {call} {capacity} {larger} n f ran grows here fr
       let once = run_once u calls in
       let outcome = (once.no_other now n ran).0 ∙ sym (once.no_other v r (subst (λ c. Run u c v r) (sym same) run)).0 in
       subst (λ w. FitWithin w m larger) outcome (here m last)
-  | before rest same behind ↦
-      let all = All-pop IsNoTruncation (rest ++ call ∷ []) rest (Some call) refl (All-same IsNoTruncation (rest ++ call ∷ []) back (sym behind) none) in
+  | before rest same after ↦
+      let all = All-pop IsNoTruncation (rest ++ call ∷ []) rest (Some call) refl (All-same IsNoTruncation (rest ++ call ∷ []) back (sym after) none) in
       let found = f front rest m v r same all.0 run in
       record { whole = found.whole; form = found.form; within = omega (arith, found.within, grows all.1) }
 ]
