@@ -5,7 +5,7 @@ use Rattle.wtf8.proofs.Common.{IsTrue, nat_eq, pointwise, bytes_decides, units, 
 use Rattle.wtf8.proofs.Common.{units_of, IsMismatch, SupplementaryBegins, true, false, ◌⊎◌, length, take, length-append, append_assoc, false≢true}
 use Rattle.wtf8.proofs.Common.{take-append-drop, slice_get, option_cmp, NoneIn, IsLeast, min, slice_get-get_or, DifferAt, true≢false, ordering_reverse}
 use Rattle.wtf8.proofs.lemmas.lanes.Mismatch.{take-before_mismatch}
-use Rattle.std.proofs.lemmas.Cmp.{nat_list_cmp_total}
+use Rattle.std.proofs.lemmas.Cmp.{nat_cmp_total, nat_list_cmp_total, tied_itself}
 use Rattle.std.specs.Bool.{beq}
 use Rattle.std.specs.Ordering.{is_ge, is_gt, is_le, is_lt}
 use Rattle.wtf8.proofs.lemmas.codec.Encoding.{encoding_cases, one, two, three, four, encoding_same, length-encoding_bounds}
@@ -20,9 +20,6 @@ cmp_less x y h = grind (arith, nat_tests)
 pub cmp_greater : (x y : ℕ) → y < x → nat_cmp x y ≡ Greater
 cmp_greater x y h = grind (arith, nat_tests)
 
-pub cmp_same : (x : ℕ) → nat_cmp x x ≡ Equal
-cmp_same x = grind (arith, nat_tests)
-
 -- the list that is before the other compares as less
 pub slice_cmp-less : (c d : List ℕ) → Before c d → slice_cmp nat_cmp c d ≡ Less
 slice_cmp-less [] [] h = absurd h
@@ -30,7 +27,7 @@ slice_cmp-less [] (y ∷ ys) h = refl
 slice_cmp-less (x ∷ xs) [] h = absurd h
 slice_cmp-less (x ∷ xs) (y ∷ ys) h = elim h [
   | inl l ↦ ap (λ o. ordering_then o (slice_cmp nat_cmp xs ys)) (cmp_less x y l)
-  | inr e ↦ rw (← e.0, cmp_same x) (slice_cmp-less xs ys e.1)
+  | inr e ↦ rw (← e.0, tied_itself nat_cmp_total x) (slice_cmp-less xs ys e.1)
 ]
 
 pub slice_cmp-greater : (c d : List ℕ) → Before d c → slice_cmp nat_cmp c d ≡ Greater
@@ -39,12 +36,7 @@ slice_cmp-greater c d h = nat_list_cmp_total.antisymm c d ∙ ap ordering_revers
 -- a common front does not affect a comparison
 pub cmp-append_left : (f c d : List ℕ) → slice_cmp nat_cmp (f ++ c) (f ++ d) ≡ slice_cmp nat_cmp c d
 cmp-append_left [] c d = refl
-cmp-append_left (x ∷ f) c d = ap (λ o. ordering_then o (slice_cmp nat_cmp (f ++ c) (f ++ d))) (cmp_same x) ∙ cmp-append_left f c d
-
--- a list compares as `Equal` with itself
-pub cmp_self : (c : List ℕ) → slice_cmp nat_cmp c c ≡ Equal
-cmp_self [] = refl
-cmp_self (x ∷ c) = cmp-append_left (x ∷ []) c c ∙ cmp_self c
+cmp-append_left (x ∷ f) c d = ap (λ o. ordering_then o (slice_cmp nat_cmp (f ++ c) (f ++ d))) (tied_itself nat_cmp_total x) ∙ cmp-append_left f c d
 
 MatchOrdering-cons : (x y : ℕ) (xs ys : List ℕ) → x ≡ y → (o : Ordering) → MatchOrdering o (Before xs ys) (xs ≡ ys) (Before ys xs)
     → MatchOrdering o (Before (x ∷ xs) (y ∷ ys)) (x ∷ xs ≡ y ∷ ys) (Before (y ∷ ys) (x ∷ xs))
@@ -58,7 +50,7 @@ order_of [] [] = refl
 order_of [] (y ∷ ys) = tt
 order_of (x ∷ xs) [] = tt
 order_of (x ∷ xs) (y ∷ ys) = elim (cases_order x y) [
-  | inl same ↦ rw (same, cmp_same y) (MatchOrdering-cons y y xs ys refl (slice_cmp nat_cmp xs ys) (order_of xs ys))
+  | inl same ↦ rw (same, tied_itself nat_cmp_total y) (MatchOrdering-cons y y xs ys refl (slice_cmp nat_cmp xs ys) (order_of xs ys))
   | inr (inl l) ↦ rw (cmp_less x y l) (inl l)
   | inr (inr l) ↦ rw (cmp_greater x y l) (inl l)
 ]
@@ -260,7 +252,7 @@ order_at_mismatch (x ∷ w) (y ∷ v) (suc n) d =
 
 -- lists that are equal up to the length of the shorter compare as their lengths
 pub order_of_lengths : (w v : List ℕ) → NoneIn (DifferAt w v) 0 (min (length w) (length v)) → nat_cmp (length w) (length v) ≡ slice_cmp nat_cmp w v
-order_of_lengths [] [] h = cmp_same 0
+order_of_lengths [] [] h = tied_itself nat_cmp_total 0
 order_of_lengths [] (y ∷ v) h = cmp_less 0 (length (y ∷ v)) (omega arith)
 order_of_lengths (x ∷ w) [] h = cmp_greater (length (x ∷ w)) 0 (omega arith)
 order_of_lengths (x ∷ w) (y ∷ v) h = elim (cases_order x y) [

@@ -1,7 +1,7 @@
 -- Blocks of units of mixed kinds: three candidate bytes of each unit in lanes, and the shuffle that packs them.
 use Rattle.wtf8.proofs.Common.{◌≡◌, ℕ, suc, ◌+◌, ◌-◌, ◌*◌, ◌/◌, ◌%◌, ◌^◌, ◌<◌, ◌≤◌, List, [], ◌∷◌, ◌++◌, length, take, drop, get_or, map, replicate, zip2, Each1, cond, ltb, leb, eqb, top, Bool, true, false}
 use Rattle.wtf8.proofs.Common.{length-append, false≢true, refl, sym, ap, ◌∙◌, arith, lt-ltb, le-ltb, subst, cases_lt, cases_Bool, inl, inr, Fits, append-nil, append_assoc, map-append, rules, mask_l-mod, eq-eqb, eqb-true, pick_l_whole, IsSurrogate}
-use lib.Lanes.{sel_l, pick_l, mask_l}
+use lib.Lanes.{sel_l, pick_l, mask_l, number_l}
 use Rattle.std.specs.Int.{w8, w16}
 use Rattle.std.specs.Prelude.{nat_lt, if◌then◌else◌, bit_xor, ◌↔◌}
 use Rattle.std.proofs.lemmas.Bool.{ne_eqb}
@@ -222,25 +222,20 @@ flag_from-byte_count n = let counts = byte_count_bits_bound n in flag_is_set-bit
 three_byte_flag-byte_count : (n : ℕ) → cond (flag_is_set (three_byte_flag n)) 1 0 ≡ byte_count n / 3
 three_byte_flag-byte_count n = let counts = byte_count_bits_bound n in flag_is_set-bit (three_byte_bit n) (omega (arith, counts.0, counts.1)) ∙ omega (arith, counts.0, counts.1)
 
--- the number with the lanes as binary digits, the lowest first
-abbrev binary_value : List ℕ → ℕ
-binary_value [] = 0
-binary_value (x ∷ xs) = x + 2 * binary_value xs
-
-binary_value-sixteen : (a b c d e f g h i j k l m n o p : ℕ) → binary_value (a ∷ b ∷ c ∷ d ∷ e ∷ f ∷ g ∷ h ∷ i ∷ j ∷ k ∷ l ∷ m ∷ n ∷ o ∷ p ∷ [])
+number_l-sixteen : (a b c d e f g h i j k l m n o p : ℕ) → number_l 2 (a ∷ b ∷ c ∷ d ∷ e ∷ f ∷ g ∷ h ∷ i ∷ j ∷ k ∷ l ∷ m ∷ n ∷ o ∷ p ∷ [])
     ≡ (a + b * 2 + c * 4 + d * 8 + (e + f * 2 + g * 4 + h * 8) * 16) + 256 * (i + j * 2 + k * 4 + l * 8 + (m + n * 2 + o * 4 + p * 8) * 16)
-binary_value-sixteen a b c d e f g h i j k l m n o p = omega arith
+number_l-sixteen a b c d e f g h i j k l m n o p = omega arith
 
-mask_l-binary_value : (bs : List Bool) → mask_l bs ≡ binary_value (map (λ b. cond b 1 0) bs)
-mask_l-binary_value [] = refl
-mask_l-binary_value (b ∷ bs) = ap (λ n. cond b 1 0 + 2 * n) (mask_l-binary_value bs)
+mask_l-number_l : (bs : List Bool) → mask_l bs ≡ number_l 2 (map (λ b. cond b 1 0) bs)
+mask_l-number_l [] = refl
+mask_l-number_l (b ∷ bs) = ap (λ n. cond b 1 0 + 2 * n) (mask_l-number_l bs)
 
 pub mask_l-table_indexes : (u m n : List ℕ) → length u ≡ 8 → m ≡ map (flag_from 0x80) u → n ≡ map three_byte_flag u
     → mask_l (flags_set m n) % 2 ^ 64 ≡ units_table_index (take 4 u) + 256 * units_table_index (drop 4 u)
 mask_l-table_indexes u m n long x y =
-    mask_l-mod (flags_set m n) 64 (omega arith) ∙ mask_l-binary_value (flags_set m n)
-    ∙ rw (x, y) (of_eight (λ u. binary_value (map (λ b. cond {A = ℕ} b 1 0) (flags_set (map (flag_from 0x80) u) (map three_byte_flag u))) ≡ units_table_index (take 4 u) + 256 * units_table_index (drop 4 u)) u long
-    (ap binary_value listed ∙ binary_value-sixteen (one 0) (one 1) (one 2) (one 3) (two 0) (two 1) (two 2) (two 3) (one 4) (one 5) (one 6) (one 7) (two 4) (two 5) (two 6) (two 7)))
+    mask_l-mod (flags_set m n) 64 (omega arith) ∙ mask_l-number_l (flags_set m n)
+    ∙ rw (x, y) (of_eight (λ u. number_l 2 (map (λ b. cond {A = ℕ} b 1 0) (flags_set (map (flag_from 0x80) u) (map three_byte_flag u))) ≡ units_table_index (take 4 u) + 256 * units_table_index (drop 4 u)) u long
+    (ap (number_l 2) listed ∙ number_l-sixteen (one 0) (one 1) (one 2) (one 3) (two 0) (two 1) (two 2) (two 3) (one 4) (one 5) (one 6) (one 7) (two 4) (two 5) (two 6) (two 7)))
   where
     one : ℕ → ℕ
     one k = byte_count (get_or u k 0) / 2

@@ -3,6 +3,7 @@ use Rattle.wtf8.proofs.Common.{◌≡◌, ◌≢◌, ◌↔◌, ℕ, zero, suc, 
 use Rattle.wtf8.proofs.Common.{List, [], ◌∷◌, ◌∙◌, map, length, get_or, nat_eq, take, take_all, cases_Bool, both_ways, eq-eqb, eqb-true, length-chunk}
 use Rattle.wtf8.proofs.Common.{get_or-chunk, get_or-zip2, length-zip2, tops_compared, mask_l, w8, None, Some, Option, ◌%◌, ◌^◌, pointwise, bytes_decides, chunk}
 use Rattle.wtf8.proofs.Common.{zip2, top, IsLeast, NoneIn, not-true, MatchOption, ⊤, DifferAt, DecidesNone, IsFirstSet, IsSet}
+use Rattle.std.proofs.lemmas.Bool.Decides.{same_from_decides}
 use Rattle.wtf8.proofs.lemmas.lanes.Masks.{first_at_offset, lowest_set, none_set}
 
 abbrev is_unequal : ℕ → ℕ → Bool
@@ -55,16 +56,9 @@ take-before_mismatch (suc n) (x ∷ w) (y ∷ v) p q h = elim (cases_Bool (eqb x
   | inr f ↦ absurd (h 0 (omega arith) (omega arith) (λ e. both_ways _ f (eq-eqb x y e)))
 ]
 
--- a Boolean that is true exactly if two lists are equal is the result of their comparison
-pub pointwise-from_iff : (b : Bool) (w v : List ℕ) → IsTrue b ↔ (w ≡ v) → b ≡ pointwise nat_eq w v
-pointwise-from_iff b w v h = elim (cases_Bool b) [
-  | inl t ↦ t ∙ sym ((bytes_decides w v).1 (h.0 t))
-  | inr f ↦ elim (cases_Bool (pointwise nat_eq w v)) [ inl t ↦ absurd (both_ways b f (h.1 ((bytes_decides w v).0 t))) | inr g ↦ f ∙ sym g ]
-]
-
 -- a Boolean that is true exactly if lists of equal length have no mismatch is the result of their comparison
 pub pointwise-from_no_mismatch : (b : Bool) (w v : List ℕ) → length w ≡ length v → DecidesNone ⊤ (DifferAt w v) 0 (length w) b → b ≡ pointwise nat_eq w v
-pointwise-from_no_mismatch b w v long h = pointwise-from_iff b w v (to b h, from b h)
+pointwise-from_no_mismatch b w v long h = same_from_decides b (pointwise nat_eq w v) (to b h, from b h) (bytes_decides w v)
   where
     whole : NoneIn (DifferAt w v) 0 (length w) → w ≡ v
     whole none =

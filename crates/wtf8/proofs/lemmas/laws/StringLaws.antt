@@ -9,12 +9,12 @@ use Rattle.wtf8.specs.StringLaws.{EqualBuffersHaveEqualUnits, EqualBufferAndView
 use Rattle.wtf8.specs.StringLaws.{EqualBuffersCompareEqual, EqualViewsCompareEqual}
 use Rattle.wtf8.specs.StringLaws.{RoomLeftIsFound, ScalarsStay, FormsAreOfBuffers, FormsAreOfViews, WhatFitsIsFound}
 use Rattle.wtf8.proofs.Common.{Equal, nat_cmp, slice_cmp, false≢true}
-use Rattle.std.proofs.lemmas.Cmp.{nat_list_cmp_total}
+use Rattle.std.proofs.lemmas.Cmp.{nat_list_cmp_total, tied_itself}
 use Rattle.std.proofs.lemmas.List.Sorted.{searchable_from_sorted}
 use Rattle.std.specs.List.{slice_index_or}
 use Rattle.std.specs.List.Sorted.{IsBinarySearchResult, IsSorted}
 use Rattle.std.specs.Ordering.{is_eq, on}
-use Rattle.wtf8.proofs.lemmas.comparing.Order.{cmp_self, order_of_result}
+use Rattle.wtf8.proofs.lemmas.comparing.Order.{order_of_result}
 use Rattle.wtf8.proofs.lemmas.codec.Encoding.{Begins}
 use Rattle.wtf8.proofs.lemmas.codec.Readings.{well_formed_of, same_form}
 use Rattle.wtf8.proofs.lemmas.codec.Readings.{same_reading}
@@ -37,7 +37,7 @@ equal_views s t = equal_forms s.bytes.now t.bytes.now (view_units s) (view_units
 
 -- bytes compare as `Equal` exactly if they are equal
 equal_bytes : (w v : List ℕ) → (slice_cmp nat_cmp w v ≡ Equal) ↔ (w ≡ v)
-equal_bytes w v = (λ e. order_of_result Equal w v (sym e), λ e. rw e (cmp_self v))
+equal_bytes w v = (λ e. order_of_result Equal w v (sym e), λ e. rw e (tied_itself nat_list_cmp_total v))
 
 pub equal_buffers_compare : EqualBuffersCompareEqual
 equal_buffers_compare s t =
