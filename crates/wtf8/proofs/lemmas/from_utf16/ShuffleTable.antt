@@ -1,5 +1,5 @@
 -- The shuffle table, checked row by row: the lanes that a row picks, and the number of bytes.
-use Rattle.wtf8.proofs.Common.{◌≡◌, ℕ, zero, suc, ◌+◌, ◌<◌, ◌&&◌, List, [], ◌∷◌, ◌++◌, length, take, get_or, Each1, ltb, eqb, Bool, true, false}
+use Rattle.wtf8.proofs.Common.{◌≡◌, ℕ, ◌+◌, ◌<◌, ◌&&◌, List, [], ◌∷◌, ◌++◌, take, get_or, Each1, eqb, Bool, true}
 use Rattle.wtf8.proofs.Common.{refl, sym, ap, ◌∙◌, arith, subst, cases_lt, inl, inr, and_parts, eqb-true, nat_eq, pointwise}
 use Rattle.std.proofs.lemmas.Bool.{ltb-true}
 use Rattle.std.proofs.lemmas.List.Recursion.{and_at}
