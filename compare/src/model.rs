@@ -160,7 +160,7 @@ impl Case {
         let most = match self.builds.get(done) {
             None => return Err("no call is there".to_owned()),
             Some(Build::Truncate(_) | Build::TruncateUnits(_)) => {
-                return Err("a truncation wants no memory".to_owned())
+                return Err("a truncation requests no memory".to_owned())
             }
             Some(Build::Extend(count)) => usize::from(*count).min(self.points.len()),
             Some(_) => 0,
