@@ -78,42 +78,42 @@ def is_well_formed(units):
         return False
 
 
-def answers_of(command, lines):
+def outputs_of(command, lines):
     """The lines that a program prints for these lines, one for each."""
     ended = subprocess.run(command, input="".join(line + "\n" for line in lines).encode(), stdout=subprocess.PIPE)
-    *answers, rest = ended.stdout.decode("latin-1").split("\n")
-    if ended.returncode != 0 or rest or len(answers) != len(lines):
-        sys.exit(f"{command[0]}: status {ended.returncode}, {len(answers)} lines to {len(lines)}")
-    return answers
+    *outputs, rest = ended.stdout.decode("latin-1").split("\n")
+    if ended.returncode != 0 or rest or len(outputs) != len(lines):
+        sys.exit(f"{command[0]}: status {ended.returncode}, {len(outputs)} lines of output for {len(lines)} lines of input")
+    return outputs
 
 
-def compare(name, lists, answers, wanted):
+def compare(name, lists, outputs, expected):
     """Shows the shortest list with different results and ends, or counts the lists."""
-    differing = [case for case in zip(lists, answers, wanted) if case[1] != case[2]]
+    differing = [case for case in zip(lists, outputs, expected) if case[1] != case[2]]
     if differing:
-        units, answer, other = min(differing, key=lambda case: len(case[0]))
+        units, output, other = min(differing, key=lambda case: len(case[0]))
         sys.exit(
-            f"{name}: {len(differing)} of {len(lists)} lists differ; the shortest of them, the program's answer, the other:\n"
-            f"{line_of(units)}\n{answer!r}\n{other!r}"
+            f"{name}: {len(differing)} of {len(lists)} lists differ; the shortest, the program's output, the expected output:\n"
+            f"{line_of(units)}\n{output!r}\n{other!r}"
         )
-    print(f"{name}: {len(lists)} lists compared, {sum(map(len, lists))} units, all answers agree")
+    print(f"{name}: {len(lists)} lists compared, {sum(map(len, lists))} units, all outputs agree")
 
 
-def compare_with_codecs(lists, answers):
+def compare_with_codecs(lists, outputs):
     name = f"{platform.python_implementation()} {platform.python_version()}, its codecs"
-    compare(name, lists, answers, [dumped_by_codecs(units) for units in lists])
+    compare(name, lists, outputs, [dumped_by_codecs(units) for units in lists])
 
 
-def compare_with_encoder(lists, answers):
+def compare_with_encoder(lists, outputs):
     node = shutil.which("node")
     if not node:
         print("left out: the comparison with Node's TextEncoder, since node is not there")
         return
     version = subprocess.run([node, "--version"], stdout=subprocess.PIPE, check=True).stdout.decode().strip()
-    well_formed = [(units, answer) for units, answer in zip(lists, answers) if is_well_formed(units)]
-    lists, answers = zip(*well_formed)
+    well_formed = [(units, output) for units, output in zip(lists, outputs) if is_well_formed(units)]
+    lists, outputs = zip(*well_formed)
     encoder = pathlib.Path(__file__).with_name("encoder.js")
-    compare(f"Node {version}, its TextEncoder", lists, answers, answers_of([node, encoder], [line_of(units) for units in lists]))
+    compare(f"Node {version}, its TextEncoder", lists, outputs, outputs_of([node, encoder], [line_of(units) for units in lists]))
 
 
 def main():
@@ -125,9 +125,9 @@ def main():
     if arguments.cases < 0:
         parser.error("--cases is below 0")
     lists = short_lists() + random_lists(arguments.seed, arguments.cases)
-    answers = answers_of([arguments.program], [line_of(units) for units in lists])
-    compare_with_codecs(lists, answers)
-    compare_with_encoder(lists, answers)
+    outputs = outputs_of([arguments.program], [line_of(units) for units in lists])
+    compare_with_codecs(lists, outputs)
+    compare_with_encoder(lists, outputs)
 
 
 main()

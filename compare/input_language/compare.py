@@ -23,16 +23,16 @@ def units_of(text):
     return text.decode("utf-8", "surrogatepass").encode("utf-16-le", "surrogatepass")
 
 
-def answer(line):
+def output_for(line):
     """The output for a line, without its newline."""
     units, refused = b"", 0
     for word in line.split(b" ") if line else []:
         if POINT.match(word) and int(word, 16) <= 0x10FFFF:
             units += chr(int(word, 16)).encode("utf-16-le", "surrogatepass")
         elif POSITION.match(word):
-            text, place = bytes_of(units), int(word[1:])
-            if place <= len(text) and (place == len(text) or text[place] & 0xC0 != 0x80):
-                units = units_of(text[:place])
+            text, position = bytes_of(units), int(word[1:])
+            if position <= len(text) and (position == len(text) or text[position] & 0xC0 != 0x80):
+                units = units_of(text[:position])
             else:
                 refused += 1
         elif COUNT.match(word):
@@ -102,7 +102,7 @@ def listed_lines():
         for other in EDGES:
             both = b"%04X %04X" % (one, other)
             lines += [both, both + b" -9 -8"]
-            lines += [both + b" -%d" % place for place in range(8)]
+            lines += [both + b" -%d" % position for position in range(8)]
             lines += [both + b" /%d DC00" % count for count in range(6)]
     for point in (0x41, 0xE9, 0x20AC, 0x1F4A9, 0xD83D):
         for length in (1, 63, 64, 65, 66, 129, 300):
@@ -131,7 +131,7 @@ def compare_about(program, edge):
         lines = [line_of_length(length), b"D83D DCA9"]
         if len(lines[0]) != length:
             sys.exit(f"no line of {length} bytes")
-        compare(f"the program at a newline behind {length} bytes", lines, [answer(line) for line in lines], output([program], lines))
+        compare(f"the program at a newline after {length} bytes", lines, [output_for(line) for line in lines], output([program], lines))
 
 
 def output(command, lines):
@@ -141,14 +141,14 @@ def output(command, lines):
     return done.stdout
 
 
-def compare(name, lines, wanted, found):
+def compare(name, lines, expected, found):
     """Ends with status 1 at the first line that differs, or if there are too few or too many."""
-    answers = found.split(b"\n")
-    if answers.pop() != b"" or len(answers) != len(lines):
-        sys.exit(f"{name}: {len(answers)} answers to {len(lines)} lines")
-    for line, want, got in zip(lines, wanted, answers):
-        if want != got:
-            sys.exit(f"{name} differs at the line {line!r}:\n  wanted {want!r}\n  found  {got!r}")
+    outputs = found.split(b"\n")
+    if outputs.pop() != b"" or len(outputs) != len(lines):
+        sys.exit(f"{name}: {len(outputs)} lines of output for {len(lines)} lines of input")
+    for line, of_model, of_program in zip(lines, expected, outputs):
+        if of_model != of_program:
+            sys.exit(f"{name} differs at the line {line!r}:\n  expected {of_model!r}\n  found    {of_program!r}")
 
 
 def main():
@@ -161,22 +161,22 @@ def main():
         parser.error("--cases is a number from 1 on")
     rng = random.Random(options.seed)
     lines = listed_lines() + [random_line(rng) for _ in range(options.cases)]
-    wanted = [answer(line) for line in lines]
-    kinds = [sum(map(test, wanted)) for test in (lambda a: a == b"?", lambda a: b"!" in a, lambda a: len(a) > 900)]
+    expected = [output_for(line) for line in lines]
+    kinds = [sum(map(test, expected)) for test in (lambda o: o == b"?", lambda o: b"!" in o, lambda o: len(o) > 900)]
     if not all(kinds):
         sys.exit(f"the lines leave out a kind: {kinds} refused, with a note, long")
-    compare("the program", lines, wanted, output([options.program], lines))
+    compare("the program", lines, expected, output([options.program], lines))
     for edge in (4096, 8192, 65536):
         compare_about(options.program, edge)
     models = "CPython's codecs"
     if shutil.which("node"):
-        compare("the engine's model", lines, wanted, output(["node", os.path.join(HERE, "model.js")], lines))
+        compare("the engine's model", lines, expected, output(["node", os.path.join(HERE, "model.js")], lines))
         models += " and the JavaScript engine's strings"
     # The last line needs no newline.
     end = lines[-1] if lines[-1] else b"0041"
-    if output_without_newline(options.program, end) != answer(end) + b"\n":
-        sys.exit("a last line without a newline is answered otherwise")
-    print(f"{len(lines)} lines, {kinds[0]} refused, {kinds[1]} with a note: the answers are those of the models over {models}")
+    if output_without_newline(options.program, end) != output_for(end) + b"\n":
+        sys.exit("a last line without a newline has another output")
+    print(f"{len(lines)} lines, {kinds[0]} refused, {kinds[1]} with a note: the outputs are those of the models over {models}")
 
 
 def output_without_newline(program, line):

@@ -11,19 +11,20 @@ function encoded(point) {
     return [0xf0 + (point >> 18), 0x80 + ((point >> 12) & 63), 0x80 + ((point >> 6) & 63), 0x80 + (point & 63)];
 }
 
-// The front of a text that has `place` bytes, or null if no code point ends there.
-function frontOf(text, place) {
+// The first `position` bytes of a text, as a text, or null if no code point ends there.
+function frontOf(text, position) {
     let at = 0;
     let front = "";
     for (const point of text) {
-        if (place <= at) break;
+        if (position <= at) break;
         at += encoded(point.codePointAt(0)).length;
         front += point;
     }
-    return at === place ? front : null;
+    return at === position ? front : null;
 }
 
-function answer(line) {
+// The output for a line, without its newline.
+function outputOf(line) {
     let text = "";
     let refused = 0;
     for (const word of line === "" ? [] : line.split(" ")) {
@@ -49,4 +50,4 @@ function answer(line) {
 // Each byte is read as one character, so that bytes that are not UTF-8 stay distinct.
 const lines = fs.readFileSync(0, "latin1").split("\n");
 if (lines[lines.length - 1] === "") lines.pop();
-process.stdout.write(lines.map((line) => answer(line) + "\n").join(""));
+process.stdout.write(lines.map((line) => outputOf(line) + "\n").join(""));

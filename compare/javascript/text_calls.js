@@ -143,7 +143,7 @@ function utf8Of(text) {
   return hex(bytes.length, 2) + bytes.toString('hex').toUpperCase();
 }
 
-// The operands of a call: a string, or numbers, of which units come after their count.
+// The operands of a call: a string, or numbers. If they are units, their count comes first.
 function operandsOf(name, operands) {
   if (OF_TEXT.includes(name)) return utf8Of(operands[0]);
   return (OF_UNITS.includes(name) ? [operands.length, ...operands] : operands).map(bytesOf).join('');
@@ -155,7 +155,7 @@ function lineOf(calls) {
 }
 
 // The transcript of a script: what its calls return, and an empty line.
-function answersOf(calls) {
+function transcriptOf(calls) {
   const state = { first: '', second: '' };
   return calls.map(([name, ...operands]) => CALLS[name](state, ...operands) + '\n').join('') + '\n';
 }
@@ -169,7 +169,7 @@ function randomBelow(seed) {
   };
 }
 
-// A random unit, more often a surrogate than another.
+// A random unit, a surrogate more often than any other.
 function randomUnit(below) {
   switch (below(6)) {
     case 0: return NINE[below(NINE.length)];
@@ -217,7 +217,7 @@ function neighbour(units, at, below) {
 
 const listOf = (text) => Array.from({ length: text.length }, (_, at) => text.charCodeAt(at));
 
-// Units that `replace` inserts. One list in three begins with `$`, which it would interpret in a string.
+// Units that `replace` inserts. One list in three begins with `$`, which `String.prototype.replace` would interpret.
 function randomReplacement(below) {
   if (below(3) === 0) return [0x24, 0x24 + below(14)];
   return randomUnits(below).slice(0, 4);
@@ -231,16 +231,16 @@ function spaced(units, below) {
 }
 
 // Random calls that search a string for a piece of it.
-function searchCalls(first, place, below) {
-  const piece = listOf(first.slice(place, place + 1 + below(4)));
+function searchCalls(first, index, below) {
+  const piece = listOf(first.slice(index, index + 1 + below(4)));
   const calls = [['swap'], ['set', ...(below(4) === 0 ? changed(piece, below) : piece)], ['swap']];
-  calls.push(['indexOf', Math.max(0, place - below(12))], ['indexOf', place], ['indexOf', place + 1]);
-  calls.push(['lastIndexOf', place + below(12)], ['lastIndexOf', Math.max(0, place - 1)], ['endsWith', place + piece.length]);
+  calls.push(['indexOf', Math.max(0, index - below(12))], ['indexOf', index], ['indexOf', index + 1]);
+  calls.push(['lastIndexOf', index + below(12)], ['lastIndexOf', Math.max(0, index - 1)], ['endsWith', index + piece.length]);
   return below(2) === 0 ? calls : [...calls, ['replace', ...randomReplacement(below)]];
 }
 
 // One random call or a few related ones that make another string of the first, or read the whole of it.
-function randomMakingCalls(first, place, below) {
+function randomMakingCalls(first, index, below) {
   const unit = below(3) === 0 || first === '' ? randomUnit(below) : first.charCodeAt(below(first.length));
   switch (below(7)) {
     case 0: return [['isWellFormed'], ['toWellFormed'], ['isWellFormed']];
@@ -249,39 +249,39 @@ function randomMakingCalls(first, place, below) {
     case 3: return [['repeat', first.length > 200 ? 1 + below(2) : first.length > 12 ? below(6) : below(60)]];
     case 4: return [['set', ...spaced(listOf(first), below)], ['trim']];
     case 5: return [['padStart', first.length + below(300)]];
-    default: return searchCalls(first, place, below);
+    default: return searchCalls(first, index, below);
   }
 }
 
 // One random call or a few related ones, for the current strings.
 function randomCalls({ first }, below) {
   const at = () => (below(40) === 0 ? below(0x10000) : below(first.length + 3));
-  const place = at();
-  if (first.length < 900 && below(3) === 0) return randomMakingCalls(first, place, below);
+  const index = at();
+  if (first.length < 900 && below(3) === 0) return randomMakingCalls(first, index, below);
   switch (below(22)) {
     case 0: return [['set', ...randomUnits(below)]];
     case 1: return [['swap']];
     case 2: return [['length']];
-    case 3: return [['unitAt', place]];
-    case 4: return [['slice', ...[place, at()].sort((one, other) => one - other)]];
-    case 5: return [['slice', place, at()]];
-    case 6: return [['substring', place, at()]];
-    case 7: return [['charAt', place]];
-    case 8: return [['startsWith', place]];
+    case 3: return [['unitAt', index]];
+    case 4: return [['slice', ...[index, at()].sort((one, other) => one - other)]];
+    case 5: return [['slice', index, at()]];
+    case 6: return [['substring', index, at()]];
+    case 7: return [['charAt', index]];
+    case 8: return [['startsWith', index]];
     case 9: return first.length > 600 ? [['length']] : [['concat'], ['compare']];
     case 10: return [['compare'], ['swap'], ['compare']];
     case 11: return first.length > 300 ? [['length']] : [['cutEverywhere']];
-    case 12: return first.length > 900 ? [['length']] : [['indexOf', place]];
-    case 13: return [['at', place]];
-    case 14: return [['codePointAt', place]];
+    case 12: return first.length > 900 ? [['length']] : [['indexOf', index]];
+    case 13: return [['at', index]];
+    case 14: return [['codePointAt', index]];
     case 15: return first.length > 600 ? [['length']] : [['push', ...randomUnits(below)], ['compare'], ['unitAt', first.length]];
     case 16: return first.length > 600 ? [['length']] : [['pushWtf8', ...randomUnits(below)], ['compare'], ['unitAt', first.length]];
     case 17: return first.length > 600 ? [['length']] : [['pushStr', wellFormed(randomUnits(below))], ['unitAt', first.length]];
-    case 18: return [['throughWtf8'], ['unitAt', place]];
+    case 18: return [['throughWtf8'], ['unitAt', index]];
     case 19: return [['fromStr', wellFormed(randomUnits(below))], ['compare'], ['length']];
     default: {
-      const others = neighbour(listOf(first), place, below);
-      return [['swap'], ['set', ...others], ['swap'], ['compare'], ['startsWith', place], ['swap'], ['compare'], ['swap']];
+      const others = neighbour(listOf(first), index, below);
+      return [['swap'], ['set', ...others], ['swap'], ['compare'], ['startsWith', index], ['swap'], ['compare'], ['swap']];
     }
   }
 }
@@ -370,12 +370,12 @@ const KINDS = [[0x61, 0x62, 0x63], [0xE9, 0x7FF, 0x80], [0x800, 0xD7FF, 0xE000],
 const textOfKind = (kind, length) => Array.from({ length }, (_, at) => kind[at % kind.length]);
 
 // The indexes at both ends, and about those at which a block may begin.
-function placesOf(length) {
-  const places = [0, 1, ...[8, 16, 32, 64, 128, 256].flatMap((edge) => [edge - 1, edge, edge + 1]), length - 2, length - 1];
-  return [...new Set(places.filter((at) => 0 <= at && at < length))];
+function indexesOf(length) {
+  const indexes = [0, 1, ...[8, 16, 32, 64, 128, 256].flatMap((edge) => [edge - 1, edge, edge + 1]), length - 2, length - 1];
+  return [...new Set(indexes.filter((at) => 0 <= at && at < length))];
 }
 
-// A long text read unit by unit, and by pieces that begin or end at each index of `placesOf`. The second text is equal,
+// A long text read unit by unit, and by pieces that begin or end at each index of `indexesOf`. The second text is equal,
 // so that a slice to nothing and a concatenation restore the first.
 function longScript(units) {
   const last = units.length - 1;
@@ -384,7 +384,7 @@ function longScript(units) {
   for (let at = 0; at <= units.length + 1; at++) calls.push(['unitAt', at], ['charAt', at]);
   if (units.length < 40) calls.push(...makingCalls(units, again));
   calls.push(['padStart', 3 * units.length - 1], ...again);
-  for (const at of placesOf(units.length)) {
+  for (const at of indexesOf(units.length)) {
     calls.push(['substring', at + 3, at], ['substring', last + 3, Math.max(at, last - 9)], ['at', at], ['codePointAt', at]);
     calls.push(['slice', at, Math.min(at + 3, last + 1)], ...again);
   }
@@ -394,9 +394,9 @@ function longScript(units) {
 
 // A long text against others made at some of its indexes: one unit changed, the units before, and the piece from there,
 // which is searched in it; last, a text that is one unit longer.
-function neighbourScript(units, places) {
+function neighbourScript(units, indexes) {
   const calls = [['set', ...units], ['swap']];
-  for (const at of places) {
+  for (const at of indexes) {
     calls.push(['set', ...units.with(at, units[at] ^ 1)], ['compare'], ['set', ...units.slice(0, at)], ['compare'], ['swap'], ['compare']);
     for (const piece of [units.slice(at), units.slice(at).with(-1, units.at(-1) ^ 1)]) {
       calls.push(['swap'], ['set', ...piece], ['swap'], ['startsWith', at], ['startsWith', at + 1], ['indexOf', Math.max(0, at - 9)]);
@@ -411,7 +411,7 @@ function neighbourScript(units, places) {
 function longScripts() {
   return KINDS.flatMap((kind) => [
     ...[9, 17, 33, 66].map((length) => longScript(textOfKind(kind, length))),
-    ...[10, 34].map((length) => neighbourScript(textOfKind(kind, length), placesOf(length))),
+    ...[10, 34].map((length) => neighbourScript(textOfKind(kind, length), indexesOf(length))),
   ]).concat([0, 4].flatMap((kind) => [
     ...[130, 300].map((length) => longScript(textOfKind(KINDS[kind], length))),
     neighbourScript(textOfKind(KINDS[kind], 300), [32, 64, 128, 256, 298, 299]),
@@ -443,13 +443,13 @@ function unitsOfKind(kind, length, below) {
 const anyUnits = (length, below) => unitsOfKind(KINDS_OF_MARKED[below(KINDS_OF_MARKED.length)], length, below);
 
 // An index in a text or a little past its end, mostly about a multiple of `SPACING`.
-function placeAbout(length, below) {
+function indexAbout(length, below) {
   if (below(3) === 0) return below(length + 3);
   return Math.max(0, SPACING * below(Math.ceil(length / SPACING) + 1) + below(5) - 2);
 }
 
 // Reads the units about each multiple of `SPACING`, and pieces from there and up to there.
-function looksAbout(length) {
+function readsAbout(length) {
   const calls = [];
   for (let edge = 0; edge <= length + 2; edge += SPACING) {
     for (let at = Math.max(0, edge - 2); at <= edge + 2; at++) {
@@ -462,9 +462,9 @@ function looksAbout(length) {
 
 // A text read without marks and with them, appended to one with marks, and cut between two marks.
 function markedScript(units) {
-  const looks = looksAbout(units.length);
+  const looks = readsAbout(units.length);
   const calls = [['set', ...units], ...looks, ['mark'], ...looks, ['swap'], ['set', ...units], ['compare'], ['swap'], ['compare'], ['concat'], ['compare']];
-  calls.push(...looksAbout(2 * units.length), ['slice', SPACING - 1, units.length + SPACING + 1], ...looks, ['mark'], ...looks);
+  calls.push(...readsAbout(2 * units.length), ['slice', SPACING - 1, units.length + SPACING + 1], ...looks, ['mark'], ...looks);
   return calls;
 }
 
@@ -477,7 +477,7 @@ function grownScript(way, piece, count, isMarked) {
   for (let end = piece.length; end <= count * piece.length; end += piece.length) {
     calls.push(append, ['unitAt', end - 1], ['unitAt', end], ['substring', Math.max(0, end - piece.length - 1), end - 1]);
   }
-  return [...calls, ...looksAbout(count * piece.length)];
+  return [...calls, ...readsAbout(count * piece.length)];
 }
 
 // Each call that makes a text from others, with marks on these or on none; the result is read about each mark.
@@ -487,7 +487,7 @@ function madeScript(units, isMarked) {
   const making = [['toWellFormed'], ['trim'], ['replace', ...units], ['repeat', 2], ['padStart', units.length + SPACING + 1]];
   const calls = [['set', ...piece], ...marks, ['swap']];
   for (const call of making) {
-    calls.push(['set', ...units], ...marks, ['isWellFormed'], ['indexOf', 0], ['split', units[2]], call, ['length'], ...looksAbout(units.length));
+    calls.push(['set', ...units], ...marks, ['isWellFormed'], ['indexOf', 0], ['split', units[2]], call, ['length'], ...readsAbout(units.length));
   }
   return calls;
 }
@@ -521,7 +521,7 @@ function appending(piece, below) {
 
 // One random call or a few related ones, for the current long texts.
 function randomMarkedCalls({ first, second }, below) {
-  const place = placeAbout(first.length, below);
+  const index = indexAbout(first.length, below);
   switch (below(27)) {
     case 0: return [['mark']];
     case 1: return [['swap']];
@@ -531,19 +531,19 @@ function randomMarkedCalls({ first, second }, below) {
       const piece = below(2) === 0 ? any : joining(any);
       return [...appending(piece, below), ['unitAt', first.length]];
     }
-    case 5: return [['slice', ...[below(SPACING), placeAbout(first.length, below)].sort((one, other) => one - other)]];
-    case 6: case 7: case 8: return [['substring', place, place + below(2 * SPACING)]];
-    case 9: return [['substring', placeAbout(first.length, below), place]];
-    case 10: return [['charAt', place]];
-    case 11: return [['at', place]];
-    case 12: return [['codePointAt', place]];
-    case 13: case 14: return first.length > 6000 ? [['length']] : randomMakingCalls(first, below(2) === 0 ? place : below(SPACING), below);
+    case 5: return [['slice', ...[below(SPACING), indexAbout(first.length, below)].sort((one, other) => one - other)]];
+    case 6: case 7: case 8: return [['substring', index, index + below(2 * SPACING)]];
+    case 9: return [['substring', indexAbout(first.length, below), index]];
+    case 10: return [['charAt', index]];
+    case 11: return [['at', index]];
+    case 12: return [['codePointAt', index]];
+    case 13: case 14: return first.length > 6000 ? [['length']] : randomMakingCalls(first, below(2) === 0 ? index : below(SPACING), below);
     case 15: return [['compare'], ['swap'], ['compare'], ['swap']];
     case 16: case 17: {
       const other = first.length === 0 ? [] : changed(listOf(first), below);
       return [['swap'], ['set', ...other], ...(below(2) === 0 ? [['mark']] : []), ['swap'], ['compare']];
     }
-    default: return [['unitAt', place]];
+    default: return [['unitAt', index]];
   }
 }
 
@@ -574,7 +574,7 @@ function marksScripts(seed, cases) {
 const EXAMPLE = [0x61, 0xD83D, 0xDCA9, 0x62, 0xD83D];
 
 // Searches the example for lists, each up to or from an index.
-const lookedFor = (call, rows) => rows.flatMap(([at, units]) => [['swap'], ['set', ...units], ['swap'], [call, at]]);
+const searchesFor = (call, rows) => rows.flatMap(([at, units]) => [['swap'], ['set', ...units], ['swap'], [call, at]]);
 
 // A call with its operands on each of some lists.
 const onEach = (call, rows) => rows.flatMap(([units, ...operands]) => [['set', ...units], [call, ...operands]]);
@@ -681,7 +681,7 @@ function rowScripts() {
 // Worked examples of the calls: inside a pair and beside it, at both ends and past them, and with empty lists.
 function exampleScripts() {
   const longer = [...EXAMPLE, 0x61];
-  const places = [0, 1, 2, 3, 4, 5, 6].flatMap((at) => [['unitAt', at], ['charAt', at], ['at', at], ['codePointAt', at]]);
+  const indexes = [0, 1, 2, 3, 4, 5, 6].flatMap((at) => [['unitAt', at], ['charAt', at], ['at', at], ['codePointAt', at]]);
   const between = [[0, 5], [0, 2], [2, 0], [2, 4], [9, 3], [3, 3], [7, 6]].map((ends) => ['substring', ...ends]);
   const starts = [[0, []], [5, []], [6, []], [0, [0x61, 0xD83D]], [1, [0x61, 0xD83D]], [2, [0xDCA9, 0x62]], [2, [0xDCA9, 0x63]]];
   starts.push([3, [0x62, 0xD83D]], [3, [0x62, 0xD83D, 0xDCA9]]);
@@ -690,9 +690,9 @@ function exampleScripts() {
   first.push([0, EXAMPLE], [1, EXAMPLE], [0, longer]);
   const last = [[9, []], [2, []], [3, [0xD83D]], [0, [0xD83D]], [9, [0xDCA9, 0x62]], [9, [0x61]], [9, [0x63]], [9, EXAMPLE], [9, longer]];
   return [
-    [['set', ...EXAMPLE], ...places, ...between],
-    [['set', ...EXAMPLE], ...lookedFor('startsWith', starts), ...lookedFor('endsWith', ends)],
-    [['set', ...EXAMPLE], ...lookedFor('indexOf', first), ...lookedFor('lastIndexOf', last)],
+    [['set', ...EXAMPLE], ...indexes, ...between],
+    [['set', ...EXAMPLE], ...searchesFor('startsWith', starts), ...searchesFor('endsWith', ends)],
+    [['set', ...EXAMPLE], ...searchesFor('indexOf', first), ...searchesFor('lastIndexOf', last)],
     onEach('codePointAt', [[[0xDBFF, 0xDFFF], 0], [[0xD800, 0xDC00], 0], [[0xDC00, 0xD800], 0]]),
     onEach('repeat', [[[0xDCA9, 0xD83D], 0], [[0xDCA9, 0xD83D], 3], [[], 4], [[0x61], 2]]),
     onEach('toWellFormed', [[[0x61, 0xD83D]], [[0xDCA9, 0xD83D, 0xDCA9, 0xD83D]], [[]], [[0xD83D, 0xDCA9, 0xFFFD]]]),
@@ -716,8 +716,8 @@ function fixedScripts() {
 }
 
 // Writes the scripts and their transcripts after the given lines.
-function write(scripts, folder, linesBefore = '', answersBefore = '') {
-  for (const [name, before, textOfScript] of [['stdin', linesBefore, lineOf], ['stdout', answersBefore, answersOf]]) {
+function write(scripts, folder, linesBefore = '', transcriptsBefore = '') {
+  for (const [name, before, textOfScript] of [['stdin', linesBefore, lineOf], ['stdout', transcriptsBefore, transcriptOf]]) {
     const file = fs.openSync(path.join(folder, name), 'w');
     fs.writeSync(file, before);
     for (const calls of scripts) fs.writeSync(file, textOfScript(calls));

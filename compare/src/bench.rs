@@ -66,13 +66,13 @@ fn all_rows() -> Vec<(u32, String, Input)> {
     for input in inputs::all() {
         rows.extend(LOOPS.map(|(number, call)| row(number, call, &input)));
     }
-    for (place, input) in inputs::pairs() {
+    for (which, input) in inputs::pairs() {
         let comparing = LOOPS
             .into_iter()
             .filter(|(number, _)| COMPARING.contains(number));
         rows.extend(
             comparing.map(|(number, call)| {
-                row(number, &format!("{call}, {place} unit differs"), &input)
+                row(number, &format!("{call}, {which} unit differs"), &input)
             }),
         );
     }
@@ -157,7 +157,7 @@ fn time(number: u32, name: String, input: &Input) -> Option<Row> {
     let own_rounds = rounds_of_a_turn(|rounds| {
         black_box(ours::time(number, units, others, rounds));
     });
-    let answer = ours::time(number, units, others, rounds);
+    let result = ours::time(number, units, others, rounds);
     let mut random = Random::new(u64::from(number));
     let mut least = [f64::INFINITY; 4];
     for _ in 0..TURNS {
@@ -167,26 +167,26 @@ fn time(number: u32, name: String, input: &Input) -> Option<Row> {
         let (made, _) = timed(|| ours::time(number, units, others, 0));
         let (with_making, _) = timed(|| ours::time(number, units, others, own_rounds));
         let original = original::Bench::new(number, units, others);
-        let (crate_time, crate_answer) = timed(|| original.run(number, rounds));
+        let (crate_time, crate_result) = timed(|| original.run(number, rounds));
         drop(original);
-        if crate_answer.is_some_and(|crate_answer| crate_answer != answer) {
-            say!("DIFFERENT ANSWERS in {name}: {answer} and {crate_answer:?}");
+        if crate_result.is_some_and(|crate_result| crate_result != result) {
+            say!("DIFFERENT RESULTS in {name}: {result} and {crate_result:?}");
             return None;
         }
         least[0] = least[0].min(made);
         least[1] = least[1].min(with_making);
-        if crate_answer.is_some() {
+        if crate_result.is_some() {
             least[2] = least[2].min(crate_time);
         }
         #[cfg(std_wtf8)]
         {
             let standard = standard::Bench::new(number, units, others);
-            let (standard_time, standard_answer) = timed(|| standard.run(number, rounds));
-            if standard_answer.is_some_and(|standard_answer| standard_answer != answer) {
-                say!("DIFFERENT ANSWERS in {name}: {answer} and {standard_answer:?}");
+            let (standard_time, standard_result) = timed(|| standard.run(number, rounds));
+            if standard_result.is_some_and(|standard_result| standard_result != result) {
+                say!("DIFFERENT RESULTS in {name}: {result} and {standard_result:?}");
                 return None;
             }
-            if standard_answer.is_some() {
+            if standard_result.is_some() {
                 least[3] = least[3].min(standard_time);
             }
         }
@@ -214,8 +214,8 @@ fn rounds_of_a_turn(run: impl Fn(u32)) -> u32 {
 
 fn timed<T>(run: impl FnOnce() -> T) -> (f64, T) {
     let start = Instant::now();
-    let answer = run();
-    (start.elapsed().as_nanos() as f64, answer)
+    let result = run();
+    (start.elapsed().as_nanos() as f64, result)
 }
 
 /// Prints two tables from files of rows, one file for each cargo profile and address of the code: the rows with a ratio

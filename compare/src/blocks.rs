@@ -25,7 +25,7 @@ fn units_of_bytes(base: &[u16], bytes: usize) -> Vec<u16> {
     text.encode_utf16().collect()
 }
 
-/// Makes the script for a string's units.
+/// Returns the script of calls on the string of these units.
 type Script = fn(&[u16]) -> Vec<Call>;
 
 /// A script for each base and each length about the ends of blocks.
@@ -36,7 +36,7 @@ fn about_blocks(script: Script) -> Vec<Vec<Call>> {
 }
 
 /// One unit changed at each index, compared in both directions.
-pub fn changed_at_each_place() -> Vec<Vec<Call>> {
+pub fn changed_at_each_index() -> Vec<Vec<Call>> {
     about_blocks(|units| changed_at(units, 0..units.len()))
 }
 
@@ -49,8 +49,8 @@ pub fn one_surrogate() -> Vec<Vec<Call>> {
 pub fn debug_texts() -> Vec<Vec<Call>> {
     about_blocks(|units| {
         let mut calls = Vec::new();
-        for place in 0..units.len() {
-            calls.extend(string_in(0, &changed(units, &[(place, 0xDBFF)])));
+        for index in 0..units.len() {
+            calls.extend(string_in(0, &changed(units, &[(index, 0xDBFF)])));
             calls.extend(on(0, &[Opcode::Debug]));
         }
         calls
@@ -71,31 +71,31 @@ pub fn positions() -> Vec<Vec<Call>> {
 
 /// The calls that take one position, on the string in register 0.
 fn at_position(position: usize) -> Vec<Call> {
-    let place = || Operand::Number(position as u16);
+    let operand = || Operand::Number(position as u16);
     let (zero, one) = (|| Operand::Register(0), || Operand::Register(1));
     vec![
         registers(Opcode::Clone, 1, 0),
-        Call::new(Opcode::Truncate, vec![one(), place()]),
-        Call::new(Opcode::SliceFrom, vec![one(), zero(), place()]),
-        Call::new(Opcode::SliceTo, vec![one(), zero(), place()]),
-        Call::new(Opcode::AsciiByteAt, vec![zero(), place()]),
+        Call::new(Opcode::Truncate, vec![one(), operand()]),
+        Call::new(Opcode::SliceFrom, vec![one(), zero(), operand()]),
+        Call::new(Opcode::SliceTo, vec![one(), zero(), operand()]),
+        Call::new(Opcode::AsciiByteAt, vec![zero(), operand()]),
     ]
 }
 
-/// 36 units of one kind, with two others at every two indexes: made into a string, whose units are appended to none,
-/// one or two others.
+/// 36 units of one kind with two others, at every pair of indexes: made into a string, whose units are
+/// appended to a vector of no, one or two units.
 pub fn of_mixed_kinds() -> Vec<Vec<Call>> {
     let mut scripts = Vec::new();
     for base in [0x61, 0xE9, 0x20AC, 0xD800, 0xDC00] {
         for (one, other) in OTHERS {
-            for place in 0..36 {
-                let both = |behind| {
+            for index in 0..36 {
+                let both = |second| {
                     let mut units = vec![base; 36];
-                    units[place] = one;
-                    units[behind] = other;
-                    made_and_appended(&units, &ABOUT_UNITS[..behind % 3])
+                    units[index] = one;
+                    units[second] = other;
+                    made_and_appended(&units, &ABOUT_UNITS[..second % 3])
                 };
-                scripts.push((place..36).flat_map(both).collect());
+                scripts.push((index..36).flat_map(both).collect());
             }
         }
     }
@@ -116,7 +116,7 @@ const OTHERS: [(u16, u16); 10] = [
     (0xDCA9, 0x00),
 ];
 
-/// The units to which others are appended.
+/// The units of the strings to which others are appended.
 const ABOUT_UNITS: [u16; 2] = [0xDFFF, 0xD800];
 
 /// Makes a string of `units`, and appends all its units to `before`.
@@ -128,12 +128,17 @@ fn made_and_appended(units: &[u16], before: &[u16]) -> [Call; 2] {
     ]
 }
 
-/// Up to 14 groups of eight units, of three bytes each at the front and of two bytes after these, in each proportion, and
-/// after them eight units that take the most bytes: a buffer that is filled eight units at a time is full up to each
-/// distance from its end before those.
+/// Up to 14 groups of eight units, first units of three bytes and then units of two, in each proportion; after them eight
+/// units that take the most bytes. So a buffer that is filled eight units at a time has each possible number of free
+/// bytes when the last eight come.
 pub fn filled_blocks() -> Vec<Vec<Call>> {
     let mut scripts = Vec::new();
-    for last in [[0x20AC; 8], [0xD83D, 0xDCA9, 0xD83D, 0xDCA9, 0x20AC, 0x20AC, 0x20AC, 0x20AC]] {
+    for last in [
+        [0x20AC; 8],
+        [
+            0xD83D, 0xDCA9, 0xD83D, 0xDCA9, 0x20AC, 0x20AC, 0x20AC, 0x20AC,
+        ],
+    ] {
         for groups in 1..=14 {
             let filled = |wide| {
                 let (front, rest) = (vec![0x20AC; wide], vec![0xE9; 8 * groups - wide]);
@@ -145,8 +150,8 @@ pub fn filled_blocks() -> Vec<Vec<Call>> {
     scripts
 }
 
-/// Strings whose last block is letters and one other code point at each index, after no block or one of letters or of
-/// units of two bytes: their units are appended to none.
+/// Strings whose last block is letters with one other code point at each index, after no other block, 64 letters or 64
+/// units of two bytes. Each is made, and its units are appended to an empty vector.
 pub fn last_blocks() -> Vec<Vec<Call>> {
     let mut scripts = Vec::new();
     for other in [&[0xE9][..], &[0x20AC], &[0xD83D, 0xDCA9], &[0xD800]] {
@@ -160,15 +165,16 @@ pub fn last_blocks() -> Vec<Vec<Call>> {
     scripts
 }
 
-/// Makes a string of `front` and `letters` letters with `other` at `index` among these, and appends its units to none.
+/// Makes a string of `front` and `letters` letters with `other` at `index` among these, and appends its units to an empty
+/// vector.
 fn ended_by(front: &[u16], letters: usize, index: usize, other: &[u16]) -> [Call; 2] {
     let (before, after) = ([0x61; 34], [0x62; 34]);
     let units = [front, &before[..index], other, &after[..letters - index]].concat();
     made_and_appended(&units, &[])
 }
 
-/// Texts of each length that a text operand can have: pushed to an empty string, to a letter and to a lead surrogate,
-/// and made into a string by each other call.
+/// Texts of each length from 0 to `MOST_BYTES`: pushed to an empty string, to a letter and to a lead surrogate, and made
+/// into a string or a view by every call that does so.
 pub fn texts_of_each_length() -> Vec<Vec<Call>> {
     let mut scripts = Vec::new();
     for base in [BASES[0], BASES[1], BASES[3], BASES[5]] {

@@ -76,7 +76,7 @@ fn extended(count: u16, index: u16, other: u32) -> Vec<Call> {
     calls
 }
 
-/// Some of these scripts, for the recorded list.
+/// Every 61st of the lists of calls and every eighth of the false hints, for the fixed list that the gate replays.
 pub fn chosen() -> Vec<Vec<Call>> {
     let mut scripts: Vec<Vec<Call>> = lists_of_calls().into_iter().step_by(61).collect();
     scripts.extend(false_hints().into_iter().skip(3).step_by(8));

@@ -176,10 +176,10 @@ macro_rules! column {
                 #[inline(never)]
                 fn look_up(&self, rounds: u32) -> u64 {
                     let lines = self.lines.iter().zip(0u64..);
-                    let places: BTreeMap<&Wtf8, u64> =
-                        lines.map(|(line, place)| (&**line, place)).collect();
+                    let indexes: BTreeMap<&Wtf8, u64> =
+                        lines.map(|(line, index)| (&**line, index)).collect();
                     sum(rounds, |_| {
-                        let found = black_box(&self.lines).iter().map(|line| places[&**line]);
+                        let found = black_box(&self.lines).iter().map(|line| indexes[&**line]);
                         found.fold(0, u64::wrapping_add)
                     })
                 }
@@ -199,8 +199,8 @@ macro_rules! column {
 
             /// Each loop is a function of its own, so that the address of its code does not depend on the other loops.
             #[inline(never)]
-            fn sum(rounds: u32, answer: impl Fn(u32) -> u64) -> u64 {
-                (0..rounds).fold(0, |sum, round| sum.wrapping_add(answer(round)))
+            fn sum(rounds: u32, call: impl Fn(u32) -> u64) -> u64 {
+                (0..rounds).fold(0, |sum, round| sum.wrapping_add(call(round)))
             }
         }
     };

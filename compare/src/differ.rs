@@ -3,8 +3,8 @@
 use crate::console::progress;
 use crate::generate;
 use crate::lists::LISTS;
+use crate::original::Results;
 use crate::random::Random;
-use crate::original::Answers;
 use crate::script::{encode, Call};
 use crate::{model, original, ours, say, shrink};
 
@@ -40,21 +40,21 @@ pub fn run(seed: u64, cases: u64, every_point: bool) -> bool {
         if !tally.agrees_on(name, scripts.into_iter()) {
             return false;
         }
-        say!("{name}: {count} scripts, the answers are the same");
+        say!("{name}: {count} scripts, the results are the same");
     }
     if every_point {
         let scripts = (0..=0x11_0000).map(generate::point_calls);
         if !tally.agrees_on("every code point", scripts) {
             return false;
         }
-        say!("every code point and the number behind the last: the answers are the same");
+        say!("every code point and the number after the last: the results are the same");
     }
     let mut random = Random::new(seed);
     let scripts = (0..cases).map(|_| generate::script(&mut random));
     if !tally.agrees_on("random scripts", scripts) {
         return false;
     }
-    say!("{cases} random scripts of seed {seed}: the answers are the same");
+    say!("{cases} random scripts of seed {seed}: the results are the same");
     if !model::run(seed, cases) {
         return false;
     }
@@ -62,14 +62,15 @@ pub fn run(seed: u64, cases: u64, every_point: bool) -> bool {
     true
 }
 
-/// Runs scripts on the crate and on the proved library, whose transcripts are fewer if its program ended.
-fn answers_of(batch: &[Vec<Call>]) -> (Vec<Answers>, Vec<String>) {
+/// Runs scripts on the crate and on the proved library. If the library is run by a program and this ended early, there
+/// are fewer transcripts.
+fn results_of(batch: &[Vec<Call>]) -> (Vec<Results>, Vec<String>) {
     let scripts: Vec<Vec<u8>> = batch.iter().map(|script| encode(script)).collect();
     std::thread::scope(|scope| {
         let crates = scope.spawn(|| scripts.iter().map(|script| original::run(script)).collect());
         let transcripts = ours::run_all(&scripts);
         match crates.join() {
-            Ok(answers) => (answers, transcripts),
+            Ok(results) => (results, transcripts),
             Err(panic) => std::panic::resume_unwind(panic),
         }
     })
@@ -91,31 +92,31 @@ impl Tally {
             if turn % 10 == 0 {
                 progress(&format!("{name}: {} scripts ", turn * BATCH));
             }
-            let (answers, transcripts) = answers_of(&batch);
-            for (number, (script, answers)) in batch.iter().zip(answers).enumerate() {
-                if transcripts.get(number) != Some(&answers.transcript) {
+            let (results, transcripts) = results_of(&batch);
+            for (number, (script, results)) in batch.iter().zip(results).enumerate() {
+                if transcripts.get(number) != Some(&results.transcript) {
                     let done = turn * BATCH + number;
                     say!("\nDIFFERENT ANSWERS at script {} of: {name}", done + 1);
                     say!("(script {} of all)", self.scripts + 1);
                     show_difference(script);
                     return false;
                 }
-                self.count(script, answers);
+                self.count(script, results);
             }
         }
         true
     }
 
     /// Counts a script on which the two sides agree.
-    fn count(&mut self, script: &[Call], answers: Answers) {
+    fn count(&mut self, script: &[Call], results: Results) {
         self.scripts += 1;
         self.calls += script.len() as u64;
-        self.refusals += answers.panicked.len() as u64;
-        if answers.own_hints != answers.transcript {
+        self.refusals += results.panicked.len() as u64;
+        if results.own_hints != results.transcript {
             self.held_hints += 1;
             self.hint_example.get_or_insert_with(|| script.to_vec());
         }
-        for name in answers.panicked {
+        for name in results.panicked {
             if self
                 .refusal_examples
                 .iter()
@@ -134,16 +135,16 @@ impl Tally {
         );
         if let Some(script) = &self.hint_example {
             let shows = |script: &[Call]| {
-                let answers = original::run(&encode(script));
-                answers.own_hints != answers.transcript
+                let results = original::run(&encode(script));
+                results.own_hints != results.transcript
             };
             let script = shrink::smallest(script, &shows);
             show_script(&script);
-            let answers = original::run(&encode(&script));
+            let results = original::run(&encode(&script));
             say!(
                 "the crate:\n{}the proved library:\n{}",
-                answers.own_hints,
-                answers.transcript
+                results.own_hints,
+                results.transcript
             );
         }
         say!(

@@ -147,16 +147,16 @@ pub fn all() -> Vec<Vec<Call>> {
     let mut scripts = recorded();
     for letters in 0..70 {
         scripts.extend(
-            [0x62, 0xE000, 0xD83E].map(|unit| changed_at_each_place(&long_list(letters), unit)),
+            [0x62, 0xE000, 0xD83E].map(|unit| changed_at_each_index(&long_list(letters), unit)),
         );
     }
     for pairs in 0..20 {
         let list = [0xD83D, 0xDCA9].repeat(pairs);
-        scripts.extend([0xDCAA, 0xE000, 0xD83D].map(|unit| changed_at_each_place(&list, unit)));
+        scripts.extend([0xDCAA, 0xE000, 0xD83D].map(|unit| changed_at_each_index(&list, unit)));
     }
     for run in &KINDS[..3] {
         for length in [8, 16, 17, 40] {
-            scripts.extend((0..length).map(|place| broken(run, length, place)));
+            scripts.extend((0..length).map(|index| broken(run, length, index)));
         }
     }
     scripts
@@ -236,24 +236,24 @@ fn long_list(letters: usize) -> Vec<u16> {
 }
 
 /// A list compared with a copy that has `unit` at each index in turn, and that copy with the units before the index.
-fn changed_at_each_place(list: &[u16], unit: u16) -> Vec<Call> {
+fn changed_at_each_index(list: &[u16], unit: u16) -> Vec<Call> {
     let mut calls = vec![from_units(0, list)];
-    for place in 0..list.len() {
+    for index in 0..list.len() {
         let mut other = list.to_vec();
-        other[place] = unit;
+        other[index] = unit;
         calls.push(from_units(1, &other));
-        calls.push(from_units(2, &list[..place]));
+        calls.push(from_units(2, &list[..index]));
         calls.push(registers(Opcode::CmpUnits, 0, 1));
         calls.push(registers(Opcode::CmpUnits, 1, 2));
     }
     calls
 }
 
-/// A run of `length` equal code points with one of each kind at index `place`: its bytes, and its units by index.
-fn broken(run: &[u16], length: usize, place: usize) -> Vec<Call> {
+/// A run of `length` equal code points with one of each kind at `index`: its bytes, and its units by index.
+fn broken(run: &[u16], length: usize, index: usize) -> Vec<Call> {
     let with = |other: &[u16]| {
         let units: Vec<u16> = (0..length)
-            .flat_map(|at| if at == place { other } else { run }.to_vec())
+            .flat_map(|at| if at == index { other } else { run }.to_vec())
             .collect();
         [from_units(0, &units), call_on(0, Opcode::UnitAt)]
     };

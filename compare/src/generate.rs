@@ -55,7 +55,7 @@ const KINDS: [(u32, u32); 7] = [
     (0x10000, 0x10FFFF),
 ];
 
-/// The steps of random calls, with `next` more often than another.
+/// The steps of random calls; `next` is listed more often than any other.
 const STEPS: [Step; 10] = [
     Step::Next,
     Step::Next,
@@ -321,14 +321,17 @@ pub fn cut_by_units(len: usize, cut: usize) -> Vec<Call> {
 
 /// The calls that take a position or a count, with `position`.
 fn cut_at(position: u16) -> Vec<Call> {
-    let place = Operand::Number(position);
+    let position_operand = Operand::Number(position);
     let mut calls = vec![
         registers(Opcode::Clone, 1, 0),
-        Call::new(Opcode::Truncate, vec![Operand::Register(1), place.clone()]),
+        Call::new(
+            Opcode::Truncate,
+            vec![Operand::Register(1), position_operand.clone()],
+        ),
         Call::new(Opcode::IntoString, vec![Operand::Register(1)]),
         Call::new(
             Opcode::AsciiByteAt,
-            vec![Operand::Register(0), place.clone()],
+            vec![Operand::Register(0), position_operand.clone()],
         ),
     ];
     for opcode in [
@@ -336,14 +339,18 @@ fn cut_at(position: u16) -> Vec<Call> {
         Opcode::SliceTo,
         Opcode::FromIterCodePoints,
     ] {
-        let operands = vec![Operand::Register(1), Operand::Register(0), place.clone()];
+        let operands = vec![
+            Operand::Register(1),
+            Operand::Register(0),
+            position_operand.clone(),
+        ];
         calls.push(Call::new(opcode, operands));
     }
     for end in position.saturating_sub(2)..=position + 4 {
         let (one, zero) = (Operand::Register(1), Operand::Register(0));
         calls.push(Call::new(
             Opcode::Slice,
-            vec![one, zero, place.clone(), Operand::Number(end)],
+            vec![one, zero, position_operand.clone(), Operand::Number(end)],
         ));
     }
     calls

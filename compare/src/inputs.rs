@@ -100,12 +100,12 @@ pub fn pairs() -> Vec<(&'static str, Input)> {
 
 fn differing(input: Input) -> [(&'static str, Input); 3] {
     let last = input.units.len() - 1;
-    [("first", 0), ("middle", last / 2), ("last", last)].map(|(place, at)| {
+    [("first", 0), ("middle", last / 2), ("last", last)].map(|(which, at)| {
         let mut pair = input.clone();
         pair.others = input.units.clone();
         // The unit keeps its encoded length, and a surrogate stays a lead or a trail.
         pair.others[at] ^= 1;
-        (place, pair)
+        (which, pair)
     })
 }
 

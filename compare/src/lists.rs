@@ -20,9 +20,15 @@ pub const LISTS: [List; 28] = [
     ("joins", long::joins),
     ("one surrogate", long::one_surrogate),
     ("two surrogates", long::two_surrogates),
-    ("one unit changed", long::changed_at_each_place),
-    ("strings that part", long::parting_at_each_place),
-    ("one unit of another kind", long::another_kind_at_each_place),
+    ("one unit changed", long::changed_at_each_index),
+    (
+        "the first mismatch at each index",
+        long::mismatch_at_each_index,
+    ),
+    (
+        "one unit of another encoded length",
+        long::another_length_at_each_index,
+    ),
     ("mixed blocks", blocks::of_mixed_kinds),
     ("filled blocks", blocks::filled_blocks),
     ("last blocks", blocks::last_blocks),
@@ -30,13 +36,13 @@ pub const LISTS: [List; 28] = [
     ("texts of each length", blocks::texts_of_each_length),
     (
         "one unit changed about blocks",
-        blocks::changed_at_each_place,
+        blocks::changed_at_each_index,
     ),
     ("one surrogate about blocks", blocks::one_surrogate),
     ("debug texts about blocks", blocks::debug_texts),
     ("positions about blocks", blocks::positions),
     ("far positions", blocks::far),
-    ("pushed behind each length", pushed::behind_each_length),
+    ("pushed after each length", pushed::after_each_length),
     ("six thousand units", pushed::far),
 ];
 

@@ -19,7 +19,7 @@ pub const BASES: [&[u16]; 7] = [
 const LENGTHS: [usize; 7] = [255, 256, 257, 511, 600, 1023, 2000];
 
 /// Indexes at the ends, in the middle, and about the ends of the first and the last blocks of a search.
-fn places_in(len: usize) -> [usize; 15] {
+fn indexes_in(len: usize) -> [usize; 15] {
     let half = len / 2;
     let back = |count: usize| len - count;
     [
@@ -67,14 +67,14 @@ pub fn on(register: u8, opcodes: &[Opcode]) -> Vec<Call> {
 
 pub fn changed(units: &[u16], changes: &[(usize, u16)]) -> Vec<u16> {
     let mut units = units.to_vec();
-    for (place, unit) in changes {
-        units[*place] = *unit;
+    for (index, unit) in changes {
+        units[*index] = *unit;
     }
     units
 }
 
 /// Strings of every length up to 130, with one unit changed at each index, compared in both directions.
-pub fn changed_at_each_place() -> Vec<Vec<Call>> {
+pub fn changed_at_each_index() -> Vec<Vec<Call>> {
     let mut scripts = Vec::new();
     for base in BASES {
         for len in 0..=130 {
@@ -84,11 +84,11 @@ pub fn changed_at_each_place() -> Vec<Vec<Call>> {
     scripts
 }
 
-pub fn changed_at(units: &[u16], places: impl IntoIterator<Item = usize>) -> Vec<Call> {
+pub fn changed_at(units: &[u16], indexes: impl IntoIterator<Item = usize>) -> Vec<Call> {
     let mut calls = string_in(0, units);
-    for place in places {
+    for index in indexes {
         for other in [0x62, 0xDFFF] {
-            calls.extend(string_in(1, &changed(units, &[(place, other)])));
+            calls.extend(string_in(1, &changed(units, &[(index, other)])));
             calls.extend(compared_both_ways());
         }
     }
@@ -106,22 +106,22 @@ fn compared_both_ways() -> [Call; 4] {
 
 /// Strings of 320 units against others with the first mismatch at each index up to 300, and strings of 4,110 units
 /// against others with it about index 4,096, compared in both directions.
-pub fn parting_at_each_place() -> Vec<Vec<Call>> {
+pub fn mismatch_at_each_index() -> Vec<Vec<Call>> {
     let parting = |base| {
         [
-            parting_at(&string_of(base, 320), 0..=300),
-            parting_at(&string_of(base, 4110), 4094..=4098),
+            mismatch_at(&string_of(base, 320), 0..=300),
+            mismatch_at(&string_of(base, 4110), 4094..=4098),
         ]
     };
     BASES.into_iter().flat_map(parting).collect()
 }
 
 /// A string against others that have a lower or a higher unit at an index, or end there.
-fn parting_at(units: &[u16], places: impl IntoIterator<Item = usize>) -> Vec<Call> {
+fn mismatch_at(units: &[u16], indexes: impl IntoIterator<Item = usize>) -> Vec<Call> {
     let mut calls = string_in(0, units);
-    for place in places {
-        let other = |unit| changed(units, &[(place, unit)]);
-        for other in [other(0x60), other(0xDFFF), units[..place].to_vec()] {
+    for index in indexes {
+        let other = |unit| changed(units, &[(index, unit)]);
+        for other in [other(0x60), other(0xDFFF), units[..index].to_vec()] {
             calls.extend(string_in(1, &other));
             calls.extend(compared_both_ways());
         }
@@ -130,21 +130,21 @@ fn parting_at(units: &[u16], places: impl IntoIterator<Item = usize>) -> Vec<Cal
 }
 
 /// Strings of every length up to 130, with a unit of each encoded length at each index.
-pub fn another_kind_at_each_place() -> Vec<Vec<Call>> {
+pub fn another_length_at_each_index() -> Vec<Vec<Call>> {
     let mut scripts = Vec::new();
     for base in BASES {
         for len in 0..=130 {
-            scripts.push(another_kind_at(&string_of(base, len), 0..len));
+            scripts.push(another_length_at(&string_of(base, len), 0..len));
         }
     }
     scripts
 }
 
-fn another_kind_at(units: &[u16], places: impl IntoIterator<Item = usize>) -> Vec<Call> {
+fn another_length_at(units: &[u16], indexes: impl IntoIterator<Item = usize>) -> Vec<Call> {
     let mut calls = string_in(0, units);
-    for place in places {
+    for index in indexes {
         for other in [0x7F, 0x80, 0x7FF, 0x800] {
-            calls.extend(string_in(1, &changed(units, &[(place, other)])));
+            calls.extend(string_in(1, &changed(units, &[(index, other)])));
         }
     }
     calls
@@ -182,11 +182,11 @@ pub fn one_surrogate() -> Vec<Vec<Call>> {
     scripts
 }
 
-pub fn with_surrogate_at(units: &[u16], places: impl IntoIterator<Item = usize>) -> Vec<Call> {
+pub fn with_surrogate_at(units: &[u16], indexes: impl IntoIterator<Item = usize>) -> Vec<Call> {
     let mut calls = texts_of(units);
-    for place in places {
+    for index in indexes {
         for surrogate in [0xD800, 0xDFFF] {
-            calls.extend(texts_of(&changed(units, &[(place, surrogate)])));
+            calls.extend(texts_of(&changed(units, &[(index, surrogate)])));
         }
     }
     calls
@@ -198,17 +198,18 @@ pub fn two_surrogates() -> Vec<Vec<Call>> {
     for base in BASES {
         for len in [7, 20, 45, 70] {
             let units = string_of(base, len);
-            for place in 0..len {
-                let behind = place + 1..len;
-                let both = |other| changed(&units, &[(place, 0xDBFF), (other, 0xDC00)]);
-                scripts.push(behind.flat_map(|other| texts_of(&both(other))).collect());
+            for index in 0..len {
+                let after = index + 1..len;
+                let both = |other| changed(&units, &[(index, 0xDBFF), (other, 0xDC00)]);
+                scripts.push(after.flat_map(|other| texts_of(&both(other))).collect());
             }
         }
     }
     scripts
 }
 
-/// The texts of a string made of units and of one joined from halves, which may know different fronts to be UTF-8.
+/// The texts of a string made of units and of one joined from halves. The two may have known prefixes of different
+/// lengths.
 fn texts_of(units: &[u16]) -> Vec<Call> {
     let (front, back) = units.split_at(units.len() / 2);
     let mut calls = string_in(0, units);
@@ -229,10 +230,10 @@ pub fn longest() -> Vec<Vec<Call>> {
     for base in BASES {
         for len in LENGTHS {
             let units = string_of(base, len);
-            for place in places_in(len) {
+            for index in indexes_in(len) {
                 let mut calls = string_in(0, &units);
                 for other in [0x62, 0xD800, 0xDC00] {
-                    let units = changed(&units, &[(place, other)]);
+                    let units = changed(&units, &[(index, other)]);
                     calls.extend(string_in(1, &units));
                     calls.push(registers(Opcode::Comparisons, 0, 1));
                     calls.push(registers(Opcode::Comparisons, 1, 0));
@@ -290,16 +291,16 @@ pub fn cuts_by_units() -> Vec<Vec<Call>> {
             }
         }
         let len = 2000;
-        let places = [0, 31, 255, 1000, len - 1, len, len + 1];
-        scripts.push(cut_by_units_at(&string_of(base, len), places));
+        let indexes = [0, 31, 255, 1000, len - 1, len, len + 1];
+        scripts.push(cut_by_units_at(&string_of(base, len), indexes));
     }
     scripts
 }
 
-fn cut_by_units_at(units: &[u16], places: impl IntoIterator<Item = usize>) -> Vec<Call> {
+fn cut_by_units_at(units: &[u16], indexes: impl IntoIterator<Item = usize>) -> Vec<Call> {
     let mut calls = string_in(0, units);
     calls.extend(on(0, &[Opcode::UnitAt]));
-    for cut in places {
+    for cut in indexes {
         calls.extend(cut_by_units(units.len(), cut));
     }
     calls
@@ -338,20 +339,20 @@ fn calls_inside(filling: u16, front: usize, body: &[u16]) -> Vec<Call> {
     let whole = [filler(front), body.to_vec(), filler(40 - front)].concat();
     let other = [filler(3), body.to_vec(), vec![0x61]].concat();
     let other_begin = byte_len(&filler(3));
-    let place = |register, begin, end| {
+    let slice = |register, begin, end| {
         [
             Operand::Register(register),
             Operand::Number(begin),
             Operand::Number(end),
         ]
     };
-    let own_slice = place(0, begin, end);
+    let own_slice = slice(0, begin, end);
     let other_end = other_begin + byte_len(body);
     let mut calls = string_in(0, &whole);
     calls.extend(string_in(1, &other));
     calls.push(Call::new(Opcode::ReadSlice, own_slice.to_vec()));
     for end in [other_end, other_end + 1, byte_len(&other)] {
-        let slices = [own_slice.clone(), place(1, other_begin, end)].concat();
+        let slices = [own_slice.clone(), slice(1, other_begin, end)].concat();
         calls.push(Call::new(Opcode::CompareSlices, slices));
     }
     for string in [&[0x61][..], &[0xD83D], &[]] {
@@ -363,7 +364,7 @@ fn calls_inside(filling: u16, front: usize, body: &[u16]) -> Vec<Call> {
     calls
 }
 
-/// Some of these scripts, for the recorded list.
+/// A part of these scripts, and three joins and comparisons of long strings, for the fixed list that the gate replays.
 pub fn chosen() -> Vec<Vec<Call>> {
     let mut scripts: Vec<Vec<Call>> = inside().into_iter().step_by(19).collect();
     for base in [BASES[0], BASES[3], BASES[6]] {

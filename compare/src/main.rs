@@ -54,7 +54,7 @@ const USAGE: &str = "usage: compare differ [--seed S] [--cases N] [--every-point
        compare loop proved|crate ROW ROUNDS";
 
 fn main() -> ExitCode {
-    original::silence_answers();
+    original::silence_panics();
     let words: Vec<String> = std::env::args().skip(1).collect();
     let words: Vec<&str> = words.iter().map(String::as_str).collect();
     let passed = match words[..] {
@@ -126,7 +126,7 @@ impl Flags {
                     flags.every_point = true;
                     rest
                 }
-                ("--seed" | "--cases", []) => fail(&format!("no number behind {word}")),
+                ("--seed" | "--cases", []) => fail(&format!("no number after {word}")),
                 _ => fail(&format!(
                     "unknown word {word} (compare help lists the calls)"
                 )),

@@ -23,7 +23,7 @@ struct Case {
 }
 
 /// What the proved library returned for a list.
-struct Answer {
+struct Applied {
     /// The number of refused truncations, or the index of the call that was refused memory.
     outcome: Result<usize, usize>,
     units: Vec<u16>,
@@ -35,7 +35,10 @@ pub fn run(seed: u64, cases: u64) -> bool {
     let (mut stopped, mut refused) = (0, 0);
     for done in 0..cases.div_ceil(BATCH) {
         let count = BATCH.min(cases - done * BATCH);
-        progress(&format!("lists of building calls: {} of {cases} ", done * BATCH));
+        progress(&format!(
+            "lists of building calls: {} of {cases} ",
+            done * BATCH
+        ));
         let batch: Vec<Case> = (0..count).map(|_| Case::new(&mut random)).collect();
         let scripts: Vec<Vec<u8>> = batch.iter().map(|case| encode(&case.script())).collect();
         let transcripts = ours::run_all(&scripts);
@@ -44,7 +47,10 @@ pub fn run(seed: u64, cases: u64) -> bool {
                 Ok(Err(_)) => stopped += 1,
                 Ok(Ok(count)) => refused += u64::from(count > 0),
                 Err(why) => {
-                    say!("\nNOT AS THE MODEL SAYS at list {}: {why}", done * BATCH + number);
+                    say!(
+                        "\nNOT AS THE MODEL SAYS at list {}: {why}",
+                        done * BATCH + number
+                    );
                     case.script().iter().for_each(|call| say!("    {call}"));
                     say!("the proved library:\n{transcript}");
                     return false;
@@ -105,31 +111,31 @@ impl Case {
 
     /// The outcome in a transcript, or why it is not the model's.
     fn outcome_in(&self, transcript: &str) -> Result<Result<usize, usize>, String> {
-        let answer = Answer::read(transcript).ok_or("it is none")?;
-        self.check(&answer)?;
-        Ok(answer.outcome)
+        let result = Applied::read(transcript).ok_or("it is none")?;
+        self.check(&result)?;
+        Ok(result.outcome)
     }
 
     /// Returns an error that says how the outcome differs from the model's.
-    fn check(&self, answer: &Answer) -> Result<(), String> {
-        let done = match answer.outcome {
+    fn check(&self, result: &Applied) -> Result<(), String> {
+        let done = match result.outcome {
             Ok(_) => self.builds.len(),
             Err(done) => done,
         };
         let mut units = self.start.clone();
         let mut refused = 0;
-        for build in self.builds.get(..done).ok_or("it stopped behind the end")? {
+        for build in self.builds.get(..done).ok_or("it stopped after the end")? {
             refused += usize::from(!self.apply(build, &mut units));
         }
         let expected = self.stops_at();
-        match answer.outcome {
+        match result.outcome {
             Ok(count) if count != refused => Err(format!("{refused} truncations are refused")),
             Ok(_) if expected.is_some() && self.grants == 0 => {
                 Err(format!("call {expected:?} has no room"))
             }
-            Ok(_) if units != answer.units => Err(format!("the units are {units:04X?}")),
+            Ok(_) if units != result.units => Err(format!("the units are {units:04X?}")),
             Ok(_) => Ok(()),
-            Err(_) => self.check_stopped(done, expected, &units, &answer.units),
+            Err(_) => self.check_stopped(done, expected, &units, &result.units),
         }
     }
 
@@ -154,7 +160,7 @@ impl Case {
         let most = match self.builds.get(done) {
             None => return Err("no call is there".to_owned()),
             Some(Build::Truncate(_) | Build::TruncateUnits(_)) => {
-                return Err("a truncation wants no memory".to_owned())
+                return Err("a truncation requests no memory".to_owned())
             }
             Some(Build::Extend(count)) => usize::from(*count).min(self.points.len()),
             Some(_) => 0,
@@ -245,9 +251,9 @@ fn truncate(units: &mut Vec<u16>, position: u16) -> bool {
     bytes == position
 }
 
-impl Answer {
+impl Applied {
     /// Reads a transcript whose last three lines are from `apply_all`.
-    fn read(transcript: &str) -> Option<Answer> {
+    fn read(transcript: &str) -> Option<Applied> {
         let mut lines = transcript.lines().rev().skip(1);
         let units = lines.next()?.strip_prefix("units")?;
         let units: Result<Vec<u16>, _> = units
@@ -263,7 +269,7 @@ impl Answer {
                 .parse()
                 .ok()?),
         };
-        Some(Answer {
+        Some(Applied {
             outcome,
             units: units.ok()?,
         })

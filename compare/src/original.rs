@@ -13,7 +13,7 @@ use crate::script::{Build, Opcode, Step, UNBOUNDED};
 mod together;
 
 /// What the original crate returned for a script.
-pub struct Answers {
+pub struct Results {
     /// The transcript, with the proved library's results at the known differences.
     pub transcript: String,
     /// The transcript with the crate's own size hints while its iterator holds a trail surrogate.
@@ -31,7 +31,7 @@ thread_local! {
 }
 
 /// From now on the crate's panics that are results print nothing.
-pub fn silence_answers() {
+pub fn silence_panics() {
     let print = std::panic::take_hook();
     std::panic::set_hook(Box::new(move |panic| match GUARDS.get() {
         0 => print(panic),
@@ -41,26 +41,26 @@ pub fn silence_answers() {
 }
 
 /// What a call returns, or `None` if it panics.
-fn answer_of<T>(call: impl FnOnce() -> T) -> Option<T> {
+fn result_of<T>(call: impl FnOnce() -> T) -> Option<T> {
     GUARDS.set(GUARDS.get() + 1);
-    let answer = catch_unwind(AssertUnwindSafe(call)).ok();
+    let result = catch_unwind(AssertUnwindSafe(call)).ok();
     GUARDS.set(GUARDS.get() - 1);
-    answer
+    result
 }
 
 /// Runs a script over the original crate.
-pub fn run(script: &[u8]) -> Answers {
+pub fn run(script: &[u8]) -> Results {
     let mut machine = Machine {
         strings: std::array::from_fn(|_| Wtf8Buf::new()),
         out: Out::default(),
         panicked: Vec::new(),
     };
     // A panic outside of the calls that may refuse is a result too, one that the proved library never has.
-    if answer_of(|| machine.run(Reader { rest: script })).is_none() {
+    if result_of(|| machine.run(Reader { rest: script })).is_none() {
         let message = LAST_PANIC.take().replace('\n', " ");
         machine.line(&format!("THE CRATE PANICKED: {message}"));
     }
-    Answers {
+    Results {
         transcript: machine.out.excused,
         own_hints: machine.out.raw,
         panicked: machine.panicked,
@@ -300,12 +300,12 @@ impl Machine {
         call: impl FnOnce(&mut [Wtf8Buf; 4]) -> T,
     ) -> Option<T> {
         let strings = &mut self.strings;
-        let answer = answer_of(|| call(strings));
-        if answer.is_none() {
+        let result = result_of(|| call(strings));
+        if result.is_none() {
             self.panicked.push(name);
             self.line("refused");
         }
-        answer
+        result
     }
 
     fn with_capacity(&mut self, reader: &mut Reader<'_>) {
@@ -320,7 +320,7 @@ impl Machine {
     fn from_iter_code_points(&mut self, reader: &mut Reader<'_>) {
         let register = reader.register();
         let other = self.copy(reader);
-        let string = points_behind(&other, reader.number()).collect();
+        let string = points_after(&other, reader.number()).collect();
         self.put(register, string);
     }
 
@@ -373,7 +373,7 @@ impl Machine {
     fn extend_code_points(&mut self, reader: &mut Reader<'_>) {
         let register = reader.register();
         let piece = self.copy(reader);
-        self.strings[register].extend(points_behind(&piece, reader.number()));
+        self.strings[register].extend(points_after(&piece, reader.number()));
         self.show(register);
     }
 
@@ -462,7 +462,7 @@ impl Machine {
     fn boundaries(&mut self, view: &Wtf8) {
         let mut line = "boundaries".to_owned();
         for index in 0..=view.len() {
-            if answer_of(|| view.slice_from(index).len()).is_some() {
+            if result_of(|| view.slice_from(index).len()).is_some() {
                 write!(line, " {index}").unwrap();
             }
         }
@@ -578,7 +578,7 @@ fn owned(view: &Wtf8) -> Wtf8Buf {
     string
 }
 
-fn points_behind(text: &Wtf8, count: usize) -> Wtf8CodePoints<'_> {
+fn points_after(text: &Wtf8, count: usize) -> Wtf8CodePoints<'_> {
     let mut points = text.code_points();
     for _ in 0..count {
         points.next();

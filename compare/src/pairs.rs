@@ -3,7 +3,7 @@
 use crate::generate::{call_on, from_units, push, registers};
 use crate::script::{Call, Opcode};
 
-/// Ten bits: none, all, each one alone, and all but each one.
+/// Ten bits: none set, all set, only one set, and all but one.
 fn ten_bits() -> Vec<u16> {
     let alone = (0..10).map(|bit| 1 << bit);
     let mut bits = vec![0, 0x3FF];
@@ -12,7 +12,7 @@ fn ten_bits() -> Vec<u16> {
     bits
 }
 
-/// Each lead with these bits joined with each trail, and each lone next to letters.
+/// Each lead whose low ten bits are among `ten_bits`, joined with each such trail, and each of them lone next to letters.
 pub fn pairs() -> Vec<Vec<Call>> {
     let bits = ten_bits();
     let mut scripts = Vec::new();
@@ -24,7 +24,7 @@ pub fn pairs() -> Vec<Vec<Call>> {
     scripts
 }
 
-/// Some of these scripts, for the recorded list.
+/// A part of these scripts, for the fixed list that the gate replays.
 pub fn chosen() -> Vec<Vec<Call>> {
     vec![
         joined(0xDBC0, 0xDC00),

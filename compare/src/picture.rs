@@ -83,11 +83,11 @@ fn drawn(timings: &[Timing]) -> String {
     let width = 2.0 * EDGE + NAMES + CELL * inputs.len() as f64;
     let bottom = HEAD + LINE * calls.len() as f64;
     let mut picture = opened(width, bottom + EDGE);
-    for (place, input) in inputs.iter().enumerate() {
-        draw_input(&mut picture, left_of(place), bottom, input);
+    for (index, input) in inputs.iter().enumerate() {
+        draw_input(&mut picture, left_of(index), bottom, input);
     }
-    for (place, call) in calls.iter().enumerate() {
-        draw_call(&mut picture, top_of(place), width, call);
+    for (index, call) in calls.iter().enumerate() {
+        draw_call(&mut picture, top_of(index), width, call);
     }
     for timing in timings {
         let left = left_of(place_of(&inputs, timing.input));
@@ -113,12 +113,12 @@ fn place_of(names: &[&str], name: &str) -> usize {
     names.iter().position(|other| *other == name).unwrap_or(0)
 }
 
-fn left_of(place: usize) -> f64 {
-    EDGE + NAMES + CELL * place as f64
+fn left_of(index: usize) -> f64 {
+    EDGE + NAMES + CELL * index as f64
 }
 
-fn top_of(place: usize) -> f64 {
-    HEAD + LINE * place as f64
+fn top_of(index: usize) -> f64 {
+    HEAD + LINE * index as f64
 }
 
 fn opened(width: f64, height: f64) -> String {
@@ -188,7 +188,7 @@ fn draw_bar(picture: &mut String, left: f64, top: f64, ratio: f64) {
     let class = if ratio > 1.0 { "slower" } else { "faster" };
     let bar = top + (LINE - BAR) / 2.0;
     let length = (ratio * ONE).min(LONGEST);
-    let behind = left + length.max(ONE) + GAP;
+    let after = left + length.max(ONE) + GAP;
     draw(
         picture,
         format_args!(
@@ -199,7 +199,7 @@ fn draw_bar(picture: &mut String, left: f64, top: f64, ratio: f64) {
     draw(
         picture,
         format_args!(
-            "<text x=\"{behind:.1}\" y=\"{}\">{ratio:.2}</text>",
+            "<text x=\"{after:.1}\" y=\"{}\">{ratio:.2}</text>",
             top + LINE - 8.0
         ),
     );

@@ -4,7 +4,7 @@ use crate::generate::{push, registers};
 use crate::long::{changed, on, string_in, BASES};
 use crate::script::{Call, Opcode, Operand, Step};
 
-/// Code points of each encoded length, and the ends of the lead and the trail surrogates.
+/// Code points of each encoded length, the first and last lead and trail surrogates, and their neighbours.
 const PUSHED: [u32; 10] = [
     0x61, 0xE9, 0x20AC, 0xD7FF, 0xD800, 0xDBFF, 0xDC00, 0xDFFF, 0xE000, 0x1F4A9,
 ];
@@ -18,17 +18,17 @@ fn string_of(base: &[u16], len: usize) -> Vec<u16> {
 
 /// A code point pushed to a string of every length up to 130, without and with a letter after it: `as_str`,
 /// `into_string` and `into_string_lossy`.
-pub fn behind_each_length() -> Vec<Vec<Call>> {
+pub fn after_each_length() -> Vec<Vec<Call>> {
     let mut scripts = Vec::new();
     for base in BASES {
         for len in 0..=130 {
-            scripts.push(pushed_behind(&string_of(base, len)));
+            scripts.push(pushed_after(&string_of(base, len)));
         }
     }
     scripts
 }
 
-fn pushed_behind(units: &[u16]) -> Vec<Call> {
+fn pushed_after(units: &[u16]) -> Vec<Call> {
     let mut calls = string_in(0, units);
     for value in PUSHED {
         for ends in [Opcode::IntoString, Opcode::IntoStringLossy] {
@@ -56,9 +56,9 @@ pub fn far() -> Vec<Vec<Call>> {
 
 fn calls_far(units: &[u16]) -> Vec<Call> {
     let mut calls = string_in(0, units);
-    for place in [0, 2999, 4100, FAR - 1] {
+    for index in [0, 2999, 4100, FAR - 1] {
         for unit in [0x62, 0xD800, 0xDC00] {
-            calls.extend(string_in(1, &changed(units, &[(place, unit)])));
+            calls.extend(string_in(1, &changed(units, &[(index, unit)])));
             calls.extend(compared());
             calls.extend(on(
                 1,

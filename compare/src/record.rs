@@ -24,9 +24,9 @@ pub fn run(folder: &Path, seed: u64, cases: u64) -> std::io::Result<()> {
         transcripts.push_str(&original::run(&bytes).transcript);
         transcripts.push('\n');
     }
-    let (texts, answers) = scripts_of_texts(folder)?;
+    let (texts, results) = scripts_of_texts(folder)?;
     fs::write(folder.join("stdin"), lines.clone() + &texts)?;
-    fs::write(folder.join("stdout"), transcripts.clone() + &answers)?;
+    fs::write(folder.join("stdout"), transcripts.clone() + &results)?;
     say!(
         "{} scripts, {} bytes; transcripts, {} bytes",
         scripts.len(),
@@ -47,8 +47,8 @@ fn scripts_of_texts(folder: &Path) -> std::io::Result<(String, String)> {
     let first = format!("{FIRST_OF_TEXTS:02X}");
     let others = lines.lines().take_while(|line| *line < &first[..]).count();
     let texts = lines.split_inclusive('\n').skip(others).collect();
-    let answers = transcripts.split_inclusive("\n\n").skip(others).collect();
-    Ok((texts, answers))
+    let results = transcripts.split_inclusive("\n\n").skip(others).collect();
+    Ok((texts, results))
 }
 
 /// Some scripts of each list, and all of the short lists.

@@ -48,11 +48,11 @@ fn without_blocks(
     while block > 0 {
         let mut from = 0;
         while from < script.len() && Instant::now() < end {
-            let behind = script.len().min(from + block);
-            let fewer = [&script[..from], &script[behind..]].concat();
+            let after = script.len().min(from + block);
+            let fewer = [&script[..from], &script[after..]].concat();
             match shows(&fewer) {
                 true => script = fewer,
-                false => from = behind,
+                false => from = after,
             }
         }
         block /= 2;
@@ -69,10 +69,10 @@ fn candidates(script: &[Call]) -> Vec<Vec<Call>> {
         found.push(fewer);
     }
     for (at, call) in script.iter().enumerate() {
-        for (place, operand) in call.operands.iter().enumerate() {
+        for (index, operand) in call.operands.iter().enumerate() {
             for simpler in simpler_operands(operand) {
                 let mut smaller = script.to_vec();
-                smaller[at].operands[place] = simpler;
+                smaller[at].operands[index] = simpler;
                 found.push(smaller);
             }
         }

@@ -12,7 +12,7 @@ use crate::say;
 const LENGTHS: [usize; 3] = [40, 1_000, 1_000_000];
 
 /// The least number of indexes in random order in a round.
-const LEAST_PLACES: usize = 1_000;
+const LEAST_INDEXES: usize = 1_000;
 
 /// The most indexes in a round if each is counted from the front of a long text.
 const MOST_COUNTED: usize = 200;
@@ -140,22 +140,22 @@ pub fn run(filter: &str) -> bool {
 /// The times of a call on an input, or `None` if the sides return different sums.
 fn cell(call: &Call, input: &Input) -> Option<String> {
     let units = &input.units;
-    let places = places(call.order, units.len());
-    let few = counted_from_front(&places, units.len());
+    let indexes = indexes(call.order, units.len());
+    let few = counted_from_front(&indexes, units.len());
     if !agree(call, input, &few) {
         return None;
     }
-    let items = |places: &[u32]| call.order.map_or(units.len(), |_| places.len());
-    let proved = |number: u32, places: &[u32]| {
-        time(items(places), |rounds| {
-            ours::texts(number, units, places, rounds)
+    let items = |indexes: &[u32]| call.order.map_or(units.len(), |_| indexes.len());
+    let proved = |number: u32, indexes: &[u32]| {
+        time(items(indexes), |rounds| {
+            ours::texts(number, units, indexes, rounds)
         })
     };
-    let text = proved(call.text, &places);
+    let text = proved(call.text, &indexes);
     let string = call.string.map(|number| proved(number, &few));
     let array = call.array.map(|array| {
-        time(items(&places), |rounds| {
-            let round = |_| array(black_box(units), black_box(&places));
+        time(items(&indexes), |rounds| {
+            let round = |_| array(black_box(units), black_box(&indexes));
             (0..rounds).map(round).fold(0, u64::wrapping_add)
         })
     });
@@ -164,18 +164,18 @@ fn cell(call: &Call, input: &Input) -> Option<String> {
 }
 
 /// Whether all sides return the same sum at some indexes. Prints the sums if not.
-fn agree(call: &Call, input: &Input, places: &[u32]) -> bool {
-    let proved = |number| ours::texts(number, &input.units, places, 1);
+fn agree(call: &Call, input: &Input, indexes: &[u32]) -> bool {
+    let proved = |number| ours::texts(number, &input.units, indexes, 1);
     let text = proved(call.text);
     let string = call.string.map_or(text, proved);
     let array = match call.array {
-        Some(array) if call.is_compared => array(&input.units, places),
+        Some(array) if call.is_compared => array(&input.units, indexes),
         _ => text,
     };
     let is_same = text == string && text == array;
     if !is_same {
         say!(
-            "DIFFERENT ANSWERS in {}, {}: {text}, {string}, {array}",
+            "DIFFERENT RESULTS in {}, {}: {text}, {string}, {array}",
             call.name,
             input.name
         );
@@ -184,25 +184,25 @@ fn agree(call: &Call, input: &Input, places: &[u32]) -> bool {
 }
 
 /// The indexes that a round reads.
-fn places(order: Option<Order>, len: usize) -> Vec<u32> {
+fn indexes(order: Option<Order>, len: usize) -> Vec<u32> {
     let mut random = Random::new(len as u64);
     match order {
         Some(Order::Ascending) => (0..len as u32).collect(),
         Some(Order::Random) => {
-            let place = |_| random.below(len as u64) as u32;
-            (0..len.max(LEAST_PLACES)).map(place).collect()
+            let index = |_| random.below(len as u64) as u32;
+            (0..len.max(LEAST_INDEXES)).map(index).collect()
         }
         None => Vec::new(),
     }
 }
 
 /// All indexes or, if the text is long, about `MOST_COUNTED` of them at equal distances.
-fn counted_from_front(places: &[u32], len: usize) -> Vec<u32> {
-    let step = match len > LEAST_PLACES {
-        true => (places.len() / MOST_COUNTED).max(1),
+fn counted_from_front(indexes: &[u32], len: usize) -> Vec<u32> {
+    let step = match len > LEAST_INDEXES {
+        true => (indexes.len() / MOST_COUNTED).max(1),
         false => 1,
     };
-    places.iter().copied().step_by(step).collect()
+    indexes.iter().copied().step_by(step).collect()
 }
 
 /// The least time of a loop per item, in nanoseconds, without the time that it takes for no rounds.
@@ -259,19 +259,19 @@ fn shown(time: Option<f64>) -> String {
 }
 
 #[inline(never)]
-fn units_at(units: &[u16], places: &[u32]) -> u64 {
-    let unit = |place: &u32| units.get(*place as usize).copied().map_or(0, u64::from);
-    places.iter().map(unit).sum()
+fn units_at(units: &[u16], indexes: &[u32]) -> u64 {
+    let unit = |index: &u32| units.get(*index as usize).copied().map_or(0, u64::from);
+    indexes.iter().map(unit).sum()
 }
 
 #[inline(never)]
-fn slices(units: &[u16], places: &[u32]) -> u64 {
-    let slice = |place: &u32| {
-        let begin = (*place as usize).min(units.len().saturating_sub(SLICE));
+fn slices(units: &[u16], indexes: &[u32]) -> u64 {
+    let slice = |index: &u32| {
+        let begin = (*index as usize).min(units.len().saturating_sub(SLICE));
         let end = units.len().min(begin + SLICE);
         black_box(units[begin..end].to_vec()).len() as u64
     };
-    places.iter().map(slice).sum()
+    indexes.iter().map(slice).sum()
 }
 
 #[inline(never)]

@@ -98,7 +98,7 @@ fn truncate_units(string: &mut Wtf8Buf, count: usize) -> bool {
 }
 
 /// Appends the output for a line, without its newline.
-fn push_answer(line: &[u8], out: &mut Vec<u8>) {
+fn push_output(line: &[u8], out: &mut Vec<u8>) {
     let words = line.split(|byte| *byte == b' ');
     let calls: Option<Vec<Call>> = words.filter(|_| !line.is_empty()).map(read_call).collect();
     let Some(calls) = calls else {
@@ -129,7 +129,7 @@ fn main() -> std::io::Result<()> {
     std::io::stdin().lock().read_to_end(&mut input)?;
     let mut out = Vec::new();
     for line in input.split_inclusive(|byte| *byte == b'\n') {
-        push_answer(line.strip_suffix(b"\n").unwrap_or(line), &mut out);
+        push_output(line.strip_suffix(b"\n").unwrap_or(line), &mut out);
         out.push(b'\n');
     }
     let mut stdout = std::io::stdout().lock();

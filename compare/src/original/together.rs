@@ -3,7 +3,7 @@
 use super::*;
 
 impl Machine {
-    /// The crate cannot cut by units, so this makes a string of the first ones.
+    /// The crate cannot cut by units, so this makes a new string of the first units.
     pub fn truncate_units(&mut self, reader: &mut Reader<'_>) {
         let register = reader.register();
         let count = reader.number();
@@ -90,7 +90,7 @@ impl Machine {
     }
 
     fn slice_of<'w>(&mut self, whole: &'w Wtf8, begin: usize, end: usize) -> Option<&'w Wtf8> {
-        let part = answer_of(|| whole.slice(begin, end));
+        let part = result_of(|| whole.slice(begin, end));
         if part.is_none() {
             self.panicked.push("slice");
         }
@@ -242,7 +242,7 @@ impl Pieces {
             Build::Reserve(additional) => string.reserve(usize::from(*additional)),
             Build::Truncate(position) => {
                 let position = usize::from(*position);
-                let is_boundary = answer_of(|| string.slice_to(position).len()).is_some();
+                let is_boundary = result_of(|| string.slice_to(position).len()).is_some();
                 if is_boundary {
                     string.truncate(position);
                 }

@@ -24,7 +24,7 @@ extern "C" {
         number: u32,
         units: *const u16,
         units_len: usize,
-        places: *const u32,
+        indexes: *const u32,
         places_len: usize,
         rounds: u32,
         sum: *mut u64,
@@ -79,15 +79,15 @@ pub fn time(number: u32, units: &[u16], others: &[u16], rounds: u32) -> u64 {
 }
 
 /// Runs a loop of the proved library over a text, and returns its sum.
-pub fn texts(number: u32, units: &[u16], places: &[u32], rounds: u32) -> u64 {
+pub fn texts(number: u32, units: &[u16], indexes: &[u32], rounds: u32) -> u64 {
     let mut sum = 0;
     let status = unsafe {
         compare_exports_texts(
             number,
             units.as_ptr(),
             units.len(),
-            places.as_ptr(),
-            places.len(),
+            indexes.as_ptr(),
+            indexes.len(),
             rounds,
             &mut sum,
         )

@@ -50,7 +50,7 @@ pub fn time(_number: u32, _units: &[u16], _others: &[u16], _rounds: u32) -> u64 
 }
 
 /// Only the library exports the loops over texts.
-pub fn texts(_number: u32, _units: &[u16], _places: &[u32], _rounds: u32) -> u64 {
+pub fn texts(_number: u32, _units: &[u16], _indexes: &[u32], _rounds: u32) -> u64 {
     fail("the timed loops want the library: leave out COMPARE_PROGRAM")
 }
 

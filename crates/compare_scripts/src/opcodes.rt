@@ -88,7 +88,7 @@ pub enum Make {
     ApplyAll,
 }
 
-/// A call that makes a slice with one end.
+/// A call that slices a string from a position on, or up to a position.
 #[derive(Clone, Copy)]
 pub enum OpenSlice {
     /// `slice_from`.

@@ -11,7 +11,7 @@ use Rattle.std.specs.Str.Parse.{digits_value, AllDigits}
 use Rattle.dump_lines.specs.Word.{bounded_number, point_of}
 use Rattle.std.proofs.lemmas.Int.Digits.{digits_value-lt, digits_value_more, digits_more}
 
--- the value of the digits so far is below `base ^ most`
+-- the value of at most `most` digits is below `base ^ most`
 number_below : (base : ℕ) (word : List ℕ) (i n most : ℕ) → 2 ≤ base → length word ≤ most → n ≡ digits_value base (take i word)
     → AllDigits base (take i word) → n < base ^ most
 number_below base word i n most least few spelled digits =
@@ -42,13 +42,13 @@ module _ (base : ℕ) (word : List ℕ) (i n d : ℕ) (here : i < length word) (
       ∙ ap (λ passes. passes && list_all (λ byte. is_digit byte base) (drop (i + 1) word)) (lt-ltb _ _ digit-lt_base)
 
 -- a word with a byte that is no digit has no value
-pub no_number : (base least most : ℕ) (word : List ℕ) (i : ℕ) → i < length word → base ≤ digit_value (get_or word i 0)
+pub bounded_number-none : (base least most : ℕ) (word : List ℕ) (i : ℕ) → i < length word → base ≤ digit_value (get_or word i 0)
     → bounded_number base least most word ≡ None
-no_number base least most word i here none =
+bounded_number-none base least most word i here none =
     let fails : list_all (λ byte. is_digit byte base) word ≡ false = list_all_at _ word i 0 here (le-ltb _ _ none) in
     elim (cases_Bool (nat_le least (length word) && nat_le (length word) most)) [ inl some ↦ rw (some, fails) refl | inr few ↦ rw few refl ]
 
 -- a word of a code point holds no space
-pub point_no_space : (word : List ℕ) (n k : ℕ) → point_of word ≡ Some n → k < length word → get_or word k 0 ≢ 32
-point_no_space word n k is_point lt is =
-    let none : None ≡ Some n = rw (no_number 16 4 6 word k lt (omega (arith, ap digit_value is))) at is_point in cc
+pub point_of-no_space : (word : List ℕ) (n k : ℕ) → point_of word ≡ Some n → k < length word → get_or word k 0 ≢ 32
+point_of-no_space word n k is_point lt is =
+    let none : None ≡ Some n = rw (bounded_number-none 16 4 6 word k lt (omega (arith, ap digit_value is))) at is_point in cc

@@ -1,4 +1,4 @@
 mod Outputs
 mod Digits
-mod Reading
+mod Parsing
 mod Splitting

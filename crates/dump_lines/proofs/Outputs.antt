@@ -1,28 +1,24 @@
 -- The output for the lines so far.
-use Rattle.std.proofs.Common.{◌≡◌, ℕ, List, [], ◌∷◌, ◌++◌, sym, ap, ◌∙◌, flat_map, append_assoc, append-nil}
-use Rattle.std.proofs.lemmas.List.Concat.{flat_map-append}
+use Rattle.std.proofs.Common.{◌≡◌, ℕ, List, [], ◌∷◌, ◌++◌, ap, ◌∙◌, append_assoc}
+use Rattle.std.proofs.lemmas.List.{flat_map_more}
 use Rattle.std.specs.List.{AllZip}
 use Rattle.dump_lines.specs.Dump.{IsOutput, HoldsOutputs}
 
--- lists that are related element by element still are with flat_map-single more related element each
-pub AllZip-one_more : {A B : Type 0} (R : A → B → Type 0) (xs : List A) (ys : List B) (x : A) (y : B) → AllZip R xs ys → R x y
+-- lists that are related element by element, each with one more element, if these are related too
+pub AllZip-push_pair : {A B : Type 0} (R : A → B → Type 0) (xs : List A) (ys : List B) (x : A) (y : B) → AllZip R xs ys → R x y
     → AllZip R (xs ++ x ∷ []) (ys ++ y ∷ [])
-AllZip-one_more R [] [] x y h here = (here, tt)
-AllZip-one_more R [] (b ∷ ys) x y h here = absurd h
-AllZip-one_more R (a ∷ xs) [] x y h here = absurd h
-AllZip-one_more R (a ∷ xs) (b ∷ ys) x y h here = (h.0, AllZip-one_more R xs ys x y h.1 here)
+AllZip-push_pair R [] [] x y h here = (here, tt)
+AllZip-push_pair R [] (b ∷ ys) x y h here = absurd h
+AllZip-push_pair R (a ∷ xs) [] x y h here = absurd h
+AllZip-push_pair R (a ∷ xs) (b ∷ ys) x y h here = (h.0, AllZip-push_pair R xs ys x y h.1 here)
 
-flat_map-single : (output : List ℕ) → output ++ 10 ∷ [] ≡ flat_map (λ a. a ++ 10 ∷ []) (output ∷ [])
-flat_map-single output = sym (append-nil (output ++ 10 ∷ []))
-
--- the output for flat_map-single more line, with its newline, is appended
+-- the output for one more line, with its newline, is appended
 pub HoldsOutputs-push : (lines : List (List ℕ)) (out new line output : List ℕ) → HoldsOutputs lines out → IsOutput line output
     → new ≡ (out ++ output) ++ 10 ∷ []
     → HoldsOutputs (lines ++ line ∷ []) new
 HoldsOutputs-push lines out new line output h here e = record {
   outputs = h.outputs ++ output ∷ [];
-  each = AllZip-one_more IsOutput lines h.outputs line output h.each here;
+  each = AllZip-push_pair IsOutput lines h.outputs line output h.each here;
   joined = e ∙ append_assoc out output (10 ∷ []) ∙ ap (λ bytes. bytes ++ (output ++ 10 ∷ [])) h.joined
-      ∙ ap (λ bytes. flat_map (λ a. a ++ 10 ∷ []) h.outputs ++ bytes) (flat_map-single output)
-      ∙ sym (flat_map-append (λ a. a ++ 10 ∷ []) h.outputs (output ∷ []));
+      ∙ flat_map_more (λ a. a ++ 10 ∷ []) [] h.outputs output;
 }

@@ -6,7 +6,7 @@ ghost use Rattle.dump_lines.specs.Dump.{IsOutput, note};
 ghost use Rattle.dump_lines.specs.Lines.{words};
 ghost use Rattle.dump_lines.specs.Word.{IsCall, IsNoCall};
 
-use crate::word::read_first_word;
+use crate::word::parse_first_word;
 use std::alloc::{AllocError, Allocator};
 use wtf8::{Build, Wtf8Buf};
 
@@ -42,7 +42,7 @@ impl<A: Allocator + Copy> LineBuffers<A> {
         if line.is_empty() {
             return Ok(());
         }
-        if !read_calls(line, &mut self.calls)? {
+        if !parse_calls(line, &mut self.calls)? {
             return Ok(out.push(b'?')?);
         }
         self.string.clear();
@@ -68,7 +68,7 @@ impl<A: Allocator + Copy> LineBuffers<A> {
 }
 
 /// Replaces `calls` by the calls of the line's words, and returns true, or returns false at the first malformed word.
-fn read_calls<A: Allocator>(
+fn parse_calls<A: Allocator>(
     line: &[u8],
     calls: &mut Vec<Build<'static>, A>,
 ) -> Result<bool, AllocError>
@@ -77,7 +77,7 @@ fn read_calls<A: Allocator>(
     calls.clear();
     let mut rest = if line.is_empty() { None } else { Some(line) };
     while let Some(bytes) = rest {
-        let (call, after) = read_first_word(bytes);
+        let (call, after) = parse_first_word(bytes);
         let Some(call) = call else {
             return Ok(false);
         };

@@ -13,7 +13,7 @@ pub fn split_first_part(bytes: &[u8], separator: u8) -> (&[u8], Option<&[u8]>)
     ensures parts { slice_split (λ byte. byte == separator) bytes.now ≡ result.0.now ∷ parts_left separator result.1 }
     ensures whole { IfNone result.1 (result.0.now ≡ bytes.now) }
 {
-    let mut at = skip_blocks(bytes, separator);
+    let mut at = skip_blocks_without(bytes, separator);
     while at < bytes.len() {
         if bytes[at] == separator {
             return (&bytes[..at], Some(&bytes[at + 1..]));
@@ -26,7 +26,7 @@ pub fn split_first_part(bytes: &[u8], separator: u8) -> (&[u8], Option<&[u8]>)
 /// Returns the start of the first block that holds a separator or, if none does, of the tail of fewer than `LANES`
 /// bytes.
 #[inline(always)]
-fn skip_blocks(bytes: &[u8], separator: u8) -> usize
+fn skip_blocks_without(bytes: &[u8], separator: u8) -> usize
     ensures within { result ≤ length bytes.now }
     ensures none { (k : ℕ) → k < result → slice_index bytes.now k ≢ separator }
 {

@@ -14,55 +14,55 @@ use wtf8::{Build, CodePoint};
 const BMP_DIGITS: usize = 4;
 
 /// Parses the first word: its call, or `None` if it is malformed, and the bytes after its space, if there is one.
-pub fn read_first_word(bytes: &[u8]) -> (Option<Build<'static>>, Option<&[u8]>)
+pub fn parse_first_word(bytes: &[u8]) -> (Option<Build<'static>>, Option<&[u8]>)
     ensures { (word : List ℕ) × (slice_split (λ byte. byte == 32) bytes.now ≡ word ∷ parts_left 32 result.1)
         × MatchOption result.0 (IsNoCall word) (IsCall word) }
 {
     if BMP_DIGITS < bytes.len() && bytes[BMP_DIGITS] == b' ' {
-        if let Some(point) = read_point(&bytes[..BMP_DIGITS]) {
+        if let Some(point) = parse_point(&bytes[..BMP_DIGITS]) {
             return (Some(Build::Push(point)), Some(&bytes[BMP_DIGITS + 1..]));
         }
     }
     let (word, after) = split_first_part(bytes, b' ');
-    (read_call(word), after)
+    (parse_call(word), after)
 }
 
 /// Parses a word as a building call, or returns `None` if it is malformed.
-fn read_call(word: &[u8]) -> Option<Build<'static>>
+fn parse_call(word: &[u8]) -> Option<Build<'static>>
     ensures some { IfSome result (λ call. IsCall word.now call) }
     ensures none { IfNone result (IsNoCall word.now) }
 {
-    if let Some(position) = read_number_after(word, b'-') {
+    if let Some(position) = parse_number_after(word, b'-') {
         return Some(Build::Truncate(position as usize));
     }
-    if let Some(units) = read_number_after(word, b'/') {
+    if let Some(units) = parse_number_after(word, b'/') {
         return Some(Build::TruncateUnits(units as usize));
     }
-    let point = read_point(word)?;
+    let point = parse_point(word)?;
     Some(Build::Push(point))
 }
 
 /// Parses 4 to 6 hexadecimal digits as a code point, or returns `None` for any other word.
-fn read_point(word: &[u8]) -> Option<CodePoint>
+fn parse_point(word: &[u8]) -> Option<CodePoint>
     ensures { option_map number result ≡ point_of word.now }
 {
-    CodePoint::from_u32(read_number(word, 16, 4, 6)?)
+    CodePoint::from_u32(parse_number(word, 16, 4, 6)?)
 }
 
 /// Parses 1 to 9 decimal digits after the byte `sigil` as a number, or returns `None` for any other word.
-fn read_number_after(word: &[u8], sigil: u8) -> Option<u32>
+fn parse_number_after(word: &[u8], sigil: u8) -> Option<u32>
     ensures { result ≡ number_after sigil word.now }
 {
     let (first, digits) = word.split_first()?;
     if *first != sigil {
         return None;
     }
-    read_number(digits, 10, 1, 9)
+    parse_number(digits, 10, 1, 9)
 }
 
 /// Parses a word of `least` to `most` digits in a base as a number, or returns `None` for any other word.
 #[inline(always)]
-fn read_number(word: &[u8], base: u32, least: usize, most: usize) -> Option<u32>
+fn parse_number(word: &[u8], base: u32, least: usize, most: usize) -> Option<u32>
     requires least_base { 2 ≤ base }
     requires greatest_base { base ≤ 36 }
     requires fits { base ^ most < 2 ^ 32 }
@@ -84,7 +84,7 @@ fn read_number(word: &[u8], base: u32, least: usize, most: usize) -> Option<u32>
 
 /// The value of each byte as a digit, with letters of either case from 10 on, or 36 for any other byte. A table, since
 /// range tests have branches that a processor mispredicts if digits and letters mix.
-const DIGITS: [u8; 256] = [
+const DIGIT_VALUES: [u8; 256] = [
     36, 36, 36, 36, 36, 36, 36, 36, 36, 36, 36, 36, 36, 36, 36, 36, 36, 36, 36, 36, 36, 36, 36, 36,
     36, 36, 36, 36, 36, 36, 36, 36, 36, 36, 36, 36, 36, 36, 36, 36, 36, 36, 36, 36, 36, 36, 36, 36,
     0, 1, 2, 3, 4, 5, 6, 7, 8, 9, 36, 36, 36, 36, 36, 36, 36, 10, 11, 12, 13, 14, 15, 16, 17, 18,
@@ -103,5 +103,5 @@ const DIGITS: [u8; 256] = [
 fn digit_of(byte: u8) -> u32
     ensures { result ≡ digit_value byte }
 {
-    u32::from(DIGITS[byte as usize])
+    u32::from(DIGIT_VALUES[byte as usize])
 }

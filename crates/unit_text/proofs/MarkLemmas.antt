@@ -42,8 +42,8 @@ AreKept-push w u marks mark n e old new = λ k d l. below_more (λ j. IsKept w u
 -- if no mark is missing, the mark that is chosen for `units` is at most `spacing + 1` units before it
 pub chosen_mark_is_close : (w u : List ℕ) (marks : List UnitMark) (is_incomplete : Bool) (units at number : ℕ) → AreMarks w u marks is_incomplete → length w ≢ length u
     → units ≤ length u → number ≡ min (length marks) (units / spacing) → number * spacing ≤ at + 1 → is_incomplete ≡ false → units ≤ at + spacing + 1
-chosen_mark_is_close w u marks is_incomplete units at number m apart h e near granted =
-    let next : (number + 1) * spacing < length u → number + 1 ≤ length marks = m.all granted apart (number + 1) in grind (arith, next, e, h, near)
+chosen_mark_is_close w u marks is_incomplete units at number m not_ascii h e near granted =
+    let next : (number + 1) * spacing < length u → number + 1 ≤ length marks = m.all granted not_ascii (number + 1) in grind (arith, next, e, h, near)
 
 -- the unit at index `n` is the first of the units from there on
 slice_get-as_first : (u : List ℕ) (n : ℕ) → slice_get u n ≡ slice_get (drop n u) 0

@@ -57,7 +57,7 @@ fn kept_mark_at_or_before<A: Allocator>(
     units: usize,
 ) -> UnitMark
     requires marks { AreMarks text.now.bytes text.now.units marks.now.kept.items marks.now.is_incomplete }
-    requires apart { length text.now.bytes ≢ length text.now.units }
+    requires not_ascii { length text.now.bytes ≢ length text.now.units }
     requires within { units ≤ length text.now.units }
     ensures mark { IsMark text.now.bytes text.now.units result.position result.units }
     ensures before { result.units ≤ units }
@@ -150,7 +150,7 @@ fn needed_mark_count<A: Allocator>(text: &Wtf8Buf<A>, count: usize) -> usize
     requires counted { count ≡ length text.now.units }
     ensures before_last { (n : ℕ) → n < result → (n + 1) * SPACING < count }
     ensures all { AreEnough text.now.bytes text.now.units result }
-    ensures apart { 0 < result → length text.now.bytes ≢ length text.now.units }
+    ensures not_ascii { 0 < result → length text.now.bytes ≢ length text.now.units }
 {
     if text.len() == count {
         return 0;

@@ -158,7 +158,7 @@ impl<A: Allocator> UnitText<A> {
         ensures err { OnErr result (self.new ≡ self.old) }
         ensures empty { other.now ≡ [] → IsOk result }
     {
-        self.append(other.as_wtf8(), other.count)
+        self.append_view(other.as_wtf8(), other.count)
     }
 
     /// Appends the characters of a `&str`. If memory is refused, the text is unchanged; an empty `other` is never
@@ -178,11 +178,11 @@ impl<A: Allocator> UnitText<A> {
         ensures err { OnErr result (self.new ≡ self.old) }
         ensures empty { view_units other.entry ≡ [] → IsOk result }
     {
-        self.append(other, other.unit_len())
+        self.append_view(other, other.unit_len())
     }
 
     /// Appends a string of `count` code units.
-    fn append(&mut self, other: Wtf8<'_>, count: usize) -> Result<(), AllocError>
+    fn append_view(&mut self, other: Wtf8<'_>, count: usize) -> Result<(), AllocError>
         requires { count ≡ length (view_units other) }
         ensures ok { OnOk result (self.new ≡ self.old ++ view_units other.entry) }
         ensures err { OnErr result (self.new ≡ self.old) }

@@ -22,7 +22,7 @@ fn kinds() -> [[u16; 8]; 5] {
     ]
 }
 
-/// Lengths in units above the range in which each length is tried.
+/// Lengths in units to try besides each length from 0 to 300.
 fn long() -> [usize; 4] {
     [1000, 5000, 20_000, 70_000]
 }

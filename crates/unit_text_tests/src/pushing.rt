@@ -79,8 +79,8 @@ fn pushed(alloc: Global, text: &mut Text<'_>, kind: &[u16; 6]) -> Result<Vec<u16
     Ok(units)
 }
 
-/// Pushes units that repeat `kind` to an empty text. Returns the number of refused pushes. Fails unless the text has all
-/// other units.
+/// Pushes units that repeat `kind` to an empty text. Returns the number of refused pushes. Fails unless the text has the
+/// units of all other pushes.
 fn push_and_expect<'a>(
     alloc: Global,
     heap: Lent<'a>,
@@ -93,7 +93,8 @@ fn push_and_expect<'a>(
 }
 
 /// Pushes units that repeat `kind` to an empty text, with `granted` requests granted, and the following ones, or the
-/// next one alone, refused. Returns the number of refused pushes. Fails unless the text has all other units.
+/// next one alone, refused. Returns the number of refused pushes. Fails unless the text has the units of all other
+/// pushes.
 fn expect_grown(
     alloc: Global,
     kind: &[u16; 6],

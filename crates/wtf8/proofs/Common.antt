@@ -37,7 +37,7 @@ pub use Rattle.wtf8.specs.Building.{Step, Run, Append, IsNoTruncation, FindRoom,
 pub use Rattle.wtf8.specs.CodePoint.{number, numbers}
 pub use Rattle.wtf8.specs.Concatenation.{MeetsAsPair, is_pair, glue}
 pub use Rattle.wtf8.specs.Debug.{escape_surrogate}
-pub use Rattle.wtf8.specs.private.Decoding.{point_of, points_of, units_left, decode_steps, ReadsAll}
+pub use Rattle.wtf8.specs.private.Decoding.{point_of_item, points_of_items, units_left, decode_steps, ReadsAll}
 pub use Rattle.wtf8.specs.private.Mismatch.{IsMismatch, SupplementaryBegins, DifferAt, DecidesNone}
 pub use Rattle.wtf8.specs.Form.{bytes, encoding, IsClean, Reads, IsWellFormed, IsForm}
 pub use Rattle.wtf8.specs.private.EncodedBytes.{ExtendsForm, BecomesOrKeeps, ExtendsFormOrKeeps, BeginsWithPoint, FirstPointByLead, FirstPointIs}

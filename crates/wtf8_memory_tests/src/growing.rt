@@ -159,7 +159,7 @@ fn expect_call(
     }
 }
 
-/// Fails unless the row's call, by name and through `apply`, is as `expect_call` says.
+/// Fails unless the row's call, made as a method and through `apply`, does what `expect_call` requires.
 fn expect_row(
     alloc: Global,
     heap: Lent<'_>,
@@ -170,7 +170,7 @@ fn expect_row(
     expect_call(alloc, heap, row, true, refusal)
 }
 
-/// Fails unless each call, by name and through `apply`, is as `expect_call` says.
+/// Fails unless each call, made as a method and through `apply`, does what `expect_call` requires.
 fn expect_rows(
     alloc: Global,
     heap: Lent<'_>,
@@ -188,7 +188,7 @@ fn expect_rows(
     expect_row(alloc, heap, two_requests(&points), refusal)
 }
 
-/// Fails unless each call, by name and through `apply`, is as `expect_call` says.
+/// Fails unless each call, made as a method and through `apply`, does what `expect_call` requires.
 fn expect_table(alloc: Global, refusal: Option<Refusal>) -> Result<(), Wrong> {
     let trails = joined(alloc, &[0xDCA9, 0xDCA9, 0x62])?;
     let heap = Refusing::new(alloc, 0);
@@ -209,7 +209,7 @@ fn a_refused_request_leaves_the_string_unchanged(rt: HostRuntime) -> Result<(), 
     Ok(())
 }
 
-/// Whether reserving 1,000 more bytes succeeds, through `apply` if `is_applied`, else by name.
+/// Whether reserving 1,000 more bytes succeeds, through `apply` if `is_applied`, else through `reserve`.
 fn is_reserved<A: Allocator>(text: &mut Wtf8Buf<A>, is_applied: bool) -> bool {
     if is_applied {
         return matches!(text.apply(Build::Reserve(1000)), Ok(true));
@@ -236,7 +236,7 @@ fn reserve_gives_the_capacity(rt: HostRuntime) -> Result<(), Wrong> {
     Ok(())
 }
 
-/// Fails unless reserving `usize::MAX` bytes is refused, by name and through `apply`, and leaves "a".
+/// Fails unless reserving `usize::MAX` bytes is refused, as a method and through `apply`, and leaves "a".
 fn expect_refused_room(alloc: Global, text: &mut Wtf8Buf<Global>) -> Result<(), Wrong> {
     if text.reserve(usize::MAX).is_ok() {
         return Err(Wrong::Outcome);

@@ -24,7 +24,7 @@ const KINDS: [[u16; 8]; 8] = [
     ],
 ];
 
-/// Lengths in units above the range in which each length is tried.
+/// Lengths in units to try besides each length from 0 to 300.
 const LONG: [usize; 4] = [1000, 5000, 20_000, 70_000];
 
 /// A unit, and lengths in units at which a string of it has about 4,096 or 65,536 bytes.

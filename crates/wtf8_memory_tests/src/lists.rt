@@ -68,7 +68,8 @@ fn extend_by(
     }
 }
 
-/// The string that the calls before the stop, made by name, and the code points taken of an extension build.
+/// The string built by the calls before the refused one, made as methods, and, if that one is an extension, by the code
+/// points that it appended.
 fn before(alloc: Global, calls: &[Build<'_>], stop: Stop) -> Result<Wtf8Buf<Global>, AllocError> {
     let mut text = folded(alloc, calls.get(..stop.done).unwrap_or(calls))?;
     extend_by(&mut text, calls.get(stop.done), stop.taken)?;

@@ -248,7 +248,7 @@ fn applied_rows<'a>(lead: &'a [CodePoint; 1], piece: Wtf8<'a>) -> [Step<'a>; 10]
     ]
 }
 
-/// Fails unless each call of `applied_rows` in turn is as its row tells; `piece` is pushed after a lead.
+/// Fails unless each call of `applied_rows` in turn does what its row says; `piece` is pushed after a lead.
 fn expect_each_applied<A: Allocator>(
     alloc: Global,
     text: &mut Wtf8Buf<A>,
@@ -261,7 +261,7 @@ fn expect_each_applied<A: Allocator>(
     Ok(())
 }
 
-/// Fails unless the calls of `applied_rows` are as the rows tell within a capacity of 20 bytes.
+/// Fails unless the calls of `applied_rows` do what their rows say within a capacity of 20 bytes.
 fn expect_room_for_applied(alloc: Global, heap: Lent<'_>, piece: Wtf8<'_>) -> Result<(), Wrong> {
     let mut text = with_room(heap, 20, 9)?;
     expect_each_applied(alloc, &mut text, piece)

@@ -71,7 +71,7 @@ pub fn call_named<A: Allocator>(text: &mut Wtf8Buf<A>, call: Build<'_>) -> Resul
     }
 }
 
-/// Makes a call through `apply` if `is_applied`, else by name, and returns whether it succeeded.
+/// Makes a call through `apply` if `is_applied`, else as a method, and returns whether it succeeded.
 pub fn is_made<A: Allocator>(text: &mut Wtf8Buf<A>, call: Build<'_>, is_applied: bool) -> bool {
     if is_applied {
         return matches!(text.apply(call), Ok(true));

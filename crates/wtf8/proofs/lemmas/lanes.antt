@@ -3,5 +3,5 @@ pub mod Copies
 pub mod Mismatch
 pub mod HexDigits
 pub mod Masks
-pub mod Surrogates
+pub mod SurrogateLanes
 pub mod UnitCounts

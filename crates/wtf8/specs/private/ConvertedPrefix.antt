@@ -22,7 +22,7 @@ AreAscii u = Each1 (λ n. n < 0x80) u
 -- The bytes are the form of the units before index `at`, as `IsKnownForm` says, and no pair is divided there.
 pub record IsReadTo (w u : List ℕ) (at : ℕ) (known : Bool) : Type 0 where
   pub within : at ≤ length u
-  pub apart : DividesNoPair u at
+  pub divides_no_pair : DividesNoPair u at
   pub form : IsKnownForm w (take at u) known
 
 -- Each of the units is a scalar value below 0x10000 (Unicode 3.9, "Unicode scalar value").

@@ -8,13 +8,13 @@ use Rattle.wtf8.specs.Form.{IsClean}
 use Rattle.wtf8.specs.Unicode.{IsCodePoint, IsLead, IsTrail, IsSurrogate, units_of, units}
 
 -- The code point of an item: a scalar value, or a lone surrogate.
-abbrev pub point_of : Result ℕ ℕ → ℕ
-point_of (Ok c) = c
-point_of (Err u) = u
+abbrev pub point_of_item : Result ℕ ℕ → ℕ
+point_of_item (Ok c) = c
+point_of_item (Err u) = u
 
 -- The code points of a list of items.
-abbrev pub points_of : List (Result ℕ ℕ) → List ℕ
-points_of items = map point_of items
+abbrev pub points_of_items : List (Result ℕ ℕ) → List ℕ
+points_of_items items = map point_of_item items
 
 -- The units that a decoder has left: a peeked one, if any, and the units of its iterator.
 abbrev pub units_left : {S : Type 0} → DecodeUtf16 S → Ahead S ℕ
@@ -26,9 +26,9 @@ module _ {S : Type 0} (steps : S → Option ℕ → S → Type 0) where
   pub record DecodesItem (s : Ahead S ℕ) (item : Result ℕ ℕ) (t : Ahead S ℕ) : Type 0 where
     pub kind : MatchResult item (λ c. IsCodePoint c × ¬ (IsSurrogate c)) IsSurrogate
     pub after : Ahead S ℕ
-    pub taken : Yields (peekable_steps steps) s (units_of (point_of item)) after
+    pub taken : Yields (peekable_steps steps) s (units_of (point_of_item item)) after
     pub held : (t ≡ after) ⊎ PeeksNext steps after t
-    pub lone : IsLead (point_of item) → IsSomeAnd (peekable_peeked t) (λ o. IfSome o (λ u. ¬ (IsTrail u)))
+    pub lone : IsLead (point_of_item item) → IsSomeAnd (peekable_peeked t) (λ o. IfSome o (λ u. ¬ (IsTrail u)))
 
   -- A step yields the item at the front of the units left, or `None` if no unit is left.
   abbrev pub decode_steps : DecodeUtf16 S → Option (Result ℕ ℕ) → DecodeUtf16 S → Type 0
@@ -36,5 +36,5 @@ module _ {S : Type 0} (steps : S → Option ℕ → S → Type 0) where
 
   -- The items' code points are clean, and the iterator yields exactly their units and then ends.
   pub record ReadsAll (iter : S) (items : List (Result ℕ ℕ)) : Type 0 where
-    pub clean : IsClean (points_of items)
-    pub all_units : Drains steps iter (units (points_of items))
+    pub clean : IsClean (points_of_items items)
+    pub all_units : Drains steps iter (units (points_of_items items))

@@ -23,7 +23,7 @@ pub record BeginsWithPoint (w : List ℕ) : Type 0 where
   pub rest : List ℕ
   pub in_range : IsCodePoint point
   pub encoded : w ≡ encoding point ++ rest
-  pub says : FirstPointByLead w point (length (encoding point))
+  pub by_lead : FirstPointByLead w point (length (encoding point))
 
 -- If the bytes begin with a code point, it is `p` and has `n` bytes.
 abbrev pub FirstPointIs : List ℕ → ℕ → ℕ → Type 0
@@ -45,5 +45,5 @@ module _ {T E Z : Type 0} where
   -- A call appends the units `v` to the bytes or, on an error, leaves them unchanged, as `BecomesOrKeeps` says.
   pub record ExtendsFormOrKeeps (old : Vec ℕ Z) (v : List ℕ) (new : Vec ℕ Z) (r : Result T E) : Type 0 where
     pub whole : List ℕ
-    pub gained : ExtendsForm old.items whole v
+    pub extends : ExtendsForm old.items whole v
     pub becomes : BecomesOrKeeps old whole new r

@@ -26,8 +26,8 @@ abbrev pub units_of_run : ℕ → (List ℕ → ℕ) → ℕ → List ℕ → Li
 units_of_run n f zero w = []
 units_of_run n f (suc k) w = f w ∷ units_of_run n f k (drop n w)
 
--- If the bytes `w` are well-formed, so are those from index `at` on, and the units of `w` are `v` followed by the units
--- of these.
+-- If the bytes `w` are well-formed, so is the rest from index `at` on, and the units of `w` are `v` followed by the units
+-- of the rest.
 abbrev pub BeginsWithUnits : List ℕ → List ℕ → ℕ → Type 0
 BeginsWithUnits w v at = (h : IsWellFormed w) → (rest : IsWellFormed (drop at w)) × (units h.points ≡ v ++ units rest.points)
 

@@ -3,7 +3,7 @@ ghost use Rattle.std.specs.Prelude.{◌≡◌, ◌↔◌, ℕ, ◌-◌, ◌<◌,
 ghost use Rattle.std.specs.Iterator.{count_map, Drains};
 ghost use Rattle.std.specs.Iterator.Adapters.{peekable_can, peekable_source, peekable_peeked, items_left_with_peeked};
 ghost use Rattle.wtf8.specs.CodePoint.{number};
-ghost use Rattle.wtf8.specs.private.Decoding.{point_of, units_left, decode_steps, ReadsAll};
+ghost use Rattle.wtf8.specs.private.Decoding.{point_of_item, units_left, decode_steps, ReadsAll};
 ghost use Rattle.wtf8.specs.Form.{Reads};
 ghost use Rattle.wtf8.specs.Unicode.{IsCodePoint, IsLead, IsTrail, IsSurrogate, pair};
 ghost use Rattle.wtf8.specs.private.ConvertedPrefix.{DividesNoPair};
@@ -53,7 +53,7 @@ pub(crate) fn point_of_unit(unit: u16) -> CodePoint
 #[inline(always)]
 fn char_or_surrogate(unit: u16) -> Result<char, u16>
     ensures kind { MatchResult result (λ c. IsCodePoint c × ¬ (IsSurrogate c)) IsSurrogate }
-    ensures point { point_of result ≡ unit }
+    ensures point { point_of_item result ≡ unit }
 {
     char::from_u32(u32::from(unit)).ok_or(unit)
 }

@@ -33,15 +33,15 @@ pub returns-in_default-clause-room : goal.returns-in_default-clause-room
 returns-in_default-clause-room g c = λ all.
     let number = c.loop-number.number in
     let i = c.loop-number.invariant in
-    let apart = c.needed_mark_count-number-end.ensures.apart (omega (arith, c.loop-number-test.true)) in
+    let not_ascii = c.needed_mark_count-number-end.ensures.not_ascii (omega (arith, c.loop-number-test.true)) in
     let next = c.needed_mark_count-number-end.ensures.before_last number c.loop-number-test.true in
-    let room : number + 1 ≤ vec_capacity c.args.marks.now = all apart (number + 1) (omega (arith, next, c.requires.counted)) in
+    let room : number + 1 ≤ vec_capacity c.args.marks.now = all not_ascii (number + 1) (omega (arith, next, c.requires.counted)) in
     absurd (false≢true (c.in_default.ensures.succeeds (omega (arith, room, i.capacity, i.counted, c.loop-number.marks.ok.0))))
 
 pub returns-clause-marks : goal.returns-clause-marks
 returns-clause-marks g c =
     let i = c.loop-number.invariant in
-    record { kept = i.kept; all = λ granted apart n h. let enough = c.needed_mark_count-number-end.ensures.all apart n h in omega (arith, enough, i.counted) }
+    record { kept = i.kept; all = λ granted not_ascii n h. let enough = c.needed_mark_count-number-end.ensures.all not_ascii n h in omega (arith, enough, i.counted) }
 
 pub returns-clause-room : goal.returns-clause-room
 returns-clause-room g c = λ _. refl

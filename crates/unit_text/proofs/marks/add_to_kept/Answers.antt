@@ -5,4 +5,4 @@ use Rattle.unit_text.proofs.marks.add_to_kept.Goals as goal
 pub returns-else-len-needed_mark_count : goal.returns-else-len-needed_mark_count
 returns-else-len-needed_mark_count g c =
     let kept : AreKept c.args.text.now.bytes c.args.text.now.units c.in-Some.marks.kept.items = search rules in
-    record { kept = kept; all = λ granted apart n h. let enough = c.needed_mark_count.ensures.all apart n h in omega (arith, enough) }
+    record { kept = kept; all = λ granted not_ascii n h. let enough = c.needed_mark_count.ensures.all not_ascii n h in omega (arith, enough) }

@@ -142,18 +142,18 @@ begins_with p r w range e = record {
   rest = r;
   in_range = range;
   encoded = e;
-  says = subst (λ (v : List ℕ). FirstPointByLead v p (length (encoding p))) (sym e) (front-encoding p r range);
+  by_lead = subst (λ (v : List ℕ). FirstPointByLead v p (length (encoding p))) (sym e) (front-encoding p r range);
 }
 
-abbrev pub begins_moved : {v w : List ℕ} → BeginsWithPoint v → w ≡ v → BeginsWithPoint w
-begins_moved b e = begins_with b.point b.rest _ b.in_range (e ∙ b.encoded)
+abbrev pub BeginsWithPoint-equal_bytes : {v w : List ℕ} → BeginsWithPoint v → w ≡ v → BeginsWithPoint w
+BeginsWithPoint-equal_bytes b e = begins_with b.point b.rest _ b.in_range (e ∙ b.encoded)
 
 -- the lead surrogate of a supplementary code point, from its first three bytes
 abbrev pub LeadRead : List ℕ → ℕ → Type 0
 LeadRead w p = 0xD7C0 + ((get_or w 0 0 - 0xF0) * 64 + (get_or w 1 0 - 0x80)) * 4 + (get_or w 2 0 - 0x80) / 16 ≡ 0xD800 + (p - 0x10000) / 0x400
 
-pub lead_read : (p : ℕ) (r : List ℕ) → 0xF0 ≤ get_or (encoding p ++ r) 0 0 → LeadRead (encoding p ++ r) p
-lead_read p r g = elim (encoding_cases p) [
+pub LeadRead-encoding : (p : ℕ) (r : List ℕ) → 0xF0 ≤ get_or (encoding p ++ r) 0 0 → LeadRead (encoding p ++ r) p
+LeadRead-encoding p r g = elim (encoding_cases p) [
   | one l e ↦ absurd (omega (arith, rw e at g))
   | two _ l e ↦ absurd (omega (arith, rw e at g))
   | three _ l e ↦ absurd (omega (arith, rw e at g))

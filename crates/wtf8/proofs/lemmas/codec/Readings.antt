@@ -10,58 +10,58 @@ use Rattle.wtf8.proofs.lemmas.codec.Encoding.{encoding_cases, one, two, three, f
 
 -- A lead at the end of one list and a trail at the start of the next.
 
-pub pair_true : (l t : ℕ) → IsLead l → IsTrail t → is_pair l t ≡ true
+pub is_pair-surrogates : (l t : ℕ) → IsLead l → IsTrail t → is_pair l t ≡ true
 unfolding is_pair
-pair_true l t h k = rw (le-leb 0xD800 l h.0, le-leb l 0xDBFF h.1, le-leb 0xDC00 t k.0, le-leb t 0xDFFF k.1) refl
+is_pair-surrogates l t h k = rw (le-leb 0xD800 l h.0, le-leb l 0xDBFF h.1, le-leb 0xDC00 t k.0, le-leb t 0xDFFF k.1) refl
 
-pub true_pair : (l t : ℕ) → is_pair l t ≡ true → IsLead l × IsTrail t
+pub surrogates_from_is_pair : (l t : ℕ) → is_pair l t ≡ true → IsLead l × IsTrail t
 unfolding is_pair
-true_pair l t e = ((grind (arith, nat_tests), grind (arith, nat_tests)), (grind (arith, nat_tests), grind (arith, nat_tests)))
+surrogates_from_is_pair l t e = ((grind (arith, nat_tests), grind (arith, nat_tests)), (grind (arith, nat_tests), grind (arith, nat_tests)))
 
 -- two lists with a lead and a trail at their seam
 abbrev pub meets_by : {c d : List ℕ} (f r : List ℕ) (l t : ℕ) → IsLead l → IsTrail t → c ≡ f ++ l ∷ [] → d ≡ t ∷ r → MeetsAsPair c d
 meets_by f r l t h k e g = record { front = f; lead = l; trail = t; rest = r; is_lead = h; is_trail = k; ends = e; begins = g }
 
 -- `MeetsAsPair` of equal lists
-abbrev pub meets_same : {a b c d : List ℕ} → MeetsAsPair a b → c ≡ a → d ≡ b → MeetsAsPair c d
-meets_same m e g = meets_by m.front m.rest m.lead m.trail m.is_lead m.is_trail (e ∙ m.ends) (g ∙ m.begins)
+abbrev pub MeetsAsPair-equal_lists : {a b c d : List ℕ} → MeetsAsPair a b → c ≡ a → d ≡ b → MeetsAsPair c d
+MeetsAsPair-equal_lists m e g = meets_by m.front m.rest m.lead m.trail m.is_lead m.is_trail (e ∙ m.ends) (g ∙ m.begins)
 
 pub MeetsAsPair-cons : (p : ℕ) {c d : List ℕ} → MeetsAsPair c d → MeetsAsPair (p ∷ c) d
 MeetsAsPair-cons p m = meets_by (p ∷ m.front) m.rest m.lead m.trail m.is_lead m.is_trail (ap (λ e. p ∷ e) m.ends) m.begins
 
 -- no pair forms with an empty list, after a number that is no lead or before one that is no trail
-pub nothing_ends : {d : List ℕ} → ¬ (MeetsAsPair [] d)
-nothing_ends m = omega (arith, ap length m.ends, length-append m.front (m.lead ∷ []))
+pub unpaired-nil_left : {d : List ℕ} → ¬ (MeetsAsPair [] d)
+unpaired-nil_left m = omega (arith, ap length m.ends, length-append m.front (m.lead ∷ []))
 
-pub nothing_begins : {c : List ℕ} → ¬ (MeetsAsPair c [])
-nothing_begins m = omega (arith, ap length m.begins)
+pub unpaired-nil_right : {c : List ℕ} → ¬ (MeetsAsPair c [])
+unpaired-nil_right m = omega (arith, ap length m.begins)
 
-pub no_lead : (f : List ℕ) (p : ℕ) {d : List ℕ} → ¬ (IsLead p) → ¬ (MeetsAsPair (f ++ p ∷ []) d)
-no_lead f p n m = n (subst IsLead (sym (same_from_push f m.front p m.lead m.ends).1) m.is_lead)
+pub unpaired-after_no_lead : (f : List ℕ) (p : ℕ) {d : List ℕ} → ¬ (IsLead p) → ¬ (MeetsAsPair (f ++ p ∷ []) d)
+unpaired-after_no_lead f p n m = n (subst IsLead (sym (same_from_push f m.front p m.lead m.ends).1) m.is_lead)
 
-pub no_trail : {c : List ℕ} (p : ℕ) (r : List ℕ) → ¬ (IsTrail p) → ¬ (MeetsAsPair c (p ∷ r))
-no_trail p r n m = n (subst IsTrail (sym (ap (λ w. get_or w 0 0) m.begins)) m.is_trail)
+pub unpaired-before_no_trail : {c : List ℕ} (p : ℕ) (r : List ℕ) → ¬ (IsTrail p) → ¬ (MeetsAsPair c (p ∷ r))
+unpaired-before_no_trail p r n m = n (subst IsTrail (sym (ap (λ w. get_or w 0 0) m.begins)) m.is_trail)
 
-pub meeting_numbers : (p q : ℕ) (d : List ℕ) → MeetsAsPair (p ∷ []) (q ∷ d) → is_pair p q ≡ true
-meeting_numbers p q d m =
+pub is_pair-meeting : (p q : ℕ) (d : List ℕ) → MeetsAsPair (p ∷ []) (q ∷ d) → is_pair p q ≡ true
+is_pair-meeting p q d m =
     let last = (same_from_push [] m.front p m.lead m.ends).1 in
-    pair_true p q (subst IsLead (sym last) m.is_lead) (subst IsTrail (sym (ap (λ w. get_or w 0 0) m.begins)) m.is_trail)
+    is_pair-surrogates p q (subst IsLead (sym last) m.is_lead) (subst IsTrail (sym (ap (λ w. get_or w 0 0) m.begins)) m.is_trail)
 
-without_first : (p q : ℕ) (c f : List ℕ) (l : ℕ) → p ∷ q ∷ c ≡ f ++ l ∷ [] → (g : List ℕ) × (q ∷ c ≡ g ++ l ∷ [])
-without_first p q c [] l e = absurd (omega (arith, ap length e))
-without_first p q c (x ∷ f) l e = (f, ap (drop 1) e)
+ends_with-uncons : (p q : ℕ) (c f : List ℕ) (l : ℕ) → p ∷ q ∷ c ≡ f ++ l ∷ [] → (g : List ℕ) × (q ∷ c ≡ g ++ l ∷ [])
+ends_with-uncons p q c [] l e = absurd (omega (arith, ap length e))
+ends_with-uncons p q c (x ∷ f) l e = (f, ap (drop 1) e)
 
 pub MeetsAsPair-uncons : (p q : ℕ) (c d : List ℕ) → MeetsAsPair (p ∷ q ∷ c) d → MeetsAsPair (q ∷ c) d
 MeetsAsPair-uncons p q c d m =
-    let s = without_first p q c m.front m.lead m.ends in meets_by s.0 m.rest m.lead m.trail m.is_lead m.is_trail s.1 m.begins
+    let s = ends_with-uncons p q c m.front m.lead m.ends in meets_by s.0 m.rest m.lead m.trail m.is_lead m.is_trail s.1 m.begins
 
 -- it is decidable whether two lists meet as a pair
 pub meets_or_not : (c d : List ℕ) → MeetsAsPair c d ⊎ ¬ (MeetsAsPair c d)
-meets_or_not [] d = inr nothing_ends
-meets_or_not (p ∷ []) [] = inr nothing_begins
+meets_or_not [] d = inr unpaired-nil_left
+meets_or_not (p ∷ []) [] = inr unpaired-nil_right
 meets_or_not (p ∷ []) (q ∷ d) = elim (cases_Bool (is_pair p q)) [
-  | inl e ↦ let h = true_pair p q e in inl (meets_by [] d p q h.0 h.1 refl refl)
-  | inr e ↦ inr (λ m. false≢true (sym e ∙ meeting_numbers p q d m))
+  | inl e ↦ let h = surrogates_from_is_pair p q e in inl (meets_by [] d p q h.0 h.1 refl refl)
+  | inr e ↦ inr (λ m. false≢true (sym e ∙ is_pair-meeting p q d m))
 ]
 meets_or_not (p ∷ q ∷ c) d = elim (meets_or_not (q ∷ c) d) [ inl m ↦ inl (MeetsAsPair-cons p m) | inr n ↦ inr (λ m. n (MeetsAsPair-uncons p q c d m)) ]
 
@@ -143,56 +143,56 @@ clean-append (p ∷ q ∷ c) d x y n = (x.0, x.1, clean-append (q ∷ c) d x.2 y
 
 -- the parts of a divided clean list do not meet as a pair
 pub clean-unpaired : (c d : List ℕ) → IsClean (c ++ d) → ¬ (MeetsAsPair c d)
-clean-unpaired [] d x m = nothing_ends m
-clean-unpaired (p ∷ []) [] x m = nothing_begins m
-clean-unpaired (p ∷ []) (q ∷ d) x m = x.1 (true_pair p q (meeting_numbers p q d m))
+clean-unpaired [] d x m = unpaired-nil_left m
+clean-unpaired (p ∷ []) [] x m = unpaired-nil_right m
+clean-unpaired (p ∷ []) (q ∷ d) x m = x.1 (surrogates_from_is_pair p q (is_pair-meeting p q d m))
 clean-unpaired (p ∷ q ∷ c) d x m = clean-unpaired (q ∷ c) d x.2 (MeetsAsPair-uncons p q c d m)
 
 -- A list of units has at most one reading and one form, and bytes determine code points and units.
 
-pub same_heads : (p q : ℕ) (r s : List ℕ) → p ∷ r ≡ q ∷ s → (p ≡ q) × (r ≡ s)
-same_heads p q r s e = (ap (λ w. get_or w 0 0) e, ap (drop 1) e)
+pub cons-equal_parts : (p q : ℕ) (r s : List ℕ) → p ∷ r ≡ q ∷ s → (p ≡ q) × (r ≡ s)
+cons-equal_parts p q r s e = (ap (λ w. get_or w 0 0) e, ap (drop 1) e)
 
 -- a trail that is the first unit is the first code point
 pub trail_first : (p : ℕ) (c : List ℕ) (t : ℕ) (r : List ℕ) → IsClean (p ∷ c) → units (p ∷ c) ≡ t ∷ r → IsTrail t → p ≡ t
 trail_first p c t r x e h = elim (cases_lt p 0x10000) [
-  | inl l ↦ (same_heads p t (units c) r (sym (units-cons_one p c l) ∙ e)).0
+  | inl l ↦ (cons-equal_parts p t (units c) r (sym (units-cons_one p c l) ∙ e)).0
   | inr l ↦
       let range = clean-first p c x in
-      let same = (same_heads (lead_of p) t (trail_of p ∷ units c) r (sym (units-cons_two p c l) ∙ e)).0 in
+      let same = (cons-equal_parts (lead_of p) t (trail_of p ∷ units c) r (sym (units-cons_two p c l) ∙ e)).0 in
       absurd (omega arith)
 ]
 
 -- decodes units from the front; the units of a clean list decode to that list
-abbrev read : List ℕ → List ℕ
-read [] = []
-read (l ∷ []) = l ∷ []
-read (l ∷ t ∷ u) = cond (is_pair l t) (pair l t ∷ read u) (l ∷ read (t ∷ u))
+abbrev points_of_units : List ℕ → List ℕ
+points_of_units [] = []
+points_of_units (l ∷ []) = l ∷ []
+points_of_units (l ∷ t ∷ u) = cond (is_pair l t) (pair l t ∷ points_of_units u) (l ∷ points_of_units (t ∷ u))
 
-not_pair : (l t : ℕ) → ¬ (IsLead l × IsTrail t) → is_pair l t ≡ false
-not_pair l t n = elim (cases_Bool (is_pair l t)) [ inl e ↦ absurd (n (true_pair l t e)) | inr e ↦ e ]
+is_pair-false : (l t : ℕ) → ¬ (IsLead l × IsTrail t) → is_pair l t ≡ false
+is_pair-false l t n = elim (cases_Bool (is_pair l t)) [ inl e ↦ absurd (n (surrogates_from_is_pair l t e)) | inr e ↦ e ]
 
-read_one : (p : ℕ) (c : List ℕ) → IsClean (p ∷ c) → read (units c) ≡ c → read (p ∷ units c) ≡ p ∷ c
-read_one p [] x e = refl
-read_one p (q ∷ d) x e = elim (cases_lt q 0x10000) [
-  | inl h ↦ rw (units-cons_one q d h, not_pair p q x.1) (ap (λ r. p ∷ r) (rw (units-cons_one q d h) at e))
+points_of_units-cons : (p : ℕ) (c : List ℕ) → IsClean (p ∷ c) → points_of_units (units c) ≡ c → points_of_units (p ∷ units c) ≡ p ∷ c
+points_of_units-cons p [] x e = refl
+points_of_units-cons p (q ∷ d) x e = elim (cases_lt q 0x10000) [
+  | inl h ↦ rw (units-cons_one q d h, is_pair-false p q x.1) (ap (λ r. p ∷ r) (rw (units-cons_one q d h) at e))
   | inr h ↦
       let range = clean-first q d x.2 in
-      rw (units-cons_two q d h, not_pair p (lead_of q) (λ m. omega (arith, range, m.1))) (ap (λ r. p ∷ r) (rw (units-cons_two q d h) at e))
+      rw (units-cons_two q d h, is_pair-false p (lead_of q) (λ m. omega (arith, range, m.1))) (ap (λ r. p ∷ r) (rw (units-cons_two q d h) at e))
 ]
 
-read-units : (c : List ℕ) → IsClean c → read (units c) ≡ c
-read-units [] x = refl
-read-units (p ∷ c) x = elim (cases_lt p 0x10000) [
-  | inl h ↦ rw (units-cons_one p c h) (read_one p c x (read-units c (clean-rest p c x)))
+points_of_units-units : (c : List ℕ) → IsClean c → points_of_units (units c) ≡ c
+points_of_units-units [] x = refl
+points_of_units-units (p ∷ c) x = elim (cases_lt p 0x10000) [
+  | inl h ↦ rw (units-cons_one p c h) (points_of_units-cons p c x (points_of_units-units c (clean-rest p c x)))
   | inr h ↦
       let range = clean-first p c x in
       let same : pair (lead_of p) (trail_of p) ≡ p = omega arith in
-      rw (units-cons_two p c h, pair_true (lead_of p) (trail_of p) (omega arith, omega arith) (omega arith, omega arith)) (cc (same, read-units c (clean-rest p c x)))
+      rw (units-cons_two p c h, is_pair-surrogates (lead_of p) (trail_of p) (omega arith, omega arith) (omega arith, omega arith)) (cc (same, points_of_units-units c (clean-rest p c x)))
 ]
 
 pub same_reading : (c d : List ℕ) → IsClean c → IsClean d → units c ≡ units d → c ≡ d
-same_reading c d x y e = sym (read-units c x) ∙ (ap read e ∙ read-units d y)
+same_reading c d x y e = sym (points_of_units-units c x) ∙ (ap points_of_units e ∙ points_of_units-units d y)
 
 pub reads_same : {c d u : List ℕ} → Reads c u → Reads d u → c ≡ d
 reads_same {c} {d} x y = same_reading c d x.clean y.clean (x.same_units ∙ sym y.same_units)
@@ -217,24 +217,24 @@ pub same_points : {w v : List ℕ} (x : IsWellFormed w) (y : IsWellFormed v) →
 same_points x y e = bytes-injective x.points y.points (x.encoded ∙ (e ∙ sym y.encoded))
 
 -- only the empty list has no bytes
-pub no_bytes : (c : List ℕ) → length (bytes c) ≡ 0 → c ≡ []
-no_bytes [] e = refl
-no_bytes (p ∷ c) e = absurd (omega (arith, length-encoding_bounds p, length-append (encoding p) (bytes c)))
+pub nil_from_bytes : (c : List ℕ) → length (bytes c) ≡ 0 → c ≡ []
+nil_from_bytes [] e = refl
+nil_from_bytes (p ∷ c) e = absurd (omega (arith, length-encoding_bounds p, length-append (encoding p) (bytes c)))
 
-pub no_points : {w : List ℕ} (h : IsWellFormed w) → length w ≡ 0 → h.points ≡ []
-no_points h e = no_bytes h.points (ap length h.encoded ∙ e)
+pub points-nil : {w : List ℕ} (h : IsWellFormed w) → length w ≡ 0 → h.points ≡ []
+points-nil h e = nil_from_bytes h.points (ap length h.encoded ∙ e)
 
 -- the empty list, and bytes equal to well-formed ones, are well-formed
-abbrev pub empty_at : {w : List ℕ} → w ≡ [] → IsWellFormed w
-empty_at e = record { points = []; clean = tt; encoded = sym e }
+abbrev pub IsWellFormed-nil : {w : List ℕ} → w ≡ [] → IsWellFormed w
+IsWellFormed-nil e = record { points = []; clean = tt; encoded = sym e }
 
-abbrev pub moved : {v w : List ℕ} → IsWellFormed v → w ≡ v → IsWellFormed w
-moved h e = record { points = h.points; clean = h.clean; encoded = h.encoded ∙ sym e }
+abbrev pub IsWellFormed-equal_bytes : {v w : List ℕ} → IsWellFormed v → w ≡ v → IsWellFormed w
+IsWellFormed-equal_bytes h e = record { points = h.points; clean = h.clean; encoded = h.encoded ∙ sym e }
 
 -- the well-formed bytes from `at` on, without their first code point `p`
-pub record Taken (v : List ℕ) (at : ℕ) (h : IsWellFormed (drop at v)) (p behind : ℕ) : Type 0 where
-  pub within : behind ≤ length v
-  pub rest : IsWellFormed (drop behind v)
+pub record Taken (v : List ℕ) (at : ℕ) (h : IsWellFormed (drop at v)) (p next : ℕ) : Type 0 where
+  pub within : next ≤ length v
+  pub rest : IsWellFormed (drop next v)
   pub joined : h.points ≡ p ∷ rest.points
 
 -- the first code point of nonempty bytes, and the rest
@@ -253,14 +253,14 @@ first_of {w} h n = by h.points h.clean h.encoded
           },
         )
 
-pub Taken-from_first : (v : List ℕ) (at : ℕ) (h : IsWellFormed (drop at v)) (p behind : ℕ) → at < length v
-    → ((b : BeginsWithPoint (drop at v)) → (p ≡ b.point) × (behind ≡ at + length (encoding b.point))) → Taken v at h p behind
-Taken-from_first v at h p behind long read =
+pub Taken-from_first : (v : List ℕ) (at : ℕ) (h : IsWellFormed (drop at v)) (p next : ℕ) → at < length v
+    → ((b : BeginsWithPoint (drop at v)) → (p ≡ b.point) × (next ≡ at + length (encoding b.point))) → Taken v at h p next
+Taken-from_first v at h p next long read =
     let f = first_of h (omega (arith, length-drop at v)) in
     let was = read f.0 in
-    let back : drop behind v ≡ drop (length (encoding f.0.point)) (drop at v) = ap (λ k. drop k v) was.1 ∙ sym (drop-drop (length (encoding f.0.point)) at v) in
+    let back : drop next v ≡ drop (length (encoding f.0.point)) (drop at v) = ap (λ k. drop k v) was.1 ∙ sym (drop-drop (length (encoding f.0.point)) at v) in
     record {
       within = omega (arith, was.1, f.1.within, length-drop at v, long);
-      rest = moved f.1.rest back;
+      rest = IsWellFormed-equal_bytes f.1.rest back;
       joined = f.1.joined ∙ ap (λ q. q ∷ f.1.rest.points) (sym was.0);
     }

@@ -5,7 +5,7 @@ use Rattle.wtf8.proofs.Common.{IsTrue, nat_eq, pointwise, bytes_decides, units, 
 use Rattle.wtf8.proofs.Common.{units_of, IsMismatch, SupplementaryBegins, true, false, ◌⊎◌, length, take, length-append, append_assoc, false≢true}
 use Rattle.wtf8.proofs.Common.{take-append-drop, slice_get, option_cmp, NoneIn, IsLeast, min, slice_get-get_or, DifferAt, true≢false, ordering_reverse}
 use Rattle.wtf8.proofs.lemmas.lanes.Mismatch.{take-before_mismatch}
-use Rattle.std.proofs.lemmas.Cmp.{nat_list_cmp_total}
+use Rattle.std.proofs.lemmas.Cmp.{nat_cmp_total, nat_list_cmp_total, tied_itself}
 use Rattle.std.specs.Bool.{beq}
 use Rattle.std.specs.Ordering.{is_ge, is_gt, is_le, is_lt}
 use Rattle.wtf8.proofs.lemmas.codec.Encoding.{encoding_cases, one, two, three, four, encoding_same, length-encoding_bounds}
@@ -20,37 +20,29 @@ cmp_less x y h = grind (arith, nat_tests)
 pub cmp_greater : (x y : ℕ) → y < x → nat_cmp x y ≡ Greater
 cmp_greater x y h = grind (arith, nat_tests)
 
-pub cmp_same : (x : ℕ) → nat_cmp x x ≡ Equal
-cmp_same x = grind (arith, nat_tests)
-
 -- the list that is before the other compares as less
-pub less_of : (c d : List ℕ) → Before c d → slice_cmp nat_cmp c d ≡ Less
-less_of [] [] h = absurd h
-less_of [] (y ∷ ys) h = refl
-less_of (x ∷ xs) [] h = absurd h
-less_of (x ∷ xs) (y ∷ ys) h = elim h [
+pub slice_cmp-less : (c d : List ℕ) → Before c d → slice_cmp nat_cmp c d ≡ Less
+slice_cmp-less [] [] h = absurd h
+slice_cmp-less [] (y ∷ ys) h = refl
+slice_cmp-less (x ∷ xs) [] h = absurd h
+slice_cmp-less (x ∷ xs) (y ∷ ys) h = elim h [
   | inl l ↦ ap (λ o. ordering_then o (slice_cmp nat_cmp xs ys)) (cmp_less x y l)
-  | inr e ↦ rw (← e.0, cmp_same x) (less_of xs ys e.1)
+  | inr e ↦ rw (← e.0, tied_itself nat_cmp_total x) (slice_cmp-less xs ys e.1)
 ]
 
-pub greater_of : (c d : List ℕ) → Before d c → slice_cmp nat_cmp c d ≡ Greater
-greater_of c d h = nat_list_cmp_total.antisymm c d ∙ ap ordering_reverse (less_of d c h)
+pub slice_cmp-greater : (c d : List ℕ) → Before d c → slice_cmp nat_cmp c d ≡ Greater
+slice_cmp-greater c d h = nat_list_cmp_total.antisymm c d ∙ ap ordering_reverse (slice_cmp-less d c h)
 
 -- a common front does not affect a comparison
 pub cmp-append_left : (f c d : List ℕ) → slice_cmp nat_cmp (f ++ c) (f ++ d) ≡ slice_cmp nat_cmp c d
 cmp-append_left [] c d = refl
-cmp-append_left (x ∷ f) c d = ap (λ o. ordering_then o (slice_cmp nat_cmp (f ++ c) (f ++ d))) (cmp_same x) ∙ cmp-append_left f c d
+cmp-append_left (x ∷ f) c d = ap (λ o. ordering_then o (slice_cmp nat_cmp (f ++ c) (f ++ d))) (tied_itself nat_cmp_total x) ∙ cmp-append_left f c d
 
--- a list compares as `Equal` with itself
-pub cmp_self : (c : List ℕ) → slice_cmp nat_cmp c c ≡ Equal
-cmp_self [] = refl
-cmp_self (x ∷ c) = cmp-append_left (x ∷ []) c c ∙ cmp_self c
-
-with_first : (x y : ℕ) (xs ys : List ℕ) → x ≡ y → (o : Ordering) → MatchOrdering o (Before xs ys) (xs ≡ ys) (Before ys xs)
+MatchOrdering-cons : (x y : ℕ) (xs ys : List ℕ) → x ≡ y → (o : Ordering) → MatchOrdering o (Before xs ys) (xs ≡ ys) (Before ys xs)
     → MatchOrdering o (Before (x ∷ xs) (y ∷ ys)) (x ∷ xs ≡ y ∷ ys) (Before (y ∷ ys) (x ∷ xs))
-with_first x y xs ys e Less h = inr (e, h)
-with_first x y xs ys e Equal h = ap (λ z. z ∷ xs) e ∙ ap (λ zs. y ∷ zs) h
-with_first x y xs ys e Greater h = inr (sym e, h)
+MatchOrdering-cons x y xs ys e Less h = inr (e, h)
+MatchOrdering-cons x y xs ys e Equal h = ap (λ z. z ∷ xs) e ∙ ap (λ zs. y ∷ zs) h
+MatchOrdering-cons x y xs ys e Greater h = inr (sym e, h)
 
 -- a comparison decides which list is before the other
 pub order_of : (c d : List ℕ) → MatchOrdering (slice_cmp nat_cmp c d) (Before c d) (c ≡ d) (Before d c)
@@ -58,7 +50,7 @@ order_of [] [] = refl
 order_of [] (y ∷ ys) = tt
 order_of (x ∷ xs) [] = tt
 order_of (x ∷ xs) (y ∷ ys) = elim (cases_order x y) [
-  | inl same ↦ rw (same, cmp_same y) (with_first y y xs ys refl (slice_cmp nat_cmp xs ys) (order_of xs ys))
+  | inl same ↦ rw (same, tied_itself nat_cmp_total y) (MatchOrdering-cons y y xs ys refl (slice_cmp nat_cmp xs ys) (order_of xs ys))
   | inr (inl l) ↦ rw (cmp_less x y l) (inl l)
   | inr (inr l) ↦ rw (cmp_greater x y l) (inl l)
 ]
@@ -69,29 +61,29 @@ order_of_result o c d e =
     let P : Ordering → Type 0 = λ p. MatchOrdering p (Before c d) (c ≡ d) (Before d c) in
     subst P (sym e) (order_of c d)
 
-pub before_of : (c d : List ℕ) → slice_cmp nat_cmp c d ≡ Less → Before c d
-before_of c d e = order_of_result Less c d (sym e)
+pub Before-from_less : (c d : List ℕ) → slice_cmp nat_cmp c d ≡ Less → Before c d
+Before-from_less c d e = order_of_result Less c d (sym e)
 
 -- what the four tests of a comparison's result say
 pub less_test : (o : Ordering) (c d : List ℕ) → o ≡ slice_cmp nat_cmp c d → IsTrue (is_lt o) ↔ Before c d
 less_test Less c d e = (λ _. order_of_result Less c d e, λ _. refl)
-less_test Equal c d e = (λ t. absurd (false≢true t), λ h. absurd (false≢true (ap is_lt (e ∙ less_of c d h))))
-less_test Greater c d e = (λ t. absurd (false≢true t), λ h. absurd (false≢true (ap is_lt (e ∙ less_of c d h))))
+less_test Equal c d e = (λ t. absurd (false≢true t), λ h. absurd (false≢true (ap is_lt (e ∙ slice_cmp-less c d h))))
+less_test Greater c d e = (λ t. absurd (false≢true t), λ h. absurd (false≢true (ap is_lt (e ∙ slice_cmp-less c d h))))
 
 pub greater_test : (o : Ordering) (c d : List ℕ) → o ≡ slice_cmp nat_cmp c d → IsTrue (is_gt o) ↔ Before d c
-greater_test Less c d e = (λ t. absurd (false≢true t), λ h. absurd (false≢true (ap is_gt (e ∙ greater_of c d h))))
-greater_test Equal c d e = (λ t. absurd (false≢true t), λ h. absurd (false≢true (ap is_gt (e ∙ greater_of c d h))))
+greater_test Less c d e = (λ t. absurd (false≢true t), λ h. absurd (false≢true (ap is_gt (e ∙ slice_cmp-greater c d h))))
+greater_test Equal c d e = (λ t. absurd (false≢true t), λ h. absurd (false≢true (ap is_gt (e ∙ slice_cmp-greater c d h))))
 greater_test Greater c d e = (λ _. order_of_result Greater c d e, λ _. refl)
 
 pub at_most_test : (o : Ordering) (c d : List ℕ) → o ≡ slice_cmp nat_cmp c d → IsTrue (is_le o) ↔ ¬ (Before d c)
-at_most_test Less c d e = (λ _ h. false≢true (ap is_gt (e ∙ greater_of c d h)), λ _. refl)
-at_most_test Equal c d e = (λ _ h. false≢true (ap is_gt (e ∙ greater_of c d h)), λ _. refl)
+at_most_test Less c d e = (λ _ h. false≢true (ap is_gt (e ∙ slice_cmp-greater c d h)), λ _. refl)
+at_most_test Equal c d e = (λ _ h. false≢true (ap is_gt (e ∙ slice_cmp-greater c d h)), λ _. refl)
 at_most_test Greater c d e = (λ t. absurd (false≢true t), λ n. absurd (n (order_of_result Greater c d e)))
 
 pub at_least_test : (o : Ordering) (c d : List ℕ) → o ≡ slice_cmp nat_cmp c d → IsTrue (is_ge o) ↔ ¬ (Before c d)
 at_least_test Less c d e = (λ t. absurd (false≢true t), λ n. absurd (n (order_of_result Less c d e)))
-at_least_test Equal c d e = (λ _ h. false≢true (ap is_lt (e ∙ less_of c d h)), λ _. refl)
-at_least_test Greater c d e = (λ _ h. false≢true (ap is_lt (e ∙ less_of c d h)), λ _. refl)
+at_least_test Equal c d e = (λ _ h. false≢true (ap is_lt (e ∙ slice_cmp-less c d h)), λ _. refl)
+at_least_test Greater c d e = (λ _ h. false≢true (ap is_lt (e ∙ slice_cmp-less c d h)), λ _. refl)
 
 -- Encodings compare byte by byte as their code points compare.
 
@@ -104,24 +96,24 @@ before_encoding p q r s l = elim (encoding_cases p) [
   | four m e ↦ elim (encoding_cases q) [ one k f ↦ absurd (omega arith) | two _ k f ↦ absurd (omega arith) | three _ k f ↦ absurd (omega arith) | four k f ↦ rw (e, f) (grind arith) ]
 ]
 
-empty_before : (q : ℕ) (s : List ℕ) → Before [] (encoding q ++ s)
-empty_before q s = elim (encoding_cases q) [ one _ f ↦ rw f tt | two _ _ f ↦ rw f tt | three _ _ f ↦ rw f tt | four _ f ↦ rw f tt ]
+Before-nil_encoding : (q : ℕ) (s : List ℕ) → Before [] (encoding q ++ s)
+Before-nil_encoding q s = elim (encoding_cases q) [ one _ f ↦ rw f tt | two _ _ f ↦ rw f tt | three _ _ f ↦ rw f tt | four _ f ↦ rw f tt ]
 
 -- bytes compare as code points
 pub cmp-bytes : (c d : List ℕ) → slice_cmp nat_cmp (bytes c) (bytes d) ≡ slice_cmp nat_cmp c d
 cmp-bytes [] [] = refl
-cmp-bytes [] (q ∷ d) = less_of [] (bytes (q ∷ d)) (empty_before q (bytes d))
-cmp-bytes (p ∷ c) [] = greater_of (bytes (p ∷ c)) [] (empty_before p (bytes c))
+cmp-bytes [] (q ∷ d) = slice_cmp-less [] (bytes (q ∷ d)) (Before-nil_encoding q (bytes d))
+cmp-bytes (p ∷ c) [] = slice_cmp-greater (bytes (p ∷ c)) [] (Before-nil_encoding p (bytes c))
 cmp-bytes (p ∷ c) (q ∷ d) = elim (cases_order p q) [
   | inl same ↦ rw (← same) (cmp-append_left (encoding p) (bytes c) (bytes d) ∙ cmp-bytes c d ∙ sym (cmp-append_left (p ∷ []) c d))
-  | inr (inl l) ↦ less_of (bytes (p ∷ c)) (bytes (q ∷ d)) (before_encoding p q (bytes c) (bytes d) l) ∙ sym (less_of (p ∷ c) (q ∷ d) (inl l))
-  | inr (inr l) ↦ greater_of (bytes (p ∷ c)) (bytes (q ∷ d)) (before_encoding q p (bytes d) (bytes c) l) ∙ sym (greater_of (p ∷ c) (q ∷ d) (inl l))
+  | inr (inl l) ↦ slice_cmp-less (bytes (p ∷ c)) (bytes (q ∷ d)) (before_encoding p q (bytes c) (bytes d) l) ∙ sym (slice_cmp-less (p ∷ c) (q ∷ d) (inl l))
+  | inr (inr l) ↦ slice_cmp-greater (bytes (p ∷ c)) (bytes (q ∷ d)) (before_encoding q p (bytes d) (bytes c) l) ∙ sym (slice_cmp-greater (p ∷ c) (q ∷ d) (inl l))
 ]
 
 -- one encoding is before another exactly if its code points are
 pub before_bytes : (c d : List ℕ) → Before (bytes c) (bytes d) ↔ Before c d
 before_bytes c d =
-    (λ h. before_of c d (sym (cmp-bytes c d) ∙ less_of (bytes c) (bytes d) h), λ h. before_of (bytes c) (bytes d) (cmp-bytes c d ∙ less_of c d h))
+    (λ h. Before-from_less c d (sym (cmp-bytes c d) ∙ slice_cmp-less (bytes c) (bytes d) h), λ h. Before-from_less (bytes c) (bytes d) (cmp-bytes c d ∙ slice_cmp-less c d h))
 
 -- Strings compared by their bytes: the code points and units.
 
@@ -173,8 +165,8 @@ SameSideOfF0-cancel_left [] w v h = h
 SameSideOfF0-cancel_left (x ∷ f) w v h = SameSideOfF0-cancel_left f w v (h.0 refl)
 
 -- a lead byte is below F0 exactly if its code point is one unit
-first_byte : (p : ℕ) (r : List ℕ) → (0 < length (encoding p ++ r)) × ((p < 0x10000) ↔ (get_or (encoding p ++ r) 0 0 < 0xF0))
-first_byte p r = elim (encoding_cases p) [
+lead_byte-below_F0 : (p : ℕ) (r : List ℕ) → (0 < length (encoding p ++ r)) × ((p < 0x10000) ↔ (get_or (encoding p ++ r) 0 0 < 0xF0))
+lead_byte-below_F0 p r = elim (encoding_cases p) [
   | one h e ↦ rw e (omega arith, (λ _. omega arith, λ _. omega arith))
   | two l h e ↦ rw e (omega arith, (λ _. omega arith, λ _. omega arith))
   | three l h e ↦ rw e (omega arith, (λ _. omega arith, λ _. omega arith))
@@ -188,27 +180,27 @@ SameSideOfF0-first (x ∷ w) (y ∷ v) m n h = elim (cases_order x y) [ inl e �
 
 SameSideOfF0-encoding : (p q : ℕ) (r s : List ℕ) → SameSideOfF0 (encoding p ++ r) (encoding q ++ s) → BothBelow 0x10000 p q
 SameSideOfF0-encoding p q r s h =
-    let x = first_byte p r in
-    let y = first_byte q s in
+    let x = lead_byte-below_F0 p r in
+    let y = lead_byte-below_F0 q s in
     let both = SameSideOfF0-first _ _ x.0 y.0 h in
     (λ k. y.1.1 (both.0 (x.1.0 k)), λ k. x.1.1 (both.1 (y.1.0 k)))
 
-nothing_before : (q : ℕ) (d : List ℕ) → Before [] (units (q ∷ d))
-nothing_before q d = elim (cases_lt q 0x10000) [ inl h ↦ rw (units-cons_one q d h) tt | inr h ↦ rw (units-cons_two q d h) tt ]
+Before-nil_units : (q : ℕ) (d : List ℕ) → Before [] (units (q ∷ d))
+Before-nil_units q d = elim (cases_lt q 0x10000) [ inl h ↦ rw (units-cons_one q d h) tt | inr h ↦ rw (units-cons_two q d h) tt ]
 
 -- code points compare as units if their bytes satisfy `SameSideOfF0`
 pub points_as_units : (c d : List ℕ) → SameSideOfF0 (bytes c) (bytes d) → slice_cmp nat_cmp c d ≡ slice_cmp nat_cmp (units c) (units d)
 points_as_units [] [] h = refl
-points_as_units [] (q ∷ d) h = sym (less_of [] (units (q ∷ d)) (nothing_before q d))
-points_as_units (p ∷ c) [] h = sym (greater_of (units (p ∷ c)) [] (nothing_before p c))
+points_as_units [] (q ∷ d) h = sym (slice_cmp-less [] (units (q ∷ d)) (Before-nil_units q d))
+points_as_units (p ∷ c) [] h = sym (slice_cmp-greater (units (p ∷ c)) [] (Before-nil_units p c))
 points_as_units (p ∷ c) (q ∷ d) h =
     let row = SameSideOfF0-encoding p q (bytes c) (bytes d) h in
     elim (cases_order q p) [
       | inl same ↦
           let rest = points_as_units c d (SameSideOfF0-cancel_left (encoding p) (bytes c) (bytes d) (rw same at h)) in
           rw same (cmp-append_left (p ∷ []) c d ∙ rest ∙ sym (cmp-append_left (units_of p) (units c) (units d)))
-      | inr (inl l) ↦ greater_of (p ∷ c) (q ∷ d) (inl l) ∙ sym (greater_of (units (p ∷ c)) (units (q ∷ d)) (before_units q p d c l (row.1, row.0)))
-      | inr (inr l) ↦ less_of (p ∷ c) (q ∷ d) (inl l) ∙ sym (less_of (units (p ∷ c)) (units (q ∷ d)) (before_units p q c d l row))
+      | inr (inl l) ↦ slice_cmp-greater (p ∷ c) (q ∷ d) (inl l) ∙ sym (slice_cmp-greater (units (p ∷ c)) (units (q ∷ d)) (before_units q p d c l (row.1, row.0)))
+      | inr (inr l) ↦ slice_cmp-less (p ∷ c) (q ∷ d) (inl l) ∙ sym (slice_cmp-less (units (p ∷ c)) (units (q ∷ d)) (before_units p q c d l row))
     ]
 
 -- without their equal first items, lists first differ one index earlier
@@ -251,8 +243,8 @@ order_at_mismatch (x ∷ w) [] zero d = refl
 order_at_mismatch (x ∷ w) [] (suc n) d = absurd (omega (arith, d.within_second))
 order_at_mismatch (x ∷ w) (y ∷ v) zero d = elim (cases_order x y) [
   | inl e ↦ absurd (d.differ_there (omega arith) (omega arith) e)
-  | inr (inl l) ↦ cmp_less x y l ∙ sym (less_of (x ∷ w) (y ∷ v) (inl l))
-  | inr (inr l) ↦ cmp_greater x y l ∙ sym (greater_of (x ∷ w) (y ∷ v) (inl l))
+  | inr (inl l) ↦ cmp_less x y l ∙ sym (slice_cmp-less (x ∷ w) (y ∷ v) (inl l))
+  | inr (inr l) ↦ cmp_greater x y l ∙ sym (slice_cmp-greater (x ∷ w) (y ∷ v) (inl l))
 ]
 order_at_mismatch (x ∷ w) (y ∷ v) (suc n) d =
     let same : y ≡ x = sym (ap (λ u. get_or u 0 0) d.same_before) in
@@ -260,7 +252,7 @@ order_at_mismatch (x ∷ w) (y ∷ v) (suc n) d =
 
 -- lists that are equal up to the length of the shorter compare as their lengths
 pub order_of_lengths : (w v : List ℕ) → NoneIn (DifferAt w v) 0 (min (length w) (length v)) → nat_cmp (length w) (length v) ≡ slice_cmp nat_cmp w v
-order_of_lengths [] [] h = cmp_same 0
+order_of_lengths [] [] h = tied_itself nat_cmp_total 0
 order_of_lengths [] (y ∷ v) h = cmp_less 0 (length (y ∷ v)) (omega arith)
 order_of_lengths (x ∷ w) [] h = cmp_greater (length (x ∷ w)) 0 (omega arith)
 order_of_lengths (x ∷ w) (y ∷ v) h = elim (cases_order x y) [
@@ -286,17 +278,17 @@ order_at w v at h =
     rw (slice_get-get_or w at 0 own, slice_get-get_or v at 0 others) at (order_at_mismatch w v at d)
 
 -- if the bytes of `d` begin with the bytes of `front`, its code points begin with `front`
-record Continues (front d rest : List ℕ) : Type 0 where
+record BeginsWithFront (front d rest : List ℕ) : Type 0 where
   points : List ℕ
   joined : d ≡ front ++ points
   encoded : bytes points ≡ rest
 
-Continues-from_bytes : (front d rest : List ℕ) → bytes d ≡ bytes front ++ rest → Continues front d rest
-Continues-from_bytes [] d rest e = record { points = d; joined = refl; encoded = e }
-Continues-from_bytes (p ∷ front) [] rest e = absurd (omega (arith, simp length-append at (ap length e), length-encoding_bounds p))
-Continues-from_bytes (p ∷ front) (q ∷ d) rest e =
+BeginsWithFront-from_bytes : (front d rest : List ℕ) → bytes d ≡ bytes front ++ rest → BeginsWithFront front d rest
+BeginsWithFront-from_bytes [] d rest e = record { points = d; joined = refl; encoded = e }
+BeginsWithFront-from_bytes (p ∷ front) [] rest e = absurd (omega (arith, simp length-append at (ap length e), length-encoding_bounds p))
+BeginsWithFront-from_bytes (p ∷ front) (q ∷ d) rest e =
     let heads = encoding_same q p (bytes d) (bytes front ++ rest) (e ∙ append_assoc (encoding p) (bytes front) rest) in
-    let more = Continues-from_bytes front d rest heads.1 in
+    let more = BeginsWithFront-from_bytes front d rest heads.1 in
     record { points = more.points; joined = ap (λ k. k ∷ d) heads.0 ∙ ap (λ c. p ∷ c) more.joined; encoded = more.encoded }
 
 -- the common front of two strings up to a boundary, and the rest of each
@@ -312,7 +304,7 @@ common_front_at_lead_byte : {w v : List ℕ} (h : IsWellFormed w) (k : IsWellFor
 common_front_at_lead_byte {w} {v} h k at same pair =
     let cut = cut_at h at (boundary_from_byte h at (omega (arith, pair.0)) (λ _. record { start = inr (omega (arith, pair.1)) })) in
     let front : bytes cut.front ≡ take at v = ap bytes (sym cut.before_points) ∙ (cut.before.encoded ∙ same) in
-    let more = Continues-from_bytes cut.front k.points (drop at v) (k.encoded ∙ (sym (take-append-drop at v) ∙ ap (λ f. f ++ drop at v) (sym front))) in
+    let more = BeginsWithFront-from_bytes cut.front k.points (drop at v) (k.encoded ∙ (sym (take-append-drop at v) ∙ ap (λ f. f ++ drop at v) (sym front))) in
     record { front = cut.front; own = cut.back; others = more.points; own_joined = cut.points; others_joined = more.joined; front_len = cut.splits.front_len }
 
 CommonFront-swap : {c d : List ℕ} {at : ℕ} → CommonFront c d at → CommonFront d c at
@@ -329,20 +321,20 @@ rests_order h k at p i j e f =
     cc (p.others_joined, units-append p.front p.others, points_after k j p.front p.others at p.others_joined p.front_len f) in
     cc (own, others, cmp-append_left (units p.front) (units i.points) (units j.points))
 
-pub both_or_neither : {P Q : Type 0} (a b : Bool) → IsTrue a ↔ P → IsTrue b ↔ Q → beq a b ≡ true → P ↔ Q
-both_or_neither true true p q e = (λ _. q.0 refl, λ _. p.0 refl)
-both_or_neither false false p q e = (λ h. absurd (false≢true (p.1 h)), λ h. absurd (false≢true (q.1 h)))
-both_or_neither _ _ p q e = absurd (grind arith)
+pub iff_from_equal : {P Q : Type 0} (a b : Bool) → IsTrue a ↔ P → IsTrue b ↔ Q → beq a b ≡ true → P ↔ Q
+iff_from_equal true true p q e = (λ _. q.0 refl, λ _. p.0 refl)
+iff_from_equal false false p q e = (λ h. absurd (false≢true (p.1 h)), λ h. absurd (false≢true (q.1 h)))
+iff_from_equal _ _ p q e = absurd (grind arith)
 
-one_of_both : {P Q : Type 0} (a b : Bool) → IsTrue a ↔ P → IsTrue b ↔ Q → beq a b ≡ false → P ⊎ Q
-one_of_both true b p q e = inl (p.0 refl)
-one_of_both false true p q e = inr (q.0 refl)
-one_of_both false false p q e = absurd (true≢false e)
+either_from_unequal : {P Q : Type 0} (a b : Bool) → IsTrue a ↔ P → IsTrue b ↔ Q → beq a b ≡ false → P ⊎ Q
+either_from_unequal true b p q e = inl (p.0 refl)
+either_from_unequal false true p q e = inr (q.0 refl)
+either_from_unequal false false p q e = absurd (true≢false e)
 
 -- if a code point of two units begins at the first difference in exactly one string, that is a boundary of both
 pub common_front_at_mismatch : {w v : List ℕ} (h : IsWellFormed w) (k : IsWellFormed v) (at : ℕ) → IsMismatch w v at → (a b : Bool) → IsTrue a ↔ SupplementaryBegins w at
     → IsTrue b ↔ SupplementaryBegins v at → beq a b ≡ false → CommonFront h.points k.points at
-common_front_at_mismatch h k at d a b p q e = elim (one_of_both a b p q e) [ inl l ↦ common_front_at_lead_byte h k at d.same_before l | inr l ↦ CommonFront-swap (common_front_at_lead_byte k h at (sym d.same_before) l) ]
+common_front_at_mismatch h k at d a b p q e = elim (either_from_unequal a b p q e) [ inl l ↦ common_front_at_lead_byte h k at d.same_before l | inr l ↦ CommonFront-swap (common_front_at_lead_byte k h at (sym d.same_before) l) ]
 
 -- if one begins there in both strings or in neither, the bytes at the first difference compare as the units
 pub bytes_order : {w v : List ℕ} (h : IsWellFormed w) (k : IsWellFormed v) (at : ℕ) → IsMismatch w v at → SupplementaryBegins w at ↔ SupplementaryBegins v at

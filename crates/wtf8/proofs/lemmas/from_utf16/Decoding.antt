@@ -1,9 +1,9 @@
 -- The items of a decoder are a reading of its iterator's units.
 use Rattle.wtf8.proofs.Common.{◌≡◌, ◌+◌, ◌-◌, ◌<◌, length, take, drop, get_or, append-nil, Reads, inl, inr, ℕ, List, [], ◌∷◌, ◌++◌, Option, None, Some, Result, Ok, Err, refl, sym, ap, ◌∙◌, subst, arith}
-use Rattle.wtf8.proofs.Common.{Drains, peekable_steps, peekable_peeked, point_of, points_of, units_left, decode_steps, ReadsAll, IsClean}
+use Rattle.wtf8.proofs.Common.{Drains, peekable_steps, peekable_peeked, point_of_item, points_of_items, units_left, decode_steps, ReadsAll, IsClean}
 use Rattle.wtf8.proofs.Common.{IsCodePoint, IsLead, IsTrail, IsSurrogate, MatchResult, units, pair}
 use Rattle.std.proofs.Common.{MatchOption}
-use Rattle.std.proofs.lemmas.List.{drop_more}
+use Rattle.std.proofs.lemmas.List.{drop_more, nil_from_length}
 use Rattle.std.specs.Iterator.{Yields}
 use Rattle.std.specs.Iterator.Adapters.{peekable_source, PeekedOrNext, PeeksNext, copied_source}
 use Rattle.std.specs.declared.iter.Copied.{Copied}
@@ -19,7 +19,7 @@ use Rattle.wtf8.specs.private.ConvertedPrefix.{IsReadTo}
 use Rattle.wtf8.proofs.lemmas.codec.Encoding.{bytes-append}
 use Rattle.wtf8.proofs.lemmas.strings.ExtendedForms.{scalar-append}
 use Rattle.wtf8.proofs.lemmas.from_utf16.Transcode.{IsKnownForm-append, DividesNoPair-after_no_lead}
-use Rattle.wtf8.proofs.lemmas.codec.Readings.{units_one, units_pair, no_lead, nothing_begins, no_trail as no_trail_unpaired}
+use Rattle.wtf8.proofs.lemmas.codec.Readings.{units_one, units_pair, unpaired-after_no_lead, unpaired-nil_right, unpaired-before_no_trail}
 use Rattle.wtf8.proofs.Common.{suc, ◌≤◌, ◌/◌, ◌%◌, cases_lt, lt-ltb, le-ltb, append_assoc, length-append, length-drop, drop-drop, take-add, take_all, DividesNoPair, MeetsAsPair, copied_steps, iter_steps, iter_rest}
 use Rattle.std.proofs.Math.Seq.{take-append_seam, drop-append_seam}
 use Rattle.std.specs.Prelude.{◌⊎◌}
@@ -37,45 +37,45 @@ module _ {S A : Type 0} (steps : S → Option A → S → Type 0) where
       (r.0, (r.1.0, (y.0, y.1, r.1.1), r.1.2))
 
 module _ {S : Type 0} (steps : S → Option ℕ → S → Type 0) where
-  answer_of : (p : Option (Option ℕ)) (a b c : S) (r o : Option ℕ) → MatchOption p (steps a o b) (λ k. (o ≡ k) × (b ≡ a)) → r ≡ o → c ≡ b
+  MatchOption-equal_step : (p : Option (Option ℕ)) (a b c : S) (r o : Option ℕ) → MatchOption p (steps a o b) (λ k. (o ≡ k) × (b ≡ a)) → r ≡ o → c ≡ b
       → MatchOption p (steps a r c) (λ k. (r ≡ k) × (c ≡ a))
-  answer_of None a b c r o h e f = subst (λ k. steps a k c) (sym e) (subst (λ k. steps a o k) (sym f) h)
-  answer_of (Some k) a b c r o h e f = (e ∙ h.0, f ∙ h.1)
+  MatchOption-equal_step None a b c r o h e f = subst (λ k. steps a k c) (sym e) (subst (λ k. steps a o k) (sym f) h)
+  MatchOption-equal_step (Some k) a b c r o h e f = (e ∙ h.0, f ∙ h.1)
 
   -- a call after a peek yields what it would have yielded before
   peeked_call : (s t u : Ahead S ℕ) (r : Option ℕ) → PeeksNext steps s t → peekable_steps steps t r u → peekable_steps steps s r u
   peeked_call s t u r h k =
       let same = subst (λ p. MatchOption p (steps (peekable_source t) r (peekable_source u))
       (λ o. (r ≡ o) × (peekable_source u ≡ peekable_source t))) h.2 k.1 in
-      (k.0, answer_of (peekable_peeked s) (peekable_source s) (peekable_source t) (peekable_source u) r h.0 h.1 same.0 same.1)
+      (k.0, MatchOption-equal_step (peekable_peeked s) (peekable_source s) (peekable_source t) (peekable_source u) r h.0 h.1 same.0 same.1)
 
-  bare_call : (s t : Ahead S ℕ) (r : Option ℕ) → peekable_peeked s ≡ None → PeekedOrNext steps s r t → steps (peekable_source s) r (peekable_source t)
-  bare_call s t r e k = subst (λ p. MatchOption p (steps (peekable_source s) r (peekable_source t))
+  unpeeked_call : (s t : Ahead S ℕ) (r : Option ℕ) → peekable_peeked s ≡ None → PeekedOrNext steps s r t → steps (peekable_source s) r (peekable_source t)
+  unpeeked_call s t r e k = subst (λ p. MatchOption p (steps (peekable_source s) r (peekable_source t))
       (λ o. (r ≡ o) × (peekable_source t ≡ peekable_source s))) e k
 
   -- if nothing is peeked, the units come from the source
   drains_source : (s : Ahead S ℕ) (xs : List ℕ) → peekable_peeked s ≡ None → Drains (peekable_steps steps) s xs → Drains steps (peekable_source s) xs
   drains_source s [] e d = (
     peekable_source d.0,
-    (peekable_source s, refl, bare_call s d.0 None e (subst (λ k. peekable_steps steps k None d.0) (sym d.1.1) d.1.2).1),
+    (peekable_source s, refl, unpeeked_call s d.0 None e (subst (λ k. peekable_steps steps k None d.0) (sym d.1.1) d.1.2).1),
   )
   drains_source s (x ∷ xs) e d =
       let next = d.1.1.0 in
       let r = drains_source next xs d.1.1.1.0 (d.0, (d.1.0, d.1.1.2, d.1.2)) in
-      (r.0, (r.1.0, (peekable_source next, bare_call s next (Some x) e d.1.1.1.1, r.1.1), r.1.2))
+      (r.0, (r.1.0, (peekable_source next, unpeeked_call s next (Some x) e d.1.1.1.1, r.1.1), r.1.2))
 
-  no_trail : (p : Option (Option ℕ)) (a b : Type 0) (q : ℕ) → IsSomeAnd p (λ o. IfSome o (λ u. ¬ (IsTrail u))) → MatchOption p a (λ o. (Some q ≡ o) × b)
+  yielded_no_trail : (p : Option (Option ℕ)) (a b : Type 0) (q : ℕ) → IsSomeAnd p (λ o. IfSome o (λ u. ¬ (IsTrail u))) → MatchOption p a (λ o. (Some q ≡ o) × b)
       → ¬ (IsTrail q)
-  no_trail None a b q h e = absurd h
-  no_trail (Some o) a b q h e = subst (λ k. IfSome k (λ u. ¬ (IsTrail u))) (sym e.0) h
+  yielded_no_trail None a b q h e = absurd h
+  yielded_no_trail (Some o) a b q h e = subst (λ k. IfSome k (λ u. ¬ (IsTrail u))) (sym e.0) h
 
-  item_range : (x : Result ℕ ℕ) → MatchResult x (λ c. IsCodePoint c × ¬ (IsSurrogate c)) IsSurrogate → IsCodePoint (point_of x)
+  item_range : (x : Result ℕ ℕ) → MatchResult x (λ c. IsCodePoint c × ¬ (IsSurrogate c)) IsSurrogate → IsCodePoint (point_of_item x)
   item_range (Ok c) kind = kind.0
   item_range (Err u) kind = omega (arith, kind)
 
-  clean_first : (p : ℕ) (c : List ℕ) → IsCodePoint p → IsClean c → ((q : ℕ) (d : List ℕ) → c ≡ q ∷ d → ¬ (IsLead p × IsTrail q)) → IsClean (p ∷ c)
-  clean_first p [] range clean apart = range
-  clean_first p (q ∷ c) range clean apart = (range, apart q c refl, clean)
+  clean-cons : (p : ℕ) (c : List ℕ) → IsCodePoint p → IsClean c → ((q : ℕ) (d : List ℕ) → c ≡ q ∷ d → ¬ (IsLead p × IsTrail q)) → IsClean (p ∷ c)
+  clean-cons p [] range clean unpaired = range
+  clean-cons p (q ∷ c) range clean unpaired = (range, unpaired q c refl, clean)
 
   -- if the peeked unit is no trail, the next code point is none
   lone_lead : (s : Ahead S ℕ) (q : ℕ) (d : List ℕ) → IsSomeAnd (peekable_peeked s) (λ o. IfSome o (λ u. ¬ (IsTrail u)))
@@ -83,11 +83,11 @@ module _ {S : Type 0} (steps : S → Option ℕ → S → Type 0) where
   lone_lead s q d lone drains trail =
       let front : units (q ∷ d) ≡ q ∷ units d = ap (λ u. u ++ units d) (units_one q (omega (arith, trail))) in
       let first = subst (λ u. Drains (peekable_steps steps) s u) front drains in
-      no_trail (peekable_peeked s) _ _ q lone first.1.1.1.1 trail
+      yielded_no_trail (peekable_peeked s) _ _ q lone first.1.1.1.1 trail
 
   pub record ReadsLeft (s : Ahead S ℕ) (items : List (Result ℕ ℕ)) : Type 0 where
-    pub clean : IsClean (points_of items)
-    pub all_units : Drains (peekable_steps steps) s (units (points_of items))
+    pub clean : IsClean (points_of_items items)
+    pub all_units : Drains (peekable_steps steps) s (units (points_of_items items))
 
   reads_left : (items : List (Result ℕ ℕ)) (s : DecodeUtf16 S) → Drains (decode_steps steps) s items → ReadsLeft (units_left s) items
   reads_left [] s d = record { clean = tt; all_units = (units_left d.0, (units_left d.1.0, ap units_left d.1.1, d.1.2)) }
@@ -95,22 +95,22 @@ module _ {S : Type 0} (steps : S → Option ℕ → S → Type 0) where
       let next = d.1.1.0 in
       let item : DecodesItem steps (units_left s) x (units_left next) = d.1.1.1 in
       let rest = reads_left items next (d.0, (d.1.0, d.1.1.2, d.1.2)) in
-      let after : Drains (peekable_steps steps) item.after (units (points_of items)) = elim item.held [
-        | inl e ↦ subst (λ k. Drains (peekable_steps steps) k (units (points_of items))) e rest.all_units
-        | inr h ↦ Drains-from_steps (peekable_steps steps) item.after (units_left next) (units (points_of items))
+      let after : Drains (peekable_steps steps) item.after (units (points_of_items items)) = elim item.held [
+        | inl e ↦ subst (λ k. Drains (peekable_steps steps) k (units (points_of_items items))) e rest.all_units
+        | inr h ↦ Drains-from_steps (peekable_steps steps) item.after (units_left next) (units (points_of_items items))
             (λ r u. peeked_call item.after (units_left next) u r h) rest.all_units
       ] in
       record {
-        clean = clean_first (point_of x) (points_of items) (item_range x item.kind) rest.clean (λ q c e pair. lone_lead (units_left next) q c (item.lone pair.0)
+        clean = clean-cons (point_of_item x) (points_of_items items) (item_range x item.kind) rest.clean (λ q c e pair. lone_lead (units_left next) q c (item.lone pair.0)
             (subst (λ v. Drains (peekable_steps steps) (units_left next) (units v)) e rest.all_units) pair.1);
-        all_units = drains-append (peekable_steps steps) (units_left s) item.after (units_of (point_of x)) (units (points_of items)) item.taken after;
+        all_units = drains-append (peekable_steps steps) (units_left s) item.after (units_of (point_of_item x)) (units (points_of_items items)) item.taken after;
       }
 
   pub reads_all : (items : List (Result ℕ ℕ)) (s : DecodeUtf16 S) → peekable_peeked (units_left s) ≡ None → Drains (decode_steps steps) s items
       → ReadsAll steps (peekable_source (units_left s)) items
   reads_all items s e d =
       let r = reads_left items s d in
-      record { clean = r.clean; all_units = drains_source (units_left s) (units (points_of items)) e r.all_units }
+      record { clean = r.clean; all_units = drains_source (units_left s) (units (points_of_items items)) e r.all_units }
 
   -- the units of one item were taken: one unit, or a pair
   pub takes_one : (s t : Ahead S ℕ) (u p : ℕ) → p ≡ u → u < 0x10000 → peekable_steps steps s (Some u) t → Yields (peekable_steps steps) s (units_of p) t
@@ -122,37 +122,33 @@ module _ {S : Type 0} (steps : S → Option ℕ → S → Type 0) where
       (m, h, (t, k, refl))
 
   -- a unit that is no lead is one item
-  pub item_of_unit : (s t : Ahead S ℕ) (u : ℕ) (x : Result ℕ ℕ) → MatchResult x (λ c. IsCodePoint c × ¬ (IsSurrogate c)) IsSurrogate → point_of x ≡ u → u < 0x10000 → ¬ (IsLead u)
+  pub item_of_unit : (s t : Ahead S ℕ) (u : ℕ) (x : Result ℕ ℕ) → MatchResult x (λ c. IsCodePoint c × ¬ (IsSurrogate c)) IsSurrogate → point_of_item x ≡ u → u < 0x10000 → ¬ (IsLead u)
       → peekable_steps steps s (Some u) t → DecodesItem steps s x t
-  item_of_unit s t u x kind point range apart k = record {
+  item_of_unit s t u x kind point range not_lead k = record {
     kind = kind;
     after = t;
-    taken = takes_one s t u (point_of x) point range k;
+    taken = takes_one s t u (point_of_item x) point range k;
     held = inl refl;
-    lone = λ lead. absurd (apart (subst IsLead point lead));
+    lone = λ lead. absurd (not_lead (subst IsLead point lead));
   }
 
 -- the peeked unit is no trail if it failed a test that every trail passes
 pub peeked_no_trail : (p : Option (Option ℕ)) (o : Option ℕ) (Failed : ℕ → Type 0) → p ≡ Some o → IfSome p (λ o. IfSome o Failed)
     → ((u : ℕ) → Failed u → ¬ (IsTrail u)) → IsSomeAnd p (λ o. IfSome o (λ u. ¬ (IsTrail u)))
-peeked_no_trail None o Failed e h apart = absurd cc
-peeked_no_trail (Some None) o Failed e h apart = tt
-peeked_no_trail (Some (Some u)) o Failed e h apart = apart u h
+peeked_no_trail None o Failed e h excludes_trails = absurd cc
+peeked_no_trail (Some None) o Failed e h excludes_trails = tt
+peeked_no_trail (Some (Some u)) o Failed e h excludes_trails = excludes_trails u h
 
 -- The first call of a decoder over a slice.
 
-abbrev Units : Type 0
-Units = Ahead (Copied (Iter ℕ)) ℕ
+abbrev PeekableUnits : Type 0
+PeekableUnits = Ahead (Copied (Iter ℕ)) ℕ
 
 abbrev steps : Copied (Iter ℕ) → Option ℕ → Copied (Iter ℕ) → Type 0
 steps = copied_steps iter_steps
 
-abbrev left : Units → List ℕ
-left s = iter_rest (copied_source (peekable_source s))
-
-empty_from_length : (v : List ℕ) → length v ≡ 0 → v ≡ []
-empty_from_length [] e = refl
-empty_from_length (x ∷ v) e = absurd (omega (arith, e))
+abbrev slice_left : PeekableUnits → List ℕ
+slice_left s = iter_rest (copied_source (peekable_source s))
 
 -- a call yields the first of the units left, and `None` only if none is left
 unit_left : (s t : Copied (Iter ℕ)) (r : Option ℕ) → steps s r t → MatchOption r (iter_rest (copied_source s) ≡ []) (λ x. iter_rest (copied_source s) ≡ x ∷ iter_rest (copied_source t))
@@ -160,98 +156,98 @@ unit_left s t r k = from k.0 k.1 r k.2
   where
     from : (o : Option (Bor ℕ)) → iter_steps (copied_source s) o (copied_source t) → (r : Option ℕ) → r ≡ option_copied o
         → MatchOption r (iter_rest (copied_source s) ≡ []) (λ x. iter_rest (copied_source s) ≡ x ∷ iter_rest (copied_source t))
-    from None k None e = empty_from_length (iter_rest (copied_source s)) k.0
+    from None k None e = nil_from_length (iter_rest (copied_source s)) k.0
     from None k (Some x) e = absurd cc
     from (Some y) k None e = absurd cc
     from (Some y) k (Some x) e = let same : x ≡ y.now = cc in k ∙ ap (λ n. n ∷ iter_rest (copied_source t)) (sym same)
 
-pub left-yields : (us : List ℕ) (s t : Units) → peekable_peeked s ≡ None → Yields (peekable_steps steps) s us t → (left s ≡ us ++ left t) × (peekable_peeked t ≡ None)
-left-yields [] s t n y = (ap left y, ap peekable_peeked (sym y) ∙ n)
-left-yields (x ∷ us) s t n y =
+pub slice_left-yields : (us : List ℕ) (s t : PeekableUnits) → peekable_peeked s ≡ None → Yields (peekable_steps steps) s us t → (slice_left s ≡ us ++ slice_left t) × (peekable_peeked t ≡ None)
+slice_left-yields [] s t n y = (ap slice_left y, ap peekable_peeked (sym y) ∙ n)
+slice_left-yields (x ∷ us) s t n y =
     let m = y.0 in
-    let here = unit_left (peekable_source s) (peekable_source m) (Some x) (bare_call steps s m (Some x) n y.1.1) in
-    let r = left-yields us m t y.1.0 y.2 in
+    let here = unit_left (peekable_source s) (peekable_source m) (Some x) (unpeeked_call steps s m (Some x) n y.1.1) in
+    let r = slice_left-yields us m t y.1.0 y.2 in
     (here ∙ ap (λ w. x ∷ w) r.0, r.1)
 
 -- no trail follows a lone lead
-no_trail_after_lone_lead : (c : List ℕ) (s t : Units) → peekable_peeked s ≡ None → IsSomeAnd (peekable_peeked t) (λ o. IfSome o (λ u. ¬ (IsTrail u))) → (t ≡ s) ⊎ PeeksNext steps s t
-    → ¬ (MeetsAsPair c (left s))
+no_trail_after_lone_lead : (c : List ℕ) (s t : PeekableUnits) → peekable_peeked s ≡ None → IsSomeAnd (peekable_peeked t) (λ o. IfSome o (λ u. ¬ (IsTrail u))) → (t ≡ s) ⊎ PeeksNext steps s t
+    → ¬ (MeetsAsPair c (slice_left s))
 no_trail_after_lone_lead c s t n lone held = elim held [
   | inl e ↦ absurd (subst (λ p. IsSomeAnd p (λ o. IfSome o (λ u. ¬ (IsTrail u)))) (ap peekable_peeked e ∙ n) lone)
-  | inr h ↦ next h.0 (unit_left (peekable_source s) (peekable_source t) h.0 (bare_call steps s t h.0 n h.1)) (subst (λ p. IsSomeAnd p (λ o. IfSome o (λ u. ¬ (IsTrail u)))) h.2 lone)
+  | inr h ↦ next h.0 (unit_left (peekable_source s) (peekable_source t) h.0 (unpeeked_call steps s t h.0 n h.1)) (subst (λ p. IsSomeAnd p (λ o. IfSome o (λ u. ¬ (IsTrail u)))) h.2 lone)
 ]
   where
-    next : (o : Option ℕ) → MatchOption o (left s ≡ []) (λ x. left s ≡ x ∷ left t) → IfSome o (λ u. ¬ (IsTrail u)) → ¬ (MeetsAsPair c (left s))
-    next None e k = subst (λ w. ¬ (MeetsAsPair c w)) (sym e) nothing_begins
-    next (Some x) e k = subst (λ w. ¬ (MeetsAsPair c w)) (sym e) (no_trail_unpaired x (left t) k)
+    next : (o : Option ℕ) → MatchOption o (slice_left s ≡ []) (λ x. slice_left s ≡ x ∷ slice_left t) → IfSome o (λ u. ¬ (IsTrail u)) → ¬ (MeetsAsPair c (slice_left s))
+    next None e k = subst (λ w. ¬ (MeetsAsPair c w)) (sym e) unpaired-nil_right
+    next (Some x) e k = subst (λ w. ¬ (MeetsAsPair c w)) (sym e) (unpaired-before_no_trail x (slice_left t) k)
 
 -- the end of a code point divides no pair, if no trail follows in case it is a lead
 unpaired_after_point : (f w : List ℕ) (p : ℕ) → (IsLead p → ¬ (MeetsAsPair (f ++ units_of p) w)) → ¬ (MeetsAsPair (f ++ units_of p) w)
 unfolding units_of
 unpaired_after_point f w p lone = elim (cases_lt p 0x10000) [
   | inl l ↦ elim (cases_lt p 0xD800) [
-    | inl h ↦ rw (lt-ltb p 0x10000 l) (no_lead f p (λ k. omega (arith, h, k.0)))
-    | inr g ↦ elim (cases_lt p 0xDC00) [ inl h ↦ lone (g, omega (arith, h)) | inr h ↦ rw (lt-ltb p 0x10000 l) (no_lead f p (λ k. omega (arith, h, k.1))) ]
+    | inl h ↦ rw (lt-ltb p 0x10000 l) (unpaired-after_no_lead f p (λ k. omega (arith, h, k.0)))
+    | inr g ↦ elim (cases_lt p 0xDC00) [ inl h ↦ lone (g, omega (arith, h)) | inr h ↦ rw (lt-ltb p 0x10000 l) (unpaired-after_no_lead f p (λ k. omega (arith, h, k.1))) ]
   ]
   | inr g ↦
       let lead = 0xD800 + (p - 0x10000) / 0x400 in
       let trail = 0xDC00 + (p - 0x10000) % 0x400 in
       let split : f ++ units_of p ≡ (f ++ lead ∷ []) ++ trail ∷ [] = rw (le-ltb p 0x10000 g) (sym (append_assoc f (lead ∷ []) (trail ∷ []))) in
-      subst (λ c. ¬ (MeetsAsPair c w)) (sym split) (no_lead (f ++ lead ∷ []) trail (λ k. omega (arith, k.1)))
+      subst (λ c. ¬ (MeetsAsPair c w)) (sym split) (unpaired-after_no_lead (f ++ lead ∷ []) trail (λ k. omega (arith, k.1)))
 ]
 
 -- the number of units of a code point
-pub unit_count : (p n : ℕ) → (p < 0x10000 → n ≡ 1) → (0x10000 ≤ p → n ≡ 2) → n ≡ length (units_of p)
+pub length-units_of : (p n : ℕ) → (p < 0x10000 → n ≡ 1) → (0x10000 ≤ p → n ≡ 2) → n ≡ length (units_of p)
 unfolding units_of
-unit_count p n one two = elim (cases_lt p 0x10000) [ inl l ↦ rw (lt-ltb p 0x10000 l) (one l) | inr g ↦ rw (le-ltb p 0x10000 g) (two g) ]
+length-units_of p n one two = elim (cases_lt p 0x10000) [ inl l ↦ rw (lt-ltb p 0x10000 l) (one l) | inr g ↦ rw (le-ltb p 0x10000 g) (two g) ]
 
 -- the first code point `p` of the units from index `at` on, and the index `end` after its units
 pub record IsFirstRead (v : List ℕ) (at end p : ℕ) : Type 0 where
   pub within : end ≤ length v
-  pub apart : DividesNoPair v end
+  pub divides_no_pair : DividesNoPair v end
   pub reads : Reads (p ∷ []) (take (end - at) (drop at v))
 
 -- a character whose first unit is a surrogate has two units
-pub two_units : (v : List ℕ) (at : ℕ) (s t : Units) (x : Result ℕ ℕ) {p : ℕ} → at < length v → left s ≡ take (length v - at) (drop at v) → peekable_peeked s ≡ None → DecodesItem steps s x t
-    → x ≡ Ok p → IsSurrogate (get_or v at 0) → 2 ≡ length (units_of (point_of x))
-two_units v at s t x here rest none item ok begins = unit_count (point_of x) 2 (λ small. absurd (apart (subst IsSurrogate (same small) begins))) (λ _. refl)
+pub two_units_from_surrogate : (v : List ℕ) (at : ℕ) (s t : PeekableUnits) (x : Result ℕ ℕ) {p : ℕ} → at < length v → slice_left s ≡ take (length v - at) (drop at v) → peekable_peeked s ≡ None → DecodesItem steps s x t
+    → x ≡ Ok p → IsSurrogate (get_or v at 0) → 2 ≡ length (units_of (point_of_item x))
+two_units_from_surrogate v at s t x here rest none item ok begins = length-units_of (point_of_item x) 2 (λ small. absurd (not_surrogate (subst IsSurrogate (same small) begins))) (λ _. refl)
   where
-    apart : ¬ (IsSurrogate (point_of x))
-    apart = subst (λ y. ¬ (IsSurrogate (point_of y))) (sym ok) (subst (λ y. MatchResult y (λ c. IsCodePoint c × ¬ (IsSurrogate c)) IsSurrogate) ok item.kind).1
+    not_surrogate : ¬ (IsSurrogate (point_of_item x))
+    not_surrogate = subst (λ y. ¬ (IsSurrogate (point_of_item y))) (sym ok) (subst (λ y. MatchResult y (λ c. IsCodePoint c × ¬ (IsSurrogate c)) IsSurrogate) ok item.kind).1
 
-    same : point_of x < 0x10000 → get_or v at 0 ≡ point_of x
+    same : point_of_item x < 0x10000 → get_or v at 0 ≡ point_of_item x
     same small =
-        let got = left-yields (units_of (point_of x)) s item.after none item.taken in
-        let whole : drop at v ≡ units_of (point_of x) ++ left item.after = sym (take_all (length v - at) (drop at v) (omega (arith, length-drop at v))) ∙ sym rest ∙ got.0 in
-        let first : get_or (drop at v) 0 0 ≡ point_of x = ap (λ w. get_or w 0 0) (whole ∙ ap (λ u. u ++ left item.after) (units_one (point_of x) small)) in
+        let got = slice_left-yields (units_of (point_of_item x)) s item.after none item.taken in
+        let whole : drop at v ≡ units_of (point_of_item x) ++ slice_left item.after = sym (take_all (length v - at) (drop at v) (omega (arith, length-drop at v))) ∙ sym rest ∙ got.0 in
+        let first : get_or (drop at v) 0 0 ≡ point_of_item x = ap (λ w. get_or w 0 0) (whole ∙ ap (λ u. u ++ slice_left item.after) (units_one (point_of_item x) small)) in
         ap (λ w. get_or w 0 0) (sym (drop_more v at 0 here)) ∙ first
 
-pub first_read : (v : List ℕ) (at end : ℕ) (s t : Units) (x : Result ℕ ℕ) → at < length v → left s ≡ take (length v - at) (drop at v) → peekable_peeked s ≡ None → DecodesItem steps s x t
-    → end ≡ at + length (units_of (point_of x)) → IsFirstRead v at end (point_of x)
-first_read v at end s t x here rest none item count =
-    let us = units_of (point_of x) in
-    let got = left-yields us s item.after none item.taken in
-    let whole : drop at v ≡ us ++ left item.after = sym (take_all (length v - at) (drop at v) (omega (arith, length-drop at v))) ∙ sym rest ∙ got.0 in
-    let front : take (length us) (drop at v) ≡ us = ap (take (length us)) whole ∙ take-append_seam us (left item.after) in
-    let back : drop end v ≡ left item.after = ap (λ k. drop k v) count ∙ sym (drop-drop (length us) at v) ∙ ap (drop (length us)) whole ∙ drop-append_seam us (left item.after) in
+pub IsFirstRead-item : (v : List ℕ) (at end : ℕ) (s t : PeekableUnits) (x : Result ℕ ℕ) → at < length v → slice_left s ≡ take (length v - at) (drop at v) → peekable_peeked s ≡ None → DecodesItem steps s x t
+    → end ≡ at + length (units_of (point_of_item x)) → IsFirstRead v at end (point_of_item x)
+IsFirstRead-item v at end s t x here rest none item count =
+    let us = units_of (point_of_item x) in
+    let got = slice_left-yields us s item.after none item.taken in
+    let whole : drop at v ≡ us ++ slice_left item.after = sym (take_all (length v - at) (drop at v) (omega (arith, length-drop at v))) ∙ sym rest ∙ got.0 in
+    let front : take (length us) (drop at v) ≡ us = ap (take (length us)) whole ∙ take-append_seam us (slice_left item.after) in
+    let back : drop end v ≡ slice_left item.after = ap (λ k. drop k v) count ∙ sym (drop-drop (length us) at v) ∙ ap (drop (length us)) whole ∙ drop-append_seam us (slice_left item.after) in
     let before : take end v ≡ take at v ++ us = ap (λ k. take k v) count ∙ take-add at (length us) v ∙ ap (λ w. take at v ++ w) front in
     let counted : length us ≡ end - at = omega (arith, count) in
-    let apart = unpaired_after_point (take at v) (left item.after) (point_of x) (λ l. no_trail_after_lone_lead (take at v ++ us) item.after t got.1 (item.lone l) item.held) in
+    let unpaired = unpaired_after_point (take at v) (slice_left item.after) (point_of_item x) (λ l. no_trail_after_lone_lead (take at v ++ us) item.after t got.1 (item.lone l) item.held) in
     record {
-      within = omega (arith, count, here, length-drop at v, ap length whole, length-append us (left item.after));
-      apart = subst (λ c. ¬ (MeetsAsPair c (drop end v))) (sym before) (subst (λ d. ¬ (MeetsAsPair (take at v ++ us) d)) (sym back) apart);
+      within = omega (arith, count, here, length-drop at v, ap length whole, length-append us (slice_left item.after));
+      divides_no_pair = subst (λ c. ¬ (MeetsAsPair c (drop end v))) (sym before) (subst (λ d. ¬ (MeetsAsPair (take at v ++ us) d)) (sym back) unpaired);
       reads = record { clean = item_range steps x item.kind; same_units = append-nil us ∙ sym front ∙ ap (λ k. take k (drop at v)) counted };
     }
 
 -- a unit that is no surrogate is one code point
-pub one_read : (v : List ℕ) (at : ℕ) → at < length v → get_or v at 0 < 0x10000 → ¬ (IsSurrogate (get_or v at 0)) → IsFirstRead v at (at + 1) (get_or v at 0)
-one_read v at l h apart =
+pub IsFirstRead-unit : (v : List ℕ) (at : ℕ) → at < length v → get_or v at 0 < 0x10000 → ¬ (IsSurrogate (get_or v at 0)) → IsFirstRead v at (at + 1) (get_or v at 0)
+IsFirstRead-unit v at l h not_surrogate =
     let count : at + 1 - at ≡ 1 = omega arith in
     let next : suc at ≡ at + 1 = omega arith in
     let whole : take (at + 1 - at) (drop at v) ≡ get_or v at 0 ∷ [] = ap (λ k. take k (drop at v)) count ∙ ap (take 1) (drop_more v at 0 l) in
     record {
       within = omega (arith, l);
-      apart = subst (DividesNoPair v) next (DividesNoPair-after_no_lead v at l (λ k. apart (k.0, omega (arith, k.1))));
+      divides_no_pair = subst (DividesNoPair v) next (DividesNoPair-after_no_lead v at l (λ k. not_surrogate (k.0, omega (arith, k.1))));
       reads = record { clean = omega (arith, h); same_units = append-nil _ ∙ (units_one (get_or v at 0) h ∙ sym whole) };
     }
 
@@ -266,19 +262,19 @@ drained_units (x ∷ us) s d =
 
 -- an empty slice yields no item
 pub no_item : (v : List ℕ) (at : ℕ) (items : List (Result ℕ ℕ)) (s k t : DecodeUtf16 (Copied (Iter ℕ))) (x : Result ℕ ℕ) → peekable_peeked (units_left s) ≡ None
-    → left (units_left s) ≡ take (length v - at) (drop at v) → Yields (decode_steps steps) s items k → DecodesItem steps (units_left k) x (units_left t) → v ≢ []
+    → slice_left (units_left s) ≡ take (length v - at) (drop at v) → Yields (decode_steps steps) s items k → DecodesItem steps (units_left k) x (units_left t) → v ≢ []
 no_item v at items s k t x none rest y item nothing = from items y
   where
-    whole : left (units_left s) ≡ drop at v
+    whole : slice_left (units_left s) ≡ drop at v
     whole = rest ∙ take_all (length v - at) (drop at v) (omega (arith, length-drop at v))
 
     begun : (q : Result ℕ ℕ) (m : DecodeUtf16 (Copied (Iter ℕ))) → ¬ (DecodesItem steps (units_left s) q (units_left m))
     begun q m i =
-        let us = units_of (point_of q) in
-        let got = left-yields us (units_left s) i.after none i.taken in
-        let one = unit_count (point_of q) in
-        let none_left : length us + length (left i.after) ≡ 0 = sym (length-append us (left i.after)) ∙ ap length (sym got.0 ∙ whole) ∙ length-drop at v ∙ omega (arith, ap length nothing) in
-        elim (cases_lt (point_of q) 0x10000) [
+        let us = units_of (point_of_item q) in
+        let got = slice_left-yields us (units_left s) i.after none i.taken in
+        let one = length-units_of (point_of_item q) in
+        let none_left : length us + length (slice_left i.after) ≡ 0 = sym (length-append us (slice_left i.after)) ∙ ap length (sym got.0 ∙ whole) ∙ length-drop at v ∙ omega (arith, ap length nothing) in
+        elim (cases_lt (point_of_item q) 0x10000) [
           | inl l ↦ omega (arith, none_left, one 1 (λ _. refl) (λ g. omega (arith, g, l)))
           | inr g ↦ omega (arith, none_left, one 2 (λ l. omega (arith, g, l)) (λ _. refl))
         ]
@@ -288,26 +284,26 @@ no_item v at items s k t x none rest y item nothing = from items y
     from (q ∷ items) y = begun q y.0 y.1
 
 -- the encodings of all items after one more
-pub encoded_item : (w : List ℕ) {now new : List ℕ} (items : List (Result ℕ ℕ)) (x : Result ℕ ℕ) {p : ℕ} → now ≡ w ++ bytes (points_of items) → new ≡ now ++ encoding p → point_of x ≡ p
-    → new ≡ w ++ bytes (points_of (items ++ x ∷ []))
+pub encoded_item : (w : List ℕ) {now new : List ℕ} (items : List (Result ℕ ℕ)) (x : Result ℕ ℕ) {p : ℕ} → now ≡ w ++ bytes (points_of_items items) → new ≡ now ++ encoding p → point_of_item x ≡ p
+    → new ≡ w ++ bytes (points_of_items (items ++ x ∷ []))
 encoded_item w {now} {new} items x {p} before added same =
-    added ∙ ap (λ b. b ++ encoding p) before ∙ append_assoc w (bytes (points_of items)) (encoding p)
-    ∙ ap (λ b. w ++ b) (ap (λ b. bytes (points_of items) ++ b) (ap encoding (sym same) ∙ sym (append-nil (encoding (point_of x)))) ∙ sym (bytes-append (points_of items) (point_of x ∷ []))
-    ∙ ap bytes (sym (map-append point_of items (x ∷ []))))
+    added ∙ ap (λ b. b ++ encoding p) before ∙ append_assoc w (bytes (points_of_items items)) (encoding p)
+    ∙ ap (λ b. w ++ b) (ap (λ b. bytes (points_of_items items) ++ b) (ap encoding (sym same) ∙ sym (append-nil (encoding (point_of_item x)))) ∙ sym (bytes-append (points_of_items items) (point_of_item x ∷ []))
+    ∙ ap bytes (sym (map-append point_of_item items (x ∷ []))))
 
-pub scalar_item : (items : List (Result ℕ ℕ)) (x : Result ℕ ℕ) → AreScalar (points_of items) → ¬ (IsSurrogate (point_of x)) → AreScalar (points_of (items ++ x ∷ []))
-scalar_item items x before apart = subst AreScalar (sym (map-append point_of items (x ∷ []))) (scalar-append (points_of items) (point_of x ∷ []) before (apart, tt))
+pub scalar_item : (items : List (Result ℕ ℕ)) (x : Result ℕ ℕ) → AreScalar (points_of_items items) → ¬ (IsSurrogate (point_of_item x)) → AreScalar (points_of_items (items ++ x ∷ []))
+scalar_item items x before not_surrogate = subst AreScalar (sym (map-append point_of_item items (x ∷ []))) (scalar-append (points_of_items items) (point_of_item x ∷ []) before (not_surrogate, tt))
 
 -- the form of all units: the bytes so far, and the encodings of the decoder's items for the rest
 pub rest_read : {w new u : List ℕ} {at : ℕ} {known more : Bool} (items : List (Result ℕ ℕ)) (iter : Copied (Iter ℕ)) → IsReadTo w u at known
-    → iter_rest (copied_source iter) ≡ take (length u - at) (drop at u) → ReadsAll steps iter items → new ≡ w ++ bytes (points_of items)
-    → (IsTrue more → IsTrue known × AreScalar (points_of items)) → IsKnownForm new u more
+    → iter_rest (copied_source iter) ≡ take (length u - at) (drop at u) → ReadsAll steps iter items → new ≡ w ++ bytes (points_of_items items)
+    → (IsTrue more → IsTrue known × AreScalar (points_of_items items)) → IsKnownForm new u more
 rest_read {w} {new} {u} {at} {known} {more} items iter x rest reads appended flags =
-    let points = points_of items in
+    let points = points_of_items items in
     let all : units points ≡ drop at u = drained_units (units points) iter reads.all_units ∙ rest ∙ take_all (length u - at) (drop at u) (omega (arith, length-drop at u)) in
     let back : IsKnownForm (bytes points) (drop at u) more = record {
       form = record { points = points; reads = record { clean = reads.clean; same_units = all }; encoded = refl };
       scalar = λ t. (flags t).1;
     } in
-    let whole = IsKnownForm-append w (bytes points) (take at u) (drop at u) known more more x.form back x.apart (λ t. ((flags t).0, t)) in
+    let whole = IsKnownForm-append w (bytes points) (take at u) (drop at u) known more more x.form back x.divides_no_pair (λ t. ((flags t).0, t)) in
     subst (λ v. IsKnownForm v u more) (sym appended) (subst (λ v. IsKnownForm (w ++ bytes points) v more) (take-append-drop at u) whole)

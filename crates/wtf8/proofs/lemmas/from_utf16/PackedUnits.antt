@@ -12,8 +12,8 @@ use Rattle.std.specs.Prelude.{◌⊎◌}
 use Rattle.wtf8.specs.Unicode.{IsLead, IsTrail, pair}
 use Rattle.wtf8.specs.private.PackedUnits.{packed_unit, packed_units, ArePaired}
 use Rattle.wtf8.proofs.lemmas.codec.Encoding.{encoding_one, encoding_two, encoding_three, encoding_four, third_row}
-use Rattle.wtf8.proofs.lemmas.codec.Readings.{no_lead, units_one, units_pair}
-use Rattle.wtf8.proofs.lemmas.from_utf16.Transcode.{IsKnownForm-append, nothing_read, scalars_read}
+use Rattle.wtf8.proofs.lemmas.codec.Readings.{unpaired-after_no_lead, units_one, units_pair}
+use Rattle.wtf8.proofs.lemmas.from_utf16.Transcode.{IsKnownForm-append, IsKnownForm-nil, scalars_read}
 
 -- The piece of a unit, by its range.
 
@@ -41,8 +41,8 @@ packed_unit-above_trails b x l = rw (le-ltb x 0x80 (omega (arith, l)), le-ltb x 
 
 -- a row written at index `n` of a block, of which the first `l` bytes count
 pub take-written_block : (block row rest : List ℕ) (n l : ℕ) → n ≤ length block → l ≤ length row → take (n + l) (take n block ++ (row ++ rest)) ≡ take n block ++ take l row
-take-written_block block row rest n l room h =
-    let front : length (take n block) ≡ n = length-take-le n block room in
+take-written_block block row rest n l bound h =
+    let front : length (take n block) ≡ n = length-take-le n block bound in
     ap (λ k. take (k + l) (take n block ++ (row ++ rest))) (sym front) ∙ take-append-add (take n block) (row ++ rest) l ∙ ap (λ v. take n block ++ v) (take-append-le l row rest h)
 
 -- Paired units are read as scalar values, and their pieces are the encodings of these.
@@ -92,7 +92,7 @@ packed_pair-form b l t k m = record {
 
 packed_units-scalar_first : (b x : ℕ) (u : List ℕ) → x < 0x10000 → ¬ (IsSurrogate x) → IsKnownForm (packed_units x u) u true → IsKnownForm (packed_units b (x ∷ u)) (x ∷ u) true
 packed_units-scalar_first b x u h n more =
-    IsKnownForm-append (packed_unit b x) (packed_units x u) (x ∷ []) u true true true (packed_unit-form b x h n) more (no_lead [] x (λ l. n (l.0, omega (arith, l.1)))) (λ t. (t, t))
+    IsKnownForm-append (packed_unit b x) (packed_units x u) (x ∷ []) u true true true (packed_unit-form b x h n) more (unpaired-after_no_lead [] x (λ l. n (l.0, omega (arith, l.1)))) (λ t. (t, t))
 
 scalar_lead_or_trail : (x : ℕ) → (¬ (IsSurrogate x)) ⊎ (IsLead x ⊎ IsTrail x)
 scalar_lead_or_trail x = elim (cases_lt x 0xD800) [
@@ -105,9 +105,9 @@ scalar_lead_or_trail x = elim (cases_lt x 0xD800) [
 
 -- the pieces of paired units are their form, if neither the unit before them nor the last one is a lead
 pub packed_units-form : (b : ℕ) (u : List ℕ) → Each1 (Fits w16) u → ArePaired b u → ¬ (IsLead b) → ¬ (IsLead (get_or (b ∷ u) (length u) 0)) → IsKnownForm (packed_units b u) u true
-packed_units-form b [] f p n last = nothing_read true refl
+packed_units-form b [] f p n last = IsKnownForm-nil true refl
 packed_units-form b (x ∷ []) f p n last = elim (scalar_lead_or_trail x) [
-  | inl o ↦ packed_units-scalar_first b x [] f.0.fits o (nothing_read true refl)
+  | inl o ↦ packed_units-scalar_first b x [] f.0.fits o (IsKnownForm-nil true refl)
   | inr s ↦ elim s [ inl l ↦ absurd (last l) | inr t ↦ absurd (n (p.0.0 t)) ]
 ]
 packed_units-form b (x ∷ y ∷ u) f p n last = elim (scalar_lead_or_trail x) [
@@ -115,9 +115,9 @@ packed_units-form b (x ∷ y ∷ u) f p n last = elim (scalar_lead_or_trail x) [
   | inr s ↦ elim s [
     | inl l ↦
         let t = p.1.0.1 l in
-        let apart : ¬ (IsLead y) = λ k. omega (arith, k.1, t.0) in
+        let not_lead : ¬ (IsLead y) = λ k. omega (arith, k.1, t.0) in
         subst (λ w. IsKnownForm w (x ∷ y ∷ u) true) (append_assoc (packed_unit b x) (packed_unit x y) (packed_units y u))
-        (IsKnownForm-append (packed_unit b x ++ packed_unit x y) (packed_units y u) (x ∷ y ∷ []) u true true true (packed_pair-form b x y l t) (packed_units-form y u f.1.1 p.1.1 apart last) (no_lead (x ∷ []) y apart) (λ t. (t, t)))
+        (IsKnownForm-append (packed_unit b x ++ packed_unit x y) (packed_units y u) (x ∷ y ∷ []) u true true true (packed_pair-form b x y l t) (packed_units-form y u f.1.1 p.1.1 not_lead last) (unpaired-after_no_lead (x ∷ []) y not_lead) (λ t. (t, t)))
     | inr t ↦ absurd (n (p.0.0 t))
   ]
 ]
@@ -136,9 +136,9 @@ packed_units-read w kept {u = u} {units = units} {at = at} k x few within same f
     let own = take k eight in
     let each = Each1-from_get_or (Fits w16) own 0 (λ i l. subst (Fits w16) (sym (get_or-take k eight i 0 (omega (arith, l, length-take k eight)) ∙ get_or-take 8 (drop at u) i 0 (omega (arith, l, length-take k eight, few.1)) ∙ get_or-drop at u i 0)) (fits (at + i))) in
     let long : length own ≡ suc (k - 1) = omega (arith, few, length-take k eight, length-chunk at 8 u within) in
-    let no_lead : ¬ (IsLead (get_or eight (k - 1) 0)) = subst (λ v. ¬ (IsLead (get_or v (k - 1) 0))) same.0 last in
+    let last_no_lead : ¬ (IsLead (get_or eight (k - 1) 0)) = subst (λ v. ¬ (IsLead (get_or v (k - 1) 0))) same.0 last in
     let no_last : ¬ (IsLead (get_or (0 ∷ own) (length own) 0)) =
-    subst (λ n. ¬ (IsLead (get_or (0 ∷ own) n 0))) (sym long) (subst (λ n. ¬ (IsLead n)) (sym (get_or-take k eight (k - 1) 0 (omega (arith, few)))) no_lead) in
+    subst (λ n. ¬ (IsLead (get_or (0 ∷ own) n 0))) (sym long) (subst (λ n. ¬ (IsLead n)) (sym (get_or-take k eight (k - 1) 0 (omega (arith, few)))) last_no_lead) in
     let form = packed_units-form 0 own each (ArePaired-take 0 k eight (subst (ArePaired 0) same.0 same.1)) (λ l. omega (arith, l.0)) no_last in
-    scalars_read k 8 x few.1 within (λ j i. let here : k - 1 ≡ j = omega (arith, i) in subst (λ j. ¬ (IsLead (get_or eight j 0))) here no_lead)
+    scalars_read k 8 x few.1 within (λ j i. let here : k - 1 ≡ j = omega (arith, i) in subst (λ j. ¬ (IsLead (get_or eight j 0))) here last_no_lead)
     (ap (λ v. w ++ v) (e ∙ ap (λ v. kept ++ packed_units 0 (take k v)) same.0) ∙ sym (append_assoc w kept (packed_units 0 own))) form

@@ -1,8 +1,11 @@
 -- The shuffle table, checked row by row: the lanes that a row picks, and the number of bytes.
-use Rattle.wtf8.proofs.Common.{◌≡◌, ℕ, zero, suc, ◌+◌, ◌<◌, ◌&&◌, false≢true, List, [], ◌∷◌, ◌++◌, length, take, get_or, Each1, ltb, eqb, Bool, true, false}
-use Rattle.wtf8.proofs.Common.{refl, ap, ◌∙◌, arith, subst, cases_lt, inl, inr, and_parts, eqb-true}
+use Rattle.wtf8.proofs.Common.{◌≡◌, ℕ, ◌+◌, ◌<◌, ◌&&◌, List, [], ◌∷◌, ◌++◌, take, get_or, Each1, eqb, Bool, true}
+use Rattle.wtf8.proofs.Common.{refl, sym, ap, ◌∙◌, arith, subst, cases_lt, inl, inr, and_parts, eqb-true, nat_eq, pointwise}
 use Rattle.std.proofs.lemmas.Bool.{ltb-true}
+use Rattle.std.proofs.lemmas.List.Recursion.{and_at}
+use Rattle.std.specs.Cmp.Lexicographic.{same_text}
 use Rattle.std.specs.Int.RustNames.{count_ones}
+use lib.Lanes.{all_below}
 use Rattle.wtf8.specs.private.PackedUnits.{table_index, source_lanes, IsByteCount, IsPackingShuffle, IsPackedLen}
 use Rattle.wtf8.specs.declared.from_utf16.shuffle_table.TheConstants.{SHUFFLES}
 
@@ -27,45 +30,24 @@ of_four p a b c d i j k l e =
     of_length (p a b c) d l (of_length (λ c. each_length (p a b c)) c k (of_length (λ b. each_length (λ c. each_length (p a b c))) b j
     (of_length (λ a. each_length (λ b. each_length (λ c. each_length (p a b c)))) a i e)))
 
-abbrev same : List ℕ → List ℕ → Bool
-same [] [] = true
-same [] (y ∷ ys) = false
-same (x ∷ xs) [] = false
-same (x ∷ xs) (y ∷ ys) = eqb x y && same xs ys
-
-same_lists : (xs ys : List ℕ) → same xs ys ≡ true → xs ≡ ys
-same_lists [] [] e = refl
-same_lists [] (y ∷ ys) e = absurd (false≢true e)
-same_lists (x ∷ xs) [] e = absurd (false≢true e)
-same_lists (x ∷ xs) (y ∷ ys) e = λ i. eqb-true x y (and_parts _ _ e).0 i ∷ same_lists xs ys (and_parts _ _ e).1 i
-
 abbrev is_packing : List ℕ → ℕ → ℕ → ℕ → ℕ → Bool
-is_packing none a b c d = same (take (a + b + c + d) (get_or SHUFFLES.now (table_index a b c d) none)) (source_lanes a 0 ++ source_lanes b 1 ++ source_lanes c 2 ++ source_lanes d 3)
+is_packing none a b c d = pointwise nat_eq (take (a + b + c + d) (get_or SHUFFLES.now (table_index a b c d) none)) (source_lanes a 0 ++ source_lanes b 1 ++ source_lanes c 2 ++ source_lanes d 3)
 
 pub IsPackingShuffle-table : (none : List ℕ) (number : ℕ) → IsPackingShuffle number (get_or SHUFFLES.now number none)
 IsPackingShuffle-table none number a b c d i j k l e =
-    ap (λ n. take (a + b + c + d) (get_or SHUFFLES.now n none)) e ∙ same_lists _ _ (of_four (is_packing none) a b c d i j k l refl)
+    ap (λ n. take (a + b + c + d) (get_or SHUFFLES.now n none)) e ∙ same_text _ _ (sym (of_four (is_packing none) a b c d i j k l refl))
 
--- whether each lane of a row is below 16
-abbrev all_below : List ℕ → Bool
-all_below [] = true
-all_below (x ∷ xs) = ltb x 16 && all_below xs
-
+-- whether each lane of each row is below 16
 abbrev rows_below : List (List ℕ) → Bool
 rows_below [] = true
-rows_below (row ∷ rows) = all_below row && rows_below rows
+rows_below (row ∷ rows) = all_below 16 row && rows_below rows
 
-below_each : (xs : List ℕ) → all_below xs ≡ true → Each1 (λ lane. lane < 16) xs
-below_each [] e = tt
-below_each (x ∷ xs) e = (ltb-true x 16 (and_parts _ _ e).0, below_each xs (and_parts _ _ e).1)
-
-below_at : (rows : List (List ℕ)) (none : List ℕ) (k : ℕ) → k < length rows → rows_below rows ≡ true → all_below (get_or rows k none) ≡ true
-below_at [] none k h e = absurd (omega (arith, h))
-below_at (row ∷ rows) none zero h e = (and_parts _ _ e).0
-below_at (row ∷ rows) none (suc k) h e = below_at rows none k (omega (arith, h)) (and_parts _ _ e).1
+Each1-all_below : (xs : List ℕ) → all_below 16 xs ≡ true → Each1 (λ lane. lane < 16) xs
+Each1-all_below [] e = tt
+Each1-all_below (x ∷ xs) e = (ltb-true x 16 (and_parts _ _ e).0, Each1-all_below xs (and_parts _ _ e).1)
 
 pub table_below_16 : (none : List ℕ) (number : ℕ) → number < 256 → Each1 (λ lane. lane < 16) (get_or SHUFFLES.now number none)
-table_below_16 none number h = below_each (get_or SHUFFLES.now number none) (below_at SHUFFLES.now none number h refl)
+table_below_16 none number h = Each1-all_below (get_or SHUFFLES.now number none) (and_at rows_below (all_below 16) refl (λ _ _. refl) SHUFFLES.now number none h refl)
 
 -- four plus the number of one bits in the index is the number of bytes
 has_packed_len : ℕ → ℕ → ℕ → ℕ → Bool

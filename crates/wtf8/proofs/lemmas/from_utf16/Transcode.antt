@@ -15,7 +15,7 @@ use Rattle.std.proofs.lemmas.Simd.{zip2_splat, bitmask_splat, map-map, Each1-get
 use Rattle.wtf8.specs.Unicode.{IsLead}
 use Rattle.wtf8.specs.private.ConvertedPrefix.{AreScalarUnits, IsReadTo}
 use Rattle.wtf8.proofs.lemmas.codec.Encoding.{encoding_one, bytes-append}
-use Rattle.wtf8.proofs.lemmas.codec.Readings.{meets_by, no_lead, units-cons_one}
+use Rattle.wtf8.proofs.lemmas.codec.Readings.{meets_by, unpaired-after_no_lead, units-cons_one}
 use Rattle.wtf8.proofs.lemmas.strings.Concatenation.{form_append-unpaired}
 use Rattle.wtf8.proofs.lemmas.strings.ExtendedForms.{scalar-append}
 
@@ -43,50 +43,50 @@ none_surrogate xs l f e =
 -- Units encoded part by part: the seams between parts, and the form of all units so far.
 
 -- units that are no surrogates are their own code points
-scalar_clean : (u : List ℕ) → AreScalarUnits u → IsClean u
-scalar_clean [] h = tt
-scalar_clean (p ∷ []) h = omega (arith, h.0.0)
-scalar_clean (p ∷ q ∷ u) h = (omega (arith, h.0.0), λ pair. h.0.1 (pair.0.0, omega (arith, pair.0.1)), scalar_clean (q ∷ u) h.1)
+clean-scalar_units : (u : List ℕ) → AreScalarUnits u → IsClean u
+clean-scalar_units [] h = tt
+clean-scalar_units (p ∷ []) h = omega (arith, h.0.0)
+clean-scalar_units (p ∷ q ∷ u) h = (omega (arith, h.0.0), λ pair. h.0.1 (pair.0.0, omega (arith, pair.0.1)), clean-scalar_units (q ∷ u) h.1)
 
-scalar_units : (u : List ℕ) → AreScalarUnits u → units u ≡ u
-scalar_units [] h = refl
-scalar_units (p ∷ u) h = units-cons_one p u h.0.0 ∙ ap (λ v. p ∷ v) (scalar_units u h.1)
+units-scalar_units : (u : List ℕ) → AreScalarUnits u → units u ≡ u
+units-scalar_units [] h = refl
+units-scalar_units (p ∷ u) h = units-cons_one p u h.0.0 ∙ ap (λ v. p ∷ v) (units-scalar_units u h.1)
 
-are_scalar : (u : List ℕ) → AreScalarUnits u → AreScalar u
-are_scalar [] h = tt
-are_scalar (p ∷ u) h = (h.0.1, are_scalar u h.1)
+AreScalar-scalar_units : (u : List ℕ) → AreScalarUnits u → AreScalar u
+AreScalar-scalar_units [] h = tt
+AreScalar-scalar_units (p ∷ u) h = (h.0.1, AreScalar-scalar_units u h.1)
 
 bytes-ascii : (u : List ℕ) → AreAscii u → bytes u ≡ u
 bytes-ascii [] h = refl
 bytes-ascii (p ∷ u) h = ap (λ w. w ++ bytes u) (encoding_one p h.0) ∙ ap (λ v. p ∷ v) (bytes-ascii u h.1)
 
-ascii_scalars : (u : List ℕ) → AreAscii u → AreScalarUnits u
-ascii_scalars u h = Each1-weaker (λ n. n < 0x80) (λ n. (n < 0x10000) × ¬ (IsSurrogate n)) (λ n l. (omega (arith, l), λ s. omega (arith, l, s.0))) u h
+AreScalarUnits-ascii : (u : List ℕ) → AreAscii u → AreScalarUnits u
+AreScalarUnits-ascii u h = Each1-weaker (λ n. n < 0x80) (λ n. (n < 0x10000) × ¬ (IsSurrogate n)) (λ n l. (omega (arith, l), λ s. omega (arith, l, s.0))) u h
 
 pub units-ascii : (u : List ℕ) → AreAscii u → units u ≡ u
-units-ascii u h = scalar_units u (ascii_scalars u h)
+units-ascii u h = units-scalar_units u (AreScalarUnits-ascii u h)
 
 -- ASCII units are their own form
-pub ascii_form : (u : List ℕ) → AreAscii u → IsKnownForm u u true
-ascii_form u h = record {
+pub IsKnownForm-ascii : (u : List ℕ) → AreAscii u → IsKnownForm u u true
+IsKnownForm-ascii u h = record {
   form = record {
     points = u;
-    reads = record { clean = scalar_clean u (ascii_scalars u h); same_units = scalar_units u (ascii_scalars u h) };
+    reads = record { clean = clean-scalar_units u (AreScalarUnits-ascii u h); same_units = units-scalar_units u (AreScalarUnits-ascii u h) };
     encoded = bytes-ascii u h;
   };
-  scalar = λ _. are_scalar u (ascii_scalars u h);
+  scalar = λ _. AreScalar-scalar_units u (AreScalarUnits-ascii u h);
 }
 
-pub nothing_read : {w : List ℕ} (known : Bool) → w ≡ [] → IsKnownForm w [] known
-nothing_read known e = record { form = record { points = []; reads = record { clean = tt; same_units = refl }; encoded = sym e }; scalar = λ _. tt }
+pub IsKnownForm-nil : {w : List ℕ} (known : Bool) → w ≡ [] → IsKnownForm w [] known
+IsKnownForm-nil known e = record { form = record { points = []; reads = record { clean = tt; same_units = refl }; encoded = sym e }; scalar = λ _. tt }
 
 -- no pair is divided after a unit that is no lead
 pub DividesNoPair-after_no_lead : (u : List ℕ) (j : ℕ) → j < length u → ¬ (IsLead (get_or u j 0)) → DividesNoPair u (suc j)
-DividesNoPair-after_no_lead u j within n = subst (λ w. ¬ (MeetsAsPair w (drop (suc j) u))) (sym (take-suc u j 0 within)) (no_lead (take j u) (get_or u j 0) n)
+DividesNoPair-after_no_lead u j within n = subst (λ w. ¬ (MeetsAsPair w (drop (suc j) u))) (sym (take-suc u j 0 within)) (unpaired-after_no_lead (take j u) (get_or u j 0) n)
 
 -- a pair at the seam with the first `n` units of `b` is a pair at the seam with `b`
-meets_longer : (a b : List ℕ) (n : ℕ) → MeetsAsPair a (take n b) → MeetsAsPair a b
-meets_longer a b n m =
+MeetsAsPair-take : (a b : List ℕ) (n : ℕ) → MeetsAsPair a (take n b) → MeetsAsPair a b
+MeetsAsPair-take a b n m =
     meets_by m.front (m.rest ++ drop n b) m.lead m.trail m.is_lead m.is_trail m.ends (sym (take-append-drop n b) ∙ ap (λ c. c ++ drop n b) m.begins)
 
 -- the form of a part appended to the form of the units before it, without a pair at the seam
@@ -101,29 +101,29 @@ IsKnownForm-append w v a b known more both x y n flags =
 -- the units up to `end` are encoded after the form of the units from `at` to `end` was appended
 pub IsReadTo-append : {w new u part : List ℕ} {at end : ℕ} {known more : Bool} → IsReadTo w u at known → at ≤ end → end ≤ length u → DividesNoPair u end
     → new ≡ w ++ part → IsKnownForm part (take (end - at) (drop at u)) more → IsReadTo new u end (known && more)
-IsReadTo-append {w} {new} {u} {part} {at} {end} {known} {more} x order within apart behind form =
+IsReadTo-append {w} {new} {u} {part} {at} {end} {known} {more} x order within divides_no_pair after form =
     let back = take (end - at) (drop at u) in
     let count : end ≡ at + (end - at) = omega (arith, order) in
     let both : take end u ≡ take at u ++ back = ap (λ k. take k u) count ∙ take-add at (end - at) u in
-    let whole = IsKnownForm-append w part (take at u) back known more (known && more) x.form form (λ m. x.apart (meets_longer (take at u) (drop at u) (end - at) m)) (and_parts known more) in
+    let whole = IsKnownForm-append w part (take at u) back known more (known && more) x.form form (λ m. x.divides_no_pair (MeetsAsPair-take (take at u) (drop at u) (end - at) m)) (and_parts known more) in
     record {
       within = within;
-      apart = apart;
-      form = subst (λ z. IsKnownForm z (take end u) (known && more)) (sym behind) (subst (λ z. IsKnownForm (w ++ part) z (known && more)) (sym both) whole);
+      divides_no_pair = divides_no_pair;
+      form = subst (λ z. IsKnownForm z (take end u) (known && more)) (sym after) (subst (λ z. IsKnownForm (w ++ part) z (known && more)) (sym both) whole);
     }
 
 -- the first `k` of `n` units, with no lone surrogate and no lead at their end, are encoded after their form was appended
 pub scalars_read : {w new u part : List ℕ} {at : ℕ} {known : Bool} (k n : ℕ) → IsReadTo w u at known → k ≤ n → at + n ≤ length u
     → ((j : ℕ) → j + 1 ≡ k → ¬ (IsLead (get_or (take n (drop at u)) j 0))) → new ≡ w ++ part → IsKnownForm part (take k (take n (drop at u))) true → IsReadTo new u (at + k) known
-scalars_read {w} {new} {u} {part} {at} {known} k n x few within last behind form =
+scalars_read {w} {new} {u} {part} {at} {known} k n x few within last after form =
     let count : k ≡ at + k - at = omega arith in
     let same : take k (take n (drop at u)) ≡ take (at + k - at) (drop at u) = take-take k n (drop at u) few ∙ ap (λ k. take k (drop at u)) count in
     subst (IsReadTo new u (at + k)) (and-true known)
-    (IsReadTo-append x (omega arith) (omega (arith, few, within)) (apart k few last) behind (subst (λ v. IsKnownForm part v true) same form))
+    (IsReadTo-append x (omega arith) (omega (arith, few, within)) (divides_no_pair k few last) after (subst (λ v. IsKnownForm part v true) same form))
   where
-    apart : (k : ℕ) → k ≤ n → ((j : ℕ) → j + 1 ≡ k → ¬ (IsLead (get_or (take n (drop at u)) j 0))) → DividesNoPair u (at + k)
-    apart zero few h = let here : at ≡ at + 0 = omega arith in subst (DividesNoPair u) here x.apart
-    apart (suc j) few h =
+    divides_no_pair : (k : ℕ) → k ≤ n → ((j : ℕ) → j + 1 ≡ k → ¬ (IsLead (get_or (take n (drop at u)) j 0))) → DividesNoPair u (at + k)
+    divides_no_pair zero few h = let here : at ≡ at + 0 = omega arith in subst (DividesNoPair u) here x.divides_no_pair
+    divides_no_pair (suc j) few h =
         let here : suc (at + j) ≡ at + suc j = omega arith in
         let same = get_or-take n (drop at u) j 0 (omega (arith, few)) ∙ get_or-drop at u j 0 in
         subst (DividesNoPair u) here (DividesNoPair-after_no_lead u (at + j) (omega (arith, few, within)) (λ l. h j (omega arith) (omega (arith, same, l.0), omega (arith, same, l.1))))
@@ -136,8 +136,8 @@ front_read {w = w} {u = u} {low = low} {at = at} k n end x few within saturated 
     let kept : take k low ≡ take k block = ap (take k) saturated ∙ saturated_front k block (subst AreAscii (ap (take k) saturated) ascii) in
     let own : AreAscii (take k block) = subst AreAscii kept ascii in
     let last = λ (j : ℕ) (e : j + 1 ≡ k). Each1-get_or (λ n. n < 0x80) (take k block) j 0 (omega (arith, e, few, length-chunk at n u within, length-take k block)) own in
-    let behind = front ∙ ap (take end) longer ∙ ap (λ m. take m (w ++ low)) cut ∙ take-append-add w low k ∙ ap (λ v. w ++ v) kept in
-    scalars_read k n x few within (λ j e l. omega (arith, last j e, get_or-take k block j 0 (omega (arith, e)), l.0)) behind (ascii_form (take k block) own)
+    let after = front ∙ ap (take end) longer ∙ ap (λ m. take m (w ++ low)) cut ∙ take-append-add w low k ∙ ap (λ v. w ++ v) kept in
+    scalars_read k n x few within (λ j e l. omega (arith, last j e, get_or-take k block j 0 (omega (arith, e)), l.0)) after (IsKnownForm-ascii (take k block) own)
 
 pub all_read : {w u : List ℕ} {at : ℕ} {known : Bool} → IsReadTo w u at known → length u ≤ at → IsKnownForm w u known
 all_read {w} {u} {at} {known} x h = subst (λ v. IsKnownForm w v known) (take_all at u h) x.form

@@ -7,10 +7,10 @@ use Rattle.std.proofs.lemmas.Simd.{leading_from_mask_l, trailing_mask_l}
 use lib.Count.{count_trailing_zeros}
 
 -- if the mask is not 0, a lane is set
-some_set : (bs : List Bool) → 0 < mask_l bs → prefix_len (λ b. not b) bs < length bs
-some_set [] h = absurd (omega arith)
-some_set (true ∷ bs) h = omega arith
-some_set (false ∷ bs) h = omega (arith, some_set bs (omega arith))
+prefix_len_from_mask_l : (bs : List Bool) → 0 < mask_l bs → prefix_len (λ b. not b) bs < length bs
+prefix_len_from_mask_l [] h = absurd (omega arith)
+prefix_len_from_mask_l (true ∷ bs) h = omega arith
+prefix_len_from_mask_l (false ∷ bs) h = omega (arith, prefix_len_from_mask_l bs (omega arith))
 
 module _ (bits n : ℕ) (lanes : List Bool) (few : n ≤ 64) (long : length lanes ≡ n) (same : bits ≡ mask_l lanes % 2 ^ 64) where
   bits-mask_l : bits ≡ mask_l (map (λ b. b) lanes)
@@ -24,21 +24,21 @@ module _ (bits n : ℕ) (lanes : List Bool) (few : n ≤ 64) (long : length lane
 
   pub lowest_set : ¬ (bits ≡ 0) → IsLeast (IsSet lanes) 0 (count_trailing_zeros 64 bits) × (count_trailing_zeros 64 bits < n)
   lowest_set e =
-      let some = some_set lanes (omega (arith, bits-mask_l, ap mask_l (map-id lanes), e)) in
+      let some_lane = prefix_len_from_mask_l lanes (omega (arith, bits-mask_l, ap mask_l (map-id lanes), e)) in
       let counted = ap (count_trailing_zeros 64) bits-mask_l ∙ trailing_mask_l (λ b. b) 64 lanes (omega (arith, long, few)) (omega (arith, bits-mask_l, e)) in
       subst (λ t. IsLeast (IsSet lanes) 0 t × (t < n)) (sym counted) (
-        record { not_before = omega arith; here = not-false _ (prefix_len_stops (λ b. not b) lanes false some); none_between = λ k _ l. not_set_in_prefix k l },
-        omega (arith, some, long),
+        record { not_before = omega arith; here = not-false _ (prefix_len_stops (λ b. not b) lanes false some_lane); none_between = λ k _ l. not_set_in_prefix k l },
+        omega (arith, some_lane, long),
       )
 
 -- equivalent properties have the same first lane
-pub same_first : (P Q : ℕ → Type 0) (n : ℕ) → ((k : ℕ) → k < n → P k ↔ Q k) → (r : Option ℕ) → IsFirstIn P 0 n r → IsFirstIn Q 0 n r
-same_first P Q n says None none = λ j low high q. none j low high ((says j high).1 q)
-same_first P Q n says (Some k) h = (
+pub IsFirstIn-iff : (P Q : ℕ → Type 0) (n : ℕ) → ((k : ℕ) → k < n → P k ↔ Q k) → (r : Option ℕ) → IsFirstIn P 0 n r → IsFirstIn Q 0 n r
+IsFirstIn-iff P Q n equivalent None none = λ j low high q. none j low high ((equivalent j high).1 q)
+IsFirstIn-iff P Q n equivalent (Some k) h = (
   record {
     not_before = h.0.not_before;
-    here = (says k h.1).0 h.0.here;
-    none_between = λ j low l q. h.0.none_between j low l ((says j (omega (arith, l, h.1))).1 q);
+    here = (equivalent k h.1).0 h.0.here;
+    none_between = λ j low l q. h.0.none_between j low l ((equivalent j (omega (arith, l, h.1))).1 q);
   },
   h.1,
 )
@@ -46,28 +46,28 @@ same_first P Q n says (Some k) h = (
 -- if lane `k` has `Q` exactly if position `i + k` has `P`, the first lane with `Q` gives the first position with `P`
 pub first_at_offset : (P Q : ℕ → Type 0) (i n : ℕ) → ((k : ℕ) → k < n → Q k ↔ P (i + k)) → (r : Option ℕ) → IsFirstIn Q 0 n r
     → MatchOption r (NoneIn P i (i + n)) (λ k. IsLeast P i (i + k) × (i + k < i + n))
-first_at_offset P Q i n says r first = by r first
+first_at_offset P Q i n equivalent r first = by r first
   where
     none : (m : ℕ) → m ≤ n → NoneIn Q 0 m → NoneIn P i (i + m)
     none m le unset j low high q =
-        let place : i + (j - i) ≡ j = omega arith in
-        unset (j - i) (omega arith) (omega arith) ((says (j - i) (omega arith)).1 (subst P (sym place) q))
+        let same_index : i + (j - i) ≡ j = omega arith in
+        unset (j - i) (omega arith) (omega arith) ((equivalent (j - i) (omega arith)).1 (subst P (sym same_index) q))
 
     by : (r : Option ℕ) → IsFirstIn Q 0 n r → MatchOption r (NoneIn P i (i + n)) (λ k. IsLeast P i (i + k) × (i + k < i + n))
     by None h = none n (omega arith) h
     by (Some k) h = (
-      record { not_before = omega arith; here = (says k h.1).0 h.0.here; none_between = none k (omega (arith, h.1)) h.0.none_between },
+      record { not_before = omega arith; here = (equivalent k h.1).0 h.0.here; none_between = none k (omega (arith, h.1)) h.0.none_between },
       omega (arith, h.1),
     )
 
--- each of `n` lanes divided by `d`
-abbrev pub kinds : ℕ → ℕ → List ℕ → List ℕ
-kinds d n xs = zip2 (λ a b. a / b) xs (replicate n d)
+-- the `n` lanes divided by `d`, and for each whether this quotient differs from `y`
+abbrev pub quotients : ℕ → ℕ → List ℕ → List ℕ
+quotients d n xs = zip2 (λ a b. a / b) xs (replicate n d)
 
-abbrev pub others : ℕ → ℕ → ℕ → List ℕ → List Bool
-others d y n xs = zip2 (λ a b. not (eqb a b)) (kinds d n xs) (replicate n y)
+abbrev pub unequal_quotients : ℕ → ℕ → ℕ → List ℕ → List Bool
+unequal_quotients d y n xs = zip2 (λ a b. not (eqb a b)) (quotients d n xs) (replicate n y)
 
-HasBitPrefix-before_first : (d y n m : ℕ) (xs : List ℕ) → length xs ≡ n → m ≤ n → NoneIn (IsSet (others d y n xs)) 0 m → Each1 (HasBitPrefix d y) (take m xs)
+HasBitPrefix-before_first : (d y n m : ℕ) (xs : List ℕ) → length xs ≡ n → m ≤ n → NoneIn (IsSet (unequal_quotients d y n xs)) 0 m → Each1 (HasBitPrefix d y) (take m xs)
 HasBitPrefix-before_first d y n zero xs long le none = tt
 HasBitPrefix-before_first d y n (suc m) [] long le none = tt
 HasBitPrefix-before_first d y zero (suc m) (x ∷ xs) long le none = absurd (omega arith)
@@ -82,15 +82,15 @@ pub record LeadingHavePrefix (d y n : ℕ) (xs : List ℕ) (count : ℕ) : Type 
   pub each : Each1 (HasBitPrefix d y) (take count xs)
 
 pub LeadingHavePrefix-first_set : (d y n : ℕ) (xs : List ℕ) → n ≤ 64 → length xs ≡ n → (r : Option ℕ)
-    → IsFirstSet (mask_l (map (top 7) (zip2 (λ a b. cond (not (eqb a b)) 255 0) (kinds d n xs) (replicate n y))) % 2 ^ 64) r
+    → IsFirstSet (mask_l (map (top 7) (zip2 (λ a b. cond (not (eqb a b)) 255 0) (quotients d n xs) (replicate n y))) % 2 ^ 64) r
     → LeadingHavePrefix d y n xs (unwrap_or r n)
-LeadingHavePrefix-first_set d y n xs few long r first = by r (first n (others d y n xs) few lanes (ap (λ ms. mask_l ms % 2 ^ 64) (tops_compared w8 (λ a b. not (eqb a b)) (kinds d n xs) (replicate n y))))
+LeadingHavePrefix-first_set d y n xs few long r first = by r (first n (unequal_quotients d y n xs) few lanes (ap (λ ms. mask_l ms % 2 ^ 64) (tops_compared w8 (λ a b. not (eqb a b)) (quotients d n xs) (replicate n y))))
   where
-    lanes : length (others d y n xs) ≡ n
+    lanes : length (unequal_quotients d y n xs) ≡ n
     lanes =
         let divided = length-zip2 (λ a b. a / b) xs (replicate n d) (long ∙ sym (length-replicate n d)) in
-        length-zip2 (λ a b. not (eqb a b)) (kinds d n xs) (replicate n y) (divided ∙ (long ∙ sym (length-replicate n y))) ∙ (divided ∙ long)
+        length-zip2 (λ a b. not (eqb a b)) (quotients d n xs) (replicate n y) (divided ∙ (long ∙ sym (length-replicate n y))) ∙ (divided ∙ long)
 
-    by : (r : Option ℕ) → IsFirstIn (IsSet (others d y n xs)) 0 n r → LeadingHavePrefix d y n xs (unwrap_or r n)
+    by : (r : Option ℕ) → IsFirstIn (IsSet (unequal_quotients d y n xs)) 0 n r → LeadingHavePrefix d y n xs (unwrap_or r n)
     by None none = record { within = omega arith; each = HasBitPrefix-before_first d y n n xs long (omega arith) none }
     by (Some k) h = record { within = omega (arith, h.1); each = HasBitPrefix-before_first d y n k xs long (omega (arith, h.1)) h.0.none_between }

@@ -6,7 +6,7 @@ use Rattle.wtf8.proofs.Common.{sum_utf16_len, w16, sum_by-cons}
 use Rattle.wtf8.proofs.Common.{Each2-of, fold-sum, sum_bound, sum_fits, sum-zip2, length-map}
 use lib.Lanes.{zip2, top, Each2, Steps, fold_l, sum_l}
 use Rattle.wtf8.specs.private.UnitCounts.{utf16_len}
-use Rattle.wtf8.proofs.lemmas.lanes.Surrogates.{lane}
+use Rattle.wtf8.proofs.lemmas.lanes.SurrogateLanes.{lane_of_bool}
 
 pub utf16_len-ascii : (b : ℕ) → b < 0x80 → utf16_len b ≡ 1
 unfolding utf16_len
@@ -29,51 +29,51 @@ unfolding utf16_len
 utf16_len_at_most_two b = grind (arith, nat_tests)
 
 -- the lanes with an ASCII byte or a lead byte, and the lanes with a lead byte of four bytes
-abbrev pub begins : ℕ → List ℕ → List Bool
-begins n xs = map (top 7) (zip2 bit_or (zip2 (λ a b. lane (ltb a b)) xs (replicate n 0x80)) (zip2 (λ a b. lane (leb a b)) (replicate n 0xC0) xs))
+abbrev pub ascii_or_lead_lanes : ℕ → List ℕ → List Bool
+ascii_or_lead_lanes n xs = map (top 7) (zip2 bit_or (zip2 (λ a b. lane_of_bool (ltb a b)) xs (replicate n 0x80)) (zip2 (λ a b. lane_of_bool (leb a b)) (replicate n 0xC0) xs))
 
-abbrev pub pairs : ℕ → List ℕ → List Bool
-pairs n xs = map (top 7) (zip2 (λ a b. lane (leb a b)) (replicate n 0xF0) xs)
+abbrev pub four_byte_lead_lanes : ℕ → List ℕ → List Bool
+four_byte_lead_lanes n xs = map (top 7) (zip2 (λ a b. lane_of_bool (leb a b)) (replicate n 0xF0) xs)
 
 -- 1 in each set lane, else 0
-abbrev pub ones : ℕ → List Bool → List ℕ
-ones n ms = sel_l ms (replicate n 1) (replicate n 0)
+abbrev pub ones_in_set_lanes : ℕ → List Bool → List ℕ
+ones_in_set_lanes n ms = sel_l ms (replicate n 1) (replicate n 0)
 
-abbrev pub counts : ℕ → List ℕ → List ℕ
-counts n xs = zip2 (λ a b. a + b) (ones n (begins n xs)) (ones n (pairs n xs))
+abbrev pub unit_count_lanes : ℕ → List ℕ → List ℕ
+unit_count_lanes n xs = zip2 (λ a b. a + b) (ones_in_set_lanes n (ascii_or_lead_lanes n xs)) (ones_in_set_lanes n (four_byte_lead_lanes n xs))
 
-top-bit_or : (a b : Bool) → top 7 (bit_or (lane a) (lane b)) ≡ a || b
+top-bit_or : (a b : Bool) → top 7 (bit_or (lane_of_bool a) (lane_of_bool b)) ≡ a || b
 top-bit_or true true = refl
 top-bit_or true false = refl
 top-bit_or false true = refl
 top-bit_or false false = refl
 
-top-lane : (a : Bool) → top 7 (lane a) ≡ a
-top-lane true = refl
-top-lane false = refl
+top-lane_of_bool : (a : Bool) → top 7 (lane_of_bool a) ≡ a
+top-lane_of_bool true = refl
+top-lane_of_bool false = refl
 
 utf16_len-from_tests : (x : ℕ) → cond (ltb x 0x80 || leb 0xC0 x) 1 0 + cond (leb 0xF0 x) 1 0 ≡ utf16_len x
 unfolding utf16_len
 utf16_len-from_tests x = grind (arith, nat_tests)
 
-utf16_len-from_lanes : (x : ℕ) → cond (top 7 (bit_or (lane (ltb x 0x80)) (lane (leb 0xC0 x)))) 1 0 + cond (top 7 (lane (leb 0xF0 x))) 1 0 ≡ utf16_len x
-utf16_len-from_lanes x = rw (top-bit_or (ltb x 0x80) (leb 0xC0 x), top-lane (leb 0xF0 x)) (utf16_len-from_tests x)
+utf16_len-from_lanes : (x : ℕ) → cond (top 7 (bit_or (lane_of_bool (ltb x 0x80)) (lane_of_bool (leb 0xC0 x)))) 1 0 + cond (top 7 (lane_of_bool (leb 0xF0 x))) 1 0 ≡ utf16_len x
+utf16_len-from_lanes x = rw (top-bit_or (ltb x 0x80) (leb 0xC0 x), top-lane_of_bool (leb 0xF0 x)) (utf16_len-from_tests x)
 
-pub counts-utf16_len : (n : ℕ) (xs : List ℕ) → length xs ≡ n → counts n xs ≡ map utf16_len xs
-counts-utf16_len n [] e = refl
-counts-utf16_len zero (x ∷ xs) e = absurd (omega arith)
-counts-utf16_len (suc n) (x ∷ xs) e = λ i. utf16_len-from_lanes x i ∷ counts-utf16_len n xs (omega arith) i
+pub unit_count_lanes-utf16_len : (n : ℕ) (xs : List ℕ) → length xs ≡ n → unit_count_lanes n xs ≡ map utf16_len xs
+unit_count_lanes-utf16_len n [] e = refl
+unit_count_lanes-utf16_len zero (x ∷ xs) e = absurd (omega arith)
+unit_count_lanes-utf16_len (suc n) (x ∷ xs) e = λ i. utf16_len-from_lanes x i ∷ unit_count_lanes-utf16_len n xs (omega arith) i
 
-ones_at_most_one : (n : ℕ) (ms : List Bool) → Each1 (λ a. a ≤ 1) (ones n ms)
+ones_at_most_one : (n : ℕ) (ms : List Bool) → Each1 (λ a. a ≤ 1) (ones_in_set_lanes n ms)
 ones_at_most_one n [] = tt
 ones_at_most_one zero (m ∷ ms) = tt
 ones_at_most_one (suc n) (true ∷ ms) = (omega arith, ones_at_most_one n ms)
 ones_at_most_one (suc n) (false ∷ ms) = (omega arith, ones_at_most_one n ms)
 
 -- the sum of two such lanes fits a byte
-pub lanes_fit : (n : ℕ) (ms ks : List Bool) → Each2 (λ a b. Fits w8 (a + b)) (ones n ms) (ones n ks)
+pub lanes_fit : (n : ℕ) (ms ks : List Bool) → Each2 (λ a b. Fits w8 (a + b)) (ones_in_set_lanes n ms) (ones_in_set_lanes n ks)
 lanes_fit n ms ks =
-    Each2-of (λ a. a ≤ 1) (λ b. b ≤ 1) (λ a b. Fits w8 (a + b)) (λ a b h k. record { fits = omega arith }) (ones n ms) (ones n ks) (ones_at_most_one n ms) (ones_at_most_one n ks)
+    Each2-of (λ a. a ≤ 1) (λ b. b ≤ 1) (λ a b. Fits w8 (a + b)) (λ a b h k. record { fits = omega arith }) (ones_in_set_lanes n ms) (ones_in_set_lanes n ks) (ones_at_most_one n ms) (ones_at_most_one n ks)
 
 utf16_lens_at_most_two : (xs : List ℕ) → Each1 (λ a. a ≤ 2) (map utf16_len xs)
 utf16_lens_at_most_two [] = tt

@@ -48,12 +48,12 @@ pub whole_in_back : WholeBoundariesAreOfBack
 whole_in_back u v k m x b =
     let whole = reads_same x.splits.reads b.splits.reads in
     let more = shorter_is_prefix x.front x.back b.front b.back whole (omega (arith, b.splits.front_len, x.splits.front_len)) in
-    let behind = append_cancel_left x.front x.back (more.more ++ b.back) (whole ∙ ap (λ f. f ++ b.back) more.joined ∙ append_assoc x.front more.more b.back) in
+    let after = append_cancel_left x.front x.back (more.more ++ b.back) (whole ∙ ap (λ f. f ++ b.back) more.joined ∙ append_assoc x.front more.more b.back) in
     let long = simp (bytes-append, length-append) at (ap (λ c. length (bytes c)) more.joined) in
     record {
       front = more.more;
       back = b.back;
-      splits = record { reads = subst (λ c. Reads c v) behind (back_reads x); front_len = omega (arith, b.splits.front_len, x.splits.front_len, long) };
+      splits = record { reads = subst (λ c. Reads c v) after (back_reads x); front_len = omega (arith, b.splits.front_len, x.splits.front_len, long) };
     }
 
 pub back_in_whole : BackBoundariesAreOfWhole
@@ -141,16 +141,16 @@ none_of_points (p ∷ c) b l h =
     let P : ℕ → Type 0 = λ x. x ≢ b in
     let rest : All P (bytes c) = subst (All P) (drop_at (encoding p) (bytes c) (length (encoding p)) refl)
     (All-drop P (length (encoding p)) (encoding p ++ bytes c) h) in
-    let behind = none_of_points c b l rest in
+    let after = none_of_points c b l rest in
     elim (encoding_cases p) [
-      | one m e ↦ rw (units_one p (omega arith)) (All-cons P p (units c) (All-head P p (bytes c) (rw e at h)) behind)
-      | two m n e ↦ rw (units_one p (omega arith)) (All-cons P p (units c) (λ (q : p ≡ b). omega (arith, q)) behind)
-      | three m n e ↦ rw (units_one p (omega arith)) (All-cons P p (units c) (λ (q : p ≡ b). omega (arith, q)) behind)
+      | one m e ↦ rw (units_one p (omega arith)) (All-cons P p (units c) (All-head P p (bytes c) (rw e at h)) after)
+      | two m n e ↦ rw (units_one p (omega arith)) (All-cons P p (units c) (λ (q : p ≡ b). omega (arith, q)) after)
+      | three m n e ↦ rw (units_one p (omega arith)) (All-cons P p (units c) (λ (q : p ≡ b). omega (arith, q)) after)
       | four m e ↦
           let lead = 0xD800 + (p - 0x10000) / 0x400 in
           let trail = 0xDC00 + (p - 0x10000) % 0x400 in
           rw (units_two p m) (All-cons P lead (trail ∷ units c) (λ (q : lead ≡ b). omega (arith, q))
-          (All-cons P trail (units c) (λ (q : trail ≡ b). omega (arith, q)) behind))
+          (All-cons P trail (units c) (λ (q : trail ≡ b). omega (arith, q)) after))
     ]
 
 pub ascii_no_other_unit : AsciiIsNoOtherUnit
@@ -158,22 +158,22 @@ ascii_no_other_unit w u b form l h =
     subst (All (λ x. x ≢ b)) form.reads.same_units (none_of_points form.points b l (subst (All (λ x. x ≢ b)) (sym form.encoded) h))
 
 -- after ASCII bytes only, the unit at an index is the byte at that index
-pub ascii_unit : (c : List ℕ) (k : ℕ) → ((j : ℕ) → j < k + 1 → get_or (bytes c) j 0 < 0x80) → k < length (bytes c) → slice_get (units c) k ≡ Some (get_or (bytes c) k 0)
-ascii_unit [] k low long = absurd (omega (arith, long))
-ascii_unit (p ∷ c) zero low long =
+pub slice_get-ascii_prefix : (c : List ℕ) (k : ℕ) → ((j : ℕ) → j < k + 1 → get_or (bytes c) j 0 < 0x80) → k < length (bytes c) → slice_get (units c) k ≡ Some (get_or (bytes c) k 0)
+slice_get-ascii_prefix [] k low long = absurd (omega (arith, long))
+slice_get-ascii_prefix (p ∷ c) zero low long =
     let own = encoding-from_ascii_byte p (bytes c) (low 0 (omega arith)) in
     ap (λ u. slice_get u 0) (units-cons_one p c (omega (arith, own.1))) ∙ ap (λ e. Some (get_or (e ++ bytes c) 0 0)) (sym own.0)
-ascii_unit (p ∷ c) (suc k) low long =
+slice_get-ascii_prefix (p ∷ c) (suc k) low long =
     let own = encoding-from_ascii_byte p (bytes c) (low 0 (omega arith)) in
     let whole : bytes (p ∷ c) ≡ p ∷ bytes c = ap (λ e. e ++ bytes c) own.0 in
-    let behind = ascii_unit c k (λ j l. omega (arith, low (suc j) (omega (arith, l)), ap (λ w. get_or w (suc j) 0) whole)) (omega (arith, long, ap length whole)) in
-    ap (λ u. slice_get u (suc k)) (units-cons_one p c (omega (arith, own.1))) ∙ (behind ∙ ap (λ w. Some (get_or w (suc k) 0)) (sym whole))
+    let after = slice_get-ascii_prefix c k (λ j l. omega (arith, low (suc j) (omega (arith, l)), ap (λ w. get_or w (suc j) 0) whole)) (omega (arith, long, ap length whole)) in
+    ap (λ u. slice_get u (suc k)) (units-cons_one p c (omega (arith, own.1))) ∙ (after ∙ ap (λ w. Some (get_or w (suc k) 0)) (sym whole))
 
 -- a block without a lane from 80 on holds bytes below 80
-pub below_lanes : (n i : ℕ) (w : List ℕ) → i + n ≤ length w → ¬ (HasLaneAtLeast 0x80 (chunk i n w)) → (j : ℕ) → j < n → get_or w (i + j) 0 < 0x80
-below_lanes n i w room none j l =
+pub ascii_byte_in_block : (n i : ℕ) (w : List ℕ) → i + n ≤ length w → ¬ (HasLaneAtLeast 0x80 (chunk i n w)) → (j : ℕ) → j < n → get_or w (i + j) 0 < 0x80
+ascii_byte_in_block n i w bound none j l =
     let lane = get_or-chunk i n w j 0 l in
     elim (cases_lt (get_or w (i + j) 0) 0x80) [
       | inl low ↦ low
-      | inr high ↦ absurd (none (j, (omega (arith, length-chunk i n w room, l), omega (arith, lane, high))))
+      | inr high ↦ absurd (none (j, (omega (arith, length-chunk i n w bound, l), omega (arith, lane, high))))
     ]

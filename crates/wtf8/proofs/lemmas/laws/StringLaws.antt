@@ -9,12 +9,12 @@ use Rattle.wtf8.specs.StringLaws.{EqualBuffersHaveEqualUnits, EqualBufferAndView
 use Rattle.wtf8.specs.StringLaws.{EqualBuffersCompareEqual, EqualViewsCompareEqual}
 use Rattle.wtf8.specs.StringLaws.{RoomLeftIsFound, ScalarsStay, FormsAreOfBuffers, FormsAreOfViews, WhatFitsIsFound}
 use Rattle.wtf8.proofs.Common.{Equal, nat_cmp, slice_cmp, false≢true}
-use Rattle.std.proofs.lemmas.Cmp.{nat_list_cmp_total}
+use Rattle.std.proofs.lemmas.Cmp.{nat_list_cmp_total, tied_itself}
 use Rattle.std.proofs.lemmas.List.Sorted.{searchable_from_sorted}
 use Rattle.std.specs.List.{slice_index_or}
 use Rattle.std.specs.List.Sorted.{IsBinarySearchResult, IsSorted}
 use Rattle.std.specs.Ordering.{is_eq, on}
-use Rattle.wtf8.proofs.lemmas.comparing.Order.{cmp_self, order_of_result}
+use Rattle.wtf8.proofs.lemmas.comparing.Order.{order_of_result}
 use Rattle.wtf8.proofs.lemmas.codec.Encoding.{Begins}
 use Rattle.wtf8.proofs.lemmas.codec.Readings.{well_formed_of, same_form}
 use Rattle.wtf8.proofs.lemmas.codec.Readings.{same_reading}
@@ -37,7 +37,7 @@ equal_views s t = equal_forms s.bytes.now t.bytes.now (view_units s) (view_units
 
 -- bytes compare as `Equal` exactly if they are equal
 equal_bytes : (w v : List ℕ) → (slice_cmp nat_cmp w v ≡ Equal) ↔ (w ≡ v)
-equal_bytes w v = (λ e. order_of_result Equal w v (sym e), λ e. rw e (cmp_self v))
+equal_bytes w v = (λ e. order_of_result Equal w v (sym e), λ e. rw e (tied_itself nat_list_cmp_total v))
 
 pub equal_buffers_compare : EqualBuffersCompareEqual
 equal_buffers_compare s t =
@@ -215,8 +215,8 @@ reserved_more {u} {now} {calls} {call} {capacity} {larger} n f ran grows here fr
       let once = run_once u calls in
       let outcome = (once.no_other now n ran).0 ∙ sym (once.no_other v r (subst (λ c. Run u c v r) (sym same) run)).0 in
       subst (λ w. FitWithin w m larger) outcome (here m last)
-  | before rest same behind ↦
-      let all = All-pop IsNoTruncation (rest ++ call ∷ []) rest (Some call) refl (All-same IsNoTruncation (rest ++ call ∷ []) back (sym behind) none) in
+  | before rest same after ↦
+      let all = All-pop IsNoTruncation (rest ++ call ∷ []) rest (Some call) refl (All-same IsNoTruncation (rest ++ call ∷ []) back (sym after) none) in
       let found = f front rest m v r same all.0 run in
       record { whole = found.whole; form = found.form; within = omega (arith, found.within, grows all.1) }
 ]

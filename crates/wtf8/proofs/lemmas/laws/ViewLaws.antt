@@ -9,7 +9,7 @@ use Rattle.wtf8.specs.PointLaws.{DrainedPointsAreLeft, DrainedPointsAreTaken, Dr
 use Rattle.wtf8.specs.PointLaws.{CollectedPointsAreLeft, CollectedPointsAreTaken, CollectedPointsAreAfterSkip}
 use Rattle.wtf8.specs.StringLaws.{CharactersComeBack}
 use Rattle.wtf8.proofs.lemmas.codec.Encoding.{encoding_one, bytes-append, bytes-pushed, encoding_same}
-use Rattle.wtf8.proofs.lemmas.codec.Readings.{clean-append, no_lead, no_trail, same_reading, units_one, units-append}
+use Rattle.wtf8.proofs.lemmas.codec.Readings.{clean-append, unpaired-after_no_lead, unpaired-before_no_trail, same_reading, units_one, units-append}
 use Rattle.wtf8.proofs.lemmas.strings.Concatenation.{equal_forms, one_form, units_read, one_reading, none_begins_another}
 use Rattle.wtf8.proofs.lemmas.strings.ExtendedForms.{all_back}
 use Rattle.wtf8.proofs.lemmas.strings.Surrogates.{scalars_true, scalars-lossy_points}
@@ -25,37 +25,37 @@ one_view_reading t c r = same_reading c (view_points t) r.clean t.well_formed.cl
 -- An ASCII unit between two lists of units.
 
 -- a form with an ASCII unit before it
-abbrev ascii_form : {x v : List ℕ} (b : ℕ) → b < 0x80 → IsForm x v → IsForm (b ∷ x) (b ∷ v)
-ascii_form b l g = record {
+abbrev IsForm-cons_ascii : {x v : List ℕ} (b : ℕ) → b < 0x80 → IsForm x v → IsForm (b ∷ x) (b ∷ v)
+IsForm-cons_ascii b l g = record {
   points = b ∷ g.points;
   reads = record {
-    clean = clean-append (b ∷ []) g.points (omega arith) g.reads.clean (no_lead [] b (λ p. omega (arith, p.0, l)));
+    clean = clean-append (b ∷ []) g.points (omega arith) g.reads.clean (unpaired-after_no_lead [] b (λ p. omega (arith, p.0, l)));
     same_units = ap (λ u. u ++ units g.points) (units_one b (omega arith)) ∙ ap (λ u. b ∷ u) g.reads.same_units;
   };
   encoded = ap (λ w. w ++ bytes g.points) (encoding_one b l) ∙ ap (λ w. b ∷ w) g.encoded;
 }
 
 -- two forms with an ASCII unit between them
-ascii_between : {w u x v : List ℕ} (b : ℕ) → b < 0x80 → (f : IsForm w u) (g : IsForm x v) → Reads (f.points ++ b ∷ g.points) (u ++ b ∷ v)
-ascii_between {u = u} b l f g =
-    let behind = (ascii_form b l g).reads in
+Reads-ascii_between : {w u x v : List ℕ} (b : ℕ) → b < 0x80 → (f : IsForm w u) (g : IsForm x v) → Reads (f.points ++ b ∷ g.points) (u ++ b ∷ v)
+Reads-ascii_between {u = u} b l f g =
+    let after = (IsForm-cons_ascii b l g).reads in
     record {
-      clean = clean-append f.points (b ∷ g.points) f.reads.clean behind.clean (no_trail b g.points (λ t. omega (arith, t.0, l)));
-      same_units = units-append f.points (b ∷ g.points) ∙ (ap (λ a. a ++ units (b ∷ g.points)) f.reads.same_units ∙ ap (λ a. u ++ a) behind.same_units);
+      clean = clean-append f.points (b ∷ g.points) f.reads.clean after.clean (unpaired-before_no_trail b g.points (λ t. omega (arith, t.0, l)));
+      same_units = units-append f.points (b ∷ g.points) ∙ (ap (λ a. a ++ units (b ∷ g.points)) f.reads.same_units ∙ ap (λ a. u ++ a) after.same_units);
     }
 
-ascii_between_form : {w u x v : List ℕ} (b : ℕ) → b < 0x80 → IsForm w u → IsForm x v → IsForm (w ++ b ∷ x) (u ++ b ∷ v)
-ascii_between_form {w} b l f g = record {
+IsForm-ascii_between : {w u x v : List ℕ} (b : ℕ) → b < 0x80 → IsForm w u → IsForm x v → IsForm (w ++ b ∷ x) (u ++ b ∷ v)
+IsForm-ascii_between {w} b l f g = record {
   points = f.points ++ b ∷ g.points;
-  reads = ascii_between b l f g;
-  encoded = bytes-append f.points (b ∷ g.points) ∙ (ap (λ a. a ++ bytes (b ∷ g.points)) f.encoded ∙ ap (λ a. w ++ a) (ascii_form b l g).encoded);
+  reads = Reads-ascii_between b l f g;
+  encoded = bytes-append f.points (b ∷ g.points) ∙ (ap (λ a. a ++ bytes (b ∷ g.points)) f.encoded ∙ ap (λ a. w ++ a) (IsForm-cons_ascii b l g).encoded);
 }
 
 -- `whole` is `front`, an ASCII unit and `back` in units exactly if it is in bytes
 pub parted_by_ascii : (whole front back : Wtf8) (b : ℕ) → b < 0x80
     → (whole.bytes.now ≡ front.bytes.now ++ b ∷ back.bytes.now) ↔ (view_units whole ≡ view_units front ++ b ∷ view_units back)
 parted_by_ascii whole front back b l =
-    equal_forms whole.bytes.now _ (view_units whole) _ (view_form whole) (ascii_between_form b l (view_form front) (view_form back))
+    equal_forms whole.bytes.now _ (view_units whole) _ (view_form whole) (IsForm-ascii_between b l (view_form front) (view_form back))
 
 -- a view whose units begin with the units of `front` and an ASCII unit: its bytes up to there, and the rest
 pub record BeginsByAscii (whole front : Wtf8) (b : ℕ) (rest : List ℕ) : Type 0 where
@@ -71,8 +71,8 @@ begins_by_ascii whole front b rest l e =
     let all = units_read (view_points whole) (view_units front ++ b ∷ rest) (subst (Reads (view_points whole)) e (view_reads whole)) in
     let back = one_form rest (all_back (view_units front ++ b ∷ []) rest (subst (All IsUnit) (sym (append_assoc (view_units front) (b ∷ []) rest)) all)) in
     let same : whole.bytes.now ≡ w ++ b ∷ back.one =
-    (equal_forms whole.bytes.now (w ++ b ∷ back.one) (view_units whole) (view_units front ++ b ∷ rest) (view_form whole) (ascii_between_form b l f back.has)).1 e in
-    let reads = subst (Reads (view_points front ++ b ∷ back.has.points)) (sym e) (ascii_between b l f back.has) in
+    (equal_forms whole.bytes.now (w ++ b ∷ back.one) (view_units whole) (view_units front ++ b ∷ rest) (view_form whole) (IsForm-ascii_between b l f back.has)).1 e in
+    let reads = subst (Reads (view_points front ++ b ∷ back.has.points)) (sym e) (Reads-ascii_between b l f back.has) in
     record {
       inside = omega (arith, ap length same, length-append w (b ∷ back.one));
       front_bytes = ap (take (length w)) same ∙ take_at w (b ∷ back.one) (length w) refl;
@@ -110,17 +110,17 @@ same_run u v w calls m n x y =
 -- What iterators over code points yield before their first `None`.
 
 module _ {S : Type 0} {steps : S → Option CodePoint → S → Type 0} {s : S} {all : List ℕ} where
-  abbrev drained : (points : List CodePoint) → Drains steps s points → YieldsList steps number s all → numbers points ≡ all
-  drained points d e = items_from_drains points (d.1.0, d.1.1, λ _. (d.0, d.1.2)) e
+  abbrev numbers-drained : (points : List CodePoint) → Drains steps s points → YieldsList steps number s all → numbers points ≡ all
+  numbers-drained points d e = items_from_drains points (d.1.0, d.1.1, λ _. (d.0, d.1.2)) e
 
 pub drained_points : DrainedPointsAreLeft
-drained_points left points d = drained points d (YieldsList-from_first number (λ c. c) left refl)
+drained_points left points d = numbers-drained points d (YieldsList-from_first number (λ c. c) left refl)
 
 pub taken_points : DrainedPointsAreTaken
-taken_points s points d = drained points d (YieldsList-from_take (take_count s) (YieldsList-from_first number (λ c. c) (take_source s) refl) refl)
+taken_points s points d = numbers-drained points d (YieldsList-from_take (take_count s) (YieldsList-from_first number (λ c. c) (take_source s) refl) refl)
 
 pub skipped_points : DrainedPointsAreAfterSkip
-skipped_points s points d = drained points d (YieldsList-from_skip (skip_count s) (YieldsList-from_first number (λ c. c) (skip_source s) refl) refl)
+skipped_points s points d = numbers-drained points d (YieldsList-from_skip (skip_count s) (YieldsList-from_first number (λ c. c) (skip_source s) refl) refl)
 
 pub collected_points : CollectedPointsAreLeft
 collected_points left points d = items_from_drains points d (YieldsList-from_first number (λ c. c) left refl)

@@ -7,8 +7,8 @@ use Rattle.std.proofs.lemmas.List.{drop_more, take_more, take-append-drop, lengt
 use Rattle.std.proofs.lemmas.List.Elements.{All-append}
 use Rattle.wtf8.specs.Laws.{UnitsHaveOneReading, ReadingsAreOfUnits, UnitsHaveOneForm, FormsAreOfOneList, EqualFormsHaveEqualUnits, NoEncodingBeginsAnother}
 use Rattle.wtf8.proofs.lemmas.codec.Encoding.{encoding_three, encoding_four, length-surrogate, bytes-append, bytes-pushed, encoding_same}
-use Rattle.wtf8.proofs.lemmas.codec.Readings.{clean-append, clean-front, clean-rest, pair_true, true_pair, meets_by, MeetsAsPair-cons, meets_or_not, nothing_begins}
-use Rattle.wtf8.proofs.lemmas.codec.Readings.{no_lead, no_trail, same_reading, units_one, units_pair, same_form, trail_first, lead_of, trail_of, units_two}
+use Rattle.wtf8.proofs.lemmas.codec.Readings.{clean-append, clean-front, clean-rest, is_pair-surrogates, surrogates_from_is_pair, meets_by, MeetsAsPair-cons, meets_or_not, unpaired-nil_right}
+use Rattle.wtf8.proofs.lemmas.codec.Readings.{unpaired-after_no_lead, unpaired-before_no_trail, same_reading, units_one, units_pair, same_form, trail_first, lead_of, trail_of, units_two}
 use Rattle.wtf8.proofs.lemmas.codec.Readings.{units-pushed, clean-first, form_of, units_from_form}
 
 -- Lists of any kind: the last item, and the item at an index.
@@ -40,17 +40,17 @@ module _ {X : Type 0} where
       ]
 
   -- the items before an index, the item there and the items after it are the list
-  pub item_at : (xs : List X) (i : ℕ) (x : X) → i < length xs → x ≡ get_or xs i x → take i xs ++ x ∷ drop (i + 1) xs ≡ xs
-  item_at xs i x h e = ap (λ y. take i xs ++ y ∷ drop (i + 1) xs) e ∙ (ap (λ d. take i xs ++ d) (sym (drop_more xs i x h)) ∙ take-append-drop i xs)
+  pub take-cons-drop : (xs : List X) (i : ℕ) (x : X) → i < length xs → x ≡ get_or xs i x → take i xs ++ x ∷ drop (i + 1) xs ≡ xs
+  take-cons-drop xs i x h e = ap (λ y. take i xs ++ y ∷ drop (i + 1) xs) e ∙ (ap (λ d. take i xs ++ d) (sym (drop_more xs i x h)) ∙ take-append-drop i xs)
 
-  pub take-one_more : (xs : List X) (i : ℕ) (x : X) → i < length xs → x ≡ get_or xs i x → take (i + 1) xs ≡ take i xs ++ x ∷ []
-  take-one_more xs i x h e = take_more xs i x h ∙ ap (λ y. take i xs ++ y ∷ []) (sym e)
+  pub take-push : (xs : List X) (i : ℕ) (x : X) → i < length xs → x ≡ get_or xs i x → take (i + 1) xs ≡ take i xs ++ x ∷ []
+  take-push xs i x h e = take_more xs i x h ∙ ap (λ y. take i xs ++ y ∷ []) (sym e)
 
 -- Joining lists of code points with `glue`: its result is clean and has the units of both.
 
 -- a lead and a trail at the seam become one code point
 glue-pair : (f : List ℕ) (l t : ℕ) (r : List ℕ) → IsLead l → IsTrail t → glue (f ++ l ∷ []) (t ∷ r) ≡ f ++ pair l t ∷ r
-glue-pair [] l t r h k = rw (pair_true l t h k) refl
+glue-pair [] l t r h k = rw (is_pair-surrogates l t h k) refl
 glue-pair (p ∷ []) l t r h k = ap (λ e. p ∷ e) (glue-pair [] l t r h k)
 glue-pair (p ∷ q ∷ f) l t r h k = ap (λ e. p ∷ e) (glue-pair (q ∷ f) l t r h k)
 
@@ -62,15 +62,15 @@ pub glue-unpaired : (c d : List ℕ) → ¬ (MeetsAsPair c d) → glue c d ≡ c
 glue-unpaired [] d n = refl
 glue-unpaired (p ∷ []) [] n = refl
 glue-unpaired (p ∷ []) (q ∷ d) n = elim (cases_Bool (is_pair p q)) [
-  | inl e ↦ let h = true_pair p q e in absurd (n (meets_by [] d p q h.0 h.1 refl refl))
+  | inl e ↦ let h = surrogates_from_is_pair p q e in absurd (n (meets_by [] d p q h.0 h.1 refl refl))
   | inr e ↦ rw e refl
 ]
 glue-unpaired (p ∷ q ∷ c) d n = ap (λ e. p ∷ e) (glue-unpaired (q ∷ c) d (λ m. n (MeetsAsPair-cons p m)))
 
 clean-paired : (f : List ℕ) (l t : ℕ) (r : List ℕ) → IsClean (f ++ l ∷ []) → IsClean (t ∷ r) → IsLead l → IsTrail t → IsClean (f ++ pair l t ∷ r)
 clean-paired f l t r x y h k =
-    let behind = clean-append (pair l t ∷ []) r (omega arith) (clean-rest t r y) (no_lead [] (pair l t) (λ p. omega (arith, p.1))) in
-    clean-append f (pair l t ∷ r) (clean-front f (l ∷ []) x) behind (no_trail (pair l t) r (λ p. omega (arith, p.1)))
+    let after = clean-append (pair l t ∷ []) r (omega arith) (clean-rest t r y) (unpaired-after_no_lead [] (pair l t) (λ p. omega (arith, p.1))) in
+    clean-append f (pair l t ∷ r) (clean-front f (l ∷ []) x) after (unpaired-before_no_trail (pair l t) r (λ p. omega (arith, p.1)))
 
 pub clean-glue : (c d : List ℕ) → IsClean c → IsClean d → IsClean (glue c d)
 clean-glue c d x y = elim (meets_or_not c d) [
@@ -86,7 +86,7 @@ pub units-glue : (c d : List ℕ) → units (glue c d) ≡ units c ++ units d
 units-glue [] d = refl
 units-glue (p ∷ []) [] = sym (append-nil (units (p ∷ [])))
 units-glue (p ∷ []) (q ∷ d) = elim (cases_Bool (is_pair p q)) [
-  | inl e ↦ let h = true_pair p q e in rw e (units-paired p q d h.0 h.1)
+  | inl e ↦ let h = surrogates_from_is_pair p q e in rw e (units-paired p q d h.0 h.1)
   | inr e ↦ rw e (ap (λ u. u ++ units (q ∷ d)) (sym (append-nil (units_of p))))
 ]
 units-glue (p ∷ q ∷ c) d = ap (λ u. units_of p ++ u) (units-glue (q ∷ c) d) ∙ sym (append_assoc (units_of p) (units (q ∷ c)) (units d))
@@ -96,7 +96,7 @@ pub reads-glue : (c d a b : List ℕ) → Reads c a → Reads d b → Reads (glu
 reads-glue c d a b x y = record { clean = clean-glue c d x.clean y.clean; same_units = cc (units-glue c d) }
 
 pub glue-nil : (c : List ℕ) → glue c [] ≡ c
-glue-nil c = glue-unpaired c [] nothing_begins ∙ append-nil c
+glue-nil c = glue-unpaired c [] unpaired-nil_right ∙ append-nil c
 
 -- joining is associative, since both ways read the same units
 pub glue_assoc : (c d e : List ℕ) → IsClean c → IsClean d → IsClean e → glue (glue c d) e ≡ glue c (glue d e)
@@ -113,9 +113,9 @@ paired_bytes w l t v = (take (length w - 3) w ++ encoding (pair l t)) ++ drop 3 
 -- the bytes of two lists that meet as a pair: before the lead, and after the trail
 pub record MeetingBytes (w v front rest : List ℕ) (trail : ℕ) : Type 0 where
   pub three : 3 ≤ length w
-  pub three_behind : 3 ≤ length v
+  pub three_after : 3 ≤ length v
   pub before : take (length w - 3) w ≡ bytes front
-  pub behind : drop 3 v ≡ bytes rest
+  pub after : drop 3 v ≡ bytes rest
   pub last : get_or v 2 0 ≡ 0x80 + trail % 64
 
 pub meeting_bytes : {w v c d : List ℕ} (m : MeetsAsPair c d) → bytes c ≡ w → bytes d ≡ v → MeetingBytes w v m.front m.rest m.trail
@@ -127,16 +127,16 @@ meeting_bytes {w} {v} m e g =
     let long : length w ≡ length (bytes m.front) + 3 = cc (ap length front, length-append (bytes m.front) (encoding m.lead)) in
     record {
       three = omega (arith, long);
-      three_behind = omega (arith, ap length back, length-append (encoding m.trail) (bytes m.rest), trail);
+      three_after = omega (arith, ap length back, length-append (encoding m.trail) (bytes m.rest), trail);
       before = ap (take (length w - 3)) front ∙ take_at (bytes m.front) (encoding m.lead) (length w - 3) (omega (arith, long));
-      behind = ap (drop 3) back ∙ drop_at (encoding m.trail) (bytes m.rest) 3 trail;
+      after = ap (drop 3) back ∙ drop_at (encoding m.trail) (bytes m.rest) 3 trail;
       last = ap (λ b. get_or b 2 0) (back ∙ ap (λ e. e ++ bytes m.rest) (encoding_three m.trail (omega arith) (omega arith)));
     }
 
 -- the bytes of two joined lists
 pub bytes_paired : {w v : List ℕ} (c d : List ℕ) (m : MeetsAsPair c d) → bytes c ≡ w → bytes d ≡ v → bytes (glue c d) ≡ paired_bytes w m.lead m.trail v
 bytes_paired {w} {v} c d m e g =
-    let s = meeting_bytes m e g in simp (glue_meeting c d m, bytes-append, s.before, s.behind, append_assoc)
+    let s = meeting_bytes m e g in simp (glue_meeting c d m, bytes-append, s.before, s.after, append_assoc)
 
 pub bytes_glue-unpaired : {w v : List ℕ} (c d : List ℕ) → ¬ (MeetsAsPair c d) → bytes c ≡ w → bytes d ≡ v → bytes (glue c d) ≡ w ++ v
 bytes_glue-unpaired {w} {v} c d n e g = simp (glue-unpaired c d n, bytes-append, e, g)
@@ -185,8 +185,8 @@ trail_begins (p ∷ d) r t x h e = (d, ap (λ n. n ∷ d) (trail_first p d t r x
 abbrev pub points_meet : {c d a b : List ℕ} → Reads c a → Reads d b → MeetsAsPair a b → MeetsAsPair c d
 points_meet {c} {d} x y m =
     let before = lead_last c m.front m.lead m.is_lead (x.same_units ∙ m.ends) in
-    let behind = trail_begins d m.rest m.trail y.clean m.is_trail (y.same_units ∙ m.begins) in
-    meets_by before.0 behind.0 m.lead m.trail m.is_lead m.is_trail before.1 behind.1
+    let after = trail_begins d m.rest m.trail y.clean m.is_trail (y.same_units ∙ m.begins) in
+    meets_by before.0 after.0 m.lead m.trail m.is_lead m.is_trail before.1 after.1
 
 pub units_meet : {c d a b : List ℕ} → Reads c a → Reads d b → MeetsAsPair c d → MeetsAsPair a b
 units_meet x y m =
@@ -206,7 +206,7 @@ pub length_paired : (w v z a b : List ℕ) → IsForm w a → IsForm v b → IsF
 length_paired w v z a b x y f m =
     let s = meeting_bytes (points_meet x.reads y.reads m) x.encoded y.encoded in
     let same = same_form z (paired_bytes w m.lead m.trail v) (a ++ b) f (form_paired w v a b x y m) in
-    ap (λ e. length e + 2) same ∙ length-paired_bytes w v m.lead m.trail m.is_lead m.is_trail s.three s.three_behind
+    ap (λ e. length e + 2) same ∙ length-paired_bytes w v m.lead m.trail m.is_lead m.is_trail s.three s.three_after
 
 pub length_append-unpaired : (w v z a b : List ℕ) → IsForm w a → IsForm v b → IsForm z (a ++ b) → ¬ (MeetsAsPair a b) → length z ≡ length w + length v
 length_append-unpaired w v z a b x y f n = ap length (same_form z (w ++ v) (a ++ b) f (form_append-unpaired w v a b x y n)) ∙ length-append w v

@@ -9,8 +9,8 @@ use Rattle.wtf8.proofs.Common.{AreScalarTo}
 use lib.Utf8.{scalar_cases}
 use Rattle.std.specs.declared.vec.Vec.{Vec}
 use Rattle.wtf8.proofs.lemmas.codec.Encoding.{length-surrogate, length-encoding_bounds, length-bytes_append, encoding_four}
-use Rattle.wtf8.proofs.lemmas.codec.Readings.{meets_by, form_of, well_formed_of, same_form, units_from_form, moved, same_reading, same_points}
-use Rattle.wtf8.proofs.lemmas.codec.Readings.{units-append, same_heads, meets_or_not, units_one, lists_have_lengths}
+use Rattle.wtf8.proofs.lemmas.codec.Readings.{meets_by, form_of, well_formed_of, same_form, units_from_form, IsWellFormed-equal_bytes, same_reading, same_points}
+use Rattle.wtf8.proofs.lemmas.codec.Readings.{units-append, cons-equal_parts, meets_or_not, units_one, lists_have_lengths}
 use Rattle.wtf8.proofs.lemmas.strings.Concatenation.{paired_bytes, meeting_bytes, form_meeting, form-append, one_form}
 use Rattle.wtf8.proofs.lemmas.strings.Concatenation.{clean-glue, units-glue, glue_meeting, glue-unpaired, units_read, bytes_paired, bytes_glue-unpaired, length-paired_bytes, form-glue}
 use Rattle.wtf8.proofs.lemmas.strings.Surrogates.{scalar-middle, surrogate_in}
@@ -27,7 +27,7 @@ module _ {T E Z : Type 0} {b n : Vec ℕ Z} {v : List ℕ} {r : Result T E} wher
   pub units_appended : (was old : UnitString) (k : IsWellFormed n.items) → was ≡ old → was.bytes ≡ b.items → ExtendsFormOrKeeps b v n r → OnOk r (units k.points ≡ old.units ++ v)
   units_appended was old k s e g =
       let before = subst (λ w. IsForm w old.units) (sym (ap (λ (t : UnitString). t.bytes) s) ∙ e) old.form in
-      on_ok_weaker r (λ h. units_from_form n.items (units k.points) _ (form_of k) (rw h (g.gained old.units before))) g.becomes.ok
+      on_ok_weaker r (λ h. units_from_form n.items (units k.points) _ (form_of k) (rw h (g.extends old.units before))) g.becomes.ok
 
   pub kept_contents : (was old new : UnitString) → was ≡ old → was.bytes ≡ b.items → new.bytes ≡ n.items → ExtendsFormOrKeeps b v n r → OnErr r (KeepsContents old new)
   kept_contents was old new s e f g = on_err_weaker r (λ h. contents_of new old (f ∙ (h ∙ (sym e ∙ ap (λ (t : UnitString). t.bytes) s)))) g.becomes.err
@@ -35,9 +35,9 @@ module _ {T E Z : Type 0} {b n : Vec ℕ Z} {v : List ℕ} {r : Result T E} wher
   pub room_found : (was old : UnitString) → was ≡ old → was.bytes ≡ b.items → was.capacity ≡ vec_capacity b → ExtendsFormOrKeeps b v n r → HasRoomFor old v → IsOk r
   room_found was old s e c g fit =
       let before = subst (λ w. IsForm w old.units) (sym (ap (λ (t : UnitString). t.bytes) s) ∙ e) old.form in
-      g.becomes.room (omega (arith, fit.within, ap length (same_form g.whole fit.whole (old.units ++ v) (g.gained old.units before) fit.form), c, ap (λ (t : UnitString). t.capacity) s))
+      g.becomes.room (omega (arith, fit.within, ap length (same_form g.whole fit.whole (old.units ++ v) (g.extends old.units before) fit.form), c, ap (λ (t : UnitString). t.capacity) s))
 
--- the bytes gained `v` if they are the form of the old units followed by `v`
+-- `v` was appended if the new bytes are the form of the old units followed by `v`
 ExtendsForm-by_units : {w new : List ℕ} (v : List ℕ) (h : IsWellFormed w) → IsForm new (units h.points ++ v) → ExtendsForm w new v
 ExtendsForm-by_units {w} {new} v h f u x = subst (λ a. IsForm new (a ++ v)) (units_from_form w (units h.points) u (form_of h) x) f
 
@@ -64,7 +64,7 @@ ExtendsForm-push {w} h p range n = subst (ExtendsForm w (w ++ encoding p)) (appe
 -- appending a trail that completes the lead at the end
 pub record CompletedPair (w : List ℕ) (l t : ℕ) : Type 0 where
   pub three : 3 ≤ length w
-  pub gains : ExtendsForm w (take (length w - 3) w ++ encoding (pair l t)) (units_of t)
+  pub extends : ExtendsForm w (take (length w - 3) w ++ encoding (pair l t)) (units_of t)
 
 pub CompletedPair-from_lead : {w : List ℕ} (h : IsWellFormed w) (f : List ℕ) (l t : ℕ) → IsLead l → IsTrail t → h.points ≡ f ++ l ∷ [] → CompletedPair w l t
 CompletedPair-from_lead {w} h f l t lead trail e =
@@ -74,20 +74,20 @@ CompletedPair-from_lead {w} h f l t lead trail e =
     let pair_bytes = take (length w - 3) w ++ encoding (pair l t) in
     let nothing : drop 3 (encoding t) ≡ [] = drop_all 3 (encoding t) (omega (arith, length-surrogate t (omega arith, omega arith))) in
     let whole : pair_bytes ++ drop 3 (encoding t) ≡ pair_bytes = ap (λ r. pair_bytes ++ r) nothing ∙ append-nil pair_bytes in
-    let gains = subst (ExtendsForm w pair_bytes) (append-nil (units_of t)) (subst (λ x. ExtendsForm w x (units (t ∷ []))) whole (ExtendsForm-meeting_pair h k m)) in
-    record { three = three; gains = gains }
+    let extends = subst (ExtendsForm w pair_bytes) (append-nil (units_of t)) (subst (λ x. ExtendsForm w x (units (t ∷ []))) whole (ExtendsForm-meeting_pair h k m)) in
+    record { three = three; extends = extends }
 
 -- Text: its bytes are well-formed, and its characters are their code points.
 
 -- a scalar value is a code point that is no surrogate
 pub record ScalarFacts (c : ℕ) : Type 0 where
   pub range : IsCodePoint c
-  pub apart : ¬ (IsSurrogate c)
+  pub not_surrogate : ¬ (IsSurrogate c)
 
 pub scalar_facts : (c : ℕ) → scalar c ≡ true → ScalarFacts c
 scalar_facts c e = elim (scalar_cases c e) [
-  | inl l ↦ record { range = omega arith; apart = λ s. omega arith }
-  | inr h ↦ record { range = omega arith; apart = λ s. omega arith }
+  | inl l ↦ record { range = omega arith; not_surrogate = λ s. omega arith }
+  | inr h ↦ record { range = omega arith; not_surrogate = λ s. omega arith }
 ]
 
 pub clean-scalars : (cs : List ℕ) → scalars cs ≡ true → IsClean cs
@@ -96,7 +96,7 @@ clean-scalars (c ∷ []) e = (scalar_facts c (and_parts (scalar c) (scalars []) 
 clean-scalars (c ∷ d ∷ cs) e =
     let p = and_parts (scalar c) (scalars (d ∷ cs)) e in
     let f = scalar_facts c p.0 in
-    (f.range, (λ h. f.apart (omega (arith, h.0), omega (arith, h.0))), clean-scalars (d ∷ cs) p.1)
+    (f.range, (λ h. f.not_surrogate (omega (arith, h.0), omega (arith, h.0))), clean-scalars (d ∷ cs) p.1)
 
 -- the bytes of a text are well-formed, with its characters as code points
 abbrev pub well_formed_text : (w : List ℕ) → IsUtf8 w → IsWellFormed w
@@ -106,8 +106,8 @@ well_formed_text w u = record {
   encoded = bytes_are_encodes (chars w) ∙ encodes-chars w u;
 }
 
-abbrev pub text_at : {v w : List ℕ} → IsUtf8 v → w ≡ v → IsWellFormed w
-text_at {v} u e = moved (well_formed_text v u) e
+abbrev pub well_formed-equal_text : {v w : List ℕ} → IsUtf8 v → w ≡ v → IsWellFormed w
+well_formed-equal_text {v} u e = IsWellFormed-equal_bytes (well_formed_text v u) e
 
 -- Scalar values: parts of a list, and lists joined.
 
@@ -120,7 +120,7 @@ pub scalar-characters : (c : List ℕ) → scalars c ≡ true → AreScalar c
 scalar-characters [] e = tt
 scalar-characters (p ∷ c) e =
     let parts = and_parts (scalar p) (scalars c) e in
-    ((scalar_facts p parts.0).apart, scalar-characters c parts.1)
+    ((scalar_facts p parts.0).not_surrogate, scalar-characters c parts.1)
 
 pub scalar_text : {w : List ℕ} → IsUtf8 w → AreScalar (chars w)
 scalar_text {w} u = scalar-characters (chars w) (scalars-chars w u)
@@ -133,8 +133,8 @@ pub scalar_back_unpaired : {c d : List ℕ} → AreScalar d → ¬ (MeetsAsPair 
 scalar_back_unpaired s m = (subst AreScalar m.begins s).0 (omega (arith, m.is_trail), omega (arith, m.is_trail))
 
 -- equal bytes have the same code points
-pub scalar_moved : {v w : List ℕ} (h : IsWellFormed v) (k : IsWellFormed w) → w ≡ v → AreScalar h.points → AreScalar k.points
-scalar_moved h k e s = subst AreScalar (sym (same_points k h e)) s
+pub scalar-equal_bytes : {v w : List ℕ} (h : IsWellFormed v) (k : IsWellFormed w) → w ≡ v → AreScalar h.points → AreScalar k.points
+scalar-equal_bytes h k e s = subst AreScalar (sym (same_points k h e)) s
 
 pub scalar_each : (c : List ℕ) → ((f : List ℕ) (p : ℕ) (b : List ℕ) → c ≡ f ++ p ∷ b → ¬ (IsSurrogate p)) → AreScalar c
 scalar_each [] n = tt
@@ -155,7 +155,7 @@ scalar_before : (k : ℕ) (f more b d : List ℕ) (p : ℕ) → AreScalarTo k (f
     → length (bytes f) < k → ¬ (IsSurrogate p)
 scalar_before k f [] b d p s e h l = absurd (omega (arith, h, ap (λ x. length (bytes x)) (append-nil f)))
 scalar_before k f (q ∷ more) b d p s e h l =
-    let same = same_heads p q b (more ++ d) (append_cancel_left f _ _ (e ∙ append_assoc f (q ∷ more) d)) in
+    let same = cons-equal_parts p q b (more ++ d) (append_cancel_left f _ _ (e ∙ append_assoc f (q ∷ more) d)) in
     s f p more (ap (λ x. f ++ x ∷ more) (sym same.0)) l
 
 pub scalar_to-append : (k : ℕ) (c d : List ℕ) → AreScalarTo k c → (length (bytes c) < k → AreScalar d) → AreScalarTo k (c ++ d)
@@ -193,8 +193,8 @@ scalar_to-glue k n c d s l t = elim (meets_or_not c d) [
 pub scalar_to-cut : (k n : ℕ) (f b : List ℕ) (q : ℕ) {c : List ℕ} → AreScalarTo k c → c ≡ f ++ b → n ≤ k → n ≤ length (bytes f) → AreScalarTo n (f ++ q ∷ [])
 scalar_to-cut k n f b q s e l m = scalar_to-append n f (q ∷ []) (scalar_to-front k n f b (subst (AreScalarTo k) e s) l) (λ x. absurd (omega (arith, x, m)))
 
-pub scalar_to-moved : {v w : List ℕ} (k : ℕ) (h : IsWellFormed v) (x : IsWellFormed w) → w ≡ v → AreScalarTo k h.points → AreScalarTo k x.points
-scalar_to-moved k h x e s = subst (AreScalarTo k) (sym (same_points x h e)) s
+pub scalar_to-equal_bytes : {v w : List ℕ} (k : ℕ) (h : IsWellFormed v) (x : IsWellFormed w) → w ≡ v → AreScalarTo k h.points → AreScalarTo k x.points
+scalar_to-equal_bytes k h x e s = subst (AreScalarTo k) (sym (same_points x h e)) s
 
 -- no surrogate begins in the known prefix of the bytes
 pub none_before : {w : List ℕ} (k : ℕ) (h : IsWellFormed w) (i : ℕ) → AreScalarTo k h.points → i < k → ¬ (SurrogateAt w i)
@@ -202,22 +202,22 @@ none_before k h i s l at =
     let p = surrogate_in h.points i (subst (λ v. SurrogateAt v i) (sym h.encoded) at) in
     s p.front p.point p.back p.joined (omega (arith, l, p.front_len)) p.surrogate
 
--- after bytes gained units they are well-formed, with a known prefix of `n` bytes
-known_prefix_after_gain : (c v : List ℕ) (k n : ℕ) {old new : List ℕ} (h : IsWellFormed old) → v ≡ units c → IsClean c → AreScalarTo k h.points → n ≤ k
+-- after units were appended the bytes are well-formed, with a known prefix of `n` bytes
+known_prefix_after_extension : (c v : List ℕ) (k n : ℕ) {old new : List ℕ} (h : IsWellFormed old) → v ≡ units c → IsClean c → AreScalarTo k h.points → n ≤ k
     → (length old < n → AreScalar c) → ExtendsForm old new v → (x : IsWellFormed new) × (AreScalarTo n x.points × Unit {0})
-known_prefix_after_gain c v k n h e x s l t gained =
-    let f = gained (units h.points) (form_of h) in
+known_prefix_after_extension c v k n h e x s l t extended =
+    let f = extended (units h.points) (form_of h) in
     let now = well_formed_of f in
     let whole : units now.points ≡ units (glue h.points c) = cc (f.reads.same_units, units-glue h.points c) in
     let same : now.points ≡ glue h.points c = same_reading now.points (glue h.points c) now.clean (clean-glue h.points c h.clean x) whole in
     (now, (subst (AreScalarTo n) (sym same) (scalar_to-glue k n h.points c s l (λ m. t (omega (arith, m, ap length h.encoded)))), tt))
 
 module _ {T E Z : Type 0} {b m : Vec ℕ Z} {v : List ℕ} where
-  -- after a call that appended units or was refused, bytes are well-formed, with a known prefix of `n` bytes
+  -- after a call that appended units or was refused the bytes are well-formed, with a known prefix of `n` bytes
   pub known_prefix_after_append : (r : Result T E) (c : List ℕ) (k n : ℕ) (h : IsWellFormed b.items) → v ≡ units c → IsClean c → AreScalarTo k h.points → n ≤ k
       → (length b.items < n → AreScalar c) → ExtendsFormOrKeeps b v m r → (x : IsWellFormed m.items) × (AreScalarTo n x.points × Unit {0})
-  known_prefix_after_append (Ok _) c k n h e x s l t g = known_prefix_after_gain c v k n h e x s l t (rw g.becomes.ok g.gained)
-  known_prefix_after_append (Err _) c k n h e x s l t g = (moved h g.becomes.err, ((λ f p b g m. s f p b g (omega (arith, l, m))), tt))
+  known_prefix_after_append (Ok _) c k n h e x s l t g = known_prefix_after_extension c v k n h e x s l t (rw g.becomes.ok g.extends)
+  known_prefix_after_append (Err _) c k n h e x s l t g = (IsWellFormed-equal_bytes h g.becomes.err, ((λ f p b g m. s f p b g (omega (arith, l, m))), tt))
 
 module _ {T E Z : Type 0} {b m : Vec ℕ Z} where
   pub known_prefix_after_push : (r : Result T E) (p : ℕ) (k n : ℕ) (h : IsWellFormed b.items) → IsCodePoint p → AreScalarTo k h.points → n ≤ k
@@ -236,7 +236,7 @@ glued_length c d = elim (meets_or_not c d) [
   | inl m ↦
       let s = meeting_bytes m refl refl in
       let both = ap length (bytes_paired c d m refl refl) in
-      let paired = length-paired_bytes (bytes c) (bytes d) m.lead m.trail m.is_lead m.is_trail s.three s.three_behind in
+      let paired = length-paired_bytes (bytes c) (bytes d) m.lead m.trail m.is_lead m.is_trail s.three s.three_after in
       let three = length-surrogate m.trail (omega (arith, m.is_trail), omega (arith, m.is_trail)) in
       let back : length (bytes d) ≡ 3 + length (bytes m.rest) = simp (m.begins, length-append, three) in
       let own : length (units d) ≡ 1 + length (units m.rest) = simp (m.begins, length-append, units_one m.trail (omega (arith, m.is_trail))) in

@@ -5,7 +5,7 @@ use Rattle.wtf8.proofs.Common.{IsWellFormed, IsForm, IsBoundary, IsFront, IsBack
 use Rattle.wtf8.proofs.Common.{IsCursorOfUnit, CutsUnits, None, sum_by-append, sum_by_more, Splits, IsMiddle, UnitCursor}
 use Rattle.wtf8.proofs.lemmas.lanes.UnitCounts.{utf16_len-ascii, utf16_len-continuation, utf16_len-lead_below_F0, utf16_len-lead_from_F0}
 use Rattle.wtf8.proofs.lemmas.codec.Encoding.{Begins, first-encoding, continuation-encoding, length-encoding_bounds, length-bytes_append, bytes-append, encoding_cases, one, two, three, four}
-use Rattle.wtf8.proofs.lemmas.codec.Readings.{clean-front, clean-back, reads_same, same_heads, same_points, same_reading, well_formed_of, units_one, units_two}
+use Rattle.wtf8.proofs.lemmas.codec.Readings.{clean-front, clean-back, reads_same, cons-equal_parts, same_points, same_reading, well_formed_of, units_one, units_two}
 
 -- Cuts of the bytes of a list of code points.
 
@@ -68,8 +68,8 @@ pub record Cut (w : List ℕ) (h : IsWellFormed w) (k : ℕ) : Type 0 where
   pub splits : Splits (units h.points) k front back
   pub before : IsWellFormed (take k w)
   pub before_points : before.points ≡ front
-  pub behind : IsWellFormed (drop k w)
-  pub behind_points : behind.points ≡ back
+  pub after : IsWellFormed (drop k w)
+  pub after_points : after.points ≡ back
 
 abbrev pub cut_by : {w : List ℕ} (h : IsWellFormed w) (front back : List ℕ) (k : ℕ) → h.points ≡ front ++ back → length (bytes front) ≡ k → Cut w h k
 cut_by {w} h front back k e n =
@@ -83,8 +83,8 @@ cut_by {w} h front back k e n =
       splits = record { reads = record { clean = clean; same_units = ap units (sym e) }; front_len = n };
       before = record { points = front; clean = clean-front front back clean; encoded = sym (ap (take k) whole ∙ take_at (bytes front) (bytes back) k n) };
       before_points = refl;
-      behind = record { points = back; clean = clean-back front back clean; encoded = sym (ap (drop k) whole ∙ drop_at (bytes front) (bytes back) k n) };
-      behind_points = refl;
+      after = record { points = back; clean = clean-back front back clean; encoded = sym (ap (drop k) whole ∙ drop_at (bytes front) (bytes back) k n) };
+      after_points = refl;
     }
 
 pub cut_at : {w : List ℕ} (h : IsWellFormed w) (k : ℕ) → IsBoundary (units h.points) k → Cut w h k
@@ -102,7 +102,7 @@ points_before h p front back k e n d = same_points p (cut_by h front back k e n)
 
 pub points_after : {w v : List ℕ} (h : IsWellFormed w) (p : IsWellFormed v) (front back : List ℕ) (k : ℕ) → h.points ≡ front ++ back → length (bytes front) ≡ k
     → v ≡ drop k w → p.points ≡ back
-points_after h p front back k e n d = same_points p (cut_by h front back k e n).behind d
+points_after h p front back k e n d = same_points p (cut_by h front back k e n).after d
 
 -- the bytes before a position are the form of the units before it
 pub front_form : {w u : List ℕ} (h : IsForm w u) (k : ℕ) (v : List ℕ) → IsFront u k v → IsForm (take k w) v
@@ -130,7 +130,7 @@ same_splits u k f b g d own other =
     let whole = reads_same own.reads other.reads in
     let h : IsWellFormed (bytes (f ++ b)) = record { points = f ++ b; clean = own.reads.clean; encoded = refl } in
     let cut = cut_by h f b k refl own.front_len in
-    (points_before h cut.before g d k whole other.front_len refl, points_after h cut.behind g d k whole other.front_len refl)
+    (points_before h cut.before g d k whole other.front_len refl, points_after h cut.after g d k whole other.front_len refl)
 
 pub front_unique : (u : List ℕ) (k : ℕ) (v w : List ℕ) → IsFront u k v → IsFront u k w → v ≡ w
 front_unique u k v w x y = sym x.same_units ∙ (ap units (same_splits u k x.front x.back y.front y.back x.splits y.splits).0 ∙ y.same_units)
@@ -147,7 +147,7 @@ pub shorter_is_prefix : (f b g d : List ℕ) → f ++ b ≡ g ++ d → length (b
 shorter_is_prefix [] b g d e n = record { more = g; joined = refl }
 shorter_is_prefix (p ∷ f) b [] d e n = absurd (omega (arith, length-encoding_bounds p, length-append (encoding p) (bytes f)))
 shorter_is_prefix (p ∷ f) b (q ∷ g) d e n =
-    let h = same_heads p q (f ++ b) (g ++ d) e in
+    let h = cons-equal_parts p q (f ++ b) (g ++ d) e in
     let r = shorter_is_prefix f b g d h.1 (omega (arith, length-append (encoding p) (bytes f), length-append (encoding q) (bytes g), ap (λ k. length (encoding k)) h.0)) in
     record { more = r.more; joined = ap (λ k. k ∷ g) (sym h.0) ∙ ap (λ v. p ∷ v) r.joined }
 
@@ -174,15 +174,15 @@ sum_utf16_len_take_add w i n = ap sum_utf16_len (take-add i n w) ∙ sum_by-appe
 -- `n` units begin in `n` ASCII bytes
 pub sum_utf16_len-ascii : (w : List ℕ) (i n : ℕ) → i + n ≤ length w → ((j : ℕ) → j < n → get_or w (i + j) 0 < 0x80)
     → sum_utf16_len (take (i + n) w) ≡ sum_utf16_len (take i w) + n
-sum_utf16_len-ascii w i zero room low = omega (arith, ap (λ k. sum_utf16_len (take k w)) (start i))
+sum_utf16_len-ascii w i zero bound low = omega (arith, ap (λ k. sum_utf16_len (take k w)) (start i))
   where
     start : (i : ℕ) → i + 0 ≡ i
     start i = omega arith
-sum_utf16_len-ascii w i (suc n) room low =
+sum_utf16_len-ascii w i (suc n) bound low =
     let last : i + suc n ≡ i + n + 1 = omega arith in
-    let more = sum_by_more utf16_len w (i + n) 0 (omega (arith, room)) in
+    let more = sum_by_more utf16_len w (i + n) 0 (omega (arith, bound)) in
     let one = utf16_len-ascii (get_or w (i + n) 0) (low n (omega arith)) in
-    omega (arith, ap (λ k. sum_utf16_len (take k w)) last, more, one, sum_utf16_len-ascii w i n (omega (arith, room)) (λ j l. low j (omega (arith, l))))
+    omega (arith, ap (λ k. sum_utf16_len (take k w)) last, more, one, sum_utf16_len-ascii w i n (omega (arith, bound)) (λ j l. low j (omega (arith, l))))
 
 pub sum_utf16_len-chunk_add : (w : List ℕ) (i m n k : ℕ) → m + n ≡ k → sum_utf16_len (chunk i k w) ≡ sum_utf16_len (chunk i m w) + sum_utf16_len (chunk (i + m) n w)
 sum_utf16_len-chunk_add w i m n k e =

@@ -6,7 +6,7 @@ use Rattle.wtf8.proofs.Common.{◌-◌, ◌/◌, ◌%◌, lit≤, lit<, le-leb, 
 use Rattle.wtf8.specs.Surrogates.{replace_surrogate}
 use Rattle.wtf8.proofs.lemmas.codec.Encoding.{length-bytes_append, encoding_three, length-encoding_bounds, encoding_cases, one, two, three, four, bytes-append, third_row, length-surrogate}
 use Rattle.wtf8.proofs.lemmas.codec.Encoding.{bytes-pushed}
-use Rattle.wtf8.proofs.lemmas.codec.Readings.{no_bytes, clean-first, clean-rest, clean-front, clean-back}
+use Rattle.wtf8.proofs.lemmas.codec.Readings.{nil_from_bytes, clean-first, clean-rest, clean-front, clean-back}
 use Rattle.wtf8.proofs.lemmas.strings.Positions.{split_at, shorter_is_prefix}
 
 -- Surrogates in the bytes and among the code points.
@@ -133,7 +133,7 @@ utf8_if_none h none = subst IsUtf8 h.encoded (utf8_of h.points h.clean (scalar_i
 
 -- the last three bytes encode the surrogate `p`
 pub record EndsInSurrogate (w : List ℕ) (p : ℕ) : Type 0 where
-  pub enough : 3 ≤ length w
+  pub three : 3 ≤ length w
   pub first : get_or w (length w - 3) 0 ≡ 0xED
   pub second : get_or w (length w - 2) 0 ≡ 0x80 + p / 64 % 64
   pub third : get_or w (length w - 1) 0 ≡ 0x80 + p % 64
@@ -145,7 +145,7 @@ ends_in_surrogate w f p s e =
     let long : length w ≡ length (bytes f) + 3 = ap length whole ∙ length-append (bytes f) row in
     let at : (k m : ℕ) → length (bytes f) + k ≡ m → get_or w m 0 ≡ get_or row k 0 = λ k m q. cc (get_or-append-add (bytes f) row k 0) in
     record {
-      enough = omega arith;
+      three = omega arith;
       first = at 0 (length w - 3) (omega arith) ∙ omega arith;
       second = at 1 (length w - 2) (omega arith);
       third = at 2 (length w - 1) (omega arith);
@@ -168,7 +168,7 @@ last_surrogate {w} h len first second =
     let p = surrogate_in h.points i (subst (λ v. SurrogateAt v i) (sym h.encoded) at) in
     let whole : bytes p.front ++ (encoding p.point ++ bytes p.back) ≡ w = cc (bytes-append p.front (p.point ∷ p.back)) in
     let long = simp length-append at (ap length whole) in
-    let none = no_bytes p.back (omega (arith, len, p.front_len, long, length-surrogate p.point p.surrogate)) in
+    let none = nil_from_bytes p.back (omega (arith, len, p.front_len, long, length-surrogate p.point p.surrogate)) in
     let joined : h.points ≡ p.front ++ p.point ∷ [] = p.joined ∙ ap (λ b. p.front ++ p.point ∷ b) none in
     let ends = ends_in_surrogate w p.front p.point p.surrogate (ap bytes (sym joined) ∙ h.encoded) in
     record { front = p.front; point = p.point; joined = joined; surrogate = p.surrogate; ends = ends }
@@ -233,18 +233,18 @@ pub record Replacing (c w : List ℕ) (from : ℕ) : Type 0 where
   pub done : List ℕ
   pub rest : List ℕ
   pub joined : c ≡ done ++ rest
-  pub so_far : w ≡ bytes (lossy_points done ++ rest)
-  pub place : length (bytes (lossy_points done)) ≡ from
+  pub encoded : w ≡ bytes (lossy_points done ++ rest)
+  pub done_len : length (bytes (lossy_points done)) ≡ from
 
 pub replacing_end : (c w : List ℕ) (from : ℕ) → Replacing c w from → ((j : ℕ) → from ≤ j → ¬ (SurrogateAt w j)) → w ≡ bytes (lossy_points c)
 replacing_end c w from r none =
-    let plain = scalar_from_none (lossy_points r.done) r.rest (λ j l. subst (λ v. ¬ (SurrogateAt v j)) r.so_far (none j (omega (arith, l, r.place)))) in
+    let plain = scalar_from_none (lossy_points r.done) r.rest (λ j l. subst (λ v. ¬ (SurrogateAt v j)) r.encoded (none j (omega (arith, l, r.done_len)))) in
     cc (lossy_points-scalar r.rest plain, lossy_points-append r.done r.rest)
 
 -- the bytes before and after the surrogate at `found`
 pub record AroundSurrogate (w : List ℕ) (front : List ℕ) (found : ℕ) (back : List ℕ) : Type 0 where
   pub before : take found w ≡ bytes front
-  pub behind : drop (found + 3) w ≡ bytes back
+  pub after : drop (found + 3) w ≡ bytes back
   pub within : found + 3 ≤ length w
 
 pub around_surrogate : (w front : List ℕ) (p : ℕ) (back : List ℕ) (found : ℕ) → w ≡ bytes (front ++ p ∷ back) → length (bytes front) ≡ found → IsSurrogate p
@@ -255,7 +255,7 @@ around_surrogate w front p back found e n s =
     let other : w ≡ (bytes front ++ encoding p) ++ bytes back = whole ∙ sym (append_assoc (bytes front) (encoding p) (bytes back)) in
     record {
       before = ap (take found) whole ∙ take_at (bytes front) (encoding p ++ bytes back) found n;
-      behind = ap (drop (found + 3)) other ∙ drop_at (bytes front ++ encoding p) (bytes back) (found + 3)
+      after = ap (drop (found + 3)) other ∙ drop_at (bytes front ++ encoding p) (bytes back) (found + 3)
           (omega (arith, n, three, length-append (bytes front) (encoding p)));
       within = omega (arith, n, three, ap length whole, length-append (bytes front) (encoding p ++ bytes back), length-append (encoding p) (bytes back));
     }
@@ -266,13 +266,13 @@ pub record Replaced (c w : List ℕ) (found : ℕ) : Type 0 where
 
 pub replacing_step : (c w : List ℕ) (from found : ℕ) → Replacing c w from → IsLeast (SurrogateAt w) from found → Replaced c w found
 replacing_step c w from found r least =
-    let p = surrogate_in (lossy_points r.done ++ r.rest) found (subst (λ v. SurrogateAt v found) r.so_far least.here) in
-    let b = shorter_is_prefix (lossy_points r.done) r.rest p.front (p.point ∷ p.back) p.joined (omega (arith, r.place, p.front_len, least.not_before)) in
-    let a = around_surrogate w p.front p.point p.back found (r.so_far ∙ ap bytes p.joined) p.front_len p.surrogate in
+    let p = surrogate_in (lossy_points r.done ++ r.rest) found (subst (λ v. SurrogateAt v found) r.encoded least.here) in
+    let b = shorter_is_prefix (lossy_points r.done) r.rest p.front (p.point ∷ p.back) p.joined (omega (arith, r.done_len, p.front_len, least.not_before)) in
+    let a = around_surrogate w p.front p.point p.back found (r.encoded ∙ ap bytes p.joined) p.front_len p.surrogate in
     let rest : r.rest ≡ b.more ++ p.point ∷ p.back = append_cancel_left (lossy_points r.done) _ _ (p.joined ∙ simp (b.joined, append_assoc)) in
     let plain : AreScalar b.more = scalar_between (lossy_points r.done) b.more (p.point ∷ p.back)
-    (λ j l u s. least.none_between j (omega (arith, r.place)) (omega (arith, p.front_len, ap (λ d. length (bytes d)) b.joined))
-    (subst (λ v. SurrogateAt v j) (sym (r.so_far ∙ ap bytes (p.joined ∙ ap (λ d. d ++ p.point ∷ p.back) b.joined))) s)) in
+    (λ j l u s. least.none_between j (omega (arith, r.done_len)) (omega (arith, p.front_len, ap (λ d. length (bytes d)) b.joined))
+    (subst (λ v. SurrogateAt v j) (sym (r.encoded ∙ ap bytes (p.joined ∙ ap (λ d. d ++ p.point ∷ p.back) b.joined))) s)) in
     let done : lossy_points ((r.done ++ b.more) ++ p.point ∷ []) ≡ p.front ++ 0xFFFD ∷ [] =
     simp (lossy_points-append, lossy_points-scalar b.more plain, ← b.joined, replace_surrogate-surrogate p.point p.surrogate) in
     let sign : encoding 0xFFFD ≡ 0xEF ∷ 0xBF ∷ 0xBD ∷ [] = encoding_three 0xFFFD (lit≤ tt) (lit< tt) in
@@ -282,8 +282,8 @@ replacing_step c w from found r least =
         done = (r.done ++ b.more) ++ p.point ∷ [];
         rest = p.back;
         joined = r.joined ∙ simp (rest, append_assoc);
-        so_far = rw (a.before, a.behind, done, append_assoc p.front (0xFFFD ∷ []) p.back, bytes-append p.front (0xFFFD ∷ p.back), sign);
-        place = simp (done, bytes-append, length-append, sign, p.front_len);
+        encoded = rw (a.before, a.after, done, append_assoc p.front (0xFFFD ∷ []) p.back, bytes-append p.front (0xFFFD ∷ p.back), sign);
+        done_len = simp (done, bytes-append, length-append, sign, p.front_len);
       };
     }
 
@@ -305,6 +305,6 @@ split_at_first_surrogate {w} h found least =
     record {
       within = a.within;
       text = subst IsUtf8 (sym a.before) (utf8_of p.front (clean-front p.front (p.point ∷ p.back) clean) plain);
-      rest = record { points = p.back; clean = clean-rest p.point p.back (clean-back p.front (p.point ∷ p.back) clean); encoded = sym a.behind };
+      rest = record { points = p.back; clean = clean-rest p.point p.back (clean-back p.front (p.point ∷ p.back) clean); encoded = sym a.after };
       lossy_parts = simp (p.joined, lossy_points-append, bytes-append, lossy_points-scalar p.front plain, replace_surrogate-surrogate p.point p.surrogate, a.before);
     }

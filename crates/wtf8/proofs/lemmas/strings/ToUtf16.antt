@@ -5,7 +5,7 @@ use Rattle.wtf8.proofs.Common.{length-drop, length-take, take-append-drop, get_o
 use Rattle.wtf8.proofs.lemmas.codec.Encoding.{encoding_cases, one, two, three, four, length-encoding_bounds, encoding-from_ascii_byte}
 use native.Mathlib.Nat.{mul-suc}
 use Rattle.wtf8.specs.private.EncodedRuns.{HasBitPrefix, BeginsWithUnits, lead_bytes_of, unit_of_two, unit_of_three, units_of_run}
-use Rattle.wtf8.proofs.lemmas.codec.Readings.{first_of, moved, Taken-from_first, units-cons_one}
+use Rattle.wtf8.proofs.lemmas.codec.Readings.{first_of, IsWellFormed-equal_bytes, Taken-from_first, units-cons_one}
 
 -- the string after its first `at` bytes, whose units are `v`
 pub record UnitsThenRest (w v : List ℕ) (at : ℕ) (h : IsWellFormed w) : Type 0 where
@@ -20,7 +20,7 @@ pub record DecodesUnit (n : ℕ) (f : List ℕ → ℕ) (p : ℕ) (r : List ℕ)
 
 -- `f` decodes each code point whose lead byte satisfies `P`, and needs only its `n` bytes
 pub record DecodesRun (n : ℕ) (P : ℕ → Type 0) (f : List ℕ → ℕ) : Type 0 where
-  pub some : 0 < n
+  pub positive : 0 < n
   pub part : (p : ℕ) (r : List ℕ) → P (get_or (encoding p ++ r) 0 0) → DecodesUnit n f p r
   pub local : (b r : List ℕ) → n ≤ length b → f (b ++ r) ≡ f b
 
@@ -29,7 +29,7 @@ unit_of_one w = get_or w 0 0
 
 pub DecodesRun-one_byte : DecodesRun 1 (HasBitPrefix 128 0) unit_of_one
 DecodesRun-one_byte = record {
-  some = omega arith;
+  positive = omega arith;
   part = λ p r h.
       let own = encoding-from_ascii_byte p r (omega (arith, h)) in record { width = ap length own.0; read = ap (λ w. unit_of_one (w ++ r)) own.0; one_unit = omega (arith, own.1) };
   local = λ b r le. get_or_append_left b r 0 0 (omega arith);
@@ -37,7 +37,7 @@ DecodesRun-one_byte = record {
 
 pub DecodesRun-two_bytes : DecodesRun 2 (HasBitPrefix 32 6) unit_of_two
 DecodesRun-two_bytes = record {
-  some = omega arith;
+  positive = omega arith;
   part = part;
   local = λ b r le. ap (λ x. x % 32 * 64 + get_or (b ++ r) 1 0 % 64) (get_or_append_left b r 0 0 (omega arith))
       ∙ ap (λ y. get_or b 0 0 % 32 * 64 + y % 64) (get_or_append_left b r 0 1 (omega arith));
@@ -53,7 +53,7 @@ DecodesRun-two_bytes = record {
 
 pub DecodesRun-three_bytes : DecodesRun 3 (HasBitPrefix 16 14) unit_of_three
 DecodesRun-three_bytes = record {
-  some = omega arith;
+  positive = omega arith;
   part = part;
   local = λ b r le.
       ap (λ x. (x % 16 * 64 + get_or (b ++ r) 1 0 % 64) * 64 + get_or (b ++ r) 2 0 % 64) (get_or_append_left b r 0 0 (omega arith))
@@ -74,25 +74,25 @@ pub units_then_rest : {P : ℕ → Type 0} (n : ℕ) (f : List ℕ → ℕ) → 
     → n * c ≤ length b → at ≡ n * k → k ≤ c → Each1 P (take k (lead_bytes_of n c b)) → UnitsThenRest w (take k (units_of_run n f c b)) at h
 units_then_rest n f rows c zero at w b r h e long same le each =
     let none : at ≡ 0 = omega (arith, same) in
-    record { rest = moved h (ap (λ k. drop k w) none); whole = refl }
+    record { rest = IsWellFormed-equal_bytes h (ap (λ k. drop k w) none); whole = refl }
 units_then_rest n f rows zero (suc k) at w b r h e long same le each = absurd (omega arith)
 units_then_rest {P} n f rows (suc c) (suc k) at w b r h e long same le each =
     let wide : n * suc c ≡ n + n * c = omega (arith, mul-suc n c) in
     let fits : n ≤ length b = omega (arith, long, wide) in
-    let first = first_of h (omega (arith, ap length e, length-append b r, rows.some, fits)) in
+    let first = first_of h (omega (arith, ap length e, length-append b r, rows.positive, fits)) in
     let p = first.0.point in
     let begins = ap (λ v. get_or v 0 0) (sym e ∙ first.0.encoded) in
-    let part = rows.part p first.0.rest (subst P (sym (get_or_append_left b r 0 0 (omega (arith, rows.some, fits))) ∙ begins) each.0) in
+    let part = rows.part p first.0.rest (subst P (sym (get_or_append_left b r 0 0 (omega (arith, rows.positive, fits))) ∙ begins) each.0) in
     let value : p ≡ f b = sym part.read ∙ (ap f (sym first.0.encoded ∙ e) ∙ rows.local b r fits) in
-    let behind = units_then_rest n f rows c k (n * k) (drop n w) (drop n b) r
-    (moved first.1.rest (ap (λ m. drop m w) (sym part.width))) (ap (drop n) e ∙ drop-append-le n b r fits)
+    let after = units_then_rest n f rows c k (n * k) (drop n w) (drop n b) r
+    (IsWellFormed-equal_bytes first.1.rest (ap (λ m. drop m w) (sym part.width))) (ap (drop n) e ∙ drop-append-le n b r fits)
     (omega (arith, long, wide, length-drop n b)) refl (omega (arith, le)) each.1 in
     let further : n * suc k ≡ n + n * k = omega (arith, mul-suc n k) in
     let end : drop at w ≡ drop (n * k) (drop n w) = ap (λ m. drop m w) (same ∙ further) ∙ sym (drop-drop (n * k) n w) in
     record {
-      rest = moved behind.rest end;
+      rest = IsWellFormed-equal_bytes after.rest end;
       whole = ap units first.1.joined ∙ (units-cons_one p first.1.rest.points part.one_unit
-          ∙ (ap (λ m. m ∷ units first.1.rest.points) value ∙ ap (λ u. f b ∷ u) behind.whole));
+          ∙ (ap (λ m. m ∷ units first.1.rest.points) value ∙ ap (λ u. f b ∷ u) after.whole));
     }
 
 -- bytes are their own lead bytes and units at width 1
@@ -109,22 +109,22 @@ units_of_run-one_byte (suc k) [] e = absurd (omega arith)
 units_of_run-one_byte (suc k) (b ∷ w) e = ap (λ v. b ∷ v) (units_of_run-one_byte k w (omega arith))
 
 -- the first `count` lanes of a decoded block are the next units if their lead bytes satisfy `P`
-pub begins_with_run : {P : ℕ → Type 0} (n c m : ℕ) (f : List ℕ → ℕ) → DecodesRun n P f → (w : List ℕ) (count : ℕ) (firsts block : List ℕ) → n * c ≤ m
-    → m ≤ length w → count ≤ c → firsts ≡ lead_bytes_of n c (take m w) → block ≡ units_of_run n f c (take m w) → Each1 P (take count firsts)
+pub begins_with_run : {P : ℕ → Type 0} (n c m : ℕ) (f : List ℕ → ℕ) → DecodesRun n P f → (w : List ℕ) (count : ℕ) (first_byte_lanes block : List ℕ) → n * c ≤ m
+    → m ≤ length w → count ≤ c → first_byte_lanes ≡ lead_bytes_of n c (take m w) → block ≡ units_of_run n f c (take m w) → Each1 P (take count first_byte_lanes)
     → BeginsWithUnits w (take count block) (n * count)
-begins_with_run {P} n c m f rows w count firsts block wide long le e g each h =
-    let behind = units_then_rest n f rows c count (n * count) w (take m w) (drop m w) h (sym (take-append-drop m w)) (omega (arith, wide, long, length-take m w)) refl le
+begins_with_run {P} n c m f rows w count first_byte_lanes block wide long le e g each h =
+    let after = units_then_rest n f rows c count (n * count) w (take m w) (drop m w) h (sym (take-append-drop m w)) (omega (arith, wide, long, length-take m w)) refl le
     (subst (λ v. Each1 P (take count v)) e each) in
-    (behind.rest, behind.whole ∙ ap (λ b. take count b ++ units behind.rest.points) (sym g))
+    (after.rest, after.whole ∙ ap (λ b. take count b ++ units after.rest.points) (sym g))
 
 -- a code point `p` that was decoded from `n` bytes gives the next units
 pub record ReadUnits (w : List ℕ) (p n : ℕ) : Type 0 where
-  pub some : 0 < n
+  pub positive : 0 < n
   pub within : n ≤ length w
   pub begins : BeginsWithUnits w (units_of p) n
 
 pub read_units : {w : List ℕ} → IsWellFormed w → (p n : ℕ) → 0 < length w → FirstPointIs w p n → ReadUnits w p n
-read_units {w} h p n some read =
-    let b = (first_of h some).0 in
-    let t = λ (k : IsWellFormed w). Taken-from_first w 0 k p n some (λ b. let was = read b in (was.0, omega (arith, was.1))) in
-    record { some = omega (arith, (read b).1, length-encoding_bounds b.point); within = (t h).within; begins = λ k. ((t k).rest, ap units (t k).joined) }
+read_units {w} h p n positive read =
+    let b = (first_of h positive).0 in
+    let t = λ (k : IsWellFormed w). Taken-from_first w 0 k p n positive (λ b. let was = read b in (was.0, omega (arith, was.1))) in
+    record { positive = omega (arith, (read b).1, length-encoding_bounds b.point); within = (t h).within; begins = λ k. ((t k).rest, ap units (t k).joined) }

@@ -5,8 +5,8 @@ use Rattle.wtf8.proofs.Common.{IsFront, CutsUnits, ◌<◌, ◌↔◌, inl, inr,
 use Rattle.wtf8.proofs.Common.{◌%◌, lt-ltb, le-ltb, drop-drop, append-nil, IsLead, units_of, trail_from_bytes, held_trail, after_held_trail, unread_after, length-take-le}
 use Rattle.wtf8.proofs.Common.{take-append-add, drop-append-add, option_to_list, IsSome, StepsUnit, Divides, DividesPair, is_continuation}
 use Rattle.wtf8.proofs.lemmas.codec.Encoding.{encoding_four, bytes-append, bytes-pushed, encoding_cases, one, two, three, four, Begins, first-encoding}
-use Rattle.wtf8.proofs.lemmas.codec.Readings.{clean-first, clean-front, clean-back, clean-append, clean-unpaired, no_trail, meets_by, lead_of, trail_of, units_one}
-use Rattle.wtf8.proofs.lemmas.codec.Readings.{units_two, units-append, units-pushed, first_of, no_points, Taken-from_first, moved}
+use Rattle.wtf8.proofs.lemmas.codec.Readings.{clean-first, clean-front, clean-back, clean-append, clean-unpaired, unpaired-before_no_trail, meets_by, lead_of, trail_of, units_one}
+use Rattle.wtf8.proofs.lemmas.codec.Readings.{units_two, units-append, units-pushed, first_of, points-nil, Taken-from_first, IsWellFormed-equal_bytes}
 use Rattle.wtf8.proofs.lemmas.strings.Concatenation.{points_meet, last_of, empty, ends}
 use Rattle.wtf8.proofs.lemmas.strings.Positions.{cut_by}
 
@@ -20,7 +20,7 @@ pub record Undivided (c : List ℕ) (n k : ℕ) : Type 0 where
   pub front_len : length (bytes front) ≡ k
   pub within : n ≤ length (units c)
   pub kept : take n (units c) ≡ units front
-  pub behind : drop n (units c) ≡ units back
+  pub after : drop n (units c) ≡ units back
   pub here : slice_get (units c) n ≡ slice_get (units back) 0
 
 slice_get-append_at : (a b : List ℕ) (n : ℕ) → length a ≡ n → slice_get (a ++ b) n ≡ slice_get b 0
@@ -40,7 +40,7 @@ undivided_from_cut {c} {n} {k} e cut =
       front_len = x.front_len;
       within = omega (arith, ap length whole, length-append (units x.front) (units x.back), x.counted);
       kept = ap (take n) whole ∙ take_at (units x.front) (units x.back) n x.counted;
-      behind = ap (drop n) whole ∙ drop_at (units x.front) (units x.back) n x.counted;
+      after = ap (drop n) whole ∙ drop_at (units x.front) (units x.back) n x.counted;
       here = ap (λ u. slice_get u n) whole ∙ slice_get-append_at (units x.front) (units x.back) n x.counted;
     }
 
@@ -52,7 +52,7 @@ pub record Divided (c : List ℕ) (n k p : ℕ) : Type 0 where
   pub large : 0x10000 ≤ p
   pub within : n ≤ length (units c)
   pub kept : take n (units c) ≡ units front ++ lead_of p ∷ []
-  pub behind : drop n (units c) ≡ trail_of p ∷ units rest
+  pub after : drop n (units c) ≡ trail_of p ∷ units rest
   pub here : slice_get (units c) n ≡ Some (trail_of p)
   pub front_len : length (bytes front) ≡ k
   pub pushed : c ≡ (front ++ p ∷ []) ++ rest
@@ -78,7 +78,7 @@ divided_from_cut {c} {n} {k} {p} e cut =
       large = d.supplementary;
       within = omega (arith, ap length whole, length-append (units x.front ++ lead_of p ∷ []) (trail_of p ∷ units d.rest), long);
       kept = ap (take n) whole ∙ take_at (units x.front ++ lead_of p ∷ []) (trail_of p ∷ units d.rest) n long;
-      behind = ap (drop n) whole ∙ drop_at (units x.front ++ lead_of p ∷ []) (trail_of p ∷ units d.rest) n long;
+      after = ap (drop n) whole ∙ drop_at (units x.front ++ lead_of p ∷ []) (trail_of p ∷ units d.rest) n long;
       here = ap (λ u. slice_get u n) whole ∙ slice_get-append_at (units x.front ++ lead_of p ∷ []) (trail_of p ∷ units d.rest) n long;
       front_len = x.front_len;
       pushed = pushed;
@@ -86,23 +86,23 @@ divided_from_cut {c} {n} {k} {p} e cut =
       long = omega (arith, pushed_len, all_len, length-append (bytes (x.front ++ p ∷ [])) (bytes d.rest));
     }
 
-pub in_range : {c : List ℕ} {n k p : ℕ} → IsClean c → Divided c n k p → IsCodePoint p
-in_range {p} clean d = clean-first p d.rest (clean-back d.front (p ∷ d.rest) (subst IsClean d.joined clean))
+pub IsCodePoint-divided : {c : List ℕ} {n k p : ℕ} → IsClean c → Divided c n k p → IsCodePoint p
+IsCodePoint-divided {p} clean d = clean-first p d.rest (clean-back d.front (p ∷ d.rest) (subst IsClean d.joined clean))
 
 -- the bytes before the pair and the encoding of its lead are well-formed
 abbrev pub lead_kept : {w : List ℕ} (h : IsWellFormed w) {n k p : ℕ} → Divided h.points n k p → IsWellFormed (take k w ++ encoding (lead_of p))
 lead_kept {w} h {n} {k} {p} d =
-    let range = in_range h.clean d in
+    let range = IsCodePoint-divided h.clean d in
     let clean : IsClean (d.front ++ p ∷ d.rest) = subst IsClean d.joined h.clean in
     record {
       points = d.front ++ lead_of p ∷ [];
       clean = clean-append d.front (lead_of p ∷ []) (clean-front d.front (p ∷ d.rest) clean) (omega (arith, range, d.large))
-          (no_trail (lead_of p) [] (λ t. omega (arith, range, d.large, t.0)));
+          (unpaired-before_no_trail (lead_of p) [] (λ t. omega (arith, range, d.large, t.0)));
       encoded = bytes-pushed d.front (lead_of p) ∙ ap (λ v. v ++ encoding (lead_of p)) (cut_by h d.front (p ∷ d.rest) k d.joined d.front_len).before.encoded;
     }
 
 pub lead_kept_units : {c : List ℕ} {n k p : ℕ} → IsClean c → (d : Divided c n k p) → units (d.front ++ lead_of p ∷ []) ≡ take n (units c)
-lead_kept_units {p} clean d = cc (units-pushed d.front (lead_of p), units_one (lead_of p) (omega (arith, in_range clean d, d.large)), d.kept)
+lead_kept_units {p} clean d = cc (units-pushed d.front (lead_of p), units_one (lead_of p) (omega (arith, IsCodePoint-divided clean d, d.large)), d.kept)
 
 -- at a cut between code points the first `n` units are the units before position `k`
 pub front_at : {w : List ℕ} (h : IsWellFormed w) {n k : ℕ} → Undivided h.points n k → IsFront (units h.points) k (take n (units h.points))
@@ -118,24 +118,24 @@ pub divides_none : {c : List ℕ} {n k : ℕ} → IsClean c → Undivided c n k 
 divides_none {c} {n} clean x m =
     let all : IsClean (x.front ++ x.back) = subst IsClean x.joined clean in
     let before : Reads x.front (take n (units c)) = record { clean = clean-front x.front x.back all; same_units = sym x.kept } in
-    let behind : Reads x.back (drop n (units c)) = record { clean = clean-back x.front x.back all; same_units = sym x.behind } in
-    clean-unpaired x.front x.back all (points_meet before behind m)
+    let after : Reads x.back (drop n (units c)) = record { clean = clean-back x.front x.back all; same_units = sym x.after } in
+    clean-unpaired x.front x.back all (points_meet before after m)
 
 pub divides_some : {c : List ℕ} {n k p : ℕ} → IsClean c → Divided c n k p → DividesPair (units c) n
 divides_some {p} clean d =
-    let range = in_range clean d in
+    let range = IsCodePoint-divided clean d in
     meets_by (units d.front) (units d.rest) (lead_of p) (trail_of p) (omega (arith, range, d.large), omega (arith, range, d.large)) (omega (arith, range), omega (arith, range))
-    d.kept d.behind
+    d.kept d.after
 
 -- `r` divides a pair after `n` units exactly if the whole does there, unless `n` is 0 and a lead ends `f`
 divides_whole : (f r : List ℕ) (n : ℕ) → (take n r ≡ [] → (g : List ℕ) (l : ℕ) → f ≡ g ++ l ∷ [] → ¬ (IsLead l)) → DividesPair r n ↔ DividesPair (f ++ r) (length f + n)
-divides_whole f r n apart =
+divides_whole f r n lead_excluded =
     let front = take-append-add f r n in
     let back = drop-append-add f r n in (
       λ m. meets_by (f ++ m.front) m.rest m.lead m.trail m.is_lead m.is_trail
           (front ∙ (ap (λ x. f ++ x) m.ends ∙ sym (append_assoc f m.front (m.lead ∷ [])))) (back ∙ m.begins),
       λ m. elim (last_of (take n r)) [
-        | empty e ↦ absurd (apart e m.front m.lead (sym (append-nil f) ∙ (ap (λ x. f ++ x) (sym e) ∙ (sym front ∙ m.ends))) m.is_lead)
+        | empty e ↦ absurd (lead_excluded e m.front m.lead (sym (append-nil f) ∙ (ap (λ x. f ++ x) (sym e) ∙ (sym front ∙ m.ends))) m.is_lead)
         | ends g l e ↦
             let same = (same_from_push (f ++ g) m.front l m.lead (append_assoc f g (l ∷ []) ∙ (ap (λ x. f ++ x) (sym e) ∙ (sym front ∙ m.ends)))).1 in
             meets_by g m.rest m.lead m.trail m.is_lead m.is_trail (e ∙ ap (λ x. g ++ x ∷ []) same) (sym back ∙ m.begins)
@@ -150,12 +150,12 @@ divides_after u r half begin n in_u e d more in_r =
     let whole : f ++ r ≡ u = append_assoc (take begin u) (option_to_list half) r ∙ (ap (λ x. take begin u ++ x) e ∙ take-append-drop begin u) in
     let long : length f + n ≡ begin + (length (option_to_list half) + n) =
     omega (arith, length-append (take begin u) (option_to_list half), length-take-le begin u in_u) in
-    subst (λ k. DividesPair r n ↔ DividesPair u k) long (subst (λ w. DividesPair r n ↔ DividesPair w (length f + n)) whole (divides_whole f r n (apart half e d more)))
+    subst (λ k. DividesPair r n ↔ DividesPair u k) long (subst (λ w. DividesPair r n ↔ DividesPair w (length f + n)) whole (divides_whole f r n (no_lead_before half e d more)))
   where
-    apart : (half : Option ℕ) → option_to_list half ++ r ≡ drop begin u → (IsSome half ↔ DividesPair u begin) → 0 < length (option_to_list half) + n
+    no_lead_before : (half : Option ℕ) → option_to_list half ++ r ≡ drop begin u → (IsSome half ↔ DividesPair u begin) → 0 < length (option_to_list half) + n
         → take n r ≡ [] → (g : List ℕ) (l : ℕ) → take begin u ++ option_to_list half ≡ g ++ l ∷ [] → ¬ (IsLead l)
-    apart None e d more none g l q lead = absurd (omega (arith, more, ap length none, length-take-le n r in_r))
-    apart (Some t) e d more none g l q lead =
+    no_lead_before None e d more none g l q lead = absurd (omega (arith, more, ap length none, length-take-le n r in_r))
+    no_lead_before (Some t) e d more none g l q lead =
         let m = d.0 refl in
         let first : t ≡ m.trail = ap (λ w. get_or w 0 0) (e ∙ m.begins) in
         omega (arith, first, (same_from_push (take begin u) g t l q).1, lead, m.is_trail)
@@ -172,12 +172,12 @@ pub lead_no_continuation : (b : ℕ) → 0xC0 ≤ b → is_continuation b ≡ fa
 lead_no_continuation b l = rw (le-ltb b 0x80 (omega arith), le-ltb b 0xC0 l) refl
 
 -- well-formed bytes do not begin with a continuation byte
-start_of : {w : List ℕ} → IsWellFormed w → 0 < length w → Begins (get_or w 0 0)
-start_of h n = let b = (first_of h n).0 in subst Begins (sym (ap (λ v. get_or v 0 0) b.encoded)) (first-encoding b.point b.rest)
+Begins-first_byte : {w : List ℕ} → IsWellFormed w → 0 < length w → Begins (get_or w 0 0)
+Begins-first_byte h n = let b = (first_of h n).0 in subst Begins (sym (ap (λ v. get_or v 0 0) b.encoded)) (first-encoding b.point b.rest)
 
 pub first_no_continuation : {w : List ℕ} → IsWellFormed w → is_continuation (get_or w 0 0) ≡ false
 first_no_continuation {w = []} h = refl
-first_no_continuation {w = a ∷ r} h = elim ((start_of h (omega arith)).start) [ inl l ↦ ascii_no_continuation a l | inr g ↦ lead_no_continuation a g ]
+first_no_continuation {w = a ∷ r} h = elim ((Begins-first_byte h (omega arith)).start) [ inl l ↦ ascii_no_continuation a l | inr g ↦ lead_no_continuation a g ]
 
 -- bytes that begin with no continuation byte hold no trail
 pub held_trail-none : (w : List ℕ) → is_continuation (get_or w 0 0) ≡ false → (held_trail w ≡ []) × (after_held_trail w ≡ w)
@@ -188,7 +188,7 @@ held_trail-none (a ∷ b ∷ w) e = (rw e refl, rw e refl)
 -- bytes that begin inside a pair have both bytes of the trail
 pub held_trail-two_bytes : (w : List ℕ) → IsWellFormed (after_held_trail w) → 0x80 ≤ get_or w 0 0 → get_or w 0 0 < 0xC0 → 1 < length w
 held_trail-two_bytes [] h l g = absurd (omega arith)
-held_trail-two_bytes (a ∷ []) h l g = absurd (elim ((start_of h (omega arith)).start) [ inl m ↦ omega arith | inr m ↦ omega arith ])
+held_trail-two_bytes (a ∷ []) h l g = absurd (elim ((Begins-first_byte h (omega arith)).start) [ inl m ↦ omega arith | inr m ↦ omega arith ])
 held_trail-two_bytes (a ∷ b ∷ w) h l g = omega arith
 
 pub held_trail-some : (w : List ℕ) → 1 < length w → is_continuation (get_or w 0 0) ≡ true
@@ -212,12 +212,12 @@ pub steps_one : (v : List ℕ) (at : ℕ) (h : IsWellFormed (after_held_trail (d
     → ((b : BeginsWithPoint (drop at v)) → (p ≡ b.point) × (next ≡ at + length (encoding b.point))) → StepsUnit v at h p next
 steps_one v at h p next long e small read =
     let n = held_trail-none (drop at v) e in
-    let t = Taken-from_first v at (moved h (sym n.1)) p next long read in
+    let t = Taken-from_first v at (IsWellFormed-equal_bytes h (sym n.1)) p next long read in
     let m = held_trail-none (drop next v) (first_no_continuation t.rest) in
     let all : units_of p ≡ p ∷ held_trail (drop next v) = units_one p small ∙ ap (λ k. p ∷ k) (sym m.0) in
     record {
       within = t.within;
-      after = moved t.rest m.1;
+      after = IsWellFormed-equal_bytes t.rest m.1;
       first = units-first _ _ h.points t.rest.points p p n.0 t.joined all;
       left = unread_after-first _ _ h.points t.rest.points p p n.0 t.joined all;
     }
@@ -228,7 +228,7 @@ pub steps_lead : (v : List ℕ) (at : ℕ) (h : IsWellFormed (after_held_trail (
     → ((b : BeginsWithPoint (drop at v)) → unit ≡ lead_of b.point) → StepsUnit v at h unit next
 steps_lead v at h unit next long g two_on read =
     let n = held_trail-none (drop at v) (lead_no_continuation (get_or (drop at v) 0 0) (omega arith)) in
-    let f = first_of (moved h (sym n.1)) (omega (arith, length-drop at v)) in
+    let f = first_of (IsWellFormed-equal_bytes h (sym n.1)) (omega (arith, length-drop at v)) in
     let b = f.0 in
     let p = b.point in
     let begin : get_or (drop at v) 0 0 ≡ get_or (encoding p ++ b.rest) 0 0 = ap (λ w. get_or w 0 0) b.encoded in
@@ -248,7 +248,7 @@ steps_lead v at h unit next long g two_on read =
           units_two p l ∙ (ap (λ a. a ∷ trail_of p ∷ []) (sym (read b)) ∙ ap (λ t. unit ∷ t) (sym held)) in
           record {
             within = omega (arith, two_on, ap length whole, length-drop at v);
-            after = moved f.1.rest (ap after_held_trail rest ∙ (k.1 ∙ sym (ap (drop (length (encoding p))) b.encoded ∙ drop_at (encoding p) b.rest (length (encoding p)) refl)));
+            after = IsWellFormed-equal_bytes f.1.rest (ap after_held_trail rest ∙ (k.1 ∙ sym (ap (drop (length (encoding p))) b.encoded ∙ drop_at (encoding p) b.rest (length (encoding p)) refl)));
             first = units-first _ _ h.points f.1.rest.points p unit n.0 f.1.joined all;
             left = unread_after-first _ _ h.points f.1.rest.points p unit n.0 f.1.joined all;
           }
@@ -261,16 +261,16 @@ steps_trail v at h next l g two_on =
     let whole = held_trail-two_bytes (drop at v) h l g in
     let n = held_trail-some (drop at v) whole (continuation_range (get_or (drop at v) 0 0) l g) in
     let rest : drop next v ≡ drop 2 (drop at v) = ap (λ k. drop k v) two_on ∙ sym (drop-drop 2 at v) in
-    let b = moved h (rest ∙ sym n.1) in
+    let b = IsWellFormed-equal_bytes h (rest ∙ sym n.1) in
     let m = held_trail-none (drop next v) (first_no_continuation b) in
     record {
       within = omega (arith, two_on, whole, length-drop at v);
-      after = moved b m.1;
+      after = IsWellFormed-equal_bytes b m.1;
       first = rw (n.0, m.0) refl;
       left = rw (n.0, m.0) refl;
     }
 
 -- at the end nothing is left
 pub nothing_held_at_end : (w : List ℕ) (h : IsWellFormed (after_held_trail w)) → length w ≡ 0 → (held_trail w ≡ []) × (h.points ≡ [])
-nothing_held_at_end [] h e = (refl, no_points h refl)
+nothing_held_at_end [] h e = (refl, points-nil h refl)
 nothing_held_at_end (a ∷ w) h e = absurd (omega arith)

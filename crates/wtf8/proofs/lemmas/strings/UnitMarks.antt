@@ -12,7 +12,7 @@ use Rattle.wtf8.proofs.lemmas.strings.Concatenation.{reads-glue, one_form, units
 use Rattle.wtf8.proofs.lemmas.strings.ExtendedForms.{all_back}
 use Rattle.wtf8.proofs.lemmas.strings.Positions.{cut_by, points_after}
 use Rattle.wtf8.proofs.lemmas.strings.UnitCuts.{undivided_from_cut}
-use Rattle.wtf8.proofs.lemmas.from_utf16.Transcode.{ascii_form, units-ascii}
+use Rattle.wtf8.proofs.lemmas.from_utf16.Transcode.{IsKnownForm-ascii, units-ascii}
 use Rattle.std.proofs.lemmas.Simd.{Each1-chunk}
 
 -- a cut between code points is a mark
@@ -24,7 +24,7 @@ mark_at_cut h {k} at =
       position_within = cut.within;
       units_within = x.within;
       before = record { points = x.front; reads = record { clean = cut.before.clean; same_units = sym x.kept }; encoded = cut.before.encoded };
-      after = record { points = x.back; reads = record { clean = cut.behind.clean; same_units = sym x.behind }; encoded = cut.behind.encoded };
+      after = record { points = x.back; reads = record { clean = cut.after.clean; same_units = sym x.after }; encoded = cut.after.encoded };
     }
 
 mark_of : {w u : List ℕ} (f : IsForm w u) {k n : ℕ} → CutsUnits f.points n k None → IsMark w u k n
@@ -55,15 +55,15 @@ counted_by x front back i m s None e = omega (arith, units_by x front, e, s)
 counted_by x front back i m s (Some p) d =
     record { rest = d.rest; first = d.first; supplementary = d.supplementary; inside = omega (arith, units_by x front, d.inside, s) }
 
-pub cut_from_mark : {w v u : List ℕ} (h : IsWellFormed w) (rest : IsWellFormed v) {k n place : ℕ} (m : ℕ) (half : Option ℕ) → IsMark w u k n → v ≡ drop k w → n ≤ m
-    → CutsUnits rest.points (m - n) place half → CutsUnits h.points m (k + place) half
-cut_from_mark h rest {k} {n} {place} m half mark e l y =
+pub cut_from_mark : {w v u : List ℕ} (h : IsWellFormed w) (rest : IsWellFormed v) {k n position : ℕ} (m : ℕ) (half : Option ℕ) → IsMark w u k n → v ≡ drop k w → n ≤ m
+    → CutsUnits rest.points (m - n) position half → CutsUnits h.points m (k + position) half
+cut_from_mark h rest {k} {n} {position} m half mark e l y =
     let x = cut_of h mark in
-    let behind = points_after h rest x.front x.back k x.joined x.front_len e in
+    let after = points_after h rest x.front x.back k x.joined x.front_len e in
     record {
       front = x.front ++ y.front;
       back = y.back;
-      joined = x.joined ∙ (ap (λ b. x.front ++ b) (sym behind ∙ y.joined) ∙ sym (append_assoc x.front y.front y.back));
+      joined = x.joined ∙ (ap (λ b. x.front ++ b) (sym after ∙ y.joined) ∙ sym (append_assoc x.front y.front y.back));
       front_len = simp (bytes-append, length-append, x.front_len, y.front_len);
       counted = counted_by x y.front y.back (m - n) m (omega (arith, l)) half y.counted;
     }
@@ -111,17 +111,17 @@ ascii_same {w} {u} f e =
     let low = ascii_from_lengths f.points (ap length f.encoded ∙ (e ∙ sym (ap length f.reads.same_units))) in
     let own : f.points ≡ u = sym (units-ascii f.points low) ∙ f.reads.same_units in
     let ascii = subst AreAscii own low in
-    (ascii, same_form w u u f (ascii_form u ascii).form)
+    (ascii, same_form w u u f (IsKnownForm-ascii u ascii).form)
 
 pub equal_counts : EqualCountsAreMarks
 equal_counts w u k f e h =
     let same = ascii_same f e in
-    let behind = subst AreAscii (take_all (length u - k) (drop k u) (omega (arith, length-drop k u))) (Each1-chunk (λ n. n < 0x80) k (length u - k) u same.0) in
+    let ascii_rest = subst AreAscii (take_all (length u - k) (drop k u) (omega (arith, length-drop k u))) (Each1-chunk (λ n. n < 0x80) k (length u - k) u same.0) in
     subst (λ v. IsMark v u k k) (sym same.1) (record {
       position_within = omega (arith, e, h);
       units_within = omega (arith, e, h);
-      before = (ascii_form (take k u) (Each1-chunk (λ n. n < 0x80) 0 k u same.0)).form;
-      after = (ascii_form (drop k u) behind).form;
+      before = (IsKnownForm-ascii (take k u) (Each1-chunk (λ n. n < 0x80) 0 k u same.0)).form;
+      after = (IsKnownForm-ascii (drop k u) ascii_rest).form;
     })
 
 -- joining changes no code point before the last
@@ -146,8 +146,8 @@ marks_stay w x u v k n f g l m =
     } in
     let same = same_form x (bytes (glue f.points more.has.points)) (u ++ v) g both in
     let units_len = ap length (ap units own.joined ∙ units-append own.front own.back) in
-    let some : 0 < length own.back =
+    let nonempty : 0 < length own.back =
     nonempty_from_units own.back (omega (arith, units_len, length-append (units own.front) (units own.back), own.counted, ap length f.reads.same_units, l)) in
     let joined : glue f.points more.has.points ≡ own.front ++ glue own.back more.has.points =
-    ap (λ c. glue c more.has.points) own.joined ∙ glue-append_left own.front own.back more.has.points some in
+    ap (λ c. glue c more.has.points) own.joined ∙ glue-append_left own.front own.back more.has.points nonempty in
     subst (λ z. IsMark z (u ++ v) k n) (sym same) (mark_of both (record { front = own.front; back = glue own.back more.has.points; joined = joined; front_len = own.front_len; counted = own.counted }))

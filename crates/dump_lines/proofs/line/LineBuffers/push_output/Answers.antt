@@ -10,9 +10,9 @@ use Rattle.dump_lines.proofs.line.LineBuffers.push_output.Goals as goal
 
 pub returns : goal.returns
 returns g c =
-    let calls = c.read_calls.new.calls.items in
-    let all : c.in_ok-read_calls.field-0 ≡ true = search rules in
-    let read = MatchBool-at_true _ _ all c.in_ok-read_calls.ensures in
+    let calls = c.parse_calls.new.calls.items in
+    let all : c.in_ok-parse_calls.field-0 ≡ true = search rules in
+    let read = MatchBool-at_true _ _ all c.in_ok-parse_calls.ensures in
     let string = c.apply_all.new.self in
     let n = c.in-Ok.refused in
     let run : Run [] calls string.units n = subst (λ calls. Run [] calls string.units n) c.as_slice.ensures.value

@@ -1,5 +1,5 @@
 use Rattle.wtf8.proofs.Common.{◌∙◌}
-use Rattle.wtf8.proofs.lemmas.comparing.Order.{CommonFront, both_or_neither, common_front_at_mismatch, bytes_order, rests_order}
+use Rattle.wtf8.proofs.lemmas.comparing.Order.{CommonFront, iff_from_equal, common_front_at_mismatch, bytes_order, rests_order}
 use Rattle.wtf8.proofs.lemmas.strings.Positions.{boundary_of}
 use Rattle.wtf8.proofs.comparing.unit_order.cmp_units_at_mismatch.Goals.{Else-supplementary_begins}
 use Rattle.wtf8.proofs.comparing.unit_order.cmp_units_at_mismatch.Goals as goal
@@ -11,7 +11,7 @@ common_front c =
 
 pub returns-then-supplementary_begins : goal.returns-then-supplementary_begins
 returns-then-supplementary_begins c =
-    let both = both_or_neither _ _ c.supplementary_begins.ensures c.supplementary_begins-2.ensures c.if-supplementary_begins.true in
+    let both = iff_from_equal _ _ c.supplementary_begins.ensures c.supplementary_begins-2.ensures c.if-supplementary_begins.true in
     let bytes = bytes_order c.args.own.well_formed c.args.others.well_formed _ c.mismatch-at.ensures both in
     c.cmp.ensures ∙ rw (c.byte_at.ensures, c.byte_at-then-supplementary_begins.ensures) bytes
 

@@ -1,12 +1,12 @@
 use Rattle.wtf8.proofs.Common.{◌∷◌, arith, subst, sym, Each1}
-use Rattle.wtf8.proofs.lemmas.from_utf16.Kernel.{seconds_fit, lasts_fit, three_byte_flags_fit, flags_from_fit, front_lanes, back_lanes, mask_l-table_indexes}
+use Rattle.wtf8.proofs.lemmas.from_utf16.Kernel.{second_bytes_fit, last_bytes_fit, three_byte_flags_fit, flags_from_fit, front_lanes, back_lanes, mask_l-table_indexes}
 use Rattle.wtf8.proofs.from_utf16.kernel.candidate_bytes.Goals as goal
 
 pub overflow_cast-front : goal.overflow_cast-front
-overflow_cast-front c = subst (Each1 _) (sym c.requires.second) (seconds_fit _ (λ x h. omega (arith, h)) (0 ∷ c.args.units) c.args.units c.fits-units.1)
+overflow_cast-front c = subst (Each1 _) (sym c.requires.second) (second_bytes_fit _ (λ x h. omega (arith, h)) (0 ∷ c.args.units) c.args.units c.fits-units.1)
 
 pub overflow_cast-last : goal.overflow_cast-last
-overflow_cast-last c = subst (Each1 _) (sym c.requires.last) (lasts_fit _ (λ x h. omega (arith, h)) c.args.units c.fits-units.1)
+overflow_cast-last c = subst (Each1 _) (sym c.requires.last) (last_bytes_fit _ (λ x h. omega (arith, h)) c.args.units c.fits-units.1)
 
 pub overflow_cast-above_one : goal.overflow_cast-above_one
 overflow_cast-above_one c = subst (Each1 _) (sym c.flags_from-above_one.ensures) (flags_from_fit _ (λ x h. omega (arith, h)) 0x80 c.args.units c.fits-units.1)

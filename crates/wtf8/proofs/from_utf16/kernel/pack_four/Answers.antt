@@ -2,7 +2,7 @@ use Rattle.wtf8.proofs.Common.{ℕ, ◌+◌, ◌++◌, ◌∙◌, ap, arith, ref
 use Rattle.std.proofs.lemmas.Simd.{SwzOk-from_below, length-swz_l, swz_l}
 use Rattle.wtf8.specs.private.PackedUnits.{byte_count}
 use Rattle.wtf8.proofs.lemmas.from_utf16.PackedUnits.{take-written_block}
-use Rattle.wtf8.proofs.lemmas.from_utf16.Kernel.{swz_l-packed_units, length_of}
+use Rattle.wtf8.proofs.lemmas.from_utf16.Kernel.{swz_l-packed_units, IsByteCount-byte_count}
 use Rattle.wtf8.proofs.from_utf16.kernel.pack_four.Goals as goal
 
 pub swizzle : goal.swizzle
@@ -11,13 +11,13 @@ swizzle c = SwzOk-from_below w8 16 1 16 0 c.packing_shuffle.result refl (omega a
 pub returns-clause-bytes : goal.returns-clause-bytes
 returns-clause-bytes c before u long lanes number =
     let count = λ (k : ℕ). byte_count (get_or u k 0) in
-    let is = λ (k : ℕ). length_of (get_or u k 0) in
-    let many = c.packed_len.ensures.len (count 0) (count 1) (count 2) (count 3) (is 0) (is 1) (is 2) (is 3) number in
+    let is = λ (k : ℕ). IsByteCount-byte_count (get_or u k 0) in
+    let packed = c.packed_len.ensures.len (count 0) (count 1) (count 2) (count 3) (is 0) (is 1) (is 2) (is 3) number in
     let row = c.packing_shuffle.ensures.packs (count 0) (count 1) (count 2) (count 3) (is 0) (is 1) (is 2) (is 3) number in
     let block = c.args.block.now in
     let len = c.args.len in
     let bytes = swz_l w8 16 c.args.lanes 0 c.packing_shuffle.result in
     ap (take (len + c.packed_len.result)) c.store.ensures
     ∙ take-written_block block bytes (drop (len + 16) block) len c.packed_len.result (omega (arith, c.requires.room)) (omega (arith, c.packed_len.ensures.most, length-swz_l w8 16 c.args.lanes 0 c.packing_shuffle.result))
-    ∙ ap (λ n. take len block ++ take n bytes) many
+    ∙ ap (λ n. take len block ++ take n bytes) packed
     ∙ ap (λ w. take len block ++ w) (swz_l-packed_units c.args.lanes c.packing_shuffle.result before u (omega arith) c.packing_shuffle.ensures.within long lanes row)

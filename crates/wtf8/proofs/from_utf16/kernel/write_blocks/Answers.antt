@@ -4,12 +4,12 @@ use Rattle.wtf8.proofs.from_utf16.kernel.write_blocks.Goals as goal
 
 pub loop-block-preserved : goal.loop-block-preserved
 loop-block-preserved c =
-    let so_far = c.loop-block.invariant in
+    let before = c.loop-block.invariant in
     let units = c.in-Some.ensures in
     let written = c.write_block-taken.ensures in
     record {
-      order = omega (arith, so_far.order);
+      order = omega (arith, before.order);
       end = omega (arith, units.within, written.taken.1);
       within = written.within;
-      read = λ w known read. packed_units-read w (take c.loop-block.len c.loop-block.block) c.write_block-taken.result.0 (so_far.read w known read) written.taken units.within units.same c.type_inv.v written.apart written.bytes;
+      read = λ w known read. packed_units-read w (take c.loop-block.len c.loop-block.block) c.write_block-taken.result.0 (before.read w known read) written.taken units.within units.same c.type_inv.v written.apart written.bytes;
     }

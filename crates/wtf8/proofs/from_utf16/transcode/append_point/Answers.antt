@@ -2,7 +2,7 @@ use Rattle.wtf8.proofs.Common.{[], ◌∷◌, ◌+◌, ◌-◌, arith, append-ni
 use Rattle.wtf8.specs.private.ConvertedPrefix.{IsReadTo}
 use Rattle.std.proofs.Math.Bool.{and-true}
 use Rattle.wtf8.proofs.lemmas.from_utf16.Transcode.{IsReadTo-append}
-use Rattle.wtf8.proofs.lemmas.from_utf16.Decoding.{one_read}
+use Rattle.wtf8.proofs.lemmas.from_utf16.Decoding.{IsFirstRead-unit}
 use Rattle.wtf8.proofs.from_utf16.transcode.append_point.Goals as goal
 
 pub returns-then-unit-lt2048-clause-read : goal.returns-then-unit-lt2048-clause-read
@@ -10,9 +10,9 @@ returns-then-unit-lt2048-clause-read g c =
     let v = c.args.v.now in
     let at = c.args.at in
     let point = number c.point_of_unit.result in
-    let unit = one_read v at c.requires.within (omega (arith, c.if-unit-lt2048.true)) (λ s. omega (arith, s.0, c.if-unit-lt2048.true)) in
+    let unit = IsFirstRead-unit v at c.requires.within (omega (arith, c.if-unit-lt2048.true)) (λ s. omega (arith, s.0, c.if-unit-lt2048.true)) in
     subst (IsReadTo c.append.new.bytes.items v (at + 1)) (and-true c.args.is_scalar)
-    (IsReadTo-append c.requires.read (omega arith) unit.within unit.apart c.in_ok-append.ensures.ok (record {
+    (IsReadTo-append c.requires.read (omega arith) unit.within unit.divides_no_pair c.in_ok-append.ensures.ok (record {
       form = record {
         points = point ∷ [];
         reads = subst (λ p. Reads (p ∷ []) (take (at + 1 - at) (drop at v))) (sym c.point_of_unit.ensures) unit.reads;

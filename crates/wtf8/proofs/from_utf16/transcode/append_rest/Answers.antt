@@ -1,4 +1,4 @@
-use Rattle.wtf8.proofs.Common.{◌≢◌, false≢true, ◌∙◌, [], append-nil, ap, iter_rest, iter_steps, copied_steps, sym, subst, point_of, decode_steps, IsCodePoint, IsSurrogate, MatchResult}
+use Rattle.wtf8.proofs.Common.{◌≢◌, false≢true, ◌∙◌, [], append-nil, ap, iter_rest, iter_steps, copied_steps, sym, subst, point_of_item, decode_steps, IsCodePoint, IsSurrogate, MatchResult}
 use Rattle.std.specs.Iterator.{Yields}
 use Rattle.std.specs.Iterator.Adapters.{copied_source}
 use Rattle.wtf8.proofs.lemmas.from_utf16.Decoding.{encoded_item, no_item, rest_read, scalar_item}
@@ -11,15 +11,15 @@ loop-item-init g c = (sym (append-nil c.args.bytes.now.items), λ t. (t, tt))
 
 pub loop-item-preserved-in-Continue-1 : goal.loop-item-preserved-in-Continue-1
 loop-item-preserved-in-Continue-1 g c =
-    let same = ap point_of c.in-Ok.is in
-    let apart = (subst (λ x. MatchResult x (λ c. IsCodePoint c × ¬ (IsSurrogate c)) IsSurrogate) c.in-Ok.is c.in-Some.ensures.steps.kind).1 in (
+    let same = ap point_of_item c.in-Ok.is in
+    let not_surrogate = (subst (λ x. MatchResult x (λ c. IsCodePoint c × ¬ (IsSurrogate c)) IsSurrogate) c.in-Ok.is c.in-Some.ensures.steps.kind).1 in (
       encoded_item c.args.bytes.now.items c.loop-item.yielded c.in-Some.item c.loop-item.invariant.0 c.in_ok-append-in-Ok.ensures.ok (same ∙ sym c.from_char.ensures),
-      λ t. ((c.loop-item.invariant.1 t).0, scalar_item c.loop-item.yielded c.in-Some.item (c.loop-item.invariant.1 t).1 (subst (λ p. ¬ (IsSurrogate p)) (sym same) apart)),
+      λ t. ((c.loop-item.invariant.1 t).0, scalar_item c.loop-item.yielded c.in-Some.item (c.loop-item.invariant.1 t).1 (subst (λ p. ¬ (IsSurrogate p)) (sym same) not_surrogate)),
     )
 
 pub loop-item-preserved : goal.loop-item-preserved
 loop-item-preserved g c = (
-  encoded_item c.args.bytes.now.items c.loop-item.yielded c.in-Some.item c.loop-item.invariant.0 c.in_ok-append-in-Err.ensures.ok (ap point_of c.in-Err.is ∙ sym c.point_of_unit.ensures),
+  encoded_item c.args.bytes.now.items c.loop-item.yielded c.in-Some.item c.loop-item.invariant.0 c.in_ok-append-in-Err.ensures.ok (ap point_of_item c.in-Err.is ∙ sym c.point_of_unit.ensures),
   λ t. absurd (false≢true t),
 )
 

@@ -1,5 +1,6 @@
 use Rattle.wtf8.proofs.Common.{◌<◌, ◌∙◌, ap, arith, get_or, length, nat_cmp, sym}
-use Rattle.wtf8.proofs.lemmas.comparing.Order.{cmp_less, cmp_same, cmp_greater, order_at, order_of_lengths}
+use Rattle.std.proofs.lemmas.Cmp.{nat_cmp_total, tied_itself}
+use Rattle.wtf8.proofs.lemmas.comparing.Order.{cmp_less, cmp_greater, order_at, order_of_lengths}
 use Rattle.wtf8.proofs.lanes.memcmp.cmp_at_mismatch.Goals as goal
 
 pub returns-in-Some : goal.returns-in-Some
@@ -16,7 +17,7 @@ returns-in-None c = sym (cmp_greater _ _ c.if-own-others.true) ∙ order_of_leng
 
 pub returns-in-None-2 : goal.returns-in-None-2
 returns-in-None-2 c =
-    let same = sym (cmp_same (length c.args.own.now)) ∙ ap (nat_cmp (length c.args.own.now)) c.if-own-others-2.true in
+    let same = sym (tied_itself nat_cmp_total (length c.args.own.now)) ∙ ap (nat_cmp (length c.args.own.now)) c.if-own-others-2.true in
     same ∙ order_of_lengths c.args.own.now c.args.others.now (rw c.in-None.is at c.requires)
 
 pub returns-in-None-3 : goal.returns-in-None-3

@@ -1,4 +1,4 @@
-use Rattle.wtf8.proofs.lemmas.lanes.Surrogates.{first_begins}
+use Rattle.wtf8.proofs.lemmas.lanes.SurrogateLanes.{first_begins}
 use Rattle.wtf8.proofs.lanes.search.block.Goals as goal
 
 pub returns : goal.returns

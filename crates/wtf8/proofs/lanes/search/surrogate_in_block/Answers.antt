@@ -1,5 +1,5 @@
 use Rattle.wtf8.proofs.Common.{None, Some}
-use Rattle.wtf8.proofs.lemmas.lanes.Surrogates.{first_surrogate_at_offset}
+use Rattle.wtf8.proofs.lemmas.lanes.SurrogateLanes.{first_surrogate_at_offset}
 use Rattle.wtf8.proofs.lanes.search.surrogate_in_block.Goals as goal
 
 pub returns-in-None : goal.returns-in-None

@@ -5,4 +5,4 @@ use Rattle.wtf8.proofs.strings.concat.push_scalar.Goals as goal
 pub push_unpaired-requires-clause-apart : goal.push_unpaired-requires-clause-apart
 push_unpaired-requires-clause-apart g c h =
     let same = sym (c.from_u32_unchecked.ensures ∙ c.from.ensures) in
-    scalar_back_unpaired (subst (λ p. AreScalar (p ∷ [])) same ((scalar_facts c.args.c c.ranges.c.0).apart, tt))
+    scalar_back_unpaired (subst (λ p. AreScalar (p ∷ [])) same ((scalar_facts c.args.c c.ranges.c.0).not_surrogate, tt))

@@ -1,6 +1,6 @@
 use Rattle.wtf8.proofs.Common.{◌≡◌, ◌++◌, ◌∷◌, [], ◌∙◌, List, ℕ, refl, sym, IsLead, IsTrail}
 use Rattle.wtf8.proofs.lemmas.strings.ExtendedForms.{CompletedPair, CompletedPair-from_lead}
-use Rattle.wtf8.proofs.lemmas.codec.Readings.{meets_same, same_points}
+use Rattle.wtf8.proofs.lemmas.codec.Readings.{MeetsAsPair-equal_lists, same_points}
 use Rattle.wtf8.proofs.strings.concat.push_surrogate.Given.{Over}
 use Rattle.wtf8.proofs.strings.concat.push_surrogate.Goals.{After-from_well_formed-view}
 use Rattle.wtf8.proofs.strings.concat.push_surrogate.Goals as goal
@@ -25,9 +25,9 @@ pub returns-in-Some : goal.returns-in-Some
 returns-in-Some g c =
     let met = c.in-Some.ensures in
     let x = joined_here g (goal.at.returns-in-Some g c).After-from_well_formed-view _ _ met.lead met.trail met.last in
-    record { whole = _; gained = rw c.to_u32.ensures.value x.gains; becomes = c.complete_pair.ensures }
+    record { whole = _; extends = rw c.to_u32.ensures.value x.extends; becomes = c.complete_pair.ensures }
 
 pub push_unpaired-requires-clause-apart : goal.push_unpaired-requires-clause-apart
 push_unpaired-requires-clause-apart g c h m =
     let view = c.from_well_formed-view in
-    c.in-None.ensures.none (meets_same m (same_points view.result.well_formed h (view.ensures.bytes ∙ c.as_slice.ensures.value)) refl)
+    c.in-None.ensures.none (MeetsAsPair-equal_lists m (same_points view.result.well_formed h (view.ensures.bytes ∙ c.as_slice.ensures.value)) refl)

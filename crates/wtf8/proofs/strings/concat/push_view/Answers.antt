@@ -1,7 +1,7 @@
 use Rattle.wtf8.proofs.Common.{◌≡◌, ◌∙◌, ◌++◌, ◌∷◌, [], List, ℕ, refl, sym, MeetsAsPair, IsLead, IsTrail}
 use Rattle.wtf8.proofs.lemmas.strings.Concatenation.{meeting_bytes}
 use Rattle.wtf8.proofs.lemmas.strings.ExtendedForms.{ExtendsForm-meeting_pair, ExtendsForm-append}
-use Rattle.wtf8.proofs.lemmas.codec.Readings.{meets_by, meets_same, same_points}
+use Rattle.wtf8.proofs.lemmas.codec.Readings.{meets_by, MeetsAsPair-equal_lists, same_points}
 use Rattle.wtf8.proofs.strings.concat.push_view.Given.{Over}
 use Rattle.wtf8.proofs.strings.concat.push_view.Goals.{After-from_well_formed-view}
 use Rattle.wtf8.proofs.strings.concat.push_view.Goals as goal
@@ -20,7 +20,7 @@ pub pair_at_seam-requires : goal.pair_at_seam-requires
 pair_at_seam-requires g c t m =
     let view = c.from_well_formed-view in
     c.requires.apart t c.requires.well_formed
-    (meets_same m (same_points c.requires.well_formed view.result.well_formed (sym (view.ensures.bytes ∙ c.as_slice.ensures.value))) refl)
+    (MeetsAsPair-equal_lists m (same_points c.requires.well_formed view.result.well_formed (sym (view.ensures.bytes ∙ c.as_slice.ensures.value))) refl)
 
 pub append_completing_pair-requires-clause-three : goal.append_completing_pair-requires-clause-three
 append_completing_pair-requires-clause-three g c =
@@ -32,16 +32,16 @@ pub append_completing_pair-requires-clause-begins : goal.append_completing_pair-
 append_completing_pair-requires-clause-begins g c =
     let met = c.in-Some.ensures in
     let m = paired (view_has_same_points g (goal.at.append_completing_pair-requires-clause-begins g c).After-from_well_formed-view) met.pair met.last met.first in
-    let s = meeting_bytes m c.requires.well_formed.encoded c.args.other.well_formed.encoded in (s.three_behind, s.last)
+    let s = meeting_bytes m c.requires.well_formed.encoded c.args.other.well_formed.encoded in (s.three_after, s.last)
 
 pub returns-in-Some : goal.returns-in-Some
 returns-in-Some g c =
     let met = c.in-Some.ensures in
     let m = paired (view_has_same_points g (goal.at.returns-in-Some g c).After-from_well_formed-view) met.pair met.last met.first in
-    record { whole = _; gained = ExtendsForm-meeting_pair c.requires.well_formed c.args.other.well_formed m; becomes = c.append_completing_pair.ensures }
+    record { whole = _; extends = ExtendsForm-meeting_pair c.requires.well_formed c.args.other.well_formed m; becomes = c.append_completing_pair.ensures }
 
 pub returns-in-None : goal.returns-in-None
 returns-in-None g c =
     let same = view_has_same_points g (goal.at.returns-in-None g c).After-from_well_formed-view in
-    let gains = ExtendsForm-append c.requires.well_formed c.args.other.well_formed (λ m. c.in-None.ensures.none (meets_same m same refl)) in
-    record { whole = _; gained = gains; becomes = c.append_bytes.ensures }
+    let extension = ExtendsForm-append c.requires.well_formed c.args.other.well_formed (λ m. c.in-None.ensures.none (MeetsAsPair-equal_lists m same refl)) in
+    record { whole = _; extends = extension; becomes = c.append_bytes.ensures }

@@ -15,7 +15,7 @@ read-width-requires-clause-front c = (first_of c.args.left.view.well_formed c.re
 
 -- the decoded code point gives the next units
 first_point_read : {w : List ℕ} → IsWellFormed w → (p n : ℕ) → 0 < length w → ((b : BeginsWithPoint w) → (p ≡ b.point) × (n ≡ 0 + length (encoding b.point))) → ReadUnits w p n
-first_point_read h p n some read = read_units h p n some (λ b. let was = read b in (was.0, omega (arith, was.1)))
+first_point_read h p n positive read = read_units h p n positive (λ b. let was = read b in (was.0, omega (arith, was.1)))
 
 pub write_units-requires : goal.write_units-requires
 write_units-requires c =
@@ -31,4 +31,4 @@ pub returns-else-value-lt65536-clause-shorter : goal.returns-else-value-lt65536-
 returns-else-value-lt65536-clause-shorter c =
     let view = c.args.left.view in
     let r = first_point_read view.well_formed (number c.read-width.result.0) c.read-width.result.1 c.requires.some c.read-width.ensures in
-    omega (arith, r.some, r.within, ap length c.write_units.ensures.bytes, length-drop c.read-width.result.1 view.bytes.now)
+    omega (arith, r.positive, r.within, ap length c.write_units.ensures.bytes, length-drop c.read-width.result.1 view.bytes.now)

@@ -13,4 +13,4 @@ write_units-requires c =
 pub returns-clause-shorter : goal.returns-clause-shorter
 returns-clause-shorter c =
     let r = read_units c.args.left.view.well_formed c.args.value c.args.width c.requires.some c.requires.read in
-    omega (arith, r.some, r.within, ap length c.write_units.ensures.bytes, length-drop c.args.width c.args.left.view.bytes.now)
+    omega (arith, r.positive, r.within, ap length c.write_units.ensures.bytes, length-drop c.args.width c.args.left.view.bytes.now)

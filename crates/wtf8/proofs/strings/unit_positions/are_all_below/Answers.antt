@@ -1,4 +1,4 @@
-use Rattle.wtf8.proofs.lemmas.lanes.Surrogates.{none_at_least}
+use Rattle.wtf8.proofs.lemmas.lanes.SurrogateLanes.{none_at_least}
 use Rattle.wtf8.proofs.strings.unit_positions.are_all_below.Goals as goal
 
 pub returns : goal.returns

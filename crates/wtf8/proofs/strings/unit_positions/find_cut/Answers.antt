@@ -14,8 +14,8 @@ units_counted : {c : List ℕ} {n : ℕ} {cursor : UnitCursor} (x : PointsAbout 
 units_counted x = simp (x.cut.joined, units-append, length-append, x.cut.counted)
 
 -- the cut is at `cursor`, past the end, or inside the pair that begins at `cursor`
-cut_at_place : {c : List ℕ} {n : ℕ} {cursor : UnitCursor} → PointsAbout c n cursor → cursor.units_before ≡ n → CutsUnits c n cursor.at None
-cut_at_place {c} {n} {cursor} x e = subst (λ m. CutsUnits c m cursor.at None) e x.cut
+cut_at_cursor : {c : List ℕ} {n : ℕ} {cursor : UnitCursor} → PointsAbout c n cursor → cursor.units_before ≡ n → CutsUnits c n cursor.at None
+cut_at_cursor {c} {n} {cursor} x e = subst (λ m. CutsUnits c m cursor.at None) e x.cut
 
 too_few : {c : List ℕ} {n : ℕ} {cursor : UnitCursor} (x : PointsAbout c n cursor) → ¬ (cursor.units_before ≡ n) → x.cut.back ≡ [] → length (units c) < n
 too_few x m e = omega (arith, units_counted x, ap (λ b. length (units b)) e, x.not_beyond, m)
@@ -43,7 +43,7 @@ returns-then-view-n-clause-none c =
 pub returns-then-cursor-n-clause-some : goal.returns-then-cursor-n-clause-some
 returns-then-cursor-n-clause-some c =
     let cursor = c.find_unit-cursor.result in
-    cut_at_place (points_about_unit c.args.view.well_formed c.args.n cursor c.find_unit-cursor.ensures) c.if-cursor-n.true
+    cut_at_cursor (points_about_unit c.args.view.well_formed c.args.n cursor c.find_unit-cursor.ensures) c.if-cursor-n.true
 
 pub slice_from-requires : goal.slice_from-requires
 slice_from-requires c =

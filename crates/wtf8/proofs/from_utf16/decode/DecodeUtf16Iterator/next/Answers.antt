@@ -45,6 +45,6 @@ pub returns-in_default-clause-steps : goal.returns-in_default-clause-steps
 returns-in_default-clause-steps g c =
     let unit = c.in_ok-unit.unit in
     let range : unit < 0x10000 = search rules in
-    let apart : ¬ (IsLead unit) = λ lead. search (rules, lead) in
-    item_of_unit g.I.Iterator.next_gives (units_left c.args.self.now) c.next.new.self unit c.char_or_surrogate-in_default.result c.char_or_surrogate-in_default.ensures.kind c.char_or_surrogate-in_default.ensures.point range apart
+    let not_lead : ¬ (IsLead unit) = λ lead. search (rules, lead) in
+    item_of_unit g.I.Iterator.next_gives (units_left c.args.self.now) c.next.new.self unit c.char_or_surrogate-in_default.result c.char_or_surrogate-in_default.ensures.kind c.char_or_surrogate-in_default.ensures.point range not_lead
     c.in_ok-unit.ensures.steps

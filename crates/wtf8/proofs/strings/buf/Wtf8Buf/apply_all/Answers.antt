@@ -1,9 +1,10 @@
 use Rattle.wtf8.proofs.Common.{◌≡◌, ◌<◌, ◌+◌, ℕ, List, [], ◌∷◌, ◌++◌, length, get_or, Bool, true, false, cond, Some, refl, ap, ◌∙◌, sym, subst, arith}
 use Rattle.wtf8.proofs.Common.{append_assoc, All, Step, Run, Append, IsNoTruncation, Build, Reserve, Truncate, TruncateUnits, ◌≤◌, take, drop, inl, inr}
 use Rattle.wtf8.proofs.Common.{false≢true, cases_lt, append-nil, IsForm, FindRoom, All-nil, All-cons, take_all, All-get_or, FitWithin, none-some}
+use Rattle.std.proofs.lemmas.Option.{same_Some}
 use Rattle.wtf8.specs.Building.{appended_units, reserved_bytes, LeavesReserved}
 use Rattle.wtf8.proofs.lemmas.laws.StringLaws.{reserved_more}
-use Rattle.wtf8.proofs.lemmas.strings.Concatenation.{item_at, take-one_more}
+use Rattle.wtf8.proofs.lemmas.strings.Concatenation.{take-cons-drop, take-push}
 use Rattle.wtf8.proofs.lemmas.strings.ExtendedForms.{Found, found_more, FindsRoom-larger, beginning_of_form}
 use Rattle.wtf8.proofs.strings.buf.Wtf8Buf.apply_all.Given.{Over}
 use Rattle.wtf8.proofs.strings.buf.Wtf8Buf.apply_all.Goals.{In_default, then-not-kept, else-not-kept}
@@ -17,13 +18,10 @@ run_more : (u : List ℕ) (calls : List Build) (mid : List ℕ) (n : ℕ) (call 
 run_more u [] mid n call v r x s = (v, r, 0, subst (λ m. Step m call v r) x.0 s, (refl, refl), omega (arith, x.1))
 run_more u (c ∷ calls) mid n call v r x s = (x.0, x.1, x.2 + r, x.3, run_more x.0 calls mid x.2 call v r x.4 s, omega (arith, x.5))
 
-some_same : (a b : List ℕ) → Some a ≡ Some b → a ≡ b
-some_same a b e = cc
-
 -- a call that appends `a`: it doesn't truncate or reserve, and has this outcome only
 record Adds (u : List ℕ) (call : Build) (a : List ℕ) : Type 0 where
   no_truncation : IsNoTruncation call
-  asks : reserved_bytes call ≡ 0
+  reserves_none : reserved_bytes call ≡ 0
   step : Step u call (u ++ a) 0
   only : (v : List ℕ) (r : ℕ) → Step u call v r → v ≡ u ++ a
 
@@ -32,8 +30,8 @@ Adds-from_appended u (Reserve n) a e = absurd (none-some a e)
 Adds-from_appended u (Truncate k) a e = absurd (none-some a e)
 Adds-from_appended u (TruncateUnits n) a e = absurd (none-some a e)
 Adds-from_appended u call a e =
-    let same : _ ≡ a = some_same _ a e in
-    record { no_truncation = tt; asks = refl; step = (ap (λ b. u ++ b) (sym same), refl); only = λ v r s. s.0 ∙ ap (λ b. u ++ b) same }
+    let same : _ ≡ a = same_Some _ a e in
+    record { no_truncation = tt; reserves_none = refl; step = (ap (λ b. u ++ b) (sym same), refl); only = λ v r s. s.0 ∙ ap (λ b. u ++ b) same }
 
 -- a run of pushes and extensions appends the units of all, and none of them truncates
 run_appends : (u : List ℕ) (calls : List Build) (v : List ℕ) (n : ℕ) (a : List ℕ) → Run u calls v n → Append calls a → v ≡ u ++ a
@@ -60,7 +58,7 @@ find_room u (call ∷ calls) a capacity e fit =
       record {
         no_truncation = here.no_truncation;
         step = here.step;
-        fits = record { whole = b.whole; form = b.form; within = omega (arith, b.within, fits.within, here.asks) };
+        fits = record { whole = b.whole; form = b.form; within = omega (arith, b.within, fits.within, here.reserves_none) };
       },
       subst (λ w. FindRoom mid calls w capacity) (sym whole) (find_room mid calls e.1 capacity e.3 fits),
     )
@@ -89,7 +87,7 @@ loop-done-preserved g c =
     let calls = c.args.calls.now in
     let call = c.index-calls-done.result in
     let inv = c.loop-done.invariant in
-    let more = take-one_more calls i call (omega arith) c.index-calls-done.is in
+    let more = take-push calls i call (omega arith) c.index-calls-done.is in
     let u = c.args.self.now.units in
     let was = c.loop-done.self.units in
     let now = c.apply.new.self.units in
@@ -111,12 +109,12 @@ loop-done-preserved g c =
 
 pub returns-in_default-clause-found : goal.returns-in_default-clause-found
 returns-in_default-clause-found g c v room =
-    let whole = item_at c.args.calls.now c.loop-done.done c.index-calls-done.result (omega arith) c.index-calls-done.is in
+    let whole = take-cons-drop c.args.calls.now c.loop-done.done c.index-calls-done.result (omega arith) c.index-calls-done.is in
     absurd (no_room g (goal.at.returns-in_default-clause-found g c).In_default (drop (c.loop-done.done + 1) c.args.calls.now) v (rw whole room))
 
 pub returns-in_default-clause-missed : goal.returns-in_default-clause-missed
 returns-in_default-clause-missed g c v room =
-    let more = take-one_more c.args.calls.now c.loop-done.done c.index-calls-done.result (omega arith) c.index-calls-done.is in
+    let more = take-push c.args.calls.now c.loop-done.done c.index-calls-done.result (omega arith) c.index-calls-done.is in
     no_room g (goal.at.returns-in_default-clause-missed g c).In_default [] v (rw more at room)
 
 pub returns-in_default-clause-no_smaller : goal.returns-in_default-clause-no_smaller

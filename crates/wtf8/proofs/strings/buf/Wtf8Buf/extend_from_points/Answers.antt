@@ -1,6 +1,6 @@
 use Rattle.wtf8.proofs.Common.{ℕ, rules, ◌≡◌, ◌+◌, ◌++◌, ◌∷◌, ◌<◌, ◌∙◌, length, take, drop, arith, ap, sym, append_assoc, false≢true, number, numbers, units}
 use Rattle.wtf8.proofs.Common.{units_of}
-use Rattle.wtf8.proofs.lemmas.strings.Concatenation.{item_at}
+use Rattle.wtf8.proofs.lemmas.strings.Concatenation.{take-cons-drop}
 use Rattle.wtf8.proofs.lemmas.strings.ExtendedForms.{beginning_of_form, extended_length, units-points}
 use Rattle.wtf8.proofs.strings.buf.Wtf8Buf.extend_from_points.Goals as goal
 
@@ -16,7 +16,7 @@ returns-in_err-push-clause-room g c fit =
     let p = c.code_point-item.result in
     let below : i < length ps = omega arith in
     let inv = c.loop-code_point.invariant in
-    let all = ap (λ d. units (numbers d)) (sym (item_at ps i p below c.code_point-item.is)) ∙ units-points (take i ps) (p ∷ drop (i + 1) ps) in
+    let all = ap (λ d. units (numbers d)) (sym (take-cons-drop ps i p below c.code_point-item.is)) ∙ units-points (take i ps) (p ∷ drop (i + 1) ps) in
     let rest = units (numbers (drop (i + 1) ps)) in
     let whole : c.args.self.now.units ++ units (numbers ps) ≡ c.loop-code_point.self.units ++ (units_of (number p) ++ rest) = rw (all, inv.0, append_assoc) in
     let next = beginning_of_form (c.loop-code_point.self.units ++ units_of (number p)) rest fit.whole (rw (append_assoc, ← whole) fit.form) in
@@ -24,6 +24,6 @@ returns-in_err-push-clause-room g c fit =
 
 pub returns-in_err-push-clause-err : goal.returns-in_err-push-clause-err
 returns-in_err-push-clause-err g c =
-    let so_far : (n : ℕ) × (c.push.new.self.units ≡ c.args.self.now.units ++ units (numbers (take n c.args.points.now))) =
+    let appended : (n : ℕ) × (c.push.new.self.units ≡ c.args.self.now.units ++ units (numbers (take n c.args.points.now))) =
     (c.loop-code_point.code_point-index, c.in_err-push.ensures.kept.units ∙ c.loop-code_point.invariant.0) in
-    search (rules, so_far)
+    search (rules, appended)

@@ -1,20 +1,20 @@
 use Rattle.wtf8.proofs.Common.{refl, ap, IsUtf8-string_bytes}
 use Rattle.wtf8.proofs.lemmas.codec.Readings.{well_formed_of}
-use Rattle.wtf8.proofs.lemmas.strings.ExtendedForms.{scalar_moved, scalar_text, text_at}
+use Rattle.wtf8.proofs.lemmas.strings.ExtendedForms.{scalar-equal_bytes, scalar_text, well_formed-equal_text}
 use Rattle.wtf8.proofs.strings.buf.Wtf8Buf.from_string.Goals as goal
 
 pub from_well_formed-requires-clause-well_formed : goal.from_well_formed-requires-clause-well_formed
-from_well_formed-requires-clause-well_formed g c = text_at (IsUtf8-string_bytes c.args.string) (ap (λ v. v.items) c.into_bytes.ensures.value)
+from_well_formed-requires-clause-well_formed g c = well_formed-equal_text (IsUtf8-string_bytes c.args.string) (ap (λ v. v.items) c.into_bytes.ensures.value)
 
 pub from_well_formed-requires-clause-scalar : goal.from_well_formed-requires-clause-scalar
 from_well_formed-requires-clause-scalar g c _ h =
-    scalar_moved (text_at (IsUtf8-string_bytes c.args.string) (ap (λ v. v.items) c.into_bytes.ensures.value)) h refl
+    scalar-equal_bytes (well_formed-equal_text (IsUtf8-string_bytes c.args.string) (ap (λ v. v.items) c.into_bytes.ensures.value)) h refl
     (scalar_text (IsUtf8-string_bytes c.args.string))
 
 pub returns-clause-units : goal.returns-clause-units
-returns-clause-units g c = c.from_well_formed.ensures.units (text_at (IsUtf8-string_bytes c.args.string) (ap (λ v. v.items) c.into_bytes.ensures.value))
+returns-clause-units g c = c.from_well_formed.ensures.units (well_formed-equal_text (IsUtf8-string_bytes c.args.string) (ap (λ v. v.items) c.into_bytes.ensures.value))
 
 pub returns-clause-scalar : goal.returns-clause-scalar
 returns-clause-scalar g c =
-    scalar_moved (text_at (IsUtf8-string_bytes c.args.string) (ap (λ v. v.items) c.into_bytes.ensures.value))
+    scalar-equal_bytes (well_formed-equal_text (IsUtf8-string_bytes c.args.string) (ap (λ v. v.items) c.into_bytes.ensures.value))
     (well_formed_of c.from_well_formed.result.form) c.from_well_formed.ensures.bytes (scalar_text (IsUtf8-string_bytes c.args.string))

@@ -7,14 +7,14 @@ use Rattle.wtf8.proofs.strings.buf.Wtf8Buf.push_char.Goals.{After-push_scalar}
 use Rattle.wtf8.proofs.strings.buf.Wtf8Buf.push_char.Goals as goal
 
 push_extends_form : (g : Over) (c : After-push_scalar g) → ExtendsFormOrKeeps c.self.inside.bytes (units_of c.args.c) c.push_scalar.new.bytes c.push_scalar.result
-push_extends_form g c = record { whole = _; gained = c.push_scalar.ensures.units; becomes = c.push_scalar.ensures.bytes }
+push_extends_form g c = record { whole = _; extends = c.push_scalar.ensures.units; becomes = c.push_scalar.ensures.bytes }
 
 pub invariant_of-self-inside : goal.invariant_of-self-inside
 invariant_of-self-inside g c =
     let f = scalar_facts c.args.c c.ranges.c.0 in
     let own = c.self.inside in
-    known_prefix_after_push c.push_scalar.result c.args.c own.scalar_end own.scalar_end own.well_formed f.range own.scalar_prefix (omega arith) (λ _. f.apart)
-    (record { whole = _; gained = c.push_scalar.ensures.units; becomes = c.push_scalar.ensures.bytes })
+    known_prefix_after_push c.push_scalar.result c.args.c own.scalar_end own.scalar_end own.well_formed f.range own.scalar_prefix (omega arith) (λ _. f.not_surrogate)
+    (record { whole = _; extends = c.push_scalar.ensures.units; becomes = c.push_scalar.ensures.bytes })
 
 pub returns-clause-ok : goal.returns-clause-ok
 returns-clause-ok g c = units_appended _ _ c.self-1.given.0 c.self.view_is refl (push_extends_form g (goal.at.returns-clause-ok g c).After-push_scalar)

@@ -1,12 +1,12 @@
 use Rattle.wtf8.proofs.Common.{UnitString, IsForm, ◌++◌, ◌∙◌, subst, sym, append-nil, ap, arith, length, refl, units, view_units, view_form}
-use Rattle.wtf8.proofs.lemmas.strings.ExtendedForms.{units_appended, kept_contents, room_found, known_prefix_after_append, scalar_front_unpaired, scalar_moved}
+use Rattle.wtf8.proofs.lemmas.strings.ExtendedForms.{units_appended, kept_contents, room_found, known_prefix_after_append, scalar_front_unpaired, scalar-equal_bytes}
 use Rattle.wtf8.proofs.lemmas.laws.StringLaws.{grows_at_most, added_length, nothing_appended, room_left}
-use Rattle.wtf8.proofs.lemmas.codec.Readings.{no_points, well_formed_of, form_of}
+use Rattle.wtf8.proofs.lemmas.codec.Readings.{points-nil, well_formed_of, form_of}
 use Rattle.wtf8.proofs.strings.buf.Wtf8Buf.push_wtf8.Goals as goal
 
 pub push_view-requires-clause-apart : goal.push_view-requires-clause-apart
 push_view-requires-clause-apart g c t h =
-    scalar_front_unpaired (scalar_moved (well_formed_of c.args.self.now.form) h (ap (λ (t : UnitString). t.bytes) c.self.view_is) (c.is_known_utf8-forms_no_pair.ensures t))
+    scalar_front_unpaired (scalar-equal_bytes (well_formed_of c.args.self.now.form) h (ap (λ (t : UnitString). t.bytes) c.self.view_is) (c.is_known_utf8-forms_no_pair.ensures t))
 
 pub invariant_of-self-inside : goal.invariant_of-self-inside
 invariant_of-self-inside g c =
@@ -42,4 +42,4 @@ returns-clause-room_left g c h = returns-clause-room g c (room_left c.args.self.
 
 pub returns-clause-nothing : goal.returns-clause-nothing
 returns-clause-nothing g c e =
-    nothing_appended c.push_view.result _ _ _ (ap units (no_points c.args.other.well_formed (ap length e))) (returns-clause-ok g c) (returns-clause-kept g c)
+    nothing_appended c.push_view.result _ _ _ (ap units (points-nil c.args.other.well_formed (ap length e))) (returns-clause-ok g c) (returns-clause-kept g c)

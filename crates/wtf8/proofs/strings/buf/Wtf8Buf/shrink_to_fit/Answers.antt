@@ -1,9 +1,9 @@
 use Rattle.wtf8.proofs.Common.{ap, ◌∙◌, UnitString, units}
-use Rattle.wtf8.proofs.lemmas.codec.Readings.{moved, same_points}
+use Rattle.wtf8.proofs.lemmas.codec.Readings.{IsWellFormed-equal_bytes, same_points}
 use Rattle.wtf8.proofs.strings.buf.Wtf8Buf.shrink_to_fit.Goals as goal
 
 pub invariant_of-self-inside : goal.invariant_of-self-inside
-invariant_of-self-inside g c = (moved c.self.inside.well_formed c.shrink_to_fit.ensures.items, (c.self.inside.scalar_prefix, tt))
+invariant_of-self-inside g c = (IsWellFormed-equal_bytes c.self.inside.well_formed c.shrink_to_fit.ensures.items, (c.self.inside.scalar_prefix, tt))
 
 pub returns-clause-units : goal.returns-clause-units
 returns-clause-units g c =

@@ -1,6 +1,6 @@
 use Rattle.wtf8.proofs.Common.{◌≡◌, ◌∙◌, ap, sym, subst, arith, take, UnitString, units, IsBoundary, IsFront, IsWellFormed, AreScalarTo}
 use Rattle.wtf8.proofs.lemmas.strings.Positions.{cut_at}
-use Rattle.wtf8.proofs.lemmas.codec.Readings.{moved, same_points}
+use Rattle.wtf8.proofs.lemmas.codec.Readings.{IsWellFormed-equal_bytes, same_points}
 use Rattle.wtf8.proofs.lemmas.strings.ExtendedForms.{scalar_to-front}
 use Rattle.wtf8.proofs.strings.buf.Wtf8Buf.truncate.Given.{Over}
 use Rattle.wtf8.proofs.strings.buf.Wtf8Buf.truncate.Goals.{After-truncate}
@@ -16,7 +16,7 @@ invariant_of-self-inside g c =
     let own = c.self.inside in
     let front = scalar_to-front own.scalar_end own.scalar_end cut.front cut.back (subst (AreScalarTo own.scalar_end) cut.points own.scalar_prefix) (omega arith) in
     let end = c.scalar_end_after_truncate-self-inside in
-    let now : IsWellFormed c.truncate.new.self.items = moved cut.before (items-truncate g (goal.at.invariant_of-self-inside g c).After-truncate) in
+    let now : IsWellFormed c.truncate.new.self.items = IsWellFormed-equal_bytes cut.before (items-truncate g (goal.at.invariant_of-self-inside g c).After-truncate) in
     (now, (subst (AreScalarTo end.result) (sym cut.before_points) (end.ensures cut.front cut.splits.front_len front), tt))
 
 pub returns-clause-units : goal.returns-clause-units

@@ -1,15 +1,15 @@
 use Rattle.wtf8.proofs.Common.{◌∙◌, ap, subst, arith, inl, refl, length, take, IsFront, UnitString, units}
 use Rattle.wtf8.proofs.lemmas.strings.Positions.{front_unique}
-use Rattle.wtf8.proofs.lemmas.codec.Readings.{moved, same_points}
-use Rattle.wtf8.proofs.lemmas.strings.ExtendedForms.{scalar_to-cut, scalar_to-moved}
-use Rattle.wtf8.proofs.lemmas.strings.UnitCuts.{undivided_from_cut, divided_from_cut, in_range, front_at, lead_kept, lead_kept_units}
+use Rattle.wtf8.proofs.lemmas.codec.Readings.{IsWellFormed-equal_bytes, same_points}
+use Rattle.wtf8.proofs.lemmas.strings.ExtendedForms.{scalar_to-cut, scalar_to-equal_bytes}
+use Rattle.wtf8.proofs.lemmas.strings.UnitCuts.{undivided_from_cut, divided_from_cut, IsCodePoint-divided, front_at, lead_kept, lead_kept_units}
 use Rattle.wtf8.proofs.strings.buf.Wtf8Buf.try_truncate_units.Goals as goal
 
 pub keep_lead-requires-clause-lead : goal.keep_lead-requires-clause-lead
 keep_lead-requires-clause-lead g c =
     let h = c.as_wtf8.result.well_formed in
     let x = divided_from_cut c.in-Some-divided.is c.in-Some.ensures.some in
-    let range = in_range h.clean x in
+    let range = IsCodePoint-divided h.clean x in
     (omega (arith, range, x.large, c.lead_of-lead.ensures), omega (arith, range, x.large, c.lead_of-lead.ensures))
 
 pub keep_lead-requires-clause-within : goal.keep_lead-requires-clause-within
@@ -23,8 +23,8 @@ invariant_of-self-inside g c =
     let h = c.as_wtf8.result.well_formed in
     let x = divided_from_cut c.in-Some-divided.is c.in-Some.ensures.some in
     let own = c.self.inside in
-    let scalar = scalar_to-moved own.scalar_end own.well_formed h (cc (ap (λ (t : UnitString). t.bytes) c.self.view_is)) own.scalar_prefix in (
-      moved (lead_kept h x) (cc (ap (λ (t : UnitString). t.bytes) c.self.view_is)),
+    let scalar = scalar_to-equal_bytes own.scalar_end own.well_formed h (cc (ap (λ (t : UnitString). t.bytes) c.self.view_is)) own.scalar_prefix in (
+      IsWellFormed-equal_bytes (lead_kept h x) (cc (ap (λ (t : UnitString). t.bytes) c.self.view_is)),
       (
         scalar_to-cut own.scalar_end c.min-self-inside.result x.front _ _ scalar x.joined (omega (arith, c.min-self-inside.ensures))
             (omega (arith, x.front_len, c.min-self-inside.ensures)),

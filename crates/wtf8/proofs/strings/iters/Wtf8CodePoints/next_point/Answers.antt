@@ -1,12 +1,12 @@
 use Rattle.wtf8.proofs.Common.{◌∙◌, ◌∷◌, arith, ap, sym, refl, length-drop, number}
-use Rattle.wtf8.proofs.lemmas.codec.Encoding.{begins_moved}
-use Rattle.wtf8.proofs.lemmas.codec.Readings.{no_points, first_of, Taken-from_first, same_points}
+use Rattle.wtf8.proofs.lemmas.codec.Encoding.{BeginsWithPoint-equal_bytes}
+use Rattle.wtf8.proofs.lemmas.codec.Readings.{points-nil, first_of, Taken-from_first, same_points}
 use Rattle.wtf8.proofs.strings.iters.Wtf8CodePoints.next_point.Goals as goal
 
 pub returns-then-self : goal.returns-then-self
 returns-then-self c =
     let s = c.self.inside in
-    let none = no_points s.well_formed (omega (arith, length-drop s.at s.bytes.now, c.if-self.true)) in
+    let none = points-nil s.well_formed (omega (arith, length-drop s.at s.bytes.now, c.if-self.true)) in
     (sym c.self.view_is ∙ none, sym c.self.view_is ∙ none)
 
 pub read-after-requires-clause-front : goal.read-after-requires-clause-front
@@ -18,12 +18,12 @@ pub invariant_of-self-inside : goal.invariant_of-self-inside
 invariant_of-self-inside c =
     let s = c.self.inside in
     let t = Taken-from_first s.bytes.now s.at s.well_formed (number c.read-after.result.0) c.read-after.result.1 (omega (arith, s.within, c.if-self.false))
-    (λ b. c.read-after.ensures (begins_moved b c.split_at.ensures.back)) in
+    (λ b. c.read-after.ensures (BeginsWithPoint-equal_bytes b c.split_at.ensures.back)) in
     (t.within, (t.rest, tt))
 
 pub returns : goal.returns
 returns c =
     let s = c.self.inside in
     let t = Taken-from_first s.bytes.now s.at s.well_formed (number c.read-after.result.0) c.read-after.result.1 (omega (arith, s.within, c.if-self.false))
-    (λ b. c.read-after.ensures (begins_moved b c.split_at.ensures.back)) in
+    (λ b. c.read-after.ensures (BeginsWithPoint-equal_bytes b c.split_at.ensures.back)) in
     sym c.self.view_is ∙ (t.joined ∙ ap (λ r. number c.read-after.result.0 ∷ r) (same_points t.rest c.self-1.given.1.0 refl))

@@ -1,13 +1,13 @@
 use Rattle.wtf8.proofs.Common.{false≢true, refl, ◌∷◌, ◌∙◌, ap, sym, arith, append-nil, units}
 use Rattle.wtf8.proofs.lemmas.strings.Positions.{points_before}
-use Rattle.wtf8.proofs.lemmas.strings.UnitCuts.{undivided_from_cut, divided_from_cut, in_range, divides_none, divides_some}
+use Rattle.wtf8.proofs.lemmas.strings.UnitCuts.{undivided_from_cut, divided_from_cut, IsCodePoint-divided, divides_none, divides_some}
 use Rattle.wtf8.proofs.strings.view.Wtf8.first_units.Goals as goal
 
 pub overflow_cast-result : goal.overflow_cast-result
 overflow_cast-result c =
     let h = c.args.self.well_formed in
     let x = divided_from_cut c.in-Some-divided.is c.in-Some.ensures.some in
-    record { fits = omega (arith, in_range h.clean x, x.large, c.lead_of.ensures) }
+    record { fits = omega (arith, IsCodePoint-divided h.clean x, x.large, c.lead_of.ensures) }
 
 pub returns-in-None-clause-units : goal.returns-in-None-clause-units
 returns-in-None-clause-units c =

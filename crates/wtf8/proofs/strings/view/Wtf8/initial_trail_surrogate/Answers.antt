@@ -4,28 +4,28 @@ use Rattle.wtf8.proofs.lemmas.codec.Readings.{first_of}
 use Rattle.wtf8.proofs.strings.view.Wtf8.initial_trail_surrogate.Goals as goal
 
 -- the first three bytes of a string that begins with a trail
-says_trail : {w : List ℕ} (h : IsWellFormed w) (t : ℕ) (r : List ℕ) → IsTrail t → h.points ≡ t ∷ r → FirstPointByLead w t (length (encoding t))
-says_trail h t r i e = (begins_with t (bytes r) _ (omega arith) (sym h.encoded ∙ ap bytes e)).says
+trail_by_lead : {w : List ℕ} (h : IsWellFormed w) (t : ℕ) (r : List ℕ) → IsTrail t → h.points ≡ t ∷ r → FirstPointByLead w t (length (encoding t))
+trail_by_lead h t r i e = (begins_with t (bytes r) _ (omega arith) (sym h.encoded ∙ ap bytes e)).by_lead
 
 pub payload_bits-requires-in-237 : goal.payload_bits-requires-in-237
-payload_bits-requires-in-237 c = let s = (first_of c.args.self.well_formed (omega arith)).0.says in omega arith
+payload_bits-requires-in-237 c = let s = (first_of c.args.self.well_formed (omega arith)).0.by_lead in omega arith
 
 pub returns-in-237-clause-trail : goal.returns-in-237-clause-trail
-returns-in-237-clause-trail c = let s = (first_of c.args.self.well_formed (omega arith)).0.says in (omega arith, omega arith)
+returns-in-237-clause-trail c = let s = (first_of c.args.self.well_formed (omega arith)).0.by_lead in (omega arith, omega arith)
 
 pub returns-in-237-clause-first : goal.returns-in-237-clause-first
 returns-in-237-clause-first c =
     let f = first_of c.args.self.well_formed (omega arith) in
-    let s = f.0.says in (f.1.rest.points, f.1.joined ∙ ap (λ q. q ∷ f.1.rest.points) (omega arith))
+    let s = f.0.by_lead in (f.1.rest.points, f.1.joined ∙ ap (λ q. q ∷ f.1.rest.points) (omega arith))
 
 pub returns-in_default-clause-none : goal.returns-in_default-clause-none
-returns-in_default-clause-none c t r i e = let s = says_trail c.args.self.well_formed t r i e in grind arith
+returns-in_default-clause-none c t r i e = let s = trail_by_lead c.args.self.well_formed t r i e in grind arith
 
 pub returns-in_default-2-clause-none : goal.returns-in_default-2-clause-none
-returns-in_default-2-clause-none c t r i e = let s = says_trail c.args.self.well_formed t r i e in omega arith
+returns-in_default-2-clause-none c t r i e = let s = trail_by_lead c.args.self.well_formed t r i e in omega arith
 
 pub returns-in_default-3-clause-none : goal.returns-in_default-3-clause-none
-returns-in_default-3-clause-none c t r i e = let s = says_trail c.args.self.well_formed t r i e in omega arith
+returns-in_default-3-clause-none c t r i e = let s = trail_by_lead c.args.self.well_formed t r i e in omega arith
 
 pub returns-in_default-4-clause-none : goal.returns-in_default-4-clause-none
-returns-in_default-4-clause-none c t r i e = let s = says_trail c.args.self.well_formed t r i e in grind arith
+returns-in_default-4-clause-none c t r i e = let s = trail_by_lead c.args.self.well_formed t r i e in grind arith

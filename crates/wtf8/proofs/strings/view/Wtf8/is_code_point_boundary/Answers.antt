@@ -1,4 +1,5 @@
-use Rattle.wtf8.proofs.Common.{arith, ℕ, ◌≤◌, ◌≡◌, ◌==◌, true, length, nat_tests}
+use Rattle.wtf8.proofs.Common.{arith, length}
+use Rattle.std.proofs.lemmas.Bool.Decides.{Decides-eqb}
 use Rattle.wtf8.proofs.lemmas.strings.Positions.{cut_at, boundary_from_byte, byte_from_boundary}
 use Rattle.wtf8.proofs.strings.view.Wtf8.is_code_point_boundary.Goals as goal
 
@@ -8,15 +9,9 @@ returns-then-index-self c = (
   λ b. c.begins_code_point.ensures.1 (byte_from_boundary c.args.self.now.well_formed c.args.index b c.if-index-self.true).start,
 )
 
-at_end : (k n : ℕ) → n ≤ k → k ≤ n → (k == n) ≡ true
-at_end k n a b = grind (arith, nat_tests)
-
-end_of : (k n : ℕ) → (k == n) ≡ true → k ≡ n
-end_of k n e = grind (arith, nat_tests)
-
 pub returns-else-index-self : goal.returns-else-index-self
 returns-else-index-self c =
     let n = length c.args.self.now.bytes.now in (
-      λ t. let e = end_of c.args.index n t in boundary_from_byte c.args.self.now.well_formed c.args.index (omega arith) (λ m. absurd (omega arith)),
-      λ b. at_end c.args.index n c.if-index-self.false (cut_at c.args.self.now.well_formed c.args.index b).within,
+      λ t. let e = (Decides-eqb c.args.index n).0 t in boundary_from_byte c.args.self.now.well_formed c.args.index (omega arith) (λ m. absurd (omega arith)),
+      λ b. (Decides-eqb c.args.index n).1 (omega (arith, c.if-index-self.false, (cut_at c.args.self.now.well_formed c.args.index b).within)),
     )

@@ -1,6 +1,6 @@
 use Rattle.wtf8.proofs.Common.{◌∙◌, ap, sym, rules, units, view_units, IsFront}
 use Rattle.wtf8.proofs.lemmas.strings.Positions.{cut_at}
-use Rattle.wtf8.proofs.lemmas.codec.Readings.{moved}
+use Rattle.wtf8.proofs.lemmas.codec.Readings.{IsWellFormed-equal_bytes}
 use Rattle.wtf8.proofs.lemmas.laws.PositionLaws.{front_and_back}
 use Rattle.wtf8.proofs.strings.view.Wtf8.slice_to.Goals as goal
 
@@ -8,12 +8,12 @@ pub split_at-requires : goal.split_at-requires
 split_at-requires c = (cut_at c.args.self.now.well_formed c.args.end c.requires).within
 
 pub from_well_formed-requires : goal.from_well_formed-requires
-from_well_formed-requires c = moved (cut_at c.args.self.now.well_formed c.args.end c.requires).before c.split_at.ensures.front
+from_well_formed-requires c = IsWellFormed-equal_bytes (cut_at c.args.self.now.well_formed c.args.end c.requires).before c.split_at.ensures.front
 
 pub returns : goal.returns
 returns c =
     let cut = cut_at c.args.self.now.well_formed c.args.end c.requires in
-    let points = c.from_well_formed.ensures.points (moved cut.before c.split_at.ensures.front) ∙ cut.before_points in
+    let points = c.from_well_formed.ensures.points (IsWellFormed-equal_bytes cut.before c.split_at.ensures.front) ∙ cut.before_points in
     let part : IsFront (view_units c.args.self.now) c.args.end (view_units c.from_well_formed.result) =
     record { front = cut.front; back = cut.back; splits = cut.splits; same_units = ap units (sym points) } in
     record { units = part; bytes = search rules; whole = λ back h. front_and_back (view_units c.args.self.now) _ back c.args.end part h }

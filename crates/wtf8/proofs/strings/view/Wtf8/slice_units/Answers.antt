@@ -1,6 +1,6 @@
 use Rattle.wtf8.proofs.Common.{nat_tests, ◌≤◌, ◌≡◌, ◌∙◌, ◌+◌, ◌-◌, [], ◌++◌, ap, sym, subst, length, take, arith, length-append, length-drop, length-take, drop}
 use Rattle.wtf8.proofs.Common.{drop_all, units, view_units, drop-take, option_to_list, DividesPair, take-append-add}
-use Rattle.wtf8.proofs.lemmas.codec.Readings.{no_points}
+use Rattle.wtf8.proofs.lemmas.codec.Readings.{points-nil}
 use Rattle.wtf8.proofs.lemmas.strings.UnitCuts.{divides_after}
 use Rattle.wtf8.proofs.strings.view.Wtf8.slice_units.Goals.{After-half_len}
 use Rattle.wtf8.proofs.strings.view.Wtf8.slice_units.Goals as goal
@@ -8,7 +8,7 @@ use Rattle.wtf8.proofs.strings.view.Wtf8.slice_units.Goals as goal
 pub returns-then-begin-end-clause-units : goal.returns-then-begin-end-clause-units
 returns-then-begin-end-clause-units c =
     let u = units c.args.self.now.well_formed.points in
-    ap (λ d. units d ++ []) (no_points c.from_str.result.well_formed (ap length c.from_str.ensures.bytes))
+    ap (λ d. units d ++ []) (points-nil c.from_str.result.well_formed (ap length c.from_str.ensures.bytes))
     ∙ sym (drop_all c.args.begin (take c.args.end u) (omega (arith, length-take c.args.end u, c.if-begin-end.true)))
 
 -- the trail that is cut off at `begin`, if any, is before `end`
@@ -34,11 +34,11 @@ returns-clause-units c =
     let half = option_to_list c.units_after-trail.result.0 in
     let rest = view_units c.units_after-trail.result.1 in
     let n = c.args.end - c.args.begin - c.half_len.result in
-    let many : length half + n ≡ c.args.end - c.args.begin =
+    let count : length half + n ≡ c.args.end - c.args.begin =
     omega (arith, trail_before_end (goal.at.returns-clause-units c).After-half_len, c.half_len.ensures.count) in
     let whole : c.args.begin + (c.args.end - c.args.begin) ≡ c.args.end = omega (arith, c.requires.order) in
     ap (λ v. half ++ v) c.first_units-lead.ensures.units ∙ (sym (take-append-add half rest n) ∙ (ap (take (length half + n)) c.units_after-trail.ensures.units
-    ∙ (ap (λ k. take k (drop c.args.begin u)) many ∙ (sym (drop-take c.args.begin (c.args.end - c.args.begin) u) ∙ ap (λ k. drop c.args.begin (take k u)) whole))))
+    ∙ (ap (λ k. take k (drop c.args.begin u)) count ∙ (sym (drop-take c.args.begin (c.args.end - c.args.begin) u) ∙ ap (λ k. drop c.args.begin (take k u)) whole))))
 
 pub returns-clause-lead : goal.returns-clause-lead
 returns-clause-lead c before =

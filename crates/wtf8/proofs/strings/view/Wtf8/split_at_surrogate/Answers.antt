@@ -1,6 +1,6 @@
 use Rattle.wtf8.proofs.Common.{◌∙◌, ap, sym, subst, IsUtf8, bytes}
 use Rattle.wtf8.proofs.lemmas.strings.Surrogates.{lossy_points-scalar, split_at_first_surrogate, scalar_if_none, utf8_if_none}
-use Rattle.wtf8.proofs.lemmas.codec.Readings.{moved, same_points}
+use Rattle.wtf8.proofs.lemmas.codec.Readings.{IsWellFormed-equal_bytes, same_points}
 use Rattle.wtf8.proofs.strings.view.Wtf8.split_at_surrogate.Goals as goal
 
 pub from_utf8_unchecked-requires : goal.from_utf8_unchecked-requires
@@ -18,7 +18,7 @@ pub from_utf8_unchecked-text-requires : goal.from_utf8_unchecked-text-requires
 from_utf8_unchecked-text-requires c = subst IsUtf8 (sym c.split_at.ensures.front) (split_at_first_surrogate c.args.self.well_formed c.in-Some.place c.in-Some.ensures).text
 
 pub invariant_of-result : goal.invariant_of-result
-invariant_of-result c = record { well_formed = moved (split_at_first_surrogate c.args.self.well_formed c.in-Some.place c.in-Some.ensures).rest c.split_at-2.ensures.back }
+invariant_of-result c = record { well_formed = IsWellFormed-equal_bytes (split_at_first_surrogate c.args.self.well_formed c.in-Some.place c.in-Some.ensures).rest c.split_at-2.ensures.back }
 
 pub returns-clause-some : goal.returns-clause-some
 returns-clause-some c =

@@ -1,9 +1,9 @@
 use Rattle.wtf8.proofs.Common.{◌∙◌, ◌∷◌, arith, ap, sym, nat_tests, number}
-use Rattle.wtf8.proofs.lemmas.codec.Readings.{no_points, first_of, Taken-from_first, same_points}
+use Rattle.wtf8.proofs.lemmas.codec.Readings.{points-nil, first_of, Taken-from_first, same_points}
 use Rattle.wtf8.proofs.strings.view.Wtf8.split_first.Goals as goal
 
 pub returns-then-is_empty-clause-none : goal.returns-then-is_empty-clause-none
-returns-then-is_empty-clause-none c = no_points c.args.self.well_formed (grind (arith, nat_tests))
+returns-then-is_empty-clause-none c = points-nil c.args.self.well_formed (grind (arith, nat_tests))
 
 pub read-width-requires-clause-front : goal.read-width-requires-clause-front
 read-width-requires-clause-front c = (first_of c.args.self.well_formed (grind (arith, nat_tests))).0

@@ -13,14 +13,14 @@ pub returns-in-None-clause-units : goal.returns-in-None-clause-units
 returns-in-None-clause-units c =
     let h = c.args.self.well_formed in
     let x = undivided_from_cut c.in-None.is c.in-Some.ensures.some in
-    ap units (points_after h c.slice_from.result.well_formed x.front x.back _ x.joined x.front_len c.slice_from.ensures.bytes) ∙ sym x.behind
+    ap units (points_after h c.slice_from.result.well_formed x.front x.back _ x.joined x.front_len c.slice_from.ensures.bytes) ∙ sym x.after
 
 pub returns-in-Some-divided-clause-units : goal.returns-in-Some-divided-clause-units
 returns-in-Some-divided-clause-units c =
     let h = c.args.self.well_formed in
     let x = divided_from_cut c.in-Some-divided.is c.in-Some.ensures.some in
     let rest = points_after h c.slice_from-in-Some-divided.result.well_formed (x.front ++ c.in-Some-divided.value ∷ []) x.rest _ x.pushed x.pushed_len c.slice_from-in-Some-divided.ensures.bytes in
-    rw (c.trail_of.ensures, rest) (sym x.behind)
+    rw (c.trail_of.ensures, rest) (sym x.after)
 
 pub returns-in-None-clause-trail : goal.returns-in-None-clause-trail
 returns-in-None-clause-trail c =

@@ -1,9 +1,9 @@
 use Rattle.std.proofs.Common.{take, sym, ◌∙◌, arith, length-take-le, Option, None, Some, IfSome, IfNone, MatchOption}
 use Rattle.std.proofs.lemmas.List.{take_rest, get_or-take}
 use Rattle.dump_lines.specs.Word.{IsCall, IsNoCall}
-use Rattle.dump_lines.proofs.Digits.{point_no_space}
+use Rattle.dump_lines.proofs.Digits.{point_of-no_space}
 use Rattle.dump_lines.proofs.Splitting.{slice_split-at_separator}
-use Rattle.dump_lines.proofs.word.read_first_word.Goals as goal
+use Rattle.dump_lines.proofs.word.parse_first_word.Goals as goal
 
 pub returns-in-Some : goal.returns-in-Some
 returns-in-Some c =
@@ -11,7 +11,7 @@ returns-in-Some c =
     let is_point = sym c.in-Some.ensures in
     let within = length-take-le 4 bytes (omega arith) in (
       take 4 bytes,
-      rw take_rest (slice_split-at_separator 32 bytes 4 (λ k lt is. point_no_space (take 4 bytes) _ k is_point (omega (arith, lt, within)) (get_or-take 4 bytes k 0 lt ∙ is))
+      rw take_rest (slice_split-at_separator 32 bytes 4 (λ k lt is. point_of-no_space (take 4 bytes) _ k is_point (omega (arith, lt, within)) (get_or-take 4 bytes k 0 lt ∙ is))
           (omega arith) c.if-bytes-eq32.true),
       is_point,
     )
@@ -23,4 +23,4 @@ MatchOption-from_both P Q (Some x) some none = some
 pub returns : goal.returns
 returns c =
     let word = c.split_first_part.result.0.now in
-    (word, c.split_first_part.ensures.parts, MatchOption-from_both (IsCall word) (IsNoCall word) c.read_call.result c.read_call.ensures.some c.read_call.ensures.none)
+    (word, c.split_first_part.ensures.parts, MatchOption-from_both (IsCall word) (IsNoCall word) c.parse_call.result c.parse_call.ensures.some c.parse_call.ensures.none)

@@ -1,22 +1,22 @@
--- The words of a line that were read so far.
+-- The words of a line that were parsed so far.
 use Rattle.std.proofs.Common.{◌≡◌, ℕ, List, [], ◌∷◌, ◌++◌, sym, ◌∙◌, append_assoc}
 use Rattle.std.specs.List.{AllZip}
 use Rattle.wtf8.specs.declared.strings.build.Build.{Build}
 use Rattle.dump_lines.specs.Lines.{words}
 use Rattle.dump_lines.specs.Word.{IsCall}
-use Rattle.dump_lines.proofs.Outputs.{AllZip-one_more}
+use Rattle.dump_lines.proofs.Outputs.{AllZip-push_pair}
 
 -- `calls` are the calls of the first words of the line, and `rest` are the words after them.
-pub record AreRead (line : List ℕ) (rest : List (List ℕ)) (calls : List Build) : Type 0 where
+pub record AreParsed (line : List ℕ) (rest : List (List ℕ)) (calls : List Build) : Type 0 where
   pub front : List (List ℕ)
   pub split : words line ≡ front ++ rest
   pub each : AllZip IsCall front calls
 
--- one more word is read
-pub AreRead-more : (line word : List ℕ) (rest : List (List ℕ)) (calls : List Build) (call : Build) → AreRead line (word ∷ rest) calls → IsCall word call
-    → AreRead line rest (calls ++ call ∷ [])
-AreRead-more line word rest calls call r is = record {
+-- one more word is parsed
+pub AreParsed-push : (line word : List ℕ) (rest : List (List ℕ)) (calls : List Build) (call : Build) → AreParsed line (word ∷ rest) calls → IsCall word call
+    → AreParsed line rest (calls ++ call ∷ [])
+AreParsed-push line word rest calls call r is = record {
   front = r.front ++ word ∷ [];
   split = r.split ∙ sym (append_assoc r.front (word ∷ []) rest);
-  each = AllZip-one_more IsCall r.front calls word call r.each is;
+  each = AllZip-push_pair IsCall r.front calls word call r.each is;
 }

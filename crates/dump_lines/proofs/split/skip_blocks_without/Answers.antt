@@ -2,7 +2,7 @@ use Rattle.std.proofs.Common.{◌==◌, eqb, sym, ◌∙◌, arith, w8, inl, inr
 use lib.Lanes.{chunk}
 use Rattle.std.proofs.lemmas.Bool.{cases_lt, eqb-false}
 use Rattle.std.proofs.lemmas.Simd.{bitmask_splat, length-chunk, none_from_empty_mask}
-use Rattle.dump_lines.proofs.split.skip_blocks.Goals as goal
+use Rattle.dump_lines.proofs.split.skip_blocks_without.Goals as goal
 
 pub loop-at-preserved : goal.loop-at-preserved
 loop-at-preserved c =

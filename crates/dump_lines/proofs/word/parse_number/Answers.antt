@@ -1,9 +1,9 @@
 use Rattle.std.proofs.Common.{sym, ◌∙◌, arith}
-use Rattle.dump_lines.proofs.Digits.{no_number, next_digits, next_number, next_below, next_rest}
-use Rattle.dump_lines.proofs.word.read_number.Goals as goal
+use Rattle.dump_lines.proofs.Digits.{bounded_number-none, next_digits, next_number, next_below, next_rest}
+use Rattle.dump_lines.proofs.word.parse_number.Goals as goal
 
 pub returns-then-digit-base : goal.returns-then-digit-base
-returns-then-digit-base c = sym (no_number _ _ _ _ _ c.loop-byte-test.true (omega arith))
+returns-then-digit-base c = sym (bounded_number-none _ _ _ _ _ c.loop-byte-test.true (omega arith))
 
 pub overflow_mul-number : goal.overflow_mul-number
 overflow_mul-number c =

@@ -5,7 +5,7 @@ use Rattle.wtf8.proofs.Common.{get_or-chunk, tops_compared, chunk, zip2, mask_l,
 use Rattle.wtf8.proofs.Common.{Option, get_or-zip2, ◌&&◌, bit_and, subst, and_parts, and_from, leb-true}
 use Rattle.wtf8.proofs.Common.{MatchOption, get_or-replicate, length-replicate}
 use lib.Lanes.{chunk, zip2, mask_l, top}
-use Rattle.wtf8.proofs.lemmas.lanes.Masks.{first_at_offset, same_first, none_set}
+use Rattle.wtf8.proofs.lemmas.lanes.Masks.{first_at_offset, IsFirstIn-iff, none_set}
 use Rattle.wtf8.specs.private.FirstIndex.{IsFirstIn, IsFirstSet, IsLeast, IsSet, NoneIn}
 use Rattle.wtf8.specs.private.SurrogateSearch.{SurrogateInLane, SurrogateAt}
 use Rattle.wtf8.specs.private.UnitCounts.{HasLaneAtLeast}
@@ -13,37 +13,37 @@ use Rattle.wtf8.specs.private.UnitCounts.{HasLaneAtLeast}
 -- The search for a surrogate in two vectors, the second shifted by one byte.
 
 -- the byte of a lane after a comparison: FF or 0
-abbrev pub lane : Bool → ℕ
-lane b = cond b 255 0
+abbrev pub lane_of_bool : Bool → ℕ
+lane_of_bool b = cond b 255 0
 
 -- FF in each lane that is ED in one vector and at least A0 in the other
-abbrev pub compared : ℕ → List ℕ → List ℕ → List ℕ
-compared n xs ys = zip2 bit_and (zip2 (λ a b. lane (eqb a b)) xs (replicate n 0xED)) (zip2 (λ a b. lane (leb a b)) (replicate n 0xA0) ys)
+abbrev pub surrogate_lanes : ℕ → List ℕ → List ℕ → List ℕ
+surrogate_lanes n xs ys = zip2 bit_and (zip2 (λ a b. lane_of_bool (eqb a b)) xs (replicate n 0xED)) (zip2 (λ a b. lane_of_bool (leb a b)) (replicate n 0xA0) ys)
 
-abbrev test : ℕ → ℕ → Bool
-test x y = eqb x 0xED && leb 0xA0 y
+abbrev begins_surrogate : ℕ → ℕ → Bool
+begins_surrogate x y = eqb x 0xED && leb 0xA0 y
 
-top-bit_and : (a b : Bool) → top 7 (bit_and (lane a) (lane b)) ≡ a && b
+top-bit_and : (a b : Bool) → top 7 (bit_and (lane_of_bool a) (lane_of_bool b)) ≡ a && b
 top-bit_and true true = refl
 top-bit_and true false = refl
 top-bit_and false true = refl
 top-bit_and false false = refl
 
-map_top-compared : (n : ℕ) (xs ys : List ℕ) → length xs ≡ n → length ys ≡ n → map (top 7) (compared n xs ys) ≡ zip2 test xs ys
-map_top-compared n [] ys p q = refl
-map_top-compared n (x ∷ xs) [] p q = absurd (omega arith)
-map_top-compared zero (x ∷ xs) (y ∷ ys) p q = absurd (omega arith)
-map_top-compared (suc n) (x ∷ xs) (y ∷ ys) p q = λ i. top-bit_and (eqb x 0xED) (leb 0xA0 y) i ∷ map_top-compared n xs ys (omega arith) (omega arith) i
+map_top-surrogate_lanes : (n : ℕ) (xs ys : List ℕ) → length xs ≡ n → length ys ≡ n → map (top 7) (surrogate_lanes n xs ys) ≡ zip2 begins_surrogate xs ys
+map_top-surrogate_lanes n [] ys p q = refl
+map_top-surrogate_lanes n (x ∷ xs) [] p q = absurd (omega arith)
+map_top-surrogate_lanes zero (x ∷ xs) (y ∷ ys) p q = absurd (omega arith)
+map_top-surrogate_lanes (suc n) (x ∷ xs) (y ∷ ys) p q = λ i. top-bit_and (eqb x 0xED) (leb 0xA0 y) i ∷ map_top-surrogate_lanes n xs ys (omega arith) (omega arith) i
 
 -- the first set bit of the mask is the first lane in which a surrogate begins
-pub first_begins : (xs ys : List ℕ) → length xs ≡ 32 → length ys ≡ 32 → (r : Option ℕ) → IsFirstSet (mask_l (map (top 7) (compared 32 xs ys)) % 2 ^ 64) r
+pub first_begins : (xs ys : List ℕ) → length xs ≡ 32 → length ys ≡ 32 → (r : Option ℕ) → IsFirstSet (mask_l (map (top 7) (surrogate_lanes 32 xs ys)) % 2 ^ 64) r
     → IsFirstIn (SurrogateInLane xs ys) 0 32 r
 first_begins xs ys p q r first =
-    same_first (IsSet (zip2 test xs ys)) (SurrogateInLane xs ys) 32 begins r
-    (first 32 (zip2 test xs ys) (omega arith) (length-zip2 test xs ys (p ∙ sym q) ∙ p) (ap (λ ms. mask_l ms % 2 ^ 64) (map_top-compared 32 xs ys p q)))
+    IsFirstIn-iff (IsSet (zip2 begins_surrogate xs ys)) (SurrogateInLane xs ys) 32 begins r
+    (first 32 (zip2 begins_surrogate xs ys) (omega arith) (length-zip2 begins_surrogate xs ys (p ∙ sym q) ∙ p) (ap (λ ms. mask_l ms % 2 ^ 64) (map_top-surrogate_lanes 32 xs ys p q)))
   where
-    begins : (k : ℕ) → k < 32 → IsSet (zip2 test xs ys) k ↔ SurrogateInLane xs ys k
-    begins k l = subst (λ b. IsTrue b ↔ SurrogateInLane xs ys k) (sym (get_or-zip2 test xs ys k 0 0 false (omega (arith, p, l)) (omega (arith, q, l)))) (
+    begins : (k : ℕ) → k < 32 → IsSet (zip2 begins_surrogate xs ys) k ↔ SurrogateInLane xs ys k
+    begins k l = subst (λ b. IsTrue b ↔ SurrogateInLane xs ys k) (sym (get_or-zip2 begins_surrogate xs ys k 0 0 false (omega (arith, p, l)) (omega (arith, q, l)))) (
       λ e. let parts = and_parts _ _ e in (eqb-true _ 0xED parts.0, leb-true 0xA0 _ parts.1),
       λ h. and_from _ _ (eq-eqb _ 0xED h.0) (le-leb 0xA0 _ h.1),
     )
@@ -51,7 +51,7 @@ first_begins xs ys p q r first =
 -- the first such lane of the blocks at `i` and `i + 1` gives the first position at which a surrogate begins
 pub first_surrogate_at_offset : (w : List ℕ) (i : ℕ) → i + 32 < length w → (r : Option ℕ) → IsFirstIn (SurrogateInLane (chunk i 32 w) (chunk (i + 1) 32 w)) 0 32 r
     → MatchOption r (NoneIn (SurrogateAt w) i (i + 32)) (λ k. IsLeast (SurrogateAt w) i (i + k) × (i + k < i + 32))
-first_surrogate_at_offset w i room = first_at_offset (SurrogateAt w) (SurrogateInLane (chunk i 32 w) (chunk (i + 1) 32 w)) i 32 begins
+first_surrogate_at_offset w i bound = first_at_offset (SurrogateAt w) (SurrogateInLane (chunk i 32 w) (chunk (i + 1) 32 w)) i 32 begins
   where
     begins : (k : ℕ) → k < 32 → SurrogateInLane (chunk i 32 w) (chunk (i + 1) 32 w) k ↔ SurrogateAt w (i + k)
     begins k l =
@@ -61,7 +61,7 @@ first_surrogate_at_offset w i room = first_at_offset (SurrogateAt w) (SurrogateI
 
 -- if the mask of the lanes that are at least `least` is 0, there is no such lane
 pub none_at_least : (n least : ℕ) (xs : List ℕ) → n ≤ 64 → length xs ≡ n
-    → IsTrue (eqb (mask_l (map (top 7) (zip2 (λ a b. lane (leb a b)) (replicate n least) xs)) % 2 ^ 64) 0) → ¬ (HasLaneAtLeast least xs)
+    → IsTrue (eqb (mask_l (map (top 7) (zip2 (λ a b. lane_of_bool (leb a b)) (replicate n least) xs)) % 2 ^ 64) 0) → ¬ (HasLaneAtLeast least xs)
 none_at_least n least xs few p t h =
     let rest = length-replicate n least in
     let long : length (zip2 leb (replicate n least) xs) ≡ n = length-zip2 leb (replicate n least) xs (rest ∙ sym p) ∙ rest in

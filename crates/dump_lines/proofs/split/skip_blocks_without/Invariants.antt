@@ -1,5 +1,5 @@
 use Rattle.std.proofs.Common.{ℕ, ◌≢◌, ◌<◌, ◌≤◌, ◌-◌, length, get_or}
-use Rattle.dump_lines.proofs.split.skip_blocks.Given as goal
+use Rattle.dump_lines.proofs.split.skip_blocks_without.Given as goal
 
 -- no byte so far is a separator
 abbrev pub invariant-loop-at : goal.invariant-loop-at

@@ -1,6 +1,6 @@
 use Rattle.wtf8.specs.View.{view_units}
 use Rattle.unit_text.proofs.MarkLemmas.{AreKept-append}
-use Rattle.unit_text.proofs.text.UnitText.append.Goals as goal
+use Rattle.unit_text.proofs.text.UnitText.append_view.Goals as goal
 
 pub add_to_kept-requires-clause-marks : goal.add_to_kept-requires-clause-marks
 add_to_kept-requires-clause-marks g c =
