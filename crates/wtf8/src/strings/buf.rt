@@ -15,9 +15,9 @@ ghost use Rattle.wtf8.specs.UnitPosition.{TruncatesUnits};
 ghost use Rattle.wtf8.specs.View.{view_points, view_units};
 
 use crate::codec::code_point::CodePoint;
-use crate::codec::{encoding, surrogates};
+use crate::codec::surrogates;
 use crate::from_utf16::transcode;
-use crate::lanes::{copies, search};
+use crate::lanes::{capacity, copies, search};
 use crate::strings::view::Wtf8;
 use crate::strings::{concat, unit_positions};
 use std::alloc::{AllocError, Allocator};
@@ -219,7 +219,7 @@ impl<A: Allocator> Wtf8Buf<A> {
         ensures room { length self.old.bytes + additional ≤ self.old.capacity → IsOk result }
         ensures capacity { self.old.capacity ≤ self.new.capacity }
     {
-        encoding::reserve_with_known_len(&mut self.bytes, additional)
+        capacity::reserve_with_known_len(&mut self.bytes, additional)
     }
 
     /// Releases spare capacity if the allocator agrees, else keeps it. An empty string releases all of it. The units

@@ -11,6 +11,7 @@ ghost use Rattle.wtf8.specs.View.{view_points, view_units};
 
 use crate::codec::code_point::CodePoint;
 use crate::codec::{encoding, surrogates};
+use crate::lanes::capacity::spare_capacity;
 use crate::strings::view::Wtf8;
 use std::alloc::{AllocError, Allocator};
 
@@ -77,7 +78,7 @@ pub(crate) fn push_surrogate<A: Allocator>(
     match lead_to_complete(view, code_point) {
         Some(lead) => complete_pair(bytes, lead, code_point.to_u32()),
         None => {
-            let spare = encoding::spare_capacity(bytes);
+            let spare = spare_capacity(bytes);
             push_unpaired(bytes, spare, code_point)
         }
     }
@@ -97,7 +98,7 @@ pub(crate) fn push_point<A: Allocator>(
     ensures scalar { length bytes.old.items < scalar_end.new → ¬ (IsSurrogate (number code_point)) }
 {
     // The spare capacity is computed before the match, so that a loop can keep the length in a register.
-    let spare = encoding::spare_capacity(bytes);
+    let spare = spare_capacity(bytes);
     // Each arm has its own call, in which the compiler knows the encoded length.
     match code_point.to_u32() {
         0..=0x7F => push_unpaired(bytes, spare, code_point),
@@ -187,7 +188,7 @@ pub(crate) fn push_scalar<A: Allocator>(bytes: &mut Vec<u8, A>, c: char) -> Resu
     ensures units { ExtendsForm bytes.old.items (bytes.old.items ++ encoding c) (units_of c) }
     ensures bytes { BecomesOrKeeps bytes.old (bytes.old.items ++ encoding c) bytes.new result }
 {
-    let spare = encoding::spare_capacity(bytes);
+    let spare = spare_capacity(bytes);
     push_unpaired(bytes, spare, CodePoint::from_u32_unchecked(u32::from(c)))
 }
 
