@@ -67,5 +67,5 @@ pub use Rattle.std.proofs.lemmas.Option.{none-some, slice_get-get_or}
 pub use Rattle.std.specs.Prelude.{IsOk, IsSome, MatchOption, ⊤}
 pub use Rattle.wtf8.specs.UnitPosition.{DividesPair}
 pub use Rattle.wtf8.specs.declared.codec.code_point.CodePoint.{CodePoint}
-pub use Rattle.wtf8.specs.declared.strings.unit_positions.UnitCursor.{UnitCursor}
+pub use Rattle.wtf8.specs.declared.strings.unit_counts.UnitCursor.{UnitCursor}
 pub use Rattle.wtf8.specs.private.EncodedRuns.{BeginsWithUnits, HasBitPrefix, Writes, unit_of_three, unit_of_two}

@@ -1,10 +1,10 @@
 // Encodes one code point at the end of a byte vector, and decodes the one at the front of a byte slice.
 ghost use Rattle.std.specs.Prelude.{◌≡◌, ◌++◌, ◌+◌, ◌-◌, ◌/◌, ◌%◌, ◌^◌, ◌<◌, ◌≤◌, ◌↔◌, ◌⊎◌};
-ghost use Rattle.std.specs.Prelude.{ℕ, List, IsTrue, length, slice_index, OnOk, IsOk, vec_len, vec_capacity};
+ghost use Rattle.std.specs.Prelude.{ℕ, List, IsTrue, length, take, slice_index, vec_len, vec_capacity};
 ghost use Rattle.wtf8.specs.CodePoint.{number};
 ghost use Rattle.wtf8.specs.Form.{encoding};
 ghost use Rattle.wtf8.specs.private.EncodedBytes.{BeginsWithPoint, FirstPointIs, BecomesOrKeeps};
-ghost use Rattle.wtf8.specs.Unicode.{IsCodePoint};
+ghost use Rattle.wtf8.specs.Unicode.{IsCodePoint, IsLead};
 ghost use Rattle.wtf8.specs.private.UnitIterator.{trail_from_bytes};
 
 use crate::codec::code_point::CodePoint;
@@ -31,7 +31,7 @@ fn two_bytes(value: u32) -> [u8; 2]
 
 /// The encoding of a code point from 0x800 to 0xFFFF, surrogates included.
 #[tactic(auto, using(crate::proofs::lemmas::codec::Encoding::encoding_three))]
-pub(crate) fn three_bytes(value: u32) -> [u8; 3]
+fn three_bytes(value: u32) -> [u8; 3]
     requires low { 0x800 ≤ value }
     requires high { value < 0x10000 }
     ensures { result ≡ encoding value }
@@ -105,6 +105,16 @@ pub(crate) fn append_with_spare<A: Allocator>(
         bytes.push_reserved(fourth);
     }
     Ok(())
+}
+
+/// Keeps the first `at + 3` bytes and overwrites the last three of them by the encoding of a lead surrogate.
+pub(crate) fn keep_lead<A: Allocator>(bytes: &mut Vec<u8, A>, at: usize, lead: u32)
+    requires lead { IsLead lead }
+    requires within { at + 3 ≤ length bytes.old.items }
+    ensures { bytes.new.items ≡ take at bytes.old.items ++ encoding lead }
+{
+    bytes.truncate(at + 3);
+    bytes[at..at + 3].copy_from_slice(&three_bytes(lead));
 }
 
 /// Whether a byte begins an encoding: it is not a continuation byte, which is from 0x80 to 0xBF.

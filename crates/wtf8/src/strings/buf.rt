@@ -15,11 +15,12 @@ ghost use Rattle.wtf8.specs.UnitPosition.{TruncatesUnits};
 ghost use Rattle.wtf8.specs.View.{view_points, view_units};
 
 use crate::codec::code_point::CodePoint;
-use crate::codec::surrogates;
+use crate::codec::{encoding, surrogates};
 use crate::from_utf16::transcode;
 use crate::lanes::{capacity, copies, search};
+use crate::strings::concat;
+use crate::strings::unit_positions::find_cut;
 use crate::strings::view::Wtf8;
-use crate::strings::{concat, unit_positions};
 use std::alloc::{AllocError, Allocator};
 use std::marker::Model;
 
@@ -413,7 +414,7 @@ impl<A: Allocator> Wtf8Buf<A> {
     pub(crate) fn try_truncate_units(&mut self, n: usize) -> bool
         ensures { TruncatesUnits self.old.units n self.new.units (if result then 0 else 1) }
     {
-        let Some(cut) = unit_positions::find_cut(self.as_wtf8(), n) else {
+        let Some(cut) = find_cut(self.as_wtf8(), n) else {
             return false;
         };
         match cut.divided {
@@ -421,7 +422,7 @@ impl<A: Allocator> Wtf8Buf<A> {
             Some(value) => {
                 self.scalar_end = self.scalar_end.min(cut.position);
                 let lead = surrogates::lead_of(value);
-                unit_positions::keep_lead(&mut self.bytes, cut.position, lead);
+                encoding::keep_lead(&mut self.bytes, cut.position, lead);
             }
         }
         true

@@ -5,6 +5,8 @@ pub(crate) mod collect;
 pub(crate) mod concat;
 pub(crate) mod iters;
 pub(crate) mod to_utf16;
+pub(crate) mod unit_counts;
 pub(crate) mod unit_marks;
 pub(crate) mod unit_positions;
+pub(crate) mod unit_slices;
 pub(crate) mod view;

@@ -14,7 +14,7 @@ use crate::codec::surrogates::{lead_of, trail_of};
 use crate::lanes::VECTOR;
 use crate::lanes::copies::push_block;
 use crate::lanes::masks::first_set_lane;
-use crate::strings::unit_positions::is_ascii_overlapping;
+use crate::strings::unit_counts::is_ascii_overlapping;
 use crate::strings::view::Wtf8;
 use std::alloc::{AllocError, Allocator};
 use std::simd::prelude::*;

@@ -1,5 +1,5 @@
 use Rattle.wtf8.proofs.Common.{◌≡◌, ◌*◌, ◌≤◌, length, chunk, sum_utf16_len, Each1, sum_l}
-use Rattle.wtf8.proofs.strings.unit_positions.utf16_len_of_blocks.Given as goal
+use Rattle.wtf8.proofs.strings.unit_counts.utf16_len_of_blocks.Given as goal
 
 -- the lanes sum up to the units so far, and each block added at most 2 to a lane
 abbrev pub invariant-loop-block : goal.invariant-loop-block

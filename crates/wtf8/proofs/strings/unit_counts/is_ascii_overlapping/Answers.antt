@@ -3,7 +3,7 @@ use Rattle.wtf8.proofs.Common.{Each1-from_get_or, HasLaneAtLeast}
 use Rattle.wtf8.proofs.lemmas.laws.PositionLaws.{below_lanes}
 use Rattle.wtf8.proofs.lemmas.codec.Readings.{units_from_form}
 use Rattle.wtf8.proofs.lemmas.from_utf16.Transcode.{ascii_form}
-use Rattle.wtf8.proofs.strings.unit_positions.is_ascii_overlapping.Goals as goal
+use Rattle.wtf8.proofs.strings.unit_counts.is_ascii_overlapping.Goals as goal
 
 -- a byte in a block without a lane from 80 on is ASCII
 below_at : (w : List ℕ) (n at : ℕ) → at + n ≤ length w → ¬ (HasLaneAtLeast 0x80 (chunk at n w)) → (i : ℕ) → at ≤ i → i < at + n → get_or w i 0 < 0x80

@@ -1,5 +1,5 @@
 use Rattle.wtf8.proofs.Common.{◌-◌, ◌^◌, length, IsCursor}
-use Rattle.wtf8.proofs.strings.unit_positions.count_units.Given as goal
+use Rattle.wtf8.proofs.strings.unit_counts.count_units.Given as goal
 
 -- `cursor` has the number of units that begin before it
 abbrev pub invariant-loop-next : goal.invariant-loop-next

@@ -3,7 +3,7 @@ use Rattle.wtf8.proofs.Common.{length-chunk, length-zip2, fold-sum, sum_utf16_le
 use lib.Lanes.{chunk, zip2, Each1, Each2, Steps, fold_l, sum_l}
 use Rattle.wtf8.proofs.lemmas.lanes.UnitCounts.{lanes_fit_more, lanes_grow, sums_grow, sum_fits_two_bytes}
 use Rattle.wtf8.proofs.lemmas.strings.Positions.{sum_utf16_len-chunk_add}
-use Rattle.wtf8.proofs.strings.unit_positions.utf16_len_of_blocks.Goals as goal
+use Rattle.wtf8.proofs.strings.unit_counts.utf16_len_of_blocks.Goals as goal
 
 pub overflow_add-lanes : goal.overflow_add-lanes
 overflow_add-lanes c =

@@ -1,5 +1,5 @@
 use Rattle.wtf8.proofs.Common.{◌-◌, ◌^◌, length, IsCursor}
-use Rattle.wtf8.proofs.strings.unit_positions.skip_all_blocks.Given as goal
+use Rattle.wtf8.proofs.strings.unit_counts.skip_all_blocks.Given as goal
 
 -- `cursor` has the number of units that begin before it
 abbrev pub invariant-loop-next : goal.invariant-loop-next

@@ -1,5 +1,5 @@
 use Rattle.wtf8.proofs.Common.{◌-◌, length, IsCursor}
-use Rattle.wtf8.proofs.strings.unit_positions.skip_summed_blocks.Given as goal
+use Rattle.wtf8.proofs.strings.unit_counts.skip_summed_blocks.Given as goal
 
 -- `units_before` is the number of units that begin before `at`, at most `unit`
 abbrev pub invariant-loop-at : goal.invariant-loop-at

@@ -1,6 +1,6 @@
 use Rattle.wtf8.proofs.Common.{◌∙◌, ◌+◌, ap, arith, fold_l}
 use Rattle.wtf8.proofs.lemmas.lanes.UnitCounts.{sum_fits_byte, fold_l-utf16_len}
-use Rattle.wtf8.proofs.strings.unit_positions.utf16_len_of_block.Goals as goal
+use Rattle.wtf8.proofs.strings.unit_counts.utf16_len_of_block.Goals as goal
 
 pub overflow_add-utf16_len_of_each : goal.overflow_add-utf16_len_of_each
 overflow_add-utf16_len_of_each g c = rw c.utf16_len_of_each.ensures (sum_fits_byte c.args.bytes (omega (arith, c.requires, c.fits-bytes.0)))
