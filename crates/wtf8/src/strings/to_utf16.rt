@@ -383,18 +383,6 @@ fn append_counted<B: Allocator>(units: &mut Vec<u16, B>, view: Wtf8<'_>) -> Resu
 }
 
 impl<'a> Wtf8<'a> {
-    /// Returns the view after the first `count` bytes.
-    #[inline(always)]
-    fn skip_bytes(self, count: usize) -> Wtf8<'a>
-        requires within { count ≤ length self.bytes.now }
-        requires well_formed { IsWellFormed (drop count self.bytes.now) }
-        ensures points { (h : IsWellFormed (drop count self.entry.bytes.now)) → view_points result ≡ h.points }
-        ensures bytes { result.bytes.now ≡ drop count self.entry.bytes.now }
-    {
-        let (_, rest) = self.bytes.split_at(count);
-        Wtf8::from_well_formed(rest)
-    }
-
     /// Appends the 16-bit code units of the string to a vector. Reserves room for them first, and does not allocate if
     /// they fit. If memory is refused, the vector is unchanged.
     pub fn append_units<B: Allocator>(&self, units: &mut Vec<u16, B>) -> Result<(), AllocError>
