@@ -2,7 +2,7 @@
 use Rattle.wtf8.proofs.Common.{◌≡◌, ◌≢◌, ◌↔◌, ℕ, zero, suc, ◌+◌, ◌<◌, ◌≤◌, eqb, Bool, true, false, IsTrue, cond, not, inl, inr, refl, sym, ap, subst, arith}
 use Rattle.wtf8.proofs.Common.{List, [], ◌∷◌, ◌∙◌, map, length, get_or, nat_eq, take, take_all, cases_Bool, both_ways, eq-eqb, eqb-true, length-chunk}
 use Rattle.wtf8.proofs.Common.{get_or-chunk, get_or-zip2, length-zip2, tops_compared, mask_l, w8, None, Some, Option, ◌%◌, ◌^◌, pointwise, bytes_decides, chunk}
-use Rattle.wtf8.proofs.Common.{zip2, top, IsLeast, NoneIn, not-true, MatchOption, ⊤, DifferAt, DecidesNone, IsFirstSet, IsSet}
+use Rattle.wtf8.proofs.Common.{zip2, top, IsLeast, NoneIn, not-true, MatchOption, DifferAt, DecidesNone, IsFirstSet, IsSet}
 use Rattle.wtf8.proofs.lemmas.lanes.Masks.{first_at_offset, lowest_set, none_set}
 
 abbrev unlike : ℕ → ℕ → Bool
@@ -37,10 +37,10 @@ module _ (n : ℕ) (w v : List ℕ) (i : ℕ) (few : n ≤ 64) (own : i + n ≤ 
   pub some_unlike : ¬ (NoneIn (DifferAt w v) i (i + n)) → mask ≢ 0
   some_unlike some e = some (first_at_offset (DifferAt w v) (IsSet lanes) i n IsSet-lanes None (none_set mask n lanes few length-lanes mask-mask_l e))
 
-  pub mask_zero_decides : DecidesNone ⊤ (DifferAt w v) i (i + n) (eqb mask 0)
+  pub mask_zero_decides : DecidesNone (DifferAt w v) i (i + n) (eqb mask 0)
   mask_zero_decides = elim (cases_Bool (eqb mask 0)) [
     | inl t ↦ rw t (first_at_offset (DifferAt w v) (IsSet lanes) i n IsSet-lanes None (none_set mask n lanes few length-lanes mask-mask_l (eqb-true mask 0 t)))
-    | inr f ↦ rw f (λ _ none.
+    | inr f ↦ rw f (λ none.
         let some = first_at_offset (DifferAt w v) (IsSet lanes) i n IsSet-lanes (Some _) (lowest_set mask n lanes few length-lanes mask-mask_l (λ e. both_ways _ f (eq-eqb mask 0 e))) in
         none _ some.0.not_before some.1 some.0.here)
   ]
@@ -63,7 +63,7 @@ pointwise-from_iff b w v h = elim (cases_Bool b) [
 ]
 
 -- a Boolean that is true exactly if lists of equal length have no mismatch is the result of their comparison
-pub pointwise-from_no_mismatch : (b : Bool) (w v : List ℕ) → length w ≡ length v → DecidesNone ⊤ (DifferAt w v) 0 (length w) b → b ≡ pointwise nat_eq w v
+pub pointwise-from_no_mismatch : (b : Bool) (w v : List ℕ) → length w ≡ length v → DecidesNone (DifferAt w v) 0 (length w) b → b ≡ pointwise nat_eq w v
 pointwise-from_no_mismatch b w v long h = pointwise-from_iff b w v (to b h, from b h)
   where
     whole : NoneIn (DifferAt w v) 0 (length w) → w ≡ v
@@ -71,10 +71,10 @@ pointwise-from_no_mismatch b w v long h = pointwise-from_iff b w v (to b h, from
         let front = take-before_mismatch (length w) w v (omega arith) (omega arith) none in
         sym (take_all (length w) w (omega arith)) ∙ (front ∙ take_all (length w) v (omega arith))
 
-    to : (b : Bool) → DecidesNone ⊤ (DifferAt w v) 0 (length w) b → IsTrue b → w ≡ v
+    to : (b : Bool) → DecidesNone (DifferAt w v) 0 (length w) b → IsTrue b → w ≡ v
     to true none t = whole none
     to false some t = absurd (both_ways _ refl t)
 
-    from : (b : Bool) → DecidesNone ⊤ (DifferAt w v) 0 (length w) b → w ≡ v → IsTrue b
+    from : (b : Bool) → DecidesNone (DifferAt w v) 0 (length w) b → w ≡ v → IsTrue b
     from true none e = refl
-    from false some e = absurd (some tt (λ j _ _ d. d (ap (λ w. get_or w j 0) e)))
+    from false some e = absurd (some (λ j _ _ d. d (ap (λ w. get_or w j 0) e)))
