@@ -1,5 +1,5 @@
 -- The number of units in bytes, and the byte position at which a number of units ends.
-use Rattle.std.specs.Prelude.{◌≡◌, ℕ, ◌+◌, ◌<◌, ◌≤◌, List, ◌∷◌, ◌++◌, length, take, slice_index, nat_lt, if◌then◌else◌, Option, MatchOption}
+use Rattle.std.specs.Prelude.{◌≡◌, ℕ, ◌+◌, ◌<◌, ◌≤◌, List, ◌∷◌, ◌++◌, length, take, nat_lt, if◌then◌else◌, Option, MatchOption}
 use Rattle.std.specs.List.{sum_by}
 use Rattle.wtf8.specs.Unicode.{units}
 use Rattle.wtf8.specs.Form.{bytes}
@@ -12,10 +12,6 @@ utf16_len b = if nat_lt b 0x80 then 1 else if nat_lt b 0xC0 then 0 else if nat_l
 -- The number of units of the code points that begin among the bytes.
 abbrev pub sum_utf16_len : List ℕ → ℕ
 sum_utf16_len w = sum_by utf16_len w
-
--- Some lane of the vector is at least `least`.
-abbrev pub HasLaneAtLeast : ℕ → List ℕ → Type 0
-HasLaneAtLeast least lanes = (k : ℕ) × ((k < length lanes) × (least ≤ slice_index lanes k))
 
 -- `cursor` is a byte position with the number of units of the code points that begin before it, which is at most `n`.
 pub record IsCursor (w : List ℕ) (n : ℕ) (cursor : UnitCursor) : Type 0 where

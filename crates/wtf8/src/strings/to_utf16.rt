@@ -3,6 +3,7 @@ ghost use Rattle.std.specs.Prelude.{◌≡◌, ℕ, ◌++◌, ◌+◌, ◌*◌, 
 ghost use lib.Lanes.{Each1};
 ghost use Rattle.wtf8.specs.CodePoint.{number};
 ghost use Rattle.wtf8.specs.Form.{IsWellFormed};
+ghost use Rattle.wtf8.specs.private.ConvertedPrefix.{AreAscii};
 ghost use Rattle.wtf8.specs.private.EncodedBytes.{FirstPointIs, BecomesOrKeeps};
 ghost use Rattle.wtf8.specs.Unicode.{units_of};
 ghost use Rattle.wtf8.specs.private.EncodedRuns.{HasBitPrefix, BeginsWithUnits, lead_bytes_of, unit_of_two, unit_of_three, units_of_run, Writes};
@@ -12,9 +13,9 @@ use crate::codec::code_point::CodePoint;
 use crate::codec::encoding;
 use crate::codec::surrogates::{lead_of, trail_of};
 use crate::lanes::VECTOR;
+use crate::lanes::ascii::is_ascii_overlapping;
 use crate::lanes::copies::push_block;
 use crate::lanes::masks::first_set_lane;
-use crate::strings::unit_counts::is_ascii_overlapping;
 use crate::strings::view::Wtf8;
 use std::alloc::{AllocError, Allocator};
 use std::simd::prelude::*;
@@ -93,7 +94,7 @@ fn append_ascii_overlapping<const N: usize, B: Allocator>(
 ) -> Result<(), AllocError>
     requires lanes { N ≤ u64.BITS }
     requires all { (N ≤ length view.bytes.now) × (length view.bytes.now ≤ 2 * N) }
-    requires ascii { view_units view ≡ view.bytes.now }
+    requires ascii { AreAscii view.bytes.now }
     ensures { BecomesOrKeeps units.old (units.old.items ++ view_units view.entry) units.new result }
 {
     let bytes = view.bytes;
@@ -392,14 +393,16 @@ impl<'a> Wtf8<'a> {
         ensures capacity { vec_capacity units.old ≤ vec_capacity units.new }
     {
         match self.len() {
-            1 if is_ascii_overlapping::<1>(*self) => append_ascii_overlapping::<1, B>(units, *self),
-            2..=3 if is_ascii_overlapping::<2>(*self) => append_ascii_overlapping::<2, B>(
+            1 if is_ascii_overlapping::<1>(self.bytes) => append_ascii_overlapping::<1, B>(
                 units, *self,
             ),
-            4..=7 if is_ascii_overlapping::<4>(*self) => append_ascii_overlapping::<4, B>(
+            2..=3 if is_ascii_overlapping::<2>(self.bytes) => append_ascii_overlapping::<2, B>(
                 units, *self,
             ),
-            8..=15 if is_ascii_overlapping::<8>(*self) => append_ascii_overlapping::<8, B>(
+            4..=7 if is_ascii_overlapping::<4>(self.bytes) => append_ascii_overlapping::<4, B>(
+                units, *self,
+            ),
+            8..=15 if is_ascii_overlapping::<8>(self.bytes) => append_ascii_overlapping::<8, B>(
                 units, *self,
             ),
             0..SCRATCH_UNITS => append_through_scratch(units, *self),

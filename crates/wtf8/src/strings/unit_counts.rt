@@ -1,9 +1,10 @@
 // Numbers of 16-bit code units: of a string, and of the code points that begin before a byte index.
-ghost use Rattle.std.specs.Prelude.{◌≡◌, ◌+◌, ◌*◌, ◌^◌, ◌<◌, ◌≤◌, length, map, take, drop, IfSome, IsTrue};
-ghost use Rattle.wtf8.specs.private.UnitCounts.{utf16_len, sum_utf16_len, HasLaneAtLeast, IsCursor};
+ghost use Rattle.std.specs.Prelude.{◌≡◌, ◌+◌, ◌*◌, ◌^◌, ◌<◌, ◌≤◌, length, map, take, drop, IfSome};
+ghost use Rattle.wtf8.specs.private.UnitCounts.{utf16_len, sum_utf16_len, IsCursor};
 ghost use Rattle.wtf8.specs.View.{view_units};
 
 use crate::codec::encoding;
+use crate::lanes::ascii::is_ascii_overlapping;
 use crate::lanes::{BLOCK, VECTOR};
 use crate::strings::view::Wtf8;
 use std::simd::prelude::*;
@@ -164,36 +165,14 @@ fn count_units_from(bytes: &[u8], from: UnitCursor) -> usize
     units
 }
 
-/// Whether all lanes are below `least`.
-#[inline(always)]
-pub(crate) fn are_all_below<const N: usize>(lanes: Simd<u8, N>, least: u8) -> bool
-    requires { N ≤ u64.BITS }
-    ensures { IsTrue result → ¬ (HasLaneAtLeast least lanes.entry) }
-{
-    lanes.simd_ge(Simd::splat(least)).to_bitmask() == 0
-}
-
-/// Whether a string of `N` to `2 * N` bytes is ASCII, by loads of its first and its last `N` bytes, which may overlap.
-#[inline(always)]
-pub(crate) fn is_ascii_overlapping<const N: usize>(view: Wtf8<'_>) -> bool
-    requires lanes { N ≤ u64.BITS }
-    requires all { (N ≤ length view.bytes.now) × (length view.bytes.now ≤ 2 * N) }
-    ensures { IsTrue result → view_units view.entry ≡ view.entry.bytes.now }
-{
-    let bytes = view.bytes;
-    let last = bytes.len() - N;
-    are_all_below(Simd::<u8, N>::from_slice(bytes), 0x80)
-        && are_all_below(Simd::<u8, N>::from_slice(&bytes[last..]), 0x80)
-}
-
 impl<'a> Wtf8<'a> {
     /// The length in 16-bit code units.
     pub fn unit_len(&self) -> usize
         ensures { result ≡ length (view_units self.now) }
     {
         match self.len() {
-            4..=7 if is_ascii_overlapping::<4>(*self) => self.len(),
-            8..=15 if is_ascii_overlapping::<HALF_VECTOR>(*self) => self.len(),
+            4..=7 if is_ascii_overlapping::<4>(self.bytes) => self.len(),
+            8..=15 if is_ascii_overlapping::<HALF_VECTOR>(self.bytes) => self.len(),
             _ => count_units(self.bytes),
         }
     }

@@ -4,9 +4,10 @@ ghost use Rattle.wtf8.specs.private.UnitCounts.{IsCursor, IsCursorOfUnit, CutsUn
 ghost use Rattle.wtf8.specs.View.{view_points, view_units};
 
 use crate::codec::surrogates::{lead_of, trail_of};
+use crate::lanes::ascii::is_ascii_block;
 use crate::lanes::{BLOCK, VECTOR};
 use crate::strings::unit_counts::{
-    HALF_VECTOR, UnitCursor, are_all_below, skip_block, skip_summed_blocks, utf16_len_of_byte,
+    HALF_VECTOR, UnitCursor, skip_block, skip_summed_blocks, utf16_len_of_byte,
 };
 use crate::strings::view::Wtf8;
 use std::simd::prelude::*;
@@ -84,7 +85,7 @@ fn skip_ascii<const N: usize>(bytes: &[u8], unit: usize, from: UnitCursor) -> Op
     if bytes.len() - from.at < N {
         return None;
     }
-    if !are_all_below(Simd::<u8, N>::from_slice(&bytes[from.at..]), 0x80) {
+    if !is_ascii_block(Simd::<u8, N>::from_slice(&bytes[from.at..])) {
         return None;
     }
     let more = (unit - from.units_before).min(N);
@@ -202,7 +203,7 @@ fn ascii_unit<const N: usize>(view: Wtf8<'_>, index: usize) -> Option<u16>
     requires room { N ≤ length view.bytes.now }
     ensures { IfSome result (λ unit. slice_get (view_units view.entry) index ≡ Some unit) }
 {
-    if index < N && are_all_below(Simd::<u8, N>::from_slice(view.bytes), 0x80) {
+    if index < N && is_ascii_block(Simd::<u8, N>::from_slice(view.bytes)) {
         return Some(u16::from(view.bytes[index]));
     }
     None

@@ -1,6 +1,6 @@
 use Rattle.std.proofs.Common.{w8}
 use Rattle.wtf8.proofs.lemmas.lanes.AsciiFronts.{ascii_before}
-use Rattle.wtf8.proofs.from_utf16.transcode.ascii_run_len.Goals as goal
+use Rattle.wtf8.proofs.lanes.ascii.ascii_run_len.Goals as goal
 
 pub returns : goal.returns
 returns g c =
