@@ -19,6 +19,7 @@ use crate::codec::{encoding, surrogates};
 use crate::from_utf16::transcode;
 use crate::lanes::{capacity, copies, search};
 use crate::strings::concat;
+use crate::strings::known_prefix::KnownPrefix;
 use crate::strings::unit_positions::find_cut;
 use crate::strings::view::Wtf8;
 use std::alloc::{AllocError, Allocator};
@@ -49,11 +50,9 @@ use std::marker::Model;
 pub struct Wtf8Buf<A: Allocator> {
     bytes: Vec<u8, A>,
 
-    /// No surrogate begins before this byte position; one may begin at or after it. `usize::MAX` says that the string
-    /// holds none, and need not be updated when text is appended.
-    scalar_end: usize,
+    known_prefix: KnownPrefix,
     ghost well_formed: { IsWellFormed bytes.items } by { IsWellFormed-prop bytes.items },
-    ghost scalar_prefix: { AreScalarTo scalar_end well_formed.points } by { AreScalarTo-prop scalar_end well_formed.points },
+    ghost scalar_prefix: { AreScalarTo known_prefix.end well_formed.points } by { AreScalarTo-prop known_prefix.end well_formed.points },
 }
 
 impl<A: Allocator> Model for Wtf8Buf<A> {
@@ -79,25 +78,18 @@ impl<A: Allocator> Model for Wtf8Buf<A> {
     } };
 }
 
-/// Returns the `scalar_end` of a new string: `usize::MAX` if `is_known_utf8` says that it holds no surrogate, else 0.
-fn new_scalar_end(is_known_utf8: bool) -> usize
-    ensures { (c : List ℕ) → (IsTrue is_known_utf8 → AreScalar c) → AreScalarTo result c }
-{
-    if is_known_utf8 {
-        return usize::MAX;
-    }
-    0
-}
-
-/// Wraps well-formed bytes in which no surrogate begins before `scalar_end`.
-fn with_scalar_end<A: Allocator>(bytes: Vec<u8, A>, scalar_end: usize) -> Wtf8Buf<A>
+/// Wraps well-formed bytes with their known prefix.
+fn with_known_prefix<A: Allocator>(bytes: Vec<u8, A>, known_prefix: KnownPrefix) -> Wtf8Buf<A>
     requires well_formed { IsWellFormed bytes.items }
-    requires scalar { (h : IsWellFormed bytes.items) → AreScalarTo scalar_end h.points }
+    requires scalar { (h : IsWellFormed bytes.items) → AreScalarTo known_prefix.end h.points }
     ensures bytes { result.bytes ≡ bytes.items }
     ensures units { (h : IsWellFormed bytes.items) → result.units ≡ units h.points }
     ensures capacity { result.capacity ≡ vec_capacity bytes }
 {
-    Wtf8Buf { bytes, scalar_end }
+    Wtf8Buf {
+        bytes,
+        known_prefix,
+    }
 }
 
 /// Wraps well-formed bytes; if `is_known_utf8` is true, they must hold no surrogate.
@@ -108,32 +100,7 @@ fn from_well_formed<A: Allocator>(bytes: Vec<u8, A>, is_known_utf8: bool) -> Wtf
     ensures units { (h : IsWellFormed bytes.items) → result.units ≡ units h.points }
     ensures capacity { result.capacity ≡ vec_capacity bytes }
 {
-    with_scalar_end(bytes, new_scalar_end(is_known_utf8))
-}
-
-/// Returns the `scalar_end` after `other` is appended to `len` bytes: unchanged if `other` is empty, else at most
-/// `len`, since `other` is not searched.
-#[inline(always)]
-fn scalar_end_after_push(scalar_end: usize, len: usize, other: Wtf8<'_>) -> usize
-    ensures order { result ≤ scalar_end }
-    ensures scalar { len < result → AreScalar (view_points other.entry) }
-{
-    if other.is_empty() {
-        return scalar_end;
-    }
-    scalar_end.min(len)
-}
-
-/// Returns the `scalar_end` after a truncation to `len` bytes: `usize::MAX` if these are known to hold no surrogate,
-/// else unchanged.
-#[inline(always)]
-fn scalar_end_after_truncate(scalar_end: usize, len: usize) -> usize
-    ensures { (c : List ℕ) → length (bytes c) ≡ len → AreScalarTo scalar_end c → AreScalarTo result c }
-{
-    if len <= scalar_end {
-        return usize::MAX;
-    }
-    scalar_end
+    with_known_prefix(bytes, KnownPrefix::new(is_known_utf8))
 }
 
 impl<A: Allocator> Wtf8Buf<A> {
@@ -208,7 +175,7 @@ impl<A: Allocator> Wtf8Buf<A> {
     {
         let alloc = self.bytes.allocator().clone()?;
         let bytes = copies::to_vec_in(alloc, self.bytes.as_slice())?;
-        Ok(with_scalar_end(bytes, self.scalar_end))
+        Ok(with_known_prefix(bytes, self.known_prefix))
     }
 
     /// Reserves capacity for at least `additional` more bytes, and does not allocate if there is enough. The units and
@@ -286,7 +253,7 @@ impl<A: Allocator> Wtf8Buf<A> {
         ensures at_most { OnOk result (length self.new.bytes ≤ length self.old.bytes + length (encoding (number code_point))) }
         ensures room_left { length self.old.bytes + length (encoding (number code_point)) ≤ self.old.capacity → IsOk result }
     {
-        concat::push_point(&mut self.bytes, &mut self.scalar_end, code_point)
+        concat::push_point(&mut self.bytes, &mut self.known_prefix, code_point)
     }
 
     /// Appends a character. If memory is refused, the string is unchanged.
@@ -373,7 +340,7 @@ impl<A: Allocator> Wtf8Buf<A> {
     {
         // A string without surrogates has no lead at its end.
         let forms_no_pair = self.is_known_utf8();
-        self.scalar_end = scalar_end_after_push(self.scalar_end, self.bytes.len(), other);
+        self.known_prefix = self.known_prefix.after_push(self.bytes.len(), other);
         concat::push_view(&mut self.bytes, other, forms_no_pair)
     }
 
@@ -384,7 +351,7 @@ impl<A: Allocator> Wtf8Buf<A> {
         ensures units { IsFront self.old.units new_len self.new.units }
         ensures bytes { self.new.bytes ≡ take new_len self.old.bytes }
     {
-        self.scalar_end = scalar_end_after_truncate(self.scalar_end, new_len);
+        self.known_prefix = self.known_prefix.after_truncate(new_len);
         self.bytes.truncate(new_len)
     }
 
@@ -394,7 +361,7 @@ impl<A: Allocator> Wtf8Buf<A> {
         ensures bytes { self.new.bytes ≡ [] }
         ensures capacity { self.new.capacity ≡ self.old.capacity }
     {
-        self.scalar_end = usize::MAX;
+        self.known_prefix = KnownPrefix::new(true);
         self.bytes.clear()
     }
 
@@ -420,7 +387,7 @@ impl<A: Allocator> Wtf8Buf<A> {
         match cut.divided {
             None => self.truncate(cut.position),
             Some(value) => {
-                self.scalar_end = self.scalar_end.min(cut.position);
+                self.known_prefix = self.known_prefix.up_to(cut.position);
                 let lead = surrogates::lead_of(value);
                 encoding::keep_lead(&mut self.bytes, cut.position, lead);
             }
@@ -470,10 +437,10 @@ impl<A: Allocator> Wtf8Buf<A> {
     fn is_known_utf8(&self) -> bool
         ensures { IsTrue result → AreScalar self.now.form.points }
     {
-        self.bytes.len() <= self.scalar_end
+        self.known_prefix.covers(self.bytes.len())
     }
 
-    /// Returns the byte position of the first surrogate. Searches from `scalar_end` on, and not at all if the whole
+    /// Returns the byte position of the first surrogate. Searches after the known prefix, and not at all if the whole
     /// string is known to hold none.
     fn first_surrogate(&self) -> Option<usize>
         ensures { IsFirst (SurrogateAt self.now.bytes) 0 result }
@@ -481,6 +448,6 @@ impl<A: Allocator> Wtf8Buf<A> {
         if self.is_known_utf8() {
             return None;
         }
-        search::next_surrogate(&self.bytes, self.scalar_end)
+        search::next_surrogate(&self.bytes, self.known_prefix.end)
     }
 }

@@ -1,6 +1,6 @@
 use Rattle.wtf8.proofs.Common.{ap, refl, units}
 use Rattle.wtf8.proofs.lemmas.codec.Readings.{same_points}
-use Rattle.wtf8.proofs.strings.buf.with_scalar_end.Goals as goal
+use Rattle.wtf8.proofs.strings.buf.with_known_prefix.Goals as goal
 
 pub invariant_of-result : goal.invariant_of-result
 invariant_of-result g c = (c.requires.well_formed, (c.requires.scalar c.requires.well_formed, tt))
