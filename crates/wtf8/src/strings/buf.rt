@@ -79,7 +79,7 @@ impl<A: Allocator> Model for Wtf8Buf<A> {
 }
 
 /// Wraps well-formed bytes with their known prefix.
-fn with_known_prefix<A: Allocator>(bytes: Vec<u8, A>, known_prefix: KnownPrefix) -> Wtf8Buf<A>
+fn from_well_formed<A: Allocator>(bytes: Vec<u8, A>, known_prefix: KnownPrefix) -> Wtf8Buf<A>
     requires well_formed { IsWellFormed bytes.items }
     requires scalar { (h : IsWellFormed bytes.items) → AreScalarTo known_prefix.end h.points }
     ensures bytes { result.bytes ≡ bytes.items }
@@ -92,24 +92,13 @@ fn with_known_prefix<A: Allocator>(bytes: Vec<u8, A>, known_prefix: KnownPrefix)
     }
 }
 
-/// Wraps well-formed bytes; if `is_known_utf8` is true, they must hold no surrogate.
-fn from_well_formed<A: Allocator>(bytes: Vec<u8, A>, is_known_utf8: bool) -> Wtf8Buf<A>
-    requires well_formed { IsWellFormed bytes.items }
-    requires scalar { IsTrue is_known_utf8 → (h : IsWellFormed bytes.items) → AreScalar h.points }
-    ensures bytes { result.bytes ≡ bytes.items }
-    ensures units { (h : IsWellFormed bytes.items) → result.units ≡ units h.points }
-    ensures capacity { result.capacity ≡ vec_capacity bytes }
-{
-    with_known_prefix(bytes, KnownPrefix::new(is_known_utf8))
-}
-
 impl<A: Allocator> Wtf8Buf<A> {
     /// Makes an empty string. Does not allocate.
     pub fn new(alloc: A) -> Wtf8Buf<A>
         ensures units { result.units ≡ [] }
         ensures bytes { result.bytes ≡ [] }
     {
-        from_well_formed(Vec::new(alloc), true)
+        from_well_formed(Vec::new(alloc), KnownPrefix::new(true))
     }
 
     /// Makes an empty string with room for at least `n` bytes. Does not allocate if `n` is 0.
@@ -119,7 +108,8 @@ impl<A: Allocator> Wtf8Buf<A> {
         ensures capacity { IfOk result (λ b. n ≤ b.capacity) }
         ensures zero { n ≡ 0 → IsOk result }
     {
-        Ok(from_well_formed(Vec::with_capacity(alloc, n)?, true))
+        let bytes = Vec::with_capacity(alloc, n)?;
+        Ok(from_well_formed(bytes, KnownPrefix::new(true)))
     }
 
     /// Converts a `String`, reusing its buffer. Does not allocate.
@@ -128,7 +118,7 @@ impl<A: Allocator> Wtf8Buf<A> {
         ensures bytes { result.bytes ≡ string_bytes string }
         ensures scalar { AreScalar result.form.points }
     {
-        from_well_formed(string.into_bytes(), true)
+        from_well_formed(string.into_bytes(), KnownPrefix::new(true))
     }
 
     /// Copies a `&str`. An empty one does not allocate.
@@ -139,7 +129,7 @@ impl<A: Allocator> Wtf8Buf<A> {
         ensures empty { value.now ≡ [] → IsOk result }
     {
         let bytes = copies::to_vec_in(alloc, value.as_bytes())?;
-        Ok(from_well_formed(bytes, true))
+        Ok(from_well_formed(bytes, KnownPrefix::new(true)))
     }
 
     /// Makes the string with the code units `v`, paired or not. Reserves a byte for each unit first, and does not
@@ -162,7 +152,7 @@ impl<A: Allocator> Wtf8Buf<A> {
     {
         let mut bytes = Vec::with_capacity(alloc, v.len())?;
         let is_known_utf8 = transcode::append_utf16(&mut bytes, v)?;
-        Ok(from_well_formed(bytes, is_known_utf8))
+        Ok(from_well_formed(bytes, KnownPrefix::new(is_known_utf8)))
     }
 
     /// Copies the string, with a clone of its allocator.
@@ -175,7 +165,7 @@ impl<A: Allocator> Wtf8Buf<A> {
     {
         let alloc = self.bytes.allocator().clone()?;
         let bytes = copies::to_vec_in(alloc, self.bytes.as_slice())?;
-        Ok(with_known_prefix(bytes, self.known_prefix))
+        Ok(from_well_formed(bytes, self.known_prefix))
     }
 
     /// Reserves capacity for at least `additional` more bytes, and does not allocate if there is enough. The units and

@@ -3,7 +3,7 @@ ghost use Rattle.std.specs.Prelude.{◌≡◌, ◌<◌, ◌≤◌, length, slice
 ghost use Rattle.wtf8.specs.private.UnitCounts.{IsCursor, IsCursorOfUnit, CutsUnits};
 ghost use Rattle.wtf8.specs.View.{view_points, view_units};
 
-use crate::codec::surrogates::{lead_of, trail_of};
+use crate::codec::surrogates::trail_of;
 use crate::lanes::ascii::is_ascii_block;
 use crate::lanes::{BLOCK, VECTOR};
 use crate::strings::unit_counts::{
@@ -160,14 +160,7 @@ pub(crate) fn find_cut(view: Wtf8<'_>, n: usize) -> Option<UnitCut>
 fn first_unit(view: Wtf8<'_>) -> Option<u16>
     ensures { result ≡ slice_get (view_units view.entry) 0 }
 {
-    let Some((code_point, _)) = view.split_first() else {
-        return None;
-    };
-    let value = code_point.to_u32();
-    if value < 0x10000 {
-        return Some(value as u16);
-    }
-    Some(lead_of(value) as u16)
+    view.to_ill_formed_utf16().next()
 }
 
 /// Returns the unit at `index`, or `None` at or past the end, by a cut before it. Not inlined, so that the ASCII path

@@ -3,11 +3,11 @@ use Rattle.wtf8.proofs.lemmas.codec.Readings.{moved}
 use Rattle.wtf8.proofs.lemmas.strings.ExtendedForms.{scalar_to-moved}
 use Rattle.wtf8.proofs.strings.buf.Wtf8Buf.clone.Goals as goal
 
-pub with_known_prefix-requires-clause-scalar : goal.with_known_prefix-requires-clause-scalar
-with_known_prefix-requires-clause-scalar g c h =
+pub from_well_formed-requires-clause-scalar : goal.from_well_formed-requires-clause-scalar
+from_well_formed-requires-clause-scalar g c h =
     scalar_to-moved c.self.inside.known_prefix.end c.self.inside.well_formed h (c.in_ok-bytes.ensures.items ∙ c.as_slice.ensures.value) c.self.inside.scalar_prefix
 
 pub returns-clause-units : goal.returns-clause-units
 returns-clause-units g c =
-    c.with_known_prefix.ensures.units (moved c.self.inside.well_formed (c.in_ok-bytes.ensures.items ∙ c.as_slice.ensures.value))
+    c.from_well_formed.ensures.units (moved c.self.inside.well_formed (c.in_ok-bytes.ensures.items ∙ c.as_slice.ensures.value))
     ∙ ap (λ (t : UnitString). t.units) c.self.view_is
