@@ -50,7 +50,7 @@ pub use Rattle.wtf8.specs.private.FirstIndex.{IsFirst, IsLeast, NoneIn, IsFirstI
 pub use Rattle.wtf8.specs.private.SurrogateSearch.{SurrogateAt}
 pub use Rattle.wtf8.specs.Surrogates.{AreScalar, replace_surrogate, lossy_points}
 pub use Rattle.wtf8.specs.Unicode.{units_of, units, IsSurrogate, IsLead, IsTrail, pair, IsCodePoint, IsUnit}
-pub use Rattle.wtf8.specs.private.UnitCounts.{IsCursor, IsCursorOfUnit, CutsUnits, utf16_len, sum_utf16_len, Divides, HasLaneAtLeast}
+pub use Rattle.wtf8.specs.private.UnitCounts.{IsCursor, IsCursorOfUnit, CutsUnits, utf16_len, sum_utf16_len, Divides}
 pub use Rattle.wtf8.specs.private.ConvertedPrefix.{IsKnownForm, DividesNoPair, AreAscii}
 pub use Rattle.wtf8.specs.private.UnitIterator.{held_trail, after_held_trail, trail_from_bytes, unread_after, StepsUnit, is_continuation, unread_at}
 pub use Rattle.wtf8.specs.UnitString.{UnitString}
@@ -67,5 +67,5 @@ pub use Rattle.std.proofs.lemmas.Option.{none-some, slice_get-get_or}
 pub use Rattle.std.specs.Prelude.{IsOk, IsSome, MatchOption, ⊤}
 pub use Rattle.wtf8.specs.UnitPosition.{DividesPair}
 pub use Rattle.wtf8.specs.declared.codec.code_point.CodePoint.{CodePoint}
-pub use Rattle.wtf8.specs.declared.strings.unit_positions.UnitCursor.{UnitCursor}
+pub use Rattle.wtf8.specs.declared.strings.unit_counts.UnitCursor.{UnitCursor}
 pub use Rattle.wtf8.specs.private.EncodedRuns.{BeginsWithUnits, HasBitPrefix, Writes, unit_of_three, unit_of_two}

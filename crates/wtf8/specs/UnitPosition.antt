@@ -3,7 +3,7 @@ use Rattle.std.specs.Prelude.{◌≡◌, ℕ, ◌<◌, ◌≤◌, ◌⊎◌, Lis
 use Rattle.std.specs.Option.{option_to_list}
 use Rattle.wtf8.specs.Concatenation.{MeetsAsPair}
 use Rattle.wtf8.specs.View.{view_units}
-use Rattle.wtf8.specs.declared.strings.unit_positions.UnitSlice.{UnitSlice}
+use Rattle.wtf8.specs.declared.strings.unit_slices.UnitSlice.{UnitSlice}
 
 -- The units of a slice: the trail of a pair cut at its start, if any, the units of its whole code points, and the lead
 -- of a pair cut at its end, if any.

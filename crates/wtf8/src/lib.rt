@@ -14,5 +14,5 @@ pub use strings::buf::Wtf8Buf;
 pub use strings::build::{Build, Stopped};
 pub use strings::iters::{IllFormedUtf16CodeUnits, Wtf8CodePoints};
 pub use strings::unit_marks::UnitMark;
-pub use strings::unit_positions::UnitSlice;
+pub use strings::unit_slices::UnitSlice;
 pub use strings::view::Wtf8;

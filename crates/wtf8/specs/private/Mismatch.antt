@@ -17,6 +17,6 @@ DifferAt w v i = slice_index w i ≢ slice_index v i
 abbrev pub SupplementaryBegins : List ℕ → ℕ → Type 0
 SupplementaryBegins w i = (i < length w) × (0xF0 ≤ slice_index w i)
 
--- If `clear` is true, no index in `from..end` has the property `P`; if it is false and the test is `exact`, some has.
-abbrev pub DecidesNone : Type 0 → (ℕ → Type 0) → ℕ → ℕ → Bool → Type 0
-DecidesNone exact P from end clear = MatchBool clear (NoneIn P from end) (exact → ¬ (NoneIn P from end))
+-- If `clear` is true, no index in `from..end` has the property `P`; if it is false, some has.
+abbrev pub DecidesNone : (ℕ → Type 0) → ℕ → ℕ → Bool → Type 0
+DecidesNone P from end clear = MatchBool clear (NoneIn P from end) (¬ (NoneIn P from end))

@@ -1,9 +1,9 @@
 -- The number of units in bytes, and the byte position at which a number of units ends.
-use Rattle.std.specs.Prelude.{◌≡◌, ℕ, ◌+◌, ◌<◌, ◌≤◌, List, ◌∷◌, ◌++◌, length, take, slice_index, nat_lt, if◌then◌else◌, Option, MatchOption}
+use Rattle.std.specs.Prelude.{◌≡◌, ℕ, ◌+◌, ◌<◌, ◌≤◌, List, ◌∷◌, ◌++◌, length, take, nat_lt, if◌then◌else◌, Option, MatchOption}
 use Rattle.std.specs.List.{sum_by}
 use Rattle.wtf8.specs.Unicode.{units}
 use Rattle.wtf8.specs.Form.{bytes}
-use Rattle.wtf8.specs.declared.strings.unit_positions.UnitCursor.{UnitCursor}
+use Rattle.wtf8.specs.declared.strings.unit_counts.UnitCursor.{UnitCursor}
 
 -- The number of units of a code point by its lead byte; 0 for a continuation byte (Unicode 3.9, "UTF-8", Table 3-6).
 unfoldable pub utf16_len : ℕ → ℕ
@@ -12,10 +12,6 @@ utf16_len b = if nat_lt b 0x80 then 1 else if nat_lt b 0xC0 then 0 else if nat_l
 -- The number of units of the code points that begin among the bytes.
 abbrev pub sum_utf16_len : List ℕ → ℕ
 sum_utf16_len w = sum_by utf16_len w
-
--- Some lane of the vector is at least `least`.
-abbrev pub HasLaneAtLeast : ℕ → List ℕ → Type 0
-HasLaneAtLeast least lanes = (k : ℕ) × ((k < length lanes) × (least ≤ slice_index lanes k))
 
 -- `cursor` is a byte position with the number of units of the code points that begin before it, which is at most `n`.
 pub record IsCursor (w : List ℕ) (n : ℕ) (cursor : UnitCursor) : Type 0 where

@@ -1,12 +1,7 @@
 // Code points.
-ghost use Rattle.std.specs.Prelude.{◌≡◌, ◌↔◌, IsSome, IfSome, IsNone, Some};
-ghost use Rattle.std.specs.Fmt.{DisplaysOnOk, WritesStyledOnOk};
-ghost use Rattle.wtf8.specs.Debug.{debug_point};
+ghost use Rattle.std.specs.Prelude.{◌≡◌, ◌↔◌, IsSome, IfSome, IsNone};
 ghost use Rattle.wtf8.specs.Surrogates.{replace_surrogate};
 ghost use Rattle.wtf8.specs.Unicode.{IsCodePoint, IsSurrogate};
-
-use crate::formatting::debug_text;
-use std::fmt;
 
 /// A Unicode code point: a number from 0 to 0x10FFFF, surrogates included.
 ///
@@ -73,21 +68,5 @@ impl CodePoint {
         ensures value { result ≡ replace_surrogate (number self.now) }
     {
         self.to_char().unwrap_or('\u{FFFD}')
-    }
-}
-
-/// Writes `U+` and the number in upper-case hexadecimal, with at least four digits. The formatter's width and flags are
-/// ignored.
-impl fmt::Debug for CodePoint {
-    ghost use Rattle.wtf8.specs.CodePoint.{number};
-
-    ghost debug_output = { λ p. Some (debug_point (number p)) };
-
-    fn fmt<W: fmt::Write>(&self, f: &mut fmt::Formatter<W>) -> fmt::Result
-        ensures writes { DisplaysOnOk W.write_str_gives f.old result (Some (debug_point (number self.now))) f.new }
-        ensures styled { WritesStyledOnOk W.write_str_gives f.old result (debug_point (number self.now)) f.new }
-    {
-        f.write_str("U+")?;
-        debug_text::write_upper_hex(self.value, f)
     }
 }

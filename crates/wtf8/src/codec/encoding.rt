@@ -1,13 +1,14 @@
 // Encodes one code point at the end of a byte vector, and decodes the one at the front of a byte slice.
 ghost use Rattle.std.specs.Prelude.{◌≡◌, ◌++◌, ◌+◌, ◌-◌, ◌/◌, ◌%◌, ◌^◌, ◌<◌, ◌≤◌, ◌↔◌, ◌⊎◌};
-ghost use Rattle.std.specs.Prelude.{ℕ, List, IsTrue, length, slice_index, OnOk, IsOk, vec_len, vec_capacity};
+ghost use Rattle.std.specs.Prelude.{ℕ, List, IsTrue, length, take, slice_index, vec_len, vec_capacity};
 ghost use Rattle.wtf8.specs.CodePoint.{number};
 ghost use Rattle.wtf8.specs.Form.{encoding};
 ghost use Rattle.wtf8.specs.private.EncodedBytes.{BeginsWithPoint, FirstPointIs, BecomesOrKeeps};
-ghost use Rattle.wtf8.specs.Unicode.{IsCodePoint};
+ghost use Rattle.wtf8.specs.Unicode.{IsCodePoint, IsLead};
 ghost use Rattle.wtf8.specs.private.UnitIterator.{trail_from_bytes};
 
 use crate::codec::code_point::CodePoint;
+use crate::lanes::capacity::{reserve_if_short, spare_capacity};
 use std::alloc::{AllocError, Allocator};
 
 /// The continuation byte that holds the low six bits of `value`.
@@ -30,7 +31,7 @@ fn two_bytes(value: u32) -> [u8; 2]
 
 /// The encoding of a code point from 0x800 to 0xFFFF, surrogates included.
 #[tactic(auto, using(crate::proofs::lemmas::codec::Encoding::encoding_three))]
-pub(crate) fn three_bytes(value: u32) -> [u8; 3]
+fn three_bytes(value: u32) -> [u8; 3]
     requires low { 0x800 ≤ value }
     requires high { value < 0x10000 }
     ensures { result ≡ encoding value }
@@ -55,52 +56,6 @@ pub(crate) fn four_bytes(value: u32) -> [u8; 4]
         continuation_byte(value / 64),
         continuation_byte(value),
     ]
-}
-
-/// The spare capacity in bytes.
-#[inline(always)]
-pub(crate) fn spare_capacity<A: Allocator>(bytes: &Vec<u8, A>) -> usize
-    ensures { vec_len bytes.now + result ≡ vec_capacity bytes.now }
-{
-    bytes.capacity() - bytes.len()
-}
-
-/// Reserves `count` bytes of spare capacity. The truncation removes nothing: it tells the compiler the length, which a
-/// loop that follows then keeps in a register.
-#[inline(always)]
-pub(crate) fn reserve_with_known_len<A: Allocator>(
-    bytes: &mut Vec<u8, A>,
-    count: usize,
-) -> Result<(), AllocError>
-    ensures items { bytes.new.items ≡ bytes.old.items }
-    ensures ok { OnOk result (vec_len bytes.new + count ≤ vec_capacity bytes.new) }
-    ensures room { vec_len bytes.old + count ≤ vec_capacity bytes.old → IsOk result }
-    ensures capacity { vec_capacity bytes.old ≤ vec_capacity bytes.new }
-{
-    let len = bytes.len();
-    bytes.reserve(count)?;
-    bytes.truncate(len);
-    Ok(())
-}
-
-/// Reserves `count` bytes of spare capacity if `spare`, the present spare capacity, is not enough.
-#[inline(always)]
-fn reserve_if_short<A: Allocator>(
-    bytes: &mut Vec<u8, A>,
-    spare: usize,
-    count: usize,
-) -> Result<(), AllocError>
-    requires { vec_len bytes.old + spare ≡ vec_capacity bytes.old }
-    ensures items { bytes.new.items ≡ bytes.old.items }
-    ensures len { vec_len bytes.new ≡ vec_len bytes.old }
-    ensures ok { OnOk result (vec_len bytes.new + count ≤ vec_capacity bytes.new) }
-    ensures room { vec_len bytes.old + count ≤ vec_capacity bytes.old → IsOk result }
-    ensures capacity { vec_capacity bytes.old ≤ vec_capacity bytes.new }
-{
-    if count <= spare {
-        return Ok(());
-    }
-    bytes.reserve(count)
 }
 
 /// Appends a code point's encoding, without joining a trail to a lead before it. A refusal leaves `bytes` unchanged.
@@ -150,6 +105,16 @@ pub(crate) fn append_with_spare<A: Allocator>(
         bytes.push_reserved(fourth);
     }
     Ok(())
+}
+
+/// Keeps the first `at + 3` bytes and overwrites the last three of them by the encoding of a lead surrogate.
+pub(crate) fn keep_lead<A: Allocator>(bytes: &mut Vec<u8, A>, at: usize, lead: u32)
+    requires lead { IsLead lead }
+    requires within { at + 3 ≤ length bytes.old.items }
+    ensures { bytes.new.items ≡ take at bytes.old.items ++ encoding lead }
+{
+    bytes.truncate(at + 3);
+    bytes[at..at + 3].copy_from_slice(&three_bytes(lead));
 }
 
 /// Whether a byte begins an encoding: it is not a continuation byte, which is from 0x80 to 0xBF.

@@ -14,14 +14,8 @@ pub(crate) const FIRST_TRAIL: u16 = 0xDC00;
 /// The last trail surrogate.
 pub(crate) const LAST_TRAIL: u16 = 0xDFFF;
 
-const FIRST_LEAD_U32: u32 = FIRST_LEAD as u32;
-
-const FIRST_TRAIL_U32: u32 = FIRST_TRAIL as u32;
-
 /// The number of lead surrogates, and of trail surrogates.
 pub(crate) const SURROGATES_PER_HALF: u16 = 0x400;
-
-const SURROGATES_PER_HALF_U32: u32 = SURROGATES_PER_HALF as u32;
 
 /// The first supplementary code point.
 const FIRST_SUPPLEMENTARY: u32 = 0x10000;
@@ -31,7 +25,7 @@ const FIRST_SUPPLEMENTARY: u32 = 0x10000;
 pub(crate) fn is_trail(value: u32) -> bool
     ensures { IsTrue result ↔ IsTrail value }
 {
-    FIRST_TRAIL_U32 <= value && value <= LAST_TRAIL as u32
+    FIRST_TRAIL as u32 <= value && value <= LAST_TRAIL as u32
 }
 
 /// The supplementary code point of a surrogate pair. The remainders tell the compiler that the result is in range.
@@ -41,9 +35,8 @@ pub(crate) fn code_point_of_pair(lead: u32, trail: u32) -> u32
     requires trail { IsTrail trail }
     ensures { result ≡ pair lead trail }
 {
-    FIRST_SUPPLEMENTARY
-        + lead % SURROGATES_PER_HALF_U32 * SURROGATES_PER_HALF_U32
-        + trail % SURROGATES_PER_HALF_U32
+    let per_half = SURROGATES_PER_HALF as u32;
+    FIRST_SUPPLEMENTARY + lead % per_half * per_half + trail % per_half
 }
 
 /// The lead surrogate of a supplementary code point.
@@ -51,7 +44,7 @@ pub(crate) fn lead_of(value: u32) -> u32
     requires supplementary { 0x10000 ≤ value }
     ensures { result ≡ 0xD800 + (value - 0x10000) / 0x400 }
 {
-    FIRST_LEAD_U32 + (value - FIRST_SUPPLEMENTARY) / SURROGATES_PER_HALF_U32
+    FIRST_LEAD as u32 + (value - FIRST_SUPPLEMENTARY) / SURROGATES_PER_HALF as u32
 }
 
 /// The trail surrogate of a supplementary code point.
@@ -59,5 +52,5 @@ pub(crate) fn trail_of(value: u32) -> u32
     requires supplementary { 0x10000 ≤ value }
     ensures { result ≡ 0xDC00 + (value - 0x10000) % 0x400 }
 {
-    FIRST_TRAIL_U32 + (value - FIRST_SUPPLEMENTARY) % SURROGATES_PER_HALF_U32
+    FIRST_TRAIL as u32 + (value - FIRST_SUPPLEMENTARY) % SURROGATES_PER_HALF as u32
 }

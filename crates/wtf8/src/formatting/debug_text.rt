@@ -3,7 +3,7 @@ ghost use Rattle.std.specs.Prelude.{◌≡◌, ◌<◌, Some, [], ◌∷◌};
 ghost use Rattle.std.specs.Fmt.{DisplaysOnOk, WritesStyledOnOk};
 ghost use Rattle.std.specs.List.{flat_map};
 ghost use Rattle.wtf8.specs.CodePoint.{number};
-ghost use Rattle.wtf8.specs.Debug.{last_four_digits, upper_hex, escape_surrogate, debug};
+ghost use Rattle.wtf8.specs.Debug.{last_four_digits, upper_hex, debug_point, escape_surrogate, debug};
 ghost use Rattle.wtf8.specs.View.{view_points};
 ghost use Rattle.wtf8.specs.Hex.{digit};
 ghost use Rattle.wtf8.specs.Unicode.{IsCodePoint};
@@ -34,7 +34,7 @@ fn write_last_four_digits<W: fmt::Write>(value: u32, f: &mut fmt::Formatter<W>) 
 }
 
 /// Writes the number of a code point in upper-case hexadecimal, with at least four digits.
-pub(crate) fn write_upper_hex<W: fmt::Write>(value: u32, f: &mut fmt::Formatter<W>) -> fmt::Result
+fn write_upper_hex<W: fmt::Write>(value: u32, f: &mut fmt::Formatter<W>) -> fmt::Result
     requires { IsCodePoint value }
     ensures { WritesStyledOnOk W.write_str_gives f.old result (upper_hex value) f.new }
 {
@@ -45,6 +45,20 @@ pub(crate) fn write_upper_hex<W: fmt::Write>(value: u32, f: &mut fmt::Formatter<
         write_hex_digit(value / 0x10000, f)?;
     }
     write_last_four_digits(value, f)
+}
+
+/// Writes `U+` and the number in upper-case hexadecimal, with at least four digits. The formatter's width and flags are
+/// ignored.
+impl fmt::Debug for CodePoint {
+    ghost debug_output = { λ p. Some (debug_point (number p)) };
+
+    fn fmt<W: fmt::Write>(&self, f: &mut fmt::Formatter<W>) -> fmt::Result
+        ensures writes { DisplaysOnOk W.write_str_gives f.old result (Some (debug_point (number self.now))) f.new }
+        ensures styled { WritesStyledOnOk W.write_str_gives f.old result (debug_point (number self.now)) f.new }
+    {
+        f.write_str("U+")?;
+        write_upper_hex(self.to_u32(), f)
+    }
 }
 
 /// Writes a code point as in the debug text of a string: a surrogate's number between `\u{` and `}`, others as is.

@@ -2,12 +2,12 @@
 // 8 units and the code point after it, blocks of `kernel`, or one code point. `decode_utf16`
 // decodes the last units: fewer than 8, or fewer than 16 if there is a lone surrogate among the first 8 of them.
 ghost use Rattle.std.specs.Prelude.{◌≡◌, ℕ, [], true, ◌+◌, ◌++◌, ◌^◌, ◌<◌, ◌≤◌, length, map, min, take, IfOk, IfSome, IsTrue, OnOk, IsOk};
-ghost use Rattle.wtf8.specs.private.ConvertedPrefix.{IsKnownForm, IsReadTo, AreAscii};
+ghost use Rattle.wtf8.specs.private.ConvertedPrefix.{IsKnownForm, IsReadTo};
 
 use crate::codec::code_point::CodePoint;
 use crate::codec::encoding;
 use crate::from_utf16::{decode, kernel};
-use crate::lanes::masks::first_set_lane;
+use crate::lanes::ascii::ascii_run_len;
 use std::alloc::{AllocError, Allocator};
 use std::simd::prelude::*;
 
@@ -32,16 +32,6 @@ fn narrow_saturating<const N: usize>(units: Simd<u16, N>) -> Simd<u8, N>
     ensures { result ≡ map (λ unit. min unit 0xFF) units.entry }
 {
     units.simd_min(Simd::splat(0xFF)).cast::<u8>()
-}
-
-/// The number of ASCII bytes before the first byte that is not ASCII.
-#[inline(always)]
-fn ascii_run_len<const N: usize>(bytes: Simd<u8, N>) -> usize
-    requires { N ≤ u64.BITS }
-    ensures within { result ≤ N }
-    ensures ascii { AreAscii (take result bytes.entry) }
-{
-    first_set_lane(bytes.simd_ge(Simd::splat(0x80)).to_bitmask()).unwrap_or(N)
 }
 
 /// Appends the encoding of the code point at `at`. Returns the next index, and whether no lone surrogate precedes it.

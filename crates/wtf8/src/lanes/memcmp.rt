@@ -1,7 +1,7 @@
 // Equality, order and first mismatch of byte slices, in SIMD blocks.
 ghost use Rattle.std.specs.Cmp.Lexicographic.{pointwise, slice_cmp};
 ghost use Rattle.std.specs.Ordering.{nat_cmp};
-ghost use Rattle.std.specs.Prelude.{◌≡◌, ◌+◌, ◌*◌, ◌<◌, ◌≤◌, min, length, slice_get, nat_eq, ⊤};
+ghost use Rattle.std.specs.Prelude.{◌≡◌, ◌+◌, ◌*◌, ◌<◌, ◌≤◌, min, length, slice_get, nat_eq};
 ghost use Rattle.wtf8.specs.private.Mismatch.{DifferAt, IsMismatch, DecidesNone};
 ghost use Rattle.wtf8.specs.private.FirstIndex.{IsFirstIn, NoneIn};
 
@@ -25,7 +25,7 @@ pub(crate) fn byte_at(bytes: &[u8], at: usize) -> Option<u8>
 fn eq_block<const N: usize>(own: &[u8], others: &[u8], at: usize) -> bool
     requires lanes { (0 < N) × (N ≤ u64.BITS) }
     requires room { (at + N ≤ length own.now) × (at + N ≤ length others.now) }
-    ensures { DecidesNone ⊤ (DifferAt own.now others.now) at (at + N) result }
+    ensures { DecidesNone (DifferAt own.now others.now) at (at + N) result }
 {
     let unlike = Simd::<u8, N>::from_slice(&own[at..]).simd_ne(Simd::from_slice(&others[at..]));
     unlike.to_bitmask() == 0
@@ -62,7 +62,7 @@ fn eq_overlapping<const N: usize>(own: &[u8], others: &[u8]) -> bool
     requires lanes { (0 < N) × (N ≤ u64.BITS) }
     requires both { length own.now ≡ length others.now }
     requires all { (N ≤ length own.now) × (length own.now ≤ 2 * N) }
-    ensures { DecidesNone ⊤ (DifferAt own.now others.now) 0 (length own.now) result }
+    ensures { DecidesNone (DifferAt own.now others.now) 0 (length own.now) result }
 {
     eq_block::<N>(own, others, 0) & eq_block::<N>(own, others, own.len() - N)
 }
@@ -75,29 +75,13 @@ pub(crate) fn eq(own: &[u8], others: &[u8]) -> bool
     if own.len() != others.len() {
         return false;
     }
-    if fits_block_and_eq(own, others) {
-        return true;
-    }
-    BLOCK < own.len() && eq_over_block(own, others)
-}
-
-/// Whether two slices of equal length are equal and have at most `BLOCK` bytes. False for longer ones, even if equal.
-#[inline(always)]
-fn fits_block_and_eq(own: &[u8], others: &[u8]) -> bool
-    requires { length own.now ≡ length others.now }
-    ensures { DecidesNone (length own.now ≤ BLOCK) (DifferAt own.now others.now) 0 (length own.now) result }
-{
-    let len = own.len();
-    if len <= VECTOR {
+    if own.len() <= VECTOR {
         return eq_up_to_vector(own, others);
     }
-    if len <= 32 {
-        return eq_overlapping::<16>(own, others);
+    if own.len() <= BLOCK {
+        return eq_up_to_block(own, others);
     }
-    if len <= 48 {
-        return eq_block::<32>(own, others, 0) & eq_block::<16>(own, others, len - 16);
-    }
-    len <= BLOCK && eq_overlapping::<32>(own, others)
+    eq_over_block(own, others)
 }
 
 /// Whether two slices of equal length, at most `VECTOR` bytes, are equal.
@@ -105,7 +89,7 @@ fn fits_block_and_eq(own: &[u8], others: &[u8]) -> bool
 fn eq_up_to_vector(own: &[u8], others: &[u8]) -> bool
     requires few { length own.now ≤ VECTOR }
     requires both { length own.now ≡ length others.now }
-    ensures { DecidesNone ⊤ (DifferAt own.now others.now) 0 (length own.now) result }
+    ensures { DecidesNone (DifferAt own.now others.now) 0 (length own.now) result }
 {
     if 8 <= own.len() {
         return eq_overlapping::<8>(own, others);
@@ -121,12 +105,29 @@ fn eq_up_to_vector(own: &[u8], others: &[u8]) -> bool
     true
 }
 
+/// Whether two slices of equal length, more than `VECTOR` and at most `BLOCK` bytes, are equal.
+#[inline(always)]
+fn eq_up_to_block(own: &[u8], others: &[u8]) -> bool
+    requires few { (VECTOR < length own.now) × (length own.now ≤ BLOCK) }
+    requires both { length own.now ≡ length others.now }
+    ensures { DecidesNone (DifferAt own.now others.now) 0 (length own.now) result }
+{
+    let len = own.len();
+    if len <= 32 {
+        return eq_overlapping::<16>(own, others);
+    }
+    if len <= 48 {
+        return eq_block::<32>(own, others, 0) & eq_block::<16>(own, others, len - 16);
+    }
+    eq_overlapping::<32>(own, others)
+}
+
 /// Whether two slices of equal length, more than `BLOCK` bytes, are equal.
 #[inline(never)]
 fn eq_over_block(own: &[u8], others: &[u8]) -> bool
     requires many { BLOCK < length own.now }
     requires both { length own.now ≡ length others.now }
-    ensures { DecidesNone ⊤ (DifferAt own.now others.now) 0 (length own.now) result }
+    ensures { DecidesNone (DifferAt own.now others.now) 0 (length own.now) result }
 {
     let len = own.len();
     if len <= STRIDE {

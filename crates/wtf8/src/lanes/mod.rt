@@ -1,5 +1,7 @@
-// Bytes compared, searched, copied and written as hexadecimal in SIMD blocks. All that these modules know of WTF-8 is
-// how surrogates are encoded.
+// The spare capacity of byte vectors, and bytes compared, searched, copied and written as hexadecimal in SIMD blocks.
+// All that these modules know of WTF-8 is how surrogates are encoded.
+pub(crate) mod ascii;
+pub(crate) mod capacity;
 pub(crate) mod copies;
 pub(crate) mod hex_digits;
 pub(crate) mod masks;

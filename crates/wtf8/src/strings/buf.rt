@@ -17,9 +17,11 @@ ghost use Rattle.wtf8.specs.View.{view_points, view_units};
 use crate::codec::code_point::CodePoint;
 use crate::codec::{encoding, surrogates};
 use crate::from_utf16::transcode;
-use crate::lanes::{copies, search};
+use crate::lanes::{capacity, copies, search};
+use crate::strings::concat;
+use crate::strings::known_prefix::KnownPrefix;
+use crate::strings::unit_positions::find_cut;
 use crate::strings::view::Wtf8;
-use crate::strings::{concat, unit_positions};
 use std::alloc::{AllocError, Allocator};
 use std::marker::Model;
 
@@ -48,11 +50,9 @@ use std::marker::Model;
 pub struct Wtf8Buf<A: Allocator> {
     bytes: Vec<u8, A>,
 
-    /// No surrogate begins before this byte position; one may begin at or after it. `usize::MAX` says that the string
-    /// holds none, and need not be updated when text is appended.
-    scalar_end: usize,
+    known_prefix: KnownPrefix,
     ghost well_formed: { IsWellFormed bytes.items } by { IsWellFormed-prop bytes.items },
-    ghost scalar_prefix: { AreScalarTo scalar_end well_formed.points } by { AreScalarTo-prop scalar_end well_formed.points },
+    ghost scalar_prefix: { AreScalarTo known_prefix.end well_formed.points } by { AreScalarTo-prop known_prefix.end well_formed.points },
 }
 
 impl<A: Allocator> Model for Wtf8Buf<A> {
@@ -78,61 +78,18 @@ impl<A: Allocator> Model for Wtf8Buf<A> {
     } };
 }
 
-/// Returns the `scalar_end` of a new string: `usize::MAX` if `is_known_utf8` says that it holds no surrogate, else 0.
-fn new_scalar_end(is_known_utf8: bool) -> usize
-    ensures { (c : List ℕ) → (IsTrue is_known_utf8 → AreScalar c) → AreScalarTo result c }
-{
-    if is_known_utf8 {
-        return usize::MAX;
-    }
-    0
-}
-
-/// Wraps well-formed bytes in which no surrogate begins before `scalar_end`.
-fn with_scalar_end<A: Allocator>(bytes: Vec<u8, A>, scalar_end: usize) -> Wtf8Buf<A>
+/// Wraps well-formed bytes with their known prefix.
+fn from_well_formed<A: Allocator>(bytes: Vec<u8, A>, known_prefix: KnownPrefix) -> Wtf8Buf<A>
     requires well_formed { IsWellFormed bytes.items }
-    requires scalar { (h : IsWellFormed bytes.items) → AreScalarTo scalar_end h.points }
+    requires scalar { (h : IsWellFormed bytes.items) → AreScalarTo known_prefix.end h.points }
     ensures bytes { result.bytes ≡ bytes.items }
     ensures units { (h : IsWellFormed bytes.items) → result.units ≡ units h.points }
     ensures capacity { result.capacity ≡ vec_capacity bytes }
 {
-    Wtf8Buf { bytes, scalar_end }
-}
-
-/// Wraps well-formed bytes; if `is_known_utf8` is true, they must hold no surrogate.
-fn from_well_formed<A: Allocator>(bytes: Vec<u8, A>, is_known_utf8: bool) -> Wtf8Buf<A>
-    requires well_formed { IsWellFormed bytes.items }
-    requires scalar { IsTrue is_known_utf8 → (h : IsWellFormed bytes.items) → AreScalar h.points }
-    ensures bytes { result.bytes ≡ bytes.items }
-    ensures units { (h : IsWellFormed bytes.items) → result.units ≡ units h.points }
-    ensures capacity { result.capacity ≡ vec_capacity bytes }
-{
-    with_scalar_end(bytes, new_scalar_end(is_known_utf8))
-}
-
-/// Returns the `scalar_end` after `other` is appended to `len` bytes: unchanged if `other` is empty, else at most
-/// `len`, since `other` is not searched.
-#[inline(always)]
-fn scalar_end_after_push(scalar_end: usize, len: usize, other: Wtf8<'_>) -> usize
-    ensures order { result ≤ scalar_end }
-    ensures scalar { len < result → AreScalar (view_points other.entry) }
-{
-    if other.is_empty() {
-        return scalar_end;
+    Wtf8Buf {
+        bytes,
+        known_prefix,
     }
-    scalar_end.min(len)
-}
-
-/// Returns the `scalar_end` after a truncation to `len` bytes: `usize::MAX` if these are known to hold no surrogate,
-/// else unchanged.
-#[inline(always)]
-fn scalar_end_after_truncate(scalar_end: usize, len: usize) -> usize
-    ensures { (c : List ℕ) → length (bytes c) ≡ len → AreScalarTo scalar_end c → AreScalarTo result c }
-{
-    if len <= scalar_end {
-        return usize::MAX;
-    }
-    scalar_end
 }
 
 impl<A: Allocator> Wtf8Buf<A> {
@@ -141,7 +98,7 @@ impl<A: Allocator> Wtf8Buf<A> {
         ensures units { result.units ≡ [] }
         ensures bytes { result.bytes ≡ [] }
     {
-        from_well_formed(Vec::new(alloc), true)
+        from_well_formed(Vec::new(alloc), KnownPrefix::new(true))
     }
 
     /// Makes an empty string with room for at least `n` bytes. Does not allocate if `n` is 0.
@@ -151,7 +108,8 @@ impl<A: Allocator> Wtf8Buf<A> {
         ensures capacity { IfOk result (λ b. n ≤ b.capacity) }
         ensures zero { n ≡ 0 → IsOk result }
     {
-        Ok(from_well_formed(Vec::with_capacity(alloc, n)?, true))
+        let bytes = Vec::with_capacity(alloc, n)?;
+        Ok(from_well_formed(bytes, KnownPrefix::new(true)))
     }
 
     /// Converts a `String`, reusing its buffer. Does not allocate.
@@ -160,7 +118,7 @@ impl<A: Allocator> Wtf8Buf<A> {
         ensures bytes { result.bytes ≡ string_bytes string }
         ensures scalar { AreScalar result.form.points }
     {
-        from_well_formed(string.into_bytes(), true)
+        from_well_formed(string.into_bytes(), KnownPrefix::new(true))
     }
 
     /// Copies a `&str`. An empty one does not allocate.
@@ -171,7 +129,7 @@ impl<A: Allocator> Wtf8Buf<A> {
         ensures empty { value.now ≡ [] → IsOk result }
     {
         let bytes = copies::to_vec_in(alloc, value.as_bytes())?;
-        Ok(from_well_formed(bytes, true))
+        Ok(from_well_formed(bytes, KnownPrefix::new(true)))
     }
 
     /// Makes the string with the code units `v`, paired or not. Reserves a byte for each unit first, and does not
@@ -194,7 +152,7 @@ impl<A: Allocator> Wtf8Buf<A> {
     {
         let mut bytes = Vec::with_capacity(alloc, v.len())?;
         let is_known_utf8 = transcode::append_utf16(&mut bytes, v)?;
-        Ok(from_well_formed(bytes, is_known_utf8))
+        Ok(from_well_formed(bytes, KnownPrefix::new(is_known_utf8)))
     }
 
     /// Copies the string, with a clone of its allocator.
@@ -207,7 +165,7 @@ impl<A: Allocator> Wtf8Buf<A> {
     {
         let alloc = self.bytes.allocator().clone()?;
         let bytes = copies::to_vec_in(alloc, self.bytes.as_slice())?;
-        Ok(with_scalar_end(bytes, self.scalar_end))
+        Ok(from_well_formed(bytes, self.known_prefix))
     }
 
     /// Reserves capacity for at least `additional` more bytes, and does not allocate if there is enough. The units and
@@ -219,7 +177,7 @@ impl<A: Allocator> Wtf8Buf<A> {
         ensures room { length self.old.bytes + additional ≤ self.old.capacity → IsOk result }
         ensures capacity { self.old.capacity ≤ self.new.capacity }
     {
-        encoding::reserve_with_known_len(&mut self.bytes, additional)
+        capacity::reserve_with_known_len(&mut self.bytes, additional)
     }
 
     /// Releases spare capacity if the allocator agrees, else keeps it. An empty string releases all of it. The units
@@ -285,7 +243,7 @@ impl<A: Allocator> Wtf8Buf<A> {
         ensures at_most { OnOk result (length self.new.bytes ≤ length self.old.bytes + length (encoding (number code_point))) }
         ensures room_left { length self.old.bytes + length (encoding (number code_point)) ≤ self.old.capacity → IsOk result }
     {
-        concat::push_point(&mut self.bytes, &mut self.scalar_end, code_point)
+        concat::push_point(&mut self.bytes, &mut self.known_prefix, code_point)
     }
 
     /// Appends a character. If memory is refused, the string is unchanged.
@@ -372,7 +330,7 @@ impl<A: Allocator> Wtf8Buf<A> {
     {
         // A string without surrogates has no lead at its end.
         let forms_no_pair = self.is_known_utf8();
-        self.scalar_end = scalar_end_after_push(self.scalar_end, self.bytes.len(), other);
+        self.known_prefix = self.known_prefix.after_push(self.bytes.len(), other);
         concat::push_view(&mut self.bytes, other, forms_no_pair)
     }
 
@@ -383,7 +341,7 @@ impl<A: Allocator> Wtf8Buf<A> {
         ensures units { IsFront self.old.units new_len self.new.units }
         ensures bytes { self.new.bytes ≡ take new_len self.old.bytes }
     {
-        self.scalar_end = scalar_end_after_truncate(self.scalar_end, new_len);
+        self.known_prefix = self.known_prefix.after_truncate(new_len);
         self.bytes.truncate(new_len)
     }
 
@@ -393,7 +351,7 @@ impl<A: Allocator> Wtf8Buf<A> {
         ensures bytes { self.new.bytes ≡ [] }
         ensures capacity { self.new.capacity ≡ self.old.capacity }
     {
-        self.scalar_end = usize::MAX;
+        self.known_prefix = KnownPrefix::new(true);
         self.bytes.clear()
     }
 
@@ -413,15 +371,15 @@ impl<A: Allocator> Wtf8Buf<A> {
     pub(crate) fn try_truncate_units(&mut self, n: usize) -> bool
         ensures { TruncatesUnits self.old.units n self.new.units (if result then 0 else 1) }
     {
-        let Some(cut) = unit_positions::find_cut(self.as_wtf8(), n) else {
+        let Some(cut) = find_cut(self.as_wtf8(), n) else {
             return false;
         };
         match cut.divided {
             None => self.truncate(cut.position),
             Some(value) => {
-                self.scalar_end = self.scalar_end.min(cut.position);
+                self.known_prefix = self.known_prefix.up_to(cut.position);
                 let lead = surrogates::lead_of(value);
-                unit_positions::keep_lead(&mut self.bytes, cut.position, lead);
+                encoding::keep_lead(&mut self.bytes, cut.position, lead);
             }
         }
         true
@@ -469,10 +427,10 @@ impl<A: Allocator> Wtf8Buf<A> {
     fn is_known_utf8(&self) -> bool
         ensures { IsTrue result → AreScalar self.now.form.points }
     {
-        self.bytes.len() <= self.scalar_end
+        self.known_prefix.covers(self.bytes.len())
     }
 
-    /// Returns the byte position of the first surrogate. Searches from `scalar_end` on, and not at all if the whole
+    /// Returns the byte position of the first surrogate. Searches after the known prefix, and not at all if the whole
     /// string is known to hold none.
     fn first_surrogate(&self) -> Option<usize>
         ensures { IsFirst (SurrogateAt self.now.bytes) 0 result }
@@ -480,6 +438,6 @@ impl<A: Allocator> Wtf8Buf<A> {
         if self.is_known_utf8() {
             return None;
         }
-        search::next_surrogate(&self.bytes, self.scalar_end)
+        search::next_surrogate(&self.bytes, self.known_prefix.end)
     }
 }

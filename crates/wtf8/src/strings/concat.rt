@@ -11,6 +11,8 @@ ghost use Rattle.wtf8.specs.View.{view_points, view_units};
 
 use crate::codec::code_point::CodePoint;
 use crate::codec::{encoding, surrogates};
+use crate::lanes::capacity::spare_capacity;
+use crate::strings::known_prefix::KnownPrefix;
 use crate::strings::view::Wtf8;
 use std::alloc::{AllocError, Allocator};
 
@@ -77,27 +79,27 @@ pub(crate) fn push_surrogate<A: Allocator>(
     match lead_to_complete(view, code_point) {
         Some(lead) => complete_pair(bytes, lead, code_point.to_u32()),
         None => {
-            let spare = encoding::spare_capacity(bytes);
+            let spare = spare_capacity(bytes);
             push_unpaired(bytes, spare, code_point)
         }
     }
 }
 
-/// Appends a code point; a trail surrogate completes a lead at the end. A surrogate lowers `scalar_end` to at most the
-/// old length.
+/// Appends a code point; a trail surrogate completes a lead at the end. A surrogate cuts the known prefix to at
+/// most the old length.
 #[inline(always)]
 pub(crate) fn push_point<A: Allocator>(
     bytes: &mut Vec<u8, A>,
-    scalar_end: &mut usize,
+    known_prefix: &mut KnownPrefix,
     code_point: CodePoint,
 ) -> Result<(), AllocError>
     requires { IsWellFormed bytes.old.items }
     ensures gains { ExtendsFormOrKeeps bytes.old (units_of (number code_point)) bytes.new result }
-    ensures known { scalar_end.new ≤ scalar_end.old }
-    ensures scalar { length bytes.old.items < scalar_end.new → ¬ (IsSurrogate (number code_point)) }
+    ensures known { known_prefix.new.end ≤ known_prefix.old.end }
+    ensures scalar { length bytes.old.items < known_prefix.new.end → ¬ (IsSurrogate (number code_point)) }
 {
     // The spare capacity is computed before the match, so that a loop can keep the length in a register.
-    let spare = encoding::spare_capacity(bytes);
+    let spare = spare_capacity(bytes);
     // Each arm has its own call, in which the compiler knows the encoded length.
     match code_point.to_u32() {
         0..=0x7F => push_unpaired(bytes, spare, code_point),
@@ -105,7 +107,7 @@ pub(crate) fn push_point<A: Allocator>(
         0x800..=0xD7FF => push_unpaired(bytes, spare, code_point),
         0x10000.. => push_unpaired(bytes, spare, code_point),
         0xD800..=0xDFFF => {
-            *scalar_end = (*scalar_end).min(bytes.len());
+            *known_prefix = known_prefix.up_to(bytes.len());
             push_surrogate(bytes, code_point)
         }
         _ => push_unpaired(bytes, spare, code_point),
@@ -187,7 +189,7 @@ pub(crate) fn push_scalar<A: Allocator>(bytes: &mut Vec<u8, A>, c: char) -> Resu
     ensures units { ExtendsForm bytes.old.items (bytes.old.items ++ encoding c) (units_of c) }
     ensures bytes { BecomesOrKeeps bytes.old (bytes.old.items ++ encoding c) bytes.new result }
 {
-    let spare = encoding::spare_capacity(bytes);
+    let spare = spare_capacity(bytes);
     push_unpaired(bytes, spare, CodePoint::from_u32_unchecked(u32::from(c)))
 }
 

@@ -3,6 +3,7 @@ ghost use Rattle.std.specs.Prelude.{◌≡◌, ℕ, ◌++◌, ◌+◌, ◌*◌, 
 ghost use lib.Lanes.{Each1};
 ghost use Rattle.wtf8.specs.CodePoint.{number};
 ghost use Rattle.wtf8.specs.Form.{IsWellFormed};
+ghost use Rattle.wtf8.specs.private.ConvertedPrefix.{AreAscii};
 ghost use Rattle.wtf8.specs.private.EncodedBytes.{FirstPointIs, BecomesOrKeeps};
 ghost use Rattle.wtf8.specs.Unicode.{units_of};
 ghost use Rattle.wtf8.specs.private.EncodedRuns.{HasBitPrefix, BeginsWithUnits, lead_bytes_of, unit_of_two, unit_of_three, units_of_run, Writes};
@@ -12,9 +13,9 @@ use crate::codec::code_point::CodePoint;
 use crate::codec::encoding;
 use crate::codec::surrogates::{lead_of, trail_of};
 use crate::lanes::VECTOR;
-use crate::lanes::copies::push_block;
+use crate::lanes::ascii::is_ascii_overlapping;
+use crate::lanes::copies::{push_block, store_block};
 use crate::lanes::masks::first_set_lane;
-use crate::strings::unit_positions::is_ascii_overlapping;
 use crate::strings::view::Wtf8;
 use std::alloc::{AllocError, Allocator};
 use std::simd::prelude::*;
@@ -65,17 +66,6 @@ struct Undecoded<'a> {
     at: usize,
 }
 
-/// Writes `N` units from index `at` on.
-#[inline(always)]
-fn store_units<const N: usize>(units: &mut [u16], at: usize, block: [u16; N])
-    requires lanes { N ≤ u64.BITS }
-    requires room { at + N ≤ length units.old }
-    ensures front { (n : ℕ) → n ≤ N → take (at + n) units.new ≡ take at units.old ++ take n block.entry }
-    ensures len { length units.new ≡ length units.old }
-{
-    Simd::from_array(block).copy_to_slice(&mut units[at..]);
-}
-
 /// Widens each byte to a code unit.
 #[inline(always)]
 fn widen_bytes<const N: usize>(block: Simd<u8, N>) -> [u16; N]
@@ -93,7 +83,7 @@ fn append_ascii_overlapping<const N: usize, B: Allocator>(
 ) -> Result<(), AllocError>
     requires lanes { N ≤ u64.BITS }
     requires all { (N ≤ length view.bytes.now) × (length view.bytes.now ≤ 2 * N) }
-    requires ascii { view_units view ≡ view.bytes.now }
+    requires ascii { AreAscii view.bytes.now }
     ensures { BecomesOrKeeps units.old (units.old.items ++ view_units view.entry) units.new result }
 {
     let bytes = view.bytes;
@@ -248,7 +238,7 @@ fn write_units<'a, const N: usize>(
     ensures written { Writes units.old left.entry.at (view_units left.entry.view) units.new result.at (view_units result.view) }
     ensures bytes { result.view.bytes.now ≡ drop width left.entry.view.bytes.now }
 {
-    store_units(units, left.at, block);
+    store_block(units, left.at, block);
     Undecoded {
         view: left.view.skip_bytes(width),
         at: left.at + count,
@@ -383,18 +373,6 @@ fn append_counted<B: Allocator>(units: &mut Vec<u16, B>, view: Wtf8<'_>) -> Resu
 }
 
 impl<'a> Wtf8<'a> {
-    /// Returns the view after the first `count` bytes.
-    #[inline(always)]
-    fn skip_bytes(self, count: usize) -> Wtf8<'a>
-        requires within { count ≤ length self.bytes.now }
-        requires well_formed { IsWellFormed (drop count self.bytes.now) }
-        ensures points { (h : IsWellFormed (drop count self.entry.bytes.now)) → view_points result ≡ h.points }
-        ensures bytes { result.bytes.now ≡ drop count self.entry.bytes.now }
-    {
-        let (_, rest) = self.bytes.split_at(count);
-        Wtf8::from_well_formed(rest)
-    }
-
     /// Appends the 16-bit code units of the string to a vector. Reserves room for them first, and does not allocate if
     /// they fit. If memory is refused, the vector is unchanged.
     pub fn append_units<B: Allocator>(&self, units: &mut Vec<u16, B>) -> Result<(), AllocError>
@@ -404,14 +382,16 @@ impl<'a> Wtf8<'a> {
         ensures capacity { vec_capacity units.old ≤ vec_capacity units.new }
     {
         match self.len() {
-            1 if is_ascii_overlapping::<1>(*self) => append_ascii_overlapping::<1, B>(units, *self),
-            2..=3 if is_ascii_overlapping::<2>(*self) => append_ascii_overlapping::<2, B>(
+            1 if is_ascii_overlapping::<1>(self.bytes) => append_ascii_overlapping::<1, B>(
                 units, *self,
             ),
-            4..=7 if is_ascii_overlapping::<4>(*self) => append_ascii_overlapping::<4, B>(
+            2..=3 if is_ascii_overlapping::<2>(self.bytes) => append_ascii_overlapping::<2, B>(
                 units, *self,
             ),
-            8..=15 if is_ascii_overlapping::<8>(*self) => append_ascii_overlapping::<8, B>(
+            4..=7 if is_ascii_overlapping::<4>(self.bytes) => append_ascii_overlapping::<4, B>(
+                units, *self,
+            ),
+            8..=15 if is_ascii_overlapping::<8>(self.bytes) => append_ascii_overlapping::<8, B>(
                 units, *self,
             ),
             0..SCRATCH_UNITS => append_through_scratch(units, *self),

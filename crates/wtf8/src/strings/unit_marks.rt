@@ -37,8 +37,7 @@ impl<'a> Wtf8<'a> {
         ensures units { view_units result ≡ drop mark.units (view_units self.now) }
         ensures bytes { result.bytes.now ≡ drop mark.position self.now.bytes.now }
     {
-        let (_, rest) = self.bytes.split_at(mark.position);
-        Wtf8::from_well_formed(rest)
+        self.skip_bytes(mark.position)
     }
 
     /// The mark with `units` code units before it, or one fewer if that splits a pair. `units` must be at most the

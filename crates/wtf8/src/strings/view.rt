@@ -142,8 +142,7 @@ impl<'a> Wtf8<'a> {
         // The units of the code points before `begin`, followed by the units of this part, are all units of the string.
         ensures whole { (front : List ℕ) → IsFront (view_units self.now) begin front → front ++ view_units result ≡ view_units self.now }
     {
-        let (_, rest) = self.bytes.split_at(begin);
-        Wtf8::from_well_formed(rest)
+        self.skip_bytes(begin)
     }
 
     /// The part before `end`, which must be a code point boundary (`is_code_point_boundary`). Borrows the bytes for
@@ -230,6 +229,18 @@ impl<'a> Wtf8<'a> {
         hex_digits::push_hex(text, self.bytes)
     }
 
+    /// Returns the view after the first `count` bytes.
+    #[inline(always)]
+    pub(crate) fn skip_bytes(self, count: usize) -> Wtf8<'a>
+        requires within { count ≤ length self.bytes.now }
+        requires well_formed { IsWellFormed (drop count self.bytes.now) }
+        ensures points { (h : IsWellFormed (drop count self.entry.bytes.now)) → view_points result ≡ h.points }
+        ensures bytes { result.bytes.now ≡ drop count self.entry.bytes.now }
+    {
+        let (_, rest) = self.bytes.split_at(count);
+        Wtf8::from_well_formed(rest)
+    }
+
     /// Returns the first code point and the view after it, or `None` if the string is empty.
     pub(crate) fn split_first(self) -> Option<(CodePoint, Wtf8<'a>)>
         ensures none { IfNone result (view_points self.entry ≡ []) }
@@ -239,8 +250,7 @@ impl<'a> Wtf8<'a> {
             return None;
         }
         let (code_point, width) = encoding::read(self.bytes, 0);
-        let (_, rest) = self.bytes.split_at(width);
-        Some((code_point, Wtf8 { bytes: rest }))
+        Some((code_point, self.skip_bytes(width)))
     }
 
     /// Returns the text before the first surrogate and the view after it; without one, the whole text and `None`.
@@ -249,13 +259,12 @@ impl<'a> Wtf8<'a> {
         ensures some { IfSome result.1 (λ rest. bytes (lossy_points (view_points self.entry)) ≡ result.0.now ++ bytes (0xFFFD ∷ lossy_points (view_points rest))) }
         ensures shorter { IfSome result.1 (λ rest. length rest.bytes.now < length self.entry.bytes.now) }
     {
-        let Some(place) = search::next_surrogate(self.bytes, 0) else {
+        let Some(position) = search::next_surrogate(self.bytes, 0) else {
             return (unsafe { str::from_utf8_unchecked(self.bytes) }, None);
         };
-        let (front, _) = self.bytes.split_at(place);
-        let (_, behind) = self.bytes.split_at(place + 3);
+        let (front, _) = self.bytes.split_at(position);
         let text = unsafe { str::from_utf8_unchecked(front) };
-        (text, Some(Wtf8 { bytes: behind }))
+        (text, Some(self.skip_bytes(position + 3)))
     }
 
     /// Returns the lead surrogate that ends the string, if one does: bytes ED, A0 to AF, and a continuation byte.

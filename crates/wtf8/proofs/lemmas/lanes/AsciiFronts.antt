@@ -1,13 +1,15 @@
--- The ASCII lanes at the front of a block.
-use Rattle.wtf8.proofs.Common.{◌≡◌, ℕ, zero, suc, ◌-◌, ◌%◌, ◌^◌, ◌<◌, ◌≤◌, leb, le-leb, cond, List, [], ◌∷◌, map, length, take, get_or, replicate, refl, sym, ap, ltb, lt-ltb, le-ltb, cases_lt, inl, inr}
+-- ASCII lanes of a block.
+use Rattle.wtf8.proofs.Common.{◌≡◌, ℕ, zero, suc, ◌+◌, ◌-◌, ◌%◌, ◌^◌, ◌<◌, ◌≤◌, leb, le-leb, cond, List, [], ◌∷◌, map, length, take, get_or, replicate, refl, sym, ap, ltb, lt-ltb, le-ltb, cases_lt, inl, inr}
 use Rattle.wtf8.proofs.Common.{◌∙◌, arith, subst, false, Each1, Option, None, Some, tops_compared, zip2, mask_l, top, AreAscii, length-take, NoneIn, Each2}
+use Rattle.wtf8.proofs.Common.{IsTrue, eqb, eqb-true, take_all, chunk, length-chunk, get_or-chunk}
 use Rattle.std.proofs.lemmas.List.{length-map, get_or-map, get_or-take}
 use lib.Lanes.{sel_l}
 use Rattle.std.specs.Option.{unwrap_or}
 use Rattle.std.specs.Prelude.{min}
-use Rattle.std.proofs.lemmas.Simd.{zip2_splat_left, Each1-from_get_or, Each2-splat, Each1-all}
+use Rattle.std.proofs.lemmas.Simd.{zip2_splat_left, Each1-from_get_or, Each1-get_or, Each2-splat, Each1-all}
 use mir.Syntax.{Width}
 use mir.Val.{bits, hbits}
+use Rattle.wtf8.proofs.lemmas.lanes.Masks.{none_set}
 use Rattle.wtf8.specs.private.FirstIndex.{IsFirstIn, IsFirstSet, IsSet}
 
 -- the lanes before the first set bit of the mask of non-ASCII lanes are ASCII
@@ -31,6 +33,19 @@ module _ (w : Width) (n : ℕ) (xs : List ℕ) (few : n ≤ 64) (long : length x
       by : (r : Option ℕ) → IsFirstIn (IsSet (map (leb 0x80) xs)) 0 n r → (unwrap_or r n ≤ n) × AreAscii (take (unwrap_or r n) xs)
       by None none = (omega arith, AreAscii-take n (omega arith) none)
       by (Some k) h = (omega (arith, h.1), AreAscii-take k (omega (arith, h.1)) h.0.none_between)
+
+  -- if the mask is 0, all lanes are ASCII
+  pub ascii_if_none : IsTrue (eqb non_ascii_mask 0) → AreAscii xs
+  ascii_if_none t =
+      subst AreAscii (take_all n xs (omega (arith, long)))
+      (AreAscii-take n (omega arith) (none_set non_ascii_mask n (map (leb 0x80) xs) few (length-map xs (leb 0x80) ∙ long) non_ascii_mask-mask_l (eqb-true _ 0 t)))
+
+-- a byte in an ASCII block is ASCII
+pub ascii_in_block : (n at : ℕ) (w : List ℕ) → at + n ≤ length w → AreAscii (chunk at n w) → (i : ℕ) → at ≤ i → i < at + n → get_or w i 0 < 0x80
+ascii_in_block n at w room all i l m =
+    let same : at + (i - at) ≡ i = omega (arith, l) in
+    let low = Each1-get_or (λ b. b < 0x80) (chunk at n w) (i - at) 0 (omega (arith, length-chunk at n w room, l, m)) all in
+    subst (λ k. get_or w k 0 < 0x80) same (subst (λ b. b < 0x80) (get_or-chunk at n w (i - at) 0 (omega (arith, l, m))) low)
 
 -- division by `k` > 0 in all lanes divides by 0 in none
 pub by_all : (xs : List ℕ) (k : ℕ) → 0 < k → Each2 (λ (a b : ℕ). 0 < b) xs (k ∷ k ∷ k ∷ k ∷ k ∷ k ∷ k ∷ k ∷ [])

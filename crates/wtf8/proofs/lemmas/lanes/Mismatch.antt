@@ -2,7 +2,7 @@
 use Rattle.wtf8.proofs.Common.{◌≡◌, ◌≢◌, ◌↔◌, ℕ, zero, suc, ◌+◌, ◌<◌, ◌≤◌, eqb, Bool, true, false, IsTrue, cond, not, inl, inr, refl, sym, ap, subst, arith}
 use Rattle.wtf8.proofs.Common.{List, [], ◌∷◌, ◌∙◌, map, length, get_or, nat_eq, take, take_all, cases_Bool, both_ways, eq-eqb, eqb-true, length-chunk}
 use Rattle.wtf8.proofs.Common.{get_or-chunk, get_or-zip2, length-zip2, tops_compared, mask_l, w8, None, Some, Option, ◌%◌, ◌^◌, pointwise, bytes_decides, chunk}
-use Rattle.wtf8.proofs.Common.{zip2, top, IsLeast, NoneIn, not-true, MatchOption, ⊤, DifferAt, DecidesNone, IsFirstSet, IsSet}
+use Rattle.wtf8.proofs.Common.{zip2, top, IsLeast, NoneIn, not-true, MatchOption, DifferAt, DecidesNone, IsFirstSet, IsSet}
 use Rattle.std.proofs.lemmas.Bool.Decides.{same_from_decides}
 use Rattle.wtf8.proofs.lemmas.lanes.Masks.{first_at_offset, lowest_set, none_set}
 
@@ -38,10 +38,10 @@ module _ (n : ℕ) (w v : List ℕ) (i : ℕ) (few : n ≤ 64) (own : i + n ≤ 
   pub unequal_mask-nonzero : ¬ (NoneIn (DifferAt w v) i (i + n)) → unequal_mask ≢ 0
   unequal_mask-nonzero found e = found (first_at_offset (DifferAt w v) (IsSet unequal_lanes) i n IsSet-unequal_lanes None (none_set unequal_mask n unequal_lanes few length-unequal_lanes unequal_mask-mask_l e))
 
-  pub unequal_mask-decides : DecidesNone ⊤ (DifferAt w v) i (i + n) (eqb unequal_mask 0)
+  pub unequal_mask-decides : DecidesNone (DifferAt w v) i (i + n) (eqb unequal_mask 0)
   unequal_mask-decides = elim (cases_Bool (eqb unequal_mask 0)) [
     | inl t ↦ rw t (first_at_offset (DifferAt w v) (IsSet unequal_lanes) i n IsSet-unequal_lanes None (none_set unequal_mask n unequal_lanes few length-unequal_lanes unequal_mask-mask_l (eqb-true unequal_mask 0 t)))
-    | inr f ↦ rw f (λ _ none.
+    | inr f ↦ rw f (λ none.
         let found = first_at_offset (DifferAt w v) (IsSet unequal_lanes) i n IsSet-unequal_lanes (Some _) (lowest_set unequal_mask n unequal_lanes few length-unequal_lanes unequal_mask-mask_l (λ e. both_ways _ f (eq-eqb unequal_mask 0 e))) in
         none _ found.0.not_before found.1 found.0.here)
   ]
@@ -57,7 +57,7 @@ take-before_mismatch (suc n) (x ∷ w) (y ∷ v) p q h = elim (cases_Bool (eqb x
 ]
 
 -- a Boolean that is true exactly if lists of equal length have no mismatch is the result of their comparison
-pub pointwise-from_no_mismatch : (b : Bool) (w v : List ℕ) → length w ≡ length v → DecidesNone ⊤ (DifferAt w v) 0 (length w) b → b ≡ pointwise nat_eq w v
+pub pointwise-from_no_mismatch : (b : Bool) (w v : List ℕ) → length w ≡ length v → DecidesNone (DifferAt w v) 0 (length w) b → b ≡ pointwise nat_eq w v
 pointwise-from_no_mismatch b w v long h = same_from_decides b (pointwise nat_eq w v) (to b h, from b h) (bytes_decides w v)
   where
     whole : NoneIn (DifferAt w v) 0 (length w) → w ≡ v
@@ -65,10 +65,10 @@ pointwise-from_no_mismatch b w v long h = same_from_decides b (pointwise nat_eq 
         let front = take-before_mismatch (length w) w v (omega arith) (omega arith) none in
         sym (take_all (length w) w (omega arith)) ∙ (front ∙ take_all (length w) v (omega arith))
 
-    to : (b : Bool) → DecidesNone ⊤ (DifferAt w v) 0 (length w) b → IsTrue b → w ≡ v
+    to : (b : Bool) → DecidesNone (DifferAt w v) 0 (length w) b → IsTrue b → w ≡ v
     to true none t = whole none
     to false found t = absurd (both_ways _ refl t)
 
-    from : (b : Bool) → DecidesNone ⊤ (DifferAt w v) 0 (length w) b → w ≡ v → IsTrue b
+    from : (b : Bool) → DecidesNone (DifferAt w v) 0 (length w) b → w ≡ v → IsTrue b
     from true none e = refl
-    from false found e = absurd (found tt (λ j _ _ d. d (ap (λ w. get_or w j 0) e)))
+    from false found e = absurd (found (λ j _ _ d. d (ap (λ w. get_or w j 0) e)))

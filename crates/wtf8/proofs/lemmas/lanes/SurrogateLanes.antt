@@ -1,14 +1,13 @@
--- Lanes that show where a surrogate begins, and whether a lane is at least a number.
-use Rattle.wtf8.proofs.Common.{◌≡◌, ◌↔◌, ℕ, zero, suc, ◌+◌, ◌%◌, ◌^◌, ◌<◌, ◌≤◌, eqb, leb, Bool, true, false, IsTrue, cond, List, [], ◌∷◌, map, length}
-use Rattle.wtf8.proofs.Common.{get_or, replicate, w8, sym, ap, ◌∙◌, arith, le-leb, eq-eqb, eqb-true, length-zip2}
-use Rattle.wtf8.proofs.Common.{get_or-chunk, tops_compared, chunk, zip2, mask_l, top, SurrogateAt, refl}
+-- Lanes that show where a surrogate begins.
+use Rattle.wtf8.proofs.Common.{◌≡◌, ◌↔◌, ℕ, zero, suc, ◌+◌, ◌%◌, ◌^◌, ◌<◌, eqb, leb, Bool, true, false, IsTrue, cond, List, [], ◌∷◌, map, length}
+use Rattle.wtf8.proofs.Common.{get_or, replicate, sym, ap, ◌∙◌, arith, le-leb, eq-eqb, eqb-true, length-zip2}
+use Rattle.wtf8.proofs.Common.{get_or-chunk, chunk, zip2, mask_l, top, SurrogateAt, refl}
 use Rattle.wtf8.proofs.Common.{Option, get_or-zip2, ◌&&◌, bit_and, subst, and_parts, and_from, leb-true}
-use Rattle.wtf8.proofs.Common.{MatchOption, get_or-replicate, length-replicate}
+use Rattle.wtf8.proofs.Common.{MatchOption}
 use lib.Lanes.{chunk, zip2, mask_l, top}
-use Rattle.wtf8.proofs.lemmas.lanes.Masks.{first_at_offset, IsFirstIn-iff, none_set}
+use Rattle.wtf8.proofs.lemmas.lanes.Masks.{first_at_offset, IsFirstIn-iff}
 use Rattle.wtf8.specs.private.FirstIndex.{IsFirstIn, IsFirstSet, IsLeast, IsSet, NoneIn}
 use Rattle.wtf8.specs.private.SurrogateSearch.{SurrogateInLane, SurrogateAt}
-use Rattle.wtf8.specs.private.UnitCounts.{HasLaneAtLeast}
 
 -- The search for a surrogate in two vectors, the second shifted by one byte.
 
@@ -58,14 +57,3 @@ first_surrogate_at_offset w i bound = first_at_offset (SurrogateAt w) (Surrogate
         let next : get_or (chunk (i + 1) 32 w) k 0 ≡ get_or w (i + k + 1) 0 = get_or-chunk (i + 1) 32 w k 0 l ∙ ap (λ m. get_or w m 0) (omega arith) in
         let within : i + k + 1 < length w = omega arith in
         rw (get_or-chunk i 32 w k 0 l, next) (λ h. record { within = within; first = h.0; second = h.1 }, λ s. (s.first, s.second))
-
--- if the mask of the lanes that are at least `least` is 0, there is no such lane
-pub none_at_least : (n least : ℕ) (xs : List ℕ) → n ≤ 64 → length xs ≡ n
-    → IsTrue (eqb (mask_l (map (top 7) (zip2 (λ a b. lane_of_bool (leb a b)) (replicate n least) xs)) % 2 ^ 64) 0) → ¬ (HasLaneAtLeast least xs)
-none_at_least n least xs few p t h =
-    let rest = length-replicate n least in
-    let long : length (zip2 leb (replicate n least) xs) ≡ n = length-zip2 leb (replicate n least) xs (rest ∙ sym p) ∙ rest in
-    let set : IsSet (zip2 leb (replicate n least) xs) h.0 =
-    get_or-zip2 leb (replicate n least) xs h.0 0 0 false (omega (arith, rest, p, h.1.0)) h.1.0 ∙ rw (get_or-replicate n h.0 least 0 (omega (arith, p, h.1.0))) (le-leb least _ h.1.1) in
-    none_set _ n (zip2 leb (replicate n least) xs) few long (ap (λ ms. mask_l ms % 2 ^ 64) (tops_compared w8 leb (replicate n least) xs)) (eqb-true _ 0 t)
-    h.0 (omega arith) (omega (arith, p, h.1.0)) set

@@ -1,8 +1,7 @@
 -- The laws of positions, of lengths and of ASCII bytes.
 use Rattle.wtf8.proofs.Common.{ℕ, List, [], ◌++◌, length, refl, ap, ◌∙◌, sym, subst, arith, append_assoc, length-append, append-nil, append_cancel_left, units}
 use Rattle.wtf8.proofs.Common.{bytes, Reads, IsForm, IsBoundary, ◌≡◌, ◌≢◌, ◌<◌, ◌+◌, ◌-◌, ◌/◌, ◌%◌, inl, ◌∷◌, get_or, drop_at, All-cons, All-drop, All-head}
-use Rattle.wtf8.proofs.Common.{All-nil, All, encoding, IsFront, IsBack, slice_get, Some, zero, suc, ◌≤◌, inr, cases_lt, chunk, length-chunk, get_or-chunk}
-use Rattle.wtf8.proofs.Common.{HasLaneAtLeast}
+use Rattle.wtf8.proofs.Common.{All-nil, All, encoding, IsFront, IsBack, slice_get, Some, zero, suc}
 use Rattle.std.proofs.lemmas.List.{append_cancel_right}
 use Rattle.wtf8.specs.Laws.{FrontAndBackAreWhole}
 use Rattle.wtf8.specs.PositionLaws.{StartIsBoundary, EndIsBoundary, NoneIsBeyondEnd, FrontBoundariesAreOfWhole, WholeBoundariesAreOfFront, WholeBoundariesAreOfBack}
@@ -168,12 +167,3 @@ slice_get-ascii_prefix (p ∷ c) (suc k) low long =
     let whole : bytes (p ∷ c) ≡ p ∷ bytes c = ap (λ e. e ++ bytes c) own.0 in
     let after = slice_get-ascii_prefix c k (λ j l. omega (arith, low (suc j) (omega (arith, l)), ap (λ w. get_or w (suc j) 0) whole)) (omega (arith, long, ap length whole)) in
     ap (λ u. slice_get u (suc k)) (units-cons_one p c (omega (arith, own.1))) ∙ (after ∙ ap (λ w. Some (get_or w (suc k) 0)) (sym whole))
-
--- a block without a lane from 80 on holds bytes below 80
-pub ascii_byte_in_block : (n i : ℕ) (w : List ℕ) → i + n ≤ length w → ¬ (HasLaneAtLeast 0x80 (chunk i n w)) → (j : ℕ) → j < n → get_or w (i + j) 0 < 0x80
-ascii_byte_in_block n i w bound none j l =
-    let lane = get_or-chunk i n w j 0 l in
-    elim (cases_lt (get_or w (i + j) 0) 0x80) [
-      | inl low ↦ low
-      | inr high ↦ absurd (none (j, (omega (arith, length-chunk i n w bound, l), omega (arith, lane, high))))
-    ]

@@ -1,11 +1,16 @@
 -- Blocks of code points of one encoded length, decoded to units.
 use Rattle.wtf8.proofs.Common.{◌≡◌, ℕ, zero, suc, ◌<◌, ◌≤◌, List, [], ◌∷◌, ◌++◌, length, take, drop, get_or, refl, sym, ap, ◌∙◌, arith, IsWellFormed, units}
 use Rattle.wtf8.proofs.Common.{encoding, length-append, units_of, ◌+◌, ◌*◌, ◌%◌, subst, Each1, drop-drop}
-use Rattle.wtf8.proofs.Common.{length-drop, length-take, take-append-drop, get_or_append_left, drop-append-le, FirstPointIs}
+use Rattle.wtf8.proofs.Common.{length-drop, length-take, take-append-drop, get_or_append_left, drop-append-le, FirstPointIs, AreAscii, Wtf8, view_form, view_units}
 use Rattle.wtf8.proofs.lemmas.codec.Encoding.{encoding_cases, one, two, three, four, length-encoding_bounds, encoding-from_ascii_byte}
 use native.Mathlib.Nat.{mul-suc}
 use Rattle.wtf8.specs.private.EncodedRuns.{HasBitPrefix, BeginsWithUnits, lead_bytes_of, unit_of_two, unit_of_three, units_of_run}
-use Rattle.wtf8.proofs.lemmas.codec.Readings.{first_of, IsWellFormed-equal_bytes, Taken-from_first, units-cons_one}
+use Rattle.wtf8.proofs.lemmas.codec.Readings.{first_of, IsWellFormed-equal_bytes, Taken-from_first, units-cons_one, units_from_form}
+use Rattle.wtf8.proofs.lemmas.from_utf16.Transcode.{IsKnownForm-ascii}
+
+-- the units of a view of ASCII bytes are these bytes
+pub view_units-ascii : (view : Wtf8) → AreAscii view.bytes.now → view_units view ≡ view.bytes.now
+view_units-ascii view low = units_from_form _ _ _ (view_form view) (IsKnownForm-ascii view.bytes.now low).form
 
 -- the string after its first `at` bytes, whose units are `v`
 pub record UnitsThenRest (w v : List ℕ) (at : ℕ) (h : IsWellFormed w) : Type 0 where

@@ -13,5 +13,5 @@ returns g c =
     let own = c.self.inside in
     let same = c.deref.ensures.value in
     subst (λ w. IsFirst (SurrogateAt w) 0 c.next_surrogate.result) (same ∙ ap (λ (t : UnitString). t.bytes) c.self.view_is)
-    (first_further (SurrogateAt c.deref.result.now) own.scalar_end c.next_surrogate.result
-    (λ i l at. none_before own.scalar_end own.well_formed i own.scalar_prefix l (subst (λ w. SurrogateAt w i) same at)) c.next_surrogate.ensures)
+    (first_further (SurrogateAt c.deref.result.now) own.known_prefix.end c.next_surrogate.result
+    (λ i l at. none_before own.known_prefix.end own.well_formed i own.scalar_prefix l (subst (λ w. SurrogateAt w i) same at)) c.next_surrogate.ensures)

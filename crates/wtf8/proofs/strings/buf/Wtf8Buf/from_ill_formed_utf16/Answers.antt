@@ -4,9 +4,9 @@ use Rattle.wtf8.proofs.lemmas.strings.ExtendedForms.{scalar-equal_bytes}
 use Rattle.wtf8.proofs.strings.buf.Wtf8Buf.from_ill_formed_utf16.Goals as goal
 
 pub from_well_formed-requires-clause-scalar : goal.from_well_formed-requires-clause-scalar
-from_well_formed-requires-clause-scalar g c known h =
+from_well_formed-requires-clause-scalar g c h =
     let read = c.in_ok-is_known_utf8.ensures.ok in
-    scalar-equal_bytes (well_formed_of read.form) h refl (read.scalar known)
+    c.new.ensures h.points (λ known. scalar-equal_bytes (well_formed_of read.form) h refl (read.scalar known))
 
 pub returns-clause-units : goal.returns-clause-units
 returns-clause-units g c =

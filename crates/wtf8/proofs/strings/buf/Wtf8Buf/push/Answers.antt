@@ -8,7 +8,7 @@ pub invariant_of-self-inside : goal.invariant_of-self-inside
 invariant_of-self-inside g c =
     let own = c.self.inside in
     let call = c.push_point in
-    known_prefix_after_push call.result (number c.args.code_point) own.scalar_end _ own.well_formed c.args.code_point.in_range own.scalar_prefix call.ensures.known
+    known_prefix_after_push call.result (number c.args.code_point) own.known_prefix.end _ own.well_formed c.args.code_point.in_range own.scalar_prefix call.ensures.known
     call.ensures.scalar call.ensures.gains
 
 pub returns-clause-ok : goal.returns-clause-ok

@@ -13,7 +13,7 @@ pub invariant_of-self-inside : goal.invariant_of-self-inside
 invariant_of-self-inside g c =
     let f = scalar_facts c.args.c c.ranges.c.0 in
     let own = c.self.inside in
-    known_prefix_after_push c.push_scalar.result c.args.c own.scalar_end own.scalar_end own.well_formed f.range own.scalar_prefix (omega arith) (λ _. f.not_surrogate)
+    known_prefix_after_push c.push_scalar.result c.args.c own.known_prefix.end own.known_prefix.end own.well_formed f.range own.scalar_prefix (omega arith) (λ _. f.not_surrogate)
     (record { whole = _; extends = c.push_scalar.ensures.units; becomes = c.push_scalar.ensures.bytes })
 
 pub returns-clause-ok : goal.returns-clause-ok

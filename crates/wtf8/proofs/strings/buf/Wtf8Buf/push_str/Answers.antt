@@ -13,7 +13,7 @@ pub invariant_of-self-inside : goal.invariant_of-self-inside
 invariant_of-self-inside g c =
     let own = c.self.inside in
     let other = well_formed_text c.args.other.now c.utf8.other in
-    known_prefix_after_append c.push_text.result other.points own.scalar_end own.scalar_end own.well_formed refl other.clean own.scalar_prefix (omega arith)
+    known_prefix_after_append c.push_text.result other.points own.known_prefix.end own.known_prefix.end own.well_formed refl other.clean own.scalar_prefix (omega arith)
     (λ _. scalar_text c.utf8.other) (record { whole = _; extends = c.push_text.ensures.units; becomes = c.push_text.ensures.bytes })
 
 pub returns-clause-ok : goal.returns-clause-ok

@@ -12,8 +12,8 @@ pub invariant_of-self-inside : goal.invariant_of-self-inside
 invariant_of-self-inside g c =
     let other = c.args.other.well_formed in
     let own = c.self.inside in
-    let end = c.scalar_end_after_push-self-inside.ensures in
-    known_prefix_after_append c.push_view.result other.points own.scalar_end _ own.well_formed refl other.clean own.scalar_prefix
+    let end = c.after_push-self-inside.ensures in
+    known_prefix_after_append c.push_view.result other.points own.known_prefix.end _ own.well_formed refl other.clean own.scalar_prefix
     end.order (λ m. end.scalar (omega (arith, m))) c.push_view.ensures
 
 pub returns-clause-ok : goal.returns-clause-ok

@@ -23,11 +23,11 @@ invariant_of-self-inside g c =
     let h = c.as_wtf8.result.well_formed in
     let x = divided_from_cut c.in-Some-divided.is c.in-Some.ensures.some in
     let own = c.self.inside in
-    let scalar = scalar_to-equal_bytes own.scalar_end own.well_formed h (cc (ap (λ (t : UnitString). t.bytes) c.self.view_is)) own.scalar_prefix in (
+    let scalar = scalar_to-equal_bytes own.known_prefix.end own.well_formed h (cc (ap (λ (t : UnitString). t.bytes) c.self.view_is)) own.scalar_prefix in (
       IsWellFormed-equal_bytes (lead_kept h x) (cc (ap (λ (t : UnitString). t.bytes) c.self.view_is)),
       (
-        scalar_to-cut own.scalar_end c.min-self-inside.result x.front _ _ scalar x.joined (omega (arith, c.min-self-inside.ensures))
-            (omega (arith, x.front_len, c.min-self-inside.ensures)),
+        scalar_to-cut own.known_prefix.end c.up_to-self-inside.result.end x.front _ _ scalar x.joined c.up_to-self-inside.ensures.order
+            (omega (arith, x.front_len, c.up_to-self-inside.ensures.within)),
         tt,
       ),
     )

@@ -1,6 +1,5 @@
 use Rattle.wtf8.proofs.Common.{◌∙◌, ap, sym, subst, IsUtf8, bytes}
 use Rattle.wtf8.proofs.lemmas.strings.Surrogates.{lossy_points-scalar, split_at_first_surrogate, scalar_if_none, utf8_if_none}
-use Rattle.wtf8.proofs.lemmas.codec.Readings.{IsWellFormed-equal_bytes, same_points}
 use Rattle.wtf8.proofs.strings.view.Wtf8.split_at_surrogate.Goals as goal
 
 pub from_utf8_unchecked-requires : goal.from_utf8_unchecked-requires
@@ -11,17 +10,16 @@ returns-in_default-clause-none c =
     let h = c.args.self.well_formed in
     ap bytes (lossy_points-scalar h.points (scalar_if_none h c.in_default.ensures)) ∙ (h.encoded ∙ sym c.from_utf8_unchecked.ensures)
 
-pub split_at-requires-2 : goal.split_at-requires-2
-split_at-requires-2 c = (split_at_first_surrogate c.args.self.well_formed c.in-Some.place c.in-Some.ensures).within
-
 pub from_utf8_unchecked-text-requires : goal.from_utf8_unchecked-text-requires
-from_utf8_unchecked-text-requires c = subst IsUtf8 (sym c.split_at.ensures.front) (split_at_first_surrogate c.args.self.well_formed c.in-Some.place c.in-Some.ensures).text
+from_utf8_unchecked-text-requires c = subst IsUtf8 (sym c.split_at.ensures.front) (split_at_first_surrogate c.args.self.well_formed c.in-Some.position c.in-Some.ensures).text
 
-pub invariant_of-result : goal.invariant_of-result
-invariant_of-result c = record { well_formed = IsWellFormed-equal_bytes (split_at_first_surrogate c.args.self.well_formed c.in-Some.place c.in-Some.ensures).rest c.split_at-2.ensures.back }
+pub skip_bytes-requires : goal.skip_bytes-requires
+skip_bytes-requires c =
+    let parts = split_at_first_surrogate c.args.self.well_formed c.in-Some.position c.in-Some.ensures in
+    record { within = parts.within; well_formed = parts.rest }
 
 pub returns-clause-some : goal.returns-clause-some
 returns-clause-some c =
-    let parts = split_at_first_surrogate c.args.self.well_formed c.in-Some.place c.in-Some.ensures in
+    let parts = split_at_first_surrogate c.args.self.well_formed c.in-Some.position c.in-Some.ensures in
     let text = c.from_utf8_unchecked-text.ensures ∙ c.split_at.ensures.front in
-    parts.lossy_parts ∙ simp (text, same_points c.result-1.given.0 parts.rest c.split_at-2.ensures.back)
+    parts.lossy_parts ∙ simp (text, c.skip_bytes.ensures.points parts.rest)

@@ -1,5 +1,5 @@
 use Rattle.wtf8.proofs.Common.{◌∙◌, ◌∷◌, arith, ap, sym, nat_tests, number}
-use Rattle.wtf8.proofs.lemmas.codec.Readings.{points-nil, first_of, Taken-from_first, same_points}
+use Rattle.wtf8.proofs.lemmas.codec.Readings.{points-nil, first_of, Taken-from_first}
 use Rattle.wtf8.proofs.strings.view.Wtf8.split_first.Goals as goal
 
 pub returns-then-is_empty-clause-none : goal.returns-then-is_empty-clause-none
@@ -8,17 +8,13 @@ returns-then-is_empty-clause-none c = points-nil c.args.self.well_formed (grind 
 pub read-width-requires-clause-front : goal.read-width-requires-clause-front
 read-width-requires-clause-front c = (first_of c.args.self.well_formed (grind (arith, nat_tests))).0
 
-pub split_at-requires : goal.split_at-requires
-split_at-requires c = (Taken-from_first c.args.self.bytes.now 0 c.args.self.well_formed _ _ (grind (arith, nat_tests)) c.read-width.ensures).within
-
-pub invariant_of-result : goal.invariant_of-result
-invariant_of-result c =
-    let t = Taken-from_first c.args.self.bytes.now 0 c.args.self.well_formed (number c.read-width.result.0) c.read-width.result.1 (grind (arith, nat_tests))
-    c.read-width.ensures in
-    record { well_formed = rw c.split_at.ensures.back t.rest }
+pub skip_bytes-requires : goal.skip_bytes-requires
+skip_bytes-requires c =
+    let t = Taken-from_first c.args.self.bytes.now 0 c.args.self.well_formed _ _ (grind (arith, nat_tests)) c.read-width.ensures in
+    record { within = t.within; well_formed = t.rest }
 
 pub returns-clause-some : goal.returns-clause-some
 returns-clause-some c =
     let t = Taken-from_first c.args.self.bytes.now 0 c.args.self.well_formed (number c.read-width.result.0) c.read-width.result.1 (grind (arith, nat_tests))
     c.read-width.ensures in
-    t.joined ∙ ap (λ r. number c.read-width.result.0 ∷ r) (same_points t.rest c.result-1.given.0 (sym c.split_at.ensures.back))
+    t.joined ∙ ap (λ r. number c.read-width.result.0 ∷ r) (sym (c.skip_bytes.ensures.points t.rest))

@@ -1,0 +1,37 @@
+// ASCII in blocks of bytes: whether all bytes are ASCII, and how many at the front are.
+ghost use Rattle.std.specs.Prelude.{◌*◌, ◌≤◌, length, take, IsTrue};
+ghost use Rattle.wtf8.specs.private.ConvertedPrefix.{AreAscii};
+
+use crate::lanes::masks::first_set_lane;
+use std::simd::prelude::*;
+
+/// The number of ASCII bytes before the first byte that is not ASCII.
+#[inline(always)]
+pub(crate) fn ascii_run_len<const N: usize>(bytes: Simd<u8, N>) -> usize
+    requires { N ≤ u64.BITS }
+    ensures within { result ≤ N }
+    ensures ascii { AreAscii (take result bytes.entry) }
+{
+    first_set_lane(bytes.simd_ge(Simd::splat(0x80)).to_bitmask()).unwrap_or(N)
+}
+
+/// Whether all bytes of a block are ASCII.
+#[inline(always)]
+pub(crate) fn is_ascii_block<const N: usize>(bytes: Simd<u8, N>) -> bool
+    requires { N ≤ u64.BITS }
+    ensures { IsTrue result → AreAscii bytes.entry }
+{
+    bytes.simd_ge(Simd::splat(0x80)).to_bitmask() == 0
+}
+
+/// Whether `N` to `2 * N` bytes are all ASCII, by loads of the first and the last `N`, which may overlap.
+#[inline(always)]
+pub(crate) fn is_ascii_overlapping<const N: usize>(bytes: &[u8]) -> bool
+    requires lanes { N ≤ u64.BITS }
+    requires all { (N ≤ length bytes.now) × (length bytes.now ≤ 2 * N) }
+    ensures { IsTrue result → AreAscii bytes.now }
+{
+    let last = bytes.len() - N;
+    is_ascii_block(Simd::<u8, N>::from_slice(bytes))
+        && is_ascii_block(Simd::<u8, N>::from_slice(&bytes[last..]))
+}

@@ -1,0 +1,50 @@
+// The spare capacity of byte vectors: what is left of it, and requests for more.
+ghost use Rattle.std.specs.Prelude.{◌≡◌, ◌+◌, ◌≤◌, OnOk, IsOk, vec_len, vec_capacity};
+
+use std::alloc::{AllocError, Allocator};
+
+/// Returns the spare capacity in bytes.
+#[inline(always)]
+pub(crate) fn spare_capacity<A: Allocator>(bytes: &Vec<u8, A>) -> usize
+    ensures { vec_len bytes.now + result ≡ vec_capacity bytes.now }
+{
+    bytes.capacity() - bytes.len()
+}
+
+/// Reserves `count` bytes of spare capacity. The truncation removes nothing: it tells the compiler the length, which a
+/// loop that follows then keeps in a register.
+#[inline(always)]
+pub(crate) fn reserve_with_known_len<A: Allocator>(
+    bytes: &mut Vec<u8, A>,
+    count: usize,
+) -> Result<(), AllocError>
+    ensures items { bytes.new.items ≡ bytes.old.items }
+    ensures ok { OnOk result (vec_len bytes.new + count ≤ vec_capacity bytes.new) }
+    ensures room { vec_len bytes.old + count ≤ vec_capacity bytes.old → IsOk result }
+    ensures capacity { vec_capacity bytes.old ≤ vec_capacity bytes.new }
+{
+    let len = bytes.len();
+    bytes.reserve(count)?;
+    bytes.truncate(len);
+    Ok(())
+}
+
+/// Reserves `count` bytes of spare capacity if `spare`, the present spare capacity, is not enough.
+#[inline(always)]
+pub(crate) fn reserve_if_short<A: Allocator>(
+    bytes: &mut Vec<u8, A>,
+    spare: usize,
+    count: usize,
+) -> Result<(), AllocError>
+    requires { vec_len bytes.old + spare ≡ vec_capacity bytes.old }
+    ensures items { bytes.new.items ≡ bytes.old.items }
+    ensures len { vec_len bytes.new ≡ vec_len bytes.old }
+    ensures ok { OnOk result (vec_len bytes.new + count ≤ vec_capacity bytes.new) }
+    ensures room { vec_len bytes.old + count ≤ vec_capacity bytes.old → IsOk result }
+    ensures capacity { vec_capacity bytes.old ≤ vec_capacity bytes.new }
+{
+    if count <= spare {
+        return Ok(());
+    }
+    bytes.reserve(count)
+}

@@ -1,0 +1,179 @@
+// Numbers of 16-bit code units: of a string, and of the code points that begin before a byte index.
+ghost use Rattle.std.specs.Prelude.{◌≡◌, ◌+◌, ◌*◌, ◌^◌, ◌<◌, ◌≤◌, length, map, take, drop, IfSome};
+ghost use Rattle.wtf8.specs.private.UnitCounts.{utf16_len, sum_utf16_len, IsCursor};
+ghost use Rattle.wtf8.specs.View.{view_units};
+
+use crate::codec::encoding;
+use crate::lanes::ascii::is_ascii_overlapping;
+use crate::lanes::{BLOCK, VECTOR};
+use crate::strings::view::Wtf8;
+use std::simd::prelude::*;
+
+/// Bytes in a block when all units of a string are counted, after the groups of `SUMMED_BLOCKS` blocks.
+const HALF_BLOCK: usize = BLOCK / 2;
+
+/// Bytes in the smallest block that a counting loop takes.
+pub(crate) const HALF_VECTOR: usize = VECTOR / 2;
+
+/// Blocks that are added lane by lane before one horizontal sum: a lane of each is at most 2, so a `u8` lane suffices.
+const SUMMED_BLOCKS: usize = 8;
+
+/// The fewest units that can begin in `SUMMED_BLOCKS` blocks: a unit takes at most three bytes.
+const LEAST_UNITS_SUMMED: usize = SUMMED_BLOCKS * BLOCK / 3;
+
+/// A byte index, which need not be a boundary, and the number of units of the code points that begin before it.
+#[derive(Clone, Copy)]
+pub(crate) struct UnitCursor {
+    pub(crate) at: usize,
+    pub(crate) units_before: usize,
+}
+
+/// Returns the number of units of the code point that `byte` begins; 0 for a continuation byte.
+#[tactic(auto, unfolding(crate::specs::private::UnitCounts::utf16_len))]
+pub(crate) fn utf16_len_of_byte(byte: u8) -> usize
+    ensures { result ≡ utf16_len byte }
+{
+    usize::from(encoding::begins_code_point(byte)) + usize::from(0xF0 <= byte)
+}
+
+/// Returns for each byte the number of units of the code point that it begins; 0 for a continuation byte.
+#[inline(always)]
+fn utf16_len_of_each<const N: usize>(bytes: Simd<u8, N>) -> Simd<u8, N>
+    ensures { result ≡ map utf16_len bytes.entry }
+{
+    let zero = Simd::<u8, N>::splat(0);
+    let one = Simd::<u8, N>::splat(1);
+    let begins = bytes.simd_lt(Simd::splat(0x80)) | bytes.simd_ge(Simd::splat(0xC0));
+    let pairs = bytes.simd_ge(Simd::splat(0xF0));
+    begins.select(one, zero).strict_add(pairs.select(one, zero))
+}
+
+/// Returns the number of units of the code points that begin in a block: at most 2 per lane, so a `u8` sum suffices.
+#[inline(always)]
+fn utf16_len_of_block<const N: usize>(bytes: Simd<u8, N>) -> usize
+    requires { N ≤ u64.BITS }
+    ensures { result ≡ sum_utf16_len bytes.entry }
+{
+    usize::from(utf16_len_of_each(bytes).strict_reduce_sum())
+}
+
+/// Returns the number of units of the code points that begin in the `SUMMED_BLOCKS` blocks from `at` on, by one
+/// horizontal sum.
+#[inline(always)]
+fn utf16_len_of_blocks(bytes: &[u8], at: usize) -> usize
+    requires { at + SUMMED_BLOCKS * BLOCK ≤ length bytes.now }
+    ensures { result ≡ sum_utf16_len (take (SUMMED_BLOCKS * BLOCK) (drop at bytes.now)) }
+{
+    let mut lanes = Simd::<u8, BLOCK>::splat(0);
+    for block in 0..SUMMED_BLOCKS {
+        let bytes = Simd::<u8, BLOCK>::from_slice(&bytes[at + block * BLOCK..]);
+        lanes = lanes.strict_add(utf16_len_of_each(bytes));
+    }
+    usize::from(lanes.cast::<u16>().strict_reduce_sum())
+}
+
+/// Moves `from` past the next `N` bytes, or returns `None` if fewer are left or the code point that holds the unit
+/// begins in them.
+#[inline(always)]
+#[tactic(auto, using(crate::proofs::lemmas::strings::Positions::sum_utf16_len_take_add))]
+pub(crate) fn skip_block<const N: usize>(
+    bytes: &[u8],
+    unit: usize,
+    from: UnitCursor,
+) -> Option<UnitCursor>
+    requires lanes { (0 < N) × (N ≤ u64.BITS) }
+    requires counted { IsCursor bytes.now unit from }
+    ensures counted { IfSome result (λ cursor. IsCursor bytes.now unit cursor) }
+    ensures further { IfSome result (λ cursor. from.at < cursor.at) }
+{
+    if bytes.len() - from.at < N {
+        return None;
+    }
+    let more = utf16_len_of_block(Simd::<u8, N>::from_slice(&bytes[from.at..]));
+    if unit - from.units_before < more {
+        return None;
+    }
+    Some(UnitCursor {
+        at: from.at + N,
+        units_before: from.units_before + more,
+    })
+}
+
+/// Skips groups of `SUMMED_BLOCKS` blocks from the start, before the code point that holds the unit, while the unit is
+/// at least `LEAST_UNITS_SUMMED` units ahead.
+#[inline(always)]
+#[tactic(auto, using(crate::proofs::lemmas::strings::Positions::sum_utf16_len_take_add))]
+pub(crate) fn skip_summed_blocks(bytes: &[u8], unit: usize) -> UnitCursor
+    ensures { IsCursor bytes.now unit result }
+{
+    let mut at = 0;
+    let mut units_before = 0;
+    while SUMMED_BLOCKS * BLOCK <= bytes.len() - at && LEAST_UNITS_SUMMED <= unit - units_before {
+        let more = utf16_len_of_blocks(bytes, at);
+        if unit - units_before < more {
+            return UnitCursor { at, units_before };
+        }
+        units_before += more;
+        at += SUMMED_BLOCKS * BLOCK;
+    }
+    UnitCursor { at, units_before }
+}
+
+/// Returns the number of units of all the bytes.
+fn count_units(bytes: &[u8]) -> usize
+    requires { sum_utf16_len bytes.now < 2 ^ 64 }
+    ensures { result ≡ sum_utf16_len bytes.now }
+{
+    let mut cursor = UnitCursor {
+        at: 0,
+        units_before: 0,
+    };
+    if HALF_BLOCK <= bytes.len() {
+        cursor = skip_all_blocks(bytes);
+    }
+    while let Some(next) = skip_block::<HALF_VECTOR>(bytes, usize::MAX, cursor) {
+        cursor = next;
+    }
+    let cursor = skip_block::<4>(bytes, usize::MAX, cursor).unwrap_or(cursor);
+    count_units_from(bytes, cursor)
+}
+
+/// Counts groups of `SUMMED_BLOCKS` blocks, then blocks of `HALF_BLOCK` bytes. Not inlined, so that the short path
+/// stays small.
+#[inline(never)]
+fn skip_all_blocks(bytes: &[u8]) -> UnitCursor
+    requires { sum_utf16_len bytes.now < 2 ^ 64 }
+    ensures { IsCursor bytes.now usize.MAX result }
+{
+    let mut cursor = skip_summed_blocks(bytes, usize::MAX);
+    while let Some(next) = skip_block::<HALF_BLOCK>(bytes, usize::MAX, cursor) {
+        cursor = next;
+    }
+    cursor
+}
+
+/// Returns the number of units of all the bytes, counted byte by byte from `from` on.
+fn count_units_from(bytes: &[u8], from: UnitCursor) -> usize
+    requires counted { IsCursor bytes.now usize.MAX from }
+    requires fits { sum_utf16_len bytes.now < 2 ^ 64 }
+    ensures { result ≡ sum_utf16_len bytes.now }
+{
+    let mut units = from.units_before;
+    for at in from.at..bytes.len() {
+        units += utf16_len_of_byte(bytes[at]);
+    }
+    units
+}
+
+impl<'a> Wtf8<'a> {
+    /// The length in 16-bit code units.
+    pub fn unit_len(&self) -> usize
+        ensures { result ≡ length (view_units self.now) }
+    {
+        match self.len() {
+            4..=7 if is_ascii_overlapping::<4>(self.bytes) => self.len(),
+            8..=15 if is_ascii_overlapping::<HALF_VECTOR>(self.bytes) => self.len(),
+            _ => count_units(self.bytes),
+        }
+    }
+}

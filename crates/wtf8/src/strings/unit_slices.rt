@@ -1,0 +1,92 @@
+// Parts of a string, cut at 16-bit code units.
+ghost use Rattle.std.specs.Prelude.{◌≡◌, ◌++◌, ◌<◌, ◌≤◌, ◌↔◌, length, take, drop, IsSome};
+ghost use Rattle.std.specs.Option.{option_to_list};
+ghost use Rattle.wtf8.specs.UnitPosition.{units_of_slice, DividesPair};
+ghost use Rattle.wtf8.specs.View.{view_units};
+
+use crate::codec::surrogates::{lead_of, trail_of};
+use crate::strings::unit_positions::find_cut;
+use crate::strings::view::Wtf8;
+
+/// A part cut at code units. If a cut splits a surrogate pair, the half inside is kept beside the whole code points.
+#[derive(Clone, Copy)]
+pub struct UnitSlice<'a> {
+    /// The trail surrogate of a pair that the beginning of the part splits.
+    pub trail: Option<u16>,
+    /// The whole code points of the part.
+    pub whole: Wtf8<'a>,
+    /// The lead surrogate of a pair that the end of the part splits.
+    pub lead: Option<u16>,
+}
+
+/// Returns 1 if there is a half of a pair, else 0.
+#[inline(always)]
+fn half_len(half: Option<u16>) -> usize
+    ensures count { result ≡ length (option_to_list half) }
+    ensures most { result ≤ 1 }
+{
+    match half {
+        Some(_) => 1,
+        None => 0,
+    }
+}
+
+impl<'a> Wtf8<'a> {
+    /// The part from code unit `begin` to before code unit `end`, which must be in order and at most the number of code
+    /// units. If an end splits a surrogate pair, the half inside is returned beside the whole code points. Borrows the
+    /// bytes for `'a`, so it may outlive this view.
+    pub fn slice_units(&self, begin: usize, end: usize) -> UnitSlice<'a>
+        requires order { begin ≤ end }
+        requires within { end ≤ length (view_units self.now) }
+        ensures units { units_of_slice result ≡ drop begin (take end (view_units self.now)) }
+
+        // If the part is not empty, it has a half at an end exactly if that end splits a pair.
+        ensures trail { begin < end → (IsSome result.trail ↔ DividesPair (view_units self.now) begin) }
+        ensures lead { begin < end → (IsSome result.lead ↔ DividesPair (view_units self.now) end) }
+    {
+        if begin == end {
+            return UnitSlice {
+                trail: None,
+                whole: Wtf8::from_str(""),
+                lead: None,
+            };
+        }
+        let (trail, rest) = self.units_after(begin);
+        let (whole, lead) = rest.first_units(end - begin - half_len(trail));
+        UnitSlice { trail, whole, lead }
+    }
+
+    /// Returns the whole code points of the first `n` units, and the lead of a pair that `n` splits.
+    fn first_units(self, n: usize) -> (Wtf8<'a>, Option<u16>)
+        requires { n ≤ length (view_units self) }
+        ensures units { view_units result.0 ++ option_to_list result.1 ≡ take n (view_units self.entry) }
+        ensures lead { IsSome result.1 ↔ DividesPair (view_units self.entry) n }
+    {
+        let Some(cut) = find_cut(self, n) else {
+            return (self, None);
+        };
+        let front = self.slice_to(cut.position);
+        match cut.divided {
+            None => (front, None),
+            Some(value) => (front, Some(lead_of(value) as u16)),
+        }
+    }
+
+    /// Returns the trail of a pair that `n` splits, and the whole code points after the first `n` units.
+    fn units_after(self, n: usize) -> (Option<u16>, Wtf8<'a>)
+        requires { n ≤ length (view_units self) }
+        ensures units { option_to_list result.0 ++ view_units result.1 ≡ drop n (view_units self.entry) }
+        ensures trail { IsSome result.0 ↔ DividesPair (view_units self.entry) n }
+    {
+        let Some(cut) = find_cut(self, n) else {
+            return (None, self);
+        };
+        match cut.divided {
+            None => (None, self.slice_from(cut.position)),
+            Some(value) => (
+                Some(trail_of(value) as u16),
+                self.slice_from(cut.position + 4),
+            ),
+        }
+    }
+}
