@@ -62,11 +62,16 @@ struct Row {
 
 /// The rows of the table: the number of the loop, the name and the input of each.
 fn all_rows() -> Vec<(u32, String, Input)> {
+    rows_of(|_| true)
+}
+
+/// The rows of the table with inputs whose names are chosen.
+fn rows_of(is_chosen: impl Fn(&str) -> bool) -> Vec<(u32, String, Input)> {
     let mut rows = Vec::new();
-    for input in inputs::all() {
+    for input in inputs::chosen(&is_chosen) {
         rows.extend(LOOPS.map(|(number, call)| row(number, call, &input)));
     }
-    for (which, input) in inputs::pairs() {
+    for (which, input) in inputs::pairs(&is_chosen) {
         let comparing = LOOPS
             .into_iter()
             .filter(|(number, _)| COMPARING.contains(number));
@@ -131,7 +136,9 @@ pub fn rows(filter: &str) -> bool {
 
 /// Runs one column's loop of a row and nothing else, for a tool that measures it.
 pub fn run_loop(column: &str, row: &str, rounds: &str) -> bool {
-    let found = all_rows().into_iter().find(|(_, name, _)| name == row);
+    let input_name = row.split('\t').next_back().unwrap_or(row);
+    let of_input = rows_of(|name| name == input_name);
+    let found = of_input.into_iter().find(|(_, name, _)| name == row);
     let Some((number, _, input)) = found else {
         fail(&format!("no row {row} (compare rows lists them)"));
     };

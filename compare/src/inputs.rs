@@ -41,9 +41,24 @@ const TEXT: usize = 1 << 16;
 /// The names of the inputs for `UnitText`.
 pub const NAMES_OF_TEXTS: [&str; 3] = ["ASCII", "CJK", "mixed"];
 
-/// All inputs, in the order of the table.
-pub fn all() -> Vec<Input> {
-    let mut inputs = vec![
+/// An input whose units are not made yet, since making all of them takes long beside one row.
+struct Recipe {
+    name: &'static str,
+    make: Box<dyn FnOnce() -> Vec<u16>>,
+}
+
+impl Recipe {
+    fn new(name: &'static str, make: impl FnOnce() -> Vec<u16> + 'static) -> Recipe {
+        Recipe {
+            name,
+            make: Box::new(make),
+        }
+    }
+}
+
+/// The inputs whose names are chosen, in the order of the table.
+pub fn chosen(is_chosen: impl Fn(&str) -> bool) -> Vec<Input> {
+    let mut recipes = vec![
         long("ASCII", |random| random.between(0x20, 0x7E)),
         long("Latin", |random| random.between(0xC0, 0x24F)),
         long("CJK", |random| random.between(0x4E00, 0x9FFF)),
@@ -67,22 +82,24 @@ pub fn all() -> Vec<Input> {
         }),
     ];
     for (name, length) in [("5 units", 5), ("12 units", 12), ("40 units", 40)] {
-        let units = units(length, |random| random.between(0x20, 0x7E));
-        inputs.push(Input::new(name, units));
+        let make = move || units(length, |random| random.between(0x20, 0x7E));
+        recipes.push(Recipe::new(name, make));
     }
     let kinds = "a\u{E9}\u{4E2D}z\u{1F600}\u{436}\u{65E5}b\u{A3}\u{10FFFF}";
-    inputs.push(Input::new(
-        KINDS_THAT_DIFFER,
-        kinds.encode_utf16().collect(),
-    ));
-    inputs.push(joining());
-    inputs.extend(texts_of_people());
-    inputs
+    recipes.push(Recipe::new(KINDS_THAT_DIFFER, || {
+        kinds.encode_utf16().collect()
+    }));
+    recipes.push(Recipe::new("40 units, ends that join", joining));
+    recipes.extend(texts_of_people());
+    let chosen = recipes.into_iter().filter(|recipe| is_chosen(recipe.name));
+    chosen
+        .map(|recipe| Input::new(recipe.name, (recipe.make)()))
+        .collect()
 }
 
 /// The inputs that are compared with strings that differ from them in one unit, each with the name of that unit's
 /// index: first, middle or last.
-pub fn pairs() -> Vec<(&'static str, Input)> {
+pub fn pairs(is_chosen: impl Fn(&str) -> bool) -> Vec<(&'static str, Input)> {
     let names = [
         "ASCII",
         "CJK",
@@ -92,10 +109,8 @@ pub fn pairs() -> Vec<(&'static str, Input)> {
         "40 units",
         KINDS_THAT_DIFFER,
     ];
-    let inputs = all()
-        .into_iter()
-        .filter(|input| names.contains(&input.name.as_str()));
-    inputs.flat_map(differing).collect()
+    let inputs = chosen(|name| names.contains(&name) && is_chosen(name));
+    inputs.into_iter().flat_map(differing).collect()
 }
 
 fn differing(input: Input) -> [(&'static str, Input); 3] {
@@ -130,11 +145,13 @@ pub fn lines() -> Input {
 }
 
 /// Inputs like real texts: none is of one kind, and none repeats.
-fn texts_of_people() -> [Input; 5] {
-    let letter = |random: &mut Random| match random.below(6) {
-        0 => 0x20,
-        _ => random.between(0x61, 0x7A),
-    };
+fn texts_of_people() -> [Recipe; 5] {
+    fn letter(random: &mut Random) -> u32 {
+        match random.below(6) {
+            0 => 0x20,
+            _ => random.between(0x61, 0x7A),
+        }
+    }
     [
         // One in twelve is an accented letter.
         text("French", |random| match random.below(12) {
@@ -185,19 +202,19 @@ fn mixed(random: &mut Random) -> u32 {
 }
 
 /// A string that begins with a trail and ends with a lead, so that it forms a pair with a copy before or after it.
-fn joining() -> Input {
+fn joining() -> Vec<u16> {
     let mut units = units(40, |random| random.between(0x20, 0x7E));
     units[0] = 0xDC00;
     units[39] = 0xD83D;
-    Input::new("40 units, ends that join", units)
+    units
 }
 
-fn text(name: &'static str, point: impl Fn(&mut Random) -> u32) -> Input {
-    Input::new(name, units(TEXT, point))
+fn text(name: &'static str, point: impl Fn(&mut Random) -> u32 + 'static) -> Recipe {
+    Recipe::new(name, move || units(TEXT, point))
 }
 
-fn long(name: &'static str, point: impl Fn(&mut Random) -> u32) -> Input {
-    Input::new(name, units(LONG, point))
+fn long(name: &'static str, point: impl Fn(&mut Random) -> u32 + 'static) -> Recipe {
+    Recipe::new(name, move || units(LONG, point))
 }
 
 fn units(length: usize, point: impl Fn(&mut Random) -> u32) -> Vec<u16> {

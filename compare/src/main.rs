@@ -21,7 +21,6 @@ mod model;
 mod original;
 mod ours;
 mod pairs;
-mod picture;
 mod pushed;
 mod random;
 mod record;
@@ -48,7 +47,6 @@ const USAGE: &str = "usage: compare differ [--seed S] [--cases N] [--every-point
        compare record FOLDER [--seed S] [--cases N]
        compare bench FILE [FILTER]
        compare table FILE..
-       compare picture TABLE FILE
        compare rows [FILTER]
        compare texts [FILTER]
        compare loop proved|crate ROW ROUNDS";
@@ -76,7 +74,6 @@ fn main() -> ExitCode {
         ["bench", file] => bench::run("", Path::new(file)),
         ["bench", file, filter] => bench::run(filter, Path::new(file)),
         ["table", ref files @ ..] if !files.is_empty() => bench::table(files),
-        ["picture", table, file] => picture::run(Path::new(table), Path::new(file)),
         ["texts"] => texts::run(""),
         ["texts", filter] => texts::run(filter),
         ["rows"] => bench::rows(""),
