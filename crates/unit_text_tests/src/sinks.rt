@@ -1,9 +1,9 @@
 // `Debug` output of texts through a sink that refuses a write.
 use std::alloc::{AllocError, Global};
 use std::fmt::Write;
-use std::test::Fail;
 use unit_text::UnitText;
 use wtf8_tests::sinks::Sink;
+use wtf8_tests::wrong::Wrong;
 
 /// Writes the debug output, with a sign and a width if `is_styled`, to a sink that refuses write number `refused`.
 /// Fails unless it ends there, or is `expected` if no write is refused. Returns the number of writes.
@@ -13,7 +13,7 @@ fn writes_of(
     is_styled: bool,
     refused: u32,
     expected: &str,
-) -> Result<u32, Fail> {
+) -> Result<u32, Wrong> {
     let mut sink = Sink::new(alloc, refused);
     let is_ok = if is_styled {
         write!(sink, "{text:+3000?}").is_ok()
@@ -21,13 +21,13 @@ fn writes_of(
         write!(sink, "{text:?}").is_ok()
     };
     if is_ok != sink.has_taken(expected) {
-        return Err(Fail::new("the result is not the sink's"));
+        return Err(Wrong::Outcome);
     }
     sink.expect_end(is_ok, expected)
 }
 
 /// Refuses each write of the debug output in turn. Fails unless the output ends there.
-fn expect_ends(alloc: Global, units: &[u16], expected: &str) -> Result<(), Fail> {
+fn expect_ends(alloc: Global, units: &[u16], expected: &str) -> Result<(), Wrong> {
     let text = UnitText::from_units(alloc, units)?;
     for is_styled in [false, true] {
         let writes = writes_of(alloc, &text, is_styled, u32::MAX, expected)?;
@@ -51,7 +51,7 @@ fn long_text(alloc: Global) -> Result<(Vec<u16>, String), AllocError> {
 }
 
 #[test]
-fn a_debug_text_ends_at_a_refused_write(rt: HostRuntime) -> Result<(), Fail> {
+fn a_debug_text_ends_at_a_refused_write(rt: HostRuntime) -> Result<(), Wrong> {
     expect_ends(rt.alloc(), &[], "\"\"")?;
     expect_ends(rt.alloc(), &[0xD83D, 0xDCA9], "\"\u{1F4A9}\"")?;
     expect_ends(
