@@ -152,7 +152,7 @@ fn expect_kept(alloc: Global, units: &[u16]) -> Result<(), Fail> {
     expect_copied(alloc, &text, units)
 }
 
-/// Fails unless the list of kinds with this length and code comes back.
+/// Fails unless a string of the units `list_of_kinds(length, code)`, and a clone of it, give them back.
 fn expect_list_kept(alloc: Global, length: u32, code: usize) -> Result<(), Fail> {
     expect_kept(alloc, &list_of_kinds(alloc, length, code)?)
 }

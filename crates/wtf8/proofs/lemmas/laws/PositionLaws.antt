@@ -169,7 +169,7 @@ slice_get-ascii_prefix (p ∷ c) (suc k) low long =
     let after = slice_get-ascii_prefix c k (λ j l. omega (arith, low (suc j) (omega (arith, l)), ap (λ w. get_or w (suc j) 0) whole)) (omega (arith, long, ap length whole)) in
     ap (λ u. slice_get u (suc k)) (units-cons_one p c (omega (arith, own.1))) ∙ (after ∙ ap (λ w. Some (get_or w (suc k) 0)) (sym whole))
 
--- a block without a lane from 80 on holds bytes below 80
+-- if no lane of a block is 80 or more, its bytes are below 80
 pub ascii_byte_in_block : (n i : ℕ) (w : List ℕ) → i + n ≤ length w → ¬ (HasLaneAtLeast 0x80 (chunk i n w)) → (j : ℕ) → j < n → get_or w (i + j) 0 < 0x80
 ascii_byte_in_block n i w bound none j l =
     let lane = get_or-chunk i n w j 0 l in

@@ -5,7 +5,7 @@ use Rattle.wtf8.proofs.lemmas.codec.Readings.{units_from_form}
 use Rattle.wtf8.proofs.lemmas.from_utf16.Transcode.{IsKnownForm-ascii}
 use Rattle.wtf8.proofs.strings.unit_positions.is_ascii_overlapping.Goals as goal
 
--- a byte in a block without a lane from 80 on is ASCII
+-- if no lane of a block is 80 or more, a byte at an index in it is ASCII
 ascii_byte_in_lanes : (w : List ℕ) (n at : ℕ) → at + n ≤ length w → ¬ (HasLaneAtLeast 0x80 (chunk at n w)) → (i : ℕ) → at ≤ i → i < at + n → get_or w i 0 < 0x80
 ascii_byte_in_lanes w n at bound low i l m =
     let same : at + (i - at) ≡ i = omega (arith, l) in
