@@ -5,7 +5,8 @@ use std::alloc::Global;
 use std::test::Fail;
 use wtf8::{UnitSlice, Wtf8, Wtf8Buf};
 
-/// Whether `ascii_unit_at(n)` returns `unit`. Makes no call and returns true unless `text` is ASCII and longer than `n`.
+/// Whether `ascii_unit_at(n)` returns `unit`. Makes no call and returns true unless `text` is ASCII and longer than
+/// `n`.
 fn is_ascii_unit(text: Wtf8<'_>, n: usize, unit: u16) -> bool {
     if text.len() == text.unit_len() && n < text.len() {
         return text.ascii_unit_at(n) == unit;
