@@ -375,8 +375,8 @@ function indexesOf(length) {
   return [...new Set(indexes.filter((at) => 0 <= at && at < length))];
 }
 
-// A long text read unit by unit, and by pieces that begin or end at each index of `indexesOf`. The second text is equal,
-// so that a slice to nothing and a concatenation restore the first.
+// A long text read unit by unit, and by pieces that begin or end at each index of `indexesOf`. The second text is
+// equal, so that a slice to nothing and a concatenation restore the first.
 function longScript(units) {
   const last = units.length - 1;
   const again = [['slice', 0, 0], ['concat']];

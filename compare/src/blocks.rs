@@ -128,9 +128,9 @@ fn made_and_appended(units: &[u16], before: &[u16]) -> [Call; 2] {
     ]
 }
 
-/// Up to 14 groups of eight units, first units of three bytes and then units of two, in each proportion; after them eight
-/// units that take the most bytes. So a buffer that is filled eight units at a time has each possible number of free
-/// bytes when the last eight come.
+/// Up to 14 groups of eight units, first units of three bytes and then units of two, in each proportion; after them
+/// eight units that take the most bytes. So a buffer that is filled eight units at a time has each possible number of
+/// free bytes when the last eight come.
 pub fn filled_blocks() -> Vec<Vec<Call>> {
     let mut scripts = Vec::new();
     for last in [
@@ -165,16 +165,16 @@ pub fn last_blocks() -> Vec<Vec<Call>> {
     scripts
 }
 
-/// Makes a string of `front` and `letters` letters with `other` at `index` among these, and appends its units to an empty
-/// vector.
+/// Makes a string of `front` and `letters` letters with `other` at `index` among these, and appends its units to an
+/// empty vector.
 fn ended_by(front: &[u16], letters: usize, index: usize, other: &[u16]) -> [Call; 2] {
     let (before, after) = ([0x61; 34], [0x62; 34]);
     let units = [front, &before[..index], other, &after[..letters - index]].concat();
     made_and_appended(&units, &[])
 }
 
-/// Texts of each length from 0 to `MOST_BYTES`: pushed to an empty string, to a letter and to a lead surrogate, and made
-/// into a string or a view by every call that does so.
+/// Texts of each length from 0 to `MOST_BYTES`: pushed to an empty string, to a letter and to a lead surrogate, and
+/// made into a string or a view by every call that does so.
 pub fn texts_of_each_length() -> Vec<Vec<Call>> {
     let mut scripts = Vec::new();
     for base in [BASES[0], BASES[1], BASES[3], BASES[5]] {

@@ -196,17 +196,17 @@ impl Case {
 
     /// The index of the first call that does not fit in the capacity at the start.
     fn stops_at(&self) -> Option<usize> {
-        let room = usize::from(byte_len(&self.start)) + usize::from(self.spare);
+        let capacity = usize::from(byte_len(&self.start)) + usize::from(self.spare);
         let mut units = self.start.clone();
         self.builds.iter().position(|build| {
             let len = usize::from(byte_len(&units));
             self.apply(build, &mut units);
-            let wanted = match build {
+            let needed = match build {
                 Build::Reserve(additional) => len + usize::from(*additional),
                 Build::Extend(count) => len + usize::from(*count).min(self.points.len()),
                 _ => 0,
             };
-            wanted.max(usize::from(byte_len(&units))) > room
+            needed.max(usize::from(byte_len(&units))) > capacity
         })
     }
 }

@@ -12,7 +12,8 @@ fn ten_bits() -> Vec<u16> {
     bits
 }
 
-/// Each lead whose low ten bits are among `ten_bits`, joined with each such trail, and each of them lone next to letters.
+/// Each lead whose low ten bits are among `ten_bits`, joined with each such trail, and each of them lone next to
+/// letters.
 pub fn pairs() -> Vec<Vec<Call>> {
     let bits = ten_bits();
     let mut scripts = Vec::new();

@@ -147,7 +147,7 @@ impl Machine {
     pub fn apply_all(&mut self, reader: &mut Reader<'_>) {
         let register = reader.register();
         let mut string = self.strings[register].clone();
-        let room = match (reader.number(), reader.unit()) {
+        let max_len = match (reader.number(), reader.unit()) {
             (_, UNBOUNDED) => usize::MAX,
             (spare, _) => string.len() + spare,
         };
@@ -161,7 +161,7 @@ impl Machine {
             if is_stopped {
                 continue;
             }
-            match pieces.apply_within(&build, &mut string, room) {
+            match pieces.apply_within(&build, &mut string, max_len) {
                 Some(Applied::Done(is_done)) => {
                     done += 1;
                     refused += usize::from(!is_done);
@@ -260,23 +260,23 @@ impl Pieces {
         Some(true)
     }
 
-    /// Applies a call to a string whose length may not exceed `room`.
-    fn apply_within(&self, build: &Build, string: &mut Wtf8Buf, room: usize) -> Option<Applied> {
-        if room == usize::MAX {
+    /// Applies a call to a string whose length may not exceed `max_len`.
+    fn apply_within(&self, build: &Build, string: &mut Wtf8Buf, max_len: usize) -> Option<Applied> {
+        if max_len == usize::MAX {
             return self.apply(build, string).map(Applied::Done);
         }
         match build {
-            Build::Reserve(additional) if string.len() + usize::from(*additional) > room => {
+            Build::Reserve(additional) if string.len() + usize::from(*additional) > max_len => {
                 return Some(Applied::Stopped)
             }
             Build::Extend(count) => {
-                return Some(extend_within(self.points_up_to(*count), string, room))
+                return Some(extend_within(self.points_up_to(*count), string, max_len))
             }
             _ => {}
         }
         let mut after = string.clone();
         let is_done = self.apply(build, &mut after)?;
-        if after.len() > room {
+        if after.len() > max_len {
             return Some(Applied::Stopped);
         }
         *string = after;
@@ -285,14 +285,14 @@ impl Pieces {
 }
 
 /// Stops unless a byte for each code point fits, then pushes code points up to the one that does not fit.
-fn extend_within(points: &[CodePoint], string: &mut Wtf8Buf, room: usize) -> Applied {
-    if string.len() + points.len() > room {
+fn extend_within(points: &[CodePoint], string: &mut Wtf8Buf, max_len: usize) -> Applied {
+    if string.len() + points.len() > max_len {
         return Applied::Stopped;
     }
     for point in points {
         let mut after = string.clone();
         after.push(*point);
-        if after.len() > room {
+        if after.len() > max_len {
             return Applied::Stopped;
         }
         *string = after;

@@ -79,8 +79,8 @@ fn pushed(alloc: Global, text: &mut Text<'_>, kind: &[u16; 6]) -> Result<Vec<u16
     Ok(units)
 }
 
-/// Pushes units that repeat `kind` to an empty text. Returns the number of refused pushes. Fails unless the text has the
-/// units of all other pushes.
+/// Pushes units that repeat `kind` to an empty text. Returns the number of refused pushes. Fails unless the text has
+/// the units of all other pushes.
 fn push_and_expect<'a>(
     alloc: Global,
     heap: Lent<'a>,

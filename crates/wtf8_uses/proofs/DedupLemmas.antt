@@ -16,8 +16,8 @@ abbrev pub have_equal_bytes : UnitString → UnitString → Bool
 have_equal_bytes s t = are_equal s.bytes t.bytes
 
 module _ (law : EqualBuffersHaveEqualUnits) where
-  same_test : (s t : UnitString) → are_equal s.bytes t.bytes ≡ are_equal s.units t.units
-  same_test s t =
+  are_equal-bytes_as_units : (s t : UnitString) → are_equal s.bytes t.bytes ≡ are_equal s.units t.units
+  are_equal-bytes_as_units s t =
       let b = bytes_decides s.bytes t.bytes in
       let u = bytes_decides s.units t.units in
       both_ways _ _ (λ e. u.1 ((law s t).0 (b.0 e))) (λ e. b.1 ((law s t).1 (u.0 e)))
@@ -26,7 +26,7 @@ module _ (law : EqualBuffersHaveEqualUnits) where
   units-dedup_from s [] = refl
   units-dedup_from s (x ∷ xs) =
       let us = units_of_strings xs in
-      rw (same_test x s) (elim (are_equal x.units s.units) as (λ b. units_of_strings (cond b (dedup_from have_equal_bytes s xs) (s ∷ dedup_from have_equal_bytes x xs))
+      rw (are_equal-bytes_as_units x s) (elim (are_equal x.units s.units) as (λ b. units_of_strings (cond b (dedup_from have_equal_bytes s xs) (s ∷ dedup_from have_equal_bytes x xs))
       ≡ cond b (dedup_from are_equal s.units us) (s.units ∷ dedup_from are_equal x.units us)) [
         | true ↦ units-dedup_from s xs
         | false ↦ ap (λ ys. s.units ∷ ys) (units-dedup_from x xs)

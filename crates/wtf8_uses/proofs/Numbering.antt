@@ -1,6 +1,7 @@
--- The chains of numbered lists stay correct when a list is AreNumbered-push.
+-- The chains of numbered lists after one more list is numbered.
 use Rattle.std.proofs.Common.{◌≡◌, ℕ, zero, suc, ◌+◌, ◌<◌, ◌≤◌, ◌↔◌, ◌⊎◌, inl, inr, Bool, true, false, cond, eqb, List, [], ◌∷◌, ◌++◌, length, slice_get, slice_index_or, Some, refl, sym}
 use Rattle.std.proofs.Common.{ap, subst, ◌∙◌, arith}
+use Rattle.std.proofs.Math.Arith.{lt_of_le-ne}
 use Rattle.std.proofs.lemmas.Bool.Decides.{nat_tests}
 use Rattle.std.proofs.lemmas.Grind.{common_steps}
 use Rattle.std.proofs.lemmas.List.{length-append, map-append}
@@ -10,18 +11,15 @@ use Rattle.std.specs.Prelude.{unwrap_or, nat_eq}
 use Rattle.wtf8.specs.UnitString.{UnitString}
 use Rattle.wtf8_uses.specs.Numbered.{AreNumbered, IsChainHead, hash_of, units_of_strings}
 
-old_or_last : {X : Type 0} (xs : List X) (x : X) (k : ℕ) (y : X) → slice_get (xs ++ x ∷ []) k ≡ Some y
+slice_get-push : {X : Type 0} (xs : List X) (x : X) (k : ℕ) (y : X) → slice_get (xs ++ x ∷ []) k ≡ Some y
     → (slice_get xs k ≡ Some y) ⊎ ((k ≡ length xs) × (y ≡ x))
-old_or_last [] x zero y e = inr (refl, cc e)
-old_or_last [] x (suc k) y e = grind (arith, common_steps, e)
-old_or_last (z ∷ xs) x zero y e = inl e
-old_or_last (z ∷ xs) x (suc k) y e = elim (old_or_last xs x k y e) [ inl l ↦ inl l | inr r ↦ inr (ap suc r.0, r.1) ]
+slice_get-push [] x zero y e = inr (refl, cc e)
+slice_get-push [] x (suc k) y e = grind (arith, common_steps, e)
+slice_get-push (z ∷ xs) x zero y e = inl e
+slice_get-push (z ∷ xs) x (suc k) y e = elim (slice_get-push xs x k y e) [ inl l ↦ inl l | inr r ↦ inr (ap suc r.0, r.1) ]
 
-pub lt_of_apart : {j k : ℕ} → j ≤ k → (j ≡ k → ⊥) → j < k
-lt_of_apart {j} {k} le apart = grind (arith, le, apart)
-
-same_at : (us : List (List ℕ)) (k : ℕ) (u v : List ℕ) → slice_get us k ≡ Some u → slice_get us k ≡ Some v → u ≡ v
-same_at us k u v a b = cc
+slice_get-same : (us : List (List ℕ)) (k : ℕ) (u v : List ℕ) → slice_get us k ≡ Some u → slice_get us k ≡ Some v → u ≡ v
+slice_get-same us k u v a b = cc
 
 -- If `v` is in the lists, its index is below `head`, and the list at index `head - 1` has the hash of `v`.
 pub record IsReached (lists : List (List ℕ)) (v : List ℕ) (head : ℕ) : Type 0 where
@@ -36,10 +34,10 @@ AreNumbered-equal_lists {m = m} {c = c} {us = us} old e f = subst (AreNumbered m
 -- if the list at index `head - 1` is not `v`, the search goes on at the next one in its chain
 pub IsReached-next : (us : List (List ℕ)) (u v : List ℕ) (k head e : ℕ) → k + 1 ≡ head → IsReached us v head → slice_get us k ≡ Some u → (u ≡ v → ⊥)
     → IsChainHead us (hash_of u) k e → IsReached us v e
-IsReached-next us u v k head e is r at apart o =
+IsReached-next us u v k head e is r at differ o =
     let hash = r.last k u is at in record {
       within = omega (arith, o.within, r.within, is);
-      before = λ j there. o.before j v (lt_of_apart (omega (arith, r.before j there, is)) (λ same. apart (same_at us k u v at (subst (λ i. slice_get us i ≡ Some v) same there)))) there (sym hash);
+      before = λ j there. o.before j v (lt_of_le-ne (omega (arith, r.before j there, is)) (λ same. differ (slice_get-same us k u v at (subst (λ i. slice_get us i ≡ Some v) same there)))) there (sym hash);
       last = λ j w e there. o.last j w e there ∙ hash;
     }
 
@@ -51,9 +49,9 @@ next_in_chain-is_head {nexts = nexts} {us = us} old k e within is =
     (slice_index_or us k [], at, old.nexts_are k e _ at (slice_get_read nexts (length us) k e (sym old.lengths) within is))
 
 -- a list occurs at one index only
-pub one_number : {S : Type 0} {m : HashMap ℕ ℕ S} {nexts : List ℕ} {us : List (List ℕ)} → AreNumbered m nexts us → (k : ℕ) (v : List ℕ)
+pub number_of_list-unique : {S : Type 0} {m : HashMap ℕ ℕ S} {nexts : List ℕ} {us : List (List ℕ)} → AreNumbered m nexts us → (k : ℕ) (v : List ℕ)
     → slice_get us k ≡ Some v → (n : ℕ) → (Some k ≡ Some n) ↔ (slice_get us n ≡ Some v)
-one_number {us = us} old k v at n = (λ e. subst (λ j. slice_get us j ≡ Some v) (same_Some k n e) at, λ there. ap Some (old.distinct k n v at there))
+number_of_list-unique {us = us} old k v at n = (λ e. subst (λ j. slice_get us j ≡ Some v) (same_Some k n e) at, λ there. ap Some (old.distinct k n v at there))
 
 module _ (us : List (List ℕ)) (v : List ℕ) where
   abbrev more : List (List ℕ)
@@ -66,17 +64,17 @@ module _ (us : List (List ℕ)) (v : List ℕ) where
   IsChainHead-of_front : (h limit head : ℕ) → limit ≤ length us → IsChainHead us h limit head → IsChainHead more h limit head
   IsChainHead-of_front h limit head l o = record {
     within = o.within;
-    before = λ k u below at same. elim (old_or_last us v k u at) [ inl a ↦ o.before k u below a same | inr b ↦ absurd (omega (arith, b.0, below, l)) ];
-    last = λ k u is at. elim (old_or_last us v k u at) [ inl a ↦ o.last k u is a | inr b ↦ absurd (omega (arith, b.0, is, o.within, l)) ];
+    before = λ k u below at same. elim (slice_get-push us v k u at) [ inl a ↦ o.before k u below a same | inr b ↦ absurd (omega (arith, b.0, below, l)) ];
+    last = λ k u is at. elim (slice_get-push us v k u at) [ inl a ↦ o.last k u is a | inr b ↦ absurd (omega (arith, b.0, is, o.within, l)) ];
   }
 
   -- the chain of another hash keeps its head
   IsChainHead-other_hash : (h head : ℕ) → (hash_of v ≡ h → ⊥) → IsChainHead us h (length us) head → IsChainHead more h (length more) head
-  IsChainHead-other_hash h head apart o = let s = IsChainHead-of_front h (length us) head (omega arith) o in record {
+  IsChainHead-other_hash h head differ o = let s = IsChainHead-of_front h (length us) head (omega arith) o in record {
     within = omega (arith, o.within, length-more);
-    before = λ k u below at same. elim (old_or_last us v k u at) [
+    before = λ k u below at same. elim (slice_get-push us v k u at) [
       | inl a ↦ o.before k u (slice_get_within us k u a) a same
-      | inr b ↦ absurd (apart (ap hash_of (sym b.1) ∙ same))
+      | inr b ↦ absurd (differ (ap hash_of (sym b.1) ∙ same))
     ];
     last = s.last;
   }
@@ -86,7 +84,7 @@ module _ (us : List (List ℕ)) (v : List ℕ) where
   IsChainHead-pushed = record {
     within = omega (arith, length-more);
     before = λ k u below at same. omega (arith, below, length-more);
-    last = λ k u is at. elim (old_or_last us v k u at) [
+    last = λ k u is at. elim (slice_get-push us v k u at) [
       | inl a ↦ absurd (omega (arith, slice_get_within us k u a, is))
       | inr b ↦ ap hash_of b.1
     ];
@@ -100,18 +98,18 @@ module _ (us : List (List ℕ)) (v : List ℕ) where
 
     pub AreNumbered-push : AreNumbered n (nexts ++ unwrap_or (get nat_eq m h) 0 ∷ []) more
     AreNumbered-push = record {
-      distinct = λ j k u a b. elim (old_or_last us v j u a) [
-        | inl x ↦ elim (old_or_last us v k u b) [ inl y ↦ old.distinct j k u x y | inr y ↦ absurd (none j (x ∙ ap Some y.1)) ]
-        | inr x ↦ elim (old_or_last us v k u b) [ inl y ↦ absurd (none k (y ∙ ap Some x.1)) | inr y ↦ x.0 ∙ sym y.0 ]
+      distinct = λ j k u a b. elim (slice_get-push us v j u a) [
+        | inl x ↦ elim (slice_get-push us v k u b) [ inl y ↦ old.distinct j k u x y | inr y ↦ absurd (none j (x ∙ ap Some y.1)) ]
+        | inr x ↦ elim (slice_get-push us v k u b) [ inl y ↦ absurd (none k (y ∙ ap Some x.1)) | inr y ↦ x.0 ∙ sym y.0 ]
       ];
       lengths = omega (arith, old.lengths, length-more, length-append nexts (unwrap_or (get nat_eq m h) 0 ∷ []));
       heads_are = λ q. subst (λ o. IsChainHead more q (length more) (unwrap_or o 0)) (sym (put q)) (heads-insert q (eqb h q) refl);
-      nexts_are = λ k e u a b. elim (old_or_last us v k u a) [
-        | inl x ↦ elim (old_or_last nexts _ k e b) [
+      nexts_are = λ k e u a b. elim (slice_get-push us v k u a) [
+        | inl x ↦ elim (slice_get-push nexts _ k e b) [
           | inl y ↦ let w = slice_get_within us k u x in IsChainHead-of_front (hash_of u) k e (omega (arith, w)) (old.nexts_are k e u x y)
           | inr y ↦ absurd (omega (arith, slice_get_within us k u x, y.0, old.lengths))
         ]
-        | inr x ↦ elim (old_or_last nexts _ k e b) [
+        | inr x ↦ elim (slice_get-push nexts _ k e b) [
           | inl y ↦ absurd (omega (arith, slice_get_within nexts k e y, x.0, old.lengths))
           | inr y ↦ let here = IsChainHead-of_front (hash_of v) (length us) _ (omega arith) (subst (λ q. IsChainHead us q (length us) (unwrap_or (get nat_eq m h) 0)) is_hash (old.heads_are h))
               in subst (λ q. IsChainHead more (hash_of q) k e) (sym x.1) (subst (λ q. IsChainHead more (hash_of v) q e) (sym x.0)
@@ -121,7 +119,7 @@ module _ (us : List (List ℕ)) (v : List ℕ) where
     }
 
 -- `units_of_strings` after a push
-pub units_pushed : (old mid new : List UnitString) (s : UnitString) {us : List (List ℕ)} {v : List ℕ} → new ≡ mid ++ s ∷ [] → mid ≡ old
+pub units_of_strings-push : (old mid new : List UnitString) (s : UnitString) {us : List (List ℕ)} {v : List ℕ} → new ≡ mid ++ s ∷ [] → mid ≡ old
     → units_of_strings old ≡ us → s.units ≡ v → units_of_strings new ≡ us ++ v ∷ []
-units_pushed old mid new s {us} e f g h =
+units_of_strings-push old mid new s {us} e f g h =
     ap units_of_strings (e ∙ ap (λ z. z ++ s ∷ []) f) ∙ (map-append (λ x. x.units) old (s ∷ []) ∙ (ap (λ z. z ++ s.units ∷ []) g ∙ ap (λ w. us ++ w ∷ []) h))

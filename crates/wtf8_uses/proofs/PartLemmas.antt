@@ -14,12 +14,12 @@ abbrev pub parts : Wtf8 → List (List ℕ)
 parts path = slice_split is_separator (view_units path)
 
 -- the result true is right if the equivalent condition holds
-pub yes_by : {P Q : Type 0} → P ↔ Q → Q → IsTrue true ↔ P
-yes_by e q = (λ _. e.1 q, λ _. refl)
+pub true_from_iff : {P Q : Type 0} → P ↔ Q → Q → IsTrue true ↔ P
+true_from_iff e q = (λ _. e.1 q, λ _. refl)
 
 -- the result false is right if the equivalent condition fails
-pub no_by : {P Q : Type 0} → P ↔ Q → ¬ Q → IsTrue false ↔ P
-no_by e none = (λ t. absurd (false≢true t), λ p. absurd (none (e.0 p)))
+pub false_from_iff : {P Q : Type 0} → P ↔ Q → ¬ Q → IsTrue false ↔ P
+false_from_iff e none = (λ t. absurd (false≢true t), λ p. absurd (none (e.0 p)))
 
 -- the first component is the part before the first separator
 pub slice_split-first_part : (u front back : List ℕ) (m : ℕ) → u ≡ front ++ m ∷ back → IsEither 0x2F 0x5C m → HasNeither 0x2F 0x5C front
@@ -33,12 +33,12 @@ pub slice_split-one_part : (u : List ℕ) → HasNeither 0x2F 0x5C u → slice_s
 slice_split-one_part u none = slice_split_none is_separator u (λ k d h. grind (arith, nat_tests, none.first k d h, none.second k d h))
 
 -- a list begins with its first part
-pub begin_with_first : (x y : List ℕ) (xs us vs : List (List ℕ)) → us ≡ x ∷ xs → vs ≡ y ∷ [] → x ≡ y → BeginsWith us vs
-begin_with_first x y xs us vs e f same = record { rest = xs; joined = cc (e, f, same) }
+pub BeginsWith-first : (x y : List ℕ) (xs us vs : List (List ℕ)) → us ≡ x ∷ xs → vs ≡ y ∷ [] → x ≡ y → BeginsWith us vs
+BeginsWith-first x y xs us vs e f same = record { rest = xs; joined = cc (e, f, same) }
 
 -- a list of one part does not begin with more than one
-pub no_more : (x y : List ℕ) (u : List ℕ) (us vs : List (List ℕ)) → us ≡ x ∷ [] → vs ≡ y ∷ slice_split is_separator u → ¬ (BeginsWith us vs)
-no_more x y u us vs e f b =
+pub not_BeginsWith-one_part : (x y : List ℕ) (u : List ℕ) (us vs : List (List ℕ)) → us ≡ x ∷ [] → vs ≡ y ∷ slice_split is_separator u → ¬ (BeginsWith us vs)
+not_BeginsWith-one_part x y u us vs e f b =
     omega (arith, simp length-append at (ap length (sym e ∙ (b.joined ∙ ap (λ z. z ++ b.rest) f))), length-slice_split is_separator u)
 
 -- the components found so far and the components of the rest `u` are the whole list; `part` is found next

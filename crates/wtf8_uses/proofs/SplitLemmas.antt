@@ -6,8 +6,8 @@ use Rattle.std.proofs.lemmas.List.Splits.{join_with_byte-slice_split}
 use Rattle.std.specs.List.{All, join_with_byte, onto_first, slice_split}
 
 -- joining the parts with the separator returns the list
-pub join_pieces : (c : ℕ) (u : List ℕ) {parts : List (List ℕ)} → parts ≡ slice_split (λ x. eqb x c) u → join_with_byte c parts ≡ u
-join_pieces c u e = rw e (join_with_byte-slice_split c u)
+pub join_with_byte-pieces : (c : ℕ) (u : List ℕ) {parts : List (List ℕ)} → parts ≡ slice_split (λ x. eqb x c) u → join_with_byte c parts ≡ u
+join_with_byte-pieces c u e = rw e (join_with_byte-slice_split c u)
 
 module _ (c : ℕ) where
   abbrev pub Lacks : List ℕ → Type 0
@@ -27,5 +27,5 @@ module _ (c : ℕ) where
   slice_split-Lacks (x ∷ u) = Lacks-cond_split x (slice_split (λ y. eqb y c) u) (eqb x c) refl (slice_split-Lacks u)
 
   -- no part contains the separator
-  pub pieces_apart : (u : List ℕ) {parts : List (List ℕ)} → parts ≡ slice_split (λ x. eqb x c) u → All Lacks parts
-  pieces_apart u e = subst (All Lacks) (sym e) (slice_split-Lacks u)
+  pub slice_split-pieces_lack : (u : List ℕ) {parts : List (List ℕ)} → parts ≡ slice_split (λ x. eqb x c) u → All Lacks parts
+  slice_split-pieces_lack u e = subst (All Lacks) (sym e) (slice_split-Lacks u)

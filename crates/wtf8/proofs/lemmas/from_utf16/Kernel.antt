@@ -322,7 +322,7 @@ take-without_lead w kept u all long within lead e =
     let left : all - 2 ≡ length front = omega (arith, count) in
     (omega (arith, count), sym (take-take (all - 2) all w (omega arith)) ∙ ap (take (all - 2)) whole ∙ ap (λ n. take n (front ++ last)) left ∙ take-append_seam front last)
 
--- whether exactly one of two facts holds: the unit before is a lead, the unit is a trail; if it is false in each lane, the units are paired
+-- whether a lead is before no trail, or a trail after no lead; if this is false in each lane, the units are paired
 abbrev is_lead_xor_trail : ℕ → ℕ → Bool
 is_lead_xor_trail b x = top 15 (bit_xor (cond (eqb (b / 1024) 54) 0xFFFF 0) (cond (eqb (x / 1024) 55) 0xFFFF 0))
 

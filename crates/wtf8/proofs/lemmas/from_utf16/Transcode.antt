@@ -128,7 +128,7 @@ scalars_read {w} {new} {u} {part} {at} {known} k n x few within last after form 
         let same = get_or-take n (drop at u) j 0 (omega (arith, few)) ∙ get_or-drop at u j 0 in
         subst (DividesNoPair u) here (DividesNoPair-after_no_lead u (at + j) (omega (arith, few, within)) (λ l. h j (omega arith) (omega (arith, same, l.0), omega (arith, same, l.1))))
 
--- the first `k` of `n` units, which are ASCII, are encoded after all were appended saturated and cut after `k`
+-- `n` units appended as bytes, FF for each above it, then cut after the first `k`: if these are ASCII, they are encoded
 pub front_read : {w long new u low : List ℕ} {at : ℕ} {known : Bool} (k n end : ℕ) → IsReadTo w u at known → k ≤ n → at + n ≤ length u
     → low ≡ map (λ n. min n 0xFF) (take n (drop at u)) → AreAscii (take k low) → long ≡ w ++ low → end ≡ length w + k → new ≡ take end long → IsReadTo new u (at + k) known
 front_read {w = w} {u = u} {low = low} {at = at} k n end x few within saturated ascii longer cut front =

@@ -187,7 +187,7 @@ step_once u (TruncateUnits n) = elim (cases_lt (length u) n) [
 ]
 step_once u call = record { outcome = _; count = _; goes = (refl, refl); no_other = λ v r s. s }
 
--- a run after another is a run of both lists of calls
+-- a run of `front` followed by a run of `back` is a run of `front ++ back`
 pub runs_add : RunsAddUp
 runs_add u mid v [] back m n x y = subst (λ k. Run u back v k) (let same : n ≡ m + n = omega (arith, x.1) in same) (subst (λ w. Run w back v n) x.0 y)
 runs_add u mid v (call ∷ front) back m n x y = (x.0, x.1, x.2 + n, x.3, runs_add x.0 mid v front back x.2 n x.4 y, omega (arith, x.5))
@@ -207,7 +207,7 @@ run_once u (call ∷ calls) =
           (ends.0, omega (arith, r.5, same.1, ends.1));
     }
 
--- one more call leaves what it reserves, and the capacity reserved before it unless it truncates
+-- after one more call the bytes that it reserved fit, and those reserved before it do unless it truncates
 pub reserved_more : {u now : List ℕ} {calls : List Build} {call : Build} {capacity larger : ℕ} (n : ℕ) → LeavesReserved u calls capacity → Run u calls now n
     → (IsNoTruncation call → capacity ≤ larger) → ((m : ℕ) → call ≡ Reserve m → FitWithin now m larger) → LeavesReserved u (calls ++ call ∷ []) larger
 reserved_more {u} {now} {calls} {call} {capacity} {larger} n f ran grows here front back m v r e none run = elim (split_of_push calls call front (Reserve m) back e) [

@@ -51,7 +51,7 @@ IsForm-ascii_between {w} b l f g = record {
   encoded = bytes-append f.points (b ∷ g.points) ∙ (ap (λ a. a ++ bytes (b ∷ g.points)) f.encoded ∙ ap (λ a. w ++ a) (IsForm-cons_ascii b l g).encoded);
 }
 
--- `whole` is `front`, an ASCII unit and `back` in units exactly if it is in bytes
+-- the units of `whole` are those of `front`, an ASCII unit and those of `back` exactly if its bytes are
 pub parted_by_ascii : (whole front back : Wtf8) (b : ℕ) → b < 0x80
     → (whole.bytes.now ≡ front.bytes.now ++ b ∷ back.bytes.now) ↔ (view_units whole ≡ view_units front ++ b ∷ view_units back)
 parted_by_ascii whole front back b l =
@@ -133,5 +133,5 @@ pub collected_back : CollectedPointsAreAfterSkip
 collected_back s points d =
     items_from_drains points d (YieldsList-from_skip (skip_count s) (YieldsList-from_first number (λ c. c) (skip_source s) refl) refl)
 
--- the lemmas that prove laws as they are
+-- the lemmas that state a law word for word, and so prove it
 pub ruleset laws = (one_reading, units_read, none_begins_another, encoding_same, run_once, runs_add, scalars_stay, characters_come_back, view_reads, one_view_reading, view_characters, lossy_characters)

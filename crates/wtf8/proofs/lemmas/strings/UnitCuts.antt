@@ -113,7 +113,7 @@ front_at h x = record {
   same_units = sym x.kept;
 }
 
--- a pair is divided exactly if the cut says so
+-- `Undivided` after `n` units means that no pair is divided there, `Divided` that one is
 pub divides_none : {c : List ℕ} {n k : ℕ} → IsClean c → Undivided c n k → ¬ (DividesPair (units c) n)
 divides_none {c} {n} clean x m =
     let all : IsClean (x.front ++ x.back) = subst IsClean x.joined clean in

@@ -4,11 +4,11 @@ use Rattle.std.proofs.lemmas.Result.{on_ok_weaker}
 use Rattle.wtf8.specs.Unicode.{units_of}
 use Rattle.wtf8_uses.proofs.unit_slices.push_unit.Goals as goal
 
-unit_alone : (n : ℕ) → n < 0x10000 → units_of n ≡ n ∷ []
+units_of-bmp : (n : ℕ) → n < 0x10000 → units_of n ≡ n ∷ []
 unfolding units_of
-unit_alone n h = rw (lt-ltb n 0x10000 h) refl
+units_of-bmp n h = rw (lt-ltb n 0x10000 h) refl
 
 pub returns : goal.returns
 returns g c =
-    let own = ap units_of (c.from_u32_unchecked.ensures ∙ c.from.ensures) ∙ unit_alone c.args.unit (omega arith) in
+    let own = ap units_of (c.from_u32_unchecked.ensures ∙ c.from.ensures) ∙ units_of-bmp c.args.unit (omega arith) in
     on_ok_weaker c.push.result (λ e. e ∙ ap (λ u. c.args.text.now.units ++ u) own) c.push.ensures.ok

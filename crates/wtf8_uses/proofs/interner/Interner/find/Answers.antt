@@ -2,12 +2,12 @@ use Rattle.std.proofs.Common.{◌-◌, Some, arith, refl, ap, sym, ◌∙◌}
 use Rattle.std.proofs.lemmas.Bool.{false≢true}
 use Rattle.std.proofs.lemmas.Option.{same_Some}
 use Rattle.wtf8.specs.View.{view_units}
-use Rattle.wtf8_uses.proofs.Numbering.{IsReached-next, one_number, AreNumbered-equal_lists}
+use Rattle.wtf8_uses.proofs.Numbering.{IsReached-next, number_of_list-unique, AreNumbered-equal_lists}
 use Rattle.wtf8_uses.proofs.interner.Interner.find.Goals as goal
 
 pub returns-then-eq : goal.returns-then-eq
 returns-then-eq c =
-    one_number (AreNumbered-equal_lists c.self.inside.numbered refl c.self.view_is) (c.loop-head.head - 1) (view_units c.args.string)
+    number_of_list-unique (AreNumbered-equal_lists c.self.inside.numbered refl c.self.view_is) (c.loop-head.head - 1) (view_units c.args.string)
     (c.at-found.ensures ∙ ap Some (c.eq.ensures.units.0 c.if-eq.true))
 
 pub loop-head-smaller : goal.loop-head-smaller
