@@ -1,5 +1,5 @@
 // The known prefix of a buffer: the bytes at its front in which no surrogate begins.
-ghost use Rattle.std.specs.Prelude.{◌≡◌, ◌<◌, ◌≤◌, ◌↔◌, ℕ, List, length, IsTrue};
+ghost use Rattle.std.specs.Prelude.{◌≡◌, ◌<◌, ◌≤◌, ℕ, List, length, IsTrue};
 ghost use Rattle.wtf8.specs.Form.{bytes};
 ghost use Rattle.wtf8.specs.OneForm.{AreScalarTo};
 ghost use Rattle.wtf8.specs.Surrogates.{AreScalar};
@@ -22,14 +22,6 @@ impl KnownPrefix {
         KnownPrefix {
             end: if is_known_utf8 { usize::MAX } else { 0 },
         }
-    }
-
-    /// Whether the first `len` bytes are known to hold no surrogate.
-    #[inline(always)]
-    pub(crate) fn covers(self, len: usize) -> bool
-        ensures { IsTrue result ↔ len ≤ self.end }
-    {
-        len <= self.end
     }
 
     /// The part of it in the first `len` bytes.
@@ -61,7 +53,7 @@ impl KnownPrefix {
     pub(crate) fn after_truncate(self, len: usize) -> KnownPrefix
         ensures { (c : List ℕ) → length (bytes c) ≡ len → AreScalarTo self.end c → AreScalarTo result.end c }
     {
-        if self.covers(len) {
+        if len <= self.end {
             return KnownPrefix::new(true);
         }
         self
