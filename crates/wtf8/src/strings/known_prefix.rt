@@ -24,7 +24,7 @@ impl KnownPrefix {
         }
     }
 
-    /// The part of it in the first `len` bytes.
+    /// The known prefix, cut to at most `len` bytes.
     #[inline(always)]
     pub(crate) fn up_to(self, len: usize) -> KnownPrefix
         ensures order { result.end ≤ self.end }
@@ -48,7 +48,7 @@ impl KnownPrefix {
         self.up_to(len)
     }
 
-    /// The known prefix after a truncation to `len` bytes: all of them if it covers these, else unchanged.
+    /// The known prefix after a truncation to `len` bytes: all of them if they are within it, else unchanged.
     #[inline(always)]
     pub(crate) fn after_truncate(self, len: usize) -> KnownPrefix
         ensures { (c : List ℕ) → length (bytes c) ≡ len → AreScalarTo self.end c → AreScalarTo result.end c }
