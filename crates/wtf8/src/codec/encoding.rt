@@ -190,25 +190,6 @@ pub(crate) fn read_trail(bytes: &[u8]) -> u16
     (0xDC00 + u32::from(bytes[0] % 16) * 64 + u32::from(bytes[1] % 64)) as u16
 }
 
-/// The number of the code point at the front of `bytes`, which is at byte position `at`, and the position after it.
-#[inline(always)]
-fn read_number(bytes: &[u8], at: usize) -> (u32, usize)
-    requires front { BeginsWithPoint bytes.now }
-    requires within { at + length bytes.now < 2 ^ 64 }
-    ensures { (b : BeginsWithPoint bytes.now) → (result.0 ≡ b.point) × (result.1 ≡ at + length (encoding b.point)) }
-{
-    let first = bytes[0];
-    if first < 0x80 {
-        (u32::from(first), at + 1)
-    } else if first < 0xE0 {
-        (read_two(bytes), at + 2)
-    } else if first < 0xF0 {
-        (read_three(bytes), at + 3)
-    } else {
-        (read_four(bytes), at + 4)
-    }
-}
-
 /// The code point at the front of `bytes`, which is at byte position `at`, and the position after it.
 #[inline(always)]
 pub(crate) fn read(bytes: &[u8], at: usize) -> (CodePoint, usize)
@@ -216,6 +197,15 @@ pub(crate) fn read(bytes: &[u8], at: usize) -> (CodePoint, usize)
     requires within { at + length bytes.now < 2 ^ 64 }
     ensures { (b : BeginsWithPoint bytes.now) → (number result.0 ≡ b.point) × (result.1 ≡ at + length (encoding b.point)) }
 {
-    let (value, after) = read_number(bytes, at);
+    let first = bytes[0];
+    let (value, after) = if first < 0x80 {
+        (u32::from(first), at + 1)
+    } else if first < 0xE0 {
+        (read_two(bytes), at + 2)
+    } else if first < 0xF0 {
+        (read_three(bytes), at + 3)
+    } else {
+        (read_four(bytes), at + 4)
+    };
     (CodePoint::from_u32_unchecked(value), after)
 }

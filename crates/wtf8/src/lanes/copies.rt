@@ -56,19 +56,9 @@ fn push_overlapping<const N: usize, A: Allocator>(bytes: &mut Vec<u8, A>, other:
 {
     let last = other.len() - N;
     let end = bytes.len() + last;
-    push_block(bytes, block_at::<N>(other, 0));
+    push_block(bytes, Simd::<u8, N>::from_slice(other).to_array());
     bytes.truncate(end);
-    push_block(bytes, block_at::<N>(other, last));
-}
-
-/// Loads the `N` bytes at index `at`.
-#[inline(always)]
-fn block_at<const N: usize>(bytes: &[u8], at: usize) -> [u8; N]
-    requires lanes { N ≤ u64.BITS }
-    requires room { at + N ≤ length bytes.now }
-    ensures { result ≡ take N (drop at bytes.now) }
-{
-    Simd::<u8, N>::from_slice(&bytes[at..]).to_array()
+    push_block(bytes, Simd::<u8, N>::from_slice(&other[last..]).to_array());
 }
 
 /// Appends a block within the spare capacity.

@@ -427,7 +427,7 @@ impl<A: Allocator> Wtf8Buf<A> {
     fn is_known_utf8(&self) -> bool
         ensures { IsTrue result → AreScalar self.now.form.points }
     {
-        self.known_prefix.covers(self.bytes.len())
+        self.bytes.len() <= self.known_prefix.end
     }
 
     /// Returns the byte position of the first surrogate. Searches after the known prefix, and not at all if the whole

@@ -1,5 +1,5 @@
 // The known prefix of a buffer: the bytes at its front in which no surrogate begins.
-ghost use Rattle.std.specs.Prelude.{◌≡◌, ◌<◌, ◌≤◌, ◌↔◌, ℕ, List, length, IsTrue};
+ghost use Rattle.std.specs.Prelude.{◌≡◌, ◌<◌, ◌≤◌, ℕ, List, length, IsTrue};
 ghost use Rattle.wtf8.specs.Form.{bytes};
 ghost use Rattle.wtf8.specs.OneForm.{AreScalarTo};
 ghost use Rattle.wtf8.specs.Surrogates.{AreScalar};
@@ -24,15 +24,7 @@ impl KnownPrefix {
         }
     }
 
-    /// Whether the first `len` bytes are known to hold no surrogate.
-    #[inline(always)]
-    pub(crate) fn covers(self, len: usize) -> bool
-        ensures { IsTrue result ↔ len ≤ self.end }
-    {
-        len <= self.end
-    }
-
-    /// The part of it in the first `len` bytes.
+    /// The known prefix, cut to at most `len` bytes.
     #[inline(always)]
     pub(crate) fn up_to(self, len: usize) -> KnownPrefix
         ensures order { result.end ≤ self.end }
@@ -56,12 +48,12 @@ impl KnownPrefix {
         self.up_to(len)
     }
 
-    /// The known prefix after a truncation to `len` bytes: all of them if it covers these, else unchanged.
+    /// The known prefix after a truncation to `len` bytes: all of them if they are within it, else unchanged.
     #[inline(always)]
     pub(crate) fn after_truncate(self, len: usize) -> KnownPrefix
         ensures { (c : List ℕ) → length (bytes c) ≡ len → AreScalarTo self.end c → AreScalarTo result.end c }
     {
-        if self.covers(len) {
+        if len <= self.end {
             return KnownPrefix::new(true);
         }
         self

@@ -4,7 +4,7 @@ ghost use lib.Lanes.{Each1};
 ghost use Rattle.wtf8.specs.CodePoint.{number};
 ghost use Rattle.wtf8.specs.Form.{IsWellFormed};
 ghost use Rattle.wtf8.specs.private.ConvertedPrefix.{AreAscii};
-ghost use Rattle.wtf8.specs.private.EncodedBytes.{FirstPointIs, BecomesOrKeeps};
+ghost use Rattle.wtf8.specs.private.EncodedBytes.{BecomesOrKeeps};
 ghost use Rattle.wtf8.specs.Unicode.{units_of};
 ghost use Rattle.wtf8.specs.private.EncodedRuns.{HasBitPrefix, BeginsWithUnits, lead_bytes_of, unit_of_two, unit_of_three, units_of_run, Writes};
 ghost use Rattle.wtf8.specs.View.{view_points, view_units};
@@ -99,19 +99,6 @@ fn append_ascii_overlapping<const N: usize, B: Allocator>(
     Ok(())
 }
 
-/// Writes the one unit of the first code point, which has the number `value` and `width` bytes.
-#[inline(always)]
-fn write_unit<'a>(units: &mut [u16], left: Undecoded<'a>, value: u32, width: usize) -> Undecoded<'a>
-    requires room { left.at + length (view_units left.view) ≤ length units.old }
-    requires some { 0 < length left.view.bytes.now }
-    requires read { FirstPointIs left.view.bytes.now value width }
-    requires one_unit { value < 0x10000 }
-    ensures written { Writes units.old left.entry.at (view_units left.entry.view) units.new result.at (view_units result.view) }
-    ensures shorter { length result.view.bytes.now < length left.entry.view.bytes.now }
-{
-    write_units(units, left, [value as u16], 1, width)
-}
-
 /// Decodes the first code point and writes its one or two units.
 #[inline(always)]
 fn decode_point<'a>(units: &mut [u16], left: Undecoded<'a>) -> Undecoded<'a>
@@ -122,13 +109,13 @@ fn decode_point<'a>(units: &mut [u16], left: Undecoded<'a>) -> Undecoded<'a>
 {
     let bytes = left.view.bytes;
     match bytes[0] {
-        0x80..=0xDF => write_unit(units, left, encoding::read_two(bytes), 2),
-        0xE0..=0xEF => write_unit(units, left, encoding::read_three(bytes), 3),
+        0x80..=0xDF => write_units(units, left, [encoding::read_two(bytes) as u16], 1, 2),
+        0xE0..=0xEF => write_units(units, left, [encoding::read_three(bytes) as u16], 1, 3),
         _ => {
             let (code_point, width) = encoding::read(bytes, 0);
             let value = code_point.to_u32();
             if value < 0x10000 {
-                return write_unit(units, left, value, width);
+                return write_units(units, left, [value as u16], 1, width);
             }
             let pair = [lead_of(value) as u16, trail_of(value) as u16];
             write_units(units, left, pair, 2, width)

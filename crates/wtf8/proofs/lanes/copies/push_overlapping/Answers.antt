@@ -6,4 +6,4 @@ pub returns : goal.returns
 returns g c =
     let bytes = c.args.bytes.now in
     let all = ends_appended bytes.items c.args.other.now g.row.N _ (omega (arith, bytes.ok.0)) c.requires.all.0 c.requires.all.1 in
-    c.push_block-2.ensures.items ∙ rw (c.truncate.ensures.items, c.push_block.ensures.items, c.block_at.ensures, c.block_at-2.ensures, c.len.ensures) all
+    c.push_block-2.ensures.items ∙ rw (c.truncate.ensures.items, c.push_block.ensures.items, c.len.ensures) all
