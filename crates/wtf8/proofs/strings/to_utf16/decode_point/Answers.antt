@@ -57,7 +57,7 @@ pub returns-then-value-lt65536-clause-shorter : goal.returns-then-value-lt65536-
 returns-then-value-lt65536-clause-shorter c =
     let view = c.args.left.view in
     let r = first_point_read view.well_formed (number c.read-width.result.0) c.read-width.result.1 c.requires.some c.read-width.ensures in
-    omega (arith, r.some, r.within, ap length c.write_units-then-value-lt65536.ensures.bytes, length-drop c.read-width.result.1 view.bytes.now)
+    omega (arith, r.positive, r.within, ap length c.write_units-then-value-lt65536.ensures.bytes, length-drop c.read-width.result.1 view.bytes.now)
 
 pub returns-else-value-lt65536-clause-shorter : goal.returns-else-value-lt65536-clause-shorter
 returns-else-value-lt65536-clause-shorter c =
