@@ -105,7 +105,7 @@ pub(crate) fn read_point(v: &[u16], at: usize) -> (CodePoint, usize, bool)
     requires { at < length v.now }
     ensures order { at < result.1 }
     ensures within { result.1 ≤ length v.now }
-    ensures apart { DividesNoPair v.now result.1 }
+    ensures divides_no_pair { DividesNoPair v.now result.1 }
     ensures reads { Reads (number result.0 ∷ []) (take (result.1 - at) (drop at v.now)) }
     ensures scalar { IsTrue result.2 → ¬ (IsSurrogate (number result.0)) }
 {

@@ -244,7 +244,7 @@ fn write_block(units: &[u16; BLOCK_UNITS], block: &mut [u8], len: usize) -> (usi
     requires paired { ArePaired 0 units.now }
     ensures taken { (0 < result.0) × (result.0 ≤ BLOCK_UNITS) }
     ensures within { result.1 ≤ length block.new }
-    ensures apart { ¬ (IsLead (slice_index_or units.now (result.0 - 1) 0)) }
+    ensures no_lead_last { ¬ (IsLead (slice_index_or units.now (result.0 - 1) 0)) }
     ensures bytes { take result.1 block.new ≡ take len block.old ++ packed_units 0 (take result.0 units.now) }
 {
     let lanes = u16x8::from_array(*units);

@@ -59,7 +59,7 @@ pub(crate) fn push_unpaired<A: Allocator>(
 ) -> Result<(), AllocError>
     requires spare { vec_len bytes.old + spare ≡ vec_capacity bytes.old }
     requires well_formed { IsWellFormed bytes.old.items }
-    requires apart { (h : IsWellFormed bytes.old.items) → ¬ (MeetsAsPair h.points (number code_point ∷ [])) }
+    requires no_pair { (h : IsWellFormed bytes.old.items) → ¬ (MeetsAsPair h.points (number code_point ∷ [])) }
     ensures units { ExtendsForm bytes.old.items (bytes.old.items ++ encoding (number code_point)) (units_of (number code_point)) }
     ensures bytes { BecomesOrKeeps bytes.old (bytes.old.items ++ encoding (number code_point)) bytes.new result }
 {
@@ -94,7 +94,7 @@ pub(crate) fn push_point<A: Allocator>(
     code_point: CodePoint,
 ) -> Result<(), AllocError>
     requires { IsWellFormed bytes.old.items }
-    ensures gains { ExtendsFormOrKeeps bytes.old (units_of (number code_point)) bytes.new result }
+    ensures extends { ExtendsFormOrKeeps bytes.old (units_of (number code_point)) bytes.new result }
     ensures known { known_prefix.new.end ≤ known_prefix.old.end }
     ensures scalar { length bytes.old.items < known_prefix.new.end → ¬ (IsSurrogate (number code_point)) }
 {
@@ -172,7 +172,7 @@ pub(crate) fn push_view<A: Allocator>(
     forms_no_pair: bool,
 ) -> Result<(), AllocError>
     requires well_formed { IsWellFormed bytes.old.items }
-    requires apart { IsTrue forms_no_pair → (h : IsWellFormed bytes.old.items) → ¬ (MeetsAsPair h.points (view_points other)) }
+    requires no_pair { IsTrue forms_no_pair → (h : IsWellFormed bytes.old.items) → ¬ (MeetsAsPair h.points (view_points other)) }
     ensures { ExtendsFormOrKeeps bytes.old (view_units other.entry) bytes.new result }
 {
     let view = Wtf8::from_well_formed(bytes.as_slice());

@@ -103,7 +103,7 @@ fn append_ascii_overlapping<const N: usize, B: Allocator>(
 #[inline(always)]
 fn decode_point<'a>(units: &mut [u16], left: Undecoded<'a>) -> Undecoded<'a>
     requires room { left.at + length (view_units left.view) ≤ length units.old }
-    requires some { 0 < length left.view.bytes.now }
+    requires nonempty { 0 < length left.view.bytes.now }
     ensures written { Writes units.old left.entry.at (view_units left.entry.view) units.new result.at (view_units result.view) }
     ensures shorter { length result.view.bytes.now < length left.entry.view.bytes.now }
 {
@@ -245,7 +245,7 @@ fn decode_block<
 >(units: &mut [u16], left: Undecoded<'a>) -> (Undecoded<'a>, bool)
     requires lanes { (0 < N) × (N ≤ u64.BITS) }
     requires room { left.at + length (view_units left.view) ≤ length units.old }
-    requires some { 0 < length left.view.bytes.now }
+    requires nonempty { 0 < length left.view.bytes.now }
     ensures written { Writes units.old left.entry.at (view_units left.entry.view) units.new result.0.at (view_units result.0.view) }
     ensures whole { IsTrue result.1 → length result.0.view.bytes.now < length left.entry.view.bytes.now }
     ensures part { result.1 ≡ false → 0 < length result.0.view.bytes.now }
@@ -274,7 +274,7 @@ fn decode_run<
 >(units: &mut [u16], left: Undecoded<'a>) -> Undecoded<'a>
     requires lanes { (0 < N) × (N ≤ u64.BITS) }
     requires room { left.at + length (view_units left.view) ≤ length units.old }
-    requires some { 0 < length left.view.bytes.now }
+    requires nonempty { 0 < length left.view.bytes.now }
     ensures written { Writes units.old left.entry.at (view_units left.entry.view) units.new result.at (view_units result.view) }
     ensures shorter { length result.view.bytes.now < length left.entry.view.bytes.now }
 {
@@ -298,7 +298,7 @@ fn decode_run<
 #[inline(always)]
 fn decode_next<'a>(units: &mut [u16], left: Undecoded<'a>) -> Undecoded<'a>
     requires room { left.at + length (view_units left.view) ≤ length units.old }
-    requires some { 0 < length left.view.bytes.now }
+    requires nonempty { 0 < length left.view.bytes.now }
     ensures written { Writes units.old left.entry.at (view_units left.entry.view) units.new result.at (view_units result.view) }
     ensures shorter { length result.view.bytes.now < length left.entry.view.bytes.now }
 {

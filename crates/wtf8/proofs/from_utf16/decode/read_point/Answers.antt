@@ -16,8 +16,8 @@ read_character c =
 pub returns-in-Ok-clause-within : goal.returns-in-Ok-clause-within
 returns-in-Ok-clause-within c = (read_character c).within
 
-pub returns-in-Ok-clause-apart : goal.returns-in-Ok-clause-apart
-returns-in-Ok-clause-apart c = (read_character c).divides_no_pair
+pub returns-in-Ok-clause-divides_no_pair : goal.returns-in-Ok-clause-divides_no_pair
+returns-in-Ok-clause-divides_no_pair c = (read_character c).divides_no_pair
 
 pub returns-in-Ok-clause-reads : goal.returns-in-Ok-clause-reads
 returns-in-Ok-clause-reads c = subst (λ p. Reads (p ∷ []) (take (c.args.at + 2 - c.args.at) (drop c.args.at c.args.v.now))) (ap point_of_item c.in-Ok.is ∙ sym c.from_char.ensures) (read_character c).reads
@@ -29,8 +29,8 @@ read_lone c =
     IsFirstRead-item c.args.v.now c.args.at (c.args.at + 1) (units_left c.decode_utf16.result) (units_left c.next.new.self) c.in-Some.item c.requires rest c.decode_utf16.ensures.peeked
     c.in-Some.ensures.steps (omega (arith, unit_len))
 
-pub returns-in-Err-clause-apart : goal.returns-in-Err-clause-apart
-returns-in-Err-clause-apart c = (read_lone c).divides_no_pair
+pub returns-in-Err-clause-divides_no_pair : goal.returns-in-Err-clause-divides_no_pair
+returns-in-Err-clause-divides_no_pair c = (read_lone c).divides_no_pair
 
 pub returns-in-Err-clause-reads : goal.returns-in-Err-clause-reads
 returns-in-Err-clause-reads c = subst (λ p. Reads (p ∷ []) (take (c.args.at + 1 - c.args.at) (drop c.args.at c.args.v.now))) (ap point_of_item c.in-Err.is ∙ sym c.point_of_unit-in-Err.ensures) (read_lone c).reads

@@ -11,5 +11,5 @@ loop-block-preserved c =
       order = omega (arith, before.order);
       end = omega (arith, units.within, written.taken.1);
       within = written.within;
-      read = λ w known read. packed_units-read w (take c.loop-block.len c.loop-block.block) c.write_block-taken.result.0 (before.read w known read) written.taken units.within units.same c.type_inv.v written.apart written.bytes;
+      read = λ w known read. packed_units-read w (take c.loop-block.len c.loop-block.block) c.write_block-taken.result.0 (before.read w known read) written.taken units.within units.same c.type_inv.v written.no_lead_last written.bytes;
     }

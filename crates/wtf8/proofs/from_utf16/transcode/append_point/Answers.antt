@@ -25,7 +25,7 @@ pub returns-clause-read : goal.returns-clause-read
 returns-clause-read g c =
     let point = number c.read_point-end.result.0 in
     let read = c.read_point-end.ensures in
-    IsReadTo-append c.requires.read (omega (arith, read.order)) read.within read.apart c.in_ok-append-2.ensures.ok (record {
+    IsReadTo-append c.requires.read (omega (arith, read.order)) read.within read.divides_no_pair c.in_ok-append-2.ensures.ok (record {
       form = record { points = point ∷ []; reads = read.reads; encoded = append-nil (encoding point) };
       scalar = λ t. (read.scalar t, tt);
     })

@@ -27,7 +27,7 @@ returns-in-Some g c =
     let x = joined_here g (goal.at.returns-in-Some g c).After-from_well_formed-view _ _ met.lead met.trail met.last in
     record { whole = _; extends = rw c.to_u32.ensures.value x.extends; becomes = c.complete_pair.ensures }
 
-pub push_unpaired-requires-clause-apart : goal.push_unpaired-requires-clause-apart
-push_unpaired-requires-clause-apart g c h m =
+pub push_unpaired-requires-clause-no_pair : goal.push_unpaired-requires-clause-no_pair
+push_unpaired-requires-clause-no_pair g c h m =
     let view = c.from_well_formed-view in
     c.in-None.ensures.none (MeetsAsPair-equal_lists m (same_points view.result.well_formed h (view.ensures.bytes ∙ c.as_slice.ensures.value)) refl)

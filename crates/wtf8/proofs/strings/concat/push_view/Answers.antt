@@ -19,7 +19,7 @@ from_well_formed-view-requires g c = rw c.as_slice.ensures.value c.requires.well
 pub pair_at_seam-requires : goal.pair_at_seam-requires
 pair_at_seam-requires g c t m =
     let view = c.from_well_formed-view in
-    c.requires.apart t c.requires.well_formed
+    c.requires.no_pair t c.requires.well_formed
     (MeetsAsPair-equal_lists m (same_points c.requires.well_formed view.result.well_formed (sym (view.ensures.bytes ∙ c.as_slice.ensures.value))) refl)
 
 pub append_completing_pair-requires-clause-three : goal.append_completing_pair-requires-clause-three

@@ -4,8 +4,8 @@ use Rattle.wtf8.proofs.lemmas.laws.StringLaws.{grows_at_most, added_length, noth
 use Rattle.wtf8.proofs.lemmas.codec.Readings.{points-nil, well_formed_of, form_of}
 use Rattle.wtf8.proofs.strings.buf.Wtf8Buf.push_wtf8.Goals as goal
 
-pub push_view-requires-clause-apart : goal.push_view-requires-clause-apart
-push_view-requires-clause-apart g c t h =
+pub push_view-requires-clause-no_pair : goal.push_view-requires-clause-no_pair
+push_view-requires-clause-no_pair g c t h =
     scalar_front_unpaired (scalar-equal_bytes (well_formed_of c.args.self.now.form) h (ap (λ (t : UnitString). t.bytes) c.self.view_is) (c.is_known_utf8-forms_no_pair.ensures t))
 
 pub invariant_of-self-inside : goal.invariant_of-self-inside
