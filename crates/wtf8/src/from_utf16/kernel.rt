@@ -26,7 +26,6 @@ ghost use Rattle.wtf8.specs.private.PackedUnits.{first_byte, scalar_second_byte,
 
 use crate::codec::surrogates::{FIRST_LEAD, FIRST_TRAIL, SURROGATES_PER_HALF};
 use crate::from_utf16::shuffle_table;
-use crate::lanes::copies::store_block;
 use std::alloc::{AllocError, Allocator};
 use std::simd::prelude::*;
 
@@ -208,6 +207,15 @@ fn candidate_bytes(units: u16x8, later: LaterBytes) -> (u8x16, u8x16, u64)
     )
 }
 
+/// Stores 16 bytes at index `len` of a block.
+#[inline(always)]
+fn store(bytes: u8x16, block: &mut [u8], len: usize)
+    requires { len + 16 ≤ length block.old }
+    ensures { block.new ≡ take len block.old ++ (bytes ++ drop (len + 16) block.old) }
+{
+    bytes.copy_to_slice(&mut block[len..]);
+}
+
 /// Packs the bytes of four units at index `len` of a block, by row `number`. Returns the index after them.
 #[inline(always)]
 fn pack_four(lanes: u8x16, number: usize, block: &mut [u8], len: usize) -> usize
@@ -217,8 +225,11 @@ fn pack_four(lanes: u8x16, number: usize, block: &mut [u8], len: usize) -> usize
     ensures bytes { (before : ℕ) (u : List ℕ) → length u ≡ 4 → take 12 lanes ≡ byte_lanes before u → number ≡ units_table_index u
         → take result block.new ≡ take len block.old ++ packed_units before u }
 {
-    let packed = lanes.swizzle_dyn(shuffle_table::packing_shuffle(number));
-    store_block(block, len, packed.to_array());
+    store(
+        lanes.swizzle_dyn(shuffle_table::packing_shuffle(number)),
+        block,
+        len,
+    );
     len + shuffle_table::packed_len(number)
 }
 

@@ -75,13 +75,3 @@ pub(crate) fn push_block<T: Copy, const N: usize, A: Allocator>(
         items.push_reserved(block[at]);
     }
 }
-
-/// Overwrites the `N` items at index `at`.
-#[inline(always)]
-pub(crate) fn store_block<T: Copy, const N: usize>(items: &mut [T], at: usize, block: [T; N])
-    requires { at + N ≤ length items.old }
-    ensures items { items.new ≡ take at items.old ++ (block ++ drop (at + N) items.old) }
-    ensures len { length items.new ≡ length items.old }
-{
-    items[at..at + N].copy_from_slice(&block);
-}

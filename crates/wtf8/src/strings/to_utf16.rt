@@ -14,7 +14,7 @@ use crate::codec::encoding;
 use crate::codec::surrogates::{lead_of, trail_of};
 use crate::lanes::VECTOR;
 use crate::lanes::ascii::is_ascii_overlapping;
-use crate::lanes::copies::{push_block, store_block};
+use crate::lanes::copies::push_block;
 use crate::lanes::masks::first_set_lane;
 use crate::strings::view::Wtf8;
 use std::alloc::{AllocError, Allocator};
@@ -64,6 +64,17 @@ struct ThreeBytes;
 struct Undecoded<'a> {
     view: Wtf8<'a>,
     at: usize,
+}
+
+/// Writes `N` units from index `at` on.
+#[inline(always)]
+fn store_units<const N: usize>(units: &mut [u16], at: usize, block: [u16; N])
+    requires lanes { N ≤ u64.BITS }
+    requires room { at + N ≤ length units.old }
+    ensures front { (n : ℕ) → n ≤ N → take (at + n) units.new ≡ take at units.old ++ take n block.entry }
+    ensures len { length units.new ≡ length units.old }
+{
+    Simd::from_array(block).copy_to_slice(&mut units[at..]);
 }
 
 /// Widens each byte to a code unit.
@@ -225,7 +236,7 @@ fn write_units<'a, const N: usize>(
     ensures written { Writes units.old left.entry.at (view_units left.entry.view) units.new result.at (view_units result.view) }
     ensures bytes { result.view.bytes.now ≡ drop width left.entry.view.bytes.now }
 {
-    store_block(units, left.at, block);
+    store_units(units, left.at, block);
     Undecoded {
         view: left.view.skip_bytes(width),
         at: left.at + count,

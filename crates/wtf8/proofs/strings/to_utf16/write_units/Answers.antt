@@ -1,5 +1,4 @@
-use Rattle.wtf8.proofs.Common.{◌+◌, ◌++◌, ◌∙◌, ap, sym, arith, length, length-append, take, append_assoc, units, view_units, length-take-le}
-use Rattle.wtf8.proofs.lemmas.from_utf16.PackedUnits.{take-written_block}
+use Rattle.wtf8.proofs.Common.{◌++◌, ◌∙◌, ap, sym, arith, length, length-append, take, append_assoc, units, view_units, length-take-le}
 use Rattle.wtf8.proofs.strings.to_utf16.write_units.Goals as goal
 
 pub skip_bytes-requires-clause-well_formed : goal.skip_bytes-requires-clause-well_formed
@@ -11,10 +10,8 @@ returns-clause-written g c =
     let front = take c.args.count c.args.block in
     let begins = c.requires.begins c.args.left.view.well_formed in
     let after = ap units (c.skip_bytes.ensures.points begins.0) in
-    let written = ap (take (c.args.left.at + c.args.count)) c.store_block.ensures.items
-    ∙ take-written_block c.args.units.now c.args.block _ c.args.left.at c.args.count (omega (arith, c.requires.room)) (omega (arith, c.requires.within.0)) in
     record {
-      units = ap (λ u. u ++ view_units c.skip_bytes.result) written ∙ (append_assoc old front (view_units c.skip_bytes.result)
+      units = ap (λ u. u ++ view_units c.skip_bytes.result) (c.store_units.ensures.front c.args.count c.requires.within.0) ∙ (append_assoc old front (view_units c.skip_bytes.result)
           ∙ (ap (λ u. old ++ (front ++ u)) after ∙ ap (λ u. old ++ u) (sym begins.1)));
       same_total = omega (
         arith,
@@ -23,5 +20,5 @@ returns-clause-written g c =
         ap length after,
         length-take-le c.args.count c.args.block (omega (arith, c.requires.within.0)),
       );
-      len = c.store_block.ensures.len;
+      len = c.store_units.ensures.len;
     }
