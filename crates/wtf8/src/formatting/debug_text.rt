@@ -1,5 +1,5 @@
 // Debug texts. The functions ignore the formatter's width and flags.
-ghost use Rattle.std.specs.Prelude.{◌≡◌, ◌<◌, Some, [], ◌∷◌};
+ghost use Rattle.std.specs.Prelude.{◌<◌, Some, [], ◌∷◌};
 ghost use Rattle.std.specs.Fmt.{DisplaysOnOk, WritesStyledOnOk};
 ghost use Rattle.std.specs.List.{flat_map};
 ghost use Rattle.wtf8.specs.CodePoint.{number};

@@ -1,7 +1,7 @@
 // Encodes a list of code units in steps. What a step encodes depends on the next units: an ASCII run of up to 32, 16 or
 // 8 units and the code point after it, blocks of `kernel`, or one code point. `decode_utf16`
 // decodes the last units: fewer than 8, or fewer than 16 if there is a lone surrogate among the first 8 of them.
-ghost use Rattle.std.specs.Prelude.{◌≡◌, ℕ, [], true, ◌+◌, ◌++◌, ◌^◌, ◌<◌, ◌≤◌, length, map, min, take, IfOk, IfSome, IsTrue, OnOk, IsOk};
+ghost use Rattle.std.specs.Prelude.{◌≡◌, [], true, ◌+◌, ◌^◌, ◌<◌, ◌≤◌, length, map, min, IfOk, IsOk};
 ghost use Rattle.wtf8.specs.private.ConvertedPrefix.{IsKnownForm, IsReadTo};
 
 use crate::codec::code_point::CodePoint;

@@ -1,5 +1,5 @@
 // Copies of bytes, short ones as two overlapping blocks.
-ghost use Rattle.std.specs.Prelude.{◌≡◌, [], ◌++◌, ◌+◌, ◌*◌, ◌<◌, ◌≤◌, length, take, drop, IfOk, IsOk, vec_capacity};
+ghost use Rattle.std.specs.Prelude.{◌≡◌, [], ◌++◌, ◌+◌, ◌*◌, ◌<◌, ◌≤◌, length, IfOk, IsOk, vec_capacity};
 
 use std::alloc::{AllocError, Allocator};
 use std::simd::prelude::*;

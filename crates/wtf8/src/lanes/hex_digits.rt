@@ -1,6 +1,6 @@
 // Bytes written as upper-case hexadecimal text.
 ghost use Rattle.std.specs.List.{flat_map};
-ghost use Rattle.std.specs.Prelude.{◌≡◌, [], ◌++◌, ◌+◌, ◌*◌, ◌<◌, ◌≤◌, length, map, take, vec_len, vec_capacity, IfOk, OnOk, OnErr, IsOk};
+ghost use Rattle.std.specs.Prelude.{◌≡◌, [], ◌++◌, ◌+◌, ◌*◌, ◌<◌, ◌≤◌, length, map, vec_len, vec_capacity, IfOk, OnOk, OnErr, IsOk};
 ghost use Rattle.std.specs.Simd.Lanes.{Each1};
 ghost use Rattle.std.specs.String.{string_bytes};
 ghost use Rattle.wtf8.specs.Hex.{digit, hex_of, hex};

@@ -1,7 +1,7 @@
 // Finds the encodings of surrogates in bytes, and replaces them by U+FFFD.
 ghost use Rattle.std.specs.Prelude.{◌≡◌, ◌∷◌, ◌++◌, ◌+◌, ◌<◌, ◌≤◌, length, take, drop};
 ghost use Rattle.wtf8.specs.Form.{IsWellFormed, bytes as bytes_of};
-ghost use Rattle.wtf8.specs.private.FirstIndex.{IsFirst, IsFirstIn, NoneIn};
+ghost use Rattle.wtf8.specs.private.FirstIndex.{IsFirst, IsFirstIn};
 ghost use Rattle.wtf8.specs.private.SurrogateSearch.{SurrogateInLane, SurrogateAt};
 ghost use Rattle.wtf8.specs.Surrogates.{lossy_points};
 

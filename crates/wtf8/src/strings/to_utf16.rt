@@ -2,12 +2,10 @@
 ghost use Rattle.std.specs.Prelude.{◌≡◌, ℕ, ◌++◌, ◌+◌, ◌*◌, ◌<◌, ◌≤◌, length, take, drop, IsOk, IsTrue, OnOk, OnErr, false, vec_len, vec_capacity};
 ghost use lib.Lanes.{Each1};
 ghost use Rattle.wtf8.specs.CodePoint.{number};
-ghost use Rattle.wtf8.specs.Form.{IsWellFormed};
 ghost use Rattle.wtf8.specs.private.ConvertedPrefix.{AreAscii};
 ghost use Rattle.wtf8.specs.private.EncodedBytes.{BecomesOrKeeps};
-ghost use Rattle.wtf8.specs.Unicode.{units_of};
 ghost use Rattle.wtf8.specs.private.EncodedRuns.{HasBitPrefix, BeginsWithUnits, lead_bytes_of, unit_of_two, unit_of_three, units_of_run, Writes};
-ghost use Rattle.wtf8.specs.View.{view_points, view_units};
+ghost use Rattle.wtf8.specs.View.{view_units};
 
 use crate::codec::code_point::CodePoint;
 use crate::codec::encoding;
