@@ -1,6 +1,5 @@
 // Appending to well-formed bytes: a lead surrogate at their end and a trail surrogate after it become one code point.
-ghost use Rattle.std.specs.Prelude.{◌≡◌, ℕ, List, [], ◌∷◌, ◌++◌, ◌+◌, ◌-◌, ◌≤◌, ◌<◌, length, take, drop, IsOk, OnSome, IfSome, IfNone, vec_len};
-ghost use Rattle.std.specs.Prelude.{vec_capacity, IsTrue, slice_index, ◌%◌};
+ghost use Rattle.std.specs.Prelude.{◌≡◌, ℕ, List, [], ◌∷◌, ◌++◌, ◌+◌, ◌-◌, ◌≤◌, ◌<◌, length, take, drop, IsOk, OnSome, IfSome, IfNone, vec_len, vec_capacity, IsTrue, slice_index, ◌%◌};
 ghost use Rattle.std.specs.Str.{chars};
 ghost use Rattle.wtf8.specs.CodePoint.{number};
 ghost use Rattle.wtf8.specs.Concatenation.{MeetsAsPair};

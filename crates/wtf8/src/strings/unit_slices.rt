@@ -19,7 +19,6 @@ pub struct UnitSlice<'a> {
     pub lead: Option<u16>,
 }
 
-/// Returns 1 if there is a half of a pair, else 0.
 #[inline(always)]
 fn half_len(half: Option<u16>) -> usize
     ensures count { result ≡ length (option_to_list half) }
