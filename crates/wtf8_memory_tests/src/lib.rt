@@ -1,8 +1,6 @@
-// Tests of the memory that public calls of `wtf8` request, what they leave if it is refused, and lists of calls.
+// Tests of the memory that public calls of `wtf8` request, and of what they leave if it is refused.
 #![tactic(auto)]
 
-#[cfg(test)]
-mod calls;
 #[cfg(test)]
 mod growing;
 #[cfg(test)]

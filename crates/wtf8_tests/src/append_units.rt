@@ -120,49 +120,10 @@ fn expect_overwritten_back(alloc: Global, unit: u16, length: usize) -> Result<()
 fn all_units_are_appended(rt: HostRuntime) -> Result<(), Wrong> {
     let alloc = rt.alloc();
     for length in 0..=50 {
-        expect_units_back(alloc, vec![in alloc; 0x0061; length])?;
-        expect_overwritten_back(alloc, 0x0061, length)?;
-    }
-    Ok(())
-}
-
-#[test]
-fn blocks_of_other_units_are_appended(rt: HostRuntime) -> Result<(), Wrong> {
-    let alloc = rt.alloc();
-    for length in 0..=26 {
-        for unit in [0x0080, 0x07FF, 0x0800, 0xFFFF, 0xD7FF, 0xD800, 0xDFFF] {
+        for unit in [
+            0x0061, 0x0080, 0x07FF, 0x0800, 0xFFFF, 0xD7FF, 0xD800, 0xDFFF,
+        ] {
             expect_overwritten_back(alloc, unit, length)?;
-        }
-    }
-    Ok(())
-}
-
-/// 40 consecutive units from `start` on, with `other` inserted at index `at`.
-fn inserted(alloc: Global, start: u16, other: &[u16], at: u16) -> Result<Vec<u16>, AllocError> {
-    let mut units = Vec::new(alloc);
-    for index in 0..40u16 {
-        if index == at {
-            units.extend_from_slice(other)?;
-        }
-        units.push(start.wrapping_add(index))?;
-    }
-    Ok(units)
-}
-
-/// Fails unless 40 consecutive units from `start` on, with `other` inserted at each index, come back.
-fn expect_inserted_back(alloc: Global, start: u16, other: &[u16]) -> Result<(), Wrong> {
-    for at in 0..40 {
-        expect_units_back(alloc, inserted(alloc, start, other, at))?;
-    }
-    Ok(())
-}
-
-#[test]
-fn blocks_of_different_units_are_appended(rt: HostRuntime) -> Result<(), Wrong> {
-    let alloc = rt.alloc();
-    for start in [0x0080, 0x07E8, 0x4E00, 0xD7F0, 0xDBF0, 0xFFD8] {
-        for other in others() {
-            expect_inserted_back(alloc, start, other)?;
         }
     }
     Ok(())

@@ -36,15 +36,3 @@ pub fn expect_made<A: Allocator + Drop>(
 ) -> Result<(), Wrong> {
     expect_bytes(alloc, made?.as_wtf8(), dump)
 }
-
-/// Fails unless a string was made, and has the bytes of `dump` and the code units `units`.
-pub fn expect_made_of(
-    alloc: Global,
-    made: Result<Wtf8Buf<Global>, AllocError>,
-    dump: &str,
-    units: &[u16],
-) -> Result<(), Wrong> {
-    let text = made?;
-    expect_bytes(alloc, text.as_wtf8(), dump)?;
-    expect_units(alloc, text.as_wtf8(), units)
-}
