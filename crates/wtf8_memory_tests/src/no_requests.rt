@@ -65,34 +65,12 @@ fn expect_nothing<A: Allocator + Drop + Copy>(alloc: Global, heap: A) -> Result<
     expect_true(has_no_texts(heap, text.as_wtf8()))
 }
 
-#[test]
-fn empty_values_make_no_request(rt: HostRuntime) -> Result<(), Wrong> {
-    let alloc = rt.alloc();
-    let heap = Refusing::new(alloc, 0);
-    for grants in GRANTS {
-        heap.grant(grants);
-        expect_left(&heap, grants, expect_nothing(alloc, &heap))?;
-    }
-    Ok(())
-}
-
 /// Fails unless each call that makes a string of nothing makes an empty one.
 fn expect_made_of_nothing<A: Allocator + Drop + Copy>(alloc: Global, heap: A) -> Result<(), Wrong> {
     expect_made(alloc, Wtf8Buf::with_capacity(heap, 0), "")?;
     expect_made(alloc, Wtf8Buf::from_str(heap, ""), "")?;
     expect_made(alloc, Wtf8Buf::from_ill_formed_utf16(heap, &[]), "")?;
     expect_made(alloc, Wtf8Buf::from_iter(heap, []), "")
-}
-
-#[test]
-fn strings_of_nothing_make_no_request(rt: HostRuntime) -> Result<(), Wrong> {
-    let alloc = rt.alloc();
-    let heap = Refusing::new(alloc, 0);
-    for grants in GRANTS {
-        heap.grant(grants);
-        expect_left(&heap, grants, expect_made_of_nothing(alloc, &heap))?;
-    }
-    Ok(())
 }
 
 /// Whether the lossy text is `text`, borrowed.
@@ -106,10 +84,13 @@ fn is_lossy_text_borrowed<A: Allocator + Drop>(
 }
 
 #[test]
-fn a_borrowed_lossy_text_makes_no_request(rt: HostRuntime) -> Result<(), Wrong> {
-    let heap = Refusing::new(rt.alloc(), 0);
+fn nothing_and_borrowed_texts_make_no_request(rt: HostRuntime) -> Result<(), Wrong> {
+    let alloc = rt.alloc();
+    let heap = Refusing::new(alloc, 0);
     for grants in GRANTS {
         heap.grant(grants);
+        expect_left(&heap, grants, expect_nothing(alloc, &heap))?;
+        expect_left(&heap, grants, expect_made_of_nothing(alloc, &heap))?;
         let found = is_lossy_text_borrowed(&heap, Wtf8::from_str("a"), "a");
         expect_left(&heap, grants, expect_true(found))?;
     }
@@ -329,16 +310,6 @@ fn expect_text(alloc: Global, heap: Lent<'_>, grants: u64) -> Result<(), Wrong> 
     expect_owned(alloc, text)
 }
 
-#[test]
-fn texts_of_a_string(rt: HostRuntime) -> Result<(), Wrong> {
-    let alloc = rt.alloc();
-    let heap = Refusing::new(alloc, 0);
-    for grants in GRANTS {
-        expect_left(&heap, grants, expect_text(alloc, &heap, grants))?;
-    }
-    Ok(())
-}
-
 /// Fails unless `back` is `TEXT` and a lead surrogate, which is U+FFFD in the lossy text.
 fn expect_lossy<A: Allocator + Drop>(alloc: Global, back: Wtf8Buf<A>) -> Result<(), Wrong> {
     expect_bytes(alloc, back.as_wtf8(), "61 C3 A9 20 F0 9F 92 A9 ED A0 80")?;
@@ -364,10 +335,11 @@ fn expect_no_text<A: Allocator + Drop>(
 }
 
 #[test]
-fn texts_of_a_string_with_a_surrogate(rt: HostRuntime) -> Result<(), Wrong> {
+fn texts_of_a_string_make_no_request(rt: HostRuntime) -> Result<(), Wrong> {
     let alloc = rt.alloc();
     let heap = Refusing::new(alloc, 0);
     for grants in GRANTS {
+        expect_left(&heap, grants, expect_text(alloc, &heap, grants))?;
         let made = text_of(&heap, true, grants);
         expect_left(&heap, grants, expect_no_text(alloc, made))?;
     }

@@ -1,6 +1,6 @@
-// Strings built from what the standard library makes of code points: arrays, options and adapters. Scripts compare
+// Strings built from what the standard library makes of code points: arrays and options. Scripts compare
 // strings built from slices with the original crate.
-use crate::examples::{TEXT, TEXT_DUMP, expect_made, joined, point_of_unit};
+use crate::examples::{expect_made, joined, point_of_unit};
 use crate::wrong::Wrong;
 use std::alloc::{AllocError, Allocator, Global};
 use wtf8::{CodePoint, Wtf8Buf};
@@ -23,13 +23,6 @@ fn arrays_are_taken(rt: HostRuntime) -> Result<(), Wrong> {
     let pair = [point_of_unit(0xD83D), point_of_unit(0xDCA9)];
     let text = of_arrays(alloc, [a, pair[0]], [pair[1], b]);
     expect_made(alloc, text, "61 F0 9F 92 A9 62")
-}
-
-#[test]
-fn characters_are_taken_as_code_points(rt: HostRuntime) -> Result<(), Wrong> {
-    let alloc = rt.alloc();
-    let points = TEXT.chars().map(CodePoint::from_char);
-    expect_made(alloc, Wtf8Buf::from_iter(alloc, points), TEXT_DUMP)
 }
 
 /// Extends `text` by no code point, then by `point`.

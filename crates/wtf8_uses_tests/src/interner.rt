@@ -43,15 +43,3 @@ fn a_string_keeps_its_number(rt: HostRuntime) -> Result<(), Wrong> {
     }
     Ok(())
 }
-
-#[test]
-fn strings_of_one_hash_have_their_own_numbers(rt: HostRuntime) -> Result<(), Wrong> {
-    let mut interner = Interner::new(rt.alloc());
-    let names = ["Aa", "BB", "AaAa", "AaBB", "BBAa", "BBBB", "C#", ""];
-    for _ in 0..2 {
-        for (number, name) in names.iter().enumerate() {
-            expect_number(&mut interner, Wtf8::from_str(name), number)?;
-        }
-    }
-    expect(interner.len() == names.len(), Wrong::Outcome)
-}

@@ -25,6 +25,4 @@ mod shared;
 #[cfg(test)]
 mod sorting;
 #[cfg(test)]
-mod string_prototype;
-#[cfg(test)]
 mod unit_slices;

@@ -1,9 +1,9 @@
 // Readers that return bytes in pieces, are interrupted, or fail. Expected values are of Python's codecs, or plain text.
-use std::alloc::{AllocError, Allocator, Global};
+use std::alloc::{Allocator, Global};
 use std::io;
 use std::io::{ErrorKind, Read};
 use wtf8::Wtf8Buf;
-use wtf8_tests::wrong::{Wrong, expect, expect_bytes, made};
+use wtf8_tests::wrong::{Wrong, expect, expect_bytes};
 use wtf8_uses::reading::{ReadError, read_utf16};
 
 /// Returns at most `most` bytes a read. Fails once, when at most `failing` bytes are left; later reads succeed.
@@ -93,46 +93,6 @@ fn pieces_of_any_size_are_one_input(rt: HostRuntime) -> Result<(), Wrong> {
             let calls = bytes.len().div_ceil(most).wrapping_add(2);
             expect_read(rt.alloc(), bytes, most, calls, expected)?;
         }
-    }
-    Ok(())
-}
-
-/// The UTF-16 bytes, low byte first, of `letters` times "a", a surrogate pair and "b", and that text.
-fn letters_and_pair(alloc: Global, letters: u32) -> Result<(Vec<u8>, String), AllocError> {
-    let mut bytes = Vec::new(alloc);
-    let mut text = String::new(alloc);
-    for _ in 0..letters {
-        bytes.extend_from_slice(b"\x61\x00")?;
-        text.push('a')?;
-    }
-    bytes.extend_from_slice(b"\x3D\xD8\xA9\xDC\x62\x00")?;
-    text.push_str("💩b")?;
-    Ok((bytes, text))
-}
-
-/// Whether reading pieces of at most `most` bytes gives `text`.
-fn is_text_read(alloc: Global, bytes: &[u8], most: usize, text: &str) -> bool {
-    let mut reader = Pieces {
-        rest: bytes,
-        most,
-        failing: 0,
-        error: None,
-        calls: 0,
-    };
-    match read_utf16(alloc, &mut reader) {
-        Ok(string) => string.as_wtf8().as_str() == Some(text),
-        Err(_) => false,
-    }
-}
-
-#[test]
-fn a_pair_is_cut_by_the_largest_piece_and_by_single_bytes(rt: HostRuntime) -> Result<(), Wrong> {
-    let (bytes, text) = made(letters_and_pair(rt.alloc(), 2047))?;
-    for most in [1, 4095, 4096, 4097] {
-        assert!(rt;
-            is_text_read(rt.alloc(), &bytes, most, &text),
-            "{most} at a time"
-        );
     }
     Ok(())
 }
