@@ -243,7 +243,7 @@ impl<A: Allocator> Wtf8Buf<A> {
         ensures at_most { OnOk result (length self.new.bytes ≤ length self.old.bytes + length (encoding (number code_point))) }
         ensures room_left { length self.old.bytes + length (encoding (number code_point)) ≤ self.old.capacity → IsOk result }
     {
-        concat::push_point(&mut self.bytes, &mut self.known_prefix, code_point)
+        concat::push(&mut self.bytes, &mut self.known_prefix, code_point)
     }
 
     /// Appends a character. If memory is refused, the string is unchanged.
@@ -269,7 +269,7 @@ impl<A: Allocator> Wtf8Buf<A> {
         ensures ascii_length { c < 0x80 → OnOk result (length self.new.bytes ≡ length self.old.bytes + 1) }
         ensures ascii_room { c < 0x80 → length self.old.bytes + 1 ≤ self.old.capacity → IsOk result }
     {
-        concat::push_scalar(&mut self.bytes, c)
+        concat::push_char(&mut self.bytes, c)
     }
 
     /// Appends a `&str`. If memory is refused, the string is unchanged.
@@ -288,7 +288,7 @@ impl<A: Allocator> Wtf8Buf<A> {
         ensures room_left { length self.old.bytes + length other.now ≤ self.old.capacity → IsOk result }
         ensures nothing { other.now ≡ [] → KeepsContents self.old self.new }
     {
-        concat::push_text(&mut self.bytes, other)
+        concat::push_str(&mut self.bytes, other)
     }
 
     /// Appends another string. A trail surrogate at its front completes a lead surrogate at the end: the two become one
@@ -328,10 +328,7 @@ impl<A: Allocator> Wtf8Buf<A> {
         ensures room_left { length self.old.bytes + length other.entry.bytes.now ≤ self.old.capacity → IsOk result }
         ensures nothing { other.entry.bytes.now ≡ [] → KeepsContents self.old self.new }
     {
-        // A string without surrogates has no lead at its end.
-        let forms_no_pair = self.is_known_utf8();
-        self.known_prefix = self.known_prefix.after_push(self.bytes.len(), other);
-        concat::push_view(&mut self.bytes, other, forms_no_pair)
+        concat::push_wtf8(&mut self.bytes, &mut self.known_prefix, other)
     }
 
     /// Shortens the string to `new_len` bytes, which must be a code point boundary (`is_code_point_boundary` of the

@@ -1,10 +1,12 @@
 // Appending to well-formed bytes: a lead surrogate at their end and a trail surrogate after it become one code point.
-ghost use Rattle.std.specs.Prelude.{◌≡◌, ℕ, List, [], ◌∷◌, ◌++◌, ◌+◌, ◌-◌, ◌≤◌, ◌<◌, length, take, drop, IsOk, OnSome, IfSome, IfNone, vec_len, vec_capacity, IsTrue, slice_index, ◌%◌};
+ghost use Rattle.std.specs.Prelude.{◌≡◌, ℕ, List, [], ◌∷◌, ◌++◌, ◌+◌, ◌-◌, ◌≤◌, ◌<◌, length, take, drop, IsOk, OnSome, IfSome, IfNone, vec_len, vec_capacity, slice_index, ◌%◌};
 ghost use Rattle.std.specs.Str.{chars};
 ghost use Rattle.wtf8.specs.CodePoint.{number};
 ghost use Rattle.wtf8.specs.Concatenation.{MeetsAsPair};
 ghost use Rattle.wtf8.specs.Form.{IsWellFormed, encoding};
+ghost use Rattle.wtf8.specs.OneForm.{AreScalarTo};
 ghost use Rattle.wtf8.specs.private.EncodedBytes.{ExtendsForm, BecomesOrKeeps, ExtendsFormOrKeeps};
+ghost use Rattle.wtf8.specs.Surrogates.{AreScalar};
 ghost use Rattle.wtf8.specs.Unicode.{units, units_of, pair, IsSurrogate, IsLead, IsTrail};
 ghost use Rattle.wtf8.specs.View.{view_points, view_units};
 
@@ -87,7 +89,7 @@ pub(crate) fn push_surrogate<A: Allocator>(
 /// Appends a code point; a trail surrogate completes a lead at the end. A surrogate cuts the known prefix to at
 /// most the old length.
 #[inline(always)]
-pub(crate) fn push_point<A: Allocator>(
+pub(crate) fn push<A: Allocator>(
     bytes: &mut Vec<u8, A>,
     known_prefix: &mut KnownPrefix,
     code_point: CodePoint,
@@ -121,18 +123,13 @@ fn append_bytes<A: Allocator>(bytes: &mut Vec<u8, A>, other: &[u8]) -> Result<()
 }
 
 /// Returns the lead surrogate that ends `front` and the trail surrogate that begins `back`, if both are there.
-/// `forms_no_pair` says that they are not both there, which skips the tests.
 #[inline(always)]
-fn pair_at_seam(front: Wtf8<'_>, back: Wtf8<'_>, forms_no_pair: bool) -> Option<(u32, u32)>
-    requires { IsTrue forms_no_pair → ¬ (MeetsAsPair (view_points front) (view_points back)) }
+fn pair_at_seam(front: Wtf8<'_>, back: Wtf8<'_>) -> Option<(u32, u32)>
     ensures pair { IfSome result (λ p. IsLead p.0 × IsTrail p.1) }
     ensures last { IfSome result (λ p. (f : List ℕ) × (view_points front.entry ≡ f ++ p.0 ∷ [])) }
     ensures first { IfSome result (λ p. (r : List ℕ) × (view_points back.entry ≡ p.1 ∷ r)) }
     ensures none { IfNone result (¬ (MeetsAsPair (view_points front.entry) (view_points back.entry))) }
 {
-    if forms_no_pair {
-        return None;
-    }
     let trail = back.initial_trail_surrogate()?;
     let lead = front.final_lead_surrogate()?;
     Some((lead, trail))
@@ -162,28 +159,49 @@ fn append_completing_pair<A: Allocator>(
     Ok(())
 }
 
-/// Appends a view; a lead at the end and a trail at its front become one code point. `forms_no_pair` says that these
-/// are not both there, which skips the tests.
+/// Appends a view to a string that may hold surrogates: a lead at the end and a trail at its front become one code point.
 #[inline(always)]
-pub(crate) fn push_view<A: Allocator>(
+fn append_completing<A: Allocator>(
     bytes: &mut Vec<u8, A>,
     other: Wtf8<'_>,
-    forms_no_pair: bool,
 ) -> Result<(), AllocError>
-    requires well_formed { IsWellFormed bytes.old.items }
-    requires no_pair { IsTrue forms_no_pair → (h : IsWellFormed bytes.old.items) → ¬ (MeetsAsPair h.points (view_points other)) }
+    requires { IsWellFormed bytes.old.items }
     ensures { ExtendsFormOrKeeps bytes.old (view_units other.entry) bytes.new result }
 {
     let view = Wtf8::from_well_formed(bytes.as_slice());
-    match pair_at_seam(view, other, forms_no_pair) {
+    match pair_at_seam(view, other) {
         Some((lead, trail)) => append_completing_pair(bytes, lead, trail, other.bytes),
         None => append_bytes(bytes, other.bytes),
     }
 }
 
+/// Appends a view; a lead at the end and a trail at its front become one code point. A view that is not empty cuts the
+/// known prefix to at most the old length, since it is not searched.
+#[inline(always)]
+pub(crate) fn push_wtf8<A: Allocator>(
+    bytes: &mut Vec<u8, A>,
+    known_prefix: &mut KnownPrefix,
+    other: Wtf8<'_>,
+) -> Result<(), AllocError>
+    requires well_formed { IsWellFormed bytes.old.items }
+    requires scalar_prefix { (h : IsWellFormed bytes.old.items) → AreScalarTo known_prefix.old.end h.points }
+    ensures extends { ExtendsFormOrKeeps bytes.old (view_units other.entry) bytes.new result }
+    ensures known { known_prefix.new.end ≤ known_prefix.old.end }
+    ensures scalar { length bytes.old.items < known_prefix.new.end → AreScalar (view_points other.entry) }
+{
+    let is_utf8 = bytes.len() <= known_prefix.end;
+    *known_prefix = known_prefix.after_push(bytes.len(), other);
+    if is_utf8 {
+        // A string without surrogates has no lead at its end.
+        append_bytes(bytes, other.bytes)
+    } else {
+        append_completing(bytes, other)
+    }
+}
+
 /// Appends a character, which completes no pair.
 #[inline(always)]
-pub(crate) fn push_scalar<A: Allocator>(bytes: &mut Vec<u8, A>, c: char) -> Result<(), AllocError>
+pub(crate) fn push_char<A: Allocator>(bytes: &mut Vec<u8, A>, c: char) -> Result<(), AllocError>
     requires { IsWellFormed bytes.old.items }
     ensures units { ExtendsForm bytes.old.items (bytes.old.items ++ encoding c) (units_of c) }
     ensures bytes { BecomesOrKeeps bytes.old (bytes.old.items ++ encoding c) bytes.new result }
@@ -193,7 +211,7 @@ pub(crate) fn push_scalar<A: Allocator>(bytes: &mut Vec<u8, A>, c: char) -> Resu
 }
 
 /// Appends a text, which completes no pair.
-pub(crate) fn push_text<A: Allocator>(bytes: &mut Vec<u8, A>, other: &str) -> Result<(), AllocError>
+pub(crate) fn push_str<A: Allocator>(bytes: &mut Vec<u8, A>, other: &str) -> Result<(), AllocError>
     requires { IsWellFormed bytes.old.items }
     ensures units { ExtendsForm bytes.old.items (bytes.old.items ++ other.now) (units (chars other.now)) }
     ensures bytes { BecomesOrKeeps bytes.old (bytes.old.items ++ other.now) bytes.new result }

@@ -1,32 +1,33 @@
-use Rattle.wtf8.proofs.Common.{UnitString, IsForm, ◌++◌, ◌∙◌, subst, sym, append-nil, ap, arith, length, refl, units, view_units, view_form}
-use Rattle.wtf8.proofs.lemmas.strings.ExtendedForms.{units_appended, kept_contents, room_found, known_prefix_after_append, scalar_front_unpaired, scalar-equal_bytes}
+use Rattle.wtf8.proofs.Common.{UnitString, IsForm, ◌++◌, ◌∙◌, subst, sym, append-nil, ap, arith, length, refl, units, view_units, view_form, AreScalarTo}
+use Rattle.wtf8.proofs.lemmas.strings.ExtendedForms.{units_appended, kept_contents, room_found, known_prefix_after_append}
 use Rattle.wtf8.proofs.lemmas.laws.StringLaws.{grows_at_most, added_length, nothing_appended, room_left}
-use Rattle.wtf8.proofs.lemmas.codec.Readings.{points-nil, well_formed_of, form_of}
+use Rattle.wtf8.proofs.lemmas.codec.Readings.{points-nil, form_of, same_points}
 use Rattle.wtf8.proofs.strings.buf.Wtf8Buf.push_wtf8.Goals as goal
 
-pub push_view-requires-clause-no_pair : goal.push_view-requires-clause-no_pair
-push_view-requires-clause-no_pair g c t h =
-    scalar_front_unpaired (scalar-equal_bytes (well_formed_of c.args.self.now.form) h (ap (λ (t : UnitString). t.bytes) c.self.view_is) (c.is_known_utf8-forms_no_pair.ensures t))
+pub push_wtf8-requires-clause-scalar_prefix : goal.push_wtf8-requires-clause-scalar_prefix
+push_wtf8-requires-clause-scalar_prefix g c h =
+    let own = c.self.inside in
+    subst (AreScalarTo own.known_prefix.end) (same_points own.well_formed h refl) own.scalar_prefix
 
 pub invariant_of-self-inside : goal.invariant_of-self-inside
 invariant_of-self-inside g c =
     let other = c.args.other.well_formed in
     let own = c.self.inside in
-    let end = c.after_push-self-inside.ensures in
-    known_prefix_after_append c.push_view.result other.points own.known_prefix.end _ own.well_formed refl other.clean own.scalar_prefix
-    end.order (λ m. end.scalar (omega (arith, m))) c.push_view.ensures
+    let end = c.push_wtf8.ensures in
+    known_prefix_after_append c.push_wtf8.result other.points own.known_prefix.end _ own.well_formed refl other.clean own.scalar_prefix
+    end.known end.scalar c.push_wtf8.ensures.extends
 
 pub returns-clause-ok : goal.returns-clause-ok
-returns-clause-ok g c = units_appended _ _ c.self-1.given.0 c.self.view_is refl c.push_view.ensures
+returns-clause-ok g c = units_appended _ _ c.self-1.given.0 c.self.view_is refl c.push_wtf8.ensures.extends
 
 pub returns-clause-kept : goal.returns-clause-kept
-returns-clause-kept g c = kept_contents _ _ _ c.self.view_is refl refl c.push_view.ensures
+returns-clause-kept g c = kept_contents _ _ _ c.self.view_is refl refl c.push_wtf8.ensures.extends
 
 pub returns-clause-length : goal.returns-clause-length
-returns-clause-length g c = added_length c.push_view.result _ _ c.args.other (returns-clause-ok g c)
+returns-clause-length g c = added_length c.push_wtf8.result _ _ c.args.other (returns-clause-ok g c)
 
 pub returns-clause-room : goal.returns-clause-room
-returns-clause-room g c = room_found _ _ c.self.view_is refl refl c.push_view.ensures
+returns-clause-room g c = room_found _ _ c.self.view_is refl refl c.push_wtf8.ensures.extends
 
 pub returns-clause-empty : goal.returns-clause-empty
 returns-clause-empty g c e =
@@ -35,11 +36,11 @@ returns-clause-empty g c e =
     returns-clause-room g c (record { whole = s.bytes; form = form; within = omega (arith, s.fits) })
 
 pub returns-clause-at_most : goal.returns-clause-at_most
-returns-clause-at_most g c = grows_at_most c.push_view.result c.args.self.now _ (view_units c.args.other) (form_of c.self-1.given.0) (view_form c.args.other) (returns-clause-ok g c)
+returns-clause-at_most g c = grows_at_most c.push_wtf8.result c.args.self.now _ (view_units c.args.other) (form_of c.self-1.given.0) (view_form c.args.other) (returns-clause-ok g c)
 
 pub returns-clause-room_left : goal.returns-clause-room_left
 returns-clause-room_left g c h = returns-clause-room g c (room_left c.args.self.now _ (view_units c.args.other) (view_form c.args.other) h)
 
 pub returns-clause-nothing : goal.returns-clause-nothing
 returns-clause-nothing g c e =
-    nothing_appended c.push_view.result _ _ _ (ap units (points-nil c.args.other.well_formed (ap length e))) (returns-clause-ok g c) (returns-clause-kept g c)
+    nothing_appended c.push_wtf8.result _ _ _ (ap units (points-nil c.args.other.well_formed (ap length e))) (returns-clause-ok g c) (returns-clause-kept g c)

@@ -1,6 +1,6 @@
 use Rattle.wtf8.proofs.Common.{◌∙◌, ◌∷◌, [], sym, subst, AreScalar}
 use Rattle.wtf8.proofs.lemmas.strings.ExtendedForms.{scalar_back_unpaired, scalar_facts}
-use Rattle.wtf8.proofs.strings.concat.push_scalar.Goals as goal
+use Rattle.wtf8.proofs.strings.concat.push_char.Goals as goal
 
 pub push_unpaired-requires-clause-no_pair : goal.push_unpaired-requires-clause-no_pair
 push_unpaired-requires-clause-no_pair g c h =
