@@ -191,6 +191,19 @@ impl EncodedLength<16, 1, 16> for OneByte {
     }
 }
 
+impl EncodedLength<32, 1, 32> for OneByte {
+    #[inline(always)]
+    fn read(bytes: &[u8]) -> ([u16; 32], usize) {
+        let block = u8x32::from_slice(bytes);
+        (widen_bytes(block), count_leading_with_prefix(block, 128, 0))
+    }
+
+    #[inline(always)]
+    fn is_lead_byte(byte: u8) -> bool {
+        byte < 0x80
+    }
+}
+
 impl EncodedLength<8, 2, 16> for TwoBytes {
     #[inline(always)]
     fn read(bytes: &[u8]) -> ([u16; 8], usize) {
@@ -317,6 +330,9 @@ fn decode_next<'a>(units: &mut [u16], left: Undecoded<'a>) -> Undecoded<'a>
         return decode_point(units, left);
     }
     match bytes {
+        [0x00..=0x7F, 0x00..=0x7F, ..] if 32 <= bytes.len() => decode_run::<32, 1, 32, OneByte>(
+            units, left,
+        ),
         [0x00..=0x7F, 0x00..=0x7F, ..] => decode_run::<16, 1, 16, OneByte>(units, left),
         [0xC0..=0xDF, _, 0xC0..=0xDF, ..] => decode_run::<8, 2, 16, TwoBytes>(units, left),
         [0xE0..=0xEF, _, _, 0xE0..=0xEF, ..] => decode_run::<8, 3, 32, ThreeBytes>(units, left),
