@@ -1,5 +1,6 @@
 // Marks: byte positions with a known number of code units before them, from which later units are found.
-ghost use Rattle.std.specs.Prelude.{◌≡◌, ◌≤◌, length, drop};
+ghost use Rattle.std.specs.Prelude.{◌≡◌, ℕ, ◌≤◌, length, drop};
+ghost use Rattle.wtf8.specs.Position.{IsBoundary};
 ghost use Rattle.wtf8.specs.UnitMark.{IsMarkOf, IsUndivided};
 ghost use Rattle.wtf8.specs.UnitPosition.{DividesPair};
 ghost use Rattle.wtf8.specs.View.{view_units};
@@ -63,5 +64,41 @@ impl<'a> Wtf8<'a> {
                 units: units - 1,
             },
         }
+    }
+
+    /// The mark at the last code point boundary at or before the byte `position`, which must be at most the length.
+    /// `from` must be a mark of this string at or before `position`; the time depends only on the distance from it.
+    pub fn mark_before(&self, from: UnitMark, position: usize) -> UnitMark
+        requires mark { IsMarkOf self.now from }
+        requires order { from.position ≤ position }
+        requires within { position ≤ length self.now.bytes.now }
+        ensures mark { IsMarkOf self.now result }
+        ensures before { result.position ≤ position }
+        ensures last { (k : ℕ) → IsBoundary (view_units self.now) k → k ≤ position → k ≤ result.position }
+        ensures exact { IsBoundary (view_units self.now) position → result.position ≡ position }
+        ensures after { (from.position ≤ result.position) × (from.units ≤ result.units) }
+    {
+        let end = self.boundary_before(position);
+        let units = self.slice(from.position, end).unit_len();
+        prove!(self.len() <= usize::MAX);
+        UnitMark {
+            position: end,
+            units: from.units + units,
+        }
+    }
+
+    /// Returns the last code point boundary at or before `position`: at most three bytes before it, since a code point
+    /// has at most three continuation bytes.
+    fn boundary_before(&self, position: usize) -> usize
+        requires { position ≤ length self.now.bytes.now }
+        ensures boundary { IsBoundary (view_units self.now) result }
+        ensures before { result ≤ position }
+        ensures last { (k : ℕ) → IsBoundary (view_units self.now) k → k ≤ position → k ≤ result }
+    {
+        let mut boundary = position;
+        while !self.is_code_point_boundary(boundary) {
+            boundary -= 1;
+        }
+        boundary
     }
 }

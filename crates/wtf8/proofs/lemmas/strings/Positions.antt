@@ -125,7 +125,7 @@ byte_from_boundary {w} h k b m =
     (begins_after c.front c.back (omega (arith, c.splits.front_len, ap length whole))))
 
 -- a position divides a list of units in one way only
-same_splits : (u : List ℕ) (k : ℕ) (f b g d : List ℕ) → Splits u k f b → Splits u k g d → (f ≡ g) × (b ≡ d)
+pub same_splits : (u : List ℕ) (k : ℕ) (f b g d : List ℕ) → Splits u k f b → Splits u k g d → (f ≡ g) × (b ≡ d)
 same_splits u k f b g d own other =
     let whole = reads_same own.reads other.reads in
     let h : IsWellFormed (bytes (f ++ b)) = record { points = f ++ b; clean = own.reads.clean; encoded = refl } in

@@ -2,15 +2,15 @@
 use Rattle.wtf8.proofs.Common.{◌≡◌, ◌+◌, ◌<◌, ◌≤◌, ℕ, List, [], ◌∷◌, ◌++◌, length, take, None, Some, refl, sym, ap, ◌∙◌, subst, arith, length-append}
 use Rattle.wtf8.proofs.Common.{append_assoc, take-append-drop, bytes-injective, units_of, encoding, units, bytes, IsWellFormed, IsForm, CutsUnits, glue, Option}
 use Rattle.wtf8.proofs.Common.{◌-◌, drop, length-take-le, MatchOption, Divides, AreAscii, take_all, length-drop}
-use Rattle.wtf8.proofs.Common.{get_or, IsLead, IsTrail}
+use Rattle.wtf8.proofs.Common.{get_or, IsLead, IsTrail, IsBoundary, IsMiddle}
 use Rattle.std.proofs.Math.Seq.{get_or-append_seam}
 use Rattle.wtf8.specs.UnitMark.{IsMark, EqualCountsAreMarks, MarksStay}
 use Rattle.wtf8.specs.UnitPosition.{DividesPair}
 use Rattle.wtf8.proofs.lemmas.codec.Encoding.{bytes-append, encoding_cases, one, two, three, four}
-use Rattle.wtf8.proofs.lemmas.codec.Readings.{units-append, lists_have_lengths, units_one, units_two, well_formed_of, same_form}
+use Rattle.wtf8.proofs.lemmas.codec.Readings.{units-append, lists_have_lengths, units_one, units_two, well_formed_of, same_form, same_reading}
 use Rattle.wtf8.proofs.lemmas.strings.Concatenation.{reads-glue, one_form, units_read}
 use Rattle.wtf8.proofs.lemmas.strings.ExtendedForms.{all_back}
-use Rattle.wtf8.proofs.lemmas.strings.Positions.{cut_by, points_after}
+use Rattle.wtf8.proofs.lemmas.strings.Positions.{cut_by, points_after, boundary_of, same_splits}
 use Rattle.wtf8.proofs.lemmas.strings.UnitCuts.{undivided_from_cut}
 use Rattle.wtf8.proofs.lemmas.from_utf16.Transcode.{IsKnownForm-ascii, units-ascii}
 use Rattle.std.proofs.lemmas.Simd.{Each1-chunk}
@@ -72,6 +72,25 @@ cut_from_mark h rest {k} {n} {position} m half mark e l y =
 pub mark_before_cut : {w : List ℕ} (h : IsWellFormed w) {k n p : ℕ} (m : ℕ) → m + 1 ≡ n → CutsUnits h.points n k (Some p) → IsMark w (units h.points) k m
 mark_before_cut h {k} m e x =
     mark_at_cut h (record { front = x.front; back = x.back; joined = x.joined; front_len = x.front_len; counted = omega (arith, x.counted.inside, e) })
+
+-- a mark is at a code point boundary
+pub boundary_of_mark : {w : List ℕ} (h : IsWellFormed w) {k n : ℕ} → IsMark w (units h.points) k n → IsBoundary (units h.points) k
+boundary_of_mark h {k} m = let x = cut_of h m in boundary_of h x.front x.back k x.joined x.front_len
+
+-- a boundary after a mark is a mark, with the units between the two and those before
+pub mark_after : {w : List ℕ} (h : IsWellFormed w) {k n end : ℕ} (v : List ℕ) → IsMark w (units h.points) k n → IsMiddle (units h.points) k end v
+    → IsMark w (units h.points) end (n + length v)
+mark_after h {k} v m x =
+    let own = cut_of h m in
+    let splits = (cut_by h own.front own.back k own.joined own.front_len).splits in
+    let same = (same_splits (units h.points) k own.front own.back x.front (x.middle ++ x.back) splits x.begins).0 in
+    mark_at_cut h (record {
+      front = x.front ++ x.middle;
+      back = x.back;
+      joined = same_reading h.points ((x.front ++ x.middle) ++ x.back) h.clean x.ends.reads.clean (sym x.ends.reads.same_units);
+      front_len = x.ends.front_len;
+      counted = omega (arith, ap length (units-append x.front x.middle), length-append (units x.front) (units x.middle), ap (λ f. length (units f)) same, own.counted, ap length x.same_units);
+    })
 
 -- The laws of marks.
 
