@@ -6,26 +6,26 @@ use Rattle.std.specs.List.{slice_get}
 use Rattle.wtf8.specs.Form.{IsForm}
 use Rattle.wtf8.specs.UnitMark.{IsMark, IsUndivided, MarksStay}
 use Rattle.wtf8.specs.UnitString.{UnitString}
+use Rattle.wtf8.specs.View.{view_units, view_form}
+use Rattle.wtf8.specs.declared.strings.view.Wtf8.{Wtf8}
 use Rattle.wtf8.specs.declared.strings.unit_marks.UnitMark.{UnitMark}
 use Rattle.unit_text.specs.Marks.{AreKept, AreMarks, IsKept, spacing}
 
 -- kept marks are still kept after units are appended
-module _ (stay : MarksStay) where
-  IsKept-append : (old new : UnitString) (v : List ℕ) → new.units ≡ old.units ++ v → (n : ℕ) (mark : UnitMark) → IsKept old.bytes old.units n mark
-      → IsKept new.bytes new.units n mark
-  IsKept-append old new v e n mark k = record {
-    is_mark = subst (λ u. IsMark new.bytes u mark.position mark.units) (sym e)
-        (stay old.bytes new.bytes old.units v mark.position mark.units old.form (subst (IsForm new.bytes) e new.form) k.before_last k.is_mark);
+module _ (stay : MarksStay) (old : UnitString) (new : Wtf8) (v : List ℕ) (e : view_units new ≡ old.units ++ v) where
+  IsKept-append : (n : ℕ) (mark : UnitMark) → IsKept old.bytes old.units n mark → IsKept new.bytes.now (view_units new) n mark
+  IsKept-append n mark k = record {
+    is_mark = subst (λ u. IsMark new.bytes.now u mark.position mark.units) (sym e)
+        (stay old.bytes new.bytes.now old.units v mark.position mark.units old.form (subst (IsForm new.bytes.now) e (view_form new)) k.before_last k.is_mark);
     at_most = k.at_most;
     at_least = k.at_least;
     before_last = omega (arith, k.before_last, ap length e, length-append old.units v);
   }
 
-  pub AreKept-append : {X : Type 0} (kept : Option X) (items : X → List UnitMark) (is_incomplete : X → Bool) (old new : UnitString) (v : List ℕ)
-      → new.units ≡ old.units ++ v → IfSome kept (λ k. AreMarks old.bytes old.units (items k) (is_incomplete k))
-      → IfSome kept (λ k. AreKept new.bytes new.units (items k))
-  AreKept-append None items is_incomplete old new v e h = h
-  AreKept-append (Some k) items is_incomplete old new v e h = λ i d l. IsKept-append old new v e _ _ (h.kept i d l)
+  pub AreKept-append : {X : Type 0} (kept : Option X) (items : X → List UnitMark) (is_incomplete : X → Bool)
+      → IfSome kept (λ k. AreMarks old.bytes old.units (items k) (is_incomplete k)) → IfSome kept (λ k. AreKept new.bytes.now (view_units new) (items k))
+  AreKept-append None items is_incomplete h = h
+  AreKept-append (Some k) items is_incomplete h = λ i d l. IsKept-append _ _ (h.kept i d l)
 
 -- a mark at `n` units, or one unit before if `n` divides a pair, is kept if `n` is below the number of units
 pub IsKept-mark_at : (w u : List ℕ) (mark : UnitMark) (n : ℕ) → IsMark w u mark.position mark.units → IsUndivided u n mark.units → n < length u → IsKept w u n mark

@@ -1,7 +1,9 @@
 // The marks of a text, from which a unit is found without counting from the front of the text.
-ghost use Rattle.std.specs.Prelude.{◌≡◌, ◌≢◌, ◌+◌, ◌*◌, ◌<◌, ◌≤◌, ℕ, false, length, vec_capacity, take, drop, slice_get, IfSome};
+ghost use Rattle.std.specs.Prelude.{◌≡◌, ◌≢◌, ◌+◌, ◌*◌, ◌<◌, ◌≤◌, ℕ, false, length, vec_capacity, take, drop, slice_get, IfSome, IsTrue, ◌↔◌};
+ghost use Rattle.std.proofs.Props.{props};
 ghost use Rattle.unit_text.specs.Marks.{AreEnough, AreKept, AreMarks};
-ghost use Rattle.wtf8.specs.UnitMark.{IsMark};
+ghost use Rattle.wtf8.specs.OneForm.{IsForm-prop};
+ghost use Rattle.wtf8.specs.UnitMark.{IsMarkOf};
 ghost use Rattle.wtf8.specs.UnitPosition.{units_of_slice};
 ghost use Rattle.wtf8.specs.View.{view_units};
 
@@ -16,6 +18,14 @@ pub(crate) const SPACING: usize = 128;
 /// each index is itself a mark.
 const FRONT: usize = 8;
 
+/// A view with its number of code units.
+#[derive(Clone, Copy)]
+pub(crate) struct CountedView<'a> {
+    pub(crate) view: Wtf8<'a>,
+    pub(crate) count: usize,
+    ghost counted: { count ≡ length (view_units view) },
+}
+
 /// The marks of a text, in order, and whether memory was refused for any that is missing.
 #[derive(Drop)]
 pub(crate) struct Marks<A: Allocator> {
@@ -23,160 +33,82 @@ pub(crate) struct Marks<A: Allocator> {
     pub(crate) is_incomplete: bool,
 }
 
-/// A mark at or before unit index `units`: at that index if the text is ASCII, else a kept mark or the start.
-fn mark_at_or_before<A: Allocator>(
-    text: &Wtf8Buf<A>,
-    count: usize,
-    marks: &Option<Marks<A>>,
-    units: usize,
-) -> UnitMark
-    requires counted { count ≡ length text.now.units }
-    requires marks { IfSome marks.now (λ m. AreMarks text.now.bytes text.now.units m.kept.items m.is_incomplete) }
-    requires within { units ≤ count }
-    ensures mark { IsMark text.now.bytes text.now.units result.position result.units }
-    ensures before { result.units ≤ units }
-    ensures close { IfSome marks.now (λ m. m.is_incomplete ≡ false → units ≤ result.units + SPACING + 1) }
-{
-    laws::law_marks();
-    if text.len() == count {
-        return UnitMark {
-            position: units,
-            units,
-        };
+/// A view with the marks that are kept of it. If none are kept, they are incomplete.
+#[derive(Clone, Copy)]
+pub(crate) struct MarkedView<'a> {
+    pub(crate) text: CountedView<'a>,
+    marks: &'a [UnitMark],
+    is_incomplete: bool,
+    ghost marked: { AreMarks text.view.bytes.now (view_units text.view) marks.now is_incomplete } by { Prim.hlevel (props, IsForm-prop) },
+}
+
+impl<'a> CountedView<'a> {
+    /// `count` is the number of code units of `text`.
+    #[inline(always)]
+    pub(crate) fn new<A: Allocator>(text: &'a Wtf8Buf<A>, count: usize) -> CountedView<'a>
+        requires { count ≡ length text.now.units }
+        ensures bytes { result.view.bytes.now ≡ text.now.bytes }
+        ensures units { view_units result.view ≡ text.now.units }
+        ensures count { result.count ≡ count }
+    {
+        CountedView {
+            view: text.as_wtf8(),
+            count,
+        }
     }
-    match marks {
-        Some(marks) => kept_mark_at_or_before(text, marks, units),
-        None => text.as_wtf8().start_mark(),
+
+    #[inline(always)]
+    fn is_ascii(&self) -> bool
+        ensures ascii { IsTrue result ↔ (length self.now.view.bytes.now ≡ length (view_units self.now.view)) }
+        ensures empty { self.now.count ≡ 0 → IsTrue result }
+    {
+        self.view.len() == self.count
     }
-}
 
-/// The last kept mark for a multiple of `SPACING` that is at most `units`, or the start if there is none.
-fn kept_mark_at_or_before<A: Allocator>(
-    text: &Wtf8Buf<A>,
-    marks: &Marks<A>,
-    units: usize,
-) -> UnitMark
-    requires marks { AreMarks text.now.bytes text.now.units marks.now.kept.items marks.now.is_incomplete }
-    requires not_ascii { length text.now.bytes ≢ length text.now.units }
-    requires within { units ≤ length text.now.units }
-    ensures mark { IsMark text.now.bytes text.now.units result.position result.units }
-    ensures before { result.units ≤ units }
-    ensures close { marks.now.is_incomplete ≡ false → units ≤ result.units + SPACING + 1 }
-{
-    let number = marks.kept.len().min(units / SPACING);
-    if number == 0 {
-        return text.as_wtf8().start_mark();
-    }
-    marks.kept[number - 1]
-}
-
-/// Returns the rest of the text after a mark at or before unit index `units`, and the offset of `units` in it. A text
-/// of at most `SPACING` units is returned whole, unless it is ASCII and `units` is at least `FRONT`.
-#[inline(always)]
-fn rest_from_mark<'a, A: Allocator>(
-    text: &'a Wtf8Buf<A>,
-    count: usize,
-    marks: &Option<Marks<A>>,
-    units: usize,
-) -> (Wtf8<'a>, usize)
-    requires counted { count ≡ length text.now.units }
-    requires marks { IfSome marks.now (λ m. AreMarks text.now.bytes text.now.units m.kept.items m.is_incomplete) }
-    requires within { units ≤ count }
-    ensures units { drop result.1 (view_units result.0) ≡ drop units text.now.units }
-    ensures within { result.1 ≤ length (view_units result.0) }
-    ensures close { IfSome marks.now (λ m. m.is_incomplete ≡ false → result.1 ≤ SPACING + 1) }
-{
-    if count <= SPACING && (units < FRONT || text.len() != count) {
-        return (text.as_wtf8(), units);
-    }
-    let mark = mark_at_or_before(text, count, marks, units);
-    (text.as_wtf8().slice_from_mark(mark), units - mark.units)
-}
-
-/// The unit at index `number`, or `None` at the end. Not inlined, so that the caller's short path stays cheap.
-#[inline(never)]
-pub(crate) fn unit_at<A: Allocator>(
-    text: &Wtf8Buf<A>,
-    count: usize,
-    marks: &Option<Marks<A>>,
-    number: usize,
-) -> Option<u16>
-    requires counted { count ≡ length text.now.units }
-    requires marks { IfSome marks.now (λ m. AreMarks text.now.bytes text.now.units m.kept.items m.is_incomplete) }
-    requires within { number ≤ count }
-    ensures { result ≡ slice_get text.now.units number }
-{
-    let (view, at) = rest_from_mark(text, count, marks, number);
-    view.unit_at(at)
-}
-
-/// Returns the `len` units from index `begin` on.
-pub(crate) fn units_from<'a, A: Allocator>(
-    text: &'a Wtf8Buf<A>,
-    count: usize,
-    marks: &Option<Marks<A>>,
-    begin: usize,
-    len: usize,
-) -> UnitSlice<'a>
-    requires counted { count ≡ length text.now.units }
-    requires marks { IfSome marks.now (λ m. AreMarks text.now.bytes text.now.units m.kept.items m.is_incomplete) }
-    requires within { begin + len ≤ count }
-    ensures { units_of_slice result ≡ take len (drop begin text.now.units) }
-{
-    let (rest, at) = rest_from_mark(text, count, marks, begin);
-    prove!(rest.len() <= usize::MAX);
-    rest.slice_units(at, at + len)
-}
-
-/// Makes the marks of a text, and stops at the first that is refused memory.
-pub(crate) fn marks_of<A: Allocator>(alloc: A, text: &Wtf8Buf<A>, count: usize) -> Marks<A>
-    requires counted { count ≡ length text.now.units }
-    ensures { AreMarks text.now.bytes text.now.units result.kept.items result.is_incomplete }
-{
-    let mut kept = Vec::new(alloc);
-    // If memory for all marks at once is refused, there may be enough for a few.
-    let _is_found = kept.reserve_exact(needed_mark_count(text, count)).is_ok();
-    let is_incomplete = add_marks(text, count, &mut kept);
-    Marks {
-        kept,
-        is_incomplete,
+    /// The number of marks that a text needs: one for each positive multiple of `SPACING` below its number of units,
+    /// but none if it is ASCII.
+    #[inline(always)]
+    fn needed_mark_count(&self) -> usize
+        ensures before_last { (n : ℕ) → n < result → (n + 1) * SPACING < self.now.count }
+        ensures all { AreEnough self.now.view.bytes.now (view_units self.now.view) result }
+        ensures not_ascii { 0 < result → length self.now.view.bytes.now ≢ length (view_units self.now.view) }
+    {
+        if self.is_ascii() {
+            return 0;
+        }
+        (self.count - 1) / SPACING
     }
 }
 
-/// The number of marks that a text needs: one for each positive multiple of `SPACING` below its number of units, but
-/// none if it is ASCII.
-#[inline(always)]
-fn needed_mark_count<A: Allocator>(text: &Wtf8Buf<A>, count: usize) -> usize
-    requires counted { count ≡ length text.now.units }
-    ensures before_last { (n : ℕ) → n < result → (n + 1) * SPACING < count }
-    ensures all { AreEnough text.now.bytes text.now.units result }
-    ensures not_ascii { 0 < result → length text.now.bytes ≢ length text.now.units }
-{
-    if text.len() == count {
-        return 0;
+impl<A: Allocator> Marks<A> {
+    /// Makes the marks of a text, and stops at the first that is refused memory.
+    pub(crate) fn of(alloc: A, text: CountedView<'_>) -> Marks<A>
+        ensures { AreMarks text.entry.view.bytes.now (view_units text.entry.view) result.kept.items result.is_incomplete }
+    {
+        let mut kept = Vec::new(alloc);
+        // If memory for all marks at once is refused, there may be enough for a few.
+        let _is_found = kept.reserve_exact(text.needed_mark_count()).is_ok();
+        let is_incomplete = add_marks(text, &mut kept);
+        Marks {
+            kept,
+            is_incomplete,
+        }
     }
-    (count - 1) / SPACING
 }
 
 /// Appends the missing marks until one is refused memory, and returns whether one was. Not inlined, so that a text that
 /// lacks no mark costs little.
 #[inline(never)]
-pub(crate) fn add_marks<A: Allocator>(
-    text: &Wtf8Buf<A>,
-    count: usize,
-    marks: &mut Vec<UnitMark, A>,
-) -> bool
-    requires counted { count ≡ length text.now.units }
-    requires marks { AreKept text.now.bytes text.now.units marks.old.items }
-    ensures marks { AreMarks text.now.bytes text.now.units marks.new.items result }
+pub(crate) fn add_marks<A: Allocator>(text: CountedView<'_>, marks: &mut Vec<UnitMark, A>) -> bool
+    requires marks { AreKept text.view.bytes.now (view_units text.view) marks.old.items }
+    ensures marks { AreMarks text.entry.view.bytes.now (view_units text.entry.view) marks.new.items result }
 
     // Memory is refused for none if the vector has room for all.
-    ensures room { AreEnough text.now.bytes text.now.units (vec_capacity marks.old) → result ≡ false }
+    ensures room { AreEnough text.entry.view.bytes.now (view_units text.entry.view) (vec_capacity marks.old) → result ≡ false }
 {
-    let view = text.as_wtf8();
-    let mut last = last_or_start(text, marks.as_slice());
-    for number in marks.len()..needed_mark_count(text, count) {
-        last = view.mark_at(last, (number + 1) * SPACING);
+    let mut last = last_or_start(text.view, marks.as_slice());
+    for number in marks.len()..text.needed_mark_count() {
+        last = text.view.mark_at(last, (number + 1) * SPACING);
         let Ok(()) = marks.push(last) else {
             return true;
         };
@@ -186,30 +118,122 @@ pub(crate) fn add_marks<A: Allocator>(
 
 /// Appends the missing marks, if marks are kept.
 #[inline(always)]
-pub(crate) fn add_to_kept<A: Allocator>(
-    text: &Wtf8Buf<A>,
-    count: usize,
-    marks: &mut Option<Marks<A>>,
-)
-    requires counted { count ≡ length text.now.units }
-    requires marks { IfSome marks.old (λ m. AreKept text.now.bytes text.now.units m.kept.items) }
-    ensures { IfSome marks.new (λ m. AreMarks text.now.bytes text.now.units m.kept.items m.is_incomplete) }
+pub(crate) fn add_to_kept<A: Allocator>(text: CountedView<'_>, marks: &mut Option<Marks<A>>)
+    requires { IfSome marks.old (λ m. AreKept text.view.bytes.now (view_units text.view) m.kept.items) }
+    ensures { IfSome marks.new (λ m. AreMarks text.entry.view.bytes.now (view_units text.entry.view) m.kept.items m.is_incomplete) }
 {
     if let Some(marks) = marks {
-        if marks.kept.len() < needed_mark_count(text, count) {
-            marks.is_incomplete = add_marks(text, count, &mut marks.kept);
+        if marks.kept.len() < text.needed_mark_count() {
+            marks.is_incomplete = add_marks(text, &mut marks.kept);
         }
     }
 }
 
 /// The last mark, or the start if there is none.
-fn last_or_start<A: Allocator>(text: &Wtf8Buf<A>, marks: &[UnitMark]) -> UnitMark
-    requires { AreKept text.now.bytes text.now.units marks.now }
-    ensures mark { IsMark text.now.bytes text.now.units result.position result.units }
+fn last_or_start(view: Wtf8<'_>, marks: &[UnitMark]) -> UnitMark
+    requires { AreKept view.bytes.now (view_units view) marks.now }
+    ensures mark { IsMarkOf view.entry result }
     ensures before { result.units ≤ length marks.now * SPACING }
 {
     if marks.is_empty() {
-        return text.as_wtf8().start_mark();
+        return view.start_mark();
     }
     marks[marks.len() - 1]
+}
+
+impl<'a> MarkedView<'a> {
+    /// The view with these marks, or with none.
+    #[inline(always)]
+    pub(crate) fn new<A: Allocator>(
+        text: CountedView<'a>,
+        marks: Option<&'a Marks<A>>,
+    ) -> MarkedView<'a>
+        requires { IfSome marks (λ m. AreMarks text.view.bytes.now (view_units text.view) m.now.kept.items m.now.is_incomplete) }
+        ensures text { result.text ≡ text.entry }
+        ensures marks { IfSome marks.entry (λ m. (result.marks.now ≡ m.now.kept.items) × (result.is_incomplete ≡ m.now.is_incomplete)) }
+    {
+        let Some(marks) = marks else {
+            return MarkedView {
+                text,
+                marks: &[],
+                is_incomplete: true,
+            };
+        };
+        MarkedView {
+            text,
+            marks: marks.kept.as_slice(),
+            is_incomplete: marks.is_incomplete,
+        }
+    }
+
+    /// The last kept mark for a multiple of `SPACING` that is at most `units`, or the start if there is none.
+    #[inline(always)]
+    fn kept_mark_at_or_before(&self, units: usize) -> UnitMark
+        requires within { units ≤ self.now.text.count }
+        ensures mark { IsMarkOf self.now.text.view result }
+        ensures before { result.units ≤ units }
+        ensures close { length self.now.text.view.bytes.now ≢ length (view_units self.now.text.view) → self.now.is_incomplete ≡ false → units ≤ result.units + SPACING + 1 }
+    {
+        let number = self.marks.len().min(units / SPACING);
+        if number == 0 {
+            return self.text.view.start_mark();
+        }
+        self.marks[number - 1]
+    }
+
+    /// A mark at or before unit index `units`: at that index if the text is ASCII, else a kept mark or the start.
+    fn mark_at_or_before(&self, units: usize) -> UnitMark
+        requires within { units ≤ self.now.text.count }
+        ensures mark { IsMarkOf self.now.text.view result }
+        ensures before { result.units ≤ units }
+        ensures close { self.now.is_incomplete ≡ false → units ≤ result.units + SPACING + 1 }
+    {
+        laws::law_marks();
+        if self.text.is_ascii() {
+            return UnitMark {
+                position: units,
+                units,
+            };
+        }
+        self.kept_mark_at_or_before(units)
+    }
+
+    /// Returns the rest of the text after a mark at or before unit index `units`, and the offset of `units` in it. A text
+    /// of at most `SPACING` units is returned whole, unless it is ASCII and `units` is at least `FRONT`.
+    #[inline(always)]
+    fn rest_from_mark(&self, units: usize) -> (Wtf8<'a>, usize)
+        requires within { units ≤ self.now.text.count }
+        ensures units { drop result.1 (view_units result.0) ≡ drop units (view_units self.now.text.view) }
+        ensures within { result.1 ≤ length (view_units result.0) }
+        ensures close { self.now.is_incomplete ≡ false → result.1 ≤ SPACING + 1 }
+    {
+        if self.text.count <= SPACING && (units < FRONT || !self.text.is_ascii()) {
+            return (self.text.view, units);
+        }
+        let mark = self.mark_at_or_before(units);
+        (self.text.view.slice_from_mark(mark), units - mark.units)
+    }
+
+    /// The unit at index `index` of a text that is not ASCII, or `None` at the end.
+    #[inline(always)]
+    pub(crate) fn unit_at(&self, index: usize) -> Option<u16>
+        requires within { index ≤ self.now.text.count }
+        ensures { result ≡ slice_get (view_units self.now.text.view) index }
+    {
+        let mark = self.kept_mark_at_or_before(index);
+        self.text
+            .view
+            .slice_from_mark(mark)
+            .unit_at(index - mark.units)
+    }
+
+    /// Returns the `len` units from index `begin` on.
+    pub(crate) fn units_from(&self, begin: usize, len: usize) -> UnitSlice<'a>
+        requires within { begin + len ≤ self.now.text.count }
+        ensures { units_of_slice result ≡ take len (drop begin (view_units self.now.text.view)) }
+    {
+        let (rest, at) = self.rest_from_mark(begin);
+        prove!(rest.len() <= usize::MAX);
+        rest.slice_units(at, at + len)
+    }
 }

@@ -8,7 +8,7 @@ ghost use Rattle.wtf8.specs.Unicode.{units};
 ghost use Rattle.wtf8.specs.View.{view_points, view_units};
 ghost use Rattle.unit_text.specs.Reading.{reading};
 
-use crate::marks::{self, Marks};
+use crate::marks::{self, CountedView, MarkedView, Marks};
 use crate::slices::{self, push_unit};
 use std::alloc::{AllocError, Allocator};
 use std::cmp::Ordering;
@@ -90,7 +90,8 @@ impl<A: Allocator> UnitText<A> {
     pub fn mark_units(&mut self, alloc: A)
         ensures { self.new ≡ self.old }
     {
-        self.marks = Some(marks::marks_of(alloc, &self.text, self.count));
+        let text = CountedView::new(&self.text, self.count);
+        self.marks = Some(Marks::of(alloc, text));
     }
 
     /// The length in code units.
@@ -114,7 +115,16 @@ impl<A: Allocator> UnitText<A> {
         if self.count <= marks::SPACING {
             return self.text.as_wtf8().unit_at(i);
         }
-        marks::unit_at(&self.text, self.count, &self.marks, i)
+        self.unit_after_mark(i)
+    }
+
+    /// The code unit at index `i` of a long text that is not ASCII. Not inlined, so that the short ways stay cheap.
+    #[inline(never)]
+    fn unit_after_mark(&self, i: usize) -> Option<u16>
+        requires { i ≤ length self.now }
+        ensures { result ≡ slice_get self.now i }
+    {
+        self.marked().unit_at(i)
     }
 
     /// Copies the code units `begin..end` to a new text, allocated by `alloc`. `begin` must be at most `end`, and `end`
@@ -127,7 +137,7 @@ impl<A: Allocator> UnitText<A> {
         ensures empty { begin ≡ end → IsOk result }
     {
         let count = end - begin;
-        let slice = marks::units_from(&self.text, self.count, &self.marks, begin, count);
+        let slice = self.marked().units_from(begin, count);
         let text = slices::buf_of_slice(alloc, slice)?;
         Ok(UnitText {
             text,
@@ -147,7 +157,8 @@ impl<A: Allocator> UnitText<A> {
         laws::law_marks();
         prove!(self.text.len() <= usize::MAX);
         self.count += 1;
-        marks::add_to_kept(&self.text, self.count, &mut self.marks);
+        let text = CountedView::new(&self.text, self.count);
+        marks::add_to_kept(text, &mut self.marks);
         Ok(())
     }
 
@@ -192,7 +203,8 @@ impl<A: Allocator> UnitText<A> {
         laws::law_marks();
         prove!(self.text.len() <= usize::MAX);
         self.count += count;
-        marks::add_to_kept(&self.text, self.count, &mut self.marks);
+        let text = CountedView::new(&self.text, self.count);
+        marks::add_to_kept(text, &mut self.marks);
         Ok(())
     }
 
@@ -205,7 +217,7 @@ impl<A: Allocator> UnitText<A> {
         if self.count - begin < other.count {
             return false;
         }
-        let part = marks::units_from(&self.text, self.count, &self.marks, begin, other.count);
+        let part = self.marked().units_from(begin, other.count);
         slices::has_units(part, other.as_wtf8())
     }
 
@@ -232,5 +244,15 @@ impl<A: Allocator> UnitText<A> {
         laws::law_one_reading();
         laws::law_concat();
         self.text.as_wtf8()
+    }
+
+    /// The view of the text with its marks.
+    #[inline(always)]
+    fn marked(&self) -> MarkedView<'_>
+        ensures units { view_units result.text.view ≡ self.now }
+        ensures count { result.text.count ≡ length self.now }
+    {
+        let text = CountedView::new(&self.text, self.count);
+        MarkedView::new(text, self.marks.as_ref())
     }
 }

@@ -1,28 +1,24 @@
 use Rattle.std.proofs.Common.{◌+◌, ◌*◌, ◌<◌, [], ◌∷◌, length, length-append, ap, refl, sym, subst, arith, ◌≤◌}
 use Rattle.std.proofs.lemmas.Bool.{false≢true}
 use Rattle.std.specs.Prelude.{vec_capacity}
-use Rattle.wtf8.specs.UnitMark.{IsMark, IsUndivided}
+use Rattle.wtf8.specs.View.{view_units}
 use Rattle.unit_text.specs.Marks.{AreKept}
 use Rattle.unit_text.proofs.MarkLemmas.{IsKept-mark_at, AreKept-push}
 use Rattle.unit_text.proofs.marks.add_marks.Goals as goal
 
 pub loop-number-preserved : goal.loop-number-preserved
 loop-number-preserved g c =
-    let text = c.args.text.now in
+    let bytes = c.args.text.view.bytes.now in
+    let units = view_units c.args.text.view in
     let mark = c.mark_at-last.result in
     let n = (c.loop-number.number + 1) * 128 in
     let i = c.loop-number.invariant in
-    let is_mark = subst (λ w. IsMark w text.units mark.position mark.units) i.bytes
-    (subst (λ u. IsMark c.as_wtf8-view.result.bytes.now u mark.position mark.units) i.units c.mark_at-last.ensures.mark) in
-    let last = subst (λ u. IsUndivided u n mark.units) i.units c.mark_at-last.ensures.last in
-    let before : n < length text.units = omega (arith, c.needed_mark_count-number-end.ensures.before_last c.loop-number.number c.loop-number-test.true, c.requires.counted) in
-    let kept = IsKept-mark_at text.bytes text.units mark n is_mark last before in
-    let all = AreKept-push text.bytes text.units c.loop-number.marks.items mark c.loop-number.number i.counted i.kept kept in
+    let before : n < length units = omega (arith, c.needed_mark_count-number-end.ensures.before_last c.loop-number.number c.loop-number-test.true, c.args.text.counted) in
+    let kept = IsKept-mark_at bytes units mark n c.mark_at-last.ensures.mark c.mark_at-last.ensures.last before in
+    let all = AreKept-push bytes units c.loop-number.marks.items mark c.loop-number.number i.counted i.kept kept in
     record {
-      bytes = i.bytes;
-      units = i.units;
       counted = omega (arith, i.counted, ap length c.in-Ok.ensures.items, length-append c.loop-number.marks.items (mark ∷ []));
-      kept = subst (AreKept text.bytes text.units) (sym c.in-Ok.ensures.items) all;
+      kept = subst (AreKept bytes units) (sym c.in-Ok.ensures.items) all;
       is_mark = c.mark_at-last.ensures.mark;
       before = kept.at_most;
       capacity = omega (arith, i.capacity, c.in-Ok.ensures.capacity);
@@ -35,7 +31,7 @@ returns-in_default-clause-room g c = λ all.
     let i = c.loop-number.invariant in
     let not_ascii = c.needed_mark_count-number-end.ensures.not_ascii (omega (arith, c.loop-number-test.true)) in
     let next = c.needed_mark_count-number-end.ensures.before_last number c.loop-number-test.true in
-    let room : number + 1 ≤ vec_capacity c.args.marks.now = all not_ascii (number + 1) (omega (arith, next, c.requires.counted)) in
+    let room : number + 1 ≤ vec_capacity c.args.marks.now = all not_ascii (number + 1) (omega (arith, next, c.args.text.counted)) in
     absurd (false≢true (c.in_default.ensures.succeeds (omega (arith, room, i.capacity, i.counted, c.loop-number.marks.ok.0))))
 
 pub returns-clause-marks : goal.returns-clause-marks

@@ -8,11 +8,9 @@ use Rattle.unit_text.proofs.marks.add_marks.Given as goal
 -- the marks so far are kept, `last` is a mark at or before unit index `number * 128`, and the capacity has not shrunk
 abbrev pub invariant-loop-number : goal.invariant-loop-number
 invariant-loop-number g l = record {
-  bytes : l.view.bytes.now ≡ l.text.bytes;
-  units : view_units l.view ≡ l.text.units;
   counted : length l.marks.items ≡ l.number;
-  kept : AreKept l.text.bytes l.text.units l.marks.items;
-  is_mark : IsMarkOf l.view l.last;
+  kept : AreKept l.fn.text.view.bytes.now (view_units l.fn.text.view) l.marks.items;
+  is_mark : IsMarkOf l.fn.text.view l.last;
   before : l.last.units ≤ l.number * 128;
   capacity : vec_capacity l.fn.marks ≤ vec_capacity l.marks;
 }
