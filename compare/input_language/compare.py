@@ -118,6 +118,17 @@ def listed_lines():
     return lines
 
 
+def lines_of_each_byte():
+    """Each byte as the first and the last digit of a word of hexadecimal digits, and of the numbers of cuts of 20 letters, at
+    the end of a line and before a space. A newline ends the line there."""
+    letters, lines = b"0041 " * 20, []
+    for byte in range(256):
+        digit = bytes([byte])
+        for word in (digit + b"041", b"004" + digit, digit + b"0041", b"-" + digit, b"-1" + digit, b"/" + digit, b"/1" + digit):
+            lines += (letters + word).split(b"\n") + (letters + word + b" 00E9").split(b"\n")
+    return lines
+
+
 def line_of_length(length):
     """A line of `length` bytes, at least ten: words of four digits, of which the first few have five."""
     words = (length + 1) // 5
@@ -160,7 +171,7 @@ def main():
     if options.cases < 1:
         parser.error("--cases is a number from 1 on")
     rng = random.Random(options.seed)
-    lines = listed_lines() + [random_line(rng) for _ in range(options.cases)]
+    lines = listed_lines() + lines_of_each_byte() + [random_line(rng) for _ in range(options.cases)]
     expected = [output_for(line) for line in lines]
     kinds = [sum(map(test, expected)) for test in (lambda o: o == b"?", lambda o: b"!" in o, lambda o: len(o) > 900)]
     if not all(kinds):
