@@ -1,11 +1,27 @@
--- The bytes that each unit adds: the last one, two or three of three, computed from the unit and the one before it.
-use Rattle.std.specs.Prelude.{◌≡◌, ℕ, ◌+◌, ◌-◌, ◌*◌, ◌/◌, ◌%◌, ◌≤◌, ◌↔◌, List, [], ◌∷◌, ◌++◌, map, take, drop, nat_lt, if◌then◌else◌, slice_index_or}
-use lib.Lanes.{Each2, zip2}
-use Rattle.wtf8.specs.Unicode.{IsLead, IsTrail}
+-- The bytes that each unit adds: the last one, two or three of three, computed from the tagged unit and the one before.
+use Rattle.std.specs.Prelude.{◌≡◌, ℕ, ◌+◌, ◌-◌, ◌*◌, ◌/◌, ◌%◌, ◌≤◌, List, [], ◌∷◌, ◌++◌, map, take, drop, nat_lt, if◌then◌else◌, slice_index_or}
+use lib.Lanes.{zip2}
+
+-- The unit `n` between two others, 0x10000 above its value if it is a surrogate in no pair (Unicode 3.8, "Surrogates").
+abbrev pub tagged : ℕ → ℕ → ℕ → ℕ
+tagged before n after =
+    if nat_lt n 0xD800 then n
+    else if nat_lt n 0xDC00 then (if nat_lt after 0xDC00 then n + 0x10000 else if nat_lt after 0xE000 then n else n + 0x10000)
+    else if nat_lt n 0xE000 then (if nat_lt before 0xD800 then n + 0x10000 else if nat_lt before 0xDC00 then n else n + 0x10000)
+    else n
+
+-- The units between `before` and `after`, each tagged.
+abbrev pub tagged_units : ℕ → List ℕ → ℕ → List ℕ
+tagged_units before [] after = []
+tagged_units before (n ∷ u) after = tagged before n (slice_index_or u 0 after) ∷ tagged_units n u after
+
+-- The units, each tagged: the first is after no lead, and a lead at the end is half of a pair.
+abbrev pub tagged_block : List ℕ → List ℕ
+tagged_block u = tagged_units 0 u 0xDC00
 
 -- The first of a unit's three bytes; an encoding of fewer bytes is the last ones (Unicode 3.9, "UTF-8", Table 3-6).
 abbrev pub first_byte : ℕ → ℕ
-first_byte n = 0xE0 + n / 4096
+first_byte n = 0xE0 + n / 4096 % 16
 
 -- The second of the three bytes of a unit that is no surrogate.
 abbrev pub scalar_second_byte : ℕ → ℕ
@@ -15,7 +31,8 @@ scalar_second_byte n = (if nat_lt n 0x800 then 0xC0 else 0x80) + n / 64 % 64
 abbrev pub scalar_last_byte : ℕ → ℕ
 scalar_last_byte n = if nat_lt n 0x80 then n else 0x80 + n % 64
 
--- The second of the three bytes of a unit after `before`; a lead adds its pair's first two bytes, a trail the last two.
+-- The second of the three bytes of a unit after `before`; the lead of a pair adds the first two of the pair's four bytes,
+-- the trail the last two.
 abbrev pub second_byte : ℕ → ℕ → ℕ
 second_byte before n =
     if nat_lt n 0xD800 then scalar_second_byte n
@@ -57,10 +74,6 @@ packed_unit before n = drop (3 - byte_count n) (first_byte n ∷ second_byte bef
 abbrev pub packed_units : ℕ → List ℕ → List ℕ
 packed_units before [] = []
 packed_units before (n ∷ u) = packed_unit before n ++ packed_units n u
-
--- Each unit after `before` is a trail if and only if the unit before it is a lead (Unicode 3.8, "Surrogates").
-abbrev pub ArePaired : ℕ → List ℕ → Type 0
-ArePaired before u = Each2 (λ b n. IsTrail n ↔ IsLead b) (before ∷ u) u
 
 -- The three bytes of the units after `before`: all first bytes, then all second ones, then all last ones.
 abbrev pub byte_lanes : ℕ → List ℕ → List ℕ

@@ -1,6 +1,7 @@
-// Kernel that encodes eight code units at a time if none is a lone surrogate. Unit k has three candidate bytes, fk, sk
-// and lk, and takes the last one, two or three of them: two if it is a lead or a trail, half of its pair's four bytes.
-// The lanes before and after the shuffles, from lane 0 on:
+// Kernel that encodes eight code units at a time, of any kinds. Unit k has three candidate bytes, fk, sk and lk, and
+// takes the last one, two or three of them: two if it is a lead or a trail of a pair, half of the pair's four bytes. A
+// lone surrogate takes three, by the same formulas as any other unit from 0800 on. The lanes before and after the
+// shuffles, from lane 0 on:
 //
 //     first_bytes                            f0 f1 f2 f3 f4 f5 f6 f7
 //     second bytes                           s0 s1 s2 s3 s4 s5 s6 s7
@@ -18,22 +19,28 @@
 // for units 4-7. A row is a shuffle that packs the bytes to be written: 4, and one more for each set bit of its index.
 #![tactic(auto, using(crate::proofs::lemmas::lanes::AsciiFronts::by_all))]
 
-ghost use Rattle.std.specs.Prelude.{◌≡◌, ℕ, List, ◌∷◌, Bool, ◌+◌, ◌-◌, ◌*◌, ◌%◌, ◌/◌, ◌^◌, ◌<◌, ◌≤◌, ◌++◌, length, map, take, drop, slice_index_or, IfOk, IfSome, IsTrue, nat_lt, if◌then◌else◌};
-ghost use lib.Lanes.{zip2};
-ghost use Rattle.wtf8.specs.Unicode.{IsLead};
+ghost use Rattle.std.specs.Prelude.{◌≡◌, ◌⊎◌, ℕ, List, ◌∷◌, Bool, ◌&&◌, ◌+◌, ◌-◌, ◌*◌, ◌%◌, ◌/◌, ◌^◌, ◌<◌, ◌≤◌, ◌++◌, length, map, take, drop, slice_index_or, IfOk, IsTrue, nat_lt, if◌then◌else◌};
+ghost use lib.Lanes.{Each1};
+ghost use Rattle.wtf8.specs.Unicode.{IsLead, IsUnit};
 ghost use Rattle.wtf8.specs.private.ConvertedPrefix.{AreScalarUnits, IsReadTo};
-ghost use Rattle.wtf8.specs.private.PackedUnits.{first_byte, scalar_second_byte, second_byte, scalar_last_byte, last_byte, three_byte_bit, byte_lanes, units_table_index, AreLaterBytes, packed_units, ArePaired};
+ghost use Rattle.wtf8.specs.private.PackedUnits.{tagged_block, first_byte, scalar_second_byte, scalar_last_byte, byte_lanes, units_table_index, AreLaterBytes, packed_units};
 
 use crate::codec::surrogates::{FIRST_LEAD, FIRST_TRAIL, SURROGATES_PER_HALF};
 use crate::from_utf16::shuffle_table;
 use std::alloc::{AllocError, Allocator};
 use std::simd::prelude::*;
 
-/// The number of units that are encoded together.
-const BLOCK_UNITS: usize = 8;
+/// The number of units that are encoded together: the lanes of the 16-byte vectors that every target has.
+pub(crate) const BLOCK_UNITS: usize = 8;
 
 /// The bytes that must be left in a block for eight units: at most 12 for the first four, then a store of 16.
-const MIN_SPARE: usize = 28;
+pub(crate) const MIN_SPARE: usize = 28;
+
+/// A lead divided by `SURROGATES_PER_HALF`: its high six bits, which are those of leads alone.
+const LEAD_KIND: u16 = FIRST_LEAD / SURROGATES_PER_HALF;
+
+/// A trail divided by `SURROGATES_PER_HALF`: its high six bits, which are those of trails alone.
+const TRAIL_KIND: u16 = FIRST_TRAIL / SURROGATES_PER_HALF;
 
 /// Lanes 0 to 3 of two vectors of eight lanes, then lanes 4 to 7 of both.
 const INTERLEAVE_HALVES: [usize; 16] = [0, 1, 2, 3, 8, 9, 10, 11, 4, 5, 6, 7, 12, 13, 14, 15];
@@ -47,8 +54,46 @@ const LOW_HALVES: [usize; 16] = [0, 1, 2, 3, 4, 5, 6, 7, 16, 17, 18, 19, 20, 21,
 /// Lanes 8 to 15 of two vectors of sixteen lanes.
 const HIGH_HALVES: [usize; 16] = [8, 9, 10, 11, 12, 13, 14, 15, 24, 25, 26, 27, 28, 29, 30, 31];
 
-/// Lane 0 of another vector, then lanes 0 to 6: moves each unit up by one lane.
-const SHIFT_IN_ONE: [usize; 8] = [8, 0, 1, 2, 3, 4, 5, 6];
+/// Lane 0 of another vector, then lanes 0 to 6: each lane has what was in the lane before it.
+const LANES_BEFORE: [usize; 8] = [8, 0, 1, 2, 3, 4, 5, 6];
+
+/// Lanes 1 to 7, then lane 0 of another vector: each lane has what was in the lane after it.
+const LANES_AFTER: [usize; 8] = [1, 2, 3, 4, 5, 6, 7, 8];
+
+/// How far units are encoded: the index of the next one, and whether no lone surrogate precedes it.
+#[derive(Clone, Copy)]
+pub(crate) struct Progress {
+    pub(crate) at: usize,
+    pub(crate) is_utf8: bool,
+}
+
+/// Second and last bytes of eight units, for each 0x80 if it takes three bytes, else 0, and whether none of them is a
+/// lone surrogate.
+#[derive(Clone, Copy)]
+struct LaterBytes {
+    seconds: u16x8,
+    lasts: u16x8,
+    three_byte_flags: u16x8,
+    is_utf8: bool,
+}
+
+/// What `pack_four` is given for eight units: the first, second and last bytes of units 0 to 3 in lanes 0 to 11 of
+/// `front`, those of units 4 to 7 likewise in `back`, and the indexes of their rows, bits 0 to 7 and bits 8 to 15.
+#[derive(Clone, Copy)]
+struct Candidates {
+    front: u8x16,
+    back: u8x16,
+    rows: u64,
+}
+
+/// What a block was: the number of its units that are encoded, the index after their bytes, and whether none of them is
+/// a lone surrogate.
+#[derive(Clone, Copy)]
+struct Block {
+    units: usize,
+    end: usize,
+    is_utf8: bool,
+}
 
 /// Whether none of the units is a surrogate: the high five bits of surrogates, and of no other units, are 11011.
 #[inline(always)]
@@ -61,21 +106,6 @@ fn are_scalar(units: u16x8) -> bool
         == 0
 }
 
-/// Whether each trail is directly after a lead, and each lead directly before a trail unless it is the last unit.
-#[inline(always)]
-fn are_paired(units: u16x8) -> bool
-    ensures { IsTrue result → ArePaired 0 units }
-{
-    let previous = units.shuffle(u16x8::splat(0), SHIFT_IN_ONE);
-    let after_leads = (previous / u16x8::splat(SURROGATES_PER_HALF)).simd_eq(u16x8::splat(
-        FIRST_LEAD / SURROGATES_PER_HALF,
-    ));
-    let trails = (units / u16x8::splat(SURROGATES_PER_HALF)).simd_eq(u16x8::splat(
-        FIRST_TRAIL / SURROGATES_PER_HALF,
-    ));
-    (after_leads ^ trails).to_bitmask() == 0
-}
-
 /// The lead byte of a three-byte encoding, for each unit. Not used if a unit takes fewer than three bytes.
 #[inline(always)]
 fn first_bytes(units: u16x8) -> u8x8
@@ -85,7 +115,7 @@ fn first_bytes(units: u16x8) -> u8x8
     (u16x8::splat(0xE0) + high).cast::<u8>()
 }
 
-/// The second of three bytes or the lead byte of two, for each unit that is not a surrogate. Not used for ASCII.
+/// The second of three bytes or the lead byte of two, for each unit that is no half of a pair. Not used for ASCII.
 #[inline(always)]
 fn scalar_second_bytes(units: u16x8) -> u16x8
     ensures { result ≡ map scalar_second_byte units }
@@ -97,46 +127,13 @@ fn scalar_second_bytes(units: u16x8) -> u16x8
     prefix + middle
 }
 
-/// As `scalar_second_bytes`, but for a lead the first of its pair's four bytes, and for a trail the third, which also
-/// holds bits of the lead.
-#[inline(always)]
-fn second_bytes(units: u16x8) -> u16x8
-    ensures { result ≡ zip2 second_byte (0 ∷ units) units }
-{
-    let before = units.shuffle(u16x8::splat(0), SHIFT_IN_ONE);
-    let kinds = units / u16x8::splat(SURROGATES_PER_HALF);
-    let high = units % u16x8::splat(SURROGATES_PER_HALF) + u16x8::splat(64);
-    let lead = u16x8::splat(0xF0) + high / u16x8::splat(256);
-    let low_bits = before % u16x8::splat(4) * u16x8::splat(16);
-    let trail = u16x8::splat(0x80) + low_bits + units / u16x8::splat(64) % u16x8::splat(16);
-    let no_lead = kinds
-        .simd_eq(u16x8::splat(FIRST_TRAIL / SURROGATES_PER_HALF))
-        .select(trail, scalar_second_bytes(units));
-    kinds
-        .simd_eq(u16x8::splat(FIRST_LEAD / SURROGATES_PER_HALF))
-        .select(lead, no_lead)
-}
-
-/// The last byte of each unit's encoding, for a trail that of its pair. Not used for leads.
+/// The last byte of each unit's encoding, for the trail of a pair that of the pair. Not used for the leads of pairs.
 #[inline(always)]
 fn scalar_last_bytes(units: u16x8) -> u16x8
     ensures { result ≡ map scalar_last_byte units }
 {
     let low = u16x8::splat(0x80) + units % u16x8::splat(64);
     units.simd_lt(u16x8::splat(0x80)).select(units, low)
-}
-
-/// As `scalar_last_bytes`, but for a lead the second of its pair's four bytes.
-#[inline(always)]
-fn last_bytes(units: u16x8) -> u16x8
-    ensures { result ≡ map last_byte units }
-{
-    let kinds = units / u16x8::splat(SURROGATES_PER_HALF);
-    let high = units % u16x8::splat(SURROGATES_PER_HALF) + u16x8::splat(64);
-    let lead = u16x8::splat(0x80) + high / u16x8::splat(4) % u16x8::splat(64);
-    kinds
-        .simd_eq(u16x8::splat(FIRST_LEAD / SURROGATES_PER_HALF))
-        .select(lead, scalar_last_bytes(units))
 }
 
 /// 0x80 in each lane whose unit is at least `least`, else 0.
@@ -149,62 +146,75 @@ fn flags_from(units: u16x8, least: u16) -> u16x8
         .select(u16x8::splat(0), u16x8::splat(0x80))
 }
 
-/// 0x80 in each lane whose unit takes three bytes, else 0. A surrogate takes two.
-#[inline(always)]
-fn three_byte_flags(units: u16x8) -> u16x8
-    ensures { result ≡ map (λ n. three_byte_bit n * 0x80) units }
-{
-    (units / u16x8::splat(2 * SURROGATES_PER_HALF))
-        .simd_eq(u16x8::splat(FIRST_LEAD / (2 * SURROGATES_PER_HALF)))
-        .select(u16x8::splat(0), flags_from(units, 0x800))
-}
-
-/// Second bytes, last bytes and three-byte flags of eight units. A flag is 0x80 if its unit takes three bytes, else 0.
-type LaterBytes = (u16x8, u16x8, u16x8);
-
-/// Second bytes, last bytes and three-byte flags of eight units without a surrogate: cheaper than `later_bytes`.
+/// The later bytes of eight units without a surrogate: cheaper than `later_bytes`.
 #[inline(always)]
 fn scalar_later_bytes(units: u16x8) -> LaterBytes
     requires { AreScalarUnits units }
-    ensures { AreLaterBytes units result.0 result.1 result.2 }
+    ensures bytes { AreLaterBytes (tagged_block units) result.seconds result.lasts result.three_byte_flags }
+    ensures scalar { Each1 IsUnit (tagged_block units) }
 {
-    let seconds = scalar_second_bytes(units);
-    (seconds, scalar_last_bytes(units), flags_from(units, 0x800))
+    LaterBytes {
+        seconds: scalar_second_bytes(units),
+        lasts: scalar_last_bytes(units),
+        three_byte_flags: flags_from(units, 0x800),
+        is_utf8: true,
+    }
 }
 
-/// Second bytes, last bytes and three-byte flags of any eight units.
+/// The later bytes of any eight units. The second and last bytes of a pair's lead are the first two of the pair's four
+/// bytes, those of its trail the other two, of which the first also holds bits of the lead. All other units, lone
+/// surrogates too, have the bytes that scalar values have. A lead in the last lane is taken for that of a pair: it is
+/// left to the next block.
 #[inline(always)]
 fn later_bytes(units: u16x8) -> LaterBytes
-    ensures { AreLaterBytes units result.0 result.1 result.2 }
+    ensures bytes { AreLaterBytes (tagged_block units) result.seconds result.lasts result.three_byte_flags }
+    ensures scalar { IsTrue result.is_utf8 → Each1 IsUnit (tagged_block units) }
 {
-    (
-        second_bytes(units),
-        last_bytes(units),
-        three_byte_flags(units),
-    )
+    let kinds = units / u16x8::splat(SURROGATES_PER_HALF);
+    let leads = u16x8::splat(LEAD_KIND);
+    let trails = u16x8::splat(TRAIL_KIND);
+    let kinds_before = kinds.shuffle(u16x8::splat(0), LANES_BEFORE);
+    let kinds_after = kinds.shuffle(trails, LANES_AFTER);
+    let pair_leads = kinds.simd_eq(leads) & kinds_after.simd_eq(trails);
+    let pair_trails = kinds.simd_eq(trails) & kinds_before.simd_eq(leads);
+    let halves = pair_leads | pair_trails;
+    let surrogates = (units / u16x8::splat(2 * SURROGATES_PER_HALF)).simd_eq(u16x8::splat(
+        FIRST_LEAD / (2 * SURROGATES_PER_HALF),
+    ));
+    let high = units % u16x8::splat(SURROGATES_PER_HALF) + u16x8::splat(64);
+    let lead_firsts = u16x8::splat(0xF0) + high / u16x8::splat(256);
+    let lead_lasts = u16x8::splat(0x80) + high / u16x8::splat(4) % u16x8::splat(64);
+    let before = units.shuffle(u16x8::splat(0), LANES_BEFORE);
+    let low_bits = before % u16x8::splat(4) * u16x8::splat(16);
+    let trail_firsts = u16x8::splat(0x80) + low_bits + units / u16x8::splat(64) % u16x8::splat(16);
+    let no_lead = pair_trails.select(trail_firsts, scalar_second_bytes(units));
+    LaterBytes {
+        seconds: pair_leads.select(lead_firsts, no_lead),
+        lasts: pair_leads.select(lead_lasts, scalar_last_bytes(units)),
+        three_byte_flags: halves.select(u16x8::splat(0), flags_from(units, 0x800)),
+        is_utf8: (surrogates ^ halves).to_bitmask() == 0,
+    }
 }
 
-/// The first, second and last bytes of units 0 to 3 in lanes 0 to 11, the bytes of units 4 to 7 likewise, and the
-/// indexes of their rows: bits 0 to 7 for units 0 to 3, bits 8 to 15 for units 4 to 7.
+/// The three candidate bytes of each of eight units, and the indexes of the rows that pack them.
 #[inline(always)]
-fn candidate_bytes(units: u16x8, later: LaterBytes) -> (u8x16, u8x16, u64)
-    requires { AreLaterBytes units later.0 later.1 later.2 }
-    ensures front { take 12 result.0 ≡ byte_lanes 0 (take 4 units) }
-    ensures back { take 12 result.1 ≡ byte_lanes (slice_index_or units 3 0) (drop 4 units) }
-    ensures lengths { result.2 ≡ units_table_index (take 4 units) + 256 * units_table_index (drop 4 units) }
+fn candidate_bytes(units: u16x8, later: LaterBytes) -> Candidates
+    requires { AreLaterBytes (tagged_block units) later.seconds later.lasts later.three_byte_flags }
+    ensures front { take 12 result.front ≡ byte_lanes 0 (take 4 (tagged_block units)) }
+    ensures back { take 12 result.back ≡ byte_lanes (slice_index_or (tagged_block units) 3 0) (drop 4 (tagged_block units)) }
+    ensures lengths { result.rows ≡ units_table_index (take 4 (tagged_block units)) + 256 * units_table_index (drop 4 (tagged_block units)) }
 {
-    let (second, last, long) = later;
-    let front: u8x16 = first_bytes(units).shuffle(second.cast::<u8>(), INTERLEAVE_HALVES);
-    let last = last.cast::<u8>();
+    let front: u8x16 = first_bytes(units).shuffle(later.seconds.cast::<u8>(), INTERLEAVE_HALVES);
+    let last = later.lasts.cast::<u8>();
     let back: u8x16 = last.shuffle(last, APPEND_SWAPPED_HALVES);
     let above_one = flags_from(units, 0x80).cast::<u8>();
-    let lengths: u8x16 = above_one.shuffle(long.cast::<u8>(), INTERLEAVE_HALVES);
-    let number = lengths.simd_ge(u8x16::splat(0x80)).to_bitmask();
-    (
-        front.shuffle(back, LOW_HALVES),
-        front.shuffle(back, HIGH_HALVES),
-        number,
-    )
+    let three = later.three_byte_flags.cast::<u8>();
+    let lengths: u8x16 = above_one.shuffle(three, INTERLEAVE_HALVES);
+    Candidates {
+        front: front.shuffle(back, LOW_HALVES),
+        back: front.shuffle(back, HIGH_HALVES),
+        rows: lengths.simd_ge(u8x16::splat(0x80)).to_bitmask(),
+    }
 }
 
 /// Stores 16 bytes at index `len` of a block.
@@ -237,95 +247,96 @@ fn pack_four(lanes: u8x16, number: usize, block: &mut [u8], len: usize) -> usize
 #[inline(always)]
 fn pack_eight(units: u16x8, later: LaterBytes, block: &mut [u8], len: usize) -> usize
     requires room { len + MIN_SPARE ≤ length block.old }
-    requires later { AreLaterBytes units later.0 later.1 later.2 }
+    requires later { AreLaterBytes (tagged_block units) later.seconds later.lasts later.three_byte_flags }
     ensures order { (len ≤ result) × (result ≤ len + 24) }
-    ensures bytes { take result block.new ≡ take len block.old ++ packed_units 0 units }
+    ensures bytes { take result block.new ≡ take len block.old ++ packed_units 0 (tagged_block units) }
 {
-    let (front, back, numbers) = candidate_bytes(units, later);
-    let numbers = numbers as usize;
-    let middle = pack_four(front, numbers % 256, block, len);
-    pack_four(back, numbers / 256, block, middle)
+    let candidates = candidate_bytes(units, later);
+    let rows = candidates.rows as usize;
+    let middle = pack_four(candidates.front, rows % 256, block, len);
+    pack_four(candidates.back, rows / 256, block, middle)
 }
 
-/// Encodes eight units at index `len` of a block, or seven if the last one is a lead. Returns the number of units and
-/// the index after their bytes. Units without a surrogate take the cheaper path.
+/// Encodes eight units at index `len` of a block, or seven if the last one is a lead. Units without a surrogate take
+/// the cheaper path. A third path, for lone surrogates without a pair, made letters dearer by 6% and pairs by 8%: all
+/// paths share registers and constants.
 #[inline(always)]
-fn write_block(units: &[u16; BLOCK_UNITS], block: &mut [u8], len: usize) -> (usize, usize)
+fn write_block(units: u16x8, block: &mut [u8], len: usize) -> Block
     requires room { len + MIN_SPARE ≤ length block.old }
-    requires paired { ArePaired 0 units.now }
-    ensures taken { (0 < result.0) × (result.0 ≤ BLOCK_UNITS) }
-    ensures within { result.1 ≤ length block.new }
-    ensures no_lead_last { ¬ (IsLead (slice_index_or units.now (result.0 - 1) 0)) }
-    ensures bytes { take result.1 block.new ≡ take len block.old ++ packed_units 0 (take result.0 units.now) }
+    ensures taken { ((result.units ≡ 8) × ¬ (IsLead (slice_index_or units 7 0))) ⊎ ((result.units ≡ 7) × IsLead (slice_index_or units 7 0)) }
+    ensures within { result.end ≤ length block.new }
+    ensures bytes { take result.end block.new ≡ take len block.old ++ packed_units 0 (take result.units (tagged_block units)) }
+    ensures scalar { IsTrue result.is_utf8 → Each1 IsUnit (tagged_block units) }
 {
-    let lanes = u16x8::from_array(*units);
-    if are_scalar(lanes) {
-        return (
-            BLOCK_UNITS,
-            pack_eight(lanes, scalar_later_bytes(lanes), block, len),
-        );
+    if are_scalar(units) {
+        let later = scalar_later_bytes(units);
+        return Block {
+            units: BLOCK_UNITS,
+            end: pack_eight(units, later, block, len),
+            is_utf8: true,
+        };
     }
-    let all = pack_eight(lanes, later_bytes(lanes), block, len);
-    if units[BLOCK_UNITS - 1] / SURROGATES_PER_HALF == FIRST_LEAD / SURROGATES_PER_HALF {
-        return (BLOCK_UNITS - 1, all - 2);
+    let later = later_bytes(units);
+    let end = pack_eight(units, later, block, len);
+    let is_utf8 = later.is_utf8;
+    if units.to_array()[BLOCK_UNITS - 1] / SURROGATES_PER_HALF == LEAD_KIND {
+        return Block {
+            units: BLOCK_UNITS - 1,
+            end: end - 2,
+            is_utf8,
+        };
     }
-    (BLOCK_UNITS, all)
+    Block {
+        units: BLOCK_UNITS,
+        end,
+        is_utf8,
+    }
 }
 
-/// The eight units at index `at`, or `None` if fewer are left or one is a lone surrogate; the last one may be a lead.
+/// Encodes units from index `at` on into a scratch buffer, eight at a time, until fewer than eight are left or fewer
+/// than `MIN_SPARE` bytes of it. Returns the number of bytes, and how far units are encoded.
 #[inline(always)]
-fn paired_units(v: &[u16], at: usize) -> Option<[u16; BLOCK_UNITS]>
-    requires { at ≤ length v.now }
-    ensures within { IfSome result (λ _. at + BLOCK_UNITS ≤ length v.now) }
-    ensures same { IfSome result (λ units. (units ≡ take BLOCK_UNITS (drop at v.now)) × ArePaired 0 units) }
+fn write_blocks(v: &[u16], at: usize, scratch: &mut [u8]) -> (usize, Progress)
+    requires units { at + BLOCK_UNITS ≤ length v.now }
+    requires room { MIN_SPARE ≤ length scratch.old }
+    ensures order { at < result.1.at }
+    ensures within { result.0 ≤ length scratch.new }
+    ensures read { (w : List ℕ) (known : Bool) → IsReadTo w v.now at known → IsReadTo (w ++ take result.0 scratch.new) v.now result.1.at (known && result.1.is_utf8) }
 {
-    let units = v[at..].first_chunk::<BLOCK_UNITS>()?;
-    let lanes = u16x8::from_array(*units);
-    if are_scalar(lanes) || are_paired(lanes) {
-        return Some(*units);
-    }
-    None
-}
-
-/// Encodes units from index `at` on into a block, eight at a time, until fewer than eight are left, one of the next
-/// eight is a lone surrogate or the block has fewer than `MIN_SPARE` bytes left. Returns the index after the units and
-/// the number of bytes.
-#[inline(always)]
-fn write_blocks(v: &[u16], at: usize, block: &mut [u8]) -> (usize, usize)
-    requires { at ≤ length v.now }
-    ensures order { at ≤ result.0 }
-    ensures within { result.1 ≤ length block.new }
-    ensures read { (w : List ℕ) (known : Bool) → IsReadTo w v.now at known → IsReadTo (w ++ take result.1 block.new) v.now result.0 known }
-{
-    let mut end = at;
+    let last_start = v.len() - BLOCK_UNITS;
+    let most = scratch.len() - MIN_SPARE;
+    let mut to = Progress { at, is_utf8: true };
     let mut len = 0;
-    while MIN_SPARE <= block.len() - len
-        && let Some(units) = paired_units(v, end)
-    {
-        let (taken, next) = write_block(&units, block, len);
-        len = next;
-        end += taken;
+    while to.at <= last_start && len <= most {
+        let block = write_block(u16x8::from_slice(&v[to.at..]), scratch, len);
+        len = block.end;
+        to.at += block.units;
+        to.is_utf8 &= block.is_utf8;
     }
-    (end, len)
+    (len, to)
 }
 
-/// Appends the bytes of units from index `at` on, through a scratch buffer of `SCRATCH` bytes: eight units at a time,
-/// until fewer than eight are left, one of the next eight is a lone surrogate or fewer than `MIN_SPARE` bytes of the
-/// buffer are left. Returns the next index.
+/// Appends the bytes of units from index `from.at` on, through a scratch buffer of `SCRATCH` bytes: eight units at a
+/// time, until fewer than eight are left or fewer than `MIN_SPARE` bytes of the buffer. Returns how far units are
+/// encoded.
 #[inline(always)]
 pub(crate) fn append_blocks<const SCRATCH: usize, A: Allocator>(
     bytes: &mut Vec<u8, A>,
     v: &[u16],
-    at: usize,
-) -> Result<usize, AllocError>
-    requires room { SCRATCH < 2 ^ 16 }
-    requires within { at ≤ length v.now }
-    ensures order { IfOk result (λ end. at ≤ end) }
-    ensures read { IfOk result (λ end. (known : Bool) → IsReadTo bytes.old.items v.now at known → IsReadTo bytes.new.items v.now end known) }
+    from: Progress,
+) -> Result<Progress, AllocError>
+    requires room { (MIN_SPARE ≤ SCRATCH) × (SCRATCH < 2 ^ 16) }
+    requires within { from.at + BLOCK_UNITS ≤ length v.now }
+    requires read { IsReadTo bytes.old.items v.now from.at from.is_utf8 }
+    ensures order { IfOk result (λ to. from.at < to.at) }
+    ensures read { IfOk result (λ to. IsReadTo bytes.new.items v.now to.at to.is_utf8) }
 {
-    let mut block = [0; SCRATCH];
-    let block = &mut block[..];
-    let (end, len) = write_blocks(v, at, block);
-    bytes.extend_from_slice(&block[..len])?;
-    Ok(end)
+    let mut scratch = [0; SCRATCH];
+    let scratch = &mut scratch[..];
+    let (len, to) = write_blocks(v, from.at, scratch);
+    bytes.extend_from_slice(&scratch[..len])?;
+    Ok(Progress {
+        at: to.at,
+        is_utf8: from.is_utf8 & to.is_utf8,
+    })
 }

@@ -1,12 +1,13 @@
 // Encodes a list of code units in steps. What a step encodes depends on the next units: an ASCII run of up to 32, 16 or
-// 8 units and the code point after it, blocks of `kernel`, or one code point. `decode_utf16`
-// decodes the last units: fewer than 8, or fewer than 16 if there is a lone surrogate among the first 8 of them.
+// 8 units and the code point after it, blocks of `kernel`, or one code point. `decode_utf16` decodes the last units,
+// fewer than 8.
 ghost use Rattle.std.specs.Prelude.{◌≡◌, [], true, ◌+◌, ◌^◌, ◌<◌, ◌≤◌, length, map, min, IfOk, IsOk};
 ghost use Rattle.wtf8.specs.private.ConvertedPrefix.{IsKnownForm, IsReadTo};
 
 use crate::codec::code_point::CodePoint;
 use crate::codec::encoding;
-use crate::from_utf16::{decode, kernel};
+use crate::from_utf16::decode;
+use crate::from_utf16::kernel::{self, MIN_SPARE, Progress};
 use crate::lanes::ascii::ascii_run_len;
 use std::alloc::{AllocError, Allocator};
 use std::simd::prelude::*;
@@ -20,10 +21,12 @@ const TAIL_ASCII_BLOCK: usize = 16;
 /// The least number of units that are searched for an ASCII run at once, or encoded as a block.
 const SMALL_BLOCK: usize = TAIL_ASCII_BLOCK / 2;
 
-/// The size in bytes of the kernel's scratch buffer while `ASCII_BLOCK` or more units are left.
+/// The size in bytes of the kernel's scratch buffer while `ASCII_BLOCK` or more units are left: room for ten blocks of
+/// three-byte code points between two appends.
 const SCRATCH_BYTES: usize = 256;
 
-/// The size in bytes of the kernel's scratch buffer if fewer than `ASCII_BLOCK` units are left.
+/// The size in bytes of the kernel's scratch buffer if fewer than `ASCII_BLOCK` units are left: room for three blocks
+/// of three-byte code points, after which fewer than eight units are left. It is no longer, since it is zeroed first.
 const TAIL_SCRATCH_BYTES: usize = 80;
 
 /// Units narrowed to bytes. A unit above 0xFF becomes 0xFF, so that it is not ASCII.
@@ -34,184 +37,176 @@ fn narrow_saturating<const N: usize>(units: Simd<u16, N>) -> Simd<u8, N>
     units.simd_min(Simd::splat(0xFF)).cast::<u8>()
 }
 
-/// Appends the encoding of the code point at `at`. Returns the next index, and whether no lone surrogate precedes it.
+/// Appends the encoding of the code point at `from.at`. Returns how far units are encoded.
 #[inline(always)]
 fn append_point<A: Allocator>(
     bytes: &mut Vec<u8, A>,
     v: &[u16],
-    at: usize,
-    is_scalar: bool,
-) -> Result<(usize, bool), AllocError>
-    requires within { at < length v.now }
-    requires read { IsReadTo bytes.old.items v.now at is_scalar }
-    ensures order { IfOk result (λ to. at < to.0) }
-    ensures read { IfOk result (λ to. IsReadTo bytes.new.items v.now to.0 to.1) }
+    from: Progress,
+) -> Result<Progress, AllocError>
+    requires within { from.at < length v.now }
+    requires read { IsReadTo bytes.old.items v.now from.at from.is_utf8 }
+    ensures order { IfOk result (λ to. from.at < to.at) }
+    ensures read { IfOk result (λ to. IsReadTo bytes.new.items v.now to.at to.is_utf8) }
 {
-    let unit = v[at];
+    let unit = v[from.at];
     if unit < 0x800 {
         // Letters of most alphabets: never a surrogate, and at most two bytes.
         encoding::append(bytes, decode::point_of_unit(unit))?;
-        return Ok((at + 1, is_scalar));
+        return Ok(Progress {
+            at: from.at + 1,
+            is_utf8: from.is_utf8,
+        });
     }
-    let (code_point, end, is_point_scalar) = decode::read_point(v, at);
+    let (code_point, at, is_scalar) = decode::read_point(v, from.at);
     encoding::append(bytes, code_point)?;
-    Ok((end, is_scalar & is_point_scalar))
+    Ok(Progress {
+        at,
+        is_utf8: from.is_utf8 & is_scalar,
+    })
 }
 
-/// Appends the ASCII run at the front of the `N` units at index `at`, and the code point after it if the run is shorter
-/// than `N`. Returns the next index, and whether no lone surrogate precedes it.
+/// Appends the ASCII run at the front of the `N` units at index `from.at`, and the code point after it if the run is
+/// shorter than `N`. Returns how far units are encoded.
 #[inline(always)]
 fn append_ascii_run<const N: usize, A: Allocator>(
     bytes: &mut Vec<u8, A>,
     v: &[u16],
-    at: usize,
-    is_scalar: bool,
-) -> Result<(usize, bool), AllocError>
+    from: Progress,
+) -> Result<Progress, AllocError>
     requires lanes { (0 < N) × (N ≤ u64.BITS) }
-    requires within { at + N ≤ length v.now }
-    requires read { IsReadTo bytes.old.items v.now at is_scalar }
-    ensures order { IfOk result (λ to. at < to.0) }
-    ensures read { IfOk result (λ to. IsReadTo bytes.new.items v.now to.0 to.1) }
+    requires within { from.at + N ≤ length v.now }
+    requires read { IsReadTo bytes.old.items v.now from.at from.is_utf8 }
+    ensures order { IfOk result (λ to. from.at < to.at) }
+    ensures read { IfOk result (λ to. IsReadTo bytes.new.items v.now to.at to.is_utf8) }
 {
-    let block = narrow_saturating(Simd::<u16, N>::from_slice(&v[at..]));
+    let block = narrow_saturating(Simd::<u16, N>::from_slice(&v[from.at..]));
     let count = ascii_run_len(block);
     let end = bytes.len() + count;
     bytes.extend_from_slice(&block.to_array())?;
+    let to = Progress {
+        at: from.at + count,
+        is_utf8: from.is_utf8,
+    };
     if count == N {
-        return Ok((at + count, is_scalar));
+        return Ok(to);
     }
     bytes.truncate(end);
-    append_point(bytes, v, at + count, is_scalar)
+    append_point(bytes, v, to)
 }
 
 /// Appends the bytes of the next units: an ASCII run of up to `RUN` and the code point after it, blocks of eight
-/// through a scratch buffer of `SCRATCH` bytes, or one code point. Returns the next index, and whether no lone
-/// surrogate precedes it.
+/// through a scratch buffer of `SCRATCH` bytes, or one code point. Returns how far units are encoded.
 #[inline(always)]
 fn append_next<const RUN: usize, const SCRATCH: usize, A: Allocator>(
     bytes: &mut Vec<u8, A>,
     v: &[u16],
-    at: usize,
-    is_scalar: bool,
-) -> Result<(usize, bool), AllocError>
+    from: Progress,
+) -> Result<Progress, AllocError>
     requires lanes { (SMALL_BLOCK ≤ RUN) × (RUN ≤ u64.BITS) }
-    requires room { SCRATCH < 2 ^ 16 }
-    requires within { at + RUN ≤ length v.now }
-    requires read { IsReadTo bytes.old.items v.now at is_scalar }
-    ensures order { IfOk result (λ to. at < to.0) }
-    ensures read { IfOk result (λ to. IsReadTo bytes.new.items v.now to.0 to.1) }
+    requires room { (MIN_SPARE ≤ SCRATCH) × (SCRATCH < 2 ^ 16) }
+    requires within { from.at + RUN ≤ length v.now }
+    requires read { IsReadTo bytes.old.items v.now from.at from.is_utf8 }
+    ensures order { IfOk result (λ to. from.at < to.at) }
+    ensures read { IfOk result (λ to. IsReadTo bytes.new.items v.now to.at to.is_utf8) }
 {
+    let at = from.at;
     if v[at] < 0x80 {
-        return append_ascii_run::<RUN, A>(bytes, v, at, is_scalar);
+        return append_ascii_run::<RUN, A>(bytes, v, from);
     }
     // ASCII that follows soon is most often a run: encode one code point, and leave the run to a later step.
     if v[at + 1] < 0x80 || v[at + 2] < 0x80 {
-        return append_point(bytes, v, at, is_scalar);
+        return append_point(bytes, v, from);
     }
-    let end = kernel::append_blocks::<SCRATCH, A>(bytes, v, at)?;
-    if end == at {
-        return append_point(bytes, v, at, is_scalar);
-    }
-    Ok((end, is_scalar))
+    kernel::append_blocks::<SCRATCH, A>(bytes, v, from)
 }
 
-/// Appends the bytes of units to an empty buffer while `ASCII_BLOCK` or more are left. Returns the next index, and
-/// whether no lone surrogate precedes it.
+/// Appends the bytes of units to an empty buffer while `ASCII_BLOCK` or more are left. Returns how far units are
+/// encoded.
 #[inline(always)]
 fn append_until_tail<A: Allocator>(
     bytes: &mut Vec<u8, A>,
     v: &[u16],
-) -> Result<(usize, bool), AllocError>
+) -> Result<Progress, AllocError>
     requires { bytes.old.items ≡ [] }
-    ensures read { IfOk result (λ to. IsReadTo bytes.new.items v.now to.0 to.1) }
+    ensures read { IfOk result (λ to. IsReadTo bytes.new.items v.now to.at to.is_utf8) }
     ensures empty { v.now ≡ [] → IsOk result }
 {
-    let mut at = 0;
-    let mut is_scalar = true;
-    while ASCII_BLOCK <= v.len() - at {
-        (at, is_scalar) = append_next::<ASCII_BLOCK, SCRATCH_BYTES, A>(bytes, v, at, is_scalar)?;
+    let mut read = Progress {
+        at: 0,
+        is_utf8: true,
+    };
+    while ASCII_BLOCK <= v.len() - read.at {
+        read = append_next::<ASCII_BLOCK, SCRATCH_BYTES, A>(bytes, v, read)?;
     }
-    Ok((at, is_scalar))
+    Ok(read)
 }
 
-/// Appends the bytes of units from index `at` on, with `SMALL_BLOCK` or more left: an ASCII run of up to `SMALL_BLOCK`
-/// and the code point after it, or blocks of eight. Returns the next index, and whether no lone surrogate precedes it.
-///
-/// The next index is `at` if no block can be encoded: there is a lone surrogate among the next eight units.
+/// Appends the bytes of units from index `from.at` on, with `SMALL_BLOCK` or more left: an ASCII run of up to
+/// `SMALL_BLOCK` and the code point after it, or blocks of eight. Returns how far units are encoded.
 #[inline(always)]
 fn append_small_block<A: Allocator>(
     bytes: &mut Vec<u8, A>,
     v: &[u16],
-    at: usize,
-    is_scalar: bool,
-) -> Result<(usize, bool), AllocError>
-    requires within { at + SMALL_BLOCK ≤ length v.now }
-    requires read { IsReadTo bytes.old.items v.now at is_scalar }
-    ensures order { IfOk result (λ to. at ≤ to.0) }
-    ensures read { IfOk result (λ to. IsReadTo bytes.new.items v.now to.0 to.1) }
+    from: Progress,
+) -> Result<Progress, AllocError>
+    requires within { from.at + SMALL_BLOCK ≤ length v.now }
+    requires read { IsReadTo bytes.old.items v.now from.at from.is_utf8 }
+    ensures order { IfOk result (λ to. from.at < to.at) }
+    ensures read { IfOk result (λ to. IsReadTo bytes.new.items v.now to.at to.is_utf8) }
 {
-    if v[at] < 0x80 {
-        return append_ascii_run::<SMALL_BLOCK, A>(bytes, v, at, is_scalar);
+    if v[from.at] < 0x80 {
+        return append_ascii_run::<SMALL_BLOCK, A>(bytes, v, from);
     }
-    let end = kernel::append_blocks::<TAIL_SCRATCH_BYTES, A>(bytes, v, at)?;
-    Ok((end, is_scalar))
+    kernel::append_blocks::<TAIL_SCRATCH_BYTES, A>(bytes, v, from)
 }
 
-/// Appends the bytes of units from index `from` on until fewer than `SMALL_BLOCK` are left, or fewer than
-/// `TAIL_ASCII_BLOCK` and `append_small_block` cannot encode a block. Returns the next index, and whether no lone
-/// surrogate precedes it.
+/// Appends the bytes of units from index `from.at` on until fewer than `SMALL_BLOCK` are left. Returns how far units
+/// are encoded.
 #[inline(always)]
 fn append_tail_blocks<A: Allocator>(
     bytes: &mut Vec<u8, A>,
     v: &[u16],
-    from: usize,
-    is_scalar: bool,
-) -> Result<(usize, bool), AllocError>
-    requires { IsReadTo bytes.old.items v.now from is_scalar }
-    ensures read { IfOk result (λ to. IsReadTo bytes.new.items v.now to.0 to.1) }
+    from: Progress,
+) -> Result<Progress, AllocError>
+    requires { IsReadTo bytes.old.items v.now from.at from.is_utf8 }
+    ensures read { IfOk result (λ to. IsReadTo bytes.new.items v.now to.at to.is_utf8) }
     ensures empty { v.now ≡ [] → IsOk result }
 {
-    let (mut at, mut is_scalar) = (from, is_scalar);
-    while TAIL_ASCII_BLOCK <= v.len() - at {
-        (at, is_scalar) = append_next::<TAIL_ASCII_BLOCK, TAIL_SCRATCH_BYTES, A>(
-            bytes, v, at, is_scalar,
-        )?;
+    let mut read = from;
+    while TAIL_ASCII_BLOCK <= v.len() - read.at {
+        read = append_next::<TAIL_ASCII_BLOCK, TAIL_SCRATCH_BYTES, A>(bytes, v, read)?;
     }
-    while SMALL_BLOCK <= v.len() - at {
-        let start = at;
-        (at, is_scalar) = append_small_block(bytes, v, start, is_scalar)?;
-        if at == start {
-            break;
-        }
+    while SMALL_BLOCK <= v.len() - read.at {
+        read = append_small_block(bytes, v, read)?;
     }
-    Ok((at, is_scalar))
+    Ok(read)
 }
 
-/// Appends the bytes of all units from index `at` on. Returns whether the whole list holds no lone surrogate.
+/// Appends the bytes of all units from index `from.at` on. Returns whether the whole list holds no lone surrogate.
 ///
 /// `decode_utf16` joins each pair, so it yields no trail directly after a lead, and `append` has nothing to join.
 #[inline(always)]
 fn append_rest<A: Allocator>(
     bytes: &mut Vec<u8, A>,
     v: &[u16],
-    at: usize,
-    is_scalar: bool,
+    from: Progress,
 ) -> Result<bool, AllocError>
-    requires { IsReadTo bytes.old.items v.now at is_scalar }
+    requires { IsReadTo bytes.old.items v.now from.at from.is_utf8 }
     ensures ok { IfOk result (λ known. IsKnownForm bytes.new.items v.now known) }
     ensures empty { v.now ≡ [] → IsOk result }
 {
-    let mut is_scalar = is_scalar;
-    for item in decode::decode_utf16(v[at..].iter().copied()) {
+    let mut is_utf8 = from.is_utf8;
+    for item in decode::decode_utf16(v[from.at..].iter().copied()) {
         match item {
             Ok(character) => encoding::append(bytes, CodePoint::from_char(character))?,
             Err(surrogate) => {
-                is_scalar = false;
+                is_utf8 = false;
                 encoding::append(bytes, decode::point_of_unit(surrogate))?;
             }
         }
     }
-    Ok(is_scalar)
+    Ok(is_utf8)
 }
 
 /// Appends the WTF-8 form of units to an empty buffer. Returns whether the units hold no lone surrogate.
@@ -223,7 +218,7 @@ pub(crate) fn append_utf16<A: Allocator>(
     ensures ok { IfOk result (λ known. IsKnownForm bytes.new.items v.now known) }
     ensures empty { v.now ≡ [] → IsOk result }
 {
-    let (read, is_scalar) = append_until_tail(bytes, v)?;
-    let (at, is_scalar) = append_tail_blocks(bytes, v, read, is_scalar)?;
-    append_rest(bytes, v, at, is_scalar)
+    let read = append_until_tail(bytes, v)?;
+    let read = append_tail_blocks(bytes, v, read)?;
+    append_rest(bytes, v, read)
 }

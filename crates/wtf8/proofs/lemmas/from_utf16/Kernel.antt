@@ -1,18 +1,17 @@
 -- Blocks of units of mixed kinds: three candidate bytes of each unit in lanes, and the shuffle that packs them.
 use Rattle.wtf8.proofs.Common.{◌≡◌, ℕ, suc, ◌+◌, ◌-◌, ◌*◌, ◌/◌, ◌%◌, ◌^◌, ◌<◌, ◌≤◌, List, [], ◌∷◌, ◌++◌, length, take, drop, get_or, map, replicate, zip2, Each1, cond, ltb, leb, eqb, top, Bool, true, false}
-use Rattle.wtf8.proofs.Common.{length-append, false≢true, refl, sym, ap, ◌∙◌, arith, lt-ltb, le-ltb, subst, cases_lt, cases_Bool, inl, inr, Fits, append-nil, append_assoc, map-append, rules, mask_l-mod, eq-eqb, eqb-true, pick_l_whole, IsSurrogate}
+use Rattle.wtf8.proofs.Common.{length-append, false≢true, refl, sym, ap, ◌∙◌, arith, lt-ltb, le-ltb, subst, cases_lt, cases_Bool, inl, inr, Fits, append-nil, append_assoc, map-append, rules, ◌&&◌, mask_l-mod, eq-eqb, pick_l_whole, IsSurrogate}
 use lib.Lanes.{sel_l, pick_l, mask_l, number_l}
 use Rattle.std.specs.Int.{w8, w16}
-use Rattle.std.specs.Prelude.{nat_lt, if◌then◌else◌, bit_xor, ◌↔◌}
-use Rattle.std.proofs.lemmas.Bool.{ne_eqb}
+use Rattle.std.specs.Prelude.{nat_lt, if◌then◌else◌, bit_and, bit_or, bit_xor}
 use Rattle.std.proofs.lemmas.Bool.Decides.{nat_tests}
 use Rattle.std.proofs.lemmas.List.{take-map, drop-map, get_or-take}
 use Rattle.std.proofs.lemmas.Simd.{swz_l, get_or-swz_l_below}
 use Rattle.wtf8.specs.private.ConvertedPrefix.{AreScalarUnits}
 use Rattle.wtf8.specs.private.PackedUnits.{first_byte, scalar_second_byte, second_byte, scalar_last_byte, last_byte, multi_byte_bit, three_byte_bit, byte_count, byte_lanes, table_index, units_table_index, source_lanes, IsByteCount}
-use Rattle.wtf8.specs.private.PackedUnits.{packed_unit, packed_units, ArePaired}
-use Rattle.wtf8.proofs.lemmas.from_utf16.PackedUnits.{packed_unit-lead}
-use Rattle.wtf8.specs.Unicode.{IsLead, IsTrail}
+use Rattle.wtf8.specs.private.PackedUnits.{packed_unit, packed_units, tagged, tagged_units, tagged_block, AreLaterBytes}
+use Rattle.wtf8.proofs.lemmas.from_utf16.PackedUnits.{packed_unit-lead, IsTag, IsTag-tagged, tagged-scalar, tagged-lead_before_trail}
+use Rattle.wtf8.specs.Unicode.{IsLead, IsUnit}
 use Rattle.std.proofs.lemmas.List.{length-take-le, take-take}
 use Rattle.std.proofs.Math.Seq.{take-append_seam}
 
@@ -32,9 +31,25 @@ map-same_if_fits : (f g : ℕ → ℕ) → ((x : ℕ) → x < 0x10000 → f x �
 map-same_if_fits f g h [] e = refl
 map-same_if_fits f g h (x ∷ u) e = λ i. h x e.0.fits i ∷ map-same_if_fits f g h u e.1 i
 
+-- a computation that is the same on a unit and on the tagged unit
+map-tagged : (f : ℕ → ℕ) → ((x t : ℕ) → IsTag x t → f x ≡ f t) → (b : ℕ) (u : List ℕ) (a : ℕ) → map f u ≡ map f (tagged_units b u a)
+map-tagged f h b [] a = refl
+map-tagged f h b (x ∷ u) a = λ i. h x (tagged b x (get_or u 0 a)) (IsTag-tagged b x (get_or u 0 a)) i ∷ map-tagged f h x u a i
+
+length-tagged_units : (b : ℕ) (u : List ℕ) (a : ℕ) → length (tagged_units b u a) ≡ length u
+length-tagged_units b [] a = refl
+length-tagged_units b (x ∷ u) a = ap suc (length-tagged_units x u a)
+
+pub length-tagged_block : (u : List ℕ) → length u ≡ 8 → length (tagged_block u) ≡ 8
+length-tagged_block u l = length-tagged_units 0 u 0xDC00 ∙ l
+
 Each1-map : (P : ℕ → Type 0) (f : ℕ → ℕ) → ((x : ℕ) → x < 0x10000 → P (f x)) → (u : List ℕ) → Each1 (Fits w16) u → Each1 P (map f u)
 Each1-map P f h [] e = tt
 Each1-map P f h (x ∷ u) e = (h x e.0.fits, Each1-map P f h u e.1)
+
+Each1-map_all : (P : ℕ → Type 0) (f : ℕ → ℕ) → ((x : ℕ) → P (f x)) → (u : List ℕ) → Each1 P (map f u)
+Each1-map_all P f h [] = tt
+Each1-map_all P f h (x ∷ u) = (h x, Each1-map_all P f h u)
 
 abbrev select_by : (ℕ → ℕ → Bool) → ℕ → List ℕ → List ℕ → List ℕ → List ℕ
 select_by f k u a b = sel_l (map (top 15) (zip2 (λ x y. cond (f x y) 0xFFFF 0) u (replicate 8 k))) a b
@@ -58,6 +73,13 @@ first_byte-lane x h = omega (arith, h)
 
 pub first_byte_lanes-map : (u : List ℕ) → length u ≡ 8 → Each1 (Fits w16) u → map (λ x. x) (first_byte_lanes u) ≡ map first_byte u
 first_byte_lanes-map u l e = of_eight (λ u. Each1 (Fits w16) u → map (λ x. x) (first_byte_lanes u) ≡ map first_byte u) u l (map-same_if_fits (λ x. (0xE0 + x / 4096) % 65536) first_byte first_byte-lane (eight_lanes u)) e
+
+first_byte-tagged : (x t : ℕ) → IsTag x t → first_byte x ≡ first_byte t
+first_byte-tagged x t k = elim k [ inl e ↦ ap first_byte (sym e) | inr e ↦ omega (arith, e.0) ]
+
+-- the first bytes are those of the tagged units
+pub first_bytes-tagged : (f u : List ℕ) → f ≡ map first_byte u → f ≡ map first_byte (tagged_block u)
+first_bytes-tagged f u e = e ∙ map-tagged first_byte first_byte-tagged 0 u 0xDC00
 
 pub first_byte_lanes_fit : (P : ℕ → Type 0) → ((x : ℕ) → x < 256 → P x) → (u : List ℕ) → length u ≡ 8 → Each1 (Fits w16) u → Each1 P (first_byte_lanes u)
 first_byte_lanes_fit P h u l e = of_eight (λ u. Each1 (Fits w16) u → Each1 P (first_byte_lanes u)) u l (Each1-map P (λ x. (0xE0 + x / 4096) % 65536) (λ x s. h _ (omega (arith, s))) (eight_lanes u)) e
@@ -90,7 +112,57 @@ pub flag_lanes-map : (k : ℕ) (u : List ℕ) → length u ≡ 8 → select_by l
 flag_lanes-map k u l = of_eight (λ u. select_by ltb k u (replicate 8 0) (replicate 8 0x80) ≡ map (flag_from k) u) u l
     (map-same (λ x. cond (top 15 (cond (ltb x k) 0xFFFF 0)) 0 0x80) (flag_from k) (flag_from-lane k) (eight_lanes u))
 
--- The three candidate bytes of units that may be surrogates.
+-- The halves of pairs among the lanes.
+
+-- all bits of a lane if the tagged unit is the lead of a pair, or the trail of one, else none
+abbrev lead_mask : ℕ → ℕ
+lead_mask n = if nat_lt n 0xD800 then 0 else if nat_lt n 0xDC00 then 0xFFFF else 0
+
+abbrev trail_mask : ℕ → ℕ
+trail_mask n = if nat_lt n 0xDC00 then 0 else if nat_lt n 0xE000 then 0xFFFF else 0
+
+record ArePairHalves (u leads trails : List ℕ) : Type 0 where
+  pub lead : leads ≡ map lead_mask u
+  pub trail : trails ≡ map trail_mask u
+
+and_lanes : (s t : Bool) → bit_and (cond s 0xFFFF 0) (cond t 0xFFFF 0) ≡ cond (s && t) 0xFFFF 0
+and_lanes true true = refl
+and_lanes true false = refl
+and_lanes false true = refl
+and_lanes false false = refl
+
+lead_mask-lane : (b x n : ℕ) → bit_and (cond (eqb (x / 1024) 54) 0xFFFF 0) (cond (eqb (n / 1024) 55) 0xFFFF 0) ≡ lead_mask (tagged b x n)
+lead_mask-lane b x n = and_lanes (eqb (x / 1024) 54) (eqb (n / 1024) 55) ∙ grind (arith, nat_tests)
+
+trail_mask-lane : (b x n : ℕ) → bit_and (cond (eqb (x / 1024) 55) 0xFFFF 0) (cond (eqb (b / 1024) 54) 0xFFFF 0) ≡ trail_mask (tagged b x n)
+trail_mask-lane b x n = and_lanes (eqb (x / 1024) 55) (eqb (b / 1024) 54) ∙ grind (arith, nat_tests)
+
+abbrev equal_lanes : ℕ → List ℕ → List ℕ
+equal_lanes k u = zip2 (λ a b. cond (eqb a b) 0xFFFF 0) u (replicate 8 k)
+
+abbrev pair_lead_lanes : List ℕ → List ℕ
+pair_lead_lanes u =
+    let kinds = lanes_div 1024 u in
+    zip2 bit_and (equal_lanes 54 kinds) (equal_lanes 55 (pick_l 0 (kinds ++ replicate 8 55) (1 ∷ 2 ∷ 3 ∷ 4 ∷ 5 ∷ 6 ∷ 7 ∷ 8 ∷ [])))
+
+abbrev pair_trail_lanes : List ℕ → List ℕ
+pair_trail_lanes u =
+    let kinds = lanes_div 1024 u in
+    zip2 bit_and (equal_lanes 55 kinds) (equal_lanes 54 (pick_l 0 (kinds ++ replicate 8 0) (8 ∷ 0 ∷ 1 ∷ 2 ∷ 3 ∷ 4 ∷ 5 ∷ 6 ∷ [])))
+
+pair_lanes : (u : List ℕ) → length u ≡ 8 → ArePairHalves (tagged_block u) (pair_lead_lanes u) (pair_trail_lanes u)
+pair_lanes u l = record {
+  lead = of_eight (λ u. pair_lead_lanes u ≡ map lead_mask (tagged_block u)) u l (λ i. lead_mask-lane 0 (get_or u 0 0) (get_or u 1 0) i ∷ lead 0 1 2 i ∷ lead 1 2 3 i ∷ lead 2 3 4 i ∷ lead 3 4 5 i ∷ lead 4 5 6 i ∷ lead 5 6 7 i ∷ lead_mask-lane (get_or u 6 0) (get_or u 7 0) 0xDC00 i ∷ []);
+  trail = of_eight (λ u. pair_trail_lanes u ≡ map trail_mask (tagged_block u)) u l (λ i. trail_mask-lane 0 (get_or u 0 0) (get_or u 1 0) i ∷ trail 0 1 2 i ∷ trail 1 2 3 i ∷ trail 2 3 4 i ∷ trail 3 4 5 i ∷ trail 4 5 6 i ∷ trail 5 6 7 i ∷ trail_mask-lane (get_or u 6 0) (get_or u 7 0) 0xDC00 i ∷ []);
+}
+  where
+    lead : (j k m : ℕ) → bit_and (cond (eqb (get_or u k 0 / 1024) 54) 0xFFFF 0) (cond (eqb (get_or u m 0 / 1024) 55) 0xFFFF 0) ≡ lead_mask (tagged (get_or u j 0) (get_or u k 0) (get_or u m 0))
+    lead j k m = lead_mask-lane (get_or u j 0) (get_or u k 0) (get_or u m 0)
+
+    trail : (j k m : ℕ) → bit_and (cond (eqb (get_or u k 0 / 1024) 55) 0xFFFF 0) (cond (eqb (get_or u j 0 / 1024) 54) 0xFFFF 0) ≡ trail_mask (tagged (get_or u j 0) (get_or u k 0) (get_or u m 0))
+    trail j k m = trail_mask-lane (get_or u j 0) (get_or u k 0) (get_or u m 0)
+
+-- The three candidate bytes of units that may be surrogates: of the unit `x`, tagged as `t`.
 
 abbrev lead_second_byte : ℕ → ℕ
 lead_second_byte x = (0xF0 + (x % 1024 + 64) % 65536 / 256) % 65536
@@ -98,79 +170,163 @@ lead_second_byte x = (0xF0 + (x % 1024 + 64) % 65536 / 256) % 65536
 abbrev trail_second_byte : ℕ → ℕ → ℕ
 trail_second_byte b x = ((0x80 + b % 4 * 16 % 65536) % 65536 + x / 64 % 16) % 65536
 
-second_byte-lane : (b x : ℕ) → cond (top 15 (cond (eqb (x / 1024) 54) 0xFFFF 0)) (lead_second_byte x) (cond (top 15 (cond (eqb (x / 1024) 55) 0xFFFF 0)) (trail_second_byte b x) (scalar_second_byte x)) ≡ second_byte b x
-second_byte-lane b x = grind (arith, nat_tests)
+second_byte-lane : (b x d t : ℕ) → IsTag b d → IsTag x t → cond (top 15 (lead_mask t)) (lead_second_byte x) (cond (top 15 (trail_mask t)) (trail_second_byte b x) (scalar_second_byte x)) ≡ second_byte d t
+second_byte-lane b x d t k m =
+    let low : b % 4 ≡ d % 4 = elim k [ inl e ↦ omega (arith, e) | inr e ↦ omega (arith, e.0) ] in
+    elim m [ inl e ↦ grind (arith, nat_tests, low, e) | inr e ↦ grind (arith, nat_tests, low, e.0, e.1.0, e.1.1) ]
 
-abbrev second_byte_lanes : List ℕ → List ℕ → List ℕ
-second_byte_lanes own u =
+abbrev second_byte_lanes : List ℕ → List ℕ → List ℕ → List ℕ → List ℕ
+second_byte_lanes leads trails own u =
     let before = pick_l 0 (u ++ replicate 8 0) (8 ∷ 0 ∷ 1 ∷ 2 ∷ 3 ∷ 4 ∷ 5 ∷ 6 ∷ []) in
-    select_by eqb 54 (lanes_div 1024 u) (lanes_add (replicate 8 0xF0) (lanes_div 256 (lanes_add (lanes_rem 1024 u) (replicate 8 64))))
-    (select_by eqb 55 (lanes_div 1024 u) (lanes_add (lanes_add (replicate 8 0x80) (zip2 (λ a b. a * b % 65536) (lanes_rem 4 before) (replicate 8 16))) (lanes_rem 16 (lanes_div 64 u))) own)
+    sel_l (map (top 15) leads) (lanes_add (replicate 8 0xF0) (lanes_div 256 (lanes_add (lanes_rem 1024 u) (replicate 8 64))))
+    (sel_l (map (top 15) trails) (lanes_add (lanes_add (replicate 8 0x80) (zip2 (λ a b. a * b % 65536) (lanes_rem 4 before) (replicate 8 16))) (lanes_rem 16 (lanes_div 64 u))) own)
 
-pub second_byte_lanes-zip2 : (own u : List ℕ) → length u ≡ 8 → own ≡ map scalar_second_byte u → second_byte_lanes own u ≡ zip2 second_byte (0 ∷ u) u
-second_byte_lanes-zip2 own u l e = rw e (of_eight (λ u. second_byte_lanes (map scalar_second_byte u) u ≡ zip2 second_byte (0 ∷ u) u) u l
-    (λ i. second_byte-lane 0 (get_or u 0 0) i ∷ lane 0 i ∷ lane 1 i ∷ lane 2 i ∷ lane 3 i ∷ lane 4 i ∷ lane 5 i ∷ lane 6 i ∷ []))
+second_byte_lanes-zip2 : (leads trails own u : List ℕ) → length u ≡ 8 → ArePairHalves (tagged_block u) leads trails → own ≡ map scalar_second_byte u → second_byte_lanes leads trails own u ≡ zip2 second_byte (0 ∷ tagged_block u) (tagged_block u)
+second_byte_lanes-zip2 leads trails own u l p e = rw (e, p.lead, p.trail) (of_eight (λ u. second_byte_lanes (map lead_mask (tagged_block u)) (map trail_mask (tagged_block u)) (map scalar_second_byte u) u ≡ zip2 second_byte (0 ∷ tagged_block u) (tagged_block u)) u l
+    (λ i. second_byte-lane 0 (unit 0) 0 (tag 0 (unit 0) (unit 1)) (inl refl) (IsTag-tagged 0 (unit 0) (unit 1)) i
+    ∷ lane 0 (unit 0) (unit 1) (unit 2) i ∷ lane (unit 0) (unit 1) (unit 2) (unit 3) i ∷ lane (unit 1) (unit 2) (unit 3) (unit 4) i ∷ lane (unit 2) (unit 3) (unit 4) (unit 5) i
+    ∷ lane (unit 3) (unit 4) (unit 5) (unit 6) i ∷ lane (unit 4) (unit 5) (unit 6) (unit 7) i ∷ lane (unit 5) (unit 6) (unit 7) 0xDC00 i ∷ []))
   where
-    lane : (k : ℕ) → cond (top 15 (cond (eqb (get_or u (suc k) 0 / 1024) 54) 0xFFFF 0)) (lead_second_byte (get_or u (suc k) 0))
-        (cond (top 15 (cond (eqb (get_or u (suc k) 0 / 1024) 55) 0xFFFF 0)) (trail_second_byte (get_or u k 0) (get_or u (suc k) 0)) (scalar_second_byte (get_or u (suc k) 0)))
-        ≡ second_byte (get_or u k 0) (get_or u (suc k) 0)
-    lane k = second_byte-lane (get_or u k 0) (get_or u (suc k) 0)
+    unit : ℕ → ℕ
+    unit k = get_or u k 0
+
+    tag : ℕ → ℕ → ℕ → ℕ
+    tag = tagged
+
+    lane : (a b x n : ℕ) → cond (top 15 (lead_mask (tagged b x n))) (lead_second_byte x) (cond (top 15 (trail_mask (tagged b x n))) (trail_second_byte b x) (scalar_second_byte x)) ≡ second_byte (tagged a b x) (tagged b x n)
+    lane a b x n = second_byte-lane b x (tagged a b x) (tagged b x n) (IsTag-tagged a b x) (IsTag-tagged b x n)
 
 abbrev lead_last_byte : ℕ → ℕ
 lead_last_byte x = (0x80 + (x % 1024 + 64) % 65536 / 4 % 64) % 65536
 
-last_byte-lane : (x : ℕ) → cond (top 15 (cond (eqb (x / 1024) 54) 0xFFFF 0)) (lead_last_byte x) (scalar_last_byte x) ≡ last_byte x
-last_byte-lane x = grind (arith, nat_tests)
+last_byte-lane : (x t : ℕ) → IsTag x t → cond (top 15 (lead_mask t)) (lead_last_byte x) (scalar_last_byte x) ≡ last_byte t
+last_byte-lane x t m = elim m [ inl e ↦ grind (arith, nat_tests, e) | inr e ↦ grind (arith, nat_tests, e.0, e.1.0, e.1.1) ]
 
-abbrev last_byte_lanes : List ℕ → List ℕ → List ℕ
-last_byte_lanes own u = select_by eqb 54 (lanes_div 1024 u) (lanes_add (replicate 8 0x80) (lanes_rem 64 (lanes_div 4 (lanes_add (lanes_rem 1024 u) (replicate 8 64))))) own
+abbrev last_byte_lanes : List ℕ → List ℕ → List ℕ → List ℕ
+last_byte_lanes leads own u = sel_l (map (top 15) leads) (lanes_add (replicate 8 0x80) (lanes_rem 64 (lanes_div 4 (lanes_add (lanes_rem 1024 u) (replicate 8 64))))) own
 
-pub last_byte_lanes-map : (own u : List ℕ) → length u ≡ 8 → own ≡ map scalar_last_byte u → last_byte_lanes own u ≡ map last_byte u
-last_byte_lanes-map own u l e = rw e (of_eight (λ u. last_byte_lanes (map scalar_last_byte u) u ≡ map last_byte u) u l
-    (map-same (λ x. cond (top 15 (cond (eqb (x / 1024) 54) 0xFFFF 0)) (lead_last_byte x) (scalar_last_byte x)) last_byte last_byte-lane (eight_lanes u)))
+last_byte_lanes-map : (leads own u : List ℕ) → length u ≡ 8 → leads ≡ map lead_mask (tagged_block u) → own ≡ map scalar_last_byte u → last_byte_lanes leads own u ≡ map last_byte (tagged_block u)
+last_byte_lanes-map leads own u l p e = rw (e, p) (of_eight (λ u. last_byte_lanes (map lead_mask (tagged_block u)) (map scalar_last_byte u) u ≡ map last_byte (tagged_block u)) u l
+    (λ i. lane 0 (unit 0) (unit 1) i ∷ lane (unit 0) (unit 1) (unit 2) i ∷ lane (unit 1) (unit 2) (unit 3) i ∷ lane (unit 2) (unit 3) (unit 4) i
+    ∷ lane (unit 3) (unit 4) (unit 5) i ∷ lane (unit 4) (unit 5) (unit 6) i ∷ lane (unit 5) (unit 6) (unit 7) i ∷ lane (unit 6) (unit 7) 0xDC00 i ∷ []))
+  where
+    unit : ℕ → ℕ
+    unit k = get_or u k 0
+
+    lane : (b x n : ℕ) → cond (top 15 (lead_mask (tagged b x n))) (lead_last_byte x) (scalar_last_byte x) ≡ last_byte (tagged b x n)
+    lane b x n = last_byte-lane x (tagged b x n) (IsTag-tagged b x n)
 
 abbrev three_byte_flag : ℕ → ℕ
 three_byte_flag n = three_byte_bit n * 0x80
 
-three_byte_flag-lane : (x : ℕ) → cond (top 15 (cond (eqb (x / 2048) 27) 0xFFFF 0)) 0 (flag_from 0x800 x) ≡ three_byte_flag x
-three_byte_flag-lane x = grind (arith, nat_tests)
+three_byte_flag-lane : (x t : ℕ) → IsTag x t → cond (top 15 (bit_or (lead_mask t) (trail_mask t))) 0 (flag_from 0x800 x) ≡ three_byte_flag t
+three_byte_flag-lane x t m = elim m [ inl e ↦ grind (arith, nat_tests, e) | inr e ↦ grind (arith, nat_tests, e.0, e.1.0, e.1.1) ]
 
-pub three_byte_flag_lanes-map : (m u : List ℕ) → length u ≡ 8 → m ≡ map (flag_from 0x800) u → select_by eqb 27 (lanes_div 2048 u) (replicate 8 0) m ≡ map three_byte_flag u
-three_byte_flag_lanes-map m u l e = rw e (of_eight (λ u. select_by eqb 27 (lanes_div 2048 u) (replicate 8 0) (map (flag_from 0x800) u) ≡ map three_byte_flag u) u l
-    (map-same (λ x. cond (top 15 (cond (eqb (x / 2048) 27) 0xFFFF 0)) 0 (flag_from 0x800 x)) three_byte_flag three_byte_flag-lane (eight_lanes u)))
+three_byte_flag_lanes-map : (leads trails m u : List ℕ) → length u ≡ 8 → ArePairHalves (tagged_block u) leads trails → m ≡ map (flag_from 0x800) u
+    → sel_l (map (top 15) (zip2 bit_or leads trails)) (replicate 8 0) m ≡ map three_byte_flag (tagged_block u)
+three_byte_flag_lanes-map leads trails m u l p e = rw (e, p.lead, p.trail) (of_eight (λ u. sel_l (map (top 15) (zip2 bit_or (map lead_mask (tagged_block u)) (map trail_mask (tagged_block u)))) (replicate 8 0) (map (flag_from 0x800) u) ≡ map three_byte_flag (tagged_block u)) u l
+    (λ i. lane 0 (unit 0) (unit 1) i ∷ lane (unit 0) (unit 1) (unit 2) i ∷ lane (unit 1) (unit 2) (unit 3) i ∷ lane (unit 2) (unit 3) (unit 4) i
+    ∷ lane (unit 3) (unit 4) (unit 5) i ∷ lane (unit 4) (unit 5) (unit 6) i ∷ lane (unit 5) (unit 6) (unit 7) i ∷ lane (unit 6) (unit 7) 0xDC00 i ∷ []))
+  where
+    unit : ℕ → ℕ
+    unit k = get_or u k 0
+
+    lane : (b x n : ℕ) → cond (top 15 (bit_or (lead_mask (tagged b x n)) (trail_mask (tagged b x n)))) 0 (flag_from 0x800 x) ≡ three_byte_flag (tagged b x n)
+    lane b x n = three_byte_flag-lane x (tagged b x n) (IsTag-tagged b x n)
 
 -- a unit that is no surrogate has the same bytes by both computations
 candidate_bytes-scalar : (x : ℕ) → ¬ (IsSurrogate x) → (b : ℕ) → (scalar_second_byte x ≡ second_byte b x) × (scalar_last_byte x ≡ last_byte x) × (flag_from 0x800 x ≡ three_byte_flag x)
-candidate_bytes-scalar x n b =
-    let lead = ne_eqb (x / 1024) 54 (λ e. n (omega (arith, e), omega (arith, e))) in
-    let trail = ne_eqb (x / 1024) 55 (λ e. n (omega (arith, e), omega (arith, e))) in
-    let long = ne_eqb (x / 2048) 27 (λ e. n (omega (arith, e), omega (arith, e))) in
-    (rw (lead, trail) at (second_byte-lane b x), rw lead at (last_byte-lane x), rw long at (three_byte_flag-lane x))
+candidate_bytes-scalar x n b = elim (cases_lt x 0xD800) [
+  | inl l ↦ (rw (lt-ltb x 0xD800 l) refl, rw (lt-ltb x 0xD800 l) refl, rw (lt-ltb x 0xD800 l) refl)
+  | inr g ↦ elim (cases_lt x 0xE000) [
+    | inl l ↦ absurd (n (g, omega (arith, l)))
+    | inr h ↦ (
+      rw (le-ltb x 0xD800 g, le-ltb x 0xDC00 (omega (arith, h)), le-ltb x 0xE000 h) refl,
+      rw (le-ltb x 0xD800 g, le-ltb x 0xDC00 (omega (arith, h))) refl,
+      rw (le-ltb x 0xD800 g, le-ltb x 0xE000 h) refl,
+    )
+  ]
+]
 
-pub scalar_lanes : (b u : List ℕ) → length u ≤ length b → AreScalarUnits u → (map scalar_second_byte u ≡ zip2 second_byte b u) × (map scalar_last_byte u ≡ map last_byte u) × (map (flag_from 0x800) u ≡ map three_byte_flag u)
-scalar_lanes [] [] l h = (refl, refl, refl)
-scalar_lanes (y ∷ b) [] l h = (refl, refl, refl)
-scalar_lanes [] (x ∷ u) l h = absurd (omega (arith, l))
-scalar_lanes (y ∷ b) (x ∷ u) l h =
+scalar_candidates : (b u : List ℕ) → length u ≤ length b → AreScalarUnits u → (map scalar_second_byte u ≡ zip2 second_byte b u) × (map scalar_last_byte u ≡ map last_byte u) × (map (flag_from 0x800) u ≡ map three_byte_flag u)
+scalar_candidates [] [] l h = (refl, refl, refl)
+scalar_candidates (y ∷ b) [] l h = (refl, refl, refl)
+scalar_candidates [] (x ∷ u) l h = absurd (omega (arith, l))
+scalar_candidates (y ∷ b) (x ∷ u) l h =
     let own = candidate_bytes-scalar x h.0.1 y in
-    let more = scalar_lanes b u (omega (arith, l)) h.1 in
+    let more = scalar_candidates b u (omega (arith, l)) h.1 in
     ((λ i. own.0 i ∷ more.0 i), (λ i. own.1 i ∷ more.1 i), (λ i. own.2 i ∷ more.2 i))
+
+-- units of which none is a surrogate are not changed by tags
+pub tagged_units-scalar : (b : ℕ) (u : List ℕ) (a : ℕ) → AreScalarUnits u → tagged_units b u a ≡ u
+tagged_units-scalar b [] a h = refl
+tagged_units-scalar b (x ∷ u) a h = λ i. tagged-scalar b x (get_or u 0 a) h.0.1 i ∷ tagged_units-scalar x u a h.1 i
+
+pub scalar_lanes : (u : List ℕ) → AreScalarUnits u → (map scalar_second_byte u ≡ zip2 second_byte (0 ∷ tagged_block u) (tagged_block u)) × (map scalar_last_byte u ≡ map last_byte (tagged_block u)) × (map (flag_from 0x800) u ≡ map three_byte_flag (tagged_block u))
+scalar_lanes u h = rw (tagged_units-scalar 0 u 0xDC00 h) (scalar_candidates (0 ∷ u) u (omega arith) h)
+
+pub units-scalar_block : (u : List ℕ) → AreScalarUnits u → Each1 IsUnit (tagged_block u)
+units-scalar_block u h = subst (Each1 IsUnit) (sym (tagged_units-scalar 0 u 0xDC00 h)) (each u h)
+  where
+    each : (u : List ℕ) → AreScalarUnits u → Each1 IsUnit u
+    each [] h = tt
+    each (x ∷ u) h = (omega (arith, h.0.0), each u h.1)
+
+-- if no lane is a surrogate that is no half of a pair, no unit is tagged
+abbrev lone_lane : ℕ → ℕ → Bool
+lone_lane x t = top 15 (bit_xor (cond (eqb (x / 2048) 27) 0xFFFF 0) (bit_or (lead_mask t) (trail_mask t)))
+
+lone_lane-tagged : (x : ℕ) → IsSurrogate x → lone_lane x (x + 0x10000) ≡ true
+lone_lane-tagged x s =
+    let kind = eq-eqb (x / 2048) 27 (omega (arith, s)) in
+    rw (kind, le-ltb (x + 0x10000) 0xD800 (omega (arith, s)), le-ltb (x + 0x10000) 0xDC00 (omega (arith, s)), le-ltb (x + 0x10000) 0xE000 (omega (arith, s))) refl
+
+unit-from_lane : (x t : ℕ) → x < 0x10000 → IsTag x t → lone_lane x t ≡ false → IsUnit t
+unit-from_lane x t h m e = elim m [ inl same ↦ omega (arith, same, h) | inr lone ↦ absurd (false≢true (sym e ∙ ap (lone_lane x) lone.0 ∙ lone_lane-tagged x lone.1)) ]
+
+units-from_mask : (b : ℕ) (u : List ℕ) (a : ℕ) → Each1 (Fits w16) u → mask_l (zip2 lone_lane u (tagged_units b u a)) ≡ 0 → Each1 IsUnit (tagged_units b u a)
+units-from_mask b [] a f e = tt
+units-from_mask b (x ∷ u) a f e = elim (cases_Bool (lone_lane x (tagged b x (get_or u 0 a)))) [
+  | inl t ↦ absurd (omega (arith, rw t at e))
+  | inr n ↦ (unit-from_lane x (tagged b x (get_or u 0 a)) f.0.fits (IsTag-tagged b x (get_or u 0 a)) n, units-from_mask x u a f.1 (omega (arith, e)))
+]
+
+abbrev lone_mask : List ℕ → List ℕ → List ℕ → List Bool
+lone_mask leads trails u = map (top 15) (zip2 bit_xor (zip2 (λ a b. cond (eqb a b) 0xFFFF 0) (lanes_div 2048 u) (replicate 8 27)) (zip2 bit_or leads trails))
+
+units-from_zero_mask : (leads trails u : List ℕ) → length u ≡ 8 → Each1 (Fits w16) u → ArePairHalves (tagged_block u) leads trails → mask_l (lone_mask leads trails u) % 2 ^ 64 ≡ 0 → Each1 IsUnit (tagged_block u)
+units-from_zero_mask leads trails u l f p e =
+    of_eight (λ u. Each1 (Fits w16) u → mask_l (lone_mask (map lead_mask (tagged_block u)) (map trail_mask (tagged_block u)) u) % 2 ^ 64 ≡ 0 → Each1 IsUnit (tagged_block u)) u l
+    (λ f e. units-from_mask 0 (eight_lanes u) 0xDC00 f (sym (mask_l-mod (zip2 lone_lane (eight_lanes u) (tagged_block (eight_lanes u))) 64 (omega arith)) ∙ e)) f (rw (p.lead, p.trail) at e)
+
+pub later_lanes : (own lasts m u : List ℕ) → length u ≡ 8 → own ≡ map scalar_second_byte u → lasts ≡ map scalar_last_byte u → m ≡ map (flag_from 0x800) u
+    → AreLaterBytes (tagged_block u) (second_byte_lanes (pair_lead_lanes u) (pair_trail_lanes u) own u) (last_byte_lanes (pair_lead_lanes u) lasts u) (sel_l (map (top 15) (zip2 bit_or (pair_lead_lanes u) (pair_trail_lanes u))) (replicate 8 0) m)
+later_lanes own lasts m u l x y z =
+    let pairs = pair_lanes u l in
+    record {
+      second = second_byte_lanes-zip2 (pair_lead_lanes u) (pair_trail_lanes u) own u l pairs x;
+      last = last_byte_lanes-map (pair_lead_lanes u) lasts u l pairs.lead y;
+      long = three_byte_flag_lanes-map (pair_lead_lanes u) (pair_trail_lanes u) m u l pairs z;
+    }
+
+pub units-from_lone_mask : (u : List ℕ) → length u ≡ 8 → Each1 (Fits w16) u → mask_l (lone_mask (pair_lead_lanes u) (pair_trail_lanes u) u) % 2 ^ 64 ≡ 0 → Each1 IsUnit (tagged_block u)
+units-from_lone_mask u l f = units-from_zero_mask (pair_lead_lanes u) (pair_trail_lanes u) u l f (pair_lanes u l)
 
 -- The candidate bytes as 8-bit lanes, four units at a time, and the table index of their lengths.
 
-second_byte_bound : (b x : ℕ) → x < 0x10000 → second_byte b x < 256
-second_byte_bound b x h = grind (arith, nat_tests, h)
+second_byte_bound : (b x : ℕ) → second_byte b x < 256
+second_byte_bound b x = grind (arith, nat_tests)
 
-pub second_bytes_fit : (P : ℕ → Type 0) → ((x : ℕ) → x < 256 → P x) → (b u : List ℕ) → Each1 (Fits w16) u → Each1 P (zip2 second_byte b u)
-second_bytes_fit P h [] u e = tt
-second_bytes_fit P h (y ∷ b) [] e = tt
-second_bytes_fit P h (y ∷ b) (x ∷ u) e = (h _ (second_byte_bound y x e.0.fits), second_bytes_fit P h b u e.1)
+pub second_bytes_fit : (P : ℕ → Type 0) → ((x : ℕ) → x < 256 → P x) → (b u : List ℕ) → Each1 P (zip2 second_byte b u)
+second_bytes_fit P h [] u = tt
+second_bytes_fit P h (y ∷ b) [] = tt
+second_bytes_fit P h (y ∷ b) (x ∷ u) = (h _ (second_byte_bound y x), second_bytes_fit P h b u)
 
 last_byte_bound : (x : ℕ) → last_byte x < 256
 last_byte_bound x = grind (arith, nat_tests)
 
-pub last_bytes_fit : (P : ℕ → Type 0) → ((x : ℕ) → x < 256 → P x) → (u : List ℕ) → Each1 (Fits w16) u → Each1 P (map last_byte u)
-last_bytes_fit P h = Each1-map P last_byte (λ x _. h _ (last_byte_bound x))
+pub last_bytes_fit : (P : ℕ → Type 0) → ((x : ℕ) → x < 256 → P x) → (u : List ℕ) → Each1 P (map last_byte u)
+last_bytes_fit P h = Each1-map_all P last_byte (λ x. h _ (last_byte_bound x))
 
 -- a unit that takes three bytes takes more than one
 byte_count_bits_bound : (n : ℕ) → (three_byte_bit n ≤ multi_byte_bit n) × (multi_byte_bit n ≤ 1)
@@ -179,11 +335,11 @@ byte_count_bits_bound n = (grind (arith, nat_tests), grind (arith, nat_tests))
 pub IsByteCount-byte_count : (n : ℕ) → IsByteCount (byte_count n)
 IsByteCount-byte_count n = let counts = byte_count_bits_bound n in (omega arith, omega (arith, counts.0, counts.1))
 
-pub three_byte_flags_fit : (P : ℕ → Type 0) → ((x : ℕ) → x < 256 → P x) → (u : List ℕ) → Each1 (Fits w16) u → Each1 P (map three_byte_flag u)
-three_byte_flags_fit P h = Each1-map P three_byte_flag (λ x _. let counts = byte_count_bits_bound x in h _ (omega (arith, counts.0, counts.1)))
+pub three_byte_flags_fit : (P : ℕ → Type 0) → ((x : ℕ) → x < 256 → P x) → (u : List ℕ) → Each1 P (map three_byte_flag u)
+three_byte_flags_fit P h = Each1-map_all P three_byte_flag (λ x. let counts = byte_count_bits_bound x in h _ (omega (arith, counts.0, counts.1)))
 
-pub flags_from_fit : (P : ℕ → Type 0) → ((x : ℕ) → x < 256 → P x) → (k : ℕ) (u : List ℕ) → Each1 (Fits w16) u → Each1 P (map (flag_from k) u)
-flags_from_fit P h k = Each1-map P (flag_from k) (λ x _. elim (cases_lt x k) [ inl l ↦ rw (lt-ltb x k l) (h _ (omega arith)) | inr g ↦ rw (le-ltb x k g) (h _ (omega arith)) ])
+pub flags_from_fit : (P : ℕ → Type 0) → ((x : ℕ) → x < 256 → P x) → (k : ℕ) (u : List ℕ) → Each1 P (map (flag_from k) u)
+flags_from_fit P h k = Each1-map_all P (flag_from k) (λ x. elim (cases_lt x k) [ inl l ↦ rw (lt-ltb x k l) (h _ (omega arith)) | inr g ↦ rw (le-ltb x k g) (h _ (omega arith)) ])
 
 abbrev narrowed : List ℕ → List ℕ
 narrowed = map (λ x. x)
@@ -254,6 +410,13 @@ mask_l-table_indexes u m n long x y =
     listed = λ i. low 0 i ∷ low 1 i ∷ low 2 i ∷ low 3 i ∷ high 0 i ∷ high 1 i ∷ high 2 i ∷ high 3 i
         ∷ low 4 i ∷ low 5 i ∷ low 6 i ∷ low 7 i ∷ high 4 i ∷ high 5 i ∷ high 6 i ∷ high 7 i ∷ []
 
+multi_byte_flag-tagged : (x t : ℕ) → IsTag x t → flag_from 0x80 x ≡ flag_from 0x80 t
+multi_byte_flag-tagged x t k = elim k [ inl e ↦ ap (flag_from 0x80) (sym e) | inr e ↦ rw (e.0, le-ltb x 0x80 (omega (arith, e.1.0)), le-ltb (x + 0x10000) 0x80 (omega arith)) refl ]
+
+-- the flags of units that take more than one byte are those of the tagged units
+pub multi_byte_flags-tagged : (m u : List ℕ) → m ≡ map (flag_from 0x80) u → m ≡ map (flag_from 0x80) (tagged_block u)
+multi_byte_flags-tagged m u e = e ∙ map-tagged (flag_from 0x80) multi_byte_flag-tagged 0 u 0xDC00
+
 table_index_bound : (a b c d : ℕ) → IsByteCount a → IsByteCount b → IsByteCount c → IsByteCount d → table_index a b c d < 256
 table_index_bound a b c d i j k l = omega (arith, i, j, k, l)
 
@@ -309,44 +472,22 @@ swz_l-packed_units xs row b u short within long lanes own =
 pub packed_units-halves : (u : List ℕ) → length u ≡ 8 → packed_units 0 (take 4 u) ++ packed_units (get_or u 3 0) (drop 4 u) ≡ packed_units 0 u
 packed_units-halves u long = of_eight (λ u. packed_units 0 (take 4 u) ++ packed_units (get_or u 3 0) (drop 4 u) ≡ packed_units 0 u) u long (simp (append_assoc, append-nil))
 
+-- the last of eight units is not tagged if it is a lead
+last-tagged : (u : List ℕ) → length u ≡ 8 → IsLead (get_or u 7 0) → IsLead (get_or (tagged_block u) 7 0)
+last-tagged u long = of_eight (λ u. IsLead (get_or u 7 0) → IsLead (get_or (tagged_block u) 7 0)) u long (λ l. subst IsLead (sym (tagged-lead_before_trail (get_or u 6 0) (get_or u 7 0) 0xDC00 l (omega arith, omega arith))) l)
+
 -- without the two bytes of a lead at the end, the bytes are the pieces of the seven units before it
-pub take-without_lead : (w kept u : List ℕ) (all : ℕ) → length u ≡ 8 → all ≤ length w → IsLead (get_or u 7 0) → take all w ≡ kept ++ packed_units 0 u
-    → (2 ≤ all) × (take (all - 2) w ≡ kept ++ packed_units 0 (take 7 u))
-take-without_lead w kept u all long within lead e =
-    let front = kept ++ packed_units 0 (take 7 u) in
-    let last = packed_unit (get_or u 6 0) (get_or u 7 0) in
-    let split : packed_units 0 u ≡ packed_units 0 (take 7 u) ++ last = of_eight (λ u. packed_units 0 u ≡ packed_units 0 (take 7 u) ++ packed_unit (get_or u 6 0) (get_or u 7 0)) u long (simp (append_assoc, append-nil)) in
-    let whole : take all w ≡ front ++ last = e ∙ ap (λ p. kept ++ p) split ∙ sym (append_assoc kept (packed_units 0 (take 7 u)) last) in
-    let two : length last ≡ 2 = ap length (packed_unit-lead (get_or u 6 0) (get_or u 7 0) lead) in
-    let count : all ≡ length front + 2 = omega (arith, length-take-le all w within, ap length whole, length-append front last, two) in
-    let left : all - 2 ≡ length front = omega (arith, count) in
-    (omega (arith, count), sym (take-take (all - 2) all w (omega arith)) ∙ ap (take (all - 2)) whole ∙ ap (λ n. take n (front ++ last)) left ∙ take-append_seam front last)
-
--- whether a lead is before no trail, or a trail after no lead; if this is false in each lane, the units are paired
-abbrev is_lead_xor_trail : ℕ → ℕ → Bool
-is_lead_xor_trail b x = top 15 (bit_xor (cond (eqb (b / 1024) 54) 0xFFFF 0) (cond (eqb (x / 1024) 55) 0xFFFF 0))
-
-equal_from_unset_xor : (s t : Bool) → top 15 (bit_xor (cond s 0xFFFF 0) (cond t 0xFFFF 0)) ≡ false → s ≡ t
-equal_from_unset_xor true true e = refl
-equal_from_unset_xor false false e = refl
-equal_from_unset_xor true false e = absurd (false≢true (sym e))
-equal_from_unset_xor false true e = absurd (false≢true (sym e))
-
-trail_iff_lead_before : (b x : ℕ) → eqb (b / 1024) 54 ≡ eqb (x / 1024) 55 → IsTrail x ↔ IsLead b
-trail_iff_lead_before b x same = (
-  (λ t. (let is = eqb-true (b / 1024) 54 (same ∙ eq-eqb (x / 1024) 55 (omega (arith, t))) in (omega (arith, is), omega (arith, is)))),
-  (λ l. (let is = eqb-true (x / 1024) 55 (sym same ∙ eq-eqb (b / 1024) 54 (omega (arith, l))) in (omega (arith, is), omega (arith, is)))),
-)
-
-ArePaired-from_mask : (b : ℕ) (u : List ℕ) → mask_l (zip2 is_lead_xor_trail (b ∷ u) u) ≡ 0 → ArePaired b u
-ArePaired-from_mask b [] e = tt
-ArePaired-from_mask b (x ∷ u) e = elim (cases_Bool (is_lead_xor_trail b x)) [
-  | inl t ↦ absurd (omega (arith, rw t at e))
-  | inr f ↦ (trail_iff_lead_before b x (equal_from_unset_xor (eqb (b / 1024) 54) (eqb (x / 1024) 55) f), ArePaired-from_mask x u (omega (arith, e)))
-]
-
-pub ArePaired-from_zero_mask : (u : List ℕ) → length u ≡ 8
-    → mask_l (map (top 15) (zip2 bit_xor (zip2 (λ a b. cond (eqb a b) 0xFFFF 0) (lanes_div 1024 (pick_l 0 (u ++ replicate 8 0) (8 ∷ 0 ∷ 1 ∷ 2 ∷ 3 ∷ 4 ∷ 5 ∷ 6 ∷ []))) (replicate 8 54))
-    (zip2 (λ a b. cond (eqb a b) 0xFFFF 0) (lanes_div 1024 u) (replicate 8 55)))) % 2 ^ 64 ≡ 0 → ArePaired 0 u
-ArePaired-from_zero_mask u l = of_eight (λ u. mask_l (map (top 15) (zip2 bit_xor (zip2 (λ a b. cond (eqb a b) 0xFFFF 0) (lanes_div 1024 (pick_l 0 (u ++ replicate 8 0) (8 ∷ 0 ∷ 1 ∷ 2 ∷ 3 ∷ 4 ∷ 5 ∷ 6 ∷ []))) (replicate 8 54))
-    (zip2 (λ a b. cond (eqb a b) 0xFFFF 0) (lanes_div 1024 u) (replicate 8 55)))) % 2 ^ 64 ≡ 0 → ArePaired 0 u) u l (λ e. ArePaired-from_mask 0 (eight_lanes u) (sym (mask_l-mod (zip2 is_lead_xor_trail (0 ∷ eight_lanes u) (eight_lanes u)) 64 (omega arith)) ∙ e))
+pub take-without_lead : (w kept u : List ℕ) (all : ℕ) → length u ≡ 8 → all ≤ length w → IsLead (get_or u 7 0) → take all w ≡ kept ++ packed_units 0 (tagged_block u)
+    → (2 ≤ all) × (take (all - 2) w ≡ kept ++ packed_units 0 (take 7 (tagged_block u)))
+take-without_lead w kept u all long within lead e = without (tagged_block u) (length-tagged_block u long) (last-tagged u long lead) e
+  where
+    without : (t : List ℕ) → length t ≡ 8 → IsLead (get_or t 7 0) → take all w ≡ kept ++ packed_units 0 t → (2 ≤ all) × (take (all - 2) w ≡ kept ++ packed_units 0 (take 7 t))
+    without t long lead e =
+        let front = kept ++ packed_units 0 (take 7 t) in
+        let last = packed_unit (get_or t 6 0) (get_or t 7 0) in
+        let split : packed_units 0 t ≡ packed_units 0 (take 7 t) ++ last = of_eight (λ u. packed_units 0 u ≡ packed_units 0 (take 7 u) ++ packed_unit (get_or u 6 0) (get_or u 7 0)) t long (simp (append_assoc, append-nil)) in
+        let whole : take all w ≡ front ++ last = e ∙ ap (λ p. kept ++ p) split ∙ sym (append_assoc kept (packed_units 0 (take 7 t)) last) in
+        let two : length last ≡ 2 = ap length (packed_unit-lead (get_or t 6 0) (get_or t 7 0) lead) in
+        let count : all ≡ length front + 2 = omega (arith, length-take-le all w within, ap length whole, length-append front last, two) in
+        let left : all - 2 ≡ length front = omega (arith, count) in
+        (omega (arith, count), sym (take-take (all - 2) all w (omega arith)) ∙ ap (take (all - 2)) whole ∙ ap (λ n. take n (front ++ last)) left ∙ take-append_seam front last)

@@ -113,7 +113,7 @@ IsReadTo-append {w} {new} {u} {part} {at} {end} {known} {more} x order within di
     }
 
 -- the first `k` of `n` units, with no lone surrogate and no lead at their end, are encoded after their form was appended
-pub scalars_read : {w new u part : List ℕ} {at : ℕ} {known : Bool} (k n : ℕ) → IsReadTo w u at known → k ≤ n → at + n ≤ length u
+scalars_read : {w new u part : List ℕ} {at : ℕ} {known : Bool} (k n : ℕ) → IsReadTo w u at known → k ≤ n → at + n ≤ length u
     → ((j : ℕ) → j + 1 ≡ k → ¬ (IsLead (get_or (take n (drop at u)) j 0))) → new ≡ w ++ part → IsKnownForm part (take k (take n (drop at u))) true → IsReadTo new u (at + k) known
 scalars_read {w} {new} {u} {part} {at} {known} k n x few within last after form =
     let count : k ≡ at + k - at = omega arith in

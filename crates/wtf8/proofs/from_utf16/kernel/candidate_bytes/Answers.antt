@@ -1,28 +1,31 @@
 use Rattle.wtf8.proofs.Common.{◌∷◌, arith, subst, sym, Each1}
-use Rattle.wtf8.proofs.lemmas.from_utf16.Kernel.{second_bytes_fit, last_bytes_fit, three_byte_flags_fit, flags_from_fit, front_lanes, back_lanes, mask_l-table_indexes}
+use Rattle.wtf8.specs.private.PackedUnits.{tagged_block}
+use Rattle.wtf8.proofs.lemmas.from_utf16.Kernel.{second_bytes_fit, last_bytes_fit, three_byte_flags_fit, flags_from_fit, front_lanes, back_lanes, mask_l-table_indexes, length-tagged_block, first_bytes-tagged, multi_byte_flags-tagged}
 use Rattle.wtf8.proofs.from_utf16.kernel.candidate_bytes.Goals as goal
 
 pub overflow_cast-front : goal.overflow_cast-front
-overflow_cast-front c = subst (Each1 _) (sym c.requires.second) (second_bytes_fit _ (λ x h. omega (arith, h)) (0 ∷ c.args.units) c.args.units c.fits-units.1)
+overflow_cast-front c = subst (Each1 _) (sym c.requires.second) (second_bytes_fit _ (λ x h. omega (arith, h)) (0 ∷ tagged_block c.args.units) (tagged_block c.args.units))
 
 pub overflow_cast-last : goal.overflow_cast-last
-overflow_cast-last c = subst (Each1 _) (sym c.requires.last) (last_bytes_fit _ (λ x h. omega (arith, h)) c.args.units c.fits-units.1)
+overflow_cast-last c = subst (Each1 _) (sym c.requires.last) (last_bytes_fit _ (λ x h. omega (arith, h)) (tagged_block c.args.units))
 
 pub overflow_cast-above_one : goal.overflow_cast-above_one
-overflow_cast-above_one c = subst (Each1 _) (sym c.flags_from-above_one.ensures) (flags_from_fit _ (λ x h. omega (arith, h)) 0x80 c.args.units c.fits-units.1)
+overflow_cast-above_one c = subst (Each1 _) (sym c.flags_from-above_one.ensures) (flags_from_fit _ (λ x h. omega (arith, h)) 0x80 c.args.units)
 
-pub overflow_cast-lengths : goal.overflow_cast-lengths
-overflow_cast-lengths c = subst (Each1 _) (sym c.requires.long) (three_byte_flags_fit _ (λ x h. omega (arith, h)) c.args.units c.fits-units.1)
+pub overflow_cast-three : goal.overflow_cast-three
+overflow_cast-three c = subst (Each1 _) (sym c.requires.long) (three_byte_flags_fit _ (λ x h. omega (arith, h)) (tagged_block c.args.units))
 
 pub returns-clause-front : goal.returns-clause-front
 returns-clause-front c =
     let later = c.args.later in
-    front_lanes c.args.units c.first_bytes.result later.0 later.1 c.fits-units.0 c.first_bytes.ensures c.requires.second c.requires.last
+    front_lanes (tagged_block c.args.units) c.first_bytes.result later.seconds later.lasts (length-tagged_block c.args.units c.fits-units.0) (first_bytes-tagged c.first_bytes.result c.args.units c.first_bytes.ensures) c.requires.second c.requires.last
 
 pub returns-clause-back : goal.returns-clause-back
 returns-clause-back c =
     let later = c.args.later in
-    back_lanes c.args.units c.first_bytes.result later.0 later.1 c.fits-units.0 c.first_bytes.ensures c.requires.second c.requires.last
+    back_lanes (tagged_block c.args.units) c.first_bytes.result later.seconds later.lasts (length-tagged_block c.args.units c.fits-units.0) (first_bytes-tagged c.first_bytes.result c.args.units c.first_bytes.ensures) c.requires.second c.requires.last
 
 pub returns-clause-lengths : goal.returns-clause-lengths
-returns-clause-lengths c = mask_l-table_indexes c.args.units c.flags_from-above_one.result c.args.later.2 c.fits-units.0 c.flags_from-above_one.ensures c.requires.long
+returns-clause-lengths c =
+    let flags = c.flags_from-above_one in
+    mask_l-table_indexes (tagged_block c.args.units) flags.result c.args.later.three_byte_flags (length-tagged_block c.args.units c.fits-units.0) (multi_byte_flags-tagged flags.result c.args.units flags.ensures) c.requires.long

@@ -2,12 +2,16 @@ use Rattle.wtf8.proofs.Common.{arith, take}
 use Rattle.wtf8.proofs.lemmas.from_utf16.Kernel.{take-without_lead}
 use Rattle.wtf8.proofs.from_utf16.kernel.write_block.Goals as goal
 
-pub overflow_sub-result-then-units : goal.overflow_sub-result-then-units
-overflow_sub-result-then-units c =
-    (take-without_lead c.pack_eight-all.new.block (take c.args.len c.args.block.now) c.args.units.now c.pack_eight-all.result c.told-units
-    (omega (arith, c.pack_eight-all.ensures.order, c.requires.room)) (omega (arith, c.if-units.true), omega (arith, c.if-units.true)) c.pack_eight-all.ensures.bytes).0
+pub overflow_sub-result-then-units-eq-LEAD_KIND : goal.overflow_sub-result-then-units-eq-LEAD_KIND
+overflow_sub-result-then-units-eq-LEAD_KIND c =
+    let lead = c.if-units-eq-LEAD_KIND.true in
+    let packed = c.pack_eight-end in
+    (take-without_lead packed.new.block (take c.args.len c.args.block.now) c.args.units packed.result c.fits-units.0
+    (omega (arith, packed.ensures.order, c.requires)) (omega (arith, lead), omega (arith, lead)) packed.ensures.bytes).0
 
-pub returns-then-units-clause-bytes : goal.returns-then-units-clause-bytes
-returns-then-units-clause-bytes c =
-    (take-without_lead c.pack_eight-all.new.block (take c.args.len c.args.block.now) c.args.units.now c.pack_eight-all.result c.told-units
-    (omega (arith, c.pack_eight-all.ensures.order, c.requires.room)) (omega (arith, c.if-units.true), omega (arith, c.if-units.true)) c.pack_eight-all.ensures.bytes).1
+pub returns-then-units-eq-LEAD_KIND-clause-bytes : goal.returns-then-units-eq-LEAD_KIND-clause-bytes
+returns-then-units-eq-LEAD_KIND-clause-bytes c =
+    let lead = c.if-units-eq-LEAD_KIND.true in
+    let packed = c.pack_eight-end in
+    (take-without_lead packed.new.block (take c.args.len c.args.block.now) c.args.units packed.result c.fits-units.0
+    (omega (arith, packed.ensures.order, c.requires)) (omega (arith, lead), omega (arith, lead)) packed.ensures.bytes).1

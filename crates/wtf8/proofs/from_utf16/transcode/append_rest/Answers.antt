@@ -27,7 +27,7 @@ some_units : (g : Over) (c : In-Some g) → c.args.v.now ≢ []
 some_units g c =
     let same = c.into_iter-item-iterator.ensures.into_iter_gives in
     let rest = ap (λ s. iter_rest (copied_source s)) c.decode_utf16-item-items.ensures.source ∙ ap iter_rest c.copied.ensures.source ∙ c.iter.ensures.rest in
-    no_item c.args.v.now c.args.at c.loop-item.yielded c.decode_utf16-item-items.result c.loop-item.item-iterator c.next.new.self c.in-Some.item
+    no_item c.args.v.now c.args.from.at c.loop-item.yielded c.decode_utf16-item-items.result c.loop-item.item-iterator c.next.new.self c.in-Some.item
     c.decode_utf16-item-items.ensures.peeked rest
     (subst (λ s. Yields (decode_steps (copied_steps iter_steps)) s c.loop-item.yielded c.loop-item.item-iterator) same c.loop-item.yielded_by) c.in-Some.ensures.steps
 
