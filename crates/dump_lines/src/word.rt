@@ -9,8 +9,8 @@ ghost use Rattle.dump_lines.specs.Word.{bounded_number, number_after, point_of, 
 use crate::split::split_first_part;
 use wtf8::{Build, CodePoint};
 
-/// The number of digits of a code point below 0x10000, as most words are. If a space follows that many digits, the end of
-/// the word is not searched for.
+/// The number of digits of a code point below 0x10000, as most words are. If a space or the end of the line follows that
+/// many digits, the end of the word is not searched for.
 const BMP_DIGITS: usize = 4;
 
 /// Parses the first word: its call, or `None` if it is malformed, and the bytes after its space, if there is one.
@@ -21,6 +21,11 @@ pub fn parse_first_word(bytes: &[u8]) -> (Option<Build<'static>>, Option<&[u8]>)
     if BMP_DIGITS < bytes.len() && bytes[BMP_DIGITS] == b' ' {
         if let Some(point) = parse_point(&bytes[..BMP_DIGITS]) {
             return (Some(Build::Push(point)), Some(&bytes[BMP_DIGITS + 1..]));
+        }
+    }
+    if bytes.len() == BMP_DIGITS {
+        if let Some(point) = parse_point(bytes) {
+            return (Some(Build::Push(point)), None);
         }
     }
     let (word, after) = split_first_part(bytes, b' ');

@@ -2,7 +2,7 @@ use Rattle.std.proofs.Common.{take, sym, ◌∙◌, arith, length-take-le, Optio
 use Rattle.std.proofs.lemmas.List.{take_rest, get_or-take}
 use Rattle.dump_lines.specs.Word.{IsCall, IsNoCall}
 use Rattle.dump_lines.proofs.Digits.{point_of-no_space}
-use Rattle.dump_lines.proofs.Splitting.{slice_split-at_separator}
+use Rattle.dump_lines.proofs.Splitting.{slice_split-at_separator, slice_split-no_separator}
 use Rattle.dump_lines.proofs.word.parse_first_word.Goals as goal
 
 pub returns-in-Some : goal.returns-in-Some
@@ -15,6 +15,12 @@ returns-in-Some c =
           (omega arith) c.if-bytes-eq32.true),
       is_point,
     )
+
+pub returns-in-Some-parse_point : goal.returns-in-Some-parse_point
+returns-in-Some-parse_point c =
+    let bytes = c.args.bytes.now in
+    let is_point = sym c.in-Some-parse_point.ensures in
+    (bytes, slice_split-no_separator 32 bytes 4 (λ k lt. point_of-no_space bytes _ k is_point (omega (arith, lt, c.if-bytes-eq-BMP_DIGITS.true))) (omega (arith, c.if-bytes-eq-BMP_DIGITS.true)), is_point)
 
 MatchOption-from_both : {A : Type 0} (P : A → Type 0) (Q : Type 0) (o : Option A) → IfSome o P → IfNone o Q → MatchOption o Q P
 MatchOption-from_both P Q None some none = none
