@@ -13,6 +13,9 @@ positive c = past_start c.loop-boundary.boundary (no_boundary c)
     past_start zero none = absurd (none (start_is_boundary _ _ (view_form c.args.self.now)))
     past_start (suc k) none = omega arith
 
+pub loop-boundary-init : goal.loop-boundary-init
+loop-boundary-init c = (omega arith, λ k b l. omega (arith, l))
+
 pub overflow_sub-boundary : goal.overflow_sub-boundary
 overflow_sub-boundary c = positive c
 

@@ -13,3 +13,6 @@ pub returns-clause-mark : goal.returns-clause-mark
 returns-clause-mark c =
     subst (IsMark c.args.self.now.bytes.now (view_units c.args.self.now) c.boundary_before-end.result) (omega (arith, c.unit_len-units.ensures))
     (mark_after c.args.self.now.well_formed _ c.requires.mark c.slice.ensures.units)
+
+pub returns-clause-after : goal.returns-clause-after
+returns-clause-after c = (c.boundary_before-end.ensures.last c.args.from.position (boundary_of_mark c.args.self.now.well_formed c.requires.mark) c.requires.order, omega arith)
