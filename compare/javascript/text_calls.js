@@ -655,7 +655,7 @@ function pairsScript() {
 function nearMarksScripts() {
   const kinds = [[0x61], [0x3042], [0xDCA9, 0xD83D], [0xD83D, 0xDCA9, 0xE9], [0x3042, 0xDCA9, 0xD83D, 0xDCA9, 0xD83D, 0x61]];
   return kinds.flatMap((kind) => [127, 128, 129, 257, 385].map((length) => {
-    const looks = looksAbout(length);
+    const looks = readsAbout(length);
     return [['set', ...textOfKind(kind, length)], ...looks, ['mark'], ...looks];
   }));
 }
@@ -709,10 +709,25 @@ function exampleScripts() {
   ];
 }
 
+// Worked examples, each a short script on its own input. gate/worked_examples.txt has the calls and results in words.
+function workedScripts() {
+  const example = ['set', 0x61, 0xD83D, 0xDCA9];
+  return [
+    [example, ['length'], ['unitAt', 1], ['unitAt', 3]],
+    ...[[0, 2], [2, 3], [1, 1]].map((ends) => [example, ['slice', ...ends]]),
+    onBoth('concat', [[[0x61, 0xD83D], [0xDCA9]]]),
+    [['set'], ['length'], ['unitAt', 0]],
+    ...ORDERED.slice(0, 3).map((lists) => onBoth('compare', [lists])),
+    [...onBoth('concat', [[[0xD83D], [0xDCA9]]]), ['length'], ['swap'], ['set', 0xD83D, 0xDCA9], ['compare']],
+    [example, ['cutEverywhere']],
+    ...JOINING.map((units) => [['set', ...units], ['cutEverywhere']]),
+  ];
+}
+
 function fixedScripts() {
   const lists = listScripts().filter((_, at) => at % 97 === 0);
   const marked = markedScripts([300], [129]).filter((_, at) => at % 4 === 2);
-  return [...exampleScripts(), ...lists, ...longScripts(), ...marked, ...randomScripts(1, 100)];
+  return [...exampleScripts(), ...workedScripts(), ...lists, ...longScripts(), ...marked, ...randomScripts(1, 100)];
 }
 
 // Writes the scripts and their transcripts after the given lines.

@@ -128,40 +128,56 @@ fn made_and_appended(units: &[u16], before: &[u16]) -> [Call; 2] {
     ]
 }
 
+/// Eight units that take the most bytes, and eight of which four form two pairs.
+const LAST_OF_FILLED: [[u16; 8]; 2] = [
+    [0x20AC; 8],
+    [
+        0xD83D, 0xDCA9, 0xD83D, 0xDCA9, 0x20AC, 0x20AC, 0x20AC, 0x20AC,
+    ],
+];
+
 /// Up to 14 groups of eight units, first units of three bytes and then units of two, in each proportion; after them
-/// eight units that take the most bytes. So a buffer that is filled eight units at a time has each possible number of
-/// free bytes when the last eight come.
+/// one of `LAST_OF_FILLED`. So a buffer that is filled eight units at a time has each possible number of free bytes when
+/// the last eight come.
 pub fn filled_blocks() -> Vec<Vec<Call>> {
-    let mut scripts = Vec::new();
-    for last in [
-        [0x20AC; 8],
-        [
-            0xD83D, 0xDCA9, 0xD83D, 0xDCA9, 0x20AC, 0x20AC, 0x20AC, 0x20AC,
-        ],
-    ] {
-        for groups in 1..=14 {
-            let filled = |wide| {
-                let (front, rest) = (vec![0x20AC; wide], vec![0xE9; 8 * groups - wide]);
-                from_units(0, &[&front[..], &rest, &last].concat())
-            };
-            scripts.push((0..=8 * groups).map(filled).collect());
-        }
-    }
-    scripts
+    let of_last = |last| (1..=14).map(move |groups| filled_by(groups, last));
+    LAST_OF_FILLED.into_iter().flat_map(of_last).collect()
 }
+
+fn filled_by(groups: usize, last: [u16; 8]) -> Vec<Call> {
+    let filled = |wide| {
+        let (front, rest) = (vec![0x20AC; wide], vec![0xE9; 8 * groups - wide]);
+        from_units(0, &[&front[..], &rest, &last].concat())
+    };
+    (0..=8 * groups).map(filled).collect()
+}
+
+/// One code point of each encoded length but one, and a lone lead.
+const WIDER: [&[u16]; 4] = [&[0xE9], &[0x20AC], &[0xD83D, 0xDCA9], &[0xD800]];
 
 /// Strings whose last block is letters with one other code point at each index, after no other block, 64 letters or 64
 /// units of two bytes. Each is made, and its units are appended to an empty vector.
 pub fn last_blocks() -> Vec<Vec<Call>> {
     let mut scripts = Vec::new();
-    for other in [&[0xE9][..], &[0x20AC], &[0xD83D, 0xDCA9], &[0xD800]] {
+    for other in WIDER {
         for front in [&[][..], &[0x61; 64], &[0xE9; 64]] {
-            for letters in 0..34 {
-                let ended = |index| ended_by(front, letters, index, other);
-                scripts.push((0..=letters).flat_map(ended).collect());
-            }
+            scripts.extend((0..34).map(|letters| ended_at_each_index(front, letters, other)));
         }
     }
+    scripts
+}
+
+fn ended_at_each_index(front: &[u16], letters: usize, other: &[u16]) -> Vec<Call> {
+    let ended = |index| ended_by(front, letters, index, other);
+    (0..=letters).flat_map(ended).collect()
+}
+
+/// Some of the filled and the last blocks, and strings of up to 24 letters with one wider letter, for the fixed list that
+/// the gate replays.
+pub fn chosen() -> Vec<Vec<Call>> {
+    let mut scripts = LAST_OF_FILLED.map(|last| filled_by(10, last)).to_vec();
+    scripts.extend(WIDER.map(|other| ended_at_each_index(&[0x61; 64], 14, other)));
+    scripts.extend((0..=24).map(|letters| widened_at_each_index(letters, &[0xE9])));
     scripts
 }
 
@@ -171,6 +187,46 @@ fn ended_by(front: &[u16], letters: usize, index: usize, other: &[u16]) -> [Call
     let (before, after) = ([0x61; 34], [0x62; 34]);
     let units = [front, &before[..index], other, &after[..letters - index]].concat();
     made_and_appended(&units, &[])
+}
+
+/// The most units of a string that the calls on units read on short paths.
+const MOST_SHORT_UNITS: usize = 40;
+
+/// Strings of up to `MOST_SHORT_UNITS` letters, one of them replaced by a code point of another encoded length, at each
+/// index.
+pub fn one_wider_letter() -> Vec<Vec<Call>> {
+    let mut scripts = Vec::new();
+    for wider in WIDER {
+        scripts.extend((0..=MOST_SHORT_UNITS).map(|letters| widened_at_each_index(letters, wider)));
+    }
+    scripts
+}
+
+/// Strings of `letters` letters, with `wider` in place of the one at each index, and of letters alone: their number of
+/// units, each unit, the units before and after the index, and all units, appended to two others.
+fn widened_at_each_index(letters: usize, wider: &[u16]) -> Vec<Call> {
+    let before: Vec<u16> = (0x41..).take(letters).collect();
+    let mut calls = units_read(&before, 0);
+    for index in 0..letters {
+        let units = [&before[..index], wider, &before[index + 1..]].concat();
+        calls.extend(units_read(&units, index));
+    }
+    calls
+}
+
+/// The calls on units, of the string of `units`.
+fn units_read(units: &[u16], index: usize) -> Vec<Call> {
+    let slice = |begin: usize, end: usize| {
+        let ends = [begin, end].map(|at| Operand::Number(at as u16));
+        Call::new(
+            Opcode::SliceUnits,
+            [&[Operand::Register(0)][..], &ends].concat(),
+        )
+    };
+    let mut calls = made_and_appended(units, &ABOUT_UNITS).to_vec();
+    calls.extend(on(0, &[Opcode::UnitAt]));
+    calls.extend([slice(0, index), slice(index, units.len())]);
+    calls
 }
 
 /// Texts of each length from 0 to `MOST_BYTES`: pushed to an empty string, to a letter and to a lead surrogate, and

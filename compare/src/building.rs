@@ -47,17 +47,19 @@ pub fn lists_of_calls() -> Vec<Vec<Call>> {
 /// The most points of an extension in `extensions`.
 const MOST_POINTS: u16 = 40;
 
-/// Extensions of the empty string and of a lead surrogate by up to `MOST_POINTS` letters, with a point at the edge of an
-/// encoded length or a surrogate in place of the letter at each index.
+/// Points at the edges of encoded lengths, and surrogates.
+const OTHERS: [u32; 7] = [0x7F, 0x80, 0x7FF, 0x800, 0x10000, 0xD83D, 0xDCA9];
+
+/// Extensions of the empty string and of a lead surrogate by up to `MOST_POINTS` letters, with one of `OTHERS` in place
+/// of the letter at each index.
 pub fn extensions() -> Vec<Vec<Call>> {
-    let mut scripts = Vec::new();
-    for other in [0x7F, 0x80, 0x7FF, 0x800, 0x10000, 0xD83D, 0xDCA9] {
-        for count in 0..=MOST_POINTS {
-            let extended = |index| extended(count, index, other);
-            scripts.push((0..count.max(1)).flat_map(extended).collect());
-        }
-    }
-    scripts
+    let of_other = |other| (0..=MOST_POINTS).map(move |count| extended_at_each_index(count, other));
+    OTHERS.into_iter().flat_map(of_other).collect()
+}
+
+fn extended_at_each_index(count: u16, other: u32) -> Vec<Call> {
+    let extended = |index| extended(count, index, other);
+    (0..count.max(1)).flat_map(extended).collect()
 }
 
 /// Extends by `count` letters, of which the one at `index`, if there is one, is `other`.
@@ -76,10 +78,12 @@ fn extended(count: u16, index: u16, other: u32) -> Vec<Call> {
     calls
 }
 
-/// Every 61st of the lists of calls and every eighth of the false hints, for the fixed list that the gate replays.
+/// Every 61st of the lists of calls, every eighth of the false hints and the extensions by 17 points, for the fixed list
+/// that the gate replays.
 pub fn chosen() -> Vec<Vec<Call>> {
     let mut scripts: Vec<Vec<Call>> = lists_of_calls().into_iter().step_by(61).collect();
     scripts.extend(false_hints().into_iter().skip(3).step_by(8));
+    scripts.extend(OTHERS.map(|other| extended_at_each_index(17, other)));
     scripts
 }
 

@@ -2,9 +2,10 @@
 //! code units, and runs of one kind with another kind at each index.
 
 use crate::generate::{
-    call_on, calls_on, cut_and_joined, from_units, point_calls, push, registers,
+    call_on, calls_on, cut_and_joined, from_units, point_calls, push, pushed, registers, with_text,
 };
 use crate::script::{Call, Opcode, Operand, Step};
+use crate::worked::JOINING;
 
 /// Strings as code points, in ascending order.
 const IN_ORDER: [&[u32]; 14] = [
@@ -24,21 +25,14 @@ const IN_ORDER: [&[u32]; 14] = [
     &[0xD83D, 0xDCA9],
 ];
 
-/// Units with pairs, and with surrogates that stay lone.
-const JOINING: [&[u16]; 12] = [
-    &[],
-    &[0xD83D, 0xDCA9],
-    &[0xD83D, 0x0020, 0xDCA9],
-    &[0xD800, 0xDBFF],
-    &[0xD800, 0xE000],
-    &[0xD7FF, 0xDC00],
-    &[0x0061, 0xDC00],
-    &[0xDC00],
-    &[0xD83D, 0xD83D, 0xDCA9],
-    &[0xD83D, 0xDCA9, 0xDCA9],
-    &[0xDCA9, 0xD83D],
-    &[0x0061, 0x00E9, 0x0020, 0xD83D, 0xDCA9],
-];
+/// A text with characters of one, two and four bytes.
+const TEXT: &[u16] = &[0x0061, 0x00E9, 0x0020, 0xD83D, 0xDCA9];
+
+/// No units, units with surrogates that join or stay lone, and `TEXT`.
+fn joining() -> impl Iterator<Item = &'static [u16]> {
+    let joining = [&[][..]].into_iter().chain(JOINING);
+    joining.chain([TEXT])
+}
 
 /// Lists of units to compare, some of which have another order by code units than by code points.
 const BY_UNITS: [(&[u16], &[u16]); 12] = [
@@ -108,7 +102,7 @@ const SEAMS: [(&[u16], &[u16]); 7] = [
 /// The examples that are short enough to be recorded.
 pub fn recorded() -> Vec<Vec<Call>> {
     let mut scripts: Vec<Vec<Call>> = IN_ORDER.iter().map(|own| compared_by_points(own)).collect();
-    scripts.extend(JOINING.iter().map(|units| iterated(units)));
+    scripts.extend(joining().map(iterated));
     scripts.push(
         BY_UNITS
             .iter()
@@ -116,7 +110,7 @@ pub fn recorded() -> Vec<Vec<Call>> {
             .collect(),
     );
     for own in LISTS {
-        let others = LISTS.iter().chain(&JOINING);
+        let others = LISTS.into_iter().chain(joining());
         scripts.push(
             others
                 .flat_map(|others| compared_by_units(own, others))
@@ -126,7 +120,7 @@ pub fn recorded() -> Vec<Vec<Call>> {
     scripts.push(copies_of_every_length());
     scripts.push(followed());
     scripts.push(equal_or_not());
-    scripts.extend(JOINING.iter().chain(&LISTS).map(|units| calls_on(units)));
+    scripts.extend(joining().chain(LISTS).map(calls_on));
     scripts.extend(NUMBERS.map(point_calls));
     scripts.extend(SHOWN.map(shown));
     scripts.push(
@@ -164,8 +158,7 @@ pub fn all() -> Vec<Vec<Call>> {
 
 /// Makes the string of register 0 from a text.
 fn from_text(text: &str) -> Call {
-    let operands = vec![Operand::Register(0), Operand::Text(text.to_owned())];
-    Call::new(Opcode::FromStr, operands)
+    with_text(0, Opcode::FromStr, text)
 }
 
 fn steps(register: u8, opcode: Opcode, steps: Vec<Step>) -> Call {
@@ -173,13 +166,6 @@ fn steps(register: u8, opcode: Opcode, steps: Vec<Step>) -> Call {
         opcode,
         vec![Operand::Register(register), Operand::Steps(steps)],
     )
-}
-
-/// Makes a string by pushing code points.
-fn pushed(register: u8, points: &[u32]) -> Vec<Call> {
-    let mut calls = vec![call_on(register, Opcode::New)];
-    calls.extend(points.iter().map(|point| push(register, *point)));
-    calls
 }
 
 /// A string compared with each one of `IN_ORDER`, and the bytes that it feeds a hasher.
@@ -349,19 +335,19 @@ fn texts_and_characters() -> Vec<Call> {
         ("a", ""),
     ] {
         calls.extend([
-            call_with_text(0, Opcode::FromString, first),
-            call_with_text(0, Opcode::PushStr, second),
+            with_text(0, Opcode::FromString, first),
+            with_text(0, Opcode::PushStr, second),
         ]);
     }
     for text in ["", "\u{1F4A9}"] {
         calls.extend([
             from_units(0, &[0xD83D]),
-            call_with_text(0, Opcode::PushStr, text),
+            with_text(0, Opcode::PushStr, text),
         ]);
         calls.push(push(0, 0xDCA9));
         calls.extend([
             from_units(0, &[0xD83D]),
-            call_with_text(1, Opcode::FromStr, text),
+            with_text(1, Opcode::FromStr, text),
         ]);
         calls.extend([registers(Opcode::PushWtf8, 0, 1), push(0, 0xDCA9)]);
     }
@@ -371,15 +357,10 @@ fn texts_and_characters() -> Vec<Call> {
     for count in [0, 1, 4, 100] {
         let number = || vec![Operand::Register(0), Operand::Number(count)];
         calls.push(Call::new(Opcode::WithCapacity, number()));
-        calls.push(call_with_text(0, Opcode::PushStr, "a\u{E9}"));
+        calls.push(with_text(0, Opcode::PushStr, "a\u{E9}"));
         calls.push(Call::new(Opcode::Reserve, number()));
     }
     calls
-}
-
-fn call_with_text(register: u8, opcode: Opcode, text: &str) -> Call {
-    let operands = vec![Operand::Register(register), Operand::Text(text.to_owned())];
-    Call::new(opcode, operands)
 }
 
 /// 40 characters whose first byte is that of surrogates too, of units and of code points.
@@ -408,10 +389,7 @@ fn truncated_surrogate(is_before: bool) -> Vec<Call> {
     if !is_before {
         calls.extend(cut(1));
     }
-    calls.extend([
-        call_on(0, Opcode::Hash),
-        call_with_text(1, Opcode::FromStr, "a"),
-    ]);
+    calls.extend([call_on(0, Opcode::Hash), with_text(1, Opcode::FromStr, "a")]);
     calls.extend([
         call_on(1, Opcode::Hash),
         registers(Opcode::Comparisons, 0, 1),

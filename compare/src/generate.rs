@@ -367,6 +367,19 @@ pub fn push(register: u8, value: u32) -> Call {
     Call::new(Opcode::Push, operands)
 }
 
+/// Makes a string of code points, pushed one by one.
+pub fn pushed(register: u8, points: &[u32]) -> Vec<Call> {
+    let mut calls = vec![call_on(register, Opcode::New)];
+    calls.extend(points.iter().map(|point| push(register, *point)));
+    calls
+}
+
+/// A call on the string of a register with a text.
+pub fn with_text(register: u8, opcode: Opcode, text: &str) -> Call {
+    let operands = vec![Operand::Register(register), Operand::Text(text.to_owned())];
+    Call::new(opcode, operands)
+}
+
 /// A call whose only operand is a register.
 pub fn call_on(register: u8, opcode: Opcode) -> Call {
     Call::new(opcode, vec![Operand::Register(register)])

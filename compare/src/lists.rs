@@ -1,13 +1,14 @@
 //! The lists of scripts that `differ` always runs, by name.
 
 use crate::script::Call;
-use crate::{blocks, building, examples, generate, long, pairs, pushed};
+use crate::{blocks, building, examples, generate, long, pairs, pushed, worked};
 
 /// The name of a list, and the function that makes its scripts.
 pub type List = (&'static str, fn() -> Vec<Vec<Call>>);
 
-pub const LISTS: [List; 28] = [
-    ("worked examples", examples::all),
+pub const LISTS: [List; 30] = [
+    ("worked examples", worked::scripts),
+    ("examples", examples::all),
     ("code points at edges", generate::edge_calls),
     ("pairs", pairs::pairs),
     ("up to four units", up_to_four_units),
@@ -32,6 +33,7 @@ pub const LISTS: [List; 28] = [
     ("mixed blocks", blocks::of_mixed_kinds),
     ("filled blocks", blocks::filled_blocks),
     ("last blocks", blocks::last_blocks),
+    ("one wider letter", blocks::one_wider_letter),
     ("longest strings", long::longest),
     ("texts of each length", blocks::texts_of_each_length),
     (

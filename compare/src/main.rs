@@ -27,6 +27,7 @@ mod record;
 mod script;
 mod shrink;
 mod texts;
+mod worked;
 
 use std::path::Path;
 use std::process::ExitCode;

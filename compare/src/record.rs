@@ -7,7 +7,7 @@ use std::path::Path;
 use crate::original;
 use crate::random::Random;
 use crate::script::{encode, Call, FIRST_OF_TEXTS};
-use crate::{building, examples, generate, long, pairs, say};
+use crate::{blocks, building, examples, generate, long, pairs, say, worked};
 
 /// Writes scripts in hexadecimal, one a line, to `stdin` in a folder, and the original crate's transcripts, each with
 /// an empty line after it, to `stdout` there. The scripts on texts, which `javascript/run` wrote, stay at the end.
@@ -62,8 +62,10 @@ fn chosen() -> Vec<Vec<Call>> {
     ]);
     scripts.extend(lists.iter().map(|units| generate::calls_on(units)));
     scripts.extend(building::chosen());
+    scripts.extend(blocks::chosen());
     scripts.extend(long::chosen());
     scripts.extend(pairs::chosen());
     scripts.extend(examples::recorded());
+    scripts.extend(worked::scripts());
     scripts
 }

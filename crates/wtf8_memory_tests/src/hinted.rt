@@ -3,8 +3,8 @@ use crate::shared::Lent;
 use refusing::{REFUSALS, Refusing};
 use std::alloc::{AllocError, Allocator, Global};
 use std::cell::Cell;
-use wtf8::{CodePoint, Wtf8Buf};
-use wtf8_tests::examples::point_of_unit;
+use wtf8::{CodePoint, Wtf8, Wtf8Buf};
+use wtf8_tests::examples::{expect_units, joined, point_of_unit};
 use wtf8_tests::wrong::{Wrong, expect_bytes};
 
 /// Yields a code point `left` times, with size hints that the test chooses, of which the lower one may be wrong. Counts
@@ -60,6 +60,57 @@ fn items(left: u32, hint: usize, upper: Option<usize>, taken: &Cell<u32>) -> Hin
 /// U+DCA9, `left` times, with the lower size hint `hint` and no upper one.
 fn trails(left: u32, hint: usize, taken: &Cell<u32>) -> Hinted<'_> {
     items(left, hint, None, taken)
+}
+
+/// The unit D83D if `has_lead`, then `left` times DCA9.
+fn expected_units(alloc: Global, left: u32, has_lead: bool) -> Result<Vec<u16>, AllocError> {
+    let mut units = Vec::new(alloc);
+    if has_lead {
+        units.push(0xD83D)?;
+    }
+    for _ in 0..left {
+        units.push(0xDCA9)?;
+    }
+    Ok(units)
+}
+
+/// Fails unless `left` items were taken, and the string has `left` times the unit DCA9, after a lead if `has_lead`.
+fn expect_trails(
+    alloc: Global,
+    text: Wtf8<'_>,
+    left: u32,
+    has_lead: bool,
+    taken: &Cell<u32>,
+) -> Result<(), Wrong> {
+    if taken.take() != left {
+        return Err(Wrong::Outcome);
+    }
+    let expected = expected_units(alloc, left, has_lead)?;
+    expect_units(alloc, text, &expected)
+}
+
+/// Fails unless `from_iter` takes all items, whatever the lower hint.
+fn expect_made(alloc: Global, left: u32, hint: usize, taken: &Cell<u32>) -> Result<(), Wrong> {
+    let text = Wtf8Buf::from_iter(alloc, trails(left, hint, taken))?;
+    expect_trails(alloc, text.as_wtf8(), left, false, taken)
+}
+
+/// Fails unless `extend` appends all items to a lead surrogate, whatever the lower hint.
+fn expect_extended(alloc: Global, left: u32, hint: usize, taken: &Cell<u32>) -> Result<(), Wrong> {
+    let mut text = joined(alloc, &[0xD83D])?;
+    text.extend(trails(left, hint, taken))?;
+    expect_trails(alloc, text.as_wtf8(), left, true, taken)
+}
+
+#[test]
+fn a_lower_hint_may_be_false(rt: HostRuntime) -> Result<(), Wrong> {
+    let alloc = rt.alloc();
+    let taken = Cell::new(0);
+    for (left, hint) in [(1000, 0), (2, 5), (0, 3)] {
+        expect_made(alloc, left, hint, &taken)?;
+        expect_extended(alloc, left, hint, &taken)?;
+    }
+    Ok(())
 }
 
 /// Whether extending a string by `left` items, with the lower hint `hint`, succeeds.

@@ -1,9 +1,9 @@
 // Each call of a string on one example. Scripts compare the calls with the original crate on many strings.
-use crate::examples::{TEXT, TEXT_DUMP, expect_units, has_numbers, point_of_unit};
+use crate::examples::{TEXT, TEXT_DUMP, expect_units, has_numbers, joining, point_of_unit};
 use crate::wrong::{Wrong, expect, expect_bytes, made};
 use std::alloc::{AllocError, Global};
 use std::borrow::CowStr;
-use wtf8::{CodePoint, Wtf8, Wtf8Buf};
+use wtf8::{Build, CodePoint, Wtf8, Wtf8Buf};
 
 /// The code points, units and bytes of `TEXT` followed by a lone lead surrogate.
 const NUMBERS: [u32; 5] = [0x61, 0xE9, 0x20, 0x1F4A9, 0xD83D];
@@ -202,4 +202,54 @@ fn yields_back(text: Wtf8<'_>) -> bool {
 fn an_iterator_outlives_its_view(rt: HostRuntime) -> Result<(), Wrong> {
     let text = made(Wtf8Buf::from_ill_formed_utf16(rt.alloc(), &[0xD83D, 0x62]))?;
     expect(yields_back(text.as_wtf8()), Wrong::Units)
+}
+
+/// Whether a slice that outlives its view is "b".
+fn keeps_back(text: Wtf8<'_>) -> bool {
+    let back = {
+        let view = text;
+        if !view.is_code_point_boundary(4) {
+            return false;
+        }
+        view.slice_from(4)
+    };
+    back == Wtf8::from_str("b")
+}
+
+#[test]
+fn a_slice_outlives_its_view(rt: HostRuntime) -> Result<(), Wrong> {
+    let units = [0x61, 0xD83D, 0x62];
+    let text = made(Wtf8Buf::from_ill_formed_utf16(rt.alloc(), &units))?;
+    expect(keeps_back(text.as_wtf8()), Wrong::Bytes)
+}
+
+/// Whether a string has a boundary at its start and none at `usize::MAX`.
+fn ends_before_max(text: Wtf8<'_>) -> bool {
+    text.is_code_point_boundary(0) && !text.is_code_point_boundary(usize::MAX)
+}
+
+#[test]
+fn usize_max_is_no_boundary(rt: HostRuntime) -> Result<(), Wrong> {
+    for text in ["", TEXT] {
+        expect(ends_before_max(Wtf8::from_str(text)), Wrong::Outcome)?;
+    }
+    for (units, _, _) in joining() {
+        let text = made(Wtf8Buf::from_ill_formed_utf16(rt.alloc(), units))?;
+        expect(ends_before_max(text.as_wtf8()), Wrong::Outcome)?;
+    }
+    Ok(())
+}
+
+/// Whether a list of an extension by a lead and one by its trail and "a" is applied.
+fn is_extended_twice(text: &mut Wtf8Buf<Global>) -> bool {
+    let front = [point_of_unit(0xD83D)];
+    let back = [point_of_unit(0xDCA9), point_of_unit(0x61)];
+    text.apply_all(&[Build::Extend(&front), Build::Extend(&back)]) == Ok(0)
+}
+
+#[test]
+fn two_extensions_join(rt: HostRuntime) -> Result<(), Wrong> {
+    let mut text = Wtf8Buf::new(rt.alloc());
+    expect(is_extended_twice(&mut text), Wrong::Outcome)?;
+    expect_bytes(rt.alloc(), text.as_wtf8(), "F0 9F 92 A9 61")
 }

@@ -169,3 +169,35 @@ fn a_long_lossy_text_ends_at_a_refused_write(rt: HostRuntime) -> Result<(), Wron
     let expected = [whole, whole, whole, whole, whole];
     expect_string_ends(alloc, &numbers, expected)
 }
+
+/// The number of letters of `around_a_surrogate`.
+const LETTERS: usize = 100;
+
+/// "a" `LETTERS` times with a lone surrogate after the first `length`: its code points, and its lossy text.
+fn around_a_surrogate(alloc: Global, length: usize) -> Result<(Vec<u32>, String), AllocError> {
+    let mut numbers = Vec::new(alloc);
+    let mut text = String::new(alloc);
+    for index in 0..=LETTERS {
+        let is_letter = index != length;
+        numbers.push(if is_letter { 0x61 } else { 0xDEAD })?;
+        text.push(if is_letter { 'a' } else { '\u{FFFD}' })?;
+    }
+    Ok((numbers, text))
+}
+
+/// Fails unless the string of these code points, and its view, are displayed as `expected`.
+fn expect_displayed(alloc: Global, numbers: &[u32], expected: &str) -> Result<(), Wrong> {
+    let text = pushed(alloc, numbers)?;
+    writes_of(alloc, &text, 0, u32::MAX, expected)?;
+    writes_of(alloc, &text.as_wtf8(), 0, u32::MAX, expected)?;
+    Ok(())
+}
+
+#[test]
+fn texts_of_each_length_around_a_surrogate_are_written(rt: HostRuntime) -> Result<(), Wrong> {
+    for length in 0..=LETTERS {
+        let (numbers, text) = around_a_surrogate(rt.alloc(), length)?;
+        expect_displayed(rt.alloc(), &numbers, &text)?;
+    }
+    Ok(())
+}

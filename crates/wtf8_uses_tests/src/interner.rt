@@ -25,12 +25,16 @@ fn expect_string(
     }
 }
 
-/// Fails unless the interner returns 0 for `first`, 1 for the empty string, and 0 for `first` again.
+/// Fails unless the interner returns 0 for `first`, the next number for each other string, and these numbers again.
+/// "Aa" and "BB" have the same hash.
 fn expect_numbers(interner: &mut Interner, first: Wtf8<'_>) -> Result<(), Wrong> {
-    for (string, number) in [(first, 0), (Wtf8::from_str(""), 1), (first, 0)] {
-        expect_number(interner, string, number)?;
+    for _ in 0..2 {
+        expect_number(interner, first, 0)?;
+        for (text, number) in [("", 1), ("Aa", 2), ("BB", 3)] {
+            expect_number(interner, Wtf8::from_str(text), number)?;
+        }
     }
-    expect(interner.len() == 2, Wrong::Outcome)
+    expect(interner.len() == 4, Wrong::Outcome)
 }
 
 #[test]
@@ -38,7 +42,14 @@ fn a_string_keeps_its_number(rt: HostRuntime) -> Result<(), Wrong> {
     let mut interner = Interner::new(rt.alloc());
     let first = string_of(rt.alloc(), &[LEAD])?;
     expect_numbers(&mut interner, first.as_wtf8())?;
-    for (number, dump) in [(0, Some("ED A0 BD")), (1, Some("")), (2, None)] {
+    let dumps = [
+        Some("ED A0 BD"),
+        Some(""),
+        Some("41 61"),
+        Some("42 42"),
+        None,
+    ];
+    for (number, dump) in dumps.into_iter().enumerate() {
         expect_string(rt.alloc(), &interner, number, dump)?;
     }
     Ok(())

@@ -63,3 +63,8 @@ fn a_string_is_copied_by_its_code_points(rt: HostRuntime) -> Result<(), Wrong> {
     expect_counts(text.as_wtf8())?;
     expect_halves(rt.alloc(), text.as_wtf8())
 }
+
+#[test]
+fn supplementary_code_points_begin_at_10000(rt: HostRuntime) {
+    assert!(rt; points::supplementary_count(Wtf8::from_str("\u{FFFF}\u{10000}")) == 1);
+}

@@ -1,6 +1,7 @@
 // Pushes to a string that is unchanged if memory for all of them is refused.
 use crate::shared::{LEAD, TRAIL, string_of};
-use std::alloc::Global;
+use refusing::Refusing;
+use std::alloc::{Allocator, Global};
 use wtf8::{Build, CodePoint, Wtf8, Wtf8Buf};
 use wtf8_tests::wrong::{Wrong, expect, expect_bytes, made};
 use wtf8_uses::refusals;
@@ -35,4 +36,23 @@ fn memory_is_reserved_once_for_all_pushes(rt: HostRuntime) -> Result<(), Wrong> 
     let is_kept = refusals::is_kept_by_a_refusal(&mut string, CodePoint::from_char('c'));
     expect(matches!(is_kept, Ok(true)), Wrong::Outcome)?;
     expect_two_points(rt.alloc())
+}
+
+/// "a" twenty times.
+const TWENTY: &str = "aaaaaaaaaaaaaaaaaaaa";
+
+/// Whether `push_both` of two texts of 20 bytes each succeeds.
+fn are_pushed<A: Allocator>(string: &mut Wtf8Buf<A>) -> bool {
+    let text = Wtf8::from_str(TWENTY);
+    refusals::push_both(string, text, text).is_ok()
+}
+
+#[test]
+fn both_strings_are_pushed_into_the_reserved_room(rt: HostRuntime) {
+    let heap = Refusing::new(rt.alloc(), 0);
+    let mut string = Wtf8Buf::new(&heap);
+    assert!(rt; !are_pushed(&mut string) && string.is_empty());
+    heap.grant(1);
+    assert!(rt; are_pushed(&mut string) && string.len() == 40);
+    assert!(rt; heap.requests() == 1 && heap.bytes() == 40);
 }
