@@ -1,5 +1,6 @@
 //! Links the proved static library and the toolchain's own small C library, which is found through `rt`; or neither, if
-//! `COMPARE_PROGRAM` names a program that runs the scripts.
+//! `COMPARE_PROGRAM` names a program that runs the scripts. Links simdutf too if `COMPARE_SIMDUTF` names the folder of
+//! the library that compare/simdutf builds.
 
 use std::env;
 use std::path::{Path, PathBuf};
@@ -12,6 +13,15 @@ fn main() {
         println!("cargo:rustc-cfg=by_program");
     } else {
         link_library();
+    }
+    println!("cargo:rustc-check-cfg=cfg(simdutf)");
+    println!("cargo:rerun-if-env-changed=COMPARE_SIMDUTF");
+    if let Ok(folder) = env::var("COMPARE_SIMDUTF") {
+        println!("cargo:rustc-cfg=simdutf");
+        println!("cargo:rerun-if-changed={folder}/libsimdutf_calls.a");
+        println!("cargo:rustc-link-search=native={folder}");
+        println!("cargo:rustc-link-lib=static=simdutf_calls");
+        println!("cargo:rustc-link-lib=stdc++");
     }
     println!("cargo:rustc-check-cfg=cfg(further)");
     // Only compilers that allow unstable features give access to the standard library's own WTF-8.

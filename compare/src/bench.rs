@@ -14,6 +14,8 @@ use crate::inputs::{self, Input};
 use crate::ours;
 use crate::random::Random;
 use crate::say;
+#[cfg(simdutf)]
+use crate::simdutf;
 
 /// The loops over strings, by their numbers in the proved library's exports.
 const LOOPS: [(u32, &str); 21] = [
@@ -43,8 +45,16 @@ const LOOPS: [(u32, &str); 21] = [
 /// The loops that compare two strings.
 const COMPARING: [u32; 3] = [11, 12, 18];
 
+/// The loops over strings with many lone surrogates, beside the one that pushes each unit as a code point.
+const LOOPS_OF_LONE: [u32; 6] = [1, 3, 5, 6, 7, 20];
+
+const PUSH_OF_UNITS: (u32, &str) = (22, "push of each unit");
+
+/// The loop that pushes a short text to a long one.
+const LOOP_OF_END: (u32, &str) = (23, "clone, push_wtf8 and into_string");
+
 /// The loops over the lines among the units.
-const LOOPS_OF_LINES: [(u32, &str); 2] = [(22, "sort"), (23, "BTreeMap, get of each key")];
+const LOOPS_OF_LINES: [(u32, &str); 2] = [(24, "sort"), (25, "BTreeMap, get of each key")];
 
 /// The number of turns of each column.
 const TURNS: usize = 120;
@@ -71,32 +81,47 @@ fn rows_of(is_chosen: impl Fn(&str) -> bool) -> Vec<(u32, String, Input)> {
     for input in inputs::chosen(&is_chosen) {
         rows.extend(LOOPS.map(|(number, call)| row(number, call, &input)));
     }
+    for input in inputs::with_lone_surrogates(&is_chosen) {
+        let loops = loops_of(&LOOPS_OF_LONE).chain([PUSH_OF_UNITS]);
+        rows.extend(loops.map(|(number, call)| row(number, call, &input)));
+    }
     for (which, input) in inputs::pairs(&is_chosen) {
-        let comparing = LOOPS
-            .into_iter()
-            .filter(|(number, _)| COMPARING.contains(number));
         rows.extend(
-            comparing.map(|(number, call)| {
+            loops_of(&COMPARING).map(|(number, call)| {
                 row(number, &format!("{call}, {which} unit differs"), &input)
             }),
         );
+    }
+    if let Some(input) = inputs::text_and_end(&is_chosen) {
+        rows.push(row(LOOP_OF_END.0, LOOP_OF_END.1, &input));
     }
     let lines = inputs::lines();
     rows.extend(LOOPS_OF_LINES.map(|(number, call)| row(number, call, &lines)));
     rows
 }
 
+/// The loops over strings with some numbers.
+fn loops_of(numbers: &[u32]) -> impl Iterator<Item = (u32, &'static str)> + '_ {
+    let all = LOOPS.into_iter();
+    all.filter(|(number, _)| numbers.contains(number))
+}
+
 fn row(number: u32, call: &str, input: &Input) -> (u32, String, Input) {
     (number, format!("{call}\t{}", input.name), input.clone())
 }
 
-/// Times the rows whose name contains the filter, prints them, and writes them to a file that `table` reads.
-pub fn run(filter: &str, file: &Path) -> bool {
+/// Whether a row is chosen by words of its name. No words choose all rows.
+fn is_named(name: &str, words: &[&str]) -> bool {
+    words.is_empty() || words.iter().any(|word| name.contains(word))
+}
+
+/// Times the rows with a word in their names, prints them, and writes them to a file that `table` reads.
+pub fn run(words: &[&str], file: &Path) -> bool {
     let mut lines = String::new();
     // Fails before the time is spent if the file cannot be written.
     write_file(file, &lines);
     for (number, name, input) in all_rows() {
-        if !name.contains(filter) {
+        if !is_named(&name, words) {
             continue;
         }
         let Some(row) = time(number, name, &input) else {
@@ -124,10 +149,10 @@ fn write_file(file: &Path, text: &str) {
     }
 }
 
-/// Prints the names of the rows that contain the filter, each with the number of items in a round.
-pub fn rows(filter: &str) -> bool {
+/// Prints the names of the rows with a word in them, each with the number of items in a round.
+pub fn rows(words: &[&str]) -> bool {
     for (_, name, input) in all_rows() {
-        if name.contains(filter) {
+        if is_named(&name, words) {
             say!("{name}\t{}", input.items);
         }
     }
@@ -148,6 +173,9 @@ pub fn run_loop(column: &str, row: &str, rounds: &str) -> bool {
     let sum = match column {
         "proved" => Some(ours::time(number, &input.units, &input.others, rounds)),
         "crate" => original::Bench::new(number, &input.units, &input.others).run(number, rounds),
+        #[cfg(simdutf)]
+        implementation => Some(simdutf::run_loop(implementation, number, &input, rounds)),
+        #[cfg(not(simdutf))]
         _ => fail(&format!("no column {column}: proved or crate")),
     };
     say!("{}", sum.unwrap_or_default());
@@ -208,7 +236,7 @@ fn time(number: u32, name: String, input: &Input) -> Option<Row> {
 }
 
 /// Doubles the number of rounds, up to 2^24, until a loop takes at least `TURN`.
-fn rounds_of_a_turn(run: impl Fn(u32)) -> u32 {
+pub fn rounds_of_a_turn(run: impl Fn(u32)) -> u32 {
     let mut rounds = 16;
     loop {
         let (time, ()) = timed(|| run(rounds));
@@ -219,7 +247,7 @@ fn rounds_of_a_turn(run: impl Fn(u32)) -> u32 {
     }
 }
 
-fn timed<T>(run: impl FnOnce() -> T) -> (f64, T) {
+pub fn timed<T>(run: impl FnOnce() -> T) -> (f64, T) {
     let start = Instant::now();
     let result = run();
     (start.elapsed().as_nanos() as f64, result)

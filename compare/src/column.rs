@@ -11,7 +11,7 @@ use crate::inputs::LINE_END;
 const STRINGS: usize = 4;
 
 /// The number of the first loop over the lines among the units.
-const FIRST_OF_LINES: u32 = 22;
+const FIRST_OF_LINES: u32 = 24;
 
 /// Declares a module with the loops over one crate's strings. Its arguments are what the crates name differently.
 macro_rules! column {
@@ -123,14 +123,19 @@ macro_rules! column {
                         19 => Some(sum(rounds, |round| {
                             self.part(round, 0, self.units.len() / 2)
                         })),
-                        21 => Some(sum(rounds, |_| self.push_units())),
-                        22 => Some(sum(rounds, |_| self.sort())),
-                        23 => Some(self.look_up(rounds)),
+                        21 | 22 => Some(sum(rounds, |_| self.push_units())),
+                        23 => Some(self.compare(rounds, |own, other| {
+                            let mut joined = own.clone();
+                            joined.push_wtf8(other);
+                            black_box(joined.into_string()).is_ok()
+                        })),
+                        24 => Some(sum(rounds, |_| self.sort())),
+                        25 => Some(self.look_up(rounds)),
                         _ => None,
                     }
                 }
 
-                /// The number of rounds in which `are` holds for the round's string and the other one.
+                /// The number of rounds in which `are` holds for the round's string and another one.
                 fn compare(&self, rounds: u32, are: impl Fn(&Wtf8Buf, &Wtf8Buf) -> bool) -> u64 {
                     let others = self.others.as_ref().unwrap_or(&self.strings);
                     sum(rounds, |round| {

@@ -6,7 +6,7 @@ use crate::random::Random;
 pub struct Input {
     pub name: String,
     pub units: Vec<u16>,
-    /// The units of the strings that these are compared with; empty if those are equal.
+    /// The units of the strings that these are compared with or that are pushed to them; empty if those are equal.
     pub others: Vec<u16>,
     /// The number of items in a round: units, or lines.
     pub items: usize,
@@ -43,14 +43,14 @@ pub const NAMES_OF_TEXTS: [&str; 3] = ["ASCII", "CJK", "mixed"];
 
 /// An input whose units are not made yet, since making all of them takes long beside one row.
 struct Recipe {
-    name: &'static str,
+    name: String,
     make: Box<dyn FnOnce() -> Vec<u16>>,
 }
 
 impl Recipe {
-    fn new(name: &'static str, make: impl FnOnce() -> Vec<u16> + 'static) -> Recipe {
+    fn new(name: &str, make: impl FnOnce() -> Vec<u16> + 'static) -> Recipe {
         Recipe {
-            name,
+            name: name.to_owned(),
             make: Box::new(make),
         }
     }
@@ -91,9 +91,50 @@ pub fn chosen(is_chosen: impl Fn(&str) -> bool) -> Vec<Input> {
     }));
     recipes.push(Recipe::new("40 units, ends that join", joining));
     recipes.extend(texts_of_people());
-    let chosen = recipes.into_iter().filter(|recipe| is_chosen(recipe.name));
+    made(recipes, is_chosen)
+}
+
+/// The inputs with many lone surrogates, if their names are chosen.
+pub fn with_lone_surrogates(is_chosen: impl Fn(&str) -> bool) -> Vec<Input> {
+    let points: [(&str, fn(&mut Random) -> u32); 6] = [
+        ("random units", |random| random.between(0, 0xFFFF)),
+        ("kinds with lone surrogates", |random| {
+            match random.below(5) {
+                0 => random.between(0xD800, 0xDFFF),
+                _ => mixed(random),
+            }
+        }),
+        ("lone leads", |random| random.between(0xD800, 0xDBFF)),
+        ("lone trails", |random| random.between(0xDC00, 0xDFFF)),
+        ("CJK, 10% surrogates", |random| match random.below(10) {
+            0 => random.between(0xD800, 0xDFFF),
+            _ => random.between(0x4E00, 0x9FFF),
+        }),
+        ("chopped emoji", chopped_emoji),
+    ];
+    let mut recipes = Vec::new();
+    for (name, point) in points {
+        recipes.push(long(name, point));
+        for length in [40, 12] {
+            let name = format!("{name}, {length} units");
+            recipes.push(Recipe::new(&name, move || units(length, point)));
+        }
+    }
+    made(recipes, is_chosen)
+}
+
+/// A long text without surrogates, and a short one that is pushed to it.
+pub fn text_and_end(is_chosen: impl Fn(&str) -> bool) -> Option<Input> {
+    let mut input = chosen(|name| name == "French" && is_chosen(name)).pop()?;
+    input.others = units(12, |random| random.between(0x20, 0x7E));
+    Some(input)
+}
+
+/// Makes the inputs whose names are chosen.
+fn made(recipes: Vec<Recipe>, is_chosen: impl Fn(&str) -> bool) -> Vec<Input> {
+    let chosen = recipes.into_iter().filter(|recipe| is_chosen(&recipe.name));
     chosen
-        .map(|recipe| Input::new(recipe.name, (recipe.make)()))
+        .map(|recipe| Input::new(&recipe.name, (recipe.make)()))
         .collect()
 }
 
@@ -145,7 +186,7 @@ pub fn lines() -> Input {
 }
 
 /// Inputs like real texts: none is of one kind, and none repeats.
-fn texts_of_people() -> [Recipe; 5] {
+fn texts_of_people() -> [Recipe; 6] {
     fn letter(random: &mut Random) -> u32 {
         match random.below(6) {
             0 => 0x20,
@@ -178,7 +219,21 @@ fn texts_of_people() -> [Recipe; 5] {
             2..=12 => random.between(0x3041, 0x30FE),
             _ => random.between(0x4E00, 0x9FA5),
         }),
+        text("chopped", |random| match random.below(15) {
+            0 => chopped_emoji(random),
+            _ => letter(random),
+        }),
     ]
+}
+
+/// An emoji, or in one case of five its lead or its trail alone.
+fn chopped_emoji(random: &mut Random) -> u32 {
+    let emoji = random.between(0x1F300, 0x1F64F);
+    match random.below(10) {
+        0 => 0xD800 + ((emoji - 0x10000) >> 10),
+        1 => 0xDC00 + (emoji & 0x3FF),
+        _ => emoji,
+    }
 }
 
 /// The inputs for `UnitText`, of `length` units each, in the order of their names.

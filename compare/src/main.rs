@@ -26,6 +26,8 @@ mod random;
 mod record;
 mod script;
 mod shrink;
+#[cfg(simdutf)]
+mod simdutf;
 mod texts;
 mod worked;
 
@@ -46,11 +48,12 @@ std::arch::global_asm!(
 
 const USAGE: &str = "usage: compare differ [--seed S] [--cases N] [--every-point]
        compare record FOLDER [--seed S] [--cases N]
-       compare bench FILE [FILTER]
+       compare bench FILE [WORD]..
        compare table FILE..
-       compare rows [FILTER]
+       compare rows [WORD]..
        compare texts [FILTER]
-       compare loop proved|crate ROW ROUNDS";
+       compare loop proved|crate ROW ROUNDS
+       compare simdutf IMPLEMENTATION, and compare loop IMPLEMENTATION ROW ROUNDS, if compare/simdutf/run built it";
 
 fn main() -> ExitCode {
     original::silence_panics();
@@ -72,13 +75,13 @@ fn main() -> ExitCode {
                 Err(error) => fail(&format!("{folder}: {error}")),
             }
         }
-        ["bench", file] => bench::run("", Path::new(file)),
-        ["bench", file, filter] => bench::run(filter, Path::new(file)),
+        ["bench", file, ref words @ ..] => bench::run(words, Path::new(file)),
         ["table", ref files @ ..] if !files.is_empty() => bench::table(files),
         ["texts"] => texts::run(""),
         ["texts", filter] => texts::run(filter),
-        ["rows"] => bench::rows(""),
-        ["rows", filter] => bench::rows(filter),
+        ["rows", ref words @ ..] => bench::rows(words),
+        #[cfg(simdutf)]
+        ["simdutf", implementation] => simdutf::run(implementation),
         ["loop", side, row, rounds] => bench::run_loop(side, row, rounds),
         [] | ["help" | "--help" | "-h"] => {
             say!("{USAGE}");

@@ -189,7 +189,7 @@ fn appended(
 }
 
 /// A string of `units`, pushed one by one.
-fn pushed(alloc: Global, units: &[u16]) -> Result<Wtf8Buf<Global>, AllocError> {
+pub fn pushed(alloc: Global, units: &[u16]) -> Result<Wtf8Buf<Global>, AllocError> {
     let mut string = Wtf8Buf::new(alloc);
     for unit in units {
         string.push(CodePoint::from_u32_unchecked(u32::from(*unit)))?;

@@ -4,6 +4,7 @@
 ghost use Rattle.std.specs.Prelude.{◌<◌, ◌≤◌};
 
 use crate::counted::Counted;
+use crate::texts::pushed;
 use std::alloc::{AllocError, Global};
 use std::array;
 use std::collections::BTreeMap;
@@ -19,10 +20,10 @@ const FIRST_COUNTED: u32 = 15;
 const LAST_COUNTED: u32 = 20;
 
 /// The number of the first loop over the lines among the units.
-const FIRST_OF_LINES: u32 = 22;
+const FIRST_OF_LINES: u32 = 24;
 
 /// The number of the last loop.
-pub const LAST: u32 = 23;
+pub const LAST: u32 = 25;
 
 /// The unit that ends a line.
 const LINE_END: u16 = 0x0A;
@@ -75,7 +76,7 @@ impl Bench {
     /// Runs a loop, and returns a checksum of what its calls returned.
     pub fn run(&self, number: u32) -> Result<u64, AllocError>
         requires least { 0 < number }
-        requires most { number ≤ 23 }
+        requires most { number ≤ 25 }
     {
         match number {
             1 => self.sum::<1>(),
@@ -99,8 +100,10 @@ impl Bench {
             19 => self.sum::<19>(),
             20 => self.sum::<20>(),
             21 => self.sum::<21>(),
-            22 => self.sort(),
-            23 => self.look_up(),
+            22 => self.sum::<22>(),
+            23 => self.sum::<23>(),
+            24 => self.sort(),
+            25 => self.look_up(),
             _ => unreachable!(),
         }
     }
@@ -150,6 +153,8 @@ impl Bench {
             19 => own.first_half()?.len() as u64,
             20 => appended_units(self.alloc, own.view())?,
             21 => grown_text(self.alloc, self.units.as_slice())?,
+            22 => pushed(self.alloc, self.units.as_slice())?.len() as u64,
+            23 => is_text_joined(&own.string, other.view())?,
             _ => 0,
         };
         Ok(answer)
@@ -254,6 +259,13 @@ fn lines(alloc: Global, units: &[u16]) -> Result<Vec<Wtf8Buf<Global>>, AllocErro
         lines.push(Wtf8Buf::from_ill_formed_utf16(alloc, line)?)?;
     }
     Ok(lines)
+}
+
+/// 1 if a clone of `string` followed by `view` holds no surrogate, 0 if it does.
+fn is_text_joined(string: &Wtf8Buf<Global>, view: Wtf8<'_>) -> Result<u64, AllocError> {
+    let mut joined = string.clone()?;
+    joined.push_wtf8(view)?;
+    Ok(joined.into_string().is_ok() as u64)
 }
 
 /// The length in bytes of a text to which each unit is pushed.
