@@ -1,9 +1,10 @@
 -- Laws of byte positions and lengths, over the definitions alone.
-use Rattle.std.specs.Prelude.{◌≡◌, ℕ, ◌+◌, ◌*◌, ◌<◌, ◌≤◌, List, ◌∷◌, ◌++◌, ◌≢◌, length, slice_index}
+use Rattle.std.specs.Prelude.{◌≡◌, ℕ, ◌+◌, ◌*◌, ◌<◌, ◌≤◌, ◌↔◌, List, ◌∷◌, ◌++◌, ◌≢◌, length, slice_index}
 use Rattle.std.specs.List.{All}
 use Rattle.wtf8.specs.Unicode.{units}
 use Rattle.wtf8.specs.Form.{encoding, bytes, IsForm}
 use Rattle.wtf8.specs.Position.{IsBoundary, IsFront, IsBack}
+use Rattle.wtf8.specs.UnitPosition.{DividesPair}
 
 -- The start of a string is a code point boundary.
 abbrev pub StartIsBoundary : Type 0
@@ -45,6 +46,18 @@ WholeBoundariesAreOfBack = (u v : List ℕ) (k m : ℕ) → IsBack u k v → IsB
 -- A boundary of the part after a cut, counted from the start of the whole, is a boundary of the whole.
 abbrev pub BackBoundariesAreOfWhole : Type 0
 BackBoundariesAreOfWhole = (u v : List ℕ) (k m : ℕ) → IsBack u k v → IsBoundary v m → IsBoundary u (k + m)
+
+-- Two boundaries are equal if and only if the units before them are.
+abbrev pub EqualBoundariesHaveEqualFronts : Type 0
+EqualBoundariesHaveEqualFronts = (u v x : List ℕ) (k l : ℕ) → IsFront u k v → IsFront u l x → (k ≡ l) ↔ (v ≡ x)
+
+-- One boundary is at or before another if and only if there are no more units before it.
+abbrev pub BoundariesAreInOneOrder : Type 0
+BoundariesAreInOneOrder = (u v x : List ℕ) (k l : ℕ) → IsFront u k v → IsFront u l x → (k ≤ l) ↔ (length v ≤ length x)
+
+-- A cut at a boundary divides no pair.
+abbrev pub BoundariesDivideNoPair : Type 0
+BoundariesDivideNoPair = (u v : List ℕ) (k : ℕ) → IsFront u k v → ¬ (DividesPair u (length v))
 
 -- The form of a prefix of the units is no longer than the form of all of them.
 abbrev pub BeginningsAreNoLonger : Type 0

@@ -8,7 +8,8 @@ ghost use Rattle.std.specs.Ordering.{nat_cmp, on};
 ghost use Rattle.std.specs.Prelude.{◌≡◌, ◌≢◌, ◌<◌, ◌≤◌, ◌+◌, ◌-◌, ◌*◌, ◌^◌, ℕ, List, ◌∷◌, ◌++◌, length, take, drop, slice_index, Err, ◌↔◌};
 ghost use Rattle.std.specs.Str.{chars};
 ghost use Rattle.wtf8.specs.Laws.{UnitsHaveOneReading, ReadingsAreOfUnits, UnitsHaveOneForm, FormsAreOfOneList, EqualFormsHaveEqualUnits, NoEncodingBeginsAnother, BytesBeginWithOnePoint, EqualBytesAreOfEqualPoints, ByteOrderIsPointOrder, GlueMakesPair, GlueKeepsOthers, GlueReadsBoth, GlueFormsBoth, PairFormsBoth, OthersFormBoth, GlueIsAssociative, EmptyFrontIsNeutral, EmptyBackIsNeutral, FrontAndBackAreWhole, FirstUnitsAndRestAreWhole};
-ghost use Rattle.wtf8.specs.PositionLaws.{StartIsBoundary, EndIsBoundary, NoneIsBeyondEnd, AsciiIsBetweenBoundaries, AsciiIsOneUnit, AsciiIsNoOtherUnit, FrontBoundariesAreOfWhole, WholeBoundariesAreOfFront, WholeBoundariesAreOfBack, BackBoundariesAreOfWhole, BeginningsAreNoLonger, BothAreNoLonger, PointsHaveOneToFourBytes, ListsHaveLengths};
+ghost use Rattle.wtf8.specs.EncodingLaws.{AsciiIsOneByte, ScalarsAreInUtf8, LowPointsAreOneUnit, PairsAreTwoUnits};
+ghost use Rattle.wtf8.specs.PositionLaws.{EqualBoundariesHaveEqualFronts, BoundariesAreInOneOrder, BoundariesDivideNoPair, StartIsBoundary, EndIsBoundary, NoneIsBeyondEnd, AsciiIsBetweenBoundaries, AsciiIsOneUnit, AsciiIsNoOtherUnit, FrontBoundariesAreOfWhole, WholeBoundariesAreOfFront, WholeBoundariesAreOfBack, BackBoundariesAreOfWhole, BeginningsAreNoLonger, BothAreNoLonger, PointsHaveOneToFourBytes, ListsHaveLengths};
 ghost use Rattle.wtf8.specs.StringLaws.{EqualBuffersHaveEqualUnits, EqualBufferAndViewHaveEqualUnits, EqualViewsHaveEqualUnits, StringsAreJoined, StringsArePaired, BytesCompareAsPoints, EqualBuffersCompareEqual, EqualViewsCompareEqual, ComparisonIsOrder, RoomLeftIsFound, ScalarsStay, FormsAreOfBuffers, FormsAreOfViews, WhatFitsIsFound, CharactersComeBack};
 ghost use Rattle.wtf8.specs.Building.{CallsRunOnce, RunsAddUp, Run};
 ghost use Rattle.wtf8.specs.CodePoint.{number};
@@ -16,7 +17,7 @@ ghost use Rattle.wtf8.specs.Form.{Reads, bytes, encoding};
 ghost use Rattle.wtf8.specs.PointLaws.{DrainedPointsAreLeft, DrainedPointsAreTaken, DrainedPointsAreAfterSkip, CollectedPointsAreLeft, CollectedPointsAreTaken, CollectedPointsAreAfterSkip};
 ghost use Rattle.wtf8.specs.Position.{IsBoundary, IsFront, IsBack};
 ghost use Rattle.wtf8.specs.Surrogates.{AreScalar, lossy_points};
-ghost use Rattle.wtf8.specs.UnitMark.{IsMarkOf, EqualCountsAreMarks, MarksStay};
+ghost use Rattle.wtf8.specs.UnitMark.{IsMark, IsMarkOf, IsUndivided, EqualCountsAreMarks, MarksStay, MarksStayInFront, MarksDivideNoPair, EqualMarksHaveEqualUnits, MarksAreInOneOrder, MarksAreFoundAgain, BoundariesAreMarks};
 ghost use Rattle.wtf8.specs.Unicode.{IsLead, IsTrail};
 ghost use Rattle.wtf8.specs.UnitPosition.{DividesPair};
 ghost use Rattle.wtf8.specs.View.{view_points, view_units};
@@ -117,20 +118,53 @@ pub fn law_positions()
     ensures back_in_whole { BackBoundariesAreOfWhole }
 {}
 
+/// Two boundaries of a string are equal if and only if the units before them are, and they have one order by positions
+/// and by numbers of units. A cut at a boundary divides no pair, and a boundary is a mark of the number of units before
+/// it.
+pub fn law_fronts()
+    ensures same { EqualBoundariesHaveEqualFronts }
+    ensures order { BoundariesAreInOneOrder }
+    ensures no_pair { BoundariesDivideNoPair }
+    ensures mark { BoundariesAreMarks }
+{}
+
+/// What `law_fronts` says of a code point boundary of this view.
+pub fn law_boundary(view: Wtf8<'_>, position: usize)
+    requires { IsBoundary (view_units view) position }
+    ensures front { (v : List ℕ) → IsFront (view_units view.entry) position v → v ≡ take (length v) (view_units view.entry) }
+    ensures no_pair { (v : List ℕ) → IsFront (view_units view.entry) position v → ¬ (DividesPair (view_units view.entry) (length v)) }
+    ensures mark { (v : List ℕ) → IsFront (view_units view.entry) position v → IsMark view.entry.bytes.now (view_units view.entry) position (length v) }
+    ensures same { (v : List ℕ) (k : ℕ) → IsFront (view_units view.entry) position v → IsFront (view_units view.entry) k v → k ≡ position }
+{}
+
 /// If a string has as many bytes as units, every byte position is a mark. A mark before the last unit is still a mark
-/// after units are appended, even if the last unit becomes part of a pair.
+/// after units are appended, even if the last unit becomes part of a pair, and a mark within the first units is still
+/// one after a truncation to these. A cut at a mark divides no pair, and two marks of a string have one order by
+/// positions and by numbers of units, so the mark that is found for the number of units of another one is at its
+/// position.
 pub fn law_marks()
     ensures equal { EqualCountsAreMarks }
     ensures kept { MarksStay }
+    ensures cut { MarksStayInFront }
+    ensures no_pair { MarksDivideNoPair }
+    ensures same { EqualMarksHaveEqualUnits }
+    ensures order { MarksAreInOneOrder }
+    ensures found { MarksAreFoundAgain }
 {}
 
 /// The position of a mark of this view is a code point boundary: exactly the units that the mark counts are before it,
-/// and the others after it. `boundary` needs no citation; `front` and `back` are cited with their list of units.
+/// and the others after it. A cut there divides no pair. Another mark of this view with the same number of units, as
+/// `mark_at` finds it for that number, is at the same position. `boundary` and `no_pair` need no citation; `front` and
+/// `back` are cited with their list of units, and `same`, `order` and `found` with the other mark.
 pub fn law_mark(view: Wtf8<'_>, mark: UnitMark)
     requires { IsMarkOf view mark }
     ensures boundary { IsBoundary (view_units view.entry) mark.position }
     ensures front { (v : List ℕ) → IsFront (view_units view.entry) mark.position v → v ≡ take mark.units (view_units view.entry) }
     ensures back { (v : List ℕ) → IsBack (view_units view.entry) mark.position v → v ≡ drop mark.units (view_units view.entry) }
+    ensures no_pair { ¬ (DividesPair (view_units view.entry) mark.units) }
+    ensures same { (other : UnitMark) → IsMarkOf view.entry other → (other.position ≡ mark.position) ↔ (other.units ≡ mark.units) }
+    ensures order { (other : UnitMark) → IsMarkOf view.entry other → (other.position ≤ mark.position) ↔ (other.units ≤ mark.units) }
+    ensures found { (other : UnitMark) → IsMarkOf view.entry other → IsUndivided (view_units view.entry) mark.units other.units → other.position ≡ mark.position }
 {}
 
 /// If a pair of this view is divided after `units` units, a lead is directly before the cut and a trail after it.
@@ -213,6 +247,15 @@ pub fn law_encoding_length(code_point: CodePoint)
     ensures four { 0x10000 ≤ number code_point → length (encoding (number code_point)) ≡ 4 }
     ensures at_least_one { 1 ≤ length (encoding (number code_point)) }
     ensures at_most_four { length (encoding (number code_point)) ≤ 4 }
+{}
+
+/// A code point below 0x80 is one byte of its value, a scalar value its UTF-8, and a code point below 0x10000 one unit
+/// of its value. The code point of a lead and a trail is these two units.
+pub fn law_encoding()
+    ensures ascii { AsciiIsOneByte }
+    ensures scalar { ScalarsAreInUtf8 }
+    ensures one_unit { LowPointsAreOneUnit }
+    ensures pair { PairsAreTwoUnits }
 {}
 
 /// `whole` has the units of `front`, the ASCII unit `separator` and the units of `back`, in turn, if and only if it has

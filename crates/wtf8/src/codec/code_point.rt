@@ -1,5 +1,6 @@
 // Code points.
-ghost use Rattle.std.specs.Prelude.{◌≡◌, ◌↔◌, IsSome, IfSome, IsNone};
+ghost use Rattle.std.specs.Prelude.{◌≡◌, ◌≤◌, ◌↔◌, length, IsSome, IfSome, IsNone};
+ghost use Rattle.wtf8.specs.Form.{encoding};
 ghost use Rattle.wtf8.specs.Surrogates.{replace_surrogate};
 ghost use Rattle.wtf8.specs.Unicode.{IsCodePoint, IsSurrogate};
 
@@ -51,6 +52,21 @@ impl CodePoint {
         ensures range { IsCodePoint result }
     {
         self.value
+    }
+
+    /// The encoded length of the code point: the number of its bytes in a string, 1 to 4. Of a `char` it is `len_utf8`.
+    #[tactic(auto, using(crate::proofs::lemmas::codec::Encoding::rows))]
+    pub fn encoded_len(&self) -> usize
+        ensures value { result ≡ length (encoding (number self.now)) }
+        ensures at_least_one { 1 ≤ result }
+        ensures at_most_four { result ≤ 4 }
+    {
+        match self.value {
+            0..=0x7F => 1,
+            0x80..=0x7FF => 2,
+            0x800..=0xFFFF => 3,
+            _ => 4,
+        }
     }
 
     /// The code point as a `char`, or `None` for a surrogate.

@@ -18,7 +18,8 @@ use std::alloc::Allocator;
 use std::cmp::Ordering;
 use std::hash::{Hash, Hasher};
 
-/// Strings are equal if their bytes are equal, which is so if and only if their code units are.
+/// Strings are equal if their bytes are equal, which is so if and only if their code units are. Linear in the equal
+/// front, and constant if the lengths differ.
 impl<'a> PartialEq for Wtf8<'a> {
     ghost eq = { on (λ view. view.bytes.now) (pointwise nat_eq) };
 
@@ -48,7 +49,7 @@ impl<'a> PartialOrd for Wtf8<'a> {
 }
 
 /// Compares byte by byte, a prefix before the longer string. This is the order of code points; `cmp_units` compares by
-/// code units.
+/// code units. Linear in the equal front.
 impl<'a> Ord for Wtf8<'a> {
     ghost cmp = { on (λ view. view.bytes.now) (slice_cmp nat_cmp) };
 

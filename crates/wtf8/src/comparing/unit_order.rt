@@ -42,7 +42,7 @@ fn cmp_units_at_mismatch(own: Wtf8<'_>, others: Wtf8<'_>) -> Ordering
 
 impl<'a> Wtf8<'a> {
     /// Compares by 16-bit code units, as ECMAScript compares strings: the first units that differ decide, and a prefix
-    /// comes before the longer string. `cmp` compares by code points instead.
+    /// comes before the longer string. `cmp` compares by code points instead. Linear in the equal front.
     pub fn cmp_units(&self, other: &Wtf8<'_>) -> Ordering
         ensures value { result ≡ slice_cmp nat_cmp (view_units self.now) (view_units other.now) }
         ensures order { let own = view_units self.now in let others = view_units other.now in

@@ -121,7 +121,7 @@ impl<A: Allocator> Wtf8Buf<A> {
         from_well_formed(string.into_bytes(), KnownPrefix::new(true))
     }
 
-    /// Copies a `&str`. An empty one does not allocate.
+    /// Copies a `&str`. An empty one does not allocate. Linear in its length.
     pub fn from_str(alloc: A, value: &str) -> Result<Wtf8Buf<A>, AllocError>
         ensures units { IfOk result (λ b. b.units ≡ units (chars value.now)) }
         ensures bytes { IfOk result (λ b. b.bytes ≡ value.now) }
@@ -133,7 +133,7 @@ impl<A: Allocator> Wtf8Buf<A> {
     }
 
     /// Makes the string with the code units `v`, paired or not. Reserves a byte for each unit first, and does not
-    /// allocate if `v` is empty.
+    /// allocate if `v` is empty. Linear in the number of units.
     ///
     /// ```
     /// use std::alloc::{AllocError, Global};
@@ -155,7 +155,7 @@ impl<A: Allocator> Wtf8Buf<A> {
         Ok(from_well_formed(bytes, KnownPrefix::new(is_known_utf8)))
     }
 
-    /// Copies the string, with a clone of its allocator.
+    /// Copies the string, with a clone of its allocator. Linear in the length.
     #[inline(always)]
     pub fn clone(&self) -> Result<Wtf8Buf<A>, AllocError>
     where
@@ -169,7 +169,7 @@ impl<A: Allocator> Wtf8Buf<A> {
     }
 
     /// Reserves capacity for at least `additional` more bytes, and does not allocate if there is enough. The units and
-    /// bytes of the string never change, even if memory is refused.
+    /// bytes of the string never change, even if memory is refused. Linear in the length if it allocates.
     pub fn reserve(&mut self, additional: usize) -> Result<(), AllocError>
         ensures ok { OnOk result (length self.new.bytes + additional ≤ self.new.capacity) }
         ensures units { self.new.units ≡ self.old.units }
@@ -181,7 +181,7 @@ impl<A: Allocator> Wtf8Buf<A> {
     }
 
     /// Releases spare capacity if the allocator agrees, else keeps it. An empty string releases all of it. The units
-    /// and bytes of the string never change.
+    /// and bytes of the string never change. Linear in the length if it allocates.
     pub fn shrink_to_fit(&mut self)
         ensures units { self.new.units ≡ self.old.units }
         ensures bytes { self.new.bytes ≡ self.old.bytes }
@@ -226,7 +226,8 @@ impl<A: Allocator> Wtf8Buf<A> {
     }
 
     /// Appends a code point. A trail surrogate after a lead surrogate completes the pair: the three bytes of the lead
-    /// become the four of one supplementary code point. If memory is refused, the string is unchanged.
+    /// become the four of one supplementary code point. If memory is refused, the string is unchanged. Amortized
+    /// constant.
     #[inline(always)]
     pub fn push(&mut self, code_point: CodePoint) -> Result<(), AllocError>
         ensures ok { OnOk result (AppendsUnits self.old (units_of (number code_point)) self.new) }
@@ -246,7 +247,7 @@ impl<A: Allocator> Wtf8Buf<A> {
         concat::push_point(&mut self.bytes, &mut self.known_prefix, code_point)
     }
 
-    /// Appends a character. If memory is refused, the string is unchanged.
+    /// Appends a character. If memory is refused, the string is unchanged. Amortized constant.
     #[inline(always)]
     #[tactic(auto, using(crate::proofs::lemmas::codec::Encoding::encoding_one))]
     pub fn push_char(&mut self, c: char) -> Result<(), AllocError>
@@ -272,7 +273,7 @@ impl<A: Allocator> Wtf8Buf<A> {
         concat::push_scalar(&mut self.bytes, c)
     }
 
-    /// Appends a `&str`. If memory is refused, the string is unchanged.
+    /// Appends a `&str`. If memory is refused, the string is unchanged. Amortized linear in its length.
     pub fn push_str(&mut self, other: &str) -> Result<(), AllocError>
         ensures ok { OnOk result (AppendsUnits self.old (units (chars other.now)) self.new) }
         ensures kept { OnErr result (KeepsContents self.old self.new) }
@@ -293,7 +294,7 @@ impl<A: Allocator> Wtf8Buf<A> {
 
     /// Appends another string. A trail surrogate at its front completes a lead surrogate at the end: the two become one
     /// supplementary code point, and the length grows by the other's length minus 2. If memory is refused, the string
-    /// is unchanged.
+    /// is unchanged. Amortized linear in the other's length.
     ///
     /// ```
     /// use std::alloc::Global;
@@ -356,7 +357,9 @@ impl<A: Allocator> Wtf8Buf<A> {
     }
 
     /// Shortens the string to `n` code units, which must be at most the number of code units. If that splits a
-    /// surrogate pair, its lead stays as a lone surrogate: three bytes in place of four. Does not allocate.
+    /// surrogate pair, its lead stays as a lone surrogate: three bytes in place of four. Does not allocate. Linear in
+    /// `n`: units are counted from the front each time. To cut units off the end again and again, `truncate` to the
+    /// position of a mark that `mark_at` finds from one shortly before it.
     pub fn truncate_units(&mut self, n: usize)
         requires { n ≤ length self.old.units }
         ensures units { self.new.units ≡ take n self.old.units }
@@ -386,6 +389,7 @@ impl<A: Allocator> Wtf8Buf<A> {
     }
 
     /// Converts to a `String` without copying; returns the buffer unchanged if it holds a surrogate. Does not allocate.
+    /// Linear in the bytes that are not known to hold no surrogate.
     pub fn into_string(self) -> Result<String<A>, Wtf8Buf<A>>
         ensures ok { IsOk result ↔ AreScalar self.form.points }
         ensures units { IsOk result ↔ ((c : List ℕ) → Reads c self.units → AreScalar c) }
@@ -402,7 +406,7 @@ impl<A: Allocator> Wtf8Buf<A> {
     }
 
     /// Converts to a `String` with U+FFFD written over each surrogate in place, so that the length in bytes stays the
-    /// same. Does not allocate.
+    /// same. Does not allocate. Linear in the length, and constant if the string is known to hold no surrogate.
     pub fn into_string_lossy(self) -> String<A>
         ensures text { string_bytes result ≡ bytes (lossy_points self.form.points) }
         ensures len { length (string_bytes result) ≡ length self.bytes }

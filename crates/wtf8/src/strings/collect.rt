@@ -13,7 +13,7 @@ use std::alloc::{AllocError, Allocator};
 impl<A: Allocator> Wtf8Buf<A> {
     /// Appends code points in order; a trail surrogate completes a lead before it. First reserves a byte for each item
     /// that the iterator's lower size hint promises: if that is refused, no item was taken. If memory is refused later,
-    /// the string holds its old code units and then the units of the first items.
+    /// the string holds its old code units and then the units of the first items. Amortized linear in the items.
     pub fn extend<I: IntoIterator<Item = CodePoint>>(
         &mut self,
         iterable: I,
@@ -31,7 +31,7 @@ impl<A: Allocator> Wtf8Buf<A> {
         Ok(())
     }
 
-    /// Makes a string from code points in order, as `extend` of an empty string does.
+    /// Makes a string from code points in order, as `extend` of an empty string does. Linear in the items.
     pub fn from_iter<I: IntoIterator<Item = CodePoint>>(
         alloc: A,
         iterable: I,

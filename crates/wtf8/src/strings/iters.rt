@@ -37,6 +37,7 @@ impl<'a> Wtf8CodePoints<'a> {
     ghost use Rattle.std.specs.Prelude.{◌≡◌};
     ghost use Rattle.std.specs.Iterator.{YieldsFirstBy};
     ghost use Rattle.wtf8.specs.CodePoint.{number};
+    ghost use Rattle.wtf8.specs.Form.{bytes};
     ghost use Rattle.wtf8.specs.View.{view_points};
 
     pub(crate) fn new(view: Wtf8<'a>) -> Wtf8CodePoints<'a>
@@ -46,6 +47,16 @@ impl<'a> Wtf8CodePoints<'a> {
             bytes: view.bytes,
             at: 0,
         }
+    }
+
+    /// The code points that are left, as a view of the string's bytes. It borrows them for `'a`, so it may outlive the
+    /// iterator. The string's length less the view's is the position of the next code point.
+    pub fn as_wtf8(&self) -> Wtf8<'a>
+        ensures points { view_points result ≡ self.now }
+        ensures bytes { result.bytes.now ≡ bytes self.now }
+    {
+        let (_, left) = self.bytes.split_at(self.at);
+        Wtf8::from_well_formed(left)
     }
 
     /// The next code point, or `None` at the end.
@@ -169,13 +180,13 @@ impl<'a> Model for IllFormedUtf16CodeUnits<'a> {
 }
 
 impl<'a> IllFormedUtf16CodeUnits<'a> {
-    ghost use Rattle.std.specs.Prelude.{◌≡◌, ◌*◌, [], length};
+    ghost use Rattle.std.specs.Prelude.{◌≡◌, ◌*◌, ◌↔◌, [], length, IsSome, IfSome};
     ghost use Rattle.std.specs.Iterator.{YieldsFirst};
     ghost use Rattle.wtf8.specs.Form.{bytes};
     ghost use Rattle.wtf8.specs.Unicode.{units};
     ghost use Rattle.wtf8.specs.Units.{unread_units};
     ghost use Rattle.wtf8.specs.private.UnitIterator.{unread_after};
-    ghost use Rattle.wtf8.specs.View.{view_points};
+    ghost use Rattle.wtf8.specs.View.{view_points, view_units};
 
     pub(crate) fn new(view: Wtf8<'a>) -> IllFormedUtf16CodeUnits<'a>
         ensures held { result.held ≡ [] }
@@ -185,6 +196,21 @@ impl<'a> IllFormedUtf16CodeUnits<'a> {
             bytes: view.bytes,
             at: 0,
         }
+    }
+
+    /// The units that are left, as a view of the string's bytes, or `None` while the trail of a pair is held back. The
+    /// view borrows the bytes for `'a`, so it may outlive the iterator.
+    pub fn as_wtf8(&self) -> Option<Wtf8<'a>>
+        ensures some { IsSome result ↔ self.now.held ≡ [] }
+        ensures units { IfSome result (λ view. view_units view ≡ unread_units self.now) }
+        ensures points { IfSome result (λ view. view_points view ≡ self.now.points) }
+        ensures bytes { IfSome result (λ view. view.bytes.now ≡ bytes self.now.points) }
+    {
+        if self.held_units() == 1 {
+            return None;
+        }
+        let (_, unread) = self.bytes.split_at(self.at);
+        Some(Wtf8::from_well_formed(unread))
     }
 
     /// Returns the held trail, if any, else the first unit of the next code point; a pair's trail is then held.

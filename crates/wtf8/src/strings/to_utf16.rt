@@ -370,7 +370,7 @@ fn append_counted<B: Allocator>(units: &mut Vec<u16, B>, view: Wtf8<'_>) -> Resu
 
 impl<'a> Wtf8<'a> {
     /// Appends the 16-bit code units of the string to a vector. Reserves room for them first, and does not allocate if
-    /// they fit. If memory is refused, the vector is unchanged.
+    /// they fit. If memory is refused, the vector is unchanged. Linear in the length.
     pub fn append_units<B: Allocator>(&self, units: &mut Vec<u16, B>) -> Result<(), AllocError>
         ensures ok { OnOk result (units.new.items ≡ units.old.items ++ view_units self.now) }
         ensures kept { OnErr result (units.new.items ≡ units.old.items) }

@@ -166,7 +166,7 @@ fn count_units_from(bytes: &[u8], from: UnitCursor) -> usize
 }
 
 impl<'a> Wtf8<'a> {
-    /// The length in 16-bit code units.
+    /// The length in 16-bit code units. Linear in the length in bytes.
     pub fn unit_len(&self) -> usize
         ensures { result ≡ length (view_units self.now) }
     {

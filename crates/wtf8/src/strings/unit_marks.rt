@@ -42,8 +42,7 @@ impl<'a> Wtf8<'a> {
     }
 
     /// The mark with `units` code units before it, or one fewer if that splits a pair. `units` must be at most the
-    /// number of code units, and `from` a mark of this string at or before `units`; the time depends only on the
-    /// distance from it.
+    /// number of code units, and `from` a mark of this string at or before `units`. Linear in the distance from it.
     pub fn mark_at(&self, from: UnitMark, units: usize) -> UnitMark
         requires mark { IsMarkOf self.now from }
         requires order { from.units ≤ units }
@@ -67,7 +66,7 @@ impl<'a> Wtf8<'a> {
     }
 
     /// The mark at the last code point boundary at or before the byte `position`, which must be at most the length.
-    /// `from` must be a mark of this string at or before `position`; the time depends only on the distance from it.
+    /// `from` must be a mark of this string at or before `position`. Linear in the distance from it.
     pub fn mark_before(&self, from: UnitMark, position: usize) -> UnitMark
         requires mark { IsMarkOf self.now from }
         requires order { from.position ≤ position }

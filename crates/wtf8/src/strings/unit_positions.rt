@@ -203,7 +203,8 @@ fn ascii_unit<const N: usize>(view: Wtf8<'_>, index: usize) -> Option<u16>
 }
 
 impl<'a> Wtf8<'a> {
-    /// The code unit at `index`, or `None` at or past the end.
+    /// The code unit at `index`, or `None` at or past the end. Linear in `index`: units are counted from the front. To
+    /// read units one after another use `to_ill_formed_utf16`, and far from the front first a mark (`mark_at`).
     pub fn unit_at(&self, index: usize) -> Option<u16>
         ensures { result ≡ slice_get (view_units self.now) index }
     {

@@ -33,7 +33,8 @@ fn half_len(half: Option<u16>) -> usize
 impl<'a> Wtf8<'a> {
     /// The part from code unit `begin` to before code unit `end`, which must be in order and at most the number of code
     /// units. If an end splits a surrogate pair, the half inside is returned beside the whole code points. Borrows the
-    /// bytes for `'a`, so it may outlive this view.
+    /// bytes for `'a`, so it may outlive this view. Linear in `end`: units are counted from the front, and from a mark
+    /// in its part (`slice_from_mark`).
     pub fn slice_units(&self, begin: usize, end: usize) -> UnitSlice<'a>
         requires order { begin ≤ end }
         requires within { end ≤ length (view_units self.now) }

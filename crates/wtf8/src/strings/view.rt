@@ -177,7 +177,7 @@ impl<'a> Wtf8<'a> {
         }
     }
 
-    /// The string as a `&str`, or `None` if it holds a surrogate. Does not copy.
+    /// The string as a `&str`, or `None` if it holds a surrogate. Does not copy. Linear in the length.
     #[inline(always)]
     pub fn as_str(&self) -> Option<&'a str>
         ensures some { IsSome result ↔ AreScalar (view_points self.now) }
@@ -191,7 +191,7 @@ impl<'a> Wtf8<'a> {
     }
 
     /// The string as text, with U+FFFD in place of each surrogate; its length in bytes stays the same. Borrowed, and
-    /// never refused, if there is no surrogate; else a copy.
+    /// never refused, if there is no surrogate; else a copy. Linear in the length.
     pub fn to_string_lossy<A: Allocator + Drop>(
         &self,
         alloc: A,
@@ -210,7 +210,7 @@ impl<'a> Wtf8<'a> {
     }
 
     /// The bytes as hexadecimal text for diagnosis: two upper-case digits each, separated by spaces. An empty string
-    /// does not allocate.
+    /// does not allocate. Linear in the length.
     pub fn hex_dump<A: Allocator>(&self, alloc: A) -> Result<String<A>, AllocError>
         ensures ok { IfOk result (λ t. string_bytes t ≡ hex self.now.bytes.now) }
         ensures empty { self.now.bytes.now ≡ [] → IsOk result }
@@ -219,7 +219,7 @@ impl<'a> Wtf8<'a> {
     }
 
     /// Appends the text of `hex_dump` to a vector of bytes. Reserves three bytes for each byte of the string, and does
-    /// not allocate if they fit. If memory is refused, the vector is unchanged.
+    /// not allocate if they fit. If memory is refused, the vector is unchanged. Linear in the length.
     pub fn append_hex_dump<A: Allocator>(&self, text: &mut Vec<u8, A>) -> Result<(), AllocError>
         ensures ok { OnOk result (text.new.items ≡ text.old.items ++ hex self.now.bytes.now) }
         ensures kept { OnErr result (text.new.items ≡ text.old.items) }

@@ -2,16 +2,18 @@
 use Rattle.wtf8.proofs.Common.{◌≡◌, ◌+◌, ◌<◌, ◌≤◌, ℕ, List, [], ◌∷◌, ◌++◌, length, take, None, Some, refl, sym, ap, ◌∙◌, subst, arith, length-append}
 use Rattle.wtf8.proofs.Common.{append_assoc, take-append-drop, bytes-injective, units_of, encoding, units, bytes, IsWellFormed, IsForm, CutsUnits, glue, Option}
 use Rattle.wtf8.proofs.Common.{◌-◌, drop, length-take-le, MatchOption, Divides, AreAscii, take_all, length-drop}
-use Rattle.wtf8.proofs.Common.{get_or, IsLead, IsTrail, IsBoundary, IsMiddle}
+use Rattle.wtf8.proofs.Common.{get_or, IsLead, IsTrail, IsBoundary, IsMiddle, IsFront, inl, inr, cases_lt, take_at, drop_at, drop-append-le, All, IsUnit, MeetsAsPair}
+use Rattle.std.proofs.lemmas.List.{take-append-le}
 use Rattle.std.proofs.Math.Seq.{get_or-append_seam}
-use Rattle.wtf8.specs.UnitMark.{IsMark, EqualCountsAreMarks, MarksStay}
+use Rattle.wtf8.specs.PositionLaws.{EqualBoundariesHaveEqualFronts, BoundariesAreInOneOrder, BoundariesDivideNoPair}
+use Rattle.wtf8.specs.UnitMark.{IsMark, EqualCountsAreMarks, MarksStay, MarksDivideNoPair, EqualMarksHaveEqualUnits, MarksAreInOneOrder, MarksAreFoundAgain, BoundariesAreMarks, MarksStayInFront}
 use Rattle.wtf8.specs.UnitPosition.{DividesPair}
 use Rattle.wtf8.proofs.lemmas.codec.Encoding.{bytes-append, encoding_cases, one, two, three, four}
-use Rattle.wtf8.proofs.lemmas.codec.Readings.{units-append, lists_have_lengths, units_one, units_two, well_formed_of, same_form, same_reading}
-use Rattle.wtf8.proofs.lemmas.strings.Concatenation.{reads-glue, one_form, units_read}
+use Rattle.wtf8.proofs.lemmas.codec.Readings.{units-append, lists_have_lengths, units_one, units_two, well_formed_of, same_form, same_reading, reads_same, meets_by}
+use Rattle.wtf8.proofs.lemmas.strings.Concatenation.{reads-glue, one_form, units_read, form_append-unpaired}
 use Rattle.wtf8.proofs.lemmas.strings.ExtendedForms.{all_back}
-use Rattle.wtf8.proofs.lemmas.strings.Positions.{cut_by, points_after, boundary_of, same_splits}
-use Rattle.wtf8.proofs.lemmas.strings.UnitCuts.{undivided_from_cut}
+use Rattle.wtf8.proofs.lemmas.strings.Positions.{cut_by, points_after, boundary_of, same_splits, shorter_is_prefix, front_unique}
+use Rattle.wtf8.proofs.lemmas.strings.UnitCuts.{undivided_from_cut, divides_none}
 use Rattle.wtf8.proofs.lemmas.from_utf16.Transcode.{IsKnownForm-ascii, units-ascii}
 use Rattle.std.proofs.lemmas.Simd.{Each1-chunk}
 
@@ -93,6 +95,109 @@ mark_after h {k} v m x =
     })
 
 -- The laws of marks.
+
+-- a cut at a mark divides no pair
+pub mark_divides_none : MarksDivideNoPair
+mark_divides_none w u k n f m =
+    subst (λ v. ¬ (DividesPair v n)) f.reads.same_units (divides_none f.reads.clean (undivided_from_cut refl (cut_of (well_formed_of f) m)))
+
+-- a mark within a front is a mark of the front: no pair is divided there
+mark_in_front : (w x u v : List ℕ) (k n : ℕ) → IsForm w u → IsForm x (u ++ v) → n ≤ length u → IsMark x (u ++ v) k n → IsMark w u k n
+mark_in_front w x u v k n f g h m =
+    let first : take n (u ++ v) ≡ take n u = take-append-le n u v h in
+    let others : drop n (u ++ v) ≡ drop n u ++ v = drop-append-le n u v h in
+    let before : IsForm (take k x) (take n u) = subst (IsForm (take k x)) first m.before in
+    let rest = one_form (drop n u) (all_back (take n u) (drop n u) (subst (All IsUnit) (sym (take-append-drop n u)) (units_read f.points u f.reads))) in
+    let apart : ¬ (MeetsAsPair (take n u) (drop n u)) =
+    λ p. mark_divides_none x (u ++ v) k n g m (meets_by p.front (p.rest ++ v) p.lead p.trail p.is_lead p.is_trail (first ∙ p.ends) (others ∙ ap (λ d. d ++ v) p.begins)) in
+    let both = form_append-unpaired (take k x) rest.one (take n u) (drop n u) before rest.has apart in
+    let whole : w ≡ take k x ++ rest.one = same_form w (take k x ++ rest.one) u f (subst (IsForm (take k x ++ rest.one)) (take-append-drop n u) both) in
+    let long : length (take k x) ≡ k = length-take-le k x m.position_within in
+    record {
+      position_within = omega (arith, ap length whole, length-append (take k x) rest.one, long);
+      units_within = h;
+      before = subst (λ b. IsForm b (take n u)) (sym (ap (take k) whole ∙ take_at (take k x) rest.one k long)) before;
+      after = subst (λ b. IsForm b (drop n u)) (sym (ap (drop k) whole ∙ drop_at (take k x) rest.one k long)) rest.has;
+    }
+
+pub marks_stay_in_front : MarksStayInFront
+marks_stay_in_front w x u k m n g f l h mark =
+    mark_in_front w x (take n u) (drop n u) k m f (subst (IsForm x) (sym (take-append-drop n u)) g) (omega (arith, length-take-le n u h, l))
+    (subst (λ v. IsMark x v k m) (sym (take-append-drop n u)) mark)
+
+-- the code points between two marks, by bytes and by units
+pub record Between (k l m n : ℕ) : Type 0 where
+  pub more : List ℕ
+  pub positions : l ≡ k + length (bytes more)
+  pub counts : n ≡ m + length (units more)
+
+between_marks : {w u : List ℕ} (f : IsForm w u) {k l m n : ℕ} → IsMark w u k m → IsMark w u l n → k ≤ l → Between k l m n
+between_marks f x y h =
+    let own = cut_of (well_formed_of f) x in
+    let other = cut_of (well_formed_of f) y in
+    let prefix = shorter_is_prefix own.front own.back other.front other.back (sym own.joined ∙ other.joined) (omega (arith, h, own.front_len, other.front_len)) in
+    record {
+      more = prefix.more;
+      positions = omega (arith, own.front_len, other.front_len, ap (λ c. length (bytes c)) prefix.joined, ap length (bytes-append own.front prefix.more), length-append (bytes own.front) (bytes prefix.more));
+      counts = omega (arith, own.counted, other.counted, ap (λ c. length (units c)) prefix.joined, ap length (units-append own.front prefix.more), length-append (units own.front) (units prefix.more));
+    }
+
+-- marks have one order by positions and by numbers of units
+pub marks_in_order : MarksAreInOneOrder
+marks_in_order w u k l m n f x y = (
+  λ h. omega (arith, (between_marks f x y h).counts),
+  λ h. elim (cases_lt l k) [
+    | inl c ↦
+        let b = between_marks f y x (omega (arith, c)) in
+        absurd (omega (arith, h, c, b.positions, b.counts, (lists_have_lengths b.more).units_most))
+    | inr c ↦ c
+  ],
+)
+
+pub same_mark : EqualMarksHaveEqualUnits
+same_mark w u k l m n f x y =
+    let order = marks_in_order w u k l m n f x y in
+    let turned = marks_in_order w u l k n m f y x in (
+      λ e. omega (arith, order.0 (omega (arith, e)), turned.0 (omega (arith, e))),
+      λ e. omega (arith, order.1 (omega (arith, e)), turned.1 (omega (arith, e))),
+    )
+
+pub mark_found_again : MarksAreFoundAgain
+mark_found_again w u k l m n f x y found = elim found [
+  | inl e ↦ sym ((same_mark w u k l m n f x y).1 (sym e))
+  | inr d ↦ absurd (mark_divides_none w u k m f x d.1)
+]
+
+-- a boundary is a mark
+pub boundary_is_mark : BoundariesAreMarks
+boundary_is_mark w u v k f b = mark_of f (record {
+  front = b.front;
+  back = b.back;
+  joined = reads_same f.reads b.splits.reads;
+  front_len = b.splits.front_len;
+  counted = ap length b.same_units;
+})
+
+-- the form of the units that a front is of
+abbrev form_about : {u v : List ℕ} {k : ℕ} (b : IsFront u k v) → IsForm (bytes (b.front ++ b.back)) u
+form_about b = record { points = b.front ++ b.back; reads = b.splits.reads; encoded = refl }
+
+pub front_is_first_units : (u v : List ℕ) (k : ℕ) → IsFront u k v → v ≡ take (length v) u
+front_is_first_units u v k b =
+    sym b.same_units ∙ sym (ap (take (length v)) (sym b.splits.reads.same_units ∙ units-append b.front b.back) ∙ take_at (units b.front) (units b.back) (length v) (ap length b.same_units))
+
+pub boundary_divides_none : BoundariesDivideNoPair
+boundary_divides_none u v k b = mark_divides_none _ u k (length v) (form_about b) (boundary_is_mark _ u v k (form_about b) b)
+
+pub boundaries_in_order : BoundariesAreInOneOrder
+boundaries_in_order u v x k l a b =
+    marks_in_order _ u k l (length v) (length x) (form_about a) (boundary_is_mark _ u v k (form_about a) a) (boundary_is_mark _ u x l (form_about a) b)
+
+pub same_front : EqualBoundariesHaveEqualFronts
+same_front u v x k l a b = (
+  λ e. front_unique u l v x (subst (λ p. IsFront u p v) e a) b,
+  λ e. (same_mark _ u k l (length v) (length x) (form_about a) (boundary_is_mark _ u v k (form_about a) a) (boundary_is_mark _ u x l (form_about a) b)).1 (ap length e),
+)
 
 -- the units on both sides of the division of a pair are its lead and its trail
 pub divided_are_surrogates : (u : List ℕ) (n : ℕ) → DividesPair u n → (0 < n) × (n < length u) × IsLead (get_or u (n - 1) 0) × IsTrail (get_or u n 0)
