@@ -151,7 +151,7 @@ impl<A: Allocator> UnitText<A> {
         ensures exact { (v : List ℕ) → IsFront self.now position v → result ≡ length v }
     {
         let marked = self.marked();
-        let mark = marked.mark_before(position.min(self.text.len()));
+        let mark = marked.mark_before(position.min(marked.text.view.len()));
         laws::law_mark(marked.text.view, mark);
         laws::law_positions();
         mark.units
