@@ -1,2 +1,3 @@
 pub mod MarkLemmas
+pub mod PositionLemmas
 pub mod ReadingLemmas

@@ -1,10 +1,11 @@
 // The marks of a text, from which a unit is found without counting from the front of the text.
-ghost use Rattle.std.specs.Prelude.{◌≡◌, ◌≢◌, ◌+◌, ◌*◌, ◌<◌, ◌≤◌, ℕ, false, length, vec_capacity, take, drop, slice_get, IfSome, IsTrue, ◌↔◌};
+ghost use Rattle.std.specs.Prelude.{◌≡◌, ◌≢◌, ◌+◌, ◌-◌, ◌*◌, ◌/◌, ◌<◌, ◌≤◌, ℕ, false, length, vec_capacity, take, drop, slice_get, IfSome, IsTrue, ◌↔◌};
 ghost use Rattle.std.proofs.Props.{props};
 ghost use Rattle.unit_text.specs.Marks.{AreEnough, AreKept, AreMarks};
 ghost use Rattle.wtf8.specs.OneForm.{IsForm-prop};
-ghost use Rattle.wtf8.specs.UnitMark.{IsMarkOf};
-ghost use Rattle.wtf8.specs.UnitPosition.{units_of_slice};
+ghost use Rattle.wtf8.specs.Position.{IsBoundary};
+ghost use Rattle.wtf8.specs.UnitMark.{IsMark, IsMarkOf};
+ghost use Rattle.wtf8.specs.UnitPosition.{units_of_slice, DividesPair};
 ghost use Rattle.wtf8.specs.View.{view_units};
 
 use std::alloc::Allocator;
@@ -129,6 +130,17 @@ pub(crate) fn add_to_kept<A: Allocator>(text: CountedView<'_>, marks: &mut Optio
     }
 }
 
+/// Leaves out the marks, if marks are kept, that are not before the last unit of a text that became shorter.
+#[inline(always)]
+pub(crate) fn truncate_kept<A: Allocator>(text: CountedView<'_>, marks: &mut Option<Marks<A>>)
+    requires { IfSome marks.old (λ m. AreMarks text.view.bytes.now (view_units text.view) (take ((text.count - 1) / SPACING) m.kept.items) m.is_incomplete) }
+    ensures { IfSome marks.new (λ m. AreMarks text.entry.view.bytes.now (view_units text.entry.view) m.kept.items m.is_incomplete) }
+{
+    if let Some(marks) = marks {
+        marks.kept.truncate(text.count.saturating_sub(1) / SPACING);
+    }
+}
+
 /// The last mark, or the start if there is none.
 fn last_or_start(view: Wtf8<'_>, marks: &[UnitMark]) -> UnitMark
     requires { AreKept view.bytes.now (view_units view) marks.now }
@@ -196,6 +208,61 @@ impl<'a> MarkedView<'a> {
             };
         }
         self.kept_mark_at_or_before(units)
+    }
+
+    /// The mark with `units` code units before it, or with one fewer if that splits a pair.
+    pub(crate) fn mark_at(&self, units: usize) -> UnitMark
+        requires within { units ≤ self.now.text.count }
+        ensures mark { IsMarkOf self.now.text.view result }
+        ensures whole { ¬ (DividesPair (view_units self.now.text.view) units) → result.units ≡ units }
+        ensures divided { DividesPair (view_units self.now.text.view) units → result.units + 1 ≡ units }
+    {
+        laws::law_marks();
+        let from = self.mark_at_or_before(units);
+        self.text.view.mark_at(from, units)
+    }
+
+    /// The mark at the last code point boundary at or before the byte `position`.
+    pub(crate) fn mark_before(&self, position: usize) -> UnitMark
+        requires within { position ≤ length self.now.text.view.bytes.now }
+        ensures mark { IsMarkOf self.now.text.view result }
+        ensures before { result.position ≤ position }
+        ensures last { (k : ℕ) → IsBoundary (view_units self.now.text.view) k → k ≤ position → k ≤ result.position }
+    {
+        laws::law_marks();
+        if self.text.is_ascii() {
+            return UnitMark {
+                position,
+                units: position,
+            };
+        }
+        let from = self.kept_mark_before(position);
+        self.text.view.mark_before(from, position)
+    }
+
+    /// The last kept mark at or before the byte `position`, or the start if there is none.
+    fn kept_mark_before(&self, position: usize) -> UnitMark
+        ensures mark { IsMarkOf self.now.text.view result }
+        ensures before { result.position ≤ position }
+
+        // A mark of this view at or before `position` has at most `SPACING` more units.
+        ensures close { length self.now.text.view.bytes.now ≢ length (view_units self.now.text.view) → self.now.is_incomplete ≡ false → (k n : ℕ) → IsMark self.now.text.view.bytes.now (view_units self.now.text.view) k n → k ≤ position → n ≤ result.units + SPACING + 1 }
+    {
+        laws::law_marks();
+        let mut low = 0;
+        let mut high = self.marks.len();
+        while low < high {
+            let middle = low + (high - low) / 2;
+            if self.marks[middle].position <= position {
+                low = middle + 1;
+            } else {
+                high = middle;
+            }
+        }
+        if low == 0 {
+            return self.text.view.start_mark();
+        }
+        self.marks[low - 1]
     }
 
     /// Returns the rest of the text after a mark at or before unit index `units`, and the offset of `units` in it. A text

@@ -1,11 +1,14 @@
 // Texts that are indexed by code units.
-ghost use Rattle.std.specs.Prelude.{◌≡◌, ◌↔◌, ◌≤◌, [], ◌∷◌, ◌++◌, length, take, drop, slice_get, None, IsNone, IsTrue, IfOk, IsOk, OnOk, OnErr};
+ghost use Rattle.std.specs.Prelude.{◌≡◌, ◌↔◌, ◌≤◌, ◌-◌, ℕ, List, [], ◌∷◌, ◌++◌, length, take, drop, slice_get, None, IsNone, IsTrue, IfOk, IsOk, OnOk, OnErr};
 ghost use Rattle.std.specs.Cmp.Lexicographic.{slice_cmp};
 ghost use Rattle.std.specs.Str.{chars};
 ghost use Rattle.std.specs.Ordering.{MatchOrdering, is_ge, is_gt, is_le, is_lt, nat_cmp};
 ghost use Rattle.wtf8.specs.Order.{Before};
+ghost use Rattle.wtf8.specs.Position.{IsFront};
 ghost use Rattle.wtf8.specs.Unicode.{units};
+ghost use Rattle.wtf8.specs.UnitPosition.{DividesPair};
 ghost use Rattle.wtf8.specs.View.{view_points, view_units};
+ghost use Rattle.unit_text.specs.Positions.{AreUnitsBefore};
 ghost use Rattle.unit_text.specs.Reading.{reading};
 
 use crate::marks::{self, CountedView, MarkedView, Marks};
@@ -125,6 +128,52 @@ impl<A: Allocator> UnitText<A> {
         ensures { result ≡ slice_get self.now i }
     {
         self.marked().unit_at(i)
+    }
+
+    /// The byte position in the view of the code point boundary before the code unit at index `i`, or of the end if `i`
+    /// is the length, which it must not exceed. If `i` splits a surrogate pair, that is the position of the pair. Counts
+    /// at most 129 units if marks are kept, else those before `i`.
+    pub fn position_at(&self, i: usize) -> usize
+        requires { i ≤ length self.now }
+        ensures whole { ¬ (DividesPair self.now i) → IsFront self.now result (take i self.now) }
+        ensures divided { DividesPair self.now i → IsFront self.now result (take (i - 1) self.now) }
+    {
+        let marked = self.marked();
+        let mark = marked.mark_at(i);
+        laws::law_mark(marked.text.view, mark);
+        mark.position
+    }
+
+    /// The number of code units before the last code point boundary of the view at or before the byte `position`; the
+    /// length if `position` is past the end. Counts at most 129 units if marks are kept, else those before it.
+    pub fn unit_before(&self, position: usize) -> usize
+        ensures before { AreUnitsBefore self.now position result }
+        ensures exact { (v : List ℕ) → IsFront self.now position v → result ≡ length v }
+    {
+        let marked = self.marked();
+        let mark = marked.mark_before(position.min(marked.text.view.len()));
+        laws::law_mark(marked.text.view, mark);
+        laws::law_positions();
+        mark.units
+    }
+
+    /// Shortens the text to `n` code units, which must be at most its length. If that splits a surrogate pair, its lead
+    /// stays as a lone surrogate. Does not allocate. Counts at most 129 units if marks are kept and `n` splits no pair,
+    /// else the `n` units.
+    pub fn truncate_units(&mut self, n: usize)
+        requires { n ≤ length self.old }
+        ensures { self.new ≡ take n self.old }
+    {
+        let view = CountedView::new(&self.text, self.count);
+        let mark = MarkedView::new(view, self.marks.as_ref()).mark_at(n);
+        slices::truncate_at(&mut self.text, mark, n);
+        self.count = n;
+        laws::law_marks();
+        laws::law_one_reading();
+        laws::law_one_form();
+        laws::law_concat();
+        let text = CountedView::new(&self.text, self.count);
+        marks::truncate_kept(text, &mut self.marks);
     }
 
     /// Copies the code units `begin..end` to a new text, allocated by `alloc`. `begin` must be at most `end`, and `end`

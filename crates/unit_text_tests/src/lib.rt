@@ -14,6 +14,8 @@ mod marks;
 #[cfg(test)]
 mod memory;
 #[cfg(test)]
+mod positions;
+#[cfg(test)]
 mod pushing;
 #[cfg(test)]
 mod shared;

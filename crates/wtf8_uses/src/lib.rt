@@ -9,6 +9,7 @@ pub mod file_names;
 pub mod interner;
 pub mod joining;
 pub mod json;
+pub mod line_columns;
 pub mod maps;
 pub mod paths;
 pub mod points;

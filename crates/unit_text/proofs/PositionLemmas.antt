@@ -1,0 +1,113 @@
+-- Marks of a text that became shorter, and the units before the position of a mark.
+use Rattle.std.proofs.Common.{◌≡◌, ◌≢◌, ℕ, ◌+◌, ◌-◌, ◌*◌, ◌/◌, ◌<◌, ◌≤◌, List, ◌++◌, length, take, drop, refl, sym, ap, ◌∙◌, subst, arith, length-append}
+use Rattle.std.proofs.Common.{Bool, false, Option, Some, None, IfSome, get_or}
+use Rattle.std.proofs.lemmas.List.{take-append-drop, take-append-le, drop-append-le, take_at, drop_at, length-take, length-take-le, get_or-take}
+use Rattle.std.proofs.lemmas.List.Elements.{All-drop}
+use Rattle.wtf8.specs.Concatenation.{MeetsAsPair}
+use Rattle.wtf8.specs.Form.{IsForm}
+use Rattle.wtf8.specs.Laws.{UnitsHaveOneForm, EqualFormsHaveEqualUnits, ReadingsAreOfUnits, OthersFormBoth}
+use Rattle.wtf8.specs.Position.{IsBoundary, IsFront}
+use Rattle.wtf8.specs.Unicode.{IsUnit, units}
+use Rattle.wtf8.specs.UnitMark.{IsMark, EqualCountsAreMarks, MarksDivideNoPair, MarksAreInOneOrder}
+use Rattle.wtf8.specs.UnitString.{UnitString}
+use Rattle.wtf8.specs.View.{view_units, view_form}
+use Rattle.wtf8.specs.declared.strings.view.Wtf8.{Wtf8}
+use Rattle.wtf8.specs.declared.strings.unit_marks.UnitMark.{UnitMark}
+use Rattle.unit_text.specs.Marks.{AreMarks, IsKept, spacing}
+
+-- the units before a boundary with `v` before it are `v`
+front_of_boundary : (u v : List ℕ) (k : ℕ) → IsBoundary u k → ((x : List ℕ) → IsFront u k x → x ≡ v) → IsFront u k v
+front_of_boundary u v k b same =
+    let front : IsFront u k (units b.front) = record { front = b.front; back = b.back; splits = b.splits; same_units = refl } in
+    subst (IsFront u k) (same (units b.front) front) front
+
+-- the units before a mark, also in another list that is the same
+pub front_of_mark : (u v : List ℕ) (k m n : ℕ) → u ≡ v → m ≡ n → IsBoundary u k → ((x : List ℕ) → IsFront u k x → x ≡ take m u) → IsFront v k (take n v)
+front_of_mark u v k m n e units b same = subst (λ w. IsFront w k (take n w)) e (subst (λ i. IsFront u k (take i u)) units (front_of_boundary u (take m u) k b same))
+
+-- if no mark is missing, a mark before the kept mark of index `low` has at most `(low + 1) * spacing` units
+pub units_before_next : MarksAreInOneOrder → (w u : List ℕ) (marks : List UnitMark) (is_incomplete : Bool) → IsForm w u → AreMarks w u marks is_incomplete → length w ≢ length u
+    → is_incomplete ≡ false → (low position : ℕ) (d : UnitMark) → low ≤ length marks → (low < length marks → position < (get_or marks low d).position)
+    → (k n : ℕ) → IsMark w u k n → k ≤ position → n ≤ (low + 1) * spacing
+units_before_next order w u marks is_incomplete f m not_ascii granted low position d within next k n mark l =
+    let before_next : low < length marks → n ≤ (low + 1) * spacing = λ h.
+    let own = m.kept low d h in
+    let other = get_or marks low d in
+    let after = next h in
+    let fewer = (order w u k other.position n other.units f mark own.is_mark).0 (omega (arith, after, l)) in
+    omega (arith, fewer, own.at_most) in
+    let last : (low + 1) * spacing < length u → low + 1 ≤ length marks = m.all granted not_ascii (low + 1) in
+    let all = mark.units_within in
+    grind (arith, before_next, last, all, within)
+
+module _ (equal : EqualCountsAreMarks) (no_pair : MarksDivideNoPair) (one : UnitsHaveOneForm) (same : EqualFormsHaveEqualUnits) (of_units : ReadingsAreOfUnits)
+    (others : OthersFormBoth) where
+  -- a mark at or before `n` units is a mark of the first `n` units
+  mark_of_front : (x w u : List ℕ) (k m n : ℕ) → IsForm x u → IsForm w (take n u) → m ≤ n → n ≤ length u → IsMark x u k m → IsMark w (take n u) k m
+  mark_of_front x w u k m n f g l within mark =
+      let long : length (take n u) ≡ n = length-take-le n u within in
+      let split = take-append-drop n u in
+      let front : take m u ≡ take m (take n u) = sym (ap (take m) split) ∙ take-append-le m (take n u) (drop n u) (omega (arith, long, l)) in
+      let after : drop m u ≡ drop m (take n u) ++ drop n u = sym (ap (drop m) split) ∙ drop-append-le m (take n u) (drop n u) (omega (arith, long, l)) in
+      let rest = drop m (take n u) in
+      let whole : take m u ++ rest ≡ take n u = ap (λ v. v ++ rest) front ∙ take-append-drop m (take n u) in
+      let back = one rest (All-drop IsUnit m (take n u) (of_units g.points (take n u) g.reads)) in
+      let apart : ¬ (MeetsAsPair (take m u) rest) = λ p. no_pair x u k m f mark (record {
+        front = p.front;
+        lead = p.lead;
+        trail = p.trail;
+        rest = p.rest ++ drop n u;
+        is_lead = p.is_lead;
+        is_trail = p.is_trail;
+        ends = p.ends;
+        begins = after ∙ ap (λ v. v ++ drop n u) p.begins;
+      }) in
+      let both = others (take k x) back.one (take m u) rest mark.before back.has apart in
+      let joined : w ≡ take k x ++ back.one = (same w (take k x ++ back.one) (take n u) (take m u ++ rest) g both).1 (sym whole) in
+      let front_len : length (take k x) ≡ k = length-take-le k x mark.position_within in
+      record {
+        position_within = omega (arith, ap length joined, length-append (take k x) back.one, front_len);
+        units_within = omega (arith, long, l);
+        before = subst (λ b. IsForm b (take m (take n u))) (sym (ap (take k) joined ∙ take_at (take k x) back.one k front_len)) (subst (IsForm (take k x)) front mark.before);
+        after = subst (λ b. IsForm b rest) (sym (ap (drop k) joined ∙ drop_at (take k x) back.one k front_len)) back.has;
+      }
+
+  -- the first units of a string with as many bytes as units have as many bytes as units
+  equal_counts_of_front : (x w u : List ℕ) (n : ℕ) → IsForm x u → IsForm w (take n u) → n ≤ length u → length x ≡ length u → length w ≡ length (take n u)
+  equal_counts_of_front x w u n f g within e =
+      let mark = equal x u n f e (omega (arith, e, within)) in
+      let front : w ≡ take n x = (same w (take n x) (take n u) (take n u) g mark.before).1 refl in
+      ap length front ∙ (length-take-le n x (omega (arith, e, within)) ∙ sym (length-take-le n u within))
+
+  -- the kept marks before the last unit of a text that became shorter are its marks
+  AreMarks-truncate : (old : UnitString) (new : Wtf8) (n : ℕ) → n ≤ length old.units → view_units new ≡ take n old.units → (marks : List UnitMark) (is_incomplete : Bool)
+      → AreMarks old.bytes old.units marks is_incomplete → AreMarks new.bytes.now (view_units new) (take ((n - 1) / spacing) marks) is_incomplete
+  AreMarks-truncate old new n within e marks is_incomplete m =
+      let count = (n - 1) / spacing in
+      let form : IsForm new.bytes.now (take n old.units) = subst (IsForm new.bytes.now) e (view_form new) in
+      let long : length (view_units new) ≡ n = ap length e ∙ length-take-le n old.units within in
+      record {
+        kept = λ k d l.
+            let fewer = length-take count marks in
+            let before : k < count = omega (arith, fewer, l) in
+            let own = m.kept k d (omega (arith, fewer, l)) in
+            let mark = get_or marks k d in
+            let units_before : mark.units < n = omega (arith, own.at_most, before) in
+            subst (IsKept new.bytes.now (view_units new) ((k + 1) * spacing)) (sym (get_or-take count marks k d before)) (record {
+              is_mark = subst (λ u. IsMark new.bytes.now u mark.position mark.units) (sym e)
+                  (mark_of_front old.bytes new.bytes.now old.units mark.position mark.units n old.form form (omega (arith, units_before)) within own.is_mark);
+              at_most = own.at_most;
+              at_least = own.at_least;
+              before_last = omega (arith, units_before, long);
+            });
+        all = λ granted not_ascii number l.
+            let old_not_ascii : length old.bytes ≢ length old.units = λ s. not_ascii (equal_counts_of_front old.bytes new.bytes.now old.units n old.form form within s ∙ sym (ap length e)) in
+            let enough = m.all granted old_not_ascii number (omega (arith, l, long, within)) in
+            omega (arith, length-take count marks, enough, l, long);
+      }
+
+  pub AreMarks-truncated : {X : Type 0} (kept : Option X) (items : X → List UnitMark) (is_incomplete : X → Bool) (old : UnitString) (new : Wtf8) (n : ℕ) → n ≤ length old.units
+      → view_units new ≡ take n old.units → IfSome kept (λ k. AreMarks old.bytes old.units (items k) (is_incomplete k))
+      → IfSome kept (λ k. AreMarks new.bytes.now (view_units new) (take ((n - 1) / spacing) (items k)) (is_incomplete k))
+  AreMarks-truncated None items is_incomplete old new n within e h = h
+  AreMarks-truncated (Some k) items is_incomplete old new n within e h = AreMarks-truncate old new n within e (items k) (is_incomplete k) h

@@ -1,0 +1,77 @@
+// Lines and columns of a string of four lines, the third empty, and byte positions.
+use std::alloc::{AllocError, Global};
+use wtf8::Wtf8;
+use wtf8_tests::wrong::{Wrong, expect, made};
+use wtf8_uses::line_columns::{LineColumns, line_column_at, lines_of, mark_at_column};
+
+/// In bytes 61 0A, F0 9F 92 A9 62 0A, 0A and C3 A9. The second line begins with a surrogate pair.
+const TEXT: &str = "a\n\u{1F4A9}b\n\n\u{E9}";
+
+/// A line, a column, and the byte position and the number of units there, if there is one.
+fn columns() -> [(usize, usize, Option<(usize, usize)>); 12] {
+    [
+        (0, 0, Some((0, 0))),
+        (0, 1, Some((1, 1))),
+        (1, 0, Some((2, 2))),
+        (1, 1, Some((2, 2))),
+        (1, 2, Some((6, 4))),
+        (1, 3, Some((7, 5))),
+        (2, 0, Some((8, 6))),
+        (3, 0, Some((9, 7))),
+        (3, 1, Some((11, 8))),
+        (3, 2, None),
+        (4, 0, None),
+        (0, usize::MAX, None),
+    ]
+}
+
+/// A byte position, and the line and the column there.
+const POSITIONS: [(usize, usize, usize); 10] = [
+    (0, 0, 0),
+    (1, 0, 1),
+    (2, 1, 0),
+    (5, 1, 0),
+    (6, 1, 2),
+    (7, 1, 3),
+    (8, 2, 0),
+    (9, 3, 0),
+    (10, 3, 0),
+    (11, 3, 1),
+];
+
+/// Whether each line and column has its position and number of units.
+fn has_columns(lines: &LineColumns<'_, Global>) -> bool {
+    for (line, column, expected) in columns() {
+        let mark = mark_at_column(lines, line, column);
+        if mark.map(|mark| (mark.position, mark.units)) != expected {
+            return false;
+        }
+    }
+    true
+}
+
+/// Whether each byte position has its line and column.
+fn has_positions(lines: &LineColumns<'_, Global>) -> bool {
+    for (position, line, column) in POSITIONS {
+        if lines.text.len() < position {
+            return false;
+        }
+        let found = line_column_at(lines, position);
+        if found.line != line || found.column != column {
+            return false;
+        }
+    }
+    true
+}
+
+/// Whether the lines of the text are as expected, both ways.
+fn is_mapped(alloc: Global) -> Result<bool, AllocError> {
+    let lines = lines_of(alloc, Wtf8::from_str(TEXT))?;
+    Ok(has_columns(&lines) && has_positions(&lines))
+}
+
+#[test]
+fn columns_count_units(rt: HostRuntime) -> Result<(), Wrong> {
+    let is_mapped = made(is_mapped(rt.alloc()))?;
+    expect(is_mapped, Wrong::Outcome)
+}
