@@ -1,5 +1,4 @@
 -- What a full string owns, as a box.
-use mathlib.Core.Bool.{Bool, true, false}
 use mathlib.Core.List.{[]}
 use mir.Syntax.{impl, tnil, dnil}
 use Rattle.std.proofs.BoxSteps.Form.{Bx}

@@ -1,2 +1,3 @@
-pub mod Steps
 pub mod Boxed
+pub mod Empty
+pub mod Steps

@@ -1,5 +1,6 @@
 -- What a string of C contains.
-use Rattle.std.specs.Prelude.{List, [], refl, if◌then◌else◌}
+use Rattle.std.specs.Prelude.{Option, None, Some, [], refl, if◌then◌else◌}
+use Rattle.std.specs.Global.{Box}
 use Rattle.std.proofs.Common.{le_refl}
 use Rattle.wtf8.specs.UnitString.{UnitString}
 use Rattle.wtf8_c.specs.declared.handle.Wtf8String.{Wtf8String}
@@ -17,3 +18,8 @@ no_string = record {
 -- The units, the bytes and the capacity of a string of C: those of its buffer, or none if it has no buffer.
 abbrev pub contents : Wtf8String → UnitString
 contents s = if s.full then s.string else no_string
+
+-- What a buffer contains, or nothing if there is none.
+abbrev pub buffer_contents : Option (Box UnitString) → UnitString
+buffer_contents None = no_string
+buffer_contents (Some b) = b.value

@@ -24,6 +24,15 @@ pub(crate) const NO_CODE_POINT: i32 = 5;
 /// The bytes are not UTF-8.
 pub(crate) const NO_UTF8: i32 = 6;
 
+/// The first of two strings comes before the second.
+pub(crate) const BEFORE: i32 = -1;
+
+/// Two strings are equal.
+pub(crate) const SAME: i32 = 0;
+
+/// The first of two strings comes after the second.
+pub(crate) const AFTER: i32 = 1;
+
 /// The code of a call that fails only if memory is refused.
 pub(crate) fn code_of(asked: Result<(), AllocError>) -> i32
     ensures done { result ≡ DONE ↔ IsOk asked }

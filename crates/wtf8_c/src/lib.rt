@@ -2,7 +2,11 @@
 #![tactic(auto)]
 
 mod appending;
+mod asking;
 mod codes;
+mod cutting;
 mod handle;
+mod making;
 mod opening;
 mod parts;
+mod units_out;

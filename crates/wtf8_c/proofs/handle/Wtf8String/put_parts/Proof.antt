@@ -1,11 +1,11 @@
 -- `put_parts` stores the pointer, and the handle owns what the parts owned.
-use Rattle.wtf8_c.proofs.Steps.{◌≡◌, List, [], ◌∷◌, ◌++◌, refl, sym, ap, subst, Bool, true, false, IsFalse, proved_at, full_share, ent, ftrue, fsep, flft, named, Val, vunit, vptr, vbool, fact, tables, ⋆, Item, ‵, raw, ◌⊛◌, ◌$◌, ◌∵◌, !, qed, by, done, move, keep, drop, split, join, fsplit, fsplit3, fjoin, fpack, feq_i, rewrite, suffices, frame, group, enter, of_opd, unit_lit, stop, fld, assigns, returns, alloc_all, pass_all, free_all, look_at, get, get_in, through, sets, true_lit, store_in, sub, whole, bool, yes, shows, cell_at, RawPtr, block_ptr, MutRef, mut_vals, mut_Tells, plain, type_at, nothing, opens, closes, heard, peeks, Stays, walk_of, says_two, stay_dropped, Goes-dropped, stay_ref, Goes-ref, ends_at, RattleType, Valss, within, shape, WpFn}
+use Rattle.wtf8_c.proofs.Steps.{◌≡◌, List, [], ◌∷◌, ◌++◌, refl, sym, subst, true, IsFalse, proved_at, full_share, ent, ftrue, fsep, flft, named, Val, vunit, vptr, vbool, fact, tables, ⋆, Item, ‵, raw, ◌⊛◌, ◌$◌, ◌∵◌, !, qed, by, done, move, keep, drop, split, join, fsplit, fsplit3, fjoin, fpack, feq_i, rewrite, suffices, frame, group, enter, of_opd, unit_lit, stop, fld, assigns, returns, alloc_all, pass_all, free_all, look_at, get, get_in, through, sets, true_lit, store_in, sub, whole, bool, yes, shows, cell_at, RawPtr, block_ptr, MutRef, mut_Tells, plain, nothing, opens, closes, heard, peeks, Stays, walk_of, says_two, stay_dropped, Goes-dropped, stay_ref, Goes-ref, ends_at, RattleType, Valss, within, shape, WpFn}
 use Rattle.std.proofs.BoxSteps.Form.{D, word, box_typed}
 use Rattle.std.proofs.BoxSteps.Steps.{box_out}
 use Rattle.std.specs.Box.Ownership.{box_owns}
 use Rattle.std.specs.contracts.alloc.Global as heap
 use Rattle.std.specs.contracts.impls.GlobalAllocator.TheImpl.{ghosts}
-use Rattle.wtf8_c.specs.Ownership.{Held, string_owns}
+use Rattle.wtf8_c.specs.Ownership.{Held}
 use Rattle.wtf8_c.proofs.Boxed.{E}
 use Rattle.wtf8_c.specs.contracts.parts.Parts as parts
 use Rattle.wtf8_c.specs.contracts.handle.Wtf8String.put_parts as f

@@ -1,5 +1,5 @@
 -- `take_parts` copies the pointer, and what the handle owned goes with it.
-use Rattle.wtf8_c.proofs.Steps.{◌≡◌, List, [], ◌∷◌, refl, sym, ap, ◌∙◌, Bool, true, false, IsTrue, proved, full_share, id⊢, never, fst∗, ftrue, flft, named, Val, vptr, vbool, fact, ‵, raw, ◌⊛◌, ◌$◌, ◌∵◌, !, qed, done, move, keep, drop, use1, split, split3, join, fsplit, fsplit3, fjoin, fpack, feq_i, rewrite, suffices, frame, group, enter, of_opd, load, stop, fld, no_more, and_then, assigns, returns, alloc_all, pass_all, free_all, look_at, get, through, sets, false_lit, store_in, look_in, sub, whole, agg, bool, yes, shows, cell_at, Ptr, RawPtr, block_ptr, null_ptr, in_a_block, MutRef, mut_vals, mut_Tells, plain, type_at, nothing, opens, closes, heard, peeks, Stays, walk_of, says_two, stay_dropped, Goes-dropped, stay_ref, Goes-ref, ends_at, RattleType, Valss, within, shape}
+use Rattle.wtf8_c.proofs.Steps.{List, [], ◌∷◌, refl, ap, ◌∙◌, Bool, false, IsTrue, proved, full_share, id⊢, never, fst∗, ftrue, flft, named, Val, vptr, vbool, fact, ‵, raw, ◌⊛◌, ◌$◌, ◌∵◌, !, qed, done, move, keep, drop, use1, split, split3, join, fsplit, fsplit3, fjoin, fpack, feq_i, rewrite, suffices, frame, group, enter, of_opd, load, stop, fld, no_more, and_then, assigns, returns, alloc_all, pass_all, free_all, look_at, get, through, sets, false_lit, store_in, look_in, sub, whole, agg, bool, yes, shows, cell_at, Ptr, RawPtr, block_ptr, null_ptr, in_a_block, MutRef, mut_vals, mut_Tells, plain, type_at, nothing, opens, closes, heard, peeks, Stays, walk_of, says_two, stay_dropped, Goes-dropped, stay_ref, Goes-ref, ends_at, RattleType, Valss, within, shape}
 use mir.Raw.{raw as bare}
 use denote.Memory.{lone}
 use types.Logic.{sem}
