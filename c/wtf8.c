@@ -35,9 +35,14 @@ PROVED(bool, is_utf8, wtf8_string *)
 PROVED(bool, equal, wtf8_string *, wtf8_string *)
 PROVED(int32_t, compare_units, wtf8_string *, wtf8_string *)
 PROVED(int32_t, compare_code_points, wtf8_string *, wtf8_string *)
+PROVED(uint64_t, hash, wtf8_string *)
+PROVED(int32_t, truncate, wtf8_string *, size_t)
 PROVED(int32_t, truncate_units, wtf8_string *, size_t)
 PROVED(int32_t, slice_units, wtf8_string *, size_t, size_t, wtf8_string *)
 PROVED(int32_t, copy_units, wtf8_string *, uint16_t *, size_t, size_t *)
+PROVED(int32_t, copy_slice, wtf8_string *, size_t, size_t, uint16_t *, size_t, size_t *)
+PROVED(int32_t, copy_utf8, wtf8_string *, uint8_t *, size_t, size_t *)
+PROVED(int32_t, copy_lossy, wtf8_string *, uint8_t *, size_t, size_t *)
 
 /* What an array of length 0 points to. Nothing is read or written there. */
 static uint16_t nothing[1];
@@ -123,6 +128,14 @@ int32_t wtf8_compare_code_points(wtf8_string *string, wtf8_string *other) {
     return string == other ? 0 : proved_compare_code_points(string, other);
 }
 
+uint64_t wtf8_hash(wtf8_string *string) {
+    return proved_hash(string);
+}
+
+int32_t wtf8_truncate(wtf8_string *string, size_t position) {
+    return proved_truncate(string, position);
+}
+
 int32_t wtf8_truncate_units(wtf8_string *string, size_t n) {
     return proved_truncate_units(string, n);
 }
@@ -140,4 +153,16 @@ int32_t wtf8_slice_units(wtf8_string *string, size_t begin, size_t end, wtf8_str
 
 int32_t wtf8_copy_units(wtf8_string *string, uint16_t *out, size_t size, size_t *len) {
     return proved_copy_units(string, size ? out : nothing, size, len);
+}
+
+int32_t wtf8_copy_slice(wtf8_string *string, size_t begin, size_t end, uint16_t *out, size_t size, size_t *len) {
+    return proved_copy_slice(string, begin, end, size ? out : nothing, size, len);
+}
+
+int32_t wtf8_copy_utf8(wtf8_string *string, uint8_t *out, size_t size, size_t *len) {
+    return proved_copy_utf8(string, size ? out : (uint8_t *)nothing, size, len);
+}
+
+int32_t wtf8_copy_lossy(wtf8_string *string, uint8_t *out, size_t size, size_t *len) {
+    return proved_copy_lossy(string, size ? out : (uint8_t *)nothing, size, len);
 }

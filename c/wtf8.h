@@ -113,10 +113,17 @@ bool wtf8_equal(wtf8_string *string, wtf8_string *other);
 int32_t wtf8_compare_units(wtf8_string *string, wtf8_string *other);
 int32_t wtf8_compare_code_points(wtf8_string *string, wtf8_string *other);
 
+/* A hash for tables: SipHash-1-3 under the key 0, which everybody knows, so it does not hold off strings that were
+ * chosen to collide. Equal strings have equal hashes. */
+uint64_t wtf8_hash(wtf8_string *string);
+
 /* ---- Cutting ---- */
 
 /* Shortens the string to `n` units. A pair that this divides leaves its lead. Codes: DONE, POSITION. */
 int32_t wtf8_truncate_units(wtf8_string *string, size_t n);
+
+/* Shortens the string to `position` bytes, a boundary. Codes: DONE, POSITION. */
+int32_t wtf8_truncate(wtf8_string *string, size_t position);
 
 /* Replaces `into` by the units of `string` from `begin` to before `end`. Codes: DONE, MEMORY, POSITION. */
 int32_t wtf8_slice_units(wtf8_string *string, size_t begin, size_t end, wtf8_string *into);
@@ -126,6 +133,15 @@ int32_t wtf8_slice_units(wtf8_string *string, size_t begin, size_t end, wtf8_str
 /* Writes all units at the front of `out`, which has room for `size`, and their number to `*len`. If the array is too
  * short, only the number is written. Codes: DONE, MEMORY, TOO_SHORT. */
 int32_t wtf8_copy_units(wtf8_string *string, uint16_t *out, size_t size, size_t *len);
+
+/* The same of the units from `begin` to before `end`. Codes: DONE, MEMORY, POSITION, TOO_SHORT. */
+int32_t wtf8_copy_slice(wtf8_string *string, size_t begin, size_t end, uint16_t *out, size_t size, size_t *len);
+
+/* The same of the text in UTF-8, `*len` in bytes, if there is no surrogate. Codes: DONE, SURROGATE, TOO_SHORT. */
+int32_t wtf8_copy_utf8(wtf8_string *string, uint8_t *out, size_t size, size_t *len);
+
+/* The same of the text with U+FFFD in place of each surrogate. Codes: DONE, MEMORY, TOO_SHORT. */
+int32_t wtf8_copy_lossy(wtf8_string *string, uint8_t *out, size_t size, size_t *len);
 
 #ifdef __cplusplus
 }

@@ -6,7 +6,7 @@
 #include <stdlib.h>
 #include <string.h>
 
-enum { STRINGS = 4, MOST = 400 };
+enum { STRINGS = 4, MOST = 400, KINDS = 26 };
 
 static long refuse_after = -1; /* the number of requests that are granted before one is refused; -1: all */
 static long requests;
@@ -252,6 +252,60 @@ static void step(int kind, struct pair *p, struct pair *q) {
             if (code == WTF8_DONE) { memmove(q->units, p->units + a, 2 * (b - a)); q->n = b - a; }
             break;
         }
+        case 20: {
+            size_t i = below(10) ? below((uint32_t)byte_len(p) + 3) : SIZE_MAX - below(3);
+            int at_boundary = is_boundary(p, i);
+            code = wtf8_truncate(&p->string, i);
+            must(code == (at_boundary ? WTF8_DONE : WTF8_POSITION), "truncate");
+            if (code == WTF8_DONE) {
+                uint8_t bytes[4];
+                size_t len_now = 0, taken = 0, k = 0;
+                for (; len_now < i; k += taken) len_now += encode(point_at(p, k, &taken), bytes);
+                p->n = k;
+            }
+            break;
+        }
+        case 21: {
+            int equal = compare_units(p, q) == 0;
+            must((wtf8_hash(&p->string) == wtf8_hash(&q->string)) == equal, "hash");
+            code = WTF8_DONE;
+            break;
+        }
+        case 22: {
+            uint16_t out[4 * MOST + 1];
+            size_t a = below((uint32_t)p->n + 2), b = below(10) ? below((uint32_t)p->n + 2) : SIZE_MAX;
+            size_t size = below((uint32_t)p->n + 3);
+            int in_range = a <= b && b <= p->n;
+            len = 77;
+            out[0] = 0x4321;
+            code = wtf8_copy_slice(&p->string, a, b, size ? out : NULL, size, &len);
+            must((code == WTF8_POSITION) == !in_range, "copy_slice, position");
+            must((code == WTF8_TOO_SHORT) == (in_range && size < b - a), "copy_slice, short");
+            must(code == WTF8_MEMORY || code == WTF8_POSITION ? len == 77 : len == b - a, "copy_slice, length");
+            if (code != WTF8_DONE || len == 0) must(out[0] == 0x4321, "copy_slice, array");
+            else must(memcmp(out, p->units + a, 2 * len) == 0, "copy_slice, units");
+            break;
+        }
+        case 23:
+        case 24: {
+            static uint8_t bytes[16 * MOST], out[16 * MOST + 1];
+            size_t needed = 0, taken = 0, size;
+            int lossy = kind == 24, has_surrogate = !is_utf8(p);
+            for (size_t i = 0; i < p->n; i += taken) {
+                uint32_t c = point_at(p, i, &taken);
+                needed += encode(c >= 0xD800 && c < 0xE000 ? 0xFFFD : c, bytes + needed);
+            }
+            size = below(2) ? needed : below((uint32_t)needed + 3);
+            len = 77;
+            out[0] = 0x21;
+            code = (lossy ? wtf8_copy_lossy : wtf8_copy_utf8)(&p->string, size ? out : NULL, size, &len);
+            if (!lossy) must((code == WTF8_SURROGATE) == has_surrogate, "copy_utf8, surrogate");
+            if (code != WTF8_SURROGATE && code != WTF8_MEMORY) must((code == WTF8_TOO_SHORT) == (size < needed), "copy_text, short");
+            must(code == WTF8_SURROGATE || code == WTF8_MEMORY ? len == 77 : len == needed, "copy_text, length");
+            if (code != WTF8_DONE || needed == 0) must(out[0] == 0x21, "copy_text, array");
+            else must(memcmp(out, bytes, needed) == 0, "copy_text, bytes");
+            break;
+        }
         default: {
             uint16_t out[4 * MOST + 1];
             size_t size = below((uint32_t)p->n + 3);
@@ -274,7 +328,7 @@ int main(int count, char **words) {
     long steps = count > 2 ? strtol(words[2], NULL, 10) : 20000;
     for (long i = 0; i < steps; i++) {
         struct pair *p = &pairs[below(STRINGS)], *q = &pairs[below(STRINGS)];
-        int kind = (int)below(21);
+        int kind = (int)below(KINDS);
         if (p->n + q->n > MOST) { wtf8_clear(&p->string); p->n = 0; }
         if (p->n + q->n > MOST) { wtf8_clear(&q->string); q->n = 0; }
         refuse_after = below(10) ? -1 : (long)below(4);
@@ -288,8 +342,9 @@ int main(int count, char **words) {
         {0, WTF8_MEMORY}, {1, WTF8_MEMORY}, {1, WTF8_NO_UTF8}, {2, WTF8_MEMORY}, {5, WTF8_MEMORY}, {6, WTF8_MEMORY},
         {7, WTF8_MEMORY}, {7, WTF8_NO_CODE_POINT}, {8, WTF8_MEMORY}, {9, WTF8_MEMORY}, {9, WTF8_NO_UTF8},
         {10, WTF8_MEMORY}, {12, WTF8_POSITION}, {18, WTF8_POSITION}, {19, WTF8_MEMORY}, {19, WTF8_POSITION},
-        {20, WTF8_MEMORY}, {20, WTF8_TOO_SHORT}};
-    for (int kind = 0; kind < 21; kind++) must(counts[kind][WTF8_DONE] > 0 || steps < 20000, "a call is never done");
+        {20, WTF8_POSITION}, {22, WTF8_MEMORY}, {22, WTF8_POSITION}, {22, WTF8_TOO_SHORT}, {23, WTF8_SURROGATE}, {23, WTF8_TOO_SHORT},
+        {24, WTF8_MEMORY}, {24, WTF8_TOO_SHORT}, {25, WTF8_MEMORY}, {25, WTF8_TOO_SHORT}};
+    for (int kind = 0; kind < KINDS; kind++) must(counts[kind][WTF8_DONE] > 0 || steps < 20000, "a call is never done");
     for (size_t i = 0; i < sizeof reached / sizeof reached[0]; i++)
         must(counts[reached[i][0]][reached[i][1]] > 0 || steps < 20000, "a code is never reached");
     printf("random: %ld steps, %ld requests, no difference\n", steps, requests);

@@ -6,12 +6,14 @@ ghost use Rattle.wtf8.specs.Order.{Before};
 ghost use Rattle.wtf8.specs.Position.{IsBoundary};
 ghost use Rattle.wtf8.specs.Surrogates.{AreScalar};
 ghost use Rattle.wtf8_c.specs.Contents.{contents};
+ghost use Rattle.wtf8_c.specs.Hashing.{hash_of};
 
 use crate::codes::{AFTER, BEFORE, DONE, POSITION, SAME};
 use crate::handle::Wtf8String;
 use crate::opening::view;
 use std::alloc::Global;
 use std::cmp::Ordering;
+use std::hash::{DefaultHasher, Hash, Hasher};
 use wtf8::Wtf8Buf;
 
 /// The number of units.
@@ -161,4 +163,18 @@ pub extern "C" fn wtf8_compare_code_points(
         Ordering::Equal => SAME,
         Ordering::Greater => AFTER,
     }
+}
+
+/// The hash of the string, for tables.
+#[unsafe(no_mangle)]
+pub extern "C" fn wtf8_hash(alloc: Global, string: &mut Wtf8String) -> u64
+    ensures hash { result ≡ hash_of (contents string.old).bytes }
+    ensures kept { contents string.new ≡ contents string.old }
+{
+    let held = string.take(alloc);
+    let none = Wtf8Buf::new(alloc);
+    let mut hasher = DefaultHasher::new();
+    view(&held, &none).hash(&mut hasher);
+    string.put_back(held);
+    hasher.finish()
 }

@@ -1,8 +1,9 @@
 // Calls that shorten a string, and that copy a part of one.
-ghost use Rattle.std.specs.Prelude.{◌≡◌, ◌++◌, ◌⊎◌, ◌<◌, ◌≤◌, ◌↔◌, IfOk, OnOk, length, take, drop};
+ghost use Rattle.std.specs.Prelude.{◌≡◌, [], ◌++◌, ◌⊎◌, ◌<◌, ◌≤◌, ◌↔◌, IfOk, OnOk, length, take, drop};
 ghost use Rattle.std.specs.Option.{option_to_list};
+ghost use Rattle.wtf8.specs.Position.{IsBoundary, IsFront};
 ghost use Rattle.wtf8.specs.UnitPosition.{units_of_slice};
-ghost use Rattle.wtf8_c.specs.Contents.{contents};
+ghost use Rattle.wtf8_c.specs.Contents.{contents, buffer_contents};
 
 use crate::codes::{DONE, MEMORY, POSITION};
 use crate::handle::Wtf8String;
@@ -33,6 +34,47 @@ pub extern "C" fn wtf8_truncate_units(alloc: Global, string: &mut Wtf8String, n:
         None => (),
     }
     DONE
+}
+
+/// Shortens the string to `position` bytes.
+#[unsafe(no_mangle)]
+pub extern "C" fn wtf8_truncate(alloc: Global, string: &mut Wtf8String, position: usize) -> i32
+    ensures code { (result ≡ DONE) ⊎ (result ≡ POSITION) }
+    ensures position { result ≡ POSITION ↔ ¬ (IsBoundary (contents string.old).units position) }
+    ensures done { result ≡ DONE → IsFront (contents string.old).units position (contents string.new).units }
+    ensures kept { result ≡ POSITION → contents string.new ≡ contents string.old }
+{
+    let held = string.take(alloc);
+    let none = Wtf8Buf::new(alloc);
+    if !view(&held, &none).is_code_point_boundary(position) {
+        string.put_back(held);
+        return POSITION;
+    }
+    string.put_back(truncated(held, none, position));
+    DONE
+}
+
+/// Shortens the buffer's string to `position` bytes, if there is a buffer, else the string `none`, which is empty.
+fn truncated(
+    held: Option<Box<Wtf8Buf<Global>, Global>>,
+    mut none: Wtf8Buf<Global>,
+    position: usize,
+) -> Option<Box<Wtf8Buf<Global>, Global>>
+    requires boundary { IsBoundary (buffer_contents held).units position }
+    requires units { none.units ≡ [] }
+    requires bytes { none.bytes ≡ [] }
+    ensures { IsFront (buffer_contents held).units position (buffer_contents result).units }
+{
+    match held {
+        Some(mut buf) => {
+            buf.truncate(position);
+            Some(buf)
+        }
+        None => {
+            none.truncate(position);
+            None
+        }
+    }
 }
 
 /// Replaces `into` by the units of `string` from index `begin` to before `end`.

@@ -113,7 +113,8 @@ pub(crate) fn replace(alloc: Global, string: &mut Wtf8String, made: Wtf8Buf<Glob
     let Ok(buf) = Box::new(alloc, made) else {
         return MEMORY;
     };
-    drop(string.take(alloc));
+    let replaced = string.take(alloc);
+    drop(replaced);
     string.put(buf);
     DONE
 }
