@@ -1,0 +1,352 @@
+/* Random calls against arrays of units, with an encoder of its own, and each request for memory refused in turn.
+ * Arguments: a seed and the number of steps. Linked with -Wl,--wrap=malloc,--wrap=realloc. */
+#include "../wtf8.h"
+
+#include <stdio.h>
+#include <stdlib.h>
+#include <string.h>
+
+enum { STRINGS = 4, MOST = 400, KINDS = 26 };
+
+static long refuse_after = -1; /* the number of requests that are granted before one is refused; -1: all */
+static long requests;
+
+void *__real_malloc(size_t size);
+void *__real_realloc(void *at, size_t size);
+
+static int refused(void) {
+    requests++;
+    if (refuse_after < 0) return 0;
+    if (refuse_after > 0) {
+        refuse_after--;
+        return 0;
+    }
+    return 1;
+}
+
+void *__wrap_malloc(size_t size) {
+    return refused() ? NULL : __real_malloc(size);
+}
+
+void *__wrap_realloc(void *at, size_t size) {
+    return refused() ? NULL : __real_realloc(at, size);
+}
+
+/* A string and the units that it must have. */
+struct pair {
+    wtf8_string string;
+    uint16_t units[4 * MOST];
+    size_t n;
+};
+
+static struct pair pairs[STRINGS];
+static uint64_t state;
+static long counts[40][7];
+
+static uint32_t below(uint32_t limit) {
+    state = state * 6364136223846793005u + 1442695040888963407u;
+    return (uint32_t)((state >> 33) % limit);
+}
+
+static uint16_t a_unit(void) {
+    switch (below(6)) {
+        case 0: return (uint16_t)(0xD800 + below(0x400));
+        case 1: return (uint16_t)(0xDC00 + below(0x400));
+        case 2: return (uint16_t)below(0x10000);
+        case 3: return (uint16_t)below(0x800);
+        default: return (uint16_t)below(0x80);
+    }
+}
+
+static int is_lead(uint16_t u) { return u >= 0xD800 && u < 0xDC00; }
+static int is_trail(uint16_t u) { return u >= 0xDC00 && u < 0xE000; }
+
+/* The code point at index `i`, and in `*taken` the number of its units. */
+static uint32_t point_at(const struct pair *p, size_t i, size_t *taken) {
+    uint16_t u = p->units[i];
+    if (is_lead(u) && i + 1 < p->n && is_trail(p->units[i + 1])) {
+        *taken = 2;
+        return 0x10000 + ((uint32_t)(u - 0xD800) << 10) + (uint32_t)(p->units[i + 1] - 0xDC00);
+    }
+    *taken = 1;
+    return u;
+}
+
+static size_t encode(uint32_t c, uint8_t *to) {
+    if (c < 0x80) { to[0] = (uint8_t)c; return 1; }
+    if (c < 0x800) { to[0] = (uint8_t)(0xC0 | c >> 6); to[1] = (uint8_t)(0x80 | (c & 63)); return 2; }
+    if (c < 0x10000) { to[0] = (uint8_t)(0xE0 | c >> 12); to[1] = (uint8_t)(0x80 | (c >> 6 & 63)); to[2] = (uint8_t)(0x80 | (c & 63)); return 3; }
+    to[0] = (uint8_t)(0xF0 | c >> 18); to[1] = (uint8_t)(0x80 | (c >> 12 & 63)); to[2] = (uint8_t)(0x80 | (c >> 6 & 63)); to[3] = (uint8_t)(0x80 | (c & 63));
+    return 4;
+}
+
+static size_t byte_len(const struct pair *p) {
+    uint8_t bytes[4];
+    size_t len = 0, taken = 0;
+    for (size_t i = 0; i < p->n; i += taken) len += encode(point_at(p, i, &taken), bytes);
+    return len;
+}
+
+static int is_boundary(const struct pair *p, size_t position) {
+    uint8_t bytes[4];
+    size_t len = 0, taken = 0;
+    for (size_t i = 0; i < p->n && len < position; i += taken) len += encode(point_at(p, i, &taken), bytes);
+    return len == position;
+}
+
+static int is_utf8(const struct pair *p) {
+    size_t taken = 0;
+    for (size_t i = 0; i < p->n; i += taken) {
+        uint32_t c = point_at(p, i, &taken);
+        if (c >= 0xD800 && c < 0xE000) return 0;
+    }
+    return 1;
+}
+
+static int compare_units(const struct pair *p, const struct pair *q) {
+    for (size_t i = 0; i < p->n && i < q->n; i++)
+        if (p->units[i] != q->units[i]) return p->units[i] < q->units[i] ? -1 : 1;
+    return p->n == q->n ? 0 : p->n < q->n ? -1 : 1;
+}
+
+static int compare_points(const struct pair *p, const struct pair *q) {
+    size_t i = 0, j = 0, one = 0, two = 0;
+    for (; i < p->n && j < q->n; i += one, j += two) {
+        uint32_t c = point_at(p, i, &one), d = point_at(q, j, &two);
+        if (c != d) return c < d ? -1 : 1;
+    }
+    return i < p->n ? 1 : j < q->n ? -1 : 0;
+}
+
+static void fail(const char *what) {
+    fprintf(stderr, "random: difference: %s\n", what);
+    exit(1);
+}
+
+static void must(int holds, const char *what) {
+    if (!holds) fail(what);
+}
+
+static void check(struct pair *p) {
+    static uint16_t out[4 * MOST + 2];
+    size_t len = 77;
+    long saved = refuse_after;
+    refuse_after = -1;
+    out[p->n] = 0x1234;
+    must(wtf8_copy_units(&p->string, out, p->n, &len) == WTF8_DONE, "copy");
+    must(len == p->n && out[p->n] == 0x1234, "length");
+    must(memcmp(out, p->units, 2 * p->n) == 0, "units");
+    must(wtf8_byte_len(&p->string) == byte_len(p), "bytes");
+    refuse_after = saved;
+}
+
+/* A text in UTF-8 of scalar values at `text`, and its units at `units`. */
+static size_t a_text(uint8_t *text, uint16_t *units, size_t *n) {
+    size_t len = 0;
+    *n = 0;
+    for (uint32_t k = below(20); k > 0; k--) {
+        uint32_t c = below(3) ? below(0x80) : below(2) ? below(0xD800) : 0x10000 + below(0x100000);
+        len += encode(c, text + len);
+        if (c >= 0x10000) {
+            units[(*n)++] = (uint16_t)(0xD800 + ((c - 0x10000) >> 10));
+            units[(*n)++] = (uint16_t)(0xDC00 + (c & 0x3FF));
+        } else {
+            units[(*n)++] = (uint16_t)c;
+        }
+    }
+    return len;
+}
+
+static void append(struct pair *p, const uint16_t *units, size_t n) {
+    memmove(p->units + p->n, units, 2 * n);
+    p->n += n;
+}
+
+static void step(int kind, struct pair *p, struct pair *q) {
+    uint16_t units[64], unit = 0xABCD;
+    uint8_t text[128];
+    size_t n = below(33), len;
+    int32_t code;
+    for (size_t i = 0; i < n; i++) units[i] = a_unit();
+    switch (kind) {
+        case 0:
+            code = wtf8_set_units(&p->string, n ? units : NULL, n);
+            if (code == WTF8_DONE) { p->n = 0; append(p, units, n); }
+            break;
+        case 1:
+            len = a_text(text, units, &n);
+            if (below(8) == 0) { text[len++] = 0xFF; }
+            code = wtf8_set_utf8(&p->string, len ? text : NULL, len);
+            must((code == WTF8_NO_UTF8) == (len > 0 && text[len - 1] == 0xFF), "set_utf8");
+            if (code == WTF8_DONE) { p->n = 0; append(p, units, n); }
+            break;
+        case 2:
+            code = wtf8_set_string(&p->string, &q->string);
+            if (code == WTF8_DONE && p != q) { p->n = 0; append(p, q->units, q->n); }
+            break;
+        case 3: wtf8_clear(&p->string); p->n = 0; code = WTF8_DONE; break;
+        case 4: wtf8_free(&p->string); if (below(2)) wtf8_free(&p->string); p->n = 0; code = WTF8_DONE; break;
+        case 5: code = wtf8_reserve(&p->string, below(50) ? below(300) : SIZE_MAX - below(9)); break;
+        case 6:
+            unit = a_unit();
+            code = wtf8_push_unit(&p->string, unit);
+            if (code == WTF8_DONE) append(p, &unit, 1);
+            break;
+        case 7: {
+            uint32_t c = below(4) ? below(0x120000) : a_unit();
+            code = wtf8_push_code_point(&p->string, c);
+            must((code == WTF8_NO_CODE_POINT) == (c > 0x10FFFF), "push_code_point");
+            if (code == WTF8_DONE && c >= 0x10000) {
+                units[0] = (uint16_t)(0xD800 + ((c - 0x10000) >> 10));
+                units[1] = (uint16_t)(0xDC00 + (c & 0x3FF));
+                append(p, units, 2);
+            } else if (code == WTF8_DONE) {
+                unit = (uint16_t)c;
+                append(p, &unit, 1);
+            }
+            break;
+        }
+        case 8:
+            code = wtf8_push_units(&p->string, n ? units : NULL, n);
+            if (code == WTF8_DONE) append(p, units, n);
+            break;
+        case 9:
+            len = a_text(text, units, &n);
+            if (below(8) == 0) { text[len++] = 0x80; }
+            code = wtf8_push_utf8(&p->string, len ? text : NULL, len);
+            if (code == WTF8_DONE) append(p, units, n);
+            break;
+        case 10:
+            code = wtf8_push_string(&p->string, &q->string);
+            if (code == WTF8_DONE) append(p, q->units, q->n);
+            break;
+        case 11: must(wtf8_unit_len(&p->string) == p->n, "unit_len"); code = WTF8_DONE; break;
+        case 12: {
+            size_t i = below(10) ? below((uint32_t)p->n + 2) : SIZE_MAX - below(3);
+            code = wtf8_unit_at(&p->string, i, &unit);
+            must(code == (i < p->n ? WTF8_DONE : WTF8_POSITION), "unit_at");
+            must(unit == (i < p->n ? p->units[i] : 0xABCD), "the unit");
+            break;
+        }
+        case 13: {
+            size_t i = below(10) ? below((uint32_t)byte_len(p) + 3) : SIZE_MAX - below(3);
+            must(wtf8_is_boundary(&p->string, i) == is_boundary(p, i), "is_boundary");
+            code = WTF8_DONE;
+            break;
+        }
+        case 14: must(wtf8_is_utf8(&p->string) == is_utf8(p), "is_utf8"); code = WTF8_DONE; break;
+        case 15: must(wtf8_equal(&p->string, &q->string) == (compare_units(p, q) == 0), "equal"); code = WTF8_DONE; break;
+        case 16: must(wtf8_compare_units(&p->string, &q->string) == compare_units(p, q), "compare_units"); code = WTF8_DONE; break;
+        case 17: must(wtf8_compare_code_points(&p->string, &q->string) == compare_points(p, q), "compare_code_points"); code = WTF8_DONE; break;
+        case 18: {
+            size_t i = below(10) ? below((uint32_t)p->n + 2) : SIZE_MAX - below(3);
+            code = wtf8_truncate_units(&p->string, i);
+            must(code == (i <= p->n ? WTF8_DONE : WTF8_POSITION), "truncate_units");
+            if (code == WTF8_DONE) p->n = i;
+            break;
+        }
+        case 19: {
+            size_t a = below((uint32_t)p->n + 2), b = below(10) ? below((uint32_t)p->n + 2) : SIZE_MAX;
+            code = wtf8_slice_units(&p->string, a, b, &q->string);
+            must((code == WTF8_POSITION) == !(a <= b && b <= p->n), "slice_units");
+            if (code == WTF8_DONE) { memmove(q->units, p->units + a, 2 * (b - a)); q->n = b - a; }
+            break;
+        }
+        case 20: {
+            size_t i = below(10) ? below((uint32_t)byte_len(p) + 3) : SIZE_MAX - below(3);
+            int at_boundary = is_boundary(p, i);
+            code = wtf8_truncate(&p->string, i);
+            must(code == (at_boundary ? WTF8_DONE : WTF8_POSITION), "truncate");
+            if (code == WTF8_DONE) {
+                uint8_t bytes[4];
+                size_t len_now = 0, taken = 0, k = 0;
+                for (; len_now < i; k += taken) len_now += encode(point_at(p, k, &taken), bytes);
+                p->n = k;
+            }
+            break;
+        }
+        case 21: {
+            int equal = compare_units(p, q) == 0;
+            must((wtf8_hash(&p->string) == wtf8_hash(&q->string)) == equal, "hash");
+            code = WTF8_DONE;
+            break;
+        }
+        case 22: {
+            uint16_t out[4 * MOST + 1];
+            size_t a = below((uint32_t)p->n + 2), b = below(10) ? below((uint32_t)p->n + 2) : SIZE_MAX;
+            size_t size = below((uint32_t)p->n + 3);
+            int in_range = a <= b && b <= p->n;
+            len = 77;
+            out[0] = 0x4321;
+            code = wtf8_copy_slice(&p->string, a, b, size ? out : NULL, size, &len);
+            must((code == WTF8_POSITION) == !in_range, "copy_slice, position");
+            must((code == WTF8_TOO_SHORT) == (in_range && size < b - a), "copy_slice, short");
+            must(code == WTF8_MEMORY || code == WTF8_POSITION ? len == 77 : len == b - a, "copy_slice, length");
+            if (code != WTF8_DONE || len == 0) must(out[0] == 0x4321, "copy_slice, array");
+            else must(memcmp(out, p->units + a, 2 * len) == 0, "copy_slice, units");
+            break;
+        }
+        case 23:
+        case 24: {
+            static uint8_t bytes[16 * MOST], out[16 * MOST + 1];
+            size_t needed = 0, taken = 0, size;
+            int lossy = kind == 24, has_surrogate = !is_utf8(p);
+            for (size_t i = 0; i < p->n; i += taken) {
+                uint32_t c = point_at(p, i, &taken);
+                needed += encode(c >= 0xD800 && c < 0xE000 ? 0xFFFD : c, bytes + needed);
+            }
+            size = below(2) ? needed : below((uint32_t)needed + 3);
+            len = 77;
+            out[0] = 0x21;
+            code = (lossy ? wtf8_copy_lossy : wtf8_copy_utf8)(&p->string, size ? out : NULL, size, &len);
+            if (!lossy) must((code == WTF8_SURROGATE) == has_surrogate, "copy_utf8, surrogate");
+            if (code != WTF8_SURROGATE && code != WTF8_MEMORY) must((code == WTF8_TOO_SHORT) == (size < needed), "copy_text, short");
+            must(code == WTF8_SURROGATE || code == WTF8_MEMORY ? len == 77 : len == needed, "copy_text, length");
+            if (code != WTF8_DONE || needed == 0) must(out[0] == 0x21, "copy_text, array");
+            else must(memcmp(out, bytes, needed) == 0, "copy_text, bytes");
+            break;
+        }
+        default: {
+            uint16_t out[4 * MOST + 1];
+            size_t size = below((uint32_t)p->n + 3);
+            len = 77;
+            out[0] = 0x4321;
+            code = wtf8_copy_units(&p->string, size ? out : NULL, size, &len);
+            must((code == WTF8_TOO_SHORT) == (size < p->n), "copy_units");
+            must(code == WTF8_MEMORY ? len == 77 : len == p->n, "copy_units, length");
+            if (code != WTF8_DONE || p->n == 0) must(out[0] == 0x4321, "copy_units, array");
+            else must(memcmp(out, p->units, 2 * p->n) == 0, "copy_units, units");
+            break;
+        }
+    }
+    must(code >= 0 && code < 7, "code");
+    counts[kind][code]++;
+}
+
+int main(int count, char **words) {
+    state = count > 1 ? strtoull(words[1], NULL, 10) : 1;
+    long steps = count > 2 ? strtol(words[2], NULL, 10) : 20000;
+    for (long i = 0; i < steps; i++) {
+        struct pair *p = &pairs[below(STRINGS)], *q = &pairs[below(STRINGS)];
+        int kind = (int)below(KINDS);
+        if (p->n + q->n > MOST) { wtf8_clear(&p->string); p->n = 0; }
+        if (p->n + q->n > MOST) { wtf8_clear(&q->string); q->n = 0; }
+        refuse_after = below(10) ? -1 : (long)below(4);
+        step(kind, p, q);
+        refuse_after = -1;
+        check(p);
+        check(q);
+    }
+    for (int i = 0; i < STRINGS; i++) wtf8_free(&pairs[i].string);
+    static const int reached[][2] = {
+        {0, WTF8_MEMORY}, {1, WTF8_MEMORY}, {1, WTF8_NO_UTF8}, {2, WTF8_MEMORY}, {5, WTF8_MEMORY}, {6, WTF8_MEMORY},
+        {7, WTF8_MEMORY}, {7, WTF8_NO_CODE_POINT}, {8, WTF8_MEMORY}, {9, WTF8_MEMORY}, {9, WTF8_NO_UTF8},
+        {10, WTF8_MEMORY}, {12, WTF8_POSITION}, {18, WTF8_POSITION}, {19, WTF8_MEMORY}, {19, WTF8_POSITION},
+        {20, WTF8_POSITION}, {22, WTF8_MEMORY}, {22, WTF8_POSITION}, {22, WTF8_TOO_SHORT}, {23, WTF8_SURROGATE}, {23, WTF8_TOO_SHORT},
+        {24, WTF8_MEMORY}, {24, WTF8_TOO_SHORT}, {25, WTF8_MEMORY}, {25, WTF8_TOO_SHORT}};
+    for (int kind = 0; kind < KINDS; kind++) must(counts[kind][WTF8_DONE] > 0 || steps < 20000, "a call is never done");
+    for (size_t i = 0; i < sizeof reached / sizeof reached[0]; i++)
+        must(counts[reached[i][0]][reached[i][1]] > 0 || steps < 20000, "a code is never reached");
+    printf("random: %ld steps, %ld requests, no difference\n", steps, requests);
+    return 0;
+}

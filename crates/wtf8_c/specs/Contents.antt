@@ -1,0 +1,25 @@
+-- What a string of C contains.
+use Rattle.std.specs.Prelude.{Option, None, Some, [], refl, if◌then◌else◌}
+use Rattle.std.specs.Global.{Box}
+use Rattle.std.proofs.Common.{le_refl}
+use Rattle.wtf8.specs.UnitString.{UnitString}
+use Rattle.wtf8_c.specs.declared.handle.Wtf8String.{Wtf8String}
+
+-- The string with no units, no bytes and no capacity.
+abbrev pub no_string : UnitString
+no_string = record {
+  units = [];
+  bytes = [];
+  form = record { points = []; reads = record { clean = tt; same_units = refl }; encoded = refl };
+  capacity = 0;
+  fits = le_refl 0;
+}
+
+-- The units, the bytes and the capacity of a string of C: those of its buffer, or none if it has no buffer.
+abbrev pub contents : Wtf8String → UnitString
+contents s = if s.full then s.string else no_string
+
+-- What a buffer contains, or nothing if there is none.
+abbrev pub buffer_contents : Option (Box UnitString) → UnitString
+buffer_contents None = no_string
+buffer_contents (Some b) = b.value

@@ -1,0 +1,4 @@
+pub mod Contents
+pub mod Front
+pub mod Hashing
+pub mod Ownership

@@ -1,0 +1,117 @@
+// Calls that append.
+ghost use Rattle.std.specs.Prelude.{◌≡◌, ◌++◌, ◌∷◌, [], ◌⊎◌, ◌↔◌, IsTrue, OnOk, OnErr};
+ghost use Rattle.std.specs.Str.{chars, IsUtf8};
+ghost use Rattle.wtf8.specs.Appending.{AppendsUnits, KeepsContents, HasRoomFor};
+ghost use Rattle.wtf8.specs.Unicode.{IsCodePoint, units, units_of};
+ghost use Rattle.wtf8_c.specs.Contents.{contents};
+
+use crate::codes::{DONE, MEMORY, NO_CODE_POINT, NO_UTF8, code_of};
+use crate::handle::Wtf8String;
+use crate::opening::view;
+use std::alloc::{AllocError, Global};
+use std::str;
+use wtf8::{CodePoint, Wtf8Buf};
+
+/// Appends a unit. A trail after a lead completes the pair.
+#[unsafe(no_mangle)]
+pub extern "C" fn wtf8_push_unit(alloc: Global, string: &mut Wtf8String, unit: u16) -> i32
+    ensures code { (result ≡ DONE) ⊎ (result ≡ MEMORY) }
+    ensures done { result ≡ DONE → AppendsUnits (contents string.old) (unit ∷ []) (contents string.new) }
+    ensures kept { result ≡ MEMORY → KeepsContents (contents string.old) (contents string.new) }
+    ensures room { IsTrue string.old.full → HasRoomFor (contents string.old) (units_of unit) → result ≡ DONE }
+{
+    let Ok(mut buf) = string.open(alloc) else {
+        return MEMORY;
+    };
+    let pushed = buf.push(CodePoint::from_u32_unchecked(u32::from(unit)));
+    string.put(buf);
+    code_of(pushed)
+}
+
+/// Appends a code point.
+#[unsafe(no_mangle)]
+pub extern "C" fn wtf8_push_code_point(alloc: Global, string: &mut Wtf8String, value: u32) -> i32
+    ensures code { (result ≡ DONE) ⊎ ((result ≡ MEMORY) ⊎ (result ≡ NO_CODE_POINT)) }
+    ensures no_code_point { result ≡ NO_CODE_POINT ↔ ¬ (IsCodePoint value) }
+    ensures done { result ≡ DONE → AppendsUnits (contents string.old) (units_of value) (contents string.new) }
+    ensures kept { ¬ (result ≡ DONE) → KeepsContents (contents string.old) (contents string.new) }
+    ensures room { IsTrue string.old.full → IsCodePoint value → HasRoomFor (contents string.old) (units_of value) → result ≡ DONE }
+{
+    let Some(point) = CodePoint::from_u32(value) else {
+        return NO_CODE_POINT;
+    };
+    let Ok(mut buf) = string.open(alloc) else {
+        return MEMORY;
+    };
+    let pushed = buf.push(point);
+    string.put(buf);
+    code_of(pushed)
+}
+
+/// Appends units.
+#[unsafe(no_mangle)]
+pub extern "C" fn wtf8_push_units(alloc: Global, string: &mut Wtf8String, units: &[u16]) -> i32
+    ensures code { (result ≡ DONE) ⊎ (result ≡ MEMORY) }
+    ensures done { result ≡ DONE → AppendsUnits (contents string.old) units.now (contents string.new) }
+    ensures kept { result ≡ MEMORY → KeepsContents (contents string.old) (contents string.new) }
+{
+    let Ok(mut buf) = string.open(alloc) else {
+        return MEMORY;
+    };
+    let pushed = push_units(alloc, &mut buf, units);
+    string.put(buf);
+    code_of(pushed)
+}
+
+/// Appends a text, which must be UTF-8.
+#[unsafe(no_mangle)]
+pub extern "C" fn wtf8_push_utf8(alloc: Global, string: &mut Wtf8String, text: &[u8]) -> i32
+    ensures code { (result ≡ DONE) ⊎ ((result ≡ MEMORY) ⊎ (result ≡ NO_UTF8)) }
+    ensures no_utf8 { result ≡ NO_UTF8 ↔ ¬ (IsUtf8 text.now) }
+    ensures done { result ≡ DONE → AppendsUnits (contents string.old) (units (chars text.now)) (contents string.new) }
+    ensures kept { ¬ (result ≡ DONE) → KeepsContents (contents string.old) (contents string.new) }
+    ensures room { IsTrue string.old.full → IsUtf8 text.now → HasRoomFor (contents string.old) (units (chars text.now)) → result ≡ DONE }
+{
+    let Ok(text) = str::from_utf8(text) else {
+        return NO_UTF8;
+    };
+    let Ok(mut buf) = string.open(alloc) else {
+        return MEMORY;
+    };
+    let pushed = buf.push_str(text);
+    string.put(buf);
+    code_of(pushed)
+}
+
+/// Appends another string.
+#[unsafe(no_mangle)]
+pub extern "C" fn wtf8_push_string(
+    alloc: Global,
+    string: &mut Wtf8String,
+    other: &mut Wtf8String,
+) -> i32
+    ensures code { (result ≡ DONE) ⊎ (result ≡ MEMORY) }
+    ensures done { result ≡ DONE → AppendsUnits (contents string.old) (contents other.old).units (contents string.new) }
+    ensures kept { result ≡ MEMORY → KeepsContents (contents string.old) (contents string.new) }
+    ensures other { contents other.new ≡ contents other.old }
+    ensures room { IsTrue string.old.full → HasRoomFor (contents string.old) (contents other.old).units → result ≡ DONE }
+{
+    let Ok(mut buf) = string.open(alloc) else {
+        return MEMORY;
+    };
+    let held = other.take(alloc);
+    let none = Wtf8Buf::new(alloc);
+    let pushed = buf.push_wtf8(view(&held, &none));
+    other.put_back(held);
+    string.put(buf);
+    code_of(pushed)
+}
+
+/// Appends units to a buffer.
+fn push_units(alloc: Global, buf: &mut Wtf8Buf<Global>, units: &[u16]) -> Result<(), AllocError>
+    ensures ok { OnOk result (AppendsUnits buf.old units.now buf.new) }
+    ensures kept { OnErr result (KeepsContents buf.old buf.new) }
+{
+    let back = Wtf8Buf::from_ill_formed_utf16(alloc, units)?;
+    buf.push_wtf8(back.as_wtf8())
+}

@@ -1,0 +1,180 @@
+// Calls that change nothing.
+ghost use Rattle.std.specs.Prelude.{◌≡◌, ◌⊎◌, ◌≤◌, ◌↔◌, List, ℕ, IsTrue, Some, length};
+ghost use Rattle.std.specs.List.{slice_get};
+ghost use Rattle.wtf8.specs.Form.{Reads};
+ghost use Rattle.wtf8.specs.Order.{Before};
+ghost use Rattle.wtf8.specs.Position.{IsBoundary};
+ghost use Rattle.wtf8.specs.Surrogates.{AreScalar};
+ghost use Rattle.wtf8_c.specs.Contents.{contents};
+ghost use Rattle.wtf8_c.specs.Hashing.{hash_of};
+
+use crate::codes::{AFTER, BEFORE, DONE, POSITION, SAME};
+use crate::handle::Wtf8String;
+use crate::opening::view;
+use std::alloc::Global;
+use std::cmp::Ordering;
+use std::hash::{DefaultHasher, Hash, Hasher};
+use wtf8::Wtf8Buf;
+
+/// The number of units.
+#[unsafe(no_mangle)]
+pub extern "C" fn wtf8_unit_len(alloc: Global, string: &mut Wtf8String) -> usize
+    ensures len { result ≡ length (contents string.old).units }
+    ensures kept { contents string.new ≡ contents string.old }
+{
+    let held = string.take(alloc);
+    let none = Wtf8Buf::new(alloc);
+    let len = view(&held, &none).unit_len();
+    string.put_back(held);
+    len
+}
+
+/// The length in bytes.
+#[unsafe(no_mangle)]
+pub extern "C" fn wtf8_byte_len(alloc: Global, string: &mut Wtf8String) -> usize
+    ensures len { result ≡ length (contents string.old).bytes }
+    ensures kept { contents string.new ≡ contents string.old }
+{
+    let held = string.take(alloc);
+    let none = Wtf8Buf::new(alloc);
+    let len = view(&held, &none).len();
+    string.put_back(held);
+    len
+}
+
+/// Writes the unit at an index to `unit`.
+#[unsafe(no_mangle)]
+pub extern "C" fn wtf8_unit_at(
+    alloc: Global,
+    string: &mut Wtf8String,
+    index: usize,
+    unit: &mut u16,
+) -> i32
+    ensures code { (result ≡ DONE) ⊎ (result ≡ POSITION) }
+    ensures position { result ≡ POSITION ↔ length (contents string.old).units ≤ index }
+    ensures done { result ≡ DONE → slice_get (contents string.old).units index ≡ Some unit.new }
+    ensures unit { result ≡ POSITION → unit.new ≡ unit.old }
+    ensures kept { contents string.new ≡ contents string.old }
+{
+    let held = string.take(alloc);
+    let none = Wtf8Buf::new(alloc);
+    let found = view(&held, &none).unit_at(index);
+    string.put_back(held);
+    match found {
+        Some(value) => {
+            *unit = value;
+            DONE
+        }
+        None => POSITION,
+    }
+}
+
+/// Whether a position in bytes is a boundary.
+#[unsafe(no_mangle)]
+pub extern "C" fn wtf8_is_boundary(alloc: Global, string: &mut Wtf8String, position: usize) -> bool
+    ensures boundary { IsTrue result ↔ IsBoundary (contents string.old).units position }
+    ensures kept { contents string.new ≡ contents string.old }
+{
+    let held = string.take(alloc);
+    let none = Wtf8Buf::new(alloc);
+    let is_boundary = view(&held, &none).is_code_point_boundary(position);
+    string.put_back(held);
+    is_boundary
+}
+
+/// Whether the string holds no surrogate, so that it is a text in UTF-8.
+#[unsafe(no_mangle)]
+pub extern "C" fn wtf8_is_utf8(alloc: Global, string: &mut Wtf8String) -> bool
+    ensures utf8 { IsTrue result ↔ ((c : List ℕ) → Reads c (contents string.old).units → AreScalar c) }
+    ensures kept { contents string.new ≡ contents string.old }
+{
+    let held = string.take(alloc);
+    let none = Wtf8Buf::new(alloc);
+    let is_utf8 = view(&held, &none).as_str().is_some();
+    string.put_back(held);
+    is_utf8
+}
+
+/// Whether two strings have the same units.
+#[unsafe(no_mangle)]
+pub extern "C" fn wtf8_equal(alloc: Global, string: &mut Wtf8String, other: &mut Wtf8String) -> bool
+    ensures equal { IsTrue result ↔ (contents string.old).units ≡ (contents other.old).units }
+    ensures kept { contents string.new ≡ contents string.old }
+    ensures other { contents other.new ≡ contents other.old }
+{
+    let held = string.take(alloc);
+    let others = other.take(alloc);
+    let none = Wtf8Buf::new(alloc);
+    let equal = view(&held, &none) == view(&others, &none);
+    string.put_back(held);
+    other.put_back(others);
+    equal
+}
+
+/// Compares two strings by their units.
+#[unsafe(no_mangle)]
+pub extern "C" fn wtf8_compare_units(
+    alloc: Global,
+    string: &mut Wtf8String,
+    other: &mut Wtf8String,
+) -> i32
+    ensures code { (result ≡ BEFORE) ⊎ ((result ≡ SAME) ⊎ (result ≡ AFTER)) }
+    ensures before { result ≡ BEFORE → Before (contents string.old).units (contents other.old).units }
+    ensures same { result ≡ SAME → (contents string.old).units ≡ (contents other.old).units }
+    ensures after { result ≡ AFTER → Before (contents other.old).units (contents string.old).units }
+    ensures kept { contents string.new ≡ contents string.old }
+    ensures other { contents other.new ≡ contents other.old }
+{
+    let held = string.take(alloc);
+    let others = other.take(alloc);
+    let none = Wtf8Buf::new(alloc);
+    let order = view(&held, &none).cmp_units(&view(&others, &none));
+    string.put_back(held);
+    other.put_back(others);
+    match order {
+        Ordering::Less => BEFORE,
+        Ordering::Equal => SAME,
+        Ordering::Greater => AFTER,
+    }
+}
+
+/// Compares two strings by their code points.
+#[unsafe(no_mangle)]
+pub extern "C" fn wtf8_compare_code_points(
+    alloc: Global,
+    string: &mut Wtf8String,
+    other: &mut Wtf8String,
+) -> i32
+    ensures code { (result ≡ BEFORE) ⊎ ((result ≡ SAME) ⊎ (result ≡ AFTER)) }
+    ensures before { result ≡ BEFORE → Before (contents string.old).form.points (contents other.old).form.points }
+    ensures same { result ≡ SAME → (contents string.old).form.points ≡ (contents other.old).form.points }
+    ensures after { result ≡ AFTER → Before (contents other.old).form.points (contents string.old).form.points }
+    ensures kept { contents string.new ≡ contents string.old }
+    ensures other { contents other.new ≡ contents other.old }
+{
+    let held = string.take(alloc);
+    let others = other.take(alloc);
+    let none = Wtf8Buf::new(alloc);
+    let order = view(&held, &none).cmp(&view(&others, &none));
+    string.put_back(held);
+    other.put_back(others);
+    match order {
+        Ordering::Less => BEFORE,
+        Ordering::Equal => SAME,
+        Ordering::Greater => AFTER,
+    }
+}
+
+/// The hash of the string, for tables.
+#[unsafe(no_mangle)]
+pub extern "C" fn wtf8_hash(alloc: Global, string: &mut Wtf8String) -> u64
+    ensures hash { result ≡ hash_of (contents string.old).bytes }
+    ensures kept { contents string.new ≡ contents string.old }
+{
+    let held = string.take(alloc);
+    let none = Wtf8Buf::new(alloc);
+    let mut hasher = DefaultHasher::new();
+    view(&held, &none).hash(&mut hasher);
+    string.put_back(held);
+    hasher.finish()
+}

@@ -1,0 +1,139 @@
+// Calls that shorten a string, and that copy a part of one.
+ghost use Rattle.std.specs.Prelude.{◌≡◌, [], ◌++◌, ◌⊎◌, ◌<◌, ◌≤◌, ◌↔◌, IfOk, OnOk, length, take, drop};
+ghost use Rattle.std.specs.Option.{option_to_list};
+ghost use Rattle.wtf8.specs.Position.{IsBoundary, IsFront};
+ghost use Rattle.wtf8.specs.UnitPosition.{units_of_slice};
+ghost use Rattle.wtf8_c.specs.Contents.{contents, buffer_contents};
+
+use crate::codes::{DONE, MEMORY, POSITION};
+use crate::handle::Wtf8String;
+use crate::making::replace;
+use crate::opening::view;
+use std::alloc::{AllocError, Global};
+use wtf8::{UnitSlice, Wtf8Buf};
+
+/// Shortens the string to `n` units.
+#[unsafe(no_mangle)]
+pub extern "C" fn wtf8_truncate_units(alloc: Global, string: &mut Wtf8String, n: usize) -> i32
+    ensures code { (result ≡ DONE) ⊎ (result ≡ POSITION) }
+    ensures position { result ≡ POSITION ↔ length (contents string.old).units < n }
+    ensures done { result ≡ DONE → (contents string.new).units ≡ take n (contents string.old).units }
+    ensures kept { result ≡ POSITION → contents string.new ≡ contents string.old }
+{
+    let held = string.take(alloc);
+    let none = Wtf8Buf::new(alloc);
+    if view(&held, &none).unit_len() < n {
+        string.put_back(held);
+        return POSITION;
+    }
+    match held {
+        Some(mut buf) => {
+            buf.truncate_units(n);
+            string.put(buf);
+        }
+        None => (),
+    }
+    DONE
+}
+
+/// Shortens the string to `position` bytes.
+#[unsafe(no_mangle)]
+pub extern "C" fn wtf8_truncate(alloc: Global, string: &mut Wtf8String, position: usize) -> i32
+    ensures code { (result ≡ DONE) ⊎ (result ≡ POSITION) }
+    ensures position { result ≡ POSITION ↔ ¬ (IsBoundary (contents string.old).units position) }
+    ensures done { result ≡ DONE → IsFront (contents string.old).units position (contents string.new).units }
+    ensures kept { result ≡ POSITION → contents string.new ≡ contents string.old }
+{
+    let held = string.take(alloc);
+    let none = Wtf8Buf::new(alloc);
+    if !view(&held, &none).is_code_point_boundary(position) {
+        string.put_back(held);
+        return POSITION;
+    }
+    string.put_back(truncated(held, none, position));
+    DONE
+}
+
+/// Shortens the buffer's string to `position` bytes, if there is a buffer, else the string `none`, which is empty.
+fn truncated(
+    held: Option<Box<Wtf8Buf<Global>, Global>>,
+    mut none: Wtf8Buf<Global>,
+    position: usize,
+) -> Option<Box<Wtf8Buf<Global>, Global>>
+    requires boundary { IsBoundary (buffer_contents held).units position }
+    requires units { none.units ≡ [] }
+    requires bytes { none.bytes ≡ [] }
+    ensures { IsFront (buffer_contents held).units position (buffer_contents result).units }
+{
+    match held {
+        Some(mut buf) => {
+            buf.truncate(position);
+            Some(buf)
+        }
+        None => {
+            none.truncate(position);
+            None
+        }
+    }
+}
+
+/// Replaces `into` by the units of `string` from index `begin` to before `end`.
+#[unsafe(no_mangle)]
+pub extern "C" fn wtf8_slice_units(
+    alloc: Global,
+    string: &mut Wtf8String,
+    begin: usize,
+    end: usize,
+    into: &mut Wtf8String,
+) -> i32
+    ensures code { (result ≡ DONE) ⊎ ((result ≡ MEMORY) ⊎ (result ≡ POSITION)) }
+    ensures position { result ≡ POSITION ↔ ¬ ((begin ≤ end) × (end ≤ length (contents string.old).units)) }
+    ensures done { result ≡ DONE → (contents into.new).units ≡ drop begin (take end (contents string.old).units) }
+    ensures kept { ¬ (result ≡ DONE) → contents into.new ≡ contents into.old }
+    ensures string { contents string.new ≡ contents string.old }
+{
+    let held = string.take(alloc);
+    let none = Wtf8Buf::new(alloc);
+    let text = view(&held, &none);
+    if end < begin || text.unit_len() < end {
+        string.put_back(held);
+        return POSITION;
+    }
+    let copied = copy_of_slice(alloc, text.slice_units(begin, end));
+    string.put_back(held);
+    match copied {
+        Ok(made) => replace(alloc, into, made),
+        Err(_) => MEMORY,
+    }
+}
+
+/// A copy of a slice.
+fn copy_of_slice(alloc: Global, slice: UnitSlice<'_>) -> Result<Wtf8Buf<Global>, AllocError>
+    ensures { IfOk result (λ b. b.units ≡ units_of_slice slice.entry) }
+{
+    let mut units = Vec::new(alloc);
+    append_slice(slice, &mut units)?;
+    Wtf8Buf::from_ill_formed_utf16(alloc, &units)
+}
+
+/// Appends the units of a slice.
+pub(crate) fn append_slice(
+    slice: UnitSlice<'_>,
+    units: &mut Vec<u16, Global>,
+) -> Result<(), AllocError>
+    ensures { OnOk result (units.new.items ≡ units.old.items ++ units_of_slice slice.entry) }
+{
+    append_half(slice.trail, units)?;
+    slice.whole.append_units(units)?;
+    append_half(slice.lead, units)
+}
+
+/// Appends half of a surrogate pair, if there is one.
+fn append_half(half: Option<u16>, units: &mut Vec<u16, Global>) -> Result<(), AllocError>
+    ensures { OnOk result (units.new.items ≡ units.old.items ++ option_to_list half) }
+{
+    match half {
+        Some(unit) => Ok(units.push(unit)?),
+        None => Ok(()),
+    }
+}

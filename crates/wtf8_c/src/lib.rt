@@ -1,0 +1,12 @@
+//! The strings of `wtf8` for programs in C: `c/wtf8.h` says what each call does.
+#![tactic(auto)]
+
+mod appending;
+mod asking;
+mod codes;
+mod cutting;
+mod handle;
+mod making;
+mod opening;
+mod parts;
+mod units_out;

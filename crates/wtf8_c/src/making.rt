@@ -1,0 +1,120 @@
+// Calls that make a string and let it go.
+ghost use Rattle.std.specs.Prelude.{◌≡◌, [], ◌+◌, ◌≤◌, ◌⊎◌, ◌↔◌, IsFalse, length};
+ghost use Rattle.std.specs.Str.{chars, IsUtf8};
+ghost use Rattle.wtf8.specs.Appending.{KeepsContents};
+ghost use Rattle.wtf8.specs.Unicode.{units};
+ghost use Rattle.wtf8_c.specs.Contents.{contents, no_string};
+
+use crate::codes::{DONE, MEMORY, NO_UTF8, code_of};
+use crate::handle::Wtf8String;
+use crate::opening::view;
+use std::alloc::Global;
+use std::str;
+use wtf8::Wtf8Buf;
+
+/// Replaces the units of the string.
+#[unsafe(no_mangle)]
+pub extern "C" fn wtf8_set_units(alloc: Global, string: &mut Wtf8String, units: &[u16]) -> i32
+    ensures code { (result ≡ DONE) ⊎ (result ≡ MEMORY) }
+    ensures done { result ≡ DONE → (contents string.new).units ≡ units.now }
+    ensures kept { result ≡ MEMORY → contents string.new ≡ contents string.old }
+{
+    match Wtf8Buf::from_ill_formed_utf16(alloc, units) {
+        Ok(made) => replace(alloc, string, made),
+        Err(_) => MEMORY,
+    }
+}
+
+/// Replaces the string by a text, which must be UTF-8.
+#[unsafe(no_mangle)]
+pub extern "C" fn wtf8_set_utf8(alloc: Global, string: &mut Wtf8String, text: &[u8]) -> i32
+    ensures code { (result ≡ DONE) ⊎ ((result ≡ MEMORY) ⊎ (result ≡ NO_UTF8)) }
+    ensures no_utf8 { result ≡ NO_UTF8 ↔ ¬ (IsUtf8 text.now) }
+    ensures done { result ≡ DONE → (contents string.new).units ≡ units (chars text.now) }
+    ensures kept { ¬ (result ≡ DONE) → contents string.new ≡ contents string.old }
+{
+    let Ok(text) = str::from_utf8(text) else {
+        return NO_UTF8;
+    };
+    match Wtf8Buf::from_str(alloc, text) {
+        Ok(made) => replace(alloc, string, made),
+        Err(_) => MEMORY,
+    }
+}
+
+/// Replaces the string by a copy of another one.
+#[unsafe(no_mangle)]
+pub extern "C" fn wtf8_set_string(
+    alloc: Global,
+    string: &mut Wtf8String,
+    other: &mut Wtf8String,
+) -> i32
+    ensures code { (result ≡ DONE) ⊎ (result ≡ MEMORY) }
+    ensures done { result ≡ DONE → (contents string.new).units ≡ (contents other.old).units }
+    ensures kept { result ≡ MEMORY → contents string.new ≡ contents string.old }
+    ensures other { contents other.new ≡ contents other.old }
+{
+    let held = other.take(alloc);
+    let none = Wtf8Buf::new(alloc);
+    let mut made = Wtf8Buf::new(alloc);
+    let copied = made.push_wtf8(view(&held, &none));
+    other.put_back(held);
+    match copied {
+        Ok(()) => replace(alloc, string, made),
+        Err(_) => MEMORY,
+    }
+}
+
+/// Empties the string and keeps its capacity.
+#[unsafe(no_mangle)]
+pub extern "C" fn wtf8_clear(alloc: Global, string: &mut Wtf8String)
+    ensures units { (contents string.new).units ≡ [] }
+    ensures capacity { (contents string.new).capacity ≡ (contents string.old).capacity }
+{
+    match string.take(alloc) {
+        Some(mut buf) => {
+            buf.clear();
+            string.put(buf);
+        }
+        None => (),
+    }
+}
+
+/// Frees what the string owns. It is the empty string then, and owns nothing.
+#[unsafe(no_mangle)]
+pub extern "C" fn wtf8_free(alloc: Global, string: &mut Wtf8String)
+    ensures contents { contents string.new ≡ no_string }
+    ensures owns { IsFalse string.new.full }
+{
+    drop(string.take(alloc));
+}
+
+/// Reserves capacity for at least `additional` more bytes.
+#[unsafe(no_mangle)]
+pub extern "C" fn wtf8_reserve(alloc: Global, string: &mut Wtf8String, additional: usize) -> i32
+    ensures code { (result ≡ DONE) ⊎ (result ≡ MEMORY) }
+    ensures done { result ≡ DONE → length (contents string.new).bytes + additional ≤ (contents string.new).capacity }
+    ensures kept { KeepsContents (contents string.old) (contents string.new) }
+{
+    let Ok(mut buf) = string.open(alloc) else {
+        return MEMORY;
+    };
+    let reserved = buf.reserve(additional);
+    string.put(buf);
+    code_of(reserved)
+}
+
+/// Replaces the string's buffer.
+pub(crate) fn replace(alloc: Global, string: &mut Wtf8String, made: Wtf8Buf<Global>) -> i32
+    ensures code { (result ≡ DONE) ⊎ (result ≡ MEMORY) }
+    ensures done { result ≡ DONE → contents string.new ≡ made }
+    ensures kept { result ≡ MEMORY → contents string.new ≡ contents string.old }
+{
+    let Ok(buf) = Box::new(alloc, made) else {
+        return MEMORY;
+    };
+    let replaced = string.take(alloc);
+    drop(replaced);
+    string.put(buf);
+    DONE
+}

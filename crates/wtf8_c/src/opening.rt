@@ -1,0 +1,75 @@
+// The buffer of a string, taken out for a call and put back.
+ghost use Rattle.std.specs.Prelude.{◌≡◌, [], ◌≤◌, IsTrue, IsFalse, IsOk, IfOk, OnOk, OnErr};
+ghost use Rattle.wtf8.specs.View.{view_points, view_units};
+ghost use Rattle.wtf8_c.specs.Contents.{contents, buffer_contents};
+
+use crate::handle::Wtf8String;
+use crate::parts::Parts;
+use std::alloc::{AllocError, Global};
+use wtf8::{Wtf8, Wtf8Buf};
+
+impl Wtf8String {
+    /// Takes the buffer out, if there is one.
+    pub(crate) fn take(&mut self, alloc: Global) -> Option<Box<Wtf8Buf<Global>, Global>>
+        ensures contents { buffer_contents result ≡ contents self.old }
+        ensures empty { IsFalse self.new.full }
+    {
+        if self.is_full() {
+            Some(self.take_parts(alloc).into_box())
+        } else {
+            None
+        }
+    }
+
+    /// Puts back what `take` returned.
+    pub(crate) fn put_back(&mut self, held: Option<Box<Wtf8Buf<Global>, Global>>)
+        requires { IsFalse self.old.full }
+        ensures { contents self.new ≡ buffer_contents held }
+    {
+        match held {
+            Some(buf) => self.put(buf),
+            None => (),
+        }
+    }
+
+    /// Takes the buffer out, or makes one if there is none.
+    pub(crate) fn open(&mut self, alloc: Global) -> Result<Box<Wtf8Buf<Global>, Global>, AllocError>
+        ensures units { IfOk result (λ b. b.value.units ≡ (contents self.old).units) }
+        ensures bytes { IfOk result (λ b. b.value.bytes ≡ (contents self.old).bytes) }
+        ensures held { IsTrue self.old.full → IfOk result (λ b. b.value ≡ contents self.old) }
+        ensures full { IsTrue self.old.full → IsOk result }
+        ensures empty { OnOk result (IsFalse self.new.full) }
+        ensures kept { OnErr result (contents self.new ≡ contents self.old) }
+    {
+        if self.is_full() {
+            return Ok(self.take_parts(alloc).into_box());
+        }
+        Ok(Box::new(alloc, Wtf8Buf::new(alloc))?)
+    }
+
+    /// Puts a buffer into a string that has none.
+    pub(crate) fn put(&mut self, buf: Box<Wtf8Buf<Global>, Global>)
+        requires { IsFalse self.old.full }
+        ensures contents { contents self.new ≡ buf.value }
+        ensures full { IsTrue self.new.full }
+    {
+        self.put_parts(Parts::of(buf))
+    }
+}
+
+/// A view of the buffer's string, or of `none`, which is empty, if there is no buffer.
+pub(crate) fn view<'a>(
+    held: &'a Option<Box<Wtf8Buf<Global>, Global>>,
+    none: &'a Wtf8Buf<Global>,
+) -> Wtf8<'a>
+    requires units { none.now.units ≡ [] }
+    requires bytes { none.now.bytes ≡ [] }
+    ensures units { view_units result ≡ (buffer_contents held.now).units }
+    ensures points { view_points result ≡ (buffer_contents held.now).form.points }
+    ensures bytes { result.bytes.now ≡ (buffer_contents held.now).bytes }
+{
+    match held {
+        Some(buf) => buf.as_wtf8(),
+        None => none.as_wtf8(),
+    }
+}

@@ -1,0 +1,165 @@
+// Calls that copy units and texts out.
+ghost use Rattle.std.specs.Prelude.{◌≡◌, ◌⊎◌, ◌+◌, ◌<◌, ◌≤◌, ◌↔◌, length, take, drop};
+ghost use Rattle.wtf8.specs.Form.{bytes};
+ghost use Rattle.wtf8.specs.Surrogates.{AreScalar, lossy_points};
+ghost use Rattle.wtf8_c.specs.Contents.{contents};
+ghost use Rattle.wtf8_c.specs.Front.{with_front};
+
+use crate::codes::{DONE, MEMORY, POSITION, SURROGATE, TOO_SHORT};
+use crate::cutting::append_slice;
+use crate::handle::Wtf8String;
+use crate::opening::view;
+use std::alloc::Global;
+use wtf8::Wtf8Buf;
+
+/// Writes all units at the front of `out`, and their number to `len`.
+#[unsafe(no_mangle)]
+pub extern "C" fn wtf8_copy_units(
+    alloc: Global,
+    string: &mut Wtf8String,
+    out: &mut [u16],
+    len: &mut usize,
+) -> i32
+    ensures code { (result ≡ DONE) ⊎ ((result ≡ MEMORY) ⊎ (result ≡ TOO_SHORT)) }
+    ensures short { result ≡ TOO_SHORT ↔ length out.old < length (contents string.old).units }
+    ensures done { result ≡ DONE → out.new ≡ with_front (contents string.old).units out.old }
+    ensures out { ¬ (result ≡ DONE) → out.new ≡ out.old }
+    ensures len { ¬ (result ≡ MEMORY) → len.new ≡ length (contents string.old).units }
+    ensures len_kept { result ≡ MEMORY → len.new ≡ len.old }
+    ensures kept { contents string.new ≡ contents string.old }
+{
+    let held = string.take(alloc);
+    let none = Wtf8Buf::new(alloc);
+    let text = view(&held, &none);
+    let needed = text.unit_len();
+    let mut units = Vec::new(alloc);
+    let code = if out.len() < needed {
+        TOO_SHORT
+    } else {
+        match text.append_units(&mut units) {
+            Ok(()) => DONE,
+            Err(_) => MEMORY,
+        }
+    };
+    string.put_back(held);
+    if code == MEMORY {
+        return MEMORY;
+    }
+    *len = needed;
+    if code == DONE {
+        out[..needed].copy_from_slice(&units);
+    }
+    code
+}
+
+/// Writes the units from index `begin` to before `end` at the front of `out`, and their number to `len`.
+#[unsafe(no_mangle)]
+pub extern "C" fn wtf8_copy_slice(
+    alloc: Global,
+    string: &mut Wtf8String,
+    begin: usize,
+    end: usize,
+    out: &mut [u16],
+    len: &mut usize,
+) -> i32
+    ensures code { (result ≡ DONE) ⊎ ((result ≡ MEMORY) ⊎ ((result ≡ POSITION) ⊎ (result ≡ TOO_SHORT))) }
+    ensures position { result ≡ POSITION ↔ ¬ ((begin ≤ end) × (end ≤ length (contents string.old).units)) }
+    ensures short { result ≡ TOO_SHORT ↔ (begin ≤ end) × (end ≤ length (contents string.old).units) × (begin + length out.old < end) }
+    ensures done { result ≡ DONE → out.new ≡ with_front (drop begin (take end (contents string.old).units)) out.old }
+    ensures out { ¬ (result ≡ DONE) → out.new ≡ out.old }
+    ensures len { (result ≡ DONE) ⊎ (result ≡ TOO_SHORT) → begin + len.new ≡ end }
+    ensures len_kept { (result ≡ MEMORY) ⊎ (result ≡ POSITION) → len.new ≡ len.old }
+    ensures kept { contents string.new ≡ contents string.old }
+{
+    let held = string.take(alloc);
+    let none = Wtf8Buf::new(alloc);
+    let text = view(&held, &none);
+    if end < begin || text.unit_len() < end {
+        string.put_back(held);
+        return POSITION;
+    }
+    let needed = end - begin;
+    if out.len() < needed {
+        string.put_back(held);
+        *len = needed;
+        return TOO_SHORT;
+    }
+    let mut units = Vec::new(alloc);
+    let copied = append_slice(text.slice_units(begin, end), &mut units);
+    string.put_back(held);
+    if copied.is_err() {
+        return MEMORY;
+    }
+    *len = needed;
+    out[..needed].copy_from_slice(&units);
+    DONE
+}
+
+/// Writes the text at the front of `out` in UTF-8, and its length in bytes to `len`, if the string holds no surrogate.
+#[unsafe(no_mangle)]
+pub extern "C" fn wtf8_copy_utf8(
+    alloc: Global,
+    string: &mut Wtf8String,
+    out: &mut [u8],
+    len: &mut usize,
+) -> i32
+    ensures code { (result ≡ DONE) ⊎ ((result ≡ SURROGATE) ⊎ (result ≡ TOO_SHORT)) }
+    ensures surrogate { result ≡ SURROGATE ↔ ¬ (AreScalar (contents string.old).form.points) }
+    ensures short { result ≡ TOO_SHORT → length out.old < length (contents string.old).bytes }
+    ensures done { result ≡ DONE → out.new ≡ with_front (contents string.old).bytes out.old }
+    ensures out { ¬ (result ≡ DONE) → out.new ≡ out.old }
+    ensures len { ¬ (result ≡ SURROGATE) → len.new ≡ length (contents string.old).bytes }
+    ensures len_kept { result ≡ SURROGATE → len.new ≡ len.old }
+    ensures kept { contents string.new ≡ contents string.old }
+{
+    let held = string.take(alloc);
+    let none = Wtf8Buf::new(alloc);
+    let code = match view(&held, &none).as_str() {
+        Some(text) => write_text(text.as_bytes(), out, len),
+        None => SURROGATE,
+    };
+    string.put_back(held);
+    code
+}
+
+/// Writes the text with U+FFFD in place of each surrogate at the front of `out`, and its length in bytes to `len`.
+#[unsafe(no_mangle)]
+pub extern "C" fn wtf8_copy_lossy(
+    alloc: Global,
+    string: &mut Wtf8String,
+    out: &mut [u8],
+    len: &mut usize,
+) -> i32
+    ensures code { (result ≡ DONE) ⊎ ((result ≡ MEMORY) ⊎ (result ≡ TOO_SHORT)) }
+    ensures short { result ≡ TOO_SHORT → length out.old < length (contents string.old).bytes }
+    ensures done { result ≡ DONE → out.new ≡ with_front (bytes (lossy_points (contents string.old).form.points)) out.old }
+    ensures out { ¬ (result ≡ DONE) → out.new ≡ out.old }
+    ensures len { ¬ (result ≡ MEMORY) → len.new ≡ length (contents string.old).bytes }
+    ensures len_kept { result ≡ MEMORY → len.new ≡ len.old }
+    ensures kept { contents string.new ≡ contents string.old }
+{
+    let held = string.take(alloc);
+    let none = Wtf8Buf::new(alloc);
+    let code = match view(&held, &none).to_string_lossy(alloc) {
+        Ok(text) => write_text(text.as_str().as_bytes(), out, len),
+        Err(_) => MEMORY,
+    };
+    string.put_back(held);
+    code
+}
+
+/// Writes a text at the front of `out` if it fits, and its length in any case.
+fn write_text(text: &[u8], out: &mut [u8], len: &mut usize) -> i32
+    ensures code { (result ≡ DONE) ⊎ (result ≡ TOO_SHORT) }
+    ensures short { result ≡ TOO_SHORT ↔ length out.old < length text.now }
+    ensures done { result ≡ DONE → out.new ≡ with_front text.now out.old }
+    ensures out { result ≡ TOO_SHORT → out.new ≡ out.old }
+    ensures len { len.new ≡ length text.now }
+{
+    *len = text.len();
+    if out.len() < text.len() {
+        return TOO_SHORT;
+    }
+    out[..text.len()].copy_from_slice(text);
+    DONE
+}
