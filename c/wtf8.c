@@ -2,6 +2,16 @@
  * library is loaded, gives an array of length 0 an address, and passes no string twice to one call. */
 #include "wtf8.h"
 
+/* The version of x86-64 that the processor has; tests name one by WTF8_LEVEL. */
+static int level(void) {
+#ifdef WTF8_LEVEL
+    return WTF8_LEVEL;
+#else
+    __builtin_cpu_init();
+    return __builtin_cpu_supports("x86-64-v3") ? 3 : __builtin_cpu_supports("x86-64-v2") ? 2 : 1;
+#endif
+}
+
 /* Declares a proved call's three builds, and `proved_NAME`, which is one of them. */
 #define PROVED(result, name, ...)                                                                  \
     result wtf8_##name##_v1(__VA_ARGS__);                                                          \
@@ -9,10 +19,8 @@
     result wtf8_##name##_v3(__VA_ARGS__);                                                          \
     typedef result kind_##name(__VA_ARGS__);                                                       \
     static kind_##name *pick_##name(void) {                                                        \
-        __builtin_cpu_init();                                                                      \
-        if (__builtin_cpu_supports("x86-64-v3")) return wtf8_##name##_v3;                          \
-        if (__builtin_cpu_supports("x86-64-v2")) return wtf8_##name##_v2;                          \
-        return wtf8_##name##_v1;                                                                   \
+        int v = level();                                                                           \
+        return v == 3 ? wtf8_##name##_v3 : v == 2 ? wtf8_##name##_v2 : wtf8_##name##_v1;            \
     }                                                                                              \
     static result proved_##name(__VA_ARGS__) __attribute__((ifunc("pick_" #name)));
 

@@ -10,9 +10,11 @@
  * - A string is made by WTF8_EMPTY or by setting all its bytes to 0, and freed by wtf8_free. Its fields are not read or
  *   written, and it is not copied, neither by assignment nor by memcpy: wtf8_set_string copies. It may be moved if the
  *   old place is not used again.
- * - One call at a time uses a string, calls that only ask included. Other threads may use other strings meanwhile.
+ * - One call at a time uses a string, calls that only ask included. Other threads may use other strings meanwhile. A
+ *   string may go to another thread if a lock, a thread's start or a join orders that.
  * - No call comes from a signal handler, or from the forked child of a process with threads.
- * - malloc, realloc and free of the program come from one allocator.
+ * - malloc, realloc and free of the program come from one allocator, which aligns a block to each power of two up to 16
+ *   that divides its size.
  *
  * One string may be passed twice to one call, as to append it to itself.
  */

@@ -56,3 +56,5 @@ impl Wtf8String {
         self.full = true;
     }
 }
+
+unsafe impl Send for Wtf8String {}

@@ -105,7 +105,7 @@ pub extern "C" fn wtf8_copy_utf8(
 ) -> i32
     ensures code { (result ≡ DONE) ⊎ ((result ≡ SURROGATE) ⊎ (result ≡ TOO_SHORT)) }
     ensures surrogate { result ≡ SURROGATE ↔ ¬ (AreScalar (contents string.old).form.points) }
-    ensures short { result ≡ TOO_SHORT → length out.old < length (contents string.old).bytes }
+    ensures short { result ≡ TOO_SHORT ↔ AreScalar (contents string.old).form.points × (length out.old < length (contents string.old).bytes) }
     ensures done { result ≡ DONE → out.new ≡ with_front (contents string.old).bytes out.old }
     ensures out { ¬ (result ≡ DONE) → out.new ≡ out.old }
     ensures len { ¬ (result ≡ SURROGATE) → len.new ≡ length (contents string.old).bytes }
