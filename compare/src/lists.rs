@@ -1,12 +1,12 @@
 //! The lists of scripts that `differ` always runs, by name.
 
 use crate::script::Call;
-use crate::{blocks, building, examples, generate, long, pairs, pushed};
+use crate::{blocks, building, examples, generate, long, marked, pairs, pushed};
 
 /// The name of a list, and the function that makes its scripts.
 pub type List = (&'static str, fn() -> Vec<Vec<Call>>);
 
-pub const LISTS: [List; 28] = [
+pub const LISTS: [List; 30] = [
     ("worked examples", examples::all),
     ("code points at edges", generate::edge_calls),
     ("pairs", pairs::pairs),
@@ -44,6 +44,8 @@ pub const LISTS: [List; 28] = [
     ("far positions", blocks::far),
     ("pushed after each length", pushed::after_each_length),
     ("six thousand units", pushed::far),
+    ("marks of up to four units", marked::up_to_four_units),
+    ("marks about blocks", marked::about_blocks),
 ];
 
 fn up_to_four_units() -> Vec<Vec<Call>> {

@@ -18,6 +18,8 @@ mod hexadecimal;
 mod hints;
 #[cfg(test)]
 mod long_texts;
+#[cfg(test)]
+mod marks;
 pub mod sinks;
 #[cfg(test)]
 mod unit_cuts;
