@@ -26,10 +26,10 @@ fn units_of_bytes(base: &[u16], bytes: usize) -> Vec<u16> {
 }
 
 /// Returns the script of calls on the string of these units.
-type Script = fn(&[u16]) -> Vec<Call>;
+pub type Script = fn(&[u16]) -> Vec<Call>;
 
 /// A script for each base and each length about the ends of blocks.
-fn about_blocks(script: Script) -> Vec<Vec<Call>> {
+pub fn about_blocks(script: Script) -> Vec<Vec<Call>> {
     let lens = |base: &'static [u16]| ABOUT_BLOCKS.map(|bytes| units_of_bytes(base, bytes));
     let strings = BASES.into_iter().flat_map(lens);
     strings.map(|units| script(&units)).collect()

@@ -1,7 +1,7 @@
 //! Random scripts, and scripts for the exhaustive lists.
 
 use crate::random::Random;
-use crate::script::{Build, Call, Kind, Opcode, Operand, Step, CALLS, UNBOUNDED};
+use crate::script::{Build, Call, Kind, Opcode, Operand, Step, CALLS, RANDOM_CALLS, UNBOUNDED};
 
 /// Code points, among them the ends of each encoded length, and two numbers above U+10FFFF.
 pub const EDGES: [u32; 32] = [
@@ -78,7 +78,7 @@ pub fn script(random: &mut Random) -> Vec<Call> {
 fn call(random: &mut Random) -> Call {
     // More than half of the calls on average make or change strings, so that the others have something to read.
     let index = match random.below(2) {
-        0 => random.below(CALLS.len() as u64) as usize,
+        0 => random.below(RANDOM_CALLS as u64) as usize,
         _ => random.between(Opcode::FromString as u32, Opcode::SliceTo as u32) as usize,
     };
     let (opcode, kinds) = CALLS[index];

@@ -1,12 +1,12 @@
 //! The lists of scripts that `differ` always runs, by name.
 
 use crate::script::Call;
-use crate::{blocks, building, examples, generate, long, pairs, pushed, worked};
+use crate::{blocks, building, examples, generate, long, marked, pairs, pushed, worked};
 
 /// The name of a list, and the function that makes its scripts.
 pub type List = (&'static str, fn() -> Vec<Vec<Call>>);
 
-pub const LISTS: [List; 30] = [
+pub const LISTS: [List; 32] = [
     ("worked examples", worked::scripts),
     ("examples", examples::all),
     ("code points at edges", generate::edge_calls),
@@ -46,6 +46,8 @@ pub const LISTS: [List; 30] = [
     ("far positions", blocks::far),
     ("pushed after each length", pushed::after_each_length),
     ("six thousand units", pushed::far),
+    ("marks of up to four units", marked::up_to_four_units),
+    ("marks about blocks", marked::about_blocks),
 ];
 
 fn up_to_four_units() -> Vec<Vec<Call>> {

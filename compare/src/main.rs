@@ -17,6 +17,7 @@ mod generate;
 mod inputs;
 mod lists;
 mod long;
+mod marked;
 mod model;
 mod original;
 mod ours;

@@ -10,6 +10,7 @@ use wtf8::{CodePoint, IllFormedUtf16CodeUnits, Wtf8, Wtf8Buf, Wtf8CodePoints};
 use crate::fed::fed_by;
 use crate::script::{Build, Opcode, Step, UNBOUNDED};
 
+mod marks;
 mod together;
 
 /// What the original crate returned for a script.
@@ -270,6 +271,8 @@ impl Machine {
             Opcode::AppendUnits => self.append_units(reader),
             // The crate has no `shrink_to_fit`, which leaves the string's bytes unchanged.
             Opcode::ShrinkToFit => self.show(reader.register()),
+            Opcode::Marks => self.marks(reader),
+            Opcode::Left => self.left(reader),
         }
     }
 

@@ -76,13 +76,15 @@ pub enum Opcode {
     CmpUnits = 43,
     AppendUnits = 44,
     ShrinkToFit = 45,
+    Marks = 46,
+    Left = 47,
 }
 
 /// The first opcode of a call on texts. `javascript/text_calls.js` makes these calls.
 pub const FIRST_OF_TEXTS: u8 = 64;
 
 /// The calls on strings with the kinds of their operands, in the order of the opcodes.
-pub const CALLS: [(Opcode, &[Kind]); 46] = [
+pub const CALLS: [(Opcode, &[Kind]); 48] = [
     (Opcode::New, &[Register]),
     (Opcode::WithCapacity, &[Register, Number]),
     (Opcode::FromString, &[Register, Text]),
@@ -135,7 +137,12 @@ pub const CALLS: [(Opcode, &[Kind]); 46] = [
     (Opcode::CmpUnits, &[Register, Register]),
     (Opcode::AppendUnits, &[Register, Units]),
     (Opcode::ShrinkToFit, &[Register]),
+    (Opcode::Marks, &[Register]),
+    (Opcode::Left, &[Register]),
 ];
+
+/// The number of calls, the first ones, among which random scripts choose. Only lists make the others.
+pub const RANDOM_CALLS: usize = 46;
 
 // The index of a call in `CALLS` is its opcode.
 const _: () = {

@@ -166,6 +166,11 @@ pub enum Read {
     CmpUnits,
     /// Units: `append_units` to them.
     AppendUnits,
+    /// `mark_before` of each position, counted from the start and from a mark in the middle, and `mark_at` of each
+    /// number of units.
+    Marks,
+    /// `as_wtf8` of both iterators after each step, and `encoded_len` of each code point.
+    Left,
 }
 
 /// A call on the texts.
@@ -313,6 +318,8 @@ impl StringCall {
             42 => StringCall::Read(Read::SliceUnits),
             43 => StringCall::Read(Read::CmpUnits),
             44 => StringCall::Read(Read::AppendUnits),
+            46 => StringCall::Read(Read::Marks),
+            47 => StringCall::Read(Read::Left),
             _ => StringCall::Change(Change::from_opcode(opcode)?),
         };
         Some(call)

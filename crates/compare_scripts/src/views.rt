@@ -9,7 +9,7 @@ use crate::stop::{Stop, allocated};
 use crate::tape::{NONE, Tape};
 use std::alloc::Global;
 use std::borrow::CowStr;
-use wtf8::{CodePoint, UnitSlice, Wtf8, Wtf8Buf};
+use wtf8::{CodePoint, UnitMark, UnitSlice, Wtf8, Wtf8Buf};
 
 impl Machine {
     /// Runs a call that reads a string, and writes what it returns.
@@ -29,6 +29,8 @@ impl Machine {
             Read::SliceUnits => write_unit_slice(tape, view),
             Read::CmpUnits => self.compare_units(at, tape),
             Read::AppendUnits => write_appended_units(tape, view),
+            Read::Marks => write_marks(tape, view),
+            Read::Left => write_left(tape, view),
         }
     }
 
@@ -228,6 +230,74 @@ fn write_all_units(tape: &mut Tape<'_>, units: &[u16]) -> Result<(), Stop> {
         tape.write_item(Some(*unit), NONE)?;
     }
     tape.write_line("")
+}
+
+/// Writes the marks at or before each position, and the mark of each number of units.
+fn write_marks(tape: &mut Tape<'_>, view: Wtf8<'_>) -> Result<(), Stop> {
+    write_marks_by_position(tape, view)?;
+    write_marks_by_units(tape, view)
+}
+
+/// `mark_before` of each position, from the start, and from the mark at or before half of the position.
+fn write_marks_by_position(tape: &mut Tape<'_>, view: Wtf8<'_>) -> Result<(), Stop> {
+    tape.write_word("marks before")?;
+    for position in 0..=view.len() {
+        let middle = view.mark_before(view.start_mark(), position / 2);
+        write_mark(tape, view.mark_before(view.start_mark(), position))?;
+        write_mark(tape, view.mark_before(middle, position))?;
+    }
+    tape.write_line("")
+}
+
+/// `mark_at` of each number of units.
+fn write_marks_by_units(tape: &mut Tape<'_>, view: Wtf8<'_>) -> Result<(), Stop> {
+    tape.write_word("marks at")?;
+    for units in 0..=view.unit_len() {
+        write_mark(tape, view.mark_at(view.start_mark(), units))?;
+    }
+    tape.write_line("")
+}
+
+/// Writes the position and the number of units of a mark.
+fn write_mark(tape: &mut Tape<'_>, mark: UnitMark) -> Result<(), Stop> {
+    write!(tape, " {}:{}", mark.position, mark.units)
+}
+
+/// Writes what both iterators have left after each step.
+fn write_left(tape: &mut Tape<'_>, view: Wtf8<'_>) -> Result<(), Stop> {
+    write_points_left(tape, view)?;
+    write_units_left(tape, view)
+}
+
+/// `as_wtf8` of the iterator over code points: the bytes left, before each code point its encoded length.
+fn write_points_left(tape: &mut Tape<'_>, view: Wtf8<'_>) -> Result<(), Stop> {
+    tape.write_word("points left")?;
+    let mut points = view.code_points();
+    write_bytes(tape, points.as_wtf8())?;
+    while let Some(point) = points.next() {
+        write!(tape, " {}", point.encoded_len())?;
+        write_bytes(tape, points.as_wtf8())?;
+    }
+    tape.write_line("")
+}
+
+/// `as_wtf8` of the iterator over units: the bytes left, or that a trail is held.
+fn write_units_left(tape: &mut Tape<'_>, view: Wtf8<'_>) -> Result<(), Stop> {
+    tape.write_word("units left")?;
+    let mut units = view.to_ill_formed_utf16();
+    write_view_left(tape, units.as_wtf8())?;
+    while units.next().is_some() {
+        write_view_left(tape, units.as_wtf8())?;
+    }
+    tape.write_line("")
+}
+
+/// Writes the bytes of a view in parentheses, or that there is none.
+fn write_view_left(tape: &mut Tape<'_>, view: Option<Wtf8<'_>>) -> Result<(), Stop> {
+    match view {
+        Some(view) => write_bytes(tape, view),
+        None => write!(tape, " {NONE}"),
+    }
 }
 
 /// Writes what the calls of `CodePoint` return for a value: its number, texts, characters and hash input.

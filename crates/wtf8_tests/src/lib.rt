@@ -19,6 +19,8 @@ mod hints;
 #[cfg(test)]
 mod long_texts;
 #[cfg(test)]
+mod marks;
+#[cfg(test)]
 mod ordering;
 pub mod sinks;
 #[cfg(test)]

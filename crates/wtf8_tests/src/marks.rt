@@ -1,0 +1,105 @@
+// Marks by positions and by units, and what iterators have left.
+use crate::examples::TEXT;
+use crate::wrong::{Wrong, expect, expect_bytes};
+use std::alloc::Global;
+use wtf8::{CodePoint, Wtf8};
+
+/// For each byte position of `TEXT` the last boundary at or before it, and the number of units before that.
+fn marks() -> [(usize, usize); 9] {
+    [
+        (0, 0),
+        (1, 1),
+        (1, 1),
+        (3, 2),
+        (4, 3),
+        (4, 3),
+        (4, 3),
+        (4, 3),
+        (8, 5),
+    ]
+}
+
+/// Whether the mark before a position, counted from the start or from another mark, is that of the row, and is found
+/// again by its number of units.
+fn is_marked(text: Wtf8<'_>, position: usize, row: (usize, usize)) -> bool {
+    if text.len() < position {
+        return false;
+    }
+    let middle = text.mark_before(text.start_mark(), position / 2);
+    let mark = text.mark_before(middle, position);
+    let again = text.mark_at(text.start_mark(), mark.units);
+    (mark.position, mark.units) == row && again.position == mark.position
+}
+
+/// Fails unless each position of `TEXT` has the mark of its row.
+fn expect_marks(text: Wtf8<'_>) -> Result<(), Wrong> {
+    for (position, row) in marks().iter().enumerate() {
+        expect(is_marked(text, position, *row), Wrong::Outcome)?;
+    }
+    Ok(())
+}
+
+#[test]
+fn each_position_is_at_or_after_a_mark(rt: HostRuntime) {
+    assert!(rt; expect_marks(Wtf8::from_str(TEXT)).is_ok());
+}
+
+/// Fails unless the view of an iterator has the bytes of `dump`, or there is none where `dump` is `None`.
+fn expect_left(alloc: Global, left: Option<Wtf8<'_>>, dump: Option<&str>) -> Result<(), Wrong> {
+    match (left, dump) {
+        (None, None) => Ok(()),
+        (Some(left), Some(dump)) => expect_bytes(alloc, left, dump),
+        _ => Err(Wrong::Outcome),
+    }
+}
+
+/// Fails unless both iterators have left what is after the code points, or the units, that they returned.
+fn expect_all_left(alloc: Global, text: Wtf8<'_>) -> Result<(), Wrong> {
+    let mut points = text.code_points();
+    points.next();
+    points.next();
+    expect_bytes(alloc, points.as_wtf8(), "20 F0 9F 92 A9")?;
+    let mut units = text.to_ill_formed_utf16();
+    for dump in [
+        Some("61 C3 A9 20 F0 9F 92 A9"),
+        Some("C3 A9 20 F0 9F 92 A9"),
+        Some("20 F0 9F 92 A9"),
+        Some("F0 9F 92 A9"),
+        None,
+        Some(""),
+    ] {
+        expect_left(alloc, units.as_wtf8(), dump)?;
+        units.next();
+    }
+    Ok(())
+}
+
+#[test]
+fn iterators_show_what_they_have_left(rt: HostRuntime) -> Result<(), Wrong> {
+    expect_all_left(rt.alloc(), Wtf8::from_str(TEXT))
+}
+
+/// Whether a number is that of a code point of this encoded length.
+fn has_len(number: u32, len: usize) -> bool {
+    match CodePoint::from_u32(number) {
+        Some(point) => point.encoded_len() == len,
+        None => false,
+    }
+}
+
+#[test]
+fn encoded_lengths_are_those_of_table_3_6(rt: HostRuntime) {
+    for (number, len) in [
+        (0x00, 1),
+        (0x7F, 1),
+        (0x80, 2),
+        (0x7FF, 2),
+        (0x800, 3),
+        (0xD800, 3),
+        (0xFFFF, 3),
+        (0x10000, 4),
+        (0x10FFFF, 4),
+    ] {
+        assert!(rt; has_len(number, len), "{number}");
+    }
+}
