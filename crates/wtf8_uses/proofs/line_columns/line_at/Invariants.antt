@@ -1,4 +1,4 @@
-use Rattle.std.proofs.Common.{◌≡◌, ◌-◌, ◌≤◌, ◌<◌, length}
+use Rattle.std.proofs.Common.{◌-◌, ◌≤◌, ◌<◌, length}
 use Rattle.wtf8_uses.specs.LineColumns.{line_position}
 use Rattle.wtf8_uses.proofs.line_columns.line_at.Given as goal
 

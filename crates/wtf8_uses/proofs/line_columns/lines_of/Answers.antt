@@ -1,4 +1,4 @@
-use Rattle.std.proofs.Common.{◌≡◌, ◌≢◌, ◌+◌, ◌++◌, [], ◌∷◌, map, sym, ap, ◌∙◌, subst, arith}
+use Rattle.std.proofs.Common.{◌≡◌, ◌≢◌, ◌+◌, ◌++◌, map, sym, ap, ◌∙◌, subst, arith}
 use Rattle.wtf8.specs.Units.{unread_units}
 use Rattle.wtf8.specs.View.{view_units}
 use Rattle.wtf8_uses.specs.LineColumns.{AreMarksOf, StartsAtFront, line_starts, mark_units, starts_after}
