@@ -9,3 +9,4 @@ pub mod ConvertedPrefix
 pub mod PackedUnits
 pub mod EncodedRuns
 pub mod UnitIterator
+pub mod ShortEncodings

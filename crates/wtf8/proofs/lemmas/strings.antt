@@ -5,3 +5,4 @@ pub mod Surrogates
 pub mod UnitCuts
 pub mod UnitMarks
 pub mod ToUtf16
+pub mod ShortEncodings
