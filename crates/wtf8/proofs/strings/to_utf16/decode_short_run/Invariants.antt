@@ -1,0 +1,13 @@
+use Rattle.wtf8.proofs.Common.{◌<◌, ◌≤◌, length, view_units, Writes}
+use Rattle.wtf8.proofs.strings.to_utf16.decode_short_run.Given as goal
+
+-- the units written so far, followed by the units of the bytes left, are all units
+abbrev pub invariant-loop-block : goal.invariant-loop-block
+invariant-loop-block l = record {
+  written : Writes l.fn.units l.left.at (view_units l.left.view) l.units l.rest.at (view_units l.rest.view);
+  not_longer : length l.rest.view.bytes.now ≤ length l.left.view.bytes.now;
+  few : l.two_byte_blocks < 3;
+}
+
+abbrev pub decreases-loop-block : goal.decreases-loop-block
+decreases-loop-block l = length l.rest.view.bytes.now
