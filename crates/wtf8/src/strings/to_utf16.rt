@@ -248,7 +248,7 @@ impl EncodedLength<8, 2, 16> for TwoBytes {
         if after.view.len() < left.view.len() {
             return after;
         }
-        decode_point(units, after)
+        decode_point(units, left)
     }
 }
 

@@ -3,16 +3,14 @@ use Rattle.wtf8.proofs.Common.{◌≡◌, ℕ, zero, suc, ◌+◌, ◌*◌, ◌/
 use Rattle.wtf8.proofs.Common.{cond, ltb, leb, eqb, top, mask_l, sel_l, refl, sym, ap, ◌∙◌, arith, subst, cases_lt, cases_Bool, inl, inr, lt-ltb, le-ltb, le-leb, eqb-true, IsTrue, Fits, w8, nat_eq, pointwise, and_parts}
 use Rattle.wtf8.proofs.Common.{pick_l_whole, mask_l-mod, tops_compared, length-map, swz_l, take-take, get_or_append_left, get_or-append-add, get_or-zip2}
 use Rattle.std.proofs.lemmas.List.{take-map, get_or-map}
-use Rattle.wtf8.proofs.Common.{IsWellFormed, encoding, units, ◌⊎◌, append_assoc}
+use Rattle.wtf8.proofs.Common.{IsWellFormed, encoding, units, ◌⊎◌}
 use Rattle.wtf8.proofs.lemmas.codec.Readings.{first_of, IsWellFormed-equal_bytes, units-cons_one}
 use Rattle.wtf8.proofs.lemmas.codec.Encoding.{encoding_cases, one, two, three, four}
 use Rattle.wtf8.proofs.lemmas.strings.ToUtf16.{UnitsThenRest}
 use lib.Lanes.{pick_l, all_below}
 use Rattle.std.specs.Cmp.Lexicographic.{same_text}
 use Rattle.std.proofs.lemmas.List.Recursion.{and_at}
-use Rattle.std.proofs.lemmas.Simd.{zip2_splat_left, ones-mask_l_cons}
-use Rattle.std.specs.Int.RustNames.{count_ones}
-use Rattle.wtf8.specs.private.EncodedRuns.{BeginsWithUnits}
+use Rattle.std.proofs.lemmas.Simd.{zip2_splat_left}
 use Rattle.wtf8.proofs.lemmas.from_utf16.ShuffleTable.{rows_below, Each1-all_below}
 use Rattle.wtf8.proofs.lemmas.from_utf16.Kernel.{swz_l-below_16}
 use Rattle.wtf8.specs.private.ShortEncodings.{is_last_byte, lead_bits, ending_unit, ending_units, unit_lanes, whole_bytes, true_indexes, IsPackingRow}
@@ -280,48 +278,3 @@ halves w ends long e =
       within = omega (arith, e, bit 0, bit 1, bit 2, bit 3, bit 4, bit 5, bit 6, bit 7, bit 8, bit 9, bit 10, bit 11, bit 12, bit 13, bit 14, bit 15);
       whole = omega (arith, e, bit 0, bit 1, bit 2, bit 3, bit 4, bit 5, bit 6, bit 7, bit 8, bit 9, bit 10, bit 11, bit 12, bit 13, bit 14, bit 15);
     }) e
-
-ending_units-halves : (u : List ℕ) → length u ≡ 16 → ending_units 0 u ≡ ending_units 0 (take 8 u) ++ ending_units (get_or u 7 0) (drop 8 u)
-ending_units-halves u long = of_sixteen (λ u. ending_units 0 u ≡ ending_units 0 (take 8 u) ++ ending_units (get_or u 7 0) (drop 8 u)) u long
-    (ending_units-append 0 (take 8 (sixteen_lanes u)) (drop 8 (sixteen_lanes u)))
-
--- the units that end in a block of sixteen bytes are the next ones
-pub BeginsWithUnits-short : (w block : List ℕ) (ends : ℕ) → 16 ≤ length w → length block ≡ 16 → block ≡ take 16 w → Each1 (λ b. b < 0xE0) block → Halves block ends
-    → BeginsWithUnits w (ending_units 0 (take 8 block) ++ ending_units (get_or block 7 0) (drop 8 block)) (15 + ends / 32768)
-BeginsWithUnits-short w block ends le long same each half h =
-    let t = short_units_then_rest 16 0 w h le (subst (Each1 (λ b. b < 0xE0)) same each) in (
-      IsWellFormed-equal_bytes t.rest (ap (λ n. drop n w) (half.whole ∙ ap whole_bytes same)),
-      t.whole ∙ ap (λ v. v ++ units t.rest.points) (ap (ending_units 0) (sym same) ∙ ending_units-halves block long),
-    )
-
-count_ones-mask_l : (k : ℕ) (s : List Bool) → count_ones (mask_l s) ≡ length (true_indexes k s)
-unfolding count_ones
-count_ones-mask_l k [] = refl
-count_ones-mask_l k (false ∷ s) = omega (arith, ones-mask_l_cons false s, count_ones-mask_l (suc k) s)
-count_ones-mask_l k (true ∷ s) = omega (arith, ones-mask_l_cons true s, count_ones-mask_l (suc k) s)
-
--- the packed units are those that end in the bytes `v`, and `ones` is their number
-pub record ArePacked (before : ℕ) (v block : List ℕ) (ones : ℕ) : Type 0 where
-  pub front : take ones block ≡ ending_units before v
-  pub count : length (ending_units before v) ≡ ones
-  pub most : ones ≤ 8
-
-pub packed-ending_units : (before : ℕ) (v lanes block : List ℕ) (mask : ℕ) → length v ≡ 8 → lanes ≡ unit_lanes before v → mask ≡ mask_l (map is_last_byte v)
-    → ((set : List Bool) → length set ≡ 8 → mask ≡ mask_l set → take (length (true_indexes 0 set)) block ≡ map (unit_in_lanes lanes) (true_indexes 0 set))
-    → ArePacked before v block (count_ones mask)
-packed-ending_units before v lanes block mask long e m packs =
-    let set = map is_last_byte v in
-    let eight : length set ≡ 8 = length-map v is_last_byte ∙ long in
-    let ones : count_ones mask ≡ length (true_indexes 0 set) = ap count_ones m ∙ count_ones-mask_l 0 set in
-    let own = set_lanes-ending_units before v long in
-    record {
-      front = ap (λ n. take n block) ones ∙ (packs set eight m ∙ (ap (λ l. map (unit_in_lanes l) (true_indexes 0 set)) e ∙ own));
-      count = ap length (sym own) ∙ (length-map (true_indexes 0 set) (unit_in_lanes (unit_lanes before v)) ∙ sym ones);
-      most = omega (arith, ones, length-true_indexes 0 set, eight);
-    }
-
--- units stored from `at` on, and others after the first `m` of them
-pub stored_twice : (old middle new x y front back : List ℕ) (at m n : ℕ) → take (at + m) middle ≡ take at old ++ take m x → take m x ≡ front
-    → take (at + m + n) new ≡ take (at + m) middle ++ take n y → take n y ≡ back → take (at + m + n) new ≡ take at old ++ (front ++ back)
-stored_twice old middle new x y front back at m n e f g h =
-    g ∙ (ap (λ u. u ++ take n y) (e ∙ ap (λ u. take at old ++ u) f) ∙ (ap (λ u. (take at old ++ front) ++ u) h ∙ append_assoc (take at old) front back))
