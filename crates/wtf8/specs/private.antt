@@ -9,4 +9,3 @@ pub mod ConvertedPrefix
 pub mod PackedUnits
 pub mod EncodedRuns
 pub mod UnitIterator
-pub mod ShortEncodings

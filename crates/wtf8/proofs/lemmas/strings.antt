@@ -5,4 +5,3 @@ pub mod Surrogates
 pub mod UnitCuts
 pub mod UnitMarks
 pub mod ToUtf16
-pub mod ShortEncodings

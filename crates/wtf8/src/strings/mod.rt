@@ -5,7 +5,6 @@ pub(crate) mod collect;
 pub(crate) mod concat;
 pub(crate) mod iters;
 pub(crate) mod known_prefix;
-pub(crate) mod short_encodings;
 pub(crate) mod to_utf16;
 pub(crate) mod unit_counts;
 pub(crate) mod unit_marks;

@@ -14,7 +14,6 @@ use crate::lanes::VECTOR;
 use crate::lanes::ascii::is_ascii_overlapping;
 use crate::lanes::copies::push_block;
 use crate::lanes::masks::first_set_lane;
-use crate::strings::short_encodings::{are_short, ending_bits, last_bytes, pack_units};
 use crate::strings::view::Wtf8;
 use std::alloc::{AllocError, Allocator};
 use std::simd::prelude::*;
@@ -35,14 +34,6 @@ const THIRD_OF_THREE: [usize; 8] = [2, 5, 8, 11, 14, 17, 20, 23];
 /// that their units need not be counted before memory is requested.
 const SCRATCH_UNITS: usize = 4 * VECTOR;
 
-/// The bytes that end an encoding in a block of 16 ASCII bytes, and in one of eight two-byte code points.
-const ASCII_ENDS: usize = 0xFFFF;
-
-const TWO_BYTE_ENDS: usize = 0xAAAA;
-
-/// After this number of blocks of two-byte code points alone, `TwoBytes` decodes the next ones.
-const TWO_BYTE_BLOCKS: usize = 3;
-
 /// Code points of one unit and `WIDTH` bytes each, of which `N` are decoded from a load of `BYTES` bytes.
 trait EncodedLength<const N: usize, const WIDTH: usize, const BYTES: usize> {
     /// Decodes `N` code points as if all had `WIDTH` bytes. Returns their units, and how many of them at the front are
@@ -55,13 +46,6 @@ trait EncodedLength<const N: usize, const WIDTH: usize, const BYTES: usize> {
 
     /// Whether `byte` begins a code point of this kind.
     fn is_lead_byte(byte: u8) -> bool;
-
-    /// Decodes at least one code point after a block that code points of this kind do not fill.
-    fn decode_others<'a>(units: &mut [u16], left: Undecoded<'a>) -> Undecoded<'a>
-        requires room { left.at + length (view_units left.view) ≤ length units.old }
-        requires nonempty { 0 < length left.view.bytes.now }
-        ensures written { Writes units.old left.entry.at (view_units left.entry.view) units.new result.at (view_units result.view) }
-        ensures shorter { length result.view.bytes.now < length left.entry.view.bytes.now };
 }
 
 /// ASCII.
@@ -205,11 +189,6 @@ impl EncodedLength<16, 1, 16> for OneByte {
     fn is_lead_byte(byte: u8) -> bool {
         byte < 0x80
     }
-
-    #[inline(always)]
-    fn decode_others<'a>(units: &mut [u16], left: Undecoded<'a>) -> Undecoded<'a> {
-        decode_point(units, left)
-    }
 }
 
 impl EncodedLength<32, 1, 32> for OneByte {
@@ -222,11 +201,6 @@ impl EncodedLength<32, 1, 32> for OneByte {
     #[inline(always)]
     fn is_lead_byte(byte: u8) -> bool {
         byte < 0x80
-    }
-
-    #[inline(always)]
-    fn decode_others<'a>(units: &mut [u16], left: Undecoded<'a>) -> Undecoded<'a> {
-        decode_point(units, left)
     }
 }
 
@@ -241,15 +215,6 @@ impl EncodedLength<8, 2, 16> for TwoBytes {
     fn is_lead_byte(byte: u8) -> bool {
         byte / 32 == 6
     }
-
-    #[inline(always)]
-    fn decode_others<'a>(units: &mut [u16], left: Undecoded<'a>) -> Undecoded<'a> {
-        let after = decode_short_run(units, left);
-        if after.view.len() < left.view.len() {
-            return after;
-        }
-        decode_point(units, left)
-    }
 }
 
 impl EncodedLength<8, 3, 32> for ThreeBytes {
@@ -262,11 +227,6 @@ impl EncodedLength<8, 3, 32> for ThreeBytes {
     #[inline(always)]
     fn is_lead_byte(byte: u8) -> bool {
         byte / 16 == 14
-    }
-
-    #[inline(always)]
-    fn decode_others<'a>(units: &mut [u16], left: Undecoded<'a>) -> Undecoded<'a> {
-        decode_point(units, left)
     }
 }
 
@@ -292,59 +252,6 @@ fn write_units<'a, const N: usize>(
         view: left.view.skip_bytes(width),
         at: left.at + count,
     }
-}
-
-/// Decodes the code points that end within the next 16 bytes, all of one or two bytes. Returns also which of these
-/// bytes end one, with byte 0 as the lowest bit.
-#[inline(always)]
-fn decode_short_block<'a>(
-    units: &mut [u16],
-    left: Undecoded<'a>,
-    bytes: u8x16,
-) -> (Undecoded<'a>, usize)
-    requires room { left.at + VECTOR ≤ length units.old }
-    requires block { (VECTOR ≤ length left.view.bytes.now) × (bytes ≡ take VECTOR left.view.bytes.now) }
-    requires short { Each1 (λ b. b < 0xE0) bytes }
-    ensures written { Writes units.old left.entry.at (view_units left.entry.view) units.new result.0.at (view_units result.0.view) }
-    ensures shorter { length result.0.view.bytes.now < length left.entry.view.bytes.now }
-{
-    let ends = last_bytes(bytes);
-    let (front, back) = ending_bits(bytes);
-    store_units(units, left.at, pack_units(front, ends % 256));
-    let middle = left.at + (ends % 256).count_ones() as usize;
-    store_units(units, middle, pack_units(back, ends / 256));
-    let after = Undecoded {
-        view: left.view.skip_bytes(VECTOR - 1 + ends / 0x8000),
-        at: middle + (ends / 256).count_ones() as usize,
-    };
-    (after, ends)
-}
-
-/// Decodes code points of one and two bytes by blocks of 16 bytes. Ends after a block of ASCII or `TWO_BYTE_BLOCKS`
-/// blocks of two-byte code points, for which there are faster ways, and before a block with a lead byte of three or
-/// four bytes or without room for 16 units.
-#[inline(always)]
-fn decode_short_run<'a>(units: &mut [u16], left: Undecoded<'a>) -> Undecoded<'a>
-    requires room { left.at + length (view_units left.view) ≤ length units.old }
-    ensures written { Writes units.old left.entry.at (view_units left.entry.view) units.new result.at (view_units result.view) }
-    ensures not_longer { length result.view.bytes.now ≤ length left.entry.view.bytes.now }
-{
-    let mut rest = left;
-    let mut two_byte_blocks = 0;
-    while VECTOR <= rest.view.len() && VECTOR <= units.len() - rest.at {
-        let block = u8x16::from_slice(rest.view.bytes);
-        if !are_short(block) {
-            return rest;
-        }
-        let (after, ends) = decode_short_block(units, rest, block);
-        rest = after;
-        // By a product, since a branch here would often be mispredicted.
-        two_byte_blocks = (two_byte_blocks + 1) * usize::from(ends == TWO_BYTE_ENDS);
-        if ends == ASCII_ENDS || two_byte_blocks == TWO_BYTE_BLOCKS {
-            return rest;
-        }
-    }
-    rest
 }
 
 /// Decodes the code points of a kind at the front of one block, and returns whether they fill it. Does nothing and
@@ -399,7 +306,7 @@ fn decode_run<
         rest = if is_whole {
             after
         } else {
-            K::decode_others(units, after)
+            decode_point(units, after)
         };
         let bytes = rest.view.bytes;
         if bytes.len() < BYTES || bytes.is_empty() || !K::is_lead_byte(bytes[0]) {
