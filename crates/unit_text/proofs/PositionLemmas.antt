@@ -1,14 +1,12 @@
 -- Marks of a text that became shorter, and the units before the position of a mark.
-use Rattle.std.proofs.Common.{◌≡◌, ◌≢◌, ℕ, ◌+◌, ◌-◌, ◌*◌, ◌/◌, ◌<◌, ◌≤◌, List, ◌++◌, length, take, drop, refl, sym, ap, ◌∙◌, subst, arith, length-append}
+use Rattle.std.proofs.Common.{◌≡◌, ◌≢◌, ℕ, ◌+◌, ◌-◌, ◌*◌, ◌/◌, ◌<◌, ◌≤◌, List, length, take, refl, sym, ap, ◌∙◌, subst, arith}
 use Rattle.std.proofs.Common.{Bool, false, Option, Some, None, IfSome, get_or}
-use Rattle.std.proofs.lemmas.List.{take-append-drop, take-append-le, drop-append-le, take_at, drop_at, length-take, length-take-le, get_or-take}
-use Rattle.std.proofs.lemmas.List.Elements.{All-drop}
-use Rattle.wtf8.specs.Concatenation.{MeetsAsPair}
+use Rattle.std.proofs.lemmas.List.{length-take, length-take-le, get_or-take}
 use Rattle.wtf8.specs.Form.{IsForm}
-use Rattle.wtf8.specs.Laws.{UnitsHaveOneForm, EqualFormsHaveEqualUnits, ReadingsAreOfUnits, OthersFormBoth}
+use Rattle.wtf8.specs.Laws.{EqualFormsHaveEqualUnits}
 use Rattle.wtf8.specs.Position.{IsBoundary, IsFront}
-use Rattle.wtf8.specs.Unicode.{IsUnit, units}
-use Rattle.wtf8.specs.UnitMark.{IsMark, EqualCountsAreMarks, MarksDivideNoPair, MarksAreInOneOrder}
+use Rattle.wtf8.specs.Unicode.{units}
+use Rattle.wtf8.specs.UnitMark.{IsMark, EqualCountsAreMarks, MarksStayInFront, MarksAreInOneOrder}
 use Rattle.wtf8.specs.UnitString.{UnitString}
 use Rattle.wtf8.specs.View.{view_units, view_form}
 use Rattle.wtf8.specs.declared.strings.view.Wtf8.{Wtf8}
@@ -40,38 +38,7 @@ units_before_next order w u marks is_incomplete f m not_ascii granted low positi
     let all = mark.units_within in
     grind (arith, before_next, last, all, within)
 
-module _ (equal : EqualCountsAreMarks) (no_pair : MarksDivideNoPair) (one : UnitsHaveOneForm) (same : EqualFormsHaveEqualUnits) (of_units : ReadingsAreOfUnits)
-    (others : OthersFormBoth) where
-  -- a mark at or before `n` units is a mark of the first `n` units
-  mark_of_front : (x w u : List ℕ) (k m n : ℕ) → IsForm x u → IsForm w (take n u) → m ≤ n → n ≤ length u → IsMark x u k m → IsMark w (take n u) k m
-  mark_of_front x w u k m n f g l within mark =
-      let long : length (take n u) ≡ n = length-take-le n u within in
-      let split = take-append-drop n u in
-      let front : take m u ≡ take m (take n u) = sym (ap (take m) split) ∙ take-append-le m (take n u) (drop n u) (omega (arith, long, l)) in
-      let after : drop m u ≡ drop m (take n u) ++ drop n u = sym (ap (drop m) split) ∙ drop-append-le m (take n u) (drop n u) (omega (arith, long, l)) in
-      let rest = drop m (take n u) in
-      let whole : take m u ++ rest ≡ take n u = ap (λ v. v ++ rest) front ∙ take-append-drop m (take n u) in
-      let back = one rest (All-drop IsUnit m (take n u) (of_units g.points (take n u) g.reads)) in
-      let apart : ¬ (MeetsAsPair (take m u) rest) = λ p. no_pair x u k m f mark (record {
-        front = p.front;
-        lead = p.lead;
-        trail = p.trail;
-        rest = p.rest ++ drop n u;
-        is_lead = p.is_lead;
-        is_trail = p.is_trail;
-        ends = p.ends;
-        begins = after ∙ ap (λ v. v ++ drop n u) p.begins;
-      }) in
-      let both = others (take k x) back.one (take m u) rest mark.before back.has apart in
-      let joined : w ≡ take k x ++ back.one = (same w (take k x ++ back.one) (take n u) (take m u ++ rest) g both).1 (sym whole) in
-      let front_len : length (take k x) ≡ k = length-take-le k x mark.position_within in
-      record {
-        position_within = omega (arith, ap length joined, length-append (take k x) back.one, front_len);
-        units_within = omega (arith, long, l);
-        before = subst (λ b. IsForm b (take m (take n u))) (sym (ap (take k) joined ∙ take_at (take k x) back.one k front_len)) (subst (IsForm (take k x)) front mark.before);
-        after = subst (λ b. IsForm b rest) (sym (ap (drop k) joined ∙ drop_at (take k x) back.one k front_len)) back.has;
-      }
-
+module _ (equal : EqualCountsAreMarks) (cut : MarksStayInFront) (same : EqualFormsHaveEqualUnits) where
   -- the first units of a string with as many bytes as units have as many bytes as units
   equal_counts_of_front : (x w u : List ℕ) (n : ℕ) → IsForm x u → IsForm w (take n u) → n ≤ length u → length x ≡ length u → length w ≡ length (take n u)
   equal_counts_of_front x w u n f g within e =
@@ -95,7 +62,7 @@ module _ (equal : EqualCountsAreMarks) (no_pair : MarksDivideNoPair) (one : Unit
             let units_before : mark.units < n = omega (arith, own.at_most, before) in
             subst (IsKept new.bytes.now (view_units new) ((k + 1) * spacing)) (sym (get_or-take count marks k d before)) (record {
               is_mark = subst (λ u. IsMark new.bytes.now u mark.position mark.units) (sym e)
-                  (mark_of_front old.bytes new.bytes.now old.units mark.position mark.units n old.form form (omega (arith, units_before)) within own.is_mark);
+                  (cut new.bytes.now old.bytes old.units mark.position mark.units n old.form form (omega (arith, units_before)) within own.is_mark);
               at_most = own.at_most;
               at_least = own.at_least;
               before_last = omega (arith, units_before, long);

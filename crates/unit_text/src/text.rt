@@ -169,9 +169,7 @@ impl<A: Allocator> UnitText<A> {
         slices::truncate_at(&mut self.text, mark, n);
         self.count = n;
         laws::law_marks();
-        laws::law_one_reading();
         laws::law_one_form();
-        laws::law_concat();
         let text = CountedView::new(&self.text, self.count);
         marks::truncate_kept(text, &mut self.marks);
     }

@@ -1,5 +1,4 @@
-use Rattle.std.proofs.Common.{◌≡◌, ◌-◌, take, sym, subst, arith}
-use Rattle.wtf8.specs.Position.{IsFront}
+use Rattle.std.proofs.Common.{◌≡◌, ◌-◌, sym, subst, arith}
 use Rattle.wtf8.specs.UnitPosition.{DividesPair}
 use Rattle.wtf8.specs.View.{view_units}
 use Rattle.unit_text.proofs.PositionLemmas.{front_of_mark}
