@@ -19,7 +19,7 @@ fn supplementary_begins(bytes: &[u8], at: usize) -> bool
     at < bytes.len() && 0xF0 <= bytes[at]
 }
 
-/// The order of two strings by code units, compared one by one.
+/// The order of two strings by code units, compared one by one. Not inlined, since a mismatch of bytes mostly decides.
 #[inline(never)]
 fn cmp_unitwise(own: Wtf8<'_>, others: Wtf8<'_>) -> Ordering
     ensures { result ≡ slice_cmp nat_cmp (view_units own.entry) (view_units others.entry) }

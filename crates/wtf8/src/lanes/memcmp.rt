@@ -122,7 +122,8 @@ fn eq_up_to_block(own: &[u8], others: &[u8]) -> bool
     eq_overlapping::<32>(own, others)
 }
 
-/// Whether two slices of equal length, more than `BLOCK` bytes, are equal.
+/// Whether two slices of equal length, more than `BLOCK` bytes, are equal. Not inlined, so that short slices are compared
+/// without its saved registers.
 #[inline(never)]
 fn eq_over_block(own: &[u8], others: &[u8]) -> bool
     requires many { BLOCK < length own.now }
@@ -136,7 +137,8 @@ fn eq_over_block(own: &[u8], others: &[u8]) -> bool
     mismatch_long(own, others, len).is_none()
 }
 
-/// The lexicographic order of two slices: the first mismatch decides, and a prefix comes before the longer slice.
+/// The lexicographic order of two slices: the first mismatch decides, and a prefix comes before the longer slice. Not
+/// inlined, since sorts and maps call it in many places.
 #[inline(never)]
 pub(crate) fn cmp(own: &[u8], others: &[u8]) -> Ordering
     ensures { result ≡ slice_cmp nat_cmp own.now others.now }
@@ -148,7 +150,8 @@ pub(crate) fn cmp(own: &[u8], others: &[u8]) -> Ordering
     cmp_long(own, others, end)
 }
 
-/// The order of two slices that both have more than `TWO_VECTORS` bytes; `end` is the length of the shorter one.
+/// The order of two slices that both have more than `TWO_VECTORS` bytes; `end` is the length of the shorter one. Not
+/// inlined, so that short slices are compared without its saved registers.
 #[inline(never)]
 fn cmp_long(own: &[u8], others: &[u8], end: usize) -> Ordering
     requires long { TWO_VECTORS < end }

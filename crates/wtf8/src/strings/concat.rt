@@ -136,7 +136,7 @@ fn pair_at_seam(front: Wtf8<'_>, back: Wtf8<'_>) -> Option<(u32, u32)>
 }
 
 /// Appends `other`, whose first three bytes are the trail surrogate that completes the lead at the end. Requests all
-/// memory before it overwrites the lead: if it is refused, `bytes` is unchanged.
+/// memory before it overwrites the lead: if it is refused, `bytes` is unchanged. Not inlined, since few pushes join.
 #[inline(never)]
 fn append_completing_pair<A: Allocator>(
     bytes: &mut Vec<u8, A>,

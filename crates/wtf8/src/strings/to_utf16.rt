@@ -341,7 +341,8 @@ fn decode_next<'a>(units: &mut [u16], left: Undecoded<'a>) -> Undecoded<'a>
     }
 }
 
-/// Writes the units of a view from index `from` on, and returns the index after them.
+/// Writes the units of a view from index `from` on, and returns the index after them. Not inlined, so that both of its
+/// callers share the one loop.
 #[inline(never)]
 fn decode_all(units: &mut [u16], from: usize, view: Wtf8<'_>) -> usize
     requires room { from + length (view_units view) ≤ length units.old }
@@ -356,7 +357,8 @@ fn decode_all(units: &mut [u16], from: usize, view: Wtf8<'_>) -> usize
     left.at
 }
 
-/// Appends the units of a string of fewer than `SCRATCH_UNITS` bytes, by way of a buffer on the stack.
+/// Appends the units of a string of fewer than `SCRATCH_UNITS` bytes, by way of a buffer on the stack: cheaper for these
+/// than to count the units first. Not inlined, since a caller would pay for the buffer at each entry.
 #[inline(never)]
 fn append_through_scratch<B: Allocator>(
     units: &mut Vec<u16, B>,
