@@ -79,7 +79,7 @@ int32_t wtf8_push_unit(wtf8_string *string, uint16_t unit);
 /* One code point, a surrogate too. Never refused if it fits. Codes: DONE, MEMORY, NO_CODE_POINT. */
 int32_t wtf8_push_code_point(wtf8_string *string, uint32_t value);
 
-/* `n` units. Memory is requested for them apart, whatever the capacity is. Codes: DONE, MEMORY. */
+/* `n` units. Never refused if they fit. Codes: DONE, MEMORY. */
 int32_t wtf8_push_units(wtf8_string *string, const uint16_t *units, size_t n);
 
 /* A text of `n` bytes. Never refused if it fits. Codes: DONE, MEMORY, NO_UTF8. */

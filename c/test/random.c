@@ -206,10 +206,14 @@ static void step(int kind, struct pair *p, struct pair *q) {
             }
             break;
         }
-        case 8:
+        case 8: {
+            int fits = below(4) == 0 && wtf8_reserve(&p->string, 3 * n) == WTF8_DONE;
+            if (fits) refuse_after = 0;
             code = wtf8_push_units(&p->string, n ? units : NULL, n);
+            must(!fits || code == WTF8_DONE, "push_units of what fits");
             if (code == WTF8_DONE) append(p, units, n);
             break;
+        }
         case 9:
             len = a_text(text, units, &n);
             if (below(8) == 0) { text[len++] = 0x80; }

@@ -1,5 +1,5 @@
 // Calls that append.
-ghost use Rattle.std.specs.Prelude.{◌≡◌, ◌++◌, ◌∷◌, [], ◌⊎◌, ◌↔◌, IsTrue, OnOk, OnErr};
+ghost use Rattle.std.specs.Prelude.{◌≡◌, ◌++◌, ◌∷◌, [], ◌⊎◌, ◌↔◌, IsTrue, IsOk, OnOk, OnErr};
 ghost use Rattle.std.specs.Str.{chars, IsUtf8};
 ghost use Rattle.wtf8.specs.Appending.{AppendsUnits, KeepsContents, HasRoomFor};
 ghost use Rattle.wtf8.specs.Unicode.{IsCodePoint, units, units_of};
@@ -10,7 +10,7 @@ use crate::handle::Wtf8String;
 use crate::opening::view;
 use std::alloc::{AllocError, Global};
 use std::str;
-use wtf8::{CodePoint, Wtf8Buf};
+use wtf8::{CodePoint, Wtf8Buf, laws};
 
 /// Appends a unit. A trail after a lead completes the pair.
 #[unsafe(no_mangle)]
@@ -54,6 +54,7 @@ pub extern "C" fn wtf8_push_units(alloc: Global, string: &mut Wtf8String, units:
     ensures code { (result ≡ DONE) ⊎ (result ≡ MEMORY) }
     ensures done { result ≡ DONE → AppendsUnits (contents string.old) units.now (contents string.new) }
     ensures kept { result ≡ MEMORY → KeepsContents (contents string.old) (contents string.new) }
+    ensures room { IsTrue string.old.full → HasRoomFor (contents string.old) units.now → result ≡ DONE }
 {
     let Ok(mut buf) = string.open(alloc) else {
         return MEMORY;
@@ -107,11 +108,31 @@ pub extern "C" fn wtf8_push_string(
     code_of(pushed)
 }
 
-/// Appends units to a buffer.
+/// Appends units to a buffer: all at once, or one by one if memory to encode them apart is refused.
 fn push_units(alloc: Global, buf: &mut Wtf8Buf<Global>, units: &[u16]) -> Result<(), AllocError>
     ensures ok { OnOk result (AppendsUnits buf.old units.now buf.new) }
     ensures kept { OnErr result (KeepsContents buf.old buf.new) }
+    ensures room { HasRoomFor buf.old units.now → IsOk result }
 {
-    let back = Wtf8Buf::from_ill_formed_utf16(alloc, units)?;
-    buf.push_wtf8(back.as_wtf8())
+    match Wtf8Buf::from_ill_formed_utf16(alloc, units) {
+        Ok(back) => buf.push_wtf8(back.as_wtf8()),
+        Err(_) => push_each(buf, units),
+    }
+}
+
+/// Appends units to a buffer, one by one.
+fn push_each(buf: &mut Wtf8Buf<Global>, units: &[u16]) -> Result<(), AllocError>
+    ensures ok { OnOk result (AppendsUnits buf.old units.now buf.new) }
+    ensures kept { OnErr result (KeepsContents buf.old buf.new) }
+    ensures room { HasRoomFor buf.old units.now → IsOk result }
+{
+    laws::law_equal_strings();
+    let len = buf.as_wtf8().unit_len();
+    for &unit in units {
+        if let Err(error) = buf.push(CodePoint::from_u32_unchecked(u32::from(unit))) {
+            buf.truncate_units(len);
+            return Err(error);
+        }
+    }
+    Ok(())
 }
