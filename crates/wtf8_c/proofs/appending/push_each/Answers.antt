@@ -10,9 +10,8 @@ use Rattle.wtf8_c.proofs.appending.push_each.Goals as goal
 pub returns-in-Err-clause-kept : goal.returns-in-Err-clause-kept
 returns-in-Err-clause-kept c =
     let old = c.args.buf.now in
-    let len : length old.units ≡ c.unit_len-len.result = sym (c.unit_len-len.ensures ∙ ap length c.as_wtf8.ensures.units) in
     let pushed = c.in-Err.ensures.kept.units ∙ c.loop-unit.invariant.appended in
-    let units = c.truncate_units.ensures.units ∙ (ap (λ u. take c.unit_len-len.result u) pushed ∙ take_at old.units (take c.loop-unit.unit-index c.args.units.now) c.unit_len-len.result len) in
+    let units = c.truncate_units.ensures.units ∙ (ap (take _) pushed ∙ take_at old.units (take c.loop-unit.unit-index c.args.units.now) _ (omega (arith, c.unit_len-len.ensures, ap length c.as_wtf8.ensures.units))) in
     record { units = units; bytes = (c.law_equal_strings.ensures.buffers c.truncate_units.new.self old).1 units }
 
 -- the units up to the refused one are a front of what fits, so they fit too
