@@ -1,5 +1,6 @@
 -- Characters and escapes of JSON strings: each text begins with at most one.
-use Rattle.std.proofs.Common.{◌≡◌, ◌≢◌, ◌≤◌, ◌+◌, ℕ, List, [], ◌∷◌, ◌++◌, Some, None, length, refl, sym, ap, ◌∙◌, subst, append_assoc, append-nil, arith}
+use Rattle.std.proofs.Common.{inl, inr, ◌≡◌, ◌≢◌, ◌≤◌, ◌+◌, ℕ, List, [], ◌∷◌, ◌++◌, Some, None, length, refl, sym, ap, ◌∙◌, subst, append_assoc, append-nil, arith}
+use Rattle.std.proofs.lemmas.Bool.{cases_eq}
 use Rattle.std.proofs.lemmas.Bool.Decides.{nat_tests}
 use Rattle.std.proofs.lemmas.Grind.{flat_map-append}
 use Rattle.std.proofs.lemmas.List.{length-append}
@@ -128,3 +129,14 @@ front_counted {rest = rest} w v f e g =
 -- the rest follows the bytes of the front
 pub front_follows : {text rest : List ℕ} (f : Front text rest) (n : ℕ) → length (bytes f.front) ≡ n → FollowsBytes text n rest
 front_follows f n e = record { front = f.front; joined = f.joined; counted = e }
+
+-- where neither characters nor a quotation mark follow, only a backslash is no control character
+pub backslash_stops : (text rest : List ℕ) (p : ℕ) → text ≡ p ∷ rest → 0x20 ≤ p → ((q : ℕ) (after : List ℕ) → ¬ (BeginsWithCharacter text q after))
+    → ((after : List ℕ) → ¬ (BeginsWithQuote text after)) → p ≡ 0x5C
+backslash_stops text rest p e above no_more unclosed =
+    elim (cases_eq p 0x5C) [
+      | inl is ↦ is
+      | inr other ↦
+          absurd (no_more p rest (BeginsWithCharacter.unescaped e
+          record { no_control = above; no_quote = λ q. unclosed rest record { quote = p; joined = e; is_quote = q }; no_backslash = other }))
+    ]

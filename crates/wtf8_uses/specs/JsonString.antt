@@ -1,7 +1,9 @@
 -- Strings in JSON text (RFC 8259, section 7).
-use Rattle.std.specs.Prelude.{◌≡◌, ◌≢◌, ◌≤◌, ◌+◌, ◌-◌, ◌*◌, ◌==◌, ◌&&◌, ℕ, List, [], ◌∷◌, ◌++◌, Option, Some, None, nat_le, length, if◌then◌else◌}
+use Rattle.std.specs.Prelude.{◌≡◌, ◌≢◌, ◌≤◌, ◌<◌, ◌+◌, ◌-◌, ◌*◌, ◌==◌, ◌&&◌, ℕ, List, [], ◌∷◌, ◌++◌, Option, Some, None, nat_le, length, if◌then◌else◌}
 use Rattle.wtf8.specs.Form.{bytes}
 use Rattle.wtf8.specs.Unicode.{units_of}
+use Rattle.wtf8_uses.specs.declared.json_reader.JsonCause.{JsonCause}
+use Rattle.wtf8_uses.specs.declared.json_reader.JsonCause.TheVariants.{NotOpened, NotClosed, ControlCharacter, Escape}
 
 -- A character that may be unescaped: any but quotation marks, reverse solidi and control characters below U+0020 (RFC
 -- 8259, section 7, "unescaped").
@@ -95,3 +97,17 @@ pub data IsMalformedAt (text : List ℕ) (n : ℕ) : Type 0 where
   not_opened : n ≡ 0 → ((after : List ℕ) → ¬ (BeginsWithQuote text after)) → IsMalformedAt text n
   stopped : (start u rest : List ℕ) → FollowsBytes text n rest → BeginsWithQuote text start → BeginsWithCharacters start u rest
       → ((p : ℕ) (after : List ℕ) → ¬ (BeginsWithCharacter rest p after)) → ((after : List ℕ) → ¬ (BeginsWithQuote rest after)) → IsMalformedAt text n
+
+-- `rest` begins as the cause says: with no quotation mark, with nothing, with a control character below U+0020, or with a
+-- reverse solidus.
+abbrev pub IsCause : JsonCause → List ℕ → Type 0
+IsCause NotOpened rest = (after : List ℕ) → ¬ (BeginsWithQuote rest after)
+IsCause NotClosed rest = rest ≡ []
+IsCause ControlCharacter rest = (p : ℕ) × (after : List ℕ) × (rest ≡ p ∷ after) × (p < 0x20)
+IsCause Escape rest = (p : ℕ) × (after : List ℕ) × (rest ≡ p ∷ after) × (p ≡ 0x5C)
+
+-- The text after the first `n` bytes of `text` begins as the cause says.
+pub record HasCauseAt (text : List ℕ) (n : ℕ) (cause : JsonCause) : Type 0 where
+  pub rest : List ℕ
+  pub follows : FollowsBytes text n rest
+  pub is_cause : IsCause cause rest

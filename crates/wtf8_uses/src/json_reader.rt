@@ -3,7 +3,7 @@ ghost use Rattle.std.specs.Prelude.{◌≡◌, ◌≢◌, ◌<◌, ◌≤◌, �
 ghost use Rattle.wtf8.specs.CodePoint.{number};
 ghost use Rattle.wtf8.specs.Unicode.{units_of};
 ghost use Rattle.wtf8.specs.View.{view_points};
-ghost use Rattle.wtf8_uses.specs.JsonString.{BeginsWithCharacter, BeginsWithDigit, BeginsWithQuote, BeginsWithString, BeginsWithUnit, BeginsWithCharacters, EndsEscape, IsMalformedAt, digit_value, escaped};
+ghost use Rattle.wtf8_uses.specs.JsonString.{BeginsWithCharacter, BeginsWithDigit, BeginsWithQuote, BeginsWithString, BeginsWithUnit, BeginsWithCharacters, EndsEscape, HasCauseAt, IsCause, IsMalformedAt, digit_value, escaped};
 
 use std::alloc::Allocator;
 use wtf8::{CodePoint, Wtf8, Wtf8Buf};
@@ -11,7 +11,8 @@ use wtf8::{CodePoint, Wtf8, Wtf8Buf};
 /// Why `read_json_string` failed.
 #[derive(Clone, Copy, Debug)]
 pub enum JsonError {
-    /// The text does not begin with a JSON string. It does up to the byte `position`.
+    /// The text does not begin with a JSON string: `cause` is at the byte `position`, the first one of the code point or
+    /// escape that cannot be there.
     Malformed { position: usize, cause: JsonCause },
     /// A request for memory was refused.
     Memory,
@@ -39,6 +40,7 @@ pub fn read_json_string<'a, A: Allocator>(
     ensures ok { IfOk result (λ x. BeginsWithString (view_points text.entry) x.0.units (view_points x.1)) }
     ensures within { IfErr result (λ e. (position : ℕ) (cause : JsonCause) → e ≡ JsonError.Malformed position cause → position ≤ length text.entry.bytes.now) }
     ensures malformed { IfErr result (λ e. (position : ℕ) (cause : JsonCause) → e ≡ JsonError.Malformed position cause → IsMalformedAt (view_points text.entry) position) }
+    ensures cause { IfErr result (λ e. (position : ℕ) (cause : JsonCause) → e ≡ JsonError.Malformed position cause → HasCauseAt (view_points text.entry) position cause) }
     ensures none { IfErr result (λ e. e ≢ JsonError.Memory → (u after : List ℕ) → ¬ (BeginsWithString (view_points text.entry) u after)) }
 {
     let Some(start) = after_quote(text) else {
@@ -65,7 +67,11 @@ pub fn read_json_string<'a, A: Allocator>(
 }
 
 /// What is wrong at the front of a text that begins with no character of a JSON string and no quotation mark.
-fn cause_at(text: Wtf8<'_>) -> JsonCause {
+fn cause_at(text: Wtf8<'_>) -> JsonCause
+    requires no_character { (p : ℕ) (after : List ℕ) → ¬ (BeginsWithCharacter (view_points text) p after) }
+    requires no_quote { (after : List ℕ) → ¬ (BeginsWithQuote (view_points text) after) }
+    ensures { IsCause result (view_points text.entry) }
+{
     match first_point(text) {
         None => JsonCause::NotClosed,
         Some((point, _)) => {
