@@ -1,6 +1,7 @@
 pub mod BeforeLemmas
 pub mod FrontLemmas
 pub mod JsonLemmas
+pub mod JsonReaderLemmas
 pub mod LineLemmas
 pub mod Numbering
 pub mod DedupLemmas

@@ -1,5 +1,5 @@
 -- JSON text of strings, as ECMAScript writes it.
-use Rattle.std.specs.Prelude.{ℕ, ◌+◌, ◌/◌, ◌%◌, ◌==◌, ◌&&◌, ◌||◌, Bool, List, [], ◌∷◌, ◌++◌, nat_lt, nat_le, if◌then◌else◌, codes}
+use Rattle.std.specs.Prelude.{◌≡◌, ℕ, ◌+◌, ◌/◌, ◌%◌, ◌==◌, ◌&&◌, ◌||◌, Bool, List, [], ◌∷◌, ◌++◌, nat_lt, nat_le, if◌then◌else◌, codes}
 use Rattle.std.specs.List.{flat_map}
 use Rattle.wtf8.specs.Form.{encoding}
 
@@ -32,3 +32,8 @@ json_point p =
 -- The JSON text of code points, between double quotes (ECMAScript, "QuoteJSONString").
 abbrev pub json : List ℕ → List ℕ
 json c = codes "\"" ++ flat_map json_point c ++ codes "\""
+
+-- `text` begins with `front`.
+pub record Continues (front text : List ℕ) : Type 0 where
+  pub more : List ℕ
+  pub joined : text ≡ front ++ more

@@ -2,6 +2,7 @@ pub mod CommonFront
 pub mod Environment
 pub mod FileName
 pub mod Json
+pub mod JsonString
 pub mod LineColumns
 pub mod LittleEndian
 pub mod Numbered

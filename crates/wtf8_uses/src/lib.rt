@@ -9,6 +9,7 @@ pub mod file_names;
 pub mod interner;
 pub mod joining;
 pub mod json;
+pub mod json_reader;
 pub mod line_columns;
 pub mod maps;
 pub mod paths;

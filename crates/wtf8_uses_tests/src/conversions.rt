@@ -1,11 +1,12 @@
 // Conversions, JSON texts, environment blocks, counts of units, and comparison without ASCII case.
 use crate::shared::{LEAD, TRAIL, string_of};
-use std::alloc::Global;
+use refusing::Refusing;
+use std::alloc::{Allocator, Global};
 use wtf8::Wtf8;
 use wtf8_tests::wrong::{Wrong, expect, made};
 use wtf8_uses::ascii_case::eq_ignore_ascii_case;
 use wtf8_uses::environment::{Variable, environment_block};
-use wtf8_uses::json::json_text;
+use wtf8_uses::json::{append_json_text, json_text};
 use wtf8_uses::{round_trips, units, well_formed};
 
 /// Fails unless `units_round_trip` returns the units of `list`.
@@ -85,8 +86,30 @@ fn json_rows() -> [(&'static [u16], &'static str); 6] {
 
 /// Fails unless the JSON text of the string is `text`.
 fn expect_json(alloc: Global, string: Wtf8<'_>, text: &str) -> Result<(), Wrong> {
-    let json = made(json_text(alloc, string))?;
-    expect(json.as_str() == text, Wrong::Bytes)
+    let mut json = made(json_text(alloc, string))?;
+    expect(json.as_str() == text, Wrong::Bytes)?;
+    made(append_json_text(&mut json, Wtf8::from_str("a\t")))?;
+    expect(
+        json.as_str().strip_prefix(text) == Some("\"a\\t\""),
+        Wrong::Bytes,
+    )
+}
+
+/// Whether JSON text is refused, for want of memory, after "ab", which stays.
+fn is_kept<A: Allocator>(json: &mut String<A>, string: Wtf8<'_>) -> bool {
+    append_json_text(json, string).is_err() && json.as_str() == "ab"
+}
+
+#[test]
+fn refused_json_text_is_cut_off(rt: HostRuntime) -> Result<(), Wrong> {
+    let string = string_of(rt.alloc(), &[0x001F; 40])?;
+    let heap = Refusing::new(rt.alloc(), 1);
+    let mut json = made(String::from_str(&heap, "ab"))?;
+    heap.grant(1);
+    expect(
+        is_kept(&mut json, string.as_wtf8()) && heap.grants_left() == 0,
+        Wrong::Outcome,
+    )
 }
 
 #[test]

@@ -15,6 +15,8 @@ mod interner;
 #[cfg(test)]
 mod joining;
 #[cfg(test)]
+mod json_reader;
+#[cfg(test)]
 mod line_columns;
 #[cfg(test)]
 mod points;
