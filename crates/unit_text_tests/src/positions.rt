@@ -68,11 +68,12 @@ fn bytes_at(units: &[u16], i: usize) -> usize {
     if is_split(units, i) {
         return 0;
     }
-    match units[i.min(units.len().saturating_sub(1))] {
-        0..=0x7F => 1,
-        0x80..=0x7FF => 2,
-        _ if is_split(units, i.saturating_add(1)) => 4,
-        _ => 3,
+    match units.get(i) {
+        None => 0,
+        Some(0..=0x7F) => 1,
+        Some(0x80..=0x7FF) => 2,
+        Some(_) if is_split(units, i.saturating_add(1)) => 4,
+        Some(_) => 3,
     }
 }
 
