@@ -1,4 +1,4 @@
-use Rattle.std.proofs.Common.{◌≡◌, ◌≤◌, arith}
+use Rattle.std.proofs.Common.{◌≤◌, arith}
 use Rattle.wtf8.specs.CodePoint.{number}
 use Rattle.wtf8_uses.proofs.JsonReaderLemmas.{backslash_stops}
 use Rattle.wtf8_uses.proofs.json_reader.cause_at.Goals as goal
