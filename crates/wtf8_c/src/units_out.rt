@@ -10,7 +10,7 @@ use crate::cutting::append_slice;
 use crate::handle::Wtf8String;
 use crate::opening::view;
 use std::alloc::Global;
-use wtf8::Wtf8Buf;
+use wtf8::{Wtf8Buf, laws};
 
 /// Writes all units at the front of `out`, and their number to `len`.
 #[unsafe(no_mangle)]
@@ -31,25 +31,23 @@ pub extern "C" fn wtf8_copy_units(
     let held = string.take(alloc);
     let none = Wtf8Buf::new(alloc);
     let text = view(&held, &none);
-    let needed = text.unit_len();
+    laws::law_view_lengths(text);
+    // There are no more units than bytes: an array of as many units as bytes is long enough, and nothing is counted.
+    if out.len() < text.len() && out.len() < text.unit_len() {
+        let needed = text.unit_len();
+        string.put_back(held);
+        *len = needed;
+        return TOO_SHORT;
+    }
     let mut units = Vec::new(alloc);
-    let code = if out.len() < needed {
-        TOO_SHORT
-    } else {
-        match text.append_units(&mut units) {
-            Ok(()) => DONE,
-            Err(_) => MEMORY,
-        }
-    };
+    let copied = text.append_units(&mut units);
     string.put_back(held);
-    if code == MEMORY {
+    if copied.is_err() {
         return MEMORY;
     }
-    *len = needed;
-    if code == DONE {
-        out[..needed].copy_from_slice(&units);
-    }
-    code
+    *len = units.len();
+    out[..units.len()].copy_from_slice(&units);
+    DONE
 }
 
 /// Writes the units from index `begin` to before `end` at the front of `out`, and their number to `len`.
