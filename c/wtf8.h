@@ -71,9 +71,10 @@ int32_t wtf8_reserve(wtf8_string *string, size_t additional);
 
 /* ---- Appending ---- */
 
-/* Each appends to the string. A trail after a lead completes the pair. */
+/* Each appends to the string. A trail after a lead completes the pair. A call whose bytes fit the capacity is never
+ * refused, except that to append nothing to a string without a buffer may be. */
 
-/* One unit. If the string has a buffer and its bytes fit the capacity, it is never refused. Codes: DONE, MEMORY. */
+/* One unit. Never refused if it fits. Codes: DONE, MEMORY. */
 int32_t wtf8_push_unit(wtf8_string *string, uint16_t unit);
 
 /* One code point, a surrogate too. Never refused if it fits. Codes: DONE, MEMORY, NO_CODE_POINT. */
