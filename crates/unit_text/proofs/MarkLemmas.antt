@@ -4,7 +4,7 @@ use Rattle.std.proofs.Common.{◌≢◌, ◌*◌, ◌/◌, Bool, false, min, get
 use Rattle.std.proofs.lemmas.List.{drop-take, get_or_append_left, get_or_push}
 use Rattle.std.specs.List.{slice_get}
 use Rattle.wtf8.specs.Form.{IsForm}
-use Rattle.wtf8.specs.UnitMark.{IsMark, IsUndivided, MarksStay}
+use Rattle.wtf8.specs.UnitMark.{IsMark, RoundsDownTo, MarksStay}
 use Rattle.wtf8.specs.UnitString.{UnitString}
 use Rattle.wtf8.specs.View.{view_units, view_form}
 use Rattle.wtf8.specs.declared.strings.view.Wtf8.{Wtf8}
@@ -28,7 +28,7 @@ module _ (stay : MarksStay) (old : UnitString) (new : Wtf8) (v : List ℕ) (e : 
   AreKept-append (Some k) items is_incomplete h = λ i d l. IsKept-append _ _ (h.kept i d l)
 
 -- a mark at `n` units, or one unit before if `n` divides a pair, is kept if `n` is below the number of units
-pub IsKept-mark_at : (w u : List ℕ) (mark : UnitMark) (n : ℕ) → IsMark w u mark.position mark.units → IsUndivided u n mark.units → n < length u → IsKept w u n mark
+pub IsKept-mark_at : (w u : List ℕ) (mark : UnitMark) (n : ℕ) → IsMark w u mark.position mark.units → RoundsDownTo u n mark.units → n < length u → IsKept w u n mark
 IsKept-mark_at w u mark n m (inl e) h = record { is_mark = m; at_most = omega (arith, e); at_least = omega (arith, e); before_last = omega (arith, e, h) }
 IsKept-mark_at w u mark n m (inr e) h = record { is_mark = m; at_most = omega (arith, e.0); at_least = omega (arith, e.0); before_last = omega (arith, e.0, h) }
 

@@ -33,7 +33,7 @@ pub use Rattle.std.specs.declared.cmp.Ordering.TheVariants.{Greater, Less, Equal
 pub use lib.Lanes.{zip2, Each1, chunk, mask_l, top, sel_l, Each2, fold_l, sum_l}
 pub use lib.Utf8.{scalars, scalar, low_scalar}
 pub use Rattle.wtf8.specs.Appending.{KeepsContents, AppendsUnits, AddsLength, AppendsPoints, FitWithin, HasRoomFor}
-pub use Rattle.wtf8.specs.Building.{Step, Run, Append, IsNoTruncation, FindRoom, FindsRoom, LeavesReserved, RunsAddUp, RunsOnce}
+pub use Rattle.wtf8.specs.Building.{Step, Run, CallsAppend, IsNoTruncation, EachCallFits, CallFits, LeavesReserved, RunsAddUp, RunsOnce}
 pub use Rattle.wtf8.specs.CodePoint.{number, numbers}
 pub use Rattle.wtf8.specs.Concatenation.{MeetsAsPair, is_pair, glue}
 pub use Rattle.wtf8.specs.Debug.{escape_surrogate}

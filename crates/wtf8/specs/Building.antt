@@ -70,9 +70,9 @@ appended_units (Extend d) = Some (units (numbers d.now))
 appended_units call = None
 
 -- Each call of the list is a push or an extension, and together they append the units `v`.
-abbrev pub Append : List Build → List ℕ → Type 0
-Append [] v = v ≡ []
-Append (call ∷ calls) v = (a : List ℕ) × (b : List ℕ) × (appended_units call ≡ Some a) × Append calls b × (v ≡ a ++ b)
+abbrev pub CallsAppend : List Build → List ℕ → Type 0
+CallsAppend [] v = v ≡ []
+CallsAppend (call ∷ calls) v = (a : List ℕ) × (b : List ℕ) × (appended_units call ≡ Some a) × CallsAppend calls b × (v ≡ a ++ b)
 
 -- The number of bytes that a call reserves beyond what it appends: that of a `Reserve`, else 0.
 abbrev pub reserved_bytes : Build → ℕ
@@ -81,16 +81,16 @@ reserved_bytes call = 0
 
 -- The call is no truncation and takes `u` to `v`, and the length of the form of `v`, plus the number of bytes that the
 -- call reserves, is at most `capacity`.
-pub record FindsRoom (u : List ℕ) (call : Build) (v : List ℕ) (capacity : ℕ) : Type 0 where
+pub record CallFits (u : List ℕ) (call : Build) (v : List ℕ) (capacity : ℕ) : Type 0 where
   pub no_truncation : IsNoTruncation call
   pub step : Step u call v 0
   pub fits : FitWithin v (reserved_bytes call) capacity
 
--- Each call of the list finds room within `capacity`, as `FindsRoom` says, and together they take the units from `u` to
--- `v`.
-abbrev pub FindRoom : List ℕ → List Build → List ℕ → ℕ → Type 0
-FindRoom u [] v capacity = v ≡ u
-FindRoom u (call ∷ calls) v capacity = (mid : List ℕ) × FindsRoom u call mid capacity × FindRoom mid calls v capacity
+-- Each call of the list fits `capacity` when its turn comes, as `CallFits` says, and together they take the units from
+-- `u` to `v`.
+abbrev pub EachCallFits : List ℕ → List Build → List ℕ → ℕ → Type 0
+EachCallFits u [] v capacity = v ≡ u
+EachCallFits u (call ∷ calls) v capacity = (mid : List ℕ) × CallFits u call mid capacity × EachCallFits mid calls v capacity
 
 -- For each `Reserve n` with no truncation after it in the list, the length of the form of the units that the calls
 -- before it leave, plus `n`, is at most `capacity`.

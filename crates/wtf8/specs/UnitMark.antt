@@ -19,9 +19,10 @@ pub record IsMark (w u : List ℕ) (k n : ℕ) : Type 0 where
 abbrev pub IsMarkOf : Wtf8 → UnitMark → Type 0
 IsMarkOf view mark = IsMark view.bytes.now (view_units view) mark.position mark.units
 
--- `m` is `n`, or it is `n - 1` and a cut after `n` units divides a pair (Unicode 3.8, "Surrogates").
-abbrev pub IsUndivided : List ℕ → ℕ → ℕ → Type 0
-IsUndivided u n m = (m ≡ n) ⊎ ((m + 1 ≡ n) × DividesPair u n)
+-- `n` units, rounded down so that the cut divides no pair, are `m`: `n`, or `n - 1` if a cut after `n` units divides a
+-- pair (Unicode 3.8, "Surrogates").
+abbrev pub RoundsDownTo : List ℕ → ℕ → ℕ → Type 0
+RoundsDownTo u n m = (m ≡ n) ⊎ ((m + 1 ≡ n) × DividesPair u n)
 
 -- In a string with equal numbers of bytes and units, each byte position `k` is a mark of `k` units.
 abbrev pub EqualCountsAreMarks : Type 0
@@ -49,7 +50,7 @@ MarksAreInOneOrder = (w u : List ℕ) (k l m n : ℕ) → IsForm w u → IsMark 
 
 -- The mark that is found for the number of units of a mark is at its position.
 abbrev pub MarksAreFoundAgain : Type 0
-MarksAreFoundAgain = (w u : List ℕ) (k l m n : ℕ) → IsForm w u → IsMark w u k m → IsMark w u l n → IsUndivided u m n → l ≡ k
+MarksAreFoundAgain = (w u : List ℕ) (k l m n : ℕ) → IsForm w u → IsMark w u k m → IsMark w u l n → RoundsDownTo u m n → l ≡ k
 
 -- A boundary is a mark of the number of units before it.
 abbrev pub BoundariesAreMarks : Type 0

@@ -17,7 +17,7 @@ ghost use Rattle.wtf8.specs.Form.{Reads, bytes, encoding};
 ghost use Rattle.wtf8.specs.PointLaws.{DrainedPointsAreLeft, DrainedPointsAreTaken, DrainedPointsAreAfterSkip, CollectedPointsAreLeft, CollectedPointsAreTaken, CollectedPointsAreAfterSkip};
 ghost use Rattle.wtf8.specs.Position.{IsBoundary, IsFront, IsBack};
 ghost use Rattle.wtf8.specs.Surrogates.{AreScalar, lossy_points};
-ghost use Rattle.wtf8.specs.UnitMark.{IsMark, IsMarkOf, IsUndivided, EqualCountsAreMarks, MarksStay, MarksStayInFront, MarksDivideNoPair, EqualMarksHaveEqualUnits, MarksAreInOneOrder, MarksAreFoundAgain, BoundariesAreMarks};
+ghost use Rattle.wtf8.specs.UnitMark.{IsMark, IsMarkOf, RoundsDownTo, EqualCountsAreMarks, MarksStay, MarksStayInFront, MarksDivideNoPair, EqualMarksHaveEqualUnits, MarksAreInOneOrder, MarksAreFoundAgain, BoundariesAreMarks};
 ghost use Rattle.wtf8.specs.Unicode.{IsLead, IsTrail};
 ghost use Rattle.wtf8.specs.UnitPosition.{DividesPair};
 ghost use Rattle.wtf8.specs.View.{view_points, view_units};
@@ -167,7 +167,7 @@ pub fn law_mark(view: Wtf8<'_>, mark: UnitMark)
     ensures no_pair { ¬ (DividesPair (view_units view.entry) mark.units) }
     ensures same { (other : UnitMark) → IsMarkOf view.entry other → (other.position ≡ mark.position) ↔ (other.units ≡ mark.units) }
     ensures order { (other : UnitMark) → IsMarkOf view.entry other → (other.position ≤ mark.position) ↔ (other.units ≤ mark.units) }
-    ensures found { (other : UnitMark) → IsMarkOf view.entry other → IsUndivided (view_units view.entry) mark.units other.units → other.position ≡ mark.position }
+    ensures found { (other : UnitMark) → IsMarkOf view.entry other → RoundsDownTo (view_units view.entry) mark.units other.units → other.position ≡ mark.position }
 {}
 
 /// If a pair of this view is divided after `units` units, a lead is directly before the cut and a trail after it.

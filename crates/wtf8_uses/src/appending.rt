@@ -1,7 +1,7 @@
 //! Appending: a string, nothing, and lists of calls.
 ghost use Rattle.std.specs.Prelude.{◌≡◌, ◌+◌, ◌++◌, ℕ, List, IfOk, IsTrue, OnOk, OnErr};
 ghost use Rattle.wtf8.specs.Appending.{KeepsContents};
-ghost use Rattle.wtf8.specs.Building.{Append, Run};
+ghost use Rattle.wtf8.specs.Building.{CallsAppend, Run};
 ghost use Rattle.wtf8.specs.Concatenation.{MeetsAsPair};
 
 use std::alloc::{AllocError, Allocator, Global};
@@ -65,7 +65,7 @@ pub fn build_equals(
     calls: &[Build<'_>],
     others: &[Build<'_>],
 ) -> Result<bool, Stopped>
-    ensures { IfOk result (λ same. (v : List ℕ) → Append calls.now v → Append others.now v → IsTrue same) }
+    ensures { IfOk result (λ same. (v : List ℕ) → CallsAppend calls.now v → CallsAppend others.now v → IsTrue same) }
 {
     let mut string = Wtf8Buf::new(alloc);
     let mut other = Wtf8Buf::new(alloc);

@@ -2,7 +2,7 @@
 ghost use Rattle.std.proofs.Props.{props};
 ghost use Rattle.std.specs.Prelude.{◌≡◌, ◌+◌, ◌-◌, ◌<◌, ◌≤◌, ℕ, length, map, slice_index, IfOk, IfSome, IfNone};
 ghost use Rattle.wtf8.specs.OneForm.{IsForm-prop};
-ghost use Rattle.wtf8.specs.UnitMark.{IsMarkOf, IsUndivided};
+ghost use Rattle.wtf8.specs.UnitMark.{IsMarkOf, RoundsDownTo};
 ghost use Rattle.wtf8.specs.View.{view_units};
 ghost use Rattle.wtf8_uses.specs.LineColumns.{AreMarksOf, IsColumnAt, IsLineAt, StartsAtFront, line_start, line_starts, mark_units};
 
@@ -69,7 +69,7 @@ pub fn mark_at_column<A: Allocator>(
     column: usize,
 ) -> Option<UnitMark>
     ensures mark { IfSome result (λ m. IsMarkOf lines.now.text m) }
-    ensures units { IfSome result (λ m. (line < length lines.now.starts.items) × IsUndivided (view_units lines.now.text) (line_start lines.now.starts.items line + column) m.units) }
+    ensures units { IfSome result (λ m. (line < length lines.now.starts.items) × RoundsDownTo (view_units lines.now.text) (line_start lines.now.starts.items line + column) m.units) }
     ensures none { IfNone result (line < length lines.now.starts.items → length (view_units lines.now.text) < line_start lines.now.starts.items line + column) }
 {
     if lines.starts.len() <= line {

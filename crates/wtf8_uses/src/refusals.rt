@@ -1,7 +1,7 @@
 //! Strings after a refused request for memory, and pushes that cannot be refused because capacity is reserved first.
 ghost use Rattle.std.specs.Prelude.{◌≡◌, ℕ, List, ◌++◌, IfOk, OnOk, OnErr, IsTrue};
 ghost use Rattle.wtf8.specs.Appending.{AppendsUnits, FitWithin, KeepsContents};
-ghost use Rattle.wtf8.specs.Building.{Append};
+ghost use Rattle.wtf8.specs.Building.{CallsAppend};
 ghost use Rattle.wtf8.specs.CodePoint.{number};
 ghost use Rattle.wtf8.specs.Unicode.{units_of};
 ghost use Rattle.wtf8.specs.View.{view_units};
@@ -63,8 +63,8 @@ pub fn push_list<A: Allocator>(
     calls: &[Build<'_>],
     most: usize,
 ) -> Result<(), AllocError>
-    ensures ok { OnOk result ((v : List ℕ) → Append calls.now v → AppendsUnits string.old v string.new) }
-    ensures kept { OnErr result ((v : List ℕ) → Append calls.now v → FitWithin v 0 most → KeepsContents string.old string.new) }
+    ensures ok { OnOk result ((v : List ℕ) → CallsAppend calls.now v → AppendsUnits string.old v string.new) }
+    ensures kept { OnErr result ((v : List ℕ) → CallsAppend calls.now v → FitWithin v 0 most → KeepsContents string.old string.new) }
 {
     laws::law_room();
     string.reserve(most)?;

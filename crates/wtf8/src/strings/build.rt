@@ -37,7 +37,7 @@ pub struct Stopped {
 }
 
 impl<A: Allocator> Wtf8Buf<A> {
-    ghost use Rattle.wtf8.specs.Building.{Step, Run, LeavesRefused, StopsAt, appended_units, Append, IsNoExtension, IsNoTruncation, FindsRoom, FindRoom, LeavesReserved};
+    ghost use Rattle.wtf8.specs.Building.{Step, Run, LeavesRefused, StopsAt, appended_units, CallsAppend, IsNoExtension, IsNoTruncation, CallFits, EachCallFits, LeavesReserved};
     ghost use Rattle.wtf8.specs.declared.strings.build.Build.TheVariants.{Reserve, Truncate};
 
     /// Applies one call. `Ok(false)` means that a truncation was refused, because its position is no code point
@@ -54,7 +54,7 @@ impl<A: Allocator> Wtf8Buf<A> {
         ensures room { IfSome (appended_units call.entry) (λ v. HasRoomFor self.old v → IsOk result) }
         ensures empty { appended_units call.entry ≡ Some [] → IsOk result }
         ensures reserve_room { (n : ℕ) → call.entry ≡ Reserve n → length self.old.bytes + n ≤ self.old.capacity → IsOk result }
-        ensures found { (v : List ℕ) → FindsRoom self.old.units call.entry v self.old.capacity → IsOk result }
+        ensures found { (v : List ℕ) → CallFits self.old.units call.entry v self.old.capacity → IsOk result }
         ensures capacity { IsNoTruncation call.entry → self.old.capacity ≤ self.new.capacity }
     {
         match call {
@@ -97,16 +97,16 @@ impl<A: Allocator> Wtf8Buf<A> {
 
         // A list of pushes and extensions appends their units in order. It is never refused if all of these fit; if it
         // is refused, the units up to and including the refused call's do not fit.
-        ensures appends { IfOk result (λ _. (v : List ℕ) → Append calls.now v → AppendsUnits self.old v self.new) }
-        ensures room { (v : List ℕ) → Append calls.now v → HasRoomFor self.old v → IsOk result }
-        ensures outgrown { IfErr result (λ s. (v : List ℕ) → Append (take (s.done + 1) calls.now) v → Outgrows self.old v) }
-        ensures capacity { (v : List ℕ) → Append calls.now v → self.old.capacity ≤ self.new.capacity }
+        ensures appends { IfOk result (λ _. (v : List ℕ) → CallsAppend calls.now v → AppendsUnits self.old v self.new) }
+        ensures room { (v : List ℕ) → CallsAppend calls.now v → HasRoomFor self.old v → IsOk result }
+        ensures outgrown { IfErr result (λ s. (v : List ℕ) → CallsAppend (take (s.done + 1) calls.now) v → Outgrows self.old v) }
+        ensures capacity { (v : List ℕ) → CallsAppend calls.now v → self.old.capacity ≤ self.new.capacity }
 
         // With `reserve` too, but no truncation: never refused if each call in turn fits the capacity at the start; if
         // refused, some call up to and including the refused one does not fit it. The capacity that a `reserve` asks
         // for is kept unless a truncation follows.
-        ensures found { (v : List ℕ) → FindRoom self.old.units calls.now v self.old.capacity → IsOk result }
-        ensures missed { IfErr result (λ s. (v : List ℕ) → ¬ (FindRoom self.old.units (take (s.done + 1) calls.now) v self.old.capacity)) }
+        ensures found { (v : List ℕ) → EachCallFits self.old.units calls.now v self.old.capacity → IsOk result }
+        ensures missed { IfErr result (λ s. (v : List ℕ) → ¬ (EachCallFits self.old.units (take (s.done + 1) calls.now) v self.old.capacity)) }
         ensures no_smaller { All IsNoTruncation calls.now → self.old.capacity ≤ self.new.capacity }
         ensures reserved { OnOk result (LeavesReserved self.old.units calls.now self.new.capacity) }
     {

@@ -1,7 +1,7 @@
 // Marks: byte positions with a known number of code units before them, from which later units are found.
 ghost use Rattle.std.specs.Prelude.{◌≡◌, ℕ, ◌≤◌, length, drop};
 ghost use Rattle.wtf8.specs.Position.{IsBoundary};
-ghost use Rattle.wtf8.specs.UnitMark.{IsMarkOf, IsUndivided};
+ghost use Rattle.wtf8.specs.UnitMark.{IsMarkOf, RoundsDownTo};
 ghost use Rattle.wtf8.specs.UnitPosition.{DividesPair};
 ghost use Rattle.wtf8.specs.View.{view_units};
 
@@ -48,7 +48,7 @@ impl<'a> Wtf8<'a> {
         requires order { from.units ≤ units }
         requires within { units ≤ length (view_units self.now) }
         ensures mark { IsMarkOf self.now result }
-        ensures last { IsUndivided (view_units self.now) units result.units }
+        ensures last { RoundsDownTo (view_units self.now) units result.units }
         ensures exact { ¬ (DividesPair (view_units self.now) units) → result.units ≡ units }
     {
         let Some(cut) = find_cut(self.slice_from_mark(from), units - from.units) else {

@@ -3,8 +3,8 @@ use Rattle.wtf8.proofs.Common.{◌≡◌, ◌+◌, ◌-◌, ◌≤◌, List, [],
 use Rattle.wtf8.proofs.Common.{append-nil, drop_all, units, units_of, pair, IsLead, IsTrail, IsCodePoint, UnitString, KeepsContents, MeetsAsPair, encoding}
 use Rattle.wtf8.proofs.Common.{IsWellFormed, IsForm, ExtendsForm, ExtendsFormOrKeeps, inl, inr, true, chars, IsUtf8, scalars-chars, and_parts, scalar, scalars, IsSurrogate}
 use Rattle.wtf8.proofs.Common.{IsClean, bytes_are_encodes, AreScalar, append_assoc, length-append, All, map-append, take_at, drop_at, All-drop, All-same, Step}
-use Rattle.wtf8.proofs.Common.{FindRoom, Build, Truncate, TruncateUnits, number, numbers, glue, IsUnit, bytes, ◌<◌, cases_lt, append_cancel_left, SurrogateAt}
-use Rattle.wtf8.proofs.Common.{on_ok_weaker, vec_capacity, length-map, All-take, encodes-chars, on_err_weaker, IsOk, HasRoomFor, FindsRoom, CodePoint}
+use Rattle.wtf8.proofs.Common.{EachCallFits, Build, Truncate, TruncateUnits, number, numbers, glue, IsUnit, bytes, ◌<◌, cases_lt, append_cancel_left, SurrogateAt}
+use Rattle.wtf8.proofs.Common.{on_ok_weaker, vec_capacity, length-map, All-take, encodes-chars, on_err_weaker, IsOk, HasRoomFor, CallFits, CodePoint}
 use Rattle.wtf8.proofs.Common.{AreScalarTo}
 use lib.Utf8.{scalar_cases}
 use Rattle.std.specs.declared.vec.Vec.{Vec}
@@ -287,30 +287,30 @@ extended_length ps w u y h k =
 pub units-points : (ps qs : List CodePoint) → units (numbers (ps ++ qs)) ≡ units (numbers ps) ++ units (numbers qs)
 units-points ps qs = ap units (map-append number ps qs) ∙ units-append (numbers ps) (numbers qs)
 
--- a call that finds room has the outcome `v` that `FindsRoom` names
-pub found_step : (u : List ℕ) (call : Build) (v w : List ℕ) (n r : ℕ) → FindsRoom u call v n → Step u call w r → w ≡ v
+-- a call that fits has the outcome `v` that `CallFits` names
+pub found_step : (u : List ℕ) (call : Build) (v w : List ℕ) (n r : ℕ) → CallFits u call v n → Step u call w r → w ≡ v
 found_step u (Truncate k) v w n r f s = absurd f.no_truncation
 found_step u (TruncateUnits k) v w n r f s = absurd f.no_truncation
 found_step u call v w n r f s = s.0 ∙ sym f.step.0
 
--- a call that finds room in a capacity finds it in a greater one
-pub FindsRoom-larger : {u v : List ℕ} {call : Build} {m n : ℕ} → FindsRoom u call v m → m ≤ n → FindsRoom u call v n
-FindsRoom-larger f h = record {
+-- a call that fits a capacity fits a greater one
+pub CallFits-larger : {u v : List ℕ} {call : Build} {m n : ℕ} → CallFits u call v m → m ≤ n → CallFits u call v n
+CallFits-larger f h = record {
   no_truncation = f.no_truncation;
   step = f.step;
   fits = record { whole = f.fits.whole; form = f.fits.form; within = omega (arith, f.fits.within, h) };
 }
 
--- If `calls ++ more` find room in `capacity`, `more` find it after `calls`, and the capacity has not shrunk.
+-- If each of `calls ++ more` fits `capacity`, each of `more` fits it after `calls`, and the capacity has not shrunk.
 pub record Found (u : List ℕ) (calls : List Build) (now : List ℕ) (capacity grown : ℕ) : Type 0 where
-  pub rest : (more : List Build) (v : List ℕ) → FindRoom u (calls ++ more) v capacity → FindRoom now more v capacity
-  pub grows : (more : List Build) (v : List ℕ) → FindRoom u (calls ++ more) v capacity → capacity ≤ grown
+  pub rest : (more : List Build) (v : List ℕ) → EachCallFits u (calls ++ more) v capacity → EachCallFits now more v capacity
+  pub grows : (more : List Build) (v : List ℕ) → EachCallFits u (calls ++ more) v capacity → capacity ≤ grown
 
 pub found_more : {u now new : List ℕ} {calls : List Build} {call : Build} {capacity grown larger : ℕ} (r : ℕ) → Found u calls now capacity grown
-    → Step now call new r → ((v : List ℕ) → FindsRoom now call v capacity → grown ≤ larger) → Found u (calls ++ call ∷ []) new capacity larger
+    → Step now call new r → ((v : List ℕ) → CallFits now call v capacity → grown ≤ larger) → Found u (calls ++ call ∷ []) new capacity larger
 found_more {u} {now} {new} {calls} {call} {capacity} {grown} {larger} r f s h = record {
   rest = λ more v x. let here = f.rest (call ∷ more) v (rw append_assoc at x) in
-      subst (λ m. FindRoom m more v capacity) (sym (found_step now call here.0 new capacity r here.1 s)) here.2;
+      subst (λ m. EachCallFits m more v capacity) (sym (found_step now call here.0 new capacity r here.1 s)) here.2;
   grows = λ more v x.
       let here = f.rest (call ∷ more) v (rw append_assoc at x) in
       omega (arith, f.grows (call ∷ more) v (rw append_assoc at x), h here.0 here.1);

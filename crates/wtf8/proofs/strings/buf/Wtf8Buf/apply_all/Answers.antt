@@ -1,11 +1,11 @@
 use Rattle.wtf8.proofs.Common.{◌≡◌, ◌<◌, ◌+◌, ℕ, List, [], ◌∷◌, ◌++◌, length, get_or, Bool, true, false, cond, Some, refl, ap, ◌∙◌, sym, subst, arith}
-use Rattle.wtf8.proofs.Common.{append_assoc, All, Step, Run, Append, IsNoTruncation, Build, Reserve, Truncate, TruncateUnits, ◌≤◌, take, drop, inl, inr}
-use Rattle.wtf8.proofs.Common.{false≢true, cases_lt, append-nil, IsForm, FindRoom, All-nil, All-cons, take_all, All-get_or, FitWithin, none-some}
+use Rattle.wtf8.proofs.Common.{append_assoc, All, Step, Run, CallsAppend, IsNoTruncation, Build, Reserve, Truncate, TruncateUnits, ◌≤◌, take, drop, inl, inr}
+use Rattle.wtf8.proofs.Common.{false≢true, cases_lt, append-nil, IsForm, EachCallFits, All-nil, All-cons, take_all, All-get_or, FitWithin, none-some}
 use Rattle.std.proofs.lemmas.Option.{same_Some}
 use Rattle.wtf8.specs.Building.{appended_units, reserved_bytes, LeavesReserved}
 use Rattle.wtf8.proofs.lemmas.laws.StringLaws.{reserved_more}
 use Rattle.wtf8.proofs.lemmas.strings.Concatenation.{take-cons-drop, take-push}
-use Rattle.wtf8.proofs.lemmas.strings.ExtendedForms.{Found, found_more, FindsRoom-larger, beginning_of_form}
+use Rattle.wtf8.proofs.lemmas.strings.ExtendedForms.{Found, found_more, CallFits-larger, beginning_of_form}
 use Rattle.wtf8.proofs.strings.buf.Wtf8Buf.apply_all.Given.{Over}
 use Rattle.wtf8.proofs.strings.buf.Wtf8Buf.apply_all.Goals.{In_default, then-not-kept, else-not-kept}
 use Rattle.wtf8.proofs.strings.buf.Wtf8Buf.apply_all.Goals as goal
@@ -34,21 +34,21 @@ Adds-from_appended u call a e =
     record { no_truncation = tt; reserves_none = refl; step = (ap (λ b. u ++ b) (sym same), refl); only = λ v r s. s.0 ∙ ap (λ b. u ++ b) same }
 
 -- a run of pushes and extensions appends the units of all, and none of them truncates
-run_appends : (u : List ℕ) (calls : List Build) (v : List ℕ) (n : ℕ) (a : List ℕ) → Run u calls v n → Append calls a → v ≡ u ++ a
+run_appends : (u : List ℕ) (calls : List Build) (v : List ℕ) (n : ℕ) (a : List ℕ) → Run u calls v n → CallsAppend calls a → v ≡ u ++ a
 run_appends u [] v n a x e = x.0 ∙ (sym (append-nil u) ∙ ap (λ b. u ++ b) (sym e))
 run_appends u (call ∷ calls) v n a x e =
     let here = (Adds-from_appended u call e.0 e.2).only x.0 x.1 x.3 in
     let rest = run_appends x.0 calls v x.2 e.1 x.4 e.3 in
     rest ∙ (ap (λ m. m ++ e.1) here ∙ (append_assoc u e.0 e.1 ∙ ap (λ b. u ++ b) (sym e.4)))
 
-none_truncates : (calls : List Build) (a : List ℕ) → Append calls a → All IsNoTruncation calls
+none_truncates : (calls : List Build) (a : List ℕ) → CallsAppend calls a → All IsNoTruncation calls
 none_truncates [] a e = All-nil IsNoTruncation
 none_truncates (call ∷ calls) a e = All-cons IsNoTruncation call calls (Adds-from_appended [] call e.0 e.2).no_truncation (none_truncates calls e.1 e.3)
 
--- if all that they append fits the capacity, each finds room
-find_room : (u : List ℕ) (calls : List Build) (a : List ℕ) (capacity : ℕ) → Append calls a → FitWithin (u ++ a) 0 capacity → FindRoom u calls (u ++ a) capacity
-find_room u [] a capacity e fit = ap (λ b. u ++ b) e ∙ append-nil u
-find_room u (call ∷ calls) a capacity e fit =
+-- if all that they append fits the capacity, each fits
+each_call_fits : (u : List ℕ) (calls : List Build) (a : List ℕ) (capacity : ℕ) → CallsAppend calls a → FitWithin (u ++ a) 0 capacity → EachCallFits u calls (u ++ a) capacity
+each_call_fits u [] a capacity e fit = ap (λ b. u ++ b) e ∙ append-nil u
+each_call_fits u (call ∷ calls) a capacity e fit =
     let mid = u ++ e.0 in
     let whole : u ++ a ≡ mid ++ e.1 = ap (λ b. u ++ b) e.4 ∙ sym (append_assoc u e.0 e.1) in
     let fits : FitWithin (mid ++ e.1) 0 capacity = subst (λ w. FitWithin w 0 capacity) whole fit in
@@ -60,7 +60,7 @@ find_room u (call ∷ calls) a capacity e fit =
         step = here.step;
         fits = record { whole = b.whole; form = b.form; within = omega (arith, b.within, fits.within, here.reserves_none) };
       },
-      subst (λ w. FindRoom mid calls w capacity) (sym whole) (find_room mid calls e.1 capacity e.3 fits),
+      subst (λ w. EachCallFits mid calls w capacity) (sym whole) (each_call_fits mid calls e.1 capacity e.3 fits),
     )
 
 call_among : (calls : List Build) (i : ℕ) (call : Build) → i < length calls → call ≡ get_or calls i call → All IsNoTruncation calls → IsNoTruncation call
@@ -73,13 +73,13 @@ refused-one_more kept n e = rw e refl
 refused-unchanged : (kept : Bool) (n : ℕ) → kept ≡ true → n ≡ n + cond kept 0 1
 refused-unchanged kept n e = rw e (omega arith)
 
--- a list that begins with the calls up to the refused one does not find room
+-- of a list that begins with the calls up to the refused one, not each fits
 no_room : (g : Over) (c : In_default g) (more : List Build) (v : List ℕ)
-    → ¬ (FindRoom c.args.self.now.units (take c.loop-done.done c.args.calls.now ++ c.index-calls-done.result ∷ more) v c.args.self.now.capacity)
+    → ¬ (EachCallFits c.args.self.now.units (take c.loop-done.done c.args.calls.now ++ c.index-calls-done.result ∷ more) v c.args.self.now.capacity)
 no_room g c more v whole =
     let found = c.loop-done.invariant.found in
     let here = found.rest (c.index-calls-done.result ∷ more) v whole in
-    false≢true (c.in_default.ensures.found here.0 (FindsRoom-larger here.1 (found.grows (c.index-calls-done.result ∷ more) v whole)))
+    false≢true (c.in_default.ensures.found here.0 (CallFits-larger here.1 (found.grows (c.index-calls-done.result ∷ more) v whole)))
 
 pub loop-done-preserved : goal.loop-done-preserved
 loop-done-preserved g c =
@@ -123,12 +123,12 @@ returns-in_default-clause-no_smaller g c all =
     omega (arith, c.loop-done.invariant.no_smaller all, c.in_default.ensures.capacity none)
 
 pub returns-in_default-clause-room : goal.returns-in_default-clause-room
-returns-in_default-clause-room g c v all fit = returns-in_default-clause-found g c _ (find_room c.args.self.now.units c.args.calls.now v _ all fit)
+returns-in_default-clause-room g c v all fit = returns-in_default-clause-found g c _ (each_call_fits c.args.self.now.units c.args.calls.now v _ all fit)
 
 pub returns-in_default-clause-outgrown : goal.returns-in_default-clause-outgrown
 returns-in_default-clause-outgrown g c v all w form = elim (cases_lt c.args.self.now.capacity (length w)) [
   | inl h ↦ h
-  | inr h ↦ absurd (returns-in_default-clause-missed g c _ (find_room c.args.self.now.units _ v _ all (record { whole = w; form = form; within = omega (arith, h) })))
+  | inr h ↦ absurd (returns-in_default-clause-missed g c _ (each_call_fits c.args.self.now.units _ v _ all (record { whole = w; form = form; within = omega (arith, h) })))
 ]
 
 pub returns-in_default-clause-capacity : goal.returns-in_default-clause-capacity
@@ -140,4 +140,4 @@ returns-clause-capacity g c v all = c.loop-done.invariant.no_smaller (none_trunc
 pub returns-clause-appends : goal.returns-clause-appends
 returns-clause-appends g c v all =
     let whole = take_all c.loop-done.done c.args.calls.now (omega arith) in
-    run_appends _ _ _ _ v c.loop-done.invariant.ran (subst (λ d. Append d v) (sym whole) all)
+    run_appends _ _ _ _ v c.loop-done.invariant.ran (subst (λ d. CallsAppend d v) (sym whole) all)
