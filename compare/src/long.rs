@@ -208,7 +208,7 @@ pub fn two_surrogates() -> Vec<Vec<Call>> {
     scripts
 }
 
-/// The texts of a string made of units and of one joined from halves. The two may have known prefixes of different
+/// The texts of a string made of units and of one joined from halves. The two may have UTF-8 prefixes of different
 /// lengths.
 fn texts_of(units: &[u16]) -> Vec<Call> {
     let (front, back) = units.split_at(units.len() / 2);

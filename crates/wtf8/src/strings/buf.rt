@@ -19,8 +19,8 @@ use crate::codec::{encoding, surrogates};
 use crate::from_utf16::transcode;
 use crate::lanes::{capacity, copies, search};
 use crate::strings::concat;
-use crate::strings::known_prefix::KnownPrefix;
 use crate::strings::unit_positions::find_cut;
+use crate::strings::utf8_prefix::Utf8Prefix;
 use crate::strings::view::Wtf8;
 use std::alloc::{AllocError, Allocator};
 use std::marker::Model;
@@ -50,9 +50,9 @@ use std::marker::Model;
 pub struct Wtf8Buf<A: Allocator> {
     bytes: Vec<u8, A>,
 
-    known_prefix: KnownPrefix,
+    utf8_prefix: Utf8Prefix,
     ghost well_formed: { IsWellFormed bytes.items } by { IsWellFormed-prop bytes.items },
-    ghost scalar_prefix: { AreScalarTo known_prefix.end well_formed.points } by { AreScalarTo-prop known_prefix.end well_formed.points },
+    ghost scalar_prefix: { AreScalarTo utf8_prefix.len well_formed.points } by { AreScalarTo-prop utf8_prefix.len well_formed.points },
 }
 
 impl<A: Allocator> Model for Wtf8Buf<A> {
@@ -78,18 +78,15 @@ impl<A: Allocator> Model for Wtf8Buf<A> {
     } };
 }
 
-/// Wraps well-formed bytes with their known prefix.
-fn from_well_formed<A: Allocator>(bytes: Vec<u8, A>, known_prefix: KnownPrefix) -> Wtf8Buf<A>
+/// Wraps well-formed bytes with their UTF-8 prefix.
+fn from_well_formed<A: Allocator>(bytes: Vec<u8, A>, utf8_prefix: Utf8Prefix) -> Wtf8Buf<A>
     requires well_formed { IsWellFormed bytes.items }
-    requires scalar { (h : IsWellFormed bytes.items) → AreScalarTo known_prefix.end h.points }
+    requires scalar { (h : IsWellFormed bytes.items) → AreScalarTo utf8_prefix.len h.points }
     ensures bytes { result.bytes ≡ bytes.items }
     ensures units { (h : IsWellFormed bytes.items) → result.units ≡ units h.points }
     ensures capacity { result.capacity ≡ vec_capacity bytes }
 {
-    Wtf8Buf {
-        bytes,
-        known_prefix,
-    }
+    Wtf8Buf { bytes, utf8_prefix }
 }
 
 impl<A: Allocator> Wtf8Buf<A> {
@@ -98,7 +95,7 @@ impl<A: Allocator> Wtf8Buf<A> {
         ensures units { result.units ≡ [] }
         ensures bytes { result.bytes ≡ [] }
     {
-        from_well_formed(Vec::new(alloc), KnownPrefix::new(true))
+        from_well_formed(Vec::new(alloc), Utf8Prefix::ALL)
     }
 
     /// Makes an empty string with room for at least `n` bytes. Does not allocate if `n` is 0.
@@ -109,7 +106,7 @@ impl<A: Allocator> Wtf8Buf<A> {
         ensures zero { n ≡ 0 → IsOk result }
     {
         let bytes = Vec::with_capacity(alloc, n)?;
-        Ok(from_well_formed(bytes, KnownPrefix::new(true)))
+        Ok(from_well_formed(bytes, Utf8Prefix::ALL))
     }
 
     /// Converts a `String`, reusing its buffer. Does not allocate.
@@ -118,7 +115,7 @@ impl<A: Allocator> Wtf8Buf<A> {
         ensures bytes { result.bytes ≡ string_bytes string }
         ensures scalar { AreScalar result.form.points }
     {
-        from_well_formed(string.into_bytes(), KnownPrefix::new(true))
+        from_well_formed(string.into_bytes(), Utf8Prefix::ALL)
     }
 
     /// Copies a `&str`. An empty one does not allocate. Linear in its length.
@@ -129,7 +126,7 @@ impl<A: Allocator> Wtf8Buf<A> {
         ensures empty { value.now ≡ [] → IsOk result }
     {
         let bytes = copies::to_vec_in(alloc, value.as_bytes())?;
-        Ok(from_well_formed(bytes, KnownPrefix::new(true)))
+        Ok(from_well_formed(bytes, Utf8Prefix::ALL))
     }
 
     /// Makes the string with the code units `v`, paired or not. Reserves a byte for each unit first, and does not
@@ -151,8 +148,8 @@ impl<A: Allocator> Wtf8Buf<A> {
         ensures empty { v.now ≡ [] → IsOk result }
     {
         let mut bytes = Vec::with_capacity(alloc, v.len())?;
-        let is_known_utf8 = transcode::append_utf16(&mut bytes, v)?;
-        Ok(from_well_formed(bytes, KnownPrefix::new(is_known_utf8)))
+        let is_utf8 = transcode::append_utf16(&mut bytes, v)?;
+        Ok(from_well_formed(bytes, Utf8Prefix::new(is_utf8)))
     }
 
     /// Copies the string, with a clone of its allocator. Linear in the length.
@@ -165,7 +162,7 @@ impl<A: Allocator> Wtf8Buf<A> {
     {
         let alloc = self.bytes.allocator().clone()?;
         let bytes = copies::to_vec_in(alloc, self.bytes.as_slice())?;
-        Ok(from_well_formed(bytes, self.known_prefix))
+        Ok(from_well_formed(bytes, self.utf8_prefix))
     }
 
     /// Reserves capacity for at least `additional` more bytes, and does not allocate if there is enough. The units and
@@ -244,7 +241,7 @@ impl<A: Allocator> Wtf8Buf<A> {
         ensures at_most { OnOk result (length self.new.bytes ≤ length self.old.bytes + length (encoding (number code_point))) }
         ensures room_left { length self.old.bytes + length (encoding (number code_point)) ≤ self.old.capacity → IsOk result }
     {
-        concat::push(&mut self.bytes, &mut self.known_prefix, code_point)
+        concat::push(&mut self.bytes, &mut self.utf8_prefix, code_point)
     }
 
     /// Appends a character. If memory is refused, the string is unchanged. Amortized constant.
@@ -329,7 +326,7 @@ impl<A: Allocator> Wtf8Buf<A> {
         ensures room_left { length self.old.bytes + length other.entry.bytes.now ≤ self.old.capacity → IsOk result }
         ensures nothing { other.entry.bytes.now ≡ [] → KeepsContents self.old self.new }
     {
-        concat::push_wtf8(&mut self.bytes, &mut self.known_prefix, other)
+        concat::push_wtf8(&mut self.bytes, &mut self.utf8_prefix, other)
     }
 
     /// Shortens the string to `new_len` bytes, which must be a code point boundary (`is_code_point_boundary` of the
@@ -339,7 +336,7 @@ impl<A: Allocator> Wtf8Buf<A> {
         ensures units { IsFront self.old.units new_len self.new.units }
         ensures bytes { self.new.bytes ≡ take new_len self.old.bytes }
     {
-        self.known_prefix = self.known_prefix.after_truncate(new_len);
+        self.utf8_prefix = self.utf8_prefix.after_truncate(new_len);
         self.bytes.truncate(new_len)
     }
 
@@ -349,7 +346,7 @@ impl<A: Allocator> Wtf8Buf<A> {
         ensures bytes { self.new.bytes ≡ [] }
         ensures capacity { self.new.capacity ≡ self.old.capacity }
     {
-        self.known_prefix = KnownPrefix::new(true);
+        self.utf8_prefix = Utf8Prefix::ALL;
         self.bytes.clear()
     }
 
@@ -377,7 +374,7 @@ impl<A: Allocator> Wtf8Buf<A> {
         match cut.divided {
             None => self.truncate(cut.position),
             Some(value) => {
-                self.known_prefix = self.known_prefix.up_to(cut.position);
+                self.utf8_prefix = self.utf8_prefix.up_to(cut.position);
                 let lead = surrogates::lead_of(value);
                 encoding::keep_lead(&mut self.bytes, cut.position, lead);
             }
@@ -415,30 +412,30 @@ impl<A: Allocator> Wtf8Buf<A> {
     fn into_lossy_bytes(self) -> Vec<u8, A>
         ensures { result.items ≡ bytes (lossy_points self.form.points) }
     {
-        let is_known_utf8 = self.is_known_utf8();
+        let is_utf8 = self.is_utf8();
         let Wtf8Buf { mut bytes, .. } = self;
-        if !is_known_utf8 {
+        if !is_utf8 {
             search::replace_surrogates(&mut bytes);
         }
         bytes
     }
 
-    /// Whether the string is known to hold no surrogate.
+    /// Whether the UTF-8 prefix is the whole string. If it is not, the rest may hold no surrogate either.
     #[inline(always)]
-    fn is_known_utf8(&self) -> bool
+    fn is_utf8(&self) -> bool
         ensures { IsTrue result → AreScalar self.now.form.points }
     {
-        self.bytes.len() <= self.known_prefix.end
+        self.bytes.len() <= self.utf8_prefix.len
     }
 
-    /// Returns the byte position of the first surrogate. Searches after the known prefix, and not at all if the whole
+    /// Returns the byte position of the first surrogate. Searches after the UTF-8 prefix, and not at all if the whole
     /// string is known to hold none.
     fn first_surrogate(&self) -> Option<usize>
         ensures { IsFirst (SurrogateAt self.now.bytes) 0 result }
     {
-        if self.is_known_utf8() {
+        if self.is_utf8() {
             return None;
         }
-        search::next_surrogate(&self.bytes, self.known_prefix.end)
+        search::next_surrogate(&self.bytes, self.utf8_prefix.len)
     }
 }

@@ -13,7 +13,7 @@ ghost use Rattle.wtf8.specs.View.{view_points, view_units};
 use crate::codec::code_point::CodePoint;
 use crate::codec::{encoding, surrogates};
 use crate::lanes::capacity::spare_capacity;
-use crate::strings::known_prefix::KnownPrefix;
+use crate::strings::utf8_prefix::Utf8Prefix;
 use crate::strings::view::Wtf8;
 use std::alloc::{AllocError, Allocator};
 
@@ -86,18 +86,18 @@ pub(crate) fn push_surrogate<A: Allocator>(
     }
 }
 
-/// Appends a code point; a trail surrogate completes a lead at the end. A surrogate cuts the known prefix to at
+/// Appends a code point; a trail surrogate completes a lead at the end. A surrogate cuts the UTF-8 prefix to at
 /// most the old length.
 #[inline(always)]
 pub(crate) fn push<A: Allocator>(
     bytes: &mut Vec<u8, A>,
-    known_prefix: &mut KnownPrefix,
+    utf8_prefix: &mut Utf8Prefix,
     code_point: CodePoint,
 ) -> Result<(), AllocError>
     requires { IsWellFormed bytes.old.items }
     ensures extends { ExtendsFormOrKeeps bytes.old (units_of (number code_point)) bytes.new result }
-    ensures known { known_prefix.new.end ≤ known_prefix.old.end }
-    ensures scalar { length bytes.old.items < known_prefix.new.end → ¬ (IsSurrogate (number code_point)) }
+    ensures order { utf8_prefix.new.len ≤ utf8_prefix.old.len }
+    ensures scalar { length bytes.old.items < utf8_prefix.new.len → ¬ (IsSurrogate (number code_point)) }
 {
     // The spare capacity is computed before the match, so that a loop can keep the length in a register.
     let spare = spare_capacity(bytes);
@@ -108,7 +108,7 @@ pub(crate) fn push<A: Allocator>(
         0x800..=0xD7FF => push_unpaired(bytes, spare, code_point),
         0x10000.. => push_unpaired(bytes, spare, code_point),
         0xD800..=0xDFFF => {
-            *known_prefix = known_prefix.up_to(bytes.len());
+            *utf8_prefix = utf8_prefix.up_to(bytes.len());
             push_surrogate(bytes, code_point)
         }
         _ => push_unpaired(bytes, spare, code_point),
@@ -180,17 +180,17 @@ fn append_completing<A: Allocator>(
 #[inline(always)]
 pub(crate) fn push_wtf8<A: Allocator>(
     bytes: &mut Vec<u8, A>,
-    known_prefix: &mut KnownPrefix,
+    utf8_prefix: &mut Utf8Prefix,
     other: Wtf8<'_>,
 ) -> Result<(), AllocError>
     requires well_formed { IsWellFormed bytes.old.items }
-    requires scalar_prefix { (h : IsWellFormed bytes.old.items) → AreScalarTo known_prefix.old.end h.points }
+    requires scalar_prefix { (h : IsWellFormed bytes.old.items) → AreScalarTo utf8_prefix.old.len h.points }
     ensures extends { ExtendsFormOrKeeps bytes.old (view_units other.entry) bytes.new result }
-    ensures known { known_prefix.new.end ≤ known_prefix.old.end }
-    ensures scalar { length bytes.old.items < known_prefix.new.end → AreScalar (view_points other.entry) }
+    ensures order { utf8_prefix.new.len ≤ utf8_prefix.old.len }
+    ensures scalar { length bytes.old.items < utf8_prefix.new.len → AreScalar (view_points other.entry) }
 {
-    let is_utf8 = bytes.len() <= known_prefix.end;
-    *known_prefix = known_prefix.after_push(bytes.len(), other);
+    let is_utf8 = bytes.len() <= utf8_prefix.len;
+    *utf8_prefix = utf8_prefix.after_push(bytes.len(), other);
     if is_utf8 {
         // A string without surrogates has no lead at its end.
         append_bytes(bytes, other.bytes)

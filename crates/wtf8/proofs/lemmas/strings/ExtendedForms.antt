@@ -1,4 +1,4 @@
--- The effect of appending calls: the contents, the known prefix and the capacity.
+-- The effect of appending calls: the contents, the UTF-8 prefix and the capacity.
 use Rattle.wtf8.proofs.Common.{◌≡◌, ◌+◌, ◌-◌, ◌≤◌, List, [], ◌∷◌, ℕ, ◌++◌, length, take, drop, Result, Ok, Err, OnOk, OnErr, refl, ap, ◌∙◌, sym, subst, arith}
 use Rattle.wtf8.proofs.Common.{append-nil, drop_all, units, units_of, pair, IsLead, IsTrail, IsCodePoint, UnitString, KeepsContents, MeetsAsPair, encoding}
 use Rattle.wtf8.proofs.Common.{IsWellFormed, IsForm, ExtendsForm, ExtendsFormOrKeeps, inl, inr, true, chars, IsUtf8, scalars-chars, and_parts, scalar, scalars, IsSurrogate}
@@ -140,7 +140,7 @@ pub scalar_each : (c : List ℕ) → ((f : List ℕ) (p : ℕ) (b : List ℕ) �
 scalar_each [] n = tt
 scalar_each (p ∷ c) n = (n [] p c refl, scalar_each c (λ f q b e. n (p ∷ f) q b (ap (λ d. p ∷ d) e)))
 
--- The known prefix: no code point that begins before a position is a surrogate.
+-- The UTF-8 prefix: no code point that begins before a position is a surrogate.
 
 pub scalar_all : (c : List ℕ) (k : ℕ) → AreScalar c → AreScalarTo k c
 scalar_all c k s f p b e _ = scalar-middle f p b (subst AreScalar e s)
@@ -189,23 +189,23 @@ scalar_to-glue k n c d s l t = elim (meets_or_not c d) [
   | inr a ↦ subst (AreScalarTo n) (sym (glue-unpaired c d a)) (scalar_to-append n c d (λ f p b e m. s f p b e (omega (arith, l, m))) t)
 ]
 
--- the known prefix after replacing the back by one code point, which begins at or after its end
+-- the UTF-8 prefix after replacing the back by one code point, which begins at or after its end
 pub scalar_to-cut : (k n : ℕ) (f b : List ℕ) (q : ℕ) {c : List ℕ} → AreScalarTo k c → c ≡ f ++ b → n ≤ k → n ≤ length (bytes f) → AreScalarTo n (f ++ q ∷ [])
 scalar_to-cut k n f b q s e l m = scalar_to-append n f (q ∷ []) (scalar_to-front k n f b (subst (AreScalarTo k) e s) l) (λ x. absurd (omega (arith, x, m)))
 
 pub scalar_to-equal_bytes : {v w : List ℕ} (k : ℕ) (h : IsWellFormed v) (x : IsWellFormed w) → w ≡ v → AreScalarTo k h.points → AreScalarTo k x.points
 scalar_to-equal_bytes k h x e s = subst (AreScalarTo k) (sym (same_points x h e)) s
 
--- no surrogate begins in the known prefix of the bytes
+-- no surrogate begins in the UTF-8 prefix of the bytes
 pub none_before : {w : List ℕ} (k : ℕ) (h : IsWellFormed w) (i : ℕ) → AreScalarTo k h.points → i < k → ¬ (SurrogateAt w i)
 none_before k h i s l at =
     let p = surrogate_in h.points i (subst (λ v. SurrogateAt v i) (sym h.encoded) at) in
     s p.front p.point p.back p.joined (omega (arith, l, p.front_len)) p.surrogate
 
--- after units were appended the bytes are well-formed, with a known prefix of `n` bytes
-known_prefix_after_extension : (c v : List ℕ) (k n : ℕ) {old new : List ℕ} (h : IsWellFormed old) → v ≡ units c → IsClean c → AreScalarTo k h.points → n ≤ k
+-- after units were appended the bytes are well-formed, with a UTF-8 prefix of `n` bytes
+utf8_prefix_after_extension : (c v : List ℕ) (k n : ℕ) {old new : List ℕ} (h : IsWellFormed old) → v ≡ units c → IsClean c → AreScalarTo k h.points → n ≤ k
     → (length old < n → AreScalar c) → ExtendsForm old new v → (x : IsWellFormed new) × (AreScalarTo n x.points × Unit {0})
-known_prefix_after_extension c v k n h e x s l t extended =
+utf8_prefix_after_extension c v k n h e x s l t extended =
     let f = extended (units h.points) (form_of h) in
     let now = well_formed_of f in
     let whole : units now.points ≡ units (glue h.points c) = cc (f.reads.same_units, units-glue h.points c) in
@@ -213,16 +213,16 @@ known_prefix_after_extension c v k n h e x s l t extended =
     (now, (subst (AreScalarTo n) (sym same) (scalar_to-glue k n h.points c s l (λ m. t (omega (arith, m, ap length h.encoded)))), tt))
 
 module _ {T E Z : Type 0} {b m : Vec ℕ Z} {v : List ℕ} where
-  -- after a call that appended units or was refused the bytes are well-formed, with a known prefix of `n` bytes
-  pub known_prefix_after_append : (r : Result T E) (c : List ℕ) (k n : ℕ) (h : IsWellFormed b.items) → v ≡ units c → IsClean c → AreScalarTo k h.points → n ≤ k
+  -- after a call that appended units or was refused the bytes are well-formed, with a UTF-8 prefix of `n` bytes
+  pub utf8_prefix_after_append : (r : Result T E) (c : List ℕ) (k n : ℕ) (h : IsWellFormed b.items) → v ≡ units c → IsClean c → AreScalarTo k h.points → n ≤ k
       → (length b.items < n → AreScalar c) → ExtendsFormOrKeeps b v m r → (x : IsWellFormed m.items) × (AreScalarTo n x.points × Unit {0})
-  known_prefix_after_append (Ok _) c k n h e x s l t g = known_prefix_after_extension c v k n h e x s l t (rw g.becomes.ok g.extends)
-  known_prefix_after_append (Err _) c k n h e x s l t g = (IsWellFormed-equal_bytes h g.becomes.err, ((λ f p b g m. s f p b g (omega (arith, l, m))), tt))
+  utf8_prefix_after_append (Ok _) c k n h e x s l t g = utf8_prefix_after_extension c v k n h e x s l t (rw g.becomes.ok g.extends)
+  utf8_prefix_after_append (Err _) c k n h e x s l t g = (IsWellFormed-equal_bytes h g.becomes.err, ((λ f p b g m. s f p b g (omega (arith, l, m))), tt))
 
 module _ {T E Z : Type 0} {b m : Vec ℕ Z} where
-  pub known_prefix_after_push : (r : Result T E) (p : ℕ) (k n : ℕ) (h : IsWellFormed b.items) → IsCodePoint p → AreScalarTo k h.points → n ≤ k
+  pub utf8_prefix_after_push : (r : Result T E) (p : ℕ) (k n : ℕ) (h : IsWellFormed b.items) → IsCodePoint p → AreScalarTo k h.points → n ≤ k
       → (length b.items < n → ¬ (IsSurrogate p)) → ExtendsFormOrKeeps b (units_of p) m r → (x : IsWellFormed m.items) × (AreScalarTo n x.points × Unit {0})
-  known_prefix_after_push r p k n h range s l t g = known_prefix_after_append r (p ∷ []) k n h (sym (append-nil (units_of p))) range s l (λ m. (t m, tt)) g
+  utf8_prefix_after_push r p k n h range s l t g = utf8_prefix_after_append r (p ∷ []) k n h (sym (append-nil (units_of p))) range s l (λ m. (t m, tt)) g
 
 -- Lengths of forms and of their parts, and the capacity that a list of calls needs.
 

@@ -5,14 +5,14 @@ use Rattle.wtf8.proofs.strings.buf.Wtf8Buf.from_ill_formed_utf16.Goals as goal
 
 pub from_well_formed-requires-clause-scalar : goal.from_well_formed-requires-clause-scalar
 from_well_formed-requires-clause-scalar g c h =
-    let read = c.in_ok-is_known_utf8.ensures.ok in
+    let read = c.in_ok-is_utf8.ensures.ok in
     c.new.ensures h.points (λ known. scalar-equal_bytes (well_formed_of read.form) h refl (read.scalar known))
 
 pub returns-clause-units : goal.returns-clause-units
 returns-clause-units g c =
-    let form = c.in_ok-is_known_utf8.ensures.ok.form in
+    let form = c.in_ok-is_utf8.ensures.ok.form in
     c.from_well_formed.ensures.units (well_formed_of form) ∙ form.reads.same_units
 
 pub returns-clause-form : goal.returns-clause-form
 returns-clause-form g c w form =
-    c.from_well_formed.ensures.bytes ∙ same_form c.append_utf16.new.bytes.items w c.args.v.now c.in_ok-is_known_utf8.ensures.ok.form form
+    c.from_well_formed.ensures.bytes ∙ same_form c.append_utf16.new.bytes.items w c.args.v.now c.in_ok-is_utf8.ensures.ok.form form

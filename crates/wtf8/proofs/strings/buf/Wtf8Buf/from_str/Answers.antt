@@ -1,6 +1,6 @@
 use Rattle.wtf8.proofs.Common.{refl, ◌∙◌}
 use Rattle.wtf8.proofs.lemmas.codec.Readings.{well_formed_of}
-use Rattle.wtf8.proofs.lemmas.strings.ExtendedForms.{scalar-equal_bytes, scalar_text, well_formed-equal_text}
+use Rattle.wtf8.proofs.lemmas.strings.ExtendedForms.{scalar-equal_bytes, scalar_all, scalar_text, well_formed-equal_text}
 use Rattle.wtf8.proofs.strings.buf.Wtf8Buf.from_str.Goals as goal
 
 pub from_well_formed-requires-clause-well_formed : goal.from_well_formed-requires-clause-well_formed
@@ -8,7 +8,7 @@ from_well_formed-requires-clause-well_formed g c = well_formed-equal_text c.utf8
 
 pub from_well_formed-requires-clause-scalar : goal.from_well_formed-requires-clause-scalar
 from_well_formed-requires-clause-scalar g c h =
-    c.new.ensures h.points (λ _. scalar-equal_bytes (well_formed-equal_text c.utf8.value (c.in_ok-bytes.ensures.items ∙ c.as_bytes.ensures.value)) h refl (scalar_text c.utf8.value))
+    scalar_all h.points _ (scalar-equal_bytes (well_formed-equal_text c.utf8.value (c.in_ok-bytes.ensures.items ∙ c.as_bytes.ensures.value)) h refl (scalar_text c.utf8.value))
 
 pub returns-clause-units : goal.returns-clause-units
 returns-clause-units g c = c.from_well_formed.ensures.units (well_formed-equal_text c.utf8.value (c.in_ok-bytes.ensures.items ∙ c.as_bytes.ensures.value))

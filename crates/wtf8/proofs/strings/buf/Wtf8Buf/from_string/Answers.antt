@@ -1,6 +1,6 @@
 use Rattle.wtf8.proofs.Common.{refl, ap, IsUtf8-string_bytes}
 use Rattle.wtf8.proofs.lemmas.codec.Readings.{well_formed_of}
-use Rattle.wtf8.proofs.lemmas.strings.ExtendedForms.{scalar-equal_bytes, scalar_text, well_formed-equal_text}
+use Rattle.wtf8.proofs.lemmas.strings.ExtendedForms.{scalar-equal_bytes, scalar_all, scalar_text, well_formed-equal_text}
 use Rattle.wtf8.proofs.strings.buf.Wtf8Buf.from_string.Goals as goal
 
 pub from_well_formed-requires-clause-well_formed : goal.from_well_formed-requires-clause-well_formed
@@ -8,7 +8,7 @@ from_well_formed-requires-clause-well_formed g c = well_formed-equal_text (IsUtf
 
 pub from_well_formed-requires-clause-scalar : goal.from_well_formed-requires-clause-scalar
 from_well_formed-requires-clause-scalar g c h =
-    c.new.ensures h.points (λ _. scalar-equal_bytes (well_formed-equal_text (IsUtf8-string_bytes c.args.string) (ap (λ v. v.items) c.into_bytes.ensures.value)) h refl
+    scalar_all h.points _ (scalar-equal_bytes (well_formed-equal_text (IsUtf8-string_bytes c.args.string) (ap (λ v. v.items) c.into_bytes.ensures.value)) h refl
     (scalar_text (IsUtf8-string_bytes c.args.string)))
 
 pub returns-clause-units : goal.returns-clause-units

@@ -1,5 +1,5 @@
 use Rattle.wtf8.proofs.Common.{number, refl, ap, on_ok_weaker, ◌∙◌, ◌++◌}
-use Rattle.wtf8.proofs.lemmas.strings.ExtendedForms.{units_appended, kept_contents, room_found, known_prefix_after_push, point_form}
+use Rattle.wtf8.proofs.lemmas.strings.ExtendedForms.{units_appended, kept_contents, room_found, utf8_prefix_after_push, point_form}
 use Rattle.wtf8.proofs.lemmas.codec.Readings.{form_of, units_one}
 use Rattle.wtf8.proofs.lemmas.laws.StringLaws.{grows_at_most, room_left}
 use Rattle.wtf8.proofs.strings.buf.Wtf8Buf.push.Goals as goal
@@ -8,7 +8,7 @@ pub invariant_of-self-inside : goal.invariant_of-self-inside
 invariant_of-self-inside g c =
     let own = c.self.inside in
     let call = c.push in
-    known_prefix_after_push call.result (number c.args.code_point) own.known_prefix.end _ own.well_formed c.args.code_point.in_range own.scalar_prefix call.ensures.known
+    utf8_prefix_after_push call.result (number c.args.code_point) own.utf8_prefix.len _ own.well_formed c.args.code_point.in_range own.scalar_prefix call.ensures.order
     call.ensures.scalar call.ensures.extends
 
 pub returns-clause-ok : goal.returns-clause-ok

@@ -1,5 +1,5 @@
 use Rattle.wtf8.proofs.Common.{UnitString, ap, arith, length, length-append, encoding, on_ok_weaker, refl, ExtendsFormOrKeeps, units_of, ◌≡◌, ◌∷◌, ◌++◌, []}
-use Rattle.wtf8.proofs.lemmas.strings.ExtendedForms.{units_appended, kept_contents, room_found, known_prefix_after_push, scalar_facts}
+use Rattle.wtf8.proofs.lemmas.strings.ExtendedForms.{units_appended, kept_contents, room_found, utf8_prefix_after_push, scalar_facts}
 use Rattle.wtf8.proofs.lemmas.codec.Encoding.{encoding_one}
 use Rattle.wtf8.proofs.lemmas.codec.Readings.{units_one}
 use Rattle.wtf8.proofs.strings.buf.Wtf8Buf.push_char.Given.{Over}
@@ -13,7 +13,7 @@ pub invariant_of-self-inside : goal.invariant_of-self-inside
 invariant_of-self-inside g c =
     let f = scalar_facts c.args.c c.ranges.c.0 in
     let own = c.self.inside in
-    known_prefix_after_push c.push_char.result c.args.c own.known_prefix.end own.known_prefix.end own.well_formed f.range own.scalar_prefix (omega arith) (λ _. f.not_surrogate)
+    utf8_prefix_after_push c.push_char.result c.args.c own.utf8_prefix.len own.utf8_prefix.len own.well_formed f.range own.scalar_prefix (omega arith) (λ _. f.not_surrogate)
     (record { whole = _; extends = c.push_char.ensures.units; becomes = c.push_char.ensures.bytes })
 
 pub returns-clause-ok : goal.returns-clause-ok

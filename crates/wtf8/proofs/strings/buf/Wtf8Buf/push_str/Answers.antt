@@ -1,5 +1,5 @@
 use Rattle.wtf8.proofs.Common.{ap, arith, length, refl, units, ExtendsFormOrKeeps, chars}
-use Rattle.wtf8.proofs.lemmas.strings.ExtendedForms.{units_appended, kept_contents, room_found, known_prefix_after_append, scalar_text, well_formed_text}
+use Rattle.wtf8.proofs.lemmas.strings.ExtendedForms.{units_appended, kept_contents, room_found, utf8_prefix_after_append, scalar_text, well_formed_text}
 use Rattle.wtf8.proofs.lemmas.laws.StringLaws.{nothing_appended}
 use Rattle.wtf8.proofs.lemmas.codec.Readings.{points-nil}
 use Rattle.wtf8.proofs.strings.buf.Wtf8Buf.push_str.Given.{Over}
@@ -13,7 +13,7 @@ pub invariant_of-self-inside : goal.invariant_of-self-inside
 invariant_of-self-inside g c =
     let own = c.self.inside in
     let other = well_formed_text c.args.other.now c.utf8.other in
-    known_prefix_after_append c.push_str.result other.points own.known_prefix.end own.known_prefix.end own.well_formed refl other.clean own.scalar_prefix (omega arith)
+    utf8_prefix_after_append c.push_str.result other.points own.utf8_prefix.len own.utf8_prefix.len own.well_formed refl other.clean own.scalar_prefix (omega arith)
     (λ _. scalar_text c.utf8.other) (record { whole = _; extends = c.push_str.ensures.units; becomes = c.push_str.ensures.bytes })
 
 pub returns-clause-ok : goal.returns-clause-ok

@@ -1,5 +1,5 @@
 use Rattle.wtf8.proofs.Common.{IsForm, ◌++◌, ◌∙◌, subst, sym, append-nil, ap, arith, length, refl, units, view_units, view_form, AreScalarTo}
-use Rattle.wtf8.proofs.lemmas.strings.ExtendedForms.{units_appended, kept_contents, room_found, known_prefix_after_append}
+use Rattle.wtf8.proofs.lemmas.strings.ExtendedForms.{units_appended, kept_contents, room_found, utf8_prefix_after_append}
 use Rattle.wtf8.proofs.lemmas.laws.StringLaws.{grows_at_most, added_length, nothing_appended, room_left}
 use Rattle.wtf8.proofs.lemmas.codec.Readings.{points-nil, form_of, same_points}
 use Rattle.wtf8.proofs.strings.buf.Wtf8Buf.push_wtf8.Goals as goal
@@ -7,15 +7,15 @@ use Rattle.wtf8.proofs.strings.buf.Wtf8Buf.push_wtf8.Goals as goal
 pub push_wtf8-requires-clause-scalar_prefix : goal.push_wtf8-requires-clause-scalar_prefix
 push_wtf8-requires-clause-scalar_prefix g c h =
     let own = c.self.inside in
-    subst (AreScalarTo own.known_prefix.end) (same_points own.well_formed h refl) own.scalar_prefix
+    subst (AreScalarTo own.utf8_prefix.len) (same_points own.well_formed h refl) own.scalar_prefix
 
 pub invariant_of-self-inside : goal.invariant_of-self-inside
 invariant_of-self-inside g c =
     let other = c.args.other.well_formed in
     let own = c.self.inside in
-    let end = c.push_wtf8.ensures in
-    known_prefix_after_append c.push_wtf8.result other.points own.known_prefix.end _ own.well_formed refl other.clean own.scalar_prefix
-    end.known end.scalar c.push_wtf8.ensures.extends
+    let prefix = c.push_wtf8.ensures in
+    utf8_prefix_after_append c.push_wtf8.result other.points own.utf8_prefix.len _ own.well_formed refl other.clean own.scalar_prefix
+    prefix.order prefix.scalar c.push_wtf8.ensures.extends
 
 pub returns-clause-ok : goal.returns-clause-ok
 returns-clause-ok g c = units_appended _ _ c.self-1.given.0 c.self.view_is refl c.push_wtf8.ensures.extends

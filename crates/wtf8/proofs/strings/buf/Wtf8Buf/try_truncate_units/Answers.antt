@@ -23,10 +23,10 @@ invariant_of-self-inside g c =
     let h = c.as_wtf8.result.well_formed in
     let x = divided_from_cut c.in-Some-divided.is c.in-Some.ensures.some in
     let own = c.self.inside in
-    let scalar = scalar_to-equal_bytes own.known_prefix.end own.well_formed h (cc (ap (λ (t : UnitString). t.bytes) c.self.view_is)) own.scalar_prefix in (
+    let scalar = scalar_to-equal_bytes own.utf8_prefix.len own.well_formed h (cc (ap (λ (t : UnitString). t.bytes) c.self.view_is)) own.scalar_prefix in (
       IsWellFormed-equal_bytes (lead_kept h x) (cc (ap (λ (t : UnitString). t.bytes) c.self.view_is)),
       (
-        scalar_to-cut own.known_prefix.end c.up_to-self-inside.result.end x.front _ _ scalar x.joined c.up_to-self-inside.ensures.order
+        scalar_to-cut own.utf8_prefix.len c.up_to-self-inside.result.len x.front _ _ scalar x.joined c.up_to-self-inside.ensures.order
             (omega (arith, x.front_len, c.up_to-self-inside.ensures.within)),
         tt,
       ),
