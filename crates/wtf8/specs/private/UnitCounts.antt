@@ -15,14 +15,14 @@ sum_utf16_len w = sum_by utf16_len w
 
 -- `cursor` is a byte position with the number of units of the code points that begin before it, which is at most `n`.
 pub record IsCursor (w : List ℕ) (n : ℕ) (cursor : UnitCursor) : Type 0 where
-  pub within : cursor.at ≤ length w
-  pub counted : cursor.units_before ≡ sum_utf16_len (take cursor.at w)
-  pub not_beyond : cursor.units_before ≤ n
+  pub within : cursor.position ≤ length w
+  pub counted : cursor.units ≡ sum_utf16_len (take cursor.position w)
+  pub not_beyond : cursor.units ≤ n
 
 -- `cursor` is the start of the code point that holds unit `n`, or the end of the bytes if they have at most `n` units.
 pub record IsCursorOfUnit (w : List ℕ) (n : ℕ) (cursor : UnitCursor) : Type 0 where
   pub before : IsCursor w n cursor
-  pub reaches : cursor.at < length w → n < sum_utf16_len (take (cursor.at + 1) w)
+  pub reaches : cursor.position < length w → n < sum_utf16_len (take (cursor.position + 1) w)
 
 -- `p`, the first code point of `back`, has two units, and a cut after `n` units is between them.
 pub record Divides (front back : List ℕ) (n p : ℕ) : Type 0 where

@@ -36,13 +36,13 @@ left_after [] (p ∷ c) = record { held = drop 1 (units_of p); points = c }
 abbrev pub unread_after : Unread → Unread
 unread_after s = left_after s.held s.points
 
--- What is unread at byte position `at`: the trail that begins there, if any, and the code points after it.
-abbrev pub unread_at : (v : List ℕ) (at : ℕ) → IsWellFormed (after_held_trail (drop at v)) → Unread
-unread_at v at h = record { held = held_trail (drop at v); points = h.points }
+-- What is unread at byte position `position`: the trail that begins there, if any, and the code points after it.
+abbrev pub unread_at : (v : List ℕ) (position : ℕ) → IsWellFormed (after_held_trail (drop position v)) → Unread
+unread_at v position h = record { held = held_trail (drop position v); points = h.points }
 
--- A step from position `at` to `next` reads the first unread unit and leaves the rest.
-pub record StepsUnit (v : List ℕ) (at : ℕ) (h : IsWellFormed (after_held_trail (drop at v))) (unit next : ℕ) : Type 0 where
+-- A step from position `position` to `next` reads the first unread unit and leaves the rest.
+pub record StepsUnit (v : List ℕ) (position : ℕ) (h : IsWellFormed (after_held_trail (drop position v))) (unit next : ℕ) : Type 0 where
   pub within : next ≤ length v
   pub after : IsWellFormed (after_held_trail (drop next v))
-  pub first : unread_units (unread_at v at h) ≡ unit ∷ unread_units (unread_at v next after)
-  pub left : unread_at v next after ≡ unread_after (unread_at v at h)
+  pub first : unread_units (unread_at v position h) ≡ unit ∷ unread_units (unread_at v next after)
+  pub left : unread_at v next after ≡ unread_after (unread_at v position h)

@@ -19,10 +19,10 @@ pub struct Wtf8CodePoints<'a> {
     bytes: &'a [u8],
 
     /// The byte position of the next code point, or the length at the end.
-    at: usize,
+    position: usize,
 
-    ghost within: { at ≤ length bytes.now },
-    ghost well_formed: { IsWellFormed (drop at bytes.now) } by { IsWellFormed-prop (drop at bytes.now) },
+    ghost within: { position ≤ length bytes.now },
+    ghost well_formed: { IsWellFormed (drop position bytes.now) } by { IsWellFormed-prop (drop position bytes.now) },
 }
 
 impl<'a> Model for Wtf8CodePoints<'a> {
@@ -45,7 +45,7 @@ impl<'a> Wtf8CodePoints<'a> {
     {
         Wtf8CodePoints {
             bytes: view.bytes,
-            at: 0,
+            position: 0,
         }
     }
 
@@ -55,7 +55,7 @@ impl<'a> Wtf8CodePoints<'a> {
         ensures points { view_points result ≡ self.now }
         ensures bytes { result.bytes.now ≡ bytes self.now }
     {
-        let (_, left) = self.bytes.split_at(self.at);
+        let (_, left) = self.bytes.split_at(self.position);
         Wtf8::from_well_formed(left)
     }
 
@@ -64,12 +64,12 @@ impl<'a> Wtf8CodePoints<'a> {
     fn next_point(&mut self) -> Option<CodePoint>
         ensures { YieldsFirstBy number (λ points. points) self.old result self.new }
     {
-        if self.at == self.bytes.len() {
+        if self.position == self.bytes.len() {
             return None;
         }
-        let (_, rest) = self.bytes.split_at(self.at);
-        let (code_point, after) = encoding::read(rest, self.at);
-        self.at = after;
+        let (_, rest) = self.bytes.split_at(self.position);
+        let (code_point, after) = encoding::read(rest, self.position);
+        self.position = after;
         Some(code_point)
     }
 }
@@ -98,7 +98,7 @@ impl<'a> Iterator for Wtf8CodePoints<'a> {
         ensures value { result ≡ points_hint self.now }
         ensures holds { IsTrueHint result (length self.now) }
     {
-        let bytes = self.bytes.len() - self.at;
+        let bytes = self.bytes.len() - self.position;
         (bytes.div_ceil(4), Some(bytes))
     }
 }
@@ -113,7 +113,7 @@ impl<'a> Clone for Wtf8CodePoints<'a> {
     fn clone(&self) -> Result<Wtf8CodePoints<'a>, AllocError> {
         Ok(Wtf8CodePoints {
             bytes: self.bytes,
-            at: self.at,
+            position: self.position,
         })
     }
 }
@@ -126,30 +126,30 @@ fn read_unit(bytes: &[u8], position: &mut usize) -> u16
     requires after { IsWellFormed (after_held_trail (drop position.old bytes.now)) }
     ensures { (h : IsWellFormed (after_held_trail (drop position.old bytes.now))) → StepsUnit bytes.now position.old h result position.new }
 {
-    let at = *position;
-    let (_, rest) = bytes.split_at(at);
+    let start = *position;
+    let (_, rest) = bytes.split_at(start);
     let first = rest[0];
     // Each branch moves the position by a constant: one step for all of them, by a variable width, is slower.
     if first < 0x80 {
-        *position = at + 1;
+        *position = start + 1;
         return u16::from(first);
     }
     if 0xC0 <= first {
         if first < 0xE0 {
-            *position = at + 2;
+            *position = start + 2;
             return encoding::read_two(rest) as u16;
         }
         if first < 0xF0 {
             let unit = encoding::read_three(rest) as u16;
-            *position = at + 3;
+            *position = start + 3;
             return unit;
         }
         let lead = encoding::read_lead(rest);
-        *position = at + 2;
+        *position = start + 2;
         return lead;
     }
     let trail = encoding::read_trail(rest);
-    *position = at + 2;
+    *position = start + 2;
     trail
 }
 
@@ -163,10 +163,10 @@ pub struct IllFormedUtf16CodeUnits<'a> {
 
     /// The byte position of the next code point, or the length at the end. While the trail of a pair is held back, the
     /// position of the last two of the pair's four bytes, which give the trail.
-    at: usize,
+    position: usize,
 
-    ghost within: { at ≤ length bytes.now },
-    ghost after: { IsWellFormed (after_held_trail (drop at bytes.now)) } by { IsWellFormed-prop (after_held_trail (drop at bytes.now)) },
+    ghost within: { position ≤ length bytes.now },
+    ghost after: { IsWellFormed (after_held_trail (drop position bytes.now)) } by { IsWellFormed-prop (after_held_trail (drop position bytes.now)) },
 }
 
 impl<'a> Model for IllFormedUtf16CodeUnits<'a> {
@@ -176,7 +176,7 @@ impl<'a> Model for IllFormedUtf16CodeUnits<'a> {
 
     ghost Value = { Unread };
 
-    ghost view = { λ s. record { held = held_trail (drop s.at s.bytes.now); points = s.after.points } };
+    ghost view = { λ s. record { held = held_trail (drop s.position s.bytes.now); points = s.after.points } };
 }
 
 impl<'a> IllFormedUtf16CodeUnits<'a> {
@@ -194,7 +194,7 @@ impl<'a> IllFormedUtf16CodeUnits<'a> {
     {
         IllFormedUtf16CodeUnits {
             bytes: view.bytes,
-            at: 0,
+            position: 0,
         }
     }
 
@@ -209,7 +209,7 @@ impl<'a> IllFormedUtf16CodeUnits<'a> {
         if self.held_units() == 1 {
             return None;
         }
-        let (_, unread) = self.bytes.split_at(self.at);
+        let (_, unread) = self.bytes.split_at(self.position);
         Some(Wtf8::from_well_formed(unread))
     }
 
@@ -219,10 +219,10 @@ impl<'a> IllFormedUtf16CodeUnits<'a> {
         ensures first { YieldsFirst unread_units self.old result self.new }
         ensures left { self.new ≡ unread_after self.old }
     {
-        if self.at == self.bytes.len() {
+        if self.position == self.bytes.len() {
             return None;
         }
-        Some(read_unit(self.bytes, &mut self.at))
+        Some(read_unit(self.bytes, &mut self.position))
     }
 
     /// Returns the encoded length of the code points that are left, without the two bytes of a held trail.
@@ -231,7 +231,7 @@ impl<'a> IllFormedUtf16CodeUnits<'a> {
         ensures at_least_units { length (units self.now.points) ≤ result }
         ensures at_most_three_times { result ≤ 3 * length (units self.now.points) }
     {
-        self.bytes.len() - self.at - 2 * self.held_units()
+        self.bytes.len() - self.position - 2 * self.held_units()
     }
 
     /// Returns the number of units held back: 1 for a trail, else 0.
@@ -239,10 +239,10 @@ impl<'a> IllFormedUtf16CodeUnits<'a> {
         ensures value { result ≡ length self.now.held }
         ensures at_most_one { result ≤ 1 }
     {
-        if self.at == self.bytes.len() {
+        if self.position == self.bytes.len() {
             return 0;
         }
-        match self.bytes[self.at] {
+        match self.bytes[self.position] {
             0x80..=0xBF => 1,
             _ => 0,
         }
@@ -295,7 +295,7 @@ impl<'a> Clone for IllFormedUtf16CodeUnits<'a> {
     fn clone(&self) -> Result<IllFormedUtf16CodeUnits<'a>, AllocError> {
         Ok(IllFormedUtf16CodeUnits {
             bytes: self.bytes,
-            at: self.at,
+            position: self.position,
         })
     }
 }

@@ -24,8 +24,8 @@ const LEAST_UNITS_SUMMED: usize = SUMMED_BLOCKS * BLOCK / 3;
 /// A byte index, which need not be a boundary, and the number of units of the code points that begin before it.
 #[derive(Clone, Copy)]
 pub(crate) struct UnitCursor {
-    pub(crate) at: usize,
-    pub(crate) units_before: usize,
+    pub(crate) position: usize,
+    pub(crate) units: usize,
 }
 
 /// Returns the number of units of the code point that `byte` begins; 0 for a continuation byte.
@@ -57,16 +57,16 @@ fn utf16_len_of_block<const N: usize>(bytes: Simd<u8, N>) -> usize
     usize::from(utf16_len_of_each(bytes).strict_reduce_sum())
 }
 
-/// Returns the number of units of the code points that begin in the `SUMMED_BLOCKS` blocks from `at` on, by one
+/// Returns the number of units of the code points that begin in the `SUMMED_BLOCKS` blocks from `position` on, by one
 /// horizontal sum.
 #[inline(always)]
-fn utf16_len_of_blocks(bytes: &[u8], at: usize) -> usize
-    requires { at + SUMMED_BLOCKS * BLOCK ≤ length bytes.now }
-    ensures { result ≡ sum_utf16_len (take (SUMMED_BLOCKS * BLOCK) (drop at bytes.now)) }
+fn utf16_len_of_blocks(bytes: &[u8], position: usize) -> usize
+    requires { position + SUMMED_BLOCKS * BLOCK ≤ length bytes.now }
+    ensures { result ≡ sum_utf16_len (take (SUMMED_BLOCKS * BLOCK) (drop position bytes.now)) }
 {
     let mut lanes = Simd::<u8, BLOCK>::splat(0);
     for block in 0..SUMMED_BLOCKS {
-        let bytes = Simd::<u8, BLOCK>::from_slice(&bytes[at + block * BLOCK..]);
+        let bytes = Simd::<u8, BLOCK>::from_slice(&bytes[position + block * BLOCK..]);
         lanes = lanes.strict_add(utf16_len_of_each(bytes));
     }
     usize::from(lanes.cast::<u16>().strict_reduce_sum())
@@ -84,18 +84,18 @@ pub(crate) fn skip_block<const N: usize>(
     requires lanes { (0 < N) × (N ≤ u64.BITS) }
     requires counted { IsCursor bytes.now unit from }
     ensures counted { IfSome result (λ cursor. IsCursor bytes.now unit cursor) }
-    ensures further { IfSome result (λ cursor. from.at < cursor.at) }
+    ensures further { IfSome result (λ cursor. from.position < cursor.position) }
 {
-    if bytes.len() - from.at < N {
+    if bytes.len() - from.position < N {
         return None;
     }
-    let more = utf16_len_of_block(Simd::<u8, N>::from_slice(&bytes[from.at..]));
-    if unit - from.units_before < more {
+    let more = utf16_len_of_block(Simd::<u8, N>::from_slice(&bytes[from.position..]));
+    if unit - from.units < more {
         return None;
     }
     Some(UnitCursor {
-        at: from.at + N,
-        units_before: from.units_before + more,
+        position: from.position + N,
+        units: from.units + more,
     })
 }
 
@@ -106,17 +106,17 @@ pub(crate) fn skip_block<const N: usize>(
 pub(crate) fn skip_summed_blocks(bytes: &[u8], unit: usize) -> UnitCursor
     ensures { IsCursor bytes.now unit result }
 {
-    let mut at = 0;
-    let mut units_before = 0;
-    while SUMMED_BLOCKS * BLOCK <= bytes.len() - at && LEAST_UNITS_SUMMED <= unit - units_before {
-        let more = utf16_len_of_blocks(bytes, at);
-        if unit - units_before < more {
-            return UnitCursor { at, units_before };
+    let mut position = 0;
+    let mut units = 0;
+    while SUMMED_BLOCKS * BLOCK <= bytes.len() - position && LEAST_UNITS_SUMMED <= unit - units {
+        let more = utf16_len_of_blocks(bytes, position);
+        if unit - units < more {
+            return UnitCursor { position, units };
         }
-        units_before += more;
-        at += SUMMED_BLOCKS * BLOCK;
+        units += more;
+        position += SUMMED_BLOCKS * BLOCK;
     }
-    UnitCursor { at, units_before }
+    UnitCursor { position, units }
 }
 
 /// Returns the number of units of all the bytes.
@@ -125,8 +125,8 @@ fn count_units(bytes: &[u8]) -> usize
     ensures { result ≡ sum_utf16_len bytes.now }
 {
     let mut cursor = UnitCursor {
-        at: 0,
-        units_before: 0,
+        position: 0,
+        units: 0,
     };
     if HALF_BLOCK <= bytes.len() {
         cursor = skip_all_blocks(bytes);
@@ -158,9 +158,9 @@ fn count_units_from(bytes: &[u8], from: UnitCursor) -> usize
     requires fits { sum_utf16_len bytes.now < 2 ^ 64 }
     ensures { result ≡ sum_utf16_len bytes.now }
 {
-    let mut units = from.units_before;
-    for at in from.at..bytes.len() {
-        units += utf16_len_of_byte(bytes[at]);
+    let mut units = from.units;
+    for position in from.position..bytes.len() {
+        units += utf16_len_of_byte(bytes[position]);
     }
     units
 }

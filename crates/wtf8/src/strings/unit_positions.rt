@@ -29,8 +29,8 @@ fn skip_blocks(bytes: &[u8], unit: usize) -> UnitCursor
     ensures { IsCursor bytes.now unit result }
 {
     let start = UnitCursor {
-        at: 0,
-        units_before: 0,
+        position: 0,
+        units: 0,
     };
     match bytes.len() {
         0..=3 => start,
@@ -66,7 +66,7 @@ fn skip_blocks_while_far<const N: usize>(
     ensures { IsCursor bytes.now unit result }
 {
     let mut cursor = from;
-    while least <= unit - cursor.units_before {
+    while least <= unit - cursor.units {
         let Some(next) = skip_block::<N>(bytes, unit, cursor) else {
             return cursor;
         };
@@ -82,16 +82,16 @@ fn skip_ascii<const N: usize>(bytes: &[u8], unit: usize, from: UnitCursor) -> Op
     requires counted { IsCursor bytes.now unit from }
     ensures { IfSome result (λ cursor. IsCursor bytes.now unit cursor) }
 {
-    if bytes.len() - from.at < N {
+    if bytes.len() - from.position < N {
         return None;
     }
-    if !is_ascii_block(Simd::<u8, N>::from_slice(&bytes[from.at..])) {
+    if !is_ascii_block(Simd::<u8, N>::from_slice(&bytes[from.position..])) {
         return None;
     }
-    let more = (unit - from.units_before).min(N);
+    let more = (unit - from.units).min(N);
     Some(UnitCursor {
-        at: from.at + more,
-        units_before: from.units_before + more,
+        position: from.position + more,
+        units: from.units + more,
     })
 }
 
@@ -100,25 +100,25 @@ fn find_unit_from(bytes: &[u8], unit: usize, from: UnitCursor) -> UnitCursor
     requires { IsCursor bytes.now unit from }
     ensures { IsCursorOfUnit bytes.now unit result }
 {
-    let mut units_before = from.units_before;
-    for at in from.at..bytes.len() {
-        let byte = bytes[at];
+    let mut units = from.units;
+    for position in from.position..bytes.len() {
+        let byte = bytes[position];
         if byte < 0x80 {
-            if units_before == unit {
-                return UnitCursor { at, units_before };
+            if units == unit {
+                return UnitCursor { position, units };
             }
-            units_before += 1;
+            units += 1;
         } else if 0xC0 <= byte {
             let more = utf16_len_of_byte(byte);
-            if unit - units_before < more {
-                return UnitCursor { at, units_before };
+            if unit - units < more {
+                return UnitCursor { position, units };
             }
-            units_before += more;
+            units += more;
         }
     }
     UnitCursor {
-        at: bytes.len(),
-        units_before,
+        position: bytes.len(),
+        units,
     }
 }
 
@@ -141,17 +141,17 @@ pub(crate) fn find_cut(view: Wtf8<'_>, n: usize) -> Option<UnitCut>
         return None;
     }
     let cursor = find_unit(view.bytes, n);
-    if cursor.units_before == n {
+    if cursor.units == n {
         return Some(UnitCut {
-            position: cursor.at,
+            position: cursor.position,
             divided: None,
         });
     }
-    let Some((code_point, _)) = view.slice_from(cursor.at).split_first() else {
+    let Some((code_point, _)) = view.slice_from(cursor.position).split_first() else {
         return None;
     };
     Some(UnitCut {
-        position: cursor.at,
+        position: cursor.position,
         divided: Some(code_point.to_u32()),
     })
 }

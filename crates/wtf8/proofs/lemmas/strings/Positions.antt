@@ -223,14 +223,14 @@ begins_from_utf16_len b h = elim (cases_lt b 0x80) [
 
 -- the code points before and after `cursor`; the next one, if any, holds unit `n`
 pub record PointsAbout (c : List ℕ) (n : ℕ) (cursor : UnitCursor) : Type 0 where
-  pub cut : CutsUnits c cursor.units_before cursor.at None
-  pub not_beyond : cursor.units_before ≤ n
-  pub holds : (p : ℕ) (rest : List ℕ) → cut.back ≡ p ∷ rest → n < cursor.units_before + length (units_of p)
+  pub cut : CutsUnits c cursor.units cursor.position None
+  pub not_beyond : cursor.units ≤ n
+  pub holds : (p : ℕ) (rest : List ℕ) → cut.back ≡ p ∷ rest → n < cursor.units + length (units_of p)
 
 pub points_about : (c : List ℕ) (n : ℕ) (s : UnitCursor) → IsCursorOfUnit (bytes c) n s → PointsAbout c n s
 points_about c n s h =
-    let cursor = s.at in
-    let before = s.units_before in
+    let cursor = s.position in
+    let before = s.units in
     let was = h.before in
     let next : cursor < length (bytes c) → n < before + utf16_len (get_or (bytes c) cursor 0) =
     λ m. omega (arith, h.reaches m, was.counted, sum_by_more utf16_len (bytes c) cursor 0 m) in

@@ -6,4 +6,4 @@ abbrev pub invariant-loop-next : goal.invariant-loop-next
 invariant-loop-next l = IsCursor l.bytes (2 ^ 64 - 1) l.cursor
 
 abbrev pub decreases-loop-next : goal.decreases-loop-next
-decreases-loop-next l = length l.bytes - l.cursor.at
+decreases-loop-next l = length l.bytes - l.cursor.position

@@ -9,7 +9,7 @@ pub overflow_add-lanes : goal.overflow_add-lanes
 overflow_add-lanes c =
     let lanes = c.loop-block.lanes in
     subst (Each2 (λ a b. Fits w8 (a + b)) lanes) (sym c.utf16_len_of_each-lanes.ensures)
-    (lanes_fit_more (c.loop-block.block * 2) lanes (chunk (c.args.at + c.loop-block.block * 64) 64 c.args.bytes.now) (omega (arith, c.loop-block-test.true))
+    (lanes_fit_more (c.loop-block.block * 2) lanes (chunk (c.args.position + c.loop-block.block * 64) 64 c.args.bytes.now) (omega (arith, c.loop-block-test.true))
     c.loop-block.invariant.2)
 
 pub loop-block-preserved : goal.loop-block-preserved
@@ -17,12 +17,12 @@ loop-block-preserved c =
     let w = c.args.bytes.now in
     let done = c.loop-block.block * 64 in
     let lanes = c.loop-block.lanes in
-    let xs = chunk (c.args.at + done) 64 w in
-    let long : length xs ≡ 64 = length-chunk (c.args.at + done) 64 w (omega (arith, c.requires, c.loop-block-test.true)) in
+    let xs = chunk (c.args.position + done) 64 w in
+    let long : length xs ≡ 64 = length-chunk (c.args.position + done) 64 w (omega (arith, c.requires, c.loop-block-test.true)) in
     let same = c.loop-block.invariant.1 ∙ sym long in
-    let more = sum_utf16_len-chunk_add w c.args.at done 64 ((c.loop-block.block + 1) * 64) (omega arith) in
+    let more = sum_utf16_len-chunk_add w c.args.position done 64 ((c.loop-block.block + 1) * 64) (omega arith) in
     subst
-    (λ v. (sum_l (zip2 (λ a b. a + b) lanes v) ≡ sum_utf16_len (chunk c.args.at ((c.loop-block.block + 1) * 64) w))
+    (λ v. (sum_l (zip2 (λ a b. a + b) lanes v) ≡ sum_utf16_len (chunk c.args.position ((c.loop-block.block + 1) * 64) w))
     × (length (zip2 (λ a b. a + b) lanes v) ≡ 64) × Each1 (λ a. a ≤ (c.loop-block.block + 1) * 2) (zip2 (λ a b. a + b) lanes v))
     (sym c.utf16_len_of_each-lanes.ensures) (
       omega (arith, sums_grow lanes xs same, c.loop-block.invariant.0, more),
@@ -50,6 +50,6 @@ returns c =
     let lanes = c.loop-block.lanes in
     let w = c.args.bytes.now in
     let all : c.loop-block.block * 64 ≡ 512 = omega (arith, c.loop-block.auto.block-end, c.loop-block-test.false) in
-    let whole = ap (λ k. sum_utf16_len (chunk c.args.at k w)) all in
+    let whole = ap (λ k. sum_utf16_len (chunk c.args.position k w)) all in
     let summed = ap (fold_l (λ s x. s + x) 0) (map-id lanes) in
     c.from.ensures ∙ (summed ∙ omega (arith, fold-sum 0 lanes, c.loop-block.invariant.0, whole))

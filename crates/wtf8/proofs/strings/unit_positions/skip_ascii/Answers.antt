@@ -6,7 +6,7 @@ use Rattle.wtf8.proofs.strings.unit_positions.skip_ascii.Goals as goal
 pub returns : goal.returns
 returns g c =
     let w = c.args.bytes.now in
-    let from = c.args.from.at in
+    let from = c.args.from.position in
     let low = ascii_in_block g.row.N from w (omega (arith, c.requires.counted.within, c.if-bytes-from.false)) (c.is_ascii_block.ensures c.if-not-is_ascii_block.false) in
     let all = sum_utf16_len-ascii w from c.min-more.result (omega (arith, c.requires.counted.within, c.if-bytes-from.false, c.min-more.ensures))
     (λ j l. low (from + j) (omega arith) (omega (arith, l, c.min-more.ensures))) in

@@ -6,4 +6,4 @@ abbrev pub invariant-loop-cursor : goal.invariant-loop-cursor
 invariant-loop-cursor g l = IsCursor l.bytes l.unit l.cursor
 
 abbrev pub decreases-loop-cursor : goal.decreases-loop-cursor
-decreases-loop-cursor g l = length l.bytes - l.cursor.at
+decreases-loop-cursor g l = length l.bytes - l.cursor.position

@@ -6,24 +6,24 @@ use Rattle.wtf8.proofs.strings.iters.Wtf8CodePoints.next_point.Goals as goal
 pub returns-then-self : goal.returns-then-self
 returns-then-self c =
     let s = c.self.inside in
-    let none = points-nil s.well_formed (omega (arith, length-drop s.at s.bytes.now, c.if-self.true)) in
+    let none = points-nil s.well_formed (omega (arith, length-drop s.position s.bytes.now, c.if-self.true)) in
     (sym c.self.view_is ∙ none, sym c.self.view_is ∙ none)
 
 pub read-after-requires-clause-front : goal.read-after-requires-clause-front
 read-after-requires-clause-front c =
     let s = c.self.inside in
-    rw c.split_at.ensures.back (first_of s.well_formed (omega (arith, length-drop s.at s.bytes.now, s.within, c.if-self.false))).0
+    rw c.split_at.ensures.back (first_of s.well_formed (omega (arith, length-drop s.position s.bytes.now, s.within, c.if-self.false))).0
 
 pub invariant_of-self-inside : goal.invariant_of-self-inside
 invariant_of-self-inside c =
     let s = c.self.inside in
-    let t = Taken-from_first s.bytes.now s.at s.well_formed (number c.read-after.result.0) c.read-after.result.1 (omega (arith, s.within, c.if-self.false))
+    let t = Taken-from_first s.bytes.now s.position s.well_formed (number c.read-after.result.0) c.read-after.result.1 (omega (arith, s.within, c.if-self.false))
     (λ b. c.read-after.ensures (BeginsWithPoint-equal_bytes b c.split_at.ensures.back)) in
     (t.within, (t.rest, tt))
 
 pub returns : goal.returns
 returns c =
     let s = c.self.inside in
-    let t = Taken-from_first s.bytes.now s.at s.well_formed (number c.read-after.result.0) c.read-after.result.1 (omega (arith, s.within, c.if-self.false))
+    let t = Taken-from_first s.bytes.now s.position s.well_formed (number c.read-after.result.0) c.read-after.result.1 (omega (arith, s.within, c.if-self.false))
     (λ b. c.read-after.ensures (BeginsWithPoint-equal_bytes b c.split_at.ensures.back)) in
     sym c.self.view_is ∙ (t.joined ∙ ap (λ r. number c.read-after.result.0 ∷ r) (same_points t.rest c.self-1.given.1.0 refl))
