@@ -8,6 +8,7 @@ mod from_utf16;
 mod lanes;
 pub mod laws;
 mod strings;
+mod vec;
 
 pub use codec::code_point::CodePoint;
 pub use strings::buf::Wtf8Buf;

@@ -9,7 +9,7 @@ ghost use Rattle.wtf8.specs.Hex.{digit};
 ghost use Rattle.wtf8.specs.Unicode.{IsCodePoint};
 
 use crate::codec::code_point::CodePoint;
-use crate::lanes::hex_digits;
+use crate::formatting::hex_digits;
 use crate::strings::buf::Wtf8Buf;
 use crate::strings::view::Wtf8;
 use std::alloc::Allocator;

@@ -3,6 +3,7 @@ ghost use Rattle.std.specs.Prelude.{◌≡◌, ℕ, List, [], ◌∷◌, ◌++�
 ghost use Rattle.std.specs.Str.{chars};
 ghost use Rattle.std.specs.String.{string_bytes};
 ghost use Rattle.wtf8.specs.Appending.{AppendsUnits, KeepsContents, HasRoomFor, AddsLength};
+ghost use Rattle.wtf8.specs.Building.{Truncates};
 ghost use Rattle.wtf8.specs.CodePoint.{number};
 ghost use Rattle.wtf8.specs.Form.{IsWellFormed, IsForm, Reads, bytes, encoding};
 ghost use Rattle.wtf8.specs.OneForm.{IsWellFormed-prop, AreScalarTo, AreScalarTo-prop};
@@ -17,11 +18,12 @@ ghost use Rattle.wtf8.specs.View.{view_points, view_units};
 use crate::codec::code_point::CodePoint;
 use crate::codec::{encoding, surrogates};
 use crate::from_utf16::transcode;
-use crate::lanes::{capacity, copies, search};
+use crate::lanes::search;
 use crate::strings::concat;
 use crate::strings::unit_positions::find_cut;
 use crate::strings::utf8_prefix::Utf8Prefix;
 use crate::strings::view::Wtf8;
+use crate::vec::{capacity, copies};
 use std::alloc::{AllocError, Allocator};
 use std::marker::Model;
 
@@ -362,6 +364,17 @@ impl<A: Allocator> Wtf8Buf<A> {
         ensures bytes { (k : ℕ) → IsFront self.old.units k (take n self.old.units) → self.new.bytes ≡ take k self.old.bytes }
     {
         self.try_truncate_units(n);
+    }
+
+    /// Truncates to `position` bytes if that is a code point boundary, and returns whether it is.
+    pub(crate) fn try_truncate(&mut self, position: usize) -> bool
+        ensures { Truncates self.old.units position self.new.units (if result then 0 else 1) }
+    {
+        if !self.as_wtf8().is_code_point_boundary(position) {
+            return false;
+        }
+        self.truncate(position);
+        true
     }
 
     /// Keeps the first `n` code units and returns true, or changes nothing and returns false if there are fewer.

@@ -38,7 +38,7 @@ pub struct Stopped {
 
 impl<A: Allocator> Wtf8Buf<A> {
     ghost use Rattle.wtf8.specs.Building.{Step, Run, LeavesRefused, StopsAt, appended_units, CallsAppend, IsNoExtension, IsNoTruncation, CallFits, EachCallFits, LeavesReserved};
-    ghost use Rattle.wtf8.specs.declared.strings.build.Build.TheVariants.{Reserve, Truncate};
+    ghost use Rattle.wtf8.specs.declared.strings.build.Build.TheVariants.{Reserve};
 
     /// Applies one call. `Ok(false)` means that a truncation was refused, because its position is no code point
     /// boundary or the string has fewer code units; it changes nothing. If memory is refused, the string is unchanged,
@@ -120,16 +120,5 @@ impl<A: Allocator> Wtf8Buf<A> {
             }
         }
         Ok(refused)
-    }
-
-    /// Truncates to `position` bytes if that is a code point boundary, and returns whether it is.
-    fn try_truncate(&mut self, position: usize) -> bool
-        ensures { Step self.old.units (Truncate position) self.new.units (if result then 0 else 1) }
-    {
-        if !self.as_wtf8().is_code_point_boundary(position) {
-            return false;
-        }
-        self.truncate(position);
-        true
     }
 }

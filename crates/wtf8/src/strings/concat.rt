@@ -12,9 +12,9 @@ ghost use Rattle.wtf8.specs.View.{view_points, view_units};
 
 use crate::codec::code_point::CodePoint;
 use crate::codec::{encoding, surrogates};
-use crate::lanes::capacity::spare_capacity;
 use crate::strings::utf8_prefix::Utf8Prefix;
 use crate::strings::view::Wtf8;
+use crate::vec::capacity::spare_capacity;
 use std::alloc::{AllocError, Allocator};
 
 /// Completes the lead surrogate at the end of `bytes` with `trail`: reserves the fourth byte of the pair's encoding,

@@ -12,9 +12,9 @@ use crate::codec::encoding;
 use crate::codec::surrogates::{lead_of, trail_of};
 use crate::lanes::VECTOR;
 use crate::lanes::ascii::is_ascii_overlapping;
-use crate::lanes::copies::push_block;
 use crate::lanes::masks::first_set_lane;
 use crate::strings::view::Wtf8;
+use crate::vec::copies::push_block;
 use std::alloc::{AllocError, Allocator};
 use std::simd::prelude::*;
 

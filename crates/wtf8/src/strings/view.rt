@@ -1,10 +1,9 @@
 // `Wtf8`, the borrowed string.
-ghost use Rattle.std.specs.Prelude.{◌≡◌, ℕ, List, [], ◌∷◌, ◌++◌, ◌+◌, ◌*◌, ◌^◌, ◌<◌, ◌≤◌, ◌↔◌, length, take, drop, slice_index, IsTrue, IsSome, IfSome, IfNone, IfOk, OnOk, OnErr, IsOk, vec_len, vec_capacity};
+ghost use Rattle.std.specs.Prelude.{◌≡◌, ℕ, List, [], ◌∷◌, ◌++◌, ◌+◌, ◌*◌, ◌^◌, ◌<◌, ◌≤◌, ◌↔◌, length, take, drop, slice_index, IsTrue, IsSome, IfSome, IfNone, IfOk, IsOk};
 ghost use Rattle.std.specs.Cow.{cow_str_bytes, IsBorrowedStr};
 ghost use Rattle.std.specs.Str.{chars};
 ghost use Rattle.std.specs.String.{string_bytes};
 ghost use Rattle.wtf8.specs.Form.{bytes, IsWellFormed, Reads};
-ghost use Rattle.wtf8.specs.Hex.{hex};
 ghost use Rattle.wtf8.specs.OneForm.{IsWellFormed-prop};
 ghost use Rattle.wtf8.specs.Position.{IsBoundary, IsFront, IsBack, IsMiddle};
 ghost use Rattle.wtf8.specs.Surrogates.{AreScalar, lossy_points};
@@ -13,7 +12,7 @@ ghost use Rattle.wtf8.specs.Units.{unread_units};
 
 use crate::codec::code_point::CodePoint;
 use crate::codec::encoding;
-use crate::lanes::{hex_digits, search};
+use crate::lanes::search;
 use crate::strings::iters::{IllFormedUtf16CodeUnits, Wtf8CodePoints};
 use std::alloc::{AllocError, Allocator};
 use std::borrow::CowStr;
@@ -207,25 +206,6 @@ impl<'a> Wtf8<'a> {
         let mut bytes = Vec::from_slice(alloc, self.bytes)?;
         search::replace_surrogates(&mut bytes);
         Ok(CowStr::Owned(unsafe { String::from_utf8_unchecked(bytes) }))
-    }
-
-    /// The bytes as hexadecimal text for diagnosis: two upper-case digits each, separated by spaces. An empty string
-    /// does not allocate. Linear in the length.
-    pub fn hex_dump<A: Allocator>(&self, alloc: A) -> Result<String<A>, AllocError>
-        ensures ok { IfOk result (λ t. string_bytes t ≡ hex self.now.bytes.now) }
-        ensures empty { self.now.bytes.now ≡ [] → IsOk result }
-    {
-        hex_digits::hex_text(alloc, self.bytes)
-    }
-
-    /// Appends the text of `hex_dump` to a vector of bytes. Reserves three bytes for each byte of the string, and does
-    /// not allocate if they fit. If memory is refused, the vector is unchanged. Linear in the length.
-    pub fn append_hex_dump<A: Allocator>(&self, text: &mut Vec<u8, A>) -> Result<(), AllocError>
-        ensures ok { OnOk result (text.new.items ≡ text.old.items ++ hex self.now.bytes.now) }
-        ensures kept { OnErr result (text.new.items ≡ text.old.items) }
-        ensures room { vec_len text.old + 3 * length self.now.bytes.now ≤ vec_capacity text.old → IsOk result }
-    {
-        hex_digits::push_hex(text, self.bytes)
     }
 
     /// Returns the view after the first `count` bytes.

@@ -1,6 +1,6 @@
 use Rattle.wtf8.proofs.Common.{◌∙◌, arith}
 use Rattle.wtf8.proofs.lemmas.lanes.Copies.{ends_appended}
-use Rattle.wtf8.proofs.lanes.copies.push_overlapping.Goals as goal
+use Rattle.wtf8.proofs.vec.copies.push_overlapping.Goals as goal
 
 pub returns : goal.returns
 returns g c =

@@ -1,5 +1,5 @@
 use Rattle.wtf8.proofs.Common.{◌≡◌, ◌++◌, take, vec_capacity}
-use Rattle.wtf8.proofs.lanes.copies.push_block.Given as goal
+use Rattle.wtf8.proofs.vec.copies.push_block.Given as goal
 
 -- the first `at` items of the block are appended, and the capacity is unchanged
 abbrev pub invariant-loop-at : goal.invariant-loop-at

@@ -1,5 +1,5 @@
 use Rattle.wtf8.proofs.Common.{◌≡◌, ◌+◌, ◌++◌, true, vec_len, is_ok, ap, ◌∙◌, arith}
-use Rattle.wtf8.proofs.lanes.hex_digits.push_spaced_block.Goals as goal
+use Rattle.wtf8.proofs.formatting.hex_digits.push_spaced_block.Goals as goal
 
 pub returns-clause-items : goal.returns-clause-items
 returns-clause-items g c =

@@ -1,6 +1,6 @@
 use Rattle.wtf8.proofs.Common.{arith}
 use Rattle.wtf8.proofs.lemmas.lanes.HexDigits.{digit_at}
-use Rattle.wtf8.proofs.lanes.hex_digits.upper_digit.Goals as goal
+use Rattle.wtf8.proofs.formatting.hex_digits.upper_digit.Goals as goal
 
 pub returns-clause-digit : goal.returns-clause-digit
 returns-clause-digit c = grind (arith, digit_at)

@@ -1,6 +1,6 @@
 use Rattle.wtf8.proofs.Common.{sym, subst, rules, IsUtf8, hex, ◌≡◌, IsUtf8-from_ascii}
 use Rattle.wtf8.proofs.lemmas.lanes.HexDigits.{hex_ascii}
-use Rattle.wtf8.proofs.lanes.hex_digits.hex_text.Goals as goal
+use Rattle.wtf8.proofs.formatting.hex_digits.hex_text.Goals as goal
 
 pub from_utf8_unchecked-requires : goal.from_utf8_unchecked-requires
 from_utf8_unchecked-requires g c =

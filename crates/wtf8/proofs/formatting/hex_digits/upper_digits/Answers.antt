@@ -1,6 +1,6 @@
 use Rattle.wtf8.proofs.Common.{refl, arith, w8, SwzOk-from_below}
 use Rattle.wtf8.proofs.lemmas.lanes.HexDigits.{swz_l-digit_table}
-use Rattle.wtf8.proofs.lanes.hex_digits.upper_digits.Goals as goal
+use Rattle.wtf8.proofs.formatting.hex_digits.upper_digits.Goals as goal
 
 pub swizzle : goal.swizzle
 swizzle c = SwzOk-from_below w8 16 1 16 0 c.args.values refl (omega arith) c.requires

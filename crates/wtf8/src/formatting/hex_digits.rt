@@ -1,4 +1,4 @@
-// Bytes written as upper-case hexadecimal text.
+// Bytes as upper-case hexadecimal text.
 ghost use Rattle.std.specs.List.{flat_map};
 ghost use Rattle.std.specs.Prelude.{◌≡◌, [], ◌++◌, ◌+◌, ◌*◌, ◌<◌, ◌≤◌, length, map, vec_len, vec_capacity, IfOk, OnOk, OnErr, IsOk};
 ghost use Rattle.std.specs.Simd.Lanes.{Each1};
@@ -7,6 +7,7 @@ ghost use Rattle.wtf8.specs.Hex.{digit, hex_of, hex};
 ghost use Rattle.wtf8.specs.private.SpacedHex.{spaced_hex};
 
 use crate::lanes::VECTOR;
+use crate::strings::view::Wtf8;
 use std::alloc::{AllocError, Allocator};
 use std::simd::prelude::*;
 
@@ -117,7 +118,7 @@ fn push_spaced<A: Allocator>(text: &mut Vec<u8, A>, bytes: &[u8])
 
 /// Appends two upper-case digits for each byte, with a space between bytes. First reserves three bytes of text for each
 /// byte; if that is refused, the text is unchanged.
-pub(crate) fn push_hex<A: Allocator>(text: &mut Vec<u8, A>, bytes: &[u8]) -> Result<(), AllocError>
+fn push_hex<A: Allocator>(text: &mut Vec<u8, A>, bytes: &[u8]) -> Result<(), AllocError>
     ensures ok { OnOk result (text.new.items ≡ text.old.items ++ hex bytes.now) }
     ensures kept { OnErr result (text.new.items ≡ text.old.items) }
     ensures room { vec_len text.old + 3 * length bytes.now ≤ vec_capacity text.old → IsOk result }
@@ -138,11 +139,32 @@ pub(crate) fn push_hex<A: Allocator>(text: &mut Vec<u8, A>, bytes: &[u8]) -> Res
 
 /// Two upper-case digits for each byte, with a space between bytes. Reserves three bytes of text for each byte in one
 /// request, and requests no memory for an empty slice.
-pub(crate) fn hex_text<A: Allocator>(alloc: A, bytes: &[u8]) -> Result<String<A>, AllocError>
+fn hex_text<A: Allocator>(alloc: A, bytes: &[u8]) -> Result<String<A>, AllocError>
     ensures ok { IfOk result (λ t. string_bytes t ≡ hex bytes.now) }
     ensures empty { bytes.now ≡ [] → IsOk result }
 {
     let mut text = Vec::with_capacity(alloc, bytes.len().saturating_mul(3))?;
     push_hex(&mut text, bytes)?;
     Ok(unsafe { String::from_utf8_unchecked(text) })
+}
+
+impl<'a> Wtf8<'a> {
+    /// The bytes as hexadecimal text for diagnosis: two upper-case digits each, separated by spaces. An empty string
+    /// does not allocate. Linear in the length.
+    pub fn hex_dump<A: Allocator>(&self, alloc: A) -> Result<String<A>, AllocError>
+        ensures ok { IfOk result (λ t. string_bytes t ≡ hex self.now.bytes.now) }
+        ensures empty { self.now.bytes.now ≡ [] → IsOk result }
+    {
+        hex_text(alloc, self.bytes)
+    }
+
+    /// Appends the text of `hex_dump` to a vector of bytes. Reserves three bytes for each byte of the string, and does
+    /// not allocate if they fit. If memory is refused, the vector is unchanged. Linear in the length.
+    pub fn append_hex_dump<A: Allocator>(&self, text: &mut Vec<u8, A>) -> Result<(), AllocError>
+        ensures ok { OnOk result (text.new.items ≡ text.old.items ++ hex self.now.bytes.now) }
+        ensures kept { OnErr result (text.new.items ≡ text.old.items) }
+        ensures room { vec_len text.old + 3 * length self.now.bytes.now ≤ vec_capacity text.old → IsOk result }
+    {
+        push_hex(text, self.bytes)
+    }
 }

@@ -1,6 +1,6 @@
 use Rattle.wtf8.proofs.Common.{◌≡◌, ◌∷◌, ◌∙◌, arith, append_assoc, rules, take_rest}
 use Rattle.wtf8.proofs.lemmas.lanes.HexDigits.{spaced_hex-append_take, spaced_hex-append_rest}
-use Rattle.wtf8.proofs.lanes.hex_digits.push_hex.Goals as goal
+use Rattle.wtf8.proofs.formatting.hex_digits.push_hex.Goals as goal
 
 pub loop-at-preserved : goal.loop-at-preserved
 loop-at-preserved g c = record {

@@ -1,5 +1,5 @@
 use Rattle.wtf8.proofs.Common.{◌≡◌, ◌++◌, ◌+◌, ◌*◌, ◌-◌, ◌≤◌, length, take, vec_len, vec_capacity, flat_map, spaced_hex}
-use Rattle.wtf8.proofs.lanes.hex_digits.push_spaced.Given as goal
+use Rattle.wtf8.proofs.formatting.hex_digits.push_spaced.Given as goal
 
 -- the bytes so far are written, and the spare capacity suffices for the others
 abbrev pub invariant-loop-byte : goal.invariant-loop-byte
