@@ -11,7 +11,7 @@ use std::alloc::{AllocError, Allocator};
 use std::io::{Read, Write};
 
 /// Reads the reader to its end, computes the output for all lines, then writes it, a line for each line of input, and
-/// flushes the writer.
+/// flushes the writer. `dump_line` says what the words of a line do.
 ///
 /// Every error is final, `Interrupted` too. Returns `Fault::Read` if a read fails and `Fault::Memory` if memory is
 /// refused, both with nothing written; `Fault::Write` if a write or the flush fails or a write accepts no byte, with a

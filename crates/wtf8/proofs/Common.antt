@@ -42,7 +42,8 @@ pub use Rattle.wtf8.specs.private.Mismatch.{IsMismatch, SupplementaryBegins, Dif
 pub use Rattle.wtf8.specs.Form.{bytes, encoding, IsClean, Reads, IsWellFormed, IsForm}
 pub use Rattle.wtf8.specs.private.EncodedBytes.{ExtendsForm, BecomesOrKeeps, ExtendsFormOrKeeps, BeginsWithPoint, FirstPointByLead, FirstPointIs}
 pub use Rattle.wtf8.specs.Hex.{digit, hex_of, hex}
-pub use Rattle.wtf8.specs.OneForm.{bytes-injective, bytes_are_encodes, encoding_is_encode, AreScalarTo}
+pub use Rattle.wtf8.specs.OneForm.{bytes-injective, bytes_are_encodes, encoding_is_encode}
+pub use Rattle.wtf8.specs.private.ScalarPrefix.{AreScalarTo}
 pub use Rattle.wtf8.specs.Order.{Before}
 pub use Rattle.wtf8.specs.Position.{IsBoundary, IsFront, IsBack, IsMiddle, Splits}
 pub use Rattle.wtf8.specs.private.SpacedHex.{spaced_hex}

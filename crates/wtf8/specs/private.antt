@@ -2,6 +2,7 @@ pub mod Decoding
 pub mod Mismatch
 pub mod FirstIndex
 pub mod EncodedBytes
+pub mod ScalarPrefix
 pub mod SpacedHex
 pub mod SurrogateSearch
 pub mod UnitCounts

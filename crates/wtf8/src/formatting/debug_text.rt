@@ -15,7 +15,6 @@ use crate::strings::view::Wtf8;
 use std::alloc::Allocator;
 use std::fmt;
 
-/// Writes one upper-case hexadecimal digit.
 fn write_hex_digit<W: fmt::Write>(value: u32, f: &mut fmt::Formatter<W>) -> fmt::Result
     requires { value < 16 }
     ensures { WritesStyledOnOk W.write_str_gives f.old result (digit value ∷ []) f.new }

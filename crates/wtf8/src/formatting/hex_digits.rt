@@ -39,7 +39,6 @@ const SPACED_MIDDLE: [usize; VECTOR] = [2, 3, 16, 4, 5, 16, 6, 7, 16, 8, 9, 16, 
 /// Bytes 32 to 47 of the spaced text, from the digits that `INTERLEAVE_BACK` interleaves; 16 is a space.
 const SPACED_BACK: [usize; VECTOR] = [5, 16, 6, 7, 16, 8, 9, 16, 10, 11, 16, 12, 13, 16, 14, 15];
 
-/// The upper-case digit of a value below 16.
 #[inline(always)]
 #[tactic(auto, using(crate::proofs::lemmas::lanes::HexDigits::digit_at))]
 pub(crate) fn upper_digit(value: u8) -> char
@@ -50,7 +49,6 @@ pub(crate) fn upper_digit(value: u8) -> char
     DIGITS[usize::from(value)] as char
 }
 
-/// The upper-case digits of values below 16, by a table lookup in lanes.
 #[inline(always)]
 fn upper_digits(values: u8x16) -> u8x16
     requires { Each1 (λ value. value < 16) values }
@@ -93,7 +91,6 @@ fn push_spaced_block<A: Allocator>(text: &mut Vec<u8, A>, bytes: u8x16)
     let _ = text.extend_from_slice(&block);
 }
 
-/// Appends the two digits of a byte, within the spare capacity.
 #[inline(always)]
 fn push_hex_byte<A: Allocator>(text: &mut Vec<u8, A>, byte: u8)
     requires { vec_len text.old + 2 ≤ vec_capacity text.old }

@@ -15,7 +15,6 @@ pub(crate) fn ascii_run_len<const N: usize>(bytes: Simd<u8, N>) -> usize
     first_set_lane(bytes.simd_ge(Simd::splat(0x80)).to_bitmask()).unwrap_or(N)
 }
 
-/// Whether all bytes of a block are ASCII.
 #[inline(always)]
 pub(crate) fn is_ascii_block<const N: usize>(bytes: Simd<u8, N>) -> bool
     requires { N ≤ u64.BITS }

@@ -2,7 +2,6 @@
 ghost use Rattle.std.specs.Prelude.{◌≢◌};
 ghost use Rattle.wtf8.specs.private.FirstIndex.{IsFirstSet};
 
-/// The index of the first lane that is set in a mask, or `None` if no lane is set.
 #[inline(always)]
 pub(crate) fn first_set_lane(bits: u64) -> Option<usize>
     ensures { IsFirstSet bits result }
@@ -13,7 +12,6 @@ pub(crate) fn first_set_lane(bits: u64) -> Option<usize>
     Some(lowest_set_lane(bits))
 }
 
-/// The index of the first lane that is set in a mask, which must not be 0.
 #[inline(always)]
 pub(crate) fn lowest_set_lane(bits: u64) -> usize
     requires { bits ≢ 0 }

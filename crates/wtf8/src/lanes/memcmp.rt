@@ -13,14 +13,12 @@ use std::simd::prelude::*;
 /// The most bytes that two vectors cover, and the stride of the search for a mismatch after `skip_equal_strides`.
 const TWO_VECTORS: usize = 2 * VECTOR;
 
-/// The byte at index `at`, or `None` at or past the end.
 pub(crate) fn byte_at(bytes: &[u8], at: usize) -> Option<u8>
     ensures { result ≡ slice_get bytes.now at }
 {
     bytes.get(at).copied()
 }
 
-/// Whether the `N` bytes at index `at` are equal in both slices.
 #[inline(always)]
 fn eq_block<const N: usize>(own: &[u8], others: &[u8], at: usize) -> bool
     requires lanes { (0 < N) × (N ≤ u64.BITS) }
@@ -31,7 +29,6 @@ fn eq_block<const N: usize>(own: &[u8], others: &[u8], at: usize) -> bool
     unlike.to_bitmask() == 0
 }
 
-/// The index of the first mismatch in `at..at + N`, which must contain one.
 #[inline(always)]
 fn mismatch_in_unequal_block<const N: usize>(own: &[u8], others: &[u8], at: usize) -> usize
     requires lanes { (0 < N) × (N ≤ u64.BITS) }

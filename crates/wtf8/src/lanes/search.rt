@@ -65,7 +65,6 @@ fn next_surrogate_bytewise(bytes: &[u8], from: usize) -> Option<usize>
     None
 }
 
-/// Overwrites the three bytes at index `at` with U+FFFD.
 fn write_replacement<A: Allocator>(bytes: &mut Vec<u8, A>, at: usize)
     requires { at + 3 ≤ length bytes.old.items }
     ensures { bytes.new.items ≡ take at bytes.old.items ++ (0xEF ∷ 0xBF ∷ 0xBD ∷ drop (at + 3) bytes.old.items) }

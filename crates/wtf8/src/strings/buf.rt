@@ -6,10 +6,11 @@ ghost use Rattle.wtf8.specs.Appending.{AppendsUnits, KeepsContents, HasRoomFor, 
 ghost use Rattle.wtf8.specs.Building.{Truncates};
 ghost use Rattle.wtf8.specs.CodePoint.{number};
 ghost use Rattle.wtf8.specs.Form.{IsWellFormed, IsForm, Reads, bytes, encoding};
-ghost use Rattle.wtf8.specs.OneForm.{IsWellFormed-prop, AreScalarTo, AreScalarTo-prop};
+ghost use Rattle.wtf8.specs.OneForm.{IsWellFormed-prop};
 ghost use Rattle.wtf8.specs.Position.{IsBoundary, IsFront};
 ghost use Rattle.wtf8.specs.Surrogates.{AreScalar, lossy_points};
 ghost use Rattle.wtf8.specs.private.FirstIndex.{IsFirst};
+ghost use Rattle.wtf8.specs.private.ScalarPrefix.{AreScalarTo, AreScalarTo-prop};
 ghost use Rattle.wtf8.specs.private.SurrogateSearch.{SurrogateAt};
 ghost use Rattle.wtf8.specs.Unicode.{units, units_of};
 ghost use Rattle.wtf8.specs.UnitPosition.{TruncatesUnits};
@@ -80,7 +81,6 @@ impl<A: Allocator> Model for Wtf8Buf<A> {
     } };
 }
 
-/// Wraps well-formed bytes with their UTF-8 prefix.
 fn from_well_formed<A: Allocator>(bytes: Vec<u8, A>, utf8_prefix: Utf8Prefix) -> Wtf8Buf<A>
     requires well_formed { IsWellFormed bytes.items }
     requires scalar { (h : IsWellFormed bytes.items) → AreScalarTo utf8_prefix.len h.points }

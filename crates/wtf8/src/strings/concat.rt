@@ -4,8 +4,8 @@ ghost use Rattle.std.specs.Str.{chars};
 ghost use Rattle.wtf8.specs.CodePoint.{number};
 ghost use Rattle.wtf8.specs.Concatenation.{MeetsAsPair};
 ghost use Rattle.wtf8.specs.Form.{IsWellFormed, encoding};
-ghost use Rattle.wtf8.specs.OneForm.{AreScalarTo};
 ghost use Rattle.wtf8.specs.private.EncodedBytes.{ExtendsForm, BecomesOrKeeps, ExtendsFormOrKeeps};
+ghost use Rattle.wtf8.specs.private.ScalarPrefix.{AreScalarTo};
 ghost use Rattle.wtf8.specs.Surrogates.{AreScalar};
 ghost use Rattle.wtf8.specs.Unicode.{units, units_of, pair, IsSurrogate, IsLead, IsTrail};
 ghost use Rattle.wtf8.specs.View.{view_points, view_units};
@@ -115,7 +115,6 @@ pub(crate) fn push<A: Allocator>(
     }
 }
 
-/// Appends `other` unchanged, without a test for a pair. If memory is refused, `bytes` is unchanged.
 fn append_bytes<A: Allocator>(bytes: &mut Vec<u8, A>, other: &[u8]) -> Result<(), AllocError>
     ensures { BecomesOrKeeps bytes.old (bytes.old.items ++ other.now) bytes.new result }
 {

@@ -121,7 +121,7 @@ impl<'a> Clone for Wtf8CodePoints<'a> {
 /// Returns the code unit at `position` and moves `position` past it. After the lead of a pair it points to the last two
 /// of the pair's four bytes, which give the trail.
 #[inline(always)]
-fn read_unit(bytes: &[u8], position: &mut usize) -> u16
+pub(crate) fn read_unit(bytes: &[u8], position: &mut usize) -> u16
     requires inside { position.old < length bytes.now }
     requires after { IsWellFormed (after_held_trail (drop position.old bytes.now)) }
     ensures { (h : IsWellFormed (after_held_trail (drop position.old bytes.now))) → StepsUnit bytes.now position.old h result position.new }

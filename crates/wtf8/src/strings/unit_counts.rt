@@ -28,7 +28,6 @@ pub(crate) struct UnitCursor {
     pub(crate) units: usize,
 }
 
-/// Returns the number of units of the code point that `byte` begins; 0 for a continuation byte.
 #[tactic(auto, unfolding(crate::specs::private::UnitCounts::utf16_len))]
 pub(crate) fn utf16_len_of_byte(byte: u8) -> usize
     ensures { result ≡ utf16_len byte }

@@ -6,6 +6,7 @@ ghost use Rattle.wtf8.specs.View.{view_points, view_units};
 use crate::codec::surrogates::trail_of;
 use crate::lanes::ascii::is_ascii_block;
 use crate::lanes::{BLOCK, VECTOR};
+use crate::strings::iters::read_unit;
 use crate::strings::unit_counts::{
     HALF_VECTOR, UnitCursor, skip_block, skip_summed_blocks, utf16_len_of_byte,
 };
@@ -16,14 +17,7 @@ use std::simd::prelude::*;
 /// counting these does not pay. For `HALF_VECTOR` bytes the limit is half of this.
 const WORTH_COUNTING: usize = 11;
 
-/// Finds the code point that holds unit `unit` (counted from 0); the end if there is none.
-fn find_unit(bytes: &[u8], unit: usize) -> UnitCursor
-    ensures { IsCursorOfUnit bytes.now unit result }
-{
-    find_unit_from(bytes, unit, skip_blocks(bytes, unit))
-}
-
-/// Skips bytes before the unit, in blocks from the start; `find_unit_from` goes on from there.
+/// Skips bytes before the unit, in blocks from the start; `find_unit` goes on from there.
 #[inline(always)]
 fn skip_blocks(bytes: &[u8], unit: usize) -> UnitCursor
     ensures { IsCursor bytes.now unit result }
@@ -95,11 +89,12 @@ fn skip_ascii<const N: usize>(bytes: &[u8], unit: usize, from: UnitCursor) -> Op
     })
 }
 
-/// Finds the code point that holds unit `unit` (counted from 0), byte by byte from `from`; the end if there is none.
-fn find_unit_from(bytes: &[u8], unit: usize, from: UnitCursor) -> UnitCursor
-    requires { IsCursor bytes.now unit from }
+/// Finds the code point that holds unit `unit` (counted from 0), byte by byte after `skip_blocks`; the end if there is
+/// none.
+fn find_unit(bytes: &[u8], unit: usize) -> UnitCursor
     ensures { IsCursorOfUnit bytes.now unit result }
 {
+    let from = skip_blocks(bytes, unit);
     let mut units = from.units;
     for position in from.position..bytes.len() {
         let byte = bytes[position];
@@ -156,13 +151,6 @@ pub(crate) fn find_cut(view: Wtf8<'_>, n: usize) -> Option<UnitCut>
     })
 }
 
-/// Returns the first unit of a string, or `None` if it is empty.
-fn first_unit(view: Wtf8<'_>) -> Option<u16>
-    ensures { result ≡ slice_get (view_units view.entry) 0 }
-{
-    view.to_ill_formed_utf16().next()
-}
-
 /// Returns the unit at `index`, or `None` at or past the end, by a cut before it. Not inlined, so that the ASCII path
 /// stays small.
 #[inline(never)]
@@ -170,10 +158,14 @@ fn unit_by_cut(view: Wtf8<'_>, index: usize) -> Option<u16>
     ensures { result ≡ slice_get (view_units view.entry) index }
 {
     let cut = find_cut(view, index)?;
-    match cut.divided {
-        None => first_unit(view.slice_from(cut.position)),
-        Some(value) => Some(trail_of(value) as u16),
+    if let Some(value) = cut.divided {
+        return Some(trail_of(value) as u16);
     }
+    if cut.position == view.bytes.len() {
+        return None;
+    }
+    let mut position = cut.position;
+    Some(read_unit(view.bytes, &mut position))
 }
 
 /// Returns the unit at `index` if the string begins with a block of ASCII that contains it.

@@ -60,7 +60,6 @@ impl<'a> Wtf8<'a> {
         Wtf8::from_well_formed(value.as_bytes())
     }
 
-    /// Wraps bytes that are known to be well-formed.
     pub(crate) fn from_well_formed(bytes: &'a [u8]) -> Wtf8<'a>
         requires { IsWellFormed bytes.now }
         ensures bytes { result.bytes.now ≡ bytes.now }
@@ -208,7 +207,6 @@ impl<'a> Wtf8<'a> {
         Ok(CowStr::Owned(unsafe { String::from_utf8_unchecked(bytes) }))
     }
 
-    /// Returns the view after the first `count` bytes.
     #[inline(always)]
     pub(crate) fn skip_bytes(self, count: usize) -> Wtf8<'a>
         requires within { count ≤ length self.bytes.now }

@@ -3,7 +3,6 @@ ghost use Rattle.std.specs.Prelude.{◌≡◌, ◌+◌, ◌≤◌, OnOk, IsOk, v
 
 use std::alloc::{AllocError, Allocator};
 
-/// Returns the spare capacity in bytes.
 #[inline(always)]
 pub(crate) fn spare_capacity<A: Allocator>(bytes: &Vec<u8, A>) -> usize
     ensures { vec_len bytes.now + result ≡ vec_capacity bytes.now }

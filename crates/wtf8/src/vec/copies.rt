@@ -61,7 +61,6 @@ fn push_overlapping<const N: usize, A: Allocator>(bytes: &mut Vec<u8, A>, other:
     push_block(bytes, Simd::<u8, N>::from_slice(&other[last..]).to_array());
 }
 
-/// Appends a block within the spare capacity.
 #[inline(always)]
 pub(crate) fn push_block<T: Copy, const N: usize, A: Allocator>(
     items: &mut Vec<T, A>,

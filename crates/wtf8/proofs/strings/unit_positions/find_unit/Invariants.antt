@@ -1,5 +1,5 @@
 use Rattle.wtf8.proofs.Common.{◌≡◌, ◌≤◌, take, sum_utf16_len}
-use Rattle.wtf8.proofs.strings.unit_positions.find_unit_from.Given as goal
+use Rattle.wtf8.proofs.strings.unit_positions.find_unit.Given as goal
 
 -- `units` is the number of units that begin before `position`, at most `unit`
 abbrev pub invariant-loop-position : goal.invariant-loop-position
