@@ -16,9 +16,8 @@ use Rattle.std.specs.List.Sorted.{IsBinarySearchResult, IsSorted}
 use Rattle.std.specs.Ordering.{is_eq, on}
 use Rattle.wtf8.proofs.lemmas.comparing.Order.{order_of_result}
 use Rattle.wtf8.proofs.lemmas.codec.Encoding.{Begins}
-use Rattle.wtf8.proofs.lemmas.codec.Readings.{well_formed_of, same_form}
-use Rattle.wtf8.proofs.lemmas.codec.Readings.{same_reading}
-use Rattle.wtf8.proofs.lemmas.strings.Concatenation.{equal_forms, form-glue, form_paired, form_append-unpaired, length_paired, length_append-unpaired, one_form, units_read, at_last, before, split_of_push}
+use Rattle.wtf8.proofs.lemmas.codec.Readings.{well_formed_of, same_form, same_reading, form_append-unpaired}
+use Rattle.wtf8.proofs.lemmas.strings.Concatenation.{equal_forms, form-glue, form_paired, length_paired, length_append-unpaired, one_form, units_read, at_last, before, split_of_push}
 use Rattle.wtf8.proofs.lemmas.strings.Positions.{cut_at, front_unique, front_boundary, boundary_from_byte}
 use Rattle.wtf8.proofs.lemmas.strings.Positions.{byte_from_boundary}
 use Rattle.wtf8.proofs.lemmas.strings.Surrogates.{lossy_points-scalar}
