@@ -1,9 +1,9 @@
 -- Blocks of units: their masks, their form, and the string after they are appended.
 use Rattle.wtf8.proofs.Common.{◌≡◌, ℕ, zero, suc, ◌-◌, ◌%◌, ◌^◌, ◌<◌, ◌≤◌, eqb, Bool, true, false, cond, ◌&&◌, List, [], ◌∷◌, map, length, replicate}
 use Rattle.wtf8.proofs.Common.{Fits, refl, sym, ap, ◌∙◌, arith, inl, inr, and_parts, cases_Bool, Each1, zip2, mask_l, top, AreAscii}
-use Rattle.wtf8.proofs.Common.{IsSurrogate, ◌+◌, ◌/◌, ◌++◌, bytes, IsTrue, take, drop, get_or, subst}
-use Rattle.wtf8.proofs.Common.{take-append-drop, take_all, Each1-weaker, length-chunk, MeetsAsPair, IsClean, bytes-injective}
-use Rattle.wtf8.proofs.Common.{AreScalar, units, IsKnownForm, DividesNoPair}
+use Rattle.wtf8.proofs.Common.{IsSurrogate, ◌+◌, ◌/◌, ◌++◌, IsTrue, take, drop, get_or, subst}
+use Rattle.wtf8.proofs.Common.{take-append-drop, take_all, length-chunk, MeetsAsPair}
+use Rattle.wtf8.proofs.Common.{IsKnownForm, DividesNoPair}
 use Rattle.std.proofs.Common.{w16, get_or-drop, length-take}
 use Rattle.std.proofs.Math.Bool.{and-true}
 use Rattle.std.proofs.Math.Seq.{take-suc, take-add, take-append-add}
@@ -14,7 +14,6 @@ use Rattle.std.proofs.lemmas.List.{length-map, take-take, get_or-take}
 use Rattle.std.proofs.lemmas.Simd.{zip2_splat, bitmask_splat, map-map, Each1-get_or}
 use Rattle.wtf8.specs.Unicode.{IsLead}
 use Rattle.wtf8.specs.private.ConvertedPrefix.{AreScalarUnits, IsReadTo}
-use Rattle.wtf8.proofs.lemmas.codec.Encoding.{encoding_one, bytes-append}
 use Rattle.wtf8.proofs.lemmas.codec.Readings.{form_append-unpaired, meets_by, unpaired-after_no_lead}
 use Rattle.wtf8.proofs.lemmas.codec.Scalars.{IsKnownForm-ascii, scalar-append}
 

@@ -11,7 +11,7 @@ use Rattle.std.specs.declared.vec.Vec.{Vec}
 use Rattle.wtf8.proofs.lemmas.codec.Encoding.{length-surrogate, length-encoding_bounds, length-bytes_append, encoding_four}
 use Rattle.wtf8.proofs.lemmas.codec.Readings.{meets_by, form_of, well_formed_of, same_form, units_from_form, IsWellFormed-equal_bytes, same_reading, same_points}
 use Rattle.wtf8.proofs.lemmas.codec.Readings.{units-append, cons-equal_parts, meets_or_not, units_one, lists_have_lengths, form-append}
-use Rattle.wtf8.proofs.lemmas.codec.Scalars.{scalar-append, scalar-middle}
+use Rattle.wtf8.proofs.lemmas.codec.Scalars.{scalar-middle}
 use Rattle.wtf8.proofs.lemmas.strings.Concatenation.{paired_bytes, meeting_bytes, form_meeting, one_form}
 use Rattle.wtf8.proofs.lemmas.strings.Concatenation.{clean-glue, units-glue, glue_meeting, glue-unpaired, units_read, bytes_paired, bytes_glue-unpaired, length-paired_bytes, form-glue}
 use Rattle.wtf8.proofs.lemmas.strings.Surrogates.{surrogate_in}

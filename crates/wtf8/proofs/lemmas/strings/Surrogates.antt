@@ -2,12 +2,12 @@
 use Rattle.wtf8.proofs.Common.{◌≡◌, ◌≤◌, ◌<◌, ◌+◌, ℕ, List, [], ◌∷◌, ◌++◌, length, get_or, refl, ap, ◌∙◌, sym, subst, arith, append_assoc, length-append, true}
 use Rattle.wtf8.proofs.Common.{inl, inr, Option, Some, None, nat_tests, cases_lt, lt-ltb, le-ltb, append-nil, get_or-append-add, IsUtf8, scalar, scalars}
 use Rattle.wtf8.proofs.Common.{IsCodePoint, IsSurrogate, encoding, bytes, IsClean, IsWellFormed, bytes_are_encodes, AreScalar, SurrogateAt, IsLeast, IsFirst}
-use Rattle.wtf8.proofs.Common.{◌-◌, ◌/◌, ◌%◌, lit≤, lit<, le-leb, lt-leb, map-append, lossy_points, take, drop, append_cancel_left, take_at, drop_at, low_scalar}
+use Rattle.wtf8.proofs.Common.{◌-◌, ◌/◌, ◌%◌, lit≤, lit<, map-append, lossy_points, take, drop, append_cancel_left, take_at, drop_at, low_scalar}
 use Rattle.wtf8.specs.Surrogates.{replace_surrogate}
 use Rattle.wtf8.proofs.lemmas.codec.Encoding.{length-bytes_append, encoding_three, length-encoding_bounds, encoding_cases, one, two, three, four, bytes-append, third_row, length-surrogate}
 use Rattle.wtf8.proofs.lemmas.codec.Encoding.{bytes-pushed}
 use Rattle.wtf8.proofs.lemmas.codec.Readings.{nil_from_bytes, clean-first, clean-rest, clean-front, clean-back}
-use Rattle.wtf8.proofs.lemmas.codec.Scalars.{Kind, surrogate, scalar_value, kind_by_surrogates, replace_surrogate-surrogate, scalar-middle}
+use Rattle.wtf8.proofs.lemmas.codec.Scalars.{surrogate, scalar_value, kind_by_surrogates, replace_surrogate-surrogate, scalar-middle}
 use Rattle.wtf8.proofs.lemmas.strings.Positions.{split_at, shorter_is_prefix}
 
 -- Surrogates in the bytes and among the code points.
