@@ -1,3 +1,2 @@
-pub mod PositionLaws
-pub mod StringLaws
+pub mod ComparisonLaws
 pub mod ViewLaws

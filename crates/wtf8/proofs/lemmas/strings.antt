@@ -5,3 +5,5 @@ pub mod Surrogates
 pub mod UnitCuts
 pub mod UnitMarks
 pub mod ToUtf16
+pub mod PositionLaws
+pub mod StringLaws

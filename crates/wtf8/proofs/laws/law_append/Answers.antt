@@ -1,6 +1,6 @@
 use Rattle.wtf8.proofs.Common.{◌++◌, ◌∙◌, ap, arith, drop, inl, inr, refl, take-append-drop}
 use Rattle.wtf8.proofs.lemmas.strings.Concatenation.{glue_assoc, glue-nil}
-use Rattle.wtf8.proofs.lemmas.laws.PositionLaws.{front_and_back}
+use Rattle.wtf8.proofs.lemmas.strings.PositionLaws.{front_and_back}
 use Rattle.wtf8.proofs.laws.law_append.Goals as goal
 
 pub returns : goal.returns

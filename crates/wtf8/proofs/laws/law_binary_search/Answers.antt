@@ -1,5 +1,5 @@
 use Rattle.std.specs.List.{slice_index_or}
-use Rattle.wtf8.proofs.lemmas.laws.StringLaws.{absent_units, equal_buffers_compare}
+use Rattle.wtf8.proofs.lemmas.laws.ComparisonLaws.{absent_units, equal_buffers_compare}
 use Rattle.wtf8.proofs.laws.law_binary_search.Goals as goal
 
 pub returns-clause-found : goal.returns-clause-found

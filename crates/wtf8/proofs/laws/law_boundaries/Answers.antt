@@ -1,5 +1,5 @@
 use Rattle.wtf8.proofs.Common.{view_units, view_form}
-use Rattle.wtf8.proofs.lemmas.laws.PositionLaws.{start_is_boundary, end_is_boundary, ascii_alone}
+use Rattle.wtf8.proofs.lemmas.strings.PositionLaws.{start_is_boundary, end_is_boundary, ascii_alone}
 use Rattle.wtf8.proofs.laws.law_boundaries.Goals as goal
 
 pub returns : goal.returns

@@ -1,6 +1,6 @@
 use Rattle.wtf8.proofs.Common.{ap, bytes, bytes-injective}
 use Rattle.wtf8.proofs.lemmas.comparing.Order.{before_bytes, cmp-bytes, order_of}
-use Rattle.wtf8.proofs.lemmas.laws.StringLaws.{equal_buffers_compare, equal_views_compare}
+use Rattle.wtf8.proofs.lemmas.laws.ComparisonLaws.{equal_buffers_compare, equal_views_compare}
 use Rattle.wtf8.proofs.laws.law_byte_order.Goals as goal
 
 pub returns : goal.returns

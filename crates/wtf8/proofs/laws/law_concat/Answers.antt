@@ -1,4 +1,5 @@
-use Rattle.wtf8.proofs.lemmas.strings.Concatenation.{glue_meeting, glue-unpaired, reads-glue, form-glue, form_paired, form_append-unpaired}
+use Rattle.wtf8.proofs.lemmas.codec.Readings.{form_append-unpaired}
+use Rattle.wtf8.proofs.lemmas.strings.Concatenation.{glue_meeting, glue-unpaired, reads-glue, form-glue, form_paired}
 use Rattle.wtf8.proofs.laws.law_concat.Goals as goal
 
 pub returns : goal.returns

@@ -1,4 +1,4 @@
-use Rattle.wtf8.proofs.lemmas.laws.StringLaws.{equal_buffers, equal_buffer_and_view, equal_views, forms_of_buffers, forms_of_views}
+use Rattle.wtf8.proofs.lemmas.strings.StringLaws.{equal_buffers, equal_buffer_and_view, equal_views, forms_of_buffers, forms_of_views}
 use Rattle.wtf8.proofs.laws.law_equal_strings.Goals as goal
 
 pub returns : goal.returns

@@ -1,4 +1,4 @@
-use Rattle.wtf8.proofs.lemmas.laws.StringLaws.{equal_views}
+use Rattle.wtf8.proofs.lemmas.strings.StringLaws.{equal_views}
 use Rattle.wtf8.proofs.laws.law_equal_views.Goals as goal
 
 pub returns : goal.returns

@@ -1,4 +1,4 @@
-use Rattle.wtf8.proofs.lemmas.laws.StringLaws.{strings_joined, strings_paired}
+use Rattle.wtf8.proofs.lemmas.strings.StringLaws.{strings_joined, strings_paired}
 use Rattle.wtf8.proofs.laws.law_joined_strings.Goals as goal
 
 pub returns : goal.returns

@@ -1,4 +1,4 @@
-use Rattle.wtf8.proofs.lemmas.laws.StringLaws.{no_ascii_unit}
+use Rattle.wtf8.proofs.lemmas.strings.StringLaws.{no_ascii_unit}
 use Rattle.wtf8.proofs.laws.law_no_ascii.Goals as goal
 
 pub returns : goal.returns

@@ -1,5 +1,5 @@
-use Rattle.wtf8.proofs.lemmas.laws.PositionLaws.{beginning_no_longer, both_no_longer}
-use Rattle.wtf8.proofs.lemmas.laws.StringLaws.{room_left, what_fits}
+use Rattle.wtf8.proofs.lemmas.strings.PositionLaws.{beginning_no_longer, both_no_longer}
+use Rattle.wtf8.proofs.lemmas.strings.StringLaws.{room_left, what_fits}
 use Rattle.wtf8.proofs.laws.law_room.Goals as goal
 
 pub returns : goal.returns

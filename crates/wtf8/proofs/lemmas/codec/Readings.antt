@@ -6,7 +6,7 @@ use Rattle.wtf8.proofs.Common.{drop_at, bytes-injective, Reads, IsWellFormed, Is
 use Rattle.wtf8.specs.Concatenation.{is_pair}
 use Rattle.wtf8.specs.PositionLaws.{ListsHaveLengths}
 use Rattle.wtf8.specs.Unicode.{units_of}
-use Rattle.wtf8.proofs.lemmas.codec.Encoding.{encoding_cases, one, two, three, four, length-encoding_bounds, begins_with}
+use Rattle.wtf8.proofs.lemmas.codec.Encoding.{encoding_cases, one, two, three, four, length-encoding_bounds, begins_with, bytes-append}
 
 -- A lead at the end of one list and a trail at the start of the next.
 
@@ -264,3 +264,26 @@ Taken-from_first v at h p next long read =
       rest = IsWellFormed-equal_bytes f.1.rest back;
       joined = f.1.joined ∙ ap (λ q. q ∷ f.1.rest.points) (sym was.0);
     }
+
+-- The form of two lists of units, one after the other, without a pair at their seam.
+
+-- the units meet as a pair if their code points do
+pub units_meet : {c d a b : List ℕ} → Reads c a → Reads d b → MeetsAsPair c d → MeetsAsPair a b
+units_meet x y m =
+    let ends = ap units m.ends ∙ (units-pushed m.front m.lead ∙ ap (λ u. units m.front ++ u) (units_one m.lead (omega (arith, m.is_lead)))) in
+    let begins = ap units m.begins ∙ ap (λ u. u ++ units m.rest) (units_one m.trail (omega (arith, m.is_trail))) in
+    meets_by (units m.front) (units m.rest) m.lead m.trail m.is_lead m.is_trail (sym x.same_units ∙ ends) (sym y.same_units ∙ begins)
+
+-- without a pair at the seam of their code points, and of their units
+abbrev pub form-append : {w v a b : List ℕ} (x : IsForm w a) (y : IsForm v b) → ¬ (MeetsAsPair x.points y.points) → IsForm (w ++ v) (a ++ b)
+form-append x y n = record {
+  points = x.points ++ y.points;
+  reads = record {
+    clean = clean-append x.points y.points x.reads.clean y.reads.clean n;
+    same_units = simp (units-append, x.reads.same_units, y.reads.same_units);
+  };
+  encoded = simp (bytes-append, x.encoded, y.encoded);
+}
+
+abbrev pub form_append-unpaired : (w v a b : List ℕ) → IsForm w a → IsForm v b → ¬ (MeetsAsPair a b) → IsForm (w ++ v) (a ++ b)
+form_append-unpaired w v a b x y n = form-append x y (λ m. n (units_meet x.reads y.reads m))

@@ -1,42 +1,18 @@
 -- The orders of code points, bytes and units, and how the first difference of two strings decides them.
 use Rattle.wtf8.proofs.Common.{◌≡◌, ℕ, ◌<◌, inl, inr, List, [], ◌∷◌, ◌++◌, refl, sym, ap, ◌∙◌, arith, subst, Ordering, Less, Equal, Greater, nat_cmp}
-use Rattle.wtf8.proofs.Common.{ordering_then, MatchOrdering, slice_cmp, cases_lt, nat_tests, Before, cases_order, ◌↔◌, encoding, bytes, Bool}
-use Rattle.wtf8.proofs.Common.{IsTrue, nat_eq, pointwise, bytes_decides, units, Reads, IsWellFormed, IsForm, bytes-injective, ◌≢◌, zero, suc, drop, get_or}
+use Rattle.wtf8.proofs.Common.{MatchOrdering, slice_cmp, cases_lt, Before, cases_order, ◌↔◌, encoding, bytes, Bool}
+use Rattle.wtf8.proofs.Common.{IsTrue, nat_eq, pointwise, bytes_decides, units, Reads, IsWellFormed, bytes-injective, ◌≢◌, zero, suc, drop, get_or}
 use Rattle.wtf8.proofs.Common.{units_of, IsMismatch, SupplementaryBegins, true, false, ◌⊎◌, length, take, length-append, append_assoc, false≢true}
-use Rattle.wtf8.proofs.Common.{take-append-drop, slice_get, option_cmp, NoneIn, IsLeast, min, slice_get-get_or, DifferAt, true≢false, ordering_reverse}
-use Rattle.wtf8.proofs.lemmas.lanes.Mismatch.{take-before_mismatch}
-use Rattle.std.proofs.lemmas.Cmp.{nat_cmp_total, nat_list_cmp_total, tied_itself}
+use Rattle.wtf8.proofs.Common.{take-append-drop, slice_get, option_cmp, true≢false}
+use Rattle.wtf8.proofs.lemmas.lanes.ListOrder.{cmp_less, cmp_greater, slice_cmp-less, slice_cmp-greater, cmp-append_left, mismatch-cons, order_at_mismatch}
+use Rattle.std.proofs.lemmas.Cmp.{nat_cmp_total, tied_itself}
 use Rattle.std.specs.Bool.{beq}
 use Rattle.std.specs.Ordering.{is_ge, is_gt, is_le, is_lt}
 use Rattle.wtf8.proofs.lemmas.codec.Encoding.{encoding_cases, one, two, three, four, encoding_same, length-encoding_bounds}
 use Rattle.wtf8.proofs.lemmas.codec.Readings.{same_reading, units-cons_one, units-cons_two, units-append}
 use Rattle.wtf8.proofs.lemmas.strings.Positions.{cut_at, boundary_from_byte, points_after}
 
--- The order `Before` of lists of numbers, and their comparison item by item.
-
-pub cmp_less : (x y : ℕ) → x < y → nat_cmp x y ≡ Less
-cmp_less x y h = grind (arith, nat_tests)
-
-pub cmp_greater : (x y : ℕ) → y < x → nat_cmp x y ≡ Greater
-cmp_greater x y h = grind (arith, nat_tests)
-
--- the list that is before the other compares as less
-pub slice_cmp-less : (c d : List ℕ) → Before c d → slice_cmp nat_cmp c d ≡ Less
-slice_cmp-less [] [] h = absurd h
-slice_cmp-less [] (y ∷ ys) h = refl
-slice_cmp-less (x ∷ xs) [] h = absurd h
-slice_cmp-less (x ∷ xs) (y ∷ ys) h = elim h [
-  | inl l ↦ ap (λ o. ordering_then o (slice_cmp nat_cmp xs ys)) (cmp_less x y l)
-  | inr e ↦ rw (← e.0, tied_itself nat_cmp_total x) (slice_cmp-less xs ys e.1)
-]
-
-pub slice_cmp-greater : (c d : List ℕ) → Before d c → slice_cmp nat_cmp c d ≡ Greater
-slice_cmp-greater c d h = nat_list_cmp_total.antisymm c d ∙ ap ordering_reverse (slice_cmp-less d c h)
-
--- a common front does not affect a comparison
-pub cmp-append_left : (f c d : List ℕ) → slice_cmp nat_cmp (f ++ c) (f ++ d) ≡ slice_cmp nat_cmp c d
-cmp-append_left [] c d = refl
-cmp-append_left (x ∷ f) c d = ap (λ o. ordering_then o (slice_cmp nat_cmp (f ++ c) (f ++ d))) (tied_itself nat_cmp_total x) ∙ cmp-append_left f c d
+-- What a comparison of lists of numbers says about the order `Before`.
 
 MatchOrdering-cons : (x y : ℕ) (xs ys : List ℕ) → x ≡ y → (o : Ordering) → MatchOrdering o (Before xs ys) (xs ≡ ys) (Before ys xs)
     → MatchOrdering o (Before (x ∷ xs) (y ∷ ys)) (x ∷ xs ≡ y ∷ ys) (Before (y ∷ ys) (x ∷ xs))
@@ -116,10 +92,6 @@ before_bytes c d =
     (λ h. Before-from_less c d (sym (cmp-bytes c d) ∙ slice_cmp-less (bytes c) (bytes d) h), λ h. Before-from_less (bytes c) (bytes d) (cmp-bytes c d ∙ slice_cmp-less c d h))
 
 -- Strings compared by their bytes: the code points and units.
-
--- well-formed bytes and a form with equal bytes have the same code points
-pub form_points : {w v u : List ℕ} (h : IsWellFormed w) (f : IsForm v u) → w ≡ v → h.points ≡ f.points
-form_points h f e = bytes-injective h.points f.points (h.encoded ∙ (e ∙ sym f.encoded))
 
 -- two byte strings are equal exactly if their code points are, and if their units are
 pub equal_points : (r : Bool) (c d : List ℕ) {w v : List ℕ} → bytes c ≡ w → bytes d ≡ v → r ≡ pointwise nat_eq w v → IsTrue r ↔ (c ≡ d)
@@ -203,15 +175,6 @@ points_as_units (p ∷ c) (q ∷ d) h =
       | inr (inr l) ↦ slice_cmp-less (p ∷ c) (q ∷ d) (inl l) ∙ sym (slice_cmp-less (units (p ∷ c)) (units (q ∷ d)) (before_units p q c d l row))
     ]
 
--- without their equal first items, lists first differ one index earlier
-pub mismatch-cons : (x y : ℕ) (w v : List ℕ) (n : ℕ) → IsMismatch (x ∷ w) (y ∷ v) (suc n) → IsMismatch w v n
-mismatch-cons x y w v n d = record {
-  within_first = omega (arith, d.within_first);
-  within_second = omega (arith, d.within_second);
-  same_before = ap (drop 1) d.same_before;
-  differ_there = λ a b. d.differ_there (omega arith) (omega arith);
-}
-
 supplementary_begins-cons : (x : ℕ) (w : List ℕ) (n : ℕ) → SupplementaryBegins (x ∷ w) (suc n) ↔ SupplementaryBegins w n
 supplementary_begins-cons x w n = (λ h. (omega (arith, h.0), h.1), λ h. (omega (arith, h.0), h.1))
 
@@ -233,49 +196,6 @@ same_side_at_mismatch (x ∷ w) (y ∷ v) (suc n) d both =
     )
 
 -- The order of units: by the bytes at the first difference, or by the parts of both strings from there on.
-
--- lists compare as their items at the first difference, with `None` for the end
-pub order_at_mismatch : (w v : List ℕ) (at : ℕ) → IsMismatch w v at → option_cmp nat_cmp (slice_get w at) (slice_get v at) ≡ slice_cmp nat_cmp w v
-order_at_mismatch [] [] at d = refl
-order_at_mismatch [] (y ∷ v) zero d = refl
-order_at_mismatch [] (y ∷ v) (suc n) d = absurd (omega (arith, d.within_first))
-order_at_mismatch (x ∷ w) [] zero d = refl
-order_at_mismatch (x ∷ w) [] (suc n) d = absurd (omega (arith, d.within_second))
-order_at_mismatch (x ∷ w) (y ∷ v) zero d = elim (cases_order x y) [
-  | inl e ↦ absurd (d.differ_there (omega arith) (omega arith) e)
-  | inr (inl l) ↦ cmp_less x y l ∙ sym (slice_cmp-less (x ∷ w) (y ∷ v) (inl l))
-  | inr (inr l) ↦ cmp_greater x y l ∙ sym (slice_cmp-greater (x ∷ w) (y ∷ v) (inl l))
-]
-order_at_mismatch (x ∷ w) (y ∷ v) (suc n) d =
-    let same : y ≡ x = sym (ap (λ u. get_or u 0 0) d.same_before) in
-    order_at_mismatch w v n (mismatch-cons x y w v n d) ∙ rw same (sym (cmp-append_left (x ∷ []) w v))
-
--- lists that are equal up to the length of the shorter compare as their lengths
-pub order_of_lengths : (w v : List ℕ) → NoneIn (DifferAt w v) 0 (min (length w) (length v)) → nat_cmp (length w) (length v) ≡ slice_cmp nat_cmp w v
-order_of_lengths [] [] h = tied_itself nat_cmp_total 0
-order_of_lengths [] (y ∷ v) h = cmp_less 0 (length (y ∷ v)) (omega arith)
-order_of_lengths (x ∷ w) [] h = cmp_greater (length (x ∷ w)) 0 (omega arith)
-order_of_lengths (x ∷ w) (y ∷ v) h = elim (cases_order x y) [
-  | inl e ↦
-      let rest = order_of_lengths w v (λ j _ l. h (suc j) (omega arith) (omega arith)) in
-      let longer : nat_cmp (suc (length w)) (suc (length v)) ≡ nat_cmp (length w) (length v) = grind (arith, nat_tests) in
-      longer ∙ (rest ∙ rw e (sym (cmp-append_left (y ∷ []) w v)))
-  | inr n ↦ absurd (h 0 (omega arith) (omega arith) (λ e. omega (arith, n, e)))
-]
-
--- lists compare as their items at the first mismatch
-pub order_at : (w v : List ℕ) (at : ℕ) → IsLeast (DifferAt w v) 0 at × (at < min (length w) (length v))
-    → nat_cmp (get_or w at 0) (get_or v at 0) ≡ slice_cmp nat_cmp w v
-order_at w v at h =
-    let own : at < length w = omega (arith, h.1) in
-    let others : at < length v = omega (arith, h.1) in
-    let d : IsMismatch w v at = record {
-      within_first = omega arith;
-      within_second = omega arith;
-      same_before = take-before_mismatch at w v (omega arith) (omega arith) h.0.none_between;
-      differ_there = λ _ _. h.0.here;
-    } in
-    rw (slice_get-get_or w at 0 own, slice_get-get_or v at 0 others) at (order_at_mismatch w v at d)
 
 -- if the bytes of `d` begin with the bytes of `front`, its code points begin with `front`
 record BeginsWithFront (front d rest : List ℕ) : Type 0 where

@@ -17,7 +17,7 @@ use Rattle.wtf8.specs.declared.from_utf16.decode.DecodeUtf16.{DecodeUtf16}
 use Rattle.wtf8.proofs.Common.{Bool, IsTrue, ◌≢◌, AreScalar, IsKnownForm, bytes, encoding, map-append, take-append-drop}
 use Rattle.wtf8.specs.private.ConvertedPrefix.{IsReadTo}
 use Rattle.wtf8.proofs.lemmas.codec.Encoding.{bytes-append}
-use Rattle.wtf8.proofs.lemmas.strings.ExtendedForms.{scalar-append}
+use Rattle.wtf8.proofs.lemmas.codec.Scalars.{scalar-append}
 use Rattle.wtf8.proofs.lemmas.from_utf16.Transcode.{IsKnownForm-append, DividesNoPair-after_no_lead}
 use Rattle.wtf8.proofs.lemmas.codec.Readings.{units_one, units_pair, unpaired-after_no_lead, unpaired-nil_right, unpaired-before_no_trail}
 use Rattle.wtf8.proofs.Common.{suc, ◌≤◌, ◌/◌, ◌%◌, cases_lt, lt-ltb, le-ltb, append_assoc, length-append, length-drop, drop-drop, take-add, take_all, DividesNoPair, MeetsAsPair, copied_steps, iter_steps, iter_rest}

@@ -1,9 +1,9 @@
 -- Blocks of units: their masks, their form, and the string after they are appended.
 use Rattle.wtf8.proofs.Common.{◌≡◌, ℕ, zero, suc, ◌-◌, ◌%◌, ◌^◌, ◌<◌, ◌≤◌, eqb, Bool, true, false, cond, ◌&&◌, List, [], ◌∷◌, map, length, replicate}
 use Rattle.wtf8.proofs.Common.{Fits, refl, sym, ap, ◌∙◌, arith, inl, inr, and_parts, cases_Bool, Each1, zip2, mask_l, top, AreAscii}
-use Rattle.wtf8.proofs.Common.{IsSurrogate, ◌+◌, ◌/◌, ◌++◌, bytes, IsTrue, take, drop, get_or, subst}
-use Rattle.wtf8.proofs.Common.{take-append-drop, take_all, Each1-weaker, length-chunk, MeetsAsPair, IsClean, bytes-injective}
-use Rattle.wtf8.proofs.Common.{AreScalar, units, IsKnownForm, DividesNoPair}
+use Rattle.wtf8.proofs.Common.{IsSurrogate, ◌+◌, ◌/◌, ◌++◌, IsTrue, take, drop, get_or, subst}
+use Rattle.wtf8.proofs.Common.{take-append-drop, take_all, length-chunk, MeetsAsPair}
+use Rattle.wtf8.proofs.Common.{IsKnownForm, DividesNoPair}
 use Rattle.std.proofs.Common.{w16, get_or-drop, length-take}
 use Rattle.std.proofs.Math.Bool.{and-true}
 use Rattle.std.proofs.Math.Seq.{take-suc, take-add, take-append-add}
@@ -14,10 +14,8 @@ use Rattle.std.proofs.lemmas.List.{length-map, take-take, get_or-take}
 use Rattle.std.proofs.lemmas.Simd.{zip2_splat, bitmask_splat, map-map, Each1-get_or}
 use Rattle.wtf8.specs.Unicode.{IsLead}
 use Rattle.wtf8.specs.private.ConvertedPrefix.{AreScalarUnits, IsReadTo}
-use Rattle.wtf8.proofs.lemmas.codec.Encoding.{encoding_one, bytes-append}
-use Rattle.wtf8.proofs.lemmas.codec.Readings.{meets_by, unpaired-after_no_lead, units-cons_one}
-use Rattle.wtf8.proofs.lemmas.strings.Concatenation.{form_append-unpaired}
-use Rattle.wtf8.proofs.lemmas.strings.ExtendedForms.{scalar-append}
+use Rattle.wtf8.proofs.lemmas.codec.Readings.{form_append-unpaired, meets_by, unpaired-after_no_lead}
+use Rattle.wtf8.proofs.lemmas.codec.Scalars.{IsKnownForm-ascii, scalar-append}
 
 -- Masks of blocks of units.
 
@@ -42,41 +40,6 @@ none_surrogate xs l f e =
 
 -- Units encoded part by part: the seams between parts, and the form of all units so far.
 
--- units that are no surrogates are their own code points
-clean-scalar_units : (u : List ℕ) → AreScalarUnits u → IsClean u
-clean-scalar_units [] h = tt
-clean-scalar_units (p ∷ []) h = omega (arith, h.0.0)
-clean-scalar_units (p ∷ q ∷ u) h = (omega (arith, h.0.0), λ pair. h.0.1 (pair.0.0, omega (arith, pair.0.1)), clean-scalar_units (q ∷ u) h.1)
-
-units-scalar_units : (u : List ℕ) → AreScalarUnits u → units u ≡ u
-units-scalar_units [] h = refl
-units-scalar_units (p ∷ u) h = units-cons_one p u h.0.0 ∙ ap (λ v. p ∷ v) (units-scalar_units u h.1)
-
-AreScalar-scalar_units : (u : List ℕ) → AreScalarUnits u → AreScalar u
-AreScalar-scalar_units [] h = tt
-AreScalar-scalar_units (p ∷ u) h = (h.0.1, AreScalar-scalar_units u h.1)
-
-bytes-ascii : (u : List ℕ) → AreAscii u → bytes u ≡ u
-bytes-ascii [] h = refl
-bytes-ascii (p ∷ u) h = ap (λ w. w ++ bytes u) (encoding_one p h.0) ∙ ap (λ v. p ∷ v) (bytes-ascii u h.1)
-
-AreScalarUnits-ascii : (u : List ℕ) → AreAscii u → AreScalarUnits u
-AreScalarUnits-ascii u h = Each1-weaker (λ n. n < 0x80) (λ n. (n < 0x10000) × ¬ (IsSurrogate n)) (λ n l. (omega (arith, l), λ s. omega (arith, l, s.0))) u h
-
-pub units-ascii : (u : List ℕ) → AreAscii u → units u ≡ u
-units-ascii u h = units-scalar_units u (AreScalarUnits-ascii u h)
-
--- ASCII units are their own form
-pub IsKnownForm-ascii : (u : List ℕ) → AreAscii u → IsKnownForm u u true
-IsKnownForm-ascii u h = record {
-  form = record {
-    points = u;
-    reads = record { clean = clean-scalar_units u (AreScalarUnits-ascii u h); same_units = units-scalar_units u (AreScalarUnits-ascii u h) };
-    encoded = bytes-ascii u h;
-  };
-  scalar = λ _. AreScalar-scalar_units u (AreScalarUnits-ascii u h);
-}
-
 pub IsKnownForm-nil : {w : List ℕ} (known : Bool) → w ≡ [] → IsKnownForm w [] known
 IsKnownForm-nil known e = record { form = record { points = []; reads = record { clean = tt; same_units = refl }; encoded = sym e }; scalar = λ _. tt }
 
@@ -92,11 +55,10 @@ MeetsAsPair-take a b n m =
 -- the form of a part appended to the form of the units before it, without a pair at the seam
 pub IsKnownForm-append : (w v a b : List ℕ) (known more both : Bool) → IsKnownForm w a known → IsKnownForm v b more → ¬ (MeetsAsPair a b)
     → (IsTrue both → IsTrue known × IsTrue more) → IsKnownForm (w ++ v) (a ++ b) both
-IsKnownForm-append w v a b known more both x y n flags =
-    let whole = form_append-unpaired w v a b x.form y.form n in
-    let encoded : bytes (x.form.points ++ y.form.points) ≡ w ++ v = simp (bytes-append, x.form.encoded, y.form.encoded) in
-    let same : x.form.points ++ y.form.points ≡ whole.points = bytes-injective (x.form.points ++ y.form.points) whole.points (encoded ∙ sym whole.encoded) in
-    record { form = whole; scalar = λ t. subst AreScalar same (scalar-append x.form.points y.form.points (x.scalar (flags t).0) (y.scalar (flags t).1)) }
+IsKnownForm-append w v a b known more both x y n flags = record {
+  form = form_append-unpaired w v a b x.form y.form n;
+  scalar = λ t. scalar-append x.form.points y.form.points (x.scalar (flags t).0) (y.scalar (flags t).1);
+}
 
 -- the units up to `end` are encoded after the form of the units from `at` to `end` was appended
 pub IsReadTo-append : {w new u part : List ℕ} {at end : ℕ} {known more : Bool} → IsReadTo w u at known → at ≤ end → end ≤ length u → DividesNoPair u end

@@ -13,7 +13,7 @@ use Rattle.wtf8.proofs.lemmas.codec.Readings.{clean-append, unpaired-after_no_le
 use Rattle.wtf8.proofs.lemmas.strings.Concatenation.{equal_forms, one_form, units_read, one_reading, none_begins_another}
 use Rattle.wtf8.proofs.lemmas.strings.ExtendedForms.{all_back}
 use Rattle.wtf8.proofs.lemmas.strings.Surrogates.{scalars_true, scalars-lossy_points}
-use Rattle.wtf8.proofs.lemmas.laws.StringLaws.{run_once, runs_add, scalars_stay}
+use Rattle.wtf8.proofs.lemmas.strings.StringLaws.{run_once, runs_add, scalars_stay}
 
 -- the code points of a view are the only reading of its units
 pub view_reads : (t : Wtf8) → Reads (view_points t) (view_units t)

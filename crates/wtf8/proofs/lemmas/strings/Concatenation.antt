@@ -9,7 +9,7 @@ use Rattle.wtf8.specs.Laws.{UnitsHaveOneReading, ReadingsAreOfUnits, UnitsHaveOn
 use Rattle.wtf8.proofs.lemmas.codec.Encoding.{encoding_three, encoding_four, length-surrogate, bytes-append, bytes-pushed, encoding_same}
 use Rattle.wtf8.proofs.lemmas.codec.Readings.{clean-append, clean-front, clean-rest, is_pair-surrogates, surrogates_from_is_pair, meets_by, MeetsAsPair-cons, meets_or_not, unpaired-nil_right}
 use Rattle.wtf8.proofs.lemmas.codec.Readings.{unpaired-after_no_lead, unpaired-before_no_trail, same_reading, units_one, units_pair, same_form, trail_first, lead_of, trail_of, units_two}
-use Rattle.wtf8.proofs.lemmas.codec.Readings.{units-pushed, clean-first, form_of, units_from_form}
+use Rattle.wtf8.proofs.lemmas.codec.Readings.{units-pushed, clean-first, form_of, units_from_form, form_append-unpaired}
 
 -- Lists of any kind: the last item, and the item at an index.
 
@@ -155,12 +155,9 @@ length-paired_bytes w v l t lead trail m n =
 pub form-glue : (w v a b : List ℕ) (x : IsForm w a) (y : IsForm v b) → IsForm (bytes (glue x.points y.points)) (a ++ b)
 form-glue w v a b x y = record { points = glue x.points y.points; reads = reads-glue x.points y.points a b x.reads y.reads; encoded = refl }
 
--- the form of both, with and without a pair at the seam of their code points
+-- the form of both, with a pair at the seam of their code points
 pub form_meeting : {w v a b : List ℕ} (x : IsForm w a) (y : IsForm v b) (m : MeetsAsPair x.points y.points) → IsForm (paired_bytes w m.lead m.trail v) (a ++ b)
 form_meeting {w} {v} {a} {b} x y m = subst (λ z. IsForm z (a ++ b)) (bytes_paired x.points y.points m x.encoded y.encoded) (form-glue w v a b x y)
-
-pub form-append : {w v a b : List ℕ} (x : IsForm w a) (y : IsForm v b) → ¬ (MeetsAsPair x.points y.points) → IsForm (w ++ v) (a ++ b)
-form-append {w} {v} {a} {b} x y n = subst (λ z. IsForm z (a ++ b)) (bytes_glue-unpaired x.points y.points n x.encoded y.encoded) (form-glue w v a b x y)
 
 -- a lead that is the last unit is the last code point
 pub lead_last : (c g : List ℕ) (l : ℕ) → IsLead l → units c ≡ g ++ l ∷ [] → (f : List ℕ) × (c ≡ f ++ l ∷ [])
@@ -188,18 +185,9 @@ points_meet {c} {d} x y m =
     let after = trail_begins d m.rest m.trail y.clean m.is_trail (y.same_units ∙ m.begins) in
     meets_by before.0 after.0 m.lead m.trail m.is_lead m.is_trail before.1 after.1
 
-pub units_meet : {c d a b : List ℕ} → Reads c a → Reads d b → MeetsAsPair c d → MeetsAsPair a b
-units_meet x y m =
-    let ends = ap units m.ends ∙ (units-pushed m.front m.lead ∙ ap (λ u. units m.front ++ u) (units_one m.lead (omega (arith, m.is_lead)))) in
-    let begins = ap units m.begins ∙ ap (λ u. u ++ units m.rest) (units_one m.trail (omega (arith, m.is_trail))) in
-    meets_by (units m.front) (units m.rest) m.lead m.trail m.is_lead m.is_trail (sym x.same_units ∙ ends) (sym y.same_units ∙ begins)
-
--- the form of both, with and without a pair at the seam of their units
+-- the form of both, with a pair at the seam of their units
 pub form_paired : (w v a b : List ℕ) → IsForm w a → IsForm v b → (m : MeetsAsPair a b) → IsForm (paired_bytes w m.lead m.trail v) (a ++ b)
 form_paired w v a b x y m = form_meeting x y (points_meet x.reads y.reads m)
-
-pub form_append-unpaired : (w v a b : List ℕ) → IsForm w a → IsForm v b → ¬ (MeetsAsPair a b) → IsForm (w ++ v) (a ++ b)
-form_append-unpaired w v a b x y n = form-append x y (λ m. n (units_meet x.reads y.reads m))
 
 -- the length of the form of both
 pub length_paired : (w v z a b : List ℕ) → IsForm w a → IsForm v b → IsForm z (a ++ b) → MeetsAsPair a b → length z + 2 ≡ length w + length v

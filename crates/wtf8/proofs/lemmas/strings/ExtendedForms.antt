@@ -10,10 +10,11 @@ use lib.Utf8.{scalar_cases}
 use Rattle.std.specs.declared.vec.Vec.{Vec}
 use Rattle.wtf8.proofs.lemmas.codec.Encoding.{length-surrogate, length-encoding_bounds, length-bytes_append, encoding_four}
 use Rattle.wtf8.proofs.lemmas.codec.Readings.{meets_by, form_of, well_formed_of, same_form, units_from_form, IsWellFormed-equal_bytes, same_reading, same_points}
-use Rattle.wtf8.proofs.lemmas.codec.Readings.{units-append, cons-equal_parts, meets_or_not, units_one, lists_have_lengths}
-use Rattle.wtf8.proofs.lemmas.strings.Concatenation.{paired_bytes, meeting_bytes, form_meeting, form-append, one_form}
+use Rattle.wtf8.proofs.lemmas.codec.Readings.{units-append, cons-equal_parts, meets_or_not, units_one, lists_have_lengths, form-append}
+use Rattle.wtf8.proofs.lemmas.codec.Scalars.{scalar-middle}
+use Rattle.wtf8.proofs.lemmas.strings.Concatenation.{paired_bytes, meeting_bytes, form_meeting, one_form}
 use Rattle.wtf8.proofs.lemmas.strings.Concatenation.{clean-glue, units-glue, glue_meeting, glue-unpaired, units_read, bytes_paired, bytes_glue-unpaired, length-paired_bytes, form-glue}
-use Rattle.wtf8.proofs.lemmas.strings.Surrogates.{scalar-middle, surrogate_in}
+use Rattle.wtf8.proofs.lemmas.strings.Surrogates.{surrogate_in}
 use Rattle.wtf8.proofs.lemmas.strings.Positions.{shorter_is_prefix}
 
 -- A string after a call that appended to its bytes, or was refused.
@@ -109,11 +110,7 @@ well_formed_text w u = record {
 abbrev pub well_formed-equal_text : {v w : List ℕ} → IsUtf8 v → w ≡ v → IsWellFormed w
 well_formed-equal_text {v} u e = IsWellFormed-equal_bytes (well_formed_text v u) e
 
--- Scalar values: parts of a list, and lists joined.
-
-pub scalar-append : (c d : List ℕ) → AreScalar c → AreScalar d → AreScalar (c ++ d)
-scalar-append [] d s t = t
-scalar-append (p ∷ c) d s t = (s.0, scalar-append c d s.1 t)
+-- Scalar values: those of a text, and none of them at a seam.
 
 -- the characters of a text are scalar values
 pub scalar-characters : (c : List ℕ) → scalars c ≡ true → AreScalar c

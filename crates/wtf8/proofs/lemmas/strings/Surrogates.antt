@@ -2,11 +2,12 @@
 use Rattle.wtf8.proofs.Common.{◌≡◌, ◌≤◌, ◌<◌, ◌+◌, ℕ, List, [], ◌∷◌, ◌++◌, length, get_or, refl, ap, ◌∙◌, sym, subst, arith, append_assoc, length-append, true}
 use Rattle.wtf8.proofs.Common.{inl, inr, Option, Some, None, nat_tests, cases_lt, lt-ltb, le-ltb, append-nil, get_or-append-add, IsUtf8, scalar, scalars}
 use Rattle.wtf8.proofs.Common.{IsCodePoint, IsSurrogate, encoding, bytes, IsClean, IsWellFormed, bytes_are_encodes, AreScalar, SurrogateAt, IsLeast, IsFirst}
-use Rattle.wtf8.proofs.Common.{◌-◌, ◌/◌, ◌%◌, lit≤, lit<, le-leb, lt-leb, map-append, lossy_points, take, drop, append_cancel_left, take_at, drop_at, low_scalar}
+use Rattle.wtf8.proofs.Common.{◌-◌, ◌/◌, ◌%◌, lit≤, lit<, map-append, lossy_points, take, drop, append_cancel_left, take_at, drop_at, low_scalar}
 use Rattle.wtf8.specs.Surrogates.{replace_surrogate}
 use Rattle.wtf8.proofs.lemmas.codec.Encoding.{length-bytes_append, encoding_three, length-encoding_bounds, encoding_cases, one, two, three, four, bytes-append, third_row, length-surrogate}
 use Rattle.wtf8.proofs.lemmas.codec.Encoding.{bytes-pushed}
 use Rattle.wtf8.proofs.lemmas.codec.Readings.{nil_from_bytes, clean-first, clean-rest, clean-front, clean-back}
+use Rattle.wtf8.proofs.lemmas.codec.Scalars.{surrogate, scalar_value, kind_by_surrogates, replace_surrogate-surrogate, scalar-middle}
 use Rattle.wtf8.proofs.lemmas.strings.Positions.{split_at, shorter_is_prefix}
 
 -- Surrogates in the bytes and among the code points.
@@ -62,10 +63,6 @@ surrogate_in c i s =
       front_len = omega (arith, ap length (bytes-append cut.front f.front), length-append (bytes cut.front) (bytes f.front), cut.front_len, f.front_len);
       surrogate = f.surrogate;
     }
-
-pub scalar-middle : (f : List ℕ) (p : ℕ) (b : List ℕ) → AreScalar (f ++ p ∷ b) → ¬ (IsSurrogate p)
-scalar-middle [] p b s = s.0
-scalar-middle (q ∷ f) p b s = scalar-middle f p b s.1
 
 pub none_from_scalar : (c : List ℕ) (i : ℕ) → AreScalar c → ¬ (SurrogateAt (bytes c) i)
 none_from_scalar c i s at =
@@ -175,21 +172,6 @@ last_surrogate {w} h len first second =
 
 -- The lossy list, with U+FFFD for each surrogate.
 
--- a code point is a surrogate, which is replaced, or a scalar value, which is kept
-pub data Kind (p : ℕ) : Type 0 where
-  surrogate : IsSurrogate p → replace_surrogate p ≡ 0xFFFD → Kind p
-  scalar_value : ¬ (IsSurrogate p) → replace_surrogate p ≡ p → Kind p
-
-pub kind_by_surrogates : (p : ℕ) → Kind p
-unfolding replace_surrogate
-kind_by_surrogates p = elim (cases_lt p 0xD800) [
-  | inl h ↦ scalar_value (λ s. omega arith) (rw (lt-leb 0xD800 p h) refl)
-  | inr h ↦ elim (cases_lt p 0xE000) [
-    | inl k ↦ surrogate (h, omega arith) (rw (le-leb 0xD800 p h, le-leb p 0xDFFF (omega arith)) refl)
-    | inr k ↦ scalar_value (λ s. omega arith) (rw (le-leb 0xD800 p h, lt-leb p 0xDFFF (omega arith)) refl)
-  ]
-]
-
 pub lossy_points-append : (c d : List ℕ) → lossy_points (c ++ d) ≡ lossy_points c ++ lossy_points d
 lossy_points-append c d = map-append replace_surrogate c d
 
@@ -219,12 +201,6 @@ scalars-lossy_points (p ∷ c) x = elim (kind_by_surrogates p) [
 -- the bytes of the lossy list are text
 pub utf8_lossy_points : (c : List ℕ) → IsClean c → IsUtf8 (bytes (lossy_points c))
 utf8_lossy_points c x = (lossy_points c, (scalars-lossy_points c x, sym (bytes_are_encodes (lossy_points c))))
-
-pub replace_surrogate-surrogate : (p : ℕ) → IsSurrogate p → replace_surrogate p ≡ 0xFFFD
-replace_surrogate-surrogate p s = elim (kind_by_surrogates p) [ surrogate k e ↦ e | scalar_value n e ↦ absurd (n s) ]
-
-pub replace_surrogate-scalar : (p : ℕ) → ¬ (IsSurrogate p) → replace_surrogate p ≡ p
-replace_surrogate-scalar p n = elim (kind_by_surrogates p) [ surrogate k e ↦ absurd (n k) | scalar_value m e ↦ e ]
 
 -- Replacing surrogates in place, one after another.
 

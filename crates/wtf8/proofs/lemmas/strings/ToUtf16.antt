@@ -6,7 +6,7 @@ use Rattle.wtf8.proofs.lemmas.codec.Encoding.{encoding_cases, one, two, three, f
 use native.Mathlib.Nat.{mul-suc}
 use Rattle.wtf8.specs.private.EncodedRuns.{HasBitPrefix, BeginsWithUnits, lead_bytes_of, unit_of_two, unit_of_three, units_of_run}
 use Rattle.wtf8.proofs.lemmas.codec.Readings.{first_of, IsWellFormed-equal_bytes, Taken-from_first, units-cons_one, units_from_form}
-use Rattle.wtf8.proofs.lemmas.from_utf16.Transcode.{IsKnownForm-ascii}
+use Rattle.wtf8.proofs.lemmas.codec.Scalars.{IsKnownForm-ascii}
 
 -- the units of a view of ASCII bytes are these bytes
 pub view_units-ascii : (view : Wtf8) → AreAscii view.bytes.now → view_units view ≡ view.bytes.now

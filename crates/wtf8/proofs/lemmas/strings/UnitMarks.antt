@@ -9,12 +9,12 @@ use Rattle.wtf8.specs.PositionLaws.{EqualBoundariesHaveEqualFronts, BoundariesAr
 use Rattle.wtf8.specs.UnitMark.{IsMark, EqualCountsAreMarks, MarksStay, MarksDivideNoPair, EqualMarksHaveEqualUnits, MarksAreInOneOrder, MarksAreFoundAgain, BoundariesAreMarks, MarksStayInFront}
 use Rattle.wtf8.specs.UnitPosition.{DividesPair}
 use Rattle.wtf8.proofs.lemmas.codec.Encoding.{bytes-append, encoding_cases, one, two, three, four}
-use Rattle.wtf8.proofs.lemmas.codec.Readings.{units-append, lists_have_lengths, units_one, units_two, well_formed_of, same_form, same_reading, reads_same, meets_by}
-use Rattle.wtf8.proofs.lemmas.strings.Concatenation.{reads-glue, one_form, units_read, form_append-unpaired}
+use Rattle.wtf8.proofs.lemmas.codec.Readings.{units-append, lists_have_lengths, units_one, units_two, well_formed_of, same_form, same_reading, reads_same, meets_by, form_append-unpaired}
+use Rattle.wtf8.proofs.lemmas.strings.Concatenation.{reads-glue, one_form, units_read}
 use Rattle.wtf8.proofs.lemmas.strings.ExtendedForms.{all_back}
 use Rattle.wtf8.proofs.lemmas.strings.Positions.{cut_by, points_after, boundary_of, same_splits, shorter_is_prefix, front_unique}
 use Rattle.wtf8.proofs.lemmas.strings.UnitCuts.{undivided_from_cut, divides_none}
-use Rattle.wtf8.proofs.lemmas.from_utf16.Transcode.{IsKnownForm-ascii, units-ascii}
+use Rattle.wtf8.proofs.lemmas.codec.Scalars.{IsKnownForm-ascii, units-ascii}
 use Rattle.std.proofs.lemmas.Simd.{Each1-chunk}
 
 -- a cut between code points is a mark

@@ -1,6 +1,6 @@
 use Rattle.wtf8.proofs.Common.{◌<◌, ◌∙◌, ap, arith, get_or, length, nat_cmp, sym}
 use Rattle.std.proofs.lemmas.Cmp.{nat_cmp_total, tied_itself}
-use Rattle.wtf8.proofs.lemmas.comparing.Order.{cmp_less, cmp_greater, order_at, order_of_lengths}
+use Rattle.wtf8.proofs.lemmas.lanes.ListOrder.{cmp_less, cmp_greater, order_at, order_of_lengths}
 use Rattle.wtf8.proofs.lanes.memcmp.cmp_at_mismatch.Goals as goal
 
 pub returns-in-Some : goal.returns-in-Some

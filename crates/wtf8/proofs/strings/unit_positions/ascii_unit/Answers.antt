@@ -1,5 +1,5 @@
 use Rattle.wtf8.proofs.Common.{◌∙◌, arith, sym, ap, length, get_or, Some}
-use Rattle.wtf8.proofs.lemmas.laws.PositionLaws.{slice_get-ascii_prefix}
+use Rattle.wtf8.proofs.lemmas.strings.PositionLaws.{slice_get-ascii_prefix}
 use Rattle.wtf8.proofs.lemmas.lanes.AsciiFronts.{ascii_in_block}
 use Rattle.wtf8.proofs.strings.unit_positions.ascii_unit.Goals as goal
 

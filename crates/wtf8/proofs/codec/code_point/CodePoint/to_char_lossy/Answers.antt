@@ -1,5 +1,5 @@
 use Rattle.wtf8.proofs.Common.{◌≡◌, ◌↔◌, ℕ, Option, None, Some, IfSome, refl, sym, ◌∙◌, false≢true, number, replace_surrogate, IsSurrogate, IsNone, unwrap_or}
-use Rattle.wtf8.proofs.lemmas.strings.Surrogates.{replace_surrogate-surrogate, replace_surrogate-scalar}
+use Rattle.wtf8.proofs.lemmas.codec.Scalars.{replace_surrogate-surrogate, replace_surrogate-scalar}
 use Rattle.wtf8.proofs.codec.code_point.CodePoint.to_char_lossy.Goals as goal
 
 lossy_value : (r : Option ℕ) (n : ℕ) → IsNone r ↔ IsSurrogate n → IfSome r (λ c. c ≡ n) → unwrap_or r 0xFFFD ≡ replace_surrogate n

@@ -3,7 +3,7 @@ use Rattle.wtf8.proofs.Common.{append_assoc, All, Step, Run, CallsAppend, IsNoTr
 use Rattle.wtf8.proofs.Common.{false≢true, cases_lt, append-nil, IsForm, EachCallFits, All-nil, All-cons, take_all, All-get_or, FitWithin, none-some}
 use Rattle.std.proofs.lemmas.Option.{same_Some}
 use Rattle.wtf8.specs.Building.{appended_units, reserved_bytes, LeavesReserved}
-use Rattle.wtf8.proofs.lemmas.laws.StringLaws.{reserved_more}
+use Rattle.wtf8.proofs.lemmas.strings.StringLaws.{reserved_more}
 use Rattle.wtf8.proofs.lemmas.strings.Concatenation.{take-cons-drop, take-push}
 use Rattle.wtf8.proofs.lemmas.strings.ExtendedForms.{Found, found_more, CallFits-larger, beginning_of_form}
 use Rattle.wtf8.proofs.strings.buf.Wtf8Buf.apply_all.Given.{Over}

@@ -1,7 +1,7 @@
 use Rattle.wtf8.proofs.Common.{ap, refl, rules, sym, subst, false≢true, IsUtf8, UnitString}
 use Rattle.wtf8.proofs.lemmas.codec.Readings.{well_formed_of}
 use Rattle.wtf8.proofs.lemmas.strings.Surrogates.{scalar_if_none, not_scalar_if_some, utf8_if_none}
-use Rattle.wtf8.proofs.lemmas.laws.StringLaws.{scalar_in_each_reading}
+use Rattle.wtf8.proofs.lemmas.strings.StringLaws.{scalar_in_each_reading}
 use Rattle.wtf8.proofs.strings.buf.Wtf8Buf.into_string.Goals as goal
 
 pub from_utf8_unchecked-requires : goal.from_utf8_unchecked-requires

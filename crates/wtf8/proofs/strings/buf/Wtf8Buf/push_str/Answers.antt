@@ -1,6 +1,6 @@
 use Rattle.wtf8.proofs.Common.{ap, arith, length, refl, units, ExtendsFormOrKeeps, chars}
 use Rattle.wtf8.proofs.lemmas.strings.ExtendedForms.{units_appended, kept_contents, room_found, utf8_prefix_after_append, scalar_text, well_formed_text}
-use Rattle.wtf8.proofs.lemmas.laws.StringLaws.{nothing_appended}
+use Rattle.wtf8.proofs.lemmas.strings.StringLaws.{nothing_appended}
 use Rattle.wtf8.proofs.lemmas.codec.Readings.{points-nil}
 use Rattle.wtf8.proofs.strings.buf.Wtf8Buf.push_str.Given.{Over}
 use Rattle.wtf8.proofs.strings.buf.Wtf8Buf.push_str.Goals.{After-push_str}

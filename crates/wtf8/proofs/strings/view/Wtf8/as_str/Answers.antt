@@ -1,5 +1,5 @@
 use Rattle.wtf8.proofs.Common.{refl, rules, view_form, false≢true}
-use Rattle.wtf8.proofs.lemmas.laws.StringLaws.{scalar_in_each_reading}
+use Rattle.wtf8.proofs.lemmas.strings.StringLaws.{scalar_in_each_reading}
 use Rattle.wtf8.proofs.lemmas.strings.Surrogates.{scalar_if_none, not_scalar_if_some, utf8_if_none}
 use Rattle.wtf8.proofs.strings.view.Wtf8.as_str.Goals as goal
 

@@ -1,5 +1,5 @@
 use Rattle.wtf8.specs.View.{view_form}
-use Rattle.wtf8.proofs.lemmas.laws.PositionLaws.{ascii_alone, ascii_one_unit}
+use Rattle.wtf8.proofs.lemmas.strings.PositionLaws.{ascii_alone, ascii_one_unit}
 use Rattle.wtf8.proofs.strings.view.Wtf8.ascii_byte_at.Goals as goal
 
 pub returns-in-0-to-127-clause-before : goal.returns-in-0-to-127-clause-before

@@ -1,4 +1,4 @@
-use Rattle.wtf8.proofs.lemmas.laws.PositionLaws.{whole_in_front}
+use Rattle.wtf8.proofs.lemmas.strings.PositionLaws.{whole_in_front}
 use Rattle.wtf8.proofs.lemmas.strings.Positions.{middle_of}
 use Rattle.wtf8.proofs.strings.view.Wtf8.slice.Goals as goal
 

@@ -1,6 +1,6 @@
 use Rattle.wtf8.proofs.Common.{◌∙◌, ap, sym, rules, units, view_units, IsBack}
 use Rattle.wtf8.proofs.lemmas.strings.Positions.{cut_at}
-use Rattle.wtf8.proofs.lemmas.laws.PositionLaws.{front_and_back}
+use Rattle.wtf8.proofs.lemmas.strings.PositionLaws.{front_and_back}
 use Rattle.wtf8.proofs.strings.view.Wtf8.slice_from.Goals as goal
 
 pub skip_bytes-requires : goal.skip_bytes-requires

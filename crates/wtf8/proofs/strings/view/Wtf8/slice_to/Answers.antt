@@ -1,7 +1,7 @@
 use Rattle.wtf8.proofs.Common.{◌∙◌, ap, sym, rules, units, view_units, IsFront}
 use Rattle.wtf8.proofs.lemmas.strings.Positions.{cut_at}
 use Rattle.wtf8.proofs.lemmas.codec.Readings.{IsWellFormed-equal_bytes}
-use Rattle.wtf8.proofs.lemmas.laws.PositionLaws.{front_and_back}
+use Rattle.wtf8.proofs.lemmas.strings.PositionLaws.{front_and_back}
 use Rattle.wtf8.proofs.strings.view.Wtf8.slice_to.Goals as goal
 
 pub split_at-requires : goal.split_at-requires

@@ -6,23 +6,14 @@ use Rattle.wtf8.proofs.Common.{glue, AreScalar, view_units, view_form, Wtf8, Res
 use Rattle.wtf8.proofs.Common.{on_ok_weaker, ◌⊎◌, All-tail, IsUnit, IsWellFormed, Step, Run, Build, Reserve, Truncate, TruncateUnits, IsNoTruncation}
 use Rattle.wtf8.proofs.Common.{slice_index, All-from_get_or, All-pop, All-same, FitWithin, AddsLength, RunsOnce, RunsAddUp, LeavesReserved}
 use Rattle.wtf8.specs.StringLaws.{EqualBuffersHaveEqualUnits, EqualBufferAndViewHaveEqualUnits, EqualViewsHaveEqualUnits, StringsAreJoined, StringsArePaired}
-use Rattle.wtf8.specs.StringLaws.{EqualBuffersCompareEqual, EqualViewsCompareEqual}
 use Rattle.wtf8.specs.StringLaws.{RoomLeftIsFound, ScalarsStay, FormsAreOfBuffers, FormsAreOfViews, WhatFitsIsFound}
-use Rattle.wtf8.proofs.Common.{Equal, nat_cmp, slice_cmp, false≢true}
-use Rattle.std.proofs.lemmas.Cmp.{nat_list_cmp_total, tied_itself}
-use Rattle.std.proofs.lemmas.List.Sorted.{searchable_from_sorted}
-use Rattle.std.specs.List.{slice_index_or}
-use Rattle.std.specs.List.Sorted.{IsBinarySearchResult, IsSorted}
-use Rattle.std.specs.Ordering.{is_eq, on}
-use Rattle.wtf8.proofs.lemmas.comparing.Order.{order_of_result}
 use Rattle.wtf8.proofs.lemmas.codec.Encoding.{Begins}
-use Rattle.wtf8.proofs.lemmas.codec.Readings.{well_formed_of, same_form}
-use Rattle.wtf8.proofs.lemmas.codec.Readings.{same_reading}
-use Rattle.wtf8.proofs.lemmas.strings.Concatenation.{equal_forms, form-glue, form_paired, form_append-unpaired, length_paired, length_append-unpaired, one_form, units_read, at_last, before, split_of_push}
+use Rattle.wtf8.proofs.lemmas.codec.Readings.{well_formed_of, same_form, same_reading, form_append-unpaired}
+use Rattle.wtf8.proofs.lemmas.strings.Concatenation.{equal_forms, form-glue, form_paired, length_paired, length_append-unpaired, one_form, units_read, at_last, before, split_of_push}
 use Rattle.wtf8.proofs.lemmas.strings.Positions.{cut_at, front_unique, front_boundary, boundary_from_byte}
 use Rattle.wtf8.proofs.lemmas.strings.Positions.{byte_from_boundary}
 use Rattle.wtf8.proofs.lemmas.strings.Surrogates.{lossy_points-scalar}
-use Rattle.wtf8.proofs.lemmas.laws.PositionLaws.{both_no_longer, ascii_no_other_unit}
+use Rattle.wtf8.proofs.lemmas.strings.PositionLaws.{both_no_longer, ascii_no_other_unit}
 
 -- Proofs of the laws of strings as contracts see them.
 
@@ -34,33 +25,6 @@ equal_buffer_and_view s t = equal_forms s.bytes t.bytes.now s.units (view_units 
 
 pub equal_views : EqualViewsHaveEqualUnits
 equal_views s t = equal_forms s.bytes.now t.bytes.now (view_units s) (view_units t) (view_form s) (view_form t)
-
--- bytes compare as `Equal` exactly if they are equal
-equal_bytes : (w v : List ℕ) → (slice_cmp nat_cmp w v ≡ Equal) ↔ (w ≡ v)
-equal_bytes w v = (λ e. order_of_result Equal w v (sym e), λ e. rw e (tied_itself nat_list_cmp_total v))
-
-pub equal_buffers_compare : EqualBuffersCompareEqual
-equal_buffers_compare s t =
-    let same = equal_bytes s.bytes t.bytes in
-    let units = equal_buffers s t in (λ e. units.0 (same.0 e), λ e. same.1 (units.1 e))
-
-pub equal_views_compare : EqualViewsCompareEqual
-equal_views_compare s t =
-    let same = equal_bytes s.bytes.now t.bytes.now in
-    let units = equal_views s t in (λ e. units.0 (same.0 e), λ e. same.1 (units.1 e))
-
--- in a sorted table, a string that binary search does not find is not there
-pub absent_units : (table : List UnitString) (s : UnitString) (i : ℕ) → IsSorted (on (λ t. t.bytes) (slice_cmp nat_cmp)) table
-    → IsBinarySearchResult (λ t. slice_cmp nat_cmp t.bytes s.bytes) table (Err i) → All (λ t. t.units ≢ s.units) table
-absent_units table s i sorted result =
-    let parts = result (searchable_from_sorted nat_list_cmp_total (λ t. t.bytes) table s.bytes sorted) in
-    λ k d l e.
-    let there = slice_index_or table k d in
-    let equal = (equal_buffers_compare there s).1 e in
-    elim (cases_lt k i) [
-      | inl m ↦ absurd (false≢true (ap is_eq (sym (parts.0 k d (omega arith) m) ∙ equal)))
-      | inr m ↦ absurd (false≢true (ap is_eq (sym (parts.1 k d m l) ∙ equal)))
-    ]
 
 pub strings_joined : StringsAreJoined
 strings_joined s t both e n =
