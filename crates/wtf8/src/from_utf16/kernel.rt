@@ -333,10 +333,16 @@ pub(crate) fn append_blocks<const SCRATCH: usize, A: Allocator>(
 {
     let mut scratch = [0; SCRATCH];
     let scratch = &mut scratch[..];
-    let (len, to) = write_blocks(v, from.at, scratch);
-    bytes.extend_from_slice(&scratch[..len])?;
-    Ok(Progress {
-        at: to.at,
-        is_utf8: from.is_utf8 & to.is_utf8,
-    })
+    let mut read = from;
+    loop {
+        let (len, to) = write_blocks(v, read.at, scratch);
+        bytes.extend_from_slice(&scratch[..len])?;
+        read = Progress {
+            at: to.at,
+            is_utf8: read.is_utf8 & to.is_utf8,
+        };
+        if v.len() - read.at < BLOCK_UNITS || v[read.at] < 0x80 {
+            return Ok(read);
+        }
+    }
 }
