@@ -307,8 +307,7 @@ fn write_blocks(v: &[u16], at: usize, scratch: &mut [u8]) -> (usize, Progress)
     ensures within { result.0 ≤ length scratch.new }
     ensures read { (w : List ℕ) (known : Bool) → IsReadTo w v.now at known → IsReadTo (w ++ take result.0 scratch.new) v.now result.1.at (known && result.1.is_utf8) }
 {
-    let blocks =
-        ((v.len() - at) / BLOCK_UNITS).min((scratch.len() - MIN_SPARE) / MOST_BYTES + 1);
+    let blocks = ((v.len() - at) / BLOCK_UNITS).min((scratch.len() - MIN_SPARE) / MOST_BYTES + 1);
     let mut to = Progress { at, is_utf8: true };
     let mut len = 0;
     for _ in 0..blocks {
