@@ -1,5 +1,5 @@
 // Encodes one code point at the end of a byte vector, and decodes the one at the front of a byte slice.
-ghost use Rattle.std.specs.Prelude.{◌≡◌, ◌++◌, ◌+◌, ◌-◌, ◌/◌, ◌%◌, ◌^◌, ◌<◌, ◌≤◌, ◌↔◌, ◌⊎◌, IsTrue, length, take, slice_index, vec_len, vec_capacity};
+ghost use Rattle.std.specs.Prelude.{◌≡◌, ◌++◌, ◌+◌, ◌-◌, ◌*◌, ◌/◌, ◌%◌, ◌^◌, ◌<◌, ◌≤◌, ◌↔◌, ◌⊎◌, IsTrue, length, take, slice_index, vec_len, vec_capacity};
 ghost use Rattle.wtf8.specs.CodePoint.{number};
 ghost use Rattle.wtf8.specs.Form.{encoding};
 ghost use Rattle.wtf8.specs.private.EncodedBytes.{BeginsWithPoint, FirstPointIs, BecomesOrKeeps};
@@ -124,11 +124,22 @@ pub(crate) fn begins_code_point(byte: u8) -> bool
 }
 
 /// The low six bits of a continuation byte.
-pub(crate) fn payload_bits(byte: u8) -> u32
+fn payload_bits(byte: u8) -> u32
     requires inside { 0x80 ≤ byte }
     ensures { result + 0x80 ≡ byte }
 {
     u32::from(byte - 0x80)
+}
+
+/// The surrogate whose encoding is the byte ED and then these two bytes.
+#[inline(always)]
+pub(crate) fn surrogate_after_ed(second: u8, third: u8) -> u32
+    requires second { 0x80 ≤ second }
+    requires third { 0x80 ≤ third }
+    ensures { result ≡ 0xD000 + (second - 0x80) * 64 + (third - 0x80) }
+{
+    // The low four bits of ED are the high four of each surrogate.
+    0xD000 + payload_bits(second) * 64 + payload_bits(third)
 }
 
 /// The code point at the front of `bytes`, encoded in two bytes.

@@ -36,6 +36,9 @@ pub(crate) const BLOCK_UNITS: usize = 8;
 /// The bytes that must be left in a block for eight units: at most 12 for the first four, then a store of 16.
 pub(crate) const MIN_SPARE: usize = 28;
 
+/// The most bytes of eight units.
+const MOST_BYTES: usize = 3 * BLOCK_UNITS;
+
 /// A lead divided by `SURROGATES_PER_HALF`: its high six bits, which are those of leads alone.
 const LEAD_KIND: u16 = FIRST_LEAD / SURROGATES_PER_HALF;
 
@@ -264,7 +267,7 @@ fn pack_eight(units: u16x8, later: LaterBytes, block: &mut [u8], len: usize) -> 
 fn write_block(units: u16x8, block: &mut [u8], len: usize) -> Block
     requires room { len + MIN_SPARE ≤ length block.old }
     ensures taken { ((result.units ≡ 8) × ¬ (IsLead (slice_index_or units 7 0))) ⊎ ((result.units ≡ 7) × IsLead (slice_index_or units 7 0)) }
-    ensures within { result.end ≤ length block.new }
+    ensures within { result.end ≤ len + MOST_BYTES }
     ensures bytes { take result.end block.new ≡ take len block.old ++ packed_units 0 (take result.units (tagged_block units)) }
     ensures scalar { IsTrue result.is_utf8 → Each1 IsUnit (tagged_block units) }
 {
@@ -293,8 +296,9 @@ fn write_block(units: u16x8, block: &mut [u8], len: usize) -> Block
     }
 }
 
-/// Encodes units from index `at` on into a scratch buffer, eight at a time, until fewer than eight are left or fewer
-/// than `MIN_SPARE` bytes of it. Returns the number of bytes, and how far units are encoded.
+/// Encodes units from index `at` on into a scratch buffer, eight at a time: the number of blocks that has units and room
+/// whatever the units are, so that neither is compared in each turn. Returns the number of bytes, and how far units are
+/// encoded.
 #[inline(always)]
 fn write_blocks(v: &[u16], at: usize, scratch: &mut [u8]) -> (usize, Progress)
     requires units { at + BLOCK_UNITS ≤ length v.now }
@@ -303,11 +307,10 @@ fn write_blocks(v: &[u16], at: usize, scratch: &mut [u8]) -> (usize, Progress)
     ensures within { result.0 ≤ length scratch.new }
     ensures read { (w : List ℕ) (known : Bool) → IsReadTo w v.now at known → IsReadTo (w ++ take result.0 scratch.new) v.now result.1.at (known && result.1.is_utf8) }
 {
-    let last_start = v.len() - BLOCK_UNITS;
-    let most = scratch.len() - MIN_SPARE;
+    let blocks = ((v.len() - at) / BLOCK_UNITS).min((scratch.len() - MIN_SPARE) / MOST_BYTES + 1);
     let mut to = Progress { at, is_utf8: true };
     let mut len = 0;
-    while to.at <= last_start && len <= most {
+    for _ in 0..blocks {
         let block = write_block(u16x8::from_slice(&v[to.at..]), scratch, len);
         len = block.end;
         to.at += block.units;
@@ -333,10 +336,16 @@ pub(crate) fn append_blocks<const SCRATCH: usize, A: Allocator>(
 {
     let mut scratch = [0; SCRATCH];
     let scratch = &mut scratch[..];
-    let (len, to) = write_blocks(v, from.at, scratch);
-    bytes.extend_from_slice(&scratch[..len])?;
-    Ok(Progress {
-        at: to.at,
-        is_utf8: from.is_utf8 & to.is_utf8,
-    })
+    let mut read = from;
+    loop {
+        let (len, to) = write_blocks(v, read.at, scratch);
+        bytes.extend_from_slice(&scratch[..len])?;
+        read = Progress {
+            at: to.at,
+            is_utf8: read.is_utf8 & to.is_utf8,
+        };
+        if v.len() - read.at < BLOCK_UNITS || v[read.at] < 0x80 {
+            return Ok(read);
+        }
+    }
 }

@@ -34,6 +34,10 @@ const THIRD_OF_THREE: [usize; 8] = [2, 5, 8, 11, 14, 17, 20, 23];
 /// that their units need not be counted before memory is requested.
 const SCRATCH_UNITS: usize = 4 * VECTOR;
 
+/// While at least this many bytes are left, a block of any kind can be loaded, so that the length is compared once for
+/// all kinds.
+const LONG: usize = 2 * VECTOR;
+
 /// Code points of one unit and `WIDTH` bytes each, of which `N` are decoded from a load of `BYTES` bytes.
 trait EncodedLength<const N: usize, const WIDTH: usize, const BYTES: usize> {
     /// Decodes `N` code points as if all had `WIDTH` bytes. Returns their units, and how many of them at the front are
@@ -315,11 +319,27 @@ fn decode_run<
     }
 }
 
-/// Decodes a run by blocks if at least `VECTOR` bytes are left and the first two code points have the same length, at
-/// most three bytes; else one code point. ASCII is decoded by 32 bytes while at least 32 are left, in 0.78 of the time
-/// that blocks of 16 take.
+/// Decodes a run by blocks if the first two code points have the same length, at most three bytes; else one code point.
+/// ASCII is decoded by 32 bytes, in 0.78 of the time that blocks of 16 take.
 #[inline(always)]
 fn decode_next<'a>(units: &mut [u16], left: Undecoded<'a>) -> Undecoded<'a>
+    requires room { left.at + length (view_units left.view) ≤ length units.old }
+    requires least { LONG ≤ length left.view.bytes.now }
+    ensures written { Writes units.old left.entry.at (view_units left.entry.view) units.new result.at (view_units result.view) }
+    ensures shorter { length result.view.bytes.now < length left.entry.view.bytes.now }
+{
+    match left.view.bytes {
+        [0x00..=0x7F, 0x00..=0x7F, ..] => decode_run::<32, 1, 32, OneByte>(units, left),
+        [0xC0..=0xDF, _, 0xC0..=0xDF, ..] => decode_run::<8, 2, 16, TwoBytes>(units, left),
+        [0xE0..=0xEF, _, _, 0xE0..=0xEF, ..] => decode_run::<8, 3, 32, ThreeBytes>(units, left),
+        _ => decode_point(units, left),
+    }
+}
+
+/// Decodes as `decode_next` if fewer than `LONG` bytes are left: too few for blocks of ASCII of 32 bytes and for blocks
+/// of three-byte code points.
+#[inline(always)]
+fn decode_next_of_tail<'a>(units: &mut [u16], left: Undecoded<'a>) -> Undecoded<'a>
     requires room { left.at + length (view_units left.view) ≤ length units.old }
     requires nonempty { 0 < length left.view.bytes.now }
     ensures written { Writes units.old left.entry.at (view_units left.entry.view) units.new result.at (view_units result.view) }
@@ -331,12 +351,8 @@ fn decode_next<'a>(units: &mut [u16], left: Undecoded<'a>) -> Undecoded<'a>
         return decode_point(units, left);
     }
     match bytes {
-        [0x00..=0x7F, 0x00..=0x7F, ..] if 32 <= bytes.len() => decode_run::<32, 1, 32, OneByte>(
-            units, left,
-        ),
         [0x00..=0x7F, 0x00..=0x7F, ..] => decode_run::<16, 1, 16, OneByte>(units, left),
         [0xC0..=0xDF, _, 0xC0..=0xDF, ..] => decode_run::<8, 2, 16, TwoBytes>(units, left),
-        [0xE0..=0xEF, _, _, 0xE0..=0xEF, ..] => decode_run::<8, 3, 32, ThreeBytes>(units, left),
         _ => decode_point(units, left),
     }
 }
@@ -351,8 +367,11 @@ fn decode_all(units: &mut [u16], from: usize, view: Wtf8<'_>) -> usize
     ensures len { length units.new ≡ length units.old }
 {
     let mut left = Undecoded { view, at: from };
-    while !left.view.is_empty() {
+    while LONG <= left.view.len() {
         left = decode_next(units, left);
+    }
+    while !left.view.is_empty() {
+        left = decode_next_of_tail(units, left);
     }
     left.at
 }

@@ -251,9 +251,9 @@ impl<'a> Wtf8<'a> {
         ensures none { IfNone result ((f : List ℕ) (l : ℕ) → IsLead l → view_points self.now ≡ f ++ l ∷ [] → ⊥) }
     {
         match self.bytes {
-            [.., 0xED, second @ 0xA0..=0xAF, third] => {
-                Some(0xD000 + encoding::payload_bits(*second) * 64 + encoding::payload_bits(*third))
-            }
+            [.., 0xED, second @ 0xA0..=0xAF, third] => Some(encoding::surrogate_after_ed(
+                *second, *third,
+            )),
             _ => None,
         }
     }
@@ -265,9 +265,9 @@ impl<'a> Wtf8<'a> {
         ensures none { IfNone result ((t : ℕ) (r : List ℕ) → IsTrail t → view_points self.entry ≡ t ∷ r → ⊥) }
     {
         match self.bytes {
-            [0xED, second @ 0xB0..=0xBF, third, ..] => {
-                Some(0xD000 + encoding::payload_bits(*second) * 64 + encoding::payload_bits(*third))
-            }
+            [0xED, second @ 0xB0..=0xBF, third, ..] => Some(encoding::surrogate_after_ed(
+                *second, *third,
+            )),
             _ => None,
         }
     }

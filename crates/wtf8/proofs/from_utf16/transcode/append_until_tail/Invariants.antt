@@ -7,3 +7,9 @@ invariant-loop-read g l = IsReadTo l.bytes.items l.v l.read.at l.read.is_utf8
 
 abbrev pub decreases-loop-read : goal.decreases-loop-read
 decreases-loop-read g l = length l.v - l.read.at
+
+abbrev pub invariant-loop-read-2 : goal.invariant-loop-read-2
+invariant-loop-read-2 g l = IsReadTo l.bytes.items l.v l.read.at l.read.is_utf8
+
+abbrev pub decreases-loop-read-2 : goal.decreases-loop-read-2
+decreases-loop-read-2 g l = length l.v - l.read.at

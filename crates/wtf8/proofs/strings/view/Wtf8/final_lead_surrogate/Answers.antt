@@ -5,8 +5,8 @@ use Rattle.wtf8.proofs.strings.view.Wtf8.final_lead_surrogate.Goals as goal
 ends_in_lead : {w : List ℕ} (h : IsWellFormed w) (f : List ℕ) (l : ℕ) → IsLead l → h.points ≡ f ++ l ∷ [] → EndsInSurrogate w l
 ends_in_lead {w} h f l lead e = ends_in_surrogate w f l (omega arith, omega arith) (ap bytes (sym e) ∙ h.encoded)
 
-pub payload_bits-requires-in-237 : goal.payload_bits-requires-in-237
-payload_bits-requires-in-237 c =
+pub surrogate_after_ed-requires-clause-third : goal.surrogate_after_ed-requires-clause-third
+surrogate_after_ed-requires-clause-third c =
     let p = last_surrogate c.args.self.now.well_formed (omega arith) (omega arith) (omega arith) in
     let n = p.ends in omega arith
 

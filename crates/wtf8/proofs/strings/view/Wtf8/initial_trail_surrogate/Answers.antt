@@ -7,8 +7,8 @@ use Rattle.wtf8.proofs.strings.view.Wtf8.initial_trail_surrogate.Goals as goal
 trail_by_lead : {w : List ℕ} (h : IsWellFormed w) (t : ℕ) (r : List ℕ) → IsTrail t → h.points ≡ t ∷ r → FirstPointByLead w t (length (encoding t))
 trail_by_lead h t r i e = (begins_with t (bytes r) _ (omega arith) (sym h.encoded ∙ ap bytes e)).by_lead
 
-pub payload_bits-requires-in-237 : goal.payload_bits-requires-in-237
-payload_bits-requires-in-237 c = let s = (first_of c.args.self.well_formed (omega arith)).0.by_lead in omega arith
+pub surrogate_after_ed-requires-clause-third : goal.surrogate_after_ed-requires-clause-third
+surrogate_after_ed-requires-clause-third c = let s = (first_of c.args.self.well_formed (omega arith)).0.by_lead in omega arith
 
 pub returns-in-237-clause-trail : goal.returns-in-237-clause-trail
 returns-in-237-clause-trail c = let s = (first_of c.args.self.well_formed (omega arith)).0.by_lead in (omega arith, omega arith)
