@@ -6,10 +6,10 @@ use Rattle.wtf8.specs.Surrogates.{AreScalar}
 use Rattle.wtf8.specs.Unicode.{IsSurrogate}
 use Rattle.wtf8.specs.UnitPosition.{DividesPair}
 
--- The bytes are the form of the units; if `known`, no code point is a surrogate (Unicode 3.9, "Unicode scalar value").
-pub record IsKnownForm (w u : List ℕ) (known : Bool) : Type 0 where
+-- The bytes are the form of the units; if `is_utf8`, no code point is a surrogate (Unicode 3.9, "Unicode scalar value").
+pub record IsKnownForm (w u : List ℕ) (is_utf8 : Bool) : Type 0 where
   pub form : IsForm w u
-  pub scalar : IsTrue known → AreScalar form.points
+  pub scalar : IsTrue is_utf8 → AreScalar form.points
 
 -- A cut after `n` units divides no surrogate pair (Unicode 3.8, "Surrogates").
 abbrev pub DividesNoPair : List ℕ → ℕ → Type 0
@@ -20,10 +20,10 @@ abbrev pub AreAscii : List ℕ → Type 0
 AreAscii u = Each1 (λ n. n < 0x80) u
 
 -- The bytes are the form of the units before index `at`, as `IsKnownForm` says, and no pair is divided there.
-pub record IsReadTo (w u : List ℕ) (at : ℕ) (known : Bool) : Type 0 where
+pub record IsReadTo (w u : List ℕ) (at : ℕ) (is_utf8 : Bool) : Type 0 where
   pub within : at ≤ length u
   pub divides_no_pair : DividesNoPair u at
-  pub form : IsKnownForm w (take at u) known
+  pub form : IsKnownForm w (take at u) is_utf8
 
 -- Each of the units is a scalar value below 0x10000 (Unicode 3.9, "Unicode scalar value").
 abbrev pub AreScalarUnits : List ℕ → Type 0

@@ -175,7 +175,7 @@ fn append_completing<A: Allocator>(
 }
 
 /// Appends a view; a lead at the end and a trail at its front become one code point. A view that is not empty cuts the
-/// known prefix to at most the old length, since it is not searched.
+/// UTF-8 prefix to at most the old length, since it is not searched.
 #[inline(always)]
 pub(crate) fn push_wtf8<A: Allocator>(
     bytes: &mut Vec<u8, A>,
