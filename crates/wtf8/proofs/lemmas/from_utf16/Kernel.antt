@@ -10,6 +10,7 @@ use Rattle.std.proofs.lemmas.Simd.{swz_l, get_or-swz_l_below}
 use Rattle.wtf8.specs.private.ConvertedPrefix.{AreScalarUnits}
 use Rattle.wtf8.specs.private.PackedUnits.{first_byte, scalar_second_byte, second_byte, scalar_last_byte, last_byte, multi_byte_bit, three_byte_bit, byte_count, byte_lanes, table_index, units_table_index, source_lanes, IsByteCount}
 use Rattle.wtf8.specs.private.PackedUnits.{packed_unit, packed_units, tagged, tagged_units, tagged_block, AreLaterBytes}
+use Rattle.wtf8.proofs.lemmas.lanes.AsciiFronts.{Each1-map_all}
 use Rattle.wtf8.proofs.lemmas.from_utf16.PackedUnits.{packed_unit-lead, IsTag, IsTag-tagged, tagged-scalar, tagged-lead_before_trail}
 use Rattle.wtf8.specs.Unicode.{IsLead, IsUnit}
 use Rattle.std.proofs.lemmas.List.{length-take-le, take-take}
@@ -46,10 +47,6 @@ length-tagged_block u l = length-tagged_units 0 u 0xDC00 ∙ l
 Each1-map : (P : ℕ → Type 0) (f : ℕ → ℕ) → ((x : ℕ) → x < 0x10000 → P (f x)) → (u : List ℕ) → Each1 (Fits w16) u → Each1 P (map f u)
 Each1-map P f h [] e = tt
 Each1-map P f h (x ∷ u) e = (h x e.0.fits, Each1-map P f h u e.1)
-
-Each1-map_all : (P : ℕ → Type 0) (f : ℕ → ℕ) → ((x : ℕ) → P (f x)) → (u : List ℕ) → Each1 P (map f u)
-Each1-map_all P f h [] = tt
-Each1-map_all P f h (x ∷ u) = (h x, Each1-map_all P f h u)
 
 abbrev select_by : (ℕ → ℕ → Bool) → ℕ → List ℕ → List ℕ → List ℕ → List ℕ
 select_by f k u a b = sel_l (map (top 15) (zip2 (λ x y. cond (f x y) 0xFFFF 0) u (replicate 8 k))) a b

@@ -51,8 +51,10 @@ ascii_in_block n at w room all i l m =
 pub by_all : (xs : List ℕ) (k : ℕ) → 0 < k → Each2 (λ (a b : ℕ). 0 < b) xs (k ∷ k ∷ k ∷ k ∷ k ∷ k ∷ k ∷ k ∷ [])
 by_all xs k h = Each2-splat (λ (a b : ℕ). 0 < b) xs 8 k (Each1-all (λ (a : ℕ). 0 < k) (λ a. h) xs)
 
-pub each2_splat : (P : ℕ → ℕ → Type 0) (y : ℕ) → ((x : ℕ) → P x y) → (n : ℕ) (xs : List ℕ) → length xs ≡ n → Each2 P xs (replicate n y)
-each2_splat P y h n xs e = Each2-splat P xs n y (Each1-all (λ x. P x y) h xs)
+-- `f` of each lane satisfies `P` if `f` of each number does
+pub Each1-map_all : (P : ℕ → Type 0) (f : ℕ → ℕ) → ((x : ℕ) → P (f x)) → (xs : List ℕ) → Each1 P (map f xs)
+Each1-map_all P f h [] = tt
+Each1-map_all P f h (x ∷ xs) = (h x, Each1-map_all P f h xs)
 
 -- selecting each lane if it is below FF, else FF, saturates the lanes
 pub saturated_lanes : (n : ℕ) (xs : List ℕ) → length xs ≡ n
@@ -64,10 +66,6 @@ saturated_lanes (suc n) (x ∷ xs) e = λ i. lane i ∷ saturated_lanes n xs (om
   where
     lane : cond (top 15 (cond (ltb x 0xFF) 0xFFFF 0)) x 0xFF ≡ min x 0xFF
     lane = elim (cases_lt x 0xFF) [ inl l ↦ rw (lt-ltb x 0xFF l) (omega (arith, l)) | inr g ↦ rw (le-ltb x 0xFF g) (omega (arith, g)) ]
-
-pub saturated_fit : (P : ℕ → Type 0) → ((x : ℕ) → x < 0x100 → P x) → (xs : List ℕ) → Each1 P (map (λ n. min n 0xFF) xs)
-saturated_fit P h [] = tt
-saturated_fit P h (x ∷ xs) = (h (min x 0xFF) (omega arith), saturated_fit P h xs)
 
 -- lanes that are ASCII after saturation are unchanged by it
 pub saturated_front : (k : ℕ) (xs : List ℕ) → AreAscii (take k (map (λ n. min n 0xFF) xs)) → take k (map (λ n. min n 0xFF) xs) ≡ take k xs

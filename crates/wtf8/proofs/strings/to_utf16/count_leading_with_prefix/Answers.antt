@@ -1,5 +1,5 @@
 use Rattle.wtf8.proofs.Common.{arith, sym, subst}
-use Rattle.wtf8.proofs.lemmas.lanes.AsciiFronts.{each2_splat}
+use Rattle.std.proofs.lemmas.Simd.{Each1-all, Each2-splat}
 use Rattle.wtf8.proofs.lemmas.lanes.Masks.{LeadingHavePrefix, LeadingHavePrefix-first_set}
 use Rattle.wtf8.proofs.strings.to_utf16.count_leading_with_prefix.Given.{Over}
 use Rattle.wtf8.proofs.strings.to_utf16.count_leading_with_prefix.Goals.{After-unwrap_or}
@@ -11,7 +11,7 @@ leading_have_prefix g c =
     (LeadingHavePrefix-first_set c.args.size c.args.prefix g.row.N c.args.bytes c.requires.lanes c.fits-bytes.0 c.first_set_lane.result c.first_set_lane.ensures)
 
 pub nonzero_div-kinds : goal.nonzero_div-kinds
-nonzero_div-kinds g c = each2_splat _ c.args.size (λ x. omega (arith, c.requires.size)) g.row.N c.args.bytes c.fits-bytes.0
+nonzero_div-kinds g c = Each2-splat _ c.args.bytes g.row.N c.args.size (Each1-all _ (λ x. omega (arith, c.requires.size)) c.args.bytes)
 
 pub returns-clause-within : goal.returns-clause-within
 returns-clause-within g c = (leading_have_prefix g (goal.at.returns-clause-within g c).After-unwrap_or).within
