@@ -68,8 +68,8 @@ impl<'a> Wtf8CodePoints<'a> {
             return None;
         }
         let (_, rest) = self.bytes.split_at(self.at);
-        let (code_point, after) = encoding::read(rest, self.at);
-        self.at = after;
+        let (code_point, len) = encoding::read(rest);
+        self.at += len;
         Some(code_point)
     }
 }
