@@ -19,10 +19,8 @@ use Rattle.wtf8.specs.private.ConvertedPrefix.{IsReadTo}
 use Rattle.wtf8.proofs.lemmas.codec.Encoding.{bytes-append}
 use Rattle.wtf8.proofs.lemmas.strings.ExtendedForms.{scalar-append}
 use Rattle.wtf8.proofs.lemmas.from_utf16.Transcode.{IsKnownForm-append, DividesNoPair-after_no_lead}
-use Rattle.wtf8.proofs.lemmas.codec.Readings.{units_one, units_pair, unpaired-after_no_lead, unpaired-nil_right, unpaired-before_no_trail}
-use Rattle.wtf8.proofs.Common.{suc, ◌≤◌, ◌/◌, ◌%◌, cases_lt, lt-ltb, le-ltb, append_assoc, length-append, length-drop, drop-drop, take-add, take_all, DividesNoPair, MeetsAsPair, copied_steps, iter_steps, iter_rest}
-use Rattle.std.proofs.Math.Seq.{take-append_seam, drop-append_seam}
-use Rattle.std.specs.Prelude.{◌⊎◌}
+use Rattle.wtf8.proofs.lemmas.codec.Readings.{units_one, units_pair, unpaired-nil_right, unpaired-before_no_trail}
+use Rattle.wtf8.proofs.Common.{suc, ◌≤◌, cases_lt, lt-ltb, le-ltb, append_assoc, length-append, length-drop, take_all, DividesNoPair, MeetsAsPair, copied_steps, iter_steps, iter_rest}
 
 module _ {S A : Type 0} (steps : S → Option A → S → Type 0) where
   -- if each call from `t` is also a call from `s`, draining `t` is draining `s`

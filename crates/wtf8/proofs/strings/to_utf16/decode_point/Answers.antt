@@ -1,7 +1,7 @@
-use Rattle.wtf8.proofs.Common.{◌≡◌, ℕ, ◌+◌, ◌<◌, ◌≤◌, List, [], ◌∷◌, encoding, IsWellFormed, ap, arith, length, length-drop, number, subst, units, units_of}
-use Rattle.wtf8.proofs.Common.{BeginsWithPoint, BeginsWithUnits, FirstPointIs}
+use Rattle.wtf8.proofs.Common.{◌≡◌, ℕ, ◌<◌, ◌≤◌, List, [], ◌∷◌, IsWellFormed, ap, arith, length, length-drop, number, subst, units, units_of}
+use Rattle.wtf8.proofs.Common.{BeginsWithUnits, FirstPointIs}
 use Rattle.wtf8.proofs.lemmas.codec.Readings.{first_of, units_one, units_two}
-use Rattle.wtf8.proofs.lemmas.strings.ToUtf16.{ReadUnits, read_units}
+use Rattle.wtf8.proofs.lemmas.strings.ToUtf16.{read_units}
 use Rattle.wtf8.proofs.strings.to_utf16.decode_point.Goals as goal
 
 pub read_two-requires-clause-front : goal.read_two-requires-clause-front
