@@ -113,12 +113,9 @@ pub(crate) fn read_point(v: &[u16], at: usize) -> (CodePoint, usize, bool)
     if unit < FIRST_LEAD || LAST_TRAIL < unit {
         return (point_of_unit(unit), at + 1, true);
     }
-    let Some(item) = decode_utf16(v[at..].iter().copied()).next() else {
-        unreachable!()
-    };
-    match item {
-        // The unit is a surrogate, so the `char` is that of a pair: two units.
-        Ok(character) => (CodePoint::from_char(character), at + 2, true),
-        Err(surrogate) => (point_of_unit(surrogate), at + 1, false),
+    if unit <= LAST_LEAD && at + 1 < v.len() && is_trail_unit(&v[at + 1]) {
+        let character = char_of_pair(unit, v[at + 1]);
+        return (CodePoint::from_char(character), at + 2, true);
     }
+    (point_of_unit(unit), at + 1, false)
 }

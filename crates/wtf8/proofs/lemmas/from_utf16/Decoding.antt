@@ -19,10 +19,8 @@ use Rattle.wtf8.specs.private.ConvertedPrefix.{IsReadTo}
 use Rattle.wtf8.proofs.lemmas.codec.Encoding.{bytes-append}
 use Rattle.wtf8.proofs.lemmas.codec.Scalars.{scalar-append}
 use Rattle.wtf8.proofs.lemmas.from_utf16.Transcode.{IsKnownForm-append, DividesNoPair-after_no_lead}
-use Rattle.wtf8.proofs.lemmas.codec.Readings.{units_one, units_pair, unpaired-after_no_lead, unpaired-nil_right, unpaired-before_no_trail}
-use Rattle.wtf8.proofs.Common.{suc, ◌≤◌, ◌/◌, ◌%◌, cases_lt, lt-ltb, le-ltb, append_assoc, length-append, length-drop, drop-drop, take-add, take_all, DividesNoPair, MeetsAsPair, copied_steps, iter_steps, iter_rest}
-use Rattle.std.proofs.Math.Seq.{take-append_seam, drop-append_seam}
-use Rattle.std.specs.Prelude.{◌⊎◌}
+use Rattle.wtf8.proofs.lemmas.codec.Readings.{units_one, units_pair, unpaired-nil_right, unpaired-before_no_trail}
+use Rattle.wtf8.proofs.Common.{suc, ◌≤◌, cases_lt, lt-ltb, le-ltb, append_assoc, length-append, length-drop, take_all, DividesNoPair, MeetsAsPair, copied_steps, iter_steps, iter_rest}
 
 module _ {S A : Type 0} (steps : S → Option A → S → Type 0) where
   -- if each call from `t` is also a call from `s`, draining `t` is draining `s`
@@ -169,33 +167,6 @@ slice_left-yields (x ∷ us) s t n y =
     let r = slice_left-yields us m t y.1.0 y.2 in
     (here ∙ ap (λ w. x ∷ w) r.0, r.1)
 
--- no trail follows a lone lead
-no_trail_after_lone_lead : (c : List ℕ) (s t : PeekableUnits) → peekable_peeked s ≡ None → IsSomeAnd (peekable_peeked t) (λ o. IfSome o (λ u. ¬ (IsTrail u))) → (t ≡ s) ⊎ PeeksNext steps s t
-    → ¬ (MeetsAsPair c (slice_left s))
-no_trail_after_lone_lead c s t n lone held = elim held [
-  | inl e ↦ absurd (subst (λ p. IsSomeAnd p (λ o. IfSome o (λ u. ¬ (IsTrail u)))) (ap peekable_peeked e ∙ n) lone)
-  | inr h ↦ next h.0 (unit_left (peekable_source s) (peekable_source t) h.0 (unpeeked_call steps s t h.0 n h.1)) (subst (λ p. IsSomeAnd p (λ o. IfSome o (λ u. ¬ (IsTrail u)))) h.2 lone)
-]
-  where
-    next : (o : Option ℕ) → MatchOption o (slice_left s ≡ []) (λ x. slice_left s ≡ x ∷ slice_left t) → IfSome o (λ u. ¬ (IsTrail u)) → ¬ (MeetsAsPair c (slice_left s))
-    next None e k = subst (λ w. ¬ (MeetsAsPair c w)) (sym e) unpaired-nil_right
-    next (Some x) e k = subst (λ w. ¬ (MeetsAsPair c w)) (sym e) (unpaired-before_no_trail x (slice_left t) k)
-
--- the end of a code point divides no pair, if no trail follows in case it is a lead
-unpaired_after_point : (f w : List ℕ) (p : ℕ) → (IsLead p → ¬ (MeetsAsPair (f ++ units_of p) w)) → ¬ (MeetsAsPair (f ++ units_of p) w)
-unfolding units_of
-unpaired_after_point f w p lone = elim (cases_lt p 0x10000) [
-  | inl l ↦ elim (cases_lt p 0xD800) [
-    | inl h ↦ rw (lt-ltb p 0x10000 l) (unpaired-after_no_lead f p (λ k. omega (arith, h, k.0)))
-    | inr g ↦ elim (cases_lt p 0xDC00) [ inl h ↦ lone (g, omega (arith, h)) | inr h ↦ rw (lt-ltb p 0x10000 l) (unpaired-after_no_lead f p (λ k. omega (arith, h, k.1))) ]
-  ]
-  | inr g ↦
-      let lead = 0xD800 + (p - 0x10000) / 0x400 in
-      let trail = 0xDC00 + (p - 0x10000) % 0x400 in
-      let split : f ++ units_of p ≡ (f ++ lead ∷ []) ++ trail ∷ [] = rw (le-ltb p 0x10000 g) (sym (append_assoc f (lead ∷ []) (trail ∷ []))) in
-      subst (λ c. ¬ (MeetsAsPair c w)) (sym split) (unpaired-after_no_lead (f ++ lead ∷ []) trail (λ k. omega (arith, k.1)))
-]
-
 -- the number of units of a code point
 pub length-units_of : (p n : ℕ) → (p < 0x10000 → n ≡ 1) → (0x10000 ≤ p → n ≡ 2) → n ≡ length (units_of p)
 unfolding units_of
@@ -207,48 +178,52 @@ pub record IsFirstRead (v : List ℕ) (at end p : ℕ) : Type 0 where
   pub divides_no_pair : DividesNoPair v end
   pub reads : Reads (p ∷ []) (take (end - at) (drop at v))
 
--- a character whose first unit is a surrogate has two units
-pub two_units_from_surrogate : (v : List ℕ) (at : ℕ) (s t : PeekableUnits) (x : Result ℕ ℕ) {p : ℕ} → at < length v → slice_left s ≡ take (length v - at) (drop at v) → peekable_peeked s ≡ None → DecodesItem steps s x t
-    → x ≡ Ok p → IsSurrogate (get_or v at 0) → 2 ≡ length (units_of (point_of_item x))
-two_units_from_surrogate v at s t x here rest none item ok begins = length-units_of (point_of_item x) 2 (λ small. absurd (not_surrogate (subst IsSurrogate (same small) begins))) (λ _. refl)
-  where
-    not_surrogate : ¬ (IsSurrogate (point_of_item x))
-    not_surrogate = subst (λ y. ¬ (IsSurrogate (point_of_item y))) (sym ok) (subst (λ y. MatchResult y (λ c. IsCodePoint c × ¬ (IsSurrogate c)) IsSurrogate) ok item.kind).1
+divides_no_pair_after_no_lead : (v : List ℕ) (at : ℕ) → at < length v → ¬ (IsLead (get_or v at 0)) → DividesNoPair v (at + 1)
+divides_no_pair_after_no_lead v at l no_lead = let next : suc at ≡ at + 1 = omega arith in subst (DividesNoPair v) next (DividesNoPair-after_no_lead v at l no_lead)
 
-    same : point_of_item x < 0x10000 → get_or v at 0 ≡ point_of_item x
-    same small =
-        let got = slice_left-yields (units_of (point_of_item x)) s item.after none item.taken in
-        let whole : drop at v ≡ units_of (point_of_item x) ++ slice_left item.after = sym (take_all (length v - at) (drop at v) (omega (arith, length-drop at v))) ∙ sym rest ∙ got.0 in
-        let first : get_or (drop at v) 0 0 ≡ point_of_item x = ap (λ w. get_or w 0 0) (whole ∙ ap (λ u. u ++ slice_left item.after) (units_one (point_of_item x) small)) in
-        ap (λ w. get_or w 0 0) (sym (drop_more v at 0 here)) ∙ first
+divides_no_pair_before_no_trail : (v : List ℕ) (at : ℕ) → (at + 1 < length v → ¬ (IsTrail (get_or v (at + 1) 0))) → DividesNoPair v (at + 1)
+divides_no_pair_before_no_trail v at no_trail = elim (cases_lt (at + 1) (length v)) [
+  | inl l ↦ subst (λ d. ¬ (MeetsAsPair (take (at + 1) v) d)) (sym (drop_more v (at + 1) 0 l)) (unpaired-before_no_trail (get_or v (at + 1) 0) (drop (at + 1 + 1) v) (no_trail l))
+  | inr g ↦ subst (λ d. ¬ (MeetsAsPair (take (at + 1) v) d)) (sym (nil_from_length (drop (at + 1) v) (omega (arith, g, length-drop (at + 1) v)))) unpaired-nil_right
+]
 
-pub IsFirstRead-item : (v : List ℕ) (at end : ℕ) (s t : PeekableUnits) (x : Result ℕ ℕ) → at < length v → slice_left s ≡ take (length v - at) (drop at v) → peekable_peeked s ≡ None → DecodesItem steps s x t
-    → end ≡ at + length (units_of (point_of_item x)) → IsFirstRead v at end (point_of_item x)
-IsFirstRead-item v at end s t x here rest none item count =
-    let us = units_of (point_of_item x) in
-    let got = slice_left-yields us s item.after none item.taken in
-    let whole : drop at v ≡ us ++ slice_left item.after = sym (take_all (length v - at) (drop at v) (omega (arith, length-drop at v))) ∙ sym rest ∙ got.0 in
-    let front : take (length us) (drop at v) ≡ us = ap (take (length us)) whole ∙ take-append_seam us (slice_left item.after) in
-    let back : drop end v ≡ slice_left item.after = ap (λ k. drop k v) count ∙ sym (drop-drop (length us) at v) ∙ ap (drop (length us)) whole ∙ drop-append_seam us (slice_left item.after) in
-    let before : take end v ≡ take at v ++ us = ap (λ k. take k v) count ∙ take-add at (length us) v ∙ ap (λ w. take at v ++ w) front in
-    let counted : length us ≡ end - at = omega (arith, count) in
-    let unpaired = unpaired_after_point (take at v) (slice_left item.after) (point_of_item x) (λ l. no_trail_after_lone_lead (take at v ++ us) item.after t got.1 (item.lone l) item.held) in
+-- a unit after which no pair is divided is read alone
+IsFirstRead-single : (v : List ℕ) (at : ℕ) → at < length v → get_or v at 0 < 0x10000 → DividesNoPair v (at + 1) → IsFirstRead v at (at + 1) (get_or v at 0)
+IsFirstRead-single v at l h divides =
+    let count : at + 1 - at ≡ 1 = omega arith in
+    let whole : take (at + 1 - at) (drop at v) ≡ get_or v at 0 ∷ [] = ap (λ k. take k (drop at v)) count ∙ ap (take 1) (drop_more v at 0 l) in
     record {
-      within = omega (arith, count, here, length-drop at v, ap length whole, length-append us (slice_left item.after));
-      divides_no_pair = subst (λ c. ¬ (MeetsAsPair c (drop end v))) (sym before) (subst (λ d. ¬ (MeetsAsPair (take at v ++ us) d)) (sym back) unpaired);
-      reads = record { clean = item_range steps x item.kind; same_units = append-nil us ∙ sym front ∙ ap (λ k. take k (drop at v)) counted };
+      within = omega (arith, l);
+      divides_no_pair = divides;
+      reads = record { clean = omega (arith, h); same_units = append-nil _ ∙ (units_one (get_or v at 0) h ∙ sym whole) };
     }
 
 -- a unit that is no surrogate is one code point
 pub IsFirstRead-unit : (v : List ℕ) (at : ℕ) → at < length v → get_or v at 0 < 0x10000 → ¬ (IsSurrogate (get_or v at 0)) → IsFirstRead v at (at + 1) (get_or v at 0)
-IsFirstRead-unit v at l h not_surrogate =
-    let count : at + 1 - at ≡ 1 = omega arith in
-    let next : suc at ≡ at + 1 = omega arith in
-    let whole : take (at + 1 - at) (drop at v) ≡ get_or v at 0 ∷ [] = ap (λ k. take k (drop at v)) count ∙ ap (take 1) (drop_more v at 0 l) in
+IsFirstRead-unit v at l h not_surrogate = IsFirstRead-single v at l h (divides_no_pair_after_no_lead v at l (λ k. not_surrogate (k.0, omega (arith, k.1))))
+
+-- a lone surrogate is read alone: a trail, or a lead that no trail follows
+pub IsFirstRead-lone : (v : List ℕ) (at : ℕ) → at < length v → get_or v at 0 < 0x10000 → (IsLead (get_or v at 0) → at + 1 < length v → ¬ (IsTrail (get_or v (at + 1) 0))) → IsFirstRead v at (at + 1) (get_or v at 0)
+IsFirstRead-lone v at l h lone = IsFirstRead-single v at l h (elim (cases_lt (get_or v at 0) 0xD800) [
+  | inl low ↦ divides_no_pair_after_no_lead v at l (λ k. omega (arith, k.0, low))
+  | inr from ↦ elim (cases_lt (get_or v at 0) 0xDC00) [
+    | inl to ↦ divides_no_pair_before_no_trail v at (lone (omega (arith, from), omega (arith, to)))
+    | inr high ↦ divides_no_pair_after_no_lead v at l (λ k. omega (arith, k.1, high))
+  ]
+])
+
+-- a lead and the trail after it are read together
+pub IsFirstRead-pair : (v : List ℕ) (at : ℕ) → at + 1 < length v → IsLead (get_or v at 0) → IsTrail (get_or v (at + 1) 0) → IsFirstRead v at (at + 2) (pair (get_or v at 0) (get_or v (at + 1) 0))
+IsFirstRead-pair v at l lead trail =
+    let count : at + 2 - at ≡ 2 = omega arith in
+    let next : suc (at + 1) ≡ at + 2 = omega arith in
+    let first : drop at v ≡ get_or v at 0 ∷ drop (at + 1) v = drop_more v at 0 (omega (arith, l)) in
+    let second : drop (at + 1) v ≡ get_or v (at + 1) 0 ∷ drop (at + 1 + 1) v = drop_more v (at + 1) 0 l in
+    let whole : take (at + 2 - at) (drop at v) ≡ get_or v at 0 ∷ get_or v (at + 1) 0 ∷ [] = ap (λ k. take k (drop at v)) count ∙ ap (take 2) (first ∙ ap (λ w. get_or v at 0 ∷ w) second) in
     record {
       within = omega (arith, l);
-      divides_no_pair = subst (DividesNoPair v) next (DividesNoPair-after_no_lead v at l (λ k. not_surrogate (k.0, omega (arith, k.1))));
-      reads = record { clean = omega (arith, h); same_units = append-nil _ ∙ (units_one (get_or v at 0) h ∙ sym whole) };
+      divides_no_pair = subst (DividesNoPair v) next (DividesNoPair-after_no_lead v (at + 1) l (λ k. omega (arith, k.1, trail.0)));
+      reads = record { clean = omega (arith, lead.0, lead.1, trail.0, trail.1); same_units = append-nil _ ∙ (units_pair (get_or v at 0) (get_or v (at + 1) 0) lead trail ∙ sym whole) };
     }
 
 -- All items of a decoder over a slice.

@@ -1,4 +1,4 @@
-use Rattle.wtf8.proofs.Common.{◌≡◌, ℕ, List, Bool, ◌&&◌, ◌+◌, ◌*◌, ◌≤◌, ◌++◌, length, take}
+use Rattle.wtf8.proofs.Common.{ℕ, List, Bool, ◌&&◌, ◌+◌, ◌*◌, ◌≤◌, ◌++◌, length, take}
 use Rattle.wtf8.specs.private.ConvertedPrefix.{IsReadTo}
 use Rattle.wtf8.proofs.from_utf16.kernel.write_blocks.Given as goal
 
