@@ -249,8 +249,9 @@ function spaced(units, below) {
   return [...spaces(), ...units, ...spaces()];
 }
 
-// Random calls that search a string for a piece of it.
-function searchCalls(first, index, below) {
+// Random calls that search a string for a piece of it, about an index; its successors take two bytes too.
+function searchCalls(first, at, below) {
+  const index = Math.min(at, 0xFFF0);
   const piece = listOf(first.slice(index, index + 1 + below(4)));
   const calls = [['swap'], ['set', ...(below(4) === 0 ? changed(piece, below) : piece)], ['swap']];
   calls.push(['indexOf', Math.max(0, index - below(12))], ['indexOf', index], ['indexOf', index + 1]);
