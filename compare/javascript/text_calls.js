@@ -1,6 +1,7 @@
 // Scripts of calls on `UnitText`s, and what the engine's own strings return for them.
 //     node text_calls.js random SEED CASES FOLDER   random scripts
-//     node text_calls.js lists FOLDER               all lists of at most three units out of nine, and long texts, by all calls
+//     node text_calls.js lists FOLDER               all lists of at most three units out of nine, and long texts, by all
+//                                              calls; short texts of lines, and of what is in JSON strings
 //     node text_calls.js marks SEED CASES FOLDER    long texts with and without marks, and CASES random scripts of these
 //     node text_calls.js fixed FOLDER               examples, long texts and some hundred others for the gate to replay;
 //                                              they follow the scripts of strings in FOLDER, in place of the old ones
@@ -9,6 +10,7 @@
 'use strict';
 const fs = require('fs');
 const path = require('path');
+const { byteLength, positionAt, unitBefore, linesOf, lineStarts, markAtColumn, jsonOf, readJson, jsonError } = require('./positions.js');
 
 const NINE = [0x0061, 0x00E9, 0xD7FF, 0xD800, 0xDBFF, 0xDC00, 0xDFFF, 0xE000, 0xFFFF];
 
@@ -60,6 +62,13 @@ const OPCODES = {
   pushStr: 90,
   pushWtf8: 91,
   throughWtf8: 92,
+  positionAt: 93,
+  unitBefore: 94,
+  truncate: 95,
+  lines: 96,
+  markAtColumn: 97,
+  json: 98,
+  readJson: 99,
 };
 
 // What each call returns over the two strings of a state.
@@ -127,12 +136,22 @@ const CALLS = {
   pushStr: (state, text) => unitsOf((state.first += text)),
   pushWtf8: (state, ...units) => unitsOf((state.first += textOf(units))),
   throughWtf8: ({ first }) => unitsOf(first),
+  positionAt: ({ first }, at) => (first.length < at ? 'refused' : `position ${positionAt(first, at)}`),
+  unitBefore: ({ first }, position) => `units before ${unitBefore(first, position)}`,
+  truncate: (state, length) => (state.first.length < length ? 'refused' : unitsOf((state.first = state.first.slice(0, length)))),
+  lines: ({ first }) => linesOf(first),
+  markAtColumn: ({ first }, line, column) => `mark ${markAtColumn(first, line, column)}`,
+  json: ({ first, second }) => `json: ${jsonOf(first, second)}\nsame true`,
+  readJson: ({ first }) => {
+    const parts = readJson(first);
+    return parts === undefined ? `malformed ${jsonError(first)}` : `read ${unitsOf(parts[0])}\nrest ${unitsOf(parts[1])}`;
+  },
 };
 
 // The calls whose operands are units, those whose operand is a well-formed string, and those that change a string.
 const OF_UNITS = ['set', 'replace', 'push', 'pushWtf8'];
 const OF_TEXT = ['fromStr', 'pushStr'];
-const CHANGING = [...OF_UNITS, ...OF_TEXT, 'swap', 'slice', 'concat', 'padStart', 'repeat', 'trim', 'toWellFormed'];
+const CHANGING = [...OF_UNITS, ...OF_TEXT, 'swap', 'slice', 'truncate', 'concat', 'padStart', 'repeat', 'trim', 'toWellFormed'];
 
 // A number of two bytes in hexadecimal, little-endian.
 const bytesOf = (number) => hex(number & 0xFF, 2) + hex(number >> 8, 2);
@@ -230,8 +249,9 @@ function spaced(units, below) {
   return [...spaces(), ...units, ...spaces()];
 }
 
-// Random calls that search a string for a piece of it.
-function searchCalls(first, index, below) {
+// Random calls that search a string for a piece of it, about an index; its successors take two bytes too.
+function searchCalls(first, at, below) {
+  const index = Math.min(at, 0xFFF0);
   const piece = listOf(first.slice(index, index + 1 + below(4)));
   const calls = [['swap'], ['set', ...(below(4) === 0 ? changed(piece, below) : piece)], ['swap']];
   calls.push(['indexOf', Math.max(0, index - below(12))], ['indexOf', index], ['indexOf', index + 1]);
@@ -448,6 +468,9 @@ function indexAbout(length, below) {
   return Math.max(0, SPACING * below(Math.ceil(length / SPACING) + 1) + below(5) - 2);
 }
 
+// A byte position about an index, mostly that of a boundary.
+const positionAbout = (text, index, below) => positionAt(text, Math.min(index, text.length)) + (below(2) === 0 ? 0 : below(4));
+
 // Reads the units about each multiple of `SPACING`, and pieces from there and up to there.
 function readsAbout(length) {
   const calls = [];
@@ -522,7 +545,7 @@ function appending(piece, below) {
 // One random call or a few related ones, for the current long texts.
 function randomMarkedCalls({ first, second }, below) {
   const index = indexAbout(first.length, below);
-  switch (below(27)) {
+  switch (below(33)) {
     case 0: return [['mark']];
     case 1: return [['swap']];
     case 2: return first.length + second.length > 6000 ? [['length']] : [['concat'], ['length']];
@@ -543,6 +566,13 @@ function randomMarkedCalls({ first, second }, below) {
       const other = first.length === 0 ? [] : changed(listOf(first), below);
       return [['swap'], ['set', ...other], ...(below(2) === 0 ? [['mark']] : []), ['swap'], ['compare']];
     }
+    case 18: case 19: return [['positionAt', index]];
+    case 20: case 21: return [['unitBefore', positionAbout(first, index, below)]];
+    case 22: {
+      const any = anyUnits(1 + below(SPACING), below);
+      const piece = below(2) === 0 ? any : joining(any);
+      return [['truncate', index], ...appending(piece, below), ['unitAt', Math.max(0, index - 1)], ['positionAt', index]];
+    }
     default: return [['unitAt', index]];
   }
 }
@@ -550,6 +580,40 @@ function randomMarkedCalls({ first, second }, below) {
 function randomMarkedScript(below) {
   const units = anyUnits(300 + below(4701), below);
   return scriptOf([['set', ...units], ...(below(3) === 0 ? [] : [['mark']])], 20 + below(60), randomMarkedCalls, below);
+}
+
+// The positions about each multiple of `SPACING`, of each index and back.
+function positionsAbout(text) {
+  const calls = [];
+  for (let edge = 0; edge <= text.length + 2; edge += SPACING) {
+    for (let at = Math.max(0, edge - 3); at <= edge + 3; at++) {
+      calls.push(['positionAt', at], ['unitBefore', positionAt(text, at)], ['unitBefore', positionAt(text, at) + 1]);
+    }
+  }
+  return calls;
+}
+
+// A text's positions without marks and with them; then, cut about each multiple of `SPACING` and grown again by other
+// units, which the marks that were past the cut would be wrong for.
+function cutScript(units, isMarked, below) {
+  const marks = isMarked ? [['mark']] : [];
+  const calls = [['set', ...units], ...marks, ...positionsAbout(textOf(units))];
+  for (let edge = SPACING; edge <= units.length; edge += SPACING) {
+    for (let length = edge - 2; length <= Math.min(edge + 2, units.length); length++) {
+      const piece = anyUnits(SPACING + 3, below);
+      calls.push(['set', ...units], ...marks, ['truncate', length], ['length'], ['positionAt', length], ['unitBefore', 0xFFFF]);
+      calls.push(...appending(piece, below));
+      const grown = length + piece.length;
+      for (let at = length - 2; at <= length + 2; at++) calls.push(['unitAt', at], ['positionAt', at]);
+      for (let at = grown - 9; at <= grown; at++) calls.push(['unitAt', at], ['positionAt', at]);
+    }
+  }
+  return calls;
+}
+
+function cutScripts(below) {
+  const texts = KINDS_OF_MARKED.flatMap((kind) => [300, 1000].map((length) => unitsOfKind(kind, length, below)));
+  return texts.flatMap((units) => [false, true].map((isMarked) => cutScript(units, isMarked, below)));
 }
 
 // A text of more units than two bytes count, read at indexes up to the last that two bytes name, from both ends,
@@ -567,7 +631,7 @@ function marksScripts(seed, cases) {
   const below = randomBelow(seed);
   const scripts = markedScripts([300, 1000, 5000], [1, 2, 63, 64, 127, 128, 129, 255, 256, 257, 300]);
   const huge = KINDS_OF_MARKED.map((kind) => hugeScript(kind, below));
-  return [...scripts, ...huge, ...Array.from({ length: cases }, () => randomMarkedScript(below))];
+  return [...scripts, ...huge, ...cutScripts(below), ...Array.from({ length: cases }, () => randomMarkedScript(below))];
 }
 
 // "a", a pair, "b" and a lead: the string of the worked examples.
@@ -724,6 +788,98 @@ function workedScripts() {
   ];
 }
 
+// The positions of a list, of every index and of every byte, and the list cut at every index.
+function positionsScript(units) {
+  const calls = [['set', ...units]];
+  for (let position = 0; position <= byteLength(textOf(units)) + 1; position++) calls.push(['unitBefore', position]);
+  for (let at = 0; at <= units.length + 1; at++) calls.push(['positionAt', at], ['truncate', at], ['length'], ['set', ...units]);
+  return calls;
+}
+
+// The lines of a list, and the marks at each of their columns, up to one past the last line and the end.
+function linesScript(units) {
+  const calls = [['set', ...units], ['lines']];
+  for (let line = 0; line <= lineStarts(textOf(units)).length; line++) {
+    for (let column = 0; column <= units.length + 1; column++) calls.push(['markAtColumn', line, column]);
+  }
+  return calls;
+}
+
+// Two lists as JSON texts, and the first read from its text, which another follows.
+function jsonScript(units, others) {
+  const text = JSON.stringify(textOf(units)) + textOf(others);
+  return [['set', ...others], ['swap'], ['set', ...units], ['json'], ['set', ...listOf(text)], ['readJson']];
+}
+
+// Units about lines, of all encoded lengths.
+const IN_LINES = [0x0A, 0x0D, 0x61, 0xE9, 0xD83D, 0xDCA9, 0x2028];
+
+// Units that JSON text escapes, and their neighbours.
+const IN_JSON = [...Array.from({ length: 0x23 }, (_, unit) => unit), 0x2F, 0x5C, 0x7F, 0x80, 0xD7FF, 0xD800, 0xDBFF, 0xDC00, 0xDFFF, 0xE000, 0x2028, 0xFFFD];
+
+// What may come in a JSON string, whole or cut.
+const PARTS_OF_JSON = ['"', '\\', 'u', 'n', '/', '0', 'D', 'f', 'x', '\n', '\u00E9', '\uD83D', '\uDCA9', '\\u', '\\ud83d', '\\uDCA9', '\\u00', '12'];
+
+// All texts of at most `most` parts after a quotation mark, read as JSON strings.
+const readingScripts = (most) => listsOf(PARTS_OF_JSON, most).map((parts) => [['set', ...listOf(`"${parts.join('')}`)], ['readJson']]);
+
+function positionScripts() {
+  const json = IN_JSON.flatMap((unit) => IN_JSON.map((other) => jsonScript([unit, other], [other])));
+  const escapes = Array.from({ length: 0x80 }, (_, unit) => ['', '"', '0041"'].map((end) => ['set', ...listOf(`"\\${String.fromCharCode(unit)}${end}`)]));
+  const digits = Array.from({ length: 0x80 }, (_, unit) => [0, 1, 2, 3].map((at) => ['set', ...listOf('"\\u00e9"').with(3 + at, unit)]));
+  const others = [[], [0x61], [0x22], [0x20, 0x22], [0x5C, 0x22]].map((units) => [['set', ...units], ['readJson']]);
+  return [
+    ...listsOf(NINE, 3).map(positionsScript),
+    ...listsOf(IN_LINES, 4).map(linesScript),
+    ...json,
+    ...listsOf(NINE, 3).map((units) => jsonScript(units, [0x22])),
+    ...readingScripts(3),
+    ...[...escapes, ...digits].map((texts) => texts.flatMap((text) => [text, ['readJson']])),
+    ...others,
+  ];
+}
+
+// Random units in lines of random lengths, some of them empty.
+const randomLines = (below) => Array.from({ length: below(120) }, () => (below(8) === 0 ? 0x0A : randomUnit(below)));
+
+// A random text that begins as a JSON string, mostly of escapes and units that need none, and mostly closed.
+function randomJson(below) {
+  const part = () => {
+    switch (below(8)) {
+      case 0: return PARTS_OF_JSON[below(PARTS_OF_JSON.length)];
+      case 1: return `\\u${hex(randomUnit(below), 4)}`;
+      case 2: return `\\u${hex(randomUnit(below), 4).toLowerCase()}`;
+      case 3: return '\\' + '"\\/bfnrt'[below(8)];
+      default: return JSON.stringify(String.fromCharCode(randomUnit(below))).slice(1, -1);
+    }
+  };
+  const parts = Array.from({ length: below(30) }, part);
+  return listOf(`"${parts.join('')}${below(4) === 0 ? '' : '"'}${below(3) === 0 ? '"\\' : ''}`);
+}
+
+// A random script of positions, lines and JSON strings.
+function randomPositionScript(below) {
+  const units = randomUnits(below);
+  const text = textOf(units);
+  const calls = [['set', ...units]];
+  for (let i = 0; i < 8; i++) {
+    const at = below(units.length + 2);
+    calls.push(['positionAt', at], ['unitBefore', below(byteLength(text) + 3)]);
+  }
+  calls.push(['json'], ['swap'], ['set', ...randomUnits(below)], ['json'], ['truncate', below(units.length + 2)], ['length']);
+  const lines = randomLines(below);
+  calls.push(['set', ...lines], ['lines']);
+  for (let i = 0; i < 8; i++) calls.push(['markAtColumn', below(lineStarts(textOf(lines)).length + 2), below(below(2) === 0 ? 4 : 40)]);
+  for (let i = 0; i < 4; i++) calls.push(['set', ...randomJson(below)], ['readJson']);
+  return [...calls, ['set', ...listOf(JSON.stringify(text))], ['readJson']];
+}
+
+// Scripts of all calls, and a quarter of that number of positions, lines and JSON strings.
+function randomScriptsOfAll(seed, cases) {
+  const below = randomBelow(seed);
+  return [...randomScripts(seed, cases), ...Array.from({ length: Math.ceil(cases / 4) }, () => randomPositionScript(below))];
+}
+
 function fixedScripts() {
   const lists = listScripts().filter((_, at) => at % 97 === 0);
   const marked = markedScripts([300], [129]).filter((_, at) => at % 4 === 2);
@@ -762,9 +918,9 @@ function numberOf(word, least) {
 }
 
 const WAYS = {
-  random: { words: 2, scripts: (seed, cases) => randomScripts(numberOf(seed, 0), numberOf(cases, 1)) },
+  random: { words: 2, scripts: (seed, cases) => randomScriptsOfAll(numberOf(seed, 0), numberOf(cases, 1)) },
   marks: { words: 2, scripts: (seed, cases) => marksScripts(numberOf(seed, 0), numberOf(cases, 1)) },
-  lists: { words: 0, scripts: () => [...listScripts(), ...longScripts()] },
+  lists: { words: 0, scripts: () => [...listScripts(), ...longScripts(), ...positionScripts()] },
   fixed: { words: 0, scripts: fixedScripts },
 };
 const [way, ...words] = process.argv.slice(2);

@@ -201,6 +201,8 @@ pub enum ChangeText {
     PushWtf8,
     /// `into_wtf8`, then `from_wtf8` of the string, which leaves the marks out.
     ThroughWtf8,
+    /// Number: `truncate_units` to that length.
+    Truncate,
 }
 
 /// A call that makes the first text anew.
@@ -255,6 +257,18 @@ pub enum ReadText {
     LastIndexOf,
     /// Number: `ends_with` the second text, at that index.
     EndsWith,
+    /// Number: `position_at` that index.
+    PositionAt,
+    /// Number: `unit_before` that position.
+    UnitBefore,
+    /// `lines_of`: the mark at the start of each line, and `line_column_at` each position.
+    Lines,
+    /// Two numbers: `mark_at_column` of a line and a column.
+    MarkAtColumn,
+    /// `append_json_text` of the first text, then of the second, and whether `append_json_bytes` appends the same.
+    Json,
+    /// `read_json_string`: the text and what follows it, or the position and the cause of the error.
+    ReadJson,
 }
 
 /// A step on an iterator. Writes what it returns.
@@ -380,6 +394,12 @@ impl TextCall {
             80 => TextCall::Read(ReadText::Split),
             87 => TextCall::Read(ReadText::LastIndexOf),
             88 => TextCall::Read(ReadText::EndsWith),
+            93 => TextCall::Read(ReadText::PositionAt),
+            94 => TextCall::Read(ReadText::UnitBefore),
+            96 => TextCall::Read(ReadText::Lines),
+            97 => TextCall::Read(ReadText::MarkAtColumn),
+            98 => TextCall::Read(ReadText::Json),
+            99 => TextCall::Read(ReadText::ReadJson),
             _ => TextCall::Change(ChangeText::from_opcode(opcode)?),
         };
         Some(call)
@@ -403,6 +423,7 @@ impl ChangeText {
             90 => ChangeText::PushStr,
             91 => ChangeText::PushWtf8,
             92 => ChangeText::ThroughWtf8,
+            95 => ChangeText::Truncate,
             _ => return None,
         };
         Some(call)

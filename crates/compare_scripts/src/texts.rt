@@ -1,7 +1,11 @@
 // The calls on texts.
 use crate::comparing::name_of;
 use crate::engine::{padded, repeated, replaced, write_end, write_pieces, write_units_at};
+use crate::json::{write_json, write_json_string};
 use crate::opcodes::{ChangeText, MakeText, ReadText, TextCall};
+use crate::positions::{
+    truncate, write_lines, write_mark_at_column, write_position, write_unit_before,
+};
 use crate::stop::{Stop, allocated};
 use crate::tape::Tape;
 use std::alloc::Global;
@@ -53,6 +57,7 @@ impl Texts {
             ChangeText::PushStr => return push_str(&mut self.first, tape),
             ChangeText::PushWtf8 => return push_string(&mut self.first, tape),
             ChangeText::ThroughWtf8 => return self.convert(tape),
+            ChangeText::Truncate => return truncate(&mut self.first, tape),
         }
         Ok(())
     }
@@ -117,6 +122,12 @@ impl Texts {
                 tape.write_found("last index", last_index_of(&self.first, &self.second, to))
             }
             ReadText::EndsWith => write_end(tape, &self.first, &self.second),
+            ReadText::PositionAt => write_position(tape, &self.first),
+            ReadText::UnitBefore => write_unit_before(tape, &self.first),
+            ReadText::Lines => write_lines(tape, self.first.as_wtf8()),
+            ReadText::MarkAtColumn => write_mark_at_column(tape, self.first.as_wtf8()),
+            ReadText::Json => write_json(tape, self.first.as_wtf8(), self.second.as_wtf8()),
+            ReadText::ReadJson => write_json_string(tape, self.first.as_wtf8()),
         }
     }
 

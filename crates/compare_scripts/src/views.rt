@@ -259,7 +259,7 @@ fn write_marks_by_units(tape: &mut Tape<'_>, view: Wtf8<'_>) -> Result<(), Stop>
 }
 
 /// Writes the position and the number of units of a mark.
-fn write_mark(tape: &mut Tape<'_>, mark: UnitMark) -> Result<(), Stop> {
+pub fn write_mark(tape: &mut Tape<'_>, mark: UnitMark) -> Result<(), Stop> {
     write!(tape, " {}:{}", mark.position, mark.units)
 }
 

@@ -34,6 +34,20 @@ pub fn append_json_text<A: Allocator>(out: &mut String<A>, text: Wtf8<'_>) -> Re
     rest
 }
 
+/// Appends the JSON text of a string to bytes, as `json_text` makes it in memory of `alloc`, which is freed again. If a
+/// request is refused, `out` has the bytes that it had.
+pub fn append_json_bytes<A: Allocator, B: Allocator>(
+    alloc: A,
+    out: &mut Vec<u8, B>,
+    text: Wtf8<'_>,
+) -> Result<(), AllocError>
+    ensures ok { OnOk result (out.new.items ≡ out.old.items ++ json (view_points text.entry)) }
+    ensures kept { OnErr result (out.new.items ≡ out.old.items) }
+{
+    let json = json_text(alloc, text)?;
+    out.extend_from_slice(json.as_bytes())
+}
+
 /// Appends the code points of a string as JSON text, and the closing quote.
 fn push_rest<A: Allocator>(json: &mut String<A>, text: Wtf8<'_>) -> Result<(), AllocError>
     ensures ok { OnOk result (string_bytes json.new ≡ string_bytes json.old ++ flat_map json_point (view_points text.entry) ++ codes "\"") }

@@ -1,12 +1,12 @@
 // Conversions, JSON texts, environment blocks, counts of units, and comparison without ASCII case.
 use crate::shared::{LEAD, TRAIL, string_of};
 use refusing::Refusing;
-use std::alloc::{Allocator, Global};
+use std::alloc::{AllocError, Allocator, Global};
 use wtf8::Wtf8;
 use wtf8_tests::wrong::{Wrong, expect, made};
 use wtf8_uses::ascii_case::eq_ignore_ascii_case;
 use wtf8_uses::environment::{Variable, environment_block};
-use wtf8_uses::json::{append_json_text, json_text};
+use wtf8_uses::json::{append_json_bytes, append_json_text, json_text};
 use wtf8_uses::{round_trips, units, well_formed};
 
 /// Fails unless `units_round_trip` returns the units of `list`.
@@ -60,6 +60,9 @@ fn lone_surrogates_are_mended(rt: HostRuntime) -> Result<(), Wrong> {
     expect(mended.as_str() == "a\u{FFFD}💩", Wrong::Bytes)
 }
 
+/// The number of requests for a text that grows to twelve bytes, and for a full vector to which they are appended.
+const REQUESTS: u64 = 3;
+
 /// Units, and their JSON text as an engine's `JSON.stringify` returns it.
 fn json_rows() -> [(&'static [u16], &'static str); 6] {
     [
@@ -92,6 +95,42 @@ fn expect_json(alloc: Global, string: Wtf8<'_>, text: &str) -> Result<(), Wrong>
     expect(
         json.as_str().strip_prefix(text) == Some("\"a\\t\""),
         Wrong::Bytes,
+    )
+}
+
+/// Whether JSON text is appended to bytes after 2C, as `text`.
+fn is_appended(alloc: Global, string: Wtf8<'_>, text: &str) -> Result<bool, AllocError> {
+    let mut bytes = Vec::new(alloc);
+    bytes.push(0x2C)?;
+    append_json_bytes(alloc, &mut bytes, string)?;
+    Ok(bytes.as_slice().strip_prefix(&[0x2C]) == Some(text.as_bytes()))
+}
+
+#[test]
+fn json_bytes_follow_others(rt: HostRuntime) -> Result<(), Wrong> {
+    let string = string_of(rt.alloc(), &[0x0061, LEAD, 0x00E9])?;
+    let is_there = made(is_appended(rt.alloc(), string.as_wtf8(), "\"a\\ud83dé\""))?;
+    expect(is_there, Wrong::Bytes)
+}
+
+/// Whether JSON text is refused, for want of memory, after the bytes 2C, which stay.
+fn is_kept_in_bytes<A: Allocator, B: Allocator>(alloc: A, out: &mut Vec<u8, B>) -> bool {
+    append_json_bytes(alloc, out, Wtf8::from_str("\n\n\n\n\n")).is_err()
+        && out.as_slice() == [0x2C].as_slice()
+}
+
+#[test]
+fn refused_json_bytes_are_left_out(rt: HostRuntime) -> Result<(), Wrong> {
+    let heap = Refusing::new(rt.alloc(), 1);
+    let mut out = made(Vec::from_slice(&heap, &[0x2C]))?;
+    for grants in 0..REQUESTS {
+        heap.grant(grants);
+        expect(is_kept_in_bytes(&heap, &mut out), Wrong::Outcome)?;
+    }
+    heap.grant(REQUESTS);
+    expect(
+        !is_kept_in_bytes(&heap, &mut out) && heap.grants_left() == 0,
+        Wrong::Outcome,
     )
 }
 

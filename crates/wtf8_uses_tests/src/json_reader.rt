@@ -117,18 +117,24 @@ fn malformed_strings_are_refused(rt: HostRuntime) {
     }
 }
 
-/// Whether memory is refused where "a" is read.
+/// The number of requests for a string that grows to twenty bytes.
+const REQUESTS: u64 = 3;
+
+/// Whether memory is refused where a string of twenty bytes is read.
 fn is_out_of_memory<A: Allocator>(alloc: A) -> bool {
     matches!(
-        read_json_string(alloc, Wtf8::from_str("\"a\"")),
+        read_json_string(alloc, Wtf8::from_str("\"aaaaaaaaaaaaaaaaaaaa\"")),
         Err(JsonError::Memory)
     )
 }
 
 #[test]
-fn refused_memory_is_told(rt: HostRuntime) {
+fn each_refused_request_is_told(rt: HostRuntime) {
     let heap = Refusing::new(rt.alloc(), 0);
-    assert!(rt; is_out_of_memory(&heap));
-    heap.grant(1);
-    assert!(rt; !is_out_of_memory(&heap));
+    for grants in 0..REQUESTS {
+        heap.grant(grants);
+        assert!(rt; is_out_of_memory(&heap), "{grants}");
+    }
+    heap.grant(REQUESTS);
+    assert!(rt; !is_out_of_memory(&heap) && heap.grants_left() == 0);
 }

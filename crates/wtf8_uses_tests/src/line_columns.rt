@@ -1,5 +1,6 @@
 // Lines and columns of a string of four lines, the third empty, and byte positions.
-use std::alloc::{AllocError, Global};
+use refusing::Refusing;
+use std::alloc::{AllocError, Allocator, Global};
 use wtf8::Wtf8;
 use wtf8_tests::wrong::{Wrong, expect, made};
 use wtf8_uses::line_columns::{LineColumns, line_column_at, lines_of, mark_at_column};
@@ -39,6 +40,9 @@ const POSITIONS: [(usize, usize, usize); 10] = [
     (11, 3, 1),
 ];
 
+/// The number of requests for a vector that grows to ten marks.
+const REQUESTS: u64 = 3;
+
 /// Whether each line and column has its position and number of units.
 fn has_columns(lines: &LineColumns<'_, Global>) -> bool {
     for (line, column, expected) in columns() {
@@ -74,4 +78,20 @@ fn is_mapped(alloc: Global) -> Result<bool, AllocError> {
 fn columns_count_units(rt: HostRuntime) -> Result<(), Wrong> {
     let is_mapped = made(is_mapped(rt.alloc()))?;
     expect(is_mapped, Wrong::Outcome)
+}
+
+/// Whether memory is refused where the lines of nine line feeds are found.
+fn is_out_of_memory<A: Allocator>(alloc: A) -> bool {
+    lines_of(alloc, Wtf8::from_str("\n\n\n\n\n\n\n\n\n")).is_err()
+}
+
+#[test]
+fn each_refused_request_is_told(rt: HostRuntime) {
+    let heap = Refusing::new(rt.alloc(), 0);
+    for grants in 0..REQUESTS {
+        heap.grant(grants);
+        assert!(rt; is_out_of_memory(&heap), "{grants}");
+    }
+    heap.grant(REQUESTS);
+    assert!(rt; !is_out_of_memory(&heap) && heap.grants_left() == 0);
 }

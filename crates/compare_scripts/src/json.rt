@@ -1,0 +1,65 @@
+// JSON texts of texts, and JSON strings that are read.
+use crate::stop::{Stop, allocated};
+use crate::tape::Tape;
+use std::alloc::Global;
+use unit_text::UnitText;
+use wtf8::{Wtf8, Wtf8Buf};
+use wtf8_uses::json::{append_json_bytes, append_json_text};
+use wtf8_uses::json_reader::{JsonCause, JsonError, read_json_string};
+
+/// Writes the JSON texts of two strings, appended one after the other, and whether the bytes that are appended to a
+/// vector are the same.
+pub fn write_json(tape: &mut Tape<'_>, first: Wtf8<'_>, second: Wtf8<'_>) -> Result<(), Stop> {
+    let mut json = String::new(tape.alloc);
+    allocated(append_json_text(&mut json, first))?;
+    allocated(append_json_text(&mut json, second))?;
+    tape.write_text("json", json.as_str())?;
+    let bytes = json_bytes(tape.alloc, first, second)?;
+    let is_same = bytes.as_slice() == json.as_bytes();
+    writeln!(tape, "same {is_same}")
+}
+
+/// The JSON texts of two strings, appended to a vector one after the other.
+fn json_bytes(alloc: Global, first: Wtf8<'_>, second: Wtf8<'_>) -> Result<Vec<u8>, Stop> {
+    let mut bytes = Vec::new(alloc);
+    allocated(append_json_bytes(alloc, &mut bytes, first))?;
+    allocated(append_json_bytes(alloc, &mut bytes, second))?;
+    Ok(bytes)
+}
+
+/// `read_json_string`: writes the units of the string and of the text after it, or the position and the cause of the
+/// error.
+pub fn write_json_string(tape: &mut Tape<'_>, text: Wtf8<'_>) -> Result<(), Stop> {
+    match read_json_string(tape.alloc, text) {
+        Ok((string, rest)) => write_read(tape, string, rest),
+        Err(JsonError::Memory) => Err(Stop::Memory),
+        Err(JsonError::Malformed { position, cause }) => {
+            let cause = name_of_cause(cause);
+            writeln!(tape, "malformed {position} {cause}")
+        }
+    }
+}
+
+/// Writes the units of a string that was read, and of the text after it.
+fn write_read(
+    tape: &mut Tape<'_>,
+    string: Wtf8Buf<Global>,
+    rest: Wtf8<'_>,
+) -> Result<(), Stop> {
+    tape.write_word("read ")?;
+    tape.write_units(&UnitText::from_wtf8(string))?;
+    let mut after = Wtf8Buf::new(tape.alloc);
+    allocated(after.push_wtf8(rest))?;
+    tape.write_word("rest ")?;
+    tape.write_units(&UnitText::from_wtf8(after))
+}
+
+/// A cause in words.
+fn name_of_cause(cause: JsonCause) -> &'static str {
+    match cause {
+        JsonCause::NotOpened => "not opened",
+        JsonCause::NotClosed => "not closed",
+        JsonCause::ControlCharacter => "control character",
+        JsonCause::Escape => "escape",
+    }
+}

@@ -1,0 +1,74 @@
+// Calls on byte positions in texts, and on lines.
+use crate::stop::{Stop, allocated};
+use crate::tape::{NONE, Tape};
+use crate::views::write_mark;
+use std::alloc::Global;
+use unit_text::UnitText;
+use wtf8::{UnitMark, Wtf8};
+use wtf8_uses::line_columns::{LineColumns, line_column_at, lines_of, mark_at_column};
+
+/// `truncate_units`.
+pub fn truncate(text: &mut UnitText<Global>, tape: &mut Tape<'_>) -> Result<(), Stop> {
+    let n = tape.reader.number()?;
+    if text.unit_len() < n {
+        return Err(Stop::Refused);
+    }
+    text.truncate_units(n);
+    Ok(())
+}
+
+/// `position_at`: writes the position.
+pub fn write_position(tape: &mut Tape<'_>, text: &UnitText<Global>) -> Result<(), Stop> {
+    let index = tape.reader.number()?;
+    if text.unit_len() < index {
+        return Err(Stop::Refused);
+    }
+    let position = text.position_at(index);
+    writeln!(tape, "position {position}")
+}
+
+/// `unit_before`: writes the number of units.
+pub fn write_unit_before(tape: &mut Tape<'_>, text: &UnitText<Global>) -> Result<(), Stop> {
+    let position = tape.reader.number()?;
+    let units = text.unit_before(position);
+    writeln!(tape, "units before {units}")
+}
+
+/// Writes the mark at the start of each line, then the line and the column of each position.
+pub fn write_lines(tape: &mut Tape<'_>, text: Wtf8<'_>) -> Result<(), Stop> {
+    let lines = allocated(lines_of(tape.alloc, text))?;
+    write_starts(tape, lines.starts.as_slice())?;
+    write_columns(tape, &lines)
+}
+
+/// Writes the mark at the start of each line.
+fn write_starts(tape: &mut Tape<'_>, starts: &[UnitMark]) -> Result<(), Stop> {
+    tape.write_word("lines")?;
+    for start in starts {
+        write_mark(tape, *start)?;
+    }
+    tape.write_line("")
+}
+
+/// Writes the line and the column of each position.
+fn write_columns(tape: &mut Tape<'_>, lines: &LineColumns<'_, Global>) -> Result<(), Stop> {
+    tape.write_word("columns")?;
+    for position in 0..=lines.text.len() {
+        let found = line_column_at(lines, position);
+        write!(tape, " {}:{}", found.line, found.column)?;
+    }
+    tape.write_line("")
+}
+
+/// `mark_at_column`: writes the mark, or that there is none.
+pub fn write_mark_at_column(tape: &mut Tape<'_>, text: Wtf8<'_>) -> Result<(), Stop> {
+    let line = tape.reader.number()?;
+    let column = tape.reader.number()?;
+    let lines = allocated(lines_of(tape.alloc, text))?;
+    tape.write_word("mark")?;
+    match mark_at_column(&lines, line, column) {
+        Some(mark) => write_mark(tape, mark)?,
+        None => write!(tape, " {NONE}")?,
+    }
+    tape.write_line("")
+}
