@@ -1,5 +1,5 @@
 // Calls that append.
-ghost use Rattle.std.specs.Prelude.{◌≡◌, ◌++◌, ◌∷◌, [], ◌⊎◌, ◌↔◌, IsTrue, IsOk, OnOk, OnErr};
+ghost use Rattle.std.specs.Prelude.{◌≡◌, ◌++◌, ◌∷◌, [], ◌≤◌, ◌⊎◌, ◌↔◌, IsTrue, IsOk, OnOk, OnErr};
 ghost use Rattle.std.specs.Str.{chars, IsUtf8};
 ghost use Rattle.wtf8.specs.Appending.{AppendsUnits, KeepsContents, HasRoomFor};
 ghost use Rattle.wtf8.specs.Unicode.{IsCodePoint, units, units_of};
@@ -19,6 +19,7 @@ pub extern "C" fn wtf8_push_unit(alloc: Global, string: &mut Wtf8String, unit: u
     ensures done { result ≡ DONE → AppendsUnits (contents string.old) (unit ∷ []) (contents string.new) }
     ensures kept { result ≡ MEMORY → KeepsContents (contents string.old) (contents string.new) }
     ensures room { IsTrue string.old.full → HasRoomFor (contents string.old) (units_of unit) → result ≡ DONE }
+    ensures capacity { (contents string.old).capacity ≤ (contents string.new).capacity }
 {
     let Ok(mut buf) = string.open(alloc) else {
         return MEMORY;
@@ -36,6 +37,7 @@ pub extern "C" fn wtf8_push_code_point(alloc: Global, string: &mut Wtf8String, v
     ensures done { result ≡ DONE → AppendsUnits (contents string.old) (units_of value) (contents string.new) }
     ensures kept { ¬ (result ≡ DONE) → KeepsContents (contents string.old) (contents string.new) }
     ensures room { IsTrue string.old.full → IsCodePoint value → HasRoomFor (contents string.old) (units_of value) → result ≡ DONE }
+    ensures capacity { (contents string.old).capacity ≤ (contents string.new).capacity }
 {
     let Some(point) = CodePoint::from_u32(value) else {
         return NO_CODE_POINT;
@@ -55,6 +57,7 @@ pub extern "C" fn wtf8_push_units(alloc: Global, string: &mut Wtf8String, units:
     ensures done { result ≡ DONE → AppendsUnits (contents string.old) units.now (contents string.new) }
     ensures kept { result ≡ MEMORY → KeepsContents (contents string.old) (contents string.new) }
     ensures room { IsTrue string.old.full → HasRoomFor (contents string.old) units.now → result ≡ DONE }
+    ensures capacity { result ≡ DONE → (contents string.old).capacity ≤ (contents string.new).capacity }
 {
     let Ok(mut buf) = string.open(alloc) else {
         return MEMORY;
@@ -72,6 +75,7 @@ pub extern "C" fn wtf8_push_utf8(alloc: Global, string: &mut Wtf8String, text: &
     ensures done { result ≡ DONE → AppendsUnits (contents string.old) (units (chars text.now)) (contents string.new) }
     ensures kept { ¬ (result ≡ DONE) → KeepsContents (contents string.old) (contents string.new) }
     ensures room { IsTrue string.old.full → IsUtf8 text.now → HasRoomFor (contents string.old) (units (chars text.now)) → result ≡ DONE }
+    ensures capacity { (contents string.old).capacity ≤ (contents string.new).capacity }
 {
     let Ok(text) = str::from_utf8(text) else {
         return NO_UTF8;
@@ -96,6 +100,7 @@ pub extern "C" fn wtf8_push_string(
     ensures kept { result ≡ MEMORY → KeepsContents (contents string.old) (contents string.new) }
     ensures other { contents other.new ≡ contents other.old }
     ensures room { IsTrue string.old.full → HasRoomFor (contents string.old) (contents other.old).units → result ≡ DONE }
+    ensures capacity { (contents string.old).capacity ≤ (contents string.new).capacity }
 {
     let Ok(mut buf) = string.open(alloc) else {
         return MEMORY;
@@ -113,6 +118,7 @@ fn push_units(alloc: Global, buf: &mut Wtf8Buf<Global>, units: &[u16]) -> Result
     ensures ok { OnOk result (AppendsUnits buf.old units.now buf.new) }
     ensures kept { OnErr result (KeepsContents buf.old buf.new) }
     ensures room { HasRoomFor buf.old units.now → IsOk result }
+    ensures capacity { OnOk result (buf.old.capacity ≤ buf.new.capacity) }
 {
     match Wtf8Buf::from_ill_formed_utf16(alloc, units) {
         Ok(back) => buf.push_wtf8(back.as_wtf8()),
@@ -125,6 +131,7 @@ fn push_each(buf: &mut Wtf8Buf<Global>, units: &[u16]) -> Result<(), AllocError>
     ensures ok { OnOk result (AppendsUnits buf.old units.now buf.new) }
     ensures kept { OnErr result (KeepsContents buf.old buf.new) }
     ensures room { HasRoomFor buf.old units.now → IsOk result }
+    ensures capacity { OnOk result (buf.old.capacity ≤ buf.new.capacity) }
 {
     laws::law_equal_strings();
     let len = buf.as_wtf8().unit_len();

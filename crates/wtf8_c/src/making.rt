@@ -95,6 +95,7 @@ pub extern "C" fn wtf8_reserve(alloc: Global, string: &mut Wtf8String, additiona
     ensures code { (result ≡ DONE) ⊎ (result ≡ MEMORY) }
     ensures done { result ≡ DONE → length (contents string.new).bytes + additional ≤ (contents string.new).capacity }
     ensures kept { KeepsContents (contents string.old) (contents string.new) }
+    ensures capacity { (contents string.old).capacity ≤ (contents string.new).capacity }
 {
     let Ok(mut buf) = string.open(alloc) else {
         return MEMORY;

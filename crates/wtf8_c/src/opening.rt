@@ -36,6 +36,7 @@ impl Wtf8String {
     pub(crate) fn open(&mut self, alloc: Global) -> Result<Box<Wtf8Buf<Global>, Global>, AllocError>
         ensures units { IfOk result (λ b. b.value.units ≡ (contents self.old).units) }
         ensures bytes { IfOk result (λ b. b.value.bytes ≡ (contents self.old).bytes) }
+        ensures capacity { IfOk result (λ b. (contents self.old).capacity ≤ b.value.capacity) }
         ensures held { IsTrue self.old.full → IfOk result (λ b. b.value ≡ contents self.old) }
         ensures full { IsTrue self.old.full → IsOk result }
         ensures empty { OnOk result (IsFalse self.new.full) }

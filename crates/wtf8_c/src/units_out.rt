@@ -129,7 +129,7 @@ pub extern "C" fn wtf8_copy_lossy(
     len: &mut usize,
 ) -> i32
     ensures code { (result ≡ DONE) ⊎ ((result ≡ MEMORY) ⊎ (result ≡ TOO_SHORT)) }
-    ensures short { result ≡ TOO_SHORT → length out.old < length (contents string.old).bytes }
+    ensures short { result ≡ TOO_SHORT ↔ length out.old < length (contents string.old).bytes }
     ensures done { result ≡ DONE → out.new ≡ with_front (bytes (lossy_points (contents string.old).form.points)) out.old }
     ensures out { ¬ (result ≡ DONE) → out.new ≡ out.old }
     ensures len { ¬ (result ≡ MEMORY) → len.new ≡ length (contents string.old).bytes }
@@ -138,8 +138,16 @@ pub extern "C" fn wtf8_copy_lossy(
 {
     let held = string.take(alloc);
     let none = Wtf8Buf::new(alloc);
-    let code = match view(&held, &none).to_string_lossy(alloc) {
-        Ok(text) => write_text(text.as_str().as_bytes(), out, len),
+    let text = view(&held, &none);
+    // U+FFFD has the three bytes of a surrogate.
+    let needed = text.len();
+    if out.len() < needed {
+        string.put_back(held);
+        *len = needed;
+        return TOO_SHORT;
+    }
+    let code = match text.to_string_lossy(alloc) {
+        Ok(lossy) => write_text(lossy.as_str().as_bytes(), out, len),
         Err(_) => MEMORY,
     };
     string.put_back(held);

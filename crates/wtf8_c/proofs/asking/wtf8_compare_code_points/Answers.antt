@@ -1,0 +1,11 @@
+use Rattle.std.proofs.Common.{rules}
+use Rattle.wtf8_c.proofs.asking.wtf8_compare_code_points.Goals as goal
+
+pub returns-in-Less-clause-before : goal.returns-in-Less-clause-before
+returns-in-Less-clause-before c = search rules
+
+pub returns-in-Equal-clause-same : goal.returns-in-Equal-clause-same
+returns-in-Equal-clause-same c = search rules
+
+pub returns-clause-after : goal.returns-clause-after
+returns-clause-after c = search rules
