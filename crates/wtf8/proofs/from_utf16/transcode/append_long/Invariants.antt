@@ -1,0 +1,13 @@
+use Rattle.wtf8.proofs.Common.{◌+◌, ◌-◌, ◌≤◌, length}
+use Rattle.wtf8.specs.private.ConvertedPrefix.{IsReadTo}
+use Rattle.wtf8.proofs.from_utf16.transcode.append_long.Given as goal
+
+abbrev pub invariant-loop-read : goal.invariant-loop-read
+invariant-loop-read g l = record {
+  order : l.fn.from.at ≤ l.read.at;
+  within : l.read.at + 128 ≤ length l.v;
+  read : IsReadTo l.bytes.items l.v l.read.at l.read.is_utf8;
+}
+
+abbrev pub decreases-loop-read : goal.decreases-loop-read
+decreases-loop-read g l = length l.v - l.read.at
