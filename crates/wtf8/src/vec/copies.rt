@@ -4,7 +4,7 @@ ghost use Rattle.std.specs.Prelude.{◌≡◌, [], ◌++◌, ◌+◌, ◌*◌, �
 use std::alloc::{AllocError, Allocator};
 use std::simd::prelude::*;
 
-/// Shorter slices are copied as two overlapping blocks of at most 16 bytes, which takes 13 to 15 instructions less than
+/// Shorter slices are copied as two overlapping blocks of at most 16 bytes, which takes 11 to 15 instructions less than
 /// `extend_from_slice`: 188 for 203 of a clone of 5 bytes.
 const SHORT_COPY_LIMIT: usize = 32;
 
