@@ -16,7 +16,7 @@ use wtf8::{UnitMark, UnitSlice, Wtf8, Wtf8Buf, laws};
 pub(crate) const SPACING: usize = 128;
 
 /// In an ASCII text of at most `SPACING` units, units before this index are found from the front; from this index on,
-/// each index is itself a mark.
+/// each index is itself a mark. At the front of 40 units `starts_with_at` takes 172 instructions so, 227 from a mark.
 const FRONT: usize = 8;
 
 /// A view with its number of code units.

