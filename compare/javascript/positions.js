@@ -6,7 +6,7 @@
 const byteLength = (text) => Buffer.byteLength(text, 'utf8');
 
 // Whether an index is between the two halves of a surrogate pair.
-const dividesPair = (text, at) => at > 0 && text.codePointAt(at - 1) > 0xFFFF;
+const dividesPair = (text, at) => 0 < at && 0xFFFF < text.codePointAt(at - 1);
 
 // The number of units before the last boundary at or before an index.
 const roundedDown = (text, at) => (dividesPair(text, at) ? at - 1 : at);
@@ -72,7 +72,7 @@ const isJson = (text) => errorOf(text) === undefined;
 // The JSON string at the front of a text and what follows it, or undefined if there is none.
 function readJson(text) {
   if (text[0] !== '"') return undefined;
-  for (let end = text.indexOf('"', 1); end > 0; end = text.indexOf('"', end + 1)) {
+  for (let end = text.indexOf('"', 1); 0 < end; end = text.indexOf('"', end + 1)) {
     const front = text.slice(0, end + 1);
     if (isJson(front)) return [JSON.parse(front), text.slice(end + 1)];
   }

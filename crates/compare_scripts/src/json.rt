@@ -41,11 +41,7 @@ pub fn write_json_string(tape: &mut Tape<'_>, text: Wtf8<'_>) -> Result<(), Stop
 }
 
 /// Writes the units of a string that was read, and of the text after it.
-fn write_read(
-    tape: &mut Tape<'_>,
-    string: Wtf8Buf<Global>,
-    rest: Wtf8<'_>,
-) -> Result<(), Stop> {
+fn write_read(tape: &mut Tape<'_>, string: Wtf8Buf<Global>, rest: Wtf8<'_>) -> Result<(), Stop> {
     tape.write_word("read ")?;
     tape.write_units(&UnitText::from_wtf8(string))?;
     let mut after = Wtf8Buf::new(tape.alloc);
