@@ -1,6 +1,6 @@
 -- Reading the digits of a number one by one.
-use Rattle.std.proofs.Common.{◌≡◌, ℕ, ◌+◌, ◌*◌, ◌^◌, ◌<◌, ◌≤◌, ◌&&◌, ◌≢◌, false, Some, None, List, refl, length, get_or, take, drop, inl, inr, nat_le}
-use Rattle.std.proofs.Common.{arith, ap, sym, ◌∙◌, length-take}
+use Rattle.std.proofs.Common.{◌≡◌, ℕ, ◌+◌, ◌*◌, ◌^◌, ◌<◌, ◌≤◌, ◌&&◌, ◌≢◌, false, Some, None, List, refl, length, get_or, take, drop, inl}
+use Rattle.std.proofs.Common.{inr, nat_le, arith, ap, sym, ◌∙◌, length-take}
 use Rattle.std.proofs.Math.Nat.{pow-le-pow_right}
 use Rattle.std.proofs.lemmas.Bool.{lt-ltb, le-ltb, cases_Bool}
 use Rattle.std.proofs.lemmas.List.{drop_more}
@@ -33,7 +33,8 @@ module _ (base : ℕ) (word : List ℕ) (i n d : ℕ) (here : i < length word) (
 
   pub next_below : (most : ℕ) → 2 ≤ base → length word ≤ most → n ≡ digits_value base (take i word) → AllDigits base (take i word)
       → n * base + d < base ^ most
-  next_below most least few spelled digits = number_below base word (i + 1) (n * base + d) most least few (next_number spelled) (next_digits digits)
+  next_below most least few spelled digits =
+      number_below base word (i + 1) (n * base + d) most least few (next_number spelled) (next_digits digits)
 
   -- the bytes from index `i` on are all digits if and only if the bytes after it are
   pub next_rest : list_all (λ byte. is_digit byte base) (drop i word) ≡ list_all (λ byte. is_digit byte base) (drop (i + 1) word)

@@ -13,7 +13,8 @@ pub record AreParsed (line : List ℕ) (rest : List (List ℕ)) (calls : List Bu
   pub each : AllZip IsCall front calls
 
 -- one more word is parsed
-pub AreParsed-push : (line word : List ℕ) (rest : List (List ℕ)) (calls : List Build) (call : Build) → AreParsed line (word ∷ rest) calls → IsCall word call
+pub AreParsed-push : (line word : List ℕ) (rest : List (List ℕ)) (calls : List Build) (call : Build) → AreParsed line (word ∷ rest) calls
+    → IsCall word call
     → AreParsed line rest (calls ++ call ∷ [])
 AreParsed-push line word rest calls call r is = record {
   front = r.front ++ word ∷ [];

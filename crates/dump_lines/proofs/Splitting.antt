@@ -1,6 +1,7 @@
 -- Splitting at the first separator.
-use Rattle.std.proofs.Common.{◌≡◌, ◌≢◌, ℕ, ◌+◌, ◌<◌, ◌≤◌, ◌==◌, Bool, false, List, [], ◌∷◌, ◌++◌, length, get_or, take, drop, All, refl, sym, ap, ◌∙◌}
-use Rattle.std.proofs.Common.{inl, inr, arith, eq-eqb, length-take-le, take-append-drop, take_all, Option, Some, None, IfNone, unwrap_or, subst}
+use Rattle.std.proofs.Common.{◌≡◌, ◌≢◌, ℕ, ◌+◌, ◌<◌, ◌≤◌, ◌==◌, Bool, false, List, [], ◌∷◌, ◌++◌, length, get_or, take, drop, All, refl}
+use Rattle.std.proofs.Common.{sym, ap, ◌∙◌, inl, inr, arith, eq-eqb, length-take-le, take-append-drop, take_all, Option, Some, None, IfNone}
+use Rattle.std.proofs.Common.{unwrap_or, subst}
 use Rattle.std.specs.Borrow.{Bor}
 use Rattle.std.specs.List.{slice_split, onto_first}
 use Rattle.std.proofs.lemmas.Bool.{cases_Bool, ne_eqb}
@@ -21,13 +22,16 @@ module _ (separator : ℕ) (xs : List ℕ) (i : ℕ) (none : (k : ℕ) → k < i
   pub slice_split-at_separator : i < length xs → get_or xs i 0 ≡ separator
       → slice_split (λ b. b == separator) xs ≡ take i xs ∷ slice_split (λ b. b == separator) (drop (i + 1) xs)
   slice_split-at_separator lt is =
-      let parts : xs ≡ take i xs ++ get_or xs i 0 ∷ drop (i + 1) xs = sym (take-append-drop i xs) ∙ ap (λ zs. take i xs ++ zs) (drop_more xs i 0 lt) in
+      let parts : xs ≡ take i xs ++ get_or xs i 0 ∷ drop (i + 1) xs =
+      sym (take-append-drop i xs) ∙ ap (λ zs. take i xs ++ zs) (drop_more xs i 0 lt) in
       ap (slice_split (λ b. b == separator)) parts
-      ∙ slice_split_at (λ b. b == separator) (take i xs) (get_or xs i 0) (drop (i + 1) xs) (no_separator_in_prefix (omega arith)) (eq-eqb _ _ is)
+      ∙ slice_split_at (λ b. b == separator) (take i xs) (get_or xs i 0) (drop (i + 1) xs) (no_separator_in_prefix (omega arith))
+      (eq-eqb _ _ is)
 
   -- if `i` is the length, there is one part
   pub slice_split-no_separator : i ≡ length xs → slice_split (λ b. b == separator) xs ≡ xs ∷ []
-  slice_split-no_separator end = slice_split_none _ xs (subst (All (λ b. (b == separator) ≡ false)) (take_all i xs (omega (arith, end))) (no_separator_in_prefix (omega (arith, end))))
+  slice_split-no_separator end = slice_split_none _ xs
+      (subst (All (λ b. (b == separator) ≡ false)) (take_all i xs (omega (arith, end))) (no_separator_in_prefix (omega (arith, end))))
 
 -- splitting gives at least one part
 slice_split-nonempty : (p : ℕ → Bool) (xs : List ℕ) → (first : List ℕ) × (rest : List (List ℕ)) × (slice_split p xs ≡ first ∷ rest)
@@ -40,7 +44,8 @@ slice_split-nonempty p (x ∷ xs) =
     ]
 
 -- a part before other parts is kept
-without_empty_end-cons : (part next : List ℕ) (parts : List (List ℕ)) → without_empty_end (part ∷ next ∷ parts) ≡ part ∷ without_empty_end (next ∷ parts)
+without_empty_end-cons : (part next : List ℕ) (parts : List (List ℕ))
+    → without_empty_end (part ∷ next ∷ parts) ≡ part ∷ without_empty_end (next ∷ parts)
 without_empty_end-cons [] next parts = refl
 without_empty_end-cons (b ∷ bs) next parts = refl
 
@@ -54,7 +59,8 @@ pub lines-first : (bytes line : List ℕ) (after : Option (Bor (List ℕ))) (end
     → slice_split (λ b. b == 10) bytes ≡ line ∷ parts_left 10 after
     → IfNone after (line ≡ bytes) → end.now ≡ [] → rest ≡ unwrap_or after end → lines bytes ≡ line ∷ lines rest.now
 lines-first bytes line None end rest h split whole empty is =
-    ap without_empty_end split ∙ without_empty_end-single line (λ e. h (sym whole ∙ e)) ∙ ap (λ r. line ∷ lines r) (sym empty ∙ ap (λ r. r.now) (sym is))
+    ap without_empty_end split ∙ without_empty_end-single line (λ e. h (sym whole ∙ e))
+    ∙ ap (λ r. line ∷ lines r) (sym empty ∙ ap (λ r. r.now) (sym is))
 lines-first bytes line (Some r) end rest h split whole empty is =
     let more = slice_split-nonempty (λ b. b == 10) r.now in
     ap without_empty_end (split ∙ ap (λ parts. line ∷ parts) more.2) ∙ without_empty_end-cons line more.0 more.1

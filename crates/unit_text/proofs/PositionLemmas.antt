@@ -1,6 +1,6 @@
 -- Marks of a text that became shorter, and the units before the position of a mark.
-use Rattle.std.proofs.Common.{◌≡◌, ◌≢◌, ℕ, ◌+◌, ◌-◌, ◌*◌, ◌/◌, ◌<◌, ◌≤◌, List, length, take, refl, sym, ap, ◌∙◌, subst, arith}
-use Rattle.std.proofs.Common.{Bool, false, Option, Some, None, IfSome, get_or}
+use Rattle.std.proofs.Common.{◌≡◌, ◌≢◌, ℕ, ◌+◌, ◌-◌, ◌*◌, ◌/◌, ◌<◌, ◌≤◌, List, length, take, refl, sym, ap, ◌∙◌, subst, arith, Bool, false}
+use Rattle.std.proofs.Common.{Option, Some, None, IfSome, get_or}
 use Rattle.std.proofs.lemmas.List.{length-take, length-take-le, get_or-take}
 use Rattle.wtf8.specs.Form.{IsForm}
 use Rattle.wtf8.specs.Laws.{EqualFormsHaveEqualUnits}
@@ -20,12 +20,16 @@ front_of_boundary u v k b same =
     subst (IsFront u k) (same (units b.front) front) front
 
 -- the units before a mark, also in another list that is the same
-pub front_of_mark : (u v : List ℕ) (k m n : ℕ) → u ≡ v → m ≡ n → IsBoundary u k → ((x : List ℕ) → IsFront u k x → x ≡ take m u) → IsFront v k (take n v)
-front_of_mark u v k m n e units b same = subst (λ w. IsFront w k (take n w)) e (subst (λ i. IsFront u k (take i u)) units (front_of_boundary u (take m u) k b same))
+pub front_of_mark : (u v : List ℕ) (k m n : ℕ) → u ≡ v → m ≡ n → IsBoundary u k → ((x : List ℕ) → IsFront u k x → x ≡ take m u)
+    → IsFront v k (take n v)
+front_of_mark u v k m n e units b same =
+    subst (λ w. IsFront w k (take n w)) e (subst (λ i. IsFront u k (take i u)) units (front_of_boundary u (take m u) k b same))
 
 -- if no mark is missing, a mark before the kept mark of index `low` has at most `(low + 1) * spacing` units
-pub units_before_next : MarksAreInOneOrder → (w u : List ℕ) (marks : List UnitMark) (is_incomplete : Bool) → IsForm w u → AreMarks w u marks is_incomplete → length w ≢ length u
-    → is_incomplete ≡ false → (low position : ℕ) (d : UnitMark) → low ≤ length marks → (low < length marks → position < (get_or marks low d).position)
+pub units_before_next : MarksAreInOneOrder → (w u : List ℕ) (marks : List UnitMark) (is_incomplete : Bool) → IsForm w u
+    → AreMarks w u marks is_incomplete → length w ≢ length u
+    → is_incomplete ≡ false → (low position : ℕ) (d : UnitMark) → low ≤ length marks
+    → (low < length marks → position < (get_or marks low d).position)
     → (k n : ℕ) → IsMark w u k n → k ≤ position → n ≤ (low + 1) * spacing
 units_before_next order w u marks is_incomplete f m not_ascii granted low position d within next k n mark l =
     let before_next : low < length marks → n ≤ (low + 1) * spacing = λ h.
@@ -40,15 +44,18 @@ units_before_next order w u marks is_incomplete f m not_ascii granted low positi
 
 module _ (equal : EqualCountsAreMarks) (cut : MarksStayInFront) (same : EqualFormsHaveEqualUnits) where
   -- the first units of a string with as many bytes as units have as many bytes as units
-  equal_counts_of_front : (x w u : List ℕ) (n : ℕ) → IsForm x u → IsForm w (take n u) → n ≤ length u → length x ≡ length u → length w ≡ length (take n u)
+  equal_counts_of_front : (x w u : List ℕ) (n : ℕ) → IsForm x u → IsForm w (take n u) → n ≤ length u → length x ≡ length u
+      → length w ≡ length (take n u)
   equal_counts_of_front x w u n f g within e =
       let mark = equal x u n f e (omega (arith, e, within)) in
       let front : w ≡ take n x = (same w (take n x) (take n u) (take n u) g mark.before).1 refl in
       ap length front ∙ (length-take-le n x (omega (arith, e, within)) ∙ sym (length-take-le n u within))
 
   -- the kept marks before the last unit of a text that became shorter are its marks
-  AreMarks-truncate : (old : UnitString) (new : Wtf8) (n : ℕ) → n ≤ length old.units → view_units new ≡ take n old.units → (marks : List UnitMark) (is_incomplete : Bool)
-      → AreMarks old.bytes old.units marks is_incomplete → AreMarks new.bytes.now (view_units new) (take ((n - 1) / spacing) marks) is_incomplete
+  AreMarks-truncate : (old : UnitString) (new : Wtf8) (n : ℕ) → n ≤ length old.units → view_units new ≡ take n old.units
+      → (marks : List UnitMark) (is_incomplete : Bool)
+      → AreMarks old.bytes old.units marks is_incomplete
+      → AreMarks new.bytes.now (view_units new) (take ((n - 1) / spacing) marks) is_incomplete
   AreMarks-truncate old new n within e marks is_incomplete m =
       let count = (n - 1) / spacing in
       let form : IsForm new.bytes.now (take n old.units) = subst (IsForm new.bytes.now) e (view_form new) in
@@ -62,18 +69,21 @@ module _ (equal : EqualCountsAreMarks) (cut : MarksStayInFront) (same : EqualFor
             let units_before : mark.units < n = omega (arith, own.at_most, before) in
             subst (IsKept new.bytes.now (view_units new) ((k + 1) * spacing)) (sym (get_or-take count marks k d before)) (record {
               is_mark = subst (λ u. IsMark new.bytes.now u mark.position mark.units) (sym e)
-                  (cut new.bytes.now old.bytes old.units mark.position mark.units n old.form form (omega (arith, units_before)) within own.is_mark);
+                  (cut new.bytes.now old.bytes old.units mark.position mark.units n old.form form
+                  (omega (arith, units_before)) within own.is_mark);
               at_most = own.at_most;
               at_least = own.at_least;
               before_last = omega (arith, units_before, long);
             });
         all = λ granted not_ascii number l.
-            let old_not_ascii : length old.bytes ≢ length old.units = λ s. not_ascii (equal_counts_of_front old.bytes new.bytes.now old.units n old.form form within s ∙ sym (ap length e)) in
+            let old_not_ascii : length old.bytes ≢ length old.units =
+            λ s. not_ascii (equal_counts_of_front old.bytes new.bytes.now old.units n old.form form within s ∙ sym (ap length e)) in
             let enough = m.all granted old_not_ascii number (omega (arith, l, long, within)) in
             omega (arith, length-take count marks, enough, l, long);
       }
 
-  pub AreMarks-truncated : {X : Type 0} (kept : Option X) (items : X → List UnitMark) (is_incomplete : X → Bool) (old : UnitString) (new : Wtf8) (n : ℕ) → n ≤ length old.units
+  pub AreMarks-truncated : {X : Type 0} (kept : Option X) (items : X → List UnitMark) (is_incomplete : X → Bool) (old : UnitString)
+      (new : Wtf8) (n : ℕ) → n ≤ length old.units
       → view_units new ≡ take n old.units → IfSome kept (λ k. AreMarks old.bytes old.units (items k) (is_incomplete k))
       → IfSome kept (λ k. AreMarks new.bytes.now (view_units new) (take ((n - 1) / spacing) (items k)) (is_incomplete k))
   AreMarks-truncated None items is_incomplete old new n within e h = h

@@ -95,7 +95,8 @@ EachCallFits u (call ∷ calls) v capacity = (mid : List ℕ) × CallFits u call
 -- For each `Reserve n` with no truncation after it in the list, the length of the form of the units that the calls
 -- before it leave, plus `n`, is at most `capacity`.
 abbrev pub LeavesReserved : List ℕ → List Build → ℕ → Type 0
-LeavesReserved u calls capacity = (front back : List Build) (n : ℕ) (v : List ℕ) (r : ℕ) → calls ≡ front ++ Reserve n ∷ back → All IsNoTruncation back
+LeavesReserved u calls capacity =
+    (front back : List Build) (n : ℕ) (v : List ℕ) (r : ℕ) → calls ≡ front ++ Reserve n ∷ back → All IsNoTruncation back
     → Run u front v r → FitWithin v n capacity
 
 -- The calls take the units `u` to exactly one list of units, with exactly one count of refused truncations.

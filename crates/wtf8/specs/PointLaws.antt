@@ -18,11 +18,13 @@ DrainedPointsAreLeft = (left : List ℕ) (points : List CodePoint) → Drains St
 
 -- `take(n)` of an iterator over code points yields, until `None`, the first `n` that the iterator had left.
 abbrev pub DrainedPointsAreTaken : Type 0
-DrainedPointsAreTaken = (s : Take (List ℕ)) (points : List CodePoint) → Drains (take_steps StepsPoint) s points → numbers points ≡ take (take_count s) (take_source s)
+DrainedPointsAreTaken = (s : Take (List ℕ)) (points : List CodePoint) → Drains (take_steps StepsPoint) s points
+    → numbers points ≡ take (take_count s) (take_source s)
 
 -- `skip(n)` of an iterator over code points yields, until `None`, what the iterator had left after the first `n`.
 abbrev pub DrainedPointsAreAfterSkip : Type 0
-DrainedPointsAreAfterSkip = (s : Skip (List ℕ)) (points : List CodePoint) → Drains (skip_steps StepsPoint) s points → numbers points ≡ drop (skip_count s) (skip_source s)
+DrainedPointsAreAfterSkip = (s : Skip (List ℕ)) (points : List CodePoint) → Drains (skip_steps StepsPoint) s points
+    → numbers points ≡ drop (skip_count s) (skip_source s)
 
 -- A collection made of an iterator over code points has exactly what the iterator had left.
 abbrev pub CollectedPointsAreLeft : Type 0
@@ -30,8 +32,10 @@ CollectedPointsAreLeft = (left : List ℕ) (points : List CodePoint) → DrainsI
 
 -- A collection made of `take(n)` of an iterator over code points has the first `n` that the iterator had left.
 abbrev pub CollectedPointsAreTaken : Type 0
-CollectedPointsAreTaken = (s : Take (List ℕ)) (points : List CodePoint) → DrainsIf (take_steps StepsPoint) ⊤ s points → numbers points ≡ take (take_count s) (take_source s)
+CollectedPointsAreTaken = (s : Take (List ℕ)) (points : List CodePoint) → DrainsIf (take_steps StepsPoint) ⊤ s points
+    → numbers points ≡ take (take_count s) (take_source s)
 
 -- A collection made of `skip(n)` of an iterator over code points has what the iterator had left after the first `n`.
 abbrev pub CollectedPointsAreAfterSkip : Type 0
-CollectedPointsAreAfterSkip = (s : Skip (List ℕ)) (points : List CodePoint) → DrainsIf (skip_steps StepsPoint) ⊤ s points → numbers points ≡ drop (skip_count s) (skip_source s)
+CollectedPointsAreAfterSkip = (s : Skip (List ℕ)) (points : List CodePoint) → DrainsIf (skip_steps StepsPoint) ⊤ s points
+    → numbers points ≡ drop (skip_count s) (skip_source s)

@@ -20,7 +20,8 @@ NoneIsBeyondEnd = (w u : List ℕ) (k : ℕ) → IsForm w u → IsBoundary u k �
 
 -- Both sides of a byte below 0x80 are code point boundaries.
 abbrev pub AsciiIsBetweenBoundaries : Type 0
-AsciiIsBetweenBoundaries = (w u : List ℕ) (k : ℕ) → IsForm w u → k < length w → slice_index w k < 0x80 → IsBoundary u k × IsBoundary u (k + 1)
+AsciiIsBetweenBoundaries =
+    (w u : List ℕ) (k : ℕ) → IsForm w u → k < length w → slice_index w k < 0x80 → IsBoundary u k × IsBoundary u (k + 1)
 
 -- A byte below 0x80 is one unit of its own value, between the units before it and the units after it.
 abbrev pub AsciiIsOneUnit : Type 0

@@ -29,7 +29,8 @@ EqualViewsHaveEqualUnits = (s t : Wtf8) → (s.bytes.now ≡ t.bytes.now) ↔ (v
 -- If no lead at the end of `s` meets a trail at the start of `t`, a string with the units of `s` and then `t` has the
 -- bytes of `s` and then `t`.
 abbrev pub StringsAreJoined : Type 0
-StringsAreJoined = (s t both : UnitString) → both.units ≡ s.units ++ t.units → ¬ (MeetsAsPair s.units t.units) → both.bytes ≡ s.bytes ++ t.bytes
+StringsAreJoined =
+    (s t both : UnitString) → both.units ≡ s.units ++ t.units → ¬ (MeetsAsPair s.units t.units) → both.bytes ≡ s.bytes ++ t.bytes
 
 -- If a lead at the end of `s` meets a trail at the start of `t`, a string with the units of `s` and then `t` has the
 -- bytes of `s` without the last three, the bytes of the pair, and the bytes of `t` without the first three.

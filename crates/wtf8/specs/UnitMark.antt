@@ -34,7 +34,8 @@ MarksStay = (w x u v : List ℕ) (k n : ℕ) → IsForm w u → IsForm x (u ++ v
 
 -- A mark within the first `n` units of a string is a mark of the string of these units.
 abbrev pub MarksStayInFront : Type 0
-MarksStayInFront = (w x u : List ℕ) (k m n : ℕ) → IsForm x u → IsForm w (take n u) → m ≤ n → n ≤ length u → IsMark x u k m → IsMark w (take n u) k m
+MarksStayInFront =
+    (w x u : List ℕ) (k m n : ℕ) → IsForm x u → IsForm w (take n u) → m ≤ n → n ≤ length u → IsMark x u k m → IsMark w (take n u) k m
 
 -- A cut at a mark divides no pair.
 abbrev pub MarksDivideNoPair : Type 0

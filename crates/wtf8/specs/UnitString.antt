@@ -29,7 +29,8 @@ IsString-prop p = ×_prop (IsForm-prop p.1 p.0) le_prop
 -- The coding of a `UnitString` by its parts, which the library's `Model` asks for.
 abbrev pub unit_string_code : Coded UnitString
 unit_string_code = code_by ((p : Numbers) × IsString p) (coded_sub
-    (code_by (List ℕ × (List ℕ × ℕ)) (coded× (coded_list coded_ℕ) (coded× (coded_list coded_ℕ) coded_ℕ)) (λ p. (p.0, (p.1, p.2))) (λ q. (q.0, q.1.0, q.1.1))
+    (code_by (List ℕ × (List ℕ × ℕ)) (coded× (coded_list coded_ℕ) (coded× (coded_list coded_ℕ) coded_ℕ)) (λ p. (p.0, (p.1, p.2)))
+    (λ q. (q.0, q.1.0, q.1.1))
     (λ _. refl)) IsString IsString-prop) (λ s. ((s.units, s.bytes, s.capacity), (s.form, s.fits)))
     (λ q. record { units = q.0.0; bytes = q.0.1; form = q.1.0; capacity = q.0.2; fits = q.1.1 }) (λ _. refl)
 

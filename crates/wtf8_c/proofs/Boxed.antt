@@ -9,4 +9,8 @@ use Rattle.wtf8.proofs.strings.buf.Wtf8Buf.TheLaws as buf_laws
 use Rattle.wtf8_c.specs.Ownership.{Held}
 
 abbrev pub E : Bx
-E = record { row = Held; laws = buf_laws.the_row_laws heap.the_row ghosts heap_laws.the_row_laws; al = record { row = heap.the_row; laws = heap_laws.the_row_laws; g = ghosts; d = dict; drops = impl [] tnil dnil } }
+E = record {
+  row = Held;
+  laws = buf_laws.the_row_laws heap.the_row ghosts heap_laws.the_row_laws;
+  al = record { row = heap.the_row; laws = heap_laws.the_row_laws; g = ghosts; d = dict; drops = impl [] tnil dnil };
+}

@@ -16,7 +16,8 @@ no_units s e =
     sym s.form.reads.same_units ∙ ap units (no_points h e)
 
 -- the front of the empty string is empty
-pub front_of_nothing : (s t : UnitString) (k : ℕ) → s.units ≡ [] → s.bytes ≡ [] → t.bytes ≡ take k s.bytes → IsFront s.units k t.units → IsFront [] k []
+pub front_of_nothing : (s t : UnitString) (k : ℕ) → s.units ≡ [] → s.bytes ≡ [] → t.bytes ≡ take k s.bytes → IsFront s.units k t.units
+    → IsFront [] k []
 front_of_nothing s t k u e f h =
     let none : take k s.bytes ≡ [] = ap (take k) e ∙ take-nil k in
     subst (λ (x : List ℕ). IsFront x k []) u (subst (λ (y : List ℕ). IsFront s.units k y) (no_units t (f ∙ none)) h)

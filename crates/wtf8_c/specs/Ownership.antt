@@ -15,7 +15,10 @@ Held = buf.the_row heap.the_row ghosts
 
 -- A full string owns what a `Box<Wtf8Buf<Global>>` at its pointer owns, an empty one nothing.
 abbrev pub string_owns : Bool → Ptr → Held.Denot → Fml
-string_owns full at s = elim full [ true ↦ box_owns (ghosts.dealloc_token (record { memory = record { seal = tt } })) Held at s | false ↦ ftrue ]
+string_owns full at s = elim full [
+  | true ↦ box_owns (ghosts.dealloc_token (record { memory = record { seal = tt } })) Held at s
+  | false ↦ ftrue
+]
 
 -- the coding of a buffer
 abbrev pub held_coded : Coded Held.Denot

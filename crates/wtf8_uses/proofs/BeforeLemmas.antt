@@ -7,5 +7,6 @@ use Rattle.wtf8.specs.Order.{Before}
 use Rattle.wtf8.specs.StringLaws.{ComparisonIsOrder}
 
 -- the result of a comparison says which list is before the other
-pub MatchOrdering-slice_cmp : ComparisonIsOrder → (c d : List ℕ) (r : Ordering) → slice_cmp nat_cmp c d ≡ r → MatchOrdering r (Before c d) (c ≡ d) (Before d c)
+pub MatchOrdering-slice_cmp : ComparisonIsOrder → (c d : List ℕ) (r : Ordering) → slice_cmp nat_cmp c d ≡ r
+    → MatchOrdering r (Before c d) (c ≡ d) (Before d c)
 MatchOrdering-slice_cmp law c d r e = subst (λ s. MatchOrdering s (Before c d) (c ≡ d) (Before d c)) e (law c d)

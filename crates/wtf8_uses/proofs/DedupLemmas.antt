@@ -22,11 +22,13 @@ module _ (law : EqualBuffersHaveEqualUnits) where
       let u = bytes_decides s.units t.units in
       both_ways _ _ (λ e. u.1 ((law s t).0 (b.0 e))) (λ e. b.1 ((law s t).1 (u.0 e)))
 
-  units-dedup_from : (s : UnitString) (xs : List UnitString) → units_of_strings (dedup_from have_equal_bytes s xs) ≡ dedup_from are_equal s.units (units_of_strings xs)
+  units-dedup_from : (s : UnitString) (xs : List UnitString)
+      → units_of_strings (dedup_from have_equal_bytes s xs) ≡ dedup_from are_equal s.units (units_of_strings xs)
   units-dedup_from s [] = refl
   units-dedup_from s (x ∷ xs) =
       let us = units_of_strings xs in
-      rw (are_equal-bytes_as_units x s) (elim (are_equal x.units s.units) as (λ b. units_of_strings (cond b (dedup_from have_equal_bytes s xs) (s ∷ dedup_from have_equal_bytes x xs))
+      rw (are_equal-bytes_as_units x s) (elim (are_equal x.units s.units) as
+      (λ b. units_of_strings (cond b (dedup_from have_equal_bytes s xs) (s ∷ dedup_from have_equal_bytes x xs))
       ≡ cond b (dedup_from are_equal s.units us) (s.units ∷ dedup_from are_equal x.units us)) [
         | true ↦ units-dedup_from s xs
         | false ↦ ap (λ ys. s.units ∷ ys) (units-dedup_from x xs)
@@ -38,5 +40,6 @@ module _ (law : EqualBuffersHaveEqualUnits) where
   units-dedup (x ∷ xs) = units-dedup_from x xs
 
 -- strings compare by bytes as by code points
-pub slice_cmp-bytes_as_points : BytesCompareAsPoints → (s t : UnitString) → slice_cmp nat_cmp s.bytes t.bytes ≡ slice_cmp nat_cmp s.form.points t.form.points
+pub slice_cmp-bytes_as_points : BytesCompareAsPoints → (s t : UnitString)
+    → slice_cmp nat_cmp s.bytes t.bytes ≡ slice_cmp nat_cmp s.form.points t.form.points
 slice_cmp-bytes_as_points law s t = cc (law s.form.points t.form.points, s.form.encoded, t.form.encoded)

@@ -1,5 +1,6 @@
 -- Searching a list from front to back.
-use Rattle.std.proofs.Common.{◌≡◌, ℕ, ◌+◌, ◌<◌, ◌≤◌, ◌↔◌, IsTrue, false, List, ◌++◌, Option, None, Some, MatchOption, length, length-append, take, drop, min, sym, ap, subst, ◌∙◌, arith}
+use Rattle.std.proofs.Common.{◌≡◌, ℕ, ◌+◌, ◌<◌, ◌≤◌, ◌↔◌, IsTrue, false, List, ◌++◌, Option, None, Some, MatchOption, length, length-append}
+use Rattle.std.proofs.Common.{take, drop, min, sym, ap, subst, ◌∙◌, arith}
 use Rattle.std.proofs.lemmas.Bool.{false≢true}
 use Rattle.std.proofs.Math.Arith.{lt_of_le-ne}
 use Rattle.std.proofs.Math.Seq.{drop-append_seam}
@@ -25,14 +26,16 @@ IsLastBelow P end found = MatchOption found ((k : ℕ) → k < end → ¬ (P k))
 -- if `P` fails at `end`, the last index does not change
 pub IsLastBelow-absent : (P : ℕ → Type 0) (end : ℕ) (found : Option ℕ) → IsLastBelow P end found → ¬ (P end) → IsLastBelow P (end + 1) found
 IsLastBelow-absent P end None none here = λ k below. none_below-suc P 0 end (λ j _ l. none j l) here k (omega arith) below
-IsLastBelow-absent P end (Some f) i here = (omega (arith, i.0), i.1, λ k after below. none_below-suc P (f + 1) end (λ j l m. i.2 j (omega arith) m) here k (omega arith) below)
+IsLastBelow-absent P end (Some f) i here =
+    (omega (arith, i.0), i.1, λ k after below. none_below-suc P (f + 1) end (λ j l m. i.2 j (omega arith) m) here k (omega arith) below)
 
 pub IsLastBelow-here : (P : ℕ → Type 0) (end : ℕ) → P end → IsLastBelow P (end + 1) (Some end)
 IsLastBelow-here P end here = (omega arith, here, λ k after below. absurd (omega arith))
 
 -- the first `n` numbers of `u` end with `s` exactly if `s` occurs at the index `length s` before their end
 module _ (n : ℕ) (u s : List ℕ) where
-  pub ends_there : (begin : ℕ) → begin + length s ≡ min n (length u) → (take (length s) (drop begin u) ≡ s) ↔ ((front : List ℕ) × (take n u ≡ front ++ s))
+  pub ends_there : (begin : ℕ) → begin + length s ≡ min n (length u)
+      → (take (length s) (drop begin u) ≡ s) ↔ ((front : List ℕ) × (take n u ≡ front ++ s))
   ends_there begin e =
       let whole = take-append-drop begin (take n u) in
       let end = ap (drop begin) (sym (take_min n u)) ∙ (ap (λ m. drop begin (take m u)) (sym e) ∙ drop-take begin (length s) u) in (

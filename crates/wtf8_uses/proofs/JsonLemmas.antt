@@ -24,4 +24,5 @@ continues_itself t = record { more = []; joined = sym (append-nil t) }
 
 -- a text begins with what its front begins with
 pub continues_trans : {a b c : List ℕ} → Continues a b → Continues b c → Continues a c
-continues_trans {a = a} x y = record { more = x.more ++ y.more; joined = y.joined ∙ (ap (λ t. t ++ y.more) x.joined ∙ append_assoc a x.more y.more) }
+continues_trans {a = a} x y =
+    record { more = x.more ++ y.more; joined = y.joined ∙ (ap (λ t. t ++ y.more) x.joined ∙ append_assoc a x.more y.more) }

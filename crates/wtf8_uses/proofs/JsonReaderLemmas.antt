@@ -1,12 +1,14 @@
 -- Characters and escapes of JSON strings: each text begins with at most one.
-use Rattle.std.proofs.Common.{inl, inr, ◌≡◌, ◌≤◌, ◌+◌, ℕ, List, [], ◌∷◌, ◌++◌, Some, length, refl, sym, ap, ◌∙◌, subst, append_assoc, append-nil, arith}
+use Rattle.std.proofs.Common.{inl, inr, ◌≡◌, ◌≤◌, ◌+◌, ℕ, List, [], ◌∷◌, ◌++◌, Some, length, refl, sym, ap, ◌∙◌, subst, append_assoc}
+use Rattle.std.proofs.Common.{append-nil, arith}
 use Rattle.std.proofs.lemmas.Bool.{cases_eq}
 use Rattle.std.proofs.lemmas.Bool.Decides.{nat_tests}
 use Rattle.std.proofs.lemmas.Grind.{flat_map-append}
 use Rattle.std.proofs.lemmas.List.{length-append}
 use Rattle.wtf8.specs.Form.{bytes, encoding}
 use Rattle.wtf8.specs.Unicode.{units_of}
-use Rattle.wtf8_uses.specs.JsonString.{BeginsWithCharacter, BeginsWithCharacters, BeginsWithDigit, BeginsWithQuote, BeginsWithString, BeginsWithUnit, EndsEscape, FollowsBytes, escaped}
+use Rattle.wtf8_uses.specs.JsonString.{BeginsWithCharacter, BeginsWithCharacters, BeginsWithDigit, BeginsWithQuote, BeginsWithString}
+use Rattle.wtf8_uses.specs.JsonString.{BeginsWithUnit, EndsEscape, FollowsBytes, escaped}
 
 -- equal texts that begin with a digit go on alike
 pub digit_after : {text other a b : List ℕ} {v w : ℕ} → text ≡ other → BeginsWithDigit text v a → BeginsWithDigit other w b → a ≡ b
@@ -48,16 +50,19 @@ no_quote (BeginsWithCharacter.escape l rest j is s) q = absurd (omega (arith, is
 pub characters_more : {text u rest after : List ℕ} {p : ℕ} → BeginsWithCharacters text u rest → BeginsWithCharacter rest p after
     → BeginsWithCharacters text (u ++ units_of p) after
 characters_more {after = after} {p = p} (BeginsWithCharacters.none text) x =
-    subst (λ v. BeginsWithCharacters text v after) (append-nil (units_of p)) (BeginsWithCharacters.more text _ [] _ p x (BeginsWithCharacters.none _))
+    subst (λ v. BeginsWithCharacters text v after) (append-nil (units_of p))
+    (BeginsWithCharacters.more text _ [] _ p x (BeginsWithCharacters.none _))
 characters_more {after = end} {p = p} (BeginsWithCharacters.more text rest u after q y ys) x =
-    subst (λ v. BeginsWithCharacters text v end) (sym (append_assoc (units_of q) u (units_of p))) (BeginsWithCharacters.more text rest _ _ q y (characters_more ys x))
+    subst (λ v. BeginsWithCharacters text v end) (sym (append_assoc (units_of q) u (units_of p)))
+    (BeginsWithCharacters.more text rest _ _ q y (characters_more ys x))
 
 -- what follows some of the characters before a quotation mark begins with the others
 pub record Others (rest end : List ℕ) : Type 0 where
   pub units : List ℕ
   pub characters : BeginsWithCharacters rest units end
 
-pub others : {text u v rest end after : List ℕ} → BeginsWithCharacters text u rest → BeginsWithCharacters text v end → BeginsWithQuote end after → Others rest end
+pub others : {text u v rest end after : List ℕ} → BeginsWithCharacters text u rest → BeginsWithCharacters text v end
+    → BeginsWithQuote end after → Others rest end
 others (BeginsWithCharacters.none text) ys q = record { units = _; characters = ys }
 others (BeginsWithCharacters.more text rest u after p x xs) (BeginsWithCharacters.none same) q = absurd (no_quote x q)
 others (BeginsWithCharacters.more text rest u after p x xs) (BeginsWithCharacters.more same other v end r y ys) q =
@@ -68,19 +73,23 @@ pub digit_at : {a b after : List ℕ} {v : ℕ} → a ≡ b → BeginsWithDigit 
 digit_at {after = after} {v = v} e x = subst (λ t. BeginsWithDigit t v after) e x
 
 -- after `u`, a text that does not begin with four digits is no rest of an escape
-pub no_unit_escape : (text rest : List ℕ) (l : ℕ) → text ≡ l ∷ rest → l ≡ 0x75 → ((unit : ℕ) (after : List ℕ) → ¬ (BeginsWithUnit rest unit after))
+pub no_unit_escape : (text rest : List ℕ) (l : ℕ) → text ≡ l ∷ rest → l ≡ 0x75
+    → ((unit : ℕ) (after : List ℕ) → ¬ (BeginsWithUnit rest unit after))
     → (p : ℕ) (after : List ℕ) → ¬ (EndsEscape text p after)
 no_unit_escape text rest l e is none p after (EndsEscape.letter m k t) = no_letter_u m _ (cc (e, k, is)) t
-no_unit_escape text rest l e is none p after (EndsEscape.unit m digits k are t) = none p after (subst (λ d. BeginsWithUnit d p after) (cc (e, k)) t)
+no_unit_escape text rest l e is none p after (EndsEscape.unit m digits k are t) =
+    none p after (subst (λ d. BeginsWithUnit d p after) (cc (e, k)) t)
 
 -- after a backslash, a text that does not begin with the rest of an escape is no character
 pub no_escape : (text rest : List ℕ) (l : ℕ) → text ≡ l ∷ rest → l ≡ 0x5C → ((p : ℕ) (after : List ℕ) → ¬ (EndsEscape rest p after))
     → (p : ℕ) (after : List ℕ) → ¬ (BeginsWithCharacter text p after)
 no_escape text rest l e is none p after (BeginsWithCharacter.unescaped k t) = t.no_backslash (cc (e, k, is))
-no_escape text rest l e is none p after (BeginsWithCharacter.escape m others k are t) = none p after (subst (λ d. EndsEscape d p after) (cc (e, k)) t)
+no_escape text rest l e is none p after (BeginsWithCharacter.escape m others k are t) =
+    none p after (subst (λ d. EndsEscape d p after) (cc (e, k)) t)
 
 -- where characters stop and there is no quotation mark, none comes after more characters
-pub no_others : {rest u end after : List ℕ} → ((p : ℕ) (a : List ℕ) → ¬ (BeginsWithCharacter rest p a)) → ((a : List ℕ) → ¬ (BeginsWithQuote rest a))
+pub no_others : {rest u end after : List ℕ} → ((p : ℕ) (a : List ℕ) → ¬ (BeginsWithCharacter rest p a))
+    → ((a : List ℕ) → ¬ (BeginsWithQuote rest a))
     → BeginsWithCharacters rest u end → ¬ (BeginsWithQuote end after)
 no_others no_more unclosed (BeginsWithCharacters.none text) q = unclosed _ q
 no_others no_more unclosed (BeginsWithCharacters.more text rest u after p x xs) q = no_more p rest x
@@ -90,7 +99,8 @@ pub no_string : {text start u rest : List ℕ} → BeginsWithQuote text start �
     → ((p : ℕ) (after : List ℕ) → ¬ (BeginsWithCharacter rest p after)) → ((after : List ℕ) → ¬ (BeginsWithQuote rest after))
     → (v after : List ℕ) → ¬ (BeginsWithString text v after)
 no_string {start = start} {rest = rest} opened characters no_more unclosed v after s =
-    no_others no_more unclosed (others characters (subst (λ t. BeginsWithCharacters t v s.end) (cc (s.opened.joined, opened.joined)) s.characters) s.closed).characters s.closed
+    no_others no_more unclosed (others characters
+    (subst (λ t. BeginsWithCharacters t v s.end) (cc (s.opened.joined, opened.joined)) s.characters) s.closed).characters s.closed
 
 -- the code points before `rest`
 pub record Front (text rest : List ℕ) : Type 0 where
@@ -110,7 +120,8 @@ front_of_digit x f = front_more x.joined f
 
 front_of_escape : {text rest after : List ℕ} {p : ℕ} → EndsEscape text p rest → Front rest after → Front text after
 front_of_escape (EndsEscape.letter l j s) f = front_more j f
-front_of_escape (EndsEscape.unit l ds j is s) f = front_more j (front_of_digit s.first (front_of_digit s.second (front_of_digit s.third (front_of_digit s.fourth f))))
+front_of_escape (EndsEscape.unit l ds j is s) f =
+    front_more j (front_of_digit s.first (front_of_digit s.second (front_of_digit s.third (front_of_digit s.fourth f))))
 
 front_of_character : {text rest after : List ℕ} {p : ℕ} → BeginsWithCharacter text p rest → Front rest after → Front text after
 front_of_character (BeginsWithCharacter.unescaped j s) f = front_more j f
@@ -122,21 +133,28 @@ front_of_characters (BeginsWithCharacters.none text) = front_itself refl
 front_of_characters (BeginsWithCharacters.more text rest u after p x xs) = front_of_character x (front_of_characters xs)
 
 -- the bytes of the front and those of the rest are all
-pub front_counted : {text rest : List ℕ} (w v : List ℕ) (f : Front text rest) → bytes text ≡ w → bytes rest ≡ v → length w ≡ length (bytes f.front) + length v
+pub front_counted : {text rest : List ℕ} (w v : List ℕ) (f : Front text rest) → bytes text ≡ w → bytes rest ≡ v
+    → length w ≡ length (bytes f.front) + length v
 front_counted {rest = rest} w v f e g =
-    ap length (sym e ∙ (ap bytes f.joined ∙ (flat_map-append encoding f.front rest ∙ ap (λ b. bytes f.front ++ b) g))) ∙ length-append (bytes f.front) v
+    ap length (sym e ∙ (ap bytes f.joined ∙ (flat_map-append encoding f.front rest ∙ ap (λ b. bytes f.front ++ b) g)))
+    ∙ length-append (bytes f.front) v
 
 -- the rest follows the bytes of the front
 pub front_follows : {text rest : List ℕ} (f : Front text rest) (n : ℕ) → length (bytes f.front) ≡ n → FollowsBytes text n rest
 front_follows f n e = record { front = f.front; joined = f.joined; counted = e }
 
 -- where neither characters nor a quotation mark follow, only a backslash is no control character
-pub backslash_stops : (text rest : List ℕ) (p : ℕ) → text ≡ p ∷ rest → 0x20 ≤ p → ((q : ℕ) (after : List ℕ) → ¬ (BeginsWithCharacter text q after))
+pub backslash_stops : (text rest : List ℕ) (p : ℕ) → text ≡ p ∷ rest → 0x20 ≤ p
+    → ((q : ℕ) (after : List ℕ) → ¬ (BeginsWithCharacter text q after))
     → ((after : List ℕ) → ¬ (BeginsWithQuote text after)) → p ≡ 0x5C
 backslash_stops text rest p e above no_more unclosed =
     elim (cases_eq p 0x5C) [
       | inl is ↦ is
       | inr other ↦
           absurd (no_more p rest (BeginsWithCharacter.unescaped e
-          record { no_control = above; no_quote = λ q. unclosed rest record { quote = p; joined = e; is_quote = q }; no_backslash = other }))
+          record {
+            no_control = above;
+            no_quote = λ q. unclosed rest record { quote = p; joined = e; is_quote = q };
+            no_backslash = other;
+          }))
     ]

@@ -1,5 +1,6 @@
 -- The starts of lines, found from the front of a string.
-use Rattle.std.proofs.Common.{◌≡◌, ◌≢◌, ℕ, ◌+◌, ◌≤◌, List, [], ◌∷◌, ◌++◌, length, drop, map, get_or, below_more, refl, sym, ap, ◌∙◌, subst, arith, length-append, length-drop, append_assoc}
+use Rattle.std.proofs.Common.{◌≡◌, ◌≢◌, ℕ, ◌+◌, ◌≤◌, List, [], ◌∷◌, ◌++◌, length, drop, map, get_or, below_more, refl, sym, ap, ◌∙◌, subst}
+use Rattle.std.proofs.Common.{arith, length-append, length-drop, append_assoc}
 use Rattle.std.proofs.lemmas.Bool.Decides.{nat_tests}
 use Rattle.std.proofs.lemmas.List.{drop-drop, map-append, get_or_append_left, get_or_push}
 use Rattle.wtf8.specs.UnitMark.{IsMark}
@@ -26,14 +27,18 @@ starts_after-other : (n x : ℕ) (w : List ℕ) → x ≢ 0x0A → starts_after 
 starts_after-other n x w other = grind (arith, nat_tests, other)
 
 -- no line starts after another unit
-pub starts_same : (starts : List ℕ) (n x : ℕ) (v w all : List ℕ) → v ≡ x ∷ w → x ≢ 0x0A → starts ++ starts_after n v ≡ all → starts ++ starts_after (n + 1) w ≡ all
+pub starts_same : (starts : List ℕ) (n x : ℕ) (v w all : List ℕ) → v ≡ x ∷ w → x ≢ 0x0A → starts ++ starts_after n v ≡ all
+    → starts ++ starts_after (n + 1) w ≡ all
 starts_same starts n x v w all e other known = ap (λ s. starts ++ s) (sym (ap (starts_after n) e ∙ starts_after-other n x w other)) ∙ known
 
 -- marks with one more are marks
-pub marks_more : (w u : List ℕ) (marks : List UnitMark) (mark : UnitMark) → AreMarksOf w u marks → IsMark w u mark.position mark.units → AreMarksOf w u (marks ++ mark ∷ [])
-marks_more w u marks mark old new = λ k d l. below_more (λ j. IsMark w u (get_or (marks ++ mark ∷ []) j d).position (get_or (marks ++ mark ∷ []) j d).units) (length marks)
+pub marks_more : (w u : List ℕ) (marks : List UnitMark) (mark : UnitMark) → AreMarksOf w u marks → IsMark w u mark.position mark.units
+    → AreMarksOf w u (marks ++ mark ∷ [])
+marks_more w u marks mark old new =
+    λ k d l. below_more (λ j. IsMark w u (get_or (marks ++ mark ∷ []) j d).position (get_or (marks ++ mark ∷ []) j d).units) (length marks)
     (λ j h. subst (λ (m : UnitMark). IsMark w u m.position m.units) (sym (get_or_append_left marks (mark ∷ []) d j h)) (old j d h))
-    (subst (λ (m : UnitMark). IsMark w u m.position m.units) (sym (get_or_push marks mark d (length marks) refl)) new) k (omega (arith, l, length-append marks (mark ∷ [])))
+    (subst (λ (m : UnitMark). IsMark w u m.position m.units) (sym (get_or_push marks mark d (length marks) refl)) new) k
+    (omega (arith, l, length-append marks (mark ∷ [])))
 
 -- the first start stays if others are appended
 pub first_more : (marks : List UnitMark) (mark : UnitMark) → StartsAtFront marks → StartsAtFront (marks ++ mark ∷ [])

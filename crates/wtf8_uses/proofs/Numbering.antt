@@ -1,6 +1,6 @@
 -- The chains of numbered lists after one more list is numbered.
-use Rattle.std.proofs.Common.{◌≡◌, ℕ, zero, suc, ◌+◌, ◌<◌, ◌≤◌, ◌↔◌, ◌⊎◌, inl, inr, Bool, true, false, cond, eqb, List, [], ◌∷◌, ◌++◌, length, slice_get, slice_index_or, Some, refl, sym}
-use Rattle.std.proofs.Common.{ap, subst, ◌∙◌, arith}
+use Rattle.std.proofs.Common.{◌≡◌, ℕ, zero, suc, ◌+◌, ◌<◌, ◌≤◌, ◌↔◌, ◌⊎◌, inl, inr, Bool, true, false, cond, eqb, List, [], ◌∷◌, ◌++◌}
+use Rattle.std.proofs.Common.{length, slice_get, slice_index_or, Some, refl, sym, ap, subst, ◌∙◌, arith}
 use Rattle.std.proofs.Math.Arith.{lt_of_le-ne}
 use Rattle.std.proofs.lemmas.Bool.Decides.{nat_tests}
 use Rattle.std.proofs.lemmas.Grind.{common_steps}
@@ -28,30 +28,36 @@ pub record IsReached (lists : List (List ℕ)) (v : List ℕ) (head : ℕ) : Typ
   pub last : (k : ℕ) (u : List ℕ) → k + 1 ≡ head → slice_get lists k ≡ Some u → hash_of u ≡ hash_of v
 
 -- `AreNumbered` for lists equal to the numbered ones
-pub AreNumbered-equal_lists : {S : Type 0} {m : HashMap ℕ ℕ S} {b c : List ℕ} {us vs : List (List ℕ)} → AreNumbered m b us → b ≡ c → us ≡ vs → AreNumbered m c vs
+pub AreNumbered-equal_lists : {S : Type 0} {m : HashMap ℕ ℕ S} {b c : List ℕ} {us vs : List (List ℕ)} → AreNumbered m b us → b ≡ c → us ≡ vs
+    → AreNumbered m c vs
 AreNumbered-equal_lists {m = m} {c = c} {us = us} old e f = subst (AreNumbered m c) f (subst (λ x. AreNumbered m x us) e old)
 
 -- if the list at index `head - 1` is not `v`, the search goes on at the next one in its chain
-pub IsReached-next : (us : List (List ℕ)) (u v : List ℕ) (k head e : ℕ) → k + 1 ≡ head → IsReached us v head → slice_get us k ≡ Some u → (u ≡ v → ⊥)
+pub IsReached-next : (us : List (List ℕ)) (u v : List ℕ) (k head e : ℕ) → k + 1 ≡ head → IsReached us v head → slice_get us k ≡ Some u
+    → (u ≡ v → ⊥)
     → IsChainHead us (hash_of u) k e → IsReached us v e
 IsReached-next us u v k head e is r at differ o =
     let hash = r.last k u is at in record {
       within = omega (arith, o.within, r.within, is);
-      before = λ j there. o.before j v (lt_of_le-ne (omega (arith, r.before j there, is)) (λ same. differ (slice_get-same us k u v at (subst (λ i. slice_get us i ≡ Some v) same there)))) there (sym hash);
+      before = λ j there. o.before j v (lt_of_le-ne (omega (arith, r.before j there, is))
+          (λ same. differ (slice_get-same us k u v at (subst (λ i. slice_get us i ≡ Some v) same there)))) there (sym hash);
       last = λ j w e there. o.last j w e there ∙ hash;
     }
 
 -- the list at index `k`, and the head of its hash's chain in the lists before it
-pub next_in_chain-is_head : {S : Type 0} {m : HashMap ℕ ℕ S} {nexts : List ℕ} {us : List (List ℕ)} → AreNumbered m nexts us → (k e : ℕ) → k < length us
+pub next_in_chain-is_head : {S : Type 0} {m : HashMap ℕ ℕ S} {nexts : List ℕ} {us : List (List ℕ)} → AreNumbered m nexts us → (k e : ℕ)
+    → k < length us
     → e ≡ slice_index_or nexts k e → (u : List ℕ) × (slice_get us k ≡ Some u) × IsChainHead us (hash_of u) k e
 next_in_chain-is_head {nexts = nexts} {us = us} old k e within is =
     let at = slice_get-get_or us k [] within in
     (slice_index_or us k [], at, old.nexts_are k e _ at (slice_get_read nexts (length us) k e (sym old.lengths) within is))
 
 -- a list occurs at one index only
-pub number_of_list-unique : {S : Type 0} {m : HashMap ℕ ℕ S} {nexts : List ℕ} {us : List (List ℕ)} → AreNumbered m nexts us → (k : ℕ) (v : List ℕ)
+pub number_of_list-unique : {S : Type 0} {m : HashMap ℕ ℕ S} {nexts : List ℕ} {us : List (List ℕ)} → AreNumbered m nexts us
+    → (k : ℕ) (v : List ℕ)
     → slice_get us k ≡ Some v → (n : ℕ) → (Some k ≡ Some n) ↔ (slice_get us n ≡ Some v)
-number_of_list-unique {us = us} old k v at n = (λ e. subst (λ j. slice_get us j ≡ Some v) (same_Some k n e) at, λ there. ap Some (old.distinct k n v at there))
+number_of_list-unique {us = us} old k v at n =
+    (λ e. subst (λ j. slice_get us j ≡ Some v) (same_Some k n e) at, λ there. ap Some (old.distinct k n v at there))
 
 module _ (us : List (List ℕ)) (v : List ℕ) where
   abbrev more : List (List ℕ)
@@ -64,8 +70,14 @@ module _ (us : List (List ℕ)) (v : List ℕ) where
   IsChainHead-of_front : (h limit head : ℕ) → limit ≤ length us → IsChainHead us h limit head → IsChainHead more h limit head
   IsChainHead-of_front h limit head l o = record {
     within = o.within;
-    before = λ k u below at same. elim (slice_get-push us v k u at) [ inl a ↦ o.before k u below a same | inr b ↦ absurd (omega (arith, b.0, below, l)) ];
-    last = λ k u is at. elim (slice_get-push us v k u at) [ inl a ↦ o.last k u is a | inr b ↦ absurd (omega (arith, b.0, is, o.within, l)) ];
+    before = λ k u below at same. elim (slice_get-push us v k u at) [
+      | inl a ↦ o.before k u below a same
+      | inr b ↦ absurd (omega (arith, b.0, below, l))
+    ];
+    last = λ k u is at. elim (slice_get-push us v k u at) [
+      | inl a ↦ o.last k u is a
+      | inr b ↦ absurd (omega (arith, b.0, is, o.within, l))
+    ];
   }
 
   -- the chain of another hash keeps its head
@@ -91,9 +103,13 @@ module _ (us : List (List ℕ)) (v : List ℕ) where
   }
 
   module _ {S : Type 0} (m n : HashMap ℕ ℕ S) (nexts : List ℕ) (h : ℕ) (is_hash : h ≡ hash_of v) (old : AreNumbered m nexts us)
-      (none : (k : ℕ) → slice_get us k ≡ Some v → ⊥) (put : (q : ℕ) → get nat_eq n q ≡ cond (eqb h q) (Some (length us + 1)) (get nat_eq m q)) where
-    heads-insert : (q : ℕ) (b : Bool) → eqb h q ≡ b → IsChainHead more q (length more) (unwrap_or (cond b (Some (length us + 1)) (get nat_eq m q)) 0)
-    heads-insert q true t = let e : hash_of v ≡ q = grind (arith, nat_tests, is_hash, t) in subst (λ x. IsChainHead more x (length more) (length us + 1)) e IsChainHead-pushed
+      (none : (k : ℕ) → slice_get us k ≡ Some v → ⊥)
+      (put : (q : ℕ) → get nat_eq n q ≡ cond (eqb h q) (Some (length us + 1)) (get nat_eq m q)) where
+    heads-insert : (q : ℕ) (b : Bool) → eqb h q ≡ b
+        → IsChainHead more q (length more) (unwrap_or (cond b (Some (length us + 1)) (get nat_eq m q)) 0)
+    heads-insert q true t =
+        let e : hash_of v ≡ q = grind (arith, nat_tests, is_hash, t) in
+        subst (λ x. IsChainHead more x (length more) (length us + 1)) e IsChainHead-pushed
     heads-insert q false t = IsChainHead-other_hash q _ (λ e. grind (arith, nat_tests, is_hash, t, e)) (old.heads_are q)
 
     pub AreNumbered-push : AreNumbered n (nexts ++ unwrap_or (get nat_eq m h) 0 ∷ []) more
@@ -111,7 +127,8 @@ module _ (us : List (List ℕ)) (v : List ℕ) where
         ]
         | inr x ↦ elim (slice_get-push nexts _ k e b) [
           | inl y ↦ absurd (omega (arith, slice_get_within nexts k e y, x.0, old.lengths))
-          | inr y ↦ let here = IsChainHead-of_front (hash_of v) (length us) _ (omega arith) (subst (λ q. IsChainHead us q (length us) (unwrap_or (get nat_eq m h) 0)) is_hash (old.heads_are h))
+          | inr y ↦ let here = IsChainHead-of_front (hash_of v) (length us) _ (omega arith)
+              (subst (λ q. IsChainHead us q (length us) (unwrap_or (get nat_eq m h) 0)) is_hash (old.heads_are h))
               in subst (λ q. IsChainHead more (hash_of q) k e) (sym x.1) (subst (λ q. IsChainHead more (hash_of v) q e) (sym x.0)
               (subst (IsChainHead more (hash_of v) (length us)) (sym y.1) here))
         ]
@@ -119,7 +136,9 @@ module _ (us : List (List ℕ)) (v : List ℕ) where
     }
 
 -- `units_of_strings` after a push
-pub units_of_strings-push : (old mid new : List UnitString) (s : UnitString) {us : List (List ℕ)} {v : List ℕ} → new ≡ mid ++ s ∷ [] → mid ≡ old
+pub units_of_strings-push : (old mid new : List UnitString) (s : UnitString) {us : List (List ℕ)} {v : List ℕ}
+    → new ≡ mid ++ s ∷ [] → mid ≡ old
     → units_of_strings old ≡ us → s.units ≡ v → units_of_strings new ≡ us ++ v ∷ []
 units_of_strings-push old mid new s {us} e f g h =
-    ap units_of_strings (e ∙ ap (λ z. z ++ s ∷ []) f) ∙ (map-append (λ x. x.units) old (s ∷ []) ∙ (ap (λ z. z ++ s.units ∷ []) g ∙ ap (λ w. us ++ w ∷ []) h))
+    ap units_of_strings (e ∙ ap (λ z. z ++ s ∷ []) f)
+    ∙ (map-append (λ x. x.units) old (s ∷ []) ∙ (ap (λ z. z ++ s.units ∷ []) g ∙ ap (λ w. us ++ w ∷ []) h))

@@ -1,5 +1,6 @@
 -- The components of paths.
-use Rattle.std.proofs.Common.{◌≡◌, ◌↔◌, ℕ, inl, inr, true, false, IsTrue, List, [], ◌∷◌, ◌++◌, length, map, refl, sym, ap, ◌∙◌, append_assoc, arith}
+use Rattle.std.proofs.Common.{◌≡◌, ◌↔◌, ℕ, inl, inr, true, false, IsTrue, List, [], ◌∷◌, ◌++◌, length, map, refl, sym, ap, ◌∙◌}
+use Rattle.std.proofs.Common.{append_assoc, arith}
 use Rattle.std.proofs.lemmas.Bool.{false≢true}
 use Rattle.std.proofs.lemmas.Bool.Decides.{nat_tests}
 use Rattle.std.proofs.lemmas.List.{length-append, map-append}
@@ -37,7 +38,8 @@ pub BeginsWith-first : (x y : List ℕ) (xs us vs : List (List ℕ)) → us ≡ 
 BeginsWith-first x y xs us vs e f same = record { rest = xs; joined = cc (e, f, same) }
 
 -- a list of one part does not begin with more than one
-pub not_BeginsWith-one_part : (x y : List ℕ) (u : List ℕ) (us vs : List (List ℕ)) → us ≡ x ∷ [] → vs ≡ y ∷ slice_split is_separator u → ¬ (BeginsWith us vs)
+pub not_BeginsWith-one_part : (x y : List ℕ) (u : List ℕ) (us vs : List (List ℕ)) → us ≡ x ∷ [] → vs ≡ y ∷ slice_split is_separator u
+    → ¬ (BeginsWith us vs)
 not_BeginsWith-one_part x y u us vs e f b =
     omega (arith, simp length-append at (ap length (sym e ∙ (b.joined ∙ ap (λ z. z ++ b.rest) f))), length-slice_split is_separator u)
 

@@ -18,7 +18,8 @@ module _ (c : ℕ) where
   Lacks-onto_first x (part ∷ parts) h k =
       All-cons Lacks (x ∷ part) parts (All-cons (λ y. y ≢ c) x part h (k 0 [] (omega arith))) (λ j d m. k (suc j) d (omega arith))
 
-  Lacks-cond_split : (x : ℕ) (parts : List (List ℕ)) (b : Bool) → eqb x c ≡ b → All Lacks parts → All Lacks (cond b ([] ∷ parts) (onto_first x parts))
+  Lacks-cond_split : (x : ℕ) (parts : List (List ℕ)) (b : Bool) → eqb x c ≡ b → All Lacks parts
+      → All Lacks (cond b ([] ∷ parts) (onto_first x parts))
   Lacks-cond_split x parts true e k = All-cons Lacks [] parts (All-nil _) k
   Lacks-cond_split x parts false e k = Lacks-onto_first x parts (λ h. grind (arith, nat_tests, e, h)) k
 

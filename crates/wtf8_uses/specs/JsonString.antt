@@ -1,5 +1,6 @@
 -- Strings in JSON text (RFC 8259, section 7).
-use Rattle.std.specs.Prelude.{◌≡◌, ◌≢◌, ◌≤◌, ◌<◌, ◌+◌, ◌-◌, ◌*◌, ◌==◌, ◌&&◌, ℕ, List, [], ◌∷◌, ◌++◌, Option, Some, None, nat_le, length, if◌then◌else◌}
+use Rattle.std.specs.Prelude.{◌≡◌, ◌≢◌, ◌≤◌, ◌<◌, ◌+◌, ◌-◌, ◌*◌, ◌==◌, ◌&&◌, ℕ, List, [], ◌∷◌, ◌++◌, Option, Some, None, nat_le, length}
+use Rattle.std.specs.Prelude.{if◌then◌else◌}
 use Rattle.wtf8.specs.Form.{bytes}
 use Rattle.wtf8.specs.Unicode.{units_of}
 use Rattle.wtf8_uses.specs.declared.json_reader.JsonCause.{JsonCause}
@@ -75,7 +76,8 @@ pub record BeginsWithQuote (text after : List ℕ) : Type 0 where
 -- "string").
 pub data BeginsWithCharacters : List ℕ → List ℕ → List ℕ → Type 0 where
   none : (text : List ℕ) → BeginsWithCharacters text [] text
-  more : (text rest u after : List ℕ) (p : ℕ) → BeginsWithCharacter text p rest → BeginsWithCharacters rest u after → BeginsWithCharacters text (units_of p ++ u) after
+  more : (text rest u after : List ℕ) (p : ℕ) → BeginsWithCharacter text p rest → BeginsWithCharacters rest u after
+      → BeginsWithCharacters text (units_of p ++ u) after
 
 -- `text` begins with a JSON string of the units `u`; `after` follows it (RFC 8259, section 7, "string").
 pub record BeginsWithString (text u after : List ℕ) : Type 0 where
@@ -96,7 +98,8 @@ pub record FollowsBytes (text : List ℕ) (n : ℕ) (after : List ℕ) : Type 0 
 pub data IsMalformedAt (text : List ℕ) (n : ℕ) : Type 0 where
   not_opened : n ≡ 0 → ((after : List ℕ) → ¬ (BeginsWithQuote text after)) → IsMalformedAt text n
   stopped : (start u rest : List ℕ) → FollowsBytes text n rest → BeginsWithQuote text start → BeginsWithCharacters start u rest
-      → ((p : ℕ) (after : List ℕ) → ¬ (BeginsWithCharacter rest p after)) → ((after : List ℕ) → ¬ (BeginsWithQuote rest after)) → IsMalformedAt text n
+      → ((p : ℕ) (after : List ℕ) → ¬ (BeginsWithCharacter rest p after)) → ((after : List ℕ) → ¬ (BeginsWithQuote rest after))
+      → IsMalformedAt text n
 
 -- `rest` begins as the cause says: with no quotation mark, with nothing, with a control character below U+0020, or with a
 -- reverse solidus.

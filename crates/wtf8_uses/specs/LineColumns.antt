@@ -6,7 +6,8 @@ use Rattle.wtf8.specs.declared.strings.unit_marks.UnitMark.{UnitMark}
 
 -- Each mark of the list is one of the bytes `w` and units `u`.
 abbrev pub AreMarksOf : List ℕ → List ℕ → List UnitMark → Type 0
-AreMarksOf w u marks = (k : ℕ) (d : UnitMark) → k < length marks → IsMark w u (slice_index_or marks k d).position (slice_index_or marks k d).units
+AreMarksOf w u marks =
+    (k : ℕ) (d : UnitMark) → k < length marks → IsMark w u (slice_index_or marks k d).position (slice_index_or marks k d).units
 
 -- The number of units before a mark.
 abbrev pub mark_units : UnitMark → ℕ

@@ -32,7 +32,8 @@ module _ {S : Type 0} (steps : S → Option ℕ → S → Type 0) where
 
   -- A step yields the item at the front of the units left, or `None` if no unit is left.
   abbrev pub decode_steps : DecodeUtf16 S → Option (Result ℕ ℕ) → DecodeUtf16 S → Type 0
-  decode_steps s r t = MatchOption r (peekable_steps steps (units_left s) None (units_left t)) (λ item. DecodesItem (units_left s) item (units_left t))
+  decode_steps s r t =
+      MatchOption r (peekable_steps steps (units_left s) None (units_left t)) (λ item. DecodesItem (units_left s) item (units_left t))
 
   -- The items' code points are clean, and the iterator yields exactly their units and then ends.
   pub record ReadsAll (iter : S) (items : List (Result ℕ ℕ)) : Type 0 where

@@ -9,13 +9,17 @@ use Rattle.wtf8.specs.Form.{encoding, IsForm}
 pub record FirstPointByLead (w : List ℕ) (p n : ℕ) : Type 0 where
   pub nonempty : 0 < length w
   pub one : slice_index w 0 < 0x80 → (p ≡ slice_index w 0) × (n ≡ 1)
-  pub two : 0x80 ≤ slice_index w 0 → slice_index w 0 < 0xE0 → (0xC0 ≤ slice_index w 0) × (1 < length w) × (0x80 ≤ slice_index w 1) × (p < 0x800)
+  pub two : 0x80 ≤ slice_index w 0 → slice_index w 0 < 0xE0
+      → (0xC0 ≤ slice_index w 0) × (1 < length w) × (0x80 ≤ slice_index w 1) × (p < 0x800)
       × (p ≡ (slice_index w 0 - 0xC0) * 64 + (slice_index w 1 - 0x80)) × (n ≡ 2)
-  pub three : 0xE0 ≤ slice_index w 0 → slice_index w 0 < 0xF0 → (2 < length w) × (0x80 ≤ slice_index w 1) × (slice_index w 1 < 0xC0) × (0x80 ≤ slice_index w 2)
+  pub three : 0xE0 ≤ slice_index w 0 → slice_index w 0 < 0xF0
+      → (2 < length w) × (0x80 ≤ slice_index w 1) × (slice_index w 1 < 0xC0) × (0x80 ≤ slice_index w 2)
       × (slice_index w 2 < 0xC0) × (p < 0x10000)
       × (p ≡ ((slice_index w 0 - 0xE0) * 64 + (slice_index w 1 - 0x80)) * 64 + (slice_index w 2 - 0x80)) × (n ≡ 3)
-  pub four : 0xF0 ≤ slice_index w 0 → (3 < length w) × (0x80 ≤ slice_index w 1) × (0x80 ≤ slice_index w 2) × (0x80 ≤ slice_index w 3) × (0x10000 ≤ p)
-      × (p ≡ (((slice_index w 0 - 0xF0) * 64 + (slice_index w 1 - 0x80)) * 64 + (slice_index w 2 - 0x80)) * 64 + (slice_index w 3 - 0x80)) × (n ≡ 4)
+  pub four : 0xF0 ≤ slice_index w 0
+      → (3 < length w) × (0x80 ≤ slice_index w 1) × (0x80 ≤ slice_index w 2) × (0x80 ≤ slice_index w 3) × (0x10000 ≤ p)
+      × (p ≡ (((slice_index w 0 - 0xF0) * 64 + (slice_index w 1 - 0x80)) * 64 + (slice_index w 2 - 0x80)) * 64 + (slice_index w 3 - 0x80))
+      × (n ≡ 4)
 
 -- The bytes are the encoding of a code point, followed by a rest (WTF-8, "Generalized UTF-8").
 pub record BeginsWithPoint (w : List ℕ) : Type 0 where

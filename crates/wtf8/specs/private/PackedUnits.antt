@@ -1,5 +1,6 @@
 -- The bytes that each unit adds: the last one, two or three of three, computed from the tagged unit and the one before.
-use Rattle.std.specs.Prelude.{◌≡◌, ℕ, ◌+◌, ◌-◌, ◌*◌, ◌/◌, ◌%◌, ◌≤◌, List, [], ◌∷◌, ◌++◌, map, take, drop, nat_lt, if◌then◌else◌, slice_index_or}
+use Rattle.std.specs.Prelude.{◌≡◌, ℕ, ◌+◌, ◌-◌, ◌*◌, ◌/◌, ◌%◌, ◌≤◌, List, [], ◌∷◌, ◌++◌, map, take, drop, nat_lt, if◌then◌else◌}
+use Rattle.std.specs.Prelude.{slice_index_or}
 use lib.Lanes.{zip2}
 
 -- The unit `n` between two others, 0x10000 above its value if it is a surrogate in no pair (Unicode 3.8, "Surrogates").
@@ -104,4 +105,5 @@ IsPackingShuffle number row = (a b c d : ℕ) → IsByteCount a → IsByteCount 
 
 -- The count at table index `number` is the sum of the four lengths.
 abbrev pub IsPackedLen : ℕ → ℕ → Type 0
-IsPackedLen number count = (a b c d : ℕ) → IsByteCount a → IsByteCount b → IsByteCount c → IsByteCount d → number ≡ table_index a b c d → count ≡ a + b + c + d
+IsPackedLen number count =
+    (a b c d : ℕ) → IsByteCount a → IsByteCount b → IsByteCount c → IsByteCount d → number ≡ table_index a b c d → count ≡ a + b + c + d

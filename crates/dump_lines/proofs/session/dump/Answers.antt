@@ -7,7 +7,8 @@ use Rattle.dump_lines.proofs.session.dump.Given
 use Rattle.dump_lines.proofs.session.dump.Goals as goal
 
 -- the lines that are left are this one and the lines after it
-lines-next : (g : Given.Over) (c : goal.After-unwrap_or-rest g) → lines c.loop-rest.rest.now ≡ c.split_first_part.result.0.now ∷ lines c.unwrap_or-rest.result.now
+lines-next : (g : Given.Over) (c : goal.After-unwrap_or-rest g)
+    → lines c.loop-rest.rest.now ≡ c.split_first_part.result.0.now ∷ lines c.unwrap_or-rest.result.now
 lines-next g c =
     let long : 0 < length c.loop-rest.rest.now = grind (arith, nat_tests) in
     let some : c.loop-rest.rest.now ≢ [] = λ e. absurd (omega (arith, ap length e)) in

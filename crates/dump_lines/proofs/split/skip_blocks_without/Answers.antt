@@ -13,5 +13,8 @@ loop-at-preserved c =
     let none = none_from_empty_mask (λ b. b == separator) bytes at 16 0 (omega arith) (sym mask ∙ c.if-found-ne0.false) in
     record {
       within = omega arith;
-      none = λ k lt. elim (cases_lt k at) [ inl before ↦ c.loop-at.invariant.none k before | inr here ↦ eqb-false _ separator (none k here lt) ];
+      none = λ k lt. elim (cases_lt k at) [
+        | inl before ↦ c.loop-at.invariant.none k before
+        | inr here ↦ eqb-false _ separator (none k here lt)
+      ];
     }

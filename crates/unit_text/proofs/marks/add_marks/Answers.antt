@@ -13,7 +13,8 @@ loop-number-preserved g c =
     let mark = c.mark_at-last.result in
     let n = (c.loop-number.number + 1) * 128 in
     let i = c.loop-number.invariant in
-    let before : n < length units = omega (arith, c.needed_mark_count-number-end.ensures.before_last c.loop-number.number c.loop-number-test.true, c.args.text.counted) in
+    let before : n < length units =
+    omega (arith, c.needed_mark_count-number-end.ensures.before_last c.loop-number.number c.loop-number-test.true, c.args.text.counted) in
     let kept = IsKept-mark_at bytes units mark n c.mark_at-last.ensures.mark c.mark_at-last.ensures.last before in
     let all = AreKept-push bytes units c.loop-number.marks.items mark c.loop-number.number i.counted i.kept kept in
     record {
@@ -37,7 +38,11 @@ returns-in_default-clause-room g c = λ all.
 pub returns-clause-marks : goal.returns-clause-marks
 returns-clause-marks g c =
     let i = c.loop-number.invariant in
-    record { kept = i.kept; all = λ granted not_ascii n h. let enough = c.needed_mark_count-number-end.ensures.all not_ascii n h in omega (arith, enough, i.counted) }
+    record {
+      kept = i.kept;
+      all = λ granted not_ascii n h. let enough = c.needed_mark_count-number-end.ensures.all not_ascii n h in
+          omega (arith, enough, i.counted);
+    }
 
 pub returns-clause-room : goal.returns-clause-room
 returns-clause-room g c = λ _. refl

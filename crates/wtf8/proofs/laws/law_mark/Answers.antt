@@ -12,8 +12,10 @@ returns c =
     let n = c.args.mark.units in
     let x = cut_of own c.requires in
     let splits = (cut_by own x.front x.back k x.joined x.front_len).splits in
-    let before : IsFront u k (take n u) = record { front = x.front; back = x.back; splits = splits; same_units = c.requires.before.reads.same_units } in
-    let after : IsBack u k (drop n u) = record { front = x.front; back = x.back; splits = splits; same_units = c.requires.after.reads.same_units } in
+    let before : IsFront u k (take n u) =
+    record { front = x.front; back = x.back; splits = splits; same_units = c.requires.before.reads.same_units } in
+    let after : IsBack u k (drop n u) =
+    record { front = x.front; back = x.back; splits = splits; same_units = c.requires.after.reads.same_units } in
     record {
       boundary = record { front = x.front; back = x.back; splits = splits };
       before = before;

@@ -1,4 +1,5 @@
-use Rattle.wtf8.proofs.lemmas.strings.PositionLaws.{ascii_alone, ascii_one_unit, ascii_no_other_unit, start_is_boundary, end_is_boundary, none_is_beyond, front_in_whole, whole_in_front, whole_in_back, back_in_whole}
+use Rattle.wtf8.proofs.lemmas.strings.PositionLaws.{ascii_alone, ascii_one_unit, ascii_no_other_unit, start_is_boundary, end_is_boundary}
+use Rattle.wtf8.proofs.lemmas.strings.PositionLaws.{none_is_beyond, front_in_whole, whole_in_front, whole_in_back, back_in_whole}
 use Rattle.wtf8.proofs.laws.law_positions.Goals as goal
 
 pub returns : goal.returns

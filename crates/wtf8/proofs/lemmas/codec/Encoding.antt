@@ -1,7 +1,7 @@
 -- The bytes of code points, and what the first bytes determine.
-use Rattle.wtf8.proofs.Common.{◌≡◌, ℕ, zero, suc, ◌+◌, ◌/◌, ◌%◌, ◌<◌, ◌≤◌, ◌⊎◌, inl, inr, List, [], ◌∷◌, ◌++◌, length, get_or, refl, sym, ap, ◌∙◌, arith}
-use Rattle.wtf8.proofs.Common.{lt-ltb, length-append, le-ltb, cases_lt, append-nil, flat_map-append, IsSurrogate, bytes, encoding_is_encode, ◌-◌, ◌*◌, subst}
-use Rattle.wtf8.proofs.Common.{IsCodePoint, encoding, BeginsWithPoint, encode_same, FirstPointByLead}
+use Rattle.wtf8.proofs.Common.{◌≡◌, ℕ, zero, suc, ◌+◌, ◌/◌, ◌%◌, ◌<◌, ◌≤◌, ◌⊎◌, inl, inr, List, [], ◌∷◌, ◌++◌, length, get_or, refl, sym}
+use Rattle.wtf8.proofs.Common.{ap, ◌∙◌, arith, lt-ltb, length-append, le-ltb, cases_lt, append-nil, flat_map-append, IsSurrogate, bytes}
+use Rattle.wtf8.proofs.Common.{encoding_is_encode, ◌-◌, ◌*◌, subst, IsCodePoint, encoding, BeginsWithPoint, encode_same, FirstPointByLead}
 use Rattle.std.proofs.Math.Nat.{div-div-eq-div-mul}
 use Rattle.wtf8.specs.Form.{encoding}
 
@@ -74,7 +74,8 @@ abbrev AreContinuationBytes : List ℕ → Type 0
 AreContinuationBytes [] = Unit {0}
 AreContinuationBytes (x ∷ xs) = (0x80 ≤ x) × (x < 0xC0) × AreContinuationBytes xs
 
-continuation_byte_at : (xs r : List ℕ) (k : ℕ) → AreContinuationBytes xs → k < length xs → (0x80 ≤ get_or (xs ++ r) k 0) × (get_or (xs ++ r) k 0 < 0xC0)
+continuation_byte_at : (xs r : List ℕ) (k : ℕ) → AreContinuationBytes xs → k < length xs
+    → (0x80 ≤ get_or (xs ++ r) k 0) × (get_or (xs ++ r) k 0 < 0xC0)
 continuation_byte_at [] r k t h = absurd (omega arith)
 continuation_byte_at (x ∷ xs) r zero t h = (t.0, t.1)
 continuation_byte_at (x ∷ xs) r (suc k) t h = continuation_byte_at xs r k t.2 (omega arith)
@@ -118,7 +119,8 @@ bytes-pushed c p = bytes-append c (p ∷ []) ∙ ap (λ w. bytes c ++ w) (append
 
 -- no encoding is a proper prefix of another
 pub encoding_same : (p q : ℕ) (r s : List ℕ) → encoding p ++ r ≡ encoding q ++ s → (p ≡ q) × (r ≡ s)
-encoding_same p q r s e = encode_same p q r s (ap (λ x. x ++ r) (sym (encoding_is_encode p)) ∙ (e ∙ ap (λ x. x ++ s) (encoding_is_encode q)))
+encoding_same p q r s e =
+    encode_same p q r s (ap (λ x. x ++ r) (sym (encoding_is_encode p)) ∙ (e ∙ ap (λ x. x ++ s) (encoding_is_encode q)))
 
 -- What the first bytes of an encoding say about the code point.
 
@@ -131,7 +133,8 @@ front-encoding p r range =
     elim (encoding_cases p) [
       | one h e ↦ rw e (record { nonempty = omega arith; one = grind arith; two = grind arith; three = grind arith; four = grind arith })
       | two l h e ↦ rw e (record { nonempty = omega arith; one = grind arith; two = grind arith; three = grind arith; four = grind arith })
-      | three l h e ↦ rw e (record { nonempty = omega arith; one = grind arith; two = grind arith; three = grind arith; four = grind arith })
+      | three l h e ↦
+          rw e (record { nonempty = omega arith; one = grind arith; two = grind arith; three = grind arith; four = grind arith })
       | four l e ↦ rw e (record { nonempty = omega arith; one = grind arith; two = grind arith; three = grind arith; four = grind arith })
     ]
 
@@ -150,7 +153,8 @@ BeginsWithPoint-equal_bytes b e = begins_with b.point b.rest _ b.in_range (e ∙
 
 -- the lead surrogate of a supplementary code point, from its first three bytes
 abbrev pub LeadRead : List ℕ → ℕ → Type 0
-LeadRead w p = 0xD7C0 + ((get_or w 0 0 - 0xF0) * 64 + (get_or w 1 0 - 0x80)) * 4 + (get_or w 2 0 - 0x80) / 16 ≡ 0xD800 + (p - 0x10000) / 0x400
+LeadRead w p =
+    0xD7C0 + ((get_or w 0 0 - 0xF0) * 64 + (get_or w 1 0 - 0x80)) * 4 + (get_or w 2 0 - 0x80) / 16 ≡ 0xD800 + (p - 0x10000) / 0x400
 
 pub LeadRead-encoding : (p : ℕ) (r : List ℕ) → 0xF0 ≤ get_or (encoding p ++ r) 0 0 → LeadRead (encoding p ++ r) p
 LeadRead-encoding p r g = elim (encoding_cases p) [

@@ -1,8 +1,9 @@
 -- Code points and their units, surrogates at the seam of two lists, and the only reading of a list of units.
 use Rattle.wtf8.proofs.Common.{◌≡◌, ℕ, ◌⊎◌, inl, inr, List, [], ◌∷◌, ◌++◌, drop, get_or, length, true, refl, sym, ap, ◌∙◌, subst, arith}
 use Rattle.wtf8.proofs.Common.{length-append, le-leb, cases_Bool, false≢true, same_from_push, IsLead, IsTrail, MeetsAsPair, ◌+◌, ◌-◌, ◌*◌}
-use Rattle.wtf8.proofs.Common.{◌/◌, ◌%◌, ◌<◌, ◌≤◌, lt-ltb, le-ltb, cases_lt, append-nil, flat_map-append, units, pair, encoding, bytes, IsCodePoint, IsClean}
-use Rattle.wtf8.proofs.Common.{drop_at, bytes-injective, Reads, IsWellFormed, IsForm, BeginsWithPoint, length-drop, drop-drop, nat_tests, false, cond}
+use Rattle.wtf8.proofs.Common.{◌/◌, ◌%◌, ◌<◌, ◌≤◌, lt-ltb, le-ltb, cases_lt, append-nil, flat_map-append, units, pair, encoding, bytes}
+use Rattle.wtf8.proofs.Common.{IsCodePoint, IsClean, drop_at, bytes-injective, Reads, IsWellFormed, IsForm, BeginsWithPoint, length-drop}
+use Rattle.wtf8.proofs.Common.{drop-drop, nat_tests, false, cond}
 use Rattle.wtf8.specs.Concatenation.{is_pair}
 use Rattle.wtf8.specs.PositionLaws.{ListsHaveLengths}
 use Rattle.wtf8.specs.Unicode.{units_of}
@@ -63,7 +64,10 @@ meets_or_not (p ∷ []) (q ∷ d) = elim (cases_Bool (is_pair p q)) [
   | inl e ↦ let h = surrogates_from_is_pair p q e in inl (meets_by [] d p q h.0 h.1 refl refl)
   | inr e ↦ inr (λ m. false≢true (sym e ∙ is_pair-meeting p q d m))
 ]
-meets_or_not (p ∷ q ∷ c) d = elim (meets_or_not (q ∷ c) d) [ inl m ↦ inl (MeetsAsPair-cons p m) | inr n ↦ inr (λ m. n (MeetsAsPair-uncons p q c d m)) ]
+meets_or_not (p ∷ q ∷ c) d = elim (meets_or_not (q ∷ c) d) [
+  | inl m ↦ inl (MeetsAsPair-cons p m)
+  | inr n ↦ inr (λ m. n (MeetsAsPair-uncons p q c d m))
+]
 
 -- The units of code points: one below U+10000, two from there on.
 
@@ -83,7 +87,8 @@ unfolding units_of
 units_two p h = rw (le-ltb p 0x10000 h) refl
 
 pub units_pair : (l t : ℕ) → IsLead l → IsTrail t → units_of (pair l t) ≡ l ∷ t ∷ []
-units_pair l t h k = units_two (pair l t) (omega arith) ∙ (ap (λ a. a ∷ trail_of (pair l t) ∷ []) (omega arith) ∙ ap (λ b. l ∷ b ∷ []) (omega arith))
+units_pair l t h k =
+    units_two (pair l t) (omega arith) ∙ (ap (λ a. a ∷ trail_of (pair l t) ∷ []) (omega arith) ∙ ap (λ b. l ∷ b ∷ []) (omega arith))
 
 pub units-cons_one : (p : ℕ) (c : List ℕ) → p < 0x10000 → units (p ∷ c) ≡ p ∷ units c
 units-cons_one p c h = ap (λ u. u ++ units c) (units_one p h)
@@ -98,7 +103,8 @@ pub units-pushed : (c : List ℕ) (p : ℕ) → units (c ++ p ∷ []) ≡ units 
 units-pushed c p = units-append c (p ∷ []) ∙ ap (λ u. units c ++ u) (append-nil (units_of p))
 
 -- bounds between the numbers of code points, units and bytes
-lengths_of_one : (p : ℕ) → (1 ≤ length (units_of p)) × (length (units_of p) ≤ length (encoding p)) × (length (encoding p) ≤ 3 * length (units_of p)) × (length (encoding p) ≤ 4)
+lengths_of_one : (p : ℕ) → (1 ≤ length (units_of p)) × (length (units_of p) ≤ length (encoding p))
+    × (length (encoding p) ≤ 3 * length (units_of p)) × (length (encoding p) ≤ 4)
 lengths_of_one p = elim (encoding_cases p) [
   | one h e ↦ rw (e, units_one p (omega arith)) (omega arith)
   | two _ h e ↦ rw (e, units_one p (omega arith)) (omega arith)
@@ -178,7 +184,8 @@ points_of_units-cons p (q ∷ d) x e = elim (cases_lt q 0x10000) [
   | inl h ↦ rw (units-cons_one q d h, is_pair-false p q x.1) (ap (λ r. p ∷ r) (rw (units-cons_one q d h) at e))
   | inr h ↦
       let range = clean-first q d x.2 in
-      rw (units-cons_two q d h, is_pair-false p (lead_of q) (λ m. omega (arith, range, m.1))) (ap (λ r. p ∷ r) (rw (units-cons_two q d h) at e))
+      rw (units-cons_two q d h, is_pair-false p (lead_of q) (λ m. omega (arith, range, m.1)))
+      (ap (λ r. p ∷ r) (rw (units-cons_two q d h) at e))
 ]
 
 points_of_units-units : (c : List ℕ) → IsClean c → points_of_units (units c) ≡ c
@@ -188,7 +195,8 @@ points_of_units-units (p ∷ c) x = elim (cases_lt p 0x10000) [
   | inr h ↦
       let range = clean-first p c x in
       let same : pair (lead_of p) (trail_of p) ≡ p = omega arith in
-      rw (units-cons_two p c h, is_pair-surrogates (lead_of p) (trail_of p) (omega arith, omega arith) (omega arith, omega arith)) (cc (same, points_of_units-units c (clean-rest p c x)))
+      rw (units-cons_two p c h, is_pair-surrogates (lead_of p) (trail_of p) (omega arith, omega arith) (omega arith, omega arith))
+      (cc (same, points_of_units-units c (clean-rest p c x)))
 ]
 
 pub same_reading : (c d : List ℕ) → IsClean c → IsClean d → units c ≡ units d → c ≡ d
@@ -210,7 +218,8 @@ well_formed_of f = record { points = f.points; clean = f.reads.clean; encoded = 
 
 -- bytes are the form of at most one list of units
 pub units_from_form : (w a b : List ℕ) → IsForm w a → IsForm w b → a ≡ b
-units_from_form w a b x y = sym x.reads.same_units ∙ (ap units (bytes-injective x.points y.points (x.encoded ∙ sym y.encoded)) ∙ y.reads.same_units)
+units_from_form w a b x y =
+    sym x.reads.same_units ∙ (ap units (bytes-injective x.points y.points (x.encoded ∙ sym y.encoded)) ∙ y.reads.same_units)
 
 -- equal well-formed bytes have the same code points
 pub same_points : {w v : List ℕ} (x : IsWellFormed w) (y : IsWellFormed v) → w ≡ v → x.points ≡ y.points
@@ -241,10 +250,12 @@ pub record Taken (v : List ℕ) (at : ℕ) (h : IsWellFormed (drop at v)) (p nex
 pub first_of : {w : List ℕ} (h : IsWellFormed w) → 0 < length w → (b : BeginsWithPoint w) × Taken w 0 h b.point (length (encoding b.point))
 first_of {w} h n = by h.points h.clean h.encoded
   where
-    by : (c : List ℕ) (x : IsClean c) (e : bytes c ≡ w) → (b : BeginsWithPoint w) × Taken w 0 (record { points = c; clean = x; encoded = e }) b.point (length (encoding b.point))
+    by : (c : List ℕ) (x : IsClean c) (e : bytes c ≡ w)
+        → (b : BeginsWithPoint w) × Taken w 0 (record { points = c; clean = x; encoded = e }) b.point (length (encoding b.point))
     by [] x e = absurd (omega (arith, ap length e))
     by (p ∷ c) x e =
-        let cut : drop (length (encoding p)) w ≡ bytes c = ap (drop (length (encoding p))) (sym e) ∙ drop_at (encoding p) (bytes c) (length (encoding p)) refl in (
+        let cut : drop (length (encoding p)) w ≡ bytes c =
+        ap (drop (length (encoding p))) (sym e) ∙ drop_at (encoding p) (bytes c) (length (encoding p)) refl in (
           begins_with p (bytes c) w (clean-first p c x) (sym e),
           record {
             within = omega (arith, ap length e, length-append (encoding p) (bytes c));
@@ -258,7 +269,8 @@ pub Taken-from_first : (v : List ℕ) (at : ℕ) (h : IsWellFormed (drop at v)) 
 Taken-from_first v at h p next long read =
     let f = first_of h (omega (arith, length-drop at v)) in
     let was = read f.0 in
-    let back : drop next v ≡ drop (length (encoding f.0.point)) (drop at v) = ap (λ k. drop k v) was.1 ∙ sym (drop-drop (length (encoding f.0.point)) at v) in
+    let back : drop next v ≡ drop (length (encoding f.0.point)) (drop at v) =
+    ap (λ k. drop k v) was.1 ∙ sym (drop-drop (length (encoding f.0.point)) at v) in
     record {
       within = omega (arith, was.1, f.1.within, length-drop at v, long);
       rest = IsWellFormed-equal_bytes f.1.rest back;
@@ -270,7 +282,8 @@ Taken-from_first v at h p next long read =
 -- the units meet as a pair if their code points do
 pub units_meet : {c d a b : List ℕ} → Reads c a → Reads d b → MeetsAsPair c d → MeetsAsPair a b
 units_meet x y m =
-    let ends = ap units m.ends ∙ (units-pushed m.front m.lead ∙ ap (λ u. units m.front ++ u) (units_one m.lead (omega (arith, m.is_lead)))) in
+    let ends = ap units m.ends
+    ∙ (units-pushed m.front m.lead ∙ ap (λ u. units m.front ++ u) (units_one m.lead (omega (arith, m.is_lead)))) in
     let begins = ap units m.begins ∙ ap (λ u. u ++ units m.rest) (units_one m.trail (omega (arith, m.is_trail))) in
     meets_by (units m.front) (units m.rest) m.lead m.trail m.is_lead m.is_trail (sym x.same_units ∙ ends) (sym y.same_units ∙ begins)
 

@@ -1,6 +1,6 @@
 -- Scalar values among code points and units, and U+FFFD for each surrogate.
-use Rattle.wtf8.proofs.Common.{◌≡◌, ℕ, ◌<◌, List, [], ◌∷◌, ◌++◌, inl, inr, true, refl, ap, ◌∙◌, arith, cases_lt, lt-leb, le-leb, Each1-weaker, AreAscii}
-use Rattle.wtf8.proofs.Common.{bytes, units, IsClean, IsSurrogate, AreScalar, IsKnownForm}
+use Rattle.wtf8.proofs.Common.{◌≡◌, ℕ, ◌<◌, List, [], ◌∷◌, ◌++◌, inl, inr, true, refl, ap, ◌∙◌, arith, cases_lt, lt-leb, le-leb}
+use Rattle.wtf8.proofs.Common.{Each1-weaker, AreAscii, bytes, units, IsClean, IsSurrogate, AreScalar, IsKnownForm}
 use Rattle.wtf8.specs.Surrogates.{replace_surrogate}
 use Rattle.wtf8.specs.private.ConvertedPrefix.{AreScalarUnits}
 use Rattle.wtf8.proofs.lemmas.codec.Encoding.{encoding_one}
@@ -36,7 +36,8 @@ bytes-ascii [] h = refl
 bytes-ascii (p ∷ u) h = ap (λ w. w ++ bytes u) (encoding_one p h.0) ∙ ap (λ v. p ∷ v) (bytes-ascii u h.1)
 
 AreScalarUnits-ascii : (u : List ℕ) → AreAscii u → AreScalarUnits u
-AreScalarUnits-ascii u h = Each1-weaker (λ n. n < 0x80) (λ n. (n < 0x10000) × ¬ (IsSurrogate n)) (λ n l. (omega (arith, l), λ s. omega (arith, l, s.0))) u h
+AreScalarUnits-ascii u h =
+    Each1-weaker (λ n. n < 0x80) (λ n. (n < 0x10000) × ¬ (IsSurrogate n)) (λ n l. (omega (arith, l), λ s. omega (arith, l, s.0))) u h
 
 pub units-ascii : (u : List ℕ) → AreAscii u → units u ≡ u
 units-ascii u h = units-scalar_units u (AreScalarUnits-ascii u h)
@@ -46,7 +47,8 @@ pub IsKnownForm-ascii : (u : List ℕ) → AreAscii u → IsKnownForm u u true
 IsKnownForm-ascii u h = record {
   form = record {
     points = u;
-    reads = record { clean = clean-scalar_units u (AreScalarUnits-ascii u h); same_units = units-scalar_units u (AreScalarUnits-ascii u h) };
+    reads =
+        record { clean = clean-scalar_units u (AreScalarUnits-ascii u h); same_units = units-scalar_units u (AreScalarUnits-ascii u h) };
     encoded = bytes-ascii u h;
   };
   scalar = λ _. AreScalar-scalar_units u (AreScalarUnits-ascii u h);

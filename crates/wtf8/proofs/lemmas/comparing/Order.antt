@@ -1,10 +1,11 @@
 -- The orders of code points, bytes and units, and how the first difference of two strings decides them.
-use Rattle.wtf8.proofs.Common.{◌≡◌, ℕ, ◌<◌, inl, inr, List, [], ◌∷◌, ◌++◌, refl, sym, ap, ◌∙◌, arith, subst, Ordering, Less, Equal, Greater, nat_cmp}
-use Rattle.wtf8.proofs.Common.{MatchOrdering, slice_cmp, cases_lt, Before, cases_order, ◌↔◌, encoding, bytes, Bool}
-use Rattle.wtf8.proofs.Common.{IsTrue, nat_eq, pointwise, bytes_decides, units, Reads, IsWellFormed, bytes-injective, ◌≢◌, zero, suc, drop, get_or}
-use Rattle.wtf8.proofs.Common.{units_of, IsMismatch, SupplementaryBegins, true, false, ◌⊎◌, length, take, length-append, append_assoc, false≢true}
-use Rattle.wtf8.proofs.Common.{take-append-drop, slice_get, option_cmp, true≢false}
-use Rattle.wtf8.proofs.lemmas.lanes.ListOrder.{cmp_less, cmp_greater, slice_cmp-less, slice_cmp-greater, cmp-append_left, mismatch-cons, order_at_mismatch}
+use Rattle.wtf8.proofs.Common.{◌≡◌, ℕ, ◌<◌, inl, inr, List, [], ◌∷◌, ◌++◌, refl, sym, ap, ◌∙◌, arith, subst, Ordering, Less, Equal, Greater}
+use Rattle.wtf8.proofs.Common.{nat_cmp, MatchOrdering, slice_cmp, cases_lt, Before, cases_order, ◌↔◌, encoding, bytes, Bool, IsTrue, nat_eq}
+use Rattle.wtf8.proofs.Common.{pointwise, bytes_decides, units, Reads, IsWellFormed, bytes-injective, ◌≢◌, zero, suc, drop, get_or}
+use Rattle.wtf8.proofs.Common.{units_of, IsMismatch, SupplementaryBegins, true, false, ◌⊎◌, length, take, length-append, append_assoc}
+use Rattle.wtf8.proofs.Common.{false≢true, take-append-drop, slice_get, option_cmp, true≢false}
+use Rattle.wtf8.proofs.lemmas.lanes.ListOrder.{cmp_less, cmp_greater, slice_cmp-less, slice_cmp-greater, cmp-append_left, mismatch-cons}
+use Rattle.wtf8.proofs.lemmas.lanes.ListOrder.{order_at_mismatch}
 use Rattle.std.proofs.lemmas.Cmp.{nat_cmp_total, tied_itself}
 use Rattle.std.specs.Bool.{beq}
 use Rattle.std.specs.Ordering.{is_ge, is_gt, is_le, is_lt}
@@ -66,10 +67,30 @@ at_least_test Greater c d e = (λ _ h. false≢true (ap is_lt (e ∙ slice_cmp-l
 -- the encoding of a smaller code point comes first, whatever follows it
 before_encoding : (p q : ℕ) (r s : List ℕ) → p < q → Before (encoding p ++ r) (encoding q ++ s)
 before_encoding p q r s l = elim (encoding_cases p) [
-  | one h e ↦ elim (encoding_cases q) [ one k f ↦ rw (e, f) (inl l) | two k _ f ↦ rw (e, f) (grind arith) | three k _ f ↦ rw (e, f) (grind arith) | four k f ↦ rw (e, f) (grind arith) ]
-  | two m h e ↦ elim (encoding_cases q) [ one k f ↦ absurd (omega arith) | two k _ f ↦ rw (e, f) (grind arith) | three k _ f ↦ rw (e, f) (grind arith) | four k f ↦ rw (e, f) (grind arith) ]
-  | three m h e ↦ elim (encoding_cases q) [ one k f ↦ absurd (omega arith) | two _ k f ↦ absurd (omega arith) | three k _ f ↦ rw (e, f) (grind arith) | four k f ↦ rw (e, f) (grind arith) ]
-  | four m e ↦ elim (encoding_cases q) [ one k f ↦ absurd (omega arith) | two _ k f ↦ absurd (omega arith) | three _ k f ↦ absurd (omega arith) | four k f ↦ rw (e, f) (grind arith) ]
+  | one h e ↦ elim (encoding_cases q) [
+    | one k f ↦ rw (e, f) (inl l)
+    | two k _ f ↦ rw (e, f) (grind arith)
+    | three k _ f ↦ rw (e, f) (grind arith)
+    | four k f ↦ rw (e, f) (grind arith)
+  ]
+  | two m h e ↦ elim (encoding_cases q) [
+    | one k f ↦ absurd (omega arith)
+    | two k _ f ↦ rw (e, f) (grind arith)
+    | three k _ f ↦ rw (e, f) (grind arith)
+    | four k f ↦ rw (e, f) (grind arith)
+  ]
+  | three m h e ↦ elim (encoding_cases q) [
+    | one k f ↦ absurd (omega arith)
+    | two _ k f ↦ absurd (omega arith)
+    | three k _ f ↦ rw (e, f) (grind arith)
+    | four k f ↦ rw (e, f) (grind arith)
+  ]
+  | four m e ↦ elim (encoding_cases q) [
+    | one k f ↦ absurd (omega arith)
+    | two _ k f ↦ absurd (omega arith)
+    | three _ k f ↦ absurd (omega arith)
+    | four k f ↦ rw (e, f) (grind arith)
+  ]
 ]
 
 Before-nil_encoding : (q : ℕ) (s : List ℕ) → Before [] (encoding q ++ s)
@@ -82,14 +103,18 @@ cmp-bytes [] (q ∷ d) = slice_cmp-less [] (bytes (q ∷ d)) (Before-nil_encodin
 cmp-bytes (p ∷ c) [] = slice_cmp-greater (bytes (p ∷ c)) [] (Before-nil_encoding p (bytes c))
 cmp-bytes (p ∷ c) (q ∷ d) = elim (cases_order p q) [
   | inl same ↦ rw (← same) (cmp-append_left (encoding p) (bytes c) (bytes d) ∙ cmp-bytes c d ∙ sym (cmp-append_left (p ∷ []) c d))
-  | inr (inl l) ↦ slice_cmp-less (bytes (p ∷ c)) (bytes (q ∷ d)) (before_encoding p q (bytes c) (bytes d) l) ∙ sym (slice_cmp-less (p ∷ c) (q ∷ d) (inl l))
-  | inr (inr l) ↦ slice_cmp-greater (bytes (p ∷ c)) (bytes (q ∷ d)) (before_encoding q p (bytes d) (bytes c) l) ∙ sym (slice_cmp-greater (p ∷ c) (q ∷ d) (inl l))
+  | inr (inl l) ↦ slice_cmp-less (bytes (p ∷ c)) (bytes (q ∷ d)) (before_encoding p q (bytes c) (bytes d) l)
+      ∙ sym (slice_cmp-less (p ∷ c) (q ∷ d) (inl l))
+  | inr (inr l) ↦ slice_cmp-greater (bytes (p ∷ c)) (bytes (q ∷ d)) (before_encoding q p (bytes d) (bytes c) l)
+      ∙ sym (slice_cmp-greater (p ∷ c) (q ∷ d) (inl l))
 ]
 
 -- one encoding is before another exactly if its code points are
 pub before_bytes : (c d : List ℕ) → Before (bytes c) (bytes d) ↔ Before c d
-before_bytes c d =
-    (λ h. Before-from_less c d (sym (cmp-bytes c d) ∙ slice_cmp-less (bytes c) (bytes d) h), λ h. Before-from_less (bytes c) (bytes d) (cmp-bytes c d ∙ slice_cmp-less c d h))
+before_bytes c d = (
+  λ h. Before-from_less c d (sym (cmp-bytes c d) ∙ slice_cmp-less (bytes c) (bytes d) h),
+  λ h. Before-from_less (bytes c) (bytes d) (cmp-bytes c d ∙ slice_cmp-less c d h),
+)
 
 -- Strings compared by their bytes: the code points and units.
 
@@ -98,10 +123,13 @@ pub equal_points : (r : Bool) (c d : List ℕ) {w v : List ℕ} → bytes c ≡ 
 equal_points r c d {w} {v} e f h =
     (λ t. bytes-injective c d (e ∙ ((bytes_decides w v).0 (sym h ∙ t) ∙ sym f)), λ s. h ∙ (bytes_decides w v).1 (sym e ∙ (ap bytes s ∙ f)))
 
-pub equal_units : (r : Bool) {c d u t w v : List ℕ} → Reads c u → Reads d t → bytes c ≡ w → bytes d ≡ v → r ≡ pointwise nat_eq w v → IsTrue r ↔ (u ≡ t)
+pub equal_units : (r : Bool) {c d u t w v : List ℕ} → Reads c u → Reads d t → bytes c ≡ w → bytes d ≡ v → r ≡ pointwise nat_eq w v
+    → IsTrue r ↔ (u ≡ t)
 equal_units r {c} {d} {u} {t} x y e f h =
-    let points = equal_points r c d e f h in
-    (λ s. sym x.same_units ∙ (ap units (points.0 s) ∙ y.same_units), λ s. points.1 (same_reading c d x.clean y.clean (x.same_units ∙ (s ∙ sym y.same_units))))
+    let points = equal_points r c d e f h in (
+      λ s. sym x.same_units ∙ (ap units (points.0 s) ∙ y.same_units),
+      λ s. points.1 (same_reading c d x.clean y.clean (x.same_units ∙ (s ∙ sym y.same_units))),
+    )
 
 -- byte strings compare as their code points
 pub cmp_points : (c d : List ℕ) {w v : List ℕ} → bytes c ≡ w → bytes d ≡ v → slice_cmp nat_cmp w v ≡ slice_cmp nat_cmp c d
@@ -148,7 +176,10 @@ lead_byte-below_F0 p r = elim (encoding_cases p) [
 SameSideOfF0-first : (w v : List ℕ) → 0 < length w → 0 < length v → SameSideOfF0 w v → BothBelow 0xF0 (get_or w 0 0) (get_or v 0 0)
 SameSideOfF0-first [] v m n h = absurd (omega arith)
 SameSideOfF0-first (x ∷ w) [] m n h = absurd (omega arith)
-SameSideOfF0-first (x ∷ w) (y ∷ v) m n h = elim (cases_order x y) [ inl e ↦ (λ k. omega arith, λ k. omega arith) | inr n ↦ h.1 (λ e. omega (arith, n)) ]
+SameSideOfF0-first (x ∷ w) (y ∷ v) m n h = elim (cases_order x y) [
+  | inl e ↦ (λ k. omega arith, λ k. omega arith)
+  | inr n ↦ h.1 (λ e. omega (arith, n))
+]
 
 SameSideOfF0-encoding : (p q : ℕ) (r s : List ℕ) → SameSideOfF0 (encoding p ++ r) (encoding q ++ s) → BothBelow 0x10000 p q
 SameSideOfF0-encoding p q r s h =
@@ -171,14 +202,17 @@ points_as_units (p ∷ c) (q ∷ d) h =
       | inl same ↦
           let rest = points_as_units c d (SameSideOfF0-cancel_left (encoding p) (bytes c) (bytes d) (rw same at h)) in
           rw same (cmp-append_left (p ∷ []) c d ∙ rest ∙ sym (cmp-append_left (units_of p) (units c) (units d)))
-      | inr (inl l) ↦ slice_cmp-greater (p ∷ c) (q ∷ d) (inl l) ∙ sym (slice_cmp-greater (units (p ∷ c)) (units (q ∷ d)) (before_units q p d c l (row.1, row.0)))
-      | inr (inr l) ↦ slice_cmp-less (p ∷ c) (q ∷ d) (inl l) ∙ sym (slice_cmp-less (units (p ∷ c)) (units (q ∷ d)) (before_units p q c d l row))
+      | inr (inl l) ↦ slice_cmp-greater (p ∷ c) (q ∷ d) (inl l)
+          ∙ sym (slice_cmp-greater (units (p ∷ c)) (units (q ∷ d)) (before_units q p d c l (row.1, row.0)))
+      | inr (inr l) ↦
+          slice_cmp-less (p ∷ c) (q ∷ d) (inl l) ∙ sym (slice_cmp-less (units (p ∷ c)) (units (q ∷ d)) (before_units p q c d l row))
     ]
 
 supplementary_begins-cons : (x : ℕ) (w : List ℕ) (n : ℕ) → SupplementaryBegins (x ∷ w) (suc n) ↔ SupplementaryBegins w n
 supplementary_begins-cons x w n = (λ h. (omega (arith, h.0), h.1), λ h. (omega (arith, h.0), h.1))
 
-pub same_side_at_mismatch : (w v : List ℕ) (at : ℕ) → IsMismatch w v at → SupplementaryBegins w at ↔ SupplementaryBegins v at → SameSideOfF0 w v
+pub same_side_at_mismatch : (w v : List ℕ) (at : ℕ)
+    → IsMismatch w v at → SupplementaryBegins w at ↔ SupplementaryBegins v at → SameSideOfF0 w v
 same_side_at_mismatch [] v at d both = tt
 same_side_at_mismatch (x ∷ w) [] at d both = tt
 same_side_at_mismatch (x ∷ w) (y ∷ v) zero d both = (
@@ -220,15 +254,31 @@ pub record CommonFront (c d : List ℕ) (at : ℕ) : Type 0 where
   pub others_joined : d ≡ front ++ others
   pub front_len : length (bytes front) ≡ at
 
-common_front_at_lead_byte : {w v : List ℕ} (h : IsWellFormed w) (k : IsWellFormed v) (at : ℕ) → take at w ≡ take at v → SupplementaryBegins w at → CommonFront h.points k.points at
+common_front_at_lead_byte : {w v : List ℕ} (h : IsWellFormed w) (k : IsWellFormed v) (at : ℕ) → take at w ≡ take at v
+    → SupplementaryBegins w at → CommonFront h.points k.points at
 common_front_at_lead_byte {w} {v} h k at same pair =
     let cut = cut_at h at (boundary_from_byte h at (omega (arith, pair.0)) (λ _. record { start = inr (omega (arith, pair.1)) })) in
     let front : bytes cut.front ≡ take at v = ap bytes (sym cut.before_points) ∙ (cut.before.encoded ∙ same) in
-    let more = BeginsWithFront-from_bytes cut.front k.points (drop at v) (k.encoded ∙ (sym (take-append-drop at v) ∙ ap (λ f. f ++ drop at v) (sym front))) in
-    record { front = cut.front; own = cut.back; others = more.points; own_joined = cut.points; others_joined = more.joined; front_len = cut.splits.front_len }
+    let more = BeginsWithFront-from_bytes cut.front k.points (drop at v)
+    (k.encoded ∙ (sym (take-append-drop at v) ∙ ap (λ f. f ++ drop at v) (sym front))) in
+    record {
+      front = cut.front;
+      own = cut.back;
+      others = more.points;
+      own_joined = cut.points;
+      others_joined = more.joined;
+      front_len = cut.splits.front_len;
+    }
 
 CommonFront-swap : {c d : List ℕ} {at : ℕ} → CommonFront c d at → CommonFront d c at
-CommonFront-swap p = record { front = p.front; own = p.others; others = p.own; own_joined = p.others_joined; others_joined = p.own_joined; front_len = p.front_len }
+CommonFront-swap p = record {
+  front = p.front;
+  own = p.others;
+  others = p.own;
+  own_joined = p.others_joined;
+  others_joined = p.own_joined;
+  front_len = p.front_len;
+}
 
 -- the rests compare by units as the whole strings do
 pub rests_order : {w v x y : List ℕ} (h : IsWellFormed w) (k : IsWellFormed v) (at : ℕ) → CommonFront h.points k.points at
@@ -252,14 +302,20 @@ either_from_unequal false true p q e = inr (q.0 refl)
 either_from_unequal false false p q e = absurd (true≢false e)
 
 -- if a code point of two units begins at the first difference in exactly one string, that is a boundary of both
-pub common_front_at_mismatch : {w v : List ℕ} (h : IsWellFormed w) (k : IsWellFormed v) (at : ℕ) → IsMismatch w v at → (a b : Bool) → IsTrue a ↔ SupplementaryBegins w at
+pub common_front_at_mismatch : {w v : List ℕ} (h : IsWellFormed w) (k : IsWellFormed v) (at : ℕ) → IsMismatch w v at → (a b : Bool)
+    → IsTrue a ↔ SupplementaryBegins w at
     → IsTrue b ↔ SupplementaryBegins v at → beq a b ≡ false → CommonFront h.points k.points at
-common_front_at_mismatch h k at d a b p q e = elim (either_from_unequal a b p q e) [ inl l ↦ common_front_at_lead_byte h k at d.same_before l | inr l ↦ CommonFront-swap (common_front_at_lead_byte k h at (sym d.same_before) l) ]
+common_front_at_mismatch h k at d a b p q e = elim (either_from_unequal a b p q e) [
+  | inl l ↦ common_front_at_lead_byte h k at d.same_before l
+  | inr l ↦ CommonFront-swap (common_front_at_lead_byte k h at (sym d.same_before) l)
+]
 
 -- if one begins there in both strings or in neither, the bytes at the first difference compare as the units
-pub bytes_order : {w v : List ℕ} (h : IsWellFormed w) (k : IsWellFormed v) (at : ℕ) → IsMismatch w v at → SupplementaryBegins w at ↔ SupplementaryBegins v at
+pub bytes_order : {w v : List ℕ} (h : IsWellFormed w) (k : IsWellFormed v) (at : ℕ)
+    → IsMismatch w v at → SupplementaryBegins w at ↔ SupplementaryBegins v at
     → option_cmp nat_cmp (slice_get w at) (slice_get v at) ≡ slice_cmp nat_cmp (units h.points) (units k.points)
 bytes_order {w} {v} h k at d both =
     let rows : SameSideOfF0 (bytes h.points) (bytes k.points) =
-    subst (λ x. SameSideOfF0 x (bytes k.points)) (sym h.encoded) (subst (SameSideOfF0 w) (sym k.encoded) (same_side_at_mismatch w v at d both)) in
+    subst (λ x. SameSideOfF0 x (bytes k.points)) (sym h.encoded)
+    (subst (SameSideOfF0 w) (sym k.encoded) (same_side_at_mismatch w v at d both)) in
     order_at_mismatch w v at d ∙ (cmp_points h.points k.points h.encoded k.encoded ∙ points_as_units h.points k.points rows)

@@ -1,19 +1,22 @@
 -- Debug texts: consecutive writes, and the digits of a code point.
-use Rattle.wtf8.proofs.Common.{◌≡◌, ℕ, ◌/◌, ◌%◌, ◌<◌, ◌≤◌, List, [], ◌∷◌, ◌++◌, inl, inr, refl, sym, ap, ◌∙◌, subst, arith, lt-ltb, le-ltb, lt-leb, le-leb}
-use Rattle.wtf8.proofs.Common.{cases_lt, IsFlush, has_written_styled_nil, encoding, digit, encoding_is_encode, IsSurrogate, codes, writes_in_calls_append}
+use Rattle.wtf8.proofs.Common.{◌≡◌, ℕ, ◌/◌, ◌%◌, ◌<◌, ◌≤◌, List, [], ◌∷◌, ◌++◌, inl, inr, refl, sym, ap, ◌∙◌, subst, arith, lt-ltb, le-ltb}
+use Rattle.wtf8.proofs.Common.{lt-leb, le-leb, cases_lt, IsFlush, has_written_styled_nil, encoding, digit, encoding_is_encode, IsSurrogate}
+use Rattle.wtf8.proofs.Common.{codes, writes_in_calls_append}
 use Rattle.std.specs.Fmt.{HasWrittenStyled}
 use Rattle.std.specs.declared.fmt.Formatter.{Formatter}
 use lib.Utf8.{encode}
 use Rattle.wtf8.specs.Debug.{last_four_digits, upper_hex, escape_surrogate}
 
 -- `f` was to write `whole`; `g` is the formatter after a front of it, with `rest` left to write
-pub record Continues {W : Type 0} (took : W → List ℕ → W → Type 0) (f : Formatter W) (whole : List ℕ) (g : Formatter W) (rest : List ℕ) : Type 0 where
+pub record Continues {W : Type 0} (took : W → List ℕ → W → Type 0) (f : Formatter W) (whole : List ℕ) (g : Formatter W)
+    (rest : List ℕ) : Type 0 where
   pub flush : IsFlush g
   pub ends : (h : Formatter W) → HasWrittenStyled took g rest h → HasWrittenStyled took f whole h
 
 module _ {W : Type 0} {took : W → List ℕ → W → Type 0} where
   -- two consecutive writes
-  pub then_written : {f g h : Formatter W} {a b : List ℕ} → HasWrittenStyled took f a g → HasWrittenStyled took g b h → HasWrittenStyled took f (a ++ b) h
+  pub then_written : {f g h : Formatter W} {a b : List ℕ} → HasWrittenStyled took f a g → HasWrittenStyled took g b h
+      → HasWrittenStyled took f (a ++ b) h
   then_written p q = record { wrote = writes_in_calls_append _ _ _ _ _ _ p.wrote q.wrote; spec = q.spec ∙ p.spec; flush = q.flush }
 
   -- a write of an equal text
@@ -27,11 +30,13 @@ module _ {W : Type 0} {took : W → List ℕ → W → Type 0} where
   pub Continues-start : {f : Formatter W} (whole : List ℕ) → IsFlush f → Continues took f whole f whole
   Continues-start whole flush = record { flush = flush; ends = λ h w. w }
 
-  pub Continues-write : {f g h : Formatter W} {whole rest a b : List ℕ} → Continues took f whole g rest → HasWrittenStyled took g a h → rest ≡ a ++ b
+  pub Continues-write : {f g h : Formatter W} {whole rest a b : List ℕ} → Continues took f whole g rest → HasWrittenStyled took g a h
+      → rest ≡ a ++ b
       → Continues took f whole h b
   Continues-write c w e = record { flush = w.flush; ends = λ h v. c.ends h (written_as (sym e) (then_written w v)) }
 
-  pub Continues-end : {f g : Formatter W} {whole rest : List ℕ} → Continues took f whole g rest → rest ≡ [] → HasWrittenStyled took f whole g
+  pub Continues-end : {f g : Formatter W} {whole rest : List ℕ} → Continues took f whole g rest → rest ≡ []
+      → HasWrittenStyled took f whole g
   Continues-end {f} {g} c e = c.ends g (written_as (sym e) (has_written_styled_nil took g c.flush))
 
 -- the hexadecimal digits of a code point: four, five or six

@@ -1,19 +1,19 @@
 -- Blocks of units of mixed kinds: three candidate bytes of each unit in lanes, and the shuffle that packs them.
-use Rattle.wtf8.proofs.Common.{◌≡◌, ℕ, suc, ◌+◌, ◌-◌, ◌*◌, ◌/◌, ◌%◌, ◌^◌, ◌<◌, ◌≤◌, List, [], ◌∷◌, ◌++◌, length, take, drop, get_or, map, replicate, zip2, Each1, cond, ltb, leb, eqb, top, Bool, true, false}
-use Rattle.wtf8.proofs.Common.{length-append, false≢true, refl, sym, ap, ◌∙◌, arith, lt-ltb, le-ltb, subst, cases_lt, cases_Bool, inl, inr, Fits, append-nil, append_assoc, map-append, rules, ◌&&◌, mask_l-mod, eq-eqb, pick_l_whole, IsSurrogate}
-use lib.Lanes.{sel_l, pick_l, mask_l, number_l}
-use Rattle.std.specs.Int.{w8, w16}
-use Rattle.std.specs.Prelude.{nat_lt, if◌then◌else◌, bit_and, bit_or, bit_xor}
-use Rattle.std.proofs.lemmas.Bool.Decides.{nat_tests}
+use Rattle.wtf8.proofs.Common.{◌≡◌, ℕ, suc, ◌+◌, ◌-◌, ◌*◌, ◌/◌, ◌%◌, ◌^◌, ◌<◌, ◌≤◌, List, [], ◌∷◌, ◌++◌, length, take, drop, get_or, map}
+use Rattle.wtf8.proofs.Common.{replicate, zip2, Each1, cond, ltb, leb, eqb, top, Bool, true, false, length-append, false≢true, refl, sym}
+use Rattle.wtf8.proofs.Common.{ap, ◌∙◌, arith, lt-ltb, le-ltb, subst, cases_lt, cases_Bool, inl, inr, Fits, append-nil, append_assoc}
+use Rattle.wtf8.proofs.Common.{map-append, rules, ◌&&◌, mask_l-mod, eq-eqb, pick_l_whole, IsSurrogate, sel_l, mask_l, w8, w16, bit_and}
+use Rattle.wtf8.proofs.Common.{bit_or, nat_tests, swz_l, IsLead, IsUnit, length-take-le, take-take}
+use lib.Lanes.{pick_l, number_l}
+use Rattle.std.specs.Prelude.{nat_lt, if◌then◌else◌, bit_xor}
 use Rattle.std.proofs.lemmas.List.{take-map, drop-map, get_or-take}
-use Rattle.std.proofs.lemmas.Simd.{swz_l, get_or-swz_l_below}
+use Rattle.std.proofs.lemmas.Simd.{get_or-swz_l_below}
 use Rattle.wtf8.specs.private.ConvertedPrefix.{AreScalarUnits}
-use Rattle.wtf8.specs.private.PackedUnits.{first_byte, scalar_second_byte, second_byte, scalar_last_byte, last_byte, multi_byte_bit, three_byte_bit, byte_count, byte_lanes, table_index, units_table_index, source_lanes, IsByteCount}
-use Rattle.wtf8.specs.private.PackedUnits.{packed_unit, packed_units, tagged, tagged_units, tagged_block, AreLaterBytes}
+use Rattle.wtf8.specs.private.PackedUnits.{first_byte, scalar_second_byte, second_byte, scalar_last_byte, last_byte, multi_byte_bit}
+use Rattle.wtf8.specs.private.PackedUnits.{three_byte_bit, byte_count, byte_lanes, table_index, units_table_index, source_lanes}
+use Rattle.wtf8.specs.private.PackedUnits.{IsByteCount, packed_unit, packed_units, tagged, tagged_units, tagged_block, AreLaterBytes}
 use Rattle.wtf8.proofs.lemmas.lanes.AsciiFronts.{Each1-map_all}
 use Rattle.wtf8.proofs.lemmas.from_utf16.PackedUnits.{packed_unit-lead, IsTag, IsTag-tagged, tagged-scalar, tagged-lead_before_trail}
-use Rattle.wtf8.specs.Unicode.{IsLead, IsUnit}
-use Rattle.std.proofs.lemmas.List.{length-take-le, take-take}
 use Rattle.std.proofs.Math.Seq.{take-append_seam}
 
 -- Eight lanes as an explicit list, and facts that hold lane by lane.
@@ -69,7 +69,8 @@ first_byte-lane : (x : ℕ) → x < 0x10000 → (0xE0 + x / 4096) % 65536 ≡ fi
 first_byte-lane x h = omega (arith, h)
 
 pub first_byte_lanes-map : (u : List ℕ) → length u ≡ 8 → Each1 (Fits w16) u → map (λ x. x) (first_byte_lanes u) ≡ map first_byte u
-first_byte_lanes-map u l e = of_eight (λ u. Each1 (Fits w16) u → map (λ x. x) (first_byte_lanes u) ≡ map first_byte u) u l (map-same_if_fits (λ x. (0xE0 + x / 4096) % 65536) first_byte first_byte-lane (eight_lanes u)) e
+first_byte_lanes-map u l e = of_eight (λ u. Each1 (Fits w16) u → map (λ x. x) (first_byte_lanes u) ≡ map first_byte u) u l
+    (map-same_if_fits (λ x. (0xE0 + x / 4096) % 65536) first_byte first_byte-lane (eight_lanes u)) e
 
 first_byte-tagged : (x t : ℕ) → IsTag x t → first_byte x ≡ first_byte t
 first_byte-tagged x t k = elim k [ inl e ↦ ap first_byte (sym e) | inr e ↦ omega (arith, e.0) ]
@@ -78,17 +79,23 @@ first_byte-tagged x t k = elim k [ inl e ↦ ap first_byte (sym e) | inr e ↦ o
 pub first_bytes-tagged : (f u : List ℕ) → f ≡ map first_byte u → f ≡ map first_byte (tagged_block u)
 first_bytes-tagged f u e = e ∙ map-tagged first_byte first_byte-tagged 0 u 0xDC00
 
-pub first_byte_lanes_fit : (P : ℕ → Type 0) → ((x : ℕ) → x < 256 → P x) → (u : List ℕ) → length u ≡ 8 → Each1 (Fits w16) u → Each1 P (first_byte_lanes u)
-first_byte_lanes_fit P h u l e = of_eight (λ u. Each1 (Fits w16) u → Each1 P (first_byte_lanes u)) u l (Each1-map P (λ x. (0xE0 + x / 4096) % 65536) (λ x s. h _ (omega (arith, s))) (eight_lanes u)) e
+pub first_byte_lanes_fit : (P : ℕ → Type 0) → ((x : ℕ) → x < 256 → P x) → (u : List ℕ) → length u ≡ 8 → Each1 (Fits w16) u
+    → Each1 P (first_byte_lanes u)
+first_byte_lanes_fit P h u l e = of_eight (λ u. Each1 (Fits w16) u → Each1 P (first_byte_lanes u)) u l
+    (Each1-map P (λ x. (0xE0 + x / 4096) % 65536) (λ x s. h _ (omega (arith, s))) (eight_lanes u)) e
 
 abbrev scalar_second_byte_lanes : List ℕ → List ℕ
 scalar_second_byte_lanes u = lanes_add (select_by ltb 0x800 u (replicate 8 0xC0) (replicate 8 0x80)) (lanes_rem 64 (lanes_div 64 u))
 
 scalar_second_byte-lane : (x : ℕ) → (cond (top 15 (cond (ltb x 0x800) 0xFFFF 0)) 0xC0 0x80 + x / 64 % 64) % 65536 ≡ scalar_second_byte x
-scalar_second_byte-lane x = elim (cases_lt x 0x800) [ inl l ↦ rw (lt-ltb x 0x800 l) (omega arith) | inr g ↦ rw (le-ltb x 0x800 g) (omega arith) ]
+scalar_second_byte-lane x = elim (cases_lt x 0x800) [
+  | inl l ↦ rw (lt-ltb x 0x800 l) (omega arith)
+  | inr g ↦ rw (le-ltb x 0x800 g) (omega arith)
+]
 
 pub scalar_second_byte_lanes-map : (u : List ℕ) → length u ≡ 8 → scalar_second_byte_lanes u ≡ map scalar_second_byte u
-scalar_second_byte_lanes-map u l = of_eight (λ u. scalar_second_byte_lanes u ≡ map scalar_second_byte u) u l (map-same (λ x. (cond (top 15 (cond (ltb x 0x800) 0xFFFF 0)) 0xC0 0x80 + x / 64 % 64) % 65536) scalar_second_byte scalar_second_byte-lane (eight_lanes u))
+scalar_second_byte_lanes-map u l = of_eight (λ u. scalar_second_byte_lanes u ≡ map scalar_second_byte u) u l (map-same (λ x. (cond
+    (top 15 (cond (ltb x 0x800) 0xFFFF 0)) 0xC0 0x80 + x / 64 % 64) % 65536) scalar_second_byte scalar_second_byte-lane (eight_lanes u))
 
 abbrev scalar_last_byte_lanes : List ℕ → List ℕ
 scalar_last_byte_lanes u = select_by ltb 0x80 u u (lanes_add (replicate 8 0x80) (lanes_rem 64 u))
@@ -97,7 +104,8 @@ scalar_last_byte-lane : (x : ℕ) → cond (top 15 (cond (ltb x 0x80) 0xFFFF 0))
 scalar_last_byte-lane x = elim (cases_lt x 0x80) [ inl l ↦ rw (lt-ltb x 0x80 l) refl | inr g ↦ rw (le-ltb x 0x80 g) (omega arith) ]
 
 pub scalar_last_byte_lanes-map : (u : List ℕ) → length u ≡ 8 → scalar_last_byte_lanes u ≡ map scalar_last_byte u
-scalar_last_byte_lanes-map u l = of_eight (λ u. scalar_last_byte_lanes u ≡ map scalar_last_byte u) u l (map-same (λ x. cond (top 15 (cond (ltb x 0x80) 0xFFFF 0)) x ((0x80 + x % 64) % 65536)) scalar_last_byte scalar_last_byte-lane (eight_lanes u))
+scalar_last_byte_lanes-map u l = of_eight (λ u. scalar_last_byte_lanes u ≡ map scalar_last_byte u) u l (map-same
+    (λ x. cond (top 15 (cond (ltb x 0x80) 0xFFFF 0)) x ((0x80 + x % 64) % 65536)) scalar_last_byte scalar_last_byte-lane (eight_lanes u))
 
 abbrev flag_from : ℕ → ℕ → ℕ
 flag_from k n = (if nat_lt n k then 0 else 1) * 0x80
@@ -149,14 +157,20 @@ pair_trail_lanes u =
 
 pair_lanes : (u : List ℕ) → length u ≡ 8 → ArePairHalves (tagged_block u) (pair_lead_lanes u) (pair_trail_lanes u)
 pair_lanes u l = record {
-  lead = of_eight (λ u. pair_lead_lanes u ≡ map lead_mask (tagged_block u)) u l (λ i. lead_mask-lane 0 (get_or u 0 0) (get_or u 1 0) i ∷ lead 0 1 2 i ∷ lead 1 2 3 i ∷ lead 2 3 4 i ∷ lead 3 4 5 i ∷ lead 4 5 6 i ∷ lead 5 6 7 i ∷ lead_mask-lane (get_or u 6 0) (get_or u 7 0) 0xDC00 i ∷ []);
-  trail = of_eight (λ u. pair_trail_lanes u ≡ map trail_mask (tagged_block u)) u l (λ i. trail_mask-lane 0 (get_or u 0 0) (get_or u 1 0) i ∷ trail 0 1 2 i ∷ trail 1 2 3 i ∷ trail 2 3 4 i ∷ trail 3 4 5 i ∷ trail 4 5 6 i ∷ trail 5 6 7 i ∷ trail_mask-lane (get_or u 6 0) (get_or u 7 0) 0xDC00 i ∷ []);
+  lead = of_eight (λ u. pair_lead_lanes u ≡ map lead_mask (tagged_block u)) u l (λ i. lead_mask-lane 0 (get_or u 0 0)
+      (get_or u 1 0) i ∷ lead 0 1 2 i ∷ lead 1 2 3 i ∷ lead 2 3 4 i ∷ lead 3 4 5 i ∷ lead 4 5 6 i ∷ lead 5 6 7 i ∷ lead_mask-lane
+      (get_or u 6 0) (get_or u 7 0) 0xDC00 i ∷ []);
+  trail = of_eight (λ u. pair_trail_lanes u ≡ map trail_mask (tagged_block u)) u l (λ i. trail_mask-lane 0 (get_or u 0 0)
+      (get_or u 1 0) i ∷ trail 0 1 2 i ∷ trail 1 2 3 i ∷ trail 2 3 4 i ∷ trail 3 4 5 i ∷ trail 4 5 6 i ∷ trail 5 6 7 i ∷ trail_mask-lane
+      (get_or u 6 0) (get_or u 7 0) 0xDC00 i ∷ []);
 }
   where
-    lead : (j k m : ℕ) → bit_and (cond (eqb (get_or u k 0 / 1024) 54) 0xFFFF 0) (cond (eqb (get_or u m 0 / 1024) 55) 0xFFFF 0) ≡ lead_mask (tagged (get_or u j 0) (get_or u k 0) (get_or u m 0))
+    lead : (j k m : ℕ) → bit_and (cond (eqb (get_or u k 0 / 1024) 54) 0xFFFF 0) (cond (eqb (get_or u m 0 / 1024) 55) 0xFFFF 0)
+        ≡ lead_mask (tagged (get_or u j 0) (get_or u k 0) (get_or u m 0))
     lead j k m = lead_mask-lane (get_or u j 0) (get_or u k 0) (get_or u m 0)
 
-    trail : (j k m : ℕ) → bit_and (cond (eqb (get_or u k 0 / 1024) 55) 0xFFFF 0) (cond (eqb (get_or u j 0 / 1024) 54) 0xFFFF 0) ≡ trail_mask (tagged (get_or u j 0) (get_or u k 0) (get_or u m 0))
+    trail : (j k m : ℕ) → bit_and (cond (eqb (get_or u k 0 / 1024) 55) 0xFFFF 0) (cond (eqb (get_or u j 0 / 1024) 54) 0xFFFF 0)
+        ≡ trail_mask (tagged (get_or u j 0) (get_or u k 0) (get_or u m 0))
     trail j k m = trail_mask-lane (get_or u j 0) (get_or u k 0) (get_or u m 0)
 
 -- The three candidate bytes of units that may be surrogates: of the unit `x`, tagged as `t`.
@@ -167,7 +181,8 @@ lead_second_byte x = (0xF0 + (x % 1024 + 64) % 65536 / 256) % 65536
 abbrev trail_second_byte : ℕ → ℕ → ℕ
 trail_second_byte b x = ((0x80 + b % 4 * 16 % 65536) % 65536 + x / 64 % 16) % 65536
 
-second_byte-lane : (b x d t : ℕ) → IsTag b d → IsTag x t → cond (top 15 (lead_mask t)) (lead_second_byte x) (cond (top 15 (trail_mask t)) (trail_second_byte b x) (scalar_second_byte x)) ≡ second_byte d t
+second_byte-lane : (b x d t : ℕ) → IsTag b d → IsTag x t → cond (top 15 (lead_mask t)) (lead_second_byte x)
+    (cond (top 15 (trail_mask t)) (trail_second_byte b x) (scalar_second_byte x)) ≡ second_byte d t
 second_byte-lane b x d t k m =
     let low : b % 4 ≡ d % 4 = elim k [ inl e ↦ omega (arith, e) | inr e ↦ omega (arith, e.0) ] in
     elim m [ inl e ↦ grind (arith, nat_tests, low, e) | inr e ↦ grind (arith, nat_tests, low, e.0, e.1.0, e.1.1) ]
@@ -176,13 +191,18 @@ abbrev second_byte_lanes : List ℕ → List ℕ → List ℕ → List ℕ → L
 second_byte_lanes leads trails own u =
     let before = pick_l 0 (u ++ replicate 8 0) (8 ∷ 0 ∷ 1 ∷ 2 ∷ 3 ∷ 4 ∷ 5 ∷ 6 ∷ []) in
     sel_l (map (top 15) leads) (lanes_add (replicate 8 0xF0) (lanes_div 256 (lanes_add (lanes_rem 1024 u) (replicate 8 64))))
-    (sel_l (map (top 15) trails) (lanes_add (lanes_add (replicate 8 0x80) (zip2 (λ a b. a * b % 65536) (lanes_rem 4 before) (replicate 8 16))) (lanes_rem 16 (lanes_div 64 u))) own)
+    (sel_l (map (top 15) trails) (lanes_add
+    (lanes_add (replicate 8 0x80) (zip2 (λ a b. a * b % 65536) (lanes_rem 4 before) (replicate 8 16))) (lanes_rem 16 (lanes_div 64 u))) own)
 
-second_byte_lanes-zip2 : (leads trails own u : List ℕ) → length u ≡ 8 → ArePairHalves (tagged_block u) leads trails → own ≡ map scalar_second_byte u → second_byte_lanes leads trails own u ≡ zip2 second_byte (0 ∷ tagged_block u) (tagged_block u)
-second_byte_lanes-zip2 leads trails own u l p e = rw (e, p.lead, p.trail) (of_eight (λ u. second_byte_lanes (map lead_mask (tagged_block u)) (map trail_mask (tagged_block u)) (map scalar_second_byte u) u ≡ zip2 second_byte (0 ∷ tagged_block u) (tagged_block u)) u l
+second_byte_lanes-zip2 : (leads trails own u : List ℕ) → length u ≡ 8 → ArePairHalves (tagged_block u) leads trails
+    → own ≡ map scalar_second_byte u → second_byte_lanes leads trails own u ≡ zip2 second_byte (0 ∷ tagged_block u) (tagged_block u)
+second_byte_lanes-zip2 leads trails own u l p e = rw (e, p.lead, p.trail) (of_eight (λ u. second_byte_lanes (map lead_mask (tagged_block u))
+    (map trail_mask (tagged_block u)) (map scalar_second_byte u) u ≡ zip2 second_byte (0 ∷ tagged_block u) (tagged_block u)) u l
     (λ i. second_byte-lane 0 (unit 0) 0 (tag 0 (unit 0) (unit 1)) (inl refl) (IsTag-tagged 0 (unit 0) (unit 1)) i
-    ∷ lane 0 (unit 0) (unit 1) (unit 2) i ∷ lane (unit 0) (unit 1) (unit 2) (unit 3) i ∷ lane (unit 1) (unit 2) (unit 3) (unit 4) i ∷ lane (unit 2) (unit 3) (unit 4) (unit 5) i
-    ∷ lane (unit 3) (unit 4) (unit 5) (unit 6) i ∷ lane (unit 4) (unit 5) (unit 6) (unit 7) i ∷ lane (unit 5) (unit 6) (unit 7) 0xDC00 i ∷ []))
+    ∷ lane 0 (unit 0) (unit 1) (unit 2) i ∷ lane (unit 0) (unit 1) (unit 2) (unit 3) i ∷ lane (unit 1) (unit 2) (unit 3) (unit 4) i ∷ lane
+    (unit 2) (unit 3) (unit 4) (unit 5) i
+    ∷ lane (unit 3) (unit 4) (unit 5) (unit 6) i ∷ lane (unit 4) (unit 5) (unit 6) (unit 7) i ∷ lane (unit 5) (unit 6)
+    (unit 7) 0xDC00 i ∷ []))
   where
     unit : ℕ → ℕ
     unit k = get_or u k 0
@@ -190,7 +210,8 @@ second_byte_lanes-zip2 leads trails own u l p e = rw (e, p.lead, p.trail) (of_ei
     tag : ℕ → ℕ → ℕ → ℕ
     tag = tagged
 
-    lane : (a b x n : ℕ) → cond (top 15 (lead_mask (tagged b x n))) (lead_second_byte x) (cond (top 15 (trail_mask (tagged b x n))) (trail_second_byte b x) (scalar_second_byte x)) ≡ second_byte (tagged a b x) (tagged b x n)
+    lane : (a b x n : ℕ) → cond (top 15 (lead_mask (tagged b x n))) (lead_second_byte x) (cond (top 15 (trail_mask (tagged b x n)))
+        (trail_second_byte b x) (scalar_second_byte x)) ≡ second_byte (tagged a b x) (tagged b x n)
     lane a b x n = second_byte-lane b x (tagged a b x) (tagged b x n) (IsTag-tagged a b x) (IsTag-tagged b x n)
 
 abbrev lead_last_byte : ℕ → ℕ
@@ -200,12 +221,17 @@ last_byte-lane : (x t : ℕ) → IsTag x t → cond (top 15 (lead_mask t)) (lead
 last_byte-lane x t m = elim m [ inl e ↦ grind (arith, nat_tests, e) | inr e ↦ grind (arith, nat_tests, e.0, e.1.0, e.1.1) ]
 
 abbrev last_byte_lanes : List ℕ → List ℕ → List ℕ → List ℕ
-last_byte_lanes leads own u = sel_l (map (top 15) leads) (lanes_add (replicate 8 0x80) (lanes_rem 64 (lanes_div 4 (lanes_add (lanes_rem 1024 u) (replicate 8 64))))) own
+last_byte_lanes leads own u = sel_l (map (top 15) leads)
+    (lanes_add (replicate 8 0x80) (lanes_rem 64 (lanes_div 4 (lanes_add (lanes_rem 1024 u) (replicate 8 64))))) own
 
-last_byte_lanes-map : (leads own u : List ℕ) → length u ≡ 8 → leads ≡ map lead_mask (tagged_block u) → own ≡ map scalar_last_byte u → last_byte_lanes leads own u ≡ map last_byte (tagged_block u)
-last_byte_lanes-map leads own u l p e = rw (e, p) (of_eight (λ u. last_byte_lanes (map lead_mask (tagged_block u)) (map scalar_last_byte u) u ≡ map last_byte (tagged_block u)) u l
-    (λ i. lane 0 (unit 0) (unit 1) i ∷ lane (unit 0) (unit 1) (unit 2) i ∷ lane (unit 1) (unit 2) (unit 3) i ∷ lane (unit 2) (unit 3) (unit 4) i
-    ∷ lane (unit 3) (unit 4) (unit 5) i ∷ lane (unit 4) (unit 5) (unit 6) i ∷ lane (unit 5) (unit 6) (unit 7) i ∷ lane (unit 6) (unit 7) 0xDC00 i ∷ []))
+last_byte_lanes-map : (leads own u : List ℕ) → length u ≡ 8 → leads ≡ map lead_mask (tagged_block u) → own ≡ map scalar_last_byte u
+    → last_byte_lanes leads own u ≡ map last_byte (tagged_block u)
+last_byte_lanes-map leads own u l p e = rw (e, p)
+    (of_eight (λ u. last_byte_lanes (map lead_mask (tagged_block u)) (map scalar_last_byte u) u ≡ map last_byte (tagged_block u)) u l
+    (λ i. lane 0 (unit 0) (unit 1) i ∷ lane (unit 0) (unit 1) (unit 2) i ∷ lane (unit 1) (unit 2) (unit 3) i ∷ lane (unit 2)
+    (unit 3) (unit 4) i
+    ∷ lane (unit 3) (unit 4) (unit 5) i ∷ lane (unit 4) (unit 5) (unit 6) i ∷ lane (unit 5) (unit 6) (unit 7) i ∷ lane (unit 6)
+    (unit 7) 0xDC00 i ∷ []))
   where
     unit : ℕ → ℕ
     unit k = get_or u k 0
@@ -219,20 +245,27 @@ three_byte_flag n = three_byte_bit n * 0x80
 three_byte_flag-lane : (x t : ℕ) → IsTag x t → cond (top 15 (bit_or (lead_mask t) (trail_mask t))) 0 (flag_from 0x800 x) ≡ three_byte_flag t
 three_byte_flag-lane x t m = elim m [ inl e ↦ grind (arith, nat_tests, e) | inr e ↦ grind (arith, nat_tests, e.0, e.1.0, e.1.1) ]
 
-three_byte_flag_lanes-map : (leads trails m u : List ℕ) → length u ≡ 8 → ArePairHalves (tagged_block u) leads trails → m ≡ map (flag_from 0x800) u
+three_byte_flag_lanes-map : (leads trails m u : List ℕ) → length u ≡ 8 → ArePairHalves (tagged_block u) leads trails
+    → m ≡ map (flag_from 0x800) u
     → sel_l (map (top 15) (zip2 bit_or leads trails)) (replicate 8 0) m ≡ map three_byte_flag (tagged_block u)
-three_byte_flag_lanes-map leads trails m u l p e = rw (e, p.lead, p.trail) (of_eight (λ u. sel_l (map (top 15) (zip2 bit_or (map lead_mask (tagged_block u)) (map trail_mask (tagged_block u)))) (replicate 8 0) (map (flag_from 0x800) u) ≡ map three_byte_flag (tagged_block u)) u l
-    (λ i. lane 0 (unit 0) (unit 1) i ∷ lane (unit 0) (unit 1) (unit 2) i ∷ lane (unit 1) (unit 2) (unit 3) i ∷ lane (unit 2) (unit 3) (unit 4) i
-    ∷ lane (unit 3) (unit 4) (unit 5) i ∷ lane (unit 4) (unit 5) (unit 6) i ∷ lane (unit 5) (unit 6) (unit 7) i ∷ lane (unit 6) (unit 7) 0xDC00 i ∷ []))
+three_byte_flag_lanes-map leads trails m u l p e = rw (e, p.lead, p.trail)
+    (of_eight (λ u. sel_l (map (top 15) (zip2 bit_or (map lead_mask (tagged_block u)) (map trail_mask (tagged_block u)))) (replicate 8 0)
+    (map (flag_from 0x800) u) ≡ map three_byte_flag (tagged_block u)) u l
+    (λ i. lane 0 (unit 0) (unit 1) i ∷ lane (unit 0) (unit 1) (unit 2) i ∷ lane (unit 1) (unit 2) (unit 3) i ∷ lane (unit 2)
+    (unit 3) (unit 4) i
+    ∷ lane (unit 3) (unit 4) (unit 5) i ∷ lane (unit 4) (unit 5) (unit 6) i ∷ lane (unit 5) (unit 6) (unit 7) i ∷ lane (unit 6)
+    (unit 7) 0xDC00 i ∷ []))
   where
     unit : ℕ → ℕ
     unit k = get_or u k 0
 
-    lane : (b x n : ℕ) → cond (top 15 (bit_or (lead_mask (tagged b x n)) (trail_mask (tagged b x n)))) 0 (flag_from 0x800 x) ≡ three_byte_flag (tagged b x n)
+    lane : (b x n : ℕ) → cond (top 15 (bit_or (lead_mask (tagged b x n)) (trail_mask (tagged b x n)))) 0 (flag_from 0x800 x)
+        ≡ three_byte_flag (tagged b x n)
     lane b x n = three_byte_flag-lane x (tagged b x n) (IsTag-tagged b x n)
 
 -- a unit that is no surrogate has the same bytes by both computations
-candidate_bytes-scalar : (x : ℕ) → ¬ (IsSurrogate x) → (b : ℕ) → (scalar_second_byte x ≡ second_byte b x) × (scalar_last_byte x ≡ last_byte x) × (flag_from 0x800 x ≡ three_byte_flag x)
+candidate_bytes-scalar : (x : ℕ) → ¬ (IsSurrogate x) → (b : ℕ)
+    → (scalar_second_byte x ≡ second_byte b x) × (scalar_last_byte x ≡ last_byte x) × (flag_from 0x800 x ≡ three_byte_flag x)
 candidate_bytes-scalar x n b = elim (cases_lt x 0xD800) [
   | inl l ↦ (rw (lt-ltb x 0xD800 l) refl, rw (lt-ltb x 0xD800 l) refl, rw (lt-ltb x 0xD800 l) refl)
   | inr g ↦ elim (cases_lt x 0xE000) [
@@ -245,7 +278,8 @@ candidate_bytes-scalar x n b = elim (cases_lt x 0xD800) [
   ]
 ]
 
-scalar_candidates : (b u : List ℕ) → length u ≤ length b → AreScalarUnits u → (map scalar_second_byte u ≡ zip2 second_byte b u) × (map scalar_last_byte u ≡ map last_byte u) × (map (flag_from 0x800) u ≡ map three_byte_flag u)
+scalar_candidates : (b u : List ℕ) → length u ≤ length b → AreScalarUnits u → (map scalar_second_byte u ≡ zip2 second_byte b u)
+    × (map scalar_last_byte u ≡ map last_byte u) × (map (flag_from 0x800) u ≡ map three_byte_flag u)
 scalar_candidates [] [] l h = (refl, refl, refl)
 scalar_candidates (y ∷ b) [] l h = (refl, refl, refl)
 scalar_candidates [] (x ∷ u) l h = absurd (omega (arith, l))
@@ -259,7 +293,8 @@ pub tagged_units-scalar : (b : ℕ) (u : List ℕ) (a : ℕ) → AreScalarUnits 
 tagged_units-scalar b [] a h = refl
 tagged_units-scalar b (x ∷ u) a h = λ i. tagged-scalar b x (get_or u 0 a) h.0.1 i ∷ tagged_units-scalar x u a h.1 i
 
-pub scalar_lanes : (u : List ℕ) → AreScalarUnits u → (map scalar_second_byte u ≡ zip2 second_byte (0 ∷ tagged_block u) (tagged_block u)) × (map scalar_last_byte u ≡ map last_byte (tagged_block u)) × (map (flag_from 0x800) u ≡ map three_byte_flag (tagged_block u))
+pub scalar_lanes : (u : List ℕ) → AreScalarUnits u → (map scalar_second_byte u ≡ zip2 second_byte (0 ∷ tagged_block u) (tagged_block u))
+    × (map scalar_last_byte u ≡ map last_byte (tagged_block u)) × (map (flag_from 0x800) u ≡ map three_byte_flag (tagged_block u))
 scalar_lanes u h = rw (tagged_units-scalar 0 u 0xDC00 h) (scalar_candidates (0 ∷ u) u (omega arith) h)
 
 pub units-scalar_block : (u : List ℕ) → AreScalarUnits u → Each1 IsUnit (tagged_block u)
@@ -276,28 +311,46 @@ lone_lane x t = top 15 (bit_xor (cond (eqb (x / 2048) 27) 0xFFFF 0) (bit_or (lea
 lone_lane-tagged : (x : ℕ) → IsSurrogate x → lone_lane x (x + 0x10000) ≡ true
 lone_lane-tagged x s =
     let kind = eq-eqb (x / 2048) 27 (omega (arith, s)) in
-    rw (kind, le-ltb (x + 0x10000) 0xD800 (omega (arith, s)), le-ltb (x + 0x10000) 0xDC00 (omega (arith, s)), le-ltb (x + 0x10000) 0xE000 (omega (arith, s))) refl
+    rw (
+      kind,
+      le-ltb (x + 0x10000) 0xD800 (omega (arith, s)),
+      le-ltb (x + 0x10000) 0xDC00 (omega (arith, s)),
+      le-ltb (x + 0x10000) 0xE000 (omega (arith, s)),
+    ) refl
 
 unit-from_lane : (x t : ℕ) → x < 0x10000 → IsTag x t → lone_lane x t ≡ false → IsUnit t
-unit-from_lane x t h m e = elim m [ inl same ↦ omega (arith, same, h) | inr lone ↦ absurd (false≢true (sym e ∙ ap (lone_lane x) lone.0 ∙ lone_lane-tagged x lone.1)) ]
+unit-from_lane x t h m e = elim m [
+  | inl same ↦ omega (arith, same, h)
+  | inr lone ↦ absurd (false≢true (sym e ∙ ap (lone_lane x) lone.0 ∙ lone_lane-tagged x lone.1))
+]
 
-units-from_mask : (b : ℕ) (u : List ℕ) (a : ℕ) → Each1 (Fits w16) u → mask_l (zip2 lone_lane u (tagged_units b u a)) ≡ 0 → Each1 IsUnit (tagged_units b u a)
+units-from_mask : (b : ℕ) (u : List ℕ) (a : ℕ) → Each1 (Fits w16) u → mask_l (zip2 lone_lane u (tagged_units b u a)) ≡ 0
+    → Each1 IsUnit (tagged_units b u a)
 units-from_mask b [] a f e = tt
 units-from_mask b (x ∷ u) a f e = elim (cases_Bool (lone_lane x (tagged b x (get_or u 0 a)))) [
   | inl t ↦ absurd (omega (arith, rw t at e))
-  | inr n ↦ (unit-from_lane x (tagged b x (get_or u 0 a)) f.0.fits (IsTag-tagged b x (get_or u 0 a)) n, units-from_mask x u a f.1 (omega (arith, e)))
+  | inr n ↦ (
+    unit-from_lane x (tagged b x (get_or u 0 a)) f.0.fits (IsTag-tagged b x (get_or u 0 a)) n,
+    units-from_mask x u a f.1 (omega (arith, e)),
+  )
 ]
 
 abbrev lone_mask : List ℕ → List ℕ → List ℕ → List Bool
-lone_mask leads trails u = map (top 15) (zip2 bit_xor (zip2 (λ a b. cond (eqb a b) 0xFFFF 0) (lanes_div 2048 u) (replicate 8 27)) (zip2 bit_or leads trails))
+lone_mask leads trails u =
+    map (top 15) (zip2 bit_xor (zip2 (λ a b. cond (eqb a b) 0xFFFF 0) (lanes_div 2048 u) (replicate 8 27)) (zip2 bit_or leads trails))
 
-units-from_zero_mask : (leads trails u : List ℕ) → length u ≡ 8 → Each1 (Fits w16) u → ArePairHalves (tagged_block u) leads trails → mask_l (lone_mask leads trails u) % 2 ^ 64 ≡ 0 → Each1 IsUnit (tagged_block u)
+units-from_zero_mask : (leads trails u : List ℕ) → length u ≡ 8 → Each1 (Fits w16) u → ArePairHalves (tagged_block u) leads trails
+    → mask_l (lone_mask leads trails u) % 2 ^ 64 ≡ 0 → Each1 IsUnit (tagged_block u)
 units-from_zero_mask leads trails u l f p e =
-    of_eight (λ u. Each1 (Fits w16) u → mask_l (lone_mask (map lead_mask (tagged_block u)) (map trail_mask (tagged_block u)) u) % 2 ^ 64 ≡ 0 → Each1 IsUnit (tagged_block u)) u l
-    (λ f e. units-from_mask 0 (eight_lanes u) 0xDC00 f (sym (mask_l-mod (zip2 lone_lane (eight_lanes u) (tagged_block (eight_lanes u))) 64 (omega arith)) ∙ e)) f (rw (p.lead, p.trail) at e)
+    of_eight (λ u. Each1 (Fits w16) u → mask_l (lone_mask (map lead_mask (tagged_block u)) (map trail_mask (tagged_block u)) u) % 2 ^ 64 ≡ 0
+    → Each1 IsUnit (tagged_block u)) u l
+    (λ f e. units-from_mask 0 (eight_lanes u) 0xDC00 f
+    (sym (mask_l-mod (zip2 lone_lane (eight_lanes u) (tagged_block (eight_lanes u))) 64 (omega arith)) ∙ e)) f (rw (p.lead, p.trail) at e)
 
-pub later_lanes : (own lasts m u : List ℕ) → length u ≡ 8 → own ≡ map scalar_second_byte u → lasts ≡ map scalar_last_byte u → m ≡ map (flag_from 0x800) u
-    → AreLaterBytes (tagged_block u) (second_byte_lanes (pair_lead_lanes u) (pair_trail_lanes u) own u) (last_byte_lanes (pair_lead_lanes u) lasts u) (sel_l (map (top 15) (zip2 bit_or (pair_lead_lanes u) (pair_trail_lanes u))) (replicate 8 0) m)
+pub later_lanes : (own lasts m u : List ℕ) → length u ≡ 8 → own ≡ map scalar_second_byte u → lasts ≡ map scalar_last_byte u
+    → m ≡ map (flag_from 0x800) u
+    → AreLaterBytes (tagged_block u) (second_byte_lanes (pair_lead_lanes u) (pair_trail_lanes u) own u) (last_byte_lanes
+    (pair_lead_lanes u) lasts u) (sel_l (map (top 15) (zip2 bit_or (pair_lead_lanes u) (pair_trail_lanes u))) (replicate 8 0) m)
 later_lanes own lasts m u l x y z =
     let pairs = pair_lanes u l in
     record {
@@ -306,7 +359,8 @@ later_lanes own lasts m u l x y z =
       long = three_byte_flag_lanes-map (pair_lead_lanes u) (pair_trail_lanes u) m u l pairs z;
     }
 
-pub units-from_lone_mask : (u : List ℕ) → length u ≡ 8 → Each1 (Fits w16) u → mask_l (lone_mask (pair_lead_lanes u) (pair_trail_lanes u) u) % 2 ^ 64 ≡ 0 → Each1 IsUnit (tagged_block u)
+pub units-from_lone_mask : (u : List ℕ) → length u ≡ 8 → Each1 (Fits w16) u
+    → mask_l (lone_mask (pair_lead_lanes u) (pair_trail_lanes u) u) % 2 ^ 64 ≡ 0 → Each1 IsUnit (tagged_block u)
 units-from_lone_mask u l f = units-from_zero_mask (pair_lead_lanes u) (pair_trail_lanes u) u l f (pair_lanes u l)
 
 -- The candidate bytes as 8-bit lanes, four units at a time, and the table index of their lengths.
@@ -333,10 +387,14 @@ pub IsByteCount-byte_count : (n : ℕ) → IsByteCount (byte_count n)
 IsByteCount-byte_count n = let counts = byte_count_bits_bound n in (omega arith, omega (arith, counts.0, counts.1))
 
 pub three_byte_flags_fit : (P : ℕ → Type 0) → ((x : ℕ) → x < 256 → P x) → (u : List ℕ) → Each1 P (map three_byte_flag u)
-three_byte_flags_fit P h = Each1-map_all P three_byte_flag (λ x. let counts = byte_count_bits_bound x in h _ (omega (arith, counts.0, counts.1)))
+three_byte_flags_fit P h =
+    Each1-map_all P three_byte_flag (λ x. let counts = byte_count_bits_bound x in h _ (omega (arith, counts.0, counts.1)))
 
 pub flags_from_fit : (P : ℕ → Type 0) → ((x : ℕ) → x < 256 → P x) → (k : ℕ) (u : List ℕ) → Each1 P (map (flag_from k) u)
-flags_from_fit P h k = Each1-map_all P (flag_from k) (λ x. elim (cases_lt x k) [ inl l ↦ rw (lt-ltb x k l) (h _ (omega arith)) | inr g ↦ rw (le-ltb x k g) (h _ (omega arith)) ])
+flags_from_fit P h k = Each1-map_all P (flag_from k) (λ x. elim (cases_lt x k) [
+  | inl l ↦ rw (lt-ltb x k l) (h _ (omega arith))
+  | inr g ↦ rw (le-ltb x k g) (h _ (omega arith))
+])
 
 abbrev narrowed : List ℕ → List ℕ
 narrowed = map (λ x. x)
@@ -347,20 +405,23 @@ picked_lanes f s l js ks = pick_l 0 (f ++ narrowed s) js ++ pick_l 0 (narrowed l
 pub front_lanes : (u f s l : List ℕ) → length u ≡ 8 → f ≡ map first_byte u → s ≡ zip2 second_byte (0 ∷ u) u → l ≡ map last_byte u
     → picked_lanes f s l (0 ∷ 1 ∷ 2 ∷ 3 ∷ 8 ∷ 9 ∷ 10 ∷ 11 ∷ []) (0 ∷ 1 ∷ 2 ∷ 3 ∷ []) ≡ byte_lanes 0 (take 4 u)
 front_lanes u f s l long x y z =
-    rw (x, y, z) (of_eight (λ u. picked_lanes (map first_byte u) (zip2 second_byte (0 ∷ u) u) (map last_byte u) (0 ∷ 1 ∷ 2 ∷ 3 ∷ 8 ∷ 9 ∷ 10 ∷ 11 ∷ []) (0 ∷ 1 ∷ 2 ∷ 3 ∷ [])
+    rw (x, y, z) (of_eight (λ u. picked_lanes (map first_byte u) (zip2 second_byte (0 ∷ u) u) (map last_byte u)
+    (0 ∷ 1 ∷ 2 ∷ 3 ∷ 8 ∷ 9 ∷ 10 ∷ 11 ∷ []) (0 ∷ 1 ∷ 2 ∷ 3 ∷ [])
     ≡ byte_lanes 0 (take 4 u)) u long refl)
 
 pub back_lanes : (u f s l : List ℕ) → length u ≡ 8 → f ≡ map first_byte u → s ≡ zip2 second_byte (0 ∷ u) u → l ≡ map last_byte u
     → picked_lanes f s l (4 ∷ 5 ∷ 6 ∷ 7 ∷ 12 ∷ 13 ∷ 14 ∷ 15 ∷ []) (4 ∷ 5 ∷ 6 ∷ 7 ∷ []) ≡ byte_lanes (get_or u 3 0) (drop 4 u)
 back_lanes u f s l long x y z =
-    rw (x, y, z) (of_eight (λ u. picked_lanes (map first_byte u) (zip2 second_byte (0 ∷ u) u) (map last_byte u) (4 ∷ 5 ∷ 6 ∷ 7 ∷ 12 ∷ 13 ∷ 14 ∷ 15 ∷ []) (4 ∷ 5 ∷ 6 ∷ 7 ∷ [])
+    rw (x, y, z) (of_eight (λ u. picked_lanes (map first_byte u) (zip2 second_byte (0 ∷ u) u) (map last_byte u)
+    (4 ∷ 5 ∷ 6 ∷ 7 ∷ 12 ∷ 13 ∷ 14 ∷ 15 ∷ []) (4 ∷ 5 ∷ 6 ∷ 7 ∷ [])
     ≡ byte_lanes (get_or u 3 0) (drop 4 u)) u long refl)
 
 abbrev flag_is_set : ℕ → Bool
 flag_is_set y = top 7 (cond (leb 128 y) 255 0)
 
 abbrev flags_set : List ℕ → List ℕ → List Bool
-flags_set m n = map flag_is_set (pick_l 0 (narrowed m ++ narrowed n) (0 ∷ 1 ∷ 2 ∷ 3 ∷ 8 ∷ 9 ∷ 10 ∷ 11 ∷ 4 ∷ 5 ∷ 6 ∷ 7 ∷ 12 ∷ 13 ∷ 14 ∷ 15 ∷ []))
+flags_set m n =
+    map flag_is_set (pick_l 0 (narrowed m ++ narrowed n) (0 ∷ 1 ∷ 2 ∷ 3 ∷ 8 ∷ 9 ∷ 10 ∷ 11 ∷ 4 ∷ 5 ∷ 6 ∷ 7 ∷ 12 ∷ 13 ∷ 14 ∷ 15 ∷ []))
 
 -- the mask bit of the flag `t * 0x80` is `t`
 flag_is_set-bit : (t : ℕ) → t ≤ 1 → cond (flag_is_set (t * 0x80)) 1 0 ≡ t
@@ -370,10 +431,14 @@ flag_is_set-bit t h = elim (cases_lt t 1) [
 ]
 
 flag_from-byte_count : (n : ℕ) → cond (flag_is_set (flag_from 0x80 n)) 1 0 ≡ byte_count n / 2
-flag_from-byte_count n = let counts = byte_count_bits_bound n in flag_is_set-bit (multi_byte_bit n) counts.1 ∙ omega (arith, counts.0, counts.1)
+flag_from-byte_count n =
+    let counts = byte_count_bits_bound n in
+    flag_is_set-bit (multi_byte_bit n) counts.1 ∙ omega (arith, counts.0, counts.1)
 
 three_byte_flag-byte_count : (n : ℕ) → cond (flag_is_set (three_byte_flag n)) 1 0 ≡ byte_count n / 3
-three_byte_flag-byte_count n = let counts = byte_count_bits_bound n in flag_is_set-bit (three_byte_bit n) (omega (arith, counts.0, counts.1)) ∙ omega (arith, counts.0, counts.1)
+three_byte_flag-byte_count n =
+    let counts = byte_count_bits_bound n in
+    flag_is_set-bit (three_byte_bit n) (omega (arith, counts.0, counts.1)) ∙ omega (arith, counts.0, counts.1)
 
 number_l-sixteen : (a b c d e f g h i j k l m n o p : ℕ) → number_l 2 (a ∷ b ∷ c ∷ d ∷ e ∷ f ∷ g ∷ h ∷ i ∷ j ∷ k ∷ l ∷ m ∷ n ∷ o ∷ p ∷ [])
     ≡ (a + b * 2 + c * 4 + d * 8 + (e + f * 2 + g * 4 + h * 8) * 16) + 256 * (i + j * 2 + k * 4 + l * 8 + (m + n * 2 + o * 4 + p * 8) * 16)
@@ -387,8 +452,10 @@ pub mask_l-table_indexes : (u m n : List ℕ) → length u ≡ 8 → m ≡ map (
     → mask_l (flags_set m n) % 2 ^ 64 ≡ units_table_index (take 4 u) + 256 * units_table_index (drop 4 u)
 mask_l-table_indexes u m n long x y =
     mask_l-mod (flags_set m n) 64 (omega arith) ∙ mask_l-number_l (flags_set m n)
-    ∙ rw (x, y) (of_eight (λ u. number_l 2 (map (λ b. cond {A = ℕ} b 1 0) (flags_set (map (flag_from 0x80) u) (map three_byte_flag u))) ≡ units_table_index (take 4 u) + 256 * units_table_index (drop 4 u)) u long
-    (ap (number_l 2) listed ∙ number_l-sixteen (one 0) (one 1) (one 2) (one 3) (two 0) (two 1) (two 2) (two 3) (one 4) (one 5) (one 6) (one 7) (two 4) (two 5) (two 6) (two 7)))
+    ∙ rw (x, y) (of_eight (λ u. number_l 2 (map (λ b. cond {A = ℕ} b 1 0) (flags_set (map (flag_from 0x80) u) (map three_byte_flag u)))
+    ≡ units_table_index (take 4 u) + 256 * units_table_index (drop 4 u)) u long
+    (ap (number_l 2) listed ∙ number_l-sixteen (one 0) (one 1) (one 2) (one 3) (two 0) (two 1) (two 2) (two 3) (one 4) (one 5) (one 6)
+    (one 7) (two 4) (two 5) (two 6) (two 7)))
   where
     one : ℕ → ℕ
     one k = byte_count (get_or u k 0) / 2
@@ -408,7 +475,10 @@ mask_l-table_indexes u m n long x y =
         ∷ low 4 i ∷ low 5 i ∷ low 6 i ∷ low 7 i ∷ high 4 i ∷ high 5 i ∷ high 6 i ∷ high 7 i ∷ []
 
 multi_byte_flag-tagged : (x t : ℕ) → IsTag x t → flag_from 0x80 x ≡ flag_from 0x80 t
-multi_byte_flag-tagged x t k = elim k [ inl e ↦ ap (flag_from 0x80) (sym e) | inr e ↦ rw (e.0, le-ltb x 0x80 (omega (arith, e.1.0)), le-ltb (x + 0x10000) 0x80 (omega arith)) refl ]
+multi_byte_flag-tagged x t k = elim k [
+  | inl e ↦ ap (flag_from 0x80) (sym e)
+  | inr e ↦ rw (e.0, le-ltb x 0x80 (omega (arith, e.1.0)), le-ltb (x + 0x10000) 0x80 (omega arith)) refl
+]
 
 -- the flags of units that take more than one byte are those of the tagged units
 pub multi_byte_flags-tagged : (m u : List ℕ) → m ≡ map (flag_from 0x80) u → m ≡ map (flag_from 0x80) (tagged_block u)
@@ -418,25 +488,30 @@ table_index_bound : (a b c d : ℕ) → IsByteCount a → IsByteCount b → IsBy
 table_index_bound a b c d i j k l = omega (arith, i, j, k, l)
 
 pub units_table_index_bound : (u : List ℕ) → units_table_index u < 256
-units_table_index_bound u = table_index_bound _ _ _ _ (IsByteCount-byte_count (get_or u 0 0)) (IsByteCount-byte_count (get_or u 1 0)) (IsByteCount-byte_count (get_or u 2 0)) (IsByteCount-byte_count (get_or u 3 0))
+units_table_index_bound u = table_index_bound _ _ _ _ (IsByteCount-byte_count (get_or u 0 0)) (IsByteCount-byte_count (get_or u 1 0))
+    (IsByteCount-byte_count (get_or u 2 0)) (IsByteCount-byte_count (get_or u 3 0))
 
 -- The bytes that a row of the table picks are the pieces of the units.
 
 -- a shuffle whose indexes are below 16 has, in each lane, the source lane of that index
-swz_l-below_16 : (xs : List ℕ) (i : ℕ) (js : List ℕ) → i + length js ≤ 16 → Each1 (λ j. j < 16) js → swz_l w8 16 xs i js ≡ map (λ j. get_or xs j 0) js
+swz_l-below_16 : (xs : List ℕ) (i : ℕ) (js : List ℕ) → i + length js ≤ 16 → Each1 (λ j. j < 16) js
+    → swz_l w8 16 xs i js ≡ map (λ j. get_or xs j 0) js
 swz_l-below_16 xs i [] l h = refl
 swz_l-below_16 xs i (j ∷ js) l h =
     let here : 16 * ((i + 0) / 16) + j ≡ j = omega (arith, l) in
     let own = get_or-swz_l_below w8 16 xs i (j ∷ js) 0 (omega arith) h.0 ∙ ap (λ k. get_or xs k 0) here in
     λ k. own k ∷ swz_l-below_16 xs (suc i) js (omega (arith, l)) h.1 k
 
-source_lanes-packed_unit : (xs : List ℕ) (k b n : ℕ) → get_or xs k 0 ≡ first_byte n → get_or xs (4 + k) 0 ≡ second_byte b n → get_or xs (8 + k) 0 ≡ last_byte n
+source_lanes-packed_unit : (xs : List ℕ) (k b n : ℕ) → get_or xs k 0 ≡ first_byte n → get_or xs (4 + k) 0 ≡ second_byte b n
+    → get_or xs (8 + k) 0 ≡ last_byte n
     → map (λ j. get_or xs j 0) (source_lanes (byte_count n) k) ≡ packed_unit b n
 source_lanes-packed_unit xs k b n x y z =
-    sym (drop-map (λ j. get_or xs j 0) (3 - byte_count n) (k ∷ (4 + k) ∷ (8 + k) ∷ [])) ∙ ap (drop (3 - byte_count n)) (λ i. x i ∷ y i ∷ z i ∷ [])
+    sym (drop-map (λ j. get_or xs j 0) (3 - byte_count n) (k ∷ (4 + k) ∷ (8 + k) ∷ []))
+    ∙ ap (drop (3 - byte_count n)) (λ i. x i ∷ y i ∷ z i ∷ [])
 
 source_lanes-packed_units : (xs : List ℕ) (v a b c d : ℕ) → take 12 xs ≡ byte_lanes v (a ∷ b ∷ c ∷ d ∷ [])
-    → map (λ j. get_or xs j 0) (source_lanes (byte_count a) 0 ++ source_lanes (byte_count b) 1 ++ source_lanes (byte_count c) 2 ++ source_lanes (byte_count d) 3) ≡ packed_units v (a ∷ b ∷ c ∷ d ∷ [])
+    → map (λ j. get_or xs j 0) (source_lanes (byte_count a) 0 ++ source_lanes (byte_count b) 1 ++ source_lanes
+    (byte_count c) 2 ++ source_lanes (byte_count d) 3) ≡ packed_units v (a ∷ b ∷ c ∷ d ∷ [])
 source_lanes-packed_units xs v a b c d e =
     let from = λ (js : List ℕ). map (λ j. get_or xs j 0) js in
     let p = source_lanes (byte_count a) 0 in
@@ -444,7 +519,8 @@ source_lanes-packed_units xs v a b c d e =
     let r = source_lanes (byte_count c) 2 in
     let s = source_lanes (byte_count d) 3 in
     let split : from (p ++ q ++ r ++ s) ≡ from p ++ from q ++ from r ++ from s = search (rules, map-append) in
-    let together : packed_unit v a ++ packed_unit a b ++ packed_unit b c ++ packed_unit c d ≡ packed_units v (a ∷ b ∷ c ∷ d ∷ []) = simp (append_assoc, append-nil) in
+    let together : packed_unit v a ++ packed_unit a b ++ packed_unit b c ++ packed_unit c d ≡ packed_units v (a ∷ b ∷ c ∷ d ∷ []) =
+    simp (append_assoc, append-nil) in
     split ∙ (λ i. source_lanes-packed_unit xs 0 v a (lane 0 (omega arith)) (lane 4 (omega arith)) (lane 8 (omega arith)) i
     ++ source_lanes-packed_unit xs 1 a b (lane 1 (omega arith)) (lane 5 (omega arith)) (lane 9 (omega arith)) i
     ++ source_lanes-packed_unit xs 2 b c (lane 2 (omega arith)) (lane 6 (omega arith)) (lane 10 (omega arith)) i
@@ -456,35 +532,48 @@ source_lanes-packed_units xs v a b c d e =
 abbrev four_lanes : List ℕ → List ℕ
 four_lanes u = pick_l 0 u (0 ∷ 1 ∷ 2 ∷ 3 ∷ [])
 
-pub swz_l-packed_units : (xs row : List ℕ) (b : ℕ) (u : List ℕ) → length row ≤ 16 → Each1 (λ j. j < 16) row → length u ≡ 4 → take 12 xs ≡ byte_lanes b u
+pub swz_l-packed_units : (xs row : List ℕ) (b : ℕ) (u : List ℕ) → length row ≤ 16 → Each1 (λ j. j < 16) row → length u ≡ 4
+    → take 12 xs ≡ byte_lanes b u
     → let count = λ (k : ℕ). byte_count (get_or u k 0) in
-    take (count 0 + count 1 + count 2 + count 3) row ≡ source_lanes (count 0) 0 ++ source_lanes (count 1) 1 ++ source_lanes (count 2) 2 ++ source_lanes (count 3) 3
+    take (count 0 + count 1 + count 2 + count 3) row
+    ≡ source_lanes (count 0) 0 ++ source_lanes (count 1) 1 ++ source_lanes (count 2) 2 ++ source_lanes (count 3) 3
     → take (count 0 + count 1 + count 2 + count 3) (swz_l w8 16 xs 0 row) ≡ packed_units b u
 swz_l-packed_units xs row b u short within long lanes own =
     let n = byte_count (get_or u 0 0) + byte_count (get_or u 1 0) + byte_count (get_or u 2 0) + byte_count (get_or u 3 0) in
     let us : four_lanes u ≡ u = pick_l_whole 0 u 4 long in
-    ap (take n) (swz_l-below_16 xs 0 row (omega (arith, short)) within) ∙ take-map (λ j. get_or xs j 0) n row ∙ ap (map (λ j. get_or xs j 0)) own
-    ∙ source_lanes-packed_units xs b (get_or u 0 0) (get_or u 1 0) (get_or u 2 0) (get_or u 3 0) (lanes ∙ ap (byte_lanes b) (sym us)) ∙ ap (packed_units b) us
+    ap (take n) (swz_l-below_16 xs 0 row (omega (arith, short)) within) ∙ take-map (λ j. get_or xs j 0) n row
+    ∙ ap (map (λ j. get_or xs j 0)) own
+    ∙ source_lanes-packed_units xs b (get_or u 0 0) (get_or u 1 0) (get_or u 2 0) (get_or u 3 0) (lanes ∙ ap (byte_lanes b) (sym us))
+    ∙ ap (packed_units b) us
 
-pub packed_units-halves : (u : List ℕ) → length u ≡ 8 → packed_units 0 (take 4 u) ++ packed_units (get_or u 3 0) (drop 4 u) ≡ packed_units 0 u
-packed_units-halves u long = of_eight (λ u. packed_units 0 (take 4 u) ++ packed_units (get_or u 3 0) (drop 4 u) ≡ packed_units 0 u) u long (simp (append_assoc, append-nil))
+pub packed_units-halves : (u : List ℕ) → length u ≡ 8
+    → packed_units 0 (take 4 u) ++ packed_units (get_or u 3 0) (drop 4 u) ≡ packed_units 0 u
+packed_units-halves u long = of_eight
+    (λ u. packed_units 0 (take 4 u) ++ packed_units (get_or u 3 0) (drop 4 u) ≡ packed_units 0 u) u long (simp (append_assoc, append-nil))
 
 -- the last of eight units is not tagged if it is a lead
 last-tagged : (u : List ℕ) → length u ≡ 8 → IsLead (get_or u 7 0) → IsLead (get_or (tagged_block u) 7 0)
-last-tagged u long = of_eight (λ u. IsLead (get_or u 7 0) → IsLead (get_or (tagged_block u) 7 0)) u long (λ l. subst IsLead (sym (tagged-lead_before_trail (get_or u 6 0) (get_or u 7 0) 0xDC00 l (omega arith, omega arith))) l)
+last-tagged u long = of_eight (λ u. IsLead (get_or u 7 0) → IsLead (get_or (tagged_block u) 7 0)) u long
+    (λ l. subst IsLead (sym (tagged-lead_before_trail (get_or u 6 0) (get_or u 7 0) 0xDC00 l (omega arith, omega arith))) l)
 
 -- without the two bytes of a lead at the end, the bytes are the pieces of the seven units before it
-pub take-without_lead : (w kept u : List ℕ) (all : ℕ) → length u ≡ 8 → all ≤ length w → IsLead (get_or u 7 0) → take all w ≡ kept ++ packed_units 0 (tagged_block u)
+pub take-without_lead : (w kept u : List ℕ) (all : ℕ) → length u ≡ 8 → all ≤ length w → IsLead (get_or u 7 0)
+    → take all w ≡ kept ++ packed_units 0 (tagged_block u)
     → (2 ≤ all) × (take (all - 2) w ≡ kept ++ packed_units 0 (take 7 (tagged_block u)))
 take-without_lead w kept u all long within lead e = without (tagged_block u) (length-tagged_block u long) (last-tagged u long lead) e
   where
-    without : (t : List ℕ) → length t ≡ 8 → IsLead (get_or t 7 0) → take all w ≡ kept ++ packed_units 0 t → (2 ≤ all) × (take (all - 2) w ≡ kept ++ packed_units 0 (take 7 t))
+    without : (t : List ℕ) → length t ≡ 8 → IsLead (get_or t 7 0) → take all w ≡ kept ++ packed_units 0 t
+        → (2 ≤ all) × (take (all - 2) w ≡ kept ++ packed_units 0 (take 7 t))
     without t long lead e =
         let front = kept ++ packed_units 0 (take 7 t) in
         let last = packed_unit (get_or t 6 0) (get_or t 7 0) in
-        let split : packed_units 0 t ≡ packed_units 0 (take 7 t) ++ last = of_eight (λ u. packed_units 0 u ≡ packed_units 0 (take 7 u) ++ packed_unit (get_or u 6 0) (get_or u 7 0)) t long (simp (append_assoc, append-nil)) in
+        let split : packed_units 0 t ≡ packed_units 0 (take 7 t) ++ last = of_eight (λ u. packed_units 0 u ≡ packed_units 0
+        (take 7 u) ++ packed_unit (get_or u 6 0) (get_or u 7 0)) t long (simp (append_assoc, append-nil)) in
         let whole : take all w ≡ front ++ last = e ∙ ap (λ p. kept ++ p) split ∙ sym (append_assoc kept (packed_units 0 (take 7 t)) last) in
         let two : length last ≡ 2 = ap length (packed_unit-lead (get_or t 6 0) (get_or t 7 0) lead) in
         let count : all ≡ length front + 2 = omega (arith, length-take-le all w within, ap length whole, length-append front last, two) in
-        let left : all - 2 ≡ length front = omega (arith, count) in
-        (omega (arith, count), sym (take-take (all - 2) all w (omega arith)) ∙ ap (take (all - 2)) whole ∙ ap (λ n. take n (front ++ last)) left ∙ take-append_seam front last)
+        let left : all - 2 ≡ length front = omega (arith, count) in (
+          omega (arith, count),
+          sym (take-take (all - 2) all w (omega arith)) ∙ ap (take (all - 2)) whole ∙ ap (λ n. take n (front ++ last)) left
+              ∙ take-append_seam front last,
+        )

@@ -1,16 +1,12 @@
 -- Blocks of units of any kinds: their tags, and the piece of bytes that each unit contributes.
-use Rattle.wtf8.proofs.Common.{◌≡◌, ℕ, zero, suc, ◌+◌, ◌-◌, ◌*◌, ◌/◌, ◌%◌, ◌<◌, ◌≤◌, List, [], ◌∷◌, ◌++◌, length, take, get_or}
-use Rattle.wtf8.proofs.Common.{refl, sym, ap, ◌∙◌, arith, lt-ltb, le-ltb, subst, cases_lt, inl, inr, true, false, drop, append-nil, append_assoc, IsSurrogate, encoding}
-use Rattle.wtf8.proofs.Common.{IsKnownForm, Fits, Each1, Bool, IsTrue, ◌&&◌, MeetsAsPair, DividesNoPair, length-chunk, take_all}
-use Rattle.std.specs.Int.{w16}
-use Rattle.std.proofs.Math.Seq.{take-append-add}
-use Rattle.std.proofs.lemmas.List.{length-take-le, take-append-le, take-take, get_or-take, drop_more}
+use Rattle.wtf8.proofs.Common.{◌≡◌, ℕ, zero, suc, ◌+◌, ◌-◌, ◌*◌, ◌/◌, ◌%◌, ◌<◌, ◌≤◌, List, [], ◌∷◌, ◌++◌, length, take, get_or, refl, sym}
+use Rattle.wtf8.proofs.Common.{ap, ◌∙◌, arith, lt-ltb, le-ltb, subst, cases_lt, inl, inr, true, false, drop, append-nil, append_assoc}
+use Rattle.wtf8.proofs.Common.{IsSurrogate, encoding, IsKnownForm, Fits, Each1, Bool, IsTrue, ◌&&◌, MeetsAsPair, DividesNoPair}
+use Rattle.wtf8.proofs.Common.{length-chunk, take_all, w16, take-append-add, length-take-le, take-take, Each1-from_get_or, get_or-drop}
+use Rattle.wtf8.proofs.Common.{length-take, ◌⊎◌, IsUnit, IsLead, IsTrail, pair}
+use Rattle.std.proofs.lemmas.List.{take-append-le, get_or-take, drop_more}
 use Rattle.std.proofs.lemmas.Grind.{get_or_default_zero}
-use Rattle.std.proofs.lemmas.Simd.{Each1-from_get_or}
-use Rattle.std.proofs.Common.{get_or-drop, length-take}
 use Rattle.wtf8.specs.private.ConvertedPrefix.{IsReadTo}
-use Rattle.std.specs.Prelude.{◌⊎◌}
-use Rattle.wtf8.specs.Unicode.{IsUnit, IsLead, IsTrail, pair}
 use Rattle.wtf8.specs.private.PackedUnits.{packed_unit, packed_units, tagged, tagged_units, tagged_block}
 use Rattle.wtf8.proofs.lemmas.codec.Encoding.{encoding_one, encoding_two, encoding_three, encoding_four, third_row}
 use Rattle.wtf8.proofs.lemmas.codec.Readings.{unpaired-after_no_lead, unpaired-before_no_trail, unpaired-nil_right, units_one, units_pair}
@@ -25,11 +21,15 @@ IsTag x t = (t ≡ x) ⊎ ((t ≡ x + 0x10000) × IsSurrogate x)
 pub tagged-scalar : (b x n : ℕ) → ¬ (IsSurrogate x) → tagged b x n ≡ x
 tagged-scalar b x n s = elim (cases_lt x 0xD800) [
   | inl l ↦ rw (lt-ltb x 0xD800 l) refl
-  | inr g ↦ elim (cases_lt x 0xE000) [ inl l ↦ absurd (s (g, omega (arith, l))) | inr h ↦ rw (le-ltb x 0xD800 g, le-ltb x 0xDC00 (omega (arith, h)), le-ltb x 0xE000 h) refl ]
+  | inr g ↦ elim (cases_lt x 0xE000) [
+    | inl l ↦ absurd (s (g, omega (arith, l)))
+    | inr h ↦ rw (le-ltb x 0xD800 g, le-ltb x 0xDC00 (omega (arith, h)), le-ltb x 0xE000 h) refl
+  ]
 ]
 
 pub tagged-lead_before_trail : (b x n : ℕ) → IsLead x → IsTrail n → tagged b x n ≡ x
-tagged-lead_before_trail b x n l t = rw (le-ltb x 0xD800 l.0, lt-ltb x 0xDC00 (omega (arith, l.1)), le-ltb n 0xDC00 t.0, lt-ltb n 0xE000 (omega (arith, t.1))) refl
+tagged-lead_before_trail b x n l t =
+    rw (le-ltb x 0xD800 l.0, lt-ltb x 0xDC00 (omega (arith, l.1)), le-ltb n 0xDC00 t.0, lt-ltb n 0xE000 (omega (arith, t.1))) refl
 
 tagged-lone_lead : (b x n : ℕ) → IsLead x → ¬ (IsTrail n) → tagged b x n ≡ x + 0x10000
 tagged-lone_lead b x n l t = elim (cases_lt n 0xDC00) [
@@ -42,14 +42,26 @@ tagged-lone_lead b x n l t = elim (cases_lt n 0xDC00) [
 
 tagged-trail_after_lead : (b x n : ℕ) → IsTrail x → IsLead b → tagged b x n ≡ x
 tagged-trail_after_lead b x n t l =
-    rw (le-ltb x 0xD800 (omega (arith, t.0)), le-ltb x 0xDC00 t.0, lt-ltb x 0xE000 (omega (arith, t.1)), le-ltb b 0xD800 l.0, lt-ltb b 0xDC00 (omega (arith, l.1))) refl
+    rw (
+      le-ltb x 0xD800 (omega (arith, t.0)),
+      le-ltb x 0xDC00 t.0,
+      lt-ltb x 0xE000 (omega (arith, t.1)),
+      le-ltb b 0xD800 l.0,
+      lt-ltb b 0xDC00 (omega (arith, l.1)),
+    ) refl
 
 tagged-lone_trail : (b x n : ℕ) → IsTrail x → ¬ (IsLead b) → tagged b x n ≡ x + 0x10000
 tagged-lone_trail b x n t l = elim (cases_lt b 0xD800) [
   | inl k ↦ rw (le-ltb x 0xD800 (omega (arith, t.0)), le-ltb x 0xDC00 t.0, lt-ltb x 0xE000 (omega (arith, t.1)), lt-ltb b 0xD800 k) refl
   | inr g ↦ elim (cases_lt b 0xDC00) [
     | inl k ↦ absurd (l (g, omega (arith, k)))
-    | inr h ↦ rw (le-ltb x 0xD800 (omega (arith, t.0)), le-ltb x 0xDC00 t.0, lt-ltb x 0xE000 (omega (arith, t.1)), le-ltb b 0xD800 g, le-ltb b 0xDC00 h) refl
+    | inr h ↦ rw (
+      le-ltb x 0xD800 (omega (arith, t.0)),
+      le-ltb x 0xDC00 t.0,
+      lt-ltb x 0xE000 (omega (arith, t.1)),
+      le-ltb b 0xD800 g,
+      le-ltb b 0xDC00 h,
+    ) refl
   ]
 ]
 
@@ -63,17 +75,29 @@ scalar_lead_or_trail x = elim (cases_lt x 0xD800) [
 ]
 
 trail_or_not : (x : ℕ) → IsTrail x ⊎ (¬ (IsTrail x))
-trail_or_not x = elim (cases_lt x 0xDC00) [ inl l ↦ inr (λ t. omega (arith, l, t.0)) | inr g ↦ elim (cases_lt x 0xE000) [ inl l ↦ inl (g, omega (arith, l)) | inr h ↦ inr (λ t. omega (arith, h, t.1)) ] ]
+trail_or_not x = elim (cases_lt x 0xDC00) [
+  | inl l ↦ inr (λ t. omega (arith, l, t.0))
+  | inr g ↦ elim (cases_lt x 0xE000) [ inl l ↦ inl (g, omega (arith, l)) | inr h ↦ inr (λ t. omega (arith, h, t.1)) ]
+]
 
 lead_or_not : (x : ℕ) → IsLead x ⊎ (¬ (IsLead x))
-lead_or_not x = elim (cases_lt x 0xD800) [ inl l ↦ inr (λ t. omega (arith, l, t.0)) | inr g ↦ elim (cases_lt x 0xDC00) [ inl l ↦ inl (g, omega (arith, l)) | inr h ↦ inr (λ t. omega (arith, h, t.1)) ] ]
+lead_or_not x = elim (cases_lt x 0xD800) [
+  | inl l ↦ inr (λ t. omega (arith, l, t.0))
+  | inr g ↦ elim (cases_lt x 0xDC00) [ inl l ↦ inl (g, omega (arith, l)) | inr h ↦ inr (λ t. omega (arith, h, t.1)) ]
+]
 
 pub IsTag-tagged : (b x n : ℕ) → IsTag x (tagged b x n)
 IsTag-tagged b x n = elim (scalar_lead_or_trail x) [
   | inl o ↦ inl (tagged-scalar b x n o)
   | inr s ↦ elim s [
-    | inl l ↦ elim (trail_or_not n) [ inl t ↦ inl (tagged-lead_before_trail b x n l t) | inr t ↦ inr (tagged-lone_lead b x n l t, (l.0, omega (arith, l.1))) ]
-    | inr t ↦ elim (lead_or_not b) [ inl l ↦ inl (tagged-trail_after_lead b x n t l) | inr l ↦ inr (tagged-lone_trail b x n t l, (omega (arith, t.0), t.1)) ]
+    | inl l ↦ elim (trail_or_not n) [
+      | inl t ↦ inl (tagged-lead_before_trail b x n l t)
+      | inr t ↦ inr (tagged-lone_lead b x n l t, (l.0, omega (arith, l.1)))
+    ]
+    | inr t ↦ elim (lead_or_not b) [
+      | inl l ↦ inl (tagged-trail_after_lead b x n t l)
+      | inr l ↦ inr (tagged-lone_trail b x n t l, (omega (arith, t.0), t.1))
+    ]
   ]
 ]
 
@@ -102,14 +126,32 @@ packed_unit-below_leads b x l h =
 
 pub packed_unit-lead : (b x : ℕ) → IsLead x → packed_unit b x ≡ (0xF0 + (x - 0xD7C0) / 256) ∷ (0x80 + (x - 0xD7C0) / 4 % 64) ∷ []
 packed_unit-lead b x l =
-    rw (le-ltb x 0x80 (omega (arith, l.0)), le-ltb x 0x800 (omega (arith, l.0)), le-ltb x 0xD800 l.0, lt-ltb x 0xE000 (omega (arith, l.1)), lt-ltb x 0xDC00 (omega (arith, l.1))) refl
+    rw (
+      le-ltb x 0x80 (omega (arith, l.0)),
+      le-ltb x 0x800 (omega (arith, l.0)),
+      le-ltb x 0xD800 l.0,
+      lt-ltb x 0xE000 (omega (arith, l.1)),
+      lt-ltb x 0xDC00 (omega (arith, l.1)),
+    ) refl
 
 pub packed_unit-trail : (b x : ℕ) → IsTrail x → packed_unit b x ≡ (0x80 + b % 4 * 16 + x / 64 % 16) ∷ (0x80 + x % 64) ∷ []
 packed_unit-trail b x l =
-    rw (le-ltb x 0x80 (omega (arith, l.0)), le-ltb x 0x800 (omega (arith, l.0)), le-ltb x 0xD800 (omega (arith, l.0)), lt-ltb x 0xE000 (omega (arith, l.1)), le-ltb x 0xDC00 l.0) refl
+    rw (
+      le-ltb x 0x80 (omega (arith, l.0)),
+      le-ltb x 0x800 (omega (arith, l.0)),
+      le-ltb x 0xD800 (omega (arith, l.0)),
+      lt-ltb x 0xE000 (omega (arith, l.1)),
+      le-ltb x 0xDC00 l.0,
+    ) refl
 
 packed_unit-above : (b x : ℕ) → 0xE000 ≤ x → packed_unit b x ≡ (0xE0 + x / 4096 % 16) ∷ (0x80 + x / 64 % 64) ∷ (0x80 + x % 64) ∷ []
-packed_unit-above b x l = rw (le-ltb x 0x80 (omega (arith, l)), le-ltb x 0x800 (omega (arith, l)), le-ltb x 0xD800 (omega (arith, l)), le-ltb x 0xE000 l, le-ltb x 0xDC00 (omega (arith, l))) refl
+packed_unit-above b x l = rw (
+  le-ltb x 0x80 (omega (arith, l)),
+  le-ltb x 0x800 (omega (arith, l)),
+  le-ltb x 0xD800 (omega (arith, l)),
+  le-ltb x 0xE000 l,
+  le-ltb x 0xDC00 (omega (arith, l)),
+) refl
 
 packed_unit-above_trails : (b x : ℕ) → 0xE000 ≤ x → x < 0x10000 → packed_unit b x ≡ third_row x
 packed_unit-above_trails b x l h =
@@ -135,10 +177,12 @@ packed_units-after_tag b d [] k = refl
 packed_units-after_tag b d (n ∷ u) k = ap (λ w. w ++ packed_units n u) (packed_unit-after_tag b d n k)
 
 -- a row written at index `n` of a block, of which the first `l` bytes count
-pub take-written_block : (block row rest : List ℕ) (n l : ℕ) → n ≤ length block → l ≤ length row → take (n + l) (take n block ++ (row ++ rest)) ≡ take n block ++ take l row
+pub take-written_block : (block row rest : List ℕ) (n l : ℕ) → n ≤ length block → l ≤ length row
+    → take (n + l) (take n block ++ (row ++ rest)) ≡ take n block ++ take l row
 take-written_block block row rest n l bound h =
     let front : length (take n block) ≡ n = length-take-le n block bound in
-    ap (λ k. take (k + l) (take n block ++ (row ++ rest))) (sym front) ∙ take-append-add (take n block) (row ++ rest) l ∙ ap (λ v. take n block ++ v) (take-append-le l row rest h)
+    ap (λ k. take (k + l) (take n block ++ (row ++ rest))) (sym front) ∙ take-append-add (take n block) (row ++ rest) l
+    ∙ ap (λ v. take n block ++ v) (take-append-le l row rest h)
 
 -- The pieces of tagged units are the encodings of the code points that the units are read as.
 
@@ -150,7 +194,10 @@ encoding-packed_unit b x h n = elim (cases_lt x 0x80) [
     | inl l ↦ encoding_two x k l ∙ sym (packed_unit-two_bytes b x k l)
     | inr m ↦ elim (cases_lt x 0xD800) [
       | inl l ↦ encoding_three x m h ∙ sym (packed_unit-below_leads b x m l)
-      | inr r ↦ elim (cases_lt x 0xE000) [ inl l ↦ absurd (n (r, omega (arith, l))) | inr l ↦ encoding_three x m h ∙ sym (packed_unit-above_trails b x l h) ]
+      | inr r ↦ elim (cases_lt x 0xE000) [
+        | inl l ↦ absurd (n (r, omega (arith, l)))
+        | inr l ↦ encoding_three x m h ∙ sym (packed_unit-above_trails b x l h)
+      ]
     ]
   ]
 ]
@@ -196,15 +243,19 @@ lone_unit-form b x known s n = record {
   scalar = λ t. absurd (n t);
 }
 
-scalar_first : (b x n : ℕ) (t : List ℕ) {u : List ℕ} {known : Bool} → x < 0x10000 → ¬ (IsSurrogate x) → IsKnownForm (packed_units x t) u known → IsKnownForm (packed_units b (tagged b x n ∷ t)) (x ∷ u) known
+scalar_first : (b x n : ℕ) (t : List ℕ) {u : List ℕ} {known : Bool} → x < 0x10000 → ¬ (IsSurrogate x)
+    → IsKnownForm (packed_units x t) u known → IsKnownForm (packed_units b (tagged b x n ∷ t)) (x ∷ u) known
 scalar_first b x n t {u} {known} h s more =
     subst (λ y. IsKnownForm (packed_units b (y ∷ t)) (x ∷ u) known) (sym (tagged-scalar b x n s))
-    (IsKnownForm-append (packed_unit b x) (packed_units x t) (x ∷ []) u true known known (packed_unit-form b x h s) more (unpaired-after_no_lead [] x (λ l. s (l.0, omega (arith, l.1)))) (λ k. (refl, k)))
+    (IsKnownForm-append (packed_unit b x) (packed_units x t) (x ∷ []) u true known known (packed_unit-form b x h s) more
+    (unpaired-after_no_lead [] x (λ l. s (l.0, omega (arith, l.1)))) (λ k. (refl, k)))
 
-lone_first : (b x y : ℕ) (t : List ℕ) {u : List ℕ} {known : Bool} → y ≡ x + 0x10000 → IsSurrogate x → ¬ (IsTrue known) → ¬ (MeetsAsPair (x ∷ []) u) → IsKnownForm (packed_units x t) u known → IsKnownForm (packed_units b (y ∷ t)) (x ∷ u) known
+lone_first : (b x y : ℕ) (t : List ℕ) {u : List ℕ} {known : Bool} → y ≡ x + 0x10000 → IsSurrogate x → ¬ (IsTrue known)
+    → ¬ (MeetsAsPair (x ∷ []) u) → IsKnownForm (packed_units x t) u known → IsKnownForm (packed_units b (y ∷ t)) (x ∷ u) known
 lone_first b x y t {u} {known} e s none unpaired more =
     subst (λ y. IsKnownForm (packed_units b (y ∷ t)) (x ∷ u) known) (sym e)
-    (IsKnownForm-append (packed_unit b (x + 0x10000)) (packed_units (x + 0x10000) t) (x ∷ []) u known known known (lone_unit-form b x known s none)
+    (IsKnownForm-append (packed_unit b (x + 0x10000)) (packed_units (x + 0x10000) t) (x ∷ []) u known known known
+    (lone_unit-form b x known s none)
     (subst (λ w. IsKnownForm w u known) (sym (packed_units-after_tag x (x + 0x10000) t (inr (refl, s)))) more) unpaired (λ k. (k, k)))
 
 -- a tag is no unit
@@ -212,7 +263,8 @@ not_unit : (x y : ℕ) → y ≡ x + 0x10000 → ¬ (IsUnit y)
 not_unit x y e h = omega (arith, e, h)
 
 -- the pieces of tagged units are their form, if no pair is divided before them and after them
-pub packed_units-form : (b : ℕ) (u : List ℕ) (a : ℕ) (known : Bool) → Each1 (Fits w16) u → ¬ (IsLead b × IsTrail (get_or u 0 a)) → ¬ (IsLead (get_or (b ∷ u) (length u) 0) × IsTrail a)
+pub packed_units-form : (b : ℕ) (u : List ℕ) (a : ℕ) (known : Bool) → Each1 (Fits w16) u → ¬ (IsLead b × IsTrail (get_or u 0 a))
+    → ¬ (IsLead (get_or (b ∷ u) (length u) 0) × IsTrail a)
     → (IsTrue known → Each1 IsUnit (tagged_units b u a)) → IsKnownForm (packed_units b (tagged_units b u a)) u known
 packed_units-form b [] a known f first last units = IsKnownForm-nil known refl
 packed_units-form b (x ∷ []) a known f first last units = elim (scalar_lead_or_trail x) [
@@ -220,33 +272,42 @@ packed_units-form b (x ∷ []) a known f first last units = elim (scalar_lead_or
   | inr s ↦ elim s [
     | inl l ↦
         let lone = tagged-lone_lead b x a l (λ t. last (l, t)) in
-        lone_first b x (tagged b x a) [] lone (l.0, omega (arith, l.1)) (λ k. not_unit x (tagged b x a) lone (units k).0) unpaired-nil_right (IsKnownForm-nil known refl)
+        lone_first b x (tagged b x a) [] lone (l.0, omega (arith, l.1)) (λ k. not_unit x (tagged b x a) lone (units k).0) unpaired-nil_right
+        (IsKnownForm-nil known refl)
     | inr t ↦
         let lone = tagged-lone_trail b x a t (λ l. first (l, t)) in
-        lone_first b x (tagged b x a) [] lone (omega (arith, t.0), t.1) (λ k. not_unit x (tagged b x a) lone (units k).0) unpaired-nil_right (IsKnownForm-nil known refl)
+        lone_first b x (tagged b x a) [] lone (omega (arith, t.0), t.1) (λ k. not_unit x (tagged b x a) lone (units k).0) unpaired-nil_right
+        (IsKnownForm-nil known refl)
   ]
 ]
 packed_units-form b (x ∷ y ∷ u) a known f first last units = elim (scalar_lead_or_trail x) [
-  | inl o ↦ scalar_first b x y (tagged_units x (y ∷ u) a) f.0.fits o (packed_units-form x (y ∷ u) a known f.1 (λ k. o (k.0.0, omega (arith, k.0.1))) last (λ k. (units k).1))
+  | inl o ↦ scalar_first b x y (tagged_units x (y ∷ u) a) f.0.fits o
+      (packed_units-form x (y ∷ u) a known f.1 (λ k. o (k.0.0, omega (arith, k.0.1))) last (λ k. (units k).1))
   | inr s ↦ elim s [
     | inl l ↦ elim (trail_or_not y) [
       | inl t ↦
           let z = tagged x y (get_or u 0 a) in
           let not_lead : ¬ (IsLead y) = λ k. omega (arith, k.1, t.0) in
           let rest = packed_units-form y u a known f.1.1 (λ k. not_lead k.0) last (λ k. (units k).1.1) in
-          subst (λ w. IsKnownForm (packed_units b (w ∷ z ∷ tagged_units y u a)) (x ∷ y ∷ u) known) (sym (tagged-lead_before_trail b x y l t))
-          (subst (λ w. IsKnownForm (packed_units b (x ∷ w ∷ tagged_units y u a)) (x ∷ y ∷ u) known) (sym (tagged-trail_after_lead x y (get_or u 0 a) t l))
-          (subst (λ w. IsKnownForm w (x ∷ y ∷ u) known) (append_assoc (packed_unit b x) (packed_unit x y) (packed_units y (tagged_units y u a)))
-          (IsKnownForm-append (packed_unit b x ++ packed_unit x y) (packed_units y (tagged_units y u a)) (x ∷ y ∷ []) u true known known (packed_pair-form b x y l t) rest (unpaired-after_no_lead (x ∷ []) y not_lead) (λ k. (refl, k)))))
+          subst (λ w. IsKnownForm (packed_units b (w ∷ z ∷ tagged_units y u a)) (x ∷ y ∷ u) known)
+          (sym (tagged-lead_before_trail b x y l t))
+          (subst (λ w. IsKnownForm (packed_units b (x ∷ w ∷ tagged_units y u a)) (x ∷ y ∷ u) known)
+          (sym (tagged-trail_after_lead x y (get_or u 0 a) t l))
+          (subst (λ w. IsKnownForm w (x ∷ y ∷ u) known)
+          (append_assoc (packed_unit b x) (packed_unit x y) (packed_units y (tagged_units y u a)))
+          (IsKnownForm-append (packed_unit b x ++ packed_unit x y) (packed_units y (tagged_units y u a)) (x ∷ y ∷ []) u true known known
+          (packed_pair-form b x y l t) rest (unpaired-after_no_lead (x ∷ []) y not_lead) (λ k. (refl, k)))))
       | inr t ↦
           let lone = tagged-lone_lead b x y l t in
-          lone_first b x (tagged b x y) (tagged_units x (y ∷ u) a) lone (l.0, omega (arith, l.1)) (λ k. not_unit x (tagged b x y) lone (units k).0) (unpaired-before_no_trail y u t)
+          lone_first b x (tagged b x y) (tagged_units x (y ∷ u) a) lone (l.0, omega (arith, l.1))
+          (λ k. not_unit x (tagged b x y) lone (units k).0) (unpaired-before_no_trail y u t)
           (packed_units-form x (y ∷ u) a known f.1 (λ k. t k.1) last (λ k. (units k).1))
     ]
     | inr t ↦
         let lone = tagged-lone_trail b x y t (λ l. first (l, t)) in
         let not_lead : ¬ (IsLead x) = λ k. omega (arith, k.1, t.0) in
-        lone_first b x (tagged b x y) (tagged_units x (y ∷ u) a) lone (omega (arith, t.0), t.1) (λ k. not_unit x (tagged b x y) lone (units k).0) (unpaired-after_no_lead [] x not_lead)
+        lone_first b x (tagged b x y) (tagged_units x (y ∷ u) a) lone (omega (arith, t.0), t.1)
+        (λ k. not_unit x (tagged b x y) lone (units k).0) (unpaired-after_no_lead [] x not_lead)
         (packed_units-form x (y ∷ u) a known f.1 (λ k. not_lead k.0) last (λ k. (units k).1))
   ]
 ]
@@ -257,19 +318,25 @@ Each1-take P (suc k) [] e = tt
 Each1-take P (suc k) (x ∷ u) e = (e.0, Each1-take P k u e.1)
 
 -- the first `k` of eight units are encoded by appending their pieces, if they end with no half of a pair
-block_read : (w kept : List ℕ) {bytes u : List ℕ} {at : ℕ} {known more : Bool} (k : ℕ) → IsReadTo (w ++ kept) u at known → k ≤ 8 → at + 8 ≤ length u → ((i : ℕ) → Fits w16 (get_or u i 0))
-    → (IsTrue more → Each1 IsUnit (tagged_block (take 8 (drop at u)))) → DividesNoPair u (at + k) → ¬ (IsLead (get_or (0 ∷ take k (take 8 (drop at u))) (length (take k (take 8 (drop at u)))) 0) × IsTrail (get_or (take 8 (drop at u)) k 0xDC00))
+block_read : (w kept : List ℕ) {bytes u : List ℕ} {at : ℕ} {known more : Bool} (k : ℕ) → IsReadTo (w ++ kept) u at known → k ≤ 8
+    → at + 8 ≤ length u → ((i : ℕ) → Fits w16 (get_or u i 0))
+    → (IsTrue more → Each1 IsUnit (tagged_block (take 8 (drop at u)))) → DividesNoPair u (at + k) → ¬ (IsLead
+    (get_or (0 ∷ take k (take 8 (drop at u))) (length (take k (take 8 (drop at u)))) 0) × IsTrail (get_or (take 8 (drop at u)) k 0xDC00))
     → bytes ≡ kept ++ packed_units 0 (take k (tagged_block (take 8 (drop at u)))) → IsReadTo (w ++ bytes) u (at + k) (known && more)
 block_read w kept {u = u} {at = at} {known = known} {more = more} k x few within fits units divides last e =
     let eight = take 8 (drop at u) in
     let own = take k eight in
     let after = get_or eight k 0xDC00 in
-    let each = Each1-from_get_or (Fits w16) own 0 (λ i l. subst (Fits w16) (sym (get_or-take k eight i 0 (omega (arith, l, length-take k eight)) ∙ get_or-take 8 (drop at u) i 0 (omega (arith, l, length-take k eight, few)) ∙ get_or-drop at u i 0)) (fits (at + i))) in
+    let each =
+    Each1-from_get_or (Fits w16) own 0 (λ i l. subst (Fits w16) (sym (get_or-take k eight i 0 (omega (arith, l, length-take k eight))
+    ∙ get_or-take 8 (drop at u) i 0 (omega (arith, l, length-take k eight, few)) ∙ get_or-drop at u i 0)) (fits (at + i))) in
     let tags = take-tagged_units k 0 eight 0xDC00 in
-    let form = packed_units-form 0 own after more each (λ l. omega (arith, l.0.0)) last (λ t. subst (Each1 IsUnit) tags (Each1-take IsUnit k (tagged_block eight) (units t))) in
+    let form = packed_units-form 0 own after more each (λ l. omega (arith, l.0.0)) last
+    (λ t. subst (Each1 IsUnit) tags (Each1-take IsUnit k (tagged_block eight) (units t))) in
     let count : k ≡ at + k - at = omega arith in
     let same : own ≡ take (at + k - at) (drop at u) = take-take k 8 (drop at u) few ∙ ap (λ k. take k (drop at u)) count in
-    IsReadTo-append x (omega arith) (omega (arith, few, within)) divides (ap (λ v. w ++ v) (e ∙ ap (λ t. kept ++ packed_units 0 t) tags) ∙ sym (append_assoc w kept (packed_units 0 (tagged_units 0 own after))))
+    IsReadTo-append x (omega arith) (omega (arith, few, within)) divides
+    (ap (λ v. w ++ v) (e ∙ ap (λ t. kept ++ packed_units 0 t) tags) ∙ sym (append_assoc w kept (packed_units 0 (tagged_units 0 own after))))
     (subst (λ v. IsKnownForm (packed_units 0 (tagged_units 0 own after)) v more) same form)
 
 pub and_assoc : (a b c : Bool) → ((a && b) && c) ≡ (a && (b && c))
@@ -277,8 +344,10 @@ and_assoc true b c = refl
 and_assoc false b c = refl
 
 -- eight units of which the last is no lead, or the seven before a lead, are encoded by appending their pieces
-pub packed_units-read : (w kept : List ℕ) {bytes u : List ℕ} {at : ℕ} {known more : Bool} (k : ℕ) → IsReadTo (w ++ kept) u at known → at + 8 ≤ length u → ((i : ℕ) → Fits w16 (get_or u i 0))
-    → (((k ≡ 8) × ¬ (IsLead (get_or (take 8 (drop at u)) 7 0))) ⊎ ((k ≡ 7) × IsLead (get_or (take 8 (drop at u)) 7 0))) → (IsTrue more → Each1 IsUnit (tagged_block (take 8 (drop at u))))
+pub packed_units-read : (w kept : List ℕ) {bytes u : List ℕ} {at : ℕ} {known more : Bool} (k : ℕ) → IsReadTo (w ++ kept) u at known
+    → at + 8 ≤ length u → ((i : ℕ) → Fits w16 (get_or u i 0))
+    → (((k ≡ 8) × ¬ (IsLead (get_or (take 8 (drop at u)) 7 0))) ⊎ ((k ≡ 7) × IsLead (get_or (take 8 (drop at u)) 7 0)))
+    → (IsTrue more → Each1 IsUnit (tagged_block (take 8 (drop at u))))
     → bytes ≡ kept ++ packed_units 0 (take k (tagged_block (take 8 (drop at u)))) → IsReadTo (w ++ bytes) u (at + k) (known && more)
 packed_units-read w kept {bytes} {u} {at} {known} {more} k x within fits taken units e =
     let eight = take 8 (drop at u) in
@@ -289,12 +358,17 @@ packed_units-read w kept {bytes} {u} {at} {known} {more} k x within fits taken u
           let no_lead : ¬ (IsLead (get_or u (at + 7) 0)) = subst (λ n. ¬ (IsLead n)) here t.1 in
           let end : suc (at + 7) ≡ at + k = omega (arith, t.0) in
           let all : take k eight ≡ eight = ap (λ k. take k eight) (t.0 ∙ sym whole) ∙ take_all (length eight) eight (omega arith) in
-          let last : ¬ (IsLead (get_or (0 ∷ take k eight) (length (take k eight)) 0)) = subst (λ v. ¬ (IsLead (get_or (0 ∷ v) (length v) 0))) (sym all) (subst (λ n. ¬ (IsLead (get_or (0 ∷ eight) n 0))) (sym whole) t.1) in
-          block_read w kept k x (omega (arith, t.0)) within fits units (subst (DividesNoPair u) end (DividesNoPair-after_no_lead u (at + 7) (omega (arith, within)) no_lead)) (λ l. last l.0) e
+          let last : ¬ (IsLead (get_or (0 ∷ take k eight) (length (take k eight)) 0)) = subst (λ v.
+          ¬ (IsLead (get_or (0 ∷ v) (length v) 0))) (sym all) (subst (λ n. ¬ (IsLead (get_or (0 ∷ eight) n 0))) (sym whole) t.1) in
+          block_read w kept k x (omega (arith, t.0)) within fits units
+          (subst (DividesNoPair u) end (DividesNoPair-after_no_lead u (at + 7) (omega (arith, within)) no_lead)) (λ l. last l.0) e
       | inr t ↦
           let lead : IsLead (get_or u (at + 7) 0) = subst IsLead here t.1 in
-          let back : drop (at + k) u ≡ get_or u (at + 7) 0 ∷ drop (at + 7 + 1) u = ap (λ k. drop (at + k) u) t.0 ∙ drop_more u (at + 7) 0 (omega (arith, within)) in
-          let divides : DividesNoPair u (at + k) = subst (λ d. ¬ (MeetsAsPair (take (at + k) u) d)) (sym back) (unpaired-before_no_trail (get_or u (at + 7) 0) (drop (at + 7 + 1) u) (λ l. omega (arith, l.0, lead.1))) in
-          let next : get_or eight k 0xDC00 ≡ get_or eight 7 0 = ap (λ k. get_or eight k 0xDC00) t.0 ∙ get_or_default_zero eight 7 0xDC00 (omega (arith, whole)) in
+          let back : drop (at + k) u ≡ get_or u (at + 7) 0 ∷ drop (at + 7 + 1) u =
+          ap (λ k. drop (at + k) u) t.0 ∙ drop_more u (at + 7) 0 (omega (arith, within)) in
+          let divides : DividesNoPair u (at + k) = subst (λ d. ¬ (MeetsAsPair (take (at + k) u) d)) (sym back)
+          (unpaired-before_no_trail (get_or u (at + 7) 0) (drop (at + 7 + 1) u) (λ l. omega (arith, l.0, lead.1))) in
+          let next : get_or eight k 0xDC00 ≡ get_or eight 7 0 =
+          ap (λ k. get_or eight k 0xDC00) t.0 ∙ get_or_default_zero eight 7 0xDC00 (omega (arith, whole)) in
           block_read w kept k x (omega (arith, t.0)) within fits units divides (λ l. omega (arith, next, l.1.0, t.1.1)) e
     ]

@@ -1,6 +1,6 @@
 -- The shuffle table, checked row by row: the lanes that a row picks, and the number of bytes.
-use Rattle.wtf8.proofs.Common.{◌≡◌, ℕ, ◌+◌, ◌<◌, ◌&&◌, List, [], ◌∷◌, ◌++◌, take, get_or, Each1, eqb, Bool, true}
-use Rattle.wtf8.proofs.Common.{refl, sym, ap, ◌∙◌, arith, subst, cases_lt, inl, inr, and_parts, eqb-true, nat_eq, pointwise}
+use Rattle.wtf8.proofs.Common.{◌≡◌, ℕ, ◌+◌, ◌<◌, ◌&&◌, List, [], ◌∷◌, ◌++◌, take, get_or, Each1, eqb, Bool, true, refl, sym, ap, ◌∙◌, arith}
+use Rattle.wtf8.proofs.Common.{subst, cases_lt, inl, inr, and_parts, eqb-true, nat_eq, pointwise}
 use Rattle.std.proofs.lemmas.Bool.{ltb-true}
 use Rattle.std.proofs.lemmas.List.Recursion.{and_at}
 use Rattle.std.specs.Cmp.Lexicographic.{same_text}
@@ -25,13 +25,15 @@ of_length p a l e = elim (cases_lt a 2) [
 abbrev each_four : (ℕ → ℕ → ℕ → ℕ → Bool) → Bool
 each_four p = each_length (λ a. each_length (λ b. each_length (λ c. each_length (p a b c))))
 
-of_four : (p : ℕ → ℕ → ℕ → ℕ → Bool) (a b c d : ℕ) → IsByteCount a → IsByteCount b → IsByteCount c → IsByteCount d → each_four p ≡ true → p a b c d ≡ true
+of_four : (p : ℕ → ℕ → ℕ → ℕ → Bool) (a b c d : ℕ) → IsByteCount a → IsByteCount b → IsByteCount c → IsByteCount d → each_four p ≡ true
+    → p a b c d ≡ true
 of_four p a b c d i j k l e =
     of_length (p a b c) d l (of_length (λ c. each_length (p a b c)) c k (of_length (λ b. each_length (λ c. each_length (p a b c))) b j
     (of_length (λ a. each_length (λ b. each_length (λ c. each_length (p a b c)))) a i e)))
 
 abbrev is_packing : List ℕ → ℕ → ℕ → ℕ → ℕ → Bool
-is_packing none a b c d = pointwise nat_eq (take (a + b + c + d) (get_or SHUFFLES.now (table_index a b c d) none)) (source_lanes a 0 ++ source_lanes b 1 ++ source_lanes c 2 ++ source_lanes d 3)
+is_packing none a b c d = pointwise nat_eq (take (a + b + c + d) (get_or SHUFFLES.now (table_index a b c d) none))
+    (source_lanes a 0 ++ source_lanes b 1 ++ source_lanes c 2 ++ source_lanes d 3)
 
 pub IsPackingShuffle-table : (none : List ℕ) (number : ℕ) → IsPackingShuffle number (get_or SHUFFLES.now number none)
 IsPackingShuffle-table none number a b c d i j k l e =
@@ -47,7 +49,8 @@ Each1-all_below [] e = tt
 Each1-all_below (x ∷ xs) e = (ltb-true x 16 (and_parts _ _ e).0, Each1-all_below xs (and_parts _ _ e).1)
 
 pub table_below_16 : (none : List ℕ) (number : ℕ) → number < 256 → Each1 (λ lane. lane < 16) (get_or SHUFFLES.now number none)
-table_below_16 none number h = Each1-all_below (get_or SHUFFLES.now number none) (and_at rows_below (all_below 16) refl (λ _ _. refl) SHUFFLES.now number none h refl)
+table_below_16 none number h =
+    Each1-all_below (get_or SHUFFLES.now number none) (and_at rows_below (all_below 16) refl (λ _ _. refl) SHUFFLES.now number none h refl)
 
 -- four plus the number of one bits in the index is the number of bytes
 has_packed_len : ℕ → ℕ → ℕ → ℕ → Bool

@@ -1,18 +1,15 @@
 -- Blocks of units: their masks, their form, and the string after they are appended.
-use Rattle.wtf8.proofs.Common.{◌≡◌, ℕ, zero, suc, ◌-◌, ◌%◌, ◌^◌, ◌<◌, ◌≤◌, eqb, Bool, true, false, cond, ◌&&◌, List, [], ◌∷◌, map, length, replicate}
-use Rattle.wtf8.proofs.Common.{Fits, refl, sym, ap, ◌∙◌, arith, inl, inr, and_parts, cases_Bool, Each1, zip2, mask_l, top, AreAscii}
-use Rattle.wtf8.proofs.Common.{IsSurrogate, ◌+◌, ◌/◌, ◌++◌, IsTrue, take, drop, get_or, subst}
-use Rattle.wtf8.proofs.Common.{take-append-drop, take_all, length-chunk, MeetsAsPair}
-use Rattle.wtf8.proofs.Common.{IsKnownForm, DividesNoPair}
-use Rattle.std.proofs.Common.{w16, get_or-drop, length-take}
+use Rattle.wtf8.proofs.Common.{◌≡◌, ℕ, zero, suc, ◌-◌, ◌%◌, ◌^◌, ◌<◌, ◌≤◌, eqb, Bool, true, false, cond, ◌&&◌, List, [], ◌∷◌, map, length}
+use Rattle.wtf8.proofs.Common.{replicate, Fits, refl, sym, ap, ◌∙◌, arith, inl, inr, and_parts, cases_Bool, Each1, zip2, mask_l, top}
+use Rattle.wtf8.proofs.Common.{AreAscii, IsSurrogate, ◌+◌, ◌/◌, ◌++◌, IsTrue, take, drop, get_or, subst, take-append-drop, take_all}
+use Rattle.wtf8.proofs.Common.{length-chunk, MeetsAsPair, IsKnownForm, DividesNoPair, w16, get_or-drop, length-take, take-add}
+use Rattle.wtf8.proofs.Common.{take-append-add, min, length-map, take-take, zip2_splat, IsLead}
 use Rattle.std.proofs.Math.Bool.{and-true}
-use Rattle.std.proofs.Math.Seq.{take-suc, take-add, take-append-add}
-use Rattle.std.specs.Prelude.{min}
+use Rattle.std.proofs.Math.Seq.{take-suc}
 use Rattle.wtf8.proofs.lemmas.lanes.AsciiFronts.{saturated_front}
 use Rattle.std.proofs.lemmas.Bool.{eqb-false}
-use Rattle.std.proofs.lemmas.List.{length-map, take-take, get_or-take}
-use Rattle.std.proofs.lemmas.Simd.{zip2_splat, bitmask_splat, map-map, Each1-get_or}
-use Rattle.wtf8.specs.Unicode.{IsLead}
+use Rattle.std.proofs.lemmas.List.{get_or-take}
+use Rattle.std.proofs.lemmas.Simd.{bitmask_splat, map-map, Each1-get_or}
 use Rattle.wtf8.specs.private.ConvertedPrefix.{AreScalarUnits, IsReadTo}
 use Rattle.wtf8.proofs.lemmas.codec.Readings.{form_append-unpaired, meets_by, unpaired-after_no_lead}
 use Rattle.wtf8.proofs.lemmas.codec.Scalars.{IsKnownForm-ascii, scalar-append}
@@ -20,7 +17,8 @@ use Rattle.wtf8.proofs.lemmas.codec.Scalars.{IsKnownForm-ascii, scalar-append}
 -- Masks of blocks of units.
 
 -- if the mask is 0, `p` fails in each lane, and so each satisfies `Q`
-each_unset : (p : ℕ → Bool) (P Q : ℕ → Type 0) → ((x : ℕ) → P x → p x ≡ false → Q x) → (xs : List ℕ) → Each1 P xs → mask_l (map p xs) ≡ 0 → Each1 Q xs
+each_unset : (p : ℕ → Bool) (P Q : ℕ → Type 0) → ((x : ℕ) → P x → p x ≡ false → Q x) → (xs : List ℕ) → Each1 P xs → mask_l (map p xs) ≡ 0
+    → Each1 Q xs
 each_unset p P Q h [] f e = tt
 each_unset p P Q h (x ∷ xs) f e = elim (cases_Bool (p x)) [
   | inl t ↦ absurd (omega (arith, rw t at e))
@@ -29,11 +27,14 @@ each_unset p P Q h (x ∷ xs) f e = elim (cases_Bool (p x)) [
 
 -- if the mask is 0, no unit is a surrogate
 pub none_surrogate : (xs : List ℕ) → length xs ≡ 8 → Each1 (Fits w16) xs
-    → mask_l (map (top 15) (zip2 (λ a b. cond (eqb a b) 0xFFFF 0) (zip2 (λ a b. a / b) xs (replicate 8 2048)) (replicate 8 27))) % 2 ^ 64 ≡ 0 → AreScalarUnits xs
+    → mask_l (map (top 15) (zip2 (λ a b. cond (eqb a b) 0xFFFF 0) (zip2 (λ a b. a / b) xs (replicate 8 2048)) (replicate 8 27))) % 2 ^ 64
+    ≡ 0 → AreScalarUnits xs
 none_surrogate xs l f e =
-    let kinds = bitmask_splat w16 eqb (map (λ x. x / 2048) xs) 8 27 (length-map xs (λ x. x / 2048) ∙ l) (omega arith) ∙ ap mask_l (map-map (λ x. eqb x 27) (λ x. x / 2048) xs) in
+    let kinds = bitmask_splat w16 eqb (map (λ x. x / 2048) xs) 8 27 (length-map xs (λ x. x / 2048) ∙ l) (omega arith)
+    ∙ ap mask_l (map-map (λ x. eqb x 27) (λ x. x / 2048) xs) in
     each_unset (λ x. eqb (x / 2048) 27) (Fits w16) (λ n. (n < 0x10000) × ¬ (IsSurrogate n)) own xs f
-    (sym kinds ∙ ap (λ v. mask_l (map (top 15) (zip2 (λ a b. cond (eqb a b) 0xFFFF 0) v (replicate 8 27))) % 2 ^ 64) (sym (zip2_splat (λ a b. a / b) xs 8 2048 l)) ∙ e)
+    (sym kinds ∙ ap (λ v. mask_l (map (top 15) (zip2 (λ a b. cond (eqb a b) 0xFFFF 0) v (replicate 8 27))) % 2 ^ 64)
+    (sym (zip2_splat (λ a b. a / b) xs 8 2048 l)) ∙ e)
   where
     own : (x : ℕ) → Fits w16 x → eqb (x / 2048) 27 ≡ false → (x < 0x10000) × ¬ (IsSurrogate x)
     own x f u = (f.fits, λ s. eqb-false (x / 2048) 27 u (omega (arith, s.0, s.1)))
@@ -41,16 +42,19 @@ none_surrogate xs l f e =
 -- Units encoded part by part: the seams between parts, and the form of all units so far.
 
 pub IsKnownForm-nil : {w : List ℕ} (known : Bool) → w ≡ [] → IsKnownForm w [] known
-IsKnownForm-nil known e = record { form = record { points = []; reads = record { clean = tt; same_units = refl }; encoded = sym e }; scalar = λ _. tt }
+IsKnownForm-nil known e =
+    record { form = record { points = []; reads = record { clean = tt; same_units = refl }; encoded = sym e }; scalar = λ _. tt }
 
 -- no pair is divided after a unit that is no lead
 pub DividesNoPair-after_no_lead : (u : List ℕ) (j : ℕ) → j < length u → ¬ (IsLead (get_or u j 0)) → DividesNoPair u (suc j)
-DividesNoPair-after_no_lead u j within n = subst (λ w. ¬ (MeetsAsPair w (drop (suc j) u))) (sym (take-suc u j 0 within)) (unpaired-after_no_lead (take j u) (get_or u j 0) n)
+DividesNoPair-after_no_lead u j within n =
+    subst (λ w. ¬ (MeetsAsPair w (drop (suc j) u))) (sym (take-suc u j 0 within)) (unpaired-after_no_lead (take j u) (get_or u j 0) n)
 
 -- a pair at the seam with the first `n` units of `b` is a pair at the seam with `b`
 MeetsAsPair-take : (a b : List ℕ) (n : ℕ) → MeetsAsPair a (take n b) → MeetsAsPair a b
 MeetsAsPair-take a b n m =
-    meets_by m.front (m.rest ++ drop n b) m.lead m.trail m.is_lead m.is_trail m.ends (sym (take-append-drop n b) ∙ ap (λ c. c ++ drop n b) m.begins)
+    meets_by m.front
+    (m.rest ++ drop n b) m.lead m.trail m.is_lead m.is_trail m.ends (sym (take-append-drop n b) ∙ ap (λ c. c ++ drop n b) m.begins)
 
 -- the form of a part appended to the form of the units before it, without a pair at the seam
 pub IsKnownForm-append : (w v a b : List ℕ) (known more both : Bool) → IsKnownForm w a known → IsKnownForm v b more → ¬ (MeetsAsPair a b)
@@ -61,45 +65,55 @@ IsKnownForm-append w v a b known more both x y n flags = record {
 }
 
 -- the units up to `end` are encoded after the form of the units from `at` to `end` was appended
-pub IsReadTo-append : {w new u part : List ℕ} {at end : ℕ} {known more : Bool} → IsReadTo w u at known → at ≤ end → end ≤ length u → DividesNoPair u end
+pub IsReadTo-append : {w new u part : List ℕ} {at end : ℕ} {known more : Bool} → IsReadTo w u at known → at ≤ end → end ≤ length u
+    → DividesNoPair u end
     → new ≡ w ++ part → IsKnownForm part (take (end - at) (drop at u)) more → IsReadTo new u end (known && more)
 IsReadTo-append {w} {new} {u} {part} {at} {end} {known} {more} x order within divides_no_pair after form =
     let back = take (end - at) (drop at u) in
     let count : end ≡ at + (end - at) = omega (arith, order) in
     let both : take end u ≡ take at u ++ back = ap (λ k. take k u) count ∙ take-add at (end - at) u in
-    let whole = IsKnownForm-append w part (take at u) back known more (known && more) x.form form (λ m. x.divides_no_pair (MeetsAsPair-take (take at u) (drop at u) (end - at) m)) (and_parts known more) in
+    let whole = IsKnownForm-append w part (take at u) back known more
+    (known && more) x.form form (λ m. x.divides_no_pair (MeetsAsPair-take (take at u) (drop at u) (end - at) m)) (and_parts known more) in
     record {
       within = within;
       divides_no_pair = divides_no_pair;
-      form = subst (λ z. IsKnownForm z (take end u) (known && more)) (sym after) (subst (λ z. IsKnownForm (w ++ part) z (known && more)) (sym both) whole);
+      form = subst (λ z. IsKnownForm z (take end u) (known && more)) (sym after)
+          (subst (λ z. IsKnownForm (w ++ part) z (known && more)) (sym both) whole);
     }
 
 -- the first `k` of `n` units, with no lone surrogate and no lead at their end, are encoded after their form was appended
 scalars_read : {w new u part : List ℕ} {at : ℕ} {known : Bool} (k n : ℕ) → IsReadTo w u at known → k ≤ n → at + n ≤ length u
-    → ((j : ℕ) → j + 1 ≡ k → ¬ (IsLead (get_or (take n (drop at u)) j 0))) → new ≡ w ++ part → IsKnownForm part (take k (take n (drop at u))) true → IsReadTo new u (at + k) known
+    → ((j : ℕ) → j + 1 ≡ k → ¬ (IsLead (get_or (take n (drop at u)) j 0))) → new ≡ w ++ part
+    → IsKnownForm part (take k (take n (drop at u))) true → IsReadTo new u (at + k) known
 scalars_read {w} {new} {u} {part} {at} {known} k n x few within last after form =
     let count : k ≡ at + k - at = omega arith in
-    let same : take k (take n (drop at u)) ≡ take (at + k - at) (drop at u) = take-take k n (drop at u) few ∙ ap (λ k. take k (drop at u)) count in
+    let same : take k (take n (drop at u)) ≡ take (at + k - at) (drop at u) =
+    take-take k n (drop at u) few ∙ ap (λ k. take k (drop at u)) count in
     subst (IsReadTo new u (at + k)) (and-true known)
-    (IsReadTo-append x (omega arith) (omega (arith, few, within)) (divides_no_pair k few last) after (subst (λ v. IsKnownForm part v true) same form))
+    (IsReadTo-append x (omega arith) (omega (arith, few, within)) (divides_no_pair k few last) after
+    (subst (λ v. IsKnownForm part v true) same form))
   where
     divides_no_pair : (k : ℕ) → k ≤ n → ((j : ℕ) → j + 1 ≡ k → ¬ (IsLead (get_or (take n (drop at u)) j 0))) → DividesNoPair u (at + k)
     divides_no_pair zero few h = let here : at ≡ at + 0 = omega arith in subst (DividesNoPair u) here x.divides_no_pair
     divides_no_pair (suc j) few h =
         let here : suc (at + j) ≡ at + suc j = omega arith in
         let same = get_or-take n (drop at u) j 0 (omega (arith, few)) ∙ get_or-drop at u j 0 in
-        subst (DividesNoPair u) here (DividesNoPair-after_no_lead u (at + j) (omega (arith, few, within)) (λ l. h j (omega arith) (omega (arith, same, l.0), omega (arith, same, l.1))))
+        subst (DividesNoPair u) here (DividesNoPair-after_no_lead u (at + j) (omega (arith, few, within))
+        (λ l. h j (omega arith) (omega (arith, same, l.0), omega (arith, same, l.1))))
 
 -- `n` units appended as bytes, FF for each above it, then cut after the first `k`: if these are ASCII, they are encoded
 pub front_read : {w long new u low : List ℕ} {at : ℕ} {known : Bool} (k n end : ℕ) → IsReadTo w u at known → k ≤ n → at + n ≤ length u
-    → low ≡ map (λ n. min n 0xFF) (take n (drop at u)) → AreAscii (take k low) → long ≡ w ++ low → end ≡ length w + k → new ≡ take end long → IsReadTo new u (at + k) known
+    → low ≡ map (λ n. min n 0xFF) (take n (drop at u)) → AreAscii (take k low) → long ≡ w ++ low → end ≡ length w + k → new ≡ take end long
+    → IsReadTo new u (at + k) known
 front_read {w = w} {u = u} {low = low} {at = at} k n end x few within saturated ascii longer cut front =
     let block = take n (drop at u) in
     let kept : take k low ≡ take k block = ap (take k) saturated ∙ saturated_front k block (subst AreAscii (ap (take k) saturated) ascii) in
     let own : AreAscii (take k block) = subst AreAscii kept ascii in
-    let last = λ (j : ℕ) (e : j + 1 ≡ k). Each1-get_or (λ n. n < 0x80) (take k block) j 0 (omega (arith, e, few, length-chunk at n u within, length-take k block)) own in
+    let last = λ (j : ℕ) (e : j + 1 ≡ k).
+    Each1-get_or (λ n. n < 0x80) (take k block) j 0 (omega (arith, e, few, length-chunk at n u within, length-take k block)) own in
     let after = front ∙ ap (take end) longer ∙ ap (λ m. take m (w ++ low)) cut ∙ take-append-add w low k ∙ ap (λ v. w ++ v) kept in
-    scalars_read k n x few within (λ j e l. omega (arith, last j e, get_or-take k block j 0 (omega (arith, e)), l.0)) after (IsKnownForm-ascii (take k block) own)
+    scalars_read k n x few within (λ j e l. omega (arith, last j e, get_or-take k block j 0 (omega (arith, e)), l.0)) after
+    (IsKnownForm-ascii (take k block) own)
 
 pub all_read : {w u : List ℕ} {at : ℕ} {known : Bool} → IsReadTo w u at known → length u ≤ at → IsKnownForm w u known
 all_read {w} {u} {at} {known} x h = subst (λ v. IsKnownForm w v known) (take_all at u h) x.form

@@ -1,16 +1,14 @@
 -- ASCII lanes of a block.
-use Rattle.wtf8.proofs.Common.{◌≡◌, ℕ, zero, suc, ◌+◌, ◌-◌, ◌%◌, ◌^◌, ◌<◌, ◌≤◌, leb, le-leb, cond, List, [], ◌∷◌, map, length, take, get_or, replicate, refl, sym, ap, ltb, lt-ltb, le-ltb, cases_lt, inl, inr}
-use Rattle.wtf8.proofs.Common.{◌∙◌, arith, subst, false, Each1, Option, None, Some, tops_compared, zip2, mask_l, top, AreAscii, length-take, NoneIn, Each2}
-use Rattle.wtf8.proofs.Common.{IsTrue, eqb, eqb-true, take_all, chunk, length-chunk, get_or-chunk}
-use Rattle.std.proofs.lemmas.List.{length-map, get_or-map, get_or-take}
-use lib.Lanes.{sel_l}
-use Rattle.std.specs.Option.{unwrap_or}
-use Rattle.std.specs.Prelude.{min}
-use Rattle.std.proofs.lemmas.Simd.{zip2_splat_left, Each1-from_get_or, Each1-get_or, Each2-splat, Each1-all}
+use Rattle.wtf8.proofs.Common.{◌≡◌, ℕ, zero, suc, ◌+◌, ◌-◌, ◌%◌, ◌^◌, ◌<◌, ◌≤◌, leb, le-leb, cond, List, [], ◌∷◌, map, length, take, get_or}
+use Rattle.wtf8.proofs.Common.{replicate, refl, sym, ap, ltb, lt-ltb, le-ltb, cases_lt, inl, inr, ◌∙◌, arith, subst, false, Each1, Option}
+use Rattle.wtf8.proofs.Common.{None, Some, tops_compared, zip2, mask_l, top, AreAscii, length-take, NoneIn, Each2, IsTrue, eqb, eqb-true}
+use Rattle.wtf8.proofs.Common.{take_all, chunk, length-chunk, get_or-chunk, length-map, sel_l, unwrap_or, min, Each1-from_get_or, IsFirstIn}
+use Rattle.wtf8.proofs.Common.{IsFirstSet, IsSet}
+use Rattle.std.proofs.lemmas.List.{get_or-map, get_or-take}
+use Rattle.std.proofs.lemmas.Simd.{zip2_splat_left, Each1-get_or, Each2-splat, Each1-all}
 use mir.Syntax.{Width}
 use mir.Val.{bits, hbits}
 use Rattle.wtf8.proofs.lemmas.lanes.Masks.{none_set}
-use Rattle.wtf8.specs.private.FirstIndex.{IsFirstIn, IsFirstSet, IsSet}
 
 -- the lanes before the first set bit of the mask of non-ASCII lanes are ASCII
 module _ (w : Width) (n : ℕ) (xs : List ℕ) (few : n ≤ 64) (long : length xs ≡ n) where
@@ -24,7 +22,10 @@ module _ (w : Width) (n : ℕ) (xs : List ℕ) (few : n ≤ 64) (long : length x
   AreAscii-take k le none = Each1-from_get_or (λ n. n < 0x80) (take k xs) 0 (λ i lt.
       let inside : i < k = omega (arith, lt, length-take k xs) in
       let lane = get_or-map (leb 0x80) xs i 0 false (omega (arith, inside, le, long)) in
-      let low : get_or xs i 0 < 0x80 = elim (cases_lt (get_or xs i 0) 0x80) [ inl l ↦ l | inr g ↦ absurd (none i (omega arith) inside (lane ∙ le-leb 0x80 _ g)) ] in
+      let low : get_or xs i 0 < 0x80 = elim (cases_lt (get_or xs i 0) 0x80) [
+        | inl l ↦ l
+        | inr g ↦ absurd (none i (omega arith) inside (lane ∙ le-leb 0x80 _ g))
+      ] in
       subst (λ n. n < 0x80) (sym (get_or-take k xs i 0 inside)) low)
 
   pub ascii_before : (r : Option ℕ) → IsFirstSet non_ascii_mask r → (unwrap_or r n ≤ n) × AreAscii (take (unwrap_or r n) xs)
@@ -38,10 +39,12 @@ module _ (w : Width) (n : ℕ) (xs : List ℕ) (few : n ≤ 64) (long : length x
   pub ascii_if_none : IsTrue (eqb non_ascii_mask 0) → AreAscii xs
   ascii_if_none t =
       subst AreAscii (take_all n xs (omega (arith, long)))
-      (AreAscii-take n (omega arith) (none_set non_ascii_mask n (map (leb 0x80) xs) few (length-map xs (leb 0x80) ∙ long) non_ascii_mask-mask_l (eqb-true _ 0 t)))
+      (AreAscii-take n (omega arith)
+      (none_set non_ascii_mask n (map (leb 0x80) xs) few (length-map xs (leb 0x80) ∙ long) non_ascii_mask-mask_l (eqb-true _ 0 t)))
 
 -- a byte in an ASCII block is ASCII
-pub ascii_in_block : (n at : ℕ) (w : List ℕ) → at + n ≤ length w → AreAscii (chunk at n w) → (i : ℕ) → at ≤ i → i < at + n → get_or w i 0 < 0x80
+pub ascii_in_block : (n at : ℕ) (w : List ℕ) → at + n ≤ length w → AreAscii (chunk at n w) → (i : ℕ) → at ≤ i → i < at + n
+    → get_or w i 0 < 0x80
 ascii_in_block n at w room all i l m =
     let same : at + (i - at) ≡ i = omega (arith, l) in
     let low = Each1-get_or (λ b. b < 0x80) (chunk at n w) (i - at) 0 (omega (arith, length-chunk at n w room, l, m)) all in

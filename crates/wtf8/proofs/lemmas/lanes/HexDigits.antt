@@ -1,7 +1,8 @@
 -- Hexadecimal digits in lanes.
-use Rattle.wtf8.proofs.Common.{◌≡◌, ℕ, zero, suc, ◌+◌, ◌*◌, ◌/◌, ◌%◌, ◌<◌, ◌≤◌, false, cond, leb, ltb, inl, inr, List, [], ◌∷◌, ◌++◌, map, length, get_or, take}
-use Rattle.wtf8.proofs.Common.{drop, replicate, refl, sym, ap, ◌∙◌, subst, arith, w8, append_assoc, flat_map-append, lt-leb, cases_Bool, pick_l_whole, Each1}
-use Rattle.wtf8.proofs.Common.{zip2, hex_of, hex, spaced_hex, flat_map, take-append-drop, take-add, swz_l, zip2_splat, IsAscii-append, range_with_len, IsAscii}
+use Rattle.wtf8.proofs.Common.{◌≡◌, ℕ, zero, suc, ◌+◌, ◌*◌, ◌/◌, ◌%◌, ◌<◌, ◌≤◌, false, cond, leb, ltb, inl, inr, List, [], ◌∷◌, ◌++◌, map}
+use Rattle.wtf8.proofs.Common.{length, get_or, take, drop, replicate, refl, sym, ap, ◌∙◌, subst, arith, w8, append_assoc, flat_map-append}
+use Rattle.wtf8.proofs.Common.{lt-leb, cases_Bool, pick_l_whole, Each1, zip2, hex_of, hex, spaced_hex, flat_map, take-append-drop, take-add}
+use Rattle.wtf8.proofs.Common.{swz_l, zip2_splat, IsAscii-append, range_with_len, IsAscii}
 use Rattle.std.proofs.lemmas.List.FromFn.{get_or-map-range_with_len}
 use Rattle.std.proofs.lemmas.Nat.{and_mask}
 use borrow.Rule.Simd.Lanes.{act2}
@@ -22,19 +23,24 @@ pub digit_at : (n : ℕ) → n < 16 → get_or digit_table n 0 ≡ digit n
 digit_at n h = ap (λ t. get_or t n 0) (sym map_digit-range) ∙ get_or-map-range_with_len digit 0 16 n n 0 h (omega arith)
 
 -- a table lookup turns values below 16 into digits
-pub swz_l-digit_table : (i : ℕ) (values : List ℕ) → i + length values ≤ 16 → Each1 (λ v. v < 16) values → swz_l w8 16 digit_table i values ≡ map digit values
+pub swz_l-digit_table : (i : ℕ) (values : List ℕ) → i + length values ≤ 16 → Each1 (λ v. v < 16) values
+    → swz_l w8 16 digit_table i values ≡ map digit values
 swz_l-digit_table i [] p h = refl
 swz_l-digit_table i (v ∷ values) p h =
     let kept : leb 128 v ≡ false = lt-leb 128 v (omega (arith, h.0)) in
     let here : 16 * (i / 16) + v ≡ v = omega arith in
-    let one : cond (leb 128 v) zero (get_or digit_table (16 * (i / 16) + v) zero) ≡ digit v = rw kept (ap (λ n. get_or digit_table n 0) here ∙ digit_at v h.0) in
+    let one : cond (leb 128 v) zero (get_or digit_table (16 * (i / 16) + v) zero) ≡ digit v =
+    rw kept (ap (λ n. get_or digit_table n 0) here ∙ digit_at v h.0) in
     λ j. one j ∷ swz_l-digit_table (suc i) values (omega arith) h.1 j
 
-high_digits-map : (bytes : List ℕ) → length bytes ≡ 16 → zip2 (act2 (shr unsigned) (s_int w8) (s_int w8) (s_int w8)) bytes (replicate 16 4) ≡ map (λ b. b / 16) bytes
+high_digits-map : (bytes : List ℕ) → length bytes ≡ 16
+    → zip2 (act2 (shr unsigned) (s_int w8) (s_int w8) (s_int w8)) bytes (replicate 16 4) ≡ map (λ b. b / 16) bytes
 high_digits-map bytes p = zip2_splat (act2 (shr unsigned) (s_int w8) (s_int w8) (s_int w8)) bytes 16 4 p
 
-low_digits-map : (bytes : List ℕ) → length bytes ≡ 16 → zip2 (act2 bit_and_op (s_int w8) (s_int w8) (s_int w8)) bytes (replicate 16 15) ≡ map (λ b. b % 16) bytes
-low_digits-map bytes p = zip2_splat (act2 bit_and_op (s_int w8) (s_int w8) (s_int w8)) bytes 16 15 p ∙ (λ i. map (λ b. and_mask b 4 i) bytes)
+low_digits-map : (bytes : List ℕ) → length bytes ≡ 16
+    → zip2 (act2 bit_and_op (s_int w8) (s_int w8) (s_int w8)) bytes (replicate 16 15) ≡ map (λ b. b % 16) bytes
+low_digits-map bytes p =
+    zip2_splat (act2 bit_and_op (s_int w8) (s_int w8) (s_int w8)) bytes 16 15 p ∙ (λ i. map (λ b. and_mask b 4 i) bytes)
 
 map-div_16_below : (bytes : List ℕ) → Each1 (Fits w8) bytes → Each1 (λ v. v < 16) (map (λ b. b / 16) bytes)
 map-div_16_below [] h = tt
@@ -60,12 +66,15 @@ highs_below bytes p h = subst (Each1 (λ v. v < 16)) (sym (high_digits-map bytes
 pub lows_below : (bytes : List ℕ) → length bytes ≡ 16 → Each1 (λ v. v < 16) (low_digits bytes)
 lows_below bytes p = subst (Each1 (λ v. v < 16)) (sym (low_digits-map bytes p)) (map-mod_16_below bytes)
 
-interleave_digits-spaced : (bytes : List ℕ) → length bytes ≡ 16 → interleave_digits (map digit (map (λ b. b / 16) bytes) ++ map digit (map (λ b. b % 16) bytes)) ≡ flat_map spaced_hex bytes
-interleave_digits-spaced bytes p = subst (λ bs. interleave_digits (map digit (map (λ b. b / 16) bs) ++ map digit (map (λ b. b % 16) bs)) ≡ flat_map spaced_hex bs)
+interleave_digits-spaced : (bytes : List ℕ) → length bytes ≡ 16
+    → interleave_digits (map digit (map (λ b. b / 16) bytes) ++ map digit (map (λ b. b % 16) bytes)) ≡ flat_map spaced_hex bytes
+interleave_digits-spaced bytes p =
+    subst (λ bs. interleave_digits (map digit (map (λ b. b / 16) bs) ++ map digit (map (λ b. b % 16) bs)) ≡ flat_map spaced_hex bs)
     (pick_l_whole 0 bytes 16 p) refl
 
 -- the interleaved digits of the halves are the spaced text of 16 bytes
-pub block_text : (bytes first second : List ℕ) → length bytes ≡ 16 → first ≡ map digit (high_digits bytes) → second ≡ map digit (low_digits bytes)
+pub block_text : (bytes first second : List ℕ) → length bytes ≡ 16 → first ≡ map digit (high_digits bytes)
+    → second ≡ map digit (low_digits bytes)
     → interleave_digits (first ++ second) ≡ flat_map spaced_hex bytes
 block_text bytes first second p f s = rw (f, s, high_digits-map bytes p, low_digits-map bytes p) (interleave_digits-spaced bytes p)
 

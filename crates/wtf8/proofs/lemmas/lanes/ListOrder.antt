@@ -1,7 +1,7 @@
 -- The order of lists of numbers: item by item, by the items at the first mismatch, and by lengths where there is none.
-use Rattle.wtf8.proofs.Common.{◌≡◌, ℕ, zero, suc, ◌<◌, inl, inr, List, [], ◌∷◌, ◌++◌, ◌∙◌, refl, sym, ap, arith, length, drop, get_or, min, cases_order}
-use Rattle.wtf8.proofs.Common.{Less, Greater, nat_cmp, ordering_then, ordering_reverse, slice_cmp, option_cmp, nat_tests, Before, IsMismatch, DifferAt, NoneIn}
-use Rattle.wtf8.proofs.Common.{IsLeast, slice_get, slice_get-get_or}
+use Rattle.wtf8.proofs.Common.{◌≡◌, ℕ, zero, suc, ◌<◌, inl, inr, List, [], ◌∷◌, ◌++◌, ◌∙◌, refl, sym, ap, arith, length, drop, get_or, min}
+use Rattle.wtf8.proofs.Common.{cases_order, Less, Greater, nat_cmp, ordering_then, ordering_reverse, slice_cmp, option_cmp, nat_tests}
+use Rattle.wtf8.proofs.Common.{Before, IsMismatch, DifferAt, NoneIn, IsLeast, slice_get, slice_get-get_or}
 use Rattle.std.proofs.lemmas.Cmp.{nat_cmp_total, nat_list_cmp_total, tied_itself}
 use Rattle.wtf8.proofs.lemmas.lanes.Mismatch.{take-before_mismatch}
 
@@ -27,7 +27,8 @@ slice_cmp-greater c d h = nat_list_cmp_total.antisymm c d ∙ ap ordering_revers
 -- a common front does not affect a comparison
 pub cmp-append_left : (f c d : List ℕ) → slice_cmp nat_cmp (f ++ c) (f ++ d) ≡ slice_cmp nat_cmp c d
 cmp-append_left [] c d = refl
-cmp-append_left (x ∷ f) c d = ap (λ o. ordering_then o (slice_cmp nat_cmp (f ++ c) (f ++ d))) (tied_itself nat_cmp_total x) ∙ cmp-append_left f c d
+cmp-append_left (x ∷ f) c d =
+    ap (λ o. ordering_then o (slice_cmp nat_cmp (f ++ c) (f ++ d))) (tied_itself nat_cmp_total x) ∙ cmp-append_left f c d
 
 -- without their equal first items, lists first differ one index earlier
 pub mismatch-cons : (x y : ℕ) (w v : List ℕ) (n : ℕ) → IsMismatch (x ∷ w) (y ∷ v) (suc n) → IsMismatch w v n
@@ -39,7 +40,8 @@ mismatch-cons x y w v n d = record {
 }
 
 -- lists compare as their items at the first difference, with `None` for the end
-pub order_at_mismatch : (w v : List ℕ) (at : ℕ) → IsMismatch w v at → option_cmp nat_cmp (slice_get w at) (slice_get v at) ≡ slice_cmp nat_cmp w v
+pub order_at_mismatch : (w v : List ℕ) (at : ℕ)
+    → IsMismatch w v at → option_cmp nat_cmp (slice_get w at) (slice_get v at) ≡ slice_cmp nat_cmp w v
 order_at_mismatch [] [] at d = refl
 order_at_mismatch [] (y ∷ v) zero d = refl
 order_at_mismatch [] (y ∷ v) (suc n) d = absurd (omega (arith, d.within_first))
@@ -55,7 +57,8 @@ order_at_mismatch (x ∷ w) (y ∷ v) (suc n) d =
     order_at_mismatch w v n (mismatch-cons x y w v n d) ∙ rw same (sym (cmp-append_left (x ∷ []) w v))
 
 -- lists that are equal up to the length of the shorter compare as their lengths
-pub order_of_lengths : (w v : List ℕ) → NoneIn (DifferAt w v) 0 (min (length w) (length v)) → nat_cmp (length w) (length v) ≡ slice_cmp nat_cmp w v
+pub order_of_lengths : (w v : List ℕ) → NoneIn (DifferAt w v) 0 (min (length w) (length v))
+    → nat_cmp (length w) (length v) ≡ slice_cmp nat_cmp w v
 order_of_lengths [] [] h = tied_itself nat_cmp_total 0
 order_of_lengths [] (y ∷ v) h = cmp_less 0 (length (y ∷ v)) (omega arith)
 order_of_lengths (x ∷ w) [] h = cmp_greater (length (x ∷ w)) 0 (omega arith)

@@ -1,8 +1,9 @@
 -- Masks of lanes: the lowest set bit is the first set lane, and so the first position of a block with a property.
-use Rattle.wtf8.proofs.Common.{◌≡◌, ◌↔◌, ℕ, zero, suc, ◌+◌, ◌-◌, ◌/◌, ◌%◌, ◌^◌, ◌<◌, ◌≤◌, eqb, Bool, true, false, not, cond, Option, Some, None, List, [], ◌∷◌}
-use Rattle.wtf8.proofs.Common.{map, length, take, replicate, refl, sym, ap, ◌∙◌, subst, arith, both_ways, cases_Bool, eqb-true, inl, inr, mask_l-mod, mask_l}
-use Rattle.wtf8.proofs.Common.{top, zip2, Each1, NoneIn, IsLeast, not-false, tops_compared, length-zip2, w8, not-true, length-replicate, map-id}
-use Rattle.wtf8.proofs.Common.{prefix_len_passes, prefix_len_stops, prefix_len, unwrap_or, MatchOption, IsFirstIn, IsFirstSet, IsSet, HasBitPrefix}
+use Rattle.wtf8.proofs.Common.{◌≡◌, ◌↔◌, ℕ, zero, suc, ◌+◌, ◌-◌, ◌/◌, ◌%◌, ◌^◌, ◌<◌, ◌≤◌, eqb, Bool, true, false, not, cond, Option, Some}
+use Rattle.wtf8.proofs.Common.{None, List, [], ◌∷◌, map, length, take, replicate, refl, sym, ap, ◌∙◌, subst, arith, both_ways, cases_Bool}
+use Rattle.wtf8.proofs.Common.{eqb-true, inl, inr, mask_l-mod, mask_l, top, zip2, Each1, NoneIn, IsLeast, not-false, tops_compared}
+use Rattle.wtf8.proofs.Common.{length-zip2, w8, not-true, length-replicate, map-id, prefix_len_passes, prefix_len_stops, prefix_len}
+use Rattle.wtf8.proofs.Common.{unwrap_or, MatchOption, IsFirstIn, IsFirstSet, IsSet, HasBitPrefix}
 use Rattle.std.proofs.lemmas.Simd.{leading_from_mask_l, trailing_mask_l}
 use lib.Count.{count_trailing_zeros}
 
@@ -25,9 +26,14 @@ module _ (bits n : ℕ) (lanes : List Bool) (few : n ≤ 64) (long : length lane
   pub lowest_set : ¬ (bits ≡ 0) → IsLeast (IsSet lanes) 0 (count_trailing_zeros 64 bits) × (count_trailing_zeros 64 bits < n)
   lowest_set e =
       let some_lane = prefix_len_from_mask_l lanes (omega (arith, bits-mask_l, ap mask_l (map-id lanes), e)) in
-      let counted = ap (count_trailing_zeros 64) bits-mask_l ∙ trailing_mask_l (λ b. b) 64 lanes (omega (arith, long, few)) (omega (arith, bits-mask_l, e)) in
+      let counted = ap (count_trailing_zeros 64) bits-mask_l
+      ∙ trailing_mask_l (λ b. b) 64 lanes (omega (arith, long, few)) (omega (arith, bits-mask_l, e)) in
       subst (λ t. IsLeast (IsSet lanes) 0 t × (t < n)) (sym counted) (
-        record { not_before = omega arith; here = not-false _ (prefix_len_stops (λ b. not b) lanes false some_lane); none_between = λ k _ l. not_set_in_prefix k l },
+        record {
+          not_before = omega arith;
+          here = not-false _ (prefix_len_stops (λ b. not b) lanes false some_lane);
+          none_between = λ k _ l. not_set_in_prefix k l;
+        },
         omega (arith, some_lane, long),
       )
 
@@ -56,7 +62,11 @@ first_at_offset P Q i n equivalent r first = by r first
     by : (r : Option ℕ) → IsFirstIn Q 0 n r → MatchOption r (NoneIn P i (i + n)) (λ k. IsLeast P i (i + k) × (i + k < i + n))
     by None h = none n (omega arith) h
     by (Some k) h = (
-      record { not_before = omega arith; here = (equivalent k h.1).0 h.0.here; none_between = none k (omega (arith, h.1)) h.0.none_between },
+      record {
+        not_before = omega arith;
+        here = (equivalent k h.1).0 h.0.here;
+        none_between = none k (omega (arith, h.1)) h.0.none_between;
+      },
       omega (arith, h.1),
     )
 
@@ -67,7 +77,8 @@ quotients d n xs = zip2 (λ a b. a / b) xs (replicate n d)
 abbrev pub unequal_quotients : ℕ → ℕ → ℕ → List ℕ → List Bool
 unequal_quotients d y n xs = zip2 (λ a b. not (eqb a b)) (quotients d n xs) (replicate n y)
 
-HasBitPrefix-before_first : (d y n m : ℕ) (xs : List ℕ) → length xs ≡ n → m ≤ n → NoneIn (IsSet (unequal_quotients d y n xs)) 0 m → Each1 (HasBitPrefix d y) (take m xs)
+HasBitPrefix-before_first : (d y n m : ℕ) (xs : List ℕ) → length xs ≡ n → m ≤ n → NoneIn (IsSet (unequal_quotients d y n xs)) 0 m
+    → Each1 (HasBitPrefix d y) (take m xs)
 HasBitPrefix-before_first d y n zero xs long le none = tt
 HasBitPrefix-before_first d y n (suc m) [] long le none = tt
 HasBitPrefix-before_first d y zero (suc m) (x ∷ xs) long le none = absurd (omega arith)
@@ -84,13 +95,16 @@ pub record LeadingHavePrefix (d y n : ℕ) (xs : List ℕ) (count : ℕ) : Type 
 pub LeadingHavePrefix-first_set : (d y n : ℕ) (xs : List ℕ) → n ≤ 64 → length xs ≡ n → (r : Option ℕ)
     → IsFirstSet (mask_l (map (top 7) (zip2 (λ a b. cond (not (eqb a b)) 255 0) (quotients d n xs) (replicate n y))) % 2 ^ 64) r
     → LeadingHavePrefix d y n xs (unwrap_or r n)
-LeadingHavePrefix-first_set d y n xs few long r first = by r (first n (unequal_quotients d y n xs) few lanes (ap (λ ms. mask_l ms % 2 ^ 64) (tops_compared w8 (λ a b. not (eqb a b)) (quotients d n xs) (replicate n y))))
+LeadingHavePrefix-first_set d y n xs few long r first = by r (first n (unequal_quotients d y n xs) few lanes
+    (ap (λ ms. mask_l ms % 2 ^ 64) (tops_compared w8 (λ a b. not (eqb a b)) (quotients d n xs) (replicate n y))))
   where
     lanes : length (unequal_quotients d y n xs) ≡ n
     lanes =
         let divided = length-zip2 (λ a b. a / b) xs (replicate n d) (long ∙ sym (length-replicate n d)) in
-        length-zip2 (λ a b. not (eqb a b)) (quotients d n xs) (replicate n y) (divided ∙ (long ∙ sym (length-replicate n y))) ∙ (divided ∙ long)
+        length-zip2 (λ a b. not (eqb a b)) (quotients d n xs) (replicate n y) (divided ∙ (long ∙ sym (length-replicate n y)))
+        ∙ (divided ∙ long)
 
     by : (r : Option ℕ) → IsFirstIn (IsSet (unequal_quotients d y n xs)) 0 n r → LeadingHavePrefix d y n xs (unwrap_or r n)
     by None none = record { within = omega arith; each = HasBitPrefix-before_first d y n n xs long (omega arith) none }
-    by (Some k) h = record { within = omega (arith, h.1); each = HasBitPrefix-before_first d y n k xs long (omega (arith, h.1)) h.0.none_between }
+    by (Some k) h =
+        record { within = omega (arith, h.1); each = HasBitPrefix-before_first d y n k xs long (omega (arith, h.1)) h.0.none_between }

@@ -1,10 +1,9 @@
 -- Units counted in lanes: the sum of a block's lanes.
-use Rattle.wtf8.proofs.Common.{◌≡◌, ℕ, zero, suc, ◌+◌, ◌<◌, ◌≤◌, ltb, leb, Bool, true, false, cond, List, [], ◌∷◌, map, length}
-use Rattle.wtf8.proofs.Common.{replicate, w8, sym, ap, ◌∙◌, arith, nat_tests, lt-ltb, le-ltb}
-use Rattle.wtf8.proofs.Common.{sel_l, zip2, top, ◌||◌, bit_or, Fits, refl, Each1}
-use Rattle.wtf8.proofs.Common.{sum_utf16_len, w16, sum_by-cons}
-use Rattle.wtf8.proofs.Common.{Each2-of, fold-sum, sum_bound, sum_fits, sum-zip2, length-map}
-use lib.Lanes.{zip2, top, Each2, Steps, fold_l, sum_l}
+use Rattle.wtf8.proofs.Common.{◌≡◌, ℕ, zero, suc, ◌+◌, ◌<◌, ◌≤◌, ltb, leb, Bool, true, false, cond, List, [], ◌∷◌, map, length, replicate}
+use Rattle.wtf8.proofs.Common.{w8, sym, ap, ◌∙◌, arith, nat_tests, lt-ltb, le-ltb, sel_l, zip2, top, ◌||◌, bit_or, Fits, refl, Each1}
+use Rattle.wtf8.proofs.Common.{sum_utf16_len, w16, sum_by-cons, Each2-of, fold-sum, sum_bound, sum_fits, sum-zip2, length-map, Each2}
+use Rattle.wtf8.proofs.Common.{fold_l, sum_l}
+use lib.Lanes.{Steps}
 use Rattle.wtf8.specs.private.UnitCounts.{utf16_len}
 use Rattle.wtf8.proofs.lemmas.lanes.SurrogateLanes.{lane_of_bool}
 
@@ -30,7 +29,8 @@ utf16_len_at_most_two b = grind (arith, nat_tests)
 
 -- the lanes with an ASCII byte or a lead byte, and the lanes with a lead byte of four bytes
 abbrev pub ascii_or_lead_lanes : ℕ → List ℕ → List Bool
-ascii_or_lead_lanes n xs = map (top 7) (zip2 bit_or (zip2 (λ a b. lane_of_bool (ltb a b)) xs (replicate n 0x80)) (zip2 (λ a b. lane_of_bool (leb a b)) (replicate n 0xC0) xs))
+ascii_or_lead_lanes n xs = map (top 7)
+    (zip2 bit_or (zip2 (λ a b. lane_of_bool (ltb a b)) xs (replicate n 0x80)) (zip2 (λ a b. lane_of_bool (leb a b)) (replicate n 0xC0) xs))
 
 abbrev pub four_byte_lead_lanes : ℕ → List ℕ → List Bool
 four_byte_lead_lanes n xs = map (top 7) (zip2 (λ a b. lane_of_bool (leb a b)) (replicate n 0xF0) xs)
@@ -40,7 +40,8 @@ abbrev pub ones_in_set_lanes : ℕ → List Bool → List ℕ
 ones_in_set_lanes n ms = sel_l ms (replicate n 1) (replicate n 0)
 
 abbrev pub unit_count_lanes : ℕ → List ℕ → List ℕ
-unit_count_lanes n xs = zip2 (λ a b. a + b) (ones_in_set_lanes n (ascii_or_lead_lanes n xs)) (ones_in_set_lanes n (four_byte_lead_lanes n xs))
+unit_count_lanes n xs =
+    zip2 (λ a b. a + b) (ones_in_set_lanes n (ascii_or_lead_lanes n xs)) (ones_in_set_lanes n (four_byte_lead_lanes n xs))
 
 top-bit_or : (a b : Bool) → top 7 (bit_or (lane_of_bool a) (lane_of_bool b)) ≡ a || b
 top-bit_or true true = refl
@@ -56,7 +57,8 @@ utf16_len-from_tests : (x : ℕ) → cond (ltb x 0x80 || leb 0xC0 x) 1 0 + cond 
 unfolding utf16_len
 utf16_len-from_tests x = grind (arith, nat_tests)
 
-utf16_len-from_lanes : (x : ℕ) → cond (top 7 (bit_or (lane_of_bool (ltb x 0x80)) (lane_of_bool (leb 0xC0 x)))) 1 0 + cond (top 7 (lane_of_bool (leb 0xF0 x))) 1 0 ≡ utf16_len x
+utf16_len-from_lanes : (x : ℕ) → cond (top 7 (bit_or (lane_of_bool (ltb x 0x80)) (lane_of_bool (leb 0xC0 x)))) 1 0 + cond
+    (top 7 (lane_of_bool (leb 0xF0 x))) 1 0 ≡ utf16_len x
 utf16_len-from_lanes x = rw (top-bit_or (ltb x 0x80) (leb 0xC0 x), top-lane_of_bool (leb 0xF0 x)) (utf16_len-from_tests x)
 
 pub unit_count_lanes-utf16_len : (n : ℕ) (xs : List ℕ) → length xs ≡ n → unit_count_lanes n xs ≡ map utf16_len xs
@@ -73,7 +75,8 @@ ones_at_most_one (suc n) (false ∷ ms) = (omega arith, ones_at_most_one n ms)
 -- the sum of two such lanes fits a byte
 pub lanes_fit : (n : ℕ) (ms ks : List Bool) → Each2 (λ a b. Fits w8 (a + b)) (ones_in_set_lanes n ms) (ones_in_set_lanes n ks)
 lanes_fit n ms ks =
-    Each2-of (λ a. a ≤ 1) (λ b. b ≤ 1) (λ a b. Fits w8 (a + b)) (λ a b h k. record { fits = omega arith }) (ones_in_set_lanes n ms) (ones_in_set_lanes n ks) (ones_at_most_one n ms) (ones_at_most_one n ks)
+    Each2-of (λ a. a ≤ 1) (λ b. b ≤ 1) (λ a b. Fits w8 (a + b)) (λ a b h k. record { fits = omega arith }) (ones_in_set_lanes n ms)
+    (ones_in_set_lanes n ks) (ones_at_most_one n ms) (ones_at_most_one n ks)
 
 utf16_lens_at_most_two : (xs : List ℕ) → Each1 (λ a. a ≤ 2) (map utf16_len xs)
 utf16_lens_at_most_two [] = tt
@@ -96,16 +99,20 @@ fold_l-utf16_len xs = omega (arith, fold-sum 0 (map utf16_len xs), sum_l-utf16_l
 pub lanes_fit_more : (most : ℕ) (lanes xs : List ℕ) → most + 2 ≤ 255 → Each1 (λ a. a ≤ most) lanes
     → Each2 (λ a b. Fits w8 (a + b)) lanes (map utf16_len xs)
 lanes_fit_more most lanes xs few h =
-    Each2-of (λ a. a ≤ most) (λ b. b ≤ 2) (λ a b. Fits w8 (a + b)) (λ a b l m. record { fits = omega arith }) lanes (map utf16_len xs) h (utf16_lens_at_most_two xs)
+    Each2-of (λ a. a ≤ most) (λ b. b ≤ 2) (λ a b. Fits w8 (a + b)) (λ a b l m. record { fits = omega arith }) lanes (map utf16_len xs) h
+    (utf16_lens_at_most_two xs)
 
-pub lanes_grow : (most : ℕ) (lanes xs : List ℕ) → Each1 (λ a. a ≤ most) lanes → Each1 (λ a. a ≤ most + 2) (zip2 (λ a b. a + b) lanes (map utf16_len xs))
+pub lanes_grow : (most : ℕ) (lanes xs : List ℕ) → Each1 (λ a. a ≤ most) lanes
+    → Each1 (λ a. a ≤ most + 2) (zip2 (λ a b. a + b) lanes (map utf16_len xs))
 lanes_grow most [] xs h = tt
 lanes_grow most (a ∷ lanes) [] h = tt
 lanes_grow most (a ∷ lanes) (x ∷ xs) h = (omega (arith, h.0, utf16_len_at_most_two x), lanes_grow most lanes xs h.1)
 
-pub sums_grow : (lanes xs : List ℕ) → length lanes ≡ length xs → sum_l (zip2 (λ a b. a + b) lanes (map utf16_len xs)) ≡ sum_l lanes + sum_utf16_len xs
+pub sums_grow : (lanes xs : List ℕ) → length lanes ≡ length xs
+    → sum_l (zip2 (λ a b. a + b) lanes (map utf16_len xs)) ≡ sum_l lanes + sum_utf16_len xs
 sums_grow lanes xs e = omega (arith, sum-zip2 lanes (map utf16_len xs) (e ∙ sym (length-map xs utf16_len)), sum_l-utf16_len xs)
 
 -- the sum of 64 lanes fits 16 bits after eight blocks were added
-pub sum_fits_two_bytes : (lanes : List ℕ) → length lanes ≡ 64 → Each1 (λ a. a ≤ 16) lanes → Steps (λ s x. Fits w16 (s + x)) (λ s x. s + x) 0 lanes
+pub sum_fits_two_bytes : (lanes : List ℕ) → length lanes ≡ 64 → Each1 (λ a. a ≤ 16) lanes
+    → Steps (λ s x. Fits w16 (s + x)) (λ s x. s + x) 0 lanes
 sum_fits_two_bytes lanes e h = sum_fits w16 0 lanes (omega (arith, sum_bound 16 lanes h, e))

@@ -1,5 +1,6 @@
 -- The laws of comparisons: of equal strings, and of strings that binary search does not find.
-use Rattle.wtf8.proofs.Common.{◌≡◌, ◌≢◌, ◌↔◌, ℕ, List, ap, ◌∙◌, sym, arith, inl, inr, cases_lt, All, Err, Equal, nat_cmp, slice_cmp, false≢true, UnitString}
+use Rattle.wtf8.proofs.Common.{◌≡◌, ◌≢◌, ◌↔◌, ℕ, List, ap, ◌∙◌, sym, arith, inl, inr, cases_lt, All, Err, Equal, nat_cmp, slice_cmp}
+use Rattle.wtf8.proofs.Common.{false≢true, UnitString}
 use Rattle.wtf8.specs.StringLaws.{EqualBuffersCompareEqual, EqualViewsCompareEqual}
 use Rattle.std.proofs.lemmas.Cmp.{nat_list_cmp_total, tied_itself}
 use Rattle.std.proofs.lemmas.List.Sorted.{searchable_from_sorted}

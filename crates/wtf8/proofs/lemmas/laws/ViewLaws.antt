@@ -1,15 +1,17 @@
 -- The laws that are called with views.
-use Rattle.wtf8.proofs.Common.{◌≡◌, ◌<◌, ◌+◌, ℕ, List, [], ◌∷◌, ◌++◌, ◌∙◌, ◌↔◌, refl, ap, sym, subst, arith, get_or, length, length-append, take, take_at}
-use Rattle.wtf8.proofs.Common.{append_assoc, units, bytes, Reads, IsForm, IsBack, Wtf8, view_units, view_form, AreScalar, lossy_points, chars, bytes_are_encodes, All}
-use Rattle.wtf8.proofs.Common.{IsUnit, number, numbers, Drains, Option, Run, Build, CodePoint, slice_index, YieldsList-from_first, chars-encodes}
-use Rattle.wtf8.proofs.Common.{get_or-append_seam, take_source, take_count, skip_source, skip_count, view_points}
+use Rattle.wtf8.proofs.Common.{◌≡◌, ◌<◌, ◌+◌, ℕ, List, [], ◌∷◌, ◌++◌, ◌∙◌, ◌↔◌, refl, ap, sym, subst, arith, get_or, length, length-append}
+use Rattle.wtf8.proofs.Common.{take, take_at, append_assoc, units, bytes, Reads, IsForm, IsBack, Wtf8, view_units, view_form, AreScalar}
+use Rattle.wtf8.proofs.Common.{lossy_points, chars, bytes_are_encodes, All, IsUnit, number, numbers, Drains, Option, Run, Build, CodePoint}
+use Rattle.wtf8.proofs.Common.{slice_index, YieldsList-from_first, chars-encodes, get_or-append_seam, take_source, take_count, skip_source}
+use Rattle.wtf8.proofs.Common.{skip_count, view_points}
 use Rattle.std.proofs.lemmas.Iterator.{YieldsList, items_from_drains, YieldsList-from_take}
 use Rattle.std.proofs.lemmas.Iterator.Adapters.{YieldsList-from_skip}
-use Rattle.wtf8.specs.PointLaws.{DrainedPointsAreLeft, DrainedPointsAreTaken, DrainedPointsAreAfterSkip}
-use Rattle.wtf8.specs.PointLaws.{CollectedPointsAreLeft, CollectedPointsAreTaken, CollectedPointsAreAfterSkip}
+use Rattle.wtf8.specs.PointLaws.{DrainedPointsAreLeft, DrainedPointsAreTaken, DrainedPointsAreAfterSkip, CollectedPointsAreLeft}
+use Rattle.wtf8.specs.PointLaws.{CollectedPointsAreTaken, CollectedPointsAreAfterSkip}
 use Rattle.wtf8.specs.StringLaws.{CharactersComeBack}
 use Rattle.wtf8.proofs.lemmas.codec.Encoding.{encoding_one, bytes-append, bytes-pushed, encoding_same}
-use Rattle.wtf8.proofs.lemmas.codec.Readings.{clean-append, unpaired-after_no_lead, unpaired-before_no_trail, same_reading, units_one, units-append}
+use Rattle.wtf8.proofs.lemmas.codec.Readings.{clean-append, unpaired-after_no_lead, unpaired-before_no_trail, same_reading, units_one}
+use Rattle.wtf8.proofs.lemmas.codec.Readings.{units-append}
 use Rattle.wtf8.proofs.lemmas.strings.Concatenation.{equal_forms, one_form, units_read, one_reading, none_begins_another}
 use Rattle.wtf8.proofs.lemmas.strings.ExtendedForms.{all_back}
 use Rattle.wtf8.proofs.lemmas.strings.Surrogates.{scalars_true, scalars-lossy_points}
@@ -36,19 +38,23 @@ IsForm-cons_ascii b l g = record {
 }
 
 -- two forms with an ASCII unit between them
-Reads-ascii_between : {w u x v : List ℕ} (b : ℕ) → b < 0x80 → (f : IsForm w u) (g : IsForm x v) → Reads (f.points ++ b ∷ g.points) (u ++ b ∷ v)
+Reads-ascii_between : {w u x v : List ℕ} (b : ℕ) → b < 0x80 → (f : IsForm w u) (g : IsForm x v)
+    → Reads (f.points ++ b ∷ g.points) (u ++ b ∷ v)
 Reads-ascii_between {u = u} b l f g =
     let after = (IsForm-cons_ascii b l g).reads in
     record {
-      clean = clean-append f.points (b ∷ g.points) f.reads.clean after.clean (unpaired-before_no_trail b g.points (λ t. omega (arith, t.0, l)));
-      same_units = units-append f.points (b ∷ g.points) ∙ (ap (λ a. a ++ units (b ∷ g.points)) f.reads.same_units ∙ ap (λ a. u ++ a) after.same_units);
+      clean =
+          clean-append f.points (b ∷ g.points) f.reads.clean after.clean (unpaired-before_no_trail b g.points (λ t. omega (arith, t.0, l)));
+      same_units = units-append f.points (b ∷ g.points)
+          ∙ (ap (λ a. a ++ units (b ∷ g.points)) f.reads.same_units ∙ ap (λ a. u ++ a) after.same_units);
     }
 
 IsForm-ascii_between : {w u x v : List ℕ} (b : ℕ) → b < 0x80 → IsForm w u → IsForm x v → IsForm (w ++ b ∷ x) (u ++ b ∷ v)
 IsForm-ascii_between {w} b l f g = record {
   points = f.points ++ b ∷ g.points;
   reads = Reads-ascii_between b l f g;
-  encoded = bytes-append f.points (b ∷ g.points) ∙ (ap (λ a. a ++ bytes (b ∷ g.points)) f.encoded ∙ ap (λ a. w ++ a) (IsForm-cons_ascii b l g).encoded);
+  encoded = bytes-append f.points (b ∷ g.points)
+      ∙ (ap (λ a. a ++ bytes (b ∷ g.points)) f.encoded ∙ ap (λ a. w ++ a) (IsForm-cons_ascii b l g).encoded);
 }
 
 -- the units of `whole` are those of `front`, an ASCII unit and those of `back` exactly if its bytes are
@@ -64,14 +70,17 @@ pub record BeginsByAscii (whole front : Wtf8) (b : ℕ) (rest : List ℕ) : Type
   pub separator : slice_index whole.bytes.now (length front.bytes.now) ≡ b
   pub after : IsBack (view_units whole) (length front.bytes.now + 1) rest
 
-pub begins_by_ascii : (whole front : Wtf8) (b : ℕ) (rest : List ℕ) → b < 0x80 → view_units whole ≡ view_units front ++ b ∷ rest → BeginsByAscii whole front b rest
+pub begins_by_ascii : (whole front : Wtf8) (b : ℕ) (rest : List ℕ) → b < 0x80 → view_units whole ≡ view_units front ++ b ∷ rest
+    → BeginsByAscii whole front b rest
 begins_by_ascii whole front b rest l e =
     let w = front.bytes.now in
     let f = view_form front in
     let all = units_read (view_points whole) (view_units front ++ b ∷ rest) (subst (Reads (view_points whole)) e (view_reads whole)) in
-    let back = one_form rest (all_back (view_units front ++ b ∷ []) rest (subst (All IsUnit) (sym (append_assoc (view_units front) (b ∷ []) rest)) all)) in
+    let back = one_form rest
+    (all_back (view_units front ++ b ∷ []) rest (subst (All IsUnit) (sym (append_assoc (view_units front) (b ∷ []) rest)) all)) in
     let same : whole.bytes.now ≡ w ++ b ∷ back.one =
-    (equal_forms whole.bytes.now (w ++ b ∷ back.one) (view_units whole) (view_units front ++ b ∷ rest) (view_form whole) (IsForm-ascii_between b l f back.has)).1 e in
+    (equal_forms whole.bytes.now (w ++ b ∷ back.one) (view_units whole) (view_units front ++ b ∷ rest) (view_form whole)
+    (IsForm-ascii_between b l f back.has)).1 e in
     let reads = subst (Reads (view_points front ++ b ∷ back.has.points)) (sym e) (Reads-ascii_between b l f back.has) in
     record {
       inside = omega (arith, ap length same, length-append w (b ∷ back.one));
@@ -98,7 +107,8 @@ view_characters t s = ap chars (sym t.well_formed.encoded) ∙ characters_come_b
 
 pub lossy_characters : (t : Wtf8) → chars (bytes (lossy_points (view_points t))) ≡ lossy_points (view_points t)
 lossy_characters t =
-    ap chars (bytes_are_encodes (lossy_points (view_points t))) ∙ chars-encodes (lossy_points (view_points t)) (scalars-lossy_points (view_points t) t.well_formed.clean)
+    ap chars (bytes_are_encodes (lossy_points (view_points t)))
+    ∙ chars-encodes (lossy_points (view_points t)) (scalars-lossy_points (view_points t) t.well_formed.clean)
 
 -- two runs of the same calls have the same outcome
 pub same_run : (u v w : List ℕ) (calls : List Build) (m n : ℕ) → Run u calls v m → Run u calls w n → (v ≡ w) × (m ≡ n)
@@ -117,10 +127,12 @@ pub drained_points : DrainedPointsAreLeft
 drained_points left points d = numbers-drained points d (YieldsList-from_first number (λ c. c) left refl)
 
 pub taken_points : DrainedPointsAreTaken
-taken_points s points d = numbers-drained points d (YieldsList-from_take (take_count s) (YieldsList-from_first number (λ c. c) (take_source s) refl) refl)
+taken_points s points d =
+    numbers-drained points d (YieldsList-from_take (take_count s) (YieldsList-from_first number (λ c. c) (take_source s) refl) refl)
 
 pub skipped_points : DrainedPointsAreAfterSkip
-skipped_points s points d = numbers-drained points d (YieldsList-from_skip (skip_count s) (YieldsList-from_first number (λ c. c) (skip_source s) refl) refl)
+skipped_points s points d =
+    numbers-drained points d (YieldsList-from_skip (skip_count s) (YieldsList-from_first number (λ c. c) (skip_source s) refl) refl)
 
 pub collected_points : CollectedPointsAreLeft
 collected_points left points d = items_from_drains points d (YieldsList-from_first number (λ c. c) left refl)
@@ -134,4 +146,17 @@ collected_back s points d =
     items_from_drains points d (YieldsList-from_skip (skip_count s) (YieldsList-from_first number (λ c. c) (skip_source s) refl) refl)
 
 -- the lemmas that state a law word for word, and so prove it
-pub ruleset laws = (one_reading, units_read, none_begins_another, encoding_same, run_once, runs_add, scalars_stay, characters_come_back, view_reads, one_view_reading, view_characters, lossy_characters)
+pub ruleset laws = (
+  one_reading,
+  units_read,
+  none_begins_another,
+  encoding_same,
+  run_once,
+  runs_add,
+  scalars_stay,
+  characters_come_back,
+  view_reads,
+  one_view_reading,
+  view_characters,
+  lossy_characters,
+)

@@ -1,15 +1,19 @@
 -- Strings joined: the form of two lists of units, with the pair at the seam as one code point.
-use Rattle.wtf8.proofs.Common.{◌≡◌, ℕ, inl, inr, List, [], ◌∷◌, ◌++◌, refl, sym, ap, ◌∙◌, subst, arith, append_assoc, cases_Bool, append-nil, IsLead, IsTrail}
-use Rattle.wtf8.proofs.Common.{units, units_of, pair, IsClean, Reads, MeetsAsPair, is_pair, glue, ◌+◌, ◌-◌, ◌≤◌, length, take, drop, length-append, cases_lt}
-use Rattle.wtf8.proofs.Common.{take_at, drop_at, same_from_push, bytes, encoding, IsForm, length-drop, All, All-nil, All-cons, All-head, All-tail, All-same}
-use Rattle.wtf8.proofs.Common.{IsUnit, IsCodePoint, ◌%◌, ◌<◌, get_or}
-use Rattle.std.proofs.lemmas.List.{drop_more, take_more, take-append-drop, length-take-le}
+use Rattle.wtf8.proofs.Common.{◌≡◌, ℕ, inl, inr, List, [], ◌∷◌, ◌++◌, refl, sym, ap, ◌∙◌, subst, arith, append_assoc, cases_Bool}
+use Rattle.wtf8.proofs.Common.{append-nil, IsLead, IsTrail, units, units_of, pair, IsClean, Reads, MeetsAsPair, is_pair, glue, ◌+◌, ◌-◌}
+use Rattle.wtf8.proofs.Common.{◌≤◌, length, take, drop, length-append, cases_lt, take_at, drop_at, same_from_push, bytes, encoding, IsForm}
+use Rattle.wtf8.proofs.Common.{length-drop, All, All-nil, All-cons, All-head, All-tail, All-same, IsUnit, IsCodePoint, ◌%◌, ◌<◌, get_or}
+use Rattle.wtf8.proofs.Common.{take-append-drop, length-take-le}
+use Rattle.std.proofs.lemmas.List.{drop_more, take_more}
 use Rattle.std.proofs.lemmas.List.Elements.{All-append}
-use Rattle.wtf8.specs.Laws.{UnitsHaveOneReading, ReadingsAreOfUnits, UnitsHaveOneForm, FormsAreOfOneList, EqualFormsHaveEqualUnits, NoEncodingBeginsAnother}
+use Rattle.wtf8.specs.Laws.{UnitsHaveOneReading, ReadingsAreOfUnits, UnitsHaveOneForm, FormsAreOfOneList, EqualFormsHaveEqualUnits}
+use Rattle.wtf8.specs.Laws.{NoEncodingBeginsAnother}
 use Rattle.wtf8.proofs.lemmas.codec.Encoding.{encoding_three, encoding_four, length-surrogate, bytes-append, bytes-pushed, encoding_same}
-use Rattle.wtf8.proofs.lemmas.codec.Readings.{clean-append, clean-front, clean-rest, is_pair-surrogates, surrogates_from_is_pair, meets_by, MeetsAsPair-cons, meets_or_not, unpaired-nil_right}
-use Rattle.wtf8.proofs.lemmas.codec.Readings.{unpaired-after_no_lead, unpaired-before_no_trail, same_reading, units_one, units_pair, same_form, trail_first, lead_of, trail_of, units_two}
-use Rattle.wtf8.proofs.lemmas.codec.Readings.{units-pushed, clean-first, form_of, units_from_form, form_append-unpaired}
+use Rattle.wtf8.proofs.lemmas.codec.Readings.{clean-append, clean-front, clean-rest, is_pair-surrogates, surrogates_from_is_pair, meets_by}
+use Rattle.wtf8.proofs.lemmas.codec.Readings.{MeetsAsPair-cons, meets_or_not, unpaired-nil_right, unpaired-after_no_lead}
+use Rattle.wtf8.proofs.lemmas.codec.Readings.{unpaired-before_no_trail, same_reading, units_one, units_pair, same_form, trail_first}
+use Rattle.wtf8.proofs.lemmas.codec.Readings.{lead_of, trail_of, units_two, units-pushed, clean-first, form_of, units_from_form}
+use Rattle.wtf8.proofs.lemmas.codec.Readings.{form_append-unpaired}
 
 -- Lists of any kind: the last item, and the item at an index.
 
@@ -28,7 +32,8 @@ module _ {X : Type 0} where
     at_last : xs ≡ front → x ≡ y → SplitOfPush xs x front y back
     before : (rest : List X) → xs ≡ front ++ y ∷ rest → back ≡ rest ++ x ∷ [] → SplitOfPush xs x front y back
 
-  pub split_of_push : (xs : List X) (x : X) (front : List X) (y : X) (back : List X) → xs ++ x ∷ [] ≡ front ++ y ∷ back → SplitOfPush xs x front y back
+  pub split_of_push : (xs : List X) (x : X) (front : List X) (y : X) (back : List X) → xs ++ x ∷ [] ≡ front ++ y ∷ back
+      → SplitOfPush xs x front y back
   split_of_push [] x [] y back e = at_last refl (ap (λ l. get_or l 0 x) e)
   split_of_push [] x (f ∷ front) y back e = absurd (omega (arith, ap length e, length-append front (y ∷ back)))
   split_of_push (z ∷ xs) x [] y back e = before xs (ap (λ h. h ∷ xs) (ap (λ l. get_or l 0 z) e)) (sym (ap (drop 1) e))
@@ -41,7 +46,8 @@ module _ {X : Type 0} where
 
   -- the items before an index, the item there and the items after it are the list
   pub take-cons-drop : (xs : List X) (i : ℕ) (x : X) → i < length xs → x ≡ get_or xs i x → take i xs ++ x ∷ drop (i + 1) xs ≡ xs
-  take-cons-drop xs i x h e = ap (λ y. take i xs ++ y ∷ drop (i + 1) xs) e ∙ (ap (λ d. take i xs ++ d) (sym (drop_more xs i x h)) ∙ take-append-drop i xs)
+  take-cons-drop xs i x h e =
+      ap (λ y. take i xs ++ y ∷ drop (i + 1) xs) e ∙ (ap (λ d. take i xs ++ d) (sym (drop_more xs i x h)) ∙ take-append-drop i xs)
 
   pub take-push : (xs : List X) (i : ℕ) (x : X) → i < length xs → x ≡ get_or xs i x → take (i + 1) xs ≡ take i xs ++ x ∷ []
   take-push xs i x h e = take_more xs i x h ∙ ap (λ y. take i xs ++ y ∷ []) (sym e)
@@ -55,7 +61,8 @@ glue-pair (p ∷ []) l t r h k = ap (λ e. p ∷ e) (glue-pair [] l t r h k)
 glue-pair (p ∷ q ∷ f) l t r h k = ap (λ e. p ∷ e) (glue-pair (q ∷ f) l t r h k)
 
 pub glue_meeting : (c d : List ℕ) (m : MeetsAsPair c d) → glue c d ≡ m.front ++ pair m.lead m.trail ∷ m.rest
-glue_meeting c d m = ap (λ x. glue x d) m.ends ∙ (ap (glue (m.front ++ m.lead ∷ [])) m.begins ∙ glue-pair m.front m.lead m.trail m.rest m.is_lead m.is_trail)
+glue_meeting c d m =
+    ap (λ x. glue x d) m.ends ∙ (ap (glue (m.front ++ m.lead ∷ [])) m.begins ∙ glue-pair m.front m.lead m.trail m.rest m.is_lead m.is_trail)
 
 -- without a pair at the seam the lists are appended
 pub glue-unpaired : (c d : List ℕ) → ¬ (MeetsAsPair c d) → glue c d ≡ c ++ d
@@ -67,9 +74,11 @@ glue-unpaired (p ∷ []) (q ∷ d) n = elim (cases_Bool (is_pair p q)) [
 ]
 glue-unpaired (p ∷ q ∷ c) d n = ap (λ e. p ∷ e) (glue-unpaired (q ∷ c) d (λ m. n (MeetsAsPair-cons p m)))
 
-clean-paired : (f : List ℕ) (l t : ℕ) (r : List ℕ) → IsClean (f ++ l ∷ []) → IsClean (t ∷ r) → IsLead l → IsTrail t → IsClean (f ++ pair l t ∷ r)
+clean-paired : (f : List ℕ) (l t : ℕ) (r : List ℕ) → IsClean (f ++ l ∷ []) → IsClean (t ∷ r) → IsLead l → IsTrail t
+    → IsClean (f ++ pair l t ∷ r)
 clean-paired f l t r x y h k =
-    let after = clean-append (pair l t ∷ []) r (omega arith) (clean-rest t r y) (unpaired-after_no_lead [] (pair l t) (λ p. omega (arith, p.1))) in
+    let after =
+    clean-append (pair l t ∷ []) r (omega arith) (clean-rest t r y) (unpaired-after_no_lead [] (pair l t) (λ p. omega (arith, p.1))) in
     clean-append f (pair l t ∷ r) (clean-front f (l ∷ []) x) after (unpaired-before_no_trail (pair l t) r (λ p. omega (arith, p.1)))
 
 pub clean-glue : (c d : List ℕ) → IsClean c → IsClean d → IsClean (glue c d)
@@ -102,7 +111,8 @@ glue-nil c = glue-unpaired c [] unpaired-nil_right ∙ append-nil c
 pub glue_assoc : (c d e : List ℕ) → IsClean c → IsClean d → IsClean e → glue (glue c d) e ≡ glue c (glue d e)
 glue_assoc c d e x y z =
     let right = clean-glue c (glue d e) x (clean-glue d e y z) in
-    same_reading (glue (glue c d) e) (glue c (glue d e)) (clean-glue (glue c d) e (clean-glue c d x y) z) right (simp (units-glue, append_assoc))
+    same_reading (glue (glue c d) e) (glue c (glue d e)) (clean-glue (glue c d) e (clean-glue c d x y) z) right
+    (simp (units-glue, append_assoc))
 
 -- The form of two lists of units, one after the other: its bytes and its length.
 
@@ -134,7 +144,8 @@ meeting_bytes {w} {v} m e g =
     }
 
 -- the bytes of two joined lists
-pub bytes_paired : {w v : List ℕ} (c d : List ℕ) (m : MeetsAsPair c d) → bytes c ≡ w → bytes d ≡ v → bytes (glue c d) ≡ paired_bytes w m.lead m.trail v
+pub bytes_paired : {w v : List ℕ} (c d : List ℕ) (m : MeetsAsPair c d) → bytes c ≡ w → bytes d ≡ v
+    → bytes (glue c d) ≡ paired_bytes w m.lead m.trail v
 bytes_paired {w} {v} c d m e g =
     let s = meeting_bytes m e g in simp (glue_meeting c d m, bytes-append, s.before, s.after, append_assoc)
 
@@ -142,7 +153,8 @@ pub bytes_glue-unpaired : {w v : List ℕ} (c d : List ℕ) → ¬ (MeetsAsPair 
 bytes_glue-unpaired {w} {v} c d n e g = simp (glue-unpaired c d n, bytes-append, e, g)
 
 -- a pair takes one byte more than its lead, and two less than its surrogates
-length-joined : (w : List ℕ) (l t : ℕ) → IsLead l → IsTrail t → 3 ≤ length w → length (take (length w - 3) w ++ encoding (pair l t)) ≡ length w + 1
+length-joined : (w : List ℕ) (l t : ℕ) → IsLead l → IsTrail t → 3 ≤ length w
+    → length (take (length w - 3) w ++ encoding (pair l t)) ≡ length w + 1
 length-joined w l t lead trail n =
     length-append (take (length w - 3) w) (encoding (pair l t))
     ∙ omega (arith, length-take-le (length w - 3) w (omega arith), ap length (encoding_four (pair l t) (omega arith)))
@@ -150,14 +162,21 @@ length-joined w l t lead trail n =
 pub length-paired_bytes : (w v : List ℕ) (l t : ℕ) → IsLead l → IsTrail t → 3 ≤ length w → 3 ≤ length v
     → length (paired_bytes w l t v) + 2 ≡ length w + length v
 length-paired_bytes w v l t lead trail m n =
-    omega (arith, length-append (take (length w - 3) w ++ encoding (pair l t)) (drop 3 v), length-joined w l t lead trail m, length-drop 3 v)
+    omega (
+      arith,
+      length-append (take (length w - 3) w ++ encoding (pair l t)) (drop 3 v),
+      length-joined w l t lead trail m,
+      length-drop 3 v,
+    )
 
 pub form-glue : (w v a b : List ℕ) (x : IsForm w a) (y : IsForm v b) → IsForm (bytes (glue x.points y.points)) (a ++ b)
 form-glue w v a b x y = record { points = glue x.points y.points; reads = reads-glue x.points y.points a b x.reads y.reads; encoded = refl }
 
 -- the form of both, with a pair at the seam of their code points
-pub form_meeting : {w v a b : List ℕ} (x : IsForm w a) (y : IsForm v b) (m : MeetsAsPair x.points y.points) → IsForm (paired_bytes w m.lead m.trail v) (a ++ b)
-form_meeting {w} {v} {a} {b} x y m = subst (λ z. IsForm z (a ++ b)) (bytes_paired x.points y.points m x.encoded y.encoded) (form-glue w v a b x y)
+pub form_meeting : {w v a b : List ℕ} (x : IsForm w a) (y : IsForm v b) (m : MeetsAsPair x.points y.points)
+    → IsForm (paired_bytes w m.lead m.trail v) (a ++ b)
+form_meeting {w} {v} {a} {b} x y m =
+    subst (λ z. IsForm z (a ++ b)) (bytes_paired x.points y.points m x.encoded y.encoded) (form-glue w v a b x y)
 
 -- a lead that is the last unit is the last code point
 pub lead_last : (c g : List ℕ) (l : ℕ) → IsLead l → units c ≡ g ++ l ∷ [] → (f : List ℕ) × (c ≡ f ++ l ∷ [])
@@ -190,14 +209,17 @@ pub form_paired : (w v a b : List ℕ) → IsForm w a → IsForm v b → (m : Me
 form_paired w v a b x y m = form_meeting x y (points_meet x.reads y.reads m)
 
 -- the length of the form of both
-pub length_paired : (w v z a b : List ℕ) → IsForm w a → IsForm v b → IsForm z (a ++ b) → MeetsAsPair a b → length z + 2 ≡ length w + length v
+pub length_paired : (w v z a b : List ℕ) → IsForm w a → IsForm v b → IsForm z (a ++ b) → MeetsAsPair a b
+    → length z + 2 ≡ length w + length v
 length_paired w v z a b x y f m =
     let s = meeting_bytes (points_meet x.reads y.reads m) x.encoded y.encoded in
     let same = same_form z (paired_bytes w m.lead m.trail v) (a ++ b) f (form_paired w v a b x y m) in
     ap (λ e. length e + 2) same ∙ length-paired_bytes w v m.lead m.trail m.is_lead m.is_trail s.three s.three_after
 
-pub length_append-unpaired : (w v z a b : List ℕ) → IsForm w a → IsForm v b → IsForm z (a ++ b) → ¬ (MeetsAsPair a b) → length z ≡ length w + length v
-length_append-unpaired w v z a b x y f n = ap length (same_form z (w ++ v) (a ++ b) f (form_append-unpaired w v a b x y n)) ∙ length-append w v
+pub length_append-unpaired : (w v z a b : List ℕ) → IsForm w a → IsForm v b → IsForm z (a ++ b) → ¬ (MeetsAsPair a b)
+    → length z ≡ length w + length v
+length_append-unpaired w v z a b x y f n =
+    ap length (same_form z (w ++ v) (a ++ b) f (form_append-unpaired w v a b x y n)) ∙ length-append w v
 
 -- Proofs of the laws of readings and forms: they exist, and each is the only one.
 
@@ -220,7 +242,8 @@ one_reading u h =
 units_in_range : (p : ℕ) → IsCodePoint p → All IsUnit (units_of p)
 units_in_range p h = elim (cases_lt p 0x10000) [
   | inl l ↦ rw (units_one p l) (All-cons IsUnit p [] (omega arith) (All-nil IsUnit))
-  | inr l ↦ rw (units_two p l) (All-cons IsUnit (lead_of p) (trail_of p ∷ []) (omega arith) (All-cons IsUnit (trail_of p) [] (omega arith) (All-nil IsUnit)))
+  | inr l ↦ rw (units_two p l)
+      (All-cons IsUnit (lead_of p) (trail_of p ∷ []) (omega arith) (All-cons IsUnit (trail_of p) [] (omega arith) (All-nil IsUnit)))
 ]
 
 all_units : (c : List ℕ) → IsClean c → All IsUnit (units c)

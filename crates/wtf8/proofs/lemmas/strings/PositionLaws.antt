@@ -1,17 +1,18 @@
 -- The laws of positions, of lengths and of ASCII bytes.
-use Rattle.wtf8.proofs.Common.{ℕ, List, [], ◌++◌, length, refl, ap, ◌∙◌, sym, subst, arith, append_assoc, length-append, append-nil, append_cancel_left, units}
-use Rattle.wtf8.proofs.Common.{bytes, Reads, IsForm, IsBoundary, ◌≡◌, ◌≢◌, ◌<◌, ◌+◌, ◌-◌, ◌/◌, ◌%◌, inl, ◌∷◌, get_or, drop_at, All-cons, All-drop, All-head}
-use Rattle.wtf8.proofs.Common.{All-nil, All, encoding, IsFront, IsBack, slice_get, Some, zero, suc}
+use Rattle.wtf8.proofs.Common.{ℕ, List, [], ◌++◌, length, refl, ap, ◌∙◌, sym, subst, arith, append_assoc, length-append, append-nil}
+use Rattle.wtf8.proofs.Common.{append_cancel_left, units, bytes, Reads, IsForm, IsBoundary, ◌≡◌, ◌≢◌, ◌<◌, ◌+◌, ◌-◌, ◌/◌, ◌%◌, inl, ◌∷◌}
+use Rattle.wtf8.proofs.Common.{get_or, drop_at, All-cons, All-drop, All-head, All-nil, All, encoding, IsFront, IsBack, slice_get, Some}
+use Rattle.wtf8.proofs.Common.{zero, suc}
 use Rattle.std.proofs.lemmas.List.{append_cancel_right}
 use Rattle.wtf8.specs.Laws.{FrontAndBackAreWhole}
-use Rattle.wtf8.specs.PositionLaws.{StartIsBoundary, EndIsBoundary, NoneIsBeyondEnd, FrontBoundariesAreOfWhole, WholeBoundariesAreOfFront, WholeBoundariesAreOfBack}
-use Rattle.wtf8.specs.PositionLaws.{BackBoundariesAreOfWhole, BeginningsAreNoLonger, BothAreNoLonger, AsciiIsBetweenBoundaries, AsciiIsOneUnit}
-use Rattle.wtf8.specs.PositionLaws.{AsciiIsNoOtherUnit}
+use Rattle.wtf8.specs.PositionLaws.{StartIsBoundary, EndIsBoundary, NoneIsBeyondEnd, FrontBoundariesAreOfWhole, WholeBoundariesAreOfFront}
+use Rattle.wtf8.specs.PositionLaws.{WholeBoundariesAreOfBack, BackBoundariesAreOfWhole, BeginningsAreNoLonger, BothAreNoLonger}
+use Rattle.wtf8.specs.PositionLaws.{AsciiIsBetweenBoundaries, AsciiIsOneUnit, AsciiIsNoOtherUnit}
 use Rattle.wtf8.proofs.lemmas.codec.Encoding.{bytes-append, bytes-pushed, encoding_cases, one, two, three, four, encoding-from_ascii_byte}
-use Rattle.wtf8.proofs.lemmas.codec.Readings.{well_formed_of, reads_same, same_form, units-append, units_one, units_two}
-use Rattle.wtf8.proofs.lemmas.codec.Readings.{units-cons_one}
+use Rattle.wtf8.proofs.lemmas.codec.Readings.{well_formed_of, reads_same, same_form, units-append, units_one, units_two, units-cons_one}
 use Rattle.wtf8.proofs.lemmas.strings.ExtendedForms.{beginning_of_form, both_length}
-use Rattle.wtf8.proofs.lemmas.strings.Positions.{Cut, cut_at, shorter_is_prefix, front_unique, front_reads, back_reads, front_boundary, boundary_from_byte, first-bytes_after}
+use Rattle.wtf8.proofs.lemmas.strings.Positions.{Cut, cut_at, shorter_is_prefix, front_unique, front_reads, back_reads, front_boundary}
+use Rattle.wtf8.proofs.lemmas.strings.Positions.{boundary_from_byte, first-bytes_after}
 
 -- Proofs of the laws of positions and lengths.
 
@@ -35,11 +36,16 @@ none_is_beyond w u k f b = (cut_at_boundary f k b).within
 pub front_in_whole : FrontBoundariesAreOfWhole
 front_in_whole u v k m x b =
     let whole = ap (λ c. c ++ x.back) (reads_same (front_reads x) b.splits.reads) ∙ append_assoc b.front b.back x.back in
-    record { front = b.front; back = b.back ++ x.back; splits = record { reads = subst (λ c. Reads c u) whole x.splits.reads; front_len = b.splits.front_len } }
+    record {
+      front = b.front;
+      back = b.back ++ x.back;
+      splits = record { reads = subst (λ c. Reads c u) whole x.splits.reads; front_len = b.splits.front_len };
+    }
 
 pub whole_in_front : WholeBoundariesAreOfFront
 whole_in_front u v k m x h b =
-    let more = shorter_is_prefix b.front b.back x.front x.back (reads_same b.splits.reads x.splits.reads) (omega (arith, b.splits.front_len, x.splits.front_len)) in
+    let more = shorter_is_prefix b.front b.back x.front x.back (reads_same b.splits.reads x.splits.reads)
+    (omega (arith, b.splits.front_len, x.splits.front_len)) in
     let reads = subst (λ c. Reads c v) more.joined (front_reads x) in
     record { front = b.front; back = more.more; splits = record { reads = reads; front_len = b.splits.front_len } }
 
@@ -47,12 +53,16 @@ pub whole_in_back : WholeBoundariesAreOfBack
 whole_in_back u v k m x b =
     let whole = reads_same x.splits.reads b.splits.reads in
     let more = shorter_is_prefix x.front x.back b.front b.back whole (omega (arith, b.splits.front_len, x.splits.front_len)) in
-    let after = append_cancel_left x.front x.back (more.more ++ b.back) (whole ∙ ap (λ f. f ++ b.back) more.joined ∙ append_assoc x.front more.more b.back) in
+    let after = append_cancel_left x.front x.back
+    (more.more ++ b.back) (whole ∙ ap (λ f. f ++ b.back) more.joined ∙ append_assoc x.front more.more b.back) in
     let long = simp (bytes-append, length-append) at (ap (λ c. length (bytes c)) more.joined) in
     record {
       front = more.more;
       back = b.back;
-      splits = record { reads = subst (λ c. Reads c v) after (back_reads x); front_len = omega (arith, b.splits.front_len, x.splits.front_len, long) };
+      splits = record {
+        reads = subst (λ c. Reads c v) after (back_reads x);
+        front_len = omega (arith, b.splits.front_len, x.splits.front_len, long);
+      };
     }
 
 pub back_in_whole : BackBoundariesAreOfWhole
@@ -62,14 +72,18 @@ back_in_whole u v k m x b =
     record {
       front = x.front ++ b.front;
       back = b.back;
-      splits = record { reads = subst (λ c. Reads c u) whole x.splits.reads; front_len = omega (arith, long, x.splits.front_len, b.splits.front_len) };
+      splits = record {
+        reads = subst (λ c. Reads c u) whole x.splits.reads;
+        front_len = omega (arith, long, x.splits.front_len, b.splits.front_len);
+      };
     }
 
 -- the units before a boundary, followed by the units after it, are the whole
 pub front_and_back : FrontAndBackAreWhole
 front_and_back u a b k x y =
     let front = front_unique u k a (units y.front) x (record { front = y.front; back = y.back; splits = y.splits; same_units = refl }) in
-    ap (λ v. v ++ b) front ∙ (ap (λ v. units y.front ++ v) (sym y.same_units) ∙ (sym (units-append y.front y.back) ∙ y.splits.reads.same_units))
+    ap (λ v. v ++ b) front
+    ∙ (ap (λ v. units y.front ++ v) (sym y.same_units) ∙ (sym (units-append y.front y.back) ∙ y.splits.reads.same_units))
 
 pub beginning_no_longer : BeginningsAreNoLonger
 beginning_no_longer w x u v f g =
@@ -89,7 +103,8 @@ record AsciiUnitAt (u : List ℕ) (k b : ℕ) : Type 0 where
   whole : front ++ b ∷ back ≡ u
 
 AsciiUnitAt-from_points : (front back u : List ℕ) → Reads (front ++ back) u → length (bytes front) < length (bytes (front ++ back))
-    → get_or (bytes (front ++ back)) (length (bytes front)) 0 < 0x80 → AsciiUnitAt u (length (bytes front)) (get_or (bytes (front ++ back)) (length (bytes front)) 0)
+    → get_or (bytes (front ++ back)) (length (bytes front)) 0 < 0x80
+    → AsciiUnitAt u (length (bytes front)) (get_or (bytes (front ++ back)) (length (bytes front)) 0)
 AsciiUnitAt-from_points front [] u r h low = absurd (omega (arith, ap (λ c. length (bytes c)) (append-nil front)))
 AsciiUnitAt-from_points front (p ∷ b) u r h low =
     let at : get_or (bytes (front ++ p ∷ b)) (length (bytes front)) 0 ≡ get_or (encoding p ++ bytes b) 0 0 = first-bytes_after front p b in
@@ -99,7 +114,8 @@ AsciiUnitAt-from_points front (p ∷ b) u r h low =
     subst (λ x. AsciiUnitAt u (length (bytes front)) x) (sym here) (record {
       front = units front;
       back = units b;
-      from_it = record { front = front; back = p ∷ b; splits = record { reads = r; front_len = refl }; same_units = ap (λ v. v ++ units b) unit };
+      from_it =
+          record { front = front; back = p ∷ b; splits = record { reads = r; front_len = refl }; same_units = ap (λ v. v ++ units b) unit };
       to_it = record {
         front = front ++ p ∷ [];
         back = b;
@@ -157,7 +173,8 @@ ascii_no_other_unit w u b form l h =
     subst (All (λ x. x ≢ b)) form.reads.same_units (none_of_points form.points b l (subst (All (λ x. x ≢ b)) (sym form.encoded) h))
 
 -- after ASCII bytes only, the unit at an index is the byte at that index
-pub slice_get-ascii_prefix : (c : List ℕ) (k : ℕ) → ((j : ℕ) → j < k + 1 → get_or (bytes c) j 0 < 0x80) → k < length (bytes c) → slice_get (units c) k ≡ Some (get_or (bytes c) k 0)
+pub slice_get-ascii_prefix : (c : List ℕ) (k : ℕ) → ((j : ℕ) → j < k + 1 → get_or (bytes c) j 0 < 0x80) → k < length (bytes c)
+    → slice_get (units c) k ≡ Some (get_or (bytes c) k 0)
 slice_get-ascii_prefix [] k low long = absurd (omega (arith, long))
 slice_get-ascii_prefix (p ∷ c) zero low long =
     let own = encoding-from_ascii_byte p (bytes c) (low 0 (omega arith)) in
@@ -165,5 +182,6 @@ slice_get-ascii_prefix (p ∷ c) zero low long =
 slice_get-ascii_prefix (p ∷ c) (suc k) low long =
     let own = encoding-from_ascii_byte p (bytes c) (low 0 (omega arith)) in
     let whole : bytes (p ∷ c) ≡ p ∷ bytes c = ap (λ e. e ++ bytes c) own.0 in
-    let after = slice_get-ascii_prefix c k (λ j l. omega (arith, low (suc j) (omega (arith, l)), ap (λ w. get_or w (suc j) 0) whole)) (omega (arith, long, ap length whole)) in
+    let after = slice_get-ascii_prefix c k (λ j l. omega (arith, low (suc j) (omega (arith, l)), ap (λ w. get_or w (suc j) 0) whole))
+    (omega (arith, long, ap length whole)) in
     ap (λ u. slice_get u (suc k)) (units-cons_one p c (omega (arith, own.1))) ∙ (after ∙ ap (λ w. Some (get_or w (suc k) 0)) (sym whole))

@@ -1,11 +1,14 @@
 -- Positions at which the bytes of a string may be cut, and the number of units before them.
-use Rattle.wtf8.proofs.Common.{◌≡◌, ◌-◌, ◌≤◌, ◌<◌, ℕ, zero, suc, inl, inr, List, [], ◌∷◌, ◌++◌, length, get_or, refl, ap, ◌∙◌, sym, subst, arith, length-append}
-use Rattle.wtf8.proofs.Common.{cases_lt, append-nil, get_or-append_right, encoding, bytes, take, drop, append_assoc, take_at, drop_at, units, IsClean, Reads}
-use Rattle.wtf8.proofs.Common.{IsWellFormed, IsForm, IsBoundary, IsFront, IsBack, ◌+◌, ◌/◌, ◌%◌, take-add, chunk, units_of, utf16_len, sum_utf16_len}
-use Rattle.wtf8.proofs.Common.{IsCursorOfUnit, CutsUnits, None, sum_by-append, sum_by_more, Splits, IsMiddle, UnitCursor}
+use Rattle.wtf8.proofs.Common.{◌≡◌, ◌-◌, ◌≤◌, ◌<◌, ℕ, zero, suc, inl, inr, List, [], ◌∷◌, ◌++◌, length, get_or, refl, ap, ◌∙◌, sym, subst}
+use Rattle.wtf8.proofs.Common.{arith, length-append, cases_lt, append-nil, get_or-append_right, encoding, bytes, take, drop, append_assoc}
+use Rattle.wtf8.proofs.Common.{take_at, drop_at, units, IsClean, Reads, IsWellFormed, IsForm, IsBoundary, IsFront, IsBack, ◌+◌, ◌/◌, ◌%◌}
+use Rattle.wtf8.proofs.Common.{take-add, chunk, units_of, utf16_len, sum_utf16_len, IsCursorOfUnit, CutsUnits, None, sum_by-append}
+use Rattle.wtf8.proofs.Common.{sum_by_more, Splits, IsMiddle, UnitCursor}
 use Rattle.wtf8.proofs.lemmas.lanes.UnitCounts.{utf16_len-ascii, utf16_len-continuation, utf16_len-lead_below_F0, utf16_len-lead_from_F0}
-use Rattle.wtf8.proofs.lemmas.codec.Encoding.{Begins, first-encoding, continuation-encoding, length-encoding_bounds, length-bytes_append, bytes-append, encoding_cases, one, two, three, four}
-use Rattle.wtf8.proofs.lemmas.codec.Readings.{clean-front, clean-back, reads_same, cons-equal_parts, same_points, same_reading, well_formed_of, units_one, units_two}
+use Rattle.wtf8.proofs.lemmas.codec.Encoding.{Begins, first-encoding, continuation-encoding, length-encoding_bounds, length-bytes_append}
+use Rattle.wtf8.proofs.lemmas.codec.Encoding.{bytes-append, encoding_cases, one, two, three, four}
+use Rattle.wtf8.proofs.lemmas.codec.Readings.{clean-front, clean-back, reads_same, cons-equal_parts, same_points, same_reading}
+use Rattle.wtf8.proofs.lemmas.codec.Readings.{well_formed_of, units_one, units_two}
 
 -- Cuts of the bytes of a list of code points.
 
@@ -36,11 +39,13 @@ split_at (p ∷ c) (suc k) h s =
     ]
 
 -- the byte after a front is the first byte of the next code point
-pub first-bytes_after : (front : List ℕ) (p : ℕ) (b : List ℕ) → get_or (bytes (front ++ p ∷ b)) (length (bytes front)) 0 ≡ get_or (encoding p ++ bytes b) 0 0
+pub first-bytes_after : (front : List ℕ) (p : ℕ) (b : List ℕ)
+    → get_or (bytes (front ++ p ∷ b)) (length (bytes front)) 0 ≡ get_or (encoding p ++ bytes b) 0 0
 first-bytes_after front p b =
     let n = length (bytes front) in
     let start : n - n ≡ 0 = omega arith in
-    ap (λ w. get_or w n 0) (bytes-append front (p ∷ b)) ∙ (get_or-append_right (bytes front) (encoding p ++ bytes b) n n 0 refl (omega arith)
+    ap (λ w. get_or w n 0) (bytes-append front (p ∷ b))
+    ∙ (get_or-append_right (bytes front) (encoding p ++ bytes b) n n 0 refl (omega arith)
     ∙ ap (λ k. get_or (encoding p ++ bytes b) k 0) start)
 
 pub begins_after : (f b : List ℕ) → length (bytes f) < length (bytes (f ++ b)) → Begins (get_or (bytes (f ++ b)) (length (bytes f)) 0)
@@ -71,7 +76,8 @@ pub record Cut (w : List ℕ) (h : IsWellFormed w) (k : ℕ) : Type 0 where
   pub after : IsWellFormed (drop k w)
   pub after_points : after.points ≡ back
 
-abbrev pub cut_by : {w : List ℕ} (h : IsWellFormed w) (front back : List ℕ) (k : ℕ) → h.points ≡ front ++ back → length (bytes front) ≡ k → Cut w h k
+abbrev pub cut_by : {w : List ℕ} (h : IsWellFormed w) (front back : List ℕ) (k : ℕ) → h.points ≡ front ++ back
+    → length (bytes front) ≡ k → Cut w h k
 cut_by {w} h front back k e n =
     let whole : w ≡ bytes front ++ bytes back = sym h.encoded ∙ (ap bytes e ∙ bytes-append front back) in
     let clean : IsClean (front ++ back) = subst IsClean e h.clean in
@@ -81,9 +87,17 @@ cut_by {w} h front back k e n =
       points = e;
       within = omega (arith, n, ap length whole, length-append (bytes front) (bytes back));
       splits = record { reads = record { clean = clean; same_units = ap units (sym e) }; front_len = n };
-      before = record { points = front; clean = clean-front front back clean; encoded = sym (ap (take k) whole ∙ take_at (bytes front) (bytes back) k n) };
+      before = record {
+        points = front;
+        clean = clean-front front back clean;
+        encoded = sym (ap (take k) whole ∙ take_at (bytes front) (bytes back) k n);
+      };
       before_points = refl;
-      after = record { points = back; clean = clean-back front back clean; encoded = sym (ap (drop k) whole ∙ drop_at (bytes front) (bytes back) k n) };
+      after = record {
+        points = back;
+        clean = clean-back front back clean;
+        encoded = sym (ap (drop k) whole ∙ drop_at (bytes front) (bytes back) k n);
+      };
       after_points = refl;
     }
 
@@ -96,11 +110,13 @@ pub boundary_of : {w : List ℕ} (h : IsWellFormed w) (front back : List ℕ) (k
     → IsBoundary (units h.points) k
 boundary_of h front back k e n = record { front = front; back = back; splits = (cut_by h front back k e n).splits }
 
-pub points_before : {w v : List ℕ} (h : IsWellFormed w) (p : IsWellFormed v) (front back : List ℕ) (k : ℕ) → h.points ≡ front ++ back → length (bytes front) ≡ k
+pub points_before : {w v : List ℕ} (h : IsWellFormed w) (p : IsWellFormed v) (front back : List ℕ) (k : ℕ) → h.points ≡ front ++ back
+    → length (bytes front) ≡ k
     → v ≡ take k w → p.points ≡ front
 points_before h p front back k e n d = same_points p (cut_by h front back k e n).before d
 
-pub points_after : {w v : List ℕ} (h : IsWellFormed w) (p : IsWellFormed v) (front back : List ℕ) (k : ℕ) → h.points ≡ front ++ back → length (bytes front) ≡ k
+pub points_after : {w v : List ℕ} (h : IsWellFormed w) (p : IsWellFormed v) (front back : List ℕ) (k : ℕ) → h.points ≡ front ++ back
+    → length (bytes front) ≡ k
     → v ≡ drop k w → p.points ≡ back
 points_after h p front back k e n d = same_points p (cut_by h front back k e n).after d
 
@@ -111,7 +127,8 @@ front_form h k v f =
     record { points = f.front; reads = record { clean = before.clean; same_units = f.same_units }; encoded = before.encoded }
 
 -- a position is a boundary exactly if it is the end or the byte there begins a code point
-pub boundary_from_byte : {w : List ℕ} (h : IsWellFormed w) (k : ℕ) → k ≤ length w → (k < length w → Begins (get_or w k 0)) → IsBoundary (units h.points) k
+pub boundary_from_byte : {w : List ℕ} (h : IsWellFormed w) (k : ℕ) → k ≤ length w → (k < length w → Begins (get_or w k 0))
+    → IsBoundary (units h.points) k
 boundary_from_byte {w} h k within start =
     let cut = split_at h.points k (omega (arith, ap length h.encoded))
     (λ m. subst (λ v. Begins (get_or v k 0)) (sym h.encoded) (start (omega (arith, ap length h.encoded)))) in
@@ -148,11 +165,13 @@ shorter_is_prefix [] b g d e n = record { more = g; joined = refl }
 shorter_is_prefix (p ∷ f) b [] d e n = absurd (omega (arith, length-encoding_bounds p, length-append (encoding p) (bytes f)))
 shorter_is_prefix (p ∷ f) b (q ∷ g) d e n =
     let h = cons-equal_parts p q (f ++ b) (g ++ d) e in
-    let r = shorter_is_prefix f b g d h.1 (omega (arith, length-append (encoding p) (bytes f), length-append (encoding q) (bytes g), ap (λ k. length (encoding k)) h.0)) in
+    let r = shorter_is_prefix f b g d h.1
+    (omega (arith, length-append (encoding p) (bytes f), length-append (encoding q) (bytes g), ap (λ k. length (encoding k)) h.0)) in
     record { more = r.more; joined = ap (λ k. k ∷ g) (sym h.0) ∙ ap (λ v. p ∷ v) r.joined }
 
 -- the back of a front is the middle
-pub middle_of : {w v : List ℕ} (h : IsWellFormed w) (begin end : ℕ) (p : IsWellFormed v) {u : List ℕ} → IsFront (units h.points) end (units p.points)
+pub middle_of : {w v : List ℕ} (h : IsWellFormed w) (begin end : ℕ) (p : IsWellFormed v) {u : List ℕ}
+    → IsFront (units h.points) end (units p.points)
     → IsBack (units p.points) begin u → IsMiddle (units h.points) begin end u
 middle_of h begin end p f b =
     let parts : b.front ++ b.back ≡ f.front = reads_same b.splits.reads (front_reads f) in
@@ -168,7 +187,8 @@ middle_of h begin end p f b =
 -- Positions counted in units, and the code points at them.
 
 -- the units that begin before a block and in it add up
-pub sum_utf16_len_take_add : (w : List ℕ) (i n : ℕ) → sum_utf16_len (take (i + n) w) ≡ sum_utf16_len (take i w) + sum_utf16_len (chunk i n w)
+pub sum_utf16_len_take_add : (w : List ℕ) (i n : ℕ)
+    → sum_utf16_len (take (i + n) w) ≡ sum_utf16_len (take i w) + sum_utf16_len (chunk i n w)
 sum_utf16_len_take_add w i n = ap sum_utf16_len (take-add i n w) ∙ sum_by-append utf16_len (take i w) (take n (drop i w))
 
 -- `n` units begin in `n` ASCII bytes
@@ -182,9 +202,16 @@ sum_utf16_len-ascii w i (suc n) bound low =
     let last : i + suc n ≡ i + n + 1 = omega arith in
     let more = sum_by_more utf16_len w (i + n) 0 (omega (arith, bound)) in
     let one = utf16_len-ascii (get_or w (i + n) 0) (low n (omega arith)) in
-    omega (arith, ap (λ k. sum_utf16_len (take k w)) last, more, one, sum_utf16_len-ascii w i n (omega (arith, bound)) (λ j l. low j (omega (arith, l))))
+    omega (
+      arith,
+      ap (λ k. sum_utf16_len (take k w)) last,
+      more,
+      one,
+      sum_utf16_len-ascii w i n (omega (arith, bound)) (λ j l. low j (omega (arith, l))),
+    )
 
-pub sum_utf16_len-chunk_add : (w : List ℕ) (i m n k : ℕ) → m + n ≡ k → sum_utf16_len (chunk i k w) ≡ sum_utf16_len (chunk i m w) + sum_utf16_len (chunk (i + m) n w)
+pub sum_utf16_len-chunk_add : (w : List ℕ) (i m n k : ℕ) → m + n ≡ k
+    → sum_utf16_len (chunk i k w) ≡ sum_utf16_len (chunk i m w) + sum_utf16_len (chunk (i + m) n w)
 sum_utf16_len-chunk_add w i m n k e =
     let ends : i + m + n ≡ i + k = omega (arith, e) in
     let same = ap (λ j. sum_utf16_len (take j w)) ends in
@@ -197,9 +224,24 @@ utf16_len-continuation_byte n = utf16_len-continuation (0x80 + n % 64) (omega ar
 pub sum_utf16_len-encoding : (p : ℕ) → sum_utf16_len (encoding p) ≡ length (units_of p)
 sum_utf16_len-encoding p = elim (encoding_cases p) [
   | one h e ↦ rw (e, units_one p (omega arith), utf16_len-ascii p h) refl
-  | two l h e ↦ rw (e, units_one p (omega arith), utf16_len-lead_below_F0 (0xC0 + p / 64) (omega arith) (omega arith), utf16_len-continuation_byte p) refl
-  | three l h e ↦ rw (e, units_one p h, utf16_len-lead_below_F0 (0xE0 + p / 4096) (omega arith) (omega arith), utf16_len-continuation_byte (p / 64), utf16_len-continuation_byte p) refl
-  | four l e ↦ rw (e, units_two p l, utf16_len-lead_from_F0 (0xF0 + p / 262144) (omega arith), utf16_len-continuation_byte (p / 4096), utf16_len-continuation_byte (p / 64), utf16_len-continuation_byte p) refl
+  | two l h e ↦
+      rw (e, units_one p (omega arith), utf16_len-lead_below_F0 (0xC0 + p / 64) (omega arith) (omega arith), utf16_len-continuation_byte p)
+      refl
+  | three l h e ↦ rw (
+    e,
+    units_one p h,
+    utf16_len-lead_below_F0 (0xE0 + p / 4096) (omega arith) (omega arith),
+    utf16_len-continuation_byte (p / 64),
+    utf16_len-continuation_byte p,
+  ) refl
+  | four l e ↦ rw (
+    e,
+    units_two p l,
+    utf16_len-lead_from_F0 (0xF0 + p / 262144) (omega arith),
+    utf16_len-continuation_byte (p / 4096),
+    utf16_len-continuation_byte (p / 64),
+    utf16_len-continuation_byte p,
+  ) refl
 ]
 
 utf16_len-encoding : (p : ℕ) (r : List ℕ) → utf16_len (get_or (encoding p ++ r) 0 0) ≡ length (units_of p)
@@ -212,7 +254,13 @@ utf16_len-encoding p r = elim (encoding_cases p) [
 
 pub sum_utf16_len-bytes : (c : List ℕ) → sum_utf16_len (bytes c) ≡ length (units c)
 sum_utf16_len-bytes [] = refl
-sum_utf16_len-bytes (p ∷ c) = omega (arith, sum_by-append utf16_len (encoding p) (bytes c), sum_utf16_len-encoding p, sum_utf16_len-bytes c, length-append (units_of p) (units c))
+sum_utf16_len-bytes (p ∷ c) = omega (
+  arith,
+  sum_by-append utf16_len (encoding p) (bytes c),
+  sum_utf16_len-encoding p,
+  sum_utf16_len-bytes c,
+  length-append (units_of p) (units c),
+)
 
 -- a byte at which units begin begins a code point
 begins_from_utf16_len : (b : ℕ) → 0 < utf16_len b → Begins b
@@ -234,9 +282,11 @@ points_about c n s h =
     let was = h.before in
     let next : cursor < length (bytes c) → n < before + utf16_len (get_or (bytes c) cursor 0) =
     λ m. omega (arith, h.reaches m, was.counted, sum_by_more utf16_len (bytes c) cursor 0 m) in
-    let cut = split_at c cursor was.within (λ m. begins_from_utf16_len (get_or (bytes c) cursor 0) (omega (arith, next m, was.not_beyond))) in
+    let cut =
+    split_at c cursor was.within (λ m. begins_from_utf16_len (get_or (bytes c) cursor 0) (omega (arith, next m, was.not_beyond))) in
     let whole : bytes c ≡ bytes cut.front ++ bytes cut.back = ap bytes cut.joined ∙ bytes-append cut.front cut.back in
-    let front : take cursor (bytes c) ≡ bytes cut.front = ap (take cursor) whole ∙ take_at (bytes cut.front) (bytes cut.back) cursor cut.front_len in
+    let front : take cursor (bytes c) ≡ bytes cut.front =
+    ap (take cursor) whole ∙ take_at (bytes cut.front) (bytes cut.back) cursor cut.front_len in
     record {
       cut = record {
         front = cut.front;
@@ -248,8 +298,10 @@ points_about c n s h =
       not_beyond = was.not_beyond;
       holds = λ p rest e.
           let joined : c ≡ cut.front ++ p ∷ rest = cut.joined ∙ ap (λ b. cut.front ++ b) e in
-          let long : cursor < length (bytes c) = omega (arith, cut.front_len, ap (λ d. length (bytes d)) joined, length-bytes_append cut.front p rest, length-encoding_bounds p) in
+          let long : cursor < length (bytes c) =
+          omega (arith, cut.front_len, ap (λ d. length (bytes d)) joined, length-bytes_append cut.front p rest, length-encoding_bounds p) in
           let here : get_or (bytes c) cursor 0 ≡ get_or (encoding p ++ bytes rest) 0 0 =
-          ap (λ d. get_or (bytes d) cursor 0) joined ∙ (ap (λ k. get_or (bytes (cut.front ++ p ∷ rest)) k 0) (sym cut.front_len) ∙ first-bytes_after cut.front p rest) in
+          ap (λ d. get_or (bytes d) cursor 0) joined
+          ∙ (ap (λ k. get_or (bytes (cut.front ++ p ∷ rest)) k 0) (sym cut.front_len) ∙ first-bytes_after cut.front p rest) in
           omega (arith, next long, ap utf16_len here, utf16_len-encoding p (bytes rest));
     }

@@ -1,17 +1,17 @@
 -- The laws of strings, and of lists of building calls.
-use Rattle.wtf8.proofs.Common.{ℕ, List, [], ◌++◌, length, refl, ap, ◌∙◌, sym, subst, arith, append-nil, units}
-use Rattle.wtf8.proofs.Common.{bytes, Reads, IsForm, IsBoundary, ◌≡◌, ◌≢◌, ◌<◌, ◌+◌, inl, ◌∷◌, get_or, All-cons, All-head}
-use Rattle.wtf8.proofs.Common.{All-nil, All, IsFront, Some, ◌≤◌, inr, cases_lt, ◌↔◌}
-use Rattle.wtf8.proofs.Common.{glue, AreScalar, view_units, view_form, Wtf8, Result, Ok, Err, OnOk, OnErr, AppendsUnits, KeepsContents, UnitString}
-use Rattle.wtf8.proofs.Common.{on_ok_weaker, ◌⊎◌, All-tail, IsUnit, IsWellFormed, Step, Run, Build, Reserve, Truncate, TruncateUnits, IsNoTruncation}
-use Rattle.wtf8.proofs.Common.{slice_index, All-from_get_or, All-pop, All-same, FitWithin, AddsLength, RunsOnce, RunsAddUp, LeavesReserved}
-use Rattle.wtf8.specs.StringLaws.{EqualBuffersHaveEqualUnits, EqualBufferAndViewHaveEqualUnits, EqualViewsHaveEqualUnits, StringsAreJoined, StringsArePaired}
-use Rattle.wtf8.specs.StringLaws.{RoomLeftIsFound, ScalarsStay, FormsAreOfBuffers, FormsAreOfViews, WhatFitsIsFound}
+use Rattle.wtf8.proofs.Common.{ℕ, List, [], ◌++◌, length, refl, ap, ◌∙◌, sym, subst, arith, append-nil, units, bytes, Reads, IsForm}
+use Rattle.wtf8.proofs.Common.{IsBoundary, ◌≡◌, ◌≢◌, ◌<◌, ◌+◌, inl, ◌∷◌, get_or, All-cons, All-head, All-nil, All, IsFront, Some, ◌≤◌, inr}
+use Rattle.wtf8.proofs.Common.{cases_lt, ◌↔◌, glue, AreScalar, view_units, view_form, Wtf8, Result, Ok, Err, OnOk, OnErr, AppendsUnits}
+use Rattle.wtf8.proofs.Common.{KeepsContents, UnitString, on_ok_weaker, ◌⊎◌, All-tail, IsUnit, IsWellFormed, Step, Run, Build, Reserve}
+use Rattle.wtf8.proofs.Common.{Truncate, TruncateUnits, IsNoTruncation, slice_index, All-from_get_or, All-pop, All-same, FitWithin}
+use Rattle.wtf8.proofs.Common.{AddsLength, RunsOnce, RunsAddUp, LeavesReserved}
+use Rattle.wtf8.specs.StringLaws.{EqualBuffersHaveEqualUnits, EqualBufferAndViewHaveEqualUnits, EqualViewsHaveEqualUnits, StringsAreJoined}
+use Rattle.wtf8.specs.StringLaws.{StringsArePaired, RoomLeftIsFound, ScalarsStay, FormsAreOfBuffers, FormsAreOfViews, WhatFitsIsFound}
 use Rattle.wtf8.proofs.lemmas.codec.Encoding.{Begins}
 use Rattle.wtf8.proofs.lemmas.codec.Readings.{well_formed_of, same_form, same_reading, form_append-unpaired}
-use Rattle.wtf8.proofs.lemmas.strings.Concatenation.{equal_forms, form-glue, form_paired, length_paired, length_append-unpaired, one_form, units_read, at_last, before, split_of_push}
-use Rattle.wtf8.proofs.lemmas.strings.Positions.{cut_at, front_unique, front_boundary, boundary_from_byte}
-use Rattle.wtf8.proofs.lemmas.strings.Positions.{byte_from_boundary}
+use Rattle.wtf8.proofs.lemmas.strings.Concatenation.{equal_forms, form-glue, form_paired, length_paired, length_append-unpaired, one_form}
+use Rattle.wtf8.proofs.lemmas.strings.Concatenation.{units_read, at_last, before, split_of_push}
+use Rattle.wtf8.proofs.lemmas.strings.Positions.{cut_at, front_unique, front_boundary, boundary_from_byte, byte_from_boundary}
 use Rattle.wtf8.proofs.lemmas.strings.Surrogates.{lossy_points-scalar}
 use Rattle.wtf8.proofs.lemmas.strings.PositionLaws.{both_no_longer, ascii_no_other_unit}
 
@@ -58,20 +58,24 @@ pub scalar_in_each_reading : (c u : List ℕ) → Reads c u → AreScalar c ↔ 
 scalar_in_each_reading c u r = (λ s d x. subst AreScalar (same_reading c d r.clean x.clean (r.same_units ∙ sym x.same_units)) s, λ h. h c r)
 
 -- an ASCII number that is none of a view's bytes is none of its units
-pub no_ascii_unit : (t : Wtf8) (b : ℕ) → b < 0x80 → ((j : ℕ) → j < length t.bytes.now → slice_index t.bytes.now j ≢ b) → All (λ x. x ≢ b) (view_units t)
-no_ascii_unit t b l h = ascii_no_other_unit t.bytes.now (view_units t) b (view_form t) l (All-from_get_or (λ x. x ≢ b) t.bytes.now 0 (λ i m e. h i m e))
+pub no_ascii_unit : (t : Wtf8) (b : ℕ) → b < 0x80 → ((j : ℕ) → j < length t.bytes.now → slice_index t.bytes.now j ≢ b)
+    → All (λ x. x ≢ b) (view_units t)
+no_ascii_unit t b l h =
+    ascii_no_other_unit t.bytes.now (view_units t) b (view_form t) l (All-from_get_or (λ x. x ≢ b) t.bytes.now 0 (λ i m e. h i m e))
 
 -- The bytes after an appending call, by its clauses about units.
 
 module _ {T E : Type 0} where
   -- the length grows by at most the length of the appended form
-  pub grows_at_most : (r : Result T E) (old : UnitString) {new u : List ℕ} (w v : List ℕ) → IsForm new u → IsForm w v → OnOk r (u ≡ old.units ++ v)
+  pub grows_at_most : (r : Result T E) (old : UnitString) {new u : List ℕ} (w v : List ℕ) → IsForm new u → IsForm w v
+      → OnOk r (u ≡ old.units ++ v)
       → OnOk r (length new ≤ length old.bytes + length w)
   grows_at_most r old {new} w v form more ok =
       on_ok_weaker r (λ e. both_no_longer old.bytes w new old.units v old.form more (subst (IsForm new) e form)) ok
 
   -- the length by which a string grows if a view is appended
-  pub added_length : (r : Result T E) (old new : UnitString) (other : Wtf8) → OnOk r (AppendsUnits old (view_units other) new) → OnOk r (AddsLength old other new)
+  pub added_length : (r : Result T E) (old new : UnitString) (other : Wtf8) → OnOk r (AppendsUnits old (view_units other) new)
+      → OnOk r (AddsLength old other new)
   added_length r old new other ok =
       on_ok_weaker r (λ e.
       let both = subst (IsForm new.bytes) e new.form in
@@ -139,21 +143,42 @@ step_once : (u : List ℕ) (call : Build) → StepsOnce u call
 step_once u (Truncate k) = elim (boundary_or_not u k) [
   | inl b ↦
       let f : IsFront u k (units b.front) = record { front = b.front; back = b.back; splits = b.splits; same_units = refl } in
-      record { outcome = _; count = _; goes = inl (f, refl); no_other = λ v r s. elim s [ inl x ↦ (front_unique u k v _ x.0 f, x.1) | inr n ↦ absurd (n.0 b) ] }
+      record {
+        outcome = _;
+        count = _;
+        goes = inl (f, refl);
+        no_other = λ v r s. elim s [ inl x ↦ (front_unique u k v _ x.0 f, x.1) | inr n ↦ absurd (n.0 b) ];
+      }
   | inr n ↦
-      record { outcome = _; count = _; goes = inr (n, refl, refl); no_other = λ v r s. elim s [ inl x ↦ absurd (n (front_boundary x.0)) | inr m ↦ (m.1, m.2) ] }
+      record {
+        outcome = _;
+        count = _;
+        goes = inr (n, refl, refl);
+        no_other = λ v r s. elim s [ inl x ↦ absurd (n (front_boundary x.0)) | inr m ↦ (m.1, m.2) ];
+      }
 ]
 step_once u (TruncateUnits n) = elim (cases_lt (length u) n) [
   | inl h ↦
-      record { outcome = _; count = _; goes = inr (h, refl, refl); no_other = λ v r s. elim s [ inl x ↦ absurd (omega (arith, x.0, h)) | inr x ↦ (x.1, x.2) ] }
+      record {
+        outcome = _;
+        count = _;
+        goes = inr (h, refl, refl);
+        no_other = λ v r s. elim s [ inl x ↦ absurd (omega (arith, x.0, h)) | inr x ↦ (x.1, x.2) ];
+      }
   | inr h ↦
-      record { outcome = _; count = _; goes = inl (h, refl, refl); no_other = λ v r s. elim s [ inl x ↦ (x.1, x.2) | inr x ↦ absurd (omega (arith, x.0, h)) ] }
+      record {
+        outcome = _;
+        count = _;
+        goes = inl (h, refl, refl);
+        no_other = λ v r s. elim s [ inl x ↦ (x.1, x.2) | inr x ↦ absurd (omega (arith, x.0, h)) ];
+      }
 ]
 step_once u call = record { outcome = _; count = _; goes = (refl, refl); no_other = λ v r s. s }
 
 -- a run of `front` followed by a run of `back` is a run of `front ++ back`
 pub runs_add : RunsAddUp
-runs_add u mid v [] back m n x y = subst (λ k. Run u back v k) (let same : n ≡ m + n = omega (arith, x.1) in same) (subst (λ w. Run w back v n) x.0 y)
+runs_add u mid v [] back m n x y =
+    subst (λ k. Run u back v k) (let same : n ≡ m + n = omega (arith, x.1) in same) (subst (λ w. Run w back v n) x.0 y)
 runs_add u mid v (call ∷ front) back m n x y = (x.0, x.1, x.2 + n, x.3, runs_add x.0 mid v front back x.2 n x.4 y, omega (arith, x.5))
 
 pub run_once : (u : List ℕ) (calls : List Build) → RunsOnce u calls
@@ -172,15 +197,19 @@ run_once u (call ∷ calls) =
     }
 
 -- after one more call the bytes that it reserved fit, and those reserved before it do unless it truncates
-pub reserved_more : {u now : List ℕ} {calls : List Build} {call : Build} {capacity larger : ℕ} (n : ℕ) → LeavesReserved u calls capacity → Run u calls now n
-    → (IsNoTruncation call → capacity ≤ larger) → ((m : ℕ) → call ≡ Reserve m → FitWithin now m larger) → LeavesReserved u (calls ++ call ∷ []) larger
-reserved_more {u} {now} {calls} {call} {capacity} {larger} n f ran grows here front back m v r e none run = elim (split_of_push calls call front (Reserve m) back e) [
-  | at_last same last ↦
-      let once = run_once u calls in
-      let outcome = (once.no_other now n ran).0 ∙ sym (once.no_other v r (subst (λ c. Run u c v r) (sym same) run)).0 in
-      subst (λ w. FitWithin w m larger) outcome (here m last)
-  | before rest same after ↦
-      let all = All-pop IsNoTruncation (rest ++ call ∷ []) rest (Some call) refl (All-same IsNoTruncation (rest ++ call ∷ []) back (sym after) none) in
-      let found = f front rest m v r same all.0 run in
-      record { whole = found.whole; form = found.form; within = omega (arith, found.within, grows all.1) }
-]
+pub reserved_more : {u now : List ℕ} {calls : List Build} {call : Build} {capacity larger : ℕ} (n : ℕ) → LeavesReserved u calls capacity
+    → Run u calls now n
+    → (IsNoTruncation call → capacity ≤ larger) → ((m : ℕ) → call ≡ Reserve m → FitWithin now m larger)
+    → LeavesReserved u (calls ++ call ∷ []) larger
+reserved_more {u} {now} {calls} {call} {capacity} {larger} n f ran grows here front back m v r e none run =
+    elim (split_of_push calls call front (Reserve m) back e) [
+      | at_last same last ↦
+          let once = run_once u calls in
+          let outcome = (once.no_other now n ran).0 ∙ sym (once.no_other v r (subst (λ c. Run u c v r) (sym same) run)).0 in
+          subst (λ w. FitWithin w m larger) outcome (here m last)
+      | before rest same after ↦
+          let all = All-pop IsNoTruncation
+          (rest ++ call ∷ []) rest (Some call) refl (All-same IsNoTruncation (rest ++ call ∷ []) back (sym after) none) in
+          let found = f front rest m v r same all.0 run in
+          record { whole = found.whole; form = found.form; within = omega (arith, found.within, grows all.1) }
+    ]

@@ -1,11 +1,11 @@
 -- The surrogates of a string: in its bytes, at its end, and replaced by U+FFFD.
-use Rattle.wtf8.proofs.Common.{◌≡◌, ◌≤◌, ◌<◌, ◌+◌, ℕ, List, [], ◌∷◌, ◌++◌, length, get_or, refl, ap, ◌∙◌, sym, subst, arith, append_assoc, length-append, true}
-use Rattle.wtf8.proofs.Common.{inl, inr, Option, Some, None, nat_tests, cases_lt, lt-ltb, le-ltb, append-nil, get_or-append-add, IsUtf8, scalar, scalars}
-use Rattle.wtf8.proofs.Common.{IsCodePoint, IsSurrogate, encoding, bytes, IsClean, IsWellFormed, bytes_are_encodes, AreScalar, SurrogateAt, IsLeast, IsFirst}
-use Rattle.wtf8.proofs.Common.{◌-◌, ◌/◌, ◌%◌, lit≤, lit<, map-append, lossy_points, take, drop, append_cancel_left, take_at, drop_at, low_scalar}
-use Rattle.wtf8.specs.Surrogates.{replace_surrogate}
-use Rattle.wtf8.proofs.lemmas.codec.Encoding.{length-bytes_append, encoding_three, length-encoding_bounds, encoding_cases, one, two, three, four, bytes-append, third_row, length-surrogate}
-use Rattle.wtf8.proofs.lemmas.codec.Encoding.{bytes-pushed}
+use Rattle.wtf8.proofs.Common.{◌≡◌, ◌≤◌, ◌<◌, ◌+◌, ℕ, List, [], ◌∷◌, ◌++◌, length, get_or, refl, ap, ◌∙◌, sym, subst, arith, append_assoc}
+use Rattle.wtf8.proofs.Common.{length-append, true, inl, inr, Option, Some, None, nat_tests, cases_lt, lt-ltb, le-ltb, append-nil}
+use Rattle.wtf8.proofs.Common.{get_or-append-add, IsUtf8, scalar, scalars, IsCodePoint, IsSurrogate, encoding, bytes, IsClean, IsWellFormed}
+use Rattle.wtf8.proofs.Common.{bytes_are_encodes, AreScalar, SurrogateAt, IsLeast, IsFirst, ◌-◌, ◌/◌, ◌%◌, lit≤, lit<, map-append}
+use Rattle.wtf8.proofs.Common.{lossy_points, take, drop, append_cancel_left, take_at, drop_at, low_scalar, replace_surrogate}
+use Rattle.wtf8.proofs.lemmas.codec.Encoding.{length-bytes_append, encoding_three, length-encoding_bounds, encoding_cases, one, two, three}
+use Rattle.wtf8.proofs.lemmas.codec.Encoding.{four, bytes-append, third_row, length-surrogate, bytes-pushed}
 use Rattle.wtf8.proofs.lemmas.codec.Readings.{nil_from_bytes, clean-first, clean-rest, clean-front, clean-back}
 use Rattle.wtf8.proofs.lemmas.codec.Scalars.{surrogate, scalar_value, kind_by_surrogates, replace_surrogate-surrogate, scalar-middle}
 use Rattle.wtf8.proofs.lemmas.strings.Positions.{split_at, shorter_is_prefix}
@@ -20,7 +20,13 @@ surrogate_at f p b s =
     let at : (k : ℕ) → get_or (bytes (f ++ p ∷ b)) (length (bytes f) + k) 0 ≡ get_or (encoding p ++ bytes b) k 0 =
     λ k. ap (λ w. get_or w (length (bytes f) + k) 0) whole ∙ get_or-append-add (bytes f) (encoding p ++ bytes b) k 0 in
     record {
-      within = omega (arith, ap length whole, length-append (bytes f) (encoding p ++ bytes b), length-append (encoding p) (bytes b), ap length row);
+      within = omega (
+        arith,
+        ap length whole,
+        length-append (bytes f) (encoding p ++ bytes b),
+        length-append (encoding p) (bytes b),
+        ap length row,
+      );
       first = ap (λ k. get_or (bytes (f ++ p ∷ b)) k 0) (omega arith) ∙ (at 0 ∙ (ap (λ w. get_or (w ++ bytes b) 0 0) row ∙ omega arith));
       second = omega (arith, at 1, ap (λ w. get_or (w ++ bytes b) 1 0) row);
     }
@@ -51,16 +57,24 @@ surrogate_in c i s =
     let cut = split_at c i (omega (arith, s.within)) (λ _. record { start = inr (omega (arith, s.first)) }) in
     let whole : bytes c ≡ bytes cut.front ++ bytes cut.back = ap bytes cut.joined ∙ bytes-append cut.front cut.back in
     let at : (k : ℕ) → get_or (bytes c) (i + k) 0 ≡ get_or (bytes cut.back) k 0 = λ k. ap (λ w. get_or w (i + k) 0) whole
-    ∙ (ap (λ n. get_or (bytes cut.front ++ bytes cut.back) (n + k) 0) (sym cut.front_len) ∙ get_or-append-add (bytes cut.front) (bytes cut.back) k 0) in
+    ∙ (ap (λ n. get_or (bytes cut.front ++ bytes cut.back) (n + k) 0) (sym cut.front_len)
+    ∙ get_or-append-add (bytes cut.front) (bytes cut.back) k 0) in
     let zero_there : i + 0 ≡ i = omega arith in
-    let f = first_surrogate_in cut.back (omega (arith, s.within, cut.front_len, ap length whole, length-append (bytes cut.front) (bytes cut.back)))
+    let f =
+    first_surrogate_in cut.back (omega (arith, s.within, cut.front_len, ap length whole, length-append (bytes cut.front) (bytes cut.back)))
     (sym (at 0) ∙ (ap (λ n. get_or (bytes c) n 0) zero_there ∙ s.first)) (omega (arith, at 1, s.second)) in
     record {
       front = cut.front ++ f.front;
       point = f.point;
       back = f.back;
       joined = cut.joined ∙ (ap (λ b. cut.front ++ b) f.joined ∙ sym (append_assoc cut.front f.front (f.point ∷ f.back)));
-      front_len = omega (arith, ap length (bytes-append cut.front f.front), length-append (bytes cut.front) (bytes f.front), cut.front_len, f.front_len);
+      front_len = omega (
+        arith,
+        ap length (bytes-append cut.front f.front),
+        length-append (bytes cut.front) (bytes f.front),
+        cut.front_len,
+        f.front_len,
+      );
       surrogate = f.surrogate;
     }
 
@@ -87,13 +101,15 @@ pub utf8_of : (c : List ℕ) → IsClean c → AreScalar c → IsUtf8 (bytes c)
 utf8_of c x s = (c, (scalars_true c x s, sym (bytes_are_encodes c)))
 
 -- if no surrogate begins in the bytes of `c`, it consists of scalar values
-pub scalar_between : (f c b : List ℕ) → ((j : ℕ) → length (bytes f) ≤ j → j < length (bytes (f ++ c)) → ¬ (SurrogateAt (bytes ((f ++ c) ++ b)) j)) → AreScalar c
+pub scalar_between : (f c b : List ℕ)
+    → ((j : ℕ) → length (bytes f) ≤ j → j < length (bytes (f ++ c)) → ¬ (SurrogateAt (bytes ((f ++ c) ++ b)) j)) → AreScalar c
 scalar_between f [] b none = tt
 scalar_between f (p ∷ c) b none =
     let at : (f ++ p ∷ c) ++ b ≡ f ++ p ∷ (c ++ b) = append_assoc f (p ∷ c) b in
     let within : length (bytes f) < length (bytes (f ++ p ∷ c)) = omega (arith, length-bytes_append f p c, length-encoding_bounds p) in
     let more : (f ++ p ∷ []) ++ c ≡ f ++ p ∷ c = append_assoc f (p ∷ []) c in (
-      λ s. none (length (bytes f)) (omega arith) within (subst (λ d. SurrogateAt (bytes d) (length (bytes f))) (sym at) (surrogate_at f p (c ++ b) s)),
+      λ s. none (length (bytes f)) (omega arith) within
+          (subst (λ d. SurrogateAt (bytes d) (length (bytes f))) (sym at) (surrogate_at f p (c ++ b) s)),
       scalar_between (f ++ p ∷ []) c b (λ j l u. subst (λ d. ¬ (SurrogateAt (bytes (d ++ b)) j)) (sym more)
           (none j (omega (arith, l, length-bytes_append f p [])) (omega (arith, u, ap (λ d. length (bytes d)) more)))),
     )
@@ -103,7 +119,8 @@ pub scalar_from_none : (f c : List ℕ) → ((j : ℕ) → length (bytes f) ≤ 
 scalar_from_none f c none = scalar_between f c [] (λ j l _ s. none j l (subst (λ d. SurrogateAt (bytes d) j) (append-nil (f ++ c)) s))
 
 -- a search that does not return `Some` found none
-pub none_found : (w : List ℕ) (from : ℕ) (r : Option ℕ) → IsFirst (SurrogateAt w) from r → ((i : ℕ) → r ≡ Some i → ⊥) → (j : ℕ) → from ≤ j → ¬ (SurrogateAt w j)
+pub none_found : (w : List ℕ) (from : ℕ) (r : Option ℕ) → IsFirst (SurrogateAt w) from r → ((i : ℕ) → r ≡ Some i → ⊥) → (j : ℕ) → from ≤ j
+    → ¬ (SurrogateAt w j)
 none_found w from None f n = f
 none_found w from (Some i) f n = absurd (n i refl)
 
@@ -177,7 +194,10 @@ lossy_points-append c d = map-append replace_surrogate c d
 
 pub lossy_points-scalar : (c : List ℕ) → AreScalar c → lossy_points c ≡ c
 lossy_points-scalar [] s = refl
-lossy_points-scalar (p ∷ c) s = elim (kind_by_surrogates p) [ surrogate k e ↦ absurd (s.0 k) | scalar_value n e ↦ rw (e, lossy_points-scalar c s.1) refl ]
+lossy_points-scalar (p ∷ c) s = elim (kind_by_surrogates p) [
+  | surrogate k e ↦ absurd (s.0 k)
+  | scalar_value n e ↦ rw (e, lossy_points-scalar c s.1) refl
+]
 
 -- the length does not change, since a surrogate has three bytes too
 pub length-lossy_points : (c : List ℕ) → length (bytes (lossy_points c)) ≡ length (bytes c)
@@ -187,7 +207,8 @@ length-lossy_points (p ∷ c) =
     let whole = length-append (encoding (replace_surrogate p)) (bytes (lossy_points c)) in
     let here = length-append (encoding p) (bytes c) in
     elim (kind_by_surrogates p) [
-      | surrogate k e ↦ omega (arith, ap (λ q. length (encoding q)) e, ap length (encoding_three 0xFFFD (lit≤ tt) (lit< tt)), length-surrogate p k)
+      | surrogate k e ↦
+          omega (arith, ap (λ q. length (encoding q)) e, ap length (encoding_three 0xFFFD (lit≤ tt) (lit< tt)), length-surrogate p k)
       | scalar_value n e ↦ omega (arith, ap (λ q. length (encoding q)) e)
     ]
 
@@ -214,7 +235,8 @@ pub record Replacing (c w : List ℕ) (from : ℕ) : Type 0 where
 
 pub replacing_end : (c w : List ℕ) (from : ℕ) → Replacing c w from → ((j : ℕ) → from ≤ j → ¬ (SurrogateAt w j)) → w ≡ bytes (lossy_points c)
 replacing_end c w from r none =
-    let plain = scalar_from_none (lossy_points r.done) r.rest (λ j l. subst (λ v. ¬ (SurrogateAt v j)) r.encoded (none j (omega (arith, l, r.done_len)))) in
+    let plain = scalar_from_none (lossy_points r.done) r.rest
+    (λ j l. subst (λ v. ¬ (SurrogateAt v j)) r.encoded (none j (omega (arith, l, r.done_len)))) in
     cc (lossy_points-scalar r.rest plain, lossy_points-append r.done r.rest)
 
 -- the bytes before and after the surrogate at `found`
@@ -223,7 +245,8 @@ pub record AroundSurrogate (w : List ℕ) (front : List ℕ) (found : ℕ) (back
   pub after : drop (found + 3) w ≡ bytes back
   pub within : found + 3 ≤ length w
 
-pub around_surrogate : (w front : List ℕ) (p : ℕ) (back : List ℕ) (found : ℕ) → w ≡ bytes (front ++ p ∷ back) → length (bytes front) ≡ found → IsSurrogate p
+pub around_surrogate : (w front : List ℕ) (p : ℕ) (back : List ℕ) (found : ℕ) → w ≡ bytes (front ++ p ∷ back) → length (bytes front) ≡ found
+    → IsSurrogate p
     → AroundSurrogate w front found back
 around_surrogate w front p back found e n s =
     let three = length-surrogate p s in
@@ -233,7 +256,14 @@ around_surrogate w front p back found e n s =
       before = ap (take found) whole ∙ take_at (bytes front) (encoding p ++ bytes back) found n;
       after = ap (drop (found + 3)) other ∙ drop_at (bytes front ++ encoding p) (bytes back) (found + 3)
           (omega (arith, n, three, length-append (bytes front) (encoding p)));
-      within = omega (arith, n, three, ap length whole, length-append (bytes front) (encoding p ++ bytes back), length-append (encoding p) (bytes back));
+      within = omega (
+        arith,
+        n,
+        three,
+        ap length whole,
+        length-append (bytes front) (encoding p ++ bytes back),
+        length-append (encoding p) (bytes back),
+      );
     }
 
 pub record Replaced (c w : List ℕ) (found : ℕ) : Type 0 where
@@ -243,9 +273,11 @@ pub record Replaced (c w : List ℕ) (found : ℕ) : Type 0 where
 pub replacing_step : (c w : List ℕ) (from found : ℕ) → Replacing c w from → IsLeast (SurrogateAt w) from found → Replaced c w found
 replacing_step c w from found r least =
     let p = surrogate_in (lossy_points r.done ++ r.rest) found (subst (λ v. SurrogateAt v found) r.encoded least.here) in
-    let b = shorter_is_prefix (lossy_points r.done) r.rest p.front (p.point ∷ p.back) p.joined (omega (arith, r.done_len, p.front_len, least.not_before)) in
+    let b = shorter_is_prefix (lossy_points r.done) r.rest p.front
+    (p.point ∷ p.back) p.joined (omega (arith, r.done_len, p.front_len, least.not_before)) in
     let a = around_surrogate w p.front p.point p.back found (r.encoded ∙ ap bytes p.joined) p.front_len p.surrogate in
-    let rest : r.rest ≡ b.more ++ p.point ∷ p.back = append_cancel_left (lossy_points r.done) _ _ (p.joined ∙ simp (b.joined, append_assoc)) in
+    let rest : r.rest ≡ b.more ++ p.point ∷ p.back =
+    append_cancel_left (lossy_points r.done) _ _ (p.joined ∙ simp (b.joined, append_assoc)) in
     let plain : AreScalar b.more = scalar_between (lossy_points r.done) b.more (p.point ∷ p.back)
     (λ j l u s. least.none_between j (omega (arith, r.done_len)) (omega (arith, p.front_len, ap (λ d. length (bytes d)) b.joined))
     (subst (λ v. SurrogateAt v j) (sym (r.encoded ∙ ap bytes (p.joined ∙ ap (λ d. d ++ p.point ∷ p.back) b.joined))) s)) in
@@ -281,6 +313,17 @@ split_at_first_surrogate {w} h found least =
     record {
       within = a.within;
       text = subst IsUtf8 (sym a.before) (utf8_of p.front (clean-front p.front (p.point ∷ p.back) clean) plain);
-      rest = record { points = p.back; clean = clean-rest p.point p.back (clean-back p.front (p.point ∷ p.back) clean); encoded = sym a.after };
-      lossy_parts = simp (p.joined, lossy_points-append, bytes-append, lossy_points-scalar p.front plain, replace_surrogate-surrogate p.point p.surrogate, a.before);
+      rest = record {
+        points = p.back;
+        clean = clean-rest p.point p.back (clean-back p.front (p.point ∷ p.back) clean);
+        encoded = sym a.after;
+      };
+      lossy_parts = simp (
+        p.joined,
+        lossy_points-append,
+        bytes-append,
+        lossy_points-scalar p.front plain,
+        replace_surrogate-surrogate p.point p.surrogate,
+        a.before,
+      );
     }

@@ -1,10 +1,11 @@
 -- Blocks of code points of one encoded length, decoded to units.
-use Rattle.wtf8.proofs.Common.{◌≡◌, ℕ, zero, suc, ◌<◌, ◌≤◌, List, [], ◌∷◌, ◌++◌, length, take, drop, get_or, refl, sym, ap, ◌∙◌, arith, IsWellFormed, units}
-use Rattle.wtf8.proofs.Common.{encoding, length-append, units_of, ◌+◌, ◌*◌, ◌%◌, subst, Each1, drop-drop}
-use Rattle.wtf8.proofs.Common.{length-drop, length-take, take-append-drop, get_or_append_left, drop-append-le, FirstPointIs, AreAscii, Wtf8, view_form, view_units}
+use Rattle.wtf8.proofs.Common.{◌≡◌, ℕ, zero, suc, ◌<◌, ◌≤◌, List, [], ◌∷◌, ◌++◌, length, take, drop, get_or, refl, sym, ap, ◌∙◌, arith}
+use Rattle.wtf8.proofs.Common.{IsWellFormed, units, encoding, length-append, units_of, ◌+◌, ◌*◌, ◌%◌, subst, Each1, drop-drop, length-drop}
+use Rattle.wtf8.proofs.Common.{length-take, take-append-drop, get_or_append_left, drop-append-le, FirstPointIs, AreAscii, Wtf8, view_form}
+use Rattle.wtf8.proofs.Common.{view_units, HasBitPrefix, BeginsWithUnits, unit_of_two, unit_of_three}
 use Rattle.wtf8.proofs.lemmas.codec.Encoding.{encoding_cases, one, two, three, four, length-encoding_bounds, encoding-from_ascii_byte}
 use native.Mathlib.Nat.{mul-suc}
-use Rattle.wtf8.specs.private.EncodedRuns.{HasBitPrefix, BeginsWithUnits, lead_bytes_of, unit_of_two, unit_of_three, units_of_run}
+use Rattle.wtf8.specs.private.EncodedRuns.{lead_bytes_of, units_of_run}
 use Rattle.wtf8.proofs.lemmas.codec.Readings.{first_of, IsWellFormed-equal_bytes, Taken-from_first, units-cons_one, units_from_form}
 use Rattle.wtf8.proofs.lemmas.codec.Scalars.{IsKnownForm-ascii}
 
@@ -36,7 +37,8 @@ pub DecodesRun-one_byte : DecodesRun 1 (HasBitPrefix 128 0) unit_of_one
 DecodesRun-one_byte = record {
   positive = omega arith;
   part = λ p r h.
-      let own = encoding-from_ascii_byte p r (omega (arith, h)) in record { width = ap length own.0; read = ap (λ w. unit_of_one (w ++ r)) own.0; one_unit = omega (arith, own.1) };
+      let own = encoding-from_ascii_byte p r (omega (arith, h)) in
+      record { width = ap length own.0; read = ap (λ w. unit_of_one (w ++ r)) own.0; one_unit = omega (arith, own.1) };
   local = λ b r le. get_or_append_left b r 0 0 (omega arith);
 }
 
@@ -75,7 +77,8 @@ DecodesRun-three_bytes = record {
     ]
 
 -- the first `k` units, decoded from `n` bytes each, if their lead bytes satisfy `P`
-pub units_then_rest : {P : ℕ → Type 0} (n : ℕ) (f : List ℕ → ℕ) → DecodesRun n P f → (c k at : ℕ) (w b r : List ℕ) (h : IsWellFormed w) → w ≡ b ++ r
+pub units_then_rest : {P : ℕ → Type 0} (n : ℕ) (f : List ℕ → ℕ) → DecodesRun n P f → (c k at : ℕ) (w b r : List ℕ) (h : IsWellFormed w)
+    → w ≡ b ++ r
     → n * c ≤ length b → at ≡ n * k → k ≤ c → Each1 P (take k (lead_bytes_of n c b)) → UnitsThenRest w (take k (units_of_run n f c b)) at h
 units_then_rest n f rows c zero at w b r h e long same le each =
     let none : at ≡ 0 = omega (arith, same) in
@@ -114,11 +117,14 @@ units_of_run-one_byte (suc k) [] e = absurd (omega arith)
 units_of_run-one_byte (suc k) (b ∷ w) e = ap (λ v. b ∷ v) (units_of_run-one_byte k w (omega arith))
 
 -- the first `count` lanes of a decoded block are the next units if their lead bytes satisfy `P`
-pub begins_with_run : {P : ℕ → Type 0} (n c m : ℕ) (f : List ℕ → ℕ) → DecodesRun n P f → (w : List ℕ) (count : ℕ) (first_byte_lanes block : List ℕ) → n * c ≤ m
-    → m ≤ length w → count ≤ c → first_byte_lanes ≡ lead_bytes_of n c (take m w) → block ≡ units_of_run n f c (take m w) → Each1 P (take count first_byte_lanes)
+pub begins_with_run : {P : ℕ → Type 0} (n c m : ℕ) (f : List ℕ → ℕ) → DecodesRun n P f
+    → (w : List ℕ) (count : ℕ) (first_byte_lanes block : List ℕ) → n * c ≤ m
+    → m ≤ length w → count ≤ c → first_byte_lanes ≡ lead_bytes_of n c (take m w) → block ≡ units_of_run n f c (take m w)
+    → Each1 P (take count first_byte_lanes)
     → BeginsWithUnits w (take count block) (n * count)
 begins_with_run {P} n c m f rows w count first_byte_lanes block wide long le e g each h =
-    let after = units_then_rest n f rows c count (n * count) w (take m w) (drop m w) h (sym (take-append-drop m w)) (omega (arith, wide, long, length-take m w)) refl le
+    let after = units_then_rest n f rows c count
+    (n * count) w (take m w) (drop m w) h (sym (take-append-drop m w)) (omega (arith, wide, long, length-take m w)) refl le
     (subst (λ v. Each1 P (take count v)) e each) in
     (after.rest, after.whole ∙ ap (λ b. take count b ++ units after.rest.points) (sym g))
 
@@ -132,4 +138,8 @@ pub read_units : {w : List ℕ} → IsWellFormed w → (p n : ℕ) → 0 < lengt
 read_units {w} h p n positive read =
     let b = (first_of h positive).0 in
     let t = λ (k : IsWellFormed w). Taken-from_first w 0 k p n positive (λ b. let was = read b in (was.0, omega (arith, was.1))) in
-    record { positive = omega (arith, (read b).1, length-encoding_bounds b.point); within = (t h).within; begins = λ k. ((t k).rest, ap units (t k).joined) }
+    record {
+      positive = omega (arith, (read b).1, length-encoding_bounds b.point);
+      within = (t h).within;
+      begins = λ k. ((t k).rest, ap units (t k).joined);
+    }

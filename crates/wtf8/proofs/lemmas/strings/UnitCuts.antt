@@ -1,12 +1,15 @@
 -- Strings cut at a number of units, also inside a surrogate pair, and the iterator's state inside a pair.
-use Rattle.wtf8.proofs.Common.{BeginsWithPoint, ◌≡◌, ℕ, zero, suc, ◌+◌, ◌≤◌, List, [], ◌∷◌, ◌++◌, length, take, drop, None, Some, refl, sym, ap, ◌∙◌, subst}
-use Rattle.wtf8.proofs.Common.{arith, length-append, append_assoc, take_at, drop_at, slice_get, IsCodePoint, units, IsClean, bytes, encoding, IsWellFormed}
-use Rattle.wtf8.proofs.Common.{IsFront, CutsUnits, ◌<◌, ◌↔◌, inl, inr, Option, get_or, same_from_push, take-append-drop, length-drop, Reads, true, false, ◌/◌}
-use Rattle.wtf8.proofs.Common.{◌%◌, lt-ltb, le-ltb, drop-drop, append-nil, IsLead, units_of, trail_from_bytes, held_trail, after_held_trail, unread_after, length-take-le}
-use Rattle.wtf8.proofs.Common.{take-append-add, drop-append-add, option_to_list, IsSome, StepsUnit, Divides, DividesPair, is_continuation}
-use Rattle.wtf8.proofs.lemmas.codec.Encoding.{encoding_four, bytes-append, bytes-pushed, encoding_cases, one, two, three, four, Begins, first-encoding}
-use Rattle.wtf8.proofs.lemmas.codec.Readings.{clean-first, clean-front, clean-back, clean-append, clean-unpaired, unpaired-before_no_trail, meets_by, lead_of, trail_of, units_one}
-use Rattle.wtf8.proofs.lemmas.codec.Readings.{units_two, units-append, units-pushed, first_of, points-nil, Taken-from_first, IsWellFormed-equal_bytes}
+use Rattle.wtf8.proofs.Common.{BeginsWithPoint, ◌≡◌, ℕ, zero, suc, ◌+◌, ◌≤◌, List, [], ◌∷◌, ◌++◌, length, take, drop, None, Some, refl, sym}
+use Rattle.wtf8.proofs.Common.{ap, ◌∙◌, subst, arith, length-append, append_assoc, take_at, drop_at, slice_get, IsCodePoint, units, IsClean}
+use Rattle.wtf8.proofs.Common.{bytes, encoding, IsWellFormed, IsFront, CutsUnits, ◌<◌, ◌↔◌, inl, inr, Option, get_or, same_from_push}
+use Rattle.wtf8.proofs.Common.{take-append-drop, length-drop, Reads, true, false, ◌/◌, ◌%◌, lt-ltb, le-ltb, drop-drop, append-nil, IsLead}
+use Rattle.wtf8.proofs.Common.{units_of, trail_from_bytes, held_trail, after_held_trail, unread_after, length-take-le, take-append-add}
+use Rattle.wtf8.proofs.Common.{drop-append-add, option_to_list, IsSome, StepsUnit, Divides, DividesPair, is_continuation}
+use Rattle.wtf8.proofs.lemmas.codec.Encoding.{encoding_four, bytes-append, bytes-pushed, encoding_cases, one, two, three, four, Begins}
+use Rattle.wtf8.proofs.lemmas.codec.Encoding.{first-encoding}
+use Rattle.wtf8.proofs.lemmas.codec.Readings.{clean-first, clean-front, clean-back, clean-append, clean-unpaired, unpaired-before_no_trail}
+use Rattle.wtf8.proofs.lemmas.codec.Readings.{meets_by, lead_of, trail_of, units_one, units_two, units-append, units-pushed, first_of}
+use Rattle.wtf8.proofs.lemmas.codec.Readings.{points-nil, Taken-from_first, IsWellFormed-equal_bytes}
 use Rattle.wtf8.proofs.lemmas.strings.Concatenation.{points_meet, last_of, empty, ends}
 use Rattle.wtf8.proofs.lemmas.strings.Positions.{cut_by}
 
@@ -90,7 +93,8 @@ pub IsCodePoint-divided : {c : List ℕ} {n k p : ℕ} → IsClean c → Divided
 IsCodePoint-divided {p} clean d = clean-first p d.rest (clean-back d.front (p ∷ d.rest) (subst IsClean d.joined clean))
 
 -- the bytes before the pair and the encoding of its lead are well-formed
-abbrev pub lead_kept : {w : List ℕ} (h : IsWellFormed w) {n k p : ℕ} → Divided h.points n k p → IsWellFormed (take k w ++ encoding (lead_of p))
+abbrev pub lead_kept : {w : List ℕ} (h : IsWellFormed w) {n k p : ℕ} → Divided h.points n k p
+    → IsWellFormed (take k w ++ encoding (lead_of p))
 lead_kept {w} h {n} {k} {p} d =
     let range = IsCodePoint-divided h.clean d in
     let clean : IsClean (d.front ++ p ∷ d.rest) = subst IsClean d.joined h.clean in
@@ -98,18 +102,21 @@ lead_kept {w} h {n} {k} {p} d =
       points = d.front ++ lead_of p ∷ [];
       clean = clean-append d.front (lead_of p ∷ []) (clean-front d.front (p ∷ d.rest) clean) (omega (arith, range, d.large))
           (unpaired-before_no_trail (lead_of p) [] (λ t. omega (arith, range, d.large, t.0)));
-      encoded = bytes-pushed d.front (lead_of p) ∙ ap (λ v. v ++ encoding (lead_of p)) (cut_by h d.front (p ∷ d.rest) k d.joined d.front_len).before.encoded;
+      encoded = bytes-pushed d.front (lead_of p)
+          ∙ ap (λ v. v ++ encoding (lead_of p)) (cut_by h d.front (p ∷ d.rest) k d.joined d.front_len).before.encoded;
     }
 
 pub lead_kept_units : {c : List ℕ} {n k p : ℕ} → IsClean c → (d : Divided c n k p) → units (d.front ++ lead_of p ∷ []) ≡ take n (units c)
-lead_kept_units {p} clean d = cc (units-pushed d.front (lead_of p), units_one (lead_of p) (omega (arith, IsCodePoint-divided clean d, d.large)), d.kept)
+lead_kept_units {p} clean d =
+    cc (units-pushed d.front (lead_of p), units_one (lead_of p) (omega (arith, IsCodePoint-divided clean d, d.large)), d.kept)
 
 -- at a cut between code points the first `n` units are the units before position `k`
 pub front_at : {w : List ℕ} (h : IsWellFormed w) {n k : ℕ} → Undivided h.points n k → IsFront (units h.points) k (take n (units h.points))
 front_at h x = record {
   front = x.front;
   back = x.back;
-  splits = record { reads = record { clean = subst IsClean x.joined h.clean; same_units = ap units (sym x.joined) }; front_len = x.front_len };
+  splits =
+      record { reads = record { clean = subst IsClean x.joined h.clean; same_units = ap units (sym x.joined) }; front_len = x.front_len };
   same_units = sym x.kept;
 }
 
@@ -124,35 +131,43 @@ divides_none {c} {n} clean x m =
 pub divides_some : {c : List ℕ} {n k p : ℕ} → IsClean c → Divided c n k p → DividesPair (units c) n
 divides_some {p} clean d =
     let range = IsCodePoint-divided clean d in
-    meets_by (units d.front) (units d.rest) (lead_of p) (trail_of p) (omega (arith, range, d.large), omega (arith, range, d.large)) (omega (arith, range), omega (arith, range))
+    meets_by (units d.front) (units d.rest) (lead_of p) (trail_of p) (omega (arith, range, d.large), omega (arith, range, d.large))
+    (omega (arith, range), omega (arith, range))
     d.kept d.after
 
 -- `r` divides a pair after `n` units exactly if the whole does there, unless `n` is 0 and a lead ends `f`
-divides_whole : (f r : List ℕ) (n : ℕ) → (take n r ≡ [] → (g : List ℕ) (l : ℕ) → f ≡ g ++ l ∷ [] → ¬ (IsLead l)) → DividesPair r n ↔ DividesPair (f ++ r) (length f + n)
+divides_whole : (f r : List ℕ) (n : ℕ) → (take n r ≡ [] → (g : List ℕ) (l : ℕ) → f ≡ g ++ l ∷ [] → ¬ (IsLead l))
+    → DividesPair r n ↔ DividesPair (f ++ r) (length f + n)
 divides_whole f r n lead_excluded =
     let front = take-append-add f r n in
     let back = drop-append-add f r n in (
       λ m. meets_by (f ++ m.front) m.rest m.lead m.trail m.is_lead m.is_trail
           (front ∙ (ap (λ x. f ++ x) m.ends ∙ sym (append_assoc f m.front (m.lead ∷ [])))) (back ∙ m.begins),
       λ m. elim (last_of (take n r)) [
-        | empty e ↦ absurd (lead_excluded e m.front m.lead (sym (append-nil f) ∙ (ap (λ x. f ++ x) (sym e) ∙ (sym front ∙ m.ends))) m.is_lead)
+        | empty e ↦
+            absurd (lead_excluded e m.front m.lead (sym (append-nil f) ∙ (ap (λ x. f ++ x) (sym e) ∙ (sym front ∙ m.ends))) m.is_lead)
         | ends g l e ↦
-            let same = (same_from_push (f ++ g) m.front l m.lead (append_assoc f g (l ∷ []) ∙ (ap (λ x. f ++ x) (sym e) ∙ (sym front ∙ m.ends)))).1 in
+            let same =
+            (same_from_push (f ++ g) m.front l m.lead (append_assoc f g (l ∷ []) ∙ (ap (λ x. f ++ x) (sym e) ∙ (sym front ∙ m.ends)))).1 in
             meets_by g m.rest m.lead m.trail m.is_lead m.is_trail (e ∙ ap (λ x. g ++ x ∷ []) same) (sym back ∙ m.begins)
       ],
     )
 
 -- `r`, the units from `begin` on without the trail `half` of a pair divided there, divides the pairs of the whole
-pub divides_after : (u r : List ℕ) (half : Option ℕ) (begin n : ℕ) → begin ≤ length u → option_to_list half ++ r ≡ drop begin u → (IsSome half ↔ DividesPair u begin)
+pub divides_after : (u r : List ℕ) (half : Option ℕ) (begin n : ℕ) → begin ≤ length u → option_to_list half ++ r ≡ drop begin u
+    → (IsSome half ↔ DividesPair u begin)
     → 0 < length (option_to_list half) + n → n ≤ length r → DividesPair r n ↔ DividesPair u (begin + (length (option_to_list half) + n))
 divides_after u r half begin n in_u e d more in_r =
     let f = take begin u ++ option_to_list half in
-    let whole : f ++ r ≡ u = append_assoc (take begin u) (option_to_list half) r ∙ (ap (λ x. take begin u ++ x) e ∙ take-append-drop begin u) in
+    let whole : f ++ r ≡ u =
+    append_assoc (take begin u) (option_to_list half) r ∙ (ap (λ x. take begin u ++ x) e ∙ take-append-drop begin u) in
     let long : length f + n ≡ begin + (length (option_to_list half) + n) =
     omega (arith, length-append (take begin u) (option_to_list half), length-take-le begin u in_u) in
-    subst (λ k. DividesPair r n ↔ DividesPair u k) long (subst (λ w. DividesPair r n ↔ DividesPair w (length f + n)) whole (divides_whole f r n (no_lead_before half e d more)))
+    subst (λ k. DividesPair r n ↔ DividesPair u k) long
+    (subst (λ w. DividesPair r n ↔ DividesPair w (length f + n)) whole (divides_whole f r n (no_lead_before half e d more)))
   where
-    no_lead_before : (half : Option ℕ) → option_to_list half ++ r ≡ drop begin u → (IsSome half ↔ DividesPair u begin) → 0 < length (option_to_list half) + n
+    no_lead_before : (half : Option ℕ) → option_to_list half ++ r ≡ drop begin u → (IsSome half ↔ DividesPair u begin)
+        → 0 < length (option_to_list half) + n
         → take n r ≡ [] → (g : List ℕ) (l : ℕ) → take begin u ++ option_to_list half ≡ g ++ l ∷ [] → ¬ (IsLead l)
     no_lead_before None e d more none g l q lead = absurd (omega (arith, more, ap length none, length-take-le n r in_r))
     no_lead_before (Some t) e d more none g l q lead =
@@ -177,7 +192,10 @@ Begins-first_byte h n = let b = (first_of h n).0 in subst Begins (sym (ap (λ v.
 
 pub first_no_continuation : {w : List ℕ} → IsWellFormed w → is_continuation (get_or w 0 0) ≡ false
 first_no_continuation {w = []} h = refl
-first_no_continuation {w = a ∷ r} h = elim ((Begins-first_byte h (omega arith)).start) [ inl l ↦ ascii_no_continuation a l | inr g ↦ lead_no_continuation a g ]
+first_no_continuation {w = a ∷ r} h = elim ((Begins-first_byte h (omega arith)).start) [
+  | inl l ↦ ascii_no_continuation a l
+  | inr g ↦ lead_no_continuation a g
+]
 
 -- bytes that begin with no continuation byte hold no trail
 pub held_trail-none : (w : List ℕ) → is_continuation (get_or w 0 0) ≡ false → (held_trail w ≡ []) × (after_held_trail w ≡ w)
@@ -188,7 +206,10 @@ held_trail-none (a ∷ b ∷ w) e = (rw e refl, rw e refl)
 -- bytes that begin inside a pair have both bytes of the trail
 pub held_trail-two_bytes : (w : List ℕ) → IsWellFormed (after_held_trail w) → 0x80 ≤ get_or w 0 0 → get_or w 0 0 < 0xC0 → 1 < length w
 held_trail-two_bytes [] h l g = absurd (omega arith)
-held_trail-two_bytes (a ∷ []) h l g = absurd (elim ((Begins-first_byte h (omega arith)).start) [ inl m ↦ omega arith | inr m ↦ omega arith ])
+held_trail-two_bytes (a ∷ []) h l g = absurd (elim ((Begins-first_byte h (omega arith)).start) [
+  | inl m ↦ omega arith
+  | inr m ↦ omega arith
+])
 held_trail-two_bytes (a ∷ b ∷ w) h l g = omega arith
 
 pub held_trail-some : (w : List ℕ) → 1 < length w → is_continuation (get_or w 0 0) ≡ true
@@ -248,7 +269,8 @@ steps_lead v at h unit next long g two_on read =
           units_two p l ∙ (ap (λ a. a ∷ trail_of p ∷ []) (sym (read b)) ∙ ap (λ t. unit ∷ t) (sym held)) in
           record {
             within = omega (arith, two_on, ap length whole, length-drop at v);
-            after = IsWellFormed-equal_bytes f.1.rest (ap after_held_trail rest ∙ (k.1 ∙ sym (ap (drop (length (encoding p))) b.encoded ∙ drop_at (encoding p) b.rest (length (encoding p)) refl)));
+            after = IsWellFormed-equal_bytes f.1.rest (ap after_held_trail rest
+                ∙ (k.1 ∙ sym (ap (drop (length (encoding p))) b.encoded ∙ drop_at (encoding p) b.rest (length (encoding p)) refl)));
             first = units-first _ _ h.points f.1.rest.points p unit n.0 f.1.joined all;
             left = unread_after-first _ _ h.points f.1.rest.points p unit n.0 f.1.joined all;
           }
@@ -256,7 +278,8 @@ steps_lead v at h unit next long g two_on read =
 
 -- a step over the held trail
 pub steps_trail : (v : List ℕ) (at : ℕ) (h : IsWellFormed (after_held_trail (drop at v))) (next : ℕ) → 0x80 ≤ get_or (drop at v) 0 0
-    → get_or (drop at v) 0 0 < 0xC0 → next ≡ at + 2 → StepsUnit v at h (trail_from_bytes (get_or (drop at v) 0 0) (get_or (drop at v) 1 0)) next
+    → get_or (drop at v) 0 0 < 0xC0 → next ≡ at + 2
+    → StepsUnit v at h (trail_from_bytes (get_or (drop at v) 0 0) (get_or (drop at v) 1 0)) next
 steps_trail v at h next l g two_on =
     let whole = held_trail-two_bytes (drop at v) h l g in
     let n = held_trail-some (drop at v) whole (continuation_range (get_or (drop at v) 0 0) l g) in

@@ -1,15 +1,16 @@
 -- Marks: byte positions with the number of units before them.
-use Rattle.wtf8.proofs.Common.{◌≡◌, ◌+◌, ◌<◌, ◌≤◌, ℕ, List, [], ◌∷◌, ◌++◌, length, take, None, Some, refl, sym, ap, ◌∙◌, subst, arith, length-append}
-use Rattle.wtf8.proofs.Common.{append_assoc, take-append-drop, bytes-injective, units_of, encoding, units, bytes, IsWellFormed, IsForm, CutsUnits, glue, Option}
-use Rattle.wtf8.proofs.Common.{◌-◌, drop, length-take-le, MatchOption, Divides, AreAscii, take_all, length-drop}
-use Rattle.wtf8.proofs.Common.{get_or, IsLead, IsTrail, IsBoundary, IsMiddle, IsFront, inl, inr, cases_lt, take_at, drop_at, drop-append-le, All, IsUnit, MeetsAsPair}
+use Rattle.wtf8.proofs.Common.{◌≡◌, ◌+◌, ◌<◌, ◌≤◌, ℕ, List, [], ◌∷◌, ◌++◌, length, take, None, Some, refl, sym, ap, ◌∙◌, subst, arith}
+use Rattle.wtf8.proofs.Common.{length-append, append_assoc, take-append-drop, bytes-injective, units_of, encoding, units, bytes}
+use Rattle.wtf8.proofs.Common.{IsWellFormed, IsForm, CutsUnits, glue, Option, ◌-◌, drop, length-take-le, MatchOption, Divides, AreAscii}
+use Rattle.wtf8.proofs.Common.{take_all, length-drop, get_or, IsLead, IsTrail, IsBoundary, IsMiddle, IsFront, inl, inr, cases_lt, take_at}
+use Rattle.wtf8.proofs.Common.{drop_at, drop-append-le, All, IsUnit, MeetsAsPair, get_or-append_seam, DividesPair}
 use Rattle.std.proofs.lemmas.List.{take-append-le}
-use Rattle.std.proofs.Math.Seq.{get_or-append_seam}
 use Rattle.wtf8.specs.PositionLaws.{EqualBoundariesHaveEqualFronts, BoundariesAreInOneOrder, BoundariesDivideNoPair}
-use Rattle.wtf8.specs.UnitMark.{IsMark, EqualCountsAreMarks, MarksStay, MarksDivideNoPair, EqualMarksHaveEqualUnits, MarksAreInOneOrder, MarksAreFoundAgain, BoundariesAreMarks, MarksStayInFront}
-use Rattle.wtf8.specs.UnitPosition.{DividesPair}
+use Rattle.wtf8.specs.UnitMark.{IsMark, EqualCountsAreMarks, MarksStay, MarksDivideNoPair, EqualMarksHaveEqualUnits, MarksAreInOneOrder}
+use Rattle.wtf8.specs.UnitMark.{MarksAreFoundAgain, BoundariesAreMarks, MarksStayInFront}
 use Rattle.wtf8.proofs.lemmas.codec.Encoding.{bytes-append, encoding_cases, one, two, three, four}
-use Rattle.wtf8.proofs.lemmas.codec.Readings.{units-append, lists_have_lengths, units_one, units_two, well_formed_of, same_form, same_reading, reads_same, meets_by, form_append-unpaired}
+use Rattle.wtf8.proofs.lemmas.codec.Readings.{units-append, lists_have_lengths, units_one, units_two, well_formed_of, same_form}
+use Rattle.wtf8.proofs.lemmas.codec.Readings.{same_reading, reads_same, meets_by, form_append-unpaired}
 use Rattle.wtf8.proofs.lemmas.strings.Concatenation.{reads-glue, one_form, units_read}
 use Rattle.wtf8.proofs.lemmas.strings.ExtendedForms.{all_back}
 use Rattle.wtf8.proofs.lemmas.strings.Positions.{cut_by, points_after, boundary_of, same_splits, shorter_is_prefix, front_unique}
@@ -25,7 +26,8 @@ mark_at_cut h {k} at =
     record {
       position_within = cut.within;
       units_within = x.within;
-      before = record { points = x.front; reads = record { clean = cut.before.clean; same_units = sym x.kept }; encoded = cut.before.encoded };
+      before =
+          record { points = x.front; reads = record { clean = cut.before.clean; same_units = sym x.kept }; encoded = cut.before.encoded };
       after = record { points = x.back; reads = record { clean = cut.after.clean; same_units = sym x.after }; encoded = cut.after.encoded };
     }
 
@@ -38,7 +40,8 @@ cut_of {w} {u} h {k} {n} m =
     let front = m.before.points in
     let back = m.after.points in
     let whole : bytes (front ++ back) ≡ w =
-    bytes-append front back ∙ (ap (λ v. v ++ bytes back) m.before.encoded ∙ (ap (λ v. take k w ++ v) m.after.encoded ∙ take-append-drop k w)) in
+    bytes-append front back
+    ∙ (ap (λ v. v ++ bytes back) m.before.encoded ∙ (ap (λ v. take k w ++ v) m.after.encoded ∙ take-append-drop k w)) in
     record {
       front = front;
       back = back;
@@ -52,12 +55,14 @@ units_by : {c : List ℕ} {k n : ℕ} (x : CutsUnits c n k None) (front : List �
 units_by x front = simp (units-append, length-append, x.counted)
 
 counted_by : {c : List ℕ} {k n : ℕ} (x : CutsUnits c n k None) (front back : List ℕ) (i m : ℕ) → n + i ≡ m → (half : Option ℕ)
-    → MatchOption half (length (units front) ≡ i) (Divides front back i) → MatchOption half (length (units (x.front ++ front)) ≡ m) (Divides (x.front ++ front) back m)
+    → MatchOption half (length (units front) ≡ i) (Divides front back i)
+    → MatchOption half (length (units (x.front ++ front)) ≡ m) (Divides (x.front ++ front) back m)
 counted_by x front back i m s None e = omega (arith, units_by x front, e, s)
 counted_by x front back i m s (Some p) d =
     record { rest = d.rest; first = d.first; supplementary = d.supplementary; inside = omega (arith, units_by x front, d.inside, s) }
 
-pub cut_from_mark : {w v u : List ℕ} (h : IsWellFormed w) (rest : IsWellFormed v) {k n position : ℕ} (m : ℕ) (half : Option ℕ) → IsMark w u k n → v ≡ drop k w → n ≤ m
+pub cut_from_mark : {w v u : List ℕ} (h : IsWellFormed w) (rest : IsWellFormed v) {k n position : ℕ} (m : ℕ) (half : Option ℕ)
+    → IsMark w u k n → v ≡ drop k w → n ≤ m
     → CutsUnits rest.points (m - n) position half → CutsUnits h.points m (k + position) half
 cut_from_mark h rest {k} {n} {position} m half mark e l y =
     let x = cut_of h mark in
@@ -71,16 +76,19 @@ cut_from_mark h rest {k} {n} {position} m half mark e l y =
     }
 
 -- a cut inside a pair is at the mark of one unit less
-pub mark_before_cut : {w : List ℕ} (h : IsWellFormed w) {k n p : ℕ} (m : ℕ) → m + 1 ≡ n → CutsUnits h.points n k (Some p) → IsMark w (units h.points) k m
+pub mark_before_cut : {w : List ℕ} (h : IsWellFormed w) {k n p : ℕ} (m : ℕ) → m + 1 ≡ n → CutsUnits h.points n k (Some p)
+    → IsMark w (units h.points) k m
 mark_before_cut h {k} m e x =
-    mark_at_cut h (record { front = x.front; back = x.back; joined = x.joined; front_len = x.front_len; counted = omega (arith, x.counted.inside, e) })
+    mark_at_cut h
+    (record { front = x.front; back = x.back; joined = x.joined; front_len = x.front_len; counted = omega (arith, x.counted.inside, e) })
 
 -- a mark is at a code point boundary
 pub boundary_of_mark : {w : List ℕ} (h : IsWellFormed w) {k n : ℕ} → IsMark w (units h.points) k n → IsBoundary (units h.points) k
 boundary_of_mark h {k} m = let x = cut_of h m in boundary_of h x.front x.back k x.joined x.front_len
 
 -- a boundary after a mark is a mark, with the units between the two and those before
-pub mark_after : {w : List ℕ} (h : IsWellFormed w) {k n end : ℕ} (v : List ℕ) → IsMark w (units h.points) k n → IsMiddle (units h.points) k end v
+pub mark_after : {w : List ℕ} (h : IsWellFormed w) {k n end : ℕ} (v : List ℕ) → IsMark w (units h.points) k n
+    → IsMiddle (units h.points) k end v
     → IsMark w (units h.points) end (n + length v)
 mark_after h {k} v m x =
     let own = cut_of h m in
@@ -91,7 +99,14 @@ mark_after h {k} v m x =
       back = x.back;
       joined = same_reading h.points ((x.front ++ x.middle) ++ x.back) h.clean x.ends.reads.clean (sym x.ends.reads.same_units);
       front_len = x.ends.front_len;
-      counted = omega (arith, ap length (units-append x.front x.middle), length-append (units x.front) (units x.middle), ap (λ f. length (units f)) same, own.counted, ap length x.same_units);
+      counted = omega (
+        arith,
+        ap length (units-append x.front x.middle),
+        length-append (units x.front) (units x.middle),
+        ap (λ f. length (units f)) same,
+        own.counted,
+        ap length x.same_units,
+      );
     })
 
 -- The laws of marks.
@@ -107,11 +122,14 @@ mark_in_front w x u v k n f g h m =
     let first : take n (u ++ v) ≡ take n u = take-append-le n u v h in
     let others : drop n (u ++ v) ≡ drop n u ++ v = drop-append-le n u v h in
     let before : IsForm (take k x) (take n u) = subst (IsForm (take k x)) first m.before in
-    let rest = one_form (drop n u) (all_back (take n u) (drop n u) (subst (All IsUnit) (sym (take-append-drop n u)) (units_read f.points u f.reads))) in
+    let rest = one_form (drop n u)
+    (all_back (take n u) (drop n u) (subst (All IsUnit) (sym (take-append-drop n u)) (units_read f.points u f.reads))) in
     let apart : ¬ (MeetsAsPair (take n u) (drop n u)) =
-    λ p. mark_divides_none x (u ++ v) k n g m (meets_by p.front (p.rest ++ v) p.lead p.trail p.is_lead p.is_trail (first ∙ p.ends) (others ∙ ap (λ d. d ++ v) p.begins)) in
+    λ p. mark_divides_none x (u ++ v) k n g m
+    (meets_by p.front (p.rest ++ v) p.lead p.trail p.is_lead p.is_trail (first ∙ p.ends) (others ∙ ap (λ d. d ++ v) p.begins)) in
     let both = form_append-unpaired (take k x) rest.one (take n u) (drop n u) before rest.has apart in
-    let whole : w ≡ take k x ++ rest.one = same_form w (take k x ++ rest.one) u f (subst (IsForm (take k x ++ rest.one)) (take-append-drop n u) both) in
+    let whole : w ≡ take k x ++ rest.one =
+    same_form w (take k x ++ rest.one) u f (subst (IsForm (take k x ++ rest.one)) (take-append-drop n u) both) in
     let long : length (take k x) ≡ k = length-take-le k x m.position_within in
     record {
       position_within = omega (arith, ap length whole, length-append (take k x) rest.one, long);
@@ -135,11 +153,26 @@ between_marks : {w u : List ℕ} (f : IsForm w u) {k l m n : ℕ} → IsMark w u
 between_marks f x y h =
     let own = cut_of (well_formed_of f) x in
     let other = cut_of (well_formed_of f) y in
-    let prefix = shorter_is_prefix own.front own.back other.front other.back (sym own.joined ∙ other.joined) (omega (arith, h, own.front_len, other.front_len)) in
+    let prefix = shorter_is_prefix own.front own.back other.front other.back
+    (sym own.joined ∙ other.joined) (omega (arith, h, own.front_len, other.front_len)) in
     record {
       more = prefix.more;
-      positions = omega (arith, own.front_len, other.front_len, ap (λ c. length (bytes c)) prefix.joined, ap length (bytes-append own.front prefix.more), length-append (bytes own.front) (bytes prefix.more));
-      counts = omega (arith, own.counted, other.counted, ap (λ c. length (units c)) prefix.joined, ap length (units-append own.front prefix.more), length-append (units own.front) (units prefix.more));
+      positions = omega (
+        arith,
+        own.front_len,
+        other.front_len,
+        ap (λ c. length (bytes c)) prefix.joined,
+        ap length (bytes-append own.front prefix.more),
+        length-append (bytes own.front) (bytes prefix.more),
+      );
+      counts = omega (
+        arith,
+        own.counted,
+        other.counted,
+        ap (λ c. length (units c)) prefix.joined,
+        ap length (units-append own.front prefix.more),
+        length-append (units own.front) (units prefix.more),
+      );
     }
 
 -- marks have one order by positions and by numbers of units
@@ -184,23 +217,27 @@ form_about b = record { points = b.front ++ b.back; reads = b.splits.reads; enco
 
 pub front_is_first_units : (u v : List ℕ) (k : ℕ) → IsFront u k v → v ≡ take (length v) u
 front_is_first_units u v k b =
-    sym b.same_units ∙ sym (ap (take (length v)) (sym b.splits.reads.same_units ∙ units-append b.front b.back) ∙ take_at (units b.front) (units b.back) (length v) (ap length b.same_units))
+    sym b.same_units ∙ sym (ap (take (length v)) (sym b.splits.reads.same_units ∙ units-append b.front b.back)
+    ∙ take_at (units b.front) (units b.back) (length v) (ap length b.same_units))
 
 pub boundary_divides_none : BoundariesDivideNoPair
 boundary_divides_none u v k b = mark_divides_none _ u k (length v) (form_about b) (boundary_is_mark _ u v k (form_about b) b)
 
 pub boundaries_in_order : BoundariesAreInOneOrder
 boundaries_in_order u v x k l a b =
-    marks_in_order _ u k l (length v) (length x) (form_about a) (boundary_is_mark _ u v k (form_about a) a) (boundary_is_mark _ u x l (form_about a) b)
+    marks_in_order _ u k l (length v) (length x) (form_about a) (boundary_is_mark _ u v k (form_about a) a)
+    (boundary_is_mark _ u x l (form_about a) b)
 
 pub same_front : EqualBoundariesHaveEqualFronts
 same_front u v x k l a b = (
   λ e. front_unique u l v x (subst (λ p. IsFront u p v) e a) b,
-  λ e. (same_mark _ u k l (length v) (length x) (form_about a) (boundary_is_mark _ u v k (form_about a) a) (boundary_is_mark _ u x l (form_about a) b)).1 (ap length e),
+  λ e. (same_mark _ u k l (length v) (length x) (form_about a) (boundary_is_mark _ u v k (form_about a) a)
+      (boundary_is_mark _ u x l (form_about a) b)).1 (ap length e),
 )
 
 -- the units on both sides of the division of a pair are its lead and its trail
-pub divided_are_surrogates : (u : List ℕ) (n : ℕ) → DividesPair u n → (0 < n) × (n < length u) × IsLead (get_or u (n - 1) 0) × IsTrail (get_or u n 0)
+pub divided_are_surrogates : (u : List ℕ) (n : ℕ) → DividesPair u n
+    → (0 < n) × (n < length u) × IsLead (get_or u (n - 1) 0) × IsTrail (get_or u n 0)
 divided_are_surrogates u n m =
     let inside : n < length u = omega (arith, ap length m.begins, length-drop n u) in
     let front : length (m.front ++ m.lead ∷ []) ≡ n = sym (ap length m.ends) ∙ length-take-le n u (omega (arith, inside)) in
@@ -212,8 +249,12 @@ divided_are_surrogates u n m =
     ∙ get_or-append_seam m.front m.lead (m.trail ∷ m.rest) 0) in
     let trail : get_or u n 0 ≡ m.trail =
     ap (λ k. get_or u k 0) (sym front) ∙ (ap (λ v. get_or v (length (m.front ++ m.lead ∷ [])) 0) whole
-    ∙ get_or-append_seam (m.front ++ m.lead ∷ []) m.trail m.rest 0) in
-    (omega (arith, front, length-append m.front (m.lead ∷ [])), inside, subst IsLead (sym lead) m.is_lead, subst IsTrail (sym trail) m.is_trail)
+    ∙ get_or-append_seam (m.front ++ m.lead ∷ []) m.trail m.rest 0) in (
+      omega (arith, front, length-append m.front (m.lead ∷ [])),
+      inside,
+      subst IsLead (sym lead) m.is_lead,
+      subst IsTrail (sym trail) m.is_trail,
+    )
 
 -- code points with equal numbers of bytes and units are ASCII
 ascii_from_lengths : (c : List ℕ) → length (bytes c) ≡ length (units c) → AreAscii c
@@ -240,7 +281,8 @@ ascii_same {w} {u} f e =
 pub equal_counts : EqualCountsAreMarks
 equal_counts w u k f e h =
     let same = ascii_same f e in
-    let ascii_rest = subst AreAscii (take_all (length u - k) (drop k u) (omega (arith, length-drop k u))) (Each1-chunk (λ n. n < 0x80) k (length u - k) u same.0) in
+    let ascii_rest = subst AreAscii
+    (take_all (length u - k) (drop k u) (omega (arith, length-drop k u))) (Each1-chunk (λ n. n < 0x80) k (length u - k) u same.0) in
     subst (λ v. IsMark v u k k) (sym same.1) (record {
       position_within = omega (arith, e, h);
       units_within = omega (arith, e, h);
@@ -271,7 +313,9 @@ marks_stay w x u v k n f g l m =
     let same = same_form x (bytes (glue f.points more.has.points)) (u ++ v) g both in
     let units_len = ap length (ap units own.joined ∙ units-append own.front own.back) in
     let nonempty : 0 < length own.back =
-    nonempty_from_units own.back (omega (arith, units_len, length-append (units own.front) (units own.back), own.counted, ap length f.reads.same_units, l)) in
+    nonempty_from_units own.back
+    (omega (arith, units_len, length-append (units own.front) (units own.back), own.counted, ap length f.reads.same_units, l)) in
     let joined : glue f.points more.has.points ≡ own.front ++ glue own.back more.has.points =
     ap (λ c. glue c more.has.points) own.joined ∙ glue-append_left own.front own.back more.has.points nonempty in
-    subst (λ z. IsMark z (u ++ v) k n) (sym same) (mark_of both (record { front = own.front; back = glue own.back more.has.points; joined = joined; front_len = own.front_len; counted = own.counted }))
+    subst (λ z. IsMark z (u ++ v) k n) (sym same) (mark_of both
+    (record { front = own.front; back = glue own.back more.has.points; joined = joined; front_len = own.front_len; counted = own.counted }))

@@ -1,4 +1,5 @@
-use Rattle.std.proofs.Common.{◌≡◌, ◌<◌, ◌++◌, ◌∷◌, [], ◌+◌, length, take, drop, get_or, ap, sym, ◌∙◌, take_at, subst, append_assoc, take-append-drop, arith}
+use Rattle.std.proofs.Common.{◌≡◌, ◌<◌, ◌++◌, ◌∷◌, [], ◌+◌, length, take, drop, get_or, ap, sym, ◌∙◌, take_at, subst, append_assoc}
+use Rattle.std.proofs.Common.{take-append-drop, arith}
 use Rattle.std.proofs.lemmas.List.{take_more}
 use Rattle.wtf8.specs.Form.{IsForm}
 use Rattle.wtf8.specs.Unicode.{units_of}
@@ -11,7 +12,8 @@ pub returns-in-Err-clause-kept : goal.returns-in-Err-clause-kept
 returns-in-Err-clause-kept c =
     let old = c.args.buf.now in
     let pushed = c.in-Err.ensures.kept.units ∙ c.loop-unit.invariant.appended in
-    let units = c.truncate_units.ensures.units ∙ (ap (take _) pushed ∙ take_at old.units (take c.loop-unit.unit-index c.args.units.now) _ (omega (arith, c.unit_len-len.ensures, ap length c.as_wtf8.ensures.units))) in
+    let units = c.truncate_units.ensures.units ∙ (ap (take _) pushed ∙ take_at old.units (take c.loop-unit.unit-index c.args.units.now) _
+    (omega (arith, c.unit_len-len.ensures, ap length c.as_wtf8.ensures.units))) in
     record { units = units; bytes = (c.law_equal_strings.ensures.buffers c.truncate_units.new.self old).1 units }
 
 -- the units up to the refused one are a front of what fits, so they fit too
@@ -24,7 +26,13 @@ returns-in-Err-clause-room c fit =
     let within : i < length v = omega arith in
     let is : x ≡ get_or v i 0 = c.from_u32_unchecked.ensures ∙ c.from.ensures in
     let one : units_of x ≡ x ∷ [] = units_one x (omega (arith, (c.type_inv.units i).fits, is)) in
-    let front : c.loop-unit.buf.units ++ units_of x ≡ u ++ take (i + 1) v = cc (c.loop-unit.invariant.appended, one, is, append_assoc u (take i v) (x ∷ []), take_more v i 0 within) in
-    let parts : u ++ v ≡ (u ++ take (i + 1) v) ++ drop (i + 1) v = cc (append_assoc u (take (i + 1) v) (drop (i + 1) v), take-append-drop (i + 1) v) in
+    let front : c.loop-unit.buf.units ++ units_of x ≡ u ++ take (i + 1) v =
+    cc (c.loop-unit.invariant.appended, one, is, append_assoc u (take i v) (x ∷ []), take_more v i 0 within) in
+    let parts : u ++ v ≡ (u ++ take (i + 1) v) ++ drop (i + 1) v =
+    cc (append_assoc u (take (i + 1) v) (drop (i + 1) v), take-append-drop (i + 1) v) in
     let b = beginning_of_form (u ++ take (i + 1) v) (drop (i + 1) v) fit.whole (subst (IsForm fit.whole) parts fit.form) in
-    c.in-Err.ensures.room (record { whole = b.whole; form = subst (IsForm b.whole) (sym front) b.form; within = omega (arith, b.within, fit.within, c.loop-unit.invariant.capacity) })
+    c.in-Err.ensures.room (record {
+      whole = b.whole;
+      form = subst (IsForm b.whole) (sym front) b.form;
+      within = omega (arith, b.within, fit.within, c.loop-unit.invariant.capacity);
+    })

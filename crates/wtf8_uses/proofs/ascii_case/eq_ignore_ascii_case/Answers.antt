@@ -18,7 +18,8 @@ returns c =
     let units = YieldsList-from_first (λ x. x) unread_units (view_units c.args.text) c.to_ill_formed_utf16.ensures.units in
     let others = YieldsList-from_first (λ x. x) unread_units (view_units c.args.other) c.to_ill_formed_utf16-2.ensures.units in
     let compared = cmp_from_yields_List (λ x y. y ≡ x) _ nat_cmp c.cmp.result c.cmp.ensures.ran
-    (YieldsList-from_map _ to_ascii_lowercase (YieldsList-at c.map-units.ensures.source units) c.map-units.ensures.closure (λ x r q k. search rules))
+    (YieldsList-from_map _ to_ascii_lowercase (YieldsList-at c.map-units.ensures.source units) c.map-units.ensures.closure
+    (λ x r q k. search rules))
     (λ it e. YieldsList-from_map _ to_ascii_lowercase (YieldsList-at (ap map_source e ∙ c.map-others.ensures.source) others)
     (ap map_callee e ∙ c.map-others.ensures.closure) (λ x r q k. search rules)) (λ x y. refl) in
     let same = c.is_eq.ensures ∙ (ap is_eq compared ∙ is_eq-slice_cmp first second) in

@@ -9,7 +9,8 @@ pub returns-in_default : goal.returns-in_default
 returns-in_default c =
     let last = MatchOption-at_none _ (λ _. ⊤) c.in_default.is c.first_component-in-loop-after.ensures.last in
     let same : view_units c.first_component.result.0 ≡ view_units c.first_component-in-loop-after.result.0 = search rules in
-    true_from_iff c.loop-after.invariant (BeginsWith-first _ _ c.first_component.ensures.first.0 _ _ c.first_component.ensures.first.1 last same)
+    true_from_iff c.loop-after.invariant
+    (BeginsWith-first _ _ c.first_component.ensures.first.0 _ _ c.first_component.ensures.first.1 last same)
 
 pub returns-in_default-after : goal.returns-in_default-after
 returns-in_default-after c =

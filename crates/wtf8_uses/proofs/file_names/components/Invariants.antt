@@ -6,7 +6,8 @@ use Rattle.wtf8_uses.proofs.file_names.components.Given as goal
 
 -- the parts so far and the components of the rest are the components of the path
 abbrev pub invariant-loop-part : goal.invariant-loop-part
-invariant-loop-part l = map view_units l.parts.items ++ slice_split is_separator (view_units l.rest) ≡ slice_split is_separator (view_units l.fn.path)
+invariant-loop-part l =
+    map view_units l.parts.items ++ slice_split is_separator (view_units l.rest) ≡ slice_split is_separator (view_units l.fn.path)
 
 -- the rest gets shorter
 abbrev pub decreases-loop-part : goal.decreases-loop-part

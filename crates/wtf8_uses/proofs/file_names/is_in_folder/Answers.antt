@@ -11,7 +11,10 @@ returns c =
     let b = c.ascii_byte_at.ensures.after low in
     let back : IsBack (view_units c.args.path) (c.len-end.result + 1) (units b.back) =
     record { front = b.front; back = b.back; splits = b.splits; same_units = refl } in (
-      λ t. (units b.back, cc (c.ascii_byte_at.ensures.unit _ _ low c.slice_to-front.ensures.units back, c.eq.ensures.units.0 t, is_backslash)),
+      λ t. (
+        units b.back,
+        cc (c.ascii_byte_at.ensures.unit _ _ low c.slice_to-front.ensures.units back, c.eq.ensures.units.0 t, is_backslash),
+      ),
       λ x. c.eq.ensures.units.1 (c.law_equal_views.ensures.0
           (cc (c.slice_to-front.ensures.bytes, c.law_begins_by_ascii.ensures.front x.0 x.1, c.len-end.ensures.bytes))),
     )

@@ -8,6 +8,7 @@ use Rattle.wtf8_uses.proofs.json.push_rest.Given as goal
 -- at the call
 abbrev pub invariant-loop-point : goal.invariant-loop-point
 invariant-loop-point g l = record {
-  same : string_bytes l.json ++ flat_map json_point l.point-iterator ≡ string_bytes l.fn.json ++ flat_map json_point (view_points l.fn.text);
+  same : string_bytes l.json ++ flat_map json_point l.point-iterator
+      ≡ string_bytes l.fn.json ++ flat_map json_point (view_points l.fn.text);
   begun : Continues (string_bytes l.fn.json) (string_bytes l.json);
 }

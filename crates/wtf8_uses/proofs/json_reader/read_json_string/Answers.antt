@@ -23,7 +23,8 @@ loop-point-preserved g c =
 pub overflow_sub-result : goal.overflow_sub-result
 overflow_sub-result g c =
     let front = front_more c.in-Some.ensures.some.joined (front_of_characters c.loop-point.invariant) in
-    let counted = front_counted c.args.text.bytes.now c.loop-point.rest.bytes.now front c.args.text.well_formed.encoded c.loop-point.rest.well_formed.encoded in
+    let counted = front_counted c.args.text.bytes.now c.loop-point.rest.bytes.now front c.args.text.well_formed.encoded
+    c.loop-point.rest.well_formed.encoded in
     omega (arith, counted)
 
 pub returns-in_default-after_quote-clause-malformed :
@@ -31,7 +32,8 @@ pub returns-in_default-after_quote-clause-malformed :
 returns-in_default-after_quote-clause-malformed g c = λ position cause e.
     let text = view_points c.args.text in
     let front = front_more c.in-Some.ensures.some.joined (front_of_characters c.loop-point.invariant) in
-    let counted = front_counted c.args.text.bytes.now c.loop-point.rest.bytes.now front c.args.text.well_formed.encoded c.loop-point.rest.well_formed.encoded in
+    let counted = front_counted c.args.text.bytes.now c.loop-point.rest.bytes.now front c.args.text.well_formed.encoded
+    c.loop-point.rest.well_formed.encoded in
     let here : c.len.result - c.len-in_default-after_quote.result ≡ position = cc e in
     let length_is : length (bytes front.front) ≡ position = omega (arith, counted, here) in
     IsMalformedAt.stopped _ _ _ (front_follows front position length_is) c.in-Some.ensures.some c.loop-point.invariant
@@ -44,7 +46,8 @@ returns-in_default-after_quote-clause-none g c = λ _.
 pub returns-in_default-after_quote-clause-cause : goal.returns-in_default-after_quote-clause-cause
 returns-in_default-after_quote-clause-cause g c = λ position cause e.
     let front = front_more c.in-Some.ensures.some.joined (front_of_characters c.loop-point.invariant) in
-    let counted = front_counted c.args.text.bytes.now c.loop-point.rest.bytes.now front c.args.text.well_formed.encoded c.loop-point.rest.well_formed.encoded in
+    let counted = front_counted c.args.text.bytes.now c.loop-point.rest.bytes.now front c.args.text.well_formed.encoded
+    c.loop-point.rest.well_formed.encoded in
     let here : c.len.result - c.len-in_default-after_quote.result ≡ position = cc e in
     let why : c.cause_at.result ≡ cause = cc e in
     let length_is : length (bytes front.front) ≡ position = omega (arith, counted, here) in

@@ -17,7 +17,8 @@ loop-unit-preserved-in-Continue-branch-2 g c =
     let found = c.mark_after_line_feed-last.ensures in
     let pushed = c.in_ok-push-2.ensures.items in
     let feed : c.in-Some.unit ≡ 0x0A = omega arith in
-    let starts = starts_more c.loop-unit.starts.items mark n c.in-Some.unit before after (line_starts u) c.in-Some.ensures.steps feed found.units i.starts in
+    let starts = starts_more c.loop-unit.starts.items mark n c.in-Some.unit before after
+    (line_starts u) c.in-Some.ensures.steps feed found.units i.starts in
     record {
       unread = next_unread u before after n c.in-Some.unit i.unread c.in-Some.ensures.steps;
       within = next_within u before after n c.in-Some.unit i.unread c.in-Some.ensures.steps;
@@ -43,5 +44,6 @@ loop-unit-preserved g c =
       before = omega (arith, i.before);
       marks = i.marks;
       first = i.first;
-      starts = starts_same (map mark_units c.loop-unit.starts.items) n c.in-Some.unit before after (line_starts u) c.in-Some.ensures.steps other i.starts;
+      starts = starts_same (map mark_units c.loop-unit.starts.items) n c.in-Some.unit before after
+          (line_starts u) c.in-Some.ensures.steps other i.starts;
     }

@@ -12,7 +12,8 @@ pub returns-in-Ok-clause-found : goal.returns-in-Ok-clause-found
 returns-in-Ok-clause-found g c = λ d.
     let points = view_points c.args.view in
     let here = slice_index_or c.args.table.now c.in-Ok.index d in
-    let found = c.in-Ok.ensures.position (λ s. slice_cmp nat_cmp s.form.points points) (always_returns_same _ _ _ (λ a r q h. search rules)) in
+    let found =
+    c.in-Ok.ensures.position (λ s. slice_cmp nat_cmp s.form.points points) (always_returns_same _ _ _ (λ a r q h. search rules)) in
     sym here.form.reads.same_units ∙ ap units (MatchOrdering-slice_cmp c.law_byte_order.ensures.order here.form.points points _ (found d))
 
 pub returns-in-Err-clause-absent : goal.returns-in-Err-clause-absent
@@ -20,7 +21,8 @@ returns-in-Err-clause-absent g c =
     let points = view_points c.args.view in
     let table = c.args.table.now in
     let rising = searchable_from_sorted nat_list_cmp_total (λ s. s.form.points) table points c.requires in
-    let parts = c.in-Err.ensures.position (λ s. slice_cmp nat_cmp s.form.points points) (always_returns_same _ _ _ (λ a r q h. search rules)) rising in (
+    let parts = c.in-Err.ensures.position (λ s. slice_cmp nat_cmp s.form.points points)
+    (always_returns_same _ _ _ (λ a r q h. search rules)) rising in (
       λ k d l h. MatchOrdering-slice_cmp c.law_byte_order.ensures.order (slice_index_or table k d).form.points points _ (parts.0 k d l h),
       λ k d l h. MatchOrdering-slice_cmp c.law_byte_order.ensures.order (slice_index_or table k d).form.points points _ (parts.1 k d l h),
     )

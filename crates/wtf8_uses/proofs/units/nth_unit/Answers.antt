@@ -6,4 +6,5 @@ use Rattle.wtf8_uses.proofs.units.nth_unit.Goals as goal
 
 pub returns : goal.returns
 returns c =
-    sym (option_map_id _) ∙ nth_from_yields_List _ _ _ c.nth.ensures.ran (YieldsList-from_first (λ x. x) unread_units _ c.to_ill_formed_utf16.ensures.units)
+    sym (option_map_id _)
+    ∙ nth_from_yields_List _ _ _ c.nth.ensures.ran (YieldsList-from_first (λ x. x) unread_units _ c.to_ill_formed_utf16.ensures.units)

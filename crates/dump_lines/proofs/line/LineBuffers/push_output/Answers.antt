@@ -26,7 +26,8 @@ returns g c =
     }
 
 empty_output : IsOutput [] []
-empty_output = dumped [] [] 0 [] tt (refl, refl) (record { points = []; reads = record { clean = tt; same_units = refl }; encoded = refl }) refl
+empty_output =
+    dumped [] [] 0 [] tt (refl, refl) (record { points = []; reads = record { clean = tt; same_units = refl }; encoded = refl }) refl
 
 pub returns-then-is_empty : goal.returns-then-is_empty
 returns-then-is_empty g c =

@@ -11,7 +11,8 @@ returns-then-number-eq0-clause-close c = λ not_ascii granted.
     let marks = c.args.self.now.marks.now in
     let view = c.args.self.now.text.view in
     let none : 0 ≡ min (length marks) (c.args.units / spacing) = search rules in
-    chosen_mark_is_close view.bytes.now (view_units view) marks c.args.self.now.is_incomplete c.args.units c.start_mark.result.units 0 c.args.self.now.marked not_ascii
+    chosen_mark_is_close view.bytes.now
+    (view_units view) marks c.args.self.now.is_incomplete c.args.units c.start_mark.result.units 0 c.args.self.now.marked not_ascii
     (omega (arith, c.requires.within, c.args.self.now.text.counted)) none (omega arith) granted
 
 pub returns-clause-close : goal.returns-clause-close
@@ -25,5 +26,6 @@ returns-clause-close c = λ not_ascii granted.
     let inside : number - 1 < length marks = omega arith in
     let kept = c.args.self.now.marked.kept (number - 1) start inside in
     let here : number * spacing ≤ mark.units + 1 = omega (arith, kept.at_least) in
-    chosen_mark_is_close view.bytes.now (view_units view) marks c.args.self.now.is_incomplete c.args.units mark.units number c.args.self.now.marked not_ascii
+    chosen_mark_is_close view.bytes.now
+    (view_units view) marks c.args.self.now.is_incomplete c.args.units mark.units number c.args.self.now.marked not_ascii
     (omega (arith, c.requires.within, c.args.self.now.text.counted)) some here granted

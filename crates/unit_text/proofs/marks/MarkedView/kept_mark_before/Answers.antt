@@ -10,8 +10,10 @@ returns-then-low-eq0-clause-close c = λ not_ascii granted k n mark l.
     let view = c.args.self.now.text.view in
     let i = c.loop-low.invariant in
     let start : UnitMark = record { position = 0; units = 0 } in
-    let next : c.loop-low.low < length c.args.self.now.marks.now → c.args.position < (slice_index_or c.args.self.now.marks.now c.loop-low.low start).position = search rules in
-    let most = units_before_next c.law_marks.ensures.order view.bytes.now (view_units view) c.args.self.now.marks.now c.args.self.now.is_incomplete (view_form view) c.args.self.now.marked
+    let next : c.loop-low.low < length c.args.self.now.marks.now
+    → c.args.position < (slice_index_or c.args.self.now.marks.now c.loop-low.low start).position = search rules in
+    let most = units_before_next c.law_marks.ensures.order view.bytes.now
+    (view_units view) c.args.self.now.marks.now c.args.self.now.is_incomplete (view_form view) c.args.self.now.marked
     not_ascii granted c.loop-low.low c.args.position start (omega (arith, i.order, i.within)) next k n mark l in
     omega (arith, most)
 
@@ -20,8 +22,10 @@ returns-clause-close c = λ not_ascii granted k n mark l.
     let view = c.args.self.now.text.view in
     let i = c.loop-low.invariant in
     let start : UnitMark = record { position = 0; units = 0 } in
-    let next : c.loop-low.low < length c.args.self.now.marks.now → c.args.position < (slice_index_or c.args.self.now.marks.now c.loop-low.low start).position = search rules in
-    let most = units_before_next c.law_marks.ensures.order view.bytes.now (view_units view) c.args.self.now.marks.now c.args.self.now.is_incomplete (view_form view) c.args.self.now.marked
+    let next : c.loop-low.low < length c.args.self.now.marks.now
+    → c.args.position < (slice_index_or c.args.self.now.marks.now c.loop-low.low start).position = search rules in
+    let most = units_before_next c.law_marks.ensures.order view.bytes.now
+    (view_units view) c.args.self.now.marks.now c.args.self.now.is_incomplete (view_form view) c.args.self.now.marked
     not_ascii granted c.loop-low.low c.args.position start (omega (arith, i.order, i.within)) next k n mark l in
     let kept = c.args.self.now.marked.kept (c.loop-low.low - 1) start (omega (arith, i.order, i.within)) in
     omega (arith, most, kept.at_least)

@@ -8,7 +8,8 @@ invariant-loop-low l = record {
   order : l.low ≤ l.high;
   within : l.high ≤ length l.self.marks.now;
   before : 0 < l.low → (slice_index_or l.self.marks.now (l.low - 1) record { position = 0; units = 0 }).position ≤ l.position;
-  after : l.high < length l.self.marks.now → l.position < (slice_index_or l.self.marks.now l.high record { position = 0; units = 0 }).position;
+  after : l.high < length l.self.marks.now
+      → l.position < (slice_index_or l.self.marks.now l.high record { position = 0; units = 0 }).position;
 }
 
 abbrev pub decreases-loop-low : goal.decreases-loop-low

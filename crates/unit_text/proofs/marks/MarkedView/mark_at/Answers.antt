@@ -8,7 +8,8 @@ returns-clause-divided c = λ divides.
     let view = c.args.self.now.text.view in
     let mark = c.mark_at.result in
     elim c.mark_at.ensures.last [
-      | inl e ↦ absurd (c.law_marks.ensures.no_pair view.bytes.now (view_units view) mark.position mark.units (view_form view) c.mark_at.ensures.mark
+      | inl e ↦ absurd
+          (c.law_marks.ensures.no_pair view.bytes.now (view_units view) mark.position mark.units (view_form view) c.mark_at.ensures.mark
           (subst (DividesPair (view_units view)) (sym e) divides))
       | inr e ↦ e.0
     ]

@@ -10,4 +10,5 @@ no_characters = refl
 
 pub returns-clause-empty : goal.returns-clause-empty
 returns-clause-empty g c = λ e.
-    let none : view_points c.from_str.result ≡ [] = cc (c.from_str.ensures.points, e, no_characters) in c.push_wtf8.ensures.empty (ap units none)
+    let none : view_points c.from_str.result ≡ [] = cc (c.from_str.ensures.points, e, no_characters) in
+    c.push_wtf8.ensures.empty (ap units none)

@@ -4,10 +4,12 @@ use Rattle.wtf8.proofs.lemmas.strings.Positions.{boundary_of}
 use Rattle.wtf8.proofs.comparing.unit_order.cmp_units_at_mismatch.Goals.{Else-supplementary_begins}
 use Rattle.wtf8.proofs.comparing.unit_order.cmp_units_at_mismatch.Goals as goal
 
-common_front : (c : Else-supplementary_begins) → CommonFront c.args.own.well_formed.points c.args.others.well_formed.points c.mismatch-at.result
+common_front : (c : Else-supplementary_begins)
+    → CommonFront c.args.own.well_formed.points c.args.others.well_formed.points c.mismatch-at.result
 common_front c =
     let h = c.args.own.well_formed in
-    common_front_at_mismatch h c.args.others.well_formed _ c.mismatch-at.ensures _ _ c.supplementary_begins.ensures c.supplementary_begins-2.ensures c.if-supplementary_begins.false
+    common_front_at_mismatch h c.args.others.well_formed _ c.mismatch-at.ensures _ _ c.supplementary_begins.ensures
+    c.supplementary_begins-2.ensures c.if-supplementary_begins.false
 
 pub returns-then-supplementary_begins : goal.returns-then-supplementary_begins
 returns-then-supplementary_begins c =
@@ -17,7 +19,8 @@ returns-then-supplementary_begins c =
 
 pub slice_from-requires : goal.slice_from-requires
 slice_from-requires c =
-    let p = common_front (goal.at.slice_from-requires c).Else-supplementary_begins in boundary_of c.args.own.well_formed p.front p.own _ p.own_joined p.front_len
+    let p = common_front (goal.at.slice_from-requires c).Else-supplementary_begins in
+    boundary_of c.args.own.well_formed p.front p.own _ p.own_joined p.front_len
 
 pub slice_from-requires-2 : goal.slice_from-requires-2
 slice_from-requires-2 c =

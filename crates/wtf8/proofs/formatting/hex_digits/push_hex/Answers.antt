@@ -12,6 +12,7 @@ loop-at-preserved g c = record {
 pub returns-clause-ok : goal.returns-clause-ok
 returns-clause-ok g c =
     let end = rw take_rest at c.push_spaced.ensures in
-    let digits = end ∙ spaced_hex-append_rest _ c.push_hex_byte.new.text.items c.in-Some.rest.now c.loop-at.at c.loop-at.invariant.written in
+    let digits = end
+    ∙ spaced_hex-append_rest _ c.push_hex_byte.new.text.items c.in-Some.rest.now c.loop-at.at c.loop-at.invariant.written in
     let parts : c.args.bytes.now ≡ c.in-Some.first.now ∷ c.in-Some.rest.now = search rules in
     digits ∙ rw (c.push_hex_byte.ensures.items, c.reserve.ensures.items, append_assoc, parts)

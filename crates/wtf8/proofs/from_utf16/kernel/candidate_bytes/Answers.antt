@@ -1,16 +1,20 @@
 use Rattle.wtf8.proofs.Common.{◌∷◌, arith, subst, sym, Each1}
 use Rattle.wtf8.specs.private.PackedUnits.{tagged_block}
-use Rattle.wtf8.proofs.lemmas.from_utf16.Kernel.{second_bytes_fit, last_bytes_fit, three_byte_flags_fit, flags_from_fit, front_lanes, back_lanes, mask_l-table_indexes, length-tagged_block, first_bytes-tagged, multi_byte_flags-tagged}
+use Rattle.wtf8.proofs.lemmas.from_utf16.Kernel.{second_bytes_fit, last_bytes_fit, three_byte_flags_fit, flags_from_fit, front_lanes}
+use Rattle.wtf8.proofs.lemmas.from_utf16.Kernel.{back_lanes, mask_l-table_indexes, length-tagged_block, first_bytes-tagged}
+use Rattle.wtf8.proofs.lemmas.from_utf16.Kernel.{multi_byte_flags-tagged}
 use Rattle.wtf8.proofs.from_utf16.kernel.candidate_bytes.Goals as goal
 
 pub overflow_cast-front : goal.overflow_cast-front
-overflow_cast-front c = subst (Each1 _) (sym c.requires.second) (second_bytes_fit _ (λ x h. omega (arith, h)) (0 ∷ tagged_block c.args.units) (tagged_block c.args.units))
+overflow_cast-front c = subst (Each1 _) (sym c.requires.second)
+    (second_bytes_fit _ (λ x h. omega (arith, h)) (0 ∷ tagged_block c.args.units) (tagged_block c.args.units))
 
 pub overflow_cast-last : goal.overflow_cast-last
 overflow_cast-last c = subst (Each1 _) (sym c.requires.last) (last_bytes_fit _ (λ x h. omega (arith, h)) (tagged_block c.args.units))
 
 pub overflow_cast-above_one : goal.overflow_cast-above_one
-overflow_cast-above_one c = subst (Each1 _) (sym c.flags_from-above_one.ensures) (flags_from_fit _ (λ x h. omega (arith, h)) 0x80 c.args.units)
+overflow_cast-above_one c =
+    subst (Each1 _) (sym c.flags_from-above_one.ensures) (flags_from_fit _ (λ x h. omega (arith, h)) 0x80 c.args.units)
 
 pub overflow_cast-three : goal.overflow_cast-three
 overflow_cast-three c = subst (Each1 _) (sym c.requires.long) (three_byte_flags_fit _ (λ x h. omega (arith, h)) (tagged_block c.args.units))
@@ -18,14 +22,17 @@ overflow_cast-three c = subst (Each1 _) (sym c.requires.long) (three_byte_flags_
 pub returns-clause-front : goal.returns-clause-front
 returns-clause-front c =
     let later = c.args.later in
-    front_lanes (tagged_block c.args.units) c.first_bytes.result later.seconds later.lasts (length-tagged_block c.args.units c.fits-units.0) (first_bytes-tagged c.first_bytes.result c.args.units c.first_bytes.ensures) c.requires.second c.requires.last
+    front_lanes (tagged_block c.args.units) c.first_bytes.result later.seconds later.lasts (length-tagged_block c.args.units c.fits-units.0)
+    (first_bytes-tagged c.first_bytes.result c.args.units c.first_bytes.ensures) c.requires.second c.requires.last
 
 pub returns-clause-back : goal.returns-clause-back
 returns-clause-back c =
     let later = c.args.later in
-    back_lanes (tagged_block c.args.units) c.first_bytes.result later.seconds later.lasts (length-tagged_block c.args.units c.fits-units.0) (first_bytes-tagged c.first_bytes.result c.args.units c.first_bytes.ensures) c.requires.second c.requires.last
+    back_lanes (tagged_block c.args.units) c.first_bytes.result later.seconds later.lasts (length-tagged_block c.args.units c.fits-units.0)
+    (first_bytes-tagged c.first_bytes.result c.args.units c.first_bytes.ensures) c.requires.second c.requires.last
 
 pub returns-clause-lengths : goal.returns-clause-lengths
 returns-clause-lengths c =
     let flags = c.flags_from-above_one in
-    mask_l-table_indexes (tagged_block c.args.units) flags.result c.args.later.three_byte_flags (length-tagged_block c.args.units c.fits-units.0) (multi_byte_flags-tagged flags.result c.args.units flags.ensures) c.requires.long
+    mask_l-table_indexes (tagged_block c.args.units) flags.result c.args.later.three_byte_flags
+    (length-tagged_block c.args.units c.fits-units.0) (multi_byte_flags-tagged flags.result c.args.units flags.ensures) c.requires.long

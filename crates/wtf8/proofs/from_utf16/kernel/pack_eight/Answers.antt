@@ -6,7 +6,12 @@ use Rattle.wtf8.proofs.from_utf16.kernel.pack_eight.Goals as goal
 pub pack_four-requires-clause-number : goal.pack_four-requires-clause-number
 pack_four-requires-clause-number c =
     let units = tagged_block c.args.units in
-    omega (arith, c.candidate_bytes-candidates.ensures.lengths, units_table_index_bound (take 4 units), units_table_index_bound (drop 4 units))
+    omega (
+      arith,
+      c.candidate_bytes-candidates.ensures.lengths,
+      units_table_index_bound (take 4 units),
+      units_table_index_bound (drop 4 units),
+    )
 
 pub returns-clause-bytes : goal.returns-clause-bytes
 returns-clause-bytes c =
@@ -20,5 +25,6 @@ returns-clause-bytes c =
     let second : rows / 256 ≡ units_table_index back = omega (arith, given.ensures.lengths, units_table_index_bound front) in
     let kept = take c.args.len c.args.block.now in
     c.pack_four.ensures.bytes (get_or units 3 0) back (omega (arith, long, length-drop 4 units)) given.ensures.back second
-    ∙ ap (λ w. w ++ packed_units (get_or units 3 0) back) (c.pack_four-middle.ensures.bytes 0 front (omega (arith, long, length-take 4 units)) given.ensures.front first)
+    ∙ ap (λ w. w ++ packed_units (get_or units 3 0) back)
+    (c.pack_four-middle.ensures.bytes 0 front (omega (arith, long, length-take 4 units)) given.ensures.front first)
     ∙ append_assoc kept (packed_units 0 front) (packed_units (get_or units 3 0) back) ∙ ap (λ w. kept ++ w) (packed_units-halves units long)

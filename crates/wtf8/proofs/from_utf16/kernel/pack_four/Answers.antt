@@ -1,5 +1,5 @@
-use Rattle.wtf8.proofs.Common.{ℕ, ◌+◌, ◌++◌, ◌∙◌, ap, arith, refl, take, drop, get_or, w8}
-use Rattle.std.proofs.lemmas.Simd.{SwzOk-from_below, length-swz_l, swz_l}
+use Rattle.wtf8.proofs.Common.{ℕ, ◌+◌, ◌++◌, ◌∙◌, ap, arith, refl, take, drop, get_or, w8, SwzOk-from_below, swz_l}
+use Rattle.std.proofs.lemmas.Simd.{length-swz_l}
 use Rattle.wtf8.specs.private.PackedUnits.{byte_count}
 use Rattle.wtf8.proofs.lemmas.from_utf16.PackedUnits.{take-written_block}
 use Rattle.wtf8.proofs.lemmas.from_utf16.Kernel.{swz_l-packed_units, IsByteCount-byte_count}
@@ -18,6 +18,8 @@ returns-clause-bytes c before u long lanes number =
     let len = c.args.len in
     let bytes = swz_l w8 16 c.args.lanes 0 c.packing_shuffle.result in
     ap (take (len + c.packed_len.result)) c.store.ensures
-    ∙ take-written_block block bytes (drop (len + 16) block) len c.packed_len.result (omega (arith, c.requires.room)) (omega (arith, c.packed_len.ensures.most, length-swz_l w8 16 c.args.lanes 0 c.packing_shuffle.result))
+    ∙ take-written_block block bytes (drop (len + 16) block) len c.packed_len.result (omega (arith, c.requires.room))
+    (omega (arith, c.packed_len.ensures.most, length-swz_l w8 16 c.args.lanes 0 c.packing_shuffle.result))
     ∙ ap (λ n. take len block ++ take n bytes) packed
-    ∙ ap (λ w. take len block ++ w) (swz_l-packed_units c.args.lanes c.packing_shuffle.result before u (omega arith) c.packing_shuffle.ensures.within long lanes row)
+    ∙ ap (λ w. take len block ++ w)
+    (swz_l-packed_units c.args.lanes c.packing_shuffle.result before u (omega arith) c.packing_shuffle.ensures.within long lanes row)

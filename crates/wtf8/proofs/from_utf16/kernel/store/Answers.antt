@@ -1,5 +1,4 @@
-use Rattle.wtf8.proofs.Common.{◌∙◌, ◌++◌, arith, ap, take, drop, drop-drop}
-use Rattle.std.proofs.lemmas.Simd.{put_chunk_is}
+use Rattle.wtf8.proofs.Common.{◌∙◌, ◌++◌, arith, ap, take, drop, drop-drop, put_chunk_is}
 use Rattle.wtf8.proofs.from_utf16.kernel.store.Goals as goal
 
 pub returns : goal.returns

@@ -1,4 +1,4 @@
-use Rattle.std.proofs.Common.{w8}
+use Rattle.wtf8.proofs.Common.{w8}
 use Rattle.wtf8.proofs.lemmas.lanes.AsciiFronts.{ascii_before}
 use Rattle.wtf8.proofs.lanes.ascii.ascii_run_len.Goals as goal
 

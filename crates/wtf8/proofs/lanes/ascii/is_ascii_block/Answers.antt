@@ -1,4 +1,4 @@
-use Rattle.std.proofs.Common.{w8}
+use Rattle.wtf8.proofs.Common.{w8}
 use Rattle.wtf8.proofs.lemmas.lanes.AsciiFronts.{ascii_if_none}
 use Rattle.wtf8.proofs.lanes.ascii.is_ascii_block.Goals as goal
 

@@ -4,7 +4,8 @@ use Rattle.wtf8.proofs.lemmas.lanes.ListOrder.{cmp_less, cmp_greater, order_at, 
 use Rattle.wtf8.proofs.lanes.memcmp.cmp_at_mismatch.Goals as goal
 
 pub returns-in-Some : goal.returns-in-Some
-returns-in-Some c = sym (cmp_less _ _ c.if-own-at.true) ∙ order_at c.args.own.now c.args.others.now c.in-Some.at (rw c.in-Some.is at c.requires)
+returns-in-Some c =
+    sym (cmp_less _ _ c.if-own-at.true) ∙ order_at c.args.own.now c.args.others.now c.in-Some.at (rw c.in-Some.is at c.requires)
 
 pub returns-in-Some-2 : goal.returns-in-Some-2
 returns-in-Some-2 c =
@@ -13,7 +14,8 @@ returns-in-Some-2 c =
     sym (cmp_greater _ _ above) ∙ order_at c.args.own.now c.args.others.now c.in-Some.at first
 
 pub returns-in-None : goal.returns-in-None
-returns-in-None c = sym (cmp_greater _ _ c.if-own-others.true) ∙ order_of_lengths c.args.own.now c.args.others.now (rw c.in-None.is at c.requires)
+returns-in-None c =
+    sym (cmp_greater _ _ c.if-own-others.true) ∙ order_of_lengths c.args.own.now c.args.others.now (rw c.in-None.is at c.requires)
 
 pub returns-in-None-2 : goal.returns-in-None-2
 returns-in-None-2 c =

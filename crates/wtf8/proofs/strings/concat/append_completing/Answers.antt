@@ -7,10 +7,13 @@ use Rattle.wtf8.proofs.strings.concat.append_completing.Goals.{After-from_well_f
 use Rattle.wtf8.proofs.strings.concat.append_completing.Goals as goal
 
 -- the view of the bytes has their code points, and so the same pair at the seam
-view_has_same_points : (g : Over) (c : After-from_well_formed-view g) → c.from_well_formed-view.result.well_formed.points ≡ c.requires.points
-view_has_same_points g c = same_points c.from_well_formed-view.result.well_formed c.requires (c.from_well_formed-view.ensures.bytes ∙ c.as_slice.ensures.value)
+view_has_same_points : (g : Over) (c : After-from_well_formed-view g)
+    → c.from_well_formed-view.result.well_formed.points ≡ c.requires.points
+view_has_same_points g c =
+    same_points c.from_well_formed-view.result.well_formed c.requires (c.from_well_formed-view.ensures.bytes ∙ c.as_slice.ensures.value)
 
-abbrev paired : {a b c : List ℕ} {l t : ℕ} → a ≡ b → IsLead l × IsTrail t → (f : List ℕ) × (a ≡ f ++ l ∷ []) → (r : List ℕ) × (c ≡ t ∷ r) → MeetsAsPair b c
+abbrev paired : {a b c : List ℕ} {l t : ℕ} → a ≡ b → IsLead l × IsTrail t → (f : List ℕ) × (a ≡ f ++ l ∷ []) → (r : List ℕ) × (c ≡ t ∷ r)
+    → MeetsAsPair b c
 paired {l} {t} e both last first = meets_by last.0 first.0 l t both.0 both.1 (sym e ∙ last.1) first.1
 
 pub from_well_formed-view-requires : goal.from_well_formed-view-requires
@@ -19,23 +22,30 @@ from_well_formed-view-requires g c = rw c.as_slice.ensures.value c.requires
 pub append_completing_pair-requires-clause-three : goal.append_completing_pair-requires-clause-three
 append_completing_pair-requires-clause-three g c =
     let met = c.in-Some.ensures in
-    let m = paired (view_has_same_points g (goal.at.append_completing_pair-requires-clause-three g c).After-from_well_formed-view) met.pair met.last met.first in
+    let m = paired (view_has_same_points g (goal.at.append_completing_pair-requires-clause-three g c).After-from_well_formed-view) met.pair
+    met.last met.first in
     (meeting_bytes m c.requires.encoded c.args.other.well_formed.encoded).three
 
 pub append_completing_pair-requires-clause-begins : goal.append_completing_pair-requires-clause-begins
 append_completing_pair-requires-clause-begins g c =
     let met = c.in-Some.ensures in
-    let m = paired (view_has_same_points g (goal.at.append_completing_pair-requires-clause-begins g c).After-from_well_formed-view) met.pair met.last met.first in
+    let m = paired (view_has_same_points g (goal.at.append_completing_pair-requires-clause-begins g c).After-from_well_formed-view) met.pair
+    met.last met.first in
     let s = meeting_bytes m c.requires.encoded c.args.other.well_formed.encoded in (s.three_after, s.last)
 
 pub returns-in-Some : goal.returns-in-Some
 returns-in-Some g c =
     let met = c.in-Some.ensures in
     let m = paired (view_has_same_points g (goal.at.returns-in-Some g c).After-from_well_formed-view) met.pair met.last met.first in
-    record { whole = _; extends = ExtendsForm-meeting_pair c.requires c.args.other.well_formed m; becomes = c.append_completing_pair.ensures }
+    record {
+      whole = _;
+      extends = ExtendsForm-meeting_pair c.requires c.args.other.well_formed m;
+      becomes = c.append_completing_pair.ensures;
+    }
 
 pub returns-in-None : goal.returns-in-None
 returns-in-None g c =
     let same = view_has_same_points g (goal.at.returns-in-None g c).After-from_well_formed-view in
-    let extension = ExtendsForm-append c.requires c.args.other.well_formed (λ m. c.in-None.ensures.none (MeetsAsPair-equal_lists m same refl)) in
+    let extension =
+    ExtendsForm-append c.requires c.args.other.well_formed (λ m. c.in-None.ensures.none (MeetsAsPair-equal_lists m same refl)) in
     record { whole = _; extends = extension; becomes = c.append_bytes.ensures }

@@ -30,4 +30,5 @@ returns-in-Some g c =
 pub push_unpaired-requires-clause-no_pair : goal.push_unpaired-requires-clause-no_pair
 push_unpaired-requires-clause-no_pair g c h m =
     let view = c.from_well_formed-view in
-    c.in-None.ensures.none (MeetsAsPair-equal_lists m (same_points view.result.well_formed h (view.ensures.bytes ∙ c.as_slice.ensures.value)) refl)
+    c.in-None.ensures.none
+    (MeetsAsPair-equal_lists m (same_points view.result.well_formed h (view.ensures.bytes ∙ c.as_slice.ensures.value)) refl)

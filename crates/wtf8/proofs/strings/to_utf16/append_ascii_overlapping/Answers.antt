@@ -11,7 +11,15 @@ returns-in_err-reserve g c =
 pub returns : goal.returns
 returns g c =
     let units = c.args.units.now in
-    let all = ends_appended units.items c.args.view.bytes.now g.row.N _ (omega (arith, c.reserve.ensures.len, units.ok.0)) c.requires.all.0 c.requires.all.1 in
-    let whole = c.push_block-2.ensures.items ∙ (rw (c.truncate.ensures.items, c.push_block.ensures.items, c.widen_bytes.ensures, c.widen_bytes-2.ensures, c.len.ensures, c.reserve.ensures.items) all
+    let all = ends_appended units.items c.args.view.bytes.now g.row.N _
+    (omega (arith, c.reserve.ensures.len, units.ok.0)) c.requires.all.0 c.requires.all.1 in
+    let whole = c.push_block-2.ensures.items ∙ (rw (
+      c.truncate.ensures.items,
+      c.push_block.ensures.items,
+      c.widen_bytes.ensures,
+      c.widen_bytes-2.ensures,
+      c.len.ensures,
+      c.reserve.ensures.items,
+    ) all
     ∙ ap (λ u. units.items ++ u) (sym (view_units-ascii c.args.view c.requires.ascii))) in
     record { ok = whole; err = search rules; room = search rules; capacity = search rules }

@@ -1,5 +1,5 @@
-use Rattle.wtf8.proofs.Common.{◌≡◌, ℕ, ◌<◌, ◌≤◌, List, [], ◌∷◌, IsWellFormed, ap, arith, length, length-drop, number, subst, units, units_of}
-use Rattle.wtf8.proofs.Common.{BeginsWithUnits, FirstPointIs}
+use Rattle.wtf8.proofs.Common.{◌≡◌, ℕ, ◌<◌, ◌≤◌, List, [], ◌∷◌, IsWellFormed, ap, arith, length, length-drop, number, subst, units}
+use Rattle.wtf8.proofs.Common.{units_of, BeginsWithUnits, FirstPointIs}
 use Rattle.wtf8.proofs.lemmas.codec.Readings.{first_of, units_one, units_two}
 use Rattle.wtf8.proofs.lemmas.strings.ToUtf16.{read_units}
 use Rattle.wtf8.proofs.strings.to_utf16.decode_point.Goals as goal
@@ -23,12 +23,14 @@ one_unit {w} h p n positive read low =
 
 pub write_units-requires : goal.write_units-requires
 write_units-requires c =
-    let r = one_unit c.args.left.view.well_formed c.read_two.result 2 c.requires.nonempty c.read_two.ensures.read c.read_two.ensures.one_unit in
+    let r =
+    one_unit c.args.left.view.well_formed c.read_two.result 2 c.requires.nonempty c.read_two.ensures.read c.read_two.ensures.one_unit in
     (omega arith, (omega arith, (omega (arith, c.requires.room, r.2), ((omega arith, r.1), r.0))))
 
 pub write_units-requires-in-224-to-239 : goal.write_units-requires-in-224-to-239
 write_units-requires-in-224-to-239 c =
-    let r = one_unit c.args.left.view.well_formed c.read_three.result 3 c.requires.nonempty c.read_three.ensures.read c.read_three.ensures.one_unit in
+    let r = one_unit c.args.left.view.well_formed c.read_three.result 3 c.requires.nonempty c.read_three.ensures.read
+    c.read_three.ensures.one_unit in
     (omega arith, (omega arith, (omega (arith, c.requires.room, r.2), ((omega arith, r.1), r.0))))
 
 pub write_units-requires-then-value-lt65536 : goal.write_units-requires-then-value-lt65536
@@ -45,7 +47,8 @@ write_units-requires-in_default c =
     let p = number c.read-width.result.0 in
     let r = read_units view.well_formed p c.read-width.result.1 c.requires.nonempty c.read-width.ensures in
     let two = units_two p (omega (arith, c.to_u32-value.ensures.value, c.if-value-lt65536.false)) in
-    let same : units_of p ≡ c.lead_of.result ∷ c.trail_of.result ∷ [] = rw (c.lead_of.ensures, c.trail_of.ensures, c.to_u32-value.ensures.value) two in
+    let same : units_of p ≡ c.lead_of.result ∷ c.trail_of.result ∷ [] =
+    rw (c.lead_of.ensures, c.trail_of.ensures, c.to_u32-value.ensures.value) two in
     let begins = subst (λ v. BeginsWithUnits view.bytes.now v c.read-width.result.1) same r.begins in
     (omega arith, (omega arith, (omega (arith, c.requires.room, ap length (begins view.well_formed).1), ((omega arith, r.within), begins))))
 
@@ -53,7 +56,13 @@ pub returns-then-value-lt65536-clause-shorter : goal.returns-then-value-lt65536-
 returns-then-value-lt65536-clause-shorter c =
     let view = c.args.left.view in
     let r = read_units view.well_formed (number c.read-width.result.0) c.read-width.result.1 c.requires.nonempty c.read-width.ensures in
-    omega (arith, r.positive, r.within, ap length c.write_units-then-value-lt65536.ensures.bytes, length-drop c.read-width.result.1 view.bytes.now)
+    omega (
+      arith,
+      r.positive,
+      r.within,
+      ap length c.write_units-then-value-lt65536.ensures.bytes,
+      length-drop c.read-width.result.1 view.bytes.now,
+    )
 
 pub returns-else-value-lt65536-clause-shorter : goal.returns-else-value-lt65536-clause-shorter
 returns-else-value-lt65536-clause-shorter c =

@@ -1,6 +1,7 @@
-use Rattle.wtf8.proofs.Common.{◌≡◌, ℕ, ◌+◌, ◌*◌, ◌≤◌, List, map, length, Fits, w8, w16, ap, sym, ◌∙◌, subst, arith, length-map, map-id, Each1-weaker}
-use Rattle.wtf8.proofs.Common.{length-chunk, length-zip2, fold-sum, sum_utf16_len, utf16_len}
-use lib.Lanes.{chunk, zip2, Each1, Each2, Steps, fold_l, sum_l}
+use Rattle.wtf8.proofs.Common.{◌≡◌, ℕ, ◌+◌, ◌*◌, ◌≤◌, List, map, length, Fits, w8, w16, ap, sym, ◌∙◌, subst, arith, length-map, map-id}
+use Rattle.wtf8.proofs.Common.{Each1-weaker, length-chunk, length-zip2, fold-sum, sum_utf16_len, utf16_len, chunk, zip2, Each1, Each2}
+use Rattle.wtf8.proofs.Common.{fold_l, sum_l}
+use lib.Lanes.{Steps}
 use Rattle.wtf8.proofs.lemmas.lanes.UnitCounts.{lanes_fit_more, lanes_grow, sums_grow, sum_fits_two_bytes}
 use Rattle.wtf8.proofs.lemmas.strings.Positions.{sum_utf16_len-chunk_add}
 use Rattle.wtf8.proofs.strings.unit_counts.utf16_len_of_blocks.Goals as goal
@@ -9,7 +10,8 @@ pub overflow_add-lanes : goal.overflow_add-lanes
 overflow_add-lanes c =
     let lanes = c.loop-block.lanes in
     subst (Each2 (λ a b. Fits w8 (a + b)) lanes) (sym c.utf16_len_of_each-lanes.ensures)
-    (lanes_fit_more (c.loop-block.block * 2) lanes (chunk (c.args.position + c.loop-block.block * 64) 64 c.args.bytes.now) (omega (arith, c.loop-block-test.true))
+    (lanes_fit_more (c.loop-block.block * 2) lanes (chunk (c.args.position + c.loop-block.block * 64) 64 c.args.bytes.now)
+    (omega (arith, c.loop-block-test.true))
     c.loop-block.invariant.2)
 
 pub loop-block-preserved : goal.loop-block-preserved

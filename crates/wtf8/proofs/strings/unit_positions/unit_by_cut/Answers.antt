@@ -21,7 +21,8 @@ pub read_unit-requires-clause-after : goal.read_unit-requires-clause-after
 read_unit-requires-clause-after c =
     let x = undivided_from_cut c.in_default.is c.in_ok-cut.ensures.some in
     let cut = cut_by c.args.view.well_formed x.front x.back c.in_ok-cut.cut.position x.joined x.front_len in
-    IsWellFormed-equal_bytes cut.after (held_trail-none (drop c.in_ok-cut.cut.position c.args.view.bytes.now) (first_no_continuation cut.after)).1
+    IsWellFormed-equal_bytes cut.after
+    (held_trail-none (drop c.in_ok-cut.cut.position c.args.view.bytes.now) (first_no_continuation cut.after)).1
 
 pub returns : goal.returns
 returns c =

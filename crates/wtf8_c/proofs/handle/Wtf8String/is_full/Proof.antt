@@ -1,5 +1,9 @@
 -- `is_full` reads the flag through the reference.
-use Rattle.wtf8_c.proofs.Steps.{List, [], ◌∷◌, refl, sym, proved, flft, ftrue, named, Val, vbool, ‵, ◌⊛◌, ◌$◌, ◌∵◌, !, qed, done, move, keep, split, join, fsplit3, rewrite, suffices, frame, group, enter, of_opd, load, stop, fld, returns, alloc_all, pass_all, free_all, look_at, through, sets, look_in, sub, whole, full_share, cell_at, bool, shows, MutRef, mut_vals, mut_Tells, plain, nothing, owned, bool_Makes, opens, closes, peeks, Stays, walk_of, says_two, stay_ref, Goes-ref, ends_at}
+use Rattle.wtf8_c.proofs.Steps.{List, [], ◌∷◌, refl, sym, proved, flft, ftrue, named, Val, vbool, ‵, ◌⊛◌, ◌$◌, ◌∵◌, !, qed, done, move}
+use Rattle.wtf8_c.proofs.Steps.{keep, split, join, fsplit3, rewrite, suffices, frame, group, enter, of_opd, load, stop, fld, returns}
+use Rattle.wtf8_c.proofs.Steps.{alloc_all, pass_all, free_all, look_at, through, sets, look_in, sub, whole, full_share, cell_at, bool}
+use Rattle.wtf8_c.proofs.Steps.{shows, MutRef, mut_vals, mut_Tells, plain, nothing, owned, bool_Makes, opens, closes, peeks, Stays, walk_of}
+use Rattle.wtf8_c.proofs.Steps.{says_two, stay_ref, Goes-ref, ends_at}
 use Rattle.wtf8_c.specs.contracts.handle.Wtf8String.is_full as f
 use Rattle.wtf8_c.proofs.handle.Wtf8String.is_full.Statement.{statement}
 use Rattle.wtf8_c.proofs.handle.Wtf8String.is_full.Code as code

@@ -1,5 +1,11 @@
 -- `put_parts` stores the pointer, and the handle owns what the parts owned.
-use Rattle.wtf8_c.proofs.Steps.{◌≡◌, List, [], ◌∷◌, ◌++◌, refl, sym, subst, true, IsFalse, proved_at, full_share, ent, ftrue, fsep, flft, named, Val, vunit, vptr, vbool, fact, tables, ⋆, Item, ‵, raw, ◌⊛◌, ◌$◌, ◌∵◌, !, qed, by, done, move, keep, drop, split, join, fsplit, fsplit3, fjoin, fpack, feq_i, rewrite, suffices, frame, group, enter, of_opd, unit_lit, stop, fld, assigns, returns, alloc_all, pass_all, free_all, look_at, get, get_in, through, sets, true_lit, store_in, sub, whole, bool, yes, shows, cell_at, RawPtr, block_ptr, MutRef, mut_Tells, plain, nothing, opens, closes, heard, peeks, Stays, walk_of, says_two, stay_dropped, Goes-dropped, stay_ref, Goes-ref, ends_at, RattleType, Valss, within, shape, WpFn}
+use Rattle.wtf8_c.proofs.Steps.{◌≡◌, List, [], ◌∷◌, ◌++◌, refl, sym, subst, true, IsFalse, proved_at, full_share, ent, ftrue, fsep, flft}
+use Rattle.wtf8_c.proofs.Steps.{named, Val, vunit, vptr, vbool, fact, tables, ⋆, Item, ‵, raw, ◌⊛◌, ◌$◌, ◌∵◌, !, qed, by, done, move, keep}
+use Rattle.wtf8_c.proofs.Steps.{drop, split, join, fsplit, fsplit3, fjoin, fpack, feq_i, rewrite, suffices, frame, group, enter, of_opd}
+use Rattle.wtf8_c.proofs.Steps.{unit_lit, stop, fld, assigns, returns, alloc_all, pass_all, free_all, look_at, get, get_in, through, sets}
+use Rattle.wtf8_c.proofs.Steps.{true_lit, store_in, sub, whole, bool, yes, shows, cell_at, RawPtr, block_ptr, MutRef, mut_Tells, plain}
+use Rattle.wtf8_c.proofs.Steps.{nothing, opens, closes, heard, peeks, Stays, walk_of, says_two, stay_dropped, Goes-dropped, stay_ref}
+use Rattle.wtf8_c.proofs.Steps.{Goes-ref, ends_at, RattleType, Valss, within, shape, WpFn}
 use Rattle.std.proofs.BoxSteps.Form.{D, word, box_typed}
 use Rattle.std.proofs.BoxSteps.Steps.{box_out}
 use Rattle.std.specs.Box.Ownership.{box_owns}
@@ -28,13 +34,17 @@ put_parts_spec 𝓤 𝓛 𝓜 𝓡 wired =
     let κs = z.0.0 in let qs = z.0.1 in let a = z.0.3 in let b = a.0.ref_ptr.0 in let o = a.0.ref_ptr.1 in let h = a.0.now in
     let v : D E = record { ptr = a.1.0.ptr; alloc = a.1.0.alloc; value = a.1.0.value } in
     let same : z.0.4.0 ≡ vptr b o ∷ [] = mut_Tells (named 0) κs.0 R a.0 z.0.4.0 are.0 in
-    qed 𝓛 (((‵ (flft κs.0 qs.0) ⊛ ‵ ftrue) ⊛ ‵ (fsep ((MutRef (named 0) κs.0 R).own_val a.0 z.0.4.0) (fsep (From.own_val a.1.0 z.0.4.1.0) ftrue))) ∷ raw (fact 𝓤 (IsFalse h.full)) ∷ []) ∵
+    qed 𝓛 (((‵ (flft κs.0 qs.0) ⊛ ‵ ftrue) ⊛ ‵ (fsep ((MutRef (named 0) κs.0 R).own_val a.0 z.0.4.0)
+    (fsep (From.own_val a.1.0 z.0.4.1.0) ftrue))) ∷ raw (fact 𝓤 (IsFalse h.full)) ∷ []) ∵
     move ! (1 ∷ []) $ heard ! _ (λ empty. split ! $ split ! $ move ! (2 ∷ []) $ fsplit ! $ move ! (1 ∷ []) $ fsplit ! $
     box_out E ! v z.0.4.1.0 (λ b' o' hv e ws fa. keep ! (0 ∷ 1 ∷ 4 ∷ 5 ∷ []) $ fjoin ! $
     rewrite ! 1 (λ (us : List Val). ‵ ((MutRef (named 0) κs.0 R).own_val a.0 us)) same refl $
-    let Γ : List (Item 𝓤) = ‵ (box_owns (ghosts.dealloc_token v.alloc) Held (block_ptr b' o') v.value) ∷ ‵ ((MutRef (named 0) κs.0 R).own_val a.0 (vptr b o ∷ [])) ∷ ‵ (flft κs.0 qs.0) ∷ [] in
-    by ! (subst (λ (us : List Val × List Val). ent 𝓤 (⋆ 𝓛 Γ) (WpFn 𝓤 𝓛.H 𝓣.C 𝓣.Λ code.function (us.0 ++ (us.1 ++ [])) (W.post z))) (λ j. (sym same j, sym ws j))
-    (qed 𝓛 Γ ∵ enter ! 𝓣.C 𝓣.Λ code.function (vptr b o ∷ word E hv b' o' ∷ []) (W.post z) $ alloc_all ! (λ l. pass_all ! refl ((tt, tt), (box_typed E hv b' o' fa, tt)) $
+    let Γ : List (Item 𝓤) = ‵ (box_owns (ghosts.dealloc_token v.alloc) Held (block_ptr b' o') v.value)
+    ∷ ‵ ((MutRef (named 0) κs.0 R).own_val a.0 (vptr b o ∷ [])) ∷ ‵ (flft κs.0 qs.0) ∷ [] in
+    by ! (subst (λ (us : List Val × List Val). ent 𝓤 (⋆ 𝓛 Γ) (WpFn 𝓤 𝓛.H 𝓣.C 𝓣.Λ code.function (us.0 ++ (us.1 ++ [])) (W.post z)))
+    (λ j. (sym same j, sym ws j))
+    (qed 𝓛 Γ ∵ enter ! 𝓣.C 𝓣.Λ code.function (vptr b o ∷ word E hv b' o' ∷ []) (W.post z) $
+    alloc_all ! (λ l. pass_all ! refl ((tt, tt), (box_typed E hv b' o' fa, tt)) $
     move ! (1 ∷ []) $ fsplit3 ! $ move ! (1 ∷ 2 ∷ 4 ∷ []) $ opens ! tt R b o (λ us.
     move ! (1 ∷ []) $ peeks ! R _ (shows 𝓛 R) h us (λ is. drop ! $
     let Cell = λ (ws : List Val). ‵ (cell_at full_share R.mir ws b o) in
@@ -48,10 +58,13 @@ put_parts_spec 𝓤 𝓛 𝓜 𝓡 wired =
     sets ! (of_opd ! (unit_lit !)) refl (tt, tt) $
     let h' : R.Denot = record { at = block_ptr b' o'; full = true; string = v.value } in
     let w' = lowers.lowered h' in
-    nothing ! $ feq_i ! (List Val) (vbool true ∷ []) (vbool true ∷ []) refl $ fjoin ! $ feq_i ! (List Val) (vptr b' o' ∷ []) (vptr b' o' ∷ []) refl $ fjoin ! $ feq_i ! (List Val) (w' ∷ []) (w' ∷ []) refl $ fjoin ! $
-    fpack ! (Valss (RawPtr ∷ bool ∷ [])) (within (shape the_type) (block_ptr b' o', (true, tt)) (w' ∷ [])) (vptr b' o' ∷ [], (vbool true ∷ [], tt)) $
+    nothing ! $ feq_i ! (List Val) (vbool true ∷ []) (vbool true ∷ []) refl $ fjoin ! $
+    feq_i ! (List Val) (vptr b' o' ∷ []) (vptr b' o' ∷ []) refl $ fjoin ! $ feq_i ! (List Val) (w' ∷ []) (w' ∷ []) refl $ fjoin ! $
+    fpack ! (Valss (RawPtr ∷ bool ∷ [])) (within (shape the_type) (block_ptr b' o', (true, tt)) (w' ∷ []))
+    (vptr b' o' ∷ [], (vbool true ∷ [], tt)) $
     move ! (0 ∷ 6 ∷ []) $ fjoin ! $ move ! (1 ∷ 0 ∷ []) $ closes ! tt R h' (w' ∷ []) b o $
     returns ! (look_at ! 0 refl) $ free_all ! refl $ keep ! (0 ∷ 1 ∷ 2 ∷ []) $ feq_i ! (List Val) z.0.4.0 (vptr b o ∷ []) same $
     suffices ! _ (ends_at 𝓛 f.ended stayed c z vunit tt (h', (tt, tt)) (tt, (tt, tt))) $ says_two ! (refl, refl) $
-    group ! 3 $ nothing ! $ nothing ! $ join ! $ move ! (1 ∷ 0 ∷ []) $ join ! $ nothing ! $ move ! (2 ∷ 0 ∷ []) $ join ! $ frame ! $ frame ! $
+    group ! 3 $ nothing ! $ nothing ! $ join ! $ move ! (1 ∷ 0 ∷ []) $ join ! $ nothing ! $ move ! (2 ∷ 0 ∷ []) $ join ! $
+    frame ! $ frame ! $
     feq_i ! _ (vunit ∷ []) _ refl $ done !))))))))

@@ -1,5 +1,11 @@
 -- `take_parts` copies the pointer, and what the handle owned goes with it.
-use Rattle.wtf8_c.proofs.Steps.{List, [], ◌∷◌, refl, ap, ◌∙◌, Bool, false, IsTrue, proved, full_share, id⊢, never, fst∗, ftrue, flft, named, Val, vptr, vbool, fact, ‵, raw, ◌⊛◌, ◌$◌, ◌∵◌, !, qed, done, move, keep, drop, use1, split, split3, join, fsplit, fsplit3, fjoin, fpack, feq_i, rewrite, suffices, frame, group, enter, of_opd, load, stop, fld, no_more, and_then, assigns, returns, alloc_all, pass_all, free_all, look_at, get, through, sets, false_lit, store_in, look_in, sub, whole, agg, bool, yes, shows, cell_at, Ptr, RawPtr, block_ptr, null_ptr, in_a_block, MutRef, mut_vals, mut_Tells, plain, type_at, nothing, opens, closes, heard, peeks, Stays, walk_of, says_two, stay_dropped, Goes-dropped, stay_ref, Goes-ref, ends_at, RattleType, Valss, within, shape}
+use Rattle.wtf8_c.proofs.Steps.{List, [], ◌∷◌, refl, ap, ◌∙◌, Bool, false, IsTrue, proved, full_share, id⊢, never, fst∗, ftrue, flft, named}
+use Rattle.wtf8_c.proofs.Steps.{Val, vptr, vbool, fact, ‵, raw, ◌⊛◌, ◌$◌, ◌∵◌, !, qed, done, move, keep, drop, use1, split, split3, join}
+use Rattle.wtf8_c.proofs.Steps.{fsplit, fsplit3, fjoin, fpack, feq_i, rewrite, suffices, frame, group, enter, of_opd, load, stop, fld}
+use Rattle.wtf8_c.proofs.Steps.{no_more, and_then, assigns, returns, alloc_all, pass_all, free_all, look_at, get, through, sets, false_lit}
+use Rattle.wtf8_c.proofs.Steps.{store_in, look_in, sub, whole, agg, bool, yes, shows, cell_at, Ptr, RawPtr, block_ptr, null_ptr, in_a_block}
+use Rattle.wtf8_c.proofs.Steps.{MutRef, mut_vals, mut_Tells, plain, type_at, nothing, opens, closes, heard, peeks, Stays, walk_of, says_two}
+use Rattle.wtf8_c.proofs.Steps.{stay_dropped, Goes-dropped, stay_ref, Goes-ref, ends_at, RattleType, Valss, within, shape}
 use mir.Raw.{raw as bare}
 use denote.Memory.{lone}
 use types.Logic.{sem}
@@ -23,19 +29,28 @@ stayed = (stay_ref (0 ∷ []) tt (plain (λ _. R)), (stay_dropped (plain (λ _. 
 pub take_parts_spec : {M : Type 1} → statement M
 take_parts_spec 𝓤 𝓛 𝓜 𝓡 wired =
     let c = f.clauses 𝓛 𝓜.mem 𝓡.returns in let W = walk_of 𝓛 f.ended stayed c in
-    proved 𝓛 f.ended stayed c 𝓜 𝓡 (Goes-ref 𝓛 1 0 tt (plain (λ _. R)), (Goes-dropped 𝓛 1 (plain (λ _. heap.the_row)) yes (λ κs x w. refl), tt))
+    proved 𝓛 f.ended stayed c 𝓜 𝓡
+    (Goes-ref 𝓛 1 0 tt (plain (λ _. R)), (Goes-dropped 𝓛 1 (plain (λ _. heap.the_row)) yes (λ κs x w. refl), tt))
     f.Key.name code.function (code.unfolded 𝓤 𝓛.H 𝓜 𝓡 wired)
-    (λ κs. (mut_vals, ((λ g. heap_laws.lowers.lowered g ∷ []), tt))) (λ κs. (mut_Tells (named 0) κs.0 R, (heap_laws.lowers.val_is, tt))) (λ κs qs bounds a _ are.
-    let b = a.0.ref_ptr.0 in let o = a.0.ref_ptr.1 in let h = a.0.now in let vs = mut_vals a.0 in let al = a.1.0 in let hv = heap_laws.lowers.lowered al in
+    (λ κs. (mut_vals, ((λ g. heap_laws.lowers.lowered g ∷ []), tt))) (λ κs. (mut_Tells (named 0) κs.0 R, (heap_laws.lowers.val_is, tt)))
+    (λ κs qs bounds a _ are.
+    let b = a.0.ref_ptr.0 in
+    let o = a.0.ref_ptr.1 in
+    let h = a.0.now in
+    let vs = mut_vals a.0 in
+    let al = a.1.0 in
+    let hv = heap_laws.lowers.lowered al in
     let y : W.Ghost = ((κs, qs, bounds, a, (vs, (hv ∷ [], tt))), tt) in
     let To : RattleType = type_at f.signature.result κs in
-    qed 𝓛 (((‵ (flft κs.0 qs.0) ⊛ ‵ ftrue) ⊛ ‵ ((MutRef (named 0) κs.0 R).own_val a.0 vs) ⊛ ‵ (heap.the_row.own_val al (hv ∷ [])) ⊛ ‵ ftrue) ∷ raw (fact 𝓤 (IsTrue h.full)) ∷ []) ∵
+    qed 𝓛 (((‵ (flft κs.0 qs.0) ⊛ ‵ ftrue) ⊛ ‵ ((MutRef (named 0) κs.0 R).own_val a.0 vs) ⊛ ‵ (heap.the_row.own_val al (hv ∷ [])) ⊛ ‵ ftrue)
+    ∷ raw (fact 𝓤 (IsTrue h.full)) ∷ []) ∵
     move ! (1 ∷ []) $ heard ! _ (λ full. split ! $ split ! $ move ! (2 ∷ []) $ split3 ! $ keep ! (0 ∷ 3 ∷ 1 ∷ []) $
     enter ! _ _ _ _ _ $ alloc_all ! (λ l. pass_all ! refl ((tt, tt), ((tt, ((tt, tt), tt)), tt)) $
     fsplit3 ! $ move ! (1 ∷ 2 ∷ 3 ∷ []) $ opens ! tt R b o (λ us.
     move ! (1 ∷ []) $ peeks ! R _ (shows 𝓛 R) h us (λ is. fsplit ! $ move ! (1 ∷ []) $
     rewrite ! 0 (λ (t : Bool). ‵ (string_owns t h.at h.string)) full refl $
-    in_a_block ! h.at (λ p. box_owns (ghosts.dealloc_token al) Held p h.string) (fst∗ 𝓤 (never 𝓤) (sem 𝓛 (ghosts.dealloc_token al (bare (lone Held.mir)) null_ptr))) (λ b' o' e.
+    in_a_block ! h.at (λ p. box_owns (ghosts.dealloc_token al) Held p h.string)
+    (fst∗ 𝓤 (never 𝓤) (sem 𝓛 (ghosts.dealloc_token al (bare (lone Held.mir)) null_ptr))) (λ b' o' e.
     let at_block = lowers.val_is h us is ∙ ap (λ (p : Ptr). lowers.lowered (record h { at = p }) ∷ []) e in
     let Cell = λ (ws : List Val). ‵ (cell_at full_share R.mir ws b o) in
     rewrite ! 2 Cell at_block refl $
@@ -50,10 +65,13 @@ take_parts_spec 𝓤 𝓛 𝓜 𝓡 wired =
     box_in E ! d b' o' h.string refl refl $ use1 𝓛 (‵ (To.own_val made (word E hv b' o' ∷ []))) (id⊢ 𝓤 _) $ move ! (1 ∷ []) $ drop ! $
     let h' : R.Denot = record { at = block_ptr b' o'; full = false; string = h.string } in
     let w' = lowers.lowered h' in
-    nothing ! $ nothing ! $ feq_i ! (List Val) (vbool false ∷ []) (vbool false ∷ []) refl $ fjoin ! $ feq_i ! (List Val) (vptr b' o' ∷ []) (vptr b' o' ∷ []) refl $ fjoin ! $ feq_i ! (List Val) (w' ∷ []) (w' ∷ []) refl $ fjoin ! $
-    fpack ! (Valss (RawPtr ∷ bool ∷ [])) (within (shape the_type) (block_ptr b' o', (false, tt)) (w' ∷ [])) (vptr b' o' ∷ [], (vbool false ∷ [], tt)) $ fjoin ! $
+    nothing ! $ nothing ! $ feq_i ! (List Val) (vbool false ∷ []) (vbool false ∷ []) refl $ fjoin ! $
+    feq_i ! (List Val) (vptr b' o' ∷ []) (vptr b' o' ∷ []) refl $ fjoin ! $ feq_i ! (List Val) (w' ∷ []) (w' ∷ []) refl $ fjoin ! $
+    fpack ! (Valss (RawPtr ∷ bool ∷ [])) (within (shape the_type) (block_ptr b' o', (false, tt)) (w' ∷ []))
+    (vptr b' o' ∷ [], (vbool false ∷ [], tt)) $ fjoin ! $
     -- [what the empty handle owns; the parts; the handle's cell; the open borrow; the reference]
     move ! (2 ∷ 0 ∷ 3 ∷ 4 ∷ 5 ∷ []) $ closes ! tt R h' (w' ∷ []) b o $
     returns ! (look_at ! 0 refl) $ free_all ! refl $ move ! (4 ∷ []) $
     suffices ! _ (ends_at 𝓛 f.ended stayed c y (word E hv b' o') made (h', (tt, tt)) (tt, (tt, tt))) $ says_two ! (refl, refl) $
-    group ! 3 $ nothing ! $ nothing ! $ join ! $ move ! (1 ∷ 0 ∷ []) $ join ! $ nothing ! $ move ! (2 ∷ 0 ∷ []) $ join ! $ frame ! $ frame ! $ done !))))))
+    group ! 3 $ nothing ! $ nothing ! $ join ! $ move ! (1 ∷ 0 ∷ []) $ join ! $ nothing ! $ move ! (2 ∷ 0 ∷ []) $ join ! $ frame ! $
+    frame ! $ done !))))))

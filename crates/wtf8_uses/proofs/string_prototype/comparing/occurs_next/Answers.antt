@@ -13,7 +13,8 @@ returns g c =
     let search = c.args.search.now in
     let found = take (length search) (unread_units c.args.units.now) in
     let units = YieldsList-from_first (λ x. x) unread_units (unread_units c.args.units.now) (ap unread_units c.in-Ok.ensures.cases) in
-    let front = YieldsList-from_take (length search) (YieldsList-at c.take-found.ensures.source units) (c.take-found.ensures.count ∙ c.unit_len.ensures) in
+    let front = YieldsList-from_take (length search) (YieldsList-at c.take-found.ensures.source units)
+    (c.take-found.ensures.count ∙ c.unit_len.ensures) in
     let searched = c.to_ill_formed_utf16-searched.ensures.units ∙ c.as_wtf8.ensures.units in
     let compared = cmp_from_yields_List (λ x y. y ≡ x) _ nat_cmp c.cmp.result c.cmp.ensures.ran front
     (λ it e. YieldsList-from_first (λ x. x) unread_units search (ap unread_units e ∙ searched)) (λ x y. refl) in

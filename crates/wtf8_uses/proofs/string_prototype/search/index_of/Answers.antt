@@ -7,7 +7,8 @@ use Rattle.wtf8_uses.proofs.string_prototype.search.index_of.Goals as goal
 
 pub returns-then-occurs_next-clause-some : goal.returns-then-occurs_next-clause-some
 returns-then-occurs_next-clause-some g c =
-    let there = subst (λ z. take (length c.args.search.now) z ≡ c.args.search.now) c.loop-index.invariant.0 (c.occurs_next.ensures.0 c.if-occurs_next.true) in
+    let there = subst (λ z. take (length c.args.search.now) z ≡ c.args.search.now) c.loop-index.invariant.0
+    (c.occurs_next.ensures.0 c.if-occurs_next.true) in
     record { after = search rules; occurs = record { within = search rules; there = there }; no_earlier = c.loop-index.invariant.1 }
 
 pub loop-index-preserved : goal.loop-index-preserved

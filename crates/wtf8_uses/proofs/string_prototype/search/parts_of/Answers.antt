@@ -6,4 +6,5 @@ use Rattle.wtf8_uses.proofs.string_prototype.search.parts_of.Goals as goal
 pub returns : goal.returns
 returns g c =
     map_from_collect _ c.collect.ensures.ran
-    (YieldsList-from_slice_split _ _ c.args.units.now c.split.ensures.rest c.split.ensures.done c.split.ensures.closure (λ x r q k. search (rules, tests)))
+    (YieldsList-from_slice_split _ _ c.args.units.now c.split.ensures.rest c.split.ensures.done c.split.ensures.closure
+    (λ x r q k. search (rules, tests)))

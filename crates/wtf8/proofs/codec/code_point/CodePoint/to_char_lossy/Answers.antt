@@ -1,4 +1,5 @@
-use Rattle.wtf8.proofs.Common.{◌≡◌, ◌↔◌, ℕ, Option, None, Some, IfSome, refl, sym, ◌∙◌, false≢true, number, replace_surrogate, IsSurrogate, IsNone, unwrap_or}
+use Rattle.wtf8.proofs.Common.{◌≡◌, ◌↔◌, ℕ, Option, None, Some, IfSome, refl, sym, ◌∙◌, false≢true, number, replace_surrogate, IsSurrogate}
+use Rattle.wtf8.proofs.Common.{IsNone, unwrap_or}
 use Rattle.wtf8.proofs.lemmas.codec.Scalars.{replace_surrogate-surrogate, replace_surrogate-scalar}
 use Rattle.wtf8.proofs.codec.code_point.CodePoint.to_char_lossy.Goals as goal
 
@@ -7,4 +8,5 @@ lossy_value None n h e = sym (replace_surrogate-surrogate n (h.0 refl))
 lossy_value (Some c) n h e = e ∙ sym (replace_surrogate-scalar n (λ s. false≢true (sym (h.1 s))))
 
 pub returns-clause-value : goal.returns-clause-value
-returns-clause-value c = c.unwrap_or.ensures ∙ lossy_value c.to_char.result (number c.args.self.now) c.to_char.ensures.none c.to_char.ensures.some
+returns-clause-value c =
+    c.unwrap_or.ensures ∙ lossy_value c.to_char.result (number c.args.self.now) c.to_char.ensures.none c.to_char.ensures.some

@@ -9,4 +9,5 @@ pub returns-clause-points : goal.returns-clause-points
 returns-clause-points c = returns-clause-bytes c ∙ cmp_points _ _ c.args.self.now.well_formed.encoded c.args.other.now.well_formed.encoded
 
 pub returns-clause-order : goal.returns-clause-order
-returns-clause-order c = points_order _ _ _ c.args.self.now.well_formed.encoded c.args.other.now.well_formed.encoded (returns-clause-bytes c)
+returns-clause-order c =
+    points_order _ _ _ c.args.self.now.well_formed.encoded c.args.other.now.well_formed.encoded (returns-clause-bytes c)

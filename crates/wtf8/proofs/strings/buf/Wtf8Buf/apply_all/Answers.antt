@@ -1,8 +1,9 @@
-use Rattle.wtf8.proofs.Common.{◌≡◌, ◌<◌, ◌+◌, ℕ, List, [], ◌∷◌, ◌++◌, length, get_or, Bool, true, false, cond, Some, refl, ap, ◌∙◌, sym, subst, arith}
-use Rattle.wtf8.proofs.Common.{append_assoc, All, Step, Run, CallsAppend, IsNoTruncation, Build, Reserve, Truncate, TruncateUnits, ◌≤◌, take, drop, inl, inr}
-use Rattle.wtf8.proofs.Common.{false≢true, cases_lt, append-nil, IsForm, EachCallFits, All-nil, All-cons, take_all, All-get_or, FitWithin, none-some}
+use Rattle.wtf8.proofs.Common.{◌≡◌, ◌<◌, ◌+◌, ℕ, List, [], ◌∷◌, ◌++◌, length, get_or, Bool, true, false, cond, Some, refl, ap, ◌∙◌, sym}
+use Rattle.wtf8.proofs.Common.{subst, arith, append_assoc, All, Step, Run, CallsAppend, IsNoTruncation, Build, Reserve, Truncate}
+use Rattle.wtf8.proofs.Common.{TruncateUnits, ◌≤◌, take, drop, inl, inr, false≢true, cases_lt, append-nil, IsForm, EachCallFits, All-nil}
+use Rattle.wtf8.proofs.Common.{All-cons, take_all, All-get_or, FitWithin, none-some, LeavesReserved}
 use Rattle.std.proofs.lemmas.Option.{same_Some}
-use Rattle.wtf8.specs.Building.{appended_units, reserved_bytes, LeavesReserved}
+use Rattle.wtf8.specs.Building.{appended_units, reserved_bytes}
 use Rattle.wtf8.proofs.lemmas.strings.StringLaws.{reserved_more}
 use Rattle.wtf8.proofs.lemmas.strings.Concatenation.{take-cons-drop, take-push}
 use Rattle.wtf8.proofs.lemmas.strings.ExtendedForms.{Found, found_more, CallFits-larger, beginning_of_form}
@@ -13,7 +14,8 @@ use Rattle.wtf8.proofs.strings.buf.Wtf8Buf.apply_all.Goals as goal
 -- Runs of building calls, call by call, and the units that pushes and extensions append.
 
 -- a run with one more call
-run_more : (u : List ℕ) (calls : List Build) (mid : List ℕ) (n : ℕ) (call : Build) (v : List ℕ) (r : ℕ) → Run u calls mid n → Step mid call v r
+run_more : (u : List ℕ) (calls : List Build) (mid : List ℕ) (n : ℕ) (call : Build) (v : List ℕ) (r : ℕ) → Run u calls mid n
+    → Step mid call v r
     → Run u (calls ++ call ∷ []) v (n + r)
 run_more u [] mid n call v r x s = (v, r, 0, subst (λ m. Step m call v r) x.0 s, (refl, refl), omega (arith, x.1))
 run_more u (c ∷ calls) mid n call v r x s = (x.0, x.1, x.2 + r, x.3, run_more x.0 calls mid x.2 call v r x.4 s, omega (arith, x.5))
@@ -31,7 +33,12 @@ Adds-from_appended u (Truncate k) a e = absurd (none-some a e)
 Adds-from_appended u (TruncateUnits n) a e = absurd (none-some a e)
 Adds-from_appended u call a e =
     let same : _ ≡ a = same_Some _ a e in
-    record { no_truncation = tt; reserves_none = refl; step = (ap (λ b. u ++ b) (sym same), refl); only = λ v r s. s.0 ∙ ap (λ b. u ++ b) same }
+    record {
+      no_truncation = tt;
+      reserves_none = refl;
+      step = (ap (λ b. u ++ b) (sym same), refl);
+      only = λ v r s. s.0 ∙ ap (λ b. u ++ b) same;
+    }
 
 -- a run of pushes and extensions appends the units of all, and none of them truncates
 run_appends : (u : List ℕ) (calls : List Build) (v : List ℕ) (n : ℕ) (a : List ℕ) → Run u calls v n → CallsAppend calls a → v ≡ u ++ a
@@ -43,10 +50,12 @@ run_appends u (call ∷ calls) v n a x e =
 
 none_truncates : (calls : List Build) (a : List ℕ) → CallsAppend calls a → All IsNoTruncation calls
 none_truncates [] a e = All-nil IsNoTruncation
-none_truncates (call ∷ calls) a e = All-cons IsNoTruncation call calls (Adds-from_appended [] call e.0 e.2).no_truncation (none_truncates calls e.1 e.3)
+none_truncates (call ∷ calls) a e =
+    All-cons IsNoTruncation call calls (Adds-from_appended [] call e.0 e.2).no_truncation (none_truncates calls e.1 e.3)
 
 -- if all that they append fits the capacity, each fits
-each_call_fits : (u : List ℕ) (calls : List Build) (a : List ℕ) (capacity : ℕ) → CallsAppend calls a → FitWithin (u ++ a) 0 capacity → EachCallFits u calls (u ++ a) capacity
+each_call_fits : (u : List ℕ) (calls : List Build) (a : List ℕ) (capacity : ℕ) → CallsAppend calls a → FitWithin (u ++ a) 0 capacity
+    → EachCallFits u calls (u ++ a) capacity
 each_call_fits u [] a capacity e fit = ap (λ b. u ++ b) e ∙ append-nil u
 each_call_fits u (call ∷ calls) a capacity e fit =
     let mid = u ++ e.0 in
@@ -63,7 +72,8 @@ each_call_fits u (call ∷ calls) a capacity e fit =
       subst (λ w. EachCallFits mid calls w capacity) (sym whole) (each_call_fits mid calls e.1 capacity e.3 fits),
     )
 
-call_among : (calls : List Build) (i : ℕ) (call : Build) → i < length calls → call ≡ get_or calls i call → All IsNoTruncation calls → IsNoTruncation call
+call_among : (calls : List Build) (i : ℕ) (call : Build) → i < length calls → call ≡ get_or calls i call → All IsNoTruncation calls
+    → IsNoTruncation call
 call_among calls i call h e all = subst IsNoTruncation (sym e) (All-get_or IsNoTruncation calls i call h all)
 
 -- the number of refused truncations after one more call
@@ -75,7 +85,8 @@ refused-unchanged kept n e = rw e (omega arith)
 
 -- of a list that begins with the calls up to the refused one, not each fits
 no_room : (g : Over) (c : In_default g) (more : List Build) (v : List ℕ)
-    → ¬ (EachCallFits c.args.self.now.units (take c.loop-done.done c.args.calls.now ++ c.index-calls-done.result ∷ more) v c.args.self.now.capacity)
+    → ¬ (EachCallFits c.args.self.now.units
+    (take c.loop-done.done c.args.calls.now ++ c.index-calls-done.result ∷ more) v c.args.self.now.capacity)
 no_room g c more v whole =
     let found = c.loop-done.invariant.found in
     let here = found.rest (c.index-calls-done.result ∷ more) v whole in
@@ -92,17 +103,26 @@ loop-done-preserved g c =
     let was = c.loop-done.self.units in
     let now = c.apply.new.self.units in
     let run = run_more u (take i calls) was c.loop-done.refused call now (cond c.in-Ok.kept 0 1) inv.ran c.in-Ok.ensures.step in
-    let count : (c.if-not-kept.refused ≡ c.loop-done.refused + cond c.in-Ok.kept 0 1) × (c.if-not-kept.refused ≤ i + 1) = elim c.if-not-kept.branch [
-      | then-not-kept w ↦ (w.refused-is ∙ refused-one_more c.in-Ok.kept c.loop-done.refused w.if-not-kept.true, omega (arith, w.refused-is, inv.counted))
-      | else-not-kept w ↦ (w.refused-is ∙ refused-unchanged c.in-Ok.kept c.loop-done.refused w.if-not-kept.false, omega (arith, w.refused-is, inv.counted))
+    let count : (c.if-not-kept.refused ≡ c.loop-done.refused + cond c.in-Ok.kept 0 1) × (c.if-not-kept.refused ≤ i + 1) =
+    elim c.if-not-kept.branch [
+      | then-not-kept w ↦
+          (w.refused-is ∙ refused-one_more c.in-Ok.kept c.loop-done.refused w.if-not-kept.true, omega (arith, w.refused-is, inv.counted))
+      | else-not-kept w ↦
+          (w.refused-is ∙ refused-unchanged c.in-Ok.kept c.loop-done.refused w.if-not-kept.false, omega (arith, w.refused-is, inv.counted))
     ] in record {
-      ran = subst (λ d. Run u d now c.if-not-kept.refused) (sym more) (subst (λ n. Run u (take i calls ++ call ∷ []) now n) (sym count.0) run);
+      ran = subst (λ d. Run u d now c.if-not-kept.refused) (sym more)
+          (subst (λ n. Run u (take i calls ++ call ∷ []) now n) (sym count.0) run);
       counted = count.1;
       found = subst (λ d. Found u d now c.args.self.now.capacity c.apply.new.self.capacity) (sym more)
           (found_more (cond c.in-Ok.kept 0 1) inv.found c.in-Ok.ensures.step (λ v f. c.in-Ok.ensures.capacity f.no_truncation));
-      reserved = subst (λ d. LeavesReserved u d c.apply.new.self.capacity) (sym more) (reserved_more c.loop-done.refused inv.reserved inv.ran c.in-Ok.ensures.capacity (λ m e.
+      reserved = subst (λ d. LeavesReserved u d c.apply.new.self.capacity) (sym more)
+          (reserved_more c.loop-done.refused inv.reserved inv.ran c.in-Ok.ensures.capacity (λ m e.
           let same = (subst (λ d. Step was d now (cond c.in-Ok.kept 0 1)) e c.in-Ok.ensures.step).0 in
-          record { whole = c.apply.new.self.bytes; form = subst (IsForm c.apply.new.self.bytes) same c.apply.new.self.form; within = c.in-Ok.ensures.reserved m e }));
+          record {
+            whole = c.apply.new.self.bytes;
+            form = subst (IsForm c.apply.new.self.bytes) same c.apply.new.self.form;
+            within = c.in-Ok.ensures.reserved m e;
+          }));
       no_smaller = λ all.
           omega (arith, inv.no_smaller all, c.in-Ok.ensures.capacity (call_among calls i call (omega arith) c.index-calls-done.is all));
     }
@@ -110,7 +130,8 @@ loop-done-preserved g c =
 pub returns-in_default-clause-found : goal.returns-in_default-clause-found
 returns-in_default-clause-found g c v room =
     let whole = take-cons-drop c.args.calls.now c.loop-done.done c.index-calls-done.result (omega arith) c.index-calls-done.is in
-    absurd (no_room g (goal.at.returns-in_default-clause-found g c).In_default (drop (c.loop-done.done + 1) c.args.calls.now) v (rw whole room))
+    absurd
+    (no_room g (goal.at.returns-in_default-clause-found g c).In_default (drop (c.loop-done.done + 1) c.args.calls.now) v (rw whole room))
 
 pub returns-in_default-clause-missed : goal.returns-in_default-clause-missed
 returns-in_default-clause-missed g c v room =
@@ -123,12 +144,14 @@ returns-in_default-clause-no_smaller g c all =
     omega (arith, c.loop-done.invariant.no_smaller all, c.in_default.ensures.capacity none)
 
 pub returns-in_default-clause-room : goal.returns-in_default-clause-room
-returns-in_default-clause-room g c v all fit = returns-in_default-clause-found g c _ (each_call_fits c.args.self.now.units c.args.calls.now v _ all fit)
+returns-in_default-clause-room g c v all fit =
+    returns-in_default-clause-found g c _ (each_call_fits c.args.self.now.units c.args.calls.now v _ all fit)
 
 pub returns-in_default-clause-outgrown : goal.returns-in_default-clause-outgrown
 returns-in_default-clause-outgrown g c v all w form = elim (cases_lt c.args.self.now.capacity (length w)) [
   | inl h ↦ h
-  | inr h ↦ absurd (returns-in_default-clause-missed g c _ (each_call_fits c.args.self.now.units _ v _ all (record { whole = w; form = form; within = omega (arith, h) })))
+  | inr h ↦ absurd (returns-in_default-clause-missed g c _
+      (each_call_fits c.args.self.now.units _ v _ all (record { whole = w; form = form; within = omega (arith, h) })))
 ]
 
 pub returns-in_default-clause-capacity : goal.returns-in_default-clause-capacity

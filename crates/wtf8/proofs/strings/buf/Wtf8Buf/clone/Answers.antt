@@ -5,9 +5,11 @@ use Rattle.wtf8.proofs.strings.buf.Wtf8Buf.clone.Goals as goal
 
 pub from_well_formed-requires-clause-scalar : goal.from_well_formed-requires-clause-scalar
 from_well_formed-requires-clause-scalar g c h =
-    scalar_to-equal_bytes c.self.inside.utf8_prefix.len c.self.inside.well_formed h (c.in_ok-bytes.ensures.items ∙ c.as_slice.ensures.value) c.self.inside.scalar_prefix
+    scalar_to-equal_bytes c.self.inside.utf8_prefix.len c.self.inside.well_formed h
+    (c.in_ok-bytes.ensures.items ∙ c.as_slice.ensures.value) c.self.inside.scalar_prefix
 
 pub returns-clause-units : goal.returns-clause-units
 returns-clause-units g c =
-    c.from_well_formed.ensures.units (IsWellFormed-equal_bytes c.self.inside.well_formed (c.in_ok-bytes.ensures.items ∙ c.as_slice.ensures.value))
+    c.from_well_formed.ensures.units
+    (IsWellFormed-equal_bytes c.self.inside.well_formed (c.in_ok-bytes.ensures.items ∙ c.as_slice.ensures.value))
     ∙ ap (λ (t : UnitString). t.units) c.self.view_is

@@ -1,5 +1,5 @@
-use Rattle.wtf8.proofs.Common.{ℕ, rules, ◌≡◌, ◌+◌, ◌++◌, ◌∷◌, ◌<◌, ◌∙◌, length, take, drop, arith, ap, sym, append_assoc, false≢true, number, numbers, units}
-use Rattle.wtf8.proofs.Common.{units_of}
+use Rattle.wtf8.proofs.Common.{ℕ, rules, ◌≡◌, ◌+◌, ◌++◌, ◌∷◌, ◌<◌, ◌∙◌, length, take, drop, arith, ap, sym, append_assoc, false≢true}
+use Rattle.wtf8.proofs.Common.{number, numbers, units, units_of}
 use Rattle.wtf8.proofs.lemmas.strings.Concatenation.{take-cons-drop}
 use Rattle.wtf8.proofs.lemmas.strings.ExtendedForms.{beginning_of_form, extended_length, units-points}
 use Rattle.wtf8.proofs.strings.buf.Wtf8Buf.extend_from_points.Goals as goal
@@ -16,11 +16,15 @@ returns-in_err-push-clause-room g c fit =
     let p = c.code_point-item.result in
     let below : i < length ps = omega arith in
     let inv = c.loop-code_point.invariant in
-    let all = ap (λ d. units (numbers d)) (sym (take-cons-drop ps i p below c.code_point-item.is)) ∙ units-points (take i ps) (p ∷ drop (i + 1) ps) in
+    let all = ap (λ d. units (numbers d)) (sym (take-cons-drop ps i p below c.code_point-item.is))
+    ∙ units-points (take i ps) (p ∷ drop (i + 1) ps) in
     let rest = units (numbers (drop (i + 1) ps)) in
-    let whole : c.args.self.now.units ++ units (numbers ps) ≡ c.loop-code_point.self.units ++ (units_of (number p) ++ rest) = rw (all, inv.0, append_assoc) in
-    let next = beginning_of_form (c.loop-code_point.self.units ++ units_of (number p)) rest fit.whole (rw (append_assoc, ← whole) fit.form) in
-    absurd (false≢true (c.in_err-push.ensures.room (record { whole = next.whole; form = next.form; within = omega (arith, next.within, fit.within, inv.1) })))
+    let whole : c.args.self.now.units ++ units (numbers ps) ≡ c.loop-code_point.self.units ++ (units_of (number p) ++ rest) =
+    rw (all, inv.0, append_assoc) in
+    let next =
+    beginning_of_form (c.loop-code_point.self.units ++ units_of (number p)) rest fit.whole (rw (append_assoc, ← whole) fit.form) in
+    absurd (false≢true
+    (c.in_err-push.ensures.room (record { whole = next.whole; form = next.form; within = omega (arith, next.within, fit.within, inv.1) })))
 
 pub returns-in_err-push-clause-err : goal.returns-in_err-push-clause-err
 returns-in_err-push-clause-err g c =

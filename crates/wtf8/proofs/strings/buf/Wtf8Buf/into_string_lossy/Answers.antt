@@ -10,4 +10,5 @@ from_utf8_unchecked-requires g c =
 pub returns-clause-len : goal.returns-clause-len
 returns-clause-len g c =
     let form = c.args.self.form in
-    ap (λ v. length v.items) c.from_utf8_unchecked.ensures.value ∙ (ap length c.into_lossy_bytes.ensures ∙ (length-lossy_points form.points ∙ ap length form.encoded))
+    ap (λ v. length v.items) c.from_utf8_unchecked.ensures.value
+    ∙ (ap length c.into_lossy_bytes.ensures ∙ (length-lossy_points form.points ∙ ap length form.encoded))

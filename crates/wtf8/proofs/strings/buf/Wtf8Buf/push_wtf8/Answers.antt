@@ -1,4 +1,5 @@
-use Rattle.wtf8.proofs.Common.{IsForm, ◌++◌, ◌∙◌, subst, sym, append-nil, ap, arith, length, refl, units, view_units, view_form, AreScalarTo}
+use Rattle.wtf8.proofs.Common.{IsForm, ◌++◌, ◌∙◌, subst, sym, append-nil, ap, arith, length, refl, units, view_units, view_form}
+use Rattle.wtf8.proofs.Common.{AreScalarTo}
 use Rattle.wtf8.proofs.lemmas.strings.ExtendedForms.{units_appended, kept_contents, room_found, utf8_prefix_after_append}
 use Rattle.wtf8.proofs.lemmas.strings.StringLaws.{grows_at_most, added_length, nothing_appended, room_left}
 use Rattle.wtf8.proofs.lemmas.codec.Readings.{points-nil, form_of, same_points}
@@ -36,11 +37,13 @@ returns-clause-empty g c e =
     returns-clause-room g c (record { whole = s.bytes; form = form; within = omega (arith, s.fits) })
 
 pub returns-clause-at_most : goal.returns-clause-at_most
-returns-clause-at_most g c = grows_at_most c.push_wtf8.result c.args.self.now _ (view_units c.args.other) (form_of c.self-1.given.0) (view_form c.args.other) (returns-clause-ok g c)
+returns-clause-at_most g c = grows_at_most c.push_wtf8.result c.args.self.now _ (view_units c.args.other) (form_of c.self-1.given.0)
+    (view_form c.args.other) (returns-clause-ok g c)
 
 pub returns-clause-room_left : goal.returns-clause-room_left
 returns-clause-room_left g c h = returns-clause-room g c (room_left c.args.self.now _ (view_units c.args.other) (view_form c.args.other) h)
 
 pub returns-clause-nothing : goal.returns-clause-nothing
 returns-clause-nothing g c e =
-    nothing_appended c.push_wtf8.result _ _ _ (ap units (points-nil c.args.other.well_formed (ap length e))) (returns-clause-ok g c) (returns-clause-kept g c)
+    nothing_appended c.push_wtf8.result _ _ _ (ap units (points-nil c.args.other.well_formed (ap length e))) (returns-clause-ok g c)
+    (returns-clause-kept g c)

@@ -14,9 +14,11 @@ invariant_of-self-inside g c =
     let same = ap (λ (t : UnitString). t.units) c.self.view_is in
     let cut = cut_at c.self.inside.well_formed c.args.new_len (subst (λ u. IsBoundary u c.args.new_len) (sym same) c.requires) in
     let own = c.self.inside in
-    let front = scalar_to-front own.utf8_prefix.len own.utf8_prefix.len cut.front cut.back (subst (AreScalarTo own.utf8_prefix.len) cut.points own.scalar_prefix) (omega arith) in
+    let front = scalar_to-front own.utf8_prefix.len own.utf8_prefix.len cut.front cut.back
+    (subst (AreScalarTo own.utf8_prefix.len) cut.points own.scalar_prefix) (omega arith) in
     let prefix = c.after_truncate-self-inside in
-    let now : IsWellFormed c.truncate.new.self.items = IsWellFormed-equal_bytes cut.before (items-truncate g (goal.at.invariant_of-self-inside g c).After-truncate) in
+    let now : IsWellFormed c.truncate.new.self.items =
+    IsWellFormed-equal_bytes cut.before (items-truncate g (goal.at.invariant_of-self-inside g c).After-truncate) in
     (now, (subst (AreScalarTo prefix.result.len) (sym cut.before_points) (prefix.ensures cut.front cut.splits.front_len front), tt))
 
 pub returns-clause-units : goal.returns-clause-units
@@ -27,7 +29,8 @@ returns-clause-units g c =
       front = cut.front;
       back = cut.back;
       splits = cut.splits;
-      same_units = ap units (sym (same_points c.self-1.given.0 cut.before (items-truncate g (goal.at.returns-clause-units g c).After-truncate) ∙ cut.before_points));
+      same_units = ap units (sym (same_points c.self-1.given.0 cut.before
+          (items-truncate g (goal.at.returns-clause-units g c).After-truncate) ∙ cut.before_points));
     })
 
 pub returns-clause-bytes : goal.returns-clause-bytes

@@ -1,5 +1,5 @@
-use Rattle.wtf8.proofs.Common.{◌≡◌, ℕ, ◌∙◌, List, [], ◌∷◌, ◌++◌, drop, arith, ap, sym, refl, length-drop, IsWellFormed, units, Unread, unread_units, held_trail}
-use Rattle.wtf8.proofs.Common.{after_held_trail, unread_after, unread_at, StepsUnit}
+use Rattle.wtf8.proofs.Common.{◌≡◌, ℕ, ◌∙◌, List, [], ◌∷◌, ◌++◌, drop, arith, ap, sym, refl, length-drop, IsWellFormed, units, Unread}
+use Rattle.wtf8.proofs.Common.{unread_units, held_trail, after_held_trail, unread_after, unread_at, StepsUnit}
 use Rattle.wtf8.proofs.lemmas.codec.Readings.{same_points}
 use Rattle.wtf8.proofs.lemmas.strings.UnitCuts.{nothing_held_at_end}
 use Rattle.wtf8.proofs.strings.iters.IllFormedUtf16CodeUnits.next_unit.Goals as goal
@@ -19,14 +19,17 @@ left_by {v} {next} t y = ap (held_with (held_trail (drop next v))) (same_points 
 pub returns-then-self-clause-first : goal.returns-then-self-clause-first
 returns-then-self-clause-first c =
     let s = c.self.inside in
-    let none = nothing_held_at_end (drop s.position s.bytes.now) s.after (omega (arith, length-drop s.position s.bytes.now, c.if-self.true)) in
+    let none =
+    nothing_held_at_end (drop s.position s.bytes.now) s.after (omega (arith, length-drop s.position s.bytes.now, c.if-self.true)) in
     let empty = ap unread_units (sym c.self.view_is) ∙ (ap (λ h. h ++ units s.after.points) none.0 ∙ ap units none.1) in (empty, empty)
 
 pub returns-then-self-clause-left : goal.returns-then-self-clause-left
 returns-then-self-clause-left c =
     let s = c.self.inside in
-    let none = nothing_held_at_end (drop s.position s.bytes.now) s.after (omega (arith, length-drop s.position s.bytes.now, c.if-self.true)) in
-    let empty = sym c.self.view_is ∙ (ap (λ h. held_with h s.after.points) none.0 ∙ ap (held_with []) none.1) in empty ∙ ap unread_after (sym empty)
+    let none =
+    nothing_held_at_end (drop s.position s.bytes.now) s.after (omega (arith, length-drop s.position s.bytes.now, c.if-self.true)) in
+    let empty = sym c.self.view_is ∙ (ap (λ h. held_with h s.after.points) none.0 ∙ ap (held_with []) none.1) in
+    empty ∙ ap unread_after (sym empty)
 
 pub invariant_of-self-inside : goal.invariant_of-self-inside
 invariant_of-self-inside c =

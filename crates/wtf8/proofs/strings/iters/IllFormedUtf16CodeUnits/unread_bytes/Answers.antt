@@ -1,6 +1,7 @@
-use Rattle.wtf8.proofs.Common.{◌≡◌, ℕ, ◌+◌, ◌*◌, inl, inr, List, [], ◌∷◌, length, ap, drop, arith, length-drop, cases_lt, bytes, IsWellFormed, held_trail}
-use Rattle.wtf8.proofs.Common.{after_held_trail}
-use Rattle.wtf8.proofs.lemmas.strings.UnitCuts.{continuation_range, ascii_no_continuation, lead_no_continuation, held_trail-none, held_trail-some}
+use Rattle.wtf8.proofs.Common.{◌≡◌, ℕ, ◌+◌, ◌*◌, inl, inr, List, [], ◌∷◌, length, ap, drop, arith, length-drop, cases_lt, bytes}
+use Rattle.wtf8.proofs.Common.{IsWellFormed, held_trail, after_held_trail}
+use Rattle.wtf8.proofs.lemmas.strings.UnitCuts.{continuation_range, ascii_no_continuation, lead_no_continuation, held_trail-none}
+use Rattle.wtf8.proofs.lemmas.strings.UnitCuts.{held_trail-some}
 use Rattle.wtf8.proofs.lemmas.codec.Readings.{lists_have_lengths}
 use Rattle.wtf8.proofs.strings.iters.IllFormedUtf16CodeUnits.unread_bytes.Goals as goal
 
@@ -9,10 +10,16 @@ length-held : (w : List ℕ) (h : IsWellFormed (after_held_trail w)) → length 
 length-held [] h = omega (arith, ap length h.encoded)
 length-held (a ∷ []) h = omega (arith, ap length h.encoded)
 length-held (a ∷ b ∷ w) h = elim (cases_lt a 0x80) [
-  | inl l ↦ let n = held_trail-none (a ∷ b ∷ w) (ascii_no_continuation a l) in omega (arith, ap length n.0, ap length n.1, ap length h.encoded)
+  | inl l ↦
+      let n = held_trail-none (a ∷ b ∷ w) (ascii_no_continuation a l) in
+      omega (arith, ap length n.0, ap length n.1, ap length h.encoded)
   | inr l ↦ elim (cases_lt a 0xC0) [
-    | inl g ↦ let n = held_trail-some (a ∷ b ∷ w) (omega arith) (continuation_range a l g) in omega (arith, ap length n.0, ap length n.1, ap length h.encoded)
-    | inr g ↦ let n = held_trail-none (a ∷ b ∷ w) (lead_no_continuation a g) in omega (arith, ap length n.0, ap length n.1, ap length h.encoded)
+    | inl g ↦
+        let n = held_trail-some (a ∷ b ∷ w) (omega arith) (continuation_range a l g) in
+        omega (arith, ap length n.0, ap length n.1, ap length h.encoded)
+    | inr g ↦
+        let n = held_trail-none (a ∷ b ∷ w) (lead_no_continuation a g) in
+        omega (arith, ap length n.0, ap length n.1, ap length h.encoded)
   ]
 ]
 
@@ -27,10 +34,19 @@ returns-clause-value c =
     let s = c.self.inside in
     let held = ap (λ u. length u.held) c.self.view_is in
     let points = ap (λ u. length (bytes u.points)) c.self.view_is in
-    omega (arith, held, points, c.held_units.ensures.value, length-held (drop s.position s.bytes.now) s.after, length-drop s.position s.bytes.now)
+    omega (
+      arith,
+      held,
+      points,
+      c.held_units.ensures.value,
+      length-held (drop s.position s.bytes.now) s.after,
+      length-drop s.position s.bytes.now,
+    )
 
 pub returns-clause-at_least_units : goal.returns-clause-at_least_units
 returns-clause-at_least_units c = let b = lists_have_lengths c.args.self.now.points in omega (arith, b.units_least, returns-clause-value c)
 
 pub returns-clause-at_most_three_times : goal.returns-clause-at_most_three_times
-returns-clause-at_most_three_times c = let b = lists_have_lengths c.args.self.now.points in omega (arith, b.units_most, returns-clause-value c)
+returns-clause-at_most_three_times c =
+    let b = lists_have_lengths c.args.self.now.points in
+    omega (arith, b.units_most, returns-clause-value c)

@@ -17,20 +17,23 @@ read-len-requires c =
 pub overflow_add-self : goal.overflow_add-self
 overflow_add-self c =
     let s = c.self.inside in
-    let t = Taken-from_first s.bytes.now s.position s.well_formed (number c.read-len.result.0) (s.position + c.read-len.result.1) (omega (arith, s.within, c.if-self.false))
+    let t = Taken-from_first s.bytes.now s.position s.well_formed (number c.read-len.result.0)
+    (s.position + c.read-len.result.1) (omega (arith, s.within, c.if-self.false))
     (λ b. let was = c.read-len.ensures (BeginsWithPoint-equal_bytes b c.split_at.ensures.back) in (was.0, omega (arith, was.1))) in
     let w = t.within in omega (arith, w)
 
 pub invariant_of-self-inside : goal.invariant_of-self-inside
 invariant_of-self-inside c =
     let s = c.self.inside in
-    let t = Taken-from_first s.bytes.now s.position s.well_formed (number c.read-len.result.0) (s.position + c.read-len.result.1) (omega (arith, s.within, c.if-self.false))
+    let t = Taken-from_first s.bytes.now s.position s.well_formed (number c.read-len.result.0)
+    (s.position + c.read-len.result.1) (omega (arith, s.within, c.if-self.false))
     (λ b. let was = c.read-len.ensures (BeginsWithPoint-equal_bytes b c.split_at.ensures.back) in (was.0, omega (arith, was.1))) in
     (t.within, (t.rest, tt))
 
 pub returns : goal.returns
 returns c =
     let s = c.self.inside in
-    let t = Taken-from_first s.bytes.now s.position s.well_formed (number c.read-len.result.0) (s.position + c.read-len.result.1) (omega (arith, s.within, c.if-self.false))
+    let t = Taken-from_first s.bytes.now s.position s.well_formed (number c.read-len.result.0)
+    (s.position + c.read-len.result.1) (omega (arith, s.within, c.if-self.false))
     (λ b. let was = c.read-len.ensures (BeginsWithPoint-equal_bytes b c.split_at.ensures.back) in (was.0, omega (arith, was.1))) in
     sym c.self.view_is ∙ (t.joined ∙ ap (λ r. number c.read-len.result.0 ∷ r) (same_points t.rest c.self-1.given.1.0 refl))

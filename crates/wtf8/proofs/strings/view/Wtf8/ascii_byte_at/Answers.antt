@@ -1,4 +1,4 @@
-use Rattle.wtf8.specs.View.{view_form}
+use Rattle.wtf8.proofs.Common.{view_form}
 use Rattle.wtf8.proofs.lemmas.strings.PositionLaws.{ascii_alone, ascii_one_unit}
 use Rattle.wtf8.proofs.strings.view.Wtf8.ascii_byte_at.Goals as goal
 

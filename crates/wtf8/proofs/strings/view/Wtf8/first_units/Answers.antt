@@ -20,7 +20,8 @@ pub returns-in-Some-divided-clause-units : goal.returns-in-Some-divided-clause-u
 returns-in-Some-divided-clause-units c =
     let h = c.args.self.well_formed in
     let x = divided_from_cut c.in-Some-divided.is c.in-Some.ensures.some in
-    let front = points_before h c.slice_to-front.result.well_formed x.front (_ ∷ x.rest) _ x.joined x.front_len c.slice_to-front.ensures.bytes in
+    let front =
+    points_before h c.slice_to-front.result.well_formed x.front (_ ∷ x.rest) _ x.joined x.front_len c.slice_to-front.ensures.bytes in
     rw (front, c.lead_of.ensures) (sym x.kept)
 
 pub returns-in-None-clause-lead : goal.returns-in-None-clause-lead

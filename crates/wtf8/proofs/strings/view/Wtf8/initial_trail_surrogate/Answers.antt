@@ -4,7 +4,8 @@ use Rattle.wtf8.proofs.lemmas.codec.Readings.{first_of}
 use Rattle.wtf8.proofs.strings.view.Wtf8.initial_trail_surrogate.Goals as goal
 
 -- the first three bytes of a string that begins with a trail
-trail_by_lead : {w : List ℕ} (h : IsWellFormed w) (t : ℕ) (r : List ℕ) → IsTrail t → h.points ≡ t ∷ r → FirstPointByLead w t (length (encoding t))
+trail_by_lead : {w : List ℕ} (h : IsWellFormed w) (t : ℕ) (r : List ℕ) → IsTrail t → h.points ≡ t ∷ r
+    → FirstPointByLead w t (length (encoding t))
 trail_by_lead h t r i e = (begins_with t (bytes r) _ (omega arith) (sym h.encoded ∙ ap bytes e)).by_lead
 
 pub surrogate_after_ed-requires-clause-third : goal.surrogate_after_ed-requires-clause-third

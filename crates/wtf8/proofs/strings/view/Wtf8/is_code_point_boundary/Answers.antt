@@ -12,6 +12,8 @@ returns-then-index-self c = (
 pub returns-else-index-self : goal.returns-else-index-self
 returns-else-index-self c =
     let n = length c.args.self.now.bytes.now in (
-      λ t. let e = (Decides-eqb c.args.index n).0 t in boundary_from_byte c.args.self.now.well_formed c.args.index (omega arith) (λ m. absurd (omega arith)),
-      λ b. (Decides-eqb c.args.index n).1 (omega (arith, c.if-index-self.false, (cut_at c.args.self.now.well_formed c.args.index b).within)),
+      λ t. let e = (Decides-eqb c.args.index n).0 t in
+          boundary_from_byte c.args.self.now.well_formed c.args.index (omega arith) (λ m. absurd (omega arith)),
+      λ b. (Decides-eqb c.args.index n).1
+          (omega (arith, c.if-index-self.false, (cut_at c.args.self.now.well_formed c.args.index b).within)),
     )

@@ -4,7 +4,9 @@ use Rattle.wtf8.proofs.lemmas.strings.PositionLaws.{front_and_back}
 use Rattle.wtf8.proofs.strings.view.Wtf8.slice_from.Goals as goal
 
 pub skip_bytes-requires : goal.skip_bytes-requires
-skip_bytes-requires c = let cut = cut_at c.args.self.now.well_formed c.args.begin c.requires in record { within = cut.within; well_formed = cut.after }
+skip_bytes-requires c =
+    let cut = cut_at c.args.self.now.well_formed c.args.begin c.requires in
+    record { within = cut.within; well_formed = cut.after }
 
 pub returns : goal.returns
 returns c =
@@ -12,4 +14,8 @@ returns c =
     let points = c.skip_bytes.ensures.points cut.after ∙ cut.after_points in
     let part : IsBack (view_units c.args.self.now) c.args.begin (view_units c.skip_bytes.result) =
     record { front = cut.front; back = cut.back; splits = cut.splits; same_units = ap units (sym points) } in
-    record { units = part; bytes = search rules; whole = λ front h. front_and_back (view_units c.args.self.now) front _ c.args.begin h part }
+    record {
+      units = part;
+      bytes = search rules;
+      whole = λ front h. front_and_back (view_units c.args.self.now) front _ c.args.begin h part;
+    }

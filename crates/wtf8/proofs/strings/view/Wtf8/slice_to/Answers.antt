@@ -8,7 +8,8 @@ pub split_at-requires : goal.split_at-requires
 split_at-requires c = (cut_at c.args.self.now.well_formed c.args.end c.requires).within
 
 pub from_well_formed-requires : goal.from_well_formed-requires
-from_well_formed-requires c = IsWellFormed-equal_bytes (cut_at c.args.self.now.well_formed c.args.end c.requires).before c.split_at.ensures.front
+from_well_formed-requires c =
+    IsWellFormed-equal_bytes (cut_at c.args.self.now.well_formed c.args.end c.requires).before c.split_at.ensures.front
 
 pub returns : goal.returns
 returns c =

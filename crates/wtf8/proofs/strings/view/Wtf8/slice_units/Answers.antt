@@ -1,5 +1,6 @@
-use Rattle.wtf8.proofs.Common.{nat_tests, ◌≤◌, ◌≡◌, ◌∙◌, ◌+◌, ◌-◌, [], ◌++◌, ap, sym, subst, length, take, arith, length-append, length-drop, length-take, drop}
-use Rattle.wtf8.proofs.Common.{drop_all, units, view_units, drop-take, option_to_list, DividesPair, take-append-add}
+use Rattle.wtf8.proofs.Common.{nat_tests, ◌≤◌, ◌≡◌, ◌∙◌, ◌+◌, ◌-◌, [], ◌++◌, ap, sym, subst, length, take, arith, length-append}
+use Rattle.wtf8.proofs.Common.{length-drop, length-take, drop, drop_all, units, view_units, drop-take, option_to_list, DividesPair}
+use Rattle.wtf8.proofs.Common.{take-append-add}
 use Rattle.wtf8.proofs.lemmas.codec.Readings.{points-nil}
 use Rattle.wtf8.proofs.lemmas.strings.UnitCuts.{divides_after}
 use Rattle.wtf8.proofs.strings.view.Wtf8.slice_units.Goals.{After-half_len}
@@ -16,7 +17,8 @@ trail_before_end : (c : After-half_len) → c.half_len.result ≤ c.args.end - c
 trail_before_end c = grind (arith, nat_tests, c.half_len.ensures.most, c.requires.order, c.if-begin-end.false)
 
 -- the units from `begin` on: the cut-off trail, if any, and the rest
-units_from_begin : (c : After-half_len) → c.half_len.result + length (view_units c.units_after-trail.result.1) ≡ length (view_units c.args.self.now) - c.args.begin
+units_from_begin : (c : After-half_len)
+    → c.half_len.result + length (view_units c.units_after-trail.result.1) ≡ length (view_units c.args.self.now) - c.args.begin
 units_from_begin c = omega (
   arith,
   c.half_len.ensures.count,
@@ -37,8 +39,10 @@ returns-clause-units c =
     let count : length half + n ≡ c.args.end - c.args.begin =
     omega (arith, trail_before_end (goal.at.returns-clause-units c).After-half_len, c.half_len.ensures.count) in
     let whole : c.args.begin + (c.args.end - c.args.begin) ≡ c.args.end = omega (arith, c.requires.order) in
-    ap (λ v. half ++ v) c.first_units-lead.ensures.units ∙ (sym (take-append-add half rest n) ∙ (ap (take (length half + n)) c.units_after-trail.ensures.units
-    ∙ (ap (λ k. take k (drop c.args.begin u)) count ∙ (sym (drop-take c.args.begin (c.args.end - c.args.begin) u) ∙ ap (λ k. drop c.args.begin (take k u)) whole))))
+    ap (λ v. half ++ v) c.first_units-lead.ensures.units
+    ∙ (sym (take-append-add half rest n) ∙ (ap (take (length half + n)) c.units_after-trail.ensures.units
+    ∙ (ap (λ k. take k (drop c.args.begin u)) count
+    ∙ (sym (drop-take c.args.begin (c.args.end - c.args.begin) u) ∙ ap (λ k. drop c.args.begin (take k u)) whole))))
 
 pub returns-clause-lead : goal.returns-clause-lead
 returns-clause-lead c before =
@@ -47,7 +51,9 @@ returns-clause-lead c before =
     let rest = view_units c.units_after-trail.result.1 in
     let n = c.args.end - c.args.begin - c.half_len.result in
     let same = divides_after u rest half c.args.begin n (omega (arith, c.requires.within, before)) c.units_after-trail.ensures.units
-    c.units_after-trail.ensures.trail (omega (arith, before, c.half_len.ensures.count)) (omega (arith, units_from_begin (goal.at.returns-clause-lead c).After-half_len, c.requires.within)) in
-    let end : c.args.begin + (length (option_to_list half) + n) ≡ c.args.end = omega (arith, before, c.half_len.ensures.count, c.half_len.ensures.most) in
+    c.units_after-trail.ensures.trail (omega (arith, before, c.half_len.ensures.count))
+    (omega (arith, units_from_begin (goal.at.returns-clause-lead c).After-half_len, c.requires.within)) in
+    let end : c.args.begin + (length (option_to_list half) + n) ≡ c.args.end =
+    omega (arith, before, c.half_len.ensures.count, c.half_len.ensures.most) in
     let own = c.first_units-lead.ensures.lead in
     (λ s. subst (DividesPair u) end (same.0 (own.0 s)), λ m. own.1 (same.1 (subst (DividesPair u) (sym end) m)))

@@ -11,7 +11,8 @@ returns-in_default-clause-none c =
     ap bytes (lossy_points-scalar h.points (scalar_if_none h c.in_default.ensures)) ∙ (h.encoded ∙ sym c.from_utf8_unchecked.ensures)
 
 pub from_utf8_unchecked-text-requires : goal.from_utf8_unchecked-text-requires
-from_utf8_unchecked-text-requires c = subst IsUtf8 (sym c.split_at.ensures.front) (split_at_first_surrogate c.args.self.well_formed c.in-Some.position c.in-Some.ensures).text
+from_utf8_unchecked-text-requires c =
+    subst IsUtf8 (sym c.split_at.ensures.front) (split_at_first_surrogate c.args.self.well_formed c.in-Some.position c.in-Some.ensures).text
 
 pub skip_bytes-requires : goal.skip_bytes-requires
 skip_bytes-requires c =

@@ -10,12 +10,14 @@ read-width-requires c = (first_of c.args.self.well_formed (grind (arith, nat_tes
 
 pub skip_bytes-requires : goal.skip_bytes-requires
 skip_bytes-requires c =
-    let t = Taken-from_first c.args.self.bytes.now 0 c.args.self.well_formed (number c.read-width.result.0) c.read-width.result.1 (grind (arith, nat_tests))
+    let t = Taken-from_first c.args.self.bytes.now 0 c.args.self.well_formed (number c.read-width.result.0) c.read-width.result.1
+    (grind (arith, nat_tests))
     (λ b. let was = c.read-width.ensures b in (was.0, omega (arith, was.1))) in
     record { within = t.within; well_formed = t.rest }
 
 pub returns-clause-some : goal.returns-clause-some
 returns-clause-some c =
-    let t = Taken-from_first c.args.self.bytes.now 0 c.args.self.well_formed (number c.read-width.result.0) c.read-width.result.1 (grind (arith, nat_tests))
+    let t = Taken-from_first c.args.self.bytes.now 0 c.args.self.well_formed (number c.read-width.result.0) c.read-width.result.1
+    (grind (arith, nat_tests))
     (λ b. let was = c.read-width.ensures b in (was.0, omega (arith, was.1))) in
     t.joined ∙ ap (λ r. number c.read-width.result.0 ∷ r) (sym (c.skip_bytes.ensures.points t.rest))

@@ -11,11 +11,13 @@ returns-in-Some-clause-text g c =
 pub from_utf8_unchecked-requires : goal.from_utf8_unchecked-requires
 from_utf8_unchecked-requires g c =
     let h = c.args.self.now.well_formed in
-    subst IsUtf8 (sym (c.replace_surrogates.ensures (IsWellFormed-equal_bytes h c.in_ok-bytes.ensures.items))) (utf8_lossy_points h.points h.clean)
+    subst IsUtf8 (sym (c.replace_surrogates.ensures (IsWellFormed-equal_bytes h c.in_ok-bytes.ensures.items)))
+    (utf8_lossy_points h.points h.clean)
 
 pub returns-clause-text : goal.returns-clause-text
 returns-clause-text g c =
-    ap (λ v. v.items) c.from_utf8_unchecked.ensures.value ∙ c.replace_surrogates.ensures (IsWellFormed-equal_bytes c.args.self.now.well_formed c.in_ok-bytes.ensures.items)
+    ap (λ v. v.items) c.from_utf8_unchecked.ensures.value
+    ∙ c.replace_surrogates.ensures (IsWellFormed-equal_bytes c.args.self.now.well_formed c.in_ok-bytes.ensures.items)
 
 pub returns-in-Some-clause-len : goal.returns-in-Some-clause-len
 returns-in-Some-clause-len g c = ap length c.in-Some.ensures.bytes
@@ -24,4 +26,5 @@ pub returns-clause-len : goal.returns-clause-len
 returns-clause-len g c =
     let h = c.args.self.now.well_formed in
     ap (λ v. length v.items) c.from_utf8_unchecked.ensures.value
-    ∙ (ap length (c.replace_surrogates.ensures (IsWellFormed-equal_bytes h c.in_ok-bytes.ensures.items)) ∙ (length-lossy_points h.points ∙ ap length h.encoded))
+    ∙ (ap length (c.replace_surrogates.ensures (IsWellFormed-equal_bytes h c.in_ok-bytes.ensures.items))
+    ∙ (length-lossy_points h.points ∙ ap length h.encoded))

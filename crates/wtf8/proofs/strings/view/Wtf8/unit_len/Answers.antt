@@ -4,10 +4,12 @@ use Rattle.wtf8.proofs.lemmas.strings.ToUtf16.{view_units-ascii}
 use Rattle.wtf8.proofs.strings.view.Wtf8.unit_len.Goals as goal
 
 pub returns-in-4-to-7 : goal.returns-in-4-to-7
-returns-in-4-to-7 c = c.len-in-4-to-7.ensures.bytes ∙ ap length (sym (view_units-ascii c.args.self.now (c.is_ascii_overlapping.ensures c.if-is_ascii_overlapping.true)))
+returns-in-4-to-7 c = c.len-in-4-to-7.ensures.bytes
+    ∙ ap length (sym (view_units-ascii c.args.self.now (c.is_ascii_overlapping.ensures c.if-is_ascii_overlapping.true)))
 
 pub returns-in-8-to-15 : goal.returns-in-8-to-15
-returns-in-8-to-15 c = c.len-in-8-to-15.ensures.bytes ∙ ap length (sym (view_units-ascii c.args.self.now (c.is_ascii_overlapping-then-this-lt16.ensures c.if-is_ascii_overlapping-2.true)))
+returns-in-8-to-15 c = c.len-in-8-to-15.ensures.bytes
+    ∙ ap length (sym (view_units-ascii c.args.self.now (c.is_ascii_overlapping-then-this-lt16.ensures c.if-is_ascii_overlapping-2.true)))
 
 pub returns-in_default : goal.returns-in_default
 returns-in_default c =

@@ -19,7 +19,8 @@ pub returns-in-Some-divided-clause-units : goal.returns-in-Some-divided-clause-u
 returns-in-Some-divided-clause-units c =
     let h = c.args.self.well_formed in
     let x = divided_from_cut c.in-Some-divided.is c.in-Some.ensures.some in
-    let rest = points_after h c.slice_from-in-Some-divided.result.well_formed (x.front ++ c.in-Some-divided.value ∷ []) x.rest _ x.pushed x.pushed_len c.slice_from-in-Some-divided.ensures.bytes in
+    let rest = points_after h c.slice_from-in-Some-divided.result.well_formed
+    (x.front ++ c.in-Some-divided.value ∷ []) x.rest _ x.pushed x.pushed_len c.slice_from-in-Some-divided.ensures.bytes in
     rw (c.trail_of.ensures, rest) (sym x.after)
 
 pub returns-in-None-clause-trail : goal.returns-in-None-clause-trail
