@@ -1,7 +1,16 @@
 //! The lists of scripts that `differ` always runs, by name.
 
+pub mod blocks;
+pub mod building;
+pub mod examples;
+pub mod generate;
+pub mod long;
+pub mod marked;
+pub mod pairs;
+pub mod pushed;
+pub mod worked;
+
 use crate::script::Call;
-use crate::{blocks, building, examples, generate, long, marked, pairs, pushed, worked};
 
 /// The name of a list, and the function that makes its scripts.
 pub type List = (&'static str, fn() -> Vec<Vec<Call>>);

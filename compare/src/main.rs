@@ -5,37 +5,23 @@
 #[cfg(std_wtf8)]
 extern crate alloc;
 
-mod bench;
-mod blocks;
-mod building;
-mod column;
 mod console;
-mod differ;
-mod examples;
 mod fed;
-mod generate;
-mod inputs;
 mod lists;
-mod long;
-mod marked;
-mod model;
-mod original;
 mod ours;
-mod pairs;
-mod pushed;
 mod random;
-mod record;
+mod results;
 mod script;
-mod shrink;
-#[cfg(simdutf)]
-mod simdutf;
-mod texts;
-mod worked;
+mod timings;
 
 use std::path::Path;
 use std::process::ExitCode;
 
 use console::fail;
+use results::{differ, original, record};
+#[cfg(simdutf)]
+use timings::simdutf;
+use timings::{bench, texts};
 
 // Moves all code after this by 16 bytes. The address of a loop decides much of its time, so timings are taken at both
 // addresses.

@@ -1,8 +1,8 @@
 //! Lists of scripts on strings about as long as one or more blocks of a search or a copy, and on strings of 65,000
 //! bytes.
 
-use crate::generate::{from_units, registers};
-use crate::long::{byte_len, changed, changed_at, on, string_in, with_surrogate_at, BASES};
+use crate::lists::generate::{from_units, registers};
+use crate::lists::long::{byte_len, changed, changed_at, on, string_in, with_surrogate_at, BASES};
 use crate::script::{Call, Opcode, Operand};
 
 /// Lengths in bytes about the ends of blocks.

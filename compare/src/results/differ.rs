@@ -1,12 +1,12 @@
 //! Runs scripts on both sides and compares the transcripts.
 
 use crate::console::progress;
-use crate::generate;
-use crate::lists::LISTS;
-use crate::original::Results;
+use crate::lists::{generate, LISTS};
 use crate::random::Random;
+use crate::results::original::Results;
+use crate::results::{model, original, shrink};
 use crate::script::{encode, Call};
-use crate::{model, original, ours, say, shrink};
+use crate::{ours, say};
 
 const REFUSALS: [&str; 5] = [
     "truncate",

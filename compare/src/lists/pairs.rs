@@ -1,6 +1,6 @@
 //! The list of pairs: leads and trails with each of their ten bits, joined by each call that can, and lone.
 
-use crate::generate::{call_on, from_units, push, registers};
+use crate::lists::generate::{call_on, from_units, push, registers};
 use crate::script::{Call, Opcode};
 
 /// Ten bits: none set, all set, only one set, and all but one.

@@ -1,7 +1,7 @@
 //! Worked examples of the calls on strings, each a short script on its own input. `gate/worked_examples.txt` has the
 //! calls and the result of each in words.
 
-use crate::generate::{call_on, from_units, push, pushed, registers, with_text};
+use crate::lists::generate::{call_on, from_units, push, pushed, registers, with_text};
 use crate::script::{Build, Call, Opcode, Operand, Step, UNBOUNDED};
 
 /// A text with characters of one, two and four bytes.

@@ -1,7 +1,7 @@
 //! Lists of scripts on a code point that is pushed to strings of every length, and on strings of 6,000 units.
 
-use crate::generate::{push, registers};
-use crate::long::{changed, on, string_in, BASES};
+use crate::lists::generate::{push, registers};
+use crate::lists::long::{changed, on, string_in, BASES};
 use crate::script::{Call, Opcode, Operand, Step};
 
 /// Code points of each encoded length, the first and last lead and trail surrogates, and their neighbours.

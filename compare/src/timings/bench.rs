@@ -6,16 +6,16 @@ use std::hint::black_box;
 use std::path::Path;
 use std::time::Instant;
 
-use crate::column::original;
-#[cfg(std_wtf8)]
-use crate::column::standard;
 use crate::console::fail;
-use crate::inputs::{self, Input};
 use crate::ours;
 use crate::random::Random;
 use crate::say;
+use crate::timings::column::original;
+#[cfg(std_wtf8)]
+use crate::timings::column::standard;
+use crate::timings::inputs::{self, Input};
 #[cfg(simdutf)]
-use crate::simdutf;
+use crate::timings::simdutf;
 
 /// The loops over strings, by their numbers in the proved library's exports.
 const LOOPS: [(u32, &str); 21] = [

@@ -5,7 +5,7 @@ use std::hash::Hash;
 use std::hint::black_box;
 
 use crate::fed::fed_by;
-use crate::inputs::LINE_END;
+use crate::timings::inputs::LINE_END;
 
 /// The number of equal strings that a loop cycles through.
 const STRINGS: usize = 4;

@@ -1,11 +1,11 @@
 //! Lists of worked examples: strings in the order of their code points, hash inputs, iterators in each state, orders by
 //! code units, and runs of one kind with another kind at each index.
 
-use crate::generate::{
+use crate::lists::generate::{
     call_on, calls_on, cut_and_joined, from_units, point_calls, push, pushed, registers, with_text,
 };
+use crate::lists::worked::JOINING;
 use crate::script::{Call, Opcode, Operand, Step};
-use crate::worked::JOINING;
 
 /// Strings as code points, in ascending order.
 const IN_ORDER: [&[u32]; 14] = [

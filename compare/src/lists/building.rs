@@ -1,6 +1,6 @@
 //! Lists of building calls, and of code points under false size hints.
 
-use crate::generate::from_units;
+use crate::lists::generate::from_units;
 use crate::script::{Build, Call, Opcode, Operand, UNBOUNDED};
 
 /// Lower size hints, false and true.

@@ -2,11 +2,11 @@
 
 use std::ffi::{c_char, CStr};
 
-use crate::bench::{rounds_of_a_turn, timed};
 use crate::console::fail;
-use crate::inputs::{self, Input};
 use crate::ours;
 use crate::say;
+use crate::timings::bench::{rounds_of_a_turn, timed};
+use crate::timings::inputs::{self, Input};
 
 extern "C" {
     fn simdutf_calls_choose(name: *const u8, name_len: usize) -> bool;

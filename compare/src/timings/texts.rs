@@ -3,10 +3,10 @@
 use std::hint::black_box;
 use std::time::{Duration, Instant};
 
-use crate::inputs::{self, Input};
 use crate::ours;
 use crate::random::Random;
 use crate::say;
+use crate::timings::inputs::{self, Input};
 
 /// The lengths of the texts in units.
 const LENGTHS: [usize; 3] = [40, 1_000, 1_000_000];

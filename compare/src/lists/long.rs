@@ -1,6 +1,6 @@
 //! Lists of scripts on long strings, on strings with a common prefix, and on slices inside a string.
 
-use crate::generate::{cut_and_joined, cut_by_units, from_units, registers};
+use crate::lists::generate::{cut_and_joined, cut_by_units, from_units, registers};
 use crate::script::{Call, Opcode, Operand};
 
 /// The units that long strings repeat: a code point of each encoded length, one with the lead byte of a surrogate (ED),

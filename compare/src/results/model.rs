@@ -1,8 +1,7 @@
 //! Checks random lists of building calls through `apply_all` against a model that holds a list of units.
 
 use crate::console::progress;
-use crate::generate;
-use crate::long::byte_len;
+use crate::lists::{generate, long::byte_len};
 use crate::random::Random;
 use crate::script::{encode, Build, Call, Kind, Opcode, Operand, UNBOUNDED};
 use crate::{ours, say};

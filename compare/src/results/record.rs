@@ -4,10 +4,11 @@ use std::fs;
 use std::io::ErrorKind;
 use std::path::Path;
 
-use crate::original;
+use crate::lists::{blocks, building, examples, generate, long, pairs, worked};
 use crate::random::Random;
+use crate::results::original;
+use crate::say;
 use crate::script::{encode, Call, FIRST_OF_TEXTS};
-use crate::{blocks, building, examples, generate, long, pairs, say, worked};
 
 /// Writes scripts in hexadecimal, one a line, to `stdin` in a folder, and the original crate's transcripts, each with
 /// an empty line after it, to `stdout` there. The scripts on texts, which `javascript/run` wrote, stay at the end.

@@ -1,8 +1,8 @@
 //! Lists of scripts on marks, and on what iterators have left. Other lists and random scripts do not make these calls.
 
-use crate::blocks;
-use crate::generate::{call_on, from_units, unit_lists};
-use crate::long::string_in;
+use crate::lists::blocks;
+use crate::lists::generate::{call_on, from_units, unit_lists};
+use crate::lists::long::string_in;
 use crate::script::{Call, Opcode};
 
 /// The marks of every list of up to four units, and what its iterators have left.

@@ -1,0 +1,7 @@
+//! The results of both sides, call by call, and those of a model.
+
+pub mod differ;
+pub mod model;
+pub mod original;
+pub mod record;
+pub mod shrink;
