@@ -129,28 +129,6 @@ fn append_next<const RUN: usize, const SCRATCH: usize, A: Allocator>(
     kernel::append_blocks::<SCRATCH, A>(bytes, v, from)
 }
 
-/// Appends the bytes of units from index `from.at` on while `LONG` or more are left. Returns how far units are encoded.
-/// Not inlined, since the loops for shorter lists would have fewer registers beside it.
-#[inline(never)]
-fn append_long<A: Allocator>(
-    bytes: &mut Vec<u8, A>,
-    v: &[u16],
-    from: Progress,
-) -> Result<Progress, AllocError>
-    requires within { from.at + LONG ≤ length v.now }
-    requires read { IsReadTo bytes.old.items v.now from.at from.is_utf8 }
-    ensures order { IfOk result (λ to. from.at < to.at) }
-    ensures read { IfOk result (λ to. IsReadTo bytes.new.items v.now to.at to.is_utf8) }
-{
-    let mut read = from;
-    loop {
-        read = append_next::<ASCII_BLOCK, LONG_SCRATCH_BYTES, A>(bytes, v, read)?;
-        if v.len() - read.at < LONG {
-            return Ok(read);
-        }
-    }
-}
-
 /// Appends the bytes of units to an empty buffer while `ASCII_BLOCK` or more are left. Returns how far units are
 /// encoded.
 #[inline(always)]
@@ -167,7 +145,7 @@ fn append_until_tail<A: Allocator>(
         is_utf8: true,
     };
     while LONG <= v.len() - read.at {
-        read = append_long(bytes, v, read)?;
+        read = append_next::<ASCII_BLOCK, LONG_SCRATCH_BYTES, A>(bytes, v, read)?;
     }
     while ASCII_BLOCK <= v.len() - read.at {
         read = append_next::<ASCII_BLOCK, SCRATCH_BYTES, A>(bytes, v, read)?;
