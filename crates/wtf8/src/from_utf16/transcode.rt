@@ -103,6 +103,22 @@ fn append_ascii_run<const N: usize, A: Allocator>(
     append_point(bytes, v, to)
 }
 
+/// Appends blocks through a scratch buffer of `LONG_SCRATCH_BYTES`. Not inlined, so that the loop over ASCII runs keeps
+/// its registers.
+#[inline(never)]
+fn append_long_blocks<A: Allocator>(
+    bytes: &mut Vec<u8, A>,
+    v: &[u16],
+    from: Progress,
+) -> Result<Progress, AllocError>
+    requires within { from.at + SMALL_BLOCK ≤ length v.now }
+    requires read { IsReadTo bytes.old.items v.now from.at from.is_utf8 }
+    ensures order { IfOk result (λ to. from.at < to.at) }
+    ensures read { IfOk result (λ to. IsReadTo bytes.new.items v.now to.at to.is_utf8) }
+{
+    kernel::append_blocks::<LONG_SCRATCH_BYTES, A>(bytes, v, from)
+}
+
 /// Appends the bytes of the next units: an ASCII run of up to `RUN` and the code point after it, blocks of eight
 /// through a scratch buffer of `SCRATCH` bytes, or one code point. Returns how far units are encoded.
 #[inline(always)]
@@ -126,29 +142,10 @@ fn append_next<const RUN: usize, const SCRATCH: usize, A: Allocator>(
     if v[at + 1] < 0x80 || v[at + 2] < 0x80 {
         return append_point(bytes, v, from);
     }
-    kernel::append_blocks::<SCRATCH, A>(bytes, v, from)
-}
-
-/// Appends the bytes of units from index `from.at` on while `LONG` or more are left. Returns how far units are encoded.
-/// Not inlined, since the loops for shorter lists would have fewer registers beside it.
-#[inline(never)]
-fn append_long<A: Allocator>(
-    bytes: &mut Vec<u8, A>,
-    v: &[u16],
-    from: Progress,
-) -> Result<Progress, AllocError>
-    requires within { from.at + LONG ≤ length v.now }
-    requires read { IsReadTo bytes.old.items v.now from.at from.is_utf8 }
-    ensures order { IfOk result (λ to. from.at < to.at) }
-    ensures read { IfOk result (λ to. IsReadTo bytes.new.items v.now to.at to.is_utf8) }
-{
-    let mut read = from;
-    loop {
-        read = append_next::<ASCII_BLOCK, LONG_SCRATCH_BYTES, A>(bytes, v, read)?;
-        if v.len() - read.at < LONG {
-            return Ok(read);
-        }
+    if LONG_SCRATCH_BYTES <= SCRATCH {
+        return append_long_blocks(bytes, v, from);
     }
+    kernel::append_blocks::<SCRATCH, A>(bytes, v, from)
 }
 
 /// Appends the bytes of units to an empty buffer while `ASCII_BLOCK` or more are left. Returns how far units are
@@ -167,7 +164,7 @@ fn append_until_tail<A: Allocator>(
         is_utf8: true,
     };
     while LONG <= v.len() - read.at {
-        read = append_long(bytes, v, read)?;
+        read = append_next::<ASCII_BLOCK, LONG_SCRATCH_BYTES, A>(bytes, v, read)?;
     }
     while ASCII_BLOCK <= v.len() - read.at {
         read = append_next::<ASCII_BLOCK, SCRATCH_BYTES, A>(bytes, v, read)?;
