@@ -39,9 +39,6 @@ pub(crate) const MIN_SPARE: usize = 28;
 /// The most bytes of eight units.
 const MOST_BYTES: usize = 3 * BLOCK_UNITS;
 
-/// The least size of a scratch buffer that is filled again. Lists with smaller ones are too short for the test to pay.
-const REFILLED_SCRATCH: usize = 512;
-
 /// A lead divided by `SURROGATES_PER_HALF`: its high six bits, which are those of leads alone.
 const LEAD_KIND: u16 = FIRST_LEAD / SURROGATES_PER_HALF;
 
@@ -322,9 +319,9 @@ fn write_blocks(v: &[u16], at: usize, scratch: &mut [u8]) -> (usize, Progress)
     (len, to)
 }
 
-/// Appends the bytes of units from index `from.at` on, through a scratch buffer of `SCRATCH` bytes: the blocks that it
-/// has room for. A buffer of at least `REFILLED_SCRATCH` bytes, which is zeroed only once, is filled again until fewer
-/// than eight units are left or ASCII follows. Returns how far units are encoded.
+/// Appends the bytes of units from index `from.at` on, through a scratch buffer of `SCRATCH` bytes: eight units at a
+/// time, until fewer than eight are left or fewer than `MIN_SPARE` bytes of the buffer. Returns how far units are
+/// encoded.
 #[inline(always)]
 pub(crate) fn append_blocks<const SCRATCH: usize, A: Allocator>(
     bytes: &mut Vec<u8, A>,
@@ -347,7 +344,7 @@ pub(crate) fn append_blocks<const SCRATCH: usize, A: Allocator>(
             at: to.at,
             is_utf8: read.is_utf8 & to.is_utf8,
         };
-        if SCRATCH < REFILLED_SCRATCH || v.len() - read.at < BLOCK_UNITS || v[read.at] < 0x80 {
+        if v.len() - read.at < BLOCK_UNITS || v[read.at] < 0x80 {
             return Ok(read);
         }
     }

@@ -103,22 +103,6 @@ fn append_ascii_run<const N: usize, A: Allocator>(
     append_point(bytes, v, to)
 }
 
-/// Appends blocks through a scratch buffer of `LONG_SCRATCH_BYTES`. Not inlined, so that the loop over ASCII runs keeps
-/// its registers.
-#[inline(never)]
-fn append_long_blocks<A: Allocator>(
-    bytes: &mut Vec<u8, A>,
-    v: &[u16],
-    from: Progress,
-) -> Result<Progress, AllocError>
-    requires within { from.at + SMALL_BLOCK ≤ length v.now }
-    requires read { IsReadTo bytes.old.items v.now from.at from.is_utf8 }
-    ensures order { IfOk result (λ to. from.at < to.at) }
-    ensures read { IfOk result (λ to. IsReadTo bytes.new.items v.now to.at to.is_utf8) }
-{
-    kernel::append_blocks::<LONG_SCRATCH_BYTES, A>(bytes, v, from)
-}
-
 /// Appends the bytes of the next units: an ASCII run of up to `RUN` and the code point after it, blocks of eight
 /// through a scratch buffer of `SCRATCH` bytes, or one code point. Returns how far units are encoded.
 #[inline(always)]
@@ -141,9 +125,6 @@ fn append_next<const RUN: usize, const SCRATCH: usize, A: Allocator>(
     // ASCII that follows soon is most often a run: encode one code point, and leave the run to a later step.
     if v[at + 1] < 0x80 || v[at + 2] < 0x80 {
         return append_point(bytes, v, from);
-    }
-    if LONG_SCRATCH_BYTES <= SCRATCH {
-        return append_long_blocks(bytes, v, from);
     }
     kernel::append_blocks::<SCRATCH, A>(bytes, v, from)
 }

@@ -5,8 +5,8 @@ use Rattle.wtf8.proofs.from_utf16.kernel.append_blocks.Goals as goal
 pub overflow_sub-v : goal.overflow_sub-v
 overflow_sub-v g c = (c.write_blocks-len.ensures.read c.loop-read.bytes.items c.loop-read.read.is_utf8 c.loop-read.invariant.read).within
 
-pub returns-then-this-lt-REFILLED_SCRATCH-clause-read : goal.returns-then-this-lt-REFILLED_SCRATCH-clause-read
-returns-then-this-lt-REFILLED_SCRATCH-clause-read g c =
+pub returns-then-v-read-lt-BLOCK_UNITS-clause-read : goal.returns-then-v-read-lt-BLOCK_UNITS-clause-read
+returns-then-v-read-lt-BLOCK_UNITS-clause-read g c =
     let to = c.write_blocks-len.result.1 in
     let known = c.loop-read.read.is_utf8 in
     subst (λ w. IsReadTo w c.args.v.now to.at (known && to.is_utf8)) (sym c.in_ok-extend_from_slice.ensures.items)
