@@ -320,8 +320,8 @@ fn write_blocks(v: &[u16], at: usize, scratch: &mut [u8]) -> (usize, Progress)
 }
 
 /// Appends the bytes of units from index `from.at` on, through a scratch buffer of `SCRATCH` bytes: eight units at a
-/// time, until fewer than eight are left or fewer than `MIN_SPARE` bytes of the buffer. Returns how far units are
-/// encoded.
+/// time, until fewer than eight are left or ASCII follows a full buffer. A full buffer is appended and filled again,
+/// without being zeroed anew. Returns how far units are encoded.
 #[inline(always)]
 pub(crate) fn append_blocks<const SCRATCH: usize, A: Allocator>(
     bytes: &mut Vec<u8, A>,
