@@ -37,7 +37,7 @@ pub(crate) const BLOCK_UNITS: usize = 8;
 pub(crate) const MIN_SPARE: usize = 28;
 
 /// The most bytes of eight units.
-const MOST_BYTES: usize = 3 * BLOCK_UNITS;
+const MAX_BLOCK_BYTES: usize = 3 * BLOCK_UNITS;
 
 /// A lead divided by `SURROGATES_PER_HALF`: its high six bits, which are those of leads alone.
 const LEAD_KIND: u16 = FIRST_LEAD / SURROGATES_PER_HALF;
@@ -267,7 +267,7 @@ fn pack_eight(units: u16x8, later: LaterBytes, block: &mut [u8], len: usize) -> 
 fn write_block(units: u16x8, block: &mut [u8], len: usize) -> Block
     requires room { len + MIN_SPARE ≤ length block.old }
     ensures taken { ((result.units ≡ 8) × ¬ (IsLead (slice_index_or units 7 0))) ⊎ ((result.units ≡ 7) × IsLead (slice_index_or units 7 0)) }
-    ensures within { result.end ≤ len + MOST_BYTES }
+    ensures within { result.end ≤ len + MAX_BLOCK_BYTES }
     ensures bytes { take result.end block.new ≡ take len block.old ++ packed_units 0 (take result.units (tagged_block units)) }
     ensures scalar { IsTrue result.is_utf8 → Each1 IsUnit (tagged_block units) }
 {
@@ -307,7 +307,9 @@ fn write_blocks(v: &[u16], at: usize, scratch: &mut [u8]) -> (usize, Progress)
     ensures within { result.0 ≤ length scratch.new }
     ensures read { (w : List ℕ) (known : Bool) → IsReadTo w v.now at known → IsReadTo (w ++ take result.0 scratch.new) v.now result.1.at (known && result.1.is_utf8) }
 {
-    let blocks = ((v.len() - at) / BLOCK_UNITS).min((scratch.len() - MIN_SPARE) / MOST_BYTES + 1);
+    let blocks = ((v.len() - at) / BLOCK_UNITS).min(
+        (scratch.len() - MIN_SPARE) / MAX_BLOCK_BYTES + 1,
+    );
     let mut to = Progress { at, is_utf8: true };
     let mut len = 0;
     for _ in 0..blocks {

@@ -36,7 +36,7 @@ const SCRATCH_UNITS: usize = 4 * VECTOR;
 
 /// While at least this many bytes are left, a block of any kind can be loaded, so that the length is compared once for
 /// all kinds.
-const LONG: usize = 2 * VECTOR;
+const LONGEST_LOAD: usize = 2 * VECTOR;
 
 /// Code points of one unit and `WIDTH` bytes each, of which `N` are decoded from a load of `BYTES` bytes.
 trait EncodedLength<const N: usize, const WIDTH: usize, const BYTES: usize> {
@@ -324,7 +324,7 @@ fn decode_run<
 #[inline(always)]
 fn decode_next<'a>(units: &mut [u16], left: Undecoded<'a>) -> Undecoded<'a>
     requires room { left.at + length (view_units left.view) ≤ length units.old }
-    requires least { LONG ≤ length left.view.bytes.now }
+    requires least { LONGEST_LOAD ≤ length left.view.bytes.now }
     ensures written { Writes units.old left.entry.at (view_units left.entry.view) units.new result.at (view_units result.view) }
     ensures shorter { length result.view.bytes.now < length left.entry.view.bytes.now }
 {
@@ -336,7 +336,7 @@ fn decode_next<'a>(units: &mut [u16], left: Undecoded<'a>) -> Undecoded<'a>
     }
 }
 
-/// Decodes as `decode_next` if fewer than `LONG` bytes are left: too few for blocks of ASCII of 32 bytes and for blocks
+/// Decodes as `decode_next` if fewer than `LONGEST_LOAD` bytes are left: too few for blocks of ASCII of 32 bytes and for blocks
 /// of three-byte code points.
 #[inline(always)]
 fn decode_next_of_tail<'a>(units: &mut [u16], left: Undecoded<'a>) -> Undecoded<'a>
@@ -367,7 +367,7 @@ fn decode_all(units: &mut [u16], from: usize, view: Wtf8<'_>) -> usize
     ensures len { length units.new ≡ length units.old }
 {
     let mut left = Undecoded { view, at: from };
-    while LONG <= left.view.len() {
+    while LONGEST_LOAD <= left.view.len() {
         left = decode_next(units, left);
     }
     while !left.view.is_empty() {
