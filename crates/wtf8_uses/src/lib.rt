@@ -3,6 +3,7 @@
 
 pub mod appending;
 pub mod ascii_case;
+pub mod cursor;
 pub mod cuts;
 pub mod environment;
 pub mod file_names;

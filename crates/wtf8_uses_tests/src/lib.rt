@@ -7,6 +7,8 @@ mod appending;
 #[cfg(test)]
 mod conversions;
 #[cfg(test)]
+mod cursor;
+#[cfg(test)]
 mod cuts;
 #[cfg(test)]
 mod file_names;
