@@ -1,9 +1,10 @@
 // Calls that grow a string: the requests for memory that each makes, and what it leaves if one of them is refused.
-use crate::shared::{FULL, Lent, filled, full, is_made, push_letters};
+use crate::shared::{FULL, Lent, filled, full, push_letters, succeeds};
 use refusing::{REFUSALS, Refusal, Refusing};
 use std::alloc::{AllocError, Allocator, Global};
 use wtf8::{Build, CodePoint, Wtf8, Wtf8Buf};
 use wtf8_tests::examples::{TEXT, joined, point_of_unit};
+use wtf8_tests::way::Way;
 use wtf8_tests::wrong::{Wrong, expect_bytes};
 
 /// A call on a string whose four bytes, "a" and D83D, fill its capacity; the bytes after it, and the number of bytes in
@@ -93,16 +94,11 @@ fn an_empty_text_is_pushed_after_a_refused_trail(rt: HostRuntime) -> Result<(), 
 }
 
 /// Fails unless the call, with all its requests granted, succeeds with the requests and bytes of the row.
-fn expect_granted(
-    alloc: Global,
-    heap: Lent<'_>,
-    row: Row<'_>,
-    is_applied: bool,
-) -> Result<(), Wrong> {
+fn expect_granted(alloc: Global, heap: Lent<'_>, row: Row<'_>, way: Way) -> Result<(), Wrong> {
     let (call, granted, asked, refused) = row;
     let mut text = full(heap)?;
     heap.grant(9);
-    let is_made = is_made(&mut text, call, is_applied);
+    let is_made = succeeds(&mut text, call, way);
     if !is_made || heap.requests() != refused.len() as u64 || heap.bytes() != asked {
         return Err(Wrong::Requests);
     }
@@ -114,13 +110,13 @@ fn expect_granted(
 fn expect_stopped(
     alloc: Global,
     heap: Lent<'_>,
-    (call, is_applied): (Build<'_>, bool),
+    (call, way): (Build<'_>, Way),
     (granted, refusal): (u64, Refusal),
     dump: &str,
 ) -> Result<(), Wrong> {
     let mut text = full(heap)?;
     heap.refuse_after(granted, refusal);
-    let is_made = is_made(&mut text, call, is_applied);
+    let is_made = succeeds(&mut text, call, way);
     if is_made || heap.requests() != granted.wrapping_add(1) {
         return Err(Wrong::Requests);
     }
@@ -132,13 +128,13 @@ fn expect_kept(
     alloc: Global,
     heap: Lent<'_>,
     row: Row<'_>,
-    is_applied: bool,
+    way: Way,
     refusal: Refusal,
 ) -> Result<(), Wrong> {
     let (call, _, _, refused) = row;
     let mut granted = 0u64;
     for dump in refused {
-        expect_stopped(alloc, heap, (call, is_applied), (granted, refusal), dump)?;
+        expect_stopped(alloc, heap, (call, way), (granted, refusal), dump)?;
         granted = granted.wrapping_add(1);
     }
     Ok(())
@@ -150,12 +146,12 @@ fn expect_call(
     alloc: Global,
     heap: Lent<'_>,
     row: Row<'_>,
-    is_applied: bool,
+    way: Way,
     refusal: Option<Refusal>,
 ) -> Result<(), Wrong> {
     match refusal {
-        None => expect_granted(alloc, heap, row, is_applied),
-        Some(refusal) => expect_kept(alloc, heap, row, is_applied, refusal),
+        None => expect_granted(alloc, heap, row, way),
+        Some(refusal) => expect_kept(alloc, heap, row, way, refusal),
     }
 }
 
@@ -166,8 +162,8 @@ fn expect_row(
     row: Row<'_>,
     refusal: Option<Refusal>,
 ) -> Result<(), Wrong> {
-    expect_call(alloc, heap, row, false, refusal)?;
-    expect_call(alloc, heap, row, true, refusal)
+    expect_call(alloc, heap, row, Way::Method, refusal)?;
+    expect_call(alloc, heap, row, Way::Apply, refusal)
 }
 
 /// Fails unless each call, made as a method and through `apply`, does what `expect_call` requires.
@@ -209,19 +205,19 @@ fn a_refused_request_leaves_the_string_unchanged(rt: HostRuntime) -> Result<(), 
     Ok(())
 }
 
-/// Whether reserving 1,000 more bytes succeeds, through `apply` if `is_applied`, else through `reserve`.
-fn is_reserved<A: Allocator>(text: &mut Wtf8Buf<A>, is_applied: bool) -> bool {
-    if is_applied {
-        return matches!(text.apply(Build::Reserve(1000)), Ok(true));
+/// Whether reserving 1,000 more bytes succeeds.
+fn reserves<A: Allocator>(text: &mut Wtf8Buf<A>, way: Way) -> bool {
+    match way {
+        Way::Method => text.reserve(1000).is_ok(),
+        Way::Apply => matches!(text.apply(Build::Reserve(1000)), Ok(true)),
     }
-    text.reserve(1000).is_ok()
 }
 
 /// Fails unless there is room for 1,000 more bytes after they are reserved.
-fn expect_reserved(heap: Lent<'_>, is_applied: bool) -> Result<(), Wrong> {
+fn expect_reserved(heap: Lent<'_>, way: Way) -> Result<(), Wrong> {
     let mut text = full(heap)?;
     heap.grant(1);
-    if !is_reserved(&mut text, is_applied) || text.capacity() < 1004 {
+    if !reserves(&mut text, way) || text.capacity() < 1004 {
         return Err(Wrong::Outcome);
     }
     Ok(())
@@ -230,8 +226,8 @@ fn expect_reserved(heap: Lent<'_>, is_applied: bool) -> Result<(), Wrong> {
 #[test]
 fn reserve_gives_the_capacity(rt: HostRuntime) -> Result<(), Wrong> {
     let heap = Refusing::new(rt.alloc(), 0);
-    for is_applied in [false, true] {
-        expect_reserved(&heap, is_applied)?;
+    for way in [Way::Method, Way::Apply] {
+        expect_reserved(&heap, way)?;
     }
     Ok(())
 }
@@ -270,7 +266,7 @@ fn expect_shrunk<A: Allocator>(
 }
 
 /// Clears and shrinks a string, and returns whether its capacity is then 0.
-fn is_released<A: Allocator>(text: &mut Wtf8Buf<A>) -> bool {
+fn releases<A: Allocator>(text: &mut Wtf8Buf<A>) -> bool {
     text.clear();
     text.shrink_to_fit();
     text.capacity() == 0 && text.is_empty()
@@ -288,7 +284,7 @@ fn expect_released(
         expect_shrunk(alloc, text, capacity)?;
     }
     heap.grant(0);
-    if !is_released(text) {
+    if !releases(text) {
         return Err(Wrong::Outcome);
     }
     Ok(())

@@ -1,6 +1,6 @@
 // Calls that request memory, on strings of each length: each succeeds if all its requests are granted, requests the
 // expected number of bytes, and fails at each request that is refused.
-use crate::samples::{Call, Sample, expect_refused, is_done, sample_with};
+use crate::samples::{Call, Sample, expect_refused, sample_with, succeeds};
 use crate::shared::Lent;
 use refusing::Refusing;
 use std::alloc::{AllocError, Allocator, Global};
@@ -230,7 +230,7 @@ fn is_within<A: Allocator>(sample: &Sample<A>, requests: u64, bytes: usize) -> b
 /// number of requests.
 fn expect_granted<'a>(heap: Lent<'a>, call: Call, sample: &Sample<Lent<'a>>) -> Result<u64, Wrong> {
     heap.grant(u64::MAX);
-    if !is_done(heap, call, sample) {
+    if !succeeds(heap, call, sample) {
         return Err(Wrong::Outcome);
     }
     let (requests, bytes) = (heap.requests(), heap.bytes());

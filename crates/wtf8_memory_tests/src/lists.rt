@@ -77,7 +77,7 @@ fn before(alloc: Global, calls: &[Build<'_>], stop: Stop) -> Result<Wtf8Buf<Glob
 }
 
 /// Whether `apply_all` stops at the call with index `done`.
-fn is_stopped<A: Allocator>(text: &mut Wtf8Buf<A>, calls: &[Build<'_>], done: usize) -> bool {
+fn stops_at<A: Allocator>(text: &mut Wtf8Buf<A>, calls: &[Build<'_>], done: usize) -> bool {
     match text.apply_all(calls) {
         Ok(_) => false,
         Err(stopped) => stopped.done == done,
@@ -94,7 +94,7 @@ fn expect_stop(
 ) -> Result<(), Wrong> {
     heap.refuse_after(stop.granted, refusal);
     let mut text = Wtf8Buf::new(heap);
-    if !is_stopped(&mut text, calls, stop.done) || heap.requests() != stop.granted.wrapping_add(1) {
+    if !stops_at(&mut text, calls, stop.done) || heap.requests() != stop.granted.wrapping_add(1) {
         return Err(Wrong::Requests);
     }
     expect_bytes(alloc, text.as_wtf8(), stop.dump)
@@ -112,7 +112,7 @@ fn expect_stops(alloc: Global, heap: Lent<'_>, calls: &[Build<'_>]) -> Result<()
 }
 
 /// Whether a list is applied to its end, with `refused` of its truncations refused.
-fn is_applied<A: Allocator>(text: &mut Wtf8Buf<A>, calls: &[Build<'_>], refused: usize) -> bool {
+fn applies_all<A: Allocator>(text: &mut Wtf8Buf<A>, calls: &[Build<'_>], refused: usize) -> bool {
     match text.apply_all(calls) {
         Ok(found) => found == refused,
         Err(_) => false,
@@ -129,7 +129,7 @@ fn expect_applied(
 ) -> Result<(), Wrong> {
     heap.grant(9);
     let mut text = Wtf8Buf::new(heap);
-    if !is_applied(&mut text, calls, 3) || heap.grants_left() != 5 {
+    if !applies_all(&mut text, calls, 3) || heap.grants_left() != 5 {
         return Err(Wrong::Requests);
     }
     expect_bytes(alloc, text.as_wtf8(), dump)
@@ -172,14 +172,14 @@ fn a_list_of_every_call_stops_at_each_request(rt: HostRuntime) -> Result<(), Wro
 }
 
 /// Whether a list stops at its first push, which makes its only request, if that is refused.
-fn is_push_refused(heap: Lent<'_>, text: &mut Wtf8Buf<Lent<'_>>, refusal: Refusal) -> bool {
+fn stops_at_push(heap: Lent<'_>, text: &mut Wtf8Buf<Lent<'_>>, refusal: Refusal) -> bool {
     let calls = [
         Build::Reserve(0),
         Build::Push(point_of_unit(0xDCA9)),
         Build::Push(point_of_unit(0x61)),
     ];
     heap.refuse_after(0, refusal);
-    is_stopped(text, &calls, 1) && heap.requests() == 1
+    stops_at(text, &calls, 1) && heap.requests() == 1
 }
 
 /// Fails unless a list stops at a refused push and leaves "a" and D83D.
@@ -189,7 +189,7 @@ fn expect_push_refused(
     text: &mut Wtf8Buf<Lent<'_>>,
 ) -> Result<(), Wrong> {
     for refusal in REFUSALS {
-        if !is_push_refused(heap, text, refusal) {
+        if !stops_at_push(heap, text, refusal) {
             return Err(Wrong::Outcome);
         }
         expect_bytes(alloc, text.as_wtf8(), FULL)?;
@@ -212,7 +212,7 @@ fn a_list_stops_at_the_refused_push(rt: HostRuntime) -> Result<(), Wrong> {
 
 /// Fails unless an extension that needs more than the capacity stops, with the code points appended that fit.
 fn expect_part<A: Allocator>(text: &mut Wtf8Buf<A>, points: &[CodePoint]) -> Result<(), Wrong> {
-    if !is_stopped(text, &[Build::Extend(points)], 0) {
+    if !stops_at(text, &[Build::Extend(points)], 0) {
         return Err(Wrong::Outcome);
     }
     let view = text.as_wtf8();

@@ -1,6 +1,6 @@
 // Calls that make a string or a text: the requests for memory that each makes, and that it fails if one of them is
 // refused.
-use crate::samples::{Call, Sample, expect_refused, is_done, sample_with};
+use crate::samples::{Call, Sample, expect_refused, sample_with, succeeds};
 use crate::shared::{Lent, push_letters};
 use refusing::Refusing;
 use std::alloc::{AllocError, Allocator, Global};
@@ -47,7 +47,7 @@ fn rows() -> [Row; 17] {
 fn expect_granted<'a>(heap: Lent<'a>, row: Row, sample: &Sample<Lent<'a>>) -> Result<(), Wrong> {
     let (call, _, requests, bytes) = row;
     heap.grant(9);
-    let is_done = is_done(heap, call, sample);
+    let is_done = succeeds(heap, call, sample);
     if !is_done || heap.requests() != requests || heap.bytes() != bytes {
         return Err(Wrong::Requests);
     }

@@ -74,7 +74,7 @@ fn join<A: Allocator>(text: &mut Wtf8Buf<A>, sample: &Sample<A>) -> Result<(), A
 }
 
 /// Whether a list of calls that appends the sample as a view, then as code points, is applied.
-fn is_applied<A: Allocator>(text: &mut Wtf8Buf<A>, sample: &Sample<A>) -> bool {
+fn applies<A: Allocator>(text: &mut Wtf8Buf<A>, sample: &Sample<A>) -> bool {
     let calls = [
         Build::PushWtf8(sample.text.as_wtf8()),
         Build::Extend(&sample.points),
@@ -93,7 +93,7 @@ fn appends<A: Allocator>(text: &mut Wtf8Buf<A>, call: Call, sample: &Sample<A>) 
         Call::JoinWtf8 => join(text, sample).is_ok(),
         Call::Extend => text.extend(sample.points.iter().copied()).is_ok(),
         Call::ApplyExtend => text.apply(Build::Extend(&sample.points)).is_ok(),
-        _ => is_applied(text, sample),
+        _ => applies(text, sample),
     }
 }
 
@@ -132,7 +132,7 @@ fn writes<A: Allocator + Drop + Copy>(heap: A, call: Call, view: Wtf8<'_>) -> bo
 }
 
 /// Whether the call succeeds.
-pub fn is_done<A: Allocator + Drop + Copy>(heap: A, call: Call, sample: &Sample<A>) -> bool {
+pub fn succeeds<A: Allocator + Drop + Copy>(heap: A, call: Call, sample: &Sample<A>) -> bool {
     match call {
         Call::WithCapacity | Call::FromStr | Call::FromUnits | Call::FromIter | Call::Clone => {
             makes(heap, call, sample)
@@ -156,7 +156,7 @@ pub fn expect_refused<'a>(
     for refusal in REFUSALS {
         for granted in 0..requests {
             heap.refuse_after(granted, refusal);
-            let is_done = is_done(heap, call, sample);
+            let is_done = succeeds(heap, call, sample);
             if is_done || heap.requests() != granted.wrapping_add(1) {
                 return Err(Wrong::Requests);
             }

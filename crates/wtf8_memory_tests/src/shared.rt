@@ -3,6 +3,7 @@ use refusing::Refusing;
 use std::alloc::{AllocError, Allocator, Global};
 use wtf8::{Build, Wtf8Buf};
 use wtf8_tests::examples::point_of_unit;
+use wtf8_tests::way::Way;
 use wtf8_tests::wrong::{Wrong, expect_bytes};
 
 pub type Lent<'a> = &'a Refusing<Global>;
@@ -71,12 +72,12 @@ pub fn call_named<A: Allocator>(text: &mut Wtf8Buf<A>, call: Build<'_>) -> Resul
     }
 }
 
-/// Makes a call through `apply` if `is_applied`, else as a method, and returns whether it succeeded.
-pub fn is_made<A: Allocator>(text: &mut Wtf8Buf<A>, call: Build<'_>, is_applied: bool) -> bool {
-    if is_applied {
-        return matches!(text.apply(call), Ok(true));
+/// Makes a call, and returns whether it succeeded.
+pub fn succeeds<A: Allocator>(text: &mut Wtf8Buf<A>, call: Build<'_>, way: Way) -> bool {
+    match way {
+        Way::Method => call_named(text, call).is_ok(),
+        Way::Apply => matches!(text.apply(call), Ok(true)),
     }
-    call_named(text, call).is_ok()
 }
 
 /// A call, whether it is applied, and the bytes after it.

@@ -45,7 +45,7 @@ fn appended_in_room<'a>(
 }
 
 /// Whether `append_units`, without spare capacity and memory, changes nothing, and fails unless there are no units.
-fn is_refused(heap: Lent<'_>, text: Wtf8<'_>) -> Result<bool, AllocError> {
+fn fails_without_memory(heap: Lent<'_>, text: Wtf8<'_>) -> Result<bool, AllocError> {
     heap.grant(u64::MAX);
     let mut full = Vec::from_slice(heap, &BEFORE)?;
     heap.grant(0);
@@ -58,7 +58,7 @@ fn is_refused(heap: Lent<'_>, text: Wtf8<'_>) -> Result<bool, AllocError> {
 fn come_back(heap: Lent<'_>, text: Wtf8<'_>, whole: &[u16]) -> Result<bool, AllocError> {
     let is_appended = appended(heap, text)?.as_slice() == whole;
     let is_in_room = appended_in_room(heap, text, whole.len())?.as_slice() == whole;
-    Ok(is_appended && is_in_room && is_refused(heap, text)?)
+    Ok(is_appended && is_in_room && fails_without_memory(heap, text)?)
 }
 
 /// `BEFORE` followed by `units`.
@@ -70,7 +70,7 @@ fn whole_of(alloc: Global, units: &[u16]) -> Result<Vec<u16>, AllocError> {
 
 /// Whether `append_units` appends the units of `text` if there is memory or capacity, and else leaves the vector
 /// unchanged.
-fn is_each_way(alloc: Global, text: Wtf8<'_>, units: &[u16]) -> Result<bool, AllocError> {
+fn appends_each_way(alloc: Global, text: Wtf8<'_>, units: &[u16]) -> Result<bool, AllocError> {
     let whole = whole_of(alloc, units)?;
     let heap = Refusing::new(alloc, u64::MAX);
     come_back(&heap, text, &whole)
@@ -79,7 +79,7 @@ fn is_each_way(alloc: Global, text: Wtf8<'_>, units: &[u16]) -> Result<bool, All
 /// Whether the units of the string of `units` come back by `append_units`.
 fn are_units_back(alloc: Global, units: &[u16]) -> Result<bool, AllocError> {
     let text = Wtf8Buf::from_ill_formed_utf16(alloc, units)?;
-    is_each_way(alloc, text.as_wtf8(), units)
+    appends_each_way(alloc, text.as_wtf8(), units)
 }
 
 /// Fails unless the units come back by `append_units`.

@@ -88,31 +88,32 @@ fn is_text(string: Wtf8Buf<Global>) -> bool {
     }
 }
 
-/// Whether the lossy text of the view is `text`, and borrowed if `is_borrowed`.
-fn is_lossy(
-    alloc: Global,
-    view: Wtf8<'_>,
-    text: &str,
-    is_borrowed: bool,
-) -> Result<bool, AllocError> {
+/// Whether the lossy text of the view is `text`, borrowed from the view.
+fn is_borrowed_text(alloc: Global, view: Wtf8<'_>, text: &str) -> Result<bool, AllocError> {
     let lossy = view.to_string_lossy(alloc)?;
-    Ok(matches!(lossy, CowStr::Borrowed(_)) == is_borrowed && lossy.as_str() == text)
+    Ok(matches!(lossy, CowStr::Borrowed(_)) && lossy.as_str() == text)
+}
+
+/// Whether the lossy text of the view is `text`, copied from the view.
+fn is_copied_text(alloc: Global, view: Wtf8<'_>, text: &str) -> Result<bool, AllocError> {
+    let lossy = view.to_string_lossy(alloc)?;
+    Ok(!matches!(lossy, CowStr::Borrowed(_)) && lossy.as_str() == text)
 }
 
 #[test]
 fn a_string_without_surrogates_is_a_text(rt: HostRuntime) -> Result<(), Wrong> {
     let text = made(String::from_str(rt.alloc(), TEXT))?;
     expect(is_text(Wtf8Buf::from_string(text)), Wrong::Bytes)?;
-    let is_borrowed = made(is_lossy(rt.alloc(), Wtf8::from_str(TEXT), TEXT, true))?;
-    expect(is_borrowed, Wrong::Bytes)
+    let is_text = made(is_borrowed_text(rt.alloc(), Wtf8::from_str(TEXT), TEXT))?;
+    expect(is_text, Wrong::Bytes)
 }
 
 #[test]
 fn a_lossy_text_has_replacements(rt: HostRuntime) -> Result<(), Wrong> {
     let text = made(appended(rt.alloc()))?;
     let lossy = "aé 💩\u{FFFD}";
-    let is_copied = made(is_lossy(rt.alloc(), text.as_wtf8(), lossy, false))?;
-    expect(is_copied && text.as_wtf8().as_str().is_none(), Wrong::Bytes)?;
+    let is_text = made(is_copied_text(rt.alloc(), text.as_wtf8(), lossy))?;
+    expect(is_text && text.as_wtf8().as_str().is_none(), Wrong::Bytes)?;
     expect(text.into_string_lossy().as_str() == lossy, Wrong::Bytes)
 }
 
@@ -149,7 +150,7 @@ fn a_string_is_truncated_inside_a_pair(rt: HostRuntime) -> Result<(), Wrong> {
 }
 
 /// Whether `clear` empties a string and keeps its capacity.
-fn is_cleared(text: &mut Wtf8Buf<Global>) -> bool {
+fn clears(text: &mut Wtf8Buf<Global>) -> bool {
     let capacity = text.capacity();
     text.clear();
     text.is_empty() && text.as_wtf8().is_empty() && text.len() == 0 && text.capacity() == capacity
@@ -159,7 +160,7 @@ fn is_cleared(text: &mut Wtf8Buf<Global>) -> bool {
 fn a_cleared_string_is_empty_and_begins_anew(rt: HostRuntime) -> Result<(), Wrong> {
     let mut text = appended(rt.alloc())?;
     assert!(rt; !text.is_empty() && !text.as_wtf8().is_empty());
-    assert!(rt; is_cleared(&mut text));
+    assert!(rt; clears(&mut text));
     text.push(point_of_unit(0xDCA9))?;
     expect_bytes(rt.alloc(), text.as_wtf8(), "ED B2 A9")
 }
@@ -241,7 +242,7 @@ fn usize_max_is_no_boundary(rt: HostRuntime) -> Result<(), Wrong> {
 }
 
 /// Whether a list of an extension by a lead and one by its trail and "a" is applied.
-fn is_extended_twice(text: &mut Wtf8Buf<Global>) -> bool {
+fn extends_twice(text: &mut Wtf8Buf<Global>) -> bool {
     let front = [point_of_unit(0xD83D)];
     let back = [point_of_unit(0xDCA9), point_of_unit(0x61)];
     text.apply_all(&[Build::Extend(&front), Build::Extend(&back)]) == Ok(0)
@@ -250,6 +251,6 @@ fn is_extended_twice(text: &mut Wtf8Buf<Global>) -> bool {
 #[test]
 fn two_extensions_join(rt: HostRuntime) -> Result<(), Wrong> {
     let mut text = Wtf8Buf::new(rt.alloc());
-    expect(is_extended_twice(&mut text), Wrong::Outcome)?;
+    expect(extends_twice(&mut text), Wrong::Outcome)?;
     expect_bytes(rt.alloc(), text.as_wtf8(), "F0 9F 92 A9 61")
 }

@@ -71,7 +71,11 @@ fn takes<T: Display>(
 }
 
 /// Whether the string and its view are written in these parts, and end at each refused write.
-fn is_in_parts(alloc: Global, text: &Wtf8Buf<Global>, parts: &[&str]) -> Result<bool, AllocError> {
+fn writes_in_parts(
+    alloc: Global,
+    text: &Wtf8Buf<Global>,
+    parts: &[&str],
+) -> Result<bool, AllocError> {
     for left in 0..parts.len().saturating_add(2) {
         if !takes(alloc, text, left, parts)? || !takes(alloc, &text.as_wtf8(), left, parts)? {
             return Ok(false);
@@ -99,7 +103,7 @@ fn a_lossy_text_is_written_in_parts(rt: HostRuntime) -> Result<(), Wrong> {
     let alloc = rt.alloc();
     for (numbers, parts) in parts_rows() {
         let text = pushed(alloc, numbers)?;
-        expect_true(is_in_parts(alloc, &text, parts))?;
+        expect_true(writes_in_parts(alloc, &text, parts))?;
     }
     Ok(())
 }

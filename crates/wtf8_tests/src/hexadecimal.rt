@@ -29,7 +29,7 @@ fn dumps_of_all_prefixes_are_prefixes(rt: HostRuntime) -> Result<(), Wrong> {
 }
 
 /// Whether "before:" is `expected` once the dump of `text` is appended.
-fn is_appended(alloc: Global, text: &str, expected: &str) -> Result<bool, AllocError> {
+fn appends_dump(alloc: Global, text: &str, expected: &str) -> Result<bool, AllocError> {
     let mut out = Vec::from_slice(alloc, b"before:")?;
     Wtf8::from_str(text).append_hex_dump(&mut out)?;
     Ok(out.as_slice() == expected.as_bytes())
@@ -46,7 +46,7 @@ fn a_dump_is_appended_after_a_text(rt: HostRuntime) -> Result<(), Wrong> {
             "before:C3 A9 E6 BC A2 F0 9F 92 A9 C3 A9 E6 BC A2 F0 9F 92 A9",
         ),
     ] {
-        expect_true(is_appended(alloc, text, expected))?;
+        expect_true(appends_dump(alloc, text, expected))?;
     }
     Ok(())
 }

@@ -26,4 +26,5 @@ pub mod sinks;
 #[cfg(test)]
 mod unit_cuts;
 pub mod unit_lists;
+pub mod way;
 pub mod wrong;

@@ -1,6 +1,7 @@
 // Truncation to every number of code units.
 use crate::examples::{expect_made, expect_units, joining};
 use crate::unit_lists::{lists, long_list};
+use crate::way::Way;
 use crate::wrong::Wrong;
 use refusing::{REFUSALS, Refusal, Refusing};
 use std::alloc::{Allocator, Global};
@@ -8,44 +9,46 @@ use wtf8::{Build, Wtf8Buf};
 
 type Lent<'a> = &'a Refusing<Global>;
 
-/// Truncates `text` to `n` code units by `apply` if `is_applied`, and returns whether the result is `Ok(is_within)`.
-/// Else truncates by `truncate_units` unless `text` has fewer units, and returns true.
-fn cut<A: Allocator>(text: &mut Wtf8Buf<A>, n: usize, is_applied: bool, is_within: bool) -> bool {
-    if is_applied {
-        return text.apply(Build::TruncateUnits(n)) == Ok(is_within);
+/// Truncates the string of `units` to `n` code units, by `truncate_units` only if it has at least `n`. Returns whether
+/// `apply`, if it is called, says whether there were at least `n`.
+fn cuts<A: Allocator>(text: &mut Wtf8Buf<A>, units: &[u16], n: usize, way: Way) -> bool {
+    match way {
+        Way::Apply => text.apply(Build::TruncateUnits(n)) == Ok(n <= units.len()),
+        Way::Method => {
+            if n <= text.as_wtf8().unit_len() {
+                text.truncate_units(n);
+            }
+            true
+        }
     }
-    if n <= text.as_wtf8().unit_len() {
-        text.truncate_units(n);
-    }
-    true
 }
 
 /// Whether truncation with every request refused, or the first alone, has the right result and makes no request.
-fn is_cut(
+fn cuts_without_memory(
     heap: Lent<'_>,
     text: &mut Wtf8Buf<Lent<'_>>,
+    units: &[u16],
     n: usize,
-    is_applied: bool,
-    is_within: bool,
+    way: Way,
     refusal: Refusal,
 ) -> bool {
     heap.refuse_after(0, refusal);
-    cut(text, n, is_applied, is_within) && heap.requests() == 0
+    cuts(text, units, n, way) && heap.requests() == 0
 }
 
-/// Truncates the string of `units` to `n`, by `apply` or `truncate_units`, with every request refused or the first
+/// Truncates the string of `units` to `n` with every request refused or the first
 /// alone. Fails unless the result is right, without a request, and leaves the first `n` units, or all.
 fn expect_cut(
     alloc: Global,
     heap: Lent<'_>,
     units: &[u16],
     n: usize,
-    is_applied: bool,
+    way: Way,
     refusal: Refusal,
 ) -> Result<(), Wrong> {
     heap.grant(1_000);
     let mut text = Wtf8Buf::from_ill_formed_utf16(heap, units)?;
-    if !is_cut(heap, &mut text, n, is_applied, n <= units.len(), refusal) {
+    if !cuts_without_memory(heap, &mut text, units, n, way, refusal) {
         return Err(Wrong::Outcome);
     }
     expect_units(alloc, text.as_wtf8(), &units[..n.min(units.len())])
@@ -54,8 +57,8 @@ fn expect_cut(
 /// Fails unless truncation to `n` units is right.
 fn expect_cut_at(alloc: Global, heap: Lent<'_>, units: &[u16], n: usize) -> Result<(), Wrong> {
     for refusal in REFUSALS {
-        expect_cut(alloc, heap, units, n, true, refusal)?;
-        expect_cut(alloc, heap, units, n, false, refusal)?;
+        expect_cut(alloc, heap, units, n, Way::Apply, refusal)?;
+        expect_cut(alloc, heap, units, n, Way::Method, refusal)?;
     }
     Ok(())
 }
