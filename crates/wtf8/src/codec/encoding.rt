@@ -1,5 +1,5 @@
 // Encodes one code point at the end of a byte vector, and decodes the one at the front of a byte slice.
-ghost use Rattle.std.specs.Prelude.{◌≡◌, ◌++◌, ◌+◌, ◌-◌, ◌*◌, ◌/◌, ◌%◌, ◌<◌, ◌≤◌, ◌↔◌, ◌⊎◌, IsTrue, length, take, slice_index, vec_len, vec_capacity};
+ghost use Rattle.std.specs.Prelude.{◌≡◌, ◌++◌, ◌+◌, ◌-◌, ◌*◌, ◌/◌, ◌%◌, ◌^◌, ◌<◌, ◌≤◌, ◌↔◌, ◌⊎◌, IsTrue, length, take, slice_index, vec_len, vec_capacity};
 ghost use Rattle.wtf8.specs.CodePoint.{number};
 ghost use Rattle.wtf8.specs.Form.{encoding};
 ghost use Rattle.wtf8.specs.private.EncodedBytes.{BeginsWithPoint, FirstPointIs, BecomesOrKeeps};
@@ -200,21 +200,23 @@ pub(crate) fn read_trail(bytes: &[u8]) -> u16
     (0xDC00 + u32::from(bytes[0] % 16) * 64 + u32::from(bytes[1] % 64)) as u16
 }
 
-/// The code point at the front of `bytes`, and its encoded length.
+/// The code point at the front of `bytes`, which is at byte position `at`, and the position after it: with a length in
+/// its place, loops over code points take an instruction more for each.
 #[inline(always)]
-pub(crate) fn read(bytes: &[u8]) -> (CodePoint, usize)
-    requires { BeginsWithPoint bytes.now }
-    ensures { FirstPointIs bytes.now (number result.0) result.1 }
+pub(crate) fn read(bytes: &[u8], at: usize) -> (CodePoint, usize)
+    requires front { BeginsWithPoint bytes.now }
+    requires within { at + length bytes.now < 2 ^ 64 }
+    ensures { (b : BeginsWithPoint bytes.now) → (number result.0 ≡ b.point) × (result.1 ≡ at + length (encoding b.point)) }
 {
     let first = bytes[0];
-    let (value, len) = if first < 0x80 {
-        (u32::from(first), 1)
+    let (value, after) = if first < 0x80 {
+        (u32::from(first), at + 1)
     } else if first < 0xE0 {
-        (read_two(bytes), 2)
+        (read_two(bytes), at + 2)
     } else if first < 0xF0 {
-        (read_three(bytes), 3)
+        (read_three(bytes), at + 3)
     } else {
-        (read_four(bytes), 4)
+        (read_four(bytes), at + 4)
     };
-    (CodePoint::from_u32_unchecked(value), len)
+    (CodePoint::from_u32_unchecked(value), after)
 }

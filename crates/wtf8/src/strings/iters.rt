@@ -68,8 +68,8 @@ impl<'a> Wtf8CodePoints<'a> {
             return None;
         }
         let (_, rest) = self.bytes.split_at(self.position);
-        let (code_point, len) = encoding::read(rest);
-        self.position += len;
+        let (code_point, after) = encoding::read(rest, self.position);
+        self.position = after;
         Some(code_point)
     }
 }

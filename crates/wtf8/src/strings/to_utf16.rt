@@ -125,7 +125,7 @@ fn decode_point<'a>(units: &mut [u16], left: Undecoded<'a>) -> Undecoded<'a>
         0x80..=0xDF => write_units(units, left, [encoding::read_two(bytes) as u16], 1, 2),
         0xE0..=0xEF => write_units(units, left, [encoding::read_three(bytes) as u16], 1, 3),
         _ => {
-            let (code_point, width) = encoding::read(bytes);
+            let (code_point, width) = encoding::read(bytes, 0);
             let value = code_point.to_u32();
             if value < 0x10000 {
                 return write_units(units, left, [value as u16], 1, width);

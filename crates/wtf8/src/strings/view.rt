@@ -226,7 +226,7 @@ impl<'a> Wtf8<'a> {
         if self.bytes.is_empty() {
             return None;
         }
-        let (code_point, width) = encoding::read(self.bytes);
+        let (code_point, width) = encoding::read(self.bytes, 0);
         Some((code_point, self.skip_bytes(width)))
     }
 

@@ -1,7 +1,7 @@
-use Rattle.wtf8.proofs.Common.{◌≡◌, ℕ, ◌<◌, ◌≤◌, List, [], ◌∷◌, IsWellFormed, ap, arith, length, length-drop, number, subst, units}
-use Rattle.wtf8.proofs.Common.{units_of, BeginsWithUnits, FirstPointIs}
+use Rattle.wtf8.proofs.Common.{◌≡◌, ℕ, ◌+◌, ◌<◌, ◌≤◌, List, [], ◌∷◌, encoding, IsWellFormed, ap, arith, length, length-drop, number, subst}
+use Rattle.wtf8.proofs.Common.{units, units_of, BeginsWithPoint, BeginsWithUnits, FirstPointIs}
 use Rattle.wtf8.proofs.lemmas.codec.Readings.{first_of, units_one, units_two}
-use Rattle.wtf8.proofs.lemmas.strings.ToUtf16.{read_units}
+use Rattle.wtf8.proofs.lemmas.strings.ToUtf16.{ReadUnits, read_units}
 use Rattle.wtf8.proofs.strings.to_utf16.decode_point.Goals as goal
 
 pub read_two-requires-clause-front : goal.read_two-requires-clause-front
@@ -10,8 +10,8 @@ read_two-requires-clause-front c = (first_of c.args.left.view.well_formed c.requ
 pub read_three-requires-clause-front : goal.read_three-requires-clause-front
 read_three-requires-clause-front c = (first_of c.args.left.view.well_formed c.requires.nonempty).0
 
-pub read-width-requires : goal.read-width-requires
-read-width-requires c = (first_of c.args.left.view.well_formed c.requires.nonempty).0
+pub read-width-requires-clause-front : goal.read-width-requires-clause-front
+read-width-requires-clause-front c = (first_of c.args.left.view.well_formed c.requires.nonempty).0
 
 -- a first code point `p` of one unit: it is the first unit, its bytes are there, and there is a unit
 one_unit : {w : List ℕ} (h : IsWellFormed w) (p n : ℕ) → 0 < length w → FirstPointIs w p n → p < 0x10000
@@ -33,6 +33,11 @@ write_units-requires-in-224-to-239 c =
     c.read_three.ensures.one_unit in
     (omega arith, (omega arith, (omega (arith, c.requires.room, r.2), ((omega arith, r.1), r.0))))
 
+-- the decoded code point gives the next units
+first_point_read : {w : List ℕ} → IsWellFormed w → (p n : ℕ) → 0 < length w
+    → ((b : BeginsWithPoint w) → (p ≡ b.point) × (n ≡ 0 + length (encoding b.point))) → ReadUnits w p n
+first_point_read h p n positive read = read_units h p n positive (λ b. let was = read b in (was.0, omega (arith, was.1)))
+
 pub write_units-requires-then-value-lt65536 : goal.write_units-requires-then-value-lt65536
 write_units-requires-then-value-lt65536 c =
     let value = c.to_u32-value.result in
@@ -45,7 +50,7 @@ pub write_units-requires-in_default : goal.write_units-requires-in_default
 write_units-requires-in_default c =
     let view = c.args.left.view in
     let p = number c.read-width.result.0 in
-    let r = read_units view.well_formed p c.read-width.result.1 c.requires.nonempty c.read-width.ensures in
+    let r = first_point_read view.well_formed p c.read-width.result.1 c.requires.nonempty c.read-width.ensures in
     let two = units_two p (omega (arith, c.to_u32-value.ensures.value, c.if-value-lt65536.false)) in
     let same : units_of p ≡ c.lead_of.result ∷ c.trail_of.result ∷ [] =
     rw (c.lead_of.ensures, c.trail_of.ensures, c.to_u32-value.ensures.value) two in
@@ -55,7 +60,8 @@ write_units-requires-in_default c =
 pub returns-then-value-lt65536-clause-shorter : goal.returns-then-value-lt65536-clause-shorter
 returns-then-value-lt65536-clause-shorter c =
     let view = c.args.left.view in
-    let r = read_units view.well_formed (number c.read-width.result.0) c.read-width.result.1 c.requires.nonempty c.read-width.ensures in
+    let r =
+    first_point_read view.well_formed (number c.read-width.result.0) c.read-width.result.1 c.requires.nonempty c.read-width.ensures in
     omega (
       arith,
       r.positive,
@@ -67,5 +73,6 @@ returns-then-value-lt65536-clause-shorter c =
 pub returns-else-value-lt65536-clause-shorter : goal.returns-else-value-lt65536-clause-shorter
 returns-else-value-lt65536-clause-shorter c =
     let view = c.args.left.view in
-    let r = read_units view.well_formed (number c.read-width.result.0) c.read-width.result.1 c.requires.nonempty c.read-width.ensures in
+    let r =
+    first_point_read view.well_formed (number c.read-width.result.0) c.read-width.result.1 c.requires.nonempty c.read-width.ensures in
     omega (arith, r.positive, r.within, ap length c.write_units-in_default.ensures.bytes, length-drop c.read-width.result.1 view.bytes.now)

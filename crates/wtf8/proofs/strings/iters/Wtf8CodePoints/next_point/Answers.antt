@@ -1,4 +1,4 @@
-use Rattle.wtf8.proofs.Common.{◌∙◌, ◌∷◌, ◌+◌, arith, ap, sym, refl, length-drop, number}
+use Rattle.wtf8.proofs.Common.{◌∙◌, ◌∷◌, arith, ap, sym, refl, length-drop, number}
 use Rattle.wtf8.proofs.lemmas.codec.Encoding.{BeginsWithPoint-equal_bytes}
 use Rattle.wtf8.proofs.lemmas.codec.Readings.{points-nil, first_of, Taken-from_first, same_points}
 use Rattle.wtf8.proofs.strings.iters.Wtf8CodePoints.next_point.Goals as goal
@@ -9,31 +9,23 @@ returns-then-self c =
     let none = points-nil s.well_formed (omega (arith, length-drop s.position s.bytes.now, c.if-self.true)) in
     (sym c.self.view_is ∙ none, sym c.self.view_is ∙ none)
 
-pub read-len-requires : goal.read-len-requires
-read-len-requires c =
+pub read-after-requires-clause-front : goal.read-after-requires-clause-front
+read-after-requires-clause-front c =
     let s = c.self.inside in
     rw c.split_at.ensures.back (first_of s.well_formed (omega (arith, length-drop s.position s.bytes.now, s.within, c.if-self.false))).0
-
-pub overflow_add-self : goal.overflow_add-self
-overflow_add-self c =
-    let s = c.self.inside in
-    let t = Taken-from_first s.bytes.now s.position s.well_formed (number c.read-len.result.0)
-    (s.position + c.read-len.result.1) (omega (arith, s.within, c.if-self.false))
-    (λ b. let was = c.read-len.ensures (BeginsWithPoint-equal_bytes b c.split_at.ensures.back) in (was.0, omega (arith, was.1))) in
-    let w = t.within in omega (arith, w)
 
 pub invariant_of-self-inside : goal.invariant_of-self-inside
 invariant_of-self-inside c =
     let s = c.self.inside in
-    let t = Taken-from_first s.bytes.now s.position s.well_formed (number c.read-len.result.0)
-    (s.position + c.read-len.result.1) (omega (arith, s.within, c.if-self.false))
-    (λ b. let was = c.read-len.ensures (BeginsWithPoint-equal_bytes b c.split_at.ensures.back) in (was.0, omega (arith, was.1))) in
+    let t = Taken-from_first s.bytes.now s.position s.well_formed (number c.read-after.result.0) c.read-after.result.1
+    (omega (arith, s.within, c.if-self.false))
+    (λ b. c.read-after.ensures (BeginsWithPoint-equal_bytes b c.split_at.ensures.back)) in
     (t.within, (t.rest, tt))
 
 pub returns : goal.returns
 returns c =
     let s = c.self.inside in
-    let t = Taken-from_first s.bytes.now s.position s.well_formed (number c.read-len.result.0)
-    (s.position + c.read-len.result.1) (omega (arith, s.within, c.if-self.false))
-    (λ b. let was = c.read-len.ensures (BeginsWithPoint-equal_bytes b c.split_at.ensures.back) in (was.0, omega (arith, was.1))) in
-    sym c.self.view_is ∙ (t.joined ∙ ap (λ r. number c.read-len.result.0 ∷ r) (same_points t.rest c.self-1.given.1.0 refl))
+    let t = Taken-from_first s.bytes.now s.position s.well_formed (number c.read-after.result.0) c.read-after.result.1
+    (omega (arith, s.within, c.if-self.false))
+    (λ b. c.read-after.ensures (BeginsWithPoint-equal_bytes b c.split_at.ensures.back)) in
+    sym c.self.view_is ∙ (t.joined ∙ ap (λ r. number c.read-after.result.0 ∷ r) (same_points t.rest c.self-1.given.1.0 refl))
