@@ -143,7 +143,8 @@ int32_t wtf8_copy_slice(wtf8_string *string, size_t begin, size_t end, uint16_t 
 /* The same of the text in UTF-8, `*len` in bytes, if there is no surrogate. Codes: DONE, SURROGATE, TOO_SHORT. */
 int32_t wtf8_copy_utf8(wtf8_string *string, uint8_t *out, size_t size, size_t *len);
 
-/* The same of the text with U+FFFD in place of each surrogate. Codes: DONE, MEMORY, TOO_SHORT. */
+/* The same of the text with U+FFFD in place of each surrogate. A short array is reported before memory is requested.
+ * Codes: DONE, MEMORY, TOO_SHORT. */
 int32_t wtf8_copy_lossy(wtf8_string *string, uint8_t *out, size_t size, size_t *len);
 
 #ifdef __cplusplus
