@@ -1,4 +1,4 @@
-//! The results of both sides, call by call, and those of a model.
+//! The results of both sides, call by call, and the results of a model.
 
 pub mod differ;
 pub mod model;
