@@ -1,9 +1,12 @@
 """The table of all rows in docs/PERFORMANCE_TABLE.md: columns are written by name, and rows that it lacks are added.
 Rows that take more time than the crate's get a reason; gate/page_numbers names those that need one by hand.
 
-    compare/table.py ORDER TIMES
+    compare/table.py --write ORDER TIMES
+    compare/table.py --add ORDER TIMES
 
 ORDER is a file with what `compare rows` prints, the rows in their order, and TIMES one with what `compare table` prints.
+With --write the times replace those of the table. With --add they are of a run on another day or machine: where it
+differs from the table's by more than a tenth, the cell becomes the range of both.
 """
 
 import pathlib
@@ -55,10 +58,25 @@ def name_of(row):
     return f"{row['Call']}\t{row['Input']}"
 
 
+def ends_of(cell):
+    """Returns the least and the greatest number of a cell: a number, or a range of two."""
+    low, _, high = cell.partition("–")
+    return float(low), float(high or low)
+
+
+def with_run(cell, other):
+    """Returns the range of a cell and the number of another run, or the cell if that differs by at most a tenth."""
+    if not cell or not other:
+        return cell or other
+    low, _, high = cell.partition("–")
+    least, greatest = min(low, other, key=float), max(high or low, other, key=float)
+    return f"{least}–{greatest}" if float(greatest) > 1.1 * float(least) else cell
+
+
 def reason(row):
     """Returns why a row takes more time than the crate's: what the row says already, else the reason for its call, else
     that it is not known if it takes no more instructions."""
-    if float(row["ratio"]) <= 1:
+    if ends_of(row["ratio"])[1] <= 1:
         return ""
     title = REASONS.get(re.split("[ ,]", row["Call"])[0])
     if title is None and float(row.get("their ratio") or 0) <= 1:
@@ -87,11 +105,17 @@ def write(order, found):
 
 
 def main():
-    order_file, times_file = map(pathlib.Path, sys.argv[1:])
+    mode, *files = sys.argv[1:]
+    order_file, times_file = map(pathlib.Path, files)
     order = [line.rpartition("\t")[0] for line in order_file.read_text(encoding="utf-8").splitlines()]
     lines = times_file.read_text(encoding="utf-8").splitlines()
     rows = [row_of(line) for line in lines[lines.index("All rows:") + 4 :]]
-    write(order, {name_of(row): {column: row[column] for column in COLUMNS[2:6]} for row in rows})
+    _, known = parts()
+    found = {}
+    for row in rows:
+        before = known.get(name_of(row), {}) if mode == "--add" else {}
+        found[name_of(row)] = {column: with_run(before.get(column, ""), row[column]) for column in COLUMNS[2:6]}
+    write(order, found)
 
 
 if __name__ == "__main__":
