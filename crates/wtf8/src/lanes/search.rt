@@ -1,16 +1,10 @@
-// Finds the encodings of surrogates in bytes, and replaces them by U+FFFD.
-ghost use Rattle.std.specs.Prelude.{◌≡◌, ◌∷◌, ◌++◌, ◌+◌, ◌<◌, ◌≤◌, length, take, drop};
-ghost use Rattle.wtf8.specs.Form.{IsWellFormed, bytes as bytes_of};
+// Finds the encodings of surrogates in bytes.
+ghost use Rattle.std.specs.Prelude.{◌+◌, ◌<◌, length};
 ghost use Rattle.wtf8.specs.private.FirstIndex.{IsFirst, IsFirstIn};
 ghost use Rattle.wtf8.specs.private.SurrogateSearch.{SurrogateInLane, SurrogateAt};
-ghost use Rattle.wtf8.specs.Surrogates.{lossy_points};
 
 use crate::lanes::masks::first_set_lane;
-use std::alloc::Allocator;
 use std::simd::prelude::*;
-
-/// The encoding of U+FFFD, the replacement character: three bytes, like the encoding of each surrogate.
-const REPLACEMENT: [u8; 3] = [0xEF, 0xBF, 0xBD];
 
 /// The first lane with 0xED in `firsts` and at least 0xA0 in `seconds`, which are the first two bytes of a surrogate.
 #[inline(always)]
@@ -63,23 +57,4 @@ fn next_surrogate_bytewise(bytes: &[u8], from: usize) -> Option<usize>
         }
     }
     None
-}
-
-fn write_replacement<A: Allocator>(bytes: &mut Vec<u8, A>, at: usize)
-    requires { at + 3 ≤ length bytes.old.items }
-    ensures { bytes.new.items ≡ take at bytes.old.items ++ (0xEF ∷ 0xBF ∷ 0xBD ∷ drop (at + 3) bytes.old.items) }
-{
-    bytes[at..at + 3].copy_from_slice(&REPLACEMENT);
-}
-
-/// Overwrites each surrogate with U+FFFD.
-pub(crate) fn replace_surrogates<A: Allocator>(bytes: &mut Vec<u8, A>)
-    requires { IsWellFormed bytes.old.items }
-    ensures { (h : IsWellFormed bytes.old.items) → bytes.new.items ≡ bytes_of (lossy_points h.points) }
-{
-    let mut from = 0;
-    while let Some(found) = next_surrogate(bytes, from) {
-        write_replacement(bytes, found);
-        from = found + 3;
-    }
 }

@@ -21,6 +21,7 @@ use crate::codec::{encoding, surrogates};
 use crate::from_utf16::transcode;
 use crate::lanes::search;
 use crate::strings::concat;
+use crate::strings::lossy::replace_surrogates;
 use crate::strings::unit_positions::find_cut;
 use crate::strings::utf8_prefix::Utf8Prefix;
 use crate::strings::view::Wtf8;
@@ -428,7 +429,7 @@ impl<A: Allocator> Wtf8Buf<A> {
         let is_utf8 = self.is_utf8();
         let Wtf8Buf { mut bytes, .. } = self;
         if !is_utf8 {
-            search::replace_surrogates(&mut bytes);
+            replace_surrogates(&mut bytes);
         }
         bytes
     }

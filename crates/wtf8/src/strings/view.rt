@@ -14,6 +14,7 @@ use crate::codec::code_point::CodePoint;
 use crate::codec::encoding;
 use crate::lanes::search;
 use crate::strings::iters::{IllFormedUtf16CodeUnits, Wtf8CodePoints};
+use crate::strings::lossy::replace_surrogates;
 use std::alloc::{AllocError, Allocator};
 use std::borrow::CowStr;
 
@@ -203,7 +204,7 @@ impl<'a> Wtf8<'a> {
             return Ok(CowStr::Borrowed(text));
         }
         let mut bytes = Vec::from_slice(alloc, self.bytes)?;
-        search::replace_surrogates(&mut bytes);
+        replace_surrogates(&mut bytes);
         Ok(CowStr::Owned(unsafe { String::from_utf8_unchecked(bytes) }))
     }
 
