@@ -1,19 +1,10 @@
 // Finds the encodings of surrogates in bytes.
 ghost use Rattle.std.specs.Prelude.{◌+◌, ◌<◌, length};
 ghost use Rattle.wtf8.specs.private.FirstIndex.{IsFirst, IsFirstIn};
-ghost use Rattle.wtf8.specs.private.SurrogateSearch.{SurrogateInLane, SurrogateAt};
+ghost use Rattle.wtf8.specs.private.SurrogateSearch.{SurrogateAt};
 
 use crate::lanes::masks::first_set_lane;
 use std::simd::prelude::*;
-
-/// The first lane with 0xED in `firsts` and at least 0xA0 in `seconds`, which are the first two bytes of a surrogate.
-#[inline(always)]
-fn block(firsts: u8x32, seconds: u8x32) -> Option<usize>
-    ensures { IsFirstIn (SurrogateInLane firsts seconds) 0 32 result }
-{
-    let begin = firsts.simd_eq(Simd::splat(0xED)) & seconds.simd_ge(Simd::splat(0xA0));
-    first_set_lane(begin.to_bitmask())
-}
 
 /// The index of the first surrogate that begins in `at..at + 32`. Reads one byte past that range.
 #[inline(always)]
@@ -21,9 +12,11 @@ fn surrogate_in_block(bytes: &[u8], at: usize) -> Option<usize>
     requires { at + 32 < length bytes.now }
     ensures { IsFirstIn (SurrogateAt bytes.now) at (at + 32) result }
 {
-    let firsts = Simd::from_slice(&bytes[at..]);
-    let seconds = Simd::from_slice(&bytes[at + 1..]);
-    match block(firsts, seconds) {
+    let firsts = u8x32::from_slice(&bytes[at..]);
+    let seconds = u8x32::from_slice(&bytes[at + 1..]);
+    // The first two bytes of a surrogate.
+    let begin = firsts.simd_eq(Simd::splat(0xED)) & seconds.simd_ge(Simd::splat(0xA0));
+    match first_set_lane(begin.to_bitmask()) {
         Some(lane) => Some(at + lane),
         None => None,
     }

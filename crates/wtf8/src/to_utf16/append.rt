@@ -12,7 +12,9 @@ use crate::codec::surrogates::{lead_of, trail_of};
 use crate::lanes::VECTOR;
 use crate::lanes::ascii::is_ascii_overlapping;
 use crate::strings::view::Wtf8;
-use crate::to_utf16::blocks::{EncodedLength, OneByte, ThreeBytes, TwoBytes, widen_bytes};
+use crate::to_utf16::blocks::{
+    EncodedLength, OneByte, ThreeBytes, TwoBytes, is_lead_byte, widen_bytes,
+};
 use crate::vec::copies::push_block;
 use std::alloc::{AllocError, Allocator};
 use std::simd::prelude::*;
@@ -170,7 +172,7 @@ fn decode_run<
             decode_point(units, after)
         };
         let bytes = rest.view.bytes;
-        if bytes.len() < BYTES || bytes.is_empty() || !K::is_lead_byte(bytes[0]) {
+        if bytes.len() < BYTES || bytes.is_empty() || !is_lead_byte(bytes[0], WIDTH) {
             return rest;
         }
     }

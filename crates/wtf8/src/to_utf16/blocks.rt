@@ -27,9 +27,6 @@ pub(crate) trait EncodedLength<const N: usize, const WIDTH: usize, const BYTES: 
         ensures within { (result.1 ≤ N) × (result.1 ≤ WIDTH * result.1) × (WIDTH * result.1 ≤ BYTES) }
         ensures more { result.1 < N → WIDTH * result.1 < BYTES }
         ensures begins { BeginsWithUnits bytes.now (take result.1 result.0) (WIDTH * result.1) };
-
-    /// Whether `byte` begins a code point of this kind.
-    fn is_lead_byte(byte: u8) -> bool;
 }
 
 /// ASCII.
@@ -40,6 +37,16 @@ pub(crate) struct TwoBytes;
 
 /// Code points of three bytes, surrogates included.
 pub(crate) struct ThreeBytes;
+
+/// Whether `byte` begins a code point of `width` bytes, at most three.
+#[inline(always)]
+pub(crate) fn is_lead_byte(byte: u8, width: usize) -> bool {
+    match width {
+        1 => byte < 0x80,
+        2 => byte / 32 == 6,
+        _ => byte / 16 == 14,
+    }
+}
 
 /// Widens each byte to a code unit.
 #[inline(always)]
@@ -102,11 +109,6 @@ impl EncodedLength<16, 1, 16> for OneByte {
         let block = u8x16::from_slice(bytes);
         (widen_bytes(block), count_leading_with_prefix(block, 128, 0))
     }
-
-    #[inline(always)]
-    fn is_lead_byte(byte: u8) -> bool {
-        byte < 0x80
-    }
 }
 
 impl EncodedLength<32, 1, 32> for OneByte {
@@ -114,11 +116,6 @@ impl EncodedLength<32, 1, 32> for OneByte {
     fn read(bytes: &[u8]) -> ([u16; 32], usize) {
         let block = u8x32::from_slice(bytes);
         (widen_bytes(block), count_leading_with_prefix(block, 128, 0))
-    }
-
-    #[inline(always)]
-    fn is_lead_byte(byte: u8) -> bool {
-        byte < 0x80
     }
 }
 
@@ -128,11 +125,6 @@ impl EncodedLength<8, 2, 16> for TwoBytes {
         let (firsts, units) = read_twos(u8x16::from_slice(bytes));
         (units, count_leading_with_prefix(firsts, 32, 6))
     }
-
-    #[inline(always)]
-    fn is_lead_byte(byte: u8) -> bool {
-        byte / 32 == 6
-    }
 }
 
 impl EncodedLength<8, 3, 32> for ThreeBytes {
@@ -140,10 +132,5 @@ impl EncodedLength<8, 3, 32> for ThreeBytes {
     fn read(bytes: &[u8]) -> ([u16; 8], usize) {
         let (firsts, units) = read_threes(u8x32::from_slice(bytes));
         (units, count_leading_with_prefix(firsts, 16, 14))
-    }
-
-    #[inline(always)]
-    fn is_lead_byte(byte: u8) -> bool {
-        byte / 16 == 14
     }
 }
