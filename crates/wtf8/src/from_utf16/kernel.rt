@@ -19,7 +19,7 @@
 // for units 4-7. A row is a shuffle that packs the bytes to be written: 4, and one more for each set bit of its index.
 #![tactic(auto, using(crate::proofs::lemmas::lanes::AsciiFronts::by_all))]
 
-ghost use Rattle.std.specs.Prelude.{◌≡◌, ◌⊎◌, ℕ, List, ◌∷◌, Bool, ◌&&◌, ◌+◌, ◌-◌, ◌*◌, ◌%◌, ◌/◌, ◌^◌, ◌<◌, ◌≤◌, ◌++◌, length, map, take, drop, slice_index_or, IfOk, IsTrue, nat_lt, if◌then◌else◌};
+ghost use Rattle.std.specs.Prelude.{◌≡◌, ◌⊎◌, ℕ, List, Bool, ◌&&◌, ◌+◌, ◌-◌, ◌*◌, ◌%◌, ◌/◌, ◌^◌, ◌<◌, ◌≤◌, ◌++◌, length, map, take, drop, slice_index_or, IfOk, IsTrue, nat_lt, if◌then◌else◌};
 ghost use lib.Lanes.{Each1};
 ghost use Rattle.wtf8.specs.Unicode.{IsLead, IsUnit};
 ghost use Rattle.wtf8.specs.private.ConvertedPrefix.{AreScalarUnits, IsReadTo};

@@ -25,10 +25,10 @@ pub record DecodesRun (n : ℕ) (P : ℕ → Type 0) (f : List ℕ → ℕ) : Ty
   pub part : (p : ℕ) (r : List ℕ) → P (get_or (encoding p ++ r) 0 0) → DecodesUnit n f p r
   pub local : (b r : List ℕ) → n ≤ length b → f (b ++ r) ≡ f b
 
-abbrev pub unit_of_one : List ℕ → ℕ
+abbrev unit_of_one : List ℕ → ℕ
 unit_of_one w = get_or w 0 0
 
-pub DecodesRun-one_byte : DecodesRun 1 (HasBitPrefix 128 0) unit_of_one
+DecodesRun-one_byte : DecodesRun 1 (HasBitPrefix 128 0) unit_of_one
 DecodesRun-one_byte = record {
   positive = omega arith;
   part = λ p r h.
@@ -99,13 +99,13 @@ units_then_rest {P} n f rows (suc c) (suc k) at w b r h e long same le each =
     }
 
 -- bytes are their own lead bytes and units at width 1
-pub lead_bytes_of-one_byte : (k : ℕ) (w : List ℕ) → length w ≡ k → w ≡ lead_bytes_of 1 k w
+lead_bytes_of-one_byte : (k : ℕ) (w : List ℕ) → length w ≡ k → w ≡ lead_bytes_of 1 k w
 lead_bytes_of-one_byte zero [] e = refl
 lead_bytes_of-one_byte zero (b ∷ w) e = absurd (omega arith)
 lead_bytes_of-one_byte (suc k) [] e = absurd (omega arith)
 lead_bytes_of-one_byte (suc k) (b ∷ w) e = ap (λ v. b ∷ v) (lead_bytes_of-one_byte k w (omega arith))
 
-pub units_of_run-one_byte : (k : ℕ) (w : List ℕ) → length w ≡ k → w ≡ units_of_run 1 unit_of_one k w
+units_of_run-one_byte : (k : ℕ) (w : List ℕ) → length w ≡ k → w ≡ units_of_run 1 unit_of_one k w
 units_of_run-one_byte zero [] e = refl
 units_of_run-one_byte zero (b ∷ w) e = absurd (omega arith)
 units_of_run-one_byte (suc k) [] e = absurd (omega arith)
@@ -122,6 +122,14 @@ begins_with_run {P} n c m f rows w count first_byte_lanes block wide long le e g
     (n * count) w (take m w) (drop m w) h (sym (take-append-drop m w)) (omega (arith, wide, long, length-take m w)) refl le
     (subst (λ v. Each1 P (take count v)) e each) in
     (after.rest, after.whole ∙ ap (λ b. take count b ++ units after.rest.points) (sym g))
+
+-- the same of ASCII: the bytes are their own lead bytes and units
+pub begins_with_ascii : (n : ℕ) (w : List ℕ) (count : ℕ) (block : List ℕ) → n ≤ length w → count ≤ n → block ≡ take n w
+    → Each1 (HasBitPrefix 128 0) (take count (take n w)) → BeginsWithUnits w (take count block) (1 * count)
+begins_with_ascii n w count block long le e =
+    let fits : length (take n w) ≡ n = omega (arith, long, length-take n w) in
+    begins_with_run 1 n n unit_of_one DecodesRun-one_byte w count (take n w) block (omega arith) long le
+    (lead_bytes_of-one_byte n (take n w) fits) (e ∙ units_of_run-one_byte n (take n w) fits)
 
 -- a code point `p` that was decoded from `n` bytes gives the next units
 pub record ReadUnits (w : List ℕ) (p n : ℕ) : Type 0 where

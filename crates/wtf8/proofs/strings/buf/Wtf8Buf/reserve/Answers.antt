@@ -10,7 +10,8 @@ invariant_of-self-inside g c =
 
 pub returns-in_err-reserve-clause-units : goal.returns-in_err-reserve-clause-units
 returns-in_err-reserve-clause-units g c =
-    ap units (same_points c.in_err-reserve.self-1-own.given.0 c.self.inside.well_formed c.reserve.ensures.items) ∙ ap (λ (t : UnitString). t.units) c.self.view_is
+    ap units (same_points c.in_err-reserve.self-1-own.given.0 c.self.inside.well_formed c.reserve.ensures.items)
+    ∙ ap (λ (t : UnitString). t.units) c.self.view_is
 
 -- the truncation removes nothing
 same_bytes : (g : Over) (c : After-truncate g) → c.truncate.new.self.items ≡ c.self.inside.bytes.items

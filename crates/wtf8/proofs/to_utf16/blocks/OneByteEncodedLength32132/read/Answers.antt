@@ -1,13 +1,7 @@
-use Rattle.wtf8.proofs.Common.{◌≡◌, ◌∙◌, arith, length, take, length-take}
-use Rattle.wtf8.proofs.lemmas.to_utf16.Blocks.{begins_with_run, unit_of_one, DecodesRun-one_byte, lead_bytes_of-one_byte}
-use Rattle.wtf8.proofs.lemmas.to_utf16.Blocks.{units_of_run-one_byte}
+use Rattle.wtf8.proofs.lemmas.to_utf16.Blocks.{begins_with_ascii}
 use Rattle.wtf8.proofs.to_utf16.blocks.OneByteEncodedLength32132.read.Goals as goal
 
 pub returns-clause-begins : goal.returns-clause-begins
 returns-clause-begins c =
-    let block = take 32 c.args.bytes.now in
-    let long : length block ≡ 32 = omega (arith, c.requires, length-take 32 c.args.bytes.now) in
-    begins_with_run 1 32 32 unit_of_one DecodesRun-one_byte c.args.bytes.now c.count_leading_with_prefix.result block c.widen_bytes.result
-    (omega arith)
-    c.requires c.count_leading_with_prefix.ensures.within (lead_bytes_of-one_byte 32 block long)
-    (c.widen_bytes.ensures ∙ units_of_run-one_byte 32 block long) c.count_leading_with_prefix.ensures.each
+    begins_with_ascii 32 c.args.bytes.now c.count_leading_with_prefix.result c.widen_bytes.result c.requires
+    c.count_leading_with_prefix.ensures.within c.widen_bytes.ensures c.count_leading_with_prefix.ensures.each

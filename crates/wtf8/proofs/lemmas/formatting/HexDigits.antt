@@ -10,6 +10,9 @@ use borrow.Table.Row.{s_int}
 use mir.Syntax.{shr, unsigned, bit_and as bit_and_op}
 use mir.Val.{Fits}
 use Rattle.wtf8.specs.Hex.{digit}
+use Rattle.wtf8.proofs.Common.{IsClean, bytes}
+use Rattle.wtf8.proofs.lemmas.codec.Encoding.{encoding_cases, one, two, three, four}
+use Rattle.wtf8.proofs.lemmas.codec.Readings.{clean-first, clean-rest}
 
 -- the ASCII digits of 0 to 15
 abbrev pub digit_table : List ℕ
@@ -98,11 +101,24 @@ spaced_ascii b h (suc zero) = digit_ascii (b / 16) (omega arith)
 spaced_ascii b h (suc (suc zero)) = digit_ascii (b % 16) (omega arith)
 spaced_ascii b h (suc (suc (suc i))) = omega arith
 
-all_spaced_ascii : (bytes : List ℕ) → ((i : ℕ) → Fits w8 (get_or bytes i 0)) → IsAscii (flat_map spaced_hex bytes)
+all_spaced_ascii : (bytes : List ℕ) → Each1 (λ b. b < 256) bytes → IsAscii (flat_map spaced_hex bytes)
 all_spaced_ascii [] h = λ i. omega arith
-all_spaced_ascii (b ∷ bytes) h = IsAscii-append (spaced_hex b) _ (spaced_ascii b (h 0).fits) (all_spaced_ascii bytes (λ i. h (suc i)))
+all_spaced_ascii (b ∷ bytes) h = IsAscii-append (spaced_hex b) _ (spaced_ascii b h.0) (all_spaced_ascii bytes h.1)
 
 -- hexadecimal text is ASCII
-pub hex_ascii : (bytes : List ℕ) → ((i : ℕ) → Fits w8 (get_or bytes i 0)) → IsAscii (hex bytes)
+pub hex_ascii : (bytes : List ℕ) → Each1 (λ b. b < 256) bytes → IsAscii (hex bytes)
 hex_ascii [] h = λ i. omega arith
-hex_ascii (b ∷ bytes) h = IsAscii-append (hex_of b) _ (λ i. spaced_ascii b (h 0).fits (suc i)) (all_spaced_ascii bytes (λ i. h (suc i)))
+hex_ascii (b ∷ bytes) h = IsAscii-append (hex_of b) _ (λ i. spaced_ascii b h.0 (suc i)) (all_spaced_ascii bytes h.1)
+
+-- well-formed bytes are below 256
+pub bytes_below_256 : (c : List ℕ) → IsClean c → Each1 (λ b. b < 256) (bytes c)
+bytes_below_256 [] x = tt
+bytes_below_256 (p ∷ c) x =
+    let range = clean-first p c x in
+    let rest = bytes_below_256 c (clean-rest p c x) in
+    elim (encoding_cases p) [
+      | one l e ↦ rw e (omega (arith, l), rest)
+      | two _ l e ↦ rw e (omega arith, (omega arith, rest))
+      | three _ l e ↦ rw e (omega arith, (omega arith, (omega arith, rest)))
+      | four l e ↦ rw e (omega (arith, range), (omega arith, (omega arith, (omega arith, rest))))
+    ]

@@ -1,5 +1,5 @@
 use Rattle.wtf8.proofs.Common.{◌≡◌, ◌++◌, ◌+◌, ◌*◌, ◌-◌, ◌≤◌, length, take, vec_len, vec_capacity, flat_map, spaced_hex}
-use Rattle.wtf8.proofs.formatting.hex_digits.push_hex.Given as goal
+use Rattle.wtf8.proofs.strings.view.Wtf8.append_hex_dump.Given as goal
 
 -- the first `at` bytes are written, and the spare capacity suffices for the others
 abbrev pub invariant-loop-at : goal.invariant-loop-at
