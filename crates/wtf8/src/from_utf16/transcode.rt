@@ -148,6 +148,33 @@ fn append_small_block<A: Allocator>(
     kernel::append_blocks::<TAIL_SCRATCH_BYTES, A>(bytes, v, from)
 }
 
+/// Appends the bytes of units to an empty buffer until fewer than `SMALL_BLOCK` are left. Returns how far units are
+/// encoded. With these loops in `append_utf16` itself, 40 units whose ends join take 1.4% more instructions.
+#[inline(always)]
+fn append_blocks<A: Allocator>(bytes: &mut Vec<u8, A>, v: &[u16]) -> Result<Progress, AllocError>
+    requires { bytes.old.items ≡ [] }
+    ensures read { IfOk result (λ to. IsReadTo bytes.new.items v.now to.at to.is_utf8) }
+    ensures empty { v.now ≡ [] → IsOk result }
+{
+    let mut read = Progress {
+        at: 0,
+        is_utf8: true,
+    };
+    while LONG_LIST <= v.len() - read.at {
+        read = append_next::<ASCII_BLOCK, LONG_SCRATCH_BYTES, A>(bytes, v, read)?;
+    }
+    while ASCII_BLOCK <= v.len() - read.at {
+        read = append_next::<ASCII_BLOCK, SCRATCH_BYTES, A>(bytes, v, read)?;
+    }
+    while TAIL_ASCII_BLOCK <= v.len() - read.at {
+        read = append_next::<TAIL_ASCII_BLOCK, TAIL_SCRATCH_BYTES, A>(bytes, v, read)?;
+    }
+    while SMALL_BLOCK <= v.len() - read.at {
+        read = append_small_block(bytes, v, read)?;
+    }
+    Ok(read)
+}
+
 /// Appends the bytes of all units from index `from.at` on. Returns whether the whole list holds no lone surrogate.
 ///
 /// `decode_utf16` joins each pair, so it yields no trail directly after a lead, and `append` has nothing to join.
@@ -183,21 +210,6 @@ pub(crate) fn append_utf16<A: Allocator>(
     ensures ok { IfOk result (λ known. IsKnownForm bytes.new.items v.now known) }
     ensures empty { v.now ≡ [] → IsOk result }
 {
-    let mut read = Progress {
-        at: 0,
-        is_utf8: true,
-    };
-    while LONG_LIST <= v.len() - read.at {
-        read = append_next::<ASCII_BLOCK, LONG_SCRATCH_BYTES, A>(bytes, v, read)?;
-    }
-    while ASCII_BLOCK <= v.len() - read.at {
-        read = append_next::<ASCII_BLOCK, SCRATCH_BYTES, A>(bytes, v, read)?;
-    }
-    while TAIL_ASCII_BLOCK <= v.len() - read.at {
-        read = append_next::<TAIL_ASCII_BLOCK, TAIL_SCRATCH_BYTES, A>(bytes, v, read)?;
-    }
-    while SMALL_BLOCK <= v.len() - read.at {
-        read = append_small_block(bytes, v, read)?;
-    }
+    let read = append_blocks(bytes, v)?;
     append_rest(bytes, v, read)
 }

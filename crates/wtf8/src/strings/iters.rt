@@ -71,7 +71,6 @@ impl<'a> Iterator for Wtf8CodePoints<'a> {
 
     ghost remaining = { item_count (λ points. points) };
 
-    #[inline(always)]
     fn next(&mut self) -> Option<CodePoint> {
         if self.position == self.bytes.len() {
             return None;
