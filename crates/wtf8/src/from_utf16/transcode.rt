@@ -151,7 +151,7 @@ fn append_small_block<A: Allocator>(
 /// Appends the bytes of units to an empty buffer until fewer than `SMALL_BLOCK` are left. Returns how far units are
 /// encoded. With these loops in `append_utf16` itself, 40 units whose ends join take 1.4% more instructions.
 #[inline(always)]
-fn append_blocks<A: Allocator>(bytes: &mut Vec<u8, A>, v: &[u16]) -> Result<Progress, AllocError>
+fn append_steps<A: Allocator>(bytes: &mut Vec<u8, A>, v: &[u16]) -> Result<Progress, AllocError>
     requires { bytes.old.items ≡ [] }
     ensures read { IfOk result (λ to. IsReadTo bytes.new.items v.now to.at to.is_utf8) }
     ensures empty { v.now ≡ [] → IsOk result }
@@ -210,6 +210,6 @@ pub(crate) fn append_utf16<A: Allocator>(
     ensures ok { IfOk result (λ known. IsKnownForm bytes.new.items v.now known) }
     ensures empty { v.now ≡ [] → IsOk result }
 {
-    let read = append_blocks(bytes, v)?;
+    let read = append_steps(bytes, v)?;
     append_rest(bytes, v, read)
 }

@@ -1,6 +1,6 @@
 use Rattle.wtf8.proofs.Common.{◌-◌, length}
 use Rattle.wtf8.specs.private.ConvertedPrefix.{IsReadTo}
-use Rattle.wtf8.proofs.from_utf16.transcode.append_blocks.Given as goal
+use Rattle.wtf8.proofs.from_utf16.transcode.append_steps.Given as goal
 
 abbrev pub invariant-loop-read : goal.invariant-loop-read
 invariant-loop-read g l = IsReadTo l.bytes.items l.v l.read.at l.read.is_utf8
