@@ -1,11 +1,9 @@
 // Each request for memory refused in turn, with all after it or alone.
 use crate::lengths::repeated;
 use dump_lines::{Fault, dump_line, run};
-use refusing::{REFUSALS, Refusal, Refusing};
+use refusing::{Lent, REFUSALS, Refusal, Refusing};
 use std::alloc::Global;
 use std::test::Fail;
-
-type Lent<'a> = &'a Refusing<Global>;
 
 /// Lines with their outputs, the number of requests that each makes, and of the bytes in them: for the list of calls,
 /// of 24 bytes each, whose capacity is four at first and then doubles; for the string, eight bytes at first; for the

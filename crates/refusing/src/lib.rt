@@ -1,7 +1,7 @@
 //! An allocator for tests that refuses requests for memory after a number of them, and counts requests and their bytes.
 #![tactic(auto)]
 
-use std::alloc::{AllocError, Allocator};
+use std::alloc::{AllocError, Allocator, Global};
 use std::cell::Cell;
 
 /// Which requests are refused after the ones that are granted.
@@ -34,6 +34,9 @@ pub struct Refusing<B: Allocator> {
     inner: B,
     ledger: Cell<Ledger>,
 }
+
+/// The borrowed allocator that most tests of memory pass.
+pub type Lent<'a> = &'a Refusing<Global>;
 
 impl<B: Allocator> Refusing<B> {
     /// Wraps `inner`. The first `grants` requests are granted, and all after them refused.

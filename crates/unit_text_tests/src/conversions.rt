@@ -1,12 +1,9 @@
 // Texts made of strings and of `&str`, and grown by both: the requests for memory, and what a refused one leaves.
 use crate::shared::expect_text;
-use refusing::{REFUSALS, Refusal, Refusing};
-use std::alloc::Global;
+use refusing::{Lent, REFUSALS, Refusal, Refusing};
 use unit_text::UnitText;
 use wtf8::{Wtf8, Wtf8Buf};
 use wtf8_tests::wrong::{Wrong, expect, expect_bytes, made};
-
-type Lent<'a> = &'a Refusing<Global>;
 
 #[test]
 fn a_string_becomes_a_text_and_a_string_again_without_a_request(

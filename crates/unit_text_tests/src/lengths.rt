@@ -1,11 +1,9 @@
 // Texts of each length: each call succeeds if its requests are granted, and requests no more bytes than it needs.
 use crate::shared::slice_of;
-use refusing::Refusing;
+use refusing::{Lent, Refusing};
 use std::alloc::{AllocError, Global};
 use unit_text::UnitText;
 use wtf8_tests::wrong::{Wrong, expect, made};
-
-type Lent<'a> = &'a Refusing<Global>;
 
 /// Eight units that repeat in a text: of one kind alone, or mixed.
 fn kinds() -> [[u16; 8]; 5] {

@@ -1,10 +1,8 @@
 // The requests for memory of the marks of a text that grows.
-use refusing::Refusing;
+use refusing::{Lent, Refusing};
 use std::alloc::{AllocError, Allocator, Global};
 use unit_text::UnitText;
 use wtf8_tests::wrong::{Wrong, expect, made};
-
-type Lent<'a> = &'a Refusing<Global>;
 
 /// Lengths in units of a growing text, and the number of requests for its marks up to each. The text has a mark for each
 /// multiple of 128 below its length; the list of marks has room for four at first, and then for twice as many.

@@ -1,11 +1,9 @@
 // Texts with marks: the requests for these, and texts grown by pieces while requests are refused.
 use crate::shared::expect_units;
-use refusing::{REFUSALS, Refusal, Refusing};
+use refusing::{Lent, REFUSALS, Refusal, Refusing};
 use std::alloc::{AllocError, Allocator, Global};
 use unit_text::UnitText;
 use wtf8_tests::wrong::{Wrong, expect, made};
-
-type Lent<'a> = &'a Refusing<Global>;
 
 /// Six units that repeat in a text.
 fn kinds() -> [[u16; 6]; 5] {

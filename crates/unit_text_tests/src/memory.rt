@@ -1,11 +1,9 @@
 // Refused requests for memory, and the number of bytes in requests.
 use crate::shared::slice_of;
-use refusing::{REFUSALS, Refusal, Refusing};
+use refusing::{Lent, REFUSALS, Refusal, Refusing};
 use std::alloc::{AllocError, Global};
 use unit_text::UnitText;
 use wtf8_tests::wrong::{Wrong, expect, expect_bytes, made};
-
-type Lent<'a> = &'a Refusing<Global>;
 
 /// Units of three bytes each, so that a text of them grows more than once.
 const WIDE: [u16; 6] = [0xE000; 6];

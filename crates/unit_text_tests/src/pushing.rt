@@ -1,11 +1,9 @@
 // Texts that grow by single units, with marks and without, and their requests for memory refused in turn.
 use crate::shared::expect_units;
-use refusing::{Refusal, Refusing};
+use refusing::{Lent, Refusal, Refusing};
 use std::alloc::{AllocError, Global};
 use unit_text::UnitText;
 use wtf8_tests::wrong::{Wrong, expect_bytes, made};
-
-type Lent<'a> = &'a Refusing<Global>;
 
 type Text<'a> = UnitText<Lent<'a>>;
 

@@ -4,9 +4,8 @@ pub use Rattle.std.proofs.Common.{length-append, true, lit≤, lit<, get_or, Boo
 pub use Rattle.std.proofs.Common.{Ok, Err, OnOk, OnErr, ◌≢◌, ◌↔◌, IsTrue, ◌*◌, zero, suc, None, ◌⊎◌, ◌&&◌, leb, not, w8, map, ltb}
 pub use Rattle.std.proofs.Common.{replicate, Option, IfSome, rules, vec_len, vec_capacity, length-take, length-drop, take-add, nat_eq, ◌^◌}
 pub use Rattle.std.proofs.Common.{eqb, ◌||◌, bit_or, Fits, MatchResult, bit_and, is_ok, codes, drop-cons, length-take-le, min, slice_index}
-pub use Rattle.std.proofs.Common.{w16, ◌==◌}
+pub use Rattle.std.proofs.Common.{w16}
 pub use Rattle.std.proofs.Math.Seq.{get_or-append_seam, take-append-add, drop-append-add}
-pub use Rattle.std.proofs.Math.Utf8.{scalar_cases}
 pub use Rattle.std.proofs.Output.{has_written_styled_nil, writes_in_calls_append}
 pub use Rattle.std.proofs.lemmas.Bool.{cases_order, cases_Bool, cases_lt, le-leb, lt-leb, false≢true, lt-ltb, le-ltb, leb-true, and_parts}
 pub use Rattle.std.proofs.lemmas.Bool.{both_ways, and_from, eq-eqb, eqb-true, not-false, false_from_ne_true, not-true, true≢false}
@@ -16,7 +15,7 @@ pub use Rattle.std.proofs.lemmas.Iterator.Consumers.{YieldsList-from_first}
 pub use Rattle.std.proofs.lemmas.List.{take-append-drop, map-append, append-nil, take_at, drop_at, get_or-append_right, drop_all}
 pub use Rattle.std.proofs.lemmas.List.{get_or-append-add, take_all, same_from_push, append_cancel_left, drop-drop, drop-append-le}
 pub use Rattle.std.proofs.lemmas.List.{drop-take, get_or-drop, get_or_append_left, length-map, length-replicate, map-id, take-take}
-pub use Rattle.std.proofs.lemmas.List.{take_rest, get_or-replicate}
+pub use Rattle.std.proofs.lemmas.List.{take_rest}
 pub use Rattle.std.proofs.lemmas.List.Concat.{flat_map-append}
 pub use Rattle.std.proofs.lemmas.List.Elements.{All-drop, All-same, All-cons, All-head, All-nil, All-tail, All-from_get_or, All-get_or}
 pub use Rattle.std.proofs.lemmas.List.Elements.{All-pop, All-take}
@@ -28,7 +27,6 @@ pub use Rattle.std.proofs.lemmas.Simd.{get_or-chunk, fold-sum, put_chunk_is, swz
 pub use Rattle.std.proofs.lemmas.Simd.{SwzOk-from_below, sum-zip2, sum_bound, sum_fits}
 pub use Rattle.std.proofs.lemmas.Str.{scalars-chars, IsAscii-append, IsUtf8-from_ascii, IsUtf8-string_bytes, chars-encodes, encode_same}
 pub use Rattle.std.proofs.lemmas.Str.{encodes-chars}
-pub use Rattle.std.specs.Char.{IsScalar}
 pub use Rattle.std.specs.Cmp.Lexicographic.{slice_cmp, pointwise, bytes_decides}
 pub use Rattle.std.specs.Fmt.{IsFlush}
 pub use Rattle.std.specs.Iterator.{Drains}
@@ -36,7 +34,7 @@ pub use Rattle.std.specs.Iterator.Adapters.{peekable_steps, peekable_peeked, cop
 pub use Rattle.std.specs.List.{All, slice_get, flat_map, prefix_len, range_with_len}
 pub use Rattle.std.specs.Option.{option_cmp, IsNone, option_to_list, unwrap_or}
 pub use Rattle.std.specs.Ordering.{nat_cmp, MatchOrdering, ordering_then, ordering_reverse}
-pub use Rattle.std.specs.Prelude.{IsOk, IsSome, MatchOption, ⊤}
+pub use Rattle.std.specs.Prelude.{IsOk, IsSome, MatchOption}
 pub use Rattle.std.specs.Slice.Iter.{iter_rest, iter_steps}
 pub use Rattle.std.specs.Str.{IsUtf8, chars, IsAscii}
 pub use Rattle.std.specs.declared.cmp.Ordering.{Ordering}
@@ -64,7 +62,7 @@ pub use Rattle.wtf8.specs.declared.strings.unit_counts.UnitCursor.{UnitCursor}
 pub use Rattle.wtf8.specs.declared.strings.view.Wtf8.{Wtf8}
 pub use Rattle.wtf8.specs.private.ConvertedPrefix.{IsKnownForm, DividesNoPair, AreAscii}
 pub use Rattle.wtf8.specs.private.Decoding.{point_of_item, points_of_items, units_left, decode_steps, ReadsAll}
-pub use Rattle.wtf8.specs.private.EncodedBytes.{ExtendsForm, BecomesOrKeeps, ExtendsFormOrKeeps, BeginsWithPoint, FirstPointByLead}
+pub use Rattle.wtf8.specs.private.EncodedBytes.{ExtendsForm, ExtendsFormOrKeeps, BeginsWithPoint, FirstPointByLead}
 pub use Rattle.wtf8.specs.private.EncodedBytes.{FirstPointIs}
 pub use Rattle.wtf8.specs.private.EncodedRuns.{BeginsWithUnits, HasBitPrefix, Writes, unit_of_three, unit_of_two}
 pub use Rattle.wtf8.specs.private.FirstIndex.{IsFirst, IsLeast, NoneIn, IsFirstIn, IsFirstSet, IsSet}

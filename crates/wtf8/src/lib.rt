@@ -8,6 +8,7 @@ mod from_utf16;
 mod lanes;
 pub mod laws;
 mod strings;
+mod to_utf16;
 mod vec;
 
 pub use codec::code_point::CodePoint;

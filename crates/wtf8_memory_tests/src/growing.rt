@@ -1,6 +1,6 @@
 // Calls that grow a string: the requests for memory that each makes, and what it leaves if one of them is refused.
-use crate::shared::{FULL, Lent, filled, full, push_letters, succeeds};
-use refusing::{REFUSALS, Refusal, Refusing};
+use crate::shared::{FULL, filled, full, push_letters, succeeds};
+use refusing::{Lent, REFUSALS, Refusal, Refusing};
 use std::alloc::{AllocError, Allocator, Global};
 use wtf8::{Build, CodePoint, Wtf8, Wtf8Buf};
 use wtf8_tests::examples::{TEXT, joined, point_of_unit};

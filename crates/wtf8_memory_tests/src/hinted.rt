@@ -1,6 +1,5 @@
 // Iterators whose lower size hint is wrong, or whose upper one is far above it.
-use crate::shared::Lent;
-use refusing::{REFUSALS, Refusing};
+use refusing::{Lent, REFUSALS, Refusing};
 use std::alloc::{AllocError, Allocator, Global};
 use std::cell::Cell;
 use wtf8::{CodePoint, Wtf8, Wtf8Buf};

@@ -1,8 +1,7 @@
 // Calls that request memory, on strings of each length: each succeeds if all its requests are granted, requests the
 // expected number of bytes, and fails at each request that is refused.
 use crate::samples::{Call, Sample, expect_refused, sample_with, succeeds};
-use crate::shared::Lent;
-use refusing::Refusing;
+use refusing::{Lent, Refusing};
 use std::alloc::{AllocError, Allocator, Global};
 use wtf8_tests::wrong::Wrong;
 

@@ -1,6 +1,6 @@
 // Lists of building calls that stop at a refused request for memory.
-use crate::shared::{FULL, Lent, call_named, full};
-use refusing::{REFUSALS, Refusal, Refusing};
+use crate::shared::{FULL, call_named, full};
+use refusing::{Lent, REFUSALS, Refusal, Refusing};
 use std::alloc::{AllocError, Allocator, Global};
 use wtf8::{Build, CodePoint, Wtf8, Wtf8Buf};
 use wtf8_tests::examples::{expect_made, joined, point_of_unit};

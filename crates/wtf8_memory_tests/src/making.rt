@@ -1,8 +1,8 @@
 // Calls that make a string or a text: the requests for memory that each makes, and that it fails if one of them is
 // refused.
 use crate::samples::{Call, Sample, expect_refused, sample_with, succeeds};
-use crate::shared::{Lent, push_letters};
-use refusing::Refusing;
+use crate::shared::push_letters;
+use refusing::{Lent, Refusing};
 use std::alloc::{AllocError, Allocator, Global};
 use wtf8::Wtf8Buf;
 use wtf8_tests::examples::expect_units;

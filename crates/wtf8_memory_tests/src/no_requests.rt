@@ -1,7 +1,7 @@
 // Calls that make no request for memory, not even one whose refusal they ignore: of nine requests granted before them
 // all are left after them. The calls also succeed if every request is refused.
-use crate::shared::{Lent, Step, expect_step};
-use refusing::Refusing;
+use crate::shared::{Step, expect_step};
+use refusing::{Lent, Refusing};
 use std::alloc::{AllocError, Allocator, Global};
 use std::borrow::CowStr;
 use wtf8::{Build, CodePoint, Wtf8, Wtf8Buf};

@@ -1,6 +1,5 @@
 // A string, the units and the code points that it is made of, and each call that requests memory on them.
-use crate::shared::Lent;
-use refusing::REFUSALS;
+use refusing::{Lent, REFUSALS};
 use std::alloc::{AllocError, Allocator, Global};
 use wtf8::{Build, CodePoint, Wtf8, Wtf8Buf};
 use wtf8_tests::examples::{point_of_unit, points_of_units};

@@ -1,12 +1,10 @@
 // Strings and calls that several test modules use.
-use refusing::Refusing;
+use refusing::Lent;
 use std::alloc::{AllocError, Allocator, Global};
 use wtf8::{Build, Wtf8Buf};
 use wtf8_tests::examples::point_of_unit;
 use wtf8_tests::way::Way;
 use wtf8_tests::wrong::{Wrong, expect_bytes};
-
-pub type Lent<'a> = &'a Refusing<Global>;
 
 /// The bytes of "a" and D83D.
 pub const FULL: &str = "61 ED A0 BD";

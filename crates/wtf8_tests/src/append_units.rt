@@ -1,6 +1,6 @@
 // `append_units` appends all code units of a string after a vector's own, wherever a block of one kind ends.
 use crate::wrong::Wrong;
-use refusing::Refusing;
+use refusing::{Lent, Refusing};
 use std::alloc::{AllocError, Global};
 use wtf8::{Wtf8, Wtf8Buf};
 
@@ -19,8 +19,6 @@ fn others() -> [&'static [u16]; 7] {
         &[0xD7FF, 0xE000, 0xDBFF, 0xDFFF, 0x007F, 0x0080, 0x0000],
     ]
 }
-
-type Lent<'a> = &'a Refusing<Global>;
 
 /// `BEFORE` with the units of `text` appended, with all requests for memory granted.
 fn appended<'a>(heap: Lent<'a>, text: Wtf8<'_>) -> Result<Vec<u16, Lent<'a>>, AllocError> {

@@ -3,11 +3,9 @@ use crate::examples::{expect_made, expect_units, joining};
 use crate::unit_lists::{lists, long_list};
 use crate::way::Way;
 use crate::wrong::Wrong;
-use refusing::{REFUSALS, Refusal, Refusing};
+use refusing::{Lent, REFUSALS, Refusal, Refusing};
 use std::alloc::{Allocator, Global};
 use wtf8::{Build, Wtf8Buf};
-
-type Lent<'a> = &'a Refusing<Global>;
 
 /// Truncates the string of `units` to `n` code units, by `truncate_units` only if it has at least `n`. Returns whether
 /// `apply`, if it is called, says whether there were at least `n`.

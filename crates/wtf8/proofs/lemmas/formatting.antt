@@ -1,1 +1,2 @@
 pub mod DebugTexts
+pub mod HexDigits

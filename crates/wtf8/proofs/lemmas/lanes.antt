@@ -1,7 +1,6 @@
 pub mod AsciiFronts
 pub mod Copies
 pub mod Mismatch
-pub mod HexDigits
 pub mod Masks
 pub mod SurrogateLanes
 pub mod UnitCounts

@@ -4,6 +4,5 @@ pub mod Positions
 pub mod Surrogates
 pub mod UnitCuts
 pub mod UnitMarks
-pub mod ToUtf16
 pub mod PositionLaws
 pub mod StringLaws

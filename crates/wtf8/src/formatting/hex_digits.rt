@@ -40,7 +40,7 @@ const SPACED_MIDDLE: [usize; VECTOR] = [2, 3, 16, 4, 5, 16, 6, 7, 16, 8, 9, 16, 
 const SPACED_BACK: [usize; VECTOR] = [5, 16, 6, 7, 16, 8, 9, 16, 10, 11, 16, 12, 13, 16, 14, 15];
 
 #[inline(always)]
-#[tactic(auto, using(crate::proofs::lemmas::lanes::HexDigits::digit_at))]
+#[tactic(auto, using(crate::proofs::lemmas::formatting::HexDigits::digit_at))]
 pub(crate) fn upper_digit(value: u8) -> char
     requires { value < 16 }
     ensures digit { result ≡ digit value }
@@ -59,7 +59,7 @@ fn upper_digits(values: u8x16) -> u8x16
 
 /// The text of one vector: a space and two digits for each byte.
 #[inline(always)]
-#[tactic(auto, using(crate::proofs::lemmas::lanes::HexDigits::highs_below, crate::proofs::lemmas::lanes::HexDigits::lows_below, crate::proofs::lemmas::lanes::HexDigits::block_text))]
+#[tactic(auto, using(crate::proofs::lemmas::formatting::HexDigits::highs_below, crate::proofs::lemmas::formatting::HexDigits::lows_below, crate::proofs::lemmas::formatting::HexDigits::block_text))]
 fn spaced_block(bytes: u8x16) -> [u8; SPACED_LEN]
     ensures { result ≡ flat_map spaced_hex bytes }
 {
@@ -77,18 +77,6 @@ fn spaced_block(bytes: u8x16) -> [u8; SPACED_LEN]
     back.shuffle(spaces, SPACED_BACK)
         .copy_to_slice(&mut text[2 * VECTOR..]);
     text
-}
-
-/// Appends a space and two digits for each byte of a vector, within the spare capacity.
-#[inline(always)]
-fn push_spaced_block<A: Allocator>(text: &mut Vec<u8, A>, bytes: u8x16)
-    requires { vec_len text.old + SPACED_LEN ≤ vec_capacity text.old }
-    ensures items { text.new.items ≡ text.old.items ++ flat_map spaced_hex bytes }
-    ensures len { vec_len text.new ≡ vec_len text.old + SPACED_LEN }
-    ensures capacity { vec_capacity text.old ≤ vec_capacity text.new }
-{
-    let block = spaced_block(bytes);
-    let _ = text.extend_from_slice(&block);
 }
 
 #[inline(always)]
@@ -113,38 +101,6 @@ fn push_spaced<A: Allocator>(text: &mut Vec<u8, A>, bytes: &[u8])
     }
 }
 
-/// Appends two upper-case digits for each byte, with a space between bytes. First reserves three bytes of text for each
-/// byte; if that is refused, the text is unchanged.
-fn push_hex<A: Allocator>(text: &mut Vec<u8, A>, bytes: &[u8]) -> Result<(), AllocError>
-    ensures ok { OnOk result (text.new.items ≡ text.old.items ++ hex bytes.now) }
-    ensures kept { OnErr result (text.new.items ≡ text.old.items) }
-    ensures room { vec_len text.old + 3 * length bytes.now ≤ vec_capacity text.old → IsOk result }
-{
-    text.reserve(bytes.len().saturating_mul(3))?;
-    let Some((first, rest)) = bytes.split_first() else {
-        return Ok(());
-    };
-    push_hex_byte(text, *first);
-    let mut at = 0;
-    while VECTOR <= rest.len() - at {
-        push_spaced_block(text, u8x16::from_slice(&rest[at..]));
-        at += VECTOR;
-    }
-    push_spaced(text, &rest[at..]);
-    Ok(())
-}
-
-/// Two upper-case digits for each byte, with a space between bytes. Reserves three bytes of text for each byte in one
-/// request, and requests no memory for an empty slice.
-fn hex_text<A: Allocator>(alloc: A, bytes: &[u8]) -> Result<String<A>, AllocError>
-    ensures ok { IfOk result (λ t. string_bytes t ≡ hex bytes.now) }
-    ensures empty { bytes.now ≡ [] → IsOk result }
-{
-    let mut text = Vec::with_capacity(alloc, bytes.len().saturating_mul(3))?;
-    push_hex(&mut text, bytes)?;
-    Ok(unsafe { String::from_utf8_unchecked(text) })
-}
-
 impl<'a> Wtf8<'a> {
     /// The bytes as hexadecimal text for diagnosis: two upper-case digits each, separated by spaces. An empty string
     /// does not allocate. Linear in the length.
@@ -152,7 +108,9 @@ impl<'a> Wtf8<'a> {
         ensures ok { IfOk result (λ t. string_bytes t ≡ hex self.now.bytes.now) }
         ensures empty { self.now.bytes.now ≡ [] → IsOk result }
     {
-        hex_text(alloc, self.bytes)
+        let mut text = Vec::with_capacity(alloc, self.bytes.len().saturating_mul(3))?;
+        self.append_hex_dump(&mut text)?;
+        Ok(unsafe { String::from_utf8_unchecked(text) })
     }
 
     /// Appends the text of `hex_dump` to a vector of bytes. Reserves three bytes for each byte of the string, and does
@@ -162,6 +120,17 @@ impl<'a> Wtf8<'a> {
         ensures kept { OnErr result (text.new.items ≡ text.old.items) }
         ensures room { vec_len text.old + 3 * length self.now.bytes.now ≤ vec_capacity text.old → IsOk result }
     {
-        push_hex(text, self.bytes)
+        text.reserve(self.bytes.len().saturating_mul(3))?;
+        let Some((first, rest)) = self.bytes.split_first() else {
+            return Ok(());
+        };
+        push_hex_byte(text, *first);
+        let mut at = 0;
+        while VECTOR <= rest.len() - at {
+            let _ = text.extend_from_slice(&spaced_block(u8x16::from_slice(&rest[at..])));
+            at += VECTOR;
+        }
+        push_spaced(text, &rest[at..]);
+        Ok(())
     }
 }

@@ -19,7 +19,7 @@
 // for units 4-7. A row is a shuffle that packs the bytes to be written: 4, and one more for each set bit of its index.
 #![tactic(auto, using(crate::proofs::lemmas::lanes::AsciiFronts::by_all))]
 
-ghost use Rattle.std.specs.Prelude.{◌≡◌, ◌⊎◌, ℕ, List, ◌∷◌, Bool, ◌&&◌, ◌+◌, ◌-◌, ◌*◌, ◌%◌, ◌/◌, ◌^◌, ◌<◌, ◌≤◌, ◌++◌, length, map, take, drop, slice_index_or, IfOk, IsTrue, nat_lt, if◌then◌else◌};
+ghost use Rattle.std.specs.Prelude.{◌≡◌, ◌⊎◌, ℕ, List, Bool, ◌&&◌, ◌+◌, ◌-◌, ◌*◌, ◌%◌, ◌/◌, ◌^◌, ◌<◌, ◌≤◌, ◌++◌, length, map, take, drop, slice_index_or, IfOk, IsTrue, nat_lt, if◌then◌else◌};
 ghost use lib.Lanes.{Each1};
 ghost use Rattle.wtf8.specs.Unicode.{IsLead, IsUnit};
 ghost use Rattle.wtf8.specs.private.ConvertedPrefix.{AreScalarUnits, IsReadTo};
@@ -220,15 +220,6 @@ fn candidate_bytes(units: u16x8, later: LaterBytes) -> Candidates
     }
 }
 
-/// Stores 16 bytes at index `len` of a block.
-#[inline(always)]
-fn store(bytes: u8x16, block: &mut [u8], len: usize)
-    requires { len + 16 ≤ length block.old }
-    ensures { block.new ≡ take len block.old ++ (bytes ++ drop (len + 16) block.old) }
-{
-    bytes.copy_to_slice(&mut block[len..]);
-}
-
 /// Packs the bytes of four units at index `len` of a block, by row `number`. Returns the index after them.
 #[inline(always)]
 fn pack_four(lanes: u8x16, number: usize, block: &mut [u8], len: usize) -> usize
@@ -238,11 +229,8 @@ fn pack_four(lanes: u8x16, number: usize, block: &mut [u8], len: usize) -> usize
     ensures bytes { (before : ℕ) (u : List ℕ) → length u ≡ 4 → take 12 lanes ≡ byte_lanes before u → number ≡ units_table_index u
         → take result block.new ≡ take len block.old ++ packed_units before u }
 {
-    store(
-        lanes.swizzle_dyn(shuffle_table::packing_shuffle(number)),
-        block,
-        len,
-    );
+    let packed = lanes.swizzle_dyn(shuffle_table::packing_shuffle(number));
+    packed.copy_to_slice(&mut block[len..]);
     len + shuffle_table::packed_len(number)
 }
 

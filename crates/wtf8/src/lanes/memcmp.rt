@@ -94,12 +94,7 @@ fn eq_up_to_vector(own: &[u8], others: &[u8]) -> bool
     if 4 <= own.len() {
         return eq_overlapping::<4>(own, others);
     }
-    for at in 0..own.len() {
-        if own[at] != others[at] {
-            return false;
-        }
-    }
-    true
+    mismatch_bytewise(own, others, own.len()).is_none()
 }
 
 /// Whether two slices of equal length, more than `VECTOR` and at most `BLOCK` bytes, are equal.

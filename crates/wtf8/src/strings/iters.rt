@@ -35,8 +35,6 @@ impl<'a> Model for Wtf8CodePoints<'a> {
 
 impl<'a> Wtf8CodePoints<'a> {
     ghost use Rattle.std.specs.Prelude.{◌≡◌};
-    ghost use Rattle.std.specs.Iterator.{YieldsFirstBy};
-    ghost use Rattle.wtf8.specs.CodePoint.{number};
     ghost use Rattle.wtf8.specs.Form.{bytes};
     ghost use Rattle.wtf8.specs.View.{view_points};
 
@@ -58,20 +56,6 @@ impl<'a> Wtf8CodePoints<'a> {
         let (_, left) = self.bytes.split_at(self.position);
         Wtf8::from_well_formed(left)
     }
-
-    /// The next code point, or `None` at the end.
-    #[inline(always)]
-    fn next_point(&mut self) -> Option<CodePoint>
-        ensures { YieldsFirstBy number (λ points. points) self.old result self.new }
-    {
-        if self.position == self.bytes.len() {
-            return None;
-        }
-        let (_, rest) = self.bytes.split_at(self.position);
-        let (code_point, after) = encoding::read(rest, self.position);
-        self.position = after;
-        Some(code_point)
-    }
 }
 
 impl<'a> Iterator for Wtf8CodePoints<'a> {
@@ -88,7 +72,13 @@ impl<'a> Iterator for Wtf8CodePoints<'a> {
     ghost remaining = { item_count (λ points. points) };
 
     fn next(&mut self) -> Option<CodePoint> {
-        self.next_point()
+        if self.position == self.bytes.len() {
+            return None;
+        }
+        let (_, rest) = self.bytes.split_at(self.position);
+        let (code_point, after) = encoding::read(rest, self.position);
+        self.position = after;
+        Some(code_point)
     }
 
     /// At least a quarter of the bytes left, rounded up, and at most all: a code point takes one to four bytes.

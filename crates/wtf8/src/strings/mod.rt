@@ -4,7 +4,7 @@ pub(crate) mod build;
 pub(crate) mod collect;
 pub(crate) mod concat;
 pub(crate) mod iters;
-pub(crate) mod to_utf16;
+pub(crate) mod lossy;
 pub(crate) mod unit_counts;
 pub(crate) mod unit_marks;
 pub(crate) mod unit_positions;

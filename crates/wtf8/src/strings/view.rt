@@ -2,7 +2,6 @@
 ghost use Rattle.std.specs.Prelude.{◌≡◌, ℕ, List, [], ◌∷◌, ◌++◌, ◌+◌, ◌*◌, ◌^◌, ◌<◌, ◌≤◌, ◌↔◌, length, take, drop, slice_index, IsTrue, IsSome, IfSome, IfNone, IfOk, IsOk};
 ghost use Rattle.std.specs.Cow.{cow_str_bytes, IsBorrowedStr};
 ghost use Rattle.std.specs.Str.{chars};
-ghost use Rattle.std.specs.String.{string_bytes};
 ghost use Rattle.wtf8.specs.Form.{bytes, IsWellFormed, Reads};
 ghost use Rattle.wtf8.specs.OneForm.{IsWellFormed-prop};
 ghost use Rattle.wtf8.specs.Position.{IsBoundary, IsFront, IsBack, IsMiddle};
@@ -14,6 +13,7 @@ use crate::codec::code_point::CodePoint;
 use crate::codec::encoding;
 use crate::lanes::search;
 use crate::strings::iters::{IllFormedUtf16CodeUnits, Wtf8CodePoints};
+use crate::strings::lossy::replace_surrogates;
 use std::alloc::{AllocError, Allocator};
 use std::borrow::CowStr;
 
@@ -203,7 +203,7 @@ impl<'a> Wtf8<'a> {
             return Ok(CowStr::Borrowed(text));
         }
         let mut bytes = Vec::from_slice(alloc, self.bytes)?;
-        search::replace_surrogates(&mut bytes);
+        replace_surrogates(&mut bytes);
         Ok(CowStr::Owned(unsafe { String::from_utf8_unchecked(bytes) }))
     }
 

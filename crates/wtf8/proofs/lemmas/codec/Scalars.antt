@@ -1,10 +1,11 @@
 -- Scalar values among code points and units, and U+FFFD for each surrogate.
 use Rattle.wtf8.proofs.Common.{◌≡◌, ℕ, ◌<◌, List, [], ◌∷◌, ◌++◌, inl, inr, true, refl, ap, ◌∙◌, arith, cases_lt, lt-leb, le-leb}
 use Rattle.wtf8.proofs.Common.{Each1-weaker, AreAscii, bytes, units, IsClean, IsSurrogate, AreScalar, IsKnownForm}
+use Rattle.wtf8.proofs.Common.{Wtf8, view_form, view_units}
 use Rattle.wtf8.specs.Surrogates.{replace_surrogate}
 use Rattle.wtf8.specs.private.ConvertedPrefix.{AreScalarUnits}
 use Rattle.wtf8.proofs.lemmas.codec.Encoding.{encoding_one}
-use Rattle.wtf8.proofs.lemmas.codec.Readings.{units-cons_one}
+use Rattle.wtf8.proofs.lemmas.codec.Readings.{units-cons_one, units_from_form}
 
 -- Lists of scalar values, divided and joined.
 
@@ -53,6 +54,10 @@ IsKnownForm-ascii u h = record {
   };
   scalar = λ _. AreScalar-scalar_units u (AreScalarUnits-ascii u h);
 }
+
+-- the units of a view of ASCII bytes are these bytes
+pub view_units-ascii : (view : Wtf8) → AreAscii view.bytes.now → view_units view ≡ view.bytes.now
+view_units-ascii view low = units_from_form _ _ _ (view_form view) (IsKnownForm-ascii view.bytes.now low).form
 
 -- U+FFFD in place of a surrogate.
 

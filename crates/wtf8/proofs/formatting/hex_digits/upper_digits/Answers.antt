@@ -1,5 +1,5 @@
 use Rattle.wtf8.proofs.Common.{refl, arith, w8, SwzOk-from_below}
-use Rattle.wtf8.proofs.lemmas.lanes.HexDigits.{swz_l-digit_table}
+use Rattle.wtf8.proofs.lemmas.formatting.HexDigits.{swz_l-digit_table}
 use Rattle.wtf8.proofs.formatting.hex_digits.upper_digits.Goals as goal
 
 pub swizzle : goal.swizzle

@@ -1,12 +1,12 @@
-use Rattle.wtf8.proofs.Common.{ℕ, ◌+◌, ◌++◌, ◌∙◌, ap, arith, refl, take, drop, get_or, w8, SwzOk-from_below, swz_l}
+use Rattle.wtf8.proofs.Common.{ℕ, ◌+◌, ◌++◌, ◌∙◌, ap, arith, refl, take, get_or, put_chunk_is, w8, SwzOk-from_below, swz_l}
 use Rattle.std.proofs.lemmas.Simd.{length-swz_l}
 use Rattle.wtf8.specs.private.PackedUnits.{byte_count}
 use Rattle.wtf8.proofs.lemmas.from_utf16.PackedUnits.{take-written_block}
 use Rattle.wtf8.proofs.lemmas.from_utf16.Kernel.{swz_l-packed_units, IsByteCount-byte_count}
 use Rattle.wtf8.proofs.from_utf16.kernel.pack_four.Goals as goal
 
-pub swizzle : goal.swizzle
-swizzle c = SwzOk-from_below w8 16 1 16 0 c.packing_shuffle.result refl (omega arith) c.packing_shuffle.ensures.within
+pub swizzle-packed : goal.swizzle-packed
+swizzle-packed c = SwzOk-from_below w8 16 1 16 0 c.packing_shuffle.result refl (omega arith) c.packing_shuffle.ensures.within
 
 pub returns-clause-bytes : goal.returns-clause-bytes
 returns-clause-bytes c before u long lanes number =
@@ -17,8 +17,9 @@ returns-clause-bytes c before u long lanes number =
     let block = c.args.block.now in
     let len = c.args.len in
     let bytes = swz_l w8 16 c.args.lanes 0 c.packing_shuffle.result in
-    ap (take (len + c.packed_len.result)) c.store.ensures
-    ∙ take-written_block block bytes (drop (len + 16) block) len c.packed_len.result (omega (arith, c.requires.room))
+    ap (take (len + c.packed_len.result))
+    (put_chunk_is len block bytes (omega (arith, c.requires, length-swz_l w8 16 c.args.lanes 0 c.packing_shuffle.result)))
+    ∙ take-written_block block bytes _ len c.packed_len.result (omega (arith, c.requires.room))
     (omega (arith, c.packed_len.ensures.most, length-swz_l w8 16 c.args.lanes 0 c.packing_shuffle.result))
     ∙ ap (λ n. take len block ++ take n bytes) packed
     ∙ ap (λ w. take len block ++ w)

@@ -1,0 +1,293 @@
+// Appends the code units of a view to a vector.
+ghost use Rattle.std.specs.Prelude.{◌≡◌, ℕ, ◌++◌, ◌+◌, ◌*◌, ◌<◌, ◌≤◌, length, take, drop, IsOk, IsTrue, OnOk, OnErr, false, vec_len, vec_capacity};
+ghost use Rattle.wtf8.specs.private.ConvertedPrefix.{AreAscii};
+ghost use Rattle.wtf8.specs.private.EncodedBytes.{BecomesOrKeeps};
+ghost use Rattle.wtf8.specs.private.EncodedRuns.{BeginsWithUnits, Writes};
+ghost use Rattle.wtf8.specs.View.{view_units};
+
+use crate::codec::code_point::CodePoint;
+use crate::codec::encoding;
+use crate::codec::surrogates::{lead_of, trail_of};
+use crate::lanes::VECTOR;
+use crate::lanes::ascii::is_ascii_overlapping;
+use crate::strings::view::Wtf8;
+use crate::to_utf16::blocks::{
+    EncodedLength, OneByte, ThreeBytes, TwoBytes, is_lead_byte, widen_bytes,
+};
+use crate::vec::copies::push_block;
+use std::alloc::{AllocError, Allocator};
+use std::simd::prelude::*;
+
+/// Strings of fewer bytes than this, except ASCII ones of 1 to 15 bytes, are decoded into a buffer on the stack, so
+/// that their units need not be counted before memory is requested.
+const SCRATCH_UNITS: usize = 4 * VECTOR;
+
+/// While at least this many bytes are left, a block of any kind can be loaded, so that the length is compared once for
+/// all kinds.
+const LONGEST_LOAD: usize = 2 * VECTOR;
+
+/// The part of a view that is not decoded yet, and the index at which its first unit will be written.
+#[derive(Clone, Copy)]
+struct Undecoded<'a> {
+    view: Wtf8<'a>,
+    at: usize,
+}
+
+/// Writes `N` units from index `at` on. With the store in `write_units` itself, 12 units take 1.7% more instructions.
+#[inline(always)]
+fn store_units<const N: usize>(units: &mut [u16], at: usize, block: [u16; N])
+    requires lanes { N ≤ u64.BITS }
+    requires room { at + N ≤ length units.old }
+    ensures front { (n : ℕ) → n ≤ N → take (at + n) units.new ≡ take at units.old ++ take n block.entry }
+    ensures len { length units.new ≡ length units.old }
+{
+    Simd::from_array(block).copy_to_slice(&mut units[at..]);
+}
+
+/// Appends the units of an ASCII string of `N` to `2 * N` bytes by its first and its last `N` bytes, which may overlap.
+#[inline(always)]
+fn append_ascii_overlapping<const N: usize, B: Allocator>(
+    units: &mut Vec<u16, B>,
+    view: Wtf8<'_>,
+) -> Result<(), AllocError>
+    requires lanes { N ≤ u64.BITS }
+    requires all { (N ≤ length view.bytes.now) × (length view.bytes.now ≤ 2 * N) }
+    requires ascii { AreAscii view.bytes.now }
+    ensures { BecomesOrKeeps units.old (units.old.items ++ view_units view.entry) units.new result }
+{
+    let bytes = view.bytes;
+    units.reserve(bytes.len())?;
+    let last = bytes.len() - N;
+    let end = units.len() + last;
+    push_block(units, widen_bytes(Simd::<u8, N>::from_slice(bytes)));
+    units.truncate(end);
+    push_block(
+        units,
+        widen_bytes(Simd::<u8, N>::from_slice(&bytes[last..])),
+    );
+    Ok(())
+}
+
+/// Decodes the first code point and writes its one or two units.
+#[inline(always)]
+fn decode_point<'a>(units: &mut [u16], left: Undecoded<'a>) -> Undecoded<'a>
+    requires room { left.at + length (view_units left.view) ≤ length units.old }
+    requires nonempty { 0 < length left.view.bytes.now }
+    ensures written { Writes units.old left.entry.at (view_units left.entry.view) units.new result.at (view_units result.view) }
+    ensures shorter { length result.view.bytes.now < length left.entry.view.bytes.now }
+{
+    let bytes = left.view.bytes;
+    match bytes[0] {
+        0x80..=0xDF => write_units(units, left, [encoding::read_two(bytes) as u16], 1, 2),
+        0xE0..=0xEF => write_units(units, left, [encoding::read_three(bytes) as u16], 1, 3),
+        _ => {
+            let (code_point, width) = encoding::read(bytes, 0);
+            let value = code_point.to_u32();
+            if value < 0x10000 {
+                return write_units(units, left, [value as u16], 1, width);
+            }
+            let pair = [lead_of(value) as u16, trail_of(value) as u16];
+            write_units(units, left, pair, 2, width)
+        }
+    }
+}
+
+/// Writes `block` and advances by `width` bytes and their `count` units; the units of `block` after these are
+/// overwritten later or never read.
+#[inline(always)]
+fn write_units<'a, const N: usize>(
+    units: &mut [u16],
+    left: Undecoded<'a>,
+    block: [u16; N],
+    count: usize,
+    width: usize,
+) -> Undecoded<'a>
+    requires lanes { N ≤ u64.BITS }
+    requires room { left.at + N ≤ length units.old }
+    requires within { (count ≤ N) × (width ≤ length left.view.bytes.now) }
+    requires begins { BeginsWithUnits left.view.bytes.now (take count block) width }
+    ensures written { Writes units.old left.entry.at (view_units left.entry.view) units.new result.at (view_units result.view) }
+    ensures bytes { result.view.bytes.now ≡ drop width left.entry.view.bytes.now }
+{
+    store_units(units, left.at, block);
+    Undecoded {
+        view: left.view.skip_bytes(width),
+        at: left.at + count,
+    }
+}
+
+/// Decodes the code points of a kind at the front of one block, and returns whether they fill it. Does nothing and
+/// returns false if fewer than `BYTES` bytes are left or there is no room for `N` units. A full block advances by a
+/// constant, so that the next load need not wait for the count.
+#[inline(always)]
+fn decode_block<
+    'a,
+    const N: usize,
+    const WIDTH: usize,
+    const BYTES: usize,
+    K: EncodedLength<N, WIDTH, BYTES>,
+>(units: &mut [u16], left: Undecoded<'a>) -> (Undecoded<'a>, bool)
+    requires lanes { (0 < N) × (N ≤ u64.BITS) }
+    requires room { left.at + length (view_units left.view) ≤ length units.old }
+    requires nonempty { 0 < length left.view.bytes.now }
+    ensures written { Writes units.old left.entry.at (view_units left.entry.view) units.new result.0.at (view_units result.0.view) }
+    ensures whole { IsTrue result.1 → length result.0.view.bytes.now < length left.entry.view.bytes.now }
+    ensures part { result.1 ≡ false → 0 < length result.0.view.bytes.now }
+    ensures not_longer { length result.0.view.bytes.now ≤ length left.entry.view.bytes.now }
+{
+    let bytes = left.view.bytes;
+    if bytes.len() < BYTES || units.len() - left.at < N {
+        return (left, false);
+    }
+    let (block, count) = K::read(bytes);
+    if count == N {
+        return (write_units(units, left, block, N, WIDTH * N), true);
+    }
+    (write_units(units, left, block, count, WIDTH * count), false)
+}
+
+/// Decodes a run of code points of a kind by blocks. After a block that they do not fill, it decodes one code point of
+/// any kind. Ends when fewer than `BYTES` bytes are left or another kind follows.
+#[inline(always)]
+fn decode_run<
+    'a,
+    const N: usize,
+    const WIDTH: usize,
+    const BYTES: usize,
+    K: EncodedLength<N, WIDTH, BYTES>,
+>(units: &mut [u16], left: Undecoded<'a>) -> Undecoded<'a>
+    requires lanes { (0 < N) × (N ≤ u64.BITS) }
+    requires room { left.at + length (view_units left.view) ≤ length units.old }
+    requires nonempty { 0 < length left.view.bytes.now }
+    ensures written { Writes units.old left.entry.at (view_units left.entry.view) units.new result.at (view_units result.view) }
+    ensures shorter { length result.view.bytes.now < length left.entry.view.bytes.now }
+{
+    let mut rest = left;
+    loop {
+        let (after, is_whole) = decode_block::<N, WIDTH, BYTES, K>(units, rest);
+        rest = if is_whole {
+            after
+        } else {
+            decode_point(units, after)
+        };
+        let bytes = rest.view.bytes;
+        if bytes.len() < BYTES || bytes.is_empty() || !is_lead_byte(bytes[0], WIDTH) {
+            return rest;
+        }
+    }
+}
+
+/// Decodes a run by blocks if the first two code points have the same length, at most three bytes; else one code point.
+/// ASCII is decoded by 32 bytes, in 0.78 of the time that blocks of 16 take.
+#[inline(always)]
+fn decode_next<'a>(units: &mut [u16], left: Undecoded<'a>) -> Undecoded<'a>
+    requires room { left.at + length (view_units left.view) ≤ length units.old }
+    requires least { LONGEST_LOAD ≤ length left.view.bytes.now }
+    ensures written { Writes units.old left.entry.at (view_units left.entry.view) units.new result.at (view_units result.view) }
+    ensures shorter { length result.view.bytes.now < length left.entry.view.bytes.now }
+{
+    match left.view.bytes {
+        [0x00..=0x7F, 0x00..=0x7F, ..] => decode_run::<32, 1, 32, OneByte>(units, left),
+        [0xC0..=0xDF, _, 0xC0..=0xDF, ..] => decode_run::<8, 2, 16, TwoBytes>(units, left),
+        [0xE0..=0xEF, _, _, 0xE0..=0xEF, ..] => decode_run::<8, 3, 32, ThreeBytes>(units, left),
+        _ => decode_point(units, left),
+    }
+}
+
+/// Decodes as `decode_next` if fewer than `LONGEST_LOAD` bytes are left: too few for blocks of ASCII of 32 bytes and for blocks
+/// of three-byte code points.
+#[inline(always)]
+fn decode_next_of_tail<'a>(units: &mut [u16], left: Undecoded<'a>) -> Undecoded<'a>
+    requires room { left.at + length (view_units left.view) ≤ length units.old }
+    requires nonempty { 0 < length left.view.bytes.now }
+    ensures written { Writes units.old left.entry.at (view_units left.entry.view) units.new result.at (view_units result.view) }
+    ensures shorter { length result.view.bytes.now < length left.entry.view.bytes.now }
+{
+    let bytes = left.view.bytes;
+    // The length is compared once here, since each of the patterns would compare it.
+    if bytes.len() < VECTOR {
+        return decode_point(units, left);
+    }
+    match bytes {
+        [0x00..=0x7F, 0x00..=0x7F, ..] => decode_run::<16, 1, 16, OneByte>(units, left),
+        [0xC0..=0xDF, _, 0xC0..=0xDF, ..] => decode_run::<8, 2, 16, TwoBytes>(units, left),
+        _ => decode_point(units, left),
+    }
+}
+
+/// Writes the units of a view from index `from` on, and returns the index after them. Not inlined, so that both of its
+/// callers share the one loop.
+#[inline(never)]
+fn decode_all(units: &mut [u16], from: usize, view: Wtf8<'_>) -> usize
+    requires room { from + length (view_units view) ≤ length units.old }
+    ensures units { take result units.new ≡ take from units.old ++ view_units view.entry }
+    ensures index { result ≡ from + length (view_units view.entry) }
+    ensures len { length units.new ≡ length units.old }
+{
+    let mut left = Undecoded { view, at: from };
+    while LONGEST_LOAD <= left.view.len() {
+        left = decode_next(units, left);
+    }
+    while !left.view.is_empty() {
+        left = decode_next_of_tail(units, left);
+    }
+    left.at
+}
+
+/// Appends the units of a string of fewer than `SCRATCH_UNITS` bytes, by way of a buffer on the stack: cheaper for these
+/// than to count the units first. Not inlined, since a caller would pay for the buffer at each entry.
+#[inline(never)]
+fn append_through_scratch<B: Allocator>(
+    units: &mut Vec<u16, B>,
+    view: Wtf8<'_>,
+) -> Result<(), AllocError>
+    requires { length view.bytes.now < SCRATCH_UNITS }
+    ensures { BecomesOrKeeps units.old (units.old.items ++ view_units view.entry) units.new result }
+{
+    // There are no more units than bytes.
+    prove!(view.len() <= SCRATCH_UNITS);
+    let mut block = [0; SCRATCH_UNITS];
+    let count = decode_all(&mut block, 0, view);
+    units.extend_from_slice(&block[..count])
+}
+
+/// Appends the units of a string, which are counted first to size the vector.
+#[inline(never)]
+fn append_counted<B: Allocator>(units: &mut Vec<u16, B>, view: Wtf8<'_>) -> Result<(), AllocError>
+    ensures { BecomesOrKeeps units.old (units.old.items ++ view_units view.entry) units.new result }
+{
+    // There are no more units than bytes.
+    prove!(view.len() <= usize::MAX / 2);
+    let from = units.len();
+    units.resize(from + view.unit_len(), 0)?;
+    decode_all(units, from, view);
+    Ok(())
+}
+
+impl<'a> Wtf8<'a> {
+    /// Appends the 16-bit code units of the string to a vector. Reserves room for them first, and does not allocate if
+    /// they fit. If memory is refused, the vector is unchanged. Linear in the length.
+    pub fn append_units<B: Allocator>(&self, units: &mut Vec<u16, B>) -> Result<(), AllocError>
+        ensures ok { OnOk result (units.new.items ≡ units.old.items ++ view_units self.now) }
+        ensures kept { OnErr result (units.new.items ≡ units.old.items) }
+        ensures room { vec_len units.old + length (view_units self.now) ≤ vec_capacity units.old → IsOk result }
+        ensures capacity { vec_capacity units.old ≤ vec_capacity units.new }
+    {
+        match self.len() {
+            1 if is_ascii_overlapping::<1>(self.bytes) => append_ascii_overlapping::<1, B>(
+                units, *self,
+            ),
+            2..=3 if is_ascii_overlapping::<2>(self.bytes) => append_ascii_overlapping::<2, B>(
+                units, *self,
+            ),
+            4..=7 if is_ascii_overlapping::<4>(self.bytes) => append_ascii_overlapping::<4, B>(
+                units, *self,
+            ),
+            8..=15 if is_ascii_overlapping::<8>(self.bytes) => append_ascii_overlapping::<8, B>(
+                units, *self,
+            ),
+            0..SCRATCH_UNITS => append_through_scratch(units, *self),
+            _ => append_counted(units, *self),
+        }
+    }
+}

@@ -1,0 +1,136 @@
+// Decodes blocks of WTF-8 code points of one encoded length to code units.
+ghost use Rattle.std.specs.Prelude.{◌≡◌, ◌*◌, ◌<◌, ◌≤◌, length, take};
+ghost use lib.Lanes.{Each1};
+ghost use Rattle.wtf8.specs.private.EncodedRuns.{HasBitPrefix, BeginsWithUnits, lead_bytes_of, unit_of_two, unit_of_three, units_of_run};
+
+use crate::lanes::masks::first_set_lane;
+use std::simd::prelude::*;
+
+/// Shuffle indices: the lead bytes of eight two-byte code points; below, their second bytes.
+const FIRST_OF_TWO: [usize; 8] = [0, 2, 4, 6, 8, 10, 12, 14];
+
+const SECOND_OF_TWO: [usize; 8] = [1, 3, 5, 7, 9, 11, 13, 15];
+
+/// Shuffle indices: the lead bytes of eight three-byte code points; below, their second and their third bytes.
+const FIRST_OF_THREE: [usize; 8] = [0, 3, 6, 9, 12, 15, 18, 21];
+
+const SECOND_OF_THREE: [usize; 8] = [1, 4, 7, 10, 13, 16, 19, 22];
+
+const THIRD_OF_THREE: [usize; 8] = [2, 5, 8, 11, 14, 17, 20, 23];
+
+/// Code points of one unit and `WIDTH` bytes each, of which `N` are decoded from a load of `BYTES` bytes.
+pub(crate) trait EncodedLength<const N: usize, const WIDTH: usize, const BYTES: usize> {
+    /// Decodes `N` code points as if all had `WIDTH` bytes. Returns their units, and how many of them at the front are
+    /// right: the ones before the first code point of another length.
+    fn read(bytes: &[u8]) -> ([u16; N], usize)
+        requires { BYTES ≤ length bytes.now }
+        ensures within { (result.1 ≤ N) × (result.1 ≤ WIDTH * result.1) × (WIDTH * result.1 ≤ BYTES) }
+        ensures more { result.1 < N → WIDTH * result.1 < BYTES }
+        ensures begins { BeginsWithUnits bytes.now (take result.1 result.0) (WIDTH * result.1) };
+}
+
+/// ASCII.
+pub(crate) struct OneByte;
+
+/// Code points of two bytes.
+pub(crate) struct TwoBytes;
+
+/// Code points of three bytes, surrogates included.
+pub(crate) struct ThreeBytes;
+
+/// Whether `byte` begins a code point of `width` bytes, at most three.
+#[inline(always)]
+pub(crate) fn is_lead_byte(byte: u8, width: usize) -> bool {
+    match width {
+        1 => byte < 0x80,
+        2 => byte / 32 == 6,
+        _ => byte / 16 == 14,
+    }
+}
+
+/// Widens each byte to a code unit.
+#[inline(always)]
+pub(crate) fn widen_bytes<const N: usize>(block: Simd<u8, N>) -> [u16; N]
+    requires lanes { N ≤ u64.BITS }
+    ensures { result ≡ block.entry }
+{
+    block.cast::<u16>().to_array()
+}
+
+/// Returns the number of lanes before the first with `byte / size != prefix`. Size and prefix are 128 and 0 for ASCII,
+/// 32 and 6 for lead bytes of two-byte code points, 16 and 14 for lead bytes of three-byte ones.
+#[inline(always)]
+fn count_leading_with_prefix<const N: usize>(bytes: Simd<u8, N>, size: u8, prefix: u8) -> usize
+    requires lanes { N ≤ u64.BITS }
+    requires size { 0 < size }
+    ensures within { result ≤ N }
+    ensures each { Each1 (HasBitPrefix size prefix) (take result bytes.entry) }
+{
+    let kinds = bytes / Simd::splat(size);
+    first_set_lane(kinds.simd_ne(Simd::splat(prefix)).to_bitmask()).unwrap_or(N)
+}
+
+/// Decodes eight two-byte code points. Returns their lead bytes, which are not checked here, and their units.
+#[inline(always)]
+fn read_twos(bytes: u8x16) -> (u8x8, [u16; 8])
+    ensures firsts { result.0 ≡ lead_bytes_of 2 8 bytes }
+    ensures units { result.1 ≡ units_of_run 2 unit_of_two 8 bytes }
+{
+    let first: u8x8 = bytes.shuffle(bytes, FIRST_OF_TWO);
+    let second: u8x8 = bytes.shuffle(bytes, SECOND_OF_TWO);
+    let high = (first % u8x8::splat(32)).cast::<u16>();
+    let low = (second % u8x8::splat(64)).cast::<u16>();
+    let units = high.strict_mul(u16x8::splat(64)).strict_add(low);
+    (first, units.to_array())
+}
+
+/// Decodes eight three-byte code points. Returns their lead bytes, which are not checked here, and their units.
+#[inline(always)]
+fn read_threes(bytes: u8x32) -> (u8x8, [u16; 8])
+    ensures firsts { result.0 ≡ lead_bytes_of 3 8 bytes }
+    ensures units { result.1 ≡ units_of_run 3 unit_of_three 8 bytes }
+{
+    let first: u8x8 = bytes.shuffle(bytes, FIRST_OF_THREE);
+    let second: u8x8 = bytes.shuffle(bytes, SECOND_OF_THREE);
+    let third: u8x8 = bytes.shuffle(bytes, THIRD_OF_THREE);
+    let high = (first % u8x8::splat(16)).cast::<u16>();
+    let middle = (second % u8x8::splat(64)).cast::<u16>();
+    let low = (third % u8x8::splat(64)).cast::<u16>();
+    let above = high
+        .strict_mul(u16x8::splat(64))
+        .strict_add(middle)
+        .strict_mul(u16x8::splat(64));
+    (first, above.strict_add(low).to_array())
+}
+
+impl EncodedLength<16, 1, 16> for OneByte {
+    #[inline(always)]
+    fn read(bytes: &[u8]) -> ([u16; 16], usize) {
+        let block = u8x16::from_slice(bytes);
+        (widen_bytes(block), count_leading_with_prefix(block, 128, 0))
+    }
+}
+
+impl EncodedLength<32, 1, 32> for OneByte {
+    #[inline(always)]
+    fn read(bytes: &[u8]) -> ([u16; 32], usize) {
+        let block = u8x32::from_slice(bytes);
+        (widen_bytes(block), count_leading_with_prefix(block, 128, 0))
+    }
+}
+
+impl EncodedLength<8, 2, 16> for TwoBytes {
+    #[inline(always)]
+    fn read(bytes: &[u8]) -> ([u16; 8], usize) {
+        let (firsts, units) = read_twos(u8x16::from_slice(bytes));
+        (units, count_leading_with_prefix(firsts, 32, 6))
+    }
+}
+
+impl EncodedLength<8, 3, 32> for ThreeBytes {
+    #[inline(always)]
+    fn read(bytes: &[u8]) -> ([u16; 8], usize) {
+        let (firsts, units) = read_threes(u8x32::from_slice(bytes));
+        (units, count_leading_with_prefix(firsts, 16, 14))
+    }
+}

@@ -1,0 +1,3 @@
+// Conversion of WTF-8 bytes to UTF-16 code units.
+pub(crate) mod append;
+pub(crate) mod blocks;
