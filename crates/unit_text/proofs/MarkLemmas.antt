@@ -1,6 +1,6 @@
 -- Marks that stay valid when units are appended, and the units after a mark.
 use Rattle.std.proofs.Common.{◌≡◌, ℕ, zero, suc, ◌+◌, ◌<◌, ◌≤◌, List, [], ◌∷◌, ◌++◌, length, take, drop, refl, sym, ap, ◌∙◌, subst, arith}
-use Rattle.std.proofs.Common.{length-append, length-drop, ◌≢◌, ◌*◌, ◌/◌, Bool, false, min, get_or, below_more, Option, Some, None, IfSome}
+use Rattle.std.proofs.Common.{length-append, length-drop, ◌≢◌, ◌*◌, ◌/◌, Bool, min, get_or, below_more, Option, Some, None, IfSome}
 use Rattle.std.proofs.Common.{inl, inr}
 use Rattle.std.proofs.lemmas.List.{drop-take, get_or_append_left, get_or_push}
 use Rattle.std.specs.List.{slice_get}
@@ -10,7 +10,7 @@ use Rattle.wtf8.specs.UnitString.{UnitString}
 use Rattle.wtf8.specs.View.{view_units, view_form}
 use Rattle.wtf8.specs.declared.strings.view.Wtf8.{Wtf8}
 use Rattle.wtf8.specs.declared.strings.unit_marks.UnitMark.{UnitMark}
-use Rattle.unit_text.specs.Marks.{AreKept, AreMarks, IsKept, spacing}
+use Rattle.unit_text.specs.Marks.{AreEnough, AreKept, AreMarks, IsKept, spacing}
 
 -- kept marks are still kept after units are appended
 module _ (stay : MarksStay) (old : UnitString) (new : Wtf8) (v : List ℕ) (e : view_units new ≡ old.units ++ v) where
@@ -49,12 +49,11 @@ AreKept-push w u marks mark n e old new = λ k d l. below_more (λ j. IsKept w u
     (omega (arith, l, length-append marks (mark ∷ []), e))
 
 -- if no mark is missing, the mark that is chosen for `units` is at most `spacing + 1` units before it
-pub chosen_mark_is_close : (w u : List ℕ) (marks : List UnitMark) (is_incomplete : Bool) (units at number : ℕ)
-    → AreMarks w u marks is_incomplete → length w ≢ length u
-    → units ≤ length u → number ≡ min (length marks) (units / spacing) → number * spacing ≤ at + 1 → is_incomplete ≡ false
-    → units ≤ at + spacing + 1
-chosen_mark_is_close w u marks is_incomplete units at number m not_ascii h e near granted =
-    let next : (number + 1) * spacing < length u → number + 1 ≤ length marks = m.all granted not_ascii (number + 1) in
+pub chosen_mark_is_close : (w u : List ℕ) (marks : List UnitMark) (units at number : ℕ) → AreEnough w u (length marks)
+    → length w ≢ length u
+    → units ≤ length u → number ≡ min (length marks) (units / spacing) → number * spacing ≤ at + 1 → units ≤ at + spacing + 1
+chosen_mark_is_close w u marks units at number enough not_ascii h e near =
+    let next : (number + 1) * spacing < length u → number + 1 ≤ length marks = enough not_ascii (number + 1) in
     grind (arith, next, e, h, near)
 
 -- the unit at index `n` is the first of the units from there on

@@ -1,5 +1,5 @@
 -- Marks of a text that became shorter, and the units before the position of a mark.
-use Rattle.std.proofs.Common.{◌≡◌, ◌≢◌, ℕ, ◌+◌, ◌-◌, ◌*◌, ◌/◌, ◌<◌, ◌≤◌, List, length, take, refl, sym, ap, ◌∙◌, subst, arith, Bool, false}
+use Rattle.std.proofs.Common.{◌≡◌, ◌≢◌, ℕ, ◌+◌, ◌-◌, ◌*◌, ◌/◌, ◌<◌, ◌≤◌, List, length, take, refl, sym, ap, ◌∙◌, subst, arith, Bool}
 use Rattle.std.proofs.Common.{Option, Some, None, IfSome, get_or}
 use Rattle.std.proofs.lemmas.List.{length-take, length-take-le, get_or-take}
 use Rattle.wtf8.specs.Form.{IsForm}
@@ -11,7 +11,7 @@ use Rattle.wtf8.specs.UnitString.{UnitString}
 use Rattle.wtf8.specs.View.{view_units, view_form}
 use Rattle.wtf8.specs.declared.strings.view.Wtf8.{Wtf8}
 use Rattle.wtf8.specs.declared.strings.unit_marks.UnitMark.{UnitMark}
-use Rattle.unit_text.specs.Marks.{AreMarks, IsKept, spacing}
+use Rattle.unit_text.specs.Marks.{AreEnough, AreKept, AreMarks, IsKept, spacing}
 
 -- the units before a boundary with `v` before it are `v`
 front_of_boundary : (u v : List ℕ) (k : ℕ) → IsBoundary u k → ((x : List ℕ) → IsFront u k x → x ≡ v) → IsFront u k v
@@ -26,19 +26,19 @@ front_of_mark u v k m n e units b same =
     subst (λ w. IsFront w k (take n w)) e (subst (λ i. IsFront u k (take i u)) units (front_of_boundary u (take m u) k b same))
 
 -- if no mark is missing, a mark before the kept mark of index `low` has at most `(low + 1) * spacing` units
-pub units_before_next : MarksAreInOneOrder → (w u : List ℕ) (marks : List UnitMark) (is_incomplete : Bool) → IsForm w u
-    → AreMarks w u marks is_incomplete → length w ≢ length u
-    → is_incomplete ≡ false → (low position : ℕ) (d : UnitMark) → low ≤ length marks
+pub units_before_next : MarksAreInOneOrder → (w u : List ℕ) (marks : List UnitMark) → IsForm w u → AreKept w u marks
+    → AreEnough w u (length marks) → length w ≢ length u
+    → (low position : ℕ) (d : UnitMark) → low ≤ length marks
     → (low < length marks → position < (get_or marks low d).position)
     → (k n : ℕ) → IsMark w u k n → k ≤ position → n ≤ (low + 1) * spacing
-units_before_next order w u marks is_incomplete f m not_ascii granted low position d within next k n mark l =
+units_before_next order w u marks f kept enough not_ascii low position d within next k n mark l =
     let before_next : low < length marks → n ≤ (low + 1) * spacing = λ h.
-    let own = m.kept low d h in
+    let own = kept low d h in
     let other = get_or marks low d in
     let after = next h in
     let fewer = (order w u k other.position n other.units f mark own.is_mark).0 (omega (arith, after, l)) in
     omega (arith, fewer, own.at_most) in
-    let last : (low + 1) * spacing < length u → low + 1 ≤ length marks = m.all granted not_ascii (low + 1) in
+    let last : (low + 1) * spacing < length u → low + 1 ≤ length marks = enough not_ascii (low + 1) in
     let all = mark.units_within in
     grind (arith, before_next, last, all, within)
 

@@ -1,5 +1,5 @@
 // The marks of a text, from which a unit is found without counting from the front of the text.
-ghost use Rattle.std.specs.Prelude.{◌≡◌, ◌≢◌, ◌+◌, ◌-◌, ◌*◌, ◌/◌, ◌<◌, ◌≤◌, ℕ, false, length, vec_capacity, take, drop, slice_get, IfSome, IsTrue, ◌↔◌};
+ghost use Rattle.std.specs.Prelude.{◌≡◌, ◌≢◌, ◌+◌, ◌-◌, ◌*◌, ◌/◌, ◌<◌, ◌≤◌, ℕ, false, length, vec_capacity, take, drop, IfSome, IsTrue, ◌↔◌};
 ghost use Rattle.std.proofs.Props.{props};
 ghost use Rattle.unit_text.specs.Marks.{AreEnough, AreKept, AreMarks};
 ghost use Rattle.wtf8.specs.OneForm.{IsForm-prop};
@@ -34,13 +34,12 @@ pub(crate) struct Marks<A: Allocator> {
     pub(crate) is_incomplete: bool,
 }
 
-/// A view with the marks that are kept of it. If none are kept, they are incomplete.
-#[derive(Clone, Copy)]
-pub(crate) struct MarkedView<'a> {
+/// A view with the marks that are kept of it, if any are.
+#[derive(Drop)]
+pub(crate) struct MarkedView<'a, A: Allocator> {
     pub(crate) text: CountedView<'a>,
-    marks: &'a [UnitMark],
-    is_incomplete: bool,
-    ghost marked: { AreMarks text.view.bytes.now (view_units text.view) marks.now is_incomplete } by { Prim.hlevel (props, IsForm-prop) },
+    marks: Option<&'a Marks<A>>,
+    ghost marked: { IfSome marks (λ m. AreMarks text.view.bytes.now (view_units text.view) m.now.kept.items m.now.is_incomplete) } by { Prim.hlevel (props, IsForm-prop) },
 }
 
 impl<'a> CountedView<'a> {
@@ -153,44 +152,43 @@ fn last_or_start(view: Wtf8<'_>, marks: &[UnitMark]) -> UnitMark
     marks[marks.len() - 1]
 }
 
-impl<'a> MarkedView<'a> {
+impl<'a, A: Allocator> MarkedView<'a, A> {
     /// The view with these marks, or with none.
     #[inline(always)]
-    pub(crate) fn new<A: Allocator>(
-        text: CountedView<'a>,
-        marks: Option<&'a Marks<A>>,
-    ) -> MarkedView<'a>
+    pub(crate) fn new(text: CountedView<'a>, marks: Option<&'a Marks<A>>) -> MarkedView<'a, A>
         requires { IfSome marks (λ m. AreMarks text.view.bytes.now (view_units text.view) m.now.kept.items m.now.is_incomplete) }
         ensures text { result.text ≡ text.entry }
-        ensures marks { IfSome marks.entry (λ m. (result.marks.now ≡ m.now.kept.items) × (result.is_incomplete ≡ m.now.is_incomplete)) }
+        ensures marks { result.marks ≡ marks.entry }
     {
-        let Some(marks) = marks else {
-            return MarkedView {
-                text,
-                marks: &[],
-                is_incomplete: true,
-            };
-        };
-        MarkedView {
-            text,
-            marks: marks.kept.as_slice(),
-            is_incomplete: marks.is_incomplete,
+        MarkedView { text, marks }
+    }
+
+    /// The kept marks.
+    #[inline(always)]
+    fn kept(&self) -> &'a [UnitMark]
+        ensures kept { AreKept self.now.text.view.bytes.now (view_units self.now.text.view) result.now }
+        ensures all { IfSome self.now.marks (λ m. m.now.is_incomplete ≡ false → AreEnough self.now.text.view.bytes.now (view_units self.now.text.view) (length result.now)) }
+    {
+        match self.marks {
+            Some(marks) => marks.kept.as_slice(),
+            None => &[],
         }
     }
 
     /// The last kept mark for a multiple of `SPACING` that is at most `units`, or the start if there is none.
     #[inline(always)]
-    fn kept_mark_at_or_before(&self, units: usize) -> UnitMark
+    pub(crate) fn kept_mark_at_or_before(&self, units: usize) -> UnitMark
         requires within { units ≤ self.now.text.count }
         ensures mark { IsMarkOf self.now.text.view result }
         ensures before { result.units ≤ units }
-        ensures close { length self.now.text.view.bytes.now ≢ length (view_units self.now.text.view) → self.now.is_incomplete ≡ false → units ≤ result.units + SPACING + 1 }
+        ensures close { length self.now.text.view.bytes.now ≢ length (view_units self.now.text.view) → IfSome self.now.marks (λ m. m.now.is_incomplete ≡ false → units ≤ result.units + SPACING + 1) }
     {
-        let number = self.marks.len().min(units / SPACING);
+        let marks = self.kept();
+        let number = marks.len().min(units / SPACING);
         if number == 0 {
             return self.text.view.start_mark();
         }
-        self.marks[number - 1]
+        marks[number - 1]
     }
 
     /// A mark at or before unit index `units`: at that index if the text is ASCII, else a kept mark or the start.
@@ -198,7 +196,7 @@ impl<'a> MarkedView<'a> {
         requires within { units ≤ self.now.text.count }
         ensures mark { IsMarkOf self.now.text.view result }
         ensures before { result.units ≤ units }
-        ensures close { self.now.is_incomplete ≡ false → units ≤ result.units + SPACING + 1 }
+        ensures close { IfSome self.now.marks (λ m. m.now.is_incomplete ≡ false → units ≤ result.units + SPACING + 1) }
     {
         laws::law_marks();
         if self.text.is_ascii() {
@@ -246,14 +244,15 @@ impl<'a> MarkedView<'a> {
         ensures before { result.position ≤ position }
 
         // A mark of this view at or before `position` has at most `SPACING` more units.
-        ensures close { length self.now.text.view.bytes.now ≢ length (view_units self.now.text.view) → self.now.is_incomplete ≡ false → (k n : ℕ) → IsMark self.now.text.view.bytes.now (view_units self.now.text.view) k n → k ≤ position → n ≤ result.units + SPACING + 1 }
+        ensures close { length self.now.text.view.bytes.now ≢ length (view_units self.now.text.view) → IfSome self.now.marks (λ m. m.now.is_incomplete ≡ false → (k n : ℕ) → IsMark self.now.text.view.bytes.now (view_units self.now.text.view) k n → k ≤ position → n ≤ result.units + SPACING + 1) }
     {
         laws::law_marks();
+        let marks = self.kept();
         let mut low = 0;
-        let mut high = self.marks.len();
+        let mut high = marks.len();
         while low < high {
             let middle = low + (high - low) / 2;
-            if self.marks[middle].position <= position {
+            if marks[middle].position <= position {
                 low = middle + 1;
             } else {
                 high = middle;
@@ -262,7 +261,7 @@ impl<'a> MarkedView<'a> {
         if low == 0 {
             return self.text.view.start_mark();
         }
-        self.marks[low - 1]
+        marks[low - 1]
     }
 
     /// Returns the rest of the text after a mark at or before unit index `units`, and the offset of `units` in it. A text
@@ -272,26 +271,13 @@ impl<'a> MarkedView<'a> {
         requires within { units ≤ self.now.text.count }
         ensures units { drop result.1 (view_units result.0) ≡ drop units (view_units self.now.text.view) }
         ensures within { result.1 ≤ length (view_units result.0) }
-        ensures close { self.now.is_incomplete ≡ false → result.1 ≤ SPACING + 1 }
+        ensures close { IfSome self.now.marks (λ m. m.now.is_incomplete ≡ false → result.1 ≤ SPACING + 1) }
     {
         if self.text.count <= SPACING && (units < FRONT || !self.text.is_ascii()) {
             return (self.text.view, units);
         }
         let mark = self.mark_at_or_before(units);
         (self.text.view.slice_from_mark(mark), units - mark.units)
-    }
-
-    /// The unit at index `index` of a text that is not ASCII, or `None` at the end.
-    #[inline(always)]
-    pub(crate) fn unit_at(&self, index: usize) -> Option<u16>
-        requires within { index ≤ self.now.text.count }
-        ensures { result ≡ slice_get (view_units self.now.text.view) index }
-    {
-        let mark = self.kept_mark_at_or_before(index);
-        self.text
-            .view
-            .slice_from_mark(mark)
-            .unit_at(index - mark.units)
     }
 
     /// Returns the `len` units from index `begin` on.

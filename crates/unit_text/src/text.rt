@@ -112,22 +112,30 @@ impl<A: Allocator> UnitText<A> {
         if self.count <= i {
             return None;
         }
-        if self.text.len() == self.count {
-            return Some(self.text.as_wtf8().ascii_unit_at(i));
+        let view = self.text.as_wtf8();
+        if view.len() == self.count {
+            return Some(view.ascii_unit_at(i));
         }
         if self.count <= marks::SPACING {
-            return self.text.as_wtf8().unit_at(i);
+            return view.unit_at(i);
         }
-        self.unit_after_mark(i)
+        self.unit_of_long(i)
     }
 
     /// The code unit at index `i` of a long text that is not ASCII. Not inlined, so that the short ways stay cheap.
     #[inline(never)]
-    fn unit_after_mark(&self, i: usize) -> Option<u16>
+    fn unit_of_long(&self, i: usize) -> Option<u16>
         requires { i ≤ length self.now }
         ensures { result ≡ slice_get self.now i }
     {
-        self.marked().unit_at(i)
+        // A kept mark is for an index of at least `SPACING`.
+        if i < marks::SPACING {
+            return self.text.as_wtf8().unit_at(i);
+        }
+        let marked = self.marked();
+        let mark = marked.kept_mark_at_or_before(i);
+        let rest = marked.text.view.slice_from_mark(mark);
+        rest.unit_at(i - mark.units)
     }
 
     /// The byte position in the view of the code point boundary before the code unit at index `i`, or of the end if `i`
@@ -295,7 +303,7 @@ impl<A: Allocator> UnitText<A> {
 
     /// The view of the text with its marks.
     #[inline(always)]
-    fn marked(&self) -> MarkedView<'_>
+    fn marked(&self) -> MarkedView<'_, A>
         ensures units { view_units result.text.view ≡ self.now }
         ensures count { result.text.count ≡ length self.now }
     {

@@ -3,7 +3,7 @@ ghost use Rattle.std.specs.Prelude.{◌≡◌, ◌<◌, ◌≤◌, length, slice
 ghost use Rattle.wtf8.specs.private.UnitCounts.{IsCursor, IsCursorOfUnit, CutsUnits};
 ghost use Rattle.wtf8.specs.View.{view_points, view_units};
 
-use crate::codec::surrogates::trail_of;
+use crate::codec::encoding;
 use crate::lanes::ascii::is_ascii_block;
 use crate::lanes::{BLOCK, VECTOR};
 use crate::strings::iters::read_unit;
@@ -152,20 +152,25 @@ pub(crate) fn find_cut(view: Wtf8<'_>, n: usize) -> Option<UnitCut>
     })
 }
 
-/// Returns the unit at `index`, or `None` at or past the end, by a cut before it. Not inlined, so that the ASCII path
-/// stays small.
+/// Returns the unit at `index`, or `None` at or past the end, counted from the front. Counts nothing if `index` is at
+/// least the length in bytes, which is at least the number of units. Not inlined, so that the ASCII path stays small.
 #[inline(never)]
-fn unit_by_cut(view: Wtf8<'_>, index: usize) -> Option<u16>
+fn unit_by_count(view: Wtf8<'_>, index: usize) -> Option<u16>
     ensures { result ≡ slice_get (view_units view.entry) index }
 {
-    let cut = find_cut(view, index)?;
-    if let Some(value) = cut.divided {
-        return Some(trail_of(value) as u16);
-    }
-    if cut.position == view.bytes.len() {
+    if view.bytes.len() <= index {
         return None;
     }
-    let mut position = cut.position;
+    let cursor = find_unit(view.bytes, index);
+    if cursor.position == view.bytes.len() {
+        return None;
+    }
+    if cursor.units != index {
+        // The unit is a pair's trail, which the last two bytes of the code point give.
+        let (_, rest) = view.bytes.split_at(cursor.position + 2);
+        return Some(encoding::read_trail(rest));
+    }
+    let mut position = cursor.position;
     Some(read_unit(view.bytes, &mut position))
 }
 
@@ -204,7 +209,7 @@ impl<'a> Wtf8<'a> {
         if let Some(unit) = unit_in_ascii_prefix(*self, index) {
             return Some(unit);
         }
-        unit_by_cut(*self, index)
+        unit_by_count(*self, index)
     }
 
     /// The code unit at `index` of an all-ASCII string: one with equal lengths in bytes and in code units. `index` must

@@ -5,13 +5,15 @@ use Rattle.wtf8.proofs.Common.{bytes, encoding, IsWellFormed, IsFront, CutsUnits
 use Rattle.wtf8.proofs.Common.{take-append-drop, length-drop, Reads, true, false, ◌/◌, ◌%◌, lt-ltb, le-ltb, drop-drop, append-nil, IsLead}
 use Rattle.wtf8.proofs.Common.{units_of, trail_from_bytes, held_trail, after_held_trail, unread_after, length-take-le, take-append-add}
 use Rattle.wtf8.proofs.Common.{drop-append-add, option_to_list, IsSome, StepsUnit, Divides, DividesPair, is_continuation}
+use Rattle.wtf8.proofs.Common.{cases_lt, IsCursorOfUnit, UnitCursor, take_all, sum_utf16_len}
+use Rattle.std.proofs.lemmas.Option.{slice_get_past}
 use Rattle.wtf8.proofs.lemmas.codec.Encoding.{encoding_four, bytes-append, bytes-pushed, encoding_cases, one, two, three, four, Begins}
 use Rattle.wtf8.proofs.lemmas.codec.Encoding.{first-encoding}
 use Rattle.wtf8.proofs.lemmas.codec.Readings.{clean-first, clean-front, clean-back, clean-append, clean-unpaired, unpaired-before_no_trail}
 use Rattle.wtf8.proofs.lemmas.codec.Readings.{meets_by, lead_of, trail_of, units_one, units_two, units-append, units-pushed, first_of}
 use Rattle.wtf8.proofs.lemmas.codec.Readings.{points-nil, Taken-from_first, IsWellFormed-equal_bytes}
 use Rattle.wtf8.proofs.lemmas.strings.Concatenation.{points_meet, last_of, empty, ends}
-use Rattle.wtf8.proofs.lemmas.strings.Positions.{cut_by}
+use Rattle.wtf8.proofs.lemmas.strings.Positions.{cut_by, PointsAbout, points_about, sum_utf16_len-bytes}
 
 -- The parts of a string before and after its first `n` units.
 
@@ -91,6 +93,50 @@ divided_from_cut {c} {n} {k} {p} e cut =
 
 pub IsCodePoint-divided : {c : List ℕ} {n k p : ℕ} → IsClean c → Divided c n k p → IsCodePoint p
 IsCodePoint-divided {p} clean d = clean-first p d.rest (clean-back d.front (p ∷ d.rest) (subst IsClean d.joined clean))
+
+-- The cut after `n` units, from the position of a `UnitCursor`.
+
+pub points_about_unit : {w : List ℕ} (h : IsWellFormed w) (n : ℕ) (cursor : UnitCursor) → IsCursorOfUnit w n cursor
+    → PointsAbout h.points n cursor
+points_about_unit h n cursor x = points_about h.points n cursor (subst (λ v. IsCursorOfUnit v n cursor) (sym h.encoded) x)
+
+-- the units before and after `cursor` are all units
+units_counted : {c : List ℕ} {n : ℕ} {cursor : UnitCursor} (x : PointsAbout c n cursor)
+    → length (units c) ≡ cursor.units + length (units x.cut.back)
+units_counted x = simp (x.cut.joined, units-append, length-append, x.cut.counted)
+
+-- the cut is at `cursor`, past the end, or inside the pair that begins at `cursor`
+pub cut_at_cursor : {c : List ℕ} {n : ℕ} {cursor : UnitCursor} → PointsAbout c n cursor → cursor.units ≡ n
+    → CutsUnits c n cursor.position None
+cut_at_cursor {c} {n} {cursor} x e = subst (λ m. CutsUnits c m cursor.position None) e x.cut
+
+pub too_few : {c : List ℕ} {n : ℕ} {cursor : UnitCursor} (x : PointsAbout c n cursor) → ¬ (cursor.units ≡ n) → x.cut.back ≡ []
+    → length (units c) < n
+too_few x m e = omega (arith, units_counted x, ap (λ b. length (units b)) e, x.not_beyond, m)
+
+pub cut_inside : {c : List ℕ} {n : ℕ} {cursor : UnitCursor} (x : PointsAbout c n cursor) (p : ℕ) (rest : List ℕ) → ¬ (cursor.units ≡ n)
+    → x.cut.back ≡ p ∷ rest
+    → CutsUnits c n cursor.position (Some p)
+cut_inside {c} {n} {cursor} x p rest m e =
+    let more = x.holds p rest e in
+    let least : cursor.units ≤ n = x.not_beyond in
+    let cut = x.cut in
+    let large : 0x10000 ≤ p = elim (cases_lt p 0x10000) [
+      | inl h ↦ absurd (omega (arith, more, ap length (units_one p h), m, least))
+      | inr h ↦ h
+    ] in
+    record {
+      front = cut.front;
+      back = cut.back;
+      joined = cut.joined;
+      front_len = cut.front_len;
+      counted = record {
+        rest = rest;
+        first = e;
+        supplementary = large;
+        inside = omega (arith, more, ap length (units_two p large), m, least, cut.counted);
+      };
+    }
 
 -- the bytes before the pair and the encoding of its lead are well-formed
 abbrev pub lead_kept : {w : List ℕ} (h : IsWellFormed w) {n k p : ℕ} → Divided h.points n k p
@@ -292,6 +338,44 @@ steps_trail v at h next l g two_on =
       first = rw (n.0, m.0) refl;
       left = rw (n.0, m.0) refl;
     }
+
+-- The unit at an index, from the position of a `UnitCursor`.
+
+-- the trail of a pair is read from the last two bytes of its code point
+pub trail_in_pair : {w : List ℕ} (h : IsWellFormed w) {n k p : ℕ} → Divided h.points n k p
+    → slice_get (units h.points) n ≡ Some (trail_from_bytes (get_or (drop (k + 2) w) 0 0) (get_or (drop (k + 2) w) 1 0))
+trail_in_pair {w} h {n} {k} {p} d =
+    let large : 0x10000 ≤ p = d.large in
+    let whole = sym (cut_by h d.front (p ∷ d.rest) k d.joined d.front_len).after.encoded
+    ∙ ap (λ x. x ++ bytes d.rest) (encoding_four p large) in
+    let third = 0x80 + p / 64 % 64 in
+    let fourth = 0x80 + p % 64 in
+    let last : drop (k + 2) w ≡ third ∷ fourth ∷ bytes d.rest = sym (drop-drop 2 k w) ∙ ap (drop 2) whole in
+    let trail : trail_from_bytes third fourth ≡ trail_of p = omega arith in
+    d.here ∙ ap Some (sym (ap (λ v. trail_from_bytes (get_or v 0 0) (get_or v 1 0)) last ∙ trail))
+
+-- if the cursor is not at the unit, the unit is the trail of the pair there
+pub divided_at_cursor : {w : List ℕ} (h : IsWellFormed w) (n : ℕ) (cursor : UnitCursor) → IsCursorOfUnit w n cursor
+    → cursor.position < length w → ¬ (cursor.units ≡ n) → (p : ℕ) × Divided h.points n cursor.position p
+divided_at_cursor {w} h n cursor is inside m = at_back x.cut.back refl
+  where
+    x : PointsAbout h.points n cursor
+    x = points_about_unit h n cursor is
+
+    at_back : (back : List ℕ) → x.cut.back ≡ back → (p : ℕ) × Divided h.points n cursor.position p
+    at_back [] e =
+        let whole = ap bytes x.cut.joined ∙ (bytes-append x.cut.front x.cut.back ∙ ap (λ b. bytes x.cut.front ++ bytes b) e) in
+        absurd (omega (arith, inside, ap length h.encoded, ap length whole, length-append (bytes x.cut.front) [], x.cut.front_len))
+    at_back (p ∷ rest) e = (p, divided_from_cut refl (cut_inside x p rest m e))
+
+-- at the end there is no unit
+pub none_from_cursor : {w : List ℕ} (h : IsWellFormed w) (n : ℕ) (cursor : UnitCursor) → IsCursorOfUnit w n cursor
+    → cursor.position ≡ length w → slice_get (units h.points) n ≡ None
+none_from_cursor {w} h n cursor is e =
+    let before = is.before in
+    let all = take_all cursor.position w (omega (arith, e)) in
+    let count = sym (sum_utf16_len-bytes h.points) ∙ (ap sum_utf16_len h.encoded ∙ (ap sum_utf16_len (sym all) ∙ sym before.counted)) in
+    slice_get_past (units h.points) n (omega (arith, count, before.not_beyond))
 
 -- at the end nothing is left
 pub nothing_held_at_end : (w : List ℕ) (h : IsWellFormed (after_held_trail w)) → length w ≡ 0 → (held_trail w ≡ []) × (h.points ≡ [])

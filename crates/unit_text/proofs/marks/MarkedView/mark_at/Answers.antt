@@ -4,7 +4,7 @@ use Rattle.wtf8.specs.View.{view_units, view_form}
 use Rattle.unit_text.proofs.marks.MarkedView.mark_at.Goals as goal
 
 pub returns-clause-divided : goal.returns-clause-divided
-returns-clause-divided c = λ divides.
+returns-clause-divided g c = λ divides.
     let view = c.args.self.now.text.view in
     let mark = c.mark_at.result in
     elim c.mark_at.ensures.last [

@@ -4,14 +4,14 @@ use Rattle.unit_text.proofs.MarkLemmas.{slice-equal_drops, slice_within}
 use Rattle.unit_text.proofs.marks.MarkedView.units_from.Goals as goal
 
 pub slice_units-requires-clause-within : goal.slice_units-requires-clause-within
-slice_units-requires-clause-within c =
+slice_units-requires-clause-within g c =
     let found = c.rest_from_mark-at.result in
     slice_within (view_units found.0) (view_units c.args.self.now.text.view) found.1 c.args.begin c.args.len
     c.rest_from_mark-at.ensures.units c.rest_from_mark-at.ensures.within
     (omega (arith, c.args.self.now.text.counted, c.requires.within))
 
 pub overflow_add-at : goal.overflow_add-at
-overflow_add-at c =
+overflow_add-at g c =
     let found = c.rest_from_mark-at.result in
     let within = slice_within (view_units found.0)
     (view_units c.args.self.now.text.view) found.1 c.args.begin c.args.len c.rest_from_mark-at.ensures.units
@@ -19,7 +19,7 @@ overflow_add-at c =
     record { fits = omega (arith, within, c.len.ensures.at_least_units, c.if-prove.false) }
 
 pub returns : goal.returns
-returns c =
+returns g c =
     let found = c.rest_from_mark-at.result in
     c.slice_units.ensures.units
     ∙ slice-equal_drops (view_units found.0)
