@@ -1,23 +1,19 @@
--- A string without bytes has no code points and no units.
-use Rattle.std.proofs.Common.{◌≡◌, ℕ, List, [], length, take, sym, ap, ◌∙◌, subst}
-use Rattle.std.proofs.Math.Seq.{take-nil}
+-- A string without bytes has no code points, and without units an empty front.
+use Rattle.std.proofs.Common.{◌≡◌, ℕ, List, [], ◌∷◌, ◌++◌, length, sym, ap, ◌∙◌, refl, arith}
 use Rattle.wtf8.specs.Form.{IsWellFormed}
-use Rattle.wtf8.specs.Position.{IsFront}
+use Rattle.wtf8.specs.Position.{IsBoundary, IsFront}
 use Rattle.wtf8.specs.Unicode.{units}
-use Rattle.wtf8.specs.UnitString.{UnitString}
-use Rattle.wtf8.proofs.lemmas.codec.Readings.{points-nil}
+use Rattle.wtf8.proofs.lemmas.codec.Readings.{points-nil, units-append}
 
 pub no_points : {w : List ℕ} (h : IsWellFormed w) → w ≡ [] → h.points ≡ []
 no_points h e = points-nil h (ap length e)
 
-pub no_units : (s : UnitString) → s.bytes ≡ [] → s.units ≡ []
-no_units s e =
-    let h : IsWellFormed s.bytes = record { points = s.form.points; clean = s.form.reads.clean; encoded = s.form.encoded } in
-    sym s.form.reads.same_units ∙ ap units (no_points h e)
+front_nil : (a b : List ℕ) → a ++ b ≡ [] → a ≡ []
+front_nil [] b e = refl
+front_nil (x ∷ a) b e = absurd (omega (arith, ap length e))
 
--- the front of the empty string is empty
-pub front_of_nothing : (s t : UnitString) (k : ℕ) → s.units ≡ [] → s.bytes ≡ [] → t.bytes ≡ take k s.bytes → IsFront s.units k t.units
-    → IsFront [] k []
-front_of_nothing s t k u e f h =
-    let none : take k s.bytes ≡ [] = ap (take k) e ∙ take-nil k in
-    subst (λ (x : List ℕ). IsFront x k []) u (subst (λ (y : List ℕ). IsFront s.units k y) (no_units t (f ∙ none)) h)
+-- the front of no units before a boundary is empty
+pub front_of_nothing : (k : ℕ) → IsBoundary [] k → IsFront [] k []
+front_of_nothing k b =
+    let e : units b.front ++ units b.back ≡ [] = sym (units-append b.front b.back) ∙ b.splits.reads.same_units in
+    record { front = b.front; back = b.back; splits = b.splits; same_units = front_nil (units b.front) (units b.back) e }

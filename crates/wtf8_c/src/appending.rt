@@ -106,8 +106,7 @@ pub extern "C" fn wtf8_push_string(
         return MEMORY;
     };
     let held = other.take(alloc);
-    let none = Wtf8Buf::new(alloc);
-    let pushed = buf.push_wtf8(view(&held, &none));
+    let pushed = buf.push_wtf8(view(&held));
     other.put_back(held);
     string.put(buf);
     code_of(pushed)

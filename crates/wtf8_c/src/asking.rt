@@ -14,7 +14,6 @@ use crate::opening::view;
 use std::alloc::Global;
 use std::cmp::Ordering;
 use std::hash::{DefaultHasher, Hash, Hasher};
-use wtf8::Wtf8Buf;
 
 /// The number of units.
 #[unsafe(no_mangle)]
@@ -23,8 +22,7 @@ pub extern "C" fn wtf8_unit_len(alloc: Global, string: &mut Wtf8String) -> usize
     ensures kept { contents string.new ≡ contents string.old }
 {
     let held = string.take(alloc);
-    let none = Wtf8Buf::new(alloc);
-    let len = view(&held, &none).unit_len();
+    let len = view(&held).unit_len();
     string.put_back(held);
     len
 }
@@ -36,8 +34,7 @@ pub extern "C" fn wtf8_byte_len(alloc: Global, string: &mut Wtf8String) -> usize
     ensures kept { contents string.new ≡ contents string.old }
 {
     let held = string.take(alloc);
-    let none = Wtf8Buf::new(alloc);
-    let len = view(&held, &none).len();
+    let len = view(&held).len();
     string.put_back(held);
     len
 }
@@ -57,8 +54,7 @@ pub extern "C" fn wtf8_unit_at(
     ensures kept { contents string.new ≡ contents string.old }
 {
     let held = string.take(alloc);
-    let none = Wtf8Buf::new(alloc);
-    let found = view(&held, &none).unit_at(index);
+    let found = view(&held).unit_at(index);
     string.put_back(held);
     match found {
         Some(value) => {
@@ -76,8 +72,7 @@ pub extern "C" fn wtf8_is_boundary(alloc: Global, string: &mut Wtf8String, posit
     ensures kept { contents string.new ≡ contents string.old }
 {
     let held = string.take(alloc);
-    let none = Wtf8Buf::new(alloc);
-    let is_boundary = view(&held, &none).is_code_point_boundary(position);
+    let is_boundary = view(&held).is_code_point_boundary(position);
     string.put_back(held);
     is_boundary
 }
@@ -89,8 +84,7 @@ pub extern "C" fn wtf8_is_utf8(alloc: Global, string: &mut Wtf8String) -> bool
     ensures kept { contents string.new ≡ contents string.old }
 {
     let held = string.take(alloc);
-    let none = Wtf8Buf::new(alloc);
-    let is_utf8 = view(&held, &none).as_str().is_some();
+    let is_utf8 = view(&held).as_str().is_some();
     string.put_back(held);
     is_utf8
 }
@@ -104,8 +98,7 @@ pub extern "C" fn wtf8_equal(alloc: Global, string: &mut Wtf8String, other: &mut
 {
     let held = string.take(alloc);
     let others = other.take(alloc);
-    let none = Wtf8Buf::new(alloc);
-    let equal = view(&held, &none) == view(&others, &none);
+    let equal = view(&held) == view(&others);
     string.put_back(held);
     other.put_back(others);
     equal
@@ -127,8 +120,7 @@ pub extern "C" fn wtf8_compare_units(
 {
     let held = string.take(alloc);
     let others = other.take(alloc);
-    let none = Wtf8Buf::new(alloc);
-    let order = view(&held, &none).cmp_units(&view(&others, &none));
+    let order = view(&held).cmp_units(&view(&others));
     string.put_back(held);
     other.put_back(others);
     match order {
@@ -154,8 +146,7 @@ pub extern "C" fn wtf8_compare_code_points(
 {
     let held = string.take(alloc);
     let others = other.take(alloc);
-    let none = Wtf8Buf::new(alloc);
-    let order = view(&held, &none).cmp(&view(&others, &none));
+    let order = view(&held).cmp(&view(&others));
     string.put_back(held);
     other.put_back(others);
     match order {
@@ -172,9 +163,8 @@ pub extern "C" fn wtf8_hash(alloc: Global, string: &mut Wtf8String) -> u64
     ensures kept { contents string.new ≡ contents string.old }
 {
     let held = string.take(alloc);
-    let none = Wtf8Buf::new(alloc);
     let mut hasher = DefaultHasher::new();
-    view(&held, &none).hash(&mut hasher);
+    view(&held).hash(&mut hasher);
     string.put_back(held);
     hasher.finish()
 }

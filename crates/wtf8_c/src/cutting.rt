@@ -21,8 +21,7 @@ pub extern "C" fn wtf8_truncate_units(alloc: Global, string: &mut Wtf8String, n:
     ensures kept { result ≡ POSITION → contents string.new ≡ contents string.old }
 {
     let held = string.take(alloc);
-    let none = Wtf8Buf::new(alloc);
-    if view(&held, &none).unit_len() < n {
+    if view(&held).unit_len() < n {
         string.put_back(held);
         return POSITION;
     }
@@ -45,24 +44,20 @@ pub extern "C" fn wtf8_truncate(alloc: Global, string: &mut Wtf8String, position
     ensures kept { result ≡ POSITION → contents string.new ≡ contents string.old }
 {
     let held = string.take(alloc);
-    let none = Wtf8Buf::new(alloc);
-    if !view(&held, &none).is_code_point_boundary(position) {
+    if !view(&held).is_code_point_boundary(position) {
         string.put_back(held);
         return POSITION;
     }
-    string.put_back(truncated(held, none, position));
+    string.put_back(truncated(held, position));
     DONE
 }
 
-/// Shortens the buffer's string to `position` bytes, if there is a buffer, else the string `none`, which is empty.
+/// Shortens the buffer's string to `position` bytes, if there is a buffer.
 fn truncated(
     held: Option<Box<Wtf8Buf<Global>, Global>>,
-    mut none: Wtf8Buf<Global>,
     position: usize,
 ) -> Option<Box<Wtf8Buf<Global>, Global>>
-    requires boundary { IsBoundary (buffer_contents held).units position }
-    requires units { none.units ≡ [] }
-    requires bytes { none.bytes ≡ [] }
+    requires { IsBoundary (buffer_contents held).units position }
     ensures { IsFront (buffer_contents held).units position (buffer_contents result).units }
 {
     match held {
@@ -70,10 +65,7 @@ fn truncated(
             buf.truncate(position);
             Some(buf)
         }
-        None => {
-            none.truncate(position);
-            None
-        }
+        None => None,
     }
 }
 
@@ -93,8 +85,7 @@ pub extern "C" fn wtf8_slice_units(
     ensures string { contents string.new ≡ contents string.old }
 {
     let held = string.take(alloc);
-    let none = Wtf8Buf::new(alloc);
-    let text = view(&held, &none);
+    let text = view(&held);
     if end < begin || text.unit_len() < end {
         string.put_back(held);
         return POSITION;

@@ -55,9 +55,8 @@ pub extern "C" fn wtf8_set_string(
     ensures other { contents other.new ≡ contents other.old }
 {
     let held = other.take(alloc);
-    let none = Wtf8Buf::new(alloc);
     let mut made = Wtf8Buf::new(alloc);
-    let copied = made.push_wtf8(view(&held, &none));
+    let copied = made.push_wtf8(view(&held));
     other.put_back(held);
     match copied {
         Ok(()) => replace(alloc, string, made),

@@ -58,19 +58,14 @@ impl Wtf8String {
     }
 }
 
-/// A view of the buffer's string, or of `none`, which is empty, if there is no buffer.
-pub(crate) fn view<'a>(
-    held: &'a Option<Box<Wtf8Buf<Global>, Global>>,
-    none: &'a Wtf8Buf<Global>,
-) -> Wtf8<'a>
-    requires units { none.now.units ≡ [] }
-    requires bytes { none.now.bytes ≡ [] }
+/// A view of the buffer's string, or of the empty one if there is no buffer.
+pub(crate) fn view(held: &Option<Box<Wtf8Buf<Global>, Global>>) -> Wtf8<'_>
     ensures units { view_units result ≡ (buffer_contents held.now).units }
     ensures points { view_points result ≡ (buffer_contents held.now).form.points }
     ensures bytes { result.bytes.now ≡ (buffer_contents held.now).bytes }
 {
     match held {
         Some(buf) => buf.as_wtf8(),
-        None => none.as_wtf8(),
+        None => Wtf8::from_str(""),
     }
 }

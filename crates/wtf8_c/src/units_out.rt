@@ -10,7 +10,7 @@ use crate::cutting::append_slice;
 use crate::handle::Wtf8String;
 use crate::opening::view;
 use std::alloc::Global;
-use wtf8::{Wtf8Buf, laws};
+use wtf8::laws;
 
 /// Writes all units at the front of `out`, and their number to `len`.
 #[unsafe(no_mangle)]
@@ -29,8 +29,7 @@ pub extern "C" fn wtf8_copy_units(
     ensures kept { contents string.new ≡ contents string.old }
 {
     let held = string.take(alloc);
-    let none = Wtf8Buf::new(alloc);
-    let text = view(&held, &none);
+    let text = view(&held);
     laws::law_view_lengths(text);
     // There are no more units than bytes: an array of as many units as bytes is long enough, and nothing is counted.
     if out.len() < text.len() && out.len() < text.unit_len() {
@@ -70,8 +69,7 @@ pub extern "C" fn wtf8_copy_slice(
     ensures kept { contents string.new ≡ contents string.old }
 {
     let held = string.take(alloc);
-    let none = Wtf8Buf::new(alloc);
-    let text = view(&held, &none);
+    let text = view(&held);
     if end < begin || text.unit_len() < end {
         string.put_back(held);
         return POSITION;
@@ -111,8 +109,7 @@ pub extern "C" fn wtf8_copy_utf8(
     ensures kept { contents string.new ≡ contents string.old }
 {
     let held = string.take(alloc);
-    let none = Wtf8Buf::new(alloc);
-    let code = match view(&held, &none).as_str() {
+    let code = match view(&held).as_str() {
         Some(text) => write_text(text.as_bytes(), out, len),
         None => SURROGATE,
     };
@@ -137,8 +134,7 @@ pub extern "C" fn wtf8_copy_lossy(
     ensures kept { contents string.new ≡ contents string.old }
 {
     let held = string.take(alloc);
-    let none = Wtf8Buf::new(alloc);
-    let text = view(&held, &none);
+    let text = view(&held);
     // U+FFFD has the three bytes of a surrogate.
     let needed = text.len();
     if out.len() < needed {

@@ -7,5 +7,5 @@ returns-in-Less-clause-before c = search rules
 pub returns-in-Equal-clause-same : goal.returns-in-Equal-clause-same
 returns-in-Equal-clause-same c = search rules
 
-pub returns-clause-after : goal.returns-clause-after
-returns-clause-after c = search rules
+pub returns-in-Greater-clause-after : goal.returns-in-Greater-clause-after
+returns-in-Greater-clause-after c = search rules

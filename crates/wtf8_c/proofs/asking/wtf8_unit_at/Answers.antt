@@ -15,7 +15,7 @@ none_past u i e = elim (cases_lt i (length u)) [
   | inr h ↦ h
 ]
 
-pub returns-clause-position : goal.returns-clause-position
-returns-clause-position c =
+pub returns-in-None-clause-position : goal.returns-in-None-clause-position
+returns-in-None-clause-position c =
     let none : slice_get (contents c.args.string.now).units c.args.index ≡ None = search rules in
     (λ _. none_past _ _ none, λ _. refl)
