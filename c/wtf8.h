@@ -1,5 +1,6 @@
 /*
- * Strings that hold any 16-bit code units, paired surrogates or not, stored as WTF-8.
+ * Strings that hold any 16-bit code units, paired surrogates or not, stored as WTF-8. The units, the text in UTF-8 and
+ * the lossy text can be copied out; the bytes of a string with a surrogate cannot, since WTF-8 is not for interchange.
  *
  * What a call does to the units of its strings is proved for every call that meets the duties below; see
  * crates/wtf8_c/README.md, which also says what is trusted.
@@ -8,8 +9,8 @@
  * - Each pointer is valid and aligned. It may be NULL only where the text says so: an array of length 0 may be NULL.
  * - Arrays do not overlap each other, nor a string, nor a number that the call writes.
  * - A string is made by WTF8_EMPTY or by setting all its bytes to 0, and freed by wtf8_free. Its fields are not read or
- *   written, and it is not copied, neither by assignment nor by memcpy: wtf8_set_string copies. It may be moved if the
- *   old place is not used again.
+ *   written. An assignment or memcpy makes no second string: wtf8_set_string does. They, or realloc of an array of
+ *   strings, may move one, if the old place is not used again.
  * - One call at a time uses a string, calls that only ask included. Other threads may use other strings meanwhile. A
  *   string may go to another thread if a lock, a thread's start or a join orders that.
  * - No call comes from a signal handler, or from the forked child of a process with threads.
@@ -99,7 +100,8 @@ size_t wtf8_unit_len(wtf8_string *string);
 /* The length in bytes. */
 size_t wtf8_byte_len(wtf8_string *string);
 
-/* Writes the unit at `index` to `*unit`. It counts the units before it. Codes: DONE, POSITION. */
+/* Writes the unit at `index` to `*unit`. It counts the units before it, so a loop over all of them is quadratic: copy the
+ * units out. Codes: DONE, POSITION (`index` is the length or greater). */
 int32_t wtf8_unit_at(wtf8_string *string, size_t index, uint16_t *unit);
 
 /* Whether a position in bytes is a code point boundary: 0 and the length are, a position after the end is not. */
@@ -128,10 +130,15 @@ int32_t wtf8_truncate_units(wtf8_string *string, size_t n);
 /* Shortens the string to `position` bytes, a boundary. Codes: DONE, POSITION. */
 int32_t wtf8_truncate(wtf8_string *string, size_t position);
 
-/* Replaces `into` by the units of `string` from `begin` to before `end`. Codes: DONE, MEMORY, POSITION. */
+/* Replaces `into` by the units of `string` from `begin` to before `end`. Codes: DONE, MEMORY, POSITION (`begin` is greater
+ * than `end`, or `end` than the length). */
 int32_t wtf8_slice_units(wtf8_string *string, size_t begin, size_t end, wtf8_string *into);
 
-/* ---- Copying out ---- */
+/* ---- Copying out ----
+ *
+ * A short array is reported before memory is requested, so an array of size 0 asks for the length. `*len` is written
+ * with DONE and TOO_SHORT alone.
+ */
 
 /* Writes all units at the front of `out`, which has room for `size`, and their number to `*len`. If the array is too
  * short, only the number is written. Codes: DONE, MEMORY, TOO_SHORT. */
@@ -143,8 +150,7 @@ int32_t wtf8_copy_slice(wtf8_string *string, size_t begin, size_t end, uint16_t 
 /* The same of the text in UTF-8, `*len` in bytes, if there is no surrogate. Codes: DONE, SURROGATE, TOO_SHORT. */
 int32_t wtf8_copy_utf8(wtf8_string *string, uint8_t *out, size_t size, size_t *len);
 
-/* The same of the text with U+FFFD in place of each surrogate. A short array is reported before memory is requested.
- * Codes: DONE, MEMORY, TOO_SHORT. */
+/* The same of the text with U+FFFD in place of each surrogate. Codes: DONE, MEMORY, TOO_SHORT. */
 int32_t wtf8_copy_lossy(wtf8_string *string, uint8_t *out, size_t size, size_t *len);
 
 #ifdef __cplusplus
