@@ -70,7 +70,7 @@ pub use Rattle.wtf8.specs.private.Mismatch.{IsMismatch, SupplementaryBegins, Dif
 pub use Rattle.wtf8.specs.private.ScalarPrefix.{AreScalarTo}
 pub use Rattle.wtf8.specs.private.SpacedHex.{spaced_hex}
 pub use Rattle.wtf8.specs.private.SurrogateSearch.{SurrogateAt}
-pub use Rattle.wtf8.specs.private.UnitCounts.{IsCursor, IsCursorOfUnit, CutsUnits, utf16_len, sum_utf16_len, Divides}
+pub use Rattle.wtf8.specs.private.UnitCounts.{IsCursor, IsCursorOfUnit, utf16_len, sum_utf16_len}
 pub use Rattle.wtf8.specs.private.UnitIterator.{held_trail, after_held_trail, trail_from_bytes, unread_after, StepsUnit, is_continuation}
 pub use Rattle.wtf8.specs.private.UnitIterator.{unread_at}
 pub use lib.Lanes.{zip2, Each1, chunk, mask_l, top, sel_l, Each2, fold_l, sum_l}

@@ -1,8 +1,6 @@
--- The number of units in bytes, and the byte position at which a number of units ends.
-use Rattle.std.specs.Prelude.{◌≡◌, ℕ, ◌+◌, ◌<◌, ◌≤◌, List, ◌∷◌, ◌++◌, length, take, nat_lt, if◌then◌else◌, Option, MatchOption}
+-- The number of units in bytes, and the byte position of the code point that holds a unit.
+use Rattle.std.specs.Prelude.{◌≡◌, ℕ, ◌+◌, ◌<◌, ◌≤◌, List, length, take, nat_lt, if◌then◌else◌}
 use Rattle.std.specs.List.{sum_by}
-use Rattle.wtf8.specs.Unicode.{units}
-use Rattle.wtf8.specs.Form.{bytes}
 use Rattle.wtf8.specs.declared.strings.unit_counts.UnitCursor.{UnitCursor}
 
 -- The number of units of a code point by its lead byte; 0 for a continuation byte (Unicode 3.9, "UTF-8", Table 3-6).
@@ -23,19 +21,3 @@ pub record IsCursor (w : List ℕ) (n : ℕ) (cursor : UnitCursor) : Type 0 wher
 pub record IsCursorOfUnit (w : List ℕ) (n : ℕ) (cursor : UnitCursor) : Type 0 where
   pub before : IsCursor w n cursor
   pub reaches : cursor.position < length w → n < sum_utf16_len (take (cursor.position + 1) w)
-
--- `p`, the first code point of `back`, has two units, and a cut after `n` units is between them.
-pub record Divides (front back : List ℕ) (n p : ℕ) : Type 0 where
-  pub rest : List ℕ
-  pub first : back ≡ p ∷ rest
-  pub supplementary : 0x10000 ≤ p
-  pub inside : length (units front) + 1 ≡ n
-
--- The first `n` units end at byte position `position`, or between the two units of the code point `divided` that begins
--- there.
-pub record CutsUnits (c : List ℕ) (n position : ℕ) (divided : Option ℕ) : Type 0 where
-  pub front : List ℕ
-  pub back : List ℕ
-  pub joined : c ≡ front ++ back
-  pub front_len : length (bytes front) ≡ position
-  pub counted : MatchOption divided (length (units front) ≡ n) (Divides front back n)

@@ -18,7 +18,6 @@ fn continuation_byte(value: u32) -> u8
     (0x80 + value % 64) as u8
 }
 
-/// The encoding of a code point from 0x80 to 0x7FF.
 #[tactic(auto, using(crate::proofs::lemmas::codec::Encoding::encoding_two))]
 fn two_bytes(value: u32) -> [u8; 2]
     requires low { 0x80 ≤ value }
@@ -28,7 +27,6 @@ fn two_bytes(value: u32) -> [u8; 2]
     [(0xC0 + value / 64) as u8, continuation_byte(value)]
 }
 
-/// The encoding of a code point from 0x800 to 0xFFFF, surrogates included.
 #[tactic(auto, using(crate::proofs::lemmas::codec::Encoding::encoding_three))]
 fn three_bytes(value: u32) -> [u8; 3]
     requires low { 0x800 ≤ value }
@@ -42,7 +40,6 @@ fn three_bytes(value: u32) -> [u8; 3]
     ]
 }
 
-/// The encoding of a supplementary code point.
 #[tactic(auto, using(crate::proofs::lemmas::codec::Encoding::encoding_four))]
 pub(crate) fn four_bytes(value: u32) -> [u8; 4]
     requires low { 0x10000 ≤ value }
@@ -107,13 +104,13 @@ pub(crate) fn append_with_spare<A: Allocator>(
 }
 
 /// Keeps the first `at + 3` bytes and overwrites the last three of them by the encoding of a lead surrogate.
-pub(crate) fn keep_lead<A: Allocator>(bytes: &mut Vec<u8, A>, at: usize, lead: u32)
+pub(crate) fn keep_lead<A: Allocator>(bytes: &mut Vec<u8, A>, at: usize, lead: u16)
     requires lead { IsLead lead }
     requires within { at + 3 ≤ length bytes.old.items }
     ensures { bytes.new.items ≡ take at bytes.old.items ++ encoding lead }
 {
     bytes.truncate(at + 3);
-    bytes[at..at + 3].copy_from_slice(&three_bytes(lead));
+    bytes[at..at + 3].copy_from_slice(&three_bytes(u32::from(lead)));
 }
 
 /// Whether a byte begins an encoding: it is not a continuation byte, which is from 0x80 to 0xBF.
@@ -131,7 +128,6 @@ fn payload_bits(byte: u8) -> u32
     u32::from(byte - 0x80)
 }
 
-/// The surrogate whose encoding is the byte ED and then these two bytes.
 #[inline(always)]
 pub(crate) fn surrogate_after_ed(second: u8, third: u8) -> u32
     requires second { 0x80 ≤ second }

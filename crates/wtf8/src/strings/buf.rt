@@ -1,5 +1,5 @@
 // `Wtf8Buf`, the owned string.
-ghost use Rattle.std.specs.Prelude.{◌≡◌, ℕ, List, [], ◌∷◌, ◌++◌, ◌+◌, ◌*◌, ◌<◌, ◌≤◌, length, take, IsTrue, OnOk, OnErr, IsOk, IfOk, IfErr, ◌↔◌, vec_capacity, if◌then◌else◌};
+ghost use Rattle.std.specs.Prelude.{◌≡◌, ℕ, List, [], ◌∷◌, ◌++◌, ◌+◌, ◌*◌, ◌<◌, ◌≤◌, length, take, IsTrue, OnOk, OnErr, IsOk, IfOk, IfErr, ◌↔◌, vec_capacity, refl, if◌then◌else◌};
 ghost use Rattle.std.specs.Str.{chars};
 ghost use Rattle.std.specs.String.{string_bytes};
 ghost use Rattle.wtf8.specs.Appending.{AppendsUnits, KeepsContents, HasRoomFor, AddsLength};
@@ -14,10 +14,11 @@ ghost use Rattle.wtf8.specs.private.ScalarPrefix.{AreScalarTo, AreScalarTo-prop}
 ghost use Rattle.wtf8.specs.private.SurrogateSearch.{SurrogateAt};
 ghost use Rattle.wtf8.specs.Unicode.{units, units_of};
 ghost use Rattle.wtf8.specs.UnitPosition.{TruncatesUnits};
+ghost use Rattle.wtf8.specs.UnitString.{UnitString, unit_string_code, fits_as_items};
 ghost use Rattle.wtf8.specs.View.{view_points, view_units};
 
 use crate::codec::code_point::CodePoint;
-use crate::codec::{encoding, surrogates};
+use crate::codec::encoding;
 use crate::from_utf16::transcode;
 use crate::lanes::search;
 use crate::strings::concat;
@@ -60,11 +61,6 @@ pub struct Wtf8Buf<A: Allocator> {
 }
 
 impl<A: Allocator> Model for Wtf8Buf<A> {
-    ghost use Rattle.std.specs.Prelude.{refl};
-    ghost use Rattle.std.specs.Vec.{vec_capacity};
-    ghost use Rattle.wtf8.specs.UnitString.{UnitString, unit_string_code, fits_as_items};
-    ghost use Rattle.wtf8.specs.Unicode.{units};
-
     ghost Value = { UnitString };
 
     ghost coded = { unit_string_code };
@@ -387,17 +383,18 @@ impl<A: Allocator> Wtf8Buf<A> {
     pub(crate) fn try_truncate_units(&mut self, n: usize) -> bool
         ensures { TruncatesUnits self.old.units n self.new.units (if result then 0 else 1) }
     {
-        let Some(cut) = find_cut(self.as_wtf8(), n) else {
+        let view = self.as_wtf8();
+        let Some(cut) = find_cut(view, n) else {
             return false;
         };
-        match cut.divided {
-            None => self.truncate(cut.position),
-            Some(value) => {
-                self.utf8_prefix = self.utf8_prefix.up_to(cut.position);
-                let lead = surrogates::lead_of(value);
-                encoding::keep_lead(&mut self.bytes, cut.position, lead);
-            }
+        if cut.units == n {
+            self.truncate(cut.position);
+            return true;
         }
+        let (_, pair) = view.bytes.split_at(cut.position);
+        let lead = encoding::read_lead(pair);
+        self.utf8_prefix = self.utf8_prefix.up_to(cut.position);
+        encoding::keep_lead(&mut self.bytes, cut.position, lead);
         true
     }
 

@@ -55,13 +55,9 @@ impl<'a> Wtf8<'a> {
             return from;
         };
         prove!(self.len() <= usize::MAX);
-        let position = from.position + cut.position;
-        match cut.divided {
-            None => UnitMark { position, units },
-            Some(_) => UnitMark {
-                position,
-                units: units - 1,
-            },
+        UnitMark {
+            position: from.position + cut.position,
+            units: from.units + cut.units,
         }
     }
 

@@ -1,7 +1,8 @@
 // Positions of 16-bit code units: where the first `n` units of a string end, and the unit at an index.
-ghost use Rattle.std.specs.Prelude.{◌≡◌, ◌<◌, ◌≤◌, length, slice_get, Some, IfSome, IfNone};
-ghost use Rattle.wtf8.specs.private.UnitCounts.{IsCursor, IsCursorOfUnit, CutsUnits};
-ghost use Rattle.wtf8.specs.View.{view_points, view_units};
+ghost use Rattle.std.specs.Prelude.{◌≡◌, ◌+◌, ◌<◌, ◌≤◌, length, slice_get, Some, IfSome, IfNone};
+ghost use Rattle.wtf8.specs.Position.{IsBoundary};
+ghost use Rattle.wtf8.specs.private.UnitCounts.{IsCursor, IsCursorOfUnit};
+ghost use Rattle.wtf8.specs.View.{view_units};
 
 use crate::codec::encoding;
 use crate::lanes::ascii::is_ascii_block;
@@ -118,38 +119,24 @@ fn find_unit(bytes: &[u8], unit: usize) -> UnitCursor
     }
 }
 
-/// The end of the first `n` units of a string: a byte position and, if the last of these units is the lead of a
-/// surrogate pair, the supplementary code point that begins there.
-#[derive(Clone, Copy)]
-pub(crate) struct UnitCut {
-    pub(crate) position: usize,
-    pub(crate) divided: Option<u32>,
-}
-
-/// Finds the end of the first `n` units of a string, or returns `None` if it has fewer. Counts nothing if `n` exceeds
-/// the length in bytes, which is at least the number of units.
+/// Finds where the first `n` units of a string end, or returns `None` if it has fewer. If they end inside a surrogate
+/// pair, the cursor is before the pair, with one unit less. Counts nothing if `n` exceeds the length in bytes, which is
+/// at least the number of units.
 #[inline(always)]
-pub(crate) fn find_cut(view: Wtf8<'_>, n: usize) -> Option<UnitCut>
-    ensures some { IfSome result (λ cut. CutsUnits (view_points view.entry) n cut.position cut.divided) }
+pub(crate) fn find_cut(view: Wtf8<'_>, n: usize) -> Option<UnitCursor>
+    ensures some { IfSome result (λ cut. IsCursorOfUnit view.entry.bytes.now n cut) }
+    ensures divided { IfSome result (λ cut. cut.units < n → cut.position + 4 ≤ length view.entry.bytes.now) }
+    ensures boundary { IfSome result (λ cut. IsBoundary (view_units view.entry) cut.position) }
     ensures none { IfNone result (length (view_units view.entry) < n) }
 {
     if view.bytes.len() < n {
         return None;
     }
-    let cursor = find_unit(view.bytes, n);
-    if cursor.units == n {
-        return Some(UnitCut {
-            position: cursor.position,
-            divided: None,
-        });
-    }
-    let Some((code_point, _)) = view.slice_from(cursor.position).split_first() else {
+    let cut = find_unit(view.bytes, n);
+    if cut.units < n && cut.position == view.bytes.len() {
         return None;
-    };
-    Some(UnitCut {
-        position: cursor.position,
-        divided: Some(code_point.to_u32()),
-    })
+    }
+    Some(cut)
 }
 
 /// Returns the unit at `index`, or `None` at or past the end, counted from the front. Counts nothing if `index` is at

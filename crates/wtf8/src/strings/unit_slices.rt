@@ -4,7 +4,7 @@ ghost use Rattle.std.specs.Option.{option_to_list};
 ghost use Rattle.wtf8.specs.UnitPosition.{units_of_slice, DividesPair};
 ghost use Rattle.wtf8.specs.View.{view_units};
 
-use crate::codec::surrogates::{lead_of, trail_of};
+use crate::codec::encoding;
 use crate::strings::unit_positions::find_cut;
 use crate::strings::view::Wtf8;
 
@@ -17,17 +17,6 @@ pub struct UnitSlice<'a> {
     pub whole: Wtf8<'a>,
     /// The lead surrogate of a pair that the end of the part splits.
     pub lead: Option<u16>,
-}
-
-#[inline(always)]
-fn half_len(half: Option<u16>) -> usize
-    ensures count { result ≡ length (option_to_list half) }
-    ensures most { result ≤ 1 }
-{
-    match half {
-        Some(_) => 1,
-        None => 0,
-    }
 }
 
 impl<'a> Wtf8<'a> {
@@ -52,7 +41,7 @@ impl<'a> Wtf8<'a> {
             };
         }
         let (trail, rest) = self.units_after(begin);
-        let (whole, lead) = rest.first_units(end - begin - half_len(trail));
+        let (whole, lead) = rest.first_units(end - begin - usize::from(trail.is_some()));
         UnitSlice { trail, whole, lead }
     }
 
@@ -66,10 +55,11 @@ impl<'a> Wtf8<'a> {
             return (self, None);
         };
         let front = self.slice_to(cut.position);
-        match cut.divided {
-            None => (front, None),
-            Some(value) => (front, Some(lead_of(value) as u16)),
+        if cut.units == n {
+            return (front, None);
         }
+        let (_, pair) = self.bytes.split_at(cut.position);
+        (front, Some(encoding::read_lead(pair)))
     }
 
     /// Returns the trail of a pair that `n` splits, and the whole code points after the first `n` units.
@@ -81,12 +71,11 @@ impl<'a> Wtf8<'a> {
         let Some(cut) = find_cut(self, n) else {
             return (None, self);
         };
-        match cut.divided {
-            None => (None, self.slice_from(cut.position)),
-            Some(value) => (
-                Some(trail_of(value) as u16),
-                self.slice_from(cut.position + 4),
-            ),
+        if cut.units == n {
+            return (None, self.slice_from(cut.position));
         }
+        let (_, last_two) = self.bytes.split_at(cut.position + 2);
+        let trail = encoding::read_trail(last_two);
+        (Some(trail), self.slice_from(cut.position + 4))
     }
 }

@@ -3,11 +3,13 @@ ghost use Rattle.std.specs.Prelude.{◌≡◌, ℕ, ◌++◌, ◌+◌, ◌*◌, 
 ghost use Rattle.wtf8.specs.private.ConvertedPrefix.{AreAscii};
 ghost use Rattle.wtf8.specs.private.EncodedBytes.{BecomesOrKeeps};
 ghost use Rattle.wtf8.specs.private.EncodedRuns.{BeginsWithUnits, Writes};
+ghost use Rattle.wtf8.specs.CodePoint.{number};
+ghost use Rattle.wtf8.specs.Unicode.{units_of};
 ghost use Rattle.wtf8.specs.View.{view_units};
 
 use crate::codec::code_point::CodePoint;
 use crate::codec::encoding;
-use crate::codec::surrogates::{lead_of, trail_of};
+use crate::codec::surrogates::{FIRST_LEAD, FIRST_SUPPLEMENTARY, FIRST_TRAIL, SURROGATES_PER_HALF};
 use crate::lanes::VECTOR;
 use crate::lanes::ascii::is_ascii_overlapping;
 use crate::strings::view::Wtf8;
@@ -68,6 +70,19 @@ fn append_ascii_overlapping<const N: usize, B: Allocator>(
     Ok(())
 }
 
+/// The surrogate pair of a supplementary code point.
+#[inline(always)]
+#[tactic(auto, using(crate::proofs::lemmas::codec::Readings::units_two))]
+fn pair_of(code_point: CodePoint) -> [u16; 2]
+    requires { 0x10000 ≤ number code_point }
+    ensures { result ≡ units_of (number code_point) }
+{
+    let per_half = SURROGATES_PER_HALF as u32;
+    let offset = code_point.to_u32() - FIRST_SUPPLEMENTARY;
+    let lead = FIRST_LEAD as u32 + offset / per_half;
+    [lead as u16, (FIRST_TRAIL as u32 + offset % per_half) as u16]
+}
+
 /// Decodes the first code point and writes its one or two units.
 #[inline(always)]
 fn decode_point<'a>(units: &mut [u16], left: Undecoded<'a>) -> Undecoded<'a>
@@ -86,8 +101,7 @@ fn decode_point<'a>(units: &mut [u16], left: Undecoded<'a>) -> Undecoded<'a>
             if value < 0x10000 {
                 return write_units(units, left, [value as u16], 1, width);
             }
-            let pair = [lead_of(value) as u16, trail_of(value) as u16];
-            write_units(units, left, pair, 2, width)
+            write_units(units, left, pair_of(code_point), 2, width)
         }
     }
 }

@@ -2,7 +2,7 @@
 use Rattle.wtf8.proofs.Common.{◌≡◌, ◌-◌, ◌≤◌, ◌<◌, ℕ, zero, suc, inl, inr, List, [], ◌∷◌, ◌++◌, length, get_or, refl, ap, ◌∙◌, sym, subst}
 use Rattle.wtf8.proofs.Common.{arith, length-append, cases_lt, append-nil, get_or-append_right, encoding, bytes, take, drop, append_assoc}
 use Rattle.wtf8.proofs.Common.{take_at, drop_at, units, IsClean, Reads, IsWellFormed, IsForm, IsBoundary, IsFront, IsBack, ◌+◌, ◌/◌, ◌%◌}
-use Rattle.wtf8.proofs.Common.{take-add, chunk, units_of, utf16_len, sum_utf16_len, IsCursorOfUnit, CutsUnits, None, sum_by-append}
+use Rattle.wtf8.proofs.Common.{take-add, chunk, units_of, utf16_len, sum_utf16_len, IsCursorOfUnit, sum_by-append}
 use Rattle.wtf8.proofs.Common.{sum_by_more, Splits, IsMiddle, UnitCursor}
 use Rattle.wtf8.proofs.lemmas.lanes.UnitCounts.{utf16_len-ascii, utf16_len-continuation, utf16_len-lead_below_F0, utf16_len-lead_from_F0}
 use Rattle.wtf8.proofs.lemmas.codec.Encoding.{Begins, first-encoding, continuation-encoding, length-encoding_bounds, length-bytes_append}
@@ -269,9 +269,17 @@ begins_from_utf16_len b h = elim (cases_lt b 0x80) [
   | inr l ↦ elim (cases_lt b 0xC0) [ inl k ↦ absurd (omega (arith, utf16_len-continuation b l k)) | inr k ↦ record { start = inr k } ]
 ]
 
+-- a cut between code points, after `n` units and `position` bytes
+pub record CutsUnits (c : List ℕ) (n position : ℕ) : Type 0 where
+  pub front : List ℕ
+  pub back : List ℕ
+  pub joined : c ≡ front ++ back
+  pub front_len : length (bytes front) ≡ position
+  pub counted : length (units front) ≡ n
+
 -- the code points before and after `cursor`; the next one, if any, holds unit `n`
 pub record PointsAbout (c : List ℕ) (n : ℕ) (cursor : UnitCursor) : Type 0 where
-  pub cut : CutsUnits c cursor.units cursor.position None
+  pub cut : CutsUnits c cursor.units cursor.position
   pub not_beyond : cursor.units ≤ n
   pub holds : (p : ℕ) (rest : List ℕ) → cut.back ≡ p ∷ rest → n < cursor.units + length (units_of p)
 

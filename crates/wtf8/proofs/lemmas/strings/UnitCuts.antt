@@ -1,19 +1,18 @@
 -- Strings cut at a number of units, also inside a surrogate pair, and the iterator's state inside a pair.
 use Rattle.wtf8.proofs.Common.{BeginsWithPoint, ◌≡◌, ℕ, zero, suc, ◌+◌, ◌≤◌, List, [], ◌∷◌, ◌++◌, length, take, drop, None, Some, refl, sym}
 use Rattle.wtf8.proofs.Common.{ap, ◌∙◌, subst, arith, length-append, append_assoc, take_at, drop_at, slice_get, IsCodePoint, units, IsClean}
-use Rattle.wtf8.proofs.Common.{bytes, encoding, IsWellFormed, IsFront, CutsUnits, ◌<◌, ◌↔◌, inl, inr, Option, get_or, same_from_push}
+use Rattle.wtf8.proofs.Common.{bytes, encoding, IsWellFormed, IsFront, ◌<◌, ◌↔◌, inl, inr, Option, get_or, same_from_push}
 use Rattle.wtf8.proofs.Common.{take-append-drop, length-drop, Reads, true, false, ◌/◌, ◌%◌, lt-ltb, le-ltb, drop-drop, append-nil, IsLead}
 use Rattle.wtf8.proofs.Common.{units_of, trail_from_bytes, held_trail, after_held_trail, unread_after, length-take-le, take-append-add}
-use Rattle.wtf8.proofs.Common.{drop-append-add, option_to_list, IsSome, StepsUnit, Divides, DividesPair, is_continuation}
+use Rattle.wtf8.proofs.Common.{drop-append-add, option_to_list, IsSome, StepsUnit, DividesPair, is_continuation}
 use Rattle.wtf8.proofs.Common.{cases_lt, IsCursorOfUnit, UnitCursor, take_all, sum_utf16_len}
-use Rattle.std.proofs.lemmas.Option.{slice_get_past}
 use Rattle.wtf8.proofs.lemmas.codec.Encoding.{encoding_four, bytes-append, bytes-pushed, encoding_cases, one, two, three, four, Begins}
-use Rattle.wtf8.proofs.lemmas.codec.Encoding.{first-encoding}
+use Rattle.wtf8.proofs.lemmas.codec.Encoding.{first-encoding, begins_with}
 use Rattle.wtf8.proofs.lemmas.codec.Readings.{clean-first, clean-front, clean-back, clean-append, clean-unpaired, unpaired-before_no_trail}
 use Rattle.wtf8.proofs.lemmas.codec.Readings.{meets_by, lead_of, trail_of, units_one, units_two, units-append, units-pushed, first_of}
 use Rattle.wtf8.proofs.lemmas.codec.Readings.{points-nil, Taken-from_first, IsWellFormed-equal_bytes}
 use Rattle.wtf8.proofs.lemmas.strings.Concatenation.{points_meet, last_of, empty, ends}
-use Rattle.wtf8.proofs.lemmas.strings.Positions.{cut_by, PointsAbout, points_about, sum_utf16_len-bytes}
+use Rattle.wtf8.proofs.lemmas.strings.Positions.{CutsUnits, cut_by, PointsAbout, points_about, sum_utf16_len-bytes}
 
 -- The parts of a string before and after its first `n` units.
 
@@ -34,9 +33,8 @@ slice_get-append_at [] b (suc n) e = absurd (omega arith)
 slice_get-append_at (x ∷ a) b zero e = absurd (omega arith)
 slice_get-append_at (x ∷ a) b (suc n) e = slice_get-append_at a b n (omega arith)
 
-pub undivided_from_cut : {c : List ℕ} {n k : ℕ} {half : Option ℕ} → half ≡ None → CutsUnits c n k half → Undivided c n k
-undivided_from_cut {c} {n} {k} e cut =
-    let x = subst (CutsUnits c n k) e cut in
+pub undivided_from_cut : {c : List ℕ} {n k : ℕ} → CutsUnits c n k → Undivided c n k
+undivided_from_cut {c} {n} {k} x =
     let whole : units c ≡ units x.front ++ units x.back = ap units x.joined ∙ units-append x.front x.back in
     record {
       front = x.front;
@@ -64,31 +62,31 @@ pub record Divided (c : List ℕ) (n k p : ℕ) : Type 0 where
   pub pushed_len : length (bytes (front ++ p ∷ [])) ≡ k + 4
   pub long : k + 4 ≤ length (bytes c)
 
-pub divided_from_cut : {c : List ℕ} {n k p : ℕ} {half : Option ℕ} → half ≡ Some p → CutsUnits c n k half → Divided c n k p
-divided_from_cut {c} {n} {k} {p} e cut =
-    let x = subst (CutsUnits c n k) e cut in
-    let d : Divides x.front x.back n p = x.counted in
-    let joined : c ≡ x.front ++ p ∷ d.rest = x.joined ∙ ap (λ b. x.front ++ b) d.first in
-    let whole : units c ≡ (units x.front ++ lead_of p ∷ []) ++ (trail_of p ∷ units d.rest) =
-    simp (joined, units-append, units_two p d.supplementary, append_assoc) in
-    let long : length (units x.front ++ lead_of p ∷ []) ≡ n = omega (arith, length-append (units x.front) (lead_of p ∷ []), d.inside) in
-    let pushed : c ≡ (x.front ++ p ∷ []) ++ d.rest = joined ∙ sym (append_assoc x.front (p ∷ []) d.rest) in
+divided_from_cut : {c : List ℕ} {n m k : ℕ} (x : CutsUnits c m k) (p : ℕ) (rest : List ℕ) → x.back ≡ p ∷ rest → 0x10000 ≤ p
+    → m + 1 ≡ n → Divided c n k p
+divided_from_cut {c} {n} {m} {k} x p rest e large one_less =
+    let joined : c ≡ x.front ++ p ∷ rest = x.joined ∙ ap (λ b. x.front ++ b) e in
+    let whole : units c ≡ (units x.front ++ lead_of p ∷ []) ++ (trail_of p ∷ units rest) =
+    simp (joined, units-append, units_two p large, append_assoc) in
+    let long : length (units x.front ++ lead_of p ∷ []) ≡ n =
+    omega (arith, length-append (units x.front) (lead_of p ∷ []), x.counted, one_less) in
+    let pushed : c ≡ (x.front ++ p ∷ []) ++ rest = joined ∙ sym (append_assoc x.front (p ∷ []) rest) in
     let pushed_len : length (bytes (x.front ++ p ∷ [])) ≡ k + 4 =
-    simp (bytes-pushed, length-append, encoding_four p d.supplementary, x.front_len) in
-    let all_len = ap (λ v. length (bytes v)) pushed ∙ ap length (bytes-append (x.front ++ p ∷ []) d.rest) in
+    simp (bytes-pushed, length-append, encoding_four p large, x.front_len) in
+    let all_len = ap (λ v. length (bytes v)) pushed ∙ ap length (bytes-append (x.front ++ p ∷ []) rest) in
     record {
       front = x.front;
-      rest = d.rest;
+      rest = rest;
       joined = joined;
-      large = d.supplementary;
-      within = omega (arith, ap length whole, length-append (units x.front ++ lead_of p ∷ []) (trail_of p ∷ units d.rest), long);
-      kept = ap (take n) whole ∙ take_at (units x.front ++ lead_of p ∷ []) (trail_of p ∷ units d.rest) n long;
-      after = ap (drop n) whole ∙ drop_at (units x.front ++ lead_of p ∷ []) (trail_of p ∷ units d.rest) n long;
-      here = ap (λ u. slice_get u n) whole ∙ slice_get-append_at (units x.front ++ lead_of p ∷ []) (trail_of p ∷ units d.rest) n long;
+      large = large;
+      within = omega (arith, ap length whole, length-append (units x.front ++ lead_of p ∷ []) (trail_of p ∷ units rest), long);
+      kept = ap (take n) whole ∙ take_at (units x.front ++ lead_of p ∷ []) (trail_of p ∷ units rest) n long;
+      after = ap (drop n) whole ∙ drop_at (units x.front ++ lead_of p ∷ []) (trail_of p ∷ units rest) n long;
+      here = ap (λ u. slice_get u n) whole ∙ slice_get-append_at (units x.front ++ lead_of p ∷ []) (trail_of p ∷ units rest) n long;
       front_len = x.front_len;
       pushed = pushed;
       pushed_len = pushed_len;
-      long = omega (arith, pushed_len, all_len, length-append (bytes (x.front ++ p ∷ [])) (bytes d.rest));
+      long = omega (arith, pushed_len, all_len, length-append (bytes (x.front ++ p ∷ [])) (bytes rest));
     }
 
 pub IsCodePoint-divided : {c : List ℕ} {n k p : ℕ} → IsClean c → Divided c n k p → IsCodePoint p
@@ -100,43 +98,38 @@ pub points_about_unit : {w : List ℕ} (h : IsWellFormed w) (n : ℕ) (cursor : 
     → PointsAbout h.points n cursor
 points_about_unit h n cursor x = points_about h.points n cursor (subst (λ v. IsCursorOfUnit v n cursor) (sym h.encoded) x)
 
--- the units before and after `cursor` are all units
-units_counted : {c : List ℕ} {n : ℕ} {cursor : UnitCursor} (x : PointsAbout c n cursor)
-    → length (units c) ≡ cursor.units + length (units x.cut.back)
-units_counted x = simp (x.cut.joined, units-append, length-append, x.cut.counted)
+-- inside the pair that begins at `cursor`, with one unit before it
+pub record InPair (c : List ℕ) (n : ℕ) (cursor : UnitCursor) : Type 0 where
+  pub point : ℕ
+  pub divided : Divided c n cursor.position point
+  pub one_less : cursor.units + 1 ≡ n
 
--- the cut is at `cursor`, past the end, or inside the pair that begins at `cursor`
-pub cut_at_cursor : {c : List ℕ} {n : ℕ} {cursor : UnitCursor} → PointsAbout c n cursor → cursor.units ≡ n
-    → CutsUnits c n cursor.position None
-cut_at_cursor {c} {n} {cursor} x e = subst (λ m. CutsUnits c m cursor.position None) e x.cut
+pub in_pair_at_cursor : {c : List ℕ} {n : ℕ} {cursor : UnitCursor} → PointsAbout c n cursor → cursor.position < length (bytes c)
+    → ¬ (cursor.units ≡ n) → InPair c n cursor
+in_pair_at_cursor {c} {n} {cursor} x inside m = at_back x.cut.back refl
+  where
+    at_back : (back : List ℕ) → x.cut.back ≡ back → InPair c n cursor
+    at_back [] e =
+        let whole = ap bytes x.cut.joined ∙ (bytes-append x.cut.front x.cut.back ∙ ap (λ b. bytes x.cut.front ++ bytes b) e) in
+        absurd (omega (arith, inside, ap length whole, length-append (bytes x.cut.front) [], x.cut.front_len))
+    at_back (p ∷ rest) e =
+        let more = x.holds p rest e in
+        elim (cases_lt p 0x10000) [
+          | inl h ↦ absurd (omega (arith, more, ap length (units_one p h), m, x.not_beyond))
+          | inr h ↦
+              let one_less : cursor.units + 1 ≡ n = omega (arith, more, ap length (units_two p h), m, x.not_beyond) in
+              record { point = p; divided = divided_from_cut x.cut p rest e h one_less; one_less = one_less }
+        ]
 
-pub too_few : {c : List ℕ} {n : ℕ} {cursor : UnitCursor} (x : PointsAbout c n cursor) → ¬ (cursor.units ≡ n) → x.cut.back ≡ []
-    → length (units c) < n
-too_few x m e = omega (arith, units_counted x, ap (λ b. length (units b)) e, x.not_beyond, m)
+-- what the position of a cursor says: the cut is between code points, or inside the pair that begins there
+pub undivided_at : {w : List ℕ} (h : IsWellFormed w) (n : ℕ) (cursor : UnitCursor) → IsCursorOfUnit w n cursor → cursor.units ≡ n
+    → Undivided h.points n cursor.position
+undivided_at h n s is e = undivided_from_cut (subst (λ m. CutsUnits h.points m s.position) e (points_about_unit h n s is).cut)
 
-pub cut_inside : {c : List ℕ} {n : ℕ} {cursor : UnitCursor} (x : PointsAbout c n cursor) (p : ℕ) (rest : List ℕ) → ¬ (cursor.units ≡ n)
-    → x.cut.back ≡ p ∷ rest
-    → CutsUnits c n cursor.position (Some p)
-cut_inside {c} {n} {cursor} x p rest m e =
-    let more = x.holds p rest e in
-    let least : cursor.units ≤ n = x.not_beyond in
-    let cut = x.cut in
-    let large : 0x10000 ≤ p = elim (cases_lt p 0x10000) [
-      | inl h ↦ absurd (omega (arith, more, ap length (units_one p h), m, least))
-      | inr h ↦ h
-    ] in
-    record {
-      front = cut.front;
-      back = cut.back;
-      joined = cut.joined;
-      front_len = cut.front_len;
-      counted = record {
-        rest = rest;
-        first = e;
-        supplementary = large;
-        inside = omega (arith, more, ap length (units_two p large), m, least, cut.counted);
-      };
-    }
+pub in_pair_at : {w : List ℕ} (h : IsWellFormed w) (n : ℕ) (cursor : UnitCursor) → IsCursorOfUnit w n cursor
+    → (cursor.units < n → cursor.position + 4 ≤ length w) → ¬ (cursor.units ≡ n) → InPair h.points n cursor
+in_pair_at h n s is long m =
+    in_pair_at_cursor (points_about_unit h n s is) (omega (arith, long (omega (arith, is.before.not_beyond, m)), ap length h.encoded)) m
 
 -- the bytes before the pair and the encoding of its lead are well-formed
 abbrev pub lead_kept : {w : List ℕ} (h : IsWellFormed w) {n k p : ℕ} → Divided h.points n k p
@@ -341,41 +334,28 @@ steps_trail v at h next l g two_on =
 
 -- The unit at an index, from the position of a `UnitCursor`.
 
--- the trail of a pair is read from the last two bytes of its code point
-pub trail_in_pair : {w : List ℕ} (h : IsWellFormed w) {n k p : ℕ} → Divided h.points n k p
-    → slice_get (units h.points) n ≡ Some (trail_from_bytes (get_or (drop (k + 2) w) 0 0) (get_or (drop (k + 2) w) 1 0))
-trail_in_pair {w} h {n} {k} {p} d =
+-- bytes from the cut on begin with the code point of the pair
+pub pair_at_cut : {w v : List ℕ} (h : IsWellFormed w) {n k p : ℕ} → Divided h.points n k p → v ≡ drop k w
+    → (b : BeginsWithPoint v) × (b.point ≡ p) × (0xF0 ≤ get_or v 0 0)
+pair_at_cut {w} {v} h {n} {k} {p} d e =
     let large : 0x10000 ≤ p = d.large in
-    let whole = sym (cut_by h d.front (p ∷ d.rest) k d.joined d.front_len).after.encoded
-    ∙ ap (λ x. x ++ bytes d.rest) (encoding_four p large) in
-    let third = 0x80 + p / 64 % 64 in
-    let fourth = 0x80 + p % 64 in
-    let last : drop (k + 2) w ≡ third ∷ fourth ∷ bytes d.rest = sym (drop-drop 2 k w) ∙ ap (drop 2) whole in
-    let trail : trail_from_bytes third fourth ≡ trail_of p = omega arith in
-    d.here ∙ ap Some (sym (ap (λ v. trail_from_bytes (get_or v 0 0) (get_or v 1 0)) last ∙ trail))
+    let whole = e ∙ sym (cut_by h d.front (p ∷ d.rest) k d.joined d.front_len).after.encoded in
+    (begins_with p (bytes d.rest) v (IsCodePoint-divided h.clean d) whole, refl, rw (whole, encoding_four p large) (omega arith))
 
--- if the cursor is not at the unit, the unit is the trail of the pair there
-pub divided_at_cursor : {w : List ℕ} (h : IsWellFormed w) (n : ℕ) (cursor : UnitCursor) → IsCursorOfUnit w n cursor
-    → cursor.position < length w → ¬ (cursor.units ≡ n) → (p : ℕ) × Divided h.points n cursor.position p
-divided_at_cursor {w} h n cursor is inside m = at_back x.cut.back refl
-  where
-    x : PointsAbout h.points n cursor
-    x = points_about_unit h n cursor is
+-- the trail of a pair is read from the last two bytes of its code point
+pub trail_in_pair : {w v : List ℕ} (h : IsWellFormed w) {n k p : ℕ} → Divided h.points n k p → v ≡ drop (k + 2) w
+    → trail_from_bytes (get_or v 0 0) (get_or v 1 0) ≡ trail_of p
+trail_in_pair {w} h {n} {k} {p} d e =
+    let after = (cut_by h d.front (p ∷ d.rest) k d.joined d.front_len).after in
+    let last = e ∙ (sym (drop-drop 2 k w) ∙ ap (drop 2) (sym after.encoded)) in
+    rw (last, encoding_four p d.large) (omega arith)
 
-    at_back : (back : List ℕ) → x.cut.back ≡ back → (p : ℕ) × Divided h.points n cursor.position p
-    at_back [] e =
-        let whole = ap bytes x.cut.joined ∙ (bytes-append x.cut.front x.cut.back ∙ ap (λ b. bytes x.cut.front ++ bytes b) e) in
-        absurd (omega (arith, inside, ap length h.encoded, ap length whole, length-append (bytes x.cut.front) [], x.cut.front_len))
-    at_back (p ∷ rest) e = (p, divided_from_cut refl (cut_inside x p rest m e))
-
--- at the end there is no unit
-pub none_from_cursor : {w : List ℕ} (h : IsWellFormed w) (n : ℕ) (cursor : UnitCursor) → IsCursorOfUnit w n cursor
-    → cursor.position ≡ length w → slice_get (units h.points) n ≡ None
-none_from_cursor {w} h n cursor is e =
-    let before = is.before in
+-- at the end all units are before the cursor
+pub all_before : {w : List ℕ} (h : IsWellFormed w) (n : ℕ) (cursor : UnitCursor) → IsCursorOfUnit w n cursor
+    → cursor.position ≡ length w → length (units h.points) ≡ cursor.units
+all_before {w} h n cursor is e =
     let all = take_all cursor.position w (omega (arith, e)) in
-    let count = sym (sum_utf16_len-bytes h.points) ∙ (ap sum_utf16_len h.encoded ∙ (ap sum_utf16_len (sym all) ∙ sym before.counted)) in
-    slice_get_past (units h.points) n (omega (arith, count, before.not_beyond))
+    sym (sum_utf16_len-bytes h.points) ∙ (ap sum_utf16_len h.encoded ∙ (ap sum_utf16_len (sym all) ∙ sym is.before.counted))
 
 -- at the end nothing is left
 pub nothing_held_at_end : (w : List ℕ) (h : IsWellFormed (after_held_trail w)) → length w ≡ 0 → (held_trail w ≡ []) × (h.points ≡ [])

@@ -1,7 +1,7 @@
 -- Marks: byte positions with the number of units before them.
-use Rattle.wtf8.proofs.Common.{◌≡◌, ◌+◌, ◌<◌, ◌≤◌, ℕ, List, [], ◌∷◌, ◌++◌, length, take, None, Some, refl, sym, ap, ◌∙◌, subst, arith}
+use Rattle.wtf8.proofs.Common.{◌≡◌, ◌+◌, ◌<◌, ◌≤◌, ℕ, List, [], ◌∷◌, ◌++◌, length, take, refl, sym, ap, ◌∙◌, subst, arith}
 use Rattle.wtf8.proofs.Common.{length-append, append_assoc, take-append-drop, bytes-injective, units_of, encoding, units, bytes}
-use Rattle.wtf8.proofs.Common.{IsWellFormed, IsForm, CutsUnits, glue, Option, ◌-◌, drop, length-take-le, MatchOption, Divides, AreAscii}
+use Rattle.wtf8.proofs.Common.{IsWellFormed, IsForm, UnitCursor, glue, ◌-◌, drop, length-take-le, AreAscii}
 use Rattle.wtf8.proofs.Common.{take_all, length-drop, get_or, IsLead, IsTrail, IsBoundary, IsMiddle, IsFront, inl, inr, cases_lt, take_at}
 use Rattle.wtf8.proofs.Common.{drop_at, drop-append-le, All, IsUnit, MeetsAsPair, get_or-append_seam, DividesPair}
 use Rattle.std.proofs.lemmas.List.{take-append-le}
@@ -13,15 +13,16 @@ use Rattle.wtf8.proofs.lemmas.codec.Readings.{units-append, lists_have_lengths, 
 use Rattle.wtf8.proofs.lemmas.codec.Readings.{same_reading, reads_same, meets_by, form_append-unpaired}
 use Rattle.wtf8.proofs.lemmas.strings.Concatenation.{reads-glue, one_form, units_read}
 use Rattle.wtf8.proofs.lemmas.strings.ExtendedForms.{all_back}
+use Rattle.wtf8.proofs.lemmas.strings.Positions.{CutsUnits, PointsAbout}
 use Rattle.wtf8.proofs.lemmas.strings.Positions.{cut_by, points_after, boundary_of, same_splits, shorter_is_prefix, front_unique}
 use Rattle.wtf8.proofs.lemmas.strings.UnitCuts.{undivided_from_cut, divides_none}
 use Rattle.wtf8.proofs.lemmas.codec.Scalars.{IsKnownForm-ascii, units-ascii}
 use Rattle.std.proofs.lemmas.Simd.{Each1-chunk}
 
 -- a cut between code points is a mark
-pub mark_at_cut : {w : List ℕ} (h : IsWellFormed w) {k n : ℕ} → CutsUnits h.points n k None → IsMark w (units h.points) k n
+pub mark_at_cut : {w : List ℕ} (h : IsWellFormed w) {k n : ℕ} → CutsUnits h.points n k → IsMark w (units h.points) k n
 mark_at_cut h {k} at =
-    let x = undivided_from_cut refl at in
+    let x = undivided_from_cut at in
     let cut = cut_by h x.front x.back k x.joined x.front_len in
     record {
       position_within = cut.within;
@@ -31,11 +32,11 @@ mark_at_cut h {k} at =
       after = record { points = x.back; reads = record { clean = cut.after.clean; same_units = sym x.after }; encoded = cut.after.encoded };
     }
 
-mark_of : {w u : List ℕ} (f : IsForm w u) {k n : ℕ} → CutsUnits f.points n k None → IsMark w u k n
+mark_of : {w u : List ℕ} (f : IsForm w u) {k n : ℕ} → CutsUnits f.points n k → IsMark w u k n
 mark_of {w} f {k} {n} x = subst (λ v. IsMark w v k n) f.reads.same_units (mark_at_cut (well_formed_of f) x)
 
 -- a mark is a cut between code points, since bytes determine these
-abbrev pub cut_of : {w u : List ℕ} (h : IsWellFormed w) {k n : ℕ} → IsMark w u k n → CutsUnits h.points n k None
+abbrev pub cut_of : {w u : List ℕ} (h : IsWellFormed w) {k n : ℕ} → IsMark w u k n → CutsUnits h.points n k
 cut_of {w} {u} h {k} {n} m =
     let front = m.before.points in
     let back = m.after.points in
@@ -50,37 +51,24 @@ cut_of {w} {u} h {k} {n} m =
       counted = ap length m.before.reads.same_units ∙ length-take-le n u m.units_within;
     }
 
--- a cut of the part after a mark is a cut of the whole
-units_by : {c : List ℕ} {k n : ℕ} (x : CutsUnits c n k None) (front : List ℕ) → length (units (x.front ++ front)) ≡ n + length (units front)
-units_by x front = simp (units-append, length-append, x.counted)
-
-counted_by : {c : List ℕ} {k n : ℕ} (x : CutsUnits c n k None) (front back : List ℕ) (i m : ℕ) → n + i ≡ m → (half : Option ℕ)
-    → MatchOption half (length (units front) ≡ i) (Divides front back i)
-    → MatchOption half (length (units (x.front ++ front)) ≡ m) (Divides (x.front ++ front) back m)
-counted_by x front back i m s None e = omega (arith, units_by x front, e, s)
-counted_by x front back i m s (Some p) d =
-    record { rest = d.rest; first = d.first; supplementary = d.supplementary; inside = omega (arith, units_by x front, d.inside, s) }
-
-pub cut_from_mark : {w v u : List ℕ} (h : IsWellFormed w) (rest : IsWellFormed v) {k n position : ℕ} (m : ℕ) (half : Option ℕ)
-    → IsMark w u k n → v ≡ drop k w → n ≤ m
-    → CutsUnits rest.points (m - n) position half → CutsUnits h.points m (k + position) half
-cut_from_mark h rest {k} {n} {position} m half mark e l y =
+-- a cursor of the part after a mark, as one of the whole string
+pub points_from_mark : {w v u : List ℕ} (h : IsWellFormed w) (rest : IsWellFormed v) {k m n : ℕ} {cursor : UnitCursor}
+    → IsMark w u k m → v ≡ drop k w → m ≤ n → PointsAbout rest.points (n - m) cursor
+    → PointsAbout h.points n (record { position = k + cursor.position; units = m + cursor.units })
+points_from_mark h rest {k} mark e l y =
     let x = cut_of h mark in
     let after = points_after h rest x.front x.back k x.joined x.front_len e in
     record {
-      front = x.front ++ y.front;
-      back = y.back;
-      joined = x.joined ∙ (ap (λ b. x.front ++ b) (sym after ∙ y.joined) ∙ sym (append_assoc x.front y.front y.back));
-      front_len = simp (bytes-append, length-append, x.front_len, y.front_len);
-      counted = counted_by x y.front y.back (m - n) m (omega (arith, l)) half y.counted;
+      cut = record {
+        front = x.front ++ y.cut.front;
+        back = y.cut.back;
+        joined = x.joined ∙ (ap (λ b. x.front ++ b) (sym after ∙ y.cut.joined) ∙ sym (append_assoc x.front y.cut.front y.cut.back));
+        front_len = simp (bytes-append, length-append, x.front_len, y.cut.front_len);
+        counted = simp (units-append, length-append, x.counted, y.cut.counted);
+      };
+      not_beyond = omega (arith, y.not_beyond, l);
+      holds = λ p back g. omega (arith, y.holds p back g, l);
     }
-
--- a cut inside a pair is at the mark of one unit less
-pub mark_before_cut : {w : List ℕ} (h : IsWellFormed w) {k n p : ℕ} (m : ℕ) → m + 1 ≡ n → CutsUnits h.points n k (Some p)
-    → IsMark w (units h.points) k m
-mark_before_cut h {k} m e x =
-    mark_at_cut h
-    (record { front = x.front; back = x.back; joined = x.joined; front_len = x.front_len; counted = omega (arith, x.counted.inside, e) })
 
 -- a mark is at a code point boundary
 pub boundary_of_mark : {w : List ℕ} (h : IsWellFormed w) {k n : ℕ} → IsMark w (units h.points) k n → IsBoundary (units h.points) k
@@ -114,7 +102,7 @@ mark_after h {k} v m x =
 -- a cut at a mark divides no pair
 pub mark_divides_none : MarksDivideNoPair
 mark_divides_none w u k n f m =
-    subst (λ v. ¬ (DividesPair v n)) f.reads.same_units (divides_none f.reads.clean (undivided_from_cut refl (cut_of (well_formed_of f) m)))
+    subst (λ v. ¬ (DividesPair v n)) f.reads.same_units (divides_none f.reads.clean (undivided_from_cut (cut_of (well_formed_of f) m)))
 
 -- a mark within a front is a mark of the front: no pair is divided there
 mark_in_front : (w x u v : List ℕ) (k n : ℕ) → IsForm w u → IsForm x (u ++ v) → n ≤ length u → IsMark x (u ++ v) k n → IsMark w u k n

@@ -1,7 +1,7 @@
-use Rattle.wtf8.proofs.Common.{◌∙◌, sym, ap, length, arith}
+use Rattle.wtf8.proofs.Common.{ap, length, arith}
 use Rattle.wtf8.proofs.lemmas.codec.Readings.{lists_have_lengths}
-use Rattle.wtf8.proofs.lemmas.strings.Positions.{boundary_of, points_after}
-use Rattle.wtf8.proofs.lemmas.strings.UnitCuts.{points_about_unit, cut_at_cursor, cut_inside, too_few}
+use Rattle.wtf8.proofs.lemmas.strings.Positions.{boundary_of}
+use Rattle.wtf8.proofs.lemmas.strings.UnitCuts.{all_before, in_pair_at_cursor, points_about_unit}
 use Rattle.wtf8.proofs.strings.unit_positions.find_cut.Goals as goal
 
 pub returns-then-view-n-clause-none : goal.returns-then-view-n-clause-none
@@ -9,30 +9,18 @@ returns-then-view-n-clause-none c =
     let own = c.args.view.well_formed in
     omega (arith, (lists_have_lengths own.points).units_least, ap length own.encoded, c.if-view-n.true)
 
-pub returns-then-cursor-n-clause-some : goal.returns-then-cursor-n-clause-some
-returns-then-cursor-n-clause-some c =
-    let cursor = c.find_unit-cursor.result in
-    cut_at_cursor (points_about_unit c.args.view.well_formed c.args.n cursor c.find_unit-cursor.ensures) c.if-cursor-n.true
+pub returns-then-cut-view-clause-none : goal.returns-then-cut-view-clause-none
+returns-then-cut-view-clause-none c =
+    let all = all_before c.args.view.well_formed c.args.n c.find_unit-cut.result c.find_unit-cut.ensures c.if-cut-view.true in
+    omega (arith, all, c.if-cut-n.true)
 
-pub slice_from-requires : goal.slice_from-requires
-slice_from-requires c =
-    let cursor = c.find_unit-cursor.result in
-    let x = (points_about_unit c.args.view.well_formed c.args.n cursor c.find_unit-cursor.ensures).cut in
-    boundary_of c.args.view.well_formed x.front x.back cursor.position x.joined x.front_len
+pub returns-clause-boundary : goal.returns-clause-boundary
+returns-clause-boundary c =
+    let x = (points_about_unit c.args.view.well_formed c.args.n c.find_unit-cut.result c.find_unit-cut.ensures).cut in
+    boundary_of c.args.view.well_formed x.front x.back _ x.joined x.front_len
 
-pub returns-in_default-clause-none : goal.returns-in_default-clause-none
-returns-in_default-clause-none c =
-    let cursor = c.find_unit-cursor.result in
-    let x = points_about_unit c.args.view.well_formed c.args.n cursor c.find_unit-cursor.ensures in
-    let back = points_after c.args.view.well_formed c.slice_from.result.well_formed x.cut.front x.cut.back cursor.position x.cut.joined
-    x.cut.front_len c.slice_from.ensures.bytes in
-    too_few x c.if-cursor-n.false (sym back ∙ c.in_default.ensures.none)
-
-pub returns-clause-some : goal.returns-clause-some
-returns-clause-some c =
-    let cursor = c.find_unit-cursor.result in
-    let x = points_about_unit c.args.view.well_formed c.args.n cursor c.find_unit-cursor.ensures in
-    let back = points_after c.args.view.well_formed c.slice_from.result.well_formed x.cut.front x.cut.back cursor.position x.cut.joined
-    x.cut.front_len c.slice_from.ensures.bytes in
-    rw c.to_u32.ensures.value
-    (cut_inside x _ c.in-Some.field-0-1.well_formed.points c.if-cursor-n.false (sym back ∙ c.in-Some.ensures.some))
+pub returns-clause-divided : goal.returns-clause-divided
+returns-clause-divided c less =
+    let h = c.args.view.well_formed in
+    let x = points_about_unit h c.args.n c.find_unit-cut.result c.find_unit-cut.ensures in
+    omega (arith, (in_pair_at_cursor x (grind (arith, less, ap length h.encoded)) (omega (arith, less))).divided.long, ap length h.encoded)

@@ -1,10 +1,10 @@
-use Rattle.wtf8.proofs.Common.{◌≡◌, ◌∙◌, ◌+◌, ◌++◌, ℕ, refl, Some, ap, sym, arith, length, length-drop, drop, slice_get, units, view_units}
-use Rattle.wtf8.proofs.Common.{IsWellFormed, slice_index, trail_from_bytes, after_held_trail}
+use Rattle.wtf8.proofs.Common.{◌≡◌, ◌∙◌, ◌+◌, ◌++◌, Some, ap, sym, arith, length, length-drop, drop, slice_get, units, view_units}
+use Rattle.wtf8.proofs.Common.{IsWellFormed, after_held_trail}
 use Rattle.std.proofs.lemmas.Option.{slice_get_past}
 use Rattle.wtf8.proofs.lemmas.codec.Readings.{lists_have_lengths, IsWellFormed-equal_bytes, same_points}
 use Rattle.wtf8.proofs.lemmas.strings.Positions.{cut_by}
-use Rattle.wtf8.proofs.lemmas.strings.UnitCuts.{Undivided, Divided, undivided_from_cut, points_about_unit, cut_at_cursor, divided_at_cursor}
-use Rattle.wtf8.proofs.lemmas.strings.UnitCuts.{trail_in_pair, none_from_cursor, first_no_continuation, held_trail-none}
+use Rattle.wtf8.proofs.lemmas.strings.UnitCuts.{InPair, Undivided, in_pair_at_cursor, points_about_unit, undivided_at}
+use Rattle.wtf8.proofs.lemmas.strings.UnitCuts.{all_before, trail_in_pair, first_no_continuation, held_trail-none}
 use Rattle.wtf8.proofs.strings.unit_positions.unit_by_count.Goals.{After-find_unit-cursor}
 use Rattle.wtf8.proofs.strings.unit_positions.unit_by_count.Goals as goal
 
@@ -16,29 +16,32 @@ returns-then-view-index c =
 
 pub returns-then-cursor-view : goal.returns-then-cursor-view
 returns-then-cursor-view c =
-    sym (none_from_cursor c.args.view.well_formed c.args.index c.find_unit-cursor.result c.find_unit-cursor.ensures c.if-cursor-view.true)
+    let h = c.args.view.well_formed in
+    let cursor = c.find_unit-cursor.ensures in
+    let all = all_before h c.args.index c.find_unit-cursor.result cursor c.if-cursor-view.true in
+    sym (slice_get_past (view_units c.args.view) c.args.index (omega (arith, all, cursor.before.not_beyond)))
 
 -- the cursor divides a pair
 divided : (c : After-find_unit-cursor) → ¬ (c.find_unit-cursor.result.position ≡ length c.args.view.bytes.now)
     → ¬ (c.find_unit-cursor.result.units ≡ c.args.index)
-    → (p : ℕ) × Divided c.args.view.well_formed.points c.args.index c.find_unit-cursor.result.position p
-divided c e m = divided_at_cursor c.args.view.well_formed c.args.index c.find_unit-cursor.result c.find_unit-cursor.ensures
-    (omega (arith, c.find_unit-cursor.ensures.before.within, e)) m
+    → InPair c.args.view.well_formed.points c.args.index c.find_unit-cursor.result
+divided c e =
+    in_pair_at_cursor (points_about_unit c.args.view.well_formed c.args.index c.find_unit-cursor.result c.find_unit-cursor.ensures)
+    (omega (arith, c.find_unit-cursor.ensures.before.within, e, ap length c.args.view.well_formed.encoded))
 
 -- the cursor is between code points
 undivided : (c : After-find_unit-cursor) → c.find_unit-cursor.result.units ≡ c.args.index
     → Undivided c.args.view.well_formed.points c.args.index c.find_unit-cursor.result.position
-undivided c e = undivided_from_cut refl
-    (cut_at_cursor (points_about_unit c.args.view.well_formed c.args.index c.find_unit-cursor.result c.find_unit-cursor.ensures) e)
+undivided c = undivided_at c.args.view.well_formed c.args.index c.find_unit-cursor.result c.find_unit-cursor.ensures
 
 pub split_at-requires : goal.split_at-requires
 split_at-requires c =
-    let d = (divided (goal.at.split_at-requires c).After-find_unit-cursor c.if-cursor-view.false c.if-cursor-index.true).1 in
+    let d = (divided (goal.at.split_at-requires c).After-find_unit-cursor c.if-cursor-view.false c.if-cursor-index.true).divided in
     omega (arith, d.long, ap length c.args.view.well_formed.encoded)
 
 pub read_trail-requires : goal.read_trail-requires
 read_trail-requires c =
-    let d = (divided (goal.at.read_trail-requires c).After-find_unit-cursor c.if-cursor-view.false c.if-cursor-index.true).1 in
+    let d = (divided (goal.at.read_trail-requires c).After-find_unit-cursor c.if-cursor-view.false c.if-cursor-index.true).divided in
     omega (
       arith,
       d.long,
@@ -49,9 +52,8 @@ read_trail-requires c =
 
 pub returns-then-cursor-index : goal.returns-then-cursor-index
 returns-then-cursor-index c =
-    let d = (divided (goal.at.returns-then-cursor-index c).After-find_unit-cursor c.if-cursor-view.false c.if-cursor-index.true).1 in
-    let read = c.read_trail.ensures ∙ ap (λ v. trail_from_bytes (slice_index v 0) (slice_index v 1)) c.split_at.ensures.back in
-    ap Some read ∙ sym (trail_in_pair c.args.view.well_formed d)
+    let d = (divided (goal.at.returns-then-cursor-index c).After-find_unit-cursor c.if-cursor-view.false c.if-cursor-index.true).divided in
+    ap Some (c.read_trail.ensures ∙ trail_in_pair c.args.view.well_formed d c.split_at.ensures.back) ∙ sym d.here
 
 pub read_unit-requires-clause-after : goal.read_unit-requires-clause-after
 read_unit-requires-clause-after c =

@@ -1,5 +1,5 @@
-use Rattle.wtf8.proofs.Common.{◌≡◌, ℕ, ◌+◌, ◌<◌, ◌≤◌, List, [], ◌∷◌, encoding, IsWellFormed, ap, arith, length, length-drop, number, subst}
-use Rattle.wtf8.proofs.Common.{units, units_of, BeginsWithPoint, BeginsWithUnits, FirstPointIs}
+use Rattle.wtf8.proofs.Common.{◌≡◌, ℕ, ◌+◌, ◌<◌, ◌≤◌, List, [], ◌∷◌, encoding, IsWellFormed, ap, arith, length, number, subst, sym}
+use Rattle.wtf8.proofs.Common.{take, length-drop, ◌∙◌, units, BeginsWithPoint, BeginsWithUnits, FirstPointIs}
 use Rattle.wtf8.proofs.lemmas.codec.Readings.{first_of, units_one, units_two}
 use Rattle.wtf8.proofs.lemmas.to_utf16.Blocks.{ReadUnits, read_units}
 use Rattle.wtf8.proofs.to_utf16.append.decode_point.Goals as goal
@@ -52,10 +52,9 @@ write_units-requires-in_default c =
     let p = number c.read-width.result.0 in
     let r = first_point_read view.well_formed p c.read-width.result.1 c.requires.nonempty c.read-width.ensures in
     let two = units_two p (omega (arith, c.to_u32-value.ensures.value, c.if-value-lt65536.false)) in
-    let same : units_of p ≡ c.lead_of.result ∷ c.trail_of.result ∷ [] =
-    rw (c.lead_of.ensures, c.trail_of.ensures, c.to_u32-value.ensures.value) two in
-    let begins = subst (λ v. BeginsWithUnits view.bytes.now v c.read-width.result.1) same r.begins in
-    (omega arith, (omega arith, (omega (arith, c.requires.room, ap length (begins view.well_formed).1), ((omega arith, r.within), begins))))
+    let begins = subst (λ v. BeginsWithUnits view.bytes.now v c.read-width.result.1) two r.begins in
+    let all = subst (λ v. BeginsWithUnits view.bytes.now v c.read-width.result.1) (sym (ap (take 2) (c.pair_of.ensures ∙ two))) begins in
+    (omega arith, (omega arith, (omega (arith, c.requires.room, ap length (begins view.well_formed).1), ((omega arith, r.within), all))))
 
 pub returns-then-value-lt65536-clause-shorter : goal.returns-then-value-lt65536-clause-shorter
 returns-then-value-lt65536-clause-shorter c =

@@ -1,35 +1,45 @@
-use Rattle.wtf8.proofs.Common.{false≢true, refl, ◌∷◌, ◌∙◌, ap, sym, arith, append-nil, units}
+use Rattle.wtf8.proofs.Common.{false≢true, refl, ◌∷◌, ◌∙◌, ap, sym, append-nil, units}
 use Rattle.wtf8.proofs.lemmas.strings.Positions.{points_before}
-use Rattle.wtf8.proofs.lemmas.strings.UnitCuts.{undivided_from_cut, divided_from_cut, IsCodePoint-divided, divides_none, divides_some}
+use Rattle.wtf8.proofs.lemmas.strings.UnitCuts.{divides_none, divides_some, in_pair_at, pair_at_cut, undivided_at}
 use Rattle.wtf8.proofs.strings.view.Wtf8.first_units.Goals as goal
 
-pub overflow_cast-result : goal.overflow_cast-result
-overflow_cast-result c =
+pub returns-then-cut-n-clause-units : goal.returns-then-cut-n-clause-units
+returns-then-cut-n-clause-units c =
     let h = c.args.self.well_formed in
-    let x = divided_from_cut c.in-Some-divided.is c.in-Some.ensures.some in
-    record { fits = omega (arith, IsCodePoint-divided h.clean x, x.large, c.lead_of.ensures) }
-
-pub returns-in-None-clause-units : goal.returns-in-None-clause-units
-returns-in-None-clause-units c =
-    let h = c.args.self.well_formed in
-    let x = undivided_from_cut c.in-None.is c.in-Some.ensures.some in
+    let x = undivided_at h c.args.n c.in-Some.cut c.in-Some.ensures.some c.if-cut-n.true in
     let front = points_before h c.slice_to-front.result.well_formed x.front x.back _ x.joined x.front_len c.slice_to-front.ensures.bytes in
     append-nil (units c.slice_to-front.result.well_formed.points) ∙ (ap units front ∙ sym x.kept)
 
-pub returns-in-Some-divided-clause-units : goal.returns-in-Some-divided-clause-units
-returns-in-Some-divided-clause-units c =
+pub returns-then-cut-n-clause-lead : goal.returns-then-cut-n-clause-lead
+returns-then-cut-n-clause-lead c =
     let h = c.args.self.well_formed in
-    let x = divided_from_cut c.in-Some-divided.is c.in-Some.ensures.some in
+    let x = undivided_at h c.args.n c.in-Some.cut c.in-Some.ensures.some c.if-cut-n.true in
+    (λ s. absurd (false≢true s), λ m. absurd (divides_none h.clean x m))
+
+pub read_lead-requires-clause-front : goal.read_lead-requires-clause-front
+read_lead-requires-clause-front c =
+    let h = c.args.self.well_formed in
+    let x = in_pair_at h c.args.n c.in-Some.cut c.in-Some.ensures.some c.in-Some.ensures.divided c.if-cut-n.false in
+    (pair_at_cut h x.divided c.split_at.ensures.back).0
+
+pub read_lead-requires-clause-least : goal.read_lead-requires-clause-least
+read_lead-requires-clause-least c =
+    let h = c.args.self.well_formed in
+    let x = in_pair_at h c.args.n c.in-Some.cut c.in-Some.ensures.some c.in-Some.ensures.divided c.if-cut-n.false in
+    (pair_at_cut h x.divided c.split_at.ensures.back).2
+
+pub returns-clause-units : goal.returns-clause-units
+returns-clause-units c =
+    let h = c.args.self.well_formed in
+    let x = in_pair_at h c.args.n c.in-Some.cut c.in-Some.ensures.some c.in-Some.ensures.divided c.if-cut-n.false in
+    let d = x.divided in
+    let pair = pair_at_cut h d c.split_at.ensures.back in
     let front =
-    points_before h c.slice_to-front.result.well_formed x.front (_ ∷ x.rest) _ x.joined x.front_len c.slice_to-front.ensures.bytes in
-    rw (front, c.lead_of.ensures) (sym x.kept)
+    points_before h c.slice_to-front.result.well_formed d.front (_ ∷ d.rest) _ d.joined d.front_len c.slice_to-front.ensures.bytes in
+    rw (front, c.read_lead.ensures pair.0, pair.1) (sym d.kept)
 
-pub returns-in-None-clause-lead : goal.returns-in-None-clause-lead
-returns-in-None-clause-lead c =
-    let x = undivided_from_cut c.in-None.is c.in-Some.ensures.some in
-    (λ s. absurd (false≢true s), λ m. absurd (divides_none c.args.self.well_formed.clean x m))
-
-pub returns-in-Some-divided-clause-lead : goal.returns-in-Some-divided-clause-lead
-returns-in-Some-divided-clause-lead c =
-    let x = divided_from_cut c.in-Some-divided.is c.in-Some.ensures.some in
-    (λ s. divides_some c.args.self.well_formed.clean x, λ m. refl)
+pub returns-clause-lead : goal.returns-clause-lead
+returns-clause-lead c =
+    let h = c.args.self.well_formed in
+    let x = in_pair_at h c.args.n c.in-Some.cut c.in-Some.ensures.some c.in-Some.ensures.divided c.if-cut-n.false in
+    (λ s. divides_some h.clean x.divided, λ m. refl)

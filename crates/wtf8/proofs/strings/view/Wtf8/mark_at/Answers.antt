@@ -1,39 +1,36 @@
-use Rattle.wtf8.proofs.Common.{◌+◌, ◌-◌, refl, inl, inr, subst, arith, CutsUnits}
-use Rattle.wtf8.proofs.lemmas.strings.UnitCuts.{divided_from_cut, divides_some}
-use Rattle.wtf8.proofs.lemmas.strings.UnitMarks.{cut_from_mark, mark_at_cut, mark_before_cut}
+use Rattle.wtf8.proofs.Common.{◌+◌, ◌-◌, ◌∙◌, inl, inr, ap, arith, length, length-drop, cases_lt}
+use Rattle.wtf8.proofs.lemmas.strings.Positions.{PointsAbout}
+use Rattle.wtf8.proofs.lemmas.strings.UnitCuts.{divides_some, in_pair_at_cursor, points_about_unit}
+use Rattle.wtf8.proofs.lemmas.strings.UnitMarks.{mark_at_cut, points_from_mark}
 use Rattle.wtf8.proofs.strings.view.Wtf8.mark_at.Goals.{In-Some}
 use Rattle.wtf8.proofs.strings.view.Wtf8.mark_at.Goals as goal
 
--- a cut of the part after the mark, as a cut of the whole string
-cut_here : (c : In-Some)
-    → CutsUnits c.args.self.now.well_formed.points c.args.units (c.args.from.position + c.in-Some.cut.position) c.in-Some.cut.divided
-cut_here c =
+-- the cursor of the part after the mark, as one of the whole string
+about : (c : In-Some) → PointsAbout c.args.self.now.well_formed.points c.args.units
+    (record { position = c.args.from.position + c.in-Some.cut.position; units = c.args.from.units + c.in-Some.cut.units })
+about c =
     let rest = c.slice_from_mark.result.well_formed in
-    cut_from_mark c.args.self.now.well_formed rest c.args.units c.in-Some.cut.divided c.requires.mark c.slice_from_mark.ensures.bytes
-    c.requires.order c.in-Some.ensures.some
+    points_from_mark c.args.self.now.well_formed rest c.requires.mark c.slice_from_mark.ensures.bytes c.requires.order
+    (points_about_unit rest (c.args.units - c.args.from.units) c.in-Some.cut c.in-Some.ensures.some)
 
-pub returns-in-None-clause-mark : goal.returns-in-None-clause-mark
-returns-in-None-clause-mark c =
-    let whole = cut_here (goal.at.returns-in-None-clause-mark c).In-Some in
-    mark_at_cut c.args.self.now.well_formed
-    (subst (CutsUnits _ c.args.units (c.args.from.position + c.in-Some.cut.position)) c.in-None.is whole)
+pub returns-clause-mark : goal.returns-clause-mark
+returns-clause-mark c = mark_at_cut c.args.self.now.well_formed (about (goal.at.returns-clause-mark c).In-Some).cut
 
-pub returns-in-Some-divided-clause-mark : goal.returns-in-Some-divided-clause-mark
-returns-in-Some-divided-clause-mark c =
+pub returns-clause-last : goal.returns-clause-last
+returns-clause-last c =
     let h = c.args.self.now.well_formed in
-    let whole = subst (CutsUnits h.points c.args.units (c.args.from.position + c.in-Some.cut.position)) c.in-Some-divided.is
-    (cut_here (goal.at.returns-in-Some-divided-clause-mark c).In-Some) in
-    mark_before_cut h (c.args.units - 1) (omega (arith, whole.counted.inside)) whole
+    elim (cases_lt (c.args.from.units + c.in-Some.cut.units) c.args.units) [
+      | inl less ↦
+          let inside = c.in-Some.ensures.divided (omega (arith, less)) in
+          let part = ap length c.slice_from_mark.ensures.bytes ∙ length-drop c.args.from.position c.args.self.now.bytes.now in
+          let x = in_pair_at_cursor (about (goal.at.returns-clause-last c).In-Some)
+          (omega (arith, inside, part, ap length h.encoded)) (omega (arith, less)) in
+          inr (x.one_less, divides_some h.clean x.divided)
+      | inr all ↦ inl (omega (arith, all, c.in-Some.ensures.some.before.not_beyond, c.requires.order))
+    ]
 
-pub returns-in-Some-divided-clause-last : goal.returns-in-Some-divided-clause-last
-returns-in-Some-divided-clause-last c =
-    let h = c.args.self.now.well_formed in
-    let whole = subst (CutsUnits h.points c.args.units (c.args.from.position + c.in-Some.cut.position)) c.in-Some-divided.is
-    (cut_here (goal.at.returns-in-Some-divided-clause-last c).In-Some) in
-    inr (omega (arith, whole.counted.inside), divides_some h.clean (divided_from_cut refl whole))
-
-pub returns-in-Some-divided-clause-exact : goal.returns-in-Some-divided-clause-exact
-returns-in-Some-divided-clause-exact c = λ whole. elim (returns-in-Some-divided-clause-last c) [
+pub returns-clause-exact : goal.returns-clause-exact
+returns-clause-exact c = λ whole. elim (returns-clause-last c) [
   | inl same ↦ same
   | inr less ↦ absurd (whole less.1)
 ]

@@ -1,9 +1,11 @@
 use Rattle.wtf8.proofs.Common.{nat_tests, ◌≤◌, ◌≡◌, ◌∙◌, ◌+◌, ◌-◌, [], ◌++◌, ap, sym, subst, length, take, arith, length-append}
 use Rattle.wtf8.proofs.Common.{length-drop, length-take, drop, drop_all, units, view_units, drop-take, option_to_list, DividesPair}
-use Rattle.wtf8.proofs.Common.{take-append-add}
+use Rattle.wtf8.proofs.Common.{take-append-add, ℕ, Option, None, Some, refl}
 use Rattle.wtf8.proofs.lemmas.codec.Readings.{points-nil}
 use Rattle.wtf8.proofs.lemmas.strings.UnitCuts.{divides_after}
-use Rattle.wtf8.proofs.strings.view.Wtf8.slice_units.Goals.{After-half_len}
+use Rattle.std.specs.Option.{is_some}
+use mir.Val.{bool_byte}
+use Rattle.wtf8.proofs.strings.view.Wtf8.slice_units.Goals.{After-from}
 use Rattle.wtf8.proofs.strings.view.Wtf8.slice_units.Goals as goal
 
 pub returns-then-begin-end-clause-units : goal.returns-then-begin-end-clause-units
@@ -12,16 +14,25 @@ returns-then-begin-end-clause-units c =
     ap (λ d. units d ++ []) (points-nil c.from_str.result.well_formed (ap length c.from_str.ensures.bytes))
     ∙ sym (drop_all c.args.begin (take c.args.end u) (omega (arith, length-take c.args.end u, c.if-begin-end.true)))
 
+-- a half is one unit, and none is nothing
+len_of_half : (half : Option ℕ) → (bool_byte (is_some half) ≡ length (option_to_list half)) × (length (option_to_list half) ≤ 1)
+len_of_half None = (refl, omega arith)
+len_of_half (Some t) = (refl, omega arith)
+
+half_len : (c : After-from) → c.from.result ≡ length (option_to_list c.units_after-trail.result.0)
+half_len c = c.from.ensures ∙ (ap bool_byte c.is_some.ensures ∙ (len_of_half c.units_after-trail.result.0).0)
+
 -- the trail that is cut off at `begin`, if any, is before `end`
-trail_before_end : (c : After-half_len) → c.half_len.result ≤ c.args.end - c.args.begin
-trail_before_end c = grind (arith, nat_tests, c.half_len.ensures.most, c.requires.order, c.if-begin-end.false)
+trail_before_end : (c : After-from) → c.from.result ≤ c.args.end - c.args.begin
+trail_before_end c =
+    grind (arith, nat_tests, half_len c, (len_of_half c.units_after-trail.result.0).1, c.requires.order, c.if-begin-end.false)
 
 -- the units from `begin` on: the cut-off trail, if any, and the rest
-units_from_begin : (c : After-half_len)
-    → c.half_len.result + length (view_units c.units_after-trail.result.1) ≡ length (view_units c.args.self.now) - c.args.begin
+units_from_begin : (c : After-from)
+    → c.from.result + length (view_units c.units_after-trail.result.1) ≡ length (view_units c.args.self.now) - c.args.begin
 units_from_begin c = omega (
   arith,
-  c.half_len.ensures.count,
+  half_len c,
   ap length c.units_after-trail.ensures.units,
   length-append (option_to_list c.units_after-trail.result.0) (view_units c.units_after-trail.result.1),
   length-drop c.args.begin (view_units c.args.self.now),
@@ -32,12 +43,13 @@ first_units-lead-requires c = omega (arith, units_from_begin c, c.requires.withi
 
 pub returns-clause-units : goal.returns-clause-units
 returns-clause-units c =
+    let before = (goal.at.returns-clause-units c).After-from in
     let u = view_units c.args.self.now in
     let half = option_to_list c.units_after-trail.result.0 in
     let rest = view_units c.units_after-trail.result.1 in
-    let n = c.args.end - c.args.begin - c.half_len.result in
+    let n = c.args.end - c.args.begin - c.from.result in
     let count : length half + n ≡ c.args.end - c.args.begin =
-    omega (arith, trail_before_end (goal.at.returns-clause-units c).After-half_len, c.half_len.ensures.count) in
+    omega (arith, trail_before_end before, half_len before) in
     let whole : c.args.begin + (c.args.end - c.args.begin) ≡ c.args.end = omega (arith, c.requires.order) in
     ap (λ v. half ++ v) c.first_units-lead.ensures.units
     ∙ (sym (take-append-add half rest n) ∙ (ap (take (length half + n)) c.units_after-trail.ensures.units
@@ -45,15 +57,16 @@ returns-clause-units c =
     ∙ (sym (drop-take c.args.begin (c.args.end - c.args.begin) u) ∙ ap (λ k. drop c.args.begin (take k u)) whole))))
 
 pub returns-clause-lead : goal.returns-clause-lead
-returns-clause-lead c before =
+returns-clause-lead c less =
+    let before = (goal.at.returns-clause-lead c).After-from in
     let u = view_units c.args.self.now in
     let half = c.units_after-trail.result.0 in
     let rest = view_units c.units_after-trail.result.1 in
-    let n = c.args.end - c.args.begin - c.half_len.result in
-    let same = divides_after u rest half c.args.begin n (omega (arith, c.requires.within, before)) c.units_after-trail.ensures.units
-    c.units_after-trail.ensures.trail (omega (arith, before, c.half_len.ensures.count))
-    (omega (arith, units_from_begin (goal.at.returns-clause-lead c).After-half_len, c.requires.within)) in
+    let n = c.args.end - c.args.begin - c.from.result in
+    let same = divides_after u rest half c.args.begin n (omega (arith, c.requires.within, less)) c.units_after-trail.ensures.units
+    c.units_after-trail.ensures.trail (omega (arith, less, half_len before))
+    (omega (arith, units_from_begin before, c.requires.within)) in
     let end : c.args.begin + (length (option_to_list half) + n) ≡ c.args.end =
-    omega (arith, before, c.half_len.ensures.count, c.half_len.ensures.most) in
+    omega (arith, less, half_len before, (len_of_half half).1) in
     let own = c.first_units-lead.ensures.lead in
     (λ s. subst (DividesPair u) end (same.0 (own.0 s)), λ m. own.1 (same.1 (subst (DividesPair u) (sym end) m)))

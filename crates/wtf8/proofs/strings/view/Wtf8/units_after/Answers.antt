@@ -1,34 +1,37 @@
 use Rattle.wtf8.proofs.Common.{false≢true, refl, ◌∙◌, [], ◌∷◌, ◌++◌, ap, sym, units}
 use Rattle.wtf8.proofs.lemmas.strings.Positions.{boundary_of, points_after}
-use Rattle.wtf8.proofs.lemmas.strings.UnitCuts.{undivided_from_cut, divided_from_cut, divides_none, divides_some}
+use Rattle.wtf8.proofs.lemmas.strings.UnitCuts.{divides_none, divides_some, in_pair_at, trail_in_pair, undivided_at}
 use Rattle.wtf8.proofs.strings.view.Wtf8.units_after.Goals as goal
 
-pub slice_from-requires-in-Some-divided : goal.slice_from-requires-in-Some-divided
-slice_from-requires-in-Some-divided c =
+pub returns-then-cut-n-clause-units : goal.returns-then-cut-n-clause-units
+returns-then-cut-n-clause-units c =
     let h = c.args.self.well_formed in
-    let x = divided_from_cut c.in-Some-divided.is c.in-Some.ensures.some in
-    boundary_of h (x.front ++ c.in-Some-divided.value ∷ []) x.rest _ x.pushed x.pushed_len
-
-pub returns-in-None-clause-units : goal.returns-in-None-clause-units
-returns-in-None-clause-units c =
-    let h = c.args.self.well_formed in
-    let x = undivided_from_cut c.in-None.is c.in-Some.ensures.some in
+    let x = undivided_at h c.args.n c.in-Some.cut c.in-Some.ensures.some c.if-cut-n.true in
     ap units (points_after h c.slice_from.result.well_formed x.front x.back _ x.joined x.front_len c.slice_from.ensures.bytes) ∙ sym x.after
 
-pub returns-in-Some-divided-clause-units : goal.returns-in-Some-divided-clause-units
-returns-in-Some-divided-clause-units c =
+pub returns-then-cut-n-clause-trail : goal.returns-then-cut-n-clause-trail
+returns-then-cut-n-clause-trail c =
     let h = c.args.self.well_formed in
-    let x = divided_from_cut c.in-Some-divided.is c.in-Some.ensures.some in
-    let rest = points_after h c.slice_from-in-Some-divided.result.well_formed
-    (x.front ++ c.in-Some-divided.value ∷ []) x.rest _ x.pushed x.pushed_len c.slice_from-in-Some-divided.ensures.bytes in
-    rw (c.trail_of.ensures, rest) (sym x.after)
+    let x = undivided_at h c.args.n c.in-Some.cut c.in-Some.ensures.some c.if-cut-n.true in
+    (λ s. absurd (false≢true s), λ m. absurd (divides_none h.clean x m))
 
-pub returns-in-None-clause-trail : goal.returns-in-None-clause-trail
-returns-in-None-clause-trail c =
-    let x = undivided_from_cut c.in-None.is c.in-Some.ensures.some in
-    (λ s. absurd (false≢true s), λ m. absurd (divides_none c.args.self.well_formed.clean x m))
+pub slice_from-requires-2 : goal.slice_from-requires-2
+slice_from-requires-2 c =
+    let h = c.args.self.well_formed in
+    let x = in_pair_at h c.args.n c.in-Some.cut c.in-Some.ensures.some c.in-Some.ensures.divided c.if-cut-n.false in
+    let d = x.divided in boundary_of h (d.front ++ x.point ∷ []) d.rest _ d.pushed d.pushed_len
 
-pub returns-in-Some-divided-clause-trail : goal.returns-in-Some-divided-clause-trail
-returns-in-Some-divided-clause-trail c =
-    let x = divided_from_cut c.in-Some-divided.is c.in-Some.ensures.some in
-    (λ s. divides_some c.args.self.well_formed.clean x, λ m. refl)
+pub returns-clause-units : goal.returns-clause-units
+returns-clause-units c =
+    let h = c.args.self.well_formed in
+    let x = in_pair_at h c.args.n c.in-Some.cut c.in-Some.ensures.some c.in-Some.ensures.divided c.if-cut-n.false in
+    let d = x.divided in
+    let rest = points_after h c.slice_from-2.result.well_formed (d.front ++ x.point ∷ []) d.rest _ d.pushed d.pushed_len
+    c.slice_from-2.ensures.bytes in
+    rw (c.read_trail-trail.ensures, trail_in_pair h d c.split_at.ensures.back, rest) (sym d.after)
+
+pub returns-clause-trail : goal.returns-clause-trail
+returns-clause-trail c =
+    let h = c.args.self.well_formed in
+    let x = in_pair_at h c.args.n c.in-Some.cut c.in-Some.ensures.some c.in-Some.ensures.divided c.if-cut-n.false in
+    (λ s. divides_some h.clean x.divided, λ m. refl)
