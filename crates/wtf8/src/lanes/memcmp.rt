@@ -29,17 +29,6 @@ fn eq_block<const N: usize>(own: &[u8], others: &[u8], at: usize) -> bool
     unlike.to_bitmask() == 0
 }
 
-#[inline(always)]
-fn mismatch_in_unequal_block<const N: usize>(own: &[u8], others: &[u8], at: usize) -> usize
-    requires lanes { (0 < N) × (N ≤ u64.BITS) }
-    requires room { (at + N ≤ length own.now) × (at + N ≤ length others.now) }
-    requires unlike { ¬ (NoneIn (DifferAt own.now others.now) at (at + N)) }
-    ensures { IsFirstIn (DifferAt own.now others.now) at (at + N) (Some result) }
-{
-    let unlike = Simd::<u8, N>::from_slice(&own[at..]).simd_ne(Simd::from_slice(&others[at..]));
-    at + lowest_set_lane(unlike.to_bitmask())
-}
-
 /// The index of the first mismatch in `at..at + N`, or `None`. First tests for equality, which is cheaper.
 #[inline(always)]
 fn mismatch_in_block<const N: usize>(own: &[u8], others: &[u8], at: usize) -> Option<usize>
@@ -50,7 +39,8 @@ fn mismatch_in_block<const N: usize>(own: &[u8], others: &[u8], at: usize) -> Op
     if eq_block::<N>(own, others, at) {
         return None;
     }
-    Some(mismatch_in_unequal_block::<N>(own, others, at))
+    let unlike = Simd::<u8, N>::from_slice(&own[at..]).simd_ne(Simd::from_slice(&others[at..]));
+    Some(at + lowest_set_lane(unlike.to_bitmask()))
 }
 
 /// Whether slices of equal length, `N` to `2 * N` bytes, are equal, by two blocks of `N`, which may overlap.
@@ -64,7 +54,6 @@ fn eq_overlapping<const N: usize>(own: &[u8], others: &[u8]) -> bool
     eq_block::<N>(own, others, 0) & eq_block::<N>(own, others, own.len() - N)
 }
 
-/// Whether two slices are equal.
 #[inline]
 pub(crate) fn eq(own: &[u8], others: &[u8]) -> bool
     ensures { result ≡ pointwise nat_eq own.now others.now }
@@ -81,7 +70,6 @@ pub(crate) fn eq(own: &[u8], others: &[u8]) -> bool
     eq_over_block(own, others)
 }
 
-/// Whether two slices of equal length, at most `VECTOR` bytes, are equal.
 #[inline(always)]
 fn eq_up_to_vector(own: &[u8], others: &[u8]) -> bool
     requires few { length own.now ≤ VECTOR }
@@ -97,7 +85,6 @@ fn eq_up_to_vector(own: &[u8], others: &[u8]) -> bool
     mismatch_bytewise(own, others, own.len()).is_none()
 }
 
-/// Whether two slices of equal length, more than `VECTOR` and at most `BLOCK` bytes, are equal.
 #[inline(always)]
 fn eq_up_to_block(own: &[u8], others: &[u8]) -> bool
     requires few { (VECTOR < length own.now) × (length own.now ≤ BLOCK) }
@@ -180,7 +167,6 @@ pub(crate) fn mismatch(own: &[u8], others: &[u8]) -> usize
     mismatch_long(own, others, end).unwrap_or(end)
 }
 
-/// The index of the first mismatch in `0..end`, at most `TWO_VECTORS` bytes.
 #[inline(always)]
 fn mismatch_short(own: &[u8], others: &[u8], end: usize) -> Option<usize>
     requires short { end ≤ TWO_VECTORS }
@@ -274,7 +260,6 @@ fn mismatch_overlapping<const N: usize>(
     mismatch_in_block::<N>(own, others, end - N)
 }
 
-/// The index of the first mismatch in `0..end`, byte by byte.
 #[inline(always)]
 fn mismatch_bytewise(own: &[u8], others: &[u8], end: usize) -> Option<usize>
     requires { (end ≤ length own.now) × (end ≤ length others.now) }

@@ -1,10 +1,10 @@
 use Rattle.wtf8.proofs.Common.{arith, Some}
 use Rattle.wtf8.proofs.lemmas.lanes.Mismatch.{first_unequal_lane, unequal_mask-nonzero}
-use Rattle.wtf8.proofs.lanes.memcmp.mismatch_in_unequal_block.Goals as goal
+use Rattle.wtf8.proofs.lanes.memcmp.mismatch_in_block.Goals as goal
 
 pub lowest_set_lane-requires : goal.lowest_set_lane-requires
 lowest_set_lane-requires g c = unequal_mask-nonzero g.row.N c.args.own.now c.args.others.now c.args.at c.requires.lanes.1 c.requires.room.0
-    c.requires.room.1 c.requires.unlike
+    c.requires.room.1 c.if-eq_block.ensures
 
 pub overflow_add-result : goal.overflow_add-result
 overflow_add-result g c =
