@@ -1,8 +1,15 @@
 // Iterators over code points and over code units.
-ghost use Rattle.std.specs.Prelude.{◌≤◌, ◌<◌, length, drop};
-ghost use Rattle.wtf8.specs.Form.{IsWellFormed};
+ghost use Rattle.std.specs.Prelude.{◌≡◌, ◌↔◌, ⊤, ℕ, ◌*◌, ◌<◌, ◌≤◌, List, [], length, drop, IsSome, IfSome};
+ghost use Rattle.std.specs.Iterator.{YieldsFirstBy, item_count, at_most, UpTo, YieldsFirst};
+ghost use Rattle.std.specs.Iterator.SizeHint.{IsWithinCount};
+ghost use Rattle.wtf8.specs.CodePoint.{number};
+ghost use Rattle.wtf8.specs.Form.{IsWellFormed, bytes};
+ghost use Rattle.wtf8.specs.Hints.{points_hint, IsTrueHint, units_hint};
 ghost use Rattle.wtf8.specs.OneForm.{IsWellFormed-prop};
-ghost use Rattle.wtf8.specs.private.UnitIterator.{after_held_trail, StepsUnit};
+ghost use Rattle.wtf8.specs.Unicode.{units};
+ghost use Rattle.wtf8.specs.Units.{Unread, unread_units};
+ghost use Rattle.wtf8.specs.View.{view_points, view_units};
+ghost use Rattle.wtf8.specs.private.UnitIterator.{held_trail, after_held_trail, unread_after, StepsUnit};
 
 use crate::codec::code_point::CodePoint;
 use crate::codec::encoding;
@@ -26,18 +33,12 @@ pub struct Wtf8CodePoints<'a> {
 }
 
 impl<'a> Model for Wtf8CodePoints<'a> {
-    ghost use Rattle.std.specs.Prelude.{List, ℕ};
-
     ghost Value = { List ℕ };
 
     ghost view = { λ s. s.well_formed.points };
 }
 
 impl<'a> Wtf8CodePoints<'a> {
-    ghost use Rattle.std.specs.Prelude.{◌≡◌};
-    ghost use Rattle.wtf8.specs.Form.{bytes};
-    ghost use Rattle.wtf8.specs.View.{view_points};
-
     pub(crate) fn new(view: Wtf8<'a>) -> Wtf8CodePoints<'a>
         ensures { result ≡ view_points view.entry }
     {
@@ -60,12 +61,6 @@ impl<'a> Wtf8CodePoints<'a> {
 
 impl<'a> Iterator for Wtf8CodePoints<'a> {
     type Item = CodePoint;
-
-    ghost use Rattle.std.specs.Prelude.{◌≡◌, length, IfSome};
-    ghost use Rattle.std.specs.Iterator.{YieldsFirstBy, item_count, at_most, UpTo};
-    ghost use Rattle.std.specs.Iterator.SizeHint.{IsWithinCount};
-    ghost use Rattle.wtf8.specs.CodePoint.{number};
-    ghost use Rattle.wtf8.specs.Hints.{points_hint, IsTrueHint};
 
     ghost next_gives = { YieldsFirstBy number (λ points. points) };
 
@@ -94,8 +89,6 @@ impl<'a> Iterator for Wtf8CodePoints<'a> {
 }
 
 impl<'a> Clone for Wtf8CodePoints<'a> {
-    ghost use Rattle.std.specs.Prelude.{◌≡◌, ⊤};
-
     ghost is_clone = { λ s t. t ≡ s };
 
     ghost is_infallible = { λ _. ⊤ };
@@ -160,24 +153,12 @@ pub struct IllFormedUtf16CodeUnits<'a> {
 }
 
 impl<'a> Model for IllFormedUtf16CodeUnits<'a> {
-    ghost use Rattle.std.specs.Prelude.{drop};
-    ghost use Rattle.wtf8.specs.Units.{Unread};
-    ghost use Rattle.wtf8.specs.private.UnitIterator.{held_trail};
-
     ghost Value = { Unread };
 
     ghost view = { λ s. record { held = held_trail (drop s.position s.bytes.now); points = s.after.points } };
 }
 
 impl<'a> IllFormedUtf16CodeUnits<'a> {
-    ghost use Rattle.std.specs.Prelude.{◌≡◌, ◌*◌, ◌↔◌, [], length, IsSome, IfSome};
-    ghost use Rattle.std.specs.Iterator.{YieldsFirst};
-    ghost use Rattle.wtf8.specs.Form.{bytes};
-    ghost use Rattle.wtf8.specs.Unicode.{units};
-    ghost use Rattle.wtf8.specs.Units.{unread_units};
-    ghost use Rattle.wtf8.specs.private.UnitIterator.{unread_after};
-    ghost use Rattle.wtf8.specs.View.{view_points, view_units};
-
     pub(crate) fn new(view: Wtf8<'a>) -> IllFormedUtf16CodeUnits<'a>
         ensures held { result.held ≡ [] }
         ensures points { result.points ≡ view_points view.entry }
@@ -224,7 +205,6 @@ impl<'a> IllFormedUtf16CodeUnits<'a> {
         self.bytes.len() - self.position - 2 * self.held_units()
     }
 
-    /// Returns the number of units held back: 1 for a trail, else 0.
     fn held_units(&self) -> usize
         ensures value { result ≡ length self.now.held }
         ensures at_most_one { result ≤ 1 }
@@ -241,12 +221,6 @@ impl<'a> IllFormedUtf16CodeUnits<'a> {
 
 impl<'a> Iterator for IllFormedUtf16CodeUnits<'a> {
     type Item = u16;
-
-    ghost use Rattle.std.specs.Prelude.{◌≡◌, length, IfSome};
-    ghost use Rattle.std.specs.Iterator.{YieldsFirst, item_count, at_most, UpTo};
-    ghost use Rattle.std.specs.Iterator.SizeHint.{IsWithinCount};
-    ghost use Rattle.wtf8.specs.Hints.{units_hint, IsTrueHint};
-    ghost use Rattle.wtf8.specs.Units.{unread_units};
 
     ghost next_gives = { YieldsFirst unread_units };
 
@@ -276,8 +250,6 @@ impl<'a> Iterator for IllFormedUtf16CodeUnits<'a> {
 }
 
 impl<'a> Clone for IllFormedUtf16CodeUnits<'a> {
-    ghost use Rattle.std.specs.Prelude.{◌≡◌, ⊤};
-
     ghost is_clone = { λ s t. t ≡ s };
 
     ghost is_infallible = { λ _. ⊤ };
