@@ -101,7 +101,8 @@ fn decode_point<'a>(units: &mut [u16], left: Undecoded<'a>) -> Undecoded<'a>
             if value < 0x10000 {
                 return write_units(units, left, [value as u16], 1, width);
             }
-            write_units(units, left, pair_of(code_point), 2, width)
+            let pair = pair_of(code_point);
+            write_units(units, left, pair, 2, width)
         }
     }
 }
