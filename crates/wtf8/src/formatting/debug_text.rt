@@ -74,7 +74,6 @@ fn write_point<W: fmt::Write>(code_point: CodePoint, f: &mut fmt::Formatter<W>) 
     }
 }
 
-/// Writes each code point as in the debug text of a string.
 fn write_points<W: fmt::Write>(text: Wtf8<'_>, f: &mut fmt::Formatter<W>) -> fmt::Result
     ensures { WritesStyledOnOk W.write_str_gives f.old result (flat_map escape_surrogate (view_points text.entry)) f.new }
 {

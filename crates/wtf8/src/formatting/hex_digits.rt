@@ -57,7 +57,6 @@ fn upper_digits(values: u8x16) -> u8x16
     u8x16::from_array(DIGITS).swizzle_dyn(values)
 }
 
-/// The text of one vector: a space and two digits for each byte.
 #[inline(always)]
 #[tactic(auto, using(crate::proofs::lemmas::formatting::HexDigits::highs_below, crate::proofs::lemmas::formatting::HexDigits::lows_below, crate::proofs::lemmas::formatting::HexDigits::block_text))]
 fn spaced_block(bytes: u8x16) -> [u8; SPACED_LEN]
@@ -89,7 +88,6 @@ fn push_hex_byte<A: Allocator>(text: &mut Vec<u8, A>, byte: u8)
     text.push_reserved(upper_digit(byte % 16) as u8);
 }
 
-/// Appends a space and two digits for each byte, within the spare capacity.
 #[inline(always)]
 fn push_spaced<A: Allocator>(text: &mut Vec<u8, A>, bytes: &[u8])
     requires { vec_len text.old + 3 * length bytes.now ≤ vec_capacity text.old }

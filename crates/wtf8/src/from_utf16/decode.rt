@@ -35,21 +35,18 @@ pub(crate) struct DecodeUtf16<I> {
     units: Ahead<I, u16>,
 }
 
-/// Whether a unit is a trail surrogate.
 fn is_trail_unit(unit: &u16) -> bool
     ensures { IsTrue result ↔ IsTrail unit.now }
 {
     surrogates::is_trail(u32::from(*unit))
 }
 
-/// The code point of one unit, which may be a surrogate.
 pub(crate) fn point_of_unit(unit: u16) -> CodePoint
     ensures { number result ≡ unit }
 {
     CodePoint::from_u32_unchecked(u32::from(unit))
 }
 
-/// The unit as a `char`, or `Err` of the unit if it is a surrogate.
 #[inline(always)]
 fn char_or_surrogate(unit: u16) -> Result<char, u16>
     ensures kind { MatchResult result (λ c. IsCodePoint c × ¬ (IsSurrogate c)) IsSurrogate }
@@ -58,7 +55,6 @@ fn char_or_surrogate(unit: u16) -> Result<char, u16>
     char::from_u32(u32::from(unit)).ok_or(unit)
 }
 
-/// The supplementary `char` of a surrogate pair.
 fn char_of_pair(lead: u16, trail: u16) -> char
     requires lead { IsLead lead }
     requires trail { IsTrail trail }

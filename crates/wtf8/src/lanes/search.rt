@@ -39,7 +39,6 @@ pub(crate) fn next_surrogate(bytes: &[u8], from: usize) -> Option<usize>
     next_surrogate_bytewise(bytes, at)
 }
 
-/// The index of the first surrogate that begins at `from` or after it, byte by byte.
 #[inline(always)]
 fn next_surrogate_bytewise(bytes: &[u8], from: usize) -> Option<usize>
     ensures { IsFirst (SurrogateAt bytes.now) from result }

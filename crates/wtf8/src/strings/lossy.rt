@@ -16,7 +16,6 @@ fn write_replacement<A: Allocator>(bytes: &mut Vec<u8, A>, at: usize)
     bytes[at..at + 3].copy_from_slice(&REPLACEMENT);
 }
 
-/// Overwrites each surrogate with U+FFFD.
 pub(crate) fn replace_surrogates<A: Allocator>(bytes: &mut Vec<u8, A>)
     requires { IsWellFormed bytes.old.items }
     ensures { (h : IsWellFormed bytes.old.items) → bytes.new.items ≡ bytes_of (lossy_points h.points) }

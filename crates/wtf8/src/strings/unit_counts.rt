@@ -118,7 +118,6 @@ pub(crate) fn skip_summed_blocks(bytes: &[u8], unit: usize) -> UnitCursor
     UnitCursor { position, units }
 }
 
-/// Returns the number of units of all the bytes.
 fn count_units(bytes: &[u8]) -> usize
     requires { sum_utf16_len bytes.now < 2 ^ 64 }
     ensures { result ≡ sum_utf16_len bytes.now }
@@ -151,7 +150,6 @@ fn skip_all_blocks(bytes: &[u8]) -> UnitCursor
     cursor
 }
 
-/// Returns the number of units of all the bytes, counted byte by byte from `from` on.
 fn count_units_from(bytes: &[u8], from: UnitCursor) -> usize
     requires counted { IsCursor bytes.now usize.MAX from }
     requires fits { sum_utf16_len bytes.now < 2 ^ 64 }

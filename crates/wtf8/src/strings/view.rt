@@ -218,7 +218,6 @@ impl<'a> Wtf8<'a> {
         Wtf8::from_well_formed(rest)
     }
 
-    /// Returns the first code point and the view after it, or `None` if the string is empty.
     pub(crate) fn split_first(self) -> Option<(CodePoint, Wtf8<'a>)>
         ensures none { IfNone result (view_points self.entry ≡ []) }
         ensures some { IfSome result (λ x. view_points self.entry ≡ number x.0 ∷ view_points x.1) }

@@ -48,7 +48,6 @@ pub(crate) fn is_lead_byte(byte: u8, width: usize) -> bool {
     }
 }
 
-/// Widens each byte to a code unit.
 #[inline(always)]
 pub(crate) fn widen_bytes<const N: usize>(block: Simd<u8, N>) -> [u16; N]
     requires lanes { N ≤ u64.BITS }
