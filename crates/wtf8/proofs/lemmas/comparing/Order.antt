@@ -150,8 +150,7 @@ BothBelow n x y = (x < n) ↔ (y < n)
 before_units : (p q : ℕ) (c d : List ℕ) → p < q → BothBelow 0x10000 p q → Before (units (p ∷ c)) (units (q ∷ d))
 before_units p q c d l both = elim (cases_lt p 0x10000) [
   | inl h ↦ rw (units-cons_one p c h, units-cons_one q d (both.0 h)) (inl l)
-  | inr h ↦ rw (units-cons_two p c h, units-cons_two q d (omega arith))
-      (grind arith)
+  | inr h ↦ rw (units-cons_two p c h, units-cons_two q d (omega arith)) (grind arith)
 ]
 
 -- at the first difference both bytes are below F0 or neither is
@@ -303,8 +302,7 @@ either_from_unequal false false p q e = absurd (true≢false e)
 
 -- if a code point of two units begins at the first difference in exactly one string, that is a boundary of both
 pub common_front_at_mismatch : {w v : List ℕ} (h : IsWellFormed w) (k : IsWellFormed v) (at : ℕ) → IsMismatch w v at → (a b : Bool)
-    → IsTrue a ↔ SupplementaryBegins w at
-    → IsTrue b ↔ SupplementaryBegins v at → beq a b ≡ false → CommonFront h.points k.points at
+    → IsTrue a ↔ SupplementaryBegins w at → IsTrue b ↔ SupplementaryBegins v at → beq a b ≡ false → CommonFront h.points k.points at
 common_front_at_mismatch h k at d a b p q e = elim (either_from_unequal a b p q e) [
   | inl l ↦ common_front_at_lead_byte h k at d.same_before l
   | inr l ↦ CommonFront-swap (common_front_at_lead_byte k h at (sym d.same_before) l)
@@ -315,7 +313,6 @@ pub bytes_order : {w v : List ℕ} (h : IsWellFormed w) (k : IsWellFormed v) (at
     → IsMismatch w v at → SupplementaryBegins w at ↔ SupplementaryBegins v at
     → option_cmp nat_cmp (slice_get w at) (slice_get v at) ≡ slice_cmp nat_cmp (units h.points) (units k.points)
 bytes_order {w} {v} h k at d both =
-    let rows : SameSideOfF0 (bytes h.points) (bytes k.points) =
-    subst (λ x. SameSideOfF0 x (bytes k.points)) (sym h.encoded)
+    let rows : SameSideOfF0 (bytes h.points) (bytes k.points) = subst (λ x. SameSideOfF0 x (bytes k.points)) (sym h.encoded)
     (subst (SameSideOfF0 w) (sym k.encoded) (same_side_at_mismatch w v at d both)) in
     order_at_mismatch w v at d ∙ (cmp_points h.points k.points h.encoded k.encoded ∙ points_as_units h.points k.points rows)

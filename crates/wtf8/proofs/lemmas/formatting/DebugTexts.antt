@@ -31,8 +31,7 @@ module _ {W : Type 0} {took : W → List ℕ → W → Type 0} where
   Continues-start whole flush = record { flush = flush; ends = λ h w. w }
 
   pub Continues-write : {f g h : Formatter W} {whole rest a b : List ℕ} → Continues took f whole g rest → HasWrittenStyled took g a h
-      → rest ≡ a ++ b
-      → Continues took f whole h b
+      → rest ≡ a ++ b → Continues took f whole h b
   Continues-write c w e = record { flush = w.flush; ends = λ h v. c.ends h (written_as (sym e) (then_written w v)) }
 
   pub Continues-end : {f g : Formatter W} {whole rest : List ℕ} → Continues took f whole g rest → rest ≡ []

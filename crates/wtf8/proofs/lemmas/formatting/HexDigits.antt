@@ -71,14 +71,12 @@ lows_below bytes p = subst (Each1 (λ v. v < 16)) (sym (low_digits-map bytes p))
 
 interleave_digits-spaced : (bytes : List ℕ) → length bytes ≡ 16
     → interleave_digits (map digit (map (λ b. b / 16) bytes) ++ map digit (map (λ b. b % 16) bytes)) ≡ flat_map spaced_hex bytes
-interleave_digits-spaced bytes p =
-    subst (λ bs. interleave_digits (map digit (map (λ b. b / 16) bs) ++ map digit (map (λ b. b % 16) bs)) ≡ flat_map spaced_hex bs)
-    (pick_l_whole 0 bytes 16 p) refl
+interleave_digits-spaced bytes p = subst (λ bs. interleave_digits (map digit (map (λ b. b / 16) bs) ++ map digit (map (λ b. b % 16) bs))
+    ≡ flat_map spaced_hex bs) (pick_l_whole 0 bytes 16 p) refl
 
 -- the interleaved digits of the halves are the spaced text of 16 bytes
 pub block_text : (bytes first second : List ℕ) → length bytes ≡ 16 → first ≡ map digit (high_digits bytes)
-    → second ≡ map digit (low_digits bytes)
-    → interleave_digits (first ++ second) ≡ flat_map spaced_hex bytes
+    → second ≡ map digit (low_digits bytes) → interleave_digits (first ++ second) ≡ flat_map spaced_hex bytes
 block_text bytes first second p f s = rw (f, s, high_digits-map bytes p, low_digits-map bytes p) (interleave_digits-spaced bytes p)
 
 -- the text of the first `at` bytes and of the next `n` is the text of the first `at + n`

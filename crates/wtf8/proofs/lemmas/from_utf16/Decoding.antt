@@ -36,8 +36,7 @@ module _ {S A : Type 0} (steps : S → Option A → S → Type 0) where
 
 module _ {S : Type 0} (steps : S → Option ℕ → S → Type 0) where
   MatchOption-equal_step : (p : Option (Option ℕ)) (a b c : S) (r o : Option ℕ) → MatchOption p (steps a o b) (λ k. (o ≡ k) × (b ≡ a))
-      → r ≡ o → c ≡ b
-      → MatchOption p (steps a r c) (λ k. (r ≡ k) × (c ≡ a))
+      → r ≡ o → c ≡ b → MatchOption p (steps a r c) (λ k. (r ≡ k) × (c ≡ a))
   MatchOption-equal_step None a b c r o h e f = subst (λ k. steps a k c) (sym e) (subst (λ k. steps a o k) (sym f) h)
   MatchOption-equal_step (Some k) a b c r o h e f = (e ∙ h.0, f ∙ h.1)
 
@@ -66,8 +65,7 @@ module _ {S : Type 0} (steps : S → Option ℕ → S → Type 0) where
       (r.0, (r.1.0, (peekable_source next, unpeeked_call s next (Some x) e d.1.1.1.1, r.1.1), r.1.2))
 
   yielded_no_trail : (p : Option (Option ℕ)) (a b : Type 0) (q : ℕ) → IsSomeAnd p (λ o. IfSome o (λ u. ¬ (IsTrail u)))
-      → MatchOption p a (λ o. (Some q ≡ o) × b)
-      → ¬ (IsTrail q)
+      → MatchOption p a (λ o. (Some q ≡ o) × b) → ¬ (IsTrail q)
   yielded_no_trail None a b q h e = absurd h
   yielded_no_trail (Some o) a b q h e = subst (λ k. IfSome k (λ u. ¬ (IsTrail u))) (sym e.0) h
 
@@ -112,8 +110,7 @@ module _ {S : Type 0} (steps : S → Option ℕ → S → Type 0) where
       }
 
   pub reads_all : (items : List (Result ℕ ℕ)) (s : DecodeUtf16 S) → peekable_peeked (units_left s) ≡ None
-      → Drains (decode_steps steps) s items
-      → ReadsAll steps (peekable_source (units_left s)) items
+      → Drains (decode_steps steps) s items → ReadsAll steps (peekable_source (units_left s)) items
   reads_all items s e d =
       let r = reads_left items s d in
       record { clean = r.clean; all_units = drains_source (units_left s) (units (points_of_items items)) e r.all_units }
@@ -124,16 +121,13 @@ module _ {S : Type 0} (steps : S → Option ℕ → S → Type 0) where
   takes_one s t u p e h k = subst (λ us. Yields (peekable_steps steps) s us t) (sym (ap units_of e ∙ units_one u h)) (t, k, refl)
 
   pub takes_two : (s m t : Ahead S ℕ) (l u p : ℕ) → p ≡ pair l u → IsLead l → IsTrail u → peekable_steps steps s (Some l) m
-      → peekable_steps steps m (Some u) t
-      → Yields (peekable_steps steps) s (units_of p) t
+      → peekable_steps steps m (Some u) t → Yields (peekable_steps steps) s (units_of p) t
   takes_two s m t l u p e lead trail h k =
-      subst (λ us. Yields (peekable_steps steps) s us t) (sym (ap units_of e ∙ units_pair l u lead trail))
-      (m, h, (t, k, refl))
+      subst (λ us. Yields (peekable_steps steps) s us t) (sym (ap units_of e ∙ units_pair l u lead trail)) (m, h, (t, k, refl))
 
   -- a unit that is no lead is one item
   pub item_of_unit : (s t : Ahead S ℕ) (u : ℕ) (x : Result ℕ ℕ) → MatchResult x (λ c. IsCodePoint c × ¬ (IsSurrogate c)) IsSurrogate
-      → point_of_item x ≡ u → u < 0x10000 → ¬ (IsLead u)
-      → peekable_steps steps s (Some u) t → DecodesItem steps s x t
+      → point_of_item x ≡ u → u < 0x10000 → ¬ (IsLead u) → peekable_steps steps s (Some u) t → DecodesItem steps s x t
   item_of_unit s t u x kind point range not_lead k = record {
     kind = kind;
     after = t;
@@ -268,9 +262,8 @@ drained_units (x ∷ us) s d =
 
 -- an empty slice yields no item
 pub no_item : (v : List ℕ) (at : ℕ) (items : List (Result ℕ ℕ)) (s k t : DecodeUtf16 (Copied (Iter ℕ))) (x : Result ℕ ℕ)
-    → peekable_peeked (units_left s) ≡ None
-    → slice_left (units_left s) ≡ take (length v - at) (drop at v) → Yields (decode_steps steps) s items k
-    → DecodesItem steps (units_left k) x (units_left t) → v ≢ []
+    → peekable_peeked (units_left s) ≡ None → slice_left (units_left s) ≡ take (length v - at) (drop at v)
+    → Yields (decode_steps steps) s items k → DecodesItem steps (units_left k) x (units_left t) → v ≢ []
 no_item v at items s k t x none rest y item nothing = from items y
   where
     whole : slice_left (units_left s) ≡ drop at v
@@ -297,10 +290,9 @@ pub encoded_item : (w : List ℕ) {now new : List ℕ} (items : List (Result ℕ
     → now ≡ w ++ bytes (points_of_items items) → new ≡ now ++ encoding p → point_of_item x ≡ p
     → new ≡ w ++ bytes (points_of_items (items ++ x ∷ []))
 encoded_item w {now} {new} items x {p} before added same =
-    added ∙ ap (λ b. b ++ encoding p) before ∙ append_assoc w (bytes (points_of_items items)) (encoding p)
-    ∙ ap (λ b. w ++ b) (ap (λ b. bytes (points_of_items items) ++ b) (ap encoding (sym same)
-    ∙ sym (append-nil (encoding (point_of_item x)))) ∙ sym (bytes-append (points_of_items items) (point_of_item x ∷ []))
-    ∙ ap bytes (sym (map-append point_of_item items (x ∷ []))))
+    added ∙ ap (λ b. b ++ encoding p) before ∙ append_assoc w (bytes (points_of_items items)) (encoding p) ∙ ap (λ b. w ++ b)
+    (ap (λ b. bytes (points_of_items items) ++ b) (ap encoding (sym same) ∙ sym (append-nil (encoding (point_of_item x))))
+    ∙ sym (bytes-append (points_of_items items) (point_of_item x ∷ [])) ∙ ap bytes (sym (map-append point_of_item items (x ∷ []))))
 
 pub scalar_item : (items : List (Result ℕ ℕ)) (x : Result ℕ ℕ) → AreScalar (points_of_items items) → ¬ (IsSurrogate (point_of_item x))
     → AreScalar (points_of_items (items ++ x ∷ []))
@@ -310,8 +302,7 @@ scalar_item items x before not_surrogate = subst AreScalar (sym (map-append poin
 -- the form of all units: the bytes so far, and the encodings of the decoder's items for the rest
 pub rest_read : {w new u : List ℕ} {at : ℕ} {known more : Bool} (items : List (Result ℕ ℕ)) (iter : Copied (Iter ℕ)) → IsReadTo w u at known
     → iter_rest (copied_source iter) ≡ take (length u - at) (drop at u) → ReadsAll steps iter items
-    → new ≡ w ++ bytes (points_of_items items)
-    → (IsTrue more → IsTrue known × AreScalar (points_of_items items)) → IsKnownForm new u more
+    → new ≡ w ++ bytes (points_of_items items) → (IsTrue more → IsTrue known × AreScalar (points_of_items items)) → IsKnownForm new u more
 rest_read {w} {new} {u} {at} {known} {more} items iter x rest reads appended flags =
     let points = points_of_items items in
     let all : units points ≡ drop at u =

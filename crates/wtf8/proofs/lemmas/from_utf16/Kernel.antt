@@ -196,13 +196,12 @@ second_byte_lanes leads trails own u =
 
 second_byte_lanes-zip2 : (leads trails own u : List ℕ) → length u ≡ 8 → ArePairHalves (tagged_block u) leads trails
     → own ≡ map scalar_second_byte u → second_byte_lanes leads trails own u ≡ zip2 second_byte (0 ∷ tagged_block u) (tagged_block u)
-second_byte_lanes-zip2 leads trails own u l p e = rw (e, p.lead, p.trail) (of_eight (λ u. second_byte_lanes (map lead_mask (tagged_block u))
-    (map trail_mask (tagged_block u)) (map scalar_second_byte u) u ≡ zip2 second_byte (0 ∷ tagged_block u) (tagged_block u)) u l
-    (λ i. second_byte-lane 0 (unit 0) 0 (tag 0 (unit 0) (unit 1)) (inl refl) (IsTag-tagged 0 (unit 0) (unit 1)) i
-    ∷ lane 0 (unit 0) (unit 1) (unit 2) i ∷ lane (unit 0) (unit 1) (unit 2) (unit 3) i ∷ lane (unit 1) (unit 2) (unit 3) (unit 4) i ∷ lane
-    (unit 2) (unit 3) (unit 4) (unit 5) i
-    ∷ lane (unit 3) (unit 4) (unit 5) (unit 6) i ∷ lane (unit 4) (unit 5) (unit 6) (unit 7) i ∷ lane (unit 5) (unit 6)
-    (unit 7) 0xDC00 i ∷ []))
+second_byte_lanes-zip2 leads trails own u l p e = rw (e, p.lead, p.trail)
+    (of_eight (λ u. second_byte_lanes (map lead_mask (tagged_block u)) (map trail_mask (tagged_block u)) (map scalar_second_byte u) u
+    ≡ zip2 second_byte (0 ∷ tagged_block u) (tagged_block u)) u l (λ i. second_byte-lane 0 (unit 0) 0 (tag 0 (unit 0) (unit 1)) (inl refl)
+    (IsTag-tagged 0 (unit 0) (unit 1)) i ∷ lane 0 (unit 0) (unit 1) (unit 2) i ∷ lane (unit 0) (unit 1) (unit 2) (unit 3) i
+    ∷ lane (unit 1) (unit 2) (unit 3) (unit 4) i ∷ lane (unit 2) (unit 3) (unit 4) (unit 5) i ∷ lane (unit 3) (unit 4) (unit 5) (unit 6) i
+    ∷ lane (unit 4) (unit 5) (unit 6) (unit 7) i ∷ lane (unit 5) (unit 6) (unit 7) 0xDC00 i ∷ []))
   where
     unit : ℕ → ℕ
     unit k = get_or u k 0
@@ -226,12 +225,10 @@ last_byte_lanes leads own u = sel_l (map (top 15) leads)
 
 last_byte_lanes-map : (leads own u : List ℕ) → length u ≡ 8 → leads ≡ map lead_mask (tagged_block u) → own ≡ map scalar_last_byte u
     → last_byte_lanes leads own u ≡ map last_byte (tagged_block u)
-last_byte_lanes-map leads own u l p e = rw (e, p)
-    (of_eight (λ u. last_byte_lanes (map lead_mask (tagged_block u)) (map scalar_last_byte u) u ≡ map last_byte (tagged_block u)) u l
-    (λ i. lane 0 (unit 0) (unit 1) i ∷ lane (unit 0) (unit 1) (unit 2) i ∷ lane (unit 1) (unit 2) (unit 3) i ∷ lane (unit 2)
-    (unit 3) (unit 4) i
-    ∷ lane (unit 3) (unit 4) (unit 5) i ∷ lane (unit 4) (unit 5) (unit 6) i ∷ lane (unit 5) (unit 6) (unit 7) i ∷ lane (unit 6)
-    (unit 7) 0xDC00 i ∷ []))
+last_byte_lanes-map leads own u l p e = rw (e, p) (of_eight (λ u. last_byte_lanes (map lead_mask (tagged_block u)) (map scalar_last_byte u)
+    u ≡ map last_byte (tagged_block u)) u l (λ i. lane 0 (unit 0) (unit 1) i ∷ lane (unit 0) (unit 1) (unit 2) i
+    ∷ lane (unit 1) (unit 2) (unit 3) i ∷ lane (unit 2) (unit 3) (unit 4) i ∷ lane (unit 3) (unit 4) (unit 5) i
+    ∷ lane (unit 4) (unit 5) (unit 6) i ∷ lane (unit 5) (unit 6) (unit 7) i ∷ lane (unit 6) (unit 7) 0xDC00 i ∷ []))
   where
     unit : ℕ → ℕ
     unit k = get_or u k 0
@@ -246,15 +243,12 @@ three_byte_flag-lane : (x t : ℕ) → IsTag x t → cond (top 15 (bit_or (lead_
 three_byte_flag-lane x t m = elim m [ inl e ↦ grind (arith, nat_tests, e) | inr e ↦ grind (arith, nat_tests, e.0, e.1.0, e.1.1) ]
 
 three_byte_flag_lanes-map : (leads trails m u : List ℕ) → length u ≡ 8 → ArePairHalves (tagged_block u) leads trails
-    → m ≡ map (flag_from 0x800) u
-    → sel_l (map (top 15) (zip2 bit_or leads trails)) (replicate 8 0) m ≡ map three_byte_flag (tagged_block u)
+    → m ≡ map (flag_from 0x800) u → sel_l (map (top 15) (zip2 bit_or leads trails)) (replicate 8 0) m ≡ map three_byte_flag (tagged_block u)
 three_byte_flag_lanes-map leads trails m u l p e = rw (e, p.lead, p.trail)
     (of_eight (λ u. sel_l (map (top 15) (zip2 bit_or (map lead_mask (tagged_block u)) (map trail_mask (tagged_block u)))) (replicate 8 0)
-    (map (flag_from 0x800) u) ≡ map three_byte_flag (tagged_block u)) u l
-    (λ i. lane 0 (unit 0) (unit 1) i ∷ lane (unit 0) (unit 1) (unit 2) i ∷ lane (unit 1) (unit 2) (unit 3) i ∷ lane (unit 2)
-    (unit 3) (unit 4) i
-    ∷ lane (unit 3) (unit 4) (unit 5) i ∷ lane (unit 4) (unit 5) (unit 6) i ∷ lane (unit 5) (unit 6) (unit 7) i ∷ lane (unit 6)
-    (unit 7) 0xDC00 i ∷ []))
+    (map (flag_from 0x800) u) ≡ map three_byte_flag (tagged_block u)) u l (λ i. lane 0 (unit 0) (unit 1) i ∷ lane (unit 0) (unit 1) (unit 2)
+    i ∷ lane (unit 1) (unit 2) (unit 3) i ∷ lane (unit 2) (unit 3) (unit 4) i ∷ lane (unit 3) (unit 4) (unit 5) i
+    ∷ lane (unit 4) (unit 5) (unit 6) i ∷ lane (unit 5) (unit 6) (unit 7) i ∷ lane (unit 6) (unit 7) 0xDC00 i ∷ []))
   where
     unit : ℕ → ℕ
     unit k = get_or u k 0
@@ -341,11 +335,9 @@ lone_mask leads trails u =
 
 units-from_zero_mask : (leads trails u : List ℕ) → length u ≡ 8 → Each1 (Fits w16) u → ArePairHalves (tagged_block u) leads trails
     → mask_l (lone_mask leads trails u) % 2 ^ 64 ≡ 0 → Each1 IsUnit (tagged_block u)
-units-from_zero_mask leads trails u l f p e =
-    of_eight (λ u. Each1 (Fits w16) u → mask_l (lone_mask (map lead_mask (tagged_block u)) (map trail_mask (tagged_block u)) u) % 2 ^ 64 ≡ 0
-    → Each1 IsUnit (tagged_block u)) u l
-    (λ f e. units-from_mask 0 (eight_lanes u) 0xDC00 f
-    (sym (mask_l-mod (zip2 lone_lane (eight_lanes u) (tagged_block (eight_lanes u))) 64 (omega arith)) ∙ e)) f (rw (p.lead, p.trail) at e)
+units-from_zero_mask leads trails u l f p e = of_eight (λ u. Each1 (Fits w16) u → mask_l (lone_mask (map lead_mask (tagged_block u))
+    (map trail_mask (tagged_block u)) u) % 2 ^ 64 ≡ 0 → Each1 IsUnit (tagged_block u)) u l (λ f e. units-from_mask 0 (eight_lanes u) 0xDC00
+    f (sym (mask_l-mod (zip2 lone_lane (eight_lanes u) (tagged_block (eight_lanes u))) 64 (omega arith)) ∙ e)) f (rw (p.lead, p.trail) at e)
 
 pub later_lanes : (own lasts m u : List ℕ) → length u ≡ 8 → own ≡ map scalar_second_byte u → lasts ≡ map scalar_last_byte u
     → m ≡ map (flag_from 0x800) u
@@ -404,17 +396,13 @@ picked_lanes f s l js ks = pick_l 0 (f ++ narrowed s) js ++ pick_l 0 (narrowed l
 
 pub front_lanes : (u f s l : List ℕ) → length u ≡ 8 → f ≡ map first_byte u → s ≡ zip2 second_byte (0 ∷ u) u → l ≡ map last_byte u
     → picked_lanes f s l (0 ∷ 1 ∷ 2 ∷ 3 ∷ 8 ∷ 9 ∷ 10 ∷ 11 ∷ []) (0 ∷ 1 ∷ 2 ∷ 3 ∷ []) ≡ byte_lanes 0 (take 4 u)
-front_lanes u f s l long x y z =
-    rw (x, y, z) (of_eight (λ u. picked_lanes (map first_byte u) (zip2 second_byte (0 ∷ u) u) (map last_byte u)
-    (0 ∷ 1 ∷ 2 ∷ 3 ∷ 8 ∷ 9 ∷ 10 ∷ 11 ∷ []) (0 ∷ 1 ∷ 2 ∷ 3 ∷ [])
-    ≡ byte_lanes 0 (take 4 u)) u long refl)
+front_lanes u f s l long x y z = rw (x, y, z) (of_eight (λ u. picked_lanes (map first_byte u) (zip2 second_byte (0 ∷ u) u) (map last_byte u)
+    (0 ∷ 1 ∷ 2 ∷ 3 ∷ 8 ∷ 9 ∷ 10 ∷ 11 ∷ []) (0 ∷ 1 ∷ 2 ∷ 3 ∷ []) ≡ byte_lanes 0 (take 4 u)) u long refl)
 
 pub back_lanes : (u f s l : List ℕ) → length u ≡ 8 → f ≡ map first_byte u → s ≡ zip2 second_byte (0 ∷ u) u → l ≡ map last_byte u
     → picked_lanes f s l (4 ∷ 5 ∷ 6 ∷ 7 ∷ 12 ∷ 13 ∷ 14 ∷ 15 ∷ []) (4 ∷ 5 ∷ 6 ∷ 7 ∷ []) ≡ byte_lanes (get_or u 3 0) (drop 4 u)
-back_lanes u f s l long x y z =
-    rw (x, y, z) (of_eight (λ u. picked_lanes (map first_byte u) (zip2 second_byte (0 ∷ u) u) (map last_byte u)
-    (4 ∷ 5 ∷ 6 ∷ 7 ∷ 12 ∷ 13 ∷ 14 ∷ 15 ∷ []) (4 ∷ 5 ∷ 6 ∷ 7 ∷ [])
-    ≡ byte_lanes (get_or u 3 0) (drop 4 u)) u long refl)
+back_lanes u f s l long x y z = rw (x, y, z) (of_eight (λ u. picked_lanes (map first_byte u) (zip2 second_byte (0 ∷ u) u) (map last_byte u)
+    (4 ∷ 5 ∷ 6 ∷ 7 ∷ 12 ∷ 13 ∷ 14 ∷ 15 ∷ []) (4 ∷ 5 ∷ 6 ∷ 7 ∷ []) ≡ byte_lanes (get_or u 3 0) (drop 4 u)) u long refl)
 
 abbrev flag_is_set : ℕ → Bool
 flag_is_set y = top 7 (cond (leb 128 y) 255 0)
@@ -450,12 +438,10 @@ mask_l-number_l (b ∷ bs) = ap (λ n. cond b 1 0 + 2 * n) (mask_l-number_l bs)
 
 pub mask_l-table_indexes : (u m n : List ℕ) → length u ≡ 8 → m ≡ map (flag_from 0x80) u → n ≡ map three_byte_flag u
     → mask_l (flags_set m n) % 2 ^ 64 ≡ units_table_index (take 4 u) + 256 * units_table_index (drop 4 u)
-mask_l-table_indexes u m n long x y =
-    mask_l-mod (flags_set m n) 64 (omega arith) ∙ mask_l-number_l (flags_set m n)
+mask_l-table_indexes u m n long x y = mask_l-mod (flags_set m n) 64 (omega arith) ∙ mask_l-number_l (flags_set m n)
     ∙ rw (x, y) (of_eight (λ u. number_l 2 (map (λ b. cond {A = ℕ} b 1 0) (flags_set (map (flag_from 0x80) u) (map three_byte_flag u)))
-    ≡ units_table_index (take 4 u) + 256 * units_table_index (drop 4 u)) u long
-    (ap (number_l 2) listed ∙ number_l-sixteen (one 0) (one 1) (one 2) (one 3) (two 0) (two 1) (two 2) (two 3) (one 4) (one 5) (one 6)
-    (one 7) (two 4) (two 5) (two 6) (two 7)))
+    ≡ units_table_index (take 4 u) + 256 * units_table_index (drop 4 u)) u long (ap (number_l 2) listed ∙ number_l-sixteen (one 0) (one 1)
+    (one 2) (one 3) (two 0) (two 1) (two 2) (two 3) (one 4) (one 5) (one 6) (one 7) (two 4) (two 5) (two 6) (two 7)))
   where
     one : ℕ → ℕ
     one k = byte_count (get_or u k 0) / 2
@@ -503,10 +489,8 @@ swz_l-below_16 xs i (j ∷ js) l h =
     λ k. own k ∷ swz_l-below_16 xs (suc i) js (omega (arith, l)) h.1 k
 
 source_lanes-packed_unit : (xs : List ℕ) (k b n : ℕ) → get_or xs k 0 ≡ first_byte n → get_or xs (4 + k) 0 ≡ second_byte b n
-    → get_or xs (8 + k) 0 ≡ last_byte n
-    → map (λ j. get_or xs j 0) (source_lanes (byte_count n) k) ≡ packed_unit b n
-source_lanes-packed_unit xs k b n x y z =
-    sym (drop-map (λ j. get_or xs j 0) (3 - byte_count n) (k ∷ (4 + k) ∷ (8 + k) ∷ []))
+    → get_or xs (8 + k) 0 ≡ last_byte n → map (λ j. get_or xs j 0) (source_lanes (byte_count n) k) ≡ packed_unit b n
+source_lanes-packed_unit xs k b n x y z = sym (drop-map (λ j. get_or xs j 0) (3 - byte_count n) (k ∷ (4 + k) ∷ (8 + k) ∷ []))
     ∙ ap (drop (3 - byte_count n)) (λ i. x i ∷ y i ∷ z i ∷ [])
 
 source_lanes-packed_units : (xs : List ℕ) (v a b c d : ℕ) → take 12 xs ≡ byte_lanes v (a ∷ b ∷ c ∷ d ∷ [])
@@ -533,18 +517,15 @@ abbrev four_lanes : List ℕ → List ℕ
 four_lanes u = pick_l 0 u (0 ∷ 1 ∷ 2 ∷ 3 ∷ [])
 
 pub swz_l-packed_units : (xs row : List ℕ) (b : ℕ) (u : List ℕ) → length row ≤ 16 → Each1 (λ j. j < 16) row → length u ≡ 4
-    → take 12 xs ≡ byte_lanes b u
-    → let count = λ (k : ℕ). byte_count (get_or u k 0) in
-    take (count 0 + count 1 + count 2 + count 3) row
-    ≡ source_lanes (count 0) 0 ++ source_lanes (count 1) 1 ++ source_lanes (count 2) 2 ++ source_lanes (count 3) 3
-    → take (count 0 + count 1 + count 2 + count 3) (swz_l w8 16 xs 0 row) ≡ packed_units b u
+    → take 12 xs ≡ byte_lanes b u → let count = λ (k : ℕ). byte_count (get_or u k 0) in
+    take (count 0 + count 1 + count 2 + count 3) row ≡ source_lanes (count 0) 0 ++ source_lanes (count 1) 1 ++ source_lanes (count 2) 2
+    ++ source_lanes (count 3) 3 → take (count 0 + count 1 + count 2 + count 3) (swz_l w8 16 xs 0 row) ≡ packed_units b u
 swz_l-packed_units xs row b u short within long lanes own =
     let n = byte_count (get_or u 0 0) + byte_count (get_or u 1 0) + byte_count (get_or u 2 0) + byte_count (get_or u 3 0) in
     let us : four_lanes u ≡ u = pick_l_whole 0 u 4 long in
     ap (take n) (swz_l-below_16 xs 0 row (omega (arith, short)) within) ∙ take-map (λ j. get_or xs j 0) n row
-    ∙ ap (map (λ j. get_or xs j 0)) own
-    ∙ source_lanes-packed_units xs b (get_or u 0 0) (get_or u 1 0) (get_or u 2 0) (get_or u 3 0) (lanes ∙ ap (byte_lanes b) (sym us))
-    ∙ ap (packed_units b) us
+    ∙ ap (map (λ j. get_or xs j 0)) own ∙ source_lanes-packed_units xs b (get_or u 0 0) (get_or u 1 0) (get_or u 2 0) (get_or u 3 0)
+    (lanes ∙ ap (byte_lanes b) (sym us)) ∙ ap (packed_units b) us
 
 pub packed_units-halves : (u : List ℕ) → length u ≡ 8
     → packed_units 0 (take 4 u) ++ packed_units (get_or u 3 0) (drop 4 u) ≡ packed_units 0 u

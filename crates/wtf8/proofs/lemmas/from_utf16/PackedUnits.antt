@@ -245,17 +245,15 @@ lone_unit-form b x known s n = record {
 
 scalar_first : (b x n : ℕ) (t : List ℕ) {u : List ℕ} {known : Bool} → x < 0x10000 → ¬ (IsSurrogate x)
     → IsKnownForm (packed_units x t) u known → IsKnownForm (packed_units b (tagged b x n ∷ t)) (x ∷ u) known
-scalar_first b x n t {u} {known} h s more =
-    subst (λ y. IsKnownForm (packed_units b (y ∷ t)) (x ∷ u) known) (sym (tagged-scalar b x n s))
+scalar_first b x n t {u} {known} h s more = subst (λ y. IsKnownForm (packed_units b (y ∷ t)) (x ∷ u) known) (sym (tagged-scalar b x n s))
     (IsKnownForm-append (packed_unit b x) (packed_units x t) (x ∷ []) u true known known (packed_unit-form b x h s) more
     (unpaired-after_no_lead [] x (λ l. s (l.0, omega (arith, l.1)))) (λ k. (refl, k)))
 
 lone_first : (b x y : ℕ) (t : List ℕ) {u : List ℕ} {known : Bool} → y ≡ x + 0x10000 → IsSurrogate x → ¬ (IsTrue known)
     → ¬ (MeetsAsPair (x ∷ []) u) → IsKnownForm (packed_units x t) u known → IsKnownForm (packed_units b (y ∷ t)) (x ∷ u) known
 lone_first b x y t {u} {known} e s none unpaired more =
-    subst (λ y. IsKnownForm (packed_units b (y ∷ t)) (x ∷ u) known) (sym e)
-    (IsKnownForm-append (packed_unit b (x + 0x10000)) (packed_units (x + 0x10000) t) (x ∷ []) u known known known
-    (lone_unit-form b x known s none)
+    subst (λ y. IsKnownForm (packed_units b (y ∷ t)) (x ∷ u) known) (sym e) (IsKnownForm-append (packed_unit b (x + 0x10000))
+    (packed_units (x + 0x10000) t) (x ∷ []) u known known known (lone_unit-form b x known s none)
     (subst (λ w. IsKnownForm w u known) (sym (packed_units-after_tag x (x + 0x10000) t (inr (refl, s)))) more) unpaired (λ k. (k, k)))
 
 -- a tag is no unit
@@ -299,16 +297,14 @@ packed_units-form b (x ∷ y ∷ u) a known f first last units = elim (scalar_le
           (packed_pair-form b x y l t) rest (unpaired-after_no_lead (x ∷ []) y not_lead) (λ k. (refl, k)))))
       | inr t ↦
           let lone = tagged-lone_lead b x y l t in
-          lone_first b x (tagged b x y) (tagged_units x (y ∷ u) a) lone (l.0, omega (arith, l.1))
-          (λ k. not_unit x (tagged b x y) lone (units k).0) (unpaired-before_no_trail y u t)
-          (packed_units-form x (y ∷ u) a known f.1 (λ k. t k.1) last (λ k. (units k).1))
+          lone_first b x (tagged b x y) (tagged_units x (y ∷ u) a) lone (l.0, omega (arith, l.1)) (λ k. not_unit x (tagged b x y) lone
+          (units k).0) (unpaired-before_no_trail y u t) (packed_units-form x (y ∷ u) a known f.1 (λ k. t k.1) last (λ k. (units k).1))
     ]
     | inr t ↦
         let lone = tagged-lone_trail b x y t (λ l. first (l, t)) in
         let not_lead : ¬ (IsLead x) = λ k. omega (arith, k.1, t.0) in
-        lone_first b x (tagged b x y) (tagged_units x (y ∷ u) a) lone (omega (arith, t.0), t.1)
-        (λ k. not_unit x (tagged b x y) lone (units k).0) (unpaired-after_no_lead [] x not_lead)
-        (packed_units-form x (y ∷ u) a known f.1 (λ k. not_lead k.0) last (λ k. (units k).1))
+        lone_first b x (tagged b x y) (tagged_units x (y ∷ u) a) lone (omega (arith, t.0), t.1) (λ k. not_unit x (tagged b x y) lone (units
+        k).0) (unpaired-after_no_lead [] x not_lead) (packed_units-form x (y ∷ u) a known f.1 (λ k. not_lead k.0) last (λ k. (units k).1))
   ]
 ]
 

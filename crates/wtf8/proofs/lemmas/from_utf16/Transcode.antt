@@ -32,9 +32,8 @@ pub none_surrogate : (xs : List ℕ) → length xs ≡ 8 → Each1 (Fits w16) xs
 none_surrogate xs l f e =
     let kinds = bitmask_splat w16 eqb (map (λ x. x / 2048) xs) 8 27 (length-map xs (λ x. x / 2048) ∙ l) (omega arith)
     ∙ ap mask_l (map-map (λ x. eqb x 27) (λ x. x / 2048) xs) in
-    each_unset (λ x. eqb (x / 2048) 27) (Fits w16) (λ n. (n < 0x10000) × ¬ (IsSurrogate n)) own xs f
-    (sym kinds ∙ ap (λ v. mask_l (map (top 15) (zip2 (λ a b. cond (eqb a b) 0xFFFF 0) v (replicate 8 27))) % 2 ^ 64)
-    (sym (zip2_splat (λ a b. a / b) xs 8 2048 l)) ∙ e)
+    each_unset (λ x. eqb (x / 2048) 27) (Fits w16) (λ n. (n < 0x10000) × ¬ (IsSurrogate n)) own xs f (sym kinds ∙ ap (λ v. mask_l
+    (map (top 15) (zip2 (λ a b. cond (eqb a b) 0xFFFF 0) v (replicate 8 27))) % 2 ^ 64) (sym (zip2_splat (λ a b. a / b) xs 8 2048 l)) ∙ e)
   where
     own : (x : ℕ) → Fits w16 x → eqb (x / 2048) 27 ≡ false → (x < 0x10000) × ¬ (IsSurrogate x)
     own x f u = (f.fits, λ s. eqb-false (x / 2048) 27 u (omega (arith, s.0, s.1)))
@@ -52,9 +51,8 @@ DividesNoPair-after_no_lead u j within n =
 
 -- a pair at the seam with the first `n` units of `b` is a pair at the seam with `b`
 MeetsAsPair-take : (a b : List ℕ) (n : ℕ) → MeetsAsPair a (take n b) → MeetsAsPair a b
-MeetsAsPair-take a b n m =
-    meets_by m.front
-    (m.rest ++ drop n b) m.lead m.trail m.is_lead m.is_trail m.ends (sym (take-append-drop n b) ∙ ap (λ c. c ++ drop n b) m.begins)
+MeetsAsPair-take a b n m = meets_by m.front (m.rest ++ drop n b) m.lead m.trail m.is_lead m.is_trail m.ends
+    (sym (take-append-drop n b) ∙ ap (λ c. c ++ drop n b) m.begins)
 
 -- the form of a part appended to the form of the units before it, without a pair at the seam
 pub IsKnownForm-append : (w v a b : List ℕ) (known more both : Bool) → IsKnownForm w a known → IsKnownForm v b more → ¬ (MeetsAsPair a b)
@@ -66,8 +64,7 @@ IsKnownForm-append w v a b known more both x y n flags = record {
 
 -- the units up to `end` are encoded after the form of the units from `at` to `end` was appended
 pub IsReadTo-append : {w new u part : List ℕ} {at end : ℕ} {known more : Bool} → IsReadTo w u at known → at ≤ end → end ≤ length u
-    → DividesNoPair u end
-    → new ≡ w ++ part → IsKnownForm part (take (end - at) (drop at u)) more → IsReadTo new u end (known && more)
+    → DividesNoPair u end → new ≡ w ++ part → IsKnownForm part (take (end - at) (drop at u)) more → IsReadTo new u end (known && more)
 IsReadTo-append {w} {new} {u} {part} {at} {end} {known} {more} x order within divides_no_pair after form =
     let back = take (end - at) (drop at u) in
     let count : end ≡ at + (end - at) = omega (arith, order) in
@@ -89,9 +86,8 @@ scalars_read {w} {new} {u} {part} {at} {known} k n x few within last after form 
     let count : k ≡ at + k - at = omega arith in
     let same : take k (take n (drop at u)) ≡ take (at + k - at) (drop at u) =
     take-take k n (drop at u) few ∙ ap (λ k. take k (drop at u)) count in
-    subst (IsReadTo new u (at + k)) (and-true known)
-    (IsReadTo-append x (omega arith) (omega (arith, few, within)) (divides_no_pair k few last) after
-    (subst (λ v. IsKnownForm part v true) same form))
+    subst (IsReadTo new u (at + k)) (and-true known) (IsReadTo-append x (omega arith) (omega (arith, few, within))
+    (divides_no_pair k few last) after (subst (λ v. IsKnownForm part v true) same form))
   where
     divides_no_pair : (k : ℕ) → k ≤ n → ((j : ℕ) → j + 1 ≡ k → ¬ (IsLead (get_or (take n (drop at u)) j 0))) → DividesNoPair u (at + k)
     divides_no_pair zero few h = let here : at ≡ at + 0 = omega arith in subst (DividesNoPair u) here x.divides_no_pair

@@ -74,9 +74,8 @@ ones_at_most_one (suc n) (false ∷ ms) = (omega arith, ones_at_most_one n ms)
 
 -- the sum of two such lanes fits a byte
 pub lanes_fit : (n : ℕ) (ms ks : List Bool) → Each2 (λ a b. Fits w8 (a + b)) (ones_in_set_lanes n ms) (ones_in_set_lanes n ks)
-lanes_fit n ms ks =
-    Each2-of (λ a. a ≤ 1) (λ b. b ≤ 1) (λ a b. Fits w8 (a + b)) (λ a b h k. record { fits = omega arith }) (ones_in_set_lanes n ms)
-    (ones_in_set_lanes n ks) (ones_at_most_one n ms) (ones_at_most_one n ks)
+lanes_fit n ms ks = Each2-of (λ a. a ≤ 1) (λ b. b ≤ 1) (λ a b. Fits w8 (a + b)) (λ a b h k. record { fits = omega arith })
+    (ones_in_set_lanes n ms) (ones_in_set_lanes n ks) (ones_at_most_one n ms) (ones_at_most_one n ks)
 
 utf16_lens_at_most_two : (xs : List ℕ) → Each1 (λ a. a ≤ 2) (map utf16_len xs)
 utf16_lens_at_most_two [] = tt
@@ -98,9 +97,8 @@ fold_l-utf16_len xs = omega (arith, fold-sum 0 (map utf16_len xs), sum_l-utf16_l
 -- lanes that are at most 253 can take the counts of one more block
 pub lanes_fit_more : (most : ℕ) (lanes xs : List ℕ) → most + 2 ≤ 255 → Each1 (λ a. a ≤ most) lanes
     → Each2 (λ a b. Fits w8 (a + b)) lanes (map utf16_len xs)
-lanes_fit_more most lanes xs few h =
-    Each2-of (λ a. a ≤ most) (λ b. b ≤ 2) (λ a b. Fits w8 (a + b)) (λ a b l m. record { fits = omega arith }) lanes (map utf16_len xs) h
-    (utf16_lens_at_most_two xs)
+lanes_fit_more most lanes xs few h = Each2-of (λ a. a ≤ most) (λ b. b ≤ 2) (λ a b. Fits w8 (a + b))
+    (λ a b l m. record { fits = omega arith }) lanes (map utf16_len xs) h (utf16_lens_at_most_two xs)
 
 pub lanes_grow : (most : ℕ) (lanes xs : List ℕ) → Each1 (λ a. a ≤ most) lanes
     → Each1 (λ a. a ≤ most + 2) (zip2 (λ a b. a + b) lanes (map utf16_len xs))

@@ -78,9 +78,8 @@ begins_by_ascii whole front b rest l e =
     let all = units_read (view_points whole) (view_units front ++ b ∷ rest) (subst (Reads (view_points whole)) e (view_reads whole)) in
     let back = one_form rest
     (all_back (view_units front ++ b ∷ []) rest (subst (All IsUnit) (sym (append_assoc (view_units front) (b ∷ []) rest)) all)) in
-    let same : whole.bytes.now ≡ w ++ b ∷ back.one =
-    (equal_forms whole.bytes.now (w ++ b ∷ back.one) (view_units whole) (view_units front ++ b ∷ rest) (view_form whole)
-    (IsForm-ascii_between b l f back.has)).1 e in
+    let same : whole.bytes.now ≡ w ++ b ∷ back.one = (equal_forms whole.bytes.now (w ++ b ∷ back.one) (view_units whole)
+    (view_units front ++ b ∷ rest) (view_form whole) (IsForm-ascii_between b l f back.has)).1 e in
     let reads = subst (Reads (view_points front ++ b ∷ back.has.points)) (sym e) (Reads-ascii_between b l f back.has) in
     record {
       inside = omega (arith, ap length same, length-append w (b ∷ back.one));
@@ -106,8 +105,7 @@ pub view_characters : (t : Wtf8) → AreScalar (view_points t) → chars t.bytes
 view_characters t s = ap chars (sym t.well_formed.encoded) ∙ characters_come_back (view_points t) t.well_formed.clean s
 
 pub lossy_characters : (t : Wtf8) → chars (bytes (lossy_points (view_points t))) ≡ lossy_points (view_points t)
-lossy_characters t =
-    ap chars (bytes_are_encodes (lossy_points (view_points t)))
+lossy_characters t = ap chars (bytes_are_encodes (lossy_points (view_points t)))
     ∙ chars-encodes (lossy_points (view_points t)) (scalars-lossy_points (view_points t) t.well_formed.clean)
 
 -- two runs of the same calls have the same outcome

@@ -155,19 +155,13 @@ bytes_glue-unpaired {w} {v} c d n e g = simp (glue-unpaired c d n, bytes-append,
 -- a pair takes one byte more than its lead, and two less than its surrogates
 length-joined : (w : List ℕ) (l t : ℕ) → IsLead l → IsTrail t → 3 ≤ length w
     → length (take (length w - 3) w ++ encoding (pair l t)) ≡ length w + 1
-length-joined w l t lead trail n =
-    length-append (take (length w - 3) w) (encoding (pair l t))
+length-joined w l t lead trail n = length-append (take (length w - 3) w) (encoding (pair l t))
     ∙ omega (arith, length-take-le (length w - 3) w (omega arith), ap length (encoding_four (pair l t) (omega arith)))
 
 pub length-paired_bytes : (w v : List ℕ) (l t : ℕ) → IsLead l → IsTrail t → 3 ≤ length w → 3 ≤ length v
     → length (paired_bytes w l t v) + 2 ≡ length w + length v
-length-paired_bytes w v l t lead trail m n =
-    omega (
-      arith,
-      length-append (take (length w - 3) w ++ encoding (pair l t)) (drop 3 v),
-      length-joined w l t lead trail m,
-      length-drop 3 v,
-    )
+length-paired_bytes w v l t lead trail m n = omega
+    (arith, length-append (take (length w - 3) w ++ encoding (pair l t)) (drop 3 v), length-joined w l t lead trail m, length-drop 3 v)
 
 pub form-glue : (w v a b : List ℕ) (x : IsForm w a) (y : IsForm v b) → IsForm (bytes (glue x.points y.points)) (a ++ b)
 form-glue w v a b x y = record { points = glue x.points y.points; reads = reads-glue x.points y.points a b x.reads y.reads; encoded = refl }

@@ -170,8 +170,7 @@ pub scalar_to-front : (k n : ℕ) (c d : List ℕ) → AreScalarTo k (c ++ d) �
 scalar_to-front k n c d s l f p b e m = s f p (b ++ d) (ap (λ x. x ++ d) e ∙ append_assoc f (p ∷ b) d) (omega (arith, l, m))
 
 scalar_before : (k : ℕ) (f more b d : List ℕ) (p : ℕ) → AreScalarTo k (f ++ more) → f ++ p ∷ b ≡ (f ++ more) ++ d
-    → length (bytes f) < length (bytes (f ++ more))
-    → length (bytes f) < k → ¬ (IsSurrogate p)
+    → length (bytes f) < length (bytes (f ++ more)) → length (bytes f) < k → ¬ (IsSurrogate p)
 scalar_before k f [] b d p s e h l = absurd (omega (arith, h, ap (λ x. length (bytes x)) (append-nil f)))
 scalar_before k f (q ∷ more) b d p s e h l =
     let same = cons-equal_parts p q b (more ++ d) (append_cancel_left f _ _ (e ∙ append_assoc f (q ∷ more) d)) in
@@ -196,8 +195,7 @@ scalar_to-paired k n f l t r lead trail s m u =
     let long = length-bytes_append f (pair l t) [] in
     let was = length-bytes_append f l [] in
     let four = ap length (encoding_four (pair l t) (omega arith)) in
-    subst (AreScalarTo n) (append_assoc f (pair l t ∷ []) r)
-    (scalar_to-append n (f ++ pair l t ∷ []) r front
+    subst (AreScalarTo n) (append_assoc f (pair l t ∷ []) r) (scalar_to-append n (f ++ pair l t ∷ []) r front
     (λ x. absurd (omega (arith, x, u, long, was, four, length-surrogate l (omega arith, omega arith)))))
 
 pub scalar_to-glue : (k n : ℕ) (c d : List ℕ) → AreScalarTo k c → n ≤ k → (length (bytes c) < n → AreScalar d) → AreScalarTo n (glue c d)
@@ -249,9 +247,8 @@ module _ {T E Z : Type 0} {b m : Vec ℕ Z} {v : List ℕ} where
       (IsWellFormed-equal_bytes h g.becomes.err, ((λ f p b g m. s f p b g (omega (arith, l, m))), tt))
 
 module _ {T E Z : Type 0} {b m : Vec ℕ Z} where
-  pub utf8_prefix_after_push : (r : Result T E) (p : ℕ) (k n : ℕ) (h : IsWellFormed b.items) → IsCodePoint p
-      → AreScalarTo k h.points → n ≤ k
-      → (length b.items < n → ¬ (IsSurrogate p)) → ExtendsFormOrKeeps b (units_of p) m r
+  pub utf8_prefix_after_push : (r : Result T E) (p : ℕ) (k n : ℕ) (h : IsWellFormed b.items) → IsCodePoint p → AreScalarTo k h.points
+      → n ≤ k → (length b.items < n → ¬ (IsSurrogate p)) → ExtendsFormOrKeeps b (units_of p) m r
       → (x : IsWellFormed m.items) × (AreScalarTo n x.points × Unit {0})
   utf8_prefix_after_push r p k n h range s l t g =
       utf8_prefix_after_append r (p ∷ []) k n h (sym (append-nil (units_of p))) range s l (λ m. (t m, tt)) g
@@ -348,8 +345,7 @@ pub record Found (u : List ℕ) (calls : List Build) (now : List ℕ) (capacity 
   pub grows : (more : List Build) (v : List ℕ) → EachCallFits u (calls ++ more) v capacity → capacity ≤ grown
 
 pub found_more : {u now new : List ℕ} {calls : List Build} {call : Build} {capacity grown larger : ℕ} (r : ℕ)
-    → Found u calls now capacity grown
-    → Step now call new r → ((v : List ℕ) → CallFits now call v capacity → grown ≤ larger)
+    → Found u calls now capacity grown → Step now call new r → ((v : List ℕ) → CallFits now call v capacity → grown ≤ larger)
     → Found u (calls ++ call ∷ []) new capacity larger
 found_more {u} {now} {new} {calls} {call} {capacity} {grown} {larger} r f s h = record {
   rest = λ more v x. let here = f.rest (call ∷ more) v (rw append_assoc at x) in

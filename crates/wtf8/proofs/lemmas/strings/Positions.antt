@@ -44,9 +44,8 @@ pub first-bytes_after : (front : List ℕ) (p : ℕ) (b : List ℕ)
 first-bytes_after front p b =
     let n = length (bytes front) in
     let start : n - n ≡ 0 = omega arith in
-    ap (λ w. get_or w n 0) (bytes-append front (p ∷ b))
-    ∙ (get_or-append_right (bytes front) (encoding p ++ bytes b) n n 0 refl (omega arith)
-    ∙ ap (λ k. get_or (encoding p ++ bytes b) k 0) start)
+    ap (λ w. get_or w n 0) (bytes-append front (p ∷ b)) ∙ (get_or-append_right (bytes front) (encoding p ++ bytes b) n n 0
+    refl (omega arith) ∙ ap (λ k. get_or (encoding p ++ bytes b) k 0) start)
 
 pub begins_after : (f b : List ℕ) → length (bytes f) < length (bytes (f ++ b)) → Begins (get_or (bytes (f ++ b)) (length (bytes f)) 0)
 begins_after f [] h = absurd (omega (arith, ap (λ c. length (bytes c)) (append-nil f)))
@@ -111,13 +110,11 @@ pub boundary_of : {w : List ℕ} (h : IsWellFormed w) (front back : List ℕ) (k
 boundary_of h front back k e n = record { front = front; back = back; splits = (cut_by h front back k e n).splits }
 
 pub points_before : {w v : List ℕ} (h : IsWellFormed w) (p : IsWellFormed v) (front back : List ℕ) (k : ℕ) → h.points ≡ front ++ back
-    → length (bytes front) ≡ k
-    → v ≡ take k w → p.points ≡ front
+    → length (bytes front) ≡ k → v ≡ take k w → p.points ≡ front
 points_before h p front back k e n d = same_points p (cut_by h front back k e n).before d
 
 pub points_after : {w v : List ℕ} (h : IsWellFormed w) (p : IsWellFormed v) (front back : List ℕ) (k : ℕ) → h.points ≡ front ++ back
-    → length (bytes front) ≡ k
-    → v ≡ drop k w → p.points ≡ back
+    → length (bytes front) ≡ k → v ≡ drop k w → p.points ≡ back
 points_after h p front back k e n d = same_points p (cut_by h front back k e n).after d
 
 -- the bytes before a position are the form of the units before it
@@ -171,8 +168,7 @@ shorter_is_prefix (p ∷ f) b (q ∷ g) d e n =
 
 -- the back of a front is the middle
 pub middle_of : {w v : List ℕ} (h : IsWellFormed w) (begin end : ℕ) (p : IsWellFormed v) {u : List ℕ}
-    → IsFront (units h.points) end (units p.points)
-    → IsBack (units p.points) begin u → IsMiddle (units h.points) begin end u
+    → IsFront (units h.points) end (units p.points) → IsBack (units p.points) begin u → IsMiddle (units h.points) begin end u
 middle_of h begin end p f b =
     let parts : b.front ++ b.back ≡ f.front = reads_same b.splits.reads (front_reads f) in
     record {
@@ -300,8 +296,7 @@ points_about c n s h =
           let joined : c ≡ cut.front ++ p ∷ rest = cut.joined ∙ ap (λ b. cut.front ++ b) e in
           let long : cursor < length (bytes c) =
           omega (arith, cut.front_len, ap (λ d. length (bytes d)) joined, length-bytes_append cut.front p rest, length-encoding_bounds p) in
-          let here : get_or (bytes c) cursor 0 ≡ get_or (encoding p ++ bytes rest) 0 0 =
-          ap (λ d. get_or (bytes d) cursor 0) joined
+          let here : get_or (bytes c) cursor 0 ≡ get_or (encoding p ++ bytes rest) 0 0 = ap (λ d. get_or (bytes d) cursor 0) joined
           ∙ (ap (λ k. get_or (bytes (cut.front ++ p ∷ rest)) k 0) (sym cut.front_len) ∙ first-bytes_after cut.front p rest) in
           omega (arith, next long, ap utf16_len here, utf16_len-encoding p (bytes rest));
     }

@@ -27,9 +27,8 @@ pub equal_views : EqualViewsHaveEqualUnits
 equal_views s t = equal_forms s.bytes.now t.bytes.now (view_units s) (view_units t) (view_form s) (view_form t)
 
 pub strings_joined : StringsAreJoined
-strings_joined s t both e n =
-    same_form both.bytes (s.bytes ++ t.bytes) both.units both.form (subst (IsForm (s.bytes ++ t.bytes)) (sym e)
-    (form_append-unpaired s.bytes t.bytes s.units t.units s.form t.form n))
+strings_joined s t both e n = same_form both.bytes (s.bytes ++ t.bytes) both.units both.form
+    (subst (IsForm (s.bytes ++ t.bytes)) (sym e) (form_append-unpaired s.bytes t.bytes s.units t.units s.form t.form n))
 
 pub strings_paired : StringsArePaired
 strings_paired s t both e m =
@@ -68,16 +67,14 @@ no_ascii_unit t b l h =
 module _ {T E : Type 0} where
   -- the length grows by at most the length of the appended form
   pub grows_at_most : (r : Result T E) (old : UnitString) {new u : List ℕ} (w v : List ℕ) → IsForm new u → IsForm w v
-      → OnOk r (u ≡ old.units ++ v)
-      → OnOk r (length new ≤ length old.bytes + length w)
+      → OnOk r (u ≡ old.units ++ v) → OnOk r (length new ≤ length old.bytes + length w)
   grows_at_most r old {new} w v form more ok =
       on_ok_weaker r (λ e. both_no_longer old.bytes w new old.units v old.form more (subst (IsForm new) e form)) ok
 
   -- the length by which a string grows if a view is appended
   pub added_length : (r : Result T E) (old new : UnitString) (other : Wtf8) → OnOk r (AppendsUnits old (view_units other) new)
       → OnOk r (AddsLength old other new)
-  added_length r old new other ok =
-      on_ok_weaker r (λ e.
+  added_length r old new other ok = on_ok_weaker r (λ e.
       let both = subst (IsForm new.bytes) e new.form in
       record {
         pair = length_paired old.bytes other.bytes.now new.bytes old.units (view_units other) old.form (view_form other) both;
@@ -198,8 +195,7 @@ run_once u (call ∷ calls) =
 
 -- after one more call the bytes that it reserved fit, and those reserved before it do unless it truncates
 pub reserved_more : {u now : List ℕ} {calls : List Build} {call : Build} {capacity larger : ℕ} (n : ℕ) → LeavesReserved u calls capacity
-    → Run u calls now n
-    → (IsNoTruncation call → capacity ≤ larger) → ((m : ℕ) → call ≡ Reserve m → FitWithin now m larger)
+    → Run u calls now n → (IsNoTruncation call → capacity ≤ larger) → ((m : ℕ) → call ≡ Reserve m → FitWithin now m larger)
     → LeavesReserved u (calls ++ call ∷ []) larger
 reserved_more {u} {now} {calls} {call} {capacity} {larger} n f ran grows here front back m v r e none run =
     elim (split_of_push calls call front (Reserve m) back e) [

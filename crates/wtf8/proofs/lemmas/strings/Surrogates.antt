@@ -20,13 +20,8 @@ surrogate_at f p b s =
     let at : (k : ℕ) → get_or (bytes (f ++ p ∷ b)) (length (bytes f) + k) 0 ≡ get_or (encoding p ++ bytes b) k 0 =
     λ k. ap (λ w. get_or w (length (bytes f) + k) 0) whole ∙ get_or-append-add (bytes f) (encoding p ++ bytes b) k 0 in
     record {
-      within = omega (
-        arith,
-        ap length whole,
-        length-append (bytes f) (encoding p ++ bytes b),
-        length-append (encoding p) (bytes b),
-        ap length row,
-      );
+      within = omega
+          (arith, ap length whole, length-append (bytes f) (encoding p ++ bytes b), length-append (encoding p) (bytes b), ap length row);
       first = ap (λ k. get_or (bytes (f ++ p ∷ b)) k 0) (omega arith) ∙ (at 0 ∙ (ap (λ w. get_or (w ++ bytes b) 0 0) row ∙ omega arith));
       second = omega (arith, at 1, ap (λ w. get_or (w ++ bytes b) 1 0) row);
     }
@@ -56,9 +51,8 @@ pub surrogate_in : (c : List ℕ) (i : ℕ) → SurrogateAt (bytes c) i → Surr
 surrogate_in c i s =
     let cut = split_at c i (omega (arith, s.within)) (λ _. record { start = inr (omega (arith, s.first)) }) in
     let whole : bytes c ≡ bytes cut.front ++ bytes cut.back = ap bytes cut.joined ∙ bytes-append cut.front cut.back in
-    let at : (k : ℕ) → get_or (bytes c) (i + k) 0 ≡ get_or (bytes cut.back) k 0 = λ k. ap (λ w. get_or w (i + k) 0) whole
-    ∙ (ap (λ n. get_or (bytes cut.front ++ bytes cut.back) (n + k) 0) (sym cut.front_len)
-    ∙ get_or-append-add (bytes cut.front) (bytes cut.back) k 0) in
+    let at : (k : ℕ) → get_or (bytes c) (i + k) 0 ≡ get_or (bytes cut.back) k 0 = λ k. ap (λ w. get_or w (i + k) 0) whole ∙ (ap (λ n. get_or
+    (bytes cut.front ++ bytes cut.back) (n + k) 0) (sym cut.front_len) ∙ get_or-append-add (bytes cut.front) (bytes cut.back) k 0) in
     let zero_there : i + 0 ≡ i = omega arith in
     let f =
     first_surrogate_in cut.back (omega (arith, s.within, cut.front_len, ap length whole, length-append (bytes cut.front) (bytes cut.back)))
@@ -68,13 +62,8 @@ surrogate_in c i s =
       point = f.point;
       back = f.back;
       joined = cut.joined ∙ (ap (λ b. cut.front ++ b) f.joined ∙ sym (append_assoc cut.front f.front (f.point ∷ f.back)));
-      front_len = omega (
-        arith,
-        ap length (bytes-append cut.front f.front),
-        length-append (bytes cut.front) (bytes f.front),
-        cut.front_len,
-        f.front_len,
-      );
+      front_len = omega
+          (arith, ap length (bytes-append cut.front f.front), length-append (bytes cut.front) (bytes f.front), cut.front_len, f.front_len);
       surrogate = f.surrogate;
     }
 
@@ -246,8 +235,7 @@ pub record AroundSurrogate (w : List ℕ) (front : List ℕ) (found : ℕ) (back
   pub within : found + 3 ≤ length w
 
 pub around_surrogate : (w front : List ℕ) (p : ℕ) (back : List ℕ) (found : ℕ) → w ≡ bytes (front ++ p ∷ back) → length (bytes front) ≡ found
-    → IsSurrogate p
-    → AroundSurrogate w front found back
+    → IsSurrogate p → AroundSurrogate w front found back
 around_surrogate w front p back found e n s =
     let three = length-surrogate p s in
     let whole : w ≡ bytes front ++ (encoding p ++ bytes back) = e ∙ bytes-append front (p ∷ back) in

@@ -115,8 +115,7 @@ pub too_few : {c : List ℕ} {n : ℕ} {cursor : UnitCursor} (x : PointsAbout c 
 too_few x m e = omega (arith, units_counted x, ap (λ b. length (units b)) e, x.not_beyond, m)
 
 pub cut_inside : {c : List ℕ} {n : ℕ} {cursor : UnitCursor} (x : PointsAbout c n cursor) (p : ℕ) (rest : List ℕ) → ¬ (cursor.units ≡ n)
-    → x.cut.back ≡ p ∷ rest
-    → CutsUnits c n cursor.position (Some p)
+    → x.cut.back ≡ p ∷ rest → CutsUnits c n cursor.position (Some p)
 cut_inside {c} {n} {cursor} x p rest m e =
     let more = x.holds p rest e in
     let least : cursor.units ≤ n = x.not_beyond in
@@ -178,8 +177,7 @@ pub divides_some : {c : List ℕ} {n k p : ℕ} → IsClean c → Divided c n k 
 divides_some {p} clean d =
     let range = IsCodePoint-divided clean d in
     meets_by (units d.front) (units d.rest) (lead_of p) (trail_of p) (omega (arith, range, d.large), omega (arith, range, d.large))
-    (omega (arith, range), omega (arith, range))
-    d.kept d.after
+    (omega (arith, range), omega (arith, range)) d.kept d.after
 
 -- `r` divides a pair after `n` units exactly if the whole does there, unless `n` is 0 and a lead ends `f`
 divides_whole : (f r : List ℕ) (n : ℕ) → (take n r ≡ [] → (g : List ℕ) (l : ℕ) → f ≡ g ++ l ∷ [] → ¬ (IsLead l))

@@ -39,8 +39,7 @@ abbrev pub cut_of : {w u : List ℕ} (h : IsWellFormed w) {k n : ℕ} → IsMark
 cut_of {w} {u} h {k} {n} m =
     let front = m.before.points in
     let back = m.after.points in
-    let whole : bytes (front ++ back) ≡ w =
-    bytes-append front back
+    let whole : bytes (front ++ back) ≡ w = bytes-append front back
     ∙ (ap (λ v. v ++ bytes back) m.before.encoded ∙ (ap (λ v. take k w ++ v) m.after.encoded ∙ take-append-drop k w)) in
     record {
       front = front;
@@ -62,8 +61,7 @@ counted_by x front back i m s (Some p) d =
     record { rest = d.rest; first = d.first; supplementary = d.supplementary; inside = omega (arith, units_by x front, d.inside, s) }
 
 pub cut_from_mark : {w v u : List ℕ} (h : IsWellFormed w) (rest : IsWellFormed v) {k n position : ℕ} (m : ℕ) (half : Option ℕ)
-    → IsMark w u k n → v ≡ drop k w → n ≤ m
-    → CutsUnits rest.points (m - n) position half → CutsUnits h.points m (k + position) half
+    → IsMark w u k n → v ≡ drop k w → n ≤ m → CutsUnits rest.points (m - n) position half → CutsUnits h.points m (k + position) half
 cut_from_mark h rest {k} {n} {position} m half mark e l y =
     let x = cut_of h mark in
     let after = points_after h rest x.front x.back k x.joined x.front_len e in
@@ -78,8 +76,7 @@ cut_from_mark h rest {k} {n} {position} m half mark e l y =
 -- a cut inside a pair is at the mark of one unit less
 pub mark_before_cut : {w : List ℕ} (h : IsWellFormed w) {k n p : ℕ} (m : ℕ) → m + 1 ≡ n → CutsUnits h.points n k (Some p)
     → IsMark w (units h.points) k m
-mark_before_cut h {k} m e x =
-    mark_at_cut h
+mark_before_cut h {k} m e x = mark_at_cut h
     (record { front = x.front; back = x.back; joined = x.joined; front_len = x.front_len; counted = omega (arith, x.counted.inside, e) })
 
 -- a mark is at a code point boundary
@@ -88,8 +85,7 @@ boundary_of_mark h {k} m = let x = cut_of h m in boundary_of h x.front x.back k 
 
 -- a boundary after a mark is a mark, with the units between the two and those before
 pub mark_after : {w : List ℕ} (h : IsWellFormed w) {k n end : ℕ} (v : List ℕ) → IsMark w (units h.points) k n
-    → IsMiddle (units h.points) k end v
-    → IsMark w (units h.points) end (n + length v)
+    → IsMiddle (units h.points) k end v → IsMark w (units h.points) end (n + length v)
 mark_after h {k} v m x =
     let own = cut_of h m in
     let splits = (cut_by h own.front own.back k own.joined own.front_len).splits in
@@ -124,8 +120,7 @@ mark_in_front w x u v k n f g h m =
     let before : IsForm (take k x) (take n u) = subst (IsForm (take k x)) first m.before in
     let rest = one_form (drop n u)
     (all_back (take n u) (drop n u) (subst (All IsUnit) (sym (take-append-drop n u)) (units_read f.points u f.reads))) in
-    let apart : ¬ (MeetsAsPair (take n u) (drop n u)) =
-    λ p. mark_divides_none x (u ++ v) k n g m
+    let apart : ¬ (MeetsAsPair (take n u) (drop n u)) = λ p. mark_divides_none x (u ++ v) k n g m
     (meets_by p.front (p.rest ++ v) p.lead p.trail p.is_lead p.is_trail (first ∙ p.ends) (others ∙ ap (λ d. d ++ v) p.begins)) in
     let both = form_append-unpaired (take k x) rest.one (take n u) (drop n u) before rest.has apart in
     let whole : w ≡ take k x ++ rest.one =
@@ -139,9 +134,8 @@ mark_in_front w x u v k n f g h m =
     }
 
 pub marks_stay_in_front : MarksStayInFront
-marks_stay_in_front w x u k m n g f l h mark =
-    mark_in_front w x (take n u) (drop n u) k m f (subst (IsForm x) (sym (take-append-drop n u)) g) (omega (arith, length-take-le n u h, l))
-    (subst (λ v. IsMark x v k m) (sym (take-append-drop n u)) mark)
+marks_stay_in_front w x u k m n g f l h mark = mark_in_front w x (take n u) (drop n u) k m f (subst (IsForm x) (sym (take-append-drop n u))
+    g) (omega (arith, length-take-le n u h, l)) (subst (λ v. IsMark x v k m) (sym (take-append-drop n u)) mark)
 
 -- the code points between two marks, by bytes and by units
 pub record Between (k l m n : ℕ) : Type 0 where
@@ -216,16 +210,14 @@ abbrev form_about : {u v : List ℕ} {k : ℕ} (b : IsFront u k v) → IsForm (b
 form_about b = record { points = b.front ++ b.back; reads = b.splits.reads; encoded = refl }
 
 pub front_is_first_units : (u v : List ℕ) (k : ℕ) → IsFront u k v → v ≡ take (length v) u
-front_is_first_units u v k b =
-    sym b.same_units ∙ sym (ap (take (length v)) (sym b.splits.reads.same_units ∙ units-append b.front b.back)
+front_is_first_units u v k b = sym b.same_units ∙ sym (ap (take (length v)) (sym b.splits.reads.same_units ∙ units-append b.front b.back)
     ∙ take_at (units b.front) (units b.back) (length v) (ap length b.same_units))
 
 pub boundary_divides_none : BoundariesDivideNoPair
 boundary_divides_none u v k b = mark_divides_none _ u k (length v) (form_about b) (boundary_is_mark _ u v k (form_about b) b)
 
 pub boundaries_in_order : BoundariesAreInOneOrder
-boundaries_in_order u v x k l a b =
-    marks_in_order _ u k l (length v) (length x) (form_about a) (boundary_is_mark _ u v k (form_about a) a)
+boundaries_in_order u v x k l a b = marks_in_order _ u k l (length v) (length x) (form_about a) (boundary_is_mark _ u v k (form_about a) a)
     (boundary_is_mark _ u x l (form_about a) b)
 
 pub same_front : EqualBoundariesHaveEqualFronts
@@ -244,12 +236,10 @@ divided_are_surrogates u n m =
     let whole : u ≡ (m.front ++ m.lead ∷ []) ++ m.trail ∷ m.rest =
     sym (take-append-drop n u) ∙ (ap (λ v. v ++ drop n u) m.ends ∙ ap (λ v. (m.front ++ m.lead ∷ []) ++ v) m.begins) in
     let before : n - 1 ≡ length m.front = omega (arith, front, length-append m.front (m.lead ∷ [])) in
-    let lead : get_or u (n - 1) 0 ≡ m.lead =
-    ap (λ k. get_or u k 0) before ∙ (ap (λ v. get_or v (length m.front) 0) (whole ∙ append_assoc m.front (m.lead ∷ []) (m.trail ∷ m.rest))
-    ∙ get_or-append_seam m.front m.lead (m.trail ∷ m.rest) 0) in
-    let trail : get_or u n 0 ≡ m.trail =
-    ap (λ k. get_or u k 0) (sym front) ∙ (ap (λ v. get_or v (length (m.front ++ m.lead ∷ [])) 0) whole
-    ∙ get_or-append_seam (m.front ++ m.lead ∷ []) m.trail m.rest 0) in (
+    let lead : get_or u (n - 1) 0 ≡ m.lead = ap (λ k. get_or u k 0) before ∙ (ap (λ v. get_or v (length m.front) 0)
+    (whole ∙ append_assoc m.front (m.lead ∷ []) (m.trail ∷ m.rest)) ∙ get_or-append_seam m.front m.lead (m.trail ∷ m.rest) 0) in
+    let trail : get_or u n 0 ≡ m.trail = ap (λ k. get_or u k 0) (sym front)
+    ∙ (ap (λ v. get_or v (length (m.front ++ m.lead ∷ [])) 0) whole ∙ get_or-append_seam (m.front ++ m.lead ∷ []) m.trail m.rest 0) in (
       omega (arith, front, length-append m.front (m.lead ∷ [])),
       inside,
       subst IsLead (sym lead) m.is_lead,
@@ -312,8 +302,7 @@ marks_stay w x u v k n f g l m =
     } in
     let same = same_form x (bytes (glue f.points more.has.points)) (u ++ v) g both in
     let units_len = ap length (ap units own.joined ∙ units-append own.front own.back) in
-    let nonempty : 0 < length own.back =
-    nonempty_from_units own.back
+    let nonempty : 0 < length own.back = nonempty_from_units own.back
     (omega (arith, units_len, length-append (units own.front) (units own.back), own.counted, ap length f.reads.same_units, l)) in
     let joined : glue f.points more.has.points ≡ own.front ++ glue own.back more.has.points =
     ap (λ c. glue c more.has.points) own.joined ∙ glue-append_left own.front own.back more.has.points nonempty in

@@ -57,9 +57,8 @@ pub DecodesRun-three_bytes : DecodesRun 3 (HasBitPrefix 16 14) unit_of_three
 DecodesRun-three_bytes = record {
   positive = omega arith;
   part = part;
-  local = λ b r le.
-      ap (λ x. (x % 16 * 64 + get_or (b ++ r) 1 0 % 64) * 64 + get_or (b ++ r) 2 0 % 64) (get_or_append_left b r 0 0 (omega arith))
-      ∙ (ap (λ y. (get_or b 0 0 % 16 * 64 + y % 64) * 64 + get_or (b ++ r) 2 0 % 64) (get_or_append_left b r 0 1 (omega arith))
+  local = λ b r le. ap (λ x. (x % 16 * 64 + get_or (b ++ r) 1 0 % 64) * 64 + get_or (b ++ r) 2 0 % 64) (get_or_append_left b r 0 0 (omega
+      arith)) ∙ (ap (λ y. (get_or b 0 0 % 16 * 64 + y % 64) * 64 + get_or (b ++ r) 2 0 % 64) (get_or_append_left b r 0 1 (omega arith))
       ∙ ap (λ z. (get_or b 0 0 % 16 * 64 + get_or b 1 0 % 64) * 64 + z % 64) (get_or_append_left b r 0 2 (omega arith)));
 }
   where
@@ -113,14 +112,12 @@ units_of_run-one_byte (suc k) (b ∷ w) e = ap (λ v. b ∷ v) (units_of_run-one
 
 -- the first `count` lanes of a decoded block are the next units if their lead bytes satisfy `P`
 pub begins_with_run : {P : ℕ → Type 0} (n c m : ℕ) (f : List ℕ → ℕ) → DecodesRun n P f
-    → (w : List ℕ) (count : ℕ) (first_byte_lanes block : List ℕ) → n * c ≤ m
-    → m ≤ length w → count ≤ c → first_byte_lanes ≡ lead_bytes_of n c (take m w) → block ≡ units_of_run n f c (take m w)
-    → Each1 P (take count first_byte_lanes)
+    → (w : List ℕ) (count : ℕ) (first_byte_lanes block : List ℕ) → n * c ≤ m → m ≤ length w → count ≤ c
+    → first_byte_lanes ≡ lead_bytes_of n c (take m w) → block ≡ units_of_run n f c (take m w) → Each1 P (take count first_byte_lanes)
     → BeginsWithUnits w (take count block) (n * count)
 begins_with_run {P} n c m f rows w count first_byte_lanes block wide long le e g each h =
-    let after = units_then_rest n f rows c count
-    (n * count) w (take m w) (drop m w) h (sym (take-append-drop m w)) (omega (arith, wide, long, length-take m w)) refl le
-    (subst (λ v. Each1 P (take count v)) e each) in
+    let after = units_then_rest n f rows c count (n * count) w (take m w) (drop m w) h (sym (take-append-drop m w))
+    (omega (arith, wide, long, length-take m w)) refl le (subst (λ v. Each1 P (take count v)) e each) in
     (after.rest, after.whole ∙ ap (λ b. take count b ++ units after.rest.points) (sym g))
 
 -- the same of ASCII: the bytes are their own lead bytes and units

@@ -37,10 +37,8 @@ some_units g c =
     let rest = ap (λ s. iter_rest (copied_source s)) c.decode_utf16-item-items.ensures.source ∙ ap iter_rest c.copied.ensures.source
     ∙ c.iter.ensures.rest in
     no_item c.args.v.now c.args.from.at c.loop-item.yielded c.decode_utf16-item-items.result c.loop-item.item-iterator c.next.new.self
-    c.in-Some.item
-    c.decode_utf16-item-items.ensures.peeked rest
-    (subst (λ s. Yields (decode_steps (copied_steps iter_steps)) s c.loop-item.yielded c.loop-item.item-iterator) same
-    c.loop-item.yielded_by) c.in-Some.ensures.steps
+    c.in-Some.item c.decode_utf16-item-items.ensures.peeked rest (subst (λ s. Yields (decode_steps (copied_steps iter_steps)) s
+    c.loop-item.yielded c.loop-item.item-iterator) same c.loop-item.yielded_by) c.in-Some.ensures.steps
 
 pub returns-in_err-append-in-Ok-clause-empty : goal.returns-in_err-append-in-Ok-clause-empty
 returns-in_err-append-in-Ok-clause-empty g c none =

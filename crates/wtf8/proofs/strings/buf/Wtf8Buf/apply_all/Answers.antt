@@ -15,8 +15,7 @@ use Rattle.wtf8.proofs.strings.buf.Wtf8Buf.apply_all.Goals as goal
 
 -- a run with one more call
 run_more : (u : List ℕ) (calls : List Build) (mid : List ℕ) (n : ℕ) (call : Build) (v : List ℕ) (r : ℕ) → Run u calls mid n
-    → Step mid call v r
-    → Run u (calls ++ call ∷ []) v (n + r)
+    → Step mid call v r → Run u (calls ++ call ∷ []) v (n + r)
 run_more u [] mid n call v r x s = (v, r, 0, subst (λ m. Step m call v r) x.0 s, (refl, refl), omega (arith, x.1))
 run_more u (c ∷ calls) mid n call v r x s = (x.0, x.1, x.2 + r, x.3, run_more x.0 calls mid x.2 call v r x.4 s, omega (arith, x.5))
 

@@ -13,6 +13,5 @@ returns g c =
     let own = c.self.inside in
     let same = c.deref.ensures.value in
     subst (λ w. IsFirst (SurrogateAt w) 0 c.next_surrogate.result) (same ∙ ap (λ (t : UnitString). t.bytes) c.self.view_is)
-    (first_further (SurrogateAt c.deref.result.now) own.utf8_prefix.len c.next_surrogate.result
-    (λ i l at. none_before own.utf8_prefix.len own.well_formed i own.scalar_prefix l (subst (λ w. SurrogateAt w i) same at))
-    c.next_surrogate.ensures)
+    (first_further (SurrogateAt c.deref.result.now) own.utf8_prefix.len c.next_surrogate.result (λ i l at. none_before own.utf8_prefix.len
+    own.well_formed i own.scalar_prefix l (subst (λ w. SurrogateAt w i) same at)) c.next_surrogate.ensures)

@@ -8,9 +8,8 @@ pub invariant_of-self-inside : goal.invariant_of-self-inside
 invariant_of-self-inside g c =
     let own = c.self.inside in
     let call = c.push in
-    utf8_prefix_after_push call.result
-    (number c.args.code_point) own.utf8_prefix.len _ own.well_formed c.args.code_point.in_range own.scalar_prefix call.ensures.order
-    call.ensures.scalar call.ensures.extends
+    utf8_prefix_after_push call.result (number c.args.code_point) own.utf8_prefix.len _ own.well_formed c.args.code_point.in_range
+    own.scalar_prefix call.ensures.order call.ensures.scalar call.ensures.extends
 
 pub returns-clause-ok : goal.returns-clause-ok
 returns-clause-ok g c = units_appended _ _ c.self-1.given.0 c.self.view_is refl c.push.ensures.extends
@@ -19,16 +18,14 @@ pub returns-clause-kept : goal.returns-clause-kept
 returns-clause-kept g c = kept_contents _ _ _ c.self.view_is refl refl c.push.ensures.extends
 
 pub returns-clause-one_unit : goal.returns-clause-one_unit
-returns-clause-one_unit g c low =
-    on_ok_weaker c.push.result
+returns-clause-one_unit g c low = on_ok_weaker c.push.result
     (λ e. e ∙ ap (λ u. c.args.self.now.units ++ u) (units_one (number c.args.code_point) low)) (returns-clause-ok g c)
 
 pub returns-clause-room : goal.returns-clause-room
 returns-clause-room g c = room_found _ _ c.self.view_is refl refl c.push.ensures.extends
 
 pub returns-clause-at_most : goal.returns-clause-at_most
-returns-clause-at_most g c =
-    grows_at_most c.push.result c.args.self.now _ _ (form_of c.self-1.given.0)
+returns-clause-at_most g c = grows_at_most c.push.result c.args.self.now _ _ (form_of c.self-1.given.0)
     (point_form (number c.args.code_point) c.args.code_point.in_range) (returns-clause-ok g c)
 
 pub returns-clause-room_left : goal.returns-clause-room_left

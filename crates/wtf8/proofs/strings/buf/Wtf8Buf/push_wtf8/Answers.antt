@@ -44,6 +44,5 @@ pub returns-clause-room_left : goal.returns-clause-room_left
 returns-clause-room_left g c h = returns-clause-room g c (room_left c.args.self.now _ (view_units c.args.other) (view_form c.args.other) h)
 
 pub returns-clause-nothing : goal.returns-clause-nothing
-returns-clause-nothing g c e =
-    nothing_appended c.push_wtf8.result _ _ _ (ap units (points-nil c.args.other.well_formed (ap length e))) (returns-clause-ok g c)
-    (returns-clause-kept g c)
+returns-clause-nothing g c e = nothing_appended c.push_wtf8.result _ _ _ (ap units (points-nil c.args.other.well_formed (ap length e)))
+    (returns-clause-ok g c) (returns-clause-kept g c)

@@ -15,8 +15,7 @@ from_utf8_unchecked-requires g c =
     (utf8_lossy_points h.points h.clean)
 
 pub returns-clause-text : goal.returns-clause-text
-returns-clause-text g c =
-    ap (λ v. v.items) c.from_utf8_unchecked.ensures.value
+returns-clause-text g c = ap (λ v. v.items) c.from_utf8_unchecked.ensures.value
     ∙ c.replace_surrogates.ensures (IsWellFormed-equal_bytes c.args.self.now.well_formed c.in_ok-bytes.ensures.items)
 
 pub returns-in-Some-clause-len : goal.returns-in-Some-clause-len
@@ -25,6 +24,5 @@ returns-in-Some-clause-len g c = ap length c.in-Some.ensures.bytes
 pub returns-clause-len : goal.returns-clause-len
 returns-clause-len g c =
     let h = c.args.self.now.well_formed in
-    ap (λ v. length v.items) c.from_utf8_unchecked.ensures.value
-    ∙ (ap length (c.replace_surrogates.ensures (IsWellFormed-equal_bytes h c.in_ok-bytes.ensures.items))
-    ∙ (length-lossy_points h.points ∙ ap length h.encoded))
+    ap (λ v. length v.items) c.from_utf8_unchecked.ensures.value ∙ (ap length (c.replace_surrogates.ensures
+    (IsWellFormed-equal_bytes h c.in_ok-bytes.ensures.items)) ∙ (length-lossy_points h.points ∙ ap length h.encoded))
