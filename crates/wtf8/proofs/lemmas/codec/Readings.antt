@@ -183,8 +183,7 @@ points_of_units-cons p [] x e = refl
 points_of_units-cons p (q ∷ d) x e = elim (cases_lt q 0x10000) [
   | inl h ↦ rw (units-cons_one q d h, is_pair-false p q x.1) (ap (λ r. p ∷ r) (rw (units-cons_one q d h) at e))
   | inr h ↦
-      let range = clean-first q d x.2 in
-      rw (units-cons_two q d h, is_pair-false p (lead_of q) (λ m. omega (arith, range, m.1)))
+      rw (units-cons_two q d h, is_pair-false p (lead_of q) (λ m. omega (arith, clean-first q d x.2, m.1)))
       (ap (λ r. p ∷ r) (rw (units-cons_two q d h) at e))
 ]
 
@@ -269,11 +268,9 @@ pub Taken-from_first : (v : List ℕ) (at : ℕ) (h : IsWellFormed (drop at v)) 
 Taken-from_first v at h p next long read =
     let f = first_of h (omega (arith, length-drop at v)) in
     let was = read f.0 in
-    let back : drop next v ≡ drop (length (encoding f.0.point)) (drop at v) =
-    ap (λ k. drop k v) was.1 ∙ sym (drop-drop (length (encoding f.0.point)) at v) in
     record {
       within = omega (arith, was.1, f.1.within, length-drop at v, long);
-      rest = IsWellFormed-equal_bytes f.1.rest back;
+      rest = IsWellFormed-equal_bytes f.1.rest (ap (λ k. drop k v) was.1 ∙ sym (drop-drop (length (encoding f.0.point)) at v));
       joined = f.1.joined ∙ ap (λ q. q ∷ f.1.rest.points) (sym was.0);
     }
 

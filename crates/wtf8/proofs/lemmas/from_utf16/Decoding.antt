@@ -18,7 +18,6 @@ use Rattle.wtf8.specs.private.Decoding.{DecodesItem}
 use Rattle.wtf8.specs.declared.from_utf16.decode.DecodeUtf16.{DecodeUtf16}
 use Rattle.wtf8.specs.private.ConvertedPrefix.{IsReadTo}
 use Rattle.wtf8.proofs.lemmas.codec.Encoding.{bytes-append}
-use Rattle.wtf8.proofs.lemmas.codec.Scalars.{scalar-append}
 use Rattle.wtf8.proofs.lemmas.from_utf16.Transcode.{IsKnownForm-append, DividesNoPair-after_no_lead}
 use Rattle.wtf8.proofs.lemmas.codec.Readings.{units_one, units_pair, unpaired-nil_right, unpaired-before_no_trail}
 
@@ -82,8 +81,7 @@ module _ {S : Type 0} (steps : S → Option ℕ → S → Type 0) where
   lone_lead : (s : Ahead S ℕ) (q : ℕ) (d : List ℕ) → IsSomeAnd (peekable_peeked s) (λ o. IfSome o (λ u. ¬ (IsTrail u)))
       → Drains (peekable_steps steps) s (units (q ∷ d)) → ¬ (IsTrail q)
   lone_lead s q d lone drains trail =
-      let front : units (q ∷ d) ≡ q ∷ units d = ap (λ u. u ++ units d) (units_one q (omega (arith, trail))) in
-      let first = subst (λ u. Drains (peekable_steps steps) s u) front drains in
+      let first = subst (λ u. Drains (peekable_steps steps) s u) (ap (λ u. u ++ units d) (units_one q (omega (arith, trail)))) drains in
       yielded_no_trail (peekable_peeked s) _ _ q lone first.1.1.1.1 trail
 
   pub record ReadsLeft (s : Ahead S ℕ) (items : List (Result ℕ ℕ)) : Type 0 where
@@ -171,9 +169,8 @@ pub slice_left-yields : (us : List ℕ) (s t : PeekableUnits) → peekable_peeke
 slice_left-yields [] s t n y = (ap slice_left y, ap peekable_peeked (sym y) ∙ n)
 slice_left-yields (x ∷ us) s t n y =
     let m = y.0 in
-    let here = unit_left (peekable_source s) (peekable_source m) (Some x) (unpeeked_call steps s m (Some x) n y.1.1) in
     let r = slice_left-yields us m t y.1.0 y.2 in
-    (here ∙ ap (λ w. x ∷ w) r.0, r.1)
+    (unit_left (peekable_source s) (peekable_source m) (Some x) (unpeeked_call steps s m (Some x) n y.1.1) ∙ ap (λ w. x ∷ w) r.0, r.1)
 
 -- the number of units of a code point
 pub length-units_of : (p n : ℕ) → (p < 0x10000 → n ≡ 1) → (0x10000 ≤ p → n ≡ 2) → n ≡ length (units_of p)
@@ -238,10 +235,9 @@ pub IsFirstRead-pair : (v : List ℕ) (at : ℕ) → at + 1 < length v → IsLea
 IsFirstRead-pair v at l lead trail =
     let count : at + 2 - at ≡ 2 = omega arith in
     let next : suc (at + 1) ≡ at + 2 = omega arith in
-    let first : drop at v ≡ get_or v at 0 ∷ drop (at + 1) v = drop_more v at 0 (omega (arith, l)) in
     let second : drop (at + 1) v ≡ get_or v (at + 1) 0 ∷ drop (at + 1 + 1) v = drop_more v (at + 1) 0 l in
     let whole : take (at + 2 - at) (drop at v) ≡ get_or v at 0 ∷ get_or v (at + 1) 0 ∷ [] =
-    ap (λ k. take k (drop at v)) count ∙ ap (take 2) (first ∙ ap (λ w. get_or v at 0 ∷ w) second) in
+    ap (λ k. take k (drop at v)) count ∙ ap (take 2) (drop_more v at 0 (omega (arith, l)) ∙ ap (λ w. get_or v at 0 ∷ w) second) in
     record {
       within = omega (arith, l);
       divides_no_pair = subst (DividesNoPair v) next (DividesNoPair-after_no_lead v (at + 1) l (λ k. omega (arith, k.1, trail.0)));
@@ -293,11 +289,6 @@ encoded_item w {now} {new} items x {p} before added same =
     added ∙ ap (λ b. b ++ encoding p) before ∙ append_assoc w (bytes (points_of_items items)) (encoding p) ∙ ap (λ b. w ++ b)
     (ap (λ b. bytes (points_of_items items) ++ b) (ap encoding (sym same) ∙ sym (append-nil (encoding (point_of_item x))))
     ∙ sym (bytes-append (points_of_items items) (point_of_item x ∷ [])) ∙ ap bytes (sym (map-append point_of_item items (x ∷ []))))
-
-pub scalar_item : (items : List (Result ℕ ℕ)) (x : Result ℕ ℕ) → AreScalar (points_of_items items) → ¬ (IsSurrogate (point_of_item x))
-    → AreScalar (points_of_items (items ++ x ∷ []))
-scalar_item items x before not_surrogate = subst AreScalar (sym (map-append point_of_item items (x ∷ [])))
-    (scalar-append (points_of_items items) (point_of_item x ∷ []) before (not_surrogate, tt))
 
 -- the form of all units: the bytes so far, and the encodings of the decoder's items for the rest
 pub rest_read : {w new u : List ℕ} {at : ℕ} {known more : Bool} (items : List (Result ℕ ℕ)) (iter : Copied (Iter ℕ)) → IsReadTo w u at known

@@ -304,9 +304,8 @@ lone_lane x t = top 15 (bit_xor (cond (eqb (x / 2048) 27) 0xFFFF 0) (bit_or (lea
 
 lone_lane-tagged : (x : ℕ) → IsSurrogate x → lone_lane x (x + 0x10000) ≡ true
 lone_lane-tagged x s =
-    let kind = eq-eqb (x / 2048) 27 (omega (arith, s)) in
     rw (
-      kind,
+      eq-eqb (x / 2048) 27 (omega (arith, s)),
       le-ltb (x + 0x10000) 0xD800 (omega (arith, s)),
       le-ltb (x + 0x10000) 0xDC00 (omega (arith, s)),
       le-ltb (x + 0x10000) 0xE000 (omega (arith, s)),
@@ -357,19 +356,13 @@ units-from_lone_mask u l f = units-from_zero_mask (pair_lead_lanes u) (pair_trai
 
 -- The candidate bytes as 8-bit lanes, four units at a time, and the table index of their lengths.
 
-second_byte_bound : (b x : ℕ) → second_byte b x < 256
-second_byte_bound b x = grind (arith, nat_tests)
-
 pub second_bytes_fit : (P : ℕ → Type 0) → ((x : ℕ) → x < 256 → P x) → (b u : List ℕ) → Each1 P (zip2 second_byte b u)
 second_bytes_fit P h [] u = tt
 second_bytes_fit P h (y ∷ b) [] = tt
-second_bytes_fit P h (y ∷ b) (x ∷ u) = (h _ (second_byte_bound y x), second_bytes_fit P h b u)
-
-last_byte_bound : (x : ℕ) → last_byte x < 256
-last_byte_bound x = grind (arith, nat_tests)
+second_bytes_fit P h (y ∷ b) (x ∷ u) = (h _ (grind (arith, nat_tests)), second_bytes_fit P h b u)
 
 pub last_bytes_fit : (P : ℕ → Type 0) → ((x : ℕ) → x < 256 → P x) → (u : List ℕ) → Each1 P (map last_byte u)
-last_bytes_fit P h = Each1-map_all P last_byte (λ x. h _ (last_byte_bound x))
+last_bytes_fit P h = Each1-map_all P last_byte (λ x. h _ (grind (arith, nat_tests)))
 
 -- a unit that takes three bytes takes more than one
 byte_count_bits_bound : (n : ℕ) → (three_byte_bit n ≤ multi_byte_bit n) × (multi_byte_bit n ≤ 1)
@@ -428,10 +421,6 @@ three_byte_flag-byte_count n =
     let counts = byte_count_bits_bound n in
     flag_is_set-bit (three_byte_bit n) (omega (arith, counts.0, counts.1)) ∙ omega (arith, counts.0, counts.1)
 
-number_l-sixteen : (a b c d e f g h i j k l m n o p : ℕ) → number_l 2 (a ∷ b ∷ c ∷ d ∷ e ∷ f ∷ g ∷ h ∷ i ∷ j ∷ k ∷ l ∷ m ∷ n ∷ o ∷ p ∷ [])
-    ≡ (a + b * 2 + c * 4 + d * 8 + (e + f * 2 + g * 4 + h * 8) * 16) + 256 * (i + j * 2 + k * 4 + l * 8 + (m + n * 2 + o * 4 + p * 8) * 16)
-number_l-sixteen a b c d e f g h i j k l m n o p = omega arith
-
 mask_l-number_l : (bs : List Bool) → mask_l bs ≡ number_l 2 (map (λ b. cond b 1 0) bs)
 mask_l-number_l [] = refl
 mask_l-number_l (b ∷ bs) = ap (λ n. cond b 1 0 + 2 * n) (mask_l-number_l bs)
@@ -440,8 +429,7 @@ pub mask_l-table_indexes : (u m n : List ℕ) → length u ≡ 8 → m ≡ map (
     → mask_l (flags_set m n) % 2 ^ 64 ≡ units_table_index (take 4 u) + 256 * units_table_index (drop 4 u)
 mask_l-table_indexes u m n long x y = mask_l-mod (flags_set m n) 64 (omega arith) ∙ mask_l-number_l (flags_set m n)
     ∙ rw (x, y) (of_eight (λ u. number_l 2 (map (λ b. cond {A = ℕ} b 1 0) (flags_set (map (flag_from 0x80) u) (map three_byte_flag u)))
-    ≡ units_table_index (take 4 u) + 256 * units_table_index (drop 4 u)) u long (ap (number_l 2) listed ∙ number_l-sixteen (one 0) (one 1)
-    (one 2) (one 3) (two 0) (two 1) (two 2) (two 3) (one 4) (one 5) (one 6) (one 7) (two 4) (two 5) (two 6) (two 7)))
+    ≡ units_table_index (take 4 u) + 256 * units_table_index (drop 4 u)) u long (ap (number_l 2) listed ∙ omega arith))
   where
     one : ℕ → ℕ
     one k = byte_count (get_or u k 0) / 2

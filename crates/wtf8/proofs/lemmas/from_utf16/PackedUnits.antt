@@ -111,9 +111,6 @@ take-tagged_units (suc (suc k)) b (x ∷ y ∷ u) a = ap (λ t. tagged b x y ∷
 
 -- The piece of a unit, by its range.
 
-pub packed_unit-one_byte : (b x : ℕ) → x < 0x80 → packed_unit b x ≡ x ∷ []
-packed_unit-one_byte b x h = rw (lt-ltb x 0x80 h, lt-ltb x 0x800 (omega (arith, h)), lt-ltb x 0xD800 (omega (arith, h))) refl
-
 pub packed_unit-two_bytes : (b x : ℕ) → 0x80 ≤ x → x < 0x800 → packed_unit b x ≡ (0xC0 + x / 64) ∷ (0x80 + x % 64) ∷ []
 packed_unit-two_bytes b x l h =
     let few : x / 64 % 64 ≡ x / 64 = omega (arith, h) in
@@ -189,7 +186,7 @@ take-written_block block row rest n l bound h =
 -- the piece of a unit that is no surrogate is its encoding
 encoding-packed_unit : (b x : ℕ) → x < 0x10000 → ¬ (IsSurrogate x) → encoding x ≡ packed_unit b x
 encoding-packed_unit b x h n = elim (cases_lt x 0x80) [
-  | inl l ↦ encoding_one x l ∙ sym (packed_unit-one_byte b x l)
+  | inl l ↦ encoding_one x l ∙ sym (rw (lt-ltb x 0x80 l, lt-ltb x 0x800 (omega (arith, l)), lt-ltb x 0xD800 (omega (arith, l))) refl)
   | inr k ↦ elim (cases_lt x 0x800) [
     | inl l ↦ encoding_two x k l ∙ sym (packed_unit-two_bytes b x k l)
     | inr m ↦ elim (cases_lt x 0xD800) [
@@ -284,10 +281,9 @@ packed_units-form b (x ∷ y ∷ u) a known f first last units = elim (scalar_le
   | inr s ↦ elim s [
     | inl l ↦ elim (trail_or_not y) [
       | inl t ↦
-          let z = tagged x y (get_or u 0 a) in
           let not_lead : ¬ (IsLead y) = λ k. omega (arith, k.1, t.0) in
           let rest = packed_units-form y u a known f.1.1 (λ k. not_lead k.0) last (λ k. (units k).1.1) in
-          subst (λ w. IsKnownForm (packed_units b (w ∷ z ∷ tagged_units y u a)) (x ∷ y ∷ u) known)
+          subst (λ w. IsKnownForm (packed_units b (w ∷ (tagged x y (get_or u 0 a)) ∷ tagged_units y u a)) (x ∷ y ∷ u) known)
           (sym (tagged-lead_before_trail b x y l t))
           (subst (λ w. IsKnownForm (packed_units b (x ∷ w ∷ tagged_units y u a)) (x ∷ y ∷ u) known)
           (sym (tagged-trail_after_lead x y (get_or u 0 a) t l))
@@ -359,11 +355,10 @@ packed_units-read w kept {bytes} {u} {at} {known} {more} k x within fits taken u
           block_read w kept k x (omega (arith, t.0)) within fits units
           (subst (DividesNoPair u) end (DividesNoPair-after_no_lead u (at + 7) (omega (arith, within)) no_lead)) (λ l. last l.0) e
       | inr t ↦
-          let lead : IsLead (get_or u (at + 7) 0) = subst IsLead here t.1 in
           let back : drop (at + k) u ≡ get_or u (at + 7) 0 ∷ drop (at + 7 + 1) u =
           ap (λ k. drop (at + k) u) t.0 ∙ drop_more u (at + 7) 0 (omega (arith, within)) in
           let divides : DividesNoPair u (at + k) = subst (λ d. ¬ (MeetsAsPair (take (at + k) u) d)) (sym back)
-          (unpaired-before_no_trail (get_or u (at + 7) 0) (drop (at + 7 + 1) u) (λ l. omega (arith, l.0, lead.1))) in
+          (unpaired-before_no_trail (get_or u (at + 7) 0) (drop (at + 7 + 1) u) (λ l. omega (arith, l.0, (subst IsLead here t.1).1))) in
           let next : get_or eight k 0xDC00 ≡ get_or eight 7 0 =
           ap (λ k. get_or eight k 0xDC00) t.0 ∙ get_or_default_zero eight 7 0xDC00 (omega (arith, whole)) in
           block_read w kept k x (omega (arith, t.0)) within fits units divides (λ l. omega (arith, next, l.1.0, t.1.1)) e

@@ -68,14 +68,13 @@ pub IsReadTo-append : {w new u part : List ℕ} {at end : ℕ} {known more : Boo
 IsReadTo-append {w} {new} {u} {part} {at} {end} {known} {more} x order within divides_no_pair after form =
     let back = take (end - at) (drop at u) in
     let count : end ≡ at + (end - at) = omega (arith, order) in
-    let both : take end u ≡ take at u ++ back = ap (λ k. take k u) count ∙ take-add at (end - at) u in
     let whole = IsKnownForm-append w part (take at u) back known more
     (known && more) x.form form (λ m. x.divides_no_pair (MeetsAsPair-take (take at u) (drop at u) (end - at) m)) (and_parts known more) in
     record {
       within = within;
       divides_no_pair = divides_no_pair;
       form = subst (λ z. IsKnownForm z (take end u) (known && more)) (sym after)
-          (subst (λ z. IsKnownForm (w ++ part) z (known && more)) (sym both) whole);
+          (subst (λ z. IsKnownForm (w ++ part) z (known && more)) (sym (ap (λ k. take k u) count ∙ take-add at (end - at) u)) whole);
     }
 
 -- the first `k` of `n` units, with no lone surrogate and no lead at their end, are encoded after their form was appended

@@ -64,9 +64,8 @@ order_of_lengths [] (y ∷ v) h = cmp_less 0 (length (y ∷ v)) (omega arith)
 order_of_lengths (x ∷ w) [] h = cmp_greater (length (x ∷ w)) 0 (omega arith)
 order_of_lengths (x ∷ w) (y ∷ v) h = elim (cases_order x y) [
   | inl e ↦
-      let rest = order_of_lengths w v (λ j _ l. h (suc j) (omega arith) (omega arith)) in
       let longer : nat_cmp (suc (length w)) (suc (length v)) ≡ nat_cmp (length w) (length v) = grind (arith, nat_tests) in
-      longer ∙ (rest ∙ rw e (sym (cmp-append_left (y ∷ []) w v)))
+      longer ∙ (order_of_lengths w v (λ j _ l. h (suc j) (omega arith) (omega arith)) ∙ rw e (sym (cmp-append_left (y ∷ []) w v)))
   | inr n ↦ absurd (h 0 (omega arith) (omega arith) (λ e. omega (arith, n, e)))
 ]
 

@@ -30,8 +30,7 @@ pub absent_units : (table : List UnitString) (s : UnitString) (i : ℕ) → IsSo
 absent_units table s i sorted result =
     let parts = result (searchable_from_sorted nat_list_cmp_total (λ t. t.bytes) table s.bytes sorted) in
     λ k d l e.
-    let there = slice_index_or table k d in
-    let equal = (equal_buffers_compare there s).1 e in
+    let equal = (equal_buffers_compare (slice_index_or table k d) s).1 e in
     elim (cases_lt k i) [
       | inl m ↦ absurd (false≢true (ap is_eq (sym (parts.0 k d (omega arith) m) ∙ equal)))
       | inr m ↦ absurd (false≢true (ap is_eq (sym (parts.1 k d m l) ∙ equal)))

@@ -13,7 +13,6 @@ use Rattle.wtf8.proofs.lemmas.codec.Readings.{clean-append, clean-front, clean-r
 use Rattle.wtf8.proofs.lemmas.codec.Readings.{MeetsAsPair-cons, meets_or_not, unpaired-nil_right, unpaired-after_no_lead}
 use Rattle.wtf8.proofs.lemmas.codec.Readings.{unpaired-before_no_trail, same_reading, units_one, units_pair, same_form, trail_first}
 use Rattle.wtf8.proofs.lemmas.codec.Readings.{lead_of, trail_of, units_two, units-pushed, clean-first, form_of, units_from_form}
-use Rattle.wtf8.proofs.lemmas.codec.Readings.{form_append-unpaired}
 
 -- Lists of any kind: the last item, and the item at an index.
 
@@ -88,14 +87,12 @@ clean-glue c d x y = elim (meets_or_not c d) [
   | inr n ↦ subst IsClean (sym (glue-unpaired c d n)) (clean-append c d x y n)
 ]
 
-units-paired : (p q : ℕ) (d : List ℕ) → IsLead p → IsTrail q → units (pair p q ∷ d) ≡ units (p ∷ []) ++ units (q ∷ d)
-units-paired p q d h k = simp (units_pair p q h k, units_one p (omega arith), units_one q (omega arith))
-
 pub units-glue : (c d : List ℕ) → units (glue c d) ≡ units c ++ units d
 units-glue [] d = refl
 units-glue (p ∷ []) [] = sym (append-nil (units (p ∷ [])))
 units-glue (p ∷ []) (q ∷ d) = elim (cases_Bool (is_pair p q)) [
-  | inl e ↦ let h = surrogates_from_is_pair p q e in rw e (units-paired p q d h.0 h.1)
+  | inl e ↦ let h =
+      surrogates_from_is_pair p q e in rw e (simp (units_pair p q h.0 h.1, units_one p (omega arith), units_one q (omega arith)))
   | inr e ↦ rw e (ap (λ u. u ++ units (q ∷ d)) (sym (append-nil (units_of p))))
 ]
 units-glue (p ∷ q ∷ c) d = ap (λ u. units_of p ++ u) (units-glue (q ∷ c) d) ∙ sym (append_assoc (units_of p) (units (q ∷ c)) (units d))
@@ -209,11 +206,6 @@ length_paired w v z a b x y f m =
     let s = meeting_bytes (points_meet x.reads y.reads m) x.encoded y.encoded in
     let same = same_form z (paired_bytes w m.lead m.trail v) (a ++ b) f (form_paired w v a b x y m) in
     ap (λ e. length e + 2) same ∙ length-paired_bytes w v m.lead m.trail m.is_lead m.is_trail s.three s.three_after
-
-pub length_append-unpaired : (w v z a b : List ℕ) → IsForm w a → IsForm v b → IsForm z (a ++ b) → ¬ (MeetsAsPair a b)
-    → length z ≡ length w + length v
-length_append-unpaired w v z a b x y f n =
-    ap length (same_form z (w ++ v) (a ++ b) f (form_append-unpaired w v a b x y n)) ∙ length-append w v
 
 -- Proofs of the laws of readings and forms: they exist, and each is the only one.
 

@@ -3,7 +3,7 @@ use Rattle.wtf8.proofs.Common.{◌≡◌, ◌+◌, ◌-◌, ◌≤◌, List, [],
 use Rattle.wtf8.proofs.Common.{sym, subst, arith, append-nil, drop_all, units, units_of, pair, IsLead, IsTrail, IsCodePoint, UnitString}
 use Rattle.wtf8.proofs.Common.{KeepsContents, MeetsAsPair, encoding, IsWellFormed, IsForm, ExtendsForm, ExtendsFormOrKeeps, inl, inr, true}
 use Rattle.wtf8.proofs.Common.{chars, IsUtf8, scalars-chars, and_parts, scalar, scalars, IsSurrogate, IsClean, bytes_are_encodes, AreScalar}
-use Rattle.wtf8.proofs.Common.{append_assoc, length-append, All, map-append, take_at, drop_at, All-drop, All-same, Step, EachCallFits}
+use Rattle.wtf8.proofs.Common.{append_assoc, length-append, All, take_at, drop_at, All-drop, All-same, Step, EachCallFits}
 use Rattle.wtf8.proofs.Common.{Build, Truncate, TruncateUnits, number, numbers, glue, IsUnit, bytes, ◌<◌, cases_lt, append_cancel_left}
 use Rattle.wtf8.proofs.Common.{SurrogateAt, on_ok_weaker, vec_capacity, length-map, All-take, encodes-chars, on_err_weaker, IsOk}
 use Rattle.wtf8.proofs.Common.{HasRoomFor, CallFits, CodePoint, AreScalarTo}
@@ -11,7 +11,7 @@ use lib.Utf8.{scalar_cases}
 use Rattle.std.specs.declared.vec.Vec.{Vec}
 use Rattle.wtf8.proofs.lemmas.codec.Encoding.{length-surrogate, length-encoding_bounds, length-bytes_append, encoding_four}
 use Rattle.wtf8.proofs.lemmas.codec.Readings.{meets_by, form_of, well_formed_of, same_form, units_from_form, IsWellFormed-equal_bytes}
-use Rattle.wtf8.proofs.lemmas.codec.Readings.{same_reading, same_points, units-append, cons-equal_parts, meets_or_not, units_one}
+use Rattle.wtf8.proofs.lemmas.codec.Readings.{same_reading, same_points, cons-equal_parts, meets_or_not, units_one}
 use Rattle.wtf8.proofs.lemmas.codec.Readings.{lists_have_lengths, form-append}
 use Rattle.wtf8.proofs.lemmas.codec.Scalars.{scalar-middle}
 use Rattle.wtf8.proofs.lemmas.strings.Concatenation.{paired_bytes, meeting_bytes, form_meeting, one_form, clean-glue, units-glue}
@@ -192,11 +192,10 @@ scalar_to-paired : (k n : ℕ) (f : List ℕ) (l t : ℕ) (r : List ℕ) → IsL
     → n ≤ length (bytes (f ++ l ∷ [])) → AreScalarTo n (f ++ pair l t ∷ r)
 scalar_to-paired k n f l t r lead trail s m u =
     let front = scalar_to-append n f (pair l t ∷ []) (scalar_to-front k n f (l ∷ []) s m) (λ _. ((λ x. omega (arith, x.1)), tt)) in
-    let long = length-bytes_append f (pair l t) [] in
     let was = length-bytes_append f l [] in
     let four = ap length (encoding_four (pair l t) (omega arith)) in
     subst (AreScalarTo n) (append_assoc f (pair l t ∷ []) r) (scalar_to-append n (f ++ pair l t ∷ []) r front
-    (λ x. absurd (omega (arith, x, u, long, was, four, length-surrogate l (omega arith, omega arith)))))
+    (λ x. absurd (omega (arith, x, u, length-bytes_append f (pair l t) [], was, four, length-surrogate l (omega arith, omega arith)))))
 
 pub scalar_to-glue : (k n : ℕ) (c d : List ℕ) → AreScalarTo k c → n ≤ k → (length (bytes c) < n → AreScalar d) → AreScalarTo n (glue c d)
 scalar_to-glue k n c d s l t = elim (meets_or_not c d) [
@@ -270,8 +269,7 @@ glued_length c d = elim (meets_or_not c d) [
       let back : length (bytes d) ≡ 3 + length (bytes m.rest) = simp (m.begins, length-append, three) in
       let own : length (units d) ≡ 1 + length (units m.rest) =
       simp (m.begins, length-append, units_one m.trail (omega (arith, m.is_trail))) in
-      let rest = (lists_have_lengths m.rest).units_least in
-      record { least = omega (arith, both, paired, back, own, rest); most = omega (arith, both, paired) }
+      record { least = omega (arith, both, paired, back, own, (lists_have_lengths m.rest).units_least); most = omega (arith, both, paired) }
   | inr n ↦
       let both = ap length (bytes_glue-unpaired c d n refl refl) ∙ length-append (bytes c) (bytes d) in
       record { least = omega (arith, both, (lists_have_lengths d).units_least); most = omega (arith, both) }
@@ -298,16 +296,14 @@ pub record Beginning (u w : List ℕ) : Type 0 where
   pub form : IsForm whole u
   pub within : length whole ≤ length w
 
-all_front : (a b : List ℕ) → All IsUnit (a ++ b) → All IsUnit a
-all_front a b h = All-same IsUnit a (take (length a) (a ++ b)) (sym (take_at a b (length a) refl)) (All-take IsUnit (length a) (a ++ b) h)
-
 pub all_back : (a b : List ℕ) → All IsUnit (a ++ b) → All IsUnit b
 all_back a b h = All-same IsUnit b (drop (length a) (a ++ b)) (sym (drop_at a b (length a) refl)) (All-drop IsUnit (length a) (a ++ b) h)
 
 pub beginning_of_form : (a b w : List ℕ) → IsForm w (a ++ b) → Beginning a w
 beginning_of_form a b w f =
     let all = units_read f.points (a ++ b) f.reads in
-    let front = one_form a (all_front a b all) in
+    let front = one_form a
+    (All-same IsUnit a (take (length a) (a ++ b)) (sym (take_at a b (length a) refl)) (All-take IsUnit (length a) (a ++ b) all)) in
     record {
       whole = front.one;
       form = front.has;
@@ -321,9 +317,6 @@ extended_length ps w u y h k =
     let v = units (numbers ps) in
     let back = one_form v (all_back u v (units_read k.points (u ++ v) k.reads)) in
     omega (arith, (both_length h back.has k).least, (lists_have_lengths (numbers ps)).points, length-map ps number)
-
-pub units-points : (ps qs : List CodePoint) → units (numbers (ps ++ qs)) ≡ units (numbers ps) ++ units (numbers qs)
-units-points ps qs = ap units (map-append number ps qs) ∙ units-append (numbers ps) (numbers qs)
 
 -- a call that fits has the outcome `v` that `CallFits` names
 pub found_step : (u : List ℕ) (call : Build) (v w : List ℕ) (n r : ℕ) → CallFits u call v n → Step u call w r → w ≡ v

@@ -109,9 +109,8 @@ AsciiUnitAt-from_points front [] u r h low = absurd (omega (arith, ap (λ c. len
 AsciiUnitAt-from_points front (p ∷ b) u r h low =
     let at : get_or (bytes (front ++ p ∷ b)) (length (bytes front)) 0 ≡ get_or (encoding p ++ bytes b) 0 0 = first-bytes_after front p b in
     let own = encoding-from_ascii_byte p (bytes b) (omega (arith, at)) in
-    let here : get_or (bytes (front ++ p ∷ b)) (length (bytes front)) 0 ≡ p = at ∙ ap (λ e. get_or (e ++ bytes b) 0 0) own.0 in
     let unit = units_one p (omega (arith, own.1)) in
-    subst (λ x. AsciiUnitAt u (length (bytes front)) x) (sym here) (record {
+    subst (λ x. AsciiUnitAt u (length (bytes front)) x) (sym (at ∙ ap (λ e. get_or (e ++ bytes b) 0 0) own.0)) (record {
       front = units front;
       back = units b;
       from_it =

@@ -196,13 +196,11 @@ sum_utf16_len-ascii w i zero bound low = omega (arith, ap (λ k. sum_utf16_len (
     start i = omega arith
 sum_utf16_len-ascii w i (suc n) bound low =
     let last : i + suc n ≡ i + n + 1 = omega arith in
-    let more = sum_by_more utf16_len w (i + n) 0 (omega (arith, bound)) in
-    let one = utf16_len-ascii (get_or w (i + n) 0) (low n (omega arith)) in
     omega (
       arith,
       ap (λ k. sum_utf16_len (take k w)) last,
-      more,
-      one,
+      sum_by_more utf16_len w (i + n) 0 (omega (arith, bound)),
+      utf16_len-ascii (get_or w (i + n) 0) (low n (omega arith)),
       sum_utf16_len-ascii w i n (omega (arith, bound)) (λ j l. low j (omega (arith, l))),
     )
 
@@ -274,9 +272,8 @@ pub record PointsAbout (c : List ℕ) (n : ℕ) (cursor : UnitCursor) : Type 0 w
 pub points_about : (c : List ℕ) (n : ℕ) (s : UnitCursor) → IsCursorOfUnit (bytes c) n s → PointsAbout c n s
 points_about c n s h =
     let cursor = s.position in
-    let before = s.units in
     let was = h.before in
-    let next : cursor < length (bytes c) → n < before + utf16_len (get_or (bytes c) cursor 0) =
+    let next : cursor < length (bytes c) → n < s.units + utf16_len (get_or (bytes c) cursor 0) =
     λ m. omega (arith, h.reaches m, was.counted, sum_by_more utf16_len (bytes c) cursor 0 m) in
     let cut =
     split_at c cursor was.within (λ m. begins_from_utf16_len (get_or (bytes c) cursor 0) (omega (arith, next m, was.not_beyond))) in

@@ -94,11 +94,10 @@ pub scalar_between : (f c b : List ℕ)
     → ((j : ℕ) → length (bytes f) ≤ j → j < length (bytes (f ++ c)) → ¬ (SurrogateAt (bytes ((f ++ c) ++ b)) j)) → AreScalar c
 scalar_between f [] b none = tt
 scalar_between f (p ∷ c) b none =
-    let at : (f ++ p ∷ c) ++ b ≡ f ++ p ∷ (c ++ b) = append_assoc f (p ∷ c) b in
     let within : length (bytes f) < length (bytes (f ++ p ∷ c)) = omega (arith, length-bytes_append f p c, length-encoding_bounds p) in
     let more : (f ++ p ∷ []) ++ c ≡ f ++ p ∷ c = append_assoc f (p ∷ []) c in (
       λ s. none (length (bytes f)) (omega arith) within
-          (subst (λ d. SurrogateAt (bytes d) (length (bytes f))) (sym at) (surrogate_at f p (c ++ b) s)),
+          (subst (λ d. SurrogateAt (bytes d) (length (bytes f))) (sym (append_assoc f (p ∷ c) b)) (surrogate_at f p (c ++ b) s)),
       scalar_between (f ++ p ∷ []) c b (λ j l u. subst (λ d. ¬ (SurrogateAt (bytes (d ++ b)) j)) (sym more)
           (none j (omega (arith, l, length-bytes_append f p [])) (omega (arith, u, ap (λ d. length (bytes d)) more)))),
     )

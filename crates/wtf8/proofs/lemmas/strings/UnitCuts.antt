@@ -216,8 +216,7 @@ divides_after u r half begin n in_u e d more in_r =
     no_lead_before None e d more none g l q lead = absurd (omega (arith, more, ap length none, length-take-le n r in_r))
     no_lead_before (Some t) e d more none g l q lead =
         let m = d.0 refl in
-        let first : t ≡ m.trail = ap (λ w. get_or w 0 0) (e ∙ m.begins) in
-        omega (arith, first, (same_from_push (take begin u) g t l q).1, lead, m.is_trail)
+        omega (arith, ap (λ w. get_or w 0 0) (e ∙ m.begins), (same_from_push (take begin u) g t l q).1, lead, m.is_trail)
 
 -- Bytes that begin inside a pair or at a code point, and a step of the iterator over units.
 
@@ -327,8 +326,7 @@ pub steps_trail : (v : List ℕ) (at : ℕ) (h : IsWellFormed (after_held_trail 
 steps_trail v at h next l g two_on =
     let whole = held_trail-two_bytes (drop at v) h l g in
     let n = held_trail-some (drop at v) whole (continuation_range (get_or (drop at v) 0 0) l g) in
-    let rest : drop next v ≡ drop 2 (drop at v) = ap (λ k. drop k v) two_on ∙ sym (drop-drop 2 at v) in
-    let b = IsWellFormed-equal_bytes h (rest ∙ sym n.1) in
+    let b = IsWellFormed-equal_bytes h ((ap (λ k. drop k v) two_on ∙ sym (drop-drop 2 at v)) ∙ sym n.1) in
     let m = held_trail-none (drop next v) (first_no_continuation b) in
     record {
       within = omega (arith, two_on, whole, length-drop at v);
@@ -343,14 +341,12 @@ steps_trail v at h next l g two_on =
 pub trail_in_pair : {w : List ℕ} (h : IsWellFormed w) {n k p : ℕ} → Divided h.points n k p
     → slice_get (units h.points) n ≡ Some (trail_from_bytes (get_or (drop (k + 2) w) 0 0) (get_or (drop (k + 2) w) 1 0))
 trail_in_pair {w} h {n} {k} {p} d =
-    let large : 0x10000 ≤ p = d.large in
     let whole = sym (cut_by h d.front (p ∷ d.rest) k d.joined d.front_len).after.encoded
-    ∙ ap (λ x. x ++ bytes d.rest) (encoding_four p large) in
+    ∙ ap (λ x. x ++ bytes d.rest) (encoding_four p d.large) in
     let third = 0x80 + p / 64 % 64 in
     let fourth = 0x80 + p % 64 in
-    let last : drop (k + 2) w ≡ third ∷ fourth ∷ bytes d.rest = sym (drop-drop 2 k w) ∙ ap (drop 2) whole in
     let trail : trail_from_bytes third fourth ≡ trail_of p = omega arith in
-    d.here ∙ ap Some (sym (ap (λ v. trail_from_bytes (get_or v 0 0) (get_or v 1 0)) last ∙ trail))
+    d.here ∙ ap Some (sym (ap (λ v. trail_from_bytes (get_or v 0 0) (get_or v 1 0)) (sym (drop-drop 2 k w) ∙ ap (drop 2) whole) ∙ trail))
 
 -- if the cursor is not at the unit, the unit is the trail of the pair there
 pub divided_at_cursor : {w : List ℕ} (h : IsWellFormed w) (n : ℕ) (cursor : UnitCursor) → IsCursorOfUnit w n cursor

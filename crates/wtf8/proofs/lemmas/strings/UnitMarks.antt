@@ -89,7 +89,6 @@ pub mark_after : {w : List ℕ} (h : IsWellFormed w) {k n end : ℕ} (v : List �
 mark_after h {k} v m x =
     let own = cut_of h m in
     let splits = (cut_by h own.front own.back k own.joined own.front_len).splits in
-    let same = (same_splits (units h.points) k own.front own.back x.front (x.middle ++ x.back) splits x.begins).0 in
     mark_at_cut h (record {
       front = x.front ++ x.middle;
       back = x.back;
@@ -99,7 +98,7 @@ mark_after h {k} v m x =
         arith,
         ap length (units-append x.front x.middle),
         length-append (units x.front) (units x.middle),
-        ap (λ f. length (units f)) same,
+        ap (λ f. length (units f)) ((same_splits (units h.points) k own.front own.back x.front (x.middle ++ x.back) splits x.begins).0),
         own.counted,
         ap length x.same_units,
       );
@@ -264,8 +263,7 @@ ascii_from_lengths (p ∷ c) e =
 pub ascii_same : {w u : List ℕ} → IsForm w u → length w ≡ length u → AreAscii u × (w ≡ u)
 ascii_same {w} {u} f e =
     let low = ascii_from_lengths f.points (ap length f.encoded ∙ (e ∙ sym (ap length f.reads.same_units))) in
-    let own : f.points ≡ u = sym (units-ascii f.points low) ∙ f.reads.same_units in
-    let ascii = subst AreAscii own low in
+    let ascii = subst AreAscii (sym (units-ascii f.points low) ∙ f.reads.same_units) low in
     (ascii, same_form w u u f (IsKnownForm-ascii u ascii).form)
 
 pub equal_counts : EqualCountsAreMarks
@@ -300,11 +298,10 @@ marks_stay w x u v k n f g l m =
       reads = reads-glue f.points more.has.points u v f.reads more.has.reads;
       encoded = refl;
     } in
-    let same = same_form x (bytes (glue f.points more.has.points)) (u ++ v) g both in
     let units_len = ap length (ap units own.joined ∙ units-append own.front own.back) in
     let nonempty : 0 < length own.back = nonempty_from_units own.back
     (omega (arith, units_len, length-append (units own.front) (units own.back), own.counted, ap length f.reads.same_units, l)) in
     let joined : glue f.points more.has.points ≡ own.front ++ glue own.back more.has.points =
     ap (λ c. glue c more.has.points) own.joined ∙ glue-append_left own.front own.back more.has.points nonempty in
-    subst (λ z. IsMark z (u ++ v) k n) (sym same) (mark_of both
+    subst (λ z. IsMark z (u ++ v) k n) (sym (same_form x (bytes (glue f.points more.has.points)) (u ++ v) g both)) (mark_of both
     (record { front = own.front; back = glue own.back more.has.points; joined = joined; front_len = own.front_len; counted = own.counted }))

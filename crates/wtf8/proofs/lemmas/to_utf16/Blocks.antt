@@ -90,9 +90,8 @@ units_then_rest {P} n f rows (suc c) (suc k) at w b r h e long same le each =
     (IsWellFormed-equal_bytes first.1.rest (ap (λ m. drop m w) (sym part.width))) (ap (drop n) e ∙ drop-append-le n b r fits)
     (omega (arith, long, wide, length-drop n b)) refl (omega (arith, le)) each.1 in
     let further : n * suc k ≡ n + n * k = omega (arith, mul-suc n k) in
-    let end : drop at w ≡ drop (n * k) (drop n w) = ap (λ m. drop m w) (same ∙ further) ∙ sym (drop-drop (n * k) n w) in
     record {
-      rest = IsWellFormed-equal_bytes after.rest end;
+      rest = IsWellFormed-equal_bytes after.rest (ap (λ m. drop m w) (same ∙ further) ∙ sym (drop-drop (n * k) n w));
       whole = ap units first.1.joined ∙ (units-cons_one p first.1.rest.points part.one_unit
           ∙ (ap (λ m. m ∷ units first.1.rest.points) value ∙ ap (λ u. f b ∷ u) after.whole));
     }

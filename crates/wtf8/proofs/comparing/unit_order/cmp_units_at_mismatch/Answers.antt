@@ -7,8 +7,7 @@ use Rattle.wtf8.proofs.comparing.unit_order.cmp_units_at_mismatch.Goals as goal
 common_front : (c : Else-supplementary_begins)
     → CommonFront c.args.own.well_formed.points c.args.others.well_formed.points c.mismatch-at.result
 common_front c =
-    let h = c.args.own.well_formed in
-    common_front_at_mismatch h c.args.others.well_formed _ c.mismatch-at.ensures _ _ c.supplementary_begins.ensures
+    common_front_at_mismatch c.args.own.well_formed c.args.others.well_formed _ c.mismatch-at.ensures _ _ c.supplementary_begins.ensures
     c.supplementary_begins-2.ensures c.if-supplementary_begins.false
 
 pub returns-then-supplementary_begins : goal.returns-then-supplementary_begins

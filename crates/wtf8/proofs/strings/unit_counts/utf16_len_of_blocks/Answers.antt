@@ -47,8 +47,6 @@ overflow_add-lanes-2 c =
 pub returns : goal.returns
 returns c =
     let lanes = c.loop-block.lanes in
-    let w = c.args.bytes.now in
     let all : c.loop-block.block * 64 ≡ 512 = omega (arith, c.loop-block.auto.block-end, c.loop-block-test.false) in
-    let whole = ap (λ k. sum_utf16_len (chunk c.args.position k w)) all in
-    let summed = ap (fold_l (λ s x. s + x) 0) (map-id lanes) in
-    c.from.ensures ∙ (summed ∙ omega (arith, fold-sum 0 lanes, c.loop-block.invariant.0, whole))
+    let whole = ap (λ k. sum_utf16_len (chunk c.args.position k c.args.bytes.now)) all in
+    c.from.ensures ∙ (ap (fold_l (λ s x. s + x) 0) (map-id lanes) ∙ omega (arith, fold-sum 0 lanes, c.loop-block.invariant.0, whole))

@@ -1,11 +1,10 @@
 use Rattle.wtf8.proofs.Common.{arith, sym, subst}
 use Rattle.std.proofs.lemmas.Simd.{Each1-all, Each2-splat}
 use Rattle.wtf8.proofs.lemmas.lanes.Masks.{LeadingHavePrefix, LeadingHavePrefix-first_set}
-use Rattle.wtf8.proofs.to_utf16.blocks.count_leading_with_prefix.Given.{Over}
 use Rattle.wtf8.proofs.to_utf16.blocks.count_leading_with_prefix.Goals.{After-unwrap_or}
 use Rattle.wtf8.proofs.to_utf16.blocks.count_leading_with_prefix.Goals as goal
 
-leading_have_prefix : (g : Over) (c : After-unwrap_or g)
+leading_have_prefix : (g : _) (c : After-unwrap_or g)
     → LeadingHavePrefix c.args.size c.args.prefix g.row.N c.args.bytes c.unwrap_or.result
 leading_have_prefix g c =
     subst (LeadingHavePrefix c.args.size c.args.prefix g.row.N c.args.bytes) (sym c.unwrap_or.ensures) (LeadingHavePrefix-first_set

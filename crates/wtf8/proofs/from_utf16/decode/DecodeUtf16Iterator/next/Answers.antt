@@ -37,9 +37,8 @@ returns-in-None-clause-steps g c =
 
 pub returns-then-unit-lt-FIRST_LEAD-clause-steps : goal.returns-then-unit-lt-FIRST_LEAD-clause-steps
 returns-then-unit-lt-FIRST_LEAD-clause-steps g c =
-    let unit = c.in_ok-unit.unit in
     let below = c.if-unit-lt-FIRST_LEAD.true in
-    item_of_unit g.I.Iterator.next_gives (units_left c.args.self.now) c.next.new.self unit c.char_or_surrogate.result
+    item_of_unit g.I.Iterator.next_gives (units_left c.args.self.now) c.next.new.self c.in_ok-unit.unit c.char_or_surrogate.result
     c.char_or_surrogate.ensures.kind c.char_or_surrogate.ensures.point (omega (arith, below)) (λ l. omega (arith, below, l.0))
     c.in_ok-unit.ensures.steps
 

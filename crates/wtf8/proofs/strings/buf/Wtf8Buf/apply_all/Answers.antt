@@ -1,4 +1,4 @@
-use Rattle.wtf8.proofs.Common.{◌≡◌, ◌<◌, ◌+◌, ℕ, List, [], ◌∷◌, ◌++◌, length, get_or, Bool, true, false, cond, Some, refl, ap, ◌∙◌, sym}
+use Rattle.wtf8.proofs.Common.{◌≡◌, ◌<◌, ◌+◌, ℕ, List, [], ◌∷◌, ◌++◌, length, get_or, Bool, false, cond, Some, refl, ap, ◌∙◌, sym}
 use Rattle.wtf8.proofs.Common.{subst, arith, append_assoc, All, Step, Run, CallsAppend, IsNoTruncation, Build, Reserve, Truncate}
 use Rattle.wtf8.proofs.Common.{TruncateUnits, ◌≤◌, take, drop, inl, inr, false≢true, cases_lt, append-nil, IsForm, EachCallFits, All-nil}
 use Rattle.wtf8.proofs.Common.{All-cons, take_all, All-get_or, FitWithin, none-some, LeavesReserved}
@@ -7,7 +7,6 @@ use Rattle.wtf8.specs.Building.{appended_units, reserved_bytes}
 use Rattle.wtf8.proofs.lemmas.strings.StringLaws.{reserved_more}
 use Rattle.wtf8.proofs.lemmas.strings.Concatenation.{take-cons-drop, take-push}
 use Rattle.wtf8.proofs.lemmas.strings.ExtendedForms.{Found, found_more, CallFits-larger, beginning_of_form}
-use Rattle.wtf8.proofs.strings.buf.Wtf8Buf.apply_all.Given.{Over}
 use Rattle.wtf8.proofs.strings.buf.Wtf8Buf.apply_all.Goals.{In_default, then-not-kept, else-not-kept}
 use Rattle.wtf8.proofs.strings.buf.Wtf8Buf.apply_all.Goals as goal
 
@@ -44,8 +43,7 @@ run_appends : (u : List ℕ) (calls : List Build) (v : List ℕ) (n : ℕ) (a : 
 run_appends u [] v n a x e = x.0 ∙ (sym (append-nil u) ∙ ap (λ b. u ++ b) (sym e))
 run_appends u (call ∷ calls) v n a x e =
     let here = (Adds-from_appended u call e.0 e.2).only x.0 x.1 x.3 in
-    let rest = run_appends x.0 calls v x.2 e.1 x.4 e.3 in
-    rest ∙ (ap (λ m. m ++ e.1) here ∙ (append_assoc u e.0 e.1 ∙ ap (λ b. u ++ b) (sym e.4)))
+    run_appends x.0 calls v x.2 e.1 x.4 e.3 ∙ (ap (λ m. m ++ e.1) here ∙ (append_assoc u e.0 e.1 ∙ ap (λ b. u ++ b) (sym e.4)))
 
 none_truncates : (calls : List Build) (a : List ℕ) → CallsAppend calls a → All IsNoTruncation calls
 none_truncates [] a e = All-nil IsNoTruncation
@@ -79,11 +77,8 @@ call_among calls i call h e all = subst IsNoTruncation (sym e) (All-get_or IsNoT
 refused-one_more : (kept : Bool) (n : ℕ) → kept ≡ false → n + 1 ≡ n + cond kept 0 1
 refused-one_more kept n e = rw e refl
 
-refused-unchanged : (kept : Bool) (n : ℕ) → kept ≡ true → n ≡ n + cond kept 0 1
-refused-unchanged kept n e = rw e (omega arith)
-
 -- of a list that begins with the calls up to the refused one, not each fits
-no_room : (g : Over) (c : In_default g) (more : List Build) (v : List ℕ)
+no_room : (g : _) (c : In_default g) (more : List Build) (v : List ℕ)
     → ¬ (EachCallFits c.args.self.now.units
     (take c.loop-done.done c.args.calls.now ++ c.index-calls-done.result ∷ more) v c.args.self.now.capacity)
 no_room g c more v whole =
@@ -107,7 +102,7 @@ loop-done-preserved g c =
       | then-not-kept w ↦
           (w.refused-is ∙ refused-one_more c.in-Ok.kept c.loop-done.refused w.if-not-kept.true, omega (arith, w.refused-is, inv.counted))
       | else-not-kept w ↦
-          (w.refused-is ∙ refused-unchanged c.in-Ok.kept c.loop-done.refused w.if-not-kept.false, omega (arith, w.refused-is, inv.counted))
+          (w.refused-is ∙ (rw w.if-not-kept.false (omega arith)), omega (arith, w.refused-is, inv.counted))
     ] in record {
       ran = subst (λ d. Run u d now c.if-not-kept.refused) (sym more)
           (subst (λ n. Run u (take i calls ++ call ∷ []) now n) (sym count.0) run);

@@ -1,6 +1,5 @@
 use Rattle.wtf8.proofs.Common.{◌≡◌, ap, ◌∙◌, arith, take_all, UnitString, units}
 use Rattle.wtf8.proofs.lemmas.codec.Readings.{IsWellFormed-equal_bytes, same_points}
-use Rattle.wtf8.proofs.strings.buf.Wtf8Buf.reserve.Given.{Over}
 use Rattle.wtf8.proofs.strings.buf.Wtf8Buf.reserve.Goals.{After-truncate}
 use Rattle.wtf8.proofs.strings.buf.Wtf8Buf.reserve.Goals as goal
 
@@ -13,7 +12,7 @@ returns-in_err-reserve-clause-units g c = ap units (same_points c.in_err-reserve
     c.reserve.ensures.items) ∙ ap (λ (t : UnitString). t.units) c.self.view_is
 
 -- the truncation removes nothing
-same_bytes : (g : Over) (c : After-truncate g) → c.truncate.new.self.items ≡ c.self.inside.bytes.items
+same_bytes : (g : _) (c : After-truncate g) → c.truncate.new.self.items ≡ c.self.inside.bytes.items
 same_bytes g c = c.truncate.ensures.items
     ∙ (take_all _ _ (omega (arith, c.in_ok-reserve.ensures.len, c.len-len.ensures)) ∙ c.in_ok-reserve.ensures.items)
 

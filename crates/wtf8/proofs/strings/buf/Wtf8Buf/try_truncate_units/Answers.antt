@@ -8,9 +8,8 @@ use Rattle.wtf8.proofs.strings.buf.Wtf8Buf.try_truncate_units.Goals as goal
 
 pub keep_lead-requires-clause-lead : goal.keep_lead-requires-clause-lead
 keep_lead-requires-clause-lead g c =
-    let h = c.as_wtf8.result.well_formed in
     let x = divided_from_cut c.in-Some-divided.is c.in-Some.ensures.some in
-    let range = IsCodePoint-divided h.clean x in
+    let range = IsCodePoint-divided c.as_wtf8.result.well_formed.clean x in
     (omega (arith, range, x.large, c.lead_of-lead.ensures), omega (arith, range, x.large, c.lead_of-lead.ensures))
 
 pub keep_lead-requires-clause-within : goal.keep_lead-requires-clause-within
@@ -36,10 +35,9 @@ invariant_of-self-inside g c =
 
 pub returns-in-None : goal.returns-in-None
 returns-in-None g c =
-    let h = c.as_wtf8.result.well_formed in
     let k = c.in-Some.cut.position in
     let x = undivided_from_cut c.in-None.is c.in-Some.ensures.some in
-    let front = subst (λ v. IsFront v k (take c.args.n v)) c.as_wtf8.ensures.units (front_at h x) in
+    let front = subst (λ v. IsFront v k (take c.args.n v)) c.as_wtf8.ensures.units (front_at c.as_wtf8.result.well_formed x) in
     inl (
       omega (arith, x.within, ap length c.as_wtf8.ensures.units),
       front_unique c.args.self.now.units k _ _ c.truncate.ensures.units front,

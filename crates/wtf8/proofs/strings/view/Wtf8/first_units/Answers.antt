@@ -5,9 +5,8 @@ use Rattle.wtf8.proofs.strings.view.Wtf8.first_units.Goals as goal
 
 pub overflow_cast-result : goal.overflow_cast-result
 overflow_cast-result c =
-    let h = c.args.self.well_formed in
     let x = divided_from_cut c.in-Some-divided.is c.in-Some.ensures.some in
-    record { fits = omega (arith, IsCodePoint-divided h.clean x, x.large, c.lead_of.ensures) }
+    record { fits = omega (arith, IsCodePoint-divided c.args.self.well_formed.clean x, x.large, c.lead_of.ensures) }
 
 pub returns-in-None-clause-units : goal.returns-in-None-clause-units
 returns-in-None-clause-units c =
@@ -31,5 +30,4 @@ returns-in-None-clause-lead c =
 
 pub returns-in-Some-divided-clause-lead : goal.returns-in-Some-divided-clause-lead
 returns-in-Some-divided-clause-lead c =
-    let x = divided_from_cut c.in-Some-divided.is c.in-Some.ensures.some in
-    (λ s. divides_some c.args.self.well_formed.clean x, λ m. refl)
+    (λ s. divides_some c.args.self.well_formed.clean (divided_from_cut c.in-Some-divided.is c.in-Some.ensures.some), λ m. refl)

@@ -5,9 +5,8 @@ use Rattle.wtf8.proofs.strings.view.Wtf8.units_after.Goals as goal
 
 pub slice_from-requires-in-Some-divided : goal.slice_from-requires-in-Some-divided
 slice_from-requires-in-Some-divided c =
-    let h = c.args.self.well_formed in
     let x = divided_from_cut c.in-Some-divided.is c.in-Some.ensures.some in
-    boundary_of h (x.front ++ c.in-Some-divided.value ∷ []) x.rest _ x.pushed x.pushed_len
+    boundary_of c.args.self.well_formed (x.front ++ c.in-Some-divided.value ∷ []) x.rest _ x.pushed x.pushed_len
 
 pub returns-in-None-clause-units : goal.returns-in-None-clause-units
 returns-in-None-clause-units c =
@@ -17,9 +16,8 @@ returns-in-None-clause-units c =
 
 pub returns-in-Some-divided-clause-units : goal.returns-in-Some-divided-clause-units
 returns-in-Some-divided-clause-units c =
-    let h = c.args.self.well_formed in
     let x = divided_from_cut c.in-Some-divided.is c.in-Some.ensures.some in
-    let rest = points_after h c.slice_from-in-Some-divided.result.well_formed
+    let rest = points_after c.args.self.well_formed c.slice_from-in-Some-divided.result.well_formed
     (x.front ++ c.in-Some-divided.value ∷ []) x.rest _ x.pushed x.pushed_len c.slice_from-in-Some-divided.ensures.bytes in
     rw (c.trail_of.ensures, rest) (sym x.after)
 
@@ -30,5 +28,4 @@ returns-in-None-clause-trail c =
 
 pub returns-in-Some-divided-clause-trail : goal.returns-in-Some-divided-clause-trail
 returns-in-Some-divided-clause-trail c =
-    let x = divided_from_cut c.in-Some-divided.is c.in-Some.ensures.some in
-    (λ s. divides_some c.args.self.well_formed.clean x, λ m. refl)
+    (λ s. divides_some c.args.self.well_formed.clean (divided_from_cut c.in-Some-divided.is c.in-Some.ensures.some), λ m. refl)
