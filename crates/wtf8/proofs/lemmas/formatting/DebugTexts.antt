@@ -58,10 +58,7 @@ escape_surrogate-surrogate n p h e = rw (e, le-leb 0xD800 p h.0, le-leb p 0xDFFF
 
 escape_surrogate-encoding : (p : ℕ) → ¬ IsSurrogate p → escape_surrogate p ≡ encoding p
 unfolding escape_surrogate
-escape_surrogate-encoding p h = elim (cases_lt p 0xD800) [
-  | inl l ↦ rw (lt-leb 0xD800 p l) refl
-  | inr l ↦ elim (cases_lt 0xDFFF p) [ inl m ↦ rw (le-leb 0xD800 p l, lt-leb p 0xDFFF m) refl | inr m ↦ absurd (h (l, m)) ]
-]
+escape_surrogate-encoding p h = grind (arith, cases_lt, lt-leb, le-leb)
 
 pub escape_surrogate-scalar : (c p : ℕ) → ¬ IsSurrogate p → c ≡ p → encode c ≡ escape_surrogate p
 escape_surrogate-scalar c p h e = ap encode e ∙ (sym (encoding_is_encode p) ∙ sym (escape_surrogate-encoding p h))

@@ -89,10 +89,7 @@ unfolding digit
 digit_ascii n h = elim (cases_Bool (ltb n 10)) [ inl less ↦ rw less (omega arith) | inr more ↦ rw more (omega arith) ]
 
 spaced_ascii : (b : ℕ) → b < 256 → IsAscii (spaced_hex b)
-spaced_ascii b h zero = omega arith
-spaced_ascii b h (suc zero) = digit_ascii (b / 16) (omega arith)
-spaced_ascii b h (suc (suc zero)) = digit_ascii (b % 16) (omega arith)
-spaced_ascii b h (suc (suc (suc i))) = omega arith
+spaced_ascii b h k = grind (arith, digit_ascii)
 
 all_spaced_ascii : (bytes : List ℕ) → Each1 (λ b. b < 256) bytes → IsAscii (flat_map spaced_hex bytes)
 all_spaced_ascii [] h = λ i. omega arith

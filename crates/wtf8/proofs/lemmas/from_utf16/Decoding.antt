@@ -4,7 +4,7 @@ use Rattle.wtf8.proofs.Common.{None, Some, Result, Ok, Err, refl, sym, ap, ◌�
 use Rattle.wtf8.proofs.Common.{point_of_item, points_of_items, units_left, decode_steps, ReadsAll, IsClean, IsCodePoint, IsLead, IsTrail}
 use Rattle.wtf8.proofs.Common.{IsSurrogate, MatchResult, units, pair, MatchOption, IfSome, Bool, IsTrue, ◌≢◌, AreScalar, IsKnownForm, bytes}
 use Rattle.wtf8.proofs.Common.{encoding, map-append, take-append-drop, suc, ◌≤◌, cases_lt, lt-ltb, le-ltb, append_assoc, length-append}
-use Rattle.wtf8.proofs.Common.{length-drop, take_all, DividesNoPair, MeetsAsPair, copied_steps, iter_steps, iter_rest}
+use Rattle.wtf8.proofs.Common.{length-drop, take_all, DividesNoPair, MeetsAsPair, copied_steps, iter_steps, iter_rest, common_steps}
 use Rattle.std.proofs.lemmas.List.{drop_more, nil_from_length}
 use Rattle.std.specs.Iterator.{Yields}
 use Rattle.std.specs.Iterator.Adapters.{peekable_source, PeekedOrNext, PeeksNext, copied_source}
@@ -137,9 +137,7 @@ module _ {S : Type 0} (steps : S → Option ℕ → S → Type 0) where
 -- the peeked unit is no trail if it failed a test that every trail passes
 pub peeked_no_trail : (p : Option (Option ℕ)) (o : Option ℕ) (Failed : ℕ → Type 0) → p ≡ Some o → IfSome p (λ o. IfSome o Failed)
     → ((u : ℕ) → Failed u → ¬ (IsTrail u)) → IsSomeAnd p (λ o. IfSome o (λ u. ¬ (IsTrail u)))
-peeked_no_trail None o Failed e h excludes_trails = absurd cc
-peeked_no_trail (Some None) o Failed e h excludes_trails = tt
-peeked_no_trail (Some (Some u)) o Failed e h excludes_trails = excludes_trails u h
+peeked_no_trail p o Failed e h excludes_trails = grind (arith)
 
 -- The first call of a decoder over a slice.
 
@@ -155,14 +153,7 @@ slice_left s = iter_rest (copied_source (peekable_source s))
 -- a call yields the first of the units left, and `None` only if none is left
 unit_left : (s t : Copied (Iter ℕ)) (r : Option ℕ) → steps s r t
     → MatchOption r (iter_rest (copied_source s) ≡ []) (λ x. iter_rest (copied_source s) ≡ x ∷ iter_rest (copied_source t))
-unit_left s t r k = from k.0 k.1 r k.2
-  where
-    from : (o : Option (Bor ℕ)) → iter_steps (copied_source s) o (copied_source t) → (r : Option ℕ) → r ≡ option_copied o
-        → MatchOption r (iter_rest (copied_source s) ≡ []) (λ x. iter_rest (copied_source s) ≡ x ∷ iter_rest (copied_source t))
-    from None k None e = nil_from_length (iter_rest (copied_source s)) k.0
-    from None k (Some x) e = absurd cc
-    from (Some y) k None e = absurd cc
-    from (Some y) k (Some x) e = let same : x ≡ y.now = cc in k ∙ ap (λ n. n ∷ iter_rest (copied_source t)) (sym same)
+unit_left s t r k = grind (arith, common_steps, option_copied, nil_from_length)
 
 pub slice_left-yields : (us : List ℕ) (s t : PeekableUnits) → peekable_peeked s ≡ None → Yields (peekable_steps steps) s us t
     → (slice_left s ≡ us ++ slice_left t) × (peekable_peeked t ≡ None)
@@ -175,10 +166,7 @@ slice_left-yields (x ∷ us) s t n y =
 -- the number of units of a code point
 pub length-units_of : (p n : ℕ) → (p < 0x10000 → n ≡ 1) → (0x10000 ≤ p → n ≡ 2) → n ≡ length (units_of p)
 unfolding units_of
-length-units_of p n one two = elim (cases_lt p 0x10000) [
-  | inl l ↦ rw (lt-ltb p 0x10000 l) (one l)
-  | inr g ↦ rw (le-ltb p 0x10000 g) (two g)
-]
+length-units_of p n one two = grind (arith, cases_lt, lt-ltb, le-ltb)
 
 -- the first code point `p` of the units from index `at` on, and the index `end` after its units
 pub record IsFirstRead (v : List ℕ) (at end p : ℕ) : Type 0 where
@@ -187,9 +175,7 @@ pub record IsFirstRead (v : List ℕ) (at end p : ℕ) : Type 0 where
   pub reads : Reads (p ∷ []) (take (end - at) (drop at v))
 
 divides_no_pair_after_no_lead : (v : List ℕ) (at : ℕ) → at < length v → ¬ (IsLead (get_or v at 0)) → DividesNoPair v (at + 1)
-divides_no_pair_after_no_lead v at l no_lead =
-    let next : suc at ≡ at + 1 = omega arith in
-    subst (DividesNoPair v) next (DividesNoPair-after_no_lead v at l no_lead)
+divides_no_pair_after_no_lead v at l no_lead = grind (arith, DividesNoPair-after_no_lead)
 
 divides_no_pair_before_no_trail : (v : List ℕ) (at : ℕ) → (at + 1 < length v → ¬ (IsTrail (get_or v (at + 1) 0))) → DividesNoPair v (at + 1)
 divides_no_pair_before_no_trail v at no_trail = elim (cases_lt (at + 1) (length v)) [
@@ -202,21 +188,12 @@ divides_no_pair_before_no_trail v at no_trail = elim (cases_lt (at + 1) (length 
 -- a unit after which no pair is divided is read alone
 IsFirstRead-single : (v : List ℕ) (at : ℕ) → at < length v → get_or v at 0 < 0x10000 → DividesNoPair v (at + 1)
     → IsFirstRead v at (at + 1) (get_or v at 0)
-IsFirstRead-single v at l h divides =
-    let count : at + 1 - at ≡ 1 = omega arith in
-    let whole : take (at + 1 - at) (drop at v) ≡ get_or v at 0 ∷ [] =
-    ap (λ k. take k (drop at v)) count ∙ ap (take 1) (drop_more v at 0 l) in
-    record {
-      within = omega (arith, l);
-      divides_no_pair = divides;
-      reads = record { clean = omega (arith, h); same_units = append-nil _ ∙ (units_one (get_or v at 0) h ∙ sym whole) };
-    }
+IsFirstRead-single v at l h divides = grind (arith, drop_more, append-nil, units_one)
 
 -- a unit that is no surrogate is one code point
 pub IsFirstRead-unit : (v : List ℕ) (at : ℕ) → at < length v → get_or v at 0 < 0x10000 → ¬ (IsSurrogate (get_or v at 0))
     → IsFirstRead v at (at + 1) (get_or v at 0)
-IsFirstRead-unit v at l h not_surrogate =
-    IsFirstRead-single v at l h (divides_no_pair_after_no_lead v at l (λ k. not_surrogate (k.0, omega (arith, k.1))))
+IsFirstRead-unit v at l h not_surrogate = grind (arith, IsFirstRead-single, divides_no_pair_after_no_lead)
 
 -- a lone surrogate is read alone: a trail, or a lead that no trail follows
 pub IsFirstRead-lone : (v : List ℕ) (at : ℕ) → at < length v → get_or v at 0 < 0x10000
@@ -232,20 +209,7 @@ IsFirstRead-lone v at l h lone = IsFirstRead-single v at l h (elim (cases_lt (ge
 -- a lead and the trail after it are read together
 pub IsFirstRead-pair : (v : List ℕ) (at : ℕ) → at + 1 < length v → IsLead (get_or v at 0) → IsTrail (get_or v (at + 1) 0)
     → IsFirstRead v at (at + 2) (pair (get_or v at 0) (get_or v (at + 1) 0))
-IsFirstRead-pair v at l lead trail =
-    let count : at + 2 - at ≡ 2 = omega arith in
-    let next : suc (at + 1) ≡ at + 2 = omega arith in
-    let second : drop (at + 1) v ≡ get_or v (at + 1) 0 ∷ drop (at + 1 + 1) v = drop_more v (at + 1) 0 l in
-    let whole : take (at + 2 - at) (drop at v) ≡ get_or v at 0 ∷ get_or v (at + 1) 0 ∷ [] =
-    ap (λ k. take k (drop at v)) count ∙ ap (take 2) (drop_more v at 0 (omega (arith, l)) ∙ ap (λ w. get_or v at 0 ∷ w) second) in
-    record {
-      within = omega (arith, l);
-      divides_no_pair = subst (DividesNoPair v) next (DividesNoPair-after_no_lead v (at + 1) l (λ k. omega (arith, k.1, trail.0)));
-      reads = record {
-        clean = omega (arith, lead.0, lead.1, trail.0, trail.1);
-        same_units = append-nil _ ∙ (units_pair (get_or v at 0) (get_or v (at + 1) 0) lead trail ∙ sym whole);
-      };
-    }
+IsFirstRead-pair v at l lead trail = grind (arith, drop_more, DividesNoPair-after_no_lead, append-nil, units_pair)
 
 -- All items of a decoder over a slice.
 
@@ -285,10 +249,7 @@ no_item v at items s k t x none rest y item nothing = from items y
 pub encoded_item : (w : List ℕ) {now new : List ℕ} (items : List (Result ℕ ℕ)) (x : Result ℕ ℕ) {p : ℕ}
     → now ≡ w ++ bytes (points_of_items items) → new ≡ now ++ encoding p → point_of_item x ≡ p
     → new ≡ w ++ bytes (points_of_items (items ++ x ∷ []))
-encoded_item w {now} {new} items x {p} before added same =
-    added ∙ ap (λ b. b ++ encoding p) before ∙ append_assoc w (bytes (points_of_items items)) (encoding p) ∙ ap (λ b. w ++ b)
-    (ap (λ b. bytes (points_of_items items) ++ b) (ap encoding (sym same) ∙ sym (append-nil (encoding (point_of_item x))))
-    ∙ sym (bytes-append (points_of_items items) (point_of_item x ∷ [])) ∙ ap bytes (sym (map-append point_of_item items (x ∷ []))))
+encoded_item w {now} {new} items x {p} before added same = grind (arith, append_assoc, append-nil, bytes-append, map-append)
 
 -- the form of all units: the bytes so far, and the encodings of the decoder's items for the rest
 pub rest_read : {w new u : List ℕ} {at : ℕ} {known more : Bool} (items : List (Result ℕ ℕ)) (iter : Copied (Iter ℕ)) → IsReadTo w u at known

@@ -88,10 +88,7 @@ abbrev scalar_second_byte_lanes : List ℕ → List ℕ
 scalar_second_byte_lanes u = lanes_add (select_by ltb 0x800 u (replicate 8 0xC0) (replicate 8 0x80)) (lanes_rem 64 (lanes_div 64 u))
 
 scalar_second_byte-lane : (x : ℕ) → (cond (top 15 (cond (ltb x 0x800) 0xFFFF 0)) 0xC0 0x80 + x / 64 % 64) % 65536 ≡ scalar_second_byte x
-scalar_second_byte-lane x = elim (cases_lt x 0x800) [
-  | inl l ↦ rw (lt-ltb x 0x800 l) (omega arith)
-  | inr g ↦ rw (le-ltb x 0x800 g) (omega arith)
-]
+scalar_second_byte-lane x = grind (arith, cases_lt, lt-ltb, le-ltb)
 
 pub scalar_second_byte_lanes-map : (u : List ℕ) → length u ≡ 8 → scalar_second_byte_lanes u ≡ map scalar_second_byte u
 scalar_second_byte_lanes-map u l = of_eight (λ u. scalar_second_byte_lanes u ≡ map scalar_second_byte u) u l (map-same (λ x. (cond
@@ -131,10 +128,7 @@ record ArePairHalves (u leads trails : List ℕ) : Type 0 where
   pub trail : trails ≡ map trail_mask u
 
 and_lanes : (s t : Bool) → bit_and (cond s 0xFFFF 0) (cond t 0xFFFF 0) ≡ cond (s && t) 0xFFFF 0
-and_lanes true true = refl
-and_lanes true false = refl
-and_lanes false true = refl
-and_lanes false false = refl
+and_lanes s t = grind (arith)
 
 lead_mask-lane : (b x n : ℕ) → bit_and (cond (eqb (x / 1024) 54) 0xFFFF 0) (cond (eqb (n / 1024) 55) 0xFFFF 0) ≡ lead_mask (tagged b x n)
 lead_mask-lane b x n = and_lanes (eqb (x / 1024) 54) (eqb (n / 1024) 55) ∙ grind (arith, nat_tests)
@@ -183,9 +177,7 @@ trail_second_byte b x = ((0x80 + b % 4 * 16 % 65536) % 65536 + x / 64 % 16) % 65
 
 second_byte-lane : (b x d t : ℕ) → IsTag b d → IsTag x t → cond (top 15 (lead_mask t)) (lead_second_byte x)
     (cond (top 15 (trail_mask t)) (trail_second_byte b x) (scalar_second_byte x)) ≡ second_byte d t
-second_byte-lane b x d t k m =
-    let low : b % 4 ≡ d % 4 = elim k [ inl e ↦ omega (arith, e) | inr e ↦ omega (arith, e.0) ] in
-    elim m [ inl e ↦ grind (arith, nat_tests, low, e) | inr e ↦ grind (arith, nat_tests, low, e.0, e.1.0, e.1.1) ]
+second_byte-lane b x d t k m = grind (arith)
 
 abbrev second_byte_lanes : List ℕ → List ℕ → List ℕ → List ℕ → List ℕ
 second_byte_lanes leads trails own u =
@@ -260,17 +252,7 @@ three_byte_flag_lanes-map leads trails m u l p e = rw (e, p.lead, p.trail)
 -- a unit that is no surrogate has the same bytes by both computations
 candidate_bytes-scalar : (x : ℕ) → ¬ (IsSurrogate x) → (b : ℕ)
     → (scalar_second_byte x ≡ second_byte b x) × (scalar_last_byte x ≡ last_byte x) × (flag_from 0x800 x ≡ three_byte_flag x)
-candidate_bytes-scalar x n b = elim (cases_lt x 0xD800) [
-  | inl l ↦ (rw (lt-ltb x 0xD800 l) refl, rw (lt-ltb x 0xD800 l) refl, rw (lt-ltb x 0xD800 l) refl)
-  | inr g ↦ elim (cases_lt x 0xE000) [
-    | inl l ↦ absurd (n (g, omega (arith, l)))
-    | inr h ↦ (
-      rw (le-ltb x 0xD800 g, le-ltb x 0xDC00 (omega (arith, h)), le-ltb x 0xE000 h) refl,
-      rw (le-ltb x 0xD800 g, le-ltb x 0xDC00 (omega (arith, h))) refl,
-      rw (le-ltb x 0xD800 g, le-ltb x 0xE000 h) refl,
-    )
-  ]
-]
+candidate_bytes-scalar x n b = grind (arith, cases_lt, lt-ltb, le-ltb)
 
 scalar_candidates : (b u : List ℕ) → length u ≤ length b → AreScalarUnits u → (map scalar_second_byte u ≡ zip2 second_byte b u)
     × (map scalar_last_byte u ≡ map last_byte u) × (map (flag_from 0x800) u ≡ map three_byte_flag u)
@@ -303,19 +285,10 @@ abbrev lone_lane : ℕ → ℕ → Bool
 lone_lane x t = top 15 (bit_xor (cond (eqb (x / 2048) 27) 0xFFFF 0) (bit_or (lead_mask t) (trail_mask t)))
 
 lone_lane-tagged : (x : ℕ) → IsSurrogate x → lone_lane x (x + 0x10000) ≡ true
-lone_lane-tagged x s =
-    rw (
-      eq-eqb (x / 2048) 27 (omega (arith, s)),
-      le-ltb (x + 0x10000) 0xD800 (omega (arith, s)),
-      le-ltb (x + 0x10000) 0xDC00 (omega (arith, s)),
-      le-ltb (x + 0x10000) 0xE000 (omega (arith, s)),
-    ) refl
+lone_lane-tagged x s = grind (arith, eq-eqb, le-ltb)
 
 unit-from_lane : (x t : ℕ) → x < 0x10000 → IsTag x t → lone_lane x t ≡ false → IsUnit t
-unit-from_lane x t h m e = elim m [
-  | inl same ↦ omega (arith, same, h)
-  | inr lone ↦ absurd (false≢true (sym e ∙ ap (lone_lane x) lone.0 ∙ lone_lane-tagged x lone.1))
-]
+unit-from_lane x t h m e = grind (arith, false≢true, lone_lane-tagged)
 
 units-from_mask : (b : ℕ) (u : List ℕ) (a : ℕ) → Each1 (Fits w16) u → mask_l (zip2 lone_lane u (tagged_units b u a)) ≡ 0
     → Each1 IsUnit (tagged_units b u a)
@@ -389,13 +362,11 @@ picked_lanes f s l js ks = pick_l 0 (f ++ narrowed s) js ++ pick_l 0 (narrowed l
 
 pub front_lanes : (u f s l : List ℕ) → length u ≡ 8 → f ≡ map first_byte u → s ≡ zip2 second_byte (0 ∷ u) u → l ≡ map last_byte u
     → picked_lanes f s l (0 ∷ 1 ∷ 2 ∷ 3 ∷ 8 ∷ 9 ∷ 10 ∷ 11 ∷ []) (0 ∷ 1 ∷ 2 ∷ 3 ∷ []) ≡ byte_lanes 0 (take 4 u)
-front_lanes u f s l long x y z = rw (x, y, z) (of_eight (λ u. picked_lanes (map first_byte u) (zip2 second_byte (0 ∷ u) u) (map last_byte u)
-    (0 ∷ 1 ∷ 2 ∷ 3 ∷ 8 ∷ 9 ∷ 10 ∷ 11 ∷ []) (0 ∷ 1 ∷ 2 ∷ 3 ∷ []) ≡ byte_lanes 0 (take 4 u)) u long refl)
+front_lanes u f s l long x y z = grind (arith, of_eight)
 
 pub back_lanes : (u f s l : List ℕ) → length u ≡ 8 → f ≡ map first_byte u → s ≡ zip2 second_byte (0 ∷ u) u → l ≡ map last_byte u
     → picked_lanes f s l (4 ∷ 5 ∷ 6 ∷ 7 ∷ 12 ∷ 13 ∷ 14 ∷ 15 ∷ []) (4 ∷ 5 ∷ 6 ∷ 7 ∷ []) ≡ byte_lanes (get_or u 3 0) (drop 4 u)
-back_lanes u f s l long x y z = rw (x, y, z) (of_eight (λ u. picked_lanes (map first_byte u) (zip2 second_byte (0 ∷ u) u) (map last_byte u)
-    (4 ∷ 5 ∷ 6 ∷ 7 ∷ 12 ∷ 13 ∷ 14 ∷ 15 ∷ []) (4 ∷ 5 ∷ 6 ∷ 7 ∷ []) ≡ byte_lanes (get_or u 3 0) (drop 4 u)) u long refl)
+back_lanes u f s l long x y z = grind (arith, of_eight)
 
 abbrev flag_is_set : ℕ → Bool
 flag_is_set y = top 7 (cond (leb 128 y) 255 0)
@@ -406,20 +377,13 @@ flags_set m n =
 
 -- the mask bit of the flag `t * 0x80` is `t`
 flag_is_set-bit : (t : ℕ) → t ≤ 1 → cond (flag_is_set (t * 0x80)) 1 0 ≡ t
-flag_is_set-bit t h = elim (cases_lt t 1) [
-  | inl l ↦ let none : t ≡ 0 = omega (arith, l) in ap (λ k. cond {A = ℕ} (flag_is_set (k * 0x80)) 1 0) none ∙ sym none
-  | inr g ↦ let one : t ≡ 1 = omega (arith, g, h) in ap (λ k. cond {A = ℕ} (flag_is_set (k * 0x80)) 1 0) one ∙ sym one
-]
+flag_is_set-bit t h = grind (arith, cases_lt)
 
 flag_from-byte_count : (n : ℕ) → cond (flag_is_set (flag_from 0x80 n)) 1 0 ≡ byte_count n / 2
-flag_from-byte_count n =
-    let counts = byte_count_bits_bound n in
-    flag_is_set-bit (multi_byte_bit n) counts.1 ∙ omega (arith, counts.0, counts.1)
+flag_from-byte_count n = grind (arith, byte_count_bits_bound, flag_is_set-bit)
 
 three_byte_flag-byte_count : (n : ℕ) → cond (flag_is_set (three_byte_flag n)) 1 0 ≡ byte_count n / 3
-three_byte_flag-byte_count n =
-    let counts = byte_count_bits_bound n in
-    flag_is_set-bit (three_byte_bit n) (omega (arith, counts.0, counts.1)) ∙ omega (arith, counts.0, counts.1)
+three_byte_flag-byte_count n = grind (arith, byte_count_bits_bound, flag_is_set-bit)
 
 mask_l-number_l : (bs : List Bool) → mask_l bs ≡ number_l 2 (map (λ b. cond b 1 0) bs)
 mask_l-number_l [] = refl
@@ -449,10 +413,7 @@ mask_l-table_indexes u m n long x y = mask_l-mod (flags_set m n) 64 (omega arith
         ∷ low 4 i ∷ low 5 i ∷ low 6 i ∷ low 7 i ∷ high 4 i ∷ high 5 i ∷ high 6 i ∷ high 7 i ∷ []
 
 multi_byte_flag-tagged : (x t : ℕ) → IsTag x t → flag_from 0x80 x ≡ flag_from 0x80 t
-multi_byte_flag-tagged x t k = elim k [
-  | inl e ↦ ap (flag_from 0x80) (sym e)
-  | inr e ↦ rw (e.0, le-ltb x 0x80 (omega (arith, e.1.0)), le-ltb (x + 0x10000) 0x80 (omega arith)) refl
-]
+multi_byte_flag-tagged x t k = grind (arith, le-ltb)
 
 -- the flags of units that take more than one byte are those of the tagged units
 pub multi_byte_flags-tagged : (m u : List ℕ) → m ≡ map (flag_from 0x80) u → m ≡ map (flag_from 0x80) (tagged_block u)
@@ -462,8 +423,7 @@ table_index_bound : (a b c d : ℕ) → IsByteCount a → IsByteCount b → IsBy
 table_index_bound a b c d i j k l = omega (arith, i, j, k, l)
 
 pub units_table_index_bound : (u : List ℕ) → units_table_index u < 256
-units_table_index_bound u = table_index_bound _ _ _ _ (IsByteCount-byte_count (get_or u 0 0)) (IsByteCount-byte_count (get_or u 1 0))
-    (IsByteCount-byte_count (get_or u 2 0)) (IsByteCount-byte_count (get_or u 3 0))
+units_table_index_bound u = grind (arith, table_index_bound, IsByteCount-byte_count)
 
 -- The bytes that a row of the table picks are the pieces of the units.
 
@@ -478,8 +438,7 @@ swz_l-below_16 xs i (j ∷ js) l h =
 
 source_lanes-packed_unit : (xs : List ℕ) (k b n : ℕ) → get_or xs k 0 ≡ first_byte n → get_or xs (4 + k) 0 ≡ second_byte b n
     → get_or xs (8 + k) 0 ≡ last_byte n → map (λ j. get_or xs j 0) (source_lanes (byte_count n) k) ≡ packed_unit b n
-source_lanes-packed_unit xs k b n x y z = sym (drop-map (λ j. get_or xs j 0) (3 - byte_count n) (k ∷ (4 + k) ∷ (8 + k) ∷ []))
-    ∙ ap (drop (3 - byte_count n)) (λ i. x i ∷ y i ∷ z i ∷ [])
+source_lanes-packed_unit xs k b n x y z = grind (arith, drop-map)
 
 source_lanes-packed_units : (xs : List ℕ) (v a b c d : ℕ) → take 12 xs ≡ byte_lanes v (a ∷ b ∷ c ∷ d ∷ [])
     → map (λ j. get_or xs j 0) (source_lanes (byte_count a) 0 ++ source_lanes (byte_count b) 1 ++ source_lanes
@@ -517,8 +476,7 @@ swz_l-packed_units xs row b u short within long lanes own =
 
 pub packed_units-halves : (u : List ℕ) → length u ≡ 8
     → packed_units 0 (take 4 u) ++ packed_units (get_or u 3 0) (drop 4 u) ≡ packed_units 0 u
-packed_units-halves u long = of_eight
-    (λ u. packed_units 0 (take 4 u) ++ packed_units (get_or u 3 0) (drop 4 u) ≡ packed_units 0 u) u long (simp (append_assoc, append-nil))
+packed_units-halves u long = grind (arith, of_eight, append_assoc, append-nil)
 
 -- the last of eight units is not tagged if it is a lead
 last-tagged : (u : List ℕ) → length u ≡ 8 → IsLead (get_or u 7 0) → IsLead (get_or (tagged_block u) 7 0)

@@ -19,87 +19,31 @@ abbrev pub IsTag : ℕ → ℕ → Type 0
 IsTag x t = (t ≡ x) ⊎ ((t ≡ x + 0x10000) × IsSurrogate x)
 
 pub tagged-scalar : (b x n : ℕ) → ¬ (IsSurrogate x) → tagged b x n ≡ x
-tagged-scalar b x n s = elim (cases_lt x 0xD800) [
-  | inl l ↦ rw (lt-ltb x 0xD800 l) refl
-  | inr g ↦ elim (cases_lt x 0xE000) [
-    | inl l ↦ absurd (s (g, omega (arith, l)))
-    | inr h ↦ rw (le-ltb x 0xD800 g, le-ltb x 0xDC00 (omega (arith, h)), le-ltb x 0xE000 h) refl
-  ]
-]
+tagged-scalar b x n s = grind (arith, cases_lt, lt-ltb, le-ltb)
 
 pub tagged-lead_before_trail : (b x n : ℕ) → IsLead x → IsTrail n → tagged b x n ≡ x
-tagged-lead_before_trail b x n l t =
-    rw (le-ltb x 0xD800 l.0, lt-ltb x 0xDC00 (omega (arith, l.1)), le-ltb n 0xDC00 t.0, lt-ltb n 0xE000 (omega (arith, t.1))) refl
+tagged-lead_before_trail b x n l t = grind (arith, le-ltb, lt-ltb)
 
 tagged-lone_lead : (b x n : ℕ) → IsLead x → ¬ (IsTrail n) → tagged b x n ≡ x + 0x10000
-tagged-lone_lead b x n l t = elim (cases_lt n 0xDC00) [
-  | inl k ↦ rw (le-ltb x 0xD800 l.0, lt-ltb x 0xDC00 (omega (arith, l.1)), lt-ltb n 0xDC00 k) refl
-  | inr g ↦ elim (cases_lt n 0xE000) [
-    | inl k ↦ absurd (t (g, omega (arith, k)))
-    | inr h ↦ rw (le-ltb x 0xD800 l.0, lt-ltb x 0xDC00 (omega (arith, l.1)), le-ltb n 0xDC00 g, le-ltb n 0xE000 h) refl
-  ]
-]
+tagged-lone_lead b x n l t = grind (arith, cases_lt, le-ltb, lt-ltb)
 
 tagged-trail_after_lead : (b x n : ℕ) → IsTrail x → IsLead b → tagged b x n ≡ x
-tagged-trail_after_lead b x n t l =
-    rw (
-      le-ltb x 0xD800 (omega (arith, t.0)),
-      le-ltb x 0xDC00 t.0,
-      lt-ltb x 0xE000 (omega (arith, t.1)),
-      le-ltb b 0xD800 l.0,
-      lt-ltb b 0xDC00 (omega (arith, l.1)),
-    ) refl
+tagged-trail_after_lead b x n t l = grind (arith, le-ltb, lt-ltb)
 
 tagged-lone_trail : (b x n : ℕ) → IsTrail x → ¬ (IsLead b) → tagged b x n ≡ x + 0x10000
-tagged-lone_trail b x n t l = elim (cases_lt b 0xD800) [
-  | inl k ↦ rw (le-ltb x 0xD800 (omega (arith, t.0)), le-ltb x 0xDC00 t.0, lt-ltb x 0xE000 (omega (arith, t.1)), lt-ltb b 0xD800 k) refl
-  | inr g ↦ elim (cases_lt b 0xDC00) [
-    | inl k ↦ absurd (l (g, omega (arith, k)))
-    | inr h ↦ rw (
-      le-ltb x 0xD800 (omega (arith, t.0)),
-      le-ltb x 0xDC00 t.0,
-      lt-ltb x 0xE000 (omega (arith, t.1)),
-      le-ltb b 0xD800 g,
-      le-ltb b 0xDC00 h,
-    ) refl
-  ]
-]
+tagged-lone_trail b x n t l = grind (arith, cases_lt, le-ltb, lt-ltb)
 
 scalar_lead_or_trail : (x : ℕ) → (¬ (IsSurrogate x)) ⊎ (IsLead x ⊎ IsTrail x)
-scalar_lead_or_trail x = elim (cases_lt x 0xD800) [
-  | inl l ↦ inl (λ s. omega (arith, l, s.0))
-  | inr g ↦ elim (cases_lt x 0xE000) [
-    | inl l ↦ inr (elim (cases_lt x 0xDC00) [ inl h ↦ inl (g, omega (arith, h)) | inr h ↦ inr (h, omega (arith, l)) ])
-    | inr h ↦ inl (λ s. omega (arith, h, s.1))
-  ]
-]
+scalar_lead_or_trail x = grind (arith, cases_lt)
 
 trail_or_not : (x : ℕ) → IsTrail x ⊎ (¬ (IsTrail x))
-trail_or_not x = elim (cases_lt x 0xDC00) [
-  | inl l ↦ inr (λ t. omega (arith, l, t.0))
-  | inr g ↦ elim (cases_lt x 0xE000) [ inl l ↦ inl (g, omega (arith, l)) | inr h ↦ inr (λ t. omega (arith, h, t.1)) ]
-]
+trail_or_not x = grind (arith, cases_lt)
 
 lead_or_not : (x : ℕ) → IsLead x ⊎ (¬ (IsLead x))
-lead_or_not x = elim (cases_lt x 0xD800) [
-  | inl l ↦ inr (λ t. omega (arith, l, t.0))
-  | inr g ↦ elim (cases_lt x 0xDC00) [ inl l ↦ inl (g, omega (arith, l)) | inr h ↦ inr (λ t. omega (arith, h, t.1)) ]
-]
+lead_or_not x = grind (arith, cases_lt)
 
 pub IsTag-tagged : (b x n : ℕ) → IsTag x (tagged b x n)
-IsTag-tagged b x n = elim (scalar_lead_or_trail x) [
-  | inl o ↦ inl (tagged-scalar b x n o)
-  | inr s ↦ elim s [
-    | inl l ↦ elim (trail_or_not n) [
-      | inl t ↦ inl (tagged-lead_before_trail b x n l t)
-      | inr t ↦ inr (tagged-lone_lead b x n l t, (l.0, omega (arith, l.1)))
-    ]
-    | inr t ↦ elim (lead_or_not b) [
-      | inl l ↦ inl (tagged-trail_after_lead b x n t l)
-      | inr l ↦ inr (tagged-lone_trail b x n t l, (omega (arith, t.0), t.1))
-    ]
-  ]
-]
+IsTag-tagged b x n = grind (arith, cases_lt, le-ltb, lt-ltb)
 
 -- the first units, each tagged
 take-tagged_units : (k b : ℕ) (u : List ℕ) (a : ℕ) → take k (tagged_units b u a) ≡ tagged_units b (take k u) (get_or u k a)
@@ -112,62 +56,30 @@ take-tagged_units (suc (suc k)) b (x ∷ y ∷ u) a = ap (λ t. tagged b x y ∷
 -- The piece of a unit, by its range.
 
 pub packed_unit-two_bytes : (b x : ℕ) → 0x80 ≤ x → x < 0x800 → packed_unit b x ≡ (0xC0 + x / 64) ∷ (0x80 + x % 64) ∷ []
-packed_unit-two_bytes b x l h =
-    let few : x / 64 % 64 ≡ x / 64 = omega (arith, h) in
-    rw (le-ltb x 0x80 l, lt-ltb x 0x800 h, lt-ltb x 0xD800 (omega (arith, h)), few) refl
+packed_unit-two_bytes b x l h = grind (arith, le-ltb, lt-ltb)
 
 pub packed_unit-below_leads : (b x : ℕ) → 0x800 ≤ x → x < 0xD800 → packed_unit b x ≡ third_row x
-packed_unit-below_leads b x l h =
-    let few : x / 4096 % 16 ≡ x / 4096 = omega (arith, h) in
-    rw (le-ltb x 0x80 (omega (arith, l)), le-ltb x 0x800 l, lt-ltb x 0xD800 h, few) refl
+packed_unit-below_leads b x l h = grind (arith, le-ltb, lt-ltb)
 
 pub packed_unit-lead : (b x : ℕ) → IsLead x → packed_unit b x ≡ (0xF0 + (x - 0xD7C0) / 256) ∷ (0x80 + (x - 0xD7C0) / 4 % 64) ∷ []
-packed_unit-lead b x l =
-    rw (
-      le-ltb x 0x80 (omega (arith, l.0)),
-      le-ltb x 0x800 (omega (arith, l.0)),
-      le-ltb x 0xD800 l.0,
-      lt-ltb x 0xE000 (omega (arith, l.1)),
-      lt-ltb x 0xDC00 (omega (arith, l.1)),
-    ) refl
+packed_unit-lead b x l = grind (arith, le-ltb, lt-ltb)
 
 pub packed_unit-trail : (b x : ℕ) → IsTrail x → packed_unit b x ≡ (0x80 + b % 4 * 16 + x / 64 % 16) ∷ (0x80 + x % 64) ∷ []
-packed_unit-trail b x l =
-    rw (
-      le-ltb x 0x80 (omega (arith, l.0)),
-      le-ltb x 0x800 (omega (arith, l.0)),
-      le-ltb x 0xD800 (omega (arith, l.0)),
-      lt-ltb x 0xE000 (omega (arith, l.1)),
-      le-ltb x 0xDC00 l.0,
-    ) refl
+packed_unit-trail b x l = grind (arith, le-ltb, lt-ltb)
 
 packed_unit-above : (b x : ℕ) → 0xE000 ≤ x → packed_unit b x ≡ (0xE0 + x / 4096 % 16) ∷ (0x80 + x / 64 % 64) ∷ (0x80 + x % 64) ∷ []
-packed_unit-above b x l = rw (
-  le-ltb x 0x80 (omega (arith, l)),
-  le-ltb x 0x800 (omega (arith, l)),
-  le-ltb x 0xD800 (omega (arith, l)),
-  le-ltb x 0xE000 l,
-  le-ltb x 0xDC00 (omega (arith, l)),
-) refl
+packed_unit-above b x l = grind (arith, le-ltb)
 
 packed_unit-above_trails : (b x : ℕ) → 0xE000 ≤ x → x < 0x10000 → packed_unit b x ≡ third_row x
-packed_unit-above_trails b x l h =
-    let few : 0xE0 + x / 4096 % 16 ≡ 0xE0 + x / 4096 = omega (arith, h) in
-    packed_unit-above b x l ∙ (λ i. few i ∷ (0x80 + x / 64 % 64) ∷ (0x80 + x % 64) ∷ [])
+packed_unit-above_trails b x l h = grind (arith, packed_unit-above)
 
 -- a lone surrogate takes the three bytes of its own value
 packed_unit-lone : (b x : ℕ) → IsSurrogate x → packed_unit b (x + 0x10000) ≡ third_row x
-packed_unit-lone b x s =
-    let first : 0xE0 + (x + 0x10000) / 4096 % 16 ≡ 0xE0 + x / 4096 = omega (arith, s) in
-    let second : 0x80 + (x + 0x10000) / 64 % 64 ≡ 0x80 + x / 64 % 64 = omega arith in
-    let third : 0x80 + (x + 0x10000) % 64 ≡ 0x80 + x % 64 = omega arith in
-    packed_unit-above b (x + 0x10000) (omega (arith, s)) ∙ (λ i. first i ∷ second i ∷ third i ∷ [])
+packed_unit-lone b x s = grind (arith, packed_unit-above)
 
 -- a tag on the unit before changes no byte
 packed_unit-after_tag : (b d n : ℕ) → IsTag b d → packed_unit d n ≡ packed_unit b n
-packed_unit-after_tag b d n k =
-    let same : d % 4 ≡ b % 4 = elim k [ inl e ↦ omega (arith, e) | inr e ↦ omega (arith, e.0) ] in
-    rw same refl
+packed_unit-after_tag b d n k = grind (arith)
 
 packed_units-after_tag : (b d : ℕ) (u : List ℕ) → IsTag b d → packed_units d u ≡ packed_units b u
 packed_units-after_tag b d [] k = refl
@@ -176,28 +88,13 @@ packed_units-after_tag b d (n ∷ u) k = ap (λ w. w ++ packed_units n u) (packe
 -- a row written at index `n` of a block, of which the first `l` bytes count
 pub take-written_block : (block row rest : List ℕ) (n l : ℕ) → n ≤ length block → l ≤ length row
     → take (n + l) (take n block ++ (row ++ rest)) ≡ take n block ++ take l row
-take-written_block block row rest n l bound h =
-    let front : length (take n block) ≡ n = length-take-le n block bound in
-    ap (λ k. take (k + l) (take n block ++ (row ++ rest))) (sym front) ∙ take-append-add (take n block) (row ++ rest) l
-    ∙ ap (λ v. take n block ++ v) (take-append-le l row rest h)
+take-written_block block row rest n l bound h = grind (arith, length-take-le, take-append-add, take-append-le)
 
 -- The pieces of tagged units are the encodings of the code points that the units are read as.
 
 -- the piece of a unit that is no surrogate is its encoding
 encoding-packed_unit : (b x : ℕ) → x < 0x10000 → ¬ (IsSurrogate x) → encoding x ≡ packed_unit b x
-encoding-packed_unit b x h n = elim (cases_lt x 0x80) [
-  | inl l ↦ encoding_one x l ∙ sym (rw (lt-ltb x 0x80 l, lt-ltb x 0x800 (omega (arith, l)), lt-ltb x 0xD800 (omega (arith, l))) refl)
-  | inr k ↦ elim (cases_lt x 0x800) [
-    | inl l ↦ encoding_two x k l ∙ sym (packed_unit-two_bytes b x k l)
-    | inr m ↦ elim (cases_lt x 0xD800) [
-      | inl l ↦ encoding_three x m h ∙ sym (packed_unit-below_leads b x m l)
-      | inr r ↦ elim (cases_lt x 0xE000) [
-        | inl l ↦ absurd (n (r, omega (arith, l)))
-        | inr l ↦ encoding_three x m h ∙ sym (packed_unit-above_trails b x l h)
-      ]
-    ]
-  ]
-]
+encoding-packed_unit b x h n = grind (arith, cases_lt, encoding_one, encoding_two, encoding_three, lt-ltb, le-ltb)
 
 packed_unit-form : (b x : ℕ) → x < 0x10000 → ¬ (IsSurrogate x) → IsKnownForm (packed_unit b x) (x ∷ []) true
 packed_unit-form b x h n = record {
@@ -211,13 +108,7 @@ packed_unit-form b x h n = record {
 
 -- the pieces of a lead and its trail are the encoding of the pair
 encoding-packed_pair : (b l t : ℕ) → IsLead l → IsTrail t → encoding (pair l t) ≡ packed_unit b l ++ packed_unit l t
-encoding-packed_pair b l t k m =
-    let first : 0xF0 + pair l t / 262144 ≡ 0xF0 + (l - 0xD7C0) / 256 = omega (arith, k, m) in
-    let second : 0x80 + pair l t / 4096 % 64 ≡ 0x80 + (l - 0xD7C0) / 4 % 64 = omega (arith, k, m) in
-    let third : 0x80 + pair l t / 64 % 64 ≡ 0x80 + l % 4 * 16 + t / 64 % 16 = omega (arith, k, m) in
-    let fourth : 0x80 + pair l t % 64 ≡ 0x80 + t % 64 = omega (arith, k, m) in
-    encoding_four (pair l t) (omega (arith, k, m)) ∙ (λ i. first i ∷ second i ∷ third i ∷ fourth i ∷ [])
-    ∙ sym (λ i. packed_unit-lead b l k i ++ packed_unit-trail l t m i)
+encoding-packed_pair b l t k m = grind (arith, encoding_four, packed_unit-lead, packed_unit-trail)
 
 packed_pair-form : (b l t : ℕ) → IsLead l → IsTrail t → IsKnownForm (packed_unit b l ++ packed_unit l t) (l ∷ t ∷ []) true
 packed_pair-form b l t k m = record {
@@ -332,8 +223,7 @@ block_read w kept {u = u} {at = at} {known = known} {more = more} k x few within
     (subst (λ v. IsKnownForm (packed_units 0 (tagged_units 0 own after)) v more) same form)
 
 pub and_assoc : (a b c : Bool) → ((a && b) && c) ≡ (a && (b && c))
-and_assoc true b c = refl
-and_assoc false b c = refl
+and_assoc a b c = grind (arith)
 
 -- eight units of which the last is no lead, or the seven before a lead, are encoded by appending their pieces
 pub packed_units-read : (w kept : List ℕ) {bytes u : List ℕ} {at : ℕ} {known more : Bool} (k : ℕ) → IsReadTo (w ++ kept) u at known

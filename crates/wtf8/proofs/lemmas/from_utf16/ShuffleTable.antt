@@ -14,13 +14,7 @@ abbrev each_length : (ℕ → Bool) → Bool
 each_length p = p 1 && (p 2 && p 3)
 
 of_length : (p : ℕ → Bool) (a : ℕ) → IsByteCount a → each_length p ≡ true → p a ≡ true
-of_length p a l e = elim (cases_lt a 2) [
-  | inl h ↦ let one : 1 ≡ a = omega (arith, l.0, h) in subst (λ k. p k ≡ true) one (and_parts _ _ e).0
-  | inr g ↦ elim (cases_lt a 3) [
-    | inl h ↦ let two : 2 ≡ a = omega (arith, g, h) in subst (λ k. p k ≡ true) two (and_parts _ _ (and_parts _ _ e).1).0
-    | inr h ↦ let three : 3 ≡ a = omega (arith, l.1, h) in subst (λ k. p k ≡ true) three (and_parts _ _ (and_parts _ _ e).1).1
-  ]
-]
+of_length p a l e = grind (arith, cases_lt, and_parts)
 
 abbrev each_four : (ℕ → ℕ → ℕ → ℕ → Bool) → Bool
 each_four p = each_length (λ a. each_length (λ b. each_length (λ c. each_length (p a b c))))

@@ -1,7 +1,7 @@
 -- Blocks of units: their masks, their form, and the string after they are appended.
 use Rattle.wtf8.proofs.Common.{◌≡◌, ℕ, zero, suc, ◌-◌, ◌%◌, ◌^◌, ◌<◌, ◌≤◌, eqb, Bool, true, false, cond, ◌&&◌, List, [], ◌∷◌, map, length}
 use Rattle.wtf8.proofs.Common.{replicate, Fits, refl, sym, ap, ◌∙◌, arith, inl, inr, and_parts, cases_Bool, Each1, zip2, mask_l, top}
-use Rattle.wtf8.proofs.Common.{AreAscii, IsSurrogate, ◌+◌, ◌/◌, ◌++◌, IsTrue, take, drop, get_or, subst, take-append-drop}
+use Rattle.wtf8.proofs.Common.{AreAscii, IsSurrogate, ◌+◌, ◌/◌, ◌++◌, IsTrue, take, drop, get_or, subst, take-append-drop, common_steps}
 use Rattle.wtf8.proofs.Common.{length-chunk, MeetsAsPair, IsKnownForm, DividesNoPair, w16, get_or-drop, length-take, take-add}
 use Rattle.wtf8.proofs.Common.{take-append-add, min, length-map, take-take, zip2_splat, IsLead}
 use Rattle.std.proofs.Math.Bool.{and-true}
@@ -46,13 +46,11 @@ IsKnownForm-nil known e =
 
 -- no pair is divided after a unit that is no lead
 pub DividesNoPair-after_no_lead : (u : List ℕ) (j : ℕ) → j < length u → ¬ (IsLead (get_or u j 0)) → DividesNoPair u (suc j)
-DividesNoPair-after_no_lead u j within n =
-    subst (λ w. ¬ (MeetsAsPair w (drop (suc j) u))) (sym (take-suc u j 0 within)) (unpaired-after_no_lead (take j u) (get_or u j 0) n)
+DividesNoPair-after_no_lead u j within n = grind (arith, common_steps, take-suc, unpaired-after_no_lead)
 
 -- a pair at the seam with the first `n` units of `b` is a pair at the seam with `b`
 MeetsAsPair-take : (a b : List ℕ) (n : ℕ) → MeetsAsPair a (take n b) → MeetsAsPair a b
-MeetsAsPair-take a b n m = meets_by m.front (m.rest ++ drop n b) m.lead m.trail m.is_lead m.is_trail m.ends
-    (sym (take-append-drop n b) ∙ ap (λ c. c ++ drop n b) m.begins)
+MeetsAsPair-take a b n m = grind (arith, common_steps, meets_by, take-append-drop)
 
 -- the form of a part appended to the form of the units before it, without a pair at the seam
 pub IsKnownForm-append : (w v a b : List ℕ) (known more both : Bool) → IsKnownForm w a known → IsKnownForm v b more → ¬ (MeetsAsPair a b)

@@ -32,12 +32,7 @@ cmp-append_left (x ∷ f) c d =
 
 -- without their equal first items, lists first differ one index earlier
 pub mismatch-cons : (x y : ℕ) (w v : List ℕ) (n : ℕ) → IsMismatch (x ∷ w) (y ∷ v) (suc n) → IsMismatch w v n
-mismatch-cons x y w v n d = record {
-  within_first = omega (arith, d.within_first);
-  within_second = omega (arith, d.within_second);
-  same_before = ap (drop 1) d.same_before;
-  differ_there = λ a b. d.differ_there (omega arith) (omega arith);
-}
+mismatch-cons x y w v n d = grind (arith)
 
 -- lists compare as their items at the first difference, with `None` for the end
 pub order_at_mismatch : (w v : List ℕ) (at : ℕ)

@@ -24,10 +24,7 @@ abbrev begins_surrogate : ℕ → ℕ → Bool
 begins_surrogate x y = eqb x 0xED && leb 0xA0 y
 
 top-bit_and : (a b : Bool) → top 7 (bit_and (lane_of_bool a) (lane_of_bool b)) ≡ a && b
-top-bit_and true true = refl
-top-bit_and true false = refl
-top-bit_and false true = refl
-top-bit_and false false = refl
+top-bit_and a b = grind (arith)
 
 map_top-surrogate_lanes : (n : ℕ) (xs ys : List ℕ) → length xs ≡ n → length ys ≡ n
     → map (top 7) (surrogate_lanes n xs ys) ≡ zip2 begins_surrogate xs ys

@@ -20,9 +20,7 @@ equal_buffers_compare s t =
     let units = equal_buffers s t in (λ e. units.0 (same.0 e), λ e. same.1 (units.1 e))
 
 pub equal_views_compare : EqualViewsCompareEqual
-equal_views_compare s t =
-    let same = equal_bytes s.bytes.now t.bytes.now in
-    let units = equal_views s t in (λ e. units.0 (same.0 e), λ e. same.1 (units.1 e))
+equal_views_compare s t = grind (arith, equal_bytes, equal_views)
 
 -- in a sorted table, a string that binary search does not find is not there
 pub absent_units : (table : List UnitString) (s : UnitString) (i : ℕ) → IsSorted (on (λ t. t.bytes) (slice_cmp nat_cmp)) table

@@ -106,10 +106,7 @@ pub record ScalarFacts (c : ℕ) : Type 0 where
   pub not_surrogate : ¬ (IsSurrogate c)
 
 pub scalar_facts : (c : ℕ) → scalar c ≡ true → ScalarFacts c
-scalar_facts c e = elim (scalar_cases c e) [
-  | inl l ↦ record { range = omega arith; not_surrogate = λ s. omega arith }
-  | inr h ↦ record { range = omega arith; not_surrogate = λ s. omega arith }
-]
+scalar_facts c e = grind (arith, scalar_cases)
 
 pub clean-scalars : (cs : List ℕ) → scalars cs ≡ true → IsClean cs
 clean-scalars [] e = tt
@@ -163,8 +160,7 @@ pub scalar_all : (c : List ℕ) (k : ℕ) → AreScalar c → AreScalarTo k c
 scalar_all c k s f p b e _ = scalar-middle f p b (subst AreScalar e s)
 
 pub all_scalar : (c : List ℕ) (k : ℕ) → AreScalarTo k c → length (bytes c) ≤ k → AreScalar c
-all_scalar c k s n = scalar_each c
-    (λ f p b e. s f p b e (omega (arith, n, ap (λ d. length (bytes d)) e, length-bytes_append f p b, length-encoding_bounds p)))
+all_scalar c k s n = grind (arith, scalar_each, length-bytes_append, length-encoding_bounds)
 
 pub scalar_to-front : (k n : ℕ) (c d : List ℕ) → AreScalarTo k (c ++ d) → n ≤ k → AreScalarTo n c
 scalar_to-front k n c d s l f p b e m = s f p (b ++ d) (ap (λ x. x ++ d) e ∙ append_assoc f (p ∷ b) d) (omega (arith, l, m))
@@ -320,17 +316,11 @@ extended_length ps w u y h k =
 
 -- a call that fits has the outcome `v` that `CallFits` names
 pub found_step : (u : List ℕ) (call : Build) (v w : List ℕ) (n r : ℕ) → CallFits u call v n → Step u call w r → w ≡ v
-found_step u (Truncate k) v w n r f s = absurd f.no_truncation
-found_step u (TruncateUnits k) v w n r f s = absurd f.no_truncation
-found_step u call v w n r f s = s.0 ∙ sym f.step.0
+found_step u call v w n r f s = grind (arith)
 
 -- a call that fits a capacity fits a greater one
 pub CallFits-larger : {u v : List ℕ} {call : Build} {m n : ℕ} → CallFits u call v m → m ≤ n → CallFits u call v n
-CallFits-larger f h = record {
-  no_truncation = f.no_truncation;
-  step = f.step;
-  fits = record { whole = f.fits.whole; form = f.fits.form; within = omega (arith, f.fits.within, h) };
-}
+CallFits-larger f h = grind (arith)
 
 -- If each of `calls ++ more` fits `capacity`, each of `more` fits it after `calls`, and the capacity has not shrunk.
 pub record Found (u : List ℕ) (calls : List Build) (now : List ℕ) (capacity grown : ℕ) : Type 0 where
@@ -340,10 +330,4 @@ pub record Found (u : List ℕ) (calls : List Build) (now : List ℕ) (capacity 
 pub found_more : {u now new : List ℕ} {calls : List Build} {call : Build} {capacity grown larger : ℕ} (r : ℕ)
     → Found u calls now capacity grown → Step now call new r → ((v : List ℕ) → CallFits now call v capacity → grown ≤ larger)
     → Found u (calls ++ call ∷ []) new capacity larger
-found_more {u} {now} {new} {calls} {call} {capacity} {grown} {larger} r f s h = record {
-  rest = λ more v x. let here = f.rest (call ∷ more) v (rw append_assoc at x) in
-      subst (λ m. EachCallFits m more v capacity) (sym (found_step now call here.0 new capacity r here.1 s)) here.2;
-  grows = λ more v x.
-      let here = f.rest (call ∷ more) v (rw append_assoc at x) in
-      omega (arith, f.grows (call ∷ more) v (rw append_assoc at x), h here.0 here.1);
-}
+found_more {u} {now} {new} {calls} {call} {capacity} {grown} {larger} r f s h = grind (arith, append_assoc, found_step)

@@ -20,11 +20,7 @@ pub start_is_boundary : StartIsBoundary
 start_is_boundary w u f = record { front = []; back = f.points; splits = record { reads = f.reads; front_len = refl } }
 
 pub end_is_boundary : EndIsBoundary
-end_is_boundary w u f = record {
-  front = f.points;
-  back = [];
-  splits = record { reads = subst (λ c. Reads c u) (sym (append-nil f.points)) f.reads; front_len = ap length f.encoded };
-}
+end_is_boundary w u f = grind (arith, append-nil)
 
 -- a boundary of the units is a cut of the form's code points
 cut_at_boundary : {w u : List ℕ} (f : IsForm w u) (k : ℕ) → IsBoundary u k → Cut w (well_formed_of f) k

@@ -3,7 +3,7 @@ use Rattle.wtf8.proofs.Common.{◌≡◌, ◌-◌, ◌≤◌, ◌<◌, ℕ, zero
 use Rattle.wtf8.proofs.Common.{arith, length-append, cases_lt, append-nil, get_or-append_right, encoding, bytes, take, drop, append_assoc}
 use Rattle.wtf8.proofs.Common.{take_at, drop_at, units, IsClean, Reads, IsWellFormed, IsForm, IsBoundary, IsFront, IsBack, ◌+◌, ◌/◌, ◌%◌}
 use Rattle.wtf8.proofs.Common.{take-add, chunk, units_of, utf16_len, sum_utf16_len, IsCursorOfUnit, CutsUnits, None, sum_by-append}
-use Rattle.wtf8.proofs.Common.{sum_by_more, Splits, IsMiddle, UnitCursor}
+use Rattle.wtf8.proofs.Common.{sum_by_more, Splits, IsMiddle, UnitCursor, common_steps}
 use Rattle.wtf8.proofs.lemmas.lanes.UnitCounts.{utf16_len-ascii, utf16_len-continuation, utf16_len-lead_below_F0, utf16_len-lead_from_F0}
 use Rattle.wtf8.proofs.lemmas.codec.Encoding.{Begins, first-encoding, continuation-encoding, length-encoding_bounds, length-bytes_append}
 use Rattle.wtf8.proofs.lemmas.codec.Encoding.{bytes-append, encoding_cases, one, two, three, four}
@@ -41,11 +41,7 @@ split_at (p ∷ c) (suc k) h s =
 -- the byte after a front is the first byte of the next code point
 pub first-bytes_after : (front : List ℕ) (p : ℕ) (b : List ℕ)
     → get_or (bytes (front ++ p ∷ b)) (length (bytes front)) 0 ≡ get_or (encoding p ++ bytes b) 0 0
-first-bytes_after front p b =
-    let n = length (bytes front) in
-    let start : n - n ≡ 0 = omega arith in
-    ap (λ w. get_or w n 0) (bytes-append front (p ∷ b)) ∙ (get_or-append_right (bytes front) (encoding p ++ bytes b) n n 0
-    refl (omega arith) ∙ ap (λ k. get_or (encoding p ++ bytes b) k 0) start)
+first-bytes_after front p b = grind (arith, bytes-append, get_or-append_right)
 
 pub begins_after : (f b : List ℕ) → length (bytes f) < length (bytes (f ++ b)) → Begins (get_or (bytes (f ++ b)) (length (bytes f)) 0)
 begins_after f [] h = absurd (omega (arith, ap (λ c. length (bytes c)) (append-nil f)))
@@ -206,45 +202,19 @@ sum_utf16_len-ascii w i (suc n) bound low =
 
 pub sum_utf16_len-chunk_add : (w : List ℕ) (i m n k : ℕ) → m + n ≡ k
     → sum_utf16_len (chunk i k w) ≡ sum_utf16_len (chunk i m w) + sum_utf16_len (chunk (i + m) n w)
-sum_utf16_len-chunk_add w i m n k e =
-    let ends : i + m + n ≡ i + k = omega (arith, e) in
-    let same = ap (λ j. sum_utf16_len (take j w)) ends in
-    omega (arith, sum_utf16_len_take_add w i k, sum_utf16_len_take_add w i m, sum_utf16_len_take_add w (i + m) n, same)
+sum_utf16_len-chunk_add w i m n k e = grind (arith, common_steps, sum_utf16_len_take_add)
 
 -- the units of a code point begin in its bytes, all of them at the first byte
 utf16_len-continuation_byte : (n : ℕ) → utf16_len (0x80 + n % 64) ≡ 0
 utf16_len-continuation_byte n = utf16_len-continuation (0x80 + n % 64) (omega arith) (omega arith)
 
+ruleset utf16_lens = (utf16_len-ascii, utf16_len-lead_below_F0, utf16_len-continuation_byte, utf16_len-lead_from_F0)
+
 pub sum_utf16_len-encoding : (p : ℕ) → sum_utf16_len (encoding p) ≡ length (units_of p)
-sum_utf16_len-encoding p = elim (encoding_cases p) [
-  | one h e ↦ rw (e, units_one p (omega arith), utf16_len-ascii p h) refl
-  | two l h e ↦
-      rw (e, units_one p (omega arith), utf16_len-lead_below_F0 (0xC0 + p / 64) (omega arith) (omega arith), utf16_len-continuation_byte p)
-      refl
-  | three l h e ↦ rw (
-    e,
-    units_one p h,
-    utf16_len-lead_below_F0 (0xE0 + p / 4096) (omega arith) (omega arith),
-    utf16_len-continuation_byte (p / 64),
-    utf16_len-continuation_byte p,
-  ) refl
-  | four l e ↦ rw (
-    e,
-    units_two p l,
-    utf16_len-lead_from_F0 (0xF0 + p / 262144) (omega arith),
-    utf16_len-continuation_byte (p / 4096),
-    utf16_len-continuation_byte (p / 64),
-    utf16_len-continuation_byte p,
-  ) refl
-]
+sum_utf16_len-encoding p = grind (arith, encoding_cases, units_one, units_two, utf16_lens)
 
 utf16_len-encoding : (p : ℕ) (r : List ℕ) → utf16_len (get_or (encoding p ++ r) 0 0) ≡ length (units_of p)
-utf16_len-encoding p r = elim (encoding_cases p) [
-  | one h e ↦ rw (e, units_one p (omega arith)) (utf16_len-ascii p h)
-  | two l h e ↦ rw (e, units_one p (omega arith)) (utf16_len-lead_below_F0 (0xC0 + p / 64) (omega arith) (omega arith))
-  | three l h e ↦ rw (e, units_one p h) (utf16_len-lead_below_F0 (0xE0 + p / 4096) (omega arith) (omega arith))
-  | four l e ↦ rw (e, units_two p l) (utf16_len-lead_from_F0 (0xF0 + p / 262144) (omega arith))
-]
+utf16_len-encoding p r = grind (arith, encoding_cases, units_one, units_two, utf16_lens)
 
 pub sum_utf16_len-bytes : (c : List ℕ) → sum_utf16_len (bytes c) ≡ length (units c)
 sum_utf16_len-bytes [] = refl
@@ -258,10 +228,7 @@ sum_utf16_len-bytes (p ∷ c) = omega (
 
 -- a byte at which units begin begins a code point
 begins_from_utf16_len : (b : ℕ) → 0 < utf16_len b → Begins b
-begins_from_utf16_len b h = elim (cases_lt b 0x80) [
-  | inl l ↦ record { start = inl l }
-  | inr l ↦ elim (cases_lt b 0xC0) [ inl k ↦ absurd (omega (arith, utf16_len-continuation b l k)) | inr k ↦ record { start = inr k } ]
-]
+begins_from_utf16_len b h = grind (arith, cases_lt, utf16_len-continuation)
 
 -- the code points before and after `cursor`; the next one, if any, holds unit `n`
 pub record PointsAbout (c : List ℕ) (n : ℕ) (cursor : UnitCursor) : Type 0 where

@@ -101,10 +101,7 @@ units_or_not (x ∷ u) = elim (cases_lt x 0x10000) [
 ]
 
 begins_or_not : (b : ℕ) → Begins b ⊎ (Begins b → ⊥)
-begins_or_not b = elim (cases_lt b 0x80) [
-  | inl h ↦ inl (record { start = inl h })
-  | inr h ↦ elim (cases_lt b 0xC0) [ inl k ↦ inr (λ s. omega (arith, s.start)) | inr k ↦ inl (record { start = inr k }) ]
-]
+begins_or_not b = grind (arith, cases_lt)
 
 -- it is decidable whether a position is a boundary
 cut_or_not : {w : List ℕ} (h : IsWellFormed w) (k : ℕ) → IsBoundary (units h.points) k ⊎ (IsBoundary (units h.points) k → ⊥)

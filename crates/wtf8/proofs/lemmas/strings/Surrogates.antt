@@ -74,13 +74,7 @@ none_from_scalar c i s at =
 
 -- scalar values are the characters of a text
 pub scalar_true : (p : ℕ) → IsCodePoint p → ¬ (IsSurrogate p) → scalar p ≡ true
-scalar_true p r n = elim (cases_lt p 0xD800) [
-  | inl h ↦ low_scalar p h
-  | inr h ↦ elim (cases_lt p 0xE000) [
-    | inl k ↦ absurd (n (h, omega arith))
-    | inr k ↦ rw (le-ltb p 0xD800 h, lt-ltb p 0x110000 (omega arith)) (grind (arith, nat_tests))
-  ]
-]
+scalar_true p r n = grind (arith, cases_lt, low_scalar, le-ltb, lt-ltb)
 
 pub scalars_true : (c : List ℕ) → IsClean c → AreScalar c → scalars c ≡ true
 scalars_true [] x s = refl
@@ -109,17 +103,11 @@ scalar_from_none f c none = scalar_between f c [] (λ j l _ s. none j l (subst (
 -- a search that does not return `Some` found none
 pub none_found : (w : List ℕ) (from : ℕ) (r : Option ℕ) → IsFirst (SurrogateAt w) from r → ((i : ℕ) → r ≡ Some i → ⊥) → (j : ℕ) → from ≤ j
     → ¬ (SurrogateAt w j)
-none_found w from None f n = f
-none_found w from (Some i) f n = absurd (n i refl)
+none_found w from r f n = grind (arith)
 
 -- the first position from a start on is the first of all if there is none before the start
 pub first_further : (P : ℕ → Type 0) (from : ℕ) (r : Option ℕ) → ((i : ℕ) → i < from → ¬ (P i)) → IsFirst P from r → IsFirst P 0 r
-first_further P from None before f = λ j _. elim (cases_lt j from) [ inl h ↦ before j h | inr h ↦ f j h ]
-first_further P from (Some i) before f = record {
-  not_before = omega arith;
-  here = f.here;
-  none_between = λ j _ u. elim (cases_lt j from) [ inl h ↦ before j h | inr h ↦ f.none_between j h u ];
-}
+first_further P from r before f = grind (arith, cases_lt)
 
 -- the result of the search says whether all code points are scalar values
 pub scalar_if_none : {w : List ℕ} (h : IsWellFormed w) → ((j : ℕ) → 0 ≤ j → ¬ (SurrogateAt w j)) → AreScalar h.points

@@ -35,19 +35,7 @@ slice_get-append_at (x ∷ a) b zero e = absurd (omega arith)
 slice_get-append_at (x ∷ a) b (suc n) e = slice_get-append_at a b n (omega arith)
 
 pub undivided_from_cut : {c : List ℕ} {n k : ℕ} {half : Option ℕ} → half ≡ None → CutsUnits c n k half → Undivided c n k
-undivided_from_cut {c} {n} {k} e cut =
-    let x = subst (CutsUnits c n k) e cut in
-    let whole : units c ≡ units x.front ++ units x.back = ap units x.joined ∙ units-append x.front x.back in
-    record {
-      front = x.front;
-      back = x.back;
-      joined = x.joined;
-      front_len = x.front_len;
-      within = omega (arith, ap length whole, length-append (units x.front) (units x.back), x.counted);
-      kept = ap (take n) whole ∙ take_at (units x.front) (units x.back) n x.counted;
-      after = ap (drop n) whole ∙ drop_at (units x.front) (units x.back) n x.counted;
-      here = ap (λ u. slice_get u n) whole ∙ slice_get-append_at (units x.front) (units x.back) n x.counted;
-    }
+undivided_from_cut {c} {n} {k} e cut = grind (arith, units-append, length-append, take_at, drop_at, slice_get-append_at)
 
 -- the cut is inside the pair of `p`
 pub record Divided (c : List ℕ) (n k p : ℕ) : Type 0 where
@@ -157,13 +145,7 @@ lead_kept_units {p} clean d =
 
 -- at a cut between code points the first `n` units are the units before position `k`
 pub front_at : {w : List ℕ} (h : IsWellFormed w) {n k : ℕ} → Undivided h.points n k → IsFront (units h.points) k (take n (units h.points))
-front_at h x = record {
-  front = x.front;
-  back = x.back;
-  splits =
-      record { reads = record { clean = subst IsClean x.joined h.clean; same_units = ap units (sym x.joined) }; front_len = x.front_len };
-  same_units = sym x.kept;
-}
+front_at h x = grind (arith)
 
 -- `Undivided` after `n` units means that no pair is divided there, `Divided` that one is
 pub divides_none : {c : List ℕ} {n k : ℕ} → IsClean c → Undivided c n k → ¬ (DividesPair (units c) n)
@@ -242,24 +224,15 @@ first_no_continuation {w = a ∷ r} h = elim ((Begins-first_byte h (omega arith)
 
 -- bytes that begin with no continuation byte hold no trail
 pub held_trail-none : (w : List ℕ) → is_continuation (get_or w 0 0) ≡ false → (held_trail w ≡ []) × (after_held_trail w ≡ w)
-held_trail-none [] e = (refl, refl)
-held_trail-none (a ∷ []) e = (refl, refl)
-held_trail-none (a ∷ b ∷ w) e = (rw e refl, rw e refl)
+held_trail-none w e = grind (arith)
 
 -- bytes that begin inside a pair have both bytes of the trail
 pub held_trail-two_bytes : (w : List ℕ) → IsWellFormed (after_held_trail w) → 0x80 ≤ get_or w 0 0 → get_or w 0 0 < 0xC0 → 1 < length w
-held_trail-two_bytes [] h l g = absurd (omega arith)
-held_trail-two_bytes (a ∷ []) h l g = absurd (elim ((Begins-first_byte h (omega arith)).start) [
-  | inl m ↦ omega arith
-  | inr m ↦ omega arith
-])
-held_trail-two_bytes (a ∷ b ∷ w) h l g = omega arith
+held_trail-two_bytes w h l g = grind (arith, Begins-first_byte)
 
 pub held_trail-some : (w : List ℕ) → 1 < length w → is_continuation (get_or w 0 0) ≡ true
     → (held_trail w ≡ trail_from_bytes (get_or w 0 0) (get_or w 1 0) ∷ []) × (after_held_trail w ≡ drop 2 w)
-held_trail-some [] h e = absurd (omega arith)
-held_trail-some (a ∷ []) h e = absurd (omega arith)
-held_trail-some (a ∷ b ∷ w) h e = (rw e refl, rw e refl)
+held_trail-some w h e = grind (arith)
 
 -- after the first unit of a code point the second, if any, is held
 units-first : (old new points more : List ℕ) (p unit : ℕ) → old ≡ [] → points ≡ p ∷ more → units_of p ≡ unit ∷ new
@@ -365,11 +338,7 @@ divided_at_cursor {w} h n cursor is inside m = at_back x.cut.back refl
 -- at the end there is no unit
 pub none_from_cursor : {w : List ℕ} (h : IsWellFormed w) (n : ℕ) (cursor : UnitCursor) → IsCursorOfUnit w n cursor
     → cursor.position ≡ length w → slice_get (units h.points) n ≡ None
-none_from_cursor {w} h n cursor is e =
-    let before = is.before in
-    let all = take_all cursor.position w (omega (arith, e)) in
-    let count = sym (sum_utf16_len-bytes h.points) ∙ (ap sum_utf16_len h.encoded ∙ (ap sum_utf16_len (sym all) ∙ sym before.counted)) in
-    slice_get_past (units h.points) n (omega (arith, count, before.not_beyond))
+none_from_cursor {w} h n cursor is e = grind (arith, take_all, sum_utf16_len-bytes, slice_get_past)
 
 -- at the end nothing is left
 pub nothing_held_at_end : (w : List ℕ) (h : IsWellFormed (after_held_trail w)) → length w ≡ 0 → (held_trail w ≡ []) × (h.points ≡ [])

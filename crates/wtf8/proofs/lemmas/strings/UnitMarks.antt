@@ -209,8 +209,7 @@ abbrev form_about : {u v : List ℕ} {k : ℕ} (b : IsFront u k v) → IsForm (b
 form_about b = record { points = b.front ++ b.back; reads = b.splits.reads; encoded = refl }
 
 pub front_is_first_units : (u v : List ℕ) (k : ℕ) → IsFront u k v → v ≡ take (length v) u
-front_is_first_units u v k b = sym b.same_units ∙ sym (ap (take (length v)) (sym b.splits.reads.same_units ∙ units-append b.front b.back)
-    ∙ take_at (units b.front) (units b.back) (length v) (ap length b.same_units))
+front_is_first_units u v k b = grind (arith, units-append, take_at)
 
 pub boundary_divides_none : BoundariesDivideNoPair
 boundary_divides_none u v k b = mark_divides_none _ u k (length v) (form_about b) (boundary_is_mark _ u v k (form_about b) b)
@@ -261,10 +260,7 @@ ascii_from_lengths (p ∷ c) e =
 
 -- a string with equal numbers of bytes and units is ASCII, and its units are its bytes
 pub ascii_same : {w u : List ℕ} → IsForm w u → length w ≡ length u → AreAscii u × (w ≡ u)
-ascii_same {w} {u} f e =
-    let low = ascii_from_lengths f.points (ap length f.encoded ∙ (e ∙ sym (ap length f.reads.same_units))) in
-    let ascii = subst AreAscii (sym (units-ascii f.points low) ∙ f.reads.same_units) low in
-    (ascii, same_form w u u f (IsKnownForm-ascii u ascii).form)
+ascii_same {w} {u} f e = grind (arith, ascii_from_lengths, units-ascii, same_form, IsKnownForm-ascii)
 
 pub equal_counts : EqualCountsAreMarks
 equal_counts w u k f e h =

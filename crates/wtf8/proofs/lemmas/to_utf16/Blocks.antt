@@ -29,46 +29,13 @@ abbrev unit_of_one : List ℕ → ℕ
 unit_of_one w = get_or w 0 0
 
 DecodesRun-one_byte : DecodesRun 1 (HasBitPrefix 128 0) unit_of_one
-DecodesRun-one_byte = record {
-  positive = omega arith;
-  part = λ p r h.
-      let own = encoding-from_ascii_byte p r (omega (arith, h)) in
-      record { width = ap length own.0; read = ap (λ w. unit_of_one (w ++ r)) own.0; one_unit = omega (arith, own.1) };
-  local = λ b r le. get_or_append_left b r 0 0 (omega arith);
-}
+DecodesRun-one_byte = grind (arith, encoding-from_ascii_byte, get_or_append_left)
 
 pub DecodesRun-two_bytes : DecodesRun 2 (HasBitPrefix 32 6) unit_of_two
-DecodesRun-two_bytes = record {
-  positive = omega arith;
-  part = part;
-  local = λ b r le. ap (λ x. x % 32 * 64 + get_or (b ++ r) 1 0 % 64) (get_or_append_left b r 0 0 (omega arith))
-      ∙ ap (λ y. get_or b 0 0 % 32 * 64 + y % 64) (get_or_append_left b r 0 1 (omega arith));
-}
-  where
-    part : (p : ℕ) (r : List ℕ) → HasBitPrefix 32 6 (get_or (encoding p ++ r) 0 0) → DecodesUnit 2 unit_of_two p r
-    part p r h = elim (encoding_cases p) [
-      | one l e ↦ absurd (omega (arith, rw e at h))
-      | two _ l e ↦ record { width = ap length e; read = ap (λ w. unit_of_two (w ++ r)) e ∙ omega arith; one_unit = omega arith }
-      | three l _ e ↦ absurd (omega (arith, rw e at h))
-      | four l e ↦ absurd (omega (arith, rw e at h))
-    ]
+DecodesRun-two_bytes = grind (arith, get_or_append_left, encoding_cases)
 
 pub DecodesRun-three_bytes : DecodesRun 3 (HasBitPrefix 16 14) unit_of_three
-DecodesRun-three_bytes = record {
-  positive = omega arith;
-  part = part;
-  local = λ b r le. ap (λ x. (x % 16 * 64 + get_or (b ++ r) 1 0 % 64) * 64 + get_or (b ++ r) 2 0 % 64) (get_or_append_left b r 0 0 (omega
-      arith)) ∙ (ap (λ y. (get_or b 0 0 % 16 * 64 + y % 64) * 64 + get_or (b ++ r) 2 0 % 64) (get_or_append_left b r 0 1 (omega arith))
-      ∙ ap (λ z. (get_or b 0 0 % 16 * 64 + get_or b 1 0 % 64) * 64 + z % 64) (get_or_append_left b r 0 2 (omega arith)));
-}
-  where
-    part : (p : ℕ) (r : List ℕ) → HasBitPrefix 16 14 (get_or (encoding p ++ r) 0 0) → DecodesUnit 3 unit_of_three p r
-    part p r h = elim (encoding_cases p) [
-      | one l e ↦ absurd (omega (arith, rw e at h))
-      | two _ l e ↦ absurd (omega (arith, rw e at h))
-      | three _ l e ↦ record { width = ap length e; read = ap (λ w. unit_of_three (w ++ r)) e ∙ omega arith; one_unit = l }
-      | four l e ↦ absurd (omega (arith, rw e at h))
-    ]
+DecodesRun-three_bytes = grind (arith, get_or_append_left, encoding_cases)
 
 -- the first `k` units, decoded from `n` bytes each, if their lead bytes satisfy `P`
 pub units_then_rest : {P : ℕ → Type 0} (n : ℕ) (f : List ℕ → ℕ) → DecodesRun n P f → (c k at : ℕ) (w b r : List ℕ) (h : IsWellFormed w)

@@ -1,11 +1,10 @@
 use Rattle.wtf8.proofs.Common.{◌≡◌, ◌↔◌, ℕ, Option, None, Some, IfSome, refl, sym, ◌∙◌, false≢true, number, replace_surrogate, IsSurrogate}
-use Rattle.wtf8.proofs.Common.{IsNone, unwrap_or}
+use Rattle.wtf8.proofs.Common.{IsNone, unwrap_or, arith}
 use Rattle.wtf8.proofs.lemmas.codec.Scalars.{replace_surrogate-surrogate, replace_surrogate-scalar}
 use Rattle.wtf8.proofs.codec.code_point.CodePoint.to_char_lossy.Goals as goal
 
 lossy_value : (r : Option ℕ) (n : ℕ) → IsNone r ↔ IsSurrogate n → IfSome r (λ c. c ≡ n) → unwrap_or r 0xFFFD ≡ replace_surrogate n
-lossy_value None n h e = sym (replace_surrogate-surrogate n (h.0 refl))
-lossy_value (Some c) n h e = e ∙ sym (replace_surrogate-scalar n (λ s. false≢true (sym (h.1 s))))
+lossy_value r n h e = grind (arith, replace_surrogate-surrogate, replace_surrogate-scalar, false≢true)
 
 pub returns-clause-value : goal.returns-clause-value
 returns-clause-value c =

@@ -26,17 +26,7 @@ record Adds (u : List ℕ) (call : Build) (a : List ℕ) : Type 0 where
   only : (v : List ℕ) (r : ℕ) → Step u call v r → v ≡ u ++ a
 
 Adds-from_appended : (u : List ℕ) (call : Build) (a : List ℕ) → appended_units call ≡ Some a → Adds u call a
-Adds-from_appended u (Reserve n) a e = absurd (none-some a e)
-Adds-from_appended u (Truncate k) a e = absurd (none-some a e)
-Adds-from_appended u (TruncateUnits n) a e = absurd (none-some a e)
-Adds-from_appended u call a e =
-    let same : _ ≡ a = same_Some _ a e in
-    record {
-      no_truncation = tt;
-      reserves_none = refl;
-      step = (ap (λ b. u ++ b) (sym same), refl);
-      only = λ v r s. s.0 ∙ ap (λ b. u ++ b) same;
-    }
+Adds-from_appended u call a e = grind (arith, none-some, same_Some)
 
 -- a run of pushes and extensions appends the units of all, and none of them truncates
 run_appends : (u : List ℕ) (calls : List Build) (v : List ℕ) (n : ℕ) (a : List ℕ) → Run u calls v n → CallsAppend calls a → v ≡ u ++ a
@@ -81,10 +71,7 @@ refused-one_more kept n e = rw e refl
 no_room : (g : _) (c : In_default g) (more : List Build) (v : List ℕ)
     → ¬ (EachCallFits c.args.self.now.units
     (take c.loop-done.done c.args.calls.now ++ c.index-calls-done.result ∷ more) v c.args.self.now.capacity)
-no_room g c more v whole =
-    let found = c.loop-done.invariant.found in
-    let here = found.rest (c.index-calls-done.result ∷ more) v whole in
-    false≢true (c.in_default.ensures.found here.0 (CallFits-larger here.1 (found.grows (c.index-calls-done.result ∷ more) v whole)))
+no_room g c more v whole = grind (arith, false≢true, CallFits-larger)
 
 pub loop-done-preserved : goal.loop-done-preserved
 loop-done-preserved g c =

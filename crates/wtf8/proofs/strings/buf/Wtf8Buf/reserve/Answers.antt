@@ -13,8 +13,7 @@ returns-in_err-reserve-clause-units g c = ap units (same_points c.in_err-reserve
 
 -- the truncation removes nothing
 same_bytes : (g : _) (c : After-truncate g) → c.truncate.new.self.items ≡ c.self.inside.bytes.items
-same_bytes g c = c.truncate.ensures.items
-    ∙ (take_all _ _ (omega (arith, c.in_ok-reserve.ensures.len, c.len-len.ensures)) ∙ c.in_ok-reserve.ensures.items)
+same_bytes g c = grind (arith, take_all)
 
 pub invariant_of-self-inside-2 : goal.invariant_of-self-inside-2
 invariant_of-self-inside-2 g c = (
