@@ -39,9 +39,6 @@ scalar_lead_or_trail x = grind (arith, cases_lt)
 trail_or_not : (x : ℕ) → IsTrail x ⊎ (¬ (IsTrail x))
 trail_or_not x = grind (arith, cases_lt)
 
-lead_or_not : (x : ℕ) → IsLead x ⊎ (¬ (IsLead x))
-lead_or_not x = grind (arith, cases_lt)
-
 pub IsTag-tagged : (b x n : ℕ) → IsTag x (tagged b x n)
 IsTag-tagged b x n = grind (arith, cases_lt, le-ltb, lt-ltb)
 
@@ -55,12 +52,6 @@ take-tagged_units (suc (suc k)) b (x ∷ y ∷ u) a = ap (λ t. tagged b x y ∷
 
 -- The piece of a unit, by its range.
 
-pub packed_unit-two_bytes : (b x : ℕ) → 0x80 ≤ x → x < 0x800 → packed_unit b x ≡ (0xC0 + x / 64) ∷ (0x80 + x % 64) ∷ []
-packed_unit-two_bytes b x l h = grind (arith, le-ltb, lt-ltb)
-
-pub packed_unit-below_leads : (b x : ℕ) → 0x800 ≤ x → x < 0xD800 → packed_unit b x ≡ third_row x
-packed_unit-below_leads b x l h = grind (arith, le-ltb, lt-ltb)
-
 pub packed_unit-lead : (b x : ℕ) → IsLead x → packed_unit b x ≡ (0xF0 + (x - 0xD7C0) / 256) ∷ (0x80 + (x - 0xD7C0) / 4 % 64) ∷ []
 packed_unit-lead b x l = grind (arith, le-ltb, lt-ltb)
 
@@ -69,9 +60,6 @@ packed_unit-trail b x l = grind (arith, le-ltb, lt-ltb)
 
 packed_unit-above : (b x : ℕ) → 0xE000 ≤ x → packed_unit b x ≡ (0xE0 + x / 4096 % 16) ∷ (0x80 + x / 64 % 64) ∷ (0x80 + x % 64) ∷ []
 packed_unit-above b x l = grind (arith, le-ltb)
-
-packed_unit-above_trails : (b x : ℕ) → 0xE000 ≤ x → x < 0x10000 → packed_unit b x ≡ third_row x
-packed_unit-above_trails b x l h = grind (arith, packed_unit-above)
 
 -- a lone surrogate takes the three bytes of its own value
 packed_unit-lone : (b x : ℕ) → IsSurrogate x → packed_unit b (x + 0x10000) ≡ third_row x

@@ -145,29 +145,11 @@ step_once u (Truncate k) = elim (boundary_or_not u k) [
         goes = inl (f, refl);
         no_other = λ v r s. elim s [ inl x ↦ (front_unique u k v _ x.0 f, x.1) | inr n ↦ absurd (n.0 b) ];
       }
-  | inr n ↦
-      record {
-        outcome = _;
-        count = _;
-        goes = inr (n, refl, refl);
-        no_other = λ v r s. elim s [ inl x ↦ absurd (n (front_boundary x.0)) | inr m ↦ (m.1, m.2) ];
-      }
+  | inr n ↦ record { outcome = _; count = _; goes = inr (n, refl, refl); no_other = λ v r s. grind (arith, front_boundary) }
 ]
 step_once u (TruncateUnits n) = elim (cases_lt (length u) n) [
-  | inl h ↦
-      record {
-        outcome = _;
-        count = _;
-        goes = inr (h, refl, refl);
-        no_other = λ v r s. elim s [ inl x ↦ absurd (omega (arith, x.0, h)) | inr x ↦ (x.1, x.2) ];
-      }
-  | inr h ↦
-      record {
-        outcome = _;
-        count = _;
-        goes = inl (h, refl, refl);
-        no_other = λ v r s. elim s [ inl x ↦ (x.1, x.2) | inr x ↦ absurd (omega (arith, x.0, h)) ];
-      }
+  | inl h ↦ record { outcome = _; count = _; goes = inr (h, refl, refl); no_other = λ v r s. grind arith }
+  | inr h ↦ record { outcome = _; count = _; goes = inl (h, refl, refl); no_other = λ v r s. grind arith }
 ]
 step_once u call = record { outcome = _; count = _; goes = (refl, refl); no_other = λ v r s. s }
 
