@@ -67,7 +67,7 @@ continuation_byte_at (x ∷ xs) r (suc k) t h = continuation_byte_at xs r k t.2 
 -- the bytes after the first are continuation bytes
 pub continuation-encoding : (p k : ℕ) (r : List ℕ) → suc k < length (encoding p)
     → (0x80 ≤ get_or (encoding p ++ r) (suc k) 0) × (get_or (encoding p ++ r) (suc k) 0 < 0xC0)
-continuation-encoding p k r l = grind (arith, encoding_cases, continuation_byte_at)
+continuation-encoding p k r l = grind (arith, encoding_cases)
 
 pub length-encoding_bounds : (p : ℕ) → (1 ≤ length (encoding p)) × (length (encoding p) ≤ 4)
 length-encoding_bounds p = grind (arith, encoding_cases)
@@ -96,11 +96,8 @@ encoding_same p q r s e =
 
 -- What the first bytes of an encoding say about the code point.
 
-sixty_fours : (p : ℕ) → (p / 64 / 64 ≡ p / 4096) × (p / 4096 / 64 ≡ p / 262144)
-sixty_fours p = (div-div-eq-div-mul p 64 64, div-div-eq-div-mul p 4096 64)
-
 pub front-encoding : (p : ℕ) (r : List ℕ) → IsCodePoint p → FirstPointByLead (encoding p ++ r) p (length (encoding p))
-front-encoding p r range = grind (arith, sixty_fours, encoding_cases)
+front-encoding p r range = grind (arith, encoding_cases, div-div-eq-div-mul)
 
 -- bytes that begin with an encoding begin with that code point
 abbrev pub begins_with : (p : ℕ) (r w : List ℕ) → IsCodePoint p → w ≡ encoding p ++ r → BeginsWithPoint w

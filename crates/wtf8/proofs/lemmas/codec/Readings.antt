@@ -158,11 +158,8 @@ points_of_units [] = []
 points_of_units (l ∷ []) = l ∷ []
 points_of_units (l ∷ t ∷ u) = cond (is_pair l t) (pair l t ∷ points_of_units u) (l ∷ points_of_units (t ∷ u))
 
-is_pair-false : (l t : ℕ) → ¬ (IsLead l × IsTrail t) → is_pair l t ≡ false
-is_pair-false l t n = elim (cases_Bool (is_pair l t)) [ inl e ↦ absurd (n (surrogates_from_is_pair l t e)) | inr e ↦ e ]
-
 points_of_units-cons : (p : ℕ) (c : List ℕ) → IsClean (p ∷ c) → points_of_units (units c) ≡ c → points_of_units (p ∷ units c) ≡ p ∷ c
-points_of_units-cons p c x e = grind (arith, cases_lt, units-cons_one, is_pair-false, units-cons_two, clean-first)
+points_of_units-cons p c x e = grind (arith, cases_lt, units-cons_one, surrogates_from_is_pair, units-cons_two, clean-first)
 
 points_of_units-units : (c : List ℕ) → IsClean c → points_of_units (units c) ≡ c
 points_of_units-units [] x = refl

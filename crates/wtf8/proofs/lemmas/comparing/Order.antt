@@ -124,20 +124,8 @@ SameSideOfF0-cancel_left : (f w v : List ℕ) → SameSideOfF0 (f ++ w) (f ++ v)
 SameSideOfF0-cancel_left [] w v h = h
 SameSideOfF0-cancel_left (x ∷ f) w v h = SameSideOfF0-cancel_left f w v (h.0 refl)
 
--- a lead byte is below F0 exactly if its code point is one unit
-lead_byte-below_F0 : (p : ℕ) (r : List ℕ) → (0 < length (encoding p ++ r)) × ((p < 0x10000) ↔ (get_or (encoding p ++ r) 0 0 < 0xF0))
-lead_byte-below_F0 p r = grind (arith, encoding_cases)
-
-SameSideOfF0-first : (w v : List ℕ) → 0 < length w → 0 < length v → SameSideOfF0 w v → BothBelow 0xF0 (get_or w 0 0) (get_or v 0 0)
-SameSideOfF0-first [] v m n h = absurd (omega arith)
-SameSideOfF0-first (x ∷ w) [] m n h = absurd (omega arith)
-SameSideOfF0-first (x ∷ w) (y ∷ v) m n h = elim (cases_order x y) [
-  | inl e ↦ (λ k. omega arith, λ k. omega arith)
-  | inr n ↦ h.1 (λ e. omega (arith, n))
-]
-
 SameSideOfF0-encoding : (p q : ℕ) (r s : List ℕ) → SameSideOfF0 (encoding p ++ r) (encoding q ++ s) → BothBelow 0x10000 p q
-SameSideOfF0-encoding p q r s h = grind (arith, lead_byte-below_F0, SameSideOfF0-first)
+SameSideOfF0-encoding p q r s h = grind (arith, encoding_cases)
 
 Before-nil_units : (q : ℕ) (d : List ℕ) → Before [] (units (q ∷ d))
 Before-nil_units q d = elim (cases_lt q 0x10000) [ inl h ↦ rw (units-cons_one q d h) tt | inr h ↦ rw (units-cons_two q d h) tt ]

@@ -284,11 +284,8 @@ units-scalar_block u h = subst (Each1 IsUnit) (sym (tagged_units-scalar 0 u 0xDC
 abbrev lone_lane : ℕ → ℕ → Bool
 lone_lane x t = top 15 (bit_xor (cond (eqb (x / 2048) 27) 0xFFFF 0) (bit_or (lead_mask t) (trail_mask t)))
 
-lone_lane-tagged : (x : ℕ) → IsSurrogate x → lone_lane x (x + 0x10000) ≡ true
-lone_lane-tagged x s = grind (arith, eq-eqb, le-ltb)
-
 unit-from_lane : (x t : ℕ) → x < 0x10000 → IsTag x t → lone_lane x t ≡ false → IsUnit t
-unit-from_lane x t h m e = grind (arith, false≢true, lone_lane-tagged)
+unit-from_lane x t h m e = grind (arith, false≢true, eq-eqb, le-ltb)
 
 units-from_mask : (b : ℕ) (u : List ℕ) (a : ℕ) → Each1 (Fits w16) u → mask_l (zip2 lone_lane u (tagged_units b u a)) ≡ 0
     → Each1 IsUnit (tagged_units b u a)
@@ -375,15 +372,11 @@ abbrev flags_set : List ℕ → List ℕ → List Bool
 flags_set m n =
     map flag_is_set (pick_l 0 (narrowed m ++ narrowed n) (0 ∷ 1 ∷ 2 ∷ 3 ∷ 8 ∷ 9 ∷ 10 ∷ 11 ∷ 4 ∷ 5 ∷ 6 ∷ 7 ∷ 12 ∷ 13 ∷ 14 ∷ 15 ∷ []))
 
--- the mask bit of the flag `t * 0x80` is `t`
-flag_is_set-bit : (t : ℕ) → t ≤ 1 → cond (flag_is_set (t * 0x80)) 1 0 ≡ t
-flag_is_set-bit t h = grind (arith, cases_lt)
-
 flag_from-byte_count : (n : ℕ) → cond (flag_is_set (flag_from 0x80 n)) 1 0 ≡ byte_count n / 2
-flag_from-byte_count n = grind (arith, byte_count_bits_bound, flag_is_set-bit)
+flag_from-byte_count n = grind (arith, byte_count_bits_bound, cases_lt)
 
 three_byte_flag-byte_count : (n : ℕ) → cond (flag_is_set (three_byte_flag n)) 1 0 ≡ byte_count n / 3
-three_byte_flag-byte_count n = grind (arith, byte_count_bits_bound, flag_is_set-bit)
+three_byte_flag-byte_count n = grind (arith, byte_count_bits_bound, cases_lt)
 
 mask_l-number_l : (bs : List Bool) → mask_l bs ≡ number_l 2 (map (λ b. cond b 1 0) bs)
 mask_l-number_l [] = refl
@@ -419,11 +412,8 @@ multi_byte_flag-tagged x t k = grind (arith, le-ltb)
 pub multi_byte_flags-tagged : (m u : List ℕ) → m ≡ map (flag_from 0x80) u → m ≡ map (flag_from 0x80) (tagged_block u)
 multi_byte_flags-tagged m u e = e ∙ map-tagged (flag_from 0x80) multi_byte_flag-tagged 0 u 0xDC00
 
-table_index_bound : (a b c d : ℕ) → IsByteCount a → IsByteCount b → IsByteCount c → IsByteCount d → table_index a b c d < 256
-table_index_bound a b c d i j k l = omega (arith, i, j, k, l)
-
 pub units_table_index_bound : (u : List ℕ) → units_table_index u < 256
-units_table_index_bound u = grind (arith, table_index_bound, IsByteCount-byte_count)
+units_table_index_bound u = grind (arith, IsByteCount-byte_count)
 
 -- The bytes that a row of the table picks are the pieces of the units.
 

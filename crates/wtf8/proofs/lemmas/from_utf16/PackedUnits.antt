@@ -55,15 +55,9 @@ take-tagged_units (suc (suc k)) b (x ∷ y ∷ u) a = ap (λ t. tagged b x y ∷
 pub packed_unit-lead : (b x : ℕ) → IsLead x → packed_unit b x ≡ (0xF0 + (x - 0xD7C0) / 256) ∷ (0x80 + (x - 0xD7C0) / 4 % 64) ∷ []
 packed_unit-lead b x l = grind (arith, le-ltb, lt-ltb)
 
-pub packed_unit-trail : (b x : ℕ) → IsTrail x → packed_unit b x ≡ (0x80 + b % 4 * 16 + x / 64 % 16) ∷ (0x80 + x % 64) ∷ []
-packed_unit-trail b x l = grind (arith, le-ltb, lt-ltb)
-
-packed_unit-above : (b x : ℕ) → 0xE000 ≤ x → packed_unit b x ≡ (0xE0 + x / 4096 % 16) ∷ (0x80 + x / 64 % 64) ∷ (0x80 + x % 64) ∷ []
-packed_unit-above b x l = grind (arith, le-ltb)
-
 -- a lone surrogate takes the three bytes of its own value
 packed_unit-lone : (b x : ℕ) → IsSurrogate x → packed_unit b (x + 0x10000) ≡ third_row x
-packed_unit-lone b x s = grind (arith, packed_unit-above)
+packed_unit-lone b x s = grind (arith, le-ltb)
 
 -- a tag on the unit before changes no byte
 packed_unit-after_tag : (b d n : ℕ) → IsTag b d → packed_unit d n ≡ packed_unit b n
@@ -96,7 +90,7 @@ packed_unit-form b x h n = record {
 
 -- the pieces of a lead and its trail are the encoding of the pair
 encoding-packed_pair : (b l t : ℕ) → IsLead l → IsTrail t → encoding (pair l t) ≡ packed_unit b l ++ packed_unit l t
-encoding-packed_pair b l t k m = grind (arith, encoding_four, packed_unit-lead, packed_unit-trail)
+encoding-packed_pair b l t k m = grind (arith, encoding_four, le-ltb, lt-ltb)
 
 packed_pair-form : (b l t : ℕ) → IsLead l → IsTrail t → IsKnownForm (packed_unit b l ++ packed_unit l t) (l ∷ t ∷ []) true
 packed_pair-form b l t k m = record {

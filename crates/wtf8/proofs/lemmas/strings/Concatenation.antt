@@ -130,14 +130,9 @@ bytes_paired {w} {v} c d m e g =
 pub bytes_glue-unpaired : {w v : List ℕ} (c d : List ℕ) → ¬ (MeetsAsPair c d) → bytes c ≡ w → bytes d ≡ v → bytes (glue c d) ≡ w ++ v
 bytes_glue-unpaired {w} {v} c d n e g = simp (glue-unpaired c d n, bytes-append, e, g)
 
--- a pair takes one byte more than its lead, and two less than its surrogates
-length-joined : (w : List ℕ) (l t : ℕ) → IsLead l → IsTrail t → 3 ≤ length w
-    → length (take (length w - 3) w ++ encoding (pair l t)) ≡ length w + 1
-length-joined w l t lead trail n = grind (arith, length-append, length-take-le, encoding_four)
-
 pub length-paired_bytes : (w v : List ℕ) (l t : ℕ) → IsLead l → IsTrail t → 3 ≤ length w → 3 ≤ length v
     → length (paired_bytes w l t v) + 2 ≡ length w + length v
-length-paired_bytes w v l t lead trail m n = grind (arith, length-append, length-joined, length-drop)
+length-paired_bytes w v l t lead trail m n = grind (arith, length-append, length-take-le, encoding_four, length-drop)
 
 pub form-glue : (w v a b : List ℕ) (x : IsForm w a) (y : IsForm v b) → IsForm (bytes (glue x.points y.points)) (a ++ b)
 form-glue w v a b x y = record { points = glue x.points y.points; reads = reads-glue x.points y.points a b x.reads y.reads; encoded = refl }

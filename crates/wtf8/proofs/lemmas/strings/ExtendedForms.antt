@@ -314,10 +314,6 @@ extended_length ps w u y h k =
     let back = one_form v (all_back u v (units_read k.points (u ++ v) k.reads)) in
     omega (arith, (both_length h back.has k).least, (lists_have_lengths (numbers ps)).points, length-map ps number)
 
--- a call that fits has the outcome `v` that `CallFits` names
-pub found_step : (u : List ℕ) (call : Build) (v w : List ℕ) (n r : ℕ) → CallFits u call v n → Step u call w r → w ≡ v
-found_step u call v w n r f s = grind (arith)
-
 -- a call that fits a capacity fits a greater one
 pub CallFits-larger : {u v : List ℕ} {call : Build} {m n : ℕ} → CallFits u call v m → m ≤ n → CallFits u call v n
 CallFits-larger f h = grind (arith)
@@ -330,4 +326,4 @@ pub record Found (u : List ℕ) (calls : List Build) (now : List ℕ) (capacity 
 pub found_more : {u now new : List ℕ} {calls : List Build} {call : Build} {capacity grown larger : ℕ} (r : ℕ)
     → Found u calls now capacity grown → Step now call new r → ((v : List ℕ) → CallFits now call v capacity → grown ≤ larger)
     → Found u (calls ++ call ∷ []) new capacity larger
-found_more {u} {now} {new} {calls} {call} {capacity} {grown} {larger} r f s h = grind (arith, append_assoc, found_step)
+found_more {u} {now} {new} {calls} {call} {capacity} {grown} {larger} r f s h = grind (arith, append_assoc)

@@ -35,8 +35,7 @@ at_most_sixteen : (n : ℕ) (xs : List ℕ) → n ≤ 8 → Each1 (λ a. a ≤ n
 at_most_sixteen n xs h = Each1-weaker (λ a. a ≤ n * 2) (λ a. a ≤ 16) (λ a l. omega (arith, h, l)) xs
 
 pub overflow_cast-lanes : goal.overflow_cast-lanes
-overflow_cast-lanes c = Each1-weaker (λ a. a ≤ 16) (Fits w16) (λ a l. record { fits = omega (arith, l) }) c.loop-block.lanes
-    (at_most_sixteen c.loop-block.block c.loop-block.lanes (omega (arith, c.loop-block.auto.block-end)) c.loop-block.invariant.2)
+overflow_cast-lanes c = grind (arith, Each1-weaker, at_most_sixteen, c.loop-block.invariant.2)
 
 pub overflow_add-lanes-2 : goal.overflow_add-lanes-2
 overflow_add-lanes-2 c =

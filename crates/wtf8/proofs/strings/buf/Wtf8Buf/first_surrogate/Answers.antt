@@ -1,12 +1,10 @@
-use Rattle.wtf8.proofs.Common.{UnitString, ap, subst, ◌∙◌, IsFirst, SurrogateAt}
+use Rattle.wtf8.proofs.Common.{UnitString, ap, subst, ◌∙◌, IsFirst, SurrogateAt, arith}
 use Rattle.wtf8.proofs.lemmas.strings.ExtendedForms.{none_before}
 use Rattle.wtf8.proofs.lemmas.strings.Surrogates.{first_further, none_from_scalar}
 use Rattle.wtf8.proofs.strings.buf.Wtf8Buf.first_surrogate.Goals as goal
 
 pub returns-then-is_utf8 : goal.returns-then-is_utf8
-returns-then-is_utf8 g c i _ =
-    let form = c.args.self.now.form in
-    subst (λ w. ¬ (SurrogateAt w i)) form.encoded (none_from_scalar form.points i (c.is_utf8.ensures c.if-is_utf8.true))
+returns-then-is_utf8 g c i _ = grind (arith, none_from_scalar, c.is_utf8.ensures, c.if-is_utf8.true)
 
 pub returns : goal.returns
 returns g c =

@@ -33,20 +33,7 @@ pub returns-clause-room : goal.returns-clause-room
 returns-clause-room g c = room_found _ _ c.self.view_is refl refl (push_extends_form g (goal.at.returns-clause-room g c).After-push_char)
 
 pub returns-clause-ascii_length : goal.returns-clause-ascii_length
-returns-clause-ascii_length g c low =
-    let one = ap length (encoding_one c.args.c low) in
-    let same = ap (λ (t : UnitString). length t.bytes) c.self.view_is in
-    on_ok_weaker c.push_char.result
-    (λ e. omega (arith, ap length e, one, same, length-append c.self.inside.bytes.items (encoding c.args.c))) c.push_char.ensures.bytes.ok
+returns-clause-ascii_length g c low = grind (arith, encoding_one, on_ok_weaker, length-append, c.push_char.ensures.bytes.ok)
 
 pub returns-clause-ascii_room : goal.returns-clause-ascii_room
-returns-clause-ascii_room g c low h =
-    c.push_char.ensures.bytes.room
-    (omega (
-      arith,
-      h,
-      ap length (encoding_one c.args.c low),
-      ap (λ (t : UnitString). length t.bytes) c.self.view_is,
-      ap (λ (t : UnitString). t.capacity) c.self.view_is,
-      length-append c.self.inside.bytes.items (encoding c.args.c),
-    ))
+returns-clause-ascii_room g c low h = grind (arith, encoding_one, length-append, c.push_char.ensures.bytes.room)

@@ -1,12 +1,10 @@
-use Rattle.wtf8.proofs.Common.{ap, sym, ◌∙◌, subst, refl, IsUtf8, bytes, length}
+use Rattle.wtf8.proofs.Common.{ap, sym, ◌∙◌, subst, refl, IsUtf8, bytes, length, arith}
 use Rattle.wtf8.proofs.lemmas.strings.Surrogates.{utf8_lossy_points, lossy_points-scalar, length-lossy_points}
 use Rattle.wtf8.proofs.lemmas.codec.Readings.{IsWellFormed-equal_bytes}
 use Rattle.wtf8.proofs.strings.view.Wtf8.to_string_lossy.Goals as goal
 
 pub returns-in-Some-clause-text : goal.returns-in-Some-clause-text
-returns-in-Some-clause-text g c =
-    let h = c.args.self.now.well_formed in
-    c.in-Some.ensures.bytes ∙ (sym h.encoded ∙ ap bytes (sym (lossy_points-scalar h.points (c.in-Some.ensures.some.0 refl))))
+returns-in-Some-clause-text g c = grind (arith, lossy_points-scalar, c.in-Some.ensures.bytes, c.in-Some.ensures.some.0)
 
 pub from_utf8_unchecked-requires : goal.from_utf8_unchecked-requires
 from_utf8_unchecked-requires g c =

@@ -12,11 +12,7 @@ returns-in-8-to-15 c = c.len-in-8-to-15.ensures.bytes
     ∙ ap length (sym (view_units-ascii c.args.self.now (c.is_ascii_overlapping-then-this-lt16.ensures c.if-is_ascii_overlapping-2.true)))
 
 pub returns-in_default : goal.returns-in_default
-returns-in_default c =
-    let h = c.args.self.now.well_formed in
-    c.count_units.ensures ∙ (ap sum_utf16_len (sym h.encoded) ∙ sum_utf16_len-bytes h.points)
+returns-in_default c = grind (arith, sum_utf16_len-bytes, c.count_units.ensures)
 
 pub count_units-requires : goal.count_units-requires
-count_units-requires c =
-    let h = c.args.self.now.well_formed in
-    omega (arith, ap sum_utf16_len h.encoded, sum_utf16_len-bytes h.points, c.len.ensures.at_least_units)
+count_units-requires c = grind (arith, sum_utf16_len-bytes, c.len.ensures.at_least_units)
