@@ -61,10 +61,7 @@ meets_or_not (p ∷ []) (q ∷ d) = elim (cases_Bool (is_pair p q)) [
   | inl e ↦ let h = surrogates_from_is_pair p q e in inl (meets_by [] d p q h.0 h.1 refl refl)
   | inr e ↦ inr (λ m. false≢true (sym e ∙ is_pair-meeting p q d m))
 ]
-meets_or_not (p ∷ q ∷ c) d = elim (meets_or_not (q ∷ c) d) [
-  | inl m ↦ inl (MeetsAsPair-cons p m)
-  | inr n ↦ inr (λ m. n (MeetsAsPair-uncons p q c d m))
-]
+meets_or_not (p ∷ q ∷ c) d = grind (arith, common_steps, MeetsAsPair-cons, MeetsAsPair-uncons, meets_or_not (q ∷ c) d)
 
 -- The units of code points: one below U+10000, two from there on.
 

@@ -3,7 +3,7 @@ use Rattle.wtf8.proofs.Common.{◌≡◌, ℕ, ◌<◌, inl, inr, List, [], ◌�
 use Rattle.wtf8.proofs.Common.{nat_cmp, MatchOrdering, slice_cmp, cases_lt, Before, cases_order, ◌↔◌, encoding, bytes, Bool, IsTrue, nat_eq}
 use Rattle.wtf8.proofs.Common.{pointwise, bytes_decides, units, Reads, IsWellFormed, bytes-injective, ◌≢◌, zero, suc, drop, get_or}
 use Rattle.wtf8.proofs.Common.{units_of, IsMismatch, SupplementaryBegins, true, false, ◌⊎◌, length, take, length-append, append_assoc}
-use Rattle.wtf8.proofs.Common.{false≢true, take-append-drop, slice_get, option_cmp, true≢false}
+use Rattle.wtf8.proofs.Common.{false≢true, take-append-drop, slice_get, option_cmp, true≢false, common_steps}
 use Rattle.wtf8.proofs.lemmas.lanes.ListOrder.{cmp_less, cmp_greater, slice_cmp-less, slice_cmp-greater, cmp-append_left, mismatch-cons}
 use Rattle.wtf8.proofs.lemmas.lanes.ListOrder.{order_at_mismatch}
 use Rattle.std.proofs.lemmas.Cmp.{nat_cmp_total, tied_itself}
@@ -24,11 +24,8 @@ pub order_of : (c d : List ℕ) → MatchOrdering (slice_cmp nat_cmp c d) (Befor
 order_of [] [] = refl
 order_of [] (y ∷ ys) = tt
 order_of (x ∷ xs) [] = tt
-order_of (x ∷ xs) (y ∷ ys) = elim (cases_order x y) [
-  | inl same ↦ rw (same, tied_itself nat_cmp_total y) (MatchOrdering-cons y y xs ys refl (slice_cmp nat_cmp xs ys) (order_of xs ys))
-  | inr (inl l) ↦ rw (cmp_less x y l) (inl l)
-  | inr (inr l) ↦ rw (cmp_greater x y l) (inl l)
-]
+order_of (x ∷ xs) (y ∷ ys) =
+    grind (arith, common_steps, cases_order, tied_itself, nat_cmp_total, MatchOrdering-cons, cmp_less, cmp_greater, order_of xs ys)
 
 -- the result `o` of a comparison decides which list is before the other
 pub order_of_result : (o : Ordering) (c d : List ℕ) → o ≡ slice_cmp nat_cmp c d → MatchOrdering o (Before c d) (c ≡ d) (Before d c)
@@ -72,13 +69,7 @@ pub cmp-bytes : (c d : List ℕ) → slice_cmp nat_cmp (bytes c) (bytes d) ≡ s
 cmp-bytes [] [] = refl
 cmp-bytes [] (q ∷ d) = slice_cmp-less [] (bytes (q ∷ d)) (Before-nil_encoding q (bytes d))
 cmp-bytes (p ∷ c) [] = slice_cmp-greater (bytes (p ∷ c)) [] (Before-nil_encoding p (bytes c))
-cmp-bytes (p ∷ c) (q ∷ d) = elim (cases_order p q) [
-  | inl same ↦ rw (← same) (cmp-append_left (encoding p) (bytes c) (bytes d) ∙ cmp-bytes c d ∙ sym (cmp-append_left (p ∷ []) c d))
-  | inr (inl l) ↦ slice_cmp-less (bytes (p ∷ c)) (bytes (q ∷ d)) (before_encoding p q (bytes c) (bytes d) l)
-      ∙ sym (slice_cmp-less (p ∷ c) (q ∷ d) (inl l))
-  | inr (inr l) ↦ slice_cmp-greater (bytes (p ∷ c)) (bytes (q ∷ d)) (before_encoding q p (bytes d) (bytes c) l)
-      ∙ sym (slice_cmp-greater (p ∷ c) (q ∷ d) (inl l))
-]
+cmp-bytes (p ∷ c) (q ∷ d) = grind (arith, cases_order, cmp-append_left, slice_cmp-less, before_encoding, slice_cmp-greater, cmp-bytes c d)
 
 -- one encoding is before another exactly if its code points are
 pub before_bytes : (c d : List ℕ) → Before (bytes c) (bytes d) ↔ Before c d
@@ -154,13 +145,7 @@ pub same_side_at_mismatch : (w v : List ℕ) (at : ℕ)
     → IsMismatch w v at → SupplementaryBegins w at ↔ SupplementaryBegins v at → SameSideOfF0 w v
 same_side_at_mismatch [] v at d both = tt
 same_side_at_mismatch (x ∷ w) [] at d both = tt
-same_side_at_mismatch (x ∷ w) (y ∷ v) zero d both = (
-  λ e. absurd (d.differ_there (omega arith) (omega arith) e),
-  λ n. (
-    λ h. elim (cases_lt y 0xF0) [ inl m ↦ m | inr m ↦ let back = both.1 (omega arith, m) in absurd (omega (arith, back.1)) ],
-    λ h. elim (cases_lt x 0xF0) [ inl m ↦ m | inr m ↦ let there = both.0 (omega arith, m) in absurd (omega (arith, there.1)) ],
-  ),
-)
+same_side_at_mismatch (x ∷ w) (y ∷ v) zero d both = grind (arith, cases_lt)
 same_side_at_mismatch (x ∷ w) (y ∷ v) (suc n) d both =
     let own = supplementary_begins-cons x w n in
     let others = supplementary_begins-cons y v n in (

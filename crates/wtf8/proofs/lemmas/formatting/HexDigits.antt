@@ -103,11 +103,4 @@ hex_ascii (b ∷ bytes) h = IsAscii-append (hex_of b) _ (λ i. spaced_ascii b h.
 -- well-formed bytes are below 256
 pub bytes_below_256 : (c : List ℕ) → IsClean c → Each1 (λ b. b < 256) (bytes c)
 bytes_below_256 [] x = tt
-bytes_below_256 (p ∷ c) x =
-    let rest = bytes_below_256 c (clean-rest p c x) in
-    elim (encoding_cases p) [
-      | one l e ↦ rw e (omega (arith, l), rest)
-      | two _ l e ↦ rw e (omega arith, (omega arith, rest))
-      | three _ l e ↦ rw e (omega arith, (omega arith, (omega arith, rest)))
-      | four l e ↦ rw e (omega (arith, clean-first p c x), (omega arith, (omega arith, (omega arith, rest))))
-    ]
+bytes_below_256 (p ∷ c) x = grind (arith, clean-rest, encoding_cases, clean-first, bytes_below_256 c (clean-rest p c x))

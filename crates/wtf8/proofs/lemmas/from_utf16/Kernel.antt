@@ -259,10 +259,7 @@ scalar_candidates : (b u : List ℕ) → length u ≤ length b → AreScalarUnit
 scalar_candidates [] [] l h = (refl, refl, refl)
 scalar_candidates (y ∷ b) [] l h = (refl, refl, refl)
 scalar_candidates [] (x ∷ u) l h = absurd (omega (arith, l))
-scalar_candidates (y ∷ b) (x ∷ u) l h =
-    let own = candidate_bytes-scalar x h.0.1 y in
-    let more = scalar_candidates b u (omega (arith, l)) h.1 in
-    ((λ i. own.0 i ∷ more.0 i), (λ i. own.1 i ∷ more.1 i), (λ i. own.2 i ∷ more.2 i))
+scalar_candidates (y ∷ b) (x ∷ u) l h = grind (arith, candidate_bytes-scalar, scalar_candidates b u (omega (arith, l)) h.1)
 
 -- units of which none is a surrogate are not changed by tags
 pub tagged_units-scalar : (b : ℕ) (u : List ℕ) (a : ℕ) → AreScalarUnits u → tagged_units b u a ≡ u
@@ -290,13 +287,7 @@ unit-from_lane x t h m e = grind (arith, false≢true, eq-eqb, le-ltb)
 units-from_mask : (b : ℕ) (u : List ℕ) (a : ℕ) → Each1 (Fits w16) u → mask_l (zip2 lone_lane u (tagged_units b u a)) ≡ 0
     → Each1 IsUnit (tagged_units b u a)
 units-from_mask b [] a f e = tt
-units-from_mask b (x ∷ u) a f e = elim (cases_Bool (lone_lane x (tagged b x (get_or u 0 a)))) [
-  | inl t ↦ absurd (omega (arith, rw t at e))
-  | inr n ↦ (
-    unit-from_lane x (tagged b x (get_or u 0 a)) f.0.fits (IsTag-tagged b x (get_or u 0 a)) n,
-    units-from_mask x u a f.1 (omega (arith, e)),
-  )
-]
+units-from_mask b (x ∷ u) a f e = grind (arith, cases_Bool, unit-from_lane, IsTag-tagged, units-from_mask x u a f.1 (omega (arith, e)))
 
 abbrev lone_mask : List ℕ → List ℕ → List ℕ → List Bool
 lone_mask leads trails u =

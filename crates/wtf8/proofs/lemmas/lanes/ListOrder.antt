@@ -27,8 +27,7 @@ slice_cmp-greater c d h = nat_list_cmp_total.antisymm c d ∙ ap ordering_revers
 -- a common front does not affect a comparison
 pub cmp-append_left : (f c d : List ℕ) → slice_cmp nat_cmp (f ++ c) (f ++ d) ≡ slice_cmp nat_cmp c d
 cmp-append_left [] c d = refl
-cmp-append_left (x ∷ f) c d =
-    ap (λ o. ordering_then o (slice_cmp nat_cmp (f ++ c) (f ++ d))) (tied_itself nat_cmp_total x) ∙ cmp-append_left f c d
+cmp-append_left (x ∷ f) c d = grind (arith, tied_itself, nat_cmp_total, cmp-append_left f c d)
 
 -- without their equal first items, lists first differ one index earlier
 pub mismatch-cons : (x y : ℕ) (w v : List ℕ) (n : ℕ) → IsMismatch (x ∷ w) (y ∷ v) (suc n) → IsMismatch w v n
@@ -42,14 +41,9 @@ order_at_mismatch [] (y ∷ v) zero d = refl
 order_at_mismatch [] (y ∷ v) (suc n) d = absurd (omega (arith, d.within_first))
 order_at_mismatch (x ∷ w) [] zero d = refl
 order_at_mismatch (x ∷ w) [] (suc n) d = absurd (omega (arith, d.within_second))
-order_at_mismatch (x ∷ w) (y ∷ v) zero d = elim (cases_order x y) [
-  | inl e ↦ absurd (d.differ_there (omega arith) (omega arith) e)
-  | inr (inl l) ↦ cmp_less x y l ∙ sym (slice_cmp-less (x ∷ w) (y ∷ v) (inl l))
-  | inr (inr l) ↦ cmp_greater x y l ∙ sym (slice_cmp-greater (x ∷ w) (y ∷ v) (inl l))
-]
+order_at_mismatch (x ∷ w) (y ∷ v) zero d = grind (arith, cases_order, cmp_less, slice_cmp-less, cmp_greater, slice_cmp-greater)
 order_at_mismatch (x ∷ w) (y ∷ v) (suc n) d =
-    let same : y ≡ x = sym (ap (λ u. get_or u 0 0) d.same_before) in
-    order_at_mismatch w v n (mismatch-cons x y w v n d) ∙ rw same (sym (cmp-append_left (x ∷ []) w v))
+    grind (arith, mismatch-cons, cmp-append_left, order_at_mismatch w v n (mismatch-cons x y w v n d))
 
 -- lists that are equal up to the length of the shorter compare as their lengths
 pub order_of_lengths : (w v : List ℕ) → NoneIn (DifferAt w v) 0 (min (length w) (length v))

@@ -86,11 +86,7 @@ clean-glue c d x y = elim (meets_or_not c d) [
 pub units-glue : (c d : List ℕ) → units (glue c d) ≡ units c ++ units d
 units-glue [] d = refl
 units-glue (p ∷ []) [] = sym (append-nil (units (p ∷ [])))
-units-glue (p ∷ []) (q ∷ d) = elim (cases_Bool (is_pair p q)) [
-  | inl e ↦ let h =
-      surrogates_from_is_pair p q e in rw e (simp (units_pair p q h.0 h.1, units_one p (omega arith), units_one q (omega arith)))
-  | inr e ↦ rw e (ap (λ u. u ++ units (q ∷ d)) (sym (append-nil (units_of p))))
-]
+units-glue (p ∷ []) (q ∷ d) = grind (arith, cases_Bool, surrogates_from_is_pair, units_pair, units_one, append-nil)
 units-glue (p ∷ q ∷ c) d = ap (λ u. units_of p ++ u) (units-glue (q ∷ c) d) ∙ sym (append_assoc (units_of p) (units (q ∷ c)) (units d))
 
 -- joining two readings reads the units of both

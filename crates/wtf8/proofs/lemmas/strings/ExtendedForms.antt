@@ -168,9 +168,7 @@ scalar_to-front k n c d s l f p b e m = s f p (b ++ d) (ap (λ x. x ++ d) e ∙ 
 scalar_before : (k : ℕ) (f more b d : List ℕ) (p : ℕ) → AreScalarTo k (f ++ more) → f ++ p ∷ b ≡ (f ++ more) ++ d
     → length (bytes f) < length (bytes (f ++ more)) → length (bytes f) < k → ¬ (IsSurrogate p)
 scalar_before k f [] b d p s e h l = absurd (omega (arith, h, ap (λ x. length (bytes x)) (append-nil f)))
-scalar_before k f (q ∷ more) b d p s e h l =
-    let same = cons-equal_parts p q b (more ++ d) (append_cancel_left f _ _ (e ∙ append_assoc f (q ∷ more) d)) in
-    s f p more (ap (λ x. f ++ x ∷ more) (sym same.0)) l
+scalar_before k f (q ∷ more) b d p s e h l = grind (arith, cons-equal_parts, append_cancel_left, append_assoc)
 
 pub scalar_to-append : (k : ℕ) (c d : List ℕ) → AreScalarTo k c → (length (bytes c) < k → AreScalar d) → AreScalarTo k (c ++ d)
 scalar_to-append k c d s t f p b e l = elim (cases_lt (length (bytes f)) (length (bytes c))) [

@@ -171,9 +171,7 @@ ascii_no_other_unit w u b form l h =
 pub slice_get-ascii_prefix : (c : List ℕ) (k : ℕ) → ((j : ℕ) → j < k + 1 → get_or (bytes c) j 0 < 0x80) → k < length (bytes c)
     → slice_get (units c) k ≡ Some (get_or (bytes c) k 0)
 slice_get-ascii_prefix [] k low long = absurd (omega (arith, long))
-slice_get-ascii_prefix (p ∷ c) zero low long =
-    let own = encoding-from_ascii_byte p (bytes c) (low 0 (omega arith)) in
-    ap (λ u. slice_get u 0) (units-cons_one p c (omega (arith, own.1))) ∙ ap (λ e. Some (get_or (e ++ bytes c) 0 0)) (sym own.0)
+slice_get-ascii_prefix (p ∷ c) zero low long = grind (arith, encoding-from_ascii_byte, units-cons_one)
 slice_get-ascii_prefix (p ∷ c) (suc k) low long =
     let own = encoding-from_ascii_byte p (bytes c) (low 0 (omega arith)) in
     let whole : bytes (p ∷ c) ≡ p ∷ bytes c = ap (λ e. e ++ bytes c) own.0 in

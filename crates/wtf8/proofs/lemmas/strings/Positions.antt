@@ -186,19 +186,10 @@ sum_utf16_len_take_add w i n = ap sum_utf16_len (take-add i n w) ∙ sum_by-appe
 -- `n` units begin in `n` ASCII bytes
 pub sum_utf16_len-ascii : (w : List ℕ) (i n : ℕ) → i + n ≤ length w → ((j : ℕ) → j < n → get_or w (i + j) 0 < 0x80)
     → sum_utf16_len (take (i + n) w) ≡ sum_utf16_len (take i w) + n
-sum_utf16_len-ascii w i zero bound low = omega (arith, ap (λ k. sum_utf16_len (take k w)) (start i))
-  where
-    start : (i : ℕ) → i + 0 ≡ i
-    start i = omega arith
+sum_utf16_len-ascii w i zero bound low = grind (arith)
 sum_utf16_len-ascii w i (suc n) bound low =
     let last : i + suc n ≡ i + n + 1 = omega arith in
-    omega (
-      arith,
-      ap (λ k. sum_utf16_len (take k w)) last,
-      sum_by_more utf16_len w (i + n) 0 (omega (arith, bound)),
-      utf16_len-ascii (get_or w (i + n) 0) (low n (omega arith)),
-      sum_utf16_len-ascii w i n (omega (arith, bound)) (λ j l. low j (omega (arith, l))),
-    )
+    grind (arith, sum_by_more, utf16_len-ascii, low n, sum_utf16_len-ascii w i n (omega (arith, bound)) (λ j l. low j (omega (arith, l))))
 
 pub sum_utf16_len-chunk_add : (w : List ℕ) (i m n k : ℕ) → m + n ≡ k
     → sum_utf16_len (chunk i k w) ≡ sum_utf16_len (chunk i m w) + sum_utf16_len (chunk (i + m) n w)
@@ -218,13 +209,7 @@ utf16_len-encoding p r = grind (arith, encoding_cases, units_one, units_two, utf
 
 pub sum_utf16_len-bytes : (c : List ℕ) → sum_utf16_len (bytes c) ≡ length (units c)
 sum_utf16_len-bytes [] = refl
-sum_utf16_len-bytes (p ∷ c) = omega (
-  arith,
-  sum_by-append utf16_len (encoding p) (bytes c),
-  sum_utf16_len-encoding p,
-  sum_utf16_len-bytes c,
-  length-append (units_of p) (units c),
-)
+sum_utf16_len-bytes (p ∷ c) = grind (arith, sum_by-append, sum_utf16_len-encoding, sum_utf16_len-bytes c, length-append)
 
 -- a byte at which units begin begins a code point
 begins_from_utf16_len : (b : ℕ) → 0 < utf16_len b → Begins b

@@ -155,8 +155,7 @@ step_once u call = record { outcome = _; count = _; goes = (refl, refl); no_othe
 
 -- a run of `front` followed by a run of `back` is a run of `front ++ back`
 pub runs_add : RunsAddUp
-runs_add u mid v [] back m n x y =
-    subst (λ k. Run u back v k) (let same : n ≡ m + n = omega (arith, x.1) in same) (subst (λ w. Run w back v n) x.0 y)
+runs_add u mid v [] back m n x y = grind (arith)
 runs_add u mid v (call ∷ front) back m n x y = (x.0, x.1, x.2 + n, x.3, runs_add x.0 mid v front back x.2 n x.4 y, omega (arith, x.5))
 
 pub run_once : (u : List ℕ) (calls : List Build) → RunsOnce u calls

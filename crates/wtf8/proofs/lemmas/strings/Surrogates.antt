@@ -170,30 +170,17 @@ lossy_points-append c d = map-append replace_surrogate c d
 
 pub lossy_points-scalar : (c : List ℕ) → AreScalar c → lossy_points c ≡ c
 lossy_points-scalar [] s = refl
-lossy_points-scalar (p ∷ c) s = elim (kind_by_surrogates p) [
-  | surrogate k e ↦ absurd (s.0 k)
-  | scalar_value n e ↦ rw (e, lossy_points-scalar c s.1) refl
-]
+lossy_points-scalar (p ∷ c) s = grind (arith, kind_by_surrogates, lossy_points-scalar c s.1)
 
 -- the length does not change, since a surrogate has three bytes too
 pub length-lossy_points : (c : List ℕ) → length (bytes (lossy_points c)) ≡ length (bytes c)
 length-lossy_points [] = refl
-length-lossy_points (p ∷ c) =
-    let r = length-lossy_points c in
-    let whole = length-append (encoding (replace_surrogate p)) (bytes (lossy_points c)) in
-    let here = length-append (encoding p) (bytes c) in
-    elim (kind_by_surrogates p) [
-      | surrogate k e ↦
-          omega (arith, ap (λ q. length (encoding q)) e, ap length (encoding_three 0xFFFD (lit≤ tt) (lit< tt)), length-surrogate p k)
-      | scalar_value n e ↦ omega (arith, ap (λ q. length (encoding q)) e)
-    ]
+length-lossy_points (p ∷ c) = grind (arith, length-append, kind_by_surrogates, encoding_three, length-surrogate, length-lossy_points c)
 
 pub scalars-lossy_points : (c : List ℕ) → IsClean c → scalars (lossy_points c) ≡ true
 scalars-lossy_points [] x = refl
-scalars-lossy_points (p ∷ c) x = elim (kind_by_surrogates p) [
-  | surrogate k e ↦ rw e (scalars-lossy_points c (clean-rest p c x))
-  | scalar_value n e ↦ rw (e, scalar_true p (clean-first p c x) n) (scalars-lossy_points c (clean-rest p c x))
-]
+scalars-lossy_points (p ∷ c) x =
+    grind (arith, kind_by_surrogates, clean-rest, scalar_true, clean-first, scalars-lossy_points c (clean-rest p c x))
 
 -- the bytes of the lossy list are text
 pub utf8_lossy_points : (c : List ℕ) → IsClean c → IsUtf8 (bytes (lossy_points c))
@@ -231,14 +218,7 @@ around_surrogate w front p back found e n s =
       before = ap (take found) whole ∙ take_at (bytes front) (encoding p ++ bytes back) found n;
       after = ap (drop (found + 3)) other ∙ drop_at (bytes front ++ encoding p) (bytes back) (found + 3)
           (omega (arith, n, three, length-append (bytes front) (encoding p)));
-      within = omega (
-        arith,
-        n,
-        three,
-        ap length whole,
-        length-append (bytes front) (encoding p ++ bytes back),
-        length-append (encoding p) (bytes back),
-      );
+      within = omega (arith, ap length whole, length-append {A = ℕ});
     }
 
 pub record Replaced (c w : List ℕ) (found : ℕ) : Type 0 where

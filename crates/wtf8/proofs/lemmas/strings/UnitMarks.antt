@@ -3,7 +3,7 @@ use Rattle.wtf8.proofs.Common.{◌≡◌, ◌+◌, ◌<◌, ◌≤◌, ℕ, List
 use Rattle.wtf8.proofs.Common.{length-append, append_assoc, take-append-drop, bytes-injective, units_of, encoding, units, bytes}
 use Rattle.wtf8.proofs.Common.{IsWellFormed, IsForm, CutsUnits, glue, Option, ◌-◌, drop, length-take-le, MatchOption, Divides, AreAscii}
 use Rattle.wtf8.proofs.Common.{take_all, length-drop, get_or, IsLead, IsTrail, IsBoundary, IsMiddle, IsFront, inl, inr, cases_lt, take_at}
-use Rattle.wtf8.proofs.Common.{drop_at, drop-append-le, All, IsUnit, MeetsAsPair, get_or-append_seam, DividesPair}
+use Rattle.wtf8.proofs.Common.{drop_at, drop-append-le, All, IsUnit, MeetsAsPair, get_or-append_seam, DividesPair, common_steps}
 use Rattle.std.proofs.lemmas.List.{take-append-le}
 use Rattle.wtf8.specs.PositionLaws.{EqualBoundariesHaveEqualFronts, BoundariesAreInOneOrder, BoundariesDivideNoPair}
 use Rattle.wtf8.specs.UnitMark.{IsMark, EqualCountsAreMarks, MarksStay, MarksDivideNoPair, EqualMarksHaveEqualUnits, MarksAreInOneOrder}
@@ -57,8 +57,7 @@ counted_by : {c : List ℕ} {k n : ℕ} (x : CutsUnits c n k None) (front back :
     → MatchOption half (length (units front) ≡ i) (Divides front back i)
     → MatchOption half (length (units (x.front ++ front)) ≡ m) (Divides (x.front ++ front) back m)
 counted_by x front back i m s None e = omega (arith, units_by x front, e, s)
-counted_by x front back i m s (Some p) d =
-    record { rest = d.rest; first = d.first; supplementary = d.supplementary; inside = omega (arith, units_by x front, d.inside, s) }
+counted_by x front back i m s (Some p) d = grind (arith, common_steps, units_by)
 
 pub cut_from_mark : {w v u : List ℕ} (h : IsWellFormed w) (rest : IsWellFormed v) {k n position : ℕ} (m : ℕ) (half : Option ℕ)
     → IsMark w u k n → v ≡ drop k w → n ≤ m → CutsUnits rest.points (m - n) position half → CutsUnits h.points m (k + position) half
@@ -150,22 +149,8 @@ between_marks f x y h =
     (sym own.joined ∙ other.joined) (omega (arith, h, own.front_len, other.front_len)) in
     record {
       more = prefix.more;
-      positions = omega (
-        arith,
-        own.front_len,
-        other.front_len,
-        ap (λ c. length (bytes c)) prefix.joined,
-        ap length (bytes-append own.front prefix.more),
-        length-append (bytes own.front) (bytes prefix.more),
-      );
-      counts = omega (
-        arith,
-        own.counted,
-        other.counted,
-        ap (λ c. length (units c)) prefix.joined,
-        ap length (units-append own.front prefix.more),
-        length-append (units own.front) (units prefix.more),
-      );
+      positions = grind (arith, bytes-append, length-append, own.front_len, other.front_len, prefix.joined);
+      counts = grind (arith, units-append, length-append, own.counted, other.counted, prefix.joined);
     }
 
 -- marks have one order by positions and by numbers of units

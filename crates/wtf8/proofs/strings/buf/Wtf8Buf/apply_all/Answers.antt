@@ -31,14 +31,11 @@ Adds-from_appended u call a e = grind (arith, none-some, same_Some)
 -- a run of pushes and extensions appends the units of all, and none of them truncates
 run_appends : (u : List ℕ) (calls : List Build) (v : List ℕ) (n : ℕ) (a : List ℕ) → Run u calls v n → CallsAppend calls a → v ≡ u ++ a
 run_appends u [] v n a x e = x.0 ∙ (sym (append-nil u) ∙ ap (λ b. u ++ b) (sym e))
-run_appends u (call ∷ calls) v n a x e =
-    let here = (Adds-from_appended u call e.0 e.2).only x.0 x.1 x.3 in
-    run_appends x.0 calls v x.2 e.1 x.4 e.3 ∙ (ap (λ m. m ++ e.1) here ∙ (append_assoc u e.0 e.1 ∙ ap (λ b. u ++ b) (sym e.4)))
+run_appends u (call ∷ calls) v n a x e = grind (arith, Adds-from_appended, append_assoc, run_appends x.0 calls v x.2 e.1 x.4 e.3)
 
 none_truncates : (calls : List Build) (a : List ℕ) → CallsAppend calls a → All IsNoTruncation calls
 none_truncates [] a e = All-nil IsNoTruncation
-none_truncates (call ∷ calls) a e =
-    All-cons IsNoTruncation call calls (Adds-from_appended [] call e.0 e.2).no_truncation (none_truncates calls e.1 e.3)
+none_truncates (call ∷ calls) a e = grind (arith, All-cons, Adds-from_appended, none_truncates calls e.1 e.3)
 
 -- if all that they append fits the capacity, each fits
 each_call_fits : (u : List ℕ) (calls : List Build) (a : List ℕ) (capacity : ℕ) → CallsAppend calls a → FitWithin (u ++ a) 0 capacity
