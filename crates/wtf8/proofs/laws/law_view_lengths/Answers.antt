@@ -1,4 +1,4 @@
-use Rattle.wtf8.proofs.Common.{ap, arith, length, view_points, rules}
+use Rattle.wtf8.proofs.Common.{arith}
 use Rattle.wtf8.proofs.lemmas.codec.Readings.{lists_have_lengths}
 use Rattle.wtf8.proofs.laws.law_view_lengths.Goals as goal
 

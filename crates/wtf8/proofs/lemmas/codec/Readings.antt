@@ -3,11 +3,11 @@ use Rattle.wtf8.proofs.Common.{◌≡◌, ℕ, ◌⊎◌, inl, inr, List, [], �
 use Rattle.wtf8.proofs.Common.{length-append, le-leb, cases_Bool, false≢true, same_from_push, IsLead, IsTrail, MeetsAsPair, ◌+◌, ◌-◌, ◌*◌}
 use Rattle.wtf8.proofs.Common.{◌/◌, ◌%◌, ◌<◌, ◌≤◌, lt-ltb, le-ltb, cases_lt, append-nil, flat_map-append, units, pair, encoding, bytes}
 use Rattle.wtf8.proofs.Common.{IsCodePoint, IsClean, drop_at, bytes-injective, Reads, IsWellFormed, IsForm, BeginsWithPoint, length-drop}
-use Rattle.wtf8.proofs.Common.{drop-drop, nat_tests, false, cond, common_steps}
+use Rattle.wtf8.proofs.Common.{drop-drop, nat_tests, cond, common_steps}
 use Rattle.wtf8.specs.Concatenation.{is_pair}
 use Rattle.wtf8.specs.PositionLaws.{ListsHaveLengths}
 use Rattle.wtf8.specs.Unicode.{units_of}
-use Rattle.wtf8.proofs.lemmas.codec.Encoding.{encoding_cases, one, two, three, four, length-encoding_bounds, begins_with, bytes-append}
+use Rattle.wtf8.proofs.lemmas.codec.Encoding.{encoding_cases, length-encoding_bounds, begins_with, bytes-append}
 
 -- A lead at the end of one list and a trail at the start of the next.
 

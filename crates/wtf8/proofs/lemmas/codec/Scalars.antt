@@ -1,7 +1,6 @@
 -- Scalar values among code points and units, and U+FFFD for each surrogate.
-use Rattle.wtf8.proofs.Common.{◌≡◌, ℕ, ◌<◌, List, [], ◌∷◌, ◌++◌, inl, inr, true, refl, ap, ◌∙◌, arith, cases_lt, lt-leb, le-leb}
-use Rattle.wtf8.proofs.Common.{Each1-weaker, AreAscii, bytes, units, IsClean, IsSurrogate, AreScalar, IsKnownForm}
-use Rattle.wtf8.proofs.Common.{Wtf8, view_form, view_units}
+use Rattle.wtf8.proofs.Common.{◌≡◌, ℕ, List, [], ◌∷◌, ◌++◌, true, refl, ap, ◌∙◌, arith, cases_lt, lt-leb, le-leb, Each1-weaker, AreAscii}
+use Rattle.wtf8.proofs.Common.{bytes, units, IsClean, IsSurrogate, AreScalar, IsKnownForm, Wtf8, view_form, view_units}
 use Rattle.wtf8.specs.Surrogates.{replace_surrogate}
 use Rattle.wtf8.specs.private.ConvertedPrefix.{AreScalarUnits}
 use Rattle.wtf8.proofs.lemmas.codec.Encoding.{encoding_one}

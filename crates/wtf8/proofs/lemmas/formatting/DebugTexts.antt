@@ -1,5 +1,5 @@
 -- Debug texts: consecutive writes, and the digits of a code point.
-use Rattle.wtf8.proofs.Common.{◌≡◌, ℕ, ◌/◌, ◌%◌, ◌<◌, ◌≤◌, List, [], ◌∷◌, ◌++◌, inl, inr, refl, sym, ap, ◌∙◌, subst, arith, lt-ltb, le-ltb}
+use Rattle.wtf8.proofs.Common.{◌≡◌, ℕ, ◌/◌, ◌%◌, ◌<◌, ◌≤◌, List, [], ◌∷◌, ◌++◌, refl, sym, ap, ◌∙◌, subst, arith, lt-ltb, le-ltb}
 use Rattle.wtf8.proofs.Common.{lt-leb, le-leb, cases_lt, IsFlush, has_written_styled_nil, encoding, digit, encoding_is_encode, IsSurrogate}
 use Rattle.wtf8.proofs.Common.{codes, writes_in_calls_append}
 use Rattle.std.specs.Fmt.{HasWrittenStyled}

@@ -1,8 +1,8 @@
 -- Hexadecimal digits in lanes.
-use Rattle.wtf8.proofs.Common.{◌≡◌, ℕ, zero, suc, ◌+◌, ◌*◌, ◌/◌, ◌%◌, ◌<◌, ◌≤◌, cond, leb, ltb, inl, inr, List, [], ◌∷◌, ◌++◌, map}
-use Rattle.wtf8.proofs.Common.{length, get_or, take, drop, replicate, refl, sym, ap, ◌∙◌, subst, arith, w8, append_assoc, flat_map-append}
-use Rattle.wtf8.proofs.Common.{lt-leb, cases_Bool, pick_l_whole, Each1, zip2, hex_of, hex, spaced_hex, flat_map, take-append-drop, take-add}
-use Rattle.wtf8.proofs.Common.{swz_l, zip2_splat, IsAscii-append, range_with_len, IsAscii}
+use Rattle.wtf8.proofs.Common.{◌≡◌, ℕ, zero, suc, ◌+◌, ◌*◌, ◌/◌, ◌%◌, ◌<◌, ◌≤◌, cond, leb, ltb, inl, inr, List, [], ◌∷◌, ◌++◌, map, length}
+use Rattle.wtf8.proofs.Common.{get_or, take, drop, replicate, refl, sym, ap, ◌∙◌, subst, arith, w8, append_assoc, flat_map-append, lt-leb}
+use Rattle.wtf8.proofs.Common.{cases_Bool, pick_l_whole, Each1, zip2, hex_of, hex, spaced_hex, flat_map, take-append-drop, take-add, swz_l}
+use Rattle.wtf8.proofs.Common.{zip2_splat, IsAscii-append, range_with_len, IsAscii, IsClean, bytes}
 use Rattle.std.proofs.lemmas.List.FromFn.{get_or-map-range_with_len}
 use Rattle.std.proofs.lemmas.Nat.{and_mask}
 use borrow.Rule.Simd.Lanes.{act2}
@@ -10,8 +10,7 @@ use borrow.Table.Row.{s_int}
 use mir.Syntax.{shr, unsigned, bit_and as bit_and_op}
 use mir.Val.{Fits}
 use Rattle.wtf8.specs.Hex.{digit}
-use Rattle.wtf8.proofs.Common.{IsClean, bytes}
-use Rattle.wtf8.proofs.lemmas.codec.Encoding.{encoding_cases, one, two, three, four}
+use Rattle.wtf8.proofs.lemmas.codec.Encoding.{encoding_cases}
 use Rattle.wtf8.proofs.lemmas.codec.Readings.{clean-first, clean-rest}
 
 -- the ASCII digits of 0 to 15

@@ -3,14 +3,14 @@ use Rattle.wtf8.proofs.Common.{◌≡◌, ◌+◌, ◌-◌, ◌<◌, length, tak
 use Rattle.wtf8.proofs.Common.{None, Some, Result, Ok, Err, refl, sym, ap, ◌∙◌, subst, arith, Drains, peekable_steps, peekable_peeked}
 use Rattle.wtf8.proofs.Common.{point_of_item, points_of_items, units_left, decode_steps, ReadsAll, IsClean, IsCodePoint, IsLead, IsTrail}
 use Rattle.wtf8.proofs.Common.{IsSurrogate, MatchResult, units, pair, MatchOption, IfSome, Bool, IsTrue, ◌≢◌, AreScalar, IsKnownForm, bytes}
-use Rattle.wtf8.proofs.Common.{encoding, map-append, take-append-drop, suc, ◌≤◌, cases_lt, lt-ltb, le-ltb, append_assoc, length-append}
+use Rattle.wtf8.proofs.Common.{encoding, map-append, take-append-drop, ◌≤◌, cases_lt, lt-ltb, le-ltb, append_assoc, length-append}
 use Rattle.wtf8.proofs.Common.{length-drop, take_all, DividesNoPair, MeetsAsPair, copied_steps, iter_steps, iter_rest, common_steps}
 use Rattle.std.proofs.lemmas.List.{drop_more, nil_from_length}
 use Rattle.std.specs.Iterator.{Yields}
 use Rattle.std.specs.Iterator.Adapters.{peekable_source, PeekedOrNext, PeeksNext, copied_source}
 use Rattle.std.specs.declared.iter.Copied.{Copied}
 use Rattle.std.specs.declared.slice.Iter.{Iter}
-use Rattle.std.proofs.Common.{Bor, option_copied}
+use Rattle.std.proofs.Common.{option_copied}
 use Rattle.std.specs.Prelude.{IsSomeAnd}
 use Rattle.std.specs.declared.iter.Ahead.{Ahead}
 use Rattle.wtf8.specs.Unicode.{units_of}

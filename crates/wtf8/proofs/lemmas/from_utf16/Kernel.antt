@@ -1,6 +1,6 @@
 -- Blocks of units of mixed kinds: three candidate bytes of each unit in lanes, and the shuffle that packs them.
 use Rattle.wtf8.proofs.Common.{◌≡◌, ℕ, suc, ◌+◌, ◌-◌, ◌*◌, ◌/◌, ◌%◌, ◌^◌, ◌<◌, ◌≤◌, List, [], ◌∷◌, ◌++◌, length, take, drop, get_or, map}
-use Rattle.wtf8.proofs.Common.{replicate, zip2, Each1, cond, ltb, leb, eqb, top, Bool, true, false, length-append, false≢true, refl, sym}
+use Rattle.wtf8.proofs.Common.{replicate, zip2, Each1, cond, ltb, leb, eqb, top, Bool, false, length-append, false≢true, refl, sym}
 use Rattle.wtf8.proofs.Common.{ap, ◌∙◌, arith, lt-ltb, le-ltb, subst, cases_lt, cases_Bool, inl, inr, Fits, append-nil, append_assoc}
 use Rattle.wtf8.proofs.Common.{map-append, rules, ◌&&◌, mask_l-mod, eq-eqb, pick_l_whole, IsSurrogate, sel_l, mask_l, w8, w16, bit_and}
 use Rattle.wtf8.proofs.Common.{bit_or, nat_tests, swz_l, IsLead, IsUnit, length-take-le, take-take}
@@ -10,7 +10,7 @@ use Rattle.std.proofs.lemmas.List.{take-map, drop-map, get_or-take}
 use Rattle.std.proofs.lemmas.Simd.{get_or-swz_l_below}
 use Rattle.wtf8.specs.private.ConvertedPrefix.{AreScalarUnits}
 use Rattle.wtf8.specs.private.PackedUnits.{first_byte, scalar_second_byte, second_byte, scalar_last_byte, last_byte, multi_byte_bit}
-use Rattle.wtf8.specs.private.PackedUnits.{three_byte_bit, byte_count, byte_lanes, table_index, units_table_index, source_lanes}
+use Rattle.wtf8.specs.private.PackedUnits.{three_byte_bit, byte_count, byte_lanes, units_table_index, source_lanes}
 use Rattle.wtf8.specs.private.PackedUnits.{IsByteCount, packed_unit, packed_units, tagged, tagged_units, tagged_block, AreLaterBytes}
 use Rattle.wtf8.proofs.lemmas.lanes.AsciiFronts.{Each1-map_all}
 use Rattle.wtf8.proofs.lemmas.from_utf16.PackedUnits.{packed_unit-lead, IsTag, IsTag-tagged, tagged-scalar, tagged-lead_before_trail}

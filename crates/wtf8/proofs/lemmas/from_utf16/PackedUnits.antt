@@ -1,6 +1,6 @@
 -- Blocks of units of any kinds: their tags, and the piece of bytes that each unit contributes.
-use Rattle.wtf8.proofs.Common.{◌≡◌, ℕ, zero, suc, ◌+◌, ◌-◌, ◌*◌, ◌/◌, ◌%◌, ◌<◌, ◌≤◌, List, [], ◌∷◌, ◌++◌, length, take, get_or, refl, sym}
-use Rattle.wtf8.proofs.Common.{ap, ◌∙◌, arith, lt-ltb, le-ltb, subst, cases_lt, inl, inr, true, false, drop, append-nil, append_assoc}
+use Rattle.wtf8.proofs.Common.{◌≡◌, ℕ, zero, suc, ◌+◌, ◌-◌, ◌/◌, ◌%◌, ◌<◌, ◌≤◌, List, [], ◌∷◌, ◌++◌, length, take, get_or, refl, sym}
+use Rattle.wtf8.proofs.Common.{ap, ◌∙◌, arith, lt-ltb, le-ltb, subst, cases_lt, inl, inr, true, drop, append-nil, append_assoc}
 use Rattle.wtf8.proofs.Common.{IsSurrogate, encoding, IsKnownForm, Fits, Each1, Bool, IsTrue, ◌&&◌, MeetsAsPair, DividesNoPair}
 use Rattle.wtf8.proofs.Common.{length-chunk, take_all, w16, take-append-add, length-take-le, take-take, Each1-from_get_or, get_or-drop}
 use Rattle.wtf8.proofs.Common.{length-take, ◌⊎◌, IsUnit, IsLead, IsTrail, pair}

@@ -1,5 +1,5 @@
 -- A list appended by its first and its last `n` items, which may overlap.
-use Rattle.wtf8.proofs.Common.{◌≡◌, ℕ, ◌+◌, ◌-◌, ◌*◌, ◌≤◌, List, ◌++◌, length, take, drop, ap, ◌∙◌, arith, append_assoc, length-drop}
+use Rattle.wtf8.proofs.Common.{◌≡◌, ℕ, ◌+◌, ◌-◌, ◌*◌, ◌≤◌, List, ◌++◌, length, take, drop, arith, append_assoc, length-drop}
 use Rattle.wtf8.proofs.Common.{take_all, take-append-drop, take-append-add, take-take}
 
 -- the first `n` items, cut where the last `n` begin, followed by these, are the whole list

@@ -1,5 +1,5 @@
 -- Lanes that show where a surrogate begins.
-use Rattle.wtf8.proofs.Common.{◌≡◌, ◌↔◌, ℕ, zero, suc, ◌+◌, ◌%◌, ◌^◌, ◌<◌, eqb, leb, Bool, true, false, IsTrue, cond, List, [], ◌∷◌, map}
+use Rattle.wtf8.proofs.Common.{◌≡◌, ◌↔◌, ℕ, zero, suc, ◌+◌, ◌%◌, ◌^◌, ◌<◌, eqb, leb, Bool, false, IsTrue, cond, List, [], ◌∷◌, map}
 use Rattle.wtf8.proofs.Common.{length, get_or, replicate, sym, ap, ◌∙◌, arith, le-leb, eq-eqb, eqb-true, length-zip2, get_or-chunk, chunk}
 use Rattle.wtf8.proofs.Common.{zip2, mask_l, top, SurrogateAt, refl, Option, get_or-zip2, ◌&&◌, bit_and, subst, and_parts, and_from}
 use Rattle.wtf8.proofs.Common.{leb-true, MatchOption, IsFirstIn, IsFirstSet, IsLeast, IsSet, NoneIn, ◌≤◌, length-chunk, slice_index}

@@ -1,13 +1,13 @@
 -- The surrogates of a string: in its bytes, at its end, and replaced by U+FFFD.
 use Rattle.wtf8.proofs.Common.{◌≡◌, ◌≤◌, ◌<◌, ◌+◌, ℕ, List, [], ◌∷◌, ◌++◌, length, get_or, refl, ap, ◌∙◌, sym, subst, arith, append_assoc}
-use Rattle.wtf8.proofs.Common.{length-append, true, inl, inr, Option, Some, None, nat_tests, cases_lt, lt-ltb, le-ltb, append-nil}
+use Rattle.wtf8.proofs.Common.{length-append, true, inr, Option, Some, cases_lt, lt-ltb, le-ltb, append-nil}
 use Rattle.wtf8.proofs.Common.{get_or-append-add, IsUtf8, scalar, scalars, IsCodePoint, IsSurrogate, encoding, bytes, IsClean, IsWellFormed}
 use Rattle.wtf8.proofs.Common.{bytes_are_encodes, AreScalar, SurrogateAt, IsLeast, IsFirst, ◌-◌, ◌/◌, ◌%◌, lit≤, lit<, map-append}
 use Rattle.wtf8.proofs.Common.{lossy_points, take, drop, append_cancel_left, take_at, drop_at, low_scalar, replace_surrogate}
 use Rattle.wtf8.proofs.lemmas.codec.Encoding.{length-bytes_append, encoding_three, length-encoding_bounds, encoding_cases, one, two, three}
 use Rattle.wtf8.proofs.lemmas.codec.Encoding.{four, bytes-append, third_row, length-surrogate, bytes-pushed}
 use Rattle.wtf8.proofs.lemmas.codec.Readings.{nil_from_bytes, clean-first, clean-rest, clean-front, clean-back}
-use Rattle.wtf8.proofs.lemmas.codec.Scalars.{surrogate, scalar_value, kind_by_surrogates, replace_surrogate-surrogate, scalar-middle}
+use Rattle.wtf8.proofs.lemmas.codec.Scalars.{kind_by_surrogates, replace_surrogate-surrogate, scalar-middle}
 use Rattle.wtf8.proofs.lemmas.strings.Positions.{split_at, shorter_is_prefix}
 
 -- Surrogates in the bytes and among the code points.

@@ -5,7 +5,7 @@ use Rattle.wtf8.proofs.Common.{bytes, encoding, IsWellFormed, IsFront, CutsUnits
 use Rattle.wtf8.proofs.Common.{take-append-drop, length-drop, Reads, true, false, ◌/◌, ◌%◌, lt-ltb, le-ltb, drop-drop, append-nil, IsLead}
 use Rattle.wtf8.proofs.Common.{units_of, trail_from_bytes, held_trail, after_held_trail, unread_after, length-take-le, take-append-add}
 use Rattle.wtf8.proofs.Common.{drop-append-add, option_to_list, IsSome, StepsUnit, Divides, DividesPair, is_continuation}
-use Rattle.wtf8.proofs.Common.{cases_lt, IsCursorOfUnit, UnitCursor, take_all, sum_utf16_len}
+use Rattle.wtf8.proofs.Common.{cases_lt, IsCursorOfUnit, UnitCursor, take_all}
 use Rattle.std.proofs.lemmas.Option.{slice_get_past}
 use Rattle.wtf8.proofs.lemmas.codec.Encoding.{encoding_four, bytes-append, bytes-pushed, encoding_cases, one, two, three, four, Begins}
 use Rattle.wtf8.proofs.lemmas.codec.Encoding.{first-encoding}

@@ -1,9 +1,9 @@
 -- Blocks of code points of one encoded length, decoded to units.
 use Rattle.wtf8.proofs.Common.{◌≡◌, ℕ, zero, suc, ◌<◌, ◌≤◌, List, [], ◌∷◌, ◌++◌, length, take, drop, get_or, refl, sym, ap, ◌∙◌, arith}
-use Rattle.wtf8.proofs.Common.{IsWellFormed, units, encoding, length-append, units_of, ◌+◌, ◌*◌, ◌%◌, subst, Each1, drop-drop, length-drop}
+use Rattle.wtf8.proofs.Common.{IsWellFormed, units, encoding, length-append, units_of, ◌+◌, ◌*◌, subst, Each1, drop-drop, length-drop}
 use Rattle.wtf8.proofs.Common.{length-take, take-append-drop, get_or_append_left, drop-append-le, FirstPointIs}
 use Rattle.wtf8.proofs.Common.{HasBitPrefix, BeginsWithUnits, unit_of_two, unit_of_three}
-use Rattle.wtf8.proofs.lemmas.codec.Encoding.{encoding_cases, one, two, three, four, length-encoding_bounds, encoding-from_ascii_byte}
+use Rattle.wtf8.proofs.lemmas.codec.Encoding.{encoding_cases, length-encoding_bounds, encoding-from_ascii_byte}
 use native.Mathlib.Nat.{mul-suc}
 use Rattle.wtf8.specs.private.EncodedRuns.{lead_bytes_of, units_of_run}
 use Rattle.wtf8.proofs.lemmas.codec.Readings.{first_of, IsWellFormed-equal_bytes, Taken-from_first, units-cons_one}

@@ -1,4 +1,4 @@
-use Rattle.wtf8.proofs.Common.{◌∙◌, ◌∷◌, [], sym, subst, AreScalar, arith}
+use Rattle.wtf8.proofs.Common.{arith}
 use Rattle.wtf8.proofs.lemmas.strings.ExtendedForms.{scalar_back_unpaired, scalar_facts}
 use Rattle.wtf8.proofs.strings.concat.push_char.Goals as goal
 

@@ -1,4 +1,4 @@
-use Rattle.wtf8.proofs.Common.{◌≡◌, ◌↔◌, ℕ, Option, None, Some, IfSome, refl, sym, ◌∙◌, false≢true, number, replace_surrogate, IsSurrogate}
+use Rattle.wtf8.proofs.Common.{◌≡◌, ◌↔◌, ℕ, Option, IfSome, ◌∙◌, false≢true, number, replace_surrogate, IsSurrogate}
 use Rattle.wtf8.proofs.Common.{IsNone, unwrap_or, arith}
 use Rattle.wtf8.proofs.lemmas.codec.Scalars.{replace_surrogate-surrogate, replace_surrogate-scalar}
 use Rattle.wtf8.proofs.codec.code_point.CodePoint.to_char_lossy.Goals as goal

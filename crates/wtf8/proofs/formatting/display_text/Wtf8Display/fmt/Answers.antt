@@ -1,5 +1,4 @@
-use Rattle.wtf8.proofs.Common.{arith}
-use Rattle.wtf8.proofs.Common.{◌≡◌, ℕ, List, refl, scalars, bytes, IsClean, AreScalar, lossy_points, ap, false≢true, false_from_ne_true}
+use Rattle.wtf8.proofs.Common.{arith, ◌≡◌, ℕ, List, refl, scalars, bytes, IsClean, AreScalar, lossy_points, false≢true, false_from_ne_true}
 use Rattle.wtf8.specs.Display.{display_output}
 use Rattle.wtf8.proofs.lemmas.strings.ExtendedForms.{scalar-characters}
 use Rattle.wtf8.proofs.lemmas.strings.Surrogates.{scalars_true, lossy_points-scalar}

@@ -1,6 +1,6 @@
 use Rattle.wtf8.proofs.Common.{◌≡◌, ◌<◌, ◌+◌, ℕ, List, [], ◌∷◌, ◌++◌, length, get_or, Bool, false, cond, Some, refl, ap, ◌∙◌, sym}
-use Rattle.wtf8.proofs.Common.{subst, arith, append_assoc, All, Step, Run, CallsAppend, IsNoTruncation, Build, Reserve, Truncate}
-use Rattle.wtf8.proofs.Common.{TruncateUnits, ◌≤◌, take, drop, inl, inr, false≢true, cases_lt, append-nil, IsForm, EachCallFits, All-nil}
+use Rattle.wtf8.proofs.Common.{subst, arith, append_assoc, All, Step, Run, CallsAppend, IsNoTruncation, Build}
+use Rattle.wtf8.proofs.Common.{◌≤◌, take, drop, inl, inr, false≢true, cases_lt, append-nil, IsForm, EachCallFits, All-nil}
 use Rattle.wtf8.proofs.Common.{All-cons, take_all, All-get_or, FitWithin, none-some, LeavesReserved}
 use Rattle.std.proofs.lemmas.Option.{same_Some}
 use Rattle.wtf8.specs.Building.{appended_units, reserved_bytes}

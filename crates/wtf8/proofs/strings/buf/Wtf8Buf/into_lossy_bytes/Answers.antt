@@ -1,4 +1,4 @@
-use Rattle.wtf8.proofs.Common.{ap, sym, ◌∙◌, bytes, lossy_points, UnitString, arith}
+use Rattle.wtf8.proofs.Common.{arith}
 use Rattle.wtf8.proofs.lemmas.strings.Surrogates.{lossy_points-scalar}
 use Rattle.wtf8.proofs.strings.buf.Wtf8Buf.into_lossy_bytes.Goals as goal
 

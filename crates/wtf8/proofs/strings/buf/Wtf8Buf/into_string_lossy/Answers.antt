@@ -1,4 +1,4 @@
-use Rattle.wtf8.proofs.Common.{ap, sym, ◌∙◌, subst, length, IsUtf8, arith}
+use Rattle.wtf8.proofs.Common.{arith}
 use Rattle.wtf8.proofs.lemmas.strings.Surrogates.{utf8_lossy_points, length-lossy_points}
 use Rattle.wtf8.proofs.strings.buf.Wtf8Buf.into_string_lossy.Goals as goal
 

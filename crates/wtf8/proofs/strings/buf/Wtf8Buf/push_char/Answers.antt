@@ -1,5 +1,4 @@
-use Rattle.wtf8.proofs.Common.{UnitString, ap, arith, length, length-append, encoding, on_ok_weaker, refl, ExtendsFormOrKeeps, units_of}
-use Rattle.wtf8.proofs.Common.{◌++◌}
+use Rattle.wtf8.proofs.Common.{ap, arith, length-append, on_ok_weaker, refl, ExtendsFormOrKeeps, units_of, ◌++◌}
 use Rattle.wtf8.proofs.lemmas.strings.ExtendedForms.{units_appended, kept_contents, room_found, utf8_prefix_after_push, scalar_facts}
 use Rattle.wtf8.proofs.lemmas.codec.Encoding.{encoding_one}
 use Rattle.wtf8.proofs.lemmas.codec.Readings.{units_one}

@@ -1,5 +1,4 @@
-use Rattle.wtf8.proofs.Common.{◌≡◌, ℕ, ◌<◌, zero, suc, inl, inr, sym, ◌∙◌, arith, subst, false≢true, cases_lt, view_units, view_form}
-use Rattle.wtf8.proofs.Common.{IsBoundary}
+use Rattle.wtf8.proofs.Common.{ℕ, ◌<◌, zero, suc, sym, ◌∙◌, arith, false≢true, cases_lt, view_units, view_form, IsBoundary}
 use Rattle.wtf8.proofs.lemmas.strings.PositionLaws.{start_is_boundary}
 use Rattle.wtf8.proofs.strings.view.Wtf8.boundary_before.Goals as goal
 

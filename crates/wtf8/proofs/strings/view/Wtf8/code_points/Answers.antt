@@ -1,4 +1,4 @@
-use Rattle.wtf8.proofs.Common.{length, ap, arith}
+use Rattle.wtf8.proofs.Common.{arith}
 use Rattle.wtf8.proofs.lemmas.codec.Readings.{lists_have_lengths}
 use Rattle.wtf8.proofs.strings.view.Wtf8.code_points.Goals as goal
 

@@ -1,4 +1,4 @@
-use Rattle.wtf8.proofs.Common.{sym, subst, rules, IsUtf8, hex, ◌≡◌, ◌<◌, Each1, IsUtf8-from_ascii, arith}
+use Rattle.wtf8.proofs.Common.{IsUtf8-from_ascii, arith}
 use Rattle.wtf8.proofs.lemmas.formatting.HexDigits.{bytes_below_256, hex_ascii}
 use Rattle.wtf8.proofs.strings.view.Wtf8.hex_dump.Goals as goal
 

@@ -1,4 +1,4 @@
-use Rattle.wtf8.proofs.Common.{refl, [], arith}
+use Rattle.wtf8.proofs.Common.{arith}
 use Rattle.wtf8.proofs.lemmas.strings.UnitMarks.{mark_at_cut}
 use Rattle.wtf8.proofs.strings.view.Wtf8.start_mark.Goals as goal
 

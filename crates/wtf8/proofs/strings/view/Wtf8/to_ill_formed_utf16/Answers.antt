@@ -1,4 +1,4 @@
-use Rattle.wtf8.proofs.Common.{◌++◌, length, ap, arith, units}
+use Rattle.wtf8.proofs.Common.{arith}
 use Rattle.wtf8.proofs.strings.view.Wtf8.to_ill_formed_utf16.Goals as goal
 
 pub returns-clause-fits : goal.returns-clause-fits

@@ -1,4 +1,4 @@
-use Rattle.wtf8.proofs.Common.{ap, sym, ◌∙◌, subst, refl, IsUtf8, bytes, length, arith}
+use Rattle.wtf8.proofs.Common.{ap, sym, ◌∙◌, subst, IsUtf8, length, arith}
 use Rattle.wtf8.proofs.lemmas.strings.Surrogates.{utf8_lossy_points, lossy_points-scalar, length-lossy_points}
 use Rattle.wtf8.proofs.lemmas.codec.Readings.{IsWellFormed-equal_bytes}
 use Rattle.wtf8.proofs.strings.view.Wtf8.to_string_lossy.Goals as goal

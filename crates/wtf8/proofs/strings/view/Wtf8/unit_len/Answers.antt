@@ -1,4 +1,4 @@
-use Rattle.wtf8.proofs.Common.{◌∙◌, sym, ap, arith, length, sum_utf16_len}
+use Rattle.wtf8.proofs.Common.{◌∙◌, sym, ap, arith, length}
 use Rattle.wtf8.proofs.lemmas.strings.Positions.{sum_utf16_len-bytes}
 use Rattle.wtf8.proofs.lemmas.codec.Scalars.{view_units-ascii}
 use Rattle.wtf8.proofs.strings.view.Wtf8.unit_len.Goals as goal
