@@ -234,8 +234,7 @@ no_item v at items s k t x none rest y item nothing = from items y
         let us = units_of (point_of_item q) in
         let got = slice_left-yields us (units_left s) i.after none i.taken in
         let one = length-units_of (point_of_item q) in
-        let none_left : length us + length (slice_left i.after) ≡ 0 =
-        sym (length-append us (slice_left i.after)) ∙ ap length (sym got.0 ∙ whole) ∙ length-drop at v ∙ omega (arith, ap length nothing) in
+        let none_left : length us + length (slice_left i.after) ≡ 0 = grind (arith, length-append, length-drop) in
         elim (cases_lt (point_of_item q) 0x10000) [
           | inl l ↦ omega (arith, none_left, one 1 (λ _. refl) (λ g. omega (arith, g, l)))
           | inr g ↦ omega (arith, none_left, one 2 (λ l. omega (arith, g, l)) (λ _. refl))

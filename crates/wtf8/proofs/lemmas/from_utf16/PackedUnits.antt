@@ -222,16 +222,12 @@ packed_units-read w kept {bytes} {u} {at} {known} {more} k x within fits taken u
           let no_lead : ¬ (IsLead (get_or u (at + 7) 0)) = subst (λ n. ¬ (IsLead n)) here t.1 in
           let end : suc (at + 7) ≡ at + k = omega (arith, t.0) in
           let all : take k eight ≡ eight = ap (λ k. take k eight) (t.0 ∙ sym whole) ∙ take_all (length eight) eight (omega arith) in
-          let last : ¬ (IsLead (get_or (0 ∷ take k eight) (length (take k eight)) 0)) = subst (λ v.
-          ¬ (IsLead (get_or (0 ∷ v) (length v) 0))) (sym all) (subst (λ n. ¬ (IsLead (get_or (0 ∷ eight) n 0))) (sym whole) t.1) in
+          let last : ¬ (IsLead (get_or (0 ∷ take k eight) (length (take k eight)) 0)) = grind (arith) in
           block_read w kept k x (omega (arith, t.0)) within fits units
           (subst (DividesNoPair u) end (DividesNoPair-after_no_lead u (at + 7) (omega (arith, within)) no_lead)) (λ l. last l.0) e
       | inr t ↦
-          let back : drop (at + k) u ≡ get_or u (at + 7) 0 ∷ drop (at + 7 + 1) u =
-          ap (λ k. drop (at + k) u) t.0 ∙ drop_more u (at + 7) 0 (omega (arith, within)) in
-          let divides : DividesNoPair u (at + k) = subst (λ d. ¬ (MeetsAsPair (take (at + k) u) d)) (sym back)
-          (unpaired-before_no_trail (get_or u (at + 7) 0) (drop (at + 7 + 1) u) (λ l. omega (arith, l.0, (subst IsLead here t.1).1))) in
-          let next : get_or eight k 0xDC00 ≡ get_or eight 7 0 =
-          ap (λ k. get_or eight k 0xDC00) t.0 ∙ get_or_default_zero eight 7 0xDC00 (omega (arith, whole)) in
+          let back : drop (at + k) u ≡ get_or u (at + 7) 0 ∷ drop (at + 7 + 1) u = grind (arith, drop_more) in
+          let divides : DividesNoPair u (at + k) = grind (arith, unpaired-before_no_trail) in
+          let next : get_or eight k 0xDC00 ≡ get_or eight 7 0 = grind (arith, get_or_default_zero) in
           block_read w kept k x (omega (arith, t.0)) within fits units divides (λ l. omega (arith, next, l.1.0, t.1.1)) e
     ]

@@ -64,10 +64,5 @@ pub order_at : (w v : List ℕ) (at : ℕ) → IsLeast (DifferAt w v) 0 at × (a
 order_at w v at h =
     let own : at < length w = omega (arith, h.1) in
     let others : at < length v = omega (arith, h.1) in
-    let d : IsMismatch w v at = record {
-      within_first = omega arith;
-      within_second = omega arith;
-      same_before = take-before_mismatch at w v (omega arith) (omega arith) h.0.none_between;
-      differ_there = λ _ _. h.0.here;
-    } in
+    let d : IsMismatch w v at = grind (arith, take-before_mismatch) in
     rw (slice_get-get_or w at 0 own, slice_get-get_or v at 0 others) at (order_at_mismatch w v at d)

@@ -260,8 +260,7 @@ glued_length c d = elim (meets_or_not c d) [
       let paired = length-paired_bytes (bytes c) (bytes d) m.lead m.trail m.is_lead m.is_trail s.three s.three_after in
       let three = length-surrogate m.trail (omega (arith, m.is_trail), omega (arith, m.is_trail)) in
       let back : length (bytes d) ≡ 3 + length (bytes m.rest) = simp (m.begins, length-append, three) in
-      let own : length (units d) ≡ 1 + length (units m.rest) =
-      simp (m.begins, length-append, units_one m.trail (omega (arith, m.is_trail))) in
+      let own : length (units d) ≡ 1 + length (units m.rest) = grind (arith, length-append, units_one) in
       record { least = omega (arith, both, paired, back, own, (lists_have_lengths m.rest).units_least); most = omega (arith, both, paired) }
   | inr n ↦
       let both = ap length (bytes_glue-unpaired c d n refl refl) ∙ length-append (bytes c) (bytes d) in

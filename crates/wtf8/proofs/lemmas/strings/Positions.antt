@@ -225,13 +225,11 @@ pub points_about : (c : List ℕ) (n : ℕ) (s : UnitCursor) → IsCursorOfUnit 
 points_about c n s h =
     let cursor = s.position in
     let was = h.before in
-    let next : cursor < length (bytes c) → n < s.units + utf16_len (get_or (bytes c) cursor 0) =
-    λ m. omega (arith, h.reaches m, was.counted, sum_by_more utf16_len (bytes c) cursor 0 m) in
+    let next : cursor < length (bytes c) → n < s.units + utf16_len (get_or (bytes c) cursor 0) = grind (arith, sum_by_more) in
     let cut =
     split_at c cursor was.within (λ m. begins_from_utf16_len (get_or (bytes c) cursor 0) (omega (arith, next m, was.not_beyond))) in
     let whole : bytes c ≡ bytes cut.front ++ bytes cut.back = ap bytes cut.joined ∙ bytes-append cut.front cut.back in
-    let front : take cursor (bytes c) ≡ bytes cut.front =
-    ap (take cursor) whole ∙ take_at (bytes cut.front) (bytes cut.back) cursor cut.front_len in
+    let front : take cursor (bytes c) ≡ bytes cut.front = grind (arith, take_at) in
     record {
       cut = record {
         front = cut.front;

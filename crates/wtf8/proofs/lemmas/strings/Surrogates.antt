@@ -51,8 +51,7 @@ pub surrogate_in : (c : List ℕ) (i : ℕ) → SurrogateAt (bytes c) i → Surr
 surrogate_in c i s =
     let cut = split_at c i (omega (arith, s.within)) (λ _. record { start = inr (omega (arith, s.first)) }) in
     let whole : bytes c ≡ bytes cut.front ++ bytes cut.back = ap bytes cut.joined ∙ bytes-append cut.front cut.back in
-    let at : (k : ℕ) → get_or (bytes c) (i + k) 0 ≡ get_or (bytes cut.back) k 0 = λ k. ap (λ w. get_or w (i + k) 0) whole ∙ (ap (λ n. get_or
-    (bytes cut.front ++ bytes cut.back) (n + k) 0) (sym cut.front_len) ∙ get_or-append-add (bytes cut.front) (bytes cut.back) k 0) in
+    let at : (k : ℕ) → get_or (bytes c) (i + k) 0 ≡ get_or (bytes cut.back) k 0 = grind (arith, get_or-append-add) in
     let zero_there : i + 0 ≡ i = omega arith in
     let f =
     first_surrogate_in cut.back (omega (arith, s.within, cut.front_len, ap length whole, length-append (bytes cut.front) (bytes cut.back)))

@@ -185,10 +185,8 @@ pub divides_after : (u r : List ℕ) (half : Option ℕ) (begin n : ℕ) → beg
     → 0 < length (option_to_list half) + n → n ≤ length r → DividesPair r n ↔ DividesPair u (begin + (length (option_to_list half) + n))
 divides_after u r half begin n in_u e d more in_r =
     let f = take begin u ++ option_to_list half in
-    let whole : f ++ r ≡ u =
-    append_assoc (take begin u) (option_to_list half) r ∙ (ap (λ x. take begin u ++ x) e ∙ take-append-drop begin u) in
-    let long : length f + n ≡ begin + (length (option_to_list half) + n) =
-    omega (arith, length-append (take begin u) (option_to_list half), length-take-le begin u in_u) in
+    let whole : f ++ r ≡ u = grind (arith, append_assoc, take-append-drop) in
+    let long : length f + n ≡ begin + (length (option_to_list half) + n) = grind (arith, length-append, length-take-le) in
     subst (λ k. DividesPair r n ↔ DividesPair u k) long
     (subst (λ w. DividesPair r n ↔ DividesPair w (length f + n)) whole (divides_whole f r n (no_lead_before half e d more)))
   where
@@ -281,8 +279,7 @@ steps_lead v at h unit next long g two_on read =
           let k = held_trail-some (c ∷ d ∷ b.rest) (omega arith) (continuation_range c (omega arith) (omega arith)) in
           let trail : trail_from_bytes c d ≡ trail_of p = omega arith in
           let held : held_trail (drop next v) ≡ trail_of p ∷ [] = ap held_trail rest ∙ (k.0 ∙ ap (λ t. t ∷ []) trail) in
-          let all : units_of p ≡ unit ∷ held_trail (drop next v) =
-          units_two p l ∙ (ap (λ a. a ∷ trail_of p ∷ []) (sym (read b)) ∙ ap (λ t. unit ∷ t) (sym held)) in
+          let all : units_of p ≡ unit ∷ held_trail (drop next v) = grind (arith, units_two) in
           record {
             within = omega (arith, two_on, ap length whole, length-drop at v);
             after = IsWellFormed-equal_bytes f.1.rest (ap after_held_trail rest

@@ -39,8 +39,7 @@ abbrev pub cut_of : {w u : List ℕ} (h : IsWellFormed w) {k n : ℕ} → IsMark
 cut_of {w} {u} h {k} {n} m =
     let front = m.before.points in
     let back = m.after.points in
-    let whole : bytes (front ++ back) ≡ w = bytes-append front back
-    ∙ (ap (λ v. v ++ bytes back) m.before.encoded ∙ (ap (λ v. take k w ++ v) m.after.encoded ∙ take-append-drop k w)) in
+    let whole : bytes (front ++ back) ≡ w = grind (arith, bytes-append, take-append-drop) in
     record {
       front = front;
       back = back;
@@ -216,11 +215,9 @@ pub divided_are_surrogates : (u : List ℕ) (n : ℕ) → DividesPair u n
 divided_are_surrogates u n m =
     let inside : n < length u = omega (arith, ap length m.begins, length-drop n u) in
     let front : length (m.front ++ m.lead ∷ []) ≡ n = sym (ap length m.ends) ∙ length-take-le n u (omega (arith, inside)) in
-    let whole : u ≡ (m.front ++ m.lead ∷ []) ++ m.trail ∷ m.rest =
-    sym (take-append-drop n u) ∙ (ap (λ v. v ++ drop n u) m.ends ∙ ap (λ v. (m.front ++ m.lead ∷ []) ++ v) m.begins) in
+    let whole : u ≡ (m.front ++ m.lead ∷ []) ++ m.trail ∷ m.rest = grind (arith, take-append-drop) in
     let before : n - 1 ≡ length m.front = omega (arith, front, length-append m.front (m.lead ∷ [])) in
-    let lead : get_or u (n - 1) 0 ≡ m.lead = ap (λ k. get_or u k 0) before ∙ (ap (λ v. get_or v (length m.front) 0)
-    (whole ∙ append_assoc m.front (m.lead ∷ []) (m.trail ∷ m.rest)) ∙ get_or-append_seam m.front m.lead (m.trail ∷ m.rest) 0) in
+    let lead : get_or u (n - 1) 0 ≡ m.lead = grind (arith, append_assoc, get_or-append_seam) in
     let trail : get_or u n 0 ≡ m.trail = ap (λ k. get_or u k 0) (sym front)
     ∙ (ap (λ v. get_or v (length (m.front ++ m.lead ∷ [])) 0) whole ∙ get_or-append_seam (m.front ++ m.lead ∷ []) m.trail m.rest 0) in (
       omega (arith, front, length-append m.front (m.lead ∷ [])),
@@ -274,15 +271,9 @@ pub marks_stay : MarksStay
 marks_stay w x u v k n f g l m =
     let own = cut_of (well_formed_of f) m in
     let more = one_form v (all_back u v (units_read g.points (u ++ v) g.reads)) in
-    let both : IsForm (bytes (glue f.points more.has.points)) (u ++ v) = record {
-      points = glue f.points more.has.points;
-      reads = reads-glue f.points more.has.points u v f.reads more.has.reads;
-      encoded = refl;
-    } in
+    let both : IsForm (bytes (glue f.points more.has.points)) (u ++ v) = grind (arith, reads-glue) in
     let units_len = ap length (ap units own.joined ∙ units-append own.front own.back) in
-    let nonempty : 0 < length own.back = nonempty_from_units own.back
-    (omega (arith, units_len, length-append (units own.front) (units own.back), own.counted, ap length f.reads.same_units, l)) in
-    let joined : glue f.points more.has.points ≡ own.front ++ glue own.back more.has.points =
-    ap (λ c. glue c more.has.points) own.joined ∙ glue-append_left own.front own.back more.has.points nonempty in
+    let nonempty : 0 < length own.back = grind (arith, nonempty_from_units, length-append) in
+    let joined : glue f.points more.has.points ≡ own.front ++ glue own.back more.has.points = grind (arith, glue-append_left) in
     subst (λ z. IsMark z (u ++ v) k n) (sym (same_form x (bytes (glue f.points more.has.points)) (u ++ v) g both)) (mark_of both
     (record { front = own.front; back = glue own.back more.has.points; joined = joined; front_len = own.front_len; counted = own.counted }))
