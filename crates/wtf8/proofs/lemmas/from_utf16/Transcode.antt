@@ -80,7 +80,6 @@ scalars_read : {w new u part : List ℕ} {at : ℕ} {known : Bool} (k n : ℕ) �
     → ((j : ℕ) → j + 1 ≡ k → ¬ (IsLead (get_or (take n (drop at u)) j 0))) → new ≡ w ++ part
     → IsKnownForm part (take k (take n (drop at u))) true → IsReadTo new u (at + k) known
 scalars_read {w} {new} {u} {part} {at} {known} k n x few within last after form =
-    let count : k ≡ at + k - at = omega arith in
     let same : take k (take n (drop at u)) ≡ take (at + k - at) (drop at u) = grind (arith, take-take) in
     subst (IsReadTo new u (at + k)) (and-true known) (IsReadTo-append x (omega arith) (omega (arith, few, within))
     (divides_no_pair k few last) after (subst (λ v. IsKnownForm part v true) same form))

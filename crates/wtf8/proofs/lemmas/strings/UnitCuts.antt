@@ -278,7 +278,6 @@ steps_lead v at h unit next long g two_on read =
           let rest : drop next v ≡ c ∷ d ∷ b.rest = ap (λ k. drop k v) two_on ∙ (sym (drop-drop 2 at v) ∙ ap (drop 2) whole) in
           let k = held_trail-some (c ∷ d ∷ b.rest) (omega arith) (continuation_range c (omega arith) (omega arith)) in
           let trail : trail_from_bytes c d ≡ trail_of p = omega arith in
-          let held : held_trail (drop next v) ≡ trail_of p ∷ [] = ap held_trail rest ∙ (k.0 ∙ ap (λ t. t ∷ []) trail) in
           let all : units_of p ≡ unit ∷ held_trail (drop next v) = grind (arith, units_two) in
           record {
             within = omega (arith, two_on, ap length whole, length-drop at v);
