@@ -116,6 +116,3 @@ BeginsWithPoint-equal_bytes b e = begins_with b.point b.rest _ b.in_range (e ∙
 abbrev pub LeadRead : List ℕ → ℕ → Type 0
 LeadRead w p =
     0xD7C0 + ((get_or w 0 0 - 0xF0) * 64 + (get_or w 1 0 - 0x80)) * 4 + (get_or w 2 0 - 0x80) / 16 ≡ 0xD800 + (p - 0x10000) / 0x400
-
-pub LeadRead-encoding : (p : ℕ) (r : List ℕ) → 0xF0 ≤ get_or (encoding p ++ r) 0 0 → LeadRead (encoding p ++ r) p
-LeadRead-encoding p r g = grind (arith, encoding_cases)

@@ -70,6 +70,3 @@ kind_by_surrogates p = grind (arith, cases_lt, lt-leb, le-leb)
 
 pub replace_surrogate-surrogate : (p : ℕ) → IsSurrogate p → replace_surrogate p ≡ 0xFFFD
 replace_surrogate-surrogate p s = elim (kind_by_surrogates p) [ surrogate k e ↦ e | scalar_value n e ↦ absurd (n s) ]
-
-pub replace_surrogate-scalar : (p : ℕ) → ¬ (IsSurrogate p) → replace_surrogate p ≡ p
-replace_surrogate-scalar p n = elim (kind_by_surrogates p) [ surrogate k e ↦ absurd (n k) | scalar_value m e ↦ e ]

@@ -310,10 +310,6 @@ extended_length ps w u y h k =
     let back = one_form v (all_back u v (units_read k.points (u ++ v) k.reads)) in
     omega (arith, (both_length h back.has k).least, (lists_have_lengths (numbers ps)).points, length-map ps number)
 
--- a call that fits a capacity fits a greater one
-pub CallFits-larger : {u v : List ℕ} {call : Build} {m n : ℕ} → CallFits u call v m → m ≤ n → CallFits u call v n
-CallFits-larger f h = grind (arith)
-
 -- If each of `calls ++ more` fits `capacity`, each of `more` fits it after `calls`, and the capacity has not shrunk.
 pub record Found (u : List ℕ) (calls : List Build) (now : List ℕ) (capacity grown : ℕ) : Type 0 where
   pub rest : (more : List Build) (v : List ℕ) → EachCallFits u (calls ++ more) v capacity → EachCallFits now more v capacity

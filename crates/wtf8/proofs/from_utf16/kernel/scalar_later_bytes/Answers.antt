@@ -1,4 +1,4 @@
-use Rattle.wtf8.proofs.Common.{◌∙◌, arith}
+use Rattle.wtf8.proofs.Common.{arith}
 use Rattle.wtf8.proofs.lemmas.from_utf16.Kernel.{scalar_lanes, units-scalar_block}
 use Rattle.wtf8.proofs.from_utf16.kernel.scalar_later_bytes.Goals as goal
 

@@ -6,7 +6,7 @@ use Rattle.std.proofs.lemmas.Option.{same_Some}
 use Rattle.wtf8.specs.Building.{appended_units, reserved_bytes}
 use Rattle.wtf8.proofs.lemmas.strings.StringLaws.{reserved_more}
 use Rattle.wtf8.proofs.lemmas.strings.Concatenation.{take-cons-drop, take-push}
-use Rattle.wtf8.proofs.lemmas.strings.ExtendedForms.{Found, found_more, CallFits-larger, beginning_of_form}
+use Rattle.wtf8.proofs.lemmas.strings.ExtendedForms.{Found, found_more, beginning_of_form}
 use Rattle.wtf8.proofs.strings.buf.Wtf8Buf.apply_all.Goals.{In_default, then-not-kept, else-not-kept}
 use Rattle.wtf8.proofs.strings.buf.Wtf8Buf.apply_all.Goals as goal
 
@@ -68,7 +68,7 @@ refused-one_more kept n e = rw e refl
 no_room : (g : _) (c : In_default g) (more : List Build) (v : List ℕ)
     → ¬ (EachCallFits c.args.self.now.units
     (take c.loop-done.done c.args.calls.now ++ c.index-calls-done.result ∷ more) v c.args.self.now.capacity)
-no_room g c more v whole = grind (arith, false≢true, CallFits-larger)
+no_room g c more v whole = grind (arith, false≢true)
 
 pub loop-done-preserved : goal.loop-done-preserved
 loop-done-preserved g c =
